@@ -1,0 +1,2 @@
+pub mod Customer
+pub mod Port
