@@ -1,3 +1,4 @@
 pub mod Indexing
 pub mod CellsLaws
 pub mod ParityLaws
+pub mod HexadecimalLaws
