@@ -1,0 +1,4 @@
+pub mod Ids
+pub mod Numbering
+pub mod Places
+pub mod Arcs

@@ -1,0 +1,200 @@
+//! The positions, sides, spans and arcs of a ring, by arithmetic modulo its number of nodes.
+//!
+//! A ring has 2 to 16 nodes at positions from 0. East of position `p` is `p + 1`, and east of the last is 0.
+//! Span `p` joins the east side of position `p` and the west side of the position east of it.
+#![tactic(auto)]
+
+ghost use Rattle.std.specs.Prelude.{◌≡◌, ℕ, ◌+◌, ◌<◌, ◌≤◌, length, slice_index, IfOk, map, pos};
+ghost use Rattle.sdh_ringmap.specs.Ids.{AreIds};
+ghost use Rattle.sdh_ringmap.specs.Places.{opposite, neighbour, span_at, eastwards, in_chain, found_at};
+ghost use Rattle.sdh_ringmap.specs.Numbering.{ring_of};
+
+mod search;
+
+use crate::search::{as_bytes, first_repeat, first_unfit, index_of};
+use arrayvec::ArrayVec;
+use std::marker::Model;
+
+/// A position in the ring, counted eastwards from 0.
+#[derive(Clone, Copy, Debug, PartialEq, Eq)]
+pub struct Pos(pub u8);
+
+/// A side of a node.
+#[derive(Clone, Copy, Debug, PartialEq, Eq)]
+pub enum Side {
+    West,
+    East,
+}
+
+/// A span of the ring, by the position at its west end.
+#[derive(Clone, Copy, Debug, PartialEq, Eq)]
+pub struct Span(pub u8);
+
+/// So many positions, eastwards from the first.
+#[derive(Clone, Copy, Debug, PartialEq, Eq)]
+pub struct Chain {
+    pub first: Pos,
+    pub count: u8,
+}
+
+/// Why numbers aren't the identifiers of a ring. Nodes count from 1.
+#[derive(Clone, Copy, Debug, PartialEq, Eq)]
+pub enum MapError {
+    /// There aren't 2 to 16 nodes.
+    NodeCount,
+    /// The number of this node isn't 0 to 15.
+    NodeId(u32),
+    /// A node before this one has its number.
+    Repeat(u32),
+}
+
+/// The nodes of a ring: their identifiers, by position.
+#[derive(Drop)]
+pub struct RingMap {
+    ids: ArrayVec<u8, 16>,
+}
+
+impl Model for RingMap {
+    ghost use Rattle.std.specs.Prelude.{ℕ, List};
+    ghost use Rattle.sdh_ringmap.specs.Ids.{AreIds};
+
+    ghost Value = { List ℕ };
+
+    ghost view = { λ a. a.ids.items };
+
+    ghost invariant = { λ a. AreIds a.ids.items };
+}
+
+impl Side {
+    /// The other side of the node.
+    pub fn opposite(self) -> Side
+        ensures { result ≡ opposite self }
+    {
+        match self {
+            Side::West => Side::East,
+            Side::East => Side::West,
+        }
+    }
+}
+
+impl RingMap {
+    /// The ring whose nodes have these identifiers, by position. Of several things that are wrong it
+    /// answers the number of nodes before a number that is no identifier, and that before a repeat.
+    #[tactic(auto, unfolding(crate::specs::Numbering::ring_of))]
+    pub fn new(ids: &[i64]) -> Result<RingMap, MapError>
+        ensures ring { result ≡ ring_of ids.now }
+        ensures ids { IfOk result (λ kept. map pos kept ≡ ids.now) }
+    {
+        if ids.len() < 2 || ids.len() > 16 {
+            return Err(MapError::NodeCount);
+        }
+        if let Some(i) = first_unfit(ids) {
+            return Err(MapError::NodeId(i as u32 + 1));
+        }
+        if let Some(i) = first_repeat(ids) {
+            return Err(MapError::Repeat(i as u32 + 1));
+        }
+        Ok(RingMap { ids: as_bytes(ids) })
+    }
+
+    /// How many nodes there are.
+    pub fn len(&self) -> usize
+        ensures len { result ≡ length self.now }
+        ensures few { length self.now ≤ 16 }
+        ensures enough { 2 ≤ length self.now }
+        ensures ids { AreIds self.now }
+    {
+        self.ids.len()
+    }
+
+    /// The identifier at a position.
+    pub fn id(&self, at: Pos) -> u8
+        requires { at.0 < length self.now }
+        ensures id { result ≡ slice_index self.now at.0 }
+        ensures small { result < 16 }
+    {
+        self.ids[at.0 as usize]
+    }
+
+    /// The position of the node with this identifier, or `None` where no node has it.
+    pub fn find(&self, id: u8) -> Option<Pos>
+        ensures { result ≡ found_at self.now id }
+    {
+        match index_of(self.ids.as_slice(), id) {
+            Some(at) => Some(Pos(at as u8)),
+            None => None,
+        }
+    }
+
+    /// The position on a side.
+    pub fn step(&self, at: Pos, side: Side) -> Pos
+        requires { at.0 < length self.now }
+        ensures place { result.0 ≡ neighbour (length self.now) at.0 side }
+        ensures within { result.0 < length self.now }
+    {
+        let n = self.ids.len() as u8;
+        Pos(match side {
+            Side::East => (at.0 + 1) % n,
+            Side::West => (at.0 + (n - 1)) % n,
+        })
+    }
+
+    /// The span on a side.
+    pub fn span(&self, at: Pos, side: Side) -> Span
+        requires { at.0 < length self.now }
+        ensures place { result.0 ≡ span_at (length self.now) at.0 side }
+        ensures within { result.0 < length self.now }
+    {
+        let n = self.ids.len() as u8;
+        Span(match side {
+            Side::East => at.0,
+            Side::West => (at.0 + (n - 1)) % n,
+        })
+    }
+
+    /// How many spans lead eastwards from one position to another.
+    pub fn distance(&self, from: Pos, to: Pos) -> u8
+        requires from { from.0 < length self.now }
+        requires to { to.0 < length self.now }
+        ensures steps { result ≡ eastwards (length self.now) from.0 to.0 }
+        ensures within { result < length self.now }
+        ensures few { length self.now ≤ 16 }
+    {
+        let n = self.ids.len() as u8;
+        (to.0 + (n - from.0)) % n
+    }
+
+    /// The positions eastwards from one up to another, both among them.
+    pub fn chain(&self, from: Pos, to: Pos) -> Chain
+        requires from { from.0 < length self.now }
+        requires to { to.0 < length self.now }
+        ensures first { result.first ≡ from }
+        ensures count { result.count ≡ eastwards (length self.now) from.0 to.0 + 1 }
+    {
+        Chain {
+            first: from,
+            count: self.distance(from, to) + 1,
+        }
+    }
+
+    /// Whether a position is in a chain.
+    pub fn has(&self, chain: Chain, at: Pos) -> bool
+        requires chain { chain.first.0 < length self.now }
+        requires at { at.0 < length self.now }
+        ensures { result ≡ in_chain (length self.now) chain at.0 }
+    {
+        self.distance(chain.first, at) < chain.count
+    }
+
+    /// An equal ring map. It takes no memory.
+    pub fn copy(&self) -> RingMap
+        ensures { result ≡ self.now }
+    {
+        let mut ids = ArrayVec::new();
+        let old = self.ids.as_slice();
+        for id in old {
+            ids.push(*id);
+        }
+        RingMap { ids }
+    }
+}

@@ -1,0 +1,57 @@
+//! Lists of identifiers: first places, and identifiers as bytes.
+ghost use Rattle.std.specs.Prelude.{◌≡◌, ℕ, ◌<◌, ◌≤◌, true, All, map, ◌==◌, length, IfSome, position};
+ghost use Rattle.sdh_ringmap.specs.Numbering.{is_id, magnitude, stood_before, first_unfit, first_repeat};
+
+use arrayvec::ArrayVec;
+
+// The place of an identifier.
+pub(crate) fn index_of(ids: &[u8], id: u8) -> Option<usize>
+    ensures index { result ≡ position (λ x. x == id) ids.now }
+    ensures within { IfSome result (λ i. i < length ids.now) }
+{
+    ids.iter().position(|x| *x == id)
+}
+
+// Whether the number is an identifier.
+fn is_id(number: i64) -> bool
+    ensures { result ≡ is_id number }
+{
+    0 <= number && number <= 15
+}
+
+// The first place whose number is no identifier.
+pub(crate) fn first_unfit(ids: &[i64]) -> Option<usize>
+    ensures index { result ≡ first_unfit ids.now }
+    ensures within { IfSome result (λ i. i < length ids.now) }
+{
+    ids.iter().position(|id| !is_id(*id))
+}
+
+// Whether the number at a place stood before.
+fn stood_before(ids: &[i64], i: usize) -> bool
+    requires { i < length ids.now }
+    ensures { result ≡ stood_before ids.now i }
+{
+    ids[..i].contains(&ids[i])
+}
+
+// The first place whose number stood before.
+pub(crate) fn first_repeat(ids: &[i64]) -> Option<usize>
+    ensures index { result ≡ first_repeat ids.now }
+    ensures within { IfSome result (λ i. i < length ids.now) }
+{
+    (0..ids.len()).find(|i| stood_before(ids, *i))
+}
+
+// Identifiers as bytes.
+pub(crate) fn as_bytes(ids: &[i64]) -> ArrayVec<u8, 16>
+    requires few { length ids.now ≤ 16 }
+    requires fit { All (λ z. is_id z ≡ true) ids.now }
+    ensures { result.items ≡ map magnitude ids.now }
+{
+    let mut bytes = ArrayVec::new();
+    for id in ids {
+        bytes.push(*id as u8);
+    }
+    bytes
+}
