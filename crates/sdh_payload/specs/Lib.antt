@@ -1,2 +1,3 @@
 pub mod Customer
 pub mod Port
+pub mod Chunk

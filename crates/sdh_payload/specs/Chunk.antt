@@ -1,0 +1,15 @@
+-- What a port takes from an AU-4 that arrived (pointer justification: ITU-T G.707 clause 8.1).
+use Rattle.std.specs.Prelude.{ℕ, List, [], ◌++◌, take, drop}
+use Rattle.sdh_payload.specs.declared.chunk.ChunkForm.{ChunkForm}
+use Rattle.sdh_payload.specs.declared.chunk.ChunkForm.TheVariants.{Plain, Short, Long}
+
+-- the bytes before one place, then others, then the bytes from another place on
+unfoldable pub around : ℕ → List ℕ → ℕ → List ℕ → List ℕ
+around front middle back payload = take front payload ++ middle ++ drop back payload
+
+-- the payload; at a positive justification without its three stuffed bytes, indexes 783 to 785; at a negative
+-- one with the three H3 bytes before index 783
+abbrev pub taken : ChunkForm → List ℕ → List ℕ → List ℕ
+taken Plain payload h3 = payload
+taken Short payload h3 = around 783 [] 786 payload
+taken Long payload h3 = around 783 h3 783 payload

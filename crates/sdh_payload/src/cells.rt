@@ -1,0 +1,66 @@
+//! A list of bytes with room for a chunk.
+ghost use Rattle.std.specs.Prelude.{◌≡◌, ◌+◌, ◌<◌, ◌≤◌, [], ◌∷◌, ◌++◌, IfOk, length};
+
+use std::alloc::{AllocError, Global};
+use std::marker::Model;
+
+/// The most bytes of a chunk: the 2349 bytes of an AU-4's payload, and the three H3 bytes.
+pub const MOST: usize = 2352;
+
+/// At most 2352 bytes, whose memory was taken when it was made.
+#[derive(Drop)]
+pub struct Cells {
+    bytes: Vec<u8>,
+}
+
+impl Model for Cells {
+    ghost use Rattle.std.specs.Prelude.{ℕ, List, ◌≤◌, vec_len, vec_capacity};
+
+    ghost Value = { List ℕ };
+
+    ghost view = { λ c. c.bytes.items };
+
+    ghost invariant = { λ c. (vec_len c.bytes ≤ 2352) × (2352 ≤ vec_capacity c.bytes) };
+}
+
+impl Cells {
+    /// No bytes, with room for 2352.
+    pub fn try_new(alloc: Global) -> Result<Cells, AllocError>
+        ensures { IfOk result (λ cells. cells ≡ []) }
+    {
+        Ok(Cells {
+            bytes: Vec::with_capacity(alloc, MOST)?,
+        })
+    }
+
+    /// The bytes, at most 2352.
+    pub fn as_slice(&self) -> &[u8]
+        ensures bytes { result.now ≡ self.now }
+        ensures few { length self.now ≤ 2352 }
+    {
+        &self.bytes
+    }
+
+    /// Drops the bytes and keeps their memory.
+    pub fn clear(&mut self)
+        ensures { self.new ≡ [] }
+    {
+        self.bytes.clear();
+    }
+
+    /// Adds a byte at the end. It takes no memory.
+    pub fn push(&mut self, byte: u8)
+        requires { length self.old < 2352 }
+        ensures { self.new ≡ self.old ++ byte ∷ [] }
+    {
+        self.bytes.push(byte).unwrap();
+    }
+
+    /// Adds bytes at the end. It takes no memory.
+    pub fn extend_from_slice(&mut self, bytes: &[u8])
+        requires { length self.old + length bytes.now ≤ 2352 }
+        ensures { self.new ≡ self.old ++ bytes.now }
+    {
+        self.bytes.extend_from_slice(bytes).unwrap();
+    }
+}
