@@ -1,0 +1,233 @@
+//! The words of the automatic protection switching channel and their two bytes, K1 and K2, of the multiplex section
+//! overhead (ITU-T G.707 clause 9.2). The codes and marks are this project's own tables, after ITU-T G.841.
+#![tactic(auto)]
+
+ghost use Rattle.std.specs.Prelude.{◌≡◌, ◌↔◌, ℕ, ◌≤◌, Some, IfSome};
+ghost use Rattle.sdh_kbytes.specs.KBytes.{code_number, path_number, mark_number, code_at, mark_at, decoded, Spells, IsUnlisted};
+
+/// What a word asks for, from the least to the most urgent.
+#[derive(Clone, Copy, Debug, PartialEq, Eq)]
+pub enum Code {
+    /// No request.
+    Nr,
+    /// Reverse request: the answer to a neighbour's request.
+    Rr,
+    /// Wait to restore: a defect has ended a short time ago.
+    Wtr,
+    /// Manual switch.
+    Ms,
+    /// Signal degrade.
+    Sd,
+    /// Signal fail.
+    Sf,
+    /// Forced switch.
+    Fs,
+}
+
+/// Which way round the ring a word goes to its destination.
+#[derive(Clone, Copy, Debug, PartialEq, Eq)]
+pub enum Path {
+    /// Over the one span that the word is about.
+    Short,
+    /// The other way, over all other spans.
+    Long,
+}
+
+/// What the sender of a word does with its side, or what it sees there.
+#[derive(Clone, Copy, Debug, PartialEq, Eq)]
+pub enum Mark {
+    /// Nothing.
+    Idle,
+    /// It bridges.
+    Bridged,
+    /// It bridges and switches.
+    BridgedSwitched,
+    /// Remote defect indication: the side that the word is sent on fails.
+    Rdi,
+    /// Alarm indication of the multiplex section.
+    MsAis,
+}
+
+/// A word: `from` asks `to` for `code`. Both identifiers are from 0 to 15 in every word that two bytes spell.
+#[derive(Clone, Copy, Debug, PartialEq, Eq)]
+pub struct K {
+    pub code: Code,
+    pub to: u8,
+    pub from: u8,
+    pub path: Path,
+    pub mark: Mark,
+}
+
+impl Code {
+    /// The four bits of the code. A more urgent code has a larger number.
+    pub fn number(self) -> u8
+        ensures { result ≡ code_number self }
+    {
+        match self {
+            Code::Nr => 0,
+            Code::Rr => 1,
+            Code::Wtr => 5,
+            Code::Ms => 6,
+            Code::Sd => 8,
+            Code::Sf => 11,
+            Code::Fs => 13,
+        }
+    }
+
+    fn of(bits: u8) -> Option<Code>
+        ensures { result ≡ code_at bits }
+    {
+        Some(match bits {
+            0 => Code::Nr,
+            1 => Code::Rr,
+            5 => Code::Wtr,
+            6 => Code::Ms,
+            8 => Code::Sd,
+            11 => Code::Sf,
+            13 => Code::Fs,
+            _ => return None,
+        })
+    }
+}
+
+impl Path {
+    fn number(self) -> u8
+        ensures { result ≡ path_number self }
+    {
+        match self {
+            Path::Short => 0,
+            Path::Long => 1,
+        }
+    }
+}
+
+impl Mark {
+    fn number(self) -> u8
+        ensures { result ≡ mark_number self }
+    {
+        match self {
+            Mark::Idle => 0,
+            Mark::Bridged => 1,
+            Mark::BridgedSwitched => 2,
+            Mark::Rdi => 6,
+            Mark::MsAis => 7,
+        }
+    }
+
+    fn of(bits: u8) -> Option<Mark>
+        ensures { result ≡ mark_at bits }
+    {
+        Some(match bits {
+            0 => Mark::Idle,
+            1 => Mark::Bridged,
+            2 => Mark::BridgedSwitched,
+            6 => Mark::Rdi,
+            7 => Mark::MsAis,
+            _ => return None,
+        })
+    }
+}
+
+/// The bytes K1 and K2 of a word.
+#[tactic(auto, using(crate::proofs::Tables::decoded_spelled))]
+pub fn encode(k: K) -> (u8, u8)
+    requires to { k.to ≤ 15 }
+    requires from { k.from ≤ 15 }
+    ensures bytes { Spells k result.0 result.1 }
+    ensures decodes { decoded result.0 result.1 ≡ Some k }
+{
+    (
+        16 * k.code.number() + k.to,
+        16 * k.from + 8 * k.path.number() + k.mark.number(),
+    )
+}
+
+/// The word that the bytes K1 and K2 spell; None at a code or a mark that the tables don't list.
+pub fn decode(k1: u8, k2: u8) -> Option<K>
+    ensures word { result ≡ decoded k1 k2 }
+    ensures encodes { IfSome result (λ k. Spells k k1 k2) }
+    ensures unlisted { (result ≡ None) ↔ IsUnlisted k1 k2 }
+{
+    Some(K {
+        code: Code::of(k1 >> 4)?,
+        to: k1 & 15,
+        from: k2 >> 4,
+        path: if (k2 >> 3) & 1 == 0 {
+            Path::Short
+        } else {
+            Path::Long
+        },
+        mark: Mark::of(k2 & 7)?,
+    })
+}
+
+#[cfg(test)]
+mod tests {
+    use super::*;
+
+    // Whether a word and two bytes belong together, both ways.
+    fn are_one(k: K, k1: u8, k2: u8) -> bool
+        requires to { k.to ≤ 15 }
+        requires from { k.from ≤ 15 }
+    {
+        encode(k) == (k1, k2) && decode(k1, k2) == Some(k)
+    }
+
+    fn word(code: Code, to: u8, from: u8, path: Path, mark: Mark) -> K
+        ensures to { result.to ≡ to }
+        ensures from { result.from ≡ from }
+    {
+        K {
+            code,
+            to,
+            from,
+            path,
+            mark,
+        }
+    }
+
+    #[test]
+    fn codes_have_their_numbers(rt: HostRuntime) {
+        for (code, number) in [
+            (Code::Nr, 0),
+            (Code::Rr, 1),
+            (Code::Wtr, 5),
+            (Code::Ms, 6),
+            (Code::Sd, 8),
+            (Code::Sf, 11),
+            (Code::Fs, 13),
+        ] {
+            assert_eq!(rt; code.number(), number);
+        }
+    }
+
+    #[test]
+    fn words_and_their_bytes(rt: HostRuntime) {
+        let (short, long) = (Path::Short, Path::Long);
+        assert!(rt; are_one(word(Code::Sf, 3, 2, short, Mark::Rdi), 0xb3, 0x26));
+        assert!(rt;
+            are_one(
+                word(Code::Sf, 3, 2, long, Mark::BridgedSwitched),
+                0xb3,
+                0x2a
+            )
+        );
+        assert!(rt;
+            are_one(
+                word(Code::Rr, 3, 2, short, Mark::BridgedSwitched),
+                0x13,
+                0x22
+            )
+        );
+        assert!(rt; are_one(word(Code::Wtr, 2, 3, long, Mark::Bridged), 0x52, 0x39));
+        assert!(rt; are_one(word(Code::Nr, 15, 0, short, Mark::Idle), 0x0f, 0x00));
+        assert!(rt; are_one(word(Code::Fs, 0, 15, long, Mark::MsAis), 0xd0, 0xff));
+    }
+
+    #[test]
+    fn unlisted_codes_and_marks(rt: HostRuntime) {
+        for (k1, k2) in [(0x42, 0x10), (0x02, 0x13), (0xff, 0xff)] {
+            assert!(rt; decode(k1, k2).is_none());
+        }
+    }
+}
