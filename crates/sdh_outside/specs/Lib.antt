@@ -1,0 +1,5 @@
+pub mod Counts
+pub mod Adapted
+pub mod Memory
+pub mod Reading
+pub mod Writing

@@ -1,0 +1,9 @@
+//! The calls that fail.
+ghost use Rattle.std.specs.Prelude.{◌↔◌, IsTrue, Contains};
+
+/// Whether a call is one of those that fail.
+pub fn is_among(failing: &[u32], call: u64) -> bool
+    ensures { IsTrue result ↔ Contains failing.now call }
+{
+    failing.iter().any(|number| u64::from(*number) == call)
+}

@@ -1,0 +1,21 @@
+//! The outside of the programs: sources and sinks of bytes that count their faults, the calls that read
+//! a source to its end and write a text whole, objects in memory that fail by a list, and the adapters
+//! of standard input and output.
+#![tactic(auto)]
+
+mod calls;
+mod mem_sink;
+mod mem_source;
+mod reading;
+mod sink;
+mod source;
+#[cfg(test)]
+mod tests;
+mod writing;
+
+pub use mem_sink::MemSink;
+pub use mem_source::MemSource;
+pub use reading::{READ_MAX, ReadAllError, read_all};
+pub use sink::{Sink, StdSink};
+pub use source::{Failed, Source, StdSource};
+pub use writing::{WriteFault, write_text};

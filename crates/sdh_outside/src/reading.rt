@@ -1,0 +1,77 @@
+//! Reading a source to its end.
+ghost use Rattle.std.specs.Prelude.{◌≡◌, ◌+◌, ◌<◌, ◌≤◌, ◌⊎◌, IfOk, IsOk, IsErrOf, OnOk, OnErr, Err, length, take, vec_len};
+ghost use Rattle.std.specs.Io.KnownBytes.{Consumes, IsAtEnd};
+ghost use Rattle.sdh_basics.specs.Causes.{HasCause, Rose};
+ghost use Rattle.sdh_outside.specs.Reading.{TakesCount, TakesFewer, TellsAtMost};
+
+use crate::source::{Failed, Source};
+use std::alloc::{AllocError, Global};
+
+/// How many bytes `read_all` hands out at most.
+pub const READ_MAX: usize = 1_048_576;
+
+/// Why there are no bytes. Those that were taken are gone.
+#[derive(Clone, Copy, Debug, PartialEq, Eq)]
+pub enum ReadAllError {
+    /// There was no memory, and nothing was taken.
+    Memory,
+    /// A read failed.
+    ReadFault,
+    /// `READ_MAX` bytes and one more were taken.
+    TooLong,
+}
+
+// So many bytes, each of them 0.
+fn zeros(alloc: Global, count: usize) -> Result<Vec<u8>, AllocError>
+    ensures { IfOk result (λ bytes. vec_len bytes ≡ count) }
+{
+    vec![in alloc; 0u8; count]
+}
+
+// Reads until the buffer is full, the source ends or a call fails.
+fn fill<R: Source>(source: &mut R, buf: &mut [u8]) -> Result<usize, Failed>
+    ensures within { IfOk result (λ count. count ≤ length buf.new) }
+    ensures took { IfOk result (λ count. Consumes (R.left source.old) (R.left source.new) (take count buf.new)) }
+    ensures end { IfOk result (λ count. count < length buf.new → IsAtEnd (R.left source.new)) }
+    ensures failed { OnErr result (TakesFewer (R.left source.old) (R.left source.new) (length buf.new)) }
+    ensures cause { HasCause (R.faults source.old) (R.faults source.new) result }
+{
+    let mut taken = 0;
+    while taken < buf.len() {
+        let count = source.read(&mut buf[taken..])?;
+        if count == 0 {
+            return Ok(taken);
+        }
+        taken += count;
+    }
+    Ok(taken)
+}
+
+/// All that the source has left, read to its end. It makes room for `READ_MAX` bytes and one more
+/// before the first read, takes at least one byte each turn, and stops once the room is full.
+pub fn read_all<R: Source>(alloc: Global, source: &mut R) -> Result<Vec<u8>, ReadAllError>
+    ensures all { IfOk result (λ bytes. Consumes (R.left source.old) (R.left source.new) bytes.items) }
+    ensures end { OnOk result (IsAtEnd (R.left source.new)) }
+    ensures short { IfOk result (λ bytes. length bytes.items ≤ READ_MAX) }
+
+    ensures fault { IsErrOf result ReadAllError.ReadFault → Rose (R.faults source.old) (R.faults source.new) }
+    ensures fault_taken { IsErrOf result ReadAllError.ReadFault → TakesFewer (R.left source.old) (R.left source.new) (READ_MAX + 1) }
+    ensures too_long { IsErrOf result ReadAllError.TooLong → TakesCount (R.left source.old) (R.left source.new) (READ_MAX + 1) }
+    ensures memory { IsErrOf result ReadAllError.Memory → source.new ≡ source.old }
+
+    // At most `READ_MAX` bytes left and no fault: Ok, or no memory.
+    ensures complete { TellsAtMost (R.left source.old) READ_MAX → ¬ (Rose (R.faults source.old) (R.faults source.new)) → IsOk result ⊎ IsErrOf result ReadAllError.Memory }
+    ensures later { R.faults source.old ≤ R.faults source.new }
+{
+    let Ok(mut bytes) = zeros(alloc, READ_MAX + 1) else {
+        return Err(ReadAllError::Memory);
+    };
+    let Ok(count) = fill(source, &mut bytes) else {
+        return Err(ReadAllError::ReadFault);
+    };
+    if count > READ_MAX {
+        return Err(ReadAllError::TooLong);
+    }
+    bytes.truncate(count);
+    Ok(bytes)
+}

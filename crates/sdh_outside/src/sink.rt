@@ -1,0 +1,76 @@
+//! Sinks of bytes.
+ghost use Rattle.std.specs.Prelude.{◌≡◌, ◌<◌, ℕ, List, Option, None, IfOk, MatchResult, length};
+ghost use Rattle.std.specs.Io.{WritesAtMost};
+ghost use Rattle.std.specs.Io.KnownBytes.{WriteAppends};
+ghost use Rattle.sdh_basics.specs.Causes.{HasCause};
+ghost use Rattle.sdh_outside.specs.Counts.{one_more};
+
+use crate::source::Failed;
+use std::io::Write;
+use std::marker::Model;
+
+/// What takes bytes.
+pub trait Sink {
+    /// The bytes that were written, where the sink tells them.
+    ghost written: { Self → Option (List ℕ) };
+
+    /// How often a call has failed. It never falls, and stands still at its type's end.
+    ghost faults: { Self → ℕ };
+
+    /// Takes some bytes from the front of the piece, and answers how many: at least one of a piece that
+    /// isn't empty.
+    fn write(&mut self, buf: &[u8]) -> Result<usize, Failed>
+        ensures bound { WritesAtMost result buf.now }
+        ensures some { IfOk result (λ n. 0 < length buf.now → 0 < n) }
+        ensures bytes { WriteAppends (written self.old) (written self.new) result buf.now }
+        ensures cause { HasCause (faults self.old) (faults self.new) result };
+}
+
+/// A writer of std as a sink, as standard output. It tells no bytes, and counts as a fault each error of
+/// the writer, and each write that took nothing of a piece that isn't empty.
+#[derive(Drop)]
+pub struct StdSink<T: Write + Drop> {
+    writer: T,
+    faults: u64,
+}
+
+impl<T: Write + Drop> Model for StdSink<T> {
+    ghost use Rattle.sdh_outside.specs.Adapted.{Adapted};
+
+    ghost Value = { Adapted };
+
+    ghost view = { λ s. record { known = T.contents s.writer; faults = s.faults } };
+}
+
+impl<T: Write + Drop> StdSink<T> {
+    /// A sink without faults. It takes no memory.
+    pub fn new(writer: T) -> StdSink<T>
+        ensures { result ≡ record { known = T.contents writer; faults = 0 } }
+    {
+        StdSink { writer, faults: 0 }
+    }
+}
+
+impl<T: Write + Drop> Sink for StdSink<T> {
+    ghost written = { λ _. None };
+
+    ghost faults = { λ s. s.faults };
+
+    fn write(&mut self, buf: &[u8]) -> Result<usize, Failed>
+        ensures bound { WritesAtMost result buf.now }
+        ensures some { IfOk result (λ n. 0 < length buf.now → 0 < n) }
+        ensures bytes { WriteAppends None None result buf.now }
+        ensures cause { HasCause self.old.faults self.new.faults result }
+
+        ensures passed { WriteAppends self.old.known self.new.known result buf.now }
+        ensures count { MatchResult result (λ _. self.new.faults ≡ self.old.faults) (λ _. self.new.faults ≡ one_more self.old.faults) }
+    {
+        match self.writer.write(buf) {
+            Ok(count) if count > 0 || buf.is_empty() => Ok(count),
+            _ => {
+                self.faults = self.faults.saturating_add(1);
+                Err(Failed)
+            }
+        }
+    }
+}

@@ -1,0 +1,30 @@
+//! Writing a text whole.
+ghost use Rattle.std.specs.Prelude.{◌≡◌, ◌≤◌, [], OnOk, OnErr, IsOk};
+ghost use Rattle.std.specs.Io.KnownBytes.{Appends};
+ghost use Rattle.sdh_basics.specs.Causes.{Rose};
+ghost use Rattle.sdh_outside.specs.Writing.{AppendsFewer};
+
+use crate::sink::Sink;
+use crate::source::Failed;
+
+/// A write failed, and a part of the text at most was appended.
+#[derive(Clone, Copy, Debug, PartialEq, Eq)]
+pub struct WriteFault;
+
+/// Appends the whole text, at least one byte each turn. It takes no memory.
+pub fn write_text<W: Sink>(sink: &mut W, text: &[u8]) -> Result<(), WriteFault>
+    ensures ok { OnOk result (Appends (W.written sink.old) (W.written sink.new) text.now) }
+    ensures fault { OnErr result (Rose (W.faults sink.old) (W.faults sink.new)) }
+    ensures front { OnErr result (AppendsFewer (W.written sink.old) (W.written sink.new) text.now) }
+    ensures empty { text.now ≡ [] → IsOk result × (sink.new ≡ sink.old) }
+    ensures later { W.faults sink.old ≤ W.faults sink.new }
+{
+    let mut sent = 0;
+    while sent < text.len() {
+        match sink.write(&text[sent..]) {
+            Ok(count) => sent += count,
+            Err(Failed) => return Err(WriteFault),
+        }
+    }
+    Ok(())
+}
