@@ -11,7 +11,7 @@ pub record Arc : Type 0 where
 
 -- in a ring of n, the arc holds span s: s is in the ring, and fewer spans lead from the arc's start to the
 -- west end of s than the arc has
-abbrev pub holds_span : ℕ → Arc → ℕ → Bool
+unfoldable pub holds_span : ℕ → Arc → ℕ → Bool
 holds_span n arc s = nat_lt s n && nat_lt (eastwards n arc.start s) arc.spans
 
 -- the arc that leads eastwards from one position to another

@@ -4,12 +4,15 @@
 //! Span `p` joins the east side of position `p` and the west side of the position east of it.
 #![tactic(auto)]
 
-ghost use Rattle.std.specs.Prelude.{◌≡◌, ℕ, ◌+◌, ◌<◌, ◌≤◌, length, slice_index, IfOk, map, pos};
+ghost use Rattle.std.specs.Prelude.{◌≡◌, ◌≢◌, ℕ, ◌+◌, ◌<◌, ◌≤◌, length, slice_index, IfOk, map, pos};
 ghost use Rattle.sdh_ringmap.specs.Ids.{AreIds};
 ghost use Rattle.sdh_ringmap.specs.Places.{opposite, neighbour, span_at, eastwards, in_chain, found_at};
+ghost use Rattle.sdh_ringmap.specs.Arcs.{holds_span, arc_between, is_clear_of, is_joined};
 ghost use Rattle.sdh_ringmap.specs.Numbering.{ring_of};
 
 mod search;
+#[cfg(test)]
+mod tests;
 
 use crate::search::{as_bytes, first_repeat, first_unfit, index_of};
 use arrayvec::ArrayVec;
@@ -145,10 +148,9 @@ impl RingMap {
         ensures place { result.0 ≡ span_at (length self.now) at.0 side }
         ensures within { result.0 < length self.now }
     {
-        let n = self.ids.len() as u8;
         Span(match side {
             Side::East => at.0,
-            Side::West => (at.0 + (n - 1)) % n,
+            Side::West => self.step(at, Side::West).0,
         })
     }
 
@@ -184,6 +186,42 @@ impl RingMap {
         ensures { result ≡ in_chain (length self.now) chain at.0 }
     {
         self.distance(chain.first, at) < chain.count
+    }
+
+    // Whether a span is held by the arc that leads eastwards from one position to another.
+    #[tactic(auto, unfolding(crate::specs::Arcs::holds_span))]
+    fn holds(&self, from: Pos, to: Pos, span: Span) -> bool
+        requires from { from.0 < length self.now }
+        requires to { to.0 < length self.now }
+        ensures { result ≡ holds_span (length self.now) (arc_between (length self.now) from.0 to.0) span.0 }
+    {
+        (span.0 as usize) < self.len() && self.distance(from, Pos(span.0)) < self.distance(from, to)
+    }
+
+    // Whether the arc that leads eastwards from one position to another holds none of the spans.
+    fn is_clear(&self, from: Pos, to: Pos, spans: &[Span]) -> bool
+        requires from { from.0 < length self.now }
+        requires to { to.0 < length self.now }
+        ensures { result ≡ is_clear_of (length self.now) (arc_between (length self.now) from.0 to.0) spans.now }
+    {
+        for span in spans {
+            if self.holds(from, to, *span) {
+                return false;
+            }
+        }
+        true
+    }
+
+    /// Whether two positions are joined under applied spans: one of the two arcs between them holds none
+    /// of the spans. A span whose number isn't in the ring is held by no arc.
+    #[tactic(auto, using(crate::proofs::Around::opposite_between))]
+    pub fn joined(&self, from: Pos, to: Pos, applied: &[Span]) -> bool
+        requires from { from.0 < length self.now }
+        requires to { to.0 < length self.now }
+        requires apart { from.0 ≢ to.0 }
+        ensures { result ≡ is_joined (length self.now) from.0 to.0 applied.now }
+    {
+        self.is_clear(from, to, applied) || self.is_clear(to, from, applied)
     }
 
     /// An equal ring map. It takes no memory.
