@@ -1,13 +1,13 @@
 -- Going round a ring eastwards.
-use Rattle.std.proofs.Common.{◌≡◌, ◌≢◌, ℕ, zero, suc, ◌+◌, ◌-◌, ◌%◌, ◌<◌, ◌≤◌, ◌⊎◌, inl, inr, ap, ◌∙◌, sym, arith}
-use Rattle.std.proofs.Math.Nat.{mod-eq_of_lt, add-mod_left, mod_self}
+use Rattle.std.proofs.Common.{◌≡◌, ◌≢◌, ℕ, zero, suc, ◌+◌, ◌-◌, ◌%◌, ◌<◌, ◌≤◌, ◌⊎◌, inl, inr, ap, ◌∙◌, arith}
+use Rattle.std.proofs.Math.Nat.{mod-eq_of_lt, add-mod_left}
 use Rattle.sdh_ringmap.specs.Places.{eastwards}
 use Rattle.sdh_ringmap.specs.Arcs.{Arc, arc_between, opposite_arc}
 
 abbrev arc_of : ℕ → ℕ → Arc
 arc_of start spans = record { start = start; spans = spans }
 
-nat_le_or : (a b : ℕ) → (a ≤ b) ⊎ (b < a)
+pub nat_le_or : (a b : ℕ) → (a ≤ b) ⊎ (b < a)
 nat_le_or zero b = inl (omega arith)
 nat_le_or (suc a) zero = inr (omega arith)
 nat_le_or (suc a) (suc b) = elim (nat_le_or a b) [ inl h ↦ inl (omega arith) | inr h ↦ inr (omega arith) ]

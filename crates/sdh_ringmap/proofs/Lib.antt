@@ -1,2 +1,3 @@
 mod Firsts
 pub mod Around
+pub mod Clear

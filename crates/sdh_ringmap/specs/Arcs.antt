@@ -1,5 +1,5 @@
 -- Arcs of a ring and the spans that they hold.
-use Rattle.std.specs.Prelude.{ℕ, ◌+◌, ◌-◌, ◌%◌, Bool, ◌&&◌, ◌||◌, not, nat_lt, List}
+use Rattle.std.specs.Prelude.{ℕ, zero, suc, ◌+◌, ◌-◌, ◌%◌, Bool, true, ◌&&◌, ◌||◌, not, nat_lt, ◌==◌, List}
 use Rattle.std.specs.List.{list_any}
 use Rattle.sdh_ringmap.specs.Places.{eastwards}
 use Rattle.sdh_ringmap.specs.declared.Span.{Span}
@@ -22,12 +22,23 @@ arc_between n from to = record { start = from; spans = eastwards n from to }
 abbrev pub opposite_arc : ℕ → Arc → Arc
 opposite_arc n arc = record { start = (arc.start + arc.spans) % n; spans = n - arc.spans }
 
--- the arc holds none of the spans
-abbrev pub is_clear_of : ℕ → Arc → List Span → Bool
-is_clear_of n arc spans = not (list_any (λ s. holds_span n arc s.0) spans)
+-- the span at place i of an arc, counted from its start; the places from its length to n - 1 are the opposite arc
+abbrev pub arc_span : ℕ → Arc → ℕ → ℕ
+arc_span n arc i = (arc.start + i) % n
 
--- two positions are joined under applied spans: the arc from one eastwards to the other holds none of
--- them, or the opposite arc holds none
-abbrev pub is_joined : ℕ → ℕ → ℕ → List Span → Bool
-is_joined n from to applied =
-    is_clear_of n (arc_between n from to) applied || is_clear_of n (opposite_arc n (arc_between n from to)) applied
+-- p holds at none of the k places from i on
+abbrev pub none_of : (ℕ → Bool) → ℕ → ℕ → Bool
+none_of p i zero = true
+none_of p i (suc k) = not (p i) && none_of p (suc i) k
+
+-- the arc holds no applied span, where `applied s` tells whether span s is applied
+unfoldable pub is_clear : ℕ → (ℕ → Bool) → Arc → Bool
+is_clear n applied arc = none_of (λ i. applied (arc_span n arc i)) 0 arc.spans
+
+-- the two ends of an arc are joined: it holds no applied span, or the opposite arc holds none
+unfoldable pub is_joined : ℕ → (ℕ → Bool) → Arc → Bool
+is_joined n applied arc = is_clear n applied arc || is_clear n applied (opposite_arc n arc)
+
+-- span s is one of these
+abbrev pub is_among : List Span → ℕ → Bool
+is_among spans s = list_any (λ x. x.0 == s) spans

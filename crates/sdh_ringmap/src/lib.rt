@@ -4,10 +4,11 @@
 //! Span `p` joins the east side of position `p` and the west side of the position east of it.
 #![tactic(auto)]
 
-ghost use Rattle.std.specs.Prelude.{◌≡◌, ◌≢◌, ℕ, ◌+◌, ◌<◌, ◌≤◌, length, slice_index, IfOk, map, pos};
+ghost use Rattle.std.specs.Prelude.{◌≡◌, ◌≢◌, ℕ, ◌+◌, ◌<◌, ◌≤◌, length, slice_index, IfOk, map, pos, not};
+ghost use Rattle.std.specs.List.{list_any};
 ghost use Rattle.sdh_ringmap.specs.Ids.{AreIds};
 ghost use Rattle.sdh_ringmap.specs.Places.{opposite, neighbour, span_at, eastwards, in_chain, found_at};
-ghost use Rattle.sdh_ringmap.specs.Arcs.{holds_span, arc_between, is_clear_of, is_joined};
+ghost use Rattle.sdh_ringmap.specs.Arcs.{holds_span, arc_between, is_among, is_clear, is_joined};
 ghost use Rattle.sdh_ringmap.specs.Numbering.{ring_of};
 
 mod search;
@@ -198,11 +199,11 @@ impl RingMap {
         (span.0 as usize) < self.len() && self.distance(from, Pos(span.0)) < self.distance(from, to)
     }
 
-    // Whether the arc that leads eastwards from one position to another holds none of the spans.
-    fn is_clear(&self, from: Pos, to: Pos, spans: &[Span]) -> bool
+    // Whether the arc that leads eastwards from one position to another holds none of the spans, one by one.
+    fn holds_none(&self, from: Pos, to: Pos, spans: &[Span]) -> bool
         requires from { from.0 < length self.now }
         requires to { to.0 < length self.now }
-        ensures { result ≡ is_clear_of (length self.now) (arc_between (length self.now) from.0 to.0) spans.now }
+        ensures { result ≡ not (list_any (λ s. holds_span (length self.now) (arc_between (length self.now) from.0 to.0) s.0) spans.now) }
     {
         for span in spans {
             if self.holds(from, to, *span) {
@@ -212,14 +213,23 @@ impl RingMap {
         true
     }
 
+    // Whether that arc is clear of the spans.
+    fn is_clear(&self, from: Pos, to: Pos, spans: &[Span]) -> bool
+        requires from { from.0 < length self.now }
+        requires to { to.0 < length self.now }
+        ensures { result ≡ is_clear (length self.now) (is_among spans.now) (arc_between (length self.now) from.0 to.0) }
+    {
+        self.holds_none(from, to, spans)
+    }
+
     /// Whether two positions are joined under applied spans: one of the two arcs between them holds none
     /// of the spans. A span whose number isn't in the ring is held by no arc.
-    #[tactic(auto, using(crate::proofs::Around::opposite_between))]
+    #[tactic(auto, using(crate::proofs::Around::opposite_between), unfolding(crate::specs::Arcs::is_joined))]
     pub fn joined(&self, from: Pos, to: Pos, applied: &[Span]) -> bool
         requires from { from.0 < length self.now }
         requires to { to.0 < length self.now }
         requires apart { from.0 ≢ to.0 }
-        ensures { result ≡ is_joined (length self.now) from.0 to.0 applied.now }
+        ensures { result ≡ is_joined (length self.now) (is_among applied.now) (arc_between (length self.now) from.0 to.0) }
     {
         self.is_clear(from, to, applied) || self.is_clear(to, from, applied)
     }
