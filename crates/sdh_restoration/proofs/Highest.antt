@@ -1,0 +1,18 @@
+-- The highest of some requests, request by request.
+use Rattle.std.proofs.Common.{◌≡◌, ℕ, ◌+◌, ◌<◌, List, [], ◌∷◌, ◌++◌, length, map, max, take, get_or, refl, sym, ap, ◌∙◌, arith}
+use Rattle.std.proofs.lemmas.List.{map-append, take_more}
+use Rattle.sdh_restoration.specs.Applied.{highest}
+
+pub highest-push : (rs : List ℕ) (r : ℕ) → highest (rs ++ r ∷ []) ≡ max r (highest rs)
+highest-push [] r = refl
+highest-push (x ∷ rs) r = let h = highest-push rs r in omega arith
+
+-- one item more of a list, by its number
+pub highest_more : {X : Type 0} (f : X → ℕ) (xs : List X) (i : ℕ) (d : X) → i < length xs → highest (map f (take (i + 1) xs)) ≡ max (f (get_or xs i d)) (highest (map f (take i xs)))
+highest_more f xs i d h =
+    ap (λ l. highest (map f l)) (take_more xs i d h) ∙ ap highest (map-append f (take i xs) (get_or xs i d ∷ [])) ∙ highest-push (map f (take i xs)) (f (get_or xs i d))
+
+-- a step of a loop: the item at i has the number y, and m is the highest before it
+pub highest_step : {X : Type 0} (f : X → ℕ) (xs : List X) (i : ℕ) (d : X) (y m r : ℕ) → i < length xs → y ≡ f (get_or xs i d) → m ≡ highest (map f (take i xs)) → r ≡ max y m
+    → r ≡ highest (map f (take (i + 1) xs))
+highest_step f xs i d y m r h is before more = more ∙ ap (λ k. max k m) is ∙ ap (λ k. max (f (get_or xs i d)) k) before ∙ sym (highest_more f xs i d h)

@@ -1,0 +1,3 @@
+pub mod Applied
+pub mod Locals
+pub mod Routes

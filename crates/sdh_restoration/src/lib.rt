@@ -1,0 +1,9 @@
+//! The restoration model: what a ring owes its customers, in spans, arcs and customers' bytes alone.
+//!
+//! The definitions in `specs/` are what reports are compared with. The functions here evaluate them plainly.
+#![tactic(auto)]
+
+pub mod applied;
+pub mod routes;
+#[cfg(test)]
+mod tests;
