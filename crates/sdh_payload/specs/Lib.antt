@@ -1,3 +1,6 @@
 pub mod Customer
 pub mod Port
 pub mod Chunk
+pub mod Stream
+pub mod Walk
+pub mod Feed

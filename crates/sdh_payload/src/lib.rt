@@ -3,9 +3,14 @@
 
 pub mod cells;
 pub mod chunk;
+pub mod feed;
+mod parity;
 pub mod port;
+mod repeated;
 mod short_text;
+mod walk;
 
 pub use cells::Cells;
 pub use chunk::{ChunkForm, take_chunk};
+pub use feed::Feed;
 pub use port::{Port, PortError};

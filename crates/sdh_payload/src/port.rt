@@ -1,5 +1,5 @@
 //! A port of a circuit.
-ghost use Rattle.std.specs.Prelude.{◌≡◌, ◌↔◌, ◌<◌, ◌≤◌, true, false};
+ghost use Rattle.std.specs.Prelude.{◌≡◌, ◌↔◌, ◌<◌, ◌≤◌, true, false, length};
 ghost use Rattle.std.specs.List.{list_all};
 ghost use Rattle.sdh_payload.specs.Customer.{is_printable, is_text};
 ghost use Rattle.sdh_payload.specs.Port.{checked_port};
@@ -92,17 +92,23 @@ impl Port {
     }
 
     /// The text, 1 to 64 bytes.
+    #[tactic(auto, using(crate::proofs::Texts::text_few, crate::proofs::Texts::text_some))]
     pub fn text(&self) -> &[u8]
         ensures text { result.now ≡ self.now.text }
         ensures form { is_text self.now.text ≡ true }
+        ensures some { 0 < length self.now.text }
+        ensures few { length self.now.text ≤ 64 }
     {
         self.text.as_slice()
     }
 
     /// The trace without its padding, 1 to 64 bytes.
+    #[tactic(auto, using(crate::proofs::Texts::text_few, crate::proofs::Texts::text_some))]
     pub fn trace(&self) -> &[u8]
         ensures trace { result.now ≡ self.now.trace }
         ensures form { is_text self.now.trace ≡ true }
+        ensures some { 0 < length self.now.trace }
+        ensures few { length self.now.trace ≤ 64 }
     {
         self.trace.as_slice()
     }

@@ -1,0 +1,209 @@
+//! A walk along a customer's VC-4s, row by row.
+ghost use Rattle.std.specs.Prelude.{◌≡◌, ◌+◌, ◌-◌, ◌*◌, ◌/◌, ◌%◌, ◌^◌, ◌<◌, ◌≤◌, ◌++◌, length, slice_index};
+ghost use Rattle.sdh_basics.specs.Parity.{bip8};
+ghost use Rattle.sdh_payload.specs.Customer.{Customer};
+ghost use Rattle.sdh_payload.specs.Stream.{path_overhead, padded, start_of, vc4_byte, vc4_front};
+ghost use Rattle.sdh_payload.specs.Walk.{containers_from, text_before};
+
+use crate::cells::Cells;
+use crate::parity::bip8_of;
+use crate::port::Port;
+use crate::repeated::Repeated;
+use std::marker::Model;
+
+/// The bytes of a VC-4.
+const VC4_LEN: usize = 2349;
+
+/// The columns of a VC-4, the first of which is the path overhead.
+const COLUMNS: usize = 261;
+
+/// A space, which pads a trace.
+const SPACE: u8 = 0x20;
+
+/// The signal label C2: equipped, what is carried isn't told.
+const EQUIPPED: u8 = 1;
+
+/// The place of the next byte, with what is kept of the bytes behind it: the VC-4's B3, the parity
+/// of its bytes so far, and the place of the next text byte in the text.
+#[derive(Drop)]
+pub struct Walk {
+    port: Port,
+    text: Repeated,
+    number: u64,
+    index: usize,
+    b3: u8,
+    parity: u8,
+    place: usize,
+}
+
+impl Model for Walk {
+    ghost use Rattle.std.specs.Prelude.{◌≡◌, ◌+◌, ◌*◌};
+    ghost use Rattle.sdh_payload.specs.Walk.{Walked, IsAt};
+
+    ghost Value = { Walked };
+
+    ghost view = { λ w. record { port = w.port; at = 2349 * w.number + w.index } };
+
+    ghost invariant = { λ w. IsAt w.port w.number w.index w.b3 w.parity w.place × (w.text ≡ w.port.text) };
+}
+
+// J1 of VC-4 number `number`.
+fn trace_byte(trace: &[u8], number: u64) -> u8
+    ensures { result ≡ slice_index (padded trace.now) (number % 64) }
+{
+    let place = (number % 64) as usize;
+    if place < trace.len() {
+        trace[place]
+    } else {
+        SPACE
+    }
+}
+
+// The path overhead byte in a row of VC-4 number `number`.
+fn overhead_byte(trace: &[u8], b3: u8, number: u64, row: usize) -> u8
+    ensures { result ≡ slice_index (path_overhead trace.now b3 number) row }
+{
+    match row {
+        0 => trace_byte(trace, number),
+        1 => b3,
+        2 => EQUIPPED,
+        _ => 0,
+    }
+}
+
+// The byte at a place of VC-4 number 0.
+fn first_byte(port: &Port, index: usize) -> u8
+    ensures { result ≡ vc4_byte port.now 0 0 index }
+{
+    let row = index / COLUMNS;
+    let column = index % COLUMNS;
+    if column == 0 {
+        return overhead_byte(port.trace(), 0, 0, row);
+    }
+    let text = port.text();
+    text[(260 * row + column - 1) % text.len()]
+}
+
+// The parity of the first bytes of VC-4 number 0.
+fn first_parity(port: &Port, count: usize) -> u8
+    ensures { result ≡ bip8 (vc4_front port.now 0 0 count) }
+{
+    let mut parity = 0;
+    for index in 0..count {
+        parity ^= first_byte(port, index);
+    }
+    parity
+}
+
+// The byte of VC-4 number 0 with which a stream begins.
+fn start_index(offset: u16) -> usize
+    requires { offset ≤ 782 }
+    ensures start { result ≡ start_of offset }
+    ensures within { result < 2349 }
+{
+    let phase = (783 + 3 * usize::from(offset)) % VC4_LEN;
+    (VC4_LEN - phase) % VC4_LEN
+}
+
+// The place in a text of the next text byte from a byte of VC-4 number 0 on.
+fn first_place(index: usize, len: usize) -> usize
+    requires some { 0 < len }
+    requires within { index < 2349 }
+    ensures { result ≡ text_before 0 index % len }
+{
+    let before = 260 * (index / COLUMNS) + (index % COLUMNS).saturating_sub(1);
+    before % len
+}
+
+impl Walk {
+    /// At the first byte of a port's stream. It takes no memory.
+    pub fn new(port: &Port) -> Walk
+        ensures { result ≡ record { port = port.now; at = start_of port.now.offset } }
+    {
+        let index = start_index(port.offset());
+        let text = Repeated::new(port.text());
+        let place = first_place(index, text.len());
+        Walk {
+            port: port.copy(),
+            text,
+            number: 0,
+            index,
+            b3: 0,
+            parity: first_parity(port, index),
+            place,
+        }
+    }
+
+    // The path overhead byte at the start of a row.
+    fn put_overhead(&mut self, out: &mut Cells)
+        requires start { self.old.at % 261 ≡ 0 }
+        requires room { length out.old < 2352 }
+        ensures bytes { out.new ≡ out.old ++ containers_from self.old.port self.old.at 1 }
+        ensures next { self.new ≡ record self.old { at = self.old.at + 1 } }
+    {
+        let byte = overhead_byte(
+            self.port.trace(),
+            self.b3,
+            self.number,
+            self.index / COLUMNS,
+        );
+        out.push(byte);
+        self.parity ^= byte;
+        self.index += 1;
+    }
+
+    // Text bytes in a row.
+    fn put_text(&mut self, count: usize, out: &mut Cells)
+        requires inside { 0 < self.old.at % 261 }
+        requires fits { self.old.at % 261 + count ≤ 261 }
+        requires room { length out.old + count ≤ 2352 }
+        requires few { self.old.at < 2 ^ 60 }
+        ensures bytes { out.new ≡ out.old ++ containers_from self.old.port self.old.at count }
+        ensures next { self.new ≡ record self.old { at = self.old.at + count } }
+    {
+        let run = self.text.from(self.place, count);
+        out.extend_from_slice(run);
+        self.parity ^= bip8_of(run);
+        self.place = (self.place + count) % self.text.len();
+        self.index += count;
+        if self.index == VC4_LEN {
+            self.index = 0;
+            self.number += 1;
+            self.b3 = self.parity;
+            self.parity = 0;
+        }
+    }
+
+    /// The next bytes in a row, at least one and at most so many. Says how many.
+    pub fn put_some(&mut self, most: usize, out: &mut Cells) -> usize
+        requires some { 0 < most }
+        requires room { length out.old + most ≤ 2352 }
+        requires few { self.old.at < 2 ^ 60 }
+        ensures some { 0 < result }
+        ensures within { result ≤ most }
+        ensures bytes { out.new ≡ out.old ++ containers_from self.old.port self.old.at result }
+        ensures next { self.new ≡ record self.old { at = self.old.at + result } }
+    {
+        let column = self.index % COLUMNS;
+        if column == 0 {
+            self.put_overhead(out);
+            return 1;
+        }
+        let count = most.min(COLUMNS - column);
+        self.put_text(count, out);
+        count
+    }
+
+    /// The next bytes, as many as a VC-4 has.
+    pub fn fill(&mut self, out: &mut Cells)
+        requires { self.old.at < 2 ^ 59 }
+        ensures bytes { out.new ≡ containers_from self.old.port self.old.at 2349 }
+        ensures next { self.new ≡ record self.old { at = self.old.at + 2349 } }
+    {
+        out.clear();
+        let mut done = 0;
+        while done < VC4_LEN {
+            done += self.put_some(VC4_LEN - done, out);
+        }
+    }
+}
