@@ -1,0 +1,7 @@
+pub mod Masks
+pub mod Rows
+pub mod Forms
+pub mod Sent
+pub mod Settling
+pub mod Unmoved
+pub mod Coupling

@@ -1,0 +1,5 @@
+use Rattle.sdh_pointer.proofs.Rows.{each_word_has_one_row}
+use Rattle.sdh_pointer.proofs.laws.each_word_has_one_row.Goals as goal
+
+pub returns : goal.returns
+returns c = each_word_has_one_row

@@ -1,0 +1,5 @@
+use Rattle.sdh_pointer.proofs.Unmoved.{unmoved_is_ais}
+use Rattle.sdh_pointer.proofs.laws.unmoved_is_ais.Goals as goal
+
+pub returns : goal.returns
+returns c = unmoved_is_ais

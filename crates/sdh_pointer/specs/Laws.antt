@@ -1,0 +1,140 @@
+-- What holds of every interpreter and every generator: each table has one row for each case, one word for ever
+-- settles, and an interpreter reads what the generator before it sends.
+use Rattle.std.specs.Prelude.{◌≡◌, ◌≢◌, ℕ, ◌+◌, ◌≤◌, Bool, true, false, List, [], ◌∷◌, Option, Some, None}
+use Rattle.std.specs.List.{filter}
+use Rattle.sdh_pointer.specs.declared.reading.Reading.{Reading}
+use Rattle.sdh_pointer.specs.declared.reading.Mode.{Mode}
+use Rattle.sdh_pointer.specs.declared.reading.Mode.TheVariants as mode
+use Rattle.sdh_pointer.specs.declared.reading.Action.{Action}
+use Rattle.sdh_pointer.specs.declared.reading.Action.TheVariants as action
+use Rattle.sdh_pointer.specs.declared.word.Form.{Form}
+use Rattle.sdh_pointer.specs.declared.word.Form.TheVariants as form
+use Rattle.sdh_pointer.specs.Words.{is_normal, is_enabled, value_in, word_of, one_up, one_down}
+use Rattle.sdh_pointer.specs.Reading as reading
+use Rattle.sdh_pointer.specs.Reading.{Interpreter, event_of, after_word, action_on, after_step, settled, later, is_row_of, reading_table, after_row, action_row}
+use Rattle.sdh_pointer.specs.Sending as sending
+use Rattle.sdh_pointer.specs.Sending.{Generator, sending_table, word_sent, next_sending}
+use Rattle.sdh_pointer.specs.Repeated.{after_rounds, after_inputs}
+
+-- ---- tables
+
+-- exactly one row of the interpreter's table is that of a word in a state, and the step is by that row
+pub record HasRow (r : Reading) (w : ℕ) : Type 0 where
+  pub row : reading.Row
+  pub only : filter (is_row_of r.mode (event_of r w)) reading_table ≡ row ∷ []
+  pub next : after_word r w ≡ after_row row r (event_of r w)
+  pub answer : action_on r w ≡ action_row row r (event_of r w)
+
+abbrev pub EachWordHasOneRow : Type 0
+EachWordHasOneRow = (r : Reading) (w : ℕ) → HasRow r w
+
+-- exactly one row of the generator's table is that of an input in a state, and the step is by that row
+pub record HasSendingRow (s : Option ℕ) (a : Action) (v : ℕ) : Type 0 where
+  pub row : sending.Row
+  pub only : filter (λ (row : sending.Row). row.input s a v) sending_table ≡ row ∷ []
+  pub word : word_sent s a v ≡ word_of row.form (row.value s v)
+  pub next : next_sending s a v ≡ row.next v
+
+abbrev pub EachInputHasOneRow : Type 0
+EachInputHasOneRow = (s : Option ℕ) (a : Action) (v : ℕ) → HasSendingRow s a v
+
+-- ---- one input for ever
+
+-- the form of the word that a generator repeats, and the state that it stays in
+abbrev pub lasting_form : Action → Form
+lasting_form action.Normal = form.Normal
+lasting_form action.New = form.Enabled
+lasting_form action.Up = form.Enabled
+lasting_form action.Down = form.Enabled
+lasting_form action.Ais = form.Ais
+
+abbrev pub lasting_state : Action → ℕ → Option ℕ
+lasting_state action.Normal v = Some v
+lasting_state action.New v = Some v
+lasting_state action.Up v = Some v
+lasting_state action.Down v = Some v
+lasting_state action.Ais v = None
+
+-- from its second step on a generator that is given one input for ever repeats one word and keeps its state
+abbrev pub GeneratorRepeats : Type 0
+GeneratorRepeats =
+    (g : Generator) (a : Action) (v k : ℕ) → v ≤ 782 → 2 ≤ k
+    → after_inputs k a v g ≡ record { sending = lasting_state a v; word = word_of (lasting_form a) v; moved = false }
+
+-- ---- one word for ever
+
+-- one normal word for ever: after at most seven rounds the interpreter is in Norm at its value with `since` 3
+abbrev pub NormalWordSettles : Type 0
+NormalWordSettles =
+    (r : Reading) (w k : ℕ) → is_normal w ≡ true → value_in w ≤ 782 → 7 ≤ k → after_rounds k w r ≡ settled mode.Norm (value_in w) 3
+
+-- one enabled word for ever: after one round the interpreter is in Norm at its value, or stays in Lop
+abbrev pub enabled_end : Mode → ℕ → ℕ → Reading
+enabled_end mode.Norm old v = settled mode.Norm v 0
+enabled_end mode.Ais old v = settled mode.Norm v 0
+enabled_end mode.Lop old v = settled mode.Lop old 0
+
+abbrev pub EnabledWordSettles : Type 0
+EnabledWordSettles =
+    (r : Reading) (w k : ℕ) → is_enabled w ≡ true → value_in w ≤ 782 → 1 ≤ k → after_rounds k w r ≡ enabled_end r.mode r.value (value_in w)
+
+-- all ones for ever: after at most three rounds the interpreter is in Ais
+abbrev pub AisSettles : Type 0
+AisSettles = (r : Reading) (k : ℕ) → 3 ≤ k → after_rounds k 0xFFFF r ≡ settled mode.Ais r.value 0
+
+-- ---- steps that move nothing
+
+-- a step that read a normal word and moved nothing answered Normal at the value of the word
+pub record IsPassed (i : Interpreter) (w : ℕ) : Type 0 where
+  pub kept : i.reading ≡ settled mode.Norm (value_in w) 3
+  pub answer : action_on i.reading w ≡ action.Normal
+  pub value : (after_step i w).reading.value ≡ value_in w
+
+abbrev pub UnmovedIsNormal : Type 0
+UnmovedIsNormal =
+    (i : Interpreter) (w : ℕ) → is_normal w ≡ true → value_in w ≤ 782 → (after_step i w).moved ≡ false → IsPassed i w
+
+-- a step that read all ones and moved nothing answered Ais
+abbrev pub UnmovedIsAis : Type 0
+UnmovedIsAis = (i : Interpreter) → (after_step i 0xFFFF).moved ≡ false → action_on i.reading 0xFFFF ≡ action.Ais
+
+-- an interpreter in Norm that reads a normal word of its value answers Normal and counts nothing; once `since` is 3
+-- such a word doesn't move it
+pub record IsSteady (i : Interpreter) (w : ℕ) : Type 0 where
+  pub answer : action_on i.reading w ≡ action.Normal
+  pub next : (after_step i w).reading ≡ settled mode.Norm (value_in w) (later i.reading.since)
+  pub still : i.reading ≡ settled mode.Norm (value_in w) 3 → (after_step i w).moved ≡ false
+
+abbrev pub SteadyIsNormal : Type 0
+SteadyIsNormal =
+    (i : Interpreter) (w : ℕ) → is_normal w ≡ true → i.reading.mode ≡ mode.Norm → i.reading.value ≡ value_in w → IsSteady i w
+
+-- ---- from a generator to the interpreter behind it
+
+-- the interpreter behind a generator is in step with it: in Norm at the value that is sent, or in Ais
+abbrev pub IsInStep : Option ℕ → Reading → Type 0
+IsInStep None r = r.mode ≡ mode.Ais
+IsInStep (Some g) r = (r.mode ≡ mode.Norm) × (r.value ≡ g) × (g ≤ 782)
+
+-- an action and the value after it go on from what the generator sends, and the interpreter behind it reads
+-- justifications
+abbrev pub GoesOn : Option ℕ → Action → ℕ → Reading → Type 0
+GoesOn s action.New v r = Unit {0}
+GoesOn (Some g) action.Normal v r = v ≡ g
+GoesOn (Some g) action.Up v r = (v ≡ one_up g) × (3 ≤ r.since)
+GoesOn (Some g) action.Down v r = (v ≡ one_down g) × (3 ≤ r.since)
+GoesOn (Some g) action.Ais v r = ⊥
+GoesOn None action.Ais v r = Unit {0}
+GoesOn None action.Normal v r = ⊥
+GoesOn None action.Up v r = ⊥
+GoesOn None action.Down v r = ⊥
+
+-- then that interpreter reads the same action with the same value, and stays in step
+pub record IsReadAsSent (s : Option ℕ) (a : Action) (v : ℕ) (r : Reading) : Type 0 where
+  pub answer : action_on r (word_sent s a v) ≡ a
+  pub value : a ≢ action.Ais → (after_word r (word_sent s a v)).value ≡ v
+  pub in_step : IsInStep (next_sending s a v) (after_word r (word_sent s a v))
+
+abbrev pub ReadsWhatIsSent : Type 0
+ReadsWhatIsSent =
+    (s : Option ℕ) (a : Action) (v : ℕ) (r : Reading) → v ≤ 782 → IsInStep s r → GoesOn s a v r → IsReadAsSent s a v r

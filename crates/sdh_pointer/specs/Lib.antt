@@ -1,0 +1,5 @@
+pub mod Words
+pub mod Reading
+pub mod Sending
+pub mod Repeated
+pub mod Laws

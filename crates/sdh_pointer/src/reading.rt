@@ -1,0 +1,334 @@
+//! What a pointer interpreter keeps, and how a word changes it.
+ghost use Rattle.std.specs.Prelude.{◌≡◌, ◌≤◌};
+ghost use Rattle.sdh_pointer.specs.Words.{one_up, one_down};
+ghost use Rattle.sdh_pointer.specs.Reading.{IsBounded, value_of, later, settled, with_ais, with_bad, with_new, news_with, goes_up, goes_down, normal_event, event_of, after_in, after_event, action_of, same_mode, same_reading};
+ghost use Rattle.sdh_pointer.specs.declared.reading.Mode.TheVariants as mode;
+
+use crate::word::{Word, d_changes, i_changes, is_enabled, is_normal};
+
+/// The mode of an interpreter: it has a pointer, it reads AIS, or it has lost the pointer.
+#[derive(Clone, Copy, Debug, PartialEq, Eq)]
+pub enum Mode {
+    Norm,
+    Ais,
+    Lop,
+}
+
+/// What a word means to an interpreter: AIS, an invalid word, a new data flag with a value, the value
+/// that is kept, a justification by one step up or down, another value.
+#[derive(Clone, Copy, Debug, PartialEq, Eq)]
+pub enum Event {
+    Ais,
+    Bad,
+    Ndf(u16),
+    Same,
+    Up,
+    Down,
+    New(u16),
+}
+
+/// What a step of an interpreter asks of the generator behind it: the value goes on, is taken anew,
+/// moves by one step up or down, or there is none.
+#[derive(Clone, Copy, Debug, PartialEq, Eq)]
+pub enum Action {
+    Normal,
+    New,
+    Up,
+    Down,
+    Ais,
+}
+
+/// What an interpreter keeps: its mode; the value, which is not used in `Ais` and `Lop`; how many AIS
+/// words, invalid words and equal new values were read in a row, with that new value as candidate, 0
+/// where none is counted; and for how many steps, up to 3, the value has stood.
+#[derive(Clone, Copy, Debug, PartialEq, Eq)]
+pub struct Reading {
+    pub mode: Mode,
+    pub value: u16,
+    pub ais: u8,
+    pub bad: u8,
+    pub candidate: u16,
+    pub news: u8,
+    pub since: u8,
+}
+
+// The largest pointer value.
+const LAST: u16 = 782;
+
+// One more than the last ten bits can hold.
+const VALUE_END: u16 = 1024;
+
+// How many AIS words, equal new values and invalid words in a row are needed.
+const AIS_NEEDED: u8 = 3;
+
+const NEWS_NEEDED: u8 = 3;
+
+const BAD_NEEDED: u8 = 8;
+
+// For how many steps a value stands before it may be justified.
+const STEADY: u8 = 3;
+
+// A state in which nothing is counted.
+fn settled(mode: Mode, value: u16, since: u8) -> Reading
+    ensures { result ≡ settled mode value since }
+{
+    Reading {
+        mode,
+        value,
+        ais: 0,
+        bad: 0,
+        candidate: 0,
+        news: 0,
+        since,
+    }
+}
+
+// One AIS word more.
+fn with_ais(reading: Reading, since: u8) -> Reading
+    requires { IsBounded reading }
+    ensures { result ≡ with_ais reading since }
+{
+    Reading {
+        ais: reading.ais + 1,
+        ..settled(reading.mode, reading.value, since)
+    }
+}
+
+// One invalid word more.
+fn with_bad(reading: Reading, since: u8) -> Reading
+    requires { IsBounded reading }
+    ensures { result ≡ with_bad reading since }
+{
+    Reading {
+        bad: reading.bad + 1,
+        ..settled(reading.mode, reading.value, since)
+    }
+}
+
+// How many equal new values stand in a row with this one.
+fn news_with(reading: &Reading, value: u16) -> u8
+    requires { IsBounded reading.now }
+    ensures { result ≡ news_with reading.now value }
+{
+    if reading.news == 0 || reading.candidate != value {
+        1
+    } else {
+        reading.news + 1
+    }
+}
+
+// A new value that is counted.
+fn with_new(reading: Reading, value: u16, since: u8) -> Reading
+    requires { IsBounded reading }
+    ensures { result ≡ with_new reading value since }
+{
+    Reading {
+        candidate: value,
+        news: news_with(&reading, value),
+        ..settled(reading.mode, reading.value, since)
+    }
+}
+
+// `since` one round later.
+fn later(since: u8) -> u8
+    requires { since ≤ 3 }
+    ensures { result ≡ later since }
+{
+    if since < STEADY { since + 1 } else { STEADY }
+}
+
+/// The value one step on.
+pub fn one_up(value: u16) -> u16
+    requires { value ≤ 782 }
+    ensures { result ≡ one_up value }
+{
+    if value < LAST { value + 1 } else { 0 }
+}
+
+/// The value one step back.
+pub fn one_down(value: u16) -> u16
+    requires { value ≤ 782 }
+    ensures { result ≡ one_down value }
+{
+    if value > 0 { value - 1 } else { LAST }
+}
+
+#[tactic(auto, unfolding(crate::specs::Reading::goes_up))]
+fn goes_up(value: u16, kept: u16) -> bool
+    ensures { result ≡ goes_up value kept }
+{
+    i_changes(value, kept) >= 3 && d_changes(value, kept) <= 2
+}
+
+#[tactic(auto, unfolding(crate::specs::Reading::goes_down))]
+fn goes_down(value: u16, kept: u16) -> bool
+    ensures { result ≡ goes_down value kept }
+{
+    d_changes(value, kept) >= 3 && i_changes(value, kept) <= 2
+}
+
+// The event of a normal word with a value.
+#[tactic(auto, unfolding(crate::specs::Reading::normal_event))]
+fn normal_event(reading: &Reading, value: u16) -> Event
+    ensures event { result ≡ normal_event reading.now value }
+    ensures fits { value_of result ≤ 782 }
+{
+    let norm = matches!(reading.mode, Mode::Norm);
+    if norm && value == reading.value {
+        return Event::Same;
+    }
+    if norm && reading.since >= STEADY && goes_up(value, reading.value) {
+        return Event::Up;
+    }
+    if norm && reading.since >= STEADY && goes_down(value, reading.value) {
+        return Event::Down;
+    }
+    if value <= LAST {
+        Event::New(value)
+    } else {
+        Event::Bad
+    }
+}
+
+// The event of a word.
+#[tactic(auto, unfolding(crate::specs::Reading::event_of))]
+pub fn event_of(reading: &Reading, word: Word) -> Event
+    ensures event { result ≡ event_of reading.now word.0 }
+    ensures fits { value_of result ≤ 782 }
+{
+    let value = word.0 % VALUE_END;
+    if word.0 == 0xFFFF {
+        Event::Ais
+    } else if is_enabled(word) {
+        if value <= LAST {
+            Event::Ndf(value)
+        } else {
+            Event::Bad
+        }
+    } else if is_normal(word) {
+        normal_event(reading, value)
+    } else {
+        Event::Bad
+    }
+}
+
+// The rows of mode Norm.
+#[tactic(auto, unfolding(crate::specs::Reading::after_in, crate::specs::Reading::row_of, crate::specs::Reading::reading_table))]
+fn after_in_norm(reading: Reading, event: Event) -> Reading
+    requires bounded { IsBounded reading }
+    requires fits { value_of event ≤ 782 }
+    ensures row { result ≡ after_in mode.Norm event reading }
+    ensures bounded { IsBounded result }
+{
+    let Reading { value, since, .. } = reading;
+    match event {
+        Event::Same => settled(Mode::Norm, value, later(since)),
+        Event::Ndf(new) => settled(Mode::Norm, new, 0),
+        Event::Up => settled(Mode::Norm, one_up(value), 0),
+        Event::Down => settled(Mode::Norm, one_down(value), 0),
+        Event::New(new) if news_with(&reading, new) >= NEWS_NEEDED => {
+            settled(Mode::Norm, new, later(since))
+        }
+        Event::New(new) => with_new(reading, new, later(since)),
+        Event::Ais if reading.ais + 1 >= AIS_NEEDED => settled(Mode::Ais, value, 0),
+        Event::Ais => with_ais(reading, later(since)),
+        Event::Bad if reading.bad + 1 >= BAD_NEEDED => settled(Mode::Lop, value, 0),
+        Event::Bad => with_bad(reading, later(since)),
+    }
+}
+
+// The rows of mode Ais.
+#[tactic(auto, unfolding(crate::specs::Reading::after_in, crate::specs::Reading::row_of, crate::specs::Reading::reading_table))]
+fn after_in_ais(reading: Reading, event: Event) -> Reading
+    requires bounded { IsBounded reading }
+    requires fits { value_of event ≤ 782 }
+    ensures row { result ≡ after_in mode.Ais event reading }
+    ensures bounded { IsBounded result }
+{
+    match event {
+        Event::Ais => settled(Mode::Ais, reading.value, 0),
+        Event::Ndf(new) => settled(Mode::Norm, new, 0),
+        Event::New(new) if news_with(&reading, new) >= NEWS_NEEDED => settled(Mode::Norm, new, 0),
+        Event::New(new) => with_new(reading, new, 0),
+        Event::Bad if reading.bad + 1 >= BAD_NEEDED => settled(Mode::Lop, reading.value, 0),
+        Event::Bad => with_bad(reading, 0),
+        Event::Same | Event::Up | Event::Down => reading,
+    }
+}
+
+// The rows of mode Lop.
+#[tactic(auto, unfolding(crate::specs::Reading::after_in, crate::specs::Reading::row_of, crate::specs::Reading::reading_table))]
+fn after_in_lop(reading: Reading, event: Event) -> Reading
+    requires bounded { IsBounded reading }
+    requires fits { value_of event ≤ 782 }
+    ensures row { result ≡ after_in mode.Lop event reading }
+    ensures bounded { IsBounded result }
+{
+    match event {
+        Event::Ais if reading.ais + 1 >= AIS_NEEDED => settled(Mode::Ais, reading.value, 0),
+        Event::Ais => with_ais(reading, 0),
+        Event::New(new) if news_with(&reading, new) >= NEWS_NEEDED => settled(Mode::Norm, new, 0),
+        Event::New(new) => with_new(reading, new, 0),
+        Event::Ndf(_) | Event::Bad => settled(Mode::Lop, reading.value, 0),
+        Event::Same | Event::Up | Event::Down => reading,
+    }
+}
+
+// What is kept after an event.
+#[tactic(auto, unfolding(crate::specs::Reading::after_event))]
+pub fn after_event(reading: Reading, event: Event) -> Reading
+    requires bounded { IsBounded reading }
+    requires fits { value_of event ≤ 782 }
+    ensures row { result ≡ after_event reading event }
+    ensures bounded { IsBounded result }
+{
+    match reading.mode {
+        Mode::Norm => after_in_norm(reading, event),
+        Mode::Ais => after_in_ais(reading, event),
+        Mode::Lop => after_in_lop(reading, event),
+    }
+}
+
+// The action of an event that leads to the mode `next`: there is a value only in Norm, and it is new
+// by a new data flag or by a third equal new value.
+#[tactic(auto, unfolding(crate::specs::Reading::action_of, crate::specs::Reading::action_in, crate::specs::Reading::after_event, crate::specs::Reading::after_in, crate::specs::Reading::row_of, crate::specs::Reading::reading_table))]
+pub fn action_of(reading: &Reading, event: Event, next: Mode) -> Action
+    requires bounded { IsBounded reading.now }
+    requires next { next ≡ (after_event reading.now event).mode }
+    ensures { result ≡ action_of reading.now event }
+{
+    match next {
+        Mode::Norm => match event {
+            Event::Up => Action::Up,
+            Event::Down => Action::Down,
+            Event::Ndf(_) => Action::New,
+            Event::New(value) if news_with(reading, value) >= NEWS_NEEDED => Action::New,
+            _ => Action::Normal,
+        },
+        Mode::Ais | Mode::Lop => Action::Ais,
+    }
+}
+
+// Whether two modes are the same.
+fn same_mode(left: Mode, right: Mode) -> bool
+    ensures { result ≡ same_mode left right }
+{
+    match (left, right) {
+        (Mode::Norm, Mode::Norm) | (Mode::Ais, Mode::Ais) | (Mode::Lop, Mode::Lop) => true,
+        _ => false,
+    }
+}
+
+// Whether two interpreters keep the same.
+#[tactic(auto, unfolding(crate::specs::Reading::same_reading))]
+pub fn same_reading(left: &Reading, right: &Reading) -> bool
+    ensures { result ≡ same_reading left.now right.now }
+{
+    same_mode(left.mode, right.mode)
+        && left.value == right.value
+        && left.ais == right.ais
+        && left.bad == right.bad
+        && left.candidate == right.candidate
+        && left.news == right.news
+        && left.since == right.since
+}
