@@ -1,0 +1,39 @@
+-- What a side keeps of its history, which is enough for its request.
+use Rattle.std.specs.Prelude.{ℕ, ◌≡◌, Option, Some, List, ◌∷◌, if◌then◌else◌}
+use Rattle.sdh_kbytes.specs.declared.Code.{Code}
+use Rattle.sdh_request.specs.declared.Defect.{Defect}
+use Rattle.sdh_request.specs.declared.Command.{Command}
+use Rattle.sdh_request.specs.Requests.{waits, highest}
+use Rattle.sdh_request.specs.History.{Happening, seen, commanded, reached, present_defect, present_command, present_moment, last_end, ends}
+
+-- the waiting time, the present command, defect and moment, and the moment at which a defect last ended
+pub record Kept : Type 0 where
+  pub wait : ℕ
+  pub command : Command
+  pub defect : Defect
+  pub moment : ℕ
+  pub ended : Option ℕ
+
+-- what is kept of a history
+abbrev pub kept_of : ℕ → List Happening → Kept
+kept_of wait history = record {
+  wait = wait;
+  command = present_command history;
+  defect = present_defect history;
+  moment = present_moment history;
+  ended = last_end history;
+}
+
+-- what is kept after one more happening
+abbrev pub after : Happening → Kept → Kept
+after (seen d) k = record k { defect = d; ended = if ends k.defect d then Some k.moment else k.ended }
+after (commanded c) k = record k { command = c }
+after (reached t) k = record k { moment = t }
+
+-- whatever history was kept, that history with one more happening is kept now
+abbrev pub Adds : Happening → Kept → Kept → Type 0
+Adds x old new = (wait : ℕ) (history : List Happening) → old ≡ kept_of wait history → new ≡ kept_of wait (x ∷ history)
+
+-- the local request by what is kept
+abbrev pub kept_request : Kept → Code
+kept_request k = highest k.command k.defect (waits k.wait k.defect k.moment k.ended)

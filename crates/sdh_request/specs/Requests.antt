@@ -1,0 +1,39 @@
+-- The local request of one side of a node: of the codes that apply there, the highest. After ITU-T G.841, in
+-- which a request that is more urgent pre-empts the others.
+use Rattle.std.specs.Prelude.{ℕ, ◌+◌, Bool, true, false, ◌&&◌, nat_lt, Option, List, [], ◌∷◌, find}
+use Rattle.std.specs.Option.{option_map_or}
+use Rattle.sdh_kbytes.specs.declared.Code.{Code}
+use Rattle.sdh_kbytes.specs.declared.Code.TheVariants.{Nr, Wtr, Ms, Sd, Sf, Fs}
+use Rattle.sdh_request.specs.declared.Defect.{Defect}
+use Rattle.sdh_request.specs.declared.Defect.TheVariants as defect
+use Rattle.sdh_request.specs.declared.Command.{Command}
+use Rattle.sdh_request.specs.declared.Command.TheVariants as command
+
+-- no defect is there
+abbrev pub is_clear : Defect → Bool
+is_clear defect.None = true
+is_clear defect.Sd = false
+is_clear defect.Sf = false
+
+-- the side waits to restore: no defect is there, and the present moment is before the end of the last defect
+-- and the waiting time after it
+abbrev pub waits : ℕ → Defect → ℕ → Option ℕ → Bool
+waits wait d now ended = is_clear d && option_map_or (λ t. nat_lt now (t + wait)) ended false
+
+-- the code applies, by the command, the defect and whether the side waits
+abbrev pub applies : Command → Defect → Bool → Code → Bool
+applies command.Forced d w Fs = true
+applies c defect.Sf w Sf = true
+applies c defect.Sd w Sd = true
+applies command.Manual d w Ms = true
+applies c d w Wtr = w
+applies c d w Nr = true
+applies c d w _ = false
+
+-- the codes that may apply, from the highest down
+abbrev pub from_the_highest : List Code
+from_the_highest = Fs ∷ Sf ∷ Sd ∷ Ms ∷ Wtr ∷ Nr ∷ []
+
+-- the highest code that applies
+abbrev pub highest : Command → Defect → Bool → Code
+highest c d w = option_map_or (λ code. code) (find (applies c d w) from_the_highest) Nr

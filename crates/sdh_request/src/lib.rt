@@ -1,0 +1,208 @@
+//! The local request of one side of a node: what it asks for because of a command, a defect, or a defect that ended a
+//! short time ago. Time is told in moments, and waiting is by them alone. After ITU-T G.841; the codes, and that a
+//! defect asks at once, are this project's own.
+#![tactic(auto)]
+
+ghost use Rattle.std.specs.Prelude.{◌≡◌, ◌≢◌, ℕ, ◌≤◌, List, []};
+ghost use Rattle.sdh_kbytes.specs.KBytes.{code_number};
+
+use sdh_kbytes::Code;
+use std::marker::Model;
+
+/// What a look at a side sees.
+#[derive(Clone, Copy, Debug, PartialEq, Eq)]
+pub enum Defect {
+    /// Nothing is wrong.
+    None,
+    /// Signal degrade.
+    Sd,
+    /// Signal fail.
+    Sf,
+}
+
+/// What an operator wants of a side.
+#[derive(Clone, Copy, Debug, PartialEq, Eq)]
+pub enum Command {
+    /// Nothing, any more.
+    Clear,
+    /// A forced switch, more urgent than any defect.
+    Forced,
+    /// A manual switch, less urgent than any defect.
+    Manual,
+}
+
+/// A moment, counted from 0 in units of the waiting time.
+#[derive(Clone, Copy, Debug, PartialEq, Eq)]
+pub struct Moment(pub u64);
+
+/// One side of a node: its command, its defect and when a defect last ended.
+#[derive(Drop)]
+pub struct Local {
+    wait: u32,
+    command: Command,
+    defect: Defect,
+    moment: Moment,
+    ended: Option<Moment>,
+}
+
+impl Model for Local {
+    ghost use Rattle.std.specs.Prelude.{◌≤◌, IfSome, option_map};
+    ghost use Rattle.sdh_request.specs.Kept.{Kept};
+
+    ghost Value = { Kept };
+
+    ghost view = { λ a. record {
+      wait = a.wait;
+      command = a.command;
+      defect = a.defect;
+      moment = a.moment.0;
+      ended = option_map (λ m. m.0) a.ended;
+    } };
+
+    ghost invariant = { λ a. (a.moment.0 ≤ 1000000000) × IfSome a.ended (λ m. m.0 ≤ 1000000000) };
+}
+
+impl Local {
+    ghost use Rattle.sdh_request.specs.History.{Happening, seen, commanded, reached, request_of};
+    ghost use Rattle.sdh_request.specs.Kept.{kept_of, after, Adds, kept_request};
+    ghost use Rattle.sdh_request.specs.Requests.{waits};
+
+    /// A side without a command and a defect, at moment 0. `wait` is how long it waits to restore after a defect.
+    pub fn new(wait: u32) -> Local
+        ensures { result ≡ kept_of wait [] }
+    {
+        Local {
+            wait,
+            command: Command::Clear,
+            defect: Defect::None,
+            moment: Moment(0),
+            ended: None,
+        }
+    }
+
+    /// Gives a command, which replaces the one before.
+    #[tactic(auto, using(crate::proofs::Keeping::after_history))]
+    pub fn command(&mut self, command: Command)
+        ensures kept { self.new ≡ after (commanded command) self.old }
+        ensures history { Adds (commanded command) self.old self.new }
+    {
+        self.command = command;
+    }
+
+    /// Tells the present moment. It never goes back.
+    #[tactic(auto, using(crate::proofs::Keeping::after_history))]
+    pub fn at_moment(&mut self, now: Moment)
+        requires later { self.old.moment ≤ now.0 }
+        requires within { now.0 ≤ 1000000000 }
+        ensures kept { self.new ≡ after (reached now.0) self.old }
+        ensures history { Adds (reached now.0) self.old self.new }
+    {
+        self.moment = now;
+    }
+
+    /// Looks at the side. A defect that the last look saw and this one doesn't has ended at the present moment.
+    #[tactic(auto, using(crate::proofs::Keeping::after_history))]
+    pub fn see(&mut self, defect: Defect)
+        ensures kept { self.new ≡ after (seen defect) self.old }
+        ensures same { defect ≡ self.old.defect → self.new ≡ self.old }
+        ensures history { Adds (seen defect) self.old self.new }
+    {
+        if self.defect != Defect::None && defect == Defect::None {
+            self.ended = Some(self.moment);
+        }
+        self.defect = defect;
+    }
+
+    fn waits(&self) -> bool
+        ensures { result ≡ waits self.now.wait self.now.defect self.now.moment self.now.ended }
+    {
+        match (self.defect, self.ended) {
+            (Defect::None, Some(ended)) => self.moment.0 < ended.0 + self.wait as u64,
+            _ => false,
+        }
+    }
+
+    /// The highest code that applies, never RR.
+    #[tactic(auto, using(crate::proofs::Keeping::request_after, crate::proofs::Highest::never_rr, crate::proofs::Highest::at_least_sf))]
+    pub fn request(&self) -> Code
+        ensures kept { result ≡ kept_request self.now }
+        ensures history { (wait : ℕ) (all : List Happening) → self.now ≡ kept_of wait all → result ≡ request_of wait all }
+        ensures never_rr { result ≢ Code.Rr }
+        ensures failing { self.now.defect ≡ Defect.Sf → 11 ≤ code_number result }
+    {
+        match (self.command, self.defect) {
+            (Command::Forced, _) => Code::Fs,
+            (_, Defect::Sf) => Code::Sf,
+            (_, Defect::Sd) => Code::Sd,
+            (Command::Manual, _) => Code::Ms,
+            _ if self.waits() => Code::Wtr,
+            _ => Code::Nr,
+        }
+    }
+}
+
+#[cfg(test)]
+mod tests {
+    use super::*;
+
+    // The request of a new side after a command and one look.
+    fn asked(command: Command, defect: Defect) -> Code {
+        let mut local = Local::new(10);
+        local.command(command);
+        local.see(defect);
+        local.request()
+    }
+
+    #[test]
+    fn the_highest_code_applies(rt: HostRuntime) {
+        for (command, defect, code) in [
+            (Command::Forced, Defect::Sf, Code::Fs),
+            (Command::Forced, Defect::Sd, Code::Fs),
+            (Command::Forced, Defect::None, Code::Fs),
+            (Command::Manual, Defect::Sf, Code::Sf),
+            (Command::Manual, Defect::Sd, Code::Sd),
+            (Command::Manual, Defect::None, Code::Ms),
+            (Command::Clear, Defect::Sf, Code::Sf),
+            (Command::Clear, Defect::Sd, Code::Sd),
+            (Command::Clear, Defect::None, Code::Nr),
+        ] {
+            assert!(rt; asked(command, defect) == code);
+        }
+    }
+
+    #[test]
+    fn waits_by_moments_alone(rt: HostRuntime) {
+        let mut local = Local::new(10);
+        local.see(Defect::Sf);
+        local.see(Defect::None);
+        assert!(rt; local.request() == Code::Wtr);
+        local.see(Defect::None);
+        local.see(Defect::None);
+        assert!(rt; local.request() == Code::Wtr);
+        local.at_moment(Moment(9));
+        local.see(Defect::None);
+        local.see(Defect::None);
+        assert!(rt; local.request() == Code::Wtr);
+        local.command(Command::Manual);
+        assert!(rt; local.request() == Code::Ms);
+        local.command(Command::Clear);
+        assert!(rt; local.request() == Code::Wtr);
+        local.at_moment(Moment(10));
+        assert!(rt; local.request() == Code::Nr);
+    }
+
+    #[test]
+    fn a_later_end_replaces_the_earlier(rt: HostRuntime) {
+        let mut local = Local::new(10);
+        local.see(Defect::Sf);
+        local.see(Defect::None);
+        local.at_moment(Moment(5));
+        local.see(Defect::Sd);
+        assert!(rt; local.request() == Code::Sd);
+        local.see(Defect::None);
+        local.at_moment(Moment(14));
+        assert!(rt; local.request() == Code::Wtr);
+        local.at_moment(Moment(15));
+        assert!(rt; local.request() == Code::Nr);
+    }
+}
