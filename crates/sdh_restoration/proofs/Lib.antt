@@ -1,3 +1,4 @@
 pub mod Places
 pub mod Highest
 pub mod Spans
+pub mod Ends

@@ -1,3 +1,5 @@
 pub mod Applied
 pub mod Locals
 pub mod Routes
+pub mod History
+pub mod Rounds

@@ -4,6 +4,7 @@
 #![tactic(auto)]
 
 pub mod applied;
+pub mod history;
 pub mod routes;
 #[cfg(test)]
 mod tests;

@@ -1,7 +1,9 @@
 use super::*;
-use crate::applied::is_applied;
+use crate::applied::{LocalRequests, is_applied, span_request};
+use crate::history::{SideRound, local_request};
 use crate::routes::{Ends, hops};
 use sdh_kbytes::Code;
+use sdh_request::{Command, Moment};
 use sdh_ringmap::{Pos, RingMap, Side, Span};
 
 // Steps from one position on a side until another, or until an applied span is next; where that is, and how many.
@@ -9,8 +11,15 @@ fn walk(map: &RingMap, from: Pos, to: Pos, side: Side, applied: &[Span]) -> (Pos
     let mut at = from;
     let mut steps: u8 = 0;
     for _ in 0..map.len() {
-        if at == to || (at.0 as usize) >= map.len() || applied.contains(&map.span(at, side)) {
-            return (at, steps);
+        if at == to {
+            break;
+        }
+        let n = map.len() as u8;
+        if at.0 >= n {
+            break;
+        }
+        if applied.contains(&map.span(at, side)) {
+            break;
         }
         at = map.step(at, side);
         steps = steps.saturating_add(1);
@@ -70,5 +79,168 @@ fn hops_are_the_spans_of_the_walked_route(rt: HostRuntime) {
                 }
             }
         }
+    }
+}
+
+const STILL: SideRound = SideRound {
+    is_cut: false,
+    degraded: 0,
+    command: Command::Clear,
+    moment: Moment(0),
+};
+
+const CUT: SideRound = SideRound {
+    is_cut: true,
+    ..STILL
+};
+
+const FORCED: SideRound = SideRound {
+    command: Command::Forced,
+    ..STILL
+};
+
+const MANUAL: SideRound = SideRound {
+    command: Command::Manual,
+    ..STILL
+};
+
+const fn degraded(by: u16) -> SideRound {
+    SideRound {
+        degraded: by,
+        ..STILL
+    }
+}
+
+// The sides of nodes 1 to 4, and the fibres that come in there.
+const EAST_OF_1: usize = 1;
+
+const WEST_OF_2: usize = 2;
+
+const EAST_OF_2: usize = 3;
+
+const WEST_OF_3: usize = 4;
+
+const EAST_OF_3: usize = 5;
+
+const EAST_OF_4: usize = 7;
+
+const WEST_OF_1: usize = 0;
+
+// The local request of a side that has been in one condition for four rounds.
+fn lasting(round: SideRound) -> Code {
+    local_request(3, 10, &[round, round, round, round], 3)
+}
+
+// Which spans of a ring of four are applied, from the local requests of its eight sides, west before east.
+fn applied_spans(sides: &[Code; 8]) -> [bool; 4] {
+    let nodes = [
+        LocalRequests {
+            west: sides[0],
+            east: sides[1],
+        },
+        LocalRequests {
+            west: sides[2],
+            east: sides[3],
+        },
+        LocalRequests {
+            west: sides[4],
+            east: sides[5],
+        },
+        LocalRequests {
+            west: sides[6],
+            east: sides[7],
+        },
+    ];
+    let requests = [
+        span_request(&nodes, Span(0)),
+        span_request(&nodes, Span(1)),
+        span_request(&nodes, Span(2)),
+        span_request(&nodes, Span(3)),
+    ];
+    [
+        is_applied(&requests, Span(0)),
+        is_applied(&requests, Span(1)),
+        is_applied(&requests, Span(2)),
+        is_applied(&requests, Span(3)),
+    ]
+}
+
+#[test]
+fn spans_are_applied_by_what_happens_on_the_sides(rt: HostRuntime) {
+    let cases: [(&str, &[(usize, SideRound)], [bool; 4]); 9] = [
+        ("nothing happens", &[], [false, false, false, false]),
+        (
+            "span 1 is cut both ways",
+            &[(WEST_OF_3, CUT), (EAST_OF_2, CUT)],
+            [false, true, false, false],
+        ),
+        (
+            "spans 0 and 1 are cut both ways",
+            &[
+                (WEST_OF_2, CUT),
+                (EAST_OF_1, CUT),
+                (WEST_OF_3, CUT),
+                (EAST_OF_2, CUT),
+            ],
+            [true, true, false, false],
+        ),
+        (
+            "two forced switches",
+            &[(EAST_OF_1, FORCED), (EAST_OF_3, FORCED)],
+            [true, false, true, false],
+        ),
+        (
+            "two equal manual switches",
+            &[(EAST_OF_2, MANUAL), (EAST_OF_4, MANUAL)],
+            [false, false, false, false],
+        ),
+        (
+            "one manual switch",
+            &[(EAST_OF_4, MANUAL)],
+            [false, false, false, true],
+        ),
+        (
+            "a degradation below the threshold",
+            &[(WEST_OF_3, degraded(2))],
+            [false, false, false, false],
+        ),
+        (
+            "a degradation at the threshold",
+            &[(WEST_OF_3, degraded(3))],
+            [false, true, false, false],
+        ),
+        (
+            "a degradation and a cut",
+            &[(WEST_OF_3, degraded(3)), (WEST_OF_1, CUT), (EAST_OF_4, CUT)],
+            [false, false, false, true],
+        ),
+    ];
+    for (what, happens, want) in cases {
+        let mut sides = [Code::Nr; 8];
+        for (side, round) in happens {
+            if *side < 8 {
+                sides[*side] = lasting(*round);
+            }
+        }
+        assert_eq!(rt; applied_spans(&sides), want, "where {what}");
+    }
+}
+
+#[test]
+fn a_side_waits_to_restore_by_moments(rt: HostRuntime) {
+    let mended_at = |moment: u64| SideRound {
+        moment: Moment(moment),
+        ..STILL
+    };
+    let cases = [(0, Code::Wtr), (9, Code::Wtr), (10, Code::Nr)];
+    for (moment, want) in cases {
+        let rounds = [STILL, CUT, CUT, STILL, STILL, mended_at(moment)];
+        assert_eq!(rt;
+            local_request(3, 10, &rounds, 5),
+            want,
+            "at moment {moment}"
+        );
+        assert_eq!(rt; local_request(3, 10, &rounds, 2), Code::Sf);
+        assert_eq!(rt; local_request(3, 10, &rounds, 0), Code::Nr);
     }
 }

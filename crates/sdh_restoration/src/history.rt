@@ -1,0 +1,104 @@
+//! The local request of one side, from the history of its fibre.
+ghost use Rattle.std.specs.Prelude.{◌≡◌, ◌-◌, ◌+◌, ◌<◌, ◌≤◌, ℕ, length, option_map, slice_index_or, IfSome};
+ghost use Rattle.sdh_request.specs.Requests.{is_clear, waits, highest};
+ghost use Rattle.sdh_restoration.specs.History.{defect_at, ends_at, last_end, local_request};
+ghost use Rattle.sdh_restoration.specs.Rounds.{history_of, still_round};
+
+use sdh_kbytes::Code;
+use sdh_request::{Command, Defect, Moment};
+
+/// One round of a side: the fibre that comes in, the command that holds, and the moment.
+#[derive(Clone, Copy, Debug, PartialEq, Eq)]
+pub struct SideRound {
+    pub is_cut: bool,
+    /// How many parity bytes are inverted, 0 on a fibre that isn't degraded.
+    pub degraded: u16,
+    pub command: Command,
+    pub moment: Moment,
+}
+
+// The defect in a round.
+#[tactic(auto, unfolding(crate::specs::History::defect_at))]
+fn defect_in(threshold: u16, rounds: &[SideRound], t: usize) -> Defect
+    requires { t < length rounds.now }
+    ensures { result ≡ defect_at threshold (history_of rounds.now) t }
+{
+    if t == 0 {
+        return Defect::None;
+    }
+    if rounds[t].is_cut {
+        return Defect::Sf;
+    }
+    let before = rounds[t - 1];
+    if t >= 2 && !before.is_cut && before.degraded >= threshold {
+        Defect::Sd
+    } else {
+        Defect::None
+    }
+}
+
+// Whether the defect in a round is none.
+fn is_clear(defect: Defect) -> bool
+    ensures { result ≡ is_clear defect }
+{
+    match defect {
+        Defect::None => true,
+        Defect::Sd | Defect::Sf => false,
+    }
+}
+
+// Whether a defect of the round before is there no longer in the next.
+#[tactic(auto, unfolding(crate::specs::History::ends_at))]
+fn ends_after(threshold: u16, rounds: &[SideRound], t: usize) -> bool
+    requires { t + 1 < length rounds.now }
+    ensures { result ≡ ends_at threshold (history_of rounds.now) (t + 1) }
+{
+    !is_clear(defect_in(threshold, rounds, t)) && is_clear(defect_in(threshold, rounds, t + 1))
+}
+
+// The last round up to this one in which a defect ended.
+fn last_end(threshold: u16, rounds: &[SideRound], t: usize) -> Option<usize>
+    requires { t < length rounds.now }
+    ensures end { result ≡ last_end threshold (history_of rounds.now) t }
+    ensures within { IfSome result (λ u. u ≤ t) }
+{
+    for u in (0..t).rev() {
+        if ends_after(threshold, rounds, u) {
+            return Some(u + 1);
+        }
+    }
+    None
+}
+
+// Whether the side waits to restore in a round.
+fn waits(threshold: u16, wait: u32, rounds: &[SideRound], t: usize) -> bool
+    requires { t < length rounds.now }
+    ensures { result ≡ waits wait (defect_at threshold (history_of rounds.now) t) (slice_index_or rounds.now t still_round).moment.0 (option_map (history_of rounds.now).moment (last_end threshold (history_of rounds.now) t)) }
+{
+    match last_end(threshold, rounds, t) {
+        Some(end) => {
+            let now = rounds[t].moment.0;
+            let ended = rounds[end].moment.0;
+            is_clear(defect_in(threshold, rounds, t))
+                && (now < ended || now - ended < u64::from(wait))
+        }
+        None => false,
+    }
+}
+
+/// The local request of a side in a round, from all its rounds up to that one. `threshold` is the number of inverted
+/// parity bytes that is a signal degradation, and `wait` how many moments a side waits to restore.
+#[tactic(auto, unfolding(crate::specs::History::local_request))]
+pub fn local_request(threshold: u16, wait: u32, rounds: &[SideRound], t: usize) -> Code
+    requires { t < length rounds.now }
+    ensures { result ≡ local_request threshold wait (history_of rounds.now) t }
+{
+    match (rounds[t].command, defect_in(threshold, rounds, t)) {
+        (Command::Forced, _) => Code::Fs,
+        (_, Defect::Sf) => Code::Sf,
+        (_, Defect::Sd) => Code::Sd,
+        (Command::Manual, _) => Code::Ms,
+        _ if waits(threshold, wait, rounds, t) => Code::Wtr,
+        _ => Code::Nr,
+    }
+}
