@@ -1,8 +1,8 @@
 -- Going round a ring eastwards.
-use Rattle.std.proofs.Common.{◌≡◌, ◌≢◌, ℕ, zero, suc, ◌+◌, ◌-◌, ◌%◌, ◌<◌, ◌≤◌, ◌⊎◌, inl, inr, ap, ◌∙◌, arith}
+use Rattle.std.proofs.Common.{◌≡◌, ◌≢◌, ℕ, zero, suc, ◌+◌, ◌-◌, ◌%◌, ◌<◌, ◌≤◌, ◌⊎◌, inl, inr, true, lt-ltb, ap, ◌∙◌, arith}
 use Rattle.std.proofs.Math.Nat.{mod-eq_of_lt, add-mod_left}
 use Rattle.sdh_ringmap.specs.Places.{eastwards}
-use Rattle.sdh_ringmap.specs.Arcs.{Arc, arc_between, opposite_arc}
+use Rattle.sdh_ringmap.specs.Arcs.{Arc, arc_between, opposite_arc, holds_span}
 
 abbrev arc_of : ℕ → ℕ → Arc
 arc_of start spans = record { start = start; spans = spans }
@@ -52,3 +52,64 @@ opposite_between n from to hf ht ne =
     let spans : n - eastwards n from to ≡ eastwards n to from = omega (arith, both_ways n from to hf ht ne) in
     let ends : (s t c d : ℕ) → s ≡ t → c ≡ d → arc_of s c ≡ arc_of t d = λ s t c d e f. ap (λ k. arc_of k c) e ∙ ap (arc_of t) f in
     ends _ _ _ _ start spans
+
+-- no span leads from a position to itself
+pub eastwards_self : (n from : ℕ) → from < n → eastwards n from from ≡ 0
+eastwards_self n from h = omega (arith, eastwards_on n from from (omega arith) h)
+
+-- a span leads to another position
+pub eastwards_some : (n from to : ℕ) → from < n → to < n → from ≢ to → 0 < eastwards n from to
+eastwards_some n from to hf ht ne = elim (nat_le_or from to) [
+  | inl le ↦ omega (arith, eastwards_on n from to le ht)
+  | inr lt ↦ omega (arith, eastwards_round n from to lt hf)
+]
+
+-- either way of going round
+eastwards_cases : (n from to : ℕ) → from < n → to < n → ((from ≤ to) × (eastwards n from to ≡ to - from)) ⊎ ((to < from) × (eastwards n from to ≡ to + (n - from)))
+eastwards_cases n from to hf ht = elim (nat_le_or from to) [
+  | inl le ↦ inl (le, eastwards_on n from to le ht)
+  | inr lt ↦ inr (lt, eastwards_round n from to lt hf)
+]
+
+-- of two positions the one from which fewer spans lead to a third is on the way from the other
+pub on_the_way : (n a b s : ℕ) → a < n → b < n → s < n → eastwards n b s ≤ eastwards n a s → eastwards n a b + eastwards n b s ≡ eastwards n a s
+on_the_way n a b s ha hb hs le =
+    elim (eastwards_cases n a b ha hb) [
+      | inl p ↦ elim (eastwards_cases n b s hb hs) [
+        | inl q ↦ elim (eastwards_cases n a s ha hs) [ inl r ↦ omega arith | inr r ↦ omega arith ]
+        | inr q ↦ elim (eastwards_cases n a s ha hs) [ inl r ↦ omega arith | inr r ↦ omega arith ]
+      ]
+      | inr p ↦ elim (eastwards_cases n b s hb hs) [
+        | inl q ↦ elim (eastwards_cases n a s ha hs) [ inl r ↦ omega arith | inr r ↦ omega arith ]
+        | inr q ↦ elim (eastwards_cases n a s ha hs) [ inl r ↦ omega arith | inr r ↦ omega arith ]
+      ]
+    ]
+
+-- what it is to hold a span
+pub holds : (n s : ℕ) (arc : Arc) → s < n → eastwards n arc.start s < arc.spans → holds_span n arc s ≡ true
+unfolding holds_span
+holds n s arc inside near = cc (lt-ltb s n inside, lt-ltb (eastwards n arc.start s) arc.spans near)
+
+pub held_inside : (n s : ℕ) (arc : Arc) → holds_span n arc s ≡ true → s < n
+unfolding holds_span
+held_inside n s arc h = grind arith
+
+pub held_near : (n s : ℕ) (arc : Arc) → holds_span n arc s ≡ true → eastwards n arc.start s < arc.spans
+unfolding holds_span
+held_near n s arc h = grind arith
+
+-- an arc between two positions holds the span where it starts
+pub holds_start : (n from to : ℕ) → from < n → to < n → from ≢ to → holds_span n (arc_between n from to) from ≡ true
+holds_start n from to hf ht ne = holds n from (arc_between n from to) hf (omega (arith, eastwards_self n from hf, eastwards_some n from to hf ht ne))
+
+-- where two arcs hold one span, one of them holds the span where the other starts
+pub one_holds_start : (n a b c d s : ℕ) → a < n → c < n → holds_span n (arc_between n a b) s ≡ true → holds_span n (arc_between n c d) s ≡ true
+    → (holds_span n (arc_between n a b) c ≡ true) ⊎ (holds_span n (arc_between n c d) a ≡ true)
+one_holds_start n a b c d s ha hc h k =
+    let hs = held_inside n s (arc_between n a b) h in
+    let near = held_near n s (arc_between n a b) h in
+    let close = held_near n s (arc_between n c d) k in
+    elim (nat_le_or (eastwards n c s) (eastwards n a s)) [
+      | inl le ↦ inl (holds n c (arc_between n a b) hc (omega (arith, on_the_way n a c s ha hc hs le)))
+      | inr lt ↦ inr (holds n a (arc_between n c d) ha (omega (arith, on_the_way n c a s hc ha hs (omega arith))))
+    ]
