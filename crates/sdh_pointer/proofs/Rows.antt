@@ -100,7 +100,7 @@ ais_ndf_action r v = refl
 -- ---- each word has one row
 
 -- whether an event can come in a mode: Same, Up and Down in Norm alone
-abbrev can_come : Mode → Event → Bool
+abbrev pub can_come : Mode → Event → Bool
 can_come m e = is_norm m || not (is_same e || is_up e || is_down e)
 
 -- what a row is to a mode, an event and a state
@@ -146,7 +146,7 @@ not_norm mode.Norm e h = refl
 not_norm mode.Ais e h = ap not h
 not_norm mode.Lop e h = ap not h
 
-comes : (r : Reading) (w : ℕ) → can_come r.mode (event_of r w) ≡ true
+pub comes : (r : Reading) (w : ℕ) → can_come r.mode (event_of r w) ≡ true
 unfolding event_of
 comes r w =
     elim (cases_Bool (eqb w 65535)) [
@@ -181,14 +181,14 @@ each_input_has_one_row None action.Normal v = record { row = _; only = refl; wor
 each_input_has_one_row None action.Up v = record { row = _; only = refl; word = refl; next = refl }
 each_input_has_one_row None action.Down v = record { row = _; only = refl; word = refl; next = refl }
 each_input_has_one_row (Some g) action.Normal v = elim (cases_Bool (eqb v g)) [
-      | inl t ↦ record { row = sending.row sending.is_kept form.Normal sending.of_state sending.sends; only = rw t refl; word = rw t refl; next = rw t refl }
-      | inr f ↦ record { row = sending.row sending.is_other form.Enabled sending.of_input sending.sends; only = rw f refl; word = rw f refl; next = rw f refl }
-    ]
+  | inl t ↦ record { row = sending.row sending.is_kept form.Normal sending.of_state sending.sends; only = rw t refl; word = rw t refl; next = rw t refl }
+  | inr f ↦ record { row = sending.row sending.is_other form.Enabled sending.of_input sending.sends; only = rw f refl; word = rw f refl; next = rw f refl }
+]
 each_input_has_one_row (Some g) action.Up v = elim (cases_Bool (eqb v (one_up g))) [
-      | inl t ↦ record { row = sending.row sending.is_raised form.Up sending.of_state sending.sends; only = rw t refl; word = rw t refl; next = rw t refl }
-      | inr f ↦ record { row = sending.row sending.is_other form.Enabled sending.of_input sending.sends; only = rw f refl; word = rw f refl; next = rw f refl }
-    ]
+  | inl t ↦ record { row = sending.row sending.is_raised form.Up sending.of_state sending.sends; only = rw t refl; word = rw t refl; next = rw t refl }
+  | inr f ↦ record { row = sending.row sending.is_other form.Enabled sending.of_input sending.sends; only = rw f refl; word = rw f refl; next = rw f refl }
+]
 each_input_has_one_row (Some g) action.Down v = elim (cases_Bool (eqb v (one_down g))) [
-      | inl t ↦ record { row = sending.row sending.is_lowered form.Down sending.of_state sending.sends; only = rw t refl; word = rw t refl; next = rw t refl }
-      | inr f ↦ record { row = sending.row sending.is_other form.Enabled sending.of_input sending.sends; only = rw f refl; word = rw f refl; next = rw f refl }
-    ]
+  | inl t ↦ record { row = sending.row sending.is_lowered form.Down sending.of_state sending.sends; only = rw t refl; word = rw t refl; next = rw t refl }
+  | inr f ↦ record { row = sending.row sending.is_other form.Enabled sending.of_input sending.sends; only = rw f refl; word = rw f refl; next = rw f refl }
+]

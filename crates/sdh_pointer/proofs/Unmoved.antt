@@ -1,14 +1,16 @@
 -- An interpreter that a step doesn't move.
-use Rattle.std.proofs.Common.{◌≡◌, ◌≢◌, ℕ, zero, suc, ◌+◌, ◌≤◌, Bool, true, false, eqb, refl, ap, sym, ◌∙◌, arith}
+use Rattle.std.proofs.Common.{◌≡◌, ◌≢◌, ◌↔◌, ℕ, zero, suc, ◌+◌, ◌≤◌, Bool, true, false, eqb, refl, ap, sym, ◌∙◌, arith, Option, Some, None}
 use Rattle.std.specs.Prelude.{◌&&◌, not}
 use Rattle.std.proofs.lemmas.Bool.{eq-eqb, eqb-true}
 use Rattle.sdh_pointer.specs.declared.reading.Reading.{Reading}
 use Rattle.sdh_pointer.specs.declared.reading.Mode.{Mode}
 use Rattle.sdh_pointer.specs.declared.reading.Mode.TheVariants as mode
 use Rattle.sdh_pointer.specs.declared.reading.Event.TheVariants as event
+use Rattle.sdh_pointer.specs.declared.reading.Action.{Action}
 use Rattle.sdh_pointer.specs.declared.reading.Action.TheVariants as action
 use Rattle.sdh_pointer.specs.Words.{is_normal, value_in}
 use Rattle.sdh_pointer.specs.Reading.{Interpreter, after_word, after_step, action_on, same_mode, same_reading, settled, later}
+use Rattle.sdh_pointer.specs.Sending.{Generator, after_action, same_sending}
 use Rattle.sdh_pointer.specs.Laws.{IsPassed, IsSteady}
 use Rattle.sdh_pointer.proofs.Forms.{of_ones}
 use Rattle.sdh_pointer.proofs.Rows.{ais_ais_action}
@@ -72,6 +74,28 @@ kept_is_unmoved i w h = ap (λ r. not (same_reading r i.reading)) h ∙ ap not (
 step_reading : (i : Interpreter) (w : ℕ) → (after_step i w).reading ≡ after_word i.reading w
 unfolding after_step
 step_reading i w = refl
+
+pub interpreter_moves : (i : Interpreter) (w : ℕ) → ((after_step i w).moved ≡ false) ↔ ((after_step i w).reading ≡ i.reading)
+interpreter_moves i w = (λ h. step_reading i w ∙ unmoved i w h, λ h. kept_is_unmoved i w (sym (step_reading i w) ∙ h))
+
+-- ---- the same of a generator
+
+same_state : (s n : Option ℕ) → same_sending s n ≡ true → s ≡ n
+same_state None None h = refl
+same_state None (Some n) h = cc
+same_state (Some s) None h = cc
+same_state (Some s) (Some n) h = ap Some (eqb-true s n h)
+
+state_itself : (s : Option ℕ) → same_sending s s ≡ true
+state_itself None = refl
+state_itself (Some s) = eq-eqb s s refl
+
+pub generator_moves : (g : Generator) (a : Action) (v : ℕ) → ((after_action g a v).moved ≡ false) ↔ ((after_action g a v).sending ≡ g.sending)
+unfolding after_action
+generator_moves g a v = (
+  λ h. same_state _ _ (not_false _ h),
+  λ h. ap (λ s. not (same_sending s g.sending)) h ∙ ap not (state_itself g.sending),
+)
 
 -- ---- and was where its word leads
 

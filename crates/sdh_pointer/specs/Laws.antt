@@ -1,6 +1,6 @@
 -- What holds of every interpreter and every generator: each table has one row for each case, one word for ever
 -- settles, and an interpreter reads what the generator before it sends.
-use Rattle.std.specs.Prelude.{◌≡◌, ◌≢◌, ℕ, ◌+◌, ◌≤◌, Bool, true, false, List, [], ◌∷◌, Option, Some, None}
+use Rattle.std.specs.Prelude.{◌≡◌, ◌≢◌, ◌↔◌, ℕ, ◌+◌, ◌≤◌, Bool, true, false, not, List, [], ◌∷◌, Option, Some, None}
 use Rattle.std.specs.List.{filter}
 use Rattle.sdh_pointer.specs.declared.reading.Reading.{Reading}
 use Rattle.sdh_pointer.specs.declared.reading.Mode.{Mode}
@@ -11,9 +11,9 @@ use Rattle.sdh_pointer.specs.declared.word.Form.{Form}
 use Rattle.sdh_pointer.specs.declared.word.Form.TheVariants as form
 use Rattle.sdh_pointer.specs.Words.{is_normal, is_enabled, value_in, word_of, one_up, one_down}
 use Rattle.sdh_pointer.specs.Reading as reading
-use Rattle.sdh_pointer.specs.Reading.{Interpreter, event_of, after_word, action_on, after_step, settled, later, is_row_of, reading_table, after_row, action_row}
+use Rattle.sdh_pointer.specs.Reading.{Interpreter, IsBounded, start, is_norm, event_of, after_word, action_on, after_step, settled, later, is_row_of, reading_table, after_row, action_row}
 use Rattle.sdh_pointer.specs.Sending as sending
-use Rattle.sdh_pointer.specs.Sending.{Generator, sending_table, word_sent, next_sending}
+use Rattle.sdh_pointer.specs.Sending.{Generator, sending_table, after_action, word_sent, next_sending}
 use Rattle.sdh_pointer.specs.Repeated.{after_rounds, after_inputs}
 
 -- ---- tables
@@ -37,6 +37,30 @@ pub record HasSendingRow (s : Option ℕ) (a : Action) (v : ℕ) : Type 0 where
 
 abbrev pub EachInputHasOneRow : Type 0
 EachInputHasOneRow = (s : Option ℕ) (a : Action) (v : ℕ) → HasSendingRow s a v
+
+-- ---- single steps
+
+-- the answer is Ais exactly where the next mode isn't Norm
+abbrev pub is_ais_action : Action → Bool
+is_ais_action action.Ais = true
+is_ais_action action.Normal = false
+is_ais_action action.New = false
+is_ais_action action.Up = false
+is_ais_action action.Down = false
+
+abbrev pub AnswerTellsMode : Type 0
+AnswerTellsMode = (r : Reading) (w : ℕ) → is_ais_action (action_on r w) ≡ not (is_norm (after_word r w).mode)
+
+-- every interpreter that starts as a new one keeps a value of at most 782, and counts within their bounds
+abbrev pub BoundsAreKept : Type 0
+BoundsAreKept = IsBounded start × ((r : Reading) (w : ℕ) → IsBounded r → IsBounded (after_word r w))
+
+-- a step moved nothing exactly where all that is kept is as before
+abbrev pub InterpreterMoves : Type 0
+InterpreterMoves = (i : Interpreter) (w : ℕ) → ((after_step i w).moved ≡ false) ↔ ((after_step i w).reading ≡ i.reading)
+
+abbrev pub GeneratorMoves : Type 0
+GeneratorMoves = (g : Generator) (a : Action) (v : ℕ) → ((after_action g a v).moved ≡ false) ↔ ((after_action g a v).sending ≡ g.sending)
 
 -- ---- one input for ever
 

@@ -2,7 +2,7 @@
 ghost use Rattle.std.specs.Prelude.{◌≡◌, ◌≤◌, false};
 ghost use Rattle.sdh_pointer.specs.Reading.{start, action_on, after_step};
 
-use crate::reading::{Action, Mode, Reading, action_of, after_event, event_of, same_reading};
+use crate::reading::{Action, Mode, Reading, event_of, same_reading, step_at};
 use crate::word::Word;
 use std::marker::Model;
 
@@ -51,10 +51,10 @@ impl Interp {
     {
         let old = self.reading;
         let event = event_of(&old, word);
-        let new = after_event(old, event);
+        let (new, action) = step_at(old, event);
         self.reading = new;
         self.moved = !same_reading(&new, &old);
-        action_of(&old, event, new.mode)
+        action
     }
 
     /// The value, which is not used where the last action was `Ais`.

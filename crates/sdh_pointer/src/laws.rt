@@ -1,62 +1,72 @@
 //! Laws of interpreters and generators. Each function does nothing: its contract is the law.
-ghost use Rattle.sdh_pointer.specs.Laws.{EachWordHasOneRow, EachInputHasOneRow, GeneratorRepeats, NormalWordSettles, EnabledWordSettles, AisSettles, UnmovedIsNormal, UnmovedIsAis, SteadyIsNormal, ReadsWhatIsSent};
+ghost use Rattle.sdh_pointer.specs.Laws.{EachWordHasOneRow, EachInputHasOneRow, AnswerTellsMode, BoundsAreKept, InterpreterMoves, GeneratorMoves, GeneratorRepeats, NormalWordSettles, EnabledWordSettles, AisSettles, UnmovedIsNormal, UnmovedIsAis, SteadyIsNormal, ReadsWhatIsSent};
 
 /// The interpreter's table has exactly one row for each word in each state, and a step is by it.
 pub fn each_word_has_one_row()
     ensures { EachWordHasOneRow }
-{
-}
+{}
 
 /// The generator's table has exactly one row for each input in each state, and a step is by it.
 pub fn each_input_has_one_row()
     ensures { EachInputHasOneRow }
-{
-}
+{}
+
+/// The answer is `Ais` exactly where the mode after the step isn't `Norm`.
+pub fn answer_tells_mode()
+    ensures { AnswerTellsMode }
+{}
+
+/// Values and counts stay within their bounds.
+pub fn bounds_are_kept()
+    ensures { BoundsAreKept }
+{}
+
+/// An interpreter's step moved nothing exactly where all that it keeps is as before.
+pub fn interpreter_moves()
+    ensures { InterpreterMoves }
+{}
+
+/// A generator's step moved nothing exactly where its state is as before.
+pub fn generator_moves()
+    ensures { GeneratorMoves }
+{}
 
 /// A generator that is given one input for ever repeats one word.
 pub fn generator_repeats()
     ensures { GeneratorRepeats }
-{
-}
+{}
 
 /// An interpreter that reads one normal word for ever settles in `Norm` at its value in seven rounds.
 pub fn normal_word_settles()
     ensures { NormalWordSettles }
-{
-}
+{}
 
 /// An interpreter that reads one enabled word for ever keeps what one round gives.
 pub fn enabled_word_settles()
     ensures { EnabledWordSettles }
-{
-}
+{}
 
 /// An interpreter that reads all ones for ever settles in `Ais` in three rounds.
 pub fn ais_settles()
     ensures { AisSettles }
-{
-}
+{}
 
 /// A step that read a normal word and moved nothing answered `Normal` at the word's value.
 pub fn unmoved_is_normal()
     ensures { UnmovedIsNormal }
-{
-}
+{}
 
 /// A step that read all ones and moved nothing answered `Ais`.
 pub fn unmoved_is_ais()
     ensures { UnmovedIsAis }
-{
-}
+{}
 
 /// In `Norm` a normal word of the value kept is answered `Normal`, and soon moves nothing.
 pub fn steady_is_normal()
     ensures { SteadyIsNormal }
-{
-}
+{}
 
 /// What a generator sends for an action, an interpreter in step with it reads as that action.
 pub fn reads_what_is_sent()
     ensures { ReadsWhatIsSent }
-{
-}
+{}

@@ -1,8 +1,9 @@
 //! What a pointer interpreter keeps, and how a word changes it.
 ghost use Rattle.std.specs.Prelude.{◌≡◌, ◌≤◌};
 ghost use Rattle.sdh_pointer.specs.Words.{one_up, one_down};
-ghost use Rattle.sdh_pointer.specs.Reading.{IsBounded, value_of, later, settled, with_ais, with_bad, with_new, news_with, goes_up, goes_down, normal_event, event_of, after_in, after_event, action_of, same_mode, same_reading};
+ghost use Rattle.sdh_pointer.specs.Reading.{IsBounded, value_of, later, settled, with_ais, with_bad, with_new, news_with, goes_up, goes_down, normal_event, event_of, after_in, action_in, after_event, action_of, same_mode, same_reading};
 ghost use Rattle.sdh_pointer.specs.declared.reading.Mode.TheVariants as mode;
+ghost use Rattle.sdh_pointer.specs.declared.reading.Event.TheVariants as event;
 
 use crate::word::{Word, d_changes, i_changes, is_enabled, is_normal};
 
@@ -117,14 +118,14 @@ fn news_with(reading: &Reading, value: u16) -> u8
     }
 }
 
-// A new value that is counted.
-fn with_new(reading: Reading, value: u16, since: u8) -> Reading
-    requires { IsBounded reading }
+// A new value that is counted: so many equal ones stand in a row with it.
+fn with_new(reading: Reading, value: u16, news: u8, since: u8) -> Reading
+    requires { news ≡ news_with reading value }
     ensures { result ≡ with_new reading value since }
 {
     Reading {
         candidate: value,
-        news: news_with(&reading, value),
+        news,
         ..settled(reading.mode, reading.value, since)
     }
 }
@@ -213,99 +214,107 @@ pub fn event_of(reading: &Reading, word: Word) -> Event
 }
 
 // The rows of mode Norm.
-#[tactic(auto, unfolding(crate::specs::Reading::after_in, crate::specs::Reading::row_of, crate::specs::Reading::reading_table))]
-fn after_in_norm(reading: Reading, event: Event) -> Reading
+#[tactic(auto, unfolding(crate::specs::Reading::after_in, crate::specs::Reading::action_in, crate::specs::Reading::row_of, crate::specs::Reading::reading_table))]
+fn step_in_norm(reading: Reading, event: Event) -> (Reading, Action)
     requires bounded { IsBounded reading }
     requires fits { value_of event ≤ 782 }
-    ensures row { result ≡ after_in mode.Norm event reading }
-    ensures bounded { IsBounded result }
+    ensures next { result.0 ≡ after_in mode.Norm event reading }
+    ensures action { result.1 ≡ action_in mode.Norm event reading }
+    ensures bounded { IsBounded result.0 }
 {
-    let Reading { value, since, .. } = reading;
+    let value = reading.value;
+    let since = later(reading.since);
     match event {
-        Event::Same => settled(Mode::Norm, value, later(since)),
-        Event::Ndf(new) => settled(Mode::Norm, new, 0),
-        Event::Up => settled(Mode::Norm, one_up(value), 0),
-        Event::Down => settled(Mode::Norm, one_down(value), 0),
-        Event::New(new) if news_with(&reading, new) >= NEWS_NEEDED => {
-            settled(Mode::Norm, new, later(since))
+        Event::Same => (settled(Mode::Norm, value, since), Action::Normal),
+        Event::Ndf(new) => (settled(Mode::Norm, new, 0), Action::New),
+        Event::Up => (settled(Mode::Norm, one_up(value), 0), Action::Up),
+        Event::Down => (settled(Mode::Norm, one_down(value), 0), Action::Down),
+        Event::New(new) => {
+            let news = news_with(&reading, new);
+            if news >= NEWS_NEEDED {
+                (settled(Mode::Norm, new, since), Action::New)
+            } else {
+                (with_new(reading, new, news, since), Action::Normal)
+            }
         }
-        Event::New(new) => with_new(reading, new, later(since)),
-        Event::Ais if reading.ais + 1 >= AIS_NEEDED => settled(Mode::Ais, value, 0),
-        Event::Ais => with_ais(reading, later(since)),
-        Event::Bad if reading.bad + 1 >= BAD_NEEDED => settled(Mode::Lop, value, 0),
-        Event::Bad => with_bad(reading, later(since)),
+        Event::Ais if reading.ais + 1 >= AIS_NEEDED => (settled(Mode::Ais, value, 0), Action::Ais),
+        Event::Ais => (with_ais(reading, since), Action::Normal),
+        Event::Bad if reading.bad + 1 >= BAD_NEEDED => (settled(Mode::Lop, value, 0), Action::Ais),
+        Event::Bad => (with_bad(reading, since), Action::Normal),
+    }
+}
+
+// A new value out of mode Norm: the third equal one is taken.
+#[tactic(auto, unfolding(crate::specs::Reading::after_in, crate::specs::Reading::action_in, crate::specs::Reading::row_of, crate::specs::Reading::reading_table))]
+fn step_at_new(reading: Reading, value: u16) -> (Reading, Action)
+    requires bounded { IsBounded reading }
+    requires fits { value ≤ 782 }
+    ensures next_in_ais { result.0 ≡ after_in mode.Ais (event.New value) reading }
+    ensures next_in_lop { result.0 ≡ after_in mode.Lop (event.New value) reading }
+    ensures action_in_ais { result.1 ≡ action_in mode.Ais (event.New value) reading }
+    ensures action_in_lop { result.1 ≡ action_in mode.Lop (event.New value) reading }
+    ensures bounded { IsBounded result.0 }
+{
+    let news = news_with(&reading, value);
+    if news >= NEWS_NEEDED {
+        (settled(Mode::Norm, value, 0), Action::New)
+    } else {
+        (with_new(reading, value, news, 0), Action::Ais)
     }
 }
 
 // The rows of mode Ais.
-#[tactic(auto, unfolding(crate::specs::Reading::after_in, crate::specs::Reading::row_of, crate::specs::Reading::reading_table))]
-fn after_in_ais(reading: Reading, event: Event) -> Reading
+#[tactic(auto, unfolding(crate::specs::Reading::after_in, crate::specs::Reading::action_in, crate::specs::Reading::row_of, crate::specs::Reading::reading_table))]
+fn step_in_ais(reading: Reading, event: Event) -> (Reading, Action)
     requires bounded { IsBounded reading }
     requires fits { value_of event ≤ 782 }
-    ensures row { result ≡ after_in mode.Ais event reading }
-    ensures bounded { IsBounded result }
+    ensures next { result.0 ≡ after_in mode.Ais event reading }
+    ensures action { result.1 ≡ action_in mode.Ais event reading }
+    ensures bounded { IsBounded result.0 }
 {
+    let value = reading.value;
     match event {
-        Event::Ais => settled(Mode::Ais, reading.value, 0),
-        Event::Ndf(new) => settled(Mode::Norm, new, 0),
-        Event::New(new) if news_with(&reading, new) >= NEWS_NEEDED => settled(Mode::Norm, new, 0),
-        Event::New(new) => with_new(reading, new, 0),
-        Event::Bad if reading.bad + 1 >= BAD_NEEDED => settled(Mode::Lop, reading.value, 0),
-        Event::Bad => with_bad(reading, 0),
-        Event::Same | Event::Up | Event::Down => reading,
+        Event::Ais => (settled(Mode::Ais, value, 0), Action::Ais),
+        Event::Ndf(new) => (settled(Mode::Norm, new, 0), Action::New),
+        Event::New(new) => step_at_new(reading, new),
+        Event::Bad if reading.bad + 1 >= BAD_NEEDED => (settled(Mode::Lop, value, 0), Action::Ais),
+        Event::Bad => (with_bad(reading, 0), Action::Ais),
+        Event::Same | Event::Up | Event::Down => (reading, Action::Ais),
     }
 }
 
 // The rows of mode Lop.
-#[tactic(auto, unfolding(crate::specs::Reading::after_in, crate::specs::Reading::row_of, crate::specs::Reading::reading_table))]
-fn after_in_lop(reading: Reading, event: Event) -> Reading
+#[tactic(auto, unfolding(crate::specs::Reading::after_in, crate::specs::Reading::action_in, crate::specs::Reading::row_of, crate::specs::Reading::reading_table))]
+fn step_in_lop(reading: Reading, event: Event) -> (Reading, Action)
     requires bounded { IsBounded reading }
     requires fits { value_of event ≤ 782 }
-    ensures row { result ≡ after_in mode.Lop event reading }
-    ensures bounded { IsBounded result }
+    ensures next { result.0 ≡ after_in mode.Lop event reading }
+    ensures action { result.1 ≡ action_in mode.Lop event reading }
+    ensures bounded { IsBounded result.0 }
 {
+    let value = reading.value;
     match event {
-        Event::Ais if reading.ais + 1 >= AIS_NEEDED => settled(Mode::Ais, reading.value, 0),
-        Event::Ais => with_ais(reading, 0),
-        Event::New(new) if news_with(&reading, new) >= NEWS_NEEDED => settled(Mode::Norm, new, 0),
-        Event::New(new) => with_new(reading, new, 0),
-        Event::Ndf(_) | Event::Bad => settled(Mode::Lop, reading.value, 0),
-        Event::Same | Event::Up | Event::Down => reading,
+        Event::Ais if reading.ais + 1 >= AIS_NEEDED => (settled(Mode::Ais, value, 0), Action::Ais),
+        Event::Ais => (with_ais(reading, 0), Action::Ais),
+        Event::New(new) => step_at_new(reading, new),
+        Event::Ndf(_) | Event::Bad => (settled(Mode::Lop, value, 0), Action::Ais),
+        Event::Same | Event::Up | Event::Down => (reading, Action::Ais),
     }
 }
 
-// What is kept after an event.
-#[tactic(auto, unfolding(crate::specs::Reading::after_event))]
-pub fn after_event(reading: Reading, event: Event) -> Reading
+// What is kept after an event, and the action.
+#[tactic(auto, unfolding(crate::specs::Reading::after_event, crate::specs::Reading::action_of))]
+pub fn step_at(reading: Reading, event: Event) -> (Reading, Action)
     requires bounded { IsBounded reading }
     requires fits { value_of event ≤ 782 }
-    ensures row { result ≡ after_event reading event }
-    ensures bounded { IsBounded result }
+    ensures next { result.0 ≡ after_event reading event }
+    ensures action { result.1 ≡ action_of reading event }
+    ensures bounded { IsBounded result.0 }
 {
     match reading.mode {
-        Mode::Norm => after_in_norm(reading, event),
-        Mode::Ais => after_in_ais(reading, event),
-        Mode::Lop => after_in_lop(reading, event),
-    }
-}
-
-// The action of an event that leads to the mode `next`: there is a value only in Norm, and it is new
-// by a new data flag or by a third equal new value.
-#[tactic(auto, unfolding(crate::specs::Reading::action_of, crate::specs::Reading::action_in, crate::specs::Reading::after_event, crate::specs::Reading::after_in, crate::specs::Reading::row_of, crate::specs::Reading::reading_table))]
-pub fn action_of(reading: &Reading, event: Event, next: Mode) -> Action
-    requires bounded { IsBounded reading.now }
-    requires next { next ≡ (after_event reading.now event).mode }
-    ensures { result ≡ action_of reading.now event }
-{
-    match next {
-        Mode::Norm => match event {
-            Event::Up => Action::Up,
-            Event::Down => Action::Down,
-            Event::Ndf(_) => Action::New,
-            Event::New(value) if news_with(reading, value) >= NEWS_NEEDED => Action::New,
-            _ => Action::Normal,
-        },
-        Mode::Ais | Mode::Lop => Action::Ais,
+        Mode::Norm => step_in_norm(reading, event),
+        Mode::Ais => step_in_ais(reading, event),
+        Mode::Lop => step_in_lop(reading, event),
     }
 }
 

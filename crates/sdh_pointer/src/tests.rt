@@ -56,8 +56,15 @@ fn rows_of_the_interpreter(rt: HostRuntime) {
         ([NORM, READY, NONE], 0x6955, Action::Down, 782, true),
         ([NORM, READY, NONE], 0x682A, Action::Up, 1, true),
         ([NORM, READY, NONE], 0x683F, Action::Normal, 0, true),
-        ([(0x9B0E, 1), (0x6B0E, 3), NONE], 0x69A4, Action::Up, 0, true),
+        (
+            [(0x9B0E, 1), (0x6B0E, 3), NONE],
+            0x69A4,
+            Action::Up,
+            0,
+            true,
+        ),
         ([NORM, NONE, NONE], 0x6AAA, Action::Normal, 0, true),
+        ([NORM, (0x6800, 1), NONE], 0x6AAA, Action::Normal, 0, true),
         ([NORM, (0x6800, 2), NONE], 0x6AAA, Action::Normal, 0, true),
         // New values, AIS and invalid words are counted; the third new value keeps the readiness
         ([NORM, READY, (0x6803, 1)], 0x6803, Action::Normal, 0, true),
@@ -88,9 +95,21 @@ fn rows_of_the_interpreter(rt: HostRuntime) {
     ];
     for (before, word, action, value, moved) in cases {
         let mut interp = after(&before);
-        assert_eq!(rt; interp.step(Word(word)), action, "the word {word:04x} after {before:?}");
-        assert_eq!(rt; interp.value(), value, "the word {word:04x} after {before:?}");
-        assert_eq!(rt; interp.moved(), moved, "the word {word:04x} after {before:?}");
+        assert_eq!(rt;
+            interp.step(Word(word)),
+            action,
+            "the word {word:04x} after {before:?}"
+        );
+        assert_eq!(rt;
+            interp.value(),
+            value,
+            "the word {word:04x} after {before:?}"
+        );
+        assert_eq!(rt;
+            interp.moved(),
+            moved,
+            "the word {word:04x} after {before:?}"
+        );
     }
 }
 
@@ -153,6 +172,10 @@ fn rows_of_the_generator(rt: HostRuntime) {
 fn laws_are_called(_rt: HostRuntime) {
     laws::each_word_has_one_row();
     laws::each_input_has_one_row();
+    laws::answer_tells_mode();
+    laws::bounds_are_kept();
+    laws::interpreter_moves();
+    laws::generator_moves();
     laws::generator_repeats();
     laws::normal_word_settles();
     laws::enabled_word_settles();
