@@ -1,0 +1,4 @@
+pub mod PlaceProofs
+pub mod AuProofs
+pub mod Moves
+pub mod AllAus

@@ -1,0 +1,16 @@
+use Rattle.std.proofs.Common.{◌≡◌, ℕ, ◌+◌, ◌-◌, ◌*◌, ◌/◌, ◌%◌, ◌<◌, ◌≤◌, slice_index, if◌then◌else◌}
+use Rattle.sdh_frame.specs.Aus.{is_payload}
+use Rattle.sdh_frame.proofs.au.put4.Given as goal
+
+abbrev pub invariant-loop-c : goal.invariant-loop-c
+invariant-loop-c l = record {
+  at : l.at ≡ 1080 * l.r + 35 + l.au;
+  done : (i : ℕ) → i < 1080 * l.r + 36 + 4 * l.c → slice_index l.bytes i ≡ (if is_payload 4 l.au i then slice_index l.payload (261 * (i / 1080) + (i % 1080 - 36) / 4) else slice_index l.fn.bytes i);
+  rest : (i : ℕ) → 1080 * l.r + 36 + 4 * l.c ≤ i → slice_index l.bytes i ≡ slice_index l.fn.bytes i;
+}
+
+abbrev pub invariant-loop-r : goal.invariant-loop-r
+invariant-loop-r l = record {
+  done : (i : ℕ) → i < 1080 * l.r → slice_index l.bytes i ≡ (if is_payload 4 l.au i then slice_index l.payload (261 * (i / 1080) + (i % 1080 - 36) / 4) else slice_index l.fn.bytes i);
+  rest : (i : ℕ) → 1080 * l.r ≤ i → slice_index l.bytes i ≡ slice_index l.fn.bytes i;
+}

@@ -1,0 +1,10 @@
+use Rattle.std.proofs.Common.{◌≡◌, ap, arith}
+use Rattle.sdh_frame.specs.Sizes.{n_of}
+use Rattle.sdh_frame.proofs.Moves.{taken}
+use Rattle.sdh_frame.proofs.au.take.Goals as goal
+
+pub returns-in-Four : goal.returns-in-Four
+returns-in-Four c = let n : n_of c.args.rate ≡ 4 = ap n_of c.in-Four.is in rw c.in-Four.is (taken 4 c.args.au c.args.bytes.now c.take4.new.out (omega arith) c.take4.ensures)
+
+pub returns-in-Sixteen : goal.returns-in-Sixteen
+returns-in-Sixteen c = let n : n_of c.args.rate ≡ 16 = ap n_of c.in-Sixteen.is in rw c.in-Sixteen.is (taken 16 c.args.au c.args.bytes.now c.take16.new.out (omega arith) c.take16.ensures)

@@ -1,0 +1,6 @@
+pub mod Sizes
+pub mod Fields
+pub mod Lending
+pub mod Aus
+pub mod PlaceLaws
+pub mod AuLaws

@@ -1,0 +1,18 @@
+-- The sizes of an STM-N frame (ITU-T G.707): 9 rows of 270 N bytes, sent row by row.
+use Rattle.std.specs.Prelude.{ℕ, ◌*◌, List}
+use Rattle.sdh_frame.specs.declared.Rate.{Rate}
+use Rattle.sdh_frame.specs.declared.Rate.TheVariants.{Four, Sixteen}
+
+-- N, the number of AU-4s in the frame
+abbrev pub n_of : Rate → ℕ
+n_of Four = 4
+n_of Sixteen = 16
+
+-- the bytes of a frame
+abbrev pub size_of : Rate → ℕ
+size_of rate = 2430 * n_of rate
+
+-- a frame without where it lies in memory: its bytes row by row
+pub record Frame : Type 0 where
+  pub rate : Rate
+  pub bytes : List ℕ

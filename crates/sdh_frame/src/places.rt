@@ -1,0 +1,62 @@
+//! The places of fields.
+ghost use Rattle.std.specs.Prelude.{◌≡◌, ◌*◌, ◌<◌, ◌≤◌};
+ghost use Rattle.sdh_frame.specs.Sizes.{n_of};
+ghost use Rattle.sdh_frame.specs.Fields.{field_at, payload_place, place_of_pointer};
+
+use crate::{Field, Place, Rate};
+
+/// The field at a place.
+#[tactic(auto, unfolding(crate::specs::Fields::field_at))]
+pub fn place_of(rate: Rate, place: Place) -> Field
+    requires row { 1 ≤ place.row }
+    requires rows { place.row ≤ 9 }
+    requires column { 1 ≤ place.column }
+    requires columns { place.column ≤ 270 * n_of rate }
+    ensures { result ≡ field_at (n_of rate) place.row place.column }
+{
+    let n = rate.n() as u16;
+    let column = place.column;
+    if column > 9 * n {
+        return Field::Payload((column - 9 * n - 1) % n + 1);
+    }
+    match place.row {
+        1 if column <= 3 * n => Field::A1,
+        1 if column <= 6 * n => Field::A2,
+        1 if column == 6 * n + 1 => Field::J0,
+        1 => Field::Fixed,
+        2 if column == 1 => Field::B1,
+        4 => Field::Pointer((column - 1) % n + 1, (column - 1) / n),
+        5 if column <= 3 * n => Field::B2(column - 1),
+        5 if column == 3 * n + 1 => Field::K1,
+        5 if column == 6 * n + 1 => Field::K2,
+        _ => Field::Unused,
+    }
+}
+
+/// The place of a payload byte of an AU-4, by its index 0 to 2348.
+pub fn au_place(rate: Rate, au: u16, index: u16) -> Place
+    requires first { 1 ≤ au }
+    requires last { au ≤ n_of rate }
+    requires index { index < 2349 }
+    ensures { result ≡ payload_place (n_of rate) au index }
+{
+    let n = rate.n() as u16;
+    Place {
+        row: index / 261 + 1,
+        column: 9 * n + (index % 261 * n + au),
+    }
+}
+
+/// The place of a pointer byte of an AU-4, by its index 0 to 8: H1, Y, Y, H2, two bytes of ones, H3, H3, H3.
+pub fn pointer_place(rate: Rate, au: u16, index: u16) -> Place
+    requires first { 1 ≤ au }
+    requires last { au ≤ n_of rate }
+    requires index { index < 9 }
+    ensures { result ≡ place_of_pointer (n_of rate) au index }
+{
+    let n = rate.n() as u16;
+    Place {
+        row: 4,
+        column: index * n + au,
+    }
+}

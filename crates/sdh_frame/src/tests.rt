@@ -1,0 +1,204 @@
+//! Places by the layout's own tables, and frames written and read.
+ghost use Rattle.std.specs.Prelude.{◌≡◌, ◌*◌, ◌≤◌, IfOk, vec_len};
+ghost use Rattle.sdh_frame.specs.Sizes.{n_of};
+
+use super::*;
+use std::test::Fail;
+
+fn field(rate: Rate, row: u16, column: u16) -> Field
+    requires row { 1 ≤ row }
+    requires rows { row ≤ 9 }
+    requires column { 1 ≤ column }
+    requires columns { column ≤ 270 * n_of rate }
+{
+    place_of(rate, Place { row, column })
+}
+
+#[test]
+fn fields_of_an_stm4_frame(rt: HostRuntime) {
+    assert_eq!(rt; field(Rate::Four, 1, 12), Field::A1);
+    assert_eq!(rt; field(Rate::Four, 1, 13), Field::A2);
+    assert_eq!(rt; field(Rate::Four, 1, 24), Field::A2);
+    assert_eq!(rt; field(Rate::Four, 1, 25), Field::J0);
+    assert_eq!(rt; field(Rate::Four, 1, 26), Field::Fixed);
+    assert_eq!(rt; field(Rate::Four, 1, 36), Field::Fixed);
+    assert_eq!(rt; field(Rate::Four, 2, 1), Field::B1);
+    assert_eq!(rt; field(Rate::Four, 2, 2), Field::Unused);
+    assert_eq!(rt; field(Rate::Four, 4, 14), Field::Pointer(2, 3));
+    assert_eq!(rt; field(Rate::Four, 5, 12), Field::B2(11));
+    assert_eq!(rt; field(Rate::Four, 5, 13), Field::K1);
+    assert_eq!(rt; field(Rate::Four, 5, 14), Field::Unused);
+    assert_eq!(rt; field(Rate::Four, 5, 25), Field::K2);
+    assert_eq!(rt; field(Rate::Four, 9, 36), Field::Unused);
+    assert_eq!(rt; field(Rate::Four, 9, 1080), Field::Payload(4));
+}
+
+#[test]
+fn fields_of_an_stm16_frame(rt: HostRuntime) {
+    assert_eq!(rt; field(Rate::Sixteen, 1, 48), Field::A1);
+    assert_eq!(rt; field(Rate::Sixteen, 1, 49), Field::A2);
+    assert_eq!(rt; field(Rate::Sixteen, 1, 97), Field::J0);
+    assert_eq!(rt; field(Rate::Sixteen, 1, 144), Field::Fixed);
+    assert_eq!(rt; field(Rate::Sixteen, 1, 145), Field::Payload(1));
+    assert_eq!(rt; field(Rate::Sixteen, 4, 144), Field::Pointer(16, 8));
+    assert_eq!(rt; field(Rate::Sixteen, 5, 48), Field::B2(47));
+    assert_eq!(rt; field(Rate::Sixteen, 5, 49), Field::K1);
+    assert_eq!(rt; field(Rate::Sixteen, 5, 97), Field::K2);
+}
+
+// Payload columns are 9N + k, 10N + k and so on; index 783 is the byte after the last H3.
+#[test]
+fn payload_places(rt: HostRuntime) {
+    assert_eq!(rt; au_place(Rate::Four, 1, 0), Place { row: 1, column: 37 });
+    assert_eq!(rt; au_place(Rate::Four, 2, 1), Place { row: 1, column: 42 });
+    assert_eq!(rt; au_place(Rate::Four, 3, 783), Place { row: 4, column: 39 });
+    assert_eq!(rt;
+        au_place(Rate::Four, 4, 2348),
+        Place {
+            row: 9,
+            column: 1080
+        }
+    );
+    assert_eq!(rt;
+        au_place(Rate::Sixteen, 1, 0),
+        Place {
+            row: 1,
+            column: 145
+        }
+    );
+    assert_eq!(rt;
+        au_place(Rate::Sixteen, 16, 1),
+        Place {
+            row: 1,
+            column: 176
+        }
+    );
+    assert_eq!(rt;
+        au_place(Rate::Sixteen, 5, 783),
+        Place {
+            row: 4,
+            column: 149
+        }
+    );
+    assert_eq!(rt;
+        au_place(Rate::Sixteen, 16, 2348),
+        Place {
+            row: 9,
+            column: 4320
+        }
+    );
+}
+
+// H1 at column k, Y at N + k and 2N + k, H2 at 3N + k, ones at 4N + k and 5N + k, H3 at 6N + k, 7N + k and 8N + k.
+#[test]
+fn pointer_places(rt: HostRuntime) {
+    assert_eq!(rt;
+        pointer_place(Rate::Four, 2, 0),
+        Place { row: 4, column: 2 }
+    );
+    assert_eq!(rt;
+        pointer_place(Rate::Four, 2, 3),
+        Place { row: 4, column: 14 }
+    );
+    assert_eq!(rt;
+        pointer_place(Rate::Four, 2, 6),
+        Place { row: 4, column: 26 }
+    );
+    assert_eq!(rt;
+        pointer_place(Rate::Four, 2, 8),
+        Place { row: 4, column: 34 }
+    );
+    assert_eq!(rt;
+        pointer_place(Rate::Sixteen, 16, 0),
+        Place { row: 4, column: 16 }
+    );
+    assert_eq!(rt;
+        pointer_place(Rate::Sixteen, 16, 3),
+        Place { row: 4, column: 64 }
+    );
+    assert_eq!(rt;
+        pointer_place(Rate::Sixteen, 16, 8),
+        Place {
+            row: 4,
+            column: 144
+        }
+    );
+}
+
+// K1 and K2 of an STM-4 frame have the indexes 4332 and 4344.
+#[test]
+fn bytes_of_a_frame(rt: HostRuntime) -> Result<(), Fail> {
+    let mut frame = FrameBuf::try_new(rt.alloc(), Rate::Four)?;
+    frame.set(Place { row: 5, column: 13 }, 0xB3);
+    let bytes = frame.bytes_mut();
+    bytes[4344] = 0x26;
+    assert_eq!(rt; frame.get(Place { row: 5, column: 25 }), 0x26);
+    assert_eq!(rt; frame.bytes().len(), 9720);
+    assert_eq!(rt; frame.bytes()[4332], 0xB3);
+    assert_eq!(rt; frame.bytes()[4333], 0);
+    frame.fill(0xFF);
+    assert_eq!(rt; frame.bytes()[0], 0xFF);
+    let large = FrameBuf::try_new(rt.alloc(), Rate::Sixteen)?;
+    assert_eq!(rt; large.bytes().len(), 38880);
+    assert_eq!(rt; large.rate(), Rate::Sixteen);
+    Ok(())
+}
+
+fn chunk(alloc: Global, value: u8) -> Result<Vec<u8>, AllocError>
+    ensures { IfOk result (λ v. vec_len v ≡ 2349) }
+{
+    vec![in alloc; value; 2349]
+}
+
+// AU-4 number 3 has H2 at row 4, column 51, and its first payload byte at row 1, column 147.
+#[test]
+fn an_au_is_written_and_read(rt: HostRuntime) -> Result<(), Fail> {
+    let mut frame = FrameBuf::try_new(rt.alloc(), Rate::Sixteen)?;
+    let payload = chunk(rt.alloc(), 0x5A)?;
+    let mut out = chunk(rt.alloc(), 0)?;
+    frame.put_payload(3, payload.as_slice());
+    frame.put_pointers(3, &[0x68, 0x9B, 0x9B, 0x0A, 0xFF, 0xFF, 1, 2, 3]);
+    assert_eq!(rt; frame.get(Place { row: 4, column: 51 }), 0x0A);
+    assert_eq!(rt;
+        frame.get(Place {
+            row: 1,
+            column: 147
+        }),
+        0x5A
+    );
+    assert_eq!(rt;
+        frame.get(Place {
+            row: 1,
+            column: 148
+        }),
+        0
+    );
+    assert_eq!(rt; frame.pointer(3, 8), 3);
+    frame.take_payload(3, out.as_mut_slice());
+    assert_eq!(rt; out.as_slice() == payload.as_slice(), true);
+    Ok(())
+}
+
+#[test]
+fn an_au_of_ones_is_copied(rt: HostRuntime) -> Result<(), Fail> {
+    let mut frame = FrameBuf::try_new(rt.alloc(), Rate::Four)?;
+    let mut other = FrameBuf::try_new(rt.alloc(), Rate::Four)?;
+    other.fill_ones(2);
+    frame.copy_payload(4, &other, 2);
+    assert_eq!(rt; other.get(Place { row: 4, column: 2 }), 0xFF);
+    assert_eq!(rt;
+        frame.get(Place {
+            row: 9,
+            column: 1080
+        }),
+        0xFF
+    );
+    assert_eq!(rt;
+        frame.get(Place {
+            row: 9,
+            column: 1079
+        }),
+        0
+    );
+    Ok(())
+}
