@@ -1,0 +1,5 @@
+pub mod Rules
+pub mod Conditions
+pub mod Words
+pub mod FarEnds
+pub mod Views

@@ -1,0 +1,32 @@
+-- Where words come from, and which words two bytes can carry.
+use Rattle.std.specs.Prelude.{ℕ, ◌≡◌, ◌<◌, ◌≤◌, IfSome, List, length, slice_index}
+use Rattle.sdh_kbytes.specs.declared.K.{K}
+use Rattle.sdh_nodestate.specs.declared.Heard.{Heard}
+use Rattle.sdh_nodestate.specs.declared.Sent.{Sent}
+
+-- an identifier is in the ring
+abbrev pub IsMember : List ℕ → ℕ → Type 0
+IsMember ids id = (q : ℕ) × (q < length ids) × (slice_index ids q ≡ id)
+
+-- the words that a node sends have sources in the ring
+pub record IsSourced (ids : List ℕ) (s : Sent) : Type 0 where
+  pub west : IsMember ids s.west.from
+  pub east : IsMember ids s.east.from
+
+-- the words that a node hears have sources in the ring
+pub record HearsSourced (ids : List ℕ) (h : Heard) : Type 0 where
+  pub west : IfSome h.west (λ k. IsMember ids k.from)
+  pub east : IfSome h.east (λ k. IsMember ids k.from)
+
+-- both identifiers of a word have four bits, so that two bytes can spell it
+pub record IsSpellable (k : K) : Type 0 where
+  pub to : k.to ≤ 15
+  pub from : k.from ≤ 15
+
+pub record SendsSpellable (s : Sent) : Type 0 where
+  pub west : IsSpellable s.west
+  pub east : IsSpellable s.east
+
+pub record HearsSpellable (h : Heard) : Type 0 where
+  pub west : IfSome h.west IsSpellable
+  pub east : IfSome h.east IsSpellable
