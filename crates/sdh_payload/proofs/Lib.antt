@@ -3,3 +3,4 @@ pub mod Repeating
 pub mod Lists
 pub mod Containers
 pub mod Walking
+pub mod Chunks

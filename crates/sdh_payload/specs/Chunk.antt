@@ -13,3 +13,9 @@ abbrev pub taken : ChunkForm → List ℕ → List ℕ → List ℕ
 taken Plain payload h3 = payload
 taken Short payload h3 = around 783 [] 786 payload
 taken Long payload h3 = around 783 h3 783 payload
+
+-- how many bytes these are
+abbrev pub taken_len : ChunkForm → ℕ
+taken_len Plain = 2349
+taken_len Short = 2346
+taken_len Long = 2352

@@ -4,3 +4,4 @@ pub mod Chunk
 pub mod Stream
 pub mod Walk
 pub mod Feed
+pub mod Laws

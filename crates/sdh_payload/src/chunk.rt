@@ -1,6 +1,6 @@
 //! What a port takes from an AU-4 that arrived.
 ghost use Rattle.std.specs.Prelude.{◌≡◌, ◌+◌, ◌-◌, ◌≤◌, length};
-ghost use Rattle.sdh_payload.specs.Chunk.{around, taken};
+ghost use Rattle.sdh_payload.specs.Chunk.{around, taken, taken_len};
 
 use crate::cells::Cells;
 
@@ -22,7 +22,8 @@ fn put_around(payload: &[u8], front: usize, middle: &[u8], back: usize, out: &mu
     requires front { front ≤ length payload.now }
     requires back { back ≤ length payload.now }
     requires room { front + length middle.now + (length payload.now - back) ≤ 2352 }
-    ensures { out.new ≡ around front middle.now back payload.now }
+    ensures bytes { out.new ≡ around front middle.now back payload.now }
+    ensures count { length out.new ≡ front + length middle.now + (length payload.now - back) }
 {
     out.clear();
     out.extend_from_slice(&payload[..front]);
@@ -35,7 +36,8 @@ fn put_around(payload: &[u8], front: usize, middle: &[u8], back: usize, out: &mu
 pub fn take_chunk(payload: &[u8], h3: &[u8], form: ChunkForm, out: &mut Cells)
     requires payload { length payload.now ≡ 2349 }
     requires h3 { length h3.now ≡ 3 }
-    ensures { out.new ≡ taken form payload.now h3.now }
+    ensures bytes { out.new ≡ taken form payload.now h3.now }
+    ensures count { length out.new ≡ taken_len form }
 {
     match form {
         ChunkForm::Plain => {

@@ -1,5 +1,5 @@
 //! What a customer sends, chunk by chunk.
-ghost use Rattle.std.specs.Prelude.{◌≡◌, ◌+◌, ◌^◌, ◌<◌};
+ghost use Rattle.std.specs.Prelude.{◌≡◌, ◌+◌, ◌^◌, ◌<◌, length};
 ghost use Rattle.sdh_payload.specs.Stream.{chunk_of};
 
 use crate::cells::Cells;
@@ -42,6 +42,7 @@ impl Feed {
     pub fn next(&mut self, out: &mut Cells)
         requires { self.old.chunks < 2 ^ 32 }
         ensures chunk { out.new ≡ chunk_of self.old.port self.old.chunks }
+        ensures full { length out.new ≡ 2349 }
         ensures next { self.new ≡ record self.old { chunks = self.old.chunks + 1 } }
     {
         self.walk.fill(out);

@@ -4,6 +4,7 @@
 pub mod cells;
 pub mod chunk;
 pub mod feed;
+pub mod laws;
 mod parity;
 pub mod port;
 mod repeated;
@@ -14,3 +15,6 @@ pub use cells::Cells;
 pub use chunk::{ChunkForm, take_chunk};
 pub use feed::Feed;
 pub use port::{Port, PortError};
+
+#[cfg(test)]
+mod tests;
