@@ -5,7 +5,7 @@ use std::alloc::{AllocError, Global};
 use std::marker::Model;
 
 /// The most bytes of a chunk: the 2349 bytes of an AU-4's payload, and the three H3 bytes.
-pub const MOST: usize = 2352;
+const MOST: usize = 2352;
 
 /// At most 2352 bytes, whose memory was taken when it was made.
 #[derive(Drop)]

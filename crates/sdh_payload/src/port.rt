@@ -8,7 +8,7 @@ use crate::short_text::ShortText;
 use std::marker::Model;
 
 /// The largest offset: an AU-4 pointer counts 0 to 782 steps of three bytes (ITU-T G.707 clause 8.1).
-pub const MOST_OFFSET: u16 = 782;
+const MOST_OFFSET: u16 = 782;
 
 /// Why a port can't be made, in the order in which it is checked.
 #[derive(Clone, Copy, Debug, PartialEq, Eq)]

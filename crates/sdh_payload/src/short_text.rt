@@ -4,7 +4,7 @@ ghost use Rattle.std.specs.Prelude.{◌≡◌, ◌≤◌, length};
 use std::marker::Model;
 
 /// The most bytes of a text or a trace.
-pub const MOST: usize = 64;
+const MOST: usize = 64;
 
 /// The bytes of a text or a trace, at most 64.
 #[derive(Drop)]

@@ -8,7 +8,7 @@ ghost use Rattle.sdh_payload.specs.Walk.{containers_from, text_before};
 use crate::cells::Cells;
 use crate::parity::bip8_of;
 use crate::port::Port;
-use crate::repeated::Repeated;
+use crate::repeated::{ROW, Repeated};
 use std::marker::Model;
 
 /// The bytes of a VC-4.
@@ -20,7 +20,7 @@ const COLUMNS: usize = 261;
 /// A space, which pads a trace.
 const SPACE: u8 = 0x20;
 
-/// The signal label C2: equipped, what is carried isn't told.
+/// The signal label C2, equipped and non-specific (ITU-T G.707 clause 9.3).
 const EQUIPPED: u8 = 1;
 
 /// The place of the next byte, with what is kept of the bytes behind it: the VC-4's B3, the parity
@@ -81,7 +81,7 @@ fn first_byte(port: &Port, index: usize) -> u8
         return overhead_byte(port.trace(), 0, 0, row);
     }
     let text = port.text();
-    text[(260 * row + column - 1) % text.len()]
+    text[(ROW * row + column - 1) % text.len()]
 }
 
 // The parity of the first bytes of VC-4 number 0.
@@ -111,7 +111,7 @@ fn first_place(index: usize, len: usize) -> usize
     requires within { index < 2349 }
     ensures { result ≡ text_before 0 index % len }
 {
-    let before = 260 * (index / COLUMNS) + (index % COLUMNS).saturating_sub(1);
+    let before = ROW * (index / COLUMNS) + (index % COLUMNS).saturating_sub(1);
     before % len
 }
 
@@ -134,7 +134,7 @@ impl Walk {
         }
     }
 
-    // The path overhead byte at the start of a row.
+    // Puts the path overhead byte at the start of a row.
     fn put_overhead(&mut self, out: &mut Cells)
         requires start { self.old.at % 261 ≡ 0 }
         requires room { length out.old < 2352 }
@@ -152,7 +152,7 @@ impl Walk {
         self.index += 1;
     }
 
-    // Text bytes in a row.
+    // Puts the next `count` text bytes of one row.
     fn put_text(&mut self, count: usize, out: &mut Cells)
         requires inside { 0 < self.old.at % 261 }
         requires fits { self.old.at % 261 + count ≤ 261 }
@@ -174,7 +174,7 @@ impl Walk {
         }
     }
 
-    /// The next bytes in a row, at least one and at most so many. Says how many.
+    /// Puts the next bytes of one row, at least one and at most `most`, and says how many.
     pub fn put_some(&mut self, most: usize, out: &mut Cells) -> usize
         requires some { 0 < most }
         requires room { length out.old + most ≤ 2352 }
@@ -194,7 +194,7 @@ impl Walk {
         count
     }
 
-    /// The next bytes, as many as a VC-4 has.
+    /// Puts the next bytes, as many as a VC-4 has, in place of what `out` held.
     pub fn fill(&mut self, out: &mut Cells)
         requires { self.old.at < 2 ^ 59 }
         ensures bytes { out.new ≡ containers_from self.old.port self.old.at 2349 }
