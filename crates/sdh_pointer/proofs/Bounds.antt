@@ -1,5 +1,5 @@
 -- What a single step keeps: bounds, and that the answer tells the mode.
-use Rattle.std.proofs.Common.{◌≡◌, ◌≢◌, ℕ, ◌+◌, ◌%◌, ◌<◌, ◌≤◌, Bool, true, false, eqb, leb, refl, ap, sym, ◌∙◌, subst, arith, inl, inr}
+use Rattle.std.proofs.Common.{◌≡◌, ℕ, ◌+◌, ◌<◌, ◌≤◌, true, eqb, leb, refl, arith, inl, inr}
 use Rattle.std.specs.Prelude.{◌&&◌, ◌||◌, not}
 use Rattle.std.proofs.lemmas.Bool.{cases_Bool, cases_lt, le-leb, lt-leb, leb-true}
 use Rattle.sdh_pointer.specs.declared.reading.Reading.{Reading}
@@ -7,7 +7,6 @@ use Rattle.sdh_pointer.specs.declared.reading.Mode.{Mode}
 use Rattle.sdh_pointer.specs.declared.reading.Mode.TheVariants as mode
 use Rattle.sdh_pointer.specs.declared.reading.Event.{Event}
 use Rattle.sdh_pointer.specs.declared.reading.Event.TheVariants as event
-use Rattle.sdh_pointer.specs.declared.reading.Action.TheVariants as action
 use Rattle.sdh_pointer.specs.Words.{is_normal, is_enabled, value_in, one_up, one_down}
 use Rattle.sdh_pointer.specs.Reading.{start, is_norm, goes_up, goes_down, normal_event, event_of, value_of, after_in, action_in, after_event, action_of, after_word, action_on, row_of, reading_table, settled, with_ais, with_bad, with_new, news_with, later, IsBounded}
 use Rattle.sdh_pointer.specs.Laws.{is_ais_action}

@@ -1,5 +1,5 @@
 -- An interpreter that reads what a generator sends for the action of an interpreter before it.
-use Rattle.std.proofs.Common.{◌≡◌, ◌≢◌, ℕ, ◌+◌, ◌%◌, ◌≤◌, refl, ap, sym, ◌∙◌, subst, arith, Option, Some, None}
+use Rattle.std.proofs.Common.{◌≡◌, ℕ, ◌≤◌, refl, ap, sym, ◌∙◌, subst, Option, Some, None}
 use Rattle.sdh_pointer.specs.declared.reading.Reading.{Reading}
 use Rattle.sdh_pointer.specs.declared.reading.Mode.{Mode}
 use Rattle.sdh_pointer.specs.declared.reading.Mode.TheVariants as mode
@@ -10,8 +10,8 @@ use Rattle.sdh_pointer.specs.declared.word.Form.TheVariants as form
 use Rattle.sdh_pointer.specs.declared.reading.Action.{Action}
 use Rattle.sdh_pointer.specs.declared.reading.Action.TheVariants as action
 use Rattle.sdh_pointer.specs.Words.{word_of, one_up, one_down}
-use Rattle.sdh_pointer.specs.Reading.{event_of, after_in, action_in, after_word, action_on}
-use Rattle.sdh_pointer.specs.Sending.{form_sent, word_sent, next_sending}
+use Rattle.sdh_pointer.specs.Reading.{event_of, after_in, action_in, after_word}
+use Rattle.sdh_pointer.specs.Sending.{word_sent}
 use Rattle.sdh_pointer.specs.Laws.{IsInStep, GoesOn, IsReadAsSent}
 use Rattle.sdh_pointer.proofs.Forms.{of_normal, of_enabled, of_up, of_down, of_ais, same_event}
 use Rattle.sdh_pointer.proofs.Rows.{norm_same, norm_ndf, norm_up, norm_down, ais_ais, ais_ndf, norm_same_action, norm_ndf_action, norm_up_action, norm_down_action, ais_ais_action, ais_ndf_action}

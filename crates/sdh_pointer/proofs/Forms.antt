@@ -9,7 +9,7 @@ use Rattle.sdh_pointer.specs.declared.reading.Reading.{Reading}
 use Rattle.sdh_pointer.specs.declared.reading.Mode.TheVariants as mode
 use Rattle.sdh_pointer.specs.declared.reading.Event.TheVariants as event
 use Rattle.sdh_pointer.specs.declared.word.Form.TheVariants as form
-use Rattle.sdh_pointer.specs.Words.{differing, n_bits, i_bits, d_bits, is_normal, is_enabled, value_in, word_of}
+use Rattle.sdh_pointer.specs.Words.{differing, i_bits, d_bits, is_normal, is_enabled, value_in, word_of}
 use Rattle.sdh_pointer.specs.Reading.{event_of, normal_event, is_norm, goes_up, goes_down}
 
 -- ---- kinds of words

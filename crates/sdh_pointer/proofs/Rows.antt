@@ -1,7 +1,7 @@
 -- The rows of the two tables, each as an equation; and that each case has exactly one.
-use Rattle.std.proofs.Common.{◌≡◌, ◌≢◌, ℕ, ◌+◌, Bool, true, false, List, [], ◌∷◌, Option, Some, None, refl, ap, ◌∙◌, arith, inl, inr, eqb, leb}
-use Rattle.std.specs.Prelude.{◌&&◌, ◌||◌, not, nat_le, if◌then◌else◌}
-use Rattle.std.specs.List.{filter, find}
+use Rattle.std.proofs.Common.{◌≡◌, ℕ, ◌+◌, Bool, true, false, [], ◌∷◌, Option, Some, None, refl, ap, arith, inl, inr, eqb, leb}
+use Rattle.std.specs.Prelude.{◌||◌, not, nat_le, if◌then◌else◌}
+use Rattle.std.specs.List.{filter}
 use Rattle.std.proofs.lemmas.Bool.{cases_Bool, le-leb}
 use Rattle.sdh_pointer.specs.declared.reading.Reading.{Reading}
 use Rattle.sdh_pointer.specs.declared.reading.Mode.{Mode}
@@ -10,9 +10,8 @@ use Rattle.sdh_pointer.specs.declared.reading.Event.{Event}
 use Rattle.sdh_pointer.specs.declared.reading.Event.TheVariants as event
 use Rattle.sdh_pointer.specs.declared.reading.Action.{Action}
 use Rattle.sdh_pointer.specs.declared.reading.Action.TheVariants as action
-use Rattle.sdh_pointer.specs.declared.word.Form.{Form}
 use Rattle.sdh_pointer.specs.declared.word.Form.TheVariants as form
-use Rattle.sdh_pointer.specs.Words.{is_normal, is_enabled, value_in, one_up, one_down, word_of}
+use Rattle.sdh_pointer.specs.Words.{is_normal, is_enabled, value_in, one_up, one_down}
 use Rattle.sdh_pointer.specs.Reading.{is_norm, goes_up, goes_down, normal_event, event_of, after_in, action_in, after_event, action_of, after_word, action_on, row_of, is_row_of, reading_table, after_row, action_row, settled, with_ais, with_bad, with_new, news_with, later, is_same, is_up, is_down}
 use Rattle.sdh_pointer.specs.Reading as reading
 use Rattle.sdh_pointer.specs.Sending as sending

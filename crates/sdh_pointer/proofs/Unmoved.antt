@@ -1,5 +1,5 @@
 -- An interpreter that a step doesn't move.
-use Rattle.std.proofs.Common.{◌≡◌, ◌≢◌, ◌↔◌, ℕ, zero, suc, ◌+◌, ◌≤◌, Bool, true, false, eqb, refl, ap, sym, ◌∙◌, arith, Option, Some, None}
+use Rattle.std.proofs.Common.{◌≡◌, ◌↔◌, ℕ, ◌≤◌, Bool, true, false, refl, ap, sym, ◌∙◌, arith, Option, Some, None}
 use Rattle.std.specs.Prelude.{◌&&◌, not}
 use Rattle.std.proofs.lemmas.Bool.{eq-eqb, eqb-true}
 use Rattle.sdh_pointer.specs.declared.reading.Reading.{Reading}
@@ -9,7 +9,7 @@ use Rattle.sdh_pointer.specs.declared.reading.Event.TheVariants as event
 use Rattle.sdh_pointer.specs.declared.reading.Action.{Action}
 use Rattle.sdh_pointer.specs.declared.reading.Action.TheVariants as action
 use Rattle.sdh_pointer.specs.Words.{is_normal, value_in}
-use Rattle.sdh_pointer.specs.Reading.{Interpreter, after_word, after_step, action_on, same_mode, same_reading, settled, later}
+use Rattle.sdh_pointer.specs.Reading.{Interpreter, after_word, after_step, action_on, same_mode, same_reading, settled}
 use Rattle.sdh_pointer.specs.Sending.{Generator, after_action, same_sending}
 use Rattle.sdh_pointer.specs.Laws.{IsPassed, IsSteady}
 use Rattle.sdh_pointer.proofs.Forms.{of_ones}

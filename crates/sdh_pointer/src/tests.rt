@@ -13,6 +13,7 @@ fn words(rt: HostRuntime) {
         (Form::Ais, 0, 0xFFFF),
     ];
     for (form, value, word) in cases {
+        assert!(rt; value <= 782);
         assert!(rt; word_of(form, value) == Word(word));
     }
     let mut bytes = [0u8; 2];
@@ -22,11 +23,11 @@ fn words(rt: HostRuntime) {
 }
 
 // An interpreter that has read these words, each so many times.
-fn after(runs: &[(u16, usize)]) -> Interp {
+fn after(runs: [(u16, usize); 3]) -> Interp {
     let mut interp = Interp::new();
     for (word, count) in runs {
-        for _ in 0..*count {
-            let _ = interp.step(Word(*word));
+        for _ in 0..count {
+            let _ = interp.step(Word(word));
         }
     }
     interp
@@ -94,7 +95,7 @@ fn rows_of_the_interpreter(rt: HostRuntime) {
         ([LOST, (0x6803, 2), NONE], 0x6803, Action::New, 3, true),
     ];
     for (before, word, action, value, moved) in cases {
-        let mut interp = after(&before);
+        let mut interp = after(before);
         assert_eq!(rt;
             interp.step(Word(word)),
             action,
@@ -160,6 +161,7 @@ fn rows_of_the_generator(rt: HostRuntime) {
         (Action::Down, 1, Form::Enabled, 0x9801, true, Some(1)),
     ];
     for (action, value, form, word, moved, sending) in cases {
+        assert!(rt; value <= 782);
         assert_eq!(rt; generator.step(action, value), form, "{action:?} {value}");
         assert_eq!(rt; generator.word().0, word, "{action:?} {value}");
         assert_eq!(rt; generator.moved(), moved, "{action:?} {value}");
