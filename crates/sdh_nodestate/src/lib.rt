@@ -206,3 +206,6 @@ impl SwitchEast {
         }
     }
 }
+
+#[cfg(test)]
+mod tests;
