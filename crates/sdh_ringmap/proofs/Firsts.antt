@@ -41,7 +41,8 @@ small_of : (z : ℤ) → is_id z ≡ true → magnitude z < 16
 small_of (pos n) h = grind arith
 small_of (negsuc n) h = cc
 
-same_of : (y z : ℤ) → is_id y ≡ true → is_id z ≡ true → magnitude y ≡ magnitude z → y ≡ z
+-- identifiers of one magnitude are one number
+pub same_of : (y z : ℤ) → is_id y ≡ true → is_id z ≡ true → magnitude y ≡ magnitude z → y ≡ z
 same_of (pos m) (pos n) hy hz e = ap pos e
 same_of (pos m) (negsuc n) hy hz e = cc
 same_of (negsuc m) z hy hz e = cc

@@ -1,3 +1,3 @@
-mod Firsts
+pub mod Firsts
 pub mod Around
 pub mod Clear

@@ -1,0 +1,4 @@
+mod Shares
+mod Few
+mod Kept
+mod Refusing

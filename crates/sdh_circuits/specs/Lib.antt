@@ -1,0 +1,4 @@
+pub mod Naming
+pub mod Provisioned
+pub mod Provisioning
+pub mod Checks

@@ -1,0 +1,95 @@
+//! Checks of what is asked that need no other circuit, and the parts that are made of it.
+ghost use Rattle.std.specs.Prelude.{◌≡◌, ◌↔◌, true, false, IsSome, IfSome, IfNone};
+ghost use Rattle.sdh_circuits.specs.Checks.{wish_of, is_within, node_of, has_slot, has_ends, has_two_ends, has_offsets, has_texts, has_traces};
+ghost use Rattle.sdh_ringmap.specs.Numbering.{is_id, magnitude};
+ghost use Rattle.sdh_payload.specs.Customer.{is_text};
+
+use crate::Asked;
+use sdh_payload::Port;
+use sdh_payload::port::is_text;
+use sdh_ringmap::{Pos, RingMap};
+
+// Whether the number is from `least` to `most`.
+fn is_within(least: u16, most: u16, number: i64) -> bool
+    ensures { result ≡ is_within least most number }
+{
+    i64::from(least) <= number && number <= i64::from(most)
+}
+
+// Whether the slot is one of so many working slots.
+pub(crate) fn has_slot(slots: u8, asked: &Asked<'_>) -> bool
+    ensures { result ≡ has_slot slots (wish_of asked.now) }
+{
+    is_within(1, u16::from(slots), asked.slot)
+}
+
+// Whether both offsets are 0 to 782.
+pub(crate) fn has_offsets(asked: &Asked<'_>) -> bool
+    ensures { result ≡ has_offsets (wish_of asked.now) }
+{
+    is_within(0, 782, asked.offset_a) && is_within(0, 782, asked.offset_b)
+}
+
+// Whether both texts have their form.
+pub(crate) fn has_texts(asked: &Asked<'_>) -> bool
+    ensures { result ≡ has_texts (wish_of asked.now) }
+{
+    is_text(asked.text_a.as_bytes()) && is_text(asked.text_b.as_bytes())
+}
+
+// Whether both traces have their form.
+pub(crate) fn has_traces(asked: &Asked<'_>) -> bool
+    ensures { result ≡ has_traces (wish_of asked.now) }
+{
+    is_text(asked.trace_a.as_bytes()) && is_text(asked.trace_b.as_bytes())
+}
+
+// The number as an identifier, where it is one.
+fn identifier(number: i64) -> Option<u8>
+    ensures form { IsSome result ↔ (is_id number ≡ true) }
+    ensures number { IfSome result (λ id. id ≡ magnitude number) }
+{
+    if 0 <= number && number <= 15 {
+        Some(number as u8)
+    } else {
+        None
+    }
+}
+
+// The position of the node with this number.
+fn node_of(map: &RingMap, number: i64) -> Option<Pos>
+    ensures { result ≡ node_of map.now number }
+{
+    map.find(identifier(number)?)
+}
+
+// The positions of both ends.
+pub(crate) fn ends(map: &RingMap, asked: &Asked<'_>) -> Option<(Pos, Pos)>
+    ensures missing { IfNone result (has_ends map.now (wish_of asked.now) ≡ false) }
+    ensures from { IfSome result (λ ends. node_of map.now asked.now.from ≡ Some ends.0) }
+    ensures to { IfSome result (λ ends. node_of map.now asked.now.to ≡ Some ends.1) }
+{
+    let from = node_of(map, asked.from)?;
+    let to = node_of(map, asked.to)?;
+    Some((from, to))
+}
+
+// Whether the ends are two nodes.
+pub(crate) fn has_two_ends(asked: &Asked<'_>) -> bool
+    ensures { result ≡ has_two_ends (wish_of asked.now) }
+{
+    asked.from != asked.to
+}
+
+// The port that is asked for, where its parts have their form.
+pub(crate) fn port(text: &str, trace: &str, offset: i64) -> Port
+    requires text { is_text text.now ≡ true }
+    requires trace { is_text trace.now ≡ true }
+    requires offset { is_within 0 782 offset ≡ true }
+    ensures { result ≡ record { text = text.now; trace = trace.now; offset = magnitude offset } }
+{
+    match Port::new(text.as_bytes(), trace.as_bytes(), offset as u16) {
+        Ok(port) => port,
+        Err(_) => unreachable!(),
+    }
+}
