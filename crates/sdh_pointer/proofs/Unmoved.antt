@@ -9,7 +9,7 @@ use Rattle.sdh_pointer.specs.declared.reading.Event.TheVariants as event
 use Rattle.sdh_pointer.specs.declared.reading.Action.{Action}
 use Rattle.sdh_pointer.specs.declared.reading.Action.TheVariants as action
 use Rattle.sdh_pointer.specs.Words.{is_normal, value_in}
-use Rattle.sdh_pointer.specs.Reading.{Interpreter, after_word, after_step, action_on, same_mode, same_reading, settled}
+use Rattle.sdh_pointer.specs.Reading.{Interpreter, after_word, after_step, action_on, same_mode, same_reading, settled, later}
 use Rattle.sdh_pointer.specs.Sending.{Generator, after_action, same_sending}
 use Rattle.sdh_pointer.specs.Laws.{IsPassed, IsSteady}
 use Rattle.sdh_pointer.proofs.Forms.{of_ones}
@@ -118,8 +118,14 @@ unmoved_is_ais i h =
 -- ---- an interpreter that reads its own value
 
 pub steady_is_normal : (i : Interpreter) (w : ℕ) → is_normal w ≡ true → i.reading.mode ≡ mode.Norm → i.reading.value ≡ value_in w → IsSteady i w
-steady_is_normal i w normal norm at = record {
-  answer = same_action w (value_in w) normal refl i.reading norm at;
-  next = step_reading i w ∙ same w (value_in w) normal refl i.reading norm at;
-  still = λ there. kept_is_unmoved i w (ap (λ r. after_word r w) there ∙ stays w (value_in w) normal refl ∙ sym there);
-}
+steady_is_normal i w normal norm at =
+    let v = value_in w in
+    let next : (after_step i w).reading ≡ settled mode.Norm v (later i.reading.since) = step_reading i w ∙ same w v normal refl i.reading norm at in
+    let stays_at : (j : Interpreter) → j.reading ≡ settled mode.Norm v 3 → (after_step j w).moved ≡ false =
+    λ j there. kept_is_unmoved j w (ap (λ r. after_word r w) there ∙ stays w v normal refl ∙ sym there) in
+    record {
+      answer = same_action w v normal refl i.reading norm at;
+      next = next;
+      still = stays_at i;
+      then_still = λ late. (let full : later i.reading.since ≡ 3 = omega arith in stays_at (after_step i w) (next ∙ ap (settled mode.Norm v) full));
+    }

@@ -123,11 +123,12 @@ abbrev pub UnmovedIsAis : Type 0
 UnmovedIsAis = (i : Interpreter) → (after_step i 0xFFFF).moved ≡ false → action_on i.reading 0xFFFF ≡ action.Ais
 
 -- an interpreter in Norm that reads a normal word of its value answers Normal and counts nothing; once `since` is 3
--- such a word doesn't move it
+-- further such words don't move it
 pub record IsSteady (i : Interpreter) (w : ℕ) : Type 0 where
   pub answer : action_on i.reading w ≡ action.Normal
   pub next : (after_step i w).reading ≡ settled mode.Norm (value_in w) (later i.reading.since)
   pub still : i.reading ≡ settled mode.Norm (value_in w) 3 → (after_step i w).moved ≡ false
+  pub then_still : 2 ≤ i.reading.since → (after_step (after_step i w) w).moved ≡ false
 
 abbrev pub SteadyIsNormal : Type 0
 SteadyIsNormal =

@@ -27,8 +27,8 @@ goes_up v kept = nat_le 3 (differing i_bits v kept) && nat_le (differing d_bits 
 unfoldable pub goes_down : ℕ → ℕ → Bool
 goes_down v kept = nat_le 3 (differing d_bits v kept) && nat_le (differing i_bits v kept) 2
 
--- the event of a normal word with value v. A justification is read in Norm alone, and no earlier than the fourth
--- step after a change of the value.
+-- the event of a normal word with value v. A justification is read in Norm alone, and only where at least three steps
+-- lie between it and the last new data flag or justification, or the entry into Norm.
 unfoldable pub normal_event : Reading → ℕ → Event
 normal_event r v =
     if is_norm r.mode && (v == r.value) then event.Same else
@@ -59,7 +59,8 @@ value_of event.Down = 0
 abbrev pub start : Reading
 start = record { mode = mode.Ais; value = 0; ais = 0; bad = 0; candidate = 0; news = 0; since = 0 }
 
--- `since` one round later
+-- `since` one step later: it counts, up to 3, the steps in Norm after the last new data flag or justification, or after
+-- Norm was entered
 abbrev pub later : ℕ → ℕ
 later since = min 3 (since + 1)
 
@@ -67,7 +68,7 @@ later since = min 3 (since + 1)
 abbrev pub settled : Mode → ℕ → ℕ → Reading
 settled m v since = record { mode = m; value = v; ais = 0; bad = 0; candidate = 0; news = 0; since = since }
 
--- one AIS word more in a row, one invalid word more, one new value more
+-- one AIS word more in a row, one invalid word more, one equal new value more
 abbrev pub with_ais : Reading → ℕ → Reading
 with_ais r since = record { mode = r.mode; value = r.value; ais = r.ais + 1; bad = 0; candidate = 0; news = 0; since = since }
 
@@ -101,13 +102,13 @@ counted r event.Up since = settled r.mode r.value since
 counted r event.Down since = settled r.mode r.value since
 counted r (event.Ndf v) since = settled r.mode r.value since
 
--- `since` while events are counted: it grows in Norm, and is 0 elsewhere
+-- `since` where an event is only counted: it grows in Norm, and is 0 elsewhere
 abbrev pub since_in : Mode → ℕ → ℕ
 since_in mode.Norm since = later since
 since_in mode.Ais since = 0
 since_in mode.Lop since = 0
 
--- the action while events are counted
+-- the action where an event is only counted
 abbrev pub action_while : Mode → Action
 action_while mode.Norm = action.Normal
 action_while mode.Ais = action.Ais

@@ -65,8 +65,8 @@ impl Interp {
         self.reading.value
     }
 
-    /// Whether the last step changed the mode, the value, a count, a counted candidate or for how long
-    /// the value has stood. Before the first step it is false.
+    /// Whether the last step changed the mode, the value, a count, a candidate that is counted or
+    /// `since`. Before the first step it is false.
     pub fn moved(&self) -> bool
         ensures { result ≡ self.now.moved }
     {

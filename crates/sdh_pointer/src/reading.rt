@@ -41,7 +41,8 @@ pub enum Action {
 
 /// What an interpreter keeps: its mode; the value, which is not used in `Ais` and `Lop`; how many AIS
 /// words, invalid words and equal new values were read in a row, with that new value as candidate, 0
-/// where none is counted; and for how many steps, up to 3, the value has stood.
+/// where none is counted; and in `since` how many steps, up to 3, lie after the last new data flag or
+/// justification, or after mode `Norm` was entered.
 #[derive(Clone, Copy, Debug, PartialEq, Eq)]
 pub struct Reading {
     pub mode: Mode,
@@ -66,7 +67,7 @@ const NEWS_NEEDED: u8 = 3;
 
 const BAD_NEEDED: u8 = 8;
 
-// For how many steps a value stands before it may be justified.
+// How many steps must lie between a new data flag or a justification and the next justification.
 const STEADY: u8 = 3;
 
 // A state in which nothing is counted.
@@ -130,7 +131,7 @@ fn with_new(reading: Reading, value: u16, news: u8, since: u8) -> Reading
     }
 }
 
-// `since` one round later.
+// `since` one step later.
 fn later(since: u8) -> u8
     requires { since ≤ 3 }
     ensures { result ≡ later since }
