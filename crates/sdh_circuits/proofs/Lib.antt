@@ -2,3 +2,4 @@ mod Shares
 mod Few
 mod Kept
 mod Refusing
+mod Adding

@@ -1,11 +1,11 @@
 -- Circuits that share a span and a slot.
-use Rattle.std.proofs.Common.{◌≡◌, ◌≢◌, ℕ, ◌+◌, ◌<◌, ◌≤◌, List, length, get_or, Bool, true, false, ◌&&◌, ◌||◌, ◌==◌, nat_lt, refl, sym, ap, ◌∙◌, arith, ◌⊎◌, inl, inr, lt-ltb, le-ltb}
+use Rattle.std.proofs.Common.{◌≡◌, ◌≢◌, ℕ, ◌+◌, ◌<◌, ◌≤◌, List, length, get_or, Bool, true, false, ◌&&◌, ◌||◌, ◌==◌, nat_lt, refl, sym, ap, ◌∙◌, arith, ◌⊎◌, inl, inr, lt-ltb, le-ltb, eq-eqb}
 use Rattle.std.specs.List.{list_any, range_with_len, All}
 use Rattle.std.proofs.lemmas.List.Folds.{list_any_at, list_any_none}
 use Rattle.std.proofs.lemmas.List.FromFn.{get_or-range_with_len, length-range_with_len}
 use Rattle.sdh_ringmap.specs.Places.{eastwards}
 use Rattle.sdh_ringmap.specs.Arcs.{arc_between, holds_span}
-use Rattle.sdh_ringmap.proofs.Around.{holds_start, one_holds_start}
+use Rattle.sdh_ringmap.proofs.Around.{holds_start, one_holds_start, held_inside}
 use Rattle.sdh_circuits.specs.Provisioned.{Provisioned, arc_of}
 use Rattle.sdh_circuits.specs.Provisioning.{IsInRing}
 use Rattle.sdh_circuits.specs.Checks.{do_share}
@@ -59,3 +59,11 @@ pub share_by_starts : (n : ℕ) (c d : Provisioned) → IsInRing n c → IsInRin
     → do_share n c d ≡ (c.slot.0 == d.slot.0 && (holds_span n (arc_of n c) d.from.0 || holds_span n (arc_of n d) c.from.0))
 unfolding do_share both_hold
 share_by_starts n c d hc hd = ap (λ b. c.slot.0 == d.slot.0 && b) (share_any n c d hc hd (holds_span n (arc_of n c) d.from.0) (holds_span n (arc_of n d) c.from.0) refl refl)
+
+-- two circuits in one slot whose arcs hold one span share it
+pub shared : (n : ℕ) (c d : Provisioned) (s : ℕ) → holds_span n (arc_of n c) s ≡ true → holds_span n (arc_of n d) s ≡ true → c.slot ≡ d.slot → do_share n c d ≡ true
+unfolding do_share both_hold
+shared n c d s h k same =
+    let slots : (c.slot.0 == d.slot.0) ≡ true = eq-eqb c.slot.0 d.slot.0 (ap (λ t. t.0) same) in
+    both (c.slot.0 == d.slot.0) (list_any (both_hold n c d) (range_with_len 0 n)) slots
+    (shown n c d s (held_inside n s (arc_of n c) h) (both (holds_span n (arc_of n c) s) (holds_span n (arc_of n d) s) h k))

@@ -60,6 +60,7 @@ impl CircuitMap {
         requires { IfSome self.now.ring (λ ids. ids ≡ map.now) }
         ensures ok { IfOk result (λ c. c ≡ circuit_of map.now (wish_of asked.now)) }
         ensures passed { OnOk result (refusal self.now map.now (wish_of asked.now) ≡ None) }
+        ensures fits { IfOk result (λ c. IsProvisioning (with_circuit self.now map.now c)) }
         ensures refused { IfErr result (λ why. refusal self.now map.now (wish_of asked.now) ≡ Some why) }
     {
         if !has_slot(self.rate_half, asked) {
@@ -94,7 +95,39 @@ impl CircuitMap {
         if is_taken(map, &self.circuits, &circuit) {
             return Err(AddError::Overlap);
         }
+        let nodes = map.len();
+        prove!(nodes <= 16);
         Ok(circuit)
+    }
+
+    /// Adds the circuit that is asked for behind the others, or answers the first check that fails: the slot,
+    /// the ends, that they are two nodes, both offsets, both texts, both traces, the name, and that no other
+    /// circuit is on one of its spans in its slot. A refusal changes nothing.
+    pub fn add(&mut self, map: &RingMap, asked: &Asked<'_>) -> Result<(), AddError>
+        requires { IfSome self.old.ring (λ kept. kept ≡ map.now) }
+        ensures added { OnOk result (self.new ≡ with_circuit self.old map.now (circuit_of map.now (wish_of asked.now))) }
+
+        // The first check that fails is answered, and want of memory only where none does.
+        ensures refused { IfSome (refusal self.old map.now (wish_of asked.now)) (λ why. result ≡ Err why) }
+        ensures memory { IfNone (refusal self.old map.now (wish_of asked.now)) (IfErr result (λ why. why ≡ AddError.Memory)) }
+        ensures unchanged { OnErr result (self.new ≡ self.old) }
+    {
+        let circuit = self.check(map, asked)?;
+        self.keep(map, circuit)
+    }
+
+    // Keeps the circuit and the ring map, or finds no memory.
+    fn keep(&mut self, map: &RingMap, circuit: Circuit) -> Result<(), AddError>
+        requires { IsProvisioning (with_circuit self.old map.now circuit) }
+        ensures kept { OnOk result (self.new ≡ with_circuit self.old map.now circuit) }
+        ensures memory { IfErr result (λ why. why ≡ AddError.Memory) }
+        ensures unchanged { OnErr result (self.new ≡ self.old) }
+    {
+        if self.circuits.push(circuit).is_err() {
+            return Err(AddError::Memory);
+        }
+        self.ring = Some(map.copy());
+        Ok(())
     }
 
     /// How many circuits there are.
