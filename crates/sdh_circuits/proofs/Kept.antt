@@ -1,6 +1,6 @@
 -- Circuits that are kept, and one that is asked for, in the ring of the map.
-use Rattle.std.proofs.Common.{◌≡◌, ◌≢◌, ℕ, zero, suc, ◌+◌, ◌<◌, ◌≤◌, List, [], ◌∷◌, length, get_or, Bool, true, false, not, cond, nat_lt, Option, Some, None, refl, sym, ap, ◌∙◌, subst, arith}
-use Rattle.std.specs.Prelude.{ℤ, pos, negsuc, IfSome, position, ◌==◌}
+use Rattle.std.proofs.Common.{◌≡◌, ◌≢◌, ℕ, ◌<◌, List, [], length, get_or, Bool, true, false, not, cond, nat_lt, Option, Some, None, refl, sym, ap, ◌∙◌, subst, arith}
+use Rattle.std.specs.Prelude.{ℤ, IfSome, ◌==◌}
 use Rattle.std.specs.List.{All, position_or_len}
 use Rattle.std.specs.Option.{option_map}
 use Rattle.std.proofs.lemmas.Bool.{eqb-true, ltb-true}
@@ -12,7 +12,7 @@ use Rattle.sdh_ringmap.specs.Numbering.{is_id, magnitude}
 use Rattle.sdh_ringmap.specs.Places.{found_at}
 use Rattle.sdh_ringmap.proofs.Firsts.{same_of}
 use Rattle.sdh_circuits.specs.Provisioned.{Provisioned}
-use Rattle.sdh_circuits.specs.Provisioning.{Provisioning, IsProvisioning, AreCircuits, IsInRing, IsInSlots, size_of}
+use Rattle.sdh_circuits.specs.Provisioning.{Provisioning, IsProvisioning, IsInRing}
 use Rattle.sdh_circuits.specs.Checks.{Wish, node_of, has_two_ends}
 
 none_inside : (n : ℕ) (circuits : List Provisioned) → circuits ≡ [] → All (IsInRing n) circuits

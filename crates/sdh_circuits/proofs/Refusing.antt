@@ -3,7 +3,7 @@ use Rattle.std.proofs.Common.{◌≡◌, ℕ, List, length, Bool, true, false, n
 use Rattle.std.specs.List.{list_any}
 use Rattle.sdh_circuits.specs.Provisioned.{Provisioned}
 use Rattle.sdh_circuits.specs.Provisioning.{Provisioning}
-use Rattle.sdh_circuits.specs.Checks.{Wish, circuit_of, do_share, has_slot, has_ends, has_two_ends, has_offsets, has_texts, has_traces, is_free_name, has_room, checks, first_failing, refusal}
+use Rattle.sdh_circuits.specs.Checks.{Wish, circuit_of, do_share, has_slot, has_ends, has_two_ends, has_offsets, has_texts, has_traces, is_free_name, has_room, checks, refusal}
 use Rattle.sdh_circuits.specs.declared.AddError.{AddError}
 use Rattle.sdh_circuits.specs.declared.AddError.TheVariants as refused
 

@@ -1,4 +1,4 @@
-use Rattle.std.proofs.Common.{◌≡◌, arith, length, nat_lt, ◌∙◌, le-ltb}
+use Rattle.std.proofs.Common.{arith, length, ◌∙◌, le-ltb}
 use Rattle.sdh_circuits.proofs.Shares.{held, not_held}
 use Rattle.sdh_circuits.proofs.search.holds.Goals as goal
 

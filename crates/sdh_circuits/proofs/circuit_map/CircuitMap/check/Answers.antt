@@ -1,5 +1,5 @@
-use Rattle.std.proofs.Common.{◌≡◌, rules}
-use Rattle.sdh_circuits.specs.Checks.{wish_of, has_two_ends}
+use Rattle.std.proofs.Common.{rules}
+use Rattle.sdh_circuits.specs.Checks.{wish_of}
 use Rattle.sdh_circuits.proofs.Kept.{in_ring}
 use Rattle.sdh_circuits.proofs.Adding.{fits}
 use Rattle.sdh_circuits.proofs.circuit_map.CircuitMap.check.Goals as goal
