@@ -92,7 +92,7 @@ in_a_row r event.Up = 1
 in_a_row r event.Down = 1
 in_a_row r (event.Ndf v) = 1
 
--- an event is counted, and the counts of the other kinds begin anew
+-- an event is counted, and the counts of the other kinds begin anew. Same, Up, Down and Ndf are taken at once.
 abbrev pub counted : Reading → Event → ℕ → Reading
 counted r event.Ais since = with_ais r since
 counted r event.Bad since = with_bad r since
