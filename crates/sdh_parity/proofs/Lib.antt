@@ -1,0 +1,6 @@
+pub mod Registers
+pub mod Table
+pub mod Parts
+pub mod Scrambled
+pub mod Lanes
+pub mod Differing

@@ -1,0 +1,11 @@
+-- Descrambling is scrambling.
+use Rattle.std.specs.Prelude.{ℕ, ◌≡◌, List, take}
+use Rattle.sdh_parity.specs.Scrambling.{scrambled}
+
+-- scrambling twice gives the bytes back
+abbrev pub ScramblingIsUndone : Type 0
+ScramblingIsUndone = (clear : ℕ) (bytes : List ℕ) → scrambled clear (scrambled clear bytes) ≡ bytes
+
+-- and the first bytes stay as they are
+abbrev pub ScramblingLeavesClear : Type 0
+ScramblingLeavesClear = (clear : ℕ) (bytes : List ℕ) → take clear (scrambled clear bytes) ≡ take clear bytes

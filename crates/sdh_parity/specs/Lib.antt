@@ -1,0 +1,4 @@
+pub mod Scrambling
+pub mod Parity
+pub mod Violations
+pub mod Laws

@@ -1,0 +1,15 @@
+//! The scrambler and the parities of a frame (ITU-T G.707 clauses 6.5 and 9.2), over plain bytes.
+#![tactic(auto)]
+
+mod difference;
+mod laws;
+mod parity;
+mod scrambler;
+
+pub use difference::violations;
+pub use laws::scrambling_is_undone;
+pub use parity::{bip_section, bip8};
+pub use scrambler::{Rate9, scramble};
+
+#[cfg(test)]
+mod tests;
