@@ -1,0 +1,3 @@
+pub mod Overhead
+pub mod Sections
+pub mod Laws

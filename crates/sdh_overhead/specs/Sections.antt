@@ -1,0 +1,89 @@
+-- A section: what it sends, what it finds in a received frame, and the parities that it keeps (ITU-T G.707 clause 9.2).
+use Rattle.std.specs.Prelude.{ℕ, ◌≡◌, ◌+◌, ◌*◌, ◌==◌, ◌&&◌, Bool, true, false, Option, Some, None, List, take, slice_range, slice_index, replicate, if◌then◌else◌}
+use Rattle.std.specs.List.{list_all}
+use Rattle.sdh_basics.specs.Parity.{bip8}
+use Rattle.sdh_frame.specs.declared.Rate.{Rate}
+use Rattle.sdh_frame.specs.Fields.{index_of}
+use Rattle.sdh_parity.specs.Scrambling.{scrambled}
+use Rattle.sdh_parity.specs.Parity.{section_parity}
+use Rattle.sdh_parity.specs.Violations.{differing_bits, violations_of}
+use Rattle.sdh_overhead.specs.Overhead.{Added, with_overhead}
+use Rattle.sdh_overhead.specs.declared.Received.{Received}
+use Rattle.sdh_overhead.specs.declared.Received.TheVariants.{Framed, Unframed}
+
+-- the parities of a frame
+pub record Parities : Type 0 where
+  pub b1 : ℕ
+  pub b2 : List ℕ
+
+-- B1 is over the whole frame on the line, B2 over the frame without scrambling
+unfoldable pub parities_of : ℕ → List ℕ → List ℕ → Parities
+parities_of n clear line = record { b1 = bip8 line; b2 = section_parity n clear }
+
+-- a section keeps the parities of the last frame, or none
+pub record Kept : Type 0 where
+  pub rate : Rate
+  pub last : Option Parities
+
+-- the parities in a frame after a frame with these: zeros where there was none
+abbrev pub placed_after : ℕ → Option Parities → Parities
+placed_after n None = record { b1 = 0; b2 = replicate (3 * n) 0 }
+placed_after n (Some last) = last
+
+abbrev pub added_after : ℕ → Option Parities → ℕ → ℕ → Added
+added_after n last k1 k2 = record { k1 = k1; k2 = k2; b1 = (placed_after n last).b1; b2 = (placed_after n last).b2 }
+
+-- the frame with all its overhead, before scrambling
+unfoldable pub clear_frame : ℕ → Option Parities → ℕ → ℕ → List ℕ → List ℕ
+clear_frame n last k1 k2 bytes = with_overhead n (added_after n last k1 k2) bytes
+
+-- the frame on the line
+abbrev pub line_frame : ℕ → Option Parities → ℕ → ℕ → List ℕ → List ℕ
+line_frame n last k1 k2 bytes = scrambled (9 * n) (clear_frame n last k1 k2 bytes)
+
+-- a frame is framed where all its bytes A1 and A2 have their values
+unfoldable pub is_framed : ℕ → List ℕ → Bool
+is_framed n bytes = list_all (λ x. x == 0xF6) (take (3 * n) bytes) && list_all (λ x. x == 0x28) (slice_range bytes (3 * n) (6 * n))
+
+-- the byte at a row and column
+abbrev pub byte_in : ℕ → List ℕ → ℕ → ℕ → ℕ
+byte_in n bytes row column = slice_index bytes (index_of n (record { row = row; column = column }))
+
+-- the bytes B2: row 5, columns 1 to 3 N
+abbrev pub b2_in : ℕ → List ℕ → List ℕ
+b2_in n bytes = slice_range bytes (1080 * n) (1083 * n)
+
+-- the bits in which B1 and B2 of a frame differ from the parities of the frame before
+abbrev pub b1_violations : ℕ → Option Parities → List ℕ → ℕ
+b1_violations n None clear = 0
+b1_violations n (Some last) clear = differing_bits last.b1 (byte_in n clear 2 1)
+
+abbrev pub b2_violations : ℕ → Option Parities → List ℕ → ℕ
+b2_violations n None clear = 0
+b2_violations n (Some last) clear = violations_of last.b2 (b2_in n clear)
+
+-- what a framed frame says, without scrambling
+unfoldable pub found_in : ℕ → Option Parities → List ℕ → Received
+found_in n last clear = Framed (byte_in n clear 5 (3 * n + 1)) (byte_in n clear 5 (6 * n + 1)) (b1_violations n last clear) (b2_violations n last clear)
+
+-- what a frame on the line says
+unfoldable pub received_in : ℕ → Option Parities → List ℕ → Received
+received_in n last line = if is_framed n line then found_in n last (scrambled (9 * n) line) else Unframed
+
+-- the parities after it: an unframed frame leaves none
+unfoldable pub kept_after : ℕ → List ℕ → Option Parities
+kept_after n line = if is_framed n line then Some (parities_of n (scrambled (9 * n) line) line) else None
+
+-- the frame after it: descrambled where it is framed
+unfoldable pub opened : ℕ → List ℕ → List ℕ
+opened n line = if is_framed n line then scrambled (9 * n) line else line
+
+-- the parities that a section's fields stand for
+abbrev pub last_of : ℕ → Bool → ℕ → List ℕ → Option Parities
+last_of n true b1 b2 = Some (record { b1 = b1; b2 = take (3 * n) b2 })
+last_of n false b1 b2 = None
+
+-- where there are none the fields are zeros, as they are sent in a first frame
+abbrev pub IsBlank : Bool → ℕ → List ℕ → Type 0
+IsBlank true b1 b2 = Unit {0}
+IsBlank false b1 b2 = (b1 ≡ 0) × (b2 ≡ replicate 48 0)

@@ -1,0 +1,21 @@
+//! Section overhead both ways (ITU-T G.707 clause 9.2): framing, K bytes, the parities B1 and B2, and the scrambler.
+#![tactic(auto)]
+
+mod laws;
+mod overhead;
+mod section;
+
+pub use laws::what_is_written_is_read;
+pub use section::{Section, read_section, write_section};
+
+/// What the overhead of a received frame says.
+#[derive(Clone, Copy, Debug, PartialEq, Eq)]
+pub enum Received {
+    /// The K bytes, and the bits in which B1 and B2 differ from the parities of the frame before: 0 where there was none.
+    Framed { k1: u8, k2: u8, b1: u32, b2: u32 },
+    /// A byte A1 or A2 differs.
+    Unframed,
+}
+
+#[cfg(test)]
+mod tests;
