@@ -20,7 +20,7 @@ use Rattle.sdh_parity.proofs.Differing.{differing_bits-same, violations_of-same}
 use Rattle.sdh_overhead.specs.declared.Received.TheVariants.{Framed, Unframed}
 use Rattle.sdh_overhead.specs.Overhead.{Added, written, byte_at, with_overhead}
 use Rattle.sdh_overhead.specs.Sections.{Parities, last_of, IsBlank, placed_after, added_after, clear_frame, parities_of, is_framed, byte_in, b2_in, b1_violations, b2_violations, found_in, received_in, kept_after, opened}
-use Rattle.sdh_overhead.specs.Laws.{AreParities, RoundTrip}
+use Rattle.sdh_overhead.specs.Laws.{AreParities, ComesBack}
 use Rattle.sdh_overhead.proofs.Rows.{field-a1, field-a2, field-b1, field-b2, field-k1, field-k2, byte_at-row, byte_at-payload, byte_at-pointer}
 
 abbrev zeros : ℕ → List ℕ
@@ -139,6 +139,10 @@ module _ (rate : Rate) (a : Added) (bytes : List ℕ) (whole : length bytes ≡ 
 
 -- ---- the round trip
 
+pub kept_whole : (n : ℕ) (known : Bool) (b1 : ℕ) (b2 : List ℕ) → 3 * n ≤ 48 → length b2 ≡ 48 → AreParities n (last_of n known b1 b2)
+kept_whole n true b1 b2 h len = length-take-le (3 * n) b2 (omega arith)
+kept_whole n false b1 b2 h len = tt
+
 placed-length : (n : ℕ) (last : Option Parities) → AreParities n last → length (placed_after n last).b2 ≡ 3 * n
 placed-length n None are = length-replicate (3 * n) 0
 placed-length n (Some last) are = are
@@ -157,7 +161,8 @@ no-b2 n (Some last) receiving clear (inl same) there = ap (λ (r : Option Pariti
 same-framed : (a b c d x y z w : ℕ) → a ≡ x → b ≡ y → c ≡ z → d ≡ w → Framed a b c d ≡ Framed x y z w
 same-framed a b c d x y z w p q r s = cc
 
-pub round-trip : RoundTrip
+pub round-trip : (rate : Rate) (sending receiving : Option Parities) (k1 k2 : ℕ) (bytes : List ℕ) → length bytes ≡ size_of rate → AreParities (n_of rate) sending
+    → (receiving ≡ sending) ⊎ (receiving ≡ None) → ComesBack rate sending receiving k1 k2 bytes
 unfolding clear_frame received_in kept_after opened found_in
 round-trip rate sending receiving k1 k2 bytes whole are held =
     let n = n_of rate in

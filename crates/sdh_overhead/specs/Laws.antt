@@ -1,7 +1,7 @@
 -- What a receiving section finds in what a sending section wrote.
-use Rattle.std.specs.Prelude.{ℕ, ◌≡◌, ◌*◌, ◌≤◌, ◌⊎◌, Option, Some, None, List, length}
+use Rattle.std.specs.Prelude.{ℕ, ◌≡◌, ◌*◌, ◌≤◌, Option, Some, None, List, length}
 use Rattle.sdh_frame.specs.declared.Rate.{Rate}
-use Rattle.sdh_frame.specs.Sizes.{n_of, size_of}
+use Rattle.sdh_frame.specs.Sizes.{n_of}
 use Rattle.sdh_frame.specs.Aus.{au_of}
 use Rattle.sdh_overhead.specs.declared.Received.TheVariants.{Framed}
 use Rattle.sdh_overhead.specs.Sections.{Parities, clear_frame, line_frame, parities_of, received_in, kept_after, opened}
@@ -18,7 +18,3 @@ pub record ComesBack (rate : Rate) (sending receiving : Option Parities) (k1 k2 
   pub parities : kept_after (n_of rate) (line_frame (n_of rate) sending k1 k2 bytes) ≡ Some (parities_of (n_of rate) (clear_frame (n_of rate) sending k1 k2 bytes) (line_frame (n_of rate) sending k1 k2 bytes))
   pub frame : opened (n_of rate) (line_frame (n_of rate) sending k1 k2 bytes) ≡ clear_frame (n_of rate) sending k1 k2 bytes
   pub aus : (au : ℕ) → 1 ≤ au → au ≤ n_of rate → au_of (n_of rate) au (clear_frame (n_of rate) sending k1 k2 bytes) ≡ au_of (n_of rate) au bytes
-
-abbrev pub RoundTrip : Type 0
-RoundTrip = (rate : Rate) (sending receiving : Option Parities) (k1 k2 : ℕ) (bytes : List ℕ) → length bytes ≡ size_of rate → AreParities (n_of rate) sending
-    → (receiving ≡ sending) ⊎ (receiving ≡ None) → ComesBack rate sending receiving k1 k2 bytes

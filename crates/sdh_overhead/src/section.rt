@@ -6,6 +6,7 @@ ghost use Rattle.sdh_parity.specs.Scrambling.{scrambled};
 ghost use Rattle.sdh_parity.specs.Parity.{section_parity};
 ghost use Rattle.sdh_overhead.specs.Overhead.{Added, with_overhead};
 ghost use Rattle.sdh_overhead.specs.Sections.{clear_frame, line_frame, parities_of, is_framed, found_in, received_in, kept_after, opened};
+ghost use Rattle.sdh_overhead.specs.Laws.{AreParities};
 
 use crate::Received;
 use crate::overhead::write_overhead;
@@ -102,6 +103,14 @@ impl Section {
         write_overhead(self.rate, k1, k2, self.b1, b2, bytes);
     }
 
+    // What every section keeps: none, or whole parities.
+    #[tactic(auto, using(crate::proofs::Trips::kept_whole))]
+    pub(crate) fn are_whole(&self)
+        ensures { AreParities (n_of self.now.rate) self.now.last }
+    {
+        let _ = &self.known;
+    }
+
     #[tactic(auto, unfolding(crate::specs::Sections::parities_of))]
     fn write(&mut self, k1: u8, k2: u8, bytes: &mut [u8])
         requires { length bytes.old ≡ size_of self.old.rate }
@@ -146,7 +155,9 @@ pub fn write_section(section: &mut Section, k1: u8, k2: u8, frame: &mut FrameBuf
     requires { frame.old.rate ≡ section.old.rate }
     ensures frame { frame.new ≡ record frame.old { bytes = line_frame (n_of section.old.rate) section.old.last k1 k2 frame.old.bytes } }
     ensures section { section.new ≡ record section.old { last = Some (parities_of (n_of section.old.rate) (clear_frame (n_of section.old.rate) section.old.last k1 k2 frame.old.bytes) frame.new.bytes) } }
+    ensures whole { AreParities (n_of section.old.rate) section.old.last }
 {
+    section.are_whole();
     section.write(k1, k2, frame.bytes_mut());
 }
 
