@@ -1,0 +1,5 @@
+pub mod Document
+pub mod Planned
+pub mod Circuits
+pub mod FirstForm
+pub mod Answers
