@@ -1,6 +1,6 @@
 //! Documents of the first form, and what is said of others.
 
-use crate::{PlanError, read_plan};
+use crate::{Plan, PlanError, read_plan};
 use sdh_circuits::{CircuitMap, End};
 use sdh_ringmap::{Pos, RingMap};
 use std::alloc::{AllocError, Global};
@@ -175,53 +175,68 @@ fn error_of(alloc: Global, document: &[u8]) -> Option<PlanError> {
     read_plan(alloc, document).err()
 }
 
-#[test]
-fn reads_each_part_of_a_plan(rt: HostRuntime) -> Result<(), Fail> {
-    // The document; rate, threshold, wait, limit and settle steps; the identifiers; the circuit's ends and slot, its name and texts.
-    let rows: [(&str, [u32; 5], &[u8], Option<([u8; 3], &str, &str, &str)>); 4] = [
-        (
-            SMALLEST,
-            [4, 3, 10, 1000, 1],
-            &[1, 2, 3],
-            Some(([0, 1, 1], "c1", "ALPHA", "BETA!")),
-        ),
-        (
-            FOUR_NODES,
-            [4, 3, 10, 1000, 1],
-            &[1, 2, 3, 4],
-            Some(([0, 2, 1], "c1", "ABCDEFG", "abcdefg")),
-        ),
-        (NO_CIRCUIT, [4, 3, 10, 1000, 1], &[1, 2, 3], None),
-        (
-            LARGEST,
-            [16, 48, 1_000_000, 65_536, 3],
-            &[15, 14, 13, 12, 11, 10, 9, 8, 7, 6, 5, 4, 3, 2, 1, 0],
-            Some(([0, 15, 8], "a-z_0123456789-z", " ", "~")),
-        ),
+// What a document is read as.
+struct Row {
+    document: &'static str,
+    // rate, threshold, wait, limit and settle steps
+    numbers: &'static [u32],
+    ids: &'static [u8],
+    // the ends and the slot of the circuit, or nothing
+    places: &'static [u8],
+    name: &'static str,
+    text_a: &'static str,
+    text_b: &'static str,
+}
+
+const ROWS: &[Row] = &[
+    Row {
+        document: SMALLEST,
+        numbers: &[4, 3, 10, 1000, 1],
+        ids: &[1, 2, 3],
+        places: &[0, 1, 1],
+        name: "c1",
+        text_a: "ALPHA",
+        text_b: "BETA!",
+    },
+    Row {
+        document: FOUR_NODES,
+        numbers: &[4, 3, 10, 1000, 1],
+        ids: &[1, 2, 3, 4],
+        places: &[0, 2, 1],
+        name: "c1",
+        text_a: "ABCDEFG",
+        text_b: "abcdefg",
+    },
+    Row {
+        document: NO_CIRCUIT,
+        numbers: &[4, 3, 10, 1000, 1],
+        ids: &[1, 2, 3],
+        places: &[],
+        name: "",
+        text_a: "",
+        text_b: "",
+    },
+    Row {
+        document: LARGEST,
+        numbers: &[16, 48, 1_000_000, 65_536, 3],
+        ids: &[15, 14, 13, 12, 11, 10, 9, 8, 7, 6, 5, 4, 3, 2, 1, 0],
+        places: &[0, 15, 8],
+        name: "a-z_0123456789-z",
+        text_a: " ",
+        text_b: "~",
+    },
+];
+
+// Whether the plan has these numbers and these nodes.
+fn has_settings(plan: &Plan, row: &Row) -> bool {
+    let settings = [
+        u32::from(plan.rate()),
+        u32::from(plan.threshold()),
+        plan.wait(),
+        plan.limit(),
+        plan.settles(),
     ];
-    for (document, numbers, ids, circuit) in rows {
-        let plan = read_plan(rt.alloc(), document.as_bytes())?;
-        let read = [
-            u32::from(plan.rate()),
-            u32::from(plan.threshold()),
-            plan.wait(),
-            plan.limit(),
-            plan.settles(),
-        ];
-        assert_eq!(rt; read, numbers, "{document}");
-        assert_eq!(rt; plan.map().len(), ids.len(), "{document}");
-        for (p, id) in ids.iter().enumerate() {
-            assert_eq!(rt; id_at(plan.map(), p), Some(*id), "{document}");
-        }
-        match circuit {
-            Some((places, name, text_a, text_b)) => assert!(rt;
-                has_circuit(plan.circuits(), places, name, text_a, text_b),
-                "{document}"
-            ),
-            None => assert_eq!(rt; plan.circuits().len(), 0, "{document}"),
-        }
-    }
-    Ok(())
+    settings.as_slice() == row.numbers && plan.map().len() == row.ids.len()
 }
 
 // The identifier at a position, if it is in the ring.
@@ -233,28 +248,31 @@ fn id_at(map: &RingMap, p: usize) -> Option<u8> {
     }
 }
 
-// Whether there is one circuit, with these ends and this slot, and with this name and these texts. Its traces are its name, and its offsets 0.
-fn has_circuit(
-    circuits: &CircuitMap,
-    places: [u8; 3],
-    name: &str,
-    text_a: &str,
-    text_b: &str,
-) -> bool {
+// Whether the plan has this circuit alone, or none. Its traces are its name, and its offsets 0.
+fn has_circuit(circuits: &CircuitMap, row: &Row) -> bool {
     if circuits.len() != 1 {
-        return false;
+        return circuits.len() == 0 && row.places.is_empty();
     }
     let circuit = circuits.get(0);
     let (a, b) = (circuit.port(End::A), circuit.port(End::B));
-    let placed = [circuit.from().0, circuit.to().0, circuit.slot().0] == places;
-    let texts = a.text() == text_a.as_bytes() && b.text() == text_b.as_bytes();
-    let traces = a.trace() == name.as_bytes() && b.trace() == name.as_bytes();
-    placed
-        && texts
-        && traces
-        && circuit.name().as_slice() == name.as_bytes()
-        && a.offset() == 0
-        && b.offset() == 0
+    let places = [circuit.from().0, circuit.to().0, circuit.slot().0];
+    let name = row.name.as_bytes();
+    let texts = a.text() == row.text_a.as_bytes() && b.text() == row.text_b.as_bytes();
+    let traces = a.trace() == name && b.trace() == name && a.offset() == 0 && b.offset() == 0;
+    places.as_slice() == row.places && circuit.name().as_slice() == name && texts && traces
+}
+
+#[test]
+fn reads_each_part_of_a_plan(rt: HostRuntime) -> Result<(), Fail> {
+    for row in ROWS {
+        let plan = read_plan(rt.alloc(), row.document.as_bytes())?;
+        assert!(rt; has_settings(&plan, row), "{}", row.document);
+        for (p, id) in row.ids.iter().enumerate() {
+            assert_eq!(rt; id_at(plan.map(), p), Some(*id), "{}", row.document);
+        }
+        assert!(rt; has_circuit(plan.circuits(), row), "{}", row.document);
+    }
+    Ok(())
 }
 
 #[test]
