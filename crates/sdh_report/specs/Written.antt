@@ -1,0 +1,11 @@
+-- A text with reserved room, as contracts see it.
+use Rattle.std.specs.Prelude.{ℕ, ◌-◌, List, ◌++◌, length}
+
+-- the bytes so far, and how many more have room
+pub record Written : Type 0 where
+  pub bytes : List ℕ
+  pub room : ℕ
+
+-- the text with a part behind it, which takes its room
+abbrev pub with_part : Written → List ℕ → Written
+with_part w part = record { bytes = w.bytes ++ part; room = w.room - length part }
