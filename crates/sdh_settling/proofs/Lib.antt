@@ -1,0 +1,21 @@
+mod Lists
+mod Counting
+mod Walks
+mod Requests
+mod OneNode
+mod Sources
+mod Bare
+mod Runs
+mod Spans
+mod Backward
+mod Levels
+mod Agreement
+mod Reach
+mod Firsts
+mod Ends
+mod Standing
+mod RunLaw
+mod Convergence
+pub mod Rounds
+pub mod Fixpoint
+pub mod Tracing

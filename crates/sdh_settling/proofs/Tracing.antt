@@ -1,0 +1,197 @@
+-- Relayed words traced to the node that sends them. No node relays a word of its own, each word has a source in the
+-- ring, and in a still ring what a node heard is what its neighbour sends now: so the way back ends at the source.
+use Rattle.std.proofs.Common.{◌≡◌, ◌≢◌, ℕ, zero, suc, ◌<◌, ◌≤◌, Bool, true, false, Option, Some, None, length, refl, ap, sym, ◌∙◌, arith, inl, inr, ◌⊎◌}
+use Rattle.std.specs.Prelude.{slice_index, ◌==◌, ◌&&◌, nat_le, if◌then◌else◌}
+use Rattle.std.proofs.lemmas.Bool.{le-leb}
+use Rattle.sdh_kbytes.specs.declared.K.{K}
+use Rattle.sdh_ringmap.specs.Places.{neighbour, opposite}
+use Rattle.sdh_ringmap.specs.declared.Side.{Side}
+use Rattle.sdh_ringmap.specs.declared.Side.TheVariants.{West, East}
+use Rattle.sdh_ringmap.specs.declared.Pos.{Pos}
+use Rattle.sdh_nodestate.specs.declared.NodeState.TheVariants as state
+use Rattle.sdh_nodestate.specs.Rules.{Scene, word_on, relayed, weight, weight_of, Choice, own_short, own_long, relay, rest, choose, chosen, word, word_by, switches, far, is_relay, state_by, state_after}
+use Rattle.sdh_settling.specs.Runs.{Run, at_round, IsRun}
+use Rattle.sdh_settling.specs.Walks.{go}
+use Rattle.sdh_settling.specs.Laws.{IsStillAfter, Relays, passed, LeadsBack, HasOneNotPassing, RelayedWordsLeadBack, NotAllPassThrough}
+use Rattle.sdh_settling.proofs.Walks.{go_below, go_to, neighbour_below, IsReached}
+use Rattle.sdh_settling.proofs.Sources.{relayed_heard}
+use Rattle.sdh_settling.proofs.OneNode.{word_relay}
+
+-- where there is no word to relay, none is relayed
+by_weights : (a b c d e : Bool) → e ≡ true → (if a then own_short else if b then own_long else if c then rest else if d then own_short else if e then own_long else relay) ≢ relay
+by_weights true b c d e h = λ f. cc
+by_weights false true c d e h = λ f. cc
+by_weights false false true d e h = λ f. cc
+by_weights false false false true e h = λ f. cc
+by_weights false false false false true h = λ f. cc
+by_weights false false false false false h = cc
+
+no_relay : (s l : ℕ) → choose s l 0 ≢ relay
+no_relay s l = by_weights (nat_le 11 s) (nat_le 11 l) ((s == 0) && (l == 0) && (0 == 0)) (nat_le l s && nat_le 0 s) (nat_le 0 l) (le-leb 0 l (omega arith))
+
+-- a node that relays has a word to relay
+relays_some_by : (s : Scene) (d : Side) (o : Option K) → relayed s d ≡ o → chosen s d ≡ relay → (k : K) × (relayed s d ≡ Some k)
+unfolding chosen
+relays_some_by s d None e f = absurd (no_relay (weight s d) (weight s (opposite d)) (ap (λ o. choose (weight s d) (weight s (opposite d)) (weight_of o)) (sym e) ∙ f))
+relays_some_by s d (Some k) e f = (k, e)
+
+-- a word that isn't relayed is the node's own
+own_by : (s : Scene) (d : Side) (c : Choice) → c ≢ relay → (word_by s d c).from ≡ slice_index s.ids s.at
+own_by s d own_short h = refl
+own_by s d own_long h = refl
+own_by s d relay h = absurd (h refl)
+own_by s d rest h = refl
+
+own_word_from : (s : Scene) (d : Side) → chosen s d ≢ relay → (word s d).from ≡ slice_index s.ids s.at
+unfolding word
+own_word_from s d h = own_by s d (chosen s d) h
+
+relays_or_not : (c : Choice) → (c ≡ relay) ⊎ (c ≢ relay)
+relays_or_not own_short = inr (λ e. cc)
+relays_or_not own_long = inr (λ e. cc)
+relays_or_not relay = inl refl
+relays_or_not rest = inr (λ e. cc)
+
+-- a relayed word was heard on the other side, and isn't the node's own
+pub record Foreign (s : Scene) (d : Side) : Type 0 where
+  pub heard : word_on s d ≡ Some (word s (opposite d))
+  pub foreign : (word s (opposite d)).from ≢ slice_index s.ids s.at
+
+foreign_with : (s : Scene) (d : Side) (k : K) → chosen s d ≡ relay → relayed s d ≡ Some k → (word_on s (opposite d) ≡ Some (word s d)) × ((word s d).from ≢ slice_index s.ids s.at)
+foreign_with s d k e f =
+    let h = relayed_heard s d k f in
+    let w = word_relay s d k e f in
+    (h.heard ∙ ap (λ x. Some x) (sym w), λ i. h.foreign (ap (λ (x : K). x.from) (sym w) ∙ i))
+
+foreign_on : (s : Scene) (d : Side) → chosen s d ≡ relay → (word_on s (opposite d) ≡ Some (word s d)) × ((word s d).from ≢ slice_index s.ids s.at)
+foreign_on s d e = let r = relays_some_by s d (relayed s d) refl e in foreign_with s d r.0 e r.1
+
+relays_foreign : (s : Scene) (d : Side) → chosen s (opposite d) ≡ relay → Foreign s d
+relays_foreign s West e = let f = foreign_on s East e in record { heard = f.0; foreign = f.1 }
+relays_foreign s East e = let f = foreign_on s West e in record { heard = f.0; foreign = f.1 }
+
+module _ (run : Run) (R : IsRun run) (t : ℕ) (still : IsStillAfter run t) where
+  abbrev n : ℕ
+  n = length run.ids
+
+  abbrev nx : ℕ → Side → ℕ
+  nx p d = neighbour (length run.ids) p d
+
+  nx_below : (p : ℕ) (d : Side) → nx p d < n
+  nx_below p d = neighbour_below n p d (let e = R.ids_ok.enough in omega arith)
+
+  abbrev away : ℕ → Side → K
+  away p d = passed run (suc t) p d
+
+  -- a relayed word is what the neighbour sends now
+  from_next : (p : ℕ) (d : Side) → p < n → Relays run (suc t) p d → away p d ≡ away (nx p d) d
+  from_next p d h e =
+      let f = relays_foreign (at_round run (suc t) p) d e in
+      R.past t p d (away p d) h f.heard ∙ sym (still (nx p d) (opposite d) (nx_below p d))
+
+  -- the way back from p, which may be no step long
+  pub record Back (most p : ℕ) (d : Side) : Type 0 where
+    pub steps : ℕ
+    pub few : steps ≤ most
+    pub between : (j : ℕ) → j < steps → Relays run (suc t) (go n d p j) d
+    pub same : (j : ℕ) → j ≤ steps → away (go n d p j) d ≡ away p d
+    pub own : (away p d).from ≡ slice_index run.ids (go n d p steps)
+
+  at_source : (most p : ℕ) (d : Side) → (away p d).from ≡ slice_index run.ids p → Back most p d
+  at_source most p d f = record {
+    steps = zero;
+    few = omega arith;
+    between = λ j h. absurd (omega arith);
+    same = λ j h. (let z : j ≡ zero = omega arith in ap (λ i. away (go n d p i) d) z);
+    own = f;
+  }
+
+  further_between : (m p : ℕ) (d : Side) (b : Back m (nx p d) d) → Relays run (suc t) p d → (j : ℕ) → j < suc b.steps → Relays run (suc t) (go n d p j) d
+  further_between m p d b e zero h = e
+  further_between m p d b e (suc j) h = b.between j (omega arith)
+
+  further_same : (m p : ℕ) (d : Side) (b : Back m (nx p d) d) → away p d ≡ away (nx p d) d → (j : ℕ) → j ≤ suc b.steps → away (go n d p j) d ≡ away p d
+  further_same m p d b e zero h = refl
+  further_same m p d b e (suc j) h = b.same j (omega arith) ∙ sym e
+
+  further : (m p : ℕ) (d : Side) → Relays run (suc t) p d → away p d ≡ away (nx p d) d → Back m (nx p d) d → Back (suc m) p d
+  further m p d r e b = record {
+    steps = suc b.steps;
+    few = (let few = b.few in omega arith);
+    between = further_between m p d b r;
+    same = further_same m p d b e;
+    own = ap (λ (w : K). w.from) e ∙ b.own;
+  }
+
+  trace_by : (m p : ℕ) (d : Side) → p < n → (away p d).from ≡ slice_index run.ids (go n d p m) → (chosen (at_round run (suc t) p) (opposite d) ≡ relay) ⊎ (chosen (at_round run (suc t) p) (opposite d) ≢ relay) → Back m p d
+  trace_by m p d h f (inr other) = at_source m p d (own_word_from (at_round run (suc t) p) (opposite d) other)
+  trace_by zero p d h f (inl e) = at_source zero p d f
+  trace_by (suc m) p d h f (inl e) =
+      let is = from_next p d h e in
+      further m p d e is (trace_by m (nx p d) d (nx_below p d) (ap (λ (w : K). w.from) (sym is) ∙ f) (relays_or_not (chosen (at_round run (suc t) (nx p d)) (opposite d))))
+
+  traced : (p : ℕ) (d : Side) → p < n → (x : ℕ) → (away p d).from ≡ slice_index run.ids x → (walk : IsReached n d p x) → Back walk.steps p d
+  traced p d h x f walk = trace_by walk.steps p d h (f ∙ ap (slice_index run.ids) (sym walk.is)) (relays_or_not (chosen (at_round run (suc t) p) (opposite d)))
+
+  leads_by : (m p : ℕ) (d : Side) → m < n → Relays run (suc t) p d → Back m p d → LeadsBack run (suc t) p d
+  leads_by m p d few e b = record {
+    steps = b.steps;
+    some = some_by b.steps refl;
+    few = (let x = b.few in omega arith);
+    between = b.between;
+    same = b.same;
+    own = b.own;
+  }
+    where
+      some_by : (k : ℕ) → b.steps ≡ k → 0 < b.steps
+      some_by zero z = absurd ((relays_foreign (at_round run (suc t) p) d e).foreign (b.own ∙ ap (λ k. slice_index run.ids (go n d p k)) z))
+      some_by (suc k) z = omega arith
+
+  pub leads_back : (p : ℕ) (d : Side) → p < n → Relays run (suc t) p d → LeadsBack run (suc t) p d
+  leads_back p d h e =
+      let m = R.sources (suc t) p (opposite d) h in
+      let walk = go_to n d p m.0 h m.1 in
+      leads_by walk.steps p d walk.few e (traced p d h m.0 (sym m.2) walk)
+
+  -- a node that passes through relays on both sides
+  passes_by : (a b c d : Bool) (v w : Option Pos) → state_by a b c d v w ≡ state.PassThrough tt → c ≡ true
+  passes_by true true c d v w e = cc
+  passes_by true false c d v w e = cc
+  passes_by false true c d v w e = cc
+  passes_by false false true d v w e = refl
+  passes_by false false false true v w e = cc
+  passes_by false false false false v w e = cc
+
+  relay_of : (c : Choice) → is_relay c ≡ true → c ≡ relay
+  relay_of own_short e = cc
+  relay_of own_long e = cc
+  relay_of relay e = refl
+  relay_of rest e = cc
+
+  passes_west : (p : ℕ) → state_after (at_round run (suc t) p) ≡ state.PassThrough tt → Relays run (suc t) p East
+  unfolding state_after
+  passes_west p e =
+      let s = at_round run (suc t) p in
+      relay_of (chosen s West) (passes_by (switches s West) (switches s East) (is_relay (chosen s West)) (is_relay (chosen s East)) (far s West) (far s East) e)
+
+  not_passing_by : (c : Choice) → chosen (at_round run (suc t) 0) West ≡ c → (c ≡ relay) ⊎ (c ≢ relay) → HasOneNotPassing run (suc t)
+  not_passing_by c is (inr other) = record { at = 0; inside = (let e = R.ids_ok.enough in omega arith); differs = λ e. other (sym is ∙ passes_west 0 e) }
+  not_passing_by c is (inl e) =
+      let first : 0 < n = let many = R.ids_ok.enough in omega arith in
+      let b = leads_back 0 East first (is ∙ e) in
+      let z = go n East 0 b.steps in
+      let source : (away z East).from ≡ slice_index run.ids z = ap (λ (w : K). w.from) (b.same b.steps (omega arith)) ∙ b.own in
+      record {
+        at = z;
+        inside = go_below n East 0 b.steps first;
+        differs = λ passes. (relays_foreign (at_round run (suc t) z) East (passes_west z passes)).foreign source;
+      }
+
+  pub not_passing : HasOneNotPassing run (suc t)
+  not_passing = not_passing_by (chosen (at_round run (suc t) 0) West) refl (relays_or_not (chosen (at_round run (suc t) 0) West))
+
+pub relayed_words_lead_back : RelayedWordsLeadBack
+relayed_words_lead_back run R t still p d h e = leads_back run R t still p d h e
+
+pub not_all_pass_through : NotAllPassThrough
+not_all_pass_through run R t still = not_passing run R t still

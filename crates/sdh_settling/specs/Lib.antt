@@ -1,0 +1,4 @@
+pub mod Signals
+pub mod Runs
+pub mod Walks
+pub mod Laws
