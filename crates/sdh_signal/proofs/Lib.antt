@@ -1,0 +1,4 @@
+mod Lists
+mod Scenes
+mod Shapes
+mod Rounds

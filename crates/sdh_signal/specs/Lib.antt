@@ -1,0 +1,2 @@
+pub mod SignalRing
+pub mod Shapes
