@@ -2,3 +2,4 @@ pub mod Places
 pub mod Highest
 pub mod Spans
 pub mod Ends
+pub mod Healthy

@@ -4,3 +4,4 @@ pub mod Routes
 pub mod History
 pub mod Rounds
 pub mod Settled
+pub mod Due

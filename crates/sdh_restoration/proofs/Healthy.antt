@@ -1,0 +1,34 @@
+-- A ring in which nothing is applied.
+use Rattle.std.proofs.Common.{◌≡◌, ℕ, ◌+◌, ◌-◌, ◌<◌, ◌≤◌, Bool, true, false, refl, sym, ap, ◌∙◌, arith}
+use Rattle.std.specs.Prelude.{if◌then◌else◌, ◌||◌}
+use Rattle.sdh_ringmap.specs.Arcs.{Arc, is_clear, is_joined, opposite_arc}
+use Rattle.sdh_ringmap.proofs.Clear.{none_of-never}
+use Rattle.sdh_payload.specs.Stream.{chunk_of}
+use Rattle.sdh_circuits.specs.Provisioned.{Provisioned, arc_of, customer_at}
+use Rattle.sdh_circuits.specs.declared.End.{End}
+use Rattle.sdh_restoration.specs.Routes.{hops}
+use Rattle.sdh_restoration.specs.Due.{Due, Chunk, Ais, due, other_end, nothing_applied}
+
+pub is_clear-nothing : (n : ℕ) (arc : Arc) → is_clear n nothing_applied arc ≡ true
+unfolding is_clear
+is_clear-nothing n arc = none_of-never (λ i. false) 0 arc.spans (λ j low high. refl)
+
+pub is_joined-nothing : (n : ℕ) (arc : Arc) → is_joined n nothing_applied arc ≡ true
+unfolding is_joined
+is_joined-nothing n arc = ap (λ b. b || is_clear n nothing_applied (opposite_arc n arc)) (is_clear-nothing n arc)
+
+then_first : (b : Bool) (x y : ℕ) → b ≡ true → (if b then x else y) ≡ x
+then_first b x y e = ap (λ c. if c then x else y) e
+
+-- the route is the arc
+pub hops-nothing : (n : ℕ) (arc : Arc) → hops n nothing_applied arc ≡ arc.spans
+unfolding hops
+hops-nothing n arc = then_first (is_clear n nothing_applied arc) arc.spans _ (is_clear-nothing n arc)
+
+-- each port is owed what the other one sent as many rounds before as the arc has spans
+pub due-nothing : (n : ℕ) (c : Provisioned) (end : End) (t : ℕ) → due n nothing_applied c end t ≡ Chunk (customer_at c (other_end end)).offset (chunk_of (customer_at c (other_end end)) (t - (arc_of n c).spans))
+unfolding due
+due-nothing n c end t =
+    let sender = customer_at c (other_end end) in
+    let owed : ℕ → Due = λ h. Chunk sender.offset (chunk_of sender (t - h)) in
+    ap (λ b. if b then owed (hops n nothing_applied (arc_of n c)) else Ais) (is_joined-nothing n (arc_of n c)) ∙ ap owed (hops-nothing n (arc_of n c))
