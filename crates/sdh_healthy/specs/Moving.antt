@@ -1,6 +1,5 @@
 -- The circuits of a healthy ring, both directions of each.
-use Rattle.std.specs.Prelude.{ℕ, ◌+◌, ◌<◌, List, map}
-use Rattle.std.specs.List.{All}
+use Rattle.std.specs.Prelude.{ℕ, ◌+◌, List, map}
 use Rattle.sdh_payload.specs.Customer.{Customer}
 use Rattle.sdh_ringmap.specs.Places.{eastwards}
 use Rattle.sdh_circuits.specs.Provisioned.{Provisioned}
@@ -31,7 +30,3 @@ moved_at n rounds c = record { a = c.a; b = c.b; hops = eastwards n c.from.0 c.t
 -- all circuits
 abbrev pub moving_at : ℕ → ℕ → List Provisioned → List Moved
 moving_at n rounds circuits = map (moved_at n rounds) circuits
-
--- the ends of each circuit are positions of a ring of n
-abbrev pub AreOn : ℕ → List Provisioned → Type 0
-AreOn n circuits = All (λ c. (c.from.0 < n) × (c.to.0 < n)) circuits

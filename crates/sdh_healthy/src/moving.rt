@@ -1,7 +1,7 @@
 //! The circuits of a healthy ring.
-ghost use Rattle.std.specs.Prelude.{◌≡◌, ◌≢◌, ◌⊎◌, ◌+◌, ◌^◌, ◌<◌, ◌≤◌, Some, [], IfOk, length, map};
+ghost use Rattle.std.specs.Prelude.{◌≡◌, ◌≢◌, ◌⊎◌, ◌+◌, ◌^◌, ◌<◌, ◌≤◌, Some, [], IfOk, IfSome, length, map};
 ghost use Rattle.std.specs.List.{All};
-ghost use Rattle.sdh_healthy.specs.Moving.{delivered, later, moved_at, moving_at, AreOn};
+ghost use Rattle.sdh_healthy.specs.Moving.{delivered, later, moved_at, moving_at};
 
 use crate::line::Line;
 use sdh_circuits::{Circuit, CircuitMap, End};
@@ -82,13 +82,13 @@ pub fn run(moving: &mut [Moving], rounds: u32)
     }
 }
 
-/// The circuits of a ring, on which nothing was sent yet.
+/// The circuits of a ring, on which nothing was sent yet. The circuit map keeps this ring, or has no circuits.
 pub fn circuits_at_rest(
     alloc: Global,
     map: &RingMap,
     circuits: &CircuitMap,
 ) -> Result<Vec<Moving>, AllocError>
-    requires { AreOn (length map.now) circuits.now.circuits }
+    requires { IfSome circuits.now.ring (λ ids. ids ≡ map.now) }
     ensures { IfOk result (λ moving. moving.items ≡ moving_at (length map.now) 0 circuits.now.circuits) }
 {
     let mut moving = Vec::new(alloc);

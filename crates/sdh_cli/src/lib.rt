@@ -1,0 +1,9 @@
+//! The program's one call: from the words and a source of bytes to a status and a text.
+#![tactic(auto)]
+
+mod reports;
+mod status;
+mod top;
+
+pub use status::Status;
+pub use top::sdhring;
