@@ -1,0 +1,62 @@
+-- Which circuit a node meets on each side in each slot, and which circuits may be carried round the ring. Squelching is
+-- that of ITU-T G.841, MS shared protection rings; the table's form is this project's own.
+use Rattle.std.specs.Prelude.{ℕ, ◌≡◌, ◌+◌, ◌-◌, ◌<◌, Bool, false, ◌&&◌, if◌then◌else◌, Option, Some, None, IfSome, List, [], ◌∷◌, ◌++◌, length, slice_index_or}
+use Rattle.std.specs.List.{All}
+use Rattle.sdh_basics.specs.Cells.{cells}
+use Rattle.sdh_ringmap.specs.Places.{span_at, in_chain}
+use Rattle.sdh_ringmap.specs.declared.Chain.{Chain}
+use Rattle.sdh_ringmap.specs.declared.Pos.{Pos}
+use Rattle.sdh_ringmap.specs.declared.Side.{Side}
+use Rattle.sdh_ringmap.specs.declared.Side.TheVariants.{West, East}
+use Rattle.sdh_circuits.specs.Provisioned.{Provisioned, is_on}
+use Rattle.sdh_squelch.specs.declared.Row.{Row}
+
+-- in a ring of n, the circuit on span s in slot m, with its end positions, among circuits numbered from i on
+abbrev pub circuit_from : ℕ → ℕ → ℕ → ℕ → List Provisioned → Option Row
+circuit_from n s m i [] = None
+circuit_from n s m i (c ∷ cs) =
+    if is_on n s m c then Some (record { circuit = i; from = c.from; to = c.to }) else circuit_from n s m (i + 1) cs
+
+-- the circuit, of those of a ring of n, whose arc holds span s in slot m; there is at most one
+abbrev pub circuit_on : ℕ → List Provisioned → ℕ → ℕ → Option Row
+circuit_on n circuits s m = circuit_from n s m 0 circuits
+
+-- the circuit in slot m on each side of the node at p
+abbrev pub circuits_at : ℕ → List Provisioned → ℕ → ℕ → Side → Option Row
+circuits_at n circuits p m d = circuit_on n circuits (span_at n p d) m
+
+-- the circuits in slots 1 to 8 on a side of the node at p
+abbrev pub slots_on : ℕ → List Provisioned → ℕ → Side → List (Option Row)
+slots_on n circuits p d = cells (λ i. circuits_at n circuits p (i + 1) d) 8
+
+-- A table as contracts see it: the identifiers of the ring, the position of the node, and the sixteen rows, those of
+-- the west side before those of the east side.
+pub record SquelchTable : Type 0 where
+  pub ring : List ℕ
+  pub at : Pos
+  pub rows : List (Option Row)
+
+-- the table of the node at a position of a ring with these circuits
+unfoldable pub table_of : List ℕ → List Provisioned → Pos → SquelchTable
+table_of ring circuits at =
+    let n = length ring in record { ring = ring; at = at; rows = slots_on n circuits at.0 West ++ slots_on n circuits at.0 East }
+
+-- the rows of a slot, by side
+abbrev pub row_at : List (Option Row) → ℕ → Side → Option Row
+row_at rows m West = slice_index_or rows (m - 1) None
+row_at rows m East = slice_index_or rows (m + 7) None
+
+-- both ends of a row's circuit are positions of a ring of n
+abbrev pub HasEnds : ℕ → Option Row → Type 0
+HasEnds n row = IfSome row (λ r. (r.from.0 < n) × (r.to.0 < n))
+
+-- what is true of every table
+pub record IsTable (t : SquelchTable) : Type 0 where
+  pub sixteen : length t.rows ≡ 16
+  pub inside : t.at.0 < length t.ring
+  pub ends : All (HasEnds (length t.ring)) t.rows
+
+-- a circuit is there, and both its ends are in the chain
+abbrev pub is_carried : ℕ → Option Row → Chain → Bool
+is_carried n None chain = false
+is_carried n (Some r) chain = in_chain n chain r.from.0 && in_chain n chain r.to.0

@@ -1,0 +1,163 @@
+//! What a node knows beforehand of the circuits that pass it: for each side and slot the circuit there and where it
+//! ends. By it a node that switches decides which slots it may carry round the ring, and squelches the others.
+#![tactic(auto)]
+
+ghost use Rattle.std.specs.Prelude.{◌≡◌, ◌≤◌, ◌<◌, ◌+◌, ◌-◌, ◌++◌, ◌⊎◌, ℕ, [], Some, option_map, length, IfOk, OnOk};
+ghost use Rattle.std.specs.List.{All};
+ghost use Rattle.sdh_basics.specs.Cells.{cells};
+ghost use Rattle.sdh_circuits.specs.Provisioning.{Provisioning, IsProvisioning};
+ghost use Rattle.sdh_squelch.specs.Table.{circuit_on, circuits_at, table_of, row_at, HasEnds, is_carried};
+ghost use Rattle.sdh_squelch.specs.Kept.{KeepsRing};
+
+use sdh_circuits::{CircuitMap, Slot};
+use sdh_ringmap::{Chain, Pos, RingMap, Side, Span};
+use std::alloc::{AllocError, Global};
+use std::marker::Model;
+
+/// A circuit on a span, by its number, with the positions of its two ends.
+#[derive(Clone, Copy, Debug, PartialEq, Eq)]
+pub struct Row {
+    pub circuit: u8,
+    pub from: Pos,
+    pub to: Pos,
+}
+
+/// The circuits on the two spans of a node, slot by slot.
+#[derive(Drop)]
+pub struct Table {
+    at: Pos,
+    map: RingMap,
+    rows: Vec<Option<Row>>,
+}
+
+impl Model for Table {
+    ghost use Rattle.sdh_squelch.specs.Table.{SquelchTable, IsTable};
+
+    ghost Value = { SquelchTable };
+
+    ghost view = { λ t. record { ring = t.map; at = t.at; rows = t.rows.items } };
+
+    ghost invariant = { λ t. IsTable (record { ring = t.map; at = t.at; rows = t.rows.items }) };
+}
+
+// The circuit on a span in a slot.
+fn row_on(map: &RingMap, circuits: &CircuitMap, span: Span, slot: Slot) -> Option<Row>
+    requires form { IsProvisioning circuits.now }
+    requires kept { KeepsRing circuits.now map.now }
+    ensures row { result ≡ circuit_on (length map.now) circuits.now.circuits span.0 slot.0 }
+    ensures ends { HasEnds (length map.now) result }
+{
+    match circuits.on_span(span, slot) {
+        Some(circuit) => {
+            let found = circuits.get(circuit);
+            Some(Row {
+                circuit,
+                from: found.from(),
+                to: found.to(),
+            })
+        }
+        None => None,
+    }
+}
+
+// Adds the circuits in slots 1 to 8 of a span.
+fn add_rows(
+    rows: &mut Vec<Option<Row>>,
+    map: &RingMap,
+    circuits: &CircuitMap,
+    span: Span,
+) -> Result<(), AllocError>
+    requires form { IsProvisioning circuits.now }
+    requires kept { KeepsRing circuits.now map.now }
+    requires ends { All (HasEnds (length map.now)) rows.old.items }
+    ensures rows { OnOk result (rows.new.items ≡ rows.old.items ++ cells (λ i. circuit_on (length map.now) circuits.now.circuits span.0 (i + 1)) 8) }
+    ensures ends { OnOk result (All (HasEnds (length map.now)) rows.new.items) }
+{
+    for i in 0..8u8 {
+        rows.push(row_on(map, circuits, span, Slot(i + 1)))?;
+    }
+    Ok(())
+}
+
+impl Table {
+    /// The table of the node at a position. All its memory is taken here.
+    #[tactic(auto, unfolding(crate::specs::Table::table_of))]
+    pub fn try_new(
+        alloc: Global,
+        map: &RingMap,
+        circuits: &CircuitMap,
+        at: Pos,
+    ) -> Result<Table, AllocError>
+        requires at { at.0 < length map.now }
+        requires kept { KeepsRing circuits.now map.now }
+        ensures table { IfOk result (λ table. table ≡ table_of map.now circuits.now.circuits at) }
+        ensures kept { IfOk result (λ table. (table.ring ≡ map.now) × (table.at ≡ at)) }
+        ensures rows { IfOk result (λ table. (m : ℕ) → 1 ≤ m → m ≤ 8 → row_at table.rows m ≡ circuits_at (length map.now) circuits.now.circuits at.0 m) }
+    {
+        let _count = circuits.len();
+        let mut rows = Vec::with_capacity(alloc, 16)?;
+        add_rows(&mut rows, map, circuits, map.span(at, Side::West))?;
+        add_rows(&mut rows, map, circuits, map.span(at, Side::East))?;
+        Ok(Table {
+            at,
+            map: map.copy(),
+            rows,
+        })
+    }
+
+    /// The sixteen rows, for slots 1 to 8 of the west side, then for slots 1 to 8 of the east side. A slot that the
+    /// ring doesn't have has no circuit.
+    pub fn rows(&self) -> &[Option<Row>]
+        ensures rows { result.now ≡ self.now.rows }
+        ensures sixteen { length self.now.rows ≡ 16 }
+    {
+        self.rows.as_slice()
+    }
+
+    // The row of a side and slot.
+    fn row(&self, side: Side, slot: Slot) -> Option<Row>
+        requires slot { (1 ≤ slot.0) × (slot.0 ≤ 8) }
+        ensures row { result ≡ row_at self.now.rows slot.0 side }
+        ensures ends { HasEnds (length self.now.ring) result }
+    {
+        let m = slot.0 as usize;
+        match side {
+            Side::West => self.rows[m - 1],
+            Side::East => self.rows[m + 7],
+        }
+    }
+
+    /// The number of the circuit on a side in a slot.
+    pub fn circuit(&self, side: Side, slot: Slot) -> Option<u8>
+        requires { (1 ≤ slot.0) × (slot.0 ≤ 8) }
+        ensures { result ≡ option_map (λ r. r.circuit) (row_at self.now.rows slot.0 side) }
+    {
+        let row = self.row(side, slot)?;
+        Some(row.circuit)
+    }
+
+    /// The positions of the two ends, port A's before port B's, of the circuit on a side in a slot.
+    pub fn ends(&self, side: Side, slot: Slot) -> Option<(Pos, Pos)>
+        requires { (1 ≤ slot.0) × (slot.0 ≤ 8) }
+        ensures { result ≡ option_map (λ r. (r.from, r.to)) (row_at self.now.rows slot.0 side) }
+    {
+        let row = self.row(side, slot)?;
+        Some((row.from, row.to))
+    }
+
+    /// Whether a circuit is on a side in a slot and both its ends are in the chain.
+    pub fn may_carry(&self, map: &RingMap, side: Side, slot: Slot, chain: Chain) -> bool
+        requires map { self.now.ring ≡ map.now }
+        requires slot { (1 ≤ slot.0) × (slot.0 ≤ 8) }
+        requires chain { chain.first.0 < length map.now }
+        ensures { result ≡ is_carried (length map.now) (row_at self.now.rows slot.0 side) chain }
+    {
+        match self.row(side, slot) {
+            Some(row) => map.has(chain, row.from) && map.has(chain, row.to),
+            None => false,
+        }
+    }
+}
+
+#[cfg(test)]
+mod tests;
