@@ -1,0 +1,170 @@
+//! What nodes of a ring of four connect. Each state comes from a step that hears words of other nodes, given by their two
+//! bytes; a side on which nothing is heard fails.
+ghost use Rattle.std.specs.Prelude.{◌≡◌, ◌<◌, length, if◌then◌else◌};
+ghost use Rattle.sdh_nodestate.specs.FarEnds.{far_of, IsElsewhere};
+ghost use Rattle.std.specs.Option.{is_none};
+
+use super::*;
+use sdh_circuits::{Asked, CircuitMap};
+use sdh_kbytes::{Code, K, decode};
+use sdh_nodestate::{Heard, Needs, start, step};
+use std::alloc::Global;
+
+type Bytes = Option<(u8, u8)>;
+
+// The words of a ring whose second span has failed at both ends, sent the long way by its ends.
+const FROM_2: Bytes = Some((0xb3, 0x2a));
+
+const FROM_3: Bytes = Some((0xb2, 0x3a));
+
+// The same of the first node, whose east span has failed.
+const FROM_1: Bytes = Some((0xb2, 0x1a));
+
+fn heard(bytes: Bytes) -> Option<K> {
+    match bytes {
+        Some((k1, k2)) => decode(k1, k2),
+        None => None,
+    }
+}
+
+// A side fails where nothing is heard there.
+fn local(word: Option<K>) -> Code
+    ensures { result ≡ (if is_none word then Code.Sf else Code.Nr) }
+{
+    match word {
+        None => Code::Sf,
+        Some(_) => Code::Nr,
+    }
+}
+
+// The state of a node that hears these words.
+fn state(map: &RingMap, at: Pos, west: Bytes, east: Bytes) -> NodeState
+    requires { at.0 < length map.now }
+    ensures { IsElsewhere (length map.now) at.0 (far_of result) }
+{
+    let heard = Heard {
+        west: heard(west),
+        east: heard(east),
+    };
+    let needs = Needs {
+        west: local(heard.west),
+        east: local(heard.east),
+        west_fails: heard.west.is_none(),
+        east_fails: heard.east.is_none(),
+    };
+    step(start(), map, at, needs, heard).0
+}
+
+// A circuit from one node to another in a slot.
+fn asked<'a>(name: &'a str, way: (i64, i64), slot: i64) -> Asked<'a> {
+    Asked {
+        name,
+        from: way.0,
+        to: way.1,
+        slot,
+        offset_a: 0,
+        offset_b: 0,
+        text_a: "ABCDEFG",
+        text_b: "abcdefg",
+        trace_a: "a",
+        trace_b: "b",
+    }
+}
+
+// The origins of both sides of a node in slot 1: working, protection and drop, west before east.
+type Origins = [Origin; 6];
+
+// The origins of a node that hears these words, in a ring of nodes 1 to 4 with two circuits.
+fn origins(
+    alloc: Global,
+    x: &Asked<'_>,
+    y: &Asked<'_>,
+    at: u8,
+    west: Bytes,
+    east: Bytes,
+) -> Option<Origins> {
+    let map = RingMap::new(&[1, 2, 3, 4]).ok()?;
+    let mut kept = CircuitMap::new(alloc, 2);
+    kept.add(&map, x).ok()?;
+    kept.add(&map, y).ok()?;
+    let at = Pos(at);
+    if at.0 as usize >= map.len() {
+        return None;
+    }
+    let table = Table::try_new(alloc, &map, &kept, at).ok()?;
+    let now = state(&map, at, west, east);
+    Some([
+        working_origin(&now, &map, &table, at, Side::West, Slot(1)),
+        working_origin(&now, &map, &table, at, Side::East, Slot(1)),
+        protection_origin(&now, &map, &table, at, Side::West, Slot(1)),
+        protection_origin(&now, &map, &table, at, Side::East, Slot(1)),
+        drop_origin(&now, &map, &table, at, Side::West, Slot(1)),
+        drop_origin(&now, &map, &table, at, Side::East, Slot(1)),
+    ])
+}
+
+fn port(circuit: u8, end: End) -> Origin {
+    Origin::Add(PortId { circuit, end })
+}
+
+const WEST: Origin = Origin::Protection(Side::West);
+
+const EAST: Origin = Origin::Protection(Side::East);
+
+const AIS: Origin = Origin::Ais;
+
+#[test]
+fn a_circuit_is_led_round_a_failed_span(rt: HostRuntime) {
+    let alloc = rt.alloc();
+    // in slot 1 there is one circuit, from node 1 to node 3
+    let x = asked("x", (1, 3), 1);
+    let y = asked("y", (1, 2), 2);
+    // the second node switches east, with the third as its far end
+    let second = origins(alloc, &x, &y, 1, FROM_3, None);
+    let west = Origin::Working(Side::West);
+    assert!(rt; second == Some([WEST, west, west, AIS, west, WEST]));
+    // the third node switches west, with the second as its far end
+    let third = origins(alloc, &x, &y, 2, None, FROM_2);
+    let east = Origin::Working(Side::East);
+    assert!(rt; third == Some([port(0, End::B), AIS, AIS, port(0, End::B), EAST, east]));
+    // the fourth passes through
+    let fourth = origins(alloc, &x, &y, 3, FROM_3, FROM_2);
+    assert!(rt; fourth == Some([AIS, AIS, EAST, WEST, west, east]));
+}
+
+#[test]
+fn circuits_of_an_isolated_node_meet_no_other(rt: HostRuntime) {
+    let alloc = rt.alloc();
+    // two circuits in one slot end at the second node, both of whose spans have failed
+    let x = asked("x", (1, 2), 1);
+    let y = asked("y", (2, 3), 1);
+    // the first node switches east, with the third as its far end, and the third west, with the first: the circuits'
+    // other ends aren't in their chain
+    let first = origins(alloc, &x, &y, 0, FROM_3, None);
+    assert!(rt;
+        first
+            == Some([
+                AIS,
+                port(0, End::A),
+                AIS,
+                AIS,
+                Origin::Working(Side::West),
+                AIS
+            ])
+    );
+    let third = origins(alloc, &x, &y, 2, None, FROM_1);
+    assert!(rt;
+        third
+            == Some([
+                port(1, End::B),
+                AIS,
+                AIS,
+                AIS,
+                AIS,
+                Origin::Working(Side::East)
+            ])
+    );
+    // every origin of the isolated node is AIS
+    let second = origins(alloc, &x, &y, 1, None, None);
+    assert!(rt; second == Some([AIS, AIS, AIS, AIS, AIS, AIS]));
+}
