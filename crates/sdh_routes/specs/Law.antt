@@ -1,0 +1,53 @@
+-- What the routes law says of a port and of a walk, in a ring of n whose node at p is in `state p` and whose span s is
+-- applied where `applied s`.
+use Rattle.std.specs.Prelude.{ℕ, ◌≡◌, ◌+◌, ◌*◌, ◌<◌, ◌≤◌, Bool, true, false, List, length, reverse}
+use Rattle.sdh_ringmap.specs.Arcs.{is_clear, is_joined}
+use Rattle.sdh_restoration.specs.Routes.{hops, route}
+use Rattle.sdh_circuits.specs.Provisioned.{Provisioned, arc_of}
+use Rattle.sdh_circuits.specs.declared.End.{End}
+use Rattle.sdh_circuits.specs.declared.End.TheVariants.{A, B}
+use Rattle.sdh_nodestate.specs.declared.NodeState.{NodeState}
+use Rattle.sdh_nodestate.specs.declared.NodeState.TheVariants as state
+use Rattle.sdh_bridge.specs.declared.Origin.TheVariants.{Ais}
+use Rattle.sdh_restoration.specs.Due.{other_end}
+use Rattle.sdh_routes.specs.Walks.{crossed, Stand, stand, port, port_at, Leads, IsOver, delivery}
+
+-- a walk leads to AIS, over fewer spans than the ring has
+abbrev pub IsSilent : ℕ → (ℕ → NodeState) → List Provisioned → ℕ → Stand → Type 0
+IsSilent n state cs m x = (k : ℕ) × (q : ℕ) × (k < n) × Leads n state cs m k x (stand q Ais)
+
+-- a port of a joined circuit gets what the circuit's other port sends, over so many spans; every other port gets AIS
+pub record IsRouted (n : ℕ) (applied : ℕ → Bool) (state : ℕ → NodeState) (cs : List Provisioned) (index : ℕ) (c : Provisioned) (e : End) : Type 0 where
+  pub joined : is_joined n applied (arc_of n c) ≡ true
+      → Leads n state cs c.slot.0 (hops n applied (arc_of n c)) (delivery n state cs c e) (stand (port_at c (other_end e)) (port index (other_end e)))
+  pub parted : is_joined n applied (arc_of n c) ≡ false → IsSilent n state cs c.slot.0 (delivery n state cs c e)
+
+-- the walk of a joined circuit's port leads over the spans of the route, from port B in the opposite order
+pub record IsAlongRoute (n : ℕ) (applied : ℕ → Bool) (state : ℕ → NodeState) (cs : List Provisioned) (c : Provisioned) : Type 0 where
+  pub span_count : length (route n applied (arc_of n c)) ≡ hops n applied (arc_of n c)
+  pub from_a : is_joined n applied (arc_of n c) ≡ true
+      → crossed n state cs c.slot.0 (hops n applied (arc_of n c)) (delivery n state cs c A) ≡ route n applied (arc_of n c)
+  pub from_b : is_joined n applied (arc_of n c) ≡ true
+      → crossed n state cs c.slot.0 (hops n applied (arc_of n c)) (delivery n state cs c B) ≡ reverse (route n applied (arc_of n c))
+
+-- a walk ends, over at most so many spans
+pub record Ends (n : ℕ) (state : ℕ → NodeState) (cs : List Provisioned) (m : ℕ) (bound : ℕ) (x : Stand) : Type 0 where
+  pub spans : ℕ
+  pub last : Stand
+  pub within : spans ≤ bound
+  pub over : IsOver last.origin
+  pub leads : Leads n state cs m spans x last
+
+-- a route over the arc has at most n - 1 spans, a switched one at most 2n - 3, and each at least one
+pub record IsShort (n : ℕ) (applied : ℕ → Bool) (c : Provisioned) : Type 0 where
+  pub straight : is_clear n applied (arc_of n c) ≡ true → hops n applied (arc_of n c) + 1 ≤ n
+  pub around : is_clear n applied (arc_of n c) ≡ false → hops n applied (arc_of n c) + 3 ≤ 2 * n
+  pub some : 1 ≤ hops n applied (arc_of n c)
+
+-- the node passes protection through
+abbrev pub is_pass : NodeState → Bool
+is_pass (state.PassThrough x) = true
+is_pass (state.Isolated x) = false
+is_pass (state.Idle x) = false
+is_pass (state.SwitchWest far) = false
+is_pass (state.SwitchEast far) = false

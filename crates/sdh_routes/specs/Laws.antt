@@ -1,0 +1,76 @@
+-- The laws of routes: for every ring, given by the requests rs of its spans, and all circuits of it, with each node in
+-- its settled state and connected by it.
+use Rattle.std.specs.Prelude.{ℕ, suc, ◌≡◌, ◌+◌, ◌*◌, ◌<◌, ◌≤◌, Bool, true, false, Some, List, length, slice_get}
+use Rattle.sdh_ringmap.specs.Places.{opposite, span_at}
+use Rattle.sdh_ringmap.specs.declared.Pos.{Pos}
+use Rattle.sdh_ringmap.specs.declared.Side.{Side}
+use Rattle.sdh_circuits.specs.Provisioned.{Provisioned}
+use Rattle.sdh_circuits.specs.Provisioning.{AreCircuits}
+use Rattle.sdh_circuits.specs.declared.End.{End}
+use Rattle.sdh_squelch.specs.Table.{circuit_on}
+use Rattle.sdh_nodestate.specs.declared.NodeState.{NodeState}
+use Rattle.sdh_restoration.specs.Applied.{is_applied}
+use Rattle.sdh_restoration.specs.Settled.{settled}
+use Rattle.sdh_bridge.specs.declared.Origin.{Origin}
+use Rattle.sdh_routes.specs.Steps.{going}
+use Rattle.sdh_restoration.specs.Due.{other_end}
+use Rattle.sdh_routes.specs.Walks.{Stand, stand, port, IsOver, Leads, carries_in, delivery}
+use Rattle.sdh_routes.specs.Law.{IsRouted, IsAlongRoute, IsShort, Ends, is_pass}
+use Rattle.sdh_routes.specs.Rounds.{AreCarried, IsDelivered, Spreads}
+
+-- a port of a joined circuit is led to the circuit's other port over exactly `hops` spans; every other port is led to
+-- AIS over fewer spans than the ring has
+abbrev pub EachPortIsRouted : Type 0
+EachPortIsRouted = (rs : List ℕ) (slots : ℕ) (cs : List Provisioned) → AreCircuits (length rs) slots cs
+    → (index : ℕ) (c : Provisioned) → slice_get cs index ≡ Some c → (e : End) → IsRouted (length rs) (is_applied rs) (settled rs) cs index c e
+
+-- the spans over which a port of a joined circuit is led are those of the route, in order; for port B in the opposite order
+abbrev pub EachWalkFollowsTheRoute : Type 0
+EachWalkFollowsTheRoute = (rs : List ℕ) (slots : ℕ) (cs : List Provisioned) → AreCircuits (length rs) slots cs
+    → (index : ℕ) (c : Provisioned) → slice_get cs index ≡ Some c → IsAlongRoute (length rs) (is_applied rs) (settled rs) cs c
+
+-- a port that is led to a port at all is led to its own circuit's other port
+abbrev pub NoPortMeetsAStranger : Type 0
+NoPortMeetsAStranger = (rs : List ℕ) (slots : ℕ) (cs : List Provisioned) → AreCircuits (length rs) slots cs
+    → (index : ℕ) (c : Provisioned) → slice_get cs index ≡ Some c → (e : End) (k q i : ℕ) (x : End)
+    → Leads (length rs) (settled rs) cs c.slot.0 k (delivery (length rs) (settled rs) cs c e) (stand q (port i x)) → (i ≡ index) × (x ≡ other_end e)
+
+-- a walk has one end and one length, whatever the states of the nodes
+abbrev pub EachWalkHasOneEnd : Type 0
+EachWalkHasOneEnd = (n : ℕ) (state : ℕ → NodeState) (cs : List Provisioned) (m j k : ℕ) (x y z : Stand)
+    → Leads n state cs m j x y → Leads n state cs m k x z → IsOver y.origin → IsOver z.origin → (j ≡ k) × (y ≡ z)
+
+-- whatever is followed from anywhere ends in AIS or at a port within 3n + 1 spans
+abbrev pub EachWalkEnds : Type 0
+EachWalkEnds = (rs : List ℕ) (slots : ℕ) (cs : List Provisioned) → AreCircuits (length rs) slots cs
+    → (m p : ℕ) (o : Origin) → p < length rs → Ends (length rs) (settled rs) cs m (3 * length rs + 1) (stand p o)
+
+-- going round the ring, on either side, meets a node that doesn't pass through
+abbrev pub TheProtectionRingIsOpen : Type 0
+TheProtectionRingIsOpen = (rs : List ℕ) (d : Side) (p : ℕ) → p < length rs
+    → (k : ℕ) × (k < length rs) × (is_pass (settled rs (going (length rs) d p (suc k))) ≡ false)
+
+-- what may be carried over a chain is, on the outward span of its far end, the same circuit
+abbrev pub ALoopedSlotMeetsItsOwnCircuit : Type 0
+ALoopedSlotMeetsItsOwnCircuit = (n slots : ℕ) (cs : List Provisioned) → AreCircuits n slots cs
+    → (d : Side) (q m : ℕ) (f : Pos) → q < n → f.0 < n → carries_in n cs q d m (Some f) ≡ true
+    → circuit_on n cs (span_at n f.0 (opposite d)) m ≡ circuit_on n cs (span_at n q d) m
+
+-- a route has at least one span; at most n - 1 where it isn't switched, at most 2n - 3 where it is
+abbrev pub RoutesAreShort : Type 0
+RoutesAreShort = (rs : List ℕ) (slots : ℕ) (cs : List Provisioned) → AreCircuits (length rs) slots cs
+    → (index : ℕ) (c : Provisioned) → slice_get cs index ≡ Some c → IsShort (length rs) (is_applied rs) c
+
+-- where the connections were unchanged for 2n rounds, a port delivers what was sent `hops` rounds before, or AIS. Values
+-- are of any type V
+abbrev pub PortsDeliverWhatWasSent : Type 0 → Type 0
+PortsDeliverWhatWasSent V = (rs : List ℕ) (slots : ℕ) (cs : List Provisioned) → AreCircuits (length rs) slots cs
+    → (value : ℕ → ℕ → Origin → V) (silence : V) (first last index : ℕ) (c : Provisioned) → slice_get cs index ≡ Some c
+    → AreCarried (length rs) (settled rs) cs c.slot.0 V value silence first last → first + 2 * length rs ≤ last
+    → (e : End) → IsDelivered (length rs) (is_applied rs) (settled rs) cs V value silence last index c e
+
+-- what takes w rounds a span to become steady is steady everywhere after w (3n + 1) rounds
+abbrev pub SteadinessSpreads : Type 0
+SteadinessSpreads = (rs : List ℕ) (slots : ℕ) (cs : List Provisioned) → AreCircuits (length rs) slots cs
+    → (m : ℕ) (steady : ℕ → ℕ → Origin → Bool) (first w : ℕ) → Spreads (length rs) (settled rs) cs m steady first w
+    → (p : ℕ) (o : Origin) → p < length rs → steady (first + w * (3 * length rs + 1)) p o ≡ true

@@ -1,0 +1,6 @@
+pub mod Steps
+pub mod Walks
+pub mod Law
+pub mod Rounds
+pub mod Laws
+pub mod Rings
