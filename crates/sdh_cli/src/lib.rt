@@ -3,6 +3,8 @@
 
 mod reports;
 mod status;
+#[cfg(test)]
+mod tests;
 mod top;
 
 pub use status::Status;
