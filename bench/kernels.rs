@@ -1,0 +1,258 @@
+//! The kernels of the crates beside the same kernels in plain Rust, in one process: what each takes at best, and the ratio.
+//!
+//! `bench/run` builds and runs this. The two sides take turns on equal buffers, and must agree on every byte that they write. A
+//! row is written as its kernel, its rate, and the least nanoseconds of the proved and of the plain kernel, with tabs between.
+
+mod ours;
+mod plain;
+
+use std::hint::black_box;
+use std::time::Instant;
+
+// Bytes before all code, as many as `bench/run` says: where a short loop lies can cost it a quarter. The flag R keeps them.
+std::arch::global_asm!(
+    ".pushsection .text.padding,\"axR\",@progbits",
+    concat!(".skip ", env!("PADDING")),
+    ".popsection",
+);
+
+/// How often all rows are measured: a neighbour on the machine disturbs some passes and not others.
+const PASSES: usize = 5;
+
+/// Samples of a row in a pass. The least time of each side counts, over all passes.
+const SAMPLES: usize = 300;
+
+/// Calls of a row over bytes in one sample.
+const CALLS: usize = 20;
+
+/// Frames that one call of a row over sections or payloads works on.
+const ROUNDS: u8 = 20;
+
+/// Chunks that one call of a row over streams makes.
+const CHUNKS: u32 = 500;
+
+/// Pointer words of one call.
+const WORDS: usize = 5000;
+
+const TEXT: &[u8] = b"The quick brown fox jumps over the lazy dog";
+
+const TRACE: &[u8] = b"north to south, port a";
+
+const OFFSET: u16 = 522;
+
+/// One line of the table: the least nanoseconds of a kernel on either side.
+struct Row {
+    kernel: &'static str,
+    rate: String,
+    ours: f64,
+    plain: f64,
+}
+
+/// Measures two sides that take turns; each call does `steps` steps.
+fn measure(
+    kernel: &'static str,
+    rate: String,
+    steps: usize,
+    mut ours: impl FnMut(),
+    mut plain: impl FnMut(),
+) -> Row {
+    let mut least = [f64::INFINITY; 2];
+    for _ in 0..SAMPLES {
+        let start = Instant::now();
+        ours();
+        least[0] = least[0].min(start.elapsed().as_nanos() as f64);
+        let start = Instant::now();
+        plain();
+        least[1] = least[1].min(start.elapsed().as_nanos() as f64);
+    }
+    let [ours, plain] = least.map(|time| time / steps as f64);
+    Row {
+        kernel,
+        rate,
+        ours,
+        plain,
+    }
+}
+
+/// Bytes that look random, the same in each run.
+fn noise(len: usize) -> Vec<u8> {
+    let mut state = 0x9E37_79B9_7F4A_7C15_u64;
+    let mut next = || {
+        state ^= state << 13;
+        state ^= state >> 7;
+        state ^= state << 17;
+        (state >> 32) as u8
+    };
+    (0..len).map(|_| next()).collect()
+}
+
+fn scramble_row(n: usize) -> Row {
+    let (mut left, mut right) = (noise(2430 * n), noise(2430 * n));
+    ours::scramble(n, &mut left);
+    plain::scramble(n, &mut right);
+    assert!(left == right && left != noise(2430 * n), "scramble");
+    measure(
+        "scramble",
+        format!("STM-{n}"),
+        CALLS,
+        || (0..CALLS).for_each(|_| ours::scramble(n, black_box(&mut left))),
+        || (0..CALLS).for_each(|_| plain::scramble(n, black_box(&mut right))),
+    )
+}
+
+fn bip8_row(n: usize) -> Row {
+    let frame = noise(2430 * n);
+    assert_eq!(ours::bip8(&frame), plain::bip8(&frame), "bip8");
+    measure(
+        "bip8",
+        format!("STM-{n}"),
+        CALLS,
+        || (0..CALLS).for_each(|_| _ = black_box(ours::bip8(black_box(&frame)))),
+        || (0..CALLS).for_each(|_| _ = black_box(plain::bip8(black_box(&frame)))),
+    )
+}
+
+fn bip_section_row(n: usize) -> Row {
+    let frame = noise(2430 * n);
+    let (mut left, mut right) = (vec![0; 3 * n], vec![0; 3 * n]);
+    ours::bip_section(n, &frame, &mut left);
+    plain::bip_section(n, &frame, &mut right);
+    assert_eq!(left, right, "bip_section");
+    measure(
+        "bip_section",
+        format!("STM-{n}"),
+        CALLS,
+        || (0..CALLS).for_each(|_| ours::bip_section(n, black_box(&frame), &mut left)),
+        || (0..CALLS).for_each(|_| plain::bip_section(n, black_box(&frame), &mut right)),
+    )
+}
+
+fn write_row(n: usize) -> Row {
+    let (mut left, mut right) = (noise(2430 * n), noise(2430 * n));
+    ours::write_sections(n, ROUNDS, &mut left);
+    plain::write_sections(n, ROUNDS, &mut right);
+    assert!(left == right, "write_section");
+    measure(
+        "write_section",
+        format!("STM-{n}"),
+        ROUNDS.into(),
+        || ours::write_sections(n, ROUNDS, black_box(&mut left)),
+        || plain::write_sections(n, ROUNDS, black_box(&mut right)),
+    )
+}
+
+fn read_row(n: usize) -> Row {
+    let mut left = noise(2430 * n);
+    plain::write_sections(n, ROUNDS, &mut left);
+    let mut right = left.clone();
+    let found = ours::read_sections(n, ROUNDS, &mut left);
+    assert_eq!(
+        found,
+        plain::read_sections(n, ROUNDS, &mut right),
+        "read_section"
+    );
+    assert!(left == right && found > 0, "frames of read_section");
+    measure(
+        "read_section",
+        format!("STM-{n}"),
+        ROUNDS.into(),
+        || _ = black_box(ours::read_sections(n, ROUNDS, black_box(&mut left))),
+        || _ = black_box(plain::read_sections(n, ROUNDS, black_box(&mut right))),
+    )
+}
+
+fn copy_row(n: usize) -> Row {
+    let (mut left, mut right) = (noise(2430 * n), noise(2430 * n));
+    ours::copy_payloads(n, ROUNDS, &mut left);
+    plain::copy_payloads(n, ROUNDS, &mut right);
+    assert!(left == right && left != noise(2430 * n), "copy_payload");
+    measure(
+        "copy_payload, one AU-4",
+        format!("STM-{n}"),
+        usize::from(ROUNDS) * n,
+        || ours::copy_payloads(n, ROUNDS, black_box(&mut left)),
+        || plain::copy_payloads(n, ROUNDS, black_box(&mut right)),
+    )
+}
+
+/// A word of some kind, for a byte that looks random: most are one normal word, the others AIS, new data flags, its I or D bits
+/// inverted, invalid words, and a few other values.
+fn word_of(kind: u8) -> u16 {
+    match kind {
+        0..=11 => 0xFFFF,
+        12..=19 => 0x9800 + u16::from(kind),
+        20..=35 => 0x6800 + (OFFSET ^ 0x2AA),
+        36..=51 => 0x6800 + (OFFSET ^ 0x155),
+        52..=59 => 0x0123,
+        60..=79 => 0x6800 + u16::from(kind % 3),
+        _ => 0x6800 + OFFSET,
+    }
+}
+
+fn pointer_row(kernel: &'static str, words: &[u16]) -> Row {
+    let (mut left, mut right) = (vec![0; words.len()], vec![0; words.len()]);
+    ours::pointers(words, &mut left);
+    plain::pointers(words, &mut right);
+    assert_eq!(left, right, "{kernel}");
+    measure(
+        kernel,
+        "one AU-4".into(),
+        words.len(),
+        || ours::pointers(black_box(words), black_box(&mut left)),
+        || plain::pointers(black_box(words), black_box(&mut right)),
+    )
+}
+
+fn chunk_row() -> Row {
+    let (mut left, mut right) = (vec![0; 2349], vec![0; 2349]);
+    for chunks in 1..200 {
+        ours::chunks(TEXT, TRACE, OFFSET, chunks, &mut left);
+        plain::chunks(TEXT, TRACE, OFFSET, chunks, &mut right);
+        assert_eq!(left, right, "chunk {chunks}");
+    }
+    measure(
+        "a port's chunk",
+        "one AU-4".into(),
+        CHUNKS as usize,
+        || ours::chunks(TEXT, TRACE, OFFSET, CHUNKS, black_box(&mut left)),
+        || plain::chunks(TEXT, TRACE, OFFSET, CHUNKS, black_box(&mut right)),
+    )
+}
+
+/// All rows, measured once.
+fn rows() -> Vec<Row> {
+    let of_frames = [
+        scramble_row,
+        bip8_row,
+        bip_section_row,
+        write_row,
+        read_row,
+        copy_row,
+    ];
+    let mut rows: Vec<Row> = of_frames.iter().flat_map(|row| [row(4), row(16)]).collect();
+    let steady = vec![0x6800 + OFFSET; WORDS];
+    rows.push(pointer_row("pointer step, one word for ever", &steady));
+    let mixed: Vec<u16> = noise(WORDS).into_iter().map(word_of).collect();
+    rows.push(pointer_row("pointer step, words of all kinds", &mixed));
+    rows.push(chunk_row());
+    rows
+}
+
+fn main() {
+    let mut best = rows();
+    for _ in 1..PASSES {
+        for (least, row) in best.iter_mut().zip(rows()) {
+            least.ours = least.ours.min(row.ours);
+            least.plain = least.plain.min(row.plain);
+        }
+    }
+    for Row {
+        kernel,
+        rate,
+        ours,
+        plain,
+    } in best
+    {
+        println!("{kernel}\t{rate}\t{ours}\t{plain}");
+    }
+}

@@ -1,0 +1,36 @@
+//! Chunks of a customer's stream.
+ghost use Rattle.std.specs.Prelude.{◌≡◌, ◌<◌, ◌^◌, length};
+
+use sdh_payload::{Cells, Feed, Port};
+use std::alloc::Global;
+
+/// Makes so many chunks of a port's stream, and gives the last of them. It is false where the port can't be made, or there is no
+/// memory or no chunk.
+#[unsafe(no_mangle)]
+pub extern "C" fn sdh_bench_chunks(
+    alloc: Global,
+    text: &[u8],
+    trace: &[u8],
+    offset: u16,
+    chunks: u32,
+    out: &mut [u8],
+) -> bool
+    requires { length out.old ≡ 2349 }
+{
+    let Ok(port) = Port::new(text, trace, offset) else {
+        return false;
+    };
+    let Ok(mut cells) = Cells::try_new(alloc) else {
+        return false;
+    };
+    let mut feed = Feed::new(&port);
+    for _ in 0..chunks {
+        feed.next(&mut cells);
+    }
+    let last = cells.as_slice();
+    if last.len() != out.len() {
+        return false;
+    }
+    out.copy_from_slice(last);
+    true
+}
