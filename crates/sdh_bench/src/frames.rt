@@ -80,8 +80,8 @@ pub extern "C" fn sdh_bench_read_sections(
     sum
 }
 
-/// Copies the payload of each AU-4 of a frame so many times over to the AU-4 behind it in another frame, and of the last to the first, and gives that frame. It is false
-/// where there is no memory.
+/// Copies the payload of each AU-4 of a frame so many times over to the AU-4 behind it in another frame, and that of the last to the
+/// first. It gives the other frame, whose overhead is zero. It is false where there is no memory.
 #[unsafe(no_mangle)]
 pub extern "C" fn sdh_bench_copy_payloads(
     alloc: Global,
