@@ -1,6 +1,6 @@
 //! The kernels of the crates beside the same kernels in plain Rust, in one process: what each takes at best, and the ratio.
 //!
-//! `bench/run` builds and runs this. The two sides take turns on equal buffers, and must agree on every byte that they write. A
+//! `bench/run` builds and runs this. The two sides take turns on the same buffers, and must agree on every byte that they write. A
 //! row is written as its kernel, its rate, and the least nanoseconds of the proved and of the plain kernel, with tabs between.
 
 mod ours;
@@ -26,7 +26,7 @@ const SAMPLES: usize = 300;
 const CALLS: usize = 20;
 
 /// Frames that one call of a row over sections or payloads works on.
-const ROUNDS: u8 = 20;
+const ROUNDS: u8 = 60;
 
 /// Chunks that one call of a row over streams makes.
 const CHUNKS: u32 = 500;
@@ -48,21 +48,22 @@ struct Row {
     plain: f64,
 }
 
-/// Measures two sides that take turns; each call does `steps` steps.
-fn measure(
+/// Measures two sides that take turns on one value, at one place in memory; each call does `steps` steps.
+fn measure<T>(
     kernel: &'static str,
     rate: String,
     steps: usize,
-    mut ours: impl FnMut(),
-    mut plain: impl FnMut(),
+    on: &mut T,
+    ours: impl Fn(&mut T),
+    plain: impl Fn(&mut T),
 ) -> Row {
     let mut least = [f64::INFINITY; 2];
     for _ in 0..SAMPLES {
         let start = Instant::now();
-        ours();
+        ours(black_box(on));
         least[0] = least[0].min(start.elapsed().as_nanos() as f64);
         let start = Instant::now();
-        plain();
+        plain(black_box(on));
         least[1] = least[1].min(start.elapsed().as_nanos() as f64);
     }
     let [ours, plain] = least.map(|time| time / steps as f64);
@@ -95,20 +96,22 @@ fn scramble_row(n: usize) -> Row {
         "scramble",
         format!("STM-{n}"),
         CALLS,
-        || (0..CALLS).for_each(|_| ours::scramble(n, black_box(&mut left))),
-        || (0..CALLS).for_each(|_| plain::scramble(n, black_box(&mut right))),
+        &mut left,
+        |frame| (0..CALLS).for_each(|_| ours::scramble(n, frame)),
+        |frame| (0..CALLS).for_each(|_| plain::scramble(n, frame)),
     )
 }
 
 fn bip8_row(n: usize) -> Row {
-    let frame = noise(2430 * n);
+    let mut frame = noise(2430 * n);
     assert_eq!(ours::bip8(&frame), plain::bip8(&frame), "bip8");
     measure(
         "bip8",
         format!("STM-{n}"),
         CALLS,
-        || (0..CALLS).for_each(|_| _ = black_box(ours::bip8(black_box(&frame)))),
-        || (0..CALLS).for_each(|_| _ = black_box(plain::bip8(black_box(&frame)))),
+        &mut frame,
+        |frame| (0..CALLS).for_each(|_| _ = black_box(ours::bip8(black_box(frame)))),
+        |frame| (0..CALLS).for_each(|_| _ = black_box(plain::bip8(black_box(frame)))),
     )
 }
 
@@ -122,8 +125,9 @@ fn bip_section_row(n: usize) -> Row {
         "bip_section",
         format!("STM-{n}"),
         CALLS,
-        || (0..CALLS).for_each(|_| ours::bip_section(n, black_box(&frame), &mut left)),
-        || (0..CALLS).for_each(|_| plain::bip_section(n, black_box(&frame), &mut right)),
+        &mut left,
+        |out| (0..CALLS).for_each(|_| ours::bip_section(n, black_box(&frame), out)),
+        |out| (0..CALLS).for_each(|_| plain::bip_section(n, black_box(&frame), out)),
     )
 }
 
@@ -136,8 +140,9 @@ fn write_row(n: usize) -> Row {
         "write_section",
         format!("STM-{n}"),
         ROUNDS.into(),
-        || ours::write_sections(n, ROUNDS, black_box(&mut left)),
-        || plain::write_sections(n, ROUNDS, black_box(&mut right)),
+        &mut left,
+        |frame| ours::write_sections(n, ROUNDS, frame),
+        |frame| plain::write_sections(n, ROUNDS, frame),
     )
 }
 
@@ -156,8 +161,9 @@ fn read_row(n: usize) -> Row {
         "read_section",
         format!("STM-{n}"),
         ROUNDS.into(),
-        || _ = black_box(ours::read_sections(n, ROUNDS, black_box(&mut left))),
-        || _ = black_box(plain::read_sections(n, ROUNDS, black_box(&mut right))),
+        &mut left,
+        |frame| _ = black_box(ours::read_sections(n, ROUNDS, frame)),
+        |frame| _ = black_box(plain::read_sections(n, ROUNDS, frame)),
     )
 }
 
@@ -170,8 +176,9 @@ fn copy_row(n: usize) -> Row {
         "copy_payload, one AU-4",
         format!("STM-{n}"),
         usize::from(ROUNDS) * n,
-        || ours::copy_payloads(n, ROUNDS, black_box(&mut left)),
-        || plain::copy_payloads(n, ROUNDS, black_box(&mut right)),
+        &mut left,
+        |frame| ours::copy_payloads(n, ROUNDS, frame),
+        |frame| plain::copy_payloads(n, ROUNDS, frame),
     )
 }
 
@@ -198,8 +205,9 @@ fn pointer_row(kernel: &'static str, words: &[u16]) -> Row {
         kernel,
         "one AU-4".into(),
         words.len(),
-        || ours::pointers(black_box(words), black_box(&mut left)),
-        || plain::pointers(black_box(words), black_box(&mut right)),
+        &mut left,
+        |sent| ours::pointers(black_box(words), sent),
+        |sent| plain::pointers(black_box(words), sent),
     )
 }
 
@@ -214,8 +222,9 @@ fn chunk_row() -> Row {
         "a port's chunk",
         "one AU-4".into(),
         CHUNKS as usize,
-        || ours::chunks(TEXT, TRACE, OFFSET, CHUNKS, black_box(&mut left)),
-        || plain::chunks(TEXT, TRACE, OFFSET, CHUNKS, black_box(&mut right)),
+        &mut left,
+        |chunk| ours::chunks(TEXT, TRACE, OFFSET, CHUNKS, chunk),
+        |chunk| plain::chunks(TEXT, TRACE, OFFSET, CHUNKS, chunk),
     )
 }
 
