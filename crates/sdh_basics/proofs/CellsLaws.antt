@@ -1,5 +1,6 @@
 -- Lists by a function of the place.
-use Rattle.std.proofs.Common.{◌≡◌, ℕ, zero, suc, ◌+◌, ◌<◌, List, [], ◌∷◌, ◌++◌, length, get_or, refl, ap, ◌∙◌, arith, sym}
+use Rattle.std.proofs.Common.{◌≡◌, ℕ, zero, suc, ◌+◌, ◌<◌, List, [], ◌∷◌, ◌++◌, length, get_or, refl, ap, ◌∙◌, arith, sym, append_assoc, append-nil}
+use Rattle.std.proofs.Math.Numerals.{suc-eq-add-one}
 use Rattle.std.proofs.lemmas.List.FromFn.{map-range_with_len_more, length-map-range_with_len, get_or-map-range_with_len}
 use Rattle.std.proofs.lemmas.List.{ext_get_or}
 use Rattle.sdh_basics.specs.Cells.{cells}
@@ -12,6 +13,13 @@ cells-zero f = refl
 pub cells-more : {X : Type 0} (f : ℕ → X) (n : ℕ) → cells f (n + 1) ≡ cells f n ++ f n ∷ []
 unfolding cells
 cells-more f n = map-range_with_len_more f 0 n n (omega arith)
+
+-- the first n places, then m more
+pub cells-append : {X : Type 0} (f : ℕ → X) (n m : ℕ) → cells f (n + m) ≡ cells f n ++ cells (λ k. f (n + k)) m
+cells-append f n zero = ap (cells f) (omega arith) ∙ sym (append-nil (cells f n)) ∙ ap (λ l. cells f n ++ l) (sym (cells-zero (λ k. f (n + k))))
+cells-append f n (suc m) =
+    ap (cells f) (omega arith) ∙ cells-more f (n + m) ∙ ap (λ l. l ++ f (n + m) ∷ []) (cells-append f n m) ∙ append_assoc (cells f n) (cells (λ k. f (n + k)) m) (f (n + m) ∷ [])
+    ∙ ap (λ l. cells f n ++ l) (sym (ap (cells (λ k. f (n + k))) (suc-eq-add-one m) ∙ cells-more (λ k. f (n + k)) m))
 
 pub length-cells : {X : Type 0} (f : ℕ → X) (n : ℕ) → length (cells f n) ≡ n
 unfolding cells

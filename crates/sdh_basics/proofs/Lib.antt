@@ -1,4 +1,5 @@
 pub mod Indexing
 pub mod CellsLaws
+pub mod Parts
 pub mod ParityLaws
 pub mod HexadecimalLaws

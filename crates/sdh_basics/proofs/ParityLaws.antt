@@ -1,9 +1,9 @@
--- The parity, byte by byte.
-use Rattle.std.proofs.Common.{◌≡◌, ℕ, zero, suc, ◌+◌, ◌*◌, ◌/◌, ◌%◌, ◌^◌, ◌<◌, ◌≤◌, List, [], ◌∷◌, ◌++◌, refl, sym, ap, ◌∙◌, arith, sum_by, bit_xor}
+-- The parity, byte by byte and of two lists.
+use Rattle.std.proofs.Common.{◌≡◌, ℕ, zero, suc, ◌+◌, ◌*◌, ◌/◌, ◌%◌, ◌^◌, ◌<◌, List, [], ◌∷◌, ◌++◌, refl, sym, ap, ◌∙◌, arith, bit_xor}
 use Rattle.std.specs.Int.{bit_at}
 use Rattle.std.proofs.lemmas.Nat.{xor_lt}
-use Rattle.std.proofs.lemmas.Nat.Bits.{bit_at_xor, same_from_bits_below, bit_at-zero, bit_at-suc, bit_at_lowest, bit_at-lt}
-use Rattle.std.proofs.lemmas.List.Sums.{sum_by_push}
+use Rattle.std.proofs.lemmas.Nat.Bits.{bit_at_xor, same_from_bits_below, bit_at-suc, bit_at_lowest}
+use Rattle.std.proofs.lemmas.List.Sums.{sum_by_push, sum_by-append}
 use Rattle.sdh_basics.specs.Parity.{ones_at, from_bits, bip8}
 
 low : (b m : ℕ) → b < 2 → (b + 2 * m) % 2 ≡ b
@@ -47,3 +47,13 @@ bip8-push bytes x h =
     (λ j lt. bit_at-bip8 (bytes ++ x ∷ []) j lt ∙ ap (λ n. n % 2) (sum_by_push (λ y. bit_at y j) bytes x)
     ∙ sym (mod_sum (ones_at j bytes) (bit_at x j))
     ∙ ap (λ n. (n + bit_at x j) % 2) (sym (bit_at-bip8 bytes j lt)) ∙ sym (bit_at_xor (bip8 bytes) x j))
+
+mod_sums : (a b : ℕ) → (a + b) % 2 ≡ (a % 2 + b % 2) % 2
+mod_sums a b = omega arith
+
+-- of two lists, one after the other
+pub bip8-append : (xs ys : List ℕ) → bip8 (xs ++ ys) ≡ bit_xor (bip8 xs) (bip8 ys)
+bip8-append xs ys =
+    same_from_bits_below 8 _ _ (bip8-lt _) (xor_lt 8 _ _ (bip8-lt xs) (bip8-lt ys))
+    (λ j lt. bit_at-bip8 (xs ++ ys) j lt ∙ ap (λ n. n % 2) (sum_by-append (λ y. bit_at y j) xs ys) ∙ mod_sums (ones_at j xs) (ones_at j ys)
+    ∙ ap (λ n. (n + ones_at j ys % 2) % 2) (sym (bit_at-bip8 xs j lt)) ∙ ap (λ n. (bit_at (bip8 xs) j + n) % 2) (sym (bit_at-bip8 ys j lt)) ∙ sym (bit_at_xor (bip8 xs) (bip8 ys) j))

@@ -1,9 +1,9 @@
 -- A circuit that passes all checks keeps the circuits apart.
-use Rattle.std.proofs.Common.{◌≡◌, ℕ, zero, suc, ◌<◌, ◌≤◌, List, [], ◌∷◌, ◌++◌, length, get_or, Bool, true, false, not, ◌&&◌, nat_le, Option, Some, None, refl, sym, ap, ◌∙◌, subst, arith, ◌⊎◌, inl, inr}
+use Rattle.std.proofs.Common.{◌≡◌, ℕ, zero, suc, ◌<◌, ◌≤◌, List, [], ◌∷◌, ◌++◌, length, get_or, Bool, true, false, not, nat_le, Option, Some, None, refl, sym, ap, ◌∙◌, subst, arith, ◌⊎◌, inl, inr}
 use Rattle.std.specs.Prelude.{ℤ, pos, negsuc, IfSome, slice_get}
 use Rattle.std.specs.List.{list_any}
 use Rattle.std.specs.Str.{bytes_eq}
-use Rattle.std.proofs.lemmas.Bool.{leb-true}
+use Rattle.std.proofs.lemmas.Bool.{and_parts, leb-true, not-true}
 use Rattle.std.proofs.lemmas.List.Folds.{list_any_at}
 use Rattle.std.proofs.lemmas.List.Elements.{All-push}
 use Rattle.std.proofs.lemmas.Slice.Eq.{bytes_eq-Decides}
@@ -93,17 +93,8 @@ with_one_more p ids c is same few ring slot form name room = record {
   circuits = one_more (length ids) p.slots p.circuits c (ring_of_map p.ring p.slots p.circuits ids is same) ring slot form name room;
 }
 
-both_true : (a b : Bool) → (a && b) ≡ true → (a ≡ true) × (b ≡ true)
-both_true true true e = (refl, refl)
-both_true true false e = cc
-both_true false b e = cc
-
-turned_true : (b : Bool) → not b ≡ true → b ≡ false
-turned_true true e = cc
-turned_true false e = refl
-
 in_slots : (slots : ℕ) (z : ℤ) → is_within 1 slots z ≡ true → (1 ≤ magnitude z) × (magnitude z ≤ slots)
-in_slots slots (pos n) e = let is = both_true (nat_le 1 n) (nat_le n slots) e in (leb-true 1 n is.0, leb-true n slots is.1)
+in_slots slots (pos n) e = let is = and_parts (nat_le 1 n) (nat_le n slots) e in (leb-true 1 n is.0, leb-true n slots is.1)
 in_slots slots (negsuc n) e = cc
 
 -- the circuit map with the circuit that is asked for, where its slot, its name and its spans are free
@@ -111,12 +102,12 @@ pub fits : (p : Provisioning) (ids : List ℕ) (wish : Wish) (c : Provisioned) �
     → c ≡ circuit_of ids wish → has_slot p.slots wish ≡ true → is_free_name p.circuits wish.name ≡ true → list_any (do_share (length ids) c) p.circuits ≡ false
     → IsProvisioning (with_circuit p ids c)
 fits p ids wish c is same few ring made slot free room =
-    let name = both_true (is_name wish.name) (not (list_any (λ d. bytes_eq d.name wish.name) p.circuits)) free in
+    let name = and_parts (is_name wish.name) (not (list_any (λ d. bytes_eq d.name wish.name) p.circuits)) free in
     let named : c.name ≡ wish.name = ap (λ d. d.name) made in
     let slotted : c.slot.0 ≡ magnitude wish.slot = ap (λ d. d.slot.0) made in
     let within = in_slots p.slots wish.slot slot in
     with_one_more p ids c is same few ring
     (record { from_1 = omega arith; small = omega arith })
     (ap is_name named ∙ name.0)
-    (ap (λ n. list_any (λ d. bytes_eq d.name n) p.circuits) named ∙ turned_true (list_any (λ d. bytes_eq d.name wish.name) p.circuits) name.1)
+    (ap (λ n. list_any (λ d. bytes_eq d.name n) p.circuits) named ∙ not-true (list_any (λ d. bytes_eq d.name wish.name) p.circuits) name.1)
     room

@@ -1,9 +1,10 @@
 -- There are at most as many circuits as spans with slots.
-use Rattle.std.proofs.Common.{◌≡◌, ℕ, zero, suc, ◌+◌, ◌-◌, ◌*◌, ◌<◌, ◌≤◌, List, [], ◌∷◌, length, map, get_or, true, Some, refl, sym, ap, ◌∙◌, arith, inl, inr}
-use Rattle.std.specs.List.{slice_get, list_any, IsDistinct}
+use Rattle.std.proofs.Common.{◌≡◌, ℕ, ◌+◌, ◌-◌, ◌*◌, ◌<◌, ◌≤◌, List, [], ◌∷◌, length, map, get_or, true, sym, ap, ◌∙◌, arith, inl, inr}
+use Rattle.std.specs.List.{list_any, IsDistinct}
 use Rattle.std.proofs.Math.Dec.{eqb}
 use Rattle.std.proofs.lemmas.Bool.{eqb-true, ne_eqb}
 use Rattle.std.proofs.lemmas.List.{get_or-map, length-map}
+use Rattle.std.proofs.lemmas.Option.{slice_get-get_or}
 use Rattle.std.proofs.lemmas.List.Folds.{Any-from_list_any}
 use Rattle.std.proofs.lemmas.Map.Steps.{length-le_from_distinct_below}
 use Rattle.std.proofs.lemmas.Map.Keys.{IsDistinct-from_apart}
@@ -17,12 +18,7 @@ use Rattle.sdh_circuits.specs.Provisioning.{Provisioning, IsProvisioning, AreCir
 key : Provisioned → ℕ
 key c = c.from.0 + 16 * (c.slot.0 - 1)
 
-pub slice_get_at : {X : Type 0} (xs : List X) (i : ℕ) (d : X) → i < length xs → slice_get xs i ≡ Some (get_or xs i d)
-slice_get_at [] i d h = absurd (omega arith)
-slice_get_at (x ∷ xs) zero d h = refl
-slice_get_at (x ∷ xs) (suc i) d h = slice_get_at xs i d (omega arith)
-
-same_slot : (s t : Slot) → s.0 ≡ t.0 → s ≡ t
+pub same_slot : (s t : Slot) → s.0 ≡ t.0 → s ≡ t
 same_slot s t e = let at : ℕ → Slot = λ k. record { 0 = k } in ap at e
 
 -- circuits with one first span and one slot are one circuit
@@ -35,7 +31,7 @@ one_start n slots circuits are i j d hi hj from slot =
     let rb = are.in_ring j d hj in
     let held : holds_span n (arc_of n a) a.from.0 ≡ true = holds_start n a.from.0 a.to.0 ra.from_inside ra.to_inside ra.two_ends in
     let also : holds_span n (arc_of n b) a.from.0 ≡ true = ap (holds_span n (arc_of n b)) from ∙ holds_start n b.from.0 b.to.0 rb.from_inside rb.to_inside rb.two_ends in
-    are.apart i j a.from.0 a b (slice_get_at circuits i d hi) (slice_get_at circuits j d hj) held also (same_slot a.slot b.slot slot)
+    are.apart i j a.from.0 a b (slice_get-get_or circuits i d hi) (slice_get-get_or circuits j d hj) held also (same_slot a.slot b.slot slot)
 
 -- circuits with one key are one circuit
 key_apart : (n slots : ℕ) (circuits : List Provisioned) → AreCircuits n slots circuits → n ≤ 16 → (i j : ℕ) (d : Provisioned) → i < length circuits → j < length circuits

@@ -3,7 +3,7 @@ use Rattle.std.proofs.Common.{◌≡◌, ◌≢◌, ℕ, ◌<◌, List, [], leng
 use Rattle.std.specs.Prelude.{ℤ, IfSome, ◌==◌}
 use Rattle.std.specs.List.{All, position_or_len}
 use Rattle.std.specs.Option.{option_map}
-use Rattle.std.proofs.lemmas.Bool.{eqb-true, ltb-true}
+use Rattle.std.proofs.lemmas.Bool.{both_ways, eqb-true, ltb-true, not-false, not-true}
 use Rattle.std.proofs.lemmas.List.Sums.{prefix_len_stops}
 use Rattle.std.specs.Ordering.{int_eq}
 use Rattle.std.proofs.lemmas.Bool.Decides.{Decides-int_eq}
@@ -33,12 +33,8 @@ placed : (b : Bool) (x : ℕ) (p : Pos) → option_map (λ k. record { 0 = k }) 
 placed true x p e = (refl, cc)
 placed false x p e = cc
 
-not_false : (b : Bool) → not b ≡ false → b ≡ true
-not_false true e = refl
-not_false false e = cc
-
 passes : (x id : ℕ) → not (x == id) ≡ false → x ≡ id
-passes x id e = eqb-true x id (not_false (x == id) e)
+passes x id e = eqb-true x id (not-false (x == id) e)
 
 -- a node that is found is in the ring and has its number
 found_here : (ids : List ℕ) (id : ℕ) (p : Pos) → found_at ids id ≡ Some p → (p.0 < length ids) × (get_or ids p.0 0 ≡ id)
@@ -60,12 +56,8 @@ node_here ids z p e =
     let at = found_here ids (magnitude z) p is.1 in
     (at.0, is.0, at.1)
 
-not_true : (b : Bool) → not b ≡ true → b ≡ true → ⊥
-not_true true e f = cc
-not_true false e f = cc
-
 one_number : (y z : ℤ) → not (int_eq y z) ≡ true → y ≡ z → ⊥
-one_number y z e same = not_true (int_eq y z) e ((Decides-int_eq y z).1 same)
+one_number y z e same = both_ways (int_eq y z) (not-true (int_eq y z) e) ((Decides-int_eq y z).1 same)
 
 -- the ends of a circuit of two nodes
 ends_inside : (ids : List ℕ) (y z : ℤ) (from to : Pos) → node_of ids y ≡ Some from → node_of ids z ≡ Some to → y ≢ z → (from.0 < length ids) × (to.0 < length ids) × (from.0 ≢ to.0)

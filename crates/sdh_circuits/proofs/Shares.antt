@@ -1,6 +1,7 @@
 -- Circuits that share a span and a slot.
 use Rattle.std.proofs.Common.{◌≡◌, ℕ, ◌<◌, ◌≤◌, get_or, Bool, true, false, ◌&&◌, ◌||◌, ◌==◌, nat_lt, refl, sym, ap, ◌∙◌, arith, inl, inr, lt-ltb, le-ltb, eq-eqb}
 use Rattle.std.specs.List.{list_any, range_with_len}
+use Rattle.std.proofs.lemmas.Bool.{and_from}
 use Rattle.std.proofs.lemmas.List.Folds.{list_any_at, list_any_none}
 use Rattle.std.proofs.lemmas.List.FromFn.{get_or-range_with_len, length-range_with_len}
 use Rattle.sdh_ringmap.specs.Places.{eastwards}
@@ -24,9 +25,6 @@ not_held n from to s h = sym (ap (λ b. b && nat_lt (eastwards n from s) (eastwa
 both_hold : ℕ → Provisioned → Provisioned → ℕ → Bool
 both_hold n c d s = holds_span n (arc_of n c) s && holds_span n (arc_of n d) s
 
-both : (a b : Bool) → a ≡ true → b ≡ true → (a && b) ≡ true
-both a b e f = cc
-
 not_both : (a b : Bool) → (a ≡ true → b ≡ true → ⊥) → (a && b) ≡ false
 not_both false b h = refl
 not_both true false h = refl
@@ -48,9 +46,9 @@ share_any : (n : ℕ) (c d : Provisioned) → IsInRing n c → IsInRing n d → 
     → list_any (both_hold n c d) (range_with_len 0 n) ≡ (h || k)
 unfolding both_hold
 share_any n c d hc hd true k e f =
-    shown n c d d.from.0 hd.from_inside (both (holds_span n (arc_of n c) d.from.0) (holds_span n (arc_of n d) d.from.0) (sym e) (holds_start n d.from.0 d.to.0 hd.from_inside hd.to_inside hd.two_ends))
+    shown n c d d.from.0 hd.from_inside (and_from (holds_span n (arc_of n c) d.from.0) (holds_span n (arc_of n d) d.from.0) (sym e) (holds_start n d.from.0 d.to.0 hd.from_inside hd.to_inside hd.two_ends))
 share_any n c d hc hd false true e f =
-    shown n c d c.from.0 hc.from_inside (both (holds_span n (arc_of n c) c.from.0) (holds_span n (arc_of n d) c.from.0) (holds_start n c.from.0 c.to.0 hc.from_inside hc.to_inside hc.two_ends) (sym f))
+    shown n c d c.from.0 hc.from_inside (and_from (holds_span n (arc_of n c) c.from.0) (holds_span n (arc_of n d) c.from.0) (holds_start n c.from.0 c.to.0 hc.from_inside hc.to_inside hc.two_ends) (sym f))
 share_any n c d hc hd false false e f =
     list_any_none (both_hold n c d) (range_with_len 0 n)
     (λ i x h. missed n c d (get_or (range_with_len 0 n) i x) hc hd e f)
@@ -65,5 +63,5 @@ pub shared : (n : ℕ) (c d : Provisioned) (s : ℕ) → holds_span n (arc_of n 
 unfolding do_share both_hold
 shared n c d s h k same =
     let slots : (c.slot.0 == d.slot.0) ≡ true = eq-eqb c.slot.0 d.slot.0 (ap (λ t. t.0) same) in
-    both (c.slot.0 == d.slot.0) (list_any (both_hold n c d) (range_with_len 0 n)) slots
-    (shown n c d s (held_inside n s (arc_of n c) h) (both (holds_span n (arc_of n c) s) (holds_span n (arc_of n d) s) h k))
+    and_from (c.slot.0 == d.slot.0) (list_any (both_hold n c d) (range_with_len 0 n)) slots
+    (shown n c d s (held_inside n s (arc_of n c) h) (and_from (holds_span n (arc_of n c) s) (holds_span n (arc_of n d) s) h k))

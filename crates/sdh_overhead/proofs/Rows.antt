@@ -1,12 +1,11 @@
 -- The overhead of a frame row by row.
 use Rattle.std.proofs.Common.{◌≡◌, ◌≢◌, ℕ, ◌+◌, ◌*◌, ◌-◌, ◌/◌, ◌%◌, ◌<◌, ◌≤◌, true, false, eqb, leb, ltb, List, length, get_or, take, drop, refl, ap, sym, ◌∙◌, arith, inl, inr}
 use Rattle.std.proofs.lemmas.Bool.{cases_lt, cases_eq, ne_eqb, eq-eqb, le-leb, lt-leb, le-ltb}
-use Rattle.std.proofs.lemmas.List.{places, ext_get_or}
-use Rattle.std.proofs.lemmas.Grind.{common_steps}
-use Rattle.std.proofs.Common.{rules}
+use Rattle.std.proofs.lemmas.List.{ext_get_or}
 use borrow.Rule.Slice.PartMut.{put_mid}
 use Rattle.std.proofs.lemmas.Nat.{div-mul-add, mod-mul-add}
 use Rattle.sdh_basics.proofs.CellsLaws.{length-map_from, get_or-placed}
+use Rattle.sdh_basics.proofs.Parts.{get_or-part, put_below, put_in, put_above}
 use Rattle.sdh_frame.specs.declared.Field as field
 use Rattle.sdh_frame.specs.declared.Field.TheVariants.{A1, A2, J0, Fixed, B1, B2, K1, K2, Unused, Pointer}
 use Rattle.sdh_frame.specs.Fields.{field_at}
@@ -162,18 +161,6 @@ byte_at-row n a r c i x h e =
     let column : i % (270 * n) ≡ c = ap (λ k. k % (270 * n)) (sym e) ∙ mod-mul-add r (270 * n) c h in
     ap (λ q. written a (field_at n (q + 1) (i % (270 * n) + 1)) x) row ∙ ap (λ m. written a (field_at n (r + 1) (m + 1)) x) column
 
-put_below : (a n : ℕ) (s part : List ℕ) (k : ℕ) → k < a → a ≤ length s → get_or (put_mid a n s part) k 0 ≡ get_or s k 0
-put_below a n s part k h r = search (rules, places)
-
-put_in : (a n : ℕ) (s part : List ℕ) (k : ℕ) → k < length part → a ≤ length s → get_or (put_mid a n s part) (a + k) 0 ≡ get_or part k 0
-put_in a n s part k h r = search (rules, places)
-
-put_above : (a n : ℕ) (s part : List ℕ) (k : ℕ) → a + n ≤ k → length part ≡ n → a ≤ length s → get_or (put_mid a n s part) k 0 ≡ get_or s k 0
-put_above a n s part k h e r = search (rules, places)
-
-taken : (a n : ℕ) (s : List ℕ) (k : ℕ) → k < n → get_or (take n (drop a s)) k 0 ≡ get_or s (a + k) 0
-taken a n s k h = search (rules, places)
-
 -- the rows below r are written, and the rest is as it was
 pub record RowsAre (n : ℕ) (a : Added) (r : ℕ) (old now : List ℕ) : Type 0 where
   pub done : (k : ℕ) → k < r * (270 * n) → get_or now k 0 ≡ byte_at n a k (get_or old k 0)
@@ -203,7 +190,7 @@ row-more n a r at m old now part at_is m_is room len each rows = record {
                     let short : c < length part = omega arith in
                     let first : c < 9 * n = omega arith in
                     ap (λ i. get_or (put_mid at m now part) i 0) (sym e) ∙ put_in at m now part c short (omega arith) ∙ each c first
-                    ∙ ap (written a (field_at n (r + 1) (c + 1))) (taken at m now c head ∙ ap (λ i. get_or now i 0) e ∙ kept) ∙ sym (byte_at-row n a r c k _ wide e2))
+                    ∙ ap (written a (field_at n (r + 1) (c + 1))) (get_or-part at m now c head ∙ ap (λ i. get_or now i 0) e ∙ kept) ∙ sym (byte_at-row n a r c k _ wide e2))
                 | inr tail ↦
                     put_above at m now part k (omega arith) len (omega arith) ∙ kept
                     ∙ sym (byte_at-row n a r c k _ wide e2 ∙ ap (λ (f : field.Field). written a f (get_or old k 0)) (field-payload n (r + 1) (c + 1) (omega arith)))
@@ -215,6 +202,3 @@ unfolding with_overhead
 rows-all n a old now lo ln rows =
     ext_get_or 0 now (with_overhead n a old) (ln ∙ sym (length-map_from (byte_at n a) 0 old ∙ lo)) (λ i lt.
     rows.done i (omega arith) ∙ sym (get_or-placed (byte_at n a) old i 0 0 (omega arith)))
-
-pub length-part : (a n : ℕ) (s : List ℕ) → a + n ≤ length s → length (take n (drop a s)) ≡ n
-length-part a n s h = grind (arith, common_steps)

@@ -3,8 +3,9 @@ use Rattle.std.proofs.Common.{◌≡◌, ℕ, zero, suc, ◌+◌, ◌*◌, ◌-�
 use Rattle.std.specs.Prelude.{◌==◌, slice_range, if◌then◌else◌}
 use Rattle.std.specs.List.{list_all}
 use Rattle.std.proofs.lemmas.Bool.{eq-eqb}
-use Rattle.std.proofs.lemmas.List.{ext_get_or, get_or-take, get_or-drop, length-take-le, length-take, length-drop, length-replicate}
+use Rattle.std.proofs.lemmas.List.{ext_get_or, get_or-take, get_or-drop, length-take-le, length-replicate}
 use Rattle.sdh_basics.proofs.CellsLaws.{cells-same, length-map_from, get_or-placed}
+use Rattle.sdh_basics.proofs.Parts.{length-range}
 use Rattle.sdh_frame.specs.declared.Rate.{Rate}
 use Rattle.sdh_frame.specs.declared.Rate.TheVariants.{Four, Sixteen}
 use Rattle.sdh_frame.specs.declared.Field as field
@@ -42,7 +43,7 @@ placed_blank n false b1 b2 h is = same 0 b1 (zeros (3 * n)) (take (3 * n) b2) (s
     same : (x y : ℕ) (xs ys : List ℕ) → x ≡ y → xs ≡ ys → parities x xs ≡ parities y ys
     same x y xs ys p q = λ i. parities (p i) (q i)
 
-all-from : (v : ℕ) (xs : List ℕ) → ((k : ℕ) → k < length xs → get_or xs k 0 ≡ v) → list_all (λ x. x == v) xs ≡ true
+pub all-from : (v : ℕ) (xs : List ℕ) → ((k : ℕ) → k < length xs → get_or xs k 0 ≡ v) → list_all (λ x. x == v) xs ≡ true
 all-from v [] h = refl
 all-from v (x ∷ xs) h =
     let first : (x == v) ≡ true = eq-eqb x v (h 0 (omega arith)) in
@@ -50,9 +51,6 @@ all-from v (x ∷ xs) h =
     rw (first, rest) refl
 
 -- ---- the overhead of a sent frame
-
-length-part : (a b : ℕ) (s : List ℕ) → a ≤ b → b ≤ length s → length (slice_range s a b) ≡ b - a
-length-part a b s low h = omega (arith, length-take (b - a) (drop a s), length-drop a s)
 
 module _ (rate : Rate) (a : Added) (bytes : List ℕ) (whole : length bytes ≡ size_of rate) where
   length-overhead : length (with_overhead (n_of rate) a bytes) ≡ 2430 * n_of rate
@@ -105,7 +103,7 @@ module _ (rate : Rate) (a : Added) (bytes : List ℕ) (whole : length bytes ≡ 
   b2-there len =
       let n = n_of rate in
       let clear = with_overhead n a bytes in
-      let size : length (b2_in n clear) ≡ 3 * n = omega (arith, length-part (1080 * n) (1083 * n) clear (omega arith) (omega (arith, length-overhead))) in
+      let size : length (b2_in n clear) ≡ 3 * n = length-range (1080 * n) (1083 * n) (3 * n) clear (omega arith) (omega (arith, length-overhead)) in
       ext_get_or 0 (b2_in n clear) a.b2 (size ∙ sym len) (λ i lt.
       (let h : i < 3 * n = omega arith in
       let back : i + 1 - 1 ≡ i = omega arith in
@@ -127,7 +125,7 @@ module _ (rate : Rate) (a : Added) (bytes : List ℕ) (whole : length bytes ≡ 
       let line = scrambled (9 * n) (with_overhead n a bytes) in
       let long : length line ≡ 2430 * n = length-scrambled (9 * n) (with_overhead n a bytes) ∙ length-overhead in
       let l1 : length (take (3 * n) line) ≡ 3 * n = length-take-le (3 * n) line (omega arith) in
-      let l2 : length (slice_range line (3 * n) (6 * n)) ≡ 3 * n = omega (arith, length-part (3 * n) (6 * n) line (omega arith) (omega arith)) in
+      let l2 : length (slice_range line (3 * n) (6 * n)) ≡ 3 * n = length-range (3 * n) (6 * n) (3 * n) line (omega arith) (omega arith) in
       let first = all-from 0xF6 (take (3 * n) line) (λ k lt.
       (let h : k < 3 * n = omega arith in
       get_or-take (3 * n) line k 0 h ∙ framing-there k 0xF6 A1 (omega arith) (field-a1 n k (omega arith) h) (λ x. refl))) in

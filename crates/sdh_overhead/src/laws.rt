@@ -1,6 +1,6 @@
-//! Laws of sections. The function changes nothing: its contract is the law.
+//! Laws of sections. The functions change nothing: their contracts are the laws.
 ghost use Rattle.std.specs.Prelude.{◌≡◌, ◌⊎◌, None};
-ghost use Rattle.sdh_overhead.specs.Laws.{ComesBack};
+ghost use Rattle.sdh_overhead.specs.Laws.{ComesBack, FieldsAreFound};
 
 use crate::Section;
 use sdh_frame::FrameBuf;
@@ -21,3 +21,9 @@ pub fn what_is_written_is_read(
     sending.are_whole();
     let _ = frame.bytes();
 }
+
+/// What `read_section` looks at are the bytes of the fields A1, A2, B1, B2, K1 and K2 by rows and columns: a frame is
+/// framed exactly where each byte A1 is F6 and each byte A2 is 28.
+pub fn fields_are_found()
+    ensures { FieldsAreFound }
+{}

@@ -5,7 +5,7 @@ mod laws;
 mod overhead;
 mod section;
 
-pub use laws::what_is_written_is_read;
+pub use laws::{fields_are_found, what_is_written_is_read};
 pub use section::{Section, read_section, write_section};
 
 /// What the overhead of a received frame says.

@@ -1,32 +1,18 @@
 -- The parities of lanes by strides, part by part.
 use Rattle.std.proofs.Common.{◌≡◌, ℕ, zero, suc, ◌+◌, ◌*◌, ◌-◌, ◌%◌, ◌^◌, ◌<◌, ◌≤◌, Bool, true, false, List, [], ◌∷◌, ◌++◌, length, take, drop, get_or, refl, ap, sym, ◌∙◌, arith, bit_xor, inl, inr}
 use Rattle.std.specs.Prelude.{slice_range, ◌==◌, if◌then◌else◌}
-use Rattle.std.specs.Int.{bit_at}
 use Rattle.std.specs.Simd.Lanes.{zip2, chunk, put_chunk}
 use Rattle.std.proofs.Math.Nat.{mod-eq_of_lt, mul-add-mod_self_right}
 use Rattle.std.proofs.Math.Seq.{take-add}
 use Rattle.std.proofs.lemmas.Bool.{cases_eq, cases_lt, eq-eqb, ne_eqb}
-use Rattle.std.proofs.lemmas.Nat.{xor_lt, mul-add-lt}
-use Rattle.std.proofs.lemmas.Nat.Bits.{bit_at_xor, same_from_bits_below}
+use Rattle.std.proofs.lemmas.Nat.{mul-add-lt}
 use Rattle.std.proofs.lemmas.List.{length-append, length-take-le, length-take, length-drop, take_rest, take_all, get_or-take, get_or-drop}
-use Rattle.std.proofs.lemmas.List.Sums.{sum_by-append}
 use Rattle.std.proofs.lemmas.Simd.{length-zip2, get_or-zip2, length-chunk, get_or-chunk, length-put_chunk, get_or-put_chunk_below, get_or-put_chunk_at}
-use Rattle.sdh_basics.specs.Parity.{ones_at, bip8}
-use Rattle.sdh_basics.proofs.ParityLaws.{bip8-lt, bit_at-bip8, bip8-nil, bip8-push}
+use Rattle.sdh_basics.specs.Parity.{bip8}
+use Rattle.sdh_basics.proofs.ParityLaws.{bip8-nil, bip8-push, bip8-append}
+use Rattle.sdh_basics.proofs.Parts.{length-range}
 use Rattle.sdh_basics.proofs.CellsLaws.{cells-zero, cells-more, cells-same, cells-from}
 use Rattle.sdh_parity.specs.Parity.{lane_from, lane, bip_lanes, section_bytes, section_parity, every}
-
--- ---- BIP-8 of two lists
-
-mod_two : (a b : ℕ) → (a + b) % 2 ≡ (a % 2 + b % 2) % 2
-mod_two a b = omega arith
-
-pub bip8-append : (xs ys : List ℕ) → bip8 (xs ++ ys) ≡ bit_xor (bip8 xs) (bip8 ys)
-bip8-append xs ys =
-    same_from_bits_below 8 _ _ (bip8-lt (xs ++ ys)) (xor_lt 8 _ _ (bip8-lt xs) (bip8-lt ys)) (λ j lt.
-    bit_at-bip8 (xs ++ ys) j lt ∙ ap (λ n. n % 2) (sum_by-append (λ x. bit_at x j) xs ys) ∙ mod_two (ones_at j xs) (ones_at j ys)
-    ∙ ap (λ a. (a + ones_at j ys % 2) % 2) (sym (bit_at-bip8 xs j lt)) ∙ ap (λ b. (bit_at (bip8 xs) j + b) % 2) (sym (bit_at-bip8 ys j lt))
-    ∙ sym (bit_at_xor (bip8 xs) (bip8 ys) j))
 
 -- ---- lanes
 
@@ -112,9 +98,6 @@ lane-part m i c a b bytes h e room =
 lane-rest : (m i c a : ℕ) (bytes : List ℕ) → i < m → length bytes ≡ a + c * m → lane m i (drop a bytes) ≡ every (a + i) m c bytes
 lane-rest m i c a bytes h e = ap (lane m i) (sym (take_rest bytes a)) ∙ lane-part m i c a (length bytes) bytes h e (omega arith)
 
-length-part : (bytes : List ℕ) (a b size : ℕ) → b ≤ length bytes → b ≡ a + size → length (slice_range bytes a b) ≡ size
-length-part bytes a b size h e = omega (arith, length-take (b - a) (drop a bytes), length-drop a bytes)
-
 -- BIP-8 of a lane of four parts, of which the first three are whole rows
 lane-four : (m i c : ℕ) (p q r s : List ℕ) → length p ≡ c * m → length q ≡ c * m → length r ≡ c * m
     → bip8 (lane m i (p ++ q ++ r ++ s)) ≡ bit_xor (bit_xor (bit_xor (bip8 (lane m i p)) (bip8 (lane m i q))) (bip8 (lane m i r))) (bip8 (lane m i s))
@@ -133,7 +116,8 @@ unfolding section_bytes
 section-lane n j bytes len h =
     let m : ℕ = 3 * n in
     lane-four m j 87 (slice_range bytes (9 * n) (270 * n)) (slice_range bytes (279 * n) (540 * n)) (slice_range bytes (549 * n) (810 * n)) (drop (810 * n) bytes)
-    (length-part bytes (9 * n) (270 * n) (87 * m) (omega arith) (omega arith)) (length-part bytes (279 * n) (540 * n) (87 * m) (omega arith) (omega arith)) (length-part bytes (549 * n) (810 * n) (87 * m) (omega arith) (omega arith))
+    (length-range (9 * n) (270 * n) (87 * m) bytes (omega arith) (omega arith)) (length-range (279 * n) (540 * n) (87 * m) bytes (omega arith) (omega arith))
+    (length-range (549 * n) (810 * n) (87 * m) bytes (omega arith) (omega arith))
     ∙ ap (λ z. bit_xor (bit_xor (bit_xor (bip8 z) (bip8 (lane m j (slice_range bytes (279 * n) (540 * n))))) (bip8 (lane m j (slice_range bytes (549 * n) (810 * n))))) (bip8 (lane m j (drop (810 * n) bytes))))
     (lane-part m j 87 (9 * n) (270 * n) bytes h (omega arith) (omega arith))
     ∙ ap (λ z. bit_xor (bit_xor (bit_xor (bip8 (every (9 * n + j) m 87 bytes)) (bip8 z)) (bip8 (lane m j (slice_range bytes (549 * n) (810 * n))))) (bip8 (lane m j (drop (810 * n) bytes))))

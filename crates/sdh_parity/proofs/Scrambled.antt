@@ -9,7 +9,7 @@ use Rattle.sdh_basics.specs.Indexed.{map_from}
 use Rattle.sdh_basics.proofs.CellsLaws.{length-map_from, get_or-placed}
 use Rattle.sdh_parity.specs.Scrambling.{scrambling_byte, scrambled_byte, scrambled}
 use Rattle.sdh_parity.specs.Laws.{ScramblingIsUndone, ScramblingLeavesClear}
-use Rattle.sdh_parity.proofs.Parts.{put_below, put_in, taken}
+use Rattle.sdh_basics.proofs.Parts.{get_or-part, put_below, put_in}
 
 pub length-scrambled : (clear : ℕ) (bytes : List ℕ) → length (scrambled clear bytes) ≡ length bytes
 unfolding scrambled
@@ -72,7 +72,7 @@ whole clear old part room len each =
           let jm : j < length (take n (drop clear old)) = omega arith in
           let jn : j < n = omega arith in
           ap (λ k. get_or (put_mid clear n old part) k 0) (sym e) ∙ put_in clear n old part j jp room ∙ each j jm
-          ∙ ap (λ x. bit_xor x (scrambling_byte j)) (taken clear n old j jn ∙ ap (λ k. get_or old k 0) e)
+          ∙ ap (λ x. bit_xor x (scrambling_byte j)) (get_or-part clear n old j jn ∙ ap (λ k. get_or old k 0) e)
           ∙ sym (get_or-scrambled clear old i h ∙ byte-added clear i _ above)
     ]))
   where

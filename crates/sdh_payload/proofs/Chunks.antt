@@ -1,11 +1,10 @@
 -- Chunks as parts of the stream.
 use Rattle.std.proofs.Common.{◌≡◌, ℕ, zero, suc, ◌+◌, ◌-◌, ◌*◌, ◌%◌, ◌<◌, ◌==◌, if◌then◌else◌, ◌++◌, length, get_or, refl, sym, ap, ◌∙◌, arith}
 use Rattle.sdh_basics.specs.Cells.{cells}
-use Rattle.sdh_basics.proofs.CellsLaws.{cells-zero, length-cells, get_or-cells}
+use Rattle.sdh_basics.proofs.CellsLaws.{cells-zero, cells-append, length-cells, get_or-cells}
 use Rattle.sdh_payload.specs.Customer.{Customer}
 use Rattle.sdh_payload.specs.Stream.{padded, phase_of, b3_of, container_byte, stream_byte, chunk_of}
 use Rattle.sdh_payload.specs.Laws.{chunks_before, begun_in, ChunksAreTheStream, BeginsAtTheOffset}
-use Rattle.sdh_payload.proofs.Lists.{cells-append}
 use Rattle.sdh_payload.proofs.Containers.{container_byte-at, vc4_byte-overhead}
 
 pub length-chunk_of : (port : Customer) (j : ℕ) → length (chunk_of port j) ≡ 2349

@@ -4,12 +4,11 @@ use Rattle.std.proofs.Math.Nat.{mod-add-mod}
 use Rattle.std.proofs.lemmas.List.{get_or_append_left, get_or-append_right, get_or-replicate}
 use Rattle.sdh_basics.specs.Parity.{bip8}
 use Rattle.sdh_basics.specs.Cells.{cells}
-use Rattle.sdh_basics.proofs.CellsLaws.{cells-zero, cells-more, cells-same, length-cells}
-use Rattle.sdh_basics.proofs.ParityLaws.{bip8-push}
+use Rattle.sdh_basics.proofs.CellsLaws.{cells-zero, cells-more, cells-append, cells-same, length-cells}
+use Rattle.sdh_basics.proofs.ParityLaws.{bip8-push, bip8-append}
 use Rattle.sdh_payload.specs.Customer.{Customer}
 use Rattle.sdh_payload.specs.Stream.{padded, path_overhead, text_place, byte_at, vc4_byte, vc4_front, b3_of, container_byte, start_of, stream_byte, chunk_of}
 use Rattle.sdh_payload.specs.Walk.{text_before, containers_from, repeated_from}
-use Rattle.sdh_payload.proofs.Lists.{cells-append, bip8-append}
 
 pub padded_inside : (trace : List ℕ) (i : ℕ) → i < length trace → get_or trace i 0 ≡ get_or (padded trace) i 0
 unfolding padded

@@ -1,6 +1,5 @@
 pub mod Texts
 pub mod Repeating
-pub mod Lists
 pub mod Containers
 pub mod Walking
 pub mod Chunks

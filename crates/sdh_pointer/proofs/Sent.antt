@@ -81,9 +81,10 @@ second_sent action.Normal v h = normal_sent v v refl
 second_sent action.Up v h = not_up_sent v v (λ e. omega arith)
 second_sent action.Down v h = not_down_sent v v (λ e. omega arith)
 
-same_states : (s : Option ℕ) → same_sending s s ≡ true
-same_states None = refl
-same_states (Some g) = eq-eqb g g refl
+-- a state is the same as itself
+pub state_itself : (s : Option ℕ) → same_sending s s ≡ true
+state_itself None = refl
+state_itself (Some g) = eq-eqb g g refl
 
 -- what the generator is from then on
 abbrev repeated : Action → ℕ → Generator
@@ -93,7 +94,7 @@ from_second : (g : Generator) (a : Action) (v : ℕ) → v ≤ 782 → g.sending
 unfolding after_action
 from_second g a v h is =
     let sent = second_sent a v h in
-    rw (is, sent.word, sent.next, same_states (lasting_state a v)) refl
+    rw (is, sent.word, sent.next, state_itself (lasting_state a v)) refl
 
 goes_on : (k : ℕ) (a : Action) (v : ℕ) → v ≤ 782 → after_inputs k a v (repeated a v) ≡ repeated a v
 goes_on zero a v h = refl

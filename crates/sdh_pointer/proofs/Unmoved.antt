@@ -1,7 +1,7 @@
 -- An interpreter that a step doesn't move.
 use Rattle.std.proofs.Common.{◌≡◌, ◌↔◌, ℕ, ◌≤◌, Bool, true, false, refl, ap, sym, ◌∙◌, arith, Option, Some, None}
 use Rattle.std.specs.Prelude.{◌&&◌, not}
-use Rattle.std.proofs.lemmas.Bool.{eq-eqb, eqb-true}
+use Rattle.std.proofs.lemmas.Bool.{eq-eqb, eqb-true, not-false}
 use Rattle.sdh_pointer.specs.declared.reading.Reading.{Reading}
 use Rattle.sdh_pointer.specs.declared.reading.Mode.{Mode}
 use Rattle.sdh_pointer.specs.declared.reading.Mode.TheVariants as mode
@@ -14,6 +14,7 @@ use Rattle.sdh_pointer.specs.Sending.{Generator, after_action, same_sending}
 use Rattle.sdh_pointer.specs.Laws.{IsPassed, IsSteady}
 use Rattle.sdh_pointer.proofs.Forms.{of_ones}
 use Rattle.sdh_pointer.proofs.Rows.{ais_ais_action}
+use Rattle.sdh_pointer.proofs.Sent.{state_itself}
 use Rattle.sdh_pointer.proofs.Settling.{action_by_event, stays_for, same, same_action, stays, normal_word_settles, ais_settles}
 
 -- ---- two readings are the same where the test says so
@@ -57,15 +58,11 @@ unfolding same_reading
 reading_itself r =
     rw (mode_itself r.mode, eq-eqb r.value r.value refl, eq-eqb r.ais r.ais refl, eq-eqb r.bad r.bad refl, eq-eqb r.candidate r.candidate refl, eq-eqb r.news r.news refl, eq-eqb r.since r.since refl) refl
 
-not_false : (b : Bool) → not b ≡ false → b ≡ true
-not_false true h = refl
-not_false false h = cc
-
 -- ---- so a step that moved nothing kept all
 
 pub unmoved : (i : Interpreter) (w : ℕ) → (after_step i w).moved ≡ false → after_word i.reading w ≡ i.reading
 unfolding after_step
-unmoved i w h = same_readings _ _ (not_false _ h)
+unmoved i w h = same_readings _ _ (not-false _ h)
 
 pub kept_is_unmoved : (i : Interpreter) (w : ℕ) → after_word i.reading w ≡ i.reading → (after_step i w).moved ≡ false
 unfolding after_step
@@ -86,14 +83,10 @@ same_state None (Some n) h = cc
 same_state (Some s) None h = cc
 same_state (Some s) (Some n) h = ap Some (eqb-true s n h)
 
-state_itself : (s : Option ℕ) → same_sending s s ≡ true
-state_itself None = refl
-state_itself (Some s) = eq-eqb s s refl
-
 pub generator_moves : (g : Generator) (a : Action) (v : ℕ) → ((after_action g a v).moved ≡ false) ↔ ((after_action g a v).sending ≡ g.sending)
 unfolding after_action
 generator_moves g a v = (
-  λ h. same_state _ _ (not_false _ h),
+  λ h. same_state _ _ (not-false _ h),
   λ h. ap (λ s. not (same_sending s g.sending)) h ∙ ap not (state_itself g.sending),
 )
 

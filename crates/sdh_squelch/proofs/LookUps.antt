@@ -1,7 +1,8 @@
 -- Looking up the circuit on a span and slot.
 use Rattle.std.proofs.Common.{◌≡◌, ℕ, zero, suc, ◌+◌, ◌<◌, List, [], ◌∷◌, ◌++◌, length, append_assoc, append-nil, subst, get_or, Bool, true, false, cond, Option, Some, None, refl, ap, sym, ◌∙◌, inl, inr, arith}
-use Rattle.std.specs.Prelude.{if◌then◌else◌, slice_get, position}
+use Rattle.std.specs.Prelude.{slice_get, position}
 use Rattle.std.specs.List.{All, position_from}
+use Rattle.std.proofs.lemmas.Bool.{cond-true, cond-false}
 use Rattle.std.proofs.lemmas.List.Elements.{All-append}
 use Rattle.std.proofs.lemmas.List.Quantifiers.{position-Some}
 use Rattle.std.proofs.lemmas.Iterator.Adapters.{position_from-zero}
@@ -20,23 +21,15 @@ use Rattle.sdh_squelch.specs.Kept.{KeepsRing}
 abbrev pub entry : ℕ → Provisioned → Row
 entry i c = record { circuit = i; from = c.from; to = c.to }
 
-then_is : {X : Type 0} (b : Bool) (x y : X) → b ≡ true → (if b then x else y) ≡ x
-then_is true x y e = refl
-then_is false x y e = cc
-
-else_is : {X : Type 0} (b : Bool) (x y : X) → b ≡ false → (if b then x else y) ≡ y
-else_is true x y e = cc
-else_is false x y e = refl
-
 -- the first circuit on a span and slot is found
 pub first-at : (n s m i j : ℕ) (cs : List Provisioned) (c d : Provisioned) → slice_get cs j ≡ Some c → is_on n s m c ≡ true
     → ((k : ℕ) → k < j → is_on n s m (get_or cs k d) ≡ false) → circuit_from n s m i cs ≡ Some (entry (i + j) c)
 first-at n s m i j [] c d e h none = cc
 first-at n s m i zero (x ∷ cs) c d e h none =
     let same : x ≡ c = cc in
-    then_is (is_on n s m x) (Some (entry i x)) (circuit_from n s m (i + 1) cs) (ap (is_on n s m) same ∙ h) ∙ ap (λ (y : Provisioned). Some (entry i y)) same ∙ ap (λ k. Some (entry k c)) (omega arith)
+    cond-true (is_on n s m x) (Some (entry i x)) (circuit_from n s m (i + 1) cs) (ap (is_on n s m) same ∙ h) ∙ ap (λ (y : Provisioned). Some (entry i y)) same ∙ ap (λ k. Some (entry k c)) (omega arith)
 first-at n s m i (suc j) (x ∷ cs) c d e h none =
-    else_is (is_on n s m x) (Some (entry i x)) (circuit_from n s m (i + 1) cs) (none 0 (omega arith))
+    cond-false (is_on n s m x) (Some (entry i x)) (circuit_from n s m (i + 1) cs) (none 0 (omega arith))
     ∙ first-at n s m (i + 1) j cs c d e h (λ k g. none (suc k) (omega arith))
     ∙ ap (λ k. Some (entry k c)) (omega arith)
 
@@ -48,7 +41,7 @@ none_from : (n s m i k : ℕ) (cs : List Provisioned) → position_from (is_on n
 none_from n s m i k [] e = refl
 none_from n s m i k (x ∷ cs) e =
     let t = none_by (is_on n s m x) k (position_from (is_on n s m) (k + 1) cs) e in
-    else_is (is_on n s m x) (Some (entry i x)) (circuit_from n s m (i + 1) cs) t.0 ∙ none_from n s m (i + 1) (k + 1) cs t.1
+    cond-false (is_on n s m x) (Some (entry i x)) (circuit_from n s m (i + 1) cs) t.0 ∙ none_from n s m (i + 1) (k + 1) cs t.1
 
 found_by : (n s m j : ℕ) (cs : List Provisioned) (c : Provisioned) → position (is_on n s m) cs ≡ Some j → slice_get cs j ≡ Some c → circuit_on n cs s m ≡ Some (entry j c)
 found_by n s m j cs c e h =

@@ -1,4 +1,4 @@
-use Rattle.std.proofs.Common.{ap, ◌∙◌, arith}
+use Rattle.std.proofs.Common.{ap, ◌∙◌}
 use Rattle.sdh_frame.specs.Sizes.{size_of}
 use Rattle.sdh_overhead.proofs.Trips.{round-trip}
 use Rattle.sdh_overhead.proofs.laws.what_is_written_is_read.Goals as goal

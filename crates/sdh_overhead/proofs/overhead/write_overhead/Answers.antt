@@ -1,7 +1,8 @@
 use Rattle.std.proofs.Common.{◌≡◌, ℕ, ◌+◌, ◌*◌, ◌-◌, ◌≤◌, length, refl, ap, subst, ◌∙◌, arith}
 use Rattle.std.proofs.lemmas.Nat.{mul-le}
 use Rattle.sdh_overhead.specs.Overhead.{Added, with_overhead}
-use Rattle.sdh_overhead.proofs.Rows.{RowsAre, row-more, rows-all, length-part}
+use Rattle.sdh_basics.proofs.Parts.{length-part}
+use Rattle.sdh_overhead.proofs.Rows.{RowsAre, row-more, rows-all}
 use Rattle.sdh_overhead.proofs.overhead.write_overhead.Goals as goal
 
 pub loop-row-init : goal.loop-row-init
