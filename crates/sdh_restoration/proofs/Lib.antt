@@ -3,3 +3,4 @@ pub mod Highest
 pub mod Spans
 pub mod Ends
 pub mod Healthy
+pub mod FarEnds

@@ -1,9 +1,11 @@
 -- The settled states: in which state each node of a ring is under the requests of its spans, with its far end, by
 -- one look at all spans. No word occurs in it. After ITU-T G.841, MS shared protection rings; the states of nodes
 -- that see no applied span under lower requests are this project's own.
-use Rattle.std.specs.Prelude.{ℕ, zero, suc, ◌-◌, Bool, true, false, ◌&&◌, ◌||◌, nat_lt, Option, option_map, List, [], ◌∷◌, length, slice_index, find}
+use Rattle.std.specs.Prelude.{ℕ, ◌-◌, Bool, true, false, ◌&&◌, ◌||◌, nat_lt, Option, option_map, List, map, length, slice_index, find}
+use Rattle.std.specs.List.{range_with_len}
 use Rattle.sdh_basics.specs.Cells.{cells}
-use Rattle.sdh_ringmap.specs.Places.{opposite, neighbour, span_at}
+use Rattle.sdh_ringmap.specs.Places.{opposite, span_at}
+use Rattle.sdh_ringmap.specs.Steps.{going}
 use Rattle.sdh_ringmap.specs.declared.Side.{Side}
 use Rattle.sdh_ringmap.specs.declared.Side.TheVariants.{West, East}
 use Rattle.sdh_ringmap.specs.declared.Pos.{Pos}
@@ -12,16 +14,15 @@ use Rattle.sdh_nodestate.specs.declared.NodeState.TheVariants as state
 use Rattle.sdh_restoration.specs.Applied.{highest, is_applied, is_any_applied}
 
 -- the next k positions on side d of position p, in their order, in a ring of n
-abbrev pub way : ℕ → Side → ℕ → ℕ → List ℕ
-way n d p zero = []
-way n d p (suc k) = neighbour n p d ∷ way n d (neighbour n p d) k
+abbrev pub next_positions : ℕ → Side → ℕ → ℕ → List ℕ
+next_positions n d p k = map (going n d p) (range_with_len 1 k)
 
 -- the far end of position p, of whose spans the one on side d alone is applied: the first position, going from p
 -- away from that span, whose next span on the way is applied
 unfoldable pub far_end : List ℕ → ℕ → Side → Option Pos
 far_end rs p d =
     option_map (λ q. record { 0 = q })
-    (find (λ q. is_applied rs (span_at (length rs) q (opposite d))) (way (length rs) (opposite d) p (length rs - 1)))
+    (find (λ q. is_applied rs (span_at (length rs) q (opposite d))) (next_positions (length rs) (opposite d) p (length rs - 1)))
 
 -- some request is above 0, and no span at position p has the highest one
 abbrev pub is_outranked : List ℕ → ℕ → Bool

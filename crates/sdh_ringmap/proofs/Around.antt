@@ -1,16 +1,12 @@
 -- Going round a ring eastwards.
-use Rattle.std.proofs.Common.{◌≡◌, ◌≢◌, ℕ, zero, suc, ◌+◌, ◌-◌, ◌%◌, ◌<◌, ◌≤◌, ◌⊎◌, inl, inr, true, lt-ltb, ap, ◌∙◌, arith}
+use Rattle.std.proofs.Common.{◌≡◌, ◌≢◌, ℕ, ◌+◌, ◌-◌, ◌%◌, ◌<◌, ◌≤◌, ◌⊎◌, inl, inr, true, lt-ltb, ap, ap₂, ◌∙◌, arith}
 use Rattle.std.proofs.Math.Nat.{mod-eq_of_lt, add-mod_left}
+use Rattle.std.proofs.lemmas.Bool.{cases_lt}
 use Rattle.sdh_ringmap.specs.Places.{eastwards}
 use Rattle.sdh_ringmap.specs.Arcs.{Arc, arc_between, opposite_arc, holds_span}
 
 abbrev arc_of : ℕ → ℕ → Arc
 arc_of start spans = record { start = start; spans = spans }
-
-pub nat_le_or : (a b : ℕ) → (a ≤ b) ⊎ (b < a)
-nat_le_or zero b = inl (omega arith)
-nat_le_or (suc a) zero = inr (omega arith)
-nat_le_or (suc a) (suc b) = elim (nat_le_or a b) [ inl h ↦ inl (omega arith) | inr h ↦ inr (omega arith) ]
 
 -- without the span from the last position to the first
 pub eastwards_on : (n from to : ℕ) → from ≤ to → to < n → eastwards n from to ≡ to - from
@@ -36,13 +32,13 @@ end_round n from to lt inside =
 
 -- an arc ends where it leads
 pub arc_end : (n from to : ℕ) → from < n → to < n → (from + eastwards n from to) % n ≡ to
-arc_end n from to hf ht = elim (nat_le_or from to) [ inl le ↦ end_on n from to le ht | inr lt ↦ end_round n from to lt hf ]
+arc_end n from to hf ht = elim (cases_lt to from) [ inl lt ↦ end_round n from to lt hf | inr le ↦ end_on n from to le ht ]
 
 -- the two ways round have all spans
 pub both_ways : (n from to : ℕ) → from < n → to < n → from ≢ to → eastwards n from to + eastwards n to from ≡ n
-both_ways n from to hf ht ne = elim (nat_le_or from to) [
-  | inl le ↦ (let up : from < to = omega arith in omega (arith, eastwards_on n from to le ht, eastwards_round n to from up ht))
-  | inr lt ↦ omega (arith, eastwards_round n from to lt hf, eastwards_on n to from (omega arith) hf)
+both_ways n from to hf ht ne = elim (cases_lt to from) [
+  | inl lt ↦ omega (arith, eastwards_round n from to lt hf, eastwards_on n to from (omega arith) hf)
+  | inr le ↦ (let up : from < to = omega arith in omega (arith, eastwards_on n from to le ht, eastwards_round n to from up ht))
 ]
 
 -- the opposite of the arc from one position to another is the arc from the other to the one
@@ -50,8 +46,7 @@ pub opposite_between : (n from to : ℕ) → from < n → to < n → from ≢ to
 opposite_between n from to hf ht ne =
     let start : (from + eastwards n from to) % n ≡ to = arc_end n from to hf ht in
     let spans : n - eastwards n from to ≡ eastwards n to from = omega (arith, both_ways n from to hf ht ne) in
-    let ends : (s t c d : ℕ) → s ≡ t → c ≡ d → arc_of s c ≡ arc_of t d = λ s t c d e f. ap (λ k. arc_of k c) e ∙ ap (arc_of t) f in
-    ends _ _ _ _ start spans
+    ap₂ arc_of start spans
 
 -- no span leads from a position to itself
 pub eastwards_self : (n from : ℕ) → from < n → eastwards n from from ≡ 0
@@ -59,16 +54,32 @@ eastwards_self n from h = omega (arith, eastwards_on n from from (omega arith) h
 
 -- a span leads to another position
 pub eastwards_some : (n from to : ℕ) → from < n → to < n → from ≢ to → 0 < eastwards n from to
-eastwards_some n from to hf ht ne = elim (nat_le_or from to) [
-  | inl le ↦ omega (arith, eastwards_on n from to le ht)
-  | inr lt ↦ omega (arith, eastwards_round n from to lt hf)
+eastwards_some n from to hf ht ne = elim (cases_lt to from) [
+  | inl lt ↦ omega (arith, eastwards_round n from to lt hf)
+  | inr le ↦ omega (arith, eastwards_on n from to le ht)
 ]
 
 -- either way of going round
 eastwards_cases : (n from to : ℕ) → from < n → to < n → ((from ≤ to) × (eastwards n from to ≡ to - from)) ⊎ ((to < from) × (eastwards n from to ≡ to + (n - from)))
-eastwards_cases n from to hf ht = elim (nat_le_or from to) [
-  | inl le ↦ inl (le, eastwards_on n from to le ht)
-  | inr lt ↦ inr (lt, eastwards_round n from to lt hf)
+eastwards_cases n from to hf ht = elim (cases_lt to from) [
+  | inl lt ↦ inr (lt, eastwards_round n from to lt hf)
+  | inr le ↦ inl (le, eastwards_on n from to le ht)
+]
+
+-- the span at place i lies i spans along the arc
+pub eastwards-place : (n start i : ℕ) → start < n → i < n → eastwards n start ((start + i) % n) ≡ i
+eastwards-place n start i hs hi = elim (cases_lt (start + i) n) [
+  | inl within ↦ (
+      let place : (start + i) % n ≡ start + i = mod-eq_of_lt within in
+      let back : start + i - start ≡ i = omega arith in
+      ap (eastwards n start) place ∙ eastwards_on n start (start + i) (omega arith) within ∙ back)
+  | inr over ↦ (
+      let left : start + i - n < n = omega arith in
+      let whole : start + i ≡ n + (start + i - n) = omega arith in
+      let place : (start + i) % n ≡ start + i - n = ap (λ m. m % n) whole ∙ add-mod_left n (start + i - n) ∙ mod-eq_of_lt left in
+      let below : start + i - n < start = omega arith in
+      let back : start + i - n + (n - start) ≡ i = omega arith in
+      ap (eastwards n start) place ∙ eastwards_round n start (start + i - n) below hs ∙ back)
 ]
 
 -- of two positions the one from which fewer spans lead to a third is on the way from the other
@@ -109,7 +120,7 @@ one_holds_start n a b c d s ha hc h k =
     let hs = held_inside n s (arc_between n a b) h in
     let near = held_near n s (arc_between n a b) h in
     let close = held_near n s (arc_between n c d) k in
-    elim (nat_le_or (eastwards n c s) (eastwards n a s)) [
-      | inl le ↦ inl (holds n c (arc_between n a b) hc (omega (arith, on_the_way n a c s ha hc hs le)))
-      | inr lt ↦ inr (holds n a (arc_between n c d) ha (omega (arith, on_the_way n c a s hc ha hs (omega arith))))
+    elim (cases_lt (eastwards n a s) (eastwards n c s)) [
+      | inl lt ↦ inr (holds n a (arc_between n c d) ha (omega (arith, on_the_way n c a s hc ha hs (omega arith))))
+      | inr le ↦ inl (holds n c (arc_between n a b) hc (omega (arith, on_the_way n a c s ha hc hs le)))
     ]

@@ -1,6 +1,7 @@
 -- Lists of numbers that pass both searches are identifiers.
 use Rattle.std.proofs.Common.{◌≡◌, ◌≢◌, ℕ, zero, suc, ◌+◌, ◌<◌, ◌≤◌, List, length, map, take, get_or, Bool, true, false, not, cond, nat_lt, Option, None, Some, refl, sym, ap, ◌∙◌, arith, ltb-false}
 use Rattle.std.specs.Prelude.{ℤ, pos, negsuc, slice_index}
+use Rattle.std.proofs.Math.Bool.{not-not}
 use Rattle.std.specs.Ordering.{int_eq}
 use Rattle.std.specs.List.{find, range_with_len, position_or_len}
 use Rattle.std.proofs.lemmas.List.Folds.{list_any_at}
@@ -25,17 +26,13 @@ unmarked p a zero k e h = absurd (omega arith)
 unmarked p a (suc n) zero e h = ap p (omega arith) ∙ unmarked_first (p a) a (find p (range_with_len (a + 1) n)) e
 unmarked p a (suc n) (suc k) e h = ap p (omega arith) ∙ unmarked p (a + 1) n k (unmarked_rest (p a) a (find p (range_with_len (a + 1) n)) e) (omega arith)
 
-not_not : (b : Bool) → not (not b) ≡ true → b ≡ true
-not_not true e = refl
-not_not false e = e
-
 -- each number is an identifier where no other is found
 pub fit : (ids : List ℤ) (k : ℕ) (d : ℤ) → first_unfit ids ≡ None → k < length ids → is_id (get_or ids k d) ≡ true
 fit ids k d e h =
     let l = position_or_len (λ z. not (is_id z)) ids in
     let none : nat_lt l (length ids) ≡ false = unmarked_first (nat_lt l (length ids)) l None e in
     let past : length ids ≤ l = ltb-false l (length ids) none in
-    not_not _ (prefix_len_passes (λ z. not (not (is_id z))) ids k d (omega arith))
+    sym (not-not (is_id (get_or ids k d))) ∙ prefix_len_passes (λ z. not (not (is_id z))) ids k d (omega arith)
 
 small_of : (z : ℤ) → is_id z ≡ true → magnitude z < 16
 small_of (pos n) h = grind arith

@@ -1,3 +1,5 @@
 pub mod Firsts
 pub mod Around
 pub mod Clear
+pub mod Sides
+pub mod Going

@@ -1,4 +1,5 @@
 pub mod Ids
 pub mod Numbering
 pub mod Places
+pub mod Steps
 pub mod Arcs

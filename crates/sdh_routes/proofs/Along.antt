@@ -1,8 +1,8 @@
 -- The walk of a joined circuit's port leads along the route.
-use Rattle.std.proofs.Common.{◌≡◌, ℕ, ◌+◌, ◌-◌, ◌*◌, ◌<◌, suc, zero, Bool, true, false, Some, List, [], ◌∷◌, ◌++◌, refl, ap, sym, ◌∙◌, arith, inl, inr, ◌⊎◌, append_assoc, length, length-append}
+use Rattle.std.proofs.Common.{◌≡◌, ℕ, ◌+◌, ◌-◌, ◌*◌, ◌<◌, suc, zero, Bool, true, false, Some, List, [], ◌∷◌, ◌++◌, refl, ap, sym, ◌∙◌, arith, inl, inr, ◌⊎◌, append_assoc, length, length-append, ap₂}
 use Rattle.std.specs.Prelude.{slice_get, ◌||◌, reverse}
 use Rattle.std.proofs.lemmas.List.{reverse-append, reverse-reverse, length-reverse}
-use Rattle.std.proofs.lemmas.Bool.{cases_Bool, or_cases}
+use Rattle.std.proofs.lemmas.Bool.{cases_Bool, cond-true, cond-false}
 use Rattle.sdh_circuits.specs.Provisioned.{Provisioned, arc_of}
 use Rattle.sdh_circuits.specs.declared.End.{End}
 use Rattle.sdh_circuits.specs.declared.End.TheVariants.{A, B}
@@ -10,12 +10,13 @@ use Rattle.sdh_restoration.specs.Routes.{hops, route, spans_from}
 use Rattle.sdh_ringmap.specs.Arcs.{arc_span, is_clear}
 use Rattle.sdh_ringmap.specs.declared.Side.TheVariants.{East, West}
 use Rattle.sdh_routes.proofs.Crossing.{crossed-around, crossed-straight, down, up}
-use Rattle.sdh_routes.proofs.Going.{going-round, mirror-way}
-use Rattle.sdh_routes.proofs.Routes.{east-place, is_free, joined-is, same_length, seen_east, seen_west, struck_east, struck_west, west-place, end, f, l, some, clear, opposite_clear, last, short}
-use Rattle.sdh_routes.proofs.States.{Resting, else_is, then_is}
+use Rattle.sdh_ringmap.proofs.Going.{going-round, mirror-way}
+use Rattle.sdh_routes.proofs.Lengths.{around-hops, clear-is, straight-hops}
+use Rattle.sdh_routes.proofs.Routes.{east-place, is_free, joined-is, same_length, seen_east, seen_west, struck_east, struck_west, west-place, end, f, l, some, clear, opposite_clear, other_free, last, short}
+use Rattle.sdh_routes.proofs.States.{Resting}
 use Rattle.sdh_routes.proofs.Views.{AreOnRing, arc_length}
 use Rattle.sdh_routes.specs.Law.{IsAlongRoute}
-use Rattle.sdh_routes.specs.Steps.{going, way}
+use Rattle.sdh_ringmap.specs.Steps.{going, way}
 use Rattle.sdh_routes.specs.Walks.{crossed, delivery}
 
 module _ (n : ℕ) (applied : ℕ → Bool) (c : Provisioned) where
@@ -37,11 +38,8 @@ joined_lists : (a b c : List ℕ) → reverse (a ++ (reverse b ++ c)) ≡ revers
 joined_lists a b c =
     reverse-append a (reverse b ++ c) ∙ ap (λ x. x ++ reverse a) (reverse-append (reverse b) c ∙ ap (λ x. reverse c ++ x) (reverse-reverse b)) ∙ append_assoc (reverse c) b (reverse a)
 
-same_cons : (a b : ℕ) (x y : List ℕ) → a ≡ b → x ≡ y → (a ∷ x) ≡ (b ∷ y)
-same_cons a b x y e h = cc
-
 same_three : (a b c x y z : List ℕ) → a ≡ x → b ≡ y → c ≡ z → (a ++ (b ++ c)) ≡ (x ++ (y ++ z))
-same_three a b c x y z e h g = cc
+same_three a b c x y z e h g = ap₂ ◌++◌ e (ap₂ ◌++◌ h g)
 
 module _ (n : ℕ) (r : Resting n) (cs : List Provisioned) (ring : AreOnRing n cs) (index : ℕ) (c : Provisioned) (is : slice_get cs index ≡ Some c) where
   abbrev len : ℕ
@@ -77,23 +75,19 @@ module _ (n : ℕ) (r : Resting n) (cs : List Provisioned) (ring : AreOnRing n c
 
   up-east : (i k : ℕ) → up n East base i k ≡ part i k
   up-east i zero = refl
-  up-east i (suc k) = same_cons (way n East base i) (arc_span n (arc_of n c) i) (up n East base (suc i) k) (part (suc i) k) (east_way i) (up-east (suc i) k)
+  up-east i (suc k) = ap₂ ◌∷◌ (east_way i) (up-east (suc i) k)
 
   down-east : (i k : ℕ) → down n East base i k ≡ reverse (part i k)
   down-east i zero = refl
-  down-east i (suc k) =
-      same_cons (way n East base (i + k)) (arc_span n (arc_of n c) (i + k)) (down n East base i k) (reverse (part i k)) (east_way (i + k)) (down-east i k) ∙ sym (turned n r.applied c i k)
+  down-east i (suc k) = ap₂ ◌∷◌ (east_way (i + k)) (down-east i k) ∙ sym (turned n r.applied c i k)
 
   down-west : (k i a : ℕ) → a + i + k ≡ len → down n West stop i k ≡ part a k
   down-west zero i a e = refl
-  down-west (suc k) i a e =
-      same_cons (way n West stop (i + k)) (arc_span n (arc_of n c) a) (down n West stop i k) (part (suc a) k) (west_near (i + k) a (omega arith)) (down-west k i (suc a) (omega arith))
+  down-west (suc k) i a e = ap₂ ◌∷◌ (west_near (i + k) a (omega arith)) (down-west k i (suc a) (omega arith))
 
   up-west : (k i a : ℕ) → a + i + k ≡ len + n → up n West stop i k ≡ reverse (part a k)
   up-west zero i a e = refl
-  up-west (suc k) i a e =
-      same_cons (way n West stop i) (arc_span n (arc_of n c) (a + k)) (up n West stop (suc i) k) (reverse (part a k)) (west_far i (a + k) (omega arith)) (up-west k (suc i) a (omega arith))
-      ∙ sym (turned n r.applied c a k)
+  up-west (suc k) i a e = ap₂ ◌∷◌ (west_far i (a + k) (omega arith)) (up-west k (suc i) a (omega arith)) ∙ sym (turned n r.applied c a k)
 
   abbrev is_free_arc : Bool
   is_free_arc = clear n r cs ring index c is
@@ -113,19 +107,17 @@ module _ (n : ℕ) (r : Resting n) (cs : List Provisioned) (ring : AreOnRing n c
 
   straight_route : is_free_arc ≡ true → route n r.applied (arc_of n c) ≡ part 0 len
   unfolding route is_clear arc_length
-  straight_route t = then_is is_free_arc (part 0 len) (out ++ (reverse round ++ home)) t
+  straight_route t = cond-true is_free_arc (part 0 len) (out ++ (reverse round ++ home)) t
 
   switched_route : is_free_arc ≡ false → route n r.applied (arc_of n c) ≡ out ++ (reverse round ++ home)
   unfolding route is_clear arc_length
-  switched_route t = else_is is_free_arc (part 0 len) (out ++ (reverse round ++ home)) t
+  switched_route t = cond-false is_free_arc (part 0 len) (out ++ (reverse round ++ home)) t
 
   straight_hops : is_free_arc ≡ true → hops n r.applied (arc_of n c) ≡ len
-  unfolding hops is_clear arc_length
-  straight_hops t = then_is is_free_arc len ((2 * first_place + n + len) - 2 * (last_applied + 1)) t
+  straight_hops t = straight-hops n r.applied c (clear-is n r.applied c ∙ t)
 
   switched_hops : is_free_arc ≡ false → hops n r.applied (arc_of n c) ≡ (2 * first_place + n + len) - 2 * (last_applied + 1)
-  unfolding hops is_clear arc_length
-  switched_hops t = else_is is_free_arc len ((2 * first_place + n + len) - 2 * (last_applied + 1)) t
+  switched_hops t = around-hops n r.applied c (clear-is n r.applied c ∙ t)
 
   counted : (is_free_arc ≡ true) ⊎ (is_free_arc ≡ false) → length (route n r.applied (arc_of n c)) ≡ hops n r.applied (arc_of n c)
   counted (inl t) = ap length (straight_route t) ∙ span_count n r.applied c 0 len ∙ sym (straight_hops t)
@@ -173,18 +165,13 @@ module _ (n : ℕ) (r : Resting n) (cs : List Provisioned) (ring : AreOnRing n c
       (up-west (n + f' - suc l') (suc l') (suc last_applied) (omega arith) ∙ ap (λ k. reverse (part (suc last_applied) k)) {x = n + f' - suc l'} {y = n + first_place - suc last_applied} (omega arith) ∙ ap (λ i. reverse (part i (n + first_place - i))) one_on)
       (down-west f' 0 (suc last_applied) (omega arith) ∙ ap (λ i. part i (len - i)) one_on)
 
-  rest_free : (is_free_arc || is_free_rest) ≡ true → is_free_arc ≡ false → is_free_rest ≡ true
-  rest_free j t = elim (or_cases is_free_arc is_free_rest j) [ inl bad ↦ absurd (differ is_free_arc bad t) | inr good ↦ good ] where
-    differ : (x : Bool) → x ≡ true → x ≡ false → ⊥
-    differ x e h = cc
-
   from_a : (is_free_arc ≡ true) ⊎ (is_free_arc ≡ false) → (is_free_arc || is_free_rest) ≡ true → walked A (hops n r.applied (arc_of n c)) ≡ route n r.applied (arc_of n c)
   from_a (inl t) j = ap (walked A) (straight_hops t) ∙ straight_a t ∙ sym (straight_route t)
-  from_a (inr t) j = ap (walked A) (switched_hops t) ∙ around_a t (rest_free j t) ∙ sym (switched_route t)
+  from_a (inr t) j = ap (walked A) (switched_hops t) ∙ around_a t (other_free n r cs ring index c is j t) ∙ sym (switched_route t)
 
   from_b : (is_free_arc ≡ true) ⊎ (is_free_arc ≡ false) → (is_free_arc || is_free_rest) ≡ true → walked B (hops n r.applied (arc_of n c)) ≡ reverse (route n r.applied (arc_of n c))
   from_b (inl t) j = ap (walked B) (straight_hops t) ∙ straight_b t ∙ ap reverse (sym (straight_route t))
-  from_b (inr t) j = ap (walked B) (switched_hops t) ∙ around_b t (rest_free j t) ∙ sym (joined_lists out round home) ∙ ap reverse (sym (switched_route t))
+  from_b (inr t) j = ap (walked B) (switched_hops t) ∙ around_b t (other_free n r cs ring index c is j t) ∙ sym (joined_lists out round home) ∙ ap reverse (sym (switched_route t))
 
   pub along-route : IsAlongRoute n r.applied r.state cs c
   along-route = record {

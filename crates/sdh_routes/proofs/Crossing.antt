@@ -6,13 +6,13 @@ use Rattle.sdh_circuits.specs.Provisioned.{Provisioned}
 use Rattle.sdh_circuits.specs.declared.End.{End}
 use Rattle.sdh_ringmap.specs.Places.{opposite}
 use Rattle.sdh_ringmap.specs.declared.Side.{Side}
-use Rattle.sdh_routes.proofs.Going.{way-behind}
+use Rattle.sdh_ringmap.proofs.Going.{way-behind}
 use Rattle.sdh_routes.proofs.Seen.{Seen}
 use Rattle.sdh_routes.proofs.Segments.{IsFree, arrives, between, bridge, delivered, passed-on, past, sending, sent-behind, taking, through}
 use Rattle.sdh_routes.proofs.States.{Resting, any-applied}
 use Rattle.sdh_routes.proofs.Switched.{Struck, detour, f_inside, free_ahead, gap_is, gap_some, turned_far, turned_near}
 use Rattle.sdh_routes.proofs.Views.{PassThrough, arc_length}
-use Rattle.sdh_routes.specs.Steps.{going, way}
+use Rattle.sdh_ringmap.specs.Steps.{going, way}
 use Rattle.sdh_routes.specs.Walks.{IsArrival, Leads, Stand, back_from, crossed, delivery, stand, with_span}
 
 -- k spans on from step i, and k spans back from step i + k

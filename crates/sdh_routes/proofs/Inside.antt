@@ -1,27 +1,20 @@
 -- A walk stays at positions of the ring.
-use Rattle.std.proofs.Common.{ℕ, ◌+◌, ◌-◌, ◌<◌, suc, zero, List, subst, arith}
-use Rattle.std.proofs.Math.Nat.{mod-lt}
+use Rattle.std.proofs.Common.{ℕ, ◌<◌, suc, zero, List, subst, arith}
 use Rattle.sdh_bridge.specs.declared.Origin.{Origin}
 use Rattle.sdh_bridge.specs.declared.Origin.TheVariants.{Add, Ais, Protection, Working}
 use Rattle.sdh_circuits.specs.Provisioned.{Provisioned}
 use Rattle.sdh_circuits.specs.declared.End.{End}
 use Rattle.sdh_circuits.specs.declared.End.TheVariants.{A, B}
-use Rattle.sdh_ringmap.specs.Places.{neighbour}
-use Rattle.sdh_ringmap.specs.declared.Side.{Side}
-use Rattle.sdh_ringmap.specs.declared.Side.TheVariants.{East, West}
+use Rattle.sdh_ringmap.proofs.Sides.{neighbour_below}
 use Rattle.sdh_routes.proofs.States.{Resting}
 use Rattle.sdh_routes.specs.Walks.{Leads, Stand, back_from, delivery}
-
-next_inside : (n p : ℕ) (d : Side) → p < n → neighbour n p d < n
-next_inside n p East h = mod-lt (p + 1) (omega arith)
-next_inside n p West h = mod-lt (p + (n - 1)) (omega arith)
 
 module _ (n : ℕ) (r : Resting n) (cs : List Provisioned) (m : ℕ) where
   pub back-inside : (p : ℕ) (o : Origin) → p < n → (back_from n r.state cs m p o).at < n
   back-inside p Ais h = h
   back-inside p (Add q) h = h
-  back-inside p (Working d) h = next_inside n p d h
-  back-inside p (Protection d) h = next_inside n p d h
+  back-inside p (Working d) h = neighbour_below n p d (omega arith)
+  back-inside p (Protection d) h = neighbour_below n p d (omega arith)
 
   pub walk-inside : (k : ℕ) (x y : Stand) → x.at < n → Leads n r.state cs m k x y → y.at < n
   walk-inside zero x y h l = subst (λ (z : Stand). z.at < n) l h

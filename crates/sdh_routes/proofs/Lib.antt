@@ -1,7 +1,7 @@
 pub mod Along
+pub mod Between
 pub mod Covering
 pub mod Crossing
-pub mod Going
 pub mod Inhabited
 pub mod Inside
 pub mod Lengths

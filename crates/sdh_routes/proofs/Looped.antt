@@ -1,48 +1,29 @@
 -- A looped slot meets its own circuit: a circuit with both ends in a chain that leaves through one end of the chain comes back through
 -- the other.
-use Rattle.std.proofs.Common.{◌≡◌, ℕ, ◌+◌, ◌-◌, ◌<◌, ◌≤◌, suc, Bool, true, Some, List, ap, sym, ◌∙◌, arith, inl, inr, ◌⊎◌}
+use Rattle.std.proofs.Common.{◌≡◌, ℕ, ◌+◌, ◌-◌, ◌<◌, ◌≤◌, suc, true, Some, List, ap, sym, ◌∙◌, arith, inl, inr, ◌⊎◌, ap₂}
 use Rattle.std.specs.Prelude.{◌&&◌}
 use Rattle.std.proofs.lemmas.Bool.{cases_lt, and_parts, leb-true}
 use Rattle.sdh_circuits.specs.Provisioned.{Provisioned}
 use Rattle.sdh_circuits.specs.declared.End.{End}
 use Rattle.sdh_circuits.specs.declared.End.TheVariants.{A, B}
-use Rattle.sdh_ringmap.specs.Places.{eastwards, opposite, span_at}
+use Rattle.sdh_ringmap.specs.Places.{opposite, span_at}
 use Rattle.sdh_ringmap.specs.declared.Side.{Side}
-use Rattle.sdh_ringmap.specs.declared.Side.TheVariants.{East, West}
-use Rattle.sdh_routes.proofs.Going.{far_east, far_west, going-add, going-none, going-round, going-to, mirror, passes-at, way-behind}
+use Rattle.sdh_ringmap.proofs.Going.{IsReached, going-add, going-round, going-once, reached, way-behind}
+use Rattle.sdh_routes.proofs.Between.{passes-at}
 use Rattle.sdh_routes.proofs.Seen.{Seen}
 use Rattle.sdh_routes.proofs.Segments.{chain_passes, past}
 use Rattle.sdh_routes.proofs.Views.{arc_length, is_in_chain, passes}
-use Rattle.sdh_routes.specs.Steps.{going, way}
+use Rattle.sdh_ringmap.specs.Steps.{going, way}
 use Rattle.sdh_routes.specs.Walks.{port_at}
 use Rattle.sdh_squelch.proofs.LookUps.{entry}
 use Rattle.sdh_squelch.specs.Table.{circuit_from}
-
-pub record IsReached (n : ℕ) (d : Side) (p q : ℕ) : Type 0 where
-  pub steps : ℕ
-  pub few : steps < n
-  pub there : going n d p steps ≡ q
-
-module _ (n : ℕ) (some : 0 < n) where
-  pub reach : (d : Side) (p q : ℕ) → p < n → q < n → IsReached n d p q
-  reach East p q hp hq = record { steps = eastwards n p q; few = omega arith; there = going-to n some p q hp hq }
-  reach West p q hp hq = record {
-    steps = eastwards n q p;
-    few = omega arith;
-    there = ap (λ b. going n West b (eastwards n q p)) (sym (going-to n some q p hq hp)) ∙ mirror n some East q (eastwards n q p) 0 (eastwards n q p) (omega arith) ∙ going-none n some East q hq;
-  }
-
-  -- steps apart by less than a round lead to different positions
-  apart_by : (d : Side) (p i k : ℕ) → k < n → going n d p i ≡ going n d p (i + k) → k ≡ 0
-  apart_by East p i k h e = sym (far_east n some p i k h) ∙ ap (eastwards n (going n East p i)) (sym e ∙ ap (going n East p) (omega arith)) ∙ far_east n some p i 0 some
-  apart_by West p i k h e = sym (far_west n some p i k h) ∙ ap (λ q. eastwards n q (going n West p i)) (sym e ∙ ap (going n West p) (omega arith)) ∙ far_west n some p i 0 some
 
 module _ (n : ℕ) (cs : List Provisioned) (some : 0 < n) (d : Side) (p : ℕ) (index : ℕ) (c : Provisioned) (near distant : End) (seen : Seen n cs index c d p near distant) where
   -- the node is at step x of the arc; f is the other end of its chain, k steps behind it
   module _ (x f k : ℕ) (inside : x < arc_length n c) (f_inside : f < n) (k_few : k < n) (chain : going n d f k ≡ going n d p x)
       (both : (is_in_chain n d (going n d p x) f (port_at c A) && is_in_chain n d (going n d p x) f (port_at c B)) ≡ true) (p_inside : p < n) where
     at : IsReached n d p f
-    at = reach n some d p f p_inside f_inside
+    at = reached n some d p f p_inside f_inside
 
     abbrev j : ℕ
     j = at.steps
@@ -50,22 +31,15 @@ module _ (n : ℕ) (cs : List Provisioned) (some : 0 < n) (d : Side) (p : ℕ) (
     same : going n d p (j + k) ≡ going n d p x
     same = sym (going-add n some d p j k) ∙ ap (λ q. going n d q k) at.there ∙ chain
 
-    and_same : (a b u v : Bool) → a ≡ u → b ≡ v → (a && b) ≡ (u && v)
-    and_same a b u v e h = cc
-
     both_passed : (passes n d f (going n d p x) (going n d p 0) && passes n d f (going n d p x) (going n d p (arc_length n c))) ≡ true
     both_passed =
         sym (seen.both (λ q. passes n d f (going n d p x) q))
-        ∙ sym (and_same _ _ _ _ (chain_passes n d (going n d p x) f (port_at c A)) (chain_passes n d (going n d p x) f (port_at c B))) ∙ both
+        ∙ sym (ap₂ ◌&&◌ (chain_passes n d (going n d p x) f (port_at c A)) (chain_passes n d (going n d p x) f (port_at c B))) ∙ both
 
     passed_if : (i : ℕ) → passes n d f (going n d p x) (going n d p (j + i)) ≡ true → i < n → i ≤ k
     passed_if i t h =
         leb-true i k (sym (passes-at n some d p j k i k_few h)
         ∙ ap (λ q. passes n d q (going n d p (j + k)) (going n d p (j + i))) at.there ∙ ap (λ q. passes n d f q (going n d p (j + i))) same ∙ t)
-
-    one_step : (a b : ℕ) → a < n → b < n → going n d p a ≡ going n d p b → (a < b) ⊎ (b ≤ a) → a ≡ b
-    one_step a b ha hb e (inl less) = let z = apart_by n some d p a (b - a) (omega arith) (e ∙ ap (going n d p) (omega arith)) in omega arith
-    one_step a b ha hb e (inr more) = let z = apart_by n some d p b (a - b) (omega arith) (sym e ∙ ap (going n d p) (omega arith)) in omega arith
 
     passed_last : passes n d f (going n d p x) (going n d p (arc_length n c)) ≡ true
     passed_last = (and_parts (passes n d f (going n d p x) (going n d p 0)) (passes n d f (going n d p x) (going n d p (arc_length n c))) both_passed).1
@@ -91,12 +65,12 @@ module _ (n : ℕ) (cs : List Provisioned) (some : 0 < n) (d : Side) (p : ℕ) (
     by_round : (j + k < n) ⊎ (n ≤ j + k) → IsBeyond
     by_round (inl low) =
         let short = seen.short in
-        let e = one_step (j + k) x low (omega arith) same (cases_lt (j + k) x) in
+        let e = going-once n some d p (j + k) x low (omega arith) same in
         let t = last_after (omega arith) in
         absurd (omega arith)
     by_round (inr high) =
         let short = seen.short in let few = at.few in
-        let e = one_step (j + k - n) x (omega arith) (omega arith) (sym (going-round n some d p (j + k - n)) ∙ ap (going n d p) (omega arith) ∙ same) (cases_lt (j + k - n) x) in
+        let e = going-once n some d p (j + k - n) x (omega arith) (omega arith) (sym (going-round n some d p (j + k - n)) ∙ ap (going n d p) (omega arith) ∙ same) in
         within_by (omega arith) (cases_lt (arc_length n c) j)
 
     beyond : IsBeyond

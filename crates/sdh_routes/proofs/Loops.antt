@@ -1,7 +1,7 @@
 -- No closed loop: each AU-4 of a settled ring is led back to a port or to AIS.
-use Rattle.std.proofs.Common.{◌≡◌, ℕ, ◌+◌, ◌-◌, ◌*◌, ◌<◌, ◌≤◌, suc, Bool, true, false, Option, Some, None, List, refl, ap, sym, ◌∙◌, subst, arith, inl, inr}
+use Rattle.std.proofs.Common.{◌≡◌, ℕ, ◌+◌, ◌-◌, ◌*◌, ◌<◌, ◌≤◌, suc, Bool, true, false, Option, Some, None, List, refl, ap, sym, ◌∙◌, subst, arith, inl, inr, ap₂}
 use Rattle.std.specs.Prelude.{◌&&◌, ◌==◌, not}
-use Rattle.std.proofs.lemmas.Bool.{cases_lt, cases_eq, cases_Bool, and_parts, and_right, eqb-true, lt-leb, not-false, not-true}
+use Rattle.std.proofs.lemmas.Bool.{cases_lt, cases_eq, cases_Bool, and_parts, and_right, eqb-true, lt-leb, not-false, not-true, both_ways, not_from_false}
 use Rattle.sdh_bridge.specs.declared.Origin.{Origin}
 use Rattle.sdh_bridge.specs.declared.Origin.TheVariants.{Add, Ais, Protection, Working}
 use Rattle.sdh_circuits.specs.Provisioned.{Provisioned}
@@ -16,8 +16,11 @@ use Rattle.sdh_ringmap.specs.Places.{neighbour, opposite, span_at}
 use Rattle.sdh_ringmap.specs.declared.Pos.{Pos}
 use Rattle.sdh_ringmap.specs.declared.Side.{Side}
 use Rattle.sdh_routes.proofs.Covering.{stops}
-use Rattle.sdh_routes.proofs.Going.{going-inside, going-next, going-none, going-round, passes-at, twice, way-behind}
-use Rattle.sdh_routes.proofs.Marks.{IsFirst, IsLast, first-is, last-is, none-of}
+use Rattle.sdh_ringmap.proofs.Going.{going-inside, going-none, going-round, way-behind}
+use Rattle.sdh_ringmap.proofs.Sides.{neighbour_below, opposite_twice}
+use Rattle.sdh_routes.proofs.Between.{passes-at}
+use Rattle.sdh_routes.proofs.Marks.{IsFirst, IsLast, first-is, last-is, last-place}
+use Rattle.sdh_ringmap.proofs.Clear.{none_of-at, none_of-met}
 use Rattle.sdh_routes.proofs.OnArcs.{near_at, near_end, on-arc, seen-on}
 use Rattle.sdh_routes.proofs.Passing.{away-leaves, blocked-leaves, bridged-leaves, carries-by, idle-leaves, is_open, isolated-leaves, isolated-stands, leaves-own_or_none, leaves-unused, settled-open, switched-stands, unused-carries}
 use Rattle.sdh_routes.proofs.Seen.{Seen}
@@ -27,13 +30,10 @@ use Rattle.sdh_routes.proofs.States.{Resting, on, state-ahead, state-at}
 use Rattle.sdh_routes.proofs.Switched.{isnt_side}
 use Rattle.sdh_routes.proofs.Views.{AreOnRing, Idle, Isolated, PassThrough, Switch, arc_length, carried, far_at, holds, passes, side_state}
 use Rattle.sdh_routes.specs.Law.{Ends, is_pass}
-use Rattle.sdh_routes.specs.Steps.{going}
+use Rattle.sdh_ringmap.specs.Steps.{going}
 use Rattle.sdh_routes.specs.Walks.{IsOver, Leads, Stand, carries_in, port, port_at, protection_in, stand, stands_in, working_in}
 use Rattle.sdh_squelch.specs.Table.{circuit_from}
 use Rattle.sdh_squelch.specs.declared.Row.{Row}
-
-and_same : (a b x y : Bool) → a ≡ x → b ≡ y → (a && b) ≡ (x && y)
-and_same a b x y e h = cc
 
 pass_is : (st : NodeState) → is_pass st ≡ true → st ≡ PassThrough
 pass_is (state.PassThrough i) e = refl
@@ -80,7 +80,7 @@ module _ (n : ℕ) (r : Resting n) (cs : List Provisioned) (ring : AreOnRing n c
           ap test out ∙ ap (λ y. passes n d f y (going n d p (suc l + ((arc_length n c) + n - suc l)))) here
           ∙ passes-at n some d p (suc l) k ((arc_length n c) + n - suc l) hk (omega arith) ∙ lt-leb ((arc_length n c) + n - suc l) k (omega arith) in
           carries-by n cs q d c.slot.0 f ∙ ap (λ o. carried n q o d f) (seen.on_arc x hx)
-          ∙ and_same _ _ _ _ (chain_passes n d q f (port_at c A)) (chain_passes n d q f (port_at c B))
+          ∙ ap₂ ◌&&◌ (chain_passes n d q f (port_at c A)) (chain_passes n d q f (port_at c B))
           ∙ seen.both test ∙ and_right (test (going n d p 0)) (test (going n d p (arc_length n c))) missed
 
       -- a node on the arc, whose span ahead is applied and whose span behind is free, bridges the circuit home or nothing
@@ -95,9 +95,7 @@ module _ (n : ℕ) (r : Resting n) (cs : List Provisioned) (ring : AreOnRing n c
         k = x + n - suc l
 
         not_next : l ≡ x + (n - 1) → ⊥
-        not_next e = differ_at (hit l) last.holds (ap hit e ∙ behind) where
-          differ_at : (b : Bool) → b ≡ true → b ≡ false → ⊥
-          differ_at b u v = cc
+        not_next e = both_ways (hit l) (ap hit e ∙ behind) last.holds
 
         whole : suc (l + k) ≡ x + n
         whole = let b = last.below in omega arith
@@ -201,14 +199,7 @@ module _ (n : ℕ) (r : Resting n) (cs : List Provisioned) (ring : AreOnRing n c
       stop j = not (is_pass (r.state (going n d p (suc j))))
 
       some_stop : none_of stop 0 n ≡ false
-      some_stop = let s = stops n r some d p inside in false_by (none_of stop 0 n) (λ t. let u = none-of stop 0 n t s.steps (omega arith) (let f = s.few in omega arith) in both_of (is_pass (r.state (going n d p (suc s.steps)))) u s.there) where
-        false_by : (b : Bool) → (b ≡ true → ⊥) → b ≡ false
-        false_by true h = absurd (h refl)
-        false_by false h = refl
-
-        both_of : (b : Bool) → not b ≡ false → b ≡ false → ⊥
-        both_of true u v = cc
-        both_of false u v = cc
+      some_stop = let s = stops n r some d p inside in none_of-met stop 0 n s.steps (omega arith) (let f = s.few in omega arith) (not_from_false (is_pass (r.state (going n d p (suc s.steps)))) s.there)
 
       abbrev far : ℕ
       far = places_before stop 0 n
@@ -248,7 +239,7 @@ module _ (n : ℕ) (r : Resting n) (cs : List Provisioned) (ring : AreOnRing n c
         by_carry : (f : Option Pos) (b : Bool) → r.state node ≡ Switch (opposite d) f → carries_in n cs node (opposite d) c.slot.0 f ≡ b → Ends n r.state cs c.slot.0 (2 * n) taken
         by_carry f true e h =
             moved c.slot.0 (2 * n) taken (stand node (Protection d))
-            (by_state (Switch (opposite d) f) e ∙ ap (stand node) (switched-stands n cs node (opposite d) c.slot.0 f true h ∙ ap (λ x. Protection x) (twice n some d)))
+            (by_state (Switch (opposite d) f) e ∙ ap (stand node) (switched-stands n cs node (opposite d) c.slot.0 f true h ∙ ap (λ x. Protection x) (opposite_twice d)))
             (protection_end d node c.slot.0 (going-inside n some d p (suc i)))
         by_carry f false e h = ends_at c.slot.0 (2 * n) taken (stand node Ais) (by_state (Switch (opposite d) f) e ∙ ap (stand node) (switched-stands n cs node (opposite d) c.slot.0 f false h)) tt
 
@@ -268,7 +259,7 @@ module _ (n : ℕ) (r : Resting n) (cs : List Provisioned) (ring : AreOnRing n c
 
         clear_end : none_of struck 0 x ≡ true → Ends n r.state cs c.slot.0 (3 * n) place
         clear_end t =
-            let free : (j : ℕ) → j < x → struck j ≡ false = λ j h. none-of struck 0 x t j (omega arith) (omega arith) in
+            let free : (j : ℕ) → j < x → struck j ≡ false = λ j h. none_of-at struck 0 x t j (omega arith) (omega arith) in
             let before : suc (x - 1) ≡ x = omega arith in
             let over = free (x - 1) (omega arith) in
             let short = seen.short in
@@ -279,8 +270,7 @@ module _ (n : ℕ) (r : Resting n) (cs : List Provisioned) (ring : AreOnRing n c
 
         struck_end : none_of struck 0 x ≡ false → Ends n r.state cs c.slot.0 (3 * n) place
         struck_end t =
-            let f = first-is struck 0 x t in
-            let l = last-is struck (0 + places_before struck 0 x) x (let b = f.below in omega arith) f.holds in
+            let l = last-place struck x t in
             let i = last_place struck x in
             let e = after_end i l.holds in
             let short = seen.short in let low = l.below in
@@ -332,7 +322,7 @@ module _ (n : ℕ) (r : Resting n) (cs : List Provisioned) (ring : AreOnRing n c
     working_end : (d : Side) (p m : ℕ) → p < n → Ends n r.state cs m (3 * n + 1) (stand p (Working d))
     working_end d p m h =
         let q = neighbour n p d in
-        let inside : q < n = subst (λ x. x < n) (ap (λ x. neighbour n x d) (going-none n some d p h)) (subst (λ x. x < n) (sym (going-next n some d p 0)) (going-inside n some d p 1)) in
+        let inside = neighbour_below n p d some in
         let one : Leads n r.state cs m 1 (stand p (Working d)) (sending n r cs some (opposite d) p m q) = (tt, refl) in
         wider m (1 + 3 * n) (3 * n + 1) (stand p (Working d)) (omega arith)
         (ends_from m (3 * n) 1 (stand p (Working d)) (sending n r cs some (opposite d) p m q) one (sending_end (opposite d) p q m inside))

@@ -1,7 +1,7 @@
 -- The looped slot as a law over the connections: what may be carried over a chain comes back at the chain's other end.
-use Rattle.std.proofs.Common.{◌+◌, ◌≡◌, ℕ, ◌<◌, true, false, Option, Some, None, List, refl, ap, sym, ◌∙◌, arith}
+use Rattle.std.proofs.Common.{◌+◌, ◌≡◌, ℕ, ◌<◌, true, Option, Some, None, List, refl, ap, sym, ◌∙◌, arith}
 use Rattle.std.specs.Prelude.{◌&&◌, ◌==◌}
-use Rattle.std.proofs.lemmas.Bool.{and_parts, eqb-true}
+use Rattle.std.proofs.lemmas.Bool.{and_parts, eqb-true, false≢true}
 use Rattle.sdh_circuits.specs.Provisioned.{Provisioned}
 use Rattle.sdh_circuits.specs.declared.End.TheVariants.{A, B}
 use Rattle.sdh_restoration.specs.Due.{other_end}
@@ -9,13 +9,13 @@ use Rattle.sdh_ringmap.specs.Places.{opposite, span_at}
 use Rattle.sdh_ringmap.specs.declared.Pos.{Pos}
 use Rattle.sdh_ringmap.specs.declared.Side.{Side}
 use Rattle.sdh_ringmap.specs.declared.Side.TheVariants.{East, West}
-use Rattle.sdh_routes.proofs.Going.{going-inside}
-use Rattle.sdh_routes.proofs.Looped.{comes-back, reach}
+use Rattle.sdh_ringmap.proofs.Going.{going-inside, reached}
+use Rattle.sdh_routes.proofs.Looped.{comes-back}
 use Rattle.sdh_routes.proofs.OnArcs.{near_at, near_end, on-arc, seen-on}
 use Rattle.sdh_routes.proofs.Passing.{carries-by}
 use Rattle.sdh_routes.proofs.Sights.{found-gives}
 use Rattle.sdh_routes.proofs.Views.{AreOnRing, arc_length, carried, holds, is_in_chain}
-use Rattle.sdh_routes.specs.Steps.{going}
+use Rattle.sdh_ringmap.specs.Steps.{going}
 use Rattle.sdh_routes.specs.Walks.{carries_in, port_at}
 use Rattle.sdh_squelch.proofs.LookUps.{entry}
 use Rattle.sdh_squelch.specs.Table.{circuit_from}
@@ -27,16 +27,14 @@ base_inside n some c West h = going-inside n some East c.from.0 (arc_length n c)
 
 module _ (n : ℕ) (cs : List Provisioned) (ring : AreOnRing n cs) (some : 0 < n) (d : Side) (q : ℕ) (m : ℕ) (f : Pos) (inside : q < n) (f_inside : f.0 < n) where
   by_entry : (o : Option Row) → circuit_from n (span_at n q d) m 0 cs ≡ o → carried n q o d f.0 ≡ true → circuit_from n (span_at n f.0 (opposite d)) m 0 cs ≡ o
-  by_entry None e t = absurd (false_isnt t) where
-    false_isnt : false ≡ true → ⊥
-    false_isnt t = cc
+  by_entry None e t = absurd (false≢true t)
   by_entry (Some e) h t =
       let found = found-gives n (span_at n q d) m 0 cs e h in
       let both = and_parts (found.circuit.slot.0 == m) (holds n found.circuit (span_at n q d)) found.on in
       let c = found.circuit in
       let at = on-arc n cs ring some c d q (ring.inside found.place c found.is).0 inside both.1 in
       let b = near_at n c d in
-      let back = reach n some d f.0 q f_inside inside in
+      let back = reached n some d f.0 q f_inside inside in
       let here : going n d b at.step ≡ q = sym at.there in
       let slot : c.slot.0 ≡ m = eqb-true c.slot.0 m both.0 in
       let returned : circuit_from n (span_at n f.0 (opposite d)) c.slot.0 0 cs ≡ Some (entry found.place c) =

@@ -1,20 +1,20 @@
 -- A circuit met on a side of a node.
-use Rattle.std.proofs.Common.{◌≡◌, ℕ, refl, ◌-◌, ◌<◌, suc, true, Some, List, ap, sym, ◌∙◌, arith}
-use Rattle.std.specs.Prelude.{slice_get, nat_lt}
-use Rattle.std.proofs.lemmas.Bool.{and_parts, ltb-true}
+use Rattle.std.proofs.Common.{◌≡◌, ℕ, ◌-◌, ◌<◌, suc, true, Some, List, ap, sym, ◌∙◌, arith}
+use Rattle.std.specs.Prelude.{slice_get}
 use Rattle.sdh_circuits.specs.Provisioned.{Provisioned, arc_of}
 use Rattle.sdh_circuits.specs.declared.End.{End}
 use Rattle.sdh_circuits.specs.declared.End.TheVariants.{A, B}
 use Rattle.sdh_restoration.specs.Due.{other_end}
-use Rattle.sdh_ringmap.specs.Arcs.{holds_span}
 use Rattle.sdh_ringmap.specs.Places.{eastwards, neighbour, span_at}
 use Rattle.sdh_ringmap.specs.declared.Side.{Side}
 use Rattle.sdh_ringmap.specs.declared.Side.TheVariants.{East, West}
-use Rattle.sdh_routes.proofs.Going.{going-back, going-next, going-none, going-to, mirror}
+use Rattle.sdh_ringmap.proofs.Around.{held_near}
+use Rattle.sdh_ringmap.proofs.Going.{going-next, going-to, mirror}
+use Rattle.sdh_ringmap.proofs.Sides.{neighbour_back}
 use Rattle.sdh_routes.proofs.Seen.{Seen}
 use Rattle.sdh_routes.proofs.Sights.{seen-east, seen-west}
 use Rattle.sdh_routes.proofs.Views.{AreOnRing, arc_length, holds}
-use Rattle.sdh_routes.specs.Steps.{going}
+use Rattle.sdh_ringmap.specs.Steps.{going}
 
 -- the end of a circuit from which it leads on side d
 abbrev pub near_end : Side → End
@@ -27,20 +27,15 @@ near_at n c East = c.from.0
 near_at n c West = going n East c.from.0 (arc_length n c)
 
 module _ (n : ℕ) (cs : List Provisioned) (ring : AreOnRing n cs) where
-  held : (c : Provisioned) (s : ℕ) → holds n c s ≡ true → eastwards n c.from.0 s < arc_length n c
-  unfolding holds_span arc_length
-  held c s t = ltb-true _ _ (and_parts (nat_lt s n) (nat_lt (eastwards n c.from.0 s) (arc_of n c).spans) t).1
+  near : (c : Provisioned) (s : ℕ) → holds n c s ≡ true → eastwards n c.from.0 s < arc_length n c
+  unfolding arc_length
+  near c s t = held_near n s (arc_of n c) t
 
   pub seen-on : (index : ℕ) (c : Provisioned) → slice_get cs index ≡ Some c → (d : Side) → Seen n cs index c d (near_at n c d) (near_end d) (other_end (near_end d))
   seen-on index c is East = seen-east n cs ring index c is
   seen-on index c is West = seen-west n cs ring index c is
 
   module _ (some : 0 < n) where
-    by_next : (q s : ℕ) → q < n → neighbour n q West ≡ s → q ≡ neighbour n s East
-    by_next q s h e =
-        sym (going-none n some West q h) ∙ sym (going-back n some West q 0)
-        ∙ ap (λ x. neighbour n x East) (sym (going-next n some West q 0) ∙ ap (λ x. neighbour n x West) (going-none n some West q h) ∙ e)
-
     -- a node whose span on d is of a circuit's arc is some steps from the circuit's end
     pub record IsOnArc (c : Provisioned) (d : Side) (q : ℕ) : Type 0 where
       pub step : ℕ
@@ -48,14 +43,14 @@ module _ (n : ℕ) (cs : List Provisioned) (ring : AreOnRing n cs) where
       pub there : q ≡ going n d (near_at n c d) step
 
     pub on-arc : (c : Provisioned) (d : Side) (q : ℕ) → c.from.0 < n → q < n → holds n c (span_at n q d) ≡ true → IsOnArc c d q
-    on-arc c East q hc hq t = record { step = eastwards n c.from.0 q; few = held c q t; there = sym (going-to n some c.from.0 q hc hq) }
+    on-arc c East q hc hq t = record { step = eastwards n c.from.0 q; few = near c q t; there = sym (going-to n some c.from.0 q hc hq) }
     on-arc c West q hc hq t =
         let s = neighbour n q West in
         let j = eastwards n c.from.0 s in
-        let less : j < (arc_length n c) = held c s t in
+        let less : j < (arc_length n c) = near c s t in
         record {
           step = (arc_length n c) - suc j;
           few = omega arith;
-          there = by_next q s hq refl ∙ ap (λ x. neighbour n x East) (sym (going-to n some c.from.0 s hc (omega arith))) ∙ going-next n some East c.from.0 j
+          there = sym (neighbour_back n q West hq) ∙ ap (λ x. neighbour n x East) (sym (going-to n some c.from.0 s hc (omega arith))) ∙ going-next n some East c.from.0 j
               ∙ sym (mirror n some East c.from.0 ((arc_length n c) - suc j) (suc j) (arc_length n c) (omega arith));
         }

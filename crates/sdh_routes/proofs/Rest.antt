@@ -1,39 +1,23 @@
 -- The settled states of a ring are nodes at rest.
-use Rattle.std.proofs.Common.{◌≡◌, ◌⊎◌, inl, inr, ℕ, zero, suc, ◌+◌, ◌-◌, ◌<◌, ◌≤◌, List, [], ◌∷◌, length, Bool, true, false, Option, Some, None, refl, ap, sym, ◌∙◌, arith}
+use Rattle.std.proofs.Common.{◌≡◌, ◌⊎◌, inl, inr, ℕ, suc, ◌-◌, ◌<◌, List, [], ◌∷◌, length, Bool, true, false, Option, Some, None, refl, ap, ◌∙◌, arith}
 use Rattle.std.specs.Prelude.{◌&&◌, ◌||◌, ◌==◌, nat_le, nat_lt, if◌then◌else◌, option_map, slice_index}
 use Rattle.std.specs.List.{find, list_any}
-use Rattle.std.proofs.lemmas.Bool.{cases_Bool, cases_lt, or_cases, eq-eqb, le-ltb}
+use Rattle.std.proofs.lemmas.Bool.{cases_Bool, or_cases, eq-eqb, le-ltb}
 use Rattle.std.proofs.lemmas.List.Folds.{list_any_at}
-use Rattle.sdh_ringmap.specs.Places.{opposite, neighbour, span_at}
+use Rattle.sdh_ringmap.specs.Places.{opposite, span_at}
 use Rattle.sdh_ringmap.specs.declared.Pos.{Pos}
 use Rattle.sdh_ringmap.specs.declared.Side.{Side}
 use Rattle.sdh_ringmap.specs.declared.Side.TheVariants.{West, East}
 use Rattle.sdh_nodestate.specs.declared.NodeState.{NodeState}
 use Rattle.sdh_restoration.specs.Applied.{highest, has_one_leader, applies, is_applied, is_any_applied}
-use Rattle.sdh_restoration.specs.Settled.{way as positions, far_end, is_outranked, settled_by, settled}
-use Rattle.sdh_routes.specs.Steps.{going, way}
+use Rattle.sdh_restoration.specs.Settled.{next_positions, far_end, is_outranked, settled_by, settled}
+use Rattle.sdh_ringmap.specs.Steps.{going, way}
 use Rattle.sdh_routes.specs.Walks.{position}
-use Rattle.sdh_routes.proofs.Going.{going-next, going-none}
+use Rattle.sdh_restoration.proofs.FarEnds.{first_position}
+use Rattle.sdh_restoration.proofs.Highest.{IsTop, top_of}
 use Rattle.sdh_routes.specs.Law.{is_pass}
 use Rattle.sdh_routes.proofs.Views.{PassThrough, Idle, far_at, side_state}
-use Rattle.sdh_routes.proofs.States.{Resting, then_is, else_is}
-
--- a span with the highest request
-pub record IsTop (rs : List ℕ) : Type 0 where
-  pub place : ℕ
-  pub inside : place < length rs
-  pub top : slice_index rs place ≡ highest rs
-
-top_by : (r : ℕ) (rs : List ℕ) → (0 < length rs → IsTop rs) → (r < highest rs) ⊎ (highest rs ≤ r) → IsTop (r ∷ rs)
-top_by r rs rest (inr first) = record { place = 0; inside = omega arith; top = omega arith }
-top_by r [] rest (inl later) = absurd (omega arith)
-top_by r (x ∷ rs) rest (inl later) =
-    let t = rest (omega arith) in
-    record { place = suc t.place; inside = (let b = t.inside in omega arith); top = t.top ∙ omega arith }
-
-pub top_of : (rs : List ℕ) → 0 < length rs → IsTop rs
-top_of [] h = absurd (omega arith)
-top_of (r ∷ rs) h = top_by r rs (top_of rs) (cases_lt r (highest rs))
+use Rattle.sdh_routes.proofs.States.{Resting}
 
 -- where some span is applied, one with the highest request is
 applied_by : (a b c x : Bool) (h r : ℕ) → (if a then b else x && (r == h)) ≡ true → c ≡ a → (if a then c else x && (h == h)) ≡ true
@@ -61,33 +45,17 @@ module _ (rs : List ℕ) (some : 0 < length rs) where
   far West q = far_end rs q East
   far East q = far_end rs q West
 
-  found : (test : ℕ → Bool) (d : Side) (p k fuel i : ℕ) → k < fuel → ((j : ℕ) → j < k → test (going n d p (suc (i + j))) ≡ false) → test (going n d p (suc (i + k))) ≡ true
-      → find test (positions n d (going n d p i) fuel) ≡ Some (going n d p (suc (i + k)))
-  found test d p k zero i h free hit = absurd (omega arith)
-  found test d p zero (suc fuel) i h free hit =
-      let here : neighbour n (going n d p i) d ≡ going n d p (suc (i + 0)) = going-next n some d p i ∙ ap (going n d p) (omega arith) in
-      then_is (test (neighbour n (going n d p i) d)) (Some (neighbour n (going n d p i) d)) (find test (positions n d (neighbour n (going n d p i) d) fuel)) (ap test here ∙ hit) ∙ ap Some here
-  found test d p (suc k) (suc fuel) i h free hit =
-      let next = going-next n some d p i in
-      else_is (test (neighbour n (going n d p i) d)) (Some (neighbour n (going n d p i) d)) (find test (positions n d (neighbour n (going n d p i) d) fuel))
-      (ap test (next ∙ ap (going n d p) (omega arith)) ∙ free 0 (omega arith))
-      ∙ ap (λ q. find test (positions n d q fuel)) next
-      ∙ found test d p k fuel (suc i) (omega arith) (λ j g. ap (λ x. test (going n d p x)) (omega arith) ∙ free (suc j) (omega arith)) (ap (λ x. test (going n d p x)) (omega arith) ∙ hit)
-      ∙ ap (λ x. Some (going n d p x)) (omega arith)
-
-  searched : (d : Side) (q k : ℕ) → q < n → 0 < k → k < n → ((j : ℕ) → j < k → applied (way n d q j) ≡ false) → applied (way n d q k) ≡ true
-      → find (λ x. applied (span_at n x d)) (positions n d q (n - 1)) ≡ Some (going n d q k)
-  searched d q k inside some_way few free hit =
-      let last : suc (0 + (k - 1)) ≡ k = omega arith in
-      let test : ℕ → Bool = λ x. applied (span_at n x d) in
-      ap (λ x. find test (positions n d x (n - 1))) (sym (going-none n some d q inside))
-      ∙ found test d q (k - 1) (n - 1) 0 (omega arith) (λ j g. ap (λ x. test (going n d q x)) (omega arith) ∙ free (suc j) (omega arith)) (ap (λ x. test (going n d q x)) last ∙ hit)
+  searched : (d : Side) (q k : ℕ) → 0 < k → k < n → ((j : ℕ) → j < k → applied (way n d q j) ≡ false) → applied (way n d q k) ≡ true
+      → find (λ x. applied (span_at n x d)) (next_positions n d q (n - 1)) ≡ Some (going n d q k)
+  searched d q k some_way few free hit =
+      let last : suc (k - 1) ≡ k = omega arith in
+      first_position n d q (n - 1) (k - 1) (λ x. applied (span_at n x d)) (omega arith) (λ j h. free (suc j) (omega arith)) (ap (λ x. applied (way n d q x)) last ∙ hit)
       ∙ ap (λ x. Some (going n d q x)) last
 
   pub far_first : (d : Side) (q k : ℕ) → q < n → 0 < k → k < n → ((j : ℕ) → j < k → applied (way n d q j) ≡ false) → applied (way n d q k) ≡ true → far d q ≡ far_at (going n d q k)
   unfolding far_end
-  far_first West q k inside some_way few free hit = ap (option_map position) (searched West q k inside some_way few free hit)
-  far_first East q k inside some_way few free hit = ap (option_map position) (searched East q k inside some_way few free hit)
+  far_first West q k inside some_way few free hit = ap (option_map position) (searched West q k some_way few free hit)
+  far_first East q k inside some_way few free hit = ap (option_map position) (searched East q k some_way few free hit)
 
   abbrev serves : ℕ → Bool
   serves q = is_any_applied rs || is_outranked rs q

@@ -1,7 +1,7 @@
 -- The routes law: each port of a joined circuit gets its own circuit's other port, every other port AIS.
 use Rattle.std.proofs.Common.{◌≡◌, ℕ, ◌+◌, ◌-◌, ◌*◌, ◌<◌, suc, Bool, true, false, Some, List, refl, ap, sym, ◌∙◌, subst, arith, inl, inr, ◌⊎◌}
-use Rattle.std.specs.Prelude.{slice_get, ◌||◌, if◌then◌else◌}
-use Rattle.std.proofs.lemmas.Bool.{cases_Bool, cases_lt, or_parts, or_cases}
+use Rattle.std.specs.Prelude.{slice_get, ◌||◌}
+use Rattle.std.proofs.lemmas.Bool.{cases_Bool, cases_lt, or_parts, or_cases, both_ways}
 use Rattle.sdh_circuits.specs.Provisioned.{Provisioned, arc_of}
 use Rattle.sdh_circuits.specs.declared.End.{End}
 use Rattle.sdh_circuits.specs.declared.End.TheVariants.{A, B}
@@ -9,20 +9,19 @@ use Rattle.sdh_restoration.specs.Due.{other_end}
 use Rattle.sdh_restoration.specs.Routes.{at_place, hops, last_place, places_before}
 use Rattle.sdh_ringmap.specs.Arcs.{is_clear, is_joined, none_of}
 use Rattle.sdh_ringmap.specs.declared.Side.TheVariants.{East, West}
-use Rattle.sdh_routes.proofs.Going.{going-inside, going-none, going-round, mirror-way}
-use Rattle.sdh_routes.proofs.Marks.{IsFirst, IsLast, first-is, last-is, none-of, opposite-clear}
+use Rattle.sdh_ringmap.proofs.Going.{going-inside, going-none, going-round, mirror-way}
+use Rattle.sdh_routes.proofs.Lengths.{around-hops, clear-is, straight-hops}
+use Rattle.sdh_routes.proofs.Marks.{IsFirst, IsLast, first-is, last-is, first-place, last-place}
+use Rattle.sdh_ringmap.proofs.Clear.{is_clear-opposite, none_of-at}
 use Rattle.sdh_routes.proofs.Seen.{Seen}
 use Rattle.sdh_routes.proofs.Segments.{unswitched}
-use Rattle.sdh_routes.proofs.Sights.{arc-end, arc-long, arc-short, seen-east, seen-west}
-use Rattle.sdh_routes.proofs.States.{Resting, else_is, on, then_is}
+use Rattle.sdh_routes.proofs.Sights.{arc-end, arc-short, seen-east, seen-west}
+use Rattle.sdh_routes.proofs.States.{Resting, on}
 use Rattle.sdh_routes.proofs.Switched.{Parted, Struck, silent, switched}
 use Rattle.sdh_routes.proofs.Views.{AreOnRing, arc_length}
 use Rattle.sdh_routes.specs.Law.{IsRouted, IsSilent}
-use Rattle.sdh_routes.specs.Steps.{going, way}
-use Rattle.sdh_routes.specs.Walks.{Leads, Stand, delivery, port, port_at, stand}
-
-differ : (x : Bool) → x ≡ true → x ≡ false → ⊥
-differ x e h = cc
+use Rattle.sdh_ringmap.specs.Steps.{going, way}
+use Rattle.sdh_routes.specs.Walks.{Leads, delivery, port, port_at, stand}
 
 module _ (n : ℕ) (r : Resting n) (cs : List Provisioned) (ring : AreOnRing n cs) (index : ℕ) (c : Provisioned) (is : slice_get cs index ≡ Some c) where
   -- whether the span at a place of the arc is applied
@@ -31,9 +30,6 @@ module _ (n : ℕ) (r : Resting n) (cs : List Provisioned) (ring : AreOnRing n c
 
   pub some : 0 < n
   some = let inside = ring.inside index c is in omega arith
-
-  long : 0 < (arc_length n c)
-  long = arc-long n cs ring index c is
 
   pub short : (arc_length n c) < n
   short = arc-short n cs ring index c is
@@ -80,13 +76,13 @@ module _ (n : ℕ) (r : Resting n) (cs : List Provisioned) (ring : AreOnRing n c
   opposite_clear = none_of place (arc_length n c) (n - (arc_length n c))
 
   pub is_free : clear ≡ true → (j : ℕ) → j < (arc_length n c) → place j ≡ false
-  is_free e j h = none-of place 0 (arc_length n c) e j (omega arith) (omega arith)
+  is_free e j h = none_of-at place 0 (arc_length n c) e j (omega arith) (omega arith)
 
   pub first : clear ≡ false → IsFirst place 0 (arc_length n c) f
-  first e = subst (λ k. IsFirst place 0 (arc_length n c) k) {x = 0 + f} (omega arith) (first-is place 0 (arc_length n c) e)
+  first e = first-place place (arc_length n c) e
 
   pub last : clear ≡ false → IsLast place f (arc_length n c) l
-  last e = last-is place f (arc_length n c) (let b = (first e).below in omega arith) (first e).holds
+  last e = last-place place (arc_length n c) e
 
   pub struck_east : clear ≡ false → opposite_clear ≡ true → Struck n r cs some East c.from.0 index c A B seen_east f l
   struck_east e o = record {
@@ -97,7 +93,7 @@ module _ (n : ℕ) (r : Resting n) (cs : List Provisioned) (ring : AreOnRing n c
     last = east-place l ∙ (last e).holds;
     after = λ j h g. east-place j ∙ elim (cases_lt j (arc_length n c)) [
       | inl low ↦ (last e).after j h low
-      | inr high ↦ none-of place (arc_length n c) (n - (arc_length n c)) o j high (let s = short in omega arith)
+      | inr high ↦ none_of-at place (arc_length n c) (n - (arc_length n c)) o j high (let s = short in omega arith)
     ];
   }
 
@@ -112,15 +108,12 @@ module _ (n : ℕ) (r : Resting n) (cs : List Provisioned) (ring : AreOnRing n c
         last = west-place ((arc_length n c) - suc f) f (omega arith) ∙ (first e).holds;
         after = λ j h g. elim (cases_lt j (arc_length n c)) [
           | inl low ↦ west-place j ((arc_length n c) - suc j) (omega arith) ∙ (first e).before ((arc_length n c) - suc j) (omega arith) (omega arith)
-          | inr high ↦ west-far j ((arc_length n c) + n - suc j) (omega arith) ∙ none-of place (arc_length n c) (n - (arc_length n c)) o ((arc_length n c) + n - suc j) (omega arith) (omega arith)
+          | inr high ↦ west-far j ((arc_length n c) + n - suc j) (omega arith) ∙ none_of-at place (arc_length n c) (n - (arc_length n c)) o ((arc_length n c) + n - suc j) (omega arith) (omega arith)
         ];
       }
 
   pub same_length : clear ≡ false → (2 * ((arc_length n c) - suc l) + n + (arc_length n c)) - 2 * (((arc_length n c) - suc f) + 1) ≡ (2 * f + n + (arc_length n c)) - 2 * (l + 1)
   same_length e = let a = (last e).from in let b = (last e).below in omega arith
-
-  to_end : End → Stand
-  to_end e = stand (port_at c (other_end e)) (port index (other_end e))
 
   to_a : (k : ℕ) → Leads n r.state cs c.slot.0 k (delivery n r.state cs c B) (stand (going n East c.from.0 0) (port index A)) → Leads n r.state cs c.slot.0 k (delivery n r.state cs c B) (stand (port_at c A) (port index A))
   to_a k w = subst (λ z. Leads n r.state cs c.slot.0 k (delivery n r.state cs c B) z) at_a w
@@ -194,20 +187,23 @@ module _ (n : ℕ) (r : Resting n) (cs : List Provisioned) (ring : AreOnRing n c
     silent n r cs some East c.from.0 index c A B seen_east l g (parted_east t o),
   )
 
+  -- where the ends are joined but the arc isn't free, the opposite arc is
+  pub other_free : (clear || opposite_clear) ≡ true → clear ≡ false → opposite_clear ≡ true
+  other_free j t = elim (or_cases clear opposite_clear j) [ inl free ↦ absurd (both_ways clear t free) | inr other ↦ other ]
+
   by_arcs : (e : End) → (clear ≡ true) ⊎ (clear ≡ false) → (clear || opposite_clear) ≡ true
-      → Leads n r.state cs c.slot.0 (if clear then (arc_length n c) else (2 * f + n + (arc_length n c)) - 2 * (l + 1)) (delivery n r.state cs c e) (stand (port_at c (other_end e)) (port index (other_end e)))
-  by_arcs e (inl t) j = subst (λ k. Leads n r.state cs c.slot.0 k (delivery n r.state cs c e) (stand (port_at c (other_end e)) (port index (other_end e)))) (sym (then_is clear (arc_length n c) _ t)) (straight t e)
+      → Leads n r.state cs c.slot.0 (hops n r.applied (arc_of n c)) (delivery n r.state cs c e) (stand (port_at c (other_end e)) (port index (other_end e)))
+  by_arcs e (inl t) j =
+      subst (λ k. Leads n r.state cs c.slot.0 k (delivery n r.state cs c e) (stand (port_at c (other_end e)) (port index (other_end e)))) (sym (straight-hops n r.applied c (clear-is n r.applied c ∙ t))) (straight t e)
   by_arcs e (inr t) j =
-      let o : opposite_clear ≡ true = elim (or_cases clear opposite_clear j) [ inl bad ↦ absurd (differ clear bad t) | inr good ↦ good ] in
-      subst (λ k. Leads n r.state cs c.slot.0 k (delivery n r.state cs c e) (stand (port_at c (other_end e)) (port index (other_end e)))) (sym (else_is clear (arc_length n c) _ t)) (around t o e)
+      subst (λ k. Leads n r.state cs c.slot.0 k (delivery n r.state cs c e) (stand (port_at c (other_end e)) (port index (other_end e)))) (sym (around-hops n r.applied c (clear-is n r.applied c ∙ t))) (around t (other_free j t) e)
 
   -- the ends are joined where the places of one of the two arcs are free
   pub joined-is : is_joined n r.applied (arc_of n c) ≡ (clear || opposite_clear)
   unfolding is_joined is_clear arc_length
-  joined-is = ap (λ b. is_clear n r.applied (arc_of n c) || b) (opposite-clear n r.applied (arc_of n c))
+  joined-is = ap (λ b. is_clear n r.applied (arc_of n c) || b) (is_clear-opposite n r.applied (arc_of n c))
 
   pub routes : (e : End) → IsRouted n r.applied r.state cs index c e
-  unfolding hops is_clear arc_length
   routes e = record {
     joined = λ j. by_arcs e (cases_Bool clear) (sym joined-is ∙ j);
     parted = λ j. let t = or_parts clear opposite_clear (sym joined-is ∙ j) in nothing t.0 t.1 e;

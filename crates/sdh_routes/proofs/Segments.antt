@@ -8,12 +8,13 @@ use Rattle.sdh_circuits.specs.declared.End.{End}
 use Rattle.sdh_ringmap.specs.Places.{eastwards, neighbour, opposite}
 use Rattle.sdh_ringmap.specs.declared.Side.{Side}
 use Rattle.sdh_ringmap.specs.declared.Side.TheVariants.{East, West}
-use Rattle.sdh_routes.proofs.Going.{going-back, going-next, twice, way-behind, way-round}
+use Rattle.sdh_ringmap.proofs.Going.{going-back, going-next, way-behind, way-round}
+use Rattle.sdh_ringmap.proofs.Sides.{opposite_twice}
 use Rattle.sdh_routes.proofs.Passing.{is_open, leaves-on, leaves-own, open-stands, passed-leaves, settled-open}
 use Rattle.sdh_routes.proofs.Seen.{Seen}
 use Rattle.sdh_routes.proofs.States.{IsAnyApplied, Resting, on, state-between}
 use Rattle.sdh_routes.proofs.Views.{PassThrough, arc_length, is_in_chain, passes}
-use Rattle.sdh_routes.specs.Steps.{going}
+use Rattle.sdh_ringmap.specs.Steps.{going}
 use Rattle.sdh_routes.specs.Walks.{Leads, Stand, back_from, delivery, inward, port, protection_in, stand, stands_in, working_in}
 
 lt_next : (a b : ℕ) → nat_lt a (b + 1) ≡ nat_le a b
@@ -98,7 +99,7 @@ module _ (n : ℕ) (r : Resting n) (cs : List Provisioned) where
     pub sent-behind : (m i : ℕ) → back_from n r.state cs m (going n d p (suc i)) (Working (opposite d)) ≡ sending m (going n d p i)
     sent-behind m i =
         ap (λ x. stand x (working_in n cs x (r.state x) (opposite (opposite d)) m)) (going-back n some d p i)
-        ∙ ap (λ e. stand (going n d p i) (working_in n cs (going n d p i) (r.state (going n d p i)) e m)) (twice n some d)
+        ∙ ap (λ e. stand (going n d p i) (working_in n cs (going n d p i) (r.state (going n d p i)) e m)) (opposite_twice d)
 
     -- a working slot from behind, over a free span
     pub over_free : (m i k : ℕ) (z : Stand) → IsFree i → Leads n r.state cs m k (sending m (going n d p i)) z → Leads n r.state cs m (suc k) (taking m (going n d p (suc i))) z

@@ -1,20 +1,19 @@
 -- Each circuit of a ring, seen from its ends.
 use Rattle.std.proofs.Common.{◌≡◌, ℕ, ◌+◌, ◌-◌, ◌<◌, suc, zero, Bool, true, false, Option, Some, None, List, [], ◌∷◌, refl, ap, sym, ◌∙◌, arith, inl, inr}
 use Rattle.std.specs.Prelude.{◌&&◌, ◌==◌, if◌then◌else◌, slice_get}
-use Rattle.std.proofs.lemmas.Bool.{and_parts, and_from, lt-ltb, eq-eqb, eqb-true, ne_eqb, false_from_ne_true}
+use Rattle.std.proofs.lemmas.Bool.{and_parts, and_from, eq-eqb, eqb-true, ne_eqb, false_from_ne_true, cases_eq, cond-true, cond-false}
 use Rattle.std.proofs.Math.Nat.{mod-lt}
-use Rattle.std.proofs.lemmas.Bool.{cases_eq}
-use Rattle.sdh_circuits.specs.Provisioned.{Provisioned, is_on}
+use Rattle.std.proofs.Math.Bool.{and_comm}
+use Rattle.sdh_circuits.specs.Provisioned.{Provisioned, arc_of, is_on}
 use Rattle.sdh_circuits.specs.declared.End.TheVariants.{A, B}
 use Rattle.sdh_circuits.specs.declared.Slot.{Slot}
-use Rattle.sdh_ringmap.specs.Arcs.{holds_span}
+use Rattle.sdh_ringmap.proofs.Around.{eastwards-place, holds as span_holds}
 use Rattle.sdh_ringmap.specs.Places.{eastwards}
 use Rattle.sdh_ringmap.specs.declared.Side.TheVariants.{East, West}
-use Rattle.sdh_routes.proofs.Going.{far_east, going-inside, going-none, going-to, mirror, mirror-way}
+use Rattle.sdh_ringmap.proofs.Going.{going-inside, going-none, going-once, going-to, mirror, mirror-way}
 use Rattle.sdh_routes.proofs.Seen.{Seen}
-use Rattle.sdh_routes.proofs.States.{else_is, then_is}
 use Rattle.sdh_routes.proofs.Views.{AreOnRing, arc_length, end_at, holds}
-use Rattle.sdh_routes.specs.Steps.{going, way}
+use Rattle.sdh_ringmap.specs.Steps.{going, way}
 use Rattle.sdh_routes.specs.Walks.{port_at}
 use Rattle.sdh_squelch.proofs.LookUps.{entry}
 use Rattle.sdh_squelch.specs.Table.{circuit_from}
@@ -26,10 +25,10 @@ found-at : (n s m i k : ℕ) (cs : List Provisioned) (c : Provisioned) → slice
 found-at n s m i k [] c e h one = cc
 found-at n s m i zero (x ∷ cs) c e h one =
     let same : x ≡ c = cc in
-    then_is (is_on n s m x) _ _ (ap (is_on n s m) same ∙ h) ∙ ap (λ (y : Provisioned). Some (entry i y)) same ∙ ap (λ k. Some (entry k c)) (omega arith)
+    cond-true (is_on n s m x) _ _ (ap (is_on n s m) same ∙ h) ∙ ap (λ (y : Provisioned). Some (entry i y)) same ∙ ap (λ k. Some (entry k c)) (omega arith)
 found-at n s m i (suc k) (x ∷ cs) c e h one =
     let other : is_on n s m x ≡ false = false_from_ne_true _ (λ t. let bad : suc k ≡ 0 = one 0 x refl t in absurd (omega arith)) in
-    else_is (is_on n s m x) _ _ other
+    cond-false (is_on n s m x) _ _ other
     ∙ found-at n s m (i + 1) k cs c e h (λ j y g t. let more : suc k ≡ suc j = one (suc j) y g t in omega arith)
     ∙ ap (λ k. Some (entry k c)) (omega arith)
 
@@ -59,12 +58,6 @@ found-gives n s m i (x ∷ cs) e h = found_by n s m i x cs e (is_on n s m x) ref
 same_slot : (a b : Slot) → a.0 ≡ b.0 → a ≡ b
 same_slot a b e = ap (λ k. let s : Slot = record { 0 = k } in s) e
 
-swap : (a b : Bool) → (a && b) ≡ (b && a)
-swap true true = refl
-swap true false = refl
-swap false true = refl
-swap false false = refl
-
 module _ (n : ℕ) (cs : List Provisioned) (ring : AreOnRing n cs) (index : ℕ) (c : Provisioned) (is : slice_get cs index ≡ Some c) where
   inside : c.from.0 < n
   inside = (ring.inside index c is).0
@@ -88,15 +81,16 @@ module _ (n : ℕ) (cs : List Provisioned) (ring : AreOnRing n cs) (index : ℕ)
   start = going-none n some East c.from.0 inside
 
   steps : (i : ℕ) → i < n → eastwards n c.from.0 (east i) ≡ i
-  unfolding east
-  steps i h = ap (λ q. eastwards n q (east i)) (sym start) ∙ ap (λ k. eastwards n (east 0) (east k)) (omega arith) ∙ far_east n some c.from.0 0 i h
+  unfolding going east
+  steps i h = eastwards-place n c.from.0 i inside h
 
   apart : (i j : ℕ) → i < n → j < n → east i ≡ east j → i ≡ j
-  apart i j hi hj e = sym (steps i hi) ∙ ap (eastwards n c.from.0) e ∙ steps j hj
+  unfolding east
+  apart i j hi hj e = going-once n some East c.from.0 i j hi hj e
 
   holds-at : (i : ℕ) → i < (arc_length n c) → holds n c (east i) ≡ true
-  unfolding holds_span arc_length east
-  holds-at i h = and_from _ _ (lt-ltb _ _ (going-inside n some East c.from.0 i)) (lt-ltb _ _ (let e = steps i (omega (arith, arc-short)) in omega arith))
+  unfolding arc_length east
+  holds-at i h = span_holds n (east i) (arc_of n c) (going-inside n some East c.from.0 i) (let e = steps i (omega (arith, arc-short)) in omega arith)
 
   on_span : (i : ℕ) → i < (arc_length n c) → circuit_from n (east i) c.slot.0 0 cs ≡ Some (entry index c)
   unfolding east
@@ -107,7 +101,7 @@ module _ (n : ℕ) (cs : List Provisioned) (ring : AreOnRing n cs) (index : ℕ)
       ∙ ap (λ k. Some (entry k c)) (omega arith)
 
   end-first : end_at c (east 0) ≡ Some A
-  end-first = then_is (c.from.0 == east 0) _ _ (eq-eqb c.from.0 (east 0) (sym start))
+  end-first = cond-true (c.from.0 == east 0) _ _ (eq-eqb c.from.0 (east 0) (sym start))
 
   not_first : (i : ℕ) → 0 < i → i < n → (c.from.0 == east i) ≡ false
   not_first i h g = ne_eqb c.from.0 (east i) (λ e. let z : 0 ≡ i = apart 0 i some g (start ∙ e) in absurd (omega arith))
@@ -124,12 +118,12 @@ module _ (n : ℕ) (cs : List Provisioned) (ring : AreOnRing n cs) (index : ℕ)
   arc-long = elim (cases_eq 0 (arc_length n c)) [ inl none ↦ absurd (ring.two index c is (sym start ∙ ap east none ∙ sym last)) | inr more ↦ omega arith ]
 
   end-last : end_at c (east (arc_length n c)) ≡ Some B
-  end-last = else_is (c.from.0 == east (arc_length n c)) _ _ (not_first (arc_length n c) arc-long arc-short) ∙ then_is (port_at c B == east (arc_length n c)) _ _ (eq-eqb (port_at c B) (east (arc_length n c)) last)
+  end-last = cond-false (c.from.0 == east (arc_length n c)) _ _ (not_first (arc_length n c) arc-long arc-short) ∙ cond-true (port_at c B == east (arc_length n c)) _ _ (eq-eqb (port_at c B) (east (arc_length n c)) last)
 
   end-none : (i : ℕ) → 0 < i → i < (arc_length n c) → end_at c (east i) ≡ None
   end-none i h g =
-      else_is (c.from.0 == east i) _ _ (not_first i h (omega (arith, arc-short)))
-      ∙ else_is (port_at c B == east i) _ _ (ne_eqb (port_at c B) (east i) (λ e. let z : (arc_length n c) ≡ i = apart (arc_length n c) i arc-short (omega (arith, arc-short)) (sym last ∙ e) in absurd (omega arith)))
+      cond-false (c.from.0 == east i) _ _ (not_first i h (omega (arith, arc-short)))
+      ∙ cond-false (port_at c B == east i) _ _ (ne_eqb (port_at c B) (east i) (λ e. let z : (arc_length n c) ≡ i = apart (arc_length n c) i arc-short (omega (arith, arc-short)) (sym last ∙ e) in absurd (omega arith)))
 
   pub seen-east : Seen n cs index c East c.from.0 A B
   unfolding east
@@ -160,7 +154,7 @@ module _ (n : ℕ) (cs : List Provisioned) (ring : AreOnRing n cs) (index : ℕ)
     on_arc = λ i h. ap (λ s. circuit_from n s c.slot.0 0 cs) (west_way i ((arc_length n c) - suc i) (omega arith)) ∙ on_span ((arc_length n c) - suc i) (omega arith);
     starts = ap (end_at c) (west 0 (arc_length n c) (omega arith)) ∙ end-last;
     passes_by = λ i h g. ap (end_at c) (west i ((arc_length n c) - i) (omega arith)) ∙ end-none ((arc_length n c) - i) (omega arith) (omega arith);
-    both = λ f. swap (f (port_at c A)) (f (port_at c B)) ∙ ap (λ q. f q && f (port_at c A)) (last ∙ sym (west 0 (arc_length n c) (omega arith)))
+    both = λ f. and_comm (f (port_at c A)) (f (port_at c B)) ∙ ap (λ q. f q && f (port_at c A)) (last ∙ sym (west 0 (arc_length n c) (omega arith)))
         ∙ ap (λ q. f (going n West (east (arc_length n c)) 0) && f q) (sym start ∙ sym (west (arc_length n c) 0 (omega arith)));
     distant_at = sym start ∙ sym (west (arc_length n c) 0 (omega arith));
     distant_faces = refl;

@@ -1,22 +1,13 @@
 -- Nodes at rest: what is used of the settled states of a ring.
-use Rattle.std.proofs.Common.{◌≡◌, ℕ, ◌+◌, ◌-◌, ◌<◌, ◌≤◌, ◌⊎◌, suc, Bool, true, false, Option, refl, ap, ◌∙◌, arith}
-use Rattle.std.specs.Prelude.{if◌then◌else◌}
+use Rattle.std.proofs.Common.{◌≡◌, ℕ, ◌+◌, ◌-◌, ◌<◌, ◌≤◌, ◌⊎◌, suc, Bool, true, false, Option, ap, ◌∙◌, arith, ap₂}
 use Rattle.sdh_nodestate.specs.declared.NodeState.{NodeState}
 use Rattle.sdh_ringmap.specs.Places.{opposite, span_at}
 use Rattle.sdh_ringmap.specs.declared.Pos.{Pos}
 use Rattle.sdh_ringmap.specs.declared.Side.{Side}
-use Rattle.sdh_routes.proofs.Going.{going-add, going-inside, mirror, mirror-way, way-behind, way-inside}
+use Rattle.sdh_ringmap.proofs.Going.{going-add, going-inside, mirror, mirror-way, way-behind, way-inside}
 use Rattle.sdh_routes.proofs.Views.{Idle, Isolated, PassThrough, Switch, far_at, side_state}
 use Rattle.sdh_routes.specs.Law.{is_pass}
-use Rattle.sdh_routes.specs.Steps.{going, way}
-
-pub then_is : {X : Type 0} (b : Bool) (x y : X) → b ≡ true → (if b then x else y) ≡ x
-then_is true x y e = refl
-then_is false x y e = cc
-
-pub else_is : {X : Type 0} (b : Bool) (x y : X) → b ≡ false → (if b then x else y) ≡ y
-else_is true x y e = cc
-else_is false x y e = refl
+use Rattle.sdh_ringmap.specs.Steps.{going, way}
 
 -- a ring of n whose nodes are at rest
 pub record Resting (n : ℕ) : Type 0 where
@@ -69,16 +60,12 @@ module _ (n : ℕ) (r : Resting n) where
         (ap r.applied (mirror-way n some d p k i (suc (i + k)) (omega arith)) ∙ hit)
         ∙ ap far_at (mirror n some d p k (suc i) (suc (i + k)) (omega arith))
 
-    by_tests : (f g : Option Pos) (a b x y : Bool) (rest : NodeState) → a ≡ x → b ≡ y → side_state d a b f g rest ≡ side_state d x y f g rest
-    by_tests f g a b x y rest e h = cc
-
     -- the state after i + 1 steps, by the spans ahead and behind
     pub state-at : (i : ℕ) (x y : Bool) → on (suc i) ≡ x → on i ≡ y → r.state (going n d p (suc i)) ≡ side_state d x y
         (r.far d (going n d p (suc i))) (r.far (opposite d) (going n d p (suc i))) (r.rest (going n d p (suc i)))
-    state-at i x y e h = r.by_sides d (going n d p (suc i)) ∙ by_tests
-        (r.far d (going n d p (suc i))) (r.far (opposite d) (going n d p (suc i)))
-        (on (suc i)) (r.applied (span_at n (going n d p (suc i)) (opposite d))) x y (r.rest (going n d p (suc i)))
-        e (ap r.applied (way-behind n some d p i) ∙ h)
+    state-at i x y e h =
+        let q = going n d p (suc i) in
+        r.by_sides d q ∙ ap₂ (λ a b. side_state d a b (r.far d q) (r.far (opposite d) q) (r.rest q)) e (ap r.applied (way-behind n some d p i) ∙ h)
 
     pub state-isolated : (i : ℕ) → on (suc i) ≡ true → on i ≡ true → r.state (going n d p (suc i)) ≡ Isolated
     state-isolated i e h = state-at i true true e h

@@ -1,5 +1,5 @@
 -- The way of a port whose circuit's arc meets the applied set, seen from the other end of the circuit.
-use Rattle.std.proofs.Common.{◌≡◌, ℕ, ◌+◌, ◌-◌, ◌*◌, ◌<◌, ◌≤◌, suc, Bool, true, false, Option, List, refl, ap, sym, ◌∙◌, subst, arith, inl, inr, ◌⊎◌}
+use Rattle.std.proofs.Common.{◌≡◌, ℕ, ◌+◌, ◌-◌, ◌*◌, ◌<◌, ◌≤◌, suc, Bool, true, false, Option, List, refl, ap, sym, ◌∙◌, subst, arith, inl, inr, ◌⊎◌, ap₂}
 use Rattle.std.specs.Prelude.{◌&&◌, nat_le}
 use Rattle.std.proofs.lemmas.Bool.{and_from, and_left, le-leb, lt-leb, cases_lt}
 use Rattle.sdh_bridge.specs.declared.Origin.TheVariants.{Ais, Protection}
@@ -10,13 +10,15 @@ use Rattle.sdh_ringmap.specs.Places.{opposite}
 use Rattle.sdh_ringmap.specs.declared.Pos.{Pos}
 use Rattle.sdh_ringmap.specs.declared.Side.{Side}
 use Rattle.sdh_ringmap.specs.declared.Side.TheVariants.{East, West}
-use Rattle.sdh_routes.proofs.Going.{going-round, passes-at, twice, way-behind}
+use Rattle.sdh_ringmap.proofs.Going.{going-round, way-behind}
+use Rattle.sdh_ringmap.proofs.Sides.{opposite_twice}
+use Rattle.sdh_routes.proofs.Between.{passes-at}
 use Rattle.sdh_routes.proofs.Passing.{bridged-leaves, carries-by, is_open, isolated-stands, switched-stands}
 use Rattle.sdh_routes.proofs.Seen.{Seen}
 use Rattle.sdh_routes.proofs.Segments.{IsFree, IsHit, along, bridge, chain_ahead, chain_passes, delivered, home, leads-on, on-round, own, passing, sending, taking}
 use Rattle.sdh_routes.proofs.States.{Resting, any-applied, on, state-ahead, state-behind, state-isolated}
 use Rattle.sdh_routes.proofs.Views.{Switch, arc_length, carried, far_at, passes}
-use Rattle.sdh_routes.specs.Steps.{going}
+use Rattle.sdh_ringmap.specs.Steps.{going}
 use Rattle.sdh_routes.specs.Walks.{Leads, carries_in, delivery, port_at, protection_in, stand, stands_in, working_in}
 use Rattle.sdh_squelch.specs.Table.{circuit_from}
 
@@ -32,9 +34,6 @@ module _ (n : ℕ) (r : Resting n) (cs : List Provisioned) (some : 0 < n) (d : S
   abbrev pub both_test : ℕ → ℕ → Bool
   both_test i k = nat_le (n - i) k && nat_le ((arc_length n c) - i) k
 
-  two : (a b x y : Bool) → a ≡ x → b ≡ y → (a && b) ≡ (x && y)
-  two a b x y e h = cc
-
   pub ends-passed : (i k : ℕ) → 0 < i → i ≤ (arc_length n c) → k < n →
       (passes n d (going n d p i) (going n d p (i + k)) (port_at c A) && passes n d (going n d p i) (going n d p (i + k)) (port_at c B)) ≡ both_test i k
   ends-passed i k h g kn =
@@ -42,21 +41,21 @@ module _ (n : ℕ) (r : Resting n) (cs : List Provisioned) (some : 0 < n) (d : S
       let test : ℕ → Bool = λ q. passes n d (going n d p i) (going n d p (i + k)) q in
       let first : going n d p 0 ≡ going n d p (i + (n - i)) = sym (going-round n some d p 0) ∙ ap (going n d p) (omega arith) in
       let last : going n d p (arc_length n c) ≡ going n d p (i + ((arc_length n c) - i)) = ap (going n d p) (omega arith) in
-      seen.both test ∙ two _ _ _ _ (ap test first ∙ passes-at n some d p i k (n - i) kn (omega arith)) (ap test last ∙ passes-at n some d p i k ((arc_length n c) - i) kn (omega arith))
+      seen.both test ∙ ap₂ ◌&&◌ (ap test first ∙ passes-at n some d p i k (n - i) kn (omega arith)) (ap test last ∙ passes-at n some d p i k ((arc_length n c) - i) kn (omega arith))
 
   -- a node on the arc that switches the side behind, with its far end k steps ahead
   pub carry-behind : (l k : ℕ) → l < (arc_length n c) → k < n → carries_in n cs (going n d p (suc l)) (opposite d) c.slot.0 (far_at (going n d p (suc l + k))) ≡ both_test (suc l) k
   carry-behind l k h g =
       let q = going n d p (suc l) in let f = going n d p (suc l + k) in
       carries-by n cs q (opposite d) c.slot.0 f ∙ ap (λ o. carried n q o (opposite d) f) (ap (λ s. circuit_from n s c.slot.0 0 cs) (way-behind n some d p l) ∙ seen.on_arc l h)
-      ∙ two _ _ _ _ (chain_ahead n d q f (port_at c A)) (chain_ahead n d q f (port_at c B)) ∙ ends-passed (suc l) k (omega arith) h g
+      ∙ ap₂ ◌&&◌ (chain_ahead n d q f (port_at c A)) (chain_ahead n d q f (port_at c B)) ∙ ends-passed (suc l) k (omega arith) h g
 
   -- a node on the arc that switches the side ahead, with its far end k steps behind
   pub carry-ahead : (l k x : ℕ) → l < (arc_length n c) → k < n → x < (arc_length n c) → going n d p x ≡ going n d p (suc l + k) → carries_in n cs (going n d p x) d c.slot.0 (far_at (going n d p (suc l))) ≡ both_test (suc l) k
   carry-ahead l k x h g hx e =
       let q = going n d p x in let f = going n d p (suc l) in
       carries-by n cs q d c.slot.0 f ∙ ap (λ o. carried n q o d f) (seen.on_arc x hx)
-      ∙ two _ _ _ _ (chain_passes n d q f (port_at c A)) (chain_passes n d q f (port_at c B))
+      ∙ ap₂ ◌&&◌ (chain_passes n d q f (port_at c A)) (chain_passes n d q f (port_at c B))
       ∙ ap (λ y. passes n d f y (port_at c A) && passes n d f y (port_at c B)) e
       ∙ ends-passed (suc l) k (omega arith) h g
 
@@ -120,7 +119,7 @@ module _ (n : ℕ) (r : Resting n) (cs : List Provisioned) (some : 0 < n) (d : S
         let q = going n d p (suc l) in
         ap (stand q) (ap (λ st. stands_in n cs q st (opposite d) c.slot.0) near_side
         ∙ switched-stands n cs q (opposite d) c.slot.0 (far_at (going n d p (suc l + gap))) true (carry-behind l gap hit.inside gap_few ∙ allowed)
-        ∙ ap (λ x. Protection x) (twice n some d))
+        ∙ ap (λ x. Protection x) (opposite_twice d))
 
     pub f_inside : f < (arc_length n c)
     f_inside = let a = hit.ordered in let b = hit.inside in omega arith

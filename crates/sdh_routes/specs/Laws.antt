@@ -12,7 +12,7 @@ use Rattle.sdh_nodestate.specs.declared.NodeState.{NodeState}
 use Rattle.sdh_restoration.specs.Applied.{is_applied}
 use Rattle.sdh_restoration.specs.Settled.{settled}
 use Rattle.sdh_bridge.specs.declared.Origin.{Origin}
-use Rattle.sdh_routes.specs.Steps.{going}
+use Rattle.sdh_ringmap.specs.Steps.{going}
 use Rattle.sdh_restoration.specs.Due.{other_end}
 use Rattle.sdh_routes.specs.Walks.{Stand, stand, port, IsOver, Leads, carries_in, delivery}
 use Rattle.sdh_routes.specs.Law.{IsRouted, IsAlongRoute, IsShort, Ends, is_pass}

@@ -3,7 +3,7 @@
 -- request, answer on it with a constant short word and tell the other way round of it with a constant long word.
 use Rattle.std.proofs.Common.{◌≡◌, ℕ, ◌+◌, ◌-◌, ◌<◌, ◌≤◌, suc, Bool, true, false, Some, None, length, refl, ap, sym, subst, ◌∙◌, arith, inl, inr}
 use Rattle.std.specs.Prelude.{nat_le, nat_lt, not, ◌&&◌, if◌then◌else◌, slice_index}
-use Rattle.std.proofs.lemmas.Bool.{cases_lt, le-leb, lt-leb, lt-ltb, le-ltb}
+use Rattle.std.proofs.lemmas.Bool.{and_right, cases_lt, cond-true, cond-false, le-leb, lt-leb, lt-ltb, le-ltb}
 use Rattle.sdh_kbytes.specs.declared.K.{K}
 use Rattle.sdh_kbytes.specs.declared.Code.{Code}
 use Rattle.sdh_kbytes.specs.declared.Code.TheVariants.{Nr, Rr}
@@ -12,12 +12,12 @@ use Rattle.sdh_kbytes.specs.declared.Path.TheVariants.{Short, Long}
 use Rattle.sdh_kbytes.specs.KBytes.{code_number}
 use Rattle.sdh_ringmap.specs.Places.{opposite}
 use Rattle.sdh_ringmap.specs.declared.Side.{Side}
-use Rattle.sdh_nodestate.specs.Rules.{Scene, local, larger, word_on, short, weight, stronger, word}
+use Rattle.sdh_nodestate.specs.Rules.{Scene, local, larger, word_on, short, stronger, word}
 use Rattle.sdh_settling.specs.Signals.{request_on, fails_on}
 use Rattle.sdh_settling.specs.Runs.{Run, at_round, IsRun, bare}
 use Rattle.sdh_settling.proofs.OneNode.{short_of, short_code, word_short}
 use Rattle.sdh_settling.proofs.Bare.{unbare}
-use Rattle.sdh_settling.proofs.Walks.{back}
+use Rattle.sdh_ringmap.proofs.Sides.{neighbour_back}
 use Rattle.sdh_settling.proofs.Runs.{next, next_below, request, local_is, asks_back, short_le, weight_le, failing}
 use Rattle.sdh_settling.proofs.Levels as levels
 use Rattle.sdh_settling.proofs.Levels.{IsLevel, sends_short, sends_far}
@@ -35,12 +35,6 @@ stronger_is s d = refl
 short_none : (s : Scene) (d : Side) → word_on s d ≡ None → short s d ≡ Nr
 unfolding short
 short_none s d e = rw e
-
-if_true : {X : Type 0} (b : Bool) (x y : X) → b ≡ true → (if b then x else y) ≡ x
-if_true b x y e = rw e
-
-if_false : {X : Type 0} (b : Bool) (x y : X) → b ≡ false → (if b then x else y) ≡ y
-if_false b x y e = rw e
 
 module _ (run : Run) (R : IsRun run) where
   abbrev n : ℕ
@@ -63,9 +57,6 @@ module _ (run : Run) (R : IsRun run) where
 
   abbrev asked : ℕ → Side → ℕ
   asked p d = request run R p d
-
-  abbrev weight_at : ℕ → ℕ → Side → ℕ
-  weight_at t p d = weight (at_round run t p) d
 
   abbrev word_at : ℕ → ℕ → Side → K
   word_at t p d = word (at_round run t p) d
@@ -97,11 +88,11 @@ module _ (run : Run) (R : IsRun run) where
     by_local t p d g o l =
         let lo = local_is run R t p d in
         let lo_n = ap code_number lo in
-        let no : top_code p d ≡ code p d = if_false (outdone p d) (code (nx p d) (opposite d)) (code p d) o in
+        let no : top_code p d ≡ code p d = cond-false (outdone p d) (code (nx p d) (opposite d)) (code p d) o in
         record {
           strong = subst (λ (x : Code). c ≤ code_number x) (sym no) g;
           top = stronger_is (at t p) d ∙ larger_left (local (at t p) d) (short (at t p) d) (omega arith) ∙ lo ∙ sym no;
-          answer = if_true (nat_le (code_number (short (at t p) d)) (code_number (local (at t p) d))) (local (at t p) d) Rr (le-leb _ _ (omega arith)) ∙ lo ∙ sym (if_false (outdone p d) Rr (code p d) o);
+          answer = cond-true (nat_le (code_number (short (at t p) d)) (code_number (local (at t p) d))) (local (at t p) d) Rr (le-leb _ _ (omega arith)) ∙ lo ∙ sym (cond-false (outdone p d) Rr (code p d) o);
         }
 
     -- by its neighbour's request
@@ -109,11 +100,11 @@ module _ (run : Run) (R : IsRun run) where
     by_other t p d g l o is =
         let lo = ap code_number (local_is run R t p d) in
         let sh = ap code_number is in
-        let yes : top_code p d ≡ code (nx p d) (opposite d) = if_true (outdone p d) (code (nx p d) (opposite d)) (code p d) o in
+        let yes : top_code p d ≡ code (nx p d) (opposite d) = cond-true (outdone p d) (code (nx p d) (opposite d)) (code p d) o in
         record {
           strong = subst (λ (x : Code). c ≤ code_number x) (sym yes) g;
           top = stronger_is (at t p) d ∙ larger_right (local (at t p) d) (short (at t p) d) (omega arith) ∙ is ∙ sym yes;
-          answer = if_false (nat_le (code_number (short (at t p) d)) (code_number (local (at t p) d))) (local (at t p) d) Rr (lt-leb _ _ (omega arith)) ∙ sym (if_true (outdone p d) Rr (code p d) o);
+          answer = cond-false (nat_le (code_number (short (at t p) d)) (code_number (local (at t p) d))) (local (at t p) d) Rr (lt-leb _ _ (omega arith)) ∙ sym (cond-true (outdone p d) Rr (code p d) o);
         }
 
     -- the word on the span itself
@@ -124,11 +115,7 @@ module _ (run : Run) (R : IsRun run) where
         ap bare (word_short (at t p) d (sends_short run R c level t p d l h (omega arith))) ∙ ap (λ x. plain p d x Short) k.answer
 
     not_outdone : (p : ℕ) (d : Side) → asks (nx p d) (opposite d) ≤ asks p d → outdone p d ≡ false
-    not_outdone p d l = last (not (fails_on (run.need p) d)) (nat_lt (asks p d) (asks (nx p d) (opposite d))) (le-ltb _ _ l)
-      where
-        last : (a b : Bool) → b ≡ false → (a && b) ≡ false
-        last true b e = e
-        last false b e = refl
+    not_outdone p d l = and_right (not (fails_on (run.need p) d)) (nat_lt (asks p d) (asks (nx p d) (opposite d))) (le-ltb _ _ l)
 
     -- the end with the larger request knows it at once
     first_end : (t p : ℕ) (d : Side) → 0 < t → p < n → c ≤ asks p d → asks (nx p d) (opposite d) ≤ asks p d → Knows t p d
@@ -141,14 +128,14 @@ module _ (run : Run) (R : IsRun run) where
         let low = level.low in
         let w_code : w.code ≡ code (nx p d) (opposite d) = ap (λ (k : K). k.code) is in
         let w_num = ap code_number w_code in
-        let said : short (at t p) d ≡ w.code = short_of (at t p) d w o (ap (λ (k : K). k.path) is) (ap (λ (k : K). k.to) is ∙ ap id (back n p d h)) (ap (λ (k : K). k.from) is) (omega arith) in
+        let said : short (at t p) d ≡ w.code = short_of (at t p) d w o (ap (λ (k : K). k.path) is) (ap (λ (k : K). k.to) is ∙ ap id (neighbour_back n p d h)) (ap (λ (k : K). k.from) is) (omega arith) in
         let known : outdone p d ≡ true = ap (λ b. not b && nat_lt (asks p d) (asks (nx p d) (opposite d))) e ∙ lt-ltb (asks p d) (asks (nx p d) (opposite d)) m in
         by_other t p d g m known (said ∙ w_code)
 
     -- the stronger end says it in each round
     first_said : (t q : ℕ) (o : Side) → n < t → q < n → c ≤ asks q o → asks (nx q o) (opposite o) ≤ asks q o → bare (word_at t q o) ≡ plain q o (code q o) Short
     first_said t q o l h g m =
-        let no : answer_code q o ≡ code q o = if_false (outdone q o) Rr (code q o) (not_outdone q o m) in
+        let no : answer_code q o ≡ code q o = cond-false (outdone q o) Rr (code q o) (not_outdone q o m) in
         known_word t q o l h (first_end t q o (omega arith) h g m) ∙ ap (λ x. plain q o x Short) no
 
     -- three rounds later

@@ -12,11 +12,11 @@ use Rattle.sdh_kbytes.specs.declared.Path.TheVariants.{Long}
 use Rattle.sdh_nodestate.specs.Rules.{Scene, word, relayed, weight_of, stronger}
 use Rattle.sdh_nodestate.specs.Words.{IsMember}
 use Rattle.sdh_settling.specs.Runs.{Run, at_round, IsRun}
-use Rattle.sdh_settling.specs.Walks.{go}
-use Rattle.sdh_settling.proofs.Walks.{go_below, go_apart, go_to, IsReached}
+use Rattle.sdh_ringmap.specs.Steps.{going}
+use Rattle.sdh_ringmap.proofs.Going.{going-inside, going-none, going-first, going-apart, reached, IsReached}
 use Rattle.sdh_settling.proofs.Sources.{word_source, relayed_heard, IsOwnOrRelayed}
 use Rattle.sdh_settling.proofs.OneNode.{long_from, relayed_from, Kind, a_short, a_long, a_relay, kind}
-use Rattle.sdh_settling.proofs.Runs.{next, next_below, id_apart, request, weight_le}
+use Rattle.sdh_settling.proofs.Runs.{some_nodes, next, next_below, id_apart, request, weight_le}
 
 -- k rounds after t
 abbrev later : ℕ → ℕ → ℕ
@@ -65,16 +65,16 @@ module _ (run : Run) (R : IsRun run) where
   own_long_code t q d w p f (a_relay c) = absurd ((relayed_heard (at t q) d w c).foreign f)
 
   module _ (c : ℕ) (requests : (p : ℕ) (d : Side) → p < n → request run R p d ≤ c) where
-    traced : (k t p : ℕ) (e : Side) → p < n → k < n → (away (later k (suc t)) p e).from ≡ id (go n e p k) → (away (later k (suc t)) p e).path ≡ Long → code_number (away (later k (suc t)) p e).code ≤ c
+    traced : (k t p : ℕ) (e : Side) → p < n → k < n → (away (later k (suc t)) p e).from ≡ id (going n e p k) → (away (later k (suc t)) p e).path ≡ Long → code_number (away (later k (suc t)) p e).code ≤ c
     traced zero t p e h few f l =
-        let own = ap code_number (own_long_code (suc t) p (opposite e) (away (suc t) p e) l f (kind (at (suc t) p) (opposite e))) in
+        let own = ap code_number (own_long_code (suc t) p (opposite e) (away (suc t) p e) l (f ∙ ap id (going-none n (some_nodes run R) e p h)) (kind (at (suc t) p) (opposite e))) in
         let w = weight_le run R (suc t) p (opposite (opposite e)) (omega arith) h in
         let q = requests p (opposite (opposite e)) h in
         omega arith
     traced (suc k) t p e h few f l = elim (step (later k (suc t)) p e h) [
-      | inl own ↦ absurd (id_apart run R (go n e p (suc k)) p (go_below n e p (suc k) h) h (go_apart n e p (suc k) h (omega arith) few) (sym f ∙ own))
+      | inl own ↦ absurd (id_apart run R (going n e p (suc k)) p (going-inside n (some_nodes run R) e p (suc k)) h (going-apart n (some_nodes run R) e p (suc k) h (omega arith) few) (sym f ∙ own))
       | inr same ↦ (
-          let x = traced k t (nx p e) e (next_below run R p e) (omega arith) (ap (λ (k : K). k.from) (sym same) ∙ f) (ap (λ (k : K). k.path) (sym same) ∙ l) in
+          let x = traced k t (nx p e) e (next_below run R p e) (omega arith) (ap (λ (k : K). k.from) (sym same) ∙ f ∙ ap id (sym (going-first n (some_nodes run R) e p k))) (ap (λ (k : K). k.path) (sym same) ∙ l) in
           let y = ap (λ (k : K). code_number k.code) same in
           omega arith)
     ]
@@ -84,11 +84,11 @@ module _ (run : Run) (R : IsRun run) where
         let k = way.steps in
         let few = way.few in
         let when : later k (suc (t - 1 - k)) ≡ t = later_is k (suc (t - 1 - k)) ∙ omega arith in
-        let from : (away (later k (suc (t - 1 - k))) p e).from ≡ id (go n e p k) = ap (λ u. (away u p e).from) when ∙ f ∙ ap id (sym way.is) in
+        let from : (away (later k (suc (t - 1 - k))) p e).from ≡ id (going n e p k) = ap (λ u. (away u p e).from) when ∙ f ∙ ap id (sym way.there) in
         subst (λ u. code_number (away u p e).code ≤ c) when (traced k (t - 1 - k) p e h few from (ap (λ u. (away u p e).path) when ∙ l))
 
     long_member : (t p : ℕ) (e : Side) → n ≤ t → p < n → (away t p e).path ≡ Long → IsMember run.ids (away t p e).from → code_number (away t p e).code ≤ c
-    long_member t p e g h l m = long_by t p e m.0 g h l (sym m.2) (go_to n e p m.0 h m.1)
+    long_member t p e g h l m = long_by t p e m.0 g h l (sym m.2) (reached n (some_nodes run R) e p m.0 h m.1)
 
     long_le : (t p : ℕ) (e : Side) → n ≤ t → p < n → (away t p e).path ≡ Long → code_number (away t p e).code ≤ c
     long_le t p e g h l = long_member t p e g h l (R.sources t p (opposite e) h)

@@ -15,14 +15,16 @@ use Rattle.sdh_settling.specs.Signals.{fails_on}
 use Rattle.sdh_settling.proofs.Sources.{relayed_heard}
 use Rattle.sdh_restoration.specs.Applied.{highest}
 use Rattle.sdh_settling.specs.Runs.{Run, IsRun, bare, run_requests}
-use Rattle.sdh_settling.specs.Walks.{go}
-use Rattle.sdh_settling.proofs.Walks.{span_below, go_to, neighbour_below, IsReached}
+use Rattle.sdh_ringmap.specs.Steps.{going}
+use Rattle.sdh_ringmap.proofs.Going.{going-none, going-first, reached, IsReached}
+use Rattle.sdh_ringmap.proofs.Sides.{span_below}
 use Rattle.sdh_settling.proofs.OneNode.{choose_rest}
 use Rattle.sdh_settling.proofs.Bare.{bare_scene, IsSameOrRelayed, same_words}
 use Rattle.sdh_settling.proofs.Firsts.{first_any}
-use Rattle.sdh_settling.proofs.Runs.{at, next, request, request_back, weight_le, at_least_waiting}
+use Rattle.sdh_settling.proofs.Runs.{at, some_nodes, next, next_below, request, request_back, weight_le, at_least_waiting}
 use Rattle.sdh_settling.proofs.Spans.{size, spans}
-use Rattle.sdh_settling.proofs.Requests.{highest_ge, highest_had}
+use Rattle.sdh_restoration.proofs.Highest.{top_of}
+use Rattle.sdh_settling.proofs.Requests.{highest_ge}
 use Rattle.sdh_settling.proofs.Backward.{relays_le}
 use Rattle.sdh_settling.proofs.Levels.{IsLevel, plain, answer_code}
 use Rattle.sdh_settling.proofs.Agreement.{short_said}
@@ -44,9 +46,6 @@ module _ (run : Run) (R : IsRun run) where
 
   abbrev asked : ℕ → Side → ℕ
   asked p d = request run R p d
-
-  nx_below : (p : ℕ) (d : Side) → nx p d < n
-  nx_below p d = neighbour_below n p d (let e = R.ids_ok.enough in omega arith)
 
   -- what is heard doesn't change any more, but for marks
   abbrev pub IsHeardSame : ℕ → Type 0
@@ -77,7 +76,7 @@ module _ (run : Run) (R : IsRun run) where
           let o = opposite e in
           let across = request_back run R p e h in
           let many = R.ids_ok.enough in
-          fixed_word (n + 4) p e (plain run R z o (answer_code run R z o) Short) h (omega arith) (λ v w. short_said run R c level v z o w (nx_below p e) (omega arith)) (fails_on (run.need p) e) refl t u a b)
+          fixed_word (n + 4) p e (plain run R z o (answer_code run R z o) Short) h (omega arith) (λ v w. short_said run R c level v z o w (next_below run R p e) (omega arith)) (fails_on (run.need p) e) refl t u a b)
     ]
 
   -- without requests
@@ -98,7 +97,7 @@ module _ (run : Run) (R : IsRun run) where
         let z = nx p e in
         let o = opposite e in
         let many = R.ids_ok.enough in
-        fixed_word (n + 1) p e (plain run R z o Nr Short) h (omega arith) (λ v w. ap bare (word_rest (node v z) o (chosen_rest v z o (omega arith) (nx_below p e)))) (fails_on (run.need p) e) refl t u a b
+        fixed_word (n + 1) p e (plain run R z o Nr Short) h (omega arith) (λ v w. ap bare (word_rest (node v z) o (chosen_rest v z o (omega arith) (next_below run R p e)))) (fails_on (run.need p) e) refl t u a b
 
   -- what follows
 
@@ -116,23 +115,23 @@ module _ (run : Run) (R : IsRun run) where
     heard_on t p East k f = let h = relayed_heard (node t p) West k f in (h.heard, h.foreign)
 
     -- a word k steps from its source no longer changes k rounds later
-    words_by : (k t p : ℕ) (e : Side) → p < n → (away t p e).from ≡ slice_index run.ids (go n e p k) → m + k ≤ t → IsSameOrRelayed (node (suc t) p) (node t p) (opposite e) (away (suc t) p e) (away t p e) → 0 < m → away (suc t) p e ≡ away t p e
+    words_by : (k t p : ℕ) (e : Side) → p < n → (away t p e).from ≡ slice_index run.ids (going n e p k) → m + k ≤ t → IsSameOrRelayed (node (suc t) p) (node t p) (opposite e) (away (suc t) p e) (away t p e) → 0 < m → away (suc t) p e ≡ away t p e
     words_by k t p e h f l (inl is) some = is
-    words_by zero t p e h f l (inr two) some = absurd ((heard_on t p e (away t p e) two.other).1 f)
+    words_by zero t p e h f l (inr two) some = absurd ((heard_on t p e (away t p e) two.other).1 (f ∙ ap (slice_index run.ids) (going-none n (some_nodes run R) e p h)))
     words_by (suc k) zero p e h f l (inr two) some = absurd (omega arith)
     words_by (suc k) (suc t) p e h f l (inr two) some =
         let now = R.past (suc t) p e (away (suc (suc t)) p e) h (heard_on (suc (suc t)) p e (away (suc (suc t)) p e) two.one).0 in
         let old = R.past t p e (away (suc t) p e) h (heard_on (suc t) p e (away (suc t) p e) two.other).0 in
         let z = nx p e in
-        now ∙ words_by k t z e (nx_below p e) (ap (λ (w : K). w.from) (sym old) ∙ f) (omega arith) (same_words (node (suc t) z) (node t z) (opposite e) (scenes (suc t) t z (omega arith) (omega arith) (nx_below p e))) some ∙ sym old
+        now ∙ words_by k t z e (next_below run R p e) (ap (λ (w : K). w.from) (sym old) ∙ f ∙ ap (slice_index run.ids) (sym (going-first n (some_nodes run R) e p k))) (omega arith) (same_words (node (suc t) z) (node t z) (opposite e) (scenes (suc t) t z (omega arith) (omega arith) (next_below run R p e))) some ∙ sym old
 
     words_at : (t p : ℕ) (e : Side) (z : ℕ) → p < n → (away t p e).from ≡ slice_index run.ids z → m + n ≤ t → 0 < m → IsReached n e p z → away (suc t) p e ≡ away t p e
     words_at t p e z h f l some walk =
         let few = walk.few in
-        words_by walk.steps t p e h (f ∙ ap (λ i. slice_index run.ids i) (sym walk.is)) (omega arith) (same_words (node (suc t) p) (node t p) (opposite e) (scenes (suc t) t p (omega arith) (omega arith) h)) some
+        words_by walk.steps t p e h (f ∙ ap (slice_index run.ids) (sym walk.there)) (omega arith) (same_words (node (suc t) p) (node t p) (opposite e) (scenes (suc t) t p (omega arith) (omega arith) h)) some
 
     words_from : (t p : ℕ) (e : Side) → p < n → m + n ≤ t → 0 < m → IsMember run.ids (away t p e).from → away (suc t) p e ≡ away t p e
-    words_from t p e h l some from = words_at t p e from.0 h (sym from.2) l some (go_to n e p from.0 h from.1)
+    words_from t p e h l some from = words_at t p e from.0 h (sym from.2) l some (reached n (some_nodes run R) e p from.0 h from.1)
 
     pub words : (t p : ℕ) (d : Side) → p < n → m + n ≤ t → 0 < m → word (node (suc t) p) d ≡ word (node t p) d
     words t p West h l some = words_from t p East h l some (R.sources t p West h)
@@ -165,14 +164,14 @@ module _ (run : Run) (R : IsRun run) where
       let rs = run_requests run in
       let many = R.ids_ok.enough in
       let long = size run R in
-      let i = highest_had rs (omega arith) in
-      let inside : i.0 < n = let x = i.1 in omega arith in
+      let first = top_of rs (omega arith) in
+      let inside : first.place < n = let x = first.inside in omega arith in
       record {
         above = λ p d h. (let x = spans run R p d h in let b = span_below n p d h in let y = highest_ge rs (span_at n p d) (omega arith) in omega arith);
-        at_node = i.0;
+        at_node = first.place;
         on_side = East;
         inside = inside;
-        is = sym (spans run R i.0 East inside) ∙ i.2;
+        is = sym (spans run R first.place East inside) ∙ first.top;
       }
 
   -- the words stay the same

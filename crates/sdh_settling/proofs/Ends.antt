@@ -1,26 +1,25 @@
 -- What a node hears, sends and does in round 4n + 7 or later, by which of its spans are at the level. On a side whose
 -- span is not, it hears the long word of the first end that is met on the way round.
-use Rattle.std.proofs.Common.{◌≡◌, ◌≢◌, ℕ, ◌+◌, ◌*◌, ◌<◌, ◌≤◌, suc, zero, Bool, true, false, Option, Some, None, List, length, refl, ap, sym, subst, ◌∙◌, arith, inl, inr, ◌⊎◌}
-use Rattle.std.specs.Prelude.{◌==◌, slice_index, cond, nat_lt, option_map, find}
+use Rattle.std.proofs.Common.{◌≡◌, ◌≢◌, ℕ, ◌+◌, ◌*◌, ◌<◌, ◌≤◌, suc, Bool, true, false, Option, Some, None, List, length, refl, ap, sym, subst, ◌∙◌, arith, inl, inr, ◌⊎◌}
+use Rattle.std.specs.Prelude.{◌==◌, slice_index, cond, nat_lt, option_map}
 use Rattle.std.proofs.lemmas.Bool.{cases_lt, ne_eqb, eq-eqb, lt-ltb}
 use Rattle.std.proofs.lemmas.List.Sums.{position_or_len_is}
 use Rattle.sdh_kbytes.specs.declared.K.{K}
 use Rattle.sdh_kbytes.specs.declared.Path.TheVariants.{Long}
 use Rattle.sdh_kbytes.specs.KBytes.{code_number}
 use Rattle.sdh_ringmap.specs.Ids.{AreIds}
-use Rattle.sdh_ringmap.specs.Places.{neighbour, opposite, found_at}
+use Rattle.sdh_ringmap.specs.Places.{opposite, found_at}
 use Rattle.sdh_ringmap.specs.declared.Side.{Side}
 use Rattle.sdh_ringmap.specs.declared.Side.TheVariants.{West, East}
 use Rattle.sdh_ringmap.specs.declared.Pos.{Pos}
 use Rattle.sdh_nodestate.specs.declared.NodeState.TheVariants as state
 use Rattle.sdh_nodestate.specs.Rules.{Scene, word_on, long, weight, chosen, relay, switches, far, is_relay, state_after, state_by}
-use Rattle.sdh_restoration.specs.Settled.{way}
 use Rattle.sdh_settling.specs.Runs.{Run, IsRun, bare}
-use Rattle.sdh_settling.specs.Walks.{go}
-use Rattle.sdh_settling.proofs.Walks.{go_below, go_step, go_apart, go_last, neighbour_below}
+use Rattle.sdh_ringmap.specs.Steps.{going}
+use Rattle.sdh_ringmap.proofs.Going.{going-inside, going-next, going-apart, going-last}
 use Rattle.sdh_settling.proofs.OneNode.{long_of, far_of, switch_lighter, switch_blocked, not_about_to}
 use Rattle.sdh_settling.proofs.Bare.{unbare}
-use Rattle.sdh_settling.proofs.Runs.{at, next, request, request_back, weight_le}
+use Rattle.sdh_settling.proofs.Runs.{at, some_nodes, next, next_below, id_apart, request, request_back, weight_le}
 use Rattle.sdh_settling.proofs.Levels.{IsLevel, plain, top_code, relays}
 use Rattle.sdh_settling.proofs.Agreement.{knows}
 use Rattle.sdh_settling.proofs.Reach.{IsFirst, reach}
@@ -62,14 +61,6 @@ found ids x ok h =
     let is = position_or_len_is (λ i. i == slice_index ids x) ids x 0 (omega arith) (λ k less. ne_eqb (slice_index ids k) (slice_index ids x) (λ e. (let same = ok.distinct k x (omega arith) h e in omega arith))) (λ i. eq-eqb (slice_index ids x) (slice_index ids x) refl) in
     ap (λ i. option_map (λ p. record { 0 = p }) (cond (nat_lt i (length ids)) (Some i) None)) is ∙ ap (λ b. option_map (λ p. record { 0 = p }) (cond b (Some x) None)) (lt-ltb x (length ids) h)
 
--- the first position on a way that passes a test
-pub find_way : (n m k p : ℕ) (e : Side) (test : ℕ → Bool) → k < m → ((j : ℕ) → j < k → test (go n e p (suc j)) ≡ false) → test (go n e p (suc k)) ≡ true → find test (way n e p m) ≡ Some (go n e p (suc k))
-find_way n zero k p e test h near there = absurd (omega arith)
-find_way n (suc m) zero p e test h near there = ap (λ b. cond b (Some (neighbour n p e)) (find test (way n e (neighbour n p e) m))) there
-find_way n (suc m) (suc k) p e test h near there =
-    ap (λ b. cond b (Some (neighbour n p e)) (find test (way n e (neighbour n p e) m))) (near zero (omega arith))
-    ∙ find_way n m k (neighbour n p e) e test (omega arith) (λ j i. near (suc j) (omega arith)) there
-
 module _ (run : Run) (R : IsRun run) (c : ℕ) (level : IsLevel run R c) (t : ℕ) (late : 4 * length run.ids + 7 ≤ t) where
   abbrev n : ℕ
   n = length run.ids
@@ -85,12 +76,6 @@ module _ (run : Run) (R : IsRun run) (c : ℕ) (level : IsLevel run R c) (t : �
 
   abbrev w : ℕ → Side → ℕ
   w p d = weight (node p) d
-
-  nx_below : (p : ℕ) (d : Side) → nx p d < n
-  nx_below p d = neighbour_below n p d (let e = R.ids_ok.enough in omega arith)
-
-  id_apart : (p x : ℕ) → p < n → x < n → p ≢ x → slice_index run.ids p ≢ slice_index run.ids x
-  id_apart p x h g a = λ e. a (R.ids_ok.distinct p x h g e)
 
   -- a span's request is at the level just where its weight is
   pub heavy : (p : ℕ) (d : Side) → p < n → c ≤ asked p d → c ≤ w p d
@@ -109,18 +94,18 @@ module _ (run : Run) (R : IsRun run) (c : ℕ) (level : IsLevel run R c) (t : �
     pub heard_word : K
     pub is : long (node p) e ≡ Some heard_word
     pub strong : c ≤ code_number heard_word.code
-    pub from : heard_word.from ≡ slice_index run.ids (go n e p (suc k))
-    pub to : heard_word.to ≡ slice_index run.ids (nx (go n e p (suc k)) e)
+    pub from : heard_word.from ≡ slice_index run.ids (going n e p (suc k))
+    pub to : heard_word.to ≡ slice_index run.ids (nx (going n e p (suc k)) e)
     pub foreign : heard_word.from ≢ slice_index run.ids p
-    pub far_is : found_at run.ids heard_word.from ≡ Some (record { 0 = go n e p (suc k) })
+    pub far_is : found_at run.ids heard_word.from ≡ Some (record { 0 = going n e p (suc k) })
 
   abbrev says : ℕ → Side → ℕ → K
-  says p e k = plain run R (go n e p (suc k)) e (top_code run R (go n e p (suc k)) e) Long
+  says p e k = plain run R (going n e p (suc k)) e (top_code run R (going n e p (suc k)) e) Long
 
   hears_by : (k p : ℕ) (e : Side) (word : K) → p < n → suc k < n → First p e (suc k) → long (node p) e ≡ Some word → bare word ≡ says p e k → HearsFirst p e k
   hears_by k p e word h few first is same =
-      let x = go n e p (suc k) in
-      let inside = go_below n e p (suc k) h in
+      let x = going n e p (suc k) in
+      let inside = going-inside n (some_nodes run R) e p (suc k) in
       let strong = (knows run R c level t x e (omega arith) inside first.there).strong in
       let code = ap (λ (k : K). code_number k.code) same in
       let from : word.from ≡ slice_index run.ids x = ap (λ (k : K). k.from) same in
@@ -132,16 +117,16 @@ module _ (run : Run) (R : IsRun run) (c : ℕ) (level : IsLevel run R c) (t : �
         strong = omega arith;
         from = from;
         to = ap (λ (k : K). k.to) same;
-        foreign = λ e'. id_apart x p inside h (go_apart n e p (suc k) h (omega arith) few) (sym from ∙ e');
+        foreign = λ e'. id_apart run R x p inside h (going-apart n (some_nodes run R) e p (suc k) h (omega arith) few) (sym from ∙ e');
         far_is = ap (found_at run.ids) from ∙ found run.ids x R.ids_ok inside;
       }
 
   pub hears : (k p : ℕ) (e : Side) → p < n → suc k < n → First p e (suc k) → HearsFirst p e k
   hears k p e h few first =
       let low = level.low in
-      let x = go n e p (suc k) in
+      let x = going n e p (suc k) in
       let f = unbare (word_on (node p) e) (says p e k) (reach run R c level k t p e h few first (omega arith)) in
-      let strong = (knows run R c level t x e (omega arith) (go_below n e p (suc k) h) first.there).strong in
+      let strong = (knows run R c level t x e (omega arith) (going-inside n (some_nodes run R) e p (suc k)) first.there).strong in
       let code = ap (λ (k : K). code_number k.code) f.2 in
       hears_by k p e f.0 h few first (long_of (node p) e f.0 f.1 (ap (λ (k : K). k.path) f.2) (omega arith)) f.2
 
@@ -155,8 +140,8 @@ module _ (run : Run) (R : IsRun run) (c : ℕ) (level : IsLevel run R c) (t : �
     | inl below ↦ below
     | inr above ↦ (
         let few = f.few in
-        let there : c ≤ asked (go n e p (suc k)) e = f.first.there in
-        let at_last : go n e p (suc k) ≡ nx p (opposite e) = go_last n e p (suc k) h (omega arith) in
+        let there : c ≤ asked (going n e p (suc k)) e = f.first.there in
+        let at_last : going n e p (suc k) ≡ nx p (opposite e) = going-last n (some_nodes run R) e p (suc k) h (omega arith) in
         let seen_there : c ≤ asked (nx p (opposite e)) e = subst (λ x. c ≤ asked x e) at_last there in
         let x = other_way p e h less in
         absurd (omega arith))
@@ -164,7 +149,7 @@ module _ (run : Run) (R : IsRun run) (c : ℕ) (level : IsLevel run R c) (t : �
 
   -- the word isn't for p where the first position isn't the last on the way round
   not_for : (p : ℕ) (e : Side) (k : ℕ) → p < n → suc (suc k) < n → (f : HearsFirst p e k) → f.heard_word.to ≢ slice_index run.ids p
-  not_for p e k h few f = λ i. id_apart (nx (go n e p (suc k)) e) p (nx_below (go n e p (suc k)) e) h (λ j. go_apart n e p (suc (suc k)) h (omega arith) few (sym (go_step n e p (suc k)) ∙ j)) (sym f.to ∙ i)
+  not_for p e k h few f = λ i. id_apart run R (nx (going n e p (suc k)) e) p (next_below run R (going n e p (suc k)) e) h (λ j. going-apart n (some_nodes run R) e p (suc (suc k)) h (omega arith) few (sym (going-next n (some_nodes run R) e p (suc k)) ∙ j)) (sym f.to ∙ i)
 
   pub blocked : (p : ℕ) (d e : Side) (k : ℕ) → p < n → w p d ≤ c → w p d < 11 → suc (suc k) < n → HearsFirst p e k → switches (node p) d ≡ false
   blocked p d e k h less few last f =
@@ -187,8 +172,8 @@ module _ (run : Run) (R : IsRun run) (c : ℕ) (level : IsLevel run R c) (t : �
   beside : (p : ℕ) (d : Side) → w p d < c → c ≤ w p (opposite d) → switches (node p) d ≡ false
   beside p d less there = let high = level.high in switch_lighter (node p) d (omega arith) (omega arith)
 
-  pub switch_west : (p k : ℕ) → p < n → switches (node p) West ≡ true → c ≤ asked p West → asked p East < c → HearsFirst p East k → state_after (node p) ≡ state.SwitchWest (Some (record { 0 = go n East p (suc k) }))
-  switch_west p k h s g l f = state_west (node p) (Some (record { 0 = go n East p (suc k) })) s (beside p East (light p East h l) (heavy p West h g)) (far_of (node p) West f.heard_word f.is f.foreign ∙ f.far_is)
+  pub switch_west : (p k : ℕ) → p < n → switches (node p) West ≡ true → c ≤ asked p West → asked p East < c → HearsFirst p East k → state_after (node p) ≡ state.SwitchWest (Some (record { 0 = going n East p (suc k) }))
+  switch_west p k h s g l f = state_west (node p) (Some (record { 0 = going n East p (suc k) })) s (beside p East (light p East h l) (heavy p West h g)) (far_of (node p) West f.heard_word f.is f.foreign ∙ f.far_is)
 
-  pub switch_east : (p k : ℕ) → p < n → switches (node p) East ≡ true → c ≤ asked p East → asked p West < c → HearsFirst p West k → state_after (node p) ≡ state.SwitchEast (Some (record { 0 = go n West p (suc k) }))
-  switch_east p k h s g l f = state_east (node p) (Some (record { 0 = go n West p (suc k) })) (beside p West (light p West h l) (heavy p East h g)) s (far_of (node p) East f.heard_word f.is f.foreign ∙ f.far_is)
+  pub switch_east : (p k : ℕ) → p < n → switches (node p) East ≡ true → c ≤ asked p East → asked p West < c → HearsFirst p West k → state_after (node p) ≡ state.SwitchEast (Some (record { 0 = going n West p (suc k) }))
+  switch_east p k h s g l f = state_east (node p) (Some (record { 0 = going n West p (suc k) })) (beside p West (light p West h l) (heavy p East h g)) s (far_of (node p) East f.heard_word f.is f.foreign ∙ f.far_is)

@@ -47,9 +47,6 @@ module _ (run : Run) (R : IsRun run) where
   abbrev weight_at : ℕ → ℕ → Side → ℕ
   weight_at t p d = weight (at_round run t p) d
 
-  abbrev word_at : ℕ → ℕ → Side → K
-  word_at t p d = word (at_round run t p) d
-
   -- the word that p sends away from its side e
   abbrev pub away : ℕ → ℕ → Side → K
   away t p e = word (at_round run t p) (opposite e)

@@ -1,6 +1,5 @@
 mod Lists
 mod Counting
-mod Walks
 mod Requests
 mod OneNode
 mod Sources

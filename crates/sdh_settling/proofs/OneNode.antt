@@ -4,7 +4,7 @@ use Rattle.std.proofs.Common.{◌≡◌, ◌≢◌, ℕ, ◌<◌, ◌≤◌, max
 use Rattle.std.specs.Prelude.{◌==◌, ◌||◌, not, ◌&&◌, nat_le, nat_lt, if◌then◌else◌}
 use Rattle.std.specs.Option.{option_map_or}
 use Rattle.std.specs.List.{list_all}
-use Rattle.std.proofs.lemmas.Bool.{eq-eqb, ne_eqb, eqb-false, ltb-true, ltb-false, leb-true, lt-ltb, le-ltb, le-leb, lt-leb}
+use Rattle.std.proofs.lemmas.Bool.{and_parts, and_left, and_right, or_parts, or_from, not-true, eq-eqb, ne_eqb, eqb-false, ltb-true, ltb-false, leb-true, lt-ltb, le-ltb, le-leb, lt-leb}
 use Rattle.std.proofs.lemmas.Bool.Decides.{nat_tests}
 use Rattle.sdh_kbytes.specs.declared.K.{K}
 use Rattle.sdh_kbytes.specs.declared.Code.{Code}
@@ -49,10 +49,7 @@ four : (a b c d : Bool) → a ≡ true → b ≡ true → c ≡ true → d ≡ t
 four a b c d p q r s = rw (p, q, r, s)
 
 first_of_four : (a b c d : Bool) → (a && b && c && d) ≡ true → (a ≡ true) × (d ≡ true)
-first_of_four false b c d e = cc
-first_of_four true false c d e = cc
-first_of_four true true false d e = cc
-first_of_four true true true d e = (refl, e)
+first_of_four a b c d e = let last = and_parts (a && b && c) d e in ((and_parts a b (and_parts (a && b) c last.0).0).0, last.1)
 
 is_short_of : (p : Path) → is_short p ≡ true → p ≡ Short
 is_short_of Short e = refl
@@ -109,10 +106,6 @@ long_of s d k e p c =
     ap (λ o. option_map_or long_word o None) e
     ∙ ap (λ b. if b then Some k else None) (ap (λ x. not (is_short x) && nat_le 5 (code_number k.code)) p ∙ le-leb 5 (code_number k.code) c)
 
-and_both : (a b : Bool) → (not a && b) ≡ true → (a ≡ false) × (b ≡ true)
-and_both true b e = cc
-and_both false b e = (refl, e)
-
 if_some : (t : Bool) (w k : K) → (if t then Some w else None) ≡ Some k → (t ≡ true) × (w ≡ k)
 if_some true w k e = (refl, cc)
 if_some false w k e = cc
@@ -121,15 +114,12 @@ long_option : (o : Option K) (k : K) → option_map_or long_word o None ≡ Some
 long_option None k e = cc
 long_option (Some w) k e =
     let t = if_some (not (is_short w.path) && nat_le 5 (code_number w.code)) w k e in
-    let b = and_both (is_short w.path) (nat_le 5 (code_number w.code)) t.0 in
-    record { heard = ap Some t.1; is = refl; path = ap (λ (x : K). x.path) (sym t.1) ∙ is_long_of w.path b.0; strong = rw t.1 at (leb-true 5 (code_number w.code) b.1) }
+    let b = and_parts (not (is_short w.path)) (nat_le 5 (code_number w.code)) t.0 in
+    record { heard = ap Some t.1; is = refl; path = ap (λ (x : K). x.path) (sym t.1) ∙ is_long_of w.path (not-true (is_short w.path) b.0); strong = rw t.1 at (leb-true 5 (code_number w.code) b.1) }
 
 pub long_from : (s : Scene) (d : Side) (k : K) → long s d ≡ Some k → IsLongHeard (word_on s d) (Some k) k
 unfolding long
 long_from s d k e = long_option (word_on s d) k e
-
-none_by : (t : Bool) (w : K) → t ≡ false → (if t then Some w else None) ≡ None
-none_by t w e = rw e
 
 pub long_none : (s : Scene) (d : Side) → ((k : K) → word_on s d ≡ Some k → (k.path ≡ Long) → code_number k.code < 5) → long s d ≡ None
 long_none s d h = by_long (long s d) refl
@@ -144,13 +134,9 @@ relayed_of s d k e t f =
     ap (λ o. option_map_or (λ k. if (k.to == own_id s) || (k.from == own_id s) then None else Some k) o None) e
     ∙ ap (λ b. if b then None else Some k) (ap (λ b. b || (k.from == own_id s)) (ne_eqb _ _ t) ∙ ne_eqb _ _ f)
 
-if_not_some : (t : Bool) (w k : K) → (if t then None else Some w) ≡ Some k → (t ≡ false) × (w ≡ k)
+pub if_not_some : (t : Bool) (w k : K) → (if t then None else Some w) ≡ Some k → (t ≡ false) × (w ≡ k)
 if_not_some true w k e = cc
 if_not_some false w k e = (refl, cc)
-
-neither : (a b : Bool) → (a || b) ≡ false → (a ≡ false) × (b ≡ false)
-neither true b e = cc
-neither false b e = (refl, e)
 
 -- the word k, heard as a long word on the other side, is sent on from there: it is neither from this node nor for it
 pub record IsRelay (s : Scene) (d : Side) (k : K) : Type 0 where
@@ -162,7 +148,7 @@ relayed_option : (s : Scene) (d : Side) (o : Option K) (k : K) → long s (oppos
 relayed_option s d None k l e = cc
 relayed_option s d (Some w) k l e =
     let t = if_not_some ((w.to == own_id s) || (w.from == own_id s)) w k e in
-    let b = neither (w.to == own_id s) (w.from == own_id s) t.0 in
+    let b = or_parts (w.to == own_id s) (w.from == own_id s) t.0 in
     record {
       is_long = l ∙ ap Some t.1;
       for_others = λ f. eqb-false w.to (own_id s) b.0 (ap (λ (x : K). x.to) t.1 ∙ f);
@@ -237,19 +223,11 @@ choose_relay s l r hs hl a b = grind (arith, nat_tests)
 
 -- which side is switched
 
-or_none : (a b : Bool) → a ≡ false → b ≡ false → (a || b) ≡ false
-or_none a b p q = rw (p, q)
-
 third : (b c d e : Bool) → d ≡ false → (b && c && d && e) ≡ false
-third false c d e h = refl
-third true false d e h = refl
-third true true d e h = rw h
+third b c d e h = and_left (b && c && d) e (and_right (b && c) d h)
 
 fourth : (b c d e : Bool) → e ≡ false → (b && c && d && e) ≡ false
-fourth false c d e h = refl
-fourth true false d e h = refl
-fourth true true false e h = refl
-fourth true true true e h = h
+fourth b c d e h = and_right (b && c && d) e h
 
 pub switch_top : (s : Scene) (d : Side) → 11 ≤ weight s d → switches s d ≡ true
 unfolding switches
@@ -264,23 +242,19 @@ switch_none s d h = rw (lt-leb 11 (weight s d) (omega arith), lt-leb 5 (weight s
 pub switch_lighter : (s : Scene) (d : Side) → weight s d < 11 → weight s d ≤ weight s (opposite d) → switches s d ≡ false
 unfolding switches
 switch_lighter s d h l =
-    or_none (nat_le 11 (weight s d)) _ (lt-leb 11 (weight s d) h)
+    or_from (nat_le 11 (weight s d)) _ (lt-leb 11 (weight s d) h)
     (third (nat_le 5 (weight s d)) (nat_le (weight s d) 8) (nat_lt (weight s (opposite d)) (weight s d)) (list_all (is_below s d) (West ∷ East ∷ [])) (le-ltb _ _ l))
 
 below_false : (s : Scene) (d x : Side) → is_below s d x ≡ false → list_all (is_below s d) (West ∷ East ∷ []) ≡ false
-below_false s d West e = rw e
-below_false s d East e = last (is_below s d West) (is_below s d East) e
-  where
-    last : (a b : Bool) → b ≡ false → (a && (b && true)) ≡ false
-    last false b e = refl
-    last true b e = rw e
+below_false s d West e = and_left (is_below s d West) (is_below s d East && true) e
+below_false s d East e = and_right (is_below s d West) (is_below s d East && true) (and_left (is_below s d East) true e)
 
 -- nor one below 11 beside a long word that isn't about it and isn't lighter
 pub switch_blocked : (s : Scene) (d x : Side) (k : K) → weight s d < 11 → long s x ≡ Some k → is_about s d x k ≡ false → weight s d ≤ code_number k.code → switches s d ≡ false
 unfolding switches
 switch_blocked s d x k h e f l =
-    let b : is_below s d x ≡ false = ap (λ o. option_map_or (λ k. is_about s d x k || nat_lt (code_number k.code) (weight s d)) o true) e ∙ or_none (is_about s d x k) (nat_lt (code_number k.code) (weight s d)) f (le-ltb _ _ l) in
-    or_none (nat_le 11 (weight s d)) _ (lt-leb 11 (weight s d) h)
+    let b : is_below s d x ≡ false = ap (λ o. option_map_or (λ k. is_about s d x k || nat_lt (code_number k.code) (weight s d)) o true) e ∙ or_from (is_about s d x k) (nat_lt (code_number k.code) (weight s d)) f (le-ltb _ _ l) in
+    or_from (nat_le 11 (weight s d)) _ (lt-leb 11 (weight s d) h)
     (fourth (nat_le 5 (weight s d)) (nat_le (weight s d) 8) (nat_lt (weight s (opposite d)) (weight s d)) (list_all (is_below s d) (West ∷ East ∷ [])) (below_false s d x b))
 
 pub below_none : (s : Scene) (d x : Side) → long s x ≡ None → is_below s d x ≡ true
@@ -297,20 +271,7 @@ switch_alone s d a b l w e =
 
 pub not_about_to : (s : Scene) (d x : Side) (k : K) → k.to ≢ own_id s → is_about s d x k ≡ false
 unfolding is_about
-not_about_to s d x k h = middle (is_side x (opposite d)) (k.to == own_id s) (k.from == id_on s d) (ne_eqb _ _ h)
-  where
-    middle : (a b c : Bool) → b ≡ false → (a && b && c) ≡ false
-    middle false b c e = refl
-    middle true b c e = rw e
-
-pub not_about_from : (s : Scene) (d x : Side) (k : K) → k.from ≢ id_on s d → is_about s d x k ≡ false
-unfolding is_about
-not_about_from s d x k h = ending (is_side x (opposite d)) (k.to == own_id s) (k.from == id_on s d) (ne_eqb _ _ h)
-  where
-    ending : (a b c : Bool) → c ≡ false → (a && b && c) ≡ false
-    ending false b c e = refl
-    ending true false c e = refl
-    ending true true c e = e
+not_about_to s d x k h = and_left (is_side x (opposite d) && (k.to == own_id s)) (k.from == id_on s d) (and_right (is_side x (opposite d)) (k.to == own_id s) (ne_eqb _ _ h))
 
 pub about_of : (s : Scene) (d : Side) (k : K) → k.to ≡ own_id s → k.from ≡ id_on s d → is_about s d (opposite d) k ≡ true
 unfolding is_about

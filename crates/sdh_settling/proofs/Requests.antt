@@ -1,24 +1,13 @@
--- The requests of the spans: the highest one, a span that has it, and when a request is applied.
-use Rattle.std.proofs.Common.{◌≡◌, ℕ, ◌<◌, ◌≤◌, suc, zero, List, [], ◌∷◌, length, get_or, ap, ◌∙◌, arith, inl, inr}
+-- The requests of the spans: none is above the highest, and when a request is applied.
+use Rattle.std.proofs.Common.{◌≡◌, ℕ, ◌<◌, ◌≤◌, suc, zero, List, [], ◌∷◌, length, get_or, ap, arith}
 use Rattle.std.specs.Prelude.{◌==◌, ◌&&◌, nat_le, nat_lt, if◌then◌else◌}
-use Rattle.std.proofs.lemmas.Bool.{cases_lt, le-leb, lt-leb}
+use Rattle.std.proofs.lemmas.Bool.{le-leb, lt-leb}
 use Rattle.sdh_restoration.specs.Applied.{highest, has_one_leader, applies}
 
 pub highest_ge : (rs : List ℕ) (i : ℕ) → i < length rs → get_or rs i 0 ≤ highest rs
 highest_ge [] i h = absurd (omega arith)
 highest_ge (r ∷ rs) zero h = omega arith
 highest_ge (r ∷ rs) (suc i) h = let x = highest_ge rs i (omega arith) in omega arith
-
-abbrev IsHad : List ℕ → Type 0
-IsHad rs = (i : ℕ) × (i < length rs) × (get_or rs i 0 ≡ highest rs)
-
-pub highest_had : (rs : List ℕ) → 0 < length rs → IsHad rs
-highest_had [] h = absurd (omega arith)
-highest_had (r ∷ []) h = (zero, omega arith, omega arith)
-highest_had (r ∷ s ∷ rs) h = elim (cases_lt r (highest (s ∷ rs))) [
-  | inl less ↦ (let x = highest_had (s ∷ rs) (omega arith) in (suc x.0, let y = x.1 in omega arith, let y = x.2 in y ∙ omega arith))
-  | inr more ↦ (zero, omega arith, omega arith)
-]
 
 pub applies_top : (rs : List ℕ) (r : ℕ) → 11 ≤ highest rs → applies rs r ≡ nat_le 11 r
 unfolding applies

@@ -16,7 +16,8 @@ use Rattle.sdh_nodestate.specs.Conditions.{MayNeed}
 use Rattle.sdh_nodestate.specs.Words.{IsMember, IsSourced}
 use Rattle.sdh_settling.specs.Signals.{Signals, fails_on, sent_on, incoming, heard_at, scene_at, round, rounds, MayGo, no_needs}
 use Rattle.sdh_settling.specs.Runs.{Run, at_round, sent_here, bare, IsRun}
-use Rattle.sdh_settling.proofs.Walks.{neighbour_below}
+use Rattle.sdh_ringmap.proofs.Sides.{neighbour_below}
+use Rattle.sdh_settling.proofs.OneNode.{if_not_some}
 use Rattle.sdh_settling.proofs.Sources.{word_source, IsOwnOrRelayed}
 
 -- what stands by side
@@ -125,10 +126,6 @@ module _ (needs : List Needs) (s : Signals) (may : MayGo needs s) where
       ∙ ap (λ o. if fails_on (need p) d then None else option_map (λ w. sent_on w (opposite d)) o) (words_are t (neighbour n p d) (next_below p d))
       ∙ ap (λ w. if fails_on (need p) d then None else Some w) (sent_is (at t (neighbour n p d)) (opposite d))
 
-  if_some : (b : Bool) (w k : K) → (if b then None else Some w) ≡ Some k → k ≡ w
-  if_some true w k e = cc
-  if_some false w k e = cc
-
   -- each word of a round has a source in the ring
   sends_sourced : (t p : ℕ) (d : Side) → p < n → IsMember s.ids (word (at t p) d).from
   sends_sourced t p d h =
@@ -141,7 +138,7 @@ module _ (needs : List Needs) (s : Signals) (may : MayGo needs s) where
   is_run = record {
     ids_ok = may.ids_ok;
     sound = λ p h. All-get_or MayNeed needs p no_needs (let size = may.size in omega arith) may.sound;
-    past = λ t p d k h e. if_some (fails_on (need p) d) (sent_here run_of t p d) k (sym (comes t p d) ∙ e);
+    past = λ t p d k h e. sym (if_not_some (fails_on (need p) d) (sent_here run_of t p d) k (sym (comes t p d) ∙ e)).1;
     silent = λ t p d h e. comes t p d ∙ ap (λ b. if b then None else Some (sent_here run_of t p d)) e;
     future = λ t p d k h e x y z. ap (option_map bare) (comes (suc (suc t)) p d ∙ ap (λ b. if b then None else Some (sent_here run_of (suc (suc t)) p d)) e) ∙ ap Some z;
     sources = sends_sourced;

@@ -16,18 +16,21 @@ use Rattle.sdh_nodestate.specs.declared.NodeState.TheVariants as state
 use Rattle.sdh_nodestate.specs.Rules.{Scene, word_on, weight, long, relayed, stronger, weight_of, chosen, rest, switches, is_below, is_relay, state_after}
 use Rattle.sdh_restoration.specs.Applied.{highest, has_one_leader, applies, is_applied, is_any_applied}
 use Rattle.sdh_restoration.specs.Settled.{settled}
+use Rattle.sdh_restoration.proofs.FarEnds.{first_position}
+use Rattle.sdh_restoration.proofs.Highest.{top_of}
 use Rattle.sdh_settling.specs.Runs.{Run, IsRun}
-use Rattle.sdh_settling.specs.Walks.{go}
-use Rattle.sdh_settling.proofs.Walks.{go_below, go_last, go_to, back, neighbour_below, IsReached, span_below, sides_apart, across_span, span_back, end_of, end_below, span_of_end}
+use Rattle.sdh_ringmap.specs.Steps.{going}
+use Rattle.sdh_ringmap.proofs.Going.{going-inside, going-last, met, IsMet}
+use Rattle.sdh_ringmap.proofs.Sides.{neighbour_back, span_below, sides_apart, across_span, span_back}
 use Rattle.sdh_settling.proofs.Standing.{far_n, outranked_n, settled_n, settled_is, is_isolated, is_west, is_east, is_pass, is_idle}
 use Rattle.sdh_settling.proofs.OneNode.{switch_top, switch_none, switch_lighter, switch_alone, choose_rest, below_eleven, long_none, below_none, below_about, about_of}
-use Rattle.sdh_settling.proofs.Runs.{at, next, request, request_back, weight_le, at_least_waiting}
+use Rattle.sdh_settling.proofs.Runs.{at, some_nodes, next, next_below, request, request_back, weight_le, at_least_waiting}
 use Rattle.sdh_settling.proofs.Backward.{relays_le}
 use Rattle.sdh_settling.proofs.Levels.{IsLevel, sends_short}
 use Rattle.sdh_settling.proofs.Agreement.{short_said}
 use Rattle.sdh_settling.proofs.Firsts.{first_any, first_within}
-use Rattle.sdh_settling.proofs.Ends.{HearsFirst, hears, heavy, light, pass, blocked, switch_west, switch_east, state_isolated, state_idle, find_way}
-use Rattle.sdh_settling.proofs.Requests.{highest_ge, highest_had, applies_top, applies_low}
+use Rattle.sdh_settling.proofs.Ends.{HearsFirst, hears, heavy, light, pass, blocked, switch_west, switch_east, state_isolated, state_idle}
+use Rattle.sdh_settling.proofs.Requests.{highest_ge, applies_top, applies_low}
 use Rattle.sdh_settling.proofs.Counting.{count_one, count_more, Another}
 
 both_below : (s : Scene) (d : Side) → is_below s d d ≡ true → is_below s d (opposite d) ≡ true → (is_below s d West ≡ true) × (is_below s d East ≡ true)
@@ -46,9 +49,6 @@ module _ (run : Run) (R : IsRun run) (rs : List ℕ) (size : length rs ≡ lengt
 
   abbrev nx : ℕ → Side → ℕ
   nx p d = next run R p d
-
-  nx_below : (p : ℕ) (d : Side) → nx p d < n
-  nx_below p d = neighbour_below n p d (let e = R.ids_ok.enough in omega arith)
 
   abbrev w : ℕ → Side → ℕ
   w p d = weight (node p) d
@@ -72,21 +72,21 @@ module _ (run : Run) (R : IsRun run) (rs : List ℕ) (size : length rs ≡ lengt
     any_applied : is_any_applied rs ≡ true
     any_applied = list_any_at (applies rs) rs (span_at n x y) 0 (let s = span_below n x y inside in omega arith) (A.yes x y inside there)
 
-    far_west : (p k : ℕ) → p < n → Hears p East k → far_n rs n p West ≡ Some (record { 0 = go n East p (suc k) })
+    far_west : (p k : ℕ) → p < n → Hears p East k → far_n rs n p West ≡ Some (record { 0 = going n East p (suc k) })
     far_west p k h f =
         let few = f.few in
         ap (λ o. option_map (λ i. record { 0 = i }) o)
-        (find_way n (n - 1) k p East (λ i. applied i East) (omega arith)
-        (λ j i. A.no (go n East p (suc j)) East (go_below n East p (suc j) h) (f.first.near (suc j) (omega arith)))
-        (A.yes (go n East p (suc k)) East (go_below n East p (suc k) h) f.first.there))
+        (first_position n East p (n - 1) k (λ i. applied i East) (omega arith)
+        (λ j i. A.no (going n East p (suc j)) East (going-inside n (some_nodes run R) East p (suc j)) (f.first.near (suc j) (omega arith)))
+        (A.yes (going n East p (suc k)) East (going-inside n (some_nodes run R) East p (suc k)) f.first.there))
 
-    far_east : (p k : ℕ) → p < n → Hears p West k → far_n rs n p East ≡ Some (record { 0 = go n West p (suc k) })
+    far_east : (p k : ℕ) → p < n → Hears p West k → far_n rs n p East ≡ Some (record { 0 = going n West p (suc k) })
     far_east p k h f =
         let few = f.few in
         ap (λ o. option_map (λ i. record { 0 = i }) o)
-        (find_way n (n - 1) k p West (λ i. applied i West) (omega arith)
-        (λ j i. A.no (go n West p (suc j)) West (go_below n West p (suc j) h) (f.first.near (suc j) (omega arith)))
-        (A.yes (go n West p (suc k)) West (go_below n West p (suc k) h) f.first.there))
+        (first_position n West p (n - 1) k (λ i. applied i West) (omega arith)
+        (λ j i. A.no (going n West p (suc j)) West (going-inside n (some_nodes run R) West p (suc j)) (f.first.near (suc j) (omega arith)))
+        (A.yes (going n West p (suc k)) West (going-inside n (some_nodes run R) West p (suc k)) f.first.there))
 
     near : (p : ℕ) (e : Side) → p < n → asked p e < c → (k : ℕ) × Hears p e k
     near p e h l = let f = first_any run R c level p e x y h inside l there in (f.0, hears run R c level t late f.0 p e h f.1 f.2)
@@ -97,12 +97,12 @@ module _ (run : Run) (R : IsRun run) (rs : List ℕ) (size : length rs ≡ lengt
     west : (p : ℕ) → p < n → c ≤ asked p West → asked p East < c → IsLaw p
     west p h g l =
         let f = near p East h l in
-        switch_west run R c level t late p f.0 h (A.switched p West h g) g l f.1 ∙ sym (is_west rs n p (Some (record { 0 = go n East p (suc f.0) })) (A.yes p West h g) (A.no p East h l) (far_west p f.0 h f.1))
+        switch_west run R c level t late p f.0 h (A.switched p West h g) g l f.1 ∙ sym (is_west rs n p (Some (record { 0 = going n East p (suc f.0) })) (A.yes p West h g) (A.no p East h l) (far_west p f.0 h f.1))
 
     east : (p : ℕ) → p < n → asked p West < c → c ≤ asked p East → IsLaw p
     east p h l g =
         let f = near p West h l in
-        switch_east run R c level t late p f.0 h (A.switched p East h g) g l f.1 ∙ sym (is_east rs n p (Some (record { 0 = go n West p (suc f.0) })) (A.no p West h l) (A.yes p East h g) (far_east p f.0 h f.1))
+        switch_east run R c level t late p f.0 h (A.switched p East h g) g l f.1 ∙ sym (is_east rs n p (Some (record { 0 = going n West p (suc f.0) })) (A.no p West h l) (A.yes p East h g) (far_east p f.0 h f.1))
 
     none : (p : ℕ) → p < n → asked p West < c → asked p East < c → IsLaw p
     none p h l m =
@@ -127,9 +127,9 @@ module _ (run : Run) (R : IsRun run) (rs : List ℕ) (size : length rs ≡ lengt
   leader : (i : ℕ) × (i < n) × (asked i East ≡ highest rs)
   leader =
       let e = R.ids_ok.enough in
-      let l = highest_had rs (omega arith) in
-      let inside : l.0 < n = let x = l.1 in omega arith in
-      (l.0, inside, sym (spans l.0 East inside) ∙ l.2)
+      let l = top_of rs (omega arith) in
+      let inside : l.place < n = let x = l.inside in omega arith in
+      (l.place, inside, sym (spans l.place East inside) ∙ l.top)
 
   -- requests of at least 11
   top : 11 ≤ highest rs → (p : ℕ) → p < n → IsLaw p
@@ -227,7 +227,7 @@ module _ (run : Run) (R : IsRun run) (rs : List ℕ) (size : length rs ≡ lengt
                 let b = request_back run R p d g in
                 let when : suc (t - 1) ≡ t = omega arith in
                 let was = R.past (t - 1) p d k g (subst (λ u. word_on (at run R u p) d ≡ Some k) (sym when) at_p) in
-                let said = short_said run R (highest rs) level (t - 1) (nx p d) (opposite d) (omega arith) (nx_below p d) (omega arith) in
+                let said = short_said run R (highest rs) level (t - 1) (nx p d) (opposite d) (omega arith) (next_below run R p d) (omega arith) in
                 let path = ap (λ (k : K). k.path) said in
                 cc (l, was, path)
 
@@ -235,11 +235,11 @@ module _ (run : Run) (R : IsRun run) (rs : List ℕ) (size : length rs ≡ lengt
         about_there p d g a =
             let h = hears_one p (opposite d) g (other_less p d g a) in
             let f = h.1 in
-            let x = go n (opposite d) p (suc h.0) in
-            let below = go_below n (opposite d) p (suc h.0) g in
+            let x = going n (opposite d) p (suc h.0) in
+            let below = going-inside n (some_nodes run R) (opposite d) p (suc h.0) in
             let is : x ≡ nx p d = across_span n p x d g below (same_span x (opposite d) p d below g f.first.there a) in
             below_about (node p) d (opposite d) f.heard_word f.is
-            (about_of (node p) d f.heard_word (f.to ∙ ap (λ i. slice_index run.ids (nx i (opposite d))) is ∙ ap (λ i. slice_index run.ids i) (back n p d g)) (f.from ∙ ap (λ i. slice_index run.ids i) is))
+            (about_of (node p) d f.heard_word (f.to ∙ ap (λ i. slice_index run.ids (nx i (opposite d))) is ∙ ap (λ i. slice_index run.ids i) (neighbour_back n p d g)) (f.from ∙ ap (λ i. slice_index run.ids i) is))
 
         switched_alone : (p : ℕ) (d : Side) → p < n → highest rs ≤ asked p d → switches (node p) d ≡ true
         switched_alone p d g a =
@@ -275,25 +275,23 @@ module _ (run : Run) (R : IsRun run) (rs : List ℕ) (size : length rs ≡ lengt
         Near p e = (j : ℕ) × (suc (suc j) < n) × HearsTop p e j
 
         -- from an end of such a span the next one is met before the way round leads back
-        near_by : (p : ℕ) (e : Side) (x : ℕ) → p < n → asked p e < highest rs → highest rs ≤ asked x e → span_at n x e ≢ span_at n p (opposite e) → IsReached n e p x → Near p e
-        near_by p e x g l there other walk = let m = walk.steps in let few = walk.few in elim (cases_lt (suc m) n) [
+        near_by : (p : ℕ) (e : Side) (s : ℕ) → p < n → asked p e < highest rs → s ≢ span_at n p (opposite e) → (walk : IsMet n e p s) → highest rs ≤ asked (going n e p walk.steps) e → Near p e
+        near_by p e s g l other walk there = let m = walk.steps in let few = walk.few in elim (cases_lt (suc m) n) [
           | inl less ↦ (
-              let f = first_within run R (highest rs) level m p e l (subst (λ y. highest rs ≤ asked y e) (sym walk.is) there) in
+              let f = first_within run R (highest rs) level m p e g l there in
               let le = f.1 in
               (f.0, omega arith, hears run R (highest rs) level t late f.0 p e g (omega arith) f.2))
-          | inr last ↦ absurd (other (ap (λ y. span_at n y e) (sym walk.is ∙ go_last n e p m g (omega arith)) ∙ span_back n p e g))
+          | inr last ↦ absurd (other (sym walk.there ∙ ap (λ y. span_at n y e) (going-last n (some_nodes run R) e p m g (omega arith)) ∙ span_back n p e g))
         ]
 
         near_other : (p : ℕ) (e : Side) → p < n → asked p e < highest rs → Another (λ x. x == highest rs) rs (span_at n p (opposite e)) 0 → Near p e
         near_other p e g l (j, inside, other, is) =
-            let x = end_of n j e in
-            let j_below : j < n = omega arith in
-            let below : x < n = end_below n j e j_below in
-            let at_j : span_at n x e ≡ j = span_of_end n j e j_below in
-            let s = spans x e below in
-            let same : slice_index rs (span_at n x e) ≡ slice_index rs j = ap (λ i. slice_index rs i) at_j in
+            let walk = met n (some_nodes run R) e p j g (omega arith) in
+            let x = going n e p walk.steps in
+            let s = spans x e (going-inside n (some_nodes run R) e p walk.steps) in
+            let same : slice_index rs (span_at n x e) ≡ slice_index rs j = ap (slice_index rs) walk.there in
             let high = eqb-true (slice_index rs j) (highest rs) is in
-            near_by p e x g l (omega arith) (λ i. other (sym at_j ∙ i)) (go_to n e p x g below)
+            near_by p e j g l other walk (omega arith)
 
         held_far : (p : ℕ) (e : Side) → p < n → highest rs ≤ asked p (opposite e) → asked p e < highest rs → switches (node p) (opposite e) ≡ false
         held_far p e g a l =

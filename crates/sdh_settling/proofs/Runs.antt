@@ -16,7 +16,7 @@ use Rattle.sdh_nodestate.specs.Rules.{Scene, local, word_on, short, weight, word
 use Rattle.sdh_nodestate.specs.Conditions.{MayNeed}
 use Rattle.sdh_settling.specs.Signals.{request_on, fails_on}
 use Rattle.sdh_settling.specs.Runs.{Run, at_round, IsRun}
-use Rattle.sdh_settling.proofs.Walks.{back, neighbour_below}
+use Rattle.sdh_ringmap.proofs.Sides.{neighbour_back, neighbour_below, opposite_twice}
 use Rattle.sdh_settling.proofs.OneNode.{at_least_five, weight_is, IsShortHeard, short_from, long_from, relayed_from, Kind, a_short, a_long, a_relay, kind}
 
 -- what a round may need, side by side
@@ -61,11 +61,11 @@ module _ (run : Run) (R : IsRun run) where
   abbrev pub word_at : ℕ → ℕ → Side → K
   word_at t p d = word (at t p) d
 
-  pub some : 0 < n
-  some = let e = R.ids_ok.enough in omega arith
+  pub some_nodes : 0 < n
+  some_nodes = let e = R.ids_ok.enough in omega arith
 
   pub next_below : (p : ℕ) (d : Side) → next p d < n
-  next_below p d = neighbour_below n p d some
+  next_below p d = neighbour_below n p d some_nodes
 
   pub id_apart : (p q : ℕ) → p < n → q < n → p ≢ q → id p ≢ id q
   id_apart p q h g a = λ e. a (R.ids_ok.distinct p q h g e)
@@ -75,8 +75,7 @@ module _ (run : Run) (R : IsRun run) where
   local_is t p East = refl
 
   pub asks_back : (p : ℕ) (d : Side) → p < n → asks (next (next p d) (opposite d)) (opposite (opposite d)) ≡ asks p d
-  asks_back p West h = ap (λ q. asks q West) (back n p West h)
-  asks_back p East h = ap (λ q. asks q East) (back n p East h)
+  asks_back p d h = ap (λ q. asks q (opposite (opposite d))) (neighbour_back n p d h) ∙ ap (asks p) (opposite_twice d)
 
   pub request_back : (p : ℕ) (d : Side) → p < n → request (next p d) (opposite d) ≡ request p d
   request_back p d h = let b = asks_back p d h in omega arith

@@ -9,7 +9,7 @@ use Rattle.sdh_ringmap.specs.declared.Side.TheVariants.{West, East}
 use Rattle.sdh_restoration.specs.Applied.{span_requests}
 use Rattle.sdh_settling.specs.Signals.{request_on}
 use Rattle.sdh_settling.specs.Runs.{Run, IsRun, run_requests}
-use Rattle.sdh_settling.proofs.Walks.{back, neighbour_below}
+use Rattle.sdh_ringmap.proofs.Sides.{neighbour_back, neighbour_below}
 use Rattle.sdh_settling.proofs.Runs.{request}
 
 module _ (run : Run) (R : IsRun run) where
@@ -26,6 +26,6 @@ module _ (run : Run) (R : IsRun run) where
   spans p East h = get_or-cells (λ s. max (code_number (request_on (run.need s) East)) (code_number (request_on (run.need (neighbour size_of s East)) West))) size_of p 0 h
   spans p West h =
       let q = neighbour size_of p West in
-      let e = ap (λ i. code_number (request_on (run.need i) West)) (back size_of p West h) in
+      let e = ap (λ i. code_number (request_on (run.need i) West)) (neighbour_back size_of p West h) in
       let is = get_or-cells (λ s. max (code_number (request_on (run.need s) East)) (code_number (request_on (run.need (neighbour size_of s East)) West))) size_of q 0 (neighbour_below size_of p West (omega arith)) in
       omega arith

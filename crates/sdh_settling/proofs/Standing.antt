@@ -8,12 +8,12 @@ use Rattle.sdh_ringmap.specs.declared.Pos.{Pos}
 use Rattle.sdh_nodestate.specs.declared.NodeState.{NodeState}
 use Rattle.sdh_nodestate.specs.declared.NodeState.TheVariants as state
 use Rattle.sdh_restoration.specs.Applied.{highest, is_applied, is_any_applied}
-use Rattle.sdh_restoration.specs.Settled.{far_end, way, settled, settled_by}
+use Rattle.sdh_restoration.specs.Settled.{far_end, next_positions, settled, settled_by}
 
 -- the settled state where the number of spans is named
 
 abbrev pub far_n : List ℕ → ℕ → ℕ → Side → Option Pos
-far_n rs n p d = option_map (λ q. record { 0 = q }) (find (λ q. is_applied rs (span_at n q (opposite d))) (way n (opposite d) p (n - 1)))
+far_n rs n p d = option_map (λ q. record { 0 = q }) (find (λ q. is_applied rs (span_at n q (opposite d))) (next_positions n (opposite d) p (n - 1)))
 
 abbrev pub outranked_n : List ℕ → ℕ → ℕ → Bool
 outranked_n rs n p = nat_lt 0 (highest rs) && (nat_lt (slice_index rs (span_at n p West)) (highest rs) && nat_lt (slice_index rs (span_at n p East)) (highest rs))

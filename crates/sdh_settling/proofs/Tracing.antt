@@ -1,6 +1,6 @@
 -- Relayed words traced to the node that sends them. No node relays a word of its own, each word has a source in the
 -- ring, and in a still ring what a node heard is what its neighbour sends now: so the way back ends at the source.
-use Rattle.std.proofs.Common.{◌≡◌, ◌≢◌, ℕ, zero, suc, ◌<◌, ◌≤◌, Bool, true, false, Option, Some, None, length, refl, ap, sym, ◌∙◌, arith, inl, inr, ◌⊎◌}
+use Rattle.std.proofs.Common.{◌≡◌, ◌≢◌, ℕ, zero, suc, ◌<◌, ◌≤◌, Bool, true, false, Option, Some, None, length, refl, ap, sym, subst, ◌∙◌, arith, inl, inr, ◌⊎◌}
 use Rattle.std.specs.Prelude.{slice_index, ◌==◌, ◌&&◌, nat_le, if◌then◌else◌}
 use Rattle.std.proofs.lemmas.Bool.{le-leb}
 use Rattle.sdh_kbytes.specs.declared.K.{K}
@@ -11,10 +11,11 @@ use Rattle.sdh_ringmap.specs.declared.Pos.{Pos}
 use Rattle.sdh_nodestate.specs.declared.NodeState.TheVariants as state
 use Rattle.sdh_nodestate.specs.Rules.{Scene, word_on, relayed, weight, weight_of, Choice, own_short, own_long, relay, rest, choose, chosen, word, word_by, switches, far, is_relay, state_by, state_after}
 use Rattle.sdh_settling.specs.Runs.{Run, at_round, IsRun}
-use Rattle.sdh_settling.specs.Walks.{go}
+use Rattle.sdh_ringmap.specs.Steps.{going}
 use Rattle.sdh_settling.specs.Laws.{IsStillAfter, Relays, passed, LeadsBack, HasOneNotPassing, RelayedWordsLeadBack, NotAllPassThrough}
-use Rattle.sdh_settling.proofs.Walks.{go_below, go_to, neighbour_below, IsReached}
+use Rattle.sdh_ringmap.proofs.Going.{going-inside, going-none, going-first, reached, IsReached}
 use Rattle.sdh_settling.proofs.Sources.{relayed_heard}
+use Rattle.sdh_settling.proofs.Runs.{some_nodes, next_below}
 use Rattle.sdh_settling.proofs.OneNode.{word_relay}
 
 -- where there is no word to relay, none is relayed
@@ -77,8 +78,12 @@ module _ (run : Run) (R : IsRun run) (t : ℕ) (still : IsStillAfter run t) wher
   abbrev nx : ℕ → Side → ℕ
   nx p d = neighbour (length run.ids) p d
 
-  nx_below : (p : ℕ) (d : Side) → nx p d < n
-  nx_below p d = neighbour_below n p d (let e = R.ids_ok.enough in omega arith)
+  -- no step, and one step more
+  none : (p : ℕ) (d : Side) → p < n → going n d p zero ≡ p
+  none p d h = going-none n (some_nodes run R) d p h
+
+  more : (p : ℕ) (d : Side) (j : ℕ) → going n d (nx p d) j ≡ going n d p (suc j)
+  more p d j = going-first n (some_nodes run R) d p j
 
   abbrev away : ℕ → Side → K
   away p d = passed run (suc t) p d
@@ -87,54 +92,54 @@ module _ (run : Run) (R : IsRun run) (t : ℕ) (still : IsStillAfter run t) wher
   from_next : (p : ℕ) (d : Side) → p < n → Relays run (suc t) p d → away p d ≡ away (nx p d) d
   from_next p d h e =
       let f = relays_foreign (at_round run (suc t) p) d e in
-      R.past t p d (away p d) h f.heard ∙ sym (still (nx p d) (opposite d) (nx_below p d))
+      R.past t p d (away p d) h f.heard ∙ sym (still (nx p d) (opposite d) (next_below run R p d))
 
   -- the way back from p, which may be no step long
   pub record Back (most p : ℕ) (d : Side) : Type 0 where
     pub steps : ℕ
     pub few : steps ≤ most
-    pub between : (j : ℕ) → j < steps → Relays run (suc t) (go n d p j) d
-    pub same : (j : ℕ) → j ≤ steps → away (go n d p j) d ≡ away p d
-    pub own : (away p d).from ≡ slice_index run.ids (go n d p steps)
+    pub between : (j : ℕ) → j < steps → Relays run (suc t) (going n d p j) d
+    pub same : (j : ℕ) → j ≤ steps → away (going n d p j) d ≡ away p d
+    pub own : (away p d).from ≡ slice_index run.ids (going n d p steps)
 
-  at_source : (most p : ℕ) (d : Side) → (away p d).from ≡ slice_index run.ids p → Back most p d
-  at_source most p d f = record {
+  at_source : (most p : ℕ) (d : Side) → p < n → (away p d).from ≡ slice_index run.ids p → Back most p d
+  at_source most p d inside f = record {
     steps = zero;
     few = omega arith;
     between = λ j h. absurd (omega arith);
-    same = λ j h. (let z : j ≡ zero = omega arith in ap (λ i. away (go n d p i) d) z);
-    own = f;
+    same = λ j h. (let z : j ≡ zero = omega arith in ap (λ i. away (going n d p i) d) z ∙ ap (λ q. away q d) (none p d inside));
+    own = f ∙ ap (slice_index run.ids) (sym (none p d inside));
   }
 
-  further_between : (m p : ℕ) (d : Side) (b : Back m (nx p d) d) → Relays run (suc t) p d → (j : ℕ) → j < suc b.steps → Relays run (suc t) (go n d p j) d
-  further_between m p d b e zero h = e
-  further_between m p d b e (suc j) h = b.between j (omega arith)
+  further_between : (m p : ℕ) (d : Side) (b : Back m (nx p d) d) → p < n → Relays run (suc t) p d → (j : ℕ) → j < suc b.steps → Relays run (suc t) (going n d p j) d
+  further_between m p d b inside e zero h = subst (λ q. Relays run (suc t) q d) (sym (none p d inside)) e
+  further_between m p d b inside e (suc j) h = subst (λ q. Relays run (suc t) q d) (more p d j) (b.between j (omega arith))
 
-  further_same : (m p : ℕ) (d : Side) (b : Back m (nx p d) d) → away p d ≡ away (nx p d) d → (j : ℕ) → j ≤ suc b.steps → away (go n d p j) d ≡ away p d
-  further_same m p d b e zero h = refl
-  further_same m p d b e (suc j) h = b.same j (omega arith) ∙ sym e
+  further_same : (m p : ℕ) (d : Side) (b : Back m (nx p d) d) → p < n → away p d ≡ away (nx p d) d → (j : ℕ) → j ≤ suc b.steps → away (going n d p j) d ≡ away p d
+  further_same m p d b inside e zero h = ap (λ q. away q d) (none p d inside)
+  further_same m p d b inside e (suc j) h = ap (λ q. away q d) (sym (more p d j)) ∙ b.same j (omega arith) ∙ sym e
 
-  further : (m p : ℕ) (d : Side) → Relays run (suc t) p d → away p d ≡ away (nx p d) d → Back m (nx p d) d → Back (suc m) p d
-  further m p d r e b = record {
+  further : (m p : ℕ) (d : Side) → p < n → Relays run (suc t) p d → away p d ≡ away (nx p d) d → Back m (nx p d) d → Back (suc m) p d
+  further m p d inside r e b = record {
     steps = suc b.steps;
     few = (let few = b.few in omega arith);
-    between = further_between m p d b r;
-    same = further_same m p d b e;
-    own = ap (λ (w : K). w.from) e ∙ b.own;
+    between = further_between m p d b inside r;
+    same = further_same m p d b inside e;
+    own = ap (λ (w : K). w.from) e ∙ b.own ∙ ap (slice_index run.ids) (more p d b.steps);
   }
 
-  trace_by : (m p : ℕ) (d : Side) → p < n → (away p d).from ≡ slice_index run.ids (go n d p m) → (chosen (at_round run (suc t) p) (opposite d) ≡ relay) ⊎ (chosen (at_round run (suc t) p) (opposite d) ≢ relay) → Back m p d
-  trace_by m p d h f (inr other) = at_source m p d (own_word_from (at_round run (suc t) p) (opposite d) other)
-  trace_by zero p d h f (inl e) = at_source zero p d f
+  trace_by : (m p : ℕ) (d : Side) → p < n → (away p d).from ≡ slice_index run.ids (going n d p m) → (chosen (at_round run (suc t) p) (opposite d) ≡ relay) ⊎ (chosen (at_round run (suc t) p) (opposite d) ≢ relay) → Back m p d
+  trace_by m p d h f (inr other) = at_source m p d h (own_word_from (at_round run (suc t) p) (opposite d) other)
+  trace_by zero p d h f (inl e) = at_source zero p d h (f ∙ ap (slice_index run.ids) (none p d h))
   trace_by (suc m) p d h f (inl e) =
       let is = from_next p d h e in
-      further m p d e is (trace_by m (nx p d) d (nx_below p d) (ap (λ (w : K). w.from) (sym is) ∙ f) (relays_or_not (chosen (at_round run (suc t) (nx p d)) (opposite d))))
+      further m p d h e is (trace_by m (nx p d) d (next_below run R p d) (ap (λ (w : K). w.from) (sym is) ∙ f ∙ ap (slice_index run.ids) (sym (more p d m))) (relays_or_not (chosen (at_round run (suc t) (nx p d)) (opposite d))))
 
   traced : (p : ℕ) (d : Side) → p < n → (x : ℕ) → (away p d).from ≡ slice_index run.ids x → (walk : IsReached n d p x) → Back walk.steps p d
-  traced p d h x f walk = trace_by walk.steps p d h (f ∙ ap (slice_index run.ids) (sym walk.is)) (relays_or_not (chosen (at_round run (suc t) p) (opposite d)))
+  traced p d h x f walk = trace_by walk.steps p d h (f ∙ ap (slice_index run.ids) (sym walk.there)) (relays_or_not (chosen (at_round run (suc t) p) (opposite d)))
 
-  leads_by : (m p : ℕ) (d : Side) → m < n → Relays run (suc t) p d → Back m p d → LeadsBack run (suc t) p d
-  leads_by m p d few e b = record {
+  leads_by : (m p : ℕ) (d : Side) → p < n → m < n → Relays run (suc t) p d → Back m p d → LeadsBack run (suc t) p d
+  leads_by m p d inside few e b = record {
     steps = b.steps;
     some = some_by b.steps refl;
     few = (let x = b.few in omega arith);
@@ -144,14 +149,14 @@ module _ (run : Run) (R : IsRun run) (t : ℕ) (still : IsStillAfter run t) wher
   }
     where
       some_by : (k : ℕ) → b.steps ≡ k → 0 < b.steps
-      some_by zero z = absurd ((relays_foreign (at_round run (suc t) p) d e).foreign (b.own ∙ ap (λ k. slice_index run.ids (go n d p k)) z))
+      some_by zero z = absurd ((relays_foreign (at_round run (suc t) p) d e).foreign (b.own ∙ ap (λ k. slice_index run.ids (going n d p k)) z ∙ ap (slice_index run.ids) (none p d inside)))
       some_by (suc k) z = omega arith
 
   pub leads_back : (p : ℕ) (d : Side) → p < n → Relays run (suc t) p d → LeadsBack run (suc t) p d
   leads_back p d h e =
       let m = R.sources (suc t) p (opposite d) h in
-      let walk = go_to n d p m.0 h m.1 in
-      leads_by walk.steps p d walk.few e (traced p d h m.0 (sym m.2) walk)
+      let walk = reached n (some_nodes run R) d p m.0 h m.1 in
+      leads_by walk.steps p d h walk.few e (traced p d h m.0 (sym m.2) walk)
 
   -- a node that passes through relays on both sides
   passes_by : (a b c d : Bool) (v w : Option Pos) → state_by a b c d v w ≡ state.PassThrough tt → c ≡ true
@@ -179,11 +184,11 @@ module _ (run : Run) (R : IsRun run) (t : ℕ) (still : IsStillAfter run t) wher
   not_passing_by c is (inl e) =
       let first : 0 < n = let many = R.ids_ok.enough in omega arith in
       let b = leads_back 0 East first (is ∙ e) in
-      let z = go n East 0 b.steps in
+      let z = going n East 0 b.steps in
       let source : (away z East).from ≡ slice_index run.ids z = ap (λ (w : K). w.from) (b.same b.steps (omega arith)) ∙ b.own in
       record {
         at = z;
-        inside = go_below n East 0 b.steps first;
+        inside = going-inside n (some_nodes run R) East 0 b.steps;
         differs = λ passes. (relays_foreign (at_round run (suc t) z) East (passes_west z passes)).foreign source;
       }
 

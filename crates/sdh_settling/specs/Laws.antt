@@ -9,7 +9,7 @@ use Rattle.sdh_nodestate.specs.Rules.{word, chosen, relay, state_after}
 use Rattle.sdh_restoration.specs.Settled.{settled, settled_states}
 use Rattle.sdh_settling.specs.Signals.{Signals, round, rounds, MayGo, requests_in}
 use Rattle.sdh_settling.specs.Runs.{Run, at_round, IsRun, run_requests}
-use Rattle.sdh_settling.specs.Walks.{go}
+use Rattle.sdh_ringmap.specs.Steps.{going}
 
 -- The fixpoint law, for runs: from round 4n + 7 on each node of a run is in the settled state of its position, with its
 -- far end, under the requests of the spans.
@@ -48,9 +48,9 @@ pub record LeadsBack (run : Run) (t p : ℕ) (d : Side) : Type 0 where
   pub steps : ℕ
   pub some : 0 < steps
   pub few : steps < length run.ids
-  pub between : (j : ℕ) → j < steps → Relays run t (go (length run.ids) d p j) d
-  pub same : (j : ℕ) → j ≤ steps → passed run t (go (length run.ids) d p j) d ≡ passed run t p d
-  pub own : (passed run t p d).from ≡ slice_index run.ids (go (length run.ids) d p steps)
+  pub between : (j : ℕ) → j < steps → Relays run t (going (length run.ids) d p j) d
+  pub same : (j : ℕ) → j ≤ steps → passed run t (going (length run.ids) d p j) d ≡ passed run t p d
+  pub own : (passed run t p d).from ≡ slice_index run.ids (going (length run.ids) d p steps)
 
 -- A still ring relays no word that nobody sends: each relayed word leads back to a node that sends it now.
 abbrev pub RelayedWordsLeadBack : Type 0

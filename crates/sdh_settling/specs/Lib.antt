@@ -1,4 +1,3 @@
 pub mod Signals
 pub mod Runs
-pub mod Walks
 pub mod Laws

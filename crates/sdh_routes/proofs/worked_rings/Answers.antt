@@ -1,5 +1,6 @@
 use Rattle.std.proofs.Common.{refl}
 use Rattle.sdh_ringmap.specs.Arcs.{is_clear, holds_span}
+use Rattle.sdh_ringmap.specs.Steps.{going}
 use Rattle.sdh_restoration.specs.Applied.{applies}
 use Rattle.sdh_restoration.specs.Routes.{hops}
 use Rattle.sdh_restoration.specs.Settled.{settled, far_end}
@@ -8,21 +9,21 @@ use Rattle.sdh_routes.specs.Walks.{delivery}
 use Rattle.sdh_routes.proofs.worked_rings.Goals as goal
 
 pub returns-clause-one : goal.returns-clause-one
-unfolding settled far_end applies hops is_clear holds_span may_carry stands_for leaves_working leaves_protection delivery
+unfolding going settled far_end applies hops is_clear holds_span may_carry stands_for leaves_working leaves_protection delivery
 returns-clause-one c = (refl, refl, refl, refl, refl, refl, refl)
 
 pub returns-clause-two : goal.returns-clause-two
-unfolding settled far_end applies hops is_clear holds_span may_carry stands_for leaves_working leaves_protection delivery
+unfolding going settled far_end applies hops is_clear holds_span may_carry stands_for leaves_working leaves_protection delivery
 returns-clause-two c = (refl, refl, refl, refl, refl, refl, refl)
 
 pub returns-clause-cut_off : goal.returns-clause-cut_off
-unfolding settled far_end applies hops is_clear holds_span may_carry stands_for leaves_working leaves_protection delivery
+unfolding going settled far_end applies hops is_clear holds_span may_carry stands_for leaves_working leaves_protection delivery
 returns-clause-cut_off c = (refl, refl, refl, refl, refl, refl, refl, refl)
 
 pub returns-clause-tie : goal.returns-clause-tie
-unfolding settled far_end applies hops is_clear holds_span may_carry stands_for leaves_working leaves_protection delivery
+unfolding going settled far_end applies hops is_clear holds_span may_carry stands_for leaves_working leaves_protection delivery
 returns-clause-tie c = (refl, refl, refl, refl, refl, refl, refl, refl, refl, refl)
 
 pub returns-clause-longest : goal.returns-clause-longest
-unfolding settled far_end applies hops is_clear holds_span may_carry stands_for leaves_working leaves_protection delivery
+unfolding going settled far_end applies hops is_clear holds_span may_carry stands_for leaves_working leaves_protection delivery
 returns-clause-longest c = (refl, refl, refl, refl)
