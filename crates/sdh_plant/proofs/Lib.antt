@@ -1,0 +1,4 @@
+pub mod Degrading
+pub mod Calling
+pub mod Telling
+pub mod Writing

@@ -1,0 +1,34 @@
+-- The fibres after each call that was answered with Ok. A call that wasn't leaves them as they were.
+use Rattle.std.specs.Prelude.{ℕ, ◌+◌, ◌*◌, ◌==◌, Bool, true, if◌then◌else◌, Option, Some, None, List, [], ◌∷◌, ◌++◌, length, drop, replicate, slice_set, option_map}
+use Rattle.std.specs.List.{list_all}
+use Rattle.std.specs.Option.{option_map_or}
+use Rattle.sdh_frame.specs.declared.Rate.{Rate}
+use Rattle.sdh_frame.specs.Sizes.{size_of}
+use Rattle.sdh_ringmap.specs.declared.Side.{Side}
+use Rattle.sdh_plant.specs.declared.plant.Condition.{Condition}
+use Rattle.sdh_plant.specs.declared.plant.Condition.TheVariants.{Clear}
+use Rattle.sdh_plant.specs.Fibres.{Arrival, Fibres, fibre}
+
+-- an arrival is no frame of another rate; a frame's rate is seen by its size
+abbrev pub is_at : Rate → Arrival → Bool
+is_at rate a = option_map_or (λ bytes. length bytes == size_of rate) a true
+
+-- the told arrivals that are left for this rate: all of them, or none where one is a frame of another rate
+abbrev pub told_at : Rate → List Arrival → List Arrival
+told_at rate told = if list_all (is_at rate) told then told else []
+
+-- two fibres for each of n spans, each clear and without a frame
+abbrev pub prepared : Rate → ℕ → Fibres → Fibres
+prepared rate n f = record f { nodes = n; rate = rate; conditions = replicate (2 * n) Clear; carried = replicate (2 * n) None; told = option_map (told_at rate) f.told }
+
+-- the fibre that leaves position p on that side is in this condition
+abbrev pub after_apply : Fibres → ℕ → Side → Condition → Fibres
+after_apply f p d condition = record f { conditions = slice_set f.conditions (fibre p d) condition }
+
+-- it carries this frame
+abbrev pub after_send : Fibres → ℕ → Side → List ℕ → Fibres
+after_send f p d bytes = record f { carried = slice_set f.carried (fibre p d) (Some bytes); sent = option_map (λ sent. sent ++ bytes ∷ []) f.sent }
+
+-- one of the told arrivals was given
+abbrev pub after_receive : Fibres → Fibres
+after_receive f = record f { told = option_map (drop 1) f.told }

@@ -1,0 +1,59 @@
+-- What a plant means: the fibres of a ring, and what it tells of the frames to come and of those that were sent. This
+-- project's own; each span has two fibres, one each way, as in a two-fibre ring of ITU-T G.841.
+use Rattle.std.specs.Prelude.{ℕ, ◌≡◌, ◌+◌, ◌*◌, ◌≤◌, Bool, Option, List, length}
+use Rattle.sdh_frame.specs.declared.Rate.{Rate}
+use Rattle.sdh_frame.specs.Sizes.{n_of}
+use Rattle.sdh_ringmap.specs.declared.Side.{Side}
+use Rattle.sdh_ringmap.specs.declared.Side.TheVariants.{West, East}
+use Rattle.sdh_ringmap.specs.Places.{opposite, neighbour}
+use Rattle.sdh_plant.specs.declared.plant.Condition.{Condition}
+use Rattle.sdh_plant.specs.declared.plant.Condition.TheVariants.{Clear, Cut, Degraded}
+
+-- what comes to a side in a round: the bytes of a frame, or nothing
+abbrev pub Arrival : Type 0
+Arrival = Option (List ℕ)
+
+-- a fibre is named by the position and side that it leaves: fibre 2 p leaves position p westwards, fibre 2 p + 1 eastwards
+pub record Fibres : Type 0 where
+  -- how many positions the ring has, and 0 before there are fibres
+  pub nodes : ℕ
+  -- the rate of the frames, once there are fibres
+  pub rate : Rate
+  -- the condition of each fibre
+  pub conditions : List Condition
+  -- the last frame sent on each fibre, or nothing where none was sent
+  pub carried : List Arrival
+  -- where the plant tells them, all arrivals that it will give, the next one first
+  pub told : Option (List Arrival)
+  -- where the plant tells them, all frames that were sent, the first one first
+  pub sent : Option (List (List ℕ))
+  -- what comes out of a fibre is what was sent into it, as its condition lets it through
+  pub honest : Bool
+
+-- the fibre that leaves position p on that side
+abbrev pub fibre : ℕ → Side → ℕ
+fibre p West = 2 * p
+fibre p East = 2 * p + 1
+
+-- the fibre that ends at position p on that side, in a ring of n: it leaves the neighbour there on the other side
+abbrev pub fibre_to : ℕ → ℕ → Side → ℕ
+fibre_to n p d = fibre (neighbour n p d) (opposite d)
+
+-- there are no fibres yet
+abbrev pub HasNoFibres : Fibres → Type 0
+HasNoFibres f = f.nodes ≡ 0
+
+-- there are fibres for a ring of n positions and frames of this rate
+pub record IsPrepared (at : Rate) (n : ℕ) (f : Fibres) : Type 0 where
+  pub nodes : f.nodes ≡ n
+  pub rate : f.rate ≡ at
+  pub conditions : length f.conditions ≡ 2 * n
+  pub carried : length f.carried ≡ 2 * n
+  pub enough : 2 ≤ n
+  pub few : n ≤ 16
+
+-- a degradation is by 1 to 3 N columns
+abbrev pub IsConditionAt : Rate → Condition → Type 0
+IsConditionAt rate Clear = Unit {0}
+IsConditionAt rate Cut = Unit {0}
+IsConditionAt rate (Degraded k) = (1 ≤ k) × (k ≤ 3 * n_of rate)

@@ -1,0 +1,62 @@
+-- What the plants in memory keep, and what it means.
+use Rattle.std.specs.Prelude.{ℕ, ◌≡◌, ◌*◌, ◌<◌, ◌≤◌, true, false, Option, Some, None, List, [], All, length, map, drop, if◌then◌else◌}
+use Rattle.std.specs.List.{list_all}
+use Rattle.std.specs.Global.{Vec}
+use Rattle.sdh_frame.specs.declared.Rate.{Rate}
+use Rattle.sdh_frame.specs.Sizes.{Frame}
+use Rattle.sdh_plant.specs.declared.plant.Condition.{Condition}
+use Rattle.sdh_plant.specs.declared.fibre_plant.Fibre.{Fibre}
+use Rattle.sdh_plant.specs.declared.told_plant.Told.{Told}
+use Rattle.sdh_plant.specs.declared.told_plant.Told.TheVariants as told
+use Rattle.sdh_plant.specs.Fibres.{Arrival, IsConditionAt}
+use Rattle.sdh_plant.specs.Calls.{is_at}
+use Rattle.sdh_plant.specs.InMemory.{HeldFibres}
+
+-- a list whose memory may not be taken yet
+abbrev pub items_of : {X : Type 0} → Option (Vec X) → List X
+items_of None = []
+items_of (Some v) = v.items
+
+abbrev pub carried_by : Fibre → Arrival
+carried_by x = if x.carries then Some x.frame.bytes else None
+
+abbrev pub conditions : List Fibre → List Condition
+conditions xs = map (λ x. x.condition) xs
+
+abbrev pub carried : List Fibre → List Arrival
+carried xs = map carried_by xs
+
+abbrev pub held : ℕ → Rate → List Fibre → HeldFibres
+held n rate xs = record { nodes = n; rate = rate; conditions = conditions xs; carried = carried xs }
+
+-- the fibre's frame has the plant's rate, and its condition is one of that rate
+pub record IsFibre (rate : Rate) (x : Fibre) : Type 0 where
+  pub frame : x.frame.rate ≡ rate
+  pub condition : IsConditionAt rate x.condition
+
+pub record AreFibres (n : ℕ) (rate : Rate) (xs : List Fibre) : Type 0 where
+  pub count : length xs ≡ 2 * n
+  pub few : n ≤ 16
+  pub each : All (IsFibre rate) xs
+
+-- the frames of a recording, of which the first `count` were sent: none before there are fibres, and then as many as there
+-- is room for
+pub record AreFrames (fibres : HeldFibres) (room count : ℕ) (frames : List Frame) : Type 0 where
+  pub none : fibres.nodes ≡ 0 → frames ≡ []
+  pub all : 0 < fibres.nodes → length frames ≡ room
+  pub within : count ≤ length frames
+  pub rates : All (λ f. f.rate ≡ fibres.rate) frames
+
+abbrev pub arrival_of : Told → Arrival
+arrival_of told.Dark = None
+arrival_of (told.Frame frame) = Some frame.bytes
+
+-- the arrival is no frame of another rate
+abbrev pub IsToldAt : Rate → Told → Type 0
+IsToldAt rate told.Dark = Unit {0}
+IsToldAt rate (told.Frame frame) = frame.rate ≡ rate
+
+-- the arrivals of which the first `next` were given: once there are fibres, the others are at their rate
+pub record AreTold (fibres : HeldFibres) (next : ℕ) (arrivals : List Told) : Type 0 where
+  pub within : next ≤ length arrivals
+  pub rates : 0 < fibres.nodes → list_all (is_at fibres.rate) (map arrival_of (drop next arrivals)) ≡ true

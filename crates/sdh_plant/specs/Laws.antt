@@ -1,0 +1,27 @@
+-- Laws of the calls.
+use Rattle.std.specs.Prelude.{ℕ, ◌≡◌, ◌<◌, ◌≤◌, Some, None, List}
+use Rattle.sdh_frame.specs.declared.Rate.{Rate}
+use Rattle.sdh_frame.specs.Sizes.{n_of}
+use Rattle.sdh_ringmap.specs.declared.Side.{Side}
+use Rattle.sdh_ringmap.specs.Places.{opposite, neighbour}
+use Rattle.sdh_plant.specs.declared.plant.Condition.{Condition}
+use Rattle.sdh_plant.specs.Fibres.{Fibres, IsPrepared, fibre}
+use Rattle.sdh_plant.specs.Arrivals.{arrival, through, condition_of}
+use Rattle.sdh_plant.specs.Calls.{prepared, after_apply, after_send, after_receive}
+
+-- where no arrivals are told, a frame that is sent on a side comes to the neighbour there, on its other side, as the
+-- condition of the fibre lets it through
+abbrev pub SentComes : Type 0
+SentComes = (rate : Rate) (n : ℕ) (f : Fibres) (p : ℕ) (d : Side) (bytes : List ℕ) → IsPrepared rate n f → f.told ≡ None → p < n
+    → arrival (after_send f p d bytes) (neighbour n p d) (opposite d) ≡ through (n_of rate) (condition_of f (fibre p d)) (Some bytes)
+
+-- right after prepare nothing comes out of any fibre where none is told
+abbrev pub NewIsDark : Type 0
+NewIsDark = (rate : Rate) (n : ℕ) (f : Fibres) (p : ℕ) (d : Side) → f.told ≡ None → arrival (prepared rate n f) p d ≡ None
+
+-- prepare gives fibres for its rate and number of positions, and the other calls keep them
+pub record StayPrepared : Type 0 where
+  pub prepared : (rate : Rate) (n : ℕ) (f : Fibres) → 2 ≤ n → n ≤ 16 → IsPrepared rate n (prepared rate n f)
+  pub apply : (rate : Rate) (n : ℕ) (f : Fibres) (p : ℕ) (d : Side) (condition : Condition) → IsPrepared rate n f → IsPrepared rate n (after_apply f p d condition)
+  pub send : (rate : Rate) (n : ℕ) (f : Fibres) (p : ℕ) (d : Side) (bytes : List ℕ) → IsPrepared rate n f → IsPrepared rate n (after_send f p d bytes)
+  pub receive : (rate : Rate) (n : ℕ) (f : Fibres) → IsPrepared rate n f → IsPrepared rate n (after_receive f)

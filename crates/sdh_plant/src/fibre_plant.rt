@@ -1,0 +1,264 @@
+//! Honest fibres in memory.
+ghost use Rattle.std.specs.Prelude.{◌≡◌, ◌*◌, ◌<◌, ◌≤◌, Some, None, Ok, IfOk, IsOk, OnOk, OnErr, IsOkUnless, IsErrOf, All, length, replicate, slice_set, refl};
+ghost use Rattle.sdh_basics.specs.Causes.{Rose, HasCause};
+ghost use Rattle.sdh_frame.specs.Sizes.{n_of};
+ghost use Rattle.sdh_plant.specs.declared.plant.Condition.TheVariants.{Clear};
+ghost use Rattle.sdh_plant.specs.Fibres.{HasNoFibres, IsConditionAt, fibre, fibre_to};
+ghost use Rattle.sdh_plant.specs.Arrivals.{Knows, arrival, as_arrival, through, honest_arrival};
+ghost use Rattle.sdh_plant.specs.Calls.{prepared, after_apply, after_send, after_receive};
+ghost use Rattle.sdh_plant.specs.InMemory.{fibres_of, laid};
+ghost use Rattle.sdh_plant.specs.Kept.{IsFibre, carried_by, conditions, carried};
+
+use crate::frames::{copy_bytes, degrade};
+use crate::plant::{Arrived, Condition, Failed, FibreEvent, Plant, PrepareError};
+use sdh_frame::{FrameBuf, Rate};
+use sdh_ringmap::{Pos, Side};
+use std::alloc::{AllocError, Global};
+use std::marker::Model;
+
+#[derive(Drop)]
+struct Fibre {
+    condition: Condition,
+    carries: bool,
+    // The last frame sent, where the fibre carries one.
+    frame: FrameBuf,
+}
+
+/// Fibres in memory, which give what was sent and never fail.
+#[derive(Drop)]
+pub struct FibrePlant {
+    nodes: usize,
+    rate: Rate,
+    // By the fibre's number, once there are any.
+    fibres: Option<Vec<Fibre>>,
+}
+
+impl Model for FibrePlant {
+    ghost use Rattle.sdh_plant.specs.InMemory.{HeldFibres};
+    ghost use Rattle.sdh_plant.specs.Kept.{items_of, held, AreFibres};
+
+    ghost Value = { HeldFibres };
+
+    ghost view = { λ a. held a.nodes a.rate (items_of a.fibres) };
+
+    ghost invariant = { λ a. AreFibres a.nodes a.rate (items_of a.fibres) };
+}
+
+// So many fibres, each clear and without a frame.
+fn new_fibres(alloc: Global, rate: Rate, count: usize) -> Result<Vec<Fibre>, AllocError>
+    ensures conditions { IfOk result (λ v. conditions v.items ≡ replicate count Clear) }
+    ensures carried { IfOk result (λ v. carried v.items ≡ replicate count None) }
+    ensures fit { IfOk result (λ v. All (IsFibre rate) v.items) }
+    ensures len { IfOk result (λ v. length v.items ≡ count) }
+{
+    let mut fibres = Vec::with_capacity(alloc, count)?;
+    'fibres: while fibres.len() < count {
+        fibres.push(Fibre {
+            condition: Condition::Clear,
+            carries: false,
+            frame: FrameBuf::try_new(alloc, rate)?,
+        })?;
+    }
+    Ok(fibres)
+}
+
+// The number of the fibre that leaves a position on a side.
+fn fibre_at(at: Pos, side: Side) -> usize
+    ensures { result ≡ fibre at.0 side }
+{
+    match side {
+        Side::West => 2 * usize::from(at.0),
+        Side::East => 2 * usize::from(at.0) + 1,
+    }
+}
+
+// The number of the fibre that ends at a position on a side: it leaves the neighbour there on the other side.
+fn fibre_into(nodes: usize, at: Pos, side: Side) -> usize
+    requires at { at.0 < nodes }
+    requires few { nodes ≤ 16 }
+    ensures fibre { result ≡ fibre_to nodes at.0 side }
+    ensures within { result < 2 * nodes }
+{
+    let n = nodes as u8;
+    let neighbour = match side {
+        Side::West => (at.0 + (n - 1)) % n,
+        Side::East => (at.0 + 1) % n,
+    };
+    fibre_at(Pos(neighbour), side.opposite())
+}
+
+fn set_condition(fibres: &mut [Fibre], at: usize, condition: Condition)
+    requires { at < length fibres.old }
+    ensures conditions { conditions fibres.new ≡ slice_set (conditions fibres.old) at condition }
+    ensures carried { carried fibres.new ≡ carried fibres.old }
+    ensures fit { (rate : _) → IsConditionAt rate condition → All (IsFibre rate) fibres.old → All (IsFibre rate) fibres.new }
+{
+    let fibre = &mut fibres[at];
+    fibre.condition = condition;
+}
+
+fn store(fibres: &mut [Fibre], at: usize, frame: &FrameBuf)
+    requires at { at < length fibres.old }
+    requires fit { All (IsFibre frame.now.rate) fibres.old }
+    ensures conditions { conditions fibres.new ≡ conditions fibres.old }
+    ensures carried { carried fibres.new ≡ slice_set (carried fibres.old) at (Some frame.now.bytes) }
+    ensures fit { All (IsFibre frame.now.rate) fibres.new }
+{
+    let fibre = &mut fibres[at];
+    copy_bytes(frame.bytes(), &mut fibre.frame);
+    fibre.carries = true;
+}
+
+fn deliver(fibre: &Fibre, frame: &mut FrameBuf) -> Arrived
+    requires { IsFibre frame.old.rate fibre.now }
+    ensures arrival { as_arrival result frame.new.bytes ≡ through (n_of frame.old.rate) fibre.now.condition (carried_by fibre.now) }
+    ensures dark { result ≡ Arrived.Dark → frame.new ≡ frame.old }
+    ensures rate { frame.new.rate ≡ frame.old.rate }
+{
+    if !fibre.carries {
+        return Arrived::Dark;
+    }
+    match fibre.condition {
+        Condition::Clear => copy_bytes(fibre.frame.bytes(), frame),
+        Condition::Cut => return Arrived::Dark,
+        Condition::Degraded(columns) => {
+            copy_bytes(fibre.frame.bytes(), frame);
+            degrade(frame, columns);
+        }
+    }
+    Arrived::Frame
+}
+
+impl FibrePlant {
+    /// A plant without fibres. It takes no memory.
+    pub fn new() -> FibrePlant
+        ensures { result ≡ laid result.rate 0 }
+    {
+        FibrePlant::without_fibres(Rate::Four)
+    }
+
+    // A plant without fibres.
+    pub(crate) fn without_fibres(rate: Rate) -> FibrePlant
+        ensures { result ≡ laid rate 0 }
+    {
+        FibrePlant {
+            nodes: 0,
+            rate,
+            fibres: None,
+        }
+    }
+
+    // Takes the memory of all fibres.
+    pub(crate) fn lay(&mut self, alloc: Global, rate: Rate, nodes: usize) -> Result<(), AllocError>
+        requires { nodes ≤ 16 }
+        ensures ok { OnOk result (self.new ≡ laid rate nodes) }
+        ensures err { OnErr result (self.new ≡ self.old) }
+    {
+        self.fibres = Some(new_fibres(alloc, rate, 2 * nodes)?);
+        self.nodes = nodes;
+        self.rate = rate;
+        Ok(())
+    }
+
+    // Sets the condition of a fibre.
+    pub(crate) fn change(&mut self, event: FibreEvent)
+        requires at { event.at.0 < self.old.nodes }
+        requires condition { IsConditionAt self.old.rate event.condition }
+        ensures { self.new ≡ record self.old { conditions = slice_set self.old.conditions (fibre event.at.0 event.side) event.condition } }
+    {
+        let Some(fibres) = &mut self.fibres else {
+            return;
+        };
+        set_condition(fibres, fibre_at(event.at, event.side), event.condition);
+    }
+
+    // Puts a frame on a fibre.
+    pub(crate) fn carry(&mut self, at: Pos, side: Side, frame: &FrameBuf)
+        requires at { at.0 < self.old.nodes }
+        requires rate { frame.now.rate ≡ self.old.rate }
+        ensures { self.new ≡ record self.old { carried = slice_set self.old.carried (fibre at.0 side) (Some frame.now.bytes) } }
+    {
+        let Some(fibres) = &mut self.fibres else {
+            return;
+        };
+        store(fibres, fibre_at(at, side), frame);
+    }
+
+    // Gives what comes out of a fibre.
+    pub(crate) fn give(&self, at: Pos, side: Side, frame: &mut FrameBuf) -> Arrived
+        requires at { at.0 < self.now.nodes }
+        requires rate { frame.old.rate ≡ self.now.rate }
+        ensures arrival { as_arrival result frame.new.bytes ≡ honest_arrival (fibres_of self.now) at.0 side }
+        ensures dark { result ≡ Arrived.Dark → frame.new ≡ frame.old }
+        ensures rate { frame.new.rate ≡ frame.old.rate }
+    {
+        let Some(fibres) = &self.fibres else {
+            return Arrived::Dark;
+        };
+        deliver(&fibres[fibre_into(self.nodes, at, side)], frame)
+    }
+}
+
+impl Plant for FibrePlant {
+    ghost fibres = { λ p. fibres_of p };
+
+    ghost faults = { λ _. 0 };
+
+    fn prepare(&mut self, alloc: Global, rate: Rate, nodes: usize) -> Result<(), PrepareError>
+        requires fresh { HasNoFibres (fibres_of self.old) }
+        requires enough { 2 ≤ nodes }
+        requires few { nodes ≤ 16 }
+        ensures ok { OnOk result (fibres_of self.new ≡ prepared rate nodes (fibres_of self.old)) }
+        ensures err { OnErr result (fibres_of self.new ≡ fibres_of self.old) }
+        ensures failed { IsErrOf result PrepareError.Failed → Rose 0 0 }
+        ensures later { 0 ≤ 0 }
+
+        ensures never_fails { IsOkUnless result PrepareError.Memory }
+    {
+        self.lay(alloc, rate, nodes)?;
+        Ok(())
+    }
+
+    fn apply(&mut self, event: FibreEvent) -> Result<(), Failed>
+        requires at { event.at.0 < (fibres_of self.old).nodes }
+        requires condition { IsConditionAt (fibres_of self.old).rate event.condition }
+        ensures ok { OnOk result (fibres_of self.new ≡ after_apply (fibres_of self.old) event.at.0 event.side event.condition) }
+        ensures err { OnErr result (fibres_of self.new ≡ fibres_of self.old) }
+        ensures cause { HasCause 0 0 result }
+
+        ensures never_fails { IsOk result }
+    {
+        self.change(event);
+        Ok(())
+    }
+
+    fn send(&mut self, at: Pos, side: Side, frame: &FrameBuf) -> Result<(), Failed>
+        requires at { at.0 < (fibres_of self.old).nodes }
+        requires rate { frame.now.rate ≡ (fibres_of self.old).rate }
+        ensures ok { OnOk result (fibres_of self.new ≡ after_send (fibres_of self.old) at.0 side frame.now.bytes) }
+        ensures err { OnErr result (fibres_of self.new ≡ fibres_of self.old) }
+        ensures cause { HasCause 0 0 result }
+
+        ensures never_fails { IsOk result }
+    {
+        self.carry(at, side, frame);
+        Ok(())
+    }
+
+    fn receive(&mut self, at: Pos, side: Side, frame: &mut FrameBuf) -> Result<Arrived, Failed>
+        requires at { at.0 < (fibres_of self.old).nodes }
+        requires rate { frame.old.rate ≡ (fibres_of self.old).rate }
+        ensures ok { OnOk result (fibres_of self.new ≡ after_receive (fibres_of self.old)) }
+        ensures arrival { IfOk result (λ a. Knows (fibres_of self.old) → as_arrival a frame.new.bytes ≡ arrival (fibres_of self.old) at.0 side) }
+        ensures dark { result ≡ Ok Arrived.Dark → frame.new ≡ frame.old }
+        ensures rate { frame.new.rate ≡ frame.old.rate }
+        ensures err { OnErr result (fibres_of self.new ≡ fibres_of self.old) }
+        ensures cause { HasCause 0 0 result }
+
+        ensures never_fails { IsOk result }
+    {
+        Ok(self.give(at, side, frame))
+    }
+
+    ghost honest_tells_none = { λ p honest. refl };
+}

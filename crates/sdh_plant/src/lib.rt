@@ -1,0 +1,19 @@
+//! The fibres between the nodes of a ring: what a ring asks of them, and fibres in memory.
+#![tactic(auto)]
+
+mod fibre_plant;
+mod frames;
+mod laws;
+mod plant;
+mod recording_plant;
+#[cfg(test)]
+mod tests;
+mod told_plant;
+
+pub use fibre_plant::FibrePlant;
+pub use laws::{
+    a_new_plant_is_dark, calls_keep_a_plant_prepared, what_is_sent_comes_to_the_neighbour,
+};
+pub use plant::{Arrived, Condition, Failed, FibreEvent, Plant, PrepareError};
+pub use recording_plant::RecordingPlant;
+pub use told_plant::{Told, ToldPlant};

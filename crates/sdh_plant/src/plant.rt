@@ -1,0 +1,109 @@
+//! What a ring asks of its fibres.
+ghost use Rattle.std.specs.Prelude.{◌≡◌, ◌<◌, ◌≤◌, ℕ, true, None, Ok, IfOk, OnOk, OnErr, IsErrOf};
+ghost use Rattle.sdh_basics.specs.Causes.{Rose, HasCause};
+ghost use Rattle.sdh_plant.specs.Fibres.{Fibres, HasNoFibres, IsConditionAt};
+ghost use Rattle.sdh_plant.specs.Arrivals.{Knows, arrival, as_arrival};
+ghost use Rattle.sdh_plant.specs.Calls.{prepared, after_apply, after_send, after_receive};
+
+use sdh_frame::{FrameBuf, Rate};
+use sdh_ringmap::{Pos, Side};
+use std::alloc::{AllocError, Global};
+
+/// A call of a plant failed, and the plant counted a fault. It changed nothing that the plant means.
+#[derive(Clone, Copy, Debug, PartialEq, Eq)]
+pub struct Failed;
+
+/// What came out of a fibre.
+#[derive(Clone, Copy, Debug, PartialEq, Eq)]
+pub enum Arrived {
+    Frame,
+    Dark,
+}
+
+/// The condition of a fibre. The one in the round of arrival counts.
+#[derive(Clone, Copy, Debug, PartialEq, Eq)]
+pub enum Condition {
+    /// Frames come as they were sent.
+    Clear,
+    /// Nothing comes.
+    Cut,
+    /// Frames come with the top bit inverted of so many bytes of row 6, 1 to 3N.
+    Degraded(u16),
+}
+
+/// The fibre that leaves a position on a side comes into a condition.
+#[derive(Clone, Copy, Debug, PartialEq, Eq)]
+pub struct FibreEvent {
+    pub at: Pos,
+    pub side: Side,
+    pub condition: Condition,
+}
+
+/// Why there are no fibres.
+#[derive(Clone, Copy, Debug, PartialEq, Eq)]
+pub enum PrepareError {
+    /// There was no memory.
+    Memory,
+    /// The plant failed, and counted a fault.
+    Failed,
+}
+
+impl From<AllocError> for PrepareError {
+    ghost use Rattle.sdh_plant.specs.declared.plant.PrepareError.TheVariants.{Memory};
+
+    ghost from_gives = { λ _ e. e ≡ Memory };
+
+    fn from(_: AllocError) -> PrepareError {
+        PrepareError::Memory
+    }
+}
+
+/// The fibres of a ring. A plant without fibres has no positions, so each other call comes after `prepare` answered Ok.
+pub trait Plant {
+    /// The fibres, and what the plant tells of arrivals to come and of frames that were sent.
+    ghost fibres: { Self → Fibres };
+
+    /// How often a call has failed. It never falls, and stands still at its type's end.
+    ghost faults: { Self → ℕ };
+
+    /// Gives two fibres for each span, all clear and without a frame. All memory of the plant is taken here. Without memory, or
+    /// after a failure, there are no fibres, and the call may be made again.
+    fn prepare(&mut self, alloc: Global, rate: Rate, nodes: usize) -> Result<(), PrepareError>
+        requires fresh { HasNoFibres (fibres self.old) }
+        requires enough { 2 ≤ nodes }
+        requires few { nodes ≤ 16 }
+        ensures ok { OnOk result (fibres self.new ≡ prepared rate nodes (fibres self.old)) }
+        ensures err { OnErr result (fibres self.new ≡ fibres self.old) }
+        ensures failed { IsErrOf result PrepareError.Failed → Rose (faults self.old) (faults self.new) }
+        ensures later { faults self.old ≤ faults self.new };
+
+    /// Sets the condition of one fibre.
+    fn apply(&mut self, event: FibreEvent) -> Result<(), Failed>
+        requires at { event.at.0 < (fibres self.old).nodes }
+        requires condition { IsConditionAt (fibres self.old).rate event.condition }
+        ensures ok { OnOk result (fibres self.new ≡ after_apply (fibres self.old) event.at.0 event.side event.condition) }
+        ensures err { OnErr result (fibres self.new ≡ fibres self.old) }
+        ensures cause { HasCause (faults self.old) (faults self.new) result };
+
+    /// Sends a frame from a position on a side. The fibre that leaves there carries it in place of the one before.
+    fn send(&mut self, at: Pos, side: Side, frame: &FrameBuf) -> Result<(), Failed>
+        requires at { at.0 < (fibres self.old).nodes }
+        requires rate { frame.now.rate ≡ (fibres self.old).rate }
+        ensures ok { OnOk result (fibres self.new ≡ after_send (fibres self.old) at.0 side frame.now.bytes) }
+        ensures err { OnErr result (fibres self.new ≡ fibres self.old) }
+        ensures cause { HasCause (faults self.old) (faults self.new) result };
+
+    /// Receives at a position on a side what comes out of the fibre that ends there. The fibre carries it still.
+    fn receive(&mut self, at: Pos, side: Side, frame: &mut FrameBuf) -> Result<Arrived, Failed>
+        requires at { at.0 < (fibres self.old).nodes }
+        requires rate { frame.old.rate ≡ (fibres self.old).rate }
+        ensures ok { OnOk result (fibres self.new ≡ after_receive (fibres self.old)) }
+        ensures arrival { IfOk result (λ a. Knows (fibres self.old) → as_arrival a frame.new.bytes ≡ arrival (fibres self.old) at.0 side) }
+        ensures dark { result ≡ Ok Arrived.Dark → frame.new ≡ frame.old }
+        ensures rate { frame.new.rate ≡ frame.old.rate }
+        ensures err { OnErr result (fibres self.new ≡ fibres self.old) }
+        ensures cause { HasCause (faults self.old) (faults self.new) result };
+
+    /// An honest plant tells no arrivals: what comes is what was sent.
+    ghost honest_tells_none: { (p : Self) → (fibres p).honest ≡ true → (fibres p).told ≡ None };
+}

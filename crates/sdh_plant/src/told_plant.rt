@@ -1,0 +1,179 @@
+//! Fibres in memory that give arrivals from a list.
+ghost use Rattle.std.specs.Prelude.{◌≡◌, ◌<◌, ◌≤◌, true, Ok, IfOk, IsOk, OnOk, OnErr, IsOkUnless, IsErrOf, All, length, map, drop};
+ghost use Rattle.std.specs.List.{list_all};
+ghost use Rattle.std.proofs.lemmas.Bool.{false≢true};
+ghost use Rattle.sdh_basics.specs.Causes.{Rose, HasCause};
+ghost use Rattle.sdh_frame.specs.Sizes.{size_of};
+ghost use Rattle.sdh_plant.specs.Fibres.{HasNoFibres, IsConditionAt};
+ghost use Rattle.sdh_plant.specs.Arrivals.{Knows, arrival, as_arrival, next_told};
+ghost use Rattle.sdh_plant.specs.Calls.{is_at, prepared, after_apply, after_send, after_receive};
+ghost use Rattle.sdh_plant.specs.InMemory.{laid, told_of};
+ghost use Rattle.sdh_plant.specs.Kept.{arrival_of, IsToldAt};
+
+use crate::fibre_plant::FibrePlant;
+use crate::frames::copy_bytes;
+use crate::plant::{Arrived, Failed, FibreEvent, Plant, PrepareError};
+use sdh_frame::{FrameBuf, Rate};
+use sdh_ringmap::{Pos, Side};
+use std::alloc::Global;
+use std::marker::Model;
+
+/// An arrival that is told beforehand.
+#[derive(Drop)]
+pub enum Told {
+    Dark,
+    Frame(FrameBuf),
+}
+
+/// Fibres that take what is sent, and give the arrivals of a list in their order whatever was sent, and darkness past its end.
+/// No call of theirs fails.
+#[derive(Drop)]
+pub struct ToldPlant {
+    plant: FibrePlant,
+    arrivals: Vec<Told>,
+    // How many of them were given.
+    next: usize,
+}
+
+impl Model for ToldPlant {
+    ghost use Rattle.std.specs.Prelude.{map, drop};
+    ghost use Rattle.sdh_plant.specs.InMemory.{HeldTold};
+    ghost use Rattle.sdh_plant.specs.Kept.{arrival_of, AreTold};
+
+    ghost Value = { HeldTold };
+
+    ghost view = { λ a. record { fibres = a.plant; told = map arrival_of (drop a.next a.arrivals.items) } };
+
+    ghost invariant = { λ a. AreTold a.plant a.next a.arrivals.items };
+}
+
+// Whether an arrival is no frame of another rate.
+fn is_told_at(told: &Told, rate: Rate) -> bool
+    ensures { result ≡ is_at rate (arrival_of told.now) }
+{
+    match told {
+        Told::Dark => true,
+        Told::Frame(frame) => frame.rate() == rate,
+    }
+}
+
+// Whether none of the arrivals is a frame of another rate.
+fn are_told_at(arrivals: &[Told], rate: Rate) -> bool
+    ensures { result ≡ list_all (λ told. is_at rate (arrival_of told)) arrivals.now }
+{
+    arrivals.iter().all(|told| is_told_at(told, rate))
+}
+
+// Gives a told arrival.
+fn tell(told: &Told, frame: &mut FrameBuf) -> Arrived
+    requires { is_at frame.old.rate (arrival_of told.now) ≡ true }
+    ensures arrival { as_arrival result frame.new.bytes ≡ arrival_of told.now }
+    ensures dark { result ≡ Arrived.Dark → frame.new ≡ frame.old }
+    ensures rate { frame.new.rate ≡ frame.old.rate }
+{
+    match told {
+        Told::Dark => Arrived::Dark,
+        Told::Frame(sent) => {
+            copy_bytes(sent.bytes(), frame);
+            Arrived::Frame
+        }
+    }
+}
+
+impl ToldPlant {
+    /// A plant without fibres that will give these arrivals, where it is prepared for the rate of their frames. It takes no memory.
+    pub fn new(rate: Rate, arrivals: Vec<Told>) -> ToldPlant
+        requires { All (IsToldAt rate) arrivals.items }
+        ensures { result ≡ record { fibres = laid rate 0; told = map arrival_of arrivals.items } }
+    {
+        ToldPlant {
+            plant: FibrePlant::without_fibres(rate),
+            arrivals,
+            next: 0,
+        }
+    }
+
+    // Gives the next told arrival, if there is one.
+    fn give_next(&mut self, frame: &mut FrameBuf) -> Arrived
+        requires fibres { 0 < self.old.fibres.nodes }
+        requires rate { frame.old.rate ≡ self.old.fibres.rate }
+        ensures told { self.new ≡ record self.old { told = drop 1 self.old.told } }
+        ensures arrival { as_arrival result frame.new.bytes ≡ next_told self.old.told }
+        ensures dark { result ≡ Arrived.Dark → frame.new ≡ frame.old }
+        ensures rate { frame.new.rate ≡ frame.old.rate }
+    {
+        if self.next == self.arrivals.len() {
+            return Arrived::Dark;
+        }
+        let arrived = tell(&self.arrivals[self.next], frame);
+        self.next += 1;
+        arrived
+    }
+}
+
+impl Plant for ToldPlant {
+    ghost fibres = { λ p. told_of p };
+
+    ghost faults = { λ _. 0 };
+
+    fn prepare(&mut self, alloc: Global, rate: Rate, nodes: usize) -> Result<(), PrepareError>
+        requires fresh { HasNoFibres (told_of self.old) }
+        requires enough { 2 ≤ nodes }
+        requires few { nodes ≤ 16 }
+        ensures ok { OnOk result (told_of self.new ≡ prepared rate nodes (told_of self.old)) }
+        ensures err { OnErr result (told_of self.new ≡ told_of self.old) }
+        ensures failed { IsErrOf result PrepareError.Failed → Rose 0 0 }
+        ensures later { 0 ≤ 0 }
+
+        ensures never_fails { IsOkUnless result PrepareError.Memory }
+    {
+        self.plant.lay(alloc, rate, nodes)?;
+        if !are_told_at(&self.arrivals[self.next..], rate) {
+            self.next = self.arrivals.len();
+        }
+        Ok(())
+    }
+
+    fn apply(&mut self, event: FibreEvent) -> Result<(), Failed>
+        requires at { event.at.0 < (told_of self.old).nodes }
+        requires condition { IsConditionAt (told_of self.old).rate event.condition }
+        ensures ok { OnOk result (told_of self.new ≡ after_apply (told_of self.old) event.at.0 event.side event.condition) }
+        ensures err { OnErr result (told_of self.new ≡ told_of self.old) }
+        ensures cause { HasCause 0 0 result }
+
+        ensures never_fails { IsOk result }
+    {
+        self.plant.change(event);
+        Ok(())
+    }
+
+    fn send(&mut self, at: Pos, side: Side, frame: &FrameBuf) -> Result<(), Failed>
+        requires at { at.0 < (told_of self.old).nodes }
+        requires rate { frame.now.rate ≡ (told_of self.old).rate }
+        ensures ok { OnOk result (told_of self.new ≡ after_send (told_of self.old) at.0 side frame.now.bytes) }
+        ensures err { OnErr result (told_of self.new ≡ told_of self.old) }
+        ensures cause { HasCause 0 0 result }
+
+        ensures never_fails { IsOk result }
+    {
+        self.plant.carry(at, side, frame);
+        Ok(())
+    }
+
+    fn receive(&mut self, at: Pos, side: Side, frame: &mut FrameBuf) -> Result<Arrived, Failed>
+        requires at { at.0 < (told_of self.old).nodes }
+        requires rate { frame.old.rate ≡ (told_of self.old).rate }
+        ensures ok { OnOk result (told_of self.new ≡ after_receive (told_of self.old)) }
+        ensures arrival { IfOk result (λ a. Knows (told_of self.old) → as_arrival a frame.new.bytes ≡ arrival (told_of self.old) at.0 side) }
+        ensures dark { result ≡ Ok Arrived.Dark → frame.new ≡ frame.old }
+        ensures rate { frame.new.rate ≡ frame.old.rate }
+        ensures err { OnErr result (told_of self.new ≡ told_of self.old) }
+        ensures cause { HasCause 0 0 result }
+
+        ensures never_fails { IsOk result }
+    {
+        Ok(self.give_next(frame))
+    }
+
+    ghost honest_tells_none = { λ p honest. absurd (false≢true honest) };
+}
