@@ -1,5 +1,5 @@
 -- What the calls make of the fibres.
-use Rattle.std.proofs.Common.{◌≡◌, ℕ, ◌+◌, ◌*◌, ◌-◌, ◌%◌, ◌<◌, ◌≤◌, Bool, true, false, Option, Some, None, List, length, get_or, set, replicate, refl, ap, sym, ◌∙◌, arith, inl, inr}
+use Rattle.std.proofs.Common.{◌≡◌, ℕ, ◌+◌, ◌*◌, ◌-◌, ◌%◌, ◌<◌, Some, None, List, length, get_or, set, replicate, refl, ap, ◌∙◌, arith, inl, inr}
 use Rattle.std.proofs.Math.Nat.{mod-eq_of_lt, add-mod_left}
 use Rattle.std.proofs.lemmas.Bool.{cases_lt}
 use Rattle.std.proofs.lemmas.List.{length-set, length-replicate, get_or-replicate, get_or-set_same, get_or_past}
@@ -12,9 +12,9 @@ use Rattle.sdh_ringmap.specs.declared.Side.TheVariants.{West, East}
 use Rattle.sdh_ringmap.specs.Places.{opposite, neighbour}
 use Rattle.sdh_plant.specs.declared.plant.Condition.{Condition}
 use Rattle.sdh_plant.specs.declared.plant.Condition.TheVariants.{Clear, Cut, Degraded}
-use Rattle.sdh_plant.specs.Fibres.{Arrival, Fibres, IsPrepared, fibre, fibre_to}
+use Rattle.sdh_plant.specs.Fibres.{Arrival, Fibres, fibre, fibre_to}
 use Rattle.sdh_plant.specs.Arrivals.{arrival, honest_arrival, next_told, through, condition_of}
-use Rattle.sdh_plant.specs.Calls.{told_at, prepared, after_apply, after_send, after_receive}
+use Rattle.sdh_plant.specs.Calls.{told_at, prepared, after_send}
 use Rattle.sdh_plant.specs.Laws.{SentComes, NewIsDark, StayPrepared}
 
 once_round : (n k : ℕ) → k < n → (n + k) % n ≡ k

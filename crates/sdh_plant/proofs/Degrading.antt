@@ -1,5 +1,5 @@
 -- A frame behind a degraded fibre, byte by byte.
-use Rattle.std.proofs.Common.{◌≡◌, ℕ, ◌+◌, ◌*◌, ◌/◌, ◌%◌, ◌<◌, ◌≤◌, Bool, true, false, List, length, get_or, refl, ap, sym, ◌∙◌, arith, inl, inr}
+use Rattle.std.proofs.Common.{◌≡◌, ℕ, ◌+◌, ◌*◌, ◌<◌, ◌≤◌, List, length, get_or, sym, ◌∙◌, arith, inl, inr}
 use Rattle.std.specs.Prelude.{slice_index, bit_xor}
 use Rattle.std.proofs.lemmas.Bool.{cases_lt}
 use Rattle.std.proofs.lemmas.Bool.Decides.{nat_tests}
@@ -7,8 +7,8 @@ use Rattle.std.proofs.lemmas.List.{ext_get_or}
 use Rattle.sdh_basics.proofs.CellsLaws.{length-map_from, get_or-placed}
 use Rattle.sdh_frame.specs.declared.Rate.{Rate}
 use Rattle.sdh_frame.specs.declared.Rate.TheVariants.{Four, Sixteen}
-use Rattle.sdh_frame.specs.Sizes.{n_of, size_of}
-use Rattle.sdh_plant.specs.Arrivals.{is_inverted, degraded_byte, degraded}
+use Rattle.sdh_frame.specs.Sizes.{n_of}
+use Rattle.sdh_plant.specs.Arrivals.{degraded_byte, degraded}
 
 pub byte_inside : (rate : Rate) (k i x : ℕ) → k ≤ 3 * n_of rate → 1350 * n_of rate ≤ i → i < 1350 * n_of rate + k → degraded_byte (n_of rate) k i x ≡ bit_xor x 0x80
 unfolding degraded_byte

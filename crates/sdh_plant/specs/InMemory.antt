@@ -1,5 +1,5 @@
 -- The plants in memory.
-use Rattle.std.specs.Prelude.{ℕ, ◌≡◌, ◌*◌, true, false, Option, Some, None, List, map, replicate, if◌then◌else◌}
+use Rattle.std.specs.Prelude.{ℕ, ◌*◌, true, false, Some, None, List, map, replicate}
 use Rattle.sdh_frame.specs.declared.Rate.{Rate}
 use Rattle.sdh_frame.specs.Sizes.{Frame}
 use Rattle.sdh_plant.specs.declared.plant.Condition.{Condition}

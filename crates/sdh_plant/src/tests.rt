@@ -1,17 +1,16 @@
-//! What each plant gives, told, recorded and degraded, at both rates.
-ghost use Rattle.std.specs.Prelude.{◌≡◌, ◌<◌, ◌≤◌, ◌*◌, IfOk, vec_len, All};
+//! What comes out of each plant, degraded, recorded and told, at both rates.
+ghost use Rattle.std.specs.Prelude.{◌≡◌, ◌+◌, ◌*◌, ◌<◌, ◌≤◌, All, IfOk};
 ghost use Rattle.sdh_frame.specs.Sizes.{n_of};
 ghost use Rattle.sdh_plant.specs.Fibres.{HasNoFibres};
-ghost use Rattle.sdh_plant.specs.InMemory.{laid};
 ghost use Rattle.sdh_plant.specs.Kept.{IsToldAt};
 
-use crate::{
-    Arrived, Condition, Failed, FibreEvent, FibrePlant, Plant, RecordingPlant, Told, ToldPlant,
-};
+use crate::{Arrived, Condition, FibreEvent, FibrePlant, Plant, RecordingPlant, Told, ToldPlant};
 use sdh_frame::{FrameBuf, Rate};
 use sdh_ringmap::{Pos, Side};
 use std::alloc::{AllocError, Global};
 use std::test::Fail;
+
+const DARK: u8 = 0;
 
 // A frame with this byte everywhere.
 fn frame_of(alloc: Global, rate: Rate, value: u8) -> Result<FrameBuf, AllocError>
@@ -22,12 +21,11 @@ fn frame_of(alloc: Global, rate: Rate, value: u8) -> Result<FrameBuf, AllocError
     Ok(frame)
 }
 
-// Whether a frame has this byte everywhere.
 fn is_full_of(frame: &FrameBuf, value: u8) -> bool {
     frame.bytes().iter().all(|byte| *byte == value)
 }
 
-// A ring of three positions.
+// Honest fibres between three nodes.
 fn three_nodes(alloc: Global, rate: Rate) -> Result<FibrePlant, Fail>
     ensures nodes { IfOk result (λ p. p.nodes ≡ 3) }
     ensures rate { IfOk result (λ p. p.rate ≡ rate) }
@@ -37,37 +35,64 @@ fn three_nodes(alloc: Global, rate: Rate) -> Result<FibrePlant, Fail>
     Ok(plant)
 }
 
+// Whether a frame with this byte everywhere is sent.
+fn sends<P: Plant>(plant: &mut P, at: Pos, side: Side, frame: &mut FrameBuf, value: u8) -> bool
+    requires at { at.0 < (P.fibres plant.old).nodes }
+    requires rate { frame.old.rate ≡ (P.fibres plant.old).rate }
+    ensures nodes { (P.fibres plant.new).nodes ≡ (P.fibres plant.old).nodes }
+    ensures rate { (P.fibres plant.new).rate ≡ (P.fibres plant.old).rate }
+    ensures frame { frame.new.rate ≡ frame.old.rate }
+{
+    frame.fill(value);
+    plant.send(at, side, frame).is_ok()
+}
+
+// The byte that a frame which comes has everywhere, or darkness, which leaves the frame as it was.
+fn came<P: Plant>(plant: &mut P, at: Pos, side: Side, frame: &mut FrameBuf) -> Option<u8>
+    requires at { at.0 < (P.fibres plant.old).nodes }
+    requires rate { frame.old.rate ≡ (P.fibres plant.old).rate }
+    ensures nodes { (P.fibres plant.new).nodes ≡ (P.fibres plant.old).nodes }
+    ensures rate { (P.fibres plant.new).rate ≡ (P.fibres plant.old).rate }
+    ensures frame { frame.new.rate ≡ frame.old.rate }
+{
+    frame.fill(0x11);
+    let arrived = plant.receive(at, side, frame).ok();
+    let first = frame.bytes().first().copied()?;
+    if !is_full_of(frame, first) {
+        return None;
+    }
+    match arrived? {
+        Arrived::Frame => Some(first),
+        Arrived::Dark if first == 0x11 => Some(DARK),
+        Arrived::Dark => None,
+    }
+}
+
 #[test]
 fn a_frame_comes_to_the_neighbour_alone(rt: HostRuntime) -> Result<(), Fail> {
-    // Where it is sent, and where it comes.
+    // Where it is sent, and what comes to the west and east sides of positions 0, 1 and 2.
     let rows = [
-        (0, Side::East, 1, Side::West),
-        (1, Side::East, 2, Side::West),
-        (2, Side::East, 0, Side::West),
-        (0, Side::West, 2, Side::East),
-        (1, Side::West, 0, Side::East),
-        (2, Side::West, 1, Side::East),
+        (0, Side::West, [0, 0, 0, 0, 0, 0x35]),
+        (0, Side::East, [0, 0, 0x35, 0, 0, 0]),
+        (1, Side::West, [0, 0x35, 0, 0, 0, 0]),
+        (1, Side::East, [0, 0, 0, 0, 0x35, 0]),
+        (2, Side::West, [0, 0, 0, 0x35, 0, 0]),
+        (2, Side::East, [0x35, 0, 0, 0, 0, 0]),
     ];
-    for (from, out, to, into) in rows {
+    for (at, side, wants) in rows {
+        assert!(rt; at < 3);
         let mut plant = three_nodes(rt.alloc(), Rate::Four)?;
-        let sent = frame_of(rt.alloc(), Rate::Four, 0x35)?;
-        let mut frame = frame_of(rt.alloc(), Rate::Four, 0x11)?;
-        assert!(rt; from < 3);
-        assert_eq!(rt; plant.send(Pos(from), out, &sent), Ok(()), "from {from}");
-        for at in 0..3 {
-            for side in [Side::West, Side::East] {
-                let there = at == to && side == into;
-                let want = if there { Arrived::Frame } else { Arrived::Dark };
-                frame.fill(0x11);
-                assert_eq!(rt;
-                    plant.receive(Pos(at), side, &mut frame),
-                    Ok(want),
-                    "from {from} at {at}"
-                );
-                let value = if there { 0x35 } else { 0x11 };
-                assert!(rt; is_full_of(&frame, value), "from {from} at {at}");
-            }
-        }
+        let mut frame = frame_of(rt.alloc(), Rate::Four, 0)?;
+        assert!(rt; sends(&mut plant, Pos(at), side, &mut frame, 0x35));
+        let all = [
+            came(&mut plant, Pos(0), Side::West, &mut frame),
+            came(&mut plant, Pos(0), Side::East, &mut frame),
+            came(&mut plant, Pos(1), Side::West, &mut frame),
+            came(&mut plant, Pos(1), Side::East, &mut frame),
+            came(&mut plant, Pos(2), Side::West, &mut frame),
+            came(&mut plant, Pos(2), Side::East, &mut frame),
+        ];
+        assert_eq!(rt; all, wants.map(Some), "{at}");
     }
     Ok(())
 }
@@ -100,30 +125,24 @@ fn a_degraded_fibre_inverts_the_first_columns_of_row_6(rt: HostRuntime) -> Resul
         assert!(rt; 1 <= count && count <= 3 * rate.n());
         assert!(rt; first + count <= 2430 * rate.n());
         let mut plant = three_nodes(rt.alloc(), rate)?;
-        let sent = frame_of(rt.alloc(), rate, 0x35)?;
-        let mut frame = frame_of(rt.alloc(), rate, 0x11)?;
-        assert_eq!(rt; plant.send(Pos(0), Side::East, &sent), Ok(()));
-        assert_eq!(rt; plant.send(Pos(1), Side::West, &sent), Ok(()));
+        let mut frame = frame_of(rt.alloc(), rate, 0)?;
+        assert!(rt; sends(&mut plant, Pos(0), Side::East, &mut frame, 0x35));
+        assert!(rt; sends(&mut plant, Pos(1), Side::West, &mut frame, 0x36));
         let degraded = FibreEvent {
             at: Pos(0),
             side: Side::East,
             condition: Condition::Degraded(columns),
         };
         assert_eq!(rt; plant.apply(degraded), Ok(()));
-        assert_eq!(rt;
-            plant.receive(Pos(1), Side::West, &mut frame),
-            Ok(Arrived::Frame)
-        );
+        // The fibre the other way is as it was.
+        let back = came(&mut plant, Pos(0), Side::East, &mut frame);
+        assert_eq!(rt; back, Some(0x36), "{columns}");
+        let there = plant.receive(Pos(1), Side::West, &mut frame);
+        assert_eq!(rt; there, Ok(Arrived::Frame), "{columns}");
         assert!(rt;
             is_full_of_but(&frame, 0x35, first, count, 0xB5),
             "{columns}"
         );
-        // The fibre the other way is as it was.
-        assert_eq!(rt;
-            plant.receive(Pos(0), Side::East, &mut frame),
-            Ok(Arrived::Frame)
-        );
-        assert!(rt; is_full_of(&frame, 0x35), "{columns}");
     }
     Ok(())
 }
@@ -132,63 +151,49 @@ fn a_degraded_fibre_inverts_the_first_columns_of_row_6(rt: HostRuntime) -> Resul
 fn the_condition_in_the_round_of_arrival_counts(rt: HostRuntime) -> Result<(), Fail> {
     for rate in [Rate::Four, Rate::Sixteen] {
         let mut plant = three_nodes(rt.alloc(), rate)?;
-        let sent = frame_of(rt.alloc(), rate, 0x35)?;
-        let mut frame = frame_of(rt.alloc(), rate, 0x11)?;
+        let mut frame = frame_of(rt.alloc(), rate, 0)?;
         let mut event = FibreEvent {
             at: Pos(0),
             side: Side::East,
             condition: Condition::Cut,
         };
-        assert_eq!(rt; plant.send(Pos(0), Side::East, &sent), Ok(()));
+        assert!(rt; sends(&mut plant, Pos(0), Side::East, &mut frame, 0x35));
         assert_eq!(rt; plant.apply(event), Ok(()));
-        assert_eq!(rt;
-            plant.receive(Pos(1), Side::West, &mut frame),
-            Ok(Arrived::Dark)
-        );
-        assert!(rt; is_full_of(&frame, 0x11));
+        let cut = came(&mut plant, Pos(1), Side::West, &mut frame);
+        assert_eq!(rt; cut, Some(DARK));
         event.condition = Condition::Clear;
         assert_eq!(rt; plant.apply(event), Ok(()));
-        assert_eq!(rt;
-            plant.receive(Pos(1), Side::West, &mut frame),
-            Ok(Arrived::Frame)
-        );
-        assert!(rt; is_full_of(&frame, 0x35));
+        let clear = came(&mut plant, Pos(1), Side::West, &mut frame);
+        assert_eq!(rt; clear, Some(0x35));
     }
     Ok(())
 }
 
 #[test]
 fn a_recording_plant_fails_past_its_room(rt: HostRuntime) -> Result<(), Fail> {
-    // The rate, the room, and how many of four frames are sent.
+    // The rate, the room, and which of three frames is sent.
     let rows = [
-        (Rate::Four, 0, 0),
-        (Rate::Four, 3, 3),
-        (Rate::Four, 4, 4),
-        (Rate::Sixteen, 2, 2),
+        (Rate::Four, 0, [false, false, false]),
+        (Rate::Four, 1, [true, false, false]),
+        (Rate::Four, 3, [true, true, true]),
+        (Rate::Sixteen, 2, [true, true, false]),
     ];
-    for (rate, room, count) in rows {
+    for (rate, room, wants) in rows {
         let mut plant = RecordingPlant::new(room);
         plant
             .prepare(rt.alloc(), rate, 2)
             .map_err(|_| "not prepared")?;
         let mut frame = frame_of(rt.alloc(), rate, 0)?;
-        for turn in 0..4 {
-            frame.fill(turn);
-            let want = if usize::from(turn) < count {
-                Ok(())
-            } else {
-                Err(Failed)
-            };
-            assert_eq!(rt;
-                plant.send(Pos(0), Side::West, &frame),
-                want,
-                "{room} {turn}"
-            );
-        }
-        let sent = plant.sent();
-        assert_eq!(rt; sent.len(), count);
-        for i in 0..sent.len() {
-            assert!(rt; i < 4 && is_full_of(&sent[i], i as u8), "{room} {i}");
+        let sent = [
+            sends(&mut plant, Pos(0), Side::West, &mut frame, 0),
+            sends(&mut plant, Pos(1), Side::West, &mut frame, 1),
+            sends(&mut plant, Pos(0), Side::West, &mut frame, 2),
+        ];
+        assert_eq!(rt; sent, wants, "{room}");
+        let frames = plant.sent();
+        assert_eq!(rt; frames.len(), room);
+        for i in 0..frames.len() {
+            assert!(rt; i < 3 && is_full_of(&frames[i], i as u8), "{room} {i}");
         }
     }
     Ok(())
@@ -207,67 +212,54 @@ fn three_arrivals(alloc: Global, rate: Rate) -> Result<Vec<Told>, Fail>
 
 #[test]
 fn a_told_plant_gives_its_arrivals_in_order(rt: HostRuntime) -> Result<(), Fail> {
-    // The rate of the arrivals, the rate that is prepared for, and the bytes that come, 0 for darkness.
+    // The rate of the arrivals, the rate that is prepared for, and what comes.
     let rows = [
-        (Rate::Four, Rate::Four, [1, 0, 2, 0, 0]),
-        (Rate::Four, Rate::Sixteen, [0, 0, 0, 0, 0]),
-        (Rate::Sixteen, Rate::Sixteen, [1, 0, 2, 0, 0]),
-        (Rate::Sixteen, Rate::Four, [0, 0, 0, 0, 0]),
+        (Rate::Four, Rate::Four, [1, DARK, 2, DARK, DARK]),
+        (Rate::Four, Rate::Sixteen, [DARK; 5]),
+        (Rate::Sixteen, Rate::Sixteen, [1, DARK, 2, DARK, DARK]),
+        (Rate::Sixteen, Rate::Four, [DARK; 5]),
     ];
     for (told, rate, wants) in rows {
         let mut plant = ToldPlant::new(told, three_arrivals(rt.alloc(), told)?);
         plant
             .prepare(rt.alloc(), rate, 2)
             .map_err(|_| "not prepared")?;
-        let mut frame = frame_of(rt.alloc(), rate, 0x11)?;
-        assert_eq!(rt; plant.send(Pos(1), Side::East, &frame), Ok(()));
-        for want in wants {
-            let arrived = if want == 0 {
-                Arrived::Dark
-            } else {
-                Arrived::Frame
-            };
-            let value = if want == 0 { 0x11 } else { want };
-            frame.fill(0x11);
-            assert_eq!(rt;
-                plant.receive(Pos(0), Side::West, &mut frame),
-                Ok(arrived),
-                "{want}"
-            );
-            assert!(rt; is_full_of(&frame, value), "{want}");
-        }
+        let mut frame = frame_of(rt.alloc(), rate, 0)?;
+        assert!(rt; sends(&mut plant, Pos(1), Side::East, &mut frame, 0x35));
+        let all = [
+            came(&mut plant, Pos(0), Side::West, &mut frame),
+            came(&mut plant, Pos(0), Side::East, &mut frame),
+            came(&mut plant, Pos(1), Side::West, &mut frame),
+            came(&mut plant, Pos(1), Side::East, &mut frame),
+            came(&mut plant, Pos(0), Side::West, &mut frame),
+        ];
+        assert_eq!(rt; all, wants.map(Some));
     }
     Ok(())
 }
 
-// Prepares a plant, sends a frame of bytes 35 over a span, and answers the byte of the frame that comes.
+// Prepares a plant, sends a frame over a span, and answers what comes.
 fn over_a_span<P: Plant>(alloc: Global, plant: &mut P, rate: Rate) -> Result<Option<u8>, Fail>
     requires { HasNoFibres (P.fibres plant.old) }
 {
     plant.prepare(alloc, rate, 2).map_err(|_| "not prepared")?;
-    let sent = frame_of(alloc, rate, 0x35)?;
-    let mut frame = frame_of(alloc, rate, 0x11)?;
-    plant
-        .send(Pos(0), Side::East, &sent)
-        .map_err(|_| "not sent")?;
-    match plant
-        .receive(Pos(1), Side::West, &mut frame)
-        .map_err(|_| "not received")?
-    {
-        Arrived::Frame => Ok(frame.bytes().first().copied()),
-        Arrived::Dark => Ok(None),
+    let mut frame = frame_of(alloc, rate, 0)?;
+    if !sends(plant, Pos(0), Side::East, &mut frame, 0x35) {
+        return Ok(None);
     }
+    Ok(came(plant, Pos(1), Side::West, &mut frame))
 }
 
 #[test]
-fn a_ring_over_any_plant(rt: HostRuntime) -> Result<(), Fail> {
+fn a_span_of_any_plant(rt: HostRuntime) -> Result<(), Fail> {
     for rate in [Rate::Four, Rate::Sixteen] {
         let came = over_a_span(rt.alloc(), &mut FibrePlant::new(), rate)?;
         assert_eq!(rt; came, Some(0x35));
         let came = over_a_span(rt.alloc(), &mut RecordingPlant::new(1), rate)?;
         assert_eq!(rt; came, Some(0x35));
         let mut told = ToldPlant::new(rate, three_arrivals(rt.alloc(), rate)?);
-        assert_eq!(rt; over_a_span(rt.alloc(), &mut told, rate)?, Some(1));
+        let came = over_a_span(rt.alloc(), &mut told, rate)?;
+        assert_eq!(rt; came, Some(1));
     }
     Ok(())
 }

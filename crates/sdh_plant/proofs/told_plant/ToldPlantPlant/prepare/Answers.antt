@@ -1,7 +1,6 @@
-use Rattle.std.proofs.Common.{◌≡◌, true, false, List, [], length, map, drop, ap, sym, ◌∙◌, arith, rules}
+use Rattle.std.proofs.Common.{◌≡◌, true, false, [], map, drop, ap, sym, ◌∙◌, arith, rules}
 use Rattle.std.specs.List.{list_all}
 use Rattle.std.proofs.lemmas.List.{drop_all}
-use Rattle.sdh_plant.specs.Fibres.{Arrival}
 use Rattle.sdh_plant.specs.Calls.{is_at, told_at}
 use Rattle.sdh_plant.specs.InMemory.{HeldTold}
 use Rattle.sdh_plant.specs.Kept.{arrival_of}
