@@ -157,6 +157,16 @@ impl FrameBuf {
         self.bytes.as_mut_slice()
     }
 
+    /// All bytes become those of another frame of the same rate.
+    pub fn copy_from(&mut self, other: &FrameBuf)
+        requires { other.now.rate ≡ self.old.rate }
+        ensures { self.new ≡ other.now }
+    {
+        self.bytes
+            .as_mut_slice()
+            .copy_from_slice(other.bytes.as_slice());
+    }
+
     /// Writes one byte everywhere.
     pub fn fill(&mut self, value: u8)
         ensures { self.new ≡ record self.old { bytes = replicate (size_of self.old.rate) value } }

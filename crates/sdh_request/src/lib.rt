@@ -113,6 +113,13 @@ impl Local {
         self.defect = defect;
     }
 
+    /// What the last look saw.
+    pub fn defect(&self) -> Defect
+        ensures { result ≡ self.now.defect }
+    {
+        self.defect
+    }
+
     fn waits(&self) -> bool
         ensures { result ≡ waits self.now.wait self.now.defect self.now.moment self.now.ended }
     {
