@@ -1,5 +1,5 @@
 mod Shares
-mod Few
+pub mod Few
 mod Kept
 mod Refusing
 mod Adding

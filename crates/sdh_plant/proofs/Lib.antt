@@ -1,4 +1,3 @@
 pub mod Degrading
 pub mod Calling
 pub mod Telling
-pub mod Writing

@@ -9,7 +9,7 @@ ghost use Rattle.sdh_plant.specs.Calls.{prepared, after_apply, after_send, after
 ghost use Rattle.sdh_plant.specs.InMemory.{fibres_of, laid};
 ghost use Rattle.sdh_plant.specs.Kept.{IsFibre, carried_by, conditions, carried};
 
-use crate::frames::{copy_bytes, degrade};
+use crate::frames::degrade;
 use crate::plant::{Arrived, Condition, Failed, FibreEvent, Plant, PrepareError};
 use sdh_frame::{FrameBuf, Rate};
 use sdh_ringmap::{Pos, Side};
@@ -105,7 +105,7 @@ fn store(fibres: &mut [Fibre], at: usize, frame: &FrameBuf)
     ensures fit { All (IsFibre frame.now.rate) fibres.new }
 {
     let fibre = &mut fibres[at];
-    copy_bytes(frame.bytes(), &mut fibre.frame);
+    fibre.frame.copy_from(frame);
     fibre.carries = true;
 }
 
@@ -119,10 +119,10 @@ fn deliver(fibre: &Fibre, frame: &mut FrameBuf) -> Arrived
         return Arrived::Dark;
     }
     match fibre.condition {
-        Condition::Clear => copy_bytes(fibre.frame.bytes(), frame),
+        Condition::Clear => frame.copy_from(&fibre.frame),
         Condition::Cut => return Arrived::Dark,
         Condition::Degraded(columns) => {
-            copy_bytes(fibre.frame.bytes(), frame);
+            frame.copy_from(&fibre.frame);
             degrade(frame, columns);
         }
     }

@@ -1,17 +1,9 @@
-//! Whole frames: copied, and as a degraded fibre leaves them.
+//! Frames as a degraded fibre leaves them.
 ghost use Rattle.std.specs.Prelude.{◌≡◌, ◌*◌, ◌≤◌, length};
 ghost use Rattle.sdh_frame.specs.Sizes.{n_of, size_of};
 ghost use Rattle.sdh_plant.specs.Arrivals.{degraded};
 
 use sdh_frame::{FrameBuf, Rate};
-
-/// Copies all bytes of a frame.
-pub fn copy_bytes(bytes: &[u8], frame: &mut FrameBuf)
-    requires { length bytes.now ≡ size_of frame.old.rate }
-    ensures { frame.new ≡ record frame.old { bytes = bytes.now } }
-{
-    frame.bytes_mut().copy_from_slice(bytes);
-}
 
 // Inverts the top bit of the first bytes of row 6.
 fn invert_row_6(rate: Rate, columns: usize, bytes: &mut [u8])

@@ -7,7 +7,6 @@ ghost use Rattle.sdh_plant.specs.Calls.{prepared, after_apply, after_send, after
 ghost use Rattle.sdh_plant.specs.InMemory.{laid, recorded_of};
 
 use crate::fibre_plant::FibrePlant;
-use crate::frames::copy_bytes;
 use crate::plant::{Arrived, Failed, FibreEvent, Plant, PrepareError};
 use sdh_frame::{FrameBuf, Rate};
 use sdh_ringmap::{Pos, Side};
@@ -55,7 +54,7 @@ fn keep(frames: &mut [FrameBuf], at: usize, frame: &FrameBuf)
     ensures { frames.new ≡ slice_set frames.old at frame.now }
 {
     let kept = &mut frames[at];
-    copy_bytes(frame.bytes(), kept);
+    kept.copy_from(frame);
 }
 
 impl RecordingPlant {

@@ -11,7 +11,6 @@ ghost use Rattle.sdh_plant.specs.InMemory.{laid, told_of};
 ghost use Rattle.sdh_plant.specs.Kept.{arrival_of, IsToldAt};
 
 use crate::fibre_plant::FibrePlant;
-use crate::frames::copy_bytes;
 use crate::plant::{Arrived, Failed, FibreEvent, Plant, PrepareError};
 use sdh_frame::{FrameBuf, Rate};
 use sdh_ringmap::{Pos, Side};
@@ -74,7 +73,7 @@ fn tell(told: &Told, frame: &mut FrameBuf) -> Arrived
     match told {
         Told::Dark => Arrived::Dark,
         Told::Frame(sent) => {
-            copy_bytes(sent.bytes(), frame);
+            frame.bytes_mut().copy_from_slice(sent.bytes());
             Arrived::Frame
         }
     }

@@ -6,7 +6,7 @@ use Rattle.std.proofs.Math.Nat.{mod-lt}
 use Rattle.std.proofs.Math.Bool.{and_comm}
 use Rattle.sdh_circuits.specs.Provisioned.{Provisioned, arc_of, is_on}
 use Rattle.sdh_circuits.specs.declared.End.TheVariants.{A, B}
-use Rattle.sdh_circuits.specs.declared.Slot.{Slot}
+use Rattle.sdh_circuits.proofs.Few.{same_slot}
 use Rattle.sdh_ringmap.proofs.Around.{eastwards-place, holds as span_holds}
 use Rattle.sdh_ringmap.specs.Places.{eastwards}
 use Rattle.sdh_ringmap.specs.declared.Side.TheVariants.{East, West}
@@ -54,9 +54,6 @@ found-gives n s m i [] e h = absurd (none_isnt h) where
   none_isnt : ◌≡◌ {A = Option Row} None (Some e) → ⊥
   none_isnt h = cc
 found-gives n s m i (x ∷ cs) e h = found_by n s m i x cs e (is_on n s m x) refl h (found-gives n s m (i + 1) cs e)
-
-same_slot : (a b : Slot) → a.0 ≡ b.0 → a ≡ b
-same_slot a b e = ap (λ k. let s : Slot = record { 0 = k } in s) e
 
 module _ (n : ℕ) (cs : List Provisioned) (ring : AreOnRing n cs) (index : ℕ) (c : Provisioned) (is : slice_get cs index ≡ Some c) where
   inside : c.from.0 < n

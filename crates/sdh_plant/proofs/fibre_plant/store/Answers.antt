@@ -12,4 +12,4 @@ returns-clause-conditions c = map-set_same (λ x. x.condition) _ _ _ c.index-fib
 pub returns-clause-carried : goal.returns-clause-carried
 returns-clause-carried c =
     map-set carried_by _ _ _
-    ∙ ap (λ (b : List ℕ). slice_set (carried c.args.fibres.now) c.args.at (Some b)) (ap (λ (f : Frame). f.bytes) c.copy_bytes.ensures ∙ c.bytes.ensures.bytes)
+    ∙ ap (λ (b : List ℕ). slice_set (carried c.args.fibres.now) c.args.at (Some b)) (ap (λ (f : Frame). f.bytes) c.copy_from.ensures)
