@@ -26,7 +26,7 @@ use Rattle.sdh_routes.proofs.Passing.{away-leaves, blocked-leaves, bridged-leave
 use Rattle.sdh_routes.proofs.Seen.{Seen}
 use Rattle.sdh_routes.proofs.Segments.{along, bridge, chain_passes, home, leads-on, over_free, own, past, sending, taking, through}
 use Rattle.sdh_routes.proofs.Sights.{found-gives}
-use Rattle.sdh_routes.proofs.States.{Resting, on, state-ahead, state-at}
+use Rattle.sdh_routes.proofs.States.{Resting, on, state-ahead, state-at, state-by}
 use Rattle.sdh_routes.proofs.Switched.{isnt_side}
 use Rattle.sdh_routes.proofs.Views.{AreOnRing, Idle, Isolated, PassThrough, Switch, arc_length, carried, far_at, holds, passes, side_state}
 use Rattle.sdh_routes.specs.Law.{Ends, is_pass}
@@ -138,11 +138,7 @@ module _ (n : ℕ) (r : Resting n) (cs : List Provisioned) (ring : AreOnRing n c
     -- the same for any node whose span on d is applied, and whose other is free
     module _ (d : Side) (p q m : ℕ) (inside : q < n) (ahead : r.applied (span_at n q d) ≡ true) (behind : r.applied (span_at n q (opposite d)) ≡ false) where
       switching : r.state q ≡ Switch d (r.far (opposite d) q)
-      switching = r.by_sides d q ∙ tests (r.applied (span_at n q d)) (r.applied (span_at n q (opposite d))) (r.far d q) (r.far (opposite d) q) (r.rest q) ahead behind where
-        tests : (a b : Bool) (f g : Option Pos) (rest : NodeState) → a ≡ true → b ≡ false → side_state d a b f g rest ≡ Switch d g
-        tests true true f g rest e h = cc
-        tests true false f g rest e h = refl
-        tests false b f g rest e h = cc
+      switching = state-by n r d q true false ahead behind
 
       by_circuit : (o : Option Row) → circuit_from n (span_at n q d) m 0 cs ≡ o → Ends n r.state cs m n (bridge n r cs some d p m q)
       by_circuit None e =
@@ -172,22 +168,16 @@ module _ (n : ℕ) (r : Resting n) (cs : List Provisioned) (ring : AreOnRing n c
       at_state : (st : NodeState) → r.state q ≡ st → protection_in n cs q st (opposite d) m ≡ Ais → Ends n r.state cs m n (bridge n r cs some d p m q)
       at_state st e h = ends_at m n (bridge n r cs some d p m q) (stand q Ais) (ap (stand q) (ap (λ s. protection_in n cs q s (opposite d) m) e ∙ h)) tt
 
-      state_is : (a b : Bool) → r.applied (span_at n q d) ≡ a → r.applied (span_at n q (opposite d)) ≡ b
-          → r.state q ≡ side_state d a b (r.far d q) (r.far (opposite d) q) (r.rest q)
-      state_is a b e h =
-          r.by_sides d q ∙ ap (λ x. side_state d x (r.applied (span_at n q (opposite d))) (r.far d q) (r.far (opposite d) q) (r.rest q)) e
-          ∙ ap (λ x. side_state d a x (r.far d q) (r.far (opposite d) q) (r.rest q)) h
-
       isnt_pass : r.state q ≡ PassThrough → ⊥
       isnt_pass e = let t = ap is_pass e in cc
 
       by_tests : (a b : Bool) → r.applied (span_at n q d) ≡ a → r.applied (span_at n q (opposite d)) ≡ b → Ends n r.state cs m n (bridge n r cs some d p m q)
-      by_tests true true e h = at_state Isolated (state_is true true e h) (isolated-leaves n cs q (opposite d) m)
+      by_tests true true e h = at_state Isolated (state-by n r d q true true e h) (isolated-leaves n cs q (opposite d) m)
       by_tests true false e h = switch_end d p q m inside e h
-      by_tests false true e h = let f = (r.far d q) in at_state (Switch (opposite d) f) (state_is false true e h) (away-leaves n cs q (opposite d) m f)
+      by_tests false true e h = let f = (r.far d q) in at_state (Switch (opposite d) f) (state-by n r d q false true e h) (away-leaves n cs q (opposite d) m f)
       by_tests false false e h = elim (r.either q) [
-        | inl passes ↦ absurd (isnt_pass (state_is false false e h ∙ passes))
-        | inr idle ↦ at_state Idle (state_is false false e h ∙ idle) (idle-leaves n cs q (opposite d) m)
+        | inl passes ↦ absurd (isnt_pass (state-by n r d q false false e h ∙ passes))
+        | inr idle ↦ at_state Idle (state-by n r d q false false e h ∙ idle) (idle-leaves n cs q (opposite d) m)
       ]
 
       pub stop_end : Ends n r.state cs m n (bridge n r cs some d p m q)

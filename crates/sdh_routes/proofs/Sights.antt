@@ -1,8 +1,9 @@
 -- Each circuit of a ring, seen from its ends.
-use Rattle.std.proofs.Common.{◌≡◌, ℕ, ◌+◌, ◌-◌, ◌<◌, suc, zero, Bool, true, false, Option, Some, None, List, [], ◌∷◌, refl, ap, sym, ◌∙◌, arith, inl, inr}
+use Rattle.std.proofs.Common.{◌≡◌, ℕ, ◌+◌, ◌-◌, ◌<◌, suc, zero, Bool, true, false, Option, Some, None, List, [], ◌∷◌, refl, ap, sym, ◌∙◌, arith, inl, inr, get_or}
 use Rattle.std.specs.Prelude.{◌&&◌, ◌==◌, if◌then◌else◌, slice_get}
 use Rattle.std.proofs.lemmas.Bool.{and_parts, and_from, eq-eqb, eqb-true, ne_eqb, false_from_ne_true, cases_eq, cond-true, cond-false}
 use Rattle.std.proofs.Math.Nat.{mod-lt}
+use Rattle.std.proofs.lemmas.Option.{slice_get_within, slice_get-get_or}
 use Rattle.std.proofs.Math.Bool.{and_comm}
 use Rattle.sdh_circuits.specs.Provisioned.{Provisioned, arc_of, is_on}
 use Rattle.sdh_circuits.specs.declared.End.TheVariants.{A, B}
@@ -15,22 +16,9 @@ use Rattle.sdh_routes.proofs.Seen.{Seen}
 use Rattle.sdh_routes.proofs.Views.{AreOnRing, arc_length, end_at, holds}
 use Rattle.sdh_ringmap.specs.Steps.{going, way}
 use Rattle.sdh_routes.specs.Walks.{port_at}
-use Rattle.sdh_squelch.proofs.LookUps.{entry}
+use Rattle.sdh_squelch.proofs.LookUps.{entry, first-at}
 use Rattle.sdh_squelch.specs.Table.{circuit_from}
 use Rattle.sdh_squelch.specs.declared.Row.{Row}
-
--- the one circuit on a span and slot is found
-found-at : (n s m i k : ℕ) (cs : List Provisioned) (c : Provisioned) → slice_get cs k ≡ Some c → is_on n s m c ≡ true
-    → ((j : ℕ) (x : Provisioned) → slice_get cs j ≡ Some x → is_on n s m x ≡ true → k ≡ j) → circuit_from n s m i cs ≡ Some (entry (i + k) c)
-found-at n s m i k [] c e h one = cc
-found-at n s m i zero (x ∷ cs) c e h one =
-    let same : x ≡ c = cc in
-    cond-true (is_on n s m x) _ _ (ap (is_on n s m) same ∙ h) ∙ ap (λ (y : Provisioned). Some (entry i y)) same ∙ ap (λ k. Some (entry k c)) (omega arith)
-found-at n s m i (suc k) (x ∷ cs) c e h one =
-    let other : is_on n s m x ≡ false = false_from_ne_true _ (λ t. let bad : suc k ≡ 0 = one 0 x refl t in absurd (omega arith)) in
-    cond-false (is_on n s m x) _ _ other
-    ∙ found-at n s m (i + 1) k cs c e h (λ j y g t. let more : suc k ≡ suc j = one (suc j) y g t in omega arith)
-    ∙ ap (λ k. Some (entry k c)) (omega arith)
 
 -- what is found is a circuit of the list
 pub record IsFound (n s m i : ℕ) (cs : List Provisioned) (e : Row) : Type 0 where
@@ -92,9 +80,13 @@ module _ (n : ℕ) (cs : List Provisioned) (ring : AreOnRing n cs) (index : ℕ)
   on_span : (i : ℕ) → i < (arc_length n c) → circuit_from n (east i) c.slot.0 0 cs ≡ Some (entry index c)
   unfolding east
   on_span i h =
-      found-at n (east i) c.slot.0 0 index cs c is (and_from _ _ (eq-eqb c.slot.0 c.slot.0 refl) (holds-at i h))
-      (λ j x g t. let both = and_parts (x.slot.0 == c.slot.0) (holds n x (east i)) t in
-      ring.apart index j (east i) c x is g (holds-at i h) both.1 (same_slot c.slot x.slot (sym (eqb-true x.slot.0 c.slot.0 both.0))))
+      let within = slice_get_within cs index c is in
+      first-at n (east i) c.slot.0 0 index cs c c is (and_from _ _ (eq-eqb c.slot.0 c.slot.0 refl) (holds-at i h))
+      (λ k before. false_from_ne_true (is_on n (east i) c.slot.0 (get_or cs k c)) (λ t.
+      let x = get_or cs k c in
+      let both = and_parts (x.slot.0 == c.slot.0) (holds n x (east i)) t in
+      let same = ring.apart index k (east i) c x is (slice_get-get_or cs k c (omega arith)) (holds-at i h) both.1 (same_slot c.slot x.slot (sym (eqb-true x.slot.0 c.slot.0 both.0))) in
+      omega arith))
       ∙ ap (λ k. Some (entry k c)) (omega arith)
 
   end-first : end_at c (east 0) ≡ Some A

@@ -34,6 +34,10 @@ pub record IsAnyApplied (n : ℕ) (r : Resting n) : Type 0 where
   pub applied : r.applied span ≡ true
 
 module _ (n : ℕ) (r : Resting n) where
+  -- the state of q by its spans, where it is known whether they are applied
+  pub state-by : (d : Side) (q : ℕ) (a b : Bool) → r.applied (span_at n q d) ≡ a → r.applied (span_at n q (opposite d)) ≡ b → r.state q ≡ side_state d a b (r.far d q) (r.far (opposite d) q) (r.rest q)
+  state-by d q a b e h = r.by_sides d q ∙ ap₂ (λ a b. side_state d a b (r.far d q) (r.far (opposite d) q) (r.rest q)) e h
+
   module _ (some : 0 < n) (d : Side) (p : ℕ) where
     -- the span of step i is applied
     abbrev pub on : ℕ → Bool
@@ -63,9 +67,7 @@ module _ (n : ℕ) (r : Resting n) where
     -- the state after i + 1 steps, by the spans ahead and behind
     pub state-at : (i : ℕ) (x y : Bool) → on (suc i) ≡ x → on i ≡ y → r.state (going n d p (suc i)) ≡ side_state d x y
         (r.far d (going n d p (suc i))) (r.far (opposite d) (going n d p (suc i))) (r.rest (going n d p (suc i)))
-    state-at i x y e h =
-        let q = going n d p (suc i) in
-        r.by_sides d q ∙ ap₂ (λ a b. side_state d a b (r.far d q) (r.far (opposite d) q) (r.rest q)) e (ap r.applied (way-behind n some d p i) ∙ h)
+    state-at i x y e h = state-by d (going n d p (suc i)) x y e (ap r.applied (way-behind n some d p i) ∙ h)
 
     pub state-isolated : (i : ℕ) → on (suc i) ≡ true → on i ≡ true → r.state (going n d p (suc i)) ≡ Isolated
     state-isolated i e h = state-at i true true e h

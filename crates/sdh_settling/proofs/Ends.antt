@@ -1,6 +1,6 @@
 -- What a node hears, sends and does in round 4n + 7 or later, by which of its spans are at the level. On a side whose
 -- span is not, it hears the long word of the first end that is met on the way round.
-use Rattle.std.proofs.Common.{◌≡◌, ◌≢◌, ℕ, ◌+◌, ◌*◌, ◌<◌, ◌≤◌, suc, Bool, true, false, Option, Some, None, List, length, refl, ap, sym, subst, ◌∙◌, arith, inl, inr, ◌⊎◌}
+use Rattle.std.proofs.Common.{◌≡◌, ◌≢◌, ℕ, ◌+◌, ◌*◌, ◌<◌, ◌≤◌, suc, Bool, true, false, Option, Some, None, List, length, refl, ap, sym, subst, ◌∙◌, arith, inl, inr, ◌⊎◌, ap₂}
 use Rattle.std.specs.Prelude.{◌==◌, slice_index, cond, nat_lt, option_map}
 use Rattle.std.proofs.lemmas.Bool.{cases_lt, ne_eqb, eq-eqb, lt-ltb}
 use Rattle.std.proofs.lemmas.List.Sums.{position_or_len_is}
@@ -26,24 +26,21 @@ use Rattle.sdh_settling.proofs.Reach.{IsFirst, reach}
 
 -- a state by the switched sides
 
-pub state_isolated : (s : Scene) → switches s West ≡ true → switches s East ≡ true → state_after s ≡ state.Isolated tt
+by_switches : (s : Scene) (a b : Bool) → switches s West ≡ a → switches s East ≡ b → state_after s ≡ state_by a b (is_relay (chosen s West)) (is_relay (chosen s East)) (far s West) (far s East)
 unfolding state_after
-state_isolated s w e = ap (λ b. state_by b (switches s East) (is_relay (chosen s West)) (is_relay (chosen s East)) (far s West) (far s East)) w ∙ ap (λ b. state_by true b (is_relay (chosen s West)) (is_relay (chosen s East)) (far s West) (far s East)) e
+by_switches s a b w e = ap₂ (λ a b. state_by a b (is_relay (chosen s West)) (is_relay (chosen s East)) (far s West) (far s East)) w e
+
+pub state_isolated : (s : Scene) → switches s West ≡ true → switches s East ≡ true → state_after s ≡ state.Isolated tt
+state_isolated s w e = by_switches s true true w e
 
 pub state_west : (s : Scene) (o : Option Pos) → switches s West ≡ true → switches s East ≡ false → far s West ≡ o → state_after s ≡ state.SwitchWest o
-unfolding state_after
-state_west s o w e f = ap (λ b. state_by b (switches s East) (is_relay (chosen s West)) (is_relay (chosen s East)) (far s West) (far s East)) w ∙ ap (λ b. state_by true b (is_relay (chosen s West)) (is_relay (chosen s East)) (far s West) (far s East)) e ∙ ap (λ o. state.SwitchWest o) f
+state_west s o w e f = by_switches s true false w e ∙ ap (λ o. state.SwitchWest o) f
 
 pub state_east : (s : Scene) (o : Option Pos) → switches s West ≡ false → switches s East ≡ true → far s East ≡ o → state_after s ≡ state.SwitchEast o
-unfolding state_after
-state_east s o w e f = ap (λ b. state_by b (switches s East) (is_relay (chosen s West)) (is_relay (chosen s East)) (far s West) (far s East)) w ∙ ap (λ b. state_by false b (is_relay (chosen s West)) (is_relay (chosen s East)) (far s West) (far s East)) e ∙ ap (λ o. state.SwitchEast o) f
-
-neither : (s : Scene) → switches s West ≡ false → switches s East ≡ false → state_after s ≡ state_by false false (is_relay (chosen s West)) (is_relay (chosen s East)) (far s West) (far s East)
-unfolding state_after
-neither s w e = ap (λ b. state_by b (switches s East) (is_relay (chosen s West)) (is_relay (chosen s East)) (far s West) (far s East)) w ∙ ap (λ b. state_by false b (is_relay (chosen s West)) (is_relay (chosen s East)) (far s West) (far s East)) e
+state_east s o w e f = by_switches s false true w e ∙ ap (λ o. state.SwitchEast o) f
 
 pub state_pass : (s : Scene) → switches s West ≡ false → switches s East ≡ false → chosen s West ≡ relay → chosen s East ≡ relay → state_after s ≡ state.PassThrough tt
-state_pass s w e p q = neither s w e ∙ ap (λ c. state_by false false (is_relay c) (is_relay (chosen s East)) (far s West) (far s East)) p ∙ ap (λ c. state_by false false true (is_relay c) (far s West) (far s East)) q
+state_pass s w e p q = by_switches s false false w e ∙ ap₂ (λ c d. state_by false false (is_relay c) (is_relay d) (far s West) (far s East)) p q
 
 idle_by : (a b : Bool) (v w : Option Pos) → (a ≡ false) ⊎ (b ≡ false) → state_by false false a b v w ≡ state.Idle tt
 idle_by true true v w (inl e) = cc
@@ -53,7 +50,7 @@ idle_by false true v w e = refl
 idle_by false false v w e = refl
 
 pub state_idle : (s : Scene) → switches s West ≡ false → switches s East ≡ false → (is_relay (chosen s West) ≡ false) ⊎ (is_relay (chosen s East) ≡ false) → state_after s ≡ state.Idle tt
-state_idle s w e f = neither s w e ∙ idle_by (is_relay (chosen s West)) (is_relay (chosen s East)) (far s West) (far s East) f
+state_idle s w e f = by_switches s false false w e ∙ idle_by (is_relay (chosen s West)) (is_relay (chosen s East)) (far s West) (far s East) f
 
 -- the position of an identifier of the ring
 pub found : (ids : List ℕ) (x : ℕ) → AreIds ids → x < length ids → found_at ids (slice_index ids x) ≡ Some (record { 0 = x })

@@ -1,5 +1,5 @@
 -- The settled state of a position, case by case, in a ring whose number of spans is named: what the law's end compares with.
-use Rattle.std.proofs.Common.{◌≡◌, ℕ, ◌-◌, Bool, true, false, Option, List, length, ap, ◌∙◌}
+use Rattle.std.proofs.Common.{◌≡◌, ℕ, ◌-◌, Bool, true, false, Option, List, length, ap, ◌∙◌, ap₂}
 use Rattle.std.specs.Prelude.{◌&&◌, ◌||◌, nat_lt, slice_index, option_map, find}
 use Rattle.sdh_ringmap.specs.Places.{opposite, span_at}
 use Rattle.sdh_ringmap.specs.declared.Side.{Side}
@@ -32,17 +32,20 @@ module _ (rs : List ℕ) (n p : ℕ) where
   abbrev t : Bool
   t = is_any_applied rs || outranked_n rs n p
 
+  by_spans : (x y : Bool) → a West ≡ x → a East ≡ y → settled_n rs n p ≡ settled_by x y t (far_n rs n p West) (far_n rs n p East)
+  by_spans x y w e = ap₂ (λ x y. settled_by x y t (far_n rs n p West) (far_n rs n p East)) w e
+
   pub is_isolated : a West ≡ true → a East ≡ true → settled_n rs n p ≡ state.Isolated tt
-  is_isolated w e = ap (λ b. settled_by b (a East) t (far_n rs n p West) (far_n rs n p East)) w ∙ ap (λ b. settled_by true b t (far_n rs n p West) (far_n rs n p East)) e
+  is_isolated w e = by_spans true true w e
 
   pub is_west : (o : Option Pos) → a West ≡ true → a East ≡ false → far_n rs n p West ≡ o → settled_n rs n p ≡ state.SwitchWest o
-  is_west o w e f = ap (λ b. settled_by b (a East) t (far_n rs n p West) (far_n rs n p East)) w ∙ ap (λ b. settled_by true b t (far_n rs n p West) (far_n rs n p East)) e ∙ ap (λ o. state.SwitchWest o) f
+  is_west o w e f = by_spans true false w e ∙ ap (λ o. state.SwitchWest o) f
 
   pub is_east : (o : Option Pos) → a West ≡ false → a East ≡ true → far_n rs n p East ≡ o → settled_n rs n p ≡ state.SwitchEast o
-  is_east o w e f = ap (λ b. settled_by b (a East) t (far_n rs n p West) (far_n rs n p East)) w ∙ ap (λ b. settled_by false b t (far_n rs n p West) (far_n rs n p East)) e ∙ ap (λ o. state.SwitchEast o) f
+  is_east o w e f = by_spans false true w e ∙ ap (λ o. state.SwitchEast o) f
 
   pub is_pass : a West ≡ false → a East ≡ false → t ≡ true → settled_n rs n p ≡ state.PassThrough tt
-  is_pass w e f = ap (λ b. settled_by b (a East) t (far_n rs n p West) (far_n rs n p East)) w ∙ ap (λ b. settled_by false b t (far_n rs n p West) (far_n rs n p East)) e ∙ ap (λ b. settled_by false false b (far_n rs n p West) (far_n rs n p East)) f
+  is_pass w e f = by_spans false false w e ∙ ap (λ b. settled_by false false b (far_n rs n p West) (far_n rs n p East)) f
 
   pub is_idle : a West ≡ false → a East ≡ false → t ≡ false → settled_n rs n p ≡ state.Idle tt
-  is_idle w e f = ap (λ b. settled_by b (a East) t (far_n rs n p West) (far_n rs n p East)) w ∙ ap (λ b. settled_by false b t (far_n rs n p West) (far_n rs n p East)) e ∙ ap (λ b. settled_by false false b (far_n rs n p West) (far_n rs n p East)) f
+  is_idle w e f = by_spans false false w e ∙ ap (λ b. settled_by false false b (far_n rs n p West) (far_n rs n p East)) f
