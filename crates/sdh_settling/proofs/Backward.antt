@@ -9,11 +9,12 @@ use Rattle.sdh_ringmap.specs.Places.{opposite}
 use Rattle.sdh_ringmap.specs.declared.Side.{Side}
 use Rattle.sdh_ringmap.specs.declared.Side.TheVariants.{West, East}
 use Rattle.sdh_kbytes.specs.declared.Path.TheVariants.{Long}
-use Rattle.sdh_nodestate.specs.Rules.{Scene, word, relayed, weight_of, stronger}
+use Rattle.sdh_nodestate.specs.Rules.{Scene, word, word_on, relayed, weight_of, stronger}
 use Rattle.sdh_nodestate.specs.Words.{IsMember}
 use Rattle.sdh_settling.specs.Runs.{Run, at_round, IsRun}
 use Rattle.sdh_ringmap.specs.Steps.{going}
 use Rattle.sdh_ringmap.proofs.Going.{going-inside, going-none, going-first, going-apart, reached, IsReached}
+use Rattle.sdh_ringmap.proofs.Sides.{opposite_twice}
 use Rattle.sdh_settling.proofs.Sources.{word_source, relayed_heard, IsOwnOrRelayed}
 use Rattle.sdh_settling.proofs.OneNode.{long_from, relayed_from, Kind, a_short, a_long, a_relay, kind}
 use Rattle.sdh_settling.proofs.Runs.{some_nodes, next, next_below, id_apart, request, weight_le}
@@ -47,17 +48,12 @@ module _ (run : Run) (R : IsRun run) where
   abbrev IsStep : ℕ → ℕ → Side → Type 0
   IsStep t p e = ((away (suc t) p e).from ≡ id p) ⊎ (away (suc t) p e ≡ away t (nx p e) e)
 
-  step_west : (t p : ℕ) → p < n → IsOwnOrRelayed (at (suc t) p) East (word (at (suc t) p) East) → IsStep t p West
-  step_west t p h (inl own) = inl own
-  step_west t p h (inr f) = inr (R.past t p West (word (at (suc t) p) East) h f.heard)
-
-  step_east : (t p : ℕ) → p < n → IsOwnOrRelayed (at (suc t) p) West (word (at (suc t) p) West) → IsStep t p East
-  step_east t p h (inl own) = inl own
-  step_east t p h (inr f) = inr (R.past t p East (word (at (suc t) p) West) h f.heard)
+  step_by : (t p : ℕ) (e : Side) → p < n → IsOwnOrRelayed (at (suc t) p) (opposite e) (away (suc t) p e) → IsStep t p e
+  step_by t p e h (inl own) = inl own
+  step_by t p e h (inr f) = inr (R.past t p e (away (suc t) p e) h (ap (word_on (at (suc t) p)) (sym (opposite_twice e)) ∙ f.heard))
 
   step : (t p : ℕ) (e : Side) → p < n → IsStep t p e
-  step t p West h = step_west t p h (word_source (at (suc t) p) East)
-  step t p East h = step_east t p h (word_source (at (suc t) p) West)
+  step t p e h = step_by t p e h (word_source (at (suc t) p) (opposite e))
 
   own_long_code : (t q : ℕ) (d : Side) (w : K) → w.path ≡ Long → w.from ≡ id q → Kind (at t q) d w → w.code ≡ stronger (at t q) (opposite d)
   own_long_code t q d w p f (a_short s c) = cc

@@ -12,7 +12,7 @@ use Rattle.sdh_ringmap.specs.declared.Side.TheVariants.{West, East}
 use Rattle.sdh_nodestate.specs.Rules.{Scene, scene, word_on, relayed, weight, weight_of, chosen, word, word_by, rest, rest_word}
 use Rattle.sdh_nodestate.specs.Words.{IsMember}
 use Rattle.sdh_settling.specs.Signals.{fails_on}
-use Rattle.sdh_settling.proofs.Sources.{relayed_heard}
+use Rattle.sdh_settling.proofs.Sources.{relayed_across}
 use Rattle.sdh_restoration.specs.Applied.{highest}
 use Rattle.sdh_settling.specs.Runs.{Run, IsRun, bare, run_requests}
 use Rattle.sdh_ringmap.specs.Steps.{going}
@@ -110,18 +110,14 @@ module _ (run : Run) (R : IsRun run) where
     abbrev away : ℕ → ℕ → Side → K
     away t p e = word (node t p) (opposite e)
 
-    heard_on : (t p : ℕ) (e : Side) (k : K) → relayed (node t p) (opposite e) ≡ Some k → (word_on (node t p) e ≡ Some k) × (k.from ≢ slice_index run.ids p)
-    heard_on t p West k f = let h = relayed_heard (node t p) East k f in (h.heard, h.foreign)
-    heard_on t p East k f = let h = relayed_heard (node t p) West k f in (h.heard, h.foreign)
-
     -- a word k steps from its source no longer changes k rounds later
     words_by : (k t p : ℕ) (e : Side) → p < n → (away t p e).from ≡ slice_index run.ids (going n e p k) → m + k ≤ t → IsSameOrRelayed (node (suc t) p) (node t p) (opposite e) (away (suc t) p e) (away t p e) → 0 < m → away (suc t) p e ≡ away t p e
     words_by k t p e h f l (inl is) some = is
-    words_by zero t p e h f l (inr two) some = absurd ((heard_on t p e (away t p e) two.other).1 (f ∙ ap (slice_index run.ids) (going-none n (some_nodes run R) e p h)))
+    words_by zero t p e h f l (inr two) some = absurd ((relayed_across (node t p) e (away t p e) two.other).1 (f ∙ ap (slice_index run.ids) (going-none n (some_nodes run R) e p h)))
     words_by (suc k) zero p e h f l (inr two) some = absurd (omega arith)
     words_by (suc k) (suc t) p e h f l (inr two) some =
-        let now = R.past (suc t) p e (away (suc (suc t)) p e) h (heard_on (suc (suc t)) p e (away (suc (suc t)) p e) two.one).0 in
-        let old = R.past t p e (away (suc t) p e) h (heard_on (suc t) p e (away (suc t) p e) two.other).0 in
+        let now = R.past (suc t) p e (away (suc (suc t)) p e) h (relayed_across (node (suc (suc t)) p) e (away (suc (suc t)) p e) two.one).0 in
+        let old = R.past t p e (away (suc t) p e) h (relayed_across (node (suc t) p) e (away (suc t) p e) two.other).0 in
         let z = nx p e in
         now ∙ words_by k t z e (next_below run R p e) (ap (λ (w : K). w.from) (sym old) ∙ f ∙ ap (slice_index run.ids) (sym (going-first n (some_nodes run R) e p k))) (omega arith) (same_words (node (suc t) z) (node t z) (opposite e) (scenes (suc t) t z (omega arith) (omega arith) (next_below run R p e))) some ∙ sym old
 

@@ -72,21 +72,14 @@ module _ (run : Run) (R : IsRun run) (rs : List ℕ) (size : length rs ≡ lengt
     any_applied : is_any_applied rs ≡ true
     any_applied = list_any_at (applies rs) rs (span_at n x y) 0 (let s = span_below n x y inside in omega arith) (A.yes x y inside there)
 
-    far_west : (p k : ℕ) → p < n → Hears p East k → far_n rs n p West ≡ Some (record { 0 = going n East p (suc k) })
-    far_west p k h f =
+    far_on : (p k : ℕ) (d : Side) → Hears p (opposite d) k → far_n rs n p d ≡ Some (record { 0 = going n (opposite d) p (suc k) })
+    far_on p k d f =
         let few = f.few in
+        let e = opposite d in
         ap (λ o. option_map (λ i. record { 0 = i }) o)
-        (first_position n East p (n - 1) k (λ i. applied i East) (omega arith)
-        (λ j i. A.no (going n East p (suc j)) East (going-inside n (some_nodes run R) East p (suc j)) (f.first.near (suc j) (omega arith)))
-        (A.yes (going n East p (suc k)) East (going-inside n (some_nodes run R) East p (suc k)) f.first.there))
-
-    far_east : (p k : ℕ) → p < n → Hears p West k → far_n rs n p East ≡ Some (record { 0 = going n West p (suc k) })
-    far_east p k h f =
-        let few = f.few in
-        ap (λ o. option_map (λ i. record { 0 = i }) o)
-        (first_position n West p (n - 1) k (λ i. applied i West) (omega arith)
-        (λ j i. A.no (going n West p (suc j)) West (going-inside n (some_nodes run R) West p (suc j)) (f.first.near (suc j) (omega arith)))
-        (A.yes (going n West p (suc k)) West (going-inside n (some_nodes run R) West p (suc k)) f.first.there))
+        (first_position n e p (n - 1) k (λ i. applied i e) (omega arith)
+        (λ j i. A.no (going n e p (suc j)) e (going-inside n (some_nodes run R) e p (suc j)) (f.first.near (suc j) (omega arith)))
+        (A.yes (going n e p (suc k)) e (going-inside n (some_nodes run R) e p (suc k)) f.first.there))
 
     near : (p : ℕ) (e : Side) → p < n → asked p e < c → (k : ℕ) × Hears p e k
     near p e h l = let f = first_any run R c level p e x y h inside l there in (f.0, hears run R c level t late f.0 p e h f.1 f.2)
@@ -97,12 +90,12 @@ module _ (run : Run) (R : IsRun run) (rs : List ℕ) (size : length rs ≡ lengt
     west : (p : ℕ) → p < n → c ≤ asked p West → asked p East < c → IsLaw p
     west p h g l =
         let f = near p East h l in
-        switch_west run R c level t late p f.0 h (A.switched p West h g) g l f.1 ∙ sym (is_west rs n p (Some (record { 0 = going n East p (suc f.0) })) (A.yes p West h g) (A.no p East h l) (far_west p f.0 h f.1))
+        switch_west run R c level t late p f.0 h (A.switched p West h g) g l f.1 ∙ sym (is_west rs n p (Some (record { 0 = going n East p (suc f.0) })) (A.yes p West h g) (A.no p East h l) (far_on p f.0 West f.1))
 
     east : (p : ℕ) → p < n → asked p West < c → c ≤ asked p East → IsLaw p
     east p h l g =
         let f = near p West h l in
-        switch_east run R c level t late p f.0 h (A.switched p East h g) g l f.1 ∙ sym (is_east rs n p (Some (record { 0 = going n West p (suc f.0) })) (A.no p West h l) (A.yes p East h g) (far_east p f.0 h f.1))
+        switch_east run R c level t late p f.0 h (A.switched p East h g) g l f.1 ∙ sym (is_east rs n p (Some (record { 0 = going n West p (suc f.0) })) (A.no p West h l) (A.yes p East h g) (far_on p f.0 East f.1))
 
     none : (p : ℕ) → p < n → asked p West < c → asked p East < c → IsLaw p
     none p h l m =

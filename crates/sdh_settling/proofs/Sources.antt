@@ -1,11 +1,12 @@
 -- Where a word that a node sends comes from: it is the node's own, or it was heard on the other side and is
 -- another's.
-use Rattle.std.proofs.Common.{◌≡◌, ◌≢◌, Option, Some, None, refl, inl, inr, ◌⊎◌}
+use Rattle.std.proofs.Common.{◌≡◌, ◌≢◌, Option, Some, None, refl, inl, inr, ◌⊎◌, ap, sym, ◌∙◌}
 use Rattle.std.specs.Option.{option_map_or}
 use Rattle.sdh_kbytes.specs.declared.K.{K}
 use Rattle.sdh_ringmap.specs.Places.{opposite}
 use Rattle.sdh_ringmap.specs.declared.Side.{Side}
 use Rattle.sdh_nodestate.specs.Rules.{Scene, own_id, word_on, relayed, word, word_by, rest_word, chosen, Choice, own_short, own_long, relay, rest}
+use Rattle.sdh_ringmap.proofs.Sides.{opposite_twice}
 use Rattle.sdh_settling.proofs.OneNode.{long_from, relayed_from}
 
 -- a relayed word was heard on the other side, and is not this node's own
@@ -18,6 +19,10 @@ relayed_heard s d k e =
     let r = relayed_from s d k e in
     let l = long_from s (opposite d) k r.is_long in
     record { heard = l.heard; foreign = r.foreign }
+
+-- so what is relayed away from side e was heard on e
+pub relayed_across : (s : Scene) (e : Side) (k : K) → relayed s (opposite e) ≡ Some k → (word_on s e ≡ Some k) × (k.from ≢ own_id s)
+relayed_across s e k f = let h = relayed_heard s (opposite e) k f in (ap (word_on s) (sym (opposite_twice e)) ∙ h.heard, h.foreign)
 
 -- a word is this node's own, or it is relayed
 abbrev pub IsOwnOrRelayed : Scene → Side → K → Type 0

@@ -14,7 +14,7 @@ use Rattle.sdh_settling.specs.Runs.{Run, at_round, IsRun}
 use Rattle.sdh_ringmap.specs.Steps.{going}
 use Rattle.sdh_settling.specs.Laws.{IsStillAfter, Relays, passed, LeadsBack, HasOneNotPassing, RelayedWordsLeadBack, NotAllPassThrough}
 use Rattle.sdh_ringmap.proofs.Going.{going-inside, going-none, going-first, reached, IsReached}
-use Rattle.sdh_settling.proofs.Sources.{relayed_heard}
+use Rattle.sdh_settling.proofs.Sources.{relayed_across}
 use Rattle.sdh_settling.proofs.Runs.{some_nodes, next_below}
 use Rattle.sdh_settling.proofs.OneNode.{word_relay}
 
@@ -58,18 +58,12 @@ pub record Foreign (s : Scene) (d : Side) : Type 0 where
   pub heard : word_on s d ≡ Some (word s (opposite d))
   pub foreign : (word s (opposite d)).from ≢ slice_index s.ids s.at
 
-foreign_with : (s : Scene) (d : Side) (k : K) → chosen s d ≡ relay → relayed s d ≡ Some k → (word_on s (opposite d) ≡ Some (word s d)) × ((word s d).from ≢ slice_index s.ids s.at)
-foreign_with s d k e f =
-    let h = relayed_heard s d k f in
-    let w = word_relay s d k e f in
-    (h.heard ∙ ap (λ x. Some x) (sym w), λ i. h.foreign (ap (λ (x : K). x.from) (sym w) ∙ i))
-
-foreign_on : (s : Scene) (d : Side) → chosen s d ≡ relay → (word_on s (opposite d) ≡ Some (word s d)) × ((word s d).from ≢ slice_index s.ids s.at)
-foreign_on s d e = let r = relays_some_by s d (relayed s d) refl e in foreign_with s d r.0 e r.1
-
 relays_foreign : (s : Scene) (d : Side) → chosen s (opposite d) ≡ relay → Foreign s d
-relays_foreign s West e = let f = foreign_on s East e in record { heard = f.0; foreign = f.1 }
-relays_foreign s East e = let f = foreign_on s West e in record { heard = f.0; foreign = f.1 }
+relays_foreign s d e =
+    let r = relays_some_by s (opposite d) (relayed s (opposite d)) refl e in
+    let h = relayed_across s d r.0 r.1 in
+    let w = word_relay s (opposite d) r.0 e r.1 in
+    record { heard = h.0 ∙ ap (λ x. Some x) (sym w); foreign = λ i. h.1 (ap (λ (x : K). x.from) (sym w) ∙ i) }
 
 module _ (run : Run) (R : IsRun run) (t : ℕ) (still : IsStillAfter run t) where
   abbrev n : ℕ
