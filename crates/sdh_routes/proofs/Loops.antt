@@ -28,7 +28,7 @@ use Rattle.sdh_routes.proofs.Segments.{along, bridge, chain_passes, home, leads-
 use Rattle.sdh_routes.proofs.Sights.{found-gives}
 use Rattle.sdh_routes.proofs.States.{Resting, on, state-ahead, state-at, state-by}
 use Rattle.sdh_routes.proofs.Switched.{isnt_side}
-use Rattle.sdh_routes.proofs.Views.{AreOnRing, Idle, Isolated, PassThrough, Switch, arc_length, carried, far_at, holds, passes, side_state}
+use Rattle.sdh_routes.proofs.Views.{AreOnRing, Idle, Isolated, PassThrough, Switch, arc_length, carried, far_at, holds, passes}
 use Rattle.sdh_routes.specs.Law.{Ends, is_pass}
 use Rattle.sdh_ringmap.specs.Steps.{going}
 use Rattle.sdh_routes.specs.Walks.{IsOver, Leads, Stand, carries_in, port, port_at, protection_in, stand, stands_in, working_in}

@@ -7,7 +7,6 @@ use Rattle.sdh_kbytes.specs.declared.K.{K}
 use Rattle.sdh_kbytes.specs.KBytes.{code_number}
 use Rattle.sdh_ringmap.specs.Places.{opposite}
 use Rattle.sdh_ringmap.specs.declared.Side.{Side}
-use Rattle.sdh_ringmap.specs.declared.Side.TheVariants.{West, East}
 use Rattle.sdh_kbytes.specs.declared.Path.TheVariants.{Long}
 use Rattle.sdh_nodestate.specs.Rules.{Scene, word, word_on, relayed, weight_of, stronger}
 use Rattle.sdh_nodestate.specs.Words.{IsMember}
