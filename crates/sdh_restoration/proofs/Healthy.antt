@@ -1,6 +1,7 @@
 -- A ring in which nothing is applied.
-use Rattle.std.proofs.Common.{◌≡◌, ℕ, ◌+◌, ◌-◌, ◌<◌, ◌≤◌, Bool, true, false, refl, sym, ap, ◌∙◌, arith}
+use Rattle.std.proofs.Common.{◌≡◌, ℕ, ◌-◌, true, false, refl, ap, ◌∙◌}
 use Rattle.std.specs.Prelude.{if◌then◌else◌, ◌||◌}
+use Rattle.std.proofs.lemmas.Bool.{cond-true}
 use Rattle.sdh_ringmap.specs.Arcs.{Arc, is_clear, is_joined, opposite_arc}
 use Rattle.sdh_ringmap.proofs.Clear.{none_of-never}
 use Rattle.sdh_payload.specs.Stream.{chunk_of}
@@ -17,13 +18,10 @@ pub is_joined-nothing : (n : ℕ) (arc : Arc) → is_joined n nothing_applied ar
 unfolding is_joined
 is_joined-nothing n arc = ap (λ b. b || is_clear n nothing_applied (opposite_arc n arc)) (is_clear-nothing n arc)
 
-then_first : (b : Bool) (x y : ℕ) → b ≡ true → (if b then x else y) ≡ x
-then_first b x y e = ap (λ c. if c then x else y) e
-
 -- the route is the arc
 pub hops-nothing : (n : ℕ) (arc : Arc) → hops n nothing_applied arc ≡ arc.spans
 unfolding hops
-hops-nothing n arc = then_first (is_clear n nothing_applied arc) arc.spans _ (is_clear-nothing n arc)
+hops-nothing n arc = cond-true (is_clear n nothing_applied arc) arc.spans _ (is_clear-nothing n arc)
 
 -- each port is owed what the other one sent as many rounds before as the arc has spans
 pub due-nothing : (n : ℕ) (c : Provisioned) (end : End) (t : ℕ) → due n nothing_applied c end t ≡ Chunk (customer_at c (other_end end)).offset (chunk_of (customer_at c (other_end end)) (t - (arc_of n c).spans))

@@ -1,5 +1,5 @@
 -- A side's history as a list of rounds.
-use Rattle.std.specs.Prelude.{ℕ, false, List, slice_index_or}
+use Rattle.std.specs.Prelude.{false, List, slice_index_or}
 use Rattle.sdh_request.specs.declared.Command.TheVariants as command
 use Rattle.sdh_restoration.specs.declared.history.SideRound.{SideRound}
 use Rattle.sdh_restoration.specs.History.{SideHistory}

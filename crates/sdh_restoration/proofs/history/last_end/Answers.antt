@@ -1,4 +1,4 @@
-use Rattle.std.proofs.Common.{◌≡◌, ◌<◌, arith, sym, ◌∙◌}
+use Rattle.std.proofs.Common.{◌<◌, arith, sym, ◌∙◌}
 use Rattle.sdh_restoration.specs.Rounds.{history_of}
 use Rattle.sdh_restoration.proofs.Ends.{last_end-here, last_end-before, last_end-none}
 use Rattle.sdh_restoration.proofs.history.last_end.Goals as goal
