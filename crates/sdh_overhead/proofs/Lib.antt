@@ -1,3 +1,4 @@
 pub mod Rows
 pub mod Trips
 pub mod Looking
+pub mod Alone
