@@ -1,0 +1,4 @@
+pub mod SameWords
+pub mod Ports
+pub mod Passed
+pub mod Frames

@@ -1,0 +1,142 @@
+-- Ports at a node.
+use Rattle.std.proofs.Common.{◌≡◌, ℕ, zero, suc, ◌+◌, ◌-◌, ◌<◌, ◌≤◌, Bool, true, false, cond, nat_lt, Option, Some, None, List, [], ◌∷◌, ◌++◌, length, take, get_or, replicate, inl, inr, refl, ap, sym, ◌∙◌, arith, append_assoc}
+use Rattle.std.specs.Prelude.{◌^◌, ◌==◌, if◌then◌else◌, All, find, slice_get}
+use Rattle.std.specs.List.{position, position_or_len}
+use Rattle.std.proofs.lemmas.Bool.{cases_lt, cond_both}
+use Rattle.std.proofs.lemmas.Bool.Decides.{nat_tests}
+use Rattle.std.proofs.lemmas.List.{take_more, length-take-le, append-nil}
+use Rattle.std.proofs.lemmas.Option.{get_or_from_slice_get}
+use Rattle.std.proofs.lemmas.List.Quantifiers.{position-Some}
+use Rattle.sdh_basics.specs.Indexed.{map_from}
+use Rattle.sdh_payload.specs.Customer.{Customer}
+use Rattle.sdh_payload.specs.Stream.{chunk_of}
+use Rattle.sdh_ringmap.specs.declared.Pos.{Pos}
+use Rattle.sdh_ringmap.specs.declared.Side.{Side}
+use Rattle.sdh_ringmap.specs.declared.Side.TheVariants.{West, East}
+use Rattle.sdh_circuits.specs.declared.PortId.{PortId}
+use Rattle.sdh_circuits.specs.declared.Slot.{Slot}
+use Rattle.sdh_circuits.specs.declared.End.{End}
+use Rattle.sdh_circuits.specs.declared.End.TheVariants.{A, B}
+use Rattle.sdh_circuits.specs.Provisioned.{Provisioned}
+use Rattle.sdh_circuits.specs.Provisioning.{Provisioning, IsProvisioning, IsInSlots}
+use Rattle.sdh_pointer.specs.declared.word.Form.{Form}
+use Rattle.sdh_pointer.specs.declared.word.Form.TheVariants as form
+use Rattle.sdh_node.specs.Passing.{h3_sent}
+use Rattle.sdh_node.specs.Tributaries.{Tributary, new_tributary, ends_at, ends_from, tributaries_at, is_port, port_of, fed, all_fed, IsTributary}
+use Rattle.sdh_node.specs.Crossing.{Cross, delivered_to, all_delivered}
+
+-- a port has nothing in H3
+pub own_h3 : (f : Form) → 0 ∷ 0 ∷ 0 ∷ [] ≡ h3_sent f (replicate 9 0)
+own_h3 form.Normal = refl
+own_h3 form.Enabled = refl
+own_h3 form.Up = refl
+own_h3 form.Down = refl
+own_h3 form.Ais = refl
+
+-- the chunk that was taken before the count grew
+pub chunk_after : (p : Customer) (j : ℕ) → chunk_of p (j + 1 - 1) ≡ chunk_of p j
+chunk_after p j = ap (chunk_of p) (omega arith)
+
+-- ---- the search for a port
+
+find-none : {X : Type 0} (p : X → Bool) (xs : List X) → position p xs ≡ None → find p xs ≡ None
+find-none p [] none = refl
+find-none p (x ∷ xs) none = go (p x) refl (λ rest. find-none p xs rest)
+  where
+    go : (t : Bool) → p x ≡ t → (position p xs ≡ None → find p xs ≡ None) → find p (x ∷ xs) ≡ None
+    go true e rec =
+        let t : nat_lt 0 (suc (length xs)) ≡ true = grind (arith, nat_tests) in
+        let shown : position p (x ∷ xs) ≡ cond (nat_lt 0 (suc (length xs))) (Some 0) None = rw e refl in
+        let bad : Some 0 ≡ None = sym (rw t at shown) ∙ none in
+        cc
+    go false e rec =
+        let n = position_or_len p xs in
+        elim (cases_lt n (length xs)) [
+          | inl under ↦
+              let t : nat_lt (1 + n) (suc (length xs)) ≡ true = grind (arith, nat_tests) in
+              let shown : position p (x ∷ xs) ≡ cond (nat_lt (1 + n) (suc (length xs))) (Some (1 + n)) None = rw e refl in
+              let bad : Some (1 + n) ≡ None = sym (rw t at shown) ∙ none in
+              cc
+          | inr over ↦
+              let t : nat_lt n (length xs) ≡ false = grind (arith, nat_tests) in
+              let rest : position p xs ≡ None = rw t refl in
+              rw e (rec rest)
+        ]
+
+find-first : {X : Type 0} (p : X → Bool) (xs : List X) (i : ℕ) (d : X) → i < length xs → p (get_or xs i d) ≡ true
+    → ((k : ℕ) → k < i → p (get_or xs k d) ≡ false) → find p xs ≡ Some (get_or xs i d)
+find-first p [] i d lt hit before = absurd (omega arith)
+find-first p (x ∷ xs) zero d lt hit before = rw hit refl
+find-first p (x ∷ xs) (suc i) d lt hit before =
+    let head : p x ≡ false = before 0 (omega arith) in
+    rw head (find-first p xs i d (omega arith) hit (λ k low. before (suc k) (omega arith)))
+
+pub port_found : (id : PortId) (ports : List Tributary) (i : ℕ) (x : Tributary) → position (is_port id) ports ≡ Some i → x ≡ get_or ports i x → port_of id ports ≡ Some x
+unfolding port_of
+port_found id ports i x place read = let h = position-Some (is_port id) ports i x place in find-first (is_port id) ports i x h.0 h.1 h.2 ∙ ap Some (sym read)
+
+pub port_missing : (id : PortId) (ports : List Tributary) → position (is_port id) ports ≡ None → port_of id ports ≡ None
+unfolding port_of
+port_missing id ports none = find-none (is_port id) ports none
+
+-- ---- what is true of each port
+
+placed_all : {X Y : Type 0} (P : X → Type 0) (Q : Y → Type 0) (f : ℕ → X → Y) (i : ℕ) (xs : List X) → ((k : ℕ) (x : X) → P x → Q (f k x)) → All P xs → All Q (map_from f i xs)
+placed_all P Q f i [] h all = all
+placed_all P Q f i (x ∷ xs) h all = (h i x all.0, placed_all P Q f (i + 1) xs h all.1)
+
+each : {X : Type 0} (P Q : X → Type 0) (xs : List X) → ((x : X) → P x → Q x) → All P xs → All Q xs
+each P Q [] h all = all
+each P Q (x ∷ xs) h all = (h x all.0, each P Q xs h all.1)
+
+pub in_slots : (slots rounds : ℕ) (ports : List Tributary) → All (IsTributary slots rounds) ports → All (λ t. (1 ≤ t.slot.0) × (t.slot.0 ≤ slots)) ports
+in_slots slots rounds ports all = each (IsTributary slots rounds) (λ t. (1 ≤ t.slot.0) × (t.slot.0 ≤ slots)) ports (λ t h. (h.first, h.last)) all
+
+pub few_chunks : (slots rounds : ℕ) (ports : List Tributary) → rounds < 2 ^ 32 → All (IsTributary slots rounds) ports → All (λ t. t.feed.chunks < 2 ^ 32) ports
+few_chunks slots rounds ports few all = each (IsTributary slots rounds) (λ t. t.feed.chunks < 2 ^ 32) ports (λ t h. omega (arith, h.chunks)) all
+
+pub delivered_are : (x : Cross) (slots rounds : ℕ) (ports : List Tributary) → All (IsTributary slots rounds) ports → All (IsTributary slots rounds) (all_delivered x ports)
+unfolding all_delivered
+delivered_are x slots rounds ports all = placed_all (IsTributary slots rounds) (IsTributary slots rounds) (λ i t. delivered_to x t) 0 ports (λ k t h. record { first = h.first; last = h.last; chunks = h.chunks }) all
+
+pub fed_are : (slots rounds : ℕ) (ports : List Tributary) → All (IsTributary slots rounds) ports → All (IsTributary slots (rounds + 1)) (all_fed ports)
+unfolding all_fed
+fed_are slots rounds ports all = placed_all (IsTributary slots rounds) (IsTributary slots (rounds + 1)) (λ i t. fed t) 0 ports (λ k t h. record { first = h.first; last = h.last; chunks = ap (λ n. n + 1) h.chunks }) all
+
+-- ---- the ports of a ring's circuits at a position
+
+ends-append : (at : Pos) (i : ℕ) (xs ys : List Provisioned) → ends_from at i (xs ++ ys) ≡ ends_from at i xs ++ ends_from at (i + length xs) ys
+ends-append at i [] ys = ap (λ k. ends_from at k ys) (omega arith)
+ends-append at i (x ∷ xs) ys =
+    ap (λ r. ends_at at i x ++ r) (ends-append at (i + 1) xs ys ∙ ap (λ k. ends_from at (i + 1) xs ++ ends_from at k ys) (omega arith))
+    ∙ sym (append_assoc (ends_at at i x) (ends_from at (i + 1) xs) (ends_from at (i + length (x ∷ xs)) ys))
+
+-- the ports of one circuit more
+pub ends_more : (at : Pos) (circuits : List Provisioned) (i : ℕ) (c : Provisioned) → slice_get circuits i ≡ Some c → i < length circuits → ends_from at 0 (take (i + 1) circuits) ≡ ends_from at 0 (take i circuits) ++ ends_at at i c
+ends_more at circuits i c read h =
+    let len : 0 + length (take i circuits) ≡ i = omega (arith, length-take-le i circuits) in
+    let there : get_or circuits i c ≡ c = get_or_from_slice_get circuits i c c read in
+    ap (ends_from at 0) (take_more circuits i c h) ∙ ends-append at 0 (take i circuits) (get_or circuits i c ∷ [])
+    ∙ ap (λ k. ends_from at 0 (take i circuits) ++ ends_from at k (get_or circuits i c ∷ [])) len
+    ∙ ap (λ x. ends_from at 0 (take i circuits) ++ (ends_at at i x ++ [])) there
+    ∙ ap (λ r. ends_from at 0 (take i circuits) ++ r) (append-nil (ends_at at i c))
+
+all_both : {X : Type 0} (P : X → Type 0) (xs ys : List X) → All P xs → All P ys → All P (xs ++ ys)
+all_both P [] ys a b = b
+all_both P (x ∷ xs) ys a b = (a.0, all_both P xs ys a.1 b)
+
+new_is : (slots i : ℕ) (e : End) (d : Side) (m : Slot) (p : Customer) → 1 ≤ m.0 → m.0 ≤ slots → IsTributary slots 0 (new_tributary i e d m p)
+new_is slots i e d m p low high = record { first = low; last = high; chunks = refl }
+
+ends_are : (slots : ℕ) (at : Pos) (i : ℕ) (circuits : List Provisioned) → All (IsInSlots slots) circuits → All (IsTributary slots 0) (ends_from at i circuits)
+ends_are slots at i [] all = tt
+ends_are slots at i (c ∷ cs) all =
+    all_both (IsTributary slots 0) (ends_at at i c) (ends_from at (i + 1) cs)
+    (all_both (IsTributary slots 0) (if c.from.0 == at.0 then new_tributary i A East c.slot c.a ∷ [] else []) (if c.to.0 == at.0 then new_tributary i B West c.slot c.b ∷ [] else [])
+    (cond_both (c.from.0 == at.0) (new_tributary i A East c.slot c.a ∷ []) [] (All (IsTributary slots 0)) (λ _. (new_is slots i A East c.slot c.a all.0.from_1 all.0.small, tt)) (λ _. tt))
+    (cond_both (c.to.0 == at.0) (new_tributary i B West c.slot c.b ∷ []) [] (All (IsTributary slots 0)) (λ _. (new_is slots i B West c.slot c.b all.0.from_1 all.0.small, tt)) (λ _. tt)))
+    (ends_are slots at (i + 1) cs all.1)
+
+pub tributaries_are : (at : Pos) (p : Provisioning) → IsProvisioning p → All (IsTributary p.slots 0) (tributaries_at at p.circuits)
+unfolding tributaries_at
+tributaries_are at p form = ends_are p.slots at 0 p.circuits form.circuits.in_slots

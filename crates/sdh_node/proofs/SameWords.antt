@@ -1,0 +1,76 @@
+-- Words with the same parts are one word.
+use Rattle.std.proofs.Common.{◌≡◌, ℕ, Bool, true, false, Option, Some, refl, ap, sym, ◌∙◌, ◌↔◌}
+use Rattle.std.specs.Prelude.{IsTrue, ◌==◌, ◌&&◌}
+use Rattle.std.proofs.lemmas.Bool.{eqb-true, eq-eqb}
+use Rattle.sdh_kbytes.specs.declared.Code.{Code}
+use Rattle.sdh_kbytes.specs.declared.Code.TheVariants.{Nr, Rr, Wtr, Ms, Sd, Sf, Fs}
+use Rattle.sdh_kbytes.specs.declared.Path.{Path}
+use Rattle.sdh_kbytes.specs.declared.Path.TheVariants.{Short, Long}
+use Rattle.sdh_kbytes.specs.declared.Mark.{Mark}
+use Rattle.sdh_kbytes.specs.declared.Mark.TheVariants.{Idle, Bridged, BridgedSwitched, Rdi, MsAis}
+use Rattle.sdh_kbytes.specs.declared.K.{K}
+use Rattle.sdh_kbytes.specs.KBytes.{code_number, mark_number, path_number, code_at, mark_at, path_at}
+use Rattle.sdh_node.specs.Same.{same_word}
+
+code_back : (c : Code) → code_at (code_number c) ≡ Some c
+code_back Nr = refl
+code_back Rr = refl
+code_back Wtr = refl
+code_back Ms = refl
+code_back Sd = refl
+code_back Sf = refl
+code_back Fs = refl
+
+mark_back : (m : Mark) → mark_at (mark_number m) ≡ Some m
+mark_back Idle = refl
+mark_back Bridged = refl
+mark_back BridgedSwitched = refl
+mark_back Rdi = refl
+mark_back MsAis = refl
+
+path_back : (p : Path) → path_at (path_number p) ≡ p
+path_back Short = refl
+path_back Long = refl
+
+pub code_of_number : (c d : Code) → code_number c ≡ code_number d → c ≡ d
+code_of_number c d e = let some : Some c ≡ Some d = sym (code_back c) ∙ ap code_at e ∙ code_back d in cc
+
+mark_of_number : (m o : Mark) → mark_number m ≡ mark_number o → m ≡ o
+mark_of_number m o e = let some : Some m ≡ Some o = sym (mark_back m) ∙ ap mark_at e ∙ mark_back o in cc
+
+path_of_number : (p q : Path) → path_number p ≡ path_number q → p ≡ q
+path_of_number p q e = sym (path_back p) ∙ ap path_at e ∙ path_back q
+
+both : (a b : Bool) → (a && b) ≡ true → (a ≡ true) × (b ≡ true)
+both true true e = (refl, refl)
+both true false e = absurd (cc)
+both false b e = absurd (cc)
+
+pub same_is : (a b : K) → same_word a b ≡ true → a ≡ b
+unfolding same_word
+same_is a b e =
+    let p = both _ _ e in
+    let q = both _ _ p.1 in
+    let r = both _ _ q.1 in
+    let s = both _ _ r.1 in
+    let code : a.code ≡ b.code = code_of_number a.code b.code (eqb-true _ _ p.0) in
+    let to : a.to ≡ b.to = eqb-true _ _ q.0 in
+    let from : a.from ≡ b.from = eqb-true _ _ r.0 in
+    let path : a.path ≡ b.path = path_of_number a.path b.path (eqb-true _ _ s.0) in
+    let mark : a.mark ≡ b.mark = mark_of_number a.mark b.mark (eqb-true _ _ s.1) in
+    λ i. record { code = code i; to = to i; from = from i; path = path i; mark = mark i }
+
+pub is_same : (a : K) → same_word a a ≡ true
+unfolding same_word
+is_same a =
+    rw (eq-eqb (code_number a.code) _ refl, eq-eqb a.to _ refl, eq-eqb a.from _ refl, eq-eqb (path_number a.path) _ refl, eq-eqb (mark_number a.mark) _ refl) refl
+
+by_truth : (r s : Bool) → (IsTrue r → s ≡ true) → (s ≡ true → IsTrue r) → r ≡ s
+by_truth true true f g = refl
+by_truth true false f g = absurd (let e = f tt in cc)
+by_truth false true f g = absurd (g refl)
+by_truth false false f g = refl
+
+-- what tells equal words is `same_word`
+pub word_tells : (r : Bool) (a b : K) → (IsTrue r ↔ (a ≡ b)) → r ≡ same_word a b
+word_tells r a b h = by_truth r (same_word a b) (λ t. ap (same_word a) (sym (h.0 t)) ∙ is_same a) (λ e. h.1 (same_is a b e))

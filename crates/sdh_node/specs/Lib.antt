@@ -1,0 +1,9 @@
+pub mod Same
+pub mod Shapes
+pub mod Receiving
+pub mod Passing
+pub mod Outlets
+pub mod Tributaries
+pub mod Crossing
+pub mod Sending
+pub mod Node

@@ -1,0 +1,105 @@
+-- The ports of circuits at a node, which add and drop their AU-4s.
+use Rattle.std.specs.Prelude.{◌≡◌, ℕ, ◌+◌, ◌-◌, ◌≤◌, Bool, true, false, ◌&&◌, ◌==◌, if◌then◌else◌, Option, Some, None, IsSome, List, [], ◌∷◌, ◌++◌, length, replicate, find}
+use Rattle.std.specs.Option.{option_map_or}
+use Rattle.sdh_basics.specs.Indexed.{map_from}
+use Rattle.sdh_ringmap.specs.declared.Pos.{Pos}
+use Rattle.sdh_ringmap.specs.declared.Side.{Side}
+use Rattle.sdh_ringmap.specs.declared.Side.TheVariants.{West, East}
+use Rattle.sdh_circuits.specs.declared.Slot.{Slot}
+use Rattle.sdh_circuits.specs.declared.End.{End}
+use Rattle.sdh_circuits.specs.declared.End.TheVariants.{A, B}
+use Rattle.sdh_circuits.specs.declared.PortId.{PortId}
+use Rattle.sdh_circuits.specs.Provisioned.{Provisioned}
+use Rattle.sdh_payload.specs.Customer.{Customer}
+use Rattle.sdh_payload.specs.Feed.{Fed}
+use Rattle.sdh_payload.specs.Stream.{chunk_of}
+use Rattle.sdh_pointer.specs.declared.reading.Action.TheVariants as action
+use Rattle.sdh_node.specs.Passing.{Input, no_input}
+use Rattle.sdh_node.specs.Outlets.{Outlet, silent}
+
+pub record Tributary : Type 0 where
+  pub port : PortId
+  -- the side on which its circuit leaves the node, and its working slot there
+  pub side : Side
+  pub slot : Slot
+  -- its stream, of which a chunk is taken in each round
+  pub feed : Fed
+  -- what it delivered in the last round
+  pub outlet : Outlet
+
+-- ---- the ports at a node
+
+-- a port that hasn't sent or delivered anything
+abbrev pub new_tributary : ℕ → End → Side → Slot → Customer → Tributary
+new_tributary circuit end side slot customer = record { port = record { circuit = circuit; end = end }; side = side; slot = slot; feed = record { port = customer; chunks = 0 }; outlet = silent }
+
+-- the ports of circuit number i at a position: where its arc starts port A, on the east side, and where it ends port B, on the west side
+abbrev pub ends_at : Pos → ℕ → Provisioned → List Tributary
+ends_at at i c =
+    (if c.from.0 == at.0 then new_tributary i A East c.slot c.a ∷ [] else [])
+    ++ (if c.to.0 == at.0 then new_tributary i B West c.slot c.b ∷ [] else [])
+
+-- those of circuits that are numbered from i on
+abbrev pub ends_from : Pos → ℕ → List Provisioned → List Tributary
+ends_from at i [] = []
+ends_from at i (c ∷ cs) = ends_at at i c ++ ends_from at (i + 1) cs
+
+unfoldable pub tributaries_at : Pos → List Provisioned → List Tributary
+tributaries_at at circuits = ends_from at 0 circuits
+
+-- ---- a port among them
+
+abbrev pub same_end : End → End → Bool
+same_end A A = true
+same_end B B = true
+same_end A B = false
+same_end B A = false
+
+abbrev pub is_port : PortId → Tributary → Bool
+is_port id t = (t.port.circuit == id.circuit) && same_end t.port.end id.end
+
+-- the port with this name
+unfoldable pub port_of : PortId → List Tributary → Option Tributary
+port_of id ports = find (is_port id) ports
+
+-- the port is at the node
+abbrev pub HasPort : List Tributary → PortId → Type 0
+HasPort ports id = IsSome (port_of id ports)
+
+-- what it delivered
+abbrev pub outlet_of : PortId → List Tributary → Outlet
+outlet_of id ports = option_map_or (λ t. t.outlet) (port_of id ports) silent
+
+-- ---- what it sends
+
+-- the chunk of its stream that was taken last, with the pointer value of its offset
+abbrev pub own_chunk : Fed → List ℕ
+own_chunk feed = chunk_of feed.port (feed.chunks - 1)
+
+abbrev pub own_input : Tributary → Input
+own_input t = record { action = action.Normal; value = t.feed.port.offset; au = record { pointers = replicate 9 0; payload = own_chunk t.feed } }
+
+-- what a port's stream gives to an AU-4
+abbrev pub add_input : PortId → List Tributary → Input
+add_input id ports = option_map_or own_input (port_of id ports) no_input
+
+-- the port after the next chunk of its stream was taken
+abbrev pub fed : Tributary → Tributary
+fed t = record t { feed = record { port = t.feed.port; chunks = t.feed.chunks + 1 } }
+
+unfoldable pub all_fed : List Tributary → List Tributary
+all_fed ports = map_from (λ i t. fed t) 0 ports
+
+-- ---- what is true of every port at a node with so many working slots, after so many rounds
+
+pub record IsTributary (slots rounds : ℕ) (t : Tributary) : Type 0 where
+  pub first : 1 ≤ t.slot.0
+  pub last : t.slot.0 ≤ slots
+  pub chunks : t.feed.chunks ≡ rounds
+
+-- the offset and the chunk that a port keeps are those of its stream
+pub record IsFed (feed : Fed) (offset : ℕ) (chunk : List ℕ) : Type 0 where
+  pub offset_is : offset ≡ feed.port.offset
+  pub offset_small : offset ≤ 782
+  pub chunk_full : length chunk ≡ 2349
+  pub chunk_is : chunk ≡ own_chunk feed

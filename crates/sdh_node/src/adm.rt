@@ -1,0 +1,259 @@
+//! One multiplexer.
+ghost use Rattle.std.specs.Prelude.{◌≡◌, ◌+◌, ◌/◌, ◌^◌, ◌<◌, ◌≤◌, IfOk, All, length};
+ghost use Rattle.sdh_frame.specs.Sizes.{n_of};
+ghost use Rattle.sdh_squelch.specs.Kept.{KeepsRing};
+ghost use Rattle.sdh_nodestate.specs.Words.{IsSpellable};
+ghost use Rattle.sdh_node.specs.Receiving.{commanded_by, arrived_on};
+ghost use Rattle.sdh_node.specs.Tributaries.{HasPort, outlet_of};
+ghost use Rattle.sdh_node.specs.Node.{new_node, first_word, at_receiving, after_taking, after_deciding, after_interpreting, after_delivering, after_feeding, ready, frames_of, after_sending, node_round, receiving_on, sending_on, is_calm, moment_of};
+
+use crate::cross::CrossConnect;
+use crate::making::room;
+use crate::outlet::Delivered;
+use crate::sender::Sender;
+use crate::settings::Settings;
+use crate::tributary::{Tributary, deliver_all, feed_all, outlet_of, tributaries_at};
+use sdh_circuits::{CircuitMap, PortId};
+use sdh_frame::FrameBuf;
+use sdh_kbytes::{Code, K, Mark, Path};
+use sdh_nodestate::NodeState;
+use sdh_plant::Arrived;
+use sdh_request::{Command, Moment};
+use sdh_ringmap::{Pos, RingMap, Side};
+use std::alloc::{AllocError, Global};
+use std::marker::Model;
+
+/// One add-drop multiplexer of the ring.
+#[derive(Drop)]
+pub struct Adm {
+    settings: Settings,
+    rounds: u64,
+    cross: CrossConnect,
+    ports: Vec<Tributary>,
+    west_out: Sender,
+    east_out: Sender,
+    scratch: Vec<u8>,
+}
+
+impl Model for Adm {
+    ghost use Rattle.std.specs.Prelude.{◌≡◌, length};
+    ghost use Rattle.sdh_node.specs.Node.{Node, IsNode};
+
+    ghost Value = { Node };
+
+    ghost view = { λ a. record { settings = a.settings; rounds = a.rounds; cross = a.cross; ports = a.ports.items; west_out = a.west_out; east_out = a.east_out } };
+
+    ghost invariant = { λ a. record {
+      scratch : length a.scratch.items ≡ 2349;
+      node : IsNode (record { settings = a.settings; rounds = a.rounds; cross = a.cross; ports = a.ports.items; west_out = a.west_out; east_out = a.east_out });
+    } };
+}
+
+// The word to the neighbour on a side that asks for nothing.
+fn first_word(map: &RingMap, at: Pos, side: Side) -> K
+    requires { at.0 < length map.now }
+    ensures word { result ≡ first_word map.now at side }
+    ensures spellable { IsSpellable result }
+{
+    K {
+        code: Code::Nr,
+        to: map.id(map.step(at, side)),
+        from: map.id(at),
+        path: Path::Short,
+        mark: Mark::Idle,
+    }
+}
+
+impl Adm {
+    /// The node at a position of a ring with these circuits: idle, without commands and defects. All its memory is
+    /// taken here.
+    #[tactic(auto, unfolding(crate::specs::Node::new_node))]
+    pub fn try_new(
+        alloc: Global,
+        settings: Settings,
+        map: &RingMap,
+        circuits: &CircuitMap,
+        at: Pos,
+    ) -> Result<Adm, AllocError>
+        requires at { at.0 < length map.now }
+        requires slots { circuits.now.slots ≡ n_of settings.rate / 2 }
+        requires kept { KeepsRing circuits.now map.now }
+        ensures { IfOk result (λ node. node ≡ new_node settings map.now circuits.now.circuits at) }
+    {
+        let west = first_word(map, at, Side::West);
+        let east = first_word(map, at, Side::East);
+        Ok(Adm {
+            settings,
+            rounds: 0,
+            cross: CrossConnect::try_new(alloc, settings, map, circuits, at)?,
+            ports: tributaries_at(alloc, circuits, at)?,
+            west_out: Sender::try_new(alloc, settings, west)?,
+            east_out: Sender::try_new(alloc, settings, east)?,
+            scratch: room(alloc)?,
+        })
+    }
+
+    /// Gives one side a command.
+    pub fn command(&mut self, side: Side, command: Command)
+        ensures { self.new ≡ at_receiving side (commanded_by command) self.old }
+    {
+        self.cross.command(side, command);
+    }
+
+    /// Keeps what arrived on a side for the next `send`. A second call before it replaces the first.
+    pub fn receive(&mut self, side: Side, arrived: Arrived, frame: &FrameBuf)
+        requires { frame.now.rate ≡ self.old.settings.rate }
+        ensures { self.new ≡ at_receiving side (arrived_on arrived frame.now) self.old }
+    {
+        self.cross.receive(side, arrived, frame);
+    }
+
+    /// What a port of the node delivered in the last round, and AIS before the first.
+    pub fn delivered(&self, port: PortId) -> &Delivered
+        requires { HasPort self.now.ports port }
+        ensures { result.now ≡ (outlet_of port self.now.ports).delivered }
+    {
+        outlet_of(&self.ports, port).delivered()
+    }
+
+    /// The value of the interpreter through which a port's chunk came, and 0 where it delivers AIS.
+    pub fn value(&self, port: PortId) -> u16
+        requires { HasPort self.now.ports port }
+        ensures value { result ≡ (outlet_of port self.now.ports).value }
+        ensures small { result ≤ 782 }
+    {
+        outlet_of(&self.ports, port).value()
+    }
+
+    /// The state.
+    pub fn state(&self) -> &NodeState
+        ensures { result.now ≡ self.now.cross.state }
+    {
+        self.cross.state()
+    }
+
+    /// The word sent on a side in the last round; before the first the one that asks the neighbour for nothing.
+    pub fn sent_k(&self, side: Side) -> K
+        ensures word { result ≡ (sending_on side self.now).word }
+        ensures to { result.to ≤ 15 }
+        ensures from { result.from ≤ 15 }
+    {
+        match side {
+            Side::West => self.west_out.word(),
+            Side::East => self.east_out.word(),
+        }
+    }
+
+    /// The local request of a side in the last round, and no request before the first.
+    pub fn request(&self, side: Side) -> Code
+        ensures { result ≡ (receiving_on side self.now).request }
+    {
+        self.cross.receiver(side).request()
+    }
+
+    /// Whether the last round changed nothing: no word sent or heard, no state, far end, local request, interpreter or
+    /// generator. The first round isn't calm.
+    #[tactic(auto, unfolding(crate::specs::Node::is_calm))]
+    pub fn calm(&self) -> bool
+        ensures { result ≡ is_calm self.now }
+    {
+        self.rounds >= 2
+            && !self.cross.moved()
+            && self.cross.receiver(Side::West).is_steady()
+            && self.cross.receiver(Side::East).is_steady()
+            && self.west_out.is_steady()
+            && self.east_out.is_steady()
+    }
+}
+
+// A round, stage by stage.
+impl Adm {
+    // Section overhead, defects and words heard, and local requests.
+    #[tactic(auto, unfolding(crate::specs::Node::after_taking))]
+    fn take(&mut self, now: Moment)
+        requires later { moment_of self.old ≤ now.0 }
+        requires within { now.0 ≤ 1000000000 }
+        ensures node { self.new ≡ after_taking now.0 self.old }
+        ensures settings { self.new.settings ≡ self.old.settings }
+        ensures rounds { self.new.rounds ≡ self.old.rounds }
+    {
+        self.cross.take(self.settings.threshold, now);
+    }
+
+    // The state and the words.
+    #[tactic(auto, unfolding(crate::specs::Node::after_deciding))]
+    fn decide(&mut self)
+        ensures node { self.new ≡ after_deciding self.old }
+        ensures settings { self.new.settings ≡ self.old.settings }
+        ensures rounds { self.new.rounds ≡ self.old.rounds }
+    {
+        let sent = self.cross.decide();
+        self.west_out.say(sent.west);
+        self.east_out.say(sent.east);
+    }
+
+    // All pointer interpreters.
+    #[tactic(auto, unfolding(crate::specs::Node::after_interpreting))]
+    fn interpret(&mut self)
+        ensures node { self.new ≡ after_interpreting self.old }
+        ensures settings { self.new.settings ≡ self.old.settings }
+        ensures rounds { self.new.rounds ≡ self.old.rounds }
+    {
+        self.cross.interpret();
+    }
+
+    // What the ports deliver, in the new state.
+    #[tactic(auto, using(crate::proofs::Ports::in_slots, crate::proofs::Ports::delivered_are), unfolding(crate::specs::Node::after_delivering))]
+    fn deliver(&mut self)
+        ensures node { self.new ≡ after_delivering self.old }
+        ensures settings { self.new.settings ≡ self.old.settings }
+        ensures rounds { self.new.rounds ≡ self.old.rounds }
+    {
+        deliver_all(&self.cross, &mut self.ports, &mut self.scratch);
+    }
+
+    // The next chunk of each port's stream.
+    #[tactic(auto, using(crate::proofs::Ports::few_chunks, crate::proofs::Ports::fed_are), unfolding(crate::specs::Node::after_feeding))]
+    fn feed(&mut self)
+        requires { self.old.rounds < 2 ^ 32 }
+        ensures node { self.new ≡ after_feeding self.old }
+        ensures settings { self.new.settings ≡ self.old.settings }
+    {
+        feed_all(&mut self.ports);
+        self.rounds += 1;
+    }
+
+    // All pointer generators, and both frames.
+    #[tactic(auto, unfolding(crate::specs::Node::after_sending, crate::specs::Node::frames_of))]
+    fn forward(&mut self, west: &mut FrameBuf, east: &mut FrameBuf)
+        requires west { west.old.rate ≡ self.old.settings.rate }
+        requires east { east.old.rate ≡ self.old.settings.rate }
+        ensures node { self.new ≡ after_sending self.old }
+        ensures west { west.new ≡ (frames_of self.old).west }
+        ensures east { east.new ≡ (frames_of self.old).east }
+    {
+        self.west_out.send(&self.cross, &self.ports, Side::West, west);
+        self.east_out.send(&self.cross, &self.ports, Side::East, east);
+    }
+
+    /// One round at a moment: what arrived is read, the state and the words follow, the ports deliver, and a frame goes
+    /// out on each side. It takes no memory.
+    #[tactic(auto, unfolding(crate::specs::Node::node_round, crate::specs::Node::ready))]
+    pub fn send(&mut self, now: Moment, west: &mut FrameBuf, east: &mut FrameBuf)
+        requires west { west.old.rate ≡ self.old.settings.rate }
+        requires east { east.old.rate ≡ self.old.settings.rate }
+        requires later { moment_of self.old ≤ now.0 }
+        requires within { now.0 ≤ 1000000000 }
+        requires few { self.old.rounds < 2 ^ 32 }
+        ensures node { self.new ≡ (node_round now.0 self.old).0 }
+        ensures west { west.new ≡ (node_round now.0 self.old).1.west }
+        ensures east { east.new ≡ (node_round now.0 self.old).1.east }
+    {
+        self.take(now);
+        self.decide();
+        self.interpret();
+        self.deliver();
+        self.feed();
+        self.forward(west, east);
+    }
+}

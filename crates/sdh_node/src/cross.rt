@@ -1,0 +1,237 @@
+//! The cross-connect: both sides that receive, the state, and where it leads what comes in.
+ghost use Rattle.std.specs.Prelude.{◌≡◌, ◌+◌, ◌*◌, ◌-◌, ◌/◌, ◌<◌, ◌≤◌, IfOk, length};
+ghost use Rattle.sdh_frame.specs.Sizes.{n_of};
+ghost use Rattle.sdh_ringmap.specs.declared.Side.TheVariants.{West, East};
+ghost use Rattle.sdh_squelch.specs.Kept.{KeepsRing};
+ghost use Rattle.sdh_nodestate.specs.Rules.{word};
+ghost use Rattle.sdh_nodestate.specs.Words.{SendsSpellable};
+ghost use Rattle.sdh_node.specs.Receiving.{commanded_by, arrived_on};
+ghost use Rattle.sdh_node.specs.Node.{new_cross};
+ghost use Rattle.sdh_node.specs.Crossing.{on_side, at_side, half_of, both_taken, scene_of, decided, both_interpreted, leaving, slot_of, dropped_at};
+ghost use Rattle.sdh_node.specs.Outlets.{delivered_from};
+
+use crate::outlet::Outlet;
+use crate::receiver::Receiver;
+use crate::same::{same_shape, shape_of};
+use crate::settings::Settings;
+use sdh_bridge::{Origin, drop_origin, protection_origin, working_origin};
+use sdh_circuits::{CircuitMap, Slot};
+use sdh_frame::{FrameBuf, Rate};
+use sdh_nodestate::{Heard, Needs, NodeState, Sent, start, step};
+use sdh_plant::Arrived;
+use sdh_request::{Command, Moment};
+use sdh_ringmap::{Pos, RingMap, Side};
+use sdh_squelch::Table;
+use std::alloc::{AllocError, Global};
+use std::marker::Model;
+
+/// Both sides that receive, the state, and what it takes to tell where the state leads what comes in.
+#[derive(Drop)]
+pub struct CrossConnect {
+    map: RingMap,
+    at: Pos,
+    table: Table,
+    state: NodeState,
+    moved: bool,
+    west: Receiver,
+    east: Receiver,
+}
+
+impl Model for CrossConnect {
+    ghost use Rattle.std.specs.Prelude.{◌≡◌};
+    ghost use Rattle.sdh_node.specs.Crossing.{Cross, IsCross};
+
+    ghost Value = { Cross };
+
+    ghost view = { λ x. record { ids = x.map; at = x.at; rows = x.table.rows; state = x.state; moved = x.moved; west = x.west; east = x.east } };
+
+    ghost invariant = { λ x. record {
+      ring : x.table.ring ≡ x.map;
+      place : x.table.at ≡ x.at;
+      cross : IsCross (record { ids = x.map; at = x.at; rows = x.table.rows; state = x.state; moved = x.moved; west = x.west; east = x.east });
+    } };
+}
+
+// Half of N: so many slots are working slots, and so many protect them.
+fn half_of(rate: Rate) -> u16
+    ensures half { result ≡ n_of rate / 2 }
+    ensures few { result ≤ 8 }
+    ensures twice { 2 * result ≡ n_of rate }
+{
+    match rate {
+        Rate::Four => 2,
+        Rate::Sixteen => 8,
+    }
+}
+
+impl CrossConnect {
+    /// Idle, with nothing received. All memory is taken here.
+    pub fn try_new(
+        alloc: Global,
+        settings: Settings,
+        map: &RingMap,
+        circuits: &CircuitMap,
+        at: Pos,
+    ) -> Result<CrossConnect, AllocError>
+        requires at { at.0 < length map.now }
+        requires kept { KeepsRing circuits.now map.now }
+        ensures { IfOk result (λ x. x ≡ new_cross settings map.now circuits.now.circuits at) }
+    {
+        Ok(CrossConnect {
+            map: map.copy(),
+            at,
+            table: Table::try_new(alloc, map, circuits, at)?,
+            state: start(),
+            moved: false,
+            west: Receiver::try_new(alloc, settings)?,
+            east: Receiver::try_new(alloc, settings)?,
+        })
+    }
+
+    /// Gives one side a command.
+    pub fn command(&mut self, side: Side, command: Command)
+        ensures { self.new ≡ at_side side (commanded_by command) self.old }
+    {
+        match side {
+            Side::West => self.west.command(command),
+            Side::East => self.east.command(command),
+        }
+    }
+
+    /// Keeps what arrived on a side.
+    pub fn receive(&mut self, side: Side, arrived: Arrived, frame: &FrameBuf)
+        requires { frame.now.rate ≡ self.old.west.frame.rate }
+        ensures { self.new ≡ at_side side (arrived_on arrived frame.now) self.old }
+    {
+        match side {
+            Side::West => self.west.receive(arrived, frame),
+            Side::East => self.east.receive(arrived, frame),
+        }
+    }
+
+    /// Both sides take what arrived.
+    #[tactic(auto, unfolding(crate::specs::Crossing::both_taken))]
+    pub fn take(&mut self, threshold: u16, now: Moment)
+        requires west { self.old.west.local.moment ≤ now.0 }
+        requires east { self.old.east.local.moment ≤ now.0 }
+        requires within { now.0 ≤ 1000000000 }
+        ensures cross { self.new ≡ both_taken threshold now.0 self.old }
+        ensures rate { self.new.west.frame.rate ≡ self.old.west.frame.rate }
+        ensures west { self.new.west.local.moment ≡ now.0 }
+        ensures east { self.new.east.local.moment ≡ now.0 }
+    {
+        self.west.take(threshold, now);
+        self.east.take(threshold, now);
+    }
+
+    /// Takes the state of this round, and tells the words that are sent.
+    #[tactic(auto, unfolding(crate::specs::Crossing::decided, crate::specs::Crossing::scene_of))]
+    pub fn decide(&mut self) -> Sent
+        ensures cross { self.new ≡ decided self.old }
+        ensures west { result.west ≡ word (scene_of self.old) West }
+        ensures east { result.east ≡ word (scene_of self.old) East }
+        ensures spellable { SendsSpellable result }
+        ensures rate { self.new.west ≡ self.old.west }
+    {
+        let needs = Needs {
+            west: self.west.request(),
+            east: self.east.request(),
+            west_fails: self.west.fails(),
+            east_fails: self.east.fails(),
+        };
+        let heard = Heard {
+            west: self.west.heard(),
+            east: self.east.heard(),
+        };
+        let shape = shape_of(&self.state);
+        let old = std::mem::replace(&mut self.state, start());
+        let (state, sent) = step(old, &self.map, self.at, needs, heard);
+        self.moved = !same_shape(shape_of(&state), shape);
+        self.state = state;
+        sent
+    }
+
+    /// All interpreters read.
+    #[tactic(auto, unfolding(crate::specs::Crossing::both_interpreted))]
+    pub fn interpret(&mut self)
+        ensures cross { self.new ≡ both_interpreted self.old }
+        ensures rate { self.new.west.frame.rate ≡ self.old.west.frame.rate }
+        ensures west { self.new.west.local ≡ self.old.west.local }
+        ensures east { self.new.east.local ≡ self.old.east.local }
+    {
+        self.west.interpret();
+        self.east.interpret();
+    }
+
+    /// The state.
+    pub fn state(&self) -> &NodeState
+        ensures { result.now ≡ self.now.state }
+    {
+        &self.state
+    }
+
+    /// Whether the last round changed the state.
+    pub fn moved(&self) -> bool
+        ensures { result ≡ self.now.moved }
+    {
+        self.moved
+    }
+
+    /// The side that receives.
+    pub fn receiver(&self, side: Side) -> &Receiver
+        ensures side { result.now ≡ on_side self.now side }
+        ensures rate { result.now.frame.rate ≡ self.now.west.frame.rate }
+    {
+        match side {
+            Side::West => &self.west,
+            Side::East => &self.east,
+        }
+    }
+
+    /// Half of N.
+    pub fn half(&self) -> u16
+        ensures half { result ≡ half_of self.now }
+        ensures few { result ≤ 8 }
+        ensures twice { 2 * result ≡ n_of self.now.west.frame.rate }
+    {
+        half_of(self.west.frame().rate())
+    }
+
+    /// Where an AU-4 that leaves on a side comes from, and its slot: AU-4s up to half of N are the working slots, and
+    /// those above it the protection slots.
+    pub fn leaving(&self, side: Side, au: u16) -> (u16, Origin)
+        requires first { 1 ≤ au }
+        requires last { au ≤ n_of self.now.west.frame.rate }
+        ensures slot { result.0 ≡ slot_of self.now au }
+        ensures origin { result.1 ≡ leaving self.now side au }
+        ensures first { 1 ≤ result.0 }
+        ensures last { result.0 ≤ half_of self.now }
+    {
+        let half = self.half();
+        if au <= half {
+            let slot = Slot(au as u8);
+            (au, working_origin(&self.state, &self.map, &self.table, self.at, side, slot))
+        } else {
+            let slot = Slot((au - half) as u8);
+            (au - half, protection_origin(&self.state, &self.map, &self.table, self.at, side, slot))
+        }
+    }
+
+    /// Delivers what the working arrival of a slot from a side stands for.
+    #[tactic(auto, unfolding(crate::specs::Crossing::dropped_at))]
+    pub fn deliver(&self, side: Side, slot: Slot, outlet: &mut Outlet, scratch: &mut [u8])
+        requires first { 1 ≤ slot.0 }
+        requires last { slot.0 ≤ half_of self.now }
+        requires scratch { length scratch.old ≡ 2349 }
+        ensures outlet { outlet.new ≡ delivered_from (dropped_at self.now side slot.0) }
+        ensures scratch { length scratch.new ≡ 2349 }
+    {
+        let half = self.half();
+        let au = u16::from(slot.0);
+        match drop_origin(&self.state, &self.map, &self.table, self.at, side, slot) {
+            Origin::Working(from) => self.receiver(from).deliver(au, outlet, scratch),
+            Origin::Protection(from) => self.receiver(from).deliver(half + au, outlet, scratch),
+            Origin::Add(_) | Origin::Ais => outlet.silence(),
+        }
+    }
+}

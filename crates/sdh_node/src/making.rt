@@ -1,0 +1,42 @@
+//! The memory of a new node.
+ghost use Rattle.std.specs.Prelude.{◌≡◌, ◌≤◌, IfOk, length, replicate};
+ghost use Rattle.sdh_node.specs.Node.{new_interpreter, new_generator};
+
+use sdh_pointer::{Action, Gen, Interp};
+use std::alloc::{AllocError, Global};
+
+/// So many interpreters that have read nothing.
+pub fn new_interpreters(alloc: Global, count: usize) -> Result<Vec<Interp>, AllocError>
+    ensures { IfOk result (λ v. v.items ≡ replicate count new_interpreter) }
+{
+    let mut interps = Vec::with_capacity(alloc, count)?;
+    for i in 0..count {
+        interps.push(Interp::new())?;
+    }
+    Ok(interps)
+}
+
+/// So many actions of interpreters that have read nothing.
+pub fn no_actions(alloc: Global, count: usize) -> Result<Vec<Action>, AllocError>
+    ensures { IfOk result (λ v. v.items ≡ replicate count Action.Ais) }
+{
+    Ok(vec![in alloc; Action::Ais; count]?)
+}
+
+/// So many generators that have sent nothing.
+pub fn new_generators(alloc: Global, count: usize) -> Result<Vec<Gen>, AllocError>
+    ensures { IfOk result (λ v. v.items ≡ replicate count new_generator) }
+{
+    let mut generators = Vec::with_capacity(alloc, count)?;
+    for i in 0..count {
+        generators.push(Gen::new())?;
+    }
+    Ok(generators)
+}
+
+/// Room for the payload of an AU-4.
+pub fn room(alloc: Global) -> Result<Vec<u8>, AllocError>
+    ensures { IfOk result (λ v. length v.items ≡ 2349) }
+{
+    Ok(vec![in alloc; 0; 2349]?)
+}

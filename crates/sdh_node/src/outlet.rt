@@ -1,0 +1,88 @@
+//! What a port delivers.
+ghost use Rattle.std.specs.Prelude.{◌≡◌, ◌≤◌, length, IfOk};
+ghost use Rattle.sdh_payload.specs.Chunk.{taken};
+ghost use Rattle.sdh_node.specs.Outlets.{Outlet, silent};
+
+use sdh_payload::{Cells, ChunkForm, take_chunk};
+use std::alloc::{AllocError, Global};
+use std::marker::Model;
+
+/// What a port delivers in a round: AIS, or the bytes of its AU-4.
+#[derive(Drop)]
+pub enum Delivered {
+    Ais,
+    Chunk(Cells),
+}
+
+/// What a port delivers, and the value of the interpreter through which it came. The memory of a chunk is kept while
+/// AIS is delivered.
+#[derive(Drop)]
+pub struct Outlet {
+    chunk: Delivered,
+    ais: Delivered,
+    is_here: bool,
+    value: u16,
+}
+
+impl Model for Outlet {
+    ghost use Rattle.std.specs.Prelude.{◌≡◌, ◌≤◌, if◌then◌else◌};
+    ghost use Rattle.sdh_node.specs.Outlets.{Outlet, IsChunk};
+    ghost use Rattle.sdh_node.specs.declared.outlet.Delivered.TheVariants.{Ais};
+
+    ghost Value = { Outlet };
+
+    ghost view = { λ o. record { delivered = if o.is_here then o.chunk else Ais; value = o.value } };
+
+    ghost invariant = { λ o. IsChunk o.chunk × (o.ais ≡ Ais) × (o.value ≤ 782) };
+}
+
+impl Outlet {
+    /// AIS, with room for a chunk.
+    pub fn try_new(alloc: Global) -> Result<Outlet, AllocError>
+        ensures { IfOk result (λ outlet. outlet ≡ silent) }
+    {
+        Ok(Outlet {
+            chunk: Delivered::Chunk(Cells::try_new(alloc)?),
+            ais: Delivered::Ais,
+            is_here: false,
+            value: 0,
+        })
+    }
+
+    /// What is delivered.
+    pub fn delivered(&self) -> &Delivered
+        ensures { result.now ≡ self.now.delivered }
+    {
+        if self.is_here { &self.chunk } else { &self.ais }
+    }
+
+    /// The value of the interpreter through which it came, 0 with AIS.
+    pub fn value(&self) -> u16
+        ensures value { result ≡ self.now.value }
+        ensures small { result ≤ 782 }
+    {
+        self.value
+    }
+
+    /// Delivers AIS.
+    pub fn silence(&mut self)
+        ensures { self.new ≡ silent }
+    {
+        self.is_here = false;
+        self.value = 0;
+    }
+
+    /// Delivers the bytes of an AU-4.
+    pub fn deliver(&mut self, payload: &[u8], h3: &[u8], form: ChunkForm, value: u16)
+        requires payload { length payload.now ≡ 2349 }
+        requires h3 { length h3.now ≡ 3 }
+        requires value { value ≤ 782 }
+        ensures { self.new ≡ record { delivered = Delivered.Chunk (taken form payload.now h3.now); value = value } }
+    {
+        self.is_here = true;
+        self.value = value;
+        if let Delivered::Chunk(cells) = &mut self.chunk {
+            take_chunk(payload, h3, form, cells);
+        }
+    }
+}

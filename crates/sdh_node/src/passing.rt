@@ -1,0 +1,187 @@
+//! AU-4s that are sent.
+ghost use Rattle.std.specs.Prelude.{◌≡◌, ℕ, ◌+◌, ◌/◌, ◌%◌, ◌<◌, ◌≤◌, length};
+ghost use Rattle.sdh_frame.specs.Sizes.{n_of};
+ghost use Rattle.sdh_frame.specs.Aus.{au_of, with_au, with_aus, ones};
+ghost use Rattle.sdh_pointer.specs.Sending.{after_action};
+ghost use Rattle.sdh_node.specs.Passing.{no_input, h3_sent, pointers_with, au_with, au_for, au_sent, aus_sent, after_inputs};
+ghost use Rattle.sdh_node.specs.Tributaries.{own_input, add_input};
+ghost use Rattle.sdh_node.specs.Crossing.{received, half_of, input_of, input_at};
+
+use crate::cross::CrossConnect;
+use crate::receiver::{Receiver, h3_at};
+use crate::tributary::{Tributary, place_of};
+use sdh_bridge::Origin;
+use sdh_circuits::PortId;
+use sdh_frame::FrameBuf;
+use sdh_pointer::{Action, Form, Gen, Word, write_word};
+use sdh_ringmap::Side;
+
+// The nine pointer bytes with a word.
+fn pointers_with(word: Word, h3: [u8; 3]) -> [u8; 9]
+    ensures { result ≡ pointers_with word.0 h3 }
+{
+    let mut h = [0; 2];
+    write_word(word, &mut h);
+    [h[0], 0x9B, 0x9B, h[1], 0xFF, 0xFF, h3[0], h3[1], h3[2]]
+}
+
+// The three bytes H3 that go with a word of this form.
+fn h3_sent(form: Form, frame: &FrameBuf, au: u16) -> [u8; 3]
+    requires first { 1 ≤ au }
+    requires last { au ≤ n_of frame.now.rate }
+    ensures { result ≡ h3_sent form (au_of (n_of frame.now.rate) au frame.now.bytes).pointers }
+{
+    match form {
+        Form::Down => h3_at(frame, au),
+        Form::Normal | Form::Enabled | Form::Up | Form::Ais => [0, 0, 0],
+    }
+}
+
+// An AU-4 becomes one of another frame, with a word of this form.
+#[tactic(auto, unfolding(sdh_frame::specs::Aus::with_au))]
+fn put_with(form: Form, word: Word, from: &FrameBuf, au: u16, out: &mut FrameBuf, to: u16)
+    requires rate { from.now.rate ≡ out.old.rate }
+    requires first { 1 ≤ au }
+    requires last { au ≤ n_of out.old.rate }
+    requires to_first { 1 ≤ to }
+    requires to_last { to ≤ n_of out.old.rate }
+    ensures { out.new ≡ record out.old { bytes = with_au (n_of out.old.rate) to (au_with form word.0 (au_of (n_of out.old.rate) au from.now.bytes)) out.old.bytes } }
+{
+    let pointers = pointers_with(word, h3_sent(form, from, au));
+    out.copy_payload(to, from, au);
+    out.put_pointers(to, &pointers);
+}
+
+// An AU-4 becomes what an action makes of one of another frame.
+fn put_for(
+    action: Action,
+    form: Form,
+    word: Word,
+    from: &FrameBuf,
+    au: u16,
+    out: &mut FrameBuf,
+    to: u16,
+)
+    requires rate { from.now.rate ≡ out.old.rate }
+    requires first { 1 ≤ au }
+    requires last { au ≤ n_of out.old.rate }
+    requires to_first { 1 ≤ to }
+    requires to_last { to ≤ n_of out.old.rate }
+    ensures { out.new ≡ record out.old { bytes = with_au (n_of out.old.rate) to (au_for action form word.0 (au_of (n_of out.old.rate) au from.now.bytes)) out.old.bytes } }
+{
+    match action {
+        Action::Ais => out.fill_ones(to),
+        Action::Normal | Action::New | Action::Up | Action::Down => put_with(
+            form, word, from, au, out, to,
+        ),
+    }
+}
+
+// Sends AIS.
+#[tactic(auto, unfolding(crate::specs::Passing::au_sent))]
+fn send_ais(generator: &mut Gen, out: &mut FrameBuf, to: u16)
+    requires to_first { 1 ≤ to }
+    requires to_last { to ≤ n_of out.old.rate }
+    ensures generator { generator.new ≡ after_action generator.old Action.Ais 0 }
+    ensures frame { out.new ≡ record out.old { bytes = with_au (n_of out.old.rate) to (au_sent generator.old.sending no_input) out.old.bytes } }
+{
+    generator.step(Action::Ais, 0);
+    out.fill_ones(to);
+}
+
+// Passes on an AU-4 that a side received.
+#[tactic(auto, unfolding(crate::specs::Passing::au_sent, sdh_pointer::specs::Sending::after_action))]
+fn pass_on(from: &Receiver, au: u16, generator: &mut Gen, out: &mut FrameBuf, to: u16)
+    requires rate { from.now.frame.rate ≡ out.old.rate }
+    requires first { 1 ≤ au }
+    requires last { au ≤ n_of out.old.rate }
+    requires to_first { 1 ≤ to }
+    requires to_last { to ≤ n_of out.old.rate }
+    ensures generator { let input = received from.now au in generator.new ≡ after_action generator.old input.action input.value }
+    ensures frame { out.new ≡ record out.old { bytes = with_au (n_of out.old.rate) to (au_sent generator.old.sending (received from.now au)) out.old.bytes } }
+{
+    let action = from.action(au);
+    let form = generator.step(action, from.value(au));
+    put_for(action, form, generator.word(), from.frame(), au, out, to);
+}
+
+// Sends the next chunk of a port.
+#[tactic(auto, using(crate::proofs::Ports::own_h3), unfolding(crate::specs::Passing::au_sent, sdh_pointer::specs::Sending::after_action, sdh_frame::specs::Aus::with_au))]
+fn send_own(port: &Tributary, generator: &mut Gen, out: &mut FrameBuf, to: u16)
+    requires to_first { 1 ≤ to }
+    requires to_last { to ≤ n_of out.old.rate }
+    ensures generator { generator.new ≡ after_action generator.old Action.Normal port.now.feed.port.offset }
+    ensures frame { out.new ≡ record out.old { bytes = with_au (n_of out.old.rate) to (au_sent generator.old.sending (own_input port.now)) out.old.bytes } }
+{
+    let form = generator.step(Action::Normal, port.offset());
+    let pointers = pointers_with(generator.word(), [0, 0, 0]);
+    out.put_payload(to, port.chunk());
+    out.put_pointers(to, &pointers);
+}
+
+// Adds the stream of the port with this name, if it is there.
+#[tactic(auto, using(crate::proofs::Ports::port_found, crate::proofs::Ports::port_missing))]
+fn add(id: PortId, ports: &[Tributary], generator: &mut Gen, out: &mut FrameBuf, to: u16)
+    requires to_first { 1 ≤ to }
+    requires to_last { to ≤ n_of out.old.rate }
+    ensures generator { let input = add_input id ports.now in generator.new ≡ after_action generator.old input.action input.value }
+    ensures frame { out.new ≡ record out.old { bytes = with_au (n_of out.old.rate) to (au_sent generator.old.sending (add_input id ports.now)) out.old.bytes } }
+{
+    match place_of(ports, id) {
+        Some(i) => {
+            let port = &ports[i];
+            send_own(port, generator, out, to);
+        }
+        None => send_ais(generator, out, to),
+    }
+}
+
+// Sends one AU-4.
+fn send_one(
+    cross: &CrossConnect,
+    ports: &[Tributary],
+    slot: u16,
+    origin: Origin,
+    generator: &mut Gen,
+    out: &mut FrameBuf,
+    to: u16,
+)
+    requires rate { cross.now.west.frame.rate ≡ out.old.rate }
+    requires first { 1 ≤ slot }
+    requires last { slot ≤ half_of cross.now }
+    requires to_first { 1 ≤ to }
+    requires to_last { to ≤ n_of out.old.rate }
+    ensures generator { let input = input_of cross.now ports.now slot origin in generator.new ≡ after_action generator.old input.action input.value }
+    ensures frame { out.new ≡ record out.old { bytes = with_au (n_of out.old.rate) to (au_sent generator.old.sending (input_of cross.now ports.now slot origin)) out.old.bytes } }
+{
+    let half = cross.half();
+    match origin {
+        Origin::Add(id) => add(id, ports, generator, out, to),
+        Origin::Working(side) => pass_on(cross.receiver(side), slot, generator, out, to),
+        Origin::Protection(side) => pass_on(cross.receiver(side), half + slot, generator, out, to),
+        Origin::Ais => send_ais(generator, out, to),
+    }
+}
+
+/// All generators of a side send.
+pub fn send_all(
+    cross: &CrossConnect,
+    ports: &[Tributary],
+    side: Side,
+    generators: &mut Vec<Gen>,
+    out: &mut FrameBuf,
+)
+    requires rate { cross.now.west.frame.rate ≡ out.old.rate }
+    requires few { n_of out.old.rate ≤ 16 }
+    requires len { length generators.old.items ≡ n_of out.old.rate }
+    ensures generators { generators.new.items ≡ after_inputs (input_at cross.now ports.now side) generators.old.items }
+    ensures frame { out.new ≡ record out.old { bytes = with_aus (n_of out.old.rate) 1 (aus_sent (input_at cross.now ports.now side) generators.old.items) out.old.bytes } }
+    ensures len { length generators.new.items ≡ n_of out.old.rate }
+{
+    for k in 0..generators.len() {
+        let to = k as u16 + 1;
+        let (slot, origin) = cross.leaving(side, to);
+        let generator = &mut generators[k];
+        send_one(cross, ports, slot, origin, generator, out, to);
+    }
+}

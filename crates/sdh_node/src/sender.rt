@@ -1,0 +1,107 @@
+//! One side that sends.
+ghost use Rattle.std.specs.Prelude.{◌≡◌, ◌≤◌, IfOk, length};
+ghost use Rattle.std.specs.List.{list_any};
+ghost use Rattle.sdh_frame.specs.Sizes.{n_of, size_of};
+ghost use Rattle.sdh_nodestate.specs.Words.{IsSpellable};
+ghost use Rattle.sdh_pointer.specs.Sending.{Generator};
+ghost use Rattle.sdh_node.specs.Crossing.{input_at};
+ghost use Rattle.sdh_node.specs.Sending.{with_word, frame_from, sent_from, is_steady_out};
+ghost use Rattle.sdh_node.specs.Node.{new_sending};
+
+use crate::cross::CrossConnect;
+use crate::making::new_generators;
+use crate::passing::send_all;
+use crate::same::same_word;
+use crate::settings::Settings;
+use crate::tributary::Tributary;
+use sdh_frame::FrameBuf;
+use sdh_kbytes::{K, encode};
+use sdh_overhead::{Section, write_section};
+use sdh_pointer::Gen;
+use sdh_ringmap::Side;
+use std::alloc::{AllocError, Global};
+use std::marker::Model;
+
+/// One side that sends: the section, the generators and the word.
+#[derive(Drop)]
+pub struct Sender {
+    section: Section,
+    generators: Vec<Gen>,
+    word: K,
+    moved: bool,
+}
+
+impl Model for Sender {
+    ghost use Rattle.sdh_node.specs.Sending.{Sending, IsSending};
+
+    ghost Value = { Sending };
+
+    ghost view = { λ s. record { section = s.section; generators = s.generators.items; word = s.word; moved = s.moved } };
+
+    ghost invariant = { λ s. IsSending (record { section = s.section; generators = s.generators.items; word = s.word; moved = s.moved }) };
+}
+
+// Whether the last step of one of these moved it.
+fn any_moved(generators: &[Gen]) -> bool
+    ensures { result ≡ list_any (λ (g : Generator). g.moved) generators.now }
+{
+    generators.iter().any(|generator| generator.moved())
+}
+
+impl Sender {
+    /// A side that has sent nothing, with the word that it would send. All its memory is taken here.
+    pub fn try_new(alloc: Global, settings: Settings, word: K) -> Result<Sender, AllocError>
+        requires { IsSpellable word }
+        ensures { IfOk result (λ s. s ≡ new_sending settings word) }
+    {
+        Ok(Sender {
+            section: Section::try_new(settings.rate),
+            generators: new_generators(alloc, settings.rate.n())?,
+            word,
+            moved: false,
+        })
+    }
+
+    /// Takes the word of the next frame.
+    pub fn say(&mut self, word: K)
+        requires { IsSpellable word }
+        ensures { self.new ≡ with_word word self.old }
+    {
+        self.moved = !same_word(word, self.word);
+        self.word = word;
+    }
+
+    /// The word of the last frame.
+    pub fn word(&self) -> K
+        ensures word { result ≡ self.now.word }
+        ensures spellable { IsSpellable result }
+    {
+        self.word
+    }
+
+    /// Sends the next frame.
+    pub fn send(
+        &mut self,
+        cross: &CrossConnect,
+        ports: &[Tributary],
+        side: Side,
+        out: &mut FrameBuf,
+    )
+        requires rate { cross.now.west.frame.rate ≡ out.old.rate }
+        requires section { self.old.section.rate ≡ out.old.rate }
+        ensures sender { self.new ≡ sent_from (input_at cross.now ports.now side) self.old }
+        ensures frame { out.new ≡ frame_from (input_at cross.now ports.now side) self.old }
+    {
+        let _ = out.rate();
+        send_all(cross, ports, side, &mut self.generators, out);
+        let (k1, k2) = encode(self.word);
+        write_section(&mut self.section, k1, k2, out);
+    }
+
+    /// Whether the last round left the word and all generators as they were.
+    pub fn is_steady(&self) -> bool
+        ensures { result ≡ is_steady_out self.now }
+    {
+        !self.moved && !any_moved(&self.generators)
+    }
+}

@@ -1,0 +1,230 @@
+//! The ports of circuits at a node.
+ghost use Rattle.std.specs.Prelude.{◌≡◌, ℕ, ◌+◌, ◌-◌, ◌^◌, ◌<◌, ◌≤◌, ◌++◌, All, IfOk, OnOk, IfSome, length, position};
+ghost use Rattle.sdh_circuits.specs.Provisioning.{IsProvisioning};
+ghost use Rattle.sdh_payload.specs.Stream.{chunk_of};
+ghost use Rattle.sdh_node.specs.Tributaries.{new_tributary, ends_at, tributaries_at, is_port, same_end, HasPort, outlet_of, own_chunk, fed, all_fed, IsTributary};
+ghost use Rattle.sdh_node.specs.Crossing.{half_of, delivered_to, all_delivered};
+
+use crate::cross::CrossConnect;
+use crate::outlet::Outlet;
+use sdh_circuits::{Circuit, CircuitMap, End, PortId, Slot};
+use sdh_payload::{Cells, Feed, Port};
+use sdh_ringmap::{Pos, Side};
+use std::alloc::{AllocError, Global};
+use std::marker::Model;
+
+/// A port of a circuit at the node: what it sends, and what it delivers.
+#[derive(Drop)]
+pub struct Tributary {
+    port: PortId,
+    side: Side,
+    slot: Slot,
+    feed: Feed,
+    offset: u16,
+    chunk: Cells,
+    outlet: Outlet,
+}
+
+impl Model for Tributary {
+    ghost use Rattle.sdh_node.specs.Tributaries.{Tributary, IsFed};
+
+    ghost Value = { Tributary };
+
+    ghost view = { λ t. record { port = t.port; side = t.side; slot = t.slot; feed = t.feed; outlet = t.outlet } };
+
+    ghost invariant = { λ t. IsFed t.feed t.offset t.chunk };
+}
+
+// The first chunk of a port's stream.
+fn first_chunk(alloc: Global, port: &Port) -> Result<Cells, AllocError>
+    ensures chunk { IfOk result (λ cells. cells ≡ chunk_of port.now 0) }
+    ensures full { IfOk result (λ cells. length cells ≡ 2349) }
+{
+    let mut cells = Cells::try_new(alloc)?;
+    let mut feed = Feed::new(port);
+    feed.next(&mut cells);
+    Ok(cells)
+}
+
+impl Tributary {
+    /// A port that hasn't sent or delivered anything. All its memory is taken here.
+    pub fn try_new(
+        alloc: Global,
+        port: PortId,
+        side: Side,
+        slot: Slot,
+        customer: &Port,
+    ) -> Result<Tributary, AllocError>
+        ensures { IfOk result (λ t. t ≡ new_tributary port.circuit port.end side slot customer.now) }
+    {
+        Ok(Tributary {
+            port,
+            side,
+            slot,
+            feed: Feed::new(customer),
+            offset: customer.offset(),
+            chunk: first_chunk(alloc, customer)?,
+            outlet: Outlet::try_new(alloc)?,
+        })
+    }
+
+    // Whether it is this port.
+    fn is(&self, id: PortId) -> bool
+        ensures { result ≡ is_port id self.now }
+    {
+        self.port.circuit == id.circuit && same_end(self.port.end, id.end)
+    }
+
+    /// Takes the next chunk of its stream.
+    #[tactic(auto, using(crate::proofs::Ports::chunk_after))]
+    pub fn feed(&mut self)
+        requires { self.old.feed.chunks < 2 ^ 32 }
+        ensures { self.new ≡ fed self.old }
+    {
+        self.feed.next(&mut self.chunk);
+    }
+
+    /// The offset of its stream.
+    pub fn offset(&self) -> u16
+        ensures offset { result ≡ self.now.feed.port.offset }
+        ensures small { result ≤ 782 }
+    {
+        self.offset
+    }
+
+    /// The chunk of its stream that was taken last.
+    pub fn chunk(&self) -> &[u8]
+        ensures bytes { result.now ≡ own_chunk self.now.feed }
+        ensures full { length result.now ≡ 2349 }
+    {
+        self.chunk.as_slice()
+    }
+
+    /// What it delivers.
+    pub fn outlet(&self) -> &Outlet
+        ensures { result.now ≡ self.now.outlet }
+    {
+        &self.outlet
+    }
+
+    /// Delivers what the node's state leads to it.
+    pub fn deliver(&mut self, cross: &CrossConnect, scratch: &mut [u8])
+        requires first { 1 ≤ self.old.slot.0 }
+        requires last { self.old.slot.0 ≤ half_of cross.now }
+        requires scratch { length scratch.old ≡ 2349 }
+        ensures port { self.new ≡ delivered_to cross.now self.old }
+        ensures scratch { length scratch.new ≡ 2349 }
+    {
+        cross.deliver(self.side, self.slot, &mut self.outlet, scratch);
+    }
+}
+
+fn same_end(left: End, right: End) -> bool
+    ensures { result ≡ same_end left right }
+{
+    match (left, right) {
+        (End::A, End::A) | (End::B, End::B) => true,
+        (End::A, End::B) | (End::B, End::A) => false,
+    }
+}
+
+/// The place of a port among those of a node.
+pub fn place_of(ports: &[Tributary], id: PortId) -> Option<usize>
+    ensures place { result ≡ position (is_port id) ports.now }
+    ensures within { IfSome result (λ i. i < length ports.now) }
+{
+    ports.iter().position(|port| port.is(id))
+}
+
+/// What a port delivers.
+#[tactic(auto, using(crate::proofs::Ports::port_found, crate::proofs::Ports::port_missing))]
+pub fn outlet_of(ports: &[Tributary], id: PortId) -> &Outlet
+    requires { HasPort ports.now id }
+    ensures { result.now ≡ outlet_of id ports.now }
+{
+    let Some(i) = place_of(ports, id) else {
+        unreachable!()
+    };
+    let port = &ports[i];
+    port.outlet()
+}
+
+/// Each port takes the next chunk of its stream.
+pub fn feed_all(ports: &mut [Tributary])
+    requires { All (λ t. t.feed.chunks < 2 ^ 32) ports.old }
+    ensures { ports.new ≡ all_fed ports.old }
+{
+    for i in 0..ports.len() {
+        let port = &mut ports[i];
+        port.feed();
+    }
+}
+
+/// Each port delivers what the node's state leads to it.
+pub fn deliver_all(cross: &CrossConnect, ports: &mut [Tributary], scratch: &mut [u8])
+    requires slots { All (λ t. (1 ≤ t.slot.0) × (t.slot.0 ≤ half_of cross.now)) ports.old }
+    requires scratch { length scratch.old ≡ 2349 }
+    ensures ports { ports.new ≡ all_delivered cross.now ports.old }
+    ensures scratch { length scratch.new ≡ 2349 }
+{
+    for i in 0..ports.len() {
+        let port = &mut ports[i];
+        port.deliver(cross, scratch);
+    }
+}
+
+// Adds the ports of a circuit that are at a position.
+fn add_ends(
+    alloc: Global,
+    ports: &mut Vec<Tributary>,
+    at: Pos,
+    number: u8,
+    circuit: &Circuit,
+) -> Result<(), AllocError>
+    ensures { OnOk result (ports.new.items ≡ ports.old.items ++ ends_at at number circuit.now) }
+{
+    if circuit.from().0 == at.0 {
+        let id = PortId {
+            circuit: number,
+            end: End::A,
+        };
+        ports.push(Tributary::try_new(
+            alloc,
+            id,
+            Side::East,
+            circuit.slot(),
+            circuit.port(End::A),
+        )?)?;
+    }
+    if circuit.to().0 == at.0 {
+        let id = PortId {
+            circuit: number,
+            end: End::B,
+        };
+        ports.push(Tributary::try_new(
+            alloc,
+            id,
+            Side::West,
+            circuit.slot(),
+            circuit.port(End::B),
+        )?)?;
+    }
+    Ok(())
+}
+
+/// The ports of a ring's circuits that are at a position. All their memory is taken here.
+pub fn tributaries_at(
+    alloc: Global,
+    circuits: &CircuitMap,
+    at: Pos,
+) -> Result<Vec<Tributary>, AllocError>
+    ensures ports { IfOk result (λ v. v.items ≡ tributaries_at at circuits.now.circuits) }
+    ensures slots { IfOk result (λ v. All (IsTributary circuits.now.slots 0) v.items) }
+{
+    let mut ports = Vec::new(alloc);
+    for i in 0..circuits.len() {
+        let circuit = circuits.get(i as u8);
+        add_ends(alloc, &mut ports, at, i as u8, circuit)?;
+    }
+    Ok(ports)
+}
