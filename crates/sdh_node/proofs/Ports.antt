@@ -1,13 +1,15 @@
 -- Ports at a node.
-use Rattle.std.proofs.Common.{◌≡◌, ℕ, zero, suc, ◌+◌, ◌-◌, ◌<◌, ◌≤◌, Bool, true, false, cond, nat_lt, Option, Some, None, List, [], ◌∷◌, ◌++◌, length, take, get_or, replicate, inl, inr, refl, ap, sym, ◌∙◌, arith, append_assoc}
+use Rattle.std.proofs.Common.{◌≡◌, ℕ, zero, suc, ◌+◌, ◌-◌, ◌<◌, ◌≤◌, Bool, true, false, cond, nat_lt, Some, None, List, [], ◌∷◌, ◌++◌, length, take, get_or, replicate, inl, inr, refl, ap, sym, subst, ◌∙◌, arith, append_assoc}
 use Rattle.std.specs.Prelude.{◌^◌, ◌==◌, if◌then◌else◌, All, find, slice_get}
 use Rattle.std.specs.List.{position, position_or_len}
 use Rattle.std.proofs.lemmas.Bool.{cases_lt, cond_both}
 use Rattle.std.proofs.lemmas.Bool.Decides.{nat_tests}
 use Rattle.std.proofs.lemmas.List.{take_more, length-take-le, append-nil}
 use Rattle.std.proofs.lemmas.Option.{get_or_from_slice_get}
+use Rattle.std.proofs.lemmas.List.Elements.{All-nil, All-cons, All-append}
 use Rattle.std.proofs.lemmas.List.Quantifiers.{position-Some}
 use Rattle.sdh_basics.specs.Indexed.{map_from}
+use Rattle.sdh_basics.proofs.CellsLaws.{length-map_from, get_or-placed}
 use Rattle.sdh_payload.specs.Customer.{Customer}
 use Rattle.sdh_payload.specs.Stream.{chunk_of}
 use Rattle.sdh_ringmap.specs.declared.Pos.{Pos}
@@ -39,6 +41,9 @@ chunk_after p j = ap (chunk_of p) (omega arith)
 
 -- ---- the search for a port
 
+nothing : (n : ℕ) → Some n ≡ None → ⊥
+nothing n e = cc
+
 find-none : {X : Type 0} (p : X → Bool) (xs : List X) → position p xs ≡ None → find p xs ≡ None
 find-none p [] none = refl
 find-none p (x ∷ xs) none = go (p x) refl (λ rest. find-none p xs rest)
@@ -47,16 +52,14 @@ find-none p (x ∷ xs) none = go (p x) refl (λ rest. find-none p xs rest)
     go true e rec =
         let t : nat_lt 0 (suc (length xs)) ≡ true = grind (arith, nat_tests) in
         let shown : position p (x ∷ xs) ≡ cond (nat_lt 0 (suc (length xs))) (Some 0) None = rw e refl in
-        let bad : Some 0 ≡ None = sym (rw t at shown) ∙ none in
-        cc
+        absurd (nothing 0 (sym (rw t at shown) ∙ none))
     go false e rec =
         let n = position_or_len p xs in
         elim (cases_lt n (length xs)) [
           | inl under ↦
               let t : nat_lt (1 + n) (suc (length xs)) ≡ true = grind (arith, nat_tests) in
               let shown : position p (x ∷ xs) ≡ cond (nat_lt (1 + n) (suc (length xs))) (Some (1 + n)) None = rw e refl in
-              let bad : Some (1 + n) ≡ None = sym (rw t at shown) ∙ none in
-              cc
+              absurd (nothing (1 + n) (sym (rw t at shown) ∙ none))
           | inr over ↦
               let t : nat_lt n (length xs) ≡ false = grind (arith, nat_tests) in
               let rest : position p xs ≡ None = rw t refl in
@@ -81,27 +84,22 @@ port_missing id ports none = find-none (is_port id) ports none
 
 -- ---- what is true of each port
 
-placed_all : {X Y : Type 0} (P : X → Type 0) (Q : Y → Type 0) (f : ℕ → X → Y) (i : ℕ) (xs : List X) → ((k : ℕ) (x : X) → P x → Q (f k x)) → All P xs → All Q (map_from f i xs)
-placed_all P Q f i [] h all = all
-placed_all P Q f i (x ∷ xs) h all = (h i x all.0, placed_all P Q f (i + 1) xs h all.1)
-
-each : {X : Type 0} (P Q : X → Type 0) (xs : List X) → ((x : X) → P x → Q x) → All P xs → All Q xs
-each P Q [] h all = all
-each P Q (x ∷ xs) h all = (h x all.0, each P Q xs h all.1)
+placed_all : (P Q : Tributary → Type 0) (f : ℕ → Tributary → Tributary) (xs : List Tributary) → ((k : ℕ) (x : Tributary) → P x → Q (f k x)) → All P xs → All Q (map_from f 0 xs)
+placed_all P Q f xs h all = λ k d lt. (let below : k < length xs = omega (arith, length-map_from f 0 xs) in subst Q (sym (get_or-placed f xs k d d below)) (h k (get_or xs k d) (all k d below)))
 
 pub in_slots : (slots rounds : ℕ) (ports : List Tributary) → All (IsTributary slots rounds) ports → All (λ t. (1 ≤ t.slot.0) × (t.slot.0 ≤ slots)) ports
-in_slots slots rounds ports all = each (IsTributary slots rounds) (λ t. (1 ≤ t.slot.0) × (t.slot.0 ≤ slots)) ports (λ t h. (h.first, h.last)) all
+in_slots slots rounds ports all = λ k d lt. ((all k d lt).first, (all k d lt).last)
 
 pub few_chunks : (slots rounds : ℕ) (ports : List Tributary) → rounds < 2 ^ 32 → All (IsTributary slots rounds) ports → All (λ t. t.feed.chunks < 2 ^ 32) ports
-few_chunks slots rounds ports few all = each (IsTributary slots rounds) (λ t. t.feed.chunks < 2 ^ 32) ports (λ t h. omega (arith, h.chunks)) all
+few_chunks slots rounds ports few all = λ k d lt. omega (arith, (all k d lt).chunks)
 
 pub delivered_are : (x : Cross) (slots rounds : ℕ) (ports : List Tributary) → All (IsTributary slots rounds) ports → All (IsTributary slots rounds) (all_delivered x ports)
 unfolding all_delivered
-delivered_are x slots rounds ports all = placed_all (IsTributary slots rounds) (IsTributary slots rounds) (λ i t. delivered_to x t) 0 ports (λ k t h. record { first = h.first; last = h.last; chunks = h.chunks }) all
+delivered_are x slots rounds ports all = placed_all (IsTributary slots rounds) (IsTributary slots rounds) (λ i t. delivered_to x t) ports (λ k t h. record { first = h.first; last = h.last; chunks = h.chunks }) all
 
 pub fed_are : (slots rounds : ℕ) (ports : List Tributary) → All (IsTributary slots rounds) ports → All (IsTributary slots (rounds + 1)) (all_fed ports)
 unfolding all_fed
-fed_are slots rounds ports all = placed_all (IsTributary slots rounds) (IsTributary slots (rounds + 1)) (λ i t. fed t) 0 ports (λ k t h. record { first = h.first; last = h.last; chunks = ap (λ n. n + 1) h.chunks }) all
+fed_are slots rounds ports all = placed_all (IsTributary slots rounds) (IsTributary slots (rounds + 1)) (λ i t. fed t) ports (λ k t h. record { first = h.first; last = h.last; chunks = ap (λ n. n + 1) h.chunks }) all
 
 -- ---- the ports of a ring's circuits at a position
 
@@ -121,21 +119,21 @@ ends_more at circuits i c read h =
     ∙ ap (λ x. ends_from at 0 (take i circuits) ++ (ends_at at i x ++ [])) there
     ∙ ap (λ r. ends_from at 0 (take i circuits) ++ r) (append-nil (ends_at at i c))
 
-all_both : {X : Type 0} (P : X → Type 0) (xs ys : List X) → All P xs → All P ys → All P (xs ++ ys)
-all_both P [] ys a b = b
-all_both P (x ∷ xs) ys a b = (a.0, all_both P xs ys a.1 b)
-
 new_is : (slots i : ℕ) (e : End) (d : Side) (m : Slot) (p : Customer) → 1 ≤ m.0 → m.0 ≤ slots → IsTributary slots 0 (new_tributary i e d m p)
 new_is slots i e d m p low high = record { first = low; last = high; chunks = refl }
 
 ends_are : (slots : ℕ) (at : Pos) (i : ℕ) (circuits : List Provisioned) → All (IsInSlots slots) circuits → All (IsTributary slots 0) (ends_from at i circuits)
-ends_are slots at i [] all = tt
+ends_are slots at i [] all = All-nil (IsTributary slots 0)
 ends_are slots at i (c ∷ cs) all =
-    all_both (IsTributary slots 0) (ends_at at i c) (ends_from at (i + 1) cs)
-    (all_both (IsTributary slots 0) (if c.from.0 == at.0 then new_tributary i A East c.slot c.a ∷ [] else []) (if c.to.0 == at.0 then new_tributary i B West c.slot c.b ∷ [] else [])
-    (cond_both (c.from.0 == at.0) (new_tributary i A East c.slot c.a ∷ []) [] (All (IsTributary slots 0)) (λ _. (new_is slots i A East c.slot c.a all.0.from_1 all.0.small, tt)) (λ _. tt))
-    (cond_both (c.to.0 == at.0) (new_tributary i B West c.slot c.b ∷ []) [] (All (IsTributary slots 0)) (λ _. (new_is slots i B West c.slot c.b all.0.from_1 all.0.small, tt)) (λ _. tt)))
-    (ends_are slots at (i + 1) cs all.1)
+    let p = IsTributary slots 0 in
+    let here = all 0 c (omega arith) in
+    let a = new_tributary i A East c.slot c.a in
+    let b = new_tributary i B West c.slot c.b in
+    All-append p (ends_at at i c) (ends_from at (i + 1) cs)
+    (All-append p (if c.from.0 == at.0 then a ∷ [] else []) (if c.to.0 == at.0 then b ∷ [] else [])
+    (cond_both (c.from.0 == at.0) (a ∷ []) [] (All p) (λ _. All-cons p a [] (new_is slots i A East c.slot c.a here.from_1 here.small) (All-nil p)) (λ _. All-nil p))
+    (cond_both (c.to.0 == at.0) (b ∷ []) [] (All p) (λ _. All-cons p b [] (new_is slots i B West c.slot c.b here.from_1 here.small) (All-nil p)) (λ _. All-nil p)))
+    (ends_are slots at (i + 1) cs (λ k d lt. all (suc k) d (omega arith)))
 
 pub tributaries_are : (at : Pos) (p : Provisioning) → IsProvisioning p → All (IsTributary p.slots 0) (tributaries_at at p.circuits)
 unfolding tributaries_at

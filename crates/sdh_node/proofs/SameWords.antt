@@ -1,5 +1,5 @@
 -- Words with the same parts are one word.
-use Rattle.std.proofs.Common.{◌≡◌, ℕ, Bool, true, false, Option, Some, refl, ap, sym, ◌∙◌, ◌↔◌}
+use Rattle.std.proofs.Common.{◌≡◌, Bool, true, false, Some, refl, ap, sym, ◌∙◌, ◌↔◌}
 use Rattle.std.specs.Prelude.{IsTrue, ◌==◌, ◌&&◌}
 use Rattle.std.proofs.lemmas.Bool.{eqb-true, eq-eqb}
 use Rattle.sdh_kbytes.specs.declared.Code.{Code}
@@ -49,14 +49,18 @@ both false b e = absurd (cc)
 pub same_is : (a b : K) → same_word a b ≡ true → a ≡ b
 unfolding same_word
 same_is a b e =
-    let p = both _ _ e in
-    let q = both _ _ p.1 in
-    let r = both _ _ q.1 in
-    let s = both _ _ r.1 in
+    let codes = code_number a.code == code_number b.code in
+    let tos = a.to == b.to in
+    let froms = a.from == b.from in
+    let paths = path_number a.path == path_number b.path in
+    let s = both (codes && tos && froms && paths) (mark_number a.mark == mark_number b.mark) e in
+    let r = both (codes && tos && froms) paths s.0 in
+    let q = both (codes && tos) froms r.0 in
+    let p = both codes tos q.0 in
     let code : a.code ≡ b.code = code_of_number a.code b.code (eqb-true _ _ p.0) in
-    let to : a.to ≡ b.to = eqb-true _ _ q.0 in
-    let from : a.from ≡ b.from = eqb-true _ _ r.0 in
-    let path : a.path ≡ b.path = path_of_number a.path b.path (eqb-true _ _ s.0) in
+    let to : a.to ≡ b.to = eqb-true _ _ p.1 in
+    let from : a.from ≡ b.from = eqb-true _ _ q.1 in
+    let path : a.path ≡ b.path = path_of_number a.path b.path (eqb-true _ _ r.1) in
     let mark : a.mark ≡ b.mark = mark_of_number a.mark b.mark (eqb-true _ _ s.1) in
     λ i. record { code = code i; to = to i; from = from i; path = path i; mark = mark i }
 
@@ -66,10 +70,9 @@ is_same a =
     rw (eq-eqb (code_number a.code) _ refl, eq-eqb a.to _ refl, eq-eqb a.from _ refl, eq-eqb (path_number a.path) _ refl, eq-eqb (mark_number a.mark) _ refl) refl
 
 by_truth : (r s : Bool) → (IsTrue r → s ≡ true) → (s ≡ true → IsTrue r) → r ≡ s
-by_truth true true f g = refl
-by_truth true false f g = absurd (let e = f tt in cc)
-by_truth false true f g = absurd (g refl)
+by_truth true s f g = sym (f refl)
 by_truth false false f g = refl
+by_truth false true f g = let e : false ≡ true = g refl in absurd (cc)
 
 -- what tells equal words is `same_word`
 pub word_tells : (r : Bool) (a b : K) → (IsTrue r ↔ (a ≡ b)) → r ≡ same_word a b

@@ -1,8 +1,6 @@
 -- A node of the ring, and its round.
-use Rattle.std.specs.Prelude.{◌≡◌, ℕ, ◌+◌, ◌/◌, Bool, false, not, ◌&&◌, nat_le, Some, None, List, [], length, slice_index, replicate, All}
-use Rattle.sdh_frame.specs.declared.Rate.{Rate}
+use Rattle.std.specs.Prelude.{◌≡◌, ℕ, ◌+◌, ◌/◌, Bool, false, not, ◌&&◌, nat_le, None, List, [], length, slice_index, replicate, All}
 use Rattle.sdh_frame.specs.Sizes.{Frame, n_of, size_of}
-use Rattle.sdh_kbytes.specs.declared.Code.{Code}
 use Rattle.sdh_kbytes.specs.declared.Code.TheVariants.{Nr}
 use Rattle.sdh_kbytes.specs.declared.K.{K}
 use Rattle.sdh_kbytes.specs.declared.Path.TheVariants.{Short}

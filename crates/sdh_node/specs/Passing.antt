@@ -1,6 +1,6 @@
 -- What goes into an AU-4 that is sent, and what its pointer generator makes of it (pointer justification: ITU-T G.707
 -- clause 8.1).
-use Rattle.std.specs.Prelude.{ℕ, ◌+◌, ◌/◌, ◌%◌, Option, List, [], ◌∷◌, ◌++◌, slice_index}
+use Rattle.std.specs.Prelude.{ℕ, ◌+◌, ◌/◌, ◌%◌, Option, List, [], ◌∷◌, slice_index}
 use Rattle.sdh_basics.specs.Indexed.{map_from}
 use Rattle.sdh_frame.specs.Aus.{Au, ones}
 use Rattle.sdh_pointer.specs.declared.reading.Action.{Action}

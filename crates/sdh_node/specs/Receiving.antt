@@ -1,6 +1,6 @@
 -- One side of a node that receives: what the section overhead of a frame says, the defect, the word heard, the local
 -- request, and what the pointer interpreters make of the AU-4s.
-use Rattle.std.specs.Prelude.{◌≡◌, ◌≢◌, ℕ, ◌+◌, ◌*◌, ◌%◌, ◌≤◌, Bool, true, false, not, ◌&&◌, ◌==◌, nat_le, if◌then◌else◌, Option, Some, None, IfSome, List, length, slice_index, slice_index_or, replicate}
+use Rattle.std.specs.Prelude.{◌≡◌, ◌≢◌, ℕ, ◌+◌, ◌*◌, ◌%◌, ◌≤◌, Bool, true, false, not, ◌&&◌, ◌==◌, nat_le, if◌then◌else◌, Option, Some, None, IfSome, List, length, slice_index, replicate}
 use Rattle.std.specs.List.{list_any}
 use Rattle.sdh_basics.specs.Indexed.{map_from}
 use Rattle.sdh_frame.specs.declared.Rate.{Rate}
@@ -153,7 +153,6 @@ is_steady_in r = not r.moved && not (r.reads && list_any (λ (i : Interpreter). 
 
 pub record IsReceiving (r : Receiving) : Type 0 where
   pub rates : r.section.rate ≡ r.frame.rate
-  pub size : length r.frame.bytes ≡ size_of r.frame.rate
   pub interps : length r.interps ≡ n_of r.frame.rate
   pub actions : length r.actions ≡ n_of r.frame.rate
   pub never_rr : r.request ≢ Rr

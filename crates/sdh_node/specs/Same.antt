@@ -1,5 +1,5 @@
 -- When two requests, two words, two heard words and two states are the same.
-use Rattle.std.specs.Prelude.{ℕ, Bool, true, false, ◌&&◌, ◌==◌, Option, Some, None}
+use Rattle.std.specs.Prelude.{Bool, true, false, ◌&&◌, ◌==◌, Option, Some, None}
 use Rattle.sdh_kbytes.specs.KBytes.{code_number, path_number, mark_number}
 use Rattle.sdh_kbytes.specs.declared.Code.{Code}
 use Rattle.sdh_kbytes.specs.declared.K.{K}

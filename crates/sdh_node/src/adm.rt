@@ -8,7 +8,6 @@ ghost use Rattle.sdh_node.specs.Tributaries.{HasPort, outlet_of};
 ghost use Rattle.sdh_node.specs.Node.{new_node, first_word, at_receiving, after_taking, after_deciding, after_interpreting, after_delivering, after_feeding, ready, frames_of, after_sending, node_round, receiving_on, sending_on, is_calm, moment_of};
 
 use crate::cross::CrossConnect;
-use crate::making::room;
 use crate::outlet::Delivered;
 use crate::sender::Sender;
 use crate::settings::Settings;
@@ -32,21 +31,16 @@ pub struct Adm {
     ports: Vec<Tributary>,
     west_out: Sender,
     east_out: Sender,
-    scratch: Vec<u8>,
 }
 
 impl Model for Adm {
-    ghost use Rattle.std.specs.Prelude.{◌≡◌, length};
     ghost use Rattle.sdh_node.specs.Node.{Node, IsNode};
 
     ghost Value = { Node };
 
     ghost view = { λ a. record { settings = a.settings; rounds = a.rounds; cross = a.cross; ports = a.ports.items; west_out = a.west_out; east_out = a.east_out } };
 
-    ghost invariant = { λ a. record {
-      scratch : length a.scratch.items ≡ 2349;
-      node : IsNode (record { settings = a.settings; rounds = a.rounds; cross = a.cross; ports = a.ports.items; west_out = a.west_out; east_out = a.east_out });
-    } };
+    ghost invariant = { λ a. IsNode (record { settings = a.settings; rounds = a.rounds; cross = a.cross; ports = a.ports.items; west_out = a.west_out; east_out = a.east_out }) };
 }
 
 // The word to the neighbour on a side that asks for nothing.
@@ -89,7 +83,6 @@ impl Adm {
             ports: tributaries_at(alloc, circuits, at)?,
             west_out: Sender::try_new(alloc, settings, west)?,
             east_out: Sender::try_new(alloc, settings, east)?,
-            scratch: room(alloc)?,
         })
     }
 
@@ -203,17 +196,17 @@ impl Adm {
     }
 
     // What the ports deliver, in the new state.
-    #[tactic(auto, using(crate::proofs::Ports::in_slots, crate::proofs::Ports::delivered_are), unfolding(crate::specs::Node::after_delivering))]
+    #[tactic(auto, using(crate::proofs::Ports::in_slots), unfolding(crate::specs::Node::after_delivering))]
     fn deliver(&mut self)
         ensures node { self.new ≡ after_delivering self.old }
         ensures settings { self.new.settings ≡ self.old.settings }
         ensures rounds { self.new.rounds ≡ self.old.rounds }
     {
-        deliver_all(&self.cross, &mut self.ports, &mut self.scratch);
+        deliver_all(&self.cross, &mut self.ports);
     }
 
     // The next chunk of each port's stream.
-    #[tactic(auto, using(crate::proofs::Ports::few_chunks, crate::proofs::Ports::fed_are), unfolding(crate::specs::Node::after_feeding))]
+    #[tactic(auto, using(crate::proofs::Ports::few_chunks), unfolding(crate::specs::Node::after_feeding))]
     fn feed(&mut self)
         requires { self.old.rounds < 2 ^ 32 }
         ensures node { self.new ≡ after_feeding self.old }

@@ -131,7 +131,8 @@ impl CrossConnect {
         ensures west { result.west ≡ word (scene_of self.old) West }
         ensures east { result.east ≡ word (scene_of self.old) East }
         ensures spellable { SendsSpellable result }
-        ensures rate { self.new.west ≡ self.old.west }
+        ensures west_in { self.new.west ≡ self.old.west }
+        ensures east_in { self.new.east ≡ self.old.east }
     {
         let needs = Needs {
             west: self.west.request(),
@@ -218,7 +219,7 @@ impl CrossConnect {
     }
 
     /// Delivers what the working arrival of a slot from a side stands for.
-    #[tactic(auto, unfolding(crate::specs::Crossing::dropped_at))]
+    #[tactic(auto, unfolding(crate::specs::Crossing::dropped_at, crate::specs::Outlets::delivered_from))]
     pub fn deliver(&self, side: Side, slot: Slot, outlet: &mut Outlet, scratch: &mut [u8])
         requires first { 1 ≤ slot.0 }
         requires last { slot.0 ≤ half_of self.now }

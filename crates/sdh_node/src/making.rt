@@ -1,5 +1,5 @@
 //! The memory of a new node.
-ghost use Rattle.std.specs.Prelude.{◌≡◌, ◌≤◌, IfOk, length, replicate};
+ghost use Rattle.std.specs.Prelude.{◌≡◌, IfOk, replicate};
 ghost use Rattle.sdh_node.specs.Node.{new_interpreter, new_generator};
 
 use sdh_pointer::{Action, Gen, Interp};
@@ -32,11 +32,4 @@ pub fn new_generators(alloc: Global, count: usize) -> Result<Vec<Gen>, AllocErro
         generators.push(Gen::new())?;
     }
     Ok(generators)
-}
-
-/// Room for the payload of an AU-4.
-pub fn room(alloc: Global) -> Result<Vec<u8>, AllocError>
-    ensures { IfOk result (λ v. length v.items ≡ 2349) }
-{
-    Ok(vec![in alloc; 0; 2349]?)
 }

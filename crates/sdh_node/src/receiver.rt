@@ -108,10 +108,13 @@ impl Receiver {
         requires { frame.now.rate ≡ self.old.frame.rate }
         ensures { self.new ≡ arrived_on arrived frame.now self.old }
     {
-        if let Arrived::Frame = arrived {
-            self.frame.copy_from(frame);
+        match arrived {
+            Arrived::Frame => {
+                self.frame.copy_from(frame);
+                self.arrived = Some(Arrived::Frame);
+            }
+            Arrived::Dark => self.arrived = Some(Arrived::Dark),
         }
-        self.arrived = Some(arrived);
     }
 
     /// Gives the side a command.

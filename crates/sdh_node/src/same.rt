@@ -19,7 +19,6 @@ fn is_word(left: K, right: K) -> bool
     left == right
 }
 
-#[tactic(auto, using(crate::proofs::SameWords::word_tells))]
 pub fn same_word(left: K, right: K) -> bool
     ensures { result ≡ same_word left right }
 {

@@ -91,6 +91,7 @@ impl Sender {
         requires section { self.old.section.rate ≡ out.old.rate }
         ensures sender { self.new ≡ sent_from (input_at cross.now ports.now side) self.old }
         ensures frame { out.new ≡ frame_from (input_at cross.now ports.now side) self.old }
+        ensures rate { self.new.section.rate ≡ self.old.section.rate }
     {
         let _ = out.rate();
         send_all(cross, ports, side, &mut self.generators, out);

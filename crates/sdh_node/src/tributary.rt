@@ -1,6 +1,6 @@
 //! The ports of circuits at a node.
-ghost use Rattle.std.specs.Prelude.{◌≡◌, ℕ, ◌+◌, ◌-◌, ◌^◌, ◌<◌, ◌≤◌, ◌++◌, All, IfOk, OnOk, IfSome, length, position};
-ghost use Rattle.sdh_circuits.specs.Provisioning.{IsProvisioning};
+ghost use Rattle.std.specs.Prelude.{◌≡◌, ℕ, ◌+◌, ◌-◌, ◌^◌, ◌<◌, ◌≤◌, [], ◌∷◌, ◌++◌, if◌then◌else◌, All, IfOk, OnOk, IfSome, length, position};
+ghost use Rattle.sdh_circuits.specs.Provisioned.{customer_at};
 ghost use Rattle.sdh_payload.specs.Stream.{chunk_of};
 ghost use Rattle.sdh_node.specs.Tributaries.{new_tributary, ends_at, tributaries_at, is_port, same_end, HasPort, outlet_of, own_chunk, fed, all_fed, IsTributary};
 ghost use Rattle.sdh_node.specs.Crossing.{half_of, delivered_to, all_delivered};
@@ -150,9 +150,9 @@ pub fn outlet_of(ports: &[Tributary], id: PortId) -> &Outlet
 }
 
 /// Each port takes the next chunk of its stream.
-pub fn feed_all(ports: &mut [Tributary])
-    requires { All (λ t. t.feed.chunks < 2 ^ 32) ports.old }
-    ensures { ports.new ≡ all_fed ports.old }
+pub fn feed_all(ports: &mut Vec<Tributary>)
+    requires { All (λ t. t.feed.chunks < 2 ^ 32) ports.old.items }
+    ensures { ports.new.items ≡ all_fed ports.old.items }
 {
     for i in 0..ports.len() {
         let port = &mut ports[i];
@@ -160,20 +160,45 @@ pub fn feed_all(ports: &mut [Tributary])
     }
 }
 
-/// Each port delivers what the node's state leads to it.
-pub fn deliver_all(cross: &CrossConnect, ports: &mut [Tributary], scratch: &mut [u8])
-    requires slots { All (λ t. (1 ≤ t.slot.0) × (t.slot.0 ≤ half_of cross.now)) ports.old }
-    requires scratch { length scratch.old ≡ 2349 }
-    ensures ports { ports.new ≡ all_delivered cross.now ports.old }
-    ensures scratch { length scratch.new ≡ 2349 }
+// Room for the payload of an AU-4.
+fn blank_payload() -> [u8; 2349]
+    ensures { length result ≡ 2349 }
 {
+    [0; 2349]
+}
+
+/// Each port delivers what the node's state leads to it.
+pub fn deliver_all(cross: &CrossConnect, ports: &mut Vec<Tributary>)
+    requires { All (λ t. (1 ≤ t.slot.0) × (t.slot.0 ≤ half_of cross.now)) ports.old.items }
+    ensures { ports.new.items ≡ all_delivered cross.now ports.old.items }
+{
+    let mut scratch = blank_payload();
     for i in 0..ports.len() {
         let port = &mut ports[i];
-        port.deliver(cross, scratch);
+        port.deliver(cross, &mut scratch);
     }
 }
 
+// Adds a port, if it is at the node.
+fn add_end(
+    alloc: Global,
+    ports: &mut Vec<Tributary>,
+    is_here: bool,
+    port: PortId,
+    side: Side,
+    circuit: &Circuit,
+) -> Result<(), AllocError>
+    ensures { OnOk result (ports.new.items ≡ ports.old.items ++ (if is_here then new_tributary port.circuit port.end side circuit.now.slot (customer_at circuit.now port.end) ∷ [] else [])) }
+{
+    if is_here {
+        let customer = circuit.port(port.end);
+        ports.push(Tributary::try_new(alloc, port, side, circuit.slot(), customer)?)?;
+    }
+    Ok(())
+}
+
 // Adds the ports of a circuit that are at a position.
+#[tactic(auto, using(std::proofs::Common::append_assoc))]
 fn add_ends(
     alloc: Global,
     ports: &mut Vec<Tributary>,
@@ -183,33 +208,16 @@ fn add_ends(
 ) -> Result<(), AllocError>
     ensures { OnOk result (ports.new.items ≡ ports.old.items ++ ends_at at number circuit.now) }
 {
-    if circuit.from().0 == at.0 {
-        let id = PortId {
-            circuit: number,
-            end: End::A,
-        };
-        ports.push(Tributary::try_new(
-            alloc,
-            id,
-            Side::East,
-            circuit.slot(),
-            circuit.port(End::A),
-        )?)?;
-    }
-    if circuit.to().0 == at.0 {
-        let id = PortId {
-            circuit: number,
-            end: End::B,
-        };
-        ports.push(Tributary::try_new(
-            alloc,
-            id,
-            Side::West,
-            circuit.slot(),
-            circuit.port(End::B),
-        )?)?;
-    }
-    Ok(())
+    let start = PortId {
+        circuit: number,
+        end: End::A,
+    };
+    let stop = PortId {
+        circuit: number,
+        end: End::B,
+    };
+    add_end(alloc, ports, circuit.from().0 == at.0, start, Side::East, circuit)?;
+    add_end(alloc, ports, circuit.to().0 == at.0, stop, Side::West, circuit)
 }
 
 /// The ports of a ring's circuits that are at a position. All their memory is taken here.

@@ -5,8 +5,8 @@ use Rattle.sdh_node.proofs.tributary.deliver_all.Given as goal
 
 abbrev pub invariant-loop-i : goal.invariant-loop-i
 invariant-loop-i l = record {
-  done : take l.i l.ports ≡ map_from (λ i t. delivered_to l.cross t) 0 (take l.i l.initial.ports);
-  rest : drop l.i l.ports ≡ drop l.i l.initial.ports;
-  len : length l.ports ≡ length l.initial.ports;
+  done : take l.i l.ports.items ≡ map_from (λ i t. delivered_to l.cross t) 0 (take l.i l.initial.ports.items);
+  rest : drop l.i l.ports.items ≡ drop l.i l.initial.ports.items;
+  len : length l.ports.items ≡ length l.initial.ports.items;
   scratch : length l.scratch ≡ 2349;
 }

@@ -1,0 +1,17 @@
+use Rattle.std.proofs.Common.{ap, sym, subst, ◌∙◌}
+use Rattle.std.specs.Prelude.{All}
+use Rattle.sdh_node.specs.Crossing.{Cross}
+use Rattle.sdh_node.specs.Sending.{Sending}
+use Rattle.sdh_node.specs.Tributaries.{IsTributary}
+use Rattle.sdh_node.proofs.adm.Adm.try_new.Goals as goal
+
+pub invariant_of-result : goal.invariant_of-result
+invariant_of-result c =
+    let cross = c.in_ok-try_new.ensures in
+    record {
+      cross_rate = ap (λ (x : Cross). x.west.frame.rate) cross;
+      west_rate = ap (λ (s : Sending). s.section.rate) c.in_ok-try_new-2.ensures;
+      east_rate = ap (λ (s : Sending). s.section.rate) c.in_ok-try_new-3.ensures;
+      moments = ap (λ (x : Cross). x.east.local.moment) cross ∙ sym (ap (λ (x : Cross). x.west.local.moment) cross);
+      ports = subst (λ slots. All (IsTributary slots 0) c.in_ok-tributaries_at.field-0.items) c.requires.slots c.in_ok-tributaries_at.ensures.slots;
+    }
