@@ -2,3 +2,4 @@ pub mod SameWords
 pub mod Ports
 pub mod Passed
 pub mod Frames
+pub mod Rounds

@@ -10,6 +10,7 @@ use Rattle.sdh_ringmap.specs.declared.Side.{Side}
 use Rattle.sdh_ringmap.specs.declared.Side.TheVariants.{West, East}
 use Rattle.sdh_ringmap.specs.Places.{neighbour}
 use Rattle.sdh_request.specs.Kept.{kept_of}
+use Rattle.sdh_circuits.specs.declared.PortId.{PortId}
 use Rattle.sdh_circuits.specs.Provisioned.{Provisioned}
 use Rattle.sdh_squelch.specs.Table.{table_of}
 use Rattle.sdh_nodestate.specs.declared.NodeState.TheVariants as state
@@ -19,7 +20,7 @@ use Rattle.sdh_pointer.specs.Reading.{Interpreter, start}
 use Rattle.sdh_pointer.specs.Sending.{Generator}
 use Rattle.sdh_node.specs.declared.settings.Settings.{Settings}
 use Rattle.sdh_node.specs.Receiving.{Receiving, is_steady_in}
-use Rattle.sdh_node.specs.Tributaries.{Tributary, IsTributary, tributaries_at, all_fed}
+use Rattle.sdh_node.specs.Tributaries.{Tributary, HasPort, IsTributary, tributaries_at, all_fed}
 use Rattle.sdh_node.specs.Crossing.{Cross, on_side, at_side, both_taken, scene_of, decided, both_interpreted, all_delivered, input_at}
 use Rattle.sdh_node.specs.Sending.{Sending, with_word, frame_from, sent_from, is_steady_out}
 
@@ -148,6 +149,13 @@ is_calm n = nat_le 2 n.rounds && not n.cross.moved && is_steady_in n.cross.west 
 -- the last moment that was told
 abbrev pub moment_of : Node → ℕ
 moment_of n = n.cross.west.local.moment
+
+-- what a round leaves for the next one: the settings and the ports, one round more, and the moment
+pub record GoesOn (now : ℕ) (old new : Node) : Type 0 where
+  pub settings : new.settings ≡ old.settings
+  pub rounds : new.rounds ≡ old.rounds + 1
+  pub moment : moment_of new ≡ now
+  pub ports : (id : PortId) → HasPort old.ports id → HasPort new.ports id
 
 -- ---- what is true of every node
 

@@ -24,8 +24,8 @@ use Rattle.sdh_nodestate.specs.Words.{IsSpellable}
 use Rattle.sdh_pointer.specs.declared.reading.Action.{Action}
 use Rattle.sdh_pointer.specs.declared.reading.Action.TheVariants as action
 use Rattle.sdh_pointer.specs.Reading.{Interpreter, after_step, action_on}
-use Rattle.sdh_plant.specs.declared.Arrived.{Arrived}
-use Rattle.sdh_plant.specs.declared.Arrived.TheVariants as arrived
+use Rattle.sdh_plant.specs.declared.plant.Arrived.{Arrived}
+use Rattle.sdh_plant.specs.declared.plant.Arrived.TheVariants as arrived
 use Rattle.sdh_node.specs.Same.{same_code, same_heard}
 
 pub record Receiving : Type 0 where

@@ -5,7 +5,7 @@ ghost use Rattle.sdh_squelch.specs.Kept.{KeepsRing};
 ghost use Rattle.sdh_nodestate.specs.Words.{IsSpellable};
 ghost use Rattle.sdh_node.specs.Receiving.{commanded_by, arrived_on};
 ghost use Rattle.sdh_node.specs.Tributaries.{HasPort, outlet_of};
-ghost use Rattle.sdh_node.specs.Node.{new_node, first_word, at_receiving, after_taking, after_deciding, after_interpreting, after_delivering, after_feeding, ready, frames_of, after_sending, node_round, receiving_on, sending_on, is_calm, moment_of};
+ghost use Rattle.sdh_node.specs.Node.{new_node, first_word, at_receiving, after_taking, after_deciding, after_interpreting, after_delivering, after_feeding, ready, frames_of, after_sending, node_round, GoesOn, receiving_on, sending_on, is_calm, moment_of};
 
 use crate::cross::CrossConnect;
 use crate::outlet::Delivered;
@@ -88,7 +88,8 @@ impl Adm {
 
     /// Gives one side a command.
     pub fn command(&mut self, side: Side, command: Command)
-        ensures { self.new ≡ at_receiving side (commanded_by command) self.old }
+        ensures node { self.new ≡ at_receiving side (commanded_by command) self.old }
+        ensures moment { moment_of self.new ≡ moment_of self.old }
     {
         self.cross.command(side, command);
     }
@@ -96,7 +97,8 @@ impl Adm {
     /// Keeps what arrived on a side for the next `send`. A second call before it replaces the first.
     pub fn receive(&mut self, side: Side, arrived: Arrived, frame: &FrameBuf)
         requires { frame.now.rate ≡ self.old.settings.rate }
-        ensures { self.new ≡ at_receiving side (arrived_on arrived frame.now) self.old }
+        ensures node { self.new ≡ at_receiving side (arrived_on arrived frame.now) self.old }
+        ensures moment { moment_of self.new ≡ moment_of self.old }
     {
         self.cross.receive(side, arrived, frame);
     }
@@ -224,6 +226,7 @@ impl Adm {
         ensures node { self.new ≡ after_sending self.old }
         ensures west { west.new ≡ (frames_of self.old).west }
         ensures east { east.new ≡ (frames_of self.old).east }
+        ensures rates { (west.new.rate ≡ west.old.rate) × (east.new.rate ≡ east.old.rate) }
     {
         self.west_out.send(&self.cross, &self.ports, Side::West, west);
         self.east_out.send(&self.cross, &self.ports, Side::East, east);
@@ -241,6 +244,8 @@ impl Adm {
         ensures node { self.new ≡ (node_round now.0 self.old).0 }
         ensures west { west.new ≡ (node_round now.0 self.old).1.west }
         ensures east { east.new ≡ (node_round now.0 self.old).1.east }
+        ensures rates { (west.new.rate ≡ west.old.rate) × (east.new.rate ≡ east.old.rate) }
+        ensures goes_on { GoesOn now.0 self.old self.new }
     {
         self.take(now);
         self.decide();

@@ -90,7 +90,8 @@ impl CrossConnect {
 
     /// Gives one side a command.
     pub fn command(&mut self, side: Side, command: Command)
-        ensures { self.new ≡ at_side side (commanded_by command) self.old }
+        ensures cross { self.new ≡ at_side side (commanded_by command) self.old }
+        ensures moment { self.new.west.local.moment ≡ self.old.west.local.moment }
     {
         match side {
             Side::West => self.west.command(command),
@@ -101,7 +102,8 @@ impl CrossConnect {
     /// Keeps what arrived on a side.
     pub fn receive(&mut self, side: Side, arrived: Arrived, frame: &FrameBuf)
         requires { frame.now.rate ≡ self.old.west.frame.rate }
-        ensures { self.new ≡ at_side side (arrived_on arrived frame.now) self.old }
+        ensures cross { self.new ≡ at_side side (arrived_on arrived frame.now) self.old }
+        ensures moment { self.new.west.local.moment ≡ self.old.west.local.moment }
     {
         match side {
             Side::West => self.west.receive(arrived, frame),

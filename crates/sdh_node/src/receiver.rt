@@ -6,7 +6,7 @@ ghost use Rattle.sdh_kbytes.specs.KBytes.{code_number};
 ghost use Rattle.sdh_nodestate.specs.Words.{IsSpellable};
 ghost use Rattle.std.specs.List.{list_any};
 ghost use Rattle.sdh_pointer.specs.Reading.{Interpreter, after_step, action_on};
-ghost use Rattle.sdh_plant.specs.declared.Arrived.TheVariants as arrived;
+ghost use Rattle.sdh_plant.specs.declared.plant.Arrived.TheVariants as arrived;
 ghost use Rattle.sdh_node.specs.Receiving.{Found, found, found_by, took, taken, word_at, after_frame, actions_in, interpreted, commanded_by, arrived_on, is_steady_in, IsReceiving};
 ghost use Rattle.sdh_node.specs.Crossing.{received, is_failed};
 ghost use Rattle.sdh_node.specs.Passing.{h3_of};
@@ -106,7 +106,8 @@ impl Receiver {
     /// Keeps what arrived for the next round, in place of what arrived since the last one.
     pub fn receive(&mut self, arrived: Arrived, frame: &FrameBuf)
         requires { frame.now.rate ≡ self.old.frame.rate }
-        ensures { self.new ≡ arrived_on arrived frame.now self.old }
+        ensures side { self.new ≡ arrived_on arrived frame.now self.old }
+        ensures local { self.new.local ≡ self.old.local }
     {
         match arrived {
             Arrived::Frame => {

@@ -92,6 +92,7 @@ impl Sender {
         ensures sender { self.new ≡ sent_from (input_at cross.now ports.now side) self.old }
         ensures frame { out.new ≡ frame_from (input_at cross.now ports.now side) self.old }
         ensures rate { self.new.section.rate ≡ self.old.section.rate }
+        ensures out { out.new.rate ≡ out.old.rate }
     {
         let _ = out.rate();
         send_all(cross, ports, side, &mut self.generators, out);
