@@ -1,12 +1,18 @@
--- What a round leaves for the next one.
+-- What a round leaves for the next one, and what an arrival and a command keep of a node.
 use Rattle.std.proofs.Common.{◌≡◌, ℕ, ◌+◌, Bool, true, false, Some, List, [], ◌∷◌, refl, ap, ◌∙◌}
 use Rattle.std.specs.Prelude.{IsSome, find, ◌==◌, ◌&&◌}
 use Rattle.sdh_basics.specs.Indexed.{map_from}
+use Rattle.sdh_frame.specs.Sizes.{Frame}
+use Rattle.sdh_ringmap.specs.declared.Side.{Side}
+use Rattle.sdh_ringmap.specs.declared.Side.TheVariants.{West, East}
+use Rattle.sdh_request.specs.declared.Command.{Command}
+use Rattle.sdh_plant.specs.declared.plant.Arrived.{Arrived}
+use Rattle.sdh_plant.specs.declared.plant.Arrived.TheVariants as arrived
 use Rattle.sdh_circuits.specs.declared.PortId.{PortId}
-use Rattle.sdh_node.specs.Receiving.{Receiving, taken, read_by, interpreted}
+use Rattle.sdh_node.specs.Receiving.{Receiving, taken, read_by, interpreted, arrived_on, commanded_by}
 use Rattle.sdh_node.specs.Tributaries.{Tributary, same_end, is_port, port_of, HasPort, fed, all_fed}
 use Rattle.sdh_node.specs.Crossing.{Cross, both_taken, decided, both_interpreted, delivered_to, all_delivered}
-use Rattle.sdh_node.specs.Node.{Node, after_taking, after_deciding, after_interpreting, after_delivering, after_feeding, ready, after_sending, node_round, GoesOn}
+use Rattle.sdh_node.specs.Node.{Node, at_receiving, moment_of, after_taking, after_deciding, after_interpreting, after_delivering, after_feeding, ready, after_sending, node_round, GoesOn}
 
 local_read : (b : Bool) (r : Receiving) → (read_by b r).local ≡ r.local
 local_read true r = refl
@@ -45,3 +51,14 @@ round_goes_on now n = record {
   moment = moment_kept _;
   ports = λ id h. fed_has id _ (delivered_has _ id n.ports h);
 }
+
+-- ---- between rounds
+
+pub moment-arrived : (d : Side) (a : Arrived) (f : Frame) (n : Node) → moment_of (at_receiving d (arrived_on a f) n) ≡ moment_of n
+moment-arrived West arrived.Frame f n = refl
+moment-arrived West arrived.Dark f n = refl
+moment-arrived East a f n = refl
+
+pub moment-commanded : (d : Side) (c : Command) (n : Node) → moment_of (at_receiving d (commanded_by c) n) ≡ moment_of n
+moment-commanded West c n = refl
+moment-commanded East c n = refl
