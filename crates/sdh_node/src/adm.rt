@@ -1,5 +1,5 @@
 //! One multiplexer.
-ghost use Rattle.std.specs.Prelude.{◌≡◌, ◌+◌, ◌/◌, ◌^◌, ◌<◌, ◌≤◌, IfOk, All, length};
+ghost use Rattle.std.specs.Prelude.{◌≡◌, ◌+◌, ◌/◌, ◌^◌, ◌<◌, ◌≤◌, IfOk, length};
 ghost use Rattle.sdh_frame.specs.Sizes.{n_of};
 ghost use Rattle.sdh_squelch.specs.Kept.{KeepsRing};
 ghost use Rattle.sdh_nodestate.specs.Words.{IsSpellable};
@@ -228,8 +228,10 @@ impl Adm {
         ensures east { east.new ≡ (frames_of self.old).east }
         ensures rates { (west.new.rate ≡ west.old.rate) × (east.new.rate ≡ east.old.rate) }
     {
-        self.west_out.send(&self.cross, &self.ports, Side::West, west);
-        self.east_out.send(&self.cross, &self.ports, Side::East, east);
+        self.west_out
+            .send(&self.cross, &self.ports, Side::West, west);
+        self.east_out
+            .send(&self.cross, &self.ports, Side::East, east);
     }
 
     /// One round at a moment: what arrived is read, the state and the words follow, the ports deliver, and a frame goes

@@ -213,10 +213,16 @@ impl CrossConnect {
         let half = self.half();
         if au <= half {
             let slot = Slot(au as u8);
-            (au, working_origin(&self.state, &self.map, &self.table, self.at, side, slot))
+            (
+                au,
+                working_origin(&self.state, &self.map, &self.table, self.at, side, slot),
+            )
         } else {
             let slot = Slot((au - half) as u8);
-            (au - half, protection_origin(&self.state, &self.map, &self.table, self.at, side, slot))
+            (
+                au - half,
+                protection_origin(&self.state, &self.map, &self.table, self.at, side, slot),
+            )
         }
     }
 

@@ -13,7 +13,7 @@ ghost use Rattle.sdh_node.specs.Passing.{h3_of};
 ghost use Rattle.sdh_node.specs.Outlets.{chunk_form, chunk_from, delivered_from};
 ghost use Rattle.sdh_node.specs.Node.{new_receiving};
 
-use crate::making::{no_actions, new_interpreters};
+use crate::making::{new_interpreters, no_actions};
 use crate::outlet::Outlet;
 use crate::same::{same_code, same_heard};
 use crate::settings::Settings;

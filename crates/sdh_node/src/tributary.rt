@@ -216,8 +216,22 @@ fn add_ends(
         circuit: number,
         end: End::B,
     };
-    add_end(alloc, ports, circuit.from().0 == at.0, start, Side::East, circuit)?;
-    add_end(alloc, ports, circuit.to().0 == at.0, stop, Side::West, circuit)
+    add_end(
+        alloc,
+        ports,
+        circuit.from().0 == at.0,
+        start,
+        Side::East,
+        circuit,
+    )?;
+    add_end(
+        alloc,
+        ports,
+        circuit.to().0 == at.0,
+        stop,
+        Side::West,
+        circuit,
+    )
 }
 
 /// The ports of a ring's circuits that are at a position. All their memory is taken here.
