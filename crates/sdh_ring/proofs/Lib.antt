@@ -1,0 +1,5 @@
+pub mod Nodes
+pub mod Receives
+pub mod Sends
+pub mod Rings
+pub mod Windows

@@ -1,0 +1,6 @@
+use Rattle.std.proofs.Common.{arith}
+use Rattle.sdh_ring.proofs.Rings.{placed_at}
+use Rattle.sdh_ring.proofs.ring.command_at.Goals as goal
+
+pub returns : goal.returns
+returns c = placed_at _ c.args.at c.args.nodes.now.items _ c.command.new.self (omega arith) c.index_mut.ensures.value c.command.ensures.node

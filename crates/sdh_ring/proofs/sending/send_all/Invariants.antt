@@ -1,0 +1,20 @@
+use Rattle.std.proofs.Common.{◌≡◌, ◌≤◌, ◌*◌, take, drop, length, map}
+use Rattle.sdh_ring.specs.Rounds.{next, frames_of}
+use Rattle.sdh_ring.specs.Calls.{sent_first}
+use Rattle.sdh_ring.specs.Kept.{Keeps, Each}
+use Rattle.sdh_ring.proofs.sending.send_all.Given as goal
+
+abbrev pub invariant-sends : goal.invariant-sends
+invariant-sends g l =
+    let means = g.P.Plant.fibres in
+    let at = l.now.0 in
+    record {
+      fibres : means l.plant ≡ sent_first (2 * l.i) (frames_of at (take l.i l.fn.nodes.items)) (means l.fn.plant);
+      done : take l.i l.nodes.items ≡ map (next at) (take l.i l.fn.nodes.items);
+      rest : drop l.i l.nodes.items ≡ drop l.i l.fn.nodes.items;
+      len : length l.nodes.items ≡ length l.fn.nodes.items;
+      keep : Each (Keeps at) l.fn.nodes.items l.nodes.items;
+      west : l.west.rate ≡ l.fn.west.rate;
+      east : l.east.rate ≡ l.fn.east.rate;
+      later : g.P.Plant.faults l.fn.plant ≤ g.P.Plant.faults l.plant;
+    }

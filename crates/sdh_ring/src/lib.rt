@@ -1,0 +1,13 @@
+//! A ring of add-drop multiplexers: rounds of all its nodes over the fibres between them, and settle steps, which run until the
+//! ring is quiet.
+//!
+//! The round is `round` in `specs/Rounds.antt`, and where a step ends is in `specs/Quiet.antt`.
+#![tactic(auto)]
+
+mod faults;
+mod receiving;
+mod ring;
+mod sending;
+
+pub use faults::{PlantFault, SettleError};
+pub use ring::Ring;

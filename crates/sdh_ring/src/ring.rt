@@ -1,0 +1,202 @@
+//! The ring.
+ghost use Rattle.std.specs.Prelude.{◌≡◌, ◌↔◌, ℕ, ◌+◌, ◌-◌, ◌*◌, ◌/◌, ◌%◌, ◌^◌, ◌<◌, ◌≤◌, true, false, IfOk, OnOk, OnErr, Err, IsErrOf, IsTrue, All, length, slice_get, if◌then◌else◌};
+ghost use Rattle.sdh_basics.specs.Causes.{Rose};
+ghost use Rattle.sdh_frame.specs.Sizes.{n_of};
+ghost use Rattle.sdh_squelch.specs.Kept.{KeepsRing};
+ghost use Rattle.sdh_plant.specs.Fibres.{IsPrepared};
+ghost use Rattle.sdh_plant.specs.Arrivals.{Knows};
+ghost use Rattle.sdh_node.specs.Receiving.{commanded_by};
+ghost use Rattle.sdh_node.specs.Tributaries.{HasPort, outlet_of};
+ghost use Rattle.sdh_node.specs.Node.{at_receiving};
+ghost use Rattle.sdh_ring.specs.Held.{HeldRing, new_nodes, new_ring, at_place, outlet_at};
+ghost use Rattle.sdh_ring.specs.Rounds.{world, round, IsSentRound};
+ghost use Rattle.sdh_ring.specs.Quiet.{is_calm, SettlesAt, NeverSettles};
+ghost use Rattle.sdh_ring.specs.Kept.{MaySend, MayReceive};
+
+use crate::faults::{PlantFault, SettleError};
+use crate::receiving::hear;
+use crate::sending::send_all;
+use sdh_circuits::{CircuitMap, End, PortId};
+use sdh_frame::FrameBuf;
+use sdh_node::{Adm, Delivered, Settings};
+use sdh_plant::Plant;
+use sdh_request::{Command, Moment};
+use sdh_ringmap::{Pos, RingMap, Side};
+use std::alloc::{AllocError, Global};
+use std::marker::Model;
+
+/// The nodes of a ring, which run in rounds.
+#[derive(Drop)]
+pub struct Ring {
+    settings: Settings,
+    map: RingMap,
+    circuits: CircuitMap,
+    nodes: Vec<Adm>,
+    // What a node receives, and what it sends on each side.
+    arrived: FrameBuf,
+    west: FrameBuf,
+    east: FrameBuf,
+    now: Moment,
+    rounds: u64,
+    broken: bool,
+}
+
+impl Model for Ring {
+    ghost use Rattle.std.specs.Prelude.{◌≡◌};
+    ghost use Rattle.sdh_ring.specs.Held.{HeldRing};
+    ghost use Rattle.sdh_ring.specs.Kept.{IsRing};
+
+    ghost Value = { HeldRing };
+
+    ghost view = { λ a. record { settings = a.settings; ids = a.map; circuits = a.circuits; nodes = a.nodes.items; moment = a.now.0; rounds = a.rounds; broken = a.broken } };
+
+    ghost invariant = { λ a. record {
+      arrived : a.arrived.rate ≡ a.settings.rate;
+      west : a.west.rate ≡ a.settings.rate;
+      east : a.east.rate ≡ a.settings.rate;
+      ring : IsRing (record { settings = a.settings; ids = a.map; circuits = a.circuits; nodes = a.nodes.items; moment = a.now.0; rounds = a.rounds; broken = a.broken });
+    } };
+}
+
+// A new node at each position.
+#[tactic(auto, unfolding(crate::specs::Held::new_nodes))]
+fn new_nodes(
+    alloc: Global,
+    settings: Settings,
+    map: &RingMap,
+    circuits: &CircuitMap,
+) -> Result<Vec<Adm>, AllocError>
+    requires slots { circuits.now.slots ≡ n_of settings.rate / 2 }
+    requires kept { KeepsRing circuits.now map.now }
+    ensures { IfOk result (λ v. v.items ≡ new_nodes settings map.now circuits.now.circuits (length map.now)) }
+{
+    let count = map.len();
+    let mut nodes = Vec::with_capacity(alloc, count)?;
+    for i in 0..count {
+        nodes.push(Adm::try_new(alloc, settings, map, circuits, Pos(i as u8))?)?;
+    }
+    Ok(nodes)
+}
+
+// Whether the last round was calm at each node.
+fn all_calm(nodes: &[Adm]) -> bool
+    ensures { result ≡ is_calm nodes.now }
+{
+    nodes.iter().all(|node| node.calm())
+}
+
+fn command_at(nodes: &mut Vec<Adm>, at: usize, side: Side, command: Command)
+    requires { at < length nodes.old.items }
+    ensures { nodes.new.items ≡ at_place at (at_receiving side (commanded_by command)) nodes.old.items }
+{
+    nodes[at].command(side, command);
+}
+
+impl Ring {
+    /// A ring of new nodes, in which no round has run, at moment 0. All its memory is taken here.
+    pub fn try_new(
+        alloc: Global,
+        settings: Settings,
+        map: RingMap,
+        circuits: CircuitMap,
+    ) -> Result<Ring, AllocError>
+        requires slots { circuits.slots ≡ n_of settings.rate / 2 }
+        requires kept { KeepsRing circuits map }
+        ensures { IfOk result (λ ring. ring ≡ new_ring settings map circuits) }
+    {
+        let nodes = new_nodes(alloc, settings, &map, &circuits)?;
+        let arrived = FrameBuf::try_new(alloc, settings.rate)?;
+        let west = FrameBuf::try_new(alloc, settings.rate)?;
+        let east = FrameBuf::try_new(alloc, settings.rate)?;
+        Ok(Ring::of_nodes(
+            settings, map, circuits, nodes, arrived, west, east,
+        ))
+    }
+
+    // The ring of these new nodes, with the frames that they are to receive and send.
+    fn of_nodes(
+        settings: Settings,
+        map: RingMap,
+        circuits: CircuitMap,
+        nodes: Vec<Adm>,
+        arrived: FrameBuf,
+        west: FrameBuf,
+        east: FrameBuf,
+    ) -> Ring
+        requires kept { KeepsRing circuits map }
+        requires nodes { nodes.items ≡ new_nodes settings map circuits.circuits (length map) }
+        requires arrived { arrived.rate ≡ settings.rate }
+        requires west { west.rate ≡ settings.rate }
+        requires east { east.rate ≡ settings.rate }
+        ensures { result ≡ new_ring settings map circuits }
+    {
+        let _count = map.len();
+        let _circuits = circuits.len();
+        Ring {
+            settings,
+            map,
+            circuits,
+            nodes,
+            arrived,
+            west,
+            east,
+            now: Moment(0),
+            rounds: 0,
+            broken: false,
+        }
+    }
+
+    /// Gives one side of a node a command.
+    pub fn command(&mut self, at: Pos, side: Side, command: Command)
+        requires { at.0 < length self.old.ids }
+        ensures { self.new ≡ record self.old { nodes = at_place at.0 (at_receiving side (commanded_by command)) self.old.nodes } }
+    {
+        command_at(&mut self.nodes, at.0 as usize, side, command);
+    }
+
+    /// Tells the present moment, at which the next rounds run.
+    pub fn moment(&mut self, now: Moment)
+        requires later { self.old.moment ≤ now.0 }
+        requires within { now.0 ≤ 1000000000 }
+        ensures { self.new ≡ record self.old { moment = now.0 } }
+    {
+        self.now = now;
+    }
+
+    /// One round: all nodes receive, except in round 0, and then all send. It takes no memory. After a fault of the plant
+    /// the ring is broken.
+    #[tactic(auto, unfolding(crate::specs::Rounds::round))]
+    pub fn round<P: Plant>(&mut self, plant: &mut P) -> Result<(), PlantFault>
+        requires prepared { IsPrepared self.old.settings.rate (length self.old.ids) (P.fibres plant.old) }
+        requires whole { self.old.broken ≡ false }
+        requires room { self.old.rounds < 2 ^ 32 }
+        ensures ok { OnOk result (Knows (P.fibres plant.old) → world self.new (P.fibres plant.new) ≡ round (world self.old (P.fibres plant.old))) }
+
+        // Whatever arrives: a frame goes out on each fibre, and nothing else changes but the nodes.
+        ensures sent { OnOk result (IsSentRound self.old.rounds (length self.old.ids) (P.fibres plant.old) (P.fibres plant.new)) }
+        ensures held { OnOk result (self.new ≡ record self.old { nodes = self.new.nodes; rounds = self.old.rounds + 1 }) }
+        ensures prepared { OnOk result (IsPrepared self.old.settings.rate (length self.old.ids) (P.fibres plant.new)) }
+        ensures conditions { OnOk result ((P.fibres plant.new).conditions ≡ (P.fibres plant.old).conditions) }
+        ensures honest { OnOk result ((P.fibres plant.new).honest ≡ (P.fibres plant.old).honest) }
+        ensures knows { OnOk result (Knows (P.fibres plant.old) → Knows (P.fibres plant.new)) }
+        ensures size { length self.new.nodes ≡ length self.old.nodes }
+
+        // A fault breaks the ring.
+        ensures broken { OnErr result (self.new.broken ≡ true) }
+        ensures later { P.faults plant.old ≤ P.faults plant.new }
+        ensures failed { OnErr result (Rose (P.faults plant.old) (P.faults plant.new)) }
+    {
+        self.broken = true;
+        hear(self.rounds, &mut self.nodes, &mut self.arrived, plant)?;
+        send_all(
+            &mut self.nodes,
+            self.now,
+            &mut self.west,
+            &mut self.east,
+            plant,
+        )?;
+        self.broken = false;
+        self.rounds += 1;
+        Ok(())
+    }
+}
