@@ -2,4 +2,6 @@ pub mod Nodes
 pub mod Receives
 pub mod Sends
 pub mod Rings
+pub mod Owned
 pub mod Windows
+pub mod Settling

@@ -48,11 +48,11 @@ streak_complete w (suc k) m c = elim (streak_cases w k) [
 ]
 
 -- the test that the code makes
-pub window_if : (w : World) (k : ℕ) → 3 * length w.ring.nodes ≤ streak w k → (w.ring.rounds + k - 1) % 128 ≡ 0 → EndsWindow w k
-window_if w k long place = let c = streak_sound w k (3 * length w.ring.nodes) long in record { long = c.within; calm = c.each; place = place }
+pub window_if : (w : World) (k : ℕ) → 3 * length w.ring.ids ≤ streak w k → (w.ring.rounds + k - 1) % 128 ≡ 0 → EndsWindow w k
+window_if w k long place = let c = streak_sound w k (3 * length w.ring.ids) long in record { long = c.within; calm = c.each; place = place }
 
-pub window_only : (w : World) (k : ℕ) → EndsWindow w k → (3 * length w.ring.nodes ≤ streak w k) × ((w.ring.rounds + k - 1) % 128 ≡ 0)
-window_only w k e = (streak_complete w k (3 * length w.ring.nodes) (record { within = e.long; each = e.calm }), e.place)
+pub window_only : (w : World) (k : ℕ) → EndsWindow w k → (3 * length w.ring.ids ≤ streak w k) × ((w.ring.rounds + k - 1) % 128 ≡ 0)
+window_only w k e = (streak_complete w k (3 * length w.ring.ids) (record { within = e.long; each = e.calm }), e.place)
 
 pub none_more : (w : World) (k : ℕ) → ((j : ℕ) → j ≤ k → EndsWindow w j → ⊥) → (EndsWindow w (k + 1) → ⊥) → (j : ℕ) → j ≤ k + 1 → EndsWindow w j → ⊥
 none_more w k before here j h e = elim (cases_lt k j) [

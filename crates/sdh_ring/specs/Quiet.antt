@@ -21,8 +21,8 @@ IsCalm w k = is_calm (run k w).ring.nodes ≡ true
 -- a quiet window ends with the k-th round from w: it is the last of 3 n calm rounds of the step that begins with w, and
 -- its number is a multiple of 128
 pub record EndsWindow (w : World) (k : ℕ) : Type 0 where
-  pub long : 3 * length w.ring.nodes ≤ k
-  pub calm : (j : ℕ) → k < j + 3 * length w.ring.nodes → j ≤ k → IsCalm w j
+  pub long : 3 * length w.ring.ids ≤ k
+  pub calm : (j : ℕ) → k < j + 3 * length w.ring.ids → j ≤ k → IsCalm w j
   pub place : (w.ring.rounds + k - 1) % 128 ≡ 0
 
 -- the step from w ends with its k-th round, which is the first to end a window, and leaves this

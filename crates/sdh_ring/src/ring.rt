@@ -1,5 +1,5 @@
 //! The ring.
-ghost use Rattle.std.specs.Prelude.{◌≡◌, ◌↔◌, ℕ, ◌+◌, ◌-◌, ◌*◌, ◌/◌, ◌%◌, ◌^◌, ◌<◌, ◌≤◌, true, false, IfOk, OnOk, OnErr, Err, IsErrOf, IsTrue, All, length, slice_get, if◌then◌else◌};
+ghost use Rattle.std.specs.Prelude.{◌≡◌, ◌↔◌, ℕ, ◌+◌, ◌-◌, ◌*◌, ◌/◌, ◌%◌, ◌^◌, ◌<◌, ◌≤◌, true, false, Some, IfOk, OnOk, OnErr, Err, IsErrOf, IsTrue, All, length, slice_get, if◌then◌else◌};
 ghost use Rattle.sdh_basics.specs.Causes.{Rose};
 ghost use Rattle.sdh_frame.specs.Sizes.{n_of};
 ghost use Rattle.sdh_squelch.specs.Kept.{KeepsRing};
@@ -8,15 +8,14 @@ ghost use Rattle.sdh_plant.specs.Arrivals.{Knows};
 ghost use Rattle.sdh_node.specs.Receiving.{commanded_by};
 ghost use Rattle.sdh_node.specs.Tributaries.{HasPort, outlet_of};
 ghost use Rattle.sdh_node.specs.Node.{at_receiving};
-ghost use Rattle.sdh_ring.specs.Held.{HeldRing, new_nodes, new_ring, at_place, outlet_at};
+ghost use Rattle.sdh_ring.specs.Held.{new_nodes, new_ring, at_place, end_of, outlet_at};
 ghost use Rattle.sdh_ring.specs.Rounds.{world, round, IsSentRound};
 ghost use Rattle.sdh_ring.specs.Quiet.{is_calm, SettlesAt, NeverSettles};
-ghost use Rattle.sdh_ring.specs.Kept.{MaySend, MayReceive};
 
 use crate::faults::{PlantFault, SettleError};
 use crate::receiving::hear;
 use crate::sending::send_all;
-use sdh_circuits::{CircuitMap, End, PortId};
+use sdh_circuits::{Circuit, CircuitMap, End, PortId};
 use sdh_frame::FrameBuf;
 use sdh_node::{Adm, Delivered, Settings};
 use sdh_plant::Plant;
@@ -36,7 +35,7 @@ pub struct Ring {
     arrived: FrameBuf,
     west: FrameBuf,
     east: FrameBuf,
-    now: Moment,
+    present: Moment,
     rounds: u64,
     broken: bool,
 }
@@ -48,13 +47,13 @@ impl Model for Ring {
 
     ghost Value = { HeldRing };
 
-    ghost view = { λ a. record { settings = a.settings; ids = a.map; circuits = a.circuits; nodes = a.nodes.items; moment = a.now.0; rounds = a.rounds; broken = a.broken } };
+    ghost view = { λ a. record { settings = a.settings; ids = a.map; circuits = a.circuits; nodes = a.nodes.items; moment = a.present.0; rounds = a.rounds; broken = a.broken } };
 
     ghost invariant = { λ a. record {
       arrived : a.arrived.rate ≡ a.settings.rate;
       west : a.west.rate ≡ a.settings.rate;
       east : a.east.rate ≡ a.settings.rate;
-      ring : IsRing (record { settings = a.settings; ids = a.map; circuits = a.circuits; nodes = a.nodes.items; moment = a.now.0; rounds = a.rounds; broken = a.broken });
+      ring : IsRing (record { settings = a.settings; ids = a.map; circuits = a.circuits; nodes = a.nodes.items; moment = a.present.0; rounds = a.rounds; broken = a.broken });
     } };
 }
 
@@ -90,6 +89,16 @@ fn command_at(nodes: &mut Vec<Adm>, at: usize, side: Side, command: Command)
     ensures { nodes.new.items ≡ at_place at (at_receiving side (commanded_by command)) nodes.old.items }
 {
     nodes[at].command(side, command);
+}
+
+// The position of a circuit's port.
+fn end_of(circuit: &Circuit, end: End) -> Pos
+    ensures { result ≡ end_of circuit.now end }
+{
+    match end {
+        End::A => circuit.from(),
+        End::B => circuit.to(),
+    }
 }
 
 impl Ring {
@@ -140,7 +149,7 @@ impl Ring {
             arrived,
             west,
             east,
-            now: Moment(0),
+            present: Moment(0),
             rounds: 0,
             broken: false,
         }
@@ -160,7 +169,7 @@ impl Ring {
         requires within { now.0 ≤ 1000000000 }
         ensures { self.new ≡ record self.old { moment = now.0 } }
     {
-        self.now = now;
+        self.present = now;
     }
 
     /// One round: all nodes receive, except in round 0, and then all send. It takes no memory. After a fault of the plant
@@ -190,7 +199,7 @@ impl Ring {
         hear(self.rounds, &mut self.nodes, &mut self.arrived, plant)?;
         send_all(
             &mut self.nodes,
-            self.now,
+            self.present,
             &mut self.west,
             &mut self.east,
             plant,
@@ -198,5 +207,134 @@ impl Ring {
         self.broken = false;
         self.rounds += 1;
         Ok(())
+    }
+}
+
+// Settle steps.
+impl Ring {
+    // The calm rounds that the last round ends, where it was after so many.
+    fn calm_rounds(&self, calm: u32) -> u32
+        requires { calm + 1 < 2 ^ 32 }
+        ensures { result ≡ (if is_calm self.now.nodes then calm + 1 else 0) }
+    {
+        if all_calm(self.nodes.as_slice()) {
+            calm + 1
+        } else {
+            0
+        }
+    }
+
+    // Whether a quiet window ends now, where the last round ends so many calm ones.
+    fn is_over(&self, calm: u32) -> bool
+        requires { 0 < self.now.rounds }
+        ensures { IsTrue result ↔ ((3 * length self.now.ids ≤ calm) × ((self.now.rounds - 1) % 128 ≡ 0)) }
+    {
+        calm as usize >= 3 * self.map.len() && (self.rounds - 1) % 128 == 0
+    }
+
+    /// Runs rounds until one ends a quiet window, which is `3 * n` calm rounds of this step whose last number is a multiple
+    /// of 128, at most `limit` of them. It takes no memory.
+    pub fn settle<P: Plant>(&mut self, plant: &mut P, limit: u32) -> Result<(), SettleError>
+        requires prepared { IsPrepared self.old.settings.rate (length self.old.ids) (P.fibres plant.old) }
+        requires whole { self.old.broken ≡ false }
+        requires some { 1 ≤ limit }
+        requires few { limit ≤ 65536 }
+        requires room { self.old.rounds + limit ≤ 2 ^ 32 }
+        ensures ok { OnOk result (Knows (P.fibres plant.old) → (k : ℕ) × SettlesAt (world self.old (P.fibres plant.old)) limit k (world self.new (P.fibres plant.new))) }
+        ensures unsettled { result ≡ Err SettleError.Unsettled → Knows (P.fibres plant.old) → NeverSettles (world self.old (P.fibres plant.old)) limit (world self.new (P.fibres plant.new)) }
+
+        // Whatever arrives: so many rounds, and nothing else changes but the nodes.
+        ensures most { self.new.broken ≡ false → self.new.rounds ≤ self.old.rounds + limit }
+        ensures all { result ≡ Err SettleError.Unsettled → self.new.rounds ≡ self.old.rounds + limit }
+        ensures held { self.new.broken ≡ false → self.new ≡ record self.old { nodes = self.new.nodes; rounds = self.new.rounds } }
+        ensures whole { result ≡ Err SettleError.Unsettled → self.new.broken ≡ false }
+        ensures prepared { self.new.broken ≡ false → IsPrepared self.old.settings.rate (length self.old.ids) (P.fibres plant.new) }
+        ensures conditions { self.new.broken ≡ false → (P.fibres plant.new).conditions ≡ (P.fibres plant.old).conditions }
+        ensures honest { self.new.broken ≡ false → (P.fibres plant.new).honest ≡ (P.fibres plant.old).honest }
+
+        // A fault breaks the ring.
+        ensures ended { OnOk result (self.new.broken ≡ false) }
+        ensures broken { result ≡ Err SettleError.PlantFault → self.new.broken ≡ true }
+        ensures later { P.faults plant.old ≤ P.faults plant.new }
+        ensures failed { result ≡ Err SettleError.PlantFault → Rose (P.faults plant.old) (P.faults plant.new) }
+    {
+        let mut calm = 0u32;
+        'rounds: for _turn in 0..limit {
+            self.round(plant)?;
+            calm = self.calm_rounds(calm);
+            if self.is_over(calm) {
+                return Ok(());
+            }
+        }
+        Err(SettleError::Unsettled)
+    }
+}
+
+// What the ring lends.
+impl Ring {
+    // The node where a port of a circuit is.
+    #[tactic(auto, unfolding(crate::specs::Held::outlet_at))]
+    fn node_of(&self, port: PortId) -> &Adm
+        requires { port.circuit < length self.now.circuits.circuits }
+        ensures port { HasPort result.now.ports port }
+        ensures outlet { outlet_at self.now port ≡ outlet_of port result.now.ports }
+    {
+        let at = end_of(self.circuits.get(port.circuit), port.end);
+        &self.nodes[at.0 as usize]
+    }
+
+    /// What a port of a circuit delivered in the last round, and AIS before the first.
+    pub fn port(&self, port: PortId) -> &Delivered
+        requires { port.circuit < length self.now.circuits.circuits }
+        ensures { result.now ≡ (outlet_at self.now port).delivered }
+    {
+        self.node_of(port).delivered(port)
+    }
+
+    /// The value of the interpreter through which a port's chunk came, and 0 where it delivers AIS.
+    pub fn value(&self, port: PortId) -> u16
+        requires { port.circuit < length self.now.circuits.circuits }
+        ensures value { result ≡ (outlet_at self.now port).value }
+        ensures small { result ≤ 782 }
+    {
+        self.node_of(port).value(port)
+    }
+
+    /// How many rounds have run, so that the last one has the number before it.
+    pub fn rounds(&self) -> u64
+        ensures { result ≡ self.now.rounds }
+    {
+        self.rounds
+    }
+
+    /// The nodes' identifiers.
+    pub fn map(&self) -> &RingMap
+        requires { self.now.broken ≡ false }
+        ensures { result.now ≡ self.now.ids }
+    {
+        &self.map
+    }
+
+    /// The circuits.
+    pub fn circuits(&self) -> &CircuitMap
+        requires { self.now.broken ≡ false }
+        ensures { result.now ≡ self.now.circuits }
+    {
+        &self.circuits
+    }
+
+    /// The node at a position.
+    pub fn node(&self, at: Pos) -> &Adm
+        requires { at.0 < length self.now.ids }
+        ensures { slice_get self.now.nodes at.0 ≡ Some result.now }
+    {
+        &self.nodes[at.0 as usize]
+    }
+
+    /// Whether a fault of the plant broke a round off.
+    pub fn is_broken(&self) -> bool
+        ensures { result ≡ self.now.broken }
+    {
+        self.broken
     }
 }

@@ -17,7 +17,7 @@ invariant_of-self c =
       arrived = inv.arrived;
       west = inv.west;
       east = inv.east;
-      ring = ring_with _ new c.self.inside.now.0 c.self.inside.rounds c.self.inside.broken inv.ring len inv.ring.moment
+      ring = ring_with _ new c.self.inside.present.0 c.self.inside.rounds c.self.inside.broken inv.ring len inv.ring.moment
           (at_after_stays c.self.inside.settings _ _ old new len each inv.ring.nodes)
           (λ whole. run_after_stays _ old new len each (inv.ring.rounds whole));
     }

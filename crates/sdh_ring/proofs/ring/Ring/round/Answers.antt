@@ -31,16 +31,16 @@ invariant_of-self-2 g c =
       arrived = c.hear.ensures.rate ∙ inv.arrived;
       west = c.send_all.ensures.west ∙ inv.west;
       east = c.send_all.ensures.east ∙ inv.east;
-      ring = ring_with _ new c.self.inside.now.0 (c.self.inside.rounds + 1) _ inv.ring (c.send_all.ensures.len ∙ c.hear.ensures.len) inv.ring.moment
+      ring = ring_with _ new c.self.inside.present.0 (c.self.inside.rounds + 1) _ inv.ring (c.send_all.ensures.len ∙ c.hear.ensures.len) inv.ring.moment
           (at_after_keeps c.self.inside.settings _ _ heard new c.send_all.ensures.len c.send_all.ensures.keep (at_after_stays _ _ _ old heard c.hear.ensures.len c.hear.ensures.stay inv.ring.nodes))
-          (λ _. run_after_round _ c.self.inside.now.0 old heard new c.hear.ensures.len c.hear.ensures.stay c.in_ok-send_all.ensures.nodes (inv.ring.rounds (ap (λ (r : HeldRing). r.broken) c.self.view_is ∙ c.requires.whole)));
+          (λ _. run_after_round _ c.self.inside.present.0 old heard new c.hear.ensures.len c.hear.ensures.stay c.in_ok-send_all.ensures.nodes (inv.ring.rounds (ap (λ (r : HeldRing). r.broken) c.self.view_is ∙ c.requires.whole)));
     }
 
 pub returns-clause-sent : goal.returns-clause-sent
 returns-clause-sent g c =
     let means = g.P.Plant.fibres in
     let heard = c.hear.new.nodes.items in
-    let now = c.self.inside.now.0 in
+    let now = c.self.inside.present.0 in
     let rounds = c.self.inside.rounds in
     let n = length c.self.inside.map in
     let is : IsSentRound rounds n (means c.args.plant.now) (means c.send_all.new.plant) = record {
