@@ -11,7 +11,7 @@ use Rattle.sdh_kbytes.specs.declared.Mark.TheVariants.{Idle, Bridged, BridgedSwi
 use Rattle.sdh_kbytes.specs.declared.K.{K}
 use Rattle.sdh_kbytes.specs.KBytes.{code_number, mark_number, path_number, codes, marks, code_at, mark_at, path_at, decoded, Spells, IsUnlisted}
 
-code_at-number : (c : Code) → code_at (code_number c) ≡ Some c
+pub code_at-number : (c : Code) → code_at (code_number c) ≡ Some c
 code_at-number Nr = refl
 code_at-number Rr = refl
 code_at-number Wtr = refl
@@ -20,14 +20,14 @@ code_at-number Sd = refl
 code_at-number Sf = refl
 code_at-number Fs = refl
 
-mark_at-number : (m : Mark) → mark_at (mark_number m) ≡ Some m
+pub mark_at-number : (m : Mark) → mark_at (mark_number m) ≡ Some m
 mark_at-number Idle = refl
 mark_at-number Bridged = refl
 mark_at-number BridgedSwitched = refl
 mark_at-number Rdi = refl
 mark_at-number MsAis = refl
 
-path_at-number : (p : Path) → path_at (path_number p) ≡ p
+pub path_at-number : (p : Path) → path_at (path_number p) ≡ p
 path_at-number Short = refl
 path_at-number Long = refl
 

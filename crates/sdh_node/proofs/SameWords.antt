@@ -1,50 +1,23 @@
 -- Words with the same parts are one word.
 use Rattle.std.proofs.Common.{◌≡◌, Bool, true, false, Some, refl, ap, sym, ◌∙◌, ◌↔◌}
 use Rattle.std.specs.Prelude.{IsTrue, ◌==◌, ◌&&◌}
-use Rattle.std.proofs.lemmas.Bool.{eqb-true, eq-eqb}
+use Rattle.std.proofs.lemmas.Bool.{and_parts, eqb-true, eq-eqb}
 use Rattle.sdh_kbytes.specs.declared.Code.{Code}
-use Rattle.sdh_kbytes.specs.declared.Code.TheVariants.{Nr, Rr, Wtr, Ms, Sd, Sf, Fs}
 use Rattle.sdh_kbytes.specs.declared.Path.{Path}
-use Rattle.sdh_kbytes.specs.declared.Path.TheVariants.{Short, Long}
 use Rattle.sdh_kbytes.specs.declared.Mark.{Mark}
-use Rattle.sdh_kbytes.specs.declared.Mark.TheVariants.{Idle, Bridged, BridgedSwitched, Rdi, MsAis}
 use Rattle.sdh_kbytes.specs.declared.K.{K}
 use Rattle.sdh_kbytes.specs.KBytes.{code_number, mark_number, path_number, code_at, mark_at, path_at}
+use Rattle.sdh_kbytes.proofs.Tables.{code_at-number, mark_at-number, path_at-number}
 use Rattle.sdh_node.specs.Same.{same_word}
 
-code_back : (c : Code) → code_at (code_number c) ≡ Some c
-code_back Nr = refl
-code_back Rr = refl
-code_back Wtr = refl
-code_back Ms = refl
-code_back Sd = refl
-code_back Sf = refl
-code_back Fs = refl
-
-mark_back : (m : Mark) → mark_at (mark_number m) ≡ Some m
-mark_back Idle = refl
-mark_back Bridged = refl
-mark_back BridgedSwitched = refl
-mark_back Rdi = refl
-mark_back MsAis = refl
-
-path_back : (p : Path) → path_at (path_number p) ≡ p
-path_back Short = refl
-path_back Long = refl
-
 pub code_of_number : (c d : Code) → code_number c ≡ code_number d → c ≡ d
-code_of_number c d e = let some : Some c ≡ Some d = sym (code_back c) ∙ ap code_at e ∙ code_back d in cc
+code_of_number c d e = let some : Some c ≡ Some d = sym (code_at-number c) ∙ ap code_at e ∙ code_at-number d in cc
 
 mark_of_number : (m o : Mark) → mark_number m ≡ mark_number o → m ≡ o
-mark_of_number m o e = let some : Some m ≡ Some o = sym (mark_back m) ∙ ap mark_at e ∙ mark_back o in cc
+mark_of_number m o e = let some : Some m ≡ Some o = sym (mark_at-number m) ∙ ap mark_at e ∙ mark_at-number o in cc
 
 path_of_number : (p q : Path) → path_number p ≡ path_number q → p ≡ q
-path_of_number p q e = sym (path_back p) ∙ ap path_at e ∙ path_back q
-
-both : (a b : Bool) → (a && b) ≡ true → (a ≡ true) × (b ≡ true)
-both true true e = (refl, refl)
-both true false e = absurd (cc)
-both false b e = absurd (cc)
+path_of_number p q e = sym (path_at-number p) ∙ ap path_at e ∙ path_at-number q
 
 pub same_is : (a b : K) → same_word a b ≡ true → a ≡ b
 unfolding same_word
@@ -53,10 +26,10 @@ same_is a b e =
     let tos = a.to == b.to in
     let froms = a.from == b.from in
     let paths = path_number a.path == path_number b.path in
-    let s = both (codes && tos && froms && paths) (mark_number a.mark == mark_number b.mark) e in
-    let r = both (codes && tos && froms) paths s.0 in
-    let q = both (codes && tos) froms r.0 in
-    let p = both codes tos q.0 in
+    let s = and_parts (codes && tos && froms && paths) (mark_number a.mark == mark_number b.mark) e in
+    let r = and_parts (codes && tos && froms) paths s.0 in
+    let q = and_parts (codes && tos) froms r.0 in
+    let p = and_parts codes tos q.0 in
     let code : a.code ≡ b.code = code_of_number a.code b.code (eqb-true _ _ p.0) in
     let to : a.to ≡ b.to = eqb-true _ _ p.1 in
     let from : a.from ≡ b.from = eqb-true _ _ q.1 in
