@@ -1,5 +1,5 @@
 //! One multiplexer.
-ghost use Rattle.std.specs.Prelude.{◌≡◌, ◌+◌, ◌/◌, ◌^◌, ◌<◌, ◌≤◌, IfOk, length};
+ghost use Rattle.std.specs.Prelude.{◌≡◌, ◌+◌, ◌/◌, ◌^◌, ◌<◌, ◌≤◌, IfOk, IsTrue, length};
 ghost use Rattle.sdh_frame.specs.Sizes.{n_of};
 ghost use Rattle.sdh_squelch.specs.Kept.{KeepsRing};
 ghost use Rattle.sdh_nodestate.specs.Words.{IsSpellable};
@@ -101,6 +101,14 @@ impl Adm {
         ensures moment { moment_of self.new ≡ moment_of self.old }
     {
         self.cross.receive(side, arrived, frame);
+    }
+
+    // Whether a port is at the node.
+    #[cfg(test)]
+    pub(crate) fn has(&self, port: PortId) -> bool
+        ensures { IsTrue result → HasPort self.now.ports port }
+    {
+        crate::tributary::has_port(&self.ports, port)
     }
 
     /// What a port of the node delivered in the last round, and AIS before the first.

@@ -18,3 +18,6 @@ mod tributary;
 pub use adm::Adm;
 pub use outlet::Delivered;
 pub use settings::Settings;
+
+#[cfg(test)]
+mod tests;

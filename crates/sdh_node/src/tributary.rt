@@ -1,5 +1,5 @@
 //! The ports of circuits at a node.
-ghost use Rattle.std.specs.Prelude.{◌≡◌, ℕ, ◌+◌, ◌-◌, ◌^◌, ◌<◌, ◌≤◌, [], ◌∷◌, ◌++◌, if◌then◌else◌, All, IfOk, OnOk, IfSome, length, position};
+ghost use Rattle.std.specs.Prelude.{◌≡◌, ℕ, ◌+◌, ◌-◌, ◌^◌, ◌<◌, ◌≤◌, [], ◌∷◌, ◌++◌, if◌then◌else◌, All, IsTrue, IfOk, OnOk, IfSome, length, position};
 ghost use Rattle.sdh_circuits.specs.Provisioned.{customer_at};
 ghost use Rattle.sdh_payload.specs.Stream.{chunk_of};
 ghost use Rattle.sdh_node.specs.Tributaries.{new_tributary, ends_at, tributaries_at, is_port, same_end, HasPort, outlet_of, own_chunk, fed, all_fed, IsTributary};
@@ -134,6 +134,21 @@ pub fn place_of(ports: &[Tributary], id: PortId) -> Option<usize>
     ensures within { IfSome result (λ i. i < length ports.now) }
 {
     ports.iter().position(|port| port.is(id))
+}
+
+// Whether a port is among those of a node.
+#[cfg(test)]
+#[tactic(auto, using(crate::proofs::Ports::port_found))]
+pub fn has_port(ports: &[Tributary], id: PortId) -> bool
+    ensures { IsTrue result → HasPort ports.now id }
+{
+    match place_of(ports, id) {
+        Some(i) => {
+            let _port = &ports[i];
+            true
+        }
+        None => false,
+    }
 }
 
 /// What a port delivers.

@@ -1,5 +1,5 @@
 use Rattle.std.proofs.Common.{◌≡◌, ap, sym, subst, ◌∙◌}
-use Rattle.sdh_node.specs.Node.{Node, after_taking, after_deciding, after_interpreting, after_delivering, after_feeding, ready, after_sending, node_round, GoesOn}
+use Rattle.sdh_node.specs.Node.{after_deciding, after_interpreting, after_delivering, after_feeding, ready, after_sending, node_round, GoesOn}
 use Rattle.sdh_node.proofs.Rounds.{round_goes_on}
 use Rattle.sdh_node.proofs.adm.Adm.send.Goals as goal
 

@@ -1,0 +1,234 @@
+//! Nodes of a ring of nodes 1, 2 and 3 with a circuit from node 1 to node 2 in slot 1.
+ghost use Rattle.std.specs.Prelude.{◌≡◌, ◌+◌, ◌<◌, ◌≤◌, IfSome};
+ghost use Rattle.sdh_frame.specs.Sizes.{n_of};
+ghost use Rattle.sdh_circuits.specs.declared.End.TheVariants.{B};
+ghost use Rattle.sdh_node.specs.Tributaries.{HasPort};
+ghost use Rattle.sdh_node.specs.Node.{moment_of};
+
+use super::*;
+use sdh_circuits::{Asked, CircuitMap, End, PortId};
+use sdh_frame::{FrameBuf, Place, Rate};
+use sdh_kbytes::{Code, encode};
+use sdh_nodestate::NodeState;
+use sdh_overhead::{Section, write_section};
+use sdh_plant::Arrived;
+use sdh_request::{Command, Moment};
+use sdh_ringmap::{Pos, RingMap, Side};
+use std::alloc::Global;
+use std::process::Abort;
+
+// The node at a position, which calls a side degraded at so many violations.
+#[tactic(auto, unfolding(crate::specs::Node::new_node))]
+fn made(alloc: Global, at: u8, threshold: u16) -> Option<Adm>
+    requires { at < 3 }
+    ensures rate { IfSome result (λ n. n.settings.rate ≡ Rate.Four) }
+    ensures rounds { IfSome result (λ n. n.rounds ≡ 0) }
+    ensures moment { IfSome result (λ n. moment_of n ≡ 0) }
+{
+    let map = RingMap::new(&[1, 2, 3]).ok()?;
+    let mut circuits = CircuitMap::new(alloc, 2);
+    let asked = Asked {
+        name: "c1",
+        from: 1,
+        to: 2,
+        slot: 1,
+        offset_a: 0,
+        offset_b: 0,
+        text_a: "ALPHA",
+        text_b: "BETA!",
+        trace_a: "c1",
+        trace_b: "c1",
+    };
+    circuits.add(&map, &asked).ok()?;
+    if at as usize >= map.len() {
+        return None;
+    }
+    let settings = Settings {
+        rate: Rate::Four,
+        threshold,
+        wait: 10,
+    };
+    Adm::try_new(alloc, settings, &map, &circuits, Pos(at)).ok()
+}
+
+fn node(rt: &impl Abort, alloc: Global, at: u8, threshold: u16) -> Adm
+    requires { at < 3 }
+    ensures rate { result.settings.rate ≡ Rate.Four }
+    ensures rounds { result.rounds ≡ 0 }
+    ensures moment { moment_of result ≡ 0 }
+{
+    made(alloc, at, threshold).expect(rt, "a node")
+}
+
+fn blank(rt: &impl Abort, alloc: Global) -> FrameBuf
+    ensures { result.rate ≡ Rate.Four }
+{
+    FrameBuf::try_new(alloc, Rate::Four)
+        .ok()
+        .expect(rt, "a frame")
+}
+
+// A first frame with these K bytes.
+fn framed(rt: &impl Abort, alloc: Global, k1: u8, k2: u8) -> FrameBuf
+    ensures { result.rate ≡ Rate.Four }
+{
+    let mut section = Section::try_new(Rate::Four);
+    let mut frame = blank(rt, alloc);
+    write_section(&mut section, k1, k2, &mut frame);
+    frame
+}
+
+// One round.
+fn turn(node: &mut Adm, west: &mut FrameBuf, east: &mut FrameBuf)
+    requires rate { node.old.settings.rate ≡ Rate.Four }
+    requires rounds { node.old.rounds < 100 }
+    requires moment { moment_of node.old ≡ 0 }
+    requires west { west.old.rate ≡ Rate.Four }
+    requires east { east.old.rate ≡ Rate.Four }
+    ensures rate { node.new.settings.rate ≡ Rate.Four }
+    ensures rounds { node.new.rounds ≡ node.old.rounds + 1 }
+    ensures moment { moment_of node.new ≡ 0 }
+    ensures ports { HasPort node.old.ports (record { circuit = 0; end = B }) → HasPort node.new.ports (record { circuit = 0; end = B }) }
+    ensures west { west.new.rate ≡ Rate.Four }
+    ensures east { east.new.rate ≡ Rate.Four }
+{
+    node.send(Moment(0), west, east);
+}
+
+// A frame or darkness arrives.
+fn hear(node: &mut Adm, side: Side, arrived: Arrived, frame: &FrameBuf)
+    requires rate { node.old.settings.rate ≡ Rate.Four }
+    requires moment { moment_of node.old ≡ 0 }
+    requires frame { frame.now.rate ≡ Rate.Four }
+    ensures rate { node.new.settings.rate ≡ Rate.Four }
+    ensures rounds { node.new.rounds ≡ node.old.rounds }
+    ensures moment { moment_of node.new ≡ 0 }
+    ensures ports { node.new.ports ≡ node.old.ports }
+{
+    node.receive(side, arrived, frame);
+}
+
+// The two bytes of the word sent on each side, west before east.
+fn sent(node: &Adm) -> [(u8, u8); 2] {
+    [
+        encode(node.sent_k(Side::West)),
+        encode(node.sent_k(Side::East)),
+    ]
+}
+
+#[test]
+fn a_new_node_asks_for_nothing(rt: HostRuntime) {
+    let alloc = rt.alloc();
+    let mut second = node(&rt, alloc, 1, 3);
+    let mut west = blank(&rt, alloc);
+    let mut east = blank(&rt, alloc);
+    assert!(rt; sent(&second) == [(0x01, 0x20), (0x03, 0x20)]);
+    assert!(rt; second.request(Side::West) == Code::Nr);
+    turn(&mut second, &mut west, &mut east);
+    assert!(rt; matches!(second.state(), NodeState::Idle(_)));
+    second.command(Side::East, Command::Forced);
+    turn(&mut second, &mut west, &mut east);
+    assert!(rt; second.request(Side::East) == Code::Fs);
+    assert!(rt; matches!(second.state(), NodeState::SwitchEast(_)));
+    assert!(rt; !second.calm());
+    turn(&mut second, &mut west, &mut east);
+    assert!(rt; second.calm());
+}
+
+// The frame that the third node sends west in its first round.
+fn from_third(rt: &impl Abort, alloc: Global) -> FrameBuf
+    ensures { result.rate ≡ Rate.Four }
+{
+    let mut third = node(rt, alloc, 2, 3);
+    let mut west = blank(rt, alloc);
+    let mut east = blank(rt, alloc);
+    turn(&mut third, &mut west, &mut east);
+    west
+}
+
+// What the second node sends after an honest idle frame from the third, and this frame from the west. Whether it
+// switches west then, without a far end.
+fn after_west(rt: &impl Abort, alloc: Global, frame: &FrameBuf) -> ([(u8, u8); 2], bool)
+    requires { frame.now.rate ≡ Rate.Four }
+{
+    let third = from_third(rt, alloc);
+    let mut second = node(rt, alloc, 1, 3);
+    let mut west = blank(rt, alloc);
+    let mut east = blank(rt, alloc);
+    turn(&mut second, &mut west, &mut east);
+    hear(&mut second, Side::East, Arrived::Frame, &third);
+    hear(&mut second, Side::West, Arrived::Frame, frame);
+    turn(&mut second, &mut west, &mut east);
+    let alone = match second.state() {
+        NodeState::SwitchWest(switch) => switch.far().is_none(),
+        _ => false,
+    };
+    (sent(&second), alone)
+}
+
+const SWITCHED: ([(u8, u8); 2], bool) = ([(0xb1, 0x26), (0xb1, 0x29)], true);
+
+const IDLE: ([(u8, u8); 2], bool) = ([(0x01, 0x20), (0x03, 0x20)], false);
+
+#[test]
+fn a_hostile_neighbour(rt: HostRuntime) {
+    let alloc = rt.alloc();
+    // the first byte A1 is wrong
+    let mut unframed = framed(&rt, alloc, 0x02, 0x10);
+    unframed.set(Place { row: 1, column: 1 }, 0xF7);
+    assert!(rt; after_west(&rt, alloc, &unframed) == SWITCHED);
+    // the low three bits of K2 are ones
+    assert!(rt; after_west(&rt, alloc, &framed(&rt, alloc, 0xFF, 0xFF)) == SWITCHED);
+    // the source isn't the neighbour
+    assert!(rt; after_west(&rt, alloc, &framed(&rt, alloc, 0xb2, 0x70)) == IDLE);
+    // a code that isn't used
+    assert!(rt; after_west(&rt, alloc, &framed(&rt, alloc, 0x42, 0x10)) == IDLE);
+}
+
+const PORT_B: PortId = PortId {
+    circuit: 0,
+    end: End::B,
+};
+
+// Whether a port at which the text ALPHA arrives delivers a whole chunk of it.
+fn is_alpha(delivered: &Delivered) -> bool {
+    match delivered {
+        Delivered::Ais => false,
+        Delivered::Chunk(cells) => {
+            let bytes = cells.as_slice();
+            bytes.len() == 2349 && bytes.starts_with(b"\0ALPHAALPHAALPHA")
+        }
+    }
+}
+
+// The frame that the first node sends east in its first round.
+fn from_first(rt: &impl Abort, alloc: Global) -> FrameBuf
+    ensures { result.rate ≡ Rate.Four }
+{
+    let mut first = node(rt, alloc, 0, 1000);
+    let mut west = blank(rt, alloc);
+    let mut east = blank(rt, alloc);
+    turn(&mut first, &mut west, &mut east);
+    east
+}
+
+#[test]
+fn a_port_delivers_what_the_other_sent(rt: HostRuntime) {
+    let alloc = rt.alloc();
+    let first = from_first(&rt, alloc);
+    let mut second = node(&rt, alloc, 1, 1000);
+    let mut west = blank(&rt, alloc);
+    let mut east = blank(&rt, alloc);
+    assert!(rt; second.has(PORT_B));
+    assert!(rt; matches!(second.delivered(PORT_B), Delivered::Ais));
+    hear(&mut second, Side::West, Arrived::Frame, &first);
+    turn(&mut second, &mut west, &mut east);
+    assert!(rt; is_alpha(second.delivered(PORT_B)));
+    assert!(rt; second.value(PORT_B) == 0);
+    // a second call replaces the first
+    hear(&mut second, Side::West, Arrived::Frame, &first);
+    hear(&mut second, Side::West, Arrived::Dark, &first);
+    turn(&mut second, &mut west, &mut east);
+    assert!(rt; second.request(Side::West) == Code::Sf);
+    assert!(rt; matches!(second.delivered(PORT_B), Delivered::Ais));
+}
