@@ -8,6 +8,8 @@ mod faults;
 mod receiving;
 mod ring;
 mod sending;
+#[cfg(test)]
+mod tests;
 
 pub use faults::{PlantFault, SettleError};
 pub use ring::Ring;

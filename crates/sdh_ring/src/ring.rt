@@ -117,9 +117,7 @@ impl Ring {
         let arrived = FrameBuf::try_new(alloc, settings.rate)?;
         let west = FrameBuf::try_new(alloc, settings.rate)?;
         let east = FrameBuf::try_new(alloc, settings.rate)?;
-        Ok(Ring::of_nodes(
-            settings, map, circuits, nodes, arrived, west, east,
-        ))
+        Ok(Ring::of_nodes(settings, map, circuits, nodes, arrived, west, east))
     }
 
     // The ring of these new nodes, with the frames that they are to receive and send.
