@@ -1,21 +1,18 @@
 -- What is true of a ring, call by call.
-use Rattle.std.proofs.Common.{◌≡◌, ℕ, zero, suc, ◌+◌, ◌*◌, ◌<◌, ◌≤◌, Bool, true, false, List, [], ◌∷◌, ◌++◌, length, set, get_or, map, refl, ap, sym, subst, ◌∙◌, arith}
+use Rattle.std.proofs.Common.{◌≡◌, ℕ, zero, suc, ◌+◌, ◌<◌, ◌≤◌, Bool, true, false, List, [], ◌∷◌, ◌++◌, length, set, get_or, map, refl, ap, sym, subst, ◌∙◌, arith}
 use Rattle.std.specs.Prelude.{All, ◌^◌}
 use Rattle.std.proofs.lemmas.List.Elements.{All-map}
-use Rattle.sdh_basics.specs.Cells.{cells}
-use Rattle.sdh_basics.specs.Indexed.{map_from}
-use Rattle.sdh_basics.proofs.CellsLaws.{cells-zero, cells-more, length-cells, get_or-cells, length-map_from}
+use Rattle.sdh_basics.proofs.CellsLaws.{cells-zero, cells-more, length-cells, get_or-cells}
 use Rattle.sdh_frame.specs.declared.Rate.{Rate}
 use Rattle.sdh_ringmap.specs.declared.Side.{Side}
 use Rattle.sdh_request.specs.declared.Command.{Command}
-use Rattle.sdh_circuits.specs.declared.PortId.{PortId}
 use Rattle.sdh_circuits.specs.Provisioned.{Provisioned}
 use Rattle.sdh_plant.specs.Fibres.{Fibres, IsPrepared}
 use Rattle.sdh_plant.specs.Arrivals.{Knows}
 use Rattle.sdh_node.specs.Tributaries.{HasPort}
 use Rattle.sdh_node.specs.declared.settings.Settings.{Settings}
 use Rattle.sdh_node.specs.Receiving.{commanded_by}
-use Rattle.sdh_node.specs.Node.{Node, new_node, at_receiving, moment_of}
+use Rattle.sdh_node.specs.Node.{Node, new_node, at_receiving}
 use Rattle.sdh_node.proofs.Rounds.{moment-commanded, round_goes_on}
 use Rattle.sdh_ring.specs.Held.{HeldRing, new_nodes, position, at_place}
 use Rattle.sdh_ring.specs.Rounds.{next, heard_of, IsSentRound}

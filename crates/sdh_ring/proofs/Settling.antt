@@ -1,5 +1,5 @@
 -- A settle step, round by round.
-use Rattle.std.proofs.Common.{◌≡◌, ℕ, ◌+◌, ◌*◌, ◌-◌, ◌%◌, ◌≤◌, Bool, true, false, refl, ap, sym, subst, ◌∙◌, arith, List, length}
+use Rattle.std.proofs.Common.{◌≡◌, ℕ, ◌+◌, ◌*◌, ◌-◌, ◌%◌, ◌≤◌, Bool, true, false, ap, sym, subst, ◌∙◌, arith, List, length}
 use Rattle.std.specs.Prelude.{if◌then◌else◌}
 use Rattle.sdh_plant.specs.Fibres.{Fibres, IsPrepared}
 use Rattle.sdh_node.specs.Node.{Node}

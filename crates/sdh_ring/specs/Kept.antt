@@ -1,5 +1,5 @@
 -- What is true of every ring, and what calls keep of its nodes.
-use Rattle.std.specs.Prelude.{ℕ, ◌≡◌, ◌^◌, ◌<◌, ◌≤◌, Bool, false, List, length, get_or, All}
+use Rattle.std.specs.Prelude.{ℕ, ◌≡◌, ◌^◌, ◌<◌, ◌≤◌, false, List, length, get_or, All}
 use Rattle.sdh_ringmap.specs.Ids.{AreIds}
 use Rattle.sdh_circuits.specs.declared.PortId.{PortId}
 use Rattle.sdh_circuits.specs.Provisioned.{Provisioned}

@@ -1,7 +1,5 @@
 use Rattle.std.proofs.Common.{ap, sym, subst, ◌∙◌, ◌≡◌, length}
-use Rattle.std.specs.Prelude.{All}
-use Rattle.sdh_node.specs.Node.{Node}
-use Rattle.sdh_ring.specs.Kept.{AreAt, HasRun, Stays, Each}
+use Rattle.sdh_ring.specs.Kept.{Stays, Each}
 use Rattle.sdh_ring.proofs.Rings.{at_after_stays, run_after_stays, length-placed, each_commanded, ring_with}
 use Rattle.sdh_ring.proofs.ring.Ring.command.Goals as goal
 

@@ -1,10 +1,6 @@
-use Rattle.std.proofs.Common.{◌≡◌, ◌<◌, length, get_or, Some, refl, ap, sym, subst, ◌∙◌, arith}
-use Rattle.std.specs.Prelude.{slice_get}
-use Rattle.std.specs.Option.{option_map_or}
+use Rattle.std.proofs.Common.{◌≡◌, ◌<◌, length, get_or, refl, ap, sym, subst, ◌∙◌, arith}
 use Rattle.std.proofs.lemmas.Option.{get_or_from_slice_get, slice_get_read}
-use Rattle.sdh_circuits.specs.Provisioned.{Provisioned}
 use Rattle.sdh_node.specs.Node.{Node}
-use Rattle.sdh_node.specs.Outlets.{silent}
 use Rattle.sdh_node.specs.Tributaries.{HasPort, outlet_of}
 use Rattle.sdh_ring.specs.Held.{HeldRing, end_of, outlet_at}
 use Rattle.sdh_ring.proofs.Owned.{has_own, end_inside, outlet_is}

@@ -1,4 +1,4 @@
-use Rattle.std.proofs.Common.{ap, sym, subst, ◌∙◌, ◌≡◌, length, arith}
+use Rattle.std.proofs.Common.{ap, sym, subst, ◌∙◌, length, arith}
 use Rattle.std.specs.Prelude.{All}
 use Rattle.sdh_ring.specs.Kept.{AreAt, HasRun}
 use Rattle.sdh_ring.proofs.Rings.{length-new, new_are, new_run}

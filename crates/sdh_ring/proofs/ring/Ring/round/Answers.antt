@@ -1,6 +1,5 @@
-use Rattle.std.proofs.Common.{ap, sym, subst, ◌∙◌, ◌≡◌, ◌+◌, ◌*◌, length, arith, refl}
-use Rattle.sdh_plant.specs.Fibres.{Fibres, IsPrepared}
-use Rattle.sdh_plant.specs.Arrivals.{Knows}
+use Rattle.std.proofs.Common.{ap, sym, subst, ◌∙◌, ◌≡◌, ◌+◌, ◌*◌, length}
+use Rattle.sdh_plant.specs.Fibres.{IsPrepared}
 use Rattle.sdh_ring.specs.Held.{HeldRing}
 use Rattle.sdh_ring.specs.Rounds.{frames_of, sent_all, heard_of, IsSentRound}
 use Rattle.sdh_ring.proofs.Receives.{prepared_heard}

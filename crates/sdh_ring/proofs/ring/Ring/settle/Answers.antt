@@ -1,11 +1,11 @@
-use Rattle.std.proofs.Common.{◌≡◌, ℕ, ◌+◌, ◌*◌, ◌-◌, ◌%◌, ◌≤◌, Bool, true, false, refl, ap, sym, ◌∙◌, arith, length}
+use Rattle.std.proofs.Common.{◌≡◌, ◌+◌, refl, ap, ◌∙◌, arith, length}
 use Rattle.std.proofs.lemmas.Bool.{false≢true}
 use Rattle.sdh_plant.specs.Arrivals.{Knows}
 use Rattle.sdh_ring.specs.Held.{HeldRing}
-use Rattle.sdh_ring.specs.Rounds.{World, world}
+use Rattle.sdh_ring.specs.Rounds.{world}
 use Rattle.sdh_ring.specs.Quiet.{run}
 use Rattle.sdh_ring.proofs.Windows.{run_none, streak_none, none_more}
-use Rattle.sdh_ring.proofs.Settling.{ran, counted, less_counted, tested, untested, held_none, held_more, prepared_by, prepared_back}
+use Rattle.sdh_ring.proofs.Settling.{ran, counted, less_counted, tested, untested, held_none, held_more, prepared_back}
 use Rattle.sdh_ring.proofs.ring.Ring.settle.Goals as goal
 
 pub rounds-init : goal.rounds-init

@@ -1,4 +1,4 @@
-use Rattle.std.proofs.Common.{◌≡◌, ◌≤◌, ◌+◌, ℕ, length, false}
+use Rattle.std.proofs.Common.{◌≡◌, ◌≤◌, ◌+◌, ℕ, length}
 use Rattle.sdh_plant.specs.Fibres.{IsPrepared}
 use Rattle.sdh_plant.specs.Arrivals.{Knows}
 use Rattle.sdh_ring.specs.Rounds.{world}
