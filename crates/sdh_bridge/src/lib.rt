@@ -6,7 +6,7 @@
 
 ghost use Rattle.std.specs.Prelude.{◌≡◌, ◌≤◌, ◌<◌, false, IfSome, length};
 ghost use Rattle.std.specs.Option.{option_map_or};
-ghost use Rattle.sdh_squelch.specs.Table.{row_at, is_carried};
+ghost use Rattle.sdh_squelch.specs.Table.{circuits_at, is_carried};
 ghost use Rattle.sdh_nodestate.specs.FarEnds.{far_of, IsElsewhere};
 ghost use Rattle.sdh_bridge.specs.Connections.{stands_for, leaves_working, leaves_protection};
 
@@ -33,7 +33,7 @@ fn may_carry(chain: Option<Chain>, map: &RingMap, table: &Table, side: Side, slo
     requires table { table.now.ring ≡ map.now }
     requires slot { (1 ≤ slot.0) × (slot.0 ≤ 8) }
     requires chain { IfSome chain (λ k. k.first.0 < length map.now) }
-    ensures { result ≡ option_map_or (is_carried (length map.now) (row_at table.now.rows slot.0 side)) chain false }
+    ensures { result ≡ option_map_or (is_carried (length map.now) (circuits_at (length map.now) table.now.circuits table.now.at.0 slot.0 side)) chain false }
 {
     match chain {
         Some(chain) => table.may_carry(map, side, slot, chain),
@@ -57,7 +57,7 @@ pub fn drop_origin(
     requires table { (table.now.ring ≡ map.now) × (table.now.at ≡ at) }
     requires slot { (1 ≤ slot.0) × (slot.0 ≤ 8) }
     requires far { IsElsewhere (length map.now) at.0 (far_of state.now) }
-    ensures { result ≡ stands_for (length map.now) at (row_at table.now.rows slot.0) state.now side }
+    ensures { result ≡ stands_for (length map.now) at (circuits_at (length map.now) table.now.circuits at.0 slot.0) state.now side }
 {
     match (state, side) {
         (NodeState::Isolated(_), _) => Origin::Ais,
@@ -94,7 +94,7 @@ pub fn working_origin(
     requires table { (table.now.ring ≡ map.now) × (table.now.at ≡ at) }
     requires slot { (1 ≤ slot.0) × (slot.0 ≤ 8) }
     requires far { IsElsewhere (length map.now) at.0 (far_of state.now) }
-    ensures { result ≡ leaves_working (length map.now) at (row_at table.now.rows slot.0) state.now side }
+    ensures { result ≡ leaves_working (length map.now) at (circuits_at (length map.now) table.now.circuits at.0 slot.0) state.now side }
 {
     if let NodeState::Isolated(_) = state {
         return Origin::Ais;
@@ -135,7 +135,7 @@ pub fn protection_origin(
     requires table { (table.now.ring ≡ map.now) × (table.now.at ≡ at) }
     requires slot { (1 ≤ slot.0) × (slot.0 ≤ 8) }
     requires far { IsElsewhere (length map.now) at.0 (far_of state.now) }
-    ensures { result ≡ leaves_protection (length map.now) at (row_at table.now.rows slot.0) state.now side }
+    ensures { result ≡ leaves_protection (length map.now) at (circuits_at (length map.now) table.now.circuits at.0 slot.0) state.now side }
 {
     match (state, side) {
         (NodeState::PassThrough(_), _) => Origin::Protection(side.opposite()),

@@ -11,8 +11,8 @@ use Rattle.sdh_ringmap.specs.Arcs.{holds_span}
 use Rattle.sdh_ringmap.specs.Numbering.{magnitude}
 use Rattle.sdh_circuits.specs.Naming.{is_name}
 use Rattle.sdh_circuits.specs.Provisioned.{Provisioned, arc_of}
-use Rattle.sdh_circuits.specs.Provisioning.{Provisioning, IsProvisioning, AreCircuits, IsInRing, IsInSlots}
-use Rattle.sdh_circuits.specs.Checks.{Wish, do_share, is_within, has_slot, is_free_name, circuit_of, with_circuit}
+use Rattle.sdh_circuits.specs.Provisioning.{Provisioning, IsProvisioning, AreCircuits, IsInRing, IsInSlots, HasOffsets}
+use Rattle.sdh_circuits.specs.Checks.{Wish, do_share, is_within, has_slot, has_offsets, is_free_name, circuit_of, with_circuit}
 use Rattle.sdh_circuits.proofs.Shares.{shared}
 
 pushed : {X : Type 0} (xs : List X) (x y : X) (i : ℕ) → slice_get (xs ++ x ∷ []) i ≡ Some y → (slice_get xs i ≡ Some y) ⊎ ((i ≡ length xs) × (x ≡ y))
@@ -52,11 +52,12 @@ two_places {X} R xs x old left right i j c d e f r =
     ]
 
 -- a circuit on a span where no kept one is in its slot, with a name of its own
-pub one_more : (n slots : ℕ) (circuits : List Provisioned) (c : Provisioned) → AreCircuits n slots circuits → IsInRing n c → IsInSlots slots c → is_name c.name ≡ true
+pub one_more : (n slots : ℕ) (circuits : List Provisioned) (c : Provisioned) → AreCircuits n slots circuits → IsInRing n c → IsInSlots slots c → HasOffsets c → is_name c.name ≡ true
     → list_any (λ d. bytes_eq d.name c.name) circuits ≡ false → list_any (do_share n c) circuits ≡ false → AreCircuits n slots (circuits ++ c ∷ [])
-one_more n slots circuits c are ring slot form name room = record {
+one_more n slots circuits c are ring slot small form name room = record {
   in_ring = All-push (IsInRing n) circuits c are.in_ring ring;
   in_slots = All-push (IsInSlots slots) circuits c are.in_slots slot;
+  offsets = All-push HasOffsets circuits c are.offsets small;
   named = All-push (λ d. is_name d.name ≡ true) circuits c are.named form;
   named_apart = two_places (λ a b. a.name ≡ b.name) circuits c are.named_apart
       (λ j d e same. none_at (λ k. bytes_eq k.name c.name) circuits d j name e ((bytes_eq-Decides d.name c.name).1 (sym same)))
@@ -75,6 +76,7 @@ ring_of_map None slots circuits ids is same =
     subst P (sym is.empty) (record {
       in_ring = λ k d h. absurd (omega arith);
       in_slots = λ k d h. absurd (omega arith);
+      offsets = λ k d h. absurd (omega arith);
       named = λ k d h. absurd (omega arith);
       named_apart = λ i j c d e f r. cc;
       apart = λ i j s c d e f p q r. cc;
@@ -84,30 +86,40 @@ ring_of_map (Some kept) slots circuits ids is same =
 
 -- the circuit map with one circuit more
 pub with_one_more : (p : Provisioning) (ids : List ℕ) (c : Provisioned) → IsProvisioning p → IfSome p.ring (λ kept. kept ≡ ids) → length ids ≤ 16
-    → IsInRing (length ids) c → IsInSlots p.slots c → is_name c.name ≡ true
+    → IsInRing (length ids) c → IsInSlots p.slots c → HasOffsets c → is_name c.name ≡ true
     → list_any (λ d. bytes_eq d.name c.name) p.circuits ≡ false → list_any (do_share (length ids) c) p.circuits ≡ false → IsProvisioning (with_circuit p ids c)
-with_one_more p ids c is same few ring slot form name room = record {
+with_one_more p ids c is same few ring slot small form name room = record {
   rate = is.rate;
   ring_small = few;
   empty = tt;
-  circuits = one_more (length ids) p.slots p.circuits c (ring_of_map p.ring p.slots p.circuits ids is same) ring slot form name room;
+  circuits = one_more (length ids) p.slots p.circuits c (ring_of_map p.ring p.slots p.circuits ids is same) ring slot small form name room;
 }
 
 in_slots : (slots : ℕ) (z : ℤ) → is_within 1 slots z ≡ true → (1 ≤ magnitude z) × (magnitude z ≤ slots)
 in_slots slots (pos n) e = let is = and_parts (nat_le 1 n) (nat_le n slots) e in (leb-true 1 n is.0, leb-true n slots is.1)
 in_slots slots (negsuc n) e = cc
 
+in_offsets : (z : ℤ) → is_within 0 782 z ≡ true → magnitude z ≤ 782
+in_offsets (pos n) e = leb-true n 782 (and_parts (nat_le 0 n) (nat_le n 782) e).1
+in_offsets (negsuc n) e = cc
+
 -- the circuit map with the circuit that is asked for, where its slot, its name and its spans are free
 pub fits : (p : Provisioning) (ids : List ℕ) (wish : Wish) (c : Provisioned) → IsProvisioning p → IfSome p.ring (λ kept. kept ≡ ids) → length ids ≤ 16 → IsInRing (length ids) c
-    → c ≡ circuit_of ids wish → has_slot p.slots wish ≡ true → is_free_name p.circuits wish.name ≡ true → list_any (do_share (length ids) c) p.circuits ≡ false
+    → c ≡ circuit_of ids wish → has_slot p.slots wish ≡ true → has_offsets wish ≡ true → is_free_name p.circuits wish.name ≡ true → list_any (do_share (length ids) c) p.circuits ≡ false
     → IsProvisioning (with_circuit p ids c)
-fits p ids wish c is same few ring made slot free room =
+fits p ids wish c is same few ring made slot pointers free room =
     let name = and_parts (is_name wish.name) (not (list_any (λ d. bytes_eq d.name wish.name) p.circuits)) free in
     let named : c.name ≡ wish.name = ap (λ d. d.name) made in
     let slotted : c.slot.0 ≡ magnitude wish.slot = ap (λ d. d.slot.0) made in
     let within = in_slots p.slots wish.slot slot in
+    let offsets = and_parts (is_within 0 782 wish.offset_a) (is_within 0 782 wish.offset_b) pointers in
+    let a = in_offsets wish.offset_a offsets.0 in
+    let b = in_offsets wish.offset_b offsets.1 in
+    let first : c.a.offset ≡ magnitude wish.offset_a = ap (λ d. d.a.offset) made in
+    let second : c.b.offset ≡ magnitude wish.offset_b = ap (λ d. d.b.offset) made in
     with_one_more p ids c is same few ring
     (record { from_1 = omega arith; small = omega arith })
+    (record { a = omega arith; b = omega arith })
     (ap is_name named ∙ name.0)
     (ap (λ n. list_any (λ d. bytes_eq d.name n) p.circuits) named ∙ not-true (list_any (λ d. bytes_eq d.name wish.name) p.circuits) name.1)
     room

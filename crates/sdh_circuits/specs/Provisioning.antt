@@ -28,12 +28,18 @@ pub record IsInSlots (slots : ℕ) (c : Provisioned) : Type 0 where
   pub from_1 : 1 ≤ c.slot.0
   pub small : c.slot.0 ≤ slots
 
+-- the offsets of a circuit's customers are pointer values
+pub record HasOffsets (c : Provisioned) : Type 0 where
+  pub a : c.a.offset ≤ 782
+  pub b : c.b.offset ≤ 782
+
 -- what is true of the circuits of a ring of n with so many working slots: the ends of each are two nodes of
 -- the ring, each slot is one of them, each name has its form, and no two circuits have one name, or
 -- share a span and a slot
 pub record AreCircuits (n slots : ℕ) (circuits : List Provisioned) : Type 0 where
   pub in_ring : All (IsInRing n) circuits
   pub in_slots : All (IsInSlots slots) circuits
+  pub offsets : All HasOffsets circuits
   pub named : All (λ c. is_name c.name ≡ true) circuits
   pub named_apart : (i j : ℕ) (c d : Provisioned) → slice_get circuits i ≡ Some c → slice_get circuits j ≡ Some d → c.name ≡ d.name → i ≡ j
   pub apart : AreApart n circuits

@@ -23,8 +23,10 @@ use Rattle.sdh_circuits.specs.Provisioned.{Provisioned}
 use Rattle.sdh_circuits.specs.Provisioning.{Provisioning, IsProvisioning, IsInSlots}
 use Rattle.sdh_pointer.specs.declared.word.Form.{Form}
 use Rattle.sdh_pointer.specs.declared.word.Form.TheVariants as form
-use Rattle.sdh_node.specs.Passing.{h3_sent}
-use Rattle.sdh_node.specs.Tributaries.{Tributary, new_tributary, ends_at, ends_from, tributaries_at, is_port, port_of, fed, all_fed, IsTributary}
+use Rattle.std.specs.Option.{option_map_or}
+use Rattle.sdh_pointer.specs.declared.reading.Action.TheVariants as action
+use Rattle.sdh_node.specs.Passing.{h3_sent, no_input}
+use Rattle.sdh_node.specs.Tributaries.{Tributary, new_tributary, ends_at, ends_from, tributaries_at, is_port, port_of, sent_in, input_by, adds, own_input, holds, fed, all_fed, IsTributary}
 use Rattle.sdh_node.specs.Crossing.{Cross, delivered_to, all_delivered}
 
 -- a port has nothing in H3
@@ -81,6 +83,29 @@ port_found id ports i x place read = let h = position-Some (is_port id) ports i 
 pub port_missing : (id : PortId) (ports : List Tributary) → position (is_port id) ports ≡ None → port_of id ports ≡ None
 unfolding port_of
 port_missing id ports none = find-none (is_port id) ports none
+
+-- ---- what ports send
+
+-- a port is found in a list of changed ports, where the change is none of its name
+found-mapped : {Y : Type 0} (p : Tributary → Bool) (f : ℕ → Tributary → Tributary) (g h : Tributary → Y) (d : Y) → ((k : ℕ) (t : Tributary) → p (f k t) ≡ p t) → ((k : ℕ) (t : Tributary) → g (f k t) ≡ h t)
+    → (i : ℕ) (ts : List Tributary) → option_map_or g (find p (map_from f i ts)) d ≡ option_map_or h (find p ts) d
+found-mapped p f g h d same is i [] = refl
+found-mapped p f g h d same is i (t ∷ ts) = go (p t) refl (found-mapped p f g h d same is (i + 1) ts)
+  where
+    go : (b : Bool) → p t ≡ b → option_map_or g (find p (map_from f (i + 1) ts)) d ≡ option_map_or h (find p ts) d → option_map_or g (find p (map_from f i (t ∷ ts))) d ≡ option_map_or h (find p (t ∷ ts)) d
+    go true e rest = let here : p (f i t) ≡ true = same i t ∙ e in rw (here, e) (is i t)
+    go false e rest = let here : p (f i t) ≡ false = same i t ∙ e in rw (here, e) rest
+
+holds_id : (x : Cross) (ports : List Tributary) (id : PortId) → holds (all_fed (all_delivered x ports)) id ≡ adds ports id
+unfolding all_fed all_delivered port_of sent_in
+holds_id x ports id =
+    found-mapped (is_port id) (λ i t. fed t) own_input (λ t. input_by (sent_in t.feed)) no_input (λ k t. refl)
+    (λ k t. ap (λ bytes. input_by (record { bytes = bytes; action = action.Normal; value = t.feed.port.offset })) (chunk_after t.feed.port t.feed.chunks)) 0 (map_from (λ i t. delivered_to x t) 0 ports)
+    ∙ found-mapped (is_port id) (λ i t. delivered_to x t) (λ t. input_by (sent_in t.feed)) (λ t. input_by (sent_in t.feed)) no_input (λ k t. refl) (λ k t. refl) 0 ports
+
+-- ports that have taken the chunk of the round hold what they add in it
+pub holds-adds : (x : Cross) (ports : List Tributary) → holds (all_fed (all_delivered x ports)) ≡ adds ports
+holds-adds x ports = λ i id. holds_id x ports id i
 
 -- ---- what is true of each port
 

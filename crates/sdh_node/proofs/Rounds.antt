@@ -2,25 +2,15 @@
 use Rattle.std.proofs.Common.{◌≡◌, ℕ, ◌+◌, Bool, true, false, List, [], ◌∷◌, refl, ap, ◌∙◌}
 use Rattle.std.specs.Prelude.{IsSome, find, ◌==◌, ◌&&◌}
 use Rattle.sdh_basics.specs.Indexed.{map_from}
-use Rattle.sdh_frame.specs.Sizes.{Frame}
 use Rattle.sdh_ringmap.specs.declared.Side.{Side}
 use Rattle.sdh_ringmap.specs.declared.Side.TheVariants.{West, East}
 use Rattle.sdh_request.specs.declared.Command.{Command}
-use Rattle.sdh_plant.specs.declared.plant.Arrived.{Arrived}
-use Rattle.sdh_plant.specs.declared.plant.Arrived.TheVariants as arrived
+use Rattle.sdh_plant.specs.Fibres.{Arrival}
 use Rattle.sdh_circuits.specs.declared.PortId.{PortId}
-use Rattle.sdh_node.specs.Receiving.{Receiving, taken, read_by, interpreted, arrived_on, commanded_by}
+use Rattle.sdh_node.specs.Receiving.{heard_at, taken, arrived_on, commanded_by}
 use Rattle.sdh_node.specs.Tributaries.{Tributary, same_end, is_port, port_of, HasPort, fed, all_fed}
-use Rattle.sdh_node.specs.Crossing.{Cross, both_taken, decided, both_interpreted, delivered_to, all_delivered}
-use Rattle.sdh_node.specs.Node.{Node, at_receiving, moment_of, after_taking, after_deciding, after_interpreting, after_delivering, after_feeding, ready, after_sending, node_round, GoesOn}
-
-local_read : (b : Bool) (r : Receiving) → (read_by b r).local ≡ r.local
-local_read true r = refl
-local_read false r = refl
-
-moment_kept : (r : Receiving) → (interpreted r).local.moment ≡ r.local.moment
-unfolding interpreted
-moment_kept r = ap (λ k. k.moment) (local_read r.reads r)
+use Rattle.sdh_node.specs.Crossing.{Cross, both_taken, decided, delivered_to, all_delivered}
+use Rattle.sdh_node.specs.Node.{Node, at_receiving, moment_of, turn, turned, after_turn, settled_from, node_round, GoesOn}
 
 one_more : (id : PortId) (u t : Tributary) (us ts : List Tributary) → u.port ≡ t.port → (b : Bool) → is_port id t ≡ b → (IsSome (find (is_port id) ts) → IsSome (find (is_port id) us))
     → IsSome (find (is_port id) (t ∷ ts)) → IsSome (find (is_port id) (u ∷ us))
@@ -43,21 +33,25 @@ fed_has : (id : PortId) (ports : List Tributary) → HasPort ports id → HasPor
 unfolding all_fed port_of
 fed_has id ports h = has_mapped id (λ i t. fed t) 0 ports (λ k t. refl) h
 
+-- the cross-connect of a round is what the code makes of its own
+pub turn_is : (now : ℕ) (n : Node) (x : Cross) → turn now (record n { ids = x.ids; at = x.at; circuits = x.circuits; state = x.state; west = x.west; east = x.east }) ≡ decided (both_taken n.settings.threshold now x)
+unfolding turn both_taken
+turn_is now n x = refl
+
 pub round_goes_on : (now : ℕ) (n : Node) → GoesOn now n (node_round now n).0
-unfolding node_round ready after_sending after_feeding after_delivering after_interpreting after_deciding after_taking both_taken decided both_interpreted taken
+unfolding node_round settled_from after_turn turn turned decided taken heard_at
 round_goes_on now n = record {
   settings = refl;
   rounds = refl;
-  moment = moment_kept _;
+  moment = refl;
   ports = λ id h. fed_has id _ (delivered_has _ id n.ports h);
 }
 
 -- ---- between rounds
 
-pub moment-arrived : (d : Side) (a : Arrived) (f : Frame) (n : Node) → moment_of (at_receiving d (arrived_on a f) n) ≡ moment_of n
-moment-arrived West arrived.Frame f n = refl
-moment-arrived West arrived.Dark f n = refl
-moment-arrived East a f n = refl
+pub moment-arrived : (d : Side) (a : Arrival) (n : Node) → moment_of (at_receiving d (arrived_on a) n) ≡ moment_of n
+moment-arrived West a n = refl
+moment-arrived East a n = refl
 
 pub moment-commanded : (d : Side) (c : Command) (n : Node) → moment_of (at_receiving d (commanded_by c) n) ≡ moment_of n
 moment-commanded West c n = refl

@@ -1,6 +1,6 @@
--- The cross-connect of a node: both sides that receive, its state, and where the state leads what comes in (bridge and
--- switch of shared protection rings: ITU-T G.841).
-use Rattle.std.specs.Prelude.{◌≡◌, ℕ, ◌+◌, ◌-◌, ◌/◌, ◌<◌, Bool, true, false, not, nat_le, if◌then◌else◌, Option, List, length, slice_index_or}
+-- The cross-connect of a node in a round: both sides that receive and what they take in, the state, and where the state
+-- leads what comes in (bridge and switch of shared protection rings: ITU-T G.841).
+use Rattle.std.specs.Prelude.{◌≡◌, ℕ, ◌+◌, ◌-◌, ◌/◌, ◌<◌, Bool, true, false, nat_le, if◌then◌else◌, Option, List, length, slice_index_or}
 use Rattle.sdh_basics.specs.Indexed.{map_from}
 use Rattle.sdh_frame.specs.Sizes.{n_of}
 use Rattle.sdh_frame.specs.Aus.{au_of}
@@ -14,49 +14,59 @@ use Rattle.sdh_nodestate.specs.declared.Needs.{Needs}
 use Rattle.sdh_nodestate.specs.declared.Heard.{Heard}
 use Rattle.sdh_nodestate.specs.Rules.{Scene, scene, state_after}
 use Rattle.sdh_nodestate.specs.FarEnds.{far_of, IsElsewhere}
+use Rattle.sdh_circuits.specs.declared.PortId.{PortId}
+use Rattle.sdh_circuits.specs.Provisioned.{Provisioned}
 use Rattle.sdh_squelch.specs.declared.Row.{Row}
-use Rattle.sdh_squelch.specs.Table.{row_at}
+use Rattle.sdh_squelch.specs.Table.{circuits_at}
 use Rattle.sdh_bridge.specs.declared.Origin.{Origin}
 use Rattle.sdh_bridge.specs.declared.Origin.TheVariants as origin
 use Rattle.sdh_bridge.specs.Connections.{stands_for, leaves_working, leaves_protection}
 use Rattle.sdh_pointer.specs.declared.reading.Action.TheVariants as action
 use Rattle.sdh_pointer.specs.Reading.{start}
-use Rattle.sdh_node.specs.Same.{same_state}
-use Rattle.sdh_node.specs.Receiving.{Receiving, taken, interpreted}
+use Rattle.sdh_node.specs.Receiving.{Receiving, Intake, hears, taken, taken_in, if_west, if_east}
 use Rattle.sdh_node.specs.Passing.{Input, no_input}
 use Rattle.sdh_node.specs.Outlets.{delivered_from}
-use Rattle.sdh_node.specs.Tributaries.{Tributary, add_input}
+use Rattle.sdh_node.specs.Tributaries.{Tributary}
 
 pub record Cross : Type 0 where
   -- the identifiers of the ring, and the node's position
   pub ids : List ℕ
   pub at : Pos
-  -- the circuits on its two spans, slot by slot
-  pub rows : List (Option Row)
-  -- the state, and whether the last round changed it
+  -- the circuits of the ring
+  pub circuits : List Provisioned
   pub state : NodeState
-  pub moved : Bool
   pub west : Receiving
   pub east : Receiving
+  -- what both sides take in
+  pub west_in : Intake
+  pub east_in : Intake
 
 abbrev pub on_side : Cross → Side → Receiving
 on_side x West = x.west
 on_side x East = x.east
 
+abbrev pub intake_on : Cross → Side → Intake
+intake_on x West = x.west_in
+intake_on x East = x.east_in
+
 -- with a change on one side
 abbrev pub at_side : Side → (Receiving → Receiving) → Cross → Cross
-at_side West f x = record x { west = f x.west }
-at_side East f x = record x { east = f x.east }
+at_side side f x = record x { west = if_west side f x.west; east = if_east side f x.east }
 
 -- half of the rate's N: so many slots are working slots
 abbrev pub half_of : Cross → ℕ
-half_of x = n_of x.west.frame.rate / 2
+half_of x = n_of x.west.section.rate / 2
 
 -- ---- the round
 
--- both sides take what arrived, at that moment
+-- both sides take what arrived, at that moment, and all interpreters read
 unfoldable pub both_taken : ℕ → ℕ → Cross → Cross
-both_taken threshold now x = record x { west = taken threshold now x.west; east = taken threshold now x.east }
+both_taken threshold now x = record x {
+  west = taken threshold now x.west;
+  east = taken threshold now x.east;
+  west_in = taken_in threshold x.west;
+  east_in = taken_in threshold x.east;
+}
 
 abbrev pub is_failed : Defect → Bool
 is_failed defect.None = false
@@ -68,61 +78,61 @@ abbrev pub needs_of : Cross → Needs
 needs_of x = record { west = x.west.request; east = x.east.request; west_fails = is_failed x.west.local.defect; east_fails = is_failed x.east.local.defect }
 
 abbrev pub heard_of : Cross → Heard
-heard_of x = record { west = x.west.heard; east = x.east.heard }
+heard_of x = record { west = hears x.west.brought; east = hears x.east.brought }
 
 unfoldable pub scene_of : Cross → Scene
 scene_of x = scene x.ids x.at.0 (needs_of x) (heard_of x)
 
 -- the state by the rules
 unfoldable pub decided : Cross → Cross
-decided x = record x { state = state_after (scene_of x); moved = not (same_state (state_after (scene_of x)) x.state) }
-
--- all interpreters read
-unfoldable pub both_interpreted : Cross → Cross
-both_interpreted x = record x { west = interpreted x.west; east = interpreted x.east }
+decided x = record x { state = state_after (scene_of x) }
 
 -- ---- origins
 
 -- AU-4 number au as a side received it, with what its interpreter made of it
-abbrev pub received : Receiving → ℕ → Input
-received r au = record {
-  action = slice_index_or r.actions (au - 1) action.Ais;
-  value = (slice_index_or r.interps (au - 1) (record { reading = start; moved = false })).reading.value;
-  au = au_of (n_of r.frame.rate) au r.frame.bytes;
+abbrev pub received : Cross → Side → ℕ → Input
+received x side au = record {
+  action = slice_index_or (intake_on x side).actions (au - 1) action.Ais;
+  value = (slice_index_or (on_side x side).readings (au - 1) start).value;
+  au = au_of (n_of (intake_on x side).frame.rate) au (intake_on x side).frame.bytes;
 }
 
 -- what an origin in slot m stands for, where it is no port: working slot m is AU-4 number m, and protection slot m number
 -- N / 2 + m
 abbrev pub arrival_of : Cross → ℕ → Origin → Input
-arrival_of x m (origin.Working side) = received (on_side x side) m
-arrival_of x m (origin.Protection side) = received (on_side x side) (half_of x + m)
+arrival_of x m (origin.Working side) = received x side m
+arrival_of x m (origin.Protection side) = received x side (half_of x + m)
 arrival_of x m (origin.Add port) = no_input
 arrival_of x m origin.Ais = no_input
 
--- the same, where it may be one of these ports
-abbrev pub input_of : Cross → List Tributary → ℕ → Origin → Input
-input_of x ports m (origin.Add port) = add_input port ports
-input_of x ports m (origin.Working side) = arrival_of x m (origin.Working side)
-input_of x ports m (origin.Protection side) = arrival_of x m (origin.Protection side)
-input_of x ports m origin.Ais = no_input
+-- the same, where it may be a port, which adds what it sends
+abbrev pub input_of : Cross → (PortId → Input) → ℕ → Origin → Input
+input_of x added m (origin.Add port) = added port
+input_of x added m (origin.Working side) = arrival_of x m (origin.Working side)
+input_of x added m (origin.Protection side) = arrival_of x m (origin.Protection side)
+input_of x added m origin.Ais = no_input
 
 -- the slot of an AU-4
 abbrev pub slot_of : Cross → ℕ → ℕ
 slot_of x au = if nat_le au (half_of x) then au else au - half_of x
 
+-- the circuit in a slot on the span of each side
+abbrev pub circuit_in : Cross → ℕ → Side → Option Row
+circuit_in x m = circuits_at (length x.ids) x.circuits x.at.0 m
+
 -- where AU-4 number au that leaves on a side comes from
 abbrev pub leaving : Cross → Side → ℕ → Origin
 leaving x side au =
-    if nat_le au (half_of x) then leaves_working (length x.ids) x.at (row_at x.rows (slot_of x au)) x.state side
-    else leaves_protection (length x.ids) x.at (row_at x.rows (slot_of x au)) x.state side
+    if nat_le au (half_of x) then leaves_working (length x.ids) x.at (circuit_in x (slot_of x au)) x.state side
+    else leaves_protection (length x.ids) x.at (circuit_in x (slot_of x au)) x.state side
 
 -- what goes into it
-unfoldable pub input_at : Cross → List Tributary → Side → ℕ → Input
-input_at x ports side au = input_of x ports (slot_of x au) (leaving x side au)
+unfoldable pub input_at : Cross → (PortId → Input) → Side → ℕ → Input
+input_at x added side au = input_of x added (slot_of x au) (leaving x side au)
 
 -- what the circuit of a port comes in with
 unfoldable pub dropped_at : Cross → Side → ℕ → Input
-dropped_at x side m = arrival_of x m (stands_for (length x.ids) x.at (row_at x.rows m) x.state side)
+dropped_at x side m = arrival_of x m (stands_for (length x.ids) x.at (circuit_in x m) x.state side)
 
 -- ---- deliveries
 
@@ -137,4 +147,6 @@ all_delivered x ports = map_from (λ i t. delivered_to x t) 0 ports
 pub record IsCross (x : Cross) : Type 0 where
   pub inside : x.at.0 < length x.ids
   pub far : IsElsewhere (length x.ids) x.at.0 (far_of x.state)
-  pub rates : x.east.frame.rate ≡ x.west.frame.rate
+  pub rates : x.east.section.rate ≡ x.west.section.rate
+  pub west_rate : x.west_in.frame.rate ≡ x.west.section.rate
+  pub east_rate : x.east_in.frame.rate ≡ x.west.section.rate

@@ -1,6 +1,6 @@
 -- A node of the ring, and its round.
-use Rattle.std.specs.Prelude.{◌≡◌, ℕ, ◌+◌, ◌/◌, Bool, false, not, ◌&&◌, nat_le, None, List, [], length, slice_index, replicate, All}
-use Rattle.sdh_frame.specs.Sizes.{Frame, n_of, size_of}
+use Rattle.std.specs.Prelude.{◌≡◌, ℕ, ◌+◌, ◌/◌, Bool, false, ◌&&◌, nat_le, None, List, [], ◌∷◌, length, slice_index, replicate, All}
+use Rattle.sdh_frame.specs.Sizes.{Frame, n_of}
 use Rattle.sdh_kbytes.specs.declared.Code.TheVariants.{Nr}
 use Rattle.sdh_kbytes.specs.declared.K.{K}
 use Rattle.sdh_kbytes.specs.declared.Path.TheVariants.{Short}
@@ -12,51 +12,48 @@ use Rattle.sdh_ringmap.specs.Places.{neighbour}
 use Rattle.sdh_request.specs.Kept.{kept_of}
 use Rattle.sdh_circuits.specs.declared.PortId.{PortId}
 use Rattle.sdh_circuits.specs.Provisioned.{Provisioned}
-use Rattle.sdh_squelch.specs.Table.{table_of}
+use Rattle.sdh_nodestate.specs.declared.NodeState.{NodeState}
 use Rattle.sdh_nodestate.specs.declared.NodeState.TheVariants as state
 use Rattle.sdh_nodestate.specs.Rules.{word}
-use Rattle.sdh_pointer.specs.declared.reading.Action.TheVariants as action
-use Rattle.sdh_pointer.specs.Reading.{Interpreter, start}
-use Rattle.sdh_pointer.specs.Sending.{Generator}
+use Rattle.sdh_pointer.specs.Reading.{start}
 use Rattle.sdh_node.specs.declared.settings.Settings.{Settings}
-use Rattle.sdh_node.specs.Receiving.{Receiving, is_steady_in}
-use Rattle.sdh_node.specs.Tributaries.{Tributary, HasPort, IsTributary, tributaries_at, all_fed}
-use Rattle.sdh_node.specs.Crossing.{Cross, on_side, at_side, both_taken, scene_of, decided, both_interpreted, all_delivered, input_at}
-use Rattle.sdh_node.specs.Sending.{Sending, with_word, frame_from, sent_from, is_steady_out}
+use Rattle.sdh_node.specs.Same.{ComparedIn, ComparedOut, Compared, same_compared}
+use Rattle.sdh_node.specs.Receiving.{Receiving, hears, taken, taken_in, new_intake, if_west, if_east}
+use Rattle.sdh_node.specs.Tributaries.{Tributary, HasPort, IsTributary, tributaries_at, adds, all_fed}
+use Rattle.sdh_node.specs.Crossing.{Cross, scene_of, decided, all_delivered, input_at}
+use Rattle.sdh_node.specs.Sending.{Sending, with_word, frame_from, sent_from}
 
 pub record Node : Type 0 where
   pub settings : Settings
-  -- how many frames were sent on each side
+  -- the identifiers of the ring, the node's position, and the circuits of the ring
+  pub ids : List ℕ
+  pub at : Pos
+  pub circuits : List Provisioned
+  -- how many rounds it has run
   pub rounds : ℕ
-  -- both sides that receive, the state and the connections
-  pub cross : Cross
+  -- both sides that receive
+  pub west : Receiving
+  pub east : Receiving
+  pub state : NodeState
   -- the ports of circuits that are at the node
   pub ports : List Tributary
   -- both sides that send
   pub west_out : Sending
   pub east_out : Sending
+  -- the last round was calm
+  pub calm : Bool
 
 -- ---- a new node
-
-abbrev pub new_interpreter : Interpreter
-new_interpreter = record { reading = start; moved = false }
-
-abbrev pub new_generator : Generator
-new_generator = record { sending = None; word = 0xFFFF; moved = false }
 
 -- a side that has received nothing
 abbrev pub new_receiving : Settings → Receiving
 new_receiving s = record {
   arrived = None;
-  frame = record { rate = s.rate; bytes = replicate (size_of s.rate) 0 };
   section = record { rate = s.rate; last = None };
   local = kept_of s.wait [];
   request = Nr;
-  heard = None;
-  moved = false;
-  reads = false;
-  interps = replicate (n_of s.rate) new_interpreter;
-  actions = replicate (n_of s.rate) action.Ais;
+  brought = None ∷ [];
+  readings = replicate (n_of s.rate) start;
 }
 
 -- the word to the neighbour on a side that asks for nothing
@@ -65,90 +62,122 @@ first_word ids at side = record { code = Nr; to = slice_index ids (neighbour (le
 
 -- a side that has sent nothing
 abbrev pub new_sending : Settings → K → Sending
-new_sending s k = record { section = record { rate = s.rate; last = None }; generators = replicate (n_of s.rate) new_generator; word = k; moved = false }
-
--- a cross-connect that has received nothing: the node is idle
-abbrev pub new_cross : Settings → List ℕ → List Provisioned → Pos → Cross
-new_cross s ids circuits at = record { ids = ids; at = at; rows = (table_of ids circuits at).rows; state = state.Idle tt; moved = false; west = new_receiving s; east = new_receiving s }
+new_sending s k = record { section = record { rate = s.rate; last = None }; generators = replicate (n_of s.rate) None; word = k }
 
 -- the node at a position of a ring with these circuits: idle, without commands and defects
 unfoldable pub new_node : Settings → List ℕ → List Provisioned → Pos → Node
 new_node s ids circuits at = record {
   settings = s;
+  ids = ids;
+  at = at;
+  circuits = circuits;
   rounds = 0;
-  cross = new_cross s ids circuits at;
+  west = new_receiving s;
+  east = new_receiving s;
+  state = state.Idle tt;
   ports = tributaries_at at circuits;
   west_out = new_sending s (first_word ids at West);
   east_out = new_sending s (first_word ids at East);
+  calm = false;
+}
+
+-- its cross-connect
+abbrev pub new_cross : Settings → List ℕ → List Provisioned → Pos → Cross
+new_cross s ids circuits at = record {
+  ids = ids;
+  at = at;
+  circuits = circuits;
+  state = state.Idle tt;
+  west = new_receiving s;
+  east = new_receiving s;
+  west_in = new_intake s.rate;
+  east_in = new_intake s.rate;
 }
 
 -- ---- between rounds
 
 -- a node with a change on one side that receives
 abbrev pub at_receiving : Side → (Receiving → Receiving) → Node → Node
-at_receiving side f n = record n { cross = at_side side f n.cross }
+at_receiving side f n = record n { west = if_west side f n.west; east = if_east side f n.east }
 
--- ---- a round, at a moment, stage by stage
+-- ---- a round, at a moment
 
--- section overhead, defects and words heard, and local requests
-unfoldable pub after_taking : ℕ → Node → Node
-after_taking now n = record n { cross = both_taken n.settings.threshold now n.cross }
+-- the cross-connect of the round: both sides took what arrived, and the state follows
+unfoldable pub turn : ℕ → Node → Cross
+turn now n = decided (record {
+  ids = n.ids;
+  at = n.at;
+  circuits = n.circuits;
+  state = n.state;
+  west = taken n.settings.threshold now n.west;
+  east = taken n.settings.threshold now n.east;
+  west_in = taken_in n.settings.threshold n.west;
+  east_in = taken_in n.settings.threshold n.east;
+})
 
--- the state and the words
-unfoldable pub after_deciding : Node → Node
-after_deciding n = record n {
-  cross = decided n.cross;
-  west_out = with_word (word (scene_of n.cross) West) n.west_out;
-  east_out = with_word (word (scene_of n.cross) East) n.east_out;
+-- the ports in the round: what they deliver, in the new state, and the next chunk of each port's stream
+unfoldable pub turned : Cross → List Tributary → List Tributary
+turned x ports = all_fed (all_delivered x ports)
+
+-- a side that sends, with the word of the round
+abbrev pub saying : Cross → Side → Sending → Sending
+saying x side s = with_word (word (scene_of x) side) s
+
+-- the node after it: all pointer generators, section overhead and scrambling
+unfoldable pub after_turn : Cross → Node → Node
+after_turn x n = record n {
+  rounds = n.rounds + 1;
+  west = x.west;
+  east = x.east;
+  state = x.state;
+  ports = turned x n.ports;
+  west_out = sent_from (input_at x (adds n.ports) West) (saying x West n.west_out);
+  east_out = sent_from (input_at x (adds n.ports) East) (saying x East n.east_out);
 }
 
--- all pointer interpreters
-unfoldable pub after_interpreting : Node → Node
-after_interpreting n = record n { cross = both_interpreted n.cross }
-
--- what the ports deliver, in the new state
-unfoldable pub after_delivering : Node → Node
-after_delivering n = record n { ports = all_delivered n.cross n.ports }
-
--- the next chunk of each port's stream
-unfoldable pub after_feeding : Node → Node
-after_feeding n = record n { ports = all_fed n.ports; rounds = n.rounds + 1 }
-
--- the node when it is about to send
-unfoldable pub ready : ℕ → Node → Node
-ready now n = after_feeding (after_delivering (after_interpreting (after_deciding (after_taking now n))))
-
--- the frames of both sides: all pointer generators, section overhead and scrambling
+-- the frames of both sides
 pub record Frames : Type 0 where
   pub west : Frame
   pub east : Frame
 
-unfoldable pub frames_of : Node → Frames
-frames_of n = record { west = frame_from (input_at n.cross n.ports West) n.west_out; east = frame_from (input_at n.cross n.ports East) n.east_out }
+unfoldable pub frames_of : Cross → Node → Frames
+frames_of x n = record {
+  west = frame_from (input_at x (adds n.ports) West) (saying x West n.west_out);
+  east = frame_from (input_at x (adds n.ports) East) (saying x East n.east_out);
+}
 
-unfoldable pub after_sending : Node → Node
-after_sending n = record n { west_out = sent_from (input_at n.cross n.ports West) n.west_out; east_out = sent_from (input_at n.cross n.ports East) n.east_out }
+-- what is compared with the round before
+abbrev pub compared_in : Receiving → ComparedIn
+compared_in r = record { request = r.request; heard = hears r.brought; readings = r.readings }
+
+abbrev pub compared_out : Sending → ComparedOut
+compared_out s = record { word = s.word; generators = s.generators }
+
+abbrev pub compared : Node → Compared
+compared n = record { west = compared_in n.west; east = compared_in n.east; state = n.state; west_out = compared_out n.west_out; east_out = compared_out n.east_out }
+
+-- the node `new` after a round that found it as `old`: the round was calm where one ran before it and it changed nothing
+-- of what is compared
+unfoldable pub settled_from : Node → Node → Node
+settled_from old new = record new { calm = nat_le 1 old.rounds && same_compared (compared new) (compared old) }
 
 -- the round: the node after it, and what it sends
 unfoldable pub node_round : ℕ → Node → Node × Frames
-node_round now n = (after_sending (ready now n), frames_of (ready now n))
+node_round now n = (settled_from n (after_turn (turn now n) n), frames_of (turn now n) n)
 
 -- ---- what others read of a node
 
 abbrev pub receiving_on : Side → Node → Receiving
-receiving_on side n = on_side n.cross side
+receiving_on West n = n.west
+receiving_on East n = n.east
 
 abbrev pub sending_on : Side → Node → Sending
 sending_on West n = n.west_out
 sending_on East n = n.east_out
 
--- the last round was calm: a round ran before it, and it changed nothing
-unfoldable pub is_calm : Node → Bool
-is_calm n = nat_le 2 n.rounds && not n.cross.moved && is_steady_in n.cross.west && is_steady_in n.cross.east && is_steady_out n.west_out && is_steady_out n.east_out
-
 -- the last moment that was told
 abbrev pub moment_of : Node → ℕ
-moment_of n = n.cross.west.local.moment
+moment_of n = n.west.local.moment
 
 -- what a round leaves for the next one: the settings and the ports, one round more, and the moment
 pub record GoesOn (now : ℕ) (old new : Node) : Type 0 where
@@ -160,8 +189,8 @@ pub record GoesOn (now : ℕ) (old new : Node) : Type 0 where
 -- ---- what is true of every node
 
 pub record IsNode (n : Node) : Type 0 where
-  pub cross_rate : n.cross.west.frame.rate ≡ n.settings.rate
-  pub west_rate : n.west_out.section.rate ≡ n.settings.rate
-  pub east_rate : n.east_out.section.rate ≡ n.settings.rate
-  pub moments : n.cross.east.local.moment ≡ n.cross.west.local.moment
+  pub west_rate : n.west.section.rate ≡ n.settings.rate
+  pub west_out_rate : n.west_out.section.rate ≡ n.settings.rate
+  pub east_out_rate : n.east_out.section.rate ≡ n.settings.rate
+  pub moments : n.east.local.moment ≡ n.west.local.moment
   pub ports : All (IsTributary (n_of n.settings.rate / 2) n.rounds) n.ports

@@ -1,13 +1,13 @@
 -- What goes into an AU-4 that is sent, and what its pointer generator makes of it (pointer justification: ITU-T G.707
 -- clause 8.1).
-use Rattle.std.specs.Prelude.{ℕ, ◌+◌, ◌/◌, ◌%◌, Option, List, [], ◌∷◌, slice_index}
+use Rattle.std.specs.Prelude.{ℕ, ◌+◌, ◌/◌, ◌%◌, Option, List, [], ◌∷◌, map, slice_index}
 use Rattle.sdh_basics.specs.Indexed.{map_from}
 use Rattle.sdh_frame.specs.Aus.{Au, ones}
 use Rattle.sdh_pointer.specs.declared.reading.Action.{Action}
 use Rattle.sdh_pointer.specs.declared.reading.Action.TheVariants as action
 use Rattle.sdh_pointer.specs.declared.word.Form.{Form}
 use Rattle.sdh_pointer.specs.declared.word.Form.TheVariants as form
-use Rattle.sdh_pointer.specs.Sending.{Generator, form_sent, word_sent, after_action}
+use Rattle.sdh_pointer.specs.Sending.{Generator, form_sent, word_sent, next_sending}
 
 pub record Input : Type 0 where
   -- what the generator is asked for, and the value after it
@@ -52,9 +52,13 @@ au_for action.Down f w au = au_with f w au
 unfoldable pub au_sent : Option ℕ → Input → Au
 au_sent s i = au_for i.action (form_sent s i.action i.value) (word_sent s i.action i.value) i.au
 
--- all AU-4s of a side, and its generators after them; AU-4s are numbered from 1
-unfoldable pub aus_sent : (ℕ → Input) → List Generator → List Au
-aus_sent input generators = map_from (λ k g. au_sent g.sending (input (k + 1))) 0 generators
+-- the states of generators
+abbrev pub states_of : List Generator → List (Option ℕ)
+states_of generators = map (λ (g : Generator). g.sending) generators
 
-unfoldable pub after_inputs : (ℕ → Input) → List Generator → List Generator
-after_inputs input generators = map_from (λ k g. after_action g (input (k + 1)).action (input (k + 1)).value) 0 generators
+-- all AU-4s of a side, by the states of its generators, and these states after them; AU-4s are numbered from 1
+unfoldable pub aus_sent : (ℕ → Input) → List (Option ℕ) → List Au
+aus_sent input states = map_from (λ k s. au_sent s (input (k + 1))) 0 states
+
+unfoldable pub after_inputs : (ℕ → Input) → List (Option ℕ) → List (Option ℕ)
+after_inputs input states = map_from (λ k s. next_sending s (input (k + 1)).action (input (k + 1)).value) 0 states

@@ -1,7 +1,7 @@
 -- One side of a node that receives: what the section overhead of a frame says, the defect, the word heard, the local
 -- request, and what the pointer interpreters make of the AU-4s.
-use Rattle.std.specs.Prelude.{◌≡◌, ◌≢◌, ℕ, ◌+◌, ◌*◌, ◌%◌, ◌≤◌, Bool, true, false, not, ◌&&◌, ◌==◌, nat_le, if◌then◌else◌, Option, Some, None, IfSome, List, length, slice_index, replicate}
-use Rattle.std.specs.List.{list_any}
+use Rattle.std.specs.Prelude.{◌≡◌, ◌≢◌, ℕ, ◌+◌, ◌*◌, ◌%◌, ◌≤◌, Bool, ◌==◌, nat_le, if◌then◌else◌, Option, Some, None, IfSome, List, [], ◌∷◌, length, map, slice_index, replicate}
+use Rattle.std.specs.Option.{is_some}
 use Rattle.sdh_basics.specs.Indexed.{map_from}
 use Rattle.sdh_frame.specs.declared.Rate.{Rate}
 use Rattle.sdh_frame.specs.Sizes.{Frame, n_of, size_of}
@@ -14,6 +14,8 @@ use Rattle.sdh_kbytes.specs.declared.K.{K}
 use Rattle.sdh_kbytes.specs.declared.Code.{Code}
 use Rattle.sdh_kbytes.specs.declared.Code.TheVariants.{Rr}
 use Rattle.sdh_kbytes.specs.KBytes.{code_number, decoded}
+use Rattle.sdh_ringmap.specs.declared.Side.{Side}
+use Rattle.sdh_ringmap.specs.declared.Side.TheVariants.{West, East}
 use Rattle.sdh_request.specs.declared.Defect.{Defect}
 use Rattle.sdh_request.specs.declared.Defect.TheVariants as defect
 use Rattle.sdh_request.specs.declared.Command.{Command}
@@ -21,90 +23,79 @@ use Rattle.sdh_request.specs.History.{seen, reached, commanded}
 use Rattle.sdh_request.specs.Kept as local
 use Rattle.sdh_request.specs.Kept.{after, kept_request}
 use Rattle.sdh_nodestate.specs.Words.{IsSpellable}
+use Rattle.sdh_pointer.specs.declared.reading.Reading.{Reading}
 use Rattle.sdh_pointer.specs.declared.reading.Action.{Action}
 use Rattle.sdh_pointer.specs.declared.reading.Action.TheVariants as action
-use Rattle.sdh_pointer.specs.Reading.{Interpreter, after_step, action_on}
-use Rattle.sdh_plant.specs.declared.plant.Arrived.{Arrived}
-use Rattle.sdh_plant.specs.declared.plant.Arrived.TheVariants as arrived
-use Rattle.sdh_node.specs.Same.{same_code, same_heard}
+use Rattle.sdh_pointer.specs.Reading.{Interpreter, after_word, action_on}
+use Rattle.sdh_plant.specs.Fibres.{Arrival}
 
 pub record Receiving : Type 0 where
-  -- what arrived since the last round; None where nothing was told
-  pub arrived : Option Arrived
-  -- the frame that arrived; once it is read, without scrambling, and ones where the side fails
-  pub frame : Frame
+  -- what arrived since the last round: None where nothing was told; else the bytes of a frame, or darkness
+  pub arrived : Option Arrival
   -- the parities of the frame before
   pub section : section.Kept
   -- commands, the defect and when the last one ended
   pub local : local.Kept
-  -- the local request and the word heard in the last round, and whether one of the two was another in the round before
+  -- the local request in the last round
   pub request : Code
-  pub heard : Option K
-  pub moved : Bool
-  -- whether the interpreters read in the last round
-  pub reads : Bool
-  -- the interpreters of AU-4s 1 to N, and the actions of their last steps
-  pub interps : List Interpreter
-  pub actions : List Action
+  -- what the last rounds brought, the last one first: a word, or none
+  pub brought : List (Option K)
+  -- what the interpreters of AU-4s 1 to N keep
+  pub readings : List Reading
+
+-- the word that is heard, by what the last rounds brought
+abbrev pub hears : List (Option K) → Option K
+hears [] = None
+hears (w ∷ ws) = w
+
+-- what is kept of it, with what one more round brought: that alone
+abbrev pub with_brought : Option K → List (Option K) → List (Option K)
+with_brought w ws = w ∷ []
 
 -- ---- what arrived
 
--- what a side makes of it: its defect, the word heard, the frame without scrambling, the parities for the next frame,
--- and whether the interpreters read
+-- what a side makes of it: its defect, the word that it brings, the frame without scrambling, and the parities for the
+-- next frame
 pub record Found : Type 0 where
   pub defect : Defect
   pub word : Option K
   pub bytes : List ℕ
   pub last : Option Parities
-  pub reads : Bool
 
--- a side that fails: it hears nothing, and its frame counts as ones
+abbrev pub all_ones : Rate → List ℕ
+all_ones rate = replicate (size_of rate) 0xFF
+
+-- a side that fails: it brings no word, and its frame counts as ones
 abbrev pub failed : Rate → Option Parities → Found
-failed rate last = record { defect = defect.Sf; word = None; bytes = replicate (size_of rate) 0xFF; last = last; reads = true }
+failed rate last = record { defect = defect.Sf; word = None; bytes = all_ones rate; last = last }
 
 -- a framed frame: AIS of the multiplex section, whose low three bits of K2 are ones, is a failure; else the side is
 -- degraded where B2 has at least `threshold` violations
 abbrev pub found_framed : Rate → ℕ → List ℕ → Option Parities → ℕ → ℕ → ℕ → Found
 found_framed rate threshold clear last k1 k2 b2 =
     if k2 % 8 == 7 then failed rate last else
-    record { defect = if nat_le threshold b2 then defect.Sd else defect.None; word = decoded k1 k2; bytes = clear; last = last; reads = true }
+    record { defect = if nat_le threshold b2 then defect.Sd else defect.None; word = decoded k1 k2; bytes = clear; last = last }
 
 -- a frame: an unframed one is a failure
 abbrev pub found_in : Rate → ℕ → List ℕ → Option Parities → Received → Found
 found_in rate threshold clear last Unframed = failed rate last
 found_in rate threshold clear last (Framed k1 k2 b1 b2) = found_framed rate threshold clear last k1 k2 b2
 
--- A frame; nothing on the fibre, which is a failure; or nothing was told: then the side has no defect, hears
--- nothing, and its interpreters don't read. Where there is no frame the section forgets.
-abbrev pub found_by : Option Arrived → Rate → ℕ → List ℕ → Option Parities → Found
-found_by None rate threshold bytes last = record { defect = defect.None; word = None; bytes = bytes; last = None; reads = false }
-found_by (Some arrived.Dark) rate threshold bytes last = failed rate None
-found_by (Some arrived.Frame) rate threshold bytes last = found_in rate threshold (opened (n_of rate) bytes) (kept_after (n_of rate) bytes) (received_in (n_of rate) last bytes)
+-- A frame; darkness, which is a failure; or nothing was told: then the side has no defect, brings no word, and its frame
+-- counts as ones. Where there is no frame the section forgets.
+abbrev pub found_by : Option Arrival → Rate → ℕ → Option Parities → Found
+found_by None rate threshold last = record { defect = defect.None; word = None; bytes = all_ones rate; last = None }
+found_by (Some None) rate threshold last = failed rate None
+found_by (Some (Some bytes)) rate threshold last = found_in rate threshold (opened (n_of rate) bytes) (kept_after (n_of rate) bytes) (received_in (n_of rate) last bytes)
 
 unfoldable pub found : ℕ → Receiving → Found
-found threshold r = found_by r.arrived r.frame.rate threshold r.frame.bytes r.section.last
+found threshold r = found_by r.arrived r.section.rate threshold r.section.last
 
 -- ---- the local request
 
 -- what is kept for it after the moment and the defect of a round
 abbrev pub asked : ℕ → Defect → local.Kept → local.Kept
 asked now d k = after (seen d) (after (reached now) k)
-
--- the side after it took what arrived, at that moment
-abbrev pub took : ℕ → Found → Receiving → Receiving
-took now f r = record r {
-  arrived = None;
-  frame = record { rate = r.frame.rate; bytes = f.bytes };
-  section = record { rate = r.section.rate; last = f.last };
-  local = asked now f.defect r.local;
-  request = kept_request (asked now f.defect r.local);
-  heard = f.word;
-  moved = not (same_code (kept_request (asked now f.defect r.local)) r.request && same_heard f.word r.heard);
-  reads = f.reads;
-}
-
-unfoldable pub taken : ℕ → ℕ → Receiving → Receiving
-taken threshold now r = took now (found threshold r) r
 
 -- ---- the interpreters
 
@@ -116,23 +107,55 @@ word_of_pointers pointers = 256 * slice_index pointers 0 + slice_index pointers 
 abbrev pub word_at : ℕ → List ℕ → ℕ → ℕ
 word_at n bytes au = word_of_pointers (pointers_of n au bytes)
 
--- the interpreters after they read a frame, and their actions
-unfoldable pub after_frame : ℕ → List ℕ → List Interpreter → List Interpreter
-after_frame n bytes interps = map_from (λ k i. after_step i (word_at n bytes (k + 1))) 0 interps
+-- what interpreters keep
+abbrev pub readings_of : List Interpreter → List Reading
+readings_of interps = map (λ (i : Interpreter). i.reading) interps
 
-unfoldable pub actions_in : ℕ → List ℕ → List Interpreter → List Action
-actions_in n bytes interps = map_from (λ k i. action_on i.reading (word_at n bytes (k + 1))) 0 interps
+-- what interpreters keep after they read a frame, and their actions
+unfoldable pub after_frame : ℕ → List ℕ → List Reading → List Reading
+after_frame n bytes readings = map_from (λ k r. after_word r (word_at n bytes (k + 1))) 0 readings
 
--- the side after its interpreters read; where they don't, every AU-4 counts as AIS
-abbrev pub read_by : Bool → Receiving → Receiving
-read_by true r = record r {
-  interps = after_frame (n_of r.frame.rate) r.frame.bytes r.interps;
-  actions = actions_in (n_of r.frame.rate) r.frame.bytes r.interps;
+unfoldable pub actions_in : ℕ → List ℕ → List Reading → List Action
+actions_in n bytes readings = map_from (λ k r. action_on r (word_at n bytes (k + 1))) 0 readings
+
+-- ---- a round
+
+-- What a side takes in, in a round: the frame without scrambling, ones where the side fails or nothing was told, and what
+-- the interpreters of AU-4s 1 to N made of it.
+pub record Intake : Type 0 where
+  pub frame : Frame
+  pub actions : List Action
+
+-- before the first round
+abbrev pub new_intake : Rate → Intake
+new_intake rate = record { frame = record { rate = rate; bytes = replicate (size_of rate) 0 }; actions = replicate (n_of rate) action.Ais }
+
+-- interpreters read where something was told; where nothing was, they keep what they kept, and every AU-4 counts as AIS
+abbrev pub readings_by : Bool → ℕ → List ℕ → List Reading → List Reading
+readings_by told n bytes readings = if told then after_frame n bytes readings else readings
+
+abbrev pub actions_by : Bool → ℕ → List ℕ → List Reading → List Action
+actions_by told n bytes readings = if told then actions_in n bytes readings else replicate n action.Ais
+
+unfoldable pub taken_in : ℕ → Receiving → Intake
+taken_in threshold r = record {
+  frame = record { rate = r.section.rate; bytes = (found threshold r).bytes };
+  actions = actions_by (is_some r.arrived) (n_of r.section.rate) (found threshold r).bytes r.readings;
 }
-read_by false r = record r { actions = replicate (n_of r.frame.rate) action.Ais }
 
-unfoldable pub interpreted : Receiving → Receiving
-interpreted r = read_by r.reads r
+-- the section overhead, the defect at that moment, the word and the local request
+unfoldable pub heard_at : ℕ → ℕ → Receiving → Receiving
+heard_at threshold now r = record r {
+  arrived = None;
+  section = record { rate = r.section.rate; last = (found threshold r).last };
+  local = asked now (found threshold r).defect r.local;
+  request = kept_request (asked now (found threshold r).defect r.local);
+  brought = with_brought (found threshold r).word r.brought;
+}
+
+-- the side after it took what arrived, and after its interpreters read
+unfoldable pub taken : ℕ → ℕ → Receiving → Receiving
+taken threshold now r = record (heard_at threshold now r) { readings = readings_by (is_some r.arrived) (n_of r.section.rate) (found threshold r).bytes r.readings }
 
 -- ---- between rounds
 
@@ -140,22 +163,24 @@ interpreted r = read_by r.reads r
 abbrev pub commanded_by : Command → Receiving → Receiving
 commanded_by c r = record r { local = after (commanded c) r.local }
 
--- what arrives on one side, in place of what arrived there since the last round
-abbrev pub arrived_on : Arrived → Frame → Receiving → Receiving
-arrived_on arrived.Frame f r = record r { arrived = Some arrived.Frame; frame = f }
-arrived_on arrived.Dark f r = record r { arrived = Some arrived.Dark }
+-- on one side, in place of what arrived there since the last round
+abbrev pub arrived_on : Arrival → Receiving → Receiving
+arrived_on a r = record r { arrived = Some a }
 
--- the request and the word heard on a side, and its interpreters, are as before; those that didn't read didn't move
-abbrev pub is_steady_in : Receiving → Bool
-is_steady_in r = not r.moved && not (r.reads && list_any (λ (i : Interpreter). i.moved) r.interps)
+-- a change of one side that receives, as it is on the west side and on the east side
+abbrev pub if_west : Side → (Receiving → Receiving) → Receiving → Receiving
+if_west West f r = f r
+if_west East f r = r
+
+abbrev pub if_east : Side → (Receiving → Receiving) → Receiving → Receiving
+if_east West f r = r
+if_east East f r = f r
 
 -- ---- what is true of every side that receives
 
 pub record IsReceiving (r : Receiving) : Type 0 where
-  pub rates : r.section.rate ≡ r.frame.rate
-  pub interps : length r.interps ≡ n_of r.frame.rate
-  pub actions : length r.actions ≡ n_of r.frame.rate
+  pub readings : length r.readings ≡ n_of r.section.rate
   pub never_rr : r.request ≢ Rr
   pub failing : r.local.defect ≡ defect.Sf → 11 ≤ code_number r.request
-  pub silent : r.local.defect ≡ defect.Sf → r.heard ≡ None
-  pub spellable : IfSome r.heard IsSpellable
+  pub silent : r.local.defect ≡ defect.Sf → hears r.brought ≡ None
+  pub spellable : IfSome (hears r.brought) IsSpellable

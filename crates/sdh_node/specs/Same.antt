@@ -1,11 +1,14 @@
--- When two requests, two words, two heard words and two states are the same.
-use Rattle.std.specs.Prelude.{Bool, true, false, ◌&&◌, ◌==◌, Option, Some, None}
+-- What is compared between a round and the round before, and when it is the same.
+use Rattle.std.specs.Prelude.{ℕ, Bool, true, false, ◌&&◌, ◌==◌, Option, Some, None, List, [], ◌∷◌}
 use Rattle.sdh_kbytes.specs.KBytes.{code_number, path_number, mark_number}
 use Rattle.sdh_kbytes.specs.declared.Code.{Code}
 use Rattle.sdh_kbytes.specs.declared.K.{K}
 use Rattle.sdh_ringmap.specs.declared.Pos.{Pos}
 use Rattle.sdh_nodestate.specs.declared.NodeState.{NodeState}
 use Rattle.sdh_nodestate.specs.declared.NodeState.TheVariants as state
+use Rattle.sdh_pointer.specs.declared.reading.Reading.{Reading}
+use Rattle.sdh_pointer.specs.Reading.{same_reading}
+use Rattle.sdh_pointer.specs.Sending.{same_sending}
 
 abbrev pub same_code : Code → Code → Bool
 same_code a b = code_number a == code_number b
@@ -35,3 +38,48 @@ same_state (state.SwitchWest f) (state.SwitchWest g) = same_far f g
 same_state (state.SwitchEast f) (state.SwitchEast g) = same_far f g
 same_state (state.Isolated x) (state.Isolated y) = true
 same_state _ _ = false
+
+-- interpreters, one by one, keep the same
+abbrev pub same_readings : List Reading → List Reading → Bool
+same_readings [] [] = true
+same_readings (a ∷ xs) (b ∷ ys) = same_reading a b && same_readings xs ys
+same_readings [] (b ∷ ys) = false
+same_readings (a ∷ xs) [] = false
+
+-- generators, one by one, are in the same state
+abbrev pub same_generators : List (Option ℕ) → List (Option ℕ) → Bool
+same_generators [] [] = true
+same_generators (a ∷ xs) (b ∷ ys) = same_sending a b && same_generators xs ys
+same_generators [] (b ∷ ys) = false
+same_generators (a ∷ xs) [] = false
+
+-- ---- what is compared
+
+-- of a side that receives: the local request, the word heard, and what the interpreters keep, AU-4 by AU-4
+pub record ComparedIn : Type 0 where
+  pub request : Code
+  pub heard : Option K
+  pub readings : List Reading
+
+-- of a side that sends: the word, and the states of the generators, AU-4 by AU-4
+pub record ComparedOut : Type 0 where
+  pub word : K
+  pub generators : List (Option ℕ)
+
+pub record Compared : Type 0 where
+  pub west : ComparedIn
+  pub east : ComparedIn
+  -- with the far end
+  pub state : NodeState
+  pub west_out : ComparedOut
+  pub east_out : ComparedOut
+
+abbrev pub same_in : ComparedIn → ComparedIn → Bool
+same_in a b = same_code a.request b.request && same_heard a.heard b.heard && same_readings a.readings b.readings
+
+abbrev pub same_out : ComparedOut → ComparedOut → Bool
+same_out a b = same_word a.word b.word && same_generators a.generators b.generators
+
+-- all of it is the same
+unfoldable pub same_compared : Compared → Compared → Bool
+same_compared a b = same_in a.west b.west && same_in a.east b.east && same_state a.state b.state && same_out a.west_out b.west_out && same_out a.east_out b.east_out

@@ -1,6 +1,5 @@
 -- One side of a node that sends: its pointer generators, and the section overhead of its frames (ITU-T G.707 clause 9.2).
-use Rattle.std.specs.Prelude.{◌≡◌, ℕ, Bool, not, ◌&&◌, Some, List, length, replicate}
-use Rattle.std.specs.List.{list_any}
+use Rattle.std.specs.Prelude.{◌≡◌, ℕ, Option, Some, List, length, replicate}
 use Rattle.sdh_frame.specs.Sizes.{Frame, n_of, size_of}
 use Rattle.sdh_frame.specs.Aus.{with_aus}
 use Rattle.sdh_overhead.specs.Sections as section
@@ -8,22 +7,19 @@ use Rattle.sdh_overhead.specs.Sections.{clear_frame, line_frame, parities_of}
 use Rattle.sdh_kbytes.specs.declared.K.{K}
 use Rattle.sdh_kbytes.specs.KBytes.{first_byte, second_byte}
 use Rattle.sdh_nodestate.specs.Words.{IsSpellable}
-use Rattle.sdh_pointer.specs.Sending.{Generator}
-use Rattle.sdh_node.specs.Same.{same_word}
 use Rattle.sdh_node.specs.Passing.{Input, aus_sent, after_inputs}
 
 pub record Sending : Type 0 where
   -- the parities of the frame sent before
   pub section : section.Kept
-  -- the generators of AU-4s 1 to N
-  pub generators : List Generator
-  -- the word sent, and whether the last round changed it
+  -- the states of the generators of AU-4s 1 to N
+  pub generators : List (Option ℕ)
+  -- the word sent
   pub word : K
-  pub moved : Bool
 
 -- the side with its next word
 abbrev pub with_word : K → Sending → Sending
-with_word k s = record s { word = k; moved = not (same_word k s.word) }
+with_word k s = record s { word = k }
 
 -- all AU-4s of the next frame, from what goes into each, and no overhead
 unfoldable pub filled : (ℕ → Input) → Sending → List ℕ
@@ -46,10 +42,6 @@ sent_from input s = record s {
   section = record { rate = s.section.rate; last = Some (parities_of (n_of s.section.rate) (clear_from input s) (line_from input s)) };
   generators = after_inputs input s.generators;
 }
-
--- the word sent on a side, and its generators, are as before
-abbrev pub is_steady_out : Sending → Bool
-is_steady_out s = not s.moved && not (list_any (λ (g : Generator). g.moved) s.generators)
 
 -- what is true of every side that sends
 pub record IsSending (s : Sending) : Type 0 where

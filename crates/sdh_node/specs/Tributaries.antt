@@ -13,6 +13,7 @@ use Rattle.sdh_circuits.specs.Provisioned.{Provisioned}
 use Rattle.sdh_payload.specs.Customer.{Customer}
 use Rattle.sdh_payload.specs.Feed.{Fed}
 use Rattle.sdh_payload.specs.Stream.{chunk_of}
+use Rattle.sdh_pointer.specs.declared.reading.Action.{Action}
 use Rattle.sdh_pointer.specs.declared.reading.Action.TheVariants as action
 use Rattle.sdh_node.specs.Passing.{Input, no_input}
 use Rattle.sdh_node.specs.Outlets.{Outlet, silent}
@@ -72,16 +73,37 @@ outlet_of id ports = option_map_or (λ t. t.outlet) (port_of id ports) silent
 
 -- ---- what it sends
 
--- the chunk of its stream that was taken last, with the pointer value of its offset
+-- the payload of its AU-4, what the pointer generator is asked for, and the pointer value
+pub record Added : Type 0 where
+  pub bytes : List ℕ
+  pub action : Action
+  pub value : ℕ
+
+-- in a round that finds its feed like this: the next chunk of its stream, with the pointer value of its offset
+unfoldable pub sent_in : Fed → Added
+sent_in feed = record { bytes = chunk_of feed.port feed.chunks; action = action.Normal; value = feed.port.offset }
+
+-- what goes into its AU-4
+abbrev pub input_by : Added → Input
+input_by a = record { action = a.action; value = a.value; au = record { pointers = replicate 9 0; payload = a.bytes } }
+
+-- what the port of this name adds, of ports as a round finds them
+abbrev pub adds : List Tributary → PortId → Input
+adds ports id = option_map_or (λ t. input_by (sent_in t.feed)) (port_of id ports) no_input
+
+-- the feed before the chunk that it gave last, and that chunk
+abbrev pub before : Fed → Fed
+before feed = record { port = feed.port; chunks = feed.chunks - 1 }
+
 abbrev pub own_chunk : Fed → List ℕ
-own_chunk feed = chunk_of feed.port (feed.chunks - 1)
+own_chunk feed = (sent_in (before feed)).bytes
 
+-- the same of ports that have taken the chunk of the round
 abbrev pub own_input : Tributary → Input
-own_input t = record { action = action.Normal; value = t.feed.port.offset; au = record { pointers = replicate 9 0; payload = own_chunk t.feed } }
+own_input t = input_by (sent_in (before t.feed))
 
--- what a port's stream gives to an AU-4
-abbrev pub add_input : PortId → List Tributary → Input
-add_input id ports = option_map_or own_input (port_of id ports) no_input
+abbrev pub holds : List Tributary → PortId → Input
+holds ports id = option_map_or own_input (port_of id ports) no_input
 
 -- the port after the next chunk of its stream was taken
 abbrev pub fed : Tributary → Tributary

@@ -1,11 +1,12 @@
 //! One multiplexer.
-ghost use Rattle.std.specs.Prelude.{◌≡◌, ◌+◌, ◌/◌, ◌^◌, ◌<◌, ◌≤◌, IfOk, IsTrue, length};
+ghost use Rattle.std.specs.Prelude.{◌≡◌, ◌&&◌, nat_le, ◌+◌, ◌/◌, ◌^◌, ◌<◌, ◌≤◌, IfOk, IsTrue, length};
 ghost use Rattle.sdh_frame.specs.Sizes.{n_of};
 ghost use Rattle.sdh_squelch.specs.Kept.{KeepsRing};
 ghost use Rattle.sdh_nodestate.specs.Words.{IsSpellable};
+ghost use Rattle.sdh_plant.specs.Arrivals.{as_arrival};
 ghost use Rattle.sdh_node.specs.Receiving.{commanded_by, arrived_on};
 ghost use Rattle.sdh_node.specs.Tributaries.{HasPort, outlet_of};
-ghost use Rattle.sdh_node.specs.Node.{new_node, first_word, at_receiving, after_taking, after_deciding, after_interpreting, after_delivering, after_feeding, ready, frames_of, after_sending, node_round, GoesOn, receiving_on, sending_on, is_calm, moment_of};
+ghost use Rattle.sdh_node.specs.Node.{new_node, first_word, at_receiving, node_round, GoesOn, receiving_on, sending_on, moment_of};
 
 use crate::cross::CrossConnect;
 use crate::outlet::Delivered;
@@ -31,6 +32,7 @@ pub struct Adm {
     ports: Vec<Tributary>,
     west_out: Sender,
     east_out: Sender,
+    calm: bool,
 }
 
 impl Model for Adm {
@@ -38,9 +40,9 @@ impl Model for Adm {
 
     ghost Value = { Node };
 
-    ghost view = { λ a. record { settings = a.settings; rounds = a.rounds; cross = a.cross; ports = a.ports.items; west_out = a.west_out; east_out = a.east_out } };
+    ghost view = { λ a. record { settings = a.settings; ids = a.cross.ids; at = a.cross.at; circuits = a.cross.circuits; rounds = a.rounds; west = a.cross.west; east = a.cross.east; state = a.cross.state; ports = a.ports.items; west_out = a.west_out; east_out = a.east_out; calm = a.calm } };
 
-    ghost invariant = { λ a. IsNode (record { settings = a.settings; rounds = a.rounds; cross = a.cross; ports = a.ports.items; west_out = a.west_out; east_out = a.east_out }) };
+    ghost invariant = { λ a. IsNode (record { settings = a.settings; ids = a.cross.ids; at = a.cross.at; circuits = a.cross.circuits; rounds = a.rounds; west = a.cross.west; east = a.cross.east; state = a.cross.state; ports = a.ports.items; west_out = a.west_out; east_out = a.east_out; calm = a.calm }) };
 }
 
 // The word to the neighbour on a side that asks for nothing.
@@ -83,6 +85,7 @@ impl Adm {
             ports: tributaries_at(alloc, circuits, at)?,
             west_out: Sender::try_new(alloc, settings, west)?,
             east_out: Sender::try_new(alloc, settings, east)?,
+            calm: false,
         })
     }
 
@@ -97,7 +100,7 @@ impl Adm {
     /// Keeps what arrived on a side for the next `send`. A second call before it replaces the first.
     pub fn receive(&mut self, side: Side, arrived: Arrived, frame: &FrameBuf)
         requires { frame.now.rate ≡ self.old.settings.rate }
-        ensures node { self.new ≡ at_receiving side (arrived_on arrived frame.now) self.old }
+        ensures node { self.new ≡ at_receiving side (arrived_on (as_arrival arrived frame.now.bytes)) self.old }
         ensures moment { moment_of self.new ≡ moment_of self.old }
     {
         self.cross.receive(side, arrived, frame);
@@ -130,7 +133,7 @@ impl Adm {
 
     /// The state.
     pub fn state(&self) -> &NodeState
-        ensures { result.now ≡ self.now.cross.state }
+        ensures { result.now ≡ self.now.state }
     {
         self.cross.state()
     }
@@ -156,95 +159,15 @@ impl Adm {
 
     /// Whether the last round changed nothing: no word sent or heard, no state, far end, local request, interpreter or
     /// generator. The first round isn't calm.
-    #[tactic(auto, unfolding(crate::specs::Node::is_calm))]
     pub fn calm(&self) -> bool
-        ensures { result ≡ is_calm self.now }
+        ensures { result ≡ self.now.calm }
     {
-        self.rounds >= 2
-            && !self.cross.moved()
-            && self.cross.receiver(Side::West).is_steady()
-            && self.cross.receiver(Side::East).is_steady()
-            && self.west_out.is_steady()
-            && self.east_out.is_steady()
-    }
-}
-
-// A round, stage by stage.
-impl Adm {
-    // Section overhead, defects and words heard, and local requests.
-    #[tactic(auto, unfolding(crate::specs::Node::after_taking))]
-    fn take(&mut self, now: Moment)
-        requires later { moment_of self.old ≤ now.0 }
-        requires within { now.0 ≤ 1000000000 }
-        ensures node { self.new ≡ after_taking now.0 self.old }
-        ensures settings { self.new.settings ≡ self.old.settings }
-        ensures rounds { self.new.rounds ≡ self.old.rounds }
-    {
-        self.cross.take(self.settings.threshold, now);
-    }
-
-    // The state and the words.
-    #[tactic(auto, unfolding(crate::specs::Node::after_deciding))]
-    fn decide(&mut self)
-        ensures node { self.new ≡ after_deciding self.old }
-        ensures settings { self.new.settings ≡ self.old.settings }
-        ensures rounds { self.new.rounds ≡ self.old.rounds }
-    {
-        let sent = self.cross.decide();
-        self.west_out.say(sent.west);
-        self.east_out.say(sent.east);
-    }
-
-    // All pointer interpreters.
-    #[tactic(auto, unfolding(crate::specs::Node::after_interpreting))]
-    fn interpret(&mut self)
-        ensures node { self.new ≡ after_interpreting self.old }
-        ensures settings { self.new.settings ≡ self.old.settings }
-        ensures rounds { self.new.rounds ≡ self.old.rounds }
-    {
-        self.cross.interpret();
-    }
-
-    // What the ports deliver, in the new state.
-    #[tactic(auto, using(crate::proofs::Ports::in_slots), unfolding(crate::specs::Node::after_delivering))]
-    fn deliver(&mut self)
-        ensures node { self.new ≡ after_delivering self.old }
-        ensures settings { self.new.settings ≡ self.old.settings }
-        ensures rounds { self.new.rounds ≡ self.old.rounds }
-    {
-        deliver_all(&self.cross, &mut self.ports);
-    }
-
-    // The next chunk of each port's stream.
-    #[tactic(auto, using(crate::proofs::Ports::few_chunks), unfolding(crate::specs::Node::after_feeding))]
-    fn feed(&mut self)
-        requires { self.old.rounds < 2 ^ 32 }
-        ensures node { self.new ≡ after_feeding self.old }
-        ensures settings { self.new.settings ≡ self.old.settings }
-    {
-        feed_all(&mut self.ports);
-        self.rounds += 1;
-    }
-
-    // All pointer generators, and both frames.
-    #[tactic(auto, unfolding(crate::specs::Node::after_sending, crate::specs::Node::frames_of))]
-    fn forward(&mut self, west: &mut FrameBuf, east: &mut FrameBuf)
-        requires west { west.old.rate ≡ self.old.settings.rate }
-        requires east { east.old.rate ≡ self.old.settings.rate }
-        ensures node { self.new ≡ after_sending self.old }
-        ensures west { west.new ≡ (frames_of self.old).west }
-        ensures east { east.new ≡ (frames_of self.old).east }
-        ensures rates { (west.new.rate ≡ west.old.rate) × (east.new.rate ≡ east.old.rate) }
-    {
-        self.west_out
-            .send(&self.cross, &self.ports, Side::West, west);
-        self.east_out
-            .send(&self.cross, &self.ports, Side::East, east);
+        self.calm
     }
 
     /// One round at a moment: what arrived is read, the state and the words follow, the ports deliver, and a frame goes
     /// out on each side. It takes no memory.
-    #[tactic(auto, unfolding(crate::specs::Node::node_round, crate::specs::Node::ready))]
+    #[tactic(auto, unfolding(crate::specs::Node::node_round))]
     pub fn send(&mut self, now: Moment, west: &mut FrameBuf, east: &mut FrameBuf)
         requires west { west.old.rate ≡ self.old.settings.rate }
         requires east { east.old.rate ≡ self.old.settings.rate }
@@ -257,11 +180,45 @@ impl Adm {
         ensures rates { (west.new.rate ≡ west.old.rate) × (east.new.rate ≡ east.old.rate) }
         ensures goes_on { GoesOn now.0 self.old self.new }
     {
-        self.take(now);
-        self.decide();
-        self.interpret();
-        self.deliver();
-        self.feed();
-        self.forward(west, east);
+        let ran = has_run(self.rounds);
+        let taken = self.cross.take(self.settings.threshold, now);
+        let (sent, decided) = self.cross.decide();
+        let west_said = self.west_out.say(sent.west);
+        let east_said = self.east_out.say(sent.east);
+        deliver_all(&self.cross, &mut self.ports);
+        feed_all(&mut self.ports);
+        self.rounds += 1;
+        let west_made = self
+            .west_out
+            .send(&self.cross, &self.ports, Side::West, west);
+        let east_made = self
+            .east_out
+            .send(&self.cross, &self.ports, Side::East, east);
+        let calm = is_calm(
+            ran, taken, decided, west_said, west_made, east_said, east_made,
+        );
+        self.calm = calm;
     }
+}
+
+// Whether a round is calm: one ran before it, and all that is compared is the same.
+fn is_calm(
+    ran: bool,
+    taken: bool,
+    decided: bool,
+    west_said: bool,
+    west_made: bool,
+    east_said: bool,
+    east_made: bool,
+) -> bool
+    ensures { result ≡ (ran && (taken && decided && (west_said && west_made) && (east_said && east_made))) }
+{
+    ran && taken && decided && west_said && west_made && east_said && east_made
+}
+
+// Whether a round has run.
+fn has_run(rounds: u64) -> bool
+    ensures { result ≡ nat_le 1 rounds }
+{
+    rounds >= 1
 }

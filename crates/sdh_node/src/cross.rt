@@ -1,15 +1,18 @@
-//! The cross-connect: both sides that receive, the state, and where it leads what comes in.
-ghost use Rattle.std.specs.Prelude.{◌≡◌, ◌+◌, ◌*◌, ◌-◌, ◌/◌, ◌<◌, ◌≤◌, IfOk, length};
+//! The cross-connect: both sides that receive and what they take in, the state, and where it leads what comes in.
+ghost use Rattle.std.specs.Prelude.{◌≡◌, ◌&&◌, ◌+◌, ◌*◌, ◌-◌, ◌/◌, ◌<◌, ◌≤◌, IfOk, length};
 ghost use Rattle.sdh_frame.specs.Sizes.{n_of};
 ghost use Rattle.sdh_ringmap.specs.declared.Side.TheVariants.{West, East};
 ghost use Rattle.sdh_squelch.specs.Kept.{KeepsRing};
 ghost use Rattle.sdh_nodestate.specs.Rules.{word};
 ghost use Rattle.sdh_nodestate.specs.Words.{SendsSpellable};
+ghost use Rattle.sdh_node.specs.Same.{same_state, same_in};
+ghost use Rattle.sdh_plant.specs.Arrivals.{as_arrival};
 ghost use Rattle.sdh_node.specs.Receiving.{commanded_by, arrived_on};
-ghost use Rattle.sdh_node.specs.Node.{new_cross};
-ghost use Rattle.sdh_node.specs.Crossing.{on_side, at_side, half_of, both_taken, scene_of, decided, both_interpreted, leaving, slot_of, dropped_at};
-ghost use Rattle.sdh_node.specs.Outlets.{delivered_from};
+ghost use Rattle.sdh_node.specs.Node.{new_cross, compared_in};
+ghost use Rattle.sdh_node.specs.Crossing.{on_side, intake_on, at_side, half_of, both_taken, scene_of, decided, received, leaving, slot_of, dropped_at};
+ghost use Rattle.sdh_node.specs.Outlets.{chunk_form, chunk_from, delivered_from};
 
+use crate::intake::{Intake, h3_at};
 use crate::outlet::Outlet;
 use crate::receiver::Receiver;
 use crate::same::{same_shape, shape_of};
@@ -18,7 +21,9 @@ use sdh_bridge::{Origin, drop_origin, protection_origin, working_origin};
 use sdh_circuits::{CircuitMap, Slot};
 use sdh_frame::{FrameBuf, Rate};
 use sdh_nodestate::{Heard, Needs, NodeState, Sent, start, step};
+use sdh_payload::ChunkForm;
 use sdh_plant::Arrived;
+use sdh_pointer::Action;
 use sdh_request::{Command, Moment};
 use sdh_ringmap::{Pos, RingMap, Side};
 use sdh_squelch::Table;
@@ -32,9 +37,10 @@ pub struct CrossConnect {
     at: Pos,
     table: Table,
     state: NodeState,
-    moved: bool,
     west: Receiver,
     east: Receiver,
+    west_in: Intake,
+    east_in: Intake,
 }
 
 impl Model for CrossConnect {
@@ -43,12 +49,12 @@ impl Model for CrossConnect {
 
     ghost Value = { Cross };
 
-    ghost view = { λ x. record { ids = x.map; at = x.at; rows = x.table.rows; state = x.state; moved = x.moved; west = x.west; east = x.east } };
+    ghost view = { λ x. record { ids = x.map; at = x.at; circuits = x.table.circuits; state = x.state; west = x.west; east = x.east; west_in = x.west_in; east_in = x.east_in } };
 
     ghost invariant = { λ x. record {
       ring : x.table.ring ≡ x.map;
       place : x.table.at ≡ x.at;
-      cross : IsCross (record { ids = x.map; at = x.at; rows = x.table.rows; state = x.state; moved = x.moved; west = x.west; east = x.east });
+      cross : IsCross (record { ids = x.map; at = x.at; circuits = x.table.circuits; state = x.state; west = x.west; east = x.east; west_in = x.west_in; east_in = x.east_in });
     } };
 }
 
@@ -82,9 +88,10 @@ impl CrossConnect {
             at,
             table: Table::try_new(alloc, map, circuits, at)?,
             state: start(),
-            moved: false,
             west: Receiver::try_new(alloc, settings)?,
             east: Receiver::try_new(alloc, settings)?,
+            west_in: Intake::try_new(alloc, settings.rate)?,
+            east_in: Intake::try_new(alloc, settings.rate)?,
         })
     }
 
@@ -101,8 +108,8 @@ impl CrossConnect {
 
     /// Keeps what arrived on a side.
     pub fn receive(&mut self, side: Side, arrived: Arrived, frame: &FrameBuf)
-        requires { frame.now.rate ≡ self.old.west.frame.rate }
-        ensures cross { self.new ≡ at_side side (arrived_on arrived frame.now) self.old }
+        requires { frame.now.rate ≡ self.old.west.section.rate }
+        ensures cross { self.new ≡ at_side side (arrived_on (as_arrival arrived frame.now.bytes)) self.old }
         ensures moment { self.new.west.local.moment ≡ self.old.west.local.moment }
     {
         match side {
@@ -111,28 +118,32 @@ impl CrossConnect {
         }
     }
 
-    /// Both sides take what arrived.
+    /// Both sides take what arrived, and the interpreters read. Whether the requests, the words heard and what the
+    /// interpreters keep are as before.
     #[tactic(auto, unfolding(crate::specs::Crossing::both_taken))]
-    pub fn take(&mut self, threshold: u16, now: Moment)
+    pub fn take(&mut self, threshold: u16, now: Moment) -> bool
         requires west { self.old.west.local.moment ≤ now.0 }
         requires east { self.old.east.local.moment ≤ now.0 }
         requires within { now.0 ≤ 1000000000 }
         ensures cross { self.new ≡ both_taken threshold now.0 self.old }
-        ensures rate { self.new.west.frame.rate ≡ self.old.west.frame.rate }
+        ensures same { result ≡ (same_in (compared_in self.new.west) (compared_in self.old.west) && same_in (compared_in self.new.east) (compared_in self.old.east)) }
+        ensures rate { self.new.west.section.rate ≡ self.old.west.section.rate }
         ensures west { self.new.west.local.moment ≡ now.0 }
         ensures east { self.new.east.local.moment ≡ now.0 }
     {
-        self.west.take(threshold, now);
-        self.east.take(threshold, now);
+        let west = self.west.take(threshold, now, &mut self.west_in);
+        let east = self.east.take(threshold, now, &mut self.east_in);
+        west && east
     }
 
-    /// Takes the state of this round, and tells the words that are sent.
+    /// Takes the state of this round, and tells the words that are sent, and whether the state is as before.
     #[tactic(auto, unfolding(crate::specs::Crossing::decided, crate::specs::Crossing::scene_of))]
-    pub fn decide(&mut self) -> Sent
+    pub fn decide(&mut self) -> (Sent, bool)
         ensures cross { self.new ≡ decided self.old }
-        ensures west { result.west ≡ word (scene_of self.old) West }
-        ensures east { result.east ≡ word (scene_of self.old) East }
-        ensures spellable { SendsSpellable result }
+        ensures west { result.0.west ≡ word (scene_of self.old) West }
+        ensures east { result.0.east ≡ word (scene_of self.old) East }
+        ensures spellable { SendsSpellable result.0 }
+        ensures same { result.1 ≡ same_state self.new.state self.old.state }
         ensures west_in { self.new.west ≡ self.old.west }
         ensures east_in { self.new.east ≡ self.old.east }
     {
@@ -149,21 +160,9 @@ impl CrossConnect {
         let shape = shape_of(&self.state);
         let old = std::mem::replace(&mut self.state, start());
         let (state, sent) = step(old, &self.map, self.at, needs, heard);
-        self.moved = !same_shape(shape_of(&state), shape);
+        let same = same_shape(shape_of(&state), shape);
         self.state = state;
-        sent
-    }
-
-    /// All interpreters read.
-    #[tactic(auto, unfolding(crate::specs::Crossing::both_interpreted))]
-    pub fn interpret(&mut self)
-        ensures cross { self.new ≡ both_interpreted self.old }
-        ensures rate { self.new.west.frame.rate ≡ self.old.west.frame.rate }
-        ensures west { self.new.west.local ≡ self.old.west.local }
-        ensures east { self.new.east.local ≡ self.old.east.local }
-    {
-        self.west.interpret();
-        self.east.interpret();
+        (sent, same)
     }
 
     /// The state.
@@ -173,17 +172,10 @@ impl CrossConnect {
         &self.state
     }
 
-    /// Whether the last round changed the state.
-    pub fn moved(&self) -> bool
-        ensures { result ≡ self.now.moved }
-    {
-        self.moved
-    }
-
     /// The side that receives.
     pub fn receiver(&self, side: Side) -> &Receiver
         ensures side { result.now ≡ on_side self.now side }
-        ensures rate { result.now.frame.rate ≡ self.now.west.frame.rate }
+        ensures rate { result.now.section.rate ≡ self.now.west.section.rate }
     {
         match side {
             Side::West => &self.west,
@@ -191,20 +183,50 @@ impl CrossConnect {
         }
     }
 
+    /// What a side takes in.
+    pub fn intake(&self, side: Side) -> &Intake
+        ensures intake { result.now ≡ intake_on self.now side }
+        ensures rate { result.now.frame.rate ≡ self.now.west.section.rate }
+    {
+        match side {
+            Side::West => &self.west_in,
+            Side::East => &self.east_in,
+        }
+    }
+
+    /// The action of the interpreter of an AU-4.
+    pub fn action(&self, side: Side, au: u16) -> Action
+        requires first { 1 ≤ au }
+        requires last { au ≤ n_of self.now.west.section.rate }
+        ensures { result ≡ (received self.now side au).action }
+    {
+        self.intake(side).action(au)
+    }
+
+    /// The value of the interpreter of an AU-4.
+    pub fn value(&self, side: Side, au: u16) -> u16
+        requires first { 1 ≤ au }
+        requires last { au ≤ n_of self.now.west.section.rate }
+        ensures value { result ≡ (received self.now side au).value }
+        ensures small { result ≤ 782 }
+    {
+        self.receiver(side).value(au)
+    }
+
     /// Half of N.
     pub fn half(&self) -> u16
         ensures half { result ≡ half_of self.now }
         ensures few { result ≤ 8 }
-        ensures twice { 2 * result ≡ n_of self.now.west.frame.rate }
+        ensures twice { 2 * result ≡ n_of self.now.west.section.rate }
     {
-        half_of(self.west.frame().rate())
+        half_of(self.west_in.rate())
     }
 
     /// Where an AU-4 that leaves on a side comes from, and its slot: AU-4s up to half of N are the working slots, and
     /// those above it the protection slots.
     pub fn leaving(&self, side: Side, au: u16) -> (u16, Origin)
         requires first { 1 ≤ au }
-        requires last { au ≤ n_of self.now.west.frame.rate }
+        requires last { au ≤ n_of self.now.west.section.rate }
         ensures slot { result.0 ≡ slot_of self.now au }
         ensures origin { result.1 ≡ leaving self.now side au }
         ensures first { 1 ≤ result.0 }
@@ -226,6 +248,40 @@ impl CrossConnect {
         }
     }
 
+    // Delivers an AU-4 that isn't AIS.
+    fn deliver_chunk(&self, side: Side, au: u16, outlet: &mut Outlet, scratch: &mut [u8])
+        requires first { 1 ≤ au }
+        requires last { au ≤ n_of self.now.west.section.rate }
+        requires scratch { length scratch.old ≡ 2349 }
+        ensures outlet { outlet.new ≡ chunk_from (received self.now side au) }
+        ensures scratch { length scratch.new ≡ 2349 }
+    {
+        let frame = self.intake(side).frame();
+        let h3 = h3_at(frame, au);
+        frame.take_payload(au, scratch);
+        outlet.deliver(
+            scratch,
+            &h3,
+            chunk_form(self.action(side, au)),
+            self.value(side, au),
+        );
+    }
+
+    // Delivers an AU-4.
+    #[tactic(auto, unfolding(crate::specs::Outlets::delivered_from))]
+    fn deliver_from(&self, side: Side, au: u16, outlet: &mut Outlet, scratch: &mut [u8])
+        requires first { 1 ≤ au }
+        requires last { au ≤ n_of self.now.west.section.rate }
+        requires scratch { length scratch.old ≡ 2349 }
+        ensures outlet { outlet.new ≡ delivered_from (received self.now side au) }
+        ensures scratch { length scratch.new ≡ 2349 }
+    {
+        match self.action(side, au) {
+            Action::Ais => outlet.silence(),
+            _ => self.deliver_chunk(side, au, outlet, scratch),
+        }
+    }
+
     /// Delivers what the working arrival of a slot from a side stands for.
     #[tactic(auto, unfolding(crate::specs::Crossing::dropped_at, crate::specs::Outlets::delivered_from))]
     pub fn deliver(&self, side: Side, slot: Slot, outlet: &mut Outlet, scratch: &mut [u8])
@@ -238,9 +294,19 @@ impl CrossConnect {
         let half = self.half();
         let au = u16::from(slot.0);
         match drop_origin(&self.state, &self.map, &self.table, self.at, side, slot) {
-            Origin::Working(from) => self.receiver(from).deliver(au, outlet, scratch),
-            Origin::Protection(from) => self.receiver(from).deliver(half + au, outlet, scratch),
+            Origin::Working(from) => self.deliver_from(from, au, outlet, scratch),
+            Origin::Protection(from) => self.deliver_from(from, half + au, outlet, scratch),
             Origin::Add(_) | Origin::Ais => outlet.silence(),
         }
+    }
+}
+
+fn chunk_form(action: Action) -> ChunkForm
+    ensures { result ≡ chunk_form action }
+{
+    match action {
+        Action::Up => ChunkForm::Short,
+        Action::Down => ChunkForm::Long,
+        Action::Normal | Action::New | Action::Ais => ChunkForm::Plain,
     }
 }

@@ -2,13 +2,15 @@
 ghost use Rattle.std.specs.Prelude.{◌≡◌, ℕ, ◌+◌, ◌/◌, ◌%◌, ◌<◌, ◌≤◌, length};
 ghost use Rattle.sdh_frame.specs.Sizes.{n_of};
 ghost use Rattle.sdh_frame.specs.Aus.{au_of, with_au, with_aus, ones};
-ghost use Rattle.sdh_pointer.specs.Sending.{after_action};
-ghost use Rattle.sdh_node.specs.Passing.{no_input, h3_sent, pointers_with, au_with, au_for, au_sent, aus_sent, after_inputs};
-ghost use Rattle.sdh_node.specs.Tributaries.{own_input, add_input};
+ghost use Rattle.std.specs.List.{list_any};
+ghost use Rattle.sdh_pointer.specs.Sending.{Generator, after_action};
+ghost use Rattle.sdh_node.specs.Same.{same_generators};
+ghost use Rattle.sdh_node.specs.Passing.{no_input, h3_sent, pointers_with, au_with, au_for, au_sent, states_of, aus_sent, after_inputs};
+ghost use Rattle.sdh_node.specs.Tributaries.{own_input, holds};
 ghost use Rattle.sdh_node.specs.Crossing.{received, half_of, input_of, input_at};
 
 use crate::cross::CrossConnect;
-use crate::receiver::{Receiver, h3_at};
+use crate::intake::h3_at;
 use crate::tributary::{Tributary, place_of};
 use sdh_bridge::Origin;
 use sdh_circuits::PortId;
@@ -91,22 +93,30 @@ fn send_ais(generator: &mut Gen, out: &mut FrameBuf, to: u16)
 
 // Passes on an AU-4 that a side received.
 #[tactic(auto, unfolding(crate::specs::Passing::au_sent, sdh_pointer::specs::Sending::after_action))]
-fn pass_on(from: &Receiver, au: u16, generator: &mut Gen, out: &mut FrameBuf, to: u16)
-    requires rate { from.now.frame.rate ≡ out.old.rate }
+fn pass_on(
+    cross: &CrossConnect,
+    side: Side,
+    au: u16,
+    generator: &mut Gen,
+    out: &mut FrameBuf,
+    to: u16,
+)
+    requires rate { cross.now.west.section.rate ≡ out.old.rate }
     requires first { 1 ≤ au }
     requires last { au ≤ n_of out.old.rate }
     requires to_first { 1 ≤ to }
     requires to_last { to ≤ n_of out.old.rate }
-    ensures generator { let input = received from.now au in generator.new ≡ after_action generator.old input.action input.value }
-    ensures frame { out.new ≡ record out.old { bytes = with_au (n_of out.old.rate) to (au_sent generator.old.sending (received from.now au)) out.old.bytes } }
+    ensures generator { let input = received cross.now side au in generator.new ≡ after_action generator.old input.action input.value }
+    ensures frame { out.new ≡ record out.old { bytes = with_au (n_of out.old.rate) to (au_sent generator.old.sending (received cross.now side au)) out.old.bytes } }
 {
-    let action = from.action(au);
-    let form = generator.step(action, from.value(au));
-    put_for(action, form, generator.word(), from.frame(), au, out, to);
+    let action = cross.action(side, au);
+    let form = generator.step(action, cross.value(side, au));
+    let frame = cross.intake(side).frame();
+    put_for(action, form, generator.word(), frame, au, out, to);
 }
 
 // Sends the next chunk of a port.
-#[tactic(auto, using(crate::proofs::Ports::own_h3), unfolding(crate::specs::Passing::au_sent, sdh_pointer::specs::Sending::after_action, sdh_frame::specs::Aus::with_au))]
+#[tactic(auto, using(crate::proofs::Ports::own_h3), unfolding(crate::specs::Passing::au_sent, crate::specs::Tributaries::sent_in, sdh_pointer::specs::Sending::after_action, sdh_frame::specs::Aus::with_au))]
 fn send_own(port: &Tributary, generator: &mut Gen, out: &mut FrameBuf, to: u16)
     requires to_first { 1 ≤ to }
     requires to_last { to ≤ n_of out.old.rate }
@@ -120,12 +130,12 @@ fn send_own(port: &Tributary, generator: &mut Gen, out: &mut FrameBuf, to: u16)
 }
 
 // Adds the stream of the port with this name, if it is there.
-#[tactic(auto, using(crate::proofs::Ports::port_found, crate::proofs::Ports::port_missing))]
+#[tactic(auto, using(crate::proofs::Ports::port_found, crate::proofs::Ports::port_missing), unfolding(crate::specs::Tributaries::sent_in))]
 fn add(id: PortId, ports: &[Tributary], generator: &mut Gen, out: &mut FrameBuf, to: u16)
     requires to_first { 1 ≤ to }
     requires to_last { to ≤ n_of out.old.rate }
-    ensures generator { let input = add_input id ports.now in generator.new ≡ after_action generator.old input.action input.value }
-    ensures frame { out.new ≡ record out.old { bytes = with_au (n_of out.old.rate) to (au_sent generator.old.sending (add_input id ports.now)) out.old.bytes } }
+    ensures generator { let input = holds ports.now id in generator.new ≡ after_action generator.old input.action input.value }
+    ensures frame { out.new ≡ record out.old { bytes = with_au (n_of out.old.rate) to (au_sent generator.old.sending (holds ports.now id)) out.old.bytes } }
 {
     match place_of(ports, id) {
         Some(i) => {
@@ -146,37 +156,45 @@ fn send_one(
     out: &mut FrameBuf,
     to: u16,
 )
-    requires rate { cross.now.west.frame.rate ≡ out.old.rate }
+    requires rate { cross.now.west.section.rate ≡ out.old.rate }
     requires first { 1 ≤ slot }
     requires last { slot ≤ half_of cross.now }
     requires to_first { 1 ≤ to }
     requires to_last { to ≤ n_of out.old.rate }
-    ensures generator { let input = input_of cross.now ports.now slot origin in generator.new ≡ after_action generator.old input.action input.value }
-    ensures frame { out.new ≡ record out.old { bytes = with_au (n_of out.old.rate) to (au_sent generator.old.sending (input_of cross.now ports.now slot origin)) out.old.bytes } }
+    ensures generator { let input = input_of cross.now (holds ports.now) slot origin in generator.new ≡ after_action generator.old input.action input.value }
+    ensures frame { out.new ≡ record out.old { bytes = with_au (n_of out.old.rate) to (au_sent generator.old.sending (input_of cross.now (holds ports.now) slot origin)) out.old.bytes } }
 {
     let half = cross.half();
     match origin {
         Origin::Add(id) => add(id, ports, generator, out, to),
-        Origin::Working(side) => pass_on(cross.receiver(side), slot, generator, out, to),
-        Origin::Protection(side) => pass_on(cross.receiver(side), half + slot, generator, out, to),
+        Origin::Working(side) => pass_on(cross, side, slot, generator, out, to),
+        Origin::Protection(side) => pass_on(cross, side, half + slot, generator, out, to),
         Origin::Ais => send_ais(generator, out, to),
     }
 }
 
-/// All generators of a side send.
+// Whether the last step of one of these moved it.
+fn any_moved(generators: &[Gen]) -> bool
+    ensures { result ≡ list_any (λ (g : Generator). g.moved) generators.now }
+{
+    generators.iter().any(|generator| generator.moved())
+}
+
+/// All generators of a side send. Whether they are in the states in which they were.
 pub fn send_all(
     cross: &CrossConnect,
     ports: &[Tributary],
     side: Side,
     generators: &mut Vec<Gen>,
     out: &mut FrameBuf,
-)
-    requires rate { cross.now.west.frame.rate ≡ out.old.rate }
+) -> bool
+    requires rate { cross.now.west.section.rate ≡ out.old.rate }
     requires few { n_of out.old.rate ≤ 16 }
     requires len { length generators.old.items ≡ n_of out.old.rate }
-    ensures generators { generators.new.items ≡ after_inputs (input_at cross.now ports.now side) generators.old.items }
-    ensures frame { out.new ≡ record out.old { bytes = with_aus (n_of out.old.rate) 1 (aus_sent (input_at cross.now ports.now side) generators.old.items) out.old.bytes } }
+    ensures generators { states_of generators.new.items ≡ after_inputs (input_at cross.now (holds ports.now) side) (states_of generators.old.items) }
+    ensures frame { out.new ≡ record out.old { bytes = with_aus (n_of out.old.rate) 1 (aus_sent (input_at cross.now (holds ports.now) side) (states_of generators.old.items)) out.old.bytes } }
     ensures len { length generators.new.items ≡ n_of out.old.rate }
+    ensures same { result ≡ same_generators (states_of generators.new.items) (states_of generators.old.items) }
 {
     for k in 0..generators.len() {
         let to = k as u16 + 1;
@@ -184,4 +202,5 @@ pub fn send_all(
         let generator = &mut generators[k];
         send_one(cross, ports, slot, origin, generator, out, to);
     }
+    !any_moved(generators)
 }

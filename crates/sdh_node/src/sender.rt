@@ -1,11 +1,11 @@
 //! One side that sends.
 ghost use Rattle.std.specs.Prelude.{◌≡◌, ◌≤◌, IfOk, length};
-ghost use Rattle.std.specs.List.{list_any};
 ghost use Rattle.sdh_frame.specs.Sizes.{n_of, size_of};
 ghost use Rattle.sdh_nodestate.specs.Words.{IsSpellable};
-ghost use Rattle.sdh_pointer.specs.Sending.{Generator};
+ghost use Rattle.sdh_node.specs.Same.{same_word, same_generators};
+ghost use Rattle.sdh_node.specs.Tributaries.{holds};
 ghost use Rattle.sdh_node.specs.Crossing.{input_at};
-ghost use Rattle.sdh_node.specs.Sending.{with_word, frame_from, sent_from, is_steady_out};
+ghost use Rattle.sdh_node.specs.Sending.{with_word, frame_from, sent_from};
 ghost use Rattle.sdh_node.specs.Node.{new_sending};
 
 use crate::cross::CrossConnect;
@@ -28,24 +28,17 @@ pub struct Sender {
     section: Section,
     generators: Vec<Gen>,
     word: K,
-    moved: bool,
 }
 
 impl Model for Sender {
+    ghost use Rattle.sdh_node.specs.Passing.{states_of};
     ghost use Rattle.sdh_node.specs.Sending.{Sending, IsSending};
 
     ghost Value = { Sending };
 
-    ghost view = { λ s. record { section = s.section; generators = s.generators.items; word = s.word; moved = s.moved } };
+    ghost view = { λ s. record { section = s.section; generators = states_of s.generators.items; word = s.word } };
 
-    ghost invariant = { λ s. IsSending (record { section = s.section; generators = s.generators.items; word = s.word; moved = s.moved }) };
-}
-
-// Whether the last step of one of these moved it.
-fn any_moved(generators: &[Gen]) -> bool
-    ensures { result ≡ list_any (λ (g : Generator). g.moved) generators.now }
-{
-    generators.iter().any(|generator| generator.moved())
+    ghost invariant = { λ s. IsSending (record { section = s.section; generators = states_of s.generators.items; word = s.word }) };
 }
 
 impl Sender {
@@ -58,17 +51,18 @@ impl Sender {
             section: Section::try_new(settings.rate),
             generators: new_generators(alloc, settings.rate.n())?,
             word,
-            moved: false,
         })
     }
 
-    /// Takes the word of the next frame.
-    pub fn say(&mut self, word: K)
+    /// Takes the word of the next frame. Whether it is the word before.
+    pub fn say(&mut self, word: K) -> bool
         requires { IsSpellable word }
-        ensures { self.new ≡ with_word word self.old }
+        ensures sender { self.new ≡ with_word word self.old }
+        ensures same { result ≡ same_word self.new.word self.old.word }
     {
-        self.moved = !same_word(word, self.word);
+        let same = same_word(word, self.word);
         self.word = word;
+        same
     }
 
     /// The word of the last frame.
@@ -79,31 +73,26 @@ impl Sender {
         self.word
     }
 
-    /// Sends the next frame.
+    /// Sends the next frame. Whether all generators are in the states in which they were.
     pub fn send(
         &mut self,
         cross: &CrossConnect,
         ports: &[Tributary],
         side: Side,
         out: &mut FrameBuf,
-    )
-        requires rate { cross.now.west.frame.rate ≡ out.old.rate }
+    ) -> bool
+        requires rate { cross.now.west.section.rate ≡ out.old.rate }
         requires section { self.old.section.rate ≡ out.old.rate }
-        ensures sender { self.new ≡ sent_from (input_at cross.now ports.now side) self.old }
-        ensures frame { out.new ≡ frame_from (input_at cross.now ports.now side) self.old }
+        ensures sender { self.new ≡ sent_from (input_at cross.now (holds ports.now) side) self.old }
+        ensures frame { out.new ≡ frame_from (input_at cross.now (holds ports.now) side) self.old }
+        ensures same { result ≡ same_generators self.new.generators self.old.generators }
         ensures rate { self.new.section.rate ≡ self.old.section.rate }
         ensures out { out.new.rate ≡ out.old.rate }
     {
         let _ = out.rate();
-        send_all(cross, ports, side, &mut self.generators, out);
+        let same = send_all(cross, ports, side, &mut self.generators, out);
         let (k1, k2) = encode(self.word);
         write_section(&mut self.section, k1, k2, out);
-    }
-
-    /// Whether the last round left the word and all generators as they were.
-    pub fn is_steady(&self) -> bool
-        ensures { result ≡ is_steady_out self.now }
-    {
-        !self.moved && !any_moved(&self.generators)
+        same
     }
 }

@@ -48,6 +48,7 @@ fn first_chunk(alloc: Global, port: &Port) -> Result<Cells, AllocError>
 
 impl Tributary {
     /// A port that hasn't sent or delivered anything. All its memory is taken here.
+    #[tactic(auto, unfolding(crate::specs::Tributaries::sent_in))]
     pub fn try_new(
         alloc: Global,
         port: PortId,
@@ -76,7 +77,7 @@ impl Tributary {
     }
 
     /// Takes the next chunk of its stream.
-    #[tactic(auto, using(crate::proofs::Ports::chunk_after))]
+    #[tactic(auto, using(crate::proofs::Ports::chunk_after), unfolding(crate::specs::Tributaries::sent_in))]
     pub fn feed(&mut self)
         requires { self.old.feed.chunks < 2 ^ 32 }
         ensures { self.new ≡ fed self.old }

@@ -1,8 +1,9 @@
 -- What the calls make of the fibres.
-use Rattle.std.proofs.Common.{◌≡◌, ℕ, ◌+◌, ◌*◌, ◌-◌, ◌%◌, ◌<◌, Some, None, List, length, get_or, set, replicate, refl, ap, ◌∙◌, arith, inl, inr}
+use Rattle.std.proofs.Common.{◌≡◌, ℕ, ◌+◌, ◌*◌, ◌-◌, ◌%◌, ◌<◌, Some, None, List, length, get_or, set, drop, replicate, refl, ap, ◌∙◌, arith, inl, inr}
 use Rattle.std.proofs.Math.Nat.{mod-eq_of_lt, add-mod_left}
 use Rattle.std.proofs.lemmas.Bool.{cases_lt}
 use Rattle.std.proofs.lemmas.List.{length-set, length-replicate, get_or-replicate, get_or-set_same, get_or_past}
+use Rattle.std.proofs.lemmas.List.Elements.{All-set, All-replicate}
 use Rattle.std.specs.Prelude.{slice_index_or, option_map}
 use Rattle.std.specs.Option.{option_map_or}
 use Rattle.sdh_frame.specs.declared.Rate.{Rate}
@@ -12,10 +13,10 @@ use Rattle.sdh_ringmap.specs.declared.Side.TheVariants.{West, East}
 use Rattle.sdh_ringmap.specs.Places.{opposite, neighbour}
 use Rattle.sdh_plant.specs.declared.plant.Condition.{Condition}
 use Rattle.sdh_plant.specs.declared.plant.Condition.TheVariants.{Clear, Cut, Degraded}
-use Rattle.sdh_plant.specs.Fibres.{Arrival, Fibres, fibre, fibre_to}
+use Rattle.sdh_plant.specs.Fibres.{Arrival, Fibres, IsConditionAt, fibre, fibre_to}
 use Rattle.sdh_plant.specs.Arrivals.{arrival, honest_arrival, next_told, through, condition_of}
 use Rattle.sdh_plant.specs.Calls.{told_at, prepared, after_send}
-use Rattle.sdh_plant.specs.Laws.{SentComes, NewIsDark, StayPrepared}
+use Rattle.sdh_plant.specs.Laws.{SentComes, NewIsDark, StayPrepared, StayHonest}
 
 once_round : (n k : ℕ) → k < n → (n + k) % n ≡ k
 once_round n k h = add-mod_left n k ∙ mod-eq_of_lt h
@@ -79,8 +80,18 @@ new_is_dark rate n f p d none =
 
 pub stay_prepared : StayPrepared
 stay_prepared = record {
-  prepared = λ rate n f enough few. record { nodes = refl; rate = refl; conditions = length-replicate (2 * n) Clear; carried = length-replicate {A = Arrival} (2 * n) None; enough = enough; few = few };
-  apply = λ rate n f p d condition is. record { nodes = is.nodes; rate = is.rate; conditions = length-set f.conditions (fibre p d) condition ∙ is.conditions; carried = is.carried; enough = is.enough; few = is.few };
-  send = λ rate n f p d bytes is. record { nodes = is.nodes; rate = is.rate; conditions = is.conditions; carried = length-set f.carried (fibre p d) (Some bytes) ∙ is.carried; enough = is.enough; few = is.few };
-  receive = λ rate n f is. record { nodes = is.nodes; rate = is.rate; conditions = is.conditions; carried = is.carried; enough = is.enough; few = is.few };
+  prepared = λ rate n f enough few. record { nodes = refl; rate = refl; conditions = length-replicate (2 * n) Clear; each = All-replicate (IsConditionAt rate) (2 * n) Clear tt; carried = length-replicate {A = Arrival} (2 * n) None; enough = enough; few = few };
+  apply = λ rate n f p d condition at is. record { nodes = is.nodes; rate = is.rate; conditions = length-set f.conditions (fibre p d) condition ∙ is.conditions; each = All-set (IsConditionAt rate) f.conditions (fibre p d) condition at is.each; carried = is.carried; enough = is.enough; few = is.few };
+  send = λ rate n f p d bytes is. record { nodes = is.nodes; rate = is.rate; conditions = is.conditions; each = is.each; carried = length-set f.carried (fibre p d) (Some bytes) ∙ is.carried; enough = is.enough; few = is.few };
+  receive = λ rate n f is. record { nodes = is.nodes; rate = is.rate; conditions = is.conditions; each = is.each; carried = is.carried; enough = is.enough; few = is.few };
+}
+
+pub stay_honest : StayHonest
+stay_honest = record {
+  prepared = λ rate n f is. record { honest = is.honest; tells_none = ap (option_map (told_at rate)) is.tells_none };
+  apply = λ f p d condition is. record { honest = is.honest; tells_none = is.tells_none };
+  send = λ f p d bytes is. record { honest = is.honest; tells_none = is.tells_none };
+  receive = λ f is. record { honest = is.honest; tells_none = ap (option_map (drop 1)) is.tells_none };
+  known = λ f is. inl is.honest;
+  arrives = λ f p d is. untold f p d is.tells_none;
 }

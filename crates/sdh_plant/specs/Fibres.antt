@@ -1,6 +1,6 @@
 -- What a plant means: the fibres of a ring, and what it tells of the frames to come and of those that were sent. This
 -- project's own; each span has two fibres, one each way, as in a two-fibre ring of ITU-T G.841.
-use Rattle.std.specs.Prelude.{ℕ, ◌≡◌, ◌+◌, ◌*◌, ◌≤◌, Bool, Option, List, length}
+use Rattle.std.specs.Prelude.{ℕ, ◌≡◌, ◌+◌, ◌*◌, ◌≤◌, true, Bool, Option, None, List, length, All}
 use Rattle.sdh_frame.specs.declared.Rate.{Rate}
 use Rattle.sdh_frame.specs.Sizes.{n_of}
 use Rattle.sdh_ringmap.specs.declared.Side.{Side}
@@ -43,17 +43,23 @@ fibre_to n p d = fibre (neighbour n p d) (opposite d)
 abbrev pub HasNoFibres : Fibres → Type 0
 HasNoFibres f = f.nodes ≡ 0
 
--- there are fibres for a ring of n positions and frames of this rate
-pub record IsPrepared (at : Rate) (n : ℕ) (f : Fibres) : Type 0 where
-  pub nodes : f.nodes ≡ n
-  pub rate : f.rate ≡ at
-  pub conditions : length f.conditions ≡ 2 * n
-  pub carried : length f.carried ≡ 2 * n
-  pub enough : 2 ≤ n
-  pub few : n ≤ 16
-
 -- a degradation is by 1 to 3 N columns
 abbrev pub IsConditionAt : Rate → Condition → Type 0
 IsConditionAt rate Clear = Unit {0}
 IsConditionAt rate Cut = Unit {0}
 IsConditionAt rate (Degraded k) = (1 ≤ k) × (k ≤ 3 * n_of rate)
+
+-- there are fibres for a ring of n positions and frames of this rate, each in a condition of the rate
+pub record IsPrepared (at : Rate) (n : ℕ) (f : Fibres) : Type 0 where
+  pub nodes : f.nodes ≡ n
+  pub rate : f.rate ≡ at
+  pub conditions : length f.conditions ≡ 2 * n
+  pub each : All (IsConditionAt at) f.conditions
+  pub carried : length f.carried ≡ 2 * n
+  pub enough : 2 ≤ n
+  pub few : n ≤ 16
+
+-- what comes out of the fibres is what was sent into them, and no other arrivals are told
+pub record IsHonest (f : Fibres) : Type 0 where
+  pub honest : f.honest ≡ true
+  pub tells_none : f.told ≡ None

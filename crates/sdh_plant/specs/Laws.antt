@@ -5,8 +5,8 @@ use Rattle.sdh_frame.specs.Sizes.{n_of}
 use Rattle.sdh_ringmap.specs.declared.Side.{Side}
 use Rattle.sdh_ringmap.specs.Places.{opposite, neighbour}
 use Rattle.sdh_plant.specs.declared.plant.Condition.{Condition}
-use Rattle.sdh_plant.specs.Fibres.{Fibres, IsPrepared, fibre}
-use Rattle.sdh_plant.specs.Arrivals.{arrival, through, condition_of}
+use Rattle.sdh_plant.specs.Fibres.{Fibres, IsConditionAt, IsPrepared, IsHonest, fibre}
+use Rattle.sdh_plant.specs.Arrivals.{Knows, arrival, honest_arrival, through, condition_of}
 use Rattle.sdh_plant.specs.Calls.{prepared, after_apply, after_send, after_receive}
 
 -- where no arrivals are told, a frame that is sent on a side comes to the neighbour there, on its other side, as the
@@ -22,6 +22,15 @@ NewIsDark = (rate : Rate) (n : ℕ) (f : Fibres) (p : ℕ) (d : Side) → f.told
 -- prepare gives fibres for its rate and number of positions, and the other calls keep them
 pub record StayPrepared : Type 0 where
   pub prepared : (rate : Rate) (n : ℕ) (f : Fibres) → 2 ≤ n → n ≤ 16 → IsPrepared rate n (prepared rate n f)
-  pub apply : (rate : Rate) (n : ℕ) (f : Fibres) (p : ℕ) (d : Side) (condition : Condition) → IsPrepared rate n f → IsPrepared rate n (after_apply f p d condition)
+  pub apply : (rate : Rate) (n : ℕ) (f : Fibres) (p : ℕ) (d : Side) (condition : Condition) → IsConditionAt rate condition → IsPrepared rate n f → IsPrepared rate n (after_apply f p d condition)
   pub send : (rate : Rate) (n : ℕ) (f : Fibres) (p : ℕ) (d : Side) (bytes : List ℕ) → IsPrepared rate n f → IsPrepared rate n (after_send f p d bytes)
   pub receive : (rate : Rate) (n : ℕ) (f : Fibres) → IsPrepared rate n f → IsPrepared rate n (after_receive f)
+
+-- honest fibres stay so, and their arrivals are known: what was sent, as the fibre's condition lets it through
+pub record StayHonest : Type 0 where
+  pub prepared : (rate : Rate) (n : ℕ) (f : Fibres) → IsHonest f → IsHonest (prepared rate n f)
+  pub apply : (f : Fibres) (p : ℕ) (d : Side) (condition : Condition) → IsHonest f → IsHonest (after_apply f p d condition)
+  pub send : (f : Fibres) (p : ℕ) (d : Side) (bytes : List ℕ) → IsHonest f → IsHonest (after_send f p d bytes)
+  pub receive : (f : Fibres) → IsHonest f → IsHonest (after_receive f)
+  pub known : (f : Fibres) → IsHonest f → Knows f
+  pub arrives : (f : Fibres) (p : ℕ) (d : Side) → IsHonest f → arrival f p d ≡ honest_arrival f p d

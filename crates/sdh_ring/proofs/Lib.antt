@@ -3,5 +3,4 @@ pub mod Receives
 pub mod Sends
 pub mod Rings
 pub mod Owned
-pub mod Windows
 pub mod Settling

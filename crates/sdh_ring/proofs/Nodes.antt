@@ -1,23 +1,29 @@
--- The nodes of a ring, one by one.
-use Rattle.std.proofs.Common.{◌≡◌, ℕ, ◌<◌, List, length, drop, set, get_or, sym, subst, ◌∙◌, inl, inr, arith}
-use Rattle.std.proofs.lemmas.Bool.{cases_lt}
-use Rattle.std.proofs.lemmas.List.{get_or-set_same, get_or-set_other}
-use Rattle.std.proofs.SliceLists.{any-default}
-use Rattle.sdh_basics.proofs.Indexing.{still_at}
+-- The nodes of a ring, one by one, and what is left on a refusal.
+use Rattle.std.proofs.Common.{◌≡◌, ℕ, zero, suc, ◌<◌, List, [], ◌∷◌, length, set, get_or, map, sym, ap, ◌∙◌, arith}
+use Rattle.std.proofs.lemmas.List.{map-set, set-get_or, length-map}
+use Rattle.std.specs.Prelude.{Result, Ok, Err, OnErr}
 use Rattle.sdh_node.specs.Node.{Node}
-use Rattle.sdh_ring.specs.Kept.{Each}
+use Rattle.sdh_world.specs.Held.{at_place}
+use Rattle.sdh_world.specs.Fixed.{fixed}
 
--- the node x at i is still the old one, and becomes y
-pub each_more : (R : Node → Node → Type 0) (old now : List Node) (i : ℕ) (x y : Node) → i < length now → drop i now ≡ drop i old → x ≡ get_or now i x → R x y → Each R old now → Each R old (set now i y)
-each_more R old now i x y h rest read step each = λ p d lt. elim (cases_lt p i) [
-  | inl before ↦ subst (λ z. R (get_or old p d) z) (sym (get_or-set_other now i p y d (omega arith))) (each p d lt)
-  | inr later ↦ elim (cases_lt i p) [
-    | inl after ↦ subst (λ z. R (get_or old p d) z) (sym (get_or-set_other now i p y d (omega arith))) (each p d lt)
-    | inr here ↦ subst (λ k. R (get_or old k d) (get_or (set now i y) k d)) (let same : i ≡ p = omega arith in same) (at d)
-  ]
-]
-  where
-    at : (d : Node) → R (get_or old i d) (get_or (set now i y) i d)
-    at d =
-        let was : x ≡ get_or old i d = read ∙ any-default now i x d h ∙ still_at now old i d rest in
-        subst (λ z. R z (get_or (set now i y) i d)) was (subst (λ z. R x z) (sym (get_or-set_same now i y d h)) step)
+-- the node x at i becomes y, which is fixed alike
+pub fixed_more : (old now : List Node) (i : ℕ) (x y : Node) → x ≡ get_or now i x → fixed y ≡ fixed x → map fixed now ≡ map fixed old → map fixed (set now i y) ≡ map fixed old
+fixed_more old now i x y read same all =
+    map-set fixed now i y ∙ ap (set (map fixed now) i) same ∙ sym (map-set fixed now i x)
+    ∙ ap (λ z. map fixed (set now i z)) read ∙ ap (map fixed) (set-get_or now i x) ∙ all
+
+pub length_fixed : (old now : List Node) → map fixed now ≡ map fixed old → length now ≡ length old
+length_fixed old now all = sym (length-map now fixed) ∙ ap length all ∙ length-map old fixed
+
+pub on_err : {T E P : Type 0} (r : Result T E) → P → OnErr r P
+on_err (Ok x) h = tt
+on_err (Err e) h = h
+
+placed : (change : Node → Node) (i : ℕ) (ns : List Node) (x : Node) → i < length ns → x ≡ get_or ns i x → set ns i (change x) ≡ at_place i change ns
+placed change i [] x h read = absurd (omega arith)
+placed change zero (n ∷ ns) x h read = ap (λ z. change z ∷ ns) read
+placed change (suc i) (n ∷ ns) x h read = ap (λ zs. n ∷ zs) (placed change i ns x (omega arith) read)
+
+-- the node x at i was changed
+pub placed_at : (change : Node → Node) (i : ℕ) (ns : List Node) (x y : Node) → i < length ns → x ≡ get_or ns i x → y ≡ change x → set ns i y ≡ at_place i change ns
+placed_at change i ns x y h read is = ap (set ns i) is ∙ placed change i ns x h read

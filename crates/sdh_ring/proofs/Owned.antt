@@ -14,7 +14,7 @@ use Rattle.sdh_squelch.specs.Kept.{KeepsRing}
 use Rattle.sdh_node.specs.Tributaries.{Tributary, new_tributary, ends_at, ends_from, tributaries_at, is_port, port_of, HasPort, outlet_of}
 use Rattle.sdh_node.specs.Node.{Node}
 use Rattle.sdh_node.specs.Outlets.{silent}
-use Rattle.sdh_ring.specs.Held.{HeldRing, end_of, position, outlet_at}
+use Rattle.sdh_world.specs.Held.{HeldRing, end_of, position, outlet_at}
 
 found-left : (p : Tributary → Bool) (xs ys : List Tributary) → IsSome (find p xs) → IsSome (find p (xs ++ ys))
 found-left p [] ys h = absurd (none h)

@@ -1,41 +1,30 @@
 -- What arrives, one call after the other.
-use Rattle.std.proofs.Common.{◌≡◌, ◌≢◌, ℕ, ◌+◌, ◌*◌, suc, zero, Bool, true, false, List, [], ◌∷◌, drop, Option, Some, None, refl, ap, ◌∙◌, arith, inl, inr}
-use Rattle.std.proofs.lemmas.List.{drop-drop}
+use Rattle.std.proofs.Common.{◌≡◌, ℕ, ◌+◌, ◌*◌, ◌<◌, ◌≤◌, suc, zero, List, [], ◌∷◌, ◌++◌, length, take, drop, set, get_or, Option, Some, None, refl, ap, sym, subst, ◌∙◌, arith, ◌⊎◌, inl, inr}
+use Rattle.std.proofs.lemmas.List.{drop-drop, take_more, take_more_set, take_all, length-append, length-take-le}
 use Rattle.std.specs.Prelude.{option_map, slice_index_or, ◌==◌, if◌then◌else◌}
 use Rattle.std.specs.Option.{option_map_or}
+use Rattle.sdh_basics.proofs.Indexing.{read_here}
 use Rattle.sdh_frame.specs.declared.Rate.{Rate}
-use Rattle.sdh_frame.specs.Sizes.{Frame}
-use Rattle.sdh_ringmap.specs.declared.Side.{Side}
 use Rattle.sdh_ringmap.specs.declared.Side.TheVariants.{West, East}
-use Rattle.sdh_plant.specs.declared.plant.Arrived.{Arrived}
-use Rattle.sdh_plant.specs.declared.plant.Arrived.TheVariants as arrived
 use Rattle.sdh_plant.specs.Fibres.{Arrival, Fibres, IsPrepared}
-use Rattle.sdh_plant.specs.Arrivals.{Knows, arrival, honest_arrival, next_told, as_arrival}
+use Rattle.sdh_plant.specs.Arrivals.{Knows, arrival, honest_arrival, next_told}
 use Rattle.sdh_plant.specs.Calls.{after_receive}
-use Rattle.sdh_node.specs.Receiving.{arrived_on}
-use Rattle.sdh_node.specs.Node.{Node, at_receiving}
-use Rattle.sdh_node.proofs.Rounds.{moment-arrived}
-use Rattle.sdh_ring.specs.Rounds.{with_arrival, met, taken, arrival_at, heard_of}
-use Rattle.sdh_ring.specs.Calls.{met_now}
-use Rattle.sdh_ring.specs.Kept.{Stays}
+use Rattle.sdh_node.specs.Node.{Node}
+use Rattle.sdh_world.specs.Rounds.{with_arrival, hearing, met, heard, taken, arrival_at, arrivals_from}
+use Rattle.sdh_world.proofs.Arrived.{knows_taken, arrivals_more, heard_more}
+use Rattle.sdh_ring.specs.Calls.{ReceivesOne, ReceivesBoth, Hears, HearsSome}
 
 -- ---- one node
 
--- what a receive answered is what arrives
-pub arrives : (rate : Rate) (d : Side) (a : Arrived) (f : Frame) (x : Arrival) (n : Node) → f.rate ≡ rate → as_arrival a f.bytes ≡ x → at_receiving d (arrived_on a f) n ≡ with_arrival rate d x n
-arrives rate West arrived.Frame f x n same is = ap (λ r. with_arrival r West (Some f.bytes) n) same ∙ ap (λ y. with_arrival rate West y n) is
-arrives rate West arrived.Dark f x n same is = ap (λ y. with_arrival rate West y n) is
-arrives rate East arrived.Frame f x n same is = ap (λ r. with_arrival r East (Some f.bytes) n) same ∙ ap (λ y. with_arrival rate East y n) is
-arrives rate East arrived.Dark f x n same is = ap (λ y. with_arrival rate East y n) is
-
-pub stays_same : (n : Node) → Stays n n
-stays_same n = record { settings = refl; ports = refl; moment = refl; rounds = refl }
-
-pub stays_at : (d : Side) (a : Arrived) (f : Frame) (n : Node) → Stays n (at_receiving d (arrived_on a f) n)
-stays_at d a f n = record { settings = refl; ports = refl; moment = moment-arrived d a f n; rounds = refl }
-
-pub stays_then : (a b c : Node) → Stays a b → Stays b c → Stays a c
-stays_then a b c h k = record { settings = k.settings ∙ h.settings; ports = k.ports ∙ h.ports; moment = k.moment ∙ h.moment; rounds = k.rounds ∙ h.rounds }
+pub receives_both : (f g : Fibres) (p : ℕ) (old mid new : Node) → g ≡ after_receive f → ReceivesOne f p West old mid → ReceivesOne g p East mid new → ReceivesBoth f p old new
+unfolding met
+receives_both f g p old mid new is west east = record {
+  west = west.came;
+  east = east.came;
+  west_known = west.known;
+  east_known = λ h. east.known (subst Knows (sym is) h) ∙ ap (λ x. arrival x p East) is;
+  node = east.node ∙ ap (with_arrival East east.came) west.node;
+}
 
 -- ---- told arrivals
 
@@ -46,42 +35,31 @@ first_at [] (suc k) = refl
 first_at (a ∷ later) zero = refl
 first_at (a ∷ later) (suc k) = first_at later k
 
-told_stays : (o : Option (List Arrival)) (k : ℕ) → o ≢ None → option_map (drop k) o ≢ None
-told_stays None k h = λ _. h refl
-told_stays (Some told) k h = λ e. cc
+told_one : (o : Option (List Arrival)) (k : ℕ) → option_map (drop 1) (option_map (drop k) o) ≡ option_map (drop (k + 1)) o
+told_one None k = refl
+told_one (Some told) k = ap Some (drop-drop 1 k told)
 
-pub knows_received : (f : Fibres) → Knows f → Knows (after_receive f)
-knows_received f (inl h) = inl h
-knows_received f (inr h) = inr (told_stays f.told 1 h)
-
-pub knows_taken : (f : Fibres) (k : ℕ) → Knows f → Knows (taken k f)
+-- one more was given
+pub taken_one : (f : Fibres) (k : ℕ) → after_receive (taken k f) ≡ taken (k + 1) f
 unfolding taken
-knows_taken f k (inl h) = inl h
-knows_taken f k (inr h) = inr (told_stays f.told k h)
-
-told_more : (o : Option (List Arrival)) (k : ℕ) → option_map (drop 1) (option_map (drop 1) (option_map (drop (2 * k)) o)) ≡ option_map (drop (2 * (k + 1))) o
-told_more None k = refl
-told_more (Some told) k = ap Some (ap (drop 1) (drop-drop 1 (2 * k) told) ∙ drop-drop 1 (2 * k + 1) told ∙ ap (λ n. drop n told) (omega arith))
+taken_one f k = ap (λ told. record f { told = told }) (told_one f.told k)
 
 -- one node more has received
-pub taken_more : (f : Fibres) (k : ℕ) → after_receive (after_receive (taken (2 * k) f)) ≡ taken (2 * (k + 1)) f
-unfolding taken
-taken_more f k = ap (λ told. record f { told = told }) (told_more f.told k)
+taken_more : (f : Fibres) (k : ℕ) → after_receive (after_receive (taken k f)) ≡ taken (k + 2) f
+taken_more f k = ap after_receive (taken_one f k) ∙ taken_one f (k + 1) ∙ ap (λ n. taken n f) (omega arith)
 
 told_at : (o : Option (List Arrival)) (h : Arrival) (k : ℕ) → option_map_or next_told (option_map (drop k) o) h ≡ option_map_or (λ told. slice_index_or told k None) o h
 told_at None h k = refl
 told_at (Some told) h k = first_at told k
 
-told_next : (o : Option (List Arrival)) (h : Arrival) (k : ℕ) → option_map_or next_told (option_map (drop 1) (option_map (drop k) o)) h ≡ option_map_or (λ told. slice_index_or told (k + 1) None) o h
-told_next None h k = refl
-told_next (Some told) h k = ap next_told (drop-drop 1 k told) ∙ first_at told (k + 1)
+-- what comes next after the nodes before it have taken their arrivals
+west_at : (f : Fibres) (p : ℕ) → arrival (taken (2 * p) f) p West ≡ arrival_at f p West
+unfolding taken arrival_at
+west_at f p = told_at f.told (honest_arrival f p West) (2 * p)
 
--- what a node meets after the nodes before it have taken their arrivals
-pub met_taken : (rate : Rate) (f : Fibres) (p : ℕ) (n : Node) → met_now rate (taken (2 * p) f) p n ≡ met rate f p n
-unfolding met_now taken arrival_at
-met_taken rate f p n =
-    ap (λ a. with_arrival rate East (arrival (after_receive (taken (2 * p) f)) p East) (with_arrival rate West a n)) (told_at f.told (honest_arrival f p West) (2 * p))
-    ∙ ap (λ a. with_arrival rate East a (with_arrival rate West (arrival_at f p West) n)) (told_next f.told (honest_arrival f p East) (2 * p))
+east_at : (f : Fibres) (p : ℕ) → arrival (taken (2 * p + 1) f) p East ≡ arrival_at f p East
+unfolding taken arrival_at
+east_at f p = told_at f.told (honest_arrival f p East) (2 * p + 1)
 
 told_none : (o : Option (List Arrival)) → o ≡ option_map (drop 0) o
 told_none None = refl
@@ -91,6 +69,54 @@ pub taken_none : (f : Fibres) → f ≡ taken 0 f
 unfolding taken
 taken_none f = ap (λ told. record f { told = told }) (told_none f.told)
 
+-- ---- node after node
+
+-- before the first
+pub hears_none : (f : Fibres) (ns : List Node) → Hears 0 f f ns ns
+hears_none f ns = record { arrivals = []; count = refl; known = λ h. refl; nodes = refl; fibres = taken_none f }
+
+pub none_hears : (t n : ℕ) → t ≡ 0 → hearing t n ≡ 0
+unfolding hearing
+none_hears t n e = ap (λ k. if k == 0 then 0 else n) e
+
+pub hears_more : (i : ℕ) (f g h : Fibres) (old now : List Node) (x y : Node) → i < length old → i < length now → drop i now ≡ drop i old → x ≡ get_or now i x → Hears i f g (take i old) (take i now)
+    → ReceivesBoth g i x y → h ≡ after_receive (after_receive g) → Hears (i + 1) f h (take (i + 1) old) (take (i + 1) (set now i y))
+hears_more i f g h old now x y ho hn rest read done both after =
+    let xs = done.arrivals in
+    let two = both.west ∷ both.east ∷ [] in
+    let size : length (xs ++ two) ≡ length xs + 2 = length-append xs two in
+    let here : x ≡ get_or old i x = read_here now old i x rest read in
+    let split : take (i + 1) old ≡ take i old ++ x ∷ [] = take_more old i x ho ∙ ap (λ z. take i old ++ z ∷ []) (sym here) in
+    let was : g ≡ taken (2 * i) f = done.fibres ∙ ap (λ k. taken k f) done.count in
+    let mid : after_receive g ≡ taken (2 * i + 1) f = ap after_receive was ∙ taken_one f (2 * i) in
+    record {
+      arrivals = xs ++ two;
+      count = let c = done.count in omega (arith, size);
+      known = λ k.
+          let west : both.west ≡ arrival_at f i West = both.west_known (subst Knows (sym was) (knows_taken f (2 * i) k)) ∙ ap (λ z. arrival z i West) was ∙ west_at f i in
+          let east : both.east ≡ arrival_at f i East = both.east_known (subst Knows (sym mid) (knows_taken f (2 * i + 1) k)) ∙ ap (λ z. arrival z i East) mid ∙ east_at f i in
+          ap (λ zs. zs ++ two) (done.known k) ∙ ap (λ z. arrivals_from f 0 i ++ z ∷ both.east ∷ []) west ∙ ap (λ z. arrivals_from f 0 i ++ arrival_at f i West ∷ z ∷ []) east ∙ sym (arrivals_more f i);
+      nodes = take_more_set now i y hn ∙ ap (λ z. take i now ++ z ∷ []) both.node ∙ ap (λ zs. zs ++ met both.west both.east x ∷ []) done.nodes
+          ∙ sym (heard_more xs (take i old) both.west both.east x (let c = done.count in let l = length-take-le i old (omega arith) in omega arith)) ∙ ap (heard (xs ++ two)) (sym split);
+      fibres = after ∙ ap (λ z. after_receive (after_receive z)) done.fibres ∙ taken_more f (length xs) ∙ ap (λ k. taken k f) (sym size);
+    }
+
+pub hears_some : (i n : ℕ) (f g h : Fibres) (old now : List Node) → i < n → Hears i f g old now → (h ≡ g) ⊎ (h ≡ after_receive g) → HearsSome n f h
+hears_some i n f g h old now low done (inl same) = record { given = length done.arrivals; most = let c = done.count in omega arith; after_is = same ∙ done.fibres }
+hears_some i n f g h old now low done (inr one) =
+    record { given = length done.arrivals + 1; most = let c = done.count in omega arith; after_is = one ∙ ap after_receive done.fibres ∙ taken_one f (length done.arrivals) }
+
+pub hears_all : (i : ℕ) (f g : Fibres) (old now : List Node) → i ≡ length old → length now ≡ length old → Hears i f g (take i old) (take i now) → Hears (length old) f g old now
+hears_all i f g old now all size done =
+    let first = λ (xs : List Node) (h : length xs ≡ length old). take_all i xs (let e : length xs ≤ i = omega arith in e) in
+    record {
+      arrivals = done.arrivals;
+      count = done.count ∙ ap (λ n. 2 * n) all;
+      known = λ k. done.known k ∙ ap (arrivals_from f 0) all;
+      nodes = sym (first now size) ∙ done.nodes ∙ ap (heard done.arrivals) (first old refl);
+      fibres = done.fibres;
+    }
+
 pub nodes_taken : (k : ℕ) (f : Fibres) → (taken k f).nodes ≡ f.nodes
 unfolding taken
 nodes_taken k f = refl
@@ -99,36 +125,6 @@ pub rate_taken : (k : ℕ) (f : Fibres) → (taken k f).rate ≡ f.rate
 unfolding taken
 rate_taken k f = refl
 
-prepared_taken : (rate : Rate) (n k : ℕ) (f : Fibres) → IsPrepared rate n f → IsPrepared rate n (taken k f)
+pub prepared_taken : (rate : Rate) (n k : ℕ) (f : Fibres) → IsPrepared rate n f → IsPrepared rate n (taken k f)
 unfolding taken
-prepared_taken rate n k f h = record { nodes = h.nodes; rate = h.rate; conditions = h.conditions; carried = h.carried; enough = h.enough; few = h.few }
-
--- ---- the fibres of a round after its receives
-
-conditions_taken : (k : ℕ) (f : Fibres) → (taken k f).conditions ≡ f.conditions
-unfolding taken
-conditions_taken k f = refl
-
-honest_taken : (k : ℕ) (f : Fibres) → (taken k f).honest ≡ f.honest
-unfolding taken
-honest_taken k f = refl
-
-either : (P : Fibres → Type 0) (b : Bool) (f g : Fibres) → P f → P g → P (if b then f else g)
-either P true f g h k = h
-either P false f g h k = k
-
-pub prepared_heard : (rate : Rate) (n t m : ℕ) (f : Fibres) → IsPrepared rate n f → IsPrepared rate n (heard_of t m f)
-unfolding heard_of
-prepared_heard rate n t m f h = either (IsPrepared rate n) (t == 0) f (taken (2 * m) f) h (prepared_taken rate n (2 * m) f h)
-
-pub knows_heard : (t m : ℕ) (f : Fibres) → Knows f → Knows (heard_of t m f)
-unfolding heard_of
-knows_heard t m f h = either Knows (t == 0) f (taken (2 * m) f) h (knows_taken f (2 * m) h)
-
-pub conditions_heard : (t m : ℕ) (f : Fibres) → (heard_of t m f).conditions ≡ f.conditions
-unfolding heard_of
-conditions_heard t m f = either (λ g. g.conditions ≡ f.conditions) (t == 0) f (taken (2 * m) f) refl (conditions_taken (2 * m) f)
-
-pub honest_heard : (t m : ℕ) (f : Fibres) → (heard_of t m f).honest ≡ f.honest
-unfolding heard_of
-honest_heard t m f = either (λ g. g.honest ≡ f.honest) (t == 0) f (taken (2 * m) f) refl (honest_taken (2 * m) f)
+prepared_taken rate n k f h = record { nodes = h.nodes; rate = h.rate; conditions = h.conditions; each = h.each; carried = h.carried; enough = h.enough; few = h.few }

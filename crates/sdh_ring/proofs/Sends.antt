@@ -1,30 +1,15 @@
 -- What is sent, one call after the other.
-use Rattle.std.proofs.Common.{◌≡◌, ℕ, ◌+◌, ◌*◌, ◌<◌, ◌≤◌, List, [], ◌∷◌, ◌++◌, length, take, drop, set, get_or, map, Option, Some, None, refl, ap, sym, ◌∙◌, arith, append_assoc}
+use Rattle.std.proofs.Common.{◌≡◌, ℕ, zero, suc, ◌+◌, ◌*◌, ◌<◌, ◌≤◌, List, [], ◌∷◌, ◌++◌, length, take, drop, set, get_or, map, Option, Some, None, refl, ap, sym, ◌∙◌, arith, append_assoc, ◌⊎◌, inl, inr}
 use Rattle.std.proofs.lemmas.List.{take_more, take_more_set, drop_more, map-append, append-nil, set_at, length_push, length-map, drop_all, flat_map_more, length-take-le}
 use Rattle.std.specs.Prelude.{option_map}
 use Rattle.sdh_basics.proofs.Indexing.{read_here}
-use Rattle.sdh_frame.specs.declared.Rate.{Rate}
-use Rattle.sdh_ringmap.specs.declared.Side.TheVariants.{West, East}
-use Rattle.sdh_plant.specs.Fibres.{Arrival, Fibres, IsPrepared}
-use Rattle.sdh_plant.specs.Arrivals.{Knows}
+use Rattle.sdh_ringmap.specs.declared.Side.TheVariants.{East}
+use Rattle.sdh_plant.specs.Fibres.{Arrival, Fibres}
 use Rattle.sdh_plant.specs.Calls.{after_send}
 use Rattle.sdh_node.specs.Node.{Node}
-use Rattle.sdh_node.proofs.Rounds.{round_goes_on}
-use Rattle.sdh_ring.specs.Rounds.{next, west_frame, east_frame, both_frames, frames_of, sent_all}
-use Rattle.sdh_ring.specs.Calls.{sent_now, sent_first}
-use Rattle.sdh_ring.specs.Kept.{Keeps}
-
--- ---- one node
-
-pub keeps_same : (now : ℕ) (n : Node) → Keeps now n n
-keeps_same now n = record { settings = refl; ports = λ id h. h; early = λ h. h }
-
-pub keeps_next : (now : ℕ) (n : Node) → Keeps now n (next now n)
-keeps_next now n = record {
-  settings = (round_goes_on now n).settings;
-  ports = λ id h. (round_goes_on now n).ports id h;
-  early = λ h. let e = (round_goes_on now n).moment in omega arith;
-}
+use Rattle.sdh_world.specs.Rounds.{west_frame, east_frame, both_frames, frames_of, sent_all, sent_some}
+use Rattle.sdh_world.proofs.Runs.{length-frames}
+use Rattle.sdh_ring.specs.Calls.{sent_west, sent_now, SendsSome}
 
 -- ---- node after node
 
@@ -37,83 +22,105 @@ sent_none : (o : Option (List (List ℕ))) → o ≡ option_map (λ fs. fs ++ []
 sent_none None = refl
 sent_none (Some fs) = ap Some (sym (append-nil fs))
 
-pub first_none : (f : Fibres) → f ≡ sent_first 0 [] f
-unfolding sent_first
-first_none f = ap (λ sent. record f { sent = sent }) (sent_none f.sent)
+pub some_none : (f : Fibres) → f ≡ sent_some [] f
+unfolding sent_some
+some_none f = ap (λ sent. record f { sent = sent }) (sent_none f.sent)
 
-sent_more : (o : Option (List (List ℕ))) (frames : List (List ℕ)) (w e : List ℕ) → option_map (λ fs. fs ++ e ∷ []) (option_map (λ fs. fs ++ w ∷ []) (option_map (λ fs. fs ++ frames) o)) ≡ option_map (λ fs. fs ++ (frames ++ w ∷ e ∷ [])) o
-sent_more None frames w e = refl
-sent_more (Some fs) frames w e = ap Some (append_assoc (fs ++ frames) (w ∷ []) (e ∷ []) ∙ append_assoc fs frames (w ∷ e ∷ []))
+sent_one : (o : Option (List (List ℕ))) (frames : List (List ℕ)) (w : List ℕ) → option_map (λ fs. fs ++ w ∷ []) (option_map (λ fs. fs ++ frames) o) ≡ option_map (λ fs. fs ++ (frames ++ w ∷ [])) o
+sent_one None frames w = refl
+sent_one (Some fs) frames w = ap Some (append_assoc fs frames (w ∷ []))
 
--- two writes at the seam
-carried_more : (done old : List Arrival) (k : ℕ) (w e : Arrival) → length done ≡ k → k + 1 < length old → set (set (done ++ drop k old) k w) (k + 1) e ≡ (done ++ w ∷ e ∷ []) ++ drop (k + 2) old
-carried_more done old k w e len h =
-    let front : drop k old ≡ get_or old k None ∷ drop (k + 1) old = drop_more old k None (omega arith) in
-    let then : drop (k + 1) old ≡ get_or old (k + 1) None ∷ drop (k + 1 + 1) old = drop_more old (k + 1) None h in
-    ap (λ zs. set (set (done ++ zs) k w) (k + 1) e) (front ∙ ap (λ zs. get_or old k None ∷ zs) then)
-    ∙ ap (λ zs. set zs (k + 1) e) (set_at done (get_or old k None) (get_or old (k + 1) None ∷ drop (k + 1 + 1) old) w k len)
-    ∙ ap (λ zs. set zs (k + 1) e) (sym (append_assoc done (w ∷ []) (get_or old (k + 1) None ∷ drop (k + 1 + 1) old)))
-    ∙ set_at (done ++ w ∷ []) (get_or old (k + 1) None) (drop (k + 1 + 1) old) e (k + 1) (length_push done w ∙ ap (λ n. n + 1) len)
-    ∙ append_assoc done (w ∷ []) (e ∷ drop (k + 1 + 1) old)
-    ∙ sym (append_assoc done (w ∷ e ∷ []) (drop (k + 1 + 1) old))
-    ∙ ap (λ n. (done ++ w ∷ e ∷ []) ++ drop n old) (omega arith)
+-- one write at the seam
+carried_one : (done old : List Arrival) (k : ℕ) (w : Arrival) → length done ≡ k → k < length old → set (done ++ drop k old) k w ≡ (done ++ w ∷ []) ++ drop (k + 1) old
+carried_one done old k w len h =
+    ap (λ zs. set (done ++ zs) k w) (drop_more old k None h)
+    ∙ set_at done (get_or old k None) (drop (k + 1) old) w k len
+    ∙ sym (append_assoc done (w ∷ []) (drop (k + 1) old))
 
 pair_is : {A B : Type 0} {a b : A} {c d : B} → a ≡ b → c ≡ d → ◌≡◌ {A = A × B} (a, c) (b, d)
 pair_is p q = cc
 
--- one node more has sent
-first_sent : (f : Fibres) (i : ℕ) (frames : List (List ℕ)) (w e : List ℕ) → length frames ≡ 2 * i → 2 * i + 1 < length f.carried →
-    after_send (after_send (sent_first (2 * i) frames f) i West w) i East e ≡ sent_first (2 * (i + 1)) (frames ++ w ∷ e ∷ []) f
-unfolding sent_first
-first_sent f i frames w e len h =
+set_same : (xs : List Arrival) (i j : ℕ) (w : Arrival) → i ≡ j → set xs i w ≡ set xs j w
+set_same xs i j w e = ap (λ k. set xs k w) e
+
+-- one more of the frames was sent, on the fibre k
+some_one : (f : Fibres) (frames : List (List ℕ)) (w : List ℕ) (k : ℕ) → k ≡ length frames → length frames < length f.carried →
+    record (sent_some frames f) { carried = set (sent_some frames f).carried k (Some w); sent = option_map (λ sent. sent ++ w ∷ []) (sent_some frames f).sent } ≡ sent_some (frames ++ w ∷ []) f
+unfolding sent_some
+some_one f frames w k is h =
+    let size : length frames + 1 ≡ length (frames ++ w ∷ []) = sym (length_push frames w) in
     ap (λ p. record f { carried = p.0; sent = p.1 })
-    (pair_is (carried_more (map Some frames) f.carried (2 * i) (Some w) (Some e) (length-map frames Some ∙ len) h
-    ∙ ap (λ zs. zs ++ drop (2 * i + 2) f.carried) (sym (map-append Some frames (w ∷ e ∷ [])))
-    ∙ ap (λ n. map Some (frames ++ w ∷ e ∷ []) ++ drop n f.carried) (omega arith))
-    (sent_more f.sent frames w e))
+    (pair_is (set_same (map Some frames ++ drop (length frames) f.carried) k (length frames) (Some w) is
+    ∙ carried_one (map Some frames) f.carried (length frames) (Some w) (length-map frames Some) h
+    ∙ ap (λ zs. zs ++ drop (length frames + 1) f.carried) (sym (map-append Some frames (w ∷ [])))
+    ∙ ap (λ n. map Some (frames ++ w ∷ []) ++ drop n f.carried) size)
+    (sent_one f.sent frames w))
+
+frames_size : (now : ℕ) (ns : List Node) (i : ℕ) → i ≤ length ns → length (frames_of now (take i ns)) ≡ 2 * i
+frames_size now ns i h = length-frames now (take i ns) ∙ ap (λ n. 2 * n) (length-take-le i ns h)
+
+-- the node at i has sent on the west
+pub west_more : (now : ℕ) (ns : List Node) (f : Fibres) (i : ℕ) (x : Node) → i < length ns → 2 * i + 1 < length f.carried
+    → sent_west now i x (sent_some (frames_of now (take i ns)) f) ≡ sent_some (frames_of now (take i ns) ++ west_frame now x ∷ []) f
+west_more now ns f i x h room =
+    let size = frames_size now ns i (omega arith) in
+    some_one f (frames_of now (take i ns)) (west_frame now x) (2 * i) (sym size) (omega arith)
 
 frames_more : (now : ℕ) (ns : List Node) (i : ℕ) (x : Node) → i < length ns → x ≡ get_or ns i x → frames_of now (take (i + 1) ns) ≡ frames_of now (take i ns) ++ west_frame now x ∷ east_frame now x ∷ []
 frames_more now ns i x h read =
     ap (frames_of now) (take_more ns i x h ∙ ap (λ z. take i ns ++ z ∷ []) (sym read))
     ∙ sym (flat_map_more (both_frames now) [] (take i ns) x)
 
-pub length-frames : (now : ℕ) (ns : List Node) → length (frames_of now ns) ≡ 2 * length ns
-length-frames now [] = refl
-length-frames now (n ∷ ns) = omega (arith, length-frames now ns)
+-- and on the east
+pub both_more : (now : ℕ) (ns : List Node) (f : Fibres) (i : ℕ) (x : Node) → i < length ns → x ≡ get_or ns i x → 2 * i + 1 < length f.carried
+    → sent_now now i x (sent_some (frames_of now (take i ns)) f) ≡ sent_some (frames_of now (take (i + 1) ns)) f
+both_more now ns f i x h read room =
+    let size = frames_size now ns i (omega arith) in
+    let more : length (frames_of now (take i ns) ++ west_frame now x ∷ []) ≡ 2 * i + 1 = length_push (frames_of now (take i ns)) (west_frame now x) ∙ ap (λ n. n + 1) size in
+    ap (λ g. after_send g i East (east_frame now x)) (west_more now ns f i x h room)
+    ∙ some_one f (frames_of now (take i ns) ++ west_frame now x ∷ []) (east_frame now x) (2 * i + 1) (sym more) (omega arith)
+    ∙ ap (λ fs. sent_some fs f) (append_assoc (frames_of now (take i ns)) (west_frame now x ∷ []) (east_frame now x ∷ []) ∙ sym (frames_more now ns i x h read))
 
-pub first_more : (now : ℕ) (ns : List Node) (f : Fibres) (i : ℕ) (x : Node) → i < length ns → x ≡ get_or ns i x → 2 * i + 1 < length f.carried
-    → sent_now now i x (sent_first (2 * i) (frames_of now (take i ns)) f) ≡ sent_first (2 * (i + 1)) (frames_of now (take (i + 1) ns)) f
-unfolding sent_now
-first_more now ns f i x h read room =
-    first_sent f i (frames_of now (take i ns)) (west_frame now x) (east_frame now x) (length-frames now (take i ns) ∙ ap (λ n. 2 * n) (length-take-le i ns (omega arith))) room
-    ∙ ap (λ fs. sent_first (2 * (i + 1)) fs f) (sym (frames_more now ns i x h read))
+pub some_all : (f : Fibres) (frames : List (List ℕ)) → length f.carried ≤ length frames → sent_some frames f ≡ sent_all frames f
+unfolding sent_some sent_all
+some_all f frames h = ap (λ zs. record f { carried = zs; sent = option_map (λ fs. fs ++ frames) f.sent }) (ap (λ zs. map Some frames ++ zs) (drop_all (length frames) f.carried h) ∙ append-nil (map Some frames))
 
-pub first_all : (f : Fibres) (k : ℕ) (frames : List (List ℕ)) → length f.carried ≤ k → sent_first k frames f ≡ sent_all frames f
-unfolding sent_first sent_all
-first_all f k frames h = ap (λ zs. record f { carried = zs; sent = option_map (λ fs. fs ++ frames) f.sent }) (ap (λ zs. map Some frames ++ zs) (drop_all k f.carried h) ∙ append-nil (map Some frames))
+-- ---- the first frames of all
 
-pub nodes_first : (k : ℕ) (frames : List (List ℕ)) (f : Fibres) → (sent_first k frames f).nodes ≡ f.nodes
-unfolding sent_first
-nodes_first k frames f = refl
+take_two : (w e : List ℕ) (fs : List (List ℕ)) (k : ℕ) → take (2 * suc k) (w ∷ e ∷ fs) ≡ w ∷ e ∷ take (2 * k) fs
+take_two w e fs k = ap (λ n. take n (w ∷ e ∷ fs)) (let same : 2 * suc k ≡ suc (suc (2 * k)) = omega arith in same)
 
-pub rate_first : (k : ℕ) (frames : List (List ℕ)) (f : Fibres) → (sent_first k frames f).rate ≡ f.rate
-unfolding sent_first
-rate_first k frames f = refl
+take_two_one : (w e : List ℕ) (fs : List (List ℕ)) (k : ℕ) → take (2 * suc k + 1) (w ∷ e ∷ fs) ≡ w ∷ e ∷ take (2 * k + 1) fs
+take_two_one w e fs k = ap (λ n. take n (w ∷ e ∷ fs)) (let same : 2 * suc k + 1 ≡ suc (suc (2 * k + 1)) = omega arith in same)
 
--- ---- the fibres after a round
+first_nodes : (now : ℕ) (ns : List Node) (i : ℕ) → take (2 * i) (frames_of now ns) ≡ frames_of now (take i ns)
+first_nodes now ns zero = refl
+first_nodes now [] (suc i) = ap (λ n. take n []) (let same : 2 * suc i ≡ suc (suc (2 * i)) = omega arith in same)
+first_nodes now (n ∷ ns) (suc i) = take_two (west_frame now n) (east_frame now n) (frames_of now ns) i ∙ ap (λ fs. west_frame now n ∷ east_frame now n ∷ fs) (first_nodes now ns i)
 
-pub prepared_sent : (rate : Rate) (n : ℕ) (frames : List (List ℕ)) (f : Fibres) → length frames ≡ 2 * n → IsPrepared rate n f → IsPrepared rate n (sent_all frames f)
-unfolding sent_all
-prepared_sent rate n frames f len h = record { nodes = h.nodes; rate = h.rate; conditions = h.conditions; carried = length-map frames Some ∙ len; enough = h.enough; few = h.few }
+first_west : (now : ℕ) (ns : List Node) (i : ℕ) (x : Node) → i < length ns → x ≡ get_or ns i x → take (2 * i + 1) (frames_of now ns) ≡ frames_of now (take i ns) ++ west_frame now x ∷ []
+first_west now [] i x h read = absurd (omega arith)
+first_west now (n ∷ ns) zero x h read = ap (λ m. west_frame now m ∷ []) (sym read)
+first_west now (n ∷ ns) (suc i) x h read = take_two_one (west_frame now n) (east_frame now n) (frames_of now ns) i ∙ ap (λ fs. west_frame now n ∷ east_frame now n ∷ fs) (first_west now ns i x (omega arith) read)
 
-pub knows_sent : (frames : List (List ℕ)) (f : Fibres) → Knows f → Knows (sent_all frames f)
-unfolding sent_all
-knows_sent frames f h = h
+-- a send of the node at i failed
+pub sends_some : (now : ℕ) (ns : List Node) (f g h : Fibres) (i : ℕ) (x : Node) → i < length ns → x ≡ get_or ns i x → 2 * i + 1 < length f.carried → g ≡ sent_some (frames_of now (take i ns)) f
+    → (h ≡ g) ⊎ (h ≡ sent_west now i x g) → SendsSome (frames_of now ns) f h
+sends_some now ns f g h i x low read room done (inl same) = record {
+  out = 2 * i;
+  not_all = let all = length-frames now ns in omega arith;
+  after_is = same ∙ done ∙ ap (λ fs. sent_some fs f) (sym (first_nodes now ns i));
+}
+sends_some now ns f g h i x low read room done (inr one) = record {
+  out = 2 * i + 1;
+  not_all = let all = length-frames now ns in omega arith;
+  after_is = one ∙ ap (sent_west now i x) done ∙ west_more now ns f i x low room ∙ ap (λ fs. sent_some fs f) (sym (first_west now ns i x low read));
+}
 
-pub conditions_sent : (frames : List (List ℕ)) (f : Fibres) → (sent_all frames f).conditions ≡ f.conditions
-unfolding sent_all
-conditions_sent frames f = refl
+pub nodes_some : (frames : List (List ℕ)) (f : Fibres) → (sent_some frames f).nodes ≡ f.nodes
+unfolding sent_some
+nodes_some frames f = refl
 
-pub honest_sent : (frames : List (List ℕ)) (f : Fibres) → (sent_all frames f).honest ≡ f.honest
-unfolding sent_all
-honest_sent frames f = refl
+pub rate_some : (frames : List (List ℕ)) (f : Fibres) → (sent_some frames f).rate ≡ f.rate
+unfolding sent_some
+rate_some frames f = refl

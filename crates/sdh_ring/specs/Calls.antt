@@ -1,21 +1,65 @@
 -- A round as its calls make it, one after the other.
-use Rattle.std.specs.Prelude.{ℕ, Some, List, ◌++◌, map, drop, option_map}
+use Rattle.std.specs.Prelude.{ℕ, ◌≡◌, ◌*◌, ◌^◌, ◌<◌, ◌≤◌, List, length, take}
 use Rattle.sdh_frame.specs.declared.Rate.{Rate}
+use Rattle.sdh_ringmap.specs.declared.Side.{Side}
 use Rattle.sdh_ringmap.specs.declared.Side.TheVariants.{West, East}
-use Rattle.sdh_plant.specs.Fibres.{Fibres}
-use Rattle.sdh_plant.specs.Arrivals.{arrival}
+use Rattle.sdh_plant.specs.Fibres.{Arrival, Fibres}
+use Rattle.sdh_plant.specs.Arrivals.{Knows, arrival}
 use Rattle.sdh_plant.specs.Calls.{after_receive, after_send}
-use Rattle.sdh_node.specs.Node.{Node}
-use Rattle.sdh_ring.specs.Rounds.{with_arrival, west_frame, east_frame}
+use Rattle.sdh_node.specs.Node.{Node, moment_of}
+use Rattle.sdh_world.specs.Rounds.{with_arrival, met, heard, arrivals_from, taken, west_frame, east_frame, sent_some}
 
--- a node that receives first on the west and then on the east
-unfoldable pub met_now : Rate → Fibres → ℕ → Node → Node
-met_now rate f p n = with_arrival rate East (arrival (after_receive f) p East) (with_arrival rate West (arrival f p West) n)
+-- ---- receives
 
--- the fibres after the node at position p sent first on the west and then on the east
-unfoldable pub sent_now : ℕ → ℕ → Node → Fibres → Fibres
-sent_now now p n f = after_send (after_send f p West (west_frame now n)) p East (east_frame now n)
+-- the node receives frames of a rate
+abbrev pub MayReceive : Rate → Node → Type 0
+MayReceive rate n = n.settings.rate ≡ rate
 
--- the fibres after the first k frames were sent
-unfoldable pub sent_first : ℕ → List (List ℕ) → Fibres → Fibres
-sent_first k frames f = record f { carried = map Some frames ++ drop k f.carried; sent = option_map (λ sent. sent ++ frames) f.sent }
+-- the node at position p received on a side what came, which is what the fibres give where that is known
+pub record ReceivesOne (f : Fibres) (p : ℕ) (d : Side) (old new : Node) : Type 0 where
+  pub came : Arrival
+  pub known : Knows f → came ≡ arrival f p d
+  pub node : new ≡ with_arrival d came old
+
+-- first on the west and then on the east
+pub record ReceivesBoth (f : Fibres) (p : ℕ) (old new : Node) : Type 0 where
+  pub west : Arrival
+  pub east : Arrival
+  pub west_known : Knows f → west ≡ arrival f p West
+  pub east_known : Knows (after_receive f) → east ≡ arrival (after_receive f) p East
+  pub node : new ≡ met west east old
+
+-- the first k nodes received
+pub record Hears (k : ℕ) (f g : Fibres) (old new : List Node) : Type 0 where
+  pub arrivals : List Arrival
+  pub count : length arrivals ≡ 2 * k
+  pub known : Knows f → arrivals ≡ arrivals_from f 0 k
+  pub nodes : new ≡ heard arrivals old
+  pub fibres : g ≡ taken (length arrivals) f
+
+-- at most so many nodes received, the last of them maybe on the west alone
+pub record HearsSome (k : ℕ) (f g : Fibres) : Type 0 where
+  pub given : ℕ
+  pub most : given ≤ 2 * k
+  pub after_is : g ≡ taken given f
+
+-- ---- sends
+
+-- the node may send at a moment, frames of a rate
+pub record MaySend (rate : Rate) (now : ℕ) (n : Node) : Type 0 where
+  pub rate_is : n.settings.rate ≡ rate
+  pub early : moment_of n ≤ now
+  pub few : n.rounds < 2 ^ 32
+
+-- the fibres after the node at position p sent on the west, and then on the east
+abbrev pub sent_west : ℕ → ℕ → Node → Fibres → Fibres
+sent_west now p n f = after_send f p West (west_frame now n)
+
+abbrev pub sent_now : ℕ → ℕ → Node → Fibres → Fibres
+sent_now now p n f = after_send (sent_west now p n f) p East (east_frame now n)
+
+-- the first of these frames were sent, but not all
+pub record SendsSome (frames : List (List ℕ)) (f g : Fibres) : Type 0 where
+  pub out : ℕ
+  pub not_all : out < length frames
+  pub after_is : g ≡ sent_some (take out frames) f

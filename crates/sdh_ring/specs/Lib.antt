@@ -1,5 +1,2 @@
-pub mod Held
-pub mod Rounds
 pub mod Calls
-pub mod Quiet
-pub mod Kept
+pub mod Outcome

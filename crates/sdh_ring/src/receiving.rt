@@ -1,13 +1,11 @@
 //! All receives of a round.
-ghost use Rattle.std.specs.Prelude.{◌≡◌, ◌*◌, ◌<◌, ◌≤◌, OnOk, All, length};
+ghost use Rattle.std.specs.Prelude.{◌≡◌, ◌⊎◌, ◌<◌, ◌≤◌, OnOk, OnErr, All, length, map};
 ghost use Rattle.sdh_basics.specs.Causes.{HasCause};
-ghost use Rattle.sdh_basics.specs.Indexed.{map_from};
 ghost use Rattle.sdh_plant.specs.Fibres.{IsPrepared};
-ghost use Rattle.sdh_plant.specs.Arrivals.{Knows, arrival};
 ghost use Rattle.sdh_plant.specs.Calls.{after_receive};
-ghost use Rattle.sdh_ring.specs.Rounds.{with_arrival, met, taken, heard, heard_of};
-ghost use Rattle.sdh_ring.specs.Kept.{MayReceive, Stays, Each};
-ghost use Rattle.sdh_ring.specs.Calls.{met_now};
+ghost use Rattle.sdh_world.specs.Rounds.{hearing};
+ghost use Rattle.sdh_world.specs.Fixed.{fixed};
+ghost use Rattle.sdh_ring.specs.Calls.{MayReceive, ReceivesOne, ReceivesBoth, Hears, HearsSome};
 
 use crate::faults::PlantFault;
 use sdh_frame::FrameBuf;
@@ -16,7 +14,7 @@ use sdh_plant::Plant;
 use sdh_ringmap::{Pos, Side};
 
 // One receive of a node.
-#[tactic(auto, using(crate::proofs::Receives::arrives, crate::proofs::Receives::stays_at))]
+#[tactic(auto, using(sdh_world::proofs::Keeping::fixed_with))]
 fn receive_one<P: Plant>(
     node: &mut Adm,
     at: Pos,
@@ -28,8 +26,9 @@ fn receive_one<P: Plant>(
     requires rate { frame.old.rate ≡ (P.fibres plant.old).rate }
     requires node { MayReceive frame.old.rate node.old }
     ensures fibres { OnOk result (P.fibres plant.new ≡ after_receive (P.fibres plant.old)) }
-    ensures node { OnOk result (Knows (P.fibres plant.old) → node.new ≡ with_arrival frame.old.rate side (arrival (P.fibres plant.old) at.0 side) node.old) }
-    ensures stays { Stays node.old node.new }
+    ensures kept { OnErr result (P.fibres plant.new ≡ P.fibres plant.old) }
+    ensures node { OnOk result (ReceivesOne (P.fibres plant.old) at.0 side node.old node.new) }
+    ensures fixed { fixed node.new ≡ fixed node.old }
     ensures rate { frame.new.rate ≡ frame.old.rate }
     ensures cause { HasCause (P.faults plant.old) (P.faults plant.new) result }
 {
@@ -39,7 +38,6 @@ fn receive_one<P: Plant>(
 }
 
 // Both receives of a node, west before east.
-#[tactic(auto, unfolding(crate::specs::Calls::met_now))]
 fn receive_both<P: Plant>(
     node: &mut Adm,
     at: Pos,
@@ -50,8 +48,9 @@ fn receive_both<P: Plant>(
     requires rate { frame.old.rate ≡ (P.fibres plant.old).rate }
     requires node { MayReceive frame.old.rate node.old }
     ensures fibres { OnOk result (P.fibres plant.new ≡ after_receive (after_receive (P.fibres plant.old))) }
-    ensures node { OnOk result (Knows (P.fibres plant.old) → node.new ≡ met_now frame.old.rate (P.fibres plant.old) at.0 node.old) }
-    ensures stays { Stays node.old node.new }
+    ensures kept { OnErr result ((P.fibres plant.new ≡ P.fibres plant.old) ⊎ (P.fibres plant.new ≡ after_receive (P.fibres plant.old))) }
+    ensures node { OnOk result (ReceivesBoth (P.fibres plant.old) at.0 node.old node.new) }
+    ensures fixed { fixed node.new ≡ fixed node.old }
     ensures rate { frame.new.rate ≡ frame.old.rate }
     ensures cause { HasCause (P.faults plant.old) (P.faults plant.new) result }
 {
@@ -67,10 +66,9 @@ fn receive_all<P: Plant>(
 ) -> Result<(), PlantFault>
     requires prepared { IsPrepared frame.old.rate (length nodes.old.items) (P.fibres plant.old) }
     requires nodes { All (MayReceive frame.old.rate) nodes.old.items }
-    ensures fibres { OnOk result (P.fibres plant.new ≡ taken (2 * length nodes.old.items) (P.fibres plant.old)) }
-    ensures nodes { OnOk result (Knows (P.fibres plant.old) → nodes.new.items ≡ map_from (met frame.old.rate (P.fibres plant.old)) 0 nodes.old.items) }
-    ensures len { length nodes.new.items ≡ length nodes.old.items }
-    ensures stay { Each Stays nodes.old.items nodes.new.items }
+    ensures ok { OnOk result (Hears (length nodes.old.items) (P.fibres plant.old) (P.fibres plant.new) nodes.old.items nodes.new.items) }
+    ensures err { OnErr result (HearsSome (length nodes.old.items) (P.fibres plant.old) (P.fibres plant.new)) }
+    ensures fixed { map fixed nodes.new.items ≡ map fixed nodes.old.items }
     ensures rate { frame.new.rate ≡ frame.old.rate }
     ensures cause { HasCause (P.faults plant.old) (P.faults plant.new) result }
 {
@@ -82,7 +80,7 @@ fn receive_all<P: Plant>(
 }
 
 /// The receives of a round by position, west before east; in round 0 there are none.
-#[tactic(auto, unfolding(crate::specs::Rounds::heard, crate::specs::Rounds::heard_of))]
+#[tactic(auto, unfolding(sdh_world::specs::Rounds::hearing))]
 pub fn hear<P: Plant>(
     rounds: u64,
     nodes: &mut Vec<Adm>,
@@ -91,10 +89,9 @@ pub fn hear<P: Plant>(
 ) -> Result<(), PlantFault>
     requires prepared { IsPrepared frame.old.rate (length nodes.old.items) (P.fibres plant.old) }
     requires nodes { All (MayReceive frame.old.rate) nodes.old.items }
-    ensures fibres { OnOk result (P.fibres plant.new ≡ heard_of rounds (length nodes.old.items) (P.fibres plant.old)) }
-    ensures nodes { OnOk result (Knows (P.fibres plant.old) → nodes.new.items ≡ heard rounds frame.old.rate (P.fibres plant.old) nodes.old.items) }
-    ensures len { length nodes.new.items ≡ length nodes.old.items }
-    ensures stay { Each Stays nodes.old.items nodes.new.items }
+    ensures ok { OnOk result (Hears (hearing rounds (length nodes.old.items)) (P.fibres plant.old) (P.fibres plant.new) nodes.old.items nodes.new.items) }
+    ensures err { OnErr result (HearsSome (hearing rounds (length nodes.old.items)) (P.fibres plant.old) (P.fibres plant.new)) }
+    ensures fixed { map fixed nodes.new.items ≡ map fixed nodes.old.items }
     ensures rate { frame.new.rate ≡ frame.old.rate }
     ensures cause { HasCause (P.faults plant.old) (P.faults plant.new) result }
 {

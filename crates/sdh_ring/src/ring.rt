@@ -4,13 +4,16 @@ ghost use Rattle.sdh_basics.specs.Causes.{Rose};
 ghost use Rattle.sdh_frame.specs.Sizes.{n_of};
 ghost use Rattle.sdh_squelch.specs.Kept.{KeepsRing};
 ghost use Rattle.sdh_plant.specs.Fibres.{IsPrepared};
-ghost use Rattle.sdh_plant.specs.Arrivals.{Knows};
 ghost use Rattle.sdh_node.specs.Receiving.{commanded_by};
 ghost use Rattle.sdh_node.specs.Tributaries.{HasPort, outlet_of};
 ghost use Rattle.sdh_node.specs.Node.{at_receiving};
-ghost use Rattle.sdh_ring.specs.Held.{new_nodes, new_ring, at_place, end_of, outlet_at};
-ghost use Rattle.sdh_ring.specs.Rounds.{world, round, IsSentRound};
-ghost use Rattle.sdh_ring.specs.Quiet.{is_calm, SettlesAt, NeverSettles};
+ghost use Rattle.sdh_world.specs.Held.{new_nodes, new_ring, at_place, end_of, outlet_at};
+ghost use Rattle.sdh_world.specs.Rounds.{world};
+ghost use Rattle.sdh_world.specs.Runs.{IsRound, IsBrokenOff};
+ghost use Rattle.sdh_world.specs.Quiet.{is_calm};
+ghost use Rattle.sdh_carrying.specs.Windows.{layout_in, HasCircuits};
+ghost use Rattle.sdh_carrying.specs.Laws.{Restores};
+ghost use Rattle.sdh_ring.specs.Outcome.{Outcome};
 
 use crate::faults::{PlantFault, SettleError};
 use crate::receiving::hear;
@@ -42,8 +45,8 @@ pub struct Ring {
 
 impl Model for Ring {
     ghost use Rattle.std.specs.Prelude.{◌≡◌};
-    ghost use Rattle.sdh_ring.specs.Held.{HeldRing};
-    ghost use Rattle.sdh_ring.specs.Kept.{IsRing};
+    ghost use Rattle.sdh_world.specs.Held.{HeldRing};
+    ghost use Rattle.sdh_world.specs.Fixed.{IsRing};
 
     ghost Value = { HeldRing };
 
@@ -58,7 +61,7 @@ impl Model for Ring {
 }
 
 // A new node at each position.
-#[tactic(auto, unfolding(crate::specs::Held::new_nodes))]
+#[tactic(auto, unfolding(sdh_world::specs::Held::new_nodes))]
 fn new_nodes(
     alloc: Global,
     settings: Settings,
@@ -130,6 +133,7 @@ impl Ring {
         west: FrameBuf,
         east: FrameBuf,
     ) -> Ring
+        requires slots { circuits.slots ≡ n_of settings.rate / 2 }
         requires kept { KeepsRing circuits map }
         requires nodes { nodes.items ≡ new_nodes settings map circuits.circuits (length map) }
         requires arrived { arrived.rate ≡ settings.rate }
@@ -172,23 +176,15 @@ impl Ring {
 
     /// One round: all nodes receive, except in round 0, and then all send. It takes no memory. After a fault of the plant
     /// the ring is broken.
-    #[tactic(auto, unfolding(crate::specs::Rounds::round))]
     pub fn round<P: Plant>(&mut self, plant: &mut P) -> Result<(), PlantFault>
         requires prepared { IsPrepared self.old.settings.rate (length self.old.ids) (P.fibres plant.old) }
         requires whole { self.old.broken ≡ false }
         requires room { self.old.rounds < 2 ^ 32 }
-        ensures ok { OnOk result (Knows (P.fibres plant.old) → world self.new (P.fibres plant.new) ≡ round (world self.old (P.fibres plant.old))) }
-
-        // Whatever arrives: a frame goes out on each fibre, and nothing else changes but the nodes.
-        ensures sent { OnOk result (IsSentRound self.old.rounds (length self.old.ids) (P.fibres plant.old) (P.fibres plant.new)) }
-        ensures held { OnOk result (self.new ≡ record self.old { nodes = self.new.nodes; rounds = self.old.rounds + 1 }) }
+        ensures ok { OnOk result (IsRound (world self.old (P.fibres plant.old)) (world self.new (P.fibres plant.new))) }
         ensures prepared { OnOk result (IsPrepared self.old.settings.rate (length self.old.ids) (P.fibres plant.new)) }
-        ensures conditions { OnOk result ((P.fibres plant.new).conditions ≡ (P.fibres plant.old).conditions) }
-        ensures honest { OnOk result ((P.fibres plant.new).honest ≡ (P.fibres plant.old).honest) }
-        ensures knows { OnOk result (Knows (P.fibres plant.old) → Knows (P.fibres plant.new)) }
-        ensures size { length self.new.nodes ≡ length self.old.nodes }
 
-        // A fault breaks the ring.
+        // A fault breaks the ring. The first frames of the round may have been sent.
+        ensures err { OnErr result (IsBrokenOff (world self.old (P.fibres plant.old)) (P.fibres plant.new)) }
         ensures broken { OnErr result (self.new.broken ≡ true) }
         ensures later { P.faults plant.old ≤ P.faults plant.new }
         ensures failed { OnErr result (Rose (P.faults plant.old) (P.faults plant.new)) }
@@ -230,6 +226,13 @@ impl Ring {
         calm as usize >= 3 * self.map.len() && (self.rounds - 1) % 128 == 0
     }
 
+    // The circuits are circuits of its size and rate.
+    fn has_circuits(&self)
+        ensures { HasCircuits (layout_in self.now) }
+    {
+        let _rounds = self.rounds;
+    }
+
     /// Runs rounds until one ends a quiet window, which is `3 * n` calm rounds of this step whose last number is a multiple
     /// of 128, at most `limit` of them. It takes no memory.
     pub fn settle<P: Plant>(&mut self, plant: &mut P, limit: u32) -> Result<(), SettleError>
@@ -238,24 +241,19 @@ impl Ring {
         requires some { 1 ≤ limit }
         requires few { limit ≤ 65536 }
         requires room { self.old.rounds + limit ≤ 2 ^ 32 }
-        ensures ok { OnOk result (Knows (P.fibres plant.old) → (k : ℕ) × SettlesAt (world self.old (P.fibres plant.old)) limit k (world self.new (P.fibres plant.new))) }
-        ensures unsettled { result ≡ Err SettleError.Unsettled → Knows (P.fibres plant.old) → NeverSettles (world self.old (P.fibres plant.old)) limit (world self.new (P.fibres plant.new)) }
-
-        // Whatever arrives: so many rounds, and nothing else changes but the nodes.
-        ensures most { self.new.broken ≡ false → self.new.rounds ≤ self.old.rounds + limit }
-        ensures all { result ≡ Err SettleError.Unsettled → self.new.rounds ≡ self.old.rounds + limit }
-        ensures held { self.new.broken ≡ false → self.new ≡ record self.old { nodes = self.new.nodes; rounds = self.new.rounds } }
-        ensures whole { result ≡ Err SettleError.Unsettled → self.new.broken ≡ false }
+        ensures outcome { Outcome (world self.old (P.fibres plant.old)) limit result (world self.new (P.fibres plant.new)) }
         ensures prepared { self.new.broken ≡ false → IsPrepared self.old.settings.rate (length self.old.ids) (P.fibres plant.new) }
-        ensures conditions { self.new.broken ≡ false → (P.fibres plant.new).conditions ≡ (P.fibres plant.old).conditions }
-        ensures honest { self.new.broken ≡ false → (P.fibres plant.new).honest ≡ (P.fibres plant.old).honest }
+
+        // Where what comes is what was sent, each node is in its settled state then, and each port has delivered what it is owed.
+        ensures restored { OnOk result (Restores (world self.old (P.fibres plant.old)) (world self.new (P.fibres plant.new))) }
 
         // A fault breaks the ring.
-        ensures ended { OnOk result (self.new.broken ≡ false) }
         ensures broken { result ≡ Err SettleError.PlantFault → self.new.broken ≡ true }
         ensures later { P.faults plant.old ≤ P.faults plant.new }
         ensures failed { result ≡ Err SettleError.PlantFault → Rose (P.faults plant.old) (P.faults plant.new) }
     {
+        self.has_circuits();
+        sdh_carrying::settled_rings_are_restored();
         let mut calm = 0u32;
         'rounds: for _turn in 0..limit {
             self.round(plant)?;
@@ -271,7 +269,7 @@ impl Ring {
 // What the ring lends.
 impl Ring {
     // The node where a port of a circuit is.
-    #[tactic(auto, unfolding(crate::specs::Held::outlet_at))]
+    #[tactic(auto, unfolding(sdh_world::specs::Held::outlet_at))]
     fn node_of(&self, port: PortId) -> &Adm
         requires { port.circuit < length self.now.circuits.circuits }
         ensures port { HasPort result.now.ports port }

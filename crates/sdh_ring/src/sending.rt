@@ -1,10 +1,10 @@
 //! All sends of a round.
-ghost use Rattle.std.specs.Prelude.{◌≡◌, ◌<◌, ◌≤◌, OnOk, All, map, length};
+ghost use Rattle.std.specs.Prelude.{◌≡◌, ◌⊎◌, ◌<◌, ◌≤◌, OnOk, OnErr, All, map, length};
 ghost use Rattle.sdh_basics.specs.Causes.{HasCause};
 ghost use Rattle.sdh_plant.specs.Fibres.{IsPrepared};
-ghost use Rattle.sdh_ring.specs.Rounds.{next, frames_of, sent_all};
-ghost use Rattle.sdh_ring.specs.Kept.{MaySend, Keeps, Each};
-ghost use Rattle.sdh_ring.specs.Calls.{sent_now};
+ghost use Rattle.sdh_world.specs.Rounds.{next, frames_of, sent_all};
+ghost use Rattle.sdh_world.specs.Fixed.{fixed};
+ghost use Rattle.sdh_ring.specs.Calls.{MaySend, sent_west, sent_now, SendsSome};
 
 use crate::faults::PlantFault;
 use sdh_frame::FrameBuf;
@@ -14,7 +14,6 @@ use sdh_request::Moment;
 use sdh_ringmap::{Pos, Side};
 
 // The round of a node, and both its sends, west before east.
-#[tactic(auto, unfolding(crate::specs::Calls::sent_now))]
 fn send_both<P: Plant>(
     node: &mut Adm,
     at: Pos,
@@ -29,6 +28,7 @@ fn send_both<P: Plant>(
     requires node { MaySend (P.fibres plant.old).rate now.0 node.old }
     requires within { now.0 ≤ 1000000000 }
     ensures fibres { OnOk result (P.fibres plant.new ≡ sent_now now.0 at.0 node.old (P.fibres plant.old)) }
+    ensures kept { OnErr result ((P.fibres plant.new ≡ P.fibres plant.old) ⊎ (P.fibres plant.new ≡ sent_west now.0 at.0 node.old (P.fibres plant.old))) }
     ensures node { node.new ≡ next now.0 node.old }
     ensures west { west.new.rate ≡ west.old.rate }
     ensures east { east.new.rate ≡ east.old.rate }
@@ -54,8 +54,8 @@ pub fn send_all<P: Plant>(
     requires within { now.0 ≤ 1000000000 }
     ensures fibres { OnOk result (P.fibres plant.new ≡ sent_all (frames_of now.0 nodes.old.items) (P.fibres plant.old)) }
     ensures nodes { OnOk result (nodes.new.items ≡ map (next now.0) nodes.old.items) }
-    ensures len { length nodes.new.items ≡ length nodes.old.items }
-    ensures keep { Each (Keeps now.0) nodes.old.items nodes.new.items }
+    ensures err { OnErr result (SendsSome (frames_of now.0 nodes.old.items) (P.fibres plant.old) (P.fibres plant.new)) }
+    ensures fixed { map fixed nodes.new.items ≡ map fixed nodes.old.items }
     ensures west { west.new.rate ≡ west.old.rate }
     ensures east { east.new.rate ≡ east.old.rate }
     ensures cause { HasCause (P.faults plant.old) (P.faults plant.new) result }

@@ -2,6 +2,7 @@ pub mod Along
 pub mod Between
 pub mod Covering
 pub mod Crossing
+pub mod Free
 pub mod Inhabited
 pub mod Inside
 pub mod Lengths
@@ -11,7 +12,6 @@ pub mod Marks
 pub mod Meets
 pub mod OnArcs
 pub mod Once
-pub mod Owed
 pub mod Passing
 pub mod Rest
 pub mod Routes
@@ -22,3 +22,4 @@ pub mod Spread
 pub mod States
 pub mod Switched
 pub mod Views
+pub mod Ways

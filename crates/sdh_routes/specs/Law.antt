@@ -2,15 +2,18 @@
 -- applied where `applied s`.
 use Rattle.std.specs.Prelude.{ℕ, ◌≡◌, ◌+◌, ◌*◌, ◌<◌, ◌≤◌, Bool, true, false, List, length, reverse}
 use Rattle.sdh_ringmap.specs.Arcs.{is_clear, is_joined}
+use Rattle.sdh_ringmap.specs.Places.{span_at}
+use Rattle.sdh_ringmap.specs.declared.Side.{Side}
 use Rattle.sdh_restoration.specs.Routes.{hops, route}
 use Rattle.sdh_circuits.specs.Provisioned.{Provisioned, arc_of}
 use Rattle.sdh_circuits.specs.declared.End.{End}
 use Rattle.sdh_circuits.specs.declared.End.TheVariants.{A, B}
 use Rattle.sdh_nodestate.specs.declared.NodeState.{NodeState}
 use Rattle.sdh_nodestate.specs.declared.NodeState.TheVariants as state
-use Rattle.sdh_bridge.specs.declared.Origin.TheVariants.{Ais}
+use Rattle.sdh_bridge.specs.declared.Origin.{Origin}
+use Rattle.sdh_bridge.specs.declared.Origin.TheVariants.{Add, Working, Protection, Ais}
 use Rattle.sdh_restoration.specs.Due.{other_end}
-use Rattle.sdh_routes.specs.Walks.{crossed, Stand, stand, port, port_at, Leads, IsOver, delivery}
+use Rattle.sdh_routes.specs.Walks.{crossed, Stand, stand, port, port_at, Leads, IsOver, stands_in, working_in, protection_in, delivery}
 
 -- a walk leads to AIS, over fewer spans than the ring has
 abbrev pub IsSilent : ℕ → (ℕ → NodeState) → List Provisioned → ℕ → Stand → Type 0
@@ -43,6 +46,19 @@ pub record IsShort (n : ℕ) (applied : ℕ → Bool) (c : Provisioned) : Type 0
   pub straight : is_clear n applied (arc_of n c) ≡ true → hops n applied (arc_of n c) + 1 ≤ n
   pub around : is_clear n applied (arc_of n c) ≡ false → hops n applied (arc_of n c) + 3 ≤ 2 * n
   pub some : 1 ≤ hops n applied (arc_of n c)
+
+-- not an arrival over an applied span
+abbrev pub IsFree : ℕ → (ℕ → Bool) → ℕ → Origin → Type 0
+IsFree n applied p Ais = Unit {0}
+IsFree n applied p (Add port) = Unit {0}
+IsFree n applied p (Working d) = applied (span_at n p d) ≡ false
+IsFree n applied p (Protection d) = applied (span_at n p d) ≡ false
+
+-- no connection of the node at p in slot m leads over an applied span
+pub record ConnectsFree (n : ℕ) (applied : ℕ → Bool) (state : ℕ → NodeState) (cs : List Provisioned) (p : ℕ) (d : Side) (m : ℕ) : Type 0 where
+  pub stands : IsFree n applied p (stands_in n cs p (state p) d m)
+  pub working : IsFree n applied p (working_in n cs p (state p) d m)
+  pub protection : IsFree n applied p (protection_in n cs p (state p) d m)
 
 -- the node passes protection through
 abbrev pub is_pass : NodeState → Bool

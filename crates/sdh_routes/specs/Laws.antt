@@ -1,6 +1,6 @@
 -- The laws of routes: for every ring, given by the requests rs of its spans, and all circuits of it, with each node in
 -- its settled state and connected by it.
-use Rattle.std.specs.Prelude.{ℕ, suc, ◌≡◌, ◌+◌, ◌*◌, ◌<◌, ◌≤◌, Bool, true, false, Some, List, length, slice_get}
+use Rattle.std.specs.Prelude.{ℕ, suc, ◌≡◌, ◌+◌, ◌*◌, ◌<◌, Bool, true, false, Some, List, length, slice_get}
 use Rattle.sdh_ringmap.specs.Places.{opposite, span_at}
 use Rattle.sdh_ringmap.specs.declared.Pos.{Pos}
 use Rattle.sdh_ringmap.specs.declared.Side.{Side}
@@ -15,8 +15,8 @@ use Rattle.sdh_bridge.specs.declared.Origin.{Origin}
 use Rattle.sdh_ringmap.specs.Steps.{going}
 use Rattle.sdh_restoration.specs.Due.{other_end}
 use Rattle.sdh_routes.specs.Walks.{Stand, stand, port, IsOver, Leads, carries_in, delivery}
-use Rattle.sdh_routes.specs.Law.{IsRouted, IsAlongRoute, IsShort, Ends, is_pass}
-use Rattle.sdh_routes.specs.Rounds.{AreCarried, IsDelivered, Spreads}
+use Rattle.sdh_routes.specs.Law.{IsRouted, IsAlongRoute, IsShort, Ends, ConnectsFree, is_pass}
+use Rattle.sdh_routes.specs.Rounds.{Spreads}
 
 -- a port of a joined circuit is led to the circuit's other port over exactly `hops` spans; every other port is led to
 -- AIS over fewer spans than the ring has
@@ -61,13 +61,9 @@ abbrev pub RoutesAreShort : Type 0
 RoutesAreShort = (rs : List ℕ) (slots : ℕ) (cs : List Provisioned) → AreCircuits (length rs) slots cs
     → (index : ℕ) (c : Provisioned) → slice_get cs index ≡ Some c → IsShort (length rs) (is_applied rs) c
 
--- where the connections were unchanged for 2n rounds, a port delivers what was sent `hops` rounds before, or AIS. Values
--- are of any type V
-abbrev pub PortsDeliverWhatWasSent : Type 0 → Type 0
-PortsDeliverWhatWasSent V = (rs : List ℕ) (slots : ℕ) (cs : List Provisioned) → AreCircuits (length rs) slots cs
-    → (value : ℕ → ℕ → Origin → V) (silence : V) (first last index : ℕ) (c : Provisioned) → slice_get cs index ≡ Some c
-    → AreCarried (length rs) (settled rs) cs c.slot.0 V value silence first last → first + 2 * length rs ≤ last
-    → (e : End) → IsDelivered (length rs) (is_applied rs) (settled rs) cs V value silence last index c e
+-- what a node delivers or sends on comes over no applied span, so that no walk from there goes over one
+abbrev pub NoWayCrossesAnAppliedSpan : Type 0
+NoWayCrossesAnAppliedSpan = (rs : List ℕ) (cs : List Provisioned) (p : ℕ) (d : Side) (m : ℕ) → ConnectsFree (length rs) (is_applied rs) (settled rs) cs p d m
 
 -- what takes w rounds a span to become steady is steady everywhere after w (3n + 1) rounds
 abbrev pub SteadinessSpreads : Type 0

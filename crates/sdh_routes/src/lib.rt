@@ -6,7 +6,7 @@
 #![tactic(auto)]
 
 ghost use Rattle.sdh_routes.specs.Rings.{OneSpanFailed, TwoSpansFailed, ANodeIsCutOff, ATie, TheLongestRoute};
-ghost use Rattle.sdh_routes.specs.Laws.{EachPortIsRouted, EachWalkFollowsTheRoute, NoPortMeetsAStranger, EachWalkHasOneEnd, EachWalkEnds, TheProtectionRingIsOpen, ALoopedSlotMeetsItsOwnCircuit, RoutesAreShort, PortsDeliverWhatWasSent, SteadinessSpreads};
+ghost use Rattle.sdh_routes.specs.Laws.{EachPortIsRouted, EachWalkFollowsTheRoute, NoPortMeetsAStranger, EachWalkHasOneEnd, EachWalkEnds, TheProtectionRingIsOpen, ALoopedSlotMeetsItsOwnCircuit, RoutesAreShort, NoWayCrossesAnAppliedSpan, SteadinessSpreads};
 
 /// Each port of a joined circuit is led to the circuit's other port over exactly the hops of its route, every other port
 /// to AIS.
@@ -49,9 +49,9 @@ pub fn routes_are_short()
     ensures { RoutesAreShort }
 {}
 
-/// What a port delivers in a settled round. Values are of any type, as chunks of bytes.
-pub fn ports_deliver_what_was_sent<T>()
-    ensures { PortsDeliverWhatWasSent T }
+/// No node in its settled state connects what comes over an applied span.
+pub fn no_way_crosses_an_applied_span()
+    ensures { NoWayCrossesAnAppliedSpan }
 {}
 
 /// How soon all of a ring is steady.

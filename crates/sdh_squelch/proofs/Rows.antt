@@ -8,7 +8,7 @@ use Rattle.sdh_ringmap.specs.declared.Side.{Side}
 use Rattle.sdh_ringmap.specs.declared.Side.TheVariants.{West, East}
 use Rattle.sdh_circuits.specs.Provisioned.{Provisioned}
 use Rattle.sdh_squelch.specs.declared.Row.{Row}
-use Rattle.sdh_squelch.specs.Table.{circuit_on, circuits_at, slots_on, row_at}
+use Rattle.sdh_squelch.specs.Table.{SquelchTable, circuit_on, circuits_at, slots_on, rows_of, row_at}
 
 -- two times eight rows
 pub sixteen-rows : (f g : ℕ → Option Row) → length (cells f 8 ++ cells g 8) ≡ 16
@@ -41,3 +41,8 @@ module _ (n : ℕ) (circuits : List Provisioned) (p : ℕ) where
       let f : ℕ → ℕ → Option Row = λ s i. circuit_on n circuits s (i + 1) in
       second ∙ ap (λ l. l ++ cells (f east) 8) (first ∙ ap (λ l. l ++ cells (f west) 8) none)
       ∙ ap (λ s. cells (f s) 8 ++ cells (f east) 8) w ∙ ap (λ s. cells (on West) 8 ++ cells (f s) 8) e
+
+-- the rows that a table keeps are the circuits at its position
+pub kept-are : (t : SquelchTable) (rows : List (Option Row)) (m : ℕ) → rows ≡ rows_of t → 1 ≤ m → m ≤ 8 → row_at rows m ≡ circuits_at (length t.ring) t.circuits t.at.0 m
+unfolding rows_of
+kept-are t rows m e low high = ap (λ r. row_at r m) e ∙ rows-are (length t.ring) t.circuits t.at.0 m low high

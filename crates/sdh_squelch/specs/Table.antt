@@ -29,19 +29,21 @@ circuits_at n circuits p m d = circuit_on n circuits (span_at n p d) m
 abbrev pub slots_on : ℕ → List Provisioned → ℕ → Side → List (Option Row)
 slots_on n circuits p d = cells (λ i. circuits_at n circuits p (i + 1) d) 8
 
--- A table as contracts see it: the identifiers of the ring, the position of the node, and the sixteen rows, those of
--- the west side before those of the east side.
+-- A table as contracts see it: the identifiers of the ring, the position of the node, and the ring's circuits.
 pub record SquelchTable : Type 0 where
   pub ring : List ℕ
   pub at : Pos
-  pub rows : List (Option Row)
+  pub circuits : List Provisioned
 
 -- the table of the node at a position of a ring with these circuits
-unfoldable pub table_of : List ℕ → List Provisioned → Pos → SquelchTable
-table_of ring circuits at =
-    let n = length ring in record { ring = ring; at = at; rows = slots_on n circuits at.0 West ++ slots_on n circuits at.0 East }
+abbrev pub table_of : List ℕ → List Provisioned → Pos → SquelchTable
+table_of ring circuits at = record { ring = ring; at = at; circuits = circuits }
 
--- the rows of a slot, by side
+-- its sixteen rows: those of the west side before those of the east side
+unfoldable pub rows_of : SquelchTable → List (Option Row)
+rows_of t = let n = length t.ring in slots_on n t.circuits t.at.0 West ++ slots_on n t.circuits t.at.0 East
+
+-- the row of a slot, by side
 abbrev pub row_at : List (Option Row) → ℕ → Side → Option Row
 row_at rows m West = slice_index_or rows (m - 1) None
 row_at rows m East = slice_index_or rows (m + 7) None
@@ -50,11 +52,12 @@ row_at rows m East = slice_index_or rows (m + 7) None
 abbrev pub HasEnds : ℕ → Option Row → Type 0
 HasEnds n row = IfSome row (λ r. (r.from.0 < n) × (r.to.0 < n))
 
--- what is true of every table
-pub record IsTable (t : SquelchTable) : Type 0 where
-  pub sixteen : length t.rows ≡ 16
+-- what is true of every table, and of the rows that it keeps
+pub record IsTable (t : SquelchTable) (rows : List (Option Row)) : Type 0 where
+  pub rows_are : rows ≡ rows_of t
+  pub sixteen : length rows ≡ 16
   pub inside : t.at.0 < length t.ring
-  pub ends : All (HasEnds (length t.ring)) t.rows
+  pub ends : All (HasEnds (length t.ring)) rows
 
 -- a circuit is there, and both its ends are in the chain
 abbrev pub is_carried : ℕ → Option Row → Chain → Bool

@@ -6,13 +6,14 @@ ghost use Rattle.std.specs.Prelude.{◌≡◌, ◌≤◌, ◌<◌, ◌+◌, ◌-
 ghost use Rattle.std.specs.List.{All};
 ghost use Rattle.sdh_basics.specs.Cells.{cells};
 ghost use Rattle.sdh_circuits.specs.Provisioning.{Provisioning, IsProvisioning};
-ghost use Rattle.sdh_squelch.specs.Table.{circuit_on, circuits_at, table_of, row_at, HasEnds, is_carried};
+ghost use Rattle.sdh_squelch.specs.Table.{circuit_on, circuits_at, table_of, rows_of, HasEnds, is_carried};
 ghost use Rattle.sdh_squelch.specs.Kept.{KeepsRing};
 
 use sdh_circuits::{CircuitMap, Slot};
 use sdh_ringmap::{Chain, Pos, RingMap, Side, Span};
 use std::alloc::{AllocError, Global};
 use std::marker::Model;
+use std::snapshot::Snapshot;
 
 /// A circuit on a span, by its number, with the positions of its two ends.
 #[derive(Clone, Copy, Debug, PartialEq, Eq)]
@@ -22,11 +23,13 @@ pub struct Row {
     pub to: Pos,
 }
 
-/// The circuits on the two spans of a node, slot by slot.
+/// The circuits on the two spans of a node, slot by slot. The ring's circuits stand there for clauses alone: they take no
+/// memory, and the code has the rows.
 #[derive(Drop)]
 pub struct Table {
     at: Pos,
     map: RingMap,
+    circuits: Snapshot<CircuitMap>,
     rows: Vec<Option<Row>>,
 }
 
@@ -35,9 +38,9 @@ impl Model for Table {
 
     ghost Value = { SquelchTable };
 
-    ghost view = { λ t. record { ring = t.map; at = t.at; rows = t.rows.items } };
+    ghost view = { λ t. record { ring = t.map; at = t.at; circuits = t.circuits.value.circuits } };
 
-    ghost invariant = { λ t. IsTable (record { ring = t.map; at = t.at; rows = t.rows.items }) };
+    ghost invariant = { λ t. IsTable (record { ring = t.map; at = t.at; circuits = t.circuits.value.circuits }) t.rows.items };
 }
 
 // The circuit on a span in a slot.
@@ -81,7 +84,6 @@ fn add_rows(
 
 impl Table {
     /// The table of the node at a position. All its memory is taken here.
-    #[tactic(auto, unfolding(crate::specs::Table::table_of))]
     pub fn try_new(
         alloc: Global,
         map: &RingMap,
@@ -90,9 +92,7 @@ impl Table {
     ) -> Result<Table, AllocError>
         requires at { at.0 < length map.now }
         requires kept { KeepsRing circuits.now map.now }
-        ensures table { IfOk result (λ table. table ≡ table_of map.now circuits.now.circuits at) }
-        ensures kept { IfOk result (λ table. (table.ring ≡ map.now) × (table.at ≡ at)) }
-        ensures rows { IfOk result (λ table. (m : ℕ) → 1 ≤ m → m ≤ 8 → row_at table.rows m ≡ circuits_at (length map.now) circuits.now.circuits at.0 m) }
+        ensures { IfOk result (λ table. table ≡ table_of map.now circuits.now.circuits at) }
     {
         let _count = circuits.len();
         let mut rows = Vec::with_capacity(alloc, 16)?;
@@ -101,6 +101,7 @@ impl Table {
         Ok(Table {
             at,
             map: map.copy(),
+            circuits: Snapshot::of(circuits),
             rows,
         })
     }
@@ -108,8 +109,8 @@ impl Table {
     /// The sixteen rows, for slots 1 to 8 of the west side, then for slots 1 to 8 of the east side. A slot that the
     /// ring doesn't have has no circuit.
     pub fn rows(&self) -> &[Option<Row>]
-        ensures rows { result.now ≡ self.now.rows }
-        ensures sixteen { length self.now.rows ≡ 16 }
+        ensures rows { result.now ≡ rows_of self.now }
+        ensures sixteen { length result.now ≡ 16 }
     {
         self.rows.as_slice()
     }
@@ -117,7 +118,7 @@ impl Table {
     // The row of a side and slot.
     fn row(&self, side: Side, slot: Slot) -> Option<Row>
         requires slot { (1 ≤ slot.0) × (slot.0 ≤ 8) }
-        ensures row { result ≡ row_at self.now.rows slot.0 side }
+        ensures row { result ≡ circuits_at (length self.now.ring) self.now.circuits self.now.at.0 slot.0 side }
         ensures ends { HasEnds (length self.now.ring) result }
     {
         let m = slot.0 as usize;
@@ -130,7 +131,7 @@ impl Table {
     /// The number of the circuit on a side in a slot.
     pub fn circuit(&self, side: Side, slot: Slot) -> Option<u8>
         requires { (1 ≤ slot.0) × (slot.0 ≤ 8) }
-        ensures { result ≡ option_map (λ r. r.circuit) (row_at self.now.rows slot.0 side) }
+        ensures { result ≡ option_map (λ r. r.circuit) (circuits_at (length self.now.ring) self.now.circuits self.now.at.0 slot.0 side) }
     {
         let row = self.row(side, slot)?;
         Some(row.circuit)
@@ -139,7 +140,7 @@ impl Table {
     /// The positions of the two ends, port A's before port B's, of the circuit on a side in a slot.
     pub fn ends(&self, side: Side, slot: Slot) -> Option<(Pos, Pos)>
         requires { (1 ≤ slot.0) × (slot.0 ≤ 8) }
-        ensures { result ≡ option_map (λ r. (r.from, r.to)) (row_at self.now.rows slot.0 side) }
+        ensures { result ≡ option_map (λ r. (r.from, r.to)) (circuits_at (length self.now.ring) self.now.circuits self.now.at.0 slot.0 side) }
     {
         let row = self.row(side, slot)?;
         Some((row.from, row.to))
@@ -150,7 +151,7 @@ impl Table {
         requires map { self.now.ring ≡ map.now }
         requires slot { (1 ≤ slot.0) × (slot.0 ≤ 8) }
         requires chain { chain.first.0 < length map.now }
-        ensures { result ≡ is_carried (length map.now) (row_at self.now.rows slot.0 side) chain }
+        ensures { result ≡ is_carried (length map.now) (circuits_at (length map.now) self.now.circuits self.now.at.0 slot.0 side) chain }
     {
         match self.row(side, slot) {
             Some(row) => map.has(chain, row.from) && map.has(chain, row.to),

@@ -1,45 +1,62 @@
-use Rattle.std.proofs.Common.{◌≡◌, ◌*◌, refl, ap, sym, ◌∙◌, arith, subst}
-use Rattle.std.proofs.lemmas.List.{length-set}
-use Rattle.sdh_basics.proofs.Indexing.{rest_more, step_more}
+use Rattle.std.proofs.Common.{◌≡◌, refl, ap, sym, ◌∙◌, arith, subst, length}
+use Rattle.sdh_basics.proofs.Indexing.{rest_more, read_here}
 use Rattle.sdh_plant.specs.Fibres.{Fibres}
-use Rattle.sdh_plant.specs.Arrivals.{Knows}
-use Rattle.sdh_plant.specs.Calls.{after_receive}
-use Rattle.sdh_ring.specs.Rounds.{met}
-use Rattle.sdh_ring.specs.Calls.{met_now}
-use Rattle.sdh_ring.specs.Kept.{Stays}
-use Rattle.sdh_ring.proofs.Nodes.{each_more}
-use Rattle.sdh_ring.proofs.Receives.{taken_none, taken_more, nodes_taken, rate_taken, met_taken, knows_taken, stays_same}
+use Rattle.sdh_ring.specs.Calls.{MayReceive}
+use Rattle.sdh_ring.proofs.Nodes.{fixed_more, length_fixed, on_err}
+use Rattle.sdh_ring.proofs.Receives.{hears_none, hears_more, hears_some, hears_all, nodes_taken, rate_taken}
 use Rattle.sdh_ring.proofs.receiving.receive_all.Goals as goal
 
 pub receives-init : goal.receives-init
-receives-init g c = record { fibres = taken_none _; done = λ _. refl; rest = refl; len = refl; stay = λ p d lt. stays_same _; rate = refl; later = omega arith }
+receives-init g c = record { done = hears_none _ _; rest = refl; fixed = refl; rate = refl; later = omega arith }
 
 pub receive_both-requires-clause-at : goal.receive_both-requires-clause-at
 receive_both-requires-clause-at g c =
-    let same : (g.P.Plant.fibres c.receives.plant).nodes ≡ (g.P.Plant.fibres c.args.plant.now).nodes = ap (λ (f : Fibres). f.nodes) c.receives.invariant.fibres ∙ nodes_taken _ _ in
+    let same : (g.P.Plant.fibres c.receives.plant).nodes ≡ (g.P.Plant.fibres c.args.plant.now).nodes = ap (λ (f : Fibres). f.nodes) c.receives.invariant.done.fibres ∙ nodes_taken _ _ in
     let all = c.requires.prepared.nodes in
     let few = c.requires.prepared.few in
+    let size = length_fixed _ _ c.receives.invariant.fixed in
     omega arith
 
 pub receive_both-requires-clause-rate : goal.receive_both-requires-clause-rate
-receive_both-requires-clause-rate g c = c.receives.invariant.rate ∙ sym (ap (λ (f : Fibres). f.rate) c.receives.invariant.fibres ∙ rate_taken _ _ ∙ c.requires.prepared.rate)
+receive_both-requires-clause-rate g c = c.receives.invariant.rate ∙ sym (ap (λ (f : Fibres). f.rate) c.receives.invariant.done.fibres ∙ rate_taken _ _ ∙ c.requires.prepared.rate)
+
+pub receive_both-requires-clause-node : goal.receive_both-requires-clause-node
+receive_both-requires-clause-node g c =
+    let x = c.index_mut-node.result.now in
+    let size = length_fixed _ _ c.receives.invariant.fixed in
+    let may : MayReceive c.args.frame.now.rate x = subst (λ z. MayReceive c.args.frame.now.rate z) (sym (read_here _ c.args.nodes.now.items c.receives.i x c.receives.invariant.rest c.index_mut-node.ensures.value)) (c.requires.nodes c.receives.i x (omega arith)) in
+    may ∙ sym c.receives.invariant.rate
+
+pub returns-in_err-receive_both-clause-err : goal.returns-in_err-receive_both-clause-err
+returns-in_err-receive_both-clause-err g c =
+    let inv = c.receives.invariant in
+    let size = length_fixed _ _ inv.fixed in
+    on_err c.from_residual.result (hears_some c.receives.i _ _ _ _ _ _ (omega arith) inv.done c.in_err-receive_both.ensures.kept)
+
+pub returns-in_err-receive_both-clause-fixed : goal.returns-in_err-receive_both-clause-fixed
+returns-in_err-receive_both-clause-fixed g c = fixed_more _ _ c.receives.i c.index_mut-node.result.now c.receive_both.new.node c.index_mut-node.ensures.value c.receive_both.ensures.fixed c.receives.invariant.fixed
+
+pub returns-clause-ok : goal.returns-clause-ok
+returns-clause-ok g c =
+    let inv = c.receives.invariant in
+    let size = length_fixed _ _ inv.fixed in
+    hears_all c.receives.i _ _ c.args.nodes.now.items c.receives.nodes.items (let e : c.receives.i ≡ length c.args.nodes.now.items = omega arith in e) size inv.done
 
 pub receives-preserved : goal.receives-preserved
 receives-preserved g c =
     let means = g.P.Plant.fibres in
     let inv = c.receives.invariant in
-    let old = means c.args.plant.now in
-    let rate = c.args.frame.now.rate in
+    let old = c.args.nodes.now.items in
+    let now = c.receives.nodes.items in
     let i = c.receives.i in
     let x = c.index_mut-node.result.now in
+    let y = c.receive_both.new.node in
+    let size = length_fixed _ _ inv.fixed in
     record {
-      fibres = c.in_ok-receive_both.ensures.fibres ∙ ap (λ f. after_receive (after_receive f)) inv.fibres ∙ taken_more old i;
-      done = λ h. step_more (met rate old) _ _ i _ _ (omega arith) (omega arith) inv.rest c.index_mut-node.ensures.value
-          (c.in_ok-receive_both.ensures.node (subst Knows (sym inv.fibres) (knows_taken old (2 * i) h))
-          ∙ ap (λ r. met_now r (means c.receives.plant) i x) inv.rate ∙ ap (λ f. met_now rate f i x) inv.fibres ∙ met_taken rate old i x) (inv.done h);
-      rest = rest_more c.receives.nodes.items c.args.nodes.now.items i c.receive_both.new.node inv.rest;
-      len = length-set c.receives.nodes.items c.receives.i c.receive_both.new.node ∙ inv.len;
-      stay = each_more Stays c.args.nodes.now.items c.receives.nodes.items i x c.receive_both.new.node (omega arith) inv.rest c.index_mut-node.ensures.value c.receive_both.ensures.stays inv.stay;
+      done = hears_more i (means c.args.plant.now) (means c.receives.plant) _ old now x y (omega arith) (omega arith) inv.rest c.index_mut-node.ensures.value inv.done
+          c.in_ok-receive_both.ensures.node c.in_ok-receive_both.ensures.fibres;
+      rest = rest_more now old i y inv.rest;
+      fixed = fixed_more old now i x y c.index_mut-node.ensures.value c.receive_both.ensures.fixed inv.fixed;
       rate = c.receive_both.ensures.rate ∙ inv.rate;
       later = omega (arith, c.receive_both.ensures.cause.later);
     }

@@ -1,8 +1,8 @@
 use Rattle.std.proofs.Common.{ap, sym, ◌∙◌}
 use Rattle.std.specs.Prelude.{[], ◌∷◌, ◌++◌}
 use Rattle.sdh_node.specs.Node.{new_node}
-use Rattle.sdh_ring.specs.Held.{position}
-use Rattle.sdh_ring.proofs.Rings.{new_none, new_more}
+use Rattle.sdh_world.specs.Held.{position}
+use Rattle.sdh_world.proofs.Keeping.{new_none, new_more}
 use Rattle.sdh_ring.proofs.ring.new_nodes.Goals as goal
 
 pub loop-i-init : goal.loop-i-init

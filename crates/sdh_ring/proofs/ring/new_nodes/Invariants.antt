@@ -1,5 +1,5 @@
 use Rattle.std.proofs.Common.{◌≡◌}
-use Rattle.sdh_ring.specs.Held.{new_nodes}
+use Rattle.sdh_world.specs.Held.{new_nodes}
 use Rattle.sdh_ring.proofs.ring.new_nodes.Given as goal
 
 abbrev pub invariant-loop-i : goal.invariant-loop-i

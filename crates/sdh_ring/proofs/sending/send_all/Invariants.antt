@@ -1,7 +1,6 @@
-use Rattle.std.proofs.Common.{◌≡◌, ◌≤◌, ◌*◌, take, drop, length, map}
-use Rattle.sdh_ring.specs.Rounds.{next, frames_of}
-use Rattle.sdh_ring.specs.Calls.{sent_first}
-use Rattle.sdh_ring.specs.Kept.{Keeps, Each}
+use Rattle.std.proofs.Common.{◌≡◌, ◌≤◌, take, drop, map}
+use Rattle.sdh_world.specs.Rounds.{next, frames_of, sent_some}
+use Rattle.sdh_world.specs.Fixed.{fixed}
 use Rattle.sdh_ring.proofs.sending.send_all.Given as goal
 
 abbrev pub invariant-sends : goal.invariant-sends
@@ -9,11 +8,10 @@ invariant-sends g l =
     let means = g.P.Plant.fibres in
     let at = l.now.0 in
     record {
-      fibres : means l.plant ≡ sent_first (2 * l.i) (frames_of at (take l.i l.fn.nodes.items)) (means l.fn.plant);
+      fibres : means l.plant ≡ sent_some (frames_of at (take l.i l.fn.nodes.items)) (means l.fn.plant);
       done : take l.i l.nodes.items ≡ map (next at) (take l.i l.fn.nodes.items);
       rest : drop l.i l.nodes.items ≡ drop l.i l.fn.nodes.items;
-      len : length l.nodes.items ≡ length l.fn.nodes.items;
-      keep : Each (Keeps at) l.fn.nodes.items l.nodes.items;
+      fixed : map fixed l.nodes.items ≡ map fixed l.fn.nodes.items;
       west : l.west.rate ≡ l.fn.west.rate;
       east : l.east.rate ≡ l.fn.east.rate;
       later : g.P.Plant.faults l.fn.plant ≤ g.P.Plant.faults l.plant;

@@ -11,4 +11,4 @@ pub returns-clause-fits : goal.returns-clause-fits
 returns-clause-fits c =
     fits c.args.self.now c.args.map.now (wish_of c.args.asked.now) _ (search rules) (search rules) c.len-nodes.ensures.few
     (in_ring c.args.map.now (wish_of c.args.asked.now) _ c.in-Some.ensures.from c.in-Some.ensures.to (search rules))
-    (search rules) (search rules) (search rules) (search rules)
+    (search rules) (search rules) (search rules) (search rules) (search rules)

@@ -1,21 +1,29 @@
-use Rattle.std.proofs.Common.{ap, sym, subst, ◌∙◌, ◌≡◌, length}
-use Rattle.sdh_ring.specs.Kept.{Stays, Each}
-use Rattle.sdh_ring.proofs.Rings.{at_after_stays, run_after_stays, length-placed, each_commanded, ring_with}
+use Rattle.std.proofs.Common.{ap, sym, subst, ◌∙◌, ◌≡◌, ◌<◌, map, length, arith}
+use Rattle.std.specs.Prelude.{All}
+use Rattle.sdh_world.specs.Held.{HeldRing}
+use Rattle.sdh_world.specs.Fixed.{fixed, IsOn}
+use Rattle.sdh_world.proofs.Keeping.{all_commanded, all_on_commanded}
+use Rattle.sdh_ring.proofs.Rings.{count_of, ring_with}
 use Rattle.sdh_ring.proofs.ring.Ring.command.Goals as goal
 
 pub invariant_of-self : goal.invariant_of-self
 invariant_of-self c =
     let inv = c.self.invariant in
-    let old = c.self.inside.nodes.items in
+    let inside = c.self.inside in
+    let old = inside.nodes.items in
     let new = c.command_at.new.nodes.items in
     let is = c.command_at.ensures in
-    let len : length new ≡ length old = ap length is ∙ length-placed _ _ old in
-    let each : Each Stays old new = subst (Each Stays old) (sym is) (each_commanded c.args.at.0 c.args.side c.args.command old) in
+    let same : map fixed new ≡ map fixed old = ap (map fixed) is ∙ all_commanded c.args.at.0 c.args.side c.args.command old in
     record {
       arrived = inv.arrived;
       west = inv.west;
       east = inv.east;
-      ring = ring_with _ new c.self.inside.present.0 c.self.inside.rounds c.self.inside.broken inv.ring len inv.ring.moment
-          (at_after_stays c.self.inside.settings _ _ old new len each inv.ring.nodes)
-          (λ whole. run_after_stays _ old new len each (inv.ring.rounds whole));
+      ring = ring_with _ new inside.present.0 inside.rounds inside.broken inv.ring same inv.ring.moment
+          (λ whole. subst (All (IsOn inside.rounds inside.present.0)) (sym is) (all_on_commanded c.args.at.0 c.args.side c.args.command inside.rounds inside.present.0 old (inv.ring.going whole)));
     }
+
+pub command_at-requires : goal.command_at-requires
+command_at-requires c =
+    let low : c.args.at.0 < length c.self.inside.map = subst (λ (r : HeldRing). c.args.at.0 < length r.ids) (sym c.self.view_is) c.requires in
+    let size = count_of _ c.self.invariant.ring in
+    omega arith

@@ -1,62 +1,78 @@
-use Rattle.std.proofs.Common.{ap, sym, subst, ◌∙◌, ◌≡◌, ◌+◌, ◌*◌, length}
+use Rattle.std.proofs.Common.{refl, ap, sym, subst, ◌∙◌, ◌≡◌, ◌+◌, ◌<◌, ◌≤◌, ◌^◌, length}
+use Rattle.std.specs.Prelude.{All}
 use Rattle.sdh_plant.specs.Fibres.{IsPrepared}
-use Rattle.sdh_ring.specs.Held.{HeldRing}
-use Rattle.sdh_ring.specs.Rounds.{frames_of, sent_all, heard_of, IsSentRound}
-use Rattle.sdh_ring.proofs.Receives.{prepared_heard}
-use Rattle.sdh_ring.proofs.Sends.{length-frames}
-use Rattle.sdh_ring.proofs.Rings.{at_after_stays, at_after_keeps, run_after_round, ring_with, prepared_after, conditions_after, honest_after, knows_after}
+use Rattle.sdh_world.specs.Held.{HeldRing}
+use Rattle.sdh_world.specs.Rounds.{world}
+use Rattle.sdh_world.specs.Runs.{IsRound, IsBrokenOff}
+use Rattle.sdh_ring.specs.Calls.{MayReceive, MaySend}
+use Rattle.sdh_ring.proofs.Nodes.{length_fixed, on_err}
+use Rattle.sdh_ring.proofs.Rings.{count_of, ring_with, may_receive, may_send, on_hears, on_sends, ran, off_hearing, off_sending, prepared_after, prepared_nodes, prepared_hears}
 use Rattle.sdh_ring.proofs.ring.Ring.round.Goals as goal
+
+pub hear-requires-clause-prepared : goal.hear-requires-clause-prepared
+hear-requires-clause-prepared g c =
+    prepared_nodes _ c.self.inside.arrived.rate c.self.inside.nodes.items _ c.self.invariant.ring c.self.invariant.arrived refl
+    (subst (λ (r : HeldRing). IsPrepared r.settings.rate (length r.ids) (g.P.Plant.fibres c.args.plant.now)) (sym c.self.view_is) c.requires.prepared)
+
+pub hear-requires-clause-nodes : goal.hear-requires-clause-nodes
+hear-requires-clause-nodes g c =
+    subst (λ r. All (MayReceive r) c.self.inside.nodes.items) (sym c.self.invariant.arrived) (may_receive _ c.self.inside.nodes.items c.self.invariant.ring refl)
+
+pub returns-in_err-hear-clause-err : goal.returns-in_err-hear-clause-err
+returns-in_err-hear-clause-err g c =
+    let enough : 2 ≤ length c.self.inside.map = subst (λ (r : HeldRing). 2 ≤ length r.ids) (sym c.self.view_is) c.requires.prepared.enough in
+    on_err c.from_residual.result
+    (subst (λ (r : HeldRing). IsBrokenOff (world r (g.P.Plant.fibres c.args.plant.now)) (g.P.Plant.fibres c.hear.new.plant)) c.self.view_is
+    (off_hearing _ _ _ (count_of _ c.self.invariant.ring) enough c.in_err-hear.ensures.err))
 
 pub send_all-requires-clause-prepared : goal.send_all-requires-clause-prepared
 send_all-requires-clause-prepared g c =
-    let means = g.P.Plant.fibres in
-    let rate = c.self.inside.settings.rate in
-    let old = c.self.inside.nodes.items in
-    let heard = c.hear.new.nodes.items in
-    let size : length heard ≡ length c.self.inside.map = c.hear.ensures.len ∙ c.self.invariant.ring.count in
-    let was : IsPrepared rate (length c.self.inside.map) (means c.args.plant.now) = subst (λ (r : HeldRing). IsPrepared r.settings.rate (length r.ids) (means c.args.plant.now)) (sym c.self.view_is) c.requires.prepared in
-    let now : IsPrepared rate (length heard) (means c.hear.new.plant) =
-    subst (λ f. IsPrepared rate (length heard) f) (sym c.in_ok-hear.ensures.fibres)
-    (prepared_heard rate (length heard) c.self.inside.rounds (length old) (means c.args.plant.now) (subst (λ k. IsPrepared rate k (means c.args.plant.now)) (sym size) was)) in
-    subst (λ r. IsPrepared r (length heard) (means c.hear.new.plant)) (sym c.self.invariant.west) now
+    let inv = c.self.invariant in
+    let f = g.P.Plant.fibres c.args.plant.now in
+    let was = subst (λ (r : HeldRing). IsPrepared r.settings.rate (length r.ids) f) (sym c.self.view_is) c.requires.prepared in
+    let hears = c.in_ok-hear.ensures.ok in
+    prepared_nodes _ c.self.inside.west.rate c.hear.new.nodes.items _ inv.ring inv.west (length_fixed _ _ c.hear.ensures.fixed) (prepared_hears _ _ _ f _ _ _ hears was)
+
+pub send_all-requires-clause-nodes : goal.send_all-requires-clause-nodes
+send_all-requires-clause-nodes g c =
+    let inv = c.self.invariant in
+    let whole = ap (λ (r : HeldRing). r.broken) c.self.view_is ∙ c.requires.whole in
+    let on = on_hears _ _ _ _ _ _ _ c.in_ok-hear.ensures.ok (inv.ring.going whole) in
+    let few : c.self.inside.rounds < 2 ^ 32 = subst (λ (r : HeldRing). r.rounds < 2 ^ 32) (sym c.self.view_is) c.requires.room in
+    subst (λ r. All (MaySend r c.self.inside.present.0) c.hear.new.nodes.items) (sym inv.west) (may_send _ c.hear.new.nodes.items inv.ring c.hear.ensures.fixed on few)
+
+pub returns-in_err-send_all-clause-err : goal.returns-in_err-send_all-clause-err
+returns-in_err-send_all-clause-err g c =
+    let inv = c.self.invariant in
+    let f = g.P.Plant.fibres c.args.plant.now in
+    let hears = c.in_ok-hear.ensures.ok in
+    on_err c.from_residual-in_err-send_all.result
+    (subst (λ (r : HeldRing). IsBrokenOff (world r f) (g.P.Plant.fibres c.send_all.new.plant)) c.self.view_is
+    (off_sending _ f _ _ c.hear.new.nodes.items (count_of _ inv.ring) hears c.in_err-send_all.ensures.err))
 
 pub invariant_of-self-2 : goal.invariant_of-self-2
 invariant_of-self-2 g c =
     let inv = c.self.invariant in
-    let old = c.self.inside.nodes.items in
-    let heard = c.hear.new.nodes.items in
-    let new = c.send_all.new.nodes.items in
+    let now = c.self.inside.present.0 in
+    let whole = ap (λ (r : HeldRing). r.broken) c.self.view_is ∙ c.requires.whole in
     record {
       arrived = c.hear.ensures.rate ∙ inv.arrived;
       west = c.send_all.ensures.west ∙ inv.west;
       east = c.send_all.ensures.east ∙ inv.east;
-      ring = ring_with _ new c.self.inside.present.0 (c.self.inside.rounds + 1) _ inv.ring (c.send_all.ensures.len ∙ c.hear.ensures.len) inv.ring.moment
-          (at_after_keeps c.self.inside.settings _ _ heard new c.send_all.ensures.len c.send_all.ensures.keep (at_after_stays _ _ _ old heard c.hear.ensures.len c.hear.ensures.stay inv.ring.nodes))
-          (λ _. run_after_round _ c.self.inside.present.0 old heard new c.hear.ensures.len c.hear.ensures.stay c.in_ok-send_all.ensures.nodes (inv.ring.rounds (ap (λ (r : HeldRing). r.broken) c.self.view_is ∙ c.requires.whole)));
+      ring = ring_with _ c.send_all.new.nodes.items now (c.self.inside.rounds + 1) _ inv.ring (c.send_all.ensures.fixed ∙ c.hear.ensures.fixed) inv.ring.moment
+          (λ _. on_sends c.self.inside.rounds now _ _ c.in_ok-send_all.ensures.nodes (on_hears _ _ _ _ _ _ _ c.in_ok-hear.ensures.ok (inv.ring.going whole)));
     }
 
-pub returns-clause-sent : goal.returns-clause-sent
-returns-clause-sent g c =
-    let means = g.P.Plant.fibres in
-    let heard = c.hear.new.nodes.items in
-    let now = c.self.inside.present.0 in
-    let rounds = c.self.inside.rounds in
-    let n = length c.self.inside.map in
-    let is : IsSentRound rounds n (means c.args.plant.now) (means c.send_all.new.plant) = record {
-      frames = frames_of now heard;
-      count = length-frames now heard ∙ ap (λ n. 2 * n) (c.hear.ensures.len ∙ c.self.invariant.ring.count);
-      after = c.in_ok-send_all.ensures.fibres ∙ ap (sent_all (frames_of now heard)) (c.in_ok-hear.ensures.fibres ∙ ap (λ n. heard_of rounds n (means c.args.plant.now)) c.self.invariant.ring.count);
-    } in
-    subst (λ (r : HeldRing). IsSentRound r.rounds (length r.ids) (means c.args.plant.now) (means c.send_all.new.plant)) c.self.view_is is
+pub returns-clause-ok : goal.returns-clause-ok
+returns-clause-ok g c =
+    let inv = c.self.invariant in
+    let f = g.P.Plant.fibres c.args.plant.now in
+    let whole = ap (λ (r : HeldRing). r.broken) c.self.view_is ∙ c.requires.whole in
+    let hears = c.in_ok-hear.ensures.ok in
+    subst (λ (r : HeldRing). IsRound (world r f) (world (record { settings = c.self.inside.settings; ids = c.self.inside.map; circuits = c.self.inside.circuits; nodes = c.send_all.new.nodes.items; moment = c.self.inside.present.0; rounds = c.self.inside.rounds + 1; broken = _ }) (g.P.Plant.fibres c.send_all.new.plant))) c.self.view_is
+    (ran _ f _ _ c.hear.new.nodes.items c.send_all.new.nodes.items whole (count_of _ inv.ring) hears c.in_ok-send_all.ensures.fibres c.in_ok-send_all.ensures.nodes)
 
 pub returns-clause-prepared : goal.returns-clause-prepared
-returns-clause-prepared g c = prepared_after c.args.self.now.settings.rate (length c.args.self.now.ids) c.args.self.now.rounds _ _ (returns-clause-sent g c) c.requires.prepared
-
-pub returns-clause-conditions : goal.returns-clause-conditions
-returns-clause-conditions g c = conditions_after _ _ _ _ (returns-clause-sent g c)
-
-pub returns-clause-honest : goal.returns-clause-honest
-returns-clause-honest g c = honest_after _ _ _ _ (returns-clause-sent g c)
-
-pub returns-clause-knows : goal.returns-clause-knows
-returns-clause-knows g c = knows_after _ _ _ _ (returns-clause-sent g c)
+returns-clause-prepared g c =
+    let size : length c.args.self.now.nodes ≡ length c.args.self.now.ids = subst (λ (r : HeldRing). length r.nodes ≡ length r.ids) c.self.view_is (count_of _ c.self.invariant.ring) in
+    prepared_after c.args.self.now (g.P.Plant.fibres c.args.plant.now) (world _ (g.P.Plant.fibres c.send_all.new.plant)) size c.requires.prepared (returns-clause-ok g c)

@@ -1,69 +1,40 @@
-use Rattle.std.proofs.Common.{◌≡◌, ◌+◌, refl, ap, ◌∙◌, arith, length}
+use Rattle.std.proofs.Common.{◌+◌, arith}
 use Rattle.std.proofs.lemmas.Bool.{false≢true}
-use Rattle.sdh_plant.specs.Arrivals.{Knows}
-use Rattle.sdh_ring.specs.Held.{HeldRing}
-use Rattle.sdh_ring.specs.Rounds.{world}
-use Rattle.sdh_ring.specs.Quiet.{run}
-use Rattle.sdh_ring.proofs.Windows.{run_none, streak_none, none_more}
-use Rattle.sdh_ring.proofs.Settling.{ran, counted, less_counted, tested, untested, held_none, held_more, prepared_back}
+use Rattle.sdh_world.specs.Rounds.{world}
+use Rattle.sdh_ring.proofs.Settling.{goes_none, went_more, settles, goes_on, counts_on, held_went, held_none, less_counted, prepared_back}
 use Rattle.sdh_ring.proofs.ring.Ring.settle.Goals as goal
 
 pub rounds-init : goal.rounds-init
 rounds-init g c = record {
+  on = goes_none _ (let enough = c.requires.prepared.enough in omega arith);
   held = held_none c.args.self.now;
   prepared = c.requires.prepared;
-  conditions = refl;
-  honest = refl;
-  knows = λ h. h;
-  same = λ h. run_none _;
   small = omega arith;
-  calm = λ h. streak_none _;
-  none = λ h j low e. let enough = c.requires.prepared.enough in let long = e.long in omega arith;
   later = omega arith;
 }
 
-pub returns-then-is_over-clause-ok : goal.returns-then-is_over-clause-ok
-returns-then-is_over-clause-ok g c = λ h.
-    let means = g.P.Plant.fibres in
-    let inv = c.rounds.invariant in
-    let from = c.args.self.now in
-    let start = world from (means c.args.plant.now) in
-    let k = c.rounds._turn in
-    let left = c.round.new.self in
-    let now = world left (means c.round.new.plant) in
-    let same : now ≡ run (k + 1) start = ran start _ k (inv.same h) (c.in_ok-round.ensures.ok (inv.knows h)) in
-    let calm = counted start now k c.rounds.calm c.calm_rounds-calm.result same (inv.calm h) c.calm_rounds-calm.ensures in
-    let held = held_more from c.rounds.self left k inv.held c.in_ok-round.ensures.held in (
-      k + 1,
-      record {
-        within = omega arith;
-        window = tested start (k + 1) c.calm_rounds-calm.result (length left.ids) left.rounds calm (ap (λ (r : HeldRing). length r.ids) held) (ap (λ (r : HeldRing). r.rounds) held) (c.is_over.ensures.0 c.if-is_over.true);
-        first = λ j low e. inv.none h j (omega arith) e;
-        after = same;
-      },
-    )
-
 pub rounds-preserved : goal.rounds-preserved
 rounds-preserved g c =
-    let means = g.P.Plant.fibres in
     let inv = c.rounds.invariant in
     let from = c.args.self.now in
-    let start = world from (means c.args.plant.now) in
-    let k = c.rounds._turn in
-    let left = c.round.new.self in
-    let now = world left (means c.round.new.plant) in
-    let same = λ (h : Knows (means c.args.plant.now)). ran {after = now} start _ k (inv.same h) (c.in_ok-round.ensures.ok (inv.knows h)) in
-    let calm = λ (h : Knows (means c.args.plant.now)). counted start now k c.rounds.calm c.calm_rounds-calm.result (same h) (inv.calm h) c.calm_rounds-calm.ensures in
-    let held = held_more from c.rounds.self left k inv.held c.in_ok-round.ensures.held in
+    let went = went_more _ _ _ c.rounds._turn c.rounds.calm c.calm_rounds-calm.result inv.on c.in_ok-round.ensures.ok c.calm_rounds-calm.ensures in
     record {
-      held = held;
+      on = goes_on _ _ c.rounds._turn c.calm_rounds-calm.result went (λ w. false≢true (c.if-is_over.ensures.1 w));
+      held = held_went _ _ (c.rounds._turn + 1) c.calm_rounds-calm.result went;
       prepared = prepared_back from c.rounds.self _ _ _ inv.held c.in_ok-round.ensures.prepared;
-      conditions = c.in_ok-round.ensures.conditions ∙ inv.conditions;
-      honest = c.in_ok-round.ensures.honest ∙ inv.honest;
-      knows = λ h. c.in_ok-round.ensures.knows (inv.knows h);
-      same = same;
       small = less_counted _ _ _ _ c.calm_rounds-calm.ensures inv.small;
-      calm = calm;
-      none = λ h. none_more start k (inv.none h) (untested start (k + 1) c.calm_rounds-calm.result (length left.ids) left.rounds (calm h) (ap (λ (r : HeldRing). length r.ids) held) (ap (λ (r : HeldRing). r.rounds) held) (λ w. false≢true (c.if-is_over.ensures.1 w)));
       later = omega (arith, c.round.ensures.later);
     }
+
+pub is_over-requires : goal.is_over-requires
+is_over-requires g c =
+    let held = counts_on (world c.rounds.self (g.P.Plant.fibres c.rounds.plant)) _ c.in_ok-round.ensures.ok in
+    omega arith
+
+pub returns-then-is_over-clause-outcome : goal.returns-then-is_over-clause-outcome
+returns-then-is_over-clause-outcome g c =
+    let went = went_more _ _ _ c.rounds._turn c.rounds.calm c.calm_rounds-calm.result c.rounds.invariant.on c.in_ok-round.ensures.ok c.calm_rounds-calm.ensures in
+    settles _ _ c.args.limit (c.rounds._turn + 1) c.calm_rounds-calm.result went (omega arith) (c.is_over.ensures.0 c.if-is_over.true)
+
+pub returns-then-is_over-clause-restored : goal.returns-then-is_over-clause-restored
+returns-then-is_over-clause-restored g c = c.settled_rings_are_restored.ensures _ _ c.args.limit c.has_circuits.ensures (returns-then-is_over-clause-outcome g c)

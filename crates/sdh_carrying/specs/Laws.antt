@@ -1,0 +1,78 @@
+-- The laws on what is carried.
+use Rattle.std.specs.Prelude.{ℕ, ◌≡◌, ◌+◌, ◌-◌, ◌*◌, ◌<◌, ◌≤◌, ◌/◌, true, false, Some, List, length, slice_get, [], ◌∷◌, ◌++◌}
+use Rattle.sdh_frame.specs.Sizes.{n_of}
+use Rattle.sdh_ringmap.specs.Places.{opposite, neighbour}
+use Rattle.sdh_ringmap.specs.declared.Side.{Side}
+use Rattle.sdh_circuits.specs.Provisioned.{Provisioned}
+use Rattle.sdh_circuits.specs.declared.End.{End}
+use Rattle.sdh_circuits.specs.Provisioning.{Provisioning, AreCircuits}
+use Rattle.sdh_plant.specs.Fibres.{Fibres}
+use Rattle.sdh_restoration.specs.Applied.{span_requests, is_applied}
+use Rattle.sdh_restoration.specs.Settled.{settled_states}
+use Rattle.sdh_restoration.specs.Due.{Due, due}
+use Rattle.sdh_node.specs.declared.settings.Settings.{Settings}
+use Rattle.sdh_node.specs.Crossing.{is_failed, received}
+use Rattle.sdh_node.specs.Node.{receiving_on}
+use Rattle.sdh_world.specs.Held.{HeldRing, outlet_at}
+use Rattle.sdh_world.specs.Fixed.{IsRing}
+use Rattle.sdh_world.specs.Rounds.{World, round}
+use Rattle.sdh_world.specs.Runs.{run, course}
+use Rattle.sdh_world.specs.Quiet.{is_calm, EndsWindow, Settles}
+use Rattle.sdh_world.specs.Changes.{all_changed, Stretch, after_stretches}
+use Rattle.sdh_hearing.specs.Placed.{node_at}
+use Rattle.sdh_hearing.specs.Signalling.{turn_of, signals_of}
+use Rattle.sdh_hearing.specs.Laws.{IsWhole, MayStart, MayHappen, start, rounds_in, asked_in}
+use Rattle.sdh_carrying.specs.Brought.{Brings, IsSmall, outlet_due}
+use Rattle.sdh_carrying.specs.Windows.{layout_in, layout_of, HasCircuits, sent_at, requests_of, FailOnApplied, IsQuiet}
+
+-- over a span that didn't fail an AU-4 brings in a calm round what the neighbour sent in it in the calm round before
+abbrev pub ASpanCarries : Type 0
+ASpanCarries = (w : World) → IsWhole w → is_calm (round w).ring.nodes ≡ true → is_calm (round (round w)).ring.nodes ≡ true
+    → (p : ℕ) (d : Side) (au : ℕ) (b : Due) → p < length w.ring.ids → 1 ≤ au → au ≤ n_of w.ring.settings.rate → IsSmall b
+    → is_failed (receiving_on d (node_at (round (round w)).ring.nodes p)).local.defect ≡ false
+    → Brings (sent_at w (neighbour (length w.ring.ids) p d) (opposite d) au) b → Brings (received (turn_of (round w) p) d au) b
+
+-- after a round a side that failed is on an applied span
+abbrev pub FailuresAreApplied : Type 0
+FailuresAreApplied = (w : World) → IsWhole w → FailOnApplied (length w.ring.ids) (requests_of (round w)) (round w)
+
+-- what the port of a circuit delivered in the last round
+abbrev pub Delivered : World → List ℕ → Provisioned → ℕ → End → Type 0
+Delivered w rs c index e =
+    outlet_at w.ring (record { circuit = index; end = e }) ≡ outlet_due (due (length w.ring.ids) (is_applied rs) c e (w.ring.rounds - 1))
+
+-- each port has delivered in the last round what it is owed under these requests of spans
+abbrev pub DeliversWhatIsDue : World → List ℕ → Type 0
+DeliversWhatIsDue w rs = (index : ℕ) (c : Provisioned) → slice_get w.ring.circuits.circuits index ≡ Some c → (e : End) → Delivered w rs c index e
+
+-- after 2n quiet rounds each port delivers what it is owed
+abbrev pub QuietRingsDeliverWhatIsDue : Type 0
+QuietRingsDeliverWhatIsDue = (w : World) → IsWhole w → HasCircuits (layout_of w)
+    → (rs : List ℕ) (first last : ℕ) → IsQuiet (length w.ring.ids) rs w first last → 1 ≤ first → first + 2 * length w.ring.ids ≤ last → DeliversWhatIsDue (run last w) rs
+
+-- each node is in the settled state of these requests of spans, and each port has delivered what it is owed under them
+pub record IsRestored (w : World) (rs : List ℕ) : Type 0 where
+  pub states : (signals_of w).states ≡ settled_states rs
+  pub ports : DeliversWhatIsDue w rs
+
+-- what is left of a whole world is restored under the requests of the last round
+abbrev pub Restores : World → World → Type 0
+Restores w left = IsWhole w → IsRestored left (requests_of left)
+
+-- so it is where a settle step answered
+abbrev pub SettledRingsAreRestored : Type 0
+SettledRingsAreRestored = (w left : World) (limit : ℕ) → HasCircuits (layout_of w) → Settles w limit left → Restores w left
+
+-- where a quiet window ends with the last of some stretches, the ring is restored under the requests of the histories in its
+-- last round
+abbrev pub SettledRingsRestore : Type 0
+SettledRingsRestore = (s : Settings) (ids : List ℕ) (circuits : Provisioning) (f : Fibres) (earlier : List Stretch) (last : Stretch) (t : ℕ) → MayStart s ids f → MayHappen s.rate (earlier ++ last ∷ [])
+    → AreCircuits (length ids) (n_of s.rate / 2) circuits.circuits
+    → EndsWindow (course (all_changed last.changes (after_stretches earlier (start s ids circuits f)))) last.rounds → rounds_in (earlier ++ last ∷ []) ≡ t + 1
+    → IsRestored (after_stretches (earlier ++ last ∷ []) (start s ids circuits f)) (span_requests (length ids) (asked_in s (length ids) (earlier ++ last ∷ []) t))
+
+-- ---- where circuits come from
+
+-- those of every ring are circuits of its size and rate
+abbrev pub RingsHaveCircuits : Type 0
+RingsHaveCircuits = (r : HeldRing) → IsRing r → HasCircuits (layout_in r)

@@ -1,0 +1,76 @@
+-- A number of calm rounds in settled states, and what their origins bring.
+use Rattle.std.specs.Prelude.{ℕ, ◌≡◌, ◌<◌, ◌≤◌, ◌/◌, true, List, length}
+use Rattle.sdh_frame.specs.Sizes.{n_of}
+use Rattle.sdh_ringmap.specs.Places.{span_at}
+use Rattle.sdh_ringmap.specs.declared.Side.{Side}
+use Rattle.sdh_circuits.specs.Provisioned.{Provisioned}
+use Rattle.sdh_circuits.specs.Provisioning.{AreCircuits}
+use Rattle.sdh_bridge.specs.declared.Origin.{Origin}
+use Rattle.sdh_restoration.specs.Applied.{is_applied}
+use Rattle.sdh_restoration.specs.Settled.{settled}
+use Rattle.sdh_settling.specs.Signals.{requests_in}
+use Rattle.sdh_node.specs.declared.settings.Settings.{Settings}
+use Rattle.sdh_node.specs.Passing.{Input}
+use Rattle.sdh_node.specs.Tributaries.{adds}
+use Rattle.sdh_node.specs.Crossing.{is_failed, input_of, input_at}
+use Rattle.sdh_node.specs.Node.{receiving_on}
+use Rattle.sdh_world.specs.Held.{HeldRing}
+use Rattle.sdh_world.specs.Rounds.{World}
+use Rattle.sdh_world.specs.Runs.{run, course}
+use Rattle.sdh_world.specs.Quiet.{IsCalm}
+use Rattle.sdh_hearing.specs.Placed.{node_at}
+use Rattle.sdh_hearing.specs.Signalling.{turn_of, needs_in}
+
+-- what no round changes: the settings, the identifiers by position, and the circuits
+pub record Layout : Type 0 where
+  pub settings : Settings
+  pub ids : List ℕ
+  pub circuits : List Provisioned
+
+abbrev pub layout_in : HeldRing → Layout
+layout_in r = record { settings = r.settings; ids = r.ids; circuits = r.circuits.circuits }
+
+abbrev pub layout_of : World → Layout
+layout_of w = layout_in w.ring
+
+-- the number of positions, and of working slots
+abbrev pub size_of : Layout → ℕ
+size_of l = length l.ids
+
+abbrev pub slots_of : Layout → ℕ
+slots_of l = n_of l.settings.rate / 2
+
+-- the circuits are those of a ring of this size and rate
+abbrev pub HasCircuits : Layout → Type 0
+HasCircuits l = AreCircuits (size_of l) (slots_of l) l.circuits
+
+-- ---- in the round that begins with this world
+
+-- what an origin in slot m brings at position p
+abbrev pub value_at : World → ℕ → ℕ → Origin → Input
+value_at w p m o = input_of (turn_of w p) (adds (node_at w.ring.nodes p).ports) m o
+
+-- what goes into AU-4 number au that leaves position p on side d
+abbrev pub sent_at : World → ℕ → Side → ℕ → Input
+sent_at w p d au = input_at (turn_of w p) (adds (node_at w.ring.nodes p).ports) d au
+
+-- ---- after a round
+
+-- the requests of all spans in it
+abbrev pub requests_of : World → List ℕ
+requests_of w = requests_in (needs_in w)
+
+-- each of n nodes is in the settled state of these requests of spans
+abbrev pub AreSettled : ℕ → List ℕ → World → Type 0
+AreSettled n rs w = (p : ℕ) → p < n → (node_at w.ring.nodes p).state ≡ settled rs p
+
+-- a side that failed in it is on an applied span
+abbrev pub FailOnApplied : ℕ → List ℕ → World → Type 0
+FailOnApplied n rs w = (p : ℕ) (d : Side) → p < n → is_failed (receiving_on d (node_at w.ring.nodes p)).local.defect ≡ true → is_applied rs (span_at n p d) ≡ true
+
+-- the rounds from the first-th to the last-th from w are calm, in these settled states
+pub record IsQuiet (n : ℕ) (rs : List ℕ) (w : World) (first last : ℕ) : Type 0 where
+  pub spans : length rs ≡ n
+  pub calm : (k : ℕ) → first ≤ k → k ≤ last → IsCalm (course w) k
+  pub settled_are : (k : ℕ) → first ≤ k → k ≤ last → AreSettled n rs (run k w)
+  pub failing : (k : ℕ) → first ≤ k → k ≤ last → FailOnApplied n rs (run k w)

@@ -1,0 +1,63 @@
+-- What each node of a ring is: its place, its settings, its circuits, and the ports that are at it.
+use Rattle.std.specs.Prelude.{ℕ, ◌≡◌, ◌<◌, None, List, [], length, slice_index_or, map, All}
+use Rattle.sdh_ringmap.specs.Ids.{AreIds}
+use Rattle.sdh_ringmap.specs.declared.Side.{Side}
+use Rattle.sdh_frame.specs.Sizes.{n_of}
+use Rattle.sdh_frame.specs.declared.Rate.TheVariants.{Four}
+use Rattle.sdh_overhead.specs.Laws.{AreParities}
+use Rattle.sdh_node.specs.declared.settings.Settings.{Settings}
+use Rattle.sdh_node.specs.Receiving.{Receiving}
+use Rattle.sdh_node.specs.Sending.{Sending}
+use Rattle.sdh_node.specs.Tributaries.{Tributary}
+use Rattle.sdh_node.specs.Node.{Node, new_node, receiving_on, sending_on}
+use Rattle.sdh_world.specs.Held.{HeldRing, position, new_nodes}
+use Rattle.sdh_world.specs.Fixed.{fixed}
+use Rattle.sdh_world.specs.Rounds.{World}
+
+-- a node of no ring
+unfoldable pub nowhere : Node
+nowhere = new_node (record { rate = Four; threshold = 0; wait = 0 }) [] [] (position 0)
+
+-- the node at a position
+abbrev pub node_at : List Node → ℕ → Node
+node_at ns p = slice_index_or ns p nowhere
+
+-- what holds of the node at position p of a ring, at each position
+abbrev pub AtEach : (ℕ → Node → Type 0) → List Node → Type 0
+AtEach P ns = (p : ℕ) → p < length ns → P p (node_at ns p)
+
+-- a side that receives at these settings
+pub record IsReceiver (s : Settings) (r : Receiving) : Type 0 where
+  pub rate : r.section.rate ≡ s.rate
+  pub readings : length r.readings ≡ n_of s.rate
+
+-- a side that sends at these settings
+pub record IsSender (s : Settings) (x : Sending) : Type 0 where
+  pub rate : x.section.rate ≡ s.rate
+  pub generators : length x.generators ≡ n_of s.rate
+  pub parities : AreParities (n_of s.rate) x.section.last
+
+-- all sides of a node are
+pub record HasSides (s : Settings) (n : Node) : Type 0 where
+  pub receives : (d : Side) → IsReceiver s (receiving_on d n)
+  pub sends : (d : Side) → IsSender s (sending_on d n)
+
+-- each of a node's ports gave so many chunks
+abbrev pub HaveGiven : ℕ → List Tributary → Type 0
+HaveGiven chunks ports = All (λ (t : Tributary). t.feed.chunks ≡ chunks) ports
+
+-- between rounds: the node has run so many, in each its ports gave a chunk, and nothing was told on a side since the last one
+pub record IsBetween (rounds : ℕ) (n : Node) : Type 0 where
+  pub ran : n.rounds ≡ rounds
+  pub gave : HaveGiven rounds n.ports
+  pub fresh : (d : Side) → (receiving_on d n).arrived ≡ None
+
+-- Each node of the ring is where it belongs: it is the new node of its position, but for what calls change.
+pub record IsPlacedRing (r : HeldRing) : Type 0 where
+  pub ids : AreIds r.ids
+  pub nodes : map fixed r.nodes ≡ map fixed (new_nodes r.settings r.ids r.circuits.circuits (length r.ids))
+  pub sides : AtEach (λ p n. HasSides r.settings n) r.nodes
+  pub between : AtEach (λ p n. IsBetween r.rounds n) r.nodes
+
+abbrev pub IsPlaced : World → Type 0
+IsPlaced w = IsPlacedRing w.ring

@@ -1,0 +1,192 @@
+-- What calls keep of a node, and of all nodes of a ring.
+use Rattle.std.proofs.Common.{◌≡◌, ℕ, zero, suc, ◌+◌, ◌<◌, ◌≤◌, Bool, true, false, List, [], ◌∷◌, ◌++◌, length, get_or, map, refl, ap, sym, subst, ◌∙◌, arith}
+use Rattle.std.specs.Prelude.{All, IsSome, find, ◌==◌, ◌&&◌}
+use Rattle.std.proofs.lemmas.List.{length-map}
+use Rattle.std.proofs.lemmas.List.Elements.{All-map}
+use Rattle.sdh_basics.specs.Indexed.{map_from}
+use Rattle.sdh_basics.proofs.CellsLaws.{cells-zero, cells-more, length-cells, get_or-cells}
+use Rattle.sdh_ringmap.specs.declared.Side.{Side}
+use Rattle.sdh_ringmap.specs.declared.Side.TheVariants.{West, East}
+use Rattle.sdh_request.specs.declared.Command.{Command}
+use Rattle.sdh_circuits.specs.declared.PortId.{PortId}
+use Rattle.sdh_circuits.specs.Provisioned.{Provisioned}
+use Rattle.sdh_plant.specs.Fibres.{Arrival}
+use Rattle.sdh_node.specs.declared.settings.Settings.{Settings}
+use Rattle.sdh_node.specs.Receiving.{taken, heard_at, commanded_by}
+use Rattle.sdh_node.specs.Tributaries.{Tributary, same_end, is_port, port_of, HasPort, fed, all_fed, tributaries_at}
+use Rattle.sdh_node.specs.Crossing.{Cross, decided, delivered_to, all_delivered}
+use Rattle.sdh_node.specs.Node.{Node, new_node, at_receiving, turn, turned, after_turn, settled_from, node_round}
+use Rattle.sdh_node.proofs.Rounds.{round_goes_on}
+use Rattle.sdh_world.specs.Held.{new_nodes, position, at_place}
+use Rattle.sdh_world.specs.Rounds.{with_arrival, met, heard, next}
+use Rattle.sdh_world.specs.Fixed.{FixedPort, fixed_port, Fixed, fixed, IsOn}
+
+-- ---- one node
+
+pub fixed_with : (d : Side) (a : Arrival) (n : Node) → fixed (with_arrival d a n) ≡ fixed n
+unfolding fixed
+fixed_with West a n = refl
+fixed_with East a n = refl
+
+pub fixed_met : (west east : Arrival) (n : Node) → fixed (met west east n) ≡ fixed n
+unfolding met
+fixed_met west east n = fixed_with East east (with_arrival West west n) ∙ fixed_with West west n
+
+pub fixed_commanded : (d : Side) (c : Command) (n : Node) → fixed (at_receiving d (commanded_by c) n) ≡ fixed n
+unfolding fixed
+fixed_commanded West c n = refl
+fixed_commanded East c n = refl
+
+ports_mapped : (f : ℕ → Tributary → Tributary) (i : ℕ) (ts : List Tributary) → ((k : ℕ) (t : Tributary) → fixed_port (f k t) ≡ fixed_port t) → map fixed_port (map_from f i ts) ≡ map fixed_port ts
+ports_mapped f i [] same = refl
+ports_mapped f i (t ∷ ts) same = ap (λ p. p ∷ map fixed_port (map_from f (i + 1) ts)) (same i t) ∙ ap (λ ps. fixed_port t ∷ ps) (ports_mapped f (i + 1) ts same)
+
+ports_kept : (x : Cross) (ports : List Tributary) → map fixed_port (turned x ports) ≡ map fixed_port ports
+unfolding turned all_fed all_delivered
+ports_kept x ports = ports_mapped (λ i t. fed t) 0 (map_from (λ i t. delivered_to x t) 0 ports) (λ k t. refl) ∙ ports_mapped (λ i t. delivered_to x t) 0 ports (λ k t. refl)
+
+pub fixed_next : (now : ℕ) (n : Node) → fixed (next now n) ≡ fixed n
+unfolding fixed node_round settled_from after_turn turn decided taken heard_at
+fixed_next now n = ap (λ (ps : List FixedPort). record (fixed n) { ports = ps }) (ports_kept (turn now n) n.ports)
+
+-- ---- all nodes
+
+pub all_heard : (xs : List Arrival) (ns : List Node) → map fixed (heard xs ns) ≡ map fixed ns
+all_heard [] ns = refl
+all_heard (west ∷ []) ns = refl
+all_heard (west ∷ east ∷ later) [] = refl
+all_heard (west ∷ east ∷ later) (n ∷ ns) = ap (λ f. f ∷ map fixed (heard later ns)) (fixed_met west east n) ∙ ap (λ fs. fixed n ∷ fs) (all_heard later ns)
+
+pub all_next : (now : ℕ) (ns : List Node) → map fixed (map (next now) ns) ≡ map fixed ns
+all_next now [] = refl
+all_next now (n ∷ ns) = ap (λ f. f ∷ map fixed (map (next now) ns)) (fixed_next now n) ∙ ap (λ fs. fixed n ∷ fs) (all_next now ns)
+
+pub all_placed : (change : Node → Node) → ((n : Node) → fixed (change n) ≡ fixed n) → (i : ℕ) (ns : List Node) → map fixed (at_place i change ns) ≡ map fixed ns
+all_placed change same i [] = refl
+all_placed change same zero (n ∷ ns) = ap (λ f. f ∷ map fixed ns) (same n)
+all_placed change same (suc i) (n ∷ ns) = ap (λ fs. fixed n ∷ fs) (all_placed change same i ns)
+
+pub all_commanded : (i : ℕ) (side : Side) (c : Command) (ns : List Node) → map fixed (at_place i (at_receiving side (commanded_by c)) ns) ≡ map fixed ns
+all_commanded i side c ns = all_placed (at_receiving side (commanded_by c)) (fixed_commanded side c) i ns
+
+-- ---- rounds and moments
+
+on_with : (d : Side) (a : Arrival) (r m : ℕ) (n : Node) → IsOn r m n → IsOn r m (with_arrival d a n)
+on_with West a r m n h = record { rounds_are = h.rounds_are; early = h.early }
+on_with East a r m n h = record { rounds_are = h.rounds_are; early = h.early }
+
+on_met : (west east : Arrival) (r m : ℕ) (n : Node) → IsOn r m n → IsOn r m (met west east n)
+unfolding met
+on_met west east r m n h = on_with East east r m (with_arrival West west n) (on_with West west r m n h)
+
+pub on_next : (r m : ℕ) (n : Node) → IsOn r m n → IsOn (r + 1) m (next m n)
+on_next r m n h = record {
+  rounds_are = (round_goes_on m n).rounds ∙ ap (λ k. k + 1) h.rounds_are;
+  early = let e = (round_goes_on m n).moment in omega arith;
+}
+
+pub all_on_heard : (xs : List Arrival) (r m : ℕ) (ns : List Node) → All (IsOn r m) ns → All (IsOn r m) (heard xs ns)
+all_on_heard [] r m ns all i d lt = all i d lt
+all_on_heard (west ∷ []) r m ns all i d lt = all i d lt
+all_on_heard (west ∷ east ∷ later) r m [] all i d lt = all i d lt
+all_on_heard (west ∷ east ∷ later) r m (n ∷ ns) all zero d lt = on_met west east r m n (all 0 d (omega arith))
+all_on_heard (west ∷ east ∷ later) r m (n ∷ ns) all (suc i) d lt = all_on_heard later r m ns (λ j e low. all (suc j) e (omega arith)) i d (omega arith)
+
+pub all_on_next : (r m : ℕ) (ns : List Node) → All (IsOn r m) ns → All (IsOn (r + 1) m) (map (next m) ns)
+all_on_next r m ns all = All-map (IsOn (r + 1) m) (next m) ns (λ i d lt. on_next r m (get_or ns i d) (all i d lt))
+
+on_commanded : (side : Side) (c : Command) (r m : ℕ) (n : Node) → IsOn r m n → IsOn r m (at_receiving side (commanded_by c) n)
+on_commanded West c r m n h = record { rounds_are = h.rounds_are; early = h.early }
+on_commanded East c r m n h = record { rounds_are = h.rounds_are; early = h.early }
+
+pub all_on_commanded : (p : ℕ) (side : Side) (c : Command) (r m : ℕ) (ns : List Node) → All (IsOn r m) ns → All (IsOn r m) (at_place p (at_receiving side (commanded_by c)) ns)
+all_on_commanded p side c r m [] all i d lt = all i d lt
+all_on_commanded zero side c r m (n ∷ ns) all zero d lt = on_commanded side c r m n (all 0 d (omega arith))
+all_on_commanded zero side c r m (n ∷ ns) all (suc i) d lt = all (suc i) d lt
+all_on_commanded (suc p) side c r m (n ∷ ns) all zero d lt = all zero d (omega arith)
+all_on_commanded (suc p) side c r m (n ∷ ns) all (suc i) d lt = all_on_commanded p side c r m ns (λ j e low. all (suc j) e (omega arith)) i d (omega arith)
+
+pub all_on_later : (r m now : ℕ) (ns : List Node) → m ≤ now → All (IsOn r m) ns → All (IsOn r now) ns
+all_on_later r m now ns later all i d lt = let h = all i d lt in record { rounds_are = h.rounds_are; early = let e = h.early in omega arith }
+
+-- ---- a new ring
+
+pub new_none : (s : Settings) (ids : List ℕ) (cs : List Provisioned) → [] ≡ new_nodes s ids cs 0
+unfolding new_nodes
+new_none s ids cs = sym (cells-zero _)
+
+pub new_more : (s : Settings) (ids : List ℕ) (cs : List Provisioned) (k : ℕ) → new_nodes s ids cs (k + 1) ≡ new_nodes s ids cs k ++ new_node s ids cs (position k) ∷ []
+unfolding new_nodes
+new_more s ids cs k = cells-more _ k
+
+pub length-new : (s : Settings) (ids : List ℕ) (cs : List Provisioned) (k : ℕ) → length (new_nodes s ids cs k) ≡ k
+unfolding new_nodes
+length-new s ids cs k = length-cells _ k
+
+pub new_at : (s : Settings) (ids : List ℕ) (cs : List Provisioned) (n k : ℕ) (d : Node) → k < n → get_or (new_nodes s ids cs n) k d ≡ new_node s ids cs (position k)
+unfolding new_nodes
+new_at s ids cs n k d h = get_or-cells _ n k d h
+
+new_on : (s : Settings) (ids : List ℕ) (cs : List Provisioned) (p : ℕ) → IsOn 0 0 (new_node s ids cs (position p))
+unfolding new_node
+new_on s ids cs p = record { rounds_are = refl; early = omega arith }
+
+pub all_new : (s : Settings) (ids : List ℕ) (cs : List Provisioned) (n : ℕ) → All (IsOn 0 0) (new_nodes s ids cs n)
+all_new s ids cs n = λ p d lt. (let low : p < n = omega (arith, length-new s ids cs n) in subst (IsOn 0 0) (sym (new_at s ids cs n p d low)) (new_on s ids cs p))
+
+-- ---- the node at a position
+
+get-map : {X Y : Type 0} (f : X → Y) (xs : List X) (i : ℕ) (d : X) → get_or (map f xs) i (f d) ≡ f (get_or xs i d)
+get-map f [] i d = refl
+get-map f (x ∷ xs) zero d = refl
+get-map f (x ∷ xs) (suc i) d = get-map f xs i d
+
+pub length-fixed : (s : Settings) (ids : List ℕ) (cs : List Provisioned) (n : ℕ) (ns : List Node) → map fixed ns ≡ map fixed (new_nodes s ids cs n) → length ns ≡ n
+length-fixed s ids cs n ns same = sym (length-map ns fixed) ∙ ap length same ∙ length-map (new_nodes s ids cs n) fixed ∙ length-new s ids cs n
+
+-- is what the new node there is
+pub node_is : (s : Settings) (ids : List ℕ) (cs : List Provisioned) (n : ℕ) (ns : List Node) (p : ℕ) (d : Node) → map fixed ns ≡ map fixed (new_nodes s ids cs n) → p < n → fixed (get_or ns p d) ≡ fixed (new_node s ids cs (position p))
+node_is s ids cs n ns p d same low =
+    sym (get-map fixed ns p d) ∙ ap (λ fs. get_or fs p (fixed d)) same ∙ get-map fixed (new_nodes s ids cs n) p d ∙ ap fixed (new_at s ids cs n p d low)
+
+pub settings_fixed : (m n : Node) → fixed m ≡ fixed n → m.settings ≡ n.settings
+unfolding fixed
+settings_fixed m n same = ap (λ (f : Fixed). f.settings) same
+
+new_settings : (s : Settings) (ids : List ℕ) (cs : List Provisioned) (p : ℕ) → (new_node s ids cs (position p)).settings ≡ s
+unfolding new_node
+new_settings s ids cs p = refl
+
+pub all_settings : (s : Settings) (ids : List ℕ) (cs : List Provisioned) (n : ℕ) (ns : List Node) → map fixed ns ≡ map fixed (new_nodes s ids cs n) → All (λ n. n.settings ≡ s) ns
+all_settings s ids cs n ns same = λ p d lt. settings_fixed (get_or ns p d) (new_node s ids cs (position p)) (node_is s ids cs n ns p d same (omega (arith, length-fixed s ids cs n ns same))) ∙ new_settings s ids cs p
+
+-- ---- its ports
+
+names : PortId → FixedPort → Bool
+names id f = (f.port.circuit == id.circuit) && same_end f.port.end id.end
+
+named : (id : PortId) (ts : List Tributary) → IsSome (find (is_port id) ts) → IsSome (find (names id) (map fixed_port ts))
+unfolding names
+named id [] h = h
+named id (t ∷ ts) h = go (is_port id t) refl (named id ts)
+  where
+    go : (b : Bool) → is_port id t ≡ b → (IsSome (find (is_port id) ts) → IsSome (find (names id) (map fixed_port ts))) → IsSome (find (names id) (map fixed_port (t ∷ ts)))
+    go true e rest = rw e refl
+    go false e rest = let later : IsSome (find (is_port id) ts) = rw e at h in rw e (rest later)
+
+has_named : (id : PortId) (ts : List Tributary) → IsSome (find (names id) (map fixed_port ts)) → IsSome (find (is_port id) ts)
+unfolding names
+has_named id [] h = h
+has_named id (t ∷ ts) h = go (is_port id t) refl (has_named id ts)
+  where
+    go : (b : Bool) → is_port id t ≡ b → (IsSome (find (names id) (map fixed_port ts)) → IsSome (find (is_port id) ts)) → IsSome (find (is_port id) (t ∷ ts))
+    go true e rest = rw e refl
+    go false e rest = let later : IsSome (find (names id) (map fixed_port ts)) = rw e at h in rw e (rest later)
+
+pub has_fixed : (id : PortId) (m n : Node) → fixed m ≡ fixed n → HasPort n.ports id → HasPort m.ports id
+unfolding fixed port_of
+has_fixed id m n same h = has_named id m.ports (subst (λ (f : Fixed). IsSome (find (names id) f.ports)) (sym same) (named id n.ports h))
+
+pub new_has : (s : Settings) (ids : List ℕ) (cs : List Provisioned) (p : ℕ) (id : PortId) → HasPort (tributaries_at (position p) cs) id → HasPort (new_node s ids cs (position p)).ports id
+unfolding new_node
+new_has s ids cs p id h = h

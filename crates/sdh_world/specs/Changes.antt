@@ -1,0 +1,38 @@
+-- What happens to a ring and its fibres between rounds, and a run with such changes.
+use Rattle.std.specs.Prelude.{ℕ, List, [], ◌∷◌}
+use Rattle.sdh_ringmap.specs.declared.Side.{Side}
+use Rattle.sdh_request.specs.declared.Command.{Command}
+use Rattle.sdh_plant.specs.declared.plant.Condition.{Condition}
+use Rattle.sdh_plant.specs.Calls.{after_apply}
+use Rattle.sdh_node.specs.Receiving.{commanded_by}
+use Rattle.sdh_node.specs.Node.{at_receiving}
+use Rattle.sdh_world.specs.Held.{at_place}
+use Rattle.sdh_world.specs.Rounds.{World}
+use Rattle.sdh_world.specs.Runs.{run}
+
+-- the fibre that leaves a position on a side comes into a condition; a side of a node is given a command; the moment is told
+pub data Change : Type 0 where
+  Fibre : ℕ → Side → Condition → Change
+  Order : ℕ → Side → Command → Change
+  Now : ℕ → Change
+
+unfoldable pub changed : Change → World → World
+changed (Fibre p d condition) w = record w { fibres = after_apply w.fibres p d condition }
+changed (Order p d command) w = record w { ring = record w.ring { nodes = at_place p (at_receiving d (commanded_by command)) w.ring.nodes } }
+changed (Now t) w = record w { ring = record w.ring { moment = t } }
+
+abbrev pub all_changed : List Change → World → World
+all_changed [] w = w
+all_changed (c ∷ cs) w = all_changed cs (changed c w)
+
+-- changes, and so many rounds after them
+pub record Stretch : Type 0 where
+  pub changes : List Change
+  pub rounds : ℕ
+
+abbrev pub after_stretch : Stretch → World → World
+after_stretch s w = run s.rounds (all_changed s.changes w)
+
+abbrev pub after_stretches : List Stretch → World → World
+after_stretches [] w = w
+after_stretches (s ∷ ss) w = after_stretches ss (after_stretch s w)

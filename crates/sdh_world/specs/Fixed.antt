@@ -1,0 +1,65 @@
+-- What a ring's calls never change of a node, and what is true of every ring.
+use Rattle.std.specs.Prelude.{ℕ, ◌≡◌, ◌≤◌, ◌/◌, false, List, length, map, All}
+use Rattle.sdh_frame.specs.Sizes.{n_of}
+use Rattle.sdh_ringmap.specs.Ids.{AreIds}
+use Rattle.sdh_ringmap.specs.declared.Pos.{Pos}
+use Rattle.sdh_ringmap.specs.declared.Side.{Side}
+use Rattle.sdh_circuits.specs.declared.Slot.{Slot}
+use Rattle.sdh_circuits.specs.declared.PortId.{PortId}
+use Rattle.sdh_circuits.specs.Provisioned.{Provisioned}
+use Rattle.sdh_circuits.specs.Provisioning.{IsProvisioning}
+use Rattle.sdh_payload.specs.Customer.{Customer}
+use Rattle.sdh_squelch.specs.Kept.{KeepsRing}
+use Rattle.sdh_node.specs.declared.settings.Settings.{Settings}
+use Rattle.sdh_node.specs.Tributaries.{Tributary}
+use Rattle.sdh_node.specs.Node.{Node, moment_of}
+use Rattle.sdh_world.specs.Held.{HeldRing, new_nodes}
+
+-- a port of a circuit: its name, the side and slot of its circuit, and its customer
+pub record FixedPort : Type 0 where
+  pub port : PortId
+  pub side : Side
+  pub slot : Slot
+  pub customer : Customer
+
+abbrev pub fixed_port : Tributary → FixedPort
+fixed_port t = record { port = t.port; side = t.side; slot = t.slot; customer = t.feed.port }
+
+pub record Fixed : Type 0 where
+  pub settings : Settings
+  -- the waiting times of both sides
+  pub west_wait : ℕ
+  pub east_wait : ℕ
+  pub ids : List ℕ
+  pub at : Pos
+  -- the circuits of the ring
+  pub circuits : List Provisioned
+  pub ports : List FixedPort
+
+-- what a node is, whatever it receives, sends and is told
+unfoldable pub fixed : Node → Fixed
+fixed n = record {
+  settings = n.settings;
+  west_wait = n.west.local.wait;
+  east_wait = n.east.local.wait;
+  ids = n.ids;
+  at = n.at;
+  circuits = n.circuits;
+  ports = map fixed_port n.ports;
+}
+
+-- a node that has run so many rounds, the last of them not after that moment
+pub record IsOn (rounds moment : ℕ) (n : Node) : Type 0 where
+  pub rounds_are : n.rounds ≡ rounds
+  pub early : moment_of n ≤ moment
+
+-- each node is that of a new ring, but for what calls change; and all have run the ring's rounds, but where one was broken off
+pub record IsRing (r : HeldRing) : Type 0 where
+  pub ids : AreIds r.ids
+  pub circuits : IsProvisioning r.circuits
+  -- half of the rate's N
+  pub slots : r.circuits.slots ≡ n_of r.settings.rate / 2
+  pub kept : KeepsRing r.circuits r.ids
+  pub moment : r.moment ≤ 1000000000
+  pub nodes : map fixed r.nodes ≡ map fixed (new_nodes r.settings r.ids r.circuits.circuits (length r.ids))
+  pub going : r.broken ≡ false → All (IsOn r.rounds r.moment) r.nodes
