@@ -20,7 +20,7 @@ use Rattle.sdh_world.specs.Runs.{run, course}
 use Rattle.sdh_world.specs.Quiet.{is_calm, EndsWindow, Settles}
 use Rattle.sdh_world.specs.Changes.{all_changed, Stretch, after_stretches}
 use Rattle.sdh_hearing.specs.Placed.{node_at}
-use Rattle.sdh_hearing.specs.Signalling.{turn_of, signals_of}
+use Rattle.sdh_hearing.specs.Signalling.{crossing_at, signals_of}
 use Rattle.sdh_hearing.specs.Laws.{IsWhole, MayStart, MayHappen, start, rounds_in, asked_in}
 use Rattle.sdh_carrying.specs.Brought.{Brings, IsSmall, outlet_due}
 use Rattle.sdh_carrying.specs.Windows.{layout_in, layout_of, HasCircuits, sent_at, requests_of, FailOnApplied, IsQuiet}
@@ -30,7 +30,7 @@ abbrev pub ASpanCarries : Type 0
 ASpanCarries = (w : World) → IsWhole w → is_calm (round w).ring.nodes ≡ true → is_calm (round (round w)).ring.nodes ≡ true
     → (p : ℕ) (d : Side) (au : ℕ) (b : Due) → p < length w.ring.ids → 1 ≤ au → au ≤ n_of w.ring.settings.rate → IsSmall b
     → is_failed (receiving_on d (node_at (round (round w)).ring.nodes p)).local.defect ≡ false
-    → Brings (sent_at w (neighbour (length w.ring.ids) p d) (opposite d) au) b → Brings (received (turn_of (round w) p) d au) b
+    → Brings (sent_at w (neighbour (length w.ring.ids) p d) (opposite d) au) b → Brings (received (crossing_at (round w) p) d au) b
 
 -- after a round a side that failed is on an applied span
 abbrev pub FailuresAreApplied : Type 0

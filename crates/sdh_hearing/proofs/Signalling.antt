@@ -32,7 +32,7 @@ use Rattle.sdh_node.specs.Receiving.{hears}
 use Rattle.sdh_node.specs.Same.{Compared}
 use Rattle.sdh_node.specs.Crossing.{is_failed}
 use Rattle.sdh_node.specs.Node.{Node, receiving_on, compared}
-use Rattle.sdh_world.specs.Rounds.{World, round, round_with, next}
+use Rattle.sdh_world.specs.Rounds.{World, round, round_with, node_after}
 use Rattle.sdh_world.specs.Runs.{run, course}
 use Rattle.sdh_world.specs.Quiet.{is_calm, IsCalm}
 use Rattle.sdh_world.proofs.Runs.{known_settles}
@@ -227,7 +227,7 @@ module _ (w : World) (whole : IsWhole w) where
       | inr other ↦ absurd (both_ways (is_calm after) (list_all_at (λ (n : Node). n.calm) after p nowhere h other) calm)
     ]
 
-    leaves : (p : ℕ) → p < length w.ring.nodes → (1 ≤ (informed w p).rounds) × (compared (next w.ring.moment (informed w p)) ≡ compared (informed w p))
+    leaves : (p : ℕ) → p < length w.ring.nodes → (1 ≤ (informed w p).rounds) × (compared (node_after w.ring.moment (informed w p)) ≡ compared (informed w p))
     leaves p h =
         let high : p < length after = omega (arith, length-after w) in
         calm_leaves w.ring.moment (informed w p) (ap (λ (n : Node). n.calm) (sym (nodes_after w whole.placed p h)) ∙ node_calm p high)

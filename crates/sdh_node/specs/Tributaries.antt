@@ -88,8 +88,8 @@ abbrev pub input_by : Added → Input
 input_by a = record { action = a.action; value = a.value; au = record { pointers = replicate 9 0; payload = a.bytes } }
 
 -- what the port of this name adds, of ports as a round finds them
-abbrev pub adds : List Tributary → PortId → Input
-adds ports id = option_map_or (λ t. input_by (sent_in t.feed)) (port_of id ports) no_input
+abbrev pub added_by : List Tributary → PortId → Input
+added_by ports id = option_map_or (λ t. input_by (sent_in t.feed)) (port_of id ports) no_input
 
 -- the feed before the chunk that it gave last, and that chunk
 abbrev pub before : Fed → Fed
@@ -102,8 +102,8 @@ own_chunk feed = (sent_in (before feed)).bytes
 abbrev pub own_input : Tributary → Input
 own_input t = input_by (sent_in (before t.feed))
 
-abbrev pub holds : List Tributary → PortId → Input
-holds ports id = option_map_or own_input (port_of id ports) no_input
+abbrev pub added_last : List Tributary → PortId → Input
+added_last ports id = option_map_or own_input (port_of id ports) no_input
 
 -- the port after the next chunk of its stream was taken
 abbrev pub fed : Tributary → Tributary

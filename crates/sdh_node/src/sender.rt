@@ -3,9 +3,9 @@ ghost use Rattle.std.specs.Prelude.{◌≡◌, ◌≤◌, IfOk, length};
 ghost use Rattle.sdh_frame.specs.Sizes.{n_of, size_of};
 ghost use Rattle.sdh_nodestate.specs.Words.{IsSpellable};
 ghost use Rattle.sdh_node.specs.Same.{same_word, same_generators};
-ghost use Rattle.sdh_node.specs.Tributaries.{holds};
+ghost use Rattle.sdh_node.specs.Tributaries.{added_last};
 ghost use Rattle.sdh_node.specs.Crossing.{input_at};
-ghost use Rattle.sdh_node.specs.Sending.{with_word, frame_from, sent_from};
+ghost use Rattle.sdh_node.specs.Sending.{with_word, frame_from, after_sending};
 ghost use Rattle.sdh_node.specs.Node.{new_sending};
 
 use crate::cross::CrossConnect;
@@ -83,8 +83,8 @@ impl Sender {
     ) -> bool
         requires rate { cross.now.west.section.rate ≡ out.old.rate }
         requires section { self.old.section.rate ≡ out.old.rate }
-        ensures sender { self.new ≡ sent_from (input_at cross.now (holds ports.now) side) self.old }
-        ensures frame { out.new ≡ frame_from (input_at cross.now (holds ports.now) side) self.old }
+        ensures sender { self.new ≡ after_sending (input_at cross.now (added_last ports.now) side) self.old }
+        ensures frame { out.new ≡ frame_from (input_at cross.now (added_last ports.now) side) self.old }
         ensures same { result ≡ same_generators self.new.generators self.old.generators }
         ensures rate { self.new.section.rate ≡ self.old.section.rate }
         ensures out { out.new.rate ≡ out.old.rate }
