@@ -1,6 +1,6 @@
 -- Rounds and steps that a plant ran over a whole world.
 use Rattle.std.proofs.Common.{◌≡◌, inl, sym, subst}
-use Rattle.sdh_world.specs.Rounds.{World, round}
+use Rattle.sdh_world.specs.Rounds.{round}
 use Rattle.sdh_world.proofs.Laws.{known_rounds_are, known_steps}
 use Rattle.sdh_hearing.specs.Laws.{IsWhole, GoesAsSignals, WholeRoundsGoAsSignals, StepsStayWhole}
 use Rattle.sdh_hearing.proofs.Rounds.{whole_round}

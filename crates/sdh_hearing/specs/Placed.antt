@@ -1,19 +1,17 @@
 -- What each node of a ring is: its place, its settings, its circuits, and the ports that are at it.
-use Rattle.std.specs.Prelude.{ℕ, ◌≡◌, ◌<◌, None, List, [], length, slice_index_or, map, All}
+use Rattle.std.specs.Prelude.{ℕ, ◌≡◌, None, List, length, map, All}
 use Rattle.sdh_ringmap.specs.Ids.{AreIds}
 use Rattle.sdh_ringmap.specs.declared.Side.{Side}
 use Rattle.sdh_frame.specs.Sizes.{n_of}
-use Rattle.sdh_frame.specs.declared.Rate.TheVariants.{Four}
 use Rattle.sdh_overhead.specs.Laws.{AreParities}
 use Rattle.sdh_node.specs.declared.settings.Settings.{Settings}
 use Rattle.sdh_node.specs.Receiving.{Receiving}
 use Rattle.sdh_node.specs.Sending.{Sending}
 use Rattle.sdh_node.specs.Tributaries.{Tributary}
-use Rattle.sdh_node.specs.Node.{Node, new_node, receiving_on, sending_on}
-use Rattle.sdh_world.specs.Held.{HeldRing, new_nodes, nowhere, node_at, AtEach}
+use Rattle.sdh_node.specs.Node.{Node, receiving_on, sending_on}
+use Rattle.sdh_world.specs.Held.{HeldRing, new_nodes, AtEach}
 use Rattle.sdh_world.specs.Fixed.{fixed}
 use Rattle.sdh_world.specs.Rounds.{World}
-use Rattle.sdh_ringmap.specs.Places.{position_of}
 
 -- a side that receives at these settings
 pub record IsReceiver (s : Settings) (r : Receiving) : Type 0 where
