@@ -3,13 +3,12 @@ use Rattle.std.proofs.Common.{◌≡◌, ℕ, ◌<◌, true, length}
 use Rattle.sdh_ringmap.specs.declared.Side.{Side}
 use Rattle.sdh_ringmap.specs.declared.Side.TheVariants.{West, East}
 use Rattle.sdh_node.specs.Receiving.{hears}
-use Rattle.sdh_node.specs.Node.{Node, receiving_on, sending_on, compared}
+use Rattle.sdh_node.specs.Node.{Node, receiving_on, sending_on, compared, word_of}
 use Rattle.sdh_world.specs.Rounds.{World, round}
 use Rattle.sdh_world.specs.Quiet.{is_calm}
-use Rattle.sdh_hearing.specs.Placed.{node_at}
-use Rattle.sdh_hearing.specs.Paired.{word_of}
 use Rattle.sdh_hearing.specs.Laws.{IsWhole}
 use Rattle.sdh_hearing.proofs.Signalling.{calm_where_same}
+use Rattle.sdh_world.specs.Held.{node_at}
 
 -- all that is compared of two nodes is the same, side by side
 pub record AreSame (a b : Node) : Type 0 where

@@ -14,15 +14,12 @@ use Rattle.sdh_settling.specs.Signals.{requests_in, request_on, no_needs}
 use Rattle.sdh_settling.specs.Laws.{RingsSettle}
 use Rattle.sdh_plant.specs.declared.plant.Condition.{Condition}
 use Rattle.sdh_node.specs.Receiving.{hears}
-use Rattle.sdh_node.specs.Node.{Node, receiving_on, sending_on}
+use Rattle.sdh_node.specs.Node.{Node, receiving_on, sending_on, word_of, sent_of}
 use Rattle.sdh_world.specs.Rounds.{World, round}
 use Rattle.sdh_world.specs.Runs.{run, course}
 use Rattle.sdh_world.specs.Quiet.{IsCalm}
-use Rattle.sdh_world.specs.Sides.{is_cut}
 use Rattle.sdh_world.proofs.Runs.{known_unsettles}
-use Rattle.sdh_hearing.specs.Placed.{nowhere, node_at}
-use Rattle.sdh_hearing.specs.Paired.{word_of}
-use Rattle.sdh_hearing.specs.Signalling.{is_ms_ais, condition_to, word_to, is_lost, sent_of, signals_of, needs_in}
+use Rattle.sdh_hearing.specs.Signalling.{word_to, is_lost, signals_of, needs_in}
 use Rattle.sdh_hearing.specs.Laws.{IsWhole, GetsStill}
 use Rattle.sdh_hearing.proofs.Changes.{whole_run}
 use Rattle.sdh_hearing.proofs.Nodes.{count}
@@ -40,6 +37,10 @@ use Rattle.sdh_converging.proofs.Runs.{length_run, condition_run, run_more}
 use Rattle.sdh_converging.proofs.Spreading.{pointers_rest}
 use Rattle.sdh_converging.proofs.Windows.{calm_ends_windows, answers_by}
 use Rattle.sdh_converging.proofs.Calming.{AreSame, calm_round}
+use Rattle.sdh_plant.specs.Fibres.{is_cut}
+use Rattle.sdh_world.specs.Held.{nowhere, node_at}
+use Rattle.sdh_kbytes.specs.KBytes.{is_ms_ais}
+use Rattle.sdh_world.specs.Sides.{condition_to}
 
 -- what lists that are the same when mapped have at a place
 same_at : {Y : Type 0} (f : Node → Y) (xs ys : List Node) (p : ℕ) → p < length xs → p < length ys → map f xs ≡ map f ys → f (node_at xs p) ≡ f (node_at ys p)

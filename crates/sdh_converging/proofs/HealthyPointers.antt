@@ -6,7 +6,7 @@ use Rattle.std.proofs.lemmas.List.{get_or-replicate, length-replicate, get_or_pa
 use Rattle.sdh_frame.specs.Sizes.{n_of}
 use Rattle.sdh_ringmap.specs.declared.Side.{Side}
 use Rattle.sdh_ringmap.specs.declared.Side.TheVariants.{West, East}
-use Rattle.sdh_ringmap.specs.Places.{neighbour, opposite}
+use Rattle.sdh_ringmap.specs.Places.{neighbour, opposite, position_of}
 use Rattle.sdh_circuits.specs.Provisioned.{Provisioned}
 use Rattle.sdh_circuits.specs.Provisioning.{Provisioning}
 use Rattle.sdh_bridge.specs.declared.Origin.{Origin}
@@ -23,17 +23,13 @@ use Rattle.sdh_pointer.specs.Reading.{after_word, action_on}
 use Rattle.sdh_pointer.specs.Sending.{word_sent, next_sending}
 use Rattle.sdh_pointer.specs.Spreading.{IsSmall, IsValueOver, action_over, word_over, sending_over, reading_over}
 use Rattle.sdh_pointer.proofs.Spreading.{values_spread, source_sends, action_start, sending_start, reading_start, reading_value, sending_stays, reading_stays}
-use Rattle.sdh_plant.specs.Fibres.{Fibres}
+use Rattle.sdh_plant.specs.Fibres.{Fibres, is_cut}
 use Rattle.sdh_node.specs.declared.settings.Settings.{Settings}
 use Rattle.sdh_node.specs.Passing.{Input}
 use Rattle.sdh_node.specs.Node.{Node, receiving_on, sending_on, new_node}
-use Rattle.sdh_world.specs.Held.{position}
 use Rattle.sdh_world.specs.Rounds.{World}
 use Rattle.sdh_world.specs.Runs.{run}
-use Rattle.sdh_world.specs.Sides.{is_cut}
-use Rattle.sdh_hearing.specs.Placed.{node_at}
-use Rattle.sdh_hearing.specs.Signalling.{condition_to}
-use Rattle.sdh_hearing.specs.Laws.{IsWhole, MayStart, start}
+use Rattle.sdh_hearing.specs.Laws.{IsWhole, MayStart}
 use Rattle.sdh_hearing.proofs.Rounds.{reads}
 use Rattle.sdh_carrying.specs.Windows.{layout_of, HasCircuits}
 use Rattle.sdh_carrying.proofs.Spans.{word_behind}
@@ -42,6 +38,9 @@ use Rattle.sdh_converging.proofs.Spans.{sending_in, reading_in, word_in, Takes, 
 use Rattle.sdh_converging.proofs.Ports.{IsSent, source_at, source_small}
 use Rattle.sdh_converging.proofs.Spreading.{two_halves, working_goes, protection_goes, protection_comes, source_goes, inside_of, beside, generators_many, readings_many}
 use Rattle.sdh_converging.proofs.HealthySignals.{begin_whole, size, new_is, clear_begin, healthy}
+use Rattle.sdh_world.specs.Held.{node_at}
+use Rattle.sdh_world.specs.Sides.{condition_to}
+use Rattle.sdh_world.specs.Changes.{new_world}
 
 -- ---- what comes over h spans from a source
 
@@ -68,7 +67,7 @@ same_all m i a = elim (cases_lt i m) [
 
 module _ (s : Settings) (ids : List ℕ) (circuits : Provisioning) (f : Fibres) (may : MayStart s ids f) where
   abbrev w : World
-  w = start s ids circuits f
+  w = new_world s ids circuits f
 
   abbrev n : ℕ
   n = length ids
@@ -91,14 +90,14 @@ module _ (s : Settings) (ids : List ℕ) (circuits : Provisioning) (f : Fibres) 
   idle_after : (k p : ℕ) → p < n → (node_at (run k w).ring.nodes p).state ≡ Idle
   idle_after k p h = (healthy s ids circuits f may k p h).state_idle
 
-  -- ---- the start
+  -- ---- the new_world
 
-  new_sending : (d : Side) (p i : ℕ) → get_or (sending_on d (new_node s ids cs (position p))).generators i None ≡ None
+  new_sending : (d : Side) (p i : ℕ) → get_or (sending_on d (new_node s ids cs (position_of p))).generators i None ≡ None
   unfolding new_node
   new_sending West p i = same_all (n_of s.rate) i None
   new_sending East p i = same_all (n_of s.rate) i None
 
-  new_reading : (d : Side) (p i : ℕ) → get_or (receiving_on d (new_node s ids cs (position p))).readings i interpreter.start ≡ interpreter.start
+  new_reading : (d : Side) (p i : ℕ) → get_or (receiving_on d (new_node s ids cs (position_of p))).readings i interpreter.start ≡ interpreter.start
   unfolding new_node
   new_reading West p i = same_all (n_of s.rate) i interpreter.start
   new_reading East p i = same_all (n_of s.rate) i interpreter.start

@@ -11,10 +11,9 @@ use Rattle.sdh_node.specs.declared.settings.Settings.{Settings}
 use Rattle.sdh_world.specs.Rounds.{World}
 use Rattle.sdh_world.specs.Runs.{run, course}
 use Rattle.sdh_world.specs.Quiet.{is_calm, IsCalm, EndsWindow, SettlesAt, settles_in}
-use Rattle.sdh_world.specs.Changes.{after_stretches}
+use Rattle.sdh_world.specs.Changes.{after_stretches, new_world}
 use Rattle.sdh_world.proofs.FirstWindows.{settles_only, never_only}
-use Rattle.sdh_hearing.specs.Placed.{node_at}
-use Rattle.sdh_hearing.specs.Laws.{MayStart, start}
+use Rattle.sdh_hearing.specs.Laws.{MayStart}
 use Rattle.sdh_hearing.proofs.Changes.{whole_run}
 use Rattle.sdh_hearing.proofs.Requests.{requests_by}
 use Rattle.sdh_hearing.proofs.Staying.{left_run}
@@ -24,6 +23,7 @@ use Rattle.sdh_converging.proofs.Runs.{length_run, run_more}
 use Rattle.sdh_converging.proofs.Calming.{AreSame, calm_round}
 use Rattle.sdh_converging.proofs.HealthySignals.{begin_whole, size, healthy, request_none, heard_first}
 use Rattle.sdh_converging.proofs.HealthyPointers.{still_pointers}
+use Rattle.sdh_world.specs.Held.{node_at}
 
 -- ---- windows of a course that is calm
 
@@ -35,7 +35,7 @@ run_steps (suc later) v = run_steps later (run 128 v) ∙ run_more v 128 (128 * 
 
 module _ (s : Settings) (ids : List ℕ) (circuits : Provisioning) (f : Fibres) (may : MayStart s ids f) where
   abbrev w : World
-  w = start s ids circuits f
+  w = new_world s ids circuits f
 
   abbrev n : ℕ
   n = length ids
@@ -133,7 +133,7 @@ module _ (s : Settings) (ids : List ℕ) (circuits : Provisioning) (f : Fibres) 
       later_step : (limit : ℕ) → 128 ≤ limit → SettlesAt (course v) limit 128
       later_step limit h = record { within = h; window = window_v; first = none_v }
 
-  left_steps : (steps : ℕ) → 1 ≤ steps → after_stretches (healthy_steps steps) w ≡ run (128 * steps + 1) w
+  pub left_steps : (steps : ℕ) → 1 ≤ steps → after_stretches (healthy_steps steps) w ≡ run (128 * steps + 1) w
   left_steps zero h = absurd (omega arith)
   left_steps (suc later) h = run_steps later (run 129 w) ∙ run_more w 129 (128 * later) ∙ ap (λ k. run k w) {x = 128 * later + 129} {y = 128 * suc later + 1} (omega arith)
 
@@ -142,7 +142,7 @@ healthy_rounds_are_calm s ids circuits f may form k late = calm_from s ids circu
 
 pub healthy_steps_settle : HealthyStepsSettle
 healthy_steps_settle s ids circuits f may form =
-    let w = start s ids circuits f in
+    let w = new_world s ids circuits f in
     record {
       short = λ limit h. never_only w limit (λ j low e. none_before s ids circuits f may form j (omega arith) e);
       first = λ limit h. settles_only w limit 129 (first_step s ids circuits f may form limit h);
@@ -170,13 +170,13 @@ unfolding span_requests
 no_requests m span =
     applies_nothing (cells (λ s. 0) m) span (no_highest (cells (λ s. 0) m) (λ i h. get_or-cells (λ s. 0) m i 0 (omega (arith, length-cells {X = ℕ} (λ s. 0) m))))
 
-none_asks : (s : Settings) (ids : List ℕ) (circuits : Provisioning) (f : Fibres) (may : MayStart s ids f) (j : ℕ) → requests_of (run (suc j) (start s ids circuits f)) ≡ span_requests (length ids) (λ p d. Nr)
+none_asks : (s : Settings) (ids : List ℕ) (circuits : Provisioning) (f : Fibres) (may : MayStart s ids f) (j : ℕ) → requests_of (run (suc j) (new_world s ids circuits f)) ≡ span_requests (length ids) (λ p d. Nr)
 none_asks s ids circuits f may j =
-    let w = start s ids circuits f in
+    let w = new_world s ids circuits f in
     requests_by (run (suc j) w) (length ids) (length_run w (suc j) ∙ size s ids circuits f may) (λ p d. Nr) (λ p d h. request_none s ids circuits f may j p d h)
 
 pub healthy_rings_apply_nothing : HealthyRingsApplyNothing
 healthy_rings_apply_nothing s ids circuits f may k span some =
     let now : suc (k - 1) ≡ k = omega arith in
-    subst (λ j. is_applied (requests_of (run j (start s ids circuits f))) span ≡ false) now
+    subst (λ j. is_applied (requests_of (run j (new_world s ids circuits f))) span ≡ false) now
     (ap (λ rs. is_applied rs span) (none_asks s ids circuits f may (k - 1)) ∙ no_requests (length ids) span)

@@ -7,7 +7,7 @@ use Rattle.std.proofs.lemmas.List.Elements.{All-nil, All-cons}
 use Rattle.sdh_basics.proofs.CellsLaws.{length-cells, get_or-cells}
 use Rattle.sdh_ringmap.specs.declared.Side.{Side}
 use Rattle.sdh_ringmap.specs.declared.Side.TheVariants.{West, East}
-use Rattle.sdh_ringmap.specs.Places.{neighbour, opposite}
+use Rattle.sdh_ringmap.specs.Places.{neighbour, opposite, position_of}
 use Rattle.sdh_kbytes.specs.declared.Code.TheVariants.{Nr}
 use Rattle.sdh_kbytes.specs.declared.K.{K}
 use Rattle.sdh_kbytes.specs.declared.Path.TheVariants.{Short}
@@ -19,21 +19,19 @@ use Rattle.sdh_nodestate.specs.declared.NodeState.TheVariants as state
 use Rattle.sdh_nodestate.specs.Rules.{word_on, word, state_after, own_id, id_on}
 use Rattle.sdh_settling.specs.Signals.{no_needs}
 use Rattle.sdh_plant.specs.declared.plant.Condition.TheVariants.{Clear}
-use Rattle.sdh_plant.specs.Fibres.{Fibres, fibre_to}
+use Rattle.sdh_plant.specs.Fibres.{Fibres, fibre_to, is_cut, degraded_by}
 use Rattle.sdh_node.specs.declared.settings.Settings.{Settings}
 use Rattle.sdh_node.specs.Receiving.{hears}
 use Rattle.sdh_node.specs.Crossing.{is_failed}
-use Rattle.sdh_node.specs.Node.{Node, receiving_on, new_node, first_word}
-use Rattle.sdh_world.specs.Held.{position, new_nodes}
+use Rattle.sdh_node.specs.Node.{Node, receiving_on, new_node, first_word, word_of, needed}
+use Rattle.sdh_world.specs.Held.{new_nodes, nowhere, node_at}
 use Rattle.sdh_world.specs.Rounds.{World, node_after}
 use Rattle.sdh_world.specs.Runs.{run}
-use Rattle.sdh_world.specs.Changes.{Stretch}
+use Rattle.sdh_world.specs.Changes.{Stretch, new_world}
 use Rattle.sdh_world.specs.Laws.{IsChangeAt}
-use Rattle.sdh_world.specs.Sides.{is_cut, degraded_by, new_holding, holding_in, side_history}
-use Rattle.sdh_hearing.specs.Placed.{nowhere, node_at}
-use Rattle.sdh_hearing.specs.Paired.{word_of}
-use Rattle.sdh_hearing.specs.Signalling.{is_ms_ais, condition_to, word_to, is_lost, needed}
-use Rattle.sdh_hearing.specs.Laws.{IsWhole, MayStart, MayHappen, start}
+use Rattle.sdh_world.specs.Sides.{new_holding, holding_in, side_history, condition_to}
+use Rattle.sdh_hearing.specs.Signalling.{word_to, is_lost}
+use Rattle.sdh_hearing.specs.Laws.{IsWhole, MayStart, MayHappen}
 use Rattle.sdh_hearing.proofs.Changes.{new_worlds_are_whole, whole_run}
 use Rattle.sdh_hearing.proofs.OneNode.{scene_in, state_is, word_is}
 use Rattle.sdh_hearing.proofs.Nodes.{informed, nodes_after, is_at}
@@ -44,6 +42,7 @@ use Rattle.sdh_converging.proofs.Runs.{length_run, condition_run}
 use Rattle.sdh_converging.proofs.Idle.{IsQuiet, idle, asks_nothing}
 use Rattle.sdh_converging.proofs.Uneventful as side
 use Rattle.sdh_converging.proofs.Uneventful.{IsUneventful}
+use Rattle.sdh_kbytes.specs.KBytes.{is_ms_ais}
 
 all_clear : (m i : ℕ) → get_or (replicate m Clear) i Clear ≡ Clear
 all_clear m i = elim (cases_lt i m) [
@@ -75,7 +74,7 @@ failed_not defect.Sf e = absurd (e refl)
 
 module _ (s : Settings) (ids : List ℕ) (circuits : Provisioning) (f : Fibres) (may : MayStart s ids f) where
   abbrev pub begin : World
-  begin = start s ids circuits f
+  begin = new_world s ids circuits f
 
   pub begin_whole : IsWhole begin
   begin_whole = new_worlds_are_whole s ids circuits f may.ids_ok may.honest
@@ -84,9 +83,9 @@ module _ (s : Settings) (ids : List ℕ) (circuits : Provisioning) (f : Fibres) 
   unfolding new_nodes
   size = length-cells _ (length ids)
 
-  pub new_is : (p : ℕ) → p < length ids → node_at (run 0 begin).ring.nodes p ≡ new_node s ids circuits.circuits (position p)
+  pub new_is : (p : ℕ) → p < length ids → node_at (run 0 begin).ring.nodes p ≡ new_node s ids circuits.circuits (position_of p)
   unfolding new_nodes run
-  new_is p h = get_or-cells (λ p. new_node s ids circuits.circuits (position p)) (length ids) p nowhere h
+  new_is p h = get_or-cells (λ p. new_node s ids circuits.circuits (position_of p)) (length ids) p nowhere h
 
   pub clear_begin : (p : ℕ) (d : Side) → condition_to begin p d ≡ Clear
   clear_begin p d = all_clear (2 * length ids) (fibre_to (length ids) p d)
@@ -107,13 +106,13 @@ module _ (s : Settings) (ids : List ℕ) (circuits : Provisioning) (f : Fibres) 
   -- it is idle and says what a new node says
   pub record IsHealthy (p k : ℕ) : Type 0 where
     pub state_idle : (node_at (run k begin).ring.nodes p).state ≡ state.Idle tt
-    pub word_first : (d : Side) → word_of d (node_at (run k begin).ring.nodes p) ≡ first_word ids (position p) d
+    pub word_first : (d : Side) → word_of d (node_at (run k begin).ring.nodes p) ≡ first_word ids (position_of p) d
 
   healthy_new : (p : ℕ) → p < length ids → IsHealthy p 0
   unfolding new_node
   healthy_new p h = record { state_idle = ap (λ (n : Node). n.state) (new_is p h); word_first = λ d. ap (word_of d) (new_is p h) ∙ word_new d }
     where
-      word_new : (d : Side) → word_of d (new_node s ids circuits.circuits (position p)) ≡ first_word ids (position p) d
+      word_new : (d : Side) → word_of d (new_node s ids circuits.circuits (position_of p)) ≡ first_word ids (position_of p) d
       word_new West = refl
       word_new East = refl
 
@@ -158,7 +157,7 @@ module _ (s : Settings) (ids : List ℕ) (circuits : Provisioning) (f : Fibres) 
     beside : (d : Side) → neighbour count p d < count
     beside d = let q = neighbour_inside begin begin_whole p d in omega (arith, size)
 
-    word_comes : (d : Side) → word_to u p d ≡ first_word ids (position (neighbour count p d)) (opposite d)
+    word_comes : (d : Side) → word_to u p d ≡ first_word ids (position_of (neighbour count p d)) (opposite d)
     word_comes d =
         ap (λ i. word_of (opposite d) (node_at u.ring.nodes (neighbour (length i) p d))) (left_run k begin).ids
         ∙ (before (neighbour count p d) (beside d)).word_first (opposite d)
@@ -192,7 +191,7 @@ module _ (s : Settings) (ids : List ℕ) (circuits : Provisioning) (f : Fibres) 
           | inl some ↦ subst IsQuiet (sym (b.hears some (not_lost d) ∙ ap (λ w. Some w) (word_comes d))) (refl, refl)
         ]
 
-    pub heard_next : (d : Side) → 1 ≤ k → hears (receiving_on d new).brought ≡ Some (first_word ids (position (neighbour count p d)) (opposite d))
+    pub heard_next : (d : Side) → 1 ≤ k → hears (receiving_on d new).brought ≡ Some (first_word ids (position_of (neighbour count p d)) (opposite d))
     unfolding run
     heard_next d some =
         let b = brings u uwhole p d there in
@@ -209,7 +208,7 @@ module _ (s : Settings) (ids : List ℕ) (circuits : Provisioning) (f : Fibres) 
         subst (λ (n : Node). n.state ≡ state_after (scene_in n)) (sym new_next) (state_is u.ring.moment (informed u p))
         ∙ idle (scene_in new) needs_scene quiet_scene
 
-    word_next : (d : Side) → word_of d new ≡ first_word ids (position p) d
+    word_next : (d : Side) → word_of d new ≡ first_word ids (position_of p) d
     word_next d =
         let is = is_at (run (suc k) begin) (whole_run begin (suc k) begin_whole).placed p (omega (arith, size, length_run begin (suc k))) in
         let ids_are : new.ids ≡ ids = is.ids_are ∙ (left_run (suc k) begin).ids in
@@ -227,5 +226,5 @@ module _ (s : Settings) (ids : List ℕ) (circuits : Provisioning) (f : Fibres) 
   healthy zero p h = healthy_new p h
   healthy (suc k) p h = healthy_next k (λ q. healthy k q) p h
 
-  pub heard_first : (k p : ℕ) (d : Side) → p < count → 1 ≤ k → hears (receiving_on d (node_at (run (suc k) begin).ring.nodes p)).brought ≡ Some (first_word ids (position (neighbour count p d)) (opposite d))
+  pub heard_first : (k p : ℕ) (d : Side) → p < count → 1 ≤ k → hears (receiving_on d (node_at (run (suc k) begin).ring.nodes p)).brought ≡ Some (first_word ids (position_of (neighbour count p d)) (opposite d))
   heard_first k p d h some = heard_next k (λ q. healthy k q) p h d some

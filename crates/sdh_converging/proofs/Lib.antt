@@ -11,3 +11,5 @@ mod Uneventful
 pub mod HealthySignals
 pub mod HealthyPointers
 pub mod HealthyRounds
+pub mod HealthyPorts
+pub mod Rings

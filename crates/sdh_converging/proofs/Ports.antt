@@ -18,15 +18,15 @@ use Rattle.sdh_pointer.specs.Laws.{IsSound}
 use Rattle.sdh_routes.specs.Walks.{IsOver}
 use Rattle.sdh_node.specs.Passing.{Input, no_input}
 use Rattle.sdh_node.specs.Tributaries.{Tributary, port_of, sent_in, input_by, added_by, ends_at, ends_from, new_tributary, tributaries_at}
-use Rattle.sdh_world.specs.Held.{position}
 use Rattle.sdh_world.specs.Fixed.{FixedPort, fixed_port}
 use Rattle.sdh_world.specs.Rounds.{World}
-use Rattle.sdh_hearing.specs.Placed.{node_at}
 use Rattle.sdh_hearing.specs.Laws.{IsWhole}
 use Rattle.sdh_hearing.proofs.Nodes.{count}
 use Rattle.sdh_carrying.specs.Windows.{Layout, layout_of, size_of, value_at}
 use Rattle.sdh_carrying.proofs.Connections.{node_of}
 use Rattle.sdh_carrying.proofs.Ports.{names, fixed_found, found_has}
+use Rattle.sdh_ringmap.specs.Places.{position_of}
+use Rattle.sdh_world.specs.Held.{node_at}
 
 -- ---- what a source sends: AIS (None), or a value for ever
 
@@ -89,14 +89,14 @@ offset_small id ts all = subst (λ o. IsSmall (option_map (λ (f : FixedPort). f
 -- what is sent there, by the circuits of the ring
 abbrev pub source_at : List Provisioned → ℕ → Origin → Option ℕ
 source_at cs q Ais = None
-source_at cs q (Add id) = offset_at id (map fixed_port (tributaries_at (position q) cs))
+source_at cs q (Add id) = offset_at id (map fixed_port (tributaries_at (position_of q) cs))
 source_at cs q (Working d) = None
 source_at cs q (Protection d) = None
 
 pub source_small : (cs : List Provisioned) → All HasOffsets cs → (q : ℕ) (o : Origin) → IsSmall (source_at cs q o)
 unfolding tributaries_at
 source_small cs all q Ais = tt
-source_small cs all q (Add id) = offset_small id (tributaries_at (position q) cs) (ends_small (position q) 0 cs all)
+source_small cs all q (Add id) = offset_small id (tributaries_at (position_of q) cs) (ends_small (position_of q) 0 cs all)
 source_small cs all q (Working d) = tt
 source_small cs all q (Protection d) = tt
 

@@ -4,10 +4,10 @@ use Rattle.sdh_frame.specs.Sizes.{n_of}
 use Rattle.sdh_ringmap.specs.declared.Side.{Side}
 use Rattle.sdh_world.specs.Rounds.{World, round, arrivals_of}
 use Rattle.sdh_world.specs.Runs.{run}
-use Rattle.sdh_hearing.specs.Signalling.{condition_to}
 use Rattle.sdh_hearing.proofs.Follows.{condition_after}
 use Rattle.sdh_hearing.proofs.Nodes.{length-after}
 use Rattle.sdh_hearing.proofs.Staying.{left_run}
+use Rattle.sdh_world.specs.Sides.{condition_to}
 
 pub length_run : (w : World) (k : ℕ) → length (run k w).ring.nodes ≡ length w.ring.nodes
 unfolding run

@@ -14,9 +14,6 @@ use Rattle.sdh_pointer.proofs.Lasting.{inputs_last, repeated_words_rest}
 use Rattle.sdh_node.specs.Node.{receiving_on, sending_on}
 use Rattle.sdh_world.specs.Rounds.{World}
 use Rattle.sdh_world.specs.Runs.{run}
-use Rattle.sdh_world.specs.Sides.{is_cut}
-use Rattle.sdh_hearing.specs.Placed.{node_at}
-use Rattle.sdh_hearing.specs.Signalling.{condition_to}
 use Rattle.sdh_hearing.specs.Laws.{IsWhole}
 use Rattle.sdh_hearing.proofs.Changes.{whole_run}
 use Rattle.sdh_hearing.proofs.Nodes.{count}
@@ -26,6 +23,9 @@ use Rattle.sdh_carrying.proofs.Spans.{generator_step, TakesWord, interpreter_ste
 use Rattle.sdh_converging.specs.Steady.{went, came, IsConstant}
 use Rattle.sdh_converging.specs.Laws.{ASpanIsSteady}
 use Rattle.sdh_converging.proofs.Runs.{length_run, rate_run, condition_run}
+use Rattle.sdh_plant.specs.Fibres.{is_cut}
+use Rattle.sdh_world.specs.Held.{node_at}
+use Rattle.sdh_world.specs.Sides.{condition_to}
 
 -- of AU-4 number i + 1: the state of its generator and what its interpreter keeps after k rounds, and the word that is sent in round k
 abbrev pub sending_in : World → ℕ → Side → ℕ → ℕ → Option ℕ

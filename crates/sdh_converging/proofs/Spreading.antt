@@ -23,7 +23,6 @@ use Rattle.sdh_node.specs.Passing.{Input}
 use Rattle.sdh_node.specs.Node.{receiving_on, sending_on}
 use Rattle.sdh_world.specs.Rounds.{World}
 use Rattle.sdh_world.specs.Runs.{run}
-use Rattle.sdh_hearing.specs.Placed.{node_at}
 use Rattle.sdh_hearing.specs.Laws.{IsWhole}
 use Rattle.sdh_hearing.proofs.Changes.{whole_run}
 use Rattle.sdh_hearing.proofs.Nodes.{count}
@@ -35,6 +34,7 @@ use Rattle.sdh_converging.specs.Laws.{PointersRest}
 use Rattle.sdh_converging.proofs.Runs.{length_run, rate_run}
 use Rattle.sdh_converging.proofs.Spans.{a_span_is_steady, sending_rests, reading_rests}
 use Rattle.sdh_converging.proofs.Ports.{does_by, value_by, sound_by, source_at, source_small, SourcesSend, sources_send}
+use Rattle.sdh_world.specs.Held.{node_at}
 
 -- ---- constants
 

@@ -9,8 +9,8 @@ use Rattle.sdh_node.specs.declared.settings.Settings.{Settings}
 use Rattle.sdh_world.specs.Rounds.{World}
 use Rattle.sdh_world.specs.Runs.{course}
 use Rattle.sdh_world.specs.Quiet.{IsCalm, EndsWindow, NeverSettles, settles_in, Unsettles}
-use Rattle.sdh_world.specs.Changes.{Stretch, after_stretches}
-use Rattle.sdh_hearing.specs.Laws.{IsWhole, MayStart, MayHappen, start}
+use Rattle.sdh_world.specs.Changes.{Stretch, after_stretches, new_world}
+use Rattle.sdh_hearing.specs.Laws.{IsWhole, MayStart, MayHappen}
 use Rattle.sdh_carrying.specs.Windows.{layout_of, HasCircuits}
 use Rattle.sdh_converging.specs.Steady.{went, came, IsConstant, IsAtRest, HasStillPointers}
 
@@ -62,5 +62,5 @@ StepsAnswer = (w left : World) (limit : ℕ) → HasCircuits (layout_of w) → A
 
 -- after any stretches of changes and rounds, from a new ring over new honest fibres on
 abbrev pub StretchesConverge : Type 0
-StretchesConverge = (s : Settings) (ids : List ℕ) (circuits : Provisioning) (f : Fibres) (ss : List Stretch) → MayStart s ids f → MayHappen s.rate ss → HasCircuits (layout_of (start s ids circuits f))
-    → Converges (after_stretches ss (start s ids circuits f))
+StretchesConverge = (s : Settings) (ids : List ℕ) (circuits : Provisioning) (f : Fibres) (ss : List Stretch) → MayStart s ids f → MayHappen s.rate ss → HasCircuits (layout_of (new_world s ids circuits f))
+    → Converges (after_stretches ss (new_world s ids circuits f))

@@ -9,9 +9,9 @@ use Rattle.sdh_node.specs.Crossing.{received}
 use Rattle.sdh_node.specs.Node.{receiving_on, sending_on}
 use Rattle.sdh_world.specs.Rounds.{World}
 use Rattle.sdh_world.specs.Runs.{run}
-use Rattle.sdh_hearing.specs.Placed.{node_at}
 use Rattle.sdh_hearing.specs.Signalling.{crossing_at}
 use Rattle.sdh_carrying.specs.Windows.{value_at, sent_at, AreSettled}
+use Rattle.sdh_world.specs.Held.{node_at}
 
 -- Round k of a run is the round that begins after k rounds.
 

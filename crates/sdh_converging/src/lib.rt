@@ -4,7 +4,8 @@
 #![tactic(auto)]
 
 ghost use Rattle.sdh_converging.specs.Laws.{ASpanIsSteady, PointersRest, CalmEndsWindows, RoundsGetCalm, RingsConverge, StepsAnswer, StretchesConverge};
-ghost use Rattle.sdh_converging.specs.Healthy.{HealthyRoundsAreCalm, HealthyStepsSettle, HealthyRingsApplyNothing};
+ghost use Rattle.sdh_converging.specs.Healthy.{HealthyRoundsAreCalm, HealthyStepsSettle, HealthyRingsApplyNothing, HealthyStepsDeliver};
+ghost use Rattle.sdh_converging.specs.Rings.{ARingOccurs};
 
 /// Over a span what is steady stays so, nine rounds later.
 pub fn a_span_is_steady()
@@ -63,3 +64,17 @@ pub fn healthy_steps_settle()
 pub fn healthy_rings_apply_nothing()
     ensures { HealthyRingsApplyNothing }
 {}
+
+/// After each of them each port has delivered what it is owed where nothing is applied.
+pub fn healthy_steps_deliver()
+    ensures { HealthyStepsDeliver }
+{
+    sdh_settling::still_rings_are_settled();
+}
+
+/// A ring of three nodes, with cut and degraded fibres, for which the laws hold.
+pub fn a_ring_occurs()
+    ensures { ARingOccurs }
+{
+    sdh_settling::rings_settle();
+}
