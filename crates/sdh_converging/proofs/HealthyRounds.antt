@@ -27,6 +27,27 @@ use Rattle.sdh_world.specs.Held.{node_at}
 
 -- ---- windows of a course that is calm
 
+-- a ring of n in which b rounds have run before a step: round k of the step is the first that can end a window, where its number is a
+-- multiple of 128 and it is one of the first 133
+module _ (v : World) (n b k : ℕ) (two : 2 ≤ n) (sizes : (j : ℕ) → length (run j v).ring.ids ≡ n) (numbers : (j : ℕ) → (run j v).ring.rounds ≡ b + j) (place : (b + k - 1) % 128 ≡ 0) (few : k < 134) where
+  none_before : (j : ℕ) → j < k → EndsWindow (course v) j → ⊥
+  none_before j h window =
+      let i = sizes j in
+      let r = numbers j in
+      let long : 3 * length (run j v).ring.ids ≤ j = window.long in
+      let there : ((run j v).ring.rounds - 1) % 128 ≡ 0 = window.place in
+      let e : (run j v).ring.rounds - 1 ≡ b + j - 1 = omega arith in
+      let p : (b + j - 1) % 128 ≡ 0 = omega arith in
+      omega arith
+
+  -- and does where the rounds before it were calm
+  settles_there : ((j : ℕ) → k < j + 3 * n → j ≤ k → IsCalm (course v) j) → 3 * n ≤ k → (limit : ℕ) → k ≤ limit → SettlesAt (course v) limit k
+  settles_there calm long limit within =
+      let i = sizes k in
+      let r = numbers k in
+      let e : (run k v).ring.rounds - 1 ≡ b + k - 1 = omega arith in
+      record { within = within; window = record { long = omega arith; calm = λ j early late. calm j (omega arith) late; place = omega arith }; first = none_before }
+
 -- the rounds of later steps
 run_steps : (later : ℕ) (v : World) → after_stretches (replicate later (record { changes = []; rounds = 128 })) v ≡ run (128 * later) v
 unfolding run
@@ -75,25 +96,13 @@ module _ (s : Settings) (ids : List ℕ) (circuits : Provisioning) (f : Fibres) 
 
     -- ---- settle steps
 
-    first_window : EndsWindow (course w) 129
-    first_window =
-        let few = may.ids_ok.few in
-        let i = ids_run 129 in
-        let r = rounds_run 129 in
-        record { long = omega arith; calm = λ j early late. calm_from j (omega arith); place = omega arith }
-
-    none_before : (j : ℕ) → j < 129 → EndsWindow (course w) j → ⊥
-    none_before j h window =
-        let two = may.ids_ok.enough in
-        let i = ids_run j in
-        let r = rounds_run j in
-        let long : 3 * length (run j w).ring.ids ≤ j = window.long in
-        let place : ((run j w).ring.rounds - 1) % 128 ≡ 0 = window.place in
-        let e : (run j w).ring.rounds - 1 ≡ j - 1 = omega arith in
-        omega arith
+    not_earlier : (j : ℕ) → j < 129 → EndsWindow (course w) j → ⊥
+    not_earlier = none_before w n 0 129 may.ids_ok.enough ids_run (λ j. rounds_run j ∙ (let e : j ≡ 0 + j = omega arith in e)) refl (omega arith)
 
     first_step : (limit : ℕ) → 129 ≤ limit → SettlesAt (course w) limit 129
-    first_step limit h = record { within = h; window = first_window; first = none_before }
+    first_step =
+        let few = may.ids_ok.few in
+        settles_there w n 0 129 may.ids_ok.enough ids_run (λ j. rounds_run j ∙ (let e : j ≡ 0 + j = omega arith in e)) refl (omega arith) (λ j early late. calm_from j (omega arith)) (omega arith)
 
     module _ (steps : ℕ) (some : 1 ≤ steps) where
       abbrev base : ℕ
@@ -102,36 +111,15 @@ module _ (s : Settings) (ids : List ℕ) (circuits : Provisioning) (f : Fibres) 
       abbrev v : World
       v = run base w
 
-      ids_v : (j : ℕ) → length (run j v).ring.ids ≡ n
-      ids_v j = ap length (left_run j v).ids ∙ ids_run base
-
-      rounds_v : (j : ℕ) → (run j v).ring.rounds ≡ base + j
-      rounds_v j = let r = (left_run j v).rounds in let q = rounds_run base in omega arith
-
       calm_v : (j : ℕ) → IsCalm (course v) j
       calm_v j =
           let few = may.ids_ok.few in
           subst (λ u. is_calm u.ring.nodes ≡ true) (sym (run_more w base j)) (calm_from (j + base) (omega arith))
 
-      window_v : EndsWindow (course v) 128
-      window_v =
-          let few = may.ids_ok.few in
-          let r = rounds_v 128 in
-          let i = ids_v 128 in
-          record { long = omega arith; calm = λ j early late. calm_v j; place = let e : (run 128 v).ring.rounds - 1 ≡ 128 * steps + 128 = omega arith in omega arith }
-
-      none_v : (j : ℕ) → j < 128 → EndsWindow (course v) j → ⊥
-      none_v j h window =
-          let two = may.ids_ok.enough in
-          let i = ids_v j in
-          let r = rounds_v j in
-          let long : 3 * length (run j v).ring.ids ≤ j = window.long in
-          let place : ((run j v).ring.rounds - 1) % 128 ≡ 0 = window.place in
-          let e : (run j v).ring.rounds - 1 ≡ 128 * steps + j = omega arith in
-          omega arith
-
       later_step : (limit : ℕ) → 128 ≤ limit → SettlesAt (course v) limit 128
-      later_step limit h = record { within = h; window = window_v; first = none_v }
+      later_step =
+          let few = may.ids_ok.few in
+          settles_there v n base 128 may.ids_ok.enough (λ j. ap length (left_run j v).ids ∙ ids_run base) (λ j. (let r = (left_run j v).rounds in let q = rounds_run base in omega arith)) (omega arith) (omega arith) (λ j early late. calm_v j) (omega arith)
 
   pub left_steps : (steps : ℕ) → 1 ≤ steps → after_stretches (healthy_steps steps) w ≡ run (128 * steps + 1) w
   left_steps zero h = absurd (omega arith)
@@ -144,7 +132,7 @@ pub healthy_steps_settle : HealthyStepsSettle
 healthy_steps_settle s ids circuits f may form =
     let w = new_world s ids circuits f in
     record {
-      short = λ limit h. never_only w limit (λ j low e. none_before s ids circuits f may form j (omega arith) e);
+      short = λ limit h. never_only w limit (λ j low e. not_earlier s ids circuits f may form j (omega arith) e);
       first = λ limit h. settles_only w limit 129 (first_step s ids circuits f may form limit h);
       later = λ limit steps h some. (let left = left_steps s ids circuits f may steps some in
           ap (λ v. settles_in v limit) left ∙ settles_only (run (128 * steps + 1) w) limit 128 (later_step s ids circuits f may form steps some limit h));
