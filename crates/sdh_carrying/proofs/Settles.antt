@@ -33,7 +33,7 @@ use Rattle.sdh_world.specs.Held.{nowhere}
 
 -- ---- one position
 
-each_settled : (v : World) (n : ℕ) (rs : List ℕ) → length v.ring.nodes ≡ n → length rs ≡ n → (signals_of v).states ≡ settled_states rs → AreSettled n rs v
+pub each_settled : (v : World) (n : ℕ) (rs : List ℕ) → length v.ring.nodes ≡ n → length rs ≡ n → (signals_of v).states ≡ settled_states rs → AreSettled n rs v
 unfolding signals_of
 each_settled v n rs size spans same p lt =
     sym (get_or-map (λ n. n.state) v.ring.nodes p nowhere nowhere.state (omega arith))
@@ -108,7 +108,7 @@ layout_all : (cs : List Change) (w : World) → layout_of (all_changed cs w) ≡
 layout_all [] w = refl
 layout_all (c ∷ cs) w = layout_all cs (changed c w) ∙ layout_changed c w
 
-layout_stretches : (ss : List Stretch) (w : World) → layout_of (after_stretches ss w) ≡ layout_of w
+pub layout_stretches : (ss : List Stretch) (w : World) → layout_of (after_stretches ss w) ≡ layout_of w
 layout_stretches [] w = refl
 layout_stretches (s ∷ ss) w = layout_stretches ss (after_stretch s w) ∙ layout_run (all_changed s.changes w) s.rounds ∙ layout_all s.changes w
 

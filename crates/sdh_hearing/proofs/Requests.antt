@@ -26,7 +26,7 @@ use Rattle.sdh_hearing.proofs.Stretches.{requests_are}
 use Rattle.sdh_world.specs.Held.{node_at}
 
 -- requests of spans by those of sides
-requests_by : (v : World) (n : ℕ) → length v.ring.nodes ≡ n → (g : ℕ → Side → Code) → ((p : ℕ) (d : Side) → p < n → (receiving_on d (node_at v.ring.nodes p)).request ≡ g p d) → requests_in (needs_in v) ≡ span_requests n g
+pub requests_by : (v : World) (n : ℕ) → length v.ring.nodes ≡ n → (g : ℕ → Side → Code) → ((p : ℕ) (d : Side) → p < n → (receiving_on d (node_at v.ring.nodes p)).request ≡ g p d) → requests_in (needs_in v) ≡ span_requests n g
 unfolding needs_in
 requests_by v n size g each =
     ap (λ m. span_requests m (λ p d. request_on (get_or (map needed v.ring.nodes) p no_needs) d)) (length-map v.ring.nodes needed ∙ size)
@@ -44,7 +44,7 @@ earlier_of P [] s all i d lt = absurd (omega arith)
 earlier_of P (r ∷ ss) s all zero d lt = all 0 d (omega arith)
 earlier_of P (r ∷ ss) s all (suc i) d lt = earlier_of P ss s (λ j e low. all (suc j) e (omega arith)) i d (omega arith)
 
-whole_stretches : (ss : List Stretch) (w : World) → MayHappen w.ring.settings.rate ss → IsWhole w → IsWhole (after_stretches ss w)
+pub whole_stretches : (ss : List Stretch) (w : World) → MayHappen w.ring.settings.rate ss → IsWhole w → IsWhole (after_stretches ss w)
 whole_stretches [] w may whole = whole
 whole_stretches (s ∷ ss) w may whole =
     whole_stretches ss (after_stretch s w) (subst (λ (y : Settings). MayHappen y.rate ss) (sym (left_stretch s w).settings) (λ i d lt. may (suc i) d (omega arith)))

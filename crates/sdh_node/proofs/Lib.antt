@@ -6,3 +6,4 @@ pub mod Frames
 pub mod Rounds
 pub mod Turning
 pub mod Steps
+pub mod Itself

@@ -16,6 +16,7 @@ ghost use Rattle.sdh_world.specs.Laws.{EndsAtAMultiple};
 ghost use Rattle.sdh_hearing.specs.Laws.{IsWhole, GoesAsSignals};
 ghost use Rattle.sdh_carrying.specs.Windows.{layout_in, HasCircuits};
 ghost use Rattle.sdh_carrying.specs.Laws.{Restores};
+ghost use Rattle.sdh_converging.specs.Laws.{enough_for};
 ghost use Rattle.sdh_ring.specs.Outcome.{Outcome};
 ghost use Rattle.sdh_circuits.specs.Provisioned.{end_of};
 use crate::faults::{PlantFault, SettleError};
@@ -269,6 +270,9 @@ impl Ring {
         // Where what comes is what was sent, each node is in its settled state then, and each port has delivered what it is owed.
         ensures restored { OnOk result (Restores (world self.old (P.fibres plant.old)) (world self.new (P.fibres plant.new))) }
 
+        // And with so large a limit a window does end, whatever happened before, where no fault breaks the step off.
+        ensures answers { IsWhole (world self.old (P.fibres plant.old)) → enough_for (length self.old.ids) ≤ limit → result ≢ Err SettleError.Unsettled }
+
         // A fault breaks the ring.
         ensures broken { result ≡ Err SettleError.PlantFault → self.new.broken ≡ true }
         ensures later { P.faults plant.old ≤ P.faults plant.new }
@@ -278,6 +282,7 @@ impl Ring {
         sdh_world::settled_numbers();
         sdh_hearing::steps_stay_whole();
         sdh_carrying::settled_rings_are_restored();
+        sdh_converging::steps_answer();
         let mut calm = 0u32;
         'rounds: for _turn in 0..limit {
             self.round(plant)?;

@@ -50,3 +50,6 @@ returns-clause-outcome g c = search (rules, unsettles)
 
 pub returns-clause-whole : goal.returns-clause-whole
 returns-clause-whole g c = λ _ whole. c.steps_stay_whole.ensures.unsettled _ _ c.args.limit whole (returns-clause-outcome g c)
+
+pub returns-clause-answers : goal.returns-clause-answers
+returns-clause-answers g c = λ whole large _. c.steps_answer.ensures _ _ c.args.limit c.has_circuits.ensures whole large (returns-clause-outcome g c)
