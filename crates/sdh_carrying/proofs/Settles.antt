@@ -16,11 +16,10 @@ use Rattle.sdh_settling.specs.Laws.{StillRingsAreSettled}
 use Rattle.sdh_world.specs.Rounds.{World, round}
 use Rattle.sdh_world.specs.Runs.{run, course}
 use Rattle.sdh_world.specs.Quiet.{IsCalm, EndsWindow}
-use Rattle.sdh_world.specs.Changes.{Change, Fibre, Order, Now, changed, all_changed, Stretch, after_stretch, after_stretches}
+use Rattle.sdh_world.specs.Changes.{Change, Fibre, Order, Now, changed, all_changed, Stretch, after_stretch, after_stretches, new_world}
 use Rattle.sdh_world.proofs.Runs.{known_settles}
-use Rattle.sdh_hearing.specs.Placed.{nowhere}
 use Rattle.sdh_hearing.specs.Signalling.{signals_of}
-use Rattle.sdh_hearing.specs.Laws.{IsWhole, start, asked_in}
+use Rattle.sdh_hearing.specs.Laws.{IsWhole, asked_in}
 use Rattle.sdh_hearing.proofs.Nodes.{count}
 use Rattle.sdh_hearing.proofs.Changes.{whole_run}
 use Rattle.sdh_hearing.proofs.Requests.{whole_last, requests_last, after_last}
@@ -30,6 +29,7 @@ use Rattle.sdh_carrying.specs.Laws.{IsRestored, SettledRingsAreRestored, Settled
 use Rattle.sdh_carrying.proofs.Applied.{failures_applied, length-requests_of}
 use Rattle.sdh_carrying.proofs.Owed.{quiet_delivers}
 use Rattle.sdh_carrying.proofs.Ways.{layout_run}
+use Rattle.sdh_world.specs.Held.{nowhere}
 
 -- ---- one position
 
@@ -114,7 +114,7 @@ layout_stretches (s ∷ ss) w = layout_stretches ss (after_stretch s w) ∙ layo
 
 pub stretches_restore : StillRingsAreSettled → SettledRingsRestore
 stretches_restore law s ids circuits f earlier last t may happen form ends many =
-    let w = start s ids circuits f in
+    let w = new_world s ids circuits f in
     let v = all_changed last.changes (after_stretches earlier w) in
     let u = run last.rounds v in
     let same : layout_of v ≡ layout_of w = layout_all last.changes (after_stretches earlier w) ∙ layout_stretches earlier w in

@@ -14,11 +14,10 @@ use Rattle.sdh_node.specs.Passing.{Input}
 use Rattle.sdh_node.specs.Tributaries.{added_by}
 use Rattle.sdh_node.specs.Crossing.{is_failed, input_of, input_at}
 use Rattle.sdh_node.specs.Node.{receiving_on}
-use Rattle.sdh_world.specs.Held.{HeldRing}
+use Rattle.sdh_world.specs.Held.{HeldRing, node_at}
 use Rattle.sdh_world.specs.Rounds.{World}
 use Rattle.sdh_world.specs.Runs.{run, course}
 use Rattle.sdh_world.specs.Quiet.{IsCalm}
-use Rattle.sdh_hearing.specs.Placed.{node_at}
 use Rattle.sdh_hearing.specs.Signalling.{crossing_at, needs_in}
 
 -- what no round changes: the settings, the identifiers by position, and the circuits

@@ -34,3 +34,8 @@ customer_at c B = c.b
 abbrev pub AreApart : ℕ → List Provisioned → Type 0
 AreApart n circuits = (i j span : ℕ) (c d : Provisioned) → slice_get circuits i ≡ Some c → slice_get circuits j ≡ Some d →
     holds_span n (arc_of n c) span ≡ true → holds_span n (arc_of n d) span ≡ true → c.slot ≡ d.slot → i ≡ j
+
+-- the position of a circuit's port: A where its arc starts, B where it ends
+abbrev pub end_of : Provisioned → End → Pos
+end_of c A = c.from
+end_of c B = c.to

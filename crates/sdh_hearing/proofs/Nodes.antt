@@ -13,13 +13,14 @@ use Rattle.sdh_node.specs.Receiving.{Receiving}
 use Rattle.sdh_node.specs.Tributaries.{Tributary, fed, all_fed}
 use Rattle.sdh_node.specs.Crossing.{Cross, delivered_to, all_delivered}
 use Rattle.sdh_node.specs.Node.{Node, new_node, receiving_on, sending_on, crossing, ports_after, after_crossing, with_calm, node_round}
-use Rattle.sdh_world.specs.Held.{position}
+use Rattle.sdh_world.specs.Held.{nowhere, node_at, AtEach}
 use Rattle.sdh_world.specs.Fixed.{Fixed, fixed}
 use Rattle.sdh_world.specs.Rounds.{World, arrival_at, arrivals_from, arrivals_of, receivers_in, all_with_arrivals, with_arrivals, node_after, nodes_with, round_with, round}
 use Rattle.sdh_world.proofs.Keeping.{all_heard, all_next, length-fixed, node_is}
 use Rattle.sdh_world.proofs.Runs.{length-heard, count_round}
-use Rattle.sdh_hearing.specs.Placed.{nowhere, node_at, AtEach, IsReceiver, IsSender, HasSides, HaveGiven, IsBetween, IsPlaced}
+use Rattle.sdh_hearing.specs.Placed.{IsReceiver, IsSender, HasSides, HaveGiven, IsBetween, IsPlaced}
 use Rattle.sdh_hearing.proofs.OneNode.{receiving_after, rounds_after, receiver_after, sender_after, side_took}
+use Rattle.sdh_ringmap.specs.Places.{position_of}
 
 -- ---- lists
 
@@ -177,7 +178,7 @@ pub record IsAt (s : Settings) (ids : List ℕ) (p : ℕ) (n : Node) : Type 0 wh
   pub ids_are : n.ids ≡ ids
   pub at : n.at.0 ≡ p
 
-by_fixed : (s : Settings) (ids : List ℕ) (cs : List Provisioned) (p : ℕ) (n : Node) → fixed n ≡ fixed (new_node s ids cs (position p)) → IsAt s ids p n
+by_fixed : (s : Settings) (ids : List ℕ) (cs : List Provisioned) (p : ℕ) (n : Node) → fixed n ≡ fixed (new_node s ids cs (position_of p)) → IsAt s ids p n
 unfolding fixed new_node
 by_fixed s ids cs p n same = record { settings = ap (λ (f : Fixed). f.settings) same; ids_are = ap (λ (f : Fixed). f.ids) same; at = ap (λ (f : Fixed). f.at.0) same }
 

@@ -31,14 +31,13 @@ use Rattle.std.proofs.lemmas.Option.{slice_get-get_or, slice_get-map}
 use Rattle.sdh_node.specs.Receiving.{hears}
 use Rattle.sdh_node.specs.Same.{Compared}
 use Rattle.sdh_node.specs.Crossing.{is_failed}
-use Rattle.sdh_node.specs.Node.{Node, receiving_on, compared}
+use Rattle.sdh_node.specs.Node.{Node, receiving_on, compared, sent_of, needed, heard_by, word_of}
 use Rattle.sdh_world.specs.Rounds.{World, round, round_with, node_after}
 use Rattle.sdh_world.specs.Runs.{run, course}
 use Rattle.sdh_world.specs.Quiet.{is_calm, IsCalm}
 use Rattle.sdh_world.proofs.Runs.{known_settles}
-use Rattle.sdh_hearing.specs.Placed.{nowhere, node_at, IsPlaced}
-use Rattle.sdh_hearing.specs.Paired.{word_of}
-use Rattle.sdh_hearing.specs.Signalling.{is_lost, sent_of, needed, heard_by, signals_of, needs_in}
+use Rattle.sdh_hearing.specs.Placed.{IsPlaced}
+use Rattle.sdh_hearing.specs.Signalling.{is_lost, signals_of, needs_in}
 use Rattle.sdh_hearing.specs.Laws.{IsWhole, RoundsAreSignalRounds, IsStill, CalmRoundsAreStill, WindowsAreSettled, IsSettled, StepsSettle}
 use Rattle.sdh_hearing.proofs.OneNode.{scene_in, state_is, word_is, may_need}
 use Rattle.sdh_hearing.proofs.Calm.{calm_leaves}
@@ -46,6 +45,7 @@ use Rattle.sdh_hearing.proofs.Staying.{left_run}
 use Rattle.sdh_hearing.proofs.Nodes.{at_any, informed, count, nodes_after, length-after, one_more, is_at}
 use Rattle.sdh_hearing.proofs.Rounds.{neighbour_inside, brings, took_is, whole_round}
 use Rattle.sdh_hearing.proofs.Changes.{whole_run}
+use Rattle.sdh_world.specs.Held.{nowhere, node_at}
 
 -- ---- lists
 

@@ -20,8 +20,11 @@ use Rattle.sdh_node.specs.declared.settings.Settings.{Settings}
 use Rattle.sdh_node.specs.Same.{ComparedIn, ComparedOut, Compared, same_compared}
 use Rattle.sdh_node.specs.Receiving.{Receiving, hears, after_intake, intake_of, new_intake, if_west, if_east}
 use Rattle.sdh_node.specs.Tributaries.{Tributary, HasPort, IsTributary, tributaries_at, added_by, all_fed}
-use Rattle.sdh_node.specs.Crossing.{Cross, scene_of, after_decision, all_delivered, input_at}
+use Rattle.sdh_node.specs.Crossing.{Cross, scene_of, after_decision, all_delivered, input_at, is_failed}
 use Rattle.sdh_node.specs.Sending.{Sending, with_word, frame_from, after_sending}
+use Rattle.sdh_nodestate.specs.declared.Needs.{Needs}
+use Rattle.sdh_nodestate.specs.declared.Heard.{Heard}
+use Rattle.sdh_nodestate.specs.declared.Sent.{Sent}
 
 pub record Node : Type 0 where
   pub settings : Settings
@@ -194,3 +197,18 @@ pub record IsNode (n : Node) : Type 0 where
   pub east_out_rate : n.east_out.section.rate ≡ n.settings.rate
   pub moments : n.east.local.moment ≡ n.west.local.moment
   pub ports : All (IsTributary (n_of n.settings.rate / 2) n.rounds) n.ports
+
+-- the last words of a node
+abbrev pub sent_of : Node → Sent
+sent_of n = record { west = n.west_out.word; east = n.east_out.word }
+
+-- what a node needed and heard in its last round
+abbrev pub needed : Node → Needs
+needed n = record { west = n.west.request; east = n.east.request; west_fails = is_failed n.west.local.defect; east_fails = is_failed n.east.local.defect }
+
+abbrev pub heard_by : Node → Heard
+heard_by n = record { west = hears n.west.brought; east = hears n.east.brought }
+
+-- the last word of a node on a side
+abbrev pub word_of : Side → Node → K
+word_of d n = (sending_on d n).word

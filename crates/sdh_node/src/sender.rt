@@ -89,6 +89,7 @@ impl Sender {
         ensures rate { self.new.section.rate ≡ self.old.section.rate }
         ensures out { out.new.rate ≡ out.old.rate }
     {
+        // Reading it gives the proof what is true of every frame.
         let _ = out.rate();
         let same = send_all(cross, ports, side, &mut self.generators, out);
         let (k1, k2) = encode(self.word);

@@ -145,6 +145,7 @@ pub fn has_port(ports: &[Tributary], id: PortId) -> bool
 {
     match place_of(ports, id) {
         Some(i) => {
+            // A use of the port, so that the proof may speak of it.
             let _port = &ports[i];
             true
         }

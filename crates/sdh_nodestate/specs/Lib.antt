@@ -3,3 +3,4 @@ pub mod Conditions
 pub mod Words
 pub mod FarEnds
 pub mod Views
+pub mod Urgency

@@ -108,6 +108,7 @@ impl Section {
     pub(crate) fn are_whole(&self)
         ensures { AreParities (n_of self.now.rate) self.now.last }
     {
+        // Reading it gives the proof what is true of every section.
         let _ = &self.known;
     }
 

@@ -7,7 +7,7 @@ use Rattle.std.proofs.lemmas.List.{get_or-set_same, get_or-set_other, length-set
 use Rattle.std.proofs.Math.Nat.{mod-lt}
 use Rattle.sdh_ringmap.specs.declared.Side.{Side}
 use Rattle.sdh_ringmap.specs.declared.Side.TheVariants.{West, East}
-use Rattle.sdh_ringmap.specs.Places.{opposite}
+use Rattle.sdh_ringmap.specs.Places.{opposite, position_of}
 use Rattle.sdh_request.specs.declared.Command.{Command}
 use Rattle.sdh_request.specs.declared.Command.TheVariants as command
 use Rattle.sdh_plant.specs.declared.plant.Condition.{Condition}
@@ -18,7 +18,7 @@ use Rattle.sdh_node.specs.Crossing.{after_decision}
 use Rattle.sdh_node.specs.Node.{Node, new_node, at_receiving, crossing, after_crossing, with_calm, node_round}
 use Rattle.sdh_circuits.specs.Provisioned.{Provisioned}
 use Rattle.sdh_node.specs.declared.settings.Settings.{Settings}
-use Rattle.sdh_world.specs.Held.{at_place, position, new_nodes}
+use Rattle.sdh_world.specs.Held.{at_place, new_nodes}
 use Rattle.sdh_world.specs.Laws.{NewHolds, HistoriesHold, CallsChange}
 use Rattle.sdh_world.proofs.Keeping.{new_at, length-new}
 use Rattle.sdh_world.specs.Rounds.{World, with_arrival, with_arrivals, all_with_arrivals, node_after, nodes_with, round_with, round, arrivals_of}
@@ -236,7 +236,7 @@ holding_is n p d (s ∷ ss) w t fits low = go (nat_lt t s.rounds) (holding_is n 
 
 -- ---- a new ring over new fibres
 
-new_command : (s : Settings) (ids : List ℕ) (cs : List Provisioned) (d : Side) (p : ℕ) → command_on d (new_node s ids cs (position p)) ≡ command.Clear
+new_command : (s : Settings) (ids : List ℕ) (cs : List Provisioned) (d : Side) (p : ℕ) → command_on d (new_node s ids cs (position_of p)) ≡ command.Clear
 unfolding new_node
 new_command s ids cs West p = refl
 new_command s ids cs East p = refl
@@ -248,7 +248,7 @@ get-map f (x ∷ xs) (suc i) d e h = get-map f xs i d e (omega arith)
 
 new_commands : (s : Settings) (ids : List ℕ) (cs : List Provisioned) (d : Side) (n p : ℕ) → p < n → get_or (map (command_on d) (new_nodes s ids cs n)) p command.Clear ≡ command.Clear
 new_commands s ids cs d n p low =
-    let one = new_node s ids cs (position p) in
+    let one = new_node s ids cs (position_of p) in
     get-map (command_on d) (new_nodes s ids cs n) p one command.Clear (let e = length-new s ids cs n in omega arith)
     ∙ ap (command_on d) (new_at s ids cs n p one low) ∙ new_command s ids cs d p
 

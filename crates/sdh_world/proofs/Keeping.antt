@@ -17,9 +17,10 @@ use Rattle.sdh_node.specs.Tributaries.{Tributary, same_end, is_port, port_of, Ha
 use Rattle.sdh_node.specs.Crossing.{Cross, after_decision, delivered_to, all_delivered}
 use Rattle.sdh_node.specs.Node.{Node, new_node, at_receiving, crossing, ports_after, after_crossing, with_calm, node_round}
 use Rattle.sdh_node.proofs.Rounds.{round_goes_on}
-use Rattle.sdh_world.specs.Held.{new_nodes, position, at_place}
+use Rattle.sdh_world.specs.Held.{new_nodes, at_place}
 use Rattle.sdh_world.specs.Rounds.{with_arrival, with_arrivals, all_with_arrivals, node_after}
 use Rattle.sdh_world.specs.Fixed.{FixedPort, fixed_port, Fixed, fixed, IsOn}
+use Rattle.sdh_ringmap.specs.Places.{position_of}
 
 -- ---- one node
 
@@ -115,7 +116,7 @@ pub new_none : (s : Settings) (ids : List ℕ) (cs : List Provisioned) → [] �
 unfolding new_nodes
 new_none s ids cs = sym (cells-zero _)
 
-pub new_more : (s : Settings) (ids : List ℕ) (cs : List Provisioned) (k : ℕ) → new_nodes s ids cs (k + 1) ≡ new_nodes s ids cs k ++ new_node s ids cs (position k) ∷ []
+pub new_more : (s : Settings) (ids : List ℕ) (cs : List Provisioned) (k : ℕ) → new_nodes s ids cs (k + 1) ≡ new_nodes s ids cs k ++ new_node s ids cs (position_of k) ∷ []
 unfolding new_nodes
 new_more s ids cs k = cells-more _ k
 
@@ -123,11 +124,11 @@ pub length-new : (s : Settings) (ids : List ℕ) (cs : List Provisioned) (k : �
 unfolding new_nodes
 length-new s ids cs k = length-cells _ k
 
-pub new_at : (s : Settings) (ids : List ℕ) (cs : List Provisioned) (n k : ℕ) (d : Node) → k < n → get_or (new_nodes s ids cs n) k d ≡ new_node s ids cs (position k)
+pub new_at : (s : Settings) (ids : List ℕ) (cs : List Provisioned) (n k : ℕ) (d : Node) → k < n → get_or (new_nodes s ids cs n) k d ≡ new_node s ids cs (position_of k)
 unfolding new_nodes
 new_at s ids cs n k d h = get_or-cells _ n k d h
 
-new_on : (s : Settings) (ids : List ℕ) (cs : List Provisioned) (p : ℕ) → IsOn 0 0 (new_node s ids cs (position p))
+new_on : (s : Settings) (ids : List ℕ) (cs : List Provisioned) (p : ℕ) → IsOn 0 0 (new_node s ids cs (position_of p))
 unfolding new_node
 new_on s ids cs p = record { rounds_are = refl; early = omega arith }
 
@@ -145,7 +146,7 @@ pub length-fixed : (s : Settings) (ids : List ℕ) (cs : List Provisioned) (n : 
 length-fixed s ids cs n ns same = sym (length-map ns fixed) ∙ ap length same ∙ length-map (new_nodes s ids cs n) fixed ∙ length-new s ids cs n
 
 -- is what the new node there is
-pub node_is : (s : Settings) (ids : List ℕ) (cs : List Provisioned) (n : ℕ) (ns : List Node) (p : ℕ) (d : Node) → map fixed ns ≡ map fixed (new_nodes s ids cs n) → p < n → fixed (get_or ns p d) ≡ fixed (new_node s ids cs (position p))
+pub node_is : (s : Settings) (ids : List ℕ) (cs : List Provisioned) (n : ℕ) (ns : List Node) (p : ℕ) (d : Node) → map fixed ns ≡ map fixed (new_nodes s ids cs n) → p < n → fixed (get_or ns p d) ≡ fixed (new_node s ids cs (position_of p))
 node_is s ids cs n ns p d same low =
     sym (get-map fixed ns p d) ∙ ap (λ fs. get_or fs p (fixed d)) same ∙ get-map fixed (new_nodes s ids cs n) p d ∙ ap fixed (new_at s ids cs n p d low)
 
@@ -153,12 +154,12 @@ pub settings_fixed : (m n : Node) → fixed m ≡ fixed n → m.settings ≡ n.s
 unfolding fixed
 settings_fixed m n same = ap (λ (f : Fixed). f.settings) same
 
-new_settings : (s : Settings) (ids : List ℕ) (cs : List Provisioned) (p : ℕ) → (new_node s ids cs (position p)).settings ≡ s
+new_settings : (s : Settings) (ids : List ℕ) (cs : List Provisioned) (p : ℕ) → (new_node s ids cs (position_of p)).settings ≡ s
 unfolding new_node
 new_settings s ids cs p = refl
 
 pub all_settings : (s : Settings) (ids : List ℕ) (cs : List Provisioned) (n : ℕ) (ns : List Node) → map fixed ns ≡ map fixed (new_nodes s ids cs n) → All (λ n. n.settings ≡ s) ns
-all_settings s ids cs n ns same = λ p d lt. settings_fixed (get_or ns p d) (new_node s ids cs (position p)) (node_is s ids cs n ns p d same (omega (arith, length-fixed s ids cs n ns same))) ∙ new_settings s ids cs p
+all_settings s ids cs n ns same = λ p d lt. settings_fixed (get_or ns p d) (new_node s ids cs (position_of p)) (node_is s ids cs n ns p d same (omega (arith, length-fixed s ids cs n ns same))) ∙ new_settings s ids cs p
 
 -- ---- its ports
 
@@ -187,6 +188,6 @@ pub has_fixed : (id : PortId) (m n : Node) → fixed m ≡ fixed n → HasPort n
 unfolding fixed port_of
 has_fixed id m n same h = has_named id m.ports (subst (λ (f : Fixed). IsSome (find (names id) f.ports)) (sym same) (named id n.ports h))
 
-pub new_has : (s : Settings) (ids : List ℕ) (cs : List Provisioned) (p : ℕ) (id : PortId) → HasPort (tributaries_at (position p) cs) id → HasPort (new_node s ids cs (position p)).ports id
+pub new_has : (s : Settings) (ids : List ℕ) (cs : List Provisioned) (p : ℕ) (id : PortId) → HasPort (tributaries_at (position_of p) cs) id → HasPort (new_node s ids cs (position_of p)).ports id
 unfolding new_node
 new_has s ids cs p id h = h

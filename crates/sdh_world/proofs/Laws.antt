@@ -86,7 +86,7 @@ settled_numbers w left limit some s =
     let place : (left.ring.rounds - 1) % 128 ≡ 0 = ap (λ (x : World). (x.ring.rounds - 1) % 128) at ∙ s.settles.window.place in
     let long = s.settles.window.long in
     let within = s.settles.within in
-    (omega arith, omega arith, place, omega arith)
+    record { ran = omega arith; most = omega arith; multiple = place; later = omega arith }
 
 pub broken_steps_send : BrokenStepsSend
 broken_steps_send w limit g b =
