@@ -98,17 +98,17 @@ steps_restore law w left limit form settles whole =
 
 -- ---- stretches
 
-layout_changed : (c : Change) (w : World) → layout_of (changed c w) ≡ layout_of w
+pub layout_changed : (c : Change) (w : World) → layout_of (changed c w) ≡ layout_of w
 unfolding changed
 layout_changed (Fibre p d condition) w = refl
 layout_changed (Order p d c) w = refl
 layout_changed (Now t) w = refl
 
-layout_all : (cs : List Change) (w : World) → layout_of (all_changed cs w) ≡ layout_of w
+pub layout_all : (cs : List Change) (w : World) → layout_of (all_changed cs w) ≡ layout_of w
 layout_all [] w = refl
 layout_all (c ∷ cs) w = layout_all cs (changed c w) ∙ layout_changed c w
 
-layout_stretches : (ss : List Stretch) (w : World) → layout_of (after_stretches ss w) ≡ layout_of w
+pub layout_stretches : (ss : List Stretch) (w : World) → layout_of (after_stretches ss w) ≡ layout_of w
 layout_stretches [] w = refl
 layout_stretches (s ∷ ss) w = layout_stretches ss (after_stretch s w) ∙ layout_run (all_changed s.changes w) s.rounds ∙ layout_all s.changes w
 
