@@ -98,13 +98,13 @@ steps_restore law w left limit form settles whole =
 
 -- ---- stretches
 
-layout_changed : (c : Change) (w : World) → layout_of (changed c w) ≡ layout_of w
+pub layout_changed : (c : Change) (w : World) → layout_of (changed c w) ≡ layout_of w
 unfolding changed
 layout_changed (Fibre p d condition) w = refl
 layout_changed (Order p d c) w = refl
 layout_changed (Now t) w = refl
 
-layout_all : (cs : List Change) (w : World) → layout_of (all_changed cs w) ≡ layout_of w
+pub layout_all : (cs : List Change) (w : World) → layout_of (all_changed cs w) ≡ layout_of w
 layout_all [] w = refl
 layout_all (c ∷ cs) w = layout_all cs (changed c w) ∙ layout_changed c w
 
