@@ -1,9 +1,12 @@
--- What the steps of every plan do, each where it stands.
-use Rattle.std.proofs.Common.{◌≡◌, ℕ, zero, suc, ◌+◌, ◌<◌, ◌≤◌, List, [], ◌∷◌, ◌++◌, length, take, get_or, cond, All, count_by, refl, arith}
+-- What is true of every plan, for those who run it: its circuits are of its ring, and each step can be done where it stands.
+use Rattle.std.proofs.Common.{◌≡◌, ℕ, zero, suc, ◌+◌, ◌<◌, ◌≤◌, List, [], ◌∷◌, ◌++◌, length, take, get_or, cond, All, count_by, refl, arith, ◌⊎◌, inl, inr, Some}
 use Rattle.sdh_frame.specs.declared.Rate.{Rate}
 use Rattle.sdh_plan.specs.declared.step.Step.{Step}
 use Rattle.sdh_plan.specs.declared.step.Step.TheVariants as step
-use Rattle.sdh_plan.specs.Steps.{Past, after, is_settle}
+use Rattle.sdh_plan.specs.Steps.{Past, after, is_settle, start}
+use Rattle.sdh_circuits.specs.Provisioned.{Provisioned}
+use Rattle.sdh_plan.specs.Circuits.{kept_ring}
+use Rattle.sdh_plan.specs.Planned.{Planned, IsPlanned, provisioning_of}
 use Rattle.sdh_plan.specs.Scripts.{IsStepIn, AreSteps, after_all, Fits}
 use Rattle.std.proofs.lemmas.List.Elements.{All-nil, All-cons}
 use Rattle.std.proofs.lemmas.List.Sums.{sum_by-cons}
@@ -59,3 +62,16 @@ settles_counted past (s ∷ later) =
     let first : count_by is_settle (s ∷ later) ≡ cond (is_settle s) 1 0 + count_by is_settle later = sum_by-cons (λ t. cond (is_settle t) 1 0) s later in
     let here : (after past s).settles ≡ past.settles + cond (is_settle s) 1 0 = one_step past s in
     omega (arith, more, here, first)
+
+-- at most 64 steps of a plan run rounds
+pub few_settles : (plan : Planned) → IsPlanned plan → count_by is_settle plan.steps ≤ 64
+few_settles plan fits =
+    omega (arith, settles_counted start plan.steps, settles_few plan.settings.rate (length plan.nodes) start plan.steps (omega arith) fits.steps_fit)
+
+-- a plan without circuits keeps no ring, and any other its own
+pub circuits_keep_the_ring : (plan : Planned) → (plan.circuits ≡ []) ⊎ ((provisioning_of plan).ring ≡ Some plan.nodes)
+circuits_keep_the_ring plan = kept plan.circuits
+  where
+    kept : (circuits : List Provisioned) → (circuits ≡ []) ⊎ (kept_ring plan.nodes circuits ≡ Some plan.nodes)
+    kept [] = inl refl
+    kept (c ∷ cs) = inr refl
