@@ -34,6 +34,21 @@ KEYS = "rate nodes threshold wait limit script circuit name from to slot text_a 
 NAMES = ["c1", "c2", "a-b_c", "x" * 16, "x" * 17, "C1", "", "c 1", "~", "\u00e9"]
 TEXTS = ["ALPHA", "BETA!", " ", "~", "", "x" * 64, "x" * 65, "\u00e9", "\\t", "\x7f"]
 
+BORDERS = {
+    "rate": (4, 5, 8, 16, 17),
+    "nodes": ("[1]", "[]", "[1, 1]", "[3, 16, 3]", "[0, -1]", "[1, 2, 3, 2, 1]", list(range(17)), list(range(16)), "[1, '2']"),
+    "threshold": (0, 1, 12, 13, 48, 49),
+    "wait": (-1, 0, 1000000, 1000001),
+    "limit": (0, 1, 65536, 65537),
+    "script": ("[]", '["settle", 1]', '["moment 9", "moment 8"]', '["moment 1000000000", "moment 1000000001", "settle"]', '"settle"', '["settle", ""]'),
+    "circuit": ("[]", "{}", "[1]", "3", "[[]]"),
+    "from": (0, 1, 2, 3, 16, -1),
+    "to": (0, 1, 2, 3, 16, -1),
+    "slot": (0, 1, 2, 3, 8, 9),
+    "offset_a": (-1, 0, 782, 783),
+    "offset_b": (-1, 0, 782, 783),
+}
+
 
 def plan(chance):
     """A plan, nearly always one that is accepted."""
@@ -102,7 +117,7 @@ def quoted(text):
 
 
 def changed(chance, data):
-    change = chance.choice((a_byte, a_byte, a_number, a_number, a_value, a_value, a_word, a_word, a_word, a_line, a_line, a_key, a_text, a_circuit))
+    change = chance.choice((a_border, a_border, a_step, a_byte, a_byte, a_number, a_number, a_value, a_value, a_word, a_word, a_word, a_line, a_line, a_key, a_text, a_circuit))
     return change(chance, data)
 
 
@@ -130,6 +145,25 @@ def a_number(chance, data):
 
 def a_value(chance, data):
     return put(chance, data, rb"(?<== )[^\n]*", VALUES)
+
+
+def a_border(chance, data):
+    """A value at the edge of its range, in place of one or besides."""
+    key = chance.choice(list(BORDERS))
+    line = f"{key} = {chance.choice(BORDERS[key])}".encode()
+    lines = [at for at in re.finditer(rb"(?m)^" + key.encode() + rb" = [^\n]*", data)]
+    if lines:
+        at = chance.choice(lines)
+        return data[: at.start()] + line + data[at.end() :]
+    circuits = [at.start() for at in re.finditer(rb"(?m)^slot", data)] if key.startswith("offset") else [0]
+    at = chance.choice(circuits) if circuits else 0
+    return data[:at] + line + b"\n" + data[at:]
+
+
+def a_step(chance, data):
+    """A step more, of the eight forms, which needn't be one of this ring."""
+    step = chance.choice(("cut 1 east", "mend 15 west", "degrade 2 east 12", "degrade 3 west 13", "degrade 1 west 49", "forced 0 up", "manual 2 west", "clear 7 east", "moment 0", "moment 6", "moment 1000000000", "settle", "settle now"))  # fmt: skip
+    return put(chance, data, rb"(?<=\[)(?=['\"])|(?<=, )(?=['\"])", [f'"{step}", '])
 
 
 def a_word(chance, data):

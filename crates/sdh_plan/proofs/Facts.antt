@@ -146,7 +146,7 @@ steps_within rate nodes past place (d ∷ ds) h e =
     let form : (first_fault (form_faults (n_of rate) nodes (words (text_of d))) ≡ None) × (first_fault (past_faults past s) ≡ None) =
     both_none (form_faults (n_of rate) nodes (words (text_of d))) (past_faults past s) parts.0 in
     let leads : (past.moment ≤ (after past s).moment) × ((after past s).settles ≤ 64) = past_within past s h form.1 in
-    (form_within rate nodes (words (text_of d)) form.0, leads.0, leads.1, steps_within rate nodes (after past s) (place + 1) ds leads.1 parts.1)
+    (record { in_ring = form_within rate nodes (words (text_of d)) form.0; forward = leads.0; few_settles = leads.1 }, steps_within rate nodes (after past s) (place + 1) ds leads.1 parts.1)
 
 -- checks in two parts that all pass
 answers_none : (checks more : List Check) → answer (checks ++ more) ≡ None → (answer checks ≡ None) × (answer more ≡ None)
