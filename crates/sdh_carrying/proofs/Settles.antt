@@ -137,7 +137,7 @@ no_circuits n slots = record {
   apart = λ i j s c d e f x y same. absurd (none_get i c e);
 }
 
-circuits_are : (p : Provisioning) (ids : List ℕ) → IsProvisioning p → KeepsRing p ids → AreCircuits (length ids) p.slots p.circuits
+pub circuits_are : (p : Provisioning) (ids : List ℕ) → IsProvisioning p → KeepsRing p ids → AreCircuits (length ids) p.slots p.circuits
 circuits_are p ids form (inl none) = subst (λ cs. AreCircuits (length ids) p.slots cs) (sym none) (no_circuits (length ids) p.slots)
 circuits_are p ids form (inr ring) = subst (λ n. AreCircuits n p.slots p.circuits) (ap (λ r. option_map_or length r 0) ring) form.circuits
 

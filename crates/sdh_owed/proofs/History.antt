@@ -70,13 +70,13 @@ fits rate n (step.Order p d c) h = All-cons (IsChangeAt rate) _ [] tt (All-nil (
 fits rate n (step.Moment m) h = All-cons (IsChangeAt rate) _ [] tt (All-nil (IsChangeAt rate))
 fits rate n step.Settle h = All-nil (IsChangeAt rate)
 
--- no report shows nothing wrong
-owed_none : (l : Layout) (earlier : List Stretch) (changes : List Change) (before : ℕ) (steps : List Step) → AreOwed l earlier changes before steps []
-owed_none l earlier changes before [] = refl
-owed_none l earlier changes before (step.Fibre e ∷ later) = owed_none l earlier (changes ++ changes_of (step.Fibre e)) before later
-owed_none l earlier changes before (step.Order p d c ∷ later) = owed_none l earlier (changes ++ changes_of (step.Order p d c)) before later
-owed_none l earlier changes before (step.Moment m ∷ later) = owed_none l earlier (changes ++ changes_of (step.Moment m)) before later
-owed_none l earlier changes before (step.Settle ∷ later) = tt
+-- no report shows nothing wrong, after a fault
+pub owed_none : (l : Layout) (earlier : List Stretch) (changes : List Change) (before : ℕ) (steps : List Step) (end : Status) → end ≡ status.PlantFault → AreOwed l earlier changes before steps [] end
+owed_none l earlier changes before [] end h = (refl, inr h)
+owed_none l earlier changes before (step.Fibre e ∷ later) end h = owed_none l earlier (changes ++ changes_of (step.Fibre e)) before later end h
+owed_none l earlier changes before (step.Order p d c ∷ later) end h = owed_none l earlier (changes ++ changes_of (step.Order p d c)) before later end h
+owed_none l earlier changes before (step.Moment m ∷ later) end h = owed_none l earlier (changes ++ changes_of (step.Moment m)) before later end h
+owed_none l earlier changes before (step.Settle ∷ later) end h = inr h
 
 number_is : (number : ℕ) (w : World) → (report_of number w.ring).number ≡ number
 unfolding report_of
@@ -140,22 +140,22 @@ module _ (law : SettledRingsRestore) (s : Settings) (ids : List ℕ) (circuits :
   }
 
   walk : (limit before : ℕ) (past : Past) (earlier : List Stretch) (changes : List Change) (steps : List Step) (w : World) (reports : List Report) (end : Status) (left : World)
-      → HasCircuits l → Stands earlier changes w → AreSteps s.rate (length ids) past steps → Runs limit before steps w reports end left → AreOwed l earlier changes before steps reports
-  walk limit before past earlier changes [] w reports end left form h each x = x.1.0
+      → HasCircuits l → Stands earlier changes w → AreSteps s.rate (length ids) past steps → Runs limit before steps w reports end left → AreOwed l earlier changes before steps reports end
+  walk limit before past earlier changes [] w reports end left form h each x = (x.1.0, inl x.1.1)
   walk limit before past earlier changes (step.Fibre e ∷ later) w reports end left form h each (inl x) =
       walk limit before _ earlier (changes ++ changes_of (step.Fibre e)) later _ reports end left form (changed_then earlier changes w (step.Fibre e) each.0 h) each.3 x
   walk limit before past earlier changes (step.Fibre e ∷ later) w reports end left form h each (inr x) =
-      subst (AreOwed l earlier changes before (step.Fibre e ∷ later)) (sym x.1.0) (owed_none l earlier changes before (step.Fibre e ∷ later))
+      subst (λ rs. AreOwed l earlier changes before (step.Fibre e ∷ later) rs end) (sym x.1.0) (owed_none l earlier changes before (step.Fibre e ∷ later) end x.1.1)
   walk limit before past earlier changes (step.Order p d c ∷ later) w reports end left form h each x =
       walk limit before _ earlier (changes ++ changes_of (step.Order p d c)) later _ reports end left form (changed_then earlier changes w (step.Order p d c) each.0 h) each.3 x
   walk limit before past earlier changes (step.Moment m ∷ later) w reports end left form h each x =
       walk limit before _ earlier (changes ++ changes_of (step.Moment m)) later _ reports end left form (changed_then earlier changes w (step.Moment m) each.0 h) each.3 x
   walk limit before past earlier changes (step.Settle ∷ later) w reports end left form h each (inl x) =
       let there = settled_then earlier changes w x.0 limit (before + 1) form h x.2 in
-      subst (AreOwed l earlier changes before (step.Settle ∷ later)) (sym x.3)
+      subst (λ rs. AreOwed l earlier changes before (step.Settle ∷ later) rs end) (sym x.3)
       (number_is (before + 1) x.0, there.0, walk limit (before + 1) _ _ [] later x.0 x.1 end left form there.1 each.3 x.4)
-  walk limit before past earlier changes (step.Settle ∷ later) w reports end left form h each (inr (inl x)) = subst (AreOwed l earlier changes before (step.Settle ∷ later)) (sym x.1.0) tt
-  walk limit before past earlier changes (step.Settle ∷ later) w reports end left form h each (inr (inr x)) = subst (AreOwed l earlier changes before (step.Settle ∷ later)) (sym x.1.0) tt
+  walk limit before past earlier changes (step.Settle ∷ later) w reports end left form h each (inr (inl x)) = subst (λ rs. AreOwed l earlier changes before (step.Settle ∷ later) rs end) (sym x.1.0) (inl x.1.1)
+  walk limit before past earlier changes (step.Settle ∷ later) w reports end left form h each (inr (inr x)) = subst (λ rs. AreOwed l earlier changes before (step.Settle ∷ later) rs end) (sym x.1.0) (inr x.1.1)
 
 pub reports_owed : SettledRingsRestore → ReportsAreOwed
 reports_owed law s ids circuits f may form limit past steps each reports end left x =

@@ -1,5 +1,5 @@
 -- What each report of a script owes, in customers' bytes and by the script alone.
-use Rattle.std.specs.Prelude.{ℕ, ◌≡◌, ◌+◌, ◌-◌, ◌*◌, Bool, List, [], ◌∷◌, ◌++◌, length}
+use Rattle.std.specs.Prelude.{ℕ, ◌≡◌, ◌⊎◌, ◌+◌, ◌-◌, ◌*◌, Bool, List, [], ◌∷◌, ◌++◌, length}
 use Rattle.std.specs.List.{flat_map}
 use Rattle.sdh_circuits.specs.declared.End.{End}
 use Rattle.sdh_circuits.specs.declared.End.TheVariants.{A, B}
@@ -12,6 +12,8 @@ use Rattle.sdh_carrying.specs.Brought.{outlet_due}
 use Rattle.sdh_carrying.specs.Windows.{Layout, size_of}
 use Rattle.sdh_plan.specs.declared.step.Step.{Step}
 use Rattle.sdh_plan.specs.declared.step.Step.TheVariants as step
+use Rattle.sdh_report.specs.declared.status.Status.{Status}
+use Rattle.sdh_report.specs.declared.status.Status.TheVariants as status
 use Rattle.sdh_report.specs.Reports.{PortLine, Report}
 use Rattle.sdh_owed.specs.Steps.{changes_of}
 
@@ -34,13 +36,13 @@ IsOwed l requests r = r.ports ≡ owed_ports (size_of l) (is_applied requests) r
 
 -- Each report of these steps shows what is owed under the requests of the history, where `earlier` had happened, these changes were
 -- made since, and so many settle steps had ended. Report by report the number grows by 1, and the round tells how many rounds
--- the step ran. After the last report the script may have been broken off.
-abbrev pub AreOwed : Layout → List Stretch → List Change → ℕ → List Step → List Report → Type 0
-AreOwed l earlier changes before [] reports = reports ≡ []
-AreOwed l earlier changes before (step.Fibre e ∷ later) reports = AreOwed l earlier (changes ++ changes_of (step.Fibre e)) before later reports
-AreOwed l earlier changes before (step.Order p d c ∷ later) reports = AreOwed l earlier (changes ++ changes_of (step.Order p d c)) before later reports
-AreOwed l earlier changes before (step.Moment m ∷ later) reports = AreOwed l earlier (changes ++ changes_of (step.Moment m)) before later reports
-AreOwed l earlier changes before (step.Settle ∷ later) [] = Unit {0}
-AreOwed l earlier changes before (step.Settle ∷ later) (r ∷ reports) =
+-- the step ran. A settle step without a report is where the script ended, unsettled or by a fault.
+abbrev pub AreOwed : Layout → List Stretch → List Change → ℕ → List Step → List Report → Status → Type 0
+AreOwed l earlier changes before [] reports end = (reports ≡ []) × ((end ≡ status.Ok) ⊎ (end ≡ status.PlantFault))
+AreOwed l earlier changes before (step.Fibre e ∷ later) reports end = AreOwed l earlier (changes ++ changes_of (step.Fibre e)) before later reports end
+AreOwed l earlier changes before (step.Order p d c ∷ later) reports end = AreOwed l earlier (changes ++ changes_of (step.Order p d c)) before later reports end
+AreOwed l earlier changes before (step.Moment m ∷ later) reports end = AreOwed l earlier (changes ++ changes_of (step.Moment m)) before later reports end
+AreOwed l earlier changes before (step.Settle ∷ later) [] end = (end ≡ status.Unsettled (before + 1)) ⊎ (end ≡ status.PlantFault)
+AreOwed l earlier changes before (step.Settle ∷ later) (r ∷ reports) end =
     (let now = earlier ++ record { changes = changes; rounds = r.round + 1 - rounds_in earlier } ∷ [] in
-    (r.number ≡ before + 1) × IsOwed l (requests_by l now r.round) r × AreOwed l now [] (before + 1) later reports)
+    (r.number ≡ before + 1) × IsOwed l (requests_by l now r.round) r × AreOwed l now [] (before + 1) later reports end)
