@@ -1,4 +1,3 @@
-pub mod SameWords
 pub mod Marks
 pub mod Ports
 pub mod Passed
@@ -6,3 +5,5 @@ pub mod Frames
 pub mod Rounds
 pub mod Turning
 pub mod Steps
+pub mod Calm
+pub mod Decided
