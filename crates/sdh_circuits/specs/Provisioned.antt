@@ -1,5 +1,5 @@
 -- A circuit as contracts see it.
-use Rattle.std.specs.Prelude.{ℕ, ◌≡◌, Bool, true, ◌&&◌, ◌==◌, List, Some, slice_get}
+use Rattle.std.specs.Prelude.{ℕ, ◌≡◌, Bool, true, false, ◌&&◌, ◌==◌, List, Some, slice_get}
 use Rattle.sdh_ringmap.specs.declared.Pos.{Pos}
 use Rattle.sdh_ringmap.specs.Arcs.{Arc, arc_between, holds_span}
 use Rattle.sdh_payload.specs.Customer.{Customer}
@@ -29,6 +29,12 @@ is_on n span slot c = c.slot.0 == slot && holds_span n (arc_of n c) span
 abbrev pub customer_at : Provisioned → End → Customer
 customer_at c A = c.a
 customer_at c B = c.b
+
+abbrev pub same_end : End → End → Bool
+same_end A A = true
+same_end B B = true
+same_end A B = false
+same_end B A = false
 
 -- no two circuits share a span and a slot
 abbrev pub AreApart : ℕ → List Provisioned → Type 0

@@ -33,7 +33,7 @@ use Rattle.sdh_world.specs.Sides.{new_holding, holding_in, side_history, conditi
 use Rattle.sdh_hearing.specs.Signalling.{word_to, is_lost}
 use Rattle.sdh_hearing.specs.Laws.{IsWhole, MayStart, MayHappen}
 use Rattle.sdh_hearing.proofs.Changes.{new_worlds_are_whole, whole_run}
-use Rattle.sdh_hearing.proofs.OneNode.{scene_in, state_is, word_is}
+use Rattle.sdh_node.proofs.Decided.{scene_in, state_is, word_is}
 use Rattle.sdh_hearing.proofs.Nodes.{informed, nodes_after, is_at}
 use Rattle.sdh_hearing.proofs.Rounds.{neighbour_inside, brings}
 use Rattle.sdh_hearing.proofs.Staying.{left_run}

@@ -40,8 +40,9 @@ use Rattle.sdh_world.proofs.Runs.{known_settles}
 use Rattle.sdh_hearing.specs.Placed.{IsPlaced}
 use Rattle.sdh_hearing.specs.Signalling.{is_lost, signals_of, needs_in}
 use Rattle.sdh_hearing.specs.Laws.{IsWhole, RoundsAreSignalRounds, IsStill, CalmRoundsAreStill, WindowsAreSettled, IsSettled, StepsSettle}
-use Rattle.sdh_hearing.proofs.OneNode.{scene_in, state_is, word_is, may_need}
-use Rattle.sdh_hearing.proofs.Calm.{calm_leaves, unchanged_is_calm}
+use Rattle.sdh_node.proofs.Decided.{scene_in, state_is, word_is}
+use Rattle.sdh_node.proofs.Calm.{calm_leaves, unchanged_is_calm}
+use Rattle.sdh_hearing.proofs.OneNode.{may_need}
 use Rattle.sdh_hearing.proofs.Staying.{left_run}
 use Rattle.sdh_hearing.proofs.Nodes.{at_any, informed, count, nodes_after, length-after, one_more, is_at}
 use Rattle.sdh_hearing.proofs.Rounds.{neighbour_inside, brings, took_is, whole_round}

@@ -9,9 +9,11 @@ use Rattle.sdh_ringmap.specs.declared.Pos.{Pos}
 use Rattle.sdh_nodestate.specs.declared.NodeState.{NodeState}
 use Rattle.sdh_nodestate.specs.declared.NodeState.TheVariants as state
 use Rattle.sdh_pointer.proofs.Sent as sent
-use Rattle.sdh_node.specs.Same.{same_code, same_heard, same_far, same_state, same_generators, ComparedIn, ComparedOut, Compared, same_in, same_out, same_compared}
+use Rattle.sdh_kbytes.specs.Same.{same_code, same_heard}
+use Rattle.sdh_nodestate.specs.Shapes.{same_far, same_state}
+use Rattle.sdh_node.specs.Same.{same_generators, ComparedIn, ComparedOut, Compared, same_in, same_out, same_compared}
 use Rattle.sdh_node.proofs.Marks.{same-readings}
-use Rattle.sdh_node.proofs.SameWords.{is_same}
+use Rattle.sdh_kbytes.proofs.SameWords.{is_same}
 
 code_itself : (c : Code) → same_code c c ≡ true
 code_itself c = eq-eqb (code_number c) (code_number c) refl

@@ -1,4 +1,3 @@
-pub mod SameWords
 pub mod Marks
 pub mod Ports
 pub mod Passed
@@ -7,3 +6,5 @@ pub mod Rounds
 pub mod Turning
 pub mod Steps
 pub mod Itself
+pub mod Calm
+pub mod Decided

@@ -7,7 +7,9 @@ use Rattle.sdh_ringmap.specs.declared.Side.{Side}
 use Rattle.sdh_ringmap.specs.declared.Side.TheVariants.{West, East}
 use Rattle.sdh_nodestate.specs.Rules.{word}
 use Rattle.sdh_node.specs.declared.settings.Settings.{Settings}
-use Rattle.sdh_node.specs.Same.{same_in, same_state, same_word, same_generators, same_compared}
+use Rattle.sdh_kbytes.specs.Same.{same_word}
+use Rattle.sdh_nodestate.specs.Shapes.{same_state}
+use Rattle.sdh_node.specs.Same.{same_in, same_generators, same_compared}
 use Rattle.sdh_node.specs.Tributaries.{Tributary, added_by, added_last, all_fed}
 use Rattle.sdh_node.specs.Crossing.{Cross, after_intakes, scene_of, after_decision, all_delivered, input_at}
 use Rattle.sdh_node.specs.Sending.{Sending, with_word, frame_from, after_sending}

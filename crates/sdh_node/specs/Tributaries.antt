@@ -9,7 +9,7 @@ use Rattle.sdh_circuits.specs.declared.Slot.{Slot}
 use Rattle.sdh_circuits.specs.declared.End.{End}
 use Rattle.sdh_circuits.specs.declared.End.TheVariants.{A, B}
 use Rattle.sdh_circuits.specs.declared.PortId.{PortId}
-use Rattle.sdh_circuits.specs.Provisioned.{Provisioned}
+use Rattle.sdh_circuits.specs.Provisioned.{Provisioned, same_end}
 use Rattle.sdh_payload.specs.Customer.{Customer}
 use Rattle.sdh_payload.specs.Feed.{Fed}
 use Rattle.sdh_payload.specs.Stream.{chunk_of}
@@ -49,12 +49,6 @@ unfoldable pub tributaries_at : Pos → List Provisioned → List Tributary
 tributaries_at at circuits = ends_from at 0 circuits
 
 -- ---- a port among them
-
-abbrev pub same_end : End → End → Bool
-same_end A A = true
-same_end B B = true
-same_end A B = false
-same_end B A = false
 
 abbrev pub is_port : PortId → Tributary → Bool
 is_port id t = (t.port.circuit == id.circuit) && same_end t.port.end id.end

@@ -4,3 +4,4 @@ pub mod Words
 pub mod FarEnds
 pub mod Views
 pub mod Urgency
+pub mod Shapes

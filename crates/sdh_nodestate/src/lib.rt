@@ -13,6 +13,9 @@ ghost use Rattle.sdh_nodestate.specs.FarEnds.{far_of, IsElsewhere, west_chain, e
 ghost use Rattle.sdh_nodestate.specs.Urgency.{FirstWordsAreSent};
 
 mod scene;
+mod shape;
+
+pub use shape::{Shape, same_shape, shape_of};
 
 use crate::scene::Scene;
 use sdh_kbytes::{Code, K};

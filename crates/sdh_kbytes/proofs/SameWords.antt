@@ -1,5 +1,5 @@
 -- Words with the same parts are one word.
-use Rattle.std.proofs.Common.{◌≡◌, Bool, true, false, Some, refl, ap, sym, ◌∙◌, ◌↔◌}
+use Rattle.std.proofs.Common.{◌≡◌, Bool, true, false, Option, Some, None, refl, ap, sym, ◌∙◌, ◌↔◌}
 use Rattle.std.specs.Prelude.{IsTrue, ◌==◌, ◌&&◌}
 use Rattle.std.proofs.lemmas.Bool.{and_parts, eqb-true, eq-eqb}
 use Rattle.sdh_kbytes.specs.declared.Code.{Code}
@@ -8,9 +8,9 @@ use Rattle.sdh_kbytes.specs.declared.Mark.{Mark}
 use Rattle.sdh_kbytes.specs.declared.K.{K}
 use Rattle.sdh_kbytes.specs.KBytes.{code_number, mark_number, path_number, code_at, mark_at, path_at}
 use Rattle.sdh_kbytes.proofs.Tables.{code_at-number, mark_at-number, path_at-number}
-use Rattle.sdh_node.specs.Same.{same_word}
+use Rattle.sdh_kbytes.specs.Same.{same_code, same_word, same_heard}
 
-pub code_of_number : (c d : Code) → code_number c ≡ code_number d → c ≡ d
+code_of_number : (c d : Code) → code_number c ≡ code_number d → c ≡ d
 code_of_number c d e = let some : Some c ≡ Some d = sym (code_at-number c) ∙ ap code_at e ∙ code_at-number d in cc
 
 mark_of_number : (m o : Mark) → mark_number m ≡ mark_number o → m ≡ o
@@ -18,6 +18,9 @@ mark_of_number m o e = let some : Some m ≡ Some o = sym (mark_at-number m) ∙
 
 path_of_number : (p q : Path) → path_number p ≡ path_number q → p ≡ q
 path_of_number p q e = sym (path_at-number p) ∙ ap path_at e ∙ path_at-number q
+
+pub code_same : (a b : Code) → same_code a b ≡ true → a ≡ b
+code_same a b e = code_of_number a b (eqb-true _ _ e)
 
 pub same_is : (a b : K) → same_word a b ≡ true → a ≡ b
 unfolding same_word
@@ -41,6 +44,12 @@ pub is_same : (a : K) → same_word a a ≡ true
 unfolding same_word
 is_same a =
     rw (eq-eqb (code_number a.code) _ refl, eq-eqb a.to _ refl, eq-eqb a.from _ refl, eq-eqb (path_number a.path) _ refl, eq-eqb (mark_number a.mark) _ refl) refl
+
+pub heard_same : (a b : Option K) → same_heard a b ≡ true → a ≡ b
+heard_same None None e = refl
+heard_same (Some a) (Some b) e = ap Some (same_is a b e)
+heard_same None (Some b) e = cc
+heard_same (Some a) None e = cc
 
 by_truth : (r s : Bool) → (IsTrue r → s ≡ true) → (s ≡ true → IsTrue r) → r ≡ s
 by_truth true s f g = sym (f refl)
