@@ -1,6 +1,5 @@
 -- What is compared is the same as itself.
-use Rattle.std.proofs.Common.{◌≡◌, ℕ, Bool, true, List, [], ◌∷◌, Option, Some, None, refl}
-use Rattle.std.specs.Prelude.{◌&&◌}
+use Rattle.std.proofs.Common.{◌≡◌, ℕ, true, List, [], ◌∷◌, Option, Some, None, refl}
 use Rattle.std.proofs.lemmas.Bool.{eq-eqb}
 use Rattle.sdh_kbytes.specs.declared.Code.{Code}
 use Rattle.sdh_kbytes.specs.declared.K.{K}

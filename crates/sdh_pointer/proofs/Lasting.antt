@@ -1,16 +1,15 @@
 -- What a generator repeats brings an interpreter to rest.
-use Rattle.std.proofs.Common.{◌≡◌, ℕ, suc, ◌+◌, ◌≤◌, Bool, true, false, refl, ap, sym, ◌∙◌, arith}
-use Rattle.std.specs.Prelude.{not, Option, None}
+use Rattle.std.proofs.Common.{◌≡◌, ℕ, ◌+◌, ◌≤◌, Bool, true, false, refl, ap, sym, ◌∙◌, arith}
+use Rattle.std.specs.Prelude.{not, None}
 use Rattle.sdh_pointer.specs.declared.reading.Reading.{Reading}
 use Rattle.sdh_pointer.specs.declared.reading.Mode.{Mode}
 use Rattle.sdh_pointer.specs.declared.reading.Mode.TheVariants as mode
-use Rattle.sdh_pointer.specs.declared.reading.Action.{Action}
 use Rattle.sdh_pointer.specs.declared.reading.Action.TheVariants as action
 use Rattle.sdh_pointer.specs.declared.word.Form.TheVariants as form
 use Rattle.sdh_pointer.specs.Words.{is_normal, is_enabled, value_in, word_of}
 use Rattle.sdh_pointer.specs.Reading.{after_word, action_on, settled, is_norm}
 use Rattle.sdh_pointer.specs.Repeated.{after_rounds}
-use Rattle.sdh_pointer.specs.Laws.{lasting_form, lasting_state, enabled_end, is_ais_action, IsSound, Lasts, InputsLast, ComesToRest, RepeatedWordsRest}
+use Rattle.sdh_pointer.specs.Laws.{enabled_end, is_ais_action, IsSound, InputsLast, ComesToRest, RepeatedWordsRest}
 use Rattle.sdh_pointer.proofs.Bounds.{answer_tells_mode}
 use Rattle.sdh_pointer.proofs.Forms.{normal_word, normal_value, enabled_word, enabled_value}
 use Rattle.sdh_pointer.proofs.Sent.{ais_sent, next_by_action, second_sent}

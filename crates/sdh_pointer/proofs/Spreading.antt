@@ -5,14 +5,13 @@ use Rattle.std.proofs.lemmas.Bool.{cases_lt, cases_eq, le-leb, lt-ltb, le-ltb, e
 use Rattle.sdh_pointer.specs.declared.reading.Reading.{Reading}
 use Rattle.sdh_pointer.specs.declared.reading.Mode.TheVariants as mode
 use Rattle.sdh_pointer.specs.declared.reading.Event.TheVariants as event
-use Rattle.sdh_pointer.specs.declared.reading.Action.{Action}
 use Rattle.sdh_pointer.specs.declared.reading.Action.TheVariants as action
 use Rattle.sdh_pointer.specs.declared.word.Form.TheVariants as form
 use Rattle.sdh_pointer.specs.Words.{word_of}
 use Rattle.sdh_pointer.specs.Reading.{start, settled, later, after_word, action_on}
 use Rattle.sdh_pointer.specs.Sending.{next_sending, word_sent}
-use Rattle.sdh_pointer.specs.Spreading.{IsSmall, IsValueOver, action_over, word_over, sending_over, reading_over}
-use Rattle.sdh_pointer.specs.Laws.{SpreadsOver, ValuesSpread}
+use Rattle.sdh_pointer.specs.Spreading.{action_over, word_over, sending_over, reading_over}
+use Rattle.sdh_pointer.specs.Laws.{ValuesSpread}
 use Rattle.sdh_pointer.proofs.Forms.{normal_word, normal_value, enabled_word, enabled_value, of_enabled, of_ones}
 use Rattle.sdh_pointer.proofs.Rows.{ais_ais_action, ais_ndf_action}
 use Rattle.sdh_pointer.proofs.Sent.{ais_sent, first_sent, normal_sent}

@@ -1,6 +1,6 @@
 -- A source that sends one value for ever, from round 0 on, or AIS for ever (None), followed from span to span. Over each span
 -- an interpreter reads what was sent one round before, and a generator sends it on; in round 0 no interpreter reads.
-use Rattle.std.specs.Prelude.{ℕ, ◌≡◌, ◌+◌, ◌-◌, ◌<◌, ◌≤◌, min, nat_le, nat_lt, ◌&&◌, ◌==◌, if◌then◌else◌, Option, Some, None}
+use Rattle.std.specs.Prelude.{ℕ, ◌≡◌, ◌+◌, ◌-◌, ◌≤◌, min, nat_le, nat_lt, ◌&&◌, ◌==◌, if◌then◌else◌, Option, Some, None}
 use Rattle.sdh_pointer.specs.declared.reading.Action.{Action}
 use Rattle.sdh_pointer.specs.declared.reading.Action.TheVariants as action
 use Rattle.sdh_pointer.specs.declared.reading.Mode.TheVariants as mode

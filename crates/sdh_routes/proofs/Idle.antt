@@ -7,7 +7,6 @@ use Rattle.sdh_ringmap.specs.Places.{span_at}
 use Rattle.sdh_ringmap.specs.Steps.{going}
 use Rattle.sdh_circuits.specs.Provisioned.{Provisioned}
 use Rattle.sdh_circuits.specs.declared.End.{End}
-use Rattle.sdh_circuits.specs.Provisioning.{AreCircuits}
 use Rattle.sdh_squelch.specs.Table.{circuit_from}
 use Rattle.sdh_squelch.specs.declared.Row.{Row}
 use Rattle.sdh_bridge.specs.declared.Origin.TheVariants.{Ais}
