@@ -4,12 +4,9 @@ use Rattle.std.proofs.lemmas.Bool.{eq-eqb}
 use Rattle.sdh_kbytes.specs.declared.Code.{Code}
 use Rattle.sdh_kbytes.specs.declared.K.{K}
 use Rattle.sdh_kbytes.specs.KBytes.{code_number}
-use Rattle.sdh_ringmap.specs.declared.Pos.{Pos}
-use Rattle.sdh_nodestate.specs.declared.NodeState.{NodeState}
-use Rattle.sdh_nodestate.specs.declared.NodeState.TheVariants as state
+use Rattle.sdh_nodestate.proofs.SameStates.{state_itself}
 use Rattle.sdh_pointer.proofs.Sent as sent
 use Rattle.sdh_kbytes.specs.Same.{same_code, same_heard}
-use Rattle.sdh_nodestate.specs.Shapes.{same_far, same_state}
 use Rattle.sdh_node.specs.Same.{same_generators, ComparedIn, ComparedOut, Compared, same_in, same_out, same_compared}
 use Rattle.sdh_node.proofs.Marks.{same-readings}
 use Rattle.sdh_kbytes.proofs.SameWords.{is_same}
@@ -20,18 +17,6 @@ code_itself c = eq-eqb (code_number c) (code_number c) refl
 heard_itself : (h : Option K) → same_heard h h ≡ true
 heard_itself None = refl
 heard_itself (Some k) = is_same k
-
-far_itself : (f : Option Pos) → same_far f f ≡ true
-far_itself None = refl
-far_itself (Some a) = eq-eqb a.0 a.0 refl
-
-state_itself : (s : NodeState) → same_state s s ≡ true
-unfolding same_state
-state_itself (state.Idle x) = refl
-state_itself (state.PassThrough x) = refl
-state_itself (state.SwitchWest f) = far_itself f
-state_itself (state.SwitchEast f) = far_itself f
-state_itself (state.Isolated x) = refl
 
 generators_itself : (gs : List (Option ℕ)) → same_generators gs gs ≡ true
 generators_itself [] = refl

@@ -44,7 +44,7 @@ far_itself : (a : Option Pos) → same_far a a ≡ true
 far_itself None = refl
 far_itself (Some a) = eq-eqb a.0 _ refl
 
-state_itself : (a : NodeState) → same_state a a ≡ true
+pub state_itself : (a : NodeState) → same_state a a ≡ true
 unfolding same_state
 state_itself (state.Idle x) = refl
 state_itself (state.PassThrough x) = refl

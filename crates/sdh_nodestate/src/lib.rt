@@ -15,11 +15,10 @@ ghost use Rattle.sdh_nodestate.specs.Urgency.{FirstWordsAreSent};
 mod scene;
 mod shape;
 
-pub use shape::{Shape, same_shape, shape_of};
-
 use crate::scene::Scene;
 use sdh_kbytes::{Code, K};
 use sdh_ringmap::{Chain, Pos, RingMap, Side};
+pub use shape::{Shape, same_shape, shape_of};
 use std::marker::Model;
 
 /// Nothing is switched, and the node sends a word of its own on some side.
