@@ -111,7 +111,9 @@ def is_sent(text):
 
 def number_in(word, low, high):
     """The number that the word is, or nothing where it is none or out of range."""
-    return int(word) if NUMBER.match(word) and low <= int(word[:40]) <= high and len(word) <= 40 else None
+    if not NUMBER.match(word) or len(word) > 10:
+        return None
+    return int(word) if low <= int(word) <= high else None
 
 
 def check_step(step, place, n, nodes, moment, settles):

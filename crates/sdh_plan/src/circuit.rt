@@ -1,5 +1,5 @@
 //! The circuits that a document asks for.
-ghost use Rattle.std.specs.Prelude.{◌≡◌, ◌⊎◌, ◌/◌, ◌+◌, [], None, option_map, map, length, string_bytes, IfSome, IfOk, IfErr, OnOk, OnErr, codes};
+ghost use Rattle.std.specs.Prelude.{◌≡◌, ◌⊎◌, ◌/◌, ◌+◌, [], None, option_map, map, string_bytes, IfSome, IfOk, IfErr, OnOk, codes};
 ghost use Rattle.std.specs.BTreeMap.{keys};
 ghost use Rattle.std.specs.List.{list_all};
 ghost use Rattle.toml.specs.View.{view, table_view};

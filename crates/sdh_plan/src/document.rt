@@ -1,8 +1,7 @@
 //! The document that bytes are, and the values at its keys.
-ghost use Rattle.std.specs.Prelude.{◌≡◌, ◌≤◌, IfSome, List, Some, None, option_map, option_copied, IfOk, IsErrOf, map, unwrap_or, [], string_bytes};
+ghost use Rattle.std.specs.Prelude.{◌≡◌, ◌≤◌, IfSome, Some, None, option_map, option_copied, IfOk, IsErrOf, map};
 ghost use Rattle.std.specs.BTreeMap.{keys};
 ghost use Rattle.std.specs.Str.{bytes_eq};
-ghost use Rattle.std.specs.List.{list_all};
 ghost use Rattle.toml.specs.Data.{get_member};
 ghost use Rattle.toml.specs.View.{view, table_view};
 ghost use Rattle.sdh_plan.specs.Document.{IsDocument, IsNoDocument, text_of, number_in, integer_at, number_at, text_at, elements_at};

@@ -1,5 +1,5 @@
 //! The keys of a document, its rate, nodes and settings.
-ghost use Rattle.std.specs.Prelude.{◌≡◌, ◌≤◌, ◌*◌, ◌⊎◌, [], None, Some, option_map, map, length, string_bytes, unwrap_or, IfSome, IfOk, IfErr, OnOk};
+ghost use Rattle.std.specs.Prelude.{◌≡◌, ◌≤◌, ◌*◌, ◌⊎◌, None, Some, map, length, string_bytes, IfOk, IfErr, OnOk};
 ghost use Rattle.std.specs.BTreeMap.{keys};
 ghost use Rattle.std.specs.List.{list_all};
 ghost use Rattle.toml.specs.View.{view, table_view};
