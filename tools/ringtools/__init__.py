@@ -1,0 +1,1 @@
+"""What ringview and whatif share: plans, the restoration model, reports, drawings."""

@@ -1,0 +1,162 @@
+"""What is to be seen of one settle step: the script's side of it, the program's text, and what changed since the step before."""
+
+from dataclasses import dataclass
+
+from .model import CLEAR, CUT, REQUEST_NAMES, arc, owed, route, span_requests
+from .plan import SIDES
+from .report import STATES
+
+
+def condition_words(condition):
+    return {CLEAR: "clear", CUT: "cut"}.get(condition) or f"degraded by {condition}"
+
+
+@dataclass(frozen=True)
+class Way:
+    """How a circuit goes now; without hops its ends aren't joined."""
+
+    hops: tuple | None
+    length: int  # spans of its own arc
+
+    @property
+    def over(self):
+        return self.hops is not None and any(hop.protection for hop in self.hops)
+
+
+def judge_port(circuit, end, line, way, scene):
+    """Whether a port delivers what it is owed: own, ais, or wrong."""
+    if way.hops is None or line.ais:
+        return "ais" if way.hops is None and line.ais else "wrong"
+    slips = scene.slips[circuit.name, "b" if end == "a" else "a"]
+    return "own" if (line.value, line.data) == owed(circuit, end, scene.round, len(way.hops), slips) else "wrong"
+
+
+class Look:
+    """One settle step. `settled` is what the text tells of it, `before` the look of the step before."""
+
+    def __init__(self, plan, scene, settled, before=None):
+        self.plan, self.scene, self.settled, self.before = plan, scene, settled, before
+        self.ways = {}
+        for circuit in plan.circuits:
+            hops = route(plan, circuit, scene.applied)
+            self.ways[circuit.name] = Way(None if hops is None else tuple(hops), len(arc(plan, circuit)))
+        self.verdicts = {}
+        for circuit in plan.circuits:
+            for end in "ab":
+                line = settled.ports.get((circuit.name, end))
+                if line is not None:
+                    self.verdicts[circuit.name, end] = judge_port(circuit, end, line, self.ways[circuit.name], scene)
+        self.find_changes()
+
+    def find_changes(self):
+        old = self.before
+        differ = (lambda now, then: {key for key in now if now[key] != then[key]}) if old else (lambda now, then: set())
+        self.changed_fibres = differ(self.scene.conditions, old and old.scene.conditions)
+        self.changed_commands = differ(self.scene.commands, old and old.scene.commands)
+        self.changed_circuits = differ(self.ways, old and old.ways)
+        self.changed_nodes = differ(self.states(), old and old.states())
+        self.changed_words = differ(self.words(), old and old.words())
+        self.changed_requests = differ(dict(enumerate(self.requests())), old and dict(enumerate(old.requests())))
+        self.changed_spans = self.changed_requests | (self.scene.applied ^ old.scene.applied if old else set())
+
+    def states(self):
+        return {at: node.state for at, node in enumerate(self.settled.nodes)}
+
+    def words(self):
+        return {(at, side): getattr(node, side) for at, node in enumerate(self.settled.nodes) for side in SIDES}
+
+    def title(self):
+        at = "" if self.settled.round is None else f", round {self.settled.round}"
+        return f"Settle step {self.scene.number}{at}"
+
+    def state(self, at):
+        return self.settled.nodes[at].state if self.settled.nodes else ""
+
+    def port(self, name, end):
+        return self.verdicts.get((name, end))
+
+    def wrong_ports(self):
+        return [place for place, verdict in self.verdicts.items() if verdict == "wrong"]
+
+    def fibre_words(self, fibre):
+        at, side = fibre
+        there = self.plan.ids[self.plan.neighbour(at, side)]
+        return f"fibre {self.plan.ids[at]} → {there}: {condition_words(self.scene.conditions[fibre])}"
+
+    def node_words(self, at):
+        lines = [f"node {self.plan.ids[at]}"]
+        if self.settled.nodes:
+            node = self.settled.nodes[at]
+            lines[0] += f": {STATES[node.state]}"
+            for side, word in (("west", node.west), ("east", node.east)):
+                lines.append(f"sends {side} {word.hexadecimal()}: {word.words()}")
+        for side in ("west", "east"):
+            request = self.scene.requests[at, side]
+            if request:
+                lines.append(f"{side} side: {REQUEST_NAMES[request]}")
+        return "\n".join(lines)
+
+    def route_words(self, circuit):
+        """As '1 → 2, back on protection 2 → 1 → 4 → 3'."""
+        way = self.ways[circuit.name]
+        if way.hops is None:
+            return "not joined"
+        parts, now = [], None
+        for hop in way.hops:
+            if hop.protection != now:
+                parts.append(("protection " if hop.protection else "") + str(self.plan.ids[hop.start]))
+                now = hop.protection
+            parts[-1] += f" → {self.plan.ids[hop.end]}"
+        return ", ".join(parts)
+
+    def spans_words(self, circuit):
+        way = self.ways[circuit.name]
+        if way.hops is None:
+            return "lost"
+        count = f"{len(way.hops)} span" + ("s" if len(way.hops) > 1 else "")
+        return f"{count} ({len(way.hops) - way.length:+d} over protection)" if way.over else count
+
+    def circuit_words(self, circuit):
+        ids = self.plan.ids
+        return f"circuit {circuit.name}, {ids[circuit.start]} to {ids[circuit.end]}, slot {circuit.slot}: {self.route_words(circuit)}, {self.spans_words(circuit)}"
+
+    def port_words(self, circuit, end):
+        at = self.plan.ids[circuit.start if end == "a" else circuit.end]
+        verdict, line = self.port(circuit.name, end), self.settled.ports.get((circuit.name, end))
+        if verdict is None:
+            return f"port {circuit.name} {end} at node {at}: not told by this text"
+        what = "AIS" if line.ais else f"value {line.value}, {line.data.hex()}"
+        words = {"own": "its own customer's bytes", "ais": "AIS, as it is owed", "wrong": "NOT what it is owed"}[verdict]
+        return f"port {circuit.name} {end} at node {at}: {words} ({what})"
+
+    def span_words(self, span):
+        return REQUEST_NAMES[self.requests()[span]] + (", applied" if span in self.scene.applied else "")
+
+    def requests(self):
+        return span_requests(self.plan.size, self.scene.requests)
+
+    def changes(self):
+        """What changed since the step before, in words."""
+        if self.before is None:
+            return []
+        result = []
+        for fibre in sorted(self.changed_fibres):
+            result.append(self.fibre_words(fibre) + f" (was {condition_words(self.before.scene.conditions[fibre])})")
+        for at, side in sorted(self.changed_commands):
+            was, now = self.before.scene.commands[at, side], self.scene.commands[at, side]
+            result.append(f"node {self.plan.ids[at]}, {side} side: command {now or 'none'} (was {was or 'none'})")
+        for span in sorted(self.changed_spans):
+            result.append(f"span {self.plan.span_name(span)}: {self.span_words(span)} (was {self.before.span_words(span)})")
+        for at in sorted(self.changed_nodes):
+            result.append(f"node {self.plan.ids[at]}: {STATES[self.state(at)]} (was: {STATES[self.before.state(at)]})")
+        for circuit in self.plan.circuits:
+            if circuit.name in self.changed_circuits:
+                result.append(f"circuit {circuit.name}: {self.spans_words(circuit)} (was: {self.before.spans_words(circuit)})")
+        return result
+
+
+def looks(plan, scenes, settled):
+    result = []
+    for scene, step in zip(scenes, settled):
+        result.append(Look(plan, scene, step, result[-1] if result else None))
+    return result

@@ -1,0 +1,161 @@
+"""What becomes of each circuit in each case, read from the program's text; and the same by the restoration model."""
+
+import csv
+from dataclasses import dataclass, field
+
+from .failures import STAGES
+from .model import arc, is_joined, owed, route, scenes
+from .report import ReportProblem, read_report
+
+STATUSES = {
+    0: "Ok",
+    2: "Usage",
+    3: "ReadFault",
+    4: "WriteFault",
+    5: "NotToml",
+    6: "BadPlan",
+    7: "Unsettled",
+    8: "PlantFault",
+    9: "TooLong",
+    11: "NotBuilt",
+    70: "Memory",
+    71: "no words",
+}
+
+
+@dataclass(frozen=True)
+class Cell:
+    """One circuit in one stage: kept on its own arc, over protection with so many spans more, lost, or odd."""
+
+    kind: str
+    more: int = 0
+
+    def short(self):
+        return f"over{self.more:+d}" if self.kind == "over" else self.kind
+
+
+@dataclass
+class Stage:
+    name: str
+    round: int
+    applied: frozenset
+    cells: dict  # circuit's name -> Cell
+
+    def count(self, kind):
+        return sum(cell.kind == kind for cell in self.cells.values())
+
+
+@dataclass
+class Verdict:
+    """What came of one case. `problem` says why there are fewer stages than there should be."""
+
+    case: object
+    status: int | None
+    stages: list = field(default_factory=list)
+    problem: str = ""
+    differs: list = field(default_factory=list)  # where the model says otherwise, in words
+
+    @property
+    def ok(self):
+        return self.status == 0 and not self.problem
+
+    def stage(self, name):
+        return next((stage for stage in self.stages if stage.name == name), None)
+
+    def status_words(self):
+        if self.status is None:
+            return "no answer"
+        return STATUSES.get(self.status, f"status {self.status}")
+
+
+def switched(state, side):
+    return state in (f"switch-{side}", "isolated")
+
+
+def applied_by_states(plan, nodes):
+    """The spans that the nodes at both their ends switch away from."""
+    if not nodes:
+        raise ReportProblem("the text tells no node states")
+    for span in range(plan.size):
+        if switched(nodes[span].state, "east") != switched(nodes[(span + 1) % plan.size].state, "west"):
+            raise ReportProblem(f"the nodes at span {plan.span_name(span)} don't agree whether it is switched")
+    return frozenset(span for span in range(plan.size) if switched(nodes[span].state, "east"))
+
+
+def cell_of(plan, circuit, settled, applied, slips):
+    """Lost where both ports have AIS; kept where both deliver their own customer's bytes; anything else is odd."""
+    lines = {end: settled.ports[circuit.name, end] for end in "ab"}
+    if all(line.ais for line in lines.values()):
+        return Cell("lost")
+    hops = route(plan, circuit, applied)
+    if hops is None:
+        return Cell("odd")
+    for end, line in lines.items():
+        other = "b" if end == "a" else "a"
+        if (line.value, line.data) != owed(circuit, end, settled.round, len(hops), slips[circuit.name, other]):
+            return Cell("odd")
+    if any(hop.protection for hop in hops):
+        return Cell("over", len(hops) - len(arc(plan, circuit)))
+    return Cell("kept")
+
+
+def compare(plan, stage, scene):
+    """Where the text and the restoration model differ, in words."""
+    result = []
+    if stage.applied != scene.applied:
+        result.append(f"{stage.name}: other spans are applied")
+    for circuit in plan.circuits:
+        joined, cell = is_joined(plan, circuit, scene.applied), stage.cells[circuit.name]
+        if cell.kind == "odd" or joined != (cell.kind in ("kept", "over")):
+            result.append(f"{stage.name}: {circuit.name} is {cell.short()}, by the model {'joined' if joined else 'not joined'}")
+    return result
+
+
+def judge(case, plan, text, status):
+    """The verdict on one case, from its plan and what the program answered."""
+    verdict = Verdict(case, status)
+    try:
+        report = read_report(text, plan)
+        for scene, settled in zip(scenes(plan, [step.round for step in report.settled]), report.settled):
+            applied = applied_by_states(plan, settled.nodes)
+            cells = {circuit.name: cell_of(plan, circuit, settled, applied, scene.slips) for circuit in plan.circuits}
+            stage = Stage(STAGES[scene.number - 1], settled.round, applied, cells)
+            verdict.stages.append(stage)
+            verdict.differs += compare(plan, stage, scene)
+        if report.done != (status == 0):
+            verdict.problem = f"status {status} doesn't go with the text's end `{report.last}`"
+        elif not report.done:
+            where = f" in stage `{STAGES[report.unsettled - 1]}`" if report.unsettled else ""
+            verdict.problem = f"{verdict.status_words()}{where}: `{report.last}`"
+    except ReportProblem as problem:
+        answered = f"{verdict.status_words()}: " if status != 0 else ""
+        verdict.problem = f"{answered}{problem}"
+    return verdict
+
+
+def table_head(plan):
+    """Names of circuits have no capitals, so no two columns have one name."""
+    fixed = ["Case", "Kind", "Failure", "Status", "Stage", "Round", "Applied", "Kept", "Over", "Lost", "Odd", "Model"]
+    return fixed + [circuit.name for circuit in plan.circuits]
+
+
+def table_rows(plan, verdict):
+    """One row for each stage; empty cells where a stage didn't come."""
+    for name in STAGES:
+        stage = verdict.stage(name)
+        begin = [verdict.case.name, verdict.case.kind, verdict.case.words, verdict.status_words(), name]
+        if stage is None:
+            yield begin + [""] * (7 + len(plan.circuits))
+            continue
+        applied = " ".join(plan.span_name(span) for span in sorted(stage.applied))
+        counts = [stage.count(kind) for kind in ("kept", "over", "lost", "odd")]
+        model = "differs" if any(words.startswith(f"{name}:") for words in verdict.differs) else "agrees"
+        yield begin + [stage.round, applied, *counts, model, *(stage.cells[circuit.name].short() for circuit in plan.circuits)]
+
+
+def write_table(path, plan, verdicts):
+    with open(path, "w", newline="", encoding="utf-8") as file:
+        writer = csv.writer(file, lineterminator="\n")
+        writer.writerow(table_head(plan))
+        for verdict in verdicts:
+            writer.writerows(table_rows(plan, verdict))

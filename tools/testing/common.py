@@ -1,0 +1,70 @@
+"""What the tests share: where things are, and how the tools are called."""
+
+import html.parser
+import subprocess
+import sys
+from pathlib import Path
+
+TESTING = Path(__file__).resolve().parent
+TOOLS = TESTING.parent
+RINGS = TESTING / "rings"
+STANDIN = f"{sys.executable} {TESTING / 'standin'}"  # a command
+sys.path.insert(0, str(TOOLS))
+
+
+def call(tool, *words, **more):
+    return subprocess.run([sys.executable, str(TOOLS / tool), *map(str, words)], capture_output=True, **more)
+
+
+def ring(name):
+    return RINGS / f"{name}.toml", RINGS / f"{name}.text"
+
+
+def bytes_of(name):
+    plan, text = ring(name)
+    return plan.read_bytes(), text.read_bytes()
+
+
+class Page(html.parser.HTMLParser):
+    """A page's words, its tables by caption as lists of rows, and what its drawings say."""
+
+    def __init__(self, markup):
+        super().__init__()
+        self.tables, self.words, self.titles, self.drawn = [], [], [], []
+        self.open, self.cell = [], None
+        self.feed(markup)
+        self.close()
+
+    def handle_starttag(self, tag, attributes):
+        self.open += [tag] if tag not in ("meta", "br", "path", "circle", "rect", "line") else []
+        if tag == "table":
+            self.tables.append(("", []))
+        elif tag == "tr":
+            self.tables[-1][1].append([])
+        elif tag in ("td", "th"):
+            self.tables[-1][1][-1].append("")
+        elif tag == "br" and self.tables and self.tables[-1][1]:
+            self.tables[-1][1][-1][-1] += " "
+
+    def handle_endtag(self, tag):
+        if tag in self.open:
+            while self.open.pop() != tag:
+                pass
+
+    def handle_data(self, data):
+        if "style" in self.open:
+            return
+        if "svg" in self.open:
+            (self.titles if "title" in self.open else self.drawn).append(data.strip())
+            return
+        self.words.append(data)
+        if "caption" in self.open:
+            self.tables[-1] = (data, self.tables[-1][1])
+        elif "td" in self.open or "th" in self.open:
+            self.tables[-1][1][-1][-1] += data
+
+    def text(self):
+        return " ".join(" ".join(self.words).split())
+
+    def tables_of(self, caption):
+        return [rows[1:] for name, rows in self.tables if name.startswith(caption)]

@@ -1,0 +1,163 @@
+"""Facts of ringview's pages over rings whose texts are known."""
+
+import re
+import unittest
+import xml.etree.ElementTree as ElementTree
+from functools import cache
+
+from common import RINGS, Page, call, ring
+
+DONE = [
+    "healthy", "two-nodes", "no-circuits", "four-nodes", "span-cut", "fibre-cut", "two-cuts-in-one-arc", "node-cut-off",
+    "forced-on-healthy-spans", "mending", "tie", "end-of-waiting", "degraded-below-threshold", "degraded", "pre-emption",
+    "longest-route", "before-maintenance", "all-dark",
+]  # fmt: skip
+REFUSED = {
+    "too-many-nodes": ("a ring has 2 to 16 nodes", "in the document itself"),
+    "repeated-node": ("an earlier node has this identifier", "at node 3, `1`"),
+    "bad-slot": ("the slot isn't one of the rate's", "in circuit 1, `c1`"),
+    "overlap": ("an earlier circuit has one of its spans in its slot", "in circuit 2, `c2`"),
+    "no-settle-at-the-end": ("the last step isn't `settle`", "at step 1, `cut 2 east`"),
+    "unknown-step": ("the step's first word isn't known", "at step 2, `lock 2 east`"),
+    "moment-back": ("the moment lies before the one that was set last", "at step 2, `moment 4`"),
+    "not-toml": ("isn't a TOML document", "no TOML document"),
+    "no-such-port": ("The port that was asked for isn't one of the plan's", ""),
+    "usage": ("words that it doesn't know", ""),
+}
+
+
+@cache
+def page_of(name, *words):
+    ended = call("ringview", *ring(name), *words)
+    if ended.returncode != 0:
+        raise AssertionError(ended.stderr.decode())
+    return ended.stdout.decode()
+
+
+@cache
+def read(name):
+    return Page(page_of(name))
+
+
+class Pages(unittest.TestCase):
+    def spans_of(self, name, step, circuit):
+        """Way and spans of a circuit in one settle step, as its table has them."""
+        for row in read(name).tables_of("Circuits")[step - 1]:
+            if row[1] == circuit:
+                return row[3], row[4]
+        raise AssertionError(f"no {circuit}")
+
+    def test_every_line_of_the_text_is_told(self):
+        for name in DONE:
+            with self.subTest(ring=name):
+                page = read(name)
+                text = page.text()
+                for line in ring(name)[1].read_text().splitlines():
+                    if line.startswith("node "):
+                        west, east = re.search("west (.*) east (.*)", line).groups()
+                        self.assertTrue(west in text and east in text, line)
+                    elif " norm " in line:
+                        self.assertIn(line.split(" ")[-1], text)
+                    elif line.startswith("settle "):
+                        self.assertIn("Settle step {1}, round {3}".format(*line.split(" ")), text)
+
+    def test_no_port_has_what_it_is_not_owed(self):
+        for name in DONE:
+            with self.subTest(ring=name):
+                text = read(name).text()
+                self.assertNotIn("Not what the restoration model says", text)
+                count = len(re.findall(" norm ", ring(name)[1].read_text()))
+                self.assertEqual(text.count("its own customer's bytes, value"), count)
+
+    def test_another_customers_bytes_are_seen(self):
+        plan, text = ring("span-cut")
+        changed = text.parent / "changed.tmp"
+        changed.write_bytes(text.read_bytes().replace(b"00636465", b"00646566"))
+        try:
+            words = Page(call("ringview", plan, changed).stdout.decode()).text()
+        finally:
+            changed.unlink()
+        self.assertIn("Not what the restoration model says: port c1 a.", words)
+
+    def test_states_of_a_cut_span(self):
+        nodes = read("span-cut").tables_of("Nodes")[0]
+        self.assertEqual([row[1] for row in nodes], ["passes through", "switches east", "switches west", "passes through"])
+        self.assertEqual(nodes[1][3], "b3 26 SF (signal fail) to 3 from 2, short path, RDI")
+        self.assertEqual(nodes[0][2], "b3 2a SF (signal fail) to 3 from 2, long path, bridged and switched")
+        spans = read("span-cut").tables_of("Spans")[0]
+        self.assertEqual(spans[1], ["2–3", "2 → 3: cut", "3 → 2: cut", "signal fail", "applied"])
+        self.assertEqual([row[4] for row in spans], ["", "applied", "", ""])
+
+    def test_ways(self):
+        self.assertEqual(self.spans_of("span-cut", 1, "c1"), ("1 → 2, protection 2 → 1 → 4 → 3", "4 spans (+2 over protection)"))
+        self.assertEqual(self.spans_of("two-cuts-in-one-arc", 1, "c1"), ("protection 1 → 4", "1 span (-2 over protection)"))
+        self.assertEqual(self.spans_of("four-nodes", 1, "c1"), ("1 → 2 → 3", "2 spans"))
+        self.assertEqual(self.spans_of("two-nodes", 2, "p")[1], "1 span (+0 over protection)")
+        self.assertEqual(self.spans_of("longest-route", 1, "c1")[1], "29 spans (+14 over protection)")
+        self.assertEqual(self.spans_of("before-maintenance", 2, "l3-2"), ("protection 2 → 1 → 4 → 3", "3 spans (+2 over protection)"))
+        self.assertEqual(self.spans_of("node-cut-off", 1, "x"), ("not joined", "lost"))
+        self.assertEqual(self.spans_of("forced-on-healthy-spans", 1, "y"), ("2 → 3", "1 span"))
+        self.assertEqual(self.spans_of("tie", 2, "c1")[1], "2 spans")
+
+    def test_changes_are_told(self):
+        text = read("end-of-waiting").text()
+        self.assertIn("fibre 2 → 3: clear (was cut)", text)
+        self.assertIn("span 2–3: wait to restore, applied (was signal fail, applied)", text)
+        self.assertIn("circuit c1: 2 spans (was: 4 spans (+2 over protection))", text)
+        self.assertIn("node 2: idle (was: switches east)", text)
+        self.assertIn("node 2, east side: command manual (was none)", read("before-maintenance").text())
+
+    def test_degrees_and_commands_are_drawn(self):
+        self.assertIn("→3", read("degraded").drawn)
+        self.assertIn("⚑ forced east", read("forced-on-healthy-spans").drawn)
+        self.assertIn("fibre 2 → 3: degraded by 3", read("degraded").titles)
+
+    def test_drawings_have_all_their_parts(self):
+        for name in DONE:
+            for step, svg in enumerate(re.findall(r"<svg class=\"drawing\" viewBox.*?</svg>", page_of(name), re.S)):
+                parts = ElementTree.fromstring(svg) if "<title>" in svg else None
+                if parts is None:
+                    continue
+                with self.subTest(ring=name, svg=step):
+                    titles = [title.text for title in parts.iter("title")]
+                    nodes = re.search(r"nodes = \[(.*)\]", ring(name)[0].read_text())[1].split(", ")
+                    circuits = ring(name)[0].read_text().count("[[circuit]]")
+                    self.assertEqual(sum(title.startswith("node ") for title in titles), len(nodes))
+                    self.assertEqual(sum(title.startswith("fibre ") for title in titles), 2 * len(nodes))
+                    self.assertEqual(sum(title.startswith("circuit ") for title in titles), circuits)
+                    self.assertEqual(sum(title.startswith("port ") for title in titles), 2 * circuits)
+
+    def test_one_drawing_alone(self):
+        drawing = ElementTree.fromstring(page_of("mending", "--svg", "2"))
+        self.assertEqual(drawing.tag, "{http://www.w3.org/2000/svg}svg")
+        self.assertEqual(drawing.find("{http://www.w3.org/2000/svg}title").text, "Settle step 2, round 256")
+
+    def test_pages_are_whole_by_themselves(self):
+        for name in [*DONE, *REFUSED]:
+            self.assertIsNone(re.search(r"<script|https?://(?!www\.w3\.org)|<link|@import|url\(", page_of(name)))
+
+    def test_refusals_say_why_and_where(self):
+        for name, (why, where) in REFUSED.items():
+            with self.subTest(ring=name):
+                text = read(name).text()
+                self.assertIn("The program refused this.", text)
+                self.assertIn(why, text)
+                self.assertIn(where, text)
+                self.assertIn(ring(name)[1].read_text().strip(), text)
+
+    def test_a_run_that_does_not_settle(self):
+        self.assertIn("Settle step 1 didn't settle within the limit of 128 rounds", read("limit-too-small").text())
+
+    def test_other_texts(self):
+        table = read("squelch-tables").tables_of("Squelch tables")[0]
+        self.assertEqual(table, [["1", "east", "1", "c1", "1", "2"], ["2", "west", "1", "c1", "1", "2"]])
+        self.assertIn("delivers this chunk", read("dropped-chunk").text())
+        self.assertIn("20 ports deliver bytes, 4 AIS.", read("large").text())
+
+    def test_all_rings_are_asked(self):
+        known = {*DONE, *REFUSED, "limit-too-small", "squelch-tables", "dropped-chunk", "large"}
+        self.assertEqual({path.stem for path in RINGS.glob("*.toml")}, known)
+
+
+if __name__ == "__main__":
+    unittest.main()
