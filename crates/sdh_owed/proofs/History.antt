@@ -143,17 +143,17 @@ module _ (law : SettledRingsRestore) (s : Settings) (ids : List ℕ) (circuits :
       → HasCircuits l → Stands earlier changes w → AreSteps s.rate (length ids) past steps → Runs limit before steps w reports end left → AreOwed l earlier changes before steps reports end
   walk limit before past earlier changes [] w reports end left form h each x = (x.1.0, inl x.1.1)
   walk limit before past earlier changes (step.Fibre e ∷ later) w reports end left form h each (inl x) =
-      walk limit before _ earlier (changes ++ changes_of (step.Fibre e)) later _ reports end left form (changed_then earlier changes w (step.Fibre e) each.0 h) each.3 x
+      walk limit before _ earlier (changes ++ changes_of (step.Fibre e)) later _ reports end left form (changed_then earlier changes w (step.Fibre e) each.0.in_ring h) each.1 x
   walk limit before past earlier changes (step.Fibre e ∷ later) w reports end left form h each (inr x) =
       subst (λ rs. AreOwed l earlier changes before (step.Fibre e ∷ later) rs end) (sym x.1.0) (owed_none l earlier changes before (step.Fibre e ∷ later) end x.1.1)
   walk limit before past earlier changes (step.Order p d c ∷ later) w reports end left form h each x =
-      walk limit before _ earlier (changes ++ changes_of (step.Order p d c)) later _ reports end left form (changed_then earlier changes w (step.Order p d c) each.0 h) each.3 x
+      walk limit before _ earlier (changes ++ changes_of (step.Order p d c)) later _ reports end left form (changed_then earlier changes w (step.Order p d c) each.0.in_ring h) each.1 x
   walk limit before past earlier changes (step.Moment m ∷ later) w reports end left form h each x =
-      walk limit before _ earlier (changes ++ changes_of (step.Moment m)) later _ reports end left form (changed_then earlier changes w (step.Moment m) each.0 h) each.3 x
+      walk limit before _ earlier (changes ++ changes_of (step.Moment m)) later _ reports end left form (changed_then earlier changes w (step.Moment m) each.0.in_ring h) each.1 x
   walk limit before past earlier changes (step.Settle ∷ later) w reports end left form h each (inl x) =
       let there = settled_then earlier changes w x.0 limit (before + 1) form h x.2 in
       subst (λ rs. AreOwed l earlier changes before (step.Settle ∷ later) rs end) (sym x.3)
-      (number_is (before + 1) x.0, there.0, walk limit (before + 1) _ _ [] later x.0 x.1 end left form there.1 each.3 x.4)
+      (number_is (before + 1) x.0, there.0, walk limit (before + 1) _ _ [] later x.0 x.1 end left form there.1 each.1 x.4)
   walk limit before past earlier changes (step.Settle ∷ later) w reports end left form h each (inr (inl x)) = subst (λ rs. AreOwed l earlier changes before (step.Settle ∷ later) rs end) (sym x.1.0) (inl x.1.1)
   walk limit before past earlier changes (step.Settle ∷ later) w reports end left form h each (inr (inr x)) = subst (λ rs. AreOwed l earlier changes before (step.Settle ∷ later) rs end) (sym x.1.0) (inr x.1.1)
 

@@ -49,12 +49,12 @@ settled_next limit before listing w left t u few s prepared room later h =
     let c = report_room listing n (length w.ring.circuits.circuits) in
     let held = settled_held w left limit s in
     let most : length s.rounds ≤ limit = s.settles.within in
-    let enough : before + 1 ≤ 64 = h.steps_fit.2 in
+    let enough : before + 1 ≤ 64 = h.steps_fit.0.few_settles in
     let grown : left.ring.rounds ≡ w.ring.rounds + length s.rounds = ap (λ (r : HeldRing). r.rounds) held in
     let one : c * (64 - before) ≡ c * (64 - (before + 1)) + c = more c (64 - before) (64 - (before + 1)) (omega arith) in
     let Shape = λ (r : HeldRing). (r.broken ≡ false) × IsPrepared r.settings.rate (length r.ids) left.fibres × AreSteps r.settings.rate (length r.ids) (past_of (before + 1) r) later × MayList (length r.circuits.circuits) listing
     × (report_room listing (length r.ids) (length r.circuits.circuits) * (64 - (before + 1)) + 96 ≤ u.room) in
-    let old : Shape (record w.ring { nodes = left.ring.nodes; rounds = w.ring.rounds + length s.rounds }) = (h.whole, prepared, h.steps_fit.3, h.listed, omega (arith, h.room, room, one)) in
+    let old : Shape (record w.ring { nodes = left.ring.nodes; rounds = w.ring.rounds + length s.rounds }) = (h.whole, prepared, h.steps_fit.1, h.listed, omega (arith, h.room, room, one)) in
     let new : Shape left.ring = subst Shape (sym held) old in
     record {
       whole = new.0;
@@ -91,8 +91,8 @@ changed_may : (listing : Listing) (before : ℕ) (s : Step) (later : List Step) 
 unfolding changed
 changed_may listing before (step.Fibre e) later w t other h = record {
   whole = h.whole;
-  prepared = stay_prepared.apply w.ring.settings.rate (length w.ring.ids) w.fibres e.at.0 e.side e.condition h.steps_fit.0.1 h.prepared;
-  steps_fit = h.steps_fit.3;
+  prepared = stay_prepared.apply w.ring.settings.rate (length w.ring.ids) w.fibres e.at.0 e.side e.condition h.steps_fit.0.in_ring.1 h.prepared;
+  steps_fit = h.steps_fit.1;
   few = h.few;
   rounds = h.rounds;
   listed = h.listed;
@@ -101,7 +101,7 @@ changed_may listing before (step.Fibre e) later w t other h = record {
 changed_may listing before (step.Order p d c) later w t other h = record {
   whole = h.whole;
   prepared = h.prepared;
-  steps_fit = h.steps_fit.3;
+  steps_fit = h.steps_fit.1;
   few = h.few;
   rounds = h.rounds;
   listed = h.listed;
@@ -110,7 +110,7 @@ changed_may listing before (step.Order p d c) later w t other h = record {
 changed_may listing before (step.Moment m) later w t other h = record {
   whole = h.whole;
   prepared = h.prepared;
-  steps_fit = h.steps_fit.3;
+  steps_fit = h.steps_fit.1;
   few = h.few;
   rounds = h.rounds;
   listed = h.listed;
@@ -134,7 +134,7 @@ pub may_first : (listing : Listing) (before : ℕ) (s : Step) (later : List Step
 may_first listing before s later r f t h = record {
   whole = h.whole;
   prepared = h.prepared;
-  steps_fit = (h.steps_fit.0, h.steps_fit.1, h.steps_fit.2, tt);
+  steps_fit = (h.steps_fit.0, tt);
   few = h.few;
   rounds = h.rounds;
   listed = h.listed;

@@ -4,6 +4,8 @@
 #![tactic(auto)]
 
 mod reports;
+mod run;
 mod script;
 
+pub use run::{Run, run_plan};
 pub use script::run_script;

@@ -17,7 +17,7 @@ pub put_report-requires-clause-room : goal.put_report-requires-clause-room
 put_report-requires-clause-room g c =
     let r = c.args.ring.now in
     let room = report_room c.args.listing (length r.ids) (length r.circuits.circuits) in
-    let enough : c.args.number + 1 ≤ 64 = c.requires.may.steps_fit.2 in
+    let enough : c.args.number + 1 ≤ 64 = c.requires.may.steps_fit.0.few_settles in
     let same = ap (λ (x : HeldRing). report_room c.args.listing (length x.ids) (length x.circuits.circuits)) (settled_held _ _ c.args.limit c.in-Ok.ensures.outcome) in
     let there : room ≤ c.args.text.now.room = one room (64 - c.args.number) c.args.text.now.room (omega arith) c.requires.may.room in
     omega (arith, same, there)

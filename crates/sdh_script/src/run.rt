@@ -1,0 +1,119 @@
+//! A whole run: the room, the ring and the fibres are made, and the script runs.
+ghost use Rattle.std.specs.Prelude.{◌≡◌, ◌+◌, ◌*◌, ◌≤◌, true, length, IfOk};
+ghost use Rattle.sdh_basics.specs.Causes.{Rose};
+ghost use Rattle.sdh_plant.specs.Fibres.{HasNoFibres};
+ghost use Rattle.sdh_plant.specs.Arrivals.{Knows};
+ghost use Rattle.sdh_world.specs.Held.{HeldRing};
+ghost use Rattle.sdh_world.specs.Rounds.{world};
+ghost use Rattle.sdh_script.specs.Room.{report_room, MayList};
+ghost use Rattle.sdh_script.specs.Running.{MayRun, Lists};
+ghost use Rattle.sdh_script.specs.Plans.{world_of, ran_of, Comes, ComesKnown, IsOwedText};
+
+use crate::script::run_script;
+use sdh_circuits::CircuitMap;
+use sdh_plan::{Plan, Step};
+use sdh_plant::{Plant, PrepareError};
+use sdh_report::{Listing, Status, Text};
+use sdh_ring::Ring;
+use sdh_ringmap::RingMap;
+use std::alloc::{AllocError, Global};
+
+/// What a run wrote, and how it ended: `Ok`, `Unsettled` or `PlantFault`. There is room for one more line.
+#[derive(Drop)]
+pub struct Run {
+    pub status: Status,
+    pub text: Text,
+}
+
+// Room for what is listed of 64 reports, and a last line, in bytes.
+fn room_for(listing: Listing, map: &RingMap, circuits: &CircuitMap) -> usize
+    ensures { result ≡ report_room listing (length map.now) (length circuits.now.circuits) * 64 + 96 }
+{
+    let nodes = map.len();
+    let circuits = circuits.len();
+    let report = match listing {
+        Listing::Reports => 96 + 96 * nodes + 192 * circuits,
+        Listing::Port(_) => 4707,
+        Listing::Counts => 96,
+    };
+    report * 64 + 96
+}
+
+// The script over a ring and its fibres.
+fn run_from<P: Plant>(
+    mut ring: Ring,
+    plant: &mut P,
+    steps: &[Step],
+    limit: u32,
+    listing: Listing,
+    mut text: Text,
+) -> Run
+    requires may { MayRun listing 0 steps.now ring (P.fibres plant.old) text }
+    requires some { 1 ≤ limit }
+    requires few { limit ≤ 65536 }
+    ensures ran { (left : HeldRing) × Lists limit listing steps.now (world ring (P.fibres plant.old)) text.bytes result.text.bytes result.status (world left (P.fibres plant.new)) }
+    ensures room { 96 ≤ result.text.room }
+    ensures later { P.faults plant.old ≤ P.faults plant.new }
+    ensures failed { result.status ≡ Status.PlantFault → Rose (P.faults plant.old) (P.faults plant.new) }
+{
+    let status = run_script(&mut ring, plant, steps, limit, listing, &mut text);
+    Run { status, text }
+}
+
+// Makes the room, the ring and the fibres of a plan, and runs its script.
+fn run_new<P: Plant>(
+    alloc: Global,
+    plan: Plan,
+    plant: &mut P,
+    listing: Listing,
+) -> Result<Run, AllocError>
+    requires fresh { HasNoFibres (P.fibres plant.old) }
+    requires listing { MayList (length plan.circuits) listing }
+    ensures ran { IfOk result (λ run. Comes plan listing (P.fibres plant.old) run.text.bytes run.status (P.fibres plant.new)) }
+    ensures failed { IfOk result (λ run. run.status ≡ Status.PlantFault → Rose (P.faults plant.old) (P.faults plant.new)) }
+    ensures later { P.faults plant.old ≤ P.faults plant.new }
+    ensures room { IfOk result (λ run. 96 ≤ run.text.room) }
+{
+    let settings = plan.settings();
+    let limit = plan.limit();
+    let text = Text::try_new(alloc, room_for(listing, plan.map(), plan.circuits()))?;
+    let nodes = plan.map().len();
+    let (map, circuits, steps) = plan.into_parts();
+    let ring = Ring::try_new(alloc, settings, map, circuits)?;
+    match plant.prepare(alloc, settings.rate, nodes) {
+        Ok(()) => Ok(run_from(ring, plant, &steps, limit, listing, text)),
+        Err(PrepareError::Memory) => Err(AllocError),
+        Err(PrepareError::Failed) => Ok(Run {
+            status: Status::PlantFault,
+            text,
+        }),
+    }
+}
+
+/// Runs the script of a plan over new fibres and lists the reports. All memory is taken before the first round.
+pub fn run_plan<P: Plant>(
+    alloc: Global,
+    plan: Plan,
+    plant: &mut P,
+    listing: Listing,
+) -> Result<Run, AllocError>
+    requires fresh { HasNoFibres (P.fibres plant.old) }
+    requires listing { MayList (length plan.circuits) listing }
+
+    // The text and the ending over every plant; where the arrivals are known; and what the reports show over honest fibres.
+    ensures ran { IfOk result (λ run. Comes plan listing (P.fibres plant.old) run.text.bytes run.status (P.fibres plant.new)) }
+    ensures known { IfOk result (λ run. Knows (world_of plan (P.fibres plant.old)).fibres → ComesKnown plan listing (P.fibres plant.old) run.text.bytes run.status (P.fibres plant.new)) }
+    ensures owed { IfOk result (λ run. (P.fibres plant.old).honest ≡ true → IsOwedText plan listing run.text.bytes run.status) }
+
+    // A fault has a cause, and without one a script that settles is done.
+    ensures failed { IfOk result (λ run. run.status ≡ Status.PlantFault → Rose (P.faults plant.old) (P.faults plant.new)) }
+    ensures complete { IfOk result (λ run. Knows (world_of plan (P.fibres plant.old)).fibres → (ran_of plan (P.fibres plant.old)).ending ≡ Status.Ok → ¬ (Rose (P.faults plant.old) (P.faults plant.new)) → run.status ≡ Status.Ok) }
+    ensures later { P.faults plant.old ≤ P.faults plant.new }
+    ensures room { IfOk result (λ run. 96 ≤ run.text.room) }
+{
+    sdh_owed::known_scripts();
+    sdh_owed::reports_are_owed();
+    // Reading it gives the proof what is true of every plan.
+    let _steps = plan.steps();
+    run_new(alloc, plan, plant, listing)
+}
