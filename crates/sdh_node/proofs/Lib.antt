@@ -7,3 +7,4 @@ pub mod Turning
 pub mod Steps
 pub mod Calm
 pub mod Decided
+pub mod Places
