@@ -84,6 +84,10 @@ pub port_missing : (id : PortId) (ports : List Tributary) → position (is_port 
 unfolding port_of
 port_missing id ports none = find-none (is_port id) ports none
 
+pub place_within : (id : PortId) (ports : List Tributary) (i : ℕ) → position (is_port id) ports ≡ Some i → i < length ports
+place_within id [] i e = cc
+place_within id (t ∷ ts) i e = (position-Some (is_port id) (t ∷ ts) i t e).0
+
 -- ---- what ports send
 
 -- a port is found in a list of changed ports, where the change is none of its name

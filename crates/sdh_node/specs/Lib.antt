@@ -3,6 +3,7 @@ pub mod Receiving
 pub mod Passing
 pub mod Outlets
 pub mod Tributaries
+pub mod Places
 pub mod Crossing
 pub mod Sending
 pub mod Node

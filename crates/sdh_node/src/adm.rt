@@ -12,7 +12,7 @@ use crate::cross::CrossConnect;
 use crate::outlet::Delivered;
 use crate::sender::Sender;
 use crate::settings::Settings;
-use crate::tributary::{Tributary, deliver_all, feed_all, outlet_of, tributaries_at};
+use crate::tributaries::Tributaries;
 use sdh_circuits::{CircuitMap, PortId};
 use sdh_frame::FrameBuf;
 use sdh_kbytes::{Code, K, Mark, Path};
@@ -29,7 +29,7 @@ pub struct Adm {
     settings: Settings,
     rounds: u64,
     cross: CrossConnect,
-    ports: Vec<Tributary>,
+    ports: Tributaries,
     west_out: Sender,
     east_out: Sender,
     calm: bool,
@@ -40,9 +40,9 @@ impl Model for Adm {
 
     ghost Value = { Node };
 
-    ghost view = { λ a. record { settings = a.settings; ids = a.cross.ids; at = a.cross.at; circuits = a.cross.circuits; rounds = a.rounds; west = a.cross.west; east = a.cross.east; state = a.cross.state; ports = a.ports.items; west_out = a.west_out; east_out = a.east_out; calm = a.calm } };
+    ghost view = { λ a. record { settings = a.settings; ids = a.cross.ids; at = a.cross.at; circuits = a.cross.circuits; rounds = a.rounds; west = a.cross.west; east = a.cross.east; state = a.cross.state; ports = a.ports; west_out = a.west_out; east_out = a.east_out; calm = a.calm } };
 
-    ghost invariant = { λ a. IsNode (record { settings = a.settings; ids = a.cross.ids; at = a.cross.at; circuits = a.cross.circuits; rounds = a.rounds; west = a.cross.west; east = a.cross.east; state = a.cross.state; ports = a.ports.items; west_out = a.west_out; east_out = a.east_out; calm = a.calm }) };
+    ghost invariant = { λ a. IsNode (record { settings = a.settings; ids = a.cross.ids; at = a.cross.at; circuits = a.cross.circuits; rounds = a.rounds; west = a.cross.west; east = a.cross.east; state = a.cross.state; ports = a.ports; west_out = a.west_out; east_out = a.east_out; calm = a.calm }) };
 }
 
 // The word to the neighbour on a side that asks for nothing.
@@ -82,7 +82,7 @@ impl Adm {
             settings,
             rounds: 0,
             cross: CrossConnect::try_new(alloc, settings, map, circuits, at)?,
-            ports: tributaries_at(alloc, circuits, at)?,
+            ports: Tributaries::try_new(alloc, circuits, at)?,
             west_out: Sender::try_new(alloc, settings, west)?,
             east_out: Sender::try_new(alloc, settings, east)?,
             calm: false,
@@ -111,7 +111,7 @@ impl Adm {
     pub(crate) fn has(&self, port: PortId) -> bool
         ensures { IsTrue result → HasPort self.now.ports port }
     {
-        crate::tributary::has_port(&self.ports, port)
+        self.ports.find(port).is_some()
     }
 
     /// What a port of the node delivered in the last round, and AIS before the first.
@@ -119,7 +119,7 @@ impl Adm {
         requires { HasPort self.now.ports port }
         ensures { result.now ≡ (outlet_of port self.now.ports).delivered }
     {
-        outlet_of(&self.ports, port).delivered()
+        self.ports.outlet(port).delivered()
     }
 
     /// The value of the interpreter through which a port's chunk came, and 0 where it delivers AIS.
@@ -128,7 +128,7 @@ impl Adm {
         ensures value { result ≡ (outlet_of port self.now.ports).value }
         ensures small { result ≤ 782 }
     {
-        outlet_of(&self.ports, port).value()
+        self.ports.outlet(port).value()
     }
 
     /// The state.
@@ -185,8 +185,8 @@ impl Adm {
         let (sent, decided) = self.cross.decide();
         let west_said = self.west_out.say(sent.west);
         let east_said = self.east_out.say(sent.east);
-        deliver_all(&self.cross, &mut self.ports);
-        feed_all(&mut self.ports);
+        self.ports.deliver(&self.cross);
+        self.ports.feed();
         self.rounds += 1;
         let west_made = self
             .west_out

@@ -13,7 +13,7 @@ ghost use Rattle.sdh_node.specs.Node.{new_cross, compared_in};
 ghost use Rattle.sdh_node.specs.Crossing.{on_side, intake_on, at_side, half_of, after_intakes, scene_of, after_decision, received, leaving, slot_of, dropped_at};
 ghost use Rattle.sdh_node.specs.Outlets.{chunk_form, chunk_from, delivered_from};
 
-use crate::intake::{Intake, h3_at};
+use crate::intake::Intake;
 use crate::outlet::Outlet;
 use crate::receiver::Receiver;
 use crate::settings::Settings;
@@ -249,53 +249,41 @@ impl CrossConnect {
     }
 
     // Delivers an AU-4 that isn't AIS.
-    fn deliver_chunk(&self, side: Side, au: u16, outlet: &mut Outlet, scratch: &mut [u8])
+    fn deliver_chunk(&self, side: Side, au: u16, outlet: &mut Outlet)
         requires first { 1 ≤ au }
         requires last { au ≤ n_of self.now.west.section.rate }
-        requires scratch { length scratch.old ≡ 2349 }
-        ensures outlet { outlet.new ≡ chunk_from (received self.now side au) }
-        ensures scratch { length scratch.new ≡ 2349 }
+        ensures { outlet.new ≡ chunk_from (received self.now side au) }
     {
         let frame = self.intake(side).frame();
-        let h3 = h3_at(frame, au);
-        frame.take_payload(au, scratch);
-        outlet.deliver(
-            scratch,
-            &h3,
-            chunk_form(self.action(side, au)),
-            self.value(side, au),
-        );
+        let form = chunk_form(self.action(side, au));
+        outlet.deliver(frame, au, form, self.value(side, au));
     }
 
     // Delivers an AU-4.
     #[tactic(auto, unfolding(crate::specs::Outlets::delivered_from))]
-    fn deliver_from(&self, side: Side, au: u16, outlet: &mut Outlet, scratch: &mut [u8])
+    fn deliver_from(&self, side: Side, au: u16, outlet: &mut Outlet)
         requires first { 1 ≤ au }
         requires last { au ≤ n_of self.now.west.section.rate }
-        requires scratch { length scratch.old ≡ 2349 }
-        ensures outlet { outlet.new ≡ delivered_from (received self.now side au) }
-        ensures scratch { length scratch.new ≡ 2349 }
+        ensures { outlet.new ≡ delivered_from (received self.now side au) }
     {
         match self.action(side, au) {
             Action::Ais => outlet.silence(),
-            _ => self.deliver_chunk(side, au, outlet, scratch),
+            _ => self.deliver_chunk(side, au, outlet),
         }
     }
 
     /// Delivers what the working arrival of a slot from a side stands for.
     #[tactic(auto, unfolding(crate::specs::Crossing::dropped_at, crate::specs::Outlets::delivered_from))]
-    pub fn deliver(&self, side: Side, slot: Slot, outlet: &mut Outlet, scratch: &mut [u8])
+    pub fn deliver(&self, side: Side, slot: Slot, outlet: &mut Outlet)
         requires first { 1 ≤ slot.0 }
         requires last { slot.0 ≤ half_of self.now }
-        requires scratch { length scratch.old ≡ 2349 }
-        ensures outlet { outlet.new ≡ delivered_from (dropped_at self.now side slot.0) }
-        ensures scratch { length scratch.new ≡ 2349 }
+        ensures { outlet.new ≡ delivered_from (dropped_at self.now side slot.0) }
     {
         let half = self.half();
         let au = u16::from(slot.0);
         match drop_origin(&self.state, &self.map, &self.table, self.at, side, slot) {
-            Origin::Working(from) => self.deliver_from(from, au, outlet, scratch),
-            Origin::Protection(from) => self.deliver_from(from, half + au, outlet, scratch),
+            Origin::Working(from) => self.deliver_from(from, au, outlet),
+            Origin::Protection(from) => self.deliver_from(from, half + au, outlet),
             Origin::Add(_) | Origin::Ais => outlet.silence(),
         }
     }

@@ -13,6 +13,7 @@ mod passing;
 mod receiver;
 mod sender;
 mod settings;
+mod tributaries;
 mod tributary;
 
 pub use adm::Adm;

@@ -1,8 +1,13 @@
 //! What a port delivers.
-ghost use Rattle.std.specs.Prelude.{◌≡◌, ◌≤◌, length, IfOk};
+ghost use Rattle.std.specs.Prelude.{◌≡◌, ◌≤◌, IfOk};
+ghost use Rattle.sdh_frame.specs.Sizes.{n_of};
+ghost use Rattle.sdh_frame.specs.Aus.{au_of};
 ghost use Rattle.sdh_payload.specs.Chunk.{taken};
+ghost use Rattle.sdh_node.specs.Passing.{h3_of};
 ghost use Rattle.sdh_node.specs.Outlets.{Outlet, silent};
 
+use crate::intake::h3_at;
+use sdh_frame::FrameBuf;
 use sdh_payload::{Cells, ChunkForm, take_chunk};
 use std::alloc::{AllocError, Global};
 use std::marker::Model;
@@ -72,17 +77,29 @@ impl Outlet {
         self.value = 0;
     }
 
-    /// Delivers the bytes of an AU-4.
-    pub fn deliver(&mut self, payload: &[u8], h3: &[u8], form: ChunkForm, value: u16)
-        requires payload { length payload.now ≡ 2349 }
-        requires h3 { length h3.now ≡ 3 }
+    /// Delivers an AU-4 of a frame.
+    pub fn deliver(&mut self, frame: &FrameBuf, au: u16, form: ChunkForm, value: u16)
+        requires first { 1 ≤ au }
+        requires last { au ≤ n_of frame.now.rate }
         requires value { value ≤ 782 }
-        ensures { self.new ≡ record { delivered = Delivered.Chunk (taken form payload.now h3.now); value = value } }
+        ensures { let came = au_of (n_of frame.now.rate) au frame.now.bytes in self.new ≡ record { delivered = Delivered.Chunk (taken form came.payload (h3_of came.pointers)); value = value } }
     {
         self.is_here = true;
         self.value = value;
         if let Delivered::Chunk(cells) = &mut self.chunk {
-            take_chunk(payload, h3, form, cells);
+            take_au(frame, au, form, cells);
         }
     }
+}
+
+// The bytes that a port takes from an AU-4 of a frame.
+#[tactic(auto, using(sdh_payload::proofs::Splicing::written_whole))]
+fn take_au(frame: &FrameBuf, au: u16, form: ChunkForm, cells: &mut Cells)
+    requires first { 1 ≤ au }
+    requires last { au ≤ n_of frame.now.rate }
+    ensures { let came = au_of (n_of frame.now.rate) au frame.now.bytes in cells.new ≡ taken form came.payload (h3_of came.pointers) }
+{
+    frame.take_payload(au, cells.lend_payload());
+    let h3 = h3_at(frame, au);
+    take_chunk(form, &h3, cells);
 }

@@ -11,7 +11,8 @@ ghost use Rattle.sdh_node.specs.Crossing.{received, half_of, input_of, input_at}
 
 use crate::cross::CrossConnect;
 use crate::intake::h3_at;
-use crate::tributary::{Tributary, place_of};
+use crate::tributaries::Tributaries;
+use crate::tributary::Tributary;
 use sdh_bridge::Origin;
 use sdh_circuits::PortId;
 use sdh_frame::FrameBuf;
@@ -130,18 +131,15 @@ fn send_own(port: &Tributary, generator: &mut Gen, out: &mut FrameBuf, to: u16)
 }
 
 // Adds the stream of the port with this name, if it is there.
-#[tactic(auto, using(crate::proofs::Ports::port_found, crate::proofs::Ports::port_missing), unfolding(crate::specs::Tributaries::sent_in))]
-fn add(id: PortId, ports: &[Tributary], generator: &mut Gen, out: &mut FrameBuf, to: u16)
+#[tactic(auto, unfolding(crate::specs::Tributaries::sent_in))]
+fn add(id: PortId, ports: &Tributaries, generator: &mut Gen, out: &mut FrameBuf, to: u16)
     requires to_first { 1 ≤ to }
     requires to_last { to ≤ n_of out.old.rate }
     ensures generator { let input = added_last ports.now id in generator.new ≡ after_action generator.old input.action input.value }
     ensures frame { out.new ≡ record out.old { bytes = with_au (n_of out.old.rate) to (au_sent generator.old.sending (added_last ports.now id)) out.old.bytes } }
 {
-    match place_of(ports, id) {
-        Some(i) => {
-            let port = &ports[i];
-            send_own(port, generator, out, to);
-        }
+    match ports.find(id) {
+        Some(port) => send_own(port, generator, out, to),
         None => send_ais(generator, out, to),
     }
 }
@@ -149,7 +147,7 @@ fn add(id: PortId, ports: &[Tributary], generator: &mut Gen, out: &mut FrameBuf,
 // Sends one AU-4.
 fn send_one(
     cross: &CrossConnect,
-    ports: &[Tributary],
+    ports: &Tributaries,
     slot: u16,
     origin: Origin,
     generator: &mut Gen,
@@ -183,7 +181,7 @@ fn any_moved(generators: &[Gen]) -> bool
 /// All generators of a side send. Whether they are in the states in which they were.
 pub fn send_all(
     cross: &CrossConnect,
-    ports: &[Tributary],
+    ports: &Tributaries,
     side: Side,
     generators: &mut Vec<Gen>,
     out: &mut FrameBuf,

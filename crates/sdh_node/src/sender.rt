@@ -13,7 +13,7 @@ use crate::cross::CrossConnect;
 use crate::making::new_generators;
 use crate::passing::send_all;
 use crate::settings::Settings;
-use crate::tributary::Tributary;
+use crate::tributaries::Tributaries;
 use sdh_frame::FrameBuf;
 use sdh_kbytes::{K, encode, same_word};
 use sdh_overhead::{Section, write_section};
@@ -77,7 +77,7 @@ impl Sender {
     pub fn send(
         &mut self,
         cross: &CrossConnect,
-        ports: &[Tributary],
+        ports: &Tributaries,
         side: Side,
         out: &mut FrameBuf,
     ) -> bool

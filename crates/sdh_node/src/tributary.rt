@@ -1,8 +1,8 @@
 //! The ports of circuits at a node.
-ghost use Rattle.std.specs.Prelude.{◌≡◌, ℕ, ◌+◌, ◌-◌, ◌^◌, ◌<◌, ◌≤◌, [], ◌∷◌, ◌++◌, if◌then◌else◌, All, IsTrue, IfOk, OnOk, IfSome, length, position};
+ghost use Rattle.std.specs.Prelude.{◌≡◌, ℕ, ◌+◌, ◌-◌, ◌^◌, ◌<◌, ◌≤◌, [], ◌∷◌, ◌++◌, if◌then◌else◌, All, IfOk, OnOk, IfSome, length, position};
 ghost use Rattle.sdh_circuits.specs.Provisioned.{customer_at};
 ghost use Rattle.sdh_payload.specs.Stream.{chunk_of};
-ghost use Rattle.sdh_node.specs.Tributaries.{new_tributary, ends_at, tributaries_at, is_port, HasPort, outlet_of, own_chunk, fed, all_fed, IsTributary};
+ghost use Rattle.sdh_node.specs.Tributaries.{new_tributary, ends_at, tributaries_at, is_port, own_chunk, fed, all_fed, IsTributary};
 ghost use Rattle.sdh_node.specs.Crossing.{half_of, delivered_to, all_delivered};
 
 use crate::cross::CrossConnect;
@@ -109,14 +109,12 @@ impl Tributary {
     }
 
     /// Delivers what the node's state leads to it.
-    pub fn deliver(&mut self, cross: &CrossConnect, scratch: &mut [u8])
+    pub fn deliver(&mut self, cross: &CrossConnect)
         requires first { 1 ≤ self.old.slot.0 }
         requires last { self.old.slot.0 ≤ half_of cross.now }
-        requires scratch { length scratch.old ≡ 2349 }
-        ensures port { self.new ≡ delivered_to cross.now self.old }
-        ensures scratch { length scratch.new ≡ 2349 }
+        ensures { self.new ≡ delivered_to cross.now self.old }
     {
-        cross.deliver(self.side, self.slot, &mut self.outlet, scratch);
+        cross.deliver(self.side, self.slot, &mut self.outlet);
     }
 }
 
@@ -126,35 +124,6 @@ pub fn place_of(ports: &[Tributary], id: PortId) -> Option<usize>
     ensures within { IfSome result (λ i. i < length ports.now) }
 {
     ports.iter().position(|port| port.is(id))
-}
-
-// Whether a port is among those of a node.
-#[cfg(test)]
-#[tactic(auto, using(crate::proofs::Ports::port_found))]
-pub fn has_port(ports: &[Tributary], id: PortId) -> bool
-    ensures { IsTrue result → HasPort ports.now id }
-{
-    match place_of(ports, id) {
-        Some(i) => {
-            // A use of the port, so that the proof may speak of it.
-            let _port = &ports[i];
-            true
-        }
-        None => false,
-    }
-}
-
-/// What a port delivers.
-#[tactic(auto, using(crate::proofs::Ports::port_found, crate::proofs::Ports::port_missing))]
-pub fn outlet_of(ports: &[Tributary], id: PortId) -> &Outlet
-    requires { HasPort ports.now id }
-    ensures { result.now ≡ outlet_of id ports.now }
-{
-    let Some(i) = place_of(ports, id) else {
-        unreachable!()
-    };
-    let port = &ports[i];
-    port.outlet()
 }
 
 /// Each port takes the next chunk of its stream.
@@ -168,22 +137,14 @@ pub fn feed_all(ports: &mut Vec<Tributary>)
     }
 }
 
-// Room for the payload of an AU-4.
-fn blank_payload() -> [u8; 2349]
-    ensures { length result ≡ 2349 }
-{
-    [0; 2349]
-}
-
 /// Each port delivers what the node's state leads to it.
 pub fn deliver_all(cross: &CrossConnect, ports: &mut Vec<Tributary>)
     requires { All (λ t. (1 ≤ t.slot.0) × (t.slot.0 ≤ half_of cross.now)) ports.old.items }
     ensures { ports.new.items ≡ all_delivered cross.now ports.old.items }
 {
-    let mut scratch = blank_payload();
     for i in 0..ports.len() {
         let port = &mut ports[i];
-        port.deliver(cross, &mut scratch);
+        port.deliver(cross);
     }
 }
 

@@ -3,3 +3,4 @@ pub mod Repeating
 pub mod Containers
 pub mod Walking
 pub mod Chunks
+pub mod Splicing

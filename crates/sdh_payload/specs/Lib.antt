@@ -5,3 +5,4 @@ pub mod Stream
 pub mod Walk
 pub mod Feed
 pub mod Laws
+pub mod Room

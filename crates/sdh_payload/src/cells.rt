@@ -1,5 +1,8 @@
 //! A list of bytes with room for a chunk.
-ghost use Rattle.std.specs.Prelude.{◌≡◌, ◌+◌, ◌<◌, ◌≤◌, [], ◌∷◌, ◌++◌, IfOk, length};
+ghost use Rattle.std.specs.Prelude.{◌≡◌, ◌+◌, ◌<◌, ◌≤◌, [], ◌∷◌, ◌++◌, ◌-◌, IfOk, length};
+ghost use Rattle.std.specs.Borrow.{sem};
+ghost use Rattle.sdh_payload.specs.Chunk.{around};
+ghost use Rattle.sdh_payload.specs.Room.{LendsRoom};
 
 use std::alloc::{AllocError, Global};
 use std::marker::Model;
@@ -62,5 +65,37 @@ impl Cells {
         ensures { self.new ≡ self.old ++ bytes.now }
     {
         self.bytes.extend_from_slice(bytes).unwrap();
+    }
+
+    // As many bytes as a payload has, in place of the bytes.
+    fn make_room(&mut self)
+        ensures { length self.new ≡ 2349 }
+    {
+        self.clear();
+        self.bytes.resize(2349, 0).unwrap();
+    }
+
+    /// Lends room for the 2349 bytes of a payload, in place of the bytes. It takes no memory.
+    pub fn lend_payload(&mut self) -> &mut [u8]
+        ensures* lends { sem 𝓛 (LendsRoom self.entry result) }
+        ensures full { length result.now ≡ 2349 }
+    {
+        self.make_room();
+        self.bytes.as_mut_slice()
+    }
+
+    /// Puts other bytes in place of those from one place up to another. It takes no memory.
+    pub fn splice(&mut self, front: usize, back: usize, middle: &[u8])
+        requires ordered { front ≤ back }
+        requires inside { back ≤ length self.old }
+        requires room { front + length middle.now + (length self.old - back) ≤ 2352 }
+        ensures bytes { self.new ≡ around front middle.now back self.old }
+        ensures count { length self.new ≡ front + length middle.now + (length self.old - back) }
+    {
+        let behind = self.bytes.len() - back;
+        self.bytes.rotate_left(back);
+        self.bytes.truncate(behind + front);
+        self.bytes.extend_from_slice(middle).unwrap();
+        self.bytes.rotate_left(behind);
     }
 }

@@ -22,10 +22,9 @@ loop-i-preserved c =
     let i = c.loop-i.i in
     let x = c.index_mut-port.result.now in
     record {
-      done = step_more (λ i t. delivered_to c.args.cross.now t) old now i x _ (omega arith) (omega arith) inv.rest c.index_mut-port.ensures.value c.deliver.ensures.port inv.done;
+      done = step_more (λ i t. delivered_to c.args.cross.now t) old now i x _ (omega arith) (omega arith) inv.rest c.index_mut-port.ensures.value c.deliver.ensures inv.done;
       rest = rest_more now old i _ inv.rest;
       len = search rules;
-      scratch = c.deliver.ensures.scratch;
     }
 
 pub returns : goal.returns

@@ -8,5 +8,4 @@ invariant-loop-i l = record {
   done : take l.i l.ports.items ≡ map_from (λ i t. delivered_to l.cross t) 0 (take l.i l.initial.ports.items);
   rest : drop l.i l.ports.items ≡ drop l.i l.initial.ports.items;
   len : length l.ports.items ≡ length l.initial.ports.items;
-  scratch : length l.scratch ≡ 2349;
 }

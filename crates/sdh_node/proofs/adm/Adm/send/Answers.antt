@@ -1,4 +1,4 @@
-use Rattle.std.proofs.Common.{◌+◌, ◌/◌, ◌<◌, ap, sym, subst, ◌∙◌}
+use Rattle.std.proofs.Common.{◌+◌, ◌/◌, ◌<◌, ap, refl, sym, subst, ◌∙◌}
 use Rattle.std.specs.Prelude.{All, ◌^◌}
 use Rattle.sdh_frame.specs.Sizes.{n_of}
 use Rattle.sdh_node.specs.Tributaries.{Tributary, IsTributary}
@@ -10,13 +10,13 @@ use Rattle.sdh_node.proofs.Rounds.{round_goes_on}
 use Rattle.sdh_node.proofs.Turning.{west_frame_is, east_frame_is, calm_is, node_is}
 use Rattle.sdh_node.proofs.adm.Adm.send.Goals as goal
 
-pub feed_all-requires : goal.feed_all-requires
-feed_all-requires c =
+pub feed-requires : goal.feed-requires
+feed-requires c =
     let i = c.self.inside in
     let slots = n_of i.settings.rate / 2 in
     let few : i.rounds < 2 ^ 32 = subst (λ (n : Node). n.rounds < 2 ^ 32) (sym c.self.view_is) c.requires.few in
-    subst (All (λ (t : Tributary). t.feed.chunks < 2 ^ 32)) (sym c.deliver_all.ensures)
-    (few_chunks slots i.rounds _ few (delivered_are c.decide-decided.new.self slots i.rounds i.ports.items c.self.invariant.ports))
+    subst (All (λ (t : Tributary). t.feed.chunks < 2 ^ 32)) (sym c.deliver.ensures)
+    (few_chunks slots i.rounds _ few (delivered_are c.decide-decided.new.self slots i.rounds i.ports c.self.invariant.ports))
 
 pub invariant_of-self : goal.invariant_of-self
 invariant_of-self c =
@@ -30,27 +30,27 @@ invariant_of-self c =
       west_out_rate = c.send-west_made.ensures.rate ∙ ap (λ (s : Sending). s.section.rate) c.say-west_said.ensures.sender ∙ inv.west_out_rate;
       east_out_rate = c.send-east_made.ensures.rate ∙ ap (λ (s : Sending). s.section.rate) c.say-east_said.ensures.sender ∙ inv.east_out_rate;
       moments = ap (λ (r : Receiving). r.local.moment) east ∙ c.take-taken.ensures.east ∙ sym c.take-taken.ensures.west ∙ sym (ap (λ (r : Receiving). r.local.moment) west);
-      ports = subst (All (IsTributary slots (i.rounds + 1))) (sym c.feed_all.ensures)
-          (fed_are slots i.rounds _ (subst (All (IsTributary slots i.rounds)) (sym c.deliver_all.ensures) (delivered_are c.decide-decided.new.self slots i.rounds i.ports.items inv.ports)));
+      ports = subst (All (IsTributary slots (i.rounds + 1))) (sym c.feed.ensures)
+          (fed_are slots i.rounds _ (subst (All (IsTributary slots i.rounds)) (sym c.deliver.ensures) (delivered_are c.decide-decided.new.self slots i.rounds i.ports inv.ports)));
     }
 
 pub returns-clause-west : goal.returns-clause-west
 returns-clause-west c =
     let i = c.self.inside in
-    west_frame_is c.args.now.0 i.settings i.rounds i.cross i.ports.items i.west_out i.east_out i.calm
-    c.take-taken.new.self c.decide-decided.new.self c.deliver_all.new.ports.items c.feed_all.new.ports.items c.take-taken.ensures.cross c.decide-decided.ensures.cross c.deliver_all.ensures c.feed_all.ensures
-    c.decide-decided.result.0.west c.decide-decided.result.0.east c.say-west_said.new.self c.say-east_said.new.self c.send-west_made.new.self c.send-east_made.new.self c.deref.result.now c.deref-2.result.now
-    c.decide-decided.ensures.west c.decide-decided.ensures.east c.say-west_said.ensures.sender c.say-east_said.ensures.sender c.deref.ensures.value c.deref-2.ensures.value
+    west_frame_is c.args.now.0 i.settings i.rounds i.cross i.ports i.west_out i.east_out i.calm
+    c.take-taken.new.self c.decide-decided.new.self c.deliver.new.self c.feed.new.self c.take-taken.ensures.cross c.decide-decided.ensures.cross c.deliver.ensures c.feed.ensures
+    c.decide-decided.result.0.west c.decide-decided.result.0.east c.say-west_said.new.self c.say-east_said.new.self c.send-west_made.new.self c.send-east_made.new.self c.feed.new.self c.feed.new.self
+    c.decide-decided.ensures.west c.decide-decided.ensures.east c.say-west_said.ensures.sender c.say-east_said.ensures.sender refl refl
     c.send-west_made.new.out c.send-west_made.ensures.frame
     ∙ ap (λ (n : Node). (node_round c.args.now.0 n).1.west) c.self.view_is
 
 pub returns-clause-east : goal.returns-clause-east
 returns-clause-east c =
     let i = c.self.inside in
-    east_frame_is c.args.now.0 i.settings i.rounds i.cross i.ports.items i.west_out i.east_out i.calm
-    c.take-taken.new.self c.decide-decided.new.self c.deliver_all.new.ports.items c.feed_all.new.ports.items c.take-taken.ensures.cross c.decide-decided.ensures.cross c.deliver_all.ensures c.feed_all.ensures
-    c.decide-decided.result.0.west c.decide-decided.result.0.east c.say-west_said.new.self c.say-east_said.new.self c.send-west_made.new.self c.send-east_made.new.self c.deref.result.now c.deref-2.result.now
-    c.decide-decided.ensures.west c.decide-decided.ensures.east c.say-west_said.ensures.sender c.say-east_said.ensures.sender c.deref.ensures.value c.deref-2.ensures.value
+    east_frame_is c.args.now.0 i.settings i.rounds i.cross i.ports i.west_out i.east_out i.calm
+    c.take-taken.new.self c.decide-decided.new.self c.deliver.new.self c.feed.new.self c.take-taken.ensures.cross c.decide-decided.ensures.cross c.deliver.ensures c.feed.ensures
+    c.decide-decided.result.0.west c.decide-decided.result.0.east c.say-west_said.new.self c.say-east_said.new.self c.send-west_made.new.self c.send-east_made.new.self c.feed.new.self c.feed.new.self
+    c.decide-decided.ensures.west c.decide-decided.ensures.east c.say-west_said.ensures.sender c.say-east_said.ensures.sender refl refl
     c.send-east_made.new.out c.send-east_made.ensures.frame
     ∙ ap (λ (n : Node). (node_round c.args.now.0 n).1.east) c.self.view_is
 
@@ -59,17 +59,17 @@ returns-clause-node c =
     let i = c.self.inside in
     let told =
     c.is_calm-calm.ensures
-    ∙ calm_is c.args.now.0 i.settings i.rounds i.cross i.ports.items i.west_out i.east_out i.calm
-    c.take-taken.new.self c.decide-decided.new.self c.deliver_all.new.ports.items c.feed_all.new.ports.items c.take-taken.ensures.cross c.decide-decided.ensures.cross c.deliver_all.ensures c.feed_all.ensures
-    c.decide-decided.result.0.west c.decide-decided.result.0.east c.say-west_said.new.self c.say-east_said.new.self c.send-west_made.new.self c.send-east_made.new.self c.deref.result.now c.deref-2.result.now
-    c.decide-decided.ensures.west c.decide-decided.ensures.east c.say-west_said.ensures.sender c.say-east_said.ensures.sender c.deref.ensures.value c.deref-2.ensures.value
+    ∙ calm_is c.args.now.0 i.settings i.rounds i.cross i.ports i.west_out i.east_out i.calm
+    c.take-taken.new.self c.decide-decided.new.self c.deliver.new.self c.feed.new.self c.take-taken.ensures.cross c.decide-decided.ensures.cross c.deliver.ensures c.feed.ensures
+    c.decide-decided.result.0.west c.decide-decided.result.0.east c.say-west_said.new.self c.say-east_said.new.self c.send-west_made.new.self c.send-east_made.new.self c.feed.new.self c.feed.new.self
+    c.decide-decided.ensures.west c.decide-decided.ensures.east c.say-west_said.ensures.sender c.say-east_said.ensures.sender refl refl
     c.send-west_made.ensures.sender c.send-east_made.ensures.sender
     c.has_run-ran.result c.take-taken.result c.decide-decided.result.1 c.say-west_said.result c.send-west_made.result c.say-east_said.result c.send-east_made.result
     c.has_run-ran.ensures c.take-taken.ensures.same c.decide-decided.ensures.same c.say-west_said.ensures.same c.send-west_made.ensures.same c.say-east_said.ensures.same c.send-east_made.ensures.same in
-    node_is c.args.now.0 i.settings i.rounds i.cross i.ports.items i.west_out i.east_out i.calm
-    c.take-taken.new.self c.decide-decided.new.self c.deliver_all.new.ports.items c.feed_all.new.ports.items c.take-taken.ensures.cross c.decide-decided.ensures.cross c.deliver_all.ensures c.feed_all.ensures
-    c.decide-decided.result.0.west c.decide-decided.result.0.east c.say-west_said.new.self c.say-east_said.new.self c.send-west_made.new.self c.send-east_made.new.self c.deref.result.now c.deref-2.result.now
-    c.decide-decided.ensures.west c.decide-decided.ensures.east c.say-west_said.ensures.sender c.say-east_said.ensures.sender c.deref.ensures.value c.deref-2.ensures.value
+    node_is c.args.now.0 i.settings i.rounds i.cross i.ports i.west_out i.east_out i.calm
+    c.take-taken.new.self c.decide-decided.new.self c.deliver.new.self c.feed.new.self c.take-taken.ensures.cross c.decide-decided.ensures.cross c.deliver.ensures c.feed.ensures
+    c.decide-decided.result.0.west c.decide-decided.result.0.east c.say-west_said.new.self c.say-east_said.new.self c.send-west_made.new.self c.send-east_made.new.self c.feed.new.self c.feed.new.self
+    c.decide-decided.ensures.west c.decide-decided.ensures.east c.say-west_said.ensures.sender c.say-east_said.ensures.sender refl refl
     c.send-west_made.ensures.sender c.send-east_made.ensures.sender
     c.is_calm-calm.result told
     ∙ ap (λ (n : Node). (node_round c.args.now.0 n).0) c.self.view_is

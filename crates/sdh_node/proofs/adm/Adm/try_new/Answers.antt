@@ -10,8 +10,8 @@ invariant_of-result c =
     let cross = c.in_ok-try_new.ensures in
     record {
       west_rate = ap (λ (x : Cross). x.west.section.rate) cross;
-      west_out_rate = ap (λ (s : Sending). s.section.rate) c.in_ok-try_new-2.ensures;
-      east_out_rate = ap (λ (s : Sending). s.section.rate) c.in_ok-try_new-3.ensures;
+      west_out_rate = ap (λ (s : Sending). s.section.rate) c.in_ok-try_new-3.ensures;
+      east_out_rate = ap (λ (s : Sending). s.section.rate) c.in_ok-try_new-4.ensures;
       moments = ap (λ (x : Cross). x.east.local.moment) cross ∙ sym (ap (λ (x : Cross). x.west.local.moment) cross);
-      ports = subst (λ slots. All (IsTributary slots 0) c.in_ok-tributaries_at.field-0.items) c.requires.slots c.in_ok-tributaries_at.ensures.slots;
+      ports = subst (λ slots. All (IsTributary slots 0) c.in_ok-try_new-2.field-0) c.requires.slots c.in_ok-try_new-2.ensures.slots;
     }

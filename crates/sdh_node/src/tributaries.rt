@@ -1,0 +1,136 @@
+//! The ports at a node, each found by its circuit and its end.
+ghost use Rattle.std.specs.Prelude.{◌≡◌, ◌+◌, ◌*◌, ◌/◌, ◌^◌, ◌<◌, ◌≤◌, IfOk, IfSome, IfNone, IsTrue, IsSome, Some, None, All, length, position};
+ghost use Rattle.sdh_basics.specs.Cells.{cells};
+ghost use Rattle.sdh_node.specs.Tributaries.{tributaries_at, is_port, port_of, HasPort, outlet_of, all_fed, IsTributary};
+ghost use Rattle.sdh_node.specs.Places.{number_of, port_numbered};
+ghost use Rattle.sdh_node.specs.Crossing.{half_of, all_delivered};
+
+use crate::cross::CrossConnect;
+use crate::outlet::Outlet;
+use crate::tributary::{Tributary, deliver_all, feed_all, place_of, tributaries_at};
+use sdh_circuits::{CircuitMap, End, PortId};
+use sdh_ringmap::Pos;
+use std::alloc::{AllocError, Global};
+use std::marker::Model;
+
+/// The ports of circuits at a node, in the order of circuits. Each one's place is found once, when the node is made.
+#[derive(Drop)]
+pub struct Tributaries {
+    items: Vec<Tributary>,
+    // The places of the ports of circuit 0, of circuit 1 and so on, A before B.
+    places: Vec<Option<usize>>,
+}
+
+impl Model for Tributaries {
+    ghost use Rattle.std.specs.Prelude.{List};
+    ghost use Rattle.sdh_node.specs.Tributaries.{Tributary};
+    ghost use Rattle.sdh_node.specs.Places.{ArePlaces};
+
+    ghost Value = { List Tributary };
+
+    ghost view = { λ p. p.items.items };
+
+    ghost invariant = { λ p. ArePlaces p.places.items p.items.items };
+}
+
+fn number_of(id: PortId) -> usize
+    ensures { result ≡ number_of id }
+{
+    let number = 2 * usize::from(id.circuit);
+    match id.end {
+        End::A => number,
+        End::B => number + 1,
+    }
+}
+
+fn port_numbered(number: usize) -> PortId
+    requires { number < 512 }
+    ensures { result ≡ port_numbered number }
+{
+    PortId {
+        circuit: (number / 2) as u8,
+        end: if number % 2 == 0 { End::A } else { End::B },
+    }
+}
+
+// The places of so many ports of a ring's circuits.
+fn places_in(
+    alloc: Global,
+    ports: &[Tributary],
+    count: usize,
+) -> Result<Vec<Option<usize>>, AllocError>
+    requires { count ≤ 512 }
+    ensures { IfOk result (λ v. v.items ≡ cells (λ k. position (is_port (port_numbered k)) ports.now) count) }
+{
+    let mut places = Vec::with_capacity(alloc, count)?;
+    for k in 0..count {
+        places.push(place_of(ports, port_numbered(k)))?;
+    }
+    Ok(places)
+}
+
+impl Tributaries {
+    /// The ports of a ring's circuits that are at a position. All their memory is taken here.
+    #[tactic(auto, using(crate::proofs::Places::new_places))]
+    pub fn try_new(alloc: Global, circuits: &CircuitMap, at: Pos) -> Result<Tributaries, AllocError>
+        ensures ports { IfOk result (λ ports. ports ≡ tributaries_at at circuits.now.circuits) }
+        ensures slots { IfOk result (λ ports. All (IsTributary circuits.now.slots 0) ports) }
+    {
+        let items = tributaries_at(alloc, circuits, at)?;
+        let places = places_in(alloc, &items, 2 * circuits.len())?;
+        Ok(Tributaries { items, places })
+    }
+
+    fn place(&self, id: PortId) -> Option<usize>
+        ensures { result ≡ position (is_port id) self.now }
+    {
+        match self.places.get(number_of(id)) {
+            Some(place) => *place,
+            None => None,
+        }
+    }
+
+    /// The port with this name, if it is at the node.
+    #[tactic(auto, using(crate::proofs::Ports::port_found, crate::proofs::Ports::port_missing, crate::proofs::Ports::place_within))]
+    pub fn find(&self, id: PortId) -> Option<&Tributary>
+        ensures found { IfSome result (λ port. port_of id self.now ≡ Some port.now) }
+        ensures missing { IfNone result (port_of id self.now ≡ None) }
+    {
+        match self.place(id) {
+            Some(i) => {
+                let port = &self.items[i];
+                Some(port)
+            }
+            None => None,
+        }
+    }
+
+    /// What a port delivers.
+    pub fn outlet(&self, id: PortId) -> &Outlet
+        requires { HasPort self.now id }
+        ensures { result.now ≡ outlet_of id self.now }
+    {
+        let Some(port) = self.find(id) else {
+            unreachable!()
+        };
+        port.outlet()
+    }
+
+    /// Each port takes the next chunk of its stream.
+    #[tactic(auto, using(crate::proofs::Places::fed_stay))]
+    pub fn feed(&mut self)
+        requires { All (λ t. t.feed.chunks < 2 ^ 32) self.old }
+        ensures { self.new ≡ all_fed self.old }
+    {
+        feed_all(&mut self.items);
+    }
+
+    /// Each port delivers what the node's state leads to it.
+    #[tactic(auto, using(crate::proofs::Places::delivered_stay))]
+    pub fn deliver(&mut self, cross: &CrossConnect)
+        requires { All (λ t. (1 ≤ t.slot.0) × (t.slot.0 ≤ half_of cross.now)) self.old }
+        ensures { self.new ≡ all_delivered cross.now self.old }
+    {
+        deliver_all(cross, &mut self.items);
+    }
+}

@@ -1,0 +1,33 @@
+-- Bytes that are put in place of others, by turning the list.
+use Rattle.std.proofs.Common.{◌≡◌, ℕ, ◌+◌, ◌-◌, ◌≤◌, List, [], ◌∷◌, ◌++◌, length, take, drop, zero, suc, refl, sym, ap, ◌∙◌, arith, append_assoc}
+use Rattle.std.proofs.Math.Seq.{take-append_seam, take-append-add, drop-append_seam}
+use Rattle.std.proofs.lemmas.List.{append-nil, take-take}
+use Rattle.sdh_payload.specs.Chunk.{around}
+use Rattle.sdh_payload.specs.Room.{written}
+
+drop-past : {X : Type 0} (n : ℕ) (xs : List X) → length xs ≤ n → drop n xs ≡ []
+drop-past zero [] h = refl
+drop-past zero (x ∷ xs) h = absurd (omega arith)
+drop-past (suc n) [] h = refl
+drop-past (suc n) (x ∷ xs) h = drop-past n xs (omega arith)
+
+-- a room that is written whole
+pub written_whole : (room bytes : List ℕ) → length bytes ≡ length room → written room bytes ≡ bytes
+unfolding written
+written_whole room bytes e =
+    ap (λ rest. take (length room) (bytes ++ rest)) (drop-past (length bytes) room (omega arith))
+    ∙ ap (take (length room)) (append-nil bytes) ∙ ap (λ n. take n bytes) (sym e)
+    ∙ sym (ap (take (length bytes)) (append-nil bytes)) ∙ take-append_seam bytes []
+
+-- the bytes behind, then those in front, then others; and the whole turned back
+pub turned : (front back behind : ℕ) (xs mid ys : List ℕ) → front ≤ back → behind ≡ length (drop back xs) → ys ≡ take (behind + front) (drop back xs ++ take back xs) ++ mid
+    → drop behind ys ++ take behind ys ≡ around front mid back xs
+unfolding around
+turned front back behind xs mid ys h len is =
+    let b = drop back xs in
+    let cut : take (behind + front) (b ++ take back xs) ≡ b ++ take front xs =
+    ap (λ n. take (n + front) (b ++ take back xs)) len ∙ take-append-add b (take back xs) front ∙ ap (λ r. b ++ r) (take-take front back xs h) in
+    let all : ys ≡ b ++ (take front xs ++ mid) = is ∙ ap (λ r. r ++ mid) cut ∙ append_assoc b (take front xs) mid in
+    let tail : drop behind ys ≡ take front xs ++ mid = ap (drop behind) all ∙ ap (λ n. drop n (b ++ (take front xs ++ mid))) len ∙ drop-append_seam b (take front xs ++ mid) in
+    let head : take behind ys ≡ b = ap (take behind) all ∙ ap (λ n. take n (b ++ (take front xs ++ mid))) len ∙ take-append_seam b (take front xs ++ mid) in
+    ap (λ r. r ++ take behind ys) tail ∙ ap (λ r. (take front xs ++ mid) ++ r) head
