@@ -174,3 +174,28 @@ steady_now s n first past came h =
 pub new_store : (first : ℕ) → CameBy first [] (empty first)
 unfolding store_of actions
 new_store first = record { lasts = refl; kept = refl }
+
+-- ---- what a store tells of its history
+
+pub word_of_history : (s : Store) (first : ℕ) (past : List (List ℕ)) → CameBy first past s → s.word ≡ last_word first (actions (lengths past))
+unfolding store_of
+word_of_history s first past came = ap (λ (t : Store). t.word) came.kept
+
+pub fill_of_history : (s : Store) (first : ℕ) (past : List (List ℕ)) → CameBy first past s → length s.held ≡ fill (lengths past)
+unfolding store_of
+fill_of_history s first past came = ap (λ (t : Store). length t.held) came.kept ∙ length-held past
+
+pub steady_of_history : (s : Store) (first : ℕ) (past : List (List ℕ)) → CameBy first past s → s.steady ≡ is_steady (lengths past)
+unfolding store_of
+steady_of_history s first past came = ap (λ (t : Store). t.steady) came.kept
+
+not_both : (b c : Bool) → c ≡ false → (b && c) ≡ false
+not_both true c h = h
+not_both false c h = refl
+
+-- a drift of a store is one of its history
+pub drift_of_history : (s : Store) (x : List ℕ) (first : ℕ) (past : List (List ℕ)) → CameBy first past s → is_held (fill_after s (length x)) ≡ false → lasts (lengths (x ∷ past)) ≡ false
+drift_of_history s x first past came h =
+    let same = same_fill first x past came.lasts in
+    let here : is_held (fill_after (store_of first past) (length x)) ≡ false = rw came.kept at h in
+    not_both (lasts (lengths past)) (is_held (fill (lengths (x ∷ past)))) (sym (ap is_held same) ∙ here)

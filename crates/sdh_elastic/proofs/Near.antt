@@ -37,6 +37,14 @@ pub is_held_by : (fill : ℕ) → 2340 ≤ fill → fill ≤ 2358 → is_held fi
 unfolding is_held
 is_held_by fill a b = grind (arith, common_steps)
 
+pub not_held_below : (fill : ℕ) → fill < 2340 → is_held fill ≡ false
+unfolding is_held
+not_held_below fill h = grind (arith, common_steps)
+
+pub not_held_above : (fill : ℕ) → 2358 < fill → is_held fill ≡ false
+unfolding is_held
+not_held_above fill h = grind (arith, common_steps)
+
 four_bounds : (a b c d : ℕ) → are_four a b c d ≡ true → (9393 ≤ a + b + c + d) × (a + b + c + d ≤ 9399)
 four_bounds a b c d h = (grind (arith, common_steps), grind (arith, common_steps))
 

@@ -1,10 +1,10 @@
 //! The store and its turns.
-ghost use Rattle.std.specs.Prelude.{◌≡◌, ℕ, ◌+◌, ◌-◌, ◌<◌, ◌≤◌, ◌⊎◌, ◌↔◌, ◌&&◌, true, List, [], ◌∷◌, ◌++◌, length, take, drop, IfOk, OnOk, OnErr, IsOk, IsErr};
+ghost use Rattle.std.specs.Prelude.{◌≡◌, ℕ, ◌+◌, ◌-◌, ◌<◌, ◌≤◌, ◌⊎◌, ◌↔◌, ◌&&◌, true, false, List, [], ◌∷◌, ◌++◌, length, take, drop, IfOk, OnOk, OnErr, IsOk, IsErr};
 ghost use Rattle.circular_buffer.specs.Buffer.{buffer};
 ghost use Rattle.sdh_pointer.specs.Reading.{action_on, after_word};
 ghost use Rattle.sdh_elastic.specs.Turns.{value_after, word_for, IsChunk};
 ghost use Rattle.sdh_elastic.specs.Lengths.{is_steady, with_length, keeps_steady};
-ghost use Rattle.sdh_elastic.specs.History.{lengths};
+ghost use Rattle.sdh_elastic.specs.History.{actions, fill, lasts, lengths, last_word};
 ghost use Rattle.sdh_elastic.specs.Store.{empty, action_at, fill_after, given_at, after_turn, stage_after, reading_of, AreChunks, CameBy, GoesOn};
 
 use crate::lengths::Lengths;
@@ -136,6 +136,7 @@ impl Elastic {
         // When it is a drift.
         ensures drift { IsErr result ↔ ((fill_after self.old (length input.now) < 2340) ⊎ (2358 < fill_after self.old (length input.now))) }
         ensures err { OnErr result ((self.new ≡ self.old) × (out.new ≡ out.old)) }
+        ensures history_err { OnErr result ((first : ℕ) (past : List (List ℕ)) → CameBy first past self.old → lasts (lengths (input.now ∷ past)) ≡ false) }
         ensures steady { self.old.steady ≡ true → keeps_steady (length input.now) self.old.lengths ≡ true → IsOk result }
         ensures steady_run { (first : ℕ) (past : List (List ℕ)) → CameBy first past self.old → is_steady (lengths (input.now ∷ past)) ≡ true → IsOk result }
     {
@@ -151,21 +152,24 @@ impl Elastic {
 
     /// The pointer word of the last turn, and all ones before the first.
     pub fn word(&self) -> Word
-        ensures { result.0 ≡ self.now.word }
+        ensures kept { result.0 ≡ self.now.word }
+        ensures history { (first : ℕ) (past : List (List ℕ)) → CameBy first past self.now → result.0 ≡ last_word first (actions (lengths past)) }
     {
         self.course.word
     }
 
     /// How many bytes are held.
     pub fn fill(&self) -> usize
-        ensures { result ≡ length self.now.held }
+        ensures kept { result ≡ length self.now.held }
+        ensures history { (first : ℕ) (past : List (List ℕ)) → CameBy first past self.now → result ≡ fill (lengths past) }
     {
         self.held.len()
     }
 
     /// Whether each four turns in a row so far took in between 9393 and 9399 bytes.
     pub fn is_steady(&self) -> bool
-        ensures { result ≡ self.now.steady }
+        ensures kept { result ≡ self.now.steady }
+        ensures history { (first : ℕ) (past : List (List ℕ)) → CameBy first past self.now → result ≡ is_steady (lengths past) }
     {
         self.course.steady
     }

@@ -1,12 +1,13 @@
 -- A turn is the one of the definitions, and keeps the store bounded.
-use Rattle.std.proofs.Common.{◌≡◌, ◌<◌, ◌≤◌, ℕ, ◌+◌, ◌-◌, true, ◌⊎◌, inl, inr, length, ap, sym, ◌∙◌, arith}
+use Rattle.std.proofs.Common.{◌≡◌, ◌<◌, ◌≤◌, ℕ, ◌+◌, ◌-◌, true, false, ◌⊎◌, inl, inr, length, ap, sym, ◌∙◌, arith}
 use Rattle.sdh_pointer.specs.declared.reading.Action.{Action}
 use Rattle.sdh_pointer.specs.Reading.{action_on, after_word}
 use Rattle.sdh_elastic.specs.contracts.store.Elastic.{the_view}
 use Rattle.sdh_elastic.specs.Turns.{given, is_held, value_after, word_for}
+use Rattle.sdh_elastic.specs.Lengths.{keeps_steady}
 use Rattle.sdh_elastic.specs.Store.{Store, action_at, action_in, stage_after, fill_after, reading_in}
-use Rattle.sdh_elastic.proofs.Near.{bounded_after, no_drift, few_held, is_held_by}
-use Rattle.sdh_elastic.proofs.Course.{goes_on, steady_now}
+use Rattle.sdh_elastic.proofs.Near.{not_held_below, not_held_above, bounded_after, no_drift, few_held, is_held_by}
+use Rattle.sdh_elastic.proofs.Course.{goes_on, steady_now, drift_of_history}
 use Rattle.sdh_elastic.proofs.Heard.{turn_is_heard}
 use Rattle.sdh_elastic.proofs.Turning.{IsTurn, made}
 use Rattle.sdh_elastic.proofs.store.Elastic.turn.Goals as goal
@@ -64,16 +65,46 @@ returns-clause-heard c =
       ap (after_word (reading_in i.stage i.value)) word ∙ turn.next ∙ ap (λ (v : ℕ). reading_in (stage_after i.stage (action_at (the_view c.self.inside))) v) (sym value) ∙ ap (λ st. reading_in st c.after-self-inside.result.value) (sym stage),
     )
 
+-- what it would have done, and the fill after that
+would_act : (c : goal.Joined-then-fill-lt-LEAST) → c.action-action.result ≡ action_at (the_view c.self.inside)
+would_act c = c.action-action.ensures ∙ ap (action_in c.self.inside.course.stage) c.len.ensures.len
+
+would_be : (c : goal.Joined-then-fill-lt-LEAST) → c.saturating_sub-fill.result ≡ fill_after (the_view c.self.inside) (length c.args.input.now)
+would_be c =
+    let s : Store = the_view c.self.inside in
+    let n = length c.args.input.now in
+    c.saturating_sub-fill.ensures ∙ ap (λ (k : ℕ). c.len-2.result + n - k) (c.given.ensures.count ∙ ap given (would_act c)) ∙ ap (λ (f : ℕ). f + n - given (action_at s)) c.len-2.ensures.len
+
 pub returns-then-fill-lt-LEAST-clause-steady_run : goal.returns-then-fill-lt-LEAST-clause-steady_run
 returns-then-fill-lt-LEAST-clause-steady_run c = λ first past came h.
     let s : Store = the_view c.self.inside in
     let n = length c.args.input.now in
     let now = steady_now s n first past (rw (← c.self.view_is) at came) h in
     let bounds = no_drift s n c.self.invariant.1 c.requires now.0 now.1 in
-    let is : c.action-action.result ≡ action_at s = c.action-action.ensures ∙ ap (action_in s.stage) c.len.ensures.len in
-    let same : c.saturating_sub-fill.result ≡ fill_after s n =
-    c.saturating_sub-fill.ensures ∙ ap (λ (k : ℕ). c.len-2.result + n - k) (c.given.ensures.count ∙ ap given is) ∙ ap (λ (f : ℕ). f + n - given (action_at s)) c.len-2.ensures.len in
     elim c.then-fill-lt-LEAST.branch [
-      | then-fill-lt-LEAST-via-then-fill-lt-LEAST w ↦ absurd (omega (arith, same, bounds.0, w.if-fill-lt-LEAST.true))
-      | then-fill-lt-LEAST-via-else-fill-lt-LEAST+then-fill-gt-MOST w ↦ absurd (omega (arith, same, bounds.1, w.if-fill-gt-MOST.true))
+      then-fill-lt-LEAST-via-then-fill-lt-LEAST w ↦ absurd (omega (arith, would_be c, bounds.0, w.if-fill-lt-LEAST.true))
+      | then-fill-lt-LEAST-via-else-fill-lt-LEAST+then-fill-gt-MOST w ↦ absurd (omega (arith, would_be c, bounds.1, w.if-fill-gt-MOST.true))
     ]
+
+pub returns-then-fill-lt-LEAST-clause-steady : goal.returns-then-fill-lt-LEAST-clause-steady
+returns-then-fill-lt-LEAST-clause-steady c =
+    let s : Store = the_view c.self.inside in
+    let n = length c.args.input.now in
+    let none : s.steady ≡ true → keeps_steady n s.lengths ≡ true → false ≡ true = λ steady four.
+      let bounds = no_drift s n c.self.invariant.1 c.requires steady four in
+      elim c.then-fill-lt-LEAST.branch [
+        then-fill-lt-LEAST-via-then-fill-lt-LEAST w ↦ absurd (omega (arith, would_be c, bounds.0, w.if-fill-lt-LEAST.true))
+        | then-fill-lt-LEAST-via-else-fill-lt-LEAST+then-fill-gt-MOST w ↦ absurd (omega (arith, would_be c, bounds.1, w.if-fill-gt-MOST.true))
+      ] in
+    rw (← c.self.view_is) none
+
+pub returns-then-fill-lt-LEAST-clause-history_err : goal.returns-then-fill-lt-LEAST-clause-history_err
+returns-then-fill-lt-LEAST-clause-history_err c = λ first past came.
+    let s : Store = the_view c.self.inside in
+    let n = length c.args.input.now in
+    let not_held : is_held (fill_after s n) ≡ false =
+      elim c.then-fill-lt-LEAST.branch [
+        then-fill-lt-LEAST-via-then-fill-lt-LEAST w ↦ not_held_below (fill_after s n) (omega (arith, would_be c, w.if-fill-lt-LEAST.true))
+        | then-fill-lt-LEAST-via-else-fill-lt-LEAST+then-fill-gt-MOST w ↦ not_held_above (fill_after s n) (omega (arith, would_be c, w.if-fill-gt-MOST.true))
+      ] in
+    drift_of_history s c.args.input.now first past (rw (← c.self.view_is) at came) not_held
