@@ -16,11 +16,10 @@ use Rattle.sdh_settling.specs.Laws.{StillRingsAreSettled}
 use Rattle.sdh_world.specs.Rounds.{World, round}
 use Rattle.sdh_world.specs.Runs.{run, course}
 use Rattle.sdh_world.specs.Quiet.{IsCalm, EndsWindow}
-use Rattle.sdh_world.specs.Changes.{Change, Fibre, Order, Now, changed, all_changed, Stretch, after_stretch, after_stretches}
+use Rattle.sdh_world.specs.Changes.{Change, Fibre, Order, Now, changed, all_changed, Stretch, after_stretch, after_stretches, new_world}
 use Rattle.sdh_world.proofs.Runs.{known_settles}
-use Rattle.sdh_hearing.specs.Placed.{nowhere}
 use Rattle.sdh_hearing.specs.Signalling.{signals_of}
-use Rattle.sdh_hearing.specs.Laws.{IsWhole, start, asked_in}
+use Rattle.sdh_hearing.specs.Laws.{IsWhole, asked_in}
 use Rattle.sdh_hearing.proofs.Nodes.{count}
 use Rattle.sdh_hearing.proofs.Changes.{whole_run}
 use Rattle.sdh_hearing.proofs.Requests.{whole_last, requests_last, after_last}
@@ -30,10 +29,11 @@ use Rattle.sdh_carrying.specs.Laws.{IsRestored, SettledRingsAreRestored, Settled
 use Rattle.sdh_carrying.proofs.Applied.{failures_applied, length-requests_of}
 use Rattle.sdh_carrying.proofs.Owed.{quiet_delivers}
 use Rattle.sdh_carrying.proofs.Ways.{layout_run}
+use Rattle.sdh_world.specs.Held.{nowhere}
 
 -- ---- one position
 
-each_settled : (v : World) (n : ℕ) (rs : List ℕ) → length v.ring.nodes ≡ n → length rs ≡ n → (signals_of v).states ≡ settled_states rs → AreSettled n rs v
+pub each_settled : (v : World) (n : ℕ) (rs : List ℕ) → length v.ring.nodes ≡ n → length rs ≡ n → (signals_of v).states ≡ settled_states rs → AreSettled n rs v
 unfolding signals_of
 each_settled v n rs size spans same p lt =
     sym (get_or-map (λ n. n.state) v.ring.nodes p nowhere nowhere.state (omega arith))
@@ -98,23 +98,23 @@ steps_restore law w left limit form settles whole =
 
 -- ---- stretches
 
-layout_changed : (c : Change) (w : World) → layout_of (changed c w) ≡ layout_of w
+pub layout_changed : (c : Change) (w : World) → layout_of (changed c w) ≡ layout_of w
 unfolding changed
 layout_changed (Fibre p d condition) w = refl
 layout_changed (Order p d c) w = refl
 layout_changed (Now t) w = refl
 
-layout_all : (cs : List Change) (w : World) → layout_of (all_changed cs w) ≡ layout_of w
+pub layout_all : (cs : List Change) (w : World) → layout_of (all_changed cs w) ≡ layout_of w
 layout_all [] w = refl
 layout_all (c ∷ cs) w = layout_all cs (changed c w) ∙ layout_changed c w
 
-layout_stretches : (ss : List Stretch) (w : World) → layout_of (after_stretches ss w) ≡ layout_of w
+pub layout_stretches : (ss : List Stretch) (w : World) → layout_of (after_stretches ss w) ≡ layout_of w
 layout_stretches [] w = refl
 layout_stretches (s ∷ ss) w = layout_stretches ss (after_stretch s w) ∙ layout_run (all_changed s.changes w) s.rounds ∙ layout_all s.changes w
 
 pub stretches_restore : StillRingsAreSettled → SettledRingsRestore
 stretches_restore law s ids circuits f earlier last t may happen form ends many =
-    let w = start s ids circuits f in
+    let w = new_world s ids circuits f in
     let v = all_changed last.changes (after_stretches earlier w) in
     let u = run last.rounds v in
     let same : layout_of v ≡ layout_of w = layout_all last.changes (after_stretches earlier w) ∙ layout_stretches earlier w in
@@ -137,7 +137,7 @@ no_circuits n slots = record {
   apart = λ i j s c d e f x y same. absurd (none_get i c e);
 }
 
-circuits_are : (p : Provisioning) (ids : List ℕ) → IsProvisioning p → KeepsRing p ids → AreCircuits (length ids) p.slots p.circuits
+pub circuits_are : (p : Provisioning) (ids : List ℕ) → IsProvisioning p → KeepsRing p ids → AreCircuits (length ids) p.slots p.circuits
 circuits_are p ids form (inl none) = subst (λ cs. AreCircuits (length ids) p.slots cs) (sym none) (no_circuits (length ids) p.slots)
 circuits_are p ids form (inr ring) = subst (λ n. AreCircuits n p.slots p.circuits) (ap (λ r. option_map_or length r 0) ring) form.circuits
 

@@ -13,15 +13,14 @@ use Rattle.sdh_restoration.specs.Due.{Due, due}
 use Rattle.sdh_node.specs.declared.settings.Settings.{Settings}
 use Rattle.sdh_node.specs.Crossing.{is_failed, received}
 use Rattle.sdh_node.specs.Node.{receiving_on}
-use Rattle.sdh_world.specs.Held.{HeldRing, outlet_at}
+use Rattle.sdh_world.specs.Held.{HeldRing, outlet_at, node_at}
 use Rattle.sdh_world.specs.Fixed.{IsRing}
 use Rattle.sdh_world.specs.Rounds.{World, round}
 use Rattle.sdh_world.specs.Runs.{run, course}
 use Rattle.sdh_world.specs.Quiet.{is_calm, EndsWindow, Settles}
-use Rattle.sdh_world.specs.Changes.{all_changed, Stretch, after_stretches}
-use Rattle.sdh_hearing.specs.Placed.{node_at}
-use Rattle.sdh_hearing.specs.Signalling.{turn_of, signals_of}
-use Rattle.sdh_hearing.specs.Laws.{IsWhole, MayStart, MayHappen, start, rounds_in, asked_in}
+use Rattle.sdh_world.specs.Changes.{all_changed, Stretch, after_stretches, rounds_in, new_world}
+use Rattle.sdh_hearing.specs.Signalling.{crossing_at, signals_of}
+use Rattle.sdh_hearing.specs.Laws.{IsWhole, MayStart, MayHappen, asked_in}
 use Rattle.sdh_carrying.specs.Brought.{Brings, IsSmall, outlet_due}
 use Rattle.sdh_carrying.specs.Windows.{layout_in, layout_of, HasCircuits, sent_at, requests_of, FailOnApplied, IsQuiet}
 
@@ -30,7 +29,7 @@ abbrev pub ASpanCarries : Type 0
 ASpanCarries = (w : World) → IsWhole w → is_calm (round w).ring.nodes ≡ true → is_calm (round (round w)).ring.nodes ≡ true
     → (p : ℕ) (d : Side) (au : ℕ) (b : Due) → p < length w.ring.ids → 1 ≤ au → au ≤ n_of w.ring.settings.rate → IsSmall b
     → is_failed (receiving_on d (node_at (round (round w)).ring.nodes p)).local.defect ≡ false
-    → Brings (sent_at w (neighbour (length w.ring.ids) p d) (opposite d) au) b → Brings (received (turn_of (round w) p) d au) b
+    → Brings (sent_at w (neighbour (length w.ring.ids) p d) (opposite d) au) b → Brings (received (crossing_at (round w) p) d au) b
 
 -- after a round a side that failed is on an applied span
 abbrev pub FailuresAreApplied : Type 0
@@ -68,8 +67,8 @@ SettledRingsAreRestored = (w left : World) (limit : ℕ) → HasCircuits (layout
 abbrev pub SettledRingsRestore : Type 0
 SettledRingsRestore = (s : Settings) (ids : List ℕ) (circuits : Provisioning) (f : Fibres) (earlier : List Stretch) (last : Stretch) (t : ℕ) → MayStart s ids f → MayHappen s.rate (earlier ++ last ∷ [])
     → AreCircuits (length ids) (n_of s.rate / 2) circuits.circuits
-    → EndsWindow (course (all_changed last.changes (after_stretches earlier (start s ids circuits f)))) last.rounds → rounds_in (earlier ++ last ∷ []) ≡ t + 1
-    → IsRestored (after_stretches (earlier ++ last ∷ []) (start s ids circuits f)) (span_requests (length ids) (asked_in s (length ids) (earlier ++ last ∷ []) t))
+    → EndsWindow (course (all_changed last.changes (after_stretches earlier (new_world s ids circuits f)))) last.rounds → rounds_in (earlier ++ last ∷ []) ≡ t + 1
+    → IsRestored (after_stretches (earlier ++ last ∷ []) (new_world s ids circuits f)) (span_requests (length ids) (asked_in s (length ids) (earlier ++ last ∷ []) t))
 
 -- ---- where circuits come from
 

@@ -11,15 +11,14 @@ use Rattle.sdh_restoration.specs.Settled.{settled}
 use Rattle.sdh_settling.specs.Signals.{requests_in}
 use Rattle.sdh_node.specs.declared.settings.Settings.{Settings}
 use Rattle.sdh_node.specs.Passing.{Input}
-use Rattle.sdh_node.specs.Tributaries.{adds}
+use Rattle.sdh_node.specs.Tributaries.{added_by}
 use Rattle.sdh_node.specs.Crossing.{is_failed, input_of, input_at}
 use Rattle.sdh_node.specs.Node.{receiving_on}
-use Rattle.sdh_world.specs.Held.{HeldRing}
+use Rattle.sdh_world.specs.Held.{HeldRing, node_at}
 use Rattle.sdh_world.specs.Rounds.{World}
 use Rattle.sdh_world.specs.Runs.{run, course}
 use Rattle.sdh_world.specs.Quiet.{IsCalm}
-use Rattle.sdh_hearing.specs.Placed.{node_at}
-use Rattle.sdh_hearing.specs.Signalling.{turn_of, needs_in}
+use Rattle.sdh_hearing.specs.Signalling.{crossing_at, needs_in}
 
 -- what no round changes: the settings, the identifiers by position, and the circuits
 pub record Layout : Type 0 where
@@ -48,11 +47,11 @@ HasCircuits l = AreCircuits (size_of l) (slots_of l) l.circuits
 
 -- what an origin in slot m brings at position p
 abbrev pub value_at : World → ℕ → ℕ → Origin → Input
-value_at w p m o = input_of (turn_of w p) (adds (node_at w.ring.nodes p).ports) m o
+value_at w p m o = input_of (crossing_at w p) (added_by (node_at w.ring.nodes p).ports) m o
 
 -- what goes into AU-4 number au that leaves position p on side d
 abbrev pub sent_at : World → ℕ → Side → ℕ → Input
-sent_at w p d au = input_at (turn_of w p) (adds (node_at w.ring.nodes p).ports) d au
+sent_at w p d au = input_at (crossing_at w p) (added_by (node_at w.ring.nodes p).ports) d au
 
 -- ---- after a round
 

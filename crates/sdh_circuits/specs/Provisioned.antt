@@ -1,5 +1,5 @@
 -- A circuit as contracts see it.
-use Rattle.std.specs.Prelude.{ℕ, ◌≡◌, Bool, true, ◌&&◌, ◌==◌, List, Some, slice_get}
+use Rattle.std.specs.Prelude.{ℕ, ◌≡◌, Bool, true, false, ◌&&◌, ◌==◌, List, Some, slice_get}
 use Rattle.sdh_ringmap.specs.declared.Pos.{Pos}
 use Rattle.sdh_ringmap.specs.Arcs.{Arc, arc_between, holds_span}
 use Rattle.sdh_payload.specs.Customer.{Customer}
@@ -30,7 +30,18 @@ abbrev pub customer_at : Provisioned → End → Customer
 customer_at c A = c.a
 customer_at c B = c.b
 
+abbrev pub same_end : End → End → Bool
+same_end A A = true
+same_end B B = true
+same_end A B = false
+same_end B A = false
+
 -- no two circuits share a span and a slot
 abbrev pub AreApart : ℕ → List Provisioned → Type 0
 AreApart n circuits = (i j span : ℕ) (c d : Provisioned) → slice_get circuits i ≡ Some c → slice_get circuits j ≡ Some d →
     holds_span n (arc_of n c) span ≡ true → holds_span n (arc_of n d) span ≡ true → c.slot ≡ d.slot → i ≡ j
+
+-- the position of a circuit's port: A where its arc starts, B where it ends
+abbrev pub end_of : Provisioned → End → Pos
+end_of c A = c.from
+end_of c B = c.to

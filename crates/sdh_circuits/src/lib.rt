@@ -2,6 +2,9 @@
 //! with a port at each end.
 #![tactic(auto)]
 
+ghost use Rattle.std.specs.Prelude.{◌≡◌};
+ghost use Rattle.sdh_circuits.specs.Provisioned.{same_end};
+
 mod circuit_map;
 mod form;
 mod provisioned;
@@ -21,6 +24,16 @@ pub struct Slot(pub u8);
 pub enum End {
     A,
     B,
+}
+
+/// Whether two ends are the same.
+pub fn same_end(left: End, right: End) -> bool
+    ensures { result ≡ same_end left right }
+{
+    match (left, right) {
+        (End::A, End::A) | (End::B, End::B) => true,
+        (End::A, End::B) | (End::B, End::A) => false,
+    }
 }
 
 /// A port: a circuit by its number, counted from 0, and one of its ends.

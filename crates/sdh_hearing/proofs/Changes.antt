@@ -1,13 +1,13 @@
 -- A new ring over prepared fibres, and what happens between two rounds.
-use Rattle.std.proofs.Common.{◌≡◌, ℕ, zero, suc, ◌+◌, ◌*◌, ◌<◌, Bool, true, false, List, [], ◌∷◌, length, get_or, replicate, None, refl, ap, sym, subst, ◌∙◌, arith, inl, inr}
-use Rattle.std.specs.Prelude.{option_map, All, ◌==◌, if◌then◌else◌}
-use Rattle.std.proofs.lemmas.List.Elements.{All-set, All-replicate, All-append, All-cons, All-nil}
+use Rattle.std.proofs.Common.{◌≡◌, ℕ, zero, suc, ◌+◌, ◌*◌, ◌<◌, Bool, true, false, List, [], ◌∷◌, length, get_or, replicate, None, refl, sym, subst, ◌∙◌, arith, inl, inr}
+use Rattle.std.specs.Prelude.{All, ◌==◌, if◌then◌else◌}
+use Rattle.std.proofs.lemmas.List.Elements.{All-append, All-cons, All-nil}
 use Rattle.std.proofs.lemmas.Bool.{cases_lt}
 use Rattle.std.proofs.lemmas.List.{length-replicate, get_or-replicate, get_or_past}
 use Rattle.sdh_ringmap.specs.declared.Side.{Side}
 use Rattle.sdh_ringmap.specs.declared.Side.TheVariants.{West, East}
 use Rattle.sdh_ringmap.specs.Ids.{AreIds}
-use Rattle.sdh_ringmap.specs.Places.{neighbour}
+use Rattle.sdh_ringmap.specs.Places.{neighbour, position_of}
 use Rattle.sdh_ringmap.proofs.Sides.{neighbour_below}
 use Rattle.sdh_request.specs.declared.Command.{Command}
 use Rattle.sdh_nodestate.specs.Words.{IsSpellable, IsMember}
@@ -26,14 +26,14 @@ use Rattle.sdh_world.specs.Laws.{IsChangeAt}
 use Rattle.sdh_world.proofs.Honest.{stay_honest, changes_keep_prepared}
 use Rattle.sdh_node.specs.declared.settings.Settings.{Settings}
 use Rattle.sdh_node.specs.Receiving.{commanded_by}
-use Rattle.sdh_node.specs.Node.{Node, new_node, first_word, at_receiving, receiving_on, sending_on}
-use Rattle.sdh_world.specs.Held.{new_nodes, position, at_place, new_ring}
+use Rattle.sdh_node.specs.Node.{Node, new_node, first_word, at_receiving, receiving_on, sending_on, word_of}
+use Rattle.sdh_world.specs.Held.{new_nodes, at_place, new_ring, nowhere, AtEach}
 use Rattle.sdh_world.specs.Rounds.{World, world}
 use Rattle.sdh_world.specs.Runs.{run}
 use Rattle.sdh_world.specs.Changes.{Change, Fibre, Order, Now, changed, all_changed}
 use Rattle.sdh_world.proofs.Keeping.{length-new, new_at, all_commanded}
-use Rattle.sdh_hearing.specs.Placed.{nowhere, AtEach, IsReceiver, IsSender, HasSides, HaveGiven, IsBetween, IsPlaced}
-use Rattle.sdh_hearing.specs.Paired.{CarriesWord, AreCarried, IsSourcedIn, IsSpelled, word_of}
+use Rattle.sdh_hearing.specs.Placed.{IsReceiver, IsSender, HasSides, HaveGiven, IsBetween, IsPlaced}
+use Rattle.sdh_hearing.specs.Paired.{CarriesWord, AreCarried, IsSourcedIn, IsSpelled}
 use Rattle.sdh_hearing.specs.Laws.{IsWhole, NewWorldsAreWhole, StayWhole, StayPlaced}
 use Rattle.sdh_hearing.proofs.Staying.{left_changed}
 use Rattle.sdh_hearing.proofs.Nodes.{placed_round}
@@ -41,7 +41,7 @@ use Rattle.sdh_hearing.proofs.Rounds.{whole_round}
 
 -- ---- a new ring
 
-first_spells : (ids : List ℕ) (p : ℕ) (d : Side) → AreIds ids → p < length ids → IsSpellable (first_word ids (position p) d)
+first_spells : (ids : List ℕ) (p : ℕ) (d : Side) → AreIds ids → p < length ids → IsSpellable (first_word ids (position_of p) d)
 first_spells ids p d is h =
     let below : neighbour (length ids) p d < length ids = neighbour_below (length ids) p d (omega arith) in
     let a = is.small (neighbour (length ids) p d) below in
@@ -68,7 +68,7 @@ fresh_ports at cs = fresh_ends at 0 cs
 
 module _ (s : Settings) (ids : List ℕ) (circuits : List Provisioned) (p : ℕ) where
   abbrev one : Node
-  one = new_node s ids circuits (position p)
+  one = new_node s ids circuits (position_of p)
 
   new_sides : HasSides s one
   unfolding new_node
@@ -84,7 +84,7 @@ module _ (s : Settings) (ids : List ℕ) (circuits : List Provisioned) (p : ℕ)
 
   new_between : IsBetween 0 one
   unfolding new_node
-  new_between = record { ran = refl; gave = fresh_ports (position p) circuits; fresh = fresh }
+  new_between = record { ran = refl; gave = fresh_ports (position_of p) circuits; fresh = fresh }
     where
       fresh : (d : Side) → (receiving_on d one).arrived ≡ None
       fresh West = refl
@@ -107,7 +107,7 @@ none_at m i = elim (cases_lt i m) [
 ]
 
 -- what holds of each new node holds at each position
-pub each_new : (P : ℕ → Node → Type 0) (s : Settings) (ids : List ℕ) (cs : List Provisioned) → ((p : ℕ) → p < length ids → P p (new_node s ids cs (position p))) → AtEach P (new_nodes s ids cs (length ids))
+pub each_new : (P : ℕ → Node → Type 0) (s : Settings) (ids : List ℕ) (cs : List Provisioned) → ((p : ℕ) → p < length ids → P p (new_node s ids cs (position_of p))) → AtEach P (new_nodes s ids cs (length ids))
 each_new P s ids cs each p h =
     let low : p < length ids = omega (arith, length-new s ids cs (length ids)) in subst (P p) (sym (new_at s ids cs (length ids) p nowhere low)) (each p low)
 

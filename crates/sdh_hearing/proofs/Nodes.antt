@@ -12,14 +12,15 @@ use Rattle.sdh_node.specs.declared.settings.Settings.{Settings}
 use Rattle.sdh_node.specs.Receiving.{Receiving}
 use Rattle.sdh_node.specs.Tributaries.{Tributary, fed, all_fed}
 use Rattle.sdh_node.specs.Crossing.{Cross, delivered_to, all_delivered}
-use Rattle.sdh_node.specs.Node.{Node, new_node, receiving_on, sending_on, turn, turned, after_turn, settled_from, node_round}
-use Rattle.sdh_world.specs.Held.{position}
+use Rattle.sdh_node.specs.Node.{Node, new_node, receiving_on, sending_on, crossing, ports_after, after_crossing, with_calm, node_round}
+use Rattle.sdh_world.specs.Held.{nowhere, node_at, AtEach}
 use Rattle.sdh_world.specs.Fixed.{Fixed, fixed}
-use Rattle.sdh_world.specs.Rounds.{World, arrival_at, arrivals_from, arrivals_of, hearing, heard, met, next, listening, round_with, round}
+use Rattle.sdh_world.specs.Rounds.{World, arrival_at, arrivals_from, arrivals_of, receivers_in, all_with_arrivals, with_arrivals, node_after, nodes_with, round_with, round}
 use Rattle.sdh_world.proofs.Keeping.{all_heard, all_next, length-fixed, node_is}
 use Rattle.sdh_world.proofs.Runs.{length-heard, count_round}
-use Rattle.sdh_hearing.specs.Placed.{nowhere, node_at, AtEach, IsReceiver, IsSender, HasSides, HaveGiven, IsBetween, IsPlaced}
+use Rattle.sdh_hearing.specs.Placed.{IsReceiver, IsSender, HasSides, HaveGiven, IsBetween, IsPlaced}
 use Rattle.sdh_hearing.proofs.OneNode.{receiving_after, rounds_after, receiver_after, sender_after, side_took}
+use Rattle.sdh_ringmap.specs.Places.{position_of}
 
 -- ---- lists
 
@@ -36,7 +37,7 @@ each_map P Q f to [] each p h = absurd (omega arith)
 each_map P Q f to (n ∷ ns) each zero h = to n (each 0 (omega arith))
 each_map P Q f to (n ∷ ns) each (suc p) h = each_map P Q f to ns (λ q low. each (suc q) (omega arith)) p (omega arith)
 
-each_heard : (P : Node → Type 0) → ((a b : Arrival) (n : Node) → P n → P (met a b n)) → (xs : List Arrival) (ns : List Node) → AtEach (λ p n. P n) ns → AtEach (λ p n. P n) (heard xs ns)
+each_heard : (P : Node → Type 0) → ((a b : Arrival) (n : Node) → P n → P (with_arrivals a b n)) → (xs : List Arrival) (ns : List Node) → AtEach (λ p n. P n) ns → AtEach (λ p n. P n) (all_with_arrivals xs ns)
 each_heard P keep [] ns each p h = each p h
 each_heard P keep (a ∷ []) ns each p h = each p h
 each_heard P keep (a ∷ b ∷ later) [] each p h = absurd (omega arith)
@@ -45,19 +46,19 @@ each_heard P keep (a ∷ b ∷ later) (n ∷ ns) each (suc p) h = each_heard P k
 
 -- ---- a node stays in its place in its round
 
-sides_met : (s : Settings) (a b : Arrival) (n : Node) → HasSides s n → HasSides s (met a b n)
-unfolding met
+sides_met : (s : Settings) (a b : Arrival) (n : Node) → HasSides s n → HasSides s (with_arrivals a b n)
+unfolding with_arrivals
 sides_met s a b n is = record { receives = received; sends = sent }
   where
-    received : (d : Side) → IsReceiver s (receiving_on d (met a b n))
+    received : (d : Side) → IsReceiver s (receiving_on d (with_arrivals a b n))
     received West = let r = is.receives West in record { rate = r.rate; readings = r.readings }
     received East = let r = is.receives East in record { rate = r.rate; readings = r.readings }
 
-    sent : (d : Side) → IsSender s (sending_on d (met a b n))
+    sent : (d : Side) → IsSender s (sending_on d (with_arrivals a b n))
     sent West = is.sends West
     sent East = is.sends East
 
-sides_next : (s : Settings) (now : ℕ) (n : Node) → HasSides s n → HasSides s (next now n)
+sides_next : (s : Settings) (now : ℕ) (n : Node) → HasSides s n → HasSides s (node_after now n)
 sides_next s now n is = record {
   receives = λ d. subst (IsReceiver s) (sym (receiving_after now n d)) (receiver_after s n.settings.threshold now (receiving_on d n) (is.receives d));
   sends = λ d. sender_after now n s d (is.sends d);
@@ -67,8 +68,8 @@ sides_next s now n is = record {
 abbrev HasRun : ℕ → Node → Type 0
 HasRun rounds n = (n.rounds ≡ rounds) × HaveGiven rounds n.ports
 
-ran_met : (rounds : ℕ) (a b : Arrival) (n : Node) → HasRun rounds n → HasRun rounds (met a b n)
-unfolding met
+ran_met : (rounds : ℕ) (a b : Arrival) (n : Node) → HasRun rounds n → HasRun rounds (with_arrivals a b n)
+unfolding with_arrivals
 ran_met rounds a b n ran = (ran.0, ran.1)
 
 ports_gave : (x : Cross) (i j k : ℕ) (ts : List Tributary) → HaveGiven k ts → HaveGiven (k + 1) (map_from (λ i t. fed t) i (map_from (λ i t. delivered_to x t) j ts))
@@ -76,11 +77,11 @@ ports_gave x i j k [] all m d lt = absurd (omega arith)
 ports_gave x i j k (t ∷ ts) all zero d lt = ap (λ c. c + 1) (all 0 d (omega arith))
 ports_gave x i j k (t ∷ ts) all (suc m) d lt = ports_gave x (i + 1) (j + 1) k ts (λ a e low. all (suc a) e (omega arith)) m d (omega arith)
 
-node_gave : (rounds now : ℕ) (n : Node) → HaveGiven rounds n.ports → HaveGiven (rounds + 1) (next now n).ports
-unfolding node_round settled_from after_turn turned all_fed all_delivered
-node_gave rounds now n gave = ports_gave (turn now n) 0 0 rounds n.ports gave
+node_gave : (rounds now : ℕ) (n : Node) → HaveGiven rounds n.ports → HaveGiven (rounds + 1) (node_after now n).ports
+unfolding node_round with_calm after_crossing ports_after all_fed all_delivered
+node_gave rounds now n gave = ports_gave (crossing now n) 0 0 rounds n.ports gave
 
-between_next : (rounds now : ℕ) (n : Node) → HasRun rounds n → IsBetween (rounds + 1) (next now n)
+between_next : (rounds now : ℕ) (n : Node) → HasRun rounds n → IsBetween (rounds + 1) (node_after now n)
 between_next rounds now n ran = record {
   ran = rounds_after now n ∙ ap (λ k. k + 1) ran.0;
   gave = node_gave rounds now n ran.1;
@@ -96,9 +97,9 @@ placed_round xs w placed =
     let ns = w.ring.nodes in
     record {
       ids = placed.ids;
-      nodes = all_next now (listening xs w) ∙ all_heard xs ns ∙ placed.nodes;
-      sides = each_map (HasSides s) (HasSides s) (next now) (sides_next s now) (listening xs w) (each_heard (HasSides s) (sides_met s) xs ns placed.sides);
-      between = each_map (HasRun t) (IsBetween (t + 1)) (next now) (between_next t now) (listening xs w)
+      nodes = all_next now (nodes_with xs w) ∙ all_heard xs ns ∙ placed.nodes;
+      sides = each_map (HasSides s) (HasSides s) (node_after now) (sides_next s now) (nodes_with xs w) (each_heard (HasSides s) (sides_met s) xs ns placed.sides);
+      between = each_map (HasRun t) (IsBetween (t + 1)) (node_after now) (between_next t now) (nodes_with xs w)
           (each_heard (HasRun t) (ran_met t) xs ns (λ p h. ((placed.between p h).ran, (placed.between p h).gave)));
     }
 
@@ -123,8 +124,8 @@ pub informed_out : (w : World) (p : ℕ) (d : Side) → sending_on d (informed w
 informed_out w p West = refl
 informed_out w p East = refl
 
-heard_at : (f : Fibres) (q k : ℕ) (ns : List Node) (p : ℕ) → p < k → p < length ns → node_at (heard (arrivals_from f q k) ns) p ≡ told_both (Some (arrival_at f (q + p) West)) (Some (arrival_at f (q + p) East)) (node_at ns p)
-unfolding met
+heard_at : (f : Fibres) (q k : ℕ) (ns : List Node) (p : ℕ) → p < k → p < length ns → node_at (all_with_arrivals (arrivals_from f q k) ns) p ≡ told_both (Some (arrival_at f (q + p) West)) (Some (arrival_at f (q + p) East)) (node_at ns p)
+unfolding with_arrivals
 heard_at f q zero ns p h low = absurd (omega arith)
 heard_at f q (suc k) [] p h low = absurd (omega arith)
 heard_at f q (suc k) (n ∷ ns) zero h low = ap (λ i. told_both (Some (arrival_at f i West)) (Some (arrival_at f i East)) n) (let e : q ≡ q + 0 = omega arith in e)
@@ -139,22 +140,22 @@ module _ (w : World) (placed : IsPlaced w) where
   pub count : length w.ring.nodes ≡ length w.ring.ids
   count = length-fixed w.ring.settings w.ring.ids w.ring.circuits.circuits (length w.ring.ids) w.ring.nodes placed.nodes
 
-  pub listening_at : (p : ℕ) → p < length w.ring.nodes → node_at (listening (arrivals_of w) w) p ≡ informed w p
-  unfolding arrivals_of hearing
+  pub listening_at : (p : ℕ) → p < length w.ring.nodes → node_at (nodes_with (arrivals_of w) w) p ≡ informed w p
+  unfolding arrivals_of receivers_in
   listening_at p h = by_test (w.ring.rounds == 0)
     where
-      by_test : (b : Bool) → node_at (heard (arrivals_from w.fibres 0 (if b then 0 else length w.ring.ids)) w.ring.nodes) p
+      by_test : (b : Bool) → node_at (all_with_arrivals (arrivals_from w.fibres 0 (if b then 0 else length w.ring.ids)) w.ring.nodes) p
           ≡ told_both (if b then None else Some (arrival_at w.fibres p West)) (if b then None else Some (arrival_at w.fibres p East)) (node_at w.ring.nodes p)
       by_test true = let is = placed.between p h in told_none (node_at w.ring.nodes p) (is.fresh West) (is.fresh East)
       by_test false =
           heard_at w.fibres 0 (length w.ring.ids) w.ring.nodes p (omega (arith, count)) h
           ∙ ap (λ i. told_both (Some (arrival_at w.fibres i West)) (Some (arrival_at w.fibres i East)) (node_at w.ring.nodes p)) (let e : 0 + p ≡ p = omega arith in e)
 
-  pub nodes_after : (p : ℕ) → p < length w.ring.nodes → node_at (round w).ring.nodes p ≡ next w.ring.moment (informed w p)
+  pub nodes_after : (p : ℕ) → p < length w.ring.nodes → node_at (round w).ring.nodes p ≡ node_after w.ring.moment (informed w p)
   unfolding round round_with
   nodes_after p h =
-      node_map (next w.ring.moment) (listening (arrivals_of w) w) p (let e = length-heard (arrivals_of w) w.ring.nodes in omega arith)
-      ∙ ap (next w.ring.moment) (listening_at p h)
+      node_map (node_after w.ring.moment) (nodes_with (arrivals_of w) w) p (let e = length-heard (arrivals_of w) w.ring.nodes in omega arith)
+      ∙ ap (node_after w.ring.moment) (listening_at p h)
 
 pub told_first : (w : World) (p : ℕ) (d : Side) → w.ring.rounds ≡ 0 → told_to w p d ≡ None
 told_first w p d e = ap (λ (b : Bool). if b then None else Some (arrival_at w.fibres p d)) (eq-eqb w.ring.rounds 0 e)
@@ -177,7 +178,7 @@ pub record IsAt (s : Settings) (ids : List ℕ) (p : ℕ) (n : Node) : Type 0 wh
   pub ids_are : n.ids ≡ ids
   pub at : n.at.0 ≡ p
 
-by_fixed : (s : Settings) (ids : List ℕ) (cs : List Provisioned) (p : ℕ) (n : Node) → fixed n ≡ fixed (new_node s ids cs (position p)) → IsAt s ids p n
+by_fixed : (s : Settings) (ids : List ℕ) (cs : List Provisioned) (p : ℕ) (n : Node) → fixed n ≡ fixed (new_node s ids cs (position_of p)) → IsAt s ids p n
 unfolding fixed new_node
 by_fixed s ids cs p n same = record { settings = ap (λ (f : Fixed). f.settings) same; ids_are = ap (λ (f : Fixed). f.ids) same; at = ap (λ (f : Fixed). f.at.0) same }
 

@@ -11,22 +11,22 @@ use Rattle.sdh_settling.specs.Laws.{StillRingsAreSettled}
 use Rattle.sdh_circuits.specs.Provisioning.{Provisioning}
 use Rattle.sdh_plant.specs.Fibres.{Fibres}
 use Rattle.sdh_node.specs.declared.settings.Settings.{Settings}
-use Rattle.sdh_node.specs.Node.{receiving_on}
+use Rattle.sdh_node.specs.Node.{receiving_on, needed}
 use Rattle.sdh_world.specs.Rounds.{World}
 use Rattle.sdh_world.specs.Runs.{run}
-use Rattle.sdh_world.specs.Changes.{all_changed, Stretch, after_stretch, after_stretches}
+use Rattle.sdh_world.specs.Changes.{all_changed, Stretch, after_stretch, after_stretches, rounds_in, new_world}
 use Rattle.sdh_world.specs.Laws.{IsChangeAt}
-use Rattle.sdh_hearing.specs.Placed.{node_at}
-use Rattle.sdh_hearing.specs.Signalling.{needed, needs_in}
-use Rattle.sdh_hearing.specs.Laws.{IsWhole, MayStart, MayHappen, rounds_in, start, asked_in, StretchesSettle}
+use Rattle.sdh_hearing.specs.Signalling.{needs_in}
+use Rattle.sdh_hearing.specs.Laws.{IsWhole, MayStart, MayHappen, asked_in, StretchesSettle}
 use Rattle.sdh_hearing.proofs.Staying.{left_all, left_run, left_stretch, left_stretches}
 use Rattle.sdh_hearing.proofs.Nodes.{count}
 use Rattle.sdh_hearing.proofs.Changes.{new_worlds_are_whole, whole_all, whole_run}
 use Rattle.sdh_hearing.proofs.Signalling.{spans_same, needs_at, windows_are_settled}
 use Rattle.sdh_hearing.proofs.Stretches.{requests_are}
+use Rattle.sdh_world.specs.Held.{node_at}
 
 -- requests of spans by those of sides
-requests_by : (v : World) (n : ℕ) → length v.ring.nodes ≡ n → (g : ℕ → Side → Code) → ((p : ℕ) (d : Side) → p < n → (receiving_on d (node_at v.ring.nodes p)).request ≡ g p d) → requests_in (needs_in v) ≡ span_requests n g
+pub requests_by : (v : World) (n : ℕ) → length v.ring.nodes ≡ n → (g : ℕ → Side → Code) → ((p : ℕ) (d : Side) → p < n → (receiving_on d (node_at v.ring.nodes p)).request ≡ g p d) → requests_in (needs_in v) ≡ span_requests n g
 unfolding needs_in
 requests_by v n size g each =
     ap (λ m. span_requests m (λ p d. request_on (get_or (map needed v.ring.nodes) p no_needs) d)) (length-map v.ring.nodes needed ∙ size)
@@ -44,7 +44,7 @@ earlier_of P [] s all i d lt = absurd (omega arith)
 earlier_of P (r ∷ ss) s all zero d lt = all 0 d (omega arith)
 earlier_of P (r ∷ ss) s all (suc i) d lt = earlier_of P ss s (λ j e low. all (suc j) e (omega arith)) i d (omega arith)
 
-whole_stretches : (ss : List Stretch) (w : World) → MayHappen w.ring.settings.rate ss → IsWhole w → IsWhole (after_stretches ss w)
+pub whole_stretches : (ss : List Stretch) (w : World) → MayHappen w.ring.settings.rate ss → IsWhole w → IsWhole (after_stretches ss w)
 whole_stretches [] w may whole = whole
 whole_stretches (s ∷ ss) w may whole =
     whole_stretches ss (after_stretch s w) (subst (λ (y : Settings). MayHappen y.rate ss) (sym (left_stretch s w).settings) (λ i d lt. may (suc i) d (omega arith)))
@@ -58,7 +58,7 @@ after_last (r ∷ ss) s w = after_last ss s (after_stretch r w)
 
 module _ (s : Settings) (ids : List ℕ) (circuits : Provisioning) (f : Fibres) (earlier : List Stretch) (last : Stretch) (may : MayStart s ids f) (happen : MayHappen s.rate (earlier ++ last ∷ [])) where
   abbrev w : World
-  w = start s ids circuits f
+  w = new_world s ids circuits f
 
   -- the world in which its rounds begin, and that after them
   abbrev v : World
@@ -86,7 +86,7 @@ module _ (s : Settings) (ids : List ℕ) (circuits : Provisioning) (f : Fibres) 
 
 pub stretches_settle : StillRingsAreSettled → StretchesSettle
 stretches_settle law s ids circuits f earlier last j t may happen ends low high many =
-    let v = all_changed last.changes (after_stretches earlier (start s ids circuits f)) in
+    let v = all_changed last.changes (after_stretches earlier (new_world s ids circuits f)) in
     let size : length v.ring.ids ≡ length ids = ap length (ids_last s ids circuits f earlier last may happen) in
     windows_are_settled law v last.rounds j (whole_last s ids circuits f earlier last may happen) ends (omega arith) high
     ∙ ap settled_states (requests_last s ids circuits f earlier last may happen t many)

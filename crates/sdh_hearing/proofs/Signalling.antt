@@ -25,27 +25,29 @@ use Rattle.std.proofs.Common.{◌≡◌, ◌≢◌, ℕ, zero, suc, ◌+◌, ◌
 use Rattle.std.specs.Prelude.{◌==◌, max, if◌then◌else◌, option_map, slice_get, All}
 use Rattle.std.proofs.lemmas.Bool.{cases_lt, eq-eqb, ne_eqb, cases_Bool, cond_both, both_ways}
 use Rattle.std.proofs.lemmas.List.Folds.{list_all_at}
+use Rattle.std.proofs.lemmas.List.Sums.{list_all-from_AllPass}
 use Rattle.std.proofs.lemmas.List.{length-map, get_or-map}
 use Rattle.std.proofs.lemmas.List.Elements.{All-map, All-nil}
 use Rattle.std.proofs.lemmas.Option.{slice_get-get_or, slice_get-map}
 use Rattle.sdh_node.specs.Receiving.{hears}
 use Rattle.sdh_node.specs.Same.{Compared}
 use Rattle.sdh_node.specs.Crossing.{is_failed}
-use Rattle.sdh_node.specs.Node.{Node, receiving_on, compared}
-use Rattle.sdh_world.specs.Rounds.{World, round, round_with, next}
+use Rattle.sdh_node.specs.Node.{Node, receiving_on, compared, sent_of, needed, heard_by, word_of}
+use Rattle.sdh_world.specs.Rounds.{World, round, round_with, node_after}
 use Rattle.sdh_world.specs.Runs.{run, course}
 use Rattle.sdh_world.specs.Quiet.{is_calm, IsCalm}
 use Rattle.sdh_world.proofs.Runs.{known_settles}
-use Rattle.sdh_hearing.specs.Placed.{nowhere, node_at, IsPlaced}
-use Rattle.sdh_hearing.specs.Paired.{word_of}
-use Rattle.sdh_hearing.specs.Signalling.{is_lost, sent_of, needed, heard_by, signals_of, needs_in}
+use Rattle.sdh_hearing.specs.Placed.{IsPlaced}
+use Rattle.sdh_hearing.specs.Signalling.{is_lost, signals_of, needs_in}
 use Rattle.sdh_hearing.specs.Laws.{IsWhole, RoundsAreSignalRounds, IsStill, CalmRoundsAreStill, WindowsAreSettled, IsSettled, StepsSettle}
-use Rattle.sdh_hearing.proofs.OneNode.{scene_in, state_is, word_is, may_need}
-use Rattle.sdh_hearing.proofs.Calm.{calm_leaves}
+use Rattle.sdh_node.proofs.Decided.{scene_in, state_is, word_is}
+use Rattle.sdh_node.proofs.Calm.{calm_leaves, unchanged_is_calm}
+use Rattle.sdh_hearing.proofs.OneNode.{may_need}
 use Rattle.sdh_hearing.proofs.Staying.{left_run}
 use Rattle.sdh_hearing.proofs.Nodes.{at_any, informed, count, nodes_after, length-after, one_more, is_at}
 use Rattle.sdh_hearing.proofs.Rounds.{neighbour_inside, brings, took_is, whole_round}
 use Rattle.sdh_hearing.proofs.Changes.{whole_run}
+use Rattle.sdh_world.specs.Held.{nowhere, node_at}
 
 -- ---- lists
 
@@ -227,7 +229,7 @@ module _ (w : World) (whole : IsWhole w) where
       | inr other ↦ absurd (both_ways (is_calm after) (list_all_at (λ (n : Node). n.calm) after p nowhere h other) calm)
     ]
 
-    leaves : (p : ℕ) → p < length w.ring.nodes → (1 ≤ (informed w p).rounds) × (compared (next w.ring.moment (informed w p)) ≡ compared (informed w p))
+    leaves : (p : ℕ) → p < length w.ring.nodes → (1 ≤ (informed w p).rounds) × (compared (node_after w.ring.moment (informed w p)) ≡ compared (informed w p))
     leaves p h =
         let high : p < length after = omega (arith, length-after w) in
         calm_leaves w.ring.moment (informed w p) (ap (λ (n : Node). n.calm) (sym (nodes_after w whole.placed p h)) ∙ node_calm p high)
@@ -270,6 +272,14 @@ module _ (w : World) (whole : IsWhole w) where
 
     pub is_still : StillRingsAreSettled → IsStill w
     is_still law = record { later = ran_before; same = same_there; words = words_still; states = states_still law; requests = requests_still }
+
+  -- a later round that leaves all that is compared at each node is calm
+  pub calm_where_same : 0 < t → ((p : ℕ) → p < length w.ring.nodes → compared (after_at p) ≡ compared (node_at w.ring.nodes p)) → is_calm after ≡ true
+  calm_where_same ran same = list_all-from_AllPass (λ (n : Node). n.calm) after (λ p x h.
+      (let low = old_inside p h in
+      let next = nodes_after w whole.placed p low in
+      ap (λ (n : Node). n.calm) (at_any after p x h ∙ next)
+      ∙ unchanged_is_calm w.ring.moment (informed w p) (let r = (whole.placed.between p low).ran in omega arith) (ap compared (sym next) ∙ same p low)))
 
 pub rounds_are_signal_rounds : RoundsAreSignalRounds
 rounds_are_signal_rounds w whole = record { may_go = may_go w whole; goes = goes_on w whole }

@@ -1,30 +1,17 @@
 -- What each node of a ring is: its place, its settings, its circuits, and the ports that are at it.
-use Rattle.std.specs.Prelude.{ℕ, ◌≡◌, ◌<◌, None, List, [], length, slice_index_or, map, All}
+use Rattle.std.specs.Prelude.{ℕ, ◌≡◌, None, List, length, map, All}
 use Rattle.sdh_ringmap.specs.Ids.{AreIds}
 use Rattle.sdh_ringmap.specs.declared.Side.{Side}
 use Rattle.sdh_frame.specs.Sizes.{n_of}
-use Rattle.sdh_frame.specs.declared.Rate.TheVariants.{Four}
 use Rattle.sdh_overhead.specs.Laws.{AreParities}
 use Rattle.sdh_node.specs.declared.settings.Settings.{Settings}
 use Rattle.sdh_node.specs.Receiving.{Receiving}
 use Rattle.sdh_node.specs.Sending.{Sending}
 use Rattle.sdh_node.specs.Tributaries.{Tributary}
-use Rattle.sdh_node.specs.Node.{Node, new_node, receiving_on, sending_on}
-use Rattle.sdh_world.specs.Held.{HeldRing, position, new_nodes}
+use Rattle.sdh_node.specs.Node.{Node, receiving_on, sending_on}
+use Rattle.sdh_world.specs.Held.{HeldRing, new_nodes, AtEach}
 use Rattle.sdh_world.specs.Fixed.{fixed}
 use Rattle.sdh_world.specs.Rounds.{World}
-
--- a node of no ring
-unfoldable pub nowhere : Node
-nowhere = new_node (record { rate = Four; threshold = 0; wait = 0 }) [] [] (position 0)
-
--- the node at a position
-abbrev pub node_at : List Node → ℕ → Node
-node_at ns p = slice_index_or ns p nowhere
-
--- what holds of the node at position p of a ring, at each position
-abbrev pub AtEach : (ℕ → Node → Type 0) → List Node → Type 0
-AtEach P ns = (p : ℕ) → p < length ns → P p (node_at ns p)
 
 -- a side that receives at these settings
 pub record IsReceiver (s : Settings) (r : Receiving) : Type 0 where

@@ -5,6 +5,10 @@
 ghost use Rattle.std.specs.Prelude.{◌≡◌, ◌↔◌, ℕ, ◌≤◌, Some, IfSome};
 ghost use Rattle.sdh_kbytes.specs.KBytes.{code_number, path_number, mark_number, code_at, mark_at, decoded, Spells, IsUnlisted};
 
+mod same;
+
+pub use same::{same_code, same_heard, same_word};
+
 /// What a word asks for, from the least to the most urgent.
 #[derive(Clone, Copy, Debug, PartialEq, Eq)]
 pub enum Code {

@@ -7,14 +7,14 @@ use Rattle.sdh_overhead.specs.Sections.{clear_frame, line_frame}
 use Rattle.sdh_overhead.proofs.Alone.{clear_alone, line_alone}
 use Rattle.sdh_kbytes.specs.KBytes.{first_byte, second_byte}
 use Rattle.sdh_node.specs.Passing.{Input, aus_sent}
-use Rattle.sdh_node.specs.Sending.{Sending, filled, clear_from, line_from, frame_from}
+use Rattle.sdh_node.specs.Sending.{Sending, filled, clear_frame_from, line_frame_from, frame_from}
 use Rattle.sdh_node.proofs.Passed.{length-aus_sent}
 
 -- `first` is the buffer, `full` what it is when all AU-4s are written
 module _ (input : ℕ → Input) (s : Sending) (first full : Frame) (k1 k2 : ℕ) (whole : length first.bytes ≡ size_of first.rate) (e : first.rate ≡ s.section.rate) (len : length s.generators ≡ n_of s.section.rate)
     (fill : full ≡ record first { bytes = with_aus (n_of first.rate) 1 (aus_sent input s.generators) first.bytes }) (one : k1 ≡ first_byte s.word) (two : k2 ≡ second_byte s.word) where
-  pub clear_is : clear_frame (n_of s.section.rate) s.section.last k1 k2 full.bytes ≡ clear_from input s
-  unfolding clear_from filled
+  pub clear_is : clear_frame (n_of s.section.rate) s.section.last k1 k2 full.bytes ≡ clear_frame_from input s
+  unfolding clear_frame_from filled
   clear_is =
       let rate = s.section.rate in
       let n = n_of rate in
@@ -26,8 +26,8 @@ module _ (input : ℕ → Input) (s : Sending) (first full : Frame) (k1 k2 : ℕ
       ∙ ap (λ r. clear_frame n s.section.last (first_byte s.word) (second_byte s.word) (with_aus (n_of r) 1 aus first.bytes)) e
       ∙ clear_alone rate s.section.last (first_byte s.word) (second_byte s.word) aus first.bytes (replicate (size_of rate) 0) (whole ∙ ap size_of e) (length-replicate (size_of rate) 0) (length-aus_sent input s.generators ∙ len)
 
-  pub line_is : line_frame (n_of s.section.rate) s.section.last k1 k2 full.bytes ≡ line_from input s
-  unfolding line_from filled
+  pub line_is : line_frame (n_of s.section.rate) s.section.last k1 k2 full.bytes ≡ line_frame_from input s
+  unfolding line_frame_from filled
   line_is =
       let rate = s.section.rate in
       let n = n_of rate in

@@ -1,4 +1,3 @@
-pub mod SameWords
 pub mod Marks
 pub mod Ports
 pub mod Passed
@@ -6,3 +5,6 @@ pub mod Frames
 pub mod Rounds
 pub mod Turning
 pub mod Steps
+pub mod Itself
+pub mod Calm
+pub mod Decided

@@ -26,7 +26,7 @@ use Rattle.sdh_pointer.specs.declared.word.Form.TheVariants as form
 use Rattle.std.specs.Option.{option_map_or}
 use Rattle.sdh_pointer.specs.declared.reading.Action.TheVariants as action
 use Rattle.sdh_node.specs.Passing.{h3_sent, no_input}
-use Rattle.sdh_node.specs.Tributaries.{Tributary, new_tributary, ends_at, ends_from, tributaries_at, is_port, port_of, sent_in, input_by, adds, own_input, holds, fed, all_fed, IsTributary}
+use Rattle.sdh_node.specs.Tributaries.{Tributary, new_tributary, ends_at, ends_from, tributaries_at, is_port, port_of, sent_in, input_by, added_by, own_input, added_last, fed, all_fed, IsTributary}
 use Rattle.sdh_node.specs.Crossing.{Cross, delivered_to, all_delivered}
 
 -- a port has nothing in H3
@@ -96,7 +96,7 @@ found-mapped p f g h d same is i (t ∷ ts) = go (p t) refl (found-mapped p f g 
     go true e rest = let here : p (f i t) ≡ true = same i t ∙ e in rw (here, e) (is i t)
     go false e rest = let here : p (f i t) ≡ false = same i t ∙ e in rw (here, e) rest
 
-holds_id : (x : Cross) (ports : List Tributary) (id : PortId) → holds (all_fed (all_delivered x ports)) id ≡ adds ports id
+holds_id : (x : Cross) (ports : List Tributary) (id : PortId) → added_last (all_fed (all_delivered x ports)) id ≡ added_by ports id
 unfolding all_fed all_delivered port_of sent_in
 holds_id x ports id =
     found-mapped (is_port id) (λ i t. fed t) own_input (λ t. input_by (sent_in t.feed)) no_input (λ k t. refl)
@@ -104,7 +104,7 @@ holds_id x ports id =
     ∙ found-mapped (is_port id) (λ i t. delivered_to x t) (λ t. input_by (sent_in t.feed)) (λ t. input_by (sent_in t.feed)) no_input (λ k t. refl) (λ k t. refl) 0 ports
 
 -- ports that have taken the chunk of the round hold what they add in it
-pub holds-adds : (x : Cross) (ports : List Tributary) → holds (all_fed (all_delivered x ports)) ≡ adds ports
+pub holds-adds : (x : Cross) (ports : List Tributary) → added_last (all_fed (all_delivered x ports)) ≡ added_by ports
 holds-adds x ports = λ i id. holds_id x ports id i
 
 -- ---- what is true of each port

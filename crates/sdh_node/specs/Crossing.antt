@@ -23,7 +23,7 @@ use Rattle.sdh_bridge.specs.declared.Origin.TheVariants as origin
 use Rattle.sdh_bridge.specs.Connections.{stands_for, leaves_working, leaves_protection}
 use Rattle.sdh_pointer.specs.declared.reading.Action.TheVariants as action
 use Rattle.sdh_pointer.specs.Reading.{start}
-use Rattle.sdh_node.specs.Receiving.{Receiving, Intake, hears, taken, taken_in, if_west, if_east}
+use Rattle.sdh_node.specs.Receiving.{Receiving, Intake, hears, after_intake, intake_of, if_west, if_east}
 use Rattle.sdh_node.specs.Passing.{Input, no_input}
 use Rattle.sdh_node.specs.Outlets.{delivered_from}
 use Rattle.sdh_node.specs.Tributaries.{Tributary}
@@ -60,12 +60,12 @@ half_of x = n_of x.west.section.rate / 2
 -- ---- the round
 
 -- both sides take what arrived, at that moment, and all interpreters read
-unfoldable pub both_taken : ℕ → ℕ → Cross → Cross
-both_taken threshold now x = record x {
-  west = taken threshold now x.west;
-  east = taken threshold now x.east;
-  west_in = taken_in threshold x.west;
-  east_in = taken_in threshold x.east;
+unfoldable pub after_intakes : ℕ → ℕ → Cross → Cross
+after_intakes threshold now x = record x {
+  west = after_intake threshold now x.west;
+  east = after_intake threshold now x.east;
+  west_in = intake_of threshold x.west;
+  east_in = intake_of threshold x.east;
 }
 
 abbrev pub is_failed : Defect → Bool
@@ -84,8 +84,8 @@ unfoldable pub scene_of : Cross → Scene
 scene_of x = scene x.ids x.at.0 (needs_of x) (heard_of x)
 
 -- the state by the rules
-unfoldable pub decided : Cross → Cross
-decided x = record x { state = state_after (scene_of x) }
+unfoldable pub after_decision : Cross → Cross
+after_decision x = record x { state = state_after (scene_of x) }
 
 -- ---- origins
 

@@ -1,5 +1,4 @@
 pub mod Same
-pub mod Shapes
 pub mod Receiving
 pub mod Passing
 pub mod Outlets

@@ -18,10 +18,13 @@ use Rattle.sdh_nodestate.specs.Rules.{word}
 use Rattle.sdh_pointer.specs.Reading.{start}
 use Rattle.sdh_node.specs.declared.settings.Settings.{Settings}
 use Rattle.sdh_node.specs.Same.{ComparedIn, ComparedOut, Compared, same_compared}
-use Rattle.sdh_node.specs.Receiving.{Receiving, hears, taken, taken_in, new_intake, if_west, if_east}
-use Rattle.sdh_node.specs.Tributaries.{Tributary, HasPort, IsTributary, tributaries_at, adds, all_fed}
-use Rattle.sdh_node.specs.Crossing.{Cross, scene_of, decided, all_delivered, input_at}
-use Rattle.sdh_node.specs.Sending.{Sending, with_word, frame_from, sent_from}
+use Rattle.sdh_node.specs.Receiving.{Receiving, hears, after_intake, intake_of, new_intake, if_west, if_east}
+use Rattle.sdh_node.specs.Tributaries.{Tributary, HasPort, IsTributary, tributaries_at, added_by, all_fed}
+use Rattle.sdh_node.specs.Crossing.{Cross, scene_of, after_decision, all_delivered, input_at, is_failed}
+use Rattle.sdh_node.specs.Sending.{Sending, with_word, frame_from, after_sending}
+use Rattle.sdh_nodestate.specs.declared.Needs.{Needs}
+use Rattle.sdh_nodestate.specs.declared.Heard.{Heard}
+use Rattle.sdh_nodestate.specs.declared.Sent.{Sent}
 
 pub record Node : Type 0 where
   pub settings : Settings
@@ -103,36 +106,36 @@ at_receiving side f n = record n { west = if_west side f n.west; east = if_east 
 -- ---- a round, at a moment
 
 -- the cross-connect of the round: both sides took what arrived, and the state follows
-unfoldable pub turn : ℕ → Node → Cross
-turn now n = decided (record {
+unfoldable pub crossing : ℕ → Node → Cross
+crossing now n = after_decision (record {
   ids = n.ids;
   at = n.at;
   circuits = n.circuits;
   state = n.state;
-  west = taken n.settings.threshold now n.west;
-  east = taken n.settings.threshold now n.east;
-  west_in = taken_in n.settings.threshold n.west;
-  east_in = taken_in n.settings.threshold n.east;
+  west = after_intake n.settings.threshold now n.west;
+  east = after_intake n.settings.threshold now n.east;
+  west_in = intake_of n.settings.threshold n.west;
+  east_in = intake_of n.settings.threshold n.east;
 })
 
 -- the ports in the round: what they deliver, in the new state, and the next chunk of each port's stream
-unfoldable pub turned : Cross → List Tributary → List Tributary
-turned x ports = all_fed (all_delivered x ports)
+unfoldable pub ports_after : Cross → List Tributary → List Tributary
+ports_after x ports = all_fed (all_delivered x ports)
 
 -- a side that sends, with the word of the round
-abbrev pub saying : Cross → Side → Sending → Sending
-saying x side s = with_word (word (scene_of x) side) s
+abbrev pub with_next_word : Cross → Side → Sending → Sending
+with_next_word x side s = with_word (word (scene_of x) side) s
 
 -- the node after it: all pointer generators, section overhead and scrambling
-unfoldable pub after_turn : Cross → Node → Node
-after_turn x n = record n {
+unfoldable pub after_crossing : Cross → Node → Node
+after_crossing x n = record n {
   rounds = n.rounds + 1;
   west = x.west;
   east = x.east;
   state = x.state;
-  ports = turned x n.ports;
-  west_out = sent_from (input_at x (adds n.ports) West) (saying x West n.west_out);
-  east_out = sent_from (input_at x (adds n.ports) East) (saying x East n.east_out);
+  ports = ports_after x n.ports;
+  west_out = after_sending (input_at x (added_by n.ports) West) (with_next_word x West n.west_out);
+  east_out = after_sending (input_at x (added_by n.ports) East) (with_next_word x East n.east_out);
 }
 
 -- the frames of both sides
@@ -142,8 +145,8 @@ pub record Frames : Type 0 where
 
 unfoldable pub frames_of : Cross → Node → Frames
 frames_of x n = record {
-  west = frame_from (input_at x (adds n.ports) West) (saying x West n.west_out);
-  east = frame_from (input_at x (adds n.ports) East) (saying x East n.east_out);
+  west = frame_from (input_at x (added_by n.ports) West) (with_next_word x West n.west_out);
+  east = frame_from (input_at x (added_by n.ports) East) (with_next_word x East n.east_out);
 }
 
 -- what is compared with the round before
@@ -158,12 +161,12 @@ compared n = record { west = compared_in n.west; east = compared_in n.east; stat
 
 -- the node `new` after a round that found it as `old`: the round was calm where one ran before it and it changed nothing
 -- of what is compared
-unfoldable pub settled_from : Node → Node → Node
-settled_from old new = record new { calm = nat_le 1 old.rounds && same_compared (compared new) (compared old) }
+unfoldable pub with_calm : Node → Node → Node
+with_calm old new = record new { calm = nat_le 1 old.rounds && same_compared (compared new) (compared old) }
 
 -- the round: the node after it, and what it sends
 unfoldable pub node_round : ℕ → Node → Node × Frames
-node_round now n = (settled_from n (after_turn (turn now n) n), frames_of (turn now n) n)
+node_round now n = (with_calm n (after_crossing (crossing now n) n), frames_of (crossing now n) n)
 
 -- ---- what others read of a node
 
@@ -194,3 +197,18 @@ pub record IsNode (n : Node) : Type 0 where
   pub east_out_rate : n.east_out.section.rate ≡ n.settings.rate
   pub moments : n.east.local.moment ≡ n.west.local.moment
   pub ports : All (IsTributary (n_of n.settings.rate / 2) n.rounds) n.ports
+
+-- the last words of a node
+abbrev pub sent_of : Node → Sent
+sent_of n = record { west = n.west_out.word; east = n.east_out.word }
+
+-- what a node needed and heard in its last round
+abbrev pub needed : Node → Needs
+needed n = record { west = n.west.request; east = n.east.request; west_fails = is_failed n.west.local.defect; east_fails = is_failed n.east.local.defect }
+
+abbrev pub heard_by : Node → Heard
+heard_by n = record { west = hears n.west.brought; east = hears n.east.brought }
+
+-- the last word of a node on a side
+abbrev pub word_of : Side → Node → K
+word_of d n = (sending_on d n).word

@@ -33,9 +33,9 @@ pub record Receiving : Type 0 where
   -- what arrived since the last round: None where nothing was told; else the bytes of a frame, or darkness
   pub arrived : Option Arrival
   -- the parities of the frame before
-  pub section : section.Kept
+  pub section : section.SectionKept
   -- commands, the defect and when the last one ended
-  pub local : local.Kept
+  pub local : local.LocalKept
   -- the local request in the last round
   pub request : Code
   -- what the last rounds brought, the last one first: a word, or none
@@ -56,7 +56,7 @@ with_brought w ws = w ∷ []
 
 -- what a side makes of it: its defect, the word that it brings, the frame without scrambling, and the parities for the
 -- next frame
-pub record Found : Type 0 where
+pub record Reception : Type 0 where
   pub defect : Defect
   pub word : Option K
   pub bytes : List ℕ
@@ -66,46 +66,46 @@ abbrev pub all_ones : Rate → List ℕ
 all_ones rate = replicate (size_of rate) 0xFF
 
 -- a side that fails: it brings no word, and its frame counts as ones
-abbrev pub failed : Rate → Option Parities → Found
-failed rate last = record { defect = defect.Sf; word = None; bytes = all_ones rate; last = last }
+abbrev pub failure : Rate → Option Parities → Reception
+failure rate last = record { defect = defect.Sf; word = None; bytes = all_ones rate; last = last }
 
 -- a framed frame: AIS of the multiplex section, whose low three bits of K2 are ones, is a failure; else the side is
 -- degraded where B2 has at least `threshold` violations
-abbrev pub found_framed : Rate → ℕ → List ℕ → Option Parities → ℕ → ℕ → ℕ → Found
-found_framed rate threshold clear last k1 k2 b2 =
-    if k2 % 8 == 7 then failed rate last else
+abbrev pub framed_reception : Rate → ℕ → List ℕ → Option Parities → ℕ → ℕ → ℕ → Reception
+framed_reception rate threshold clear last k1 k2 b2 =
+    if k2 % 8 == 7 then failure rate last else
     record { defect = if nat_le threshold b2 then defect.Sd else defect.None; word = decoded k1 k2; bytes = clear; last = last }
 
 -- a frame: an unframed one is a failure
-abbrev pub found_in : Rate → ℕ → List ℕ → Option Parities → Received → Found
-found_in rate threshold clear last Unframed = failed rate last
-found_in rate threshold clear last (Framed k1 k2 b1 b2) = found_framed rate threshold clear last k1 k2 b2
+abbrev pub frame_reception : Rate → ℕ → List ℕ → Option Parities → Received → Reception
+frame_reception rate threshold clear last Unframed = failure rate last
+frame_reception rate threshold clear last (Framed k1 k2 b1 b2) = framed_reception rate threshold clear last k1 k2 b2
 
 -- A frame; darkness, which is a failure; or nothing was told: then the side has no defect, brings no word, and its frame
 -- counts as ones. Where there is no frame the section forgets.
-abbrev pub found_by : Option Arrival → Rate → ℕ → Option Parities → Found
-found_by None rate threshold last = record { defect = defect.None; word = None; bytes = all_ones rate; last = None }
-found_by (Some None) rate threshold last = failed rate None
-found_by (Some (Some bytes)) rate threshold last = found_in rate threshold (opened (n_of rate) bytes) (kept_after (n_of rate) bytes) (received_in (n_of rate) last bytes)
+abbrev pub reception_of : Option Arrival → Rate → ℕ → Option Parities → Reception
+reception_of None rate threshold last = record { defect = defect.None; word = None; bytes = all_ones rate; last = None }
+reception_of (Some None) rate threshold last = failure rate None
+reception_of (Some (Some bytes)) rate threshold last = frame_reception rate threshold (opened (n_of rate) bytes) (kept_after (n_of rate) bytes) (received_in (n_of rate) last bytes)
 
-unfoldable pub found : ℕ → Receiving → Found
-found threshold r = found_by r.arrived r.section.rate threshold r.section.last
+unfoldable pub reception : ℕ → Receiving → Reception
+reception threshold r = reception_of r.arrived r.section.rate threshold r.section.last
 
 -- ---- the local request
 
 -- what is kept for it after the moment and the defect of a round
-abbrev pub asked : ℕ → Defect → local.Kept → local.Kept
-asked now d k = after (seen d) (after (reached now) k)
+abbrev pub local_after : ℕ → Defect → local.LocalKept → local.LocalKept
+local_after now d k = after (seen d) (after (reached now) k)
 
 -- ---- the interpreters
 
 -- the pointer word H1 and H2 in the nine pointer bytes of an AU-4
-abbrev pub word_of_pointers : List ℕ → ℕ
-word_of_pointers pointers = 256 * slice_index pointers 0 + slice_index pointers 3
+abbrev pub pointer_word : List ℕ → ℕ
+pointer_word pointers = 256 * slice_index pointers 0 + slice_index pointers 3
 
 -- the pointer word of an AU-4 of a frame
-abbrev pub word_at : ℕ → List ℕ → ℕ → ℕ
-word_at n bytes au = word_of_pointers (pointers_of n au bytes)
+abbrev pub pointer_word_at : ℕ → List ℕ → ℕ → ℕ
+pointer_word_at n bytes au = pointer_word (pointers_of n au bytes)
 
 -- what interpreters keep
 abbrev pub readings_of : List Interpreter → List Reading
@@ -113,10 +113,10 @@ readings_of interps = map (λ (i : Interpreter). i.reading) interps
 
 -- what interpreters keep after they read a frame, and their actions
 unfoldable pub after_frame : ℕ → List ℕ → List Reading → List Reading
-after_frame n bytes readings = map_from (λ k r. after_word r (word_at n bytes (k + 1))) 0 readings
+after_frame n bytes readings = map_from (λ k r. after_word r (pointer_word_at n bytes (k + 1))) 0 readings
 
 unfoldable pub actions_in : ℕ → List ℕ → List Reading → List Action
-actions_in n bytes readings = map_from (λ k r. action_on r (word_at n bytes (k + 1))) 0 readings
+actions_in n bytes readings = map_from (λ k r. action_on r (pointer_word_at n bytes (k + 1))) 0 readings
 
 -- ---- a round
 
@@ -137,25 +137,25 @@ readings_by told n bytes readings = if told then after_frame n bytes readings el
 abbrev pub actions_by : Bool → ℕ → List ℕ → List Reading → List Action
 actions_by told n bytes readings = if told then actions_in n bytes readings else replicate n action.Ais
 
-unfoldable pub taken_in : ℕ → Receiving → Intake
-taken_in threshold r = record {
-  frame = record { rate = r.section.rate; bytes = (found threshold r).bytes };
-  actions = actions_by (is_some r.arrived) (n_of r.section.rate) (found threshold r).bytes r.readings;
+unfoldable pub intake_of : ℕ → Receiving → Intake
+intake_of threshold r = record {
+  frame = record { rate = r.section.rate; bytes = (reception threshold r).bytes };
+  actions = actions_by (is_some r.arrived) (n_of r.section.rate) (reception threshold r).bytes r.readings;
 }
 
 -- the section overhead, the defect at that moment, the word and the local request
-unfoldable pub heard_at : ℕ → ℕ → Receiving → Receiving
-heard_at threshold now r = record r {
+unfoldable pub after_overhead : ℕ → ℕ → Receiving → Receiving
+after_overhead threshold now r = record r {
   arrived = None;
-  section = record { rate = r.section.rate; last = (found threshold r).last };
-  local = asked now (found threshold r).defect r.local;
-  request = kept_request (asked now (found threshold r).defect r.local);
-  brought = with_brought (found threshold r).word r.brought;
+  section = record { rate = r.section.rate; last = (reception threshold r).last };
+  local = local_after now (reception threshold r).defect r.local;
+  request = kept_request (local_after now (reception threshold r).defect r.local);
+  brought = with_brought (reception threshold r).word r.brought;
 }
 
 -- the side after it took what arrived, and after its interpreters read
-unfoldable pub taken : ℕ → ℕ → Receiving → Receiving
-taken threshold now r = record (heard_at threshold now r) { readings = readings_by (is_some r.arrived) (n_of r.section.rate) (found threshold r).bytes r.readings }
+unfoldable pub after_intake : ℕ → ℕ → Receiving → Receiving
+after_intake threshold now r = record (after_overhead threshold now r) { readings = readings_by (is_some r.arrived) (n_of r.section.rate) (reception threshold r).bytes r.readings }
 
 -- ---- between rounds
 

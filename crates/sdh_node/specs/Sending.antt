@@ -11,7 +11,7 @@ use Rattle.sdh_node.specs.Passing.{Input, aus_sent, after_inputs}
 
 pub record Sending : Type 0 where
   -- the parities of the frame sent before
-  pub section : section.Kept
+  pub section : section.SectionKept
   -- the states of the generators of AU-4s 1 to N
   pub generators : List (Option ℕ)
   -- the word sent
@@ -26,20 +26,20 @@ unfoldable pub filled : (ℕ → Input) → Sending → List ℕ
 filled input s = with_aus (n_of s.section.rate) 1 (aus_sent input s.generators) (replicate (size_of s.section.rate) 0)
 
 -- the frame with its overhead, before scrambling
-unfoldable pub clear_from : (ℕ → Input) → Sending → List ℕ
-clear_from input s = clear_frame (n_of s.section.rate) s.section.last (first_byte s.word) (second_byte s.word) (filled input s)
+unfoldable pub clear_frame_from : (ℕ → Input) → Sending → List ℕ
+clear_frame_from input s = clear_frame (n_of s.section.rate) s.section.last (first_byte s.word) (second_byte s.word) (filled input s)
 
 -- the frame on the line
-unfoldable pub line_from : (ℕ → Input) → Sending → List ℕ
-line_from input s = line_frame (n_of s.section.rate) s.section.last (first_byte s.word) (second_byte s.word) (filled input s)
+unfoldable pub line_frame_from : (ℕ → Input) → Sending → List ℕ
+line_frame_from input s = line_frame (n_of s.section.rate) s.section.last (first_byte s.word) (second_byte s.word) (filled input s)
 
 abbrev pub frame_from : (ℕ → Input) → Sending → Frame
-frame_from input s = record { rate = s.section.rate; bytes = line_from input s }
+frame_from input s = record { rate = s.section.rate; bytes = line_frame_from input s }
 
 -- the side after it
-unfoldable pub sent_from : (ℕ → Input) → Sending → Sending
-sent_from input s = record s {
-  section = record { rate = s.section.rate; last = Some (parities_of (n_of s.section.rate) (clear_from input s) (line_from input s)) };
+unfoldable pub after_sending : (ℕ → Input) → Sending → Sending
+after_sending input s = record s {
+  section = record { rate = s.section.rate; last = Some (parities_of (n_of s.section.rate) (clear_frame_from input s) (line_frame_from input s)) };
   generators = after_inputs input s.generators;
 }
 

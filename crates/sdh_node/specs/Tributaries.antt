@@ -9,7 +9,7 @@ use Rattle.sdh_circuits.specs.declared.Slot.{Slot}
 use Rattle.sdh_circuits.specs.declared.End.{End}
 use Rattle.sdh_circuits.specs.declared.End.TheVariants.{A, B}
 use Rattle.sdh_circuits.specs.declared.PortId.{PortId}
-use Rattle.sdh_circuits.specs.Provisioned.{Provisioned}
+use Rattle.sdh_circuits.specs.Provisioned.{Provisioned, same_end}
 use Rattle.sdh_payload.specs.Customer.{Customer}
 use Rattle.sdh_payload.specs.Feed.{Fed}
 use Rattle.sdh_payload.specs.Stream.{chunk_of}
@@ -50,12 +50,6 @@ tributaries_at at circuits = ends_from at 0 circuits
 
 -- ---- a port among them
 
-abbrev pub same_end : End → End → Bool
-same_end A A = true
-same_end B B = true
-same_end A B = false
-same_end B A = false
-
 abbrev pub is_port : PortId → Tributary → Bool
 is_port id t = (t.port.circuit == id.circuit) && same_end t.port.end id.end
 
@@ -88,8 +82,8 @@ abbrev pub input_by : Added → Input
 input_by a = record { action = a.action; value = a.value; au = record { pointers = replicate 9 0; payload = a.bytes } }
 
 -- what the port of this name adds, of ports as a round finds them
-abbrev pub adds : List Tributary → PortId → Input
-adds ports id = option_map_or (λ t. input_by (sent_in t.feed)) (port_of id ports) no_input
+abbrev pub added_by : List Tributary → PortId → Input
+added_by ports id = option_map_or (λ t. input_by (sent_in t.feed)) (port_of id ports) no_input
 
 -- the feed before the chunk that it gave last, and that chunk
 abbrev pub before : Fed → Fed
@@ -102,8 +96,8 @@ own_chunk feed = (sent_in (before feed)).bytes
 abbrev pub own_input : Tributary → Input
 own_input t = input_by (sent_in (before t.feed))
 
-abbrev pub holds : List Tributary → PortId → Input
-holds ports id = option_map_or own_input (port_of id ports) no_input
+abbrev pub added_last : List Tributary → PortId → Input
+added_last ports id = option_map_or own_input (port_of id ports) no_input
 
 -- the port after the next chunk of its stream was taken
 abbrev pub fed : Tributary → Tributary

@@ -5,22 +5,22 @@ ghost use Rattle.sdh_ringmap.specs.declared.Side.TheVariants.{West, East};
 ghost use Rattle.sdh_squelch.specs.Kept.{KeepsRing};
 ghost use Rattle.sdh_nodestate.specs.Rules.{word};
 ghost use Rattle.sdh_nodestate.specs.Words.{SendsSpellable};
-ghost use Rattle.sdh_node.specs.Same.{same_state, same_in};
+ghost use Rattle.sdh_nodestate.specs.Shapes.{same_state};
+ghost use Rattle.sdh_node.specs.Same.{same_in};
 ghost use Rattle.sdh_plant.specs.Arrivals.{as_arrival};
 ghost use Rattle.sdh_node.specs.Receiving.{commanded_by, arrived_on};
 ghost use Rattle.sdh_node.specs.Node.{new_cross, compared_in};
-ghost use Rattle.sdh_node.specs.Crossing.{on_side, intake_on, at_side, half_of, both_taken, scene_of, decided, received, leaving, slot_of, dropped_at};
+ghost use Rattle.sdh_node.specs.Crossing.{on_side, intake_on, at_side, half_of, after_intakes, scene_of, after_decision, received, leaving, slot_of, dropped_at};
 ghost use Rattle.sdh_node.specs.Outlets.{chunk_form, chunk_from, delivered_from};
 
 use crate::intake::{Intake, h3_at};
 use crate::outlet::Outlet;
 use crate::receiver::Receiver;
-use crate::same::{same_shape, shape_of};
 use crate::settings::Settings;
 use sdh_bridge::{Origin, drop_origin, protection_origin, working_origin};
 use sdh_circuits::{CircuitMap, Slot};
 use sdh_frame::{FrameBuf, Rate};
-use sdh_nodestate::{Heard, Needs, NodeState, Sent, start, step};
+use sdh_nodestate::{Heard, Needs, NodeState, Sent, same_shape, shape_of, start, step};
 use sdh_payload::ChunkForm;
 use sdh_plant::Arrived;
 use sdh_pointer::Action;
@@ -120,12 +120,12 @@ impl CrossConnect {
 
     /// Both sides take what arrived, and the interpreters read. Whether the requests, the words heard and what the
     /// interpreters keep are as before.
-    #[tactic(auto, unfolding(crate::specs::Crossing::both_taken))]
+    #[tactic(auto, unfolding(crate::specs::Crossing::after_intakes))]
     pub fn take(&mut self, threshold: u16, now: Moment) -> bool
         requires west { self.old.west.local.moment ≤ now.0 }
         requires east { self.old.east.local.moment ≤ now.0 }
         requires within { now.0 ≤ 1000000000 }
-        ensures cross { self.new ≡ both_taken threshold now.0 self.old }
+        ensures cross { self.new ≡ after_intakes threshold now.0 self.old }
         ensures same { result ≡ (same_in (compared_in self.new.west) (compared_in self.old.west) && same_in (compared_in self.new.east) (compared_in self.old.east)) }
         ensures rate { self.new.west.section.rate ≡ self.old.west.section.rate }
         ensures west { self.new.west.local.moment ≡ now.0 }
@@ -137,9 +137,9 @@ impl CrossConnect {
     }
 
     /// Takes the state of this round, and tells the words that are sent, and whether the state is as before.
-    #[tactic(auto, unfolding(crate::specs::Crossing::decided, crate::specs::Crossing::scene_of))]
+    #[tactic(auto, unfolding(crate::specs::Crossing::after_decision, crate::specs::Crossing::scene_of))]
     pub fn decide(&mut self) -> (Sent, bool)
-        ensures cross { self.new ≡ decided self.old }
+        ensures cross { self.new ≡ after_decision self.old }
         ensures west { result.0.west ≡ word (scene_of self.old) West }
         ensures east { result.0.east ≡ word (scene_of self.old) East }
         ensures spellable { SendsSpellable result.0 }

@@ -6,7 +6,7 @@ ghost use Rattle.sdh_frame.specs.Aus.{au_of};
 ghost use Rattle.sdh_nodestate.specs.Words.{IsSpellable};
 ghost use Rattle.sdh_pointer.specs.Reading.{Interpreter};
 ghost use Rattle.sdh_node.specs.Same.{same_readings};
-ghost use Rattle.sdh_node.specs.Receiving.{found_by, all_ones, word_at, readings_of, after_frame, actions_in, readings_by, actions_by, new_intake};
+ghost use Rattle.sdh_node.specs.Receiving.{reception_of, all_ones, pointer_word_at, readings_of, after_frame, actions_in, readings_by, actions_by, new_intake};
 ghost use Rattle.sdh_node.specs.Passing.{h3_of};
 
 use crate::making::no_actions;
@@ -87,11 +87,11 @@ impl Intake {
     ) -> (Defect, Option<K>)
         requires rate { frame.old.rate ≡ self.old.frame.rate }
         requires section { section.old.rate ≡ self.old.frame.rate }
-        ensures intake { self.new ≡ record self.old { frame = record { rate = self.old.frame.rate; bytes = (found_by (Some (Some frame.old.bytes)) frame.old.rate threshold section.old.last).bytes } } }
-        ensures section { section.new ≡ record section.old { last = (found_by (Some (Some frame.old.bytes)) frame.old.rate threshold section.old.last).last } }
+        ensures intake { self.new ≡ record self.old { frame = record { rate = self.old.frame.rate; bytes = (reception_of (Some (Some frame.old.bytes)) frame.old.rate threshold section.old.last).bytes } } }
+        ensures section { section.new ≡ record section.old { last = (reception_of (Some (Some frame.old.bytes)) frame.old.rate threshold section.old.last).last } }
         ensures frame { frame.new.rate ≡ frame.old.rate }
-        ensures defect { result.0 ≡ (found_by (Some (Some frame.old.bytes)) frame.old.rate threshold section.old.last).defect }
-        ensures word { result.1 ≡ (found_by (Some (Some frame.old.bytes)) frame.old.rate threshold section.old.last).word }
+        ensures defect { result.0 ≡ (reception_of (Some (Some frame.old.bytes)) frame.old.rate threshold section.old.last).defect }
+        ensures word { result.1 ≡ (reception_of (Some (Some frame.old.bytes)) frame.old.rate threshold section.old.last).word }
         ensures silent { result.0 ≡ Defect.Sf → result.1 ≡ None }
         ensures spellable { IfSome result.1 IsSpellable }
     {
@@ -122,10 +122,10 @@ impl Intake {
 // frame that fails becomes ones.
 fn find_frame(threshold: u16, section: &mut Section, frame: &mut FrameBuf) -> (Defect, Option<K>)
     requires rate { section.old.rate ≡ frame.old.rate }
-    ensures frame { frame.new ≡ record frame.old { bytes = (found_by (Some (Some frame.old.bytes)) frame.old.rate threshold section.old.last).bytes } }
-    ensures section { section.new ≡ record section.old { last = (found_by (Some (Some frame.old.bytes)) frame.old.rate threshold section.old.last).last } }
-    ensures defect { result.0 ≡ (found_by (Some (Some frame.old.bytes)) frame.old.rate threshold section.old.last).defect }
-    ensures word { result.1 ≡ (found_by (Some (Some frame.old.bytes)) frame.old.rate threshold section.old.last).word }
+    ensures frame { frame.new ≡ record frame.old { bytes = (reception_of (Some (Some frame.old.bytes)) frame.old.rate threshold section.old.last).bytes } }
+    ensures section { section.new ≡ record section.old { last = (reception_of (Some (Some frame.old.bytes)) frame.old.rate threshold section.old.last).last } }
+    ensures defect { result.0 ≡ (reception_of (Some (Some frame.old.bytes)) frame.old.rate threshold section.old.last).defect }
+    ensures word { result.1 ≡ (reception_of (Some (Some frame.old.bytes)) frame.old.rate threshold section.old.last).word }
     ensures silent { result.0 ≡ Defect.Sf → result.1 ≡ None }
     ensures spellable { IfSome result.1 IsSpellable }
 {
@@ -166,7 +166,7 @@ pub fn h3_at(frame: &FrameBuf, au: u16) -> [u8; 3]
 fn word_at(frame: &FrameBuf, au: u16) -> Word
     requires first { 1 ≤ au }
     requires last { au ≤ n_of frame.now.rate }
-    ensures { result.0 ≡ word_at (n_of frame.now.rate) frame.now.bytes au }
+    ensures { result.0 ≡ pointer_word_at (n_of frame.now.rate) frame.now.bytes au }
 {
     read_word(&[frame.pointer(au, 0), frame.pointer(au, 3)])
 }

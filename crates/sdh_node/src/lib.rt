@@ -11,7 +11,6 @@ mod making;
 mod outlet;
 mod passing;
 mod receiver;
-mod same;
 mod sender;
 mod settings;
 mod tributary;

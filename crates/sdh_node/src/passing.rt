@@ -6,7 +6,7 @@ ghost use Rattle.std.specs.List.{list_any};
 ghost use Rattle.sdh_pointer.specs.Sending.{Generator, after_action};
 ghost use Rattle.sdh_node.specs.Same.{same_generators};
 ghost use Rattle.sdh_node.specs.Passing.{no_input, h3_sent, pointers_with, au_with, au_for, au_sent, states_of, aus_sent, after_inputs};
-ghost use Rattle.sdh_node.specs.Tributaries.{own_input, holds};
+ghost use Rattle.sdh_node.specs.Tributaries.{own_input, added_last};
 ghost use Rattle.sdh_node.specs.Crossing.{received, half_of, input_of, input_at};
 
 use crate::cross::CrossConnect;
@@ -134,8 +134,8 @@ fn send_own(port: &Tributary, generator: &mut Gen, out: &mut FrameBuf, to: u16)
 fn add(id: PortId, ports: &[Tributary], generator: &mut Gen, out: &mut FrameBuf, to: u16)
     requires to_first { 1 ≤ to }
     requires to_last { to ≤ n_of out.old.rate }
-    ensures generator { let input = holds ports.now id in generator.new ≡ after_action generator.old input.action input.value }
-    ensures frame { out.new ≡ record out.old { bytes = with_au (n_of out.old.rate) to (au_sent generator.old.sending (holds ports.now id)) out.old.bytes } }
+    ensures generator { let input = added_last ports.now id in generator.new ≡ after_action generator.old input.action input.value }
+    ensures frame { out.new ≡ record out.old { bytes = with_au (n_of out.old.rate) to (au_sent generator.old.sending (added_last ports.now id)) out.old.bytes } }
 {
     match place_of(ports, id) {
         Some(i) => {
@@ -161,8 +161,8 @@ fn send_one(
     requires last { slot ≤ half_of cross.now }
     requires to_first { 1 ≤ to }
     requires to_last { to ≤ n_of out.old.rate }
-    ensures generator { let input = input_of cross.now (holds ports.now) slot origin in generator.new ≡ after_action generator.old input.action input.value }
-    ensures frame { out.new ≡ record out.old { bytes = with_au (n_of out.old.rate) to (au_sent generator.old.sending (input_of cross.now (holds ports.now) slot origin)) out.old.bytes } }
+    ensures generator { let input = input_of cross.now (added_last ports.now) slot origin in generator.new ≡ after_action generator.old input.action input.value }
+    ensures frame { out.new ≡ record out.old { bytes = with_au (n_of out.old.rate) to (au_sent generator.old.sending (input_of cross.now (added_last ports.now) slot origin)) out.old.bytes } }
 {
     let half = cross.half();
     match origin {
@@ -191,8 +191,8 @@ pub fn send_all(
     requires rate { cross.now.west.section.rate ≡ out.old.rate }
     requires few { n_of out.old.rate ≤ 16 }
     requires len { length generators.old.items ≡ n_of out.old.rate }
-    ensures generators { states_of generators.new.items ≡ after_inputs (input_at cross.now (holds ports.now) side) (states_of generators.old.items) }
-    ensures frame { out.new ≡ record out.old { bytes = with_aus (n_of out.old.rate) 1 (aus_sent (input_at cross.now (holds ports.now) side) (states_of generators.old.items)) out.old.bytes } }
+    ensures generators { states_of generators.new.items ≡ after_inputs (input_at cross.now (added_last ports.now) side) (states_of generators.old.items) }
+    ensures frame { out.new ≡ record out.old { bytes = with_aus (n_of out.old.rate) 1 (aus_sent (input_at cross.now (added_last ports.now) side) (states_of generators.old.items)) out.old.bytes } }
     ensures len { length generators.new.items ≡ n_of out.old.rate }
     ensures same { result ≡ same_generators (states_of generators.new.items) (states_of generators.old.items) }
 {

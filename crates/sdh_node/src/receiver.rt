@@ -4,18 +4,18 @@ ghost use Rattle.std.specs.Option.{is_some};
 ghost use Rattle.sdh_frame.specs.Sizes.{n_of};
 ghost use Rattle.sdh_nodestate.specs.Words.{IsSpellable};
 ghost use Rattle.sdh_pointer.specs.Reading.{start};
-ghost use Rattle.sdh_node.specs.Same.{same_code, same_heard, same_readings, same_in};
+ghost use Rattle.sdh_kbytes.specs.Same.{same_code, same_heard};
+ghost use Rattle.sdh_node.specs.Same.{same_readings, same_in};
 ghost use Rattle.sdh_plant.specs.Arrivals.{as_arrival};
-ghost use Rattle.sdh_node.specs.Receiving.{found, heard_at, taken, taken_in, hears, readings_by, actions_by, commanded_by, arrived_on, IsReceiving};
+ghost use Rattle.sdh_node.specs.Receiving.{reception, after_overhead, after_intake, intake_of, hears, readings_by, actions_by, commanded_by, arrived_on, IsReceiving};
 ghost use Rattle.sdh_node.specs.Crossing.{is_failed};
 ghost use Rattle.sdh_node.specs.Node.{new_receiving, compared_in};
 
 use crate::intake::Intake;
 use crate::making::new_interpreters;
-use crate::same::{same_code, same_heard};
 use crate::settings::Settings;
 use sdh_frame::FrameBuf;
-use sdh_kbytes::{Code, K};
+use sdh_kbytes::{Code, K, same_code, same_heard};
 use sdh_overhead::Section;
 use sdh_plant::Arrived;
 use sdh_pointer::Interp;
@@ -101,13 +101,13 @@ impl Receiver {
     }
 
     // Finds in what arrived the defect and the word that it brings.
-    #[tactic(auto, unfolding(crate::specs::Receiving::found))]
+    #[tactic(auto, unfolding(crate::specs::Receiving::reception))]
     fn find(&mut self, threshold: u16, intake: &mut Intake) -> (Defect, Option<K>)
         requires { intake.old.frame.rate ≡ self.old.section.rate }
-        ensures side { self.new ≡ record self.old { arrived = None; section = record { rate = self.old.section.rate; last = (found threshold self.old).last } } }
-        ensures intake { intake.new ≡ record intake.old { frame = record { rate = self.old.section.rate; bytes = (found threshold self.old).bytes } } }
-        ensures defect { result.0 ≡ (found threshold self.old).defect }
-        ensures word { result.1 ≡ (found threshold self.old).word }
+        ensures side { self.new ≡ record self.old { arrived = None; section = record { rate = self.old.section.rate; last = (reception threshold self.old).last } } }
+        ensures intake { intake.new ≡ record intake.old { frame = record { rate = self.old.section.rate; bytes = (reception threshold self.old).bytes } } }
+        ensures defect { result.0 ≡ (reception threshold self.old).defect }
+        ensures word { result.1 ≡ (reception threshold self.old).word }
         ensures silent { result.0 ≡ Defect.Sf → result.1 ≡ None }
         ensures spellable { IfSome result.1 IsSpellable }
     {
@@ -130,13 +130,13 @@ impl Receiver {
 
     // Section overhead, the defect at a moment, the word heard and the local request. Whether word and request are as
     // before.
-    #[tactic(auto, unfolding(crate::specs::Receiving::heard_at))]
+    #[tactic(auto, unfolding(crate::specs::Receiving::after_overhead))]
     fn hear(&mut self, threshold: u16, now: Moment, intake: &mut Intake) -> bool
         requires later { self.old.local.moment ≤ now.0 }
         requires within { now.0 ≤ 1000000000 }
         requires rate { intake.old.frame.rate ≡ self.old.section.rate }
-        ensures side { self.new ≡ heard_at threshold now.0 self.old }
-        ensures intake { intake.new ≡ record intake.old { frame = record { rate = self.old.section.rate; bytes = (found threshold self.old).bytes } } }
+        ensures side { self.new ≡ after_overhead threshold now.0 self.old }
+        ensures intake { intake.new ≡ record intake.old { frame = record { rate = self.old.section.rate; bytes = (reception threshold self.old).bytes } } }
         ensures same { result ≡ (same_code self.new.request self.old.request && same_heard (hears self.new.brought) (hears self.old.brought)) }
     {
         let (defect, word) = self.find(threshold, intake);
@@ -167,13 +167,13 @@ impl Receiver {
 
     /// Takes what arrived, at a moment, and the interpreters read. Whether the local request, the word heard and what the
     /// interpreters keep are as before.
-    #[tactic(auto, unfolding(crate::specs::Receiving::taken, crate::specs::Receiving::taken_in, crate::specs::Receiving::heard_at))]
+    #[tactic(auto, unfolding(crate::specs::Receiving::after_intake, crate::specs::Receiving::intake_of, crate::specs::Receiving::after_overhead))]
     pub fn take(&mut self, threshold: u16, now: Moment, intake: &mut Intake) -> bool
         requires later { self.old.local.moment ≤ now.0 }
         requires within { now.0 ≤ 1000000000 }
         requires rate { intake.old.frame.rate ≡ self.old.section.rate }
-        ensures side { self.new ≡ taken threshold now.0 self.old }
-        ensures intake { intake.new ≡ taken_in threshold self.old }
+        ensures side { self.new ≡ after_intake threshold now.0 self.old }
+        ensures intake { intake.new ≡ intake_of threshold self.old }
         ensures same { result ≡ same_in (compared_in self.new) (compared_in self.old) }
         ensures rate { self.new.section.rate ≡ self.old.section.rate }
         ensures in_rate { intake.new.frame.rate ≡ self.old.section.rate }

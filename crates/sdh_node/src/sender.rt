@@ -2,20 +2,20 @@
 ghost use Rattle.std.specs.Prelude.{◌≡◌, ◌≤◌, IfOk, length};
 ghost use Rattle.sdh_frame.specs.Sizes.{n_of, size_of};
 ghost use Rattle.sdh_nodestate.specs.Words.{IsSpellable};
-ghost use Rattle.sdh_node.specs.Same.{same_word, same_generators};
-ghost use Rattle.sdh_node.specs.Tributaries.{holds};
+ghost use Rattle.sdh_kbytes.specs.Same.{same_word};
+ghost use Rattle.sdh_node.specs.Same.{same_generators};
+ghost use Rattle.sdh_node.specs.Tributaries.{added_last};
 ghost use Rattle.sdh_node.specs.Crossing.{input_at};
-ghost use Rattle.sdh_node.specs.Sending.{with_word, frame_from, sent_from};
+ghost use Rattle.sdh_node.specs.Sending.{with_word, frame_from, after_sending};
 ghost use Rattle.sdh_node.specs.Node.{new_sending};
 
 use crate::cross::CrossConnect;
 use crate::making::new_generators;
 use crate::passing::send_all;
-use crate::same::same_word;
 use crate::settings::Settings;
 use crate::tributary::Tributary;
 use sdh_frame::FrameBuf;
-use sdh_kbytes::{K, encode};
+use sdh_kbytes::{K, encode, same_word};
 use sdh_overhead::{Section, write_section};
 use sdh_pointer::Gen;
 use sdh_ringmap::Side;
@@ -83,12 +83,13 @@ impl Sender {
     ) -> bool
         requires rate { cross.now.west.section.rate ≡ out.old.rate }
         requires section { self.old.section.rate ≡ out.old.rate }
-        ensures sender { self.new ≡ sent_from (input_at cross.now (holds ports.now) side) self.old }
-        ensures frame { out.new ≡ frame_from (input_at cross.now (holds ports.now) side) self.old }
+        ensures sender { self.new ≡ after_sending (input_at cross.now (added_last ports.now) side) self.old }
+        ensures frame { out.new ≡ frame_from (input_at cross.now (added_last ports.now) side) self.old }
         ensures same { result ≡ same_generators self.new.generators self.old.generators }
         ensures rate { self.new.section.rate ≡ self.old.section.rate }
         ensures out { out.new.rate ≡ out.old.rate }
     {
+        // Reading it gives the proof what is true of every frame.
         let _ = out.rate();
         let same = send_all(cross, ports, side, &mut self.generators, out);
         let (k1, k2) = encode(self.word);

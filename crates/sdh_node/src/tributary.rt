@@ -2,12 +2,12 @@
 ghost use Rattle.std.specs.Prelude.{◌≡◌, ℕ, ◌+◌, ◌-◌, ◌^◌, ◌<◌, ◌≤◌, [], ◌∷◌, ◌++◌, if◌then◌else◌, All, IsTrue, IfOk, OnOk, IfSome, length, position};
 ghost use Rattle.sdh_circuits.specs.Provisioned.{customer_at};
 ghost use Rattle.sdh_payload.specs.Stream.{chunk_of};
-ghost use Rattle.sdh_node.specs.Tributaries.{new_tributary, ends_at, tributaries_at, is_port, same_end, HasPort, outlet_of, own_chunk, fed, all_fed, IsTributary};
+ghost use Rattle.sdh_node.specs.Tributaries.{new_tributary, ends_at, tributaries_at, is_port, HasPort, outlet_of, own_chunk, fed, all_fed, IsTributary};
 ghost use Rattle.sdh_node.specs.Crossing.{half_of, delivered_to, all_delivered};
 
 use crate::cross::CrossConnect;
 use crate::outlet::Outlet;
-use sdh_circuits::{Circuit, CircuitMap, End, PortId, Slot};
+use sdh_circuits::{Circuit, CircuitMap, End, PortId, Slot, same_end};
 use sdh_payload::{Cells, Feed, Port};
 use sdh_ringmap::{Pos, Side};
 use std::alloc::{AllocError, Global};
@@ -120,15 +120,6 @@ impl Tributary {
     }
 }
 
-fn same_end(left: End, right: End) -> bool
-    ensures { result ≡ same_end left right }
-{
-    match (left, right) {
-        (End::A, End::A) | (End::B, End::B) => true,
-        (End::A, End::B) | (End::B, End::A) => false,
-    }
-}
-
 /// The place of a port among those of a node.
 pub fn place_of(ports: &[Tributary], id: PortId) -> Option<usize>
     ensures place { result ≡ position (is_port id) ports.now }
@@ -145,6 +136,7 @@ pub fn has_port(ports: &[Tributary], id: PortId) -> bool
 {
     match place_of(ports, id) {
         Some(i) => {
+            // A use of the port, so that the proof may speak of it.
             let _port = &ports[i];
             true
         }

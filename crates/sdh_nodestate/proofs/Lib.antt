@@ -1,1 +1,3 @@
 pub mod FarEnds
+pub mod Urgency
+pub mod SameStates

@@ -3,3 +3,5 @@ pub mod Conditions
 pub mod Words
 pub mod FarEnds
 pub mod Views
+pub mod Urgency
+pub mod Shapes

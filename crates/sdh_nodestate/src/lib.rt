@@ -10,8 +10,12 @@ ghost use Rattle.sdh_nodestate.specs.Rules.{scene, state_after, sent_after};
 ghost use Rattle.sdh_nodestate.specs.Conditions.{MayStep};
 ghost use Rattle.sdh_nodestate.specs.Words.{IsSourced, HearsSourced, SendsSpellable, HearsSpellable};
 ghost use Rattle.sdh_nodestate.specs.FarEnds.{far_of, IsElsewhere, west_chain, east_chain};
+ghost use Rattle.sdh_nodestate.specs.Urgency.{FirstWordsAreSent};
 
 mod scene;
+mod shape;
+
+pub use shape::{Shape, same_shape, shape_of};
 
 use crate::scene::Scene;
 use sdh_kbytes::{Code, K};
@@ -151,6 +155,7 @@ pub fn step(old: NodeState, map: &RingMap, at: Pos, needs: Needs, heard: Heard) 
     ensures sourced { HearsSourced map.now heard → IsSourced map.now result.1 }
     ensures spellable { HearsSpellable heard → SendsSpellable result.1 }
 {
+    // The rules don't look at the old state; it is used up here.
     let _ = old;
     let scene = Scene {
         map,
@@ -206,6 +211,13 @@ impl SwitchEast {
         }
     }
 }
+
+/// The word sent on a side is the most urgent of those that may be sent there, where all requests of at least SF are equally
+/// urgent; between equally urgent words an own short one stands before an own long one, and that before a relayed one.
+#[tactic(auto, using(crate::proofs::Urgency::first_words_are_sent))]
+pub fn first_words_are_sent()
+    ensures { FirstWordsAreSent }
+{}
 
 #[cfg(test)]
 mod tests;

@@ -57,12 +57,12 @@ module _ (rate : Rate) (a : Added) (bytes : List ℕ) (whole : length bytes ≡ 
   unfolding with_overhead
   length-overhead = length-map_from (byte_at (n_of rate) a) 0 bytes ∙ whole
 
-  at_overhead : (i : ℕ) → i < 2430 * n_of rate → get_or (with_overhead (n_of rate) a bytes) i 0 ≡ byte_at (n_of rate) a i (get_or bytes i 0)
+  pub at_overhead : (i : ℕ) → i < 2430 * n_of rate → get_or (with_overhead (n_of rate) a bytes) i 0 ≡ byte_at (n_of rate) a i (get_or bytes i 0)
   unfolding with_overhead
   at_overhead i h = get_or-placed (byte_at (n_of rate) a) bytes i 0 0 (omega arith)
 
   -- byte c of row r, counted from 0, where it is overhead of this field
-  field-there : (r c i : ℕ) (f : field.Field) → r < 9 → c < 9 * n_of rate → i ≡ r * (270 * n_of rate) + c → i < 2430 * n_of rate → field_at (n_of rate) (r + 1) (c + 1) ≡ f
+  pub field-there : (r c i : ℕ) (f : field.Field) → r < 9 → c < 9 * n_of rate → i ≡ r * (270 * n_of rate) + c → i < 2430 * n_of rate → field_at (n_of rate) (r + 1) (c + 1) ≡ f
       → get_or (with_overhead (n_of rate) a bytes) i 0 ≡ written a f (get_or bytes i 0)
   field-there r c i f small h e within is =
       at_overhead i within ∙ byte_at-row (n_of rate) a r c i (get_or bytes i 0) (omega arith) (sym e) ∙ ap (λ (g : field.Field). written a g (get_or bytes i 0)) is
@@ -99,7 +99,7 @@ module _ (rate : Rate) (a : Added) (bytes : List ℕ) (whole : length bytes ≡ 
   b1-there : byte_in (n_of rate) (with_overhead (n_of rate) a bytes) 2 1 ≡ a.b1
   b1-there = let n = n_of rate in let s = some in field-there 1 0 _ B1 (omega arith) (omega arith) (omega arith) (omega arith) (field-b1 n 0 (omega arith) refl)
 
-  b2-there : length a.b2 ≡ 3 * n_of rate → b2_in (n_of rate) (with_overhead (n_of rate) a bytes) ≡ a.b2
+  pub b2-there : length a.b2 ≡ 3 * n_of rate → b2_in (n_of rate) (with_overhead (n_of rate) a bytes) ≡ a.b2
   b2-there len =
       let n = n_of rate in
       let clear = with_overhead n a bytes in
@@ -141,7 +141,7 @@ pub kept_whole : (n : ℕ) (known : Bool) (b1 : ℕ) (b2 : List ℕ) → 3 * n �
 kept_whole n true b1 b2 h len = length-take-le (3 * n) b2 (omega arith)
 kept_whole n false b1 b2 h len = tt
 
-placed-length : (n : ℕ) (last : Option Parities) → AreParities n last → length (placed_after n last).b2 ≡ 3 * n
+pub placed-length : (n : ℕ) (last : Option Parities) → AreParities n last → length (placed_after n last).b2 ≡ 3 * n
 placed-length n None are = length-replicate (3 * n) 0
 placed-length n (Some last) are = are
 

@@ -21,7 +21,7 @@ unfoldable pub parities_of : ℕ → List ℕ → List ℕ → Parities
 parities_of n clear line = record { b1 = bip8 line; b2 = section_parity n clear }
 
 -- a section keeps the parities of the last frame, or none
-pub record Kept : Type 0 where
+pub record SectionKept : Type 0 where
   pub rate : Rate
   pub last : Option Parities
 

@@ -19,6 +19,7 @@ pub fn what_is_written_is_read(
     ensures { ComesBack sending.now.rate sending.now.last receiving.now.last k1 k2 frame.now.bytes }
 {
     sending.are_whole();
+    // Reading it gives the proof what is true of every frame.
     let _ = frame.bytes();
 }
 

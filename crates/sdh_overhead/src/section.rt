@@ -25,9 +25,9 @@ pub struct Section {
 
 impl Model for Section {
     ghost use Rattle.sdh_frame.specs.Sizes.{n_of};
-    ghost use Rattle.sdh_overhead.specs.Sections.{Kept, last_of, IsBlank};
+    ghost use Rattle.sdh_overhead.specs.Sections.{SectionKept, last_of, IsBlank};
 
-    ghost Value = { Kept };
+    ghost Value = { SectionKept };
 
     ghost view = { λ a. record { rate = a.rate; last = last_of (n_of a.rate) a.known a.b1 a.b2 } };
 
@@ -108,6 +108,7 @@ impl Section {
     pub(crate) fn are_whole(&self)
         ensures { AreParities (n_of self.now.rate) self.now.last }
     {
+        // Reading it gives the proof what is true of every section.
         let _ = &self.known;
     }
 

@@ -94,7 +94,8 @@ pub violations_of-same : (xs : List ℕ) → violations_of xs xs ≡ 0
 violations_of-same [] = refl
 violations_of-same (x ∷ xs) = ap (λ d. d + violations_of xs xs) (differing_bits-same x) ∙ ap (λ v. 0 + v) (violations_of-same xs)
 
-violations_of-push : (xs ys : List ℕ) (x y : ℕ) → length xs ≡ length ys → violations_of (xs ++ x ∷ []) (ys ++ y ∷ []) ≡ violations_of xs ys + differing_bits x y
+-- one byte at the end
+pub violations_of-push : (xs ys : List ℕ) (x y : ℕ) → length xs ≡ length ys → violations_of (xs ++ x ∷ []) (ys ++ y ∷ []) ≡ violations_of xs ys + differing_bits x y
 violations_of-push [] [] x y e = omega arith
 violations_of-push [] (b ∷ ys) x y e = absurd (omega arith)
 violations_of-push (a ∷ xs) [] x y e = absurd (omega arith)

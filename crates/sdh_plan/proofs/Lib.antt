@@ -1,2 +1,12 @@
+pub mod Decimals
+pub mod Cutting
+pub mod Forms
+pub mod Checking
+pub mod Scripts
 pub mod Elements
+pub mod Refusing
+pub mod Provisions
 pub mod Nodes
+pub mod Composed
+pub mod Facts
+pub mod Following

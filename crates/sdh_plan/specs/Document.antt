@@ -1,8 +1,9 @@
 -- Reading the data of a TOML document.
-use Rattle.std.specs.Prelude.{◌≡◌, ℕ, ℤ, pos, negsuc, List, [], ◌∷◌, Bool, ◌&&◌, nat_le, if◌then◌else◌, Option, Some, None, option_map, option_and_then, IsUtf8}
+use Rattle.std.specs.Prelude.{◌≡◌, ℕ, ℤ, pos, negsuc, List, [], ◌∷◌, Bool, false, ◌&&◌, nat_le, if◌then◌else◌, Option, Some, None, option_map, option_and_then, unwrap_or, is_some, IsUtf8}
 use Rattle.std.specs.Str.{bytes_eq}
+use Rattle.std.specs.Option.{option_map_or}
 use Rattle.std.specs.List.{list_all, list_any}
-use Rattle.toml.specs.Data.{Data, Items, no_items, item, Members, no_members, member, get_member, as_str, as_integer, as_array}
+use Rattle.toml.specs.Data.{Data, Items, no_items, item, Members, no_members, member, get_member, as_str, as_integer, as_array, as_table}
 use Rattle.toml.specs.Parse.{parse_document}
 
 -- the bytes are UTF-8 and a TOML document, and these are its members
@@ -35,11 +36,6 @@ is_among keys key = list_any (λ known. bytes_eq key known) keys
 unfoldable pub has_only : List (List ℕ) → Members → Bool
 has_only keys ms = list_all (is_among keys) (keys_of ms)
 
--- each f x, where each is some
-abbrev pub each_some : {X Y : Type 0} → (X → Option Y) → List X → Option (List Y)
-each_some f [] = Some []
-each_some f (x ∷ xs) = option_and_then (λ y. option_map (λ ys. y ∷ ys) (each_some f xs)) (f x)
-
 -- the number, where it is from low to high
 abbrev pub number_in : ℕ → ℕ → ℤ → Option ℕ
 number_in low high (pos n) = if nat_le low n && nat_le n high then Some n else None
@@ -60,3 +56,29 @@ text_at key ms = get_member key ms >>= as_str
 -- the elements of the array at a key
 abbrev pub elements_at : List ℕ → Members → Option (List Data)
 elements_at key ms = option_map elements (get_member key ms >>= as_array)
+
+-- the elements of the array at a key; none where there is no array
+abbrev pub elements_in : List ℕ → Members → List Data
+elements_in key ms = unwrap_or (elements_at key ms) []
+
+-- there is an array of such elements at the key
+abbrev pub is_array_of : (Data → Bool) → List ℕ → Members → Bool
+is_array_of test key ms = option_map_or (list_all test) (elements_at key ms) false
+
+-- it is an integer, a text, a table
+abbrev pub is_integer : Data → Bool
+is_integer d = is_some (as_integer d)
+
+abbrev pub is_text : Data → Bool
+is_text d = is_some (as_str d)
+
+abbrev pub is_table : Data → Bool
+is_table d = is_some (as_table d)
+
+-- the integer that it is; 0 where it is none
+abbrev pub integer_of : Data → ℤ
+integer_of d = unwrap_or (as_integer d) (pos 0)
+
+-- the bytes of a text; no bytes where it is none
+abbrev pub text_of : Data → List ℕ
+text_of d = unwrap_or (as_str d) []

@@ -1,5 +1,12 @@
+pub mod Check
+pub mod Words
 pub mod Document
-pub mod Planned
+pub mod Verbs
+pub mod Steps
+pub mod Scripts
+pub mod Reasons
+pub mod Refusals
 pub mod Circuits
-pub mod FirstForm
+pub mod Planned
+pub mod Plans
 pub mod Answers

@@ -1,44 +1,45 @@
 -- A plan as contracts see it.
-use Rattle.std.specs.Prelude.{◌≡◌, ℕ, ◌*◌, ◌/◌, ◌≤◌, ◌⊎◌, List, [], ◌∷◌, Option, Some, None}
+use Rattle.std.specs.Prelude.{◌≡◌, true, ℕ, ◌*◌, ◌/◌, ◌≤◌, List, length}
+use Rattle.sdh_node.specs.declared.settings.Settings.{Settings}
+use Rattle.sdh_frame.specs.Sizes.{n_of}
+use Rattle.sdh_ringmap.specs.Ids.{AreIds}
+use Rattle.sdh_circuits.specs.Provisioning.{Provisioning, IsProvisioning}
+use Rattle.sdh_plan.specs.Circuits.{provisioned}
 use Rattle.sdh_circuits.specs.Provisioned.{Provisioned}
-use Rattle.sdh_circuits.specs.Provisioning.{Provisioning}
+use Rattle.sdh_plan.specs.declared.step.Step.{Step}
+use Rattle.sdh_plan.specs.Steps.{start, ends_settled}
+use Rattle.sdh_plan.specs.Scripts.{AreSteps}
 
 pub record Planned : Type 0 where
-  -- N of STM-N, 4 or 16
-  pub rate : ℕ
+  -- what an operator sets for all nodes: the rate, the threshold and the waiting time
+  pub settings : Settings
+  -- a settle step has at most so many rounds
+  pub limit : ℕ
   -- the identifiers of the nodes, by position
   pub nodes : List ℕ
-  -- so many B2 violations of an arriving frame are a signal degrade, 1 to 3N
-  pub threshold : ℕ
-  -- a side waits to restore for so many moments after its defect ended, 0 to 1,000,000
-  pub wait : ℕ
-  -- a settle step has at most so many rounds, 1 to 65,536
-  pub limit : ℕ
-  -- how many settle steps there are, 1 to 64
-  pub settles : ℕ
   -- the circuits in their order
   pub circuits : List Provisioned
+  -- the steps of the script in their order
+  pub steps : List Step
+
+-- the plan of these settings, nodes, circuits and steps
+abbrev pub planned : Settings → ℕ → List ℕ → Provisioning → List Step → Planned
+planned settings limit nodes provisioning steps = record { settings = settings; limit = limit; nodes = nodes; circuits = provisioning.circuits; steps = steps }
+
+-- the plan's circuit map: half of N are working slots, and the ring that is kept is the plan's
+abbrev pub provisioning_of : Planned → Provisioning
+provisioning_of plan = provisioned (n_of plan.settings.rate / 2) plan.nodes plan.circuits
 
 -- what is true of every plan
 pub record IsPlanned (plan : Planned) : Type 0 where
-  pub rate_form : (plan.rate ≡ 4) ⊎ (plan.rate ≡ 16)
-  pub threshold_from_1 : 1 ≤ plan.threshold
-  pub threshold_small : plan.threshold ≤ 3 * plan.rate
-  pub wait_small : plan.wait ≤ 1000000
+  pub threshold_from_1 : 1 ≤ plan.settings.threshold
+  pub threshold_small : plan.settings.threshold ≤ 3 * n_of plan.settings.rate
+  pub wait_small : plan.settings.wait ≤ 1000000
   pub limit_from_1 : 1 ≤ plan.limit
   pub limit_small : plan.limit ≤ 65536
-  pub settles_from_1 : 1 ≤ plan.settles
-  pub settles_few : plan.settles ≤ 64
-
--- the ring that a circuit map keeps: that of its first circuit
-abbrev pub kept_ring : List ℕ → List Provisioned → Option (List ℕ)
-kept_ring nodes [] = None
-kept_ring nodes (circuit ∷ more) = Some nodes
-
--- the plan's circuit map: half of N are working slots
-abbrev pub provisioning_of : Planned → Provisioning
-provisioning_of plan = record { slots = plan.rate / 2; ring = kept_ring plan.nodes plan.circuits; circuits = plan.circuits }
-
--- the plan of these settings, nodes and circuits
-abbrev pub planned : ℕ → List ℕ → ℕ → ℕ → ℕ → ℕ → Provisioning → Planned
-planned rate nodes threshold wait limit settles provisioning = record { rate = rate; nodes = nodes; threshold = threshold; wait = wait; limit = limit; settles = settles; circuits = provisioning.circuits }
+  pub nodes_fit : AreIds plan.nodes
+  pub circuits_fit : IsProvisioning (provisioning_of plan)
+  pub steps_from_1 : 1 ≤ length plan.steps
+  pub steps_few : length plan.steps ≤ 1000
+  pub steps_fit : AreSteps plan.settings.rate (length plan.nodes) start plan.steps
+  pub last_settles : ends_settled plan.steps ≡ true

@@ -1,43 +1,66 @@
-//! The circuit that a document asks for.
-ghost use Rattle.std.specs.Prelude.{◌≡◌, option_map, string_bytes};
+//! The circuits that a document asks for.
+ghost use Rattle.std.specs.Prelude.{◌≡◌, ◌⊎◌, ◌/◌, ◌+◌, [], None, option_map, map, length, string_bytes, IfSome, IfOk, IfErr, OnOk, OnErr, codes};
 ghost use Rattle.std.specs.BTreeMap.{keys};
 ghost use Rattle.std.specs.List.{list_all};
-ghost use Rattle.toml.specs.View.{table_view};
-ghost use Rattle.sdh_circuits.specs.Checks.{wish_of};
-ghost use Rattle.sdh_plan.specs.Document.{is_among, has_only};
-ghost use Rattle.sdh_plan.specs.Circuits.{circuit_keys, wish_in};
+ghost use Rattle.toml.specs.View.{view, table_view};
+ghost use Rattle.toml.specs.Data.{as_array};
+ghost use Rattle.sdh_plan.specs.Plans.{provision_checks};
+ghost use Rattle.sdh_circuits.specs.Checks.{wish_of, with_circuit};
+ghost use Rattle.sdh_plan.specs.Check.{answer, first_fault};
+ghost use Rattle.sdh_plan.specs.Document.{is_among, has_only, is_table, elements, elements_in};
+ghost use Rattle.sdh_plan.specs.Circuits.{circuit_keys, wish_in, text_or, integer_or_0, circuit_in, circuit_faults, circuits_checks, members_of, provisioned};
+ghost use Rattle.sdh_plan.specs.Refusals.{IsRefused, refusal_at, reason_of};
 
-use crate::document::{integer_under, is_text, text_under};
-use sdh_circuits::Asked;
-use toml::Table;
+use crate::document::{integer_under, is_text, text_under, value_under};
+use crate::error::{PlanError, of_document};
+use crate::reason;
+use sdh_circuits::{AddError, Asked, CircuitMap};
+use sdh_ringmap::RingMap;
+use std::alloc::Global;
+use toml::value::Array;
+use toml::{Table, Value};
 
-// Whether a circuit has the key.
+// Whether a circuit may have the key.
 #[tactic(auto, unfolding(crate::specs::Document::is_among))]
 fn is_circuit_key(key: &str) -> bool
     ensures { result ≡ is_among circuit_keys key.now }
 {
     let known = is_text(key, "name") || is_text(key, "from") || is_text(key, "to");
-    known || is_text(key, "slot") || is_text(key, "text_a") || is_text(key, "text_b")
+    let known = known || is_text(key, "slot") || is_text(key, "text_a") || is_text(key, "text_b");
+    let known = known || is_text(key, "trace_a") || is_text(key, "trace_b");
+    known || is_text(key, "offset_a") || is_text(key, "offset_b")
 }
 
-// Whether a circuit has each key.
-fn each_known(table: &Table) -> bool
+// Whether a circuit may have all the keys.
+fn has_circuit_keys(table: &Table) -> bool
     ensures { result ≡ list_all (λ key. is_among circuit_keys (string_bytes key)) (keys table.now) }
 {
     table.keys().all(|key| is_circuit_key(key.as_str()))
 }
 
-// Whether a circuit has all the keys.
-#[tactic(auto, using(crate::proofs::Elements::all_keys_view), unfolding(crate::specs::Document::has_only))]
-fn has_circuit_keys(table: &Table) -> bool
-    ensures { result ≡ has_only circuit_keys (table_view table.now) }
+// The text at a key, and another where the key is missing.
+fn text_or<'a>(table: &'a Table, key: &str, other: &'a str) -> Option<&'a str>
+    ensures { option_map (λ text. text.now) result ≡ text_or other.now key.now (table_view table.now) }
 {
-    each_known(table)
+    match value_under(table, key) {
+        Some(value) => value.as_str(),
+        None => Some(other),
+    }
 }
 
-/// What the document asks for, where the keys and kinds are those of the first form.
+// The integer at a key, and 0 where the key is missing.
+fn integer_or_0(table: &Table, key: &str) -> Option<i64>
+    ensures { result ≡ integer_or_0 key.now (table_view table.now) }
+{
+    match value_under(table, key) {
+        Some(value) => value.as_integer(),
+        None => Some(0),
+    }
+}
+
+// What the table asks for, where the needed keys are there and each value has its kind.
 #[tactic(auto, unfolding(crate::specs::Circuits::wish_in))]
-pub fn asked_under<'a>(table: &'a Table) -> Option<Asked<'a>>
+fn asked_under<'a>(table: &'a Table) -> Option<Asked<'a>>
     ensures { option_map wish_of result ≡ wish_in (table_view table.now) }
 {
     let name = text_under(table, "name")?;
@@ -46,19 +69,154 @@ pub fn asked_under<'a>(table: &'a Table) -> Option<Asked<'a>>
     let slot = integer_under(table, "slot")?;
     let text_a = text_under(table, "text_a")?;
     let text_b = text_under(table, "text_b")?;
-    if !has_circuit_keys(table) {
-        return None;
-    }
+    let trace_a = text_or(table, "trace_a", name)?;
+    let trace_b = text_or(table, "trace_b", name)?;
+    let offset_a = integer_or_0(table, "offset_a")?;
+    let offset_b = integer_or_0(table, "offset_b")?;
     Some(Asked {
         name,
         from,
         to,
         slot,
-        offset_a: 0,
-        offset_b: 0,
+        offset_a,
+        offset_b,
         text_a,
         text_b,
-        trace_a: name,
-        trace_b: name,
+        trace_a,
+        trace_b,
     })
+}
+
+// Why a circuit that is asked for isn't added, at its place.
+fn refused_at(place: u32, why: AddError) -> PlanError
+    ensures { IsRefused (refusal_at place (reason_of why)) result }
+{
+    let reason = match why {
+        AddError::Memory => return PlanError::Memory,
+        AddError::Slot => reason::SLOT,
+        AddError::End => reason::END,
+        AddError::SameEnds => reason::SAME_ENDS,
+        AddError::Offset => reason::OFFSET,
+        AddError::Text => reason::TEXT,
+        AddError::Trace => reason::TRACE,
+        AddError::Name => reason::NAME,
+        AddError::Overlap => reason::OVERLAP,
+    };
+    PlanError::BadPlan { reason, place }
+}
+
+// Adds the circuit that a table asks for.
+#[tactic(auto, unfolding(crate::specs::Circuits::circuit_faults, crate::specs::Document::has_only), using(crate::proofs::Elements::all_keys_view, crate::proofs::Refusing::refused_by, crate::proofs::Refusing::all_passed))]
+fn add_table(
+    circuits: &mut CircuitMap,
+    ring: &RingMap,
+    table: &Table,
+    place: u32,
+) -> Result<(), PlanError>
+    requires { IfSome circuits.old.ring (λ kept. kept ≡ ring.now) }
+    ensures added { OnOk result (circuits.new ≡ with_circuit circuits.old ring.now (circuit_in ring.now (table_view table.now))) }
+    ensures passed { OnOk result (first_fault (circuit_faults circuits.old.slots ring.now circuits.old.circuits (table_view table.now)) ≡ None) }
+    ensures refused { IfErr result (IsRefused (refusal_at place (first_fault (circuit_faults circuits.old.slots ring.now circuits.old.circuits (table_view table.now))))) }
+{
+    if !has_circuit_keys(table) {
+        return Err(PlanError::BadPlan {
+            reason: reason::UNKNOWN_KEY,
+            place,
+        });
+    }
+    let Some(asked) = asked_under(table) else {
+        return Err(PlanError::BadPlan {
+            reason: reason::CIRCUIT_FIELD,
+            place,
+        });
+    };
+    match circuits.add(ring, &asked) {
+        Ok(()) => Ok(()),
+        Err(why) => Err(refused_at(place, why)),
+    }
+}
+
+// Adds the circuit that a value asks for. One that is no table has no key.
+#[tactic(auto, unfolding(crate::specs::Circuits::circuit_faults, crate::specs::Circuits::wish_in, crate::specs::Document::has_only))]
+fn add_circuit(
+    circuits: &mut CircuitMap,
+    ring: &RingMap,
+    value: &Value,
+    place: u32,
+) -> Result<(), PlanError>
+    requires { IfSome circuits.old.ring (λ kept. kept ≡ ring.now) }
+    ensures added { OnOk result (circuits.new ≡ with_circuit circuits.old ring.now (circuit_in ring.now (members_of (view value.now)))) }
+    ensures passed { OnOk result (first_fault (circuit_faults circuits.old.slots ring.now circuits.old.circuits (members_of (view value.now))) ≡ None) }
+    ensures refused { IfErr result (IsRefused (refusal_at place (first_fault (circuit_faults circuits.old.slots ring.now circuits.old.circuits (members_of (view value.now)))))) }
+{
+    match value.as_table() {
+        Some(table) => add_table(circuits, ring, table, place),
+        None => Err(PlanError::BadPlan {
+            reason: reason::CIRCUIT_FIELD,
+            place,
+        }),
+    }
+}
+
+/// The circuits that the values ask for, in a ring at STM-n, or the first check that fails.
+pub fn circuits_of(
+    alloc: Global,
+    ring: &RingMap,
+    n: u8,
+    values: &[Value],
+) -> Result<CircuitMap, PlanError>
+    requires { (n ≡ 4) ⊎ (n ≡ 16) }
+    ensures circuits { IfOk result (λ circuits. circuits ≡ provisioned (n / 2) ring.now (map (λ d. circuit_in ring.now (members_of d)) (map view values.now))) }
+    ensures passed { OnOk result (answer (circuits_checks (n / 2) ring.now [] 1 (map view values.now)) ≡ None) }
+    ensures refused { IfErr result (IsRefused (answer (circuits_checks (n / 2) ring.now [] 1 (map view values.now)))) }
+{
+    let mut circuits = CircuitMap::new(alloc, n / 2);
+    for value in values {
+        let place = circuits.len() as u32 + 1;
+        match add_circuit(&mut circuits, ring, value, place) {
+            Ok(()) => {}
+            Err(error) => return Err(error),
+        }
+    }
+    Ok(circuits)
+}
+
+// Whether all values are tables.
+fn all_tables(values: &[Value]) -> bool
+    ensures { result ≡ list_all (λ value. is_table (view value)) values.now }
+{
+    values.iter().all(|value| value.as_table().is_some())
+}
+
+// The array that the value is.
+#[tactic(auto, using(crate::proofs::Elements::elements_view))]
+fn array_of(value: &Value) -> Option<&Array>
+    ensures { option_map (λ array. map view array.now.items) result ≡ option_map elements (as_array (view value.now)) }
+{
+    value.as_array()
+}
+
+/// The circuits of a document, or the first check that fails.
+#[tactic(auto, using(crate::proofs::Elements::all_tables_view), unfolding(crate::specs::Plans::provision_checks))]
+pub fn circuits_under(
+    alloc: Global,
+    table: &Table,
+    ring: &RingMap,
+    n: u8,
+) -> Result<CircuitMap, PlanError>
+    requires { (n ≡ 4) ⊎ (n ≡ 16) }
+    ensures circuits { IfOk result (λ circuits. circuits ≡ provisioned (n / 2) ring.now (map (λ d. circuit_in ring.now (members_of d)) (elements_in (codes "circuit") (table_view table.now)))) }
+    ensures passed { OnOk result (answer (provision_checks n ring.now (table_view table.now)) ≡ None) }
+    ensures refused { IfErr result (IsRefused (answer (provision_checks n ring.now (table_view table.now)))) }
+{
+    let Some(value) = value_under(table, "circuit") else {
+        return Ok(CircuitMap::new(alloc, n / 2));
+    };
+    let Some(values) = array_of(value) else {
+        return Err(of_document(reason::CIRCUITS));
+    };
+    if !all_tables(values) {
+        return Err(of_document(reason::CIRCUITS));
+    }
+    circuits_of(alloc, ring, n, values)
 }

@@ -1,11 +1,11 @@
 //! The document that bytes are, and the values at its keys.
-ghost use Rattle.std.specs.Prelude.{◌≡◌, ◌≤◌, IfSome, List, Some, None, option_map, option_copied, IfOk, IsErrOf, map, string_bytes};
+ghost use Rattle.std.specs.Prelude.{◌≡◌, ◌≤◌, IfSome, List, Some, None, option_map, option_copied, IfOk, IsErrOf, map, unwrap_or, [], string_bytes};
 ghost use Rattle.std.specs.BTreeMap.{keys};
 ghost use Rattle.std.specs.Str.{bytes_eq};
 ghost use Rattle.std.specs.List.{list_all};
 ghost use Rattle.toml.specs.Data.{get_member};
 ghost use Rattle.toml.specs.View.{view, table_view};
-ghost use Rattle.sdh_plan.specs.Document.{IsDocument, IsNoDocument, number_in, integer_at, number_at, text_at, elements_at};
+ghost use Rattle.sdh_plan.specs.Document.{IsDocument, IsNoDocument, text_of, number_in, integer_at, number_at, text_at, elements_at};
 
 use std::alloc::Global;
 use toml::value::Array;
@@ -94,5 +94,15 @@ pub fn array_under<'a>(table: &'a Table, key: &str) -> Option<&'a Array>
     match value_under(table, key) {
         Some(value) => value.as_array(),
         None => None,
+    }
+}
+
+/// The text that the value is; an empty one where it is none.
+pub fn text_of(value: &Value) -> &str
+    ensures { result.now ≡ text_of (view value.now) }
+{
+    match value.as_str() {
+        Some(text) => text,
+        None => "",
     }
 }

@@ -3,11 +3,20 @@
 
 mod circuit;
 mod document;
-mod first_form;
+mod error;
+mod form;
+mod past;
 mod plan;
 mod reading;
+mod reason;
+mod ring;
+mod script;
+mod step;
 #[cfg(test)]
 mod tests;
+mod words;
 
+pub use error::PlanError;
 pub use plan::Plan;
-pub use reading::{PlanError, read_plan};
+pub use reading::read_plan;
+pub use step::Step;

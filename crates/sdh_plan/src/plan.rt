@@ -1,21 +1,22 @@
 //! A plan.
-ghost use Rattle.std.specs.Prelude.{◌≡◌, ◌*◌, ◌≤◌, ◌⊎◌};
-ghost use Rattle.sdh_plan.specs.Planned.{provisioning_of};
+ghost use Rattle.std.specs.Prelude.{◌≡◌, ◌*◌, ◌≤◌};
+ghost use Rattle.sdh_frame.specs.Sizes.{n_of};
+ghost use Rattle.sdh_plan.specs.Planned.{IsPlanned, provisioning_of};
 
+use crate::step::Step;
 use sdh_circuits::CircuitMap;
+use sdh_node::Settings;
 use sdh_ringmap::RingMap;
 use std::marker::Model;
 
-/// What a run is to do: the ring with its circuits, the settings of its nodes, and the settle steps.
+/// What a run is to do: the ring with its circuits, the settings of its nodes, and the steps of its script.
 #[derive(Drop)]
 pub struct Plan {
-    pub(crate) rate: u8,
-    pub(crate) ring: RingMap,
-    pub(crate) threshold: u16,
-    pub(crate) wait: u32,
+    pub(crate) settings: Settings,
     pub(crate) limit: u32,
-    pub(crate) settles: u32,
+    pub(crate) ring: RingMap,
     pub(crate) circuits: CircuitMap,
+    pub(crate) steps: Vec<Step>,
 }
 
 impl Model for Plan {
@@ -24,42 +25,20 @@ impl Model for Plan {
 
     ghost Value = { Planned };
 
-    ghost view = { λ p. planned p.rate p.ring p.threshold p.wait p.limit p.settles p.circuits };
+    ghost view = { λ p. planned p.settings p.limit p.ring p.circuits p.steps.items };
 
-    ghost invariant = { λ p. IsPlanned (planned p.rate p.ring p.threshold p.wait p.limit p.settles p.circuits) × (p.circuits ≡ provisioning_of (planned p.rate p.ring p.threshold p.wait p.limit p.settles p.circuits)) };
+    ghost invariant = { λ p. IsPlanned (planned p.settings p.limit p.ring p.circuits p.steps.items) × (p.circuits ≡ provisioning_of (planned p.settings p.limit p.ring p.circuits p.steps.items)) };
 }
 
 impl Plan {
-    /// N of STM-N, 4 or 16.
-    pub fn rate(&self) -> u8
-        ensures rate { result ≡ self.now.rate }
-        ensures form { (result ≡ 4) ⊎ (result ≡ 16) }
+    /// The rate, the threshold and the waiting time.
+    pub fn settings(&self) -> Settings
+        ensures settings { result ≡ self.now.settings }
+        ensures from_1 { 1 ≤ result.threshold }
+        ensures small { result.threshold ≤ 3 * n_of result.rate }
+        ensures short { result.wait ≤ 1000000 }
     {
-        self.rate
-    }
-
-    /// The nodes of the ring, 2 to 16.
-    pub fn map(&self) -> &RingMap
-        ensures { result.now ≡ self.now.nodes }
-    {
-        &self.ring
-    }
-
-    /// So many B2 violations of an arriving frame are a signal degrade, 1 to 3N.
-    pub fn threshold(&self) -> u16
-        ensures threshold { result ≡ self.now.threshold }
-        ensures from_1 { 1 ≤ result }
-        ensures small { result ≤ 3 * self.now.rate }
-    {
-        self.threshold
-    }
-
-    /// For how many moments a side waits to restore after its defect ended, 0 to 1,000,000.
-    pub fn wait(&self) -> u32
-        ensures wait { result ≡ self.now.wait }
-        ensures small { result ≤ 1000000 }
-    {
-        self.wait
+        self.settings
     }
 
     /// How many rounds a settle step has at most, 1 to 65,536.
@@ -71,13 +50,11 @@ impl Plan {
         self.limit
     }
 
-    /// How many settle steps there are, 1 to 64.
-    pub fn settles(&self) -> u32
-        ensures settles { result ≡ self.now.settles }
-        ensures from_1 { 1 ≤ result }
-        ensures few { result ≤ 64 }
+    /// The nodes of the ring, 2 to 16.
+    pub fn map(&self) -> &RingMap
+        ensures { result.now ≡ self.now.nodes }
     {
-        self.settles
+        &self.ring
     }
 
     /// The circuits. Half of N are working slots, and the ring that is kept is the plan's.
@@ -85,5 +62,23 @@ impl Plan {
         ensures { result.now ≡ provisioning_of self.now }
     {
         &self.circuits
+    }
+
+    /// The steps of the script, 1 to 1,000.
+    pub fn steps(&self) -> &[Step]
+        ensures steps { result.now ≡ self.now.steps }
+        ensures form { IsPlanned self.now }
+    {
+        &self.steps
+    }
+
+    /// The ring, the circuits and the steps.
+    pub fn into_parts(self) -> (RingMap, CircuitMap, Vec<Step>)
+        ensures ring { result.0 ≡ self.nodes }
+        ensures circuits { result.1 ≡ provisioning_of self }
+        ensures steps { result.2.items ≡ self.steps }
+        ensures form { IsPlanned self }
+    {
+        (self.ring, self.circuits, self.steps)
     }
 }

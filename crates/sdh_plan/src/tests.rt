@@ -1,9 +1,13 @@
-//! Documents of the first form, and what is said of others.
+//! Plans that are read, and the first check that fails of others.
 
-use crate::{Plan, PlanError, read_plan};
-use sdh_circuits::{CircuitMap, End};
-use sdh_ringmap::{Pos, RingMap};
+use crate::{PlanError, Step, read_plan};
+use sdh_circuits::End;
+use sdh_frame::Rate;
+use sdh_plant::{Condition, FibreEvent};
+use sdh_request::{Command, Moment};
+use sdh_ringmap::{Pos, Side};
 use std::alloc::{AllocError, Global};
+use std::process::Abort;
 use std::test::Fail;
 
 // The smallest ordinary run: three nodes and a circuit between two neighbours.
@@ -22,129 +26,264 @@ text_a = "ALPHA"
 text_b = "BETA!"
 "#;
 
-// Four nodes and a circuit over two spans.
-const FOUR_NODES: &str = r#"rate = 4
-nodes = [1, 2, 3, 4]
-threshold = 3
-wait = 10
-limit = 1000
-script = ["settle"]
-[[circuit]]
-name = "c1"
-from = 1
-to = 3
-slot = 1
-text_a = "ABCDEFG"
-text_b = "abcdefg"
-"#;
-
-// The smallest run without its circuit.
-const NO_CIRCUIT: &str = r#"rate = 4
-nodes = [1, 2, 3]
-threshold = 3
-wait = 10
-limit = 1000
-script = ["settle"]
-"#;
-
-// Each limit of a plan, with its keys in another order.
-const LARGEST: &str = r#"script = ["settle", "settle", "settle"]
-circuit = [{ text_b = "~", text_a = " ", slot = 8, to = 0, from = 15, name = "a-z_0123456789-z" }]
-limit = 65536
-wait = 1000000
+// A plan with each key and each step.
+const FULL: &str = r#"rate = 16
+nodes = [15, 0, 7]
 threshold = 48
-nodes = [15, 14, 13, 12, 11, 10, 9, 8, 7, 6, 5, 4, 3, 2, 1, 0]
-rate = 16
+wait = 1000000
+limit = 65536
+script = ["cut 7 east", "mend 15 west", "degrade 0 west 48", "forced 7 west", "manual 0 east", "clear 15 east", "moment 0", "moment 1000000000", "moment 1000000000", "settle"]
+[[circuit]]
+name = "a-z_0123456789-z"
+from = 7
+to = 0
+slot = 8
+text_a = " "
+text_b = "~"
+trace_a = "near"
+offset_b = 782
+[[circuit]]
+name = "b"
+from = 0
+to = 7
+slot = 8
+text_a = "A"
+text_b = "B"
+trace_b = "far"
+offset_a = 1
 "#;
 
-// Changes of the smallest run after which it is still of the first form.
-const FIRST_FORMS: &[(&str, &str)] = &[
-    ("threshold = 3", "threshold = 1"),
-    ("threshold = 3", "threshold = 12"),
-    ("wait = 10", "wait = 0"),
-    ("limit = 1000", "limit = 1"),
-    ("slot = 1", "slot = 2"),
-    ("nodes = [1, 2, 3]", "nodes = [2, 1]"),
-    ("from = 1\nto = 2", "from = 3\nto = 1"),
-    ("text_a = \"ALPHA\"", "text_a = '~'"),
-    (
-        "BETA!",
-        "0123456789012345678901234567890123456789012345678901234567890123",
-    ),
-];
+// The smallest run in other words of TOML 1.1.
+const IN_BRACES: &str = "\u{feff}script = ['settle',] # last\r
+circuit = [{
+    'name' = \"\\x631\", from = 0x1, to = +2,
+    slot = 0b1, text_a = '''\nALPHA''', text_b = \"BETA!\",
+}]
+limit = 1_000
+wait = 1_0
+threshold = 0o3
+nodes = [1,
+  2, 3]
+rate = 4";
 
-// Changes of the smallest run after which it isn't of the first form.
-const OTHER_FORMS: &[(&str, &str)] = &[
-    (
-        "1, 2, 3",
-        "0, 1, 2, 3, 4, 5, 6, 7, 8, 9, 10, 11, 12, 13, 14, 15, 16",
-    ),
-    ("1, 2, 3", "1, 16"),
-    ("1, 2, 3", "1, 2, 1"),
-    ("1, 2, 3", "1"),
-    ("1, 2, 3", ""),
-    ("1, 2, 3", "1, 2, 3.0"),
-    ("1, 2, 3", "1, 2, -3"),
-    ("nodes = [1, 2, 3]", "nodes = 1"),
-    ("nodes = [1, 2, 3]\n", ""),
-    ("slot = 1", "slot = 3"),
-    ("slot = 1", "slot = 0"),
-    ("slot = 1", "slot = 1\noffset_a = 783"),
-    ("slot = 1", "slot = 1\noffset_a = 0"),
-    ("slot = 1", "slot = 1\ntrace_a = \"c1\""),
-    ("slot = 1\n", ""),
-    ("[[circuit]]", "[circuit]"),
-    (
-        "[[circuit]]",
-        "[[circuit]]\nname = \"c2\"\nfrom = 1\nto = 2\nslot = 1\ntext_a = \"A\"\ntext_b = \"B\"\n[[circuit]]",
-    ),
-    (
-        "to = 2",
-        "to = 2\nslot = 1\ntext_a = \"A\"\ntext_b = \"B\"\n[[circuit]]\nname = \"c2\"\nfrom = 3\nto = 2",
-    ),
-    ("[[circuit]]", "[[circuit]]\n[[circuit]]"),
-    ("from = 1", "from = 2"),
-    ("from = 1", "from = 4"),
-    ("from = 1", "from = -1"),
-    ("from = 1", "from = 257"),
-    ("to = 2", "to = \"2\""),
-    ("\"c1\"", "\"\""),
-    ("\"c1\"", "\"C1\""),
-    ("\"c1\"", "\"c1c1c1c1c1c1c1c1c\""),
-    ("\"c1\"", "1"),
-    ("ALPHA", ""),
-    ("ALPHA", "AL\\tPHA"),
-    (
-        "BETA!",
-        "01234567890123456789012345678901234567890123456789012345678901234",
-    ),
-    ("[\"settle\"]", "[\"cut 2 east\"]"),
-    ("[\"settle\"]", "[\"cut 2\", \"settle\"]"),
-    ("[\"settle\"]", "[\"cut  2 east\", \"settle\"]"),
-    ("[\"settle\"]", "[\"settle\", \"lock 2 east\", \"settle\"]"),
-    ("[\"settle\"]", "[\"cut 9 east\", \"settle\"]"),
-    ("[\"settle\"]", "[\"cut 2 up\", \"settle\"]"),
-    ("[\"settle\"]", "[\"degrade 2 east 13\", \"settle\"]"),
-    ("[\"settle\"]", "[\"moment 5\", \"moment 4\", \"settle\"]"),
-    ("[\"settle\"]", "[]"),
-    ("[\"settle\"]", "[\"settle \"]"),
-    ("[\"settle\"]", "\"settle\""),
-    ("[\"settle\"]", "[\"settle\", 1]"),
-    ("rate = 4", "rate = 4\ncolour = 1"),
+// A change of the smallest run, and the reason and the place that are then answered.
+type Case = (&'static str, &'static str, u8, u32);
+
+const OF_DOCUMENTS: &[Case] = &[
+    ("rate = 4", "colour = 1\nrate = 4", 12, 0),
+    ("rate = 4", "colour = 1\nrate = 5", 12, 0),
+    ("rate = 4", "rate = 5", 13, 0),
     (
         "rate = 4\nnodes = [1, 2, 3]",
         "rate = 5\nnodes = [0, 1, 2, 3, 4, 5, 6, 7, 8, 9, 10, 11, 12, 13, 14, 15, 16]",
+        13,
+        0,
     ),
-    ("rate = 4", "rate = 5"),
-    ("rate = 4", "rate = 4.0"),
-    ("rate = 4", "rate = -4"),
-    ("rate = 4\n", ""),
-    ("threshold = 3", "threshold = 0"),
-    ("threshold = 3", "threshold = 13"),
-    ("wait = 10", "wait = 1000001"),
-    ("wait = 10", "wait = -1"),
-    ("limit = 1000", "limit = 0"),
-    ("limit = 1000", "limit = 65537"),
+    ("rate = 4", "rate = 9223372036854775807", 13, 0),
+    ("rate = 4", "rate = 4.0", 13, 0),
+    ("rate = 4\n", "", 13, 0),
+    (
+        "rate = 4\nnodes = [1, 2, 3]",
+        "rate = 8\nnodes = [1]",
+        13,
+        0,
+    ),
+    ("nodes = [1, 2, 3]\n", "", 14, 0),
+    ("[1, 2, 3]", "[1, 2.0, 3]", 14, 0),
+    ("[1, 2, 3]", "3", 14, 0),
+    (
+        "1, 2, 3",
+        "0, 1, 2, 3, 4, 5, 6, 7, 8, 9, 10, 11, 12, 13, 14, 15, 16",
+        1,
+        0,
+    ),
+    (
+        "1, 2, 3",
+        "0, 1, 2, 3, 4, 5, 6, 7, 8, 9, 10, 11, 12, 13, 14, 15, '16'",
+        14,
+        0,
+    ),
+    ("1, 2, 3", "1", 1, 0),
+    ("1, 2, 3", "", 1, 0),
+    ("1, 2, 3", "1, 16", 2, 2),
+    ("1, 2, 3", "-1, 16", 2, 1),
+    ("1, 2, 3", "1, 2, 1", 3, 3),
+    ("1, 2, 3", "1, 1, 16", 2, 3),
+    ("1, 2, 3", "1, 2, 2, 1", 3, 3),
+    ("threshold = 3", "threshold = 0", 15, 0),
+    (
+        "threshold = 3\nwait = 10",
+        "threshold = 13\nwait = -1",
+        15,
+        0,
+    ),
+    ("threshold = 3\n", "", 15, 0),
+    (
+        "wait = 10\nlimit = 1000",
+        "wait = 1000001\nlimit = 0",
+        16,
+        0,
+    ),
+    ("wait = 10\n", "", 16, 0),
+    ("wait = 10", "wait = '10'", 16, 0),
+    ("limit = 1000", "limit = 65537", 17, 0),
+    ("limit = 1000", "limit = 0", 17, 0),
+    (
+        "limit = 1000\nscript = [\"settle\"]\n[[circuit]]",
+        "limit = 0\nscript = 1\n[circuit]",
+        17,
+        0,
+    ),
+    ("limit = 1000\n", "", 17, 0),
+    ("[[circuit]]", "[circuit]", 18, 0),
+    ("[\"settle\"]\n[[circuit]]", "[1]\n[circuit]", 18, 0),
+    ("[[circuit]]", "[[circuit.x]]", 18, 0),
+    (
+        "script = [\"settle\"]\n[[circuit]]",
+        "circuit = [1]\nscript = [1]\n[other]",
+        12,
+        0,
+    ),
+];
+
+const OF_CIRCUITS: &[Case] = &[
+    ("to = 2", "too = 2", 12, 1),
+    ("to = 2\n", "", 19, 1),
+    ("to = 2\nslot = 1", "to = '2'\nslot = 3", 19, 1),
+    ("slot = 1", "slot = 1\noffset_a = '0'", 19, 1),
+    ("slot = 1", "slot = 1\ntrace_b = 0", 19, 1),
+    ("to = 2\nslot = 1", "to = 9\nslot = 3", 4, 1),
+    ("slot = 1", "slot = 3", 4, 1),
+    ("slot = 1", "slot = 0", 4, 1),
+    ("to = 2", "to = 9", 5, 1),
+    ("from = 1", "from = -1", 5, 1),
+    ("from = 1", "from = 2", 6, 1),
+    ("from = 1\nto = 2", "from = 9\nto = 9", 5, 1),
+    ("to = 2\nslot = 1", "to = 1\nslot = 1\noffset_a = 783", 6, 1),
+    ("slot = 1", "slot = 1\noffset_a = 783", 7, 1),
+    (
+        "slot = 1\ntext_a = \"ALPHA\"",
+        "slot = 1\noffset_b = 783\ntext_a = ''",
+        7,
+        1,
+    ),
+    ("slot = 1", "slot = 1\noffset_b = -1", 7, 1),
+    (
+        "slot = 1\ntext_a = \"ALPHA\"\ntext_b = \"BETA!\"",
+        "slot = 1\ntrace_a = ''\ntext_a = 'A'\ntext_b = ''",
+        8,
+        1,
+    ),
+    ("\"BETA!\"", "\"\\u00e9\"", 8, 1),
+    (
+        "\"ALPHA\"",
+        "'12345678901234567890123456789012345678901234567890123456789012345'",
+        8,
+        1,
+    ),
+    (
+        "slot = 1",
+        "slot = 1\ntrace_a = '12345678901234567890123456789012345678901234567890123456789012345'",
+        11,
+        1,
+    ),
+    ("name = \"c1\"", "name = ''", 11, 1),
+    ("name = \"c1\"", "name = 'C1'\ntrace_b = ''", 11, 1),
+    ("name = \"c1\"", "name = 'C1'", 10, 1),
+    ("name = \"c1\"", "name = 'c1c1c1c1c1c1c1c1c'", 10, 1),
+    (
+        "[\"settle\"]\n[[circuit]]",
+        "[\"settle\", 1]\n[[circuit]]\ncolour = 1",
+        12,
+        1,
+    ),
+    (
+        "from = 1\nto = 2\nslot = 1\ntext_a = \"ALPHA\"\ntext_b = \"BETA!\"",
+        "from = 3\nto = 2\nslot = 1\ntext_a = 'A'\ntext_b = 'B'\n[[circuit]]\nname = 'c2'\nfrom = 1\nto = 2\nslot = 1\ntext_a = 'A'\ntext_b = 'B'",
+        9,
+        2,
+    ),
+    (
+        "from = 1\nto = 2\nslot = 1\ntext_a = \"ALPHA\"\ntext_b = \"BETA!\"",
+        "from = 2\nto = 1\nslot = 1\ntext_a = 'A'\ntext_b = 'B'\n[[circuit]]\nname = 'c2'\nfrom = 3\nto = 1\nslot = 1\ntext_a = 'A'\ntext_b = 'B'",
+        9,
+        2,
+    ),
+    (
+        "[[circuit]]",
+        "[[circuit]]\nname = 'c1'\nfrom = 3\nto = 2\nslot = 1\ntext_a = 'A'\ntext_b = 'B'\n[[circuit]]",
+        10,
+        2,
+    ),
+    (
+        "[[circuit]]",
+        "[[circuit]]\nname = 'c2'\nfrom = 3\nto = 1\nslot = 2\ntext_a = ''\ntext_b = 'B'\n[[circuit]]\ncolour = 1",
+        8,
+        1,
+    ),
+];
+
+const OF_SCRIPTS: &[Case] = &[
+    ("script = [\"settle\"]\n", "", 20, 0),
+    ("[\"settle\"]", "\"settle\"", 20, 0),
+    ("[\"settle\"]", "[\"settle\", 1]", 20, 0),
+    ("[\"settle\"]", "[]", 21, 0),
+    ("\"settle\"", "\"cut 2\", \"settle\"", 23, 1),
+    ("\"settle\"", "\"cut  2 east\", \"settle\"", 23, 1),
+    ("\"settle\"", "\"lock  2\", \"settle\"", 23, 1),
+    ("\"settle\"", "\"\"", 23, 1),
+    ("\"settle\"", "\" settle\"", 23, 1),
+    ("\"settle\"", "\"settle \"", 23, 1),
+    (
+        "\"settle\"",
+        "\"settle\", \"lock 2 east\", \"settle\"",
+        22,
+        2,
+    ),
+    (
+        "\"settle\"",
+        "\"Cut 2 east a b c d e f \", \"settle\"",
+        23,
+        1,
+    ),
+    (
+        "\"settle\"",
+        "\"Cut 2 east a b c d e f\", \"settle\"",
+        22,
+        1,
+    ),
+    ("\"settle\"", "\"settle\", \"settle now\"", 23, 2),
+    ("\"settle\"", "\"cut 9 up on\", \"settle\"", 23, 1),
+    ("\"settle\"", "\"cut 9 up\", \"settle\"", 24, 1),
+    ("\"settle\"", "\"cut 02 east\", \"settle\"", 24, 1),
+    ("\"settle\"", "\"cut two east\", \"settle\"", 24, 1),
+    ("\"settle\"", "\"cut 2 up\", \"settle\"", 25, 1),
+    ("\"settle\"", "\"degrade 2 East 13\", \"settle\"", 25, 1),
+    ("\"settle\"", "\"degrade 2 east 13\", \"settle\"", 26, 1),
+    ("\"settle\"", "\"degrade 2 east 0\", \"settle\"", 26, 1),
+    ("\"settle\"", "\"moment 1000000001\", \"settle\"", 26, 1),
+    (
+        "\"settle\"",
+        "\"moment 18446744073709551617\", \"settle\"",
+        26,
+        1,
+    ),
+    ("\"settle\"", "\"moment +5\", \"settle\"", 26, 1),
+    ("\"settle\"", "\"moment 05\", \"settle\"", 26, 1),
+    (
+        "\"settle\"",
+        "\"moment 5\", \"moment 4\", \"settle\"",
+        27,
+        2,
+    ),
+    (
+        "\"settle\"",
+        "\"moment 5\", \"moment 5\", \"moment 4\", \"cut 9 east\"",
+        27,
+        3,
+    ),
+    ("\"settle\"", "\"cut 2 east\"", 29, 1),
+    ("\"settle\"", "\"settle\", \"moment 5\"", 29, 2),
 ];
 
 // Bytes that are no document.
@@ -154,160 +293,49 @@ const NO_DOCUMENTS: &[&[u8]] = &[
     b"# \xff\n",
     b"nodes = [1",
     b"\0",
+    b"rate = 9223372036854775808",
+    b"colour = 1e999",
 ];
-
-// A document with one change.
-fn changed(alloc: Global, document: &str, old: &str, new: &str) -> Result<String, AllocError> {
-    document.replacen(alloc, old, new, 1)
-}
-
-// The smallest run with so many settle steps.
-fn settling(alloc: Global, settles: usize) -> Result<String, AllocError> {
-    let mut steps = String::new(alloc);
-    for _ in 0..settles {
-        steps.push_str("\"settle\",")?;
-    }
-    changed(alloc, SMALLEST, "\"settle\"", steps.as_str())
-}
 
 // The error, if there is no plan.
 fn error_of(alloc: Global, document: &[u8]) -> Option<PlanError> {
     read_plan(alloc, document).err()
 }
 
-// What a document is read as.
-struct Row {
-    document: &'static str,
-    // rate, threshold, wait, limit and settle steps
-    numbers: &'static [u32],
-    ids: &'static [u8],
-    // the ends and the slot of the circuit, or nothing
-    places: &'static [u8],
-    name: &'static str,
-    text_a: &'static str,
-    text_b: &'static str,
-}
-
-const ROWS: &[Row] = &[
-    Row {
-        document: SMALLEST,
-        numbers: &[4, 3, 10, 1000, 1],
-        ids: &[1, 2, 3],
-        places: &[0, 1, 1],
-        name: "c1",
-        text_a: "ALPHA",
-        text_b: "BETA!",
-    },
-    Row {
-        document: FOUR_NODES,
-        numbers: &[4, 3, 10, 1000, 1],
-        ids: &[1, 2, 3, 4],
-        places: &[0, 2, 1],
-        name: "c1",
-        text_a: "ABCDEFG",
-        text_b: "abcdefg",
-    },
-    Row {
-        document: NO_CIRCUIT,
-        numbers: &[4, 3, 10, 1000, 1],
-        ids: &[1, 2, 3],
-        places: &[],
-        name: "",
-        text_a: "",
-        text_b: "",
-    },
-    Row {
-        document: LARGEST,
-        numbers: &[16, 48, 1_000_000, 65_536, 3],
-        ids: &[15, 14, 13, 12, 11, 10, 9, 8, 7, 6, 5, 4, 3, 2, 1, 0],
-        places: &[0, 15, 8],
-        name: "a-z_0123456789-z",
-        text_a: " ",
-        text_b: "~",
-    },
-];
-
-// Whether the plan has these numbers and these nodes.
-fn has_settings(plan: &Plan, row: &Row) -> bool {
-    let settings = [
-        u32::from(plan.rate()),
-        u32::from(plan.threshold()),
-        plan.wait(),
-        plan.limit(),
-        plan.settles(),
-    ];
-    settings.as_slice() == row.numbers && plan.map().len() == row.ids.len()
-}
-
-// The identifier at a position, if it is in the ring.
-fn id_at(map: &RingMap, p: usize) -> Option<u8> {
-    if p < map.len() {
-        Some(map.id(Pos(p as u8)))
-    } else {
-        None
+// The smallest run with so many of the step before its own.
+fn repeating(alloc: Global, step: &str, times: usize) -> Result<String, AllocError> {
+    let mut steps = String::new(alloc);
+    for _ in 0..times {
+        steps.push_str("\"")?;
+        steps.push_str(step)?;
+        steps.push_str("\", ")?;
     }
+    steps.push_str("\"settle\"")?;
+    SMALLEST.replacen(alloc, "\"settle\"", steps.as_str(), 1)
 }
 
-// Whether the plan has this circuit alone, or none. Its traces are its name, and its offsets 0.
-fn has_circuit(circuits: &CircuitMap, row: &Row) -> bool {
-    if circuits.len() != 1 {
-        return circuits.len() == 0 && row.places.is_empty();
-    }
-    let circuit = circuits.get(0);
-    let (a, b) = (circuit.port(End::A), circuit.port(End::B));
-    let places = [circuit.from().0, circuit.to().0, circuit.slot().0];
-    let name = row.name.as_bytes();
-    let texts = a.text() == row.text_a.as_bytes() && b.text() == row.text_b.as_bytes();
-    let traces = a.trace() == name && b.trace() == name && a.offset() == 0 && b.offset() == 0;
-    places.as_slice() == row.places && circuit.name().as_slice() == name && texts && traces
-}
-
-#[test]
-fn reads_each_part_of_a_plan(rt: HostRuntime) -> Result<(), Fail> {
-    for row in ROWS {
-        let plan = read_plan(rt.alloc(), row.document.as_bytes())?;
-        assert!(rt; has_settings(&plan, row), "{}", row.document);
-        for (p, id) in row.ids.iter().enumerate() {
-            assert_eq!(rt; id_at(plan.map(), p), Some(*id), "{}", row.document);
-        }
-        assert!(rt; has_circuit(plan.circuits(), row), "{}", row.document);
-    }
-    Ok(())
-}
-
-#[test]
-fn accepts_the_first_form(rt: HostRuntime) -> Result<(), Fail> {
-    for (old, new) in FIRST_FORMS {
-        let document = changed(rt.alloc(), SMALLEST, old, new)?;
+// Whether each change of the smallest run is answered as it is to be.
+fn answers(rt: &impl Abort, alloc: Global, cases: &[Case]) -> Result<(), Fail> {
+    for (old, new, reason, place) in cases {
+        let document = SMALLEST.replacen(alloc, old, new, 1)?;
         assert!(rt; document.as_str() != SMALLEST, "{old}");
-        assert_eq!(rt; error_of(rt.alloc(), document.as_bytes()), None, "{new}");
-    }
-    let document = changed(rt.alloc(), NO_CIRCUIT, "rate", "circuit = []\nrate")?;
-    assert_eq!(rt;
-        read_plan(rt.alloc(), document.as_bytes())?.circuits().len(),
-        0
-    );
-    let document = settling(rt.alloc(), 64)?;
-    assert_eq!(rt; read_plan(rt.alloc(), document.as_bytes())?.settles(), 64);
-    Ok(())
-}
-
-#[test]
-fn builds_no_other_form(rt: HostRuntime) -> Result<(), Fail> {
-    for (old, new) in OTHER_FORMS {
-        let document = changed(rt.alloc(), SMALLEST, old, new)?;
-        assert!(rt; document.as_str() != SMALLEST, "{old}");
+        let (reason, place) = (*reason, *place);
         assert_eq!(rt;
-            error_of(rt.alloc(), document.as_bytes()),
-            Some(PlanError::NotBuilt),
+            error_of(alloc, document.as_bytes()),
+            Some(PlanError::BadPlan { reason, place }),
             "{new}"
         );
     }
-    assert_eq!(rt; error_of(rt.alloc(), b""), Some(PlanError::NotBuilt));
-    let document = settling(rt.alloc(), 65)?;
+    Ok(())
+}
+
+#[test]
+fn answers_the_first_check_of_a_document_that_fails(rt: HostRuntime) -> Result<(), Fail> {
+    answers(&rt, rt.alloc(), OF_DOCUMENTS)?;
+    let (reason, place) = (13, 0);
     assert_eq!(rt;
-        error_of(rt.alloc(), document.as_bytes()),
-        Some(PlanError::NotBuilt)
+        error_of(rt.alloc(), b""),
+        Some(PlanError::BadPlan { reason, place })
     );
     for bytes in NO_DOCUMENTS {
         assert_eq!(rt;
@@ -316,5 +344,139 @@ fn builds_no_other_form(rt: HostRuntime) -> Result<(), Fail> {
             "{bytes:?}"
         );
     }
+    Ok(())
+}
+
+// A document with so many arrays in one another.
+fn nested(alloc: Global, levels: usize) -> Result<String, AllocError> {
+    let mut document = String::new(alloc);
+    document.push_str("colour = ")?;
+    for bracket in ["[", "]"] {
+        for _ in 0..levels {
+            document.push_str(bracket)?;
+        }
+    }
+    Ok(document)
+}
+
+// A document whose key has so many parts.
+fn dotted(alloc: Global, parts: usize) -> Result<String, AllocError> {
+    let mut document = String::new(alloc);
+    document.push_str("colour")?;
+    for _ in 1..parts {
+        document.push_str(".x")?;
+    }
+    document.push_str(" = 1")?;
+    Ok(document)
+}
+
+#[test]
+fn knows_the_limits_of_a_document(rt: HostRuntime) -> Result<(), Fail> {
+    let (reason, place) = (12, 0);
+    let unknown_key = Some(PlanError::BadPlan { reason, place });
+    let no_document = Some(PlanError::NotToml);
+    for (parts, wanted) in [(80, unknown_key), (81, no_document)] {
+        let deep = nested(rt.alloc(), parts)?;
+        assert_eq!(rt; error_of(rt.alloc(), deep.as_bytes()), wanted);
+        let long = dotted(rt.alloc(), parts)?;
+        assert_eq!(rt; error_of(rt.alloc(), long.as_bytes()), wanted);
+    }
+    Ok(())
+}
+
+#[test]
+fn answers_the_first_check_of_a_circuit_that_fails(rt: HostRuntime) -> Result<(), Fail> {
+    answers(&rt, rt.alloc(), OF_CIRCUITS)
+}
+
+#[test]
+fn answers_the_first_check_of_a_script_that_fails(rt: HostRuntime) -> Result<(), Fail> {
+    answers(&rt, rt.alloc(), OF_SCRIPTS)?;
+    for (step, times, error) in [
+        ("settle", 63, None),
+        ("settle", 64, Some((28, 65))),
+        ("mend 2 east", 999, None),
+        ("mend 2 east", 1000, Some((21, 0))),
+        ("mend 9 east", 1000, Some((21, 0))),
+        ("settle\", \"mend 2 east", 63, None),
+        ("settle\", \"mend 2 east", 64, Some((28, 129))),
+    ] {
+        let document = repeating(rt.alloc(), step, times)?;
+        let wanted = match error {
+            Some((reason, place)) => Some(PlanError::BadPlan { reason, place }),
+            None => None,
+        };
+        assert_eq!(rt; error_of(rt.alloc(), document.as_bytes()), wanted, "{step}");
+    }
+    Ok(())
+}
+
+// A fibre of a position comes into a condition.
+fn fibre(at: u8, side: Side, condition: Condition) -> Step {
+    Step::Fibre(FibreEvent {
+        at: Pos(at),
+        side,
+        condition,
+    })
+}
+
+#[test]
+fn reads_the_same_plan_in_other_words(rt: HostRuntime) -> Result<(), Fail> {
+    for document in [SMALLEST, IN_BRACES] {
+        let plan = read_plan(rt.alloc(), document.as_bytes())?;
+        let settings = plan.settings();
+        assert!(rt; settings.rate == Rate::Four && settings.threshold == 3 && settings.wait == 10);
+        assert!(rt; plan.limit() == 1000 && plan.map().len() == 3);
+        assert_eq!(rt; plan.steps(), [Step::Settle].as_slice());
+        assert_eq!(rt; plan.circuits().len(), 1);
+        if plan.circuits().len() == 1 {
+            let circuit = plan.circuits().get(0);
+            assert_eq!(rt; circuit.name().as_slice(), b"c1".as_slice());
+            assert!(rt;
+                circuit.from() == Pos(0) && circuit.to() == Pos(1) && circuit.slot().0 == 1
+            );
+            assert_eq!(rt; circuit.port(End::A).text(), b"ALPHA".as_slice());
+            assert_eq!(rt; circuit.port(End::B).trace(), b"c1".as_slice());
+        }
+    }
+    Ok(())
+}
+
+#[test]
+fn reads_each_part_of_a_plan(rt: HostRuntime) -> Result<(), Fail> {
+    let plan = read_plan(rt.alloc(), FULL.as_bytes())?;
+    let settings = plan.settings();
+    assert!(rt;
+        settings.rate == Rate::Sixteen && settings.threshold == 48 && settings.wait == 1_000_000
+    );
+    assert!(rt; plan.limit() == 65_536 && plan.map().len() == 3);
+    let circuits = plan.circuits();
+    assert_eq!(rt; circuits.len(), 2);
+    if circuits.len() == 2 {
+        let (one, other) = (circuits.get(0), circuits.get(1));
+        assert_eq!(rt; one.name().as_slice(), b"a-z_0123456789-z".as_slice());
+        assert!(rt; one.from() == Pos(2) && one.to() == Pos(1) && one.slot().0 == 8);
+        assert_eq!(rt; one.port(End::A).trace(), b"near".as_slice());
+        assert_eq!(rt; one.port(End::B).trace(), b"a-z_0123456789-z".as_slice());
+        assert!(rt; one.port(End::A).offset() == 0 && one.port(End::B).offset() == 782);
+        assert_eq!(rt; other.port(End::B).trace(), b"far".as_slice());
+        assert_eq!(rt; other.port(End::A).text(), b"A".as_slice());
+        assert!(rt; other.port(End::A).offset() == 1 && other.port(End::B).offset() == 0);
+    }
+    let wanted = [
+        fibre(2, Side::East, Condition::Cut),
+        fibre(0, Side::West, Condition::Clear),
+        fibre(1, Side::West, Condition::Degraded(48)),
+        Step::Order(Pos(2), Side::West, Command::Forced),
+        Step::Order(Pos(1), Side::East, Command::Manual),
+        Step::Order(Pos(0), Side::East, Command::Clear),
+        Step::Moment(Moment(0)),
+        Step::Moment(Moment(1_000_000_000)),
+        Step::Moment(Moment(1_000_000_000)),
+        Step::Settle,
+    ];
+    assert_eq!(rt; plan.steps(), wanted.as_slice());
+    let (map, circuits, steps) = plan.into_parts();
+    assert!(rt; map.len() == 3 && circuits.len() == 2 && steps.len() == 10);
     Ok(())
 }

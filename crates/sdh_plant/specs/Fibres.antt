@@ -1,6 +1,6 @@
 -- What a plant means: the fibres of a ring, and what it tells of the frames to come and of those that were sent. This
 -- project's own; each span has two fibres, one each way, as in a two-fibre ring of ITU-T G.841.
-use Rattle.std.specs.Prelude.{ℕ, ◌≡◌, ◌+◌, ◌*◌, ◌≤◌, true, Bool, Option, None, List, length, All}
+use Rattle.std.specs.Prelude.{ℕ, ◌≡◌, ◌+◌, ◌*◌, ◌≤◌, true, Bool, Option, None, List, length, All, false}
 use Rattle.sdh_frame.specs.declared.Rate.{Rate}
 use Rattle.sdh_frame.specs.Sizes.{n_of}
 use Rattle.sdh_ringmap.specs.declared.Side.{Side}
@@ -63,3 +63,14 @@ pub record IsPrepared (at : Rate) (n : ℕ) (f : Fibres) : Type 0 where
 pub record IsHonest (f : Fibres) : Type 0 where
   pub honest : f.honest ≡ true
   pub tells_none : f.told ≡ None
+
+-- a fibre in this condition is cut, and inverts so many parity bytes
+abbrev pub is_cut : Condition → Bool
+is_cut Cut = true
+is_cut Clear = false
+is_cut (Degraded k) = false
+
+abbrev pub degraded_by : Condition → ℕ
+degraded_by (Degraded k) = k
+degraded_by Clear = 0
+degraded_by Cut = 0

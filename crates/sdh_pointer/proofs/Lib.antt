@@ -6,3 +6,5 @@ pub mod Sent
 pub mod Settling
 pub mod Unmoved
 pub mod Coupling
+pub mod Lasting
+pub mod Spreading

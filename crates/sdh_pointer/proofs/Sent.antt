@@ -74,7 +74,7 @@ next_by_action (Some g) action.Down v = elim (cases_eq v (one_down g)) [ inl is 
 -- ---- one input for ever
 
 -- in the state that an input leads to, the same input
-second_sent : (a : Action) (v : ℕ) → v ≤ 782 → IsSent (lasting_state a v) a v (lasting_form a) v (lasting_state a v)
+pub second_sent : (a : Action) (v : ℕ) → v ≤ 782 → IsSent (lasting_state a v) a v (lasting_form a) v (lasting_state a v)
 second_sent action.Ais v h = ais_sent None v
 second_sent action.New v h = new_sent (Some v) v
 second_sent action.Normal v h = normal_sent v v refl

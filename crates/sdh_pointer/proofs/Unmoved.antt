@@ -77,16 +77,16 @@ interpreter_moves i w = (λ h. step_reading i w ∙ unmoved i w h, λ h. kept_is
 
 -- ---- the same of a generator
 
-same_state : (s n : Option ℕ) → same_sending s n ≡ true → s ≡ n
-same_state None None h = refl
-same_state None (Some n) h = cc
-same_state (Some s) None h = cc
-same_state (Some s) (Some n) h = ap Some (eqb-true s n h)
+pub same_states : (s n : Option ℕ) → same_sending s n ≡ true → s ≡ n
+same_states None None h = refl
+same_states None (Some n) h = cc
+same_states (Some s) None h = cc
+same_states (Some s) (Some n) h = ap Some (eqb-true s n h)
 
 pub generator_moves : (g : Generator) (a : Action) (v : ℕ) → ((after_action g a v).moved ≡ false) ↔ ((after_action g a v).sending ≡ g.sending)
 unfolding after_action
 generator_moves g a v = (
-  λ h. same_state _ _ (not-false _ h),
+  λ h. same_states _ _ (not-false _ h),
   λ h. ap (λ s. not (same_sending s g.sending)) h ∙ ap not (state_itself g.sending),
 )
 

@@ -1,6 +1,6 @@
 -- What holds of every interpreter and every generator: each table has one row for each case, one word for ever
 -- settles, and an interpreter reads what the generator before it sends.
-use Rattle.std.specs.Prelude.{◌≡◌, ◌≢◌, ◌↔◌, ℕ, ◌≤◌, Bool, true, false, not, [], ◌∷◌, Option, Some, None}
+use Rattle.std.specs.Prelude.{◌≡◌, ◌≢◌, ◌↔◌, ℕ, ◌+◌, ◌≤◌, Bool, true, false, not, [], ◌∷◌, Option, Some, None}
 use Rattle.std.specs.List.{filter}
 use Rattle.sdh_pointer.specs.declared.reading.Reading.{Reading}
 use Rattle.sdh_pointer.specs.declared.reading.Mode.{Mode}
@@ -15,6 +15,7 @@ use Rattle.sdh_pointer.specs.Reading.{Interpreter, IsBounded, start, is_norm, ev
 use Rattle.sdh_pointer.specs.Sending as sending
 use Rattle.sdh_pointer.specs.Sending.{Generator, sending_table, after_action, word_sent, next_sending}
 use Rattle.sdh_pointer.specs.Repeated.{after_rounds, after_inputs}
+use Rattle.sdh_pointer.specs.Spreading.{IsSmall, IsValueOver, action_over, word_over, sending_over, reading_over}
 
 -- ---- tables
 
@@ -85,6 +86,18 @@ GeneratorRepeats =
     (g : Generator) (a : Action) (v k : ℕ) → v ≤ 782 → 2 ≤ k
     → after_inputs k a v g ≡ record { sending = lasting_state a v; word = word_of (lasting_form a) v; moved = false }
 
+-- AIS has no value; every other action has that of a pointer
+abbrev pub IsSound : Action → ℕ → Type 0
+IsSound a v = is_ais_action a ≡ false → v ≤ 782
+
+-- an input leads to one state, whatever the state was, and in that state it is answered by one word
+pub record Lasts (s : Option ℕ) (a : Action) (v : ℕ) : Type 0 where
+  pub state : next_sending s a v ≡ lasting_state a v
+  pub word : word_sent (lasting_state a v) a v ≡ word_of (lasting_form a) v
+
+abbrev pub InputsLast : Type 0
+InputsLast = (s : Option ℕ) (a : Action) (v : ℕ) → IsSound a v → Lasts s a v
+
 -- ---- one word for ever
 
 -- one normal word for ever: after at most seven rounds the interpreter is in Norm at its value with `since` 3
@@ -105,6 +118,18 @@ EnabledWordSettles =
 -- all ones for ever: after at most three rounds the interpreter is in Ais
 abbrev pub AisSettles : Type 0
 AisSettles = (r : Reading) (k : ℕ) → 3 ≤ k → after_rounds k 0xFFFF r ≡ settled mode.Ais r.value 0
+
+-- one word for ever brings an interpreter to rest: in seven rounds it keeps what that word leaves as it is, and answers
+-- one action with one value
+pub record ComesToRest (w : ℕ) (r : Reading) : Type 0 where
+  pub last : Reading
+  pub there : (k : ℕ) → 7 ≤ k → after_rounds k w r ≡ last
+  pub kept : after_word last w ≡ last
+  pub sound : IsSound (action_on last w) last.value
+
+-- so does each word that a generator repeats, whatever the interpreter kept
+abbrev pub RepeatedWordsRest : Type 0
+RepeatedWordsRest = (a : Action) (v : ℕ) → IsSound a v → (r : Reading) → ComesToRest (word_of (lasting_form a) v) r
 
 -- ---- steps that move nothing
 
@@ -163,3 +188,17 @@ pub record IsReadAsSent (s : Option ℕ) (a : Action) (v : ℕ) (r : Reading) : 
 abbrev pub ReadsWhatIsSent : Type 0
 ReadsWhatIsSent =
     (s : Option ℕ) (a : Action) (v : ℕ) (r : Reading) → v ≤ 782 → IsInStep s r → GoesOn s a v r → IsReadAsSent s a v r
+
+-- ---- from span to span
+
+-- h spans on, in round t: a generator in the state that is told, and given the action and any value that it may have, sends
+-- the word that is told and goes into the state of the next round; one round later the interpreter behind it reads that word,
+-- and answers and keeps what is told
+pub record SpreadsOver (o : Option ℕ) (h t : ℕ) : Type 0 where
+  pub sending : (u : ℕ) → IsValueOver o h t u → next_sending (sending_over o h t) (action_over o h t) u ≡ sending_over o h (t + 1)
+  pub word : (u : ℕ) → IsValueOver o h t u → word_sent (sending_over o h t) (action_over o h t) u ≡ word_over o h t
+  pub reading : after_word (reading_over o (h + 1) (t + 1)) (word_over o h t) ≡ reading_over o (h + 1) (t + 2)
+  pub action : action_on (reading_over o (h + 1) (t + 1)) (word_over o h t) ≡ action_over o (h + 1) (t + 1)
+
+abbrev pub ValuesSpread : Type 0
+ValuesSpread = (o : Option ℕ) (h t : ℕ) → IsSmall o → SpreadsOver o h t

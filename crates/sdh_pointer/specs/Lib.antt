@@ -2,4 +2,5 @@ pub mod Words
 pub mod Reading
 pub mod Sending
 pub mod Repeated
+pub mod Spreading
 pub mod Laws

@@ -1,5 +1,5 @@
 //! Laws of interpreters and generators. Each function does nothing: its contract is the law.
-ghost use Rattle.sdh_pointer.specs.Laws.{EachWordHasOneRow, EachInputHasOneRow, AnswerTellsMode, BoundsAreKept, InterpreterMoves, GeneratorMoves, GeneratorRepeats, NormalWordSettles, EnabledWordSettles, AisSettles, UnmovedIsNormal, UnmovedIsAis, SteadyIsNormal, ReadsWhatIsSent};
+ghost use Rattle.sdh_pointer.specs.Laws.{EachWordHasOneRow, EachInputHasOneRow, AnswerTellsMode, BoundsAreKept, InterpreterMoves, GeneratorMoves, GeneratorRepeats, NormalWordSettles, EnabledWordSettles, AisSettles, InputsLast, RepeatedWordsRest, UnmovedIsNormal, UnmovedIsAis, SteadyIsNormal, ReadsWhatIsSent, ValuesSpread};
 
 /// The interpreter's table has exactly one row for each word in each state, and a step is by it.
 pub fn each_word_has_one_row()
@@ -69,4 +69,19 @@ pub fn steady_is_normal()
 /// What a generator sends for an action, an interpreter in step with it reads as that action.
 pub fn reads_what_is_sent()
     ensures { ReadsWhatIsSent }
+{}
+
+/// An input leads to one state, and is answered there by one word.
+pub fn inputs_last()
+    ensures { InputsLast }
+{}
+
+/// What a generator repeats brings an interpreter to rest in seven rounds.
+pub fn repeated_words_rest()
+    ensures { RepeatedWordsRest }
+{}
+
+/// A value that is sent from round 0 on is known over each span in each round.
+pub fn values_spread()
+    ensures { ValuesSpread }
 {}

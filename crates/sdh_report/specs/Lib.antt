@@ -1,2 +1,4 @@
 pub mod Written
 pub mod Lines
+pub mod Statuses
+pub mod Reports

@@ -1,17 +1,61 @@
 -- The lines of the program's texts. Numbers are decimal, and each line ends with one newline byte. The texts are this
 -- project's own.
-use Rattle.std.specs.Prelude.{ℕ, List, ◌++◌, codes, decimal, take}
+use Rattle.std.specs.Prelude.{ℕ, ◌*◌, List, [], ◌∷◌, ◌++◌, codes, decimal, take, drop}
+use Rattle.std.specs.List.{flat_map}
+use Rattle.sdh_basics.specs.Cells.{cells}
 use Rattle.sdh_basics.specs.Hexadecimal.{hex_of}
+use Rattle.sdh_kbytes.specs.declared.K.{K}
+use Rattle.sdh_kbytes.specs.KBytes.{first_byte, second_byte}
+use Rattle.sdh_ringmap.specs.declared.Side.{Side}
+use Rattle.sdh_ringmap.specs.declared.Side.TheVariants.{West, East}
 use Rattle.sdh_circuits.specs.declared.End.{End}
 use Rattle.sdh_circuits.specs.declared.End.TheVariants.{A, B}
+use Rattle.sdh_circuits.specs.declared.Slot.{Slot}
+use Rattle.sdh_nodestate.specs.declared.NodeState.{NodeState}
+use Rattle.sdh_nodestate.specs.declared.NodeState.TheVariants as state
+use Rattle.sdh_node.specs.declared.outlet.Delivered.{Delivered}
+use Rattle.sdh_node.specs.declared.outlet.Delivered.TheVariants.{Ais, Chunk}
+use Rattle.sdh_report.specs.declared.node_line.StateWord.{StateWord}
+use Rattle.sdh_report.specs.declared.node_line.StateWord.TheVariants as word
+use Rattle.sdh_report.specs.declared.node_line.NodeLine.{NodeLine}
 
 -- a line of the caller's own
 abbrev pub own_line : List ℕ → List ℕ
 own_line line = line ++ codes "\n"
 
 -- settle step `number` has ended with round `round`
+abbrev pub step_ended : ℕ → ℕ → List ℕ
+step_ended number round = codes "settle " ++ decimal number ++ codes " round " ++ decimal round
+
 abbrev pub settle_line : ℕ → ℕ → List ℕ
-settle_line number round = codes "settle " ++ decimal number ++ codes " round " ++ decimal round ++ codes "\n"
+settle_line number round = step_ended number round ++ codes "\n"
+
+-- ---- a node
+
+-- the word of its state
+abbrev pub state_word : NodeState → StateWord
+state_word (state.Idle x) = word.Idle
+state_word (state.PassThrough x) = word.Pass
+state_word (state.SwitchWest far) = word.SwitchWest
+state_word (state.SwitchEast far) = word.SwitchEast
+state_word (state.Isolated x) = word.Isolated
+
+abbrev pub state_text : StateWord → List ℕ
+state_text word.Idle = codes "idle"
+state_text word.Pass = codes "pass"
+state_text word.SwitchWest = codes "switch-west"
+state_text word.SwitchEast = codes "switch-east"
+state_text word.Isolated = codes "isolated"
+
+-- the bytes K1 and K2 of a word, two hexadecimal digits each
+abbrev pub word_text : K → List ℕ
+word_text k = hex_of (first_byte k ∷ []) ++ codes " " ++ hex_of (second_byte k ∷ [])
+
+-- its identifier, its state, and the words that it sent last
+abbrev pub node_line : NodeLine → List ℕ
+node_line l = codes "node " ++ decimal l.id ++ codes " " ++ state_text l.state ++ codes " west " ++ word_text l.west ++ codes " east " ++ word_text l.east ++ codes "\n"
+
+-- ---- a port
 
 -- the letter of a port
 abbrev pub end_letter : End → List ℕ
@@ -23,9 +67,54 @@ abbrev pub port_named : List ℕ → End → List ℕ
 port_named name end = codes "port " ++ name ++ codes " " ++ end_letter end
 
 -- the port delivers a chunk that came with this pointer value: its first 16 bytes in hexadecimal
-abbrev pub port_line : List ℕ → End → ℕ → List ℕ → List ℕ
-port_line name end value chunk = port_named name end ++ codes " norm " ++ decimal value ++ codes " " ++ hex_of (take 16 chunk) ++ codes "\n"
+abbrev pub chunk_line : List ℕ → End → ℕ → List ℕ → List ℕ
+chunk_line name end value chunk = port_named name end ++ codes " norm " ++ decimal value ++ codes " " ++ hex_of (take 16 chunk) ++ codes "\n"
 
 -- the port delivers AIS
-abbrev pub port_ais_line : List ℕ → End → List ℕ
-port_ais_line name end = port_named name end ++ codes " ais\n"
+abbrev pub ais_line : List ℕ → End → List ℕ
+ais_line name end = port_named name end ++ codes " ais\n"
+
+abbrev pub port_line : List ℕ → End → Delivered → ℕ → List ℕ
+port_line name end Ais value = ais_line name end
+port_line name end (Chunk chunk) value = chunk_line name end value chunk
+
+-- all that it delivers: the bytes of row i of a chunk, counted from 0. A chunk of 2349 bytes has nine rows of 261, as a VC-4
+-- has (ITU-T G.707); of a chunk of another length there are at most so many
+abbrev pub row : List ℕ → ℕ → List ℕ
+row chunk i = take 261 (drop (261 * i) chunk)
+
+-- a row has a line where there are bytes in it
+abbrev pub row_line : List ℕ → List ℕ
+row_line [] = []
+row_line (b ∷ bytes) = hex_of (b ∷ bytes) ++ codes "\n"
+
+abbrev pub chunk_rows : List ℕ → ℕ → List ℕ
+chunk_rows chunk n = flat_map row_line (cells (row chunk) n)
+
+abbrev pub drop_lines : Delivered → List ℕ
+drop_lines Ais = codes "ais\n"
+drop_lines (Chunk chunk) = chunk_rows chunk 9
+
+-- ---- a squelch table
+
+abbrev pub side_text : Side → List ℕ
+side_text West = codes "west"
+side_text East = codes "east"
+
+-- the slot on this side of the node of this identifier
+abbrev pub table_place : ℕ → Side → Slot → List ℕ
+table_place id side slot = codes "node " ++ decimal id ++ codes " " ++ side_text side ++ codes " slot " ++ decimal slot.0
+
+-- the nodes of these identifiers
+abbrev pub table_ends : ℕ → ℕ → List ℕ
+table_ends from to = codes " " ++ decimal from ++ codes " " ++ decimal to ++ codes "\n"
+
+-- there is the circuit of this name, between these two nodes
+abbrev pub table_line : ℕ → Side → Slot → List ℕ → ℕ → ℕ → List ℕ
+table_line id side slot name from to = table_place id side slot ++ codes " " ++ name ++ table_ends from to
+
+-- ---- counts
+
+-- settle step `number` has ended with round `round`, in which so many ports delivered a chunk, and so many AIS
+abbrev pub count_line : ℕ → ℕ → ℕ → ℕ → List ℕ
+count_line number round norm ais = step_ended number round ++ codes " norm " ++ decimal norm ++ codes " ais " ++ decimal ais ++ codes "\n"

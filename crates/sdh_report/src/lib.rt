@@ -1,8 +1,15 @@
 //! The texts that the program writes, line by line, in room that was reserved before.
 #![tactic(auto)]
 
+mod lines;
+mod listing;
+mod node_line;
+mod status;
 #[cfg(test)]
 mod tests;
 mod text;
 
+pub use listing::Listing;
+pub use node_line::{NodeLine, StateWord};
+pub use status::Status;
 pub use text::{LINE_MAX, Text};

@@ -7,7 +7,7 @@ use Rattle.sdh_request.specs.Requests.{waits, highest}
 use Rattle.sdh_request.specs.History.{Happening, seen, commanded, reached, present_defect, present_command, present_moment, last_end, ends}
 
 -- the waiting time, the present command, defect and moment, and the moment at which a defect last ended
-pub record Kept : Type 0 where
+pub record LocalKept : Type 0 where
   pub wait : ℕ
   pub command : Command
   pub defect : Defect
@@ -15,7 +15,7 @@ pub record Kept : Type 0 where
   pub ended : Option ℕ
 
 -- what is kept of a history
-abbrev pub kept_of : ℕ → List Happening → Kept
+abbrev pub kept_of : ℕ → List Happening → LocalKept
 kept_of wait history = record {
   wait = wait;
   command = present_command history;
@@ -25,15 +25,15 @@ kept_of wait history = record {
 }
 
 -- what is kept after one more happening
-abbrev pub after : Happening → Kept → Kept
+abbrev pub after : Happening → LocalKept → LocalKept
 after (seen d) k = record k { defect = d; ended = if ends k.defect d then Some k.moment else k.ended }
 after (commanded c) k = record k { command = c }
 after (reached t) k = record k { moment = t }
 
 -- whatever history was kept, that history with one more happening is kept now
-abbrev pub Adds : Happening → Kept → Kept → Type 0
+abbrev pub Adds : Happening → LocalKept → LocalKept → Type 0
 Adds x old new = (wait : ℕ) (history : List Happening) → old ≡ kept_of wait history → new ≡ kept_of wait (x ∷ history)
 
 -- the local request by what is kept
-abbrev pub kept_request : Kept → Code
+abbrev pub kept_request : LocalKept → Code
 kept_request k = highest k.command k.defect (waits k.wait k.defect k.moment k.ended)

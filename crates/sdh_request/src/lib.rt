@@ -47,9 +47,9 @@ pub struct Local {
 
 impl Model for Local {
     ghost use Rattle.std.specs.Prelude.{◌≤◌, IfSome, option_map};
-    ghost use Rattle.sdh_request.specs.Kept.{Kept};
+    ghost use Rattle.sdh_request.specs.Kept.{LocalKept};
 
-    ghost Value = { Kept };
+    ghost Value = { LocalKept };
 
     ghost view = { λ a. record {
       wait = a.wait;

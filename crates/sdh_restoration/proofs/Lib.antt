@@ -4,3 +4,4 @@ pub mod Spans
 pub mod Ends
 pub mod Healthy
 pub mod FarEnds
+pub mod Asked

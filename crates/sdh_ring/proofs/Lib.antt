@@ -4,3 +4,4 @@ pub mod Sends
 pub mod Rings
 pub mod Owned
 pub mod Settling
+mod Whole

@@ -8,13 +8,14 @@ use Rattle.sdh_ringmap.specs.declared.Side.TheVariants.{West, East}
 use Rattle.sdh_circuits.specs.declared.End.{End}
 use Rattle.sdh_circuits.specs.declared.End.TheVariants.{A, B}
 use Rattle.sdh_circuits.specs.declared.PortId.{PortId}
-use Rattle.sdh_circuits.specs.Provisioned.{Provisioned}
+use Rattle.sdh_circuits.specs.Provisioned.{Provisioned, end_of}
 use Rattle.sdh_circuits.specs.Provisioning.{Provisioning, IsProvisioning, IsInRing}
 use Rattle.sdh_squelch.specs.Kept.{KeepsRing}
 use Rattle.sdh_node.specs.Tributaries.{Tributary, new_tributary, ends_at, ends_from, tributaries_at, is_port, port_of, HasPort, outlet_of}
 use Rattle.sdh_node.specs.Node.{Node}
 use Rattle.sdh_node.specs.Outlets.{silent}
-use Rattle.sdh_world.specs.Held.{HeldRing, end_of, position, outlet_at}
+use Rattle.sdh_world.specs.Held.{HeldRing, outlet_at}
+use Rattle.sdh_ringmap.specs.Places.{position_of}
 
 found-left : (p : Tributary → Bool) (xs ys : List Tributary) → IsSome (find p xs) → IsSome (find p (xs ++ ys))
 found-left p [] ys h = absurd (none h)
@@ -57,9 +58,9 @@ own_from at k (suc i) n (x ∷ cs) c e h read same there =
     (own_from at (k + 1) i n cs c e (omega arith) read (omega arith) there)
 
 -- each port of a circuit is among the ports at its position
-pub has_own : (cs : List Provisioned) (c : Provisioned) (id : PortId) → id.circuit < length cs → get_or cs id.circuit c ≡ c → HasPort (tributaries_at (position (end_of c id.end).0) cs) id
+pub has_own : (cs : List Provisioned) (c : Provisioned) (id : PortId) → id.circuit < length cs → get_or cs id.circuit c ≡ c → HasPort (tributaries_at (position_of (end_of c id.end).0) cs) id
 unfolding tributaries_at port_of
-has_own cs c id h read = own_from (position (end_of c id.end).0) 0 id.circuit id.circuit cs c id.end h read (omega arith) refl
+has_own cs c id h read = own_from (position_of (end_of c id.end).0) 0 id.circuit id.circuit cs c id.end h read (omega arith) refl
 
 end_within : (n : ℕ) (c : Provisioned) (e : End) → IsInRing n c → (end_of c e).0 < n
 end_within n c A h = h.from_inside

@@ -10,14 +10,14 @@ use Rattle.sdh_plant.specs.Fibres.{Arrival, Fibres, IsPrepared}
 use Rattle.sdh_plant.specs.Arrivals.{Knows, arrival, honest_arrival, next_told}
 use Rattle.sdh_plant.specs.Calls.{after_receive}
 use Rattle.sdh_node.specs.Node.{Node}
-use Rattle.sdh_world.specs.Rounds.{with_arrival, hearing, met, heard, taken, arrival_at, arrivals_from}
+use Rattle.sdh_world.specs.Rounds.{with_arrival, receivers_in, with_arrivals, all_with_arrivals, after_given, arrival_at, arrivals_from}
 use Rattle.sdh_world.proofs.Arrived.{knows_taken, arrivals_more, heard_more}
-use Rattle.sdh_ring.specs.Calls.{ReceivesOne, ReceivesBoth, Hears, HearsSome}
+use Rattle.sdh_ring.specs.Calls.{ReceivesOne, ReceivesBoth, FirstReceive, SomeReceive}
 
 -- ---- one node
 
 pub receives_both : (f g : Fibres) (p : ℕ) (old mid new : Node) → g ≡ after_receive f → ReceivesOne f p West old mid → ReceivesOne g p East mid new → ReceivesBoth f p old new
-unfolding met
+unfolding with_arrivals
 receives_both f g p old mid new is west east = record {
   west = west.came;
   east = east.came;
@@ -40,55 +40,55 @@ told_one None k = refl
 told_one (Some told) k = ap Some (drop-drop 1 k told)
 
 -- one more was given
-pub taken_one : (f : Fibres) (k : ℕ) → after_receive (taken k f) ≡ taken (k + 1) f
-unfolding taken
+pub taken_one : (f : Fibres) (k : ℕ) → after_receive (after_given k f) ≡ after_given (k + 1) f
+unfolding after_given
 taken_one f k = ap (λ told. record f { told = told }) (told_one f.told k)
 
 -- one node more has received
-taken_more : (f : Fibres) (k : ℕ) → after_receive (after_receive (taken k f)) ≡ taken (k + 2) f
-taken_more f k = ap after_receive (taken_one f k) ∙ taken_one f (k + 1) ∙ ap (λ n. taken n f) (omega arith)
+taken_more : (f : Fibres) (k : ℕ) → after_receive (after_receive (after_given k f)) ≡ after_given (k + 2) f
+taken_more f k = ap after_receive (taken_one f k) ∙ taken_one f (k + 1) ∙ ap (λ n. after_given n f) (omega arith)
 
 told_at : (o : Option (List Arrival)) (h : Arrival) (k : ℕ) → option_map_or next_told (option_map (drop k) o) h ≡ option_map_or (λ told. slice_index_or told k None) o h
 told_at None h k = refl
 told_at (Some told) h k = first_at told k
 
 -- what comes next after the nodes before it have taken their arrivals
-west_at : (f : Fibres) (p : ℕ) → arrival (taken (2 * p) f) p West ≡ arrival_at f p West
-unfolding taken arrival_at
+west_at : (f : Fibres) (p : ℕ) → arrival (after_given (2 * p) f) p West ≡ arrival_at f p West
+unfolding after_given arrival_at
 west_at f p = told_at f.told (honest_arrival f p West) (2 * p)
 
-east_at : (f : Fibres) (p : ℕ) → arrival (taken (2 * p + 1) f) p East ≡ arrival_at f p East
-unfolding taken arrival_at
+east_at : (f : Fibres) (p : ℕ) → arrival (after_given (2 * p + 1) f) p East ≡ arrival_at f p East
+unfolding after_given arrival_at
 east_at f p = told_at f.told (honest_arrival f p East) (2 * p + 1)
 
 told_none : (o : Option (List Arrival)) → o ≡ option_map (drop 0) o
 told_none None = refl
 told_none (Some told) = refl
 
-pub taken_none : (f : Fibres) → f ≡ taken 0 f
-unfolding taken
+pub taken_none : (f : Fibres) → f ≡ after_given 0 f
+unfolding after_given
 taken_none f = ap (λ told. record f { told = told }) (told_none f.told)
 
 -- ---- node after node
 
 -- before the first
-pub hears_none : (f : Fibres) (ns : List Node) → Hears 0 f f ns ns
+pub hears_none : (f : Fibres) (ns : List Node) → FirstReceive 0 f f ns ns
 hears_none f ns = record { arrivals = []; count = refl; known = λ h. refl; nodes = refl; fibres = taken_none f }
 
-pub none_hears : (t n : ℕ) → t ≡ 0 → hearing t n ≡ 0
-unfolding hearing
+pub none_hears : (t n : ℕ) → t ≡ 0 → receivers_in t n ≡ 0
+unfolding receivers_in
 none_hears t n e = ap (λ k. if k == 0 then 0 else n) e
 
-pub hears_more : (i : ℕ) (f g h : Fibres) (old now : List Node) (x y : Node) → i < length old → i < length now → drop i now ≡ drop i old → x ≡ get_or now i x → Hears i f g (take i old) (take i now)
-    → ReceivesBoth g i x y → h ≡ after_receive (after_receive g) → Hears (i + 1) f h (take (i + 1) old) (take (i + 1) (set now i y))
+pub hears_more : (i : ℕ) (f g h : Fibres) (old now : List Node) (x y : Node) → i < length old → i < length now → drop i now ≡ drop i old → x ≡ get_or now i x → FirstReceive i f g (take i old) (take i now)
+    → ReceivesBoth g i x y → h ≡ after_receive (after_receive g) → FirstReceive (i + 1) f h (take (i + 1) old) (take (i + 1) (set now i y))
 hears_more i f g h old now x y ho hn rest read done both after =
     let xs = done.arrivals in
     let two = both.west ∷ both.east ∷ [] in
     let size : length (xs ++ two) ≡ length xs + 2 = length-append xs two in
     let here : x ≡ get_or old i x = read_here now old i x rest read in
     let split : take (i + 1) old ≡ take i old ++ x ∷ [] = take_more old i x ho ∙ ap (λ z. take i old ++ z ∷ []) (sym here) in
-    let was : g ≡ taken (2 * i) f = done.fibres ∙ ap (λ k. taken k f) done.count in
-    let mid : after_receive g ≡ taken (2 * i + 1) f = ap after_receive was ∙ taken_one f (2 * i) in
+    let was : g ≡ after_given (2 * i) f = done.fibres ∙ ap (λ k. after_given k f) done.count in
+    let mid : after_receive g ≡ after_given (2 * i + 1) f = ap after_receive was ∙ taken_one f (2 * i) in
     record {
       arrivals = xs ++ two;
       count = let c = done.count in omega (arith, size);
@@ -96,35 +96,35 @@ hears_more i f g h old now x y ho hn rest read done both after =
           let west : both.west ≡ arrival_at f i West = both.west_known (subst Knows (sym was) (knows_taken f (2 * i) k)) ∙ ap (λ z. arrival z i West) was ∙ west_at f i in
           let east : both.east ≡ arrival_at f i East = both.east_known (subst Knows (sym mid) (knows_taken f (2 * i + 1) k)) ∙ ap (λ z. arrival z i East) mid ∙ east_at f i in
           ap (λ zs. zs ++ two) (done.known k) ∙ ap (λ z. arrivals_from f 0 i ++ z ∷ both.east ∷ []) west ∙ ap (λ z. arrivals_from f 0 i ++ arrival_at f i West ∷ z ∷ []) east ∙ sym (arrivals_more f i);
-      nodes = take_more_set now i y hn ∙ ap (λ z. take i now ++ z ∷ []) both.node ∙ ap (λ zs. zs ++ met both.west both.east x ∷ []) done.nodes
-          ∙ sym (heard_more xs (take i old) both.west both.east x (let c = done.count in let l = length-take-le i old (omega arith) in omega arith)) ∙ ap (heard (xs ++ two)) (sym split);
-      fibres = after ∙ ap (λ z. after_receive (after_receive z)) done.fibres ∙ taken_more f (length xs) ∙ ap (λ k. taken k f) (sym size);
+      nodes = take_more_set now i y hn ∙ ap (λ z. take i now ++ z ∷ []) both.node ∙ ap (λ zs. zs ++ with_arrivals both.west both.east x ∷ []) done.nodes
+          ∙ sym (heard_more xs (take i old) both.west both.east x (let c = done.count in let l = length-take-le i old (omega arith) in omega arith)) ∙ ap (all_with_arrivals (xs ++ two)) (sym split);
+      fibres = after ∙ ap (λ z. after_receive (after_receive z)) done.fibres ∙ taken_more f (length xs) ∙ ap (λ k. after_given k f) (sym size);
     }
 
-pub hears_some : (i n : ℕ) (f g h : Fibres) (old now : List Node) → i < n → Hears i f g old now → (h ≡ g) ⊎ (h ≡ after_receive g) → HearsSome n f h
+pub hears_some : (i n : ℕ) (f g h : Fibres) (old now : List Node) → i < n → FirstReceive i f g old now → (h ≡ g) ⊎ (h ≡ after_receive g) → SomeReceive n f h
 hears_some i n f g h old now low done (inl same) = record { given = length done.arrivals; most = let c = done.count in omega arith; after_is = same ∙ done.fibres }
 hears_some i n f g h old now low done (inr one) =
     record { given = length done.arrivals + 1; most = let c = done.count in omega arith; after_is = one ∙ ap after_receive done.fibres ∙ taken_one f (length done.arrivals) }
 
-pub hears_all : (i : ℕ) (f g : Fibres) (old now : List Node) → i ≡ length old → length now ≡ length old → Hears i f g (take i old) (take i now) → Hears (length old) f g old now
+pub hears_all : (i : ℕ) (f g : Fibres) (old now : List Node) → i ≡ length old → length now ≡ length old → FirstReceive i f g (take i old) (take i now) → FirstReceive (length old) f g old now
 hears_all i f g old now all size done =
     let first = λ (xs : List Node) (h : length xs ≡ length old). take_all i xs (let e : length xs ≤ i = omega arith in e) in
     record {
       arrivals = done.arrivals;
       count = done.count ∙ ap (λ n. 2 * n) all;
       known = λ k. done.known k ∙ ap (arrivals_from f 0) all;
-      nodes = sym (first now size) ∙ done.nodes ∙ ap (heard done.arrivals) (first old refl);
+      nodes = sym (first now size) ∙ done.nodes ∙ ap (all_with_arrivals done.arrivals) (first old refl);
       fibres = done.fibres;
     }
 
-pub nodes_taken : (k : ℕ) (f : Fibres) → (taken k f).nodes ≡ f.nodes
-unfolding taken
+pub nodes_taken : (k : ℕ) (f : Fibres) → (after_given k f).nodes ≡ f.nodes
+unfolding after_given
 nodes_taken k f = refl
 
-pub rate_taken : (k : ℕ) (f : Fibres) → (taken k f).rate ≡ f.rate
-unfolding taken
+pub rate_taken : (k : ℕ) (f : Fibres) → (after_given k f).rate ≡ f.rate
+unfolding after_given
 rate_taken k f = refl
 
-pub prepared_taken : (rate : Rate) (n k : ℕ) (f : Fibres) → IsPrepared rate n f → IsPrepared rate n (taken k f)
-unfolding taken
+pub prepared_taken : (rate : Rate) (n k : ℕ) (f : Fibres) → IsPrepared rate n f → IsPrepared rate n (after_given k f)
+unfolding after_given
 prepared_taken rate n k f h = record { nodes = h.nodes; rate = h.rate; conditions = h.conditions; each = h.each; carried = h.carried; enough = h.enough; few = h.few }

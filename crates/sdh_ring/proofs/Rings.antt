@@ -6,12 +6,12 @@ use Rattle.sdh_plant.specs.Fibres.{Fibres, IsPrepared}
 use Rattle.sdh_node.specs.declared.settings.Settings.{Settings}
 use Rattle.sdh_node.specs.Node.{Node}
 use Rattle.sdh_world.specs.Held.{HeldRing}
-use Rattle.sdh_world.specs.Rounds.{World, world, hearing, arrivals_of, arrivals_from, heard, next, frames_of, sent_all, sent_some, taken, round_with}
+use Rattle.sdh_world.specs.Rounds.{World, world, receivers_in, arrivals_of, arrivals_from, all_with_arrivals, node_after, frames_of, sent_all, sent_some, after_given, round_with}
 use Rattle.sdh_world.specs.Runs.{Arrive, IsRound, IsBrokenOff}
 use Rattle.sdh_world.specs.Fixed.{fixed, IsOn, IsRing}
 use Rattle.sdh_world.proofs.Runs.{known_arrive, length-frames, length-heard, prepared_round}
 use Rattle.sdh_world.proofs.Keeping.{all_settings, length-fixed, all_on_heard, all_on_next}
-use Rattle.sdh_ring.specs.Calls.{MayReceive, MaySend, Hears, HearsSome, SendsSome}
+use Rattle.sdh_ring.specs.Calls.{MayReceive, MaySend, FirstReceive, SomeReceive, SendsSome}
 use Rattle.sdh_ring.proofs.Receives.{prepared_taken}
 use Rattle.sdh_ring.proofs.Sends.{some_none}
 
@@ -37,48 +37,48 @@ may_send r ns h same on few = λ p d lt. record {
   few = let e = (on p d lt).rounds_are in omega arith;
 }
 
-pub on_hears : (k : ℕ) (f g : Fibres) (old new : List Node) (rounds m : ℕ) → Hears k f g old new → All (IsOn rounds m) old → All (IsOn rounds m) new
+pub on_hears : (k : ℕ) (f g : Fibres) (old new : List Node) (rounds m : ℕ) → FirstReceive k f g old new → All (IsOn rounds m) old → All (IsOn rounds m) new
 on_hears k f g old new rounds m h on = subst (All (IsOn rounds m)) (sym h.nodes) (all_on_heard h.arrivals rounds m old on)
 
-pub on_sends : (rounds m : ℕ) (old new : List Node) → new ≡ map (next m) old → All (IsOn rounds m) old → All (IsOn (rounds + 1) m) new
+pub on_sends : (rounds m : ℕ) (old new : List Node) → new ≡ map (node_after m) old → All (IsOn rounds m) old → All (IsOn (rounds + 1) m) new
 on_sends rounds m old new is on = subst (All (IsOn (rounds + 1) m)) (sym is) (all_on_next rounds m old on)
 
 -- ---- a round
 
-arrive_of : (r : HeldRing) (f g : Fibres) (ns : List Node) → length r.nodes ≡ length r.ids → (h : Hears (hearing r.rounds (length r.nodes)) f g r.nodes ns) → Arrive (world r f) h.arrivals
+arrive_of : (r : HeldRing) (f g : Fibres) (ns : List Node) → length r.nodes ≡ length r.ids → (h : FirstReceive (receivers_in r.rounds (length r.nodes)) f g r.nodes ns) → Arrive (world r f) h.arrivals
 unfolding arrivals_of
 arrive_of r f g ns size h = record {
-  count = h.count ∙ ap (λ n. 2 * hearing r.rounds n) size;
-  known = λ k. h.known k ∙ ap (λ n. arrivals_from f 0 (hearing r.rounds n)) size;
+  count = h.count ∙ ap (λ n. 2 * receivers_in r.rounds n) size;
+  known = λ k. h.known k ∙ ap (λ n. arrivals_from f 0 (receivers_in r.rounds n)) size;
 }
 
-pub ran : (r : HeldRing) (f g h : Fibres) (ns new : List Node) → r.broken ≡ false → length r.nodes ≡ length r.ids → Hears (hearing r.rounds (length r.nodes)) f g r.nodes ns
-    → h ≡ sent_all (frames_of r.moment ns) g → new ≡ map (next r.moment) ns → IsRound (world r f) (world (record r { nodes = new; rounds = r.rounds + 1; broken = false }) h)
+pub ran : (r : HeldRing) (f g h : Fibres) (ns new : List Node) → r.broken ≡ false → length r.nodes ≡ length r.ids → FirstReceive (receivers_in r.rounds (length r.nodes)) f g r.nodes ns
+    → h ≡ sent_all (frames_of r.moment ns) g → new ≡ map (node_after r.moment) ns → IsRound (world r f) (world (record r { nodes = new; rounds = r.rounds + 1; broken = false }) h)
 unfolding round_with
 ran r f g h ns new whole size hears sent is = record {
   arrivals = hears.arrivals;
   arrive = arrive_of r f g ns size hears;
-  after_is = ap (λ xs. world (record r { nodes = xs; rounds = r.rounds + 1; broken = false }) h) (is ∙ ap (map (next r.moment)) hears.nodes)
-      ∙ ap (λ b. world (record r { nodes = map (next r.moment) (heard hears.arrivals r.nodes); rounds = r.rounds + 1; broken = b }) h) (sym whole)
-      ∙ ap (λ x. world (record r { nodes = map (next r.moment) (heard hears.arrivals r.nodes); rounds = r.rounds + 1 }) x)
-      (sent ∙ ap (λ xs. sent_all (frames_of r.moment xs) g) hears.nodes ∙ ap (sent_all (frames_of r.moment (heard hears.arrivals r.nodes))) hears.fibres);
+  after_is = ap (λ xs. world (record r { nodes = xs; rounds = r.rounds + 1; broken = false }) h) (is ∙ ap (map (node_after r.moment)) hears.nodes)
+      ∙ ap (λ b. world (record r { nodes = map (node_after r.moment) (all_with_arrivals hears.arrivals r.nodes); rounds = r.rounds + 1; broken = b }) h) (sym whole)
+      ∙ ap (λ x. world (record r { nodes = map (node_after r.moment) (all_with_arrivals hears.arrivals r.nodes); rounds = r.rounds + 1 }) x)
+      (sent ∙ ap (λ xs. sent_all (frames_of r.moment xs) g) hears.nodes ∙ ap (sent_all (frames_of r.moment (all_with_arrivals hears.arrivals r.nodes))) hears.fibres);
 }
 
 -- a fault while nodes received
-pub off_hearing : (r : HeldRing) (f h : Fibres) → length r.nodes ≡ length r.ids → 2 ≤ length r.ids → HearsSome (hearing r.rounds (length r.nodes)) f h → IsBrokenOff (world r f) h
+pub off_hearing : (r : HeldRing) (f h : Fibres) → length r.nodes ≡ length r.ids → 2 ≤ length r.ids → SomeReceive (receivers_in r.rounds (length r.nodes)) f h → IsBrokenOff (world r f) h
 off_hearing r f h size enough some = record {
   arrivals = arrivals_of (world r f);
   arrive = known_arrive (world r f);
   given = some.given;
-  most = let m = some.most in let c = (known_arrive (world r f)).count in let e : hearing r.rounds (length r.nodes) ≡ hearing r.rounds (length r.ids) = ap (hearing r.rounds) size in omega arith;
+  most = let m = some.most in let c = (known_arrive (world r f)).count in let e : receivers_in r.rounds (length r.nodes) ≡ receivers_in r.rounds (length r.ids) = ap (receivers_in r.rounds) size in omega arith;
   out = 0;
   not_all = omega arith;
   order = λ e. absurd (omega arith);
-  after_is = some.after_is ∙ some_none (taken some.given f);
+  after_is = some.after_is ∙ some_none (after_given some.given f);
 }
 
 -- a fault while they sent
-pub off_sending : (r : HeldRing) (f g h : Fibres) (ns : List Node) → length r.nodes ≡ length r.ids → Hears (hearing r.rounds (length r.nodes)) f g r.nodes ns → SendsSome (frames_of r.moment ns) g h → IsBrokenOff (world r f) h
+pub off_sending : (r : HeldRing) (f g h : Fibres) (ns : List Node) → length r.nodes ≡ length r.ids → FirstReceive (receivers_in r.rounds (length r.nodes)) f g r.nodes ns → SendsSome (frames_of r.moment ns) g h → IsBrokenOff (world r f) h
 off_sending r f g h ns size hears some = record {
   arrivals = hears.arrivals;
   arrive = arrive_of r f g ns size hears;
@@ -87,7 +87,7 @@ off_sending r f g h ns size hears some = record {
   out = some.out;
   not_all = let a = some.not_all in let b = length-frames r.moment ns in let c : length ns ≡ length r.nodes = ap length hears.nodes ∙ length-heard hears.arrivals r.nodes in omega arith;
   order = λ e. refl;
-  after_is = some.after_is ∙ ap (λ xs. sent_some (take some.out (frames_of r.moment xs)) g) hears.nodes ∙ ap (sent_some (take some.out (frames_of r.moment (heard hears.arrivals r.nodes)))) hears.fibres;
+  after_is = some.after_is ∙ ap (λ xs. sent_some (take some.out (frames_of r.moment xs)) g) hears.nodes ∙ ap (sent_some (take some.out (frames_of r.moment (all_with_arrivals hears.arrivals r.nodes)))) hears.fibres;
 }
 
 pub prepared_after : (r : HeldRing) (f : Fibres) (after : World) → length r.nodes ≡ length r.ids → IsPrepared r.settings.rate (length r.ids) f → IsRound (world r f) after → IsPrepared r.settings.rate (length r.ids) after.fibres
@@ -100,5 +100,5 @@ prepared_after r f after size h is =
 pub prepared_nodes : (r : HeldRing) (rate : Rate) (ns : List Node) (f : Fibres) → IsRing r → rate ≡ r.settings.rate → length ns ≡ length r.nodes → IsPrepared r.settings.rate (length r.ids) f → IsPrepared rate (length ns) f
 prepared_nodes r rate ns f h same size p = subst (λ x. IsPrepared x (length ns) f) (sym same) (subst (λ n. IsPrepared r.settings.rate n f) (sym (size ∙ count_of r h)) p)
 
-pub prepared_hears : (rate : Rate) (n k : ℕ) (f g : Fibres) (old new : List Node) → Hears k f g old new → IsPrepared rate n f → IsPrepared rate n g
+pub prepared_hears : (rate : Rate) (n k : ℕ) (f g : Fibres) (old new : List Node) → FirstReceive k f g old new → IsPrepared rate n f → IsPrepared rate n g
 prepared_hears rate n k f g old new hears p = subst (IsPrepared rate n) (sym hears.fibres) (prepared_taken rate n (length hears.arrivals) f p)

@@ -7,7 +7,7 @@ use Rattle.sdh_plant.specs.Fibres.{Arrival, Fibres}
 use Rattle.sdh_plant.specs.Arrivals.{Knows, arrival}
 use Rattle.sdh_plant.specs.Calls.{after_receive, after_send}
 use Rattle.sdh_node.specs.Node.{Node, moment_of}
-use Rattle.sdh_world.specs.Rounds.{with_arrival, met, heard, arrivals_from, taken, west_frame, east_frame, sent_some}
+use Rattle.sdh_world.specs.Rounds.{with_arrival, with_arrivals, all_with_arrivals, arrivals_from, after_given, west_frame, east_frame, sent_some}
 
 -- ---- receives
 
@@ -27,21 +27,21 @@ pub record ReceivesBoth (f : Fibres) (p : ℕ) (old new : Node) : Type 0 where
   pub east : Arrival
   pub west_known : Knows f → west ≡ arrival f p West
   pub east_known : Knows (after_receive f) → east ≡ arrival (after_receive f) p East
-  pub node : new ≡ met west east old
+  pub node : new ≡ with_arrivals west east old
 
 -- the first k nodes received
-pub record Hears (k : ℕ) (f g : Fibres) (old new : List Node) : Type 0 where
+pub record FirstReceive (k : ℕ) (f g : Fibres) (old new : List Node) : Type 0 where
   pub arrivals : List Arrival
   pub count : length arrivals ≡ 2 * k
   pub known : Knows f → arrivals ≡ arrivals_from f 0 k
-  pub nodes : new ≡ heard arrivals old
-  pub fibres : g ≡ taken (length arrivals) f
+  pub nodes : new ≡ all_with_arrivals arrivals old
+  pub fibres : g ≡ after_given (length arrivals) f
 
 -- at most so many nodes received, the last of them maybe on the west alone
-pub record HearsSome (k : ℕ) (f g : Fibres) : Type 0 where
+pub record SomeReceive (k : ℕ) (f g : Fibres) : Type 0 where
   pub given : ℕ
   pub most : given ≤ 2 * k
-  pub after_is : g ≡ taken given f
+  pub after_is : g ≡ after_given given f
 
 -- ---- sends
 

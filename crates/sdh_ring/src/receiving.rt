@@ -3,9 +3,9 @@ ghost use Rattle.std.specs.Prelude.{◌≡◌, ◌⊎◌, ◌<◌, ◌≤◌, On
 ghost use Rattle.sdh_basics.specs.Causes.{HasCause};
 ghost use Rattle.sdh_plant.specs.Fibres.{IsPrepared};
 ghost use Rattle.sdh_plant.specs.Calls.{after_receive};
-ghost use Rattle.sdh_world.specs.Rounds.{hearing};
+ghost use Rattle.sdh_world.specs.Rounds.{receivers_in};
 ghost use Rattle.sdh_world.specs.Fixed.{fixed};
-ghost use Rattle.sdh_ring.specs.Calls.{MayReceive, ReceivesOne, ReceivesBoth, Hears, HearsSome};
+ghost use Rattle.sdh_ring.specs.Calls.{MayReceive, ReceivesOne, ReceivesBoth, FirstReceive, SomeReceive};
 
 use crate::faults::PlantFault;
 use sdh_frame::FrameBuf;
@@ -66,8 +66,8 @@ fn receive_all<P: Plant>(
 ) -> Result<(), PlantFault>
     requires prepared { IsPrepared frame.old.rate (length nodes.old.items) (P.fibres plant.old) }
     requires nodes { All (MayReceive frame.old.rate) nodes.old.items }
-    ensures ok { OnOk result (Hears (length nodes.old.items) (P.fibres plant.old) (P.fibres plant.new) nodes.old.items nodes.new.items) }
-    ensures err { OnErr result (HearsSome (length nodes.old.items) (P.fibres plant.old) (P.fibres plant.new)) }
+    ensures ok { OnOk result (FirstReceive (length nodes.old.items) (P.fibres plant.old) (P.fibres plant.new) nodes.old.items nodes.new.items) }
+    ensures err { OnErr result (SomeReceive (length nodes.old.items) (P.fibres plant.old) (P.fibres plant.new)) }
     ensures fixed { map fixed nodes.new.items ≡ map fixed nodes.old.items }
     ensures rate { frame.new.rate ≡ frame.old.rate }
     ensures cause { HasCause (P.faults plant.old) (P.faults plant.new) result }
@@ -80,7 +80,7 @@ fn receive_all<P: Plant>(
 }
 
 /// The receives of a round by position, west before east; in round 0 there are none.
-#[tactic(auto, unfolding(sdh_world::specs::Rounds::hearing))]
+#[tactic(auto, unfolding(sdh_world::specs::Rounds::receivers_in))]
 pub fn hear<P: Plant>(
     rounds: u64,
     nodes: &mut Vec<Adm>,
@@ -89,8 +89,8 @@ pub fn hear<P: Plant>(
 ) -> Result<(), PlantFault>
     requires prepared { IsPrepared frame.old.rate (length nodes.old.items) (P.fibres plant.old) }
     requires nodes { All (MayReceive frame.old.rate) nodes.old.items }
-    ensures ok { OnOk result (Hears (hearing rounds (length nodes.old.items)) (P.fibres plant.old) (P.fibres plant.new) nodes.old.items nodes.new.items) }
-    ensures err { OnErr result (HearsSome (hearing rounds (length nodes.old.items)) (P.fibres plant.old) (P.fibres plant.new)) }
+    ensures ok { OnOk result (FirstReceive (receivers_in rounds (length nodes.old.items)) (P.fibres plant.old) (P.fibres plant.new) nodes.old.items nodes.new.items) }
+    ensures err { OnErr result (SomeReceive (receivers_in rounds (length nodes.old.items)) (P.fibres plant.old) (P.fibres plant.new)) }
     ensures fixed { map fixed nodes.new.items ≡ map fixed nodes.old.items }
     ensures rate { frame.new.rate ≡ frame.old.rate }
     ensures cause { HasCause (P.faults plant.old) (P.faults plant.new) result }

@@ -1,20 +1,24 @@
 //! The ring.
-ghost use Rattle.std.specs.Prelude.{◌≡◌, ◌↔◌, ℕ, ◌+◌, ◌-◌, ◌*◌, ◌/◌, ◌%◌, ◌^◌, ◌<◌, ◌≤◌, true, false, Some, IfOk, OnOk, OnErr, Err, IsErrOf, IsTrue, All, length, slice_get, if◌then◌else◌};
+ghost use Rattle.std.specs.Prelude.{◌≡◌, ◌≢◌, ◌↔◌, ℕ, ◌+◌, ◌-◌, ◌*◌, ◌/◌, ◌%◌, ◌^◌, ◌<◌, ◌≤◌, true, false, Some, IfOk, OnOk, OnErr, Err, IsErrOf, IsTrue, All, length, slice_get, if◌then◌else◌};
 ghost use Rattle.sdh_basics.specs.Causes.{Rose};
 ghost use Rattle.sdh_frame.specs.Sizes.{n_of};
 ghost use Rattle.sdh_squelch.specs.Kept.{KeepsRing};
-ghost use Rattle.sdh_plant.specs.Fibres.{IsPrepared};
+ghost use Rattle.sdh_plant.specs.Fibres.{Fibres, IsPrepared, IsHonest};
+ghost use Rattle.sdh_plant.specs.Calls.{prepared};
 ghost use Rattle.sdh_node.specs.Receiving.{commanded_by};
 ghost use Rattle.sdh_node.specs.Tributaries.{HasPort, outlet_of};
 ghost use Rattle.sdh_node.specs.Node.{at_receiving};
-ghost use Rattle.sdh_world.specs.Held.{new_nodes, new_ring, at_place, end_of, outlet_at};
+ghost use Rattle.sdh_world.specs.Held.{new_nodes, new_ring, at_place, outlet_at};
 ghost use Rattle.sdh_world.specs.Rounds.{world};
 ghost use Rattle.sdh_world.specs.Runs.{IsRound, IsBrokenOff};
 ghost use Rattle.sdh_world.specs.Quiet.{is_calm};
+ghost use Rattle.sdh_world.specs.Laws.{EndsAtAMultiple};
+ghost use Rattle.sdh_hearing.specs.Laws.{IsWhole, GoesAsSignals};
 ghost use Rattle.sdh_carrying.specs.Windows.{layout_in, HasCircuits};
 ghost use Rattle.sdh_carrying.specs.Laws.{Restores};
+ghost use Rattle.sdh_converging.specs.Laws.{enough_for};
 ghost use Rattle.sdh_ring.specs.Outcome.{Outcome};
-
+ghost use Rattle.sdh_circuits.specs.Provisioned.{end_of};
 use crate::faults::{PlantFault, SettleError};
 use crate::receiving::hear;
 use crate::sending::send_all;
@@ -114,8 +118,12 @@ impl Ring {
     ) -> Result<Ring, AllocError>
         requires slots { circuits.slots ≡ n_of settings.rate / 2 }
         requires kept { KeepsRing circuits map }
-        ensures { IfOk result (λ ring. ring ≡ new_ring settings map circuits) }
+        ensures ring { IfOk result (λ ring. ring ≡ new_ring settings map circuits) }
+
+        // Over fibres that were just prepared for it, what is carried is what was sent.
+        ensures whole { IfOk result (λ ring. (f : Fibres) → IsHonest f → IsWhole (world ring (prepared settings.rate (length map) f))) }
     {
+        sdh_hearing::new_worlds_are_whole();
         let nodes = new_nodes(alloc, settings, &map, &circuits)?;
         let arrived = FrameBuf::try_new(alloc, settings.rate)?;
         let west = FrameBuf::try_new(alloc, settings.rate)?;
@@ -141,6 +149,7 @@ impl Ring {
         requires east { east.rate ≡ settings.rate }
         ensures { result ≡ new_ring settings map circuits }
     {
+        // Reading it gives the proof what is true of every ring map and circuit map.
         let _count = map.len();
         let _circuits = circuits.len();
         Ring {
@@ -160,8 +169,10 @@ impl Ring {
     /// Gives one side of a node a command.
     pub fn command(&mut self, at: Pos, side: Side, command: Command)
         requires { at.0 < length self.old.ids }
-        ensures { self.new ≡ record self.old { nodes = at_place at.0 (at_receiving side (commanded_by command)) self.old.nodes } }
+        ensures ring { self.new ≡ record self.old { nodes = at_place at.0 (at_receiving side (commanded_by command)) self.old.nodes } }
+        ensures whole { (f : Fibres) → IsWhole (world self.old f) → IsWhole (world self.new f) }
     {
+        sdh_hearing::stay_whole();
         command_at(&mut self.nodes, at.0 as usize, side, command);
     }
 
@@ -169,8 +180,10 @@ impl Ring {
     pub fn moment(&mut self, now: Moment)
         requires later { self.old.moment ≤ now.0 }
         requires within { now.0 ≤ 1000000000 }
-        ensures { self.new ≡ record self.old { moment = now.0 } }
+        ensures ring { self.new ≡ record self.old { moment = now.0 } }
+        ensures whole { (f : Fibres) → IsWhole (world self.old f) → IsWhole (world self.new f) }
     {
+        sdh_hearing::stay_whole();
         self.present = now;
     }
 
@@ -183,12 +196,16 @@ impl Ring {
         ensures ok { OnOk result (IsRound (world self.old (P.fibres plant.old)) (world self.new (P.fibres plant.new))) }
         ensures prepared { OnOk result (IsPrepared self.old.settings.rate (length self.old.ids) (P.fibres plant.new)) }
 
+        // Where what comes is what was sent, states and words are those of a ring of signals with the same needs.
+        ensures signals { OnOk result (IsWhole (world self.old (P.fibres plant.old)) → GoesAsSignals (world self.old (P.fibres plant.old)) (world self.new (P.fibres plant.new))) }
+
         // A fault breaks the ring. The first frames of the round may have been sent.
         ensures err { OnErr result (IsBrokenOff (world self.old (P.fibres plant.old)) (P.fibres plant.new)) }
         ensures broken { OnErr result (self.new.broken ≡ true) }
         ensures later { P.faults plant.old ≤ P.faults plant.new }
         ensures failed { OnErr result (Rose (P.faults plant.old) (P.faults plant.new)) }
     {
+        sdh_hearing::whole_rounds_go_as_signals();
         self.broken = true;
         hear(self.rounds, &mut self.nodes, &mut self.arrived, plant)?;
         send_all(
@@ -230,6 +247,7 @@ impl Ring {
     fn has_circuits(&self)
         ensures { HasCircuits (layout_in self.now) }
     {
+        // Reading it gives the proof what is true of every ring.
         let _rounds = self.rounds;
     }
 
@@ -244,8 +262,16 @@ impl Ring {
         ensures outcome { Outcome (world self.old (P.fibres plant.old)) limit result (world self.new (P.fibres plant.new)) }
         ensures prepared { self.new.broken ≡ false → IsPrepared self.old.settings.rate (length self.old.ids) (P.fibres plant.new) }
 
+        // Over any plant: a step that ended ran a round, and the number of the last is a multiple of 128 and not 0.
+        ensures numbers { OnOk result (EndsAtAMultiple self.old self.new limit) }
+        ensures all { result ≡ Err SettleError.Unsettled → self.new.rounds ≡ self.old.rounds + limit }
+        ensures whole { result ≢ Err SettleError.PlantFault → IsWhole (world self.old (P.fibres plant.old)) → IsWhole (world self.new (P.fibres plant.new)) }
+
         // Where what comes is what was sent, each node is in its settled state then, and each port has delivered what it is owed.
         ensures restored { OnOk result (Restores (world self.old (P.fibres plant.old)) (world self.new (P.fibres plant.new))) }
+
+        // And with so large a limit a window does end, whatever happened before, where no fault breaks the step off.
+        ensures answers { IsWhole (world self.old (P.fibres plant.old)) → enough_for (length self.old.ids) ≤ limit → result ≢ Err SettleError.Unsettled }
 
         // A fault breaks the ring.
         ensures broken { result ≡ Err SettleError.PlantFault → self.new.broken ≡ true }
@@ -253,7 +279,10 @@ impl Ring {
         ensures failed { result ≡ Err SettleError.PlantFault → Rose (P.faults plant.old) (P.faults plant.new) }
     {
         self.has_circuits();
+        sdh_world::settled_numbers();
+        sdh_hearing::steps_stay_whole();
         sdh_carrying::settled_rings_are_restored();
+        sdh_converging::steps_answer();
         let mut calm = 0u32;
         'rounds: for _turn in 0..limit {
             self.round(plant)?;
@@ -305,7 +334,6 @@ impl Ring {
 
     /// The nodes' identifiers.
     pub fn map(&self) -> &RingMap
-        requires { self.now.broken ≡ false }
         ensures { result.now ≡ self.now.ids }
     {
         &self.map
@@ -313,7 +341,6 @@ impl Ring {
 
     /// The circuits.
     pub fn circuits(&self) -> &CircuitMap
-        requires { self.now.broken ≡ false }
         ensures { result.now ≡ self.now.circuits }
     {
         &self.circuits

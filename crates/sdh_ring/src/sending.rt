@@ -2,7 +2,7 @@
 ghost use Rattle.std.specs.Prelude.{◌≡◌, ◌⊎◌, ◌<◌, ◌≤◌, OnOk, OnErr, All, map, length};
 ghost use Rattle.sdh_basics.specs.Causes.{HasCause};
 ghost use Rattle.sdh_plant.specs.Fibres.{IsPrepared};
-ghost use Rattle.sdh_world.specs.Rounds.{next, frames_of, sent_all};
+ghost use Rattle.sdh_world.specs.Rounds.{node_after, frames_of, sent_all};
 ghost use Rattle.sdh_world.specs.Fixed.{fixed};
 ghost use Rattle.sdh_ring.specs.Calls.{MaySend, sent_west, sent_now, SendsSome};
 
@@ -29,7 +29,7 @@ fn send_both<P: Plant>(
     requires within { now.0 ≤ 1000000000 }
     ensures fibres { OnOk result (P.fibres plant.new ≡ sent_now now.0 at.0 node.old (P.fibres plant.old)) }
     ensures kept { OnErr result ((P.fibres plant.new ≡ P.fibres plant.old) ⊎ (P.fibres plant.new ≡ sent_west now.0 at.0 node.old (P.fibres plant.old))) }
-    ensures node { node.new ≡ next now.0 node.old }
+    ensures node { node.new ≡ node_after now.0 node.old }
     ensures west { west.new.rate ≡ west.old.rate }
     ensures east { east.new.rate ≡ east.old.rate }
     ensures cause { HasCause (P.faults plant.old) (P.faults plant.new) result }
@@ -53,7 +53,7 @@ pub fn send_all<P: Plant>(
     requires nodes { All (MaySend west.old.rate now.0) nodes.old.items }
     requires within { now.0 ≤ 1000000000 }
     ensures fibres { OnOk result (P.fibres plant.new ≡ sent_all (frames_of now.0 nodes.old.items) (P.fibres plant.old)) }
-    ensures nodes { OnOk result (nodes.new.items ≡ map (next now.0) nodes.old.items) }
+    ensures nodes { OnOk result (nodes.new.items ≡ map (node_after now.0) nodes.old.items) }
     ensures err { OnErr result (SendsSome (frames_of now.0 nodes.old.items) (P.fibres plant.old) (P.fibres plant.new)) }
     ensures fixed { map fixed nodes.new.items ≡ map fixed nodes.old.items }
     ensures west { west.new.rate ≡ west.old.rate }

@@ -32,3 +32,7 @@ in_chain n chain p = nat_lt (eastwards n chain.first.0 p) chain.count
 -- the position of the node with this identifier, if there is one
 abbrev pub found_at : List ℕ → ℕ → Option Pos
 found_at ids id = option_map (λ p. record { 0 = p }) (position (λ x. x == id) ids)
+
+-- the position of this number
+abbrev pub position_of : ℕ → Pos
+position_of p = record { 0 = p }

@@ -1,7 +1,7 @@
 -- No node in its settled state connects what comes over an applied span.
 use Rattle.std.proofs.Common.{◌≡◌, ℕ, Bool, true, false, Option, Some, None, List, length, refl}
 use Rattle.std.specs.Prelude.{◌==◌, ◌||◌, if◌then◌else◌}
-use Rattle.sdh_ringmap.specs.Places.{opposite, span_at}
+use Rattle.sdh_ringmap.specs.Places.{opposite, span_at, position_of}
 use Rattle.sdh_ringmap.specs.declared.Pos.{Pos}
 use Rattle.sdh_ringmap.specs.declared.Side.{Side}
 use Rattle.sdh_ringmap.specs.declared.Side.TheVariants.{West, East}
@@ -14,7 +14,7 @@ use Rattle.sdh_bridge.specs.declared.Origin.TheVariants.{Protection, Ais}
 use Rattle.sdh_bridge.specs.Connections.{sent_of, stands_for, leaves_working, leaves_protection}
 use Rattle.sdh_restoration.specs.Applied.{is_applied, is_any_applied}
 use Rattle.sdh_restoration.specs.Settled.{settled, settled_by, is_outranked, far_end}
-use Rattle.sdh_routes.specs.Walks.{position, port, carries_in, stands_in, working_in, protection_in}
+use Rattle.sdh_routes.specs.Walks.{port, carries_in, stands_in, working_in, protection_in}
 use Rattle.sdh_routes.specs.Law.{IsFree}
 use Rattle.sdh_routes.specs.Laws.{NoWayCrossesAnAppliedSpan}
 
@@ -31,7 +31,7 @@ module _ (rs : List ℕ) (cs : List Provisioned) (p : ℕ) where
   if_own false true i o h = tt
   if_own false false i o h = h
 
-  sent_free : (k : Option Row) (o : Origin) → IsFree n (is_applied rs) p o → IsFree n (is_applied rs) p (sent_of (position p) k o)
+  sent_free : (k : Option Row) (o : Origin) → IsFree n (is_applied rs) p o → IsFree n (is_applied rs) p (sent_of (position_of p) k o)
   sent_free None o h = tt
   sent_free (Some r) o h = if_own (r.from.0 == p) (r.to.0 == p) r.circuit o h
 

@@ -3,6 +3,7 @@ pub mod Between
 pub mod Covering
 pub mod Crossing
 pub mod Free
+pub mod Idle
 pub mod Inhabited
 pub mod Inside
 pub mod Lengths

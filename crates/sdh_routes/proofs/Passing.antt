@@ -10,14 +10,14 @@ use Rattle.sdh_circuits.specs.declared.End.{End}
 use Rattle.sdh_circuits.specs.declared.End.TheVariants.{A, B}
 use Rattle.sdh_nodestate.specs.declared.NodeState.{NodeState}
 use Rattle.sdh_nodestate.specs.declared.NodeState.TheVariants as state
-use Rattle.sdh_ringmap.specs.Places.{opposite, span_at}
+use Rattle.sdh_ringmap.specs.Places.{opposite, span_at, position_of}
 use Rattle.sdh_ringmap.specs.declared.Chain.{Chain}
 use Rattle.sdh_ringmap.specs.declared.Pos.{Pos}
 use Rattle.sdh_ringmap.specs.declared.Side.{Side}
 use Rattle.sdh_ringmap.specs.declared.Side.TheVariants.{East, West}
 use Rattle.sdh_routes.proofs.States.{Resting}
 use Rattle.sdh_routes.proofs.Views.{Idle, Isolated, PassThrough, Switch, carried, end_at, far_at, side_state}
-use Rattle.sdh_routes.specs.Walks.{carries_in, port, position, protection_in, stands_in, working_in}
+use Rattle.sdh_routes.specs.Walks.{carries_in, port, protection_in, stands_in, working_in}
 use Rattle.sdh_squelch.proofs.LookUps.{entry}
 use Rattle.sdh_squelch.specs.Table.{circuit_from, circuits_at, is_carried}
 use Rattle.sdh_squelch.specs.declared.Row.{Row}
@@ -59,10 +59,10 @@ some_by false true i z x e = let t : B ≡ x = cc in ap (port i) t
 some_by false false i z x e = cc
 
 -- a circuit that ends at p, and one that doesn't
-sent-own : (p i : ℕ) (c : Provisioned) (z : Origin) (x : End) → end_at c p ≡ Some x → sent_of (position p) (Some (entry i c)) z ≡ port i x
+sent-own : (p i : ℕ) (c : Provisioned) (z : Origin) (x : End) → end_at c p ≡ Some x → sent_of (position_of p) (Some (entry i c)) z ≡ port i x
 sent-own p i c z x e = some_by _ _ i z x e
 
-sent-on : (p i : ℕ) (c : Provisioned) (z : Origin) → end_at c p ≡ None → sent_of (position p) (Some (entry i c)) z ≡ z
+sent-on : (p i : ℕ) (c : Provisioned) (z : Origin) → end_at c p ≡ None → sent_of (position_of p) (Some (entry i c)) z ≡ z
 sent-on p i c z e = none_by _ _ _ _ z e
 
 module _ (n : ℕ) (cs : List Provisioned) (q : ℕ) where
@@ -77,19 +77,19 @@ module _ (n : ℕ) (cs : List Provisioned) (q : ℕ) where
   open-stands (state.Idle i) d m e = refl
 
   -- by the circuit there
-  goes_by : (st : NodeState) (d : Side) (m : ℕ) (k : Option Row) → circuits_at n cs q m d ≡ k → (sent_of (position q) k (stands_in n cs q st (opposite d) m) ≡ stands_in n cs q st (opposite d) m) → working_in n cs q st d m ≡ stands_in n cs q st (opposite d) m
+  goes_by : (st : NodeState) (d : Side) (m : ℕ) (k : Option Row) → circuits_at n cs q m d ≡ k → (sent_of (position_of q) k (stands_in n cs q st (opposite d) m) ≡ stands_in n cs q st (opposite d) m) → working_in n cs q st d m ≡ stands_in n cs q st (opposite d) m
   unfolding leaves_working stands_for
   goes_by (state.Isolated i) d m k h g = refl
-  goes_by (state.SwitchWest f) d m k h g = ap (λ o. sent_of (position q) o (stands_in n cs q (state.SwitchWest f) (opposite d) m)) h ∙ g
-  goes_by (state.SwitchEast f) d m k h g = ap (λ o. sent_of (position q) o (stands_in n cs q (state.SwitchEast f) (opposite d) m)) h ∙ g
-  goes_by (state.PassThrough i) d m k h g = ap (λ o. sent_of (position q) o (stands_in n cs q (state.PassThrough i) (opposite d) m)) h ∙ g
-  goes_by (state.Idle i) d m k h g = ap (λ o. sent_of (position q) o (stands_in n cs q (state.Idle i) (opposite d) m)) h ∙ g
+  goes_by (state.SwitchWest f) d m k h g = ap (λ o. sent_of (position_of q) o (stands_in n cs q (state.SwitchWest f) (opposite d) m)) h ∙ g
+  goes_by (state.SwitchEast f) d m k h g = ap (λ o. sent_of (position_of q) o (stands_in n cs q (state.SwitchEast f) (opposite d) m)) h ∙ g
+  goes_by (state.PassThrough i) d m k h g = ap (λ o. sent_of (position_of q) o (stands_in n cs q (state.PassThrough i) (opposite d) m)) h ∙ g
+  goes_by (state.Idle i) d m k h g = ap (λ o. sent_of (position_of q) o (stands_in n cs q (state.Idle i) (opposite d) m)) h ∙ g
 
   -- a circuit that doesn't end here goes on
   pub leaves-on : (st : NodeState) (i : ℕ) (c : Provisioned) (d : Side) (m : ℕ) → circuit_from n (span_at n q d) m 0 cs ≡ Some (entry i c) → end_at c q ≡ None → working_in n cs q st d m ≡ stands_in n cs q st (opposite d) m
   leaves-on st i c d m h e = goes_by st d m (Some (entry i c)) h (sent-on q i c (stands_in n cs q st (opposite d) m) e)
 
-  own_or_none : (st : NodeState) (d : Side) (m : ℕ) → (working_in n cs q st d m ≡ Ais) ⊎ (working_in n cs q st d m ≡ sent_of (position q) (circuits_at n cs q m d) (stands_in n cs q st (opposite d) m))
+  own_or_none : (st : NodeState) (d : Side) (m : ℕ) → (working_in n cs q st d m ≡ Ais) ⊎ (working_in n cs q st d m ≡ sent_of (position_of q) (circuits_at n cs q m d) (stands_in n cs q st (opposite d) m))
   unfolding leaves_working
   own_or_none (state.Isolated i) d m = inl refl
   own_or_none (state.SwitchWest f) d m = inr refl
@@ -97,7 +97,7 @@ module _ (n : ℕ) (cs : List Provisioned) (q : ℕ) where
   own_or_none (state.PassThrough i) d m = inr refl
   own_or_none (state.Idle i) d m = inr refl
 
-  open_sends : (st : NodeState) (y d : Side) (m : ℕ) → is_open st y ≡ true → working_in n cs q st d m ≡ sent_of (position q) (circuits_at n cs q m d) (stands_in n cs q st (opposite d) m)
+  open_sends : (st : NodeState) (y d : Side) (m : ℕ) → is_open st y ≡ true → working_in n cs q st d m ≡ sent_of (position_of q) (circuits_at n cs q m d) (stands_in n cs q st (opposite d) m)
   unfolding leaves_working
   open_sends (state.Isolated i) y d m o = cc
   open_sends (state.SwitchWest f) y d m o = refl
@@ -105,8 +105,8 @@ module _ (n : ℕ) (cs : List Provisioned) (q : ℕ) where
   open_sends (state.PassThrough i) y d m o = refl
   open_sends (state.Idle i) y d m o = refl
 
-  own_by : (st : NodeState) (i : ℕ) (c : Provisioned) (x : End) (d : Side) (m : ℕ) → circuit_from n (span_at n q d) m 0 cs ≡ Some (entry i c) → end_at c q ≡ Some x → sent_of (position q) (circuits_at n cs q m d) (stands_in n cs q st (opposite d) m) ≡ port i x
-  own_by st i c x d m h e = ap (λ o. sent_of (position q) o (stands_in n cs q st (opposite d) m)) h ∙ sent-own q i c (stands_in n cs q st (opposite d) m) x e
+  own_by : (st : NodeState) (i : ℕ) (c : Provisioned) (x : End) (d : Side) (m : ℕ) → circuit_from n (span_at n q d) m 0 cs ≡ Some (entry i c) → end_at c q ≡ Some x → sent_of (position_of q) (circuits_at n cs q m d) (stands_in n cs q st (opposite d) m) ≡ port i x
+  own_by st i c x d m h e = ap (λ o. sent_of (position_of q) o (stands_in n cs q st (opposite d) m)) h ∙ sent-own q i c (stands_in n cs q st (opposite d) m) x e
 
   -- a circuit that begins at a node that isn't isolated is its port's own stream
   pub leaves-own : (st : NodeState) (i : ℕ) (c : Provisioned) (x : End) (y d : Side) (m : ℕ) → circuit_from n (span_at n q d) m 0 cs ≡ Some (entry i c) → is_open st y ≡ true → end_at c q ≡ Some x → working_in n cs q st d m ≡ port i x
@@ -116,11 +116,11 @@ module _ (n : ℕ) (cs : List Provisioned) (q : ℕ) where
   leaves-own_or_none st i c x d m h e = elim (own_or_none st d m) [ inl none ↦ inl none | inr own ↦ inr (own ∙ own_by st i c x d m h e) ]
 
   pub leaves-unused : (st : NodeState) (d : Side) (m : ℕ) → circuit_from n (span_at n q d) m 0 cs ≡ None → working_in n cs q st d m ≡ Ais
-  leaves-unused st d m h = elim (own_or_none st d m) [ inl none ↦ none | inr own ↦ own ∙ ap (λ o. sent_of (position q) o (stands_in n cs q st (opposite d) m)) h ]
+  leaves-unused st d m h = elim (own_or_none st d m) [ inl none ↦ none | inr own ↦ own ∙ ap (λ o. sent_of (position_of q) o (stands_in n cs q st (opposite d) m)) h ]
 
   pub unused-carries : (d : Side) (m : ℕ) (f : Option Pos) → circuit_from n (span_at n q d) m 0 cs ≡ None → carries_in n cs q d m f ≡ false
   unfolding may_carry
-  unused-carries d m f h = ap (λ o. option_map_or (is_carried n o) (chain_on n (position q) (circuits_at n cs q m) d f) false) h ∙ none_carried (chain_on n (position q) (circuits_at n cs q m) d f) where
+  unused-carries d m f h = ap (λ o. option_map_or (is_carried n o) (chain_on n (position_of q) (circuits_at n cs q m) d f) false) h ∙ none_carried (chain_on n (position_of q) (circuits_at n cs q m) d f) where
     none_carried : (k : Option Chain) → option_map_or (is_carried n None) k false ≡ false
     none_carried None = refl
     none_carried (Some k) = refl

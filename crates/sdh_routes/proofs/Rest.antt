@@ -4,7 +4,7 @@ use Rattle.std.specs.Prelude.{◌&&◌, ◌||◌, ◌==◌, nat_le, nat_lt, if�
 use Rattle.std.specs.List.{find, list_any}
 use Rattle.std.proofs.lemmas.Bool.{cases_Bool, or_cases, eq-eqb, le-ltb}
 use Rattle.std.proofs.lemmas.List.Folds.{list_any_at}
-use Rattle.sdh_ringmap.specs.Places.{opposite, span_at}
+use Rattle.sdh_ringmap.specs.Places.{opposite, span_at, position_of}
 use Rattle.sdh_ringmap.specs.declared.Pos.{Pos}
 use Rattle.sdh_ringmap.specs.declared.Side.{Side}
 use Rattle.sdh_ringmap.specs.declared.Side.TheVariants.{West, East}
@@ -12,7 +12,6 @@ use Rattle.sdh_nodestate.specs.declared.NodeState.{NodeState}
 use Rattle.sdh_restoration.specs.Applied.{highest, has_one_leader, applies, is_applied, is_any_applied}
 use Rattle.sdh_restoration.specs.Settled.{next_positions, far_end, is_outranked, settled_by, settled}
 use Rattle.sdh_ringmap.specs.Steps.{going, way}
-use Rattle.sdh_routes.specs.Walks.{position}
 use Rattle.sdh_restoration.proofs.FarEnds.{first_position}
 use Rattle.sdh_restoration.proofs.Highest.{IsTop, top_of}
 use Rattle.sdh_routes.specs.Law.{is_pass}
@@ -54,8 +53,8 @@ module _ (rs : List ℕ) (some : 0 < length rs) where
 
   pub far_first : (d : Side) (q k : ℕ) → q < n → 0 < k → k < n → ((j : ℕ) → j < k → applied (way n d q j) ≡ false) → applied (way n d q k) ≡ true → far d q ≡ far_at (going n d q k)
   unfolding far_end
-  far_first West q k inside some_way few free hit = ap (option_map position) (searched West q k some_way few free hit)
-  far_first East q k inside some_way few free hit = ap (option_map position) (searched East q k some_way few free hit)
+  far_first West q k inside some_way few free hit = ap (option_map position_of) (searched West q k some_way few free hit)
+  far_first East q k inside some_way few free hit = ap (option_map position_of) (searched East q k some_way few free hit)
 
   abbrev serves : ℕ → Bool
   serves q = is_any_applied rs || is_outranked rs q

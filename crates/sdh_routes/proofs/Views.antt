@@ -10,12 +10,11 @@ use Rattle.sdh_nodestate.specs.FarEnds.{chain_between}
 use Rattle.sdh_nodestate.specs.declared.NodeState.{NodeState}
 use Rattle.sdh_nodestate.specs.declared.NodeState.TheVariants as state
 use Rattle.sdh_ringmap.specs.Arcs.{holds_span}
-use Rattle.sdh_ringmap.specs.Places.{eastwards, in_chain, opposite}
+use Rattle.sdh_ringmap.specs.Places.{eastwards, in_chain, opposite, position_of}
 use Rattle.sdh_ringmap.specs.declared.Chain.{Chain}
 use Rattle.sdh_ringmap.specs.declared.Pos.{Pos}
 use Rattle.sdh_ringmap.specs.declared.Side.{Side}
 use Rattle.sdh_ringmap.specs.declared.Side.TheVariants.{East, West}
-use Rattle.sdh_routes.specs.Walks.{position}
 use Rattle.sdh_squelch.specs.Table.{is_carried}
 use Rattle.sdh_squelch.specs.declared.Row.{Row}
 
@@ -30,8 +29,8 @@ passes n West x y q = is_between n y x q
 
 -- the chain of a node at p that switches side d and has the far end f
 abbrev pub chain_to : ℕ → ℕ → Side → ℕ → Chain
-chain_to n p West f = chain_between n (position p) (position f)
-chain_to n p East f = chain_between n (position f) (position p)
+chain_to n p West f = chain_between n (position_of p) (position_of f)
+chain_to n p East f = chain_between n (position_of f) (position_of p)
 
 -- position q is in that chain
 abbrev pub is_in_chain : ℕ → Side → ℕ → ℕ → ℕ → Bool
@@ -68,7 +67,7 @@ Switch West f = state.SwitchWest f
 Switch East f = state.SwitchEast f
 
 abbrev pub far_at : ℕ → Option Pos
-far_at p = Some (position p)
+far_at p = Some (position_of p)
 
 -- the state by whether the spans on a side and on the other are applied, with the first positions on that side and on
 -- the other whose next span is applied

@@ -41,6 +41,10 @@ pub record Ends (n : ℕ) (state : ℕ → NodeState) (cs : List Provisioned) (m
   pub over : IsOver last.origin
   pub leads : Leads n state cs m spans x last
 
+-- a ring of idle nodes
+abbrev pub all_idle : ℕ → NodeState
+all_idle q = state.Idle tt
+
 -- a route over the arc has at most n - 1 spans, a switched one at most 2n - 3, and each at least one
 pub record IsShort (n : ℕ) (applied : ℕ → Bool) (c : Provisioned) : Type 0 where
   pub straight : is_clear n applied (arc_of n c) ≡ true → hops n applied (arc_of n c) + 1 ≤ n

@@ -1,6 +1,6 @@
 -- The laws of routes: for every ring, given by the requests rs of its spans, and all circuits of it, with each node in
 -- its settled state and connected by it.
-use Rattle.std.specs.Prelude.{ℕ, suc, ◌≡◌, ◌+◌, ◌*◌, ◌<◌, Bool, true, false, Some, List, length, slice_get}
+use Rattle.std.specs.Prelude.{ℕ, suc, ◌≡◌, ◌+◌, ◌-◌, ◌*◌, ◌<◌, Bool, true, false, Some, List, length, slice_get}
 use Rattle.sdh_ringmap.specs.Places.{opposite, span_at}
 use Rattle.sdh_ringmap.specs.declared.Pos.{Pos}
 use Rattle.sdh_ringmap.specs.declared.Side.{Side}
@@ -9,13 +9,14 @@ use Rattle.sdh_circuits.specs.Provisioning.{AreCircuits}
 use Rattle.sdh_circuits.specs.declared.End.{End}
 use Rattle.sdh_squelch.specs.Table.{circuit_on}
 use Rattle.sdh_nodestate.specs.declared.NodeState.{NodeState}
+use Rattle.sdh_nodestate.specs.declared.NodeState.TheVariants as state
 use Rattle.sdh_restoration.specs.Applied.{is_applied}
 use Rattle.sdh_restoration.specs.Settled.{settled}
 use Rattle.sdh_bridge.specs.declared.Origin.{Origin}
 use Rattle.sdh_ringmap.specs.Steps.{going}
 use Rattle.sdh_restoration.specs.Due.{other_end}
-use Rattle.sdh_routes.specs.Walks.{Stand, stand, port, IsOver, Leads, carries_in, delivery}
-use Rattle.sdh_routes.specs.Law.{IsRouted, IsAlongRoute, IsShort, Ends, ConnectsFree, is_pass}
+use Rattle.sdh_routes.specs.Walks.{Stand, stand, port, IsOver, Leads, working_in, carries_in, delivery}
+use Rattle.sdh_routes.specs.Law.{IsRouted, IsAlongRoute, IsShort, Ends, ConnectsFree, is_pass, all_idle}
 use Rattle.sdh_routes.specs.Rounds.{Spreads}
 
 -- a port of a joined circuit is led to the circuit's other port over exactly `hops` spans; every other port is led to
@@ -45,6 +46,11 @@ abbrev pub EachWalkEnds : Type 0
 EachWalkEnds = (rs : List ℕ) (slots : ℕ) (cs : List Provisioned) → AreCircuits (length rs) slots cs
     → (m p : ℕ) (o : Origin) → p < length rs → Ends (length rs) (settled rs) cs m (3 * length rs + 1) (stand p o)
 
+-- in a ring of idle nodes what leaves a node in a working slot ends within n - 1 spans
+abbrev pub IdleWalksAreShort : Type 0
+IdleWalksAreShort = (n slots : ℕ) (cs : List Provisioned) → AreCircuits n slots cs
+    → (d : Side) (q m : ℕ) → q < n → Ends n all_idle cs m (n - 1) (stand q (working_in n cs q (state.Idle tt) d m))
+
 -- going round the ring, on either side, meets a node that doesn't pass through
 abbrev pub TheProtectionRingIsOpen : Type 0
 TheProtectionRingIsOpen = (rs : List ℕ) (d : Side) (p : ℕ) → p < length rs
@@ -68,5 +74,5 @@ NoWayCrossesAnAppliedSpan = (rs : List ℕ) (cs : List Provisioned) (p : ℕ) (d
 -- what takes w rounds a span to become steady is steady everywhere after w (3n + 1) rounds
 abbrev pub SteadinessSpreads : Type 0
 SteadinessSpreads = (rs : List ℕ) (slots : ℕ) (cs : List Provisioned) → AreCircuits (length rs) slots cs
-    → (m : ℕ) (steady : ℕ → ℕ → Origin → Bool) (first w : ℕ) → Spreads (length rs) (settled rs) cs m steady first w
+    → (m : ℕ) (steady : ℕ → ℕ → Origin → Bool) (first w : ℕ) → Spreads (length rs) (settled rs) cs m (λ t p o. steady t p o ≡ true) first w
     → (p : ℕ) (o : Origin) → p < length rs → steady (first + w * (3 * length rs + 1)) p o ≡ true

@@ -9,15 +9,16 @@ use Rattle.sdh_restoration.specs.Applied.{is_applied}
 use Rattle.sdh_restoration.specs.Routes.{hops}
 use Rattle.sdh_restoration.specs.Settled.{settled}
 use Rattle.sdh_bridge.specs.declared.Origin.TheVariants.{Ais}
-use Rattle.sdh_routes.specs.Walks.{Stand, port, back_from, delivery, position}
+use Rattle.sdh_routes.specs.Walks.{Stand, port, back_from, delivery}
 use Rattle.std.specs.Prelude.{Some}
+use Rattle.sdh_ringmap.specs.Places.{position_of}
 
 abbrev pub no_customer : Customer
 no_customer = record { text = []; trace = []; offset = 0 }
 
 -- a circuit in slot 1
 abbrev pub circuit : ℕ → ℕ → Provisioned
-circuit from to = record { name = []; from = position from; to = position to; slot = record { 0 = 1 }; a = no_customer; b = no_customer }
+circuit from to = record { name = []; from = position_of from; to = position_of to; slot = record { 0 = 1 }; a = no_customer; b = no_customer }
 
 -- where a walk stands after k spans
 abbrev pub after : ℕ → List ℕ → List Provisioned → ℕ → Stand → Stand
@@ -28,8 +29,8 @@ after n rs cs (suc k) x = after n rs cs k (back_from n (settled rs) cs 1 x.at x.
 abbrev pub OneSpanFailed : Type 0
 OneSpanFailed =
     let rs = 0 ∷ 11 ∷ 0 ∷ 0 ∷ [] in let c = circuit 0 2 in
-    (settled rs 0 ≡ state.PassThrough tt) × (settled rs 1 ≡ state.SwitchEast (Some (position 2)))
-    × (settled rs 2 ≡ state.SwitchWest (Some (position 1))) × (settled rs 3 ≡ state.PassThrough tt)
+    (settled rs 0 ≡ state.PassThrough tt) × (settled rs 1 ≡ state.SwitchEast (Some (position_of 2)))
+    × (settled rs 2 ≡ state.SwitchWest (Some (position_of 1))) × (settled rs 3 ≡ state.PassThrough tt)
     × (hops 4 (is_applied rs) (arc_of 4 c) ≡ 4)
     × ((after 4 rs (c ∷ []) 4 (delivery 4 (settled rs) (c ∷ []) c A)).origin ≡ port 0 B)
     × ((after 4 rs (c ∷ []) 4 (delivery 4 (settled rs) (c ∷ []) c B)).origin ≡ port 0 A)
@@ -38,8 +39,8 @@ OneSpanFailed =
 abbrev pub TwoSpansFailed : Type 0
 TwoSpansFailed =
     let rs = 11 ∷ 0 ∷ 11 ∷ 0 ∷ [] in let c = circuit 0 3 in
-    (settled rs 0 ≡ state.SwitchEast (Some (position 3))) × (settled rs 1 ≡ state.SwitchWest (Some (position 2)))
-    × (settled rs 2 ≡ state.SwitchEast (Some (position 1))) × (settled rs 3 ≡ state.SwitchWest (Some (position 0)))
+    (settled rs 0 ≡ state.SwitchEast (Some (position_of 3))) × (settled rs 1 ≡ state.SwitchWest (Some (position_of 2)))
+    × (settled rs 2 ≡ state.SwitchEast (Some (position_of 1))) × (settled rs 3 ≡ state.SwitchWest (Some (position_of 0)))
     × (hops 4 (is_applied rs) (arc_of 4 c) ≡ 1)
     × ((after 4 rs (c ∷ []) 1 (delivery 4 (settled rs) (c ∷ []) c A)).origin ≡ port 0 B)
     × ((after 4 rs (c ∷ []) 1 (delivery 4 (settled rs) (c ∷ []) c B)).origin ≡ port 0 A)
@@ -49,8 +50,8 @@ TwoSpansFailed =
 abbrev pub ANodeIsCutOff : Type 0
 ANodeIsCutOff =
     let rs = 11 ∷ 11 ∷ 0 ∷ 0 ∷ [] in let x = circuit 0 1 in let y = circuit 1 2 in let cs = x ∷ y ∷ [] in
-    (settled rs 0 ≡ state.SwitchEast (Some (position 2))) × (settled rs 1 ≡ state.Isolated tt)
-    × (settled rs 2 ≡ state.SwitchWest (Some (position 0))) × (settled rs 3 ≡ state.PassThrough tt)
+    (settled rs 0 ≡ state.SwitchEast (Some (position_of 2))) × (settled rs 1 ≡ state.Isolated tt)
+    × (settled rs 2 ≡ state.SwitchWest (Some (position_of 0))) × (settled rs 3 ≡ state.PassThrough tt)
     × ((delivery 4 (settled rs) cs x A).origin ≡ Ais) × ((delivery 4 (settled rs) cs x B).origin ≡ Ais)
     × ((delivery 4 (settled rs) cs y A).origin ≡ Ais) × ((delivery 4 (settled rs) cs y B).origin ≡ Ais)
 
@@ -60,13 +61,13 @@ ATie =
     let rs = 0 ∷ 6 ∷ 0 ∷ 6 ∷ [] in let one = 0 ∷ 0 ∷ 0 ∷ 6 ∷ [] in let c = circuit 0 2 in
     (settled rs 0 ≡ state.Idle tt) × (settled rs 1 ≡ state.Idle tt) × (settled rs 2 ≡ state.Idle tt) × (settled rs 3 ≡ state.Idle tt)
     × (hops 4 (is_applied rs) (arc_of 4 c) ≡ 2)
-    × (settled one 0 ≡ state.SwitchWest (Some (position 3))) × (settled one 1 ≡ state.PassThrough tt)
-    × (settled one 2 ≡ state.PassThrough tt) × (settled one 3 ≡ state.SwitchEast (Some (position 0)))
+    × (settled one 0 ≡ state.SwitchWest (Some (position_of 3))) × (settled one 1 ≡ state.PassThrough tt)
+    × (settled one 2 ≡ state.PassThrough tt) × (settled one 3 ≡ state.SwitchEast (Some (position_of 0)))
     × (hops 4 (is_applied one) (arc_of 4 c) ≡ 2)
 
 -- sixteen nodes, a circuit over all spans but the last: the last span but one has failed
 abbrev pub TheLongestRoute : Type 0
 TheLongestRoute =
     let rs = 0 ∷ 0 ∷ 0 ∷ 0 ∷ 0 ∷ 0 ∷ 0 ∷ 0 ∷ 0 ∷ 0 ∷ 0 ∷ 0 ∷ 0 ∷ 0 ∷ 11 ∷ 0 ∷ [] in let c = circuit 0 15 in
-    (settled rs 14 ≡ state.SwitchEast (Some (position 15))) × (settled rs 15 ≡ state.SwitchWest (Some (position 14)))
+    (settled rs 14 ≡ state.SwitchEast (Some (position_of 15))) × (settled rs 15 ≡ state.SwitchWest (Some (position_of 14)))
     × (settled rs 0 ≡ state.PassThrough tt) × (hops 16 (is_applied rs) (arc_of 16 c) ≡ 29)

@@ -1,5 +1,5 @@
 -- How soon rounds are steady, where the connections stay the same.
-use Rattle.std.specs.Prelude.{ℕ, ◌≡◌, ◌+◌, ◌<◌, ◌≤◌, Bool, true, List}
+use Rattle.std.specs.Prelude.{ℕ, ◌+◌, ◌<◌, ◌≤◌, List}
 use Rattle.sdh_circuits.specs.Provisioned.{Provisioned}
 use Rattle.sdh_nodestate.specs.declared.NodeState.{NodeState}
 use Rattle.sdh_bridge.specs.declared.Origin.{Origin}
@@ -7,8 +7,8 @@ use Rattle.sdh_routes.specs.Walks.{IsArrival, IsOver, back_from}
 
 -- `steady t p o`: from round t on what the origin o brings at p is steady. What ports send is steady from round `first`
 -- on, and over a span it takes w rounds more
-pub record Spreads (n : ℕ) (state : ℕ → NodeState) (cs : List Provisioned) (m : ℕ) (steady : ℕ → ℕ → Origin → Bool) (first w : ℕ) : Type 0 where
-  pub starts : (p : ℕ) (o : Origin) → p < n → IsOver o → steady first p o ≡ true
-  pub later : (t u p : ℕ) (o : Origin) → t ≤ u → steady t p o ≡ true → steady u p o ≡ true
+pub record Spreads (n : ℕ) (state : ℕ → NodeState) (cs : List Provisioned) (m : ℕ) (steady : ℕ → ℕ → Origin → Type 0) (first w : ℕ) : Type 0 where
+  pub starts : (p : ℕ) (o : Origin) → p < n → IsOver o → steady first p o
+  pub later : (t u p : ℕ) (o : Origin) → t ≤ u → steady t p o → steady u p o
   pub over_span : (t p : ℕ) (o : Origin) → p < n → IsArrival o → first ≤ t
-      → (let b = back_from n state cs m p o in steady t b.at b.origin ≡ true → steady (t + w) p o ≡ true)
+      → (let b = back_from n state cs m p o in steady t b.at b.origin → steady (t + w) p o)

@@ -1,11 +1,11 @@
 -- An AU-4 of slot m followed backwards through a ring, span by span: from where it is delivered or arrives to where
 -- it was sent. The node at each position is in a given state and connects by that state and the circuits.
 use Rattle.std.specs.Prelude.{ℕ, zero, suc, ◌≡◌, Bool, Option, List, [], ◌∷◌}
-use Rattle.sdh_ringmap.specs.Places.{opposite, neighbour, span_at}
+use Rattle.sdh_ringmap.specs.Places.{opposite, neighbour, span_at, position_of}
 use Rattle.sdh_ringmap.specs.declared.Pos.{Pos}
 use Rattle.sdh_ringmap.specs.declared.Side.{Side}
 use Rattle.sdh_ringmap.specs.declared.Side.TheVariants.{West, East}
-use Rattle.sdh_circuits.specs.Provisioned.{Provisioned}
+use Rattle.sdh_circuits.specs.Provisioned.{Provisioned, end_of}
 use Rattle.sdh_circuits.specs.declared.End.{End}
 use Rattle.sdh_circuits.specs.declared.End.TheVariants.{A, B}
 use Rattle.sdh_squelch.specs.Table.{circuits_at}
@@ -22,17 +22,13 @@ pub record Stand : Type 0 where
 abbrev pub stand : ℕ → Origin → Stand
 stand p o = record { at = p; origin = o }
 
-abbrev pub position : ℕ → Pos
-position q = record { 0 = q }
-
 -- the port's own stream, by the circuit's number and the end
 abbrev pub port : ℕ → End → Origin
 port i e = Add (record { circuit = i; end = e })
 
 -- the position of a circuit's port
 abbrev pub port_at : Provisioned → End → ℕ
-port_at c A = c.from.0
-port_at c B = c.to.0
+port_at c e = (end_of c e).0
 
 -- the side of a port's node on which its circuit's arc is
 abbrev pub inward : End → Side
@@ -56,17 +52,17 @@ IsOver (Protection d) = ⊥
 -- the connections of the node at q, in a state, with these circuits of a ring of n
 module _ (n : ℕ) (circuits : List Provisioned) (q : ℕ) where
   abbrev pub carries_in : Side → ℕ → Option Pos → Bool
-  carries_in d m far = may_carry n (position q) (circuits_at n circuits q m) d far
+  carries_in d m far = may_carry n (position_of q) (circuits_at n circuits q m) d far
 
   module _ (state : NodeState) where
     abbrev pub stands_in : Side → ℕ → Origin
-    stands_in d m = stands_for n (position q) (circuits_at n circuits q m) state d
+    stands_in d m = stands_for n (position_of q) (circuits_at n circuits q m) state d
 
     abbrev pub working_in : Side → ℕ → Origin
-    working_in d m = leaves_working n (position q) (circuits_at n circuits q m) state d
+    working_in d m = leaves_working n (position_of q) (circuits_at n circuits q m) state d
 
     abbrev pub protection_in : Side → ℕ → Origin
-    protection_in d m = leaves_protection n (position q) (circuits_at n circuits q m) state d
+    protection_in d m = leaves_protection n (position_of q) (circuits_at n circuits q m) state d
 
 -- a ring of n whose node at position p is in `state p`
 module _ (n : ℕ) (state : ℕ → NodeState) (circuits : List Provisioned) where

@@ -6,7 +6,7 @@
 #![tactic(auto)]
 
 ghost use Rattle.sdh_routes.specs.Rings.{OneSpanFailed, TwoSpansFailed, ANodeIsCutOff, ATie, TheLongestRoute};
-ghost use Rattle.sdh_routes.specs.Laws.{EachPortIsRouted, EachWalkFollowsTheRoute, NoPortMeetsAStranger, EachWalkHasOneEnd, EachWalkEnds, TheProtectionRingIsOpen, ALoopedSlotMeetsItsOwnCircuit, RoutesAreShort, NoWayCrossesAnAppliedSpan, SteadinessSpreads};
+ghost use Rattle.sdh_routes.specs.Laws.{EachPortIsRouted, EachWalkFollowsTheRoute, NoPortMeetsAStranger, EachWalkHasOneEnd, EachWalkEnds, TheProtectionRingIsOpen, ALoopedSlotMeetsItsOwnCircuit, RoutesAreShort, NoWayCrossesAnAppliedSpan, SteadinessSpreads, IdleWalksAreShort};
 
 /// Each port of a joined circuit is led to the circuit's other port over exactly the hops of its route, every other port
 /// to AIS.
@@ -32,6 +32,11 @@ pub fn each_walk_has_one_end()
 /// Whatever is followed from anywhere ends in AIS or at a port.
 pub fn each_walk_ends()
     ensures { EachWalkEnds }
+{}
+
+/// In a ring of idle nodes a walk is shorter than the ring.
+pub fn idle_walks_are_short()
+    ensures { IdleWalksAreShort }
 {}
 
 /// The protection ring is never closed.

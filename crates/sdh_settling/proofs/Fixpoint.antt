@@ -12,7 +12,7 @@ use Rattle.sdh_restoration.specs.Settled.{settled, settled_states}
 use Rattle.sdh_settling.proofs.Lists.{map_from-same}
 use Rattle.sdh_settling.specs.Signals.{Signals, request_on, scene_at, round, rounds, MayGo, no_needs, requests_in}
 use Rattle.sdh_settling.specs.Runs.{Run, at_round, run_requests}
-use Rattle.sdh_settling.specs.Laws.{RunsSettle, StillRingsAreSettled, RingsSettle}
+use Rattle.sdh_settling.specs.Laws.{RunsSettle, WordsStay, StillRingsAreSettled, RingsSettle}
 use Rattle.sdh_settling.proofs.Spans.{size, spans}
 use Rattle.sdh_settling.proofs.Convergence.{converges}
 use Rattle.sdh_settling.proofs.RunLaw.{run_law}
@@ -20,6 +20,9 @@ use Rattle.sdh_settling.proofs.Rounds.{run_of, is_run, scene_is}
 
 pub runs_settle : RunsSettle
 runs_settle run R t p late h = run_law run R (run_requests run) (size run R) (spans run R) t late p h
+
+pub words_stay : WordsStay
+words_stay run R t p d late h = converges run R t p d h late
 
 module _ (needs : List Needs) (s : Signals) (may : MayGo needs s) where
   abbrev n : ℕ
@@ -60,8 +63,8 @@ module _ (needs : List Needs) (s : Signals) (may : MayGo needs s) where
     where
       sent_same : (t k : ℕ) → 5 * n + 7 ≤ t → k < n → sent_after (at_round run (suc t) k) ≡ sent_after (at_round run t k)
       sent_same t k late few =
-          ap (λ w. record { west = w; east = word (at_round run (suc t) k) East }) (converges run (is_run needs s may) t k West few late)
-          ∙ ap (λ w. record { west = word (at_round run t k) West; east = w }) (converges run (is_run needs s may) t k East few late)
+          ap (λ w. record { west = w; east = word (at_round run (suc t) k) East }) (words_stay run (is_run needs s may) t k West late few)
+          ∙ ap (λ w. record { west = word (at_round run t k) West; east = w }) (words_stay run (is_run needs s may) t k East late few)
 
   -- where a round changed no word, later rounds change none either
   module _ (still : (round needs s).words ≡ s.words) where

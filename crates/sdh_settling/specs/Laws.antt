@@ -16,6 +16,10 @@ use Rattle.sdh_ringmap.specs.Steps.{going}
 abbrev pub RunsSettle : Type 0
 RunsSettle = (run : Run) → IsRun run → (t p : ℕ) → 4 * length run.ids + 7 ≤ t → p < length run.ids → state_after (at_round run t p) ≡ settled (run_requests run) p
 
+-- And from round 5n + 7 on no node of a run sends another word than in the round before.
+abbrev pub WordsStay : Type 0
+WordsStay = (run : Run) → IsRun run → (t p : ℕ) (d : Side) → 5 * length run.ids + 7 ≤ t → p < length run.ids → word (at_round run (suc t) p) d ≡ word (at_round run t p) d
+
 -- The fixpoint law, for a ring of signals: after a round that changed no word, each node is in the settled state of its
 -- position, with its far end, under the requests of the needs in that round.
 abbrev pub StillRingsAreSettled : Type 0

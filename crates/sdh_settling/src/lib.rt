@@ -3,12 +3,18 @@
 //! laws. Each function here has a law as its contract and no work to do.
 #![tactic(auto)]
 
-ghost use Rattle.sdh_settling.specs.Laws.{RunsSettle, StillRingsAreSettled, RingsSettle, RelayedWordsLeadBack, NotAllPassThrough};
+ghost use Rattle.sdh_settling.specs.Laws.{RunsSettle, WordsStay, StillRingsAreSettled, RingsSettle, RelayedWordsLeadBack, NotAllPassThrough};
 
 /// A ring that goes on with the same needs gets into the settled states.
 #[tactic(auto, using(crate::proofs::Fixpoint::runs_settle))]
 pub fn runs_settle()
     ensures { RunsSettle }
+{}
+
+/// And its nodes send the same words from then on.
+#[tactic(auto, using(crate::proofs::Fixpoint::words_stay))]
+pub fn words_stay()
+    ensures { WordsStay }
 {}
 
 /// A ring of signals in which nothing changes is in the settled states.

@@ -1,4 +1,3 @@
 mod Lists
 mod Scenes
-mod Shapes
 mod Rounds

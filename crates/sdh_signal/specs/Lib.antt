@@ -1,2 +1,1 @@
 pub mod SignalRing
-pub mod Shapes

@@ -5,51 +5,16 @@ ghost use Rattle.sdh_basics.specs.Indexed.{map_from};
 ghost use Rattle.sdh_nodestate.specs.Rules.{scene, state_after, sent_after};
 ghost use Rattle.sdh_nodestate.specs.Conditions.{MayNeed};
 ghost use Rattle.sdh_settling.specs.Signals.{incoming, heard_at, scene_at};
-ghost use Rattle.sdh_signal.specs.Shapes.{state_of};
 
-use sdh_kbytes::K;
-use sdh_nodestate::{Heard, Needs, NodeState, Sent, start, step};
+use sdh_kbytes::{K, same_word};
+use sdh_nodestate::{Heard, Needs, NodeState, Sent, same_shape, shape_of, start, step};
 use sdh_ringmap::{Pos, RingMap, Side};
-
-/// What a state is, for comparing: a step takes the state itself.
-#[derive(Clone, Copy, Debug, PartialEq, Eq)]
-enum Shape {
-    Idle,
-    PassThrough,
-    SwitchWest(Option<Pos>),
-    SwitchEast(Option<Pos>),
-    Isolated,
-}
-
-fn shape_of(state: &NodeState) -> Shape
-    ensures { state_of result ≡ state.now }
-{
-    match state {
-        NodeState::Idle(_) => Shape::Idle,
-        NodeState::PassThrough(_) => Shape::PassThrough,
-        NodeState::SwitchWest(switch) => Shape::SwitchWest(switch.far()),
-        NodeState::SwitchEast(switch) => Shape::SwitchEast(switch.far()),
-        NodeState::Isolated(_) => Shape::Isolated,
-    }
-}
-
-fn is_shape(a: Shape, b: Shape) -> bool
-    ensures { IsTrue result ↔ (a ≡ b) }
-{
-    a == b
-}
-
-fn is_word(a: K, b: K) -> bool
-    ensures { IsTrue result ↔ (a ≡ b) }
-{
-    a == b
-}
 
 /// Whether two nodes sent the same words.
 fn is_sent(a: &Sent, b: &Sent) -> bool
     ensures { IsTrue result ↔ (a.now ≡ b.now) }
 {
-    is_word(a.west, b.west) && is_word(a.east, b.east)
+    same_word(a.west, b.west) && same_word(a.east, b.east)
 }
 
 /// What comes in on one side of a position: the word that the neighbour sent this way, if the side doesn't fail.
@@ -77,7 +42,7 @@ fn heard_at(map: &RingMap, before: &[Sent], at: Pos, needs: &Needs) -> Heard
 }
 
 /// One node's part of a round. Whether its state stays the same.
-#[tactic(auto, using(crate::proofs::Scenes::scene_heard, crate::proofs::Scenes::west_silent, crate::proofs::Scenes::east_silent, crate::proofs::Shapes::state_tells))]
+#[tactic(auto, using(crate::proofs::Scenes::scene_heard, crate::proofs::Scenes::west_silent, crate::proofs::Scenes::east_silent))]
 fn step_at(
     map: &RingMap,
     before: &[Sent],
@@ -96,7 +61,7 @@ fn step_at(
     let shape = shape_of(state);
     let old = std::mem::replace(state, start());
     let (next, words) = step(old, map, at, *needs, heard);
-    let stays = is_shape(shape_of(&next), shape);
+    let stays = same_shape(shape_of(&next), shape);
     *state = next;
     *sent = words;
     stays

@@ -6,7 +6,7 @@ use Rattle.sdh_plant.specs.Fibres.{Arrival, Fibres}
 use Rattle.sdh_plant.specs.Arrivals.{Knows}
 use Rattle.sdh_plant.specs.Calls.{after_receive}
 use Rattle.sdh_node.specs.Node.{Node}
-use Rattle.sdh_world.specs.Rounds.{met, heard, taken, arrival_at, arrivals_from}
+use Rattle.sdh_world.specs.Rounds.{with_arrivals, all_with_arrivals, after_given, arrival_at, arrivals_from}
 
 told_stays : (o : Option (List Arrival)) (k : ℕ) → o ≢ None → option_map (drop k) o ≢ None
 told_stays None k h = λ _. h refl
@@ -16,8 +16,8 @@ pub knows_received : (f : Fibres) → Knows f → Knows (after_receive f)
 knows_received f (inl h) = inl h
 knows_received f (inr h) = inr (told_stays f.told 1 h)
 
-pub knows_taken : (f : Fibres) (k : ℕ) → Knows f → Knows (taken k f)
-unfolding taken
+pub knows_taken : (f : Fibres) (k : ℕ) → Knows f → Knows (after_given k f)
+unfolding after_given
 knows_taken f k (inl h) = inl h
 knows_taken f k (inr h) = inr (told_stays f.told k h)
 
@@ -31,10 +31,10 @@ pub arrivals_more : (f : Fibres) (k : ℕ) → arrivals_from f 0 (k + 1) ≡ arr
 arrivals_more f k = ap (arrivals_from f 0) (add-one k) ∙ from_more f 0 k ∙ ap (λ q. arrivals_from f 0 k ++ arrival_at f q West ∷ arrival_at f q East ∷ []) (let e : 0 + k ≡ k = omega arith in e)
 
 -- one node more
-pub heard_more : (xs : List Arrival) (ns : List Node) (west east : Arrival) (n : Node) → length xs ≡ 2 * length ns → heard (xs ++ west ∷ east ∷ []) (ns ++ n ∷ []) ≡ heard xs ns ++ met west east n ∷ []
+pub heard_more : (xs : List Arrival) (ns : List Node) (west east : Arrival) (n : Node) → length xs ≡ 2 * length ns → all_with_arrivals (xs ++ west ∷ east ∷ []) (ns ++ n ∷ []) ≡ all_with_arrivals xs ns ++ with_arrivals west east n ∷ []
 heard_more [] [] west east n h = refl
 heard_more [] (m ∷ ns) west east n h = absurd (omega arith)
 heard_more (a ∷ []) [] west east n h = absurd (omega arith)
 heard_more (a ∷ []) (m ∷ ns) west east n h = absurd (omega arith)
 heard_more (a ∷ b ∷ xs) [] west east n h = absurd (omega arith)
-heard_more (a ∷ b ∷ xs) (m ∷ ns) west east n h = ap (λ zs. met a b m ∷ zs) (heard_more xs ns west east n (omega arith))
+heard_more (a ∷ b ∷ xs) (m ∷ ns) west east n h = ap (λ zs. with_arrivals a b m ∷ zs) (heard_more xs ns west east n (omega arith))

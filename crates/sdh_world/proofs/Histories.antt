@@ -7,21 +7,21 @@ use Rattle.std.proofs.lemmas.List.{get_or-set_same, get_or-set_other, length-set
 use Rattle.std.proofs.Math.Nat.{mod-lt}
 use Rattle.sdh_ringmap.specs.declared.Side.{Side}
 use Rattle.sdh_ringmap.specs.declared.Side.TheVariants.{West, East}
-use Rattle.sdh_ringmap.specs.Places.{opposite}
+use Rattle.sdh_ringmap.specs.Places.{opposite, position_of}
 use Rattle.sdh_request.specs.declared.Command.{Command}
 use Rattle.sdh_request.specs.declared.Command.TheVariants as command
 use Rattle.sdh_plant.specs.declared.plant.Condition.{Condition}
 use Rattle.sdh_plant.specs.declared.plant.Condition.TheVariants.{Clear}
 use Rattle.sdh_plant.specs.Fibres.{Arrival, fibre, fibre_to}
-use Rattle.sdh_node.specs.Receiving.{taken, heard_at, commanded_by}
-use Rattle.sdh_node.specs.Crossing.{decided}
-use Rattle.sdh_node.specs.Node.{Node, new_node, at_receiving, turn, after_turn, settled_from, node_round}
+use Rattle.sdh_node.specs.Receiving.{after_intake, after_overhead, commanded_by}
+use Rattle.sdh_node.specs.Crossing.{after_decision}
+use Rattle.sdh_node.specs.Node.{Node, new_node, at_receiving, crossing, after_crossing, with_calm, node_round}
 use Rattle.sdh_circuits.specs.Provisioned.{Provisioned}
 use Rattle.sdh_node.specs.declared.settings.Settings.{Settings}
-use Rattle.sdh_world.specs.Held.{at_place, position, new_nodes}
+use Rattle.sdh_world.specs.Held.{at_place, new_nodes}
 use Rattle.sdh_world.specs.Laws.{NewHolds, HistoriesHold, CallsChange}
 use Rattle.sdh_world.proofs.Keeping.{new_at, length-new}
-use Rattle.sdh_world.specs.Rounds.{World, with_arrival, met, heard, next, listening, round_with, round, arrivals_of}
+use Rattle.sdh_world.specs.Rounds.{World, with_arrival, with_arrivals, all_with_arrivals, node_after, nodes_with, round_with, round, arrivals_of}
 use Rattle.sdh_world.specs.Runs.{run}
 use Rattle.sdh_world.specs.Changes.{Change, Fibre, Order, Now, changed, all_changed, Stretch, after_stretch}
 use Rattle.sdh_world.specs.Sides.{Holding, holding_after, all_holding, holding_in, command_on, holding_of, world_in, Fits}
@@ -57,12 +57,12 @@ command_with West a East n = refl
 command_with East a West n = refl
 command_with East a East n = refl
 
-command_met : (west east : Arrival) (d : Side) (n : Node) → command_on d (met west east n) ≡ command_on d n
-unfolding met
+command_met : (west east : Arrival) (d : Side) (n : Node) → command_on d (with_arrivals west east n) ≡ command_on d n
+unfolding with_arrivals
 command_met west east d n = command_with East east d (with_arrival West west n) ∙ command_with West west d n
 
-command_next : (now : ℕ) (d : Side) (n : Node) → command_on d (next now n) ≡ command_on d n
-unfolding node_round settled_from after_turn turn decided taken heard_at
+command_next : (now : ℕ) (d : Side) (n : Node) → command_on d (node_after now n) ≡ command_on d n
+unfolding node_round with_calm after_crossing crossing after_decision after_intake after_overhead
 command_next now West n = refl
 command_next now East n = refl
 
@@ -76,19 +76,19 @@ command_other East c n = refl
 
 -- ---- all nodes
 
-commands_heard : (xs : List Arrival) (d : Side) (ns : List Node) → map (command_on d) (heard xs ns) ≡ map (command_on d) ns
+commands_heard : (xs : List Arrival) (d : Side) (ns : List Node) → map (command_on d) (all_with_arrivals xs ns) ≡ map (command_on d) ns
 commands_heard [] d ns = refl
 commands_heard (west ∷ []) d ns = refl
 commands_heard (west ∷ east ∷ later) d [] = refl
-commands_heard (west ∷ east ∷ later) d (n ∷ ns) = ap (λ c. c ∷ map (command_on d) (heard later ns)) (command_met west east d n) ∙ ap (λ cs. command_on d n ∷ cs) (commands_heard later d ns)
+commands_heard (west ∷ east ∷ later) d (n ∷ ns) = ap (λ c. c ∷ map (command_on d) (all_with_arrivals later ns)) (command_met west east d n) ∙ ap (λ cs. command_on d n ∷ cs) (commands_heard later d ns)
 
-commands_next : (now : ℕ) (d : Side) (ns : List Node) → map (command_on d) (map (next now) ns) ≡ map (command_on d) ns
+commands_next : (now : ℕ) (d : Side) (ns : List Node) → map (command_on d) (map (node_after now) ns) ≡ map (command_on d) ns
 commands_next now d [] = refl
-commands_next now d (n ∷ ns) = ap (λ c. c ∷ map (command_on d) (map (next now) ns)) (command_next now d n) ∙ ap (λ cs. command_on d n ∷ cs) (commands_next now d ns)
+commands_next now d (n ∷ ns) = ap (λ c. c ∷ map (command_on d) (map (node_after now) ns)) (command_next now d n) ∙ ap (λ cs. command_on d n ∷ cs) (commands_next now d ns)
 
 commands_round : (xs : List Arrival) (d : Side) (w : World) → map (command_on d) (round_with xs w).ring.nodes ≡ map (command_on d) w.ring.nodes
 unfolding round_with
-commands_round xs d w = commands_next w.ring.moment d (listening xs w) ∙ commands_heard xs d w.ring.nodes
+commands_round xs d w = commands_next w.ring.moment d (nodes_with xs w) ∙ commands_heard xs d w.ring.nodes
 
 moment_round : (xs : List Arrival) (w : World) → (round_with xs w).ring.moment ≡ w.ring.moment
 unfolding round_with
@@ -236,7 +236,7 @@ holding_is n p d (s ∷ ss) w t fits low = go (nat_lt t s.rounds) (holding_is n 
 
 -- ---- a new ring over new fibres
 
-new_command : (s : Settings) (ids : List ℕ) (cs : List Provisioned) (d : Side) (p : ℕ) → command_on d (new_node s ids cs (position p)) ≡ command.Clear
+new_command : (s : Settings) (ids : List ℕ) (cs : List Provisioned) (d : Side) (p : ℕ) → command_on d (new_node s ids cs (position_of p)) ≡ command.Clear
 unfolding new_node
 new_command s ids cs West p = refl
 new_command s ids cs East p = refl
@@ -248,7 +248,7 @@ get-map f (x ∷ xs) (suc i) d e h = get-map f xs i d e (omega arith)
 
 new_commands : (s : Settings) (ids : List ℕ) (cs : List Provisioned) (d : Side) (n p : ℕ) → p < n → get_or (map (command_on d) (new_nodes s ids cs n)) p command.Clear ≡ command.Clear
 new_commands s ids cs d n p low =
-    let one = new_node s ids cs (position p) in
+    let one = new_node s ids cs (position_of p) in
     get-map (command_on d) (new_nodes s ids cs n) p one command.Clear (let e = length-new s ids cs n in omega arith)
     ∙ ap (command_on d) (new_at s ids cs n p one low) ∙ new_command s ids cs d p
 

@@ -6,12 +6,12 @@ use Rattle.sdh_ringmap.specs.declared.Side.{Side}
 use Rattle.sdh_plant.specs.Fibres.{Arrival, Fibres, IsHonest, fibre}
 use Rattle.sdh_plant.specs.Arrivals.{honest_arrival}
 use Rattle.sdh_plant.proofs.Calling as plant
-use Rattle.sdh_world.specs.Rounds.{World, arrival_at, taken, sent_all, round_with}
+use Rattle.sdh_world.specs.Rounds.{World, arrival_at, after_given, sent_all, round_with}
 use Rattle.sdh_world.specs.Changes.{Change, Fibre, Order, Now, changed}
 use Rattle.sdh_world.specs.Laws.{StayHonest, ChangesKeepPrepared}
 
 honest_round : (w : World) (xs : List Arrival) → IsHonest w.fibres → IsHonest (round_with xs w).fibres
-unfolding round_with sent_all taken
+unfolding round_with sent_all after_given
 honest_round w xs is = record { honest = is.honest; tells_none = ap (option_map (drop (length xs))) is.tells_none }
 
 honest_changed : (w : World) (c : Change) → IsHonest w.fibres → IsHonest (changed c w).fibres

@@ -9,17 +9,18 @@ use Rattle.sdh_ringmap.specs.declared.Side.{Side}
 use Rattle.sdh_ringmap.specs.declared.Side.TheVariants.{West, East}
 use Rattle.sdh_request.specs.declared.Command.{Command}
 use Rattle.sdh_circuits.specs.declared.PortId.{PortId}
-use Rattle.sdh_circuits.specs.Provisioned.{Provisioned}
+use Rattle.sdh_circuits.specs.Provisioned.{Provisioned, same_end}
 use Rattle.sdh_plant.specs.Fibres.{Arrival}
 use Rattle.sdh_node.specs.declared.settings.Settings.{Settings}
-use Rattle.sdh_node.specs.Receiving.{taken, heard_at, commanded_by}
-use Rattle.sdh_node.specs.Tributaries.{Tributary, same_end, is_port, port_of, HasPort, fed, all_fed, tributaries_at}
-use Rattle.sdh_node.specs.Crossing.{Cross, decided, delivered_to, all_delivered}
-use Rattle.sdh_node.specs.Node.{Node, new_node, at_receiving, turn, turned, after_turn, settled_from, node_round}
+use Rattle.sdh_node.specs.Receiving.{after_intake, after_overhead, commanded_by}
+use Rattle.sdh_node.specs.Tributaries.{Tributary, is_port, port_of, HasPort, fed, all_fed, tributaries_at}
+use Rattle.sdh_node.specs.Crossing.{Cross, after_decision, delivered_to, all_delivered}
+use Rattle.sdh_node.specs.Node.{Node, new_node, at_receiving, crossing, ports_after, after_crossing, with_calm, node_round}
 use Rattle.sdh_node.proofs.Rounds.{round_goes_on}
-use Rattle.sdh_world.specs.Held.{new_nodes, position, at_place}
-use Rattle.sdh_world.specs.Rounds.{with_arrival, met, heard, next}
+use Rattle.sdh_world.specs.Held.{new_nodes, at_place}
+use Rattle.sdh_world.specs.Rounds.{with_arrival, with_arrivals, all_with_arrivals, node_after}
 use Rattle.sdh_world.specs.Fixed.{FixedPort, fixed_port, Fixed, fixed, IsOn}
+use Rattle.sdh_ringmap.specs.Places.{position_of}
 
 -- ---- one node
 
@@ -28,8 +29,8 @@ unfolding fixed
 fixed_with West a n = refl
 fixed_with East a n = refl
 
-pub fixed_met : (west east : Arrival) (n : Node) → fixed (met west east n) ≡ fixed n
-unfolding met
+pub fixed_met : (west east : Arrival) (n : Node) → fixed (with_arrivals west east n) ≡ fixed n
+unfolding with_arrivals
 fixed_met west east n = fixed_with East east (with_arrival West west n) ∙ fixed_with West west n
 
 pub fixed_commanded : (d : Side) (c : Command) (n : Node) → fixed (at_receiving d (commanded_by c) n) ≡ fixed n
@@ -41,25 +42,25 @@ ports_mapped : (f : ℕ → Tributary → Tributary) (i : ℕ) (ts : List Tribut
 ports_mapped f i [] same = refl
 ports_mapped f i (t ∷ ts) same = ap (λ p. p ∷ map fixed_port (map_from f (i + 1) ts)) (same i t) ∙ ap (λ ps. fixed_port t ∷ ps) (ports_mapped f (i + 1) ts same)
 
-ports_kept : (x : Cross) (ports : List Tributary) → map fixed_port (turned x ports) ≡ map fixed_port ports
-unfolding turned all_fed all_delivered
+ports_kept : (x : Cross) (ports : List Tributary) → map fixed_port (ports_after x ports) ≡ map fixed_port ports
+unfolding ports_after all_fed all_delivered
 ports_kept x ports = ports_mapped (λ i t. fed t) 0 (map_from (λ i t. delivered_to x t) 0 ports) (λ k t. refl) ∙ ports_mapped (λ i t. delivered_to x t) 0 ports (λ k t. refl)
 
-pub fixed_next : (now : ℕ) (n : Node) → fixed (next now n) ≡ fixed n
-unfolding fixed node_round settled_from after_turn turn decided taken heard_at
-fixed_next now n = ap (λ (ps : List FixedPort). record (fixed n) { ports = ps }) (ports_kept (turn now n) n.ports)
+pub fixed_next : (now : ℕ) (n : Node) → fixed (node_after now n) ≡ fixed n
+unfolding fixed node_round with_calm after_crossing crossing after_decision after_intake after_overhead
+fixed_next now n = ap (λ (ps : List FixedPort). record (fixed n) { ports = ps }) (ports_kept (crossing now n) n.ports)
 
 -- ---- all nodes
 
-pub all_heard : (xs : List Arrival) (ns : List Node) → map fixed (heard xs ns) ≡ map fixed ns
+pub all_heard : (xs : List Arrival) (ns : List Node) → map fixed (all_with_arrivals xs ns) ≡ map fixed ns
 all_heard [] ns = refl
 all_heard (west ∷ []) ns = refl
 all_heard (west ∷ east ∷ later) [] = refl
-all_heard (west ∷ east ∷ later) (n ∷ ns) = ap (λ f. f ∷ map fixed (heard later ns)) (fixed_met west east n) ∙ ap (λ fs. fixed n ∷ fs) (all_heard later ns)
+all_heard (west ∷ east ∷ later) (n ∷ ns) = ap (λ f. f ∷ map fixed (all_with_arrivals later ns)) (fixed_met west east n) ∙ ap (λ fs. fixed n ∷ fs) (all_heard later ns)
 
-pub all_next : (now : ℕ) (ns : List Node) → map fixed (map (next now) ns) ≡ map fixed ns
+pub all_next : (now : ℕ) (ns : List Node) → map fixed (map (node_after now) ns) ≡ map fixed ns
 all_next now [] = refl
-all_next now (n ∷ ns) = ap (λ f. f ∷ map fixed (map (next now) ns)) (fixed_next now n) ∙ ap (λ fs. fixed n ∷ fs) (all_next now ns)
+all_next now (n ∷ ns) = ap (λ f. f ∷ map fixed (map (node_after now) ns)) (fixed_next now n) ∙ ap (λ fs. fixed n ∷ fs) (all_next now ns)
 
 pub all_placed : (change : Node → Node) → ((n : Node) → fixed (change n) ≡ fixed n) → (i : ℕ) (ns : List Node) → map fixed (at_place i change ns) ≡ map fixed ns
 all_placed change same i [] = refl
@@ -75,25 +76,25 @@ on_with : (d : Side) (a : Arrival) (r m : ℕ) (n : Node) → IsOn r m n → IsO
 on_with West a r m n h = record { rounds_are = h.rounds_are; early = h.early }
 on_with East a r m n h = record { rounds_are = h.rounds_are; early = h.early }
 
-on_met : (west east : Arrival) (r m : ℕ) (n : Node) → IsOn r m n → IsOn r m (met west east n)
-unfolding met
+on_met : (west east : Arrival) (r m : ℕ) (n : Node) → IsOn r m n → IsOn r m (with_arrivals west east n)
+unfolding with_arrivals
 on_met west east r m n h = on_with East east r m (with_arrival West west n) (on_with West west r m n h)
 
-pub on_next : (r m : ℕ) (n : Node) → IsOn r m n → IsOn (r + 1) m (next m n)
+pub on_next : (r m : ℕ) (n : Node) → IsOn r m n → IsOn (r + 1) m (node_after m n)
 on_next r m n h = record {
   rounds_are = (round_goes_on m n).rounds ∙ ap (λ k. k + 1) h.rounds_are;
   early = let e = (round_goes_on m n).moment in omega arith;
 }
 
-pub all_on_heard : (xs : List Arrival) (r m : ℕ) (ns : List Node) → All (IsOn r m) ns → All (IsOn r m) (heard xs ns)
+pub all_on_heard : (xs : List Arrival) (r m : ℕ) (ns : List Node) → All (IsOn r m) ns → All (IsOn r m) (all_with_arrivals xs ns)
 all_on_heard [] r m ns all i d lt = all i d lt
 all_on_heard (west ∷ []) r m ns all i d lt = all i d lt
 all_on_heard (west ∷ east ∷ later) r m [] all i d lt = all i d lt
 all_on_heard (west ∷ east ∷ later) r m (n ∷ ns) all zero d lt = on_met west east r m n (all 0 d (omega arith))
 all_on_heard (west ∷ east ∷ later) r m (n ∷ ns) all (suc i) d lt = all_on_heard later r m ns (λ j e low. all (suc j) e (omega arith)) i d (omega arith)
 
-pub all_on_next : (r m : ℕ) (ns : List Node) → All (IsOn r m) ns → All (IsOn (r + 1) m) (map (next m) ns)
-all_on_next r m ns all = All-map (IsOn (r + 1) m) (next m) ns (λ i d lt. on_next r m (get_or ns i d) (all i d lt))
+pub all_on_next : (r m : ℕ) (ns : List Node) → All (IsOn r m) ns → All (IsOn (r + 1) m) (map (node_after m) ns)
+all_on_next r m ns all = All-map (IsOn (r + 1) m) (node_after m) ns (λ i d lt. on_next r m (get_or ns i d) (all i d lt))
 
 on_commanded : (side : Side) (c : Command) (r m : ℕ) (n : Node) → IsOn r m n → IsOn r m (at_receiving side (commanded_by c) n)
 on_commanded West c r m n h = record { rounds_are = h.rounds_are; early = h.early }
@@ -115,7 +116,7 @@ pub new_none : (s : Settings) (ids : List ℕ) (cs : List Provisioned) → [] �
 unfolding new_nodes
 new_none s ids cs = sym (cells-zero _)
 
-pub new_more : (s : Settings) (ids : List ℕ) (cs : List Provisioned) (k : ℕ) → new_nodes s ids cs (k + 1) ≡ new_nodes s ids cs k ++ new_node s ids cs (position k) ∷ []
+pub new_more : (s : Settings) (ids : List ℕ) (cs : List Provisioned) (k : ℕ) → new_nodes s ids cs (k + 1) ≡ new_nodes s ids cs k ++ new_node s ids cs (position_of k) ∷ []
 unfolding new_nodes
 new_more s ids cs k = cells-more _ k
 
@@ -123,11 +124,11 @@ pub length-new : (s : Settings) (ids : List ℕ) (cs : List Provisioned) (k : �
 unfolding new_nodes
 length-new s ids cs k = length-cells _ k
 
-pub new_at : (s : Settings) (ids : List ℕ) (cs : List Provisioned) (n k : ℕ) (d : Node) → k < n → get_or (new_nodes s ids cs n) k d ≡ new_node s ids cs (position k)
+pub new_at : (s : Settings) (ids : List ℕ) (cs : List Provisioned) (n k : ℕ) (d : Node) → k < n → get_or (new_nodes s ids cs n) k d ≡ new_node s ids cs (position_of k)
 unfolding new_nodes
 new_at s ids cs n k d h = get_or-cells _ n k d h
 
-new_on : (s : Settings) (ids : List ℕ) (cs : List Provisioned) (p : ℕ) → IsOn 0 0 (new_node s ids cs (position p))
+new_on : (s : Settings) (ids : List ℕ) (cs : List Provisioned) (p : ℕ) → IsOn 0 0 (new_node s ids cs (position_of p))
 unfolding new_node
 new_on s ids cs p = record { rounds_are = refl; early = omega arith }
 
@@ -145,7 +146,7 @@ pub length-fixed : (s : Settings) (ids : List ℕ) (cs : List Provisioned) (n : 
 length-fixed s ids cs n ns same = sym (length-map ns fixed) ∙ ap length same ∙ length-map (new_nodes s ids cs n) fixed ∙ length-new s ids cs n
 
 -- is what the new node there is
-pub node_is : (s : Settings) (ids : List ℕ) (cs : List Provisioned) (n : ℕ) (ns : List Node) (p : ℕ) (d : Node) → map fixed ns ≡ map fixed (new_nodes s ids cs n) → p < n → fixed (get_or ns p d) ≡ fixed (new_node s ids cs (position p))
+pub node_is : (s : Settings) (ids : List ℕ) (cs : List Provisioned) (n : ℕ) (ns : List Node) (p : ℕ) (d : Node) → map fixed ns ≡ map fixed (new_nodes s ids cs n) → p < n → fixed (get_or ns p d) ≡ fixed (new_node s ids cs (position_of p))
 node_is s ids cs n ns p d same low =
     sym (get-map fixed ns p d) ∙ ap (λ fs. get_or fs p (fixed d)) same ∙ get-map fixed (new_nodes s ids cs n) p d ∙ ap fixed (new_at s ids cs n p d low)
 
@@ -153,12 +154,12 @@ pub settings_fixed : (m n : Node) → fixed m ≡ fixed n → m.settings ≡ n.s
 unfolding fixed
 settings_fixed m n same = ap (λ (f : Fixed). f.settings) same
 
-new_settings : (s : Settings) (ids : List ℕ) (cs : List Provisioned) (p : ℕ) → (new_node s ids cs (position p)).settings ≡ s
+new_settings : (s : Settings) (ids : List ℕ) (cs : List Provisioned) (p : ℕ) → (new_node s ids cs (position_of p)).settings ≡ s
 unfolding new_node
 new_settings s ids cs p = refl
 
 pub all_settings : (s : Settings) (ids : List ℕ) (cs : List Provisioned) (n : ℕ) (ns : List Node) → map fixed ns ≡ map fixed (new_nodes s ids cs n) → All (λ n. n.settings ≡ s) ns
-all_settings s ids cs n ns same = λ p d lt. settings_fixed (get_or ns p d) (new_node s ids cs (position p)) (node_is s ids cs n ns p d same (omega (arith, length-fixed s ids cs n ns same))) ∙ new_settings s ids cs p
+all_settings s ids cs n ns same = λ p d lt. settings_fixed (get_or ns p d) (new_node s ids cs (position_of p)) (node_is s ids cs n ns p d same (omega (arith, length-fixed s ids cs n ns same))) ∙ new_settings s ids cs p
 
 -- ---- its ports
 
@@ -187,6 +188,6 @@ pub has_fixed : (id : PortId) (m n : Node) → fixed m ≡ fixed n → HasPort n
 unfolding fixed port_of
 has_fixed id m n same h = has_named id m.ports (subst (λ (f : Fixed). IsSome (find (names id) f.ports)) (sym same) (named id n.ports h))
 
-pub new_has : (s : Settings) (ids : List ℕ) (cs : List Provisioned) (p : ℕ) (id : PortId) → HasPort (tributaries_at (position p) cs) id → HasPort (new_node s ids cs (position p)).ports id
+pub new_has : (s : Settings) (ids : List ℕ) (cs : List Provisioned) (p : ℕ) (id : PortId) → HasPort (tributaries_at (position_of p) cs) id → HasPort (new_node s ids cs (position_of p)).ports id
 unfolding new_node
 new_has s ids cs p id h = h

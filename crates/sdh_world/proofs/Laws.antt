@@ -5,7 +5,7 @@ use Rattle.sdh_plant.specs.Fibres.{Arrival, Fibres, IsPrepared}
 use Rattle.sdh_frame.specs.declared.Rate.{Rate}
 use Rattle.sdh_plant.specs.Arrivals.{Knows}
 use Rattle.sdh_world.specs.Held.{HeldRing}
-use Rattle.sdh_world.specs.Rounds.{World, frames_with, sent_all, sent_some, taken, round_with, round}
+use Rattle.sdh_world.specs.Rounds.{World, frames_with, sent_all, sent_some, after_given, round_with, round}
 use Rattle.sdh_world.specs.Runs.{run_with, course_with}
 use Rattle.sdh_world.specs.Laws.{KnownRounds, Keeps, Appends, RoundsKeep, FaultsKeep, frames_in, RunsKeep, SettledNumbers, BrokenStepsSend, KnownSteps, StepsAreComputed}
 use Rattle.sdh_world.proofs.Runs.{knows_round, conditions_round, honest_round, held_round, count_round, prepared_round, course_whole, held_run, conditions_run, honest_run, known_settles, known_unsettles}
@@ -16,7 +16,7 @@ unfolding round
 known_rounds_are w after k r = let is = r.arrive.known k in (r.after_is ∙ ap (λ xs. round_with xs w) is, subst (λ x. Knows x.fibres) (sym r.after_is) (knows_round r.arrivals w k))
 
 appends_round : (xs : List Arrival) (w : World) → Appends w.fibres (frames_with xs w) (round_with xs w).fibres
-unfolding round_with sent_all taken
+unfolding round_with sent_all after_given
 appends_round xs w = refl
 
 keeps_round : (xs : List Arrival) (w : World) → Keeps w (round_with xs w) 1
@@ -26,16 +26,16 @@ pub rounds_keep : RoundsKeep
 rounds_keep w after r =
     (subst (λ x. Keeps w x 1) (sym r.after_is) (keeps_round r.arrivals w), subst (λ x. Appends w.fibres (frames_with r.arrivals w) x.fibres) (sym r.after_is) (appends_round r.arrivals w))
 
-off_conditions : (frames : List (List ℕ)) (k : ℕ) (f : Fibres) → (sent_some frames (taken k f)).conditions ≡ f.conditions
-unfolding sent_some taken
+off_conditions : (frames : List (List ℕ)) (k : ℕ) (f : Fibres) → (sent_some frames (after_given k f)).conditions ≡ f.conditions
+unfolding sent_some after_given
 off_conditions frames k f = refl
 
-off_honest : (frames : List (List ℕ)) (k : ℕ) (f : Fibres) → (sent_some frames (taken k f)).honest ≡ f.honest
-unfolding sent_some taken
+off_honest : (frames : List (List ℕ)) (k : ℕ) (f : Fibres) → (sent_some frames (after_given k f)).honest ≡ f.honest
+unfolding sent_some after_given
 off_honest frames k f = refl
 
-off_sent : (frames : List (List ℕ)) (k : ℕ) (f : Fibres) → Appends f frames (sent_some frames (taken k f))
-unfolding sent_some taken
+off_sent : (frames : List (List ℕ)) (k : ℕ) (f : Fibres) → Appends f frames (sent_some frames (after_given k f))
+unfolding sent_some after_given
 off_sent frames k f = refl
 
 pub faults_keep : FaultsKeep
@@ -86,7 +86,7 @@ settled_numbers w left limit some s =
     let place : (left.ring.rounds - 1) % 128 ≡ 0 = ap (λ (x : World). (x.ring.rounds - 1) % 128) at ∙ s.settles.window.place in
     let long = s.settles.window.long in
     let within = s.settles.within in
-    (omega arith, omega arith, place, omega arith)
+    record { ran = omega arith; most = omega arith; multiple = place; later = omega arith }
 
 pub broken_steps_send : BrokenStepsSend
 broken_steps_send w limit g b =

@@ -7,7 +7,7 @@ use Rattle.sdh_plant.specs.Fibres.{Arrival, Fibres, IsPrepared}
 use Rattle.sdh_plant.specs.Arrivals.{Knows}
 use Rattle.sdh_node.specs.Node.{Node}
 use Rattle.sdh_world.specs.Held.{HeldRing}
-use Rattle.sdh_world.specs.Rounds.{World, receivers, arrivals_of, arrivals_from, heard, next, frames_of, listening, frames_with, taken, sent_all, round_with, round}
+use Rattle.sdh_world.specs.Rounds.{World, receivers, arrivals_of, arrivals_from, all_with_arrivals, node_after, frames_of, nodes_with, frames_with, after_given, sent_all, round_with, round}
 use Rattle.sdh_world.specs.Runs.{Arrive, run, arrivals_in, run_with, ArriveIn, course_with, course}
 use Rattle.sdh_world.specs.Quiet.{NeverSettles, SettlesAt, Settles, Unsettles}
 use Rattle.sdh_world.proofs.Windows.{window_same, never_same}
@@ -20,16 +20,16 @@ told_stays (Some told) k h = λ e. cc
 
 -- a round keeps arrivals known
 pub knows_round : (xs : List Arrival) (w : World) → Knows w.fibres → Knows (round_with xs w).fibres
-unfolding round_with sent_all taken
+unfolding round_with sent_all after_given
 knows_round xs w (inl h) = inl h
 knows_round xs w (inr h) = inr (told_stays w.fibres.told (length xs) h)
 
 pub conditions_round : (xs : List Arrival) (w : World) → (round_with xs w).fibres.conditions ≡ w.fibres.conditions
-unfolding round_with sent_all taken
+unfolding round_with sent_all after_given
 conditions_round xs w = refl
 
 pub honest_round : (xs : List Arrival) (w : World) → (round_with xs w).fibres.honest ≡ w.fibres.honest
-unfolding round_with sent_all taken
+unfolding round_with sent_all after_given
 honest_round xs w = refl
 
 -- a round changes the nodes of a ring, and counts
@@ -37,7 +37,7 @@ pub held_round : (xs : List Arrival) (w : World) → (round_with xs w).ring ≡ 
 unfolding round_with
 held_round xs w = refl
 
-pub length-heard : (xs : List Arrival) (ns : List Node) → length (heard xs ns) ≡ length ns
+pub length-heard : (xs : List Arrival) (ns : List Node) → length (all_with_arrivals xs ns) ≡ length ns
 length-heard [] ns = refl
 length-heard (west ∷ []) ns = refl
 length-heard (west ∷ east ∷ later) [] = refl
@@ -49,16 +49,16 @@ length-frames now (n ∷ ns) = omega (arith, length-frames now ns)
 
 pub count_round : (xs : List Arrival) (w : World) → length (round_with xs w).ring.nodes ≡ length w.ring.nodes
 unfolding round_with
-count_round xs w = length-map (listening xs w) (next w.ring.moment) ∙ length-heard xs w.ring.nodes
+count_round xs w = length-map (nodes_with xs w) (node_after w.ring.moment) ∙ length-heard xs w.ring.nodes
 
 pub prepared_round : (rate : Rate) (xs : List Arrival) (w : World) → IsPrepared rate (length w.ring.nodes) w.fibres → IsPrepared rate (length w.ring.nodes) (round_with xs w).fibres
-unfolding round_with sent_all taken
+unfolding round_with sent_all after_given
 prepared_round rate xs w h = record {
   nodes = h.nodes;
   rate = h.rate;
   conditions = h.conditions;
   each = h.each;
-  carried = length-map (frames_with xs w) Some ∙ length-frames w.ring.moment (listening xs w) ∙ ap (λ n. 2 * n) (length-heard xs w.ring.nodes);
+  carried = length-map (frames_with xs w) Some ∙ length-frames w.ring.moment (nodes_with xs w) ∙ ap (λ n. 2 * n) (length-heard xs w.ring.nodes);
   enough = h.enough;
   few = h.few;
 }

@@ -1,14 +1,17 @@
 -- What happens to a ring and its fibres between rounds, and a run with such changes.
-use Rattle.std.specs.Prelude.{ℕ, List, [], ◌∷◌}
+use Rattle.std.specs.Prelude.{ℕ, List, [], ◌∷◌, ◌+◌, length}
 use Rattle.sdh_ringmap.specs.declared.Side.{Side}
 use Rattle.sdh_request.specs.declared.Command.{Command}
 use Rattle.sdh_plant.specs.declared.plant.Condition.{Condition}
-use Rattle.sdh_plant.specs.Calls.{after_apply}
+use Rattle.sdh_plant.specs.Calls.{after_apply, prepared}
 use Rattle.sdh_node.specs.Receiving.{commanded_by}
 use Rattle.sdh_node.specs.Node.{at_receiving}
-use Rattle.sdh_world.specs.Held.{at_place}
-use Rattle.sdh_world.specs.Rounds.{World}
+use Rattle.sdh_world.specs.Held.{at_place, new_ring}
+use Rattle.sdh_world.specs.Rounds.{World, world}
 use Rattle.sdh_world.specs.Runs.{run}
+use Rattle.sdh_node.specs.declared.settings.Settings.{Settings}
+use Rattle.sdh_circuits.specs.Provisioning.{Provisioning}
+use Rattle.sdh_plant.specs.Fibres.{Fibres}
 
 -- the fibre that leaves a position on a side comes into a condition; a side of a node is given a command; the moment is told
 pub data Change : Type 0 where
@@ -36,3 +39,12 @@ after_stretch s w = run s.rounds (all_changed s.changes w)
 abbrev pub after_stretches : List Stretch → World → World
 after_stretches [] w = w
 after_stretches (s ∷ ss) w = after_stretches ss (after_stretch s w)
+
+-- how many rounds stretches have
+abbrev pub rounds_in : List Stretch → ℕ
+rounds_in [] = 0
+rounds_in (s ∷ ss) = s.rounds + rounds_in ss
+
+-- a new ring over fibres that were just prepared for it
+abbrev pub new_world : Settings → List ℕ → Provisioning → Fibres → World
+new_world s ids circuits f = world (new_ring s ids circuits) (prepared s.rate (length ids) f)

@@ -1,17 +1,16 @@
 -- What a ring holds.
-use Rattle.std.specs.Prelude.{ℕ, zero, suc, Bool, false, List, [], ◌∷◌, length, slice_get}
+use Rattle.std.specs.Prelude.{ℕ, zero, suc, Bool, false, List, [], ◌∷◌, length, slice_get, slice_index_or, ◌<◌}
 use Rattle.std.specs.Option.{option_map_or}
 use Rattle.sdh_basics.specs.Cells.{cells}
-use Rattle.sdh_ringmap.specs.declared.Pos.{Pos}
-use Rattle.sdh_circuits.specs.declared.End.{End}
-use Rattle.sdh_circuits.specs.declared.End.TheVariants.{A, B}
 use Rattle.sdh_circuits.specs.declared.PortId.{PortId}
-use Rattle.sdh_circuits.specs.Provisioned.{Provisioned}
+use Rattle.sdh_circuits.specs.Provisioned.{Provisioned, end_of}
 use Rattle.sdh_circuits.specs.Provisioning.{Provisioning}
 use Rattle.sdh_node.specs.declared.settings.Settings.{Settings}
 use Rattle.sdh_node.specs.Outlets.{Outlet, silent}
 use Rattle.sdh_node.specs.Tributaries.{outlet_of}
 use Rattle.sdh_node.specs.Node.{Node, new_node}
+use Rattle.sdh_ringmap.specs.Places.{position_of}
+use Rattle.sdh_frame.specs.declared.Rate.TheVariants.{Four}
 
 pub record HeldRing : Type 0 where
   pub settings : Settings
@@ -27,12 +26,9 @@ pub record HeldRing : Type 0 where
   -- a fault of the plant broke a round off
   pub broken : Bool
 
-abbrev pub position : ℕ → Pos
-position p = record { 0 = p }
-
 -- a ring in which no round has run, at moment 0: each node is new
 unfoldable pub new_nodes : Settings → List ℕ → List Provisioned → ℕ → List Node
-new_nodes settings ids circuits n = cells (λ p. new_node settings ids circuits (position p)) n
+new_nodes settings ids circuits n = cells (λ p. new_node settings ids circuits (position_of p)) n
 
 abbrev pub new_ring : Settings → List ℕ → Provisioning → HeldRing
 new_ring settings ids circuits = record {
@@ -51,13 +47,20 @@ at_place p change [] = []
 at_place zero change (n ∷ ns) = change n ∷ ns
 at_place (suc p) change (n ∷ ns) = n ∷ at_place p change ns
 
--- the position of a circuit's port: A where its arc starts, B where it ends
-abbrev pub end_of : Provisioned → End → Pos
-end_of c A = c.from
-end_of c B = c.to
-
 -- what a port of a circuit delivered in the last round, at the node where it is
 unfoldable pub outlet_at : HeldRing → PortId → Outlet
 outlet_at r port =
     option_map_or (λ c. option_map_or (λ n. outlet_of port n.ports) (slice_get r.nodes (end_of c port.end).0) silent)
     (slice_get r.circuits.circuits port.circuit) silent
+
+-- a node of no ring
+unfoldable pub nowhere : Node
+nowhere = new_node (record { rate = Four; threshold = 0; wait = 0 }) [] [] (position_of 0)
+
+-- the node at a position
+abbrev pub node_at : List Node → ℕ → Node
+node_at ns p = slice_index_or ns p nowhere
+
+-- what holds of the node at position p of a ring, at each position
+abbrev pub AtEach : (ℕ → Node → Type 0) → List Node → Type 0
+AtEach P ns = (p : ℕ) → p < length ns → P p (node_at ns p)

@@ -62,8 +62,14 @@ abbrev pub RunsKeep : Type 0
 RunsKeep = (rounds : List (List Arrival)) (w : World) → Keeps w (run_with rounds w) (length rounds) × Appends w.fibres (frames_in rounds w) (run_with rounds w).fibres
 
 -- a step that ended ran at least one round, and the number of the last is a multiple of 128 and not 0
+pub record EndsAtAMultiple (r left : HeldRing) (limit : ℕ) : Type 0 where
+  pub ran : r.rounds < left.rounds
+  pub most : left.rounds ≤ r.rounds + limit
+  pub multiple : (left.rounds - 1) % 128 ≡ 0
+  pub later : 128 < left.rounds
+
 abbrev pub SettledNumbers : Type 0
-SettledNumbers = (w left : World) (limit : ℕ) → 1 ≤ length w.ring.ids → Settles w limit left → (w.ring.rounds < left.ring.rounds) × (left.ring.rounds ≤ w.ring.rounds + limit) × ((left.ring.rounds - 1) % 128 ≡ 0) × (128 < left.ring.rounds)
+SettledNumbers = (w left : World) (limit : ℕ) → 1 ≤ length w.ring.ids → Settles w limit left → EndsAtAMultiple w.ring left.ring limit
 
 -- where a fault broke it off, frames were appended of all whole rounds and of the one that was broken off
 abbrev pub BrokenStepsSend : Type 0

@@ -31,12 +31,12 @@ arrivals_from f p zero = []
 arrivals_from f p (suc k) = arrival_at f p West ∷ arrival_at f p East ∷ arrivals_from f (p + 1) k
 
 -- how many of n nodes receive in the round of this number: in round 0 none does
-unfoldable pub hearing : ℕ → ℕ → ℕ
-hearing t n = if t == 0 then 0 else n
+unfoldable pub receivers_in : ℕ → ℕ → ℕ
+receivers_in t n = if t == 0 then 0 else n
 
 -- how many nodes receive in the next round
 abbrev pub receivers : World → ℕ
-receivers w = hearing w.ring.rounds (length w.ring.ids)
+receivers w = receivers_in w.ring.rounds (length w.ring.ids)
 
 -- what arrives in the next round, where that is known
 unfoldable pub arrivals_of : World → List Arrival
@@ -49,25 +49,25 @@ abbrev pub with_arrival : Side → Arrival → Node → Node
 with_arrival d a n = at_receiving d (arrived_on a) n
 
 -- a node with both its arrivals, first on the west
-unfoldable pub met : Arrival → Arrival → Node → Node
-met west east n = with_arrival East east (with_arrival West west n)
+unfoldable pub with_arrivals : Arrival → Arrival → Node → Node
+with_arrivals west east n = with_arrival East east (with_arrival West west n)
 
 -- the nodes that have received, each the next two arrivals; where these are at their end, no further node receives
-abbrev pub heard : List Arrival → List Node → List Node
-heard [] ns = ns
-heard (west ∷ []) ns = ns
-heard (west ∷ east ∷ later) [] = []
-heard (west ∷ east ∷ later) (n ∷ ns) = met west east n ∷ heard later ns
+abbrev pub all_with_arrivals : List Arrival → List Node → List Node
+all_with_arrivals [] ns = ns
+all_with_arrivals (west ∷ []) ns = ns
+all_with_arrivals (west ∷ east ∷ later) [] = []
+all_with_arrivals (west ∷ east ∷ later) (n ∷ ns) = with_arrivals west east n ∷ all_with_arrivals later ns
 
 -- the fibres after k arrivals were given
-unfoldable pub taken : ℕ → Fibres → Fibres
-taken k f = record f { told = option_map (drop k) f.told }
+unfoldable pub after_given : ℕ → Fibres → Fibres
+after_given k f = record f { told = option_map (drop k) f.told }
 
 -- ---- the nodes send
 
 -- a node after its round at a moment, and the frames that it sends
-abbrev pub next : ℕ → Node → Node
-next now n = (node_round now n).0
+abbrev pub node_after : ℕ → Node → Node
+node_after now n = (node_round now n).0
 
 abbrev pub west_frame : ℕ → Node → List ℕ
 west_frame now n = (node_round now n).1.west.bytes
@@ -93,18 +93,18 @@ sent_some frames f = record f { carried = map Some frames ++ drop (length frames
 -- ---- the round
 
 -- the nodes of a world after these arrivals
-abbrev pub listening : List Arrival → World → List Node
-listening arrivals w = heard arrivals w.ring.nodes
+abbrev pub nodes_with : List Arrival → World → List Node
+nodes_with arrivals w = all_with_arrivals arrivals w.ring.nodes
 
 -- the frames that they send
 abbrev pub frames_with : List Arrival → World → List (List ℕ)
-frames_with arrivals w = frames_of w.ring.moment (listening arrivals w)
+frames_with arrivals w = frames_of w.ring.moment (nodes_with arrivals w)
 
 -- all nodes receive these arrivals, and then all send at the present moment
 unfoldable pub round_with : List Arrival → World → World
 round_with arrivals w = record {
-  ring = record w.ring { nodes = map (next w.ring.moment) (listening arrivals w); rounds = w.ring.rounds + 1 };
-  fibres = sent_all (frames_with arrivals w) (taken (length arrivals) w.fibres);
+  ring = record w.ring { nodes = map (node_after w.ring.moment) (nodes_with arrivals w); rounds = w.ring.rounds + 1 };
+  fibres = sent_all (frames_with arrivals w) (after_given (length arrivals) w.fibres);
 }
 
 -- the round where arrivals are known

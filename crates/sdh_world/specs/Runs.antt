@@ -2,7 +2,7 @@
 use Rattle.std.specs.Prelude.{◌≡◌, ℕ, zero, suc, ◌*◌, ◌<◌, ◌≤◌, List, [], ◌∷◌, length, take}
 use Rattle.sdh_plant.specs.Fibres.{Arrival, Fibres}
 use Rattle.sdh_plant.specs.Arrivals.{Knows}
-use Rattle.sdh_world.specs.Rounds.{World, receivers, arrivals_of, taken, sent_some, frames_with, round_with, round}
+use Rattle.sdh_world.specs.Rounds.{World, receivers, arrivals_of, after_given, sent_some, frames_with, round_with, round}
 
 -- ---- one round
 
@@ -27,7 +27,7 @@ pub record IsBrokenOff (w : World) (after : Fibres) : Type 0 where
   pub out : ℕ
   pub not_all : out < 2 * length w.ring.ids
   pub order : 0 < out → given ≡ length arrivals
-  pub after_is : after ≡ sent_some (take out (frames_with arrivals w)) (taken given w.fibres)
+  pub after_is : after ≡ sent_some (take out (frames_with arrivals w)) (after_given given w.fibres)
 
 -- ---- a run
 

@@ -1,11 +1,11 @@
 -- The history of one side of a node from the stretches of a run. No frame occurs in it.
-use Rattle.std.specs.Prelude.{ℕ, ◌≡◌, ◌*◌, ◌-◌, ◌==◌, Bool, true, false, nat_lt, if◌then◌else◌, List, [], ◌∷◌, map, length, slice_index_or}
+use Rattle.std.specs.Prelude.{ℕ, ◌≡◌, ◌*◌, ◌-◌, ◌==◌, nat_lt, if◌then◌else◌, List, [], ◌∷◌, map, length, slice_index_or}
 use Rattle.sdh_ringmap.specs.declared.Side.{Side}
 use Rattle.sdh_request.specs.declared.Command.{Command}
 use Rattle.sdh_request.specs.declared.Command.TheVariants as command
 use Rattle.sdh_plant.specs.declared.plant.Condition.{Condition}
-use Rattle.sdh_plant.specs.declared.plant.Condition.TheVariants.{Clear, Cut, Degraded}
-use Rattle.sdh_plant.specs.Fibres.{fibre, fibre_to}
+use Rattle.sdh_plant.specs.declared.plant.Condition.TheVariants.{Clear}
+use Rattle.sdh_plant.specs.Fibres.{fibre, fibre_to, is_cut, degraded_by}
 use Rattle.sdh_restoration.specs.History.{SideHistory}
 use Rattle.sdh_plant.specs.Arrivals.{condition_of}
 use Rattle.sdh_node.specs.Node.{Node, receiving_on}
@@ -39,17 +39,6 @@ holding_in n p d [] h t = h
 holding_in n p d (s ∷ ss) h t =
     if nat_lt t s.rounds then all_holding n p d s.changes h else holding_in n p d ss (all_holding n p d s.changes h) (t - s.rounds)
 
--- a fibre in this condition is cut, and inverts so many parity bytes
-abbrev pub is_cut : Condition → Bool
-is_cut Cut = true
-is_cut Clear = false
-is_cut (Degraded k) = false
-
-abbrev pub degraded_by : Condition → ℕ
-degraded_by (Degraded k) = k
-degraded_by Clear = 0
-degraded_by Cut = 0
-
 -- the side's history, from a new ring over new fibres
 abbrev pub side_history : ℕ → ℕ → Side → List Stretch → SideHistory
 side_history n p d ss = record {
@@ -81,3 +70,7 @@ world_in (s ∷ ss) w t = if nat_lt t s.rounds then run t (all_changed s.changes
 pub record Fits (n : ℕ) (w : World) : Type 0 where
   pub conditions : length w.fibres.conditions ≡ 2 * n
   pub nodes : length w.ring.nodes ≡ n
+
+-- the condition of the fibre that ends at position p on a side
+abbrev pub condition_to : World → ℕ → Side → Condition
+condition_to w p d = condition_of w.fibres (fibre_to (length w.ring.ids) p d)

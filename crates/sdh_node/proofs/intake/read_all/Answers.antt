@@ -5,14 +5,14 @@ use Rattle.sdh_basics.proofs.Indexing.{step_more, made_more, place_all, rest_mor
 use Rattle.sdh_frame.specs.Sizes.{n_of}
 use Rattle.sdh_pointer.specs.Reading.{Interpreter, after_step, action_on}
 use Rattle.sdh_node.specs.Same.{same_readings}
-use Rattle.sdh_node.specs.Receiving.{word_at, readings_of, after_frame, actions_in}
+use Rattle.sdh_node.specs.Receiving.{pointer_word_at, readings_of, after_frame, actions_in}
 use Rattle.sdh_node.proofs.Marks.{map_from-map, readings-stepped, unmoved-interpreters}
 use Rattle.sdh_node.proofs.intake.read_all.Goals as goal
 
 pub loop-k-preserved : goal.loop-k-preserved
 loop-k-preserved c =
     let inv = c.loop-k.invariant in
-    let w = word_at (n_of c.args.frame.now.rate) c.args.frame.now.bytes in
+    let w = pointer_word_at (n_of c.args.frame.now.rate) c.args.frame.now.bytes in
     let old = c.args.interps.now.items in
     let now = c.loop-k.interps.items in
     let i = c.loop-k.k in
@@ -30,19 +30,19 @@ loop-k-preserved c =
 pub returns-clause-readings : goal.returns-clause-readings
 unfolding after_frame
 returns-clause-readings c =
-    let w = word_at (n_of c.args.frame.now.rate) c.args.frame.now.bytes in
+    let w = pointer_word_at (n_of c.args.frame.now.rate) c.args.frame.now.bytes in
     ap readings_of (place_all _ _ _ c.loop-k.k (omega arith) (omega arith) c.loop-k.invariant.read) ∙ readings-stepped (λ k. w (k + 1)) c.args.interps.now.items
 
 pub returns-clause-actions : goal.returns-clause-actions
 unfolding actions_in
 returns-clause-actions c =
-    let w = word_at (n_of c.args.frame.now.rate) c.args.frame.now.bytes in
+    let w = pointer_word_at (n_of c.args.frame.now.rate) c.args.frame.now.bytes in
     place_all _ _ _ c.loop-k.k (omega arith) (omega arith) c.loop-k.invariant.acts
     ∙ sym (map_from-map (λ k r. action_on r (w (k + 1))) (λ (i : Interpreter). i.reading) 0 c.args.interps.now.items)
 
 pub returns-clause-same : goal.returns-clause-same
 returns-clause-same c =
-    let w = word_at (n_of c.args.frame.now.rate) c.args.frame.now.bytes in
+    let w = pointer_word_at (n_of c.args.frame.now.rate) c.args.frame.now.bytes in
     let old = c.args.interps.now.items in
     let now = place_all _ _ _ c.loop-k.k (omega arith) (omega arith) c.loop-k.invariant.read in
     ap not (c.any_moved.ensures ∙ ap (λ is. list_any (λ (i : Interpreter). i.moved) is) (c.deref.ensures.value ∙ now))

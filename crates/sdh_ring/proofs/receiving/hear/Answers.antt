@@ -1,5 +1,5 @@
 use Rattle.std.proofs.Common.{subst, sym, length}
-use Rattle.sdh_ring.specs.Calls.{Hears}
+use Rattle.sdh_ring.specs.Calls.{FirstReceive}
 use Rattle.sdh_ring.proofs.Receives.{hears_none, none_hears}
 use Rattle.sdh_ring.proofs.receiving.hear.Goals as goal
 
@@ -7,4 +7,4 @@ pub returns-then-rounds-eq0-clause-ok : goal.returns-then-rounds-eq0-clause-ok
 returns-then-rounds-eq0-clause-ok g c =
     let f = g.P.Plant.fibres c.args.plant.now in
     let ns = c.args.nodes.now.items in
-    subst (λ k. Hears k f f ns ns) (sym (none_hears c.args.rounds (length ns) c.if-rounds-eq0.true)) (hears_none f ns)
+    subst (λ k. FirstReceive k f f ns ns) (sym (none_hears c.args.rounds (length ns) c.if-rounds-eq0.true)) (hears_none f ns)

@@ -1,13 +1,13 @@
 use Rattle.std.proofs.Common.{◌≡◌, ◌≤◌, take, drop, map}
 use Rattle.sdh_world.specs.Fixed.{fixed}
-use Rattle.sdh_ring.specs.Calls.{Hears}
+use Rattle.sdh_ring.specs.Calls.{FirstReceive}
 use Rattle.sdh_ring.proofs.receiving.receive_all.Given as goal
 
 abbrev pub invariant-receives : goal.invariant-receives
 invariant-receives g l =
     let means = g.P.Plant.fibres in
     record {
-      done : Hears l.i (means l.fn.plant) (means l.plant) (take l.i l.fn.nodes.items) (take l.i l.nodes.items);
+      done : FirstReceive l.i (means l.fn.plant) (means l.plant) (take l.i l.fn.nodes.items) (take l.i l.nodes.items);
       rest : drop l.i l.nodes.items ≡ drop l.i l.fn.nodes.items;
       fixed : map fixed l.nodes.items ≡ map fixed l.fn.nodes.items;
       rate : l.frame.rate ≡ l.fn.frame.rate;

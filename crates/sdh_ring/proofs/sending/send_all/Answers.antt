@@ -2,7 +2,7 @@ use Rattle.std.proofs.Common.{◌≡◌, refl, ap, sym, ◌∙◌, arith, subst,
 use Rattle.std.proofs.lemmas.List.{take_all}
 use Rattle.sdh_basics.proofs.Indexing.{rest_more, read_here}
 use Rattle.sdh_plant.specs.Fibres.{Fibres}
-use Rattle.sdh_world.specs.Rounds.{next, frames_of, sent_some}
+use Rattle.sdh_world.specs.Rounds.{node_after, frames_of, sent_some}
 use Rattle.sdh_world.specs.Fixed.{fixed}
 use Rattle.sdh_world.proofs.Runs.{length-frames}
 use Rattle.sdh_world.proofs.Keeping.{fixed_next}
@@ -65,7 +65,7 @@ sends-preserved g c =
       fibres = c.in_ok-send_both.ensures.fibres
           ∙ ap (λ f. sent_now now i x f) inv.fibres
           ∙ both_more now ns old i x (omega arith) (read_here _ ns i x inv.rest c.index_mut-node.ensures.value) (let room = c.requires.prepared.carried in omega arith);
-      done = step_map (next now) _ _ _ _ _ (omega arith) (omega arith) inv.rest c.index_mut-node.ensures.value c.send_both.ensures.node inv.done;
+      done = step_map (node_after now) _ _ _ _ _ (omega arith) (omega arith) inv.rest c.index_mut-node.ensures.value c.send_both.ensures.node inv.done;
       rest = rest_more c.sends.nodes.items ns i c.send_both.new.node inv.rest;
       fixed = fixed_more ns c.sends.nodes.items i x c.send_both.new.node c.index_mut-node.ensures.value (ap fixed c.send_both.ensures.node ∙ fixed_next now x) inv.fixed;
       west = c.send_both.ensures.west ∙ inv.west;

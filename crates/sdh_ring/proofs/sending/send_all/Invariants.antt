@@ -1,5 +1,5 @@
 use Rattle.std.proofs.Common.{◌≡◌, ◌≤◌, take, drop, map}
-use Rattle.sdh_world.specs.Rounds.{next, frames_of, sent_some}
+use Rattle.sdh_world.specs.Rounds.{node_after, frames_of, sent_some}
 use Rattle.sdh_world.specs.Fixed.{fixed}
 use Rattle.sdh_ring.proofs.sending.send_all.Given as goal
 
@@ -9,7 +9,7 @@ invariant-sends g l =
     let at = l.now.0 in
     record {
       fibres : means l.plant ≡ sent_some (frames_of at (take l.i l.fn.nodes.items)) (means l.fn.plant);
-      done : take l.i l.nodes.items ≡ map (next at) (take l.i l.fn.nodes.items);
+      done : take l.i l.nodes.items ≡ map (node_after at) (take l.i l.fn.nodes.items);
       rest : drop l.i l.nodes.items ≡ drop l.i l.fn.nodes.items;
       fixed : map fixed l.nodes.items ≡ map fixed l.fn.nodes.items;
       west : l.west.rate ≡ l.fn.west.rate;

@@ -1,6 +1,9 @@
 use Rattle.std.proofs.Common.{ap, sym, subst, ◌∙◌, ◌≡◌, ◌<◌, map, length, arith}
 use Rattle.std.specs.Prelude.{All}
 use Rattle.sdh_world.specs.Held.{HeldRing}
+use Rattle.sdh_world.specs.Rounds.{world}
+use Rattle.sdh_hearing.specs.Laws.{IsWhole}
+use Rattle.sdh_ring.proofs.Whole.{whole_commanded}
 use Rattle.sdh_world.specs.Fixed.{fixed, IsOn}
 use Rattle.sdh_world.proofs.Keeping.{all_commanded, all_on_commanded}
 use Rattle.sdh_ring.proofs.Rings.{count_of, ring_with}
@@ -27,3 +30,9 @@ command_at-requires c =
     let low : c.args.at.0 < length c.self.inside.map = subst (λ (r : HeldRing). c.args.at.0 < length r.ids) (sym c.self.view_is) c.requires in
     let size = count_of _ c.self.invariant.ring in
     omega arith
+
+pub returns-clause-whole : goal.returns-clause-whole
+returns-clause-whole c = λ f whole.
+    let inside = c.self.inside in
+    let was = whole_commanded c.stay_whole.ensures _ f c.args.at.0 c.args.side c.args.command (subst (λ (r : HeldRing). IsWhole (world r f)) (sym c.self.view_is) whole) in
+    subst (λ ns. IsWhole (world (record { settings = inside.settings; ids = inside.map; circuits = inside.circuits; nodes = ns; moment = inside.present.0; rounds = inside.rounds; broken = inside.broken }) f)) (sym c.command_at.ensures) was

@@ -1,13 +1,14 @@
 use Rattle.std.proofs.Common.{◌≡◌, ◌<◌, length, get_or, refl, ap, sym, subst, ◌∙◌, arith}
 use Rattle.std.proofs.lemmas.Option.{get_or_from_slice_get, slice_get_read}
 use Rattle.sdh_node.specs.Tributaries.{HasPort, outlet_of}
-use Rattle.sdh_world.specs.Held.{HeldRing, end_of, outlet_at}
+use Rattle.sdh_world.specs.Held.{HeldRing, outlet_at}
 use Rattle.sdh_node.specs.Node.{Node, new_node}
-use Rattle.sdh_world.specs.Held.{position}
 use Rattle.sdh_world.proofs.Keeping.{node_is, has_fixed, new_has}
 use Rattle.sdh_ring.proofs.Rings.{count_of}
 use Rattle.sdh_ring.proofs.Owned.{has_own, end_inside, outlet_is}
 use Rattle.sdh_ring.proofs.ring.Ring.node_of.Goals as goal
+use Rattle.sdh_circuits.specs.Provisioned.{end_of}
+use Rattle.sdh_ringmap.specs.Places.{position_of}
 
 pub returns-clause-port : goal.returns-clause-port
 returns-clause-port c =
@@ -22,7 +23,7 @@ returns-clause-port c =
     let read : get_or cs id.circuit circuit ≡ circuit = get_or_from_slice_get cs id.circuit circuit circuit c.get.ensures in
     let inside = end_inside c.self.inside.circuits c.self.inside.map id.circuit circuit id.end inv.circuits inv.kept below read in
     let found : node ≡ get_or c.self.inside.nodes.items (end_of circuit id.end).0 node = c.index.ensures ∙ ap (λ p. get_or c.self.inside.nodes.items p.0 node) c.end_of-at.ensures in
-    subst (λ (n : Node). HasPort n.ports id) (sym found) (has_fixed id (get_or c.self.inside.nodes.items p node) (new_node settings c.self.inside.map cs (position p)) (node_is settings c.self.inside.map cs (length c.self.inside.map) c.self.inside.nodes.items p node inv.nodes inside) (new_has settings c.self.inside.map cs p id (has_own cs circuit id below read)))
+    subst (λ (n : Node). HasPort n.ports id) (sym found) (has_fixed id (get_or c.self.inside.nodes.items p node) (new_node settings c.self.inside.map cs (position_of p)) (node_is settings c.self.inside.map cs (length c.self.inside.map) c.self.inside.nodes.items p node inv.nodes inside) (new_has settings c.self.inside.map cs p id (has_own cs circuit id below read)))
 
 pub returns-clause-outlet : goal.returns-clause-outlet
 returns-clause-outlet c =

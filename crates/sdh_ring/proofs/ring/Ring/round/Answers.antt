@@ -76,3 +76,6 @@ pub returns-clause-prepared : goal.returns-clause-prepared
 returns-clause-prepared g c =
     let size : length c.args.self.now.nodes ≡ length c.args.self.now.ids = subst (λ (r : HeldRing). length r.nodes ≡ length r.ids) c.self.view_is (count_of _ c.self.invariant.ring) in
     prepared_after c.args.self.now (g.P.Plant.fibres c.args.plant.now) (world _ (g.P.Plant.fibres c.send_all.new.plant)) size c.requires.prepared (returns-clause-ok g c)
+
+pub returns-clause-signals : goal.returns-clause-signals
+returns-clause-signals g c = λ whole. c.whole_rounds_go_as_signals.ensures _ _ whole (returns-clause-ok g c)

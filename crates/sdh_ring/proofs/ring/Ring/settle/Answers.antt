@@ -1,7 +1,7 @@
-use Rattle.std.proofs.Common.{◌+◌, arith}
+use Rattle.std.proofs.Common.{◌+◌, arith, rules}
 use Rattle.std.proofs.lemmas.Bool.{false≢true}
 use Rattle.sdh_world.specs.Rounds.{world}
-use Rattle.sdh_ring.proofs.Settling.{goes_none, went_more, settles, goes_on, counts_on, held_went, held_none, less_counted, prepared_back}
+use Rattle.sdh_ring.proofs.Settling.{goes_none, went_more, settles, goes_on, counts_on, held_went, held_none, less_counted, prepared_back, unsettles}
 use Rattle.sdh_ring.proofs.ring.Ring.settle.Goals as goal
 
 pub rounds-init : goal.rounds-init
@@ -38,3 +38,18 @@ returns-then-is_over-clause-outcome g c =
 
 pub returns-then-is_over-clause-restored : goal.returns-then-is_over-clause-restored
 returns-then-is_over-clause-restored g c = c.settled_rings_are_restored.ensures _ _ c.args.limit c.has_circuits.ensures (returns-then-is_over-clause-outcome g c)
+
+pub returns-then-is_over-clause-numbers : goal.returns-then-is_over-clause-numbers
+returns-then-is_over-clause-numbers g c = c.settled_numbers.ensures _ _ c.args.limit (let enough = c.requires.prepared.enough in omega arith) (returns-then-is_over-clause-outcome g c)
+
+pub returns-then-is_over-clause-whole : goal.returns-then-is_over-clause-whole
+returns-then-is_over-clause-whole g c = λ _ whole. c.steps_stay_whole.ensures.settled _ _ c.args.limit whole (returns-then-is_over-clause-outcome g c)
+
+pub returns-clause-outcome : goal.returns-clause-outcome
+returns-clause-outcome g c = search (rules, unsettles)
+
+pub returns-clause-whole : goal.returns-clause-whole
+returns-clause-whole g c = λ _ whole. c.steps_stay_whole.ensures.unsettled _ _ c.args.limit whole (returns-clause-outcome g c)
+
+pub returns-clause-answers : goal.returns-clause-answers
+returns-clause-answers g c = λ whole large _. c.steps_answer.ensures _ _ c.args.limit c.has_circuits.ensures whole large (returns-clause-outcome g c)

@@ -1,0 +1,198 @@
+-- From any ring that is paired with its fibres: all rounds are calm from some round on.
+use Rattle.std.proofs.Common.{◌≡◌, ℕ, zero, suc, ◌+◌, ◌-◌, ◌*◌, ◌<◌, ◌≤◌, Bool, List, [], length, map, get_or, Option, Some, None, ap, sym, ◌∙◌, subst, arith, inl, inr}
+use Rattle.std.specs.Prelude.{◌||◌, if◌then◌else◌}
+use Rattle.std.proofs.lemmas.Bool.{ne_eqb, cases_Bool}
+use Rattle.std.proofs.lemmas.List.{get_or-map}
+use Rattle.sdh_ringmap.specs.declared.Side.{Side}
+use Rattle.sdh_ringmap.specs.declared.Side.TheVariants.{West, East}
+use Rattle.sdh_ringmap.specs.Places.{neighbour, opposite}
+use Rattle.sdh_kbytes.specs.declared.K.{K}
+use Rattle.sdh_nodestate.specs.declared.Needs.{Needs}
+use Rattle.sdh_nodestate.specs.declared.Sent.{Sent}
+use Rattle.sdh_restoration.specs.Settled.{settled_states}
+use Rattle.sdh_settling.specs.Signals.{requests_in, request_on, no_needs}
+use Rattle.sdh_settling.specs.Laws.{RingsSettle}
+use Rattle.sdh_plant.specs.declared.plant.Condition.{Condition}
+use Rattle.sdh_node.specs.Receiving.{hears}
+use Rattle.sdh_node.specs.Node.{Node, receiving_on, sending_on, word_of, sent_of}
+use Rattle.sdh_world.specs.Rounds.{World, round}
+use Rattle.sdh_world.specs.Runs.{run, course}
+use Rattle.sdh_world.specs.Quiet.{IsCalm}
+use Rattle.sdh_world.proofs.Runs.{known_unsettles}
+use Rattle.sdh_hearing.specs.Signalling.{word_to, is_lost, signals_of, needs_in}
+use Rattle.sdh_hearing.specs.Laws.{IsWhole, GetsStill}
+use Rattle.sdh_hearing.proofs.Changes.{whole_run}
+use Rattle.sdh_hearing.proofs.Nodes.{count}
+use Rattle.sdh_hearing.proofs.Rounds.{brings, neighbour_inside}
+use Rattle.sdh_hearing.proofs.Signalling.{needs_at, one_run}
+use Rattle.sdh_hearing.proofs.Staying.{left_run}
+use Rattle.sdh_hearing.proofs.Steady.{runs_get_still}
+use Rattle.sdh_carrying.specs.Windows.{layout_of, HasCircuits, AreSettled, requests_of}
+use Rattle.sdh_carrying.proofs.Applied.{length-requests_of}
+use Rattle.sdh_carrying.proofs.Settles.{each_settled}
+use Rattle.sdh_carrying.proofs.Ways.{layout_run}
+use Rattle.sdh_converging.specs.Steady.{IsAtRest, HasStillPointers}
+use Rattle.sdh_converging.specs.Laws.{enough_for, RoundsGetCalm, RingsConverge, StepsAnswer}
+use Rattle.sdh_converging.proofs.Runs.{length_run, condition_run, run_more}
+use Rattle.sdh_converging.proofs.Spreading.{pointers_rest}
+use Rattle.sdh_converging.proofs.Windows.{calm_ends_windows, answers_by}
+use Rattle.sdh_converging.proofs.Calming.{AreSame, calm_round}
+use Rattle.sdh_plant.specs.Fibres.{is_cut}
+use Rattle.sdh_world.specs.Held.{nowhere, node_at}
+use Rattle.sdh_kbytes.specs.KBytes.{is_ms_ais}
+use Rattle.sdh_world.specs.Sides.{condition_to}
+
+-- what lists that are the same when mapped have at a place
+same_at : {Y : Type 0} (f : Node → Y) (xs ys : List Node) (p : ℕ) → p < length xs → p < length ys → map f xs ≡ map f ys → f (node_at xs p) ≡ f (node_at ys p)
+same_at f xs ys p hx hy e = sym (get_or-map f xs p nowhere (f nowhere) hx) ∙ ap (λ l. get_or l p (f nowhere)) e ∙ get_or-map f ys p nowhere (f nowhere) hy
+
+-- ---- what is heard
+
+-- the word behind a fibre, if it is heard
+abbrev heard_behind : Condition → K → Option K
+heard_behind c k = if is_cut c || is_ms_ais k.mark then None else Some k
+
+heard_after : (u : World) → IsWhole u → (p : ℕ) (d : Side) → p < length u.ring.nodes → 0 < u.ring.rounds → hears (receiving_on d (node_at (round u).ring.nodes p)).brought ≡ heard_behind (condition_to u p d) (word_to u p d)
+heard_after u whole p d inside started =
+    let b = brings u whole p d inside in
+    elim (cases_Bool (is_lost u p d)) [
+      | inl lost ↦ b.silent started lost ∙ sym (ap (λ (t : Bool). if t then None else Some (word_to u p d)) lost)
+      | inr kept ↦ b.hears started kept ∙ sym (ap (λ (t : Bool). if t then None else Some (word_to u p d)) kept)
+    ]
+
+module _ (w : World) (whole : IsWhole w) (form : HasCircuits (layout_of w)) (still : GetsStill w) where
+  abbrev n : ℕ
+  n = length w.ring.ids
+
+  inside_run : (k p : ℕ) → p < length w.ring.nodes → p < length (run k w).ring.nodes
+  inside_run k p h = omega (arith, length_run w k)
+
+  nodes_run : (k : ℕ) → length (run k w).ring.nodes ≡ n
+  nodes_run k = length_run w k ∙ count w whole.placed
+
+  -- ---- requests and states
+
+  abbrev rs : List ℕ
+  rs = requests_of (run 3 w)
+
+  requests_at : (k : ℕ) → requests_of (run (3 + k) w) ≡ rs
+  requests_at zero = ap (λ j. requests_of (run j w)) {x = 3 + zero} {y = 3} (omega arith)
+  requests_at (suc k) = ap (λ j. requests_of (run j w)) {x = 3 + suc k} {y = suc (3 + k)} (omega arith) ∙ ap requests_in (still.needs (3 + k) (omega arith)) ∙ requests_at k
+
+  requests_from : (k : ℕ) → 3 ≤ k → requests_of (run k w) ≡ rs
+  requests_from k late = ap (λ j. requests_of (run j w)) {x = k} {y = 3 + (k - 3)} (omega arith) ∙ requests_at (k - 3)
+
+  settled_from : (k : ℕ) → 4 * n + 10 ≤ k → AreSettled n rs (run k w)
+  settled_from k late =
+      each_settled (run k w) n rs (nodes_run k) (length-requests_of (run 3 w) n (nodes_run 3)) (still.states k late ∙ ap settled_states (requests_from k (omega arith)))
+
+  -- ---- pointers
+
+  abbrev base : ℕ
+  base = 4 * n + 9
+
+  at_rest : IsAtRest (run base w) rs
+  at_rest = record {
+    spans = length-requests_of (run 3 w) n (nodes_run 3) ∙ ap length (sym (left_run base w).ids);
+    settled_are = λ k some. subst (λ ids. AreSettled (length ids) rs (run k (run base w))) (sym (left_run base w).ids) (subst (AreSettled n rs) (sym (run_more w base k)) (settled_from (k + base) (omega arith)));
+  }
+
+  still_at : (j : ℕ) → 31 * n + 27 ≤ j → HasStillPointers w j
+  still_at j late =
+      let i = j - base in
+      let there : i + base ≡ j = omega arith in
+      let size : length (run base w).ring.ids ≡ n = ap length (left_run base w).ids in
+      let s = pointers_rest (run base w) rs (whole_run w base whole) (subst HasCircuits (sym (layout_run w base)) form) at_rest i (omega arith) in
+      let now : run i (run base w) ≡ run j w = run_more w base i ∙ ap (λ k. run k w) there in
+      let next : run (suc i) (run base w) ≡ run (suc j) w = one_run (run base w) i ∙ ap round now ∙ sym (one_run w j) in
+      record {
+        generators = λ p d h. (let low = inside_run base p h in
+            λ t. (sym (ap (λ v. (sending_on d (node_at v.ring.nodes p)).generators) next) ∙ s.generators p d low ∙ ap (λ v. (sending_on d (node_at v.ring.nodes p)).generators) now) t);
+        readings = λ p d h. (let low = inside_run base p h in
+            λ t. (sym (ap (λ v. (receiving_on d (node_at v.ring.nodes p)).readings) next) ∙ s.readings p d low ∙ ap (λ v. (receiving_on d (node_at v.ring.nodes p)).readings) now) t);
+      }
+
+  -- ---- words
+
+  words_of : (k : ℕ) → 1 ≤ k → (signals_of (run k w)).words ≡ map sent_of (run k w).ring.nodes
+  unfolding signals_of
+  words_of k some = ap (λ (b : Bool). if b then [] else map sent_of (run k w).ring.nodes) (ne_eqb (run k w).ring.rounds 0 (λ z. (let r = (left_run k w).rounds in omega arith)))
+
+  word_by : (v : Node) (d : Side) (s : Node) → sent_of v ≡ sent_of s → word_of d v ≡ word_of d s
+  word_by v West s e = ap (λ (z : Sent). z.west) e
+  word_by v East s e = ap (λ (z : Sent). z.east) e
+
+  word_stays : (k p : ℕ) (d : Side) → 5 * n + 10 ≤ k → p < length w.ring.nodes → word_of d (node_at (run (suc k) w).ring.nodes p) ≡ word_of d (node_at (run k w).ring.nodes p)
+  word_stays k p d late h =
+      word_by (node_at (run (suc k) w).ring.nodes p) d (node_at (run k w).ring.nodes p)
+      (same_at sent_of (run (suc k) w).ring.nodes (run k w).ring.nodes p (inside_run (suc k) p h) (inside_run k p h)
+      (sym (words_of (suc k) (omega arith)) ∙ still.words k late ∙ words_of k (omega arith)))
+
+  request_stays : (k p : ℕ) (d : Side) → 3 ≤ k → p < length w.ring.nodes → (receiving_on d (node_at (run (suc k) w).ring.nodes p)).request ≡ (receiving_on d (node_at (run k w).ring.nodes p)).request
+  unfolding needs_in
+  request_stays k p d late h =
+      sym (needs_at (run (suc k) w).ring.nodes p d (inside_run (suc k) p h)) ∙ ap (λ (l : List Needs). request_on (get_or l p no_needs) d) (still.needs k late) ∙ needs_at (run k w).ring.nodes p d (inside_run k p h)
+
+  -- ---- what is heard
+
+  word_to_in : (k p : ℕ) (d : Side) → word_to (run k w) p d ≡ word_of (opposite d) (node_at (run k w).ring.nodes (neighbour n p d))
+  word_to_in k p d = ap (λ ids. word_of (opposite d) (node_at (run k w).ring.nodes (neighbour (length ids) p d))) (left_run k w).ids
+
+  word_to_stays : (k p : ℕ) (d : Side) → 5 * n + 10 ≤ k → word_to (run (suc k) w) p d ≡ word_to (run k w) p d
+  word_to_stays k p d late = word_to_in (suc k) p d ∙ word_stays k (neighbour n p d) (opposite d) late (neighbour_inside w whole p d) ∙ sym (word_to_in k p d)
+
+  heard_in : (k p : ℕ) (d : Side) → 1 ≤ k → p < length w.ring.nodes → hears (receiving_on d (node_at (run (suc k) w).ring.nodes p)).brought ≡ heard_behind (condition_to w p d) (word_to (run k w) p d)
+  unfolding run
+  heard_in k p d some h =
+      heard_after (run k w) (whole_run w k whole) p d (inside_run k p h) (let r = (left_run k w).rounds in omega arith) ∙ ap (λ c. heard_behind c (word_to (run k w) p d)) (condition_run w k p d)
+
+  heard_stays : (k p : ℕ) (d : Side) → 5 * n + 11 ≤ k → p < length w.ring.nodes → hears (receiving_on d (node_at (run (suc k) w).ring.nodes p)).brought ≡ hears (receiving_on d (node_at (run k w).ring.nodes p)).brought
+  heard_stays k p d late h =
+      let i = k - 1 in
+      let now : suc i ≡ k = omega arith in
+      heard_in k p d (omega arith) h
+      ∙ ap (λ j. heard_behind (condition_to w p d) (word_to (run j w) p d)) (sym now)
+      ∙ ap (heard_behind (condition_to w p d)) (word_to_stays i p d (omega arith))
+      ∙ sym (heard_in i p d (omega arith) h)
+      ∙ ap (λ j. hears (receiving_on d (node_at (run j w).ring.nodes p)).brought) now
+
+  -- ---- so rounds are calm
+
+  same_from : (k : ℕ) → 31 * n + 27 ≤ k → (p : ℕ) → p < length w.ring.nodes → AreSame (node_at (run (suc k) w).ring.nodes p) (node_at (run k w).ring.nodes p)
+  same_from k late p h =
+      let s = still_at k late in
+      let enough = whole.placed.ids.enough in
+      let low : p < n = omega (arith, count w whole.placed) in
+      record {
+        state = settled_from (suc k) (omega arith) p low ∙ sym (settled_from k (omega arith) p low);
+        request = λ d. request_stays k p d (omega arith) h;
+        heard = λ d. heard_stays k p d (omega arith) h;
+        readings = λ d. s.readings p d h;
+        word = λ d. word_stays k p d (omega arith) h;
+        generators = λ d. s.generators p d h;
+      }
+
+  calm_after : (k : ℕ) → 31 * n + 27 ≤ k → IsCalm (course w) (suc k)
+  unfolding run
+  calm_after k late = calm_round (run k w) (whole_run w k whole) (let r = (left_run k w).rounds in omega arith) (λ p h. same_from k late p (omega (arith, length_run w k)))
+
+  calm_from : (j : ℕ) → 31 * n + 28 ≤ j → IsCalm (course w) j
+  calm_from j late = let now : suc (j - 1) ≡ j = omega arith in subst (IsCalm (course w)) now (calm_after (j - 1) (omega arith))
+
+pub rounds_get_calm : RingsSettle → RoundsGetCalm
+rounds_get_calm law w whole form j late = calm_from w whole form (runs_get_still law w whole) j late
+
+pub rings_converge : RingsSettle → RingsConverge
+rings_converge law w whole form =
+    let n = length w.ring.ids in
+    let by = calm_ends_windows w (31 * n + 28) (rounds_get_calm law w whole form) in
+    let soon : by.ends ≤ enough_for n = (let s = by.soon in omega arith) in
+    record {
+      window = record { ends = by.ends; soon = soon; window = by.window };
+      answers = λ limit large. answers_by w (enough_for n) limit large (record { ends = by.ends; soon = soon; window = by.window });
+      never = λ limit large never. never by.ends (omega arith) by.window;
+    }
+
+pub steps_answer : RingsSettle → StepsAnswer
+steps_answer law w left limit form whole large unsettles =
+    (rings_converge law w whole form).never limit large (known_unsettles w limit left (inl whole.paired.honest.honest) unsettles).0

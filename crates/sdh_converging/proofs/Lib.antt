@@ -1,0 +1,15 @@
+mod Runs
+pub mod Spans
+mod Ports
+pub mod Spreading
+pub mod Windows
+pub mod Calming
+pub mod Converging
+pub mod Stretches
+mod Idle
+mod Uneventful
+pub mod HealthySignals
+pub mod HealthyPointers
+pub mod HealthyRounds
+pub mod HealthyPorts
+pub mod Rings

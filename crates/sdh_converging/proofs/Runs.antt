@@ -1,0 +1,29 @@
+-- What rounds keep of a world, and rounds after rounds.
+use Rattle.std.proofs.Common.{◌≡◌, ℕ, zero, suc, ◌+◌, length, refl, ap, ◌∙◌, arith}
+use Rattle.sdh_frame.specs.Sizes.{n_of}
+use Rattle.sdh_ringmap.specs.declared.Side.{Side}
+use Rattle.sdh_world.specs.Rounds.{World, round, arrivals_of}
+use Rattle.sdh_world.specs.Runs.{run}
+use Rattle.sdh_hearing.proofs.Follows.{condition_after}
+use Rattle.sdh_hearing.proofs.Nodes.{length-after}
+use Rattle.sdh_hearing.proofs.Staying.{left_run}
+use Rattle.sdh_world.specs.Sides.{condition_to}
+
+pub length_run : (w : World) (k : ℕ) → length (run k w).ring.nodes ≡ length w.ring.nodes
+unfolding run
+length_run w zero = refl
+length_run w (suc k) = length-after (run k w) ∙ length_run w k
+
+pub rate_run : (w : World) (k : ℕ) → n_of (run k w).ring.settings.rate ≡ n_of w.ring.settings.rate
+rate_run w k = ap (λ s. n_of s.rate) (left_run k w).settings
+
+pub condition_run : (w : World) (k p : ℕ) (d : Side) → condition_to (run k w) p d ≡ condition_to w p d
+unfolding run round
+condition_run w zero p d = refl
+condition_run w (suc k) p d = condition_after (arrivals_of (run k w)) (run k w) p d ∙ condition_run w k p d
+
+-- rounds after rounds
+pub run_more : (w : World) (a k : ℕ) → run k (run a w) ≡ run (k + a) w
+unfolding run
+run_more w a zero = ap (λ j. run j w) {x = a} {y = zero + a} (omega arith)
+run_more w a (suc k) = ap round (run_more w a k) ∙ ap (λ j. run j w) {x = suc (k + a)} {y = suc k + a} (omega arith)

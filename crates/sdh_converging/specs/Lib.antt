@@ -1,0 +1,4 @@
+pub mod Steady
+pub mod Laws
+pub mod Healthy
+pub mod Rings

@@ -1,0 +1,45 @@
+-- What stays the same from some round of a run on.
+use Rattle.std.specs.Prelude.{ℕ, suc, ◌≡◌, ◌<◌, ◌≤◌, List, length}
+use Rattle.sdh_ringmap.specs.declared.Side.{Side}
+use Rattle.sdh_bridge.specs.declared.Origin.{Origin}
+use Rattle.sdh_pointer.specs.declared.reading.Action.{Action}
+use Rattle.sdh_pointer.specs.Laws.{IsSound}
+use Rattle.sdh_node.specs.Passing.{Input}
+use Rattle.sdh_node.specs.Crossing.{received}
+use Rattle.sdh_node.specs.Node.{receiving_on, sending_on}
+use Rattle.sdh_world.specs.Rounds.{World}
+use Rattle.sdh_world.specs.Runs.{run}
+use Rattle.sdh_hearing.specs.Signalling.{crossing_at}
+use Rattle.sdh_carrying.specs.Windows.{value_at, sent_at, AreSettled}
+use Rattle.sdh_world.specs.Held.{node_at}
+
+-- Round k of a run is the round that begins after k rounds.
+
+-- what went into AU-4 number au that left position p on side d in round k, and what its interpreter made of the one that came there
+abbrev pub went : World → ℕ → Side → ℕ → ℕ → Input
+went w p d au k = sent_at (run k w) p d au
+
+abbrev pub came : World → ℕ → Side → ℕ → ℕ → Input
+came w p d au k = received (crossing_at (run k w) p) d au
+
+-- what an origin in slot m brought there
+abbrev pub brought : World → ℕ → ℕ → Origin → ℕ → Input
+brought w p m o k = value_at (run k w) p m o
+
+-- from round k on these have one action and one value
+pub record IsConstant (f : ℕ → Input) (k : ℕ) : Type 0 where
+  pub does : Action
+  pub value : ℕ
+  pub sound : IsSound does value
+  pub does_is : (j : ℕ) → k ≤ j → (f j).action ≡ does
+  pub value_is : (j : ℕ) → k ≤ j → (f j).value ≡ value
+
+-- after each round the nodes are in the settled states of these requests of spans
+pub record IsAtRest (w : World) (rs : List ℕ) : Type 0 where
+  pub spans : length rs ≡ length w.ring.ids
+  pub settled_are : (k : ℕ) → 1 ≤ k → AreSettled (length w.ring.ids) rs (run k w)
+
+-- round j left all generators and interpreters as they were
+pub record HasStillPointers (w : World) (j : ℕ) : Type 0 where
+  pub generators : (p : ℕ) (d : Side) → p < length w.ring.nodes → (sending_on d (node_at (run (suc j) w).ring.nodes p)).generators ≡ (sending_on d (node_at (run j w).ring.nodes p)).generators
+  pub readings : (p : ℕ) (d : Side) → p < length w.ring.nodes → (receiving_on d (node_at (run (suc j) w).ring.nodes p)).readings ≡ (receiving_on d (node_at (run j w).ring.nodes p)).readings

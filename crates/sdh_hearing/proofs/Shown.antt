@@ -1,0 +1,107 @@
+-- What changes leave of the parities that sections keep, and the violations that a side counts.
+use Rattle.std.proofs.Common.{◌≡◌, ℕ, ◌*◌, ◌<◌, List, [], ◌∷◌, length, refl, ap, sym, subst, ◌∙◌, inl, inr, arith}
+use Rattle.std.specs.Prelude.{All}
+use Rattle.std.proofs.lemmas.Bool.{cases_Bool}
+use Rattle.sdh_frame.specs.Sizes.{n_of}
+use Rattle.sdh_ringmap.specs.declared.Side.{Side}
+use Rattle.sdh_ringmap.specs.declared.Side.TheVariants.{West, East}
+use Rattle.sdh_ringmap.specs.Places.{neighbour, opposite}
+use Rattle.sdh_request.specs.declared.Command.{Command}
+use Rattle.sdh_parity.specs.Scrambling.{scrambled}
+use Rattle.sdh_overhead.specs.Sections.{b2_violations}
+use Rattle.sdh_plant.specs.Fibres.{fibre, fibre_to, is_cut}
+use Rattle.sdh_plant.specs.Arrivals.{carried_on}
+use Rattle.sdh_node.specs.declared.settings.Settings.{Settings}
+use Rattle.sdh_node.specs.Receiving.{commanded_by}
+use Rattle.sdh_node.specs.Node.{Node, receiving_on, sending_on, at_receiving}
+use Rattle.sdh_world.specs.Held.{node_at, AtEach}
+use Rattle.sdh_world.specs.Rounds.{World, round, round_with}
+use Rattle.sdh_world.specs.Changes.{Change, Fibre, Order, Now, changed, all_changed}
+use Rattle.sdh_world.specs.Sides.{condition_to}
+use Rattle.sdh_world.specs.Laws.{IsChangeAt}
+use Rattle.sdh_hearing.specs.Signalling.{CountsViolations, shown_by}
+use Rattle.sdh_hearing.specs.Laws.{IsWhole, ViolationsAreOfTheRoundBefore}
+use Rattle.sdh_hearing.proofs.Parities.{b2_through}
+use Rattle.sdh_hearing.proofs.Staying.{left_all}
+use Rattle.sdh_hearing.proofs.Nodes.{count, length-after}
+use Rattle.sdh_hearing.proofs.Rounds.{same_line, neighbour_inside, arrival_cut, arrival_word, word_goes, whole_round}
+use Rattle.sdh_hearing.proofs.Changes.{each_at_place, sending_commanded, whole_all}
+use Rattle.sdh_hearing.proofs.Violations.{KeepsParities, ShowsSo, b2_by, shows_later}
+use Rattle.sdh_hearing.proofs.Follows.{Keeps, keeps_one}
+
+pub section_commanded : (d e : Side) (c : Command) (n : Node) → (receiving_on e (at_receiving d (commanded_by c) n)).section ≡ (receiving_on e n).section
+section_commanded West West c n = refl
+section_commanded West East c n = refl
+section_commanded East West c n = refl
+section_commanded East East c n = refl
+
+pub keeps_changed : (c : Change) (w : World) → Keeps w → Keeps (changed c w)
+unfolding changed
+keeps_changed (Fibre p d c) w k = k
+keeps_changed (Order p d c) w k = λ e. each_at_place (λ q n. KeepsParities w.ring.settings.rate w.ring.rounds (carried_on w.fibres (fibre q e)) (sending_on e n).section.last) (at_receiving d (commanded_by c))
+    (λ q n h line some there. ap (λ y. y.section.last) (sending_commanded d e c n) ∙ h line some there) p w.ring.nodes (k e)
+keeps_changed (Now t) w k = k
+
+keeps_all : (cs : List Change) (w : World) → Keeps w → Keeps (all_changed cs w)
+keeps_all [] w k = k
+keeps_all (c ∷ cs) w k = keeps_all cs (changed c w) (keeps_changed c w k)
+
+-- the frame on the fibre to each position shows so many violations there
+abbrev pub AllShow : (ℕ → Side → ℕ) → World → Type 0
+AllShow shown w = (d : Side) → AtEach (λ p n. ShowsSo w.ring.settings.rate (shown p d) w.ring.rounds (carried_on w.fibres (fibre_to (length w.ring.ids) p d)) (receiving_on d n).section.last) w.ring.nodes
+
+pub shows_changed : (shown : ℕ → Side → ℕ) (c : Change) (w : World) → AllShow shown w → AllShow shown (changed c w)
+unfolding changed
+shows_changed shown (Fibre p d c) w k = k
+shows_changed shown (Order p d c) w k = λ e. each_at_place (λ q n. ShowsSo w.ring.settings.rate (shown q e) w.ring.rounds (carried_on w.fibres (fibre_to (length w.ring.ids) q e)) (receiving_on e n).section.last) (at_receiving d (commanded_by c))
+    (λ q n h. subst (λ y. ShowsSo w.ring.settings.rate (shown q e) w.ring.rounds (carried_on w.fibres (fibre_to (length w.ring.ids) q e)) y.last) (sym (section_commanded d e c n)) h) p w.ring.nodes (k e)
+shows_changed shown (Now t) w k = k
+
+shows_all : (shown : ℕ → Side → ℕ) (cs : List Change) (w : World) → AllShow shown w → AllShow shown (all_changed cs w)
+shows_all shown [] w k = k
+shows_all shown (c ∷ cs) w k = shows_all shown cs (changed c w) (shows_changed shown c w k)
+
+-- what shows on the fibre is counted in what comes over it
+counts : (w : World) (whole : IsWhole w) (p : ℕ) (d : Side) (k : ℕ) → 0 < w.ring.rounds → ShowsSo w.ring.settings.rate k w.ring.rounds (carried_on w.fibres (fibre_to (length w.ring.ids) p d)) (receiving_on d (node_at w.ring.nodes p)).section.last
+    → CountsViolations w p d k
+counts w whole p d k some shows out comes = elim (cases_Bool (is_cut (condition_to w p d))) [
+    | inl cut ↦ (let none = sym (arrival_cut w whole p d cut) ∙ comes in absurd (cc))
+    | inr clear ↦
+        let rate = w.ring.settings.rate in
+        let n = n_of rate in
+        let last = (receiving_on d (node_at w.ring.nodes p)).section.last in
+        let sent = (whole.paired.carried (neighbour (length w.ring.ids) p d) (neighbour_inside w whole p d)).frames (opposite d) some in
+        let came = arrival_word w whole p d some clear in
+        let goes = word_goes w whole p d some clear sent.line sent.there in
+        ap (λ y. b2_violations n last (scrambled (9 * n) y)) (same_line out came.line _ comes came.there)
+        ∙ b2_by n last _ _ (b2_through rate (condition_to w p d) sent.line came.line sent.says.size goes)
+        ∙ shows sent.line some sent.there
+]
+
+pub violations_are_of_the_round_before : ViolationsAreOfTheRoundBefore
+unfolding round round_with
+violations_are_of_the_round_before w first second p d whole may may_then h =
+    let one = round w in
+    let whole_one = whole_round w whole in
+    let before = all_changed first one in
+    let settings_one : before.ring.settings ≡ w.ring.settings = (left_all first one).settings in
+    let whole_before : IsWhole before = whole_all first one may whole_one in
+    let two = round before in
+    let whole_two = whole_round before whole_before in
+    let may_two : All (IsChangeAt two.ring.settings.rate) second = subst (λ (s : Settings). All (IsChangeAt s.rate) second) (sym settings_one) may_then in
+    let now = all_changed second two in
+    let whole_now : IsWhole now = whole_all second two may_two whole_two in
+    let shown : ℕ → Side → ℕ = λ q e. shown_by (condition_to before q e) in
+    let ran : 0 < before.ring.rounds = (let e = (left_all first one).rounds in omega arith) in
+    let shows_two : AllShow shown two = λ e q low.
+        (let inside : q < length before.ring.nodes = (let len = length-after before in omega arith) in
+        shows_later before whole_before q e inside ran (keeps_all first one (keeps_one w whole) (opposite e) (neighbour (length before.ring.ids) q e) (neighbour_inside before whole_before q e))) in
+    let shows_now = shows_all shown second two shows_two in
+    let ran_now : 0 < now.ring.rounds = (let e = (left_all second two).rounds in omega arith) in
+    let inside : p < length now.ring.nodes =
+        (let ids_one = ap (λ (ids : List ℕ). length ids) (left_all first one).ids in
+        let ids_two = ap (λ (ids : List ℕ). length ids) (left_all second two).ids in
+        let a = count w whole.placed in
+        let b = count now whole_now.placed in
+        omega arith) in
+    counts now whole_now p d (shown p d) ran_now (shows_now d p inside)

@@ -1,0 +1,71 @@
+-- What is the same in the comparison of a calm round is the same, and a round that leaves it the same is calm.
+use Rattle.std.proofs.Common.{◌≡◌, ℕ, ◌≤◌, true, List, [], ◌∷◌, Option, refl, ap, ◌∙◌}
+use Rattle.std.specs.Prelude.{◌&&◌, nat_le}
+use Rattle.std.proofs.lemmas.Bool.{and_parts, leb-true, le-leb}
+use Rattle.sdh_kbytes.specs.Same.{same_code, same_word, same_heard}
+use Rattle.sdh_kbytes.proofs.SameWords.{code_same, heard_same, same_is}
+use Rattle.sdh_nodestate.specs.Shapes.{same_state}
+use Rattle.sdh_nodestate.proofs.SameStates.{state_same}
+use Rattle.sdh_pointer.specs.declared.reading.Reading.{Reading}
+use Rattle.sdh_pointer.specs.Reading.{same_reading}
+use Rattle.sdh_pointer.specs.Sending.{same_sending}
+use Rattle.sdh_pointer.proofs.Unmoved as one
+use Rattle.sdh_node.specs.Same.{same_readings, same_generators, ComparedIn, ComparedOut, Compared, same_in, same_out, same_compared}
+use Rattle.sdh_node.specs.Node.{Node, crossing, after_crossing, with_calm, compared, node_round}
+use Rattle.sdh_node.proofs.Itself.{compared_itself}
+
+readings_same : (xs ys : List Reading) → same_readings xs ys ≡ true → xs ≡ ys
+readings_same [] [] e = refl
+readings_same [] (b ∷ ys) e = cc
+readings_same (a ∷ xs) [] e = cc
+readings_same (a ∷ xs) (b ∷ ys) e = let both = and_parts (same_reading a b) (same_readings xs ys) e in ap (λ r. r ∷ xs) (one.same_readings a b both.0) ∙ ap (λ rs. b ∷ rs) (readings_same xs ys both.1)
+
+generators_same : (xs ys : List (Option ℕ)) → same_generators xs ys ≡ true → xs ≡ ys
+generators_same [] [] e = refl
+generators_same [] (b ∷ ys) e = cc
+generators_same (a ∷ xs) [] e = cc
+generators_same (a ∷ xs) (b ∷ ys) e = let both = and_parts (same_sending a b) (same_generators xs ys) e in ap (λ r. r ∷ xs) (one.same_states a b both.0) ∙ ap (λ rs. b ∷ rs) (generators_same xs ys both.1)
+
+in_same : (a b : ComparedIn) → same_in a b ≡ true → a ≡ b
+in_same a b e =
+    let last = and_parts (same_code a.request b.request && same_heard a.heard b.heard) (same_readings a.readings b.readings) e in
+    let first = and_parts (same_code a.request b.request) (same_heard a.heard b.heard) last.0 in
+    let request = code_same a.request b.request first.0 in
+    let heard = heard_same a.heard b.heard first.1 in
+    let readings = readings_same a.readings b.readings last.1 in
+    λ i. record { request = request i; heard = heard i; readings = readings i }
+
+out_same : (a b : ComparedOut) → same_out a b ≡ true → a ≡ b
+out_same a b e =
+    let both = and_parts (same_word a.word b.word) (same_generators a.generators b.generators) e in
+    let word = same_is a.word b.word both.0 in
+    let generators = generators_same a.generators b.generators both.1 in
+    λ i. record { word = word i; generators = generators i }
+
+pub compared_same : (a b : Compared) → same_compared a b ≡ true → a ≡ b
+unfolding same_compared
+compared_same a b e =
+    let five = and_parts (same_in a.west b.west && same_in a.east b.east && same_state a.state b.state && same_out a.west_out b.west_out) (same_out a.east_out b.east_out) e in
+    let four = and_parts (same_in a.west b.west && same_in a.east b.east && same_state a.state b.state) (same_out a.west_out b.west_out) five.0 in
+    let three = and_parts (same_in a.west b.west && same_in a.east b.east) (same_state a.state b.state) four.0 in
+    let two = and_parts (same_in a.west b.west) (same_in a.east b.east) three.0 in
+    let west = in_same a.west b.west two.0 in
+    let east = in_same a.east b.east two.1 in
+    let state = state_same a.state b.state three.1 in
+    let west_out = out_same a.west_out b.west_out four.1 in
+    let east_out = out_same a.east_out b.east_out five.1 in
+    λ i. record { west = west i; east = east i; state = state i; west_out = west_out i; east_out = east_out i }
+
+-- a calm round isn't the node's first one, and leaves all that is compared
+pub calm_leaves : (now : ℕ) (n : Node) → (node_round now n).0.calm ≡ true → (1 ≤ n.rounds) × (compared (node_round now n).0 ≡ compared n)
+unfolding node_round with_calm
+calm_leaves now n e =
+    let both = and_parts (nat_le 1 n.rounds) (same_compared (compared (after_crossing (crossing now n) n)) (compared n)) e in
+    (leb-true 1 n.rounds both.0, compared_same (compared (after_crossing (crossing now n) n)) (compared n) both.1)
+
+-- and a later round that leaves all of it is calm
+pub unchanged_is_calm : (now : ℕ) (n : Node) → 1 ≤ n.rounds → compared (node_round now n).0 ≡ compared n → (node_round now n).0.calm ≡ true
+unfolding node_round with_calm
+unchanged_is_calm now n ran same =
+    let some : nat_le 1 n.rounds ≡ true = le-leb 1 n.rounds ran in
+    rw some (ap (λ c. same_compared c (compared n)) same ∙ compared_itself (compared n))

@@ -1,0 +1,35 @@
+-- Which word is sent on a side, told by how urgent the words are that may be sent there. This project's own, after ITU-T G.841.
+use Rattle.std.specs.Prelude.{ℕ, ◌≡◌, ◌≢◌, ◌<◌, ◌≤◌, ◌⊎◌}
+use Rattle.sdh_ringmap.specs.Places.{opposite}
+use Rattle.sdh_ringmap.specs.declared.Side.{Side}
+use Rattle.sdh_nodestate.specs.Rules.{Scene, weight, weight_of, relayed, Choice, own_short, own_long, relay, rest, chosen}
+
+-- the weight of a word that may be sent on d; 0 where there is no such word
+abbrev pub weight_on : Scene → Side → Choice → ℕ
+weight_on s d own_short = weight s d
+weight_on s d own_long = weight s (opposite d)
+weight_on s d relay = weight_of (relayed s d)
+weight_on s d rest = 0
+
+-- a word of weight a is at least as urgent as one of weight b: all from SF up are equally urgent
+abbrev pub IsAsUrgent : ℕ → ℕ → Type 0
+IsAsUrgent a b = (11 ≤ a) ⊎ (b ≤ a)
+
+-- between words that are equally urgent an own short one stands before an own long one, and that before a relayed one
+abbrev pub place : Choice → ℕ
+place own_short = 0
+place own_long = 1
+place relay = 2
+place rest = 3
+
+-- of words with these weights this is the one to be sent
+pub record IsFirst (weight : Choice → ℕ) (c : Choice) : Type 0 where
+  -- it is there; only where no word is there, the one that asks for nothing is sent
+  pub there : c ≢ rest → 0 < weight c
+  pub nothing : c ≡ rest → (other : Choice) → weight other ≡ 0
+  -- none is more urgent, and of those that are as urgent it stands first
+  pub urgent : (other : Choice) → IsAsUrgent (weight c) (weight other)
+  pub before : (other : Choice) → 0 < weight other → IsAsUrgent (weight other) (weight c) → place c ≤ place other
+
+abbrev pub FirstWordsAreSent : Type 0
+FirstWordsAreSent = (s : Scene) (d : Side) → IsFirst (weight_on s d) (chosen s d)

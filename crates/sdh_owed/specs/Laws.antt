@@ -1,0 +1,30 @@
+-- The laws of scripts.
+use Rattle.std.specs.Prelude.{ℕ, ◌≡◌, ◌≤◌, List, [], length}
+use Rattle.sdh_frame.specs.Sizes.{n_of}
+use Rattle.sdh_circuits.specs.Provisioning.{Provisioning}
+use Rattle.sdh_plant.specs.Fibres.{Fibres}
+use Rattle.sdh_plant.specs.Arrivals.{Knows}
+use Rattle.sdh_node.specs.declared.settings.Settings.{Settings}
+use Rattle.sdh_world.specs.Held.{new_ring}
+use Rattle.sdh_world.specs.Rounds.{World}
+use Rattle.sdh_world.specs.Changes.{new_world}
+use Rattle.sdh_hearing.specs.Laws.{MayStart}
+use Rattle.sdh_carrying.specs.Windows.{layout_in, HasCircuits}
+use Rattle.sdh_plan.specs.declared.step.Step.{Step}
+use Rattle.sdh_plan.specs.Steps.{Past}
+use Rattle.sdh_plan.specs.Scripts.{AreSteps}
+use Rattle.sdh_report.specs.declared.status.Status.{Status}
+use Rattle.sdh_report.specs.Reports.{Report}
+use Rattle.sdh_owed.specs.Scripts.{Runs, ComesTo}
+use Rattle.sdh_owed.specs.Owed.{AreOwed}
+
+-- where arrivals are known, what comes of a script is determined, and after a fault it is the front of that
+abbrev pub KnownScripts : Type 0
+KnownScripts = (limit before : ℕ) (steps : List Step) (w : World) (reports : List Report) (end : Status) (left : World)
+    → Knows w.fibres → 1 ≤ length w.ring.ids → length w.ring.nodes ≡ length w.ring.ids → Runs limit before steps w reports end left → ComesTo limit before steps w reports end left
+
+-- from a new ring over new honest fibres, each report shows what is owed under the requests of the script's history
+abbrev pub ReportsAreOwed : Type 0
+ReportsAreOwed = (s : Settings) (ids : List ℕ) (circuits : Provisioning) (f : Fibres) → (let l = layout_in (new_ring s ids circuits) in
+    MayStart s ids f → HasCircuits l → (limit : ℕ) (past : Past) (steps : List Step) → AreSteps s.rate (length ids) past steps
+    → (reports : List Report) (end : Status) (left : World) → Runs limit 0 steps (new_world s ids circuits f) reports end left → AreOwed l [] [] 0 steps reports end)

@@ -1,0 +1,38 @@
+-- What the report of a settle step tells of the ring that it left.
+use Rattle.std.specs.Prelude.{ℕ, ◌+◌, ◌-◌, List, [], ◌∷◌, length, get_or}
+use Rattle.sdh_basics.specs.Cells.{cells}
+use Rattle.sdh_circuits.specs.declared.End.{End}
+use Rattle.sdh_circuits.specs.declared.End.TheVariants.{A, B}
+use Rattle.sdh_circuits.specs.Provisioned.{Provisioned}
+use Rattle.sdh_node.specs.Node.{Node}
+use Rattle.sdh_world.specs.Held.{HeldRing, outlet_at, node_at}
+use Rattle.sdh_report.specs.declared.node_line.NodeLine.{NodeLine}
+use Rattle.sdh_report.specs.Lines.{state_word}
+use Rattle.sdh_report.specs.Reports.{PortLine, Report}
+
+-- a node's identifier, its state, and the words that it sent in the last round
+abbrev pub node_told : ℕ → Node → NodeLine
+node_told id n = record { id = id; state = state_word n.state; west = n.west_out.word; east = n.east_out.word }
+
+-- of the node at a position
+abbrev pub told_at : HeldRing → ℕ → NodeLine
+told_at r p = node_told (get_or r.ids p 0) (node_at r.nodes p)
+
+abbrev pub nodes_told : HeldRing → List NodeLine
+nodes_told r = cells (told_at r) (length r.ids)
+
+-- what the port at an end of the circuit of this number delivered
+abbrev pub port_told : HeldRing → ℕ → Provisioned → End → PortLine
+port_told r index c e = record { name = c.name; end = e; outlet = outlet_at r (record { circuit = index; end = e }) }
+
+-- the ports of these circuits, which are counted from `index`
+abbrev pub ports_from : HeldRing → ℕ → List Provisioned → List PortLine
+ports_from r index [] = []
+ports_from r index (c ∷ cs) = port_told r index c A ∷ port_told r index c B ∷ ports_from r (index + 1) cs
+
+abbrev pub ports_told : HeldRing → List PortLine
+ports_told r = ports_from r 0 r.circuits.circuits
+
+-- the report of settle step `number` that left this ring
+unfoldable pub report_of : ℕ → HeldRing → Report
+report_of number r = record { number = number; round = r.rounds - 1; nodes = nodes_told r; ports = ports_told r }

@@ -1,0 +1,18 @@
+//! A script over a ring and its fibres, over definitions alone: `specs/Reports.antt` says what a report tells of a ring,
+//! `specs/Scripts.antt` what comes of a script, `specs/Owed.antt` what its reports owe to each port by the restoration model, and
+//! `specs/Laws.antt` has the laws. Each function here has a law as its contract and no work to do.
+#![tactic(auto)]
+
+ghost use Rattle.sdh_owed.specs.Laws.{KnownScripts, ReportsAreOwed};
+
+/// Where arrivals are known, what comes of a script is determined, and after a fault it is the front of that.
+pub fn known_scripts()
+    ensures { KnownScripts }
+{}
+
+/// Over honest fibres each report shows for every port what it is owed.
+pub fn reports_are_owed()
+    ensures { ReportsAreOwed }
+{
+    sdh_carrying::settled_rings_restore();
+}

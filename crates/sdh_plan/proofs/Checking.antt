@@ -1,0 +1,109 @@
+-- Checks one after the other.
+use Rattle.std.proofs.Common.{◌≡◌, ℕ, List, [], ◌∷◌, ◌++◌, Bool, true, false, cond, Option, Some, None, Result, Ok, Err, refl, ap, sym, ◌∙◌}
+use Rattle.sdh_plan.specs.declared.error.PlanError.{PlanError}
+use Rattle.sdh_plan.specs.declared.error.PlanError.TheVariants as error
+use Rattle.sdh_plan.specs.Refusals.{IsRefused}
+use Rattle.sdh_plan.specs.Check.{Check, Refusal, Fault, answer, at_place, first_fault, unless}
+
+pub passes : {X : Type 0} (r : Option ℕ) (x y : X) → Ok y ≡ unless r x → (r ≡ None) × (y ≡ x)
+passes None x y e = (refl, cc)
+passes (Some reason) x y e = cc
+
+pub refuses : {X : Type 0} (r : Option ℕ) (x : X) (reason : ℕ) → Err reason ≡ unless r x → r ≡ Some reason
+refuses None x reason e = cc
+refuses (Some other) x reason e = cc
+
+fault_later : (b : Bool) (reason : ℕ) (later more : List Fault) → (first_fault later ≡ None → first_fault (later ++ more) ≡ first_fault more) → cond b (Some reason) (first_fault later) ≡ None → cond b (Some reason) (first_fault (later ++ more)) ≡ first_fault more
+fault_later true reason later more rest e = cc
+fault_later false reason later more rest e = rest e
+
+pub fault_behind : (faults more : List Fault) → first_fault faults ≡ None → first_fault (faults ++ more) ≡ first_fault more
+fault_behind [] more e = refl
+fault_behind (fault ∷ later) more e = fault_later fault.1 fault.0 later more (fault_behind later more) e
+
+fault_sooner : (b : Bool) (reason r : ℕ) (later more : List Fault) → (first_fault later ≡ Some r → first_fault (later ++ more) ≡ Some r) → cond b (Some reason) (first_fault later) ≡ Some r → cond b (Some reason) (first_fault (later ++ more)) ≡ Some r
+fault_sooner true reason r later more rest e = e
+fault_sooner false reason r later more rest e = rest e
+
+pub fault_before : (faults more : List Fault) (r : ℕ) → first_fault faults ≡ Some r → first_fault (faults ++ more) ≡ Some r
+fault_before [] more r e = cc
+fault_before (fault ∷ later) more r e = fault_sooner fault.1 fault.0 r later more (fault_before later more r) e
+
+-- two readings, one after the other
+pub first_fails : {X Z : Type 0} (faults more : List Fault) (x : X) (z : Z) (reason : ℕ) → Err reason ≡ unless (first_fault faults) x → Err reason ≡ unless (first_fault (faults ++ more)) z
+first_fails faults more x z reason e = sym (ap (λ r. unless r z) (fault_before faults more reason (refuses (first_fault faults) x reason e)))
+
+pub second_fails : {X Y Z : Type 0} (faults : List Fault) (more : X → List Fault) (x y : X) (f : X → Y) (z : Z) (reason : ℕ)
+    → Ok y ≡ unless (first_fault faults) x → Err reason ≡ unless (first_fault (more y)) (f y) → Err reason ≡ unless (first_fault (faults ++ more x)) z
+second_fails faults more x y f z reason e h =
+    let parts : (first_fault faults ≡ None) × (y ≡ x) = passes (first_fault faults) x y e in
+    sym (ap (λ r. unless r z) (fault_behind faults (more x) parts.0 ∙ ap (λ v. first_fault (more v)) (sym parts.1) ∙ refuses (first_fault (more y)) (f y) reason h))
+
+pair_up : {X Y : Type 0} (x y : X) (z w : Y) → y ≡ x → z ≡ w → ◌≡◌ {A = Result (X × Y) ℕ} (Ok (y, z)) (Ok (x, w))
+pair_up x y z w e h = cc
+
+-- a pair that is read
+pub passes_pair : {X Y : Type 0} (r : Option ℕ) (x y : X) (z w : Y) → ◌≡◌ {A = Result (X × Y) ℕ} (Ok (y, w)) (unless r (x, z)) → (r ≡ None) × (y ≡ x) × (w ≡ z)
+passes_pair {X = X} {Y = Y} r x y z w e =
+    let pair : X × Y = (x, z) in
+    let told : X × Y = (y, w) in
+    let parts : (r ≡ None) × (told ≡ pair) = passes r pair told e in
+    (parts.0, ap (λ p. p.0) parts.1, ap (λ p. p.1) parts.1)
+
+pub both_pass : {X Y : Type 0} (faults : List Fault) (more : X → List Fault) (x y : X) (f : X → Y) (made : Y)
+    → Ok y ≡ unless (first_fault faults) x → Ok made ≡ unless (first_fault (more y)) (f y) → ◌≡◌ {A = Result (X × Y) ℕ} (Ok (y, made)) (unless (first_fault (faults ++ more x)) (x, f x))
+both_pass {X = X} {Y = Y} faults more x y f made e h =
+    let parts : (first_fault faults ≡ None) × (y ≡ x) = passes (first_fault faults) x y e in
+    let later : (first_fault (more y) ≡ None) × (made ≡ f y) = passes (first_fault (more y)) (f y) made h in
+    let none : first_fault (faults ++ more x) ≡ None = fault_behind faults (more x) parts.0 ∙ ap (λ v. first_fault (more v)) (sym parts.1) ∙ later.0 in
+    let same : made ≡ f x = later.1 ∙ ap f parts.1 in
+    pair_up x y made (f x) parts.1 same ∙ sym (let reading : Option ℕ → Result (X × Y) ℕ = λ r. unless r (x, f x) in ap reading none)
+
+-- the checks of one place, and those behind them
+pub place_passes : (place : ℕ) (faults : List Fault) (more : List Check) → first_fault faults ≡ None → answer (at_place place faults ++ more) ≡ answer more
+place_passes place [] more e = refl
+place_passes place (fault ∷ later) more e = passed fault.1 (place_passes place later more) e
+  where
+    passed : (b : Bool) → (first_fault later ≡ None → answer (at_place place later ++ more) ≡ answer more) → cond b (Some fault.0) (first_fault later) ≡ None
+        → cond b (Some (record { reason = fault.0; place = place })) (answer (at_place place later ++ more)) ≡ answer more
+    passed true rest h = cc
+    passed false rest h = rest h
+
+pub place_fails : (place : ℕ) (faults : List Fault) (more : List Check) (reason : ℕ) → first_fault faults ≡ Some reason → answer (at_place place faults ++ more) ≡ Some (record { reason = reason; place = place })
+place_fails place [] more reason e = cc
+place_fails place (fault ∷ later) more reason e = failed fault.1 (place_fails place later more reason) e
+  where
+    failed : (b : Bool) → (first_fault later ≡ Some reason → answer (at_place place later ++ more) ≡ Some (record { reason = reason; place = place })) → cond b (Some fault.0) (first_fault later) ≡ Some reason
+        → cond b (Some (record { reason = fault.0; place = place })) (answer (at_place place later ++ more)) ≡ Some (record { reason = reason; place = place })
+    failed true rest h = let same : fault.0 ≡ reason = cc in ap (λ r. Some (record { reason = r; place = place })) same
+    failed false rest h = rest h
+
+-- checks in two parts
+pub answer_behind : (checks more : List Check) → answer checks ≡ None → answer (checks ++ more) ≡ answer more
+answer_behind [] more e = refl
+answer_behind (check ∷ later) more e = behind check.fails (answer_behind later more) e
+  where
+    behind : (b : Bool) → (answer later ≡ None → answer (later ++ more) ≡ answer more) → cond b (Some (record { reason = check.reason; place = check.place })) (answer later) ≡ None
+        → cond b (Some (record { reason = check.reason; place = check.place })) (answer (later ++ more)) ≡ answer more
+    behind true rest h = cc
+    behind false rest h = rest h
+
+pub answer_before : (checks more : List Check) (r : Refusal) → answer checks ≡ Some r → answer (checks ++ more) ≡ Some r
+answer_before [] more r e = cc
+answer_before (check ∷ later) more r e = before check.fails (answer_before later more r) e
+  where
+    before : (b : Bool) → (answer later ≡ Some r → answer (later ++ more) ≡ Some r) → cond b (Some (record { reason = check.reason; place = check.place })) (answer later) ≡ Some r
+        → cond b (Some (record { reason = check.reason; place = check.place })) (answer (later ++ more)) ≡ Some r
+    before true rest h = h
+    before false rest h = rest h
+
+-- a refusal by the first of two parts, and by the second
+pub refused_before : (checks more : List Check) (why : PlanError) → IsRefused (answer checks) why → IsRefused (answer (checks ++ more)) why
+refused_before checks more error.Memory e = tt
+refused_before checks more error.NotToml e = e
+refused_before checks more (error.BadPlan reason place) e = answer_before checks more (record { reason = reason; place = place }) e
+
+pub refused_behind : (checks more : List Check) (why : PlanError) → answer checks ≡ None → IsRefused (answer more) why → IsRefused (answer (checks ++ more)) why
+refused_behind checks more error.Memory none e = tt
+refused_behind checks more error.NotToml none e = e
+refused_behind checks more (error.BadPlan reason place) none e = answer_behind checks more none ∙ e

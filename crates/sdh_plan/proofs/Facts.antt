@@ -1,0 +1,182 @@
+-- What is true of steps that pass the checks.
+use Rattle.std.proofs.Common.{◌≡◌, ℕ, ◌+◌, ◌*◌, ◌<◌, ◌≤◌, List, [], ◌∷◌, ◌++◌, map, length, Bool, true, false, ◌==◌, ◌&&◌, ◌||◌, not, cond, nat_le, Option, Some, None, is_none, unwrap_or, position, codes, refl, ap, sym, subst, ◌∙◌, arith}
+use Rattle.std.specs.Option.{option_and_then, option_map, option_map_or}
+use Rattle.std.proofs.lemmas.Bool.Decides.{nat_tests}
+use Rattle.std.proofs.lemmas.List.Quantifiers.{position-Some}
+use Rattle.toml.specs.Data.{Data, Members}
+use Rattle.sdh_ringmap.specs.declared.Pos.{Pos}
+use Rattle.sdh_ringmap.specs.Places.{found_at}
+use Rattle.sdh_frame.specs.declared.Rate.{Rate}
+use Rattle.sdh_frame.specs.Sizes.{n_of}
+use Rattle.sdh_plan.specs.declared.step.Step.{Step}
+use Rattle.sdh_plan.specs.declared.step.Step.TheVariants as step
+use Rattle.sdh_plan.specs.Verbs as verb
+use Rattle.sdh_plan.specs.Check.{Check, Refusal, Fault, answer, at_place, first_fault}
+use Rattle.sdh_plan.specs.Document.{text_of, elements_in, is_array_of, is_text}
+use Rattle.sdh_plan.specs.Plans.{whole, last_check, texts_checks, is_script_length, script_checks}
+use Rattle.sdh_plan.specs.Words.{words, numeral_in, is_number, decimal_from}
+use Rattle.sdh_plan.specs.Verbs.{Verb, verb_of, Part, node, side, number, parts_of}
+use Rattle.sdh_plan.specs.Steps.{Past, node_at, side_at, part_faults, place_of, number_of, word_at, verb_faults, verb_step, form_faults, form_step, step_of, step_faults, steps_checks, past_faults, after, start, ends_settled}
+use Rattle.sdh_plan.specs.Scripts.{IsStepIn, AreSteps}
+use Rattle.sdh_plan.proofs.Forms.{mismatch}
+
+later_none : (b : Bool) (reason : ℕ) (r : Option ℕ) → cond b (Some reason) r ≡ None → r ≡ None
+later_none true reason r e = cc
+later_none false reason r e = e
+
+both_none : (faults more : List Fault) → first_fault (faults ++ more) ≡ None → (first_fault faults ≡ None) × (first_fault more ≡ None)
+both_none [] more e = (refl, e)
+both_none (fault ∷ later) more e = joined fault.1 (both_none later more) e
+  where
+    joined : (b : Bool) → (first_fault (later ++ more) ≡ None → (first_fault later ≡ None) × (first_fault more ≡ None)) → cond b (Some fault.0) (first_fault (later ++ more)) ≡ None
+        → (cond b (Some fault.0) (first_fault later) ≡ None) × (first_fault more ≡ None)
+    joined true rest h = cc
+    joined false rest h = rest h
+
+place_none : (place : ℕ) (faults : List Fault) (more : List Check) → answer (at_place place faults ++ more) ≡ None → (first_fault faults ≡ None) × (answer more ≡ None)
+place_none place [] more e = (refl, e)
+place_none place (fault ∷ later) more e = joined fault.1 (place_none place later more) e
+  where
+    joined : (b : Bool) → (answer (at_place place later ++ more) ≡ None → (first_fault later ≡ None) × (answer more ≡ None)) → cond b (Some (record { reason = fault.0; place = place })) (answer (at_place place later ++ more)) ≡ None
+        → (cond b (Some fault.0) (first_fault later) ≡ None) × (answer more ≡ None)
+    joined true rest h = cc
+    joined false rest h = rest h
+
+-- a node that is found is in the ring
+found_within : (nodes : List ℕ) (o : Option ℕ) (p : Pos) → option_map (λ q. record { 0 = q }) o ≡ Some p → ((i : ℕ) → o ≡ Some i → i < length nodes) → p.0 < length nodes
+found_within nodes None p e h = cc
+found_within nodes (Some i) p e h = let same : i ≡ p.0 = cc in subst (λ (k : ℕ). k < length nodes) same (h i refl)
+
+node_within : (nodes : List ℕ) (o : Option ℕ) (p : Pos) → option_and_then (found_at nodes) o ≡ Some p → p.0 < length nodes
+node_within nodes None p e = cc
+node_within nodes (Some id) p e = found_within nodes (position (λ x. x == id) nodes) p e (λ i h. (position-Some (λ x. x == id) nodes i 0 h).0)
+
+in_ring : (nodes word : List ℕ) (p : Pos) → node_at nodes word ≡ Some p → p.0 < length nodes
+unfolding node_at
+in_ring nodes word p e = node_within nodes (numeral_in 0 15 word) p e
+
+number_within : (low high : ℕ) (word : List ℕ) (k : ℕ) → numeral_in low high word ≡ Some k → (low ≤ k) × (k ≤ high)
+unfolding numeral_in
+number_within low high word k e = within (is_number word) (decimal_from 0 word) e
+  where
+    within : (b : Bool) (d : ℕ) → cond (b && nat_le low d && nat_le d high) (Some d) None ≡ Some k → (low ≤ k) × (k ≤ high)
+    within b d h = (grind (arith, nat_tests), grind (arith, nat_tests))
+
+-- a word that is to be a node's, and isn't refused
+node_there : (nodes word : List ℕ) (rest : Bool) (r : Option ℕ) → cond (is_none (node_at nodes word) || rest) (Some 24) r ≡ None → (unwrap_or (node_at nodes word) (record { 0 = 0 })).0 < length nodes
+node_there nodes word rest r e = named (node_at nodes word) (in_ring nodes word) e
+  where
+    named : (o : Option Pos) → ((p : Pos) → o ≡ Some p → p.0 < length nodes) → cond (is_none o || rest) (Some 24) r ≡ None → (unwrap_or o (record { 0 = 0 })).0 < length nodes
+    named None h e' = cc
+    named (Some p) h e' = h p refl
+
+number_there : (low high : ℕ) (word : List ℕ) (rest : Bool) (r : Option ℕ) → cond (is_none (numeral_in low high word) || rest) (Some 26) r ≡ None
+    → (low ≤ unwrap_or (numeral_in low high word) 0) × (unwrap_or (numeral_in low high word) 0 ≤ high)
+number_there low high word rest r e = told (numeral_in low high word) (number_within low high word) e
+  where
+    told : (o : Option ℕ) → ((k : ℕ) → o ≡ Some k → (low ≤ k) × (k ≤ high)) → cond (is_none o || rest) (Some 26) r ≡ None → (low ≤ unwrap_or o 0) × (unwrap_or o 0 ≤ high)
+    told None h e' = cc
+    told (Some k) h e' = h k refl
+
+too_many_none : (nodes : List ℕ) (parts : List Part) (others : List (List ℕ)) → length parts < length others → first_fault (part_faults nodes parts others) ≡ None → ⊥
+too_many_none nodes parts others h e = let wrong : ◌≡◌ {A = Option ℕ} (Some 23) None = sym (mismatch nodes parts others h) ∙ e in cc
+
+place_within : (nodes : List ℕ) (others : List (List ℕ)) → first_fault (part_faults nodes (node ∷ side ∷ []) others) ≡ None → (place_of nodes others).0 < length nodes
+unfolding part_faults
+place_within nodes [] e = cc
+place_within nodes (a ∷ []) e = cc
+place_within nodes (a ∷ (b ∷ [])) e = node_there nodes a _ _ e
+place_within nodes (a ∷ (b ∷ (c ∷ ws))) e = absurd (too_many_none nodes (node ∷ side ∷ []) (a ∷ (b ∷ (c ∷ ws))) (omega arith) e)
+
+degree_within : (high : ℕ) (nodes : List ℕ) (others : List (List ℕ)) → first_fault (part_faults nodes (node ∷ side ∷ number 1 high ∷ []) others) ≡ None
+    → ((place_of nodes others).0 < length nodes) × (1 ≤ number_of 1 high (word_at others 2)) × (number_of 1 high (word_at others 2) ≤ high)
+unfolding part_faults
+degree_within high nodes [] e = cc
+degree_within high nodes (a ∷ []) e = cc
+degree_within high nodes (a ∷ (b ∷ [])) e = cc
+degree_within high nodes (a ∷ (b ∷ (c ∷ []))) e =
+    let bounds : (1 ≤ unwrap_or (numeral_in 1 high c) 0) × (unwrap_or (numeral_in 1 high c) 0 ≤ high) =
+    number_there 1 high c false None (later_none (is_none (side_at b) || (false || false)) 25 (cond (is_none (numeral_in 1 high c) || false) (Some 26) None)
+    (later_none (is_none (node_at nodes a) || (false || (false || false))) 24 (cond (is_none (side_at b) || (false || false)) (Some 25) (cond (is_none (numeral_in 1 high c) || false) (Some 26) None)) e)) in
+    (node_there nodes a _ _ e, bounds.0, bounds.1)
+degree_within high nodes (a ∷ (b ∷ (c ∷ (d ∷ ws)))) e = absurd (too_many_none nodes (node ∷ side ∷ number 1 high ∷ []) (a ∷ (b ∷ (c ∷ (d ∷ ws)))) (omega arith) e)
+
+moment_within : (high : ℕ) (nodes : List ℕ) (others : List (List ℕ)) → first_fault (part_faults nodes (number 0 high ∷ []) others) ≡ None → number_of 0 high (word_at others 0) ≤ high
+unfolding part_faults
+moment_within high nodes [] e = cc
+moment_within high nodes (a ∷ []) e = (number_there 0 high a _ _ e).1
+moment_within high nodes (a ∷ (b ∷ ws)) e = absurd (too_many_none nodes (number 0 high ∷ []) (a ∷ (b ∷ ws)) (omega arith) e)
+
+verb_within : (rate : Rate) (nodes : List ℕ) (v : Verb) (others : List (List ℕ)) → first_fault (part_faults nodes (parts_of (n_of rate) v) others) ≡ None → IsStepIn rate (length nodes) (verb_step (n_of rate) nodes v others)
+verb_within rate nodes verb.Cut others e = (place_within nodes others e, tt)
+verb_within rate nodes verb.Mend others e = (place_within nodes others e, tt)
+verb_within rate nodes verb.Degrade others e =
+    let bounds : ((place_of nodes others).0 < length nodes) × (1 ≤ number_of 1 (3 * n_of rate) (word_at others 2)) × (number_of 1 (3 * n_of rate) (word_at others 2) ≤ 3 * n_of rate) = degree_within (3 * n_of rate) nodes others e in
+    (bounds.0, (bounds.1, bounds.2))
+verb_within rate nodes verb.Forced others e = place_within nodes others e
+verb_within rate nodes verb.Manual others e = place_within nodes others e
+verb_within rate nodes verb.Clear others e = place_within nodes others e
+verb_within rate nodes verb.Moment others e = moment_within 1000000000 nodes others e
+verb_within rate nodes verb.Settle others e = tt
+
+option_within : (rate : Rate) (nodes : List ℕ) (o : Option Verb) (others : List (List ℕ)) → first_fault (verb_faults (n_of rate) nodes o others) ≡ None → IsStepIn rate (length nodes) (option_map_or (λ v. verb_step (n_of rate) nodes v others) o step.Settle)
+option_within rate nodes None others e = cc
+option_within rate nodes (Some v) others e = verb_within rate nodes v others e
+
+form_within : (rate : Rate) (nodes : List ℕ) (ws : List (List ℕ)) → first_fault (form_faults (n_of rate) nodes ws) ≡ None → IsStepIn rate (length nodes) (form_step (n_of rate) nodes ws)
+unfolding form_faults form_step
+form_within rate nodes [] e = cc
+form_within rate nodes (first ∷ others) e = option_within rate nodes (verb_of first) others (later_none _ _ _ e)
+
+-- what a step leads to where the checks against the steps before pass
+past_within : (past : Past) (s : Step) → past.settles ≤ 64 → first_fault (past_faults past s) ≡ None → (past.moment ≤ (after past s).moment) × ((after past s).settles ≤ 64)
+unfolding past_faults
+past_within past (step.Fibre event) h e = (omega arith, h)
+past_within past (step.Order at on c) h e = (omega arith, h)
+past_within past (step.Moment m) h e = (grind (arith, nat_tests), h)
+past_within past step.Settle h e = (omega arith, grind (arith, nat_tests))
+
+pub steps_within : (rate : Rate) (nodes : List ℕ) (past : Past) (place : ℕ) (ds : List Data) → past.settles ≤ 64 → answer (steps_checks (n_of rate) nodes past place ds) ≡ None
+    → AreSteps rate (length nodes) past (map (λ d. step_of (n_of rate) nodes (text_of d)) ds)
+steps_within rate nodes past place [] h e = tt
+steps_within rate nodes past place (d ∷ ds) h e =
+    let s : Step = step_of (n_of rate) nodes (text_of d) in
+    let parts : (first_fault (step_faults (n_of rate) nodes past (text_of d)) ≡ None) × (answer (steps_checks (n_of rate) nodes (after past s) (place + 1) ds) ≡ None) =
+    place_none place (step_faults (n_of rate) nodes past (text_of d)) (steps_checks (n_of rate) nodes (after past s) (place + 1) ds) e in
+    let form : (first_fault (form_faults (n_of rate) nodes (words (text_of d))) ≡ None) × (first_fault (past_faults past s) ≡ None) =
+    both_none (form_faults (n_of rate) nodes (words (text_of d))) (past_faults past s) parts.0 in
+    let leads : (past.moment ≤ (after past s).moment) × ((after past s).settles ≤ 64) = past_within past s h form.1 in
+    (record { in_ring = form_within rate nodes (words (text_of d)) form.0; forward = leads.0; few_settles = leads.1 }, steps_within rate nodes (after past s) (place + 1) ds leads.1 parts.1)
+
+-- checks in two parts that all pass
+answers_none : (checks more : List Check) → answer (checks ++ more) ≡ None → (answer checks ≡ None) × (answer more ≡ None)
+answers_none [] more e = (refl, e)
+answers_none (check ∷ later) more e = joined check.fails (answers_none later more) e
+  where
+    joined : (b : Bool) → (answer (later ++ more) ≡ None → (answer later ≡ None) × (answer more ≡ None)) → cond b (Some (record { reason = check.reason; place = check.place })) (answer (later ++ more)) ≡ None
+        → (cond b (Some (record { reason = check.reason; place = check.place })) (answer later) ≡ None) × (answer more ≡ None)
+    joined true rest h = cc
+    joined false rest h = rest h
+
+check_none : (b : Bool) (x : Refusal) (r : Option Refusal) → cond b (Some x) r ≡ None → (b ≡ false) × (r ≡ None)
+check_none true x r e = cc
+check_none false x r e = (refl, e)
+
+turned : (b : Bool) → not b ≡ false → b ≡ true
+turned true e = refl
+turned false e = cc
+
+pub script_fits : (ms : Members) (rate : Rate) (nodes : List ℕ) (n : ℕ) (steps : List Step) → n ≡ n_of rate → answer (script_checks n nodes ms) ≡ None
+    → steps ≡ map (λ d. step_of n nodes (text_of d)) (elements_in (codes "script") ms) → AreSteps rate (length nodes) start steps × (ends_settled steps ≡ true)
+unfolding script_checks
+script_fits ms rate nodes n steps h e made =
+    let ds : List Data = elements_in (codes "script") ms in
+    let first : (not (is_array_of is_text (codes "script") ms) ≡ false) × (answer (whole 21 (not (is_script_length (length ds))) ∷ texts_checks n nodes ds) ≡ None) = check_none _ _ _ e in
+    let second : (not (is_script_length (length ds)) ≡ false) × (answer (texts_checks n nodes ds) ≡ None) = check_none _ _ _ first.1 in
+    let parts : (answer (steps_checks n nodes start 1 ds) ≡ None) × (answer (last_check (map (λ d. step_of n nodes (text_of d)) ds) ∷ []) ≡ None) =
+    answers_none (steps_checks n nodes start 1 ds) (last_check (map (λ d. step_of n nodes (text_of d)) ds) ∷ []) second.1 in
+    let last : not (ends_settled (map (λ d. step_of n nodes (text_of d)) ds)) ≡ false = (check_none _ _ None parts.1).0 in
+    let fit : AreSteps rate (length nodes) start (map (λ d. step_of (n_of rate) nodes (text_of d)) ds) =
+    steps_within rate nodes start 1 ds (omega arith) (ap (λ k. answer (steps_checks k nodes start 1 ds)) (sym h) ∙ parts.0) in
+    let same : steps ≡ map (λ d. step_of (n_of rate) nodes (text_of d)) ds = made ∙ ap (λ k. map (λ d. step_of k nodes (text_of d)) ds) h in
+    (subst (λ (l : List Step). AreSteps rate (length nodes) start l) (sym same) fit, ap ends_settled made ∙ turned _ last)

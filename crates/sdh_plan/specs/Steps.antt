@@ -1,0 +1,168 @@
+-- The steps of a script: their forms, their checks and what each does. All this is this project's own.
+use Rattle.std.specs.Prelude.{ℕ, ◌+◌, ◌-◌, ◌*◌, Bool, true, false, ◌==◌, ◌&&◌, ◌||◌, not, nat_le, nat_lt, if◌then◌else◌, List, [], ◌∷◌, ◌++◌, length, codes, Option, Some, None, is_none, unwrap_or, slice_index_or, slice_get}
+use Rattle.std.specs.List.{list_any}
+use Rattle.std.specs.Str.{bytes_eq}
+use Rattle.std.specs.Option.{option_and_then, option_map_or}
+use Rattle.sdh_ringmap.specs.declared.Pos.{Pos}
+use Rattle.sdh_ringmap.specs.declared.Side.{Side}
+use Rattle.sdh_ringmap.specs.declared.Side.TheVariants.{West, East}
+use Rattle.sdh_ringmap.specs.Places.{found_at}
+use Rattle.sdh_plant.specs.declared.plant.Condition.{Condition}
+use Rattle.sdh_plant.specs.declared.plant.Condition.TheVariants as condition
+use Rattle.sdh_request.specs.declared.Command.{Command}
+use Rattle.sdh_request.specs.declared.Command.TheVariants as command
+use Rattle.sdh_plan.specs.declared.step.Step.{Step}
+use Rattle.sdh_plan.specs.declared.step.Step.TheVariants as step
+use Rattle.sdh_plan.specs.Verbs.{Verb, verb_of, Part, node, side, number, parts_of}
+use Rattle.sdh_plan.specs.Verbs as verb
+use Rattle.toml.specs.Data.{Data}
+use Rattle.sdh_plan.specs.Document.{text_of}
+use Rattle.sdh_plan.specs.Check.{Fault, Check, at_place}
+use Rattle.sdh_plan.specs.Words.{words, is_empty, numeral_in}
+use Rattle.sdh_plan.specs.Reasons as reason
+
+-- the position of the node whose identifier the word is
+unfoldable pub node_at : List ℕ → List ℕ → Option Pos
+node_at nodes word = option_and_then (found_at nodes) (numeral_in 0 15 word)
+
+-- the side that the word names
+abbrev pub side_at : List ℕ → Option Side
+side_at word = if bytes_eq word (codes "west") then Some West else if bytes_eq word (codes "east") then Some East else None
+
+-- the word is to be a node of the ring and is none
+abbrev pub no_node : List ℕ → Part → List ℕ → Bool
+no_node nodes node word = is_none (node_at nodes word)
+no_node nodes side word = false
+no_node nodes (number low high) word = false
+
+-- the word is to be a side and is none
+abbrev pub no_side : Part → List ℕ → Bool
+no_side node word = false
+no_side side word = is_none (side_at word)
+no_side (number low high) word = false
+
+-- the word is to be a number in a range and is none
+abbrev pub no_number : Part → List ℕ → Bool
+no_number node word = false
+no_number side word = false
+no_number (number low high) word = is_none (numeral_in low high word)
+
+-- one of the words isn't what it is to be
+abbrev pub any_amiss : (Part → List ℕ → Bool) → List Part → List (List ℕ) → Bool
+any_amiss amiss (part ∷ parts) (word ∷ others) = amiss part word || any_amiss amiss parts others
+any_amiss amiss _ _ = false
+
+-- the checks of the words behind the first
+unfoldable pub part_faults : List ℕ → List Part → List (List ℕ) → List Fault
+part_faults nodes parts others =
+    (reason.step_form, not (length others == length parts))
+    ∷ (reason.step_node, any_amiss (no_node nodes) parts others)
+    ∷ (reason.step_side, any_amiss no_side parts others)
+    ∷ (reason.step_number, any_amiss no_number parts others)
+    ∷ []
+
+-- the checks behind the first word, which is to be listed
+abbrev pub verb_faults : ℕ → List ℕ → Option Verb → List (List ℕ) → List Fault
+verb_faults n nodes None others = (reason.step_word, true) ∷ []
+verb_faults n nodes (Some v) others = (reason.step_word, false) ∷ part_faults nodes (parts_of n v) others
+
+-- the word at a place behind the first, counted from 0; no bytes where there is none
+abbrev pub word_at : List (List ℕ) → ℕ → List ℕ
+word_at others i = slice_index_or others i []
+
+-- what the words stand for where they pass the checks
+abbrev pub place_of : List ℕ → List (List ℕ) → Pos
+place_of nodes others = unwrap_or (node_at nodes (word_at others 0)) (record { 0 = 0 })
+
+abbrev pub side_of : List (List ℕ) → Side
+side_of others = unwrap_or (side_at (word_at others 1)) West
+
+abbrev pub number_of : ℕ → ℕ → List ℕ → ℕ
+number_of low high word = unwrap_or (numeral_in low high word) 0
+
+-- the fibre that leaves the node on the side comes into the condition
+abbrev pub fibre_step : List ℕ → List (List ℕ) → Condition → Step
+fibre_step nodes others c = step.Fibre (record { at = place_of nodes others; side = side_of others; condition = c })
+
+-- the side of the node gets the command
+abbrev pub order_step : List ℕ → List (List ℕ) → Command → Step
+order_step nodes others c = step.Order (place_of nodes others) (side_of others) c
+
+-- the step that the words behind the first give
+abbrev pub verb_step : ℕ → List ℕ → Verb → List (List ℕ) → Step
+verb_step n nodes verb.Cut others = fibre_step nodes others condition.Cut
+verb_step n nodes verb.Mend others = fibre_step nodes others condition.Clear
+verb_step n nodes verb.Degrade others = fibre_step nodes others (condition.Degraded (number_of 1 (3 * n) (word_at others 2)))
+verb_step n nodes verb.Forced others = order_step nodes others command.Forced
+verb_step n nodes verb.Manual others = order_step nodes others command.Manual
+verb_step n nodes verb.Clear others = order_step nodes others command.Clear
+verb_step n nodes verb.Moment others = step.Moment (record { 0 = number_of 0 1000000000 (word_at others 0) })
+verb_step n nodes verb.Settle others = step.Settle
+
+-- the checks of a step's words
+unfoldable pub form_faults : ℕ → List ℕ → List (List ℕ) → List Fault
+form_faults n nodes [] = (reason.step_form, true) ∷ []
+form_faults n nodes (first ∷ others) = (reason.step_form, list_any is_empty (first ∷ others)) ∷ verb_faults n nodes (verb_of first) others
+
+-- the step that a first word gives with those behind it; any step where it isn't listed
+abbrev pub told_step : ℕ → List ℕ → Option Verb → List (List ℕ) → Step
+told_step n nodes first others = option_map_or (λ v. verb_step n nodes v others) first step.Settle
+
+-- the step that words give where they pass the checks
+unfoldable pub form_step : ℕ → List ℕ → List (List ℕ) → Step
+form_step n nodes [] = step.Settle
+form_step n nodes (first ∷ others) = told_step n nodes (verb_of first) others
+
+-- the step of a text, in the ring of these nodes at STM-n
+abbrev pub step_of : ℕ → List ℕ → List ℕ → Step
+step_of n nodes text = form_step n nodes (words text)
+
+-- what a script has led to before a step: the present moment, and the number of settle steps
+pub record Past : Type 0 where
+  pub moment : ℕ
+  pub settles : ℕ
+
+-- nothing has happened yet, and the present moment is 0
+abbrev pub start : Past
+start = record { moment = 0; settles = 0 }
+
+-- what the script has led to behind the step
+abbrev pub after : Past → Step → Past
+after past (step.Fibre event) = past
+after past (step.Order at on c) = past
+after past (step.Moment m) = record past { moment = m.0 }
+after past step.Settle = record past { settles = past.settles + 1 }
+
+-- the step tells a moment below that one
+abbrev pub is_back : ℕ → Step → Bool
+is_back moment (step.Fibre event) = false
+is_back moment (step.Order at on c) = false
+is_back moment (step.Moment m) = nat_lt m.0 moment
+is_back moment step.Settle = false
+
+-- the step runs rounds
+abbrev pub is_settle : Step → Bool
+is_settle (step.Fibre event) = false
+is_settle (step.Order at on c) = false
+is_settle (step.Moment m) = false
+is_settle step.Settle = true
+
+-- the last step runs rounds
+abbrev pub ends_settled : List Step → Bool
+ends_settled steps = option_map_or is_settle (slice_get steps (length steps - 1)) false
+
+-- the checks of a step against what the script has led to
+unfoldable pub past_faults : Past → Step → List Fault
+past_faults past this =
+    (reason.moment_back, is_back past.moment this)
+    ∷ (reason.settles, is_settle this && nat_le 64 past.settles)
+    ∷ []
+
+-- all checks of the step that a text gives
+abbrev pub step_faults : ℕ → List ℕ → Past → List ℕ → List Fault
+step_faults n nodes past text = form_faults n nodes (words text) ++ past_faults past (step_of n nodes text)
+
+-- the checks of the steps from this place on, one after the other
+abbrev pub steps_checks : ℕ → List ℕ → Past → ℕ → List Data → List Check
+steps_checks n nodes past place [] = []
+steps_checks n nodes past place (d ∷ ds) = at_place place (step_faults n nodes past (text_of d)) ++ steps_checks n nodes (after past (step_of n nodes (text_of d))) (place + 1) ds

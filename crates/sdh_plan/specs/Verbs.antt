@@ -1,0 +1,48 @@
+-- The first words of steps, and what is to follow each. All this is this project's own.
+use Rattle.std.specs.Prelude.{ℕ, ◌*◌, if◌then◌else◌, List, [], ◌∷◌, codes, Option, Some, None}
+use Rattle.std.specs.Str.{bytes_eq}
+
+-- what a step does
+pub data Verb : Type 0 where
+  -- a fibre is cut, mended or degraded
+  Cut : Verb
+  Mend : Verb
+  Degrade : Verb
+  -- a side gets a forced switch or a manual switch, or its command is cleared
+  Forced : Verb
+  Manual : Verb
+  Clear : Verb
+  -- the present moment is told
+  Moment : Verb
+  -- rounds run until a quiet window ends
+  Settle : Verb
+
+-- what a step does, by its first word
+abbrev pub verb_of : List ℕ → Option Verb
+verb_of word =
+    if bytes_eq word (codes "cut") then Some Cut
+    else if bytes_eq word (codes "mend") then Some Mend
+    else if bytes_eq word (codes "degrade") then Some Degrade
+    else if bytes_eq word (codes "forced") then Some Forced
+    else if bytes_eq word (codes "manual") then Some Manual
+    else if bytes_eq word (codes "clear") then Some Clear
+    else if bytes_eq word (codes "moment") then Some Moment
+    else if bytes_eq word (codes "settle") then Some Settle
+    else None
+
+-- what a word behind the first is to be: the identifier of a node in the ring, a side, a number in a range
+pub data Part : Type 0 where
+  node : Part
+  side : Part
+  number : ℕ → ℕ → Part
+
+-- the words that follow the first one, at STM-n
+abbrev pub parts_of : ℕ → Verb → List Part
+parts_of n Cut = node ∷ side ∷ []
+parts_of n Mend = node ∷ side ∷ []
+parts_of n Degrade = node ∷ side ∷ number 1 (3 * n) ∷ []
+parts_of n Forced = node ∷ side ∷ []
+parts_of n Manual = node ∷ side ∷ []
+parts_of n Clear = node ∷ side ∷ []
+parts_of n Moment = number 0 1000000000 ∷ []
+parts_of n Settle = []

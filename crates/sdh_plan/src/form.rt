@@ -1,0 +1,177 @@
+//! The forms of steps.
+ghost use Rattle.std.specs.Prelude.{◌≡◌, ◌≤◌, ◌∷◌, [], map, false};
+ghost use Rattle.std.specs.List.{list_any};
+ghost use Rattle.sdh_plan.specs.Check.{first_fault, unless};
+ghost use Rattle.sdh_plan.specs.Verbs.{verb_of, node, side, number};
+ghost use Rattle.sdh_plan.specs.Steps.{node_at, side_at, part_faults, verb_faults, fibre_step, order_step, number_of, word_at, told_step, form_faults, form_step};
+ghost use Rattle.sdh_plan.specs.Words.{words, is_empty};
+
+use crate::reason;
+use crate::step::Step;
+use crate::words::{is_word, numeral_in, words_of};
+use sdh_plant::{Condition, FibreEvent};
+use sdh_request::{Command, Moment};
+use sdh_ringmap::{Pos, RingMap, Side};
+
+// The position of the node whose identifier the word is.
+#[tactic(auto, unfolding(crate::specs::Steps::node_at))]
+fn node_at(ring: &RingMap, word: &[u8]) -> Option<Pos>
+    ensures { result ≡ node_at ring.now word.now }
+{
+    match numeral_in(word, 0, 15) {
+        Some(id) => ring.find(id as u8),
+        None => None,
+    }
+}
+
+// The side that the word names.
+fn side_at(word: &[u8]) -> Option<Side>
+    ensures { result ≡ side_at word.now }
+{
+    if is_word(word, "west") {
+        Some(Side::West)
+    } else if is_word(word, "east") {
+        Some(Side::East)
+    } else {
+        None
+    }
+}
+
+// The fibre that the words name comes into the condition.
+#[tactic(auto, unfolding(crate::specs::Steps::part_faults))]
+fn fibre(ring: &RingMap, others: &[&[u8]], condition: Condition) -> Result<Step, u8>
+    ensures { result ≡ unless (first_fault (part_faults ring.now (node ∷ side ∷ []) (map (λ word. word.now) others.now))) (fibre_step ring.now (map (λ word. word.now) others.now) condition) }
+{
+    let [node, side] = others else {
+        return Err(reason::STEP_FORM);
+    };
+    let Some(at) = node_at(ring, node) else {
+        return Err(reason::STEP_NODE);
+    };
+    let Some(side) = side_at(side) else {
+        return Err(reason::STEP_SIDE);
+    };
+    Ok(Step::Fibre(FibreEvent {
+        at,
+        side,
+        condition,
+    }))
+}
+
+// The fibre that the words name is degraded. `most` is the most that it can be.
+#[tactic(auto, unfolding(crate::specs::Steps::part_faults))]
+fn degrade(ring: &RingMap, most: u16, others: &[&[u8]]) -> Result<Step, u8>
+    requires { most ≤ 48 }
+    ensures { result ≡ unless (first_fault (part_faults ring.now (node ∷ side ∷ number 1 most ∷ []) (map (λ word. word.now) others.now))) (fibre_step ring.now (map (λ word. word.now) others.now) (Condition.Degraded (number_of 1 most (word_at (map (λ word. word.now) others.now) 2)))) }
+{
+    let [node, side, number] = others else {
+        return Err(reason::STEP_FORM);
+    };
+    let Some(at) = node_at(ring, node) else {
+        return Err(reason::STEP_NODE);
+    };
+    let Some(side) = side_at(side) else {
+        return Err(reason::STEP_SIDE);
+    };
+    let Some(number) = numeral_in(number, 1, u32::from(most)) else {
+        return Err(reason::STEP_NUMBER);
+    };
+    Ok(Step::Fibre(FibreEvent {
+        at,
+        side,
+        condition: Condition::Degraded(number as u16),
+    }))
+}
+
+// The side that the words name gets the command.
+#[tactic(auto, unfolding(crate::specs::Steps::part_faults))]
+fn order(ring: &RingMap, others: &[&[u8]], command: Command) -> Result<Step, u8>
+    ensures { result ≡ unless (first_fault (part_faults ring.now (node ∷ side ∷ []) (map (λ word. word.now) others.now))) (order_step ring.now (map (λ word. word.now) others.now) command) }
+{
+    let [node, side] = others else {
+        return Err(reason::STEP_FORM);
+    };
+    let Some(at) = node_at(ring, node) else {
+        return Err(reason::STEP_NODE);
+    };
+    let Some(side) = side_at(side) else {
+        return Err(reason::STEP_SIDE);
+    };
+    Ok(Step::Order(at, side, command))
+}
+
+// The present moment is the one that the word tells.
+#[tactic(auto, unfolding(crate::specs::Steps::part_faults))]
+fn moment(ring: &RingMap, others: &[&[u8]]) -> Result<Step, u8>
+    ensures { result ≡ unless (first_fault (part_faults ring.now (number 0 1000000000 ∷ []) (map (λ word. word.now) others.now))) (Step.Moment (record { 0 = number_of 0 1000000000 (word_at (map (λ word. word.now) others.now) 0) })) }
+{
+    let [number] = others else {
+        return Err(reason::STEP_FORM);
+    };
+    let Some(number) = numeral_in(number, 0, 1_000_000_000) else {
+        return Err(reason::STEP_NUMBER);
+    };
+    Ok(Step::Moment(Moment(u64::from(number))))
+}
+
+// Rounds run until a quiet window ends.
+#[tactic(auto, unfolding(crate::specs::Steps::part_faults))]
+fn settle(ring: &RingMap, others: &[&[u8]]) -> Result<Step, u8>
+    ensures { result ≡ unless (first_fault (part_faults ring.now [] (map (λ word. word.now) others.now))) Step.Settle }
+{
+    if others.is_empty() {
+        Ok(Step::Settle)
+    } else {
+        Err(reason::STEP_FORM)
+    }
+}
+
+// The step that a first word and those behind it give at STM-n.
+fn told(ring: &RingMap, n: u8, first: &[u8], others: &[&[u8]]) -> Result<Step, u8>
+    requires { n ≤ 16 }
+    ensures { result ≡ unless (first_fault (verb_faults n ring.now (verb_of first.now) (map (λ word. word.now) others.now))) (told_step n ring.now (verb_of first.now) (map (λ word. word.now) others.now)) }
+{
+    if is_word(first, "cut") {
+        fibre(ring, others, Condition::Cut)
+    } else if is_word(first, "mend") {
+        fibre(ring, others, Condition::Clear)
+    } else if is_word(first, "degrade") {
+        degrade(ring, 3 * u16::from(n), others)
+    } else if is_word(first, "forced") {
+        order(ring, others, Command::Forced)
+    } else if is_word(first, "manual") {
+        order(ring, others, Command::Manual)
+    } else if is_word(first, "clear") {
+        order(ring, others, Command::Clear)
+    } else if is_word(first, "moment") {
+        moment(ring, others)
+    } else if is_word(first, "settle") {
+        settle(ring, others)
+    } else {
+        Err(reason::STEP_WORD)
+    }
+}
+
+// The step that words give, of which none is empty.
+#[tactic(auto, unfolding(crate::specs::Steps::form_faults, crate::specs::Steps::form_step))]
+fn step_in(ring: &RingMap, n: u8, words: &[&[u8]]) -> Result<Step, u8>
+    requires small { n ≤ 16 }
+    requires whole { list_any is_empty (map (λ word. word.now) words.now) ≡ false }
+    ensures { result ≡ unless (first_fault (form_faults n ring.now (map (λ word. word.now) words.now))) (form_step n ring.now (map (λ word. word.now) words.now)) }
+{
+    let [first, others @ ..] = words else {
+        return Err(reason::STEP_FORM);
+    };
+    told(ring, n, first, others)
+}
+
+/// The step that a text gives, in a ring at STM-n, or the reason of the first check that fails.
+pub fn step_of(ring: &RingMap, n: u8, text: &[u8]) -> Result<Step, u8>
+    requires { n ≤ 16 }
+    ensures { result ≡ unless (first_fault (form_faults n ring.now (words text.now))) (form_step n ring.now (words text.now)) }
+{
+    match words_of(text) {
+        Some(words) => step_in(ring, n, &words),
+        None => Err(reason::STEP_FORM),
+    }
+}

@@ -1,0 +1,152 @@
+//! Reading a script.
+ghost use Rattle.std.specs.Prelude.{◌≡◌, ◌≤◌, map, length, true, None, IfOk, OnOk, IfErr, codes};
+ghost use Rattle.std.specs.List.{list_all};
+ghost use Rattle.toml.specs.View.{view, table_view};
+ghost use Rattle.sdh_plan.specs.Check.{first_fault, unless, answer};
+ghost use Rattle.sdh_plan.specs.Words.{words};
+ghost use Rattle.sdh_plan.specs.Steps.{form_step, step_faults, step_of, steps_checks, start, after, ends_settled};
+ghost use Rattle.sdh_plan.specs.Document.{is_text, text_of, elements_in};
+ghost use Rattle.sdh_plan.specs.Refusals.{IsRefused};
+ghost use Rattle.sdh_plan.specs.Plans.{texts_checks, script_checks};
+
+use crate::document::{array_under, text_of};
+use crate::error::{PlanError, of_document};
+use crate::form::step_of;
+use crate::past::Past;
+use crate::reason;
+use crate::step::Step;
+use sdh_ringmap::RingMap;
+use std::alloc::Global;
+use toml::{Table, Value};
+
+// The step that a text gives and what the script has then led to, or the reason of the first check that fails.
+fn next_step(ring: &RingMap, n: u8, past: Past, text: &[u8]) -> Result<(Step, Past), u8>
+    requires { n ≤ 16 }
+    ensures { let step = form_step n ring.now (words text.now) in result ≡ unless (first_fault (step_faults n ring.now past text.now)) (step, after past step) }
+{
+    let step = match step_of(ring, n, text) {
+        Ok(step) => step,
+        Err(reason) => return Err(reason),
+    };
+    match past.follow(step) {
+        Ok(past) => Ok((step, past)),
+        Err(reason) => Err(reason),
+    }
+}
+
+/// The steps that texts give, or the first check that fails.
+pub fn steps_of(
+    alloc: Global,
+    ring: &RingMap,
+    n: u8,
+    values: &[Value],
+) -> Result<Vec<Step>, PlanError>
+    requires rate { n ≤ 16 }
+    requires few { length values.now ≤ 1000 }
+    ensures steps { IfOk result (λ steps. steps.items ≡ map (λ d. step_of n ring.now (text_of d)) (map view values.now)) }
+    ensures passed { OnOk result (answer (steps_checks n ring.now start 1 (map view values.now)) ≡ None) }
+    ensures refused { IfErr result (IsRefused (answer (steps_checks n ring.now start 1 (map view values.now)))) }
+{
+    let mut steps = Vec::new(alloc);
+    let mut past = Past::start();
+    for (i, value) in values.iter().enumerate() {
+        let text = text_of(value);
+        match next_step(ring, n, past, text.as_bytes()) {
+            Ok((step, after)) => {
+                if steps.push(step).is_err() {
+                    return Err(PlanError::Memory);
+                }
+                past = after;
+            }
+            Err(reason) => {
+                return Err(PlanError::BadPlan {
+                    reason,
+                    place: i as u32 + 1,
+                });
+            }
+        }
+    }
+    Ok(steps)
+}
+
+// Whether each value is a text.
+fn each_text(values: &[Value]) -> bool
+    ensures { result ≡ list_all (λ value. is_text (view value)) values.now }
+{
+    values.iter().all(|value| value.as_str().is_some())
+}
+
+// Whether all elements of an array are texts.
+#[tactic(auto, using(crate::proofs::Elements::all_texts_view))]
+fn all_texts(values: &[Value]) -> bool
+    ensures { result ≡ list_all is_text (map view values.now) }
+{
+    each_text(values)
+}
+
+// Whether the last step runs rounds.
+fn ends_settled(steps: &[Step]) -> bool
+    ensures { result ≡ ends_settled steps.now }
+{
+    match steps.last() {
+        Some(Step::Settle) => true,
+        _ => false,
+    }
+}
+
+// The steps that texts give, the last of which runs rounds, or the first check that fails.
+#[tactic(auto, using(crate::proofs::Checking::refused_before, crate::proofs::Checking::refused_behind, crate::proofs::Scripts::counted, crate::proofs::Scripts::last_fails, crate::proofs::Scripts::last_passes))]
+fn settled_steps(
+    alloc: Global,
+    ring: &RingMap,
+    n: u8,
+    values: &[Value],
+) -> Result<Vec<Step>, PlanError>
+    requires rate { n ≤ 16 }
+    requires few { length values.now ≤ 1000 }
+    ensures steps { IfOk result (λ steps. steps.items ≡ map (λ d. step_of n ring.now (text_of d)) (map view values.now)) }
+    ensures count { IfOk result (λ steps. length steps.items ≡ length values.now) }
+    ensures passed { OnOk result (answer (texts_checks n ring.now (map view values.now)) ≡ None) }
+    ensures refused { IfErr result (IsRefused (answer (texts_checks n ring.now (map view values.now)))) }
+{
+    let steps = match steps_of(alloc, ring, n, values) {
+        Ok(steps) => steps,
+        Err(error) => return Err(error),
+    };
+    if !ends_settled(&steps) {
+        return Err(PlanError::BadPlan {
+            reason: reason::LAST_STEP,
+            place: values.len() as u32,
+        });
+    }
+    Ok(steps)
+}
+
+/// The steps of a document's script, or the first check that fails.
+#[tactic(auto, unfolding(crate::specs::Plans::script_checks))]
+pub fn script_under(
+    alloc: Global,
+    table: &Table,
+    ring: &RingMap,
+    n: u8,
+) -> Result<Vec<Step>, PlanError>
+    requires { n ≤ 16 }
+    ensures steps { IfOk result (λ steps. steps.items ≡ map (λ d. step_of n ring.now (text_of d)) (elements_in (codes "script") (table_view table.now))) }
+    ensures count { IfOk result (λ steps. (1 ≤ length steps.items) × (length steps.items ≤ 1000)) }
+    ensures passed { OnOk result (answer (script_checks n ring.now (table_view table.now)) ≡ None) }
+    ensures refused { IfErr result (IsRefused (answer (script_checks n ring.now (table_view table.now)))) }
+{
+    let Some(values) = array_under(table, "script") else {
+        return Err(of_document(reason::SCRIPT));
+    };
+    if !all_texts(values) {
+        return Err(of_document(reason::SCRIPT));
+    }
+    if values.len() < 1 {
+        return Err(of_document(reason::SCRIPT_LENGTH));
+    }
+    if values.len() > 1000 {
+        return Err(of_document(reason::SCRIPT_LENGTH));
+    }
+    settled_steps(alloc, ring, n, values)
+}

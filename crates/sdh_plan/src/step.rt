@@ -1,0 +1,17 @@
+//! What a script does.
+use sdh_plant::FibreEvent;
+use sdh_request::{Command, Moment};
+use sdh_ringmap::{Pos, Side};
+
+/// A step of a script.
+#[derive(Clone, Copy, Debug, PartialEq, Eq)]
+pub enum Step {
+    /// A fibre comes into a condition, in place of the one before.
+    Fibre(FibreEvent),
+    /// A side of a node gets a command, in place of the one before.
+    Order(Pos, Side, Command),
+    /// The present moment is this one.
+    Moment(Moment),
+    /// Rounds run until a quiet window ends.
+    Settle,
+}

@@ -1,0 +1,101 @@
+//! The words of a step, and the numbers among them.
+ghost use Rattle.std.specs.Prelude.{◌≡◌, ◌<◌, ◌≤◌, ◌⊎◌, ◌∷◌, [], true, false, IfSome, IfNone, Some, None, map, length, take, position, ◌==◌};
+ghost use Rattle.std.specs.Option.{option_map_or};
+ghost use Rattle.std.specs.List.{list_all, list_any};
+ghost use Rattle.std.specs.Str.{bytes_eq};
+ghost use Rattle.sdh_plan.specs.Words.{words, is_empty, is_digit, is_led, decimal_from, numeral_in};
+
+use arrayvec::ArrayVec;
+
+/// Whether the word is this text.
+pub fn is_word(word: &[u8], text: &str) -> bool
+    ensures { result ≡ bytes_eq word.now text.now }
+{
+    word == text.as_bytes()
+}
+
+// The place of the first space.
+fn first_space(text: &[u8]) -> Option<usize>
+    ensures place { result ≡ position (λ byte. byte == 32) text.now }
+    ensures within { IfSome result (λ at. at < length text.now) }
+{
+    text.iter().position(|byte| *byte == b' ')
+}
+
+// The text up to its first space, and what is behind that, if there is one.
+fn cut(text: &[u8]) -> (&[u8], Option<&[u8]>)
+    ensures cut { words text.now ≡ result.0.now ∷ option_map_or (λ rest. words rest.now) result.1 [] }
+    ensures shorter { IfSome result.1 (λ rest. length rest.now < length text.now) }
+{
+    match first_space(text) {
+        Some(at) => (&text[..at], Some(&text[at + 1..])),
+        None => (text, None),
+    }
+}
+
+/// The first five words of a text, or `None` where one of its words is empty.
+pub fn words_of(text: &[u8]) -> Option<ArrayVec<&[u8], 5>>
+    ensures words { IfSome result (λ kept. map (λ word. word.now) kept.items ≡ take 5 (words text.now)) }
+    ensures whole { IfSome result (λ _. list_any is_empty (words text.now) ≡ false) }
+    ensures empty { IfNone result (list_any is_empty (words text.now) ≡ true) }
+{
+    let mut words = ArrayVec::new();
+    let mut rest = Some(text);
+    while let Some(text) = rest {
+        let (word, behind) = cut(text);
+        if word.is_empty() {
+            return None;
+        }
+        if words.len() < 5 {
+            words.push(word);
+        }
+        rest = behind;
+    }
+    Some(words)
+}
+
+// The number that digits are, where each byte is one and it is at most 1,000,000,000. A larger one may be given too.
+fn decimal(digits: &[u8]) -> Option<u32>
+    ensures number { IfSome result (λ number. (list_all is_digit digits.now ≡ true) × (number ≡ decimal_from 0 digits.now)) }
+    ensures none { IfNone result ((list_all is_digit digits.now ≡ false) ⊎ (1000000000 < decimal_from 0 digits.now)) }
+{
+    let mut number: u32 = 0;
+    for digit in digits {
+        if !digit.is_ascii_digit() {
+            return None;
+        }
+        if number > 100_000_000 {
+            return None;
+        }
+        number = 10 * number + u32::from(*digit - b'0');
+    }
+    Some(number)
+}
+
+// Whether the word begins as a number does: with no `0` before other bytes.
+fn is_led(word: &[u8]) -> bool
+    ensures { result ≡ is_led word.now }
+{
+    match word {
+        [] => false,
+        [_] => true,
+        [first, ..] => *first != b'0',
+    }
+}
+
+/// The number that the word is, where it is one from `low` to `high`: decimal digits, the first of which isn't `0`
+/// unless it is the only one.
+#[tactic(auto, unfolding(crate::specs::Words::numeral_in))]
+pub fn numeral_in(word: &[u8], low: u32, high: u32) -> Option<u32>
+    requires { high ≤ 1000000000 }
+    ensures number { result ≡ numeral_in low high word.now }
+    ensures range { IfSome result (λ number. (low ≤ number) × (number ≤ high)) }
+{
+    if !is_led(word) {
+        return None;
+    }
+    match decimal(word) {
+        Some(number) if low <= number && number <= high => Some(number),
+        _ => None,
+    }
+}

@@ -1,0 +1,9 @@
+use Rattle.std.proofs.Common.{sym, subst}
+use Rattle.sdh_world.specs.Held.{HeldRing}
+use Rattle.sdh_world.specs.Rounds.{world}
+use Rattle.sdh_hearing.specs.Laws.{IsWhole}
+use Rattle.sdh_ring.proofs.Whole.{whole_later}
+use Rattle.sdh_ring.proofs.ring.Ring.moment.Goals as goal
+
+pub returns-clause-whole : goal.returns-clause-whole
+returns-clause-whole c = λ f whole. whole_later c.stay_whole.ensures _ f c.args.now.0 (subst (λ (r : HeldRing). IsWhole (world r f)) (sym c.self.view_is) whole)

@@ -1,0 +1,9 @@
+//! Scripts: a ring and its fibres run step by step, and what is listed of each report is appended to a text.
+//!
+//! What comes of a script is `Runs` in `sdh_owed`, and what its reports owe to each port is `AreOwed` there.
+#![tactic(auto)]
+
+mod reports;
+mod script;
+
+pub use script::run_script;

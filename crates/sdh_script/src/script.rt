@@ -1,0 +1,127 @@
+//! A script, step by step.
+ghost use Rattle.std.specs.Prelude.{◌≡◌, ◌+◌, ◌*◌, ◌≤◌, ◌<◌, ◌^◌, ◌++◌, [], ◌∷◌, List, Err, IfOk, IfErr, OnOk, OnErr, false, length};
+ghost use Rattle.sdh_basics.specs.Causes.{Rose, HasCause};
+ghost use Rattle.sdh_plant.specs.Fibres.{IsPrepared};
+ghost use Rattle.sdh_world.specs.Rounds.{world};
+ghost use Rattle.sdh_plan.specs.declared.step.Step.{Step};
+ghost use Rattle.sdh_plan.specs.Scripts.{AreSteps};
+ghost use Rattle.sdh_report.specs.declared.status.Status.{Status};
+ghost use Rattle.sdh_owed.specs.Steps.{after_step};
+ghost use Rattle.sdh_script.specs.Running.{past_of, MayRun, Refused, Went, StopsAt, Lists};
+
+use crate::reports::put_report;
+use sdh_plan::Step;
+use sdh_plant::Plant;
+use sdh_report::{Listing, Status, Text};
+use sdh_ring::{Ring, SettleError};
+
+// What a step does at once. A fault leaves all as it was.
+#[tactic(auto, unfolding(sdh_world::specs::Changes::changed))]
+fn change<P: Plant>(ring: &mut Ring, plant: &mut P, step: Step, number: u32) -> Result<(), Status>
+    requires prepared { IsPrepared ring.old.settings.rate (length ring.old.ids) (P.fibres plant.old) }
+    requires steps { AreSteps ring.old.settings.rate (length ring.old.ids) (past_of number ring.old) (step ∷ []) }
+    ensures ok { OnOk result (world ring.new (P.fibres plant.new) ≡ after_step step (world ring.old (P.fibres plant.old))) }
+    ensures err { IfErr result (λ how. Refused step (P.fibres plant.old) (P.fibres plant.new) how) }
+    ensures later { P.faults plant.old ≤ P.faults plant.new }
+    ensures failed { OnErr result (Rose (P.faults plant.old) (P.faults plant.new)) }
+{
+    match step {
+        Step::Fibre(event) => plant.apply(event).map_err(|_| Status::PlantFault),
+        Step::Order(at, side, command) => {
+            ring.command(at, side, command);
+            Ok(())
+        }
+        Step::Moment(now) => {
+            ring.moment(now);
+            Ok(())
+        }
+        Step::Settle => Ok(()),
+    }
+}
+
+// A settle step and what is listed of its report, after so many that have ended. It answers how many have ended then, or how
+// the script ended.
+fn settle<P: Plant>(
+    ring: &mut Ring,
+    plant: &mut P,
+    limit: u32,
+    number: u32,
+    listing: Listing,
+    text: &mut Text,
+) -> Result<u32, Status>
+    requires may { MayRun listing number (Step.Settle ∷ []) ring.old (P.fibres plant.old) text.old }
+    requires some { 1 ≤ limit }
+    requires few { limit ≤ 65536 }
+    ensures ok { IfOk result (λ n. (later : List Step) → Went limit listing number (Step.Settle ∷ later) (world ring.old (P.fibres plant.old)) text.old.bytes text.new.bytes n later (world ring.new (P.fibres plant.new))) }
+    ensures next { IfOk result (λ n. (later : List Step) → MayRun listing number (Step.Settle ∷ later) ring.old (P.fibres plant.old) text.old → MayRun listing n later ring.new (P.fibres plant.new) text.new) }
+    ensures err { IfErr result (λ how. StopsAt limit number Step.Settle (world ring.old (P.fibres plant.old)) how (world ring.new (P.fibres plant.new))) }
+    ensures same { OnErr result (text.new ≡ text.old) }
+    ensures later { P.faults plant.old ≤ P.faults plant.new }
+    ensures failed { result ≡ Err Status.PlantFault → Rose (P.faults plant.old) (P.faults plant.new) }
+{
+    match ring.settle(plant, limit) {
+        Ok(()) => {
+            put_report(text, ring, number + 1, listing);
+            Ok(number + 1)
+        }
+        Err(SettleError::Unsettled) => Err(Status::Unsettled(number + 1)),
+        Err(SettleError::PlantFault) => Err(Status::PlantFault),
+    }
+}
+
+// One step, after so many settle steps that have ended.
+fn run_step<P: Plant>(
+    ring: &mut Ring,
+    plant: &mut P,
+    step: Step,
+    limit: u32,
+    number: u32,
+    listing: Listing,
+    text: &mut Text,
+) -> Result<u32, Status>
+    requires may { MayRun listing number (step ∷ []) ring.old (P.fibres plant.old) text.old }
+    requires some { 1 ≤ limit }
+    requires few { limit ≤ 65536 }
+    ensures ok { IfOk result (λ n. (later : List Step) → Went limit listing number (step ∷ later) (world ring.old (P.fibres plant.old)) text.old.bytes text.new.bytes n later (world ring.new (P.fibres plant.new))) }
+    ensures next { IfOk result (λ n. (later : List Step) → MayRun listing number (step ∷ later) ring.old (P.fibres plant.old) text.old → MayRun listing n later ring.new (P.fibres plant.new) text.new) }
+    ensures err { IfErr result (λ how. StopsAt limit number step (world ring.old (P.fibres plant.old)) how (world ring.new (P.fibres plant.new))) }
+    ensures same { OnErr result (text.new ≡ text.old) }
+    ensures later { P.faults plant.old ≤ P.faults plant.new }
+    ensures failed { result ≡ Err Status.PlantFault → Rose (P.faults plant.old) (P.faults plant.new) }
+{
+    match step {
+        Step::Settle => settle(ring, plant, limit, number, listing, text),
+        _ => {
+            change(ring, plant, step, number)?;
+            Ok(number)
+        }
+    }
+}
+
+/// Runs a script over a ring and its fibres, and appends what is listed of the report of each settle step that ended. It
+/// answers how the script ended: `Ok`, `Unsettled` or `PlantFault`. It takes no memory.
+pub fn run_script<P: Plant>(
+    ring: &mut Ring,
+    plant: &mut P,
+    steps: &[Step],
+    limit: u32,
+    listing: Listing,
+    text: &mut Text,
+) -> Status
+    requires may { MayRun listing 0 steps.now ring.old (P.fibres plant.old) text.old }
+    requires some { 1 ≤ limit }
+    requires few { limit ≤ 65536 }
+    ensures ran { Lists limit listing steps.now (world ring.old (P.fibres plant.old)) text.old.bytes text.new.bytes result (world ring.new (P.fibres plant.new)) }
+    ensures room { 96 ≤ text.new.room }
+    ensures later { P.faults plant.old ≤ P.faults plant.new }
+    ensures failed { result ≡ Status.PlantFault → Rose (P.faults plant.old) (P.faults plant.new) }
+{
+    let mut number = 0u32;
+    'steps: for step in steps {
+        match run_step(ring, plant, *step, limit, number, listing, text) {
+            Ok(ended) => number = ended,
+            Err(how) => return how,
+        }
+    }
+    Status::Ok
+}
