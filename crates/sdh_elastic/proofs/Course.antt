@@ -1,14 +1,13 @@
 -- What a store keeps is enough of its history: a turn by what is kept is the next turn of the history.
-use Rattle.std.proofs.Common.{◌≡◌, ℕ, ◌+◌, ◌-◌, ◌≤◌, Bool, true, false, List, [], ◌∷◌, ◌++◌, length, take, drop, refl, ap, sym, ◌∙◌, subst, inl, inr, arith}
-use Rattle.std.specs.Prelude.{◌&&◌, sum, sum_by, if◌then◌else◌}
+use Rattle.std.proofs.Common.{◌≡◌, ℕ, ◌+◌, ◌-◌, ◌≤◌, Bool, true, false, List, [], ◌∷◌, ◌++◌, length, take, drop, refl, ap, sym, ◌∙◌, inl, inr, arith}
+use Rattle.std.specs.Prelude.{◌&&◌, sum}
 use Rattle.std.proofs.lemmas.Bool.{cases_Bool}
 use Rattle.std.proofs.lemmas.List.{length-append, length-drop, drop-append-le, drop-drop}
 use Rattle.std.proofs.lemmas.List.Sums.{sum_by-cons}
 use Rattle.sdh_pointer.specs.declared.reading.Action.{Action}
-use Rattle.sdh_pointer.specs.declared.reading.Action.TheVariants as action
 use Rattle.sdh_elastic.specs.declared.stage.Stage.{Stage}
 use Rattle.sdh_elastic.specs.declared.lengths.Lengths.{Lengths}
-use Rattle.sdh_elastic.specs.Turns.{given, moves, justified, next_action, is_held, value_after, word_for}
+use Rattle.sdh_elastic.specs.Turns.{given, moves, next_action, is_held, value_after, word_for}
 use Rattle.sdh_elastic.specs.Lengths.{is_steady, is_last_steady, last_lengths, with_length, keeps_steady}
 use Rattle.sdh_elastic.specs.History.{actions, fill, lasts, lengths, taken_in, count_given, held, last_action, last_given, value_of, last_word}
 use Rattle.sdh_elastic.specs.Store.{Store, empty, stage_of, action_in, stage_after, action_at, fill_after, given_at, after_turn, store_of, CameBy, GoesOn}

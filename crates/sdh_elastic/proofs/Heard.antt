@@ -1,5 +1,5 @@
 -- An interpreter that reads every word of a store answers what its turns do.
-use Rattle.std.proofs.Common.{◌≡◌, ℕ, ◌≤◌, refl, ap, sym, ◌∙◌, inl, inr, arith}
+use Rattle.std.proofs.Common.{◌≡◌, ℕ, ◌≤◌, refl, ◌∙◌, inl, inr, arith}
 use Rattle.sdh_pointer.specs.declared.reading.Reading.{Reading}
 use Rattle.sdh_pointer.specs.declared.reading.Mode.{Mode}
 use Rattle.sdh_pointer.specs.declared.reading.Mode.TheVariants as mode
@@ -15,10 +15,10 @@ use Rattle.sdh_pointer.proofs.Rows.{norm_same, norm_up, norm_down, ais_ais, ais_
 use Rattle.sdh_pointer.proofs.Settling.{by_event, action_by_event}
 use Rattle.sdh_elastic.specs.declared.stage.Stage.{Stage}
 use Rattle.sdh_elastic.specs.declared.stage.Stage.TheVariants.{First, Second, Moved, OneLater, TwoLater, Free}
-use Rattle.sdh_elastic.specs.Turns.{justified, value_after, word_for}
+use Rattle.sdh_elastic.specs.Turns.{value_after, word_for}
 use Rattle.sdh_elastic.specs.Store as store
 use Rattle.sdh_elastic.specs.Store.{stage_after, reading_in}
-use Rattle.sdh_elastic.proofs.Near.{Justifies, justifies}
+use Rattle.sdh_elastic.proofs.Near.{justifies}
 
 -- a word is read as this action, and leads to this reading
 pub record IsHeard (r : Reading) (w : ℕ) (a : Action) (s : Reading) : Type 0 where

@@ -1,7 +1,7 @@
 -- The fill of a steady run stays near a frame's bytes, so a steady run has no drift.
-use Rattle.std.proofs.Common.{◌≡◌, ◌≢◌, ℕ, ◌+◌, ◌-◌, ◌<◌, ◌≤◌, Bool, true, false, ◌⊎◌, inl, inr, refl, ap, sym, ◌∙◌, List, ◌++◌, length, drop, arith}
-use Rattle.std.specs.Prelude.{nat_le, ◌&&◌, if◌then◌else◌}
-use Rattle.std.proofs.lemmas.Bool.{cases_Bool, cases_lt, le-leb}
+use Rattle.std.proofs.Common.{◌≡◌, ℕ, ◌+◌, ◌-◌, ◌<◌, ◌≤◌, Bool, true, false, ◌⊎◌, inl, inr, refl, List, ◌++◌, length, drop, arith}
+use Rattle.std.specs.Prelude.{◌&&◌}
+use Rattle.std.proofs.lemmas.Bool.{cases_lt}
 use Rattle.std.proofs.lemmas.List.{length-drop, length-append}
 use Rattle.std.proofs.lemmas.Grind.{common_steps}
 use Rattle.sdh_pointer.specs.declared.reading.Action.{Action}
@@ -10,7 +10,7 @@ use Rattle.sdh_elastic.specs.declared.stage.Stage.{Stage}
 use Rattle.sdh_elastic.specs.declared.stage.Stage.TheVariants.{First, Second, Moved, OneLater, TwoLater, Free}
 use Rattle.sdh_elastic.specs.declared.lengths.Lengths.{Lengths}
 use Rattle.sdh_elastic.specs.declared.lengths.Lengths.TheVariants.{Empty, One, Two, Three}
-use Rattle.sdh_elastic.specs.Turns.{given, moves, justified, is_held, value_after, IsChunk}
+use Rattle.sdh_elastic.specs.Turns.{given, justified, is_held, value_after, IsChunk}
 use Rattle.sdh_elastic.specs.Lengths.{are_four, with_length, keeps_steady}
 use Rattle.sdh_elastic.specs.Store.{Store, action_in, action_at, fill_after, after_turn, stage_after, AreChunks, IsNear, IsAt, IsBounded}
 

@@ -1,14 +1,13 @@
 -- The laws of runs.
-use Rattle.std.proofs.Common.{◌≡◌, ℕ, suc, ◌+◌, ◌-◌, ◌≤◌, Bool, true, List, [], ◌∷◌, ◌++◌, length, take, drop, refl, ap, sym, ◌∙◌, subst, arith}
+use Rattle.std.proofs.Common.{◌≡◌, ℕ, suc, ◌+◌, ◌≤◌, true, List, [], ◌∷◌, ◌++◌, length, take, drop, refl, ap, sym, ◌∙◌, subst, arith}
 use Rattle.std.specs.List.{All}
-use Rattle.std.specs.Prelude.{◌&&◌}
 use Rattle.std.proofs.lemmas.List.{take-append-drop, drop-drop, append_assoc}
 use Rattle.sdh_pointer.specs.declared.reading.Action.{Action}
 use Rattle.sdh_pointer.specs.Reading.{action_on, after_word}
 use Rattle.sdh_elastic.specs.Turns.{given, next_action, is_held, value_after, word_for, IsChunk}
 use Rattle.sdh_elastic.specs.Lengths.{is_steady, is_last_steady}
 use Rattle.sdh_elastic.specs.History.{actions, fill, lasts, lengths, taken_in, count_given, held, last_action, last_given, given_in_all, value_of, last_word, heard}
-use Rattle.sdh_elastic.specs.Store.{Store, empty, stage_of, action_in, stage_after, fill_after, after_turn, store_of, reading_in, reading_of, IsBounded, CameBy}
+use Rattle.sdh_elastic.specs.Store.{Store, empty, stage_of, stage_after, fill_after, store_of, reading_in, IsBounded}
 use Rattle.sdh_elastic.proofs.Near.{bounded_after, no_drift, is_held_by, small_value}
 use Rattle.sdh_elastic.proofs.Course.{both, count_after, held_and, store_after, same_fill, same_action, next_stage, steady_now, new_store, swapped, and_true}
 use Rattle.sdh_elastic.proofs.Heard.{turn_is_heard}

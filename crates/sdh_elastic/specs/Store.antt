@@ -1,5 +1,5 @@
 -- What an elastic store keeps of its history, which is enough for all later turns, and how a turn changes it.
-use Rattle.std.specs.Prelude.{◌≡◌, ◌≢◌, ℕ, ◌+◌, ◌-◌, ◌≤◌, Bool, true, ◌&&◌, if◌then◌else◌, List, [], ◌∷◌, ◌++◌, length, take, drop}
+use Rattle.std.specs.Prelude.{◌≡◌, ℕ, ◌+◌, ◌-◌, ◌≤◌, Bool, true, ◌&&◌, if◌then◌else◌, List, [], ◌∷◌, ◌++◌, length, take, drop}
 use Rattle.sdh_pointer.specs.declared.reading.Reading.{Reading}
 use Rattle.sdh_pointer.specs.declared.reading.Mode.TheVariants as mode
 use Rattle.sdh_pointer.specs.declared.reading.Action.{Action}
@@ -9,7 +9,7 @@ use Rattle.sdh_elastic.specs.declared.stage.Stage.{Stage}
 use Rattle.sdh_elastic.specs.declared.stage.Stage.TheVariants.{First, Second, Moved, OneLater, TwoLater, Free}
 use Rattle.sdh_elastic.specs.declared.lengths.Lengths.{Lengths}
 use Rattle.sdh_elastic.specs.declared.lengths.Lengths.TheVariants.{Empty, One, Two, Three}
-use Rattle.sdh_elastic.specs.Turns.{given, moves, justified, is_held, value_after, word_for, IsChunk}
+use Rattle.sdh_elastic.specs.Turns.{given, moves, justified, value_after, word_for, IsChunk}
 use Rattle.sdh_elastic.specs.Lengths.{is_steady, last_lengths, with_length, keeps_steady}
 use Rattle.sdh_elastic.specs.History as history
 

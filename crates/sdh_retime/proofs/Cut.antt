@@ -1,5 +1,5 @@
 -- The chunks that are cut off one after the other.
-use Rattle.std.proofs.Common.{◌≡◌, ℕ, zero, suc, ◌+◌, ◌*◌, ◌≤◌, List, [], ◌∷◌, length, refl, ap, ◌∙◌, arith}
+use Rattle.std.proofs.Common.{◌≡◌, ℕ, zero, suc, ◌+◌, List, [], ◌∷◌, length, refl, arith}
 use Rattle.sdh_retime.specs.Digits.{size_at, offset_at, chunk_at, chunks}
 
 pub no_chunks : (digits bytes : List ℕ) → chunks digits bytes 0 ≡ []

@@ -1,12 +1,12 @@
 -- What the parts of an answer come to.
-use Rattle.std.proofs.Common.{◌≡◌, ◌≢◌, ℕ, List, [], ◌∷◌, Option, Some, None, Result, Ok, Err, sym, ap, subst}
+use Rattle.std.proofs.Common.{◌≡◌, ℕ, List, Option, Some, None, Result, Ok, Err, subst}
 use Rattle.std.specs.Prelude.{IfOk, IfSome}
 use Rattle.std.specs.Io.KnownBytes.{Appends}
 use Rattle.sdh_outside.specs.Writing.{AppendsFewer}
 use Rattle.sdh_retime.specs.declared.status.Status.{Status}
 use Rattle.sdh_retime.specs.declared.status.Status.TheVariants as status
 use Rattle.sdh_retime.specs.Digits.{IsDigits}
-use Rattle.sdh_retime.specs.Outcome.{IsRunOutcome, IsOutcome, Writes, Answers, UnsteadyBy, AreUnsteady, number_of}
+use Rattle.sdh_retime.specs.Outcome.{IsRunOutcome, IsOutcome, Writes, UnsteadyBy}
 use Rattle.sdh_retime.proofs.Unsteady.{drifts_are_unsteady}
 
 pub some_then : {X : Type 0} (P Q : X → Type 0) (o : Option X) → ((x : X) → P x → Q x) → IfSome o P → IfSome o Q

@@ -1,12 +1,12 @@
 -- One more chunk of a run, and how a run ends.
-use Rattle.std.proofs.Common.{◌≡◌, ℕ, suc, ◌+◌, ◌-◌, ◌*◌, ◌<◌, ◌≤◌, false, List, [], ◌∷◌, ◌++◌, length, take, drop, refl, ap, sym, ◌∙◌, subst, add-one, arith}
+use Rattle.std.proofs.Common.{◌≡◌, ℕ, ◌+◌, ◌-◌, ◌<◌, ◌≤◌, false, List, ◌∷◌, ◌++◌, length, take, drop, ap, sym, ◌∙◌, subst, add-one, arith}
 use Rattle.sdh_report.specs.Written.{Written, with_part}
 use Rattle.sdh_elastic.specs.History.{lasts, lengths}
 use Rattle.sdh_elastic.specs.Store.{Store, CameBy}
 use Rattle.sdh_retime.specs.Digits.{size_at, offset_at, chunk_at, chunks}
 use Rattle.sdh_retime.specs.Lines.{last_lines, lines_of, left_line, drift_line}
 use Rattle.sdh_retime.specs.Outcome.{Runs, IsDone, IsDrift}
-use Rattle.sdh_retime.proofs.Cut.{no_chunks, next_chunk, no_offset, next_offset, length-chunks}
+use Rattle.sdh_retime.proofs.Cut.{next_chunk, next_offset, length-chunks}
 
 -- the bytes that are cut off are the chunk
 pub cut_off : (digits bytes : List ℕ) (k at size : ℕ) → at ≡ offset_at digits k → size ≡ size_at digits k → take (at + size - at) (drop at bytes) ≡ chunk_at digits bytes k

@@ -1,16 +1,15 @@
 -- A drift comes only where four chunks in a row aren't steady.
-use Rattle.std.proofs.Common.{◌≡◌, ℕ, zero, suc, ◌+◌, ◌-◌, ◌<◌, ◌≤◌, ◌⊎◌, inl, inr, Bool, true, false, List, [], ◌∷◌, length, take, drop, get_or, refl, ap, sym, ◌∙◌, add-one, arith}
+use Rattle.std.proofs.Common.{◌≡◌, ℕ, zero, suc, ◌+◌, ◌<◌, ◌≤◌, ◌⊎◌, inl, inr, Bool, true, false, List, [], ◌∷◌, length, refl, ap, sym, ◌∙◌, arith}
 use Rattle.std.specs.Prelude.{◌&&◌, ◌%◌}
 use Rattle.std.specs.List.{All}
 use Rattle.std.proofs.lemmas.Bool.{cases_Bool, cases_lt, le-leb}
-use Rattle.std.proofs.lemmas.Grind.{common_steps}
 use Rattle.sdh_basics.proofs.Parts.{length-part}
 use Rattle.sdh_elastic.specs.Turns.{IsChunk}
 use Rattle.sdh_elastic.specs.Lengths.{are_four, is_steady, is_last_steady}
-use Rattle.sdh_elastic.specs.History.{lasts, lengths}
+use Rattle.sdh_elastic.specs.History.{lengths}
 use Rattle.sdh_elastic.proofs.Runs.{steady_runs_last}
-use Rattle.sdh_retime.specs.Digits.{IsDigit, IsDigits, size_at, offset_at, chunk_at, chunks}
-use Rattle.sdh_retime.specs.Outcome.{Runs, IsDrift, UnsteadyBy}
+use Rattle.sdh_retime.specs.Digits.{IsDigits, size_at, offset_at, chunk_at, chunks}
+use Rattle.sdh_retime.specs.Outcome.{IsDrift, UnsteadyBy}
 use Rattle.sdh_retime.proofs.Cut.{next_offset}
 
 -- the lengths of the first k chunks, the last one first

@@ -4,7 +4,6 @@ use Rattle.std.specs.Prelude.{ℕ, List, [], ◌∷◌, ◌++◌, codes, decimal
 use Rattle.sdh_basics.specs.Hexadecimal.{hex_of}
 use Rattle.sdh_pointer.specs.declared.reading.Action.{Action}
 use Rattle.sdh_pointer.specs.declared.reading.Action.TheVariants.{Normal, New, Up, Down, Ais}
-use Rattle.sdh_report.specs.Lines.{own_line}
 use Rattle.sdh_elastic.specs.History.{fill, lengths, last_action, last_given}
 
 abbrev pub action_word : Action → List ℕ

@@ -1,4 +1,4 @@
-use Rattle.std.proofs.Common.{◌≤◌, arith}
+use Rattle.std.proofs.Common.{arith}
 use Rattle.sdh_retime.proofs.Short.{length-given_line_other}
 use Rattle.sdh_retime.proofs.retiming.put_given.Goals as goal
 

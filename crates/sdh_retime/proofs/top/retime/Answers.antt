@@ -1,6 +1,6 @@
-use Rattle.std.proofs.Common.{◌≡◌, List, ℕ}
+use Rattle.std.proofs.Common.{List, ℕ}
 use Rattle.sdh_retime.specs.Digits.{words_of}
-use Rattle.sdh_retime.specs.Outcome.{Writes, Answers}
+use Rattle.sdh_retime.specs.Outcome.{Writes}
 use Rattle.sdh_retime.proofs.Endings.{some_then}
 use Rattle.sdh_retime.proofs.top.retime.Goals as goal
 

@@ -1,5 +1,5 @@
 -- A turn is the one of the definitions, and keeps the store bounded.
-use Rattle.std.proofs.Common.{◌≡◌, ◌<◌, ◌≤◌, ℕ, ◌+◌, ◌-◌, true, false, ◌⊎◌, inl, inr, length, ap, sym, ◌∙◌, arith}
+use Rattle.std.proofs.Common.{◌≡◌, ℕ, ◌+◌, ◌-◌, true, false, length, ap, sym, ◌∙◌, arith}
 use Rattle.sdh_pointer.specs.declared.reading.Action.{Action}
 use Rattle.sdh_pointer.specs.Reading.{action_on, after_word}
 use Rattle.sdh_elastic.specs.contracts.store.Elastic.{the_view}
@@ -82,7 +82,7 @@ returns-then-fill-lt-LEAST-clause-steady_run c = λ first past came h.
     let now = steady_now s n first past (rw (← c.self.view_is) at came) h in
     let bounds = no_drift s n c.self.invariant.1 c.requires now.0 now.1 in
     elim c.then-fill-lt-LEAST.branch [
-      then-fill-lt-LEAST-via-then-fill-lt-LEAST w ↦ absurd (omega (arith, would_be c, bounds.0, w.if-fill-lt-LEAST.true))
+      | then-fill-lt-LEAST-via-then-fill-lt-LEAST w ↦ absurd (omega (arith, would_be c, bounds.0, w.if-fill-lt-LEAST.true))
       | then-fill-lt-LEAST-via-else-fill-lt-LEAST+then-fill-gt-MOST w ↦ absurd (omega (arith, would_be c, bounds.1, w.if-fill-gt-MOST.true))
     ]
 
@@ -91,11 +91,11 @@ returns-then-fill-lt-LEAST-clause-steady c =
     let s : Store = the_view c.self.inside in
     let n = length c.args.input.now in
     let none : s.steady ≡ true → keeps_steady n s.lengths ≡ true → false ≡ true = λ steady four.
-      let bounds = no_drift s n c.self.invariant.1 c.requires steady four in
-      elim c.then-fill-lt-LEAST.branch [
-        then-fill-lt-LEAST-via-then-fill-lt-LEAST w ↦ absurd (omega (arith, would_be c, bounds.0, w.if-fill-lt-LEAST.true))
-        | then-fill-lt-LEAST-via-else-fill-lt-LEAST+then-fill-gt-MOST w ↦ absurd (omega (arith, would_be c, bounds.1, w.if-fill-gt-MOST.true))
-      ] in
+    let bounds = no_drift s n c.self.invariant.1 c.requires steady four in
+    elim c.then-fill-lt-LEAST.branch [
+      | then-fill-lt-LEAST-via-then-fill-lt-LEAST w ↦ absurd (omega (arith, would_be c, bounds.0, w.if-fill-lt-LEAST.true))
+      | then-fill-lt-LEAST-via-else-fill-lt-LEAST+then-fill-gt-MOST w ↦ absurd (omega (arith, would_be c, bounds.1, w.if-fill-gt-MOST.true))
+    ] in
     rw (← c.self.view_is) none
 
 pub returns-then-fill-lt-LEAST-clause-history_err : goal.returns-then-fill-lt-LEAST-clause-history_err
@@ -103,8 +103,8 @@ returns-then-fill-lt-LEAST-clause-history_err c = λ first past came.
     let s : Store = the_view c.self.inside in
     let n = length c.args.input.now in
     let not_held : is_held (fill_after s n) ≡ false =
-      elim c.then-fill-lt-LEAST.branch [
-        then-fill-lt-LEAST-via-then-fill-lt-LEAST w ↦ not_held_below (fill_after s n) (omega (arith, would_be c, w.if-fill-lt-LEAST.true))
-        | then-fill-lt-LEAST-via-else-fill-lt-LEAST+then-fill-gt-MOST w ↦ not_held_above (fill_after s n) (omega (arith, would_be c, w.if-fill-gt-MOST.true))
-      ] in
+    elim c.then-fill-lt-LEAST.branch [
+      | then-fill-lt-LEAST-via-then-fill-lt-LEAST w ↦ not_held_below (fill_after s n) (omega (arith, would_be c, w.if-fill-lt-LEAST.true))
+      | then-fill-lt-LEAST-via-else-fill-lt-LEAST+then-fill-gt-MOST w ↦ not_held_above (fill_after s n) (omega (arith, would_be c, w.if-fill-gt-MOST.true))
+    ] in
     drift_of_history s c.args.input.now first past (rw (← c.self.view_is) at came) not_held

@@ -1,4 +1,4 @@
-use Rattle.std.proofs.Common.{◌≡◌, ℕ, ◌+◌, ◌-◌, ◌*◌, ◌/◌, ◌<◌, ◌≤◌, length, ap, sym, ◌∙◌, subst, arith}
+use Rattle.std.proofs.Common.{◌+◌, ◌-◌, ◌/◌, ◌≤◌, length, ap, sym, ◌∙◌, subst, arith}
 use Rattle.sdh_report.specs.Written.{Written}
 use Rattle.sdh_elastic.specs.Store.{CameBy}
 use Rattle.sdh_retime.specs.Lines.{lines_of}

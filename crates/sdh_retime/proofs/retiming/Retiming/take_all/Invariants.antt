@@ -2,7 +2,6 @@ use Rattle.std.proofs.Common.{◌≡◌, ◌+◌, ◌-◌, ◌*◌, ◌/◌, ◌
 use Rattle.sdh_elastic.specs.Store.{reading_of, CameBy}
 use Rattle.sdh_retime.specs.Digits.{offset_at, chunks}
 use Rattle.sdh_retime.specs.Lines.{lines_of}
-use Rattle.sdh_retime.specs.Outcome.{Runs}
 use Rattle.sdh_retime.proofs.retiming.Retiming.take_all.Given as goal
 
 abbrev pub invariant-loop-at : goal.invariant-loop-at

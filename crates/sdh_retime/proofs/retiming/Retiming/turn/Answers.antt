@@ -1,4 +1,4 @@
-use Rattle.std.proofs.Common.{◌≡◌, ◌≤◌, ◌+◌, ◌-◌, length, ◌∙◌, arith}
+use Rattle.std.proofs.Common.{◌≤◌, length, ◌∙◌, arith}
 use Rattle.sdh_retime.specs.Lines.{turn_line, given_line}
 use Rattle.sdh_retime.proofs.Short.{turn_line_short, given_line_short}
 use Rattle.sdh_retime.proofs.Turns.{read_action, next_reading, room_after, lines_after}
