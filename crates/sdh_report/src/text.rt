@@ -66,8 +66,8 @@ impl Text {
         &self.bytes
     }
 
-    // Appends a part.
-    pub(crate) fn put(&mut self, part: &[u8])
+    /// Appends a part of a line.
+    pub fn put(&mut self, part: &[u8])
         requires { length part.now ≤ self.old.room }
         ensures { self.new ≡ with_part self.old part.now }
     {
@@ -75,8 +75,8 @@ impl Text {
         self.room -= part.len();
     }
 
-    // Appends a number in decimal.
-    pub(crate) fn put_number(&mut self, number: u64)
+    /// Appends a number in decimal.
+    pub fn put_number(&mut self, number: u64)
         requires { length (decimal number) ≤ self.old.room }
         ensures { self.new ≡ with_part self.old (decimal number) }
     {
@@ -84,8 +84,8 @@ impl Text {
         self.put(buffer.format(number).as_bytes());
     }
 
-    // Appends two digits for each byte.
-    pub(crate) fn put_hex(&mut self, bytes: &[u8])
+    /// Appends two hexadecimal digits for each byte.
+    pub fn put_hex(&mut self, bytes: &[u8])
         requires { 2 * length bytes.now ≤ self.old.room }
         ensures { self.new ≡ with_part self.old (hex_of bytes.now) }
     {

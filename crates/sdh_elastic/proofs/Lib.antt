@@ -1,0 +1,6 @@
+pub mod Parts
+pub mod Near
+pub mod Turning
+pub mod Course
+pub mod Heard
+pub mod Runs

@@ -1,0 +1,5 @@
+pub mod Turns
+pub mod Lengths
+pub mod History
+pub mod Store
+pub mod Laws

@@ -1,0 +1,158 @@
+-- What an elastic store keeps of its history, which is enough for all later turns, and how a turn changes it.
+use Rattle.std.specs.Prelude.{◌≡◌, ℕ, ◌+◌, ◌-◌, ◌≤◌, Bool, true, ◌&&◌, if◌then◌else◌, List, [], ◌∷◌, ◌++◌, length, take, drop}
+use Rattle.sdh_pointer.specs.declared.reading.Reading.{Reading}
+use Rattle.sdh_pointer.specs.declared.reading.Mode.TheVariants as mode
+use Rattle.sdh_pointer.specs.declared.reading.Action.{Action}
+use Rattle.sdh_pointer.specs.declared.reading.Action.TheVariants as action
+use Rattle.sdh_pointer.specs.Reading.{start, settled}
+use Rattle.sdh_elastic.specs.declared.stage.Stage.{Stage}
+use Rattle.sdh_elastic.specs.declared.stage.Stage.TheVariants.{First, Second, Moved, OneLater, TwoLater, Free}
+use Rattle.sdh_elastic.specs.declared.lengths.Lengths.{Lengths}
+use Rattle.sdh_elastic.specs.declared.lengths.Lengths.TheVariants.{Empty, One, Two, Three}
+use Rattle.sdh_elastic.specs.Turns.{given, moves, justified, value_after, word_for, IsChunk}
+use Rattle.sdh_elastic.specs.Lengths.{is_steady, last_lengths, with_length, keeps_steady}
+use Rattle.sdh_elastic.specs.History as history
+
+pub record Store : Type 0 where
+  -- the bytes held, the first to be given first
+  pub held : List ℕ
+  -- which turn is next, or how many lie behind turn 2 and the last justification
+  pub stage : Stage
+  -- the pointer value
+  pub value : ℕ
+  -- the pointer word of the last turn
+  pub word : ℕ
+  -- the lengths of the last three chunks
+  pub lengths : Lengths
+  -- whether the run was steady so far
+  pub steady : Bool
+
+-- a store that took nothing in
+abbrev pub empty : ℕ → Store
+empty value = record { held = []; stage = First; value = value; word = 0xFFFF; lengths = Empty; steady = true }
+
+-- ---- stages
+
+-- which stage follows turns that did this
+abbrev pub stage_of : List Action → Stage
+stage_of [] = First
+stage_of (a ∷ []) = Second
+stage_of (a ∷ b ∷ []) = if moves a then Moved else if moves b then OneLater else Free
+stage_of (a ∷ b ∷ c ∷ earlier) = if moves a then Moved else if moves b then OneLater else if moves c then TwoLater else Free
+
+-- what a turn in a stage does, by the fill before it
+abbrev pub action_in : Stage → ℕ → Action
+action_in First fill = action.Ais
+action_in Second fill = action.New
+action_in Moved fill = action.Normal
+action_in OneLater fill = action.Normal
+action_in TwoLater fill = action.Normal
+action_in Free fill = justified fill
+
+-- the stage after it
+abbrev pub stage_after : Stage → Action → Stage
+stage_after First a = Second
+stage_after Second a = Moved
+stage_after Moved a = OneLater
+stage_after OneLater a = TwoLater
+stage_after TwoLater a = Free
+stage_after Free a = if moves a then Moved else Free
+
+-- ---- a turn
+
+abbrev pub action_at : Store → Action
+action_at s = action_in s.stage (length s.held)
+
+-- the fill after a turn that takes in so many bytes
+abbrev pub fill_after : Store → ℕ → ℕ
+fill_after s n = length s.held + n - given (action_at s)
+
+-- the bytes that it gives, and what is held then
+abbrev pub given_at : Store → List ℕ → List ℕ
+given_at s input = take (given (action_at s)) (s.held ++ input)
+
+unfoldable pub after_turn : Store → List ℕ → Store
+after_turn s input = record {
+  held = drop (given (action_at s)) (s.held ++ input);
+  stage = stage_after s.stage (action_at s);
+  value = value_after (action_at s) s.value;
+  word = word_for (action_at s) s.value;
+  lengths = with_length (length input) s.lengths;
+  steady = s.steady && keeps_steady (length input) s.lengths;
+}
+
+-- ---- histories
+
+-- what is kept of a history, from the first pointer value
+unfoldable pub store_of : ℕ → List (List ℕ) → Store
+store_of first past = record {
+  held = history.held past;
+  stage = stage_of (history.actions (history.lengths past));
+  value = history.value_of first (history.actions (history.lengths past));
+  word = history.last_word first (history.actions (history.lengths past));
+  lengths = last_lengths (history.lengths past);
+  steady = is_steady (history.lengths past);
+}
+
+-- a store has come to this by a history without drifts
+pub record CameBy (first : ℕ) (past : List (List ℕ)) (s : Store) : Type 0 where
+  pub lasts : history.lasts (history.lengths past) ≡ true
+  pub kept : s ≡ store_of first past
+
+-- a turn that took this chunk in is the next one of a history: it gave these bytes and did this
+pub record GoesOn (first : ℕ) (past : List (List ℕ)) (chunk out : List ℕ) (a : Action) (s : Store) : Type 0 where
+  pub store : CameBy first (chunk ∷ past) s
+  pub bytes : out ≡ history.last_given (chunk ∷ past)
+  pub action : a ≡ history.last_action (chunk ∷ past)
+
+-- ---- what an interpreter keeps that has read all words so far
+
+unfoldable pub reading_in : Stage → ℕ → Reading
+reading_in First value = start
+reading_in Second value = start
+reading_in Moved value = settled mode.Norm value 0
+reading_in OneLater value = settled mode.Norm value 1
+reading_in TwoLater value = settled mode.Norm value 2
+reading_in Free value = settled mode.Norm value 3
+
+abbrev pub reading_of : Store → Reading
+reading_of s = reading_in s.stage s.value
+
+-- ---- bounds
+
+-- Every chunk of the last three is one.
+abbrev pub AreChunks : Lengths → Type 0
+AreChunks Empty = Unit {0}
+AreChunks (One a) = IsChunk a
+AreChunks (Two a b) = IsChunk a × IsChunk b
+AreChunks (Three a b c) = IsChunk a × IsChunk b × IsChunk c
+
+-- how far the fill of a steady run can be from a frame's bytes. After turn 2 and each justification it is the length of the
+-- last chunk, three more or fewer; the next three turns add what their chunks have more or fewer than a frame; and after
+-- four turns in a row these are three at most.
+abbrev pub IsNear : Stage → Lengths → ℕ → Type 0
+IsNear First Empty fill = fill ≡ 0
+IsNear Second (One a) fill = fill ≡ a
+IsNear Moved (Two a b) fill = (fill ≤ a + 3) × (a ≤ fill + 3)
+IsNear Moved (Three a b c) fill = (fill ≤ a + 3) × (a ≤ fill + 3)
+IsNear OneLater (Three a b c) fill = (fill + 2349 ≤ a + b + 3) × (a + b ≤ fill + 2352)
+IsNear TwoLater (Three a b c) fill = (fill + 4698 ≤ a + b + c + 3) × (a + b + c ≤ fill + 4701)
+IsNear Free (Three a b c) fill = (2343 ≤ fill) × (fill ≤ 2355)
+IsNear stage lengths fill = ⊥
+
+-- how many lengths there are in a stage, and the bytes held
+abbrev pub IsAt : Stage → Lengths → ℕ → Type 0
+IsAt First Empty fill = fill ≡ 0
+IsAt Second (One a) fill = fill ≡ a
+IsAt Moved (Two a b) fill = (2340 ≤ fill) × (fill ≤ 2358)
+IsAt Moved (Three a b c) fill = (2340 ≤ fill) × (fill ≤ 2358)
+IsAt OneLater (Three a b c) fill = (2340 ≤ fill) × (fill ≤ 2358)
+IsAt TwoLater (Three a b c) fill = (2340 ≤ fill) × (fill ≤ 2358)
+IsAt Free (Three a b c) fill = (2340 ≤ fill) × (fill ≤ 2358)
+IsAt stage lengths fill = ⊥
+
+pub record IsBounded (s : Store) : Type 0 where
+  pub at : IsAt s.stage s.lengths (length s.held)
+  pub chunks : AreChunks s.lengths
+  pub value : s.value ≤ 782
+  pub near : s.steady ≡ true → IsNear s.stage s.lengths (length s.held)

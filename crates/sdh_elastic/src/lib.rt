@@ -1,0 +1,16 @@
+//! Elastic stores. A node whose clock isn't the one of the line takes chunks in at the line's pace and gives frames at its
+//! own, and evens out the difference by pointer justifications (ITU-T G.707 clause 8.1). All numbers of the store are
+//! this project's own.
+#![tactic(auto)]
+
+pub mod laws;
+mod lengths;
+mod stage;
+mod store;
+
+pub use lengths::Lengths;
+pub use stage::Stage;
+pub use store::{Drift, Elastic};
+
+#[cfg(test)]
+mod tests;

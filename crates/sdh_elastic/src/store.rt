@@ -1,0 +1,176 @@
+//! The store and its turns.
+ghost use Rattle.std.specs.Prelude.{◌≡◌, ℕ, ◌+◌, ◌-◌, ◌<◌, ◌≤◌, ◌⊎◌, ◌↔◌, ◌&&◌, true, false, List, [], ◌∷◌, ◌++◌, length, take, drop, IfOk, OnOk, OnErr, IsOk, IsErr};
+ghost use Rattle.circular_buffer.specs.Buffer.{buffer};
+ghost use Rattle.sdh_pointer.specs.Reading.{action_on, after_word};
+ghost use Rattle.sdh_elastic.specs.Turns.{value_after, word_for, IsChunk};
+ghost use Rattle.sdh_elastic.specs.Lengths.{is_steady, with_length, keeps_steady};
+ghost use Rattle.sdh_elastic.specs.History.{actions, fill, lasts, lengths, last_word};
+ghost use Rattle.sdh_elastic.specs.Store.{empty, action_at, fill_after, given_at, after_turn, stage_after, reading_of, AreChunks, CameBy, GoesOn};
+
+use crate::lengths::Lengths;
+use crate::stage::{Stage, given, value_after, word_for};
+use circular_buffer::HeapCircularBuffer;
+use sdh_payload::Cells;
+use sdh_pointer::{Action, Word};
+use std::alloc::{AllocError, Global};
+use std::marker::Model;
+
+/// The fewest and the most bytes that are held after a turn.
+const LEAST: usize = 2340;
+
+const MOST: usize = 2358;
+
+/// Room for what is held and a chunk.
+const ROOM: usize = 4710;
+
+/// Fewer or more bytes would be held after a turn than a store holds.
+#[derive(Clone, Copy, Debug, PartialEq, Eq)]
+pub struct Drift;
+
+// What a store keeps of its turns besides the bytes.
+#[derive(Clone, Copy)]
+struct Course {
+    stage: Stage,
+    value: u16,
+    word: Word,
+    lengths: Lengths,
+    steady: bool,
+}
+
+impl Course {
+    // After a turn that takes in so many bytes and does this.
+    fn after(self, action: Action, length: u16) -> Course
+        requires value { self.value ≤ 782 }
+        requires chunks { AreChunks self.lengths }
+        requires short { length ≤ 2352 }
+        ensures stage { result.stage ≡ stage_after self.stage action }
+        ensures value { result.value ≡ value_after action self.value }
+        ensures word { result.word.0 ≡ word_for action self.value }
+        ensures lengths { result.lengths ≡ with_length length self.lengths }
+        ensures steady { result.steady ≡ (self.steady && keeps_steady length self.lengths) }
+    {
+        Course {
+            stage: self.stage.after(action),
+            value: value_after(action, self.value),
+            word: word_for(action, self.value),
+            lengths: self.lengths.with(length),
+            steady: self.steady && self.lengths.keeps_steady(length),
+        }
+    }
+}
+
+/// A store that takes a chunk in each turn and gives a frame's bytes from the second on. Its value in clauses is what it
+/// keeps of its history.
+#[derive(Drop)]
+pub struct Elastic {
+    held: HeapCircularBuffer<u8>,
+    course: Course,
+}
+
+impl Model for Elastic {
+    ghost use Rattle.std.specs.Prelude.{◌≡◌};
+    ghost use Rattle.sdh_elastic.specs.Store.{Store, IsBounded};
+
+    ghost Value = { Store };
+
+    ghost view = { λ e. record { held = e.held.items; stage = e.course.stage; value = e.course.value; word = e.course.word.0; lengths = e.course.lengths; steady = e.course.steady } };
+
+    ghost invariant = { λ e. (e.held.capacity ≡ 4710) × IsBounded (record { held = e.held.items; stage = e.course.stage; value = e.course.value; word = e.course.word.0; lengths = e.course.lengths; steady = e.course.steady }) };
+}
+
+// Moves the first bytes held to `out`, in one run or two.
+fn give(held: &mut HeapCircularBuffer<u8>, count: usize, out: &mut Cells)
+    requires there { count ≤ length held.old.items }
+    requires few { count ≤ 2352 }
+    ensures given { out.new ≡ take count held.old.items }
+    ensures left { held.new ≡ buffer (drop count held.old.items) held.old.capacity }
+{
+    let (front, back) = held.as_slices();
+    let from_front = front.len().min(count);
+    out.clear();
+    out.extend_from_slice(&front[..from_front]);
+    out.extend_from_slice(&back[..count - from_front]);
+    held.truncate_front(held.len() - count);
+}
+
+// Takes bytes in, and moves the first ones to `out`.
+fn exchange(held: &mut HeapCircularBuffer<u8>, input: &[u8], count: usize, out: &mut Cells)
+    requires room { length held.old.items + length input.now ≤ held.old.capacity }
+    requires there { count ≤ length held.old.items + length input.now }
+    requires few { count ≤ 2352 }
+    ensures given { out.new ≡ take count (held.old.items ++ input.now) }
+    ensures left { held.new ≡ buffer (drop count (held.old.items ++ input.now)) held.old.capacity }
+{
+    held.fill_from_slice(input);
+    give(held, count, out);
+}
+
+impl Elastic {
+    /// An empty store with this pointer value. It takes all its memory here.
+    pub fn try_new(alloc: Global, value: u16) -> Result<Elastic, AllocError>
+        requires { value ≤ 782 }
+        ensures empty { IfOk result (λ store. store ≡ empty value) }
+        ensures history { IfOk result (λ store. CameBy value [] store) }
+    {
+        let course = Course {
+            stage: Stage::First,
+            value,
+            word: Word(0xFFFF),
+            lengths: Lengths::Empty,
+            steady: true,
+        };
+        let held = HeapCircularBuffer::with_capacity(alloc, ROOM)?;
+        Ok(Elastic { held, course })
+    }
+
+    /// Takes a chunk in, and gives the bytes of a frame to `out`, in place of what that held: none in turn 1, and then
+    /// 2346, 2349 or 2352. The answer is what the turn does to the pointer.
+    pub fn turn(&mut self, input: &[u8], out: &mut Cells) -> Result<Action, Drift>
+        requires { IsChunk (length input.now) }
+        // What a turn does, by what is kept and by the whole history.
+        ensures ok { IfOk result (λ a. (a ≡ action_at self.old) × (out.new ≡ given_at self.old input.now) × (self.new ≡ after_turn self.old input.now)) }
+        ensures history { IfOk result (λ a. (first : ℕ) (past : List (List ℕ)) → CameBy first past self.old → GoesOn first past input.now out.new a self.new) }
+        ensures bytes { OnOk result (self.old.held ++ input.now ≡ out.new ++ self.new.held) }
+        ensures heard { IfOk result (λ a. (action_on (reading_of self.old) self.new.word ≡ a) × (after_word (reading_of self.old) self.new.word ≡ reading_of self.new)) }
+
+        // When it is a drift.
+        ensures drift { IsErr result ↔ ((fill_after self.old (length input.now) < 2340) ⊎ (2358 < fill_after self.old (length input.now))) }
+        ensures err { OnErr result ((self.new ≡ self.old) × (out.new ≡ out.old)) }
+        ensures history_err { OnErr result ((first : ℕ) (past : List (List ℕ)) → CameBy first past self.old → lasts (lengths (input.now ∷ past)) ≡ false) }
+        ensures steady { self.old.steady ≡ true → keeps_steady (length input.now) self.old.lengths ≡ true → IsOk result }
+        ensures steady_run { (first : ℕ) (past : List (List ℕ)) → CameBy first past self.old → is_steady (lengths (input.now ∷ past)) ≡ true → IsOk result }
+    {
+        let action = self.course.stage.action(self.held.len());
+        let fill = (self.held.len() + input.len()).saturating_sub(given(action));
+        if fill < LEAST || MOST < fill {
+            return Err(Drift);
+        }
+        exchange(&mut self.held, input, given(action), out);
+        self.course = self.course.after(action, input.len() as u16);
+        Ok(action)
+    }
+
+    /// The pointer word of the last turn, and all ones before the first.
+    pub fn word(&self) -> Word
+        ensures kept { result.0 ≡ self.now.word }
+        ensures history { (first : ℕ) (past : List (List ℕ)) → CameBy first past self.now → result.0 ≡ last_word first (actions (lengths past)) }
+    {
+        self.course.word
+    }
+
+    /// How many bytes are held.
+    pub fn fill(&self) -> usize
+        ensures kept { result ≡ length self.now.held }
+        ensures history { (first : ℕ) (past : List (List ℕ)) → CameBy first past self.now → result ≡ fill (lengths past) }
+    {
+        self.held.len()
+    }
+
+    /// Whether each four turns in a row so far took in between 9393 and 9399 bytes.
+    pub fn is_steady(&self) -> bool
+        ensures kept { result ≡ self.now.steady }
+        ensures history { (first : ℕ) (past : List (List ℕ)) → CameBy first past self.now → result ≡ is_steady (lengths past) }
+    {
+        self.course.steady
+    }
+}

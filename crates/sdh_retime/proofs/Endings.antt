@@ -1,0 +1,44 @@
+-- What the parts of an answer come to.
+use Rattle.std.proofs.Common.{◌≡◌, ℕ, List, Option, Some, None, Result, Ok, Err, subst}
+use Rattle.std.specs.Prelude.{IfOk, IfSome}
+use Rattle.std.specs.Io.KnownBytes.{Appends}
+use Rattle.sdh_outside.specs.Writing.{AppendsFewer}
+use Rattle.sdh_retime.specs.declared.status.Status.{Status}
+use Rattle.sdh_retime.specs.declared.status.Status.TheVariants as status
+use Rattle.sdh_retime.specs.Digits.{IsDigits}
+use Rattle.sdh_retime.specs.Outcome.{IsRunOutcome, IsOutcome, Writes, UnsteadyBy}
+use Rattle.sdh_retime.proofs.Unsteady.{drifts_are_unsteady}
+
+pub some_then : {X : Type 0} (P Q : X → Type 0) (o : Option X) → ((x : X) → P x → Q x) → IfSome o P → IfSome o Q
+some_then P Q (Some x) f h = f x h
+some_then P Q None f h = h
+
+pub ok_then : {X E : Type 0} (P Q : X → Type 0) (r : Result X E) → ((x : X) → P x → Q x) → IfOk r P → IfOk r Q
+ok_then P Q (Ok x) f h = f x h
+ok_then P Q (Err e) f h = h
+
+-- the turn of a run that ended with a drift
+pub unsteady_run : (digits bytes : List ℕ) (s : Status) (text : List ℕ) → IsDigits digits → IsRunOutcome digits bytes s text → (turn : ℕ) → s ≡ status.Drift turn → UnsteadyBy digits turn
+unsteady_run digits bytes (status.Drift t) text d run turn is =
+    let same : t ≡ turn = cc in
+    subst (UnsteadyBy digits) same (drifts_are_unsteady digits bytes run.0 t text d run.1)
+unsteady_run digits bytes status.Ok text d run turn is = absurd (cc)
+unsteady_run digits bytes status.Usage text d run turn is = absurd run
+unsteady_run digits bytes status.ReadFault text d run turn is = absurd run
+unsteady_run digits bytes status.WriteFault text d run turn is = absurd run
+unsteady_run digits bytes status.TooLong text d run turn is = absurd run
+unsteady_run digits bytes status.Memory text d run turn is = absurd run
+
+-- an outcome whose whole text was written
+pub whole : (words : List (List ℕ)) (bytes : List ℕ) (s : Status) (text : List ℕ) (old new : Option (List ℕ)) → IsOutcome words bytes s text → Appends old new text → Writes words bytes s old new
+whole words bytes status.Ok text old new is written = (text, is, written)
+whole words bytes status.Usage text old new is written = (text, is, written)
+whole words bytes status.ReadFault text old new is written = (text, is, written)
+whole words bytes status.TooLong text old new is written = (text, is, written)
+whole words bytes (status.Drift t) text old new is written = (text, is, written)
+whole words bytes status.WriteFault text old new is written = absurd is
+whole words bytes status.Memory text old new is written = absurd is
+
+-- an outcome of which a front was written
+pub front : (words : List (List ℕ)) (bytes : List ℕ) (s : Status) (text : List ℕ) (old new : Option (List ℕ)) → IsOutcome words bytes s text → AppendsFewer old new text → Writes words bytes status.WriteFault old new
+front words bytes s text old new is written = (s, text, is, written)

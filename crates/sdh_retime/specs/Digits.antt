@@ -1,0 +1,40 @@
+-- The program's word, and the chunks into which it cuts its input.
+use Rattle.std.specs.Prelude.{◌≡◌, ℕ, zero, suc, ◌+◌, ◌-◌, ◌%◌, ◌≤◌, List, [], ◌∷◌, length, take, drop, get_or, map, String, string_bytes}
+use Rattle.std.specs.List.{All}
+use Rattle.std.specs.declared.alloc.Global.{Global}
+
+-- a digit from `0` to `6`
+abbrev pub IsDigit : ℕ → Type 0
+IsDigit byte = (48 ≤ byte) × (byte ≤ 54)
+
+-- 1 to 64 of them
+pub record IsDigits (word : List ℕ) : Type 0 where
+  pub some : 1 ≤ length word
+  pub few : length word ≤ 64
+  pub each : All IsDigit word
+
+-- the words of a command line, as bytes
+abbrev pub words_of : List (String Global) → List (List ℕ)
+words_of words = map string_bytes words
+
+-- the words are one word of digits
+abbrev pub AreDigits : List (List ℕ) → Type 0
+AreDigits words = (word : List ℕ) × (words ≡ word ∷ []) × IsDigits word
+
+-- how many bytes chunk number k has, counted from 0: digit g means 2346 + g, and the digits repeat
+abbrev pub size_at : List ℕ → ℕ → ℕ
+size_at digits k = 2346 + (get_or digits (k % length digits) 48 - 48)
+
+-- how many bytes there are before it
+unfoldable pub offset_at : List ℕ → ℕ → ℕ
+offset_at digits zero = 0
+offset_at digits (suc k) = offset_at digits k + size_at digits k
+
+-- its bytes
+abbrev pub chunk_at : List ℕ → List ℕ → ℕ → List ℕ
+chunk_at digits bytes k = take (size_at digits k) (drop (offset_at digits k) bytes)
+
+-- the first k chunks, the last one first
+unfoldable pub chunks : List ℕ → List ℕ → ℕ → List (List ℕ)
+chunks digits bytes zero = []
+chunks digits bytes (suc k) = chunk_at digits bytes k ∷ chunks digits bytes k
