@@ -131,12 +131,14 @@ def along(parent, text, radius, place, size, name):
 
 
 class Drawing:
-    def __init__(self, look, parent=None):
+    """A step's drawing; on its own, with its style, unless a page will hold it."""
+
+    def __init__(self, look, page=False):
         self.look, self.plan, self.scene = look, look.plan, look.scene
         self.m = Measures(look.plan)
         box = "{:.0f} {:.0f} {:.0f} {:.0f}".format(-self.m.wide / 2, -self.m.high / 2, self.m.wide, self.m.high)
         self.root = ElementTree.Element("svg", {"class": "drawing", "viewBox": box, "role": "img"})
-        if parent is None:
+        if not page:
             self.root.set("xmlns", "http://www.w3.org/2000/svg")
             self.root.set("width", f"{self.m.wide:.0f}")
             self.root.set("height", f"{self.m.high:.0f}")
@@ -324,11 +326,6 @@ class Drawing:
         fits = 0.64 * size * len(circuit.name) <= (finish - begin) * radius - 14
         text = circuit.name if fits else f"#{number + 1}"
         along(group, text, radius, (begin, finish), size, f"lane{self.scene.number}-{number + 1}")
-
-
-def draw(look, parent=None):
-    """The drawing of one step; on its own, with its style, unless `parent` says that a page will hold it."""
-    return Drawing(look, parent).draw()
 
 
 def written(element):
