@@ -86,7 +86,7 @@ class Measures:
     def aside(self, slot):
         """How far from a node's middle a slot's ports and turns lie, as an angle; no two slots at the same place."""
         lane = self.lane_of[slot]
-        room = 0.4 * self.step - PORT / self.ring
+        room = 0.33 * self.step - PORT / self.ring
         between = min(4.5 / self.protection(max(self.lane_of)), room / max(1, self.lanes))
         return PORT / self.ring + between * lane
 
@@ -105,6 +105,11 @@ def arc_to(radius, start, end):
 
 def arc_path(radius, start, end):
     return "M{:.1f} {:.1f} ".format(*point(radius, start)) + arc_to(radius, start, end)
+
+
+def anchor(angle):
+    """How a text outside the ring is put to its point, so that it leads away from the ring."""
+    return "middle" if abs(math.sin(angle)) < 0.35 else "start" if math.sin(angle) > 0 else "end"
 
 
 def zigzag(radius, start, end):
@@ -131,12 +136,14 @@ def along(parent, text, radius, place, size, name):
 
 
 class Drawing:
-    def __init__(self, look, parent=None):
+    """A step's drawing; on its own, with its style, unless a page will hold it."""
+
+    def __init__(self, look, page=False):
         self.look, self.plan, self.scene = look, look.plan, look.scene
         self.m = Measures(look.plan)
         box = "{:.0f} {:.0f} {:.0f} {:.0f}".format(-self.m.wide / 2, -self.m.high / 2, self.m.wide, self.m.high)
         self.root = ElementTree.Element("svg", {"class": "drawing", "viewBox": box, "role": "img"})
-        if parent is None:
+        if not page:
             self.root.set("xmlns", "http://www.w3.org/2000/svg")
             self.root.set("width", f"{self.m.wide:.0f}")
             self.root.set("height", f"{self.m.high:.0f}")
@@ -152,6 +159,7 @@ class Drawing:
             self.draw_fibre(span, span, "east", self.m.ring + 5)
             self.draw_fibre(span, (span + 1) % self.plan.size, "west", self.m.ring - 5)
             self.draw_degrees(span)
+        self.under = add(self.root, "g")
         for number, circuit in enumerate(self.plan.circuits):
             self.draw_circuit(number, circuit)
         for at in range(self.plan.size):
@@ -196,8 +204,10 @@ class Drawing:
         fibres = (span, "east"), ((span + 1) % self.plan.size, "west")
         words = ["{}{}".format("→" if i == 0 else "←", self.scene.conditions[f]) for i, f in enumerate(fibres) if isinstance(self.scene.conditions[f], int)]
         if words:
-            x, y = point(self.m.ring + 24, self.m.angle(span) + self.m.step / 2)
-            add(self.root, "text", " ".join(words), class_="note label", x=x, y=y + 3, text_anchor="middle")
+            angle = self.m.angle(span) + self.m.step / 2
+            x, y = point(self.m.ring + 17, angle)
+            y += 9 if math.cos(angle) < -0.35 else 0
+            add(self.root, "text", " ".join(words), class_="note label", x=x, y=y + 3, text_anchor=anchor(angle))
 
     def draw_node(self, at):
         angle = self.m.angle(at)
@@ -229,12 +239,11 @@ class Drawing:
             if command is not None:
                 lines.append((f"⚑ {command} {side}", (at, side) in self.look.changed_commands))
         x, y = point(self.m.ring + NODE + 9, angle)
-        anchor = "middle" if abs(math.sin(angle)) < 0.35 else "start" if x > 0 else "end"
         up = 13 * (len(lines) - 1)
         y += -up if math.cos(angle) > 0.35 else 8 if math.cos(angle) < -0.35 else 4 - up / 2
         for i, (line, changed) in enumerate(lines):
             kind = "state changed-text" if changed else "state"
-            add(group, "text", line, class_=kind, x=x, y=y + 13 * i, text_anchor=anchor)
+            add(group, "text", line, class_=kind, x=x, y=y + 13 * i, text_anchor=anchor(angle))
 
     def draw_circuit(self, number, circuit):
         way = self.look.ways[circuit.name]
@@ -258,8 +267,9 @@ class Drawing:
         return start + aside, start + length * self.m.step - aside
 
     def line(self, group, kind, path, changed):
+        """What sets a line off lies below all circuits."""
         if changed:
-            add(group, "path", class_="changed", d=path)
+            add(self.under, "path", class_="changed", d=path)
         add(group, "path", class_=kind, d=path)
 
     def draw_lost(self, group, circuit, changed):
@@ -324,11 +334,6 @@ class Drawing:
         fits = 0.64 * size * len(circuit.name) <= (finish - begin) * radius - 14
         text = circuit.name if fits else f"#{number + 1}"
         along(group, text, radius, (begin, finish), size, f"lane{self.scene.number}-{number + 1}")
-
-
-def draw(look, parent=None):
-    """The drawing of one step; on its own, with its style, unless `parent` says that a page will hold it."""
-    return Drawing(look, parent).draw()
 
 
 def written(element):

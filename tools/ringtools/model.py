@@ -82,7 +82,7 @@ class Script:
         elif step.word == "moment":
             self.moment = step.number
         elif step.word == "slip":
-            ups, downs = self.slips[step.name, step.end]
+            ups, downs = self.slips.get((step.name, step.end), (0, 0))
             self.slips[step.name, step.end] = (ups + step.number, downs) if step.turn == "up" else (ups, downs + step.number)
 
     def run_to(self, last):

@@ -18,7 +18,9 @@ h3 { font-size: 1rem; margin: 1rem 0 .3rem; }
 section { border-top: 2px solid #333; margin-top: 1.4rem; padding-top: .8rem; }
 code { font-family: "DejaVu Sans Mono", Consolas, monospace; font-size: .92em; overflow-wrap: anywhere; }
 .step { display: grid; grid-template-columns: minmax(0, 1fr); gap: 1rem 1.6rem; }
-@media (min-width: 1000px) { .step { grid-template-columns: minmax(0, 11fr) minmax(0, 10fr); } }
+.changes { columns: 24rem; }
+@media (min-width: 1000px) { .step { grid-template-columns: minmax(0, 11fr) minmax(0, 10fr); }
+  .large { grid-template-columns: minmax(0, 1fr); } .large .tables { display: grid; grid-template-columns: minmax(0, 3fr) minmax(0, 2fr); gap: 0 1.6rem; } }
 .figure, .wide { overflow-x: auto; }
 .figure svg { display: block; width: 100%; height: auto; margin: 0 auto; }
 table { border-collapse: collapse; font-size: .85rem; }
@@ -36,7 +38,7 @@ ul, ol { margin: .2rem 0; padding-left: 1.5rem; }
 .legend svg { flex: none; background: #fff; }
 @media (max-width: 999px) { .wide table.nodes { min-width: 46rem; } .wide table.circuits { min-width: 54rem; } .wide table.spans { min-width: 34rem; } }
 @media print { body { max-width: none; padding: 0; font-size: 11px; -webkit-print-color-adjust: exact; print-color-adjust: exact; }
-  .step { display: block; } .figure svg { min-width: 0 !important; max-width: 16cm !important; } .figure, .wide { overflow: visible; }
+  .step, .large .tables { display: block; } .figure svg { min-width: 0 !important; max-width: 16cm !important; } .figure, .wide { overflow: visible; }
   tr, .figure { break-inside: avoid; } }
 """
 
@@ -159,10 +161,12 @@ def step_section(look):
         parts.append(f'<p class="alarm">Not what the restoration model says: port {escape(names)}.</p>')
     if look.before is not None:
         changes = [escape(change) for change in look.changes()]
-        parts.append("<h3>Changed since the step before</h3>" + (listing(changes) if changes else "<p>Nothing.</p>"))
+        parts.append("<h3>Changed since the step before</h3>" + (f'<div class="changes">{listing(changes)}</div>' if changes else "<p>Nothing.</p>"))
     parts.append(told_otherwise(look))
-    figure = drawing.written(drawing.draw(look, parent=True))
-    parts.append(f'<div class="step"><div class="figure">{figure}</div><div>{node_table(look)}{span_table(look)}</div></div>')
+    drawn = drawing.Drawing(look, page=True)
+    kind = "step large" if drawn.m.wide > 700 else "step"
+    figure = drawing.written(drawn.draw())
+    parts.append(f'<div class="{kind}"><div class="figure">{figure}</div><div class="tables">{node_table(look)}{span_table(look)}</div></div>')
     parts.append(circuit_table(look) + "</section>")
     return "\n".join(parts)
 

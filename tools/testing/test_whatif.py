@@ -3,6 +3,7 @@
 import csv
 import io
 import os
+import shutil
 import signal
 import subprocess
 import sys
@@ -115,9 +116,9 @@ class Whatif(unittest.TestCase):
         whole = (self.top / "out" / "table.csv").read_text()
         before = {path.name: path.stat().st_mtime_ns for path in (self.top / "out" / "cases").glob("*.status") if path.stem != "nothing"}
         parts = []
-        for k in (1, 2, 3):
-            self.ask("--shard", f"{k}/3")
-            parts.append((self.top / "out" / f"table-{k}-of-3.csv").read_text().split("\n", 1))
+        for k in (1, 2):
+            self.ask("--shard", f"{k}/2")
+            parts.append((self.top / "out" / f"table-{k}-of-2.csv").read_text().split("\n", 1))
         self.assertEqual("\n".join([parts[0][0], "".join(rows for _, rows in parts)]), whole)
         after = {path.name: path.stat().st_mtime_ns for path in (self.top / "out" / "cases").glob("*.status") if path.stem != "nothing"}
         self.assertEqual(before, after)
@@ -162,10 +163,19 @@ class Whatif(unittest.TestCase):
         self.assertEqual({path: path.stat().st_mtime_ns for path in kept}, kept)
         self.assertEqual(len(self.table()), 36)
 
+    @unittest.skipUnless(shutil.which("parallel"), "GNU parallel isn't installed")
+    def test_with_parallel(self):
+        self.small()
+        self.ask()
+        table = self.table()
+        self.ask("--anew", "--sshlogin", "4/:")
+        self.assertEqual(self.table(), table)
+
     def test_refusals(self):
         self.assertIn(b"isn't known", self.ask("--also", "lock 2 east", wanted=1).stderr)
         self.assertIn(b"settles the ring itself", self.ask("--also", "settle", wanted=1).stderr)
         self.assertIn(b"K/N with K from 1 to N", self.ask("--shard", "3/2", wanted=1).stderr)
+        self.assertIn(b"at least one at a time", self.ask("--jobs", "0", wanted=1).stderr)
         self.assertIn(b"No such file", self.ask(program="/nowhere/sdhring", wanted=1).stderr)
         self.assertIn(b"bad plan 27 at 2: the moment lies before", self.ask("--also", "moment 5; moment 4", program=self.refusing("bad plan 27 at 2", 6), wanted=1).stderr)
         self.assertIn(b"line 1: an unknown line", self.ask(program=self.refusing("good morning", 0), wanted=1).stderr)
