@@ -65,17 +65,17 @@ shows_all shown (c ∷ cs) w k = shows_all shown cs (changed c w) (shows_changed
 counts : (w : World) (whole : IsWhole w) (p : ℕ) (d : Side) (k : ℕ) → 0 < w.ring.rounds → ShowsSo w.ring.settings.rate k w.ring.rounds (carried_on w.fibres (fibre_to (length w.ring.ids) p d)) (receiving_on d (node_at w.ring.nodes p)).section.last
     → CountsViolations w p d k
 counts w whole p d k some shows out comes = elim (cases_Bool (is_cut (condition_to w p d))) [
-    | inl cut ↦ (let none = sym (arrival_cut w whole p d cut) ∙ comes in absurd (cc))
-    | inr clear ↦
-        let rate = w.ring.settings.rate in
-        let n = n_of rate in
-        let last = (receiving_on d (node_at w.ring.nodes p)).section.last in
-        let sent = (whole.paired.carried (neighbour (length w.ring.ids) p d) (neighbour_inside w whole p d)).frames (opposite d) some in
-        let came = arrival_word w whole p d some clear in
-        let goes = word_goes w whole p d some clear sent.line sent.there in
-        ap (λ y. b2_violations n last (scrambled (9 * n) y)) (same_line out came.line _ comes came.there)
-        ∙ b2_by n last _ _ (b2_through rate (condition_to w p d) sent.line came.line sent.says.size goes)
-        ∙ shows sent.line some sent.there
+  | inl cut ↦ (let none = sym (arrival_cut w whole p d cut) ∙ comes in absurd (cc))
+  | inr clear ↦
+      let rate = w.ring.settings.rate in
+      let n = n_of rate in
+      let last = (receiving_on d (node_at w.ring.nodes p)).section.last in
+      let sent = (whole.paired.carried (neighbour (length w.ring.ids) p d) (neighbour_inside w whole p d)).frames (opposite d) some in
+      let came = arrival_word w whole p d some clear in
+      let goes = word_goes w whole p d some clear sent.line sent.there in
+      ap (λ y. b2_violations n last (scrambled (9 * n) y)) (same_line out came.line _ comes came.there)
+      ∙ b2_by n last _ _ (b2_through rate (condition_to w p d) sent.line came.line sent.says.size goes)
+      ∙ shows sent.line some sent.there
 ]
 
 pub violations_are_of_the_round_before : ViolationsAreOfTheRoundBefore
@@ -94,14 +94,14 @@ violations_are_of_the_round_before w first second p d whole may may_then h =
     let shown : ℕ → Side → ℕ = λ q e. shown_by (condition_to before q e) in
     let ran : 0 < before.ring.rounds = (let e = (left_all first one).rounds in omega arith) in
     let shows_two : AllShow shown two = λ e q low.
-        (let inside : q < length before.ring.nodes = (let len = length-after before in omega arith) in
-        shows_later before whole_before q e inside ran (keeps_all first one (keeps_one w whole) (opposite e) (neighbour (length before.ring.ids) q e) (neighbour_inside before whole_before q e))) in
+    (let inside : q < length before.ring.nodes = (let len = length-after before in omega arith) in
+    shows_later before whole_before q e inside ran (keeps_all first one (keeps_one w whole) (opposite e) (neighbour (length before.ring.ids) q e) (neighbour_inside before whole_before q e))) in
     let shows_now = shows_all shown second two shows_two in
     let ran_now : 0 < now.ring.rounds = (let e = (left_all second two).rounds in omega arith) in
     let inside : p < length now.ring.nodes =
-        (let ids_one = ap (λ (ids : List ℕ). length ids) (left_all first one).ids in
-        let ids_two = ap (λ (ids : List ℕ). length ids) (left_all second two).ids in
-        let a = count w whole.placed in
-        let b = count now whole_now.placed in
-        omega arith) in
+    (let ids_one = ap (λ (ids : List ℕ). length ids) (left_all first one).ids in
+    let ids_two = ap (λ (ids : List ℕ). length ids) (left_all second two).ids in
+    let a = count w whole.placed in
+    let b = count now whole_now.placed in
+    omega arith) in
     counts now whole_now p d (shown p d) ran_now (shows_now d p inside)

@@ -19,6 +19,7 @@ ghost use Rattle.sdh_carrying.specs.Laws.{Restores};
 ghost use Rattle.sdh_converging.specs.Laws.{enough_for};
 ghost use Rattle.sdh_ring.specs.Outcome.{Outcome};
 ghost use Rattle.sdh_circuits.specs.Provisioned.{end_of};
+
 use crate::faults::{PlantFault, SettleError};
 use crate::receiving::hear;
 use crate::sending::send_all;
