@@ -1,3 +1,1 @@
-pub mod Reports
-pub mod Moved
 pub mod Outcome

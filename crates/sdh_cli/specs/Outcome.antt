@@ -1,27 +1,21 @@
 -- How a call of the program ends: each status, when it is answered, and the text that goes with it.
-use Rattle.std.specs.Prelude.{◌≡◌, ◌≢◌, ℕ, ◌<◌, ◌≤◌, List, [], ◌∷◌, ◌++◌, length, codes, decimal, map, Option, Some, None, String, string_bytes}
+use Rattle.std.specs.Prelude.{◌≡◌, ◌≢◌, ℕ, ◌<◌, ◌≤◌, true, List, [], ◌∷◌, ◌++◌, length, codes, map, Option, Some, None, String, string_bytes}
 use Rattle.std.specs.declared.alloc.Global.{Global}
 use Rattle.std.specs.Io.KnownBytes.{Appends, Keeps}
+use Rattle.toml.specs.Data.{Members}
 use Rattle.sdh_outside.specs.Writing.{AppendsFewer}
-use Rattle.sdh_report.specs.Lines.{own_line}
+use Rattle.sdh_plant.specs.Fibres.{Fibres}
+use Rattle.sdh_plant.specs.Arrivals.{Knows}
 use Rattle.sdh_plan.specs.Planned.{Planned}
-use Rattle.sdh_plan.specs.Document.{IsNoDocument}
-use Rattle.sdh_plan.specs.FirstForm.{IsPlan, IsOtherForm}
-use Rattle.sdh_cli.specs.declared.status.Status.{Status}
-use Rattle.sdh_cli.specs.declared.status.Status.TheVariants as status
-use Rattle.sdh_cli.specs.Reports.{done_text}
-
--- the number of a status, with which the program ends
-abbrev pub number_of : Status → ℕ
-number_of status.Ok = 0
-number_of status.Usage = 2
-number_of status.ReadFault = 3
-number_of status.WriteFault = 4
-number_of status.NotToml = 5
-number_of (status.Unsettled k) = 7
-number_of status.TooLong = 9
-number_of status.NotBuilt = 11
-number_of status.Memory = 70
+use Rattle.sdh_plan.specs.Check.{answer}
+use Rattle.sdh_plan.specs.Document.{IsDocument, IsNoDocument}
+use Rattle.sdh_plan.specs.Plans.{checks}
+use Rattle.sdh_plan.specs.Answers.{IsPlanOf}
+use Rattle.sdh_report.specs.declared.status.Status.{Status}
+use Rattle.sdh_report.specs.declared.status.Status.TheVariants as status
+use Rattle.sdh_report.specs.declared.listing.Listing.TheVariants as listing
+use Rattle.sdh_report.specs.Statuses.{last_line}
+use Rattle.sdh_script.specs.Plans.{world_of, ran_of, Comes, ComesKnown, IsOwedText}
 
 -- the words of a command line, as bytes
 abbrev pub words_of : List (String Global) → List (List ℕ)
@@ -36,34 +30,47 @@ pub record IsRead (words : List (List ℕ)) (bytes : List ℕ) : Type 0 where
   pub run : words ≡ run_words
   pub short : length bytes ≤ 1048576
 
--- how the run of a plan ends: where the limit leaves no room for a quiet window, which ends at round 128, the first settle
--- step is unsettled; otherwise each one has its report
-abbrev pub IsPlanOutcome : Planned → Status → List ℕ → Type 0
-IsPlanOutcome plan (status.Unsettled k) text = (plan.limit ≤ 128) × (k ≡ 1) × (text ≡ own_line (codes "unsettled " ++ decimal k))
-IsPlanOutcome plan status.Ok text = (128 < plan.limit) × (text ≡ done_text plan)
-IsPlanOutcome plan _ text = ⊥
+-- a plan was run over new fibres: the text is that of the reports, and the last line. What the reports are is told over every
+-- plant, where the arrivals are known, and over honest fibres
+pub record IsPlanOutcome (plan : Planned) (f : Fibres) (end : Status) (text : List ℕ) (left : Fibres) : Type 0 where
+  pub reports : List ℕ
+  pub text_is : text ≡ reports ++ last_line end
+  pub ran : Comes plan listing.Reports f reports end left
+  pub known : Knows (world_of plan f).fibres → ComesKnown plan listing.Reports f reports end left
+  pub owed : f.honest ≡ true → IsOwedText plan listing.Reports reports end
 
--- the words and the bytes of the source come to this status, with this text. Nothing comes to a write fault or to want of
--- memory: they may stand in place of an outcome
-abbrev pub IsOutcome : List (List ℕ) → List ℕ → Status → List ℕ → Type 0
-IsOutcome words bytes status.Usage text = (words ≢ run_words) × (text ≡ own_line (codes "usage: sdhring run, check, drop NAME END, big NUMBER"))
-IsOutcome words bytes status.ReadFault text = (words ≡ run_words) × (text ≡ own_line (codes "read fault"))
-IsOutcome words bytes status.TooLong text = (words ≡ run_words) × (1048576 < length bytes) × (text ≡ own_line (codes "too long"))
-IsOutcome words bytes status.NotToml text = IsRead words bytes × IsNoDocument bytes × (text ≡ own_line (codes "not toml"))
-IsOutcome words bytes status.NotBuilt text = IsRead words bytes × IsOtherForm bytes × (text ≡ own_line (codes "not built"))
-IsOutcome words bytes (status.Unsettled k) text = IsRead words bytes × ((plan : Planned) × IsPlan bytes plan × IsPlanOutcome plan (status.Unsettled k) text)
-IsOutcome words bytes status.Ok text = IsRead words bytes × ((plan : Planned) × IsPlan bytes plan × IsPlanOutcome plan status.Ok text)
-IsOutcome words bytes status.WriteFault text = ⊥
-IsOutcome words bytes status.Memory text = ⊥
+-- the last line is all of the text, and the fibres are left alone
+abbrev pub Says : Status → List ℕ → Fibres → Fibres → Type 0
+Says how text f left = (text ≡ last_line how) × (left ≡ f)
+
+-- the plan of these bytes was run
+abbrev pub IsRun : List (List ℕ) → List ℕ → Fibres → Status → List ℕ → Fibres → Type 0
+IsRun words bytes f how text left = IsRead words bytes × ((plan : Planned) × IsPlanOf bytes plan × IsPlanOutcome plan f how text left)
+
+-- the words, the bytes of the source and the fibres come to this status, with this text. Nothing comes to a write fault or to
+-- want of memory: they may stand in place of an outcome
+abbrev pub IsOutcome : List (List ℕ) → List ℕ → Fibres → Status → List ℕ → Fibres → Type 0
+IsOutcome words bytes f status.Usage text left = (words ≢ run_words) × Says status.Usage text f left
+IsOutcome words bytes f status.ReadFault text left = (words ≡ run_words) × Says status.ReadFault text f left
+IsOutcome words bytes f status.TooLong text left = (words ≡ run_words) × (1048576 < length bytes) × Says status.TooLong text f left
+IsOutcome words bytes f status.NotToml text left = IsRead words bytes × IsNoDocument bytes × Says status.NotToml text f left
+IsOutcome words bytes f (status.BadPlan reason place) text left =
+    IsRead words bytes × ((ms : Members) × IsDocument bytes ms × (answer (checks ms) ≡ Some (record { reason = reason; place = place }))) × Says (status.BadPlan reason place) text f left
+IsOutcome words bytes f (status.Unsettled k) text left = IsRun words bytes f (status.Unsettled k) text left
+IsOutcome words bytes f status.PlantFault text left = IsRun words bytes f status.PlantFault text left
+IsOutcome words bytes f status.Ok text left = IsRun words bytes f status.Ok text left
+IsOutcome words bytes f status.NoSuchPort text left = ⊥
+IsOutcome words bytes f status.WriteFault text left = ⊥
+IsOutcome words bytes f status.Memory text left = ⊥
 
 -- what was written when this status was answered: the outcome's whole text; with a write fault fewer bytes, from the front of
 -- an outcome's text; with want of memory nothing
-abbrev pub Writes : List (List ℕ) → List ℕ → Status → Option (List ℕ) → Option (List ℕ) → Type 0
-Writes words bytes status.WriteFault old new = (s : Status) × (text : List ℕ) × IsOutcome words bytes s text × AppendsFewer old new text
-Writes words bytes status.Memory old new = Keeps old new
-Writes words bytes s old new = (text : List ℕ) × IsOutcome words bytes s text × Appends old new text
+abbrev pub Writes : List (List ℕ) → List ℕ → Fibres → Status → Option (List ℕ) → Option (List ℕ) → Fibres → Type 0
+Writes words bytes f status.WriteFault old new left = (s : Status) × (text : List ℕ) × IsOutcome words bytes f s text left × AppendsFewer old new text
+Writes words bytes f status.Memory old new left = Keeps old new
+Writes words bytes f s old new left = (text : List ℕ) × IsOutcome words bytes f s text left × Appends old new text
 
--- the source tells a plan of the first form whose limit leaves room for a quiet window
-abbrev pub TellsSettlingPlan : Option (List ℕ) → Type 0
-TellsSettlingPlan None = ⊥
-TellsSettlingPlan (Some bytes) = (length bytes ≤ 1048576) × ((plan : Planned) × IsPlan bytes plan × (128 < plan.limit))
+-- the source tells a plan, the arrivals are known, and each settle step of its script has a quiet window within the limit
+abbrev pub TellsSettlingPlan : Option (List ℕ) → Fibres → Type 0
+TellsSettlingPlan None f = ⊥
+TellsSettlingPlan (Some bytes) f = (length bytes ≤ 1048576) × ((plan : Planned) × IsPlanOf bytes plan × Knows (world_of plan f).fibres × ((ran_of plan f).ending ≡ status.Ok))

@@ -1,6 +1,6 @@
 //! How the program ends.
-ghost use Rattle.std.specs.Prelude.{◌≡◌};
-ghost use Rattle.sdh_report.specs.Statuses.{number_of};
+ghost use Rattle.std.specs.Prelude.{◌≡◌, ◌≤◌, length};
+ghost use Rattle.sdh_report.specs.Statuses.{number_of, last_line};
 
 /// How the program ends. With each status but `WriteFault` and `Memory` goes a text.
 #[derive(Clone, Copy, Debug, PartialEq, Eq)]
@@ -49,4 +49,28 @@ impl Status {
             Status::Memory => 70,
         }
     }
+
+    /// Its last line has room in `LINE_MAX` bytes.
+    pub fn has_short_line(&self)
+        ensures { length (last_line self.now) ≤ 96 }
+    {
+        match *self {
+            Status::BadPlan { reason, place } => short_plan(reason, place),
+            Status::Unsettled(number) => short_step(number),
+            _ => (),
+        }
+    }
+}
+
+// Numbers of these sizes have few digits.
+fn short_plan(reason: u8, place: u32)
+    ensures { length (last_line (Status.BadPlan reason place)) ≤ 96 }
+{
+    let _ = (reason, place);
+}
+
+fn short_step(number: u32)
+    ensures { length (last_line (Status.Unsettled number)) ≤ 96 }
+{
+    let _ = number;
 }

@@ -3,6 +3,7 @@
 
 use sdh_cli::sdhring;
 use sdh_outside::{StdSink, StdSource};
+use sdh_plant::FibrePlant;
 use std::process::ExitCode;
 use std::{env, io};
 
@@ -26,5 +27,7 @@ fn main(rt: HostRuntime) -> ExitCode {
     };
     let mut source = StdSource::new(rt.stdin());
     let mut sink = StdSink::new(rt.stdout());
-    ExitCode::from(sdhring(rt.alloc(), &words, &mut source, &mut sink).number())
+    let mut plant = FibrePlant::new();
+    let status = sdhring(rt.alloc(), &words, &mut source, &mut sink, &mut plant);
+    ExitCode::from(status.number())
 }

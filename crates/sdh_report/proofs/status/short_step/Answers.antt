@@ -1,0 +1,7 @@
+use Rattle.std.proofs.Common.{arith}
+use Rattle.sdh_report.specs.declared.status.Status.TheVariants as status
+use Rattle.sdh_report.proofs.Short.{short-last_line}
+use Rattle.sdh_report.proofs.status.short_step.Goals as goal
+
+pub returns : goal.returns
+returns c = short-last_line (status.Unsettled c.args.number) (omega arith)
