@@ -9,7 +9,7 @@ use super::*;
 use sdh_circuits::{Asked, CircuitMap, End, PortId};
 use sdh_frame::{FrameBuf, Place, Rate};
 use sdh_kbytes::{Code, encode};
-use sdh_nodestate::NodeState;
+use sdh_nodestate::{NodeState, Shape, same_shape, shape_of};
 use sdh_overhead::{Section, write_section};
 use sdh_plant::Arrived;
 use sdh_request::{Command, Moment};
@@ -146,9 +146,18 @@ fn from_third(rt: &impl Abort, alloc: Global) -> FrameBuf
     west
 }
 
-// What the second node sends after an honest idle frame from the third, and this frame from the west. Whether it
-// switches west then, without a far end.
-fn after_west(rt: &impl Abort, alloc: Global, frame: &FrameBuf) -> ([(u8, u8); 2], bool)
+// A first frame with this first byte A1 and these K bytes.
+fn first_frame(rt: &impl Abort, alloc: Global, a1: u8, k1: u8, k2: u8) -> FrameBuf
+    ensures { result.rate ≡ Rate.Four }
+{
+    let mut frame = framed(rt, alloc, k1, k2);
+    frame.set(Place { row: 1, column: 1 }, a1);
+    frame
+}
+
+// What the second node makes of an honest idle frame from the third, and this frame from the west: its state, and the
+// words that it sends.
+fn after_west(rt: &impl Abort, alloc: Global, frame: &FrameBuf) -> (Shape, [(u8, u8); 2])
     requires { frame.now.rate ≡ Rate.Four }
 {
     let third = from_third(rt, alloc);
@@ -159,30 +168,81 @@ fn after_west(rt: &impl Abort, alloc: Global, frame: &FrameBuf) -> ([(u8, u8); 2
     hear(&mut second, Side::East, Arrived::Frame, &third);
     hear(&mut second, Side::West, Arrived::Frame, frame);
     turn(&mut second, &mut west, &mut east);
-    let alone = match second.state() {
-        NodeState::SwitchWest(switch) => switch.far().is_none(),
-        _ => false,
-    };
-    (sent(&second), alone)
+    (shape_of(second.state()), sent(&second))
 }
 
-const SWITCHED: ([(u8, u8); 2], bool) = ([(0xb1, 0x26), (0xb1, 0x29)], true);
+// Whether the second node is in this state and sends these words, west before east, after such a frame from the west.
+fn answers(
+    rt: &impl Abort,
+    alloc: Global,
+    from_west: (u8, u8, u8),
+    shape: Shape,
+    words: [(u8, u8); 2],
+) -> bool {
+    let (a1, k1, k2) = from_west;
+    let frame = first_frame(rt, alloc, a1, k1, k2);
+    let (found, said) = after_west(rt, alloc, &frame);
+    same_shape(found, shape) && said == words
+}
 
-const IDLE: ([(u8, u8); 2], bool) = ([(0x01, 0x20), (0x03, 0x20)], false);
+const ALONE: Shape = Shape::SwitchWest(None);
+
+// The words of a node that fails on the west side, and of one that asks for nothing.
+const FAILED: [(u8, u8); 2] = [(0xB1, 0x26), (0xB1, 0x29)];
+
+const NOTHING: [(u8, u8); 2] = [(0x01, 0x20), (0x03, 0x20)];
 
 #[test]
 fn a_hostile_neighbour(rt: HostRuntime) {
     let alloc = rt.alloc();
-    // the first byte A1 is wrong
-    let mut unframed = framed(&rt, alloc, 0x02, 0x10);
-    unframed.set(Place { row: 1, column: 1 }, 0xF7);
-    assert!(rt; after_west(&rt, alloc, &unframed) == SWITCHED);
-    // the low three bits of K2 are ones
-    assert!(rt; after_west(&rt, alloc, &framed(&rt, alloc, 0xFF, 0xFF)) == SWITCHED);
-    // the source isn't the neighbour
-    assert!(rt; after_west(&rt, alloc, &framed(&rt, alloc, 0xb2, 0x70)) == IDLE);
-    // a code that isn't used
-    assert!(rt; after_west(&rt, alloc, &framed(&rt, alloc, 0x42, 0x10)) == IDLE);
+    // The first byte A1, K1 and K2 from the west, the state, and the words west and east.
+    let table = [
+        // The first byte A1 is wrong.
+        ((0xF7, 0x02, 0x10), ALONE, FAILED),
+        // The low three bits of K2 are ones.
+        ((0xF6, 0xB2, 0x77), ALONE, FAILED),
+        ((0xF6, 0xFF, 0xFF), ALONE, FAILED),
+        // The source isn't the neighbour.
+        ((0xF6, 0xB2, 0x70), Shape::Idle, NOTHING),
+        // A code that isn't used.
+        ((0xF6, 0x42, 0x10), Shape::Idle, NOTHING),
+    ];
+    for (from_west, shape, words) in table {
+        assert!(rt;
+            answers(&rt, alloc, from_west, shape, words),
+            "{from_west:?}"
+        );
+    }
+}
+
+#[test]
+fn words_from_the_west(rt: HostRuntime) {
+    let alloc = rt.alloc();
+    // The first byte A1, K1 and K2 from the west, the state, and the words west and east.
+    let table = [
+        // The neighbour fails on the span between them.
+        ((0xF6, 0xB2, 0x10), ALONE, [(0x11, 0x21), (0xB1, 0x29)]),
+        // A long word about the span on the west side.
+        ((0xF6, 0xB2, 0x18), Shape::Idle, NOTHING),
+        // A long word for the third node is passed on.
+        (
+            (0xF6, 0xB3, 0x18),
+            Shape::Idle,
+            [(0x01, 0x20), (0xB3, 0x18)],
+        ),
+        // So is one between nodes that aren't in the ring.
+        (
+            (0xF6, 0xBF, 0x78),
+            Shape::Idle,
+            [(0x01, 0x20), (0xBF, 0x78)],
+        ),
+    ];
+    for (from_west, shape, words) in table {
+        assert!(rt;
+            answers(&rt, alloc, from_west, shape, words),
+            "{from_west:?}"
+        );
+    }
 }
 
 const PORT_B: PortId = PortId {
