@@ -1,22 +1,21 @@
 -- A slot is filled circuit by circuit.
-use Rattle.std.proofs.Common.{◌≡◌, ℕ, zero, suc, ◌+◌, ◌-◌, ◌%◌, ◌<◌, ◌≤◌, List, [], ◌∷◌, ◌++◌, length, get_or, Bool, true, false, cond, ◌==◌, All, Some, None, IfSome, refl, sym, ap, ◌∙◌, subst, arith, append_assoc}
+use Rattle.std.proofs.Common.{◌≡◌, ℕ, zero, suc, ◌+◌, ◌-◌, ◌%◌, ◌<◌, ◌≤◌, List, [], ◌∷◌, ◌++◌, get_or, false, cond, ◌==◌, All, Some, None, refl, sym, ap, ◌∙◌, subst, arith, append_assoc}
 use Rattle.std.proofs.lemmas.List.{append-nil}
 use Rattle.std.proofs.lemmas.List.Elements.{All-push}
 use Rattle.std.proofs.lemmas.Bool.{eqb-true}
 use Rattle.std.proofs.Math.Nat.{mod-lt}
 use Rattle.sdh_ringmap.specs.Places.{eastwards}
-use Rattle.sdh_ringmap.specs.Arcs.{holds_span}
 use Rattle.sdh_ringmap.proofs.Around.{eastwards-place}
-use Rattle.sdh_circuits.specs.Provisioned.{Provisioned, arc_of}
+use Rattle.sdh_circuits.specs.Provisioned.{Provisioned}
 use Rattle.sdh_circuits.specs.Provisioning.{Provisioning}
 use Rattle.sdh_circuits.specs.Checks.{with_circuit, refusal}
-use Rattle.sdh_plan.specs.Circuits.{kept_ring, provisioned}
+use Rattle.sdh_plan.specs.Circuits.{provisioned}
 use Rattle.sdh_plan.specs.Big.{Laying, drawn, next, spans_of, end_of, with_next, laid, next_circuit, slot_begun, circuits_from, state_behind, slot_circuits, behind_slot, big_nodes, big_circuits, big_script, big_settings, big_planned}
 use Rattle.sdh_plan.specs.declared.step.Step.{Step}
 use Rattle.sdh_plan.specs.Planned.{Planned, planned}
 use Rattle.sdh_plan.specs.Laid.{IsLaying, IsLaid, wish_laid}
 use Rattle.sdh_plan.proofs.Laid.{spans_some, held, is_false, not_refused}
-use Rattle.sdh_plan.proofs.Provisions.{keeps, kept_same}
+use Rattle.sdh_plan.proofs.Provisions.{keeps}
 
 -- a slot begins
 laying_begun : (x : ℕ) → IsLaying (slot_begun x)

@@ -1,12 +1,12 @@
 -- A circuit that is laid behind others is added: no check refuses it.
-use Rattle.std.proofs.Common.{◌≡◌, ◌≢◌, ℕ, zero, suc, ◌+◌, ◌-◌, ◌%◌, ◌<◌, ◌≤◌, ◌⊎◌, inl, inr, min, List, [], ◌∷◌, ◌++◌, length, get_or, drop, Bool, true, false, not, cond, ◌&&◌, ◌||◌, ◌==◌, nat_le, nat_lt, All, Option, Some, None, codes, refl, unwrap_or, sym, ap, ◌∙◌, subst, arith}
+use Rattle.std.proofs.Common.{◌≡◌, ℕ, ◌+◌, ◌-◌, ◌%◌, ◌<◌, ◌≤◌, List, ◌++◌, length, get_or, drop, Bool, true, false, not, cond, ◌&&◌, ◌==◌, nat_le, nat_lt, All, Option, Some, None, codes, refl, unwrap_or, sym, ap, ◌∙◌, subst, arith}
 use Rattle.std.specs.Prelude.{pos, Result, Err, Ok, IfNone, IfErr, OnOk}
 use Rattle.std.specs.List.{list_all, list_any, range_with_len}
 use Rattle.std.specs.Option.{option_map_or, is_some}
 use Rattle.std.specs.Ordering.{int_eq}
 use Rattle.std.specs.Fmt.{digits}
 use Rattle.std.specs.Str.{bytes_eq}
-use Rattle.std.proofs.lemmas.Bool.{le-leb, leb-true, ltb-true, and_parts, eqb-true, not-true}
+use Rattle.std.proofs.lemmas.Bool.{le-leb, ltb-true, and_parts, eqb-true}
 use Rattle.std.proofs.lemmas.List.FromFn.{length-range_with_len, get_or-range_with_len}
 use Rattle.std.proofs.lemmas.List.Folds.{list_all_at, list_any_none}
 use Rattle.std.proofs.lemmas.Slice.Eq.{bytes_eq-Decides}
@@ -19,12 +19,12 @@ use Rattle.sdh_ringmap.proofs.Around.{eastwards-place, eastwards_self}
 use Rattle.sdh_circuits.specs.Provisioned.{Provisioned, arc_of}
 use Rattle.sdh_circuits.specs.Provisioning.{Provisioning}
 use Rattle.sdh_circuits.specs.Naming.{is_name}
-use Rattle.sdh_circuits.specs.Checks.{Wish, circuit_of, do_share, is_within, node_of, place_of, is_free_name, has_room, checks, refusal, with_circuit}
+use Rattle.sdh_circuits.specs.Checks.{Wish, circuit_of, do_share, is_within, node_of, place_of, checks, refusal, with_circuit}
 use Rattle.sdh_circuits.specs.declared.AddError.{AddError}
 use Rattle.sdh_circuits.specs.declared.AddError.TheVariants as refused
 use Rattle.sdh_payload.specs.Customer.{is_text}
 use Rattle.sdh_plan.specs.Words.{decimal_from}
-use Rattle.sdh_plan.specs.Big.{Laying, drawn, next, spans_of, end_of, with_next, name_in, laid, next_circuit, big_nodes}
+use Rattle.sdh_plan.specs.Big.{Laying, drawn, next, spans_of, end_of, name_in, laid, next_circuit, big_nodes}
 use Rattle.sdh_plan.specs.Laid.{IsLaying, IsLaid, wish_with, wish_laid}
 
 no_longer : (b c : Bool) → (b ≡ false → c ≡ false) → c ≡ true → b ≡ true

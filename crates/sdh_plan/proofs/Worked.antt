@@ -1,5 +1,5 @@
 -- The large plan at some numbers: a circuit that was worked out by hand, and spans that are all covered once.
-use Rattle.std.proofs.Common.{◌≡◌, ℕ, [], ◌∷◌, List, Bool, true, ◌==◌, length, take, codes, refl}
+use Rattle.std.proofs.Common.{◌≡◌, ℕ, [], ◌∷◌, Bool, true, ◌==◌, length, take, codes, refl}
 use Rattle.std.specs.List.{list_all, range_with_len, filter}
 use Rattle.std.specs.Fmt.{digits}
 use Rattle.sdh_ringmap.specs.Places.{position_of}

@@ -1,5 +1,5 @@
 use Rattle.std.proofs.Common.{arith}
-use Rattle.sdh_plan.proofs.Filling.{filling_begun, filling_passes, filling_next, filled_circuits, filled_state, filled_laid}
+use Rattle.sdh_plan.proofs.Filling.{filling_begun, filling_passes, filling_next, filled_circuits, filled_state}
 use Rattle.sdh_plan.proofs.big.fill_slot.Goals as goal
 
 pub loop-left-init : goal.loop-left-init
