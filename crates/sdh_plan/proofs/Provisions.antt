@@ -13,11 +13,11 @@ use Rattle.sdh_plan.specs.Refusals.{IsRefused, refusal_at}
 use Rattle.sdh_plan.specs.Circuits.{circuit_in, circuit_faults, circuits_checks, members_of, kept_ring, provisioned}
 use Rattle.sdh_plan.proofs.Checking.{place_passes, place_fails}
 
-keeps : (nodes : List ℕ) (circuits : List Provisioned) (c : Provisioned) → Some nodes ≡ kept_ring nodes (circuits ++ c ∷ [])
+pub keeps : (nodes : List ℕ) (circuits : List Provisioned) (c : Provisioned) → Some nodes ≡ kept_ring nodes (circuits ++ c ∷ [])
 keeps nodes [] c = refl
 keeps nodes (d ∷ circuits) c = refl
 
-kept_same : (nodes : List ℕ) (circuits : List Provisioned) → IfSome (kept_ring nodes circuits) (λ kept. kept ≡ nodes)
+pub kept_same : (nodes : List ℕ) (circuits : List Provisioned) → IfSome (kept_ring nodes circuits) (λ kept. kept ≡ nodes)
 kept_same nodes [] = tt
 kept_same nodes (c ∷ circuits) = refl
 

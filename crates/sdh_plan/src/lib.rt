@@ -1,8 +1,10 @@
 //! The plan of a run, read from a TOML document.
 #![tactic(auto)]
 
+mod big;
 mod circuit;
 mod document;
+mod draws;
 mod error;
 mod form;
 mod past;
@@ -16,6 +18,7 @@ mod step;
 mod tests;
 mod words;
 
+pub use big::big_plan;
 pub use error::PlanError;
 pub use plan::Plan;
 pub use reading::read_plan;
