@@ -6,10 +6,12 @@ from .page import listing, whole
 
 STYLE = """
 table.matrix { font-size: .78rem; border-collapse: separate; border-spacing: 0; }
-.matrix th, .matrix td { border: 0; border-right: 1px solid #ccc; border-bottom: 1px solid #ccc; padding: .1rem .3rem; text-align: center; white-space: nowrap; }
+.matrix th, .matrix td { border: 0; border-right: 1px solid #ccc; border-bottom: 1px solid #ccc; padding: .1rem .3rem; }
+.matrix th, .matrix td { text-align: center; white-space: nowrap; }
 .matrix thead th { position: sticky; top: 0; vertical-align: bottom; z-index: 1; border-top: 1px solid #ccc; }
 .matrix thead th.circuit span { writing-mode: vertical-rl; transform: rotate(180deg); }
-.matrix th.failure { position: sticky; left: 0; text-align: left; font-weight: normal; white-space: normal; min-width: 11.5rem; max-width: 14rem; background: #f4f4f4; border-left: 1px solid #ccc; }
+.matrix th.failure { position: sticky; left: 0; text-align: left; font-weight: normal; white-space: normal; }
+.matrix th.failure { min-width: 11.5rem; max-width: 14rem; background: #f4f4f4; border-left: 1px solid #ccc; }
 .matrix thead th.failure { z-index: 2; background: #eee; font-weight: bold; }
 .matrix td.kept { color: #555; }
 .matrix td.over { background: #ffe0c2; color: #000; }
@@ -19,7 +21,8 @@ table.matrix { font-size: .78rem; border-collapse: separate; border-spacing: 0; 
 .matrix tr:hover td, .matrix tr:hover th { border-bottom-color: #000; }
 .scroll { overflow: auto; max-height: 92vh; border: 1px solid #999; }
 .key span { display: inline-block; padding: .05rem .45rem; border: 1px solid #999; margin: 0 .3rem 0 .8rem; }
-.key .kept { color: #555; } .key .over { background: #ffe0c2; } .key .lost { background: #222; color: #fff; font-weight: bold; } .key .odd { font-weight: bold; outline: 2px dashed #cc3377; outline-offset: -2px; }
+.key .kept { color: #555; } .key .over { background: #ffe0c2; } .key .lost { background: #222; color: #fff; font-weight: bold; }
+.key .odd { font-weight: bold; outline: 2px dashed #cc3377; outline-offset: -2px; }
 @media (max-width: 600px) { .matrix th.failure { min-width: 5.6rem; max-width: 6.5rem; } }
 @media print { .scroll { overflow: visible; max-height: none; } .matrix thead th, .matrix th.failure { position: static; } .matrix { font-size: 6.5pt; } }
 """
@@ -71,11 +74,13 @@ class Answers:
 
     def words_on_runs(self):
         wrong = [verdict for verdict in self.verdicts if not verdict.ok]
-        yield f"{count_of(len(self.verdicts), 'failure')} of {count_of(len(self.circuits), 'circuit')} were run" + (f", part {self.shard} of the whole" if self.shard else "") + "."
+        part = f", part {self.shard} of the whole" if self.shard else ""
+        yield f"{count_of(len(self.verdicts), 'failure')} of {count_of(len(self.circuits), 'circuit')} were run{part}."
         if self.also:
             yield "Before each: " + ", ".join(f"<code>{escape(text)}</code>" for text in self.also) + "."
         if wrong:
-            yield f"<strong>{count_of(len(wrong), 'case')} didn't end Ok</strong>: " + escape(names(f"{verdict.case.words} ({verdict.status_words()})" for verdict in wrong)) + "."
+            each = names(f"{verdict.case.words} ({verdict.status_words()})" for verdict in wrong)
+            yield f"<strong>{count_of(len(wrong), 'case')} didn't end Ok</strong>: {escape(each)}."
         before = self.lost_before()
         if before:
             yield f"Lost before anything fails: {escape(names(before))}."
@@ -177,6 +182,7 @@ class Answers:
 
     def page(self, title):
         plan = self.plan
-        about = f"STM-{plan.rate}, {plan.size} nodes, {count_of(len(self.circuits), 'circuit')}, wait {plan.wait}. Each failure settles, is mended, settles, and settles once more when every wait is over."
+        about = f"STM-{plan.rate}, {plan.size} nodes, {count_of(len(self.circuits), 'circuit')}, wait {plan.wait}. "
+        about += "Each failure settles, is mended, settles, and settles once more when every wait is over."
         parts = [f"<h1>What if: {escape(title)}</h1>", f"<p>{about}</p>", listing(self.words()), KEY, self.matrix()]
         return whole(f"What if: {title}", "\n".join(parts), STYLE)

@@ -45,28 +45,49 @@ ul, ol { margin: .2rem 0; padding-left: 1.5rem; }
 # What the marks mean: a sample's inside in a box of 46 by 18, and the words.
 LEGEND = [
     ('<path class="fibre" d="M2 9H44"/><path class="arrow" style="fill:#555" d="M36 9l-8-4v8z"/>', "fibre, and its way"),
-    ('<path class="fibre-cut" d="M2 9H44"/><path class="cross" d="M18.5 4.500l9 9m0-9l-9 9"/>', "fibre cut"),
+    ('<path class="fibre-cut" d="M2 9H44"/><path class="cross" d="M18.5 4.5l9 9m0-9l-9 9"/>', "fibre cut"),
     ('<path class="fibre-degraded" d="M2 9l4-3 5 6 5-6 5 6 5-6 5 6 5-6 5 6 3-3"/>', "fibre degraded, →k eastwards, ←k westwards"),
     ('<rect x="2" y="2" width="42" height="14" fill="#d3dceb" stroke="#33415c" stroke-width="1.6"/>', "span whose request is applied"),
-    ('<path class="own" d="M5 9H41"/><circle class="port own" cx="5" cy="9" r="4"/><circle class="port own" cx="41" cy="9" r="4"/>', "circuit on its own arc; each port delivers its own customer's bytes"),
-    ('<path class="over" d="M2 9H21"/><path class="over protection" d="M21 9H44"/>', "circuit led over protection; the broken line is protection"),
+    (
+        '<path class="own" d="M5 9H41"/><circle class="port own" cx="5" cy="9" r="4"/><circle class="port own" cx="41" cy="9" r="4"/>',
+        "circuit on its own arc; each port delivers its own customer's bytes",
+    ),
+    (
+        '<path class="over" d="M2 9H21"/><path class="over protection" d="M21 9H44"/>',
+        "circuit led over protection; the broken line is protection",
+    ),
     ('<path class="unused" d="M2 9H44"/>', "stretch of its arc that it doesn't use now"),
-    ('<path class="lost" d="M8 9H38"/><rect class="port-ais" x="2" y="5" width="8" height="8"/><path stroke="#000" d="M2 5l8 8m0-8l-8 8"/><rect class="port-ais" x="36" y="5" width="8" height="8"/><path stroke="#000" d="M36 5l8 8m0-8l-8 8"/>', "circuit not joined; its ports deliver AIS"),
-    ('<path class="port-wrong" d="M23 2l8 13H15z"/>', "port that does NOT deliver what the restoration model says"),
-    ('<circle class="node node-idle" cx="12" cy="9" r="7.500"/><circle class="node node-pass" cx="34" cy="9" r="7.500"/>', "node idle; node that passes through"),
-    ('<circle class="node" cx="12" cy="9" r="7.500"/><path class="half" style="fill:#8a9bb8" d="M12 2.500a6.500 6.500 0 0 1 0 13z"/><circle class="node node-isolated" cx="34" cy="9" r="7.500"/>', "node that switches the shaded side; isolated node"),
+    (
+        '<path class="lost" d="M8 9H38"/><rect class="port-ais" x="2" y="5" width="8" height="8"/>'
+        '<rect class="port-ais" x="36" y="5" width="8" height="8"/>'
+        '<path stroke="#000" d="M2 5l8 8m0-8l-8 8M36 5l8 8m0-8l-8 8"/>',
+        "circuit not joined; its ports deliver AIS",
+    ),
+    ('<path class="port-wrong" style="fill:#cc3377" d="M23 2l8 13H15z"/>', "port that does NOT deliver what the restoration model says"),
+    (
+        '<circle class="node node-idle" cx="12" cy="9" r="7.5"/><circle class="node node-pass" cx="34" cy="9" r="7.5"/>',
+        "node idle; node that passes through",
+    ),
+    (
+        '<circle class="node" cx="12" cy="9" r="7.5"/><path class="half" style="fill:#8a9bb8" d="M12 2.5a6.5 6.5 0 0 1 0 13z"/>'
+        '<circle class="node node-isolated" cx="34" cy="9" r="7.5"/>',
+        "node that switches the shaded side; isolated node",
+    ),
+    ('<text x="23" y="14" text-anchor="middle" font-size="13">⚑</text>', "command of a side"),
     ('<path class="changed" d="M2 9H44"/><path class="own" d="M2 9H44"/>', "changed since the step before"),
 ]
 
 
 def legend():
-    items = [f'<li><svg class="drawing" width="46" height="18" viewBox="0 0 46 18" aria-hidden="true">{shape}</svg>{escape(words)}</li>' for shape, words in LEGEND]
+    sample = '<svg class="drawing" width="46" height="18" viewBox="0 0 46 18" aria-hidden="true">'
+    items = [f"<li>{sample}{shape}</svg>{escape(words)}</li>" for shape, words in LEGEND]
     return '<ul class="legend">' + "".join(items) + "</ul>"
 
 
 def whole(title, body, style=""):
     head = f'<meta charset="utf-8"><meta name="viewport" content="width=device-width, initial-scale=1"><title>{escape(title)}</title>'
-    return f'<!DOCTYPE html>\n<html lang="en"><head>{head}<style>{STYLE}{drawing.STYLE}{style}</style></head>\n<body>\n{body}\n</body></html>\n'
+    head += f"<style>{STYLE}{drawing.STYLE}{style}</style>"
+    return f'<!DOCTYPE html>\n<html lang="en"><head>{head}</head>\n<body>\n{body}\n</body></html>\n'
 
 
 def table(caption, heads, rows, changed=()):
@@ -76,7 +97,8 @@ def table(caption, heads, rows, changed=()):
     for index, row in enumerate(rows):
         kind = ' class="changed"' if index in changed else ""
         body += f"<tr{kind}>" + "".join(f"<td>{cell}</td>" for cell in row) + "</tr>\n"
-    return f'<div class="wide"><table class="{caption.split()[0].lower()}"><caption>{escape(caption)}</caption><thead><tr>{head}</tr></thead><tbody>\n{body}</tbody></table></div>'
+    kind, head = caption.split()[0].lower(), f"<caption>{escape(caption)}</caption><thead><tr>{head}</tr></thead>"
+    return f'<div class="wide"><table class="{kind}">{head}<tbody>\n{body}</tbody></table></div>'
 
 
 def listing(items, tag="ul"):

@@ -92,9 +92,9 @@ class Model(unittest.TestCase):
                 value, shown = owed(circuit, "a", now, hops)
                 self.assertEqual((value, shown), (told["offset_b"], stream.bytes(CHUNK * (now - hops), 16)))
 
-    def test_parities_in_streams(self):
-        """At these offsets a chunk begins a few bytes before B3."""
-        for offset in (435, 437, 440):
+    def test_path_overhead_in_streams(self):
+        """At these offsets a chunk begins a few bytes before B3, before J1, or with J1."""
+        for offset in (435, 437, 440, 522, 523, 526):
             plan = read_plan(bytes_of("healthy")[0].replace(b"slot = 1", b"slot = 1\noffset_b = %d" % offset))
             stream = Stream("BETA!", "c1", offset)
             for now in (2, 65, 128, 500):

@@ -52,6 +52,7 @@ class Texts(unittest.TestCase):
             (2, b"node 1 resting west b3 2a east b2 3a"),
             (2, b"node 1 pass west 43 2a east b2 3a"),
             (2, b"node 1 pass west b3 2b east b2 3a"),
+            (2, b"node 1 pass west b3 2a east 22 3a"),
             (2, b"node 1 pass west B3 2a east b2 3a"),
             (2, b"node 1 pass west b3 2a east b2"),
             (6, b"port c1 b ais"),

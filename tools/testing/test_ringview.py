@@ -1,6 +1,7 @@
 """Facts of ringview's pages over rings whose texts are known."""
 
 import re
+import tempfile
 import unittest
 import xml.etree.ElementTree as ElementTree
 from functools import cache
@@ -69,15 +70,21 @@ class Pages(unittest.TestCase):
                 count = len(re.findall(" norm ", ring(name)[1].read_text()))
                 self.assertEqual(text.count("its own customer's bytes, value"), count)
 
-    def test_another_customers_bytes_are_seen(self):
-        plan, text = ring("span-cut")
-        changed = text.parent / "changed.tmp"
-        changed.write_bytes(text.read_bytes().replace(b"00636465", b"00646566"))
-        try:
-            words = Page(call("ringview", plan, changed).stdout.decode()).text()
-        finally:
-            changed.unlink()
-        self.assertIn("Not what the restoration model says: port c1 a.", words)
+    def words_of_changed(self, name, old, new):
+        """The page of a ring whose text was changed."""
+        plan, text = ring(name)
+        self.assertIn(old, text.read_text())
+        with tempfile.NamedTemporaryFile("w") as changed:
+            changed.write(text.read_text().replace(old, new))
+            changed.flush()
+            return Page(call("ringview", plan, changed.name).stdout.decode()).text()
+
+    def test_what_is_not_owed_is_seen(self):
+        said = "Not what the restoration model says: port "
+        self.assertIn(f"{said}c1 a.", self.words_of_changed("span-cut", "00636465", "00646566"))
+        self.assertIn(f"{said}c1 a.", self.words_of_changed("span-cut", "norm 0 00636465", "norm 1 00636465"))
+        self.assertIn(f"{said}c1 b.", self.words_of_changed("span-cut", "port c1 b norm 0 00434445464741424344454647414243", "port c1 b ais"))
+        self.assertIn(f"{said}x a.", self.words_of_changed("node-cut-off", "port x a ais", "port x a norm 0 00414243"))
 
     def test_states_of_a_cut_span(self):
         nodes = read("span-cut").tables_of("Nodes")[0]
