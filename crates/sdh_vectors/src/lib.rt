@@ -1,0 +1,9 @@
+//! Worked rings as tests, over the public calls of the crates that make a ring. No other crate stands on this one.
+#![tactic(auto)]
+
+#[cfg(test)]
+mod rings;
+#[cfg(test)]
+mod told;
+#[cfg(test)]
+mod windows;

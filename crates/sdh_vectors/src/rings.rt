@@ -1,0 +1,127 @@
+//! A ring of four nodes with a circuit from node 1 to node 3, as the tests run it, and what is read of it.
+ghost use Rattle.std.specs.Prelude.{◌≡◌, ◌≤◌, ◌<◌, ◌+◌, ◌^◌, ℕ, IfOk, OnOk, false, length};
+ghost use Rattle.sdh_plant.specs.Fibres.{HasNoFibres, IsPrepared};
+
+use sdh_circuits::{Asked, CircuitMap};
+use sdh_frame::Rate;
+use sdh_kbytes::encode;
+use sdh_node::Settings;
+use sdh_nodestate::NodeState;
+use sdh_plant::{Condition, FibreEvent, Plant};
+use sdh_ring::{PlantFault, Ring};
+use sdh_ringmap::{Pos, RingMap, Side};
+use std::alloc::{AllocError, Global};
+
+const ASKED: Asked<'static> = Asked {
+    name: "c1",
+    from: 1,
+    to: 3,
+    slot: 1,
+    offset_a: 0,
+    offset_b: 0,
+    text_a: "ABCDEFG",
+    text_b: "abcdefg",
+    trace_a: "c1",
+    trace_b: "c1",
+};
+
+#[derive(Clone, Copy, Debug, PartialEq, Eq)]
+pub(crate) enum State {
+    Idle,
+    Pass,
+    West,
+    East,
+    Isolated,
+}
+
+pub(crate) fn state_of(state: &NodeState) -> State {
+    match state {
+        NodeState::Idle(_) => State::Idle,
+        NodeState::PassThrough(_) => State::Pass,
+        NodeState::SwitchWest(_) => State::West,
+        NodeState::SwitchEast(_) => State::East,
+        NodeState::Isolated(_) => State::Isolated,
+    }
+}
+
+/// The state of a node, and the K bytes that it sends west and east.
+pub(crate) type Line = (State, (u8, u8), (u8, u8));
+
+/// The line of the node at a position.
+pub(crate) fn line_of(ring: &Ring, at: usize) -> Option<Line> {
+    if at >= ring.map().len() {
+        return None;
+    }
+    let node = ring.node(Pos(at as u8));
+    Some((
+        state_of(node.state()),
+        encode(node.sent_k(Side::West)),
+        encode(node.sent_k(Side::East)),
+    ))
+}
+
+/// The ring of these nodes, and the plant laid for it; a refusal counts as want of memory here.
+pub(crate) fn laid<P: Plant>(
+    alloc: Global,
+    plant: &mut P,
+    rate: Rate,
+    ids: &[i64],
+) -> Result<Ring, AllocError>
+    requires { HasNoFibres (P.fibres plant.old) }
+    ensures prepared { IfOk result (λ ring. IsPrepared ring.settings.rate (length ring.ids) (P.fibres plant.new)) }
+    ensures whole { IfOk result (λ ring. ring.broken ≡ false) }
+    ensures new { IfOk result (λ ring. ring.rounds ≡ 0) }
+{
+    let map = RingMap::new(ids).map_err(|_| AllocError)?;
+    let mut circuits = CircuitMap::new(alloc, (rate.n() / 2) as u8);
+    circuits.add(&map, &ASKED).map_err(|_| AllocError)?;
+    let nodes = map.len();
+    plant.prepare(alloc, rate, nodes).map_err(|_| AllocError)?;
+    let settings = Settings {
+        rate,
+        threshold: 3,
+        wait: 10,
+    };
+    Ok(Ring::try_new(alloc, settings, map, circuits)?)
+}
+
+/// Brings the fibre that leaves a position on a side into a condition.
+pub(crate) fn apply<P: Plant>(
+    ring: &Ring,
+    plant: &mut P,
+    at: u8,
+    side: Side,
+    condition: Condition,
+) -> bool
+    requires prepared { IsPrepared ring.now.settings.rate (length ring.now.ids) (P.fibres plant.old) }
+    ensures prepared { IsPrepared ring.now.settings.rate (length ring.now.ids) (P.fibres plant.new) }
+{
+    if at as usize >= ring.map().len() {
+        return false;
+    }
+    match condition {
+        Condition::Degraded(k) if k == 0 || k > 12 => false,
+        _ => plant
+            .apply(FibreEvent {
+                at: Pos(at),
+                side,
+                condition,
+            })
+            .is_ok(),
+    }
+}
+
+/// Runs so many rounds.
+pub(crate) fn run<P: Plant>(ring: &mut Ring, plant: &mut P, rounds: u32) -> Result<(), PlantFault>
+    requires prepared { IsPrepared ring.old.settings.rate (length ring.old.ids) (P.fibres plant.old) }
+    requires whole { ring.old.broken ≡ false }
+    requires room { ring.old.rounds + rounds ≤ 2 ^ 32 }
+    ensures prepared { OnOk result (IsPrepared ring.new.settings.rate (length ring.new.ids) (P.fibres plant.new)) }
+    ensures whole { OnOk result (ring.new.broken ≡ false) }
+    ensures rounds { OnOk result (ring.new.rounds ≡ ring.old.rounds + rounds) }
+{
+    'turns: for _turn in 0..rounds {
+        ring.round(plant)?;
+    }
+    Ok(())
+}
