@@ -11,7 +11,7 @@ use Rattle.sdh_node.specs.Node.{Node}
 use Rattle.sdh_world.specs.Held.{HeldRing, at_place}
 use Rattle.sdh_world.specs.Rounds.{World, arrivals_of, frames_with, nodes_with, round_with, round}
 use Rattle.sdh_world.specs.Runs.{run, arrivals_in, run_with, course}
-use Rattle.sdh_world.specs.Quiet.{SettlesAt, NeverSettles, Settles, Unsettles, BreaksOff, settles_in}
+use Rattle.sdh_world.specs.Quiet.{SettlesAt, NeverSettles, BreaksOff, settles_in}
 use Rattle.sdh_world.specs.Changes.{changed}
 use Rattle.sdh_world.specs.Laws.{frames_in, Appends}
 use Rattle.sdh_world.proofs.Runs.{run_first, known_rounds, known_course, course_whole, known_settles, known_unsettles, knows_run, length-heard, length-frames, count_round}
@@ -124,7 +124,7 @@ frames_parted (suc j) m w =
     let same : run j v ≡ run (suc j) w = sym (run_first j w) in (
       h.0,
       ap (λ k. frames_in (arrivals_in k w) w) e ∙ ap (λ l. one ++ l) h.1 ∙ sym (append_assoc one (frames_in (arrivals_in j v) v) (frames_with (arrivals_of (run j v)) (run j v) ++ h.0))
-      ∙ ap (λ (u : World). (one ++ frames_in (arrivals_in j v) v) ++ (frames_with (arrivals_of u) u ++ h.0)) same,
+          ∙ ap (λ (u : World). (one ++ frames_in (arrivals_in j v) v) ++ (frames_with (arrivals_of u) u ++ h.0)) same,
     )
 
 take_past : (xs ys : List (List ℕ)) (k : ℕ) → take (length xs + k) (xs ++ ys) ≡ xs ++ take k ys
@@ -227,7 +227,7 @@ cut_short limit before later w left (Some k) e j out some size sends few never l
     let n = length w.ring.ids in
     let first = frames_in (arrivals_in j w) w in
     let s = (steps_are_computed.settled w limit k).0 e in
-    let low : j < k = elim (cases_lt j k) [ | inl less ↦ less | inr high ↦ absurd (never k high s.window) ] in
+    let low : j < k = elim (cases_lt j k) [ inl less ↦ less | inr high ↦ absurd (never k high s.window) ] in
     let rest = script limit (before + 1) later (run k w) in
     let r = report_of (before + 1) (run k w).ring in
     let at = left_run k w in
