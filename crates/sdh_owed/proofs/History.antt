@@ -1,15 +1,14 @@
 -- A script's history: after each settle step that ended the report shows what is owed under it.
-use Rattle.std.proofs.Common.{◌≡◌, ◌⊎◌, ℕ, zero, suc, ◌+◌, ◌-◌, ◌*◌, ◌<◌, ◌≤◌, List, [], ◌∷◌, ◌++◌, length, All, refl, ap, sym, ◌∙◌, subst, arith, inl, inr}
+use Rattle.std.proofs.Common.{◌≡◌, ℕ, ◌+◌, ◌-◌, List, [], ◌∷◌, ◌++◌, length, All, refl, ap, sym, ◌∙◌, subst, arith, inl, inr}
 use Rattle.std.proofs.lemmas.List.Elements.{All-cons, All-head, All-tail, All-nil}
 use Rattle.sdh_frame.specs.declared.Rate.{Rate}
 use Rattle.sdh_circuits.specs.Provisioning.{Provisioning}
 use Rattle.sdh_plant.specs.Fibres.{Fibres, IsHonest}
-use Rattle.sdh_plant.specs.declared.plant.FibreEvent.{FibreEvent}
 use Rattle.sdh_node.specs.declared.settings.Settings.{Settings}
 use Rattle.sdh_world.specs.Held.{new_ring}
 use Rattle.sdh_world.specs.Rounds.{World}
 use Rattle.sdh_world.specs.Runs.{run, run_with, course}
-use Rattle.sdh_world.specs.Quiet.{EndsWindow, SettlesAt, Settles}
+use Rattle.sdh_world.specs.Quiet.{EndsWindow, Settles}
 use Rattle.sdh_world.specs.Changes.{Change, changed, all_changed, Stretch, after_stretches, rounds_in, new_world}
 use Rattle.sdh_world.specs.Laws.{IsChangeAt}
 use Rattle.sdh_world.proofs.Runs.{known_settles}
@@ -23,7 +22,7 @@ use Rattle.sdh_carrying.specs.Laws.{IsRestored, SettledRingsRestore}
 use Rattle.sdh_carrying.proofs.Settles.{layout_stretches}
 use Rattle.sdh_plan.specs.declared.step.Step.{Step}
 use Rattle.sdh_plan.specs.declared.step.Step.TheVariants as step
-use Rattle.sdh_plan.specs.Steps.{Past, after}
+use Rattle.sdh_plan.specs.Steps.{Past}
 use Rattle.sdh_plan.specs.Scripts.{IsStepIn, AreSteps}
 use Rattle.sdh_report.specs.declared.status.Status.{Status}
 use Rattle.sdh_report.specs.declared.status.Status.TheVariants as status

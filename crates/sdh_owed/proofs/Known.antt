@@ -11,7 +11,7 @@ use Rattle.sdh_node.specs.Node.{Node}
 use Rattle.sdh_world.specs.Held.{HeldRing, at_place}
 use Rattle.sdh_world.specs.Rounds.{World, arrivals_of, frames_with, nodes_with, round_with, round}
 use Rattle.sdh_world.specs.Runs.{run, arrivals_in, run_with, course}
-use Rattle.sdh_world.specs.Quiet.{SettlesAt, NeverSettles, Settles, Unsettles, BreaksOff, settles_in}
+use Rattle.sdh_world.specs.Quiet.{SettlesAt, NeverSettles, BreaksOff, settles_in}
 use Rattle.sdh_world.specs.Changes.{changed}
 use Rattle.sdh_world.specs.Laws.{frames_in, Appends}
 use Rattle.sdh_world.proofs.Runs.{run_first, known_rounds, known_course, course_whole, known_settles, known_unsettles, knows_run, length-heard, length-frames, count_round}

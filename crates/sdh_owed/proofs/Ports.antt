@@ -1,5 +1,5 @@
 -- The ports of a restored ring show what they are owed.
-use Rattle.std.proofs.Common.{◌≡◌, ℕ, suc, ◌+◌, ◌-◌, Some, List, [], ◌∷◌, length, refl, ap, ◌∙◌, subst, arith}
+use Rattle.std.proofs.Common.{◌≡◌, ℕ, suc, ◌+◌, ◌-◌, Some, List, [], ◌∷◌, length, refl, ap, ◌∙◌, arith}
 use Rattle.std.specs.Prelude.{Bool, slice_get}
 use Rattle.sdh_circuits.specs.declared.End.{End}
 use Rattle.sdh_circuits.specs.declared.End.TheVariants.{A, B}
@@ -10,7 +10,7 @@ use Rattle.sdh_node.specs.Outlets.{Outlet}
 use Rattle.sdh_world.specs.Held.{HeldRing, outlet_at}
 use Rattle.sdh_world.specs.Rounds.{World}
 use Rattle.sdh_carrying.specs.Brought.{outlet_due}
-use Rattle.sdh_carrying.specs.Windows.{Layout, layout_of, size_of}
+use Rattle.sdh_carrying.specs.Windows.{layout_of}
 use Rattle.sdh_carrying.specs.Laws.{IsRestored}
 use Rattle.sdh_report.specs.Reports.{PortLine}
 use Rattle.sdh_owed.specs.Reports.{port_told, ports_from, report_of}

@@ -1,6 +1,5 @@
 -- The laws of scripts.
 use Rattle.std.specs.Prelude.{ℕ, ◌≡◌, ◌≤◌, List, [], length}
-use Rattle.sdh_frame.specs.Sizes.{n_of}
 use Rattle.sdh_circuits.specs.Provisioning.{Provisioning}
 use Rattle.sdh_plant.specs.Fibres.{Fibres}
 use Rattle.sdh_plant.specs.Arrivals.{Knows}

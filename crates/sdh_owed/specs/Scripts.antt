@@ -1,7 +1,6 @@
 -- What comes of a script. It is run step by step; a settle step that ends has a report.
 use Rattle.std.specs.Prelude.{ℕ, ◌≡◌, ◌⊎◌, ◌+◌, ◌*◌, List, [], ◌∷◌, ◌++◌, length, take, nat_le, if◌then◌else◌}
 use Rattle.std.specs.Option.{option_map_or}
-use Rattle.sdh_plant.specs.Arrivals.{Knows}
 use Rattle.sdh_world.specs.Rounds.{World}
 use Rattle.sdh_world.specs.Runs.{run, arrivals_in}
 use Rattle.sdh_world.specs.Quiet.{Settles, Unsettles, BreaksOff, settles_in}

@@ -1,5 +1,5 @@
 -- What a step of a script does to a ring and its fibres at once.
-use Rattle.std.specs.Prelude.{ℕ, List, [], ◌∷◌}
+use Rattle.std.specs.Prelude.{List, [], ◌∷◌}
 use Rattle.sdh_world.specs.Rounds.{World}
 use Rattle.sdh_world.specs.Changes as change
 use Rattle.sdh_world.specs.Changes.{Change, all_changed}

@@ -1,8 +1,7 @@
 -- Each line is short: 96 bytes are room enough, and 4,707 for the lines of a chunk.
-use Rattle.std.proofs.Common.{◌≡◌, ◌≢◌, ℕ, zero, suc, ◌+◌, ◌*◌, ◌^◌, ◌<◌, ◌≤◌, List, [], ◌∷◌, ◌++◌, length, take, drop, codes, decimal, arith, ap, ◌∙◌}
+use Rattle.std.proofs.Common.{◌≡◌, ℕ, zero, suc, ◌+◌, ◌*◌, ◌^◌, ◌<◌, ◌≤◌, List, [], ◌∷◌, ◌++◌, length, drop, codes, decimal, arith, ap, ◌∙◌}
 use Rattle.std.proofs.lemmas.List.{length-append, length-take}
 use Rattle.std.proofs.lemmas.Fmt.{length-decimal-le}
-use Rattle.sdh_kbytes.specs.KBytes.{first_byte, second_byte}
 use Rattle.sdh_basics.specs.Hexadecimal.{hex_of}
 use Rattle.sdh_basics.proofs.HexadecimalLaws.{length-hex_of}
 use Rattle.sdh_ringmap.specs.declared.Side.{Side}
@@ -17,7 +16,7 @@ use Rattle.sdh_report.specs.declared.node_line.StateWord.TheVariants as word
 use Rattle.sdh_report.specs.declared.node_line.NodeLine.{NodeLine}
 use Rattle.sdh_report.specs.declared.status.Status.{Status}
 use Rattle.sdh_report.specs.declared.status.Status.TheVariants as status
-use Rattle.sdh_report.specs.Lines.{step_ended, settle_line, state_text, word_text, node_line, end_letter, port_named, chunk_line, ais_line, port_line, row, row_line, chunk_rows, drop_lines, side_text, table_place, table_ends, table_line, count_line}
+use Rattle.sdh_report.specs.Lines.{step_ended, settle_line, state_text, word_text, node_line, end_letter, port_named, port_line, row, row_line, chunk_rows, drop_lines, side_text, table_place, table_ends, table_line, count_line}
 use Rattle.sdh_report.specs.Statuses.{last_line}
 use Rattle.sdh_report.proofs.Parts.{length-chunk_line}
 use Rattle.sdh_report.proofs.Rows.{rows_more, rows_none}

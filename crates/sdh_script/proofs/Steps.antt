@@ -6,7 +6,7 @@ use Rattle.sdh_plant.proofs.Calling.{stay_prepared}
 use Rattle.sdh_world.specs.Held.{HeldRing}
 use Rattle.sdh_world.specs.Rounds.{World}
 use Rattle.sdh_world.specs.Changes.{changed}
-use Rattle.sdh_world.specs.Quiet.{Settles, Unsettles, BreaksOff}
+use Rattle.sdh_world.specs.Quiet.{Settles}
 use Rattle.sdh_world.proofs.Runs.{held_run}
 use Rattle.sdh_plan.specs.declared.step.Step.{Step}
 use Rattle.sdh_plan.specs.declared.step.Step.TheVariants as step

@@ -1,5 +1,5 @@
 -- The lines of one node and of one circuit more, and counts of ports.
-use Rattle.std.proofs.Common.{◌≡◌, ℕ, suc, zero, ◌+◌, ◌*◌, ◌<◌, List, [], ◌∷◌, ◌++◌, length, take, get_or, Some, refl, ap, sym, ◌∙◌, arith, append-nil}
+use Rattle.std.proofs.Common.{◌≡◌, ℕ, suc, zero, ◌+◌, ◌*◌, ◌<◌, List, [], ◌∷◌, ◌++◌, length, take, Some, refl, ap, ◌∙◌, arith, append-nil}
 use Rattle.std.specs.Prelude.{slice_get, slice_index_or}
 use Rattle.std.specs.List.{flat_map}
 use Rattle.std.proofs.lemmas.Grind.{flat_map-append}
@@ -15,7 +15,7 @@ use Rattle.sdh_node.specs.declared.outlet.Delivered.{Delivered}
 use Rattle.sdh_node.specs.declared.outlet.Delivered.TheVariants.{Ais, Chunk}
 use Rattle.sdh_world.specs.Held.{HeldRing, outlet_at}
 use Rattle.sdh_report.specs.Lines.{node_line}
-use Rattle.sdh_report.specs.Reports.{PortLine, told_line, place_of, place_of_end, delivered_in, chunks_of, silences_of, chunks_in, silences_in}
+use Rattle.sdh_report.specs.Reports.{PortLine, told_line, place_of_end, delivered_in, chunks_of, silences_of, chunks_in, silences_in}
 use Rattle.sdh_owed.specs.Reports.{told_at, port_told, ports_from, ports_told}
 
 pub nodes_none : (r : HeldRing) → flat_map node_line (cells (told_at r) 0) ≡ []

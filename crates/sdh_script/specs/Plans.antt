@@ -1,5 +1,5 @@
 -- What comes of a plan over fibres that aren't there yet.
-use Rattle.std.specs.Prelude.{ℕ, ◌≡◌, ◌⊎◌, ◌*◌, List, [], length, take}
+use Rattle.std.specs.Prelude.{ℕ, ◌≡◌, ◌⊎◌, List, [], length, take}
 use Rattle.sdh_plant.specs.Fibres.{Fibres}
 use Rattle.sdh_world.specs.Held.{new_ring}
 use Rattle.sdh_world.specs.Rounds.{World}

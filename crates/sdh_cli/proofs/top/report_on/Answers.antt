@@ -1,5 +1,4 @@
-use Rattle.std.proofs.Common.{◌≡◌, ◌≤◌, true, length, ap, sym, ◌∙◌, arith}
-use Rattle.std.specs.Prelude.{IsTrue}
+use Rattle.std.proofs.Common.{◌≡◌, length, ap, arith}
 use Rattle.sdh_script.proofs.Plans.{on_ok}
 use Rattle.sdh_cli.specs.Outcome.{words_of, run_words, IsRead, IsOutcome}
 use Rattle.sdh_cli.proofs.Endings.{plan_ends, plan_outcome, no_usage, no_read_fault, its_own, at_all}

@@ -1,4 +1,4 @@
-use Rattle.std.proofs.Common.{◌≡◌, ◌<◌, ◌≤◌, ◌-◌, ◌^◌, ◌++◌, arith, ap, sym, ◌∙◌}
+use Rattle.std.proofs.Common.{◌≡◌, ◌-◌, ◌++◌, arith, ap, ◌∙◌}
 use Rattle.sdh_report.specs.Written.{Written}
 use Rattle.sdh_report.specs.Lines.{count_line}
 use Rattle.sdh_report.specs.Reports.{chunks_in, silences_in}

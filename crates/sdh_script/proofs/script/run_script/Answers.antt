@@ -1,4 +1,4 @@
-use Rattle.std.proofs.Common.{◌≡◌, ◌<◌, length, drop, get_or, ◌+◌, ap, sym, ◌∙◌, subst, arith}
+use Rattle.std.proofs.Common.{◌<◌, length, drop, get_or, ◌+◌, ap, sym, subst, arith}
 use Rattle.std.proofs.lemmas.List.{drop_all}
 use Rattle.sdh_ringmap.specs.declared.Side.TheVariants.{West}
 use Rattle.sdh_plant.specs.declared.plant.Condition.TheVariants.{Clear}
@@ -7,7 +7,7 @@ use Rattle.sdh_plan.specs.declared.step.Step.{Step}
 use Rattle.sdh_plan.specs.declared.step.Step.TheVariants.{Fibre}
 use Rattle.sdh_report.specs.Written.{Written}
 use Rattle.sdh_script.specs.Running.{MayRun, Went}
-use Rattle.sdh_script.proofs.Steps.{may_first, here, went_none, went_more, went_all, went_stop}
+use Rattle.sdh_script.proofs.Steps.{here, went_more, went_all, went_stop}
 use Rattle.sdh_script.proofs.script.run_script.Goals as goal
 
 -- what is read past the end of a script

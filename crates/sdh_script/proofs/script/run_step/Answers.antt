@@ -3,7 +3,7 @@ use Rattle.std.specs.Prelude.{IfErr}
 use Rattle.sdh_world.specs.Rounds.{world}
 use Rattle.sdh_plan.specs.declared.step.Step.{Step}
 use Rattle.sdh_script.specs.Running.{StopsAt}
-use Rattle.sdh_script.proofs.Steps.{changed_went, changed_next, refused_stops}
+use Rattle.sdh_script.proofs.Steps.{changed_went, changed_next}
 use Rattle.sdh_script.proofs.script.run_step.Goals as goal
 
 pub returns-in-Settle-clause-err : goal.returns-in-Settle-clause-err

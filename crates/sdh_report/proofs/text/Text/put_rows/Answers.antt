@@ -1,9 +1,8 @@
-use Rattle.std.proofs.Common.{◌≡◌, ◌+◌, ◌<◌, ◌≤◌, ◌++◌, length, ap, sym, ◌∙◌, arith, append_assoc, append-nil}
+use Rattle.std.proofs.Common.{◌≡◌, ◌+◌, ◌++◌, length, ap, sym, ◌∙◌, arith, append_assoc, append-nil}
 use Rattle.std.proofs.lemmas.List.{length-append}
 use Rattle.sdh_report.specs.Lines.{row, row_line, chunk_rows}
 use Rattle.sdh_report.specs.Written.{Written}
-use Rattle.sdh_report.proofs.Parts.{same_text}
-use Rattle.sdh_report.proofs.Rows.{rows_none, rows_more, rows_below, rows_room}
+use Rattle.sdh_report.proofs.Rows.{rows_none, rows_more, rows_room}
 use Rattle.sdh_report.proofs.text.Text.put_rows.Goals as goal
 
 pub loop-at-init : goal.loop-at-init
