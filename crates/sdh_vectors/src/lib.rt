@@ -4,6 +4,8 @@
 #[cfg(test)]
 mod rings;
 #[cfg(test)]
+mod signals;
+#[cfg(test)]
 mod told;
 #[cfg(test)]
 mod windows;
