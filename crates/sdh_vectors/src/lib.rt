@@ -2,6 +2,8 @@
 #![tactic(auto)]
 
 #[cfg(test)]
+mod requests;
+#[cfg(test)]
 mod rings;
 #[cfg(test)]
 mod signals;
