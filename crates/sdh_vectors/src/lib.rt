@@ -2,7 +2,11 @@
 #![tactic(auto)]
 
 #[cfg(test)]
+mod requests;
+#[cfg(test)]
 mod rings;
+#[cfg(test)]
+mod signals;
 #[cfg(test)]
 mod told;
 #[cfg(test)]

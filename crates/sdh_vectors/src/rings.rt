@@ -71,6 +71,8 @@ pub(crate) fn laid<P: Plant>(
     ensures prepared { IfOk result (λ ring. IsPrepared ring.settings.rate (length ring.ids) (P.fibres plant.new)) }
     ensures whole { IfOk result (λ ring. ring.broken ≡ false) }
     ensures new { IfOk result (λ ring. ring.rounds ≡ 0) }
+    ensures moment { IfOk result (λ ring. ring.moment ≡ 0) }
+    ensures rate { IfOk result (λ ring. ring.settings.rate ≡ rate) }
 {
     let map = RingMap::new(ids).map_err(|_| AllocError)?;
     let mut circuits = CircuitMap::new(alloc, (rate.n() / 2) as u8);
@@ -119,6 +121,7 @@ pub(crate) fn run<P: Plant>(ring: &mut Ring, plant: &mut P, rounds: u32) -> Resu
     ensures prepared { OnOk result (IsPrepared ring.new.settings.rate (length ring.new.ids) (P.fibres plant.new)) }
     ensures whole { OnOk result (ring.new.broken ≡ false) }
     ensures rounds { OnOk result (ring.new.rounds ≡ ring.old.rounds + rounds) }
+    ensures moment { OnOk result (ring.new.moment ≡ ring.old.moment) }
 {
     'turns: for _turn in 0..rounds {
         ring.round(plant)?;
