@@ -10,7 +10,7 @@ use std::test::Fail;
 fn chunk(alloc: Global, from: usize, len: usize) -> Result<Vec<u8>, AllocError> {
     let mut bytes = Vec::new(alloc);
     for i in 0..len {
-        bytes.push(97 + ((from % 23 + i) % 23) as u8)?;
+        bytes.push(97 + ((from % 23 + i % 23) % 23) as u8)?;
     }
     Ok(bytes)
 }

@@ -28,6 +28,7 @@ fn writes_last_lines(rt: HostRuntime) {
     ];
     let mut text = Text::try_new(rt.alloc(), 600).expect(&rt, "room for six lines");
     for status in statuses {
+        status.has_short_line();
         if text.room() >= LINE_MAX {
             text.last_line(&status);
         }
