@@ -1,76 +1,184 @@
 -- How a call of the program ends: each status, when it is answered, and the text that goes with it.
-use Rattle.std.specs.Prelude.{◌≡◌, ◌≢◌, ℕ, ◌<◌, ◌≤◌, true, List, [], ◌∷◌, ◌++◌, length, codes, map, Option, Some, None, String, string_bytes}
-use Rattle.std.specs.declared.alloc.Global.{Global}
-use Rattle.std.specs.Io.KnownBytes.{Appends, Keeps}
+use Rattle.std.specs.Prelude.{◌≡◌, ◌≢◌, ◌⊎◌, ℕ, ◌<◌, ◌≤◌, true, List, [], ◌∷◌, ◌++◌, length, Option, Some, None, option_map}
+use Rattle.std.specs.Option.{option_map_or}
+use Rattle.std.specs.Io.KnownBytes.{Appends, Keeps, IsAtEnd}
 use Rattle.toml.specs.Data.{Members}
+use Rattle.sdh_basics.specs.Causes.{Rose}
 use Rattle.sdh_outside.specs.Writing.{AppendsFewer}
+use Rattle.sdh_circuits.specs.Provisioning.{at_port}
 use Rattle.sdh_plant.specs.Fibres.{Fibres}
 use Rattle.sdh_plant.specs.Arrivals.{Knows}
-use Rattle.sdh_plan.specs.Planned.{Planned}
+use Rattle.sdh_plan.specs.Planned.{Planned, provisioning_of}
+use Rattle.sdh_plan.specs.Big.{big_planned}
 use Rattle.sdh_plan.specs.Check.{answer}
 use Rattle.sdh_plan.specs.Document.{IsDocument, IsNoDocument}
 use Rattle.sdh_plan.specs.Plans.{checks}
 use Rattle.sdh_plan.specs.Answers.{IsPlanOf}
 use Rattle.sdh_report.specs.declared.status.Status.{Status}
 use Rattle.sdh_report.specs.declared.status.Status.TheVariants as status
+use Rattle.sdh_report.specs.declared.listing.Listing.{Listing}
 use Rattle.sdh_report.specs.declared.listing.Listing.TheVariants as listing
 use Rattle.sdh_report.specs.Statuses.{last_line}
-use Rattle.sdh_script.specs.Plans.{world_of, ran_of, Comes, ComesKnown, IsOwedText}
-
--- the words of a command line, as bytes
-abbrev pub words_of : List (String Global) → List (List ℕ)
-words_of words = map string_bytes words
-
--- the one word `run`
-abbrev pub run_words : List (List ℕ)
-run_words = codes "run" ∷ []
-
--- the words are those of a run, and the source has no more bytes than a plan may have
-pub record IsRead (words : List (List ℕ)) (bytes : List ℕ) : Type 0 where
-  pub run : words ≡ run_words
-  pub short : length bytes ≤ 1048576
-
--- a plan was run over new fibres: the text is that of the reports, and the last line. What the reports are is told over every
--- plant, where the arrivals are known, and over honest fibres
-pub record IsPlanOutcome (plan : Planned) (f : Fibres) (end : Status) (text : List ℕ) (left : Fibres) : Type 0 where
-  pub reports : List ℕ
-  pub text_is : text ≡ reports ++ last_line end
-  pub ran : Comes plan listing.Reports f reports end left
-  pub known : Knows (world_of plan f).fibres → ComesKnown plan listing.Reports f reports end left
-  pub owed : f.honest ≡ true → IsOwedText plan listing.Reports reports end
+use Rattle.sdh_tables.specs.Tables.{tables_of}
+use Rattle.sdh_converging.specs.Laws.{enough_for}
+use Rattle.sdh_owed.specs.Healthy.{AllSettle, IsSettled}
+use Rattle.sdh_script.specs.Plans.{world_of, Comes, ComesKnown, IsOwedText, IsHealthyText}
+use Rattle.sdh_cli.specs.Words.{Ask, Run, Check, Drop, Big}
 
 -- the last line is all of the text, and the fibres are left alone
 abbrev pub Says : Status → List ℕ → Fibres → Fibres → Type 0
 Says how text f left = (text ≡ last_line how) × (left ≡ f)
 
--- the plan of these bytes was run
-abbrev pub IsRun : List (List ℕ) → List ℕ → Fibres → Status → List ℕ → Fibres → Type 0
-IsRun words bytes f how text left = IsRead words bytes × ((plan : Planned) × IsPlanOf bytes plan × IsPlanOutcome plan f how text left)
+-- ---- with a plan
 
--- the words, the bytes of the source and the fibres come to this status, with this text. Nothing comes to a write fault or to
--- want of memory: they may stand in place of an outcome
-abbrev pub IsOutcome : List (List ℕ) → List ℕ → Fibres → Status → List ℕ → Fibres → Type 0
-IsOutcome words bytes f status.Usage text left = (words ≢ run_words) × Says status.Usage text f left
-IsOutcome words bytes f status.ReadFault text left = (words ≡ run_words) × Says status.ReadFault text f left
-IsOutcome words bytes f status.TooLong text left = (words ≡ run_words) × (1048576 < length bytes) × Says status.TooLong text f left
-IsOutcome words bytes f status.NotToml text left = IsRead words bytes × IsNoDocument bytes × Says status.NotToml text f left
-IsOutcome words bytes f (status.BadPlan reason place) text left =
-    IsRead words bytes × ((ms : Members) × IsDocument bytes ms × (answer (checks ms) ≡ Some (record { reason = reason; place = place }))) × Says (status.BadPlan reason place) text f left
-IsOutcome words bytes f (status.Unsettled k) text left = IsRun words bytes f (status.Unsettled k) text left
-IsOutcome words bytes f status.PlantFault text left = IsRun words bytes f status.PlantFault text left
-IsOutcome words bytes f status.Ok text left = IsRun words bytes f status.Ok text left
-IsOutcome words bytes f status.NoSuchPort text left = ⊥
-IsOutcome words bytes f status.WriteFault text left = ⊥
-IsOutcome words bytes f status.Memory text left = ⊥
+-- a plan was run over new fibres: the text is what is listed of the reports, and the last line. What the reports are is told over
+-- every plant, where the arrivals are known, and over honest fibres
+pub record IsRunOutcome (plan : Planned) (listing : Listing) (f : Fibres) (how : Status) (text : List ℕ) (left : Fibres) : Type 0 where
+  pub reports : List ℕ
+  pub text_is : text ≡ reports ++ last_line how
+  pub ran : Comes plan listing f reports how left
+  pub known : Knows (world_of plan f).fibres → ComesKnown plan listing f reports how left
+  pub owed : f.honest ≡ true → IsOwedText plan listing reports how
+  pub settles : f.honest ≡ true → enough_for (length plan.nodes) ≤ plan.limit → IsSettled how
+  pub healthy : f.honest ≡ true → AllSettle plan.steps → IsHealthyText plan listing reports how
 
--- what was written when this status was answered: the outcome's whole text; with a write fault fewer bytes, from the front of
--- an outcome's text; with want of memory nothing
-abbrev pub Writes : List (List ℕ) → List ℕ → Fibres → Status → Option (List ℕ) → Option (List ℕ) → Fibres → Type 0
-Writes words bytes f status.WriteFault old new left = (s : Status) × (text : List ℕ) × IsOutcome words bytes f s text left × AppendsFewer old new text
-Writes words bytes f status.Memory old new left = Keeps old new
-Writes words bytes f s old new left = (text : List ℕ) × IsOutcome words bytes f s text left × Appends old new text
+-- the tables were written, and no round was run
+pub record IsTablesOutcome (plan : Planned) (f : Fibres) (how : Status) (text : List ℕ) (left : Fibres) : Type 0 where
+  pub text_is : text ≡ tables_of plan ++ last_line how
+  pub how_is : how ≡ status.Ok
+  pub left_is : left ≡ f
 
--- the source tells a plan, the arrivals are known, and each settle step of its script has a quiet window within the limit
-abbrev pub TellsSettlingPlan : Option (List ℕ) → Fibres → Type 0
-TellsSettlingPlan None f = ⊥
-TellsSettlingPlan (Some bytes) f = (length bytes ≤ 1048576) × ((plan : Planned) × IsPlanOf bytes plan × Knows (world_of plan f).fibres × ((ran_of plan f).ending ≡ status.Ok))
+-- what is listed of each report; the port that is asked for is none where the plan has no circuit of its name
+abbrev pub listing_of : Ask → Planned → Option Listing
+listing_of Run plan = Some listing.Reports
+listing_of Check plan = None
+listing_of (Drop name end) plan = option_map (λ circuit. listing.Port (record { circuit = circuit; end = end })) (at_port (provisioning_of plan) name)
+listing_of (Big number) plan = Some listing.Counts
+
+-- there is no such port
+abbrev pub HasNoPort : Fibres → Status → List ℕ → Fibres → Type 0
+HasNoPort f how text left = (how ≡ status.NoSuchPort) × Says how text f left
+
+-- what a run comes to, where this is listed
+abbrev pub OfListing : Option Listing → Planned → Fibres → Status → List ℕ → Fibres → Type 0
+OfListing None plan f how text left = HasNoPort f how text left
+OfListing (Some listing) plan f how text left = IsRunOutcome plan listing f how text left
+
+-- what is asked comes to this with a plan
+abbrev pub OfPlan : Ask → Planned → Fibres → Status → List ℕ → Fibres → Type 0
+OfPlan Run plan f how text left = OfListing (listing_of Run plan) plan f how text left
+OfPlan Check plan f how text left = IsTablesOutcome plan f how text left
+OfPlan (Drop name end) plan f how text left = OfListing (listing_of (Drop name end) plan) plan f how text left
+OfPlan (Big number) plan f how text left = OfListing (listing_of (Big number) plan) plan f how text left
+
+-- ---- with the bytes of a source
+
+-- the source has no more bytes than a plan may have
+abbrev pub IsShort : List ℕ → Type 0
+IsShort bytes = length bytes ≤ 1048576
+
+-- why there is no plan: a read failed; there are too many bytes; they are no document; or they are one, and the first of its
+-- checks that fails has this reason and this place
+abbrev pub HasNoPlan : List ℕ → Status → Type 0
+HasNoPlan bytes status.ReadFault = Unit {0}
+HasNoPlan bytes status.TooLong = 1048576 < length bytes
+HasNoPlan bytes status.NotToml = IsShort bytes × IsNoDocument bytes
+HasNoPlan bytes (status.BadPlan reason place) = IsShort bytes × ((ms : Members) × IsDocument bytes ms × (answer (checks ms) ≡ Some (record { reason = reason; place = place })))
+HasNoPlan bytes status.Ok = ⊥
+HasNoPlan bytes status.Usage = ⊥
+HasNoPlan bytes status.WriteFault = ⊥
+HasNoPlan bytes (status.Unsettled k) = ⊥
+HasNoPlan bytes status.PlantFault = ⊥
+HasNoPlan bytes status.NoSuchPort = ⊥
+HasNoPlan bytes status.Memory = ⊥
+
+-- these bytes are those of this plan
+abbrev pub TellsPlan : List ℕ → Planned → Type 0
+TellsPlan bytes plan = IsShort bytes × IsPlanOf bytes plan
+
+-- what is asked comes to this with these bytes
+abbrev pub OfBytes : Ask → List ℕ → Fibres → Status → List ℕ → Fibres → Type 0
+OfBytes ask bytes f how text left = (HasNoPlan bytes how × Says how text f left) ⊎ ((plan : Planned) × TellsPlan bytes plan × OfPlan ask plan f how text left)
+
+-- ---- with the words
+
+-- what the program is asked for comes to this status, with this text, where the source had these bytes left. No outcome is a write
+-- fault or want of memory: they may stand in place of one
+abbrev pub IsOutcome : Option Ask → List ℕ → Fibres → Status → List ℕ → Fibres → Type 0
+IsOutcome None bytes f how text left = (how ≡ status.Usage) × Says how text f left
+IsOutcome (Some Run) bytes f how text left = OfBytes Run bytes f how text left
+IsOutcome (Some Check) bytes f how text left = OfBytes Check bytes f how text left
+IsOutcome (Some (Drop name end)) bytes f how text left = OfBytes (Drop name end) bytes f how text left
+IsOutcome (Some (Big number)) bytes f how text left = OfPlan (Big number) (big_planned number) f how text left
+
+-- what has to be known of a source: its bytes, or nothing where it isn't read
+abbrev pub told : Option Ask → Option (List ℕ) → Option (List ℕ)
+told None left = Some []
+told (Some Run) left = left
+told (Some Check) left = left
+told (Some (Drop name end)) left = left
+told (Some (Big number)) left = Some []
+
+-- the source isn't read
+abbrev pub LeavesSource : Option Ask → Type 0
+LeavesSource None = Unit {0}
+LeavesSource (Some Run) = ⊥
+LeavesSource (Some Check) = ⊥
+LeavesSource (Some (Drop name end)) = ⊥
+LeavesSource (Some (Big number)) = Unit {0}
+
+-- no fibre is made
+abbrev pub LeavesPlant : Option Ask → Type 0
+LeavesPlant None = Unit {0}
+LeavesPlant (Some Run) = ⊥
+LeavesPlant (Some Check) = Unit {0}
+LeavesPlant (Some (Drop name end)) = ⊥
+LeavesPlant (Some (Big number)) = ⊥
+
+-- a source that is read was read to its end
+abbrev pub HasRead : Option Ask → Option (List ℕ) → Type 0
+HasRead None left = Unit {0}
+HasRead (Some Run) left = IsAtEnd left
+HasRead (Some Check) left = IsAtEnd left
+HasRead (Some (Drop name end)) left = IsAtEnd left
+HasRead (Some (Big number)) left = Unit {0}
+
+-- ---- what is written
+
+-- how often calls of an object had failed, before and after
+pub record Counts : Type 0 where
+  pub before : ℕ
+  pub after : ℕ
+
+-- one of them failed now, or the count stands at its last value
+abbrev pub HaveFailed : Counts → Type 0
+HaveFailed counts = Rose counts.before counts.after
+
+-- a read fault and a plant fault have their causes
+abbrev pub HasCause : Counts → Counts → Status → Type 0
+HasCause reads plant status.ReadFault = HaveFailed reads
+HasCause reads plant status.PlantFault = HaveFailed plant
+HasCause reads plant status.Ok = Unit {0}
+HasCause reads plant status.Usage = Unit {0}
+HasCause reads plant status.WriteFault = Unit {0}
+HasCause reads plant status.NotToml = Unit {0}
+HasCause reads plant (status.BadPlan reason place) = Unit {0}
+HasCause reads plant (status.Unsettled k) = Unit {0}
+HasCause reads plant status.TooLong = Unit {0}
+HasCause reads plant status.NoSuchPort = Unit {0}
+HasCause reads plant status.Memory = Unit {0}
+
+-- something is to be written with this status: no writing has failed, and there was memory
+abbrev pub IsShown : Status → Type 0
+IsShown how = (how ≢ status.WriteFault) × (how ≢ status.Memory)
+
+-- an outcome that these failures allow
+abbrev pub MayEnd : Option Ask → List ℕ → Fibres → Counts → Counts → Status → List ℕ → Fibres → Type 0
+MayEnd ask bytes f reads plant how text left = IsOutcome ask bytes f how text left × HasCause reads plant how
+
+-- what was written when this status was answered: the outcome's whole text; with a write fault fewer bytes, from the front of an
+-- outcome's text; with want of memory nothing
+abbrev pub Writes : (Status → List ℕ → Type 0) → Status → Option (List ℕ) → Option (List ℕ) → Type 0
+Writes may status.WriteFault old new = (how : Status) × (text : List ℕ) × may how text × AppendsFewer old new text
+Writes may status.Memory old new = Keeps old new
+Writes may how old new = (text : List ℕ) × may how text × Appends old new text

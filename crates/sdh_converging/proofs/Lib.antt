@@ -1,4 +1,4 @@
-mod Runs
+pub mod Runs
 pub mod Spans
 mod Ports
 pub mod Spreading

@@ -36,7 +36,7 @@ use Rattle.sdh_owed.proofs.Ports.{owed_now}
 
 -- ---- lists of changes and of stretches
 
-all_last : {X : Type 0} (P : X → Type 0) (xs : List X) (x : X) → All P xs → P x → All P (xs ++ x ∷ [])
+pub all_last : {X : Type 0} (P : X → Type 0) (xs : List X) (x : X) → All P xs → P x → All P (xs ++ x ∷ [])
 all_last P [] x h last = All-cons P x [] last (All-nil P)
 all_last P (y ∷ xs) x h last = All-cons P y (xs ++ x ∷ []) (All-head P y xs h) (all_last P xs x (All-tail P y xs h) last)
 
@@ -84,21 +84,21 @@ number_is number w = refl
 -- ---- a script, step by step
 
 module _ (law : SettledRingsRestore) (s : Settings) (ids : List ℕ) (circuits : Provisioning) (f : Fibres) (may : MayStart s ids f) where
-  abbrev l : Layout
+  abbrev pub l : Layout
   l = layout_in (new_ring s ids circuits)
 
-  abbrev from : World
+  abbrev pub from : World
   from = new_world s ids circuits f
 
   -- a world in which these stretches have happened, and these changes since
-  record Stands (earlier : List Stretch) (changes : List Change) (w : World) : Type 0 where
-    is : w ≡ all_changed changes (after_stretches earlier from)
-    honest : IsHonest w.fibres
-    happened : MayHappen s.rate earlier
-    since : All (IsChangeAt s.rate) changes
+  pub record Stands (earlier : List Stretch) (changes : List Change) (w : World) : Type 0 where
+    pub is : w ≡ all_changed changes (after_stretches earlier from)
+    pub honest : IsHonest w.fibres
+    pub happened : MayHappen s.rate earlier
+    pub since : All (IsChangeAt s.rate) changes
 
   -- after a settle step that ended
-  settled_then : (earlier : List Stretch) (changes : List Change) (w mid : World) (limit number : ℕ) → HasCircuits l → Stands earlier changes w → Settles w limit mid
+  pub settled_then : (earlier : List Stretch) (changes : List Change) (w mid : World) (limit number : ℕ) → HasCircuits l → Stands earlier changes w → Settles w limit mid
       → (let r = report_of number mid.ring in let now = earlier ++ record { changes = changes; rounds = r.round + 1 - rounds_in earlier } ∷ [] in IsOwed l (requests_by l now r.round) r × Stands now [] mid)
   unfolding report_of
   settled_then earlier changes w mid limit number form h settles =
@@ -130,7 +130,7 @@ module _ (law : SettledRingsRestore) (s : Settings) (ids : List ℕ) (circuits :
       )
 
   -- after any other step
-  changed_then : (earlier : List Stretch) (changes : List Change) (w : World) (this : Step) → IsStepIn s.rate (length ids) this → Stands earlier changes w → Stands earlier (changes ++ changes_of this) (after_step this w)
+  pub changed_then : (earlier : List Stretch) (changes : List Change) (w : World) (this : Step) → IsStepIn s.rate (length ids) this → Stands earlier changes w → Stands earlier (changes ++ changes_of this) (after_step this w)
   changed_then earlier changes w this step h = record {
     is = ap (after_step this) h.is ∙ sym (changed_more changes (changes_of this) (after_stretches earlier from));
     honest = honest_all (changes_of this) w h.honest;
@@ -156,7 +156,15 @@ module _ (law : SettledRingsRestore) (s : Settings) (ids : List ℕ) (circuits :
   walk limit before past earlier changes (step.Settle ∷ later) w reports end left form h each (inr (inl x)) = subst (λ rs. AreOwed l earlier changes before (step.Settle ∷ later) rs end) (sym x.1.0) (inl x.1.1)
   walk limit before past earlier changes (step.Settle ∷ later) w reports end left form h each (inr (inr x)) = subst (λ rs. AreOwed l earlier changes before (step.Settle ∷ later) rs end) (sym x.1.0) (inr x.1.1)
 
+-- before anything has happened
+pub stands_new : (law : SettledRingsRestore) (s : Settings) (ids : List ℕ) (circuits : Provisioning) (f : Fibres) (may : MayStart s ids f) → Stands law s ids circuits f may [] [] (new_world s ids circuits f)
+stands_new law s ids circuits f may = record {
+  is = refl;
+  honest = plant_stays_honest.prepared s.rate (length ids) f may.honest;
+  happened = All-nil (λ (x : Stretch). All (IsChangeAt s.rate) x.changes);
+  since = All-nil (IsChangeAt s.rate);
+}
+
 pub reports_owed : SettledRingsRestore → ReportsAreOwed
 reports_owed law s ids circuits f may form limit past steps each reports end left x =
-    walk law s ids circuits f may limit 0 past [] [] steps (new_world s ids circuits f) reports end left form
-    (record { is = refl; honest = plant_stays_honest.prepared s.rate (length ids) f may.honest; happened = All-nil (λ (x : Stretch). All (IsChangeAt s.rate) x.changes); since = All-nil (IsChangeAt s.rate) }) each x
+    walk law s ids circuits f may limit 0 past [] [] steps (new_world s ids circuits f) reports end left form (stands_new law s ids circuits f may) each x

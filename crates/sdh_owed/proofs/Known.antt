@@ -201,7 +201,7 @@ unfolding run round
 nodes_run zero v = refl
 nodes_run (suc k) v = count_round (arrivals_of (run k v)) (run k v) ∙ nodes_run k v
 
-knows_after : (k : ℕ) (w : World) → Knows w.fibres → Knows (run k w).fibres
+pub knows_after : (k : ℕ) (w : World) → Knows w.fibres → Knows (run k w).fibres
 knows_after k w h = subst (λ (v : World). Knows v.fibres) (run_is k w) (knows_run (arrivals_in k w) w h)
 
 length-placed : (change : Node → Node) (p : ℕ) (ns : List Node) → length (at_place p change ns) ≡ length ns

@@ -1,3 +1,5 @@
 pub mod Ports
 pub mod History
 pub mod Known
+pub mod Settling
+pub mod Healthy

@@ -17,7 +17,7 @@ use Rattle.sdh_owed.specs.Reports.{port_told, ports_from, report_of}
 use Rattle.sdh_owed.specs.Owed.{owed_port, owed_ports, IsOwed}
 
 -- the ports of the circuits from a place on, in a ring of n
-ports_are : (r : HeldRing) (n : ℕ) (applied : ℕ → Bool) (t index : ℕ) (cs : List Provisioned)
+pub ports_are : (r : HeldRing) (n : ℕ) (applied : ℕ → Bool) (t index : ℕ) (cs : List Provisioned)
     → ((k : ℕ) (c : Provisioned) → slice_get cs k ≡ Some c → (e : End) → outlet_at r (record { circuit = index + k; end = e }) ≡ outlet_due (due n applied c e t))
     → ports_from r index cs ≡ owed_ports n applied t cs
 ports_are r n applied t index [] h = refl

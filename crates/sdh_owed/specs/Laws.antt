@@ -9,6 +9,7 @@ use Rattle.sdh_world.specs.Rounds.{World}
 use Rattle.sdh_world.specs.Changes.{new_world}
 use Rattle.sdh_hearing.specs.Laws.{MayStart}
 use Rattle.sdh_carrying.specs.Windows.{layout_in, HasCircuits}
+use Rattle.sdh_converging.specs.Laws.{enough_for}
 use Rattle.sdh_plan.specs.declared.step.Step.{Step}
 use Rattle.sdh_plan.specs.Steps.{Past}
 use Rattle.sdh_plan.specs.Scripts.{AreSteps}
@@ -16,6 +17,7 @@ use Rattle.sdh_report.specs.declared.status.Status.{Status}
 use Rattle.sdh_report.specs.Reports.{Report}
 use Rattle.sdh_owed.specs.Scripts.{Runs, ComesTo}
 use Rattle.sdh_owed.specs.Owed.{AreOwed}
+use Rattle.sdh_owed.specs.Healthy.{AllSettle, IsHealthy, IsSettled}
 
 -- where arrivals are known, what comes of a script is determined, and after a fault it is the front of that
 abbrev pub KnownScripts : Type 0
@@ -27,3 +29,15 @@ abbrev pub ReportsAreOwed : Type 0
 ReportsAreOwed = (s : Settings) (ids : List ℕ) (circuits : Provisioning) (f : Fibres) → (let l = layout_in (new_ring s ids circuits) in
     MayStart s ids f → HasCircuits l → (limit : ℕ) (past : Past) (steps : List Step) → AreSteps s.rate (length ids) past steps
     → (reports : List Report) (end : Status) (left : World) → Runs limit 0 steps (new_world s ids circuits f) reports end left → AreOwed l [] [] 0 steps reports end)
+
+-- from there no settle step with so large a limit is unsettled
+abbrev pub ScriptsSettle : Type 0
+ScriptsSettle = (s : Settings) (ids : List ℕ) (circuits : Provisioning) (f : Fibres) → (let l = layout_in (new_ring s ids circuits) in
+    MayStart s ids f → HasCircuits l → (limit : ℕ) (past : Past) (steps : List Step) → AreSteps s.rate (length ids) past steps → enough_for (length ids) ≤ limit
+    → (reports : List Report) (end : Status) (left : World) → Runs limit 0 steps (new_world s ids circuits f) reports end left → IsSettled end)
+
+-- and a script of settle steps alone shows a healthy ring
+abbrev pub HealthyScripts : Type 0
+HealthyScripts = (s : Settings) (ids : List ℕ) (circuits : Provisioning) (f : Fibres) → (let l = layout_in (new_ring s ids circuits) in
+    MayStart s ids f → HasCircuits l → (limit : ℕ) (steps : List Step) → AllSettle steps → 1 ≤ length steps
+    → (reports : List Report) (end : Status) (left : World) → Runs limit 0 steps (new_world s ids circuits f) reports end left → IsHealthy limit (length ids) circuits.circuits steps reports end)

@@ -3,7 +3,7 @@
 //! `specs/Laws.antt` has the laws. Each function here has a law as its contract and no work to do.
 #![tactic(auto)]
 
-ghost use Rattle.sdh_owed.specs.Laws.{KnownScripts, ReportsAreOwed};
+ghost use Rattle.sdh_owed.specs.Laws.{KnownScripts, ReportsAreOwed, ScriptsSettle, HealthyScripts};
 
 /// Where arrivals are known, what comes of a script is determined, and after a fault it is the front of that.
 pub fn known_scripts()
@@ -15,4 +15,20 @@ pub fn reports_are_owed()
     ensures { ReportsAreOwed }
 {
     sdh_carrying::settled_rings_restore();
+}
+
+/// Over honest fibres no settle step with a large limit is unsettled.
+pub fn scripts_settle()
+    ensures { ScriptsSettle }
+{
+    sdh_carrying::settled_rings_restore();
+    sdh_converging::stretches_converge();
+}
+
+/// A script of settle steps alone shows a healthy ring.
+pub fn healthy_scripts()
+    ensures { HealthyScripts }
+{
+    sdh_converging::healthy_steps_settle();
+    sdh_converging::healthy_steps_deliver();
 }

@@ -23,3 +23,4 @@ pub use error::PlanError;
 pub use plan::Plan;
 pub use reading::read_plan;
 pub use step::Step;
+pub use words::numeral_in;

@@ -1,5 +1,5 @@
 //! The words of a step, and the numbers among them.
-ghost use Rattle.std.specs.Prelude.{◌≡◌, ◌<◌, ◌≤◌, ◌⊎◌, ◌∷◌, [], true, false, IfSome, IfNone, Some, None, map, length, take, position, ◌==◌};
+ghost use Rattle.std.specs.Prelude.{◌≡◌, ◌<◌, ◌≤◌, ◌^◌, ◌⊎◌, ◌∷◌, [], true, false, IfSome, IfNone, Some, None, map, length, take, position, ◌==◌};
 ghost use Rattle.std.specs.Option.{option_map_or};
 ghost use Rattle.std.specs.List.{list_all, list_any};
 ghost use Rattle.std.specs.Str.{bytes_eq};
@@ -54,20 +54,20 @@ pub fn words_of(text: &[u8]) -> Option<ArrayVec<&[u8], 5>>
     Some(words)
 }
 
-// The number that digits are, where each byte is one and it is at most 1,000,000,000. A larger one may be given too.
-fn decimal(digits: &[u8]) -> Option<u32>
+// The number that digits are, where each byte is one and it is below 2 ^ 32. A larger one may be given too.
+fn decimal(digits: &[u8]) -> Option<u64>
     ensures number { IfSome result (λ number. (list_all is_digit digits.now ≡ true) × (number ≡ decimal_from 0 digits.now)) }
-    ensures none { IfNone result ((list_all is_digit digits.now ≡ false) ⊎ (1000000000 < decimal_from 0 digits.now)) }
+    ensures none { IfNone result ((list_all is_digit digits.now ≡ false) ⊎ (2 ^ 32 ≤ decimal_from 0 digits.now)) }
 {
-    let mut number: u32 = 0;
+    let mut number: u64 = 0;
     for digit in digits {
         if !digit.is_ascii_digit() {
             return None;
         }
-        if number > 100_000_000 {
+        if number > 429_496_729 {
             return None;
         }
-        number = 10 * number + u32::from(*digit - b'0');
+        number = 10 * number + u64::from(*digit - b'0');
     }
     Some(number)
 }
@@ -87,7 +87,6 @@ fn is_led(word: &[u8]) -> bool
 /// unless it is the only one.
 #[tactic(auto, unfolding(crate::specs::Words::numeral_in))]
 pub fn numeral_in(word: &[u8], low: u32, high: u32) -> Option<u32>
-    requires { high ≤ 1000000000 }
     ensures number { result ≡ numeral_in low high word.now }
     ensures range { IfSome result (λ number. (low ≤ number) × (number ≤ high)) }
 {
@@ -95,7 +94,7 @@ pub fn numeral_in(word: &[u8], low: u32, high: u32) -> Option<u32>
         return None;
     }
     match decimal(word) {
-        Some(number) if low <= number && number <= high => Some(number),
+        Some(number) if u64::from(low) <= number && number <= u64::from(high) => Some(number as u32),
         _ => None,
     }
 }

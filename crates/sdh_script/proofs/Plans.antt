@@ -1,5 +1,5 @@
 -- What comes of a plan.
-use Rattle.std.proofs.Common.{◌≡◌, ◌⊎◌, ℕ, ◌+◌, ◌*◌, List, [], length, take, ap, sym, ◌∙◌, subst, arith, inl, inr}
+use Rattle.std.proofs.Common.{◌≡◌, ◌⊎◌, ℕ, ◌+◌, ◌*◌, List, [], length, take, refl, ◌≤◌, ap, sym, ◌∙◌, subst, arith, inl, inr}
 use Rattle.std.specs.Prelude.{Result, Ok, Err, IfOk}
 use Rattle.sdh_plant.specs.Fibres.{Fibres, IsHonest}
 use Rattle.sdh_plant.specs.Arrivals.{Knows}
@@ -15,11 +15,15 @@ use Rattle.sdh_report.specs.declared.listing.Listing.{Listing}
 use Rattle.sdh_report.specs.declared.status.Status.{Status}
 use Rattle.sdh_report.specs.declared.status.Status.TheVariants as status
 use Rattle.sdh_owed.specs.Scripts.{sent_by, IsRan, IsCutShort}
-use Rattle.sdh_owed.specs.Laws.{KnownScripts, ReportsAreOwed}
+use Rattle.sdh_owed.specs.Healthy.{AllSettle, IsSettled}
+use Rattle.sdh_owed.specs.Laws.{KnownScripts, ReportsAreOwed, ScriptsSettle, HealthyScripts}
 use Rattle.sdh_owed.proofs.Known.{none_sent, none_appended}
 use Rattle.sdh_owed.proofs.History.{owed_none}
+use Rattle.sdh_owed.proofs.Settling.{settled_by, fault_settles}
+use Rattle.sdh_converging.specs.Laws.{enough_for}
+use Rattle.sdh_hearing.specs.Laws.{MayStart}
 use Rattle.sdh_script.specs.Running.{Lists}
-use Rattle.sdh_script.specs.Plans.{world_of, ran_of, Comes, ComesKnown, layout_of_plan, IsOwedText}
+use Rattle.sdh_script.specs.Plans.{world_of, ran_of, Comes, ComesKnown, layout_of_plan, IsOwedText, IsHealthyText}
 
 -- an answer with Ok from another
 pub on_ok : {A E : Type 0} (r : Result A E) (P Q : A → Type 0) → ((a : A) → P a → Q a) → IfOk r P → IfOk r Q
@@ -57,13 +61,36 @@ known_comes law plan listing f left text end fits (inr x) knows =
     came plan listing f left text end x.0 x.1 x.2
     (law plan.limit 0 plan.steps (world_of plan f) x.2.reports end x.0 knows (omega (arith, enough)) (length-new plan.settings plan.nodes plan.circuits (length plan.nodes)) x.2.runs)
 
+-- a plan's ring over new honest fibres
+may_start : (plan : Planned) (f : Fibres) → IsPlanned plan → IsHonest f → MayStart plan.settings plan.nodes f
+may_start plan f fits honest = record { ids_ok = fits.nodes_fit; honest = honest; least = fits.threshold_from_1 }
+
 pub owed_comes : ReportsAreOwed → (plan : Planned) (listing : Listing) (f left : Fibres) (text : List ℕ) (end : Status) → IsPlanned plan → Comes plan listing f text end left → IsHonest f → IsOwedText plan listing text end
 owed_comes law plan listing f left text end fits (inl x) honest = record { reports = []; text_is = x.1; owed = owed_none (layout_of_plan plan) [] [] 0 plan.steps end x.0 }
 owed_comes law plan listing f left text end fits (inr x) honest = record {
   reports = x.2.reports;
   text_is = x.2.text;
-  owed = law plan.settings plan.nodes (provisioning_of plan) f (record { ids_ok = fits.nodes_fit; honest = honest; least = fits.threshold_from_1 }) (circuits_are (provisioning_of plan) plan.nodes fits.circuits_fit (circuits_keep_the_ring plan))
-      plan.limit start plan.steps fits.steps_fit x.2.reports end x.0 x.2.runs;
+  owed = law plan.settings plan.nodes (provisioning_of plan) f (may_start plan f fits honest) (circuits_are (provisioning_of plan) plan.nodes fits.circuits_fit (circuits_keep_the_ring plan)) plan.limit start plan.steps fits.steps_fit x.2.reports end
+      x.0 x.2.runs;
+}
+
+pub settles_comes : ScriptsSettle → (plan : Planned) (listing : Listing) (f left : Fibres) (text : List ℕ) (end : Status) → IsPlanned plan → Comes plan listing f text end left → IsHonest f → enough_for (length plan.nodes) ≤ plan.limit → IsSettled end
+settles_comes law plan listing f left text end fits (inl x) honest large = settled_by end status.PlantFault x.0 fault_settles
+settles_comes law plan listing f left text end fits (inr x) honest large =
+    law plan.settings plan.nodes (provisioning_of plan) f (may_start plan f fits honest) (circuits_are (provisioning_of plan) plan.nodes fits.circuits_fit (circuits_keep_the_ring plan)) plan.limit start plan.steps fits.steps_fit large x.2.reports
+    end x.0 x.2.runs
+
+pub healthy_comes : HealthyScripts → (plan : Planned) (listing : Listing) (f left : Fibres) (text : List ℕ) (end : Status) → IsPlanned plan → Comes plan listing f text end left → IsHonest f → AllSettle plan.steps → IsHealthyText plan listing text end
+healthy_comes law plan listing f left text end fits (inl x) honest all = record {
+  reports = [];
+  text_is = x.1;
+  healthy = record { show = tt; enough = λ high. inr x.0; short = λ low. (refl, inr x.0) };
+}
+healthy_comes law plan listing f left text end fits (inr x) honest all = record {
+  reports = x.2.reports;
+  text_is = x.2.text;
+  healthy = law plan.settings plan.nodes (provisioning_of plan) f (may_start plan f fits honest) (circuits_are (provisioning_of plan) plan.nodes fits.circuits_fit (circuits_keep_the_ring plan)) plan.limit plan.steps all fits.steps_from_1
+      x.2.reports end x.0 x.2.runs;
 }
 
 pub complete_comes : (plan : Planned) (listing : Listing) (f left : Fibres) (text : List ℕ) (end : Status) → ComesKnown plan listing f text end left → (ran_of plan f).ending ≡ status.Ok → (end ≡ status.PlantFault → ⊥) → end ≡ status.Ok

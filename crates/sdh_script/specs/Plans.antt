@@ -13,6 +13,7 @@ use Rattle.sdh_report.specs.declared.status.Status.{Status}
 use Rattle.sdh_report.specs.declared.status.Status.TheVariants as status
 use Rattle.sdh_owed.specs.Scripts.{Ran, script, sent_by}
 use Rattle.sdh_owed.specs.Owed.{AreOwed}
+use Rattle.sdh_owed.specs.Healthy.{IsHealthy}
 use Rattle.sdh_script.specs.Running.{Lists}
 
 -- the ring of a plan, in which no round has run, over fibres that were just prepared for it
@@ -59,3 +60,9 @@ pub record IsOwedText (plan : Planned) (listing : Listing) (text : List ℕ) (en
   pub reports : List Report
   pub text_is : text ≡ text_of listing reports
   pub owed : AreOwed (layout_of_plan plan) [] [] 0 plan.steps reports end
+
+-- the text is that of reports which show a healthy ring
+pub record IsHealthyText (plan : Planned) (listing : Listing) (text : List ℕ) (end : Status) : Type 0 where
+  pub reports : List Report
+  pub text_is : text ≡ text_of listing reports
+  pub healthy : IsHealthy plan.limit (length plan.nodes) plan.circuits plan.steps reports end

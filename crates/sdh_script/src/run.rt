@@ -1,5 +1,5 @@
 //! A whole run: the room, the ring and the fibres are made, and the script runs.
-ghost use Rattle.std.specs.Prelude.{◌≡◌, ◌+◌, ◌*◌, ◌≤◌, true, length, IfOk};
+ghost use Rattle.std.specs.Prelude.{◌≡◌, ◌+◌, ◌*◌, ◌≤◌, true, length, IfOk, OnErr};
 ghost use Rattle.sdh_basics.specs.Causes.{Rose};
 ghost use Rattle.sdh_plant.specs.Fibres.{HasNoFibres};
 ghost use Rattle.sdh_plant.specs.Arrivals.{Knows};
@@ -7,7 +7,9 @@ ghost use Rattle.sdh_world.specs.Held.{HeldRing};
 ghost use Rattle.sdh_world.specs.Rounds.{world};
 ghost use Rattle.sdh_script.specs.Room.{report_room, MayList};
 ghost use Rattle.sdh_script.specs.Running.{MayRun, Lists};
-ghost use Rattle.sdh_script.specs.Plans.{world_of, ran_of, Comes, ComesKnown, IsOwedText};
+ghost use Rattle.sdh_converging.specs.Laws.{enough_for};
+ghost use Rattle.sdh_owed.specs.Healthy.{AllSettle, IsSettled};
+ghost use Rattle.sdh_script.specs.Plans.{world_of, ran_of, Comes, ComesKnown, IsOwedText, IsHealthyText};
 
 use crate::script::run_script;
 use sdh_circuits::CircuitMap;
@@ -73,6 +75,7 @@ fn run_new<P: Plant>(
     ensures failed { IfOk result (λ run. run.status ≡ Status.PlantFault → Rose (P.faults plant.old) (P.faults plant.new)) }
     ensures later { P.faults plant.old ≤ P.faults plant.new }
     ensures room { IfOk result (λ run. 96 ≤ run.text.room) }
+    ensures unsent { OnErr result (P.fibres plant.new ≡ P.fibres plant.old) }
 {
     let settings = plan.settings();
     let limit = plan.limit();
@@ -105,14 +108,23 @@ pub fn run_plan<P: Plant>(
     ensures known { IfOk result (λ run. Knows (world_of plan (P.fibres plant.old)).fibres → ComesKnown plan listing (P.fibres plant.old) run.text.bytes run.status (P.fibres plant.new)) }
     ensures owed { IfOk result (λ run. (P.fibres plant.old).honest ≡ true → IsOwedText plan listing run.text.bytes run.status) }
 
+    // Over honest fibres no settle step with a large limit is unsettled, and a script of settle steps alone shows a healthy ring.
+    ensures settles { IfOk result (λ run. (P.fibres plant.old).honest ≡ true → enough_for (length plan.nodes) ≤ plan.limit → IsSettled run.status) }
+    ensures healthy { IfOk result (λ run. (P.fibres plant.old).honest ≡ true → AllSettle plan.steps → IsHealthyText plan listing run.text.bytes run.status) }
+
     // A fault has a cause, and without one a script that settles is done.
     ensures failed { IfOk result (λ run. run.status ≡ Status.PlantFault → Rose (P.faults plant.old) (P.faults plant.new)) }
     ensures complete { IfOk result (λ run. Knows (world_of plan (P.fibres plant.old)).fibres → (ran_of plan (P.fibres plant.old)).ending ≡ Status.Ok → ¬ (Rose (P.faults plant.old) (P.faults plant.new)) → run.status ≡ Status.Ok) }
     ensures later { P.faults plant.old ≤ P.faults plant.new }
     ensures room { IfOk result (λ run. 96 ≤ run.text.room) }
+
+    // Without memory no fibre was made, and no round has run.
+    ensures unsent { OnErr result (P.fibres plant.new ≡ P.fibres plant.old) }
 {
     sdh_owed::known_scripts();
     sdh_owed::reports_are_owed();
+    sdh_owed::scripts_settle();
+    sdh_owed::healthy_scripts();
     // Reading it gives the proof what is true of every plan.
     let _steps = plan.steps();
     run_new(alloc, plan, plant, listing)

@@ -7,5 +7,5 @@ abbrev pub invariant-loop-digit : goal.invariant-loop-digit
 invariant-loop-digit l = record {
   number : decimal_from 0 l.digits ≡ decimal_from l.number (drop l.digit-index l.digits);
   digits : list_all is_digit l.digits ≡ list_all is_digit (drop l.digit-index l.digits);
-  small : l.number ≤ 1000000009;
+  small : l.number ≤ 4294967299;
 }

@@ -1,5 +1,5 @@
 use Rattle.std.proofs.Common.{◌≡◌, true}
-use Rattle.sdh_script.proofs.Plans.{on_ok, on_two, known_comes, owed_comes, complete_comes}
+use Rattle.sdh_script.proofs.Plans.{on_ok, on_two, known_comes, owed_comes, settles_comes, healthy_comes, complete_comes}
 use Rattle.sdh_script.proofs.run.run_plan.Goals as goal
 
 pub returns-clause-known : goal.returns-clause-known
@@ -13,6 +13,22 @@ returns-clause-owed g c =
     let f = means c.args.plant.now in
     on_ok c.run_new.result _ _
     (λ run ran (honest : f.honest ≡ true). owed_comes c.reports_are_owed.ensures c.args.plan c.args.listing f (means c.run_new.new.plant) run.text.bytes run.status c.steps-steps.ensures.form ran (record { honest = honest; tells_none = g.met.P.Plant.honest_tells_none c.args.plant.now honest }))
+    c.run_new.ensures.ran
+
+pub returns-clause-settles : goal.returns-clause-settles
+returns-clause-settles g c =
+    let means = g.P.Plant.fibres in
+    let f = means c.args.plant.now in
+    on_ok c.run_new.result _ _
+    (λ run ran (honest : f.honest ≡ true). settles_comes c.scripts_settle.ensures c.args.plan c.args.listing f (means c.run_new.new.plant) run.text.bytes run.status c.steps-steps.ensures.form ran (record { honest = honest; tells_none = g.met.P.Plant.honest_tells_none c.args.plant.now honest }))
+    c.run_new.ensures.ran
+
+pub returns-clause-healthy : goal.returns-clause-healthy
+returns-clause-healthy g c =
+    let means = g.P.Plant.fibres in
+    let f = means c.args.plant.now in
+    on_ok c.run_new.result _ _
+    (λ run ran (honest : f.honest ≡ true). healthy_comes c.healthy_scripts.ensures c.args.plan c.args.listing f (means c.run_new.new.plant) run.text.bytes run.status c.steps-steps.ensures.form ran (record { honest = honest; tells_none = g.met.P.Plant.honest_tells_none c.args.plant.now honest }))
     c.run_new.ensures.ran
 
 pub returns-clause-complete : goal.returns-clause-complete

@@ -1,0 +1,75 @@
+-- What the program promises of a plan that is run: the headline over honest fibres, how it ends, and what a healthy ring shows.
+use Rattle.std.specs.Prelude.{◌≡◌, ◌≢◌, ◌⊎◌, ℕ, ◌≤◌, List, ◌++◌, length, Option, Some, None}
+use Rattle.std.specs.Io.KnownBytes.{Appends}
+use Rattle.sdh_plant.specs.Fibres.{Fibres}
+use Rattle.sdh_plant.specs.Arrivals.{Knows}
+use Rattle.sdh_plan.specs.Planned.{Planned}
+use Rattle.sdh_plan.specs.Big.{big_planned}
+use Rattle.sdh_report.specs.declared.status.Status.{Status}
+use Rattle.sdh_report.specs.declared.status.Status.TheVariants as status
+use Rattle.sdh_report.specs.declared.listing.Listing.{Listing}
+use Rattle.sdh_report.specs.Statuses.{last_line}
+use Rattle.sdh_converging.specs.Laws.{enough_for}
+use Rattle.sdh_owed.specs.Healthy.{AllSettle}
+use Rattle.sdh_script.specs.Plans.{world_of, ran_of, IsOwedText, IsHealthyText}
+use Rattle.sdh_cli.specs.Words.{Ask, Run, Check, Drop, Big}
+use Rattle.sdh_cli.specs.Outcome.{TellsPlan, listing_of}
+
+-- the plan of what is asked: that of the source's bytes, or the one of the number
+abbrev pub IsPlanFor : Ask → List ℕ → Planned → Type 0
+IsPlanFor Run bytes plan = TellsPlan bytes plan
+IsPlanFor Check bytes plan = TellsPlan bytes plan
+IsPlanFor (Drop name end) bytes plan = TellsPlan bytes plan
+IsPlanFor (Big number) bytes plan = plan ≡ big_planned number
+
+-- this plan is run, and this is listed of its reports
+abbrev pub Lists : Option Ask → List ℕ → Planned → Listing → Type 0
+Lists None bytes plan listing = ⊥
+Lists (Some ask) bytes plan listing = IsPlanFor ask bytes plan × (listing_of ask plan ≡ Some listing)
+
+-- the script came to an end: it is done, or a settle step was unsettled, or a plant's call failed
+abbrev pub HasRun : Status → Type 0
+HasRun status.Ok = Unit {0}
+HasRun (status.Unsettled k) = Unit {0}
+HasRun status.PlantFault = Unit {0}
+HasRun status.Usage = ⊥
+HasRun status.ReadFault = ⊥
+HasRun status.WriteFault = ⊥
+HasRun status.NotToml = ⊥
+HasRun (status.BadPlan reason place) = ⊥
+HasRun status.TooLong = ⊥
+HasRun status.NoSuchPort = ⊥
+HasRun status.Memory = ⊥
+
+-- The headline. What was written is what is listed of the reports, and the last line; and the reports show for every port what it is
+-- owed by the restoration model, under the requests of the script's history.
+abbrev pub Delivers : Option Ask → List ℕ → Status → Option (List ℕ) → Option (List ℕ) → Type 0
+Delivers ask bytes how old new = (plan : Planned) (listing : Listing) → Lists ask bytes plan listing → HasRun how
+    → (reports : List ℕ) × Appends old new (reports ++ last_line how) × IsOwedText plan listing reports how
+
+-- it ends as the script does where the arrivals are known: unsettled at exactly the step in which no quiet window comes within the
+-- limit; or a plant's call failed
+abbrev pub EndsAsItRuns : Option Ask → List ℕ → Fibres → Status → Type 0
+EndsAsItRuns ask bytes f how = (plan : Planned) (listing : Listing) → Lists ask bytes plan listing → HasRun how
+    → Knows (world_of plan f).fibres → (how ≡ (ran_of plan f).ending) ⊎ (how ≡ status.PlantFault)
+
+-- with so large a limit no settle step is unsettled
+abbrev pub Settles : Option Ask → List ℕ → Status → Type 0
+Settles ask bytes how = (plan : Planned) (listing : Listing) → Lists ask bytes plan listing
+    → enough_for (length plan.nodes) ≤ plan.limit → (k : ℕ) → how ≢ status.Unsettled k
+
+-- a script of settle steps alone shows a healthy ring
+abbrev pub StaysHealthy : Option Ask → List ℕ → Status → Option (List ℕ) → Option (List ℕ) → Type 0
+StaysHealthy ask bytes how old new = (plan : Planned) (listing : Listing) → Lists ask bytes plan listing → HasRun how → AllSettle plan.steps
+    → (reports : List ℕ) × Appends old new (reports ++ last_line how) × IsHealthyText plan listing reports how
+
+-- all is given for what is asked with a plan: for the tables nothing more; for a run its port, and a script that settles
+abbrev pub MayGo : Ask → Planned → Fibres → Type 0
+MayGo Check plan f = Unit {0}
+MayGo ask plan f = (listing : Listing) × (listing_of ask plan ≡ Some listing) × Knows (world_of plan f).fibres × ((ran_of plan f).ending ≡ status.Ok)
+
+-- the words are one of the forms, and the source tells the bytes of a plan with which all is given
+abbrev pub MayBeDone : Option Ask → Option (List ℕ) → Fibres → Type 0
+MayBeDone None left f = ⊥
+MayBeDone (Some ask) None f = ⊥
+MayBeDone (Some ask) (Some bytes) f = (plan : Planned) × IsPlanFor ask bytes plan × MayGo ask plan f

@@ -1,0 +1,51 @@
+-- What the words of a command line ask for. The words are this project's own.
+use Rattle.std.specs.Prelude.{ℕ, ◌-◌, ◌^◌, List, [], ◌∷◌, codes, map, Option, Some, None, option_map, if◌then◌else◌, String, string_bytes}
+use Rattle.std.specs.Str.{bytes_eq}
+use Rattle.std.specs.declared.alloc.Global.{Global}
+use Rattle.sdh_circuits.specs.declared.End.{End}
+use Rattle.sdh_circuits.specs.declared.End.TheVariants.{A, B}
+use Rattle.sdh_plan.specs.Words.{numeral_in}
+use Rattle.sdh_cli.specs.declared.words.Command.{Command}
+use Rattle.sdh_cli.specs.declared.words.Command.TheVariants as command
+
+-- what the program is asked for: to run the plan and report every settle step; to write the squelch tables of the plan; to run it
+-- and write all that the port at that end of the circuit of this name delivers; or to run the plan of this number and count
+pub data Ask : Type 0 where
+  Run : Ask
+  Check : Ask
+  Drop : List ℕ → End → Ask
+  Big : ℕ → Ask
+
+abbrev pub ask_of : Command → Ask
+ask_of command.Run = Run
+ask_of command.Check = Check
+ask_of (command.Drop name end) = Drop name.now end
+ask_of (command.Big number) = Big number
+
+-- the words of a command line, as bytes
+abbrev pub words_of : List (String Global) → List (List ℕ)
+words_of words = map string_bytes words
+
+-- one word
+abbrev pub asked_alone : List ℕ → Option Ask
+asked_alone word = if bytes_eq word (codes "run") then Some Run else if bytes_eq word (codes "check") then Some Check else None
+
+-- a word and a number, which is below 2 ^ 32
+abbrev pub asked_with_number : List ℕ → List ℕ → Option Ask
+asked_with_number word number = if bytes_eq word (codes "big") then option_map Big (numeral_in 0 (2 ^ 32 - 1) number) else None
+
+-- the end that a letter names
+abbrev pub end_lettered : List ℕ → Option End
+end_lettered letter = if bytes_eq letter (codes "a") then Some A else if bytes_eq letter (codes "b") then Some B else None
+
+-- a word, any name and the letter of an end
+abbrev pub asked_with_port : List ℕ → List ℕ → List ℕ → Option Ask
+asked_with_port word name letter = if bytes_eq word (codes "drop") then option_map (Drop name) (end_lettered letter) else None
+
+-- what the words ask for, where they have one of the four forms
+abbrev pub asked : List (List ℕ) → Option Ask
+asked [] = None
+asked (word ∷ []) = asked_alone word
+asked (word ∷ number ∷ []) = asked_with_number word number
+asked (word ∷ name ∷ letter ∷ []) = asked_with_port word name letter
+asked (word ∷ name ∷ letter ∷ more ∷ others) = None

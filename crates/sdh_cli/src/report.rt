@@ -1,0 +1,185 @@
+//! From what is asked to a status and a text.
+ghost use Rattle.std.specs.Prelude.{◌≡◌, ◌≢◌, ◌↔◌, ◌≤◌, ◌++◌, Some, None, IfOk, IfSome, length};
+ghost use Rattle.std.specs.Io.KnownBytes.{IsAtEnd};
+ghost use Rattle.sdh_basics.specs.Causes.{Rose};
+ghost use Rattle.sdh_plant.specs.Fibres.{HasNoFibres};
+ghost use Rattle.sdh_plant.specs.Arrivals.{Knows};
+ghost use Rattle.sdh_plan.specs.Big.{big_planned};
+ghost use Rattle.sdh_report.specs.Statuses.{last_line};
+ghost use Rattle.sdh_tables.specs.Tables.{tables_of};
+ghost use Rattle.sdh_script.specs.Room.{MayList};
+ghost use Rattle.sdh_script.specs.Plans.{world_of, ran_of};
+ghost use Rattle.sdh_cli.specs.Words.{Big, ask_of, words_of, asked};
+ghost use Rattle.sdh_cli.specs.Outcome.{IsRunOutcome, listing_of, OfPlan, OfBytes, IsOutcome, told, LeavesSource, LeavesPlant, HasRead, HasCause, IsShown};
+ghost use Rattle.sdh_cli.specs.Headline.{MayGo, MayBeDone};
+
+use crate::words::{Command, command_of};
+use sdh_circuits::PortId;
+use sdh_outside::{ReadAllError, Source, read_all};
+use sdh_plan::{Plan, PlanError, big_plan, read_plan};
+use sdh_plant::Plant;
+use sdh_report::{LINE_MAX, Listing, Status, Text};
+use sdh_script::run_plan;
+use sdh_tables::table_text;
+use std::alloc::{AllocError, Global};
+
+/// What is to be written, and how the program ends then.
+#[derive(Drop)]
+pub struct Report {
+    pub status: Status,
+    pub text: Text,
+}
+
+// A text with its last line.
+fn ended(status: Status, mut text: Text) -> Report
+    requires room { 96 ≤ text.room }
+    ensures status { result.status ≡ status }
+    ensures text { result.text.bytes ≡ text.bytes ++ last_line result.status }
+{
+    status.has_short_line();
+    text.last_line(&status);
+    Report { status, text }
+}
+
+// The report of one line.
+fn last_report(alloc: Global, status: Status) -> Result<Report, AllocError>
+    ensures { IfOk result (λ report. (report.status ≡ status) × (report.text.bytes ≡ last_line status)) }
+{
+    let text = Text::try_new(alloc, LINE_MAX)?;
+    Ok(ended(status, text))
+}
+
+// The squelch tables of a plan.
+fn table_report(alloc: Global, plan: &Plan) -> Result<Report, AllocError>
+    ensures { IfOk result (λ report. (report.status ≡ Status.Ok) × (report.text.bytes ≡ tables_of plan.now ++ last_line report.status)) }
+{
+    let text = table_text(alloc, plan)?;
+    Ok(ended(Status::Ok, text))
+}
+
+// A plan that is run.
+fn run_report<P: Plant>(
+    alloc: Global,
+    plan: Plan,
+    plant: &mut P,
+    listing: Listing,
+) -> Result<Report, AllocError>
+    requires fresh { HasNoFibres (P.fibres plant.old) }
+    requires listing { MayList (length plan.circuits) listing }
+    ensures outcome { IfOk result (λ report. IsRunOutcome plan listing (P.fibres plant.old) report.status report.text.bytes (P.fibres plant.new)) }
+    ensures failed { IfOk result (λ report. report.status ≡ Status.PlantFault → Rose (P.faults plant.old) (P.faults plant.new)) }
+    ensures complete { IfOk result (λ report. Knows (world_of plan (P.fibres plant.old)).fibres → (ran_of plan (P.fibres plant.old)).ending ≡ Status.Ok → ¬ (Rose (P.faults plant.old) (P.faults plant.new)) → report.status ≡ Status.Ok) }
+    ensures later { P.faults plant.old ≤ P.faults plant.new }
+{
+    let run = run_plan(alloc, plan, plant, listing)?;
+    Ok(ended(run.status, run.text))
+}
+
+// What is listed of each report.
+fn listing_of(command: Command<'_>, plan: &Plan) -> Option<Listing>
+    ensures listing { result ≡ listing_of (ask_of command.entry) plan.now }
+    ensures may { IfSome result (λ listing. MayList (length plan.now.circuits) listing) }
+{
+    match command {
+        Command::Run => Some(Listing::Reports),
+        Command::Check => None,
+        Command::Drop(name, end) => {
+            let circuit = plan.circuits().at_port(name)?;
+            Some(Listing::Port(PortId { circuit, end }))
+        }
+        Command::Big(_) => Some(Listing::Counts),
+    }
+}
+
+// What is asked, with a plan.
+fn plan_report<P: Plant>(
+    alloc: Global,
+    command: Command<'_>,
+    plan: Plan,
+    plant: &mut P,
+) -> Result<Report, AllocError>
+    requires fresh { HasNoFibres (P.fibres plant.old) }
+    ensures outcome { IfOk result (λ report. OfPlan (ask_of command.entry) plan (P.fibres plant.old) report.status report.text.bytes (P.fibres plant.new)) }
+    ensures alone { LeavesPlant (Some (ask_of command.entry)) → plant.new ≡ plant.old }
+    ensures failed { IfOk result (λ report. report.status ≡ Status.PlantFault → Rose (P.faults plant.old) (P.faults plant.new)) }
+    ensures complete { IfOk result (λ report. MayGo (ask_of command.entry) plan (P.fibres plant.old) → ¬ (Rose (P.faults plant.old) (P.faults plant.new)) → report.status ≡ Status.Ok) }
+    ensures later { P.faults plant.old ≤ P.faults plant.new }
+{
+    if let Command::Check = command {
+        return table_report(alloc, &plan);
+    }
+    match listing_of(command, &plan) {
+        Some(listing) => run_report(alloc, plan, plant, listing),
+        None => last_report(alloc, Status::NoSuchPort),
+    }
+}
+
+// What is asked, with the plan that a source has.
+fn read_report<R: Source, P: Plant>(
+    alloc: Global,
+    command: Command<'_>,
+    source: &mut R,
+    plant: &mut P,
+) -> Result<Report, AllocError>
+    requires reads { ¬ (LeavesSource (Some (ask_of command))) }
+    requires fresh { HasNoFibres (P.fibres plant.old) }
+    ensures outcome { IfOk result (λ report. IfSome (R.left source.old) (λ bytes. OfBytes (ask_of command.entry) bytes (P.fibres plant.old) report.status report.text.bytes (P.fibres plant.new))) }
+    ensures alone { LeavesPlant (Some (ask_of command.entry)) → plant.new ≡ plant.old }
+    ensures cause { IfOk result (λ report. HasCause (record { before = R.faults source.old; after = R.faults source.new }) (record { before = P.faults plant.old; after = P.faults plant.new }) report.status) }
+    ensures own { IfOk result (λ report. (report.status ≢ Status.Usage) × IsShown report.status) }
+    ensures read { IfOk result (λ report. report.status ≡ Status.Ok → IsAtEnd (R.left source.new)) }
+    ensures complete { IfOk result (λ report. MayBeDone (Some (ask_of command.entry)) (R.left source.old) (P.fibres plant.old) → ¬ (Rose (R.faults source.old) (R.faults source.new)) → ¬ (Rose (P.faults plant.old) (P.faults plant.new)) → report.status ≡ Status.Ok) }
+    ensures later { (R.faults source.old ≤ R.faults source.new) × (P.faults plant.old ≤ P.faults plant.new) }
+{
+    let bytes = match read_all(alloc, source) {
+        Ok(bytes) => bytes,
+        Err(ReadAllError::Memory) => return Err(AllocError),
+        Err(ReadAllError::ReadFault) => return last_report(alloc, Status::ReadFault),
+        Err(ReadAllError::TooLong) => return last_report(alloc, Status::TooLong),
+    };
+    match read_plan(alloc, &bytes) {
+        Ok(plan) => plan_report(alloc, command, plan, plant),
+        Err(PlanError::Memory) => Err(AllocError),
+        Err(PlanError::NotToml) => last_report(alloc, Status::NotToml),
+        Err(PlanError::BadPlan { reason, place }) => {
+            last_report(alloc, Status::BadPlan { reason, place })
+        }
+    }
+}
+
+// The large plan of a number.
+fn big_report<P: Plant>(alloc: Global, number: u32, plant: &mut P) -> Result<Report, AllocError>
+    requires fresh { HasNoFibres (P.fibres plant.old) }
+    ensures outcome { IfOk result (λ report. OfPlan (Big number) (big_planned number) (P.fibres plant.old) report.status report.text.bytes (P.fibres plant.new)) }
+    ensures failed { IfOk result (λ report. report.status ≡ Status.PlantFault → Rose (P.faults plant.old) (P.faults plant.new)) }
+    ensures complete { IfOk result (λ report. MayGo (Big number) (big_planned number) (P.fibres plant.old) → ¬ (Rose (P.faults plant.old) (P.faults plant.new)) → report.status ≡ Status.Ok) }
+    ensures later { P.faults plant.old ≤ P.faults plant.new }
+{
+    let plan = big_plan(alloc, number)?;
+    plan_report(alloc, Command::Big(number), plan, plant)
+}
+
+/// What the words, the source and the plant come to.
+pub fn report_on<R: Source, P: Plant>(
+    alloc: Global,
+    words: &[String],
+    source: &mut R,
+    plant: &mut P,
+) -> Result<Report, AllocError>
+    requires fresh { HasNoFibres (P.fibres plant.old) }
+    ensures outcome { IfOk result (λ report. let ask = asked (words_of words.now) in IfSome (told ask (R.left source.old)) (λ bytes. IsOutcome ask bytes (P.fibres plant.old) report.status report.text.bytes (P.fibres plant.new))) }
+    ensures cause { IfOk result (λ report. HasCause (record { before = R.faults source.old; after = R.faults source.new }) (record { before = P.faults plant.old; after = P.faults plant.new }) report.status) }
+    ensures usage { IfOk result (λ report. report.status ≡ Status.Usage ↔ (asked (words_of words.now) ≡ None)) }
+    ensures unread { LeavesSource (asked (words_of words.now)) → source.new ≡ source.old }
+    ensures alone { LeavesPlant (asked (words_of words.now)) → plant.new ≡ plant.old }
+    ensures read { IfOk result (λ report. report.status ≡ Status.Ok → HasRead (asked (words_of words.now)) (R.left source.new)) }
+    ensures complete { IfOk result (λ report. (let ask = asked (words_of words.now) in MayBeDone ask (told ask (R.left source.old)) (P.fibres plant.old) → ¬ (Rose (R.faults source.old) (R.faults source.new)) → ¬ (Rose (P.faults plant.old) (P.faults plant.new)) → report.status ≡ Status.Ok)) }
+    ensures own { IfOk result (λ report. IsShown report.status) }
+    ensures later { (R.faults source.old ≤ R.faults source.new) × (P.faults plant.old ≤ P.faults plant.new) }
+{
+    match command_of(words) {
+        None => last_report(alloc, Status::Usage),
+        Some(Command::Big(number)) => big_report(alloc, number, plant),
+        Some(command) => read_report(alloc, command, source, plant),
+    }
+}

@@ -1,0 +1,79 @@
+//! What the words of the command line ask for.
+ghost use Rattle.std.specs.Prelude.{◌≡◌, ◌≤◌, option_map, IfSome};
+ghost use Rattle.sdh_cli.specs.Words.{words_of, ask_of, asked_alone, asked_with_number, end_lettered, asked_with_port, asked};
+
+use sdh_circuits::End;
+use sdh_plan::numeral_in;
+
+/// What the program is asked for.
+#[derive(Clone, Copy)]
+pub enum Command<'a> {
+    /// Run the plan and report every settle step.
+    Run,
+    /// Write the squelch tables of the plan.
+    Check,
+    /// Run the plan and write all that one port delivers.
+    Drop(&'a str, End),
+    /// Run the plan of a number and count.
+    Big(u32),
+}
+
+// What one word asks for.
+fn asked_alone<'a>(word: &str) -> Option<Command<'a>>
+    ensures { option_map ask_of result ≡ asked_alone word.now }
+{
+    if word == "run" {
+        Some(Command::Run)
+    } else if word == "check" {
+        Some(Command::Check)
+    } else {
+        None
+    }
+}
+
+// What a word and a number ask for.
+fn asked_with_number<'a>(word: &str, number: &str) -> Option<Command<'a>>
+    ensures { option_map ask_of result ≡ asked_with_number word.now number.now }
+{
+    if word != "big" {
+        return None;
+    }
+    let number = numeral_in(number.as_bytes(), 0, u32::MAX)?;
+    Some(Command::Big(number))
+}
+
+// The end that a letter names.
+fn end_lettered(letter: &str) -> Option<End>
+    ensures { result ≡ end_lettered letter.now }
+{
+    if letter == "a" {
+        Some(End::A)
+    } else if letter == "b" {
+        Some(End::B)
+    } else {
+        None
+    }
+}
+
+// What a word, a name and a letter ask for.
+fn asked_with_port<'a>(word: &str, name: &'a str, letter: &str) -> Option<Command<'a>>
+    ensures { option_map ask_of result ≡ asked_with_port word.now name.now letter.now }
+{
+    if word != "drop" {
+        return None;
+    }
+    let end = end_lettered(letter)?;
+    Some(Command::Drop(name, end))
+}
+
+/// What the words ask for, or `None` where they have none of the forms that there are.
+pub fn command_of(words: &[String]) -> Option<Command<'_>>
+    ensures { option_map ask_of result ≡ asked (words_of words.now) }
+{
+    match words {
+        [word] => asked_alone(word),
+        [word, number] => asked_with_number(word, number),
+        [word, name, letter] => asked_with_port(word, name, letter),
+        _ => None,
+    }
+}
