@@ -9,8 +9,7 @@ use Rattle.sdh_ringmap.specs.declared.Side.{Side}
 use Rattle.sdh_ringmap.specs.declared.Side.TheVariants.{West, East}
 use Rattle.sdh_circuits.specs.declared.End.TheVariants.{A, B}
 use Rattle.sdh_circuits.specs.declared.PortId.{PortId}
-use Rattle.sdh_squelch.specs.declared.Row.{Row}
-use Rattle.sdh_squelch.specs.Table.{is_carried}
+use Rattle.sdh_squelch.specs.Table.{OnSpan, is_carried}
 use Rattle.sdh_nodestate.specs.FarEnds.{west_chain, east_chain}
 use Rattle.sdh_nodestate.specs.declared.NodeState.{NodeState}
 use Rattle.sdh_nodestate.specs.declared.NodeState.TheVariants as state
@@ -19,14 +18,14 @@ use Rattle.sdh_bridge.specs.declared.Origin.TheVariants.{Add, Working, Protectio
 
 -- what a node at p sends of the circuit on a side: the stream of its own port where the circuit ends there, else what
 -- comes through; AIS where there is no circuit
-abbrev pub sent_of : Pos → Option Row → Origin → Origin
+abbrev pub sent_of : Pos → Option OnSpan → Origin → Origin
 sent_of p None through = Ais
 sent_of p (Some r) through =
     if r.from.0 == p.0 then Add (record { circuit = r.circuit; end = A }) else
     if r.to.0 == p.0 then Add (record { circuit = r.circuit; end = B }) else through
 
 -- A node at position p of a ring of n. `on` tells the circuit on the span of each side in the slot.
-module _ (n : ℕ) (p : Pos) (on : Side → Option Row) where
+module _ (n : ℕ) (p : Pos) (on : Side → Option OnSpan) where
   -- the chain of the node where it switches a side and has that far end
   abbrev pub chain_on : Side → Option Pos → Option Chain
   chain_on West far = west_chain n p far

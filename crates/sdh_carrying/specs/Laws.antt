@@ -9,7 +9,8 @@ use Rattle.sdh_circuits.specs.Provisioning.{Provisioning, AreCircuits}
 use Rattle.sdh_plant.specs.Fibres.{Fibres}
 use Rattle.sdh_restoration.specs.Applied.{span_requests, is_applied}
 use Rattle.sdh_restoration.specs.Settled.{settled_states}
-use Rattle.sdh_restoration.specs.Due.{Due, due}
+use Rattle.sdh_payload.specs.Outlet.{Outlet}
+use Rattle.sdh_restoration.specs.Due.{due}
 use Rattle.sdh_node.specs.declared.settings.Settings.{Settings}
 use Rattle.sdh_node.specs.Crossing.{is_failed, received}
 use Rattle.sdh_node.specs.Node.{receiving_on}
@@ -21,13 +22,13 @@ use Rattle.sdh_world.specs.Quiet.{is_calm, EndsWindow, Settles}
 use Rattle.sdh_world.specs.Changes.{all_changed, Stretch, after_stretches, rounds_in, new_world}
 use Rattle.sdh_hearing.specs.Signalling.{crossing_at, signals_of}
 use Rattle.sdh_hearing.specs.Laws.{IsWhole, MayStart, MayHappen, asked_in}
-use Rattle.sdh_carrying.specs.Brought.{Brings, IsSmall, outlet_due}
+use Rattle.sdh_carrying.specs.Brought.{Brings, HasValue}
 use Rattle.sdh_carrying.specs.Windows.{layout_in, layout_of, HasCircuits, sent_at, requests_of, FailOnApplied, IsQuiet}
 
 -- over a span that didn't fail an AU-4 brings in a calm round what the neighbour sent in it in the calm round before
 abbrev pub ASpanCarries : Type 0
 ASpanCarries = (w : World) → IsWhole w → is_calm (round w).ring.nodes ≡ true → is_calm (round (round w)).ring.nodes ≡ true
-    → (p : ℕ) (d : Side) (au : ℕ) (b : Due) → p < length w.ring.ids → 1 ≤ au → au ≤ n_of w.ring.settings.rate → IsSmall b
+    → (p : ℕ) (d : Side) (au : ℕ) (b : Outlet) → p < length w.ring.ids → 1 ≤ au → au ≤ n_of w.ring.settings.rate → HasValue b
     → is_failed (receiving_on d (node_at (round (round w)).ring.nodes p)).local.defect ≡ false
     → Brings (sent_at w (neighbour (length w.ring.ids) p d) (opposite d) au) b → Brings (received (crossing_at (round w) p) d au) b
 
@@ -35,14 +36,14 @@ ASpanCarries = (w : World) → IsWhole w → is_calm (round w).ring.nodes ≡ tr
 abbrev pub FailuresAreApplied : Type 0
 FailuresAreApplied = (w : World) → IsWhole w → FailOnApplied (length w.ring.ids) (requests_of (round w)) (round w)
 
--- what the port of a circuit delivered in the last round
-abbrev pub Delivered : World → List ℕ → Provisioned → ℕ → End → Type 0
-Delivered w rs c index e =
-    outlet_at w.ring (record { circuit = index; end = e }) ≡ outlet_due (due (length w.ring.ids) (is_applied rs) c e (w.ring.rounds - 1))
+-- the port of a circuit has delivered in the last round what it is owed under these requests of spans
+abbrev pub DeliversItsDue : World → List ℕ → Provisioned → ℕ → End → Type 0
+DeliversItsDue w rs c index e =
+    outlet_at w.ring (record { circuit = index; end = e }) ≡ due (length w.ring.ids) (is_applied rs) c e (w.ring.rounds - 1)
 
--- each port has delivered in the last round what it is owed under these requests of spans
+-- each port has
 abbrev pub DeliversWhatIsDue : World → List ℕ → Type 0
-DeliversWhatIsDue w rs = (index : ℕ) (c : Provisioned) → slice_get w.ring.circuits.circuits index ≡ Some c → (e : End) → Delivered w rs c index e
+DeliversWhatIsDue w rs = (index : ℕ) (c : Provisioned) → slice_get w.ring.circuits.circuits index ≡ Some c → (e : End) → DeliversItsDue w rs c index e
 
 -- after 2n quiet rounds each port delivers what it is owed
 abbrev pub QuietRingsDeliverWhatIsDue : Type 0

@@ -1,6 +1,6 @@
 -- What the program promises follows from its outcome.
-use Rattle.std.proofs.Common.{arith, ◌≡◌, ◌⊎◌, ℕ, ◌≤◌, true, None, Some, List, ◌++◌, length, ap, sym, ◌∙◌, subst, inl, inr}
-use Rattle.std.specs.Prelude.{Option}
+use Rattle.std.proofs.Common.{arith, ◌≡◌, ◌⊎◌, ℕ, ◌≤◌, true, None, Some, List, ◌++◌, length, refl, ap, sym, ◌∙◌, subst, inl, inr}
+use Rattle.std.specs.Prelude.{Option, IfSome}
 use Rattle.std.specs.Io.KnownBytes.{Appends}
 use Rattle.toml.specs.Data.{Members}
 use Rattle.sdh_plant.specs.Fibres.{Fibres}
@@ -11,7 +11,7 @@ use Rattle.sdh_report.specs.declared.status.Status.{Status}
 use Rattle.sdh_report.specs.declared.status.Status.TheVariants as status
 use Rattle.sdh_report.specs.Statuses.{last_line}
 use Rattle.sdh_cli.specs.Words.{Ask, Run, Check, Drop, Big}
-use Rattle.sdh_cli.specs.Outcome.{IsRunOutcome, OfListing, listing_of, HasNoPlan, TellsPlan, IsOutcome, Counts, MayEnd, Writes}
+use Rattle.sdh_cli.specs.Outcome.{IsRunOutcome, OfListing, listing_of, HasNoPlan, TellsPlan, IsOutcome, Counts, HasCause, IsShown, MayEnd, Writes}
 use Rattle.sdh_cli.specs.Headline.{Lists, HasRun, Delivers, EndsAsItRuns, Settles, StaysHealthy}
 
 pub some_same : {A : Type 0} (a b : A) → ◌≡◌ {A = Option A} (Some a) (Some b) → a ≡ b
@@ -84,3 +84,43 @@ module _ (ask : Option Ask) (bytes : List ℕ) (f left : Fibres) (reads calls : 
 
   pub settles : f.honest ≡ true → Settles ask bytes how
   settles honest plan listing is large k e = (ran plan listing is (subst HasRun (sym e) tt)).1.settles honest large k e
+
+-- ---- where something is told of the source
+
+-- the text of an outcome was written whole
+writes_shown : (may : Status → List ℕ → Type 0) (how : Status) (text : List ℕ) (old new : Option (List ℕ)) → IsShown how → may how text → Appends old new text → Writes may how old new
+writes_shown may status.Ok text old new h x a = (text, x, a)
+writes_shown may status.Usage text old new h x a = (text, x, a)
+writes_shown may status.ReadFault text old new h x a = (text, x, a)
+writes_shown may status.WriteFault text old new h x a = absurd (h.0 refl)
+writes_shown may status.NotToml text old new h x a = (text, x, a)
+writes_shown may (status.BadPlan reason place) text old new h x a = (text, x, a)
+writes_shown may (status.Unsettled k) text old new h x a = (text, x, a)
+writes_shown may status.PlantFault text old new h x a = (text, x, a)
+writes_shown may status.TooLong text old new h x a = (text, x, a)
+writes_shown may status.NoSuchPort text old new h x a = (text, x, a)
+writes_shown may status.Memory text old new h x a = absurd (h.1 refl)
+
+pub told_all : (o : Option (List ℕ)) (P Q : List ℕ → Type 0) → ((bytes : List ℕ) → P bytes → Q bytes) → IfSome o P → IfSome o Q
+told_all None P Q h x = tt
+told_all (Some bytes) P Q h x = h bytes x
+
+module _ (o : Option (List ℕ)) (ask : Option Ask) (f left : Fibres) (reads calls : Counts) (how : Status) (text : List ℕ) (old new : Option (List ℕ)) (cause : HasCause reads calls how) (shown : IsShown how) (appends : Appends old new text)
+  (outcome : IfSome o (λ bytes. IsOutcome ask bytes f how text left)) where
+  writes_of : (bytes : List ℕ) → IsOutcome ask bytes f how text left → Writes (λ how text. MayEnd ask bytes f reads calls how text left) how old new
+  writes_of bytes x = writes_shown (λ how text. MayEnd ask bytes f reads calls how text left) how text old new shown (x, cause) appends
+
+  pub told_outcome : IfSome o (λ bytes. Writes (λ how text. MayEnd ask bytes f reads calls how text left) how old new)
+  told_outcome = told_all o _ _ writes_of outcome
+
+  pub told_owed : f.honest ≡ true → IfSome o (λ bytes. Delivers ask bytes how old new)
+  told_owed honest = told_all o _ _ (λ bytes x. delivers ask bytes f left reads calls how old new (writes_of bytes x) honest) outcome
+
+  pub told_healthy : f.honest ≡ true → IfSome o (λ bytes. StaysHealthy ask bytes how old new)
+  told_healthy honest = told_all o _ _ (λ bytes x. stays_healthy ask bytes f left reads calls how old new (writes_of bytes x) honest) outcome
+
+  pub told_settles : f.honest ≡ true → IfSome o (λ bytes. Settles ask bytes how)
+  told_settles honest = told_all o _ _ (λ bytes x. settles ask bytes f left reads calls how old new (writes_of bytes x) honest) outcome
+
+  pub told_unsettled : IfSome o (λ bytes. EndsAsItRuns ask bytes f how)
+  told_unsettled = told_all o _ _ (λ bytes x. ends_as_it_runs ask bytes f left reads calls how old new (writes_of bytes x)) outcome

@@ -1,5 +1,5 @@
 //! From what is asked to a status and a text.
-ghost use Rattle.std.specs.Prelude.{◌≡◌, ◌≢◌, ◌↔◌, ◌≤◌, ◌++◌, Some, None, IfOk, IfSome, length};
+ghost use Rattle.std.specs.Prelude.{◌≡◌, ◌≢◌, ◌↔◌, ◌≤◌, ◌++◌, Some, None, IfOk, IfSome, IfNone, length};
 ghost use Rattle.std.specs.Io.KnownBytes.{IsAtEnd};
 ghost use Rattle.sdh_basics.specs.Causes.{Rose};
 ghost use Rattle.sdh_plant.specs.Fibres.{HasNoFibres};
@@ -147,6 +147,17 @@ fn read_report<R: Source, P: Plant>(
     }
 }
 
+// The number of a plan that isn't read.
+fn number_of(command: Command<'_>) -> Option<u32>
+    ensures big { IfSome result (λ number. ask_of command.entry ≡ Big number) }
+    ensures reads { IfNone result (¬ (LeavesSource (Some (ask_of command.entry)))) }
+{
+    match command {
+        Command::Big(number) => Some(number),
+        _ => None,
+    }
+}
+
 // The large plan of a number.
 fn big_report<P: Plant>(alloc: Global, number: u32, plant: &mut P) -> Result<Report, AllocError>
     requires fresh { HasNoFibres (P.fibres plant.old) }
@@ -177,9 +188,11 @@ pub fn report_on<R: Source, P: Plant>(
     ensures own { IfOk result (λ report. IsShown report.status) }
     ensures later { (R.faults source.old ≤ R.faults source.new) × (P.faults plant.old ≤ P.faults plant.new) }
 {
-    match command_of(words) {
-        None => last_report(alloc, Status::Usage),
-        Some(Command::Big(number)) => big_report(alloc, number, plant),
-        Some(command) => read_report(alloc, command, source, plant),
+    let Some(command) = command_of(words) else {
+        return last_report(alloc, Status::Usage);
+    };
+    match number_of(command) {
+        Some(number) => big_report(alloc, number, plant),
+        None => read_report(alloc, command, source, plant),
     }
 }

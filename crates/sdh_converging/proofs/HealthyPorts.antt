@@ -10,7 +10,6 @@ use Rattle.sdh_world.specs.Runs.{run, course}
 use Rattle.sdh_world.specs.Quiet.{EndsWindow}
 use Rattle.sdh_world.specs.Changes.{new_world}
 use Rattle.sdh_hearing.proofs.Staying.{left_run}
-use Rattle.sdh_carrying.specs.Brought.{outlet_due}
 use Rattle.sdh_carrying.specs.Windows.{requests_of}
 use Rattle.sdh_carrying.proofs.Settles.{window_restores}
 use Rattle.sdh_carrying.proofs.Ways.{layout_run}
@@ -33,4 +32,4 @@ healthy_steps_deliver law s ids circuits f may form steps index c some get e =
     let restored = window_restores law w (begin_whole s ids circuits f may) k ends form in
     ap (λ (v : World). outlet_at v.ring (record { circuit = index; end = e })) (left_steps s ids circuits f may steps some)
     ∙ restored.ports index c there e
-    ∙ λ i. outlet_due (due (size i) (nothing i) c e (number i))
+    ∙ λ i. due (size i) (nothing i) c e (number i)

@@ -6,7 +6,6 @@ use Rattle.sdh_circuits.specs.declared.End.{End}
 use Rattle.sdh_circuits.specs.Provisioned.{Provisioned}
 use Rattle.sdh_circuits.specs.Provisioning.{Provisioning}
 use Rattle.sdh_world.specs.Held.{outlet_at}
-use Rattle.sdh_carrying.specs.Brought.{outlet_due}
 use Rattle.sdh_plant.specs.Fibres.{Fibres}
 use Rattle.sdh_node.specs.declared.settings.Settings.{Settings}
 use Rattle.sdh_world.specs.Rounds.{World}
@@ -48,4 +47,4 @@ HealthyRingsApplyNothing = (s : Settings) (ids : List ℕ) (circuits : Provision
 abbrev pub HealthyStepsDeliver : Type 0
 HealthyStepsDeliver = (s : Settings) (ids : List ℕ) (circuits : Provisioning) (f : Fibres) → MayStart s ids f → HasCircuits (layout_of (new_world s ids circuits f))
     → (steps index : ℕ) (c : Provisioned) → 1 ≤ steps → slice_get circuits.circuits index ≡ Some c → (e : End)
-    → outlet_at (after_stretches (healthy_steps steps) (new_world s ids circuits f)).ring (record { circuit = index; end = e }) ≡ outlet_due (due (length ids) (λ span. false) c e (128 * steps))
+    → outlet_at (after_stretches (healthy_steps steps) (new_world s ids circuits f)).ring (record { circuit = index; end = e }) ≡ due (length ids) (λ span. false) c e (128 * steps)

@@ -16,8 +16,7 @@ use Rattle.sdh_nodestate.specs.Rules.{Scene, scene, state_after}
 use Rattle.sdh_nodestate.specs.FarEnds.{far_of, IsElsewhere}
 use Rattle.sdh_circuits.specs.declared.PortId.{PortId}
 use Rattle.sdh_circuits.specs.Provisioned.{Provisioned}
-use Rattle.sdh_squelch.specs.declared.Row.{Row}
-use Rattle.sdh_squelch.specs.Table.{circuits_at}
+use Rattle.sdh_squelch.specs.Table.{OnSpan, circuits_at}
 use Rattle.sdh_bridge.specs.declared.Origin.{Origin}
 use Rattle.sdh_bridge.specs.declared.Origin.TheVariants as origin
 use Rattle.sdh_bridge.specs.Connections.{stands_for, leaves_working, leaves_protection}
@@ -117,7 +116,7 @@ abbrev pub slot_of : Cross → ℕ → ℕ
 slot_of x au = if nat_le au (half_of x) then au else au - half_of x
 
 -- the circuit in a slot on the span of each side
-abbrev pub circuit_in : Cross → ℕ → Side → Option Row
+abbrev pub circuit_in : Cross → ℕ → Side → Option OnSpan
 circuit_in x m = circuits_at (length x.ids) x.circuits x.at.0 m
 
 -- where AU-4 number au that leaves on a side comes from

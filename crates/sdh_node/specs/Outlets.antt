@@ -1,21 +1,13 @@
 -- What a port delivers of the AU-4 that its circuit comes in.
-use Rattle.std.specs.Prelude.{ℕ}
 use Rattle.sdh_payload.specs.declared.chunk.ChunkForm.{ChunkForm}
 use Rattle.sdh_payload.specs.declared.chunk.ChunkForm.TheVariants.{Plain, Short, Long}
 use Rattle.sdh_payload.specs.Chunk.{taken}
+use Rattle.sdh_payload.specs.Outlet.{Outlet, silent, delivering}
+use Rattle.sdh_payload.specs.declared.delivered.Delivered.{Delivered}
+use Rattle.sdh_payload.specs.declared.delivered.Delivered.TheVariants.{Ais, Chunk}
 use Rattle.sdh_pointer.specs.declared.reading.Action.{Action}
 use Rattle.sdh_pointer.specs.declared.reading.Action.TheVariants as action
-use Rattle.sdh_node.specs.declared.outlet.Delivered.{Delivered}
-use Rattle.sdh_node.specs.declared.outlet.Delivered.TheVariants.{Ais, Chunk}
 use Rattle.sdh_node.specs.Passing.{Input, h3_of}
-
--- what was delivered, with the value of the interpreter through which it came, 0 with AIS
-pub record Outlet : Type 0 where
-  pub delivered : Delivered
-  pub value : ℕ
-
-abbrev pub silent : Outlet
-silent = record { delivered = Ais; value = 0 }
 
 -- three bytes fewer at a positive justification, and three more at a negative one
 abbrev pub chunk_form : Action → ChunkForm
@@ -26,7 +18,7 @@ chunk_form action.Down = Long
 chunk_form action.Ais = Plain
 
 abbrev pub chunk_from : Input → Outlet
-chunk_from i = record { delivered = Chunk (taken (chunk_form i.action) i.au.payload (h3_of i.au.pointers)); value = i.value }
+chunk_from i = delivering i.value (taken (chunk_form i.action) i.au.payload (h3_of i.au.pointers))
 
 abbrev pub delivered_by : Action → Input → Outlet
 delivered_by action.Ais i = silent

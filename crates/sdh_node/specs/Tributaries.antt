@@ -16,7 +16,7 @@ use Rattle.sdh_payload.specs.Stream.{chunk_of}
 use Rattle.sdh_pointer.specs.declared.reading.Action.{Action}
 use Rattle.sdh_pointer.specs.declared.reading.Action.TheVariants as action
 use Rattle.sdh_node.specs.Passing.{Input, no_input}
-use Rattle.sdh_node.specs.Outlets.{Outlet, silent}
+use Rattle.sdh_payload.specs.Outlet.{Outlet, silent}
 
 pub record Tributary : Type 0 where
   pub port : PortId

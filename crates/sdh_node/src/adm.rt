@@ -9,7 +9,6 @@ ghost use Rattle.sdh_node.specs.Tributaries.{HasPort, outlet_of};
 ghost use Rattle.sdh_node.specs.Node.{new_node, first_word, at_receiving, node_round, GoesOn, receiving_on, sending_on, moment_of};
 
 use crate::cross::CrossConnect;
-use crate::outlet::Delivered;
 use crate::sender::Sender;
 use crate::settings::Settings;
 use crate::tributaries::Tributaries;
@@ -17,6 +16,7 @@ use sdh_circuits::{CircuitMap, PortId};
 use sdh_frame::FrameBuf;
 use sdh_kbytes::{Code, K, Mark, Path};
 use sdh_nodestate::NodeState;
+use sdh_payload::Delivered;
 use sdh_plant::Arrived;
 use sdh_request::{Command, Moment};
 use sdh_ringmap::{Pos, RingMap, Side};

@@ -3,21 +3,14 @@ ghost use Rattle.std.specs.Prelude.{◌≡◌, ◌≤◌, IfOk};
 ghost use Rattle.sdh_frame.specs.Sizes.{n_of};
 ghost use Rattle.sdh_frame.specs.Aus.{au_of};
 ghost use Rattle.sdh_payload.specs.Chunk.{taken};
+ghost use Rattle.sdh_payload.specs.Outlet.{silent, delivering};
 ghost use Rattle.sdh_node.specs.Passing.{h3_of};
-ghost use Rattle.sdh_node.specs.Outlets.{Outlet, silent};
 
 use crate::intake::h3_at;
 use sdh_frame::FrameBuf;
-use sdh_payload::{Cells, ChunkForm, take_chunk};
+use sdh_payload::{Cells, ChunkForm, Delivered, take_chunk_in_place};
 use std::alloc::{AllocError, Global};
 use std::marker::Model;
-
-/// What a port delivers in a round: AIS, or the bytes of its AU-4.
-#[derive(Drop)]
-pub enum Delivered {
-    Ais,
-    Chunk(Cells),
-}
 
 /// What a port delivers, and the value of the interpreter through which it came. The memory of a chunk is kept while
 /// AIS is delivered.
@@ -31,8 +24,9 @@ pub struct Outlet {
 
 impl Model for Outlet {
     ghost use Rattle.std.specs.Prelude.{◌≡◌, ◌≤◌, if◌then◌else◌};
-    ghost use Rattle.sdh_node.specs.Outlets.{Outlet, IsChunk};
-    ghost use Rattle.sdh_node.specs.declared.outlet.Delivered.TheVariants.{Ais};
+    ghost use Rattle.sdh_payload.specs.Outlet.{Outlet};
+    ghost use Rattle.sdh_payload.specs.declared.delivered.Delivered.TheVariants.{Ais};
+    ghost use Rattle.sdh_node.specs.Outlets.{IsChunk};
 
     ghost Value = { Outlet };
 
@@ -82,7 +76,7 @@ impl Outlet {
         requires first { 1 ≤ au }
         requires last { au ≤ n_of frame.now.rate }
         requires value { value ≤ 782 }
-        ensures { let came = au_of (n_of frame.now.rate) au frame.now.bytes in self.new ≡ record { delivered = Delivered.Chunk (taken form came.payload (h3_of came.pointers)); value = value } }
+        ensures { let came = au_of (n_of frame.now.rate) au frame.now.bytes in self.new ≡ delivering value (taken form came.payload (h3_of came.pointers)) }
     {
         self.is_here = true;
         self.value = value;
@@ -101,5 +95,5 @@ fn take_au(frame: &FrameBuf, au: u16, form: ChunkForm, cells: &mut Cells)
 {
     frame.take_payload(au, cells.lend_payload());
     let h3 = h3_at(frame, au);
-    take_chunk(form, &h3, cells);
+    take_chunk_in_place(&h3, form, cells);
 }

@@ -10,7 +10,7 @@ use Rattle.sdh_plant.specs.Fibres.{Fibres}
 use Rattle.sdh_plant.specs.Arrivals.{Knows}
 use Rattle.sdh_plant.proofs.Calling.{stay_honest}
 use Rattle.sdh_node.specs.declared.settings.Settings.{Settings}
-use Rattle.sdh_node.specs.Outlets.{Outlet}
+use Rattle.sdh_payload.specs.Outlet.{Outlet}
 use Rattle.sdh_world.specs.Held.{outlet_at}
 use Rattle.sdh_world.specs.Rounds.{World}
 use Rattle.sdh_world.specs.Runs.{run, course}

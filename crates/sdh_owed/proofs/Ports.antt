@@ -6,10 +6,9 @@ use Rattle.sdh_circuits.specs.declared.End.TheVariants.{A, B}
 use Rattle.sdh_circuits.specs.Provisioned.{Provisioned}
 use Rattle.sdh_restoration.specs.Applied.{is_applied}
 use Rattle.sdh_restoration.specs.Due.{due}
-use Rattle.sdh_node.specs.Outlets.{Outlet}
+use Rattle.sdh_payload.specs.Outlet.{Outlet}
 use Rattle.sdh_world.specs.Held.{HeldRing, outlet_at}
 use Rattle.sdh_world.specs.Rounds.{World}
-use Rattle.sdh_carrying.specs.Brought.{outlet_due}
 use Rattle.sdh_carrying.specs.Windows.{layout_of}
 use Rattle.sdh_carrying.specs.Laws.{IsRestored}
 use Rattle.sdh_report.specs.Reports.{PortLine}
@@ -18,7 +17,7 @@ use Rattle.sdh_owed.specs.Owed.{owed_port, owed_ports, IsOwed}
 
 -- the ports of the circuits from a place on, in a ring of n
 pub ports_are : (r : HeldRing) (n : ℕ) (applied : ℕ → Bool) (t index : ℕ) (cs : List Provisioned)
-    → ((k : ℕ) (c : Provisioned) → slice_get cs k ≡ Some c → (e : End) → outlet_at r (record { circuit = index + k; end = e }) ≡ outlet_due (due n applied c e t))
+    → ((k : ℕ) (c : Provisioned) → slice_get cs k ≡ Some c → (e : End) → outlet_at r (record { circuit = index + k; end = e }) ≡ due n applied c e t)
     → ports_from r index cs ≡ owed_ports n applied t cs
 ports_are r n applied t index [] h = refl
 ports_are r n applied t index (c ∷ cs) h =

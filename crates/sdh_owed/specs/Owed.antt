@@ -7,7 +7,6 @@ use Rattle.sdh_restoration.specs.Applied.{span_requests, is_applied}
 use Rattle.sdh_restoration.specs.Due.{due}
 use Rattle.sdh_world.specs.Changes.{Change, Stretch, rounds_in}
 use Rattle.sdh_hearing.specs.Laws.{asked_in}
-use Rattle.sdh_carrying.specs.Brought.{outlet_due}
 use Rattle.sdh_carrying.specs.Windows.{Layout, size_of}
 use Rattle.sdh_plan.specs.declared.step.Step.{Step}
 use Rattle.sdh_plan.specs.declared.step.Step.TheVariants as step
@@ -22,7 +21,7 @@ requests_by l stretches t = span_requests (size_of l) (asked_in l.settings (size
 
 -- what a port is owed in round t, in a ring of n in which these spans are applied
 abbrev pub owed_port : ℕ → (ℕ → Bool) → ℕ → Provisioned → End → PortLine
-owed_port n applied t c e = record { name = c.name; end = e; outlet = outlet_due (due n applied c e t) }
+owed_port n applied t c e = record { name = c.name; end = e; outlet = due n applied c e t }
 
 -- what all ports are owed, in the order of the circuits, a before b
 abbrev pub owed_ports : ℕ → (ℕ → Bool) → ℕ → List Provisioned → List PortLine

@@ -6,3 +6,4 @@ pub mod Walk
 pub mod Feed
 pub mod Laws
 pub mod Room
+pub mod Outlet

@@ -16,8 +16,21 @@ pub enum ChunkForm {
     Long,
 }
 
-/// The 2349 payload bytes of an AU-4 become the bytes that a port delivers, by the three H3 bytes.
-pub fn take_chunk(form: ChunkForm, h3: &[u8], out: &mut Cells)
+/// What a port delivers of an AU-4: the 2349 bytes of its payload and its three H3 bytes give the bytes that take the
+/// place of those in `out`. It takes no memory.
+#[tactic(auto, using(crate::proofs::Splicing::written_whole))]
+pub fn take_chunk(payload: &[u8], h3: &[u8], form: ChunkForm, out: &mut Cells)
+    requires payload { length payload.now ≡ 2349 }
+    requires h3 { length h3.now ≡ 3 }
+    ensures bytes { out.new ≡ taken form payload.now h3.now }
+    ensures count { length out.new ≡ taken_len form }
+{
+    out.lend_payload().copy_from_slice(payload);
+    take_chunk_in_place(h3, form, out);
+}
+
+/// The same where the payload already stands in `out`, as where it was read into `Cells::lend_payload`.
+pub fn take_chunk_in_place(h3: &[u8], form: ChunkForm, out: &mut Cells)
     requires payload { length out.old ≡ 2349 }
     requires h3 { length h3.now ≡ 3 }
     ensures bytes { out.new ≡ taken form out.old h3.now }

@@ -3,6 +3,7 @@
 
 pub mod cells;
 pub mod chunk;
+pub mod delivered;
 pub mod feed;
 pub mod laws;
 mod parity;
@@ -12,7 +13,8 @@ mod short_text;
 mod walk;
 
 pub use cells::Cells;
-pub use chunk::{ChunkForm, take_chunk};
+pub use chunk::{ChunkForm, take_chunk, take_chunk_in_place};
+pub use delivered::Delivered;
 pub use feed::Feed;
 pub use port::{Port, PortError};
 

@@ -116,15 +116,6 @@ fn writes_the_path_overhead(rt: HostRuntime) -> Result<(), Fail> {
     Ok(())
 }
 
-// A payload is written into the room that is lent.
-#[tactic(auto, using(crate::proofs::Splicing::written_whole))]
-fn fill(cells: &mut Cells, payload: &[u8])
-    requires { length payload.now ≡ 2349 }
-    ensures { cells.new ≡ payload.now }
-{
-    cells.lend_payload().copy_from_slice(payload);
-}
-
 #[test]
 fn takes_a_chunk_of_each_form(rt: HostRuntime) -> Result<(), Fail> {
     let mut payload = Vec::new(rt.alloc());
@@ -147,8 +138,7 @@ fn takes_a_chunk_of_each_form(rt: HostRuntime) -> Result<(), Fail> {
         (ChunkForm::Long, 2352, &[28, 29, 253, 254, 255, 30, 31, 32]),
     ];
     for (form, len, middle) in forms {
-        fill(&mut out, &payload);
-        take_chunk(form, &h3, &mut out);
+        take_chunk(&payload, &h3, form, &mut out);
         assert_eq!(rt; out.as_slice().len(), len, "{form:?}");
         assert_eq!(rt; out.as_slice().get(781..789), Some(middle), "{form:?}");
         assert_eq!(rt; out.as_slice().first().copied(), Some(0), "{form:?}");

@@ -9,8 +9,8 @@ use Rattle.sdh_ringmap.specs.declared.Side.TheVariants.{West, East}
 use Rattle.sdh_circuits.specs.declared.Slot.{Slot}
 use Rattle.sdh_circuits.specs.declared.End.{End}
 use Rattle.sdh_circuits.specs.declared.End.TheVariants.{A, B}
-use Rattle.sdh_node.specs.declared.outlet.Delivered.{Delivered}
-use Rattle.sdh_node.specs.declared.outlet.Delivered.TheVariants.{Ais, Chunk}
+use Rattle.sdh_payload.specs.declared.delivered.Delivered.{Delivered}
+use Rattle.sdh_payload.specs.declared.delivered.Delivered.TheVariants.{Ais, Chunk}
 use Rattle.sdh_report.specs.declared.node_line.StateWord.{StateWord}
 use Rattle.sdh_report.specs.declared.node_line.StateWord.TheVariants as word
 use Rattle.sdh_report.specs.declared.node_line.NodeLine.{NodeLine}

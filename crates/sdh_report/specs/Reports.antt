@@ -4,9 +4,9 @@ use Rattle.std.specs.List.{flat_map}
 use Rattle.sdh_circuits.specs.declared.End.{End}
 use Rattle.sdh_circuits.specs.declared.End.TheVariants.{A, B}
 use Rattle.sdh_circuits.specs.declared.PortId.{PortId}
-use Rattle.sdh_node.specs.declared.outlet.Delivered.{Delivered}
-use Rattle.sdh_node.specs.declared.outlet.Delivered.TheVariants.{Ais, Chunk}
-use Rattle.sdh_node.specs.Outlets.{Outlet, silent}
+use Rattle.sdh_payload.specs.declared.delivered.Delivered.{Delivered}
+use Rattle.sdh_payload.specs.declared.delivered.Delivered.TheVariants.{Ais, Chunk}
+use Rattle.sdh_payload.specs.Outlet.{Outlet, silent}
 use Rattle.sdh_report.specs.declared.node_line.NodeLine.{NodeLine}
 use Rattle.sdh_report.specs.declared.listing.Listing.{Listing}
 use Rattle.sdh_report.specs.declared.listing.Listing.TheVariants as listing

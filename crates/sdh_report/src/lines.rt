@@ -10,7 +10,7 @@ use crate::status::Status;
 use crate::text::Text;
 use sdh_circuits::{End, Name, Slot};
 use sdh_kbytes::{K, encode};
-use sdh_node::Delivered;
+use sdh_payload::Delivered;
 use sdh_ringmap::Side;
 
 // The first 16 bytes, or all where there are fewer.

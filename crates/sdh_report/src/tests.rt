@@ -2,7 +2,7 @@
 ghost use Rattle.std.specs.Prelude.{◌≤◌, IfOk};
 
 use super::*;
-use sdh_node::Delivered;
+use sdh_payload::Delivered;
 
 #[test]
 fn counts_its_room(rt: HostRuntime) {

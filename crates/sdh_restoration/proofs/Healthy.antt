@@ -4,11 +4,12 @@ use Rattle.std.specs.Prelude.{if◌then◌else◌, ◌||◌}
 use Rattle.std.proofs.lemmas.Bool.{cond-true}
 use Rattle.sdh_ringmap.specs.Arcs.{Arc, is_clear, is_joined, opposite_arc}
 use Rattle.sdh_ringmap.proofs.Clear.{none_of-never}
+use Rattle.sdh_payload.specs.Outlet.{Outlet, silent, delivering}
 use Rattle.sdh_payload.specs.Stream.{chunk_of}
 use Rattle.sdh_circuits.specs.Provisioned.{Provisioned, arc_of, customer_at}
 use Rattle.sdh_circuits.specs.declared.End.{End}
 use Rattle.sdh_restoration.specs.Routes.{hops}
-use Rattle.sdh_restoration.specs.Due.{Due, Chunk, Ais, due, other_end, nothing_applied}
+use Rattle.sdh_restoration.specs.Due.{due, other_end, nothing_applied}
 
 pub is_clear-nothing : (n : ℕ) (arc : Arc) → is_clear n nothing_applied arc ≡ true
 unfolding is_clear
@@ -24,9 +25,9 @@ unfolding hops
 hops-nothing n arc = cond-true (is_clear n nothing_applied arc) arc.spans _ (is_clear-nothing n arc)
 
 -- each port is owed what the other one sent as many rounds before as the arc has spans
-pub due-nothing : (n : ℕ) (c : Provisioned) (end : End) (t : ℕ) → due n nothing_applied c end t ≡ Chunk (customer_at c (other_end end)).offset (chunk_of (customer_at c (other_end end)) (t - (arc_of n c).spans))
+pub due-nothing : (n : ℕ) (c : Provisioned) (end : End) (t : ℕ) → due n nothing_applied c end t ≡ delivering (customer_at c (other_end end)).offset (chunk_of (customer_at c (other_end end)) (t - (arc_of n c).spans))
 unfolding due
 due-nothing n c end t =
     let sender = customer_at c (other_end end) in
-    let owed : ℕ → Due = λ h. Chunk sender.offset (chunk_of sender (t - h)) in
-    ap (λ b. if b then owed (hops n nothing_applied (arc_of n c)) else Ais) (is_joined-nothing n (arc_of n c)) ∙ ap owed (hops-nothing n (arc_of n c))
+    let owed : ℕ → Outlet = λ h. delivering sender.offset (chunk_of sender (t - h)) in
+    ap (λ b. if b then owed (hops n nothing_applied (arc_of n c)) else silent) (is_joined-nothing n (arc_of n c)) ∙ ap owed (hops-nothing n (arc_of n c))

@@ -13,7 +13,7 @@ use Rattle.sdh_circuits.specs.Provisioning.{Provisioning, IsProvisioning, IsInRi
 use Rattle.sdh_squelch.specs.Kept.{KeepsRing}
 use Rattle.sdh_node.specs.Tributaries.{Tributary, new_tributary, ends_at, ends_from, tributaries_at, is_port, port_of, HasPort, outlet_of}
 use Rattle.sdh_node.specs.Node.{Node}
-use Rattle.sdh_node.specs.Outlets.{silent}
+use Rattle.sdh_payload.specs.Outlet.{silent}
 use Rattle.sdh_world.specs.Held.{HeldRing, outlet_at}
 use Rattle.sdh_ringmap.specs.Places.{position_of}
 

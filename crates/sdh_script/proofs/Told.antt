@@ -11,8 +11,8 @@ use Rattle.sdh_circuits.specs.Provisioned.{Provisioned}
 use Rattle.sdh_circuits.specs.declared.End.{End}
 use Rattle.sdh_circuits.specs.declared.End.TheVariants.{A, B}
 use Rattle.sdh_circuits.specs.declared.PortId.{PortId}
-use Rattle.sdh_node.specs.declared.outlet.Delivered.{Delivered}
-use Rattle.sdh_node.specs.declared.outlet.Delivered.TheVariants.{Ais, Chunk}
+use Rattle.sdh_payload.specs.declared.delivered.Delivered.{Delivered}
+use Rattle.sdh_payload.specs.declared.delivered.Delivered.TheVariants.{Ais, Chunk}
 use Rattle.sdh_world.specs.Held.{HeldRing, outlet_at}
 use Rattle.sdh_report.specs.Lines.{node_line}
 use Rattle.sdh_report.specs.Reports.{PortLine, told_line, place_of_end, delivered_in, chunks_of, silences_of, chunks_in, silences_in}

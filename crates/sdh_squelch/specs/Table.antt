@@ -11,22 +11,26 @@ use Rattle.sdh_ringmap.specs.declared.Side.TheVariants.{West, East}
 use Rattle.sdh_circuits.specs.Provisioned.{Provisioned, is_on}
 use Rattle.sdh_squelch.specs.declared.Row.{Row}
 
+-- a circuit on a span, by its number, with the positions of its ends
+abbrev pub OnSpan : Type 0
+OnSpan = Row
+
 -- in a ring of n, the circuit on span s in slot m, with its end positions, among circuits numbered from i on
-abbrev pub circuit_from : ℕ → ℕ → ℕ → ℕ → List Provisioned → Option Row
+abbrev pub circuit_from : ℕ → ℕ → ℕ → ℕ → List Provisioned → Option OnSpan
 circuit_from n s m i [] = None
 circuit_from n s m i (c ∷ cs) =
     if is_on n s m c then Some (record { circuit = i; from = c.from; to = c.to }) else circuit_from n s m (i + 1) cs
 
 -- the circuit, of those of a ring of n, whose arc holds span s in slot m; there is at most one
-abbrev pub circuit_on : ℕ → List Provisioned → ℕ → ℕ → Option Row
+abbrev pub circuit_on : ℕ → List Provisioned → ℕ → ℕ → Option OnSpan
 circuit_on n circuits s m = circuit_from n s m 0 circuits
 
 -- the circuit in slot m on each side of the node at p
-abbrev pub circuits_at : ℕ → List Provisioned → ℕ → ℕ → Side → Option Row
+abbrev pub circuits_at : ℕ → List Provisioned → ℕ → ℕ → Side → Option OnSpan
 circuits_at n circuits p m d = circuit_on n circuits (span_at n p d) m
 
 -- the circuits in slots 1 to 8 on a side of the node at p
-abbrev pub slots_on : ℕ → List Provisioned → ℕ → Side → List (Option Row)
+abbrev pub slots_on : ℕ → List Provisioned → ℕ → Side → List (Option OnSpan)
 slots_on n circuits p d = cells (λ i. circuits_at n circuits p (i + 1) d) 8
 
 -- A table as contracts see it: the identifiers of the ring, the position of the node, and the ring's circuits.
@@ -60,6 +64,6 @@ pub record IsTable (t : SquelchTable) (rows : List (Option Row)) : Type 0 where
   pub ends : All (HasEnds (length t.ring)) rows
 
 -- a circuit is there, and both its ends are in the chain
-abbrev pub is_carried : ℕ → Option Row → Chain → Bool
+abbrev pub is_carried : ℕ → Option OnSpan → Chain → Bool
 is_carried n None chain = false
 is_carried n (Some r) chain = in_chain n chain r.from.0 && in_chain n chain r.to.0

@@ -1,4 +1,4 @@
-use Rattle.std.proofs.Common.{◌≡◌, ◌++◌, take, drop, length, ap, sym, ◌∙◌, refl, arith, rules}
+use Rattle.std.proofs.Common.{◌≡◌, ◌++◌, take, drop, length, ap, sym, ◌∙◌, refl}
 use Rattle.sdh_payload.specs.Room.{written}
 use Rattle.sdh_payload.proofs.cells.Cells.lend_payload.Goals as goal
 

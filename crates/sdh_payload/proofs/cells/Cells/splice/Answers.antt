@@ -1,4 +1,4 @@
-use Rattle.std.proofs.Common.{◌≡◌, ◌++◌, ◌+◌, ◌-◌, ap, sym, ◌∙◌, arith, rules, take, drop, length}
+use Rattle.std.proofs.Common.{◌≡◌, ◌++◌, ◌+◌, ◌-◌, ap, ◌∙◌, arith, rules, take, drop, length}
 use Rattle.std.proofs.lemmas.List.{length-drop}
 use Rattle.sdh_payload.proofs.Splicing.{turned}
 use Rattle.sdh_payload.proofs.cells.Cells.splice.Goals as goal
