@@ -106,7 +106,7 @@ told_all None P Q h x = tt
 told_all (Some bytes) P Q h x = h bytes x
 
 module _ (o : Option (List ℕ)) (ask : Option Ask) (f left : Fibres) (reads calls : Counts) (how : Status) (text : List ℕ) (old new : Option (List ℕ)) (cause : HasCause reads calls how) (shown : IsShown how) (appends : Appends old new text)
-  (outcome : IfSome o (λ bytes. IsOutcome ask bytes f how text left)) where
+    (outcome : IfSome o (λ bytes. IsOutcome ask bytes f how text left)) where
   writes_of : (bytes : List ℕ) → IsOutcome ask bytes f how text left → Writes (λ how text. MayEnd ask bytes f reads calls how text left) how old new
   writes_of bytes x = writes_shown (λ how text. MayEnd ask bytes f reads calls how text left) how text old new shown (x, cause) appends
 

@@ -1,5 +1,5 @@
 //! From what is asked to a status and a text.
-ghost use Rattle.std.specs.Prelude.{◌≡◌, ◌≢◌, ◌↔◌, ◌≤◌, ◌++◌, Some, None, IfOk, IfSome, IfNone, length};
+ghost use Rattle.std.specs.Prelude.{◌≡◌, ◌≢◌, ◌↔◌, ◌≤◌, ◌++◌, Some, None, IfOk, OnErr, IfSome, IfNone, length};
 ghost use Rattle.std.specs.Io.KnownBytes.{IsAtEnd};
 ghost use Rattle.sdh_basics.specs.Causes.{Rose};
 ghost use Rattle.sdh_plant.specs.Fibres.{HasNoFibres};
@@ -70,6 +70,7 @@ fn run_report<P: Plant>(
     ensures failed { IfOk result (λ report. report.status ≡ Status.PlantFault → Rose (P.faults plant.old) (P.faults plant.new)) }
     ensures complete { IfOk result (λ report. Knows (world_of plan (P.fibres plant.old)).fibres → (ran_of plan (P.fibres plant.old)).ending ≡ Status.Ok → ¬ (Rose (P.faults plant.old) (P.faults plant.new)) → report.status ≡ Status.Ok) }
     ensures later { P.faults plant.old ≤ P.faults plant.new }
+    ensures unsent { OnErr result (P.fibres plant.new ≡ P.fibres plant.old) }
 {
     let run = run_plan(alloc, plan, plant, listing)?;
     Ok(ended(run.status, run.text))
@@ -104,6 +105,7 @@ fn plan_report<P: Plant>(
     ensures failed { IfOk result (λ report. report.status ≡ Status.PlantFault → Rose (P.faults plant.old) (P.faults plant.new)) }
     ensures complete { IfOk result (λ report. MayGo (ask_of command.entry) plan (P.fibres plant.old) → ¬ (Rose (P.faults plant.old) (P.faults plant.new)) → report.status ≡ Status.Ok) }
     ensures later { P.faults plant.old ≤ P.faults plant.new }
+    ensures unsent { OnErr result (P.fibres plant.new ≡ P.fibres plant.old) }
 {
     if let Command::Check = command {
         return table_report(alloc, &plan);
@@ -130,6 +132,7 @@ fn read_report<R: Source, P: Plant>(
     ensures read { IfOk result (λ report. report.status ≡ Status.Ok → IsAtEnd (R.left source.new)) }
     ensures complete { IfOk result (λ report. MayBeDone (Some (ask_of command.entry)) (R.left source.old) (P.fibres plant.old) → ¬ (Rose (R.faults source.old) (R.faults source.new)) → ¬ (Rose (P.faults plant.old) (P.faults plant.new)) → report.status ≡ Status.Ok) }
     ensures later { (R.faults source.old ≤ R.faults source.new) × (P.faults plant.old ≤ P.faults plant.new) }
+    ensures unsent { OnErr result (P.fibres plant.new ≡ P.fibres plant.old) }
 {
     let bytes = match read_all(alloc, source) {
         Ok(bytes) => bytes,
@@ -165,6 +168,7 @@ fn big_report<P: Plant>(alloc: Global, number: u32, plant: &mut P) -> Result<Rep
     ensures failed { IfOk result (λ report. report.status ≡ Status.PlantFault → Rose (P.faults plant.old) (P.faults plant.new)) }
     ensures complete { IfOk result (λ report. MayGo (Big number) (big_planned number) (P.fibres plant.old) → ¬ (Rose (P.faults plant.old) (P.faults plant.new)) → report.status ≡ Status.Ok) }
     ensures later { P.faults plant.old ≤ P.faults plant.new }
+    ensures unsent { OnErr result (P.fibres plant.new ≡ P.fibres plant.old) }
 {
     let plan = big_plan(alloc, number)?;
     plan_report(alloc, Command::Big(number), plan, plant)
@@ -187,6 +191,7 @@ pub fn report_on<R: Source, P: Plant>(
     ensures complete { IfOk result (λ report. (let ask = asked (words_of words.now) in MayBeDone ask (told ask (R.left source.old)) (P.fibres plant.old) → ¬ (Rose (R.faults source.old) (R.faults source.new)) → ¬ (Rose (P.faults plant.old) (P.faults plant.new)) → report.status ≡ Status.Ok)) }
     ensures own { IfOk result (λ report. IsShown report.status) }
     ensures later { (R.faults source.old ≤ R.faults source.new) × (P.faults plant.old ≤ P.faults plant.new) }
+    ensures unsent { OnErr result (P.fibres plant.new ≡ P.fibres plant.old) }
 {
     let Some(command) = command_of(words) else {
         return last_report(alloc, Status::Usage);

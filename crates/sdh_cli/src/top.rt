@@ -27,12 +27,10 @@ pub fn sdhring<R: Source, W: Sink, P: Plant>(
 
     // The status and the text that is written, for a source that tells its bytes, where it is read, and a sink that tells what was
     // written.
-    ensures outcome {
-        let ask = asked (words_of words.now) in
+    ensures outcome { let ask = asked (words_of words.now) in
         let reads : Counts = record { before = R.faults source.old; after = R.faults source.new } in
         let calls : Counts = record { before = P.faults plant.old; after = P.faults plant.new } in
-        IfSome (told ask (R.left source.old)) (λ bytes. Writes (λ how text. MayEnd ask bytes (P.fibres plant.old) reads calls how text (P.fibres plant.new)) result (W.written sink.old) (W.written sink.new))
-    }
+        IfSome (told ask (R.left source.old)) (λ bytes. Writes (λ how text. MayEnd ask bytes (P.fibres plant.old) reads calls how text (P.fibres plant.new)) result (W.written sink.old) (W.written sink.new)) }
 
     // Over honest fibres: the reports show for every port what it is owed; with a large limit no settle step is unsettled; and a
     // script of settle steps alone shows a healthy ring.
@@ -51,7 +49,7 @@ pub fn sdhring<R: Source, W: Sink, P: Plant>(
     ensures read_fault { result ≡ Status.ReadFault → Rose (R.faults source.old) (R.faults source.new) }
     ensures plant_fault { result ≡ Status.PlantFault → Rose (P.faults plant.old) (P.faults plant.new) }
     ensures write_fault { result ≡ Status.WriteFault → Rose (W.faults sink.old) (W.faults sink.new) }
-    ensures memory { result ≡ Status.Memory → sink.new ≡ sink.old }
+    ensures memory { result ≡ Status.Memory → (sink.new ≡ sink.old) × (P.fibres plant.new ≡ P.fibres plant.old) }
     ensures read_whole { result ≡ Status.Ok → HasRead (asked (words_of words.now)) (R.left source.new) }
     ensures later { (R.faults source.old ≤ R.faults source.new) × (W.faults sink.old ≤ W.faults sink.new) × (P.faults plant.old ≤ P.faults plant.new) }
 

@@ -19,4 +19,5 @@ returns-in-Some g c =
       failed = c.run_report.ensures.failed;
       complete = on_ok c.run_report.result _ _ (λ report done go fine. (let may = run_may_go plan listing f ask is go in done may.0 may.1 fine)) c.run_report.ensures.complete;
       later = c.run_report.ensures.later;
+      unsent = c.run_report.ensures.unsent;
     }

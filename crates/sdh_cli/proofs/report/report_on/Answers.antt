@@ -1,12 +1,43 @@
-use Rattle.std.proofs.Common.{◌≡◌, ◌≢◌, Some, sym, ◌∙◌, ap}
+use Rattle.std.proofs.Common.{◌≡◌, Some, sym, ◌∙◌, ap}
 use Rattle.std.specs.Prelude.{option_map}
 use Rattle.sdh_script.proofs.Plans.{on_ok, on_two}
 use Rattle.sdh_plan.specs.Big.{big_planned}
-use Rattle.sdh_cli.specs.Words.{Ask, Big, ask_of, words_of, asked}
-use Rattle.sdh_cli.specs.Outcome.{LeavesSource}
+use Rattle.sdh_cli.specs.Words.{Big, ask_of, words_of, asked}
 use Rattle.sdh_cli.proofs.Endings.{plan_ends}
-use Rattle.sdh_cli.proofs.Stages.{has_cause, is_shown, no_usage, read_outcome, read_done, read_end, read_reads, read_alone}
+use Rattle.sdh_cli.proofs.Stages.{has_cause, is_shown, no_usage, read_outcome}
 use Rattle.sdh_cli.proofs.report.report_on.Goals as goal
 
-pub returns : goal.returns
-returns g c = ?
+pub returns-in-Some-number_of-clause-cause : goal.returns-in-Some-number_of-clause-cause
+returns-in-Some-number_of-clause-cause g c =
+    let means = g.P.Plant.fibres in
+    let counts = g.P.Plant.faults in
+    let number = c.in-Some-number_of.number in
+    on_two c.big_report.result _ _ _ (λ report x failed. has_cause _ (record { before = counts c.args.plant.now; after = counts c.big_report.new.plant }) report.status
+    (plan_ends (Big number) (big_planned number) (means c.args.plant.now) (means c.big_report.new.plant) report.status report.text.bytes x) failed)
+    c.big_report.ensures.outcome c.big_report.ensures.failed
+
+pub returns-in-Some-number_of-clause-usage : goal.returns-in-Some-number_of-clause-usage
+returns-in-Some-number_of-clause-usage g c =
+    let means = g.P.Plant.fibres in
+    let number = c.in-Some-number_of.number in
+    let a = asked (words_of c.args.words.now) in
+    let is : a ≡ Some (Big number) = sym c.command_of.ensures ∙ ap (option_map ask_of) c.in-Some.is ∙ ap (λ x. Some x) c.in-Some-number_of.ensures.big in
+    on_ok c.big_report.result _ _ (λ report x. no_usage a (Big number) is report.status
+    (is_shown report.status (plan_ends (Big number) (big_planned number) (means c.args.plant.now) (means c.big_report.new.plant) report.status report.text.bytes x)).0)
+    c.big_report.ensures.outcome
+
+pub returns-in-Some-number_of-clause-own : goal.returns-in-Some-number_of-clause-own
+returns-in-Some-number_of-clause-own g c =
+    let means = g.P.Plant.fibres in
+    let number = c.in-Some-number_of.number in
+    on_ok c.big_report.result _ _ (λ report x. (is_shown report.status (plan_ends (Big number) (big_planned number) (means c.args.plant.now) (means c.big_report.new.plant) report.status report.text.bytes x)).1)
+    c.big_report.ensures.outcome
+
+pub returns-in-None-clause-outcome : goal.returns-in-None-clause-outcome
+returns-in-None-clause-outcome g c =
+    let means = g.P.Plant.fibres in
+    let a = asked (words_of c.args.words.now) in
+    let ask = ask_of c.in-Some.command in
+    let is : a ≡ Some ask = sym c.command_of.ensures ∙ ap (option_map ask_of) c.in-Some.is in
+    on_ok c.read_report.result _ _ (λ report x. read_outcome a ask is (g.R.Source.left c.args.source.now) (means c.args.plant.now) (means c.read_report.new.plant) report.status report.text.bytes c.in-None.ensures.reads x)
+    c.read_report.ensures.outcome
