@@ -126,3 +126,6 @@ pub fn table_text(alloc: Global, plan: &Plan) -> Result<Text, AllocError>
     put_nodes(&mut text, alloc, plan)?;
     Ok(text)
 }
+
+#[cfg(test)]
+mod tests;
