@@ -3,10 +3,8 @@
 
 ghost use Rattle.std.specs.Prelude.{◌≡◌, ◌+◌, ◌*◌, ◌/◌, ◌≤◌, ◌<◌, ◌++◌, length, slice_index, IfOk, OnOk};
 ghost use Rattle.sdh_report.specs.Lines.{table_line};
-ghost use Rattle.sdh_ringmap.specs.declared.Side.TheVariants.{West, East};
 ghost use Rattle.sdh_frame.specs.Sizes.{n_of};
 ghost use Rattle.sdh_squelch.specs.Table.{table_of};
-ghost use Rattle.sdh_plan.specs.Planned.{IsPlanned};
 ghost use Rattle.sdh_tables.specs.Tables.{slot_line, side_lines, node_lines, tables_of};
 
 use sdh_circuits::{Circuit, Name, Slot};
@@ -126,3 +124,6 @@ pub fn table_text(alloc: Global, plan: &Plan) -> Result<Text, AllocError>
     put_nodes(&mut text, alloc, plan)?;
     Ok(text)
 }
+
+#[cfg(test)]
+mod tests;

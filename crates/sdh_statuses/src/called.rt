@@ -1,0 +1,75 @@
+//! The call over objects in memory.
+ghost use Rattle.sdh_plant.specs.Fibres.{HasNoFibres};
+
+use sdh_cli::{Status, sdhring};
+use sdh_outside::{MemSink, MemSource};
+use sdh_plant::{FibrePlant, Plant};
+use std::alloc::{AllocError, Global};
+
+/// A source and a sink: how many bytes they give and take at a time, and which of their calls fail, counted from 1.
+#[derive(Clone, Copy)]
+pub struct Outside<'a> {
+    pub piece: usize,
+    pub reads: &'a [u32],
+    pub writes: &'a [u32],
+}
+
+/// No call fails.
+pub const SOUND: Outside<'static> = Outside {
+    piece: 64,
+    reads: &[],
+    writes: &[],
+};
+
+/// The words of the commands that read a plan, the last of which names no circuit of these tests.
+pub const RUN: &[&str] = &["run"];
+
+pub const CHECK: &[&str] = &["check"];
+
+pub const DROP: &[&str] = &["drop", "c1", "a"];
+
+pub const DROP_OTHER: &[&str] = &["drop", "c9", "a"];
+
+/// Words that are no command.
+pub const NO_WORDS: &[&str] = &[];
+
+/// Room for every text of these tests, in bytes.
+pub const ROOM: usize = 16_384;
+
+/// The words as the call takes them.
+pub fn words_of(alloc: Global, words: &[&str]) -> Result<Vec<String>, AllocError> {
+    let mut list = Vec::new(alloc);
+    for word in words {
+        list.push(String::from_str(alloc, word)?)?;
+    }
+    Ok(list)
+}
+
+/// The status, and the sink with what was written.
+pub fn call_over<P: Plant>(
+    alloc: Global,
+    words: &[&str],
+    document: &[u8],
+    outside: Outside<'_>,
+    plant: &mut P,
+) -> Result<(Status, MemSink), AllocError>
+    requires { HasNoFibres (P.fibres plant.old) }
+{
+    let words = words_of(alloc, words)?;
+    let piece = outside.piece.max(1);
+    let mut source = MemSource::new(alloc, document, piece, outside.reads)?;
+    let mut sink = MemSink::new(alloc, ROOM, piece, outside.writes)?;
+    let status = sdhring(alloc, &words, &mut source, &mut sink, plant);
+    Ok((status, sink))
+}
+
+/// The same over honest fibres that never fail.
+pub fn call(
+    alloc: Global,
+    words: &[&str],
+    document: &[u8],
+    outside: Outside<'_>,
+) -> Result<(Status, MemSink), AllocError> {
+    let mut plant = FibrePlant::new();
+    call_over(alloc, words, document, outside, &mut plant)
+}
