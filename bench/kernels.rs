@@ -31,6 +31,9 @@ const ROUNDS: u8 = 60;
 /// Chunks that one call of a row over streams makes.
 const CHUNKS: u32 = 500;
 
+/// Turns that one call of the row over an elastic store takes.
+const TURNS: u32 = 500;
+
 /// Pointer words of one call.
 const WORDS: usize = 5000;
 
@@ -228,6 +231,28 @@ fn chunk_row() -> Row {
     )
 }
 
+/// An elastic store that justifies in every fourth turn, beside two copies of the bytes of a turn.
+fn turn_row() -> Row {
+    let input = noise(9393);
+    let mut out = vec![0; 2352];
+    let mut given = 0;
+    for turns in 1..200 {
+        let last = ours::turns(&input, turns, &mut out);
+        let due = input.iter().cycle().skip(given % 9393).take(last.len());
+        assert!(last.iter().eq(due), "turn {turns}");
+        given += last.len();
+    }
+    assert!(given > 190 * 2346, "turns that give");
+    measure(
+        "a store's turn, by two copies",
+        "one AU-4".into(),
+        TURNS as usize,
+        &mut out,
+        |out| _ = ours::turns(black_box(&input), TURNS, out),
+        |out| plain::two_copies(black_box(&input), TURNS, out),
+    )
+}
+
 /// All rows, measured once.
 fn rows() -> Vec<Row> {
     let of_frames = [
@@ -244,6 +269,7 @@ fn rows() -> Vec<Row> {
     let mixed: Vec<u16> = noise(WORDS).into_iter().map(word_of).collect();
     rows.push(pointer_row("pointer step, words of all kinds", &mixed));
     rows.push(chunk_row());
+    rows.push(turn_row());
     rows
 }
 

@@ -18,6 +18,13 @@ unsafe extern "C" {
         out: *mut u8,
         out_len: usize,
     ) -> bool;
+    fn sdh_bench_turns(
+        input: *const u8,
+        input_len: usize,
+        turns: u32,
+        out: *mut u8,
+        out_len: usize,
+    ) -> usize;
 }
 
 /// What the library requires of a rate and a frame.
@@ -84,4 +91,12 @@ pub fn chunks(text: &[u8], trace: &[u8], offset: u16, chunks: u32, out: &mut [u8
         )
     };
     assert!(done, "no such port, or no memory");
+}
+
+/// The bytes that the last turn gives.
+pub fn turns<'a>(input: &[u8], turns: u32, out: &'a mut [u8]) -> &'a [u8] {
+    assert!(input.len() == 9393 && out.len() == 2352);
+    // SAFETY: pointers and lengths are of one slice each, and the library's `requires` was tested.
+    let count = unsafe { sdh_bench_turns(input.as_ptr(), input.len(), turns, out.as_mut_ptr(), out.len()) };
+    &out[..count]
 }

@@ -6,6 +6,7 @@
 mod feeds;
 mod frames;
 mod pointers;
+mod stores;
 
 ghost use Rattle.std.specs.Prelude.{◌≡◌, ◌*◌, ◌⊎◌, length};
 ghost use Rattle.sdh_basics.specs.Parity.{bip8 as parity_of};

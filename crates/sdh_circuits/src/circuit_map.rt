@@ -31,7 +31,8 @@ impl Model for CircuitMap {
 }
 
 impl CircuitMap {
-    /// No circuits, at a rate of which this is half of N: so many working slots a span has.
+    /// No circuits, at a rate with so many working slots on each span: half of its N. It belongs to no ring before the
+    /// first circuit is added, which brings its ring along.
     pub fn new(alloc: Global, rate_half: u8) -> CircuitMap
         requires { IsRateHalf rate_half }
         ensures { result ≡ record { slots = rate_half; ring = None; circuits = [] } }

@@ -14,6 +14,7 @@ use sdh_payload::Cells;
 use sdh_pointer::{Action, Word};
 use std::alloc::{AllocError, Global};
 use std::marker::Model;
+use thiserror::Error;
 
 /// The fewest and the most bytes that are held after a turn.
 const LEAST: usize = 2340;
@@ -24,11 +25,12 @@ const MOST: usize = 2358;
 const ROOM: usize = 4710;
 
 /// Fewer or more bytes would be held after a turn than a store holds.
-#[derive(Clone, Copy, Debug, PartialEq, Eq)]
+#[derive(Clone, Copy, Debug, PartialEq, Eq, Error)]
+#[error("the elastic store would hold fewer than 2340 or more than 2358 bytes")]
 pub struct Drift;
 
 // What a store keeps of its turns besides the bytes.
-#[derive(Clone, Copy)]
+#[derive(Clone, Copy, Debug)]
 struct Course {
     stage: Stage,
     value: u16,
@@ -61,7 +63,7 @@ impl Course {
 
 /// A store that takes a chunk in each turn and gives a frame's bytes from the second on. Its value in clauses is what it
 /// keeps of its history.
-#[derive(Drop)]
+#[derive(Debug, Drop)]
 pub struct Elastic {
     held: HeapCircularBuffer<u8>,
     course: Course,

@@ -60,7 +60,7 @@ pub enum Field {
     B2(u16),
     K1,
     K2,
-    /// Section overhead that this project neither writes to nor reads.
+    /// Section overhead without a use here: it is sent as 0, and counts in parities alone.
     Unused,
     /// A pointer byte: the AU-4, 1 to N, and the place in its pointer, 0 to 8.
     Pointer(u16, u16),

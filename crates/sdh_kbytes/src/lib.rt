@@ -37,18 +37,18 @@ pub enum Path {
     Long,
 }
 
-/// What the sender of a word does with its side, or what it sees there.
+/// What the source of a word tells of itself: the first of `Rdi`, `BridgedSwitched`, `Bridged` and `Idle` that applies.
 #[derive(Clone, Copy, Debug, PartialEq, Eq)]
 pub enum Mark {
-    /// Nothing.
+    /// Neither side is switched, or both are.
     Idle,
-    /// It bridges.
+    /// One side is switched, and the node at the other end isn't known yet.
     Bridged,
-    /// It bridges and switches.
+    /// One side is switched, towards a far end.
     BridgedSwitched,
-    /// Remote defect indication: the side that the word is sent on fails.
+    /// Remote defect indication: its side on which it sends the word fails.
     Rdi,
-    /// Alarm indication of the multiplex section.
+    /// Alarm indication of the multiplex section. No node sends it, and a side that it comes to fails.
     MsAis,
 }
 

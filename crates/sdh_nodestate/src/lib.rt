@@ -170,7 +170,8 @@ pub fn step(old: NodeState, map: &RingMap, at: Pos, needs: Needs, heard: Heard) 
 }
 
 impl SwitchWest {
-    /// The far end, if there is one: the node at the other end of the chain, which switches east.
+    /// The far end, if there is one: the source of the long word that was heard on the east side. In a settled ring it
+    /// switches east.
     pub fn far(&self) -> Option<Pos>
         ensures { result ≡ self.now }
     {
@@ -191,7 +192,8 @@ impl SwitchWest {
 }
 
 impl SwitchEast {
-    /// The far end, if there is one: the node at the other end of the chain, which switches west.
+    /// The far end, if there is one: the source of the long word that was heard on the west side. In a settled ring it
+    /// switches west.
     pub fn far(&self) -> Option<Pos>
         ensures { result ≡ self.now }
     {

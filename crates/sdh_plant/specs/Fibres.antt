@@ -64,12 +64,13 @@ pub record IsHonest (f : Fibres) : Type 0 where
   pub honest : f.honest ≡ true
   pub tells_none : f.told ≡ None
 
--- a fibre in this condition is cut, and inverts so many parity bytes
+-- a fibre in this condition is cut
 abbrev pub is_cut : Condition → Bool
 is_cut Cut = true
 is_cut Clear = false
 is_cut (Degraded k) = false
 
+-- so many bits of a frame it inverts, all of them in overhead that carries nothing
 abbrev pub degraded_by : Condition → ℕ
 degraded_by (Degraded k) = k
 degraded_by Clear = 0

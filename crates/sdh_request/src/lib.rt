@@ -31,7 +31,7 @@ pub enum Command {
     Manual,
 }
 
-/// A moment, counted from 0 in units of the waiting time.
+/// A moment of the plan's time, counted from 0. A side waits to restore for a number of moments; rounds don't count.
 #[derive(Clone, Copy, Debug, PartialEq, Eq)]
 pub struct Moment(pub u64);
 

@@ -7,8 +7,8 @@ use Rattle.sdh_request.specs.declared.Defect.TheVariants as defect
 use Rattle.sdh_request.specs.declared.Command.{Command}
 use Rattle.sdh_request.specs.Requests as request
 
--- what happened on one side, by rounds: whether the fibre that comes in is cut, how many parity bytes its degradation
--- inverts (0 where it isn't degraded), which command holds, and which moment it is
+-- what happened on one side, by rounds: whether the fibre that comes in is cut, how many bits of a frame its
+-- degradation inverts (0 where it isn't degraded), which command holds, and which moment it is
 pub record SideHistory : Type 0 where
   pub is_cut : ℕ → Bool
   pub degraded : ℕ → ℕ
@@ -16,7 +16,7 @@ pub record SideHistory : Type 0 where
   pub moment : ℕ → ℕ
 
 -- the degradation of the round before shows in round t: two frames in a row came in, the first of them with at least
--- `threshold` inverted bytes. Round 0 brings no frame, so this is from round 2 on
+-- `threshold` inverted bits. Round 0 brings no frame, so this is from round 2 on
 abbrev pub shows_degraded : ℕ → SideHistory → ℕ → Bool
 shows_degraded threshold h t = nat_le 2 t && (not (h.is_cut (t - 1)) && nat_le threshold (h.degraded (t - 1)))
 

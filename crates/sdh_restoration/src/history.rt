@@ -11,7 +11,7 @@ use sdh_request::{Command, Defect, Moment};
 #[derive(Clone, Copy, Debug, PartialEq, Eq)]
 pub struct SideRound {
     pub is_cut: bool,
-    /// How many parity bytes are inverted, 0 on a fibre that isn't degraded.
+    /// How many bits of a frame are inverted, each of which shows as a violation of B2; 0 on a fibre that isn't degraded.
     pub degraded: u16,
     pub command: Command,
     pub moment: Moment,
@@ -86,8 +86,8 @@ fn waits(threshold: u16, wait: u32, rounds: &[SideRound], t: usize) -> bool
     }
 }
 
-/// The local request of a side in a round, from all its rounds up to that one. `threshold` is the number of inverted
-/// parity bytes that is a signal degradation, and `wait` how many moments a side waits to restore.
+/// The local request of a side in a round, from all its rounds up to that one. `threshold` is the number of
+/// inverted bits in a frame that is a signal degradation, and `wait` how many moments a side waits to restore.
 #[tactic(auto, unfolding(crate::specs::History::local_request))]
 pub fn local_request(threshold: u16, wait: u32, rounds: &[SideRound], t: usize) -> Code
     requires { t < length rounds.now }

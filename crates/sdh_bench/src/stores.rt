@@ -1,0 +1,54 @@
+//! Turns of an elastic store.
+ghost use Rattle.std.specs.Prelude.{◌≡◌, ◌+◌, ◌≤◌, length};
+
+use sdh_elastic::Elastic;
+use sdh_payload::Cells;
+use std::alloc::Global;
+
+// So many bytes from a place on.
+fn part(bytes: &[u8], from: usize, count: usize) -> &[u8]
+    requires { from + count ≤ length bytes.now }
+    ensures { length result.now ≡ count }
+{
+    &bytes[from..from + count]
+}
+
+// The chunk of a turn: four of them are the input, the first with 2346 bytes and the others with 2349.
+fn chunk_in(input: &[u8], turn: u32) -> &[u8]
+    requires { length input.now ≡ 9393 }
+    ensures least { 2346 ≤ length result.now }
+    ensures most { length result.now ≤ 2352 }
+{
+    match turn % 4 {
+        0 => part(input, 0, 2346),
+        1 => part(input, 2346, 2349),
+        2 => part(input, 4695, 2349),
+        _ => part(input, 7044, 2349),
+    }
+}
+
+/// Takes so many turns of an elastic store, over the input again and again, and gives the bytes of the last turn and their number. It
+/// is 0 where there is no memory or no turn.
+#[unsafe(no_mangle)]
+pub extern "C" fn sdh_bench_turns(alloc: Global, input: &[u8], turns: u32, out: &mut [u8]) -> usize
+    requires input { length input.now ≡ 9393 }
+    requires out { length out.old ≡ 2352 }
+{
+    let Ok(mut store) = Elastic::try_new(alloc, 0) else {
+        return 0;
+    };
+    let Ok(mut cells) = Cells::try_new(alloc) else {
+        return 0;
+    };
+    for turn in 0..turns {
+        if store.turn(chunk_in(input, turn), &mut cells).is_err() {
+            return 0;
+        }
+    }
+    let last = cells.as_slice();
+    if last.len() > out.len() {
+        return 0;
+    }
+    out[..last.len()].copy_from_slice(last);
+    last.len()
+}
