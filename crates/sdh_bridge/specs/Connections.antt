@@ -8,7 +8,6 @@ use Rattle.sdh_ringmap.specs.declared.Pos.{Pos}
 use Rattle.sdh_ringmap.specs.declared.Side.{Side}
 use Rattle.sdh_ringmap.specs.declared.Side.TheVariants.{West, East}
 use Rattle.sdh_circuits.specs.declared.End.TheVariants.{A, B}
-use Rattle.sdh_circuits.specs.declared.PortId.{PortId}
 use Rattle.sdh_squelch.specs.Table.{OnSpan, is_carried}
 use Rattle.sdh_nodestate.specs.FarEnds.{west_chain, east_chain}
 use Rattle.sdh_nodestate.specs.declared.NodeState.{NodeState}

@@ -1,5 +1,5 @@
 -- The ports of circuits at a node, which add and drop their AU-4s.
-use Rattle.std.specs.Prelude.{◌≡◌, ℕ, ◌+◌, ◌-◌, ◌≤◌, Bool, true, false, ◌&&◌, ◌==◌, if◌then◌else◌, Option, IsSome, List, [], ◌∷◌, ◌++◌, length, replicate, find}
+use Rattle.std.specs.Prelude.{◌≡◌, ℕ, ◌+◌, ◌-◌, ◌≤◌, Bool, ◌&&◌, ◌==◌, if◌then◌else◌, Option, IsSome, List, [], ◌∷◌, ◌++◌, length, replicate, find}
 use Rattle.std.specs.Option.{option_map_or}
 use Rattle.sdh_basics.specs.Indexed.{map_from}
 use Rattle.sdh_ringmap.specs.declared.Pos.{Pos}

@@ -1,6 +1,5 @@
 -- Rounds leave all of a ring but its nodes and its count of rounds.
-use Rattle.std.proofs.Common.{◌≡◌, ℕ, ◌+◌, List, length, refl, ap, sym, subst, ◌∙◌, arith}
-use Rattle.sdh_node.specs.Node.{Node}
+use Rattle.std.proofs.Common.{◌≡◌, ℕ, ◌+◌, ap, ◌∙◌, arith}
 use Rattle.sdh_world.specs.Held.{HeldRing}
 use Rattle.sdh_world.specs.Rounds.{World}
 use Rattle.sdh_world.specs.Runs.{IsRound}

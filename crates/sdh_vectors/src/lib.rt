@@ -2,11 +2,15 @@
 #![tactic(auto)]
 
 #[cfg(test)]
+mod deliveries;
+#[cfg(test)]
 mod requests;
 #[cfg(test)]
 mod rings;
 #[cfg(test)]
 mod signals;
+#[cfg(test)]
+mod streams;
 #[cfg(test)]
 mod told;
 #[cfg(test)]

@@ -1,6 +1,8 @@
 //! A ring of four nodes with a circuit from node 1 to node 3, as the tests run it, and what is read of it.
-ghost use Rattle.std.specs.Prelude.{◌≡◌, ◌≤◌, ◌<◌, ◌+◌, ◌^◌, ℕ, IfOk, OnOk, false, length};
+ghost use Rattle.std.specs.Prelude.{◌≡◌, ◌≤◌, ◌<◌, ◌+◌, ◌/◌, ◌^◌, ℕ, IfOk, OnOk, false, length};
+ghost use Rattle.sdh_frame.specs.Sizes.{n_of};
 ghost use Rattle.sdh_plant.specs.Fibres.{HasNoFibres, IsPrepared};
+ghost use Rattle.sdh_squelch.specs.Kept.{KeepsRing};
 
 use sdh_circuits::{Asked, CircuitMap};
 use sdh_frame::Rate;
@@ -60,7 +62,51 @@ pub(crate) fn line_of(ring: &Ring, at: usize) -> Option<Line> {
     ))
 }
 
-/// The ring of these nodes, and the plant laid for it; a refusal counts as want of memory here.
+// The circuits that are asked for; a refusal counts as want of memory here.
+fn circuits_of(
+    alloc: Global,
+    rate: Rate,
+    map: &RingMap,
+    asked: &[Asked<'_>],
+) -> Result<CircuitMap, AllocError>
+    ensures slots { IfOk result (λ circuits. circuits.slots ≡ n_of rate / 2) }
+    ensures kept { IfOk result (λ circuits. KeepsRing circuits map.now) }
+{
+    let mut circuits = CircuitMap::new(alloc, (rate.n() / 2) as u8);
+    'wishes: for wish in asked {
+        circuits.add(map, wish).map_err(|_| AllocError)?;
+    }
+    Ok(circuits)
+}
+
+/// The ring of these nodes and circuits, and the plant laid for it; a refusal counts as want of memory here.
+pub(crate) fn laid_with<P: Plant>(
+    alloc: Global,
+    plant: &mut P,
+    rate: Rate,
+    ids: &[i64],
+    asked: &[Asked<'_>],
+) -> Result<Ring, AllocError>
+    requires { HasNoFibres (P.fibres plant.old) }
+    ensures prepared { IfOk result (λ ring. IsPrepared ring.settings.rate (length ring.ids) (P.fibres plant.new)) }
+    ensures whole { IfOk result (λ ring. ring.broken ≡ false) }
+    ensures new { IfOk result (λ ring. ring.rounds ≡ 0) }
+    ensures moment { IfOk result (λ ring. ring.moment ≡ 0) }
+    ensures rate { IfOk result (λ ring. ring.settings.rate ≡ rate) }
+{
+    let map = RingMap::new(ids).map_err(|_| AllocError)?;
+    let circuits = circuits_of(alloc, rate, &map, asked)?;
+    let nodes = map.len();
+    plant.prepare(alloc, rate, nodes).map_err(|_| AllocError)?;
+    let settings = Settings {
+        rate,
+        threshold: 3,
+        wait: 10,
+    };
+    Ok(Ring::try_new(alloc, settings, map, circuits)?)
+}
+
+/// The ring of these nodes with the one circuit.
 pub(crate) fn laid<P: Plant>(
     alloc: Global,
     plant: &mut P,
@@ -74,17 +120,7 @@ pub(crate) fn laid<P: Plant>(
     ensures moment { IfOk result (λ ring. ring.moment ≡ 0) }
     ensures rate { IfOk result (λ ring. ring.settings.rate ≡ rate) }
 {
-    let map = RingMap::new(ids).map_err(|_| AllocError)?;
-    let mut circuits = CircuitMap::new(alloc, (rate.n() / 2) as u8);
-    circuits.add(&map, &ASKED).map_err(|_| AllocError)?;
-    let nodes = map.len();
-    plant.prepare(alloc, rate, nodes).map_err(|_| AllocError)?;
-    let settings = Settings {
-        rate,
-        threshold: 3,
-        wait: 10,
-    };
-    Ok(Ring::try_new(alloc, settings, map, circuits)?)
+    laid_with(alloc, plant, rate, ids, &[ASKED])
 }
 
 /// Brings the fibre that leaves a position on a side into a condition.
@@ -127,4 +163,20 @@ pub(crate) fn run<P: Plant>(ring: &mut Ring, plant: &mut P, rounds: u32) -> Resu
         ring.round(plant)?;
     }
     Ok(())
+}
+
+/// Runs a settle step; one that doesn't answer counts as want of memory here.
+pub(crate) fn settle<P: Plant>(ring: &mut Ring, plant: &mut P) -> Result<(), AllocError>
+    requires prepared { IsPrepared ring.old.settings.rate (length ring.old.ids) (P.fibres plant.old) }
+    requires whole { ring.old.broken ≡ false }
+    ensures prepared { OnOk result (IsPrepared ring.new.settings.rate (length ring.new.ids) (P.fibres plant.new)) }
+    ensures whole { OnOk result (ring.new.broken ≡ false) }
+{
+    if ring.rounds() > 100_000 {
+        return Err(AllocError);
+    }
+    match ring.settle(plant, 1000) {
+        Ok(()) => Ok(()),
+        Err(_) => Err(AllocError),
+    }
 }

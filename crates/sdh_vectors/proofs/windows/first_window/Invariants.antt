@@ -1,6 +1,5 @@
-use Rattle.std.proofs.Common.{◌≡◌, ◌≤◌, ◌+◌, false, length}
+use Rattle.std.proofs.Common.{◌≡◌, ◌≤◌, ◌+◌, length}
 use Rattle.sdh_plant.specs.Fibres.{IsPrepared}
-use Rattle.sdh_world.specs.Held.{HeldRing}
 use Rattle.sdh_vectors.proofs.windows.first_window.Given as goal
 
 abbrev pub invariant-turns : goal.invariant-turns

@@ -2,7 +2,7 @@ use Rattle.std.proofs.Common.{rules, ◌≡◌, ◌≤◌, length, sym, subst, a
 use Rattle.sdh_plant.specs.Fibres.{IsPrepared}
 use Rattle.sdh_plant.specs.Calls.{prepared}
 use Rattle.sdh_plant.proofs.Calling.{stay_prepared}
-use Rattle.sdh_vectors.proofs.rings.laid.Goals as goal
+use Rattle.sdh_vectors.proofs.rings.laid_with.Goals as goal
 
 pub returns-clause-prepared : goal.returns-clause-prepared
 returns-clause-prepared g c =

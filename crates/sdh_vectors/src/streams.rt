@@ -1,0 +1,98 @@
+//! What a customer sends, told by the place of a byte in its stream, apart from the code that sends it.
+ghost use Rattle.std.specs.Prelude.{◌≡◌, ◌<◌, ◌≤◌, length};
+
+/// The bytes of a VC-4: nine rows of 261.
+const VC: u64 = 2349;
+
+/// The place of B3 in a VC-4: the first byte of the second row.
+const B3: u64 = 261;
+
+/// What one end of a circuit sends.
+#[derive(Clone, Copy)]
+pub(crate) struct Sender<'a> {
+    pub(crate) text: &'a [u8],
+    pub(crate) trace: &'a [u8],
+    pub(crate) offset: u64,
+}
+
+// A byte of the first column but B3: J1 has the trace, padded with spaces to 64 bytes, and C2 tells a VC-4 that is equipped.
+fn overhead(sender: Sender<'_>, number: u64, row: u64) -> u8 {
+    match row {
+        0 => sender
+            .trace
+            .get((number % 64) as usize)
+            .copied()
+            .unwrap_or(b' '),
+        2 => 1,
+        _ => 0,
+    }
+}
+
+// A byte of a VC-4, where that of B3 is 0.
+fn byte_but_b3(sender: Sender<'_>, number: u64, place: u64) -> u8
+    requires text { 1 ≤ length sender.text.now }
+    requires few { number ≤ 10000 }
+    requires place { place < 2349 }
+{
+    let row = place / 261;
+    let column = place % 261;
+    if column == 0 {
+        return overhead(sender, number, row);
+    }
+    let texts = 2340 * number + 260 * row + column - 1;
+    sender.text[(texts % sender.text.len() as u64) as usize]
+}
+
+// The parity of a VC-4 without its B3.
+fn parity_but_b3(sender: Sender<'_>, number: u64) -> u8
+    requires text { 1 ≤ length sender.text.now }
+    requires few { number ≤ 10000 }
+{
+    let mut parity = 0;
+    for place in 0..VC {
+        parity ^= byte_but_b3(sender, number, place);
+    }
+    parity
+}
+
+// B3 has the parity of the VC-4 before it, whose B3 has that of the one before that, and so on: so it has the parity of all
+// bytes before it but the B3s.
+fn b3(sender: Sender<'_>, number: u64) -> u8
+    requires text { 1 ≤ length sender.text.now }
+    requires few { number ≤ 10000 }
+{
+    let mut parity = 0;
+    for before in 0..number {
+        parity ^= parity_but_b3(sender, before);
+    }
+    parity
+}
+
+// The byte at a place of the stream, which begins where the pointer's offset says: three bytes for each step of it, counted
+// from the fourth row of the AU-4.
+fn byte_at(sender: Sender<'_>, place: u64) -> u8
+    requires text { 1 ≤ length sender.text.now }
+    requires few { place ≤ 20000000 }
+    requires offset { sender.offset ≤ 782 }
+{
+    let phase = (783 + 3 * sender.offset) % VC;
+    let from_the_first = place + (VC - phase) % VC;
+    let number = from_the_first / VC;
+    match from_the_first % VC {
+        B3 => b3(sender, number),
+        within => byte_but_b3(sender, number, within),
+    }
+}
+
+/// Whether these are the 2349 bytes that it sends in a round.
+pub(crate) fn is_sent_in(sender: Sender<'_>, round: u64, bytes: &[u8]) -> bool {
+    if sender.text.is_empty() || sender.offset > 782 || round > 5000 || bytes.len() != 2349 {
+        return false;
+    }
+    for (k, byte) in bytes.iter().enumerate() {
+        if *byte != byte_at(sender, VC * round + k as u64) {
+            return false;
+        }
+    }
+    true
+}
