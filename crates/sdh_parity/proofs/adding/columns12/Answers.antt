@@ -1,7 +1,7 @@
 use Rattle.std.proofs.Common.{ℕ, ◌+◌, ◌*◌, ◌^◌, ◌<◌, ◌≤◌, get_or, length, refl, ◌∙◌, arith}
 use Rattle.std.proofs.lemmas.List.{get_or-replicate}
 use Rattle.sdh_parity.proofs.Lanes.{next-lane, next-length, first-lane}
-use Rattle.sdh_parity.proofs.parity.columns12.Goals as goal
+use Rattle.sdh_parity.proofs.adding.columns12.Goals as goal
 
 pub loop-r-init : goal.loop-r-init
 loop-r-init c = record { len = refl; each = λ k h. get_or-replicate 16 k 0 0 h ∙ first-lane c.args.bytes.now c.args.at 12 k }

@@ -1,7 +1,7 @@
 use Rattle.std.proofs.Common.{◌≡◌, ℕ, ◌+◌, ◌<◌, slice_index, length}
 use Rattle.sdh_basics.specs.Parity.{bip8}
 use Rattle.sdh_parity.specs.Parity.{every}
-use Rattle.sdh_parity.proofs.parity.columns48.Given as goal
+use Rattle.sdh_parity.proofs.adding.columns48.Given as goal
 
 abbrev pub invariant-loop-r : goal.invariant-loop-r
 invariant-loop-r l = record {
