@@ -2,3 +2,4 @@ pub mod PlaceProofs
 pub mod AuProofs
 pub mod Moves
 pub mod AllAus
+pub mod Single

@@ -15,7 +15,7 @@ placed : (f : ℕ → ℕ → ℕ) (old new : List ℕ) → length new ≡ lengt
 placed f old new len h zs len2 h2 = ext_get_or 0 new zs (len ∙ sym len2) (λ i lt. h i (omega arith) ∙ sym (h2 i (omega arith)))
 
 -- the byte that is copied stands at its own index
-source : (rate : Rate) (to from i : ℕ) → 1 ≤ from → i < size_of rate → i % n_of rate + 1 ≡ to → 9 * n_of rate ≤ i % (270 * n_of rate)
+pub source : (rate : Rate) (to from i : ℕ) → 1 ≤ from → i < size_of rate → i % n_of rate + 1 ≡ to → 9 * n_of rate ≤ i % (270 * n_of rate)
     → (index_of (n_of rate) (payload_place (n_of rate) from (261 * (i / (270 * n_of rate)) + (i % (270 * n_of rate) - 9 * n_of rate) / n_of rate)) ≡ i - to + from) × (261 * (i / (270 * n_of rate)) + (i % (270 * n_of rate) - 9 * n_of rate) / n_of rate < 2349)
 source Four to from i hf hi au col = (omega arith, omega arith)
 source Sixteen to from i hf hi au col = (omega arith, omega arith)

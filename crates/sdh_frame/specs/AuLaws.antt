@@ -5,7 +5,7 @@ use Rattle.sdh_frame.specs.declared.Field.TheVariants.{Pointer, Payload}
 use Rattle.sdh_frame.specs.declared.Place.{Place}
 use Rattle.sdh_frame.specs.Sizes.{n_of, size_of}
 use Rattle.sdh_frame.specs.Fields.{index_of}
-use Rattle.sdh_frame.specs.Aus.{Au, au_of, with_au, with_aus}
+use Rattle.sdh_frame.specs.Aus.{Au, payload_of, pointers_of, with_payload, with_pointers, au_of, with_au, with_aus}
 use Rattle.sdh_frame.specs.PlaceLaws.{IsInFrame, field_of}
 
 -- the lists of an AU-4 have their lengths
@@ -24,6 +24,13 @@ pub record IsWritten (rate : Rate) (au : ℕ) (is : Au) (bytes : List ℕ) : Typ
 
 abbrev pub WritingKeeps : Type 0
 WritingKeeps = (rate : Rate) (au : ℕ) (is : Au) (bytes : List ℕ) → length bytes ≡ size_of rate → 1 ≤ au → au ≤ n_of rate → IsAu is → IsWritten rate au is bytes
+
+-- writing one list of an AU-4 is writing the AU-4 with its other list as it stands there
+pub record WritingOneList : Type 0 where
+  pub payload : (rate : Rate) (au : ℕ) (payload bytes : List ℕ) → length bytes ≡ size_of rate → 1 ≤ au → au ≤ n_of rate
+      → with_payload (n_of rate) au payload bytes ≡ with_au (n_of rate) au (record { pointers = pointers_of (n_of rate) au bytes; payload = payload }) bytes
+  pub pointers : (rate : Rate) (au : ℕ) (pointers bytes : List ℕ) → length bytes ≡ size_of rate → 1 ≤ au → au ≤ n_of rate
+      → with_pointers (n_of rate) au pointers bytes ≡ with_au (n_of rate) au (record { pointers = pointers; payload = payload_of (n_of rate) au bytes }) bytes
 
 -- the field is no byte of an AU-4
 pub record IsOverhead (rate : Rate) (place : Place) : Type 0 where

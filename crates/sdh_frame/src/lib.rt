@@ -4,6 +4,7 @@
 mod au;
 mod laws;
 mod places;
+mod view;
 
 ghost use Rattle.std.specs.Prelude.{◌≡◌, ◌+◌, ◌*◌, ◌-◌, ◌<◌, ◌≤◌, length, slice_index, slice_set, replicate, IfOk};
 ghost use Rattle.std.specs.Borrow.{sem};
@@ -13,11 +14,12 @@ ghost use Rattle.sdh_frame.specs.Lending.{LendsBytes};
 
 pub use laws::{
     payload_places_have_one_index, pointer_places_have_one_index, writing_all_aus_keeps_overhead,
-    writing_an_au_keeps_the_rest,
+    writing_an_au_keeps_the_rest, writing_one_list_writes_the_au,
 };
 pub use places::{au_place, place_of, pointer_place};
 use std::alloc::{AllocError, Global};
 use std::marker::Model;
+pub use view::{AuView, AuViewMut};
 
 /// The rate of a ring: STM-4 or STM-16.
 #[derive(Clone, Copy, Debug, PartialEq, Eq)]

@@ -1,5 +1,5 @@
 //! Places by the layout's own tables, and frames written and read.
-ghost use Rattle.std.specs.Prelude.{◌≡◌, ◌*◌, ◌≤◌, IfOk, vec_len};
+ghost use Rattle.std.specs.Prelude.{◌≡◌, ◌*◌, ◌<◌, ◌≤◌, IfOk, vec_len};
 ghost use Rattle.sdh_frame.specs.Sizes.{n_of};
 
 use super::*;
@@ -200,5 +200,94 @@ fn an_au_of_ones_is_copied(rt: HostRuntime) -> Result<(), Fail> {
         }),
         0
     );
+    Ok(())
+}
+
+// Whether a payload byte of AU-4 number 2 of an STM-4 frame, by its index, stands at a place.
+fn payload_stands_at(frame: &mut FrameBuf, index: u16, row: u16, column: u16) -> bool
+    requires rate { frame.old.rate ≡ Rate.Four }
+    requires index { index < 2349 }
+    requires row { 1 ≤ row }
+    requires rows { row ≤ 9 }
+    requires column { 1 ≤ column }
+    requires columns { column ≤ 1080 }
+    ensures rate { frame.new.rate ≡ frame.old.rate }
+{
+    let place = Place { row, column };
+    frame.au_mut(2).set_payload(index, 0x5A);
+    let written = frame.get(place) == 0x5A && frame.au(2).payload(index) == 0x5A;
+    frame.au_mut(2).set_payload(index, 0);
+    written && frame.get(place) == 0 && frame.au_mut(2).payload(index) == 0
+}
+
+// The same of a pointer byte.
+fn pointer_stands_at(frame: &mut FrameBuf, index: u16, column: u16) -> bool
+    requires rate { frame.old.rate ≡ Rate.Four }
+    requires index { index < 9 }
+    requires column { 1 ≤ column }
+    requires columns { column ≤ 1080 }
+    ensures rate { frame.new.rate ≡ frame.old.rate }
+{
+    let place = Place { row: 4, column };
+    frame.au_mut(2).set_pointer(index, 0xA5);
+    let written = frame.get(place) == 0xA5 && frame.au(2).pointer(index) == 0xA5;
+    frame.au_mut(2).set_pointer(index, 0);
+    written && frame.get(place) == 0 && frame.au_mut(2).pointer(index) == 0
+}
+
+#[test]
+fn places_of_a_view(rt: HostRuntime) -> Result<(), Fail> {
+    let mut frame = FrameBuf::try_new(rt.alloc(), Rate::Four)?;
+    assert!(rt; payload_stands_at(&mut frame, 0, 1, 38));
+    assert!(rt; payload_stands_at(&mut frame, 783, 4, 38));
+    assert!(rt; payload_stands_at(&mut frame, 2348, 9, 1078));
+    assert!(rt; pointer_stands_at(&mut frame, 0, 2));
+    assert!(rt; pointer_stands_at(&mut frame, 3, 14));
+    assert!(rt; pointer_stands_at(&mut frame, 8, 34));
+    Ok(())
+}
+
+// AU-4 number 2 of another frame is copied to number 16. A view for writing is done with before the next one is lent.
+fn write_two(frame: &mut FrameBuf, other: &mut FrameBuf)
+    requires rate { frame.old.rate ≡ Rate.Sixteen }
+    requires other_rate { other.old.rate ≡ Rate.Sixteen }
+    ensures rate { frame.new.rate ≡ Rate.Sixteen }
+{
+    other.au_mut(2).fill_ones();
+    let mut first = frame.au_mut(16);
+    first.copy_payload(&other.au(2));
+    first.set_pointer(0, 0x68);
+    let mut second = frame.au_mut(1);
+    second.set_payload(0, 7);
+}
+
+// The first pointer byte of an AU-4 of an STM-16 frame, and the first and the last byte of its payload.
+fn ends_of(frame: &FrameBuf, au: u16) -> [u8; 3]
+    requires rate { frame.now.rate ≡ Rate.Sixteen }
+    requires first { 1 ≤ au }
+    requires last { au ≤ 16 }
+{
+    let view = frame.au(au);
+    [view.pointer(0), view.payload(0), view.payload(2348)]
+}
+
+#[test]
+fn views_are_lent_one_after_the_other(rt: HostRuntime) -> Result<(), Fail> {
+    let mut frame = FrameBuf::try_new(rt.alloc(), Rate::Sixteen)?;
+    let mut other = FrameBuf::try_new(rt.alloc(), Rate::Sixteen)?;
+    write_two(&mut frame, &mut other);
+    assert_eq!(rt; ends_of(&frame, 16), [0x68, 0xFF, 0xFF]);
+    assert_eq!(rt; ends_of(&frame, 15), [0, 0, 0]);
+    assert_eq!(rt; ends_of(&frame, 1), [0, 7, 0]);
+    Ok(())
+}
+
+#[test]
+fn rows_of_a_frame(rt: HostRuntime) -> Result<(), Fail> {
+    let mut frame = FrameBuf::try_new(rt.alloc(), Rate::Four)?;
+    frame.set(Place { row: 5, column: 13 }, 0xB3);
+    assert_eq!(rt; frame.row(5).len(), 1080);
+    assert_eq!(rt; frame.row(5)[12], 0xB3);
+    assert_eq!(rt; frame.row(4)[12], 0);
     Ok(())
 }

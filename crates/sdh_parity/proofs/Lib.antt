@@ -4,3 +4,5 @@ pub mod Parts
 pub mod Scrambled
 pub mod Lanes
 pub mod Differing
+pub mod Cutting
+pub mod Running

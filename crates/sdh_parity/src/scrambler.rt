@@ -76,7 +76,7 @@ static SEQUENCE: [u8; 1016] = [
 ];
 
 #[inline(always)]
-fn sequence(i: usize) -> u8
+pub(crate) fn sequence(i: usize) -> u8
     requires { i < 1016 }
     ensures { result ≡ scrambling_byte i }
 {
@@ -95,7 +95,7 @@ fn add_part(part: &mut [u8])
 }
 
 // Adds the sequence from its start.
-fn add_sequence(bytes: &mut [u8])
+pub(crate) fn add_sequence(bytes: &mut [u8])
     ensures { (k : ℕ) → k < length bytes.old → slice_index bytes.new k ≡ bit_xor (slice_index bytes.old k) (scrambling_byte k) }
 {
     let blocks = bytes.len() / 1016;

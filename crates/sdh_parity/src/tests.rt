@@ -1,5 +1,5 @@
 //! Parities and scrambling bytes that are known from outside.
-ghost use Rattle.std.specs.Prelude.{◌≡◌, ◌*◌, ◌≤◌, IfOk, vec_len};
+ghost use Rattle.std.specs.Prelude.{◌≡◌, ◌*◌, ◌<◌, ◌≤◌, IfOk, vec_len, length};
 
 use super::*;
 use std::alloc::{AllocError, Global};
@@ -61,5 +61,77 @@ fn section_parities(rt: HostRuntime) -> Result<(), Fail> {
     assert_eq!(rt; wide[0], 0x20);
     assert_eq!(rt; wide[46], 0);
     assert_eq!(rt; wide[47], 0x10);
+    Ok(())
+}
+
+// The value of byte i of a frame that is cut.
+fn mixed(i: usize) -> u8
+    requires { i < 38880 }
+{
+    (i * 7 % 251) as u8
+}
+
+// An STM-16 frame of mixed bytes.
+fn mixed_frame(alloc: Global) -> Result<Vec<u8>, AllocError>
+    ensures { IfOk result (λ v. vec_len v ≡ 38880) }
+{
+    let mut bytes = frame(alloc, 16)?;
+    for i in 0..38880 {
+        bytes[i] = mixed(i);
+    }
+    Ok(bytes)
+}
+
+// Both parities of two pieces, one after the other.
+fn of_pieces(bytes: &[u8], cut: usize, wide: &mut [u8]) -> u8
+    requires bytes { cut ≤ length bytes.now }
+    requires wide { length wide.old ≡ 48 }
+{
+    let (first, second) = bytes.split_at(cut);
+    let mut sum = Bip8::new();
+    sum.add(first);
+    sum.add(second);
+    let mut sums = BipSection::new(16);
+    sums.add(first);
+    sums.add(second);
+    sums.write_value(wide);
+    sum.value()
+}
+
+// However a frame is cut, the parities are those of its bytes, added one by one.
+#[test]
+fn a_frame_cut_after_each_of_its_first_bytes(rt: HostRuntime) -> Result<(), Fail> {
+    let bytes = mixed_frame(rt.alloc())?;
+    let mut parity = 0;
+    let mut lanes = [0; 48];
+    for i in 0..38880 {
+        parity ^= mixed(i);
+        lanes[i % 48] ^= mixed(i);
+    }
+    for cut in 0..201 {
+        let mut wide = [0xFF; 48];
+        assert_eq!(rt;
+            of_pieces(bytes.as_slice(), cut, &mut wide),
+            parity,
+            "{cut}"
+        );
+        assert_eq!(rt; wide, lanes, "{cut}");
+    }
+    Ok(())
+}
+
+// Pieces of a frame, each scrambled behind the one before it, are the scrambled frame.
+#[test]
+fn a_frame_is_scrambled_in_pieces(rt: HostRuntime) -> Result<(), Fail> {
+    let mut whole = mixed_frame(rt.alloc())?;
+    scramble(Rate9(144), whole.as_mut_slice());
+    for cut in [0, 1, 143, 144, 145, 1159, 1160, 4320, 38880] {
+        let mut bytes = mixed_frame(rt.alloc())?;
+        let (first, second) = bytes.as_mut_slice().split_at_mut(cut);
+        let mut scrambler = Scrambler::new(Rate9(144));
+        scrambler.apply(first);
+        scrambler.apply(second);
+        assert!(rt; bytes.as_slice() == whole.as_slice(), "{cut}");
+    }
     Ok(())
 }

@@ -1,0 +1,229 @@
+//! AU-4s lent in place.
+ghost use Rattle.std.specs.Prelude.{◌≡◌, ◌+◌, ◌*◌, ◌-◌, ◌<◌, ◌≤◌, length, slice_index, slice_set, slice_range};
+ghost use Rattle.sdh_frame.specs.Sizes.{n_of, size_of};
+ghost use Rattle.sdh_frame.specs.Fields.{index_of, payload_place, place_of_pointer};
+ghost use Rattle.sdh_frame.specs.Aus.{payload_of, pointers_of, with_payload, with_pointers, with_au, ones};
+
+use crate::{FrameBuf, Rate};
+
+/// An AU-4 of a frame, to be read.
+#[derive(Drop)]
+pub struct AuView<'a> {
+    frame: &'a FrameBuf,
+    au: u16,
+    ghost first: { 1 ≤ au },
+    ghost last: { au ≤ n_of frame.now.rate },
+}
+
+/// An AU-4 of a frame, to be written.
+#[derive(Drop)]
+pub struct AuViewMut<'a> {
+    frame: &'a mut FrameBuf,
+    au: u16,
+    ghost first: { 1 ≤ au },
+    ghost last: { au ≤ n_of frame.now.rate },
+}
+
+// The index of a payload byte among the bytes of its frame.
+fn payload_index(rate: Rate, au: u16, index: u16) -> usize
+    requires first { 1 ≤ au }
+    requires last { au ≤ n_of rate }
+    requires index { index < 2349 }
+    ensures place { result ≡ index_of (n_of rate) (payload_place (n_of rate) au index) }
+    ensures within { result < size_of rate }
+{
+    let j = index as usize;
+    let au = au as usize;
+    match rate {
+        Rate::Four => j / 261 * 1080 + (35 + (j % 261 * 4 + au)),
+        Rate::Sixteen => j / 261 * 4320 + (143 + (j % 261 * 16 + au)),
+    }
+}
+
+// The index of a pointer byte.
+fn pointer_index(rate: Rate, au: u16, index: u16) -> usize
+    requires first { 1 ≤ au }
+    requires last { au ≤ n_of rate }
+    requires index { index < 9 }
+    ensures place { result ≡ index_of (n_of rate) (place_of_pointer (n_of rate) au index) }
+    ensures within { result < size_of rate }
+{
+    let p = index as usize;
+    let au = au as usize;
+    match rate {
+        Rate::Four => 3239 + (p * 4 + au),
+        Rate::Sixteen => 12959 + (p * 16 + au),
+    }
+}
+
+#[tactic(auto, using(crate::proofs::Single::read_payload))]
+fn payload_byte(rate: Rate, bytes: &[u8], au: u16, index: u16) -> u8
+    requires size { length bytes.now ≡ size_of rate }
+    requires first { 1 ≤ au }
+    requires last { au ≤ n_of rate }
+    requires index { index < 2349 }
+    ensures { result ≡ slice_index (payload_of (n_of rate) au bytes.now) index }
+{
+    bytes[payload_index(rate, au, index)]
+}
+
+fn put_payload_byte(rate: Rate, bytes: &mut [u8], au: u16, index: u16, value: u8)
+    requires size { length bytes.old ≡ size_of rate }
+    requires first { 1 ≤ au }
+    requires last { au ≤ n_of rate }
+    requires index { index < 2349 }
+    ensures { bytes.new ≡ with_payload (n_of rate) au (slice_set (payload_of (n_of rate) au bytes.old) index value) bytes.old }
+{
+    bytes[payload_index(rate, au, index)] = value;
+}
+
+fn put_pointer_byte(rate: Rate, bytes: &mut [u8], au: u16, index: u16, value: u8)
+    requires size { length bytes.old ≡ size_of rate }
+    requires first { 1 ≤ au }
+    requires last { au ≤ n_of rate }
+    requires index { index < 9 }
+    ensures { bytes.new ≡ with_pointers (n_of rate) au (slice_set (pointers_of (n_of rate) au bytes.old) index value) bytes.old }
+{
+    bytes[pointer_index(rate, au, index)] = value;
+}
+
+impl FrameBuf {
+    fn payload_at(&self, au: u16, index: u16) -> u8
+        requires first { 1 ≤ au }
+        requires last { au ≤ n_of self.now.rate }
+        requires index { index < 2349 }
+        ensures { result ≡ slice_index (payload_of (n_of self.now.rate) au self.now.bytes) index }
+    {
+        payload_byte(self.rate, self.bytes.as_slice(), au, index)
+    }
+
+    fn set_payload_at(&mut self, au: u16, index: u16, value: u8)
+        requires first { 1 ≤ au }
+        requires last { au ≤ n_of self.old.rate }
+        requires index { index < 2349 }
+        ensures { let n = n_of self.old.rate in self.new ≡ record self.old { bytes = with_payload n au (slice_set (payload_of n au self.old.bytes) index value) self.old.bytes } }
+    {
+        put_payload_byte(self.rate, self.bytes.as_mut_slice(), au, index, value);
+    }
+
+    fn set_pointer_at(&mut self, au: u16, index: u16, value: u8)
+        requires first { 1 ≤ au }
+        requires last { au ≤ n_of self.old.rate }
+        requires index { index < 9 }
+        ensures { let n = n_of self.old.rate in self.new ≡ record self.old { bytes = with_pointers n au (slice_set (pointers_of n au self.old.bytes) index value) self.old.bytes } }
+    {
+        put_pointer_byte(self.rate, self.bytes.as_mut_slice(), au, index, value);
+    }
+
+    /// Lends an AU-4, 1 to N.
+    pub fn au(&self, au: u16) -> AuView<'_>
+        requires first { 1 ≤ au }
+        requires last { au ≤ n_of self.now.rate }
+        ensures frame { result.frame.now ≡ self.now }
+        ensures au { result.au ≡ au }
+    {
+        AuView { frame: self, au }
+    }
+
+    /// Lends an AU-4, 1 to N, for writing.
+    pub fn au_mut(&mut self, au: u16) -> AuViewMut<'_>
+        requires first { 1 ≤ au }
+        requires last { au ≤ n_of self.old.rate }
+        ensures same_reference { result.frame.ghost_name ≡ self.entry.ghost_name }
+        ensures frame { result.frame.now ≡ self.old }
+        ensures au { result.au ≡ au }
+    {
+        AuViewMut { frame: self, au }
+    }
+
+    /// The 270N bytes of row 1 to 9.
+    pub fn row(&self, row: u16) -> &[u8]
+        requires first { 1 ≤ row }
+        requires last { row ≤ 9 }
+        ensures row { let w = 270 * n_of self.now.rate in result.now ≡ slice_range self.now.bytes ((row - 1) * w) (row * w) }
+        ensures len { length result.now ≡ 270 * n_of self.now.rate }
+    {
+        let width = 270 * self.rate.n();
+        let row = row as usize;
+        &self.bytes.as_slice()[(row - 1) * width..row * width]
+    }
+}
+
+impl<'a> AuView<'a> {
+    /// A payload byte, by its index 0 to 2348.
+    pub fn payload(&self, index: u16) -> u8
+        requires { index < 2349 }
+        ensures { result ≡ slice_index (payload_of (n_of self.now.frame.now.rate) self.now.au self.now.frame.now.bytes) index }
+    {
+        self.frame.payload_at(self.au, index)
+    }
+
+    /// A pointer byte, by its index 0 to 8.
+    pub fn pointer(&self, index: u16) -> u8
+        requires { index < 9 }
+        ensures { result ≡ slice_index (pointers_of (n_of self.now.frame.now.rate) self.now.au self.now.frame.now.bytes) index }
+    {
+        self.frame.pointer(self.au, index)
+    }
+}
+
+impl<'a> AuViewMut<'a> {
+    /// A payload byte.
+    pub fn payload(&self, index: u16) -> u8
+        requires { index < 2349 }
+        ensures { result ≡ slice_index (payload_of (n_of self.now.frame.now.rate) self.now.au self.now.frame.now.bytes) index }
+    {
+        self.frame.payload_at(self.au, index)
+    }
+
+    /// A pointer byte.
+    pub fn pointer(&self, index: u16) -> u8
+        requires { index < 9 }
+        ensures { result ≡ slice_index (pointers_of (n_of self.now.frame.now.rate) self.now.au self.now.frame.now.bytes) index }
+    {
+        self.frame.pointer(self.au, index)
+    }
+
+    /// A payload byte becomes this.
+    pub fn set_payload(&mut self, index: u16, value: u8)
+        requires { index < 2349 }
+        ensures same_reference { self.new.frame.ghost_name ≡ self.old.frame.ghost_name }
+        ensures au { self.new.au ≡ self.old.au }
+        ensures frame { let f = self.old.frame.now in let n = n_of f.rate in self.new.frame.now ≡ record f { bytes = with_payload n self.old.au (slice_set (payload_of n self.old.au f.bytes) index value) f.bytes } }
+    {
+        let au = self.au;
+        self.frame.set_payload_at(au, index, value);
+    }
+
+    /// A pointer byte becomes this.
+    pub fn set_pointer(&mut self, index: u16, value: u8)
+        requires { index < 9 }
+        ensures same_reference { self.new.frame.ghost_name ≡ self.old.frame.ghost_name }
+        ensures au { self.new.au ≡ self.old.au }
+        ensures frame { let f = self.old.frame.now in let n = n_of f.rate in self.new.frame.now ≡ record f { bytes = with_pointers n self.old.au (slice_set (pointers_of n self.old.au f.bytes) index value) f.bytes } }
+    {
+        let au = self.au;
+        self.frame.set_pointer_at(au, index, value);
+    }
+
+    /// The payload becomes that of another AU-4, of a frame of the same rate.
+    pub fn copy_payload(&mut self, from: &AuView<'_>)
+        requires { self.old.frame.now.rate ≡ from.now.frame.now.rate }
+        ensures same_reference { self.new.frame.ghost_name ≡ self.old.frame.ghost_name }
+        ensures au { self.new.au ≡ self.old.au }
+        ensures frame { let f = self.old.frame.now in let n = n_of f.rate in self.new.frame.now ≡ record f { bytes = with_payload n self.old.au (payload_of n from.now.au from.now.frame.now.bytes) f.bytes } }
+    {
+        let au = self.au;
+        self.frame.copy_payload(au, from.frame, from.au);
+    }
+
+    /// All its bytes become ones, as AU-AIS.
+    pub fn fill_ones(&mut self)
+        ensures same_reference { self.new.frame.ghost_name ≡ self.old.frame.ghost_name }
+        ensures au { self.new.au ≡ self.old.au }
+        ensures frame { let f = self.old.frame.now in self.new.frame.now ≡ record f { bytes = with_au (n_of f.rate) self.old.au ones f.bytes } }
+    {
+        let au = self.au;
+        self.frame.fill_ones(au);
+    }
+}

@@ -1,0 +1,33 @@
+-- Pieces of a frame, one after the other.
+use Rattle.std.specs.Prelude.{ℕ, ◌≡◌, ◌+◌, ◌*◌, ◌%◌, ◌<◌, List, ◌++◌, length, slice_index}
+use Rattle.sdh_basics.specs.Parity.{bip8}
+use Rattle.sdh_basics.specs.Indexed.{map_from}
+use Rattle.sdh_parity.specs.Scrambling.{scrambled_byte, scrambled}
+use Rattle.sdh_parity.specs.Parity.{lane, bip_lanes}
+
+-- the bytes on the line of a piece that begins at byte i of its frame
+unfoldable pub scrambled_from : ℕ → ℕ → List ℕ → List ℕ
+scrambled_from clear i bytes = map_from (scrambled_byte clear) i bytes
+
+-- how many bytes of a frame stay clear, and how many bytes of it have gone by
+pub record Position : Type 0 where
+  pub clear : ℕ
+  pub at : ℕ
+
+-- however a frame is cut, its pieces make what the whole makes
+pub record InPieces : Type 0 where
+  pub whole : (clear : ℕ) (bytes : List ℕ) → scrambled_from clear 0 bytes ≡ scrambled clear bytes
+  pub cut : (clear i : ℕ) (xs ys : List ℕ) → scrambled_from clear i (xs ++ ys) ≡ scrambled_from clear i xs ++ scrambled_from clear (i + length xs) ys
+
+-- BIP-24N of the bytes that have gone by: its 3 N bytes, and the number of the one that the next byte belongs to
+pub record Running : Type 0 where
+  pub n : ℕ
+  pub next : ℕ
+  pub sums : List ℕ
+
+unfoldable pub after_bytes : ℕ → List ℕ → Running
+after_bytes n bytes = record { n = n; next = length bytes % (3 * n); sums = bip_lanes (3 * n) bytes }
+
+-- the first m bytes of a list are the BIP of m bytes of the bytes that have gone by
+abbrev pub HasLanes : ℕ → List ℕ → List ℕ → Type 0
+HasLanes m bytes sums = (j : ℕ) → j < m → slice_index sums j ≡ bip8 (lane m j bytes)

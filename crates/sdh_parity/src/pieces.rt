@@ -1,0 +1,193 @@
+//! The scrambler and the parities over the pieces of a frame: the same results however it is cut.
+ghost use Rattle.std.specs.Prelude.{◌≡◌, ℕ, ◌+◌, ◌-◌, ◌*◌, ◌%◌, ◌<◌, ◌≤◌, ◌⊎◌, List, [], ◌++◌, length, slice_index, bit_xor};
+ghost use Rattle.sdh_basics.specs.Parity.{bip8 as parity_of};
+ghost use Rattle.sdh_parity.specs.Scrambling.{scrambling_byte};
+ghost use Rattle.sdh_parity.specs.Pieces.{scrambled_from, after_bytes, InPieces};
+
+use crate::adding::add_piece;
+use crate::parity::bip8;
+use crate::scrambler::{Rate9, add_sequence, sequence};
+use std::marker::Model;
+
+// Adds the bytes of the sequence from byte s on.
+#[inline(always)]
+fn add_within(part: &mut [u8], s: usize)
+    requires { s + length part.old ≤ 1016 }
+    ensures { (k : ℕ) → k < length part.old → slice_index part.new k ≡ bit_xor (slice_index part.old k) (scrambling_byte (s + k)) }
+{
+    for i in 0..part.len() {
+        part[i] ^= sequence(s + i);
+    }
+}
+
+// How many of so many bytes go before the next whole 1016 bytes of the sequence.
+#[inline(always)]
+fn first_block(s: usize, len: usize) -> usize
+    requires { s < 1016 }
+    ensures which { (result ≡ len) ⊎ (result ≡ 1016 - s) }
+    ensures few { result ≤ len }
+    ensures fits { s + result ≤ 1016 }
+{
+    if len < 1016 - s { len } else { 1016 - s }
+}
+
+// Adds the sequence from its byte p on.
+fn add_from(bytes: &mut [u8], p: usize)
+    ensures { (k : ℕ) → k < length bytes.old → slice_index bytes.new k ≡ bit_xor (slice_index bytes.old k) (scrambling_byte (p + k)) }
+{
+    let s = p % 1016;
+    let first = first_block(s, bytes.len());
+    let (head, rest) = bytes.split_at_mut(first);
+    add_within(head, s);
+    add_sequence(rest);
+}
+
+// Scrambles a piece that begins at byte `at` of its frame.
+fn scramble_piece(clear: usize, at: usize, bytes: &mut [u8])
+    requires { at + length bytes.old ≤ 38880 }
+    ensures { bytes.new ≡ scrambled_from clear at bytes.old }
+{
+    if at + bytes.len() <= clear {
+        return;
+    }
+    let skip = clear.saturating_sub(at);
+    add_from(&mut bytes[skip..], at + skip - clear);
+}
+
+/// A scrambler that is given a frame in pieces.
+#[derive(Drop)]
+pub struct Scrambler {
+    clear: usize,
+    at: usize,
+}
+
+impl Model for Scrambler {
+    ghost use Rattle.sdh_parity.specs.Pieces.{Position};
+
+    ghost Value = { Position };
+
+    ghost view = { λ s. record { clear = s.clear; at = s.at } };
+}
+
+impl Scrambler {
+    /// At the start of a frame.
+    pub fn new(rate: Rate9) -> Scrambler
+        ensures clear { result.clear ≡ rate.0 }
+        ensures at { result.at ≡ 0 }
+    {
+        Scrambler {
+            clear: rate.0,
+            at: 0,
+        }
+    }
+
+    /// Scrambles or descrambles the next piece.
+    pub fn apply(&mut self, bytes: &mut [u8])
+        requires { self.old.at + length bytes.old ≤ 38880 }
+        ensures bytes { bytes.new ≡ scrambled_from self.old.clear self.old.at bytes.old }
+        ensures at { self.new ≡ record self.old { at = self.old.at + length bytes.old } }
+    {
+        scramble_piece(self.clear, self.at, bytes);
+        self.at += bytes.len();
+    }
+
+    /// Goes past so many bytes that stay as they are.
+    pub fn skip(&mut self, count: usize)
+        requires { self.old.at + count ≤ 38880 }
+        ensures { self.new ≡ record self.old { at = self.old.at + count } }
+    {
+        self.at += count;
+    }
+}
+
+/// BIP-8 of what was added so far.
+#[derive(Drop)]
+pub struct Bip8 {
+    value: u8,
+}
+
+impl Model for Bip8 {
+    ghost use Rattle.std.specs.Prelude.{ℕ};
+
+    ghost Value = { ℕ };
+
+    ghost view = { λ b. b.value };
+}
+
+impl Bip8 {
+    /// Of no bytes.
+    pub fn new() -> Bip8
+        ensures { result ≡ parity_of [] }
+    {
+        Bip8 { value: 0 }
+    }
+
+    /// Adds the next piece.
+    pub fn add(&mut self, bytes: &[u8])
+        ensures { (before : List ℕ) → self.old ≡ parity_of before → self.new ≡ parity_of (before ++ bytes.now) }
+    {
+        self.value ^= bip8(bytes);
+    }
+
+    /// The parity of all pieces.
+    pub fn value(&self) -> u8
+        ensures { result ≡ self.now }
+    {
+        self.value
+    }
+}
+
+/// BIP-24N of what was added so far.
+#[derive(Drop)]
+pub struct BipSection {
+    n: usize,
+    next: usize,
+    sums: [u8; 48],
+}
+
+impl Model for BipSection {
+    ghost use Rattle.std.specs.Prelude.{◌≡◌, ◌<◌, ◌*◌, ◌⊎◌, take};
+    ghost use Rattle.sdh_parity.specs.Pieces.{Running};
+
+    ghost Value = { Running };
+
+    ghost view = { λ b. record { n = b.n; next = b.next; sums = take (3 * b.n) b.sums } };
+
+    ghost invariant = { λ b. ((b.n ≡ 4) ⊎ (b.n ≡ 16)) × (b.next < 3 * b.n) };
+}
+
+impl BipSection {
+    /// Of no bytes, for the rate N, 4 or 16.
+    pub fn new(n: usize) -> BipSection
+        requires { (n ≡ 4) ⊎ (n ≡ 16) }
+        ensures none { result ≡ after_bytes n [] }
+        ensures rate { result.n ≡ n }
+    {
+        BipSection {
+            n,
+            next: 0,
+            sums: [0; 48],
+        }
+    }
+
+    /// Adds the next piece.
+    pub fn add(&mut self, bytes: &[u8])
+        ensures each { (before : List ℕ) → self.old ≡ after_bytes self.old.n before → self.new ≡ after_bytes self.old.n (before ++ bytes.now) }
+        ensures rate { self.new.n ≡ self.old.n }
+    {
+        self.next = add_piece(self.n, self.next, &mut self.sums, bytes);
+    }
+
+    /// Writes the 3N bytes of the parity of all pieces.
+    pub fn write_value(&self, out: &mut [u8])
+        requires { length out.old ≡ 3 * self.now.n }
+        ensures { out.new ≡ self.now.sums }
+    {
+        out.copy_from_slice(&self.sums[..3 * self.n]);
+    }
+}
+
+/// However a frame is cut, its pieces make what the whole makes.
+pub fn pieces_make_the_whole()
+    ensures { InPieces }
+{}
