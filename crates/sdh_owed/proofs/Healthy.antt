@@ -42,7 +42,7 @@ same_rounds (Some n) k m a b = grind arith
 same_rounds None k m a b = grind arith
 
 module _ (settle : HealthyStepsSettle) (deliver : HealthyStepsDeliver) (s : Settings) (ids : List ℕ) (circuits : Provisioning) (f : Fibres) (may : MayStart s ids f)
-  (form : HasCircuits (layout_of (new_world s ids circuits f))) (limit : ℕ) where
+    (form : HasCircuits (layout_of (new_world s ids circuits f))) (limit : ℕ) where
   abbrev from : World
   from = new_world s ids circuits f
 
@@ -93,10 +93,10 @@ module _ (settle : HealthyStepsSettle) (deliver : HealthyStepsDeliver) (s : Sett
       let there : w ≡ after = is ∙ sym (steps_are.left steps (omega arith)) in
       let number : w.ring.rounds ≡ 128 * steps + 1 = ap (λ (v : World). v.ring.rounds) there ∙ steps_are.number steps (omega arith) in
       let ports = subst (λ (v : World). ports_from v.ring 0 circuits.circuits ≡ owed_ports (length ids) nothing_applied (128 * steps) circuits.circuits) (sym there)
-          (ports_are after.ring (length ids) nothing_applied (128 * steps) 0 circuits.circuits (λ k c get e. (
-          let one : 0 + k ≡ k = omega arith in
-          let at = λ (i : ℕ). let x : Outlet = outlet_at after.ring (record { circuit = i; end = e }) in x in
-          ap at one ∙ deliver s ids circuits f may form steps k c (omega arith) get e))) in
+      (ports_are after.ring (length ids) nothing_applied (128 * steps) 0 circuits.circuits (λ k c get e. (
+      let one : 0 + k ≡ k = omega arith in
+      let at = λ (i : ℕ). let x : Outlet = outlet_at after.ring (record { circuit = i; end = e }) in x in
+      ap at one ∙ deliver s ids circuits f may form steps k c (omega arith) get e))) in
       let same : w.ring.circuits.circuits ≡ circuits.circuits = ap (λ (v : World). v.ring.circuits.circuits) there ∙ ap (λ (l : Layout). l.circuits) (layout_stretches (healthy_steps steps) from) in
       (refl, omega (arith, number), ap (ports_from w.ring 0) same ∙ ports, more)
 

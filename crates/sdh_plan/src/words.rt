@@ -94,7 +94,9 @@ pub fn numeral_in(word: &[u8], low: u32, high: u32) -> Option<u32>
         return None;
     }
     match decimal(word) {
-        Some(number) if u64::from(low) <= number && number <= u64::from(high) => Some(number as u32),
+        Some(number) if u64::from(low) <= number && number <= u64::from(high) => Some(
+            number as u32,
+        ),
         _ => None,
     }
 }
