@@ -1,7 +1,4 @@
-pub mod Heads
+pub mod Rows
 pub mod Trips
 pub mod Looking
 pub mod Alone
-pub mod Passing
-pub mod Reading
-pub mod Nine

@@ -1,4 +1,3 @@
 pub mod Overhead
 pub mod Sections
 pub mod Laws
-pub mod Rows
