@@ -7,7 +7,7 @@ use Rattle.sdh_parity.specs.Parity.{section_bytes}
 use Rattle.sdh_parity.specs.Scrambling.{scrambled}
 use Rattle.sdh_parity.specs.Pieces.{Position, Running, scrambled_from, after_bytes}
 use Rattle.sdh_overhead.specs.Overhead.{byte_at}
-use Rattle.sdh_overhead.specs.Sections.{Parities, UnderWay, SectionKept, added_after, parities_of, is_framed, byte_in, b1_violations, b2_violations}
+use Rattle.sdh_overhead.specs.Sections.{Parities, UnderWay, SectionKept, holding, added_after, parities_of, is_framed, byte_in, b1_violations, b2_violations}
 
 -- the bytes of a sent frame from its byte i on, without scrambling and on the line
 unfoldable pub clear_row : ℕ → Option Parities → ℕ → ℕ → ℕ → List ℕ → List ℕ
@@ -36,7 +36,7 @@ pub record HasSent (first : SectionKept) (clear line : List ℕ) (now : SectionK
   pub rate : now.rate ≡ first.rate
   pub fresh : first.under_way ≡ None
   pub under_way : length line < 2430 * n_of first.rate → (now.last ≡ first.last) × ArePassed (n_of first.rate) clear line now.under_way
-  pub ended : length line ≡ 2430 * n_of first.rate → now ≡ record { rate = first.rate; last = Some (parities_of (n_of first.rate) clear line); under_way = None }
+  pub ended : length line ≡ 2430 * n_of first.rate → now ≡ holding first.rate (Some (parities_of (n_of first.rate) clear line))
 
 -- what is true between rows: the scrambler stands at the next row, the parities are of whole rows, and of none before a frame
 pub record IsPlaced (n passed : ℕ) (scrambler : Position) (line : ℕ) (clear : Running) : Type 0 where

@@ -40,6 +40,10 @@ pub record SectionKept : Type 0 where
   pub last : Option Parities
   pub under_way : Option UnderWay
 
+-- a section between frames, with these parities
+abbrev pub holding : Rate → Option Parities → SectionKept
+holding rate last = record { rate = rate; last = last; under_way = None }
+
 -- the parities in a frame after a frame with these: zeros where there was none
 abbrev pub placed_after : ℕ → Option Parities → Parities
 placed_after n None = record { b1 = 0; b2 = replicate (3 * n) 0 }

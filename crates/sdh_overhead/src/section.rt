@@ -4,7 +4,7 @@ ghost use Rattle.std.specs.List.{list_all};
 ghost use Rattle.sdh_frame.specs.Sizes.{n_of, size_of};
 ghost use Rattle.sdh_parity.specs.Scrambling.{scrambled};
 ghost use Rattle.sdh_parity.specs.Pieces.{scrambled_from};
-ghost use Rattle.sdh_overhead.specs.Sections.{SectionKept, clear_frame, line_frame, parities_of, is_framed, found_in, received_in, kept_after, opened, next_of};
+ghost use Rattle.sdh_overhead.specs.Sections.{SectionKept, holding, clear_frame, line_frame, parities_of, is_framed, found_in, received_in, kept_after, opened, next_of};
 ghost use Rattle.sdh_overhead.specs.Rows.{clear_row, line_row, ArePassed, HasSent, AreRead, opened_row};
 ghost use Rattle.sdh_overhead.specs.Laws.{AreParities};
 
@@ -64,9 +64,7 @@ fn is_framed(n: usize, bytes: &[u8]) -> bool
 impl Section {
     /// A section without parities.
     pub fn try_new(rate: Rate) -> Section
-        ensures rate { result.rate ≡ rate }
-        ensures none { result.last ≡ None }
-        ensures fresh { result.under_way ≡ None }
+        ensures { result ≡ holding rate None }
     {
         Section {
             rate,
@@ -79,7 +77,7 @@ impl Section {
 
     /// The section has no parities then, and no frame is under way.
     pub fn forget(&mut self)
-        ensures { self.new ≡ record { rate = self.old.rate; last = None; under_way = None } }
+        ensures { self.new ≡ holding self.old.rate None }
     {
         self.known = false;
         self.b1 = 0;
@@ -205,7 +203,7 @@ impl Section {
     fn end(&mut self)
         ensures rate { self.new.rate ≡ self.old.rate }
         ensures under_way { self.new.under_way ≡ None }
-        ensures last { (clear line : List ℕ) → ArePassed (n_of self.old.rate) clear line self.old.under_way → self.new ≡ record { rate = self.old.rate; last = Some (parities_of (n_of self.old.rate) clear line); under_way = None } }
+        ensures last { (clear line : List ℕ) → ArePassed (n_of self.old.rate) clear line self.old.under_way → self.new ≡ holding self.old.rate (Some (parities_of (n_of self.old.rate) clear line)) }
     {
         let n = self.rate.n();
         self.b1 = self.rows.line.value();
@@ -218,7 +216,7 @@ impl Section {
     /// section then keeps the parities of this one; an unframed frame makes it forget.
     pub fn finish_read(&mut self) -> Received
         requires { next_of self.old.under_way ≡ 10 }
-        ensures read { (line : List ℕ) → AreRead (n_of self.old.rate) self.old.last line self.old.under_way → (result ≡ received_in (n_of self.old.rate) self.old.last line) × (self.new ≡ record { rate = self.old.rate; last = kept_after (n_of self.old.rate) line; under_way = None }) }
+        ensures read { (line : List ℕ) → AreRead (n_of self.old.rate) self.old.last line self.old.under_way → (result ≡ received_in (n_of self.old.rate) self.old.last line) × (self.new ≡ holding self.old.rate (kept_after (n_of self.old.rate) line)) }
         ensures rate { self.new.rate ≡ self.old.rate }
         ensures under_way { self.new.under_way ≡ None }
     {
@@ -257,7 +255,7 @@ fn write_rows(section: &mut Section, k1: u8, k2: u8, bytes: &mut [u8])
     requires fresh { section.old.under_way ≡ None }
     requires bytes { length bytes.old ≡ size_of section.old.rate }
     ensures bytes { bytes.new ≡ line_frame (n_of section.old.rate) section.old.last k1 k2 bytes.old }
-    ensures section { section.new ≡ record { rate = section.old.rate; last = Some (parities_of (n_of section.old.rate) (clear_frame (n_of section.old.rate) section.old.last k1 k2 bytes.old) bytes.new); under_way = None } }
+    ensures section { section.new ≡ holding section.old.rate (Some (parities_of (n_of section.old.rate) (clear_frame (n_of section.old.rate) section.old.last k1 k2 bytes.old) bytes.new)) }
 {
     let width = 270 * section.rate.n();
     for row in 1..10 {
@@ -271,7 +269,7 @@ fn write_rows(section: &mut Section, k1: u8, k2: u8, bytes: &mut [u8])
 pub fn write_section(section: &mut Section, k1: u8, k2: u8, frame: &mut FrameBuf)
     requires { frame.old.rate ≡ section.old.rate }
     ensures frame { frame.new ≡ record frame.old { bytes = line_frame (n_of section.old.rate) section.old.last k1 k2 frame.old.bytes } }
-    ensures section { section.new ≡ record { rate = section.old.rate; last = Some (parities_of (n_of section.old.rate) (clear_frame (n_of section.old.rate) section.old.last k1 k2 frame.old.bytes) frame.new.bytes); under_way = None } }
+    ensures section { section.new ≡ holding section.old.rate (Some (parities_of (n_of section.old.rate) (clear_frame (n_of section.old.rate) section.old.last k1 k2 frame.old.bytes) frame.new.bytes)) }
     ensures whole { AreParities (n_of section.old.rate) section.old.last }
 {
     section.are_whole();
@@ -320,7 +318,7 @@ fn read_rows(section: &mut Section, bytes: &mut [u8])
 pub fn read_section(section: &mut Section, frame: &mut FrameBuf) -> Received
     requires { frame.old.rate ≡ section.old.rate }
     ensures result { result ≡ received_in (n_of section.old.rate) section.old.last frame.old.bytes }
-    ensures section { section.new ≡ record { rate = section.old.rate; last = kept_after (n_of section.old.rate) frame.old.bytes; under_way = None } }
+    ensures section { section.new ≡ holding section.old.rate (kept_after (n_of section.old.rate) frame.old.bytes) }
     ensures frame { frame.new ≡ record frame.old { bytes = opened (n_of section.old.rate) frame.old.bytes } }
 {
     section.begin();
