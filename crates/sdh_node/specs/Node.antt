@@ -1,6 +1,7 @@
 -- A node of the ring, and its round.
 use Rattle.std.specs.Prelude.{◌≡◌, ℕ, ◌+◌, ◌/◌, Bool, false, ◌&&◌, nat_le, None, List, [], ◌∷◌, length, slice_index, replicate, All}
 use Rattle.sdh_frame.specs.Sizes.{Frame, n_of}
+use Rattle.sdh_overhead.specs.Sections.{holding}
 use Rattle.sdh_kbytes.specs.declared.Code.TheVariants.{Nr}
 use Rattle.sdh_kbytes.specs.declared.K.{K}
 use Rattle.sdh_kbytes.specs.declared.Path.TheVariants.{Short}
@@ -52,7 +53,7 @@ pub record Node : Type 0 where
 abbrev pub new_receiving : Settings → Receiving
 new_receiving s = record {
   arrived = None;
-  section = record { rate = s.rate; last = None };
+  section = holding s.rate None;
   local = kept_of s.wait [];
   request = Nr;
   brought = None ∷ [];
@@ -65,7 +66,7 @@ first_word ids at side = record { code = Nr; to = slice_index ids (neighbour (le
 
 -- a side that has sent nothing
 abbrev pub new_sending : Settings → K → Sending
-new_sending s k = record { section = record { rate = s.rate; last = None }; generators = replicate (n_of s.rate) None; word = k }
+new_sending s k = record { section = holding s.rate None; generators = replicate (n_of s.rate) None; word = k }
 
 -- the node at a position of a ring with these circuits: idle, without commands and defects
 unfoldable pub new_node : Settings → List ℕ → List Provisioned → Pos → Node

@@ -9,7 +9,7 @@ use Rattle.sdh_frame.specs.Aus.{pointers_of}
 use Rattle.sdh_overhead.specs.declared.Received.{Received}
 use Rattle.sdh_overhead.specs.declared.Received.TheVariants.{Framed, Unframed}
 use Rattle.sdh_overhead.specs.Sections as section
-use Rattle.sdh_overhead.specs.Sections.{Parities, opened, received_in, kept_after}
+use Rattle.sdh_overhead.specs.Sections.{Parities, holding, opened, received_in, kept_after}
 use Rattle.sdh_kbytes.specs.declared.K.{K}
 use Rattle.sdh_kbytes.specs.declared.Code.{Code}
 use Rattle.sdh_kbytes.specs.declared.Code.TheVariants.{Rr}
@@ -147,7 +147,7 @@ intake_of threshold r = record {
 unfoldable pub after_overhead : ℕ → ℕ → Receiving → Receiving
 after_overhead threshold now r = record r {
   arrived = None;
-  section = record { rate = r.section.rate; last = (reception threshold r).last };
+  section = holding r.section.rate (reception threshold r).last;
   local = local_after now (reception threshold r).defect r.local;
   request = kept_request (local_after now (reception threshold r).defect r.local);
   brought = with_brought (reception threshold r).word r.brought;

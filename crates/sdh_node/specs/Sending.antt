@@ -3,7 +3,7 @@ use Rattle.std.specs.Prelude.{◌≡◌, ℕ, Option, Some, List, length, replic
 use Rattle.sdh_frame.specs.Sizes.{Frame, n_of, size_of}
 use Rattle.sdh_frame.specs.Aus.{with_aus}
 use Rattle.sdh_overhead.specs.Sections as section
-use Rattle.sdh_overhead.specs.Sections.{clear_frame, line_frame, parities_of}
+use Rattle.sdh_overhead.specs.Sections.{holding, clear_frame, line_frame, parities_of}
 use Rattle.sdh_kbytes.specs.declared.K.{K}
 use Rattle.sdh_kbytes.specs.KBytes.{first_byte, second_byte}
 use Rattle.sdh_nodestate.specs.Words.{IsSpellable}
@@ -39,7 +39,7 @@ frame_from input s = record { rate = s.section.rate; bytes = line_frame_from inp
 -- the side after it
 unfoldable pub after_sending : (ℕ → Input) → Sending → Sending
 after_sending input s = record s {
-  section = record { rate = s.section.rate; last = Some (parities_of (n_of s.section.rate) (clear_frame_from input s) (line_frame_from input s)) };
+  section = holding s.section.rate (Some (parities_of (n_of s.section.rate) (clear_frame_from input s) (line_frame_from input s)));
   generators = after_inputs input s.generators;
 }
 

@@ -3,6 +3,7 @@ ghost use Rattle.std.specs.Prelude.{◌≡◌, ◌&&◌, ◌+◌, ◌*◌, ◌-�
 ghost use Rattle.std.specs.List.{list_any};
 ghost use Rattle.sdh_frame.specs.Sizes.{n_of, size_of};
 ghost use Rattle.sdh_frame.specs.Aus.{au_of};
+ghost use Rattle.sdh_overhead.specs.Sections.{holding};
 ghost use Rattle.sdh_nodestate.specs.Words.{IsSpellable};
 ghost use Rattle.sdh_pointer.specs.Reading.{Interpreter};
 ghost use Rattle.sdh_node.specs.Same.{same_readings};
@@ -88,7 +89,7 @@ impl Intake {
         requires rate { frame.old.rate ≡ self.old.frame.rate }
         requires section { section.old.rate ≡ self.old.frame.rate }
         ensures intake { self.new ≡ record self.old { frame = record { rate = self.old.frame.rate; bytes = (reception_of (Some (Some frame.old.bytes)) frame.old.rate threshold section.old.last).bytes } } }
-        ensures section { section.new ≡ record section.old { last = (reception_of (Some (Some frame.old.bytes)) frame.old.rate threshold section.old.last).last } }
+        ensures section { section.new ≡ holding section.old.rate (reception_of (Some (Some frame.old.bytes)) frame.old.rate threshold section.old.last).last }
         ensures frame { frame.new.rate ≡ frame.old.rate }
         ensures defect { result.0 ≡ (reception_of (Some (Some frame.old.bytes)) frame.old.rate threshold section.old.last).defect }
         ensures word { result.1 ≡ (reception_of (Some (Some frame.old.bytes)) frame.old.rate threshold section.old.last).word }
@@ -123,7 +124,7 @@ impl Intake {
 fn find_frame(threshold: u16, section: &mut Section, frame: &mut FrameBuf) -> (Defect, Option<K>)
     requires rate { section.old.rate ≡ frame.old.rate }
     ensures frame { frame.new ≡ record frame.old { bytes = (reception_of (Some (Some frame.old.bytes)) frame.old.rate threshold section.old.last).bytes } }
-    ensures section { section.new ≡ record section.old { last = (reception_of (Some (Some frame.old.bytes)) frame.old.rate threshold section.old.last).last } }
+    ensures section { section.new ≡ holding section.old.rate (reception_of (Some (Some frame.old.bytes)) frame.old.rate threshold section.old.last).last }
     ensures defect { result.0 ≡ (reception_of (Some (Some frame.old.bytes)) frame.old.rate threshold section.old.last).defect }
     ensures word { result.1 ≡ (reception_of (Some (Some frame.old.bytes)) frame.old.rate threshold section.old.last).word }
     ensures silent { result.0 ≡ Defect.Sf → result.1 ≡ None }

@@ -2,6 +2,7 @@
 ghost use Rattle.std.specs.Prelude.{◌≡◌, ◌≢◌, ◌&&◌, ◌+◌, ◌*◌, ◌-◌, ◌<◌, ◌≤◌, None, Some, IfSome, IfOk, length, slice_index_or};
 ghost use Rattle.std.specs.Option.{is_some};
 ghost use Rattle.sdh_frame.specs.Sizes.{n_of};
+ghost use Rattle.sdh_overhead.specs.Sections.{holding};
 ghost use Rattle.sdh_nodestate.specs.Words.{IsSpellable};
 ghost use Rattle.sdh_pointer.specs.Reading.{start};
 ghost use Rattle.sdh_kbytes.specs.Same.{same_code, same_heard};
@@ -104,7 +105,7 @@ impl Receiver {
     #[tactic(auto, unfolding(crate::specs::Receiving::reception))]
     fn find(&mut self, threshold: u16, intake: &mut Intake) -> (Defect, Option<K>)
         requires { intake.old.frame.rate ≡ self.old.section.rate }
-        ensures side { self.new ≡ record self.old { arrived = None; section = record { rate = self.old.section.rate; last = (reception threshold self.old).last } } }
+        ensures side { self.new ≡ record self.old { arrived = None; section = holding self.old.section.rate (reception threshold self.old).last } }
         ensures intake { intake.new ≡ record intake.old { frame = record { rate = self.old.section.rate; bytes = (reception threshold self.old).bytes } } }
         ensures defect { result.0 ≡ (reception threshold self.old).defect }
         ensures word { result.1 ≡ (reception threshold self.old).word }

@@ -16,7 +16,7 @@ use Rattle.sdh_frame.specs.Fields.{index_of, field_at}
 use Rattle.sdh_frame.specs.PlaceLaws.{IsInFrame, field_of}
 use Rattle.sdh_overhead.specs.Sections.{is_framed, byte_in, b2_in}
 use Rattle.sdh_overhead.specs.Laws.{byte_of, HasFraming, LooksAtFields, FieldsAreFound}
-use Rattle.sdh_overhead.proofs.Rows.{field-a1, field-a2}
+use Rattle.sdh_overhead.proofs.Heads.{field-a1, field-a2}
 use Rattle.sdh_overhead.proofs.Trips.{all-from}
 
 -- ---- the rows and columns of a field

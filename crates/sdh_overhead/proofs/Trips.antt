@@ -22,7 +22,7 @@ use Rattle.sdh_overhead.specs.declared.Received.TheVariants.{Framed, Unframed}
 use Rattle.sdh_overhead.specs.Overhead.{Added, written, byte_at, with_overhead}
 use Rattle.sdh_overhead.specs.Sections.{Parities, last_of, IsBlank, placed_after, added_after, clear_frame, parities_of, is_framed, byte_in, b2_in, b1_violations, b2_violations, found_in, received_in, kept_after, opened}
 use Rattle.sdh_overhead.specs.Laws.{AreParities, ComesBack}
-use Rattle.sdh_overhead.proofs.Rows.{field-a1, field-a2, field-b1, field-b2, field-k1, field-k2, byte_at-row, byte_at-payload, byte_at-pointer}
+use Rattle.sdh_overhead.proofs.Heads.{field-a1, field-a2, field-b1, field-b2, field-k1, field-k2, byte_at-row, byte_at-payload, byte_at-pointer}
 
 abbrev zeros : ℕ → List ℕ
 zeros n = replicate n 0

@@ -1,3 +1,4 @@
 pub mod Overhead
 pub mod Sections
 pub mod Laws
+pub mod Rows

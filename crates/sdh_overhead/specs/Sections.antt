@@ -6,6 +6,7 @@ use Rattle.sdh_frame.specs.declared.Rate.{Rate}
 use Rattle.sdh_frame.specs.Fields.{index_of}
 use Rattle.sdh_parity.specs.Scrambling.{scrambled}
 use Rattle.sdh_parity.specs.Parity.{section_parity}
+use Rattle.sdh_parity.specs.Pieces.{Running}
 use Rattle.sdh_parity.specs.Violations.{differing_bits, violations_of}
 use Rattle.sdh_overhead.specs.Overhead.{Added, with_overhead}
 use Rattle.sdh_overhead.specs.declared.Received.{Received}
@@ -20,10 +21,28 @@ pub record Parities : Type 0 where
 unfoldable pub parities_of : ℕ → List ℕ → List ℕ → Parities
 parities_of n clear line = record { b1 = bip8 line; b2 = section_parity n clear }
 
--- a section keeps the parities of the last frame, or none
+-- what is kept of the rows that have gone by, of a frame that is written or read row by row
+pub record UnderWay : Type 0 where
+  pub rows : ℕ
+  -- BIP-8 of their bytes on the line, and BIP-24N of those without scrambling that B2 is over
+  pub line : ℕ
+  pub clear : Running
+  -- of a frame that is read: whether it is framed, its K bytes, and the bits in which B1 and B2 differ
+  pub framed : Bool
+  pub k1 : ℕ
+  pub k2 : ℕ
+  pub b1 : ℕ
+  pub b2 : ℕ
+
+-- a section keeps the parities of the last frame, or none, and a frame that is under way
 pub record SectionKept : Type 0 where
   pub rate : Rate
   pub last : Option Parities
+  pub under_way : Option UnderWay
+
+-- a section between frames, with these parities
+abbrev pub holding : Rate → Option Parities → SectionKept
+holding rate last = record { rate = rate; last = last; under_way = None }
 
 -- the parities in a frame after a frame with these: zeros where there was none
 abbrev pub placed_after : ℕ → Option Parities → Parities
@@ -87,3 +106,12 @@ last_of n false b1 b2 = None
 abbrev pub IsBlank : Bool → ℕ → List ℕ → Type 0
 IsBlank true b1 b2 = Unit {0}
 IsBlank false b1 b2 = (b1 ≡ 0) × (b2 ≡ replicate 48 0)
+
+-- the frame that is under way: none before its first row
+abbrev pub under_way_of : UnderWay → Option UnderWay
+under_way_of u = if u.rows == 0 then None else Some u
+
+-- the number of the row that comes next
+abbrev pub next_of : Option UnderWay → ℕ
+next_of None = 1
+next_of (Some u) = u.rows + 1

@@ -3,10 +3,11 @@
 
 mod laws;
 mod overhead;
+mod rows;
 mod section;
 
 pub use laws::{fields_are_found, what_is_written_is_read};
-pub use section::{Section, read_section, write_section};
+pub use section::{Section, read_row, read_section, write_row, write_section};
 
 /// What the overhead of a received frame says.
 #[derive(Clone, Copy, Debug, PartialEq, Eq)]

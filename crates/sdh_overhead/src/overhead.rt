@@ -1,10 +1,7 @@
 //! The overhead of a sent frame, row by row.
 ghost use Rattle.std.specs.Prelude.{◌≡◌, ℕ, ◌+◌, ◌*◌, ◌<◌, ◌≤◌, length, slice_index};
-ghost use Rattle.sdh_frame.specs.Sizes.{n_of, size_of};
 ghost use Rattle.sdh_frame.specs.Fields.{field_at};
-ghost use Rattle.sdh_overhead.specs.Overhead.{Added, written, with_overhead};
-
-use sdh_frame::Rate;
+ghost use Rattle.sdh_overhead.specs.Overhead.{Added, written};
 
 // Writes one byte from a place up to another.
 fn fill_part(bytes: &mut [u8], from: usize, to: usize, value: u8)
@@ -55,8 +52,8 @@ fn write_multiplex(n: usize, k1: u8, k2: u8, b2: &[u8], head: &mut [u8])
     head[6 * n] = k2;
 }
 
-// The first 9N bytes of a row.
-fn write_row(n: usize, row: usize, k1: u8, k2: u8, b1: u8, b2: &[u8], head: &mut [u8])
+/// Writes the first 9N bytes of a row.
+pub fn write_head(n: usize, row: usize, k1: u8, k2: u8, b1: u8, b2: &[u8], head: &mut [u8])
     requires few { n ≤ 16 }
     requires some { 1 ≤ n }
     requires row { 1 ≤ row }
@@ -73,18 +70,5 @@ fn write_row(n: usize, row: usize, k1: u8, k2: u8, b1: u8, b2: &[u8], head: &mut
         4 => {}
         5 => write_multiplex(n, k1, k2, b2, head),
         _ => fill_part(head, 0, 9 * n, 0),
-    }
-}
-
-/// Writes all overhead of a frame; pointers and payload stay.
-pub fn write_overhead(rate: Rate, k1: u8, k2: u8, b1: u8, b2: &[u8], bytes: &mut [u8])
-    requires b2 { length b2.now ≡ 3 * n_of rate }
-    requires frame { length bytes.old ≡ size_of rate }
-    ensures { bytes.new ≡ with_overhead (n_of rate) (record { k1 = k1; k2 = k2; b1 = b1; b2 = b2.now }) bytes.old }
-{
-    let n = rate.n();
-    for row in 0..9 {
-        let at = row * (270 * n);
-        write_row(n, row + 1, k1, k2, b1, b2, &mut bytes[at..at + 9 * n]);
     }
 }

@@ -1,37 +1,48 @@
 //! Sections: what they send, and what they find in a received frame.
-ghost use Rattle.std.specs.Prelude.{◌≡◌, ◌+◌, ◌*◌, ◌≤◌, ◌⊎◌, ◌==◌, length, take, slice_index, None, Some};
+ghost use Rattle.std.specs.Prelude.{◌≡◌, ◌≢◌, ℕ, List, [], ◌++◌, ◌+◌, ◌*◌, ◌-◌, ◌<◌, ◌≤◌, ◌⊎◌, ◌==◌, true, false, length, take, slice_index, None, Some, IfSome};
 ghost use Rattle.std.specs.List.{list_all};
 ghost use Rattle.sdh_frame.specs.Sizes.{n_of, size_of};
 ghost use Rattle.sdh_parity.specs.Scrambling.{scrambled};
-ghost use Rattle.sdh_parity.specs.Parity.{section_parity};
-ghost use Rattle.sdh_overhead.specs.Overhead.{Added, with_overhead};
-ghost use Rattle.sdh_overhead.specs.Sections.{clear_frame, line_frame, parities_of, is_framed, found_in, received_in, kept_after, opened};
+ghost use Rattle.sdh_parity.specs.Pieces.{scrambled_from};
+ghost use Rattle.sdh_overhead.specs.Sections.{SectionKept, holding, clear_frame, line_frame, parities_of, is_framed, found_in, received_in, kept_after, opened, next_of};
+ghost use Rattle.sdh_overhead.specs.Rows.{clear_row, line_row, ArePassed, HasSent, AreRead, opened_row};
 ghost use Rattle.sdh_overhead.specs.Laws.{AreParities};
 
 use crate::Received;
-use crate::overhead::write_overhead;
+use crate::overhead::write_head;
+use crate::rows::{Rows, b1_after, b2_after, k_after, parity_of_rows};
 use sdh_frame::{FrameBuf, Rate};
-use sdh_parity::{Rate9, bip_section, bip8, scramble, violations};
 use std::marker::Model;
 
-/// The parities of the last frame in one direction of a section, or none.
+/// The parities of the last frame in one direction of a section, or none, and what is kept of a frame that is under way.
 #[derive(Drop)]
 pub struct Section {
     rate: Rate,
     known: bool,
     b1: u8,
     b2: [u8; 48],
+    rows: Rows,
 }
 
 impl Model for Section {
+    ghost use Rattle.std.specs.Prelude.{◌≡◌, length};
     ghost use Rattle.sdh_frame.specs.Sizes.{n_of};
-    ghost use Rattle.sdh_overhead.specs.Sections.{SectionKept, last_of, IsBlank};
+    ghost use Rattle.sdh_overhead.specs.Sections.{SectionKept, last_of, under_way_of, IsBlank};
+    ghost use Rattle.sdh_overhead.specs.Rows.{IsPlaced};
 
     ghost Value = { SectionKept };
 
-    ghost view = { λ a. record { rate = a.rate; last = last_of (n_of a.rate) a.known a.b1 a.b2 } };
+    ghost view = { λ a. record {
+      rate = a.rate;
+      last = last_of (n_of a.rate) a.known a.b1 a.b2;
+      under_way = under_way_of (record { rows = a.rows.passed; line = a.rows.line; clear = a.rows.clear; framed = a.rows.framed; k1 = a.rows.k1; k2 = a.rows.k2; b1 = a.rows.b1; b2 = a.rows.b2 });
+    } };
 
-    ghost invariant = { λ a. IsBlank a.known a.b1 a.b2 };
+    ghost invariant = { λ a. record {
+      blank : IsBlank a.known a.b1 a.b2;
+      wide : length a.b2 ≡ 48;
+      placed : IsPlaced (n_of a.rate) a.rows.passed a.rows.scrambler a.rows.line a.rows.clear;
+    } };
 }
 
 fn are_all(bytes: &[u8], value: u8) -> bool
@@ -44,63 +55,49 @@ fn are_all(bytes: &[u8], value: u8) -> bool
 #[tactic(auto, unfolding(crate::specs::Sections::is_framed))]
 fn is_framed(n: usize, bytes: &[u8]) -> bool
     requires few { n ≤ 16 }
-    requires size { length bytes.now ≡ 2430 * n }
+    requires size { 6 * n ≤ length bytes.now }
     ensures { result ≡ is_framed n bytes.now }
 {
     are_all(&bytes[..3 * n], 0xF6) && are_all(&bytes[3 * n..6 * n], 0x28)
 }
 
-// The section parity of a frame without scrambling, in the first 3N bytes.
-fn parity_of_section(n: usize, clear: &[u8]) -> [u8; 48]
-    requires rate { (n ≡ 4) ⊎ (n ≡ 16) }
-    requires frame { length clear.now ≡ 2430 * n }
-    ensures { take (3 * n) result ≡ section_parity n clear.now }
-{
-    let mut parity = [0; 48];
-    bip_section(n, clear, &mut parity[..3 * n]);
-    parity
-}
-
 impl Section {
     /// A section without parities.
     pub fn try_new(rate: Rate) -> Section
-        ensures rate { result.rate ≡ rate }
-        ensures none { result.last ≡ None }
+        ensures { result ≡ holding rate None }
     {
         Section {
             rate,
             known: false,
             b1: 0,
             b2: [0; 48],
+            rows: Rows::new(rate.n()),
         }
     }
 
-    /// The section has no parities then.
+    /// The section has no parities then, and no frame is under way.
     pub fn forget(&mut self)
-        ensures { self.new ≡ record self.old { last = None } }
+        ensures { self.new ≡ holding self.old.rate None }
     {
         self.known = false;
         self.b1 = 0;
         self.b2 = [0; 48];
+        self.rows = Rows::new(self.rate.n());
     }
 
-    // Keeps the parities of a frame.
-    fn keep(&mut self, b1: u8, b2: [u8; 48])
-        ensures { self.new ≡ record self.old { last = Some (record { b1 = b1; b2 = take (3 * n_of self.old.rate) b2 }) } }
+    // No frame is under way then.
+    fn begin(&mut self)
+        ensures { self.new ≡ record self.old { under_way = None } }
     {
-        self.b1 = b1;
-        self.b2 = b2;
-        self.known = true;
+        self.rows = Rows::new(self.rate.n());
     }
 
-    // Writes overhead with the parities of the frame before.
-    #[tactic(auto, using(crate::proofs::Trips::placed_blank), unfolding(crate::specs::Sections::clear_frame))]
-    fn place(&self, k1: u8, k2: u8, bytes: &mut [u8])
-        requires { length bytes.old ≡ size_of self.now.rate }
-        ensures { bytes.new ≡ clear_frame (n_of self.now.rate) self.now.last k1 k2 bytes.old }
+    /// The number of the row that comes next: 1 before a frame, and 10 where all rows of a received frame have gone by.
+    pub fn next_row(&self) -> u16
+        ensures next { result ≡ next_of self.now.under_way }
+        ensures few { result ≤ 10 }
     {
-        let b2 = &self.b2[..3 * self.rate.n()];
-        write_overhead(self.rate, k1, k2, self.b1, b2, bytes);
+        self.rows.passed + 1
     }
 
     // What every section keeps: none, or whole parities.
@@ -112,73 +109,219 @@ impl Section {
         let _ = &self.known;
     }
 
-    #[tactic(auto, unfolding(crate::specs::Sections::parities_of))]
-    fn write(&mut self, k1: u8, k2: u8, bytes: &mut [u8])
-        requires { length bytes.old ≡ size_of self.old.rate }
-        ensures bytes { bytes.new ≡ line_frame (n_of self.old.rate) self.old.last k1 k2 bytes.old }
-        ensures section { self.new ≡ record self.old { last = Some (parities_of (n_of self.old.rate) (clear_frame (n_of self.old.rate) self.old.last k1 k2 bytes.old) bytes.new) } }
+    // Writes the overhead of a row with the parities of the frame before.
+    fn place(&self, row: u16, k1: u8, k2: u8, bytes: &mut [u8])
+        requires first { 1 ≤ row }
+        requires last { row ≤ 9 }
+        requires bytes { length bytes.old ≡ 270 * n_of self.now.rate }
+        ensures { bytes.new ≡ clear_row (n_of self.now.rate) self.now.last k1 k2 ((row - 1) * (270 * n_of self.now.rate)) bytes.old }
     {
         let n = self.rate.n();
-        self.place(k1, k2, bytes);
-        let b2 = parity_of_section(n, bytes);
-        scramble(Rate9(9 * n), bytes);
-        self.keep(bip8(bytes), b2);
+        let b2 = &self.b2[..3 * n];
+        write_head(n, row as usize, k1, k2, self.b1, b2, &mut bytes[..9 * n]);
     }
 
-    // What the overhead of a framed frame says, without scrambling.
-    #[tactic(auto, unfolding(crate::specs::Sections::found_in))]
-    fn found(&self, bytes: &[u8]) -> Received
-        requires { length bytes.now ≡ size_of self.now.rate }
-        ensures { result ≡ found_in (n_of self.now.rate) self.now.last bytes.now }
+    // Sums and scrambles the next row of a sent frame.
+    fn send(&mut self, row: u16, bytes: &mut [u8])
+        requires next { row ≡ next_of self.old.under_way }
+        requires last { row ≤ 9 }
+        requires bytes { length bytes.old ≡ 270 * n_of self.old.rate }
+        ensures rate { self.new.rate ≡ self.old.rate }
+        ensures last { self.new.last ≡ self.old.last }
+        ensures next { next_of self.new.under_way ≡ row + 1 }
+        ensures bytes { bytes.new ≡ scrambled_from (9 * n_of self.old.rate) ((row - 1) * (270 * n_of self.old.rate)) bytes.old }
+        ensures passed { (clear line : List ℕ) → ArePassed (n_of self.old.rate) clear line self.old.under_way → ArePassed (n_of self.old.rate) (clear ++ bytes.old) (line ++ bytes.new) self.new.under_way }
+    {
+        self.rows.send(self.rate.n(), row, bytes);
+    }
+
+    // Whether the frame is framed to which the next row belongs: row 1 tells.
+    fn is_framed(&self, row: u16, bytes: &[u8]) -> bool
+        requires next { row ≡ next_of self.now.under_way }
+        requires bytes { length bytes.now ≡ 270 * n_of self.now.rate }
+        ensures { (line : List ℕ) → AreRead (n_of self.now.rate) self.now.last line self.now.under_way → result ≡ is_framed (n_of self.now.rate) (line ++ bytes.now) }
+    {
+        if row == 1 {
+            return is_framed(self.rate.n(), bytes);
+        }
+        self.rows.framed
+    }
+
+    // Goes past the next row of an unframed frame.
+    fn pass_over(&mut self, row: u16)
+        requires next { row ≡ next_of self.old.under_way }
+        requires last { row ≤ 9 }
+        ensures rate { self.new.rate ≡ self.old.rate }
+        ensures last { self.new.last ≡ self.old.last }
+        ensures next { next_of self.new.under_way ≡ row + 1 }
+        ensures read { (line bytes : List ℕ) → AreRead (n_of self.old.rate) self.old.last line self.old.under_way → length bytes ≡ 270 * n_of self.old.rate → is_framed (n_of self.old.rate) (line ++ bytes) ≡ false → AreRead (n_of self.old.rate) self.old.last (line ++ bytes) self.new.under_way }
+    {
+        self.rows.pass_over(self.rate.n(), row);
+    }
+
+    // Descrambles and sums the next row of a framed frame, and keeps what it says.
+    fn receive(&mut self, row: u16, bytes: &mut [u8])
+        requires next { row ≡ next_of self.old.under_way }
+        requires last { row ≤ 9 }
+        requires bytes { length bytes.old ≡ 270 * n_of self.old.rate }
+        ensures rate { self.new.rate ≡ self.old.rate }
+        ensures last { self.new.last ≡ self.old.last }
+        ensures next { next_of self.new.under_way ≡ row + 1 }
+        ensures bytes { bytes.new ≡ scrambled_from (9 * n_of self.old.rate) ((row - 1) * (270 * n_of self.old.rate)) bytes.old }
+        ensures read { (line : List ℕ) → AreRead (n_of self.old.rate) self.old.last line self.old.under_way → is_framed (n_of self.old.rate) (line ++ bytes.old) ≡ true → AreRead (n_of self.old.rate) self.old.last (line ++ bytes.old) self.new.under_way }
     {
         let n = self.rate.n();
-        let (k1, k2) = (bytes[1083 * n], bytes[1086 * n]);
-        if !self.known {
-            return Received::Framed {
-                k1,
-                k2,
-                b1: 0,
-                b2: 0,
-            };
-        }
+        self.rows.receive(n, row, bytes);
+        self.rows.k1 = k_after(row, self.rows.k1, bytes[3 * n]);
+        self.rows.k2 = k_after(row, self.rows.k2, bytes[6 * n]);
+        self.rows.b1 = b1_after(row, self.rows.b1, self.known, self.b1, bytes[0]);
+        self.rows.b2 = b2_after(
+            row,
+            self.rows.b2,
+            self.known,
+            &self.b2[..3 * n],
+            &bytes[..3 * n],
+        );
+        self.rows.framed = true;
+    }
+
+    // What the rows of a framed frame said.
+    fn found(&self) -> Received
+        requires { next_of self.now.under_way ≡ 10 }
+        ensures { (line : List ℕ) → AreRead (n_of self.now.rate) self.now.last line self.now.under_way → is_framed (n_of self.now.rate) line ≡ true → result ≡ received_in (n_of self.now.rate) self.now.last line }
+    {
+        let rows = &self.rows;
         Received::Framed {
-            k1,
-            k2,
-            b1: violations(&[self.b1], &[bytes[270 * n]]),
-            b2: violations(&self.b2[..3 * n], &bytes[1080 * n..1083 * n]),
+            k1: rows.k1,
+            k2: rows.k2,
+            b1: rows.b1,
+            b2: rows.b2,
         }
+    }
+
+    // Keeps the parities of the rows that have gone by, as those of a frame.
+    fn end(&mut self)
+        ensures rate { self.new.rate ≡ self.old.rate }
+        ensures under_way { self.new.under_way ≡ None }
+        ensures last { (clear line : List ℕ) → ArePassed (n_of self.old.rate) clear line self.old.under_way → self.new ≡ holding self.old.rate (Some (parities_of (n_of self.old.rate) clear line)) }
+    {
+        let n = self.rate.n();
+        self.b1 = self.rows.line.value();
+        self.b2 = parity_of_rows(n, &self.rows.clear);
+        self.known = true;
+        self.rows = Rows::new(n);
+    }
+
+    /// After the ninth row of a received frame: what the frame says, against the parities of the frame read before. The
+    /// section then keeps the parities of this one; an unframed frame makes it forget.
+    pub fn finish_read(&mut self) -> Received
+        requires { next_of self.old.under_way ≡ 10 }
+        ensures read { (line : List ℕ) → AreRead (n_of self.old.rate) self.old.last line self.old.under_way → (result ≡ received_in (n_of self.old.rate) self.old.last line) × (self.new ≡ holding self.old.rate (kept_after (n_of self.old.rate) line)) }
+        ensures rate { self.new.rate ≡ self.old.rate }
+        ensures under_way { self.new.under_way ≡ None }
+    {
+        if !self.rows.framed {
+            self.forget();
+            return Received::Unframed;
+        }
+        let received = self.found();
+        self.end();
+        received
+    }
+}
+
+/// Sets the section overhead of a row of a frame, with the parities of the frame written before, and scrambles it in
+/// place. Pointers and payload stay. After the ninth row the section keeps the parities of the frame.
+pub fn write_row(section: &mut Section, row: u16, k1: u8, k2: u8, bytes: &mut [u8])
+    requires next { row ≡ next_of section.old.under_way }
+    requires last { row ≤ 9 }
+    requires bytes { length bytes.old ≡ 270 * n_of section.old.rate }
+    ensures bytes { bytes.new ≡ line_row (n_of section.old.rate) section.old.last k1 k2 ((row - 1) * (270 * n_of section.old.rate)) bytes.old }
+    ensures section { (first : SectionKept) (clear line : List ℕ) → HasSent first clear line section.old → HasSent first (clear ++ clear_row (n_of section.old.rate) section.old.last k1 k2 ((row - 1) * (270 * n_of section.old.rate)) bytes.old) (line ++ bytes.new) section.new }
+    ensures rate { section.new.rate ≡ section.old.rate }
+    ensures next { row < 9 → next_of section.new.under_way ≡ row + 1 }
+    ensures ninth { row ≡ 9 → section.new.under_way ≡ None }
+{
+    section.place(row, k1, k2, bytes);
+    section.send(row, bytes);
+    if row < 9 {
+        return;
+    }
+    section.end();
+}
+
+// Writes the nine rows of a frame.
+fn write_rows(section: &mut Section, k1: u8, k2: u8, bytes: &mut [u8])
+    requires fresh { section.old.under_way ≡ None }
+    requires bytes { length bytes.old ≡ size_of section.old.rate }
+    ensures bytes { bytes.new ≡ line_frame (n_of section.old.rate) section.old.last k1 k2 bytes.old }
+    ensures section { section.new ≡ holding section.old.rate (Some (parities_of (n_of section.old.rate) (clear_frame (n_of section.old.rate) section.old.last k1 k2 bytes.old) bytes.new)) }
+{
+    let width = 270 * section.rate.n();
+    for row in 1..10 {
+        let at = (row as usize - 1) * width;
+        write_row(section, row, k1, k2, &mut bytes[at..at + width]);
     }
 }
 
 /// Sets all section overhead of a frame, with the parities of the frame written before, and scrambles it in place.
-/// Pointers and payload stay. In a first frame B1 and B2 are zero.
+/// Pointers and payload stay. In a first frame B1 and B2 are zero. Rows of a frame that is under way are forgotten.
 pub fn write_section(section: &mut Section, k1: u8, k2: u8, frame: &mut FrameBuf)
     requires { frame.old.rate ≡ section.old.rate }
     ensures frame { frame.new ≡ record frame.old { bytes = line_frame (n_of section.old.rate) section.old.last k1 k2 frame.old.bytes } }
-    ensures section { section.new ≡ record section.old { last = Some (parities_of (n_of section.old.rate) (clear_frame (n_of section.old.rate) section.old.last k1 k2 frame.old.bytes) frame.new.bytes) } }
+    ensures section { section.new ≡ holding section.old.rate (Some (parities_of (n_of section.old.rate) (clear_frame (n_of section.old.rate) section.old.last k1 k2 frame.old.bytes) frame.new.bytes)) }
     ensures whole { AreParities (n_of section.old.rate) section.old.last }
 {
     section.are_whole();
-    section.write(k1, k2, frame.bytes_mut());
+    section.begin();
+    write_rows(section, k1, k2, frame.bytes_mut());
+}
+
+/// Reads the next row of a received frame, and descrambles it in place. The rows of an unframed frame are left as they
+/// came. After the ninth row comes `finish_read`.
+pub fn read_row(section: &mut Section, row: u16, bytes: &mut [u8])
+    requires next { row ≡ next_of section.old.under_way }
+    requires last { row ≤ 9 }
+    requires bytes { length bytes.old ≡ 270 * n_of section.old.rate }
+    ensures bytes { (line : List ℕ) → AreRead (n_of section.old.rate) section.old.last line section.old.under_way → bytes.new ≡ opened_row (n_of section.old.rate) line bytes.old }
+    ensures read { (line : List ℕ) → AreRead (n_of section.old.rate) section.old.last line section.old.under_way → AreRead (n_of section.old.rate) section.old.last (line ++ bytes.old) section.new.under_way }
+    ensures rate { section.new.rate ≡ section.old.rate }
+    ensures last { section.new.last ≡ section.old.last }
+    ensures next { next_of section.new.under_way ≡ row + 1 }
+{
+    if !section.is_framed(row, bytes) {
+        section.pass_over(row);
+        return;
+    }
+    section.receive(row, bytes);
+}
+
+// Reads the nine rows of a frame.
+fn read_rows(section: &mut Section, bytes: &mut [u8])
+    requires fresh { section.old.under_way ≡ None }
+    requires bytes { length bytes.old ≡ size_of section.old.rate }
+    ensures bytes { bytes.new ≡ opened (n_of section.old.rate) bytes.old }
+    ensures read { AreRead (n_of section.old.rate) section.old.last bytes.old section.new.under_way }
+    ensures rate { section.new.rate ≡ section.old.rate }
+    ensures last { section.new.last ≡ section.old.last }
+    ensures next { next_of section.new.under_way ≡ 10 }
+{
+    let width = 270 * section.rate.n();
+    for row in 1..10 {
+        let at = (row as usize - 1) * width;
+        read_row(section, row, &mut bytes[at..at + width]);
+    }
 }
 
 /// Reads the overhead of a received frame against the parities of the frame read before, and descrambles it in place. An
-/// unframed frame is left as it came, and the section forgets.
-#[tactic(auto, unfolding(crate::specs::Sections::received_in, crate::specs::Sections::kept_after, crate::specs::Sections::opened, crate::specs::Sections::parities_of))]
+/// unframed frame is left as it came, and the section forgets. Rows of a frame that is under way are forgotten.
 pub fn read_section(section: &mut Section, frame: &mut FrameBuf) -> Received
     requires { frame.old.rate ≡ section.old.rate }
     ensures result { result ≡ received_in (n_of section.old.rate) section.old.last frame.old.bytes }
-    ensures section { section.new ≡ record section.old { last = kept_after (n_of section.old.rate) frame.old.bytes } }
+    ensures section { section.new ≡ holding section.old.rate (kept_after (n_of section.old.rate) frame.old.bytes) }
     ensures frame { frame.new ≡ record frame.old { bytes = opened (n_of section.old.rate) frame.old.bytes } }
 {
-    let n = section.rate.n();
-    if !is_framed(n, frame.bytes()) {
-        section.forget();
-        return Received::Unframed;
-    }
-    let b1 = bip8(frame.bytes());
-    scramble(Rate9(9 * n), frame.bytes_mut());
-    let received = section.found(frame.bytes());
-    section.keep(b1, parity_of_section(n, frame.bytes()));
-    received
+    section.begin();
+    read_rows(section, frame.bytes_mut());
+    section.finish_read()
 }

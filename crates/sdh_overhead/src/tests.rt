@@ -1,5 +1,5 @@
 //! Frames from zeros with K bytes 03 10, as they are written and as they are read.
-ghost use Rattle.std.specs.Prelude.{◌≡◌, ◌≤◌, IfOk};
+ghost use Rattle.std.specs.Prelude.{◌≡◌, ◌≤◌, IfOk, None, length};
 
 use super::*;
 use sdh_frame::{FrameBuf, Place, Rate};
@@ -144,5 +144,94 @@ fn an_stm16_frame(rt: HostRuntime) -> Result<(), Fail> {
         }),
         0
     );
+    Ok(())
+}
+
+// Writes the rows of an STM-4 frame one by one, behind each other, with K bytes 03 10.
+fn write_by_rows(sending: &mut Section, bytes: &mut [u8])
+    requires rate { sending.old.rate ≡ Rate.Four }
+    requires fresh { sending.old.under_way ≡ None }
+    requires bytes { length bytes.old ≡ 9720 }
+    ensures rate { sending.new.rate ≡ Rate.Four }
+    ensures fresh { sending.new.under_way ≡ None }
+{
+    for row in 1..10 {
+        let at = (row as usize - 1) * 1080;
+        write_row(sending, row, 0x03, 0x10, &mut bytes[at..at + 1080]);
+    }
+}
+
+// Reads the rows of an STM-4 frame one by one.
+fn read_by_rows(receiving: &mut Section, bytes: &mut [u8]) -> Received
+    requires rate { receiving.old.rate ≡ Rate.Four }
+    requires fresh { receiving.old.under_way ≡ None }
+    requires bytes { length bytes.old ≡ 9720 }
+    ensures rate { receiving.new.rate ≡ Rate.Four }
+    ensures fresh { receiving.new.under_way ≡ None }
+{
+    for row in 1..10 {
+        let at = (row as usize - 1) * 1080;
+        read_row(receiving, row, &mut bytes[at..at + 1080]);
+    }
+    receiving.finish_read()
+}
+
+// A frame of zeros, by its rows: what is read, and the first two bytes of B2.
+fn by_rows(
+    alloc: Global,
+    sending: &mut Section,
+    receiving: &mut Section,
+) -> Result<(Received, u8, u8), AllocError>
+    requires sending { sending.old.rate ≡ Rate.Four }
+    requires sending_fresh { sending.old.under_way ≡ None }
+    requires receiving { receiving.old.rate ≡ Rate.Four }
+    requires receiving_fresh { receiving.old.under_way ≡ None }
+    ensures sending { sending.new.rate ≡ Rate.Four }
+    ensures sending_fresh { sending.new.under_way ≡ None }
+    ensures receiving { receiving.new.rate ≡ Rate.Four }
+    ensures receiving_fresh { receiving.new.under_way ≡ None }
+{
+    let mut bytes = vec![in alloc; 0; 9720]?;
+    write_by_rows(sending, bytes.as_mut_slice());
+    let received = read_by_rows(receiving, bytes.as_mut_slice());
+    Ok((received, bytes[4320], bytes[4321]))
+}
+
+#[test]
+fn frames_go_row_by_row(rt: HostRuntime) -> Result<(), Fail> {
+    let mut sending = Section::try_new(Rate::Four);
+    let mut receiving = Section::try_new(Rate::Four);
+    assert_eq!(rt;
+        by_rows(rt.alloc(), &mut sending, &mut receiving)?,
+        (GOOD, 0, 0)
+    );
+    assert_eq!(rt;
+        by_rows(rt.alloc(), &mut sending, &mut receiving)?,
+        (GOOD, 0x13, 0)
+    );
+    assert_eq!(rt;
+        by_rows(rt.alloc(), &mut sending, &mut receiving)?,
+        (GOOD, 0, 0)
+    );
+    assert_eq!(rt; sending.next_row(), 1);
+    assert_eq!(rt; receiving.next_row(), 1);
+    Ok(())
+}
+
+// The first row alone.
+#[test]
+fn a_frame_under_way(rt: HostRuntime) -> Result<(), Fail> {
+    let mut sending = Section::try_new(Rate::Four);
+    let mut row = vec![in rt.alloc(); 0; 1080]?;
+    write_row(&mut sending, 1, 0x03, 0x10, row.as_mut_slice());
+    assert_eq!(rt; sending.next_row(), 2);
+    assert_eq!(rt; row[12], 0x28);
+    assert_eq!(rt; row[36], 0xFE);
+    let mut receiving = Section::try_new(Rate::Four);
+    read_row(&mut receiving, 1, row.as_mut_slice());
+    assert_eq!(rt; receiving.next_row(), 2);
+    assert_eq!(rt; row[36], 0);
+    receiving.forget();
+    assert_eq!(rt; receiving.next_row(), 1);
     Ok(())
 }

@@ -90,6 +90,14 @@ impl Scrambler {
         scramble_piece(self.clear, self.at, bytes);
         self.at += bytes.len();
     }
+
+    /// Goes past so many bytes that stay as they are.
+    pub fn skip(&mut self, count: usize)
+        requires { self.old.at + count ≤ 38880 }
+        ensures { self.new ≡ record self.old { at = self.old.at + count } }
+    {
+        self.at += count;
+    }
 }
 
 /// BIP-8 of what was added so far.

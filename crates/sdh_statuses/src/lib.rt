@@ -7,6 +7,8 @@ mod called;
 #[cfg(test)]
 mod faults;
 #[cfg(test)]
+mod listings;
+#[cfg(test)]
 mod memory;
 #[cfg(test)]
 mod plans;

@@ -1,6 +1,6 @@
 use Rattle.std.proofs.Common.{◌≡◌, ℕ, Some, ap, sym, ◌∙◌}
 use Rattle.sdh_frame.specs.Sizes.{Frame, n_of}
-use Rattle.sdh_overhead.specs.Sections.{parities_of}
+use Rattle.sdh_overhead.specs.Sections.{holding, parities_of}
 use Rattle.sdh_node.specs.Passing.{Input, states_of}
 use Rattle.sdh_node.specs.Tributaries.{added_last}
 use Rattle.sdh_node.specs.Crossing.{input_at}
@@ -30,7 +30,7 @@ returns-clause-sender c =
     frame_is input s c.args.out.now c.send_all-same.new.out c.encode-k1.result.0 c.encode-k1.result.1 c.rate.ensures.len rate c.self.invariant.generators c.send_all-same.ensures.frame c.encode-k1.ensures.bytes.first c.encode-k1.ensures.bytes.second
     c.write_section.new.frame c.write_section.ensures.frame in
     let line : c.write_section.new.frame.bytes ≡ line_frame_from input s = ap (λ (f : Frame). f.bytes) frame in
-    let kept : c.write_section.new.section ≡ record { rate = s.section.rate; last = Some (parities_of (n_of s.section.rate) (clear_frame_from input s) (line_frame_from input s)) } =
-    c.write_section.ensures.section ∙ λ j. record { rate = s.section.rate; last = Some (parities_of (n_of s.section.rate) (clear j) (line j)) } in
+    let kept : c.write_section.new.section ≡ holding s.section.rate (Some (parities_of (n_of s.section.rate) (clear_frame_from input s) (line_frame_from input s))) =
+    c.write_section.ensures.section ∙ λ j. holding s.section.rate (Some (parities_of (n_of s.section.rate) (clear j) (line j))) in
     (λ j. record { section = kept j; generators = c.send_all-same.ensures.generators j; word = s.word })
     ∙ ap (after_sending input) is

@@ -1,16 +1,12 @@
 -- The overhead of a frame row by row.
-use Rattle.std.proofs.Common.{◌≡◌, ◌≢◌, ℕ, ◌+◌, ◌*◌, ◌-◌, ◌/◌, ◌%◌, ◌<◌, ◌≤◌, true, false, eqb, leb, ltb, List, length, get_or, take, drop, refl, ap, sym, ◌∙◌, arith, inl, inr}
+use Rattle.std.proofs.Common.{◌≡◌, ◌≢◌, ℕ, ◌+◌, ◌*◌, ◌-◌, ◌/◌, ◌%◌, ◌<◌, ◌≤◌, true, false, eqb, leb, ltb, List, get_or, refl, ap, sym, ◌∙◌, arith, inl, inr}
 use Rattle.std.proofs.lemmas.Bool.{cases_lt, cases_eq, ne_eqb, eq-eqb, le-leb, lt-leb, le-ltb}
-use Rattle.std.proofs.lemmas.List.{ext_get_or}
-use borrow.Rule.Slice.PartMut.{put_mid}
 use Rattle.std.proofs.lemmas.Nat.{div-mul-add, mod-mul-add}
-use Rattle.sdh_basics.proofs.CellsLaws.{length-map_from, get_or-placed}
-use Rattle.sdh_basics.proofs.Parts.{get_or-part, put_below, put_in, put_above}
 use Rattle.sdh_frame.specs.declared.Field as field
 use Rattle.sdh_frame.specs.declared.Field.TheVariants.{A1, A2, J0, Fixed, B1, B2, K1, K2, Unused, Pointer}
 use Rattle.sdh_frame.specs.Fields.{field_at}
 use Rattle.sdh_frame.proofs.PlaceProofs.{field-payload, field-pointer}
-use Rattle.sdh_overhead.specs.Overhead.{Added, written, byte_at, with_overhead}
+use Rattle.sdh_overhead.specs.Overhead.{Added, written, byte_at}
 
 -- ---- the fields of the first 9 N columns, c counted from 0
 
@@ -160,45 +156,3 @@ byte_at-row n a r c i x h e =
     let row : i / (270 * n) ≡ r = ap (λ k. k / (270 * n)) (sym e) ∙ div-mul-add r (270 * n) c h in
     let column : i % (270 * n) ≡ c = ap (λ k. k % (270 * n)) (sym e) ∙ mod-mul-add r (270 * n) c h in
     ap (λ q. written a (field_at n (q + 1) (i % (270 * n) + 1)) x) row ∙ ap (λ m. written a (field_at n (r + 1) (m + 1)) x) column
-
--- the rows below r are written, and the rest is as it was
-pub record RowsAre (n : ℕ) (a : Added) (r : ℕ) (old now : List ℕ) : Type 0 where
-  pub done : (k : ℕ) → k < r * (270 * n) → get_or now k 0 ≡ byte_at n a k (get_or old k 0)
-  pub rest : (k : ℕ) → r * (270 * n) ≤ k → get_or now k 0 ≡ get_or old k 0
-
--- one row more: the first 9 N bytes of row r, counted from 0, are written
-pub row-more : (n : ℕ) (a : Added) (r at m : ℕ) (old now part : List ℕ) → at ≡ r * (270 * n) → m ≡ 9 * n → at + m ≤ length now → length part ≡ m
-    → ((c : ℕ) → c < 9 * n → get_or part c 0 ≡ written a (field_at n (r + 1) (c + 1)) (get_or (take m (drop at now)) c 0))
-    → RowsAre n a r old now → RowsAre n a (r + 1) old (put_mid at m now part)
-row-more n a r at m old now part at_is m_is room len each rows = record {
-  done = λ k h. done k h;
-  rest = λ k h. put_above at m now part k (omega arith) len (omega arith) ∙ rows.rest k (omega arith);
-}
-  where
-    done : (k : ℕ) → k < (r + 1) * (270 * n) → get_or (put_mid at m now part) k 0 ≡ byte_at n a k (get_or old k 0)
-    done k h =
-        elim (cases_lt k at) [
-          | inl below ↦ put_below at m now part k below (omega arith) ∙ rows.done k (omega arith)
-          | inr from ↦
-              let c : ℕ = k - at in
-              let e : at + c ≡ k = omega arith in
-              let e2 : r * (270 * n) + c ≡ k = omega arith in
-              let wide : c < 270 * n = omega arith in
-              let kept : get_or now k 0 ≡ get_or old k 0 = rows.rest k (omega arith) in
-              elim (cases_lt c m) [
-                | inl head ↦ (
-                    let short : c < length part = omega arith in
-                    let first : c < 9 * n = omega arith in
-                    ap (λ i. get_or (put_mid at m now part) i 0) (sym e) ∙ put_in at m now part c short (omega arith) ∙ each c first
-                    ∙ ap (written a (field_at n (r + 1) (c + 1))) (get_or-part at m now c head ∙ ap (λ i. get_or now i 0) e ∙ kept) ∙ sym (byte_at-row n a r c k _ wide e2))
-                | inr tail ↦
-                    put_above at m now part k (omega arith) len (omega arith) ∙ kept
-                    ∙ sym (byte_at-row n a r c k _ wide e2 ∙ ap (λ (f : field.Field). written a f (get_or old k 0)) (field-payload n (r + 1) (c + 1) (omega arith)))
-              ]
-        ]
-
-pub rows-all : (n : ℕ) (a : Added) (old now : List ℕ) → length old ≡ 2430 * n → length now ≡ 2430 * n → RowsAre n a 9 old now → now ≡ with_overhead n a old
-unfolding with_overhead
-rows-all n a old now lo ln rows =
-    ext_get_or 0 now (with_overhead n a old) (ln ∙ sym (length-map_from (byte_at n a) 0 old ∙ lo)) (λ i lt.
-    rows.done i (omega arith) ∙ sym (get_or-placed (byte_at n a) old i 0 0 (omega arith)))

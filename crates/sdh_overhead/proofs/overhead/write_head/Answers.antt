@@ -1,7 +1,7 @@
 use Rattle.std.proofs.Common.{◌≢◌, ◌<◌, set, arith, get_or-set_same, get_or-set_other, ◌∙◌, length, refl}
 use Rattle.sdh_overhead.specs.Overhead.{Added}
-use Rattle.sdh_overhead.proofs.Rows.{row-first, row-second, row-fifth, row-pointers, row-other}
-use Rattle.sdh_overhead.proofs.overhead.write_row.Goals as goal
+use Rattle.sdh_overhead.proofs.Heads.{row-first, row-second, row-fifth, row-pointers, row-other}
+use Rattle.sdh_overhead.proofs.overhead.write_head.Goals as goal
 
 pub returns-in-1 : goal.returns-in-1
 returns-in-1 c =

@@ -1,0 +1,23 @@
+use Rattle.std.proofs.Common.{◌≡◌, ℕ, ◌+◌, ◌*◌, ◌-◌, ◌≤◌, length, ap, ◌∙◌, arith}
+use Rattle.sdh_frame.specs.Sizes.{n_of}
+use Rattle.sdh_overhead.specs.Sections.{SectionKept}
+use Rattle.sdh_basics.proofs.Parts.{length-part}
+use Rattle.sdh_overhead.proofs.Nine.{none-sent, sent-next, row-within}
+use Rattle.sdh_overhead.proofs.section.write_rows.Goals as goal
+
+pub loop-row-init : goal.loop-row-init
+loop-row-init c = none-sent c.args.section.now c.args.k1 c.args.k2 c.args.bytes.now c.requires.fresh c.requires.bytes
+
+pub loop-row-preserved : goal.loop-row-preserved
+loop-row-preserved c =
+    let first = c.args.section.now in
+    let w = c.n-width.result in
+    let row = c.loop-row.row in
+    let a : ℕ = (row - 1) * (270 * w) in
+    let k : ℕ = a + 270 * w - a in
+    let n : w ≡ n_of first.rate = c.n-width.ensures ∙ ap (λ (s : SectionKept). n_of s.rate) c.section.view_is in
+    let at : a ≡ (row - 1) * (270 * n_of first.rate) = ap (λ m. (row - 1) * (270 * m)) n in
+    let many : k ≡ 270 * n_of first.rate = omega arith in
+    let room : a + k ≤ length c.loop-row.bytes = omega (arith, at, row-within first row (omega arith), c.loop-row.invariant.long) in
+    sent-next first c.loop-row.section c.write_row.new.section c.args.k1 c.args.k2 row a k c.args.bytes.now c.loop-row.bytes c.write_row.new.bytes c.requires.bytes (omega arith) (omega arith) at many c.loop-row.invariant
+    (c.write_row.auto.bytes ∙ length-part a k c.loop-row.bytes room) c.write_row.ensures.bytes c.write_row.ensures.section c.write_row.ensures.rate c.write_row.ensures.next

@@ -1,0 +1,150 @@
+//! The rows of a frame that is under way: the scrambler and the parities run along, and what a received row says is kept.
+ghost use Rattle.std.specs.Prelude.{◌≡◌, ℕ, ◌+◌, ◌*◌, ◌-◌, ◌≤◌, ◌⊎◌, ◌==◌, false, List, [], ◌++◌, length, take, drop, slice_index, if◌then◌else◌};
+ghost use Rattle.sdh_basics.specs.Parity.{bip8 as parity_of};
+ghost use Rattle.sdh_parity.specs.Pieces.{scrambled_from, after_bytes};
+ghost use Rattle.sdh_parity.specs.Violations.{differing_bits, violations_of};
+ghost use Rattle.sdh_overhead.specs.Rows.{skipped};
+
+use sdh_parity::{Bip8, BipSection, Rate9, Scrambler, violations};
+
+/// What is kept of the rows that have gone by.
+#[derive(Drop)]
+pub struct Rows {
+    pub passed: u16,
+    pub scrambler: Scrambler,
+    pub line: Bip8,
+    pub clear: BipSection,
+    pub framed: bool,
+    pub k1: u8,
+    pub k2: u8,
+    pub b1: u32,
+    pub b2: u32,
+}
+
+impl Rows {
+    /// No row has gone by.
+    pub fn new(n: usize) -> Rows
+        requires { (n ≡ 4) ⊎ (n ≡ 16) }
+        ensures passed { result.passed ≡ 0 }
+        ensures scrambler { result.scrambler ≡ record { clear = 9 * n; at = 0 } }
+        ensures line { result.line ≡ parity_of [] }
+        ensures clear { result.clear ≡ after_bytes n [] }
+        ensures rate { result.clear.n ≡ n }
+    {
+        Rows {
+            passed: 0,
+            scrambler: Scrambler::new(Rate9(9 * n)),
+            line: Bip8::new(),
+            clear: BipSection::new(n),
+            framed: true,
+            k1: 0,
+            k2: 0,
+            b1: 0,
+            b2: 0,
+        }
+    }
+
+    /// The next row of a sent frame: it is summed for B2, scrambled, and summed for B1.
+    pub fn send(&mut self, n: usize, row: u16, bytes: &mut [u8])
+        requires few { n ≤ 16 }
+        requires rate { self.old.clear.n ≡ n }
+        requires first { 1 ≤ row }
+        requires last { row ≤ 9 }
+        requires bytes { length bytes.old ≡ 270 * n }
+        requires place { self.old.scrambler ≡ record { clear = 9 * n; at = (row - 1) * (270 * n) } }
+        ensures passed { self.new.passed ≡ row }
+        ensures place { self.new.scrambler ≡ record { clear = 9 * n; at = row * (270 * n) } }
+        ensures rate { self.new.clear.n ≡ n }
+        ensures bytes { bytes.new ≡ scrambled_from (9 * n) ((row - 1) * (270 * n)) bytes.old }
+        ensures line { (before : List ℕ) → self.old.line ≡ parity_of before → self.new.line ≡ parity_of (before ++ bytes.new) }
+        ensures clear { (before : List ℕ) → self.old.clear ≡ after_bytes n before → self.new.clear ≡ after_bytes n (before ++ drop (skipped n row) bytes.old) }
+    {
+        let skip = if row <= 3 { 9 * n } else { 0 };
+        self.clear.add(&bytes[skip..]);
+        self.scrambler.apply(bytes);
+        self.line.add(bytes);
+        self.passed = row;
+    }
+
+    /// The next row of a framed frame that is received: it is summed for B1, descrambled, and summed for B2.
+    pub fn receive(&mut self, n: usize, row: u16, bytes: &mut [u8])
+        requires few { n ≤ 16 }
+        requires rate { self.old.clear.n ≡ n }
+        requires first { 1 ≤ row }
+        requires last { row ≤ 9 }
+        requires bytes { length bytes.old ≡ 270 * n }
+        requires place { self.old.scrambler ≡ record { clear = 9 * n; at = (row - 1) * (270 * n) } }
+        ensures passed { self.new.passed ≡ row }
+        ensures place { self.new.scrambler ≡ record { clear = 9 * n; at = row * (270 * n) } }
+        ensures rate { self.new.clear.n ≡ n }
+        ensures bytes { bytes.new ≡ scrambled_from (9 * n) ((row - 1) * (270 * n)) bytes.old }
+        ensures line { (before : List ℕ) → self.old.line ≡ parity_of before → self.new.line ≡ parity_of (before ++ bytes.old) }
+        ensures clear { (before : List ℕ) → self.old.clear ≡ after_bytes n before → self.new.clear ≡ after_bytes n (before ++ drop (skipped n row) bytes.new) }
+        ensures k1 { self.new.k1 ≡ self.old.k1 }
+        ensures k2 { self.new.k2 ≡ self.old.k2 }
+        ensures b1 { self.new.b1 ≡ self.old.b1 }
+        ensures b2 { self.new.b2 ≡ self.old.b2 }
+    {
+        let skip = if row <= 3 { 9 * n } else { 0 };
+        self.line.add(bytes);
+        self.scrambler.apply(bytes);
+        self.clear.add(&bytes[skip..]);
+        self.passed = row;
+    }
+
+    /// The next row of an unframed frame, which is left as it came.
+    pub fn pass_over(&mut self, n: usize, row: u16)
+        requires few { n ≤ 16 }
+        requires first { 1 ≤ row }
+        requires last { row ≤ 9 }
+        requires place { self.old.scrambler ≡ record { clear = 9 * n; at = (row - 1) * (270 * n) } }
+        ensures passed { self.new.passed ≡ row }
+        ensures place { self.new.scrambler ≡ record { clear = 9 * n; at = row * (270 * n) } }
+        ensures framed { self.new.framed ≡ false }
+        ensures clear { self.new.clear ≡ self.old.clear }
+    {
+        self.scrambler.skip(270 * n);
+        self.framed = false;
+        self.passed = row;
+    }
+}
+
+/// BIP-24N of the rows that have gone by, in the first 3N bytes.
+pub fn parity_of_rows(n: usize, clear: &BipSection) -> [u8; 48]
+    requires few { n ≤ 16 }
+    requires rate { clear.now.n ≡ n }
+    ensures { take (3 * n) result ≡ clear.now.sums }
+{
+    let mut parity = [0; 48];
+    clear.write_value(&mut parity[..3 * n]);
+    parity
+}
+
+/// A K byte of the rows that have gone by: row 5 has it.
+pub fn k_after(row: u16, before: u8, byte: u8) -> u8
+    ensures { result ≡ (if row == 5 then byte else before) }
+{
+    if row == 5 { byte } else { before }
+}
+
+/// The bits in which B1 differs, of the rows that have gone by: row 2 has it.
+pub fn b1_after(row: u16, before: u32, known: bool, b1: u8, byte: u8) -> u32
+    ensures { result ≡ (if row == 2 then (if known then differing_bits b1 byte else 0) else before) }
+{
+    if row != 2 {
+        return before;
+    }
+    if known { violations(&[b1], &[byte]) } else { 0 }
+}
+
+/// The bits in which B2 differs: row 5 has it.
+pub fn b2_after(row: u16, before: u32, known: bool, b2: &[u8], bytes: &[u8]) -> u32
+    requires same_length { length b2.now ≡ length bytes.now }
+    requires few { length b2.now ≤ 48 }
+    ensures { result ≡ (if row == 5 then (if known then violations_of b2.now bytes.now else 0) else before) }
+{
+    if row != 5 {
+        return before;
+    }
+    if known { violations(b2, bytes) } else { 0 }
+}
