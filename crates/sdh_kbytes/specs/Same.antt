@@ -11,6 +11,10 @@ same_code a b = code_number a == code_number b
 unfoldable pub same_word : K → K → Bool
 same_word a b = same_code a.code b.code && (a.to == b.to) && (a.from == b.from) && (path_number a.path == path_number b.path) && (mark_number a.mark == mark_number b.mark)
 
+-- two words agree: they are the same but for their marks
+unfoldable pub agrees : K → K → Bool
+agrees a b = same_code a.code b.code && (a.to == b.to) && (a.from == b.from) && (path_number a.path == path_number b.path)
+
 -- the same word is heard, or none both times
 abbrev pub same_heard : Option K → Option K → Bool
 same_heard None None = true

@@ -7,7 +7,7 @@ ghost use Rattle.sdh_kbytes.specs.KBytes.{code_number, path_number, mark_number,
 
 mod same;
 
-pub use same::{same_code, same_heard, same_word};
+pub use same::{agrees, same_code, same_heard, same_word};
 
 /// What a word asks for, from the least to the most urgent.
 #[derive(Clone, Copy, Debug, PartialEq, Eq)]

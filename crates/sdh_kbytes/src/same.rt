@@ -1,8 +1,9 @@
-//! Whether two words are the same.
-ghost use Rattle.std.specs.Prelude.{◌≡◌, ◌↔◌, IsTrue};
-ghost use Rattle.sdh_kbytes.specs.Same.{same_code, same_word, same_heard};
+//! Whether two words are the same, or agree.
+ghost use Rattle.std.specs.Prelude.{◌≡◌, ◌↔◌, ◌==◌, IsTrue};
+ghost use Rattle.sdh_kbytes.specs.Same.{same_code, same_word, agrees, same_heard};
+ghost use Rattle.sdh_kbytes.specs.KBytes.{path_number};
 
-use crate::{Code, K};
+use crate::{Code, K, Path};
 
 /// Whether two codes are the same.
 pub fn same_code(left: Code, right: Code) -> bool
@@ -23,6 +24,26 @@ pub fn same_word(left: K, right: K) -> bool
     ensures tells { IsTrue result ↔ (left ≡ right) }
 {
     is_word(left, right)
+}
+
+fn is_path(left: Path, right: Path) -> bool
+    ensures { result ≡ (path_number left == path_number right) }
+{
+    match (left, right) {
+        (Path::Short, Path::Short) | (Path::Long, Path::Long) => true,
+        (Path::Short, Path::Long) | (Path::Long, Path::Short) => false,
+    }
+}
+
+/// Whether two words agree: code, destination, source and path are the same, whatever their marks.
+#[tactic(auto, unfolding(crate::specs::Same::agrees))]
+pub fn agrees(left: K, right: K) -> bool
+    ensures { result ≡ agrees left right }
+{
+    same_code(left.code, right.code)
+        && left.to == right.to
+        && left.from == right.from
+        && is_path(left.path, right.path)
 }
 
 /// Whether the same word is heard, or none both times.

@@ -1,4 +1,5 @@
 pub mod Rules
+pub mod Filtering
 pub mod Conditions
 pub mod Words
 pub mod FarEnds

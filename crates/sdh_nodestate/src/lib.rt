@@ -12,12 +12,14 @@ ghost use Rattle.sdh_nodestate.specs.Words.{IsSourced, HearsSourced, SendsSpella
 ghost use Rattle.sdh_nodestate.specs.FarEnds.{far_of, IsElsewhere, west_chain, east_chain};
 ghost use Rattle.sdh_nodestate.specs.Urgency.{FirstWordsAreSent};
 
+mod filter;
 mod scene;
 mod shape;
 
 use crate::scene::Scene;
 use sdh_kbytes::{Code, K};
 use sdh_ringmap::{Chain, Pos, RingMap, Side};
+pub use filter::Filter;
 pub use shape::{Shape, same_shape, shape_of};
 use std::marker::Model;
 

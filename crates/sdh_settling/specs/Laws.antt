@@ -1,5 +1,5 @@
 -- The laws of signalling. They are promised by the functions of this crate, which have no work to do.
-use Rattle.std.specs.Prelude.{ℕ, suc, ◌≡◌, ◌≢◌, ◌+◌, ◌*◌, ◌<◌, ◌≤◌, List, length, slice_index}
+use Rattle.std.specs.Prelude.{ℕ, suc, ◌≡◌, ◌≢◌, ◌+◌, ◌*◌, ◌<◌, ◌≤◌, Bool, true, false, List, length, slice_index, All}
 use Rattle.sdh_ringmap.specs.Places.{opposite}
 use Rattle.sdh_ringmap.specs.declared.Side.{Side}
 use Rattle.sdh_kbytes.specs.declared.K.{K}
@@ -7,7 +7,7 @@ use Rattle.sdh_nodestate.specs.declared.Needs.{Needs}
 use Rattle.sdh_nodestate.specs.declared.NodeState.TheVariants as state
 use Rattle.sdh_nodestate.specs.Rules.{word, chosen, relay, state_after}
 use Rattle.sdh_restoration.specs.Settled.{settled, settled_states}
-use Rattle.sdh_settling.specs.Signals.{Signals, round, rounds, MayGo, requests_in}
+use Rattle.sdh_settling.specs.Signals.{Signals, round, free_round, rounds, MayGo, requests_in}
 use Rattle.sdh_settling.specs.Runs.{Run, at_round, IsRun, run_requests}
 use Rattle.sdh_ringmap.specs.Steps.{going}
 
@@ -20,13 +20,24 @@ RunsSettle = (run : Run) → IsRun run → (t p : ℕ) → 4 * length run.ids + 
 abbrev pub WordsStay : Type 0
 WordsStay = (run : Run) → IsRun run → (t p : ℕ) (d : Side) → 5 * length run.ids + 7 ≤ t → p < length run.ids → word (at_round run (suc t) p) d ≡ word (at_round run t p) d
 
--- The fixpoint law, for a ring of signals: after a round that changed no word, each node is in the settled state of its
--- position, with its far end, under the requests of the needs in that round.
-abbrev pub StillRingsAreSettled : Type 0
-StillRingsAreSettled = (needs : List Needs) (s : Signals) → MayGo needs s → (round needs s).words ≡ s.words → (round needs s).states ≡ settled_states (requests_in needs)
+-- a round in which no node is held, which isn't the first one, and which changes no word
+pub record ChangesNoWord (needs : List Needs) (s : Signals) : Type 0 where
+  pub running : s.running ≡ true
+  pub may : MayGo needs s
+  pub words : (free_round needs s).words ≡ s.words
 
--- Convergence: whatever its words were, as long as each had a source in the ring, a ring of signals whose needs stay the
--- same is in the settled states after 4n + 8 rounds, and changes no word and no state after 5n + 8 rounds.
+-- The fixpoint law, for a ring of signals: after three such rounds, one after the other, each node is in the settled state of its
+-- position, with its far end, under the requests of the needs in the last one.
+abbrev pub StillRingsAreSettled : Type 0
+StillRingsAreSettled = (first second third : List Needs) (s : Signals) → ChangesNoWord first s → ChangesNoWord second (free_round first s) → ChangesNoWord third (free_round second (free_round first s))
+    → (free_round third (free_round second (free_round first s))).states ≡ settled_states (requests_in third)
+
+-- a round that holds no node is the same however that is told
+abbrev pub FreeRounds : Type 0
+FreeRounds = (needs : List Needs) (held : List Bool) (s : Signals) → All (λ b. b ≡ false) held → round needs held s ≡ free_round needs s
+
+-- Convergence: whatever its words were, as long as each had a source in the ring, and whatever its filters kept, a ring of signals whose
+-- needs stay the same and in which no node is held is in the settled states after 4n + 8 rounds, and changes no word and no state after 5n + 8 rounds.
 pub record Settles (needs : List Needs) (s : Signals) : Type 0 where
   pub settled : (t : ℕ) → 4 * length s.ids + 8 ≤ t → (rounds needs t s).states ≡ settled_states (requests_in needs)
   pub words : (t : ℕ) → 5 * length s.ids + 8 ≤ t → (rounds needs (suc t) s).words ≡ (rounds needs t s).words
