@@ -1,5 +1,5 @@
 -- A new ring over prepared fibres, and what happens between two rounds.
-use Rattle.std.proofs.Common.{◌≡◌, ℕ, zero, suc, ◌+◌, ◌*◌, ◌<◌, Bool, true, false, List, [], ◌∷◌, length, get_or, replicate, None, refl, sym, subst, ◌∙◌, arith, inl, inr}
+use Rattle.std.proofs.Common.{◌≡◌, ℕ, zero, suc, ◌+◌, ◌*◌, ◌<◌, ◌≤◌, Bool, true, false, List, [], ◌∷◌, length, get_or, replicate, None, refl, ap, sym, subst, ◌∙◌, arith, inl, inr}
 use Rattle.std.specs.Prelude.{All, ◌==◌, if◌then◌else◌}
 use Rattle.std.proofs.lemmas.List.Elements.{All-append, All-cons, All-nil}
 use Rattle.std.proofs.lemmas.Bool.{cases_lt}
@@ -25,15 +25,15 @@ use Rattle.sdh_plant.proofs.Calling as plant
 use Rattle.sdh_world.specs.Laws.{IsChangeAt}
 use Rattle.sdh_world.proofs.Honest.{stay_honest, changes_keep_prepared}
 use Rattle.sdh_node.specs.declared.settings.Settings.{Settings}
-use Rattle.sdh_node.specs.Receiving.{commanded_by}
-use Rattle.sdh_node.specs.Node.{Node, new_node, first_word, at_receiving, receiving_on, sending_on, word_of}
+use Rattle.sdh_node.specs.Receiving.{Receiving, commanded_by}
+use Rattle.sdh_node.specs.Node.{Node, new_node, first_word, at_receiving, held_for, receiving_on, sending_on, word_of}
 use Rattle.sdh_world.specs.Held.{new_nodes, at_place, new_ring, nowhere, AtEach}
 use Rattle.sdh_world.specs.Rounds.{World, world}
 use Rattle.sdh_world.specs.Runs.{run}
-use Rattle.sdh_world.specs.Changes.{Change, Fibre, Order, Now, changed, all_changed}
-use Rattle.sdh_world.proofs.Keeping.{length-new, new_at, all_commanded}
+use Rattle.sdh_world.specs.Changes.{Change, Fibre, Order, Hold, Now, changed, all_changed}
+use Rattle.sdh_world.proofs.Keeping.{length-new, new_at, all_commanded, all_held}
 use Rattle.sdh_hearing.specs.Placed.{IsReceiver, IsSender, HasSides, HaveGiven, IsBetween, IsPlaced}
-use Rattle.sdh_hearing.specs.Paired.{CarriesWord, AreCarried, IsSourcedIn, IsSpelled}
+use Rattle.sdh_hearing.specs.Paired.{CarriesWord, AreCarried, IsSourcedIn, KeepsSourced, IsSpelled}
 use Rattle.sdh_hearing.specs.Laws.{IsWhole, NewWorldsAreWhole, StayWhole, StayPlaced}
 use Rattle.sdh_hearing.proofs.Staying.{left_changed}
 use Rattle.sdh_hearing.proofs.Nodes.{placed_round}
@@ -95,6 +95,15 @@ module _ (s : Settings) (ids : List ℕ) (circuits : List Provisioned) (p : ℕ)
   new_sourced h West = (p, h, refl)
   new_sourced h East = (p, h, refl)
 
+  new_kept : (d : Side) → KeepsSourced ids (receiving_on d one).brought
+  unfolding new_node
+  new_kept West = record { last = tt; second = tt; third = tt }
+  new_kept East = record { last = tt; second = tt; third = tt }
+
+  new_held : one.held ≤ 100
+  unfolding new_node
+  new_held = omega arith
+
   new_spelled : AreIds ids → p < length ids → IsSpelled one
   unfolding new_node
   new_spelled is h West = first_spells ids p West is h
@@ -130,7 +139,9 @@ new_worlds_are_whole s ids circuits f is honest =
         prepared = stay_prepared.prepared s.rate n f is.enough is.few;
         carried = λ p h. record { dark = λ d e. none_at (2 * n) (fibre p d); frames = λ d some. absurd (omega arith) };
         sourced = each_new (λ p m. IsSourcedIn ids m) s ids cs (λ p low. new_sourced s ids cs p low);
+        kept = each_new (λ p m. (d : Side) → KeepsSourced ids (receiving_on d m).brought) s ids cs (λ p low. new_kept s ids cs p);
         spelled = each_new (λ p m. IsSpelled m) s ids cs (λ p low. new_spelled s ids cs p is low);
+        held = each_new (λ p m. m.held ≤ 100) s ids cs (λ p low. new_held s ids cs p);
       };
     }
 
@@ -174,6 +185,42 @@ word_commanded P d e c n h = subst (λ x. P x.word) (sym (sending_commanded d e 
 carried_commanded : (w : World) (d : Side) (c : Command) (p : ℕ) (n : Node) → AreCarried w.ring.settings.rate w.fibres w.ring.rounds p n → AreCarried w.ring.settings.rate w.fibres w.ring.rounds p (at_receiving d (commanded_by c) n)
 carried_commanded w d c p n h = record { dark = h.dark; frames = λ e some. word_commanded (λ k. CarriesWord w.ring.settings.rate k (carried_on w.fibres (fibre p e))) d e c n (h.frames e some) }
 
+kept_commanded : (ids : List ℕ) (d e : Side) (c : Command) (n : Node) → KeepsSourced ids (receiving_on e n).brought → KeepsSourced ids (receiving_on e (at_receiving d (commanded_by c) n)).brought
+kept_commanded ids West West c n h = h
+kept_commanded ids West East c n h = h
+kept_commanded ids East West c n h = h
+kept_commanded ids East East c n h = h
+
+held_commanded : (d : Side) (c : Command) (n : Node) → (at_receiving d (commanded_by c) n).held ≡ n.held
+held_commanded d c n = refl
+
+-- ---- a held controller
+
+-- it leaves all sides
+pub receiving_held : (e : Side) (turns : ℕ) (n : Node) → receiving_on e (held_for turns n) ≡ receiving_on e n
+receiving_held West turns n = refl
+receiving_held East turns n = refl
+
+pub sending_held : (e : Side) (turns : ℕ) (n : Node) → sending_on e (held_for turns n) ≡ sending_on e n
+sending_held West turns n = refl
+sending_held East turns n = refl
+
+sides_held : (s : Settings) (turns : ℕ) (n : Node) → HasSides s n → HasSides s (held_for turns n)
+sides_held s turns n h = record { receives = λ e. subst (IsReceiver s) (sym (receiving_held e turns n)) (h.receives e); sends = λ e. subst (IsSender s) (sym (sending_held e turns n)) (h.sends e) }
+
+between_held : (rounds turns : ℕ) (n : Node) → IsBetween rounds n → IsBetween rounds (held_for turns n)
+between_held rounds turns n h = record { ran = h.ran; gave = h.gave; fresh = λ e. ap (λ (r : Receiving). r.arrived) (receiving_held e turns n) ∙ h.fresh e }
+
+-- what holds of a word still holds
+word_held : (P : K → Type 0) (e : Side) (turns : ℕ) (n : Node) → P (word_of e n) → P (word_of e (held_for turns n))
+word_held P e turns n h = subst (λ x. P x.word) (sym (sending_held e turns n)) h
+
+carried_held : (w : World) (turns p : ℕ) (n : Node) → AreCarried w.ring.settings.rate w.fibres w.ring.rounds p n → AreCarried w.ring.settings.rate w.fibres w.ring.rounds p (held_for turns n)
+carried_held w turns p n h = record { dark = h.dark; frames = λ e some. word_held (λ k. CarriesWord w.ring.settings.rate k (carried_on w.fibres (fibre p e))) e turns n (h.frames e some) }
+
+kept_held : (ids : List ℕ) (e : Side) (turns : ℕ) (n : Node) → KeepsSourced ids (receiving_on e n).brought → KeepsSourced ids (receiving_on e (held_for turns n)).brought
+kept_held ids e turns n h = subst (λ (r : Receiving). KeepsSourced ids r.brought) (sym (receiving_held e turns n)) h
+
 -- ---- all changes
 
 pub placed_changed : (c : Change) (w : World) → IsPlaced w → IsPlaced (changed c w)
@@ -184,6 +231,12 @@ placed_changed (Order p d c) w is = record {
   nodes = all_commanded p d c w.ring.nodes ∙ is.nodes;
   sides = each_at_place (λ q n. HasSides w.ring.settings n) (at_receiving d (commanded_by c)) (λ q n h. sides_commanded w.ring.settings d c n h) p w.ring.nodes is.sides;
   between = each_at_place (λ q n. IsBetween w.ring.rounds n) (at_receiving d (commanded_by c)) (λ q n h. between_commanded w.ring.rounds d c n h) p w.ring.nodes is.between;
+}
+placed_changed (Hold p turns) w is = record {
+  ids = is.ids;
+  nodes = all_held p turns w.ring.nodes ∙ is.nodes;
+  sides = each_at_place (λ q n. HasSides w.ring.settings n) (held_for turns) (λ q n h. sides_held w.ring.settings turns n h) p w.ring.nodes is.sides;
+  between = each_at_place (λ q n. IsBetween w.ring.rounds n) (held_for turns) (λ q n h. between_held w.ring.rounds turns n h) p w.ring.nodes is.between;
 }
 placed_changed (Now t) w is = record { ids = is.ids; nodes = is.nodes; sides = is.sides; between = is.between }
 
@@ -199,7 +252,9 @@ whole_changed (Fibre p d condition) w may whole = record {
     prepared = changes_keep_prepared w.ring.settings.rate (length w.ring.ids) w (Fibre p d condition) may whole.paired.prepared;
     carried = λ q h. (let is = whole.paired.carried q h in record { dark = is.dark; frames = is.frames });
     sourced = whole.paired.sourced;
+    kept = whole.paired.kept;
     spelled = whole.paired.spelled;
+    held = whole.paired.held;
   };
 }
 whole_changed (Order p d c) w may whole =
@@ -213,12 +268,30 @@ whole_changed (Order p d c) w may whole =
         prepared = was.prepared;
         carried = each_at_place (AreCarried w.ring.settings.rate w.fibres w.ring.rounds) change (λ q n h. carried_commanded w d c q n h) p ns was.carried;
         sourced = each_at_place (λ q n. IsSourcedIn w.ring.ids n) change (λ q n h e. word_commanded (λ k. IsMember w.ring.ids k.from) d e c n (h e)) p ns was.sourced;
+        kept = each_at_place (λ q n. (e : Side) → KeepsSourced w.ring.ids (receiving_on e n).brought) change (λ q n h e. kept_commanded w.ring.ids d e c n (h e)) p ns was.kept;
         spelled = each_at_place (λ q n. IsSpelled n) change (λ q n h e. word_commanded IsSpellable d e c n (h e)) p ns was.spelled;
+        held = each_at_place (λ q n. n.held ≤ 100) change (λ q n h. let same = held_commanded d c n in omega arith) p ns was.held;
+      };
+    }
+whole_changed (Hold p turns) w may whole =
+    let change = held_for turns in
+    let ns = w.ring.nodes in
+    let was = whole.paired in
+    record {
+      placed = placed_changed (Hold p turns) w whole.placed;
+      paired = record {
+        honest = was.honest;
+        prepared = was.prepared;
+        carried = each_at_place (AreCarried w.ring.settings.rate w.fibres w.ring.rounds) change (λ q n h. carried_held w turns q n h) p ns was.carried;
+        sourced = each_at_place (λ q n. IsSourcedIn w.ring.ids n) change (λ q n h e. word_held (λ k. IsMember w.ring.ids k.from) e turns n (h e)) p ns was.sourced;
+        kept = each_at_place (λ q n. (e : Side) → KeepsSourced w.ring.ids (receiving_on e n).brought) change (λ q n h e. kept_held w.ring.ids e turns n (h e)) p ns was.kept;
+        spelled = each_at_place (λ q n. IsSpelled n) change (λ q n h e. word_held IsSpellable e turns n (h e)) p ns was.spelled;
+        held = each_at_place (λ q n. n.held ≤ 100) change (λ q n h. may) p ns was.held;
       };
     }
 whole_changed (Now t) w may whole = record {
   placed = placed_changed (Now t) w whole.placed;
-  paired = (let was = whole.paired in record { honest = was.honest; prepared = was.prepared; carried = was.carried; sourced = was.sourced; spelled = was.spelled });
+  paired = (let was = whole.paired in record { honest = was.honest; prepared = was.prepared; carried = was.carried; sourced = was.sourced; kept = was.kept; spelled = was.spelled; held = was.held });
 }
 
 pub whole_all : (cs : List Change) (w : World) → All (IsChangeAt w.ring.settings.rate) cs → IsWhole w → IsWhole (all_changed cs w)

@@ -13,10 +13,10 @@ use Rattle.sdh_plant.specs.Fibres.{fibre, fibre_to, is_cut}
 use Rattle.sdh_plant.specs.Arrivals.{carried_on}
 use Rattle.sdh_node.specs.declared.settings.Settings.{Settings}
 use Rattle.sdh_node.specs.Receiving.{commanded_by}
-use Rattle.sdh_node.specs.Node.{Node, receiving_on, sending_on, at_receiving}
+use Rattle.sdh_node.specs.Node.{Node, receiving_on, sending_on, at_receiving, held_for}
 use Rattle.sdh_world.specs.Held.{node_at, AtEach}
 use Rattle.sdh_world.specs.Rounds.{World, round, round_with}
-use Rattle.sdh_world.specs.Changes.{Change, Fibre, Order, Now, changed, all_changed}
+use Rattle.sdh_world.specs.Changes.{Change, Fibre, Order, Hold, Now, changed, all_changed}
 use Rattle.sdh_world.specs.Sides.{condition_to}
 use Rattle.sdh_world.specs.Laws.{IsChangeAt}
 use Rattle.sdh_hearing.specs.Signalling.{CountsViolations, shown_by}
@@ -25,7 +25,7 @@ use Rattle.sdh_hearing.proofs.Parities.{b2_through}
 use Rattle.sdh_hearing.proofs.Staying.{left_all}
 use Rattle.sdh_hearing.proofs.Nodes.{count, length-after}
 use Rattle.sdh_hearing.proofs.Rounds.{same_line, neighbour_inside, arrival_cut, arrival_word, word_goes, whole_round}
-use Rattle.sdh_hearing.proofs.Changes.{each_at_place, sending_commanded, whole_all}
+use Rattle.sdh_hearing.proofs.Changes.{each_at_place, sending_commanded, receiving_held, sending_held, whole_all}
 use Rattle.sdh_hearing.proofs.Violations.{KeepsParities, ShowsSo, b2_by, shows_later}
 use Rattle.sdh_hearing.proofs.Follows.{Keeps, keeps_one}
 
@@ -40,6 +40,8 @@ unfolding changed
 keeps_changed (Fibre p d c) w k = k
 keeps_changed (Order p d c) w k = λ e. each_at_place (λ q n. KeepsParities w.ring.settings.rate w.ring.rounds (carried_on w.fibres (fibre q e)) (sending_on e n).section.last) (at_receiving d (commanded_by c))
     (λ q n h line some there. ap (λ y. y.section.last) (sending_commanded d e c n) ∙ h line some there) p w.ring.nodes (k e)
+keeps_changed (Hold p turns) w k = λ e. each_at_place (λ q n. KeepsParities w.ring.settings.rate w.ring.rounds (carried_on w.fibres (fibre q e)) (sending_on e n).section.last) (held_for turns)
+    (λ q n h line some there. ap (λ y. y.section.last) (sending_held e turns n) ∙ h line some there) p w.ring.nodes (k e)
 keeps_changed (Now t) w k = k
 
 keeps_all : (cs : List Change) (w : World) → Keeps w → Keeps (all_changed cs w)
@@ -55,6 +57,8 @@ unfolding changed
 shows_changed shown (Fibre p d c) w k = k
 shows_changed shown (Order p d c) w k = λ e. each_at_place (λ q n. ShowsSo w.ring.settings.rate (shown q e) w.ring.rounds (carried_on w.fibres (fibre_to (length w.ring.ids) q e)) (receiving_on e n).section.last) (at_receiving d (commanded_by c))
     (λ q n h. subst (λ y. ShowsSo w.ring.settings.rate (shown q e) w.ring.rounds (carried_on w.fibres (fibre_to (length w.ring.ids) q e)) y.last) (sym (section_commanded d e c n)) h) p w.ring.nodes (k e)
+shows_changed shown (Hold p turns) w k = λ e. each_at_place (λ q n. ShowsSo w.ring.settings.rate (shown q e) w.ring.rounds (carried_on w.fibres (fibre_to (length w.ring.ids) q e)) (receiving_on e n).section.last) (held_for turns)
+    (λ q n h. subst (λ (y : Receiving). ShowsSo w.ring.settings.rate (shown q e) w.ring.rounds (carried_on w.fibres (fibre_to (length w.ring.ids) q e)) y.section.last) (sym (receiving_held e turns n)) h) p w.ring.nodes (k e)
 shows_changed shown (Now t) w k = k
 
 shows_all : (shown : ℕ → Side → ℕ) (cs : List Change) (w : World) → AllShow shown w → AllShow shown (all_changed cs w)

@@ -77,11 +77,11 @@ pub needs_at : (ns : List Node) (p : ℕ) (d : Side) → p < length ns → reque
 needs_at ns p West h = ap (λ (y : Needs). y.west) (get_or-map needed ns p nowhere no_needs h)
 needs_at ns p East h = ap (λ (y : Needs). y.east) (get_or-map needed ns p nowhere no_needs h)
 
-same_signals : (a b : Signals) → a.ids ≡ b.ids → a.states ≡ b.states → a.words ≡ b.words → a ≡ b
-same_signals a b ids states words = λ i. record { ids = ids i; states = states i; words = words i }
+same_signals : (a b : Signals) → a.ids ≡ b.ids → a.states ≡ b.states → a.words ≡ b.words → a.filters ≡ b.filters → a.running ≡ b.running → a ≡ b
+same_signals a b ids states words filters running = λ i. record { ids = ids i; states = states i; words = words i; filters = filters i; running = running i }
 
-same_heard : (a b : Heard) → a.west ≡ b.west → a.east ≡ b.east → a ≡ b
-same_heard a b west east = λ i. record { west = west i; east = east i }
+same_filters : (a b : Filters) → a.west ≡ b.west → a.east ≡ b.east → a ≡ b
+same_filters a b west east = λ i. record { west = west i; east = east i }
 
 sent_on_is : (n : Node) (d : Side) → sent_on (sent_of n) d ≡ word_of d n
 sent_on_is n West = refl
@@ -120,21 +120,24 @@ module _ (w : World) (whole : IsWhole w) where
   old_inside : (p : ℕ) → p < length after → p < length w.ring.nodes
   old_inside p h = omega (arith, length-after w)
 
-  words_first : t ≡ 0 → before.words ≡ []
-  unfolding signals_of
-  words_first e = ap (λ (b : Bool). if b then [] else map sent_of w.ring.nodes) (eq-eqb t 0 e)
+  abbrev coming : List Sent
+  coming = on_their_way before
 
-  words_later : 0 < t → before.words ≡ map sent_of w.ring.nodes
+  none_coming : t ≡ 0 → coming ≡ []
   unfolding signals_of
-  words_later h = ap (λ (b : Bool). if b then [] else map sent_of w.ring.nodes) (ne_eqb t 0 (λ z. omega arith))
+  none_coming e = ap (λ k. if nat_le 1 k then map sent_of w.ring.nodes else []) e
+
+  all_coming : 0 < t → coming ≡ map sent_of w.ring.nodes
+  unfolding signals_of
+  all_coming h = ap (λ (b : Bool). if b then map sent_of w.ring.nodes else []) (le-leb 1 t (omega arith))
 
   nothing_in : (b : Bool) (q : ℕ) (e : Side) → None ≡ (if b then None else option_map (λ s. sent_on s e) (slice_get [] q))
   nothing_in true q e = refl
   nothing_in false q e = refl
 
-  -- what a node heard is what comes in of the words before
-  heard_incoming : (p : ℕ) (d : Side) → p < length after → hears (receiving_on d (after_at p)).brought ≡ incoming before.words size p (needed (after_at p)) d
-  heard_incoming p d h =
+  -- what came to a node is what comes in of the words before
+  came_incoming : (p : ℕ) (d : Side) → p < length after → (receiving_on d (after_at p)).brought.last ≡ incoming coming size p (needed (after_at p)) d
+  came_incoming p d h =
       let low = old_inside p h in
       let n = after_at p in
       let r = receiving_on d n in
@@ -143,17 +146,33 @@ module _ (w : World) (whole : IsWhole w) where
       let In = λ (f : Bool) (words : List Sent). if f then None else option_map (λ s. sent_on s (opposite d)) (slice_get words q) in
       let fails = fails_on (needed n) d in
       elim (cases_lt 0 t) [
-        | inr none ↦ (let e : t ≡ 0 = omega arith in b.nothing e ∙ nothing_in fails q (opposite d) ∙ ap (In fails) (sym (words_first e)))
+        | inr none ↦ (let e : t ≡ 0 = omega arith in b.nothing e ∙ nothing_in fails q (opposite d) ∙ ap (In fails) (sym (none_coming e)))
         | inl some ↦ elim (cases_Bool (is_lost w p d)) [
-          | inl lost ↦ b.silent some lost ∙ sym (ap (λ f. In f before.words) (fails_on_is n d ∙ is_sf r.local.defect (b.fails some lost)))
-          | inr kept ↦ b.hears some kept ∙ sym (ap (λ f. In f before.words) (fails_on_is n d ∙ no_sf r.local.defect (b.works some kept)) ∙ ap (In false) (words_later some)
+          | inl lost ↦ b.silent some lost ∙ sym (ap (λ f. In f coming) (fails_on_is n d ∙ is_sf r.local.defect (b.fails some lost)))
+          | inr kept ↦ b.comes some kept ∙ sym (ap (λ f. In f coming) (fails_on_is n d ∙ no_sf r.local.defect (b.works some kept)) ∙ ap (In false) (all_coming some)
               ∙ ap (option_map (λ s. sent_on s (opposite d))) (slice_get-map sent_of w.ring.nodes q ∙ ap (option_map sent_of) (slice_get-get_or w.ring.nodes q nowhere (neighbour_inside w whole p d)))
               ∙ ap Some (sent_on_is (node_at w.ring.nodes q) (opposite d)))
         ]
       ]
 
-  heard_is_at : (p : ℕ) → p < length after → heard_by (after_at p) ≡ heard_at before.words size p (needed (after_at p))
-  heard_is_at p h = same_heard _ _ (heard_incoming p West h) (heard_incoming p East h)
+  kept_at : (p : ℕ) → p < length w.ring.nodes → filters_of (node_at w.ring.nodes p) ≡ get_or before.filters p no_filters
+  unfolding signals_of
+  kept_at p h = sym (get_or-map filters_of w.ring.nodes p nowhere no_filters h)
+
+  -- so a node's filters are those of the ring of signals
+  filters_same : (p : ℕ) → p < length after → filters_of (after_at p) ≡ filters_after before p (needed (after_at p))
+  unfolding filters_after
+  filters_same p h = same_filters _ _ (side West (λ (f : Filters). f.west) refl refl) (side East (λ (f : Filters). f.east) refl refl)
+    where
+      low : p < length w.ring.nodes
+      low = old_inside p h
+
+      side : (d : Side) (on : Filters → Brought) → (receiving_on d (after_at p)).brought ≡ on (filters_of (after_at p)) → (receiving_on d (node_at w.ring.nodes p)).brought ≡ on (filters_of (node_at w.ring.nodes p))
+          → on (filters_of (after_at p)) ≡ with_brought (incoming coming size p (needed (after_at p)) d) (on (get_or before.filters p no_filters))
+      side d on now was =
+          sym now ∙ (brings w whole p d low).earlier
+          ∙ ap (λ k. with_brought k (receiving_on d (node_at w.ring.nodes p)).brought) (came_incoming p d h)
+          ∙ ap (with_brought (incoming coming size p (needed (after_at p)) d)) (was ∙ ap on (kept_at p low))
 
   placed : IsPlaced (round w)
   placed = (whole_round w whole).placed
@@ -163,40 +182,86 @@ module _ (w : World) (whole : IsWhole w) where
   ids_same = refl
 
   -- the scene of a node is that of the ring of signals
-  scene_same : (p : ℕ) → p < length after → scene_in (after_at p) ≡ scene_at w.ring.ids before.words p (needed (after_at p))
+  scene_same : (p : ℕ) → p < length after → scene_in (after_at p) ≡ scene_at before p (needed (after_at p))
   unfolding scene_in scene_at
   scene_same p h =
       let c = (after_at p) in
       let is = is_at (round w) placed p h in
-      ap (λ ids. scene ids c.at.0 (needed c) (heard_by c)) (is.ids_are ∙ ids_same)
-      ∙ ap (λ at. scene w.ring.ids at (needed c) (heard_by c)) is.at
-      ∙ ap (λ hs. scene w.ring.ids p (needed c) hs) (heard_is_at p h)
+      ap (λ ids. scene ids c.at.0 (needed c) (heard_by c)) (is.ids_are ∙ ids_same ∙ same_ids)
+      ∙ ap (λ at. scene before.ids at (needed c) (heard_by c)) is.at
+      ∙ ap (λ fs. scene before.ids p (needed c) (heard_through fs)) (filters_same p h)
+    where
+      same_ids : w.ring.ids ≡ before.ids
+      unfolding signals_of
+      same_ids = refl
 
-  state_same : (p : ℕ) → p < length after → (after_at p).state ≡ state_after (scene_at w.ring.ids before.words p (needed (after_at p)))
+  abbrev held : List Bool
+  held = held_in w
+
+  held_at : (p : ℕ) → p < length w.ring.nodes → is_held (node_at w.ring.nodes p) ≡ signal.is_held held p
+  unfolding held_in
+  held_at p h = sym (get_or-map is_held w.ring.nodes p nowhere false h)
+
+  old_state : (p : ℕ) → p < length w.ring.nodes → (node_at w.ring.nodes p).state ≡ state_in before p
+  unfolding signals_of
+  old_state p h = sym (get_or-map (λ (n : Node). n.state) w.ring.nodes p nowhere _ h)
+
+  old_words : (p : ℕ) → p < length w.ring.nodes → sent_of (node_at w.ring.nodes p) ≡ words_in before p
+  unfolding signals_of
+  old_words p h = sym (get_or-map sent_of w.ring.nodes p nowhere _ h)
+
+  abbrev next_state : ℕ → Needs → NodeState
+  next_state p x = if signal.is_held held p then state_in before p else state_after (scene_at before p x)
+
+  abbrev next_words : ℕ → Needs → Sent
+  next_words p x = if signal.is_held held p then words_in before p else sent_after (scene_at before p x)
+
+  state_same : (p : ℕ) → p < length after → (after_at p).state ≡ next_state p (needed (after_at p))
   state_same p h =
-      subst (λ (n : Node). n.state ≡ state_after (scene_in n)) (sym (nodes_after w whole.placed p (old_inside p h))) (state_is w.ring.moment (informed w p))
-      ∙ ap state_after (scene_same p h)
+      let low = old_inside p h in
+      let here = held_at p low in
+      subst (λ (n : Node). n.state ≡ (if is_held (node_at w.ring.nodes p) then (node_at w.ring.nodes p).state else state_after (scene_in n))) (sym (nodes_after w whole.placed p low)) (state_is w.ring.moment (informed w p))
+      ∙ λ i. if here i then old_state p low i else state_after (scene_same p h i)
 
-  word_same : (p : ℕ) (d : Side) → p < length after → word_of d (after_at p) ≡ word (scene_at w.ring.ids before.words p (needed (after_at p))) d
+  word_same : (p : ℕ) (d : Side) → p < length after → word_of d (after_at p) ≡ (if is_held (node_at w.ring.nodes p) then word_of d (node_at w.ring.nodes p) else word (scene_at before p (needed (after_at p))) d)
   word_same p d h =
-      subst (λ (n : Node). word_of d n ≡ word (scene_in n) d) (sym (nodes_after w whole.placed p (old_inside p h))) (word_is w.ring.moment (informed w p) d)
-      ∙ ap (λ s. word s d) (scene_same p h)
+      let low = old_inside p h in
+      let b = is_held (node_at w.ring.nodes p) in
+      subst (λ (n : Node). word_of d n ≡ (if b then word_of d (informed w p) else word (scene_in n) d)) (sym (nodes_after w whole.placed p low)) (word_is w.ring.moment (informed w p) d)
+      ∙ λ i. if b then (informed_out w p d i).word else word (scene_same p h i) d
 
-  sent_same : (p : ℕ) → p < length after → sent_of (after_at p) ≡ sent_after (scene_at w.ring.ids before.words p (needed (after_at p)))
-  sent_same p h = λ i. record { west = word_same p West h i; east = word_same p East h i }
+  by_turn : (b : Bool) (x y : Sent) → (record { west = if b then x.west else y.west; east = if b then x.east else y.east }) ≡ (if b then x else y)
+  by_turn true x y = refl
+  by_turn false x y = refl
+
+  sent_same : (p : ℕ) → p < length after → sent_of (after_at p) ≡ next_words p (needed (after_at p))
+  sent_same p h =
+      let low = old_inside p h in
+      let b = is_held (node_at w.ring.nodes p) in
+      let here = held_at p low in
+      let ruled = sent_after (scene_at before p (needed (after_at p))) in
+      (λ i. record { west = word_same p West h i; east = word_same p East h i })
+      ∙ by_turn b (sent_of (node_at w.ring.nodes p)) ruled
+      ∙ λ i. if here i then old_words p low i else ruled
 
   words_are : (signals_of (round w)).words ≡ map sent_of after
   unfolding signals_of
-  words_are = ap (λ (b : Bool). if b then [] else map sent_of after) (ne_eqb (round w).ring.rounds 0 (λ z. (let e = rounds_are in omega arith)))
-    where
-      rounds_are : (round w).ring.rounds ≡ t + 1
-      rounds_are = one_more w
+  words_are = refl
 
-  pub goes_on : signals_of (round w) ≡ signal.round (needs_in (round w)) (signals_of w)
+  goes_running : (signals_of (round w)).running ≡ true
+  unfolding signals_of
+  goes_running = le-leb 1 (round w).ring.rounds (let e = one_more w in omega arith)
+
+  from_zero : {Y : Type 0} (f : Node → Y) (h : ℕ → Needs → Y) → ((p : ℕ) → p < length after → f (after_at p) ≡ h p (needed (after_at p))) → map f after ≡ map_from h 0 (map needed after)
+  from_zero f h same = mapped_from f h needed 0 after (λ p low. same p low ∙ ap (λ k. h k (needed (after_at p))) (let e : p ≡ 0 + p = omega arith in e))
+
+  pub goes_on : signals_of (round w) ≡ signal.round (needs_in (round w)) (held_in w) (signals_of w)
   unfolding signals_of needs_in signal.round
   goes_on = same_signals _ _ ids_same
-      (mapped_from (λ n. n.state) (λ p x. state_after (scene_at w.ring.ids before.words p x)) needed 0 after (λ p h. state_same p h ∙ ap (λ k. state_after (scene_at w.ring.ids before.words k (needed (after_at p)))) (let e : p ≡ 0 + p = omega arith in e)))
-      (words_are ∙ mapped_from sent_of (λ p x. sent_after (scene_at w.ring.ids before.words p x)) needed 0 after (λ p h. sent_same p h ∙ ap (λ k. sent_after (scene_at w.ring.ids before.words k (needed (after_at p)))) (let e : p ≡ 0 + p = omega arith in e)))
+      (from_zero (λ n. n.state) next_state state_same)
+      (from_zero sent_of next_words sent_same)
+      (from_zero filters_of (λ p x. filters_after before p x) filters_same)
+      goes_running
 
   pub request_is : (p : ℕ) (d : Side) → p < length after → (receiving_on d (after_at p)).request ≡ kept_request (receiving_on d (after_at p)).local
   request_is p d h = let took = took_is w whole p d (old_inside p h) in took.request ∙ ap kept_request (sym took.local)
@@ -208,8 +273,7 @@ module _ (w : World) (whole : IsWhole w) where
 
   sourced_words : All (IsSourced w.ring.ids) before.words
   unfolding signals_of
-  sourced_words = cond_both (t == 0) [] (map sent_of w.ring.nodes) (All (IsSourced w.ring.ids)) (λ _. All-nil (IsSourced w.ring.ids))
-      (λ _. All-map (IsSourced w.ring.ids) sent_of w.ring.nodes (λ p x h. (let is = whole.paired.sourced p h in subst (λ n. IsSourced w.ring.ids (sent_of n)) (sym (at_any w.ring.nodes p x h)) (record { west = is West; east = is East }))))
+  sourced_words = All-map (IsSourced w.ring.ids) sent_of w.ring.nodes (λ p x h. (let is = whole.paired.sourced p h in subst (λ n. IsSourced w.ring.ids (sent_of n)) (sym (at_any w.ring.nodes p x h)) (record { west = is West; east = is East })))
 
   pub may_go : MayGo (needs_in (round w)) (signals_of w)
   unfolding signals_of needs_in
@@ -217,8 +281,14 @@ module _ (w : World) (whole : IsWhole w) where
     ids_ok = whole.placed.ids;
     size = length-map after needed ∙ length-after w ∙ count w whole.placed;
     sound = All-map MayNeed needed after (λ p x h. subst (λ n. MayNeed (needed n)) (sym (at_any after p x h)) (needs_sound p h));
+    said = length-map sent_of w.ring.nodes ∙ count w whole.placed;
     sourced = sourced_words;
   }
+
+  -- where no node is held, the round is one that holds none
+  pub goes_free : FreeRounds → AtEach (λ p n. is_held n ≡ false) w.ring.nodes → signals_of (round w) ≡ free_round (needs_in (round w)) (signals_of w)
+  unfolding held_in
+  goes_free law free = goes_on ∙ law (needs_in (round w)) (held_in w) (signals_of w) (All-map (λ b. b ≡ false) is_held w.ring.nodes (λ p x h. ap is_held (at_any w.ring.nodes p x h) ∙ free p h))
 
   -- ---- calm
 
@@ -229,7 +299,7 @@ module _ (w : World) (whole : IsWhole w) where
       | inr other ↦ absurd (both_ways (is_calm after) (list_all_at (λ (n : Node). n.calm) after p nowhere h other) calm)
     ]
 
-    leaves : (p : ℕ) → p < length w.ring.nodes → (1 ≤ (informed w p).rounds) × (compared (node_after w.ring.moment (informed w p)) ≡ compared (informed w p))
+    leaves : (p : ℕ) → p < length w.ring.nodes → (1 ≤ (informed w p).rounds) × (is_held (informed w p) ≡ false) × (compared (node_after w.ring.moment (informed w p)) ≡ compared (informed w p))
     leaves p h =
         let high : p < length after = omega (arith, length-after w) in
         calm_leaves w.ring.moment (informed w p) (ap (λ (n : Node). n.calm) (sym (nodes_after w whole.placed p h)) ∙ node_calm p high)
@@ -243,12 +313,18 @@ module _ (w : World) (whole : IsWhole w) where
         omega arith
 
     pub same_there : (p : ℕ) → p < length w.ring.nodes → compared (node_at after p) ≡ compared (node_at w.ring.nodes p)
-    same_there p h = ap compared (nodes_after w whole.placed p h) ∙ (leaves p h).1
+    same_there p h = ap compared (nodes_after w whole.placed p h) ∙ (leaves p h).2
+
+    pub free_there : AtEach (λ p n. is_held n ≡ false) w.ring.nodes
+    free_there p h = (leaves p h).1
 
     words_still : (signals_of (round w)).words ≡ before.words
-    words_still = words_are
-        ∙ mapped_same sent_of after w.ring.nodes (length-after w) (λ p h. ap (λ (c : Compared). record { west = c.west_out.word; east = c.east_out.word }) (same_there p (old_inside p h)))
-        ∙ sym (words_later ran_before)
+    unfolding signals_of
+    words_still = mapped_same sent_of after w.ring.nodes (length-after w) (λ p h. ap (λ (c : Compared). record { west = c.west_out.word; east = c.east_out.word }) (same_there p (old_inside p h)))
+
+    states_still : (signals_of (round w)).states ≡ before.states
+    unfolding signals_of
+    states_still = mapped_same (λ (n : Node). n.state) after w.ring.nodes (length-after w) (λ p h. ap (λ (c : Compared). c.state) (same_there p (old_inside p h)))
 
     request_still : (p : ℕ) (d : Side) → p < length w.ring.nodes → (receiving_on d (after_at p)).request ≡ (receiving_on d (node_at w.ring.nodes p)).request
     request_still p West h = ap (λ (c : Compared). c.west.request) (same_there p h)
@@ -265,27 +341,34 @@ module _ (w : World) (whole : IsWhole w) where
         let high : p < length after = omega (arith, length-after w) in
         needs_at after p d high ∙ request_still p d low ∙ sym (needs_at ns p d low)))
 
-    states_still : StillRingsAreSettled → (signals_of (round w)).states ≡ settled_states (requests_in (needs_in (round w)))
-    states_still law =
-        ap (λ (s : Signals). s.states) goes_on
-        ∙ law (needs_in (round w)) (signals_of w) may_go (sym (ap (λ (s : Signals). s.words) goes_on) ∙ words_still)
+    pub is_still : IsStill w
+    is_still = record { later = ran_before; free = free_there; same = same_there; words = words_still; states = states_still; requests = requests_still }
 
-    pub is_still : StillRingsAreSettled → IsStill w
-    is_still law = record { later = ran_before; same = same_there; words = words_still; states = states_still law; requests = requests_still }
+    -- and it changes no word of a ring of signals
+    pub changes_none : FreeRounds → ChangesNoWord (needs_in (round w)) (signals_of w)
+    changes_none law = record {
+      running = runs;
+      may = may_go;
+      words = sym (ap (λ (s : Signals). s.words) (goes_free law free_there)) ∙ words_still;
+    }
+      where
+        runs : (signals_of w).running ≡ true
+        unfolding signals_of
+        runs = le-leb 1 t ran_before
 
-  -- a later round that leaves all that is compared at each node is calm
-  pub calm_where_same : 0 < t → ((p : ℕ) → p < length w.ring.nodes → compared (after_at p) ≡ compared (node_at w.ring.nodes p)) → is_calm after ≡ true
-  calm_where_same ran same = list_all-from_AllPass (λ (n : Node). n.calm) after (λ p x h.
+  -- a later round that holds no node and leaves all that is compared at each is calm
+  pub calm_where_same : 0 < t → AtEach (λ p n. is_held n ≡ false) w.ring.nodes → ((p : ℕ) → p < length w.ring.nodes → compared (after_at p) ≡ compared (node_at w.ring.nodes p)) → is_calm after ≡ true
+  calm_where_same ran free same = list_all-from_AllPass (λ (n : Node). n.calm) after (λ p x h.
       (let low = old_inside p h in
       let next = nodes_after w whole.placed p low in
       ap (λ (n : Node). n.calm) (at_any after p x h ∙ next)
-      ∙ unchanged_is_calm w.ring.moment (informed w p) (let r = (whole.placed.between p low).ran in omega arith) (ap compared (sym next) ∙ same p low)))
+      ∙ unchanged_is_calm w.ring.moment (informed w p) (let r = (whole.placed.between p low).ran in omega arith) (free p low) (ap compared (sym next) ∙ same p low)))
 
 pub rounds_are_signal_rounds : RoundsAreSignalRounds
 rounds_are_signal_rounds w whole = record { may_go = may_go w whole; goes = goes_on w whole }
 
-pub calm_rounds_are_still : StillRingsAreSettled → CalmRoundsAreStill
-calm_rounds_are_still law w whole calm = is_still w whole calm law
+pub calm_rounds_are_still : CalmRoundsAreStill
+calm_rounds_are_still w whole calm = is_still w whole calm
 
 -- ---- runs
 
@@ -293,39 +376,71 @@ pub one_run : (w : World) (k : ℕ) → run (suc k) w ≡ round (run k w)
 unfolding run
 one_run w k = refl
 
--- the round k + 1 is still where it is calm
-run_still : StillRingsAreSettled → (w : World) (k : ℕ) → IsWhole w → IsCalm (course w) (suc k) → IsStill (run k w)
-run_still law w k whole calm = is_still (run k w) (whole_run w k whole) (ap (λ (v : World). is_calm v.ring.nodes) (sym (one_run w k)) ∙ calm) law
+no_run : (w : World) → run 0 w ≡ w
+unfolding run
+no_run w = refl
 
--- the requests stay from a round to the m-th after it, where those are calm
-pub requests_stay : StillRingsAreSettled → (w : World) (j m : ℕ) → IsWhole w → ((i : ℕ) → j < i → i ≤ j + m → IsCalm (course w) i) → requests_in (needs_in (run (j + m) w)) ≡ requests_in (needs_in (run j w))
-requests_stay law w j zero whole calm = ap (λ k. requests_in (needs_in (run k w))) (let e : j + zero ≡ j = omega arith in e)
-requests_stay law w j (suc m) whole calm =
+calm_next : (w : World) (k : ℕ) → IsCalm (course w) (suc k) → is_calm (round (run k w)).ring.nodes ≡ true
+calm_next w k calm = ap (λ (v : World). is_calm v.ring.nodes) (sym (one_run w k)) ∙ calm
+
+-- the round k + 1 is still where it is calm
+run_still : (w : World) (k : ℕ) → IsWhole w → IsCalm (course w) (suc k) → IsStill (run k w)
+run_still w k whole calm = is_still (run k w) (whole_run w k whole) (calm_next w k calm)
+
+-- what calm rounds leave stays from a round to the m-th after it, where those are calm
+stays : {Y : Type 0} (f : World → Y) → ((v : World) → IsStill v → f (round v) ≡ f v) → (w : World) (j m : ℕ) → IsWhole w → ((i : ℕ) → j < i → i ≤ j + m → IsCalm (course w) i) → f (run (j + m) w) ≡ f (run j w)
+stays f same w j zero whole calm = ap (λ k. f (run k w)) (let e : j + zero ≡ j = omega arith in e)
+stays f same w j (suc m) whole calm =
     let last : j + suc m ≡ suc (j + m) = omega arith in
     let c : IsCalm (course w) (suc (j + m)) = calm (suc (j + m)) (omega arith) (omega arith) in
-    ap (λ k. requests_in (needs_in (run k w))) last
-    ∙ ap (λ v. requests_in (needs_in v)) (one_run w (j + m))
-    ∙ (run_still law w (j + m) whole c).requests
-    ∙ requests_stay law w j m whole (λ i low high. calm i low (omega arith))
+    ap (λ k. f (run k w)) last
+    ∙ ap f (one_run w (j + m))
+    ∙ same (run (j + m) w) (run_still w (j + m) whole c)
+    ∙ stays f same w j m whole (λ i low high. calm i low (omega arith))
 
-pub windows_are_settled : StillRingsAreSettled → WindowsAreSettled
-windows_are_settled law w k j whole ends low high =
+pub requests_stay : (w : World) (j m : ℕ) → IsWhole w → ((i : ℕ) → j < i → i ≤ j + m → IsCalm (course w) i) → requests_in (needs_in (run (j + m) w)) ≡ requests_in (needs_in (run j w))
+requests_stay w j m whole calm = stays (λ v. requests_in (needs_in v)) (λ v still. still.requests) w j m whole calm
+
+states_stay : (w : World) (j m : ℕ) → IsWhole w → ((i : ℕ) → j < i → i ≤ j + m → IsCalm (course w) i) → (signals_of (run (j + m) w)).states ≡ (signals_of (run j w)).states
+states_stay w j m whole calm = stays (λ v. (signals_of v).states) (λ v still. still.states) w j m whole calm
+
+-- after the k-th round and two more, where all three are calm
+settled_after : StillRingsAreSettled → FreeRounds → (w : World) (k : ℕ) → IsWhole w → IsCalm (course w) (suc k) → IsCalm (course w) (suc (suc k)) → IsCalm (course w) (suc (suc (suc k)))
+    → (signals_of (run (suc (suc (suc k))) w)).states ≡ settled_states (requests_in (needs_in (run (suc (suc (suc k))) w)))
+settled_after law free_law w k whole one two three =
+    let at = λ (j : ℕ). run j w in
+    let goes = λ (j : ℕ) (c : IsCalm (course w) (suc j)). ap signals_of (one_run w j) ∙ goes_free (at j) (whole_run w j whole) free_law (run_still w j whole c).free ∙ ap (λ v. free_round (needs_in v) (signals_of (at j))) (sym (one_run w j)) in
+    let none = λ (j : ℕ) (c : IsCalm (course w) (suc j)). subst (λ v. ChangesNoWord (needs_in v) (signals_of (at j))) (sym (one_run w j)) (changes_none (at j) (whole_run w j whole) (calm_next w j c) free_law) in
+    let needs = λ (j : ℕ). needs_in (at j) in
+    let first = goes k one in
+    let second = goes (suc k) two ∙ ap (free_round (needs (suc (suc k)))) first in
+    let third = goes (suc (suc k)) three ∙ ap (free_round (needs (suc (suc (suc k))))) second in
+    ap (λ (s : Signals). s.states) third
+    ∙ law (needs (suc k)) (needs (suc (suc k))) (needs (suc (suc (suc k)))) (signals_of (at k)) (none k one)
+    (subst (ChangesNoWord (needs (suc (suc k)))) first (none (suc k) two))
+    (subst (ChangesNoWord (needs (suc (suc (suc k))))) second (none (suc (suc k)) three))
+
+pub three_calm_rounds_are_settled : StillRingsAreSettled → FreeRounds → ThreeCalmRoundsAreSettled
+three_calm_rounds_are_settled law free_law w whole one two three = settled_after law free_law w 0 whole one two three
+
+pub windows_are_settled : StillRingsAreSettled → FreeRounds → WindowsAreSettled
+windows_are_settled law free_law w k j whole ends low high =
     let long = ends.long in
     let size : length (run k w).ring.ids ≡ length w.ring.ids = ap length (left_run k w).ids in
-    let first : suc (j - 1) ≡ j = omega arith in
+    let enough = whole.placed.ids.enough in
+    let i : ℕ = k - 3 in
+    let last : suc (suc (suc i)) ≡ k = omega arith in
     let rest : j + (k - j) ≡ k = omega arith in
-    let c : IsCalm (course w) (suc (j - 1)) = subst (IsCalm (course w)) (sym first) (ends.calm j (omega arith) high) in
-    let still = run_still law w (j - 1) whole c in
-    let here : run j w ≡ round (run (j - 1) w) = ap (λ i. run i w) (sym first) ∙ one_run w (j - 1) in
-    ap (λ v. (signals_of v).states) here ∙ still.states
-    ∙ ap (λ v. settled_states (requests_in (needs_in v))) (sym here)
-    ∙ ap settled_states (sym (requests_stay law w j (k - j) whole (λ i after until. ends.calm i (omega arith) (omega arith))))
-    ∙ ap (λ i. settled_states (requests_in (needs_in (run i w)))) rest
+    let settled = settled_after law free_law w i whole (ends.calm (suc i) (omega arith) (omega arith)) (ends.calm (suc (suc i)) (omega arith) (omega arith)) (ends.calm (suc (suc (suc i))) (omega arith) (omega arith)) in
+    sym (states_stay w j (k - j) whole (λ m after until. ends.calm m (omega arith) (omega arith)))
+    ∙ ap (λ m. (signals_of (run m w)).states) (rest ∙ sym last)
+    ∙ settled
+    ∙ ap (λ m. settled_states (requests_in (needs_in (run m w)))) last
 
 -- ---- a step
 
-pub steps_settle : StillRingsAreSettled → StepsSettle
-steps_settle law w left limit whole settles =
+pub steps_settle : StillRingsAreSettled → FreeRounds → StepsSettle
+steps_settle law free_law w left limit whole settles =
     let known = known_settles w limit left (inl whole.paired.honest.honest) settles in
     let k = known.0 in
     let ends = known.1 in
@@ -333,5 +448,5 @@ steps_settle law w left limit whole settles =
     let enough = whole.placed.ids.enough in
     subst IsSettled (sym known.2) (record {
       whole = whole_run w k whole;
-      states = windows_are_settled law w k k whole ends.window (omega arith) (omega arith);
+      states = windows_are_settled law free_law w k k whole ends.window (omega arith) (omega arith);
     })

@@ -1,6 +1,6 @@
 -- What is the same in the comparison of a calm round is the same, and a round that leaves it the same is calm.
-use Rattle.std.proofs.Common.{◌≡◌, ℕ, ◌≤◌, true, List, [], ◌∷◌, Option, refl, ap, ◌∙◌}
-use Rattle.std.specs.Prelude.{◌&&◌, nat_le}
+use Rattle.std.proofs.Common.{◌≡◌, ℕ, ◌≤◌, Bool, true, false, List, [], ◌∷◌, Option, refl, ap, ◌∙◌}
+use Rattle.std.specs.Prelude.{◌&&◌, not, nat_le}
 use Rattle.std.proofs.lemmas.Bool.{and_parts, leb-true, le-leb}
 use Rattle.sdh_kbytes.specs.Same.{same_code, same_word, same_heard}
 use Rattle.sdh_kbytes.proofs.SameWords.{code_same, heard_same, same_is}
@@ -11,7 +11,7 @@ use Rattle.sdh_pointer.specs.Reading.{same_reading}
 use Rattle.sdh_pointer.specs.Sending.{same_sending}
 use Rattle.sdh_pointer.proofs.Unmoved as one
 use Rattle.sdh_node.specs.Same.{same_readings, same_generators, ComparedIn, ComparedOut, Compared, same_in, same_out, same_compared}
-use Rattle.sdh_node.specs.Node.{Node, crossing, after_crossing, with_calm, compared, node_round}
+use Rattle.sdh_node.specs.Node.{Node, crossing, after_crossing, with_calm, may_be_calm, is_held, compared, node_round}
 use Rattle.sdh_node.proofs.Itself.{compared_itself}
 
 readings_same : (xs ys : List Reading) → same_readings xs ys ≡ true → xs ≡ ys
@@ -56,16 +56,21 @@ compared_same a b e =
     let east_out = out_same a.east_out b.east_out five.1 in
     λ i. record { west = west i; east = east i; state = state i; west_out = west_out i; east_out = east_out i }
 
--- a calm round isn't the node's first one, and leaves all that is compared
-pub calm_leaves : (now : ℕ) (n : Node) → (node_round now n).0.calm ≡ true → (1 ≤ n.rounds) × (compared (node_round now n).0 ≡ compared n)
+not_true : (b : Bool) → not b ≡ true → b ≡ false
+not_true true e = cc
+not_true false e = refl
+
+-- a calm round isn't the node's first one, is no held turn, and leaves all that is compared
+pub calm_leaves : (now : ℕ) (n : Node) → (node_round now n).0.calm ≡ true → (1 ≤ n.rounds) × (is_held n ≡ false) × (compared (node_round now n).0 ≡ compared n)
 unfolding node_round with_calm
 calm_leaves now n e =
-    let both = and_parts (nat_le 1 n.rounds) (same_compared (compared (after_crossing (crossing now n) n)) (compared n)) e in
-    (leb-true 1 n.rounds both.0, compared_same (compared (after_crossing (crossing now n) n)) (compared n) both.1)
+    let both = and_parts (may_be_calm n) (same_compared (compared (after_crossing (crossing now n) n)) (compared n)) e in
+    let may = and_parts (nat_le 1 n.rounds) (not (is_held n)) both.0 in
+    (leb-true 1 n.rounds may.0, not_true (is_held n) may.1, compared_same (compared (after_crossing (crossing now n) n)) (compared n) both.1)
 
--- and a later round that leaves all of it is calm
-pub unchanged_is_calm : (now : ℕ) (n : Node) → 1 ≤ n.rounds → compared (node_round now n).0 ≡ compared n → (node_round now n).0.calm ≡ true
+-- and a later round that isn't held and leaves all of it is calm
+pub unchanged_is_calm : (now : ℕ) (n : Node) → 1 ≤ n.rounds → is_held n ≡ false → compared (node_round now n).0 ≡ compared n → (node_round now n).0.calm ≡ true
 unfolding node_round with_calm
-unchanged_is_calm now n ran same =
+unchanged_is_calm now n ran free same =
     let some : nat_le 1 n.rounds ≡ true = le-leb 1 n.rounds ran in
-    rw some (ap (λ c. same_compared c (compared n)) same ∙ compared_itself (compared n))
+    rw (some, free) (ap (λ c. same_compared c (compared n)) same ∙ compared_itself (compared n))

@@ -11,7 +11,7 @@ use Rattle.sdh_node.specs.Receiving.{after_overhead, after_intake, arrived_on, c
 use Rattle.sdh_circuits.specs.Provisioned.{same_end}
 use Rattle.sdh_node.specs.Tributaries.{Tributary, is_port, port_of, HasPort, fed, all_fed}
 use Rattle.sdh_node.specs.Crossing.{Cross, after_intakes, after_decision, delivered_to, all_delivered}
-use Rattle.sdh_node.specs.Node.{Node, at_receiving, moment_of, crossing, ports_after, after_crossing, with_calm, node_round, GoesOn}
+use Rattle.sdh_node.specs.Node.{Node, at_receiving, moment_of, is_held, crossing, ports_after, after_crossing, with_calm, node_round, GoesOn}
 
 one_more : (id : PortId) (u t : Tributary) (us ts : List Tributary) → u.port ≡ t.port → (b : Bool) → is_port id t ≡ b → (IsSome (find (is_port id) ts) → IsSome (find (is_port id) us))
     → IsSome (find (is_port id) (t ∷ ts)) → IsSome (find (is_port id) (u ∷ us))
@@ -35,7 +35,7 @@ unfolding all_fed port_of
 fed_has id ports h = has_mapped id (λ i t. fed t) 0 ports (λ k t. refl) h
 
 -- the cross-connect of a round is what the code makes of its own
-pub turn_is : (now : ℕ) (n : Node) (x : Cross) → crossing now (record n { ids = x.ids; at = x.at; circuits = x.circuits; state = x.state; west = x.west; east = x.east }) ≡ after_decision (after_intakes n.settings.threshold now x)
+pub turn_is : (now : ℕ) (n : Node) (x : Cross) → crossing now (record n { ids = x.ids; at = x.at; circuits = x.circuits; state = x.state; west = x.west; east = x.east }) ≡ after_decision (is_held n) (after_intakes n.settings.threshold now x)
 unfolding crossing after_intakes
 turn_is now n x = refl
 
@@ -44,6 +44,7 @@ unfolding node_round with_calm after_crossing crossing ports_after after_decisio
 round_goes_on now n = record {
   settings = refl;
   rounds = refl;
+  held = refl;
   moment = refl;
   ports = λ id h. fed_has id _ (delivered_has _ id n.ports h);
 }

@@ -7,8 +7,9 @@ use Rattle.sdh_kbytes.specs.KBytes.{code_number}
 use Rattle.sdh_request.specs.declared.Defect.{Defect}
 use Rattle.sdh_request.specs.declared.Defect.TheVariants as defect
 use Rattle.sdh_nodestate.specs.Rules.{scene}
+use Rattle.sdh_nodestate.specs.Filtering.{hears}
 use Rattle.sdh_nodestate.specs.Conditions.{MayStep}
-use Rattle.sdh_node.specs.Receiving.{Receiving, hears, IsReceiving}
+use Rattle.sdh_node.specs.Receiving.{Receiving, IsReceiving}
 use Rattle.sdh_node.specs.Crossing.{is_failed}
 
 failed-is : (d : Defect) → is_failed d ≡ true → d ≡ defect.Sf

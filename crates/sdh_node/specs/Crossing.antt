@@ -9,10 +9,12 @@ use Rattle.sdh_ringmap.specs.declared.Side.{Side}
 use Rattle.sdh_ringmap.specs.declared.Side.TheVariants.{West, East}
 use Rattle.sdh_request.specs.declared.Defect.{Defect}
 use Rattle.sdh_request.specs.declared.Defect.TheVariants as defect
+use Rattle.sdh_kbytes.specs.declared.K.{K}
 use Rattle.sdh_nodestate.specs.declared.NodeState.{NodeState}
 use Rattle.sdh_nodestate.specs.declared.Needs.{Needs}
 use Rattle.sdh_nodestate.specs.declared.Heard.{Heard}
-use Rattle.sdh_nodestate.specs.Rules.{Scene, scene, state_after}
+use Rattle.sdh_nodestate.specs.Rules.{Scene, scene, state_after, word}
+use Rattle.sdh_nodestate.specs.Filtering.{hears}
 use Rattle.sdh_nodestate.specs.FarEnds.{far_of, IsElsewhere}
 use Rattle.sdh_circuits.specs.declared.PortId.{PortId}
 use Rattle.sdh_circuits.specs.Provisioned.{Provisioned}
@@ -22,7 +24,7 @@ use Rattle.sdh_bridge.specs.declared.Origin.TheVariants as origin
 use Rattle.sdh_bridge.specs.Connections.{stands_for, leaves_working, leaves_protection}
 use Rattle.sdh_pointer.specs.declared.reading.Action.TheVariants as action
 use Rattle.sdh_pointer.specs.Reading.{start}
-use Rattle.sdh_node.specs.Receiving.{Receiving, Intake, hears, after_intake, intake_of, if_west, if_east}
+use Rattle.sdh_node.specs.Receiving.{Receiving, Intake, after_intake, intake_of, if_west, if_east}
 use Rattle.sdh_node.specs.Passing.{Input, no_input}
 use Rattle.sdh_node.specs.Outlets.{delivered_from}
 use Rattle.sdh_node.specs.Tributaries.{Tributary}
@@ -82,9 +84,13 @@ heard_of x = record { west = hears x.west.brought; east = hears x.east.brought }
 unfoldable pub scene_of : Cross → Scene
 scene_of x = scene x.ids x.at.0 (needs_of x) (heard_of x)
 
--- the state by the rules
-unfoldable pub after_decision : Cross → Cross
-after_decision x = record x { state = state_after (scene_of x) }
+-- the state by the rules, or, in a turn in which the controller is held, the one before
+unfoldable pub after_decision : Bool → Cross → Cross
+after_decision held x = record x { state = if held then x.state else state_after (scene_of x) }
+
+-- the word that is sent on a side after the word k: the one of the rules, or k in a held turn
+unfoldable pub next_word : Bool → Cross → Side → K → K
+next_word held x side k = if held then k else word (scene_of x) side
 
 -- ---- origins
 

@@ -1,5 +1,5 @@
 -- A node of the ring, and its round.
-use Rattle.std.specs.Prelude.{◌≡◌, ℕ, ◌+◌, ◌/◌, Bool, false, ◌&&◌, nat_le, None, List, [], ◌∷◌, length, slice_index, replicate, All}
+use Rattle.std.specs.Prelude.{◌≡◌, ℕ, ◌+◌, ◌-◌, ◌/◌, ◌≤◌, Bool, false, ◌&&◌, not, nat_le, None, List, [], length, slice_index, replicate, All}
 use Rattle.sdh_frame.specs.Sizes.{Frame, n_of}
 use Rattle.sdh_overhead.specs.Sections.{holding}
 use Rattle.sdh_kbytes.specs.declared.Code.TheVariants.{Nr}
@@ -15,13 +15,13 @@ use Rattle.sdh_circuits.specs.declared.PortId.{PortId}
 use Rattle.sdh_circuits.specs.Provisioned.{Provisioned}
 use Rattle.sdh_nodestate.specs.declared.NodeState.{NodeState}
 use Rattle.sdh_nodestate.specs.declared.NodeState.TheVariants as state
-use Rattle.sdh_nodestate.specs.Rules.{word}
+use Rattle.sdh_nodestate.specs.Filtering.{nothing_brought, hears}
 use Rattle.sdh_pointer.specs.Reading.{start}
 use Rattle.sdh_node.specs.declared.settings.Settings.{Settings}
 use Rattle.sdh_node.specs.Same.{ComparedIn, ComparedOut, Compared, same_compared}
-use Rattle.sdh_node.specs.Receiving.{Receiving, hears, after_intake, intake_of, new_intake, if_west, if_east}
+use Rattle.sdh_node.specs.Receiving.{Receiving, after_intake, intake_of, new_intake, if_west, if_east}
 use Rattle.sdh_node.specs.Tributaries.{Tributary, HasPort, IsTributary, tributaries_at, added_by, all_fed}
-use Rattle.sdh_node.specs.Crossing.{Cross, scene_of, after_decision, all_delivered, input_at, is_failed}
+use Rattle.sdh_node.specs.Crossing.{Cross, after_decision, next_word, all_delivered, input_at, is_failed}
 use Rattle.sdh_node.specs.Sending.{Sending, with_word, frame_from, after_sending}
 use Rattle.sdh_nodestate.specs.declared.Needs.{Needs}
 use Rattle.sdh_nodestate.specs.declared.Heard.{Heard}
@@ -44,6 +44,8 @@ pub record Node : Type 0 where
   -- both sides that send
   pub west_out : Sending
   pub east_out : Sending
+  -- how many of its next turns its controller misses
+  pub held : ℕ
   -- the last round was calm
   pub calm : Bool
 
@@ -56,7 +58,7 @@ new_receiving s = record {
   section = holding s.rate None;
   local = kept_of s.wait [];
   request = Nr;
-  brought = None ∷ [];
+  brought = nothing_brought;
   readings = replicate (n_of s.rate) start;
 }
 
@@ -82,6 +84,7 @@ new_node s ids circuits at = record {
   ports = tributaries_at at circuits;
   west_out = new_sending s (first_word ids at West);
   east_out = new_sending s (first_word ids at East);
+  held = 0;
   calm = false;
 }
 
@@ -104,11 +107,19 @@ new_cross s ids circuits at = record {
 abbrev pub at_receiving : Side → (Receiving → Receiving) → Node → Node
 at_receiving side f n = record n { west = if_west side f n.west; east = if_east side f n.east }
 
+-- a node whose controller is to miss so many turns, in place of those that are left
+abbrev pub held_for : ℕ → Node → Node
+held_for turns n = record n { held = turns }
+
 -- ---- a round, at a moment
+
+-- the controller misses the turn
+abbrev pub is_held : Node → Bool
+is_held n = nat_le 1 n.held
 
 -- the cross-connect of the round: both sides took what arrived, and the state follows
 unfoldable pub crossing : ℕ → Node → Cross
-crossing now n = after_decision (record {
+crossing now n = after_decision (is_held n) (record {
   ids = n.ids;
   at = n.at;
   circuits = n.circuits;
@@ -124,19 +135,20 @@ unfoldable pub ports_after : Cross → List Tributary → List Tributary
 ports_after x ports = all_fed (all_delivered x ports)
 
 -- a side that sends, with the word of the round
-abbrev pub with_next_word : Cross → Side → Sending → Sending
-with_next_word x side s = with_word (word (scene_of x) side) s
+abbrev pub with_next_word : Bool → Cross → Side → Sending → Sending
+with_next_word held x side s = with_word (next_word held x side s.word) s
 
--- the node after it: all pointer generators, section overhead and scrambling
+-- the node after it: all pointer generators, section overhead and scrambling; a held turn is used up
 unfoldable pub after_crossing : Cross → Node → Node
 after_crossing x n = record n {
   rounds = n.rounds + 1;
+  held = n.held - 1;
   west = x.west;
   east = x.east;
   state = x.state;
   ports = ports_after x n.ports;
-  west_out = after_sending (input_at x (added_by n.ports) West) (with_next_word x West n.west_out);
-  east_out = after_sending (input_at x (added_by n.ports) East) (with_next_word x East n.east_out);
+  west_out = after_sending (input_at x (added_by n.ports) West) (with_next_word (is_held n) x West n.west_out);
+  east_out = after_sending (input_at x (added_by n.ports) East) (with_next_word (is_held n) x East n.east_out);
 }
 
 -- the frames of both sides
@@ -146,8 +158,8 @@ pub record Frames : Type 0 where
 
 unfoldable pub frames_of : Cross → Node → Frames
 frames_of x n = record {
-  west = frame_from (input_at x (added_by n.ports) West) (with_next_word x West n.west_out);
-  east = frame_from (input_at x (added_by n.ports) East) (with_next_word x East n.east_out);
+  west = frame_from (input_at x (added_by n.ports) West) (with_next_word (is_held n) x West n.west_out);
+  east = frame_from (input_at x (added_by n.ports) East) (with_next_word (is_held n) x East n.east_out);
 }
 
 -- what is compared with the round before
@@ -160,10 +172,14 @@ compared_out s = record { word = s.word; generators = s.generators }
 abbrev pub compared : Node → Compared
 compared n = record { west = compared_in n.west; east = compared_in n.east; state = n.state; west_out = compared_out n.west_out; east_out = compared_out n.east_out }
 
--- the node `new` after a round that found it as `old`: the round was calm where one ran before it and it changed nothing
--- of what is compared
+-- a round ran before, and this turn isn't held
+abbrev pub may_be_calm : Node → Bool
+may_be_calm n = nat_le 1 n.rounds && not (is_held n)
+
+-- the node `new` after a round that found it as `old`: the round was calm where one ran before it, the turn wasn't held, and it
+-- changed nothing of what is compared
 unfoldable pub with_calm : Node → Node → Node
-with_calm old new = record new { calm = nat_le 1 old.rounds && same_compared (compared new) (compared old) }
+with_calm old new = record new { calm = may_be_calm old && same_compared (compared new) (compared old) }
 
 -- the round: the node after it, and what it sends
 unfoldable pub node_round : ℕ → Node → Node × Frames
@@ -183,10 +199,11 @@ sending_on East n = n.east_out
 abbrev pub moment_of : Node → ℕ
 moment_of n = n.west.local.moment
 
--- what a round leaves for the next one: the settings and the ports, one round more, and the moment
+-- what a round leaves for the next one: the settings and the ports, one round more, one held turn less, and the moment
 pub record GoesOn (now : ℕ) (old new : Node) : Type 0 where
   pub settings : new.settings ≡ old.settings
   pub rounds : new.rounds ≡ old.rounds + 1
+  pub held : new.held ≡ old.held - 1
   pub moment : moment_of new ≡ now
   pub ports : (id : PortId) → HasPort old.ports id → HasPort new.ports id
 
@@ -197,6 +214,7 @@ pub record IsNode (n : Node) : Type 0 where
   pub west_out_rate : n.west_out.section.rate ≡ n.settings.rate
   pub east_out_rate : n.east_out.section.rate ≡ n.settings.rate
   pub moments : n.east.local.moment ≡ n.west.local.moment
+  pub held : n.held ≤ 100
   pub ports : All (IsTributary (n_of n.settings.rate / 2) n.rounds) n.ports
 
 -- the last words of a node

@@ -1,6 +1,6 @@
 -- One side of a node that receives: what the section overhead of a frame says, the defect, the word heard, the local
 -- request, and what the pointer interpreters make of the AU-4s.
-use Rattle.std.specs.Prelude.{◌≡◌, ◌≢◌, ℕ, ◌+◌, ◌*◌, ◌%◌, ◌≤◌, Bool, ◌==◌, nat_le, if◌then◌else◌, Option, Some, None, IfSome, List, [], ◌∷◌, length, map, slice_index, replicate}
+use Rattle.std.specs.Prelude.{◌≡◌, ◌≢◌, ℕ, ◌+◌, ◌*◌, ◌%◌, ◌≤◌, Bool, ◌==◌, nat_le, if◌then◌else◌, Option, Some, None, IfSome, List, length, map, slice_index, replicate}
 use Rattle.std.specs.Option.{is_some}
 use Rattle.sdh_basics.specs.Indexed.{map_from}
 use Rattle.sdh_frame.specs.declared.Rate.{Rate}
@@ -23,6 +23,7 @@ use Rattle.sdh_request.specs.History.{seen, reached, commanded}
 use Rattle.sdh_request.specs.Kept as local
 use Rattle.sdh_request.specs.Kept.{after, kept_request}
 use Rattle.sdh_nodestate.specs.Words.{IsSpellable}
+use Rattle.sdh_nodestate.specs.Filtering.{Brought, with_brought, hears}
 use Rattle.sdh_pointer.specs.declared.reading.Reading.{Reading}
 use Rattle.sdh_pointer.specs.declared.reading.Action.{Action}
 use Rattle.sdh_pointer.specs.declared.reading.Action.TheVariants as action
@@ -38,19 +39,10 @@ pub record Receiving : Type 0 where
   pub local : local.LocalKept
   -- the local request in the last round
   pub request : Code
-  -- what the last rounds brought, the last one first: a word, or none
-  pub brought : List (Option K)
+  -- what the last three rounds brought: a word, or none
+  pub brought : Brought
   -- what the interpreters of AU-4s 1 to N keep
   pub readings : List Reading
-
--- the word that is heard, by what the last rounds brought
-abbrev pub hears : List (Option K) → Option K
-hears [] = None
-hears (w ∷ ws) = w
-
--- what is kept of it, with what one more round brought: that alone
-abbrev pub with_brought : Option K → List (Option K) → List (Option K)
-with_brought w ws = w ∷ []
 
 -- ---- what arrived
 

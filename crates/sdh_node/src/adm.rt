@@ -1,12 +1,12 @@
 //! One multiplexer.
-ghost use Rattle.std.specs.Prelude.{◌≡◌, ◌&&◌, nat_le, ◌+◌, ◌/◌, ◌^◌, ◌<◌, ◌≤◌, IfOk, IsTrue, length};
+ghost use Rattle.std.specs.Prelude.{◌≡◌, ◌&&◌, not, nat_le, ◌+◌, ◌-◌, ◌/◌, ◌^◌, ◌<◌, ◌≤◌, IfOk, IsTrue, length};
 ghost use Rattle.sdh_frame.specs.Sizes.{n_of};
 ghost use Rattle.sdh_squelch.specs.Kept.{KeepsRing};
-ghost use Rattle.sdh_nodestate.specs.Words.{IsSpellable};
+ghost use Rattle.sdh_nodestate.specs.Words.{IsSpellable, SendsSpellable};
 ghost use Rattle.sdh_plant.specs.Arrivals.{as_arrival};
 ghost use Rattle.sdh_node.specs.Receiving.{commanded_by, arrived_on};
 ghost use Rattle.sdh_node.specs.Tributaries.{HasPort, outlet_of};
-ghost use Rattle.sdh_node.specs.Node.{new_node, first_word, at_receiving, node_round, GoesOn, receiving_on, sending_on, moment_of};
+ghost use Rattle.sdh_node.specs.Node.{new_node, first_word, at_receiving, held_for, node_round, GoesOn, receiving_on, sending_on, moment_of};
 
 use crate::cross::CrossConnect;
 use crate::sender::Sender;
@@ -15,7 +15,7 @@ use crate::tributaries::Tributaries;
 use sdh_circuits::{CircuitMap, PortId};
 use sdh_frame::FrameBuf;
 use sdh_kbytes::{Code, K, Mark, Path};
-use sdh_nodestate::NodeState;
+use sdh_nodestate::{NodeState, Sent};
 use sdh_payload::Delivered;
 use sdh_plant::Arrived;
 use sdh_request::{Command, Moment};
@@ -32,6 +32,7 @@ pub struct Adm {
     ports: Tributaries,
     west_out: Sender,
     east_out: Sender,
+    held: u32,
     calm: bool,
 }
 
@@ -40,9 +41,9 @@ impl Model for Adm {
 
     ghost Value = { Node };
 
-    ghost view = { λ a. record { settings = a.settings; ids = a.cross.ids; at = a.cross.at; circuits = a.cross.circuits; rounds = a.rounds; west = a.cross.west; east = a.cross.east; state = a.cross.state; ports = a.ports; west_out = a.west_out; east_out = a.east_out; calm = a.calm } };
+    ghost view = { λ a. record { settings = a.settings; ids = a.cross.ids; at = a.cross.at; circuits = a.cross.circuits; rounds = a.rounds; west = a.cross.west; east = a.cross.east; state = a.cross.state; ports = a.ports; west_out = a.west_out; east_out = a.east_out; held = a.held; calm = a.calm } };
 
-    ghost invariant = { λ a. IsNode (record { settings = a.settings; ids = a.cross.ids; at = a.cross.at; circuits = a.cross.circuits; rounds = a.rounds; west = a.cross.west; east = a.cross.east; state = a.cross.state; ports = a.ports; west_out = a.west_out; east_out = a.east_out; calm = a.calm }) };
+    ghost invariant = { λ a. IsNode (record { settings = a.settings; ids = a.cross.ids; at = a.cross.at; circuits = a.cross.circuits; rounds = a.rounds; west = a.cross.west; east = a.cross.east; state = a.cross.state; ports = a.ports; west_out = a.west_out; east_out = a.east_out; held = a.held; calm = a.calm }) };
 }
 
 // The word to the neighbour on a side that asks for nothing.
@@ -85,6 +86,7 @@ impl Adm {
             ports: Tributaries::try_new(alloc, circuits, at)?,
             west_out: Sender::try_new(alloc, settings, west)?,
             east_out: Sender::try_new(alloc, settings, east)?,
+            held: 0,
             calm: false,
         })
     }
@@ -95,6 +97,17 @@ impl Adm {
         ensures moment { moment_of self.new ≡ moment_of self.old }
     {
         self.cross.command(side, command);
+    }
+
+    /// Its controller misses so many of the next turns, in place of those that are left of an earlier call: in a held turn the
+    /// node keeps its state and the words that it sends, and does all else.
+    pub fn hold(&mut self, turns: u32)
+        requires some { 1 ≤ turns }
+        requires few { turns ≤ 100 }
+        ensures node { self.new ≡ held_for turns self.old }
+        ensures moment { moment_of self.new ≡ moment_of self.old }
+    {
+        self.held = turns;
     }
 
     /// Keeps what arrived on a side for the next `send`. A second call before it replaces the first.
@@ -157,8 +170,8 @@ impl Adm {
         self.cross.receiver(side).request()
     }
 
-    /// Whether the last round changed nothing: no word sent or heard, no state, far end, local request, interpreter or
-    /// generator. The first round isn't calm.
+    /// Whether the last round was no held turn and changed nothing: no word sent or heard, no state, far end, local request,
+    /// interpreter or generator. The first round isn't calm.
     pub fn calm(&self) -> bool
         ensures { result ≡ self.now.calm }
     {
@@ -180,14 +193,17 @@ impl Adm {
         ensures rates { (west.new.rate ≡ west.old.rate) × (east.new.rate ≡ east.old.rate) }
         ensures goes_on { GoesOn now.0 self.old self.new }
     {
-        let ran = has_run(self.rounds);
+        let held = is_held(self.held);
+        let counts = may_be_calm(self.rounds, held);
         let taken = self.cross.take(self.settings.threshold, now);
-        let (sent, decided) = self.cross.decide();
+        let before = words_of(&self.west_out, &self.east_out);
+        let (sent, decided) = self.cross.decide(held, before);
         let west_said = self.west_out.say(sent.west);
         let east_said = self.east_out.say(sent.east);
         self.ports.deliver(&self.cross);
         self.ports.feed();
         self.rounds += 1;
+        self.held = one_less(self.held);
         let west_made = self
             .west_out
             .send(&self.cross, &self.ports, Side::West, west);
@@ -195,15 +211,15 @@ impl Adm {
             .east_out
             .send(&self.cross, &self.ports, Side::East, east);
         let calm = is_calm(
-            ran, taken, decided, west_said, west_made, east_said, east_made,
+            counts, taken, decided, west_said, west_made, east_said, east_made,
         );
         self.calm = calm;
     }
 }
 
-// Whether a round is calm: one ran before it, and all that is compared is the same.
+// Whether a round is calm: it may be, and all that is compared is the same.
 fn is_calm(
-    ran: bool,
+    counts: bool,
     taken: bool,
     decided: bool,
     west_said: bool,
@@ -211,14 +227,40 @@ fn is_calm(
     east_said: bool,
     east_made: bool,
 ) -> bool
-    ensures { result ≡ (ran && (taken && decided && (west_said && west_made) && (east_said && east_made))) }
+    ensures { result ≡ (counts && (taken && decided && (west_said && west_made) && (east_said && east_made))) }
 {
-    ran && taken && decided && west_said && west_made && east_said && east_made
+    counts && taken && decided && west_said && west_made && east_said && east_made
 }
 
-// Whether a round has run.
-fn has_run(rounds: u64) -> bool
-    ensures { result ≡ nat_le 1 rounds }
+// The words of both sides.
+fn words_of(west: &Sender, east: &Sender) -> Sent
+    ensures west { result.west ≡ west.now.word }
+    ensures east { result.east ≡ east.now.word }
+    ensures spellable { SendsSpellable result }
 {
-    rounds >= 1
+    Sent {
+        west: west.word(),
+        east: east.word(),
+    }
+}
+
+// Whether a turn is held.
+fn is_held(turns: u32) -> bool
+    ensures { result ≡ nat_le 1 turns }
+{
+    turns >= 1
+}
+
+// The held turns after this one.
+fn one_less(turns: u32) -> u32
+    ensures { result ≡ turns - 1 }
+{
+    turns.saturating_sub(1)
+}
+
+// Whether a round may be calm: one ran before it, and the turn isn't held.
+fn may_be_calm(rounds: u64, held: bool) -> bool
+    ensures { result ≡ (nat_le 1 rounds && not held) }
+{
+    rounds >= 1 && !held
 }

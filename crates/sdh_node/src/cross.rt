@@ -1,5 +1,5 @@
 //! The cross-connect: both sides that receive and what they take in, the state, and where it leads what comes in.
-ghost use Rattle.std.specs.Prelude.{◌≡◌, ◌&&◌, ◌+◌, ◌*◌, ◌-◌, ◌/◌, ◌<◌, ◌≤◌, IfOk, length};
+ghost use Rattle.std.specs.Prelude.{◌≡◌, ◌&&◌, ◌+◌, ◌*◌, ◌-◌, ◌/◌, ◌<◌, ◌≤◌, true, false, IfOk, length};
 ghost use Rattle.sdh_frame.specs.Sizes.{n_of};
 ghost use Rattle.sdh_ringmap.specs.declared.Side.TheVariants.{West, East};
 ghost use Rattle.sdh_squelch.specs.Kept.{KeepsRing};
@@ -10,7 +10,7 @@ ghost use Rattle.sdh_node.specs.Same.{same_in};
 ghost use Rattle.sdh_plant.specs.Arrivals.{as_arrival};
 ghost use Rattle.sdh_node.specs.Receiving.{commanded_by, arrived_on};
 ghost use Rattle.sdh_node.specs.Node.{new_cross, compared_in};
-ghost use Rattle.sdh_node.specs.Crossing.{on_side, intake_on, at_side, half_of, after_intakes, scene_of, after_decision, received, leaving, slot_of, dropped_at};
+ghost use Rattle.sdh_node.specs.Crossing.{on_side, intake_on, at_side, half_of, after_intakes, scene_of, after_decision, next_word, received, leaving, slot_of, dropped_at};
 ghost use Rattle.sdh_node.specs.Outlets.{chunk_form, chunk_from, delivered_from};
 
 use crate::intake::Intake;
@@ -136,10 +136,10 @@ impl CrossConnect {
         west && east
     }
 
-    /// Takes the state of this round, and tells the words that are sent, and whether the state is as before.
+    // The state of this round by the rules, and the words. Whether the state is as before.
     #[tactic(auto, unfolding(crate::specs::Crossing::after_decision, crate::specs::Crossing::scene_of))]
-    pub fn decide(&mut self) -> (Sent, bool)
-        ensures cross { self.new ≡ after_decision self.old }
+    fn step(&mut self) -> (Sent, bool)
+        ensures cross { self.new ≡ after_decision false self.old }
         ensures west { result.0.west ≡ word (scene_of self.old) West }
         ensures east { result.0.east ≡ word (scene_of self.old) East }
         ensures spellable { SendsSpellable result.0 }
@@ -163,6 +163,22 @@ impl CrossConnect {
         let same = same_shape(shape_of(&state), shape);
         self.state = state;
         (sent, same)
+    }
+
+    /// Takes the state of this round, and tells the words that are sent, and whether the state is as before. In a held turn
+    /// the state stays, and the words are those of the round before.
+    #[tactic(auto, unfolding(crate::specs::Crossing::after_decision, crate::specs::Crossing::next_word), using(sdh_nodestate::proofs::SameStates::state_itself))]
+    pub fn decide(&mut self, held: bool, before: Sent) -> (Sent, bool)
+        requires { SendsSpellable before }
+        ensures cross { self.new ≡ after_decision held self.old }
+        ensures west { result.0.west ≡ next_word held self.old West before.west }
+        ensures east { result.0.east ≡ next_word held self.old East before.east }
+        ensures spellable { SendsSpellable result.0 }
+        ensures same { result.1 ≡ same_state self.new.state self.old.state }
+        ensures west_in { self.new.west ≡ self.old.west }
+        ensures east_in { self.new.east ≡ self.old.east }
+    {
+        if held { (before, true) } else { self.step() }
     }
 
     /// The state.

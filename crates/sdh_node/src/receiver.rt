@@ -4,11 +4,12 @@ ghost use Rattle.std.specs.Option.{is_some};
 ghost use Rattle.sdh_frame.specs.Sizes.{n_of};
 ghost use Rattle.sdh_overhead.specs.Sections.{holding};
 ghost use Rattle.sdh_nodestate.specs.Words.{IsSpellable};
+ghost use Rattle.sdh_nodestate.specs.Filtering.{hears};
 ghost use Rattle.sdh_pointer.specs.Reading.{start};
 ghost use Rattle.sdh_kbytes.specs.Same.{same_code, same_heard};
 ghost use Rattle.sdh_node.specs.Same.{same_readings, same_in};
 ghost use Rattle.sdh_plant.specs.Arrivals.{as_arrival};
-ghost use Rattle.sdh_node.specs.Receiving.{reception, after_overhead, after_intake, intake_of, hears, readings_by, actions_by, commanded_by, arrived_on, IsReceiving};
+ghost use Rattle.sdh_node.specs.Receiving.{reception, after_overhead, after_intake, intake_of, readings_by, actions_by, commanded_by, arrived_on, IsReceiving};
 ghost use Rattle.sdh_node.specs.Crossing.{is_failed};
 ghost use Rattle.sdh_node.specs.Node.{new_receiving, compared_in};
 
@@ -17,6 +18,7 @@ use crate::making::new_interpreters;
 use crate::settings::Settings;
 use sdh_frame::FrameBuf;
 use sdh_kbytes::{Code, K, same_code, same_heard};
+use sdh_nodestate::Filter;
 use sdh_overhead::Section;
 use sdh_plant::Arrived;
 use sdh_pointer::Interp;
@@ -33,23 +35,23 @@ pub struct Receiver {
     section: Section,
     local: Local,
     request: Code,
-    heard: Option<K>,
+    filter: Filter,
     interps: Vec<Interp>,
 }
 
 impl Model for Receiver {
-    ghost use Rattle.std.specs.Prelude.{◌≡◌, [], ◌∷◌};
+    ghost use Rattle.std.specs.Prelude.{◌≡◌};
     ghost use Rattle.std.specs.Option.{option_map};
     ghost use Rattle.sdh_plant.specs.Arrivals.{as_arrival};
     ghost use Rattle.sdh_node.specs.Receiving.{Receiving, IsReceiving, readings_of};
 
     ghost Value = { Receiving };
 
-    ghost view = { λ r. record { arrived = option_map (λ a. as_arrival a r.frame.bytes) r.arrived; section = r.section; local = r.local; request = r.request; brought = r.heard ∷ []; readings = readings_of r.interps.items } };
+    ghost view = { λ r. record { arrived = option_map (λ a. as_arrival a r.frame.bytes) r.arrived; section = r.section; local = r.local; request = r.request; brought = r.filter; readings = readings_of r.interps.items } };
 
     ghost invariant = { λ r. record {
       rate : r.frame.rate ≡ r.section.rate;
-      side : IsReceiving (record { arrived = option_map (λ a. as_arrival a r.frame.bytes) r.arrived; section = r.section; local = r.local; request = r.request; brought = r.heard ∷ []; readings = readings_of r.interps.items });
+      side : IsReceiving (record { arrived = option_map (λ a. as_arrival a r.frame.bytes) r.arrived; section = r.section; local = r.local; request = r.request; brought = r.filter; readings = readings_of r.interps.items });
     } };
 }
 
@@ -64,7 +66,7 @@ impl Receiver {
             section: Section::try_new(settings.rate),
             local: Local::new(settings.wait),
             request: Code::Nr,
-            heard: None,
+            filter: Filter::new(),
             interps: new_interpreters(alloc, settings.rate.n())?,
         })
     }
@@ -129,8 +131,8 @@ impl Receiver {
         }
     }
 
-    // Section overhead, the defect at a moment, the word heard and the local request. Whether word and request are as
-    // before.
+    // Section overhead, the defect at a moment, what the filter makes of the word that came, and the local request. Whether the word
+    // heard and the request are as before.
     #[tactic(auto, unfolding(crate::specs::Receiving::after_overhead))]
     fn hear(&mut self, threshold: u16, now: Moment, intake: &mut Intake) -> bool
         requires later { self.old.local.moment ≤ now.0 }
@@ -144,9 +146,10 @@ impl Receiver {
         self.local.at_moment(now);
         self.local.see(defect);
         let request = self.local.request();
-        let same = same_code(request, self.request) && same_heard(word, self.heard);
+        let before = self.filter.heard();
+        let heard = self.filter.hear(word);
+        let same = same_code(request, self.request) && same_heard(heard, before);
         self.request = request;
-        self.heard = word;
         same
     }
 
@@ -199,7 +202,7 @@ impl Receiver {
         ensures value { result ≡ hears self.now.brought }
         ensures side { IsReceiving self.now }
     {
-        self.heard
+        self.filter.heard()
     }
 
     /// Whether the side failed in the last round.

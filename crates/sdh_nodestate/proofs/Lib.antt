@@ -1,3 +1,4 @@
 pub mod FarEnds
 pub mod Urgency
+pub mod Filtering
 pub mod SameStates

@@ -15,7 +15,7 @@ use Rattle.sdh_node.specs.declared.settings.Settings.{Settings}
 use Rattle.sdh_node.specs.Receiving.{after_intake, after_overhead, commanded_by}
 use Rattle.sdh_node.specs.Tributaries.{Tributary, is_port, port_of, HasPort, fed, all_fed, tributaries_at}
 use Rattle.sdh_node.specs.Crossing.{Cross, after_decision, delivered_to, all_delivered}
-use Rattle.sdh_node.specs.Node.{Node, new_node, at_receiving, crossing, ports_after, after_crossing, with_calm, node_round}
+use Rattle.sdh_node.specs.Node.{Node, new_node, at_receiving, held_for, crossing, ports_after, after_crossing, with_calm, node_round}
 use Rattle.sdh_node.proofs.Rounds.{round_goes_on}
 use Rattle.sdh_world.specs.Held.{new_nodes, at_place}
 use Rattle.sdh_world.specs.Rounds.{with_arrival, with_arrivals, all_with_arrivals, node_after}
@@ -62,13 +62,18 @@ pub all_next : (now : ℕ) (ns : List Node) → map fixed (map (node_after now) 
 all_next now [] = refl
 all_next now (n ∷ ns) = ap (λ f. f ∷ map fixed (map (node_after now) ns)) (fixed_next now n) ∙ ap (λ fs. fixed n ∷ fs) (all_next now ns)
 
-pub all_placed : (change : Node → Node) → ((n : Node) → fixed (change n) ≡ fixed n) → (i : ℕ) (ns : List Node) → map fixed (at_place i change ns) ≡ map fixed ns
-all_placed change same i [] = refl
-all_placed change same zero (n ∷ ns) = ap (λ f. f ∷ map fixed ns) (same n)
-all_placed change same (suc i) (n ∷ ns) = ap (λ fs. fixed n ∷ fs) (all_placed change same i ns)
+-- what a change of one node leaves of it stays of all
+pub all_placed : {Y : Type 0} (f : Node → Y) (change : Node → Node) → ((n : Node) → f (change n) ≡ f n) → (i : ℕ) (ns : List Node) → map f (at_place i change ns) ≡ map f ns
+all_placed f change same i [] = refl
+all_placed f change same zero (n ∷ ns) = ap (λ y. y ∷ map f ns) (same n)
+all_placed f change same (suc i) (n ∷ ns) = ap (λ ys. f n ∷ ys) (all_placed f change same i ns)
 
 pub all_commanded : (i : ℕ) (side : Side) (c : Command) (ns : List Node) → map fixed (at_place i (at_receiving side (commanded_by c)) ns) ≡ map fixed ns
-all_commanded i side c ns = all_placed (at_receiving side (commanded_by c)) (fixed_commanded side c) i ns
+all_commanded i side c ns = all_placed fixed (at_receiving side (commanded_by c)) (fixed_commanded side c) i ns
+
+pub all_held : (i turns : ℕ) (ns : List Node) → map fixed (at_place i (held_for turns) ns) ≡ map fixed ns
+unfolding fixed
+all_held i turns ns = all_placed fixed (held_for turns) (λ n. refl) i ns
 
 -- ---- rounds and moments
 
@@ -100,12 +105,18 @@ on_commanded : (side : Side) (c : Command) (r m : ℕ) (n : Node) → IsOn r m n
 on_commanded West c r m n h = record { rounds_are = h.rounds_are; early = h.early }
 on_commanded East c r m n h = record { rounds_are = h.rounds_are; early = h.early }
 
+all_at_place : (P : Node → Type 0) (change : Node → Node) → ((n : Node) → P n → P (change n)) → (p : ℕ) (ns : List Node) → All P ns → All P (at_place p change ns)
+all_at_place P change keep p [] all i d lt = all i d lt
+all_at_place P change keep zero (n ∷ ns) all zero d lt = keep n (all 0 d (omega arith))
+all_at_place P change keep zero (n ∷ ns) all (suc i) d lt = all (suc i) d lt
+all_at_place P change keep (suc p) (n ∷ ns) all zero d lt = all zero d (omega arith)
+all_at_place P change keep (suc p) (n ∷ ns) all (suc i) d lt = all_at_place P change keep p ns (λ j e low. all (suc j) e (omega arith)) i d (omega arith)
+
 pub all_on_commanded : (p : ℕ) (side : Side) (c : Command) (r m : ℕ) (ns : List Node) → All (IsOn r m) ns → All (IsOn r m) (at_place p (at_receiving side (commanded_by c)) ns)
-all_on_commanded p side c r m [] all i d lt = all i d lt
-all_on_commanded zero side c r m (n ∷ ns) all zero d lt = on_commanded side c r m n (all 0 d (omega arith))
-all_on_commanded zero side c r m (n ∷ ns) all (suc i) d lt = all (suc i) d lt
-all_on_commanded (suc p) side c r m (n ∷ ns) all zero d lt = all zero d (omega arith)
-all_on_commanded (suc p) side c r m (n ∷ ns) all (suc i) d lt = all_on_commanded p side c r m ns (λ j e low. all (suc j) e (omega arith)) i d (omega arith)
+all_on_commanded p side c r m ns all = all_at_place (IsOn r m) (at_receiving side (commanded_by c)) (λ n h. on_commanded side c r m n h) p ns all
+
+pub all_on_held : (p turns r m : ℕ) (ns : List Node) → All (IsOn r m) ns → All (IsOn r m) (at_place p (held_for turns) ns)
+all_on_held p turns r m ns all = all_at_place (IsOn r m) (held_for turns) (λ n h. record { rounds_are = h.rounds_are; early = h.early }) p ns all
 
 pub all_on_later : (r m now : ℕ) (ns : List Node) → m ≤ now → All (IsOn r m) ns → All (IsOn r now) ns
 all_on_later r m now ns later all i d lt = let h = all i d lt in record { rounds_are = h.rounds_are; early = let e = h.early in omega arith }

@@ -10,9 +10,9 @@ use Rattle.sdh_plant.specs.declared.plant.Condition.{Condition}
 use Rattle.sdh_plant.specs.Calls.{prepared, after_apply}
 use Rattle.sdh_node.specs.declared.settings.Settings.{Settings}
 use Rattle.sdh_node.specs.Receiving.{commanded_by}
-use Rattle.sdh_node.specs.Node.{at_receiving}
+use Rattle.sdh_node.specs.Node.{at_receiving, held_for}
 use Rattle.sdh_world.specs.Held.{HeldRing, new_ring, at_place}
-use Rattle.sdh_world.specs.Changes.{Change, Order, Now, Fibre, changed, Stretch}
+use Rattle.sdh_world.specs.Changes.{Change, Order, Hold, Now, Fibre, changed, Stretch}
 use Rattle.sdh_world.specs.Sides.{new_holding, holding_of, holding_in, world_in, Fits}
 use Rattle.sdh_world.specs.Rounds.{World, world, arrival_at, frames_with, round_with, round}
 use Rattle.sdh_world.specs.Runs.{IsRound, IsBrokenOff, run, run_with, course}
@@ -90,13 +90,15 @@ pub record StepsAreComputed : Type 0 where
 -- what the calls do is a change
 pub record CallsChange : Type 0 where
   pub command : (r : HeldRing) (f : Fibres) (p : ℕ) (d : Side) (c : Command) → world (record r { nodes = at_place p (at_receiving d (commanded_by c)) r.nodes }) f ≡ changed (Order p d c) (world r f)
+  pub hold : (r : HeldRing) (f : Fibres) (p turns : ℕ) → world (record r { nodes = at_place p (held_for turns) r.nodes }) f ≡ changed (Hold p turns) (world r f)
   pub moment : (r : HeldRing) (f : Fibres) (t : ℕ) → world (record r { moment = t }) f ≡ changed (Now t) (world r f)
   pub apply : (r : HeldRing) (f : Fibres) (p : ℕ) (d : Side) (c : Condition) → world r (after_apply f p d c) ≡ changed (Fibre p d c) (world r f)
 
--- a condition that a change gives a fibre is one of the rate
+-- a condition that a change gives a fibre is one of the rate, and a controller misses at most 100 turns
 abbrev pub IsChangeAt : Rate → Change → Type 0
 IsChangeAt rate (Fibre p d c) = IsConditionAt rate c
 IsChangeAt rate (Order p d c) = Unit {0}
+IsChangeAt rate (Hold p turns) = turns ≤ 100
 IsChangeAt rate (Now t) = Unit {0}
 
 -- such changes leave prepared fibres prepared

@@ -1,13 +1,15 @@
-use Rattle.std.proofs.Common.{◌+◌, ◌/◌, ◌<◌, ap, refl, sym, subst, ◌∙◌}
-use Rattle.std.specs.Prelude.{All, ◌^◌}
+use Rattle.std.proofs.Common.{◌+◌, ◌/◌, ◌<◌, ap, refl, sym, subst, arith, ◌∙◌}
+use Rattle.std.specs.Prelude.{All, ◌^◌, ◌&&◌, not, nat_le}
 use Rattle.sdh_frame.specs.Sizes.{n_of}
 use Rattle.sdh_node.specs.Tributaries.{Tributary, IsTributary}
 use Rattle.sdh_node.specs.Receiving.{Receiving}
 use Rattle.sdh_node.specs.Sending.{Sending}
+use Rattle.sdh_ringmap.specs.declared.Side.TheVariants.{West, East}
+use Rattle.sdh_node.specs.Crossing.{after_decision, next_word}
 use Rattle.sdh_node.specs.Node.{Node, node_round, GoesOn}
 use Rattle.sdh_node.proofs.Ports.{few_chunks, delivered_are, fed_are}
 use Rattle.sdh_node.proofs.Rounds.{round_goes_on}
-use Rattle.sdh_node.proofs.Turning.{west_frame_is, east_frame_is, calm_is, node_is}
+use Rattle.sdh_node.proofs.Turning.{node_of, west_frame_is, east_frame_is, calm_is, node_is}
 use Rattle.sdh_node.proofs.adm.Adm.send.Goals as goal
 
 pub feed-requires : goal.feed-requires
@@ -30,6 +32,7 @@ invariant_of-self c =
       west_out_rate = c.send-west_made.ensures.rate ∙ ap (λ (s : Sending). s.section.rate) c.say-west_said.ensures.sender ∙ inv.west_out_rate;
       east_out_rate = c.send-east_made.ensures.rate ∙ ap (λ (s : Sending). s.section.rate) c.say-east_said.ensures.sender ∙ inv.east_out_rate;
       moments = ap (λ (r : Receiving). r.local.moment) east ∙ c.take-taken.ensures.east ∙ sym c.take-taken.ensures.west ∙ sym (ap (λ (r : Receiving). r.local.moment) west);
+      held = (let was = inv.held in let now = c.one_less-self-inside.ensures in omega arith);
       ports = subst (All (IsTributary slots (i.rounds + 1))) (sym c.feed.ensures)
           (fed_are slots i.rounds _ (subst (All (IsTributary slots i.rounds)) (sym c.deliver.ensures) (delivered_are c.decide-decided.new.self slots i.rounds i.ports inv.ports)));
     }
@@ -37,39 +40,56 @@ invariant_of-self c =
 pub returns-clause-west : goal.returns-clause-west
 returns-clause-west c =
     let i = c.self.inside in
-    west_frame_is c.args.now.0 i.settings i.rounds i.cross i.ports i.west_out i.east_out i.calm
-    c.take-taken.new.self c.decide-decided.new.self c.deliver.new.self c.feed.new.self c.take-taken.ensures.cross c.decide-decided.ensures.cross c.deliver.ensures c.feed.ensures
+    let held = c.is_held-held.ensures in
+    let tk = c.take-taken.new.self in
+    let decided = c.decide-decided.ensures.cross ∙ (λ j. after_decision (held j) tk) in
+    let west_said = c.decide-decided.ensures.west ∙ (λ j. next_word (held j) tk West (c.words_of-before.ensures.west j)) in
+    let east_said = c.decide-decided.ensures.east ∙ (λ j. next_word (held j) tk East (c.words_of-before.ensures.east j)) in
+    west_frame_is c.args.now.0 i.settings i.rounds i.held i.cross i.ports i.west_out i.east_out i.calm
+    c.take-taken.new.self c.decide-decided.new.self c.deliver.new.self c.feed.new.self c.take-taken.ensures.cross decided c.deliver.ensures c.feed.ensures
     c.decide-decided.result.0.west c.decide-decided.result.0.east c.say-west_said.new.self c.say-east_said.new.self c.send-west_made.new.self c.send-east_made.new.self c.feed.new.self c.feed.new.self
-    c.decide-decided.ensures.west c.decide-decided.ensures.east c.say-west_said.ensures.sender c.say-east_said.ensures.sender refl refl
+    west_said east_said c.say-west_said.ensures.sender c.say-east_said.ensures.sender refl refl
     c.send-west_made.new.out c.send-west_made.ensures.frame
     ∙ ap (λ (n : Node). (node_round c.args.now.0 n).1.west) c.self.view_is
 
 pub returns-clause-east : goal.returns-clause-east
 returns-clause-east c =
     let i = c.self.inside in
-    east_frame_is c.args.now.0 i.settings i.rounds i.cross i.ports i.west_out i.east_out i.calm
-    c.take-taken.new.self c.decide-decided.new.self c.deliver.new.self c.feed.new.self c.take-taken.ensures.cross c.decide-decided.ensures.cross c.deliver.ensures c.feed.ensures
+    let held = c.is_held-held.ensures in
+    let tk = c.take-taken.new.self in
+    let decided = c.decide-decided.ensures.cross ∙ (λ j. after_decision (held j) tk) in
+    let west_said = c.decide-decided.ensures.west ∙ (λ j. next_word (held j) tk West (c.words_of-before.ensures.west j)) in
+    let east_said = c.decide-decided.ensures.east ∙ (λ j. next_word (held j) tk East (c.words_of-before.ensures.east j)) in
+    east_frame_is c.args.now.0 i.settings i.rounds i.held i.cross i.ports i.west_out i.east_out i.calm
+    c.take-taken.new.self c.decide-decided.new.self c.deliver.new.self c.feed.new.self c.take-taken.ensures.cross decided c.deliver.ensures c.feed.ensures
     c.decide-decided.result.0.west c.decide-decided.result.0.east c.say-west_said.new.self c.say-east_said.new.self c.send-west_made.new.self c.send-east_made.new.self c.feed.new.self c.feed.new.self
-    c.decide-decided.ensures.west c.decide-decided.ensures.east c.say-west_said.ensures.sender c.say-east_said.ensures.sender refl refl
+    west_said east_said c.say-west_said.ensures.sender c.say-east_said.ensures.sender refl refl
     c.send-east_made.new.out c.send-east_made.ensures.frame
     ∙ ap (λ (n : Node). (node_round c.args.now.0 n).1.east) c.self.view_is
 
 pub returns-clause-node : goal.returns-clause-node
 returns-clause-node c =
     let i = c.self.inside in
+    let held = c.is_held-held.ensures in
+    let tk = c.take-taken.new.self in
+    let decided = c.decide-decided.ensures.cross ∙ (λ j. after_decision (held j) tk) in
+    let west_said = c.decide-decided.ensures.west ∙ (λ j. next_word (held j) tk West (c.words_of-before.ensures.west j)) in
+    let east_said = c.decide-decided.ensures.east ∙ (λ j. next_word (held j) tk East (c.words_of-before.ensures.east j)) in
+    let counted = c.may_be_calm-counts.ensures ∙ (λ j. nat_le 1 i.rounds && not (held j)) in
     let told =
     c.is_calm-calm.ensures
-    ∙ calm_is c.args.now.0 i.settings i.rounds i.cross i.ports i.west_out i.east_out i.calm
-    c.take-taken.new.self c.decide-decided.new.self c.deliver.new.self c.feed.new.self c.take-taken.ensures.cross c.decide-decided.ensures.cross c.deliver.ensures c.feed.ensures
+    ∙ calm_is c.args.now.0 i.settings i.rounds i.held i.cross i.ports i.west_out i.east_out i.calm
+    c.take-taken.new.self c.decide-decided.new.self c.deliver.new.self c.feed.new.self c.take-taken.ensures.cross decided c.deliver.ensures c.feed.ensures
     c.decide-decided.result.0.west c.decide-decided.result.0.east c.say-west_said.new.self c.say-east_said.new.self c.send-west_made.new.self c.send-east_made.new.self c.feed.new.self c.feed.new.self
-    c.decide-decided.ensures.west c.decide-decided.ensures.east c.say-west_said.ensures.sender c.say-east_said.ensures.sender refl refl
+    west_said east_said c.say-west_said.ensures.sender c.say-east_said.ensures.sender refl refl
     c.send-west_made.ensures.sender c.send-east_made.ensures.sender
-    c.has_run-ran.result c.take-taken.result c.decide-decided.result.1 c.say-west_said.result c.send-west_made.result c.say-east_said.result c.send-east_made.result
-    c.has_run-ran.ensures c.take-taken.ensures.same c.decide-decided.ensures.same c.say-west_said.ensures.same c.send-west_made.ensures.same c.say-east_said.ensures.same c.send-east_made.ensures.same in
-    node_is c.args.now.0 i.settings i.rounds i.cross i.ports i.west_out i.east_out i.calm
-    c.take-taken.new.self c.decide-decided.new.self c.deliver.new.self c.feed.new.self c.take-taken.ensures.cross c.decide-decided.ensures.cross c.deliver.ensures c.feed.ensures
+    c.may_be_calm-counts.result c.take-taken.result c.decide-decided.result.1 c.say-west_said.result c.send-west_made.result c.say-east_said.result c.send-east_made.result
+    counted c.take-taken.ensures.same c.decide-decided.ensures.same c.say-west_said.ensures.same c.send-west_made.ensures.same c.say-east_said.ensures.same c.send-east_made.ensures.same in
+    (λ j. node_of i.settings (i.rounds + 1) (c.one_less-self-inside.ensures j) c.decide-decided.new.self c.feed.new.self c.send-west_made.new.self c.send-east_made.new.self c.is_calm-calm.result)
+    ∙ node_is c.args.now.0 i.settings i.rounds i.held i.cross i.ports i.west_out i.east_out i.calm
+    c.take-taken.new.self c.decide-decided.new.self c.deliver.new.self c.feed.new.self c.take-taken.ensures.cross decided c.deliver.ensures c.feed.ensures
     c.decide-decided.result.0.west c.decide-decided.result.0.east c.say-west_said.new.self c.say-east_said.new.self c.send-west_made.new.self c.send-east_made.new.self c.feed.new.self c.feed.new.self
-    c.decide-decided.ensures.west c.decide-decided.ensures.east c.say-west_said.ensures.sender c.say-east_said.ensures.sender refl refl
+    west_said east_said c.say-west_said.ensures.sender c.say-east_said.ensures.sender refl refl
     c.send-west_made.ensures.sender c.send-east_made.ensures.sender
     c.is_calm-calm.result told
     ∙ ap (λ (n : Node). (node_round c.args.now.0 n).0) c.self.view_is

@@ -1,4 +1,4 @@
-use Rattle.std.proofs.Common.{ap, sym, subst, ◌∙◌}
+use Rattle.std.proofs.Common.{ap, sym, subst, arith, ◌∙◌}
 use Rattle.std.specs.Prelude.{All}
 use Rattle.sdh_node.specs.Crossing.{Cross}
 use Rattle.sdh_node.specs.Sending.{Sending}
@@ -13,5 +13,6 @@ invariant_of-result c =
       west_out_rate = ap (λ (s : Sending). s.section.rate) c.in_ok-try_new-3.ensures;
       east_out_rate = ap (λ (s : Sending). s.section.rate) c.in_ok-try_new-4.ensures;
       moments = ap (λ (x : Cross). x.east.local.moment) cross ∙ sym (ap (λ (x : Cross). x.west.local.moment) cross);
+      held = omega arith;
       ports = subst (λ slots. All (IsTributary slots 0) c.in_ok-try_new-2.field-0) c.requires.slots c.in_ok-try_new-2.ensures.slots;
     }

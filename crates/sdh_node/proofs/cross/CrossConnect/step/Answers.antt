@@ -1,5 +1,5 @@
 use Rattle.sdh_node.proofs.Steps.{may_step}
-use Rattle.sdh_node.proofs.cross.CrossConnect.decide.Goals as goal
+use Rattle.sdh_node.proofs.cross.CrossConnect.step.Goals as goal
 
 pub step-state-requires : goal.step-state-requires
 step-state-requires c =
