@@ -1,4 +1,4 @@
-mod Lists
+pub mod Lists
 mod Counting
 mod Requests
 mod OneNode
@@ -15,6 +15,8 @@ mod Ends
 mod Standing
 mod RunLaw
 mod Convergence
+pub mod Marks
 pub mod Rounds
+pub mod StillRings
 pub mod Fixpoint
 pub mod Tracing

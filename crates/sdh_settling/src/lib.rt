@@ -3,7 +3,7 @@
 //! laws. Each function here has a law as its contract and no work to do.
 #![tactic(auto)]
 
-ghost use Rattle.sdh_settling.specs.Laws.{RunsSettle, WordsStay, StillRingsAreSettled, RingsSettle, RelayedWordsLeadBack, NotAllPassThrough};
+ghost use Rattle.sdh_settling.specs.Laws.{RunsSettle, WordsStay, StillRingsAreSettled, FreeRounds, RingsSettle, RelayedWordsLeadBack, NotAllPassThrough};
 
 /// A ring that goes on with the same needs gets into the settled states.
 #[tactic(auto, using(crate::proofs::Fixpoint::runs_settle))]
@@ -17,10 +17,16 @@ pub fn words_stay()
     ensures { WordsStay }
 {}
 
-/// A ring of signals in which nothing changes is in the settled states.
+/// A ring of signals in which three rounds change no word is in the settled states.
 #[tactic(auto, using(crate::proofs::Fixpoint::still_rings_are_settled))]
 pub fn still_rings_are_settled()
     ensures { StillRingsAreSettled }
+{}
+
+/// A round that holds no node is the same however that is told.
+#[tactic(auto, using(crate::proofs::Fixpoint::free_rounds))]
+pub fn free_rounds()
+    ensures { FreeRounds }
 {}
 
 /// A ring of signals becomes still in a number of rounds that grows with its number of nodes alone.
