@@ -16,7 +16,7 @@ use Rattle.sdh_settling.specs.Laws.{StillRingsAreSettled}
 use Rattle.sdh_world.specs.Rounds.{World, round}
 use Rattle.sdh_world.specs.Runs.{run, course}
 use Rattle.sdh_world.specs.Quiet.{IsCalm, EndsWindow}
-use Rattle.sdh_world.specs.Changes.{Change, Fibre, Order, Now, changed, all_changed, Stretch, after_stretch, after_stretches, new_world}
+use Rattle.sdh_world.specs.Changes.{Change, Fibre, Order, Hold, Now, changed, all_changed, Stretch, after_stretch, after_stretches, new_world}
 use Rattle.sdh_world.proofs.Runs.{known_settles}
 use Rattle.sdh_hearing.specs.Signalling.{signals_of}
 use Rattle.sdh_hearing.specs.Laws.{IsWhole, asked_in}
@@ -61,7 +61,7 @@ module _ (law : StillRingsAreSettled) (w : World) (whole : IsWhole w) (k : ℕ) 
   requests_same : (j : ℕ) → k < j + 3 * n → j ≤ k → requests_of (run j w) ≡ rs
   requests_same j low high =
       let rest : j + (k - j) ≡ k = omega arith in
-      sym (requests_stay law w j (k - j) whole (λ i after until. calm_at i (omega arith) (omega arith))) ∙ ap (λ i. requests_of (run i w)) rest
+      sym (requests_stay w j (k - j) whole (λ i after until. calm_at i (omega arith) (omega arith))) ∙ ap (λ i. requests_of (run i w)) rest
 
   settled_at : (j : ℕ) → k < j + 3 * n → j ≤ k → AreSettled n rs (run j w)
   settled_at j low high = each_settled (run j w) n rs (nodes_after_all j) (length-requests_of (run k w) n (nodes_after_all k)) (windows_are_settled law w k j whole ends low high)
@@ -102,6 +102,7 @@ pub layout_changed : (c : Change) (w : World) → layout_of (changed c w) ≡ la
 unfolding changed
 layout_changed (Fibre p d condition) w = refl
 layout_changed (Order p d c) w = refl
+layout_changed (Hold p turns) w = refl
 layout_changed (Now t) w = refl
 
 pub layout_all : (cs : List Change) (w : World) → layout_of (all_changed cs w) ≡ layout_of w

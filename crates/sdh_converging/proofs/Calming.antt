@@ -1,14 +1,14 @@
 -- A round that changes nothing of what is compared is calm.
-use Rattle.std.proofs.Common.{◌≡◌, ℕ, ◌<◌, true, length}
+use Rattle.std.proofs.Common.{◌≡◌, ℕ, ◌<◌, true, false, length}
 use Rattle.sdh_ringmap.specs.declared.Side.{Side}
 use Rattle.sdh_ringmap.specs.declared.Side.TheVariants.{West, East}
-use Rattle.sdh_node.specs.Receiving.{hears}
-use Rattle.sdh_node.specs.Node.{Node, receiving_on, sending_on, compared, word_of}
+use Rattle.sdh_nodestate.specs.Filtering.{hears}
+use Rattle.sdh_node.specs.Node.{Node, receiving_on, sending_on, is_held, compared, word_of}
 use Rattle.sdh_world.specs.Rounds.{World, round}
 use Rattle.sdh_world.specs.Quiet.{is_calm}
 use Rattle.sdh_hearing.specs.Laws.{IsWhole}
 use Rattle.sdh_hearing.proofs.Signalling.{calm_where_same}
-use Rattle.sdh_world.specs.Held.{node_at}
+use Rattle.sdh_world.specs.Held.{node_at, AtEach}
 
 -- all that is compared of two nodes is the same, side by side
 pub record AreSame (a b : Node) : Type 0 where
@@ -40,5 +40,5 @@ compared_by a b is =
       east_out = record { word = east_word i; generators = east_generators i };
     }
 
-pub calm_round : (u : World) → IsWhole u → 0 < u.ring.rounds → ((p : ℕ) → p < length u.ring.nodes → AreSame (node_at (round u).ring.nodes p) (node_at u.ring.nodes p)) → is_calm (round u).ring.nodes ≡ true
-calm_round u whole ran same = calm_where_same u whole ran (λ p h. compared_by (node_at (round u).ring.nodes p) (node_at u.ring.nodes p) (same p h))
+pub calm_round : (u : World) → IsWhole u → 0 < u.ring.rounds → AtEach (λ p n. is_held n ≡ false) u.ring.nodes → ((p : ℕ) → p < length u.ring.nodes → AreSame (node_at (round u).ring.nodes p) (node_at u.ring.nodes p)) → is_calm (round u).ring.nodes ≡ true
+calm_round u whole ran free same = calm_where_same u whole ran free (λ p h. compared_by (node_at (round u).ring.nodes p) (node_at u.ring.nodes p) (same p h))

@@ -1,7 +1,7 @@
 -- From any ring that is paired with its fibres: all rounds are calm from some round on.
-use Rattle.std.proofs.Common.{◌≡◌, ℕ, zero, suc, ◌+◌, ◌-◌, ◌*◌, ◌<◌, ◌≤◌, Bool, List, [], length, map, get_or, Option, Some, None, ap, sym, ◌∙◌, subst, arith, inl, inr}
+use Rattle.std.proofs.Common.{◌≡◌, ℕ, zero, suc, ◌+◌, ◌-◌, ◌*◌, ◌<◌, ◌≤◌, Bool, false, List, length, map, get_or, Option, Some, None, ap, sym, ◌∙◌, subst, arith, inl, inr}
 use Rattle.std.specs.Prelude.{◌||◌, if◌then◌else◌}
-use Rattle.std.proofs.lemmas.Bool.{ne_eqb, cases_Bool}
+use Rattle.std.proofs.lemmas.Bool.{cases_Bool}
 use Rattle.std.proofs.lemmas.List.{get_or-map}
 use Rattle.sdh_ringmap.specs.declared.Side.{Side}
 use Rattle.sdh_ringmap.specs.declared.Side.TheVariants.{West, East}
@@ -13,8 +13,8 @@ use Rattle.sdh_restoration.specs.Settled.{settled_states}
 use Rattle.sdh_settling.specs.Signals.{requests_in, request_on, no_needs}
 use Rattle.sdh_settling.specs.Laws.{RingsSettle}
 use Rattle.sdh_plant.specs.declared.plant.Condition.{Condition}
-use Rattle.sdh_node.specs.Receiving.{hears}
-use Rattle.sdh_node.specs.Node.{Node, receiving_on, sending_on, word_of, sent_of}
+use Rattle.sdh_nodestate.specs.Filtering.{Brought, with_brought, hears, heard_of}
+use Rattle.sdh_node.specs.Node.{Node, receiving_on, sending_on, is_held, word_of, sent_of}
 use Rattle.sdh_world.specs.Rounds.{World, round}
 use Rattle.sdh_world.specs.Runs.{run, course}
 use Rattle.sdh_world.specs.Quiet.{IsCalm}
@@ -38,7 +38,7 @@ use Rattle.sdh_converging.proofs.Spreading.{pointers_rest}
 use Rattle.sdh_converging.proofs.Windows.{calm_ends_windows, answers_by}
 use Rattle.sdh_converging.proofs.Calming.{AreSame, calm_round}
 use Rattle.sdh_plant.specs.Fibres.{is_cut}
-use Rattle.sdh_world.specs.Held.{nowhere, node_at}
+use Rattle.sdh_world.specs.Held.{nowhere, node_at, AtEach}
 use Rattle.sdh_kbytes.specs.KBytes.{is_ms_ais}
 use Rattle.sdh_world.specs.Sides.{condition_to}
 
@@ -46,19 +46,23 @@ use Rattle.sdh_world.specs.Sides.{condition_to}
 same_at : {Y : Type 0} (f : Node → Y) (xs ys : List Node) (p : ℕ) → p < length xs → p < length ys → map f xs ≡ map f ys → f (node_at xs p) ≡ f (node_at ys p)
 same_at f xs ys p hx hy e = sym (get_or-map f xs p nowhere (f nowhere) hx) ∙ ap (λ l. get_or l p (f nowhere)) e ∙ get_or-map f ys p nowhere (f nowhere) hy
 
--- ---- what is heard
+-- ---- what comes
 
--- the word behind a fibre, if it is heard
-abbrev heard_behind : Condition → K → Option K
-heard_behind c k = if is_cut c || is_ms_ais k.mark then None else Some k
+-- the word behind a fibre, if it comes
+abbrev come_behind : Condition → K → Option K
+come_behind c k = if is_cut c || is_ms_ais k.mark then None else Some k
 
-heard_after : (u : World) → IsWhole u → (p : ℕ) (d : Side) → p < length u.ring.nodes → 0 < u.ring.rounds → hears (receiving_on d (node_at (round u).ring.nodes p)).brought ≡ heard_behind (condition_to u p d) (word_to u p d)
-heard_after u whole p d inside started =
+came_after : (u : World) → IsWhole u → (p : ℕ) (d : Side) → p < length u.ring.nodes → 0 < u.ring.rounds → (receiving_on d (node_at (round u).ring.nodes p)).brought.last ≡ come_behind (condition_to u p d) (word_to u p d)
+came_after u whole p d inside started =
     let b = brings u whole p d inside in
     elim (cases_Bool (is_lost u p d)) [
       | inl lost ↦ b.silent started lost ∙ sym (ap (λ (t : Bool). if t then None else Some (word_to u p d)) lost)
-      | inr kept ↦ b.hears started kept ∙ sym (ap (λ (t : Bool). if t then None else Some (word_to u p d)) kept)
+      | inr kept ↦ b.comes started kept ∙ sym (ap (λ (t : Bool). if t then None else Some (word_to u p d)) kept)
     ]
+
+-- no controller misses the next turn
+abbrev AllFree : World → Type 0
+AllFree w = AtEach (λ p n. is_held n ≡ false) w.ring.nodes
 
 module _ (w : World) (whole : IsWhole w) (form : HasCircuits (layout_of w)) (still : GetsStill w) where
   abbrev n : ℕ
@@ -73,31 +77,32 @@ module _ (w : World) (whole : IsWhole w) (form : HasCircuits (layout_of w)) (sti
   -- ---- requests and states
 
   abbrev rs : List ℕ
-  rs = requests_of (run 3 w)
+  rs = requests_of (run 103 w)
 
-  requests_at : (k : ℕ) → requests_of (run (3 + k) w) ≡ rs
-  requests_at zero = ap (λ j. requests_of (run j w)) {x = 3 + zero} {y = 3} (omega arith)
-  requests_at (suc k) = ap (λ j. requests_of (run j w)) {x = 3 + suc k} {y = suc (3 + k)} (omega arith) ∙ ap requests_in (still.needs (3 + k) (omega arith)) ∙ requests_at k
+  requests_at : (k : ℕ) → requests_of (run (103 + k) w) ≡ rs
+  requests_at zero = ap (λ j. requests_of (run j w)) {x = 103 + zero} {y = 103} (omega arith)
+  requests_at (suc k) = ap (λ j. requests_of (run j w)) {x = 103 + suc k} {y = suc (103 + k)} (omega arith) ∙ ap requests_in (still.needs (103 + k) (omega arith)) ∙ requests_at k
 
-  requests_from : (k : ℕ) → 3 ≤ k → requests_of (run k w) ≡ rs
-  requests_from k late = ap (λ j. requests_of (run j w)) {x = k} {y = 3 + (k - 3)} (omega arith) ∙ requests_at (k - 3)
+  requests_from : (k : ℕ) → 103 ≤ k → requests_of (run k w) ≡ rs
+  requests_from k late = ap (λ j. requests_of (run j w)) {x = k} {y = 103 + (k - 103)} (omega arith) ∙ requests_at (k - 103)
 
-  settled_from : (k : ℕ) → 4 * n + 10 ≤ k → AreSettled n rs (run k w)
+  settled_from : (k : ℕ) → 4 * n + 110 ≤ k → AreSettled n rs (run k w)
   settled_from k late =
-      each_settled (run k w) n rs (nodes_run k) (length-requests_of (run 3 w) n (nodes_run 3)) (still.states k late ∙ ap settled_states (requests_from k (omega arith)))
+      each_settled (run k w) n rs (nodes_run k) (length-requests_of (run 103 w) n (nodes_run 103)) (still.states k late ∙ ap settled_states (requests_from k (omega arith)))
 
   -- ---- pointers
 
   abbrev base : ℕ
-  base = 4 * n + 9
+  base = 4 * n + 109
 
   at_rest : IsAtRest (run base w) rs
   at_rest = record {
-    spans = length-requests_of (run 3 w) n (nodes_run 3) ∙ ap length (sym (left_run base w).ids);
+    spans = length-requests_of (run 103 w) n (nodes_run 103) ∙ ap length (sym (left_run base w).ids);
+    free = λ j. subst AllFree (sym (run_more w base j)) (still.free (j + base) (omega arith));
     settled_are = λ k some. subst (λ ids. AreSettled (length ids) rs (run k (run base w))) (sym (left_run base w).ids) (subst (AreSettled n rs) (sym (run_more w base k)) (settled_from (k + base) (omega arith)));
   }
 
-  still_at : (j : ℕ) → 31 * n + 27 ≤ j → HasStillPointers w j
+  still_at : (j : ℕ) → 31 * n + 127 ≤ j → HasStillPointers w j
   still_at j late =
       let i = j - base in
       let there : i + base ≡ j = omega arith in
@@ -114,21 +119,18 @@ module _ (w : World) (whole : IsWhole w) (form : HasCircuits (layout_of w)) (sti
 
   -- ---- words
 
-  words_of : (k : ℕ) → 1 ≤ k → (signals_of (run k w)).words ≡ map sent_of (run k w).ring.nodes
-  unfolding signals_of
-  words_of k some = ap (λ (b : Bool). if b then [] else map sent_of (run k w).ring.nodes) (ne_eqb (run k w).ring.rounds 0 (λ z. (let r = (left_run k w).rounds in omega arith)))
-
   word_by : (v : Node) (d : Side) (s : Node) → sent_of v ≡ sent_of s → word_of d v ≡ word_of d s
   word_by v West s e = ap (λ (z : Sent). z.west) e
   word_by v East s e = ap (λ (z : Sent). z.east) e
 
-  word_stays : (k p : ℕ) (d : Side) → 5 * n + 10 ≤ k → p < length w.ring.nodes → word_of d (node_at (run (suc k) w).ring.nodes p) ≡ word_of d (node_at (run k w).ring.nodes p)
+  word_stays : (k p : ℕ) (d : Side) → 5 * n + 110 ≤ k → p < length w.ring.nodes → word_of d (node_at (run (suc k) w).ring.nodes p) ≡ word_of d (node_at (run k w).ring.nodes p)
+  unfolding signals_of
   word_stays k p d late h =
       word_by (node_at (run (suc k) w).ring.nodes p) d (node_at (run k w).ring.nodes p)
       (same_at sent_of (run (suc k) w).ring.nodes (run k w).ring.nodes p (inside_run (suc k) p h) (inside_run k p h)
-      (sym (words_of (suc k) (omega arith)) ∙ still.words k late ∙ words_of k (omega arith)))
+      (still.words k late))
 
-  request_stays : (k p : ℕ) (d : Side) → 3 ≤ k → p < length w.ring.nodes → (receiving_on d (node_at (run (suc k) w).ring.nodes p)).request ≡ (receiving_on d (node_at (run k w).ring.nodes p)).request
+  request_stays : (k p : ℕ) (d : Side) → 103 ≤ k → p < length w.ring.nodes → (receiving_on d (node_at (run (suc k) w).ring.nodes p)).request ≡ (receiving_on d (node_at (run k w).ring.nodes p)).request
   unfolding needs_in
   request_stays k p d late h =
       sym (needs_at (run (suc k) w).ring.nodes p d (inside_run (suc k) p h)) ∙ ap (λ (l : List Needs). request_on (get_or l p no_needs) d) (still.needs k late) ∙ needs_at (run k w).ring.nodes p d (inside_run k p h)
@@ -138,27 +140,61 @@ module _ (w : World) (whole : IsWhole w) (form : HasCircuits (layout_of w)) (sti
   word_to_in : (k p : ℕ) (d : Side) → word_to (run k w) p d ≡ word_of (opposite d) (node_at (run k w).ring.nodes (neighbour n p d))
   word_to_in k p d = ap (λ ids. word_of (opposite d) (node_at (run k w).ring.nodes (neighbour (length ids) p d))) (left_run k w).ids
 
-  word_to_stays : (k p : ℕ) (d : Side) → 5 * n + 10 ≤ k → word_to (run (suc k) w) p d ≡ word_to (run k w) p d
+  word_to_stays : (k p : ℕ) (d : Side) → 5 * n + 110 ≤ k → word_to (run (suc k) w) p d ≡ word_to (run k w) p d
   word_to_stays k p d late = word_to_in (suc k) p d ∙ word_stays k (neighbour n p d) (opposite d) late (neighbour_inside w whole p d) ∙ sym (word_to_in k p d)
 
-  heard_in : (k p : ℕ) (d : Side) → 1 ≤ k → p < length w.ring.nodes → hears (receiving_on d (node_at (run (suc k) w).ring.nodes p)).brought ≡ heard_behind (condition_to w p d) (word_to (run k w) p d)
-  unfolding run
-  heard_in k p d some h =
-      heard_after (run k w) (whole_run w k whole) p d (inside_run k p h) (let r = (left_run k w).rounds in omega arith) ∙ ap (λ c. heard_behind c (word_to (run k w) p d)) (condition_run w k p d)
+  -- what a side keeps after k rounds
+  abbrev kept : ℕ → ℕ → Side → Brought
+  kept k p d = (receiving_on d (node_at (run k w).ring.nodes p)).brought
 
-  heard_stays : (k p : ℕ) (d : Side) → 5 * n + 11 ≤ k → p < length w.ring.nodes → hears (receiving_on d (node_at (run (suc k) w).ring.nodes p)).brought ≡ hears (receiving_on d (node_at (run k w).ring.nodes p)).brought
-  heard_stays k p d late h =
+  came_in : (k p : ℕ) (d : Side) → 1 ≤ k → p < length w.ring.nodes → (kept (suc k) p d).last ≡ come_behind (condition_to w p d) (word_to (run k w) p d)
+  unfolding run
+  came_in k p d some h =
+      came_after (run k w) (whole_run w k whole) p d (inside_run k p h) (let r = (left_run k w).rounds in omega arith) ∙ ap (λ c. come_behind c (word_to (run k w) p d)) (condition_run w k p d)
+
+  earlier_in : (k p : ℕ) (d : Side) → p < length w.ring.nodes → kept (suc k) p d ≡ with_brought (kept (suc k) p d).last (kept k p d)
+  unfolding run
+  earlier_in k p d h = (brings (run k w) (whole_run w k whole) p d (inside_run k p h)).earlier
+
+  -- the same word comes in each round
+  last_stays : (k p : ℕ) (d : Side) → 5 * n + 111 ≤ k → p < length w.ring.nodes → (kept (suc k) p d).last ≡ (kept k p d).last
+  last_stays k p d late h =
       let i = k - 1 in
       let now : suc i ≡ k = omega arith in
-      heard_in k p d (omega arith) h
-      ∙ ap (λ j. heard_behind (condition_to w p d) (word_to (run j w) p d)) (sym now)
-      ∙ ap (heard_behind (condition_to w p d)) (word_to_stays i p d (omega arith))
-      ∙ sym (heard_in i p d (omega arith) h)
-      ∙ ap (λ j. hears (receiving_on d (node_at (run j w).ring.nodes p)).brought) now
+      came_in k p d (omega arith) h
+      ∙ ap (λ j. come_behind (condition_to w p d) (word_to (run j w) p d)) (sym now)
+      ∙ ap (come_behind (condition_to w p d)) (word_to_stays i p d (omega arith))
+      ∙ sym (came_in i p d (omega arith) h)
+      ∙ ap (λ j. (kept j p d).last) now
+
+  second_stays : (k p : ℕ) (d : Side) → 5 * n + 112 ≤ k → p < length w.ring.nodes → (kept (suc k) p d).second ≡ (kept k p d).second
+  second_stays k p d late h =
+      let i = k - 1 in
+      let now : suc i ≡ k = omega arith in
+      ap (λ (b : Brought). b.second) (earlier_in k p d h)
+      ∙ ap (λ j. (kept j p d).last) (sym now) ∙ last_stays i p d (omega arith) h
+      ∙ sym (ap (λ (b : Brought). b.second) (earlier_in i p d h))
+      ∙ ap (λ j. (kept j p d).second) now
+
+  third_stays : (k p : ℕ) (d : Side) → 5 * n + 113 ≤ k → p < length w.ring.nodes → (kept (suc k) p d).third ≡ (kept k p d).third
+  third_stays k p d late h =
+      let i = k - 1 in
+      let now : suc i ≡ k = omega arith in
+      ap (λ (b : Brought). b.third) (earlier_in k p d h)
+      ∙ ap (λ j. (kept j p d).second) (sym now) ∙ second_stays i p d (omega arith) h
+      ∙ sym (ap (λ (b : Brought). b.third) (earlier_in i p d h))
+      ∙ ap (λ j. (kept j p d).third) now
+
+  heard_stays : (k p : ℕ) (d : Side) → 5 * n + 113 ≤ k → p < length w.ring.nodes → hears (kept (suc k) p d) ≡ hears (kept k p d)
+  heard_stays k p d late h =
+      let last = last_stays k p d (omega arith) h in
+      let second = second_stays k p d (omega arith) h in
+      let third = third_stays k p d late h in
+      λ i. heard_of (last i) (second i) (third i)
 
   -- ---- so rounds are calm
 
-  same_from : (k : ℕ) → 31 * n + 27 ≤ k → (p : ℕ) → p < length w.ring.nodes → AreSame (node_at (run (suc k) w).ring.nodes p) (node_at (run k w).ring.nodes p)
+  same_from : (k : ℕ) → 31 * n + 127 ≤ k → (p : ℕ) → p < length w.ring.nodes → AreSame (node_at (run (suc k) w).ring.nodes p) (node_at (run k w).ring.nodes p)
   same_from k late p h =
       let s = still_at k late in
       let enough = whole.placed.ids.enough in
@@ -172,11 +208,11 @@ module _ (w : World) (whole : IsWhole w) (form : HasCircuits (layout_of w)) (sti
         generators = λ d. s.generators p d h;
       }
 
-  calm_after : (k : ℕ) → 31 * n + 27 ≤ k → IsCalm (course w) (suc k)
+  calm_after : (k : ℕ) → 31 * n + 127 ≤ k → IsCalm (course w) (suc k)
   unfolding run
-  calm_after k late = calm_round (run k w) (whole_run w k whole) (let r = (left_run k w).rounds in omega arith) (λ p h. same_from k late p (omega (arith, length_run w k)))
+  calm_after k late = calm_round (run k w) (whole_run w k whole) (let r = (left_run k w).rounds in omega arith) (still.free k (omega arith)) (λ p h. same_from k late p (omega (arith, length_run w k)))
 
-  calm_from : (j : ℕ) → 31 * n + 28 ≤ j → IsCalm (course w) j
+  calm_from : (j : ℕ) → 31 * n + 128 ≤ j → IsCalm (course w) j
   calm_from j late = let now : suc (j - 1) ≡ j = omega arith in subst (IsCalm (course w)) now (calm_after (j - 1) (omega arith))
 
 pub rounds_get_calm : RingsSettle → RoundsGetCalm
@@ -185,7 +221,7 @@ rounds_get_calm law w whole form j late = calm_from w whole form (runs_get_still
 pub rings_converge : RingsSettle → RingsConverge
 rings_converge law w whole form =
     let n = length w.ring.ids in
-    let by = calm_ends_windows w (31 * n + 28) (rounds_get_calm law w whole form) in
+    let by = calm_ends_windows w (31 * n + 128) (rounds_get_calm law w whole form) in
     let soon : by.ends ≤ enough_for n = (let s = by.soon in omega arith) in
     record {
       window = record { ends = by.ends; soon = soon; window = by.window };

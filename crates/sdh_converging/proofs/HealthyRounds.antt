@@ -21,7 +21,7 @@ use Rattle.sdh_carrying.specs.Windows.{layout_of, HasCircuits, requests_of}
 use Rattle.sdh_converging.specs.Healthy.{HealthyRoundsAreCalm, healthy_steps, HealthyStepsSettle, HealthyRingsApplyNothing}
 use Rattle.sdh_converging.proofs.Runs.{length_run, run_more}
 use Rattle.sdh_converging.proofs.Calming.{AreSame, calm_round}
-use Rattle.sdh_converging.proofs.HealthySignals.{begin_whole, size, healthy, request_none, heard_first}
+use Rattle.sdh_converging.proofs.HealthySignals.{begin_whole, size, healthy, request_none, heard_first, free_in}
 use Rattle.sdh_converging.proofs.HealthyPointers.{still_pointers}
 use Rattle.sdh_world.specs.Held.{node_at}
 
@@ -89,7 +89,7 @@ module _ (s : Settings) (ids : List ℕ) (circuits : Provisioning) (f : Fibres) 
     calm_after : (j : ℕ) → n + 4 ≤ suc j → IsCalm (course w) (suc (suc j))
     unfolding run
     calm_after j late =
-        calm_round (run (suc j) w) (whole_run w (suc j) (begin_whole s ids circuits f may)) (let r = rounds_run (suc j) in omega arith) (λ p h. same_from j late p (inside (suc j) p h))
+        calm_round (run (suc j) w) (whole_run w (suc j) (begin_whole s ids circuits f may)) (let r = rounds_run (suc j) in omega arith) (λ p h. free_in s ids circuits f may (suc j) p h) (λ p h. same_from j late p (inside (suc j) p h))
 
     pub calm_from : (k : ℕ) → n + 5 ≤ k → IsCalm (course w) k
     calm_from k late = let now : suc (suc (k - 2)) ≡ k = omega arith in subst (IsCalm (course w)) now (calm_after (k - 2) (omega arith))

@@ -1,6 +1,6 @@
 -- A healthy ring's requests, states and words.
-use Rattle.std.proofs.Common.{◌≡◌, ◌≢◌, ℕ, zero, suc, ◌*◌, ◌<◌, ◌≤◌, Bool, true, false, List, [], ◌∷◌, length, get_or, replicate, Some, refl, ap, ap₂, sym, ◌∙◌, subst, arith, inl, inr}
-use Rattle.std.specs.Prelude.{◌||◌, nat_lt, if◌then◌else◌, slice_index, All}
+use Rattle.std.proofs.Common.{◌≡◌, ◌≢◌, ℕ, zero, suc, ◌-◌, ◌*◌, ◌<◌, ◌≤◌, Bool, true, false, List, [], ◌∷◌, length, get_or, replicate, Option, Some, None, refl, ap, ap₂, sym, ◌∙◌, subst, arith, inl, inr}
+use Rattle.std.specs.Prelude.{◌||◌, nat_lt, nat_le, if◌then◌else◌, slice_index, All}
 use Rattle.std.proofs.lemmas.Bool.{cases_lt}
 use Rattle.std.proofs.lemmas.List.{get_or-replicate, length-replicate, get_or_past}
 use Rattle.std.proofs.lemmas.List.Elements.{All-nil, All-cons}
@@ -21,9 +21,11 @@ use Rattle.sdh_settling.specs.Signals.{no_needs}
 use Rattle.sdh_plant.specs.declared.plant.Condition.TheVariants.{Clear}
 use Rattle.sdh_plant.specs.Fibres.{Fibres, fibre_to, is_cut, degraded_by}
 use Rattle.sdh_node.specs.declared.settings.Settings.{Settings}
-use Rattle.sdh_node.specs.Receiving.{hears}
+use Rattle.sdh_nodestate.specs.Filtering.{Brought, with_brought, hears, heard_of}
+use Rattle.sdh_nodestate.proofs.Filtering.{heard_last}
+use Rattle.sdh_kbytes.proofs.SameWords.{agrees_itself}
 use Rattle.sdh_node.specs.Crossing.{is_failed}
-use Rattle.sdh_node.specs.Node.{Node, receiving_on, new_node, first_word, word_of, needed}
+use Rattle.sdh_node.specs.Node.{Node, receiving_on, new_node, first_word, is_held, word_of, needed}
 use Rattle.sdh_world.specs.Held.{new_nodes, nowhere, node_at}
 use Rattle.sdh_world.specs.Rounds.{World, node_after}
 use Rattle.sdh_world.specs.Runs.{run}
@@ -33,7 +35,7 @@ use Rattle.sdh_world.specs.Sides.{new_holding, holding_in, side_history, conditi
 use Rattle.sdh_hearing.specs.Signalling.{word_to, is_lost}
 use Rattle.sdh_hearing.specs.Laws.{IsWhole, MayStart, MayHappen}
 use Rattle.sdh_hearing.proofs.Changes.{new_worlds_are_whole, whole_run}
-use Rattle.sdh_node.proofs.Decided.{scene_in, state_is, word_is}
+use Rattle.sdh_node.proofs.Decided.{scene_in, state_is, word_is, turns_left}
 use Rattle.sdh_hearing.proofs.Nodes.{informed, nodes_after, is_at}
 use Rattle.sdh_hearing.proofs.Rounds.{neighbour_inside, brings}
 use Rattle.sdh_hearing.proofs.Staying.{left_run}
@@ -103,14 +105,19 @@ module _ (s : Settings) (ids : List ℕ) (circuits : Provisioning) (f : Fibres) 
 
   -- ---- each node
 
-  -- it is idle and says what a new node says
+  -- what a side of it keeps after k rounds
+  abbrev pub kept : ℕ → ℕ → Side → Brought
+  kept k p d = (receiving_on d (node_at (run k begin).ring.nodes p)).brought
+
+  -- it isn't held, is idle, says what a new node says, and hears no word that asks for something
   pub record IsHealthy (p k : ℕ) : Type 0 where
+    pub turns : (node_at (run k begin).ring.nodes p).held ≡ 0
     pub state_idle : (node_at (run k begin).ring.nodes p).state ≡ state.Idle tt
     pub word_first : (d : Side) → word_of d (node_at (run k begin).ring.nodes p) ≡ first_word ids (position_of p) d
 
   healthy_new : (p : ℕ) → p < length ids → IsHealthy p 0
   unfolding new_node
-  healthy_new p h = record { state_idle = ap (λ (n : Node). n.state) (new_is p h); word_first = λ d. ap (word_of d) (new_is p h) ∙ word_new d }
+  healthy_new p h = record { turns = ap (λ (n : Node). n.held) (new_is p h); state_idle = ap (λ (n : Node). n.state) (new_is p h); word_first = λ d. ap (word_of d) (new_is p h) ∙ word_new d }
     where
       word_new : (d : Side) → word_of d (new_node s ids circuits.circuits (position_of p)) ≡ first_word ids (position_of p) d
       word_new West = refl
@@ -182,20 +189,34 @@ module _ (s : Settings) (ids : List ℕ) (circuits : Provisioning) (f : Fibres) 
         let east_fails = works East in
         λ i. record { west = west i; east = east i; west_fails = west_fails i; east_fails = east_fails i }
 
-    quiet_next : (d : Side) → IsQuiet (hears (receiving_on d new).brought)
+    quiet_last : (d : Side) → IsQuiet (receiving_on d new).brought.last
     unfolding run
-    quiet_next d =
+    quiet_last d =
         let b = brings u uwhole p d there in
         elim (cases_lt 0 u.ring.rounds) [
           | inr none ↦ subst IsQuiet (sym (b.nothing (let z : u.ring.rounds ≡ 0 = omega arith in z))) tt
-          | inl some ↦ subst IsQuiet (sym (b.hears some (not_lost d) ∙ ap (λ w. Some w) (word_comes d))) (refl, refl)
+          | inl some ↦ subst IsQuiet (sym (b.comes some (not_lost d) ∙ ap (λ w. Some w) (word_comes d))) (refl, refl)
         ]
 
-    pub heard_next : (d : Side) → 1 ≤ k → hears (receiving_on d new).brought ≡ Some (first_word ids (position_of (neighbour count p d)) (opposite d))
+    quiet_next : (d : Side) → IsQuiet (hears (receiving_on d new).brought)
+    quiet_next d = by_heard (hears (receiving_on d new).brought) refl
+      where
+        by_heard : (o : Option K) → hears (receiving_on d new).brought ≡ o → IsQuiet o
+        by_heard None e = tt
+        by_heard (Some k) e = subst IsQuiet (heard_last (receiving_on d new).brought k e) (quiet_last d)
+
+    pub last_next : (d : Side) → 1 ≤ k → (kept (suc k) p d).last ≡ Some (first_word ids (position_of (neighbour count p d)) (opposite d))
     unfolding run
-    heard_next d some =
+    last_next d some =
         let b = brings u uwhole p d there in
-        b.hears (let r = (left_run k begin).rounds in omega arith) (not_lost d) ∙ ap (λ w. Some w) (word_comes d)
+        b.comes (let r = (left_run k begin).rounds in omega arith) (not_lost d) ∙ ap (λ w. Some w) (word_comes d)
+
+    pub earlier_next : (d : Side) → kept (suc k) p d ≡ with_brought (kept (suc k) p d).last (kept k p d)
+    unfolding run
+    earlier_next d = (brings u uwhole p d there).earlier
+
+    free : is_held (node_at u.ring.nodes p) ≡ false
+    free = ap (nat_le 1) (before p h).turns
 
     quiet_scene : (d : Side) → IsQuiet (word_on (scene_in new) d)
     quiet_scene d = subst IsQuiet (sym (word_on_is new d)) (quiet_next d)
@@ -205,7 +226,8 @@ module _ (s : Settings) (ids : List ℕ) (circuits : Provisioning) (f : Fibres) 
 
     state_next : new.state ≡ state.Idle tt
     state_next =
-        subst (λ (n : Node). n.state ≡ state_after (scene_in n)) (sym new_next) (state_is u.ring.moment (informed u p))
+        subst (λ (n : Node). n.state ≡ (if is_held (node_at u.ring.nodes p) then (node_at u.ring.nodes p).state else state_after (scene_in n))) (sym new_next) (state_is u.ring.moment (informed u p))
+        ∙ ap (λ (b : Bool). if b then (node_at u.ring.nodes p).state else state_after (scene_in new)) free
         ∙ idle (scene_in new) needs_scene quiet_scene
 
     word_next : (d : Side) → word_of d new ≡ first_word ids (position_of p) d
@@ -215,16 +237,43 @@ module _ (s : Settings) (ids : List ℕ) (circuits : Provisioning) (f : Fibres) 
         let to : id_on (scene_in new) d ≡ slice_index ids (neighbour count p d) =
         id_is new d ∙ ap (λ i. slice_index i (neighbour (length i) new.at.0 d)) ids_are ∙ ap (λ a. slice_index ids (neighbour count a d)) is.at in
         let from : own_id (scene_in new) ≡ slice_index ids p = own_is new ∙ ap (λ i. slice_index i new.at.0) ids_are ∙ ap (λ a. slice_index ids a) is.at in
-        subst (λ (n : Node). word_of d n ≡ word (scene_in n) d) (sym new_next) (word_is u.ring.moment (informed u p) d)
+        subst (λ (n : Node). word_of d n ≡ (if is_held (node_at u.ring.nodes p) then word_of d (informed u p) else word (scene_in n) d)) (sym new_next) (word_is u.ring.moment (informed u p) d)
+        ∙ ap (λ (b : Bool). if b then word_of d (informed u p) else word (scene_in new) d) free
         ∙ asks_nothing (scene_in new) needs_scene quiet_scene d
         ∙ (λ i. record { code = Nr; to = to i; from = from i; path = Short; mark = mark.Idle })
 
     healthy_next : IsHealthy p (suc k)
-    healthy_next = record { state_idle = state_next; word_first = word_next }
+    healthy_next = record { turns = ap (λ (n : Node). n.held) new_next ∙ turns_left u.ring.moment (informed u p) ∙ ap (λ t. t - 1) (before p h).turns; state_idle = state_next; word_first = word_next }
 
   pub healthy : (k p : ℕ) → p < count → IsHealthy p k
   healthy zero p h = healthy_new p h
   healthy (suc k) p h = healthy_next k (λ q. healthy k q) p h
 
-  pub heard_first : (k p : ℕ) (d : Side) → p < count → 1 ≤ k → hears (receiving_on d (node_at (run (suc k) begin).ring.nodes p)).brought ≡ Some (first_word ids (position_of (neighbour count p d)) (opposite d))
-  heard_first k p d h some = heard_next k (λ q. healthy k q) p h d some
+  -- no node is held
+  pub free_in : (k p : ℕ) → p < length (run k begin).ring.nodes → is_held (node_at (run k begin).ring.nodes p) ≡ false
+  free_in k p h = ap (nat_le 1) (healthy k p (omega (arith, size, length_run begin k))).turns
+
+  -- from round 1 on the neighbour's word comes, and from round 3 on it is heard
+  comes_first : (k p : ℕ) (d : Side) → p < count → 1 ≤ k → (kept (suc k) p d).last ≡ Some (first_word ids (position_of (neighbour count p d)) (opposite d))
+  comes_first k p d h some = last_next k (λ q. healthy k q) p h d some
+
+  second_is : (k p : ℕ) (d : Side) → p < count → (kept (suc k) p d).second ≡ (kept k p d).last
+  second_is k p d h = ap (λ (b : Brought). b.second) (earlier_next k (λ q. healthy k q) p h d)
+
+  third_is : (k p : ℕ) (d : Side) → p < count → (kept (suc k) p d).third ≡ (kept k p d).second
+  third_is k p d h = ap (λ (b : Brought). b.third) (earlier_next k (λ q. healthy k q) p h d)
+
+  agree_with_itself : (k : K) → heard_of (Some k) (Some k) (Some k) ≡ Some k
+  agree_with_itself k = rw (agrees_itself k) refl
+
+  pub heard_first : (k p : ℕ) (d : Side) → p < count → 3 ≤ k → hears (receiving_on d (node_at (run (suc k) begin).ring.nodes p)).brought ≡ Some (first_word ids (position_of (neighbour count p d)) (opposite d))
+  heard_first k p d h some =
+      let said = first_word ids (position_of (neighbour count p d)) (opposite d) in
+      let j = k - 1 in
+      let i = k - 2 in
+      let at_j : suc j ≡ k = omega arith in
+      let at_i : suc i ≡ j = omega arith in
+      let last = comes_first k p d h (omega arith) in
+      let second = second_is k p d h ∙ ap (λ m. (kept m p d).last) (sym at_j) ∙ comes_first j p d h (omega arith) in
+      let third = third_is k p d h ∙ ap (λ m. (kept m p d).second) (sym at_j) ∙ second_is j p d h ∙ ap (λ m. (kept m p d).last) (sym at_i) ∙ comes_first i p d h (omega arith) in
+      (λ t. heard_of (last t) (second t) (third t)) ∙ agree_with_itself said

@@ -11,7 +11,7 @@ use Rattle.sdh_pointer.specs.Sending.{word_sent, next_sending}
 use Rattle.sdh_pointer.specs.Repeated.{after_rounds}
 use Rattle.sdh_pointer.specs.Laws.{lasting_form, lasting_state, ComesToRest}
 use Rattle.sdh_pointer.proofs.Lasting.{inputs_last, repeated_words_rest}
-use Rattle.sdh_node.specs.Node.{receiving_on, sending_on}
+use Rattle.sdh_node.specs.Node.{receiving_on, sending_on, is_held}
 use Rattle.sdh_world.specs.Rounds.{World}
 use Rattle.sdh_world.specs.Runs.{run}
 use Rattle.sdh_hearing.specs.Laws.{IsWhole}
@@ -20,7 +20,7 @@ use Rattle.sdh_hearing.proofs.Nodes.{count}
 use Rattle.sdh_hearing.proofs.Rounds.{neighbour_inside}
 use Rattle.sdh_hearing.proofs.Staying.{left_run}
 use Rattle.sdh_carrying.proofs.Spans.{generator_step, TakesWord, interpreter_step, word_behind}
-use Rattle.sdh_converging.specs.Steady.{went, came, IsConstant}
+use Rattle.sdh_converging.specs.Steady.{went, came, IsConstant, IsFree}
 use Rattle.sdh_converging.specs.Laws.{ASpanIsSteady}
 use Rattle.sdh_converging.proofs.Runs.{length_run, rate_run, condition_run}
 use Rattle.sdh_plant.specs.Fibres.{is_cut}
@@ -50,12 +50,12 @@ module _ (w : World) (whole : IsWhole w) where
       generator_step (run j w) (whole_run w j whole) p d i (omega (arith, length_run w j)) (omega (arith, rate_run w j))
 
   -- an interpreter goes on by the word that was sent behind the span one round before
-  pub interpreter_goes : (p : ℕ) (d : Side) (i j : ℕ) → p < length w.ring.nodes → i < n_of w.ring.settings.rate
+  pub interpreter_goes : (p : ℕ) (d : Side) (i j : ℕ) → p < length w.ring.nodes → i < n_of w.ring.settings.rate → is_held (node_at (run j w).ring.nodes (neighbour (length w.ring.ids) p d)) ≡ false
       → Takes w p d i (suc j) (word_behind (is_cut (condition_to w p d)) (word_in w (neighbour (length w.ring.ids) p d) (opposite d) i j))
   unfolding run
-  interpreter_goes p d i j inside few =
+  interpreter_goes p d i j inside few free =
       let u = run j w in
-      let took = interpreter_step u (whole_run w j whole) p d i (omega (arith, length_run w j)) (omega (arith, rate_run w j)) in
+      let took = interpreter_step u (whole_run w j whole) p d i (omega (arith, length_run w j)) (omega (arith, rate_run w j)) (ap (λ ids. is_held (node_at u.ring.nodes (neighbour (length ids) p d))) (left_run j w).ids ∙ free) in
       subst (λ c. Takes w p d i (suc j) (word_behind (is_cut c) (word_in w (neighbour (length w.ring.ids) p d) (opposite d) i j))) (condition_run w (suc j) p d)
       (subst (λ ids. Takes w p d i (suc j) (word_behind (is_cut (condition_to (run (suc j) w) p d)) (word_in w (neighbour (length ids) p d) (opposite d) i j))) (left_run j w).ids took)
 
@@ -74,7 +74,7 @@ module _ (w : World) (whole : IsWhole w) where
         ∙ ap₂ (λ a v. word_sent (lasting_state c.does c.value) a v) (c.does_is j (omega arith)) (c.value_is j (omega arith)) ∙ (inputs_last (sending_in w p d i j) c.does c.value c.sound).word
 
   -- and the interpreter behind the span
-  module _ (p : ℕ) (d : Side) (i k : ℕ) (inside : p < length w.ring.nodes) (few : i < n_of w.ring.settings.rate) (c : IsConstant (went w (neighbour (length w.ring.ids) p d) (opposite d) (i + 1)) k) where
+  module _ (p : ℕ) (d : Side) (i k : ℕ) (inside : p < length w.ring.nodes) (few : i < n_of w.ring.settings.rate) (c : IsConstant (went w (neighbour (length w.ring.ids) p d) (opposite d) (i + 1)) k) (free : IsFree w) where
     abbrev cut : Bool
     cut = is_cut (condition_to w p d)
 
@@ -90,7 +90,7 @@ module _ (w : World) (whole : IsWhole w) where
         let now : suc j ≡ m = omega arith in
         subst (λ l. Takes w p d i l word) now
         (subst (λ u. Takes w p d i (suc j) (word_behind cut u)) (word_rests (neighbour (length w.ring.ids) p d) (opposite d) i k (neighbour_inside w whole p d) few c j (omega arith))
-        (interpreter_goes p d i j inside few))
+        (interpreter_goes p d i j inside few (free j (neighbour (length w.ring.ids) p d) (let q = neighbour_inside w whole p d in omega (arith, length_run w j)))))
 
     reads_on : (n t : ℕ) → k + 2 ≤ t → after_rounds n word (reading t) ≡ reading (t + n)
     reads_on zero t h = ap reading {x = t} {y = t + zero} (omega arith)
@@ -121,8 +121,8 @@ module _ (w : World) (whole : IsWhole w) where
     }
 
 pub a_span_is_steady : ASpanIsSteady
-a_span_is_steady w whole p d au k inside low high c =
+a_span_is_steady w whole free p d au k inside low high c =
     let i = au - 1 in
     let back : i + 1 ≡ au = omega arith in
     subst (λ a. IsConstant (came w p d a) (k + 9)) back
-    (span_constant w whole p d i k (omega (arith, count w whole.placed)) (omega arith) (subst (λ a. IsConstant (went w (neighbour (length w.ring.ids) p d) (opposite d) a) k) (sym back) c))
+    (span_constant w whole p d i k (omega (arith, count w whole.placed)) (omega arith) (subst (λ a. IsConstant (went w (neighbour (length w.ring.ids) p d) (opposite d) a) k) (sym back) c) free)

@@ -119,12 +119,12 @@ module _ (w : World) (whole : IsWhole w) (form : HasCircuits (layout_of w)) (rs 
     over_span t p (Add id) h arrives c = absurd arrives
     over_span t p (Working d) h arrives c =
         let q = neighbour (n w whole) p d in
-        a_span_is_steady w whole p d m t h low (omega (arith, two_halves w.ring.settings.rate))
+        a_span_is_steady w whole rest.free p d m t h low (omega (arith, two_halves w.ring.settings.rate))
         (constant_as _ (went w q (opposite d) m) t (λ j. went_working q j (opposite d) (beside w whole p d)) c)
     over_span t p (Protection d) h arrives c =
         let q = neighbour (n w whole) p d in
         constant_as (came w p d (half w whole + m)) (brought w p m (Protection d)) (t + 9) (λ j. protection_comes w whole p m j d h)
-        (a_span_is_steady w whole p d (half w whole + m) t h (omega arith) (omega (arith, two_halves w.ring.settings.rate))
+        (a_span_is_steady w whole rest.free p d (half w whole + m) t h (omega arith) (omega (arith, two_halves w.ring.settings.rate))
         (constant_as _ (went w q (opposite d) (half w whole + m)) t (λ j. went_protection q j (opposite d) (beside w whole p d)) c))
 
     spreads : Spreads (n w whole) (settled rs) (cs w whole) m (λ t p o. IsConstant (brought w p m o) t) 0 9
@@ -169,7 +169,7 @@ module _ (w : World) (whole : IsWhole w) (form : HasCircuits (layout_of w)) (rs 
         sending_rests w whole p d i (27 * n w whole + 9) h few c (suc j) (omega arith) ∙ sym (sending_rests w whole p d i (27 * n w whole + 9) h few c j (omega arith))));
     readings = λ p d h. ext_get_or start _ _ (readings_many w whole (suc j) p d h ∙ sym (readings_many w whole j p d h)) (λ i small.
         (let few : i < n_of w.ring.settings.rate = omega (arith, readings_many w whole (suc j) p d h) in
-        reading_rests w whole p d i (27 * n w whole + 9) h few (all_went (neighbour (n w whole) p d) i (opposite d) (beside w whole p d) few) j (omega arith)));
+        reading_rests w whole p d i (27 * n w whole + 9) h few (all_went (neighbour (n w whole) p d) i (opposite d) (beside w whole p d) few) rest.free j (omega arith)));
   }
 
 pub pointers_rest : PointersRest

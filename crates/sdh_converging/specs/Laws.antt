@@ -12,12 +12,13 @@ use Rattle.sdh_world.specs.Quiet.{IsCalm, EndsWindow, NeverSettles, settles_in, 
 use Rattle.sdh_world.specs.Changes.{Stretch, after_stretches, new_world}
 use Rattle.sdh_hearing.specs.Laws.{IsWhole, MayStart, MayHappen}
 use Rattle.sdh_carrying.specs.Windows.{layout_of, HasCircuits}
-use Rattle.sdh_converging.specs.Steady.{went, came, IsConstant, IsAtRest, HasStillPointers}
+use Rattle.sdh_converging.specs.Steady.{went, came, IsConstant, IsFree, IsAtRest, HasStillPointers}
 
 -- What goes into an AU-4 with one action and one value from round k on comes out on the other side of the span, or AIS where
--- its fibre is cut, with one action and one value nine rounds later, whatever its generator and its interpreter kept.
+-- its fibre is cut, with one action and one value nine rounds later, whatever its generator and its interpreter kept, as long as no
+-- controller misses a turn.
 abbrev pub ASpanIsSteady : Type 0
-ASpanIsSteady = (w : World) → IsWhole w → (p : ℕ) (d : Side) (au k : ℕ) → p < length w.ring.ids → 1 ≤ au → au ≤ n_of w.ring.settings.rate
+ASpanIsSteady = (w : World) → IsWhole w → IsFree w → (p : ℕ) (d : Side) (au k : ℕ) → p < length w.ring.ids → 1 ≤ au → au ≤ n_of w.ring.settings.rate
     → IsConstant (went w (neighbour (length w.ring.ids) p d) (opposite d) au) k → IsConstant (came w p d au) (k + 9)
 
 -- Where the nodes stay in settled states, no pointer moves after 27n + 18 rounds: nine for each span of the longest walk, and
@@ -36,9 +37,9 @@ abbrev pub CalmEndsWindows : Type 0
 CalmEndsWindows = (w : World) (first : ℕ) → ((j : ℕ) → first ≤ j → IsCalm (course w) j) → WindowBy w (first + 3 * length w.ring.ids + 128)
 
 -- From every ring that is paired with its fibres, where nothing happens but rounds, all rounds are calm from some round on,
--- whatever the nodes' interpreters, generators, parities and words were, and whichever fibres are cut or degraded.
+-- whatever the nodes' interpreters, generators, parities, words, filters and held turns were, and whichever fibres are cut or degraded.
 abbrev pub RoundsGetCalm : Type 0
-RoundsGetCalm = (w : World) → IsWhole w → HasCircuits (layout_of w) → (j : ℕ) → 31 * length w.ring.ids + 28 ≤ j → IsCalm (course w) j
+RoundsGetCalm = (w : World) → IsWhole w → HasCircuits (layout_of w) → (j : ℕ) → 31 * length w.ring.ids + 128 ≤ j → IsCalm (course w) j
 
 -- so many rounds are always enough, in a ring of n
 abbrev pub enough_for : ℕ → ℕ

@@ -1,17 +1,17 @@
 -- What stays the same from some round of a run on.
-use Rattle.std.specs.Prelude.{ℕ, suc, ◌≡◌, ◌<◌, ◌≤◌, List, length}
+use Rattle.std.specs.Prelude.{ℕ, suc, ◌≡◌, ◌<◌, ◌≤◌, false, List, length}
 use Rattle.sdh_ringmap.specs.declared.Side.{Side}
 use Rattle.sdh_bridge.specs.declared.Origin.{Origin}
 use Rattle.sdh_pointer.specs.declared.reading.Action.{Action}
 use Rattle.sdh_pointer.specs.Laws.{IsSound}
 use Rattle.sdh_node.specs.Passing.{Input}
 use Rattle.sdh_node.specs.Crossing.{received}
-use Rattle.sdh_node.specs.Node.{receiving_on, sending_on}
+use Rattle.sdh_node.specs.Node.{receiving_on, sending_on, is_held}
 use Rattle.sdh_world.specs.Rounds.{World}
 use Rattle.sdh_world.specs.Runs.{run}
 use Rattle.sdh_hearing.specs.Signalling.{crossing_at}
 use Rattle.sdh_carrying.specs.Windows.{value_at, sent_at, AreSettled}
-use Rattle.sdh_world.specs.Held.{node_at}
+use Rattle.sdh_world.specs.Held.{node_at, AtEach}
 
 -- Round k of a run is the round that begins after k rounds.
 
@@ -34,9 +34,14 @@ pub record IsConstant (f : ℕ → Input) (k : ℕ) : Type 0 where
   pub does_is : (j : ℕ) → k ≤ j → (f j).action ≡ does
   pub value_is : (j : ℕ) → k ≤ j → (f j).value ≡ value
 
--- after each round the nodes are in the settled states of these requests of spans
+-- no controller misses a turn from now on
+abbrev pub IsFree : World → Type 0
+IsFree w = (j : ℕ) → AtEach (λ p n. is_held n ≡ false) (run j w).ring.nodes
+
+-- no controller misses a turn, and after each round the nodes are in the settled states of these requests of spans
 pub record IsAtRest (w : World) (rs : List ℕ) : Type 0 where
   pub spans : length rs ≡ length w.ring.ids
+  pub free : IsFree w
   pub settled_are : (k : ℕ) → 1 ≤ k → AreSettled (length w.ring.ids) rs (run k w)
 
 -- round j left all generators and interpreters as they were

@@ -12,7 +12,7 @@ use Rattle.sdh_overhead.specs.Sections.{b2_violations}
 use Rattle.sdh_plant.specs.Fibres.{fibre, fibre_to, is_cut}
 use Rattle.sdh_plant.specs.Arrivals.{carried_on}
 use Rattle.sdh_node.specs.declared.settings.Settings.{Settings}
-use Rattle.sdh_node.specs.Receiving.{commanded_by}
+use Rattle.sdh_node.specs.Receiving.{Receiving, commanded_by}
 use Rattle.sdh_node.specs.Node.{Node, receiving_on, sending_on, at_receiving, held_for}
 use Rattle.sdh_world.specs.Held.{node_at, AtEach}
 use Rattle.sdh_world.specs.Rounds.{World, round, round_with}

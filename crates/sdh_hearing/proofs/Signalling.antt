@@ -11,43 +11,44 @@ use Rattle.sdh_request.specs.declared.Defect.{Defect}
 use Rattle.sdh_request.specs.declared.Defect.TheVariants as defect
 use Rattle.sdh_request.specs.Kept.{kept_request}
 use Rattle.sdh_nodestate.specs.declared.Needs.{Needs}
-use Rattle.sdh_nodestate.specs.declared.Heard.{Heard}
+use Rattle.sdh_nodestate.specs.declared.NodeState.{NodeState}
 use Rattle.sdh_nodestate.specs.declared.Sent.{Sent}
 use Rattle.sdh_nodestate.specs.Rules.{scene, word, state_after, sent_after}
 use Rattle.sdh_nodestate.specs.Conditions.{MayNeed}
 use Rattle.sdh_nodestate.specs.Words.{IsSourced}
+use Rattle.sdh_nodestate.specs.Filtering.{Brought, with_brought}
 use Rattle.sdh_restoration.specs.Applied.{span_requests}
 use Rattle.sdh_restoration.specs.Settled.{settled_states}
 use Rattle.sdh_settling.specs.Signals as signal
-use Rattle.sdh_settling.specs.Signals.{Signals, fails_on, sent_on, incoming, heard_at, scene_at, MayGo, requests_in, request_on, no_needs}
-use Rattle.sdh_settling.specs.Laws.{StillRingsAreSettled}
+use Rattle.sdh_settling.specs.Signals.{Filters, no_filters, Signals, fails_on, sent_on, on_their_way, incoming, filters_after, heard_through, scene_at, state_in, words_in, free_round, MayGo, requests_in, request_on, no_needs}
+use Rattle.sdh_settling.specs.Laws.{ChangesNoWord, StillRingsAreSettled}
+use Rattle.sdh_settling.proofs.Fixpoint.{free_rounds}
 use Rattle.std.proofs.Common.{◌≡◌, ◌≢◌, ℕ, zero, suc, ◌+◌, ◌-◌, ◌<◌, ◌≤◌, Bool, true, false, List, [], ◌∷◌, length, get_or, map, Some, None, refl, ap, sym, subst, ◌∙◌, arith, inl, inr}
-use Rattle.std.specs.Prelude.{◌==◌, max, if◌then◌else◌, option_map, slice_get, All}
-use Rattle.std.proofs.lemmas.Bool.{cases_lt, eq-eqb, ne_eqb, cases_Bool, cond_both, both_ways}
+use Rattle.std.specs.Prelude.{nat_le, max, if◌then◌else◌, option_map, slice_get, All}
+use Rattle.std.proofs.lemmas.Bool.{cases_lt, le-leb, cases_Bool, both_ways}
 use Rattle.std.proofs.lemmas.List.Folds.{list_all_at}
 use Rattle.std.proofs.lemmas.List.Sums.{list_all-from_AllPass}
 use Rattle.std.proofs.lemmas.List.{length-map, get_or-map}
-use Rattle.std.proofs.lemmas.List.Elements.{All-map, All-nil}
+use Rattle.std.proofs.lemmas.List.Elements.{All-map}
 use Rattle.std.proofs.lemmas.Option.{slice_get-get_or, slice_get-map}
-use Rattle.sdh_node.specs.Receiving.{hears}
 use Rattle.sdh_node.specs.Same.{Compared}
 use Rattle.sdh_node.specs.Crossing.{is_failed}
-use Rattle.sdh_node.specs.Node.{Node, receiving_on, compared, sent_of, needed, heard_by, word_of}
+use Rattle.sdh_node.specs.Node.{Node, receiving_on, is_held, compared, sent_of, needed, heard_by, word_of}
 use Rattle.sdh_world.specs.Rounds.{World, round, round_with, node_after}
 use Rattle.sdh_world.specs.Runs.{run, course}
 use Rattle.sdh_world.specs.Quiet.{is_calm, IsCalm}
 use Rattle.sdh_world.proofs.Runs.{known_settles}
 use Rattle.sdh_hearing.specs.Placed.{IsPlaced}
-use Rattle.sdh_hearing.specs.Signalling.{is_lost, signals_of, needs_in}
-use Rattle.sdh_hearing.specs.Laws.{IsWhole, RoundsAreSignalRounds, IsStill, CalmRoundsAreStill, WindowsAreSettled, IsSettled, StepsSettle}
+use Rattle.sdh_hearing.specs.Signalling.{is_lost, filters_of, signals_of, needs_in, held_in}
+use Rattle.sdh_hearing.specs.Laws.{IsWhole, RoundsAreSignalRounds, IsStill, CalmRoundsAreStill, ThreeCalmRoundsAreSettled, WindowsAreSettled, IsSettled, StepsSettle}
 use Rattle.sdh_node.proofs.Decided.{scene_in, state_is, word_is}
 use Rattle.sdh_node.proofs.Calm.{calm_leaves, unchanged_is_calm}
 use Rattle.sdh_hearing.proofs.OneNode.{may_need}
 use Rattle.sdh_hearing.proofs.Staying.{left_run}
-use Rattle.sdh_hearing.proofs.Nodes.{at_any, informed, count, nodes_after, length-after, one_more, is_at}
+use Rattle.sdh_hearing.proofs.Nodes.{at_any, informed, informed_out, count, nodes_after, length-after, one_more, is_at}
 use Rattle.sdh_hearing.proofs.Rounds.{neighbour_inside, brings, took_is, whole_round}
 use Rattle.sdh_hearing.proofs.Changes.{whole_run}
-use Rattle.sdh_world.specs.Held.{nowhere, node_at}
+use Rattle.sdh_world.specs.Held.{nowhere, node_at, AtEach}
 
 -- ---- lists
 
@@ -161,7 +162,7 @@ module _ (w : World) (whole : IsWhole w) where
 
   -- so a node's filters are those of the ring of signals
   filters_same : (p : ℕ) → p < length after → filters_of (after_at p) ≡ filters_after before p (needed (after_at p))
-  unfolding filters_after
+  unfolding filters_after signals_of
   filters_same p h = same_filters _ _ (side West (λ (f : Filters). f.west) refl refl) (side East (λ (f : Filters). f.east) refl refl)
     where
       low : p < length w.ring.nodes
@@ -182,6 +183,10 @@ module _ (w : World) (whole : IsWhole w) where
   ids_same = refl
 
   -- the scene of a node is that of the ring of signals
+  same_ids : w.ring.ids ≡ before.ids
+  unfolding signals_of
+  same_ids = refl
+
   scene_same : (p : ℕ) → p < length after → scene_in (after_at p) ≡ scene_at before p (needed (after_at p))
   unfolding scene_in scene_at
   scene_same p h =
@@ -190,10 +195,6 @@ module _ (w : World) (whole : IsWhole w) where
       ap (λ ids. scene ids c.at.0 (needed c) (heard_by c)) (is.ids_are ∙ ids_same ∙ same_ids)
       ∙ ap (λ at. scene before.ids at (needed c) (heard_by c)) is.at
       ∙ ap (λ fs. scene before.ids p (needed c) (heard_through fs)) (filters_same p h)
-    where
-      same_ids : w.ring.ids ≡ before.ids
-      unfolding signals_of
-      same_ids = refl
 
   abbrev held : List Bool
   held = held_in w
@@ -281,14 +282,14 @@ module _ (w : World) (whole : IsWhole w) where
     ids_ok = whole.placed.ids;
     size = length-map after needed ∙ length-after w ∙ count w whole.placed;
     sound = All-map MayNeed needed after (λ p x h. subst (λ n. MayNeed (needed n)) (sym (at_any after p x h)) (needs_sound p h));
-    said = length-map sent_of w.ring.nodes ∙ count w whole.placed;
+    said = length-map w.ring.nodes sent_of ∙ count w whole.placed;
     sourced = sourced_words;
   }
 
   -- where no node is held, the round is one that holds none
-  pub goes_free : FreeRounds → AtEach (λ p n. is_held n ≡ false) w.ring.nodes → signals_of (round w) ≡ free_round (needs_in (round w)) (signals_of w)
+  pub goes_free : AtEach (λ p n. is_held n ≡ false) w.ring.nodes → signals_of (round w) ≡ free_round (needs_in (round w)) (signals_of w)
   unfolding held_in
-  goes_free law free = goes_on ∙ law (needs_in (round w)) (held_in w) (signals_of w) (All-map (λ b. b ≡ false) is_held w.ring.nodes (λ p x h. ap is_held (at_any w.ring.nodes p x h) ∙ free p h))
+  goes_free free = goes_on ∙ free_rounds (needs_in (round w)) (held_in w) (signals_of w) (All-map (λ b. b ≡ false) is_held w.ring.nodes (λ p x h. ap is_held (at_any w.ring.nodes p x h) ∙ free p h))
 
   -- ---- calm
 
@@ -344,18 +345,17 @@ module _ (w : World) (whole : IsWhole w) where
     pub is_still : IsStill w
     is_still = record { later = ran_before; free = free_there; same = same_there; words = words_still; states = states_still; requests = requests_still }
 
+    runs : (signals_of w).running ≡ true
+    unfolding signals_of
+    runs = le-leb 1 t ran_before
+
     -- and it changes no word of a ring of signals
-    pub changes_none : FreeRounds → ChangesNoWord (needs_in (round w)) (signals_of w)
-    changes_none law = record {
+    pub changes_none : ChangesNoWord (needs_in (round w)) (signals_of w)
+    changes_none = record {
       running = runs;
       may = may_go;
-      words = sym (ap (λ (s : Signals). s.words) (goes_free law free_there)) ∙ words_still;
+      words = sym (ap (λ (s : Signals). s.words) (goes_free free_there)) ∙ words_still;
     }
-      where
-        runs : (signals_of w).running ≡ true
-        unfolding signals_of
-        runs = le-leb 1 t ran_before
-
   -- a later round that holds no node and leaves all that is compared at each is calm
   pub calm_where_same : 0 < t → AtEach (λ p n. is_held n ≡ false) w.ring.nodes → ((p : ℕ) → p < length w.ring.nodes → compared (after_at p) ≡ compared (node_at w.ring.nodes p)) → is_calm after ≡ true
   calm_where_same ran free same = list_all-from_AllPass (λ (n : Node). n.calm) after (λ p x h.
@@ -405,12 +405,12 @@ states_stay : (w : World) (j m : ℕ) → IsWhole w → ((i : ℕ) → j < i →
 states_stay w j m whole calm = stays (λ v. (signals_of v).states) (λ v still. still.states) w j m whole calm
 
 -- after the k-th round and two more, where all three are calm
-settled_after : StillRingsAreSettled → FreeRounds → (w : World) (k : ℕ) → IsWhole w → IsCalm (course w) (suc k) → IsCalm (course w) (suc (suc k)) → IsCalm (course w) (suc (suc (suc k)))
+settled_after : StillRingsAreSettled → (w : World) (k : ℕ) → IsWhole w → IsCalm (course w) (suc k) → IsCalm (course w) (suc (suc k)) → IsCalm (course w) (suc (suc (suc k)))
     → (signals_of (run (suc (suc (suc k))) w)).states ≡ settled_states (requests_in (needs_in (run (suc (suc (suc k))) w)))
-settled_after law free_law w k whole one two three =
+settled_after law w k whole one two three =
     let at = λ (j : ℕ). run j w in
-    let goes = λ (j : ℕ) (c : IsCalm (course w) (suc j)). ap signals_of (one_run w j) ∙ goes_free (at j) (whole_run w j whole) free_law (run_still w j whole c).free ∙ ap (λ v. free_round (needs_in v) (signals_of (at j))) (sym (one_run w j)) in
-    let none = λ (j : ℕ) (c : IsCalm (course w) (suc j)). subst (λ v. ChangesNoWord (needs_in v) (signals_of (at j))) (sym (one_run w j)) (changes_none (at j) (whole_run w j whole) (calm_next w j c) free_law) in
+    let goes = λ (j : ℕ) (c : IsCalm (course w) (suc j)). ap signals_of (one_run w j) ∙ goes_free (at j) (whole_run w j whole) (run_still w j whole c).free ∙ ap (λ v. free_round (needs_in v) (signals_of (at j))) (sym (one_run w j)) in
+    let none = λ (j : ℕ) (c : IsCalm (course w) (suc j)). subst (λ v. ChangesNoWord (needs_in v) (signals_of (at j))) (sym (one_run w j)) (changes_none (at j) (whole_run w j whole) (calm_next w j c)) in
     let needs = λ (j : ℕ). needs_in (at j) in
     let first = goes k one in
     let second = goes (suc k) two ∙ ap (free_round (needs (suc (suc k)))) first in
@@ -420,18 +420,18 @@ settled_after law free_law w k whole one two three =
     (subst (ChangesNoWord (needs (suc (suc k)))) first (none (suc k) two))
     (subst (ChangesNoWord (needs (suc (suc (suc k))))) second (none (suc (suc k)) three))
 
-pub three_calm_rounds_are_settled : StillRingsAreSettled → FreeRounds → ThreeCalmRoundsAreSettled
-three_calm_rounds_are_settled law free_law w whole one two three = settled_after law free_law w 0 whole one two three
+pub three_calm_rounds_are_settled : StillRingsAreSettled → ThreeCalmRoundsAreSettled
+three_calm_rounds_are_settled law w whole one two three = settled_after law w 0 whole one two three
 
-pub windows_are_settled : StillRingsAreSettled → FreeRounds → WindowsAreSettled
-windows_are_settled law free_law w k j whole ends low high =
+pub windows_are_settled : StillRingsAreSettled → WindowsAreSettled
+windows_are_settled law w k j whole ends low high =
     let long = ends.long in
     let size : length (run k w).ring.ids ≡ length w.ring.ids = ap length (left_run k w).ids in
     let enough = whole.placed.ids.enough in
     let i : ℕ = k - 3 in
     let last : suc (suc (suc i)) ≡ k = omega arith in
     let rest : j + (k - j) ≡ k = omega arith in
-    let settled = settled_after law free_law w i whole (ends.calm (suc i) (omega arith) (omega arith)) (ends.calm (suc (suc i)) (omega arith) (omega arith)) (ends.calm (suc (suc (suc i))) (omega arith) (omega arith)) in
+    let settled = settled_after law w i whole (ends.calm (suc i) (omega arith) (omega arith)) (ends.calm (suc (suc i)) (omega arith) (omega arith)) (ends.calm (suc (suc (suc i))) (omega arith) (omega arith)) in
     sym (states_stay w j (k - j) whole (λ m after until. ends.calm m (omega arith) (omega arith)))
     ∙ ap (λ m. (signals_of (run m w)).states) (rest ∙ sym last)
     ∙ settled
@@ -439,8 +439,8 @@ windows_are_settled law free_law w k j whole ends low high =
 
 -- ---- a step
 
-pub steps_settle : StillRingsAreSettled → FreeRounds → StepsSettle
-steps_settle law free_law w left limit whole settles =
+pub steps_settle : StillRingsAreSettled → StepsSettle
+steps_settle law w left limit whole settles =
     let known = known_settles w limit left (inl whole.paired.honest.honest) settles in
     let k = known.0 in
     let ends = known.1 in
@@ -448,5 +448,5 @@ steps_settle law free_law w left limit whole settles =
     let enough = whole.placed.ids.enough in
     subst IsSettled (sym known.2) (record {
       whole = whole_run w k whole;
-      states = windows_are_settled law free_law w k k whole ends.window (omega arith) (omega arith);
+      states = windows_are_settled law w k k whole ends.window (omega arith) (omega arith);
     })

@@ -8,7 +8,7 @@ use Rattle.sdh_kbytes.specs.declared.Mark.{Mark}
 use Rattle.sdh_kbytes.specs.declared.K.{K}
 use Rattle.sdh_kbytes.specs.KBytes.{code_number, mark_number, path_number, code_at, mark_at, path_at}
 use Rattle.sdh_kbytes.proofs.Tables.{code_at-number, mark_at-number, path_at-number}
-use Rattle.sdh_kbytes.specs.Same.{same_code, same_word, same_heard}
+use Rattle.sdh_kbytes.specs.Same.{same_code, same_word, agrees, same_heard}
 
 code_of_number : (c d : Code) → code_number c ≡ code_number d → c ≡ d
 code_of_number c d e = let some : Some c ≡ Some d = sym (code_at-number c) ∙ ap code_at e ∙ code_at-number d in cc
@@ -44,6 +44,11 @@ pub is_same : (a : K) → same_word a a ≡ true
 unfolding same_word
 is_same a =
     rw (eq-eqb (code_number a.code) _ refl, eq-eqb a.to _ refl, eq-eqb a.from _ refl, eq-eqb (path_number a.path) _ refl, eq-eqb (mark_number a.mark) _ refl) refl
+
+-- a word agrees with itself
+pub agrees_itself : (a : K) → agrees a a ≡ true
+unfolding agrees
+agrees_itself a = rw (eq-eqb (code_number a.code) _ refl, eq-eqb a.to _ refl, eq-eqb a.from _ refl, eq-eqb (path_number a.path) _ refl) refl
 
 pub heard_same : (a b : Option K) → same_heard a b ≡ true → a ≡ b
 heard_same None None e = refl

@@ -21,7 +21,11 @@ pub state_is : (now : ℕ) (n : Node) → (node_round now n).0.state ≡ (if is_
 unfolding node_round with_calm after_crossing crossing after_decision scene_of scene_in
 state_is now n = refl
 
-word_turned : (now : ℕ) (n : Node) (d : Side) → word_of d (node_round now n).0 ≡ next_word (is_held n) (crossing now n) d (word_of d n)
+-- the word of the round
+abbrev pub word_next : ℕ → Node → Side → K
+word_next now n d = next_word (is_held n) (crossing now n) d (word_of d n)
+
+pub word_turned : (now : ℕ) (n : Node) (d : Side) → word_of d (node_round now n).0 ≡ word_next now n d
 unfolding node_round with_calm after_crossing after_sending
 word_turned now n West = refl
 word_turned now n East = refl

@@ -109,6 +109,7 @@ module _ (settle : HealthyStepsSettle) (deliver : HealthyStepsDeliver) (s : Sett
   )
   walk before m (step.Fibre e ∷ later) w reports end left all is reached some x = absurd all
   walk before m (step.Order p d c ∷ later) w reports end left all is reached some x = absurd all
+  walk before m (step.Hold p turns ∷ later) w reports end left all is reached some x = absurd all
   walk before m (step.Moment t ∷ later) w reports end left all is reached some x = absurd all
   walk before m (step.Settle ∷ later) w reports end left all is reached some (inl x) =
       let mid = x.0 in

@@ -66,6 +66,7 @@ honest_with (arrivals ∷ later) w h = honest_with later _ (stay_honest.round w 
 fits : (rate : Rate) (n : ℕ) (s : Step) → IsStepIn rate n s → All (IsChangeAt rate) (changes_of s)
 fits rate n (step.Fibre e) h = All-cons (IsChangeAt rate) _ [] h.1 (All-nil (IsChangeAt rate))
 fits rate n (step.Order p d c) h = All-cons (IsChangeAt rate) _ [] tt (All-nil (IsChangeAt rate))
+fits rate n (step.Hold p turns) h = All-cons (IsChangeAt rate) _ [] h.2 (All-nil (IsChangeAt rate))
 fits rate n (step.Moment m) h = All-cons (IsChangeAt rate) _ [] tt (All-nil (IsChangeAt rate))
 fits rate n step.Settle h = All-nil (IsChangeAt rate)
 
@@ -74,6 +75,7 @@ pub owed_none : (l : Layout) (earlier : List Stretch) (changes : List Change) (b
 owed_none l earlier changes before [] end h = (refl, inr h)
 owed_none l earlier changes before (step.Fibre e ∷ later) end h = owed_none l earlier (changes ++ changes_of (step.Fibre e)) before later end h
 owed_none l earlier changes before (step.Order p d c ∷ later) end h = owed_none l earlier (changes ++ changes_of (step.Order p d c)) before later end h
+owed_none l earlier changes before (step.Hold p turns ∷ later) end h = owed_none l earlier (changes ++ changes_of (step.Hold p turns)) before later end h
 owed_none l earlier changes before (step.Moment m ∷ later) end h = owed_none l earlier (changes ++ changes_of (step.Moment m)) before later end h
 owed_none l earlier changes before (step.Settle ∷ later) end h = inr h
 
@@ -147,6 +149,8 @@ module _ (law : SettledRingsRestore) (s : Settings) (ids : List ℕ) (circuits :
       subst (λ rs. AreOwed l earlier changes before (step.Fibre e ∷ later) rs end) (sym x.1.0) (owed_none l earlier changes before (step.Fibre e ∷ later) end x.1.1)
   walk limit before past earlier changes (step.Order p d c ∷ later) w reports end left form h each x =
       walk limit before _ earlier (changes ++ changes_of (step.Order p d c)) later _ reports end left form (changed_then earlier changes w (step.Order p d c) each.0.in_ring h) each.1 x
+  walk limit before past earlier changes (step.Hold p turns ∷ later) w reports end left form h each x =
+      walk limit before _ earlier (changes ++ changes_of (step.Hold p turns)) later _ reports end left form (changed_then earlier changes w (step.Hold p turns) each.0.in_ring h) each.1 x
   walk limit before past earlier changes (step.Moment m ∷ later) w reports end left form h each x =
       walk limit before _ earlier (changes ++ changes_of (step.Moment m)) later _ reports end left form (changed_then earlier changes w (step.Moment m) each.0.in_ring h) each.1 x
   walk limit before past earlier changes (step.Settle ∷ later) w reports end left form h each (inl x) =

@@ -71,6 +71,7 @@ unfolding changed
 none_sent limit before n frames [] w some low = refl
 none_sent limit before n frames (step.Fibre e ∷ later) w some low = none_sent limit before n frames later (after_step (step.Fibre e) w) some low
 none_sent limit before n frames (step.Order p d c ∷ later) w some low = none_sent limit before n frames later (after_step (step.Order p d c) w) some low
+none_sent limit before n frames (step.Hold p turns ∷ later) w some low = none_sent limit before n frames later (after_step (step.Hold p turns) w) some low
 none_sent limit before n frames (step.Moment m ∷ later) w some low = none_sent limit before n frames later (after_step (step.Moment m) w) some low
 none_sent limit before n frames (step.Settle ∷ later) w some low = by_count (settles_in w limit) refl (λ k. none_sent limit (before + 1) n frames later (run k w))
   where
@@ -289,6 +290,10 @@ known limit before (step.Fibre e ∷ later) w reports end left knows some size (
     )
 known limit before (step.Order p d c ∷ later) w reports end left knows some size x =
     let v = after_step (step.Order p d c) w in
+    carried (script limit before later v) (length w.ring.ids) (2 * length w.ring.ids * w.ring.rounds) v w reports end left refl
+    (known limit before later v reports end left knows some (length-placed _ p.0 w.ring.nodes ∙ size) x)
+known limit before (step.Hold p turns ∷ later) w reports end left knows some size x =
+    let v = after_step (step.Hold p turns) w in
     carried (script limit before later v) (length w.ring.ids) (2 * length w.ring.ids * w.ring.rounds) v w reports end left refl
     (known limit before later v reports end left knows some (length-placed _ p.0 w.ring.nodes ∙ size) x)
 known limit before (step.Moment m ∷ later) w reports end left knows some size x =

@@ -59,6 +59,8 @@ module _ (law : SettledRingsRestore) (converge : StretchesConverge) (s : Setting
   walk limit before past earlier changes (step.Fibre e ∷ later) w reports end left form h each large (inr x) = settled_by end status.PlantFault x.1.1 fault_settles
   walk limit before past earlier changes (step.Order p d c ∷ later) w reports end left form h each large x =
       walk limit before _ earlier (changes ++ changes_of (step.Order p d c)) later _ reports end left form (changed_then law s ids circuits f may earlier changes w (step.Order p d c) each.0.in_ring h) each.1 large x
+  walk limit before past earlier changes (step.Hold p turns ∷ later) w reports end left form h each large x =
+      walk limit before _ earlier (changes ++ changes_of (step.Hold p turns)) later _ reports end left form (changed_then law s ids circuits f may earlier changes w (step.Hold p turns) each.0.in_ring h) each.1 large x
   walk limit before past earlier changes (step.Moment m ∷ later) w reports end left form h each large x =
       walk limit before _ earlier (changes ++ changes_of (step.Moment m)) later _ reports end left form (changed_then law s ids circuits f may earlier changes w (step.Moment m) each.0.in_ring h) each.1 large x
   walk limit before past earlier changes (step.Settle ∷ later) w reports end left form h each large (inl x) =

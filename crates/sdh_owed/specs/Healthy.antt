@@ -14,6 +14,7 @@ abbrev pub AllSettle : List Step → Type 0
 AllSettle [] = Unit {0}
 AllSettle (step.Fibre e ∷ later) = ⊥
 AllSettle (step.Order p d c ∷ later) = ⊥
+AllSettle (step.Hold p turns ∷ later) = ⊥
 AllSettle (step.Moment m ∷ later) = ⊥
 AllSettle (step.Settle ∷ later) = AllSettle later
 

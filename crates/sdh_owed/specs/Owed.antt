@@ -39,6 +39,7 @@ abbrev pub AreOwed : Layout → List Stretch → List Change → ℕ → List St
 AreOwed l earlier changes before [] reports end = (reports ≡ []) × ((end ≡ status.Ok) ⊎ (end ≡ status.PlantFault))
 AreOwed l earlier changes before (step.Fibre e ∷ later) reports end = AreOwed l earlier (changes ++ changes_of (step.Fibre e)) before later reports end
 AreOwed l earlier changes before (step.Order p d c ∷ later) reports end = AreOwed l earlier (changes ++ changes_of (step.Order p d c)) before later reports end
+AreOwed l earlier changes before (step.Hold p turns ∷ later) reports end = AreOwed l earlier (changes ++ changes_of (step.Hold p turns)) before later reports end
 AreOwed l earlier changes before (step.Moment m ∷ later) reports end = AreOwed l earlier (changes ++ changes_of (step.Moment m)) before later reports end
 AreOwed l earlier changes before (step.Settle ∷ later) [] end = (end ≡ status.Unsettled (before + 1)) ⊎ (end ≡ status.PlantFault)
 AreOwed l earlier changes before (step.Settle ∷ later) (r ∷ reports) end =

@@ -107,6 +107,17 @@ moment_within high nodes [] e = cc
 moment_within high nodes (a ∷ []) e = (number_there 0 high a _ _ e).1
 moment_within high nodes (a ∷ (b ∷ ws)) e = absurd (too_many_none nodes (number 0 high ∷ []) (a ∷ (b ∷ ws)) (omega arith) e)
 
+hold_within : (nodes : List ℕ) (others : List (List ℕ)) → first_fault (part_faults nodes (node ∷ number 1 100 ∷ []) others) ≡ None
+    → ((place_of nodes others).0 < length nodes) × (1 ≤ number_of 1 100 (word_at others 1)) × (number_of 1 100 (word_at others 1) ≤ 100)
+unfolding part_faults
+hold_within nodes [] e = cc
+hold_within nodes (a ∷ []) e = cc
+hold_within nodes (a ∷ (b ∷ [])) e =
+    let bounds : (1 ≤ unwrap_or (numeral_in 1 100 b) 0) × (unwrap_or (numeral_in 1 100 b) 0 ≤ 100) =
+          number_there 1 100 b false None (later_none (is_none (node_at nodes a) || (false || false)) 24 (cond (is_none (numeral_in 1 100 b) || false) (Some 26) None) e) in
+    (node_there nodes a _ _ e, bounds.0, bounds.1)
+hold_within nodes (a ∷ (b ∷ (c ∷ ws))) e = absurd (too_many_none nodes (node ∷ number 1 100 ∷ []) (a ∷ (b ∷ (c ∷ ws))) (omega arith) e)
+
 verb_within : (rate : Rate) (nodes : List ℕ) (v : Verb) (others : List (List ℕ)) → first_fault (part_faults nodes (parts_of (n_of rate) v) others) ≡ None → IsStepIn rate (length nodes) (verb_step (n_of rate) nodes v others)
 verb_within rate nodes verb.Cut others e = (place_within nodes others e, tt)
 verb_within rate nodes verb.Mend others e = (place_within nodes others e, tt)
@@ -118,6 +129,7 @@ verb_within rate nodes verb.Manual others e = place_within nodes others e
 verb_within rate nodes verb.Clear others e = place_within nodes others e
 verb_within rate nodes verb.Moment others e = moment_within 1000000000 nodes others e
 verb_within rate nodes verb.Settle others e = tt
+verb_within rate nodes verb.Hold others e = hold_within nodes others e
 
 option_within : (rate : Rate) (nodes : List ℕ) (o : Option Verb) (others : List (List ℕ)) → first_fault (verb_faults (n_of rate) nodes o others) ≡ None → IsStepIn rate (length nodes) (option_map_or (λ v. verb_step (n_of rate) nodes v others) o step.Settle)
 option_within rate nodes None others e = cc
@@ -134,6 +146,7 @@ unfolding past_faults
 past_within past (step.Fibre event) h e = (omega arith, h)
 past_within past (step.Order at on c) h e = (omega arith, h)
 past_within past (step.Moment m) h e = (grind (arith, nat_tests), h)
+past_within past (step.Hold at turns) h e = (omega arith, h)
 past_within past step.Settle h e = (omega arith, grind (arith, nat_tests))
 
 pub steps_within : (rate : Rate) (nodes : List ℕ) (past : Past) (place : ℕ) (ds : List Data) → past.settles ≤ 64 → answer (steps_checks (n_of rate) nodes past place ds) ≡ None

@@ -37,6 +37,7 @@ module _ (rate : Rate) (size : ℕ) where
   step_moment past (step.Fibre event) h small = small
   step_moment past (step.Order at on c) h small = small
   step_moment past (step.Moment m) h small = h
+  step_moment past (step.Hold at turns) h small = small
   step_moment past step.Settle h small = small
 
   pub moments_small : (past : Past) (steps : List Step) → past.moment ≤ 1000000000 → AreSteps rate size past steps → (after_all past steps).moment ≤ 1000000000
@@ -52,6 +53,7 @@ one_step : (past : Past) (s : Step) → (after past s).settles ≡ past.settles 
 one_step past (step.Fibre event) = omega arith
 one_step past (step.Order at on c) = omega arith
 one_step past (step.Moment m) = omega arith
+one_step past (step.Hold at turns) = omega arith
 one_step past step.Settle = refl
 
 -- the number of settle steps is counted

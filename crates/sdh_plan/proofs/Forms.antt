@@ -27,6 +27,7 @@ few_parts n verb.Manual = omega arith
 few_parts n verb.Clear = omega arith
 few_parts n verb.Moment = omega arith
 few_parts n verb.Settle = omega arith
+few_parts n verb.Hold = omega arith
 
 pub mismatch : (nodes : List ℕ) (parts : List Part) (others : List (List ℕ)) → length parts < length others → first_fault (part_faults nodes parts others) ≡ Some 23
 unfolding part_faults

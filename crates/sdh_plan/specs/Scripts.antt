@@ -11,6 +11,7 @@ abbrev pub IsStepIn : Rate → ℕ → Step → Type 0
 IsStepIn rate size (step.Fibre event) = (event.at.0 < size) × IsConditionAt rate event.condition
 IsStepIn rate size (step.Order at on c) = at.0 < size
 IsStepIn rate size (step.Moment m) = m.0 ≤ 1000000000
+IsStepIn rate size (step.Hold at turns) = (at.0 < size) × (1 ≤ turns) × (turns ≤ 100)
 IsStepIn rate size step.Settle = Unit {0}
 
 -- the step can be done behind what the script has led to: it is one of the ring, no moment goes back, and at most 64 steps run rounds

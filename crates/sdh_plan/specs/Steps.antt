@@ -98,6 +98,7 @@ verb_step n nodes verb.Manual others = order_step nodes others command.Manual
 verb_step n nodes verb.Clear others = order_step nodes others command.Clear
 verb_step n nodes verb.Moment others = step.Moment (record { 0 = number_of 0 1000000000 (word_at others 0) })
 verb_step n nodes verb.Settle others = step.Settle
+verb_step n nodes verb.Hold others = step.Hold (place_of nodes others) (number_of 1 100 (word_at others 1))
 
 -- the checks of a step's words
 unfoldable pub form_faults : ℕ → List ℕ → List (List ℕ) → List Fault
@@ -130,6 +131,7 @@ start = record { moment = 0; settles = 0 }
 abbrev pub after : Past → Step → Past
 after past (step.Fibre event) = past
 after past (step.Order at on c) = past
+after past (step.Hold at turns) = past
 after past (step.Moment m) = record past { moment = m.0 }
 after past step.Settle = record past { settles = past.settles + 1 }
 
@@ -137,6 +139,7 @@ after past step.Settle = record past { settles = past.settles + 1 }
 abbrev pub is_back : ℕ → Step → Bool
 is_back moment (step.Fibre event) = false
 is_back moment (step.Order at on c) = false
+is_back moment (step.Hold at turns) = false
 is_back moment (step.Moment m) = nat_lt m.0 moment
 is_back moment step.Settle = false
 
@@ -144,6 +147,7 @@ is_back moment step.Settle = false
 abbrev pub is_settle : Step → Bool
 is_settle (step.Fibre event) = false
 is_settle (step.Order at on c) = false
+is_settle (step.Hold at turns) = false
 is_settle (step.Moment m) = false
 is_settle step.Settle = true
 

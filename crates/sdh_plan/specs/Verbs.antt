@@ -16,6 +16,8 @@ pub data Verb : Type 0 where
   Moment : Verb
   -- rounds run until a quiet window ends
   Settle : Verb
+  -- the controller of a node misses the next rounds
+  Hold : Verb
 
 -- what a step does, by its first word
 abbrev pub verb_of : List ℕ → Option Verb
@@ -28,6 +30,7 @@ verb_of word =
     else if bytes_eq word (codes "clear") then Some Clear
     else if bytes_eq word (codes "moment") then Some Moment
     else if bytes_eq word (codes "settle") then Some Settle
+    else if bytes_eq word (codes "hold") then Some Hold
     else None
 
 -- what a word behind the first is to be: the identifier of a node in the ring, a side, a number in a range
@@ -46,3 +49,4 @@ parts_of n Manual = node ∷ side ∷ []
 parts_of n Clear = node ∷ side ∷ []
 parts_of n Moment = number 0 1000000000 ∷ []
 parts_of n Settle = []
+parts_of n Hold = node ∷ number 1 100 ∷ []

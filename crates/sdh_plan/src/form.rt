@@ -3,7 +3,7 @@ ghost use Rattle.std.specs.Prelude.{◌≡◌, ◌≤◌, ◌∷◌, [], map, fa
 ghost use Rattle.std.specs.List.{list_any};
 ghost use Rattle.sdh_plan.specs.Check.{first_fault, unless};
 ghost use Rattle.sdh_plan.specs.Verbs.{verb_of, node, side, number};
-ghost use Rattle.sdh_plan.specs.Steps.{node_at, side_at, part_faults, verb_faults, fibre_step, order_step, number_of, word_at, told_step, form_faults, form_step};
+ghost use Rattle.sdh_plan.specs.Steps.{node_at, side_at, part_faults, verb_faults, place_of, fibre_step, order_step, number_of, word_at, told_step, form_faults, form_step};
 ghost use Rattle.sdh_plan.specs.Words.{words, is_empty};
 
 use crate::reason;
@@ -114,6 +114,23 @@ fn moment(ring: &RingMap, others: &[&[u8]]) -> Result<Step, u8>
     Ok(Step::Moment(Moment(u64::from(number))))
 }
 
+// The controller of the node misses so many of the next rounds.
+#[tactic(auto, unfolding(crate::specs::Steps::part_faults))]
+fn hold(ring: &RingMap, others: &[&[u8]]) -> Result<Step, u8>
+    ensures { result ≡ unless (first_fault (part_faults ring.now (node ∷ number 1 100 ∷ []) (map (λ word. word.now) others.now))) (Step.Hold (place_of ring.now (map (λ word. word.now) others.now)) (number_of 1 100 (word_at (map (λ word. word.now) others.now) 1))) }
+{
+    let [node, turns] = others else {
+        return Err(reason::STEP_FORM);
+    };
+    let Some(at) = node_at(ring, node) else {
+        return Err(reason::STEP_NODE);
+    };
+    let Some(turns) = numeral_in(turns, 1, 100) else {
+        return Err(reason::STEP_NUMBER);
+    };
+    Ok(Step::Hold(at, turns))
+}
+
 // Rounds run until a quiet window ends.
 #[tactic(auto, unfolding(crate::specs::Steps::part_faults))]
 fn settle(ring: &RingMap, others: &[&[u8]]) -> Result<Step, u8>
@@ -147,6 +164,8 @@ fn told(ring: &RingMap, n: u8, first: &[u8], others: &[&[u8]]) -> Result<Step, u
         moment(ring, others)
     } else if is_word(first, "settle") {
         settle(ring, others)
+    } else if is_word(first, "hold") {
+        hold(ring, others)
     } else {
         Err(reason::STEP_WORD)
     }

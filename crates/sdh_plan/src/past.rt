@@ -61,6 +61,7 @@ impl Past {
             }
             Step::Fibre(_) => Ok(self),
             Step::Order(_, _, _) => Ok(self),
+            Step::Hold(_, _) => Ok(self),
         }
     }
 }

@@ -12,6 +12,8 @@ pub enum Step {
     Order(Pos, Side, Command),
     /// The present moment is this one.
     Moment(Moment),
+    /// The controller of a node misses so many of the next rounds.
+    Hold(Pos, u32),
     /// Rounds run until a quiet window ends.
     Settle,
 }

@@ -1,18 +1,21 @@
 -- Calls leave a ring and its fibres in order.
-use Rattle.std.proofs.Common.{ℕ, sym, subst}
+use Rattle.std.proofs.Common.{ℕ, ◌≤◌, sym, subst}
 use Rattle.sdh_ringmap.specs.declared.Side.{Side}
 use Rattle.sdh_request.specs.declared.Command.{Command}
 use Rattle.sdh_plant.specs.Fibres.{Fibres}
 use Rattle.sdh_node.specs.Receiving.{commanded_by}
-use Rattle.sdh_node.specs.Node.{at_receiving}
+use Rattle.sdh_node.specs.Node.{at_receiving, held_for}
 use Rattle.sdh_world.specs.Held.{HeldRing, at_place}
 use Rattle.sdh_world.specs.Rounds.{world}
-use Rattle.sdh_world.specs.Changes.{Order, Now}
+use Rattle.sdh_world.specs.Changes.{Order, Hold, Now}
 use Rattle.sdh_world.proofs.Histories.{calls_change}
 use Rattle.sdh_hearing.specs.Laws.{IsWhole, StayWhole}
 
 pub whole_commanded : StayWhole → (r : HeldRing) (f : Fibres) (p : ℕ) (d : Side) (c : Command) → IsWhole (world r f) → IsWhole (world (record r { nodes = at_place p (at_receiving d (commanded_by c)) r.nodes }) f)
 whole_commanded stay r f p d c whole = subst IsWhole (sym (calls_change.command r f p d c)) (stay.change (Order p d c) (world r f) tt whole)
+
+pub whole_held : StayWhole → (r : HeldRing) (f : Fibres) (p turns : ℕ) → turns ≤ 100 → IsWhole (world r f) → IsWhole (world (record r { nodes = at_place p (held_for turns) r.nodes }) f)
+whole_held stay r f p turns few whole = subst IsWhole (sym (calls_change.hold r f p turns)) (stay.change (Hold p turns) (world r f) few whole)
 
 pub whole_later : StayWhole → (r : HeldRing) (f : Fibres) (t : ℕ) → IsWhole (world r f) → IsWhole (world (record r { moment = t }) f)
 whole_later stay r f t whole = subst IsWhole (sym (calls_change.moment r f t)) (stay.change (Now t) (world r f) tt whole)

@@ -7,7 +7,7 @@ ghost use Rattle.sdh_plant.specs.Fibres.{Fibres, IsPrepared, IsHonest};
 ghost use Rattle.sdh_plant.specs.Calls.{prepared};
 ghost use Rattle.sdh_node.specs.Receiving.{commanded_by};
 ghost use Rattle.sdh_node.specs.Tributaries.{HasPort, outlet_of};
-ghost use Rattle.sdh_node.specs.Node.{at_receiving};
+ghost use Rattle.sdh_node.specs.Node.{at_receiving, held_for};
 ghost use Rattle.sdh_world.specs.Held.{new_nodes, new_ring, at_place, outlet_at};
 ghost use Rattle.sdh_world.specs.Rounds.{world};
 ghost use Rattle.sdh_world.specs.Runs.{IsRound, IsBrokenOff};
@@ -99,6 +99,15 @@ fn command_at(nodes: &mut Vec<Adm>, at: usize, side: Side, command: Command)
     nodes[at].command(side, command);
 }
 
+fn hold_at(nodes: &mut Vec<Adm>, at: usize, turns: u32)
+    requires at { at < length nodes.old.items }
+    requires some { 1 ≤ turns }
+    requires few { turns ≤ 100 }
+    ensures { nodes.new.items ≡ at_place at (held_for turns) nodes.old.items }
+{
+    nodes[at].hold(turns);
+}
+
 // The position of a circuit's port.
 fn end_of(circuit: &Circuit, end: End) -> Pos
     ensures { result ≡ end_of circuit.now end }
@@ -177,6 +186,18 @@ impl Ring {
         command_at(&mut self.nodes, at.0 as usize, side, command);
     }
 
+    /// The controller of a node misses so many of the next rounds, in place of those that are left of an earlier call.
+    pub fn hold(&mut self, at: Pos, turns: u32)
+        requires at { at.0 < length self.old.ids }
+        requires some { 1 ≤ turns }
+        requires few { turns ≤ 100 }
+        ensures ring { self.new ≡ record self.old { nodes = at_place at.0 (held_for turns) self.old.nodes } }
+        ensures whole { (f : Fibres) → IsWhole (world self.old f) → IsWhole (world self.new f) }
+    {
+        sdh_hearing::stay_whole();
+        hold_at(&mut self.nodes, at.0 as usize, turns);
+    }
+
     /// Tells the present moment, at which the next rounds run.
     pub fn moment(&mut self, now: Moment)
         requires later { self.old.moment ≤ now.0 }
@@ -197,7 +218,8 @@ impl Ring {
         ensures ok { OnOk result (IsRound (world self.old (P.fibres plant.old)) (world self.new (P.fibres plant.new))) }
         ensures prepared { OnOk result (IsPrepared self.old.settings.rate (length self.old.ids) (P.fibres plant.new)) }
 
-        // Where what comes is what was sent, states and words are those of a ring of signals with the same needs.
+        // Where what comes is what was sent, states, words and filters are those of a ring of signals with the same needs and held
+        // nodes.
         ensures signals { OnOk result (IsWhole (world self.old (P.fibres plant.old)) → GoesAsSignals (world self.old (P.fibres plant.old)) (world self.new (P.fibres plant.new))) }
 
         // A fault breaks the ring. The first frames of the round may have been sent.

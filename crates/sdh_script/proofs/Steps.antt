@@ -75,6 +75,7 @@ changed_goes : (limit before : ℕ) (s : Step) (w : World) → (s ≡ step.Settl
     → Runs limit before later (after_step s w) reports end last → Runs limit before (s ∷ later) w reports end last
 changed_goes limit before (step.Fibre e) w other later reports end last x = inl x
 changed_goes limit before (step.Order p d c) w other later reports end last x = x
+changed_goes limit before (step.Hold p turns) w other later reports end last x = x
 changed_goes limit before (step.Moment m) w other later reports end last x = x
 changed_goes limit before step.Settle w other later reports end last x = absurd (other refl)
 
@@ -107,6 +108,15 @@ changed_may listing before (step.Order p d c) later w t other h = record {
   listed = h.listed;
   room = h.room;
 }
+changed_may listing before (step.Hold p turns) later w t other h = record {
+  whole = h.whole;
+  prepared = h.prepared;
+  steps_fit = h.steps_fit.1;
+  few = h.few;
+  rounds = h.rounds;
+  listed = h.listed;
+  room = h.room;
+}
 changed_may listing before (step.Moment m) later w t other h = record {
   whole = h.whole;
   prepared = h.prepared;
@@ -125,6 +135,7 @@ changed_next listing before s w left t other is later h = subst (λ (v : World).
 pub refused_stops : (limit before : ℕ) (s : Step) (w left : World) (how : Status) → Refused s w.fibres left.fibres how → StopsAt limit before s w how left
 refused_stops limit before (step.Fibre e) w left how h later = inr (h.0, (refl, h.1))
 refused_stops limit before (step.Order p d c) w left how h later = absurd h
+refused_stops limit before (step.Hold p turns) w left how h later = absurd h
 refused_stops limit before (step.Moment m) w left how h later = absurd h
 refused_stops limit before step.Settle w left how h later = absurd h
 

@@ -37,6 +37,7 @@ pub record MayRun (listing : Listing) (before : ℕ) (steps : List Step) (r : He
 abbrev pub Refused : Step → Fibres → Fibres → Status → Type 0
 Refused (step.Fibre e) f g how = (g ≡ f) × (how ≡ status.PlantFault)
 Refused (step.Order p d c) f g how = ⊥
+Refused (step.Hold p turns) f g how = ⊥
 Refused (step.Moment m) f g how = ⊥
 Refused step.Settle f g how = ⊥
 

@@ -31,6 +31,10 @@ fn change<P: Plant>(ring: &mut Ring, plant: &mut P, step: Step, number: u32) -> 
             ring.command(at, side, command);
             Ok(())
         }
+        Step::Hold(at, turns) => {
+            ring.hold(at, turns);
+            Ok(())
+        }
         Step::Moment(now) => {
             ring.moment(now);
             Ok(())
