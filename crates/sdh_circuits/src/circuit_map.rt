@@ -13,7 +13,7 @@ use std::marker::Model;
 
 /// The circuits of a ring, in the order in which they were added. No two share a span and a slot, and no two
 /// have one name.
-#[derive(Drop)]
+#[derive(Debug, Drop)]
 pub struct CircuitMap {
     rate_half: u8,
     ring: Option<RingMap>,

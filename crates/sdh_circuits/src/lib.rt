@@ -5,6 +5,8 @@
 ghost use Rattle.std.specs.Prelude.{◌≡◌};
 ghost use Rattle.sdh_circuits.specs.Provisioned.{same_end};
 
+use thiserror::Error;
+
 mod circuit_map;
 mod form;
 mod provisioned;
@@ -45,7 +47,7 @@ pub struct PortId {
 
 /// A circuit that is asked for, as numbers and texts from outside: nodes by their identifiers, and for each
 /// end the text, the trace and the offset of its port.
-#[derive(Clone, Copy)]
+#[derive(Clone, Copy, Debug)]
 pub struct Asked<'a> {
     pub name: &'a str,
     pub from: i64,
@@ -60,24 +62,33 @@ pub struct Asked<'a> {
 }
 
 /// Why a circuit isn't added, in the order in which it is checked.
-#[derive(Clone, Copy, Debug, PartialEq, Eq)]
+#[derive(Clone, Copy, Debug, PartialEq, Eq, Error)]
 pub enum AddError {
     /// There is no memory to keep the circuit. All checks passed.
+    #[error("no memory")]
     Memory,
     /// The slot isn't 1 to half of the rate's N.
+    #[error("the slot isn't 1 to half of the rate's N")]
     Slot,
     /// An end is no node of the ring.
+    #[error("an end is no node of the ring")]
     End,
     /// Both ends are one node.
+    #[error("both ends are one node")]
     SameEnds,
     /// An offset isn't 0 to 782.
+    #[error("an offset isn't 0 to 782")]
     Offset,
     /// A text hasn't 1 to 64 bytes, each from 0x20 to 0x7E.
+    #[error("a text isn't 1 to 64 bytes, each from 0x20 to 0x7E")]
     Text,
     /// A trace hasn't 1 to 64 bytes, each from 0x20 to 0x7E.
+    #[error("a trace isn't 1 to 64 bytes, each from 0x20 to 0x7E")]
     Trace,
     /// The name hasn't 1 to 16 bytes of `a` to `z`, `0` to `9`, `-` and `_`, or another circuit has it.
+    #[error("the name is no name, or another circuit has it")]
     Name,
     /// Another circuit is on one of its spans in its slot.
+    #[error("another circuit is on one of its spans in its slot")]
     Overlap,
 }

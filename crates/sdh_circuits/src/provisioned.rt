@@ -9,6 +9,7 @@ use crate::{End, Slot};
 use arrayvec::ArrayVec;
 use sdh_payload::Port;
 use sdh_ringmap::Pos;
+use std::fmt;
 use std::marker::Model;
 
 /// The name of a circuit, 1 to 16 bytes of `a` to `z`, `0` to `9`, `-` and `_`.
@@ -26,6 +27,12 @@ impl Model for Name {
     ghost view = { λ n. n.bytes.items };
 
     ghost invariant = { λ n. is_name n.bytes.items ≡ true };
+}
+
+impl fmt::Debug for Name {
+    fn fmt<W: fmt::Write>(&self, f: &mut fmt::Formatter<W>) -> fmt::Result {
+        write!(f, "\"{}\"", self.as_slice().escape_ascii())
+    }
 }
 
 // Whether a byte may stand in a name.
@@ -77,7 +84,7 @@ impl Name {
 }
 
 /// A circuit of a ring.
-#[derive(Drop)]
+#[derive(Debug, Drop)]
 pub struct Circuit {
     pub(crate) name: Name,
     pub(crate) from: Pos,

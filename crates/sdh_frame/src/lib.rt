@@ -18,6 +18,7 @@ pub use laws::{
 };
 pub use places::{au_place, place_of, pointer_place};
 use std::alloc::{AllocError, Global};
+use std::fmt;
 use std::marker::Model;
 pub use view::{AuView, AuViewMut};
 
@@ -86,6 +87,12 @@ impl Model for FrameBuf {
     ghost view = { λ a. record { rate = a.rate; bytes = a.bytes.items } };
 
     ghost invariant = { λ a. length a.bytes.items ≡ size_of a.rate };
+}
+
+impl fmt::Debug for FrameBuf {
+    fn fmt<W: fmt::Write>(&self, f: &mut fmt::Formatter<W>) -> fmt::Result {
+        write!(f, "FrameBuf({:?}, {} bytes)", self.rate, self.bytes.len())
+    }
 }
 
 // The index of a place among the bytes of a frame.

@@ -7,7 +7,7 @@ ghost use Rattle.sdh_frame.specs.Aus.{payload_of, pointers_of, with_payload, wit
 use crate::{FrameBuf, Rate};
 
 /// An AU-4 of a frame, to be read.
-#[derive(Drop)]
+#[derive(Debug, Drop)]
 pub struct AuView<'a> {
     frame: &'a FrameBuf,
     au: u16,
@@ -16,7 +16,7 @@ pub struct AuView<'a> {
 }
 
 /// An AU-4 of a frame, to be written.
-#[derive(Drop)]
+#[derive(Debug, Drop)]
 pub struct AuViewMut<'a> {
     frame: &'a mut FrameBuf,
     au: u16,

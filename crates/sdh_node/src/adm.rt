@@ -24,7 +24,7 @@ use std::alloc::{AllocError, Global};
 use std::marker::Model;
 
 /// One add-drop multiplexer of the ring.
-#[derive(Drop)]
+#[derive(Debug, Drop)]
 pub struct Adm {
     settings: Settings,
     rounds: u64,

@@ -31,7 +31,7 @@ use std::alloc::{AllocError, Global};
 use std::marker::Model;
 
 /// Both sides that receive, the state, and what it takes to tell where the state leads what comes in.
-#[derive(Drop)]
+#[derive(Debug, Drop)]
 pub struct CrossConnect {
     map: RingMap,
     at: Pos,

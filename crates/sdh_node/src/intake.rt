@@ -20,7 +20,7 @@ use std::alloc::{AllocError, Global};
 use std::marker::Model;
 
 /// What a side takes in, in a round: the frame without scrambling, and what the interpreters made of it.
-#[derive(Drop)]
+#[derive(Debug, Drop)]
 pub struct Intake {
     frame: FrameBuf,
     actions: Vec<Action>,

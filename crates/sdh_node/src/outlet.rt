@@ -14,7 +14,7 @@ use std::marker::Model;
 
 /// What a port delivers, and the value of the interpreter through which it came. The memory of a chunk is kept while
 /// AIS is delivered.
-#[derive(Drop)]
+#[derive(Debug, Drop)]
 pub struct Outlet {
     chunk: Delivered,
     ais: Delivered,

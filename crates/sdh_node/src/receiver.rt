@@ -28,7 +28,7 @@ use std::marker::Model;
 
 /// One side that receives: what arrived, the section, the local request and the interpreters. The buffer counts only
 /// where a frame arrived since the last round.
-#[derive(Drop)]
+#[derive(Debug, Drop)]
 pub struct Receiver {
     arrived: Option<Arrived>,
     frame: FrameBuf,

@@ -23,7 +23,7 @@ use std::alloc::{AllocError, Global};
 use std::marker::Model;
 
 /// One side that sends: the section, the generators and the word.
-#[derive(Drop)]
+#[derive(Debug, Drop)]
 pub struct Sender {
     section: Section,
     generators: Vec<Gen>,

@@ -14,7 +14,7 @@ use std::alloc::{AllocError, Global};
 use std::marker::Model;
 
 /// The ports of circuits at a node, in the order of circuits. Each one's place is found once, when the node is made.
-#[derive(Drop)]
+#[derive(Debug, Drop)]
 pub struct Tributaries {
     items: Vec<Tributary>,
     // The places of the ports of circuit 0, of circuit 1 and so on, A before B.

@@ -14,7 +14,7 @@ use std::alloc::{AllocError, Global};
 use std::marker::Model;
 
 /// A port of a circuit at the node: what it sends, and what it delivers.
-#[derive(Drop)]
+#[derive(Debug, Drop)]
 pub struct Tributary {
     port: PortId,
     side: Side,

@@ -9,6 +9,7 @@ use crate::calls::is_among;
 use crate::sink::Sink;
 use crate::source::Failed;
 use std::alloc::{AllocError, Global};
+use std::fmt;
 use std::marker::Model;
 
 /// Room in memory, which is filled in pieces of a fixed greatest length. The calls of a list fail, and
@@ -32,6 +33,17 @@ impl Model for MemSink {
     ghost view = { λ s. record { bytes = s.bytes.items; room = s.room; piece = s.piece; failing = s.failing.items; calls = s.calls; faults = s.faults } };
 
     ghost invariant = { λ s. (vec_len s.bytes + s.room ≤ vec_capacity s.bytes) × (0 < s.piece) };
+}
+
+impl fmt::Debug for MemSink {
+    fn fmt<W: fmt::Write>(&self, f: &mut fmt::Formatter<W>) -> fmt::Result {
+        write!(
+            f,
+            "MemSink({} bytes, room for {})",
+            self.bytes.len(),
+            self.room
+        )
+    }
 }
 
 impl MemSink {

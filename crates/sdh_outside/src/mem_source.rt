@@ -8,6 +8,7 @@ ghost use Rattle.sdh_outside.specs.Counts.{one_more};
 use crate::calls::is_among;
 use crate::source::{Failed, Source};
 use std::alloc::{AllocError, Global};
+use std::fmt;
 use std::marker::Model;
 
 /// Bytes in memory, given in pieces of a fixed greatest length. The calls of a list fail, and no other.
@@ -30,6 +31,12 @@ impl Model for MemSource {
     ghost view = { λ s. record { left = drop s.at s.bytes.items; piece = s.piece; failing = s.failing.items; calls = s.calls; faults = s.faults } };
 
     ghost invariant = { λ s. (s.at ≤ vec_len s.bytes) × (0 < s.piece) };
+}
+
+impl fmt::Debug for MemSource {
+    fn fmt<W: fmt::Write>(&self, f: &mut fmt::Formatter<W>) -> fmt::Result {
+        write!(f, "MemSource({} of {} bytes)", self.at, self.bytes.len())
+    }
 }
 
 impl MemSource {

@@ -6,18 +6,22 @@ ghost use Rattle.sdh_outside.specs.Reading.{TakesCount, TakesFewer, TellsAtMost}
 
 use crate::source::{Failed, Source};
 use std::alloc::{AllocError, Global};
+use thiserror::Error;
 
 /// How many bytes `read_all` hands out at most.
 pub const READ_MAX: usize = 1_048_576;
 
 /// Why there are no bytes. Those that were taken are gone.
-#[derive(Clone, Copy, Debug, PartialEq, Eq)]
+#[derive(Clone, Copy, Debug, PartialEq, Eq, Error)]
 pub enum ReadAllError {
     /// There was no memory, and nothing was taken.
+    #[error("no memory")]
     Memory,
     /// A read failed.
+    #[error("a read failed")]
     ReadFault,
     /// `READ_MAX` bytes and one more were taken.
+    #[error("more than 1,048,576 bytes")]
     TooLong,
 }
 

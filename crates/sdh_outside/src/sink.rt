@@ -28,7 +28,7 @@ pub trait Sink {
 
 /// A writer of std as a sink, as standard output. It tells no bytes, and counts as a fault each error of
 /// the writer, and each write that took nothing of a piece that isn't empty.
-#[derive(Drop)]
+#[derive(Debug, Drop)]
 pub struct StdSink<T: Write + Drop> {
     writer: T,
     faults: u64,

@@ -7,9 +7,11 @@ ghost use Rattle.sdh_outside.specs.Counts.{one_more};
 
 use std::io::Read;
 use std::marker::Model;
+use thiserror::Error;
 
 /// A call of a source or a sink failed, and its object counted a fault. It moved no bytes.
-#[derive(Clone, Copy, Debug, PartialEq, Eq)]
+#[derive(Clone, Copy, Debug, PartialEq, Eq, Error)]
+#[error("a call of a source or a sink failed")]
 pub struct Failed;
 
 /// What gives bytes.
@@ -30,7 +32,7 @@ pub trait Source {
 
 /// A reader of std as a source, as standard input. It tells no bytes, and counts each error of the
 /// reader as a fault.
-#[derive(Drop)]
+#[derive(Debug, Drop)]
 pub struct StdSource<T: Read + Drop> {
     reader: T,
     faults: u64,

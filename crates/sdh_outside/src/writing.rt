@@ -6,9 +6,11 @@ ghost use Rattle.sdh_outside.specs.Writing.{AppendsFewer};
 
 use crate::sink::Sink;
 use crate::source::Failed;
+use thiserror::Error;
 
 /// A write failed, and a part of the text at most was appended.
-#[derive(Clone, Copy, Debug, PartialEq, Eq)]
+#[derive(Clone, Copy, Debug, PartialEq, Eq, Error)]
+#[error("a write failed")]
 pub struct WriteFault;
 
 /// Appends the whole text, at least one byte each turn. It takes no memory.

@@ -8,7 +8,7 @@ ghost use Rattle.sdh_overhead.specs.Rows.{skipped};
 use sdh_parity::{Bip8, BipSection, Rate9, Scrambler, violations};
 
 /// What is kept of the rows that have gone by.
-#[derive(Drop)]
+#[derive(Debug, Drop)]
 pub struct Rows {
     pub passed: u16,
     pub scrambler: Scrambler,

@@ -15,7 +15,7 @@ use sdh_frame::{FrameBuf, Rate};
 use std::marker::Model;
 
 /// The parities of the last frame in one direction of a section, or none, and what is kept of a frame that is under way.
-#[derive(Drop)]
+#[derive(Debug, Drop)]
 pub struct Section {
     rate: Rate,
     known: bool,

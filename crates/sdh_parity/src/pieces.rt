@@ -55,7 +55,7 @@ fn scramble_piece(clear: usize, at: usize, bytes: &mut [u8])
 }
 
 /// A scrambler that is given a frame in pieces.
-#[derive(Drop)]
+#[derive(Debug, Drop)]
 pub struct Scrambler {
     clear: usize,
     at: usize,
@@ -101,7 +101,7 @@ impl Scrambler {
 }
 
 /// BIP-8 of what was added so far.
-#[derive(Drop)]
+#[derive(Debug, Drop)]
 pub struct Bip8 {
     value: u8,
 }
@@ -138,7 +138,7 @@ impl Bip8 {
 }
 
 /// BIP-24N of what was added so far.
-#[derive(Drop)]
+#[derive(Debug, Drop)]
 pub struct BipSection {
     n: usize,
     next: usize,

@@ -5,6 +5,7 @@ ghost use Rattle.sdh_payload.specs.Chunk.{around};
 ghost use Rattle.sdh_payload.specs.Room.{LendsRoom};
 
 use std::alloc::{AllocError, Global};
+use std::fmt;
 use std::marker::Model;
 
 /// The most bytes of a chunk: the 2349 bytes of an AU-4's payload, and the three H3 bytes.
@@ -24,6 +25,12 @@ impl Model for Cells {
     ghost view = { λ c. c.bytes.items };
 
     ghost invariant = { λ c. (vec_len c.bytes ≤ 2352) × (2352 ≤ vec_capacity c.bytes) };
+}
+
+impl fmt::Debug for Cells {
+    fn fmt<W: fmt::Write>(&self, f: &mut fmt::Formatter<W>) -> fmt::Result {
+        write!(f, "Cells({} bytes)", self.bytes.len())
+    }
 }
 
 impl Cells {

@@ -2,7 +2,7 @@
 use crate::cells::Cells;
 
 /// AIS, or the bytes of the AU-4 in which the port's circuit came in.
-#[derive(Drop)]
+#[derive(Debug, Drop)]
 pub enum Delivered {
     Ais,
     Chunk(Cells),

@@ -9,7 +9,7 @@ use std::marker::Model;
 
 /// The stream of a port, a chunk of 2349 bytes in each frame. It keeps a copy of the port and takes
 /// no memory.
-#[derive(Drop)]
+#[derive(Debug, Drop)]
 pub struct Feed {
     walk: Walk,
     chunks: u64,

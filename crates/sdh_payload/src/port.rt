@@ -6,24 +6,28 @@ ghost use Rattle.sdh_payload.specs.Port.{checked_port};
 
 use crate::short_text::ShortText;
 use std::marker::Model;
+use thiserror::Error;
 
 /// The largest offset: an AU-4 pointer counts 0 to 782 steps of three bytes (ITU-T G.707 clause 8.1).
 const MOST_OFFSET: u16 = 782;
 
 /// Why a port can't be made, in the order in which it is checked.
-#[derive(Clone, Copy, Debug, PartialEq, Eq)]
+#[derive(Clone, Copy, Debug, PartialEq, Eq, Error)]
 pub enum PortError {
     /// The offset is above 782.
+    #[error("the offset is above 782")]
     Offset,
     /// The text hasn't 1 to 64 bytes, each from 0x20 to 0x7E.
+    #[error("the text isn't 1 to 64 bytes, each from 0x20 to 0x7E")]
     Text,
     /// The trace hasn't 1 to 64 bytes, each from 0x20 to 0x7E.
+    #[error("the trace isn't 1 to 64 bytes, each from 0x20 to 0x7E")]
     Trace,
 }
 
 /// What a customer sends at one end of a circuit: a text over and over, a path trace, and the
 /// offset at which its VC-4s begin in the AU-4.
-#[derive(Drop)]
+#[derive(Debug, Drop)]
 pub struct Port {
     text: ShortText,
     trace: ShortText,

@@ -2,6 +2,7 @@
 ghost use Rattle.std.specs.Prelude.{◌≡◌, ◌+◌, ◌<◌, ◌≤◌, length};
 ghost use Rattle.sdh_payload.specs.Walk.{repeated_from};
 
+use std::fmt;
 use std::marker::Model;
 
 /// The text bytes in a row of a VC-4.
@@ -26,6 +27,12 @@ impl Model for Repeated {
     ghost view = { λ r. take r.len r.bytes };
 
     ghost invariant = { λ r. Repeats r.len r.bytes };
+}
+
+impl fmt::Debug for Repeated {
+    fn fmt<W: fmt::Write>(&self, f: &mut fmt::Formatter<W>) -> fmt::Result {
+        write!(f, "Repeated({} bytes)", self.len)
+    }
 }
 
 impl Repeated {

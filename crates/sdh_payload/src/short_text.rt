@@ -1,6 +1,7 @@
 //! Up to 64 bytes in place, without memory of their own.
 ghost use Rattle.std.specs.Prelude.{◌≡◌, ◌≤◌, length};
 
+use std::fmt;
 use std::marker::Model;
 
 /// The most bytes of a text or a trace.
@@ -21,6 +22,12 @@ impl Model for ShortText {
     ghost view = { λ t. take t.len t.bytes };
 
     ghost invariant = { λ t. t.len ≤ 64 };
+}
+
+impl fmt::Debug for ShortText {
+    fn fmt<W: fmt::Write>(&self, f: &mut fmt::Formatter<W>) -> fmt::Result {
+        write!(f, "\"{}\"", self.as_slice().escape_ascii())
+    }
 }
 
 impl ShortText {

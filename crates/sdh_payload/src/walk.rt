@@ -25,7 +25,7 @@ const EQUIPPED: u8 = 1;
 
 /// The place of the next byte, with what is kept of the bytes behind it: the VC-4's B3, the parity
 /// of its bytes so far, and the place of the next text byte in the text.
-#[derive(Drop)]
+#[derive(Debug, Drop)]
 pub struct Walk {
     port: Port,
     text: Repeated,

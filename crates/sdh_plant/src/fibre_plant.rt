@@ -16,7 +16,7 @@ use sdh_ringmap::{Pos, Side};
 use std::alloc::{AllocError, Global};
 use std::marker::Model;
 
-#[derive(Drop)]
+#[derive(Debug, Drop)]
 struct Fibre {
     condition: Condition,
     carries: bool,
@@ -25,7 +25,7 @@ struct Fibre {
 }
 
 /// Fibres in memory, which give what was sent and never fail.
-#[derive(Drop)]
+#[derive(Debug, Drop)]
 pub struct FibrePlant {
     nodes: usize,
     rate: Rate,

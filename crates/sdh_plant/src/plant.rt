@@ -8,9 +8,11 @@ ghost use Rattle.sdh_plant.specs.Calls.{prepared, after_apply, after_send, after
 use sdh_frame::{FrameBuf, Rate};
 use sdh_ringmap::{Pos, Side};
 use std::alloc::{AllocError, Global};
+use thiserror::Error;
 
 /// A call of a plant failed, and the plant counted a fault. It changed nothing that the plant means.
-#[derive(Clone, Copy, Debug, PartialEq, Eq)]
+#[derive(Clone, Copy, Debug, PartialEq, Eq, Error)]
+#[error("a call of a plant failed")]
 pub struct Failed;
 
 /// What came out of a fibre.
@@ -40,11 +42,13 @@ pub struct FibreEvent {
 }
 
 /// Why there are no fibres.
-#[derive(Clone, Copy, Debug, PartialEq, Eq)]
+#[derive(Clone, Copy, Debug, PartialEq, Eq, Error)]
 pub enum PrepareError {
     /// There was no memory.
+    #[error("no memory")]
     Memory,
     /// The plant failed, and counted a fault.
+    #[error("the plant failed")]
     Failed,
 }
 

@@ -14,7 +14,7 @@ use std::alloc::{AllocError, Global};
 use std::marker::Model;
 
 /// Fibres as those of a `FibrePlant`, with the list of the frames sent. A `send` past its room fails, and no other call does.
-#[derive(Drop)]
+#[derive(Debug, Drop)]
 pub struct RecordingPlant {
     plant: FibrePlant,
     // As many frames as there is room for, once there are fibres. The first `count` of them were sent.

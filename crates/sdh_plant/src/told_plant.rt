@@ -18,7 +18,7 @@ use std::alloc::Global;
 use std::marker::Model;
 
 /// An arrival that is told beforehand.
-#[derive(Drop)]
+#[derive(Debug, Drop)]
 pub enum Told {
     Dark,
     Frame(FrameBuf),
@@ -26,7 +26,7 @@ pub enum Told {
 
 /// Fibres that take what is sent, and give the arrivals of a list in their order whatever was sent, and darkness past its end.
 /// No call of theirs fails.
-#[derive(Drop)]
+#[derive(Debug, Drop)]
 pub struct ToldPlant {
     plant: FibrePlant,
     arrivals: Vec<Told>,

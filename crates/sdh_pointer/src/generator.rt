@@ -9,7 +9,7 @@ use std::marker::Model;
 
 /// A generator, which sends one pointer word a frame. Its value in clauses is its state, the word of
 /// its last step, and whether that step changed the state.
-#[derive(Drop)]
+#[derive(Debug, Drop)]
 pub struct Gen {
     sending: Option<u16>,
     word: u16,

@@ -8,7 +8,7 @@ use std::marker::Model;
 
 /// An interpreter, which reads one pointer word a frame. Its value in clauses is what it keeps, and
 /// whether the last step changed that.
-#[derive(Drop)]
+#[derive(Debug, Drop)]
 pub struct Interp {
     reading: Reading,
     moved: bool,

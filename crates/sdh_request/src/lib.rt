@@ -36,7 +36,7 @@ pub enum Command {
 pub struct Moment(pub u64);
 
 /// One side of a node: its command, its defect and when a defect last ended.
-#[derive(Drop)]
+#[derive(Debug, Drop)]
 pub struct Local {
     wait: u32,
     command: Command,

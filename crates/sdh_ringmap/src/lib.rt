@@ -18,6 +18,7 @@ mod tests;
 use crate::search::{as_bytes, first_repeat, first_unfit, index_of};
 use arrayvec::ArrayVec;
 use std::marker::Model;
+use thiserror::Error;
 
 /// A position in the ring, counted eastwards from 0.
 #[derive(Clone, Copy, Debug, PartialEq, Eq)]
@@ -42,18 +43,21 @@ pub struct Chain {
 }
 
 /// Why numbers aren't the identifiers of a ring. Nodes count from 1.
-#[derive(Clone, Copy, Debug, PartialEq, Eq)]
+#[derive(Clone, Copy, Debug, PartialEq, Eq, Error)]
 pub enum MapError {
     /// There aren't 2 to 16 nodes.
+    #[error("not 2 to 16 nodes")]
     NodeCount,
     /// The number of this node isn't 0 to 15.
+    #[error("the number of node {0} isn't 0 to 15")]
     NodeId(u32),
     /// A node before this one has its number.
+    #[error("a node before node {0} has its number")]
     Repeat(u32),
 }
 
 /// The nodes of a ring: their identifiers, by position.
-#[derive(Drop)]
+#[derive(Debug, Drop)]
 pub struct RingMap {
     ids: ArrayVec<u8, 16>,
 }

@@ -26,9 +26,11 @@ pub struct Row {
 /// The circuits on the two spans of a node, slot by slot. The ring's circuits stand there for clauses alone: they take no
 /// memory, and the code has the rows.
 #[derive(Drop)]
+#[derive_where(Debug)]
 pub struct Table {
     at: Pos,
     map: RingMap,
+    #[derive_where(skip(Debug))]
     circuits: Snapshot<CircuitMap>,
     rows: Vec<Option<Row>>,
 }
