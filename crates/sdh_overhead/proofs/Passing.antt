@@ -16,7 +16,8 @@ use Rattle.sdh_frame.proofs.PlaceProofs.{field-payload}
 use Rattle.sdh_parity.specs.Parity.{section_bytes}
 use Rattle.sdh_overhead.specs.Overhead.{Added, written, byte_at}
 use Rattle.sdh_parity.specs.Parity.{bip_lanes, section_parity}
-use Rattle.sdh_parity.specs.Pieces.{Position, Running, after_bytes}
+use Rattle.sdh_parity.specs.Pieces.{Position, Running, after_bytes, scrambled_from}
+use Rattle.sdh_parity.proofs.Cutting.{in-pieces}
 use Rattle.sdh_parity.proofs.Running.{sums-are}
 use Rattle.sdh_basics.specs.Parity.{bip8}
 use Rattle.sdh_overhead.specs.Sections.{Parities, UnderWay, SectionKept, placed_after, added_after, parities_of, under_way_of, next_of}
@@ -249,3 +250,18 @@ module _ (first old mid : SectionKept) (row : ℕ) (clear line more new : List �
         ends (clear ++ more) (line ++ new) (subst (λ (r : Rate). ArePassed (n_of r) (clear ++ more) (line ++ new) mid.under_way) (sym here) (after less))
         ∙ ap (λ (r : Rate). record { rate = r; last = Some (parities_of (n_of r) (clear ++ more) (line ++ new)); under_way = None }) here;
   }
+
+-- ---- a row that is cut behind its head
+
+pub cut-row : (n at a : ℕ) (old head rest head' rest' : List ℕ) → old ≡ head ++ rest → a ≡ at + length head → head' ≡ scrambled_from (9 * n) at head → rest' ≡ scrambled_from (9 * n) a rest → head' ++ rest' ≡ scrambled_from (9 * n) at old
+cut-row n at a old head rest head' rest' cut place one two =
+    ap (λ l. l ++ rest') one ∙ ap (λ l. scrambled_from (9 * n) at head ++ l) (two ∙ ap (λ k. scrambled_from (9 * n) k rest) place) ∙ sym (in-pieces.cut (9 * n) at head rest) ∙ ap (scrambled_from (9 * n) at) (sym cut)
+
+pub row-ends : (row w : ℕ) → 1 ≤ row → (row - 1) * w + w ≡ row * w
+row-ends row w some =
+    let one : w ≡ 1 * w = omega arith in
+    let back : row - 1 + 1 ≡ row = omega arith in
+    ap (λ k. (row - 1) * w + k) one ∙ sym (add-mul (row - 1) 1 w) ∙ ap (λ k. k * w) back
+
+pub sum-up : (a h r w : ℕ) → h + r ≡ w → a + h + r ≡ a + w
+sum-up a h r w e = omega arith

@@ -5,7 +5,15 @@ ghost use Rattle.sdh_parity.specs.Pieces.{scrambled_from, after_bytes};
 ghost use Rattle.sdh_parity.specs.Violations.{differing_bits, violations_of};
 ghost use Rattle.sdh_overhead.specs.Rows.{skipped};
 
-use sdh_parity::{Bip8, BipSection, Rate9, Scrambler, violations};
+use sdh_parity::{Bip8, BipSection, Rate9, Scrambler, receive_piece, send_piece, violations};
+
+// How many bytes at the head of a row B2 is not over.
+fn head_len(n: usize, row: u16) -> usize
+    requires { n ≤ 16 }
+    ensures { result ≡ skipped n row }
+{
+    if row <= 3 { 9 * n } else { 0 }
+}
 
 /// What is kept of the rows that have gone by.
 #[derive(Debug, Drop)]
@@ -59,10 +67,10 @@ impl Rows {
         ensures line { (before : List ℕ) → self.old.line ≡ parity_of before → self.new.line ≡ parity_of (before ++ bytes.new) }
         ensures clear { (before : List ℕ) → self.old.clear ≡ after_bytes n before → self.new.clear ≡ after_bytes n (before ++ drop (skipped n row) bytes.old) }
     {
-        let skip = if row <= 3 { 9 * n } else { 0 };
-        self.clear.add(&bytes[skip..]);
-        self.scrambler.apply(bytes);
-        self.line.add(bytes);
+        let (head, rest) = bytes.split_at_mut(head_len(n, row));
+        self.scrambler.apply(head);
+        self.line.add(head);
+        send_piece(&mut self.clear, &mut self.scrambler, &mut self.line, rest);
         self.passed = row;
     }
 
@@ -85,10 +93,10 @@ impl Rows {
         ensures b1 { self.new.b1 ≡ self.old.b1 }
         ensures b2 { self.new.b2 ≡ self.old.b2 }
     {
-        let skip = if row <= 3 { 9 * n } else { 0 };
-        self.line.add(bytes);
-        self.scrambler.apply(bytes);
-        self.clear.add(&bytes[skip..]);
+        let (head, rest) = bytes.split_at_mut(head_len(n, row));
+        self.line.add(head);
+        self.scrambler.apply(head);
+        receive_piece(&mut self.line, &mut self.scrambler, &mut self.clear, rest);
         self.passed = row;
     }
 

@@ -79,3 +79,11 @@ two-parts p first old head rest which room len each later k h =
           get_or-append_right head rest first k 0 len above ∙ later j (omega arith) ∙ ap (λ m. bit_xor (get_or old m 0) (scrambling_byte j)) f
           ∙ ap (bit_xor (get_or old k 0)) (sym (byte-repeats (p / 1016 + 1) j) ∙ ap scrambling_byte e))
     ]
+
+-- a piece behind the clear bytes to which the sequence was added
+pub passed-piece : (clear off : ℕ) (old new : List ℕ) → clear ≤ off → length new ≡ length old → ((i : ℕ) → i < length old → get_or new i 0 ≡ bit_xor (get_or old i 0) (scrambling_byte (off - clear + i))) → new ≡ scrambled_from clear off old
+passed-piece clear off old new behind len each =
+    ext_get_or 0 new (scrambled_from clear off old) (len ∙ sym (length-from clear off old)) (λ i lt.
+    (let h : i < length old = omega arith in
+    let e : off - clear + i ≡ off + i - clear = omega arith in
+    each i h ∙ ap (λ k. bit_xor (get_or old i 0) (scrambling_byte k)) e ∙ sym (get_or-from clear off old i h ∙ byte-added clear (off + i) _ (omega arith))))

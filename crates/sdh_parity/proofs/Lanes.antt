@@ -62,6 +62,21 @@ row_before m i k (y ∷ ys) low high room =
           rw away (row_before m i (k + 1) ys (omega arith) (omega arith) (omega arith) ∙ ap (λ j. get_or (y ∷ ys) j 0 ∷ []) later))
     ]
 
+-- fewer bytes than one row: one in each of the first lanes, and none in the others
+pub lane-short : (m i : ℕ) (ys : List ℕ) → i < length ys → length ys ≤ m → lane m i ys ≡ get_or ys i 0 ∷ []
+lane-short m i ys h room = row_before m i 0 ys (omega arith) (omega arith) (omega arith) ∙ ap (λ j. get_or ys j 0 ∷ []) (omega arith)
+
+row_past : (m i k : ℕ) (ys : List ℕ) → k + length ys ≤ i → i < m → lane_from m i k ys ≡ []
+row_past m i k [] past h = refl
+row_past m i k (y ∷ ys) past h =
+    let at : k < m = omega arith in
+    let here : k % m ≡ k = mod-eq_of_lt at in
+    let away : ((k % m) == i) ≡ false = ne_eqb _ _ (λ (e : k % m ≡ i). omega arith) in
+    rw away (row_past m i (k + 1) ys (omega arith) h)
+
+pub lane-past : (m i : ℕ) (ys : List ℕ) → length ys ≤ i → i < m → lane m i ys ≡ []
+lane-past m i ys past h = row_past m i 0 ys (omega arith) h
+
 lane-row : (m i : ℕ) (ys : List ℕ) → i < m → length ys ≡ m → lane m i ys ≡ get_or ys i 0 ∷ []
 lane-row m i ys h e = row_before m i 0 ys (omega arith) (omega arith) (omega arith) ∙ ap (λ j. get_or ys j 0 ∷ []) (omega arith)
 

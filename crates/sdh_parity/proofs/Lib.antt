@@ -6,3 +6,6 @@ pub mod Lanes
 pub mod Differing
 pub mod Cutting
 pub mod Running
+pub mod Mixing
+pub mod Folding
+pub mod Behind

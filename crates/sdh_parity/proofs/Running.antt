@@ -10,6 +10,7 @@ use Rattle.sdh_basics.proofs.CellsLaws.{cells-from, get_or-cells}
 use Rattle.sdh_parity.specs.Parity.{lane, lane_from, every, bip_lanes}
 use Rattle.sdh_parity.specs.Pieces.{Running, after_bytes, HasLanes}
 use Rattle.sdh_parity.proofs.Lanes.{lane_from-append, lane-append, lane-rows}
+use Rattle.sdh_parity.proofs.Folding.{four-lanes}
 
 -- a lane with one more byte, where it is in the lane and where it isn't
 pushed : (m j : ℕ) (before : List ℕ) (x : ℕ) → length before % m ≡ j → lane m j (before ++ x ∷ []) ≡ lane m j before ++ x ∷ []
@@ -88,3 +89,22 @@ goes-on n old new before bytes is each =
 pub sums-are : (n : ℕ) (s : Running) (bytes : List ℕ) → s ≡ after_bytes n bytes → s.sums ≡ bip_lanes (3 * n) bytes
 unfolding after_bytes
 sums-are n s bytes e = ap (λ (r : Running). r.sums) e
+
+-- ---- a piece by its BIP of 48 bytes
+
+pub folded-in : (before bytes old new lanes : List ℕ) → 0 ≡ length before % 12 → HasLanes 12 before old → HasLanes 48 bytes lanes → ((i : ℕ) → get_or bytes i 0 < 2 ^ 8)
+    → ((j : ℕ) → j < 12 → get_or new j 0 ≡ bit_xor (get_or old j 0) (bit_xor (bit_xor (bit_xor (get_or lanes j 0) (get_or lanes (12 + j) 0)) (get_or lanes (24 + j) 0)) (get_or lanes (36 + j) 0))) → HasLanes 12 (before ++ bytes) new
+folded-in before bytes old new lanes at has lanes_are small each j h =
+    let whole : length before ≡ length before / 12 * 12 = omega (arith, at) in
+    each j h ∙ ap (bit_xor (get_or old j 0)) (four-lanes j bytes lanes h small lanes_are) ∙ ap (λ z. bit_xor z (bip8 (lane 12 j bytes))) (has j h)
+    ∙ sym (ap bip8 (lane-append 12 j (length before / 12) before bytes whole) ∙ bip8-append (lane 12 j before) (lane 12 j bytes))
+
+pub lanes-in : (before bytes old new lanes : List ℕ) → 0 ≡ length before % 48 → HasLanes 48 before old → HasLanes 48 bytes lanes
+    → ((j : ℕ) → j < 48 → get_or new j 0 ≡ bit_xor (get_or old j 0) (get_or lanes j 0)) → HasLanes 48 (before ++ bytes) new
+lanes-in before bytes old new lanes at has lanes_are each j h =
+    let whole : length before ≡ length before / 48 * 48 = omega (arith, at) in
+    each j h ∙ ap (bit_xor (get_or old j 0)) (lanes_are j h) ∙ ap (λ z. bit_xor z (bip8 (lane 48 j bytes))) (has j h)
+    ∙ sym (ap bip8 (lane-append 48 j (length before / 48) before bytes whole) ∙ bip8-append (lane 48 j before) (lane 48 j bytes))
+
+pub length-behind : (m : ℕ) (before bytes : List ℕ) → 0 ≡ length before % m → length bytes % m ≡ length (before ++ bytes) % m
+length-behind m before bytes at = let start : length bytes ≡ 0 + length bytes = omega arith in ap (λ k. k % m) start ∙ ap (λ k. (k + length bytes) % m) at ∙ mod-add-mod (length before) m (length bytes) ∙ ap (λ k. k % m) (sym (length-append before bytes))

@@ -1,9 +1,10 @@
 //! The bytes of BIP-24N, as pieces of any length are added to them.
-ghost use Rattle.std.specs.Prelude.{◌≡◌, ℕ, List, ◌++◌, ◌+◌, ◌*◌, ◌%◌, ◌<◌, ◌≤◌, ◌⊎◌, length, slice_index, bit_xor};
+ghost use Rattle.std.specs.Prelude.{◌≡◌, ℕ, List, ◌++◌, ◌+◌, ◌*◌, ◌%◌, ◌^◌, ◌<◌, ◌≤◌, ◌⊎◌, length, slice_index, bit_xor};
 ghost use Rattle.sdh_basics.specs.Parity.{bip8 as parity_of};
 ghost use Rattle.sdh_parity.specs.Parity.{every};
 ghost use Rattle.sdh_parity.specs.Pieces.{HasLanes};
 
+use crate::through::add_to;
 use std::simd::prelude::*;
 
 // The parities of sixteen neighbouring columns of a table of rows of 12 bytes, from the byte `at` on.
@@ -123,4 +124,38 @@ pub fn add_piece(n: usize, next: usize, sums: &mut [u8], bytes: &[u8]) -> usize
     let (whole, rest) = bytes.split_at(width * rows);
     add_rows(n, sums, whole, rows);
     add_bytes(width, 0, sums, rest)
+}
+
+// Adds BIP of 48 bytes to BIP of 12: four lanes to each.
+fn add_folded(sums: &mut [u8], lanes: &[u8])
+    requires sums { length sums.old ≡ 48 }
+    requires lanes { length lanes.now ≡ 48 }
+    ensures { (j : ℕ) → j < 12 → slice_index sums.new j ≡ bit_xor (slice_index sums.old j) (bit_xor (bit_xor (bit_xor (slice_index lanes.now j) (slice_index lanes.now (12 + j))) (slice_index lanes.now (24 + j))) (slice_index lanes.now (36 + j))) }
+{
+    for i in 0..12 {
+        sums[i] ^= lanes[i] ^ lanes[12 + i] ^ lanes[24 + i] ^ lanes[36 + i];
+    }
+}
+
+/// Adds a piece by its BIP of 48 bytes, where the bytes before it are whole rows of 3N.
+pub fn add_lanes(n: usize, sums: &mut [u8], lanes: &[u8])
+    requires rate { (n ≡ 4) ⊎ (n ≡ 16) }
+    requires sums { length sums.old ≡ 48 }
+    requires lanes { length lanes.now ≡ 48 }
+    ensures { (before bytes : List ℕ) → 0 ≡ length before % (3 * n) → HasLanes (3 * n) before sums.old → HasLanes 48 bytes lanes.now → ((i : ℕ) → slice_index bytes i < 2 ^ 8) → HasLanes (3 * n) (before ++ bytes) sums.new }
+{
+    if n == 4 {
+        add_folded(sums, lanes);
+    } else {
+        add_to(sums, lanes, 48);
+    }
+}
+
+/// The lane of the byte behind a piece of so many bytes that begins with the first one.
+pub fn lane_behind(n: usize, len: usize) -> usize
+    requires rate { (n ≡ 4) ⊎ (n ≡ 16) }
+    ensures lane { result ≡ len % (3 * n) }
+    ensures small { result < 3 * n }
+{
+    if n == 4 { len % 12 } else { len % 48 }
 }

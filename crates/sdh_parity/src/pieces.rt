@@ -1,12 +1,13 @@
 //! The scrambler and the parities over the pieces of a frame: the same results however it is cut.
-ghost use Rattle.std.specs.Prelude.{◌≡◌, ℕ, ◌+◌, ◌-◌, ◌*◌, ◌%◌, ◌<◌, ◌≤◌, ◌⊎◌, List, [], ◌++◌, length, slice_index, bit_xor};
+ghost use Rattle.std.specs.Prelude.{◌≡◌, ℕ, ◌+◌, ◌-◌, ◌*◌, ◌%◌, ◌^◌, ◌<◌, ◌≤◌, ◌⊎◌, ◌==◌, nat_le, List, [], ◌++◌, length, slice_index, bit_xor};
 ghost use Rattle.sdh_basics.specs.Parity.{bip8 as parity_of};
 ghost use Rattle.sdh_parity.specs.Scrambling.{scrambling_byte};
-ghost use Rattle.sdh_parity.specs.Pieces.{scrambled_from, after_bytes, InPieces};
+ghost use Rattle.sdh_parity.specs.Pieces.{scrambled_from, after_bytes, HasLanes, InPieces};
 
-use crate::adding::add_piece;
+use crate::adding::{add_lanes, add_piece, lane_behind};
 use crate::parity::bip8;
 use crate::scrambler::{Rate9, add_sequence, sequence};
+use crate::through::{Passed, pass};
 use std::marker::Model;
 
 // Adds the bytes of the sequence from byte s on.
@@ -89,6 +90,30 @@ impl Scrambler {
     {
         scramble_piece(self.clear, self.at, bytes);
         self.at += bytes.len();
+    }
+
+    // Whether the bytes that come next are scrambled.
+    fn is_behind(&self) -> bool
+        ensures { result ≡ nat_le self.now.clear self.now.at }
+    {
+        self.clear <= self.at
+    }
+
+    // Scrambles or descrambles the next piece, which is behind the clear bytes, and sums it on the way.
+    fn pass(&mut self, bytes: &mut [u8]) -> Passed
+        requires behind { self.old.clear ≤ self.old.at }
+        requires few { self.old.at + length bytes.old ≤ 38880 }
+        ensures bytes { bytes.new ≡ scrambled_from self.old.clear self.old.at bytes.old }
+        ensures at { self.new ≡ record self.old { at = self.old.at + length bytes.old } }
+        ensures before { HasLanes 48 bytes.old result.before }
+        ensures after { HasLanes 48 bytes.new result.after }
+        ensures before_len { length result.before ≡ 48 }
+        ensures after_len { length result.after ≡ 48 }
+        ensures small { (i : ℕ) → slice_index bytes.old i < 2 ^ 8 }
+    {
+        let passed = pass(bytes, self.at - self.clear);
+        self.at += bytes.len();
+        passed
     }
 
     /// Goes past so many bytes that stay as they are.
@@ -178,6 +203,24 @@ impl BipSection {
         self.next = add_piece(self.n, self.next, &mut self.sums, bytes);
     }
 
+    // Whether the bytes so far are whole rows of 3N.
+    fn is_whole(&self) -> bool
+        ensures { result ≡ (self.now.next == 0) }
+    {
+        self.next == 0
+    }
+
+    // Adds the next piece by its length and its BIP of 48 bytes.
+    fn add_lanes(&mut self, len: usize, lanes: &[u8; 48])
+        requires whole { self.old.next ≡ 0 }
+        requires lanes { length lanes.now ≡ 48 }
+        ensures each { (before bytes : List ℕ) → self.old ≡ after_bytes self.old.n before → length bytes ≡ len → HasLanes 48 bytes lanes.now → ((i : ℕ) → slice_index bytes i < 2 ^ 8) → self.new ≡ after_bytes self.old.n (before ++ bytes) }
+        ensures rate { self.new.n ≡ self.old.n }
+    {
+        add_lanes(self.n, &mut self.sums, lanes);
+        self.next = lane_behind(self.n, len);
+    }
+
     /// Writes the 3N bytes of the parity of all pieces.
     pub fn write_value(&self, out: &mut [u8])
         requires { length out.old ≡ 3 * self.now.n }
@@ -185,6 +228,58 @@ impl BipSection {
     {
         out.copy_from_slice(&self.sums[..3 * self.n]);
     }
+}
+
+/// Sends the next piece: it is added to the parity of the bytes without scrambling, scrambled, and added to that of the
+/// bytes on the line, in one pass.
+pub fn send_piece(
+    clear: &mut BipSection,
+    scrambler: &mut Scrambler,
+    line: &mut Bip8,
+    bytes: &mut [u8],
+)
+    requires { scrambler.old.at + length bytes.old ≤ 38880 }
+    ensures bytes { bytes.new ≡ scrambled_from scrambler.old.clear scrambler.old.at bytes.old }
+    ensures at { scrambler.new ≡ record scrambler.old { at = scrambler.old.at + length bytes.old } }
+    ensures clear { (before : List ℕ) → clear.old ≡ after_bytes clear.old.n before → clear.new ≡ after_bytes clear.old.n (before ++ bytes.old) }
+    ensures rate { clear.new.n ≡ clear.old.n }
+    ensures line { (before : List ℕ) → line.old ≡ parity_of before → line.new ≡ parity_of (before ++ bytes.new) }
+{
+    if !(scrambler.is_behind() && clear.is_whole()) {
+        clear.add(bytes);
+        scrambler.apply(bytes);
+        line.add(bytes);
+        return;
+    }
+    let passed = scrambler.pass(bytes);
+    clear.add_lanes(bytes.len(), &passed.before);
+    line.add(&passed.after);
+}
+
+/// Receives the next piece: it is added to the parity of the bytes on the line, descrambled, and added to that of the
+/// bytes without scrambling, in one pass.
+pub fn receive_piece(
+    line: &mut Bip8,
+    scrambler: &mut Scrambler,
+    clear: &mut BipSection,
+    bytes: &mut [u8],
+)
+    requires { scrambler.old.at + length bytes.old ≤ 38880 }
+    ensures bytes { bytes.new ≡ scrambled_from scrambler.old.clear scrambler.old.at bytes.old }
+    ensures at { scrambler.new ≡ record scrambler.old { at = scrambler.old.at + length bytes.old } }
+    ensures line { (before : List ℕ) → line.old ≡ parity_of before → line.new ≡ parity_of (before ++ bytes.old) }
+    ensures clear { (before : List ℕ) → clear.old ≡ after_bytes clear.old.n before → clear.new ≡ after_bytes clear.old.n (before ++ bytes.new) }
+    ensures rate { clear.new.n ≡ clear.old.n }
+{
+    if !(scrambler.is_behind() && clear.is_whole()) {
+        line.add(bytes);
+        scrambler.apply(bytes);
+        clear.add(bytes);
+        return;
+    }
+    let passed = scrambler.pass(bytes);
+    line.add(&passed.before);
+    clear.add_lanes(bytes.len(), &passed.after);
 }
 
 /// However a frame is cut, its pieces make what the whole makes.

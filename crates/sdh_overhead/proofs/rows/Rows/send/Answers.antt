@@ -1,0 +1,37 @@
+use Rattle.std.proofs.Common.{◌≡◌, ℕ, List, ◌+◌, ◌*◌, ◌-◌, ◌≤◌, ◌++◌, length, drop, refl, ap, sym, ◌∙◌, arith, append_assoc}
+use Rattle.sdh_basics.specs.Parity.{bip8}
+use Rattle.sdh_parity.specs.Pieces.{Position, after_bytes, scrambled_from}
+use Rattle.sdh_overhead.proofs.Passing.{cut-row, row-ends, sum-up}
+use Rattle.sdh_overhead.proofs.rows.Rows.send.Goals as goal
+
+pub returns-clause-bytes : goal.returns-clause-bytes
+returns-clause-bytes c =
+    let n = c.args.n in
+    let head = c.split_at_mut-head.result.0.now in
+    let rest = c.split_at_mut-head.result.1.now in
+    let at : ℕ = (c.args.row - 1) * (270 * n) in
+    let one = c.apply.ensures.bytes ∙ ap (λ (p : Position). scrambled_from p.clear p.at head) c.requires.place in
+    let mid = c.apply.ensures.at ∙ ap (λ (p : Position). record p { at = p.at + length head }) c.requires.place in
+    let two = c.send_piece.ensures.bytes ∙ ap (λ (p : Position). scrambled_from p.clear p.at rest) mid in
+    cut-row n at (at + length head) c.args.bytes.now head rest c.apply.new.bytes c.send_piece.new.bytes c.split_at_mut-head.ensures.value refl one two
+
+pub returns-clause-place : goal.returns-clause-place
+returns-clause-place c =
+    let n = c.args.n in
+    let head = c.split_at_mut-head.result.0.now in
+    let rest = c.split_at_mut-head.result.1.now in
+    let at : ℕ = (c.args.row - 1) * (270 * n) in
+    let mid = c.apply.ensures.at ∙ ap (λ (p : Position). record p { at = p.at + length head }) c.requires.place in
+    let wide : length head + length rest ≡ 270 * n = omega (arith, c.split_at_mut-head.ensures.front_len, c.split_at_mut-head.ensures.back_len, c.requires.bytes) in
+    let end : at + length head + length rest ≡ c.args.row * (270 * n) = sum-up at (length head) (length rest) (270 * n) wide ∙ row-ends c.args.row (270 * n) c.requires.first in
+    c.send_piece.ensures.at ∙ ap (λ (p : Position). record p { at = p.at + length rest }) mid ∙ (λ i. record { clear = 9 * n; at = end i })
+
+pub returns-clause-line : goal.returns-clause-line
+returns-clause-line c = λ before e.
+    c.send_piece.ensures.line (before ++ c.apply.new.bytes) (c.add.ensures before e) ∙ ap bip8 (append_assoc before c.apply.new.bytes c.send_piece.new.bytes)
+
+pub returns-clause-clear : goal.returns-clause-clear
+returns-clause-clear c = λ before e.
+    let rest = c.split_at_mut-head.result.1.now in
+    c.send_piece.ensures.clear before (e ∙ ap (λ m. after_bytes m before) (sym c.requires.rate)) ∙ ap (λ m. after_bytes m (before ++ rest)) c.requires.rate
+    ∙ ap (λ l. after_bytes c.args.n (before ++ l)) (c.split_at_mut-head.ensures.back ∙ ap (λ k. drop k c.args.bytes.now) c.head_len.ensures)
