@@ -1,8 +1,22 @@
--- Where words come from, and which words two bytes can carry.
+-- The words of a new node, where words come from, and which words two bytes can carry.
 use Rattle.std.specs.Prelude.{ℕ, ◌≡◌, ◌<◌, ◌≤◌, IfSome, List, length, slice_index}
+use Rattle.sdh_kbytes.specs.declared.Code.TheVariants.{Nr}
+use Rattle.sdh_kbytes.specs.declared.Path.TheVariants.{Short}
+use Rattle.sdh_kbytes.specs.declared.Mark.TheVariants as mark
 use Rattle.sdh_kbytes.specs.declared.K.{K}
+use Rattle.sdh_ringmap.specs.Places.{neighbour}
+use Rattle.sdh_ringmap.specs.declared.Side.{Side}
+use Rattle.sdh_ringmap.specs.declared.Side.TheVariants.{West, East}
 use Rattle.sdh_nodestate.specs.declared.Heard.{Heard}
 use Rattle.sdh_nodestate.specs.declared.Sent.{Sent}
+
+-- the word of a new node at that position to its neighbour on a side: it asks for nothing
+abbrev pub first_word : List ℕ → ℕ → Side → K
+first_word ids p d = record { code = Nr; to = slice_index ids (neighbour (length ids) p d); from = slice_index ids p; path = Short; mark = mark.Idle }
+
+-- both words of a new node
+abbrev pub first_words : List ℕ → ℕ → Sent
+first_words ids p = record { west = first_word ids p West; east = first_word ids p East }
 
 -- an identifier is in the ring
 abbrev pub IsMember : List ℕ → ℕ → Type 0

@@ -8,7 +8,7 @@
 ghost use Rattle.std.specs.Prelude.{◌≡◌, ◌<◌, length};
 ghost use Rattle.sdh_nodestate.specs.Rules.{scene, state_after, sent_after};
 ghost use Rattle.sdh_nodestate.specs.Conditions.{MayStep};
-ghost use Rattle.sdh_nodestate.specs.Words.{IsSourced, HearsSourced, SendsSpellable, HearsSpellable};
+ghost use Rattle.sdh_nodestate.specs.Words.{first_word, IsSourced, HearsSourced, IsSpellable, SendsSpellable, HearsSpellable};
 ghost use Rattle.sdh_nodestate.specs.FarEnds.{far_of, IsElsewhere, west_chain, east_chain};
 ghost use Rattle.sdh_nodestate.specs.Urgency.{FirstWordsAreSent};
 
@@ -17,9 +17,9 @@ mod scene;
 mod shape;
 
 use crate::scene::Scene;
-use sdh_kbytes::{Code, K};
-use sdh_ringmap::{Chain, Pos, RingMap, Side};
 pub use filter::Filter;
+use sdh_kbytes::{Code, K, Mark, Path};
+use sdh_ringmap::{Chain, Pos, RingMap, Side};
 pub use shape::{Shape, same_shape, shape_of};
 use std::marker::Model;
 
@@ -143,6 +143,21 @@ pub fn start() -> NodeState
     ensures { result ≡ NodeState.Idle tt }
 {
     NodeState::Idle(Idle { made: () })
+}
+
+/// The word of a new node to its neighbour on a side: it asks for nothing.
+pub fn first_word(map: &RingMap, at: Pos, side: Side) -> K
+    requires { at.0 < length map.now }
+    ensures word { result ≡ first_word map.now at.0 side }
+    ensures spellable { IsSpellable result }
+{
+    K {
+        code: Code::Nr,
+        to: map.id(map.step(at, side)),
+        from: map.id(at),
+        path: Path::Short,
+        mark: Mark::Idle,
+    }
 }
 
 /// The state and the words of a round. The old state is consumed, and has no part in the answer.

@@ -284,3 +284,76 @@ fn chains(rt: HostRuntime) {
     // no far end is heard
     assert!(rt; chain(1, fail(false, true), None, None).is_none());
 }
+
+// The step of the second of four nodes, which needs nothing and hears through a filter on its west side.
+fn through(filter: &mut Filter, west: Bytes) -> Option<(NodeState, Sent)> {
+    let map = RingMap::new(&FOUR).ok()?;
+    if map.len() < 2 {
+        return None;
+    }
+    let heard = Heard {
+        west: filter.hear(heard(west)),
+        east: None,
+    };
+    Some(step(start(), &map, Pos(1), asks(Code::Nr, Code::Nr), heard))
+}
+
+#[test]
+fn the_third_frame_counts(rt: HostRuntime) {
+    let mut filter = Filter::new();
+    let word = Some((0xb2, 0x10));
+    assert!(rt;
+        is(
+            through(&mut filter, word),
+            idle(),
+            (0x01, 0x20),
+            (0x03, 0x20)
+        )
+    );
+    assert!(rt;
+        is(
+            through(&mut filter, word),
+            idle(),
+            (0x01, 0x20),
+            (0x03, 0x20)
+        )
+    );
+    assert!(rt;
+        is(
+            through(&mut filter, word),
+            west(None),
+            (0x11, 0x21),
+            (0xb1, 0x29)
+        )
+    );
+    assert!(rt; filter.heard() == decode(0xb2, 0x10));
+}
+
+#[test]
+fn three_frames_in_a_row(rt: HostRuntime) {
+    let mut filter = Filter::new();
+    assert!(rt; filter.hear(decode(0xb2, 0x10)).is_none());
+    assert!(rt; filter.hear(decode(0xb2, 0x10)).is_none());
+    // a frame without a word starts the count again
+    assert!(rt; filter.hear(None).is_none());
+    assert!(rt; filter.hear(decode(0xb2, 0x10)).is_none());
+    assert!(rt; filter.hear(decode(0xb2, 0x10)).is_none());
+    // marks don't count, and the last word is heard with its own
+    assert!(rt; filter.hear(decode(0xb2, 0x12)) == decode(0xb2, 0x12));
+    assert!(rt; filter.hear(decode(0xb2, 0x16)) == decode(0xb2, 0x16));
+    // another code, source, destination or path does
+    assert!(rt; filter.hear(decode(0x82, 0x10)).is_none());
+    assert!(rt; filter.hear(decode(0xb2, 0x30)).is_none());
+    assert!(rt; filter.hear(decode(0xb3, 0x30)).is_none());
+    assert!(rt; filter.hear(decode(0xb3, 0x38)).is_none());
+    assert!(rt; filter.hear(decode(0xb3, 0x38)).is_none());
+    assert!(rt; filter.hear(decode(0xb3, 0x38)) == decode(0xb3, 0x38));
+}
+
+#[test]
+fn a_new_node_asks_for_nothing(rt: HostRuntime) {
+    let map = RingMap::new(&FOUR);
+    assert!(rt;
+        matches!(map, Ok(map) if map.len() > 1 && Some(first_word(&map, Pos(1), Side::East)) == decode(0x03, 0x20))
+    );
+}
