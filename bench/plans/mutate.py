@@ -28,7 +28,7 @@ VALUES = NUMBERS + [
     "true", "'2'", '""', "''", "[]", "{}", "[1]", "[[]]", "['settle']", '"c1"', '"\\u0041"', '"\\x41"', '"\\e"', '"\\u00e9"', "'''\n1'''",
     '"""a"""', "2026-01-02", "10:30", "2026-01-02 10:30:00Z", "2026-02-30", "{a = 1}", "{a = 1,\n}", "[1,\n 2,]", "[{}]", "[" * 81 + "]" * 81,
 ]  # fmt: skip
-WORDS = "cut mend degrade forced manual clear moment settle lock Cut west east up East 0 1 2 3 7 9 12 13 15 16 48 49 05 +1 1000000000 1000000001 5 4 \u00e9".split() + [""]
+WORDS = "cut mend degrade forced manual clear moment settle hold lock Cut west east up East 0 1 2 3 7 9 12 13 15 16 48 49 05 +1 1000000000 1000000001 5 4 \u00e9".split() + [""]
 BYTES = [b"\n", b"\r\n", b"\r", b"\t", b" ", b"  ", b"#", b"=", b",", b".", b"[", b"]", b"{", b"}", b'"', b"'", b'"""', b"\\", b"_", b"-", b"0", b"1", b"9", b"a", b"\x00", b"\x7f", b"\x80", b"\xc3\xa9", b"\xef\xbb\xbf"]  # fmt: skip
 KEYS = "rate nodes threshold wait limit script circuit name from to slot text_a text_b trace_a trace_b offset_a offset_b colour".split()
 NAMES = ["c1", "c2", "a-b_c", "x" * 16, "x" * 17, "C1", "", "c 1", "~", "\u00e9"]
@@ -106,7 +106,7 @@ def script(chance, rate, nodes):
         steps.append(
             chance.choice(
                 (f"cut {node} {side}", f"mend {node} {side}", f"degrade {node} {side} {chance.randint(1, 3 * rate)}",
-                 f"forced {node} {side}", f"manual {node} {side}", f"clear {node} {side}", f"moment {moment}", "settle")
+                 f"forced {node} {side}", f"manual {node} {side}", f"clear {node} {side}", f"hold {node} {chance.choice((1, 2, 99, 100))}", f"moment {moment}", "settle")
             )
         )  # fmt: skip
     return steps + ["settle"]

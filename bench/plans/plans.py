@@ -119,13 +119,15 @@ def number_in(word, low, high):
 def check_step(step, place, n, nodes, moment, settles):
     words = step.split(b" ")
     want(all(words), 23, place)
-    forms = {b"cut": 2, b"mend": 2, b"degrade": 3, b"forced": 2, b"manual": 2, b"clear": 2, b"moment": 1, b"settle": 0}
+    forms = {b"cut": 2, b"mend": 2, b"degrade": 3, b"forced": 2, b"manual": 2, b"clear": 2, b"moment": 1, b"settle": 0, b"hold": 2}
     verb, *others = words
     want(verb in forms, 22, place)
     want(len(others) == forms[verb], 23, place)
     if verb not in (b"moment", b"settle"):
         want(number_in(others[0], 0, 15) in nodes, 24, place)
-        want(others[1] in (b"west", b"east"), 25, place)
+        want(verb == b"hold" or others[1] in (b"west", b"east"), 25, place)
+    if verb == b"hold":
+        want(number_in(others[1], 1, 100) is not None, 26, place)
     if verb == b"degrade":
         want(number_in(others[2], 1, 3 * n) is not None, 26, place)
     if verb == b"moment":

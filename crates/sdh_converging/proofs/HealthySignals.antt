@@ -21,11 +21,12 @@ use Rattle.sdh_settling.specs.Signals.{no_needs}
 use Rattle.sdh_plant.specs.declared.plant.Condition.TheVariants.{Clear}
 use Rattle.sdh_plant.specs.Fibres.{Fibres, fibre_to, is_cut, degraded_by}
 use Rattle.sdh_node.specs.declared.settings.Settings.{Settings}
+use Rattle.sdh_nodestate.specs.Words.{first_word}
 use Rattle.sdh_nodestate.specs.Filtering.{Brought, with_brought, hears, heard_of}
 use Rattle.sdh_nodestate.proofs.Filtering.{heard_last}
 use Rattle.sdh_kbytes.proofs.SameWords.{agrees_itself}
 use Rattle.sdh_node.specs.Crossing.{is_failed}
-use Rattle.sdh_node.specs.Node.{Node, receiving_on, new_node, first_word, is_held, word_of, needed}
+use Rattle.sdh_node.specs.Node.{Node, receiving_on, new_node, is_held, word_of, needed}
 use Rattle.sdh_world.specs.Held.{new_nodes, nowhere, node_at}
 use Rattle.sdh_world.specs.Rounds.{World, node_after}
 use Rattle.sdh_world.specs.Runs.{run}
@@ -113,13 +114,13 @@ module _ (s : Settings) (ids : List ℕ) (circuits : Provisioning) (f : Fibres) 
   pub record IsHealthy (p k : ℕ) : Type 0 where
     pub turns : (node_at (run k begin).ring.nodes p).held ≡ 0
     pub state_idle : (node_at (run k begin).ring.nodes p).state ≡ state.Idle tt
-    pub word_first : (d : Side) → word_of d (node_at (run k begin).ring.nodes p) ≡ first_word ids (position_of p) d
+    pub word_first : (d : Side) → word_of d (node_at (run k begin).ring.nodes p) ≡ first_word ids p d
 
   healthy_new : (p : ℕ) → p < length ids → IsHealthy p 0
   unfolding new_node
   healthy_new p h = record { turns = ap (λ (n : Node). n.held) (new_is p h); state_idle = ap (λ (n : Node). n.state) (new_is p h); word_first = λ d. ap (word_of d) (new_is p h) ∙ word_new d }
     where
-      word_new : (d : Side) → word_of d (new_node s ids circuits.circuits (position_of p)) ≡ first_word ids (position_of p) d
+      word_new : (d : Side) → word_of d (new_node s ids circuits.circuits (position_of p)) ≡ first_word ids p d
       word_new West = refl
       word_new East = refl
 
@@ -164,7 +165,7 @@ module _ (s : Settings) (ids : List ℕ) (circuits : Provisioning) (f : Fibres) 
     beside : (d : Side) → neighbour count p d < count
     beside d = let q = neighbour_inside begin begin_whole p d in omega (arith, size)
 
-    word_comes : (d : Side) → word_to u p d ≡ first_word ids (position_of (neighbour count p d)) (opposite d)
+    word_comes : (d : Side) → word_to u p d ≡ first_word ids (neighbour count p d) (opposite d)
     word_comes d =
         ap (λ i. word_of (opposite d) (node_at u.ring.nodes (neighbour (length i) p d))) (left_run k begin).ids
         ∙ (before (neighbour count p d) (beside d)).word_first (opposite d)
@@ -205,7 +206,7 @@ module _ (s : Settings) (ids : List ℕ) (circuits : Provisioning) (f : Fibres) 
         by_heard None e = tt
         by_heard (Some k) e = subst IsQuiet (heard_last (receiving_on d new).brought k e) (quiet_last d)
 
-    pub last_next : (d : Side) → 1 ≤ k → (kept (suc k) p d).last ≡ Some (first_word ids (position_of (neighbour count p d)) (opposite d))
+    pub last_next : (d : Side) → 1 ≤ k → (kept (suc k) p d).last ≡ Some (first_word ids (neighbour count p d) (opposite d))
     unfolding run
     last_next d some =
         let b = brings u uwhole p d there in
@@ -230,7 +231,7 @@ module _ (s : Settings) (ids : List ℕ) (circuits : Provisioning) (f : Fibres) 
         ∙ ap (λ (b : Bool). if b then (node_at u.ring.nodes p).state else state_after (scene_in new)) free
         ∙ idle (scene_in new) needs_scene quiet_scene
 
-    word_next : (d : Side) → word_of d new ≡ first_word ids (position_of p) d
+    word_next : (d : Side) → word_of d new ≡ first_word ids p d
     word_next d =
         let is = is_at (run (suc k) begin) (whole_run begin (suc k) begin_whole).placed p (omega (arith, size, length_run begin (suc k))) in
         let ids_are : new.ids ≡ ids = is.ids_are ∙ (left_run (suc k) begin).ids in
@@ -254,7 +255,7 @@ module _ (s : Settings) (ids : List ℕ) (circuits : Provisioning) (f : Fibres) 
   free_in k p h = ap (nat_le 1) (healthy k p (omega (arith, size, length_run begin k))).turns
 
   -- from round 1 on the neighbour's word comes, and from round 3 on it is heard
-  comes_first : (k p : ℕ) (d : Side) → p < count → 1 ≤ k → (kept (suc k) p d).last ≡ Some (first_word ids (position_of (neighbour count p d)) (opposite d))
+  comes_first : (k p : ℕ) (d : Side) → p < count → 1 ≤ k → (kept (suc k) p d).last ≡ Some (first_word ids (neighbour count p d) (opposite d))
   comes_first k p d h some = last_next k (λ q. healthy k q) p h d some
 
   second_is : (k p : ℕ) (d : Side) → p < count → (kept (suc k) p d).second ≡ (kept k p d).last
@@ -266,9 +267,9 @@ module _ (s : Settings) (ids : List ℕ) (circuits : Provisioning) (f : Fibres) 
   agree_with_itself : (k : K) → heard_of (Some k) (Some k) (Some k) ≡ Some k
   agree_with_itself k = rw (agrees_itself k) refl
 
-  pub heard_first : (k p : ℕ) (d : Side) → p < count → 3 ≤ k → hears (receiving_on d (node_at (run (suc k) begin).ring.nodes p)).brought ≡ Some (first_word ids (position_of (neighbour count p d)) (opposite d))
+  pub heard_first : (k p : ℕ) (d : Side) → p < count → 3 ≤ k → hears (receiving_on d (node_at (run (suc k) begin).ring.nodes p)).brought ≡ Some (first_word ids (neighbour count p d) (opposite d))
   heard_first k p d h some =
-      let said = first_word ids (position_of (neighbour count p d)) (opposite d) in
+      let said = first_word ids (neighbour count p d) (opposite d) in
       let j = k - 1 in
       let i = k - 2 in
       let at_j : suc j ≡ k = omega arith in

@@ -10,7 +10,7 @@ use Rattle.sdh_ringmap.specs.Ids.{AreIds}
 use Rattle.sdh_ringmap.specs.Places.{neighbour, position_of}
 use Rattle.sdh_ringmap.proofs.Sides.{neighbour_below}
 use Rattle.sdh_request.specs.declared.Command.{Command}
-use Rattle.sdh_nodestate.specs.Words.{IsSpellable, IsMember}
+use Rattle.sdh_nodestate.specs.Words.{IsSpellable, IsMember, first_word}
 use Rattle.sdh_circuits.specs.Provisioned.{Provisioned}
 use Rattle.sdh_circuits.specs.declared.End.TheVariants.{A, B}
 use Rattle.sdh_ringmap.specs.declared.Pos.{Pos}
@@ -26,7 +26,7 @@ use Rattle.sdh_world.specs.Laws.{IsChangeAt}
 use Rattle.sdh_world.proofs.Honest.{stay_honest, changes_keep_prepared}
 use Rattle.sdh_node.specs.declared.settings.Settings.{Settings}
 use Rattle.sdh_node.specs.Receiving.{Receiving, commanded_by}
-use Rattle.sdh_node.specs.Node.{Node, new_node, first_word, at_receiving, held_for, receiving_on, sending_on, word_of}
+use Rattle.sdh_node.specs.Node.{Node, new_node, at_receiving, held_for, receiving_on, sending_on, word_of}
 use Rattle.sdh_world.specs.Held.{new_nodes, at_place, new_ring, nowhere, AtEach}
 use Rattle.sdh_world.specs.Rounds.{World, world}
 use Rattle.sdh_world.specs.Runs.{run}
@@ -41,7 +41,7 @@ use Rattle.sdh_hearing.proofs.Rounds.{whole_round}
 
 -- ---- a new ring
 
-first_spells : (ids : List ℕ) (p : ℕ) (d : Side) → AreIds ids → p < length ids → IsSpellable (first_word ids (position_of p) d)
+first_spells : (ids : List ℕ) (p : ℕ) (d : Side) → AreIds ids → p < length ids → IsSpellable (first_word ids p d)
 first_spells ids p d is h =
     let below : neighbour (length ids) p d < length ids = neighbour_below (length ids) p d (omega arith) in
     let a = is.small (neighbour (length ids) p d) below in

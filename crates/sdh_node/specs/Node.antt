@@ -1,21 +1,19 @@
 -- A node of the ring, and its round.
-use Rattle.std.specs.Prelude.{◌≡◌, ℕ, ◌+◌, ◌-◌, ◌/◌, ◌≤◌, Bool, false, ◌&&◌, not, nat_le, None, List, [], length, slice_index, replicate, All}
+use Rattle.std.specs.Prelude.{◌≡◌, ℕ, ◌+◌, ◌-◌, ◌/◌, ◌≤◌, Bool, false, ◌&&◌, not, nat_le, None, List, [], replicate, All}
 use Rattle.sdh_frame.specs.Sizes.{Frame, n_of}
 use Rattle.sdh_overhead.specs.Sections.{holding}
 use Rattle.sdh_kbytes.specs.declared.Code.TheVariants.{Nr}
 use Rattle.sdh_kbytes.specs.declared.K.{K}
-use Rattle.sdh_kbytes.specs.declared.Path.TheVariants.{Short}
-use Rattle.sdh_kbytes.specs.declared.Mark.TheVariants as mark
 use Rattle.sdh_ringmap.specs.declared.Pos.{Pos}
 use Rattle.sdh_ringmap.specs.declared.Side.{Side}
 use Rattle.sdh_ringmap.specs.declared.Side.TheVariants.{West, East}
-use Rattle.sdh_ringmap.specs.Places.{neighbour}
 use Rattle.sdh_request.specs.Kept.{kept_of}
 use Rattle.sdh_circuits.specs.declared.PortId.{PortId}
 use Rattle.sdh_circuits.specs.Provisioned.{Provisioned}
 use Rattle.sdh_nodestate.specs.declared.NodeState.{NodeState}
 use Rattle.sdh_nodestate.specs.declared.NodeState.TheVariants as state
 use Rattle.sdh_nodestate.specs.Filtering.{nothing_brought, hears}
+use Rattle.sdh_nodestate.specs.Words.{first_word}
 use Rattle.sdh_pointer.specs.Reading.{start}
 use Rattle.sdh_node.specs.declared.settings.Settings.{Settings}
 use Rattle.sdh_node.specs.Same.{ComparedIn, ComparedOut, Compared, same_compared}
@@ -62,10 +60,6 @@ new_receiving s = record {
   readings = replicate (n_of s.rate) start;
 }
 
--- the word to the neighbour on a side that asks for nothing
-abbrev pub first_word : List ℕ → Pos → Side → K
-first_word ids at side = record { code = Nr; to = slice_index ids (neighbour (length ids) at.0 side); from = slice_index ids at.0; path = Short; mark = mark.Idle }
-
 -- a side that has sent nothing
 abbrev pub new_sending : Settings → K → Sending
 new_sending s k = record { section = holding s.rate None; generators = replicate (n_of s.rate) None; word = k }
@@ -82,8 +76,8 @@ new_node s ids circuits at = record {
   east = new_receiving s;
   state = state.Idle tt;
   ports = tributaries_at at circuits;
-  west_out = new_sending s (first_word ids at West);
-  east_out = new_sending s (first_word ids at East);
+  west_out = new_sending s (first_word ids at.0 West);
+  east_out = new_sending s (first_word ids at.0 East);
   held = 0;
   calm = false;
 }

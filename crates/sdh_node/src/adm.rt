@@ -2,11 +2,11 @@
 ghost use Rattle.std.specs.Prelude.{◌≡◌, ◌&&◌, not, nat_le, ◌+◌, ◌-◌, ◌/◌, ◌^◌, ◌<◌, ◌≤◌, IfOk, IsTrue, length};
 ghost use Rattle.sdh_frame.specs.Sizes.{n_of};
 ghost use Rattle.sdh_squelch.specs.Kept.{KeepsRing};
-ghost use Rattle.sdh_nodestate.specs.Words.{IsSpellable, SendsSpellable};
+ghost use Rattle.sdh_nodestate.specs.Words.{SendsSpellable};
 ghost use Rattle.sdh_plant.specs.Arrivals.{as_arrival};
 ghost use Rattle.sdh_node.specs.Receiving.{commanded_by, arrived_on};
 ghost use Rattle.sdh_node.specs.Tributaries.{HasPort, outlet_of};
-ghost use Rattle.sdh_node.specs.Node.{new_node, first_word, at_receiving, held_for, node_round, GoesOn, receiving_on, sending_on, moment_of};
+ghost use Rattle.sdh_node.specs.Node.{new_node, at_receiving, held_for, node_round, GoesOn, receiving_on, sending_on, moment_of};
 
 use crate::cross::CrossConnect;
 use crate::sender::Sender;
@@ -14,8 +14,8 @@ use crate::settings::Settings;
 use crate::tributaries::Tributaries;
 use sdh_circuits::{CircuitMap, PortId};
 use sdh_frame::FrameBuf;
-use sdh_kbytes::{Code, K, Mark, Path};
-use sdh_nodestate::{NodeState, Sent};
+use sdh_kbytes::{Code, K};
+use sdh_nodestate::{NodeState, Sent, first_word};
 use sdh_payload::Delivered;
 use sdh_plant::Arrived;
 use sdh_request::{Command, Moment};
@@ -44,21 +44,6 @@ impl Model for Adm {
     ghost view = { λ a. record { settings = a.settings; ids = a.cross.ids; at = a.cross.at; circuits = a.cross.circuits; rounds = a.rounds; west = a.cross.west; east = a.cross.east; state = a.cross.state; ports = a.ports; west_out = a.west_out; east_out = a.east_out; held = a.held; calm = a.calm } };
 
     ghost invariant = { λ a. IsNode (record { settings = a.settings; ids = a.cross.ids; at = a.cross.at; circuits = a.cross.circuits; rounds = a.rounds; west = a.cross.west; east = a.cross.east; state = a.cross.state; ports = a.ports; west_out = a.west_out; east_out = a.east_out; held = a.held; calm = a.calm }) };
-}
-
-// The word to the neighbour on a side that asks for nothing.
-fn first_word(map: &RingMap, at: Pos, side: Side) -> K
-    requires { at.0 < length map.now }
-    ensures word { result ≡ first_word map.now at side }
-    ensures spellable { IsSpellable result }
-{
-    K {
-        code: Code::Nr,
-        to: map.id(map.step(at, side)),
-        from: map.id(at),
-        path: Path::Short,
-        mark: Mark::Idle,
-    }
 }
 
 impl Adm {

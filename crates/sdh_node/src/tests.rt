@@ -135,6 +135,30 @@ fn a_new_node_asks_for_nothing(rt: HostRuntime) {
     assert!(rt; second.calm());
 }
 
+#[test]
+fn a_held_controller_misses_its_turns(rt: HostRuntime) {
+    let alloc = rt.alloc();
+    let mut second = node(&rt, alloc, 1, 3);
+    let mut west = blank(&rt, alloc);
+    let mut east = blank(&rt, alloc);
+    turn(&mut second, &mut west, &mut east);
+    second.hold(9);
+    second.hold(2);
+    second.command(Side::East, Command::Forced);
+    for _ in 0..2 {
+        // The request is there, but the state and the words are the old ones, and no such round is calm.
+        turn(&mut second, &mut west, &mut east);
+        assert!(rt; second.request(Side::East) == Code::Fs);
+        assert!(rt; matches!(second.state(), NodeState::Idle(_)));
+        assert!(rt; sent(&second) == NOTHING);
+        assert!(rt; !second.calm());
+    }
+    turn(&mut second, &mut west, &mut east);
+    assert!(rt; matches!(second.state(), NodeState::SwitchEast(_)));
+    turn(&mut second, &mut west, &mut east);
+    assert!(rt; second.calm());
+}
+
 // The frame that the third node sends west in its first round.
 fn from_third(rt: &impl Abort, alloc: Global) -> FrameBuf
     ensures { result.rate ≡ Rate.Four }
@@ -155,33 +179,44 @@ fn first_frame(rt: &impl Abort, alloc: Global, a1: u8, k1: u8, k2: u8) -> FrameB
     frame
 }
 
-// What the second node makes of an honest idle frame from the third, and this frame from the west: its state, and the
-// words that it sends.
-fn after_west(rt: &impl Abort, alloc: Global, frame: &FrameBuf) -> (Shape, [(u8, u8); 2])
-    requires { frame.now.rate ≡ Rate.Four }
+// What the second node makes of so many honest idle frames from the third, and as many times this frame from the west: its
+// state, and the words that it sends.
+fn after_west(
+    rt: &impl Abort,
+    alloc: Global,
+    frame: &FrameBuf,
+    times: u8,
+) -> (Shape, [(u8, u8); 2])
+    requires rate { frame.now.rate ≡ Rate.Four }
+    requires few { times ≤ 3 }
 {
     let third = from_third(rt, alloc);
-    let mut second = node(rt, alloc, 1, 3);
+    let mut second = node(rt, alloc, 1, 1000);
     let mut west = blank(rt, alloc);
     let mut east = blank(rt, alloc);
     turn(&mut second, &mut west, &mut east);
-    hear(&mut second, Side::East, Arrived::Frame, &third);
-    hear(&mut second, Side::West, Arrived::Frame, frame);
-    turn(&mut second, &mut west, &mut east);
+    for _ in 0..times {
+        hear(&mut second, Side::East, Arrived::Frame, &third);
+        hear(&mut second, Side::West, Arrived::Frame, frame);
+        turn(&mut second, &mut west, &mut east);
+    }
     (shape_of(second.state()), sent(&second))
 }
 
-// Whether the second node is in this state and sends these words, west before east, after such a frame from the west.
+// Whether the second node is in this state and sends these words, west before east, after so many such frames from the west.
 fn answers(
     rt: &impl Abort,
     alloc: Global,
     from_west: (u8, u8, u8),
+    times: u8,
     shape: Shape,
     words: [(u8, u8); 2],
-) -> bool {
+) -> bool
+    requires { times ≤ 3 }
+{
     let (a1, k1, k2) = from_west;
     let frame = first_frame(rt, alloc, a1, k1, k2);
-    let (found, said) = after_west(rt, alloc, &frame);
+    let (found, said) = after_west(rt, alloc, &frame, times);
     same_shape(found, shape) && said == words
 }
 
@@ -195,21 +230,21 @@ const NOTHING: [(u8, u8); 2] = [(0x01, 0x20), (0x03, 0x20)];
 #[test]
 fn a_hostile_neighbour(rt: HostRuntime) {
     let alloc = rt.alloc();
-    // The first byte A1, K1 and K2 from the west, the state, and the words west and east.
+    // The first byte A1, K1 and K2 from the west, how many such frames, the state, and the words west and east.
     let table = [
         // The first byte A1 is wrong.
-        ((0xF7, 0x02, 0x10), ALONE, FAILED),
+        ((0xF7, 0x02, 0x10), 1, ALONE, FAILED),
         // The low three bits of K2 are ones.
-        ((0xF6, 0xB2, 0x77), ALONE, FAILED),
-        ((0xF6, 0xFF, 0xFF), ALONE, FAILED),
+        ((0xF6, 0xB2, 0x77), 1, ALONE, FAILED),
+        ((0xF6, 0xFF, 0xFF), 1, ALONE, FAILED),
         // The source isn't the neighbour.
-        ((0xF6, 0xB2, 0x70), Shape::Idle, NOTHING),
+        ((0xF6, 0xB2, 0x70), 3, Shape::Idle, NOTHING),
         // A code that isn't used.
-        ((0xF6, 0x42, 0x10), Shape::Idle, NOTHING),
+        ((0xF6, 0x42, 0x10), 3, Shape::Idle, NOTHING),
     ];
-    for (from_west, shape, words) in table {
+    for (from_west, times, shape, words) in table {
         assert!(rt;
-            answers(&rt, alloc, from_west, shape, words),
+            answers(&rt, alloc, from_west, times, shape, words),
             "{from_west:?}"
         );
     }
@@ -218,28 +253,32 @@ fn a_hostile_neighbour(rt: HostRuntime) {
 #[test]
 fn words_from_the_west(rt: HostRuntime) {
     let alloc = rt.alloc();
-    // The first byte A1, K1 and K2 from the west, the state, and the words west and east.
+    // The first byte A1, K1 and K2 from the west, how many such frames, the state, and the words west and east.
     let table = [
-        // The neighbour fails on the span between them.
-        ((0xF6, 0xB2, 0x10), ALONE, [(0x11, 0x21), (0xB1, 0x29)]),
+        // The neighbour fails on the span between them: the word counts when three frames brought it.
+        ((0xF6, 0xB2, 0x10), 1, Shape::Idle, NOTHING),
+        ((0xF6, 0xB2, 0x10), 2, Shape::Idle, NOTHING),
+        ((0xF6, 0xB2, 0x10), 3, ALONE, [(0x11, 0x21), (0xB1, 0x29)]),
         // A long word about the span on the west side.
-        ((0xF6, 0xB2, 0x18), Shape::Idle, NOTHING),
+        ((0xF6, 0xB2, 0x18), 3, Shape::Idle, NOTHING),
         // A long word for the third node is passed on.
         (
             (0xF6, 0xB3, 0x18),
+            3,
             Shape::Idle,
             [(0x01, 0x20), (0xB3, 0x18)],
         ),
         // So is one between nodes that aren't in the ring.
         (
             (0xF6, 0xBF, 0x78),
+            3,
             Shape::Idle,
             [(0x01, 0x20), (0xBF, 0x78)],
         ),
     ];
-    for (from_west, shape, words) in table {
+    for (from_west, times, shape, words) in table {
         assert!(rt;
-            answers(&rt, alloc, from_west, shape, words),
+            answers(&rt, alloc, from_west, times, shape, words),
             "{from_west:?}"
         );
     }

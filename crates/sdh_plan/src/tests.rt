@@ -32,7 +32,7 @@ nodes = [15, 0, 7]
 threshold = 48
 wait = 1000000
 limit = 65536
-script = ["cut 7 east", "mend 15 west", "degrade 0 west 48", "forced 7 west", "manual 0 east", "clear 15 east", "moment 0", "moment 1000000000", "moment 1000000000", "settle"]
+script = ["cut 7 east", "mend 15 west", "degrade 0 west 48", "forced 7 west", "manual 0 east", "clear 15 east", "hold 7 100", "moment 0", "moment 1000000000", "moment 1000000000", "settle"]
 [[circuit]]
 name = "a-z_0123456789-z"
 from = 7
@@ -282,6 +282,12 @@ const OF_SCRIPTS: &[Case] = &[
         27,
         3,
     ),
+    ("\"settle\"", "\"hold 2\", \"settle\"", 23, 1),
+    ("\"settle\"", "\"hold 2 5 east\", \"settle\"", 23, 1),
+    ("\"settle\"", "\"hold 9 5\", \"settle\"", 24, 1),
+    ("\"settle\"", "\"hold 9 101\", \"settle\"", 24, 1),
+    ("\"settle\"", "\"hold 2 0\", \"settle\"", 26, 1),
+    ("\"settle\"", "\"hold 2 101\", \"settle\"", 26, 1),
     ("\"settle\"", "\"cut 2 east\"", 29, 1),
     ("\"settle\"", "\"settle\", \"moment 5\"", 29, 2),
 ];
@@ -470,6 +476,7 @@ fn reads_each_part_of_a_plan(rt: HostRuntime) -> Result<(), Fail> {
         Step::Order(Pos(2), Side::West, Command::Forced),
         Step::Order(Pos(1), Side::East, Command::Manual),
         Step::Order(Pos(0), Side::East, Command::Clear),
+        Step::Hold(Pos(2), 100),
         Step::Moment(Moment(0)),
         Step::Moment(Moment(1_000_000_000)),
         Step::Moment(Moment(1_000_000_000)),

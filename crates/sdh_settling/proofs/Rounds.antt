@@ -19,6 +19,7 @@ use Rattle.sdh_nodestate.specs.Filtering.{Brought, with_brought, heard_of, hears
 use Rattle.sdh_nodestate.specs.Rules.{Scene, scene, own_id, word, word_on, sent_after}
 use Rattle.sdh_nodestate.specs.Conditions.{MayNeed}
 use Rattle.sdh_nodestate.specs.Words.{IsMember, IsSourced}
+use Rattle.sdh_nodestate.proofs.Filtering.{heard_last}
 use Rattle.sdh_settling.specs.Signals.{Signals, Filters, no_filters, fails_on, sent_on, incoming, on_their_way, filters_after, heard_through, is_held, words_in, unsaid, scene_at, round, rounds, MayGo, no_needs}
 use Rattle.sdh_settling.specs.Runs.{Run, at_round, sent_here, bare, IsRun}
 use Rattle.sdh_ringmap.proofs.Sides.{neighbour_below}
@@ -48,18 +49,6 @@ brought_after s p x East = refl
 heard_on : (ids : List ℕ) (p : ℕ) (x : Needs) (f : Filters) (d : Side) → word_on (scene ids p x (heard_through f)) d ≡ hears (brought_on f d)
 heard_on ids p x f West = refl
 heard_on ids p x f East = refl
-
--- what a filter answers
-
-agreed_first : (t : Bool) (a k : K) → (if t then Some a else None) ≡ Some k → a ≡ k
-agreed_first true a k e = cc
-agreed_first false a k e = cc
-
-heard_first : (a b c : Option K) (k : K) → heard_of a b c ≡ Some k → a ≡ Some k
-heard_first None b c k e = cc
-heard_first (Some a) None c k e = cc
-heard_first (Some a) (Some b) None k e = cc
-heard_first (Some a) (Some b) (Some c) k e = ap (λ (w : K). Some w) (agreed_first (agrees a b && agrees a c) a k e)
 
 -- words that are the same but for their marks agree
 same_agree : (a b : K) → bare a ≡ bare b → agrees a b ≡ true
@@ -104,7 +93,7 @@ module _ (s : Signals) (sourced : All (IsSourced s.ids) s.words) where
   heard_sourced p x d k e =
       let q = neighbour (length s.ids) p d in
       let f = filters_after s p x in
-      let last = heard_first (brought_on f d).last (brought_on f d).second (brought_on f d).third k (sym (heard_on s.ids p x f d) ∙ e) in
+      let last = heard_last (brought_on f d) k (sym (heard_on s.ids p x f d) ∙ e) in
       came (fails_on x d) (slice_get (on_their_way s) q) (opposite d) k (at_place q) (sym (ap (λ (b : Brought). b.last) (brought_after s p x d)) ∙ last)
 
   own_is : (p : ℕ) (x : Needs) → own_id (scene_at s p x) ≡ slice_index s.ids p
@@ -231,7 +220,7 @@ module _ (needs : List Needs) (s : Signals) (may : MayGo needs s) where
   past_is : (t p : ℕ) (d : Side) (k : K) → word_on (at (suc t) p) d ≡ Some k → k ≡ sent_here run_of t p d
   past_is t p d k e =
       let b = brings (suc t) p d in
-      let last = heard_first b.last b.second b.third k (sym (heard_is (suc t) p d) ∙ e) in
+      let last = heard_last b k (sym (heard_is (suc t) p d) ∙ e) in
       sym (if_not_some (fails_on (need p) d) (sent_here run_of t p d) k (sym (comes t p d) ∙ sym (brings_first (suc t) p d) ∙ last)).1
 
   silent_is : (t p : ℕ) (d : Side) → fails_on (need p) d ≡ true → word_on (at (suc t) p) d ≡ None
