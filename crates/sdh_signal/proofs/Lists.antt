@@ -1,7 +1,7 @@
 -- Lists that are compared place by place.
 use Rattle.std.proofs.Common.{◌≡◌, ◌↔◌, ℕ, ◌+◌, ◌<◌, Bool, true, false, IsTrue, List, [], ◌∷◌, ◌++◌, length, take, drop, set, get_or, refl, ap, sym, ◌∙◌, arith}
 use Rattle.std.specs.Prelude.{◌&&◌}
-use Rattle.std.proofs.lemmas.List.{take_more, take_more_set, length-take-le}
+use Rattle.std.proofs.lemmas.List.{take_more, take_more_set, length-take-le, get_or_default}
 use Rattle.sdh_basics.proofs.Indexing.{still_at}
 
 -- lists of one length with one element more are the same where both parts are
@@ -39,3 +39,7 @@ same_more now old i x y a b hn ho rest is before here =
           let p = snoc_same (take i now) (take i old) y (get_or old i x) long (sym after ∙ same ∙ all) in
           and_true a b (before.1 p.0) (here.1 (p.1 ∙ sym was))),
     )
+
+-- a loop reads x in place i of a list that it hasn't changed there
+pub was_at : {X : Type 0} (now old : List X) (i : ℕ) (x d : X) → i < length old → drop i now ≡ drop i old → x ≡ get_or now i x → get_or old i d ≡ x
+was_at now old i x d h rest is = get_or_default old i d x h ∙ sym (still_at now old i x rest) ∙ sym is

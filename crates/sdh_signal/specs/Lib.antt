@@ -1,1 +1,2 @@
 pub mod SignalRing
+pub mod Nodes

@@ -1,39 +1,60 @@
 -- A ring of signals as its callers see it, round by round.
-use Rattle.std.specs.Prelude.{ℕ, ◌≡◌, ◌≤◌, Bool, false, List, [], length, All, IsTrue, ◌==◌, if◌then◌else◌}
+use Rattle.std.specs.Prelude.{ℕ, zero, suc, ◌≡◌, ◌≤◌, ◌-◌, ⊤, Bool, true, false, nat_lt, List, length, All, IsTrue}
 use Rattle.sdh_basics.specs.Cells.{cells}
 use Rattle.sdh_ringmap.specs.Ids.{AreIds}
+use Rattle.sdh_nodestate.specs.declared.Needs.{Needs}
 use Rattle.sdh_nodestate.specs.declared.Sent.{Sent}
 use Rattle.sdh_nodestate.specs.declared.NodeState.{NodeState}
 use Rattle.sdh_nodestate.specs.declared.NodeState.TheVariants.{Idle}
-use Rattle.sdh_nodestate.specs.Words.{IsSourced}
-use Rattle.sdh_settling.specs.Signals.{Signals}
+use Rattle.sdh_nodestate.specs.Words.{first_words, IsSourced}
+use Rattle.sdh_settling.specs.Signals.{Filters, no_filters, Signals, free_round}
+use Rattle.sdh_settling.specs.Laws.{ChangesNoWord}
 
--- the ring, how many rounds have run (a count that stands still at 2 ^ 64 - 1), and whether the last one left it still
+-- The ring; how many rounds have run (a count that stands still at 2 ^ 64 - 1); how many of the last rounds, counted up to 3, came
+-- after another one, held no node and changed no word; and whether the last round changed no state.
 pub record Signalling : Type 0 where
   pub ring : Signals
   pub rounds : ℕ
-  pub still : Bool
+  pub unchanged : ℕ
+  pub steady : Bool
 
--- a ring in which no round has run: all nodes are idle and nothing was sent
+-- a ring by its parts, where so many rounds have run
+abbrev pub ring_of : List ℕ → List NodeState → List Sent → List Filters → ℕ → Signals
+ring_of ids states words filters rounds = record { ids = ids; states = states; words = words; filters = filters; running = nat_lt 0 rounds }
+
+-- a ring in which no round has run: all nodes are idle, have the words of new nodes, and nothing was brought to them
 abbrev pub new_ring : List ℕ → Signalling
-new_ring ids = record { ring = record { ids = ids; states = cells (λ p. Idle tt) (length ids); words = [] }; rounds = 0; still = false }
+new_ring ids = record { ring = ring_of ids (cells (λ p. Idle tt) (length ids)) (cells (first_words ids) (length ids)) (cells (λ p. no_filters) (length ids)) 0; rounds = 0; unchanged = 0; steady = false }
 
--- after a round the ring is still: at least two rounds have run, and this one changed no state and no word
-pub record IsStill (before after : Signalling) : Type 0 where
-  pub two : 2 ≤ after.rounds
-  pub states : after.ring.states ≡ before.ring.states
-  pub words : after.ring.words ≡ before.ring.words
+-- no node is held
+abbrev pub NoneHeld : List Bool → Type 0
+NoneHeld held = All (λ b. b ≡ false) held
 
--- the words of the last round, from the room for them: none before the first
-abbrev pub words_in : ℕ → List Sent → List Sent
-words_in rounds room = if rounds == 0 then [] else room
+-- a round came after another one, held no node and changed no word
+pub record LeavesWords (held : List Bool) (before after : Signals) : Type 0 where
+  pub later : before.running ≡ true
+  pub free : NoneHeld held
+  pub words : after.words ≡ before.words
 
--- What a ring keeps: the identifiers are those of a ring, each position has a state and room for its words, and each word
--- that was sent has its source in the ring. Only a ring of which two rounds have run is still.
-pub record IsRing (ids : List ℕ) (states : List NodeState) (sent before : List Sent) (rounds : ℕ) (still : Bool) : Type 0 where
-  pub ids_ok : AreIds ids
-  pub states_len : length states ≡ length ids
-  pub sent_len : length sent ≡ length ids
-  pub before_len : length before ≡ length ids
-  pub sourced : All (IsSourced ids) (words_in rounds sent)
-  pub ran_twice : IsTrue still → 2 ≤ rounds
+-- a ring is still: at least four rounds have run, none of the last three held a node or changed a word, and the last one changed no state
+pub record IsStill (s : Signalling) : Type 0 where
+  pub four : 4 ≤ s.rounds
+  pub words : s.unchanged ≡ 3
+  pub states : IsTrue s.steady
+
+-- each of the last rounds, so many, came after another one, held no node and changed no word
+abbrev pub WereUnchanged : ℕ → Signals → Type 0
+WereUnchanged zero now = ⊤
+WereUnchanged (suc k) now = (before : Signals) × (needs : List Needs) × ChangesNoWord needs before × (now ≡ free_round needs before) × WereUnchanged k before
+
+-- What a ring keeps: the identifiers are those of a ring, each position has a state, words and filters, and each word that was sent has
+-- its source in the ring. So many rounds, less than all, left the words as they were.
+pub record IsRing (ring : Signals) (rounds unchanged : ℕ) : Type 0 where
+  pub ids_ok : AreIds ring.ids
+  pub states_len : length ring.states ≡ length ring.ids
+  pub words_len : length ring.words ≡ length ring.ids
+  pub filters_len : length ring.filters ≡ length ring.ids
+  pub sourced : All (IsSourced ring.ids) ring.words
+  pub few : unchanged ≤ 3
+  pub ran : unchanged ≤ rounds - 1
+  pub were : WereUnchanged unchanged ring

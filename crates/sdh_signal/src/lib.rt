@@ -1,20 +1,21 @@
-//! Signalling without frames: a ring whose nodes send each other K words, one on each side in each round, and hear them one
-//! round later. `sdh_settling` has the definition of a round, and the law that a still ring is in the settled states.
+//! Signalling without frames: a ring whose nodes send each other K words, one on each side in each round. A word comes in one
+//! round later, and counts where three rounds in a row brought it. `sdh_settling` has the definition of a round, and the law
+//! that a still ring is in the settled states.
 #![tactic(auto)]
 
-ghost use Rattle.std.specs.Prelude.{◌≡◌, ◌≢◌, ◌↔◌, ℕ, ◌+◌, ◌≤◌, ◌<◌, ◌-◌, ◌^◌, min, length, All, IfOk, IsTrue, Some, slice_get};
+ghost use Rattle.std.specs.Prelude.{◌≡◌, ◌≢◌, ◌↔◌, ℕ, ◌+◌, ◌≤◌, ◌<◌, ◌-◌, ◌^◌, min, nat_lt, if◌then◌else◌, [], length, All, IfOk, IsTrue, Some, slice_get};
 ghost use Rattle.sdh_basics.specs.Cells.{cells};
 ghost use Rattle.sdh_nodestate.specs.Conditions.{MayNeed};
+ghost use Rattle.sdh_nodestate.specs.Words.{first_words};
 ghost use Rattle.sdh_restoration.specs.Settled.{settled_states};
-ghost use Rattle.sdh_settling.specs.Signals.{round, requests_in};
-ghost use Rattle.sdh_signal.specs.SignalRing.{new_ring, IsStill, words_in};
+ghost use Rattle.sdh_settling.specs.Signals.{no_filters, round, requests_in};
+ghost use Rattle.sdh_signal.specs.SignalRing.{new_ring, NoneHeld, LeavesWords, IsStill};
 
 mod nodes;
 
-use crate::nodes::{are_sent, step_all};
-use sdh_kbytes::{Code, K, Mark, Path};
-use sdh_nodestate::{Needs, NodeState, Sent, start};
-use sdh_ringmap::{Pos, RingMap};
+use crate::nodes::{Hearing, hear_all, is_free, step_all};
+use sdh_nodestate::{Needs, NodeState, Sent, first_word, start};
+use sdh_ringmap::{Pos, RingMap, Side};
 use std::alloc::{AllocError, Global};
 use std::marker::Model;
 
@@ -24,19 +25,20 @@ pub struct SignalRing {
     map: RingMap,
     states: Vec<NodeState>,
     sent: Vec<Sent>,
-    before: Vec<Sent>,
+    filters: Vec<Hearing>,
     rounds: u64,
-    still: bool,
+    unchanged: u8,
+    steady: bool,
 }
 
 impl Model for SignalRing {
-    ghost use Rattle.sdh_signal.specs.SignalRing.{Signalling, words_in, IsRing};
+    ghost use Rattle.sdh_signal.specs.SignalRing.{Signalling, ring_of, IsRing};
 
     ghost Value = { Signalling };
 
-    ghost view = { λ a. record { ring = record { ids = a.map; states = a.states.items; words = words_in a.rounds a.sent.items }; rounds = a.rounds; still = a.still } };
+    ghost view = { λ a. record { ring = ring_of a.map a.states.items a.sent.items a.filters.items a.rounds; rounds = a.rounds; unchanged = a.unchanged; steady = a.steady } };
 
-    ghost invariant = { λ a. IsRing a.map a.states.items a.sent.items a.before.items a.rounds a.still };
+    ghost invariant = { λ a. IsRing (ring_of a.map a.states.items a.sent.items a.filters.items a.rounds) a.rounds a.unchanged };
 }
 
 /// So many idle nodes.
@@ -50,81 +52,112 @@ fn idle_states(alloc: Global, count: usize) -> Result<Vec<NodeState>, AllocError
     Ok(states)
 }
 
-/// Room for the words of so many nodes.
-fn room(alloc: Global, count: usize) -> Result<Vec<Sent>, AllocError>
-    ensures { IfOk result (λ v. length v.items ≡ count) }
+/// The words of new nodes.
+fn first_words(alloc: Global, map: &RingMap) -> Result<Vec<Sent>, AllocError>
+    ensures { IfOk result (λ v. v.items ≡ cells (first_words map.now) (length map.now)) }
 {
-    let word = K {
-        code: Code::Nr,
-        to: 0,
-        from: 0,
-        path: Path::Short,
-        mark: Mark::Idle,
-    };
-    Ok(vec![in alloc; Sent {
-        west: word,
-        east: word
-    }; count]?)
+    let count = map.len();
+    let mut words = Vec::with_capacity(alloc, count)?;
+    for i in 0..count {
+        let at = Pos(i as u8);
+        words.push(Sent {
+            west: first_word(map, at, Side::West),
+            east: first_word(map, at, Side::East),
+        })?;
+    }
+    Ok(words)
 }
 
-/// The words of the last round, from the room for them.
-fn words_in(rounds: u64, room: &[Sent]) -> &[Sent]
-    ensures { result.now ≡ words_in rounds room.now }
+/// The filters of so many nodes to which nothing was brought.
+fn empty_filters(alloc: Global, count: usize) -> Result<Vec<Hearing>, AllocError>
+    ensures { IfOk result (λ v. v.items ≡ cells (λ p. no_filters) count) }
 {
-    if rounds == 0 { &[] } else { room }
+    let mut filters = Vec::with_capacity(alloc, count)?;
+    for _ in 0..count {
+        filters.push(Hearing::new())?;
+    }
+    Ok(filters)
 }
 
-/// Whether the words are those of the round before, if there was one.
-fn is_same_as(rounds: u64, sent: &[Sent], before: &[Sent]) -> bool
-    requires { length sent.now ≡ length before.now }
-    ensures { IsTrue result ↔ ((0 < rounds) × (sent.now ≡ before.now)) }
+/// The words that are on their way: before the first round none was sent.
+fn on_their_way(rounds: u64, sent: &[Sent]) -> &[Sent]
+    ensures { result.now ≡ (if nat_lt 0 rounds then sent.now else []) }
 {
-    rounds > 0 && are_sent(sent, before)
+    if rounds > 0 { sent } else { &[] }
+}
+
+/// Whether a round after so many others held no node, and words stayed the same.
+fn leaves_words(rounds: u64, held: &[bool], words: bool) -> bool
+    ensures { IsTrue result ↔ ((0 < rounds) × NoneHeld held.now × IsTrue words) }
+{
+    rounds > 0 && is_free(held) && words
+}
+
+/// One more, up to 3, where that goes on.
+fn counted(count: u8, goes_on: bool) -> u8
+    requires { count ≤ 3 }
+    ensures { result ≡ (if goes_on then min (count + 1) 3 else 0) }
+{
+    if goes_on { (count + 1).min(3) } else { 0 }
 }
 
 impl SignalRing {
-    /// A ring in which no round has run: all nodes are idle, and nothing was sent.
+    /// A ring in which no round has run: all nodes are new, and nothing was sent.
     pub fn try_new(alloc: Global, map: RingMap) -> Result<SignalRing, AllocError>
         ensures { IfOk result (λ ring. ring ≡ new_ring map) }
     {
         let count = map.len();
         Ok(SignalRing {
             states: idle_states(alloc, count)?,
-            sent: room(alloc, count)?,
-            before: room(alloc, count)?,
+            sent: first_words(alloc, &map)?,
+            filters: empty_filters(alloc, count)?,
             map,
             rounds: 0,
-            still: false,
+            unchanged: 0,
+            steady: false,
         })
     }
 
-    /// One round: each node hears what its neighbours sent in the round before, or nothing on a failing side and in the
-    /// first round, and steps. `needs` has the needs of each position. It takes no memory.
-    pub fn round(&mut self, needs: &[Needs])
+    /// One round: each node takes what its neighbours sent in the round before, or nothing on a failing side and in the first
+    /// round. Then each node that isn't held steps, by what it hears through its filters. `needs` and `held` have an entry for
+    /// each position. It takes no memory.
+    pub fn round(&mut self, needs: &[Needs], held: &[bool])
         requires needs { length needs.now ≡ length self.old.ring.ids }
+        requires held { length held.now ≡ length self.old.ring.ids }
         requires may { All MayNeed needs.now }
-        ensures ring { self.new.ring ≡ round needs.now self.old.ring }
+        ensures ring { self.new.ring ≡ round needs.now held.now self.old.ring }
         ensures ids { self.new.ring.ids ≡ self.old.ring.ids }
         ensures rounds { self.new.rounds ≡ min (self.old.rounds + 1) (2 ^ 64 - 1) }
-        ensures still { IsTrue self.new.still ↔ IsStill self.old self.new }
+        ensures unchanged { LeavesWords held.now self.old.ring self.new.ring → self.new.unchanged ≡ min (self.old.unchanged + 1) 3 }
+        ensures changed { (LeavesWords held.now self.old.ring self.new.ring → ⊥) → self.new.unchanged ≡ 0 }
+        ensures steady { IsTrue self.new.steady ↔ (self.new.ring.states ≡ self.old.ring.states) }
 
         // A still ring has the settled states for the requests of these needs, with their far ends.
-        ensures settled { IsTrue self.new.still → self.new.ring.states ≡ settled_states (requests_in needs.now) }
+        ensures settled { IsStill self.new → self.new.ring.states ≡ settled_states (requests_in needs.now) }
     {
-        std::mem::swap(&mut self.sent, &mut self.before);
-        let before = words_in(self.rounds, self.before.as_slice());
-        let same = step_all(&self.map, before, needs, &mut self.states, &mut self.sent);
-        let words = is_same_as(self.rounds, self.sent.as_slice(), self.before.as_slice());
-        self.still = same & words;
+        let words = on_their_way(self.rounds, self.sent.as_slice());
+        hear_all(&self.map, words, needs, &mut self.filters);
+        let filters = self.filters.as_slice();
+        let stays = step_all(
+            &self.map,
+            needs,
+            held,
+            filters,
+            &mut self.states,
+            &mut self.sent,
+        );
+        let goes_on = leaves_words(self.rounds, held, stays.words);
+        self.unchanged = counted(self.unchanged, goes_on);
+        self.steady = stays.states;
         self.rounds = self.rounds.saturating_add(1);
     }
 
-    /// Whether at least two rounds have run, and the last one changed no state and no word.
+    /// Whether at least four rounds have run, none of the last three held a node or changed a word, and the last one changed no
+    /// state.
     pub fn is_still(&self) -> bool
-        ensures still { result ≡ self.now.still }
-        ensures two { IsTrue result → 2 ≤ self.now.rounds }
+        ensures { IsTrue result ↔ IsStill self.now }
     {
-        self.still
+        self.unchanged == 3 && self.steady
     }
 
     /// The state at a position.

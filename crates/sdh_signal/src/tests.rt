@@ -1,10 +1,10 @@
-//! Rings of four nodes with identifiers 1 to 4: rounds until still, and the states and words then. Each word is given by its
-//! two bytes.
+//! Rings of four nodes with identifiers 1 to 4, and of two: rounds until still, and the states and words then. Each word is
+//! given by its two bytes.
 ghost use Rattle.std.specs.Prelude.{◌≡◌, ◌≢◌, ◌≤◌, ◌<◌, true, false, length, All, IfSome};
 ghost use Rattle.sdh_nodestate.specs.Conditions.{MayNeed};
 
 use super::*;
-use sdh_kbytes::decode;
+use sdh_kbytes::{Code, decode};
 
 #[derive(Clone, Copy, Debug, PartialEq, Eq)]
 enum Kind {
@@ -18,6 +18,8 @@ enum Kind {
 use Kind::{Idle, Isolated, Pass, SwitchEast, SwitchWest};
 
 type Line = (Kind, (u8, u8), (u8, u8));
+
+const FREE: [bool; 4] = [false; 4];
 
 // The local requests of a node, where no side fails.
 fn asks(west: Code, east: Code) -> Needs
@@ -56,16 +58,17 @@ fn four(one: Needs, two: Needs, three: Needs, four: Needs) -> [Needs; 4]
     [one, two, three, four]
 }
 
-// Rounds with the same needs until the ring is still: how many, or 0 where 40 are too few.
+// Rounds with the same needs and no held node until the ring of four is still: how many, or 0 where 40 are too few.
 fn rounds_until_still(ring: &mut SignalRing, needs: &[Needs]) -> u32
-    requires needs { length needs.now ≡ length ring.old.ring.ids }
+    requires four { length ring.old.ring.ids ≡ 4 }
+    requires needs { length needs.now ≡ 4 }
     requires may { All MayNeed needs.now }
     ensures ids { ring.new.ring.ids ≡ ring.old.ring.ids }
     ensures ran { 1 ≤ ring.new.rounds }
 {
-    ring.round(needs);
+    ring.round(needs, &FREE);
     for count in 2..40 {
-        ring.round(needs);
+        ring.round(needs, &FREE);
         if ring.is_still() {
             return count;
         }
@@ -138,10 +141,14 @@ fn idle_ring(rt: HostRuntime) {
     let mut ring = ring_of_four(rt.alloc()).expect(&rt, "memory for a ring");
     let needs = four(none, none, none, none);
     assert!(rt; !ring.is_still());
-    ring.round(&needs);
+    ring.round(&needs, &FREE);
     assert!(rt; !ring.is_still());
     assert!(rt; has_lines(&ring, idle));
-    ring.round(&needs);
+    ring.round(&needs, &FREE);
+    assert!(rt; !ring.is_still());
+    ring.round(&needs, &FREE);
+    assert!(rt; !ring.is_still());
+    ring.round(&needs, &FREE);
     assert!(rt; ring.is_still());
     assert!(rt; has_lines(&ring, idle));
 }
@@ -162,7 +169,7 @@ fn requests_of_at_least_a_signal_failure(rt: HostRuntime) {
         (Pass, (0xb3, 0x2a), (0xb2, 0x3a)),
     ];
     let count = stills(rt.alloc(), four(none, east, west, none), lines);
-    assert!(rt; matches!(count, Some(2..=11)));
+    assert!(rt; matches!(count, Some(4..=21)));
 
     // two spans that don't meet
     let lines = [
@@ -200,7 +207,7 @@ fn requests_of_at_least_a_signal_failure(rt: HostRuntime) {
     ];
     let degraded = asks(Code::Sd, Code::Nr);
     let count = stills(rt.alloc(), four(west, none, degraded, east), lines);
-    assert!(rt; matches!(count, Some(2..=11)));
+    assert!(rt; matches!(count, Some(4..=21)));
 }
 
 #[test]
@@ -224,4 +231,67 @@ fn a_tie_and_its_end(rt: HostRuntime) {
     assert!(rt; has_lines(&ring, tie));
     assert!(rt; rounds_until_still(&mut ring, &four(none, none, none, manual)) > 0);
     assert!(rt; has_lines(&ring, alone));
+}
+
+// The needs of a ring of two.
+fn two(one: Needs, two: Needs) -> [Needs; 2]
+    requires one { MayNeed one }
+    requires two { MayNeed two }
+    ensures { All MayNeed result }
+{
+    [one, two]
+}
+
+fn ring_of_two(alloc: Global) -> Option<SignalRing>
+    ensures { IfSome result (λ ring. length ring.ring.ids ≡ 2) }
+{
+    let map = RingMap::new(&[1, 2]).ok()?;
+    SignalRing::try_new(alloc, map).ok()
+}
+
+#[test]
+fn two_rounds_without_a_change_are_too_few(rt: HostRuntime) {
+    let none = asks(Code::Nr, Code::Nr);
+    let mut ring = ring_of_two(rt.alloc()).expect(&rt, "memory for a ring");
+    ring.round(&two(none, none), &[false; 2]);
+    let failing = two(none, fails(false, true));
+    ring.round(&failing, &[false; 2]);
+    ring.round(&failing, &[false; 2]);
+    assert!(rt; !ring.is_still());
+    ring.round(&failing, &[false; 2]);
+    assert!(rt; !ring.is_still());
+    // the other end of the span that fails hasn't heard of it
+    assert!(rt; has_line(&ring, 0, (Idle, (0x02, 0x10), (0x02, 0x10))));
+    assert!(rt; has_line(&ring, 1, (SwitchEast, (0xb1, 0x29), (0xb1, 0x26))));
+    ring.round(&failing, &[false; 2]);
+    assert!(rt; has_line(&ring, 0, (SwitchWest, (0x12, 0x12), (0xb2, 0x1a))));
+}
+
+#[test]
+fn a_held_node_in_the_last_three_rounds(rt: HostRuntime) {
+    let none = asks(Code::Nr, Code::Nr);
+    let degraded = asks(Code::Sd, Code::Nr);
+    let mut ring = ring_of_two(rt.alloc()).expect(&rt, "memory for a ring");
+    ring.round(&two(degraded, none), &[false; 2]);
+    ring.round(&two(degraded, fails(false, true)), &[false, true]);
+    ring.round(&two(degraded, none), &[false; 2]);
+    ring.round(&two(degraded, none), &[false; 2]);
+    // no round after the first changed a word
+    assert!(rt; has_line(&ring, 1, (Idle, (0x01, 0x20), (0x01, 0x20))));
+    assert!(rt; !ring.is_still());
+    ring.round(&two(degraded, none), &[false; 2]);
+    assert!(rt; !has_line(&ring, 1, (Idle, (0x01, 0x20), (0x01, 0x20))));
+}
+
+#[test]
+fn a_held_node_keeps_its_state_and_words(rt: HostRuntime) {
+    let none = asks(Code::Nr, Code::Nr);
+    let needs = four(none, fails(false, true), fails(true, false), none);
+    let mut ring = ring_of_four(rt.alloc()).expect(&rt, "memory for a ring");
+    ring.round(&needs, &[false, true, false, false]);
+    assert!(rt; has_line(&ring, 1, (Idle, (0x01, 0x20), (0x03, 0x20))));
+    ring.round(&needs, &FREE);
+    assert!(rt; has_line(&ring, 1, (SwitchEast, (0xb3, 0x29), (0xb3, 0x26))));
+    ring.round(&four(none, none, none, none), &[false, true, false, false]);
+    assert!(rt; has_line(&ring, 1, (SwitchEast, (0xb3, 0x29), (0xb3, 0x26))));
 }
