@@ -68,6 +68,18 @@ impl FailingPlant {
         })
     }
 
+    /// How many calls of this kind there were.
+    pub fn calls(&self, call: PlantCall) -> u64
+        ensures { result ≡ made call self.now.calls }
+    {
+        match call {
+            PlantCall::Prepare => self.prepares,
+            PlantCall::Apply => self.applies,
+            PlantCall::Send => self.sends,
+            PlantCall::Receive => self.receives,
+        }
+    }
+
     // Counts a call, and answers its number among those of its kind.
     fn count(&mut self, call: PlantCall) -> u64
         ensures number { result ≡ one_more (made call self.old.calls) }
