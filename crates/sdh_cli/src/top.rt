@@ -49,6 +49,12 @@ pub fn sdhring<R: Source, W: Sink, P: Plant>(
     ensures read_fault { result ≡ Status.ReadFault → Rose (R.faults source.old) (R.faults source.new) }
     ensures plant_fault { result ≡ Status.PlantFault → Rose (P.faults plant.old) (P.faults plant.new) }
     ensures write_fault { result ≡ Status.WriteFault → Rose (W.faults sink.old) (W.faults sink.new) }
+
+    // Where an object's count is exact, a call of it failed only with its own fault, or with a write fault in that one's place.
+    ensures reads { result ≢ Status.ReadFault → result ≢ Status.WriteFault → R.exact ≡ true → R.faults source.new ≡ R.faults source.old }
+    ensures writes { result ≢ Status.WriteFault → W.exact ≡ true → W.faults sink.new ≡ W.faults sink.old }
+    ensures calls { result ≢ Status.PlantFault → result ≢ Status.WriteFault → P.exact ≡ true → P.faults plant.new ≡ P.faults plant.old }
+
     ensures memory { result ≡ Status.Memory → (sink.new ≡ sink.old) × (P.fibres plant.new ≡ P.fibres plant.old) }
     ensures read_whole { result ≡ Status.Ok → HasRead (asked (words_of words.now)) (R.left source.new) }
     ensures later { (R.faults source.old ≤ R.faults source.new) × (W.faults sink.old ≤ W.faults sink.new) × (P.faults plant.old ≤ P.faults plant.new) }

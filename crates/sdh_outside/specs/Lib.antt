@@ -1,4 +1,3 @@
-pub mod Counts
 pub mod Adapted
 pub mod Memory
 pub mod Reading

@@ -1,9 +1,8 @@
 //! A sink in memory, whose calls fail by a list.
-ghost use Rattle.std.specs.Prelude.{◌≡◌, ◌⊎◌, ◌-◌, ◌<◌, ◌↔◌, ◌++◌, min, [], Some, IfOk, IsErr, OnErr, Contains, length, take};
+ghost use Rattle.std.specs.Prelude.{◌≡◌, true, ◌⊎◌, ◌-◌, ◌<◌, ◌↔◌, ◌++◌, min, [], Some, IfOk, IsErr, OnErr, Contains, length, take};
 ghost use Rattle.std.specs.Io.{WritesAtMost};
 ghost use Rattle.std.specs.Io.KnownBytes.{WriteAppends};
-ghost use Rattle.sdh_basics.specs.Causes.{HasCause};
-ghost use Rattle.sdh_outside.specs.Counts.{one_more};
+ghost use Rattle.sdh_basics.specs.Causes.{HasCause, one_more};
 
 use crate::calls::is_among;
 use crate::sink::Sink;
@@ -81,11 +80,13 @@ impl Sink for MemSink {
 
     ghost faults = { λ s. s.faults };
 
+    ghost exact = { true };
+
     fn write(&mut self, buf: &[u8]) -> Result<usize, Failed>
         ensures bound { WritesAtMost result buf.now }
         ensures some { IfOk result (λ n. 0 < length buf.now → 0 < n) }
         ensures bytes { WriteAppends (Some self.old.bytes) (Some self.new.bytes) result buf.now }
-        ensures cause { HasCause self.old.faults self.new.faults result }
+        ensures cause { HasCause true self.old.faults self.new.faults result }
 
         ensures fails { IsErr result ↔ (Contains self.old.failing (one_more self.old.calls) ⊎ ((0 < length buf.now) × (self.old.room ≡ 0))) }
         ensures count { IfOk result (λ n. n ≡ min (min self.old.piece (length buf.now)) self.old.room) }

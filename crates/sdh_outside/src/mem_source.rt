@@ -1,9 +1,8 @@
 //! A source in memory, whose calls fail by a list.
-ghost use Rattle.std.specs.Prelude.{◌≡◌, ◌<◌, ◌↔◌, ◌++◌, min, Some, None, IfOk, IsErr, OnOk, OnErr, Contains, length, take, drop};
+ghost use Rattle.std.specs.Prelude.{◌≡◌, true, ◌<◌, ◌↔◌, ◌++◌, min, Some, None, IfOk, IsErr, OnOk, OnErr, Contains, length, take, drop};
 ghost use Rattle.std.specs.Io.{ReadsAtMost};
 ghost use Rattle.std.specs.Io.KnownBytes.{ReadConsumes};
-ghost use Rattle.sdh_basics.specs.Causes.{HasCause};
-ghost use Rattle.sdh_outside.specs.Counts.{one_more};
+ghost use Rattle.sdh_basics.specs.Causes.{HasCause, one_more};
 
 use crate::calls::is_among;
 use crate::source::{Failed, Source};
@@ -77,10 +76,12 @@ impl Source for MemSource {
 
     ghost faults = { λ s. s.faults };
 
+    ghost exact = { true };
+
     fn read(&mut self, buf: &mut [u8]) -> Result<usize, Failed>
         ensures bound { ReadsAtMost result buf.new }
         ensures bytes { ReadConsumes (Some self.old.left) (Some self.new.left) result buf.new }
-        ensures cause { HasCause self.old.faults self.new.faults result }
+        ensures cause { HasCause true self.old.faults self.new.faults result }
 
         ensures fails { IsErr result ↔ Contains self.old.failing (one_more self.old.calls) }
         ensures count { IfOk result (λ n. n ≡ min (min self.old.piece (length buf.old)) (length self.old.left)) }

@@ -1,7 +1,7 @@
 //! Reading a source to its end.
 ghost use Rattle.std.specs.Prelude.{◌≡◌, ◌+◌, ◌<◌, ◌≤◌, ◌⊎◌, IfOk, IsOk, IsErrOf, OnOk, OnErr, Err, length, take, vec_len};
 ghost use Rattle.std.specs.Io.KnownBytes.{Consumes, IsAtEnd};
-ghost use Rattle.sdh_basics.specs.Causes.{HasCause, Rose};
+ghost use Rattle.sdh_basics.specs.Causes.{HasCause, Rose, IsCounted};
 ghost use Rattle.sdh_outside.specs.Reading.{TakesCount, TakesFewer, TellsAtMost};
 
 use crate::source::{Failed, Source};
@@ -38,7 +38,7 @@ fn fill<R: Source>(source: &mut R, buf: &mut [u8]) -> Result<usize, Failed>
     ensures took { IfOk result (λ count. Consumes (R.left source.old) (R.left source.new) (take count buf.new)) }
     ensures end { IfOk result (λ count. count < length buf.new → IsAtEnd (R.left source.new)) }
     ensures failed { OnErr result (TakesFewer (R.left source.old) (R.left source.new) (length buf.new)) }
-    ensures cause { HasCause (R.faults source.old) (R.faults source.new) result }
+    ensures cause { HasCause R.exact (R.faults source.old) (R.faults source.new) result }
 {
     let mut taken = 0;
     while taken < buf.len() {
@@ -66,6 +66,9 @@ pub fn read_all<R: Source>(alloc: Global, source: &mut R) -> Result<Vec<u8>, Rea
     // At most `READ_MAX` bytes left and no fault: Ok, or no memory.
     ensures complete { TellsAtMost (R.left source.old) READ_MAX → ¬ (Rose (R.faults source.old) (R.faults source.new)) → IsOk result ⊎ IsErrOf result ReadAllError.Memory }
     ensures later { R.faults source.old ≤ R.faults source.new }
+
+    // Where the count is exact: one read failed with a fault, and none with any other answer.
+    ensures counted { IsCounted R.exact (IsErrOf result ReadAllError.ReadFault) (R.faults source.old) (R.faults source.new) }
 {
     let Ok(mut bytes) = zeros(alloc, READ_MAX + 1) else {
         return Err(ReadAllError::Memory);

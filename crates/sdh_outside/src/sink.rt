@@ -1,11 +1,11 @@
 //! Sinks of bytes.
-ghost use Rattle.std.specs.Prelude.{◌≡◌, ◌<◌, ℕ, List, Option, None, IfOk, MatchResult, length};
+ghost use Rattle.std.specs.Prelude.{◌≡◌, ◌≢◌, ◌<◌, ◌⊎◌, ℕ, [], List, Option, None, Ok, IsErr, IfOk, OnErr, MatchResult, Bool, true, length};
 ghost use Rattle.std.specs.Io.{WritesAtMost};
 ghost use Rattle.std.specs.Io.KnownBytes.{WriteAppends};
-ghost use Rattle.sdh_basics.specs.Causes.{HasCause};
-ghost use Rattle.sdh_outside.specs.Counts.{one_more};
+ghost use Rattle.sdh_basics.specs.Causes.{HasCause, one_more};
 
 use crate::source::Failed;
+use std::io;
 use std::io::Write;
 use std::marker::Model;
 
@@ -17,13 +17,29 @@ pub trait Sink {
     /// How often a call has failed. It never falls, and stands still at its type's end.
     ghost faults: { Self → ℕ };
 
+    /// The count rises by one with each call that fails, and with nothing else.
+    ghost exact: { Bool };
+
     /// Takes some bytes from the front of the piece, and answers how many: at least one of a piece that
     /// isn't empty.
     fn write(&mut self, buf: &[u8]) -> Result<usize, Failed>
         ensures bound { WritesAtMost result buf.now }
         ensures some { IfOk result (λ n. 0 < length buf.now → 0 < n) }
         ensures bytes { WriteAppends (written self.old) (written self.new) result buf.now }
-        ensures cause { HasCause (faults self.old) (faults self.new) result };
+        ensures cause { HasCause exact (faults self.old) (faults self.new) result };
+}
+
+// What a writer's answer to a piece is to a sink: its error is a fault, and so is that it took nothing of a piece that isn't
+// empty.
+fn write_answer(answer: io::Result<usize>, piece: &[u8]) -> Result<usize, Failed>
+    ensures ok { IfOk answer (λ count. (0 < count) ⊎ (piece.now ≡ []) → result ≡ Ok count) }
+    ensures none { IfOk answer (λ count. count ≡ 0 → piece.now ≢ [] → IsErr result) }
+    ensures err { OnErr answer (IsErr result) }
+{
+    match answer {
+        Ok(count) if count > 0 || piece.is_empty() => Ok(count),
+        _ => Err(Failed),
+    }
 }
 
 /// A writer of std as a sink, as standard output. It tells no bytes, and counts as a fault each error of
@@ -56,21 +72,21 @@ impl<T: Write + Drop> Sink for StdSink<T> {
 
     ghost faults = { λ s. s.faults };
 
+    ghost exact = { true };
+
     fn write(&mut self, buf: &[u8]) -> Result<usize, Failed>
         ensures bound { WritesAtMost result buf.now }
         ensures some { IfOk result (λ n. 0 < length buf.now → 0 < n) }
         ensures bytes { WriteAppends None None result buf.now }
-        ensures cause { HasCause self.old.faults self.new.faults result }
+        ensures cause { HasCause true self.old.faults self.new.faults result }
 
         ensures passed { WriteAppends self.old.known self.new.known result buf.now }
         ensures count { MatchResult result (λ _. self.new.faults ≡ self.old.faults) (λ _. self.new.faults ≡ one_more self.old.faults) }
     {
-        match self.writer.write(buf) {
-            Ok(count) if count > 0 || buf.is_empty() => Ok(count),
-            _ => {
-                self.faults = self.faults.saturating_add(1);
-                Err(Failed)
-            }
+        let answer = write_answer(self.writer.write(buf), buf);
+        if answer.is_err() {
+            self.faults = self.faults.saturating_add(1);
         }
+        answer
     }
 }

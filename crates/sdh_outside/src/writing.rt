@@ -1,7 +1,7 @@
 //! Writing a text whole.
-ghost use Rattle.std.specs.Prelude.{◌≡◌, ◌≤◌, [], OnOk, OnErr, IsOk};
+ghost use Rattle.std.specs.Prelude.{◌≡◌, ◌≤◌, [], OnOk, OnErr, IsOk, IsErr};
 ghost use Rattle.std.specs.Io.KnownBytes.{Appends};
-ghost use Rattle.sdh_basics.specs.Causes.{Rose};
+ghost use Rattle.sdh_basics.specs.Causes.{Rose, IsCounted};
 ghost use Rattle.sdh_outside.specs.Writing.{AppendsFewer};
 
 use crate::sink::Sink;
@@ -20,6 +20,9 @@ pub fn write_text<W: Sink>(sink: &mut W, text: &[u8]) -> Result<(), WriteFault>
     ensures front { OnErr result (AppendsFewer (W.written sink.old) (W.written sink.new) text.now) }
     ensures empty { text.now ≡ [] → IsOk result × (sink.new ≡ sink.old) }
     ensures later { W.faults sink.old ≤ W.faults sink.new }
+
+    // Where the count is exact: one write failed with a fault, and none with Ok.
+    ensures counted { IsCounted W.exact (IsErr result) (W.faults sink.old) (W.faults sink.new) }
 {
     let mut sent = 0;
     while sent < text.len() {

@@ -1,9 +1,12 @@
 -- The plants in memory.
-use Rattle.std.specs.Prelude.{ℕ, ◌*◌, true, false, Some, None, List, map, replicate}
+use Rattle.std.specs.Prelude.{ℕ, ◌*◌, true, false, Some, None, List, map, replicate, Contains}
+use Rattle.sdh_basics.specs.Causes.{one_more}
 use Rattle.sdh_frame.specs.declared.Rate.{Rate}
 use Rattle.sdh_frame.specs.Sizes.{Frame}
 use Rattle.sdh_plant.specs.declared.plant.Condition.{Condition}
 use Rattle.sdh_plant.specs.declared.plant.Condition.TheVariants.{Clear}
+use Rattle.sdh_plant.specs.declared.failing_plant.PlantCall.{PlantCall}
+use Rattle.sdh_plant.specs.declared.failing_plant.PlantCall.TheVariants.{Prepare, Apply, Send, Receive}
 use Rattle.sdh_plant.specs.Fibres.{Arrival, Fibres}
 
 -- honest fibres that tell nothing
@@ -40,3 +43,43 @@ pub record HeldTold : Type 0 where
 
 abbrev pub told_of : HeldTold → Fibres
 told_of h = record (fibres_of h.fibres) { told = Some h.told; honest = false }
+
+-- how many calls of each kind were made
+pub record CallsMade : Type 0 where
+  pub prepares : ℕ
+  pub applies : ℕ
+  pub sends : ℕ
+  pub receives : ℕ
+
+abbrev pub made : PlantCall → CallsMade → ℕ
+made Prepare c = c.prepares
+made Apply c = c.applies
+made Send c = c.sends
+made Receive c = c.receives
+
+abbrev pub with_one_more : PlantCall → CallsMade → CallsMade
+with_one_more Prepare c = record c { prepares = one_more c.prepares }
+with_one_more Apply c = record c { applies = one_more c.applies }
+with_one_more Send c = record c { sends = one_more c.sends }
+with_one_more Receive c = record c { receives = one_more c.receives }
+
+-- fibres of which some calls fail
+pub record HeldFailing : Type 0 where
+  pub fibres : HeldFibres
+  -- the calls that fail, by their kind and by their number among those of the kind, counted from 1
+  pub failing : List (PlantCall × ℕ)
+  pub calls : CallsMade
+  -- how many of the calls failed
+  pub faults : ℕ
+
+-- the next call of this kind is one of those that fail
+abbrev pub IsFailing : PlantCall → HeldFailing → Type 0
+IsFailing call h = Contains h.failing (call, one_more (made call h.calls))
+
+-- a call of this kind was made, and it did nothing
+abbrev pub called : PlantCall → HeldFailing → HeldFailing
+called call h = record h { calls = with_one_more call h.calls }
+
+-- it failed
+abbrev pub refused : PlantCall → HeldFailing → HeldFailing
+refused call h = record (called call h) { faults = one_more h.faults }

@@ -1,6 +1,6 @@
 //! Honest fibres in memory.
-ghost use Rattle.std.specs.Prelude.{◌≡◌, ◌*◌, ◌<◌, ◌≤◌, Some, None, Ok, IfOk, IsOk, OnOk, OnErr, IsOkUnless, IsErrOf, All, length, replicate, slice_set, refl};
-ghost use Rattle.sdh_basics.specs.Causes.{Rose, HasCause};
+ghost use Rattle.std.specs.Prelude.{◌≡◌, true, ◌*◌, ◌<◌, ◌≤◌, Some, None, Ok, IfOk, IsOk, OnOk, OnErr, IsOkUnless, IsErrOf, All, length, replicate, slice_set, refl};
+ghost use Rattle.sdh_basics.specs.Causes.{Rose, IsCounted, HasCause};
 ghost use Rattle.sdh_frame.specs.Sizes.{n_of};
 ghost use Rattle.sdh_plant.specs.declared.plant.Condition.TheVariants.{Clear};
 ghost use Rattle.sdh_plant.specs.Fibres.{HasNoFibres, IsConditionAt, fibre, fibre_to};
@@ -204,6 +204,8 @@ impl Plant for FibrePlant {
 
     ghost faults = { λ _. 0 };
 
+    ghost exact = { true };
+
     fn prepare(&mut self, alloc: Global, rate: Rate, nodes: usize) -> Result<(), PrepareError>
         requires fresh { HasNoFibres (fibres_of self.old) }
         requires enough { 2 ≤ nodes }
@@ -211,6 +213,7 @@ impl Plant for FibrePlant {
         ensures ok { OnOk result (fibres_of self.new ≡ prepared rate nodes (fibres_of self.old)) }
         ensures err { OnErr result (fibres_of self.new ≡ fibres_of self.old) }
         ensures failed { IsErrOf result PrepareError.Failed → Rose 0 0 }
+        ensures counted { IsCounted true (IsErrOf result PrepareError.Failed) 0 0 }
         ensures later { 0 ≤ 0 }
 
         ensures never_fails { IsOkUnless result PrepareError.Memory }
@@ -224,7 +227,7 @@ impl Plant for FibrePlant {
         requires condition { IsConditionAt (fibres_of self.old).rate event.condition }
         ensures ok { OnOk result (fibres_of self.new ≡ after_apply (fibres_of self.old) event.at.0 event.side event.condition) }
         ensures err { OnErr result (fibres_of self.new ≡ fibres_of self.old) }
-        ensures cause { HasCause 0 0 result }
+        ensures cause { HasCause true 0 0 result }
 
         ensures never_fails { IsOk result }
     {
@@ -237,7 +240,7 @@ impl Plant for FibrePlant {
         requires rate { frame.now.rate ≡ (fibres_of self.old).rate }
         ensures ok { OnOk result (fibres_of self.new ≡ after_send (fibres_of self.old) at.0 side frame.now.bytes) }
         ensures err { OnErr result (fibres_of self.new ≡ fibres_of self.old) }
-        ensures cause { HasCause 0 0 result }
+        ensures cause { HasCause true 0 0 result }
 
         ensures never_fails { IsOk result }
     {
@@ -253,7 +256,7 @@ impl Plant for FibrePlant {
         ensures dark { result ≡ Ok Arrived.Dark → frame.new ≡ frame.old }
         ensures rate { frame.new.rate ≡ frame.old.rate }
         ensures err { OnErr result (fibres_of self.new ≡ fibres_of self.old) }
-        ensures cause { HasCause 0 0 result }
+        ensures cause { HasCause true 0 0 result }
 
         ensures never_fails { IsOk result }
     {

@@ -1,6 +1,7 @@
 //! The fibres between the nodes of a ring: what a ring asks of them, and fibres in memory.
 #![tactic(auto)]
 
+mod failing_plant;
 mod fibre_plant;
 mod frames;
 mod laws;
@@ -10,6 +11,7 @@ mod recording_plant;
 mod tests;
 mod told_plant;
 
+pub use failing_plant::{FailingPlant, PlantCall};
 pub use fibre_plant::FibrePlant;
 pub use laws::{
     a_new_plant_is_dark, an_honest_plant_tells_none, calls_keep_a_plant_honest,

@@ -1,6 +1,6 @@
 //! What a ring asks of its fibres.
-ghost use Rattle.std.specs.Prelude.{◌≡◌, ◌<◌, ◌≤◌, ℕ, true, None, Ok, IfOk, OnOk, OnErr, IsErrOf};
-ghost use Rattle.sdh_basics.specs.Causes.{Rose, HasCause};
+ghost use Rattle.std.specs.Prelude.{◌≡◌, ◌<◌, ◌≤◌, ℕ, Bool, true, None, Ok, IfOk, OnOk, OnErr, IsErrOf};
+ghost use Rattle.sdh_basics.specs.Causes.{Rose, IsCounted, HasCause};
 ghost use Rattle.sdh_plant.specs.Fibres.{Fibres, HasNoFibres, IsConditionAt};
 ghost use Rattle.sdh_plant.specs.Arrivals.{Knows, arrival, as_arrival};
 ghost use Rattle.sdh_plant.specs.Calls.{prepared, after_apply, after_send, after_receive};
@@ -70,6 +70,9 @@ pub trait Plant {
     /// How often a call has failed. It never falls, and stands still at its type's end.
     ghost faults: { Self → ℕ };
 
+    /// The count rises by one with each call that fails, and with nothing else.
+    ghost exact: { Bool };
+
     /// Gives two fibres for each span, all clear and without a frame. All memory of the plant is taken here. Without memory, or
     /// after a failure, there are no fibres, and the call may be made again.
     fn prepare(&mut self, alloc: Global, rate: Rate, nodes: usize) -> Result<(), PrepareError>
@@ -79,6 +82,7 @@ pub trait Plant {
         ensures ok { OnOk result (fibres self.new ≡ prepared rate nodes (fibres self.old)) }
         ensures err { OnErr result (fibres self.new ≡ fibres self.old) }
         ensures failed { IsErrOf result PrepareError.Failed → Rose (faults self.old) (faults self.new) }
+        ensures counted { IsCounted exact (IsErrOf result PrepareError.Failed) (faults self.old) (faults self.new) }
         ensures later { faults self.old ≤ faults self.new };
 
     /// Sets the condition of one fibre.
@@ -87,7 +91,7 @@ pub trait Plant {
         requires condition { IsConditionAt (fibres self.old).rate event.condition }
         ensures ok { OnOk result (fibres self.new ≡ after_apply (fibres self.old) event.at.0 event.side event.condition) }
         ensures err { OnErr result (fibres self.new ≡ fibres self.old) }
-        ensures cause { HasCause (faults self.old) (faults self.new) result };
+        ensures cause { HasCause exact (faults self.old) (faults self.new) result };
 
     /// Sends a frame from a position on a side. The fibre that leaves there carries it in place of the one before.
     fn send(&mut self, at: Pos, side: Side, frame: &FrameBuf) -> Result<(), Failed>
@@ -95,7 +99,7 @@ pub trait Plant {
         requires rate { frame.now.rate ≡ (fibres self.old).rate }
         ensures ok { OnOk result (fibres self.new ≡ after_send (fibres self.old) at.0 side frame.now.bytes) }
         ensures err { OnErr result (fibres self.new ≡ fibres self.old) }
-        ensures cause { HasCause (faults self.old) (faults self.new) result };
+        ensures cause { HasCause exact (faults self.old) (faults self.new) result };
 
     /// Receives at a position on a side what comes out of the fibre that ends there. The fibre carries it still.
     fn receive(&mut self, at: Pos, side: Side, frame: &mut FrameBuf) -> Result<Arrived, Failed>
@@ -106,7 +110,7 @@ pub trait Plant {
         ensures dark { result ≡ Ok Arrived.Dark → frame.new ≡ frame.old }
         ensures rate { frame.new.rate ≡ frame.old.rate }
         ensures err { OnErr result (fibres self.new ≡ fibres self.old) }
-        ensures cause { HasCause (faults self.old) (faults self.new) result };
+        ensures cause { HasCause exact (faults self.old) (faults self.new) result };
 
     /// An honest plant tells no arrivals: what comes is what was sent.
     ghost honest_tells_none: { (p : Self) → (fibres p).honest ≡ true → (fibres p).told ≡ None };

@@ -1,6 +1,6 @@
 //! Honest fibres in memory that also tell what was sent.
-ghost use Rattle.std.specs.Prelude.{◌≡◌, ◌+◌, ◌-◌, ◌^◌, ◌<◌, ◌≤◌, ◌↔◌, [], ◌∷◌, ◌++◌, min, Ok, IfOk, IsOk, IsErr, OnOk, OnErr, IsOkUnless, IsErrOf, All, length, slice_set, refl};
-ghost use Rattle.sdh_basics.specs.Causes.{Rose, HasCause};
+ghost use Rattle.std.specs.Prelude.{◌≡◌, true, ◌+◌, ◌-◌, ◌^◌, ◌<◌, ◌≤◌, ◌↔◌, [], ◌∷◌, ◌++◌, min, Ok, IfOk, IsOk, IsErr, OnOk, OnErr, IsOkUnless, IsErrOf, All, length, slice_set, refl};
+ghost use Rattle.sdh_basics.specs.Causes.{Rose, IsCounted, HasCause, one_more};
 ghost use Rattle.sdh_plant.specs.Fibres.{HasNoFibres, IsConditionAt};
 ghost use Rattle.sdh_plant.specs.Arrivals.{Knows, arrival, as_arrival};
 ghost use Rattle.sdh_plant.specs.Calls.{prepared, after_apply, after_send, after_receive};
@@ -101,6 +101,8 @@ impl Plant for RecordingPlant {
 
     ghost faults = { λ p. p.faults };
 
+    ghost exact = { true };
+
     fn prepare(&mut self, alloc: Global, rate: Rate, nodes: usize) -> Result<(), PrepareError>
         requires fresh { HasNoFibres (recorded_of self.old) }
         requires enough { 2 ≤ nodes }
@@ -108,6 +110,7 @@ impl Plant for RecordingPlant {
         ensures ok { OnOk result (recorded_of self.new ≡ prepared rate nodes (recorded_of self.old)) }
         ensures err { OnErr result (recorded_of self.new ≡ recorded_of self.old) }
         ensures failed { IsErrOf result PrepareError.Failed → Rose self.old.faults self.new.faults }
+        ensures counted { IsCounted true (IsErrOf result PrepareError.Failed) self.old.faults self.new.faults }
         ensures later { self.old.faults ≤ self.new.faults }
 
         ensures never_fails { IsOkUnless result PrepareError.Memory }
@@ -125,7 +128,7 @@ impl Plant for RecordingPlant {
         requires condition { IsConditionAt (recorded_of self.old).rate event.condition }
         ensures ok { OnOk result (recorded_of self.new ≡ after_apply (recorded_of self.old) event.at.0 event.side event.condition) }
         ensures err { OnErr result (recorded_of self.new ≡ recorded_of self.old) }
-        ensures cause { HasCause self.old.faults self.new.faults result }
+        ensures cause { HasCause true self.old.faults self.new.faults result }
 
         ensures never_fails { IsOk result }
         ensures kept { self.new ≡ record self.old { fibres = self.new.fibres } }
@@ -139,11 +142,11 @@ impl Plant for RecordingPlant {
         requires rate { frame.now.rate ≡ (recorded_of self.old).rate }
         ensures ok { OnOk result (recorded_of self.new ≡ after_send (recorded_of self.old) at.0 side frame.now.bytes) }
         ensures err { OnErr result (recorded_of self.new ≡ recorded_of self.old) }
-        ensures cause { HasCause self.old.faults self.new.faults result }
+        ensures cause { HasCause true self.old.faults self.new.faults result }
 
         ensures fails { IsErr result ↔ (length self.old.sent ≡ self.old.room) }
         ensures sent { OnOk result (self.new ≡ record self.old { fibres = self.new.fibres; sent = self.old.sent ++ frame.now ∷ [] }) }
-        ensures counted { OnErr result (self.new ≡ record self.old { faults = min (self.old.faults + 1) (2 ^ 64 - 1) }) }
+        ensures counted { OnErr result (self.new ≡ record self.old { faults = one_more self.old.faults }) }
     {
         if self.sent().len() == self.room {
             self.faults = self.faults.saturating_add(1);
@@ -162,7 +165,7 @@ impl Plant for RecordingPlant {
         ensures dark { result ≡ Ok Arrived.Dark → frame.new ≡ frame.old }
         ensures rate { frame.new.rate ≡ frame.old.rate }
         ensures err { OnErr result (recorded_of self.new ≡ recorded_of self.old) }
-        ensures cause { HasCause self.old.faults self.new.faults result }
+        ensures cause { HasCause true self.old.faults self.new.faults result }
 
         ensures never_fails { IsOk result }
         ensures kept { self.new ≡ self.old }

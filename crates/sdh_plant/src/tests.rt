@@ -4,7 +4,10 @@ ghost use Rattle.sdh_frame.specs.Sizes.{n_of};
 ghost use Rattle.sdh_plant.specs.Fibres.{HasNoFibres};
 ghost use Rattle.sdh_plant.specs.Kept.{IsToldAt};
 
-use crate::{Arrived, Condition, FibreEvent, FibrePlant, Plant, RecordingPlant, Told, ToldPlant};
+use crate::{
+    Arrived, Condition, FailingPlant, FibreEvent, FibrePlant, Plant, PlantCall, PrepareError,
+    RecordingPlant, Told, ToldPlant,
+};
 use sdh_frame::{FrameBuf, Rate};
 use sdh_ringmap::{Pos, Side};
 use std::alloc::{AllocError, Global};
@@ -257,9 +260,53 @@ fn a_span_of_any_plant(rt: HostRuntime) -> Result<(), Fail> {
         assert_eq!(rt; came, Some(0x35));
         let came = over_a_span(rt.alloc(), &mut RecordingPlant::new(1), rate)?;
         assert_eq!(rt; came, Some(0x35));
+        let mut failing = FailingPlant::new(rt.alloc(), &[(PlantCall::Send, 2)])?;
+        let came = over_a_span(rt.alloc(), &mut failing, rate)?;
+        assert_eq!(rt; came, Some(0x35));
         let mut told = ToldPlant::new(rate, three_arrivals(rt.alloc(), rate)?);
         let came = over_a_span(rt.alloc(), &mut told, rate)?;
         assert_eq!(rt; came, Some(1));
     }
+    Ok(())
+}
+
+// Each kind is counted by itself, and a call that fails changes nothing but its count.
+#[test]
+fn a_failing_plant_fails_at_its_calls(rt: HostRuntime) -> Result<(), Fail> {
+    let calls = [
+        (PlantCall::Prepare, 1),
+        (PlantCall::Receive, 2),
+        (PlantCall::Send, 2),
+        (PlantCall::Apply, 1),
+    ];
+    let mut plant = FailingPlant::new(rt.alloc(), &calls)?;
+    let refused = plant.prepare(rt.alloc(), Rate::Four, 2);
+    assert_eq!(rt; refused, Err(PrepareError::Failed));
+    if refused.is_ok() {
+        return Ok(());
+    }
+    plant
+        .prepare(rt.alloc(), Rate::Four, 2)
+        .map_err(|_| "not prepared")?;
+    let mut frame = frame_of(rt.alloc(), Rate::Four, 0)?;
+    assert!(rt; sends(&mut plant, Pos(0), Side::East, &mut frame, 0x35));
+    assert!(rt; !sends(&mut plant, Pos(0), Side::East, &mut frame, 0x36));
+    let cut = FibreEvent {
+        at: Pos(0),
+        side: Side::East,
+        condition: Condition::Cut,
+    };
+    assert!(rt; plant.apply(cut).is_err());
+    let all = [
+        came(&mut plant, Pos(1), Side::West, &mut frame),
+        came(&mut plant, Pos(1), Side::West, &mut frame),
+        came(&mut plant, Pos(1), Side::West, &mut frame),
+    ];
+    assert_eq!(rt; all, [Some(0x35), None, Some(0x35)]);
+    assert!(rt; plant.apply(cut).is_ok());
+    assert_eq!(rt;
+        came(&mut plant, Pos(1), Side::West, &mut frame),
+        Some(DARK)
+    );
     Ok(())
 }

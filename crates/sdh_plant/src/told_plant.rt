@@ -2,7 +2,7 @@
 ghost use Rattle.std.specs.Prelude.{◌≡◌, ◌<◌, ◌≤◌, true, Ok, IfOk, IsOk, OnOk, OnErr, IsOkUnless, IsErrOf, All, length, map, drop};
 ghost use Rattle.std.specs.List.{list_all};
 ghost use Rattle.std.proofs.lemmas.Bool.{false≢true};
-ghost use Rattle.sdh_basics.specs.Causes.{Rose, HasCause};
+ghost use Rattle.sdh_basics.specs.Causes.{Rose, IsCounted, HasCause};
 ghost use Rattle.sdh_frame.specs.Sizes.{size_of};
 ghost use Rattle.sdh_plant.specs.Fibres.{HasNoFibres, IsConditionAt};
 ghost use Rattle.sdh_plant.specs.Arrivals.{Knows, arrival, as_arrival, next_told};
@@ -115,6 +115,8 @@ impl Plant for ToldPlant {
 
     ghost faults = { λ _. 0 };
 
+    ghost exact = { true };
+
     fn prepare(&mut self, alloc: Global, rate: Rate, nodes: usize) -> Result<(), PrepareError>
         requires fresh { HasNoFibres (told_of self.old) }
         requires enough { 2 ≤ nodes }
@@ -122,6 +124,7 @@ impl Plant for ToldPlant {
         ensures ok { OnOk result (told_of self.new ≡ prepared rate nodes (told_of self.old)) }
         ensures err { OnErr result (told_of self.new ≡ told_of self.old) }
         ensures failed { IsErrOf result PrepareError.Failed → Rose 0 0 }
+        ensures counted { IsCounted true (IsErrOf result PrepareError.Failed) 0 0 }
         ensures later { 0 ≤ 0 }
 
         ensures never_fails { IsOkUnless result PrepareError.Memory }
@@ -138,7 +141,7 @@ impl Plant for ToldPlant {
         requires condition { IsConditionAt (told_of self.old).rate event.condition }
         ensures ok { OnOk result (told_of self.new ≡ after_apply (told_of self.old) event.at.0 event.side event.condition) }
         ensures err { OnErr result (told_of self.new ≡ told_of self.old) }
-        ensures cause { HasCause 0 0 result }
+        ensures cause { HasCause true 0 0 result }
 
         ensures never_fails { IsOk result }
     {
@@ -151,7 +154,7 @@ impl Plant for ToldPlant {
         requires rate { frame.now.rate ≡ (told_of self.old).rate }
         ensures ok { OnOk result (told_of self.new ≡ after_send (told_of self.old) at.0 side frame.now.bytes) }
         ensures err { OnErr result (told_of self.new ≡ told_of self.old) }
-        ensures cause { HasCause 0 0 result }
+        ensures cause { HasCause true 0 0 result }
 
         ensures never_fails { IsOk result }
     {
@@ -167,7 +170,7 @@ impl Plant for ToldPlant {
         ensures dark { result ≡ Ok Arrived.Dark → frame.new ≡ frame.old }
         ensures rate { frame.new.rate ≡ frame.old.rate }
         ensures err { OnErr result (told_of self.new ≡ told_of self.old) }
-        ensures cause { HasCause 0 0 result }
+        ensures cause { HasCause true 0 0 result }
 
         ensures never_fails { IsOk result }
     {

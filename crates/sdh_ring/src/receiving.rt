@@ -30,7 +30,7 @@ fn receive_one<P: Plant>(
     ensures node { OnOk result (ReceivesOne (P.fibres plant.old) at.0 side node.old node.new) }
     ensures fixed { fixed node.new ≡ fixed node.old }
     ensures rate { frame.new.rate ≡ frame.old.rate }
-    ensures cause { HasCause (P.faults plant.old) (P.faults plant.new) result }
+    ensures cause { HasCause P.exact (P.faults plant.old) (P.faults plant.new) result }
 {
     let arrived = plant.receive(at, side, frame)?;
     node.receive(side, arrived, frame);
@@ -52,7 +52,7 @@ fn receive_both<P: Plant>(
     ensures node { OnOk result (ReceivesBoth (P.fibres plant.old) at.0 node.old node.new) }
     ensures fixed { fixed node.new ≡ fixed node.old }
     ensures rate { frame.new.rate ≡ frame.old.rate }
-    ensures cause { HasCause (P.faults plant.old) (P.faults plant.new) result }
+    ensures cause { HasCause P.exact (P.faults plant.old) (P.faults plant.new) result }
 {
     receive_one(node, at, Side::West, frame, plant)?;
     receive_one(node, at, Side::East, frame, plant)
@@ -70,7 +70,7 @@ fn receive_all<P: Plant>(
     ensures err { OnErr result (SomeReceive (length nodes.old.items) (P.fibres plant.old) (P.fibres plant.new)) }
     ensures fixed { map fixed nodes.new.items ≡ map fixed nodes.old.items }
     ensures rate { frame.new.rate ≡ frame.old.rate }
-    ensures cause { HasCause (P.faults plant.old) (P.faults plant.new) result }
+    ensures cause { HasCause P.exact (P.faults plant.old) (P.faults plant.new) result }
 {
     'receives: for i in 0..nodes.len() {
         let node = &mut nodes[i];
@@ -93,7 +93,7 @@ pub fn hear<P: Plant>(
     ensures err { OnErr result (SomeReceive (receivers_in rounds (length nodes.old.items)) (P.fibres plant.old) (P.fibres plant.new)) }
     ensures fixed { map fixed nodes.new.items ≡ map fixed nodes.old.items }
     ensures rate { frame.new.rate ≡ frame.old.rate }
-    ensures cause { HasCause (P.faults plant.old) (P.faults plant.new) result }
+    ensures cause { HasCause P.exact (P.faults plant.old) (P.faults plant.new) result }
 {
     if rounds == 0 {
         return Ok(());

@@ -1,6 +1,6 @@
 //! The ring.
-ghost use Rattle.std.specs.Prelude.{◌≡◌, ◌≢◌, ◌↔◌, ℕ, ◌+◌, ◌-◌, ◌*◌, ◌/◌, ◌%◌, ◌^◌, ◌<◌, ◌≤◌, true, false, Some, IfOk, OnOk, OnErr, Err, IsErrOf, IsTrue, All, length, slice_get, if◌then◌else◌};
-ghost use Rattle.sdh_basics.specs.Causes.{Rose};
+ghost use Rattle.std.specs.Prelude.{◌≡◌, ◌≢◌, ◌↔◌, ℕ, ◌+◌, ◌-◌, ◌*◌, ◌/◌, ◌%◌, ◌^◌, ◌<◌, ◌≤◌, true, false, Some, IfOk, OnOk, OnErr, Err, IsErr, IsErrOf, IsTrue, All, length, slice_get, if◌then◌else◌};
+ghost use Rattle.sdh_basics.specs.Causes.{Rose, IsCounted};
 ghost use Rattle.sdh_frame.specs.Sizes.{n_of};
 ghost use Rattle.sdh_squelch.specs.Kept.{KeepsRing};
 ghost use Rattle.sdh_plant.specs.Fibres.{Fibres, IsPrepared, IsHonest};
@@ -227,6 +227,9 @@ impl Ring {
         ensures broken { OnErr result (self.new.broken ≡ true) }
         ensures later { P.faults plant.old ≤ P.faults plant.new }
         ensures failed { OnErr result (Rose (P.faults plant.old) (P.faults plant.new)) }
+
+        // Where the plant's count is exact: one call failed with a fault, and none with Ok.
+        ensures counted { IsCounted P.exact (IsErr result) (P.faults plant.old) (P.faults plant.new) }
     {
         sdh_hearing::whole_rounds_go_as_signals();
         self.broken = true;
@@ -300,6 +303,9 @@ impl Ring {
         ensures broken { result ≡ Err SettleError.PlantFault → self.new.broken ≡ true }
         ensures later { P.faults plant.old ≤ P.faults plant.new }
         ensures failed { result ≡ Err SettleError.PlantFault → Rose (P.faults plant.old) (P.faults plant.new) }
+
+        // Where the plant's count is exact: one call failed with a fault, and none with Ok and with Unsettled.
+        ensures counted { IsCounted P.exact (result ≡ Err SettleError.PlantFault) (P.faults plant.old) (P.faults plant.new) }
     {
         self.has_circuits();
         sdh_world::settled_numbers();

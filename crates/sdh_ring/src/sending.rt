@@ -32,7 +32,7 @@ fn send_both<P: Plant>(
     ensures node { node.new ≡ node_after now.0 node.old }
     ensures west { west.new.rate ≡ west.old.rate }
     ensures east { east.new.rate ≡ east.old.rate }
-    ensures cause { HasCause (P.faults plant.old) (P.faults plant.new) result }
+    ensures cause { HasCause P.exact (P.faults plant.old) (P.faults plant.new) result }
 {
     node.send(now, west, east);
     plant.send(at, Side::West, west)?;
@@ -58,7 +58,7 @@ pub fn send_all<P: Plant>(
     ensures fixed { map fixed nodes.new.items ≡ map fixed nodes.old.items }
     ensures west { west.new.rate ≡ west.old.rate }
     ensures east { east.new.rate ≡ east.old.rate }
-    ensures cause { HasCause (P.faults plant.old) (P.faults plant.new) result }
+    ensures cause { HasCause P.exact (P.faults plant.old) (P.faults plant.new) result }
 {
     'sends: for i in 0..nodes.len() {
         let node = &mut nodes[i];

@@ -1,6 +1,6 @@
 //! A whole run: the room, the ring and the fibres are made, and the script runs.
 ghost use Rattle.std.specs.Prelude.{◌≡◌, ◌+◌, ◌*◌, ◌≤◌, true, length, IfOk, OnErr};
-ghost use Rattle.sdh_basics.specs.Causes.{Rose};
+ghost use Rattle.sdh_basics.specs.Causes.{Rose, IsCounted};
 ghost use Rattle.sdh_plant.specs.Fibres.{HasNoFibres};
 ghost use Rattle.sdh_plant.specs.Arrivals.{Knows};
 ghost use Rattle.sdh_world.specs.Held.{HeldRing};
@@ -57,6 +57,7 @@ fn run_from<P: Plant>(
     ensures room { 96 ≤ result.text.room }
     ensures later { P.faults plant.old ≤ P.faults plant.new }
     ensures failed { result.status ≡ Status.PlantFault → Rose (P.faults plant.old) (P.faults plant.new) }
+    ensures counted { IsCounted P.exact (result.status ≡ Status.PlantFault) (P.faults plant.old) (P.faults plant.new) }
 {
     let status = run_script(&mut ring, plant, steps, limit, listing, &mut text);
     Run { status, text }
@@ -73,6 +74,8 @@ fn run_new<P: Plant>(
     requires listing { MayList (length plan.circuits) listing }
     ensures ran { IfOk result (λ run. Comes plan listing (P.fibres plant.old) run.text.bytes run.status (P.fibres plant.new)) }
     ensures failed { IfOk result (λ run. run.status ≡ Status.PlantFault → Rose (P.faults plant.old) (P.faults plant.new)) }
+    ensures counted { IfOk result (λ run. IsCounted P.exact (run.status ≡ Status.PlantFault) (P.faults plant.old) (P.faults plant.new)) }
+    ensures uncounted { OnErr result (P.exact ≡ true → P.faults plant.new ≡ P.faults plant.old) }
     ensures later { P.faults plant.old ≤ P.faults plant.new }
     ensures room { IfOk result (λ run. 96 ≤ run.text.room) }
     ensures unsent { OnErr result (P.fibres plant.new ≡ P.fibres plant.old) }
@@ -114,6 +117,10 @@ pub fn run_plan<P: Plant>(
 
     // A fault has a cause, and without one a script that settles is done.
     ensures failed { IfOk result (λ run. run.status ≡ Status.PlantFault → Rose (P.faults plant.old) (P.faults plant.new)) }
+
+    // Where the plant's count is exact: one call failed with a fault, and none with any other ending, nor without memory.
+    ensures counted { IfOk result (λ run. IsCounted P.exact (run.status ≡ Status.PlantFault) (P.faults plant.old) (P.faults plant.new)) }
+    ensures uncounted { OnErr result (P.exact ≡ true → P.faults plant.new ≡ P.faults plant.old) }
     ensures complete { IfOk result (λ run. Knows (world_of plan (P.fibres plant.old)).fibres → (ran_of plan (P.fibres plant.old)).ending ≡ Status.Ok → ¬ (Rose (P.faults plant.old) (P.faults plant.new)) → run.status ≡ Status.Ok) }
     ensures later { P.faults plant.old ≤ P.faults plant.new }
     ensures room { IfOk result (λ run. 96 ≤ run.text.room) }

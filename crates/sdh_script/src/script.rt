@@ -1,6 +1,6 @@
 //! A script, step by step.
-ghost use Rattle.std.specs.Prelude.{◌≡◌, ◌+◌, ◌*◌, ◌≤◌, ◌<◌, ◌^◌, ◌++◌, [], ◌∷◌, List, Err, IfOk, IfErr, OnOk, OnErr, false, length};
-ghost use Rattle.sdh_basics.specs.Causes.{Rose, HasCause};
+ghost use Rattle.std.specs.Prelude.{◌≡◌, ◌+◌, ◌*◌, ◌≤◌, ◌<◌, ◌^◌, ◌++◌, [], ◌∷◌, List, Err, IfOk, IfErr, OnOk, OnErr, IsErr, false, length};
+ghost use Rattle.sdh_basics.specs.Causes.{Rose, IsCounted};
 ghost use Rattle.sdh_plant.specs.Fibres.{IsPrepared};
 ghost use Rattle.sdh_world.specs.Rounds.{world};
 ghost use Rattle.sdh_plan.specs.declared.step.Step.{Step};
@@ -24,6 +24,7 @@ fn change<P: Plant>(ring: &mut Ring, plant: &mut P, step: Step, number: u32) -> 
     ensures err { IfErr result (λ how. Refused step (P.fibres plant.old) (P.fibres plant.new) how) }
     ensures later { P.faults plant.old ≤ P.faults plant.new }
     ensures failed { OnErr result (Rose (P.faults plant.old) (P.faults plant.new)) }
+    ensures counted { IsCounted P.exact (IsErr result) (P.faults plant.old) (P.faults plant.new) }
 {
     match step {
         Step::Fibre(event) => plant.apply(event).map_err(|_| Status::PlantFault),
@@ -62,6 +63,7 @@ fn settle<P: Plant>(
     ensures same { OnErr result (text.new ≡ text.old) }
     ensures later { P.faults plant.old ≤ P.faults plant.new }
     ensures failed { result ≡ Err Status.PlantFault → Rose (P.faults plant.old) (P.faults plant.new) }
+    ensures counted { IsCounted P.exact (result ≡ Err Status.PlantFault) (P.faults plant.old) (P.faults plant.new) }
 {
     match ring.settle(plant, limit) {
         Ok(()) => {
@@ -92,6 +94,7 @@ fn run_step<P: Plant>(
     ensures same { OnErr result (text.new ≡ text.old) }
     ensures later { P.faults plant.old ≤ P.faults plant.new }
     ensures failed { result ≡ Err Status.PlantFault → Rose (P.faults plant.old) (P.faults plant.new) }
+    ensures counted { IsCounted P.exact (result ≡ Err Status.PlantFault) (P.faults plant.old) (P.faults plant.new) }
 {
     match step {
         Step::Settle => settle(ring, plant, limit, number, listing, text),
@@ -119,6 +122,9 @@ pub fn run_script<P: Plant>(
     ensures room { 96 ≤ text.new.room }
     ensures later { P.faults plant.old ≤ P.faults plant.new }
     ensures failed { result ≡ Status.PlantFault → Rose (P.faults plant.old) (P.faults plant.new) }
+
+    // Where the plant's count is exact: one call failed with a fault, and none with any other ending.
+    ensures counted { IsCounted P.exact (result ≡ Status.PlantFault) (P.faults plant.old) (P.faults plant.new) }
 {
     let mut number = 0u32;
     'steps: for step in steps {

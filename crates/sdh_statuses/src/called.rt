@@ -6,12 +6,14 @@ use sdh_outside::{MemSink, MemSource};
 use sdh_plant::{FibrePlant, Plant};
 use std::alloc::{AllocError, Global};
 
-/// A source and a sink: how many bytes they give and take at a time, and which of their calls fail, counted from 1.
+/// A source and a sink: how many bytes they give and take at a time, which of their calls fail, counted from 1, and the room of
+/// the sink.
 #[derive(Clone, Copy)]
 pub struct Outside<'a> {
     pub piece: usize,
     pub reads: &'a [u32],
     pub writes: &'a [u32],
+    pub room: usize,
 }
 
 /// No call fails.
@@ -19,6 +21,7 @@ pub const SOUND: Outside<'static> = Outside {
     piece: 64,
     reads: &[],
     writes: &[],
+    room: ROOM,
 };
 
 /// The words of the commands that read a plan, the last of which names no circuit of these tests.
@@ -58,7 +61,7 @@ pub fn call_over<P: Plant>(
     let words = words_of(alloc, words)?;
     let piece = outside.piece.max(1);
     let mut source = MemSource::new(alloc, document, piece, outside.reads)?;
-    let mut sink = MemSink::new(alloc, ROOM, piece, outside.writes)?;
+    let mut sink = MemSink::new(alloc, outside.room, piece, outside.writes)?;
     let status = sdhring(alloc, &words, &mut source, &mut sink, plant);
     Ok((status, sink))
 }

@@ -7,7 +7,7 @@ use crate::called::{
 use crate::plans::{SMALLEST, SMALLEST_REPORT, SMALLEST_TABLES, SMALLEST_TEXT, USAGE};
 use sdh_cli::{Status, sdhring};
 use sdh_outside::{MemSink, MemSource};
-use sdh_plant::{FibrePlant, RecordingPlant};
+use sdh_plant::{FailingPlant, FibrePlant, PlantCall, RecordingPlant};
 use std::test::Fail;
 
 // The plan comes in pieces of 64 bytes, and its end in a read of its own.
@@ -138,5 +138,66 @@ fn fibres_that_fail_are_told(rt: HostRuntime) -> Result<(), Fail> {
         let text = format!(in rt.alloc(); "{reports}plant fault\n")?;
         assert_eq!(rt; sink.bytes(), text.as_bytes(), "{room}");
     }
+    Ok(())
+}
+
+// A ring of three receives 6 frames in each round but the first, and sends 6 in each. A call that is never made doesn't fail.
+#[test]
+fn each_call_of_fibres_that_fails_is_told(rt: HostRuntime) -> Result<(), Fail> {
+    let twice = SMALLEST.replacen(rt.alloc(), "\"settle\"", "\"settle\", \"settle\"", 1)?;
+    let cut = SMALLEST.replacen(rt.alloc(), "\"settle\"", "\"cut 2 east\", \"settle\"", 1)?;
+    let broken = format!(in rt.alloc(); "{SMALLEST_REPORT}plant fault\n")?;
+    for (document, call, status, text) in [
+        (SMALLEST, (PlantCall::Prepare, 1), Status::PlantFault, "plant fault\n"),
+        (SMALLEST, (PlantCall::Prepare, 2), Status::Ok, SMALLEST_TEXT),
+        (SMALLEST, (PlantCall::Send, 1), Status::PlantFault, "plant fault\n"),
+        (SMALLEST, (PlantCall::Send, 5), Status::PlantFault, "plant fault\n"),
+        (SMALLEST, (PlantCall::Send, 774), Status::PlantFault, "plant fault\n"),
+        (SMALLEST, (PlantCall::Send, 775), Status::Ok, SMALLEST_TEXT),
+        (SMALLEST, (PlantCall::Receive, 1), Status::PlantFault, "plant fault\n"),
+        (SMALLEST, (PlantCall::Receive, 768), Status::PlantFault, "plant fault\n"),
+        (SMALLEST, (PlantCall::Receive, 769), Status::Ok, SMALLEST_TEXT),
+        (SMALLEST, (PlantCall::Apply, 1), Status::Ok, SMALLEST_TEXT),
+        (twice.as_str(), (PlantCall::Send, 775), Status::PlantFault, broken.as_str()),
+        (twice.as_str(), (PlantCall::Receive, 769), Status::PlantFault, broken.as_str()),
+        (cut.as_str(), (PlantCall::Apply, 1), Status::PlantFault, "plant fault\n"),
+    ] {
+        let mut plant = FailingPlant::new(rt.alloc(), &[call])?;
+        let (answer, sink) = call_over(rt.alloc(), RUN, document.as_bytes(), SOUND, &mut plant)?;
+        assert_eq!(rt; answer, status, "{call:?}");
+        assert_eq!(rt; sink.bytes(), text.as_bytes(), "{call:?}");
+    }
+    assert_eq!(rt; Status::PlantFault.number(), 8);
+    Ok(())
+}
+
+// The first ten bytes are written.
+#[test]
+fn a_sink_that_fails_has_the_front_of_the_text(rt: HostRuntime) -> Result<(), Fail> {
+    for outside in [
+        Outside {
+            piece: 10,
+            writes: &[2],
+            ..SOUND
+        },
+        Outside { room: 10, ..SOUND },
+    ] {
+        let (status, sink) = call(rt.alloc(), RUN, SMALLEST.as_bytes(), outside)?;
+        assert_eq!(rt; status, Status::WriteFault);
+        assert_eq!(rt; sink.bytes(), b"settle 1 r".as_slice());
+    }
+    Ok(())
+}
+
+#[test]
+fn a_write_that_fails_hides_a_read_that_fails(rt: HostRuntime) -> Result<(), Fail> {
+    let outside = Outside {
+        reads: &[1],
+        writes: &[1],
+        ..SOUND
+    };
+    let (status, sink) = call(rt.alloc(), RUN, SMALLEST.as_bytes(), outside)?;
+    assert_eq!(rt; status, Status::WriteFault);
+    assert!(rt; sink.bytes().is_empty());
     Ok(())
 }

@@ -6,7 +6,8 @@ use crate::plans::{
     SMALLEST_TEXT, TWO_NODES, TWO_NODES_TEXT,
 };
 use sdh_cli::Status;
-use sdh_plant::RecordingPlant;
+use sdh_frame::Rate;
+use sdh_plant::{RecordingPlant, ToldPlant};
 use std::alloc::{AllocError, Global};
 use std::test::Fail;
 
@@ -78,5 +79,24 @@ fn tables_use_no_fibres(rt: HostRuntime) -> Result<(), Fail> {
         assert_eq!(rt; status, Status::Ok, "{document}");
         assert_eq!(rt; sink.bytes(), text.as_bytes(), "{document}");
     }
+    Ok(())
+}
+
+// Nothing comes to any node.
+const DARK_TEXT: &str = "settle 1 round 128
+node 1 isolated west b3 16 east b2 16
+node 2 isolated west b1 26 east b3 26
+node 3 isolated west b2 36 east b1 36
+port c1 a ais
+port c1 b ais
+done
+";
+
+#[test]
+fn fibres_out_of_which_nothing_comes(rt: HostRuntime) -> Result<(), Fail> {
+    let mut plant = ToldPlant::new(Rate::Four, Vec::new(rt.alloc()));
+    let (status, sink) = call_over(rt.alloc(), RUN, SMALLEST.as_bytes(), SOUND, &mut plant)?;
+    assert_eq!(rt; status, Status::Ok);
+    assert_eq!(rt; sink.bytes(), DARK_TEXT.as_bytes());
     Ok(())
 }

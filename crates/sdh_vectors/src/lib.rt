@@ -4,6 +4,8 @@
 #[cfg(test)]
 mod deliveries;
 #[cfg(test)]
+mod neighbours;
+#[cfg(test)]
 mod requests;
 #[cfg(test)]
 mod rings;

@@ -17,6 +17,8 @@ returns-in-Some g c =
       outcome = on_ok c.run_report.result _ _ (λ report x. run_of_plan plan listing f ask report.status report.text.bytes (means c.run_report.new.plant) is x) c.run_report.ensures.outcome;
       alone = run_makes_fibres plan listing f ask _ is;
       failed = c.run_report.ensures.failed;
+      calls = c.run_report.ensures.calls;
+      without = c.run_report.ensures.without;
       complete = on_ok c.run_report.result _ _ (λ report done go fine. (let may = run_may_go plan listing f ask is go in done may.0 may.1 fine)) c.run_report.ensures.complete;
       later = c.run_report.ensures.later;
       unsent = c.run_report.ensures.unsent;

@@ -1,4 +1,4 @@
-use Rattle.std.proofs.Common.{◌≡◌, length, ◌-◌, ◌≤◌, take}
+use Rattle.std.proofs.Common.{◌≡◌, true, length, ◌-◌, ◌≤◌, take}
 use Rattle.std.specs.Io.KnownBytes.{Appends}
 use Rattle.sdh_outside.proofs.writing.write_text.Given as goal
 
@@ -6,6 +6,7 @@ abbrev pub invariant-loop-sent : goal.invariant-loop-sent
 invariant-loop-sent g l = record {
   within : l.sent ≤ length l.text;
   appended : Appends (g.W.Sink.written l.initial.sink) (g.W.Sink.written l.sink) (take l.sent l.text);
+  stays : g.W.Sink.exact ≡ true → g.W.Sink.faults l.sink ≡ g.W.Sink.faults l.initial.sink;
   later : g.W.Sink.faults l.initial.sink ≤ g.W.Sink.faults l.sink;
   untouched : l.sent ≡ 0 → l.sink ≡ l.initial.sink;
 }

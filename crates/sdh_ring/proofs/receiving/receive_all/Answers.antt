@@ -1,4 +1,4 @@
-use Rattle.std.proofs.Common.{◌≡◌, refl, ap, sym, ◌∙◌, arith, subst, length}
+use Rattle.std.proofs.Common.{◌≡◌, refl, ap, sym, ◌∙◌, arith, rules, subst, length}
 use Rattle.sdh_basics.proofs.Indexing.{rest_more, read_here}
 use Rattle.sdh_plant.specs.Fibres.{Fibres}
 use Rattle.sdh_ring.specs.Calls.{MayReceive}
@@ -7,7 +7,7 @@ use Rattle.sdh_ring.proofs.Receives.{hears_none, hears_more, hears_some, hears_a
 use Rattle.sdh_ring.proofs.receiving.receive_all.Goals as goal
 
 pub receives-init : goal.receives-init
-receives-init g c = record { done = hears_none _ _; rest = refl; fixed = refl; rate = refl; later = omega arith }
+receives-init g c = record { done = hears_none _ _; rest = refl; fixed = refl; rate = refl; later = omega arith; none = λ _. refl }
 
 pub receive_both-requires-clause-at : goal.receive_both-requires-clause-at
 receive_both-requires-clause-at g c =
@@ -59,4 +59,5 @@ receives-preserved g c =
       fixed = fixed_more old now i x y c.index_mut-node.ensures.value c.receive_both.ensures.fixed inv.fixed;
       rate = c.receive_both.ensures.rate ∙ inv.rate;
       later = omega (arith, c.receive_both.ensures.cause.later);
+      none = search rules;
     }

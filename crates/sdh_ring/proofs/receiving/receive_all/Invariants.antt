@@ -1,4 +1,4 @@
-use Rattle.std.proofs.Common.{◌≡◌, ◌≤◌, take, drop, map}
+use Rattle.std.proofs.Common.{◌≡◌, true, ◌≤◌, take, drop, map}
 use Rattle.sdh_world.specs.Fixed.{fixed}
 use Rattle.sdh_ring.specs.Calls.{FirstReceive}
 use Rattle.sdh_ring.proofs.receiving.receive_all.Given as goal
@@ -12,4 +12,5 @@ invariant-receives g l =
       fixed : map fixed l.nodes.items ≡ map fixed l.fn.nodes.items;
       rate : l.frame.rate ≡ l.fn.frame.rate;
       later : g.P.Plant.faults l.fn.plant ≤ g.P.Plant.faults l.plant;
+      none : g.P.Plant.exact ≡ true → g.P.Plant.faults l.plant ≡ g.P.Plant.faults l.fn.plant;
     }

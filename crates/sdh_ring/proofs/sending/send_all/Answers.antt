@@ -1,4 +1,4 @@
-use Rattle.std.proofs.Common.{◌≡◌, refl, ap, sym, ◌∙◌, arith, subst, take}
+use Rattle.std.proofs.Common.{◌≡◌, refl, ap, sym, ◌∙◌, arith, rules, subst, take}
 use Rattle.std.proofs.lemmas.List.{take_all}
 use Rattle.sdh_basics.proofs.Indexing.{rest_more, read_here}
 use Rattle.sdh_plant.specs.Fibres.{Fibres}
@@ -12,7 +12,7 @@ use Rattle.sdh_ring.proofs.Sends.{step_map, some_none, both_more, sends_some, so
 use Rattle.sdh_ring.proofs.sending.send_all.Goals as goal
 
 pub sends-init : goal.sends-init
-sends-init g c = record { fibres = some_none _; done = refl; rest = refl; fixed = refl; west = refl; east = refl; later = omega arith }
+sends-init g c = record { fibres = some_none _; done = refl; rest = refl; fixed = refl; west = refl; east = refl; later = omega arith; none = λ _. refl }
 
 pub send_both-requires-clause-at : goal.send_both-requires-clause-at
 send_both-requires-clause-at g c =
@@ -71,6 +71,7 @@ sends-preserved g c =
       west = c.send_both.ensures.west ∙ inv.west;
       east = c.send_both.ensures.east ∙ inv.east;
       later = omega (arith, c.send_both.ensures.cause.later);
+      none = search rules;
     }
 
 pub returns-clause-fibres : goal.returns-clause-fibres

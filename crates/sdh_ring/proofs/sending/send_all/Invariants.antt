@@ -1,4 +1,4 @@
-use Rattle.std.proofs.Common.{◌≡◌, ◌≤◌, take, drop, map}
+use Rattle.std.proofs.Common.{◌≡◌, true, ◌≤◌, take, drop, map}
 use Rattle.sdh_world.specs.Rounds.{node_after, frames_of, sent_some}
 use Rattle.sdh_world.specs.Fixed.{fixed}
 use Rattle.sdh_ring.proofs.sending.send_all.Given as goal
@@ -15,4 +15,5 @@ invariant-sends g l =
       west : l.west.rate ≡ l.fn.west.rate;
       east : l.east.rate ≡ l.fn.east.rate;
       later : g.P.Plant.faults l.fn.plant ≤ g.P.Plant.faults l.plant;
+      none : g.P.Plant.exact ≡ true → g.P.Plant.faults l.plant ≡ g.P.Plant.faults l.fn.plant;
     }

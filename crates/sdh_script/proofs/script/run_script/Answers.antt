@@ -1,4 +1,4 @@
-use Rattle.std.proofs.Common.{◌<◌, length, drop, get_or, ◌+◌, ap, sym, subst, arith}
+use Rattle.std.proofs.Common.{◌<◌, length, drop, get_or, ◌+◌, ap, sym, subst, arith, rules}
 use Rattle.std.proofs.lemmas.List.{drop_all}
 use Rattle.sdh_ringmap.specs.declared.Side.TheVariants.{West}
 use Rattle.sdh_plant.specs.declared.plant.Condition.TheVariants.{Clear}
@@ -29,6 +29,7 @@ steps-preserved g c =
           (subst (λ l. Went c.args.limit c.args.listing c.steps.number l mid c.steps.text.bytes c.run_step.new.text.bytes c.in-Ok.ended later (world c.run_step.new.ring (means c.run_step.new.plant))) (sym is) (c.in-Ok.ensures.ok later));
       may = c.in-Ok.ensures.next later (subst (λ l. MayRun c.args.listing c.steps.number l c.steps.ring (means c.steps.plant) c.steps.text) is inv.may);
       later = omega (arith, inv.later, c.run_step.ensures.later);
+      none = search rules;
     }
 
 pub returns-in-Err-clause-ran : goal.returns-in-Err-clause-ran

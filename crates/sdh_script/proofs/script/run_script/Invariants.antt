@@ -1,4 +1,4 @@
-use Rattle.std.proofs.Common.{◌≤◌, drop}
+use Rattle.std.proofs.Common.{◌≡◌, true, ◌≤◌, drop}
 use Rattle.sdh_world.specs.Rounds.{world}
 use Rattle.sdh_script.specs.Running.{MayRun, Went}
 use Rattle.sdh_script.proofs.script.run_script.Given as goal
@@ -11,4 +11,5 @@ invariant-steps g l =
       went : Went l.limit l.listing 0 l.steps (world l.fn.ring (means l.fn.plant)) l.fn.text.bytes l.text.bytes l.number left (world l.ring (means l.plant));
       may : MayRun l.listing l.number left l.ring (means l.plant) l.text;
       later : g.P.Plant.faults l.fn.plant ≤ g.P.Plant.faults l.plant;
+      none : g.P.Plant.exact ≡ true → g.P.Plant.faults l.plant ≡ g.P.Plant.faults l.fn.plant;
     }

@@ -1,4 +1,4 @@
-use Rattle.std.proofs.Common.{◌+◌, arith, rules}
+use Rattle.std.proofs.Common.{◌+◌, refl, arith, rules}
 use Rattle.std.proofs.lemmas.Bool.{false≢true}
 use Rattle.sdh_world.specs.Rounds.{world}
 use Rattle.sdh_ring.proofs.Settling.{goes_none, went_more, settles, goes_on, counts_on, held_went, held_none, less_counted, prepared_back, unsettles}
@@ -11,6 +11,7 @@ rounds-init g c = record {
   prepared = c.requires.prepared;
   small = omega arith;
   later = omega arith;
+  none = λ _. refl;
 }
 
 pub rounds-preserved : goal.rounds-preserved
@@ -24,6 +25,7 @@ rounds-preserved g c =
       prepared = prepared_back from c.rounds.self _ _ _ inv.held c.in_ok-round.ensures.prepared;
       small = less_counted _ _ _ _ c.calm_rounds-calm.ensures inv.small;
       later = omega (arith, c.round.ensures.later);
+      none = search rules;
     }
 
 pub is_over-requires : goal.is_over-requires

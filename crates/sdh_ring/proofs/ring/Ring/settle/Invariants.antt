@@ -1,4 +1,4 @@
-use Rattle.std.proofs.Common.{◌≡◌, ◌≤◌, ◌+◌, length}
+use Rattle.std.proofs.Common.{◌≡◌, true, ◌≤◌, ◌+◌, length}
 use Rattle.sdh_plant.specs.Fibres.{IsPrepared}
 use Rattle.sdh_world.specs.Rounds.{world}
 use Rattle.sdh_ring.proofs.Settling.{GoesOn}
@@ -13,4 +13,5 @@ invariant-rounds g l =
       prepared : IsPrepared l.fn.self.settings.rate (length l.fn.self.ids) (means l.plant);
       small : l.calm ≤ l._turn;
       later : g.P.Plant.faults l.fn.plant ≤ g.P.Plant.faults l.plant;
+      none : g.P.Plant.exact ≡ true → g.P.Plant.faults l.plant ≡ g.P.Plant.faults l.fn.plant;
     }

@@ -1,0 +1,59 @@
+//! The call over objects in memory.
+ghost use Rattle.std.specs.Prelude.{◌<◌};
+ghost use Rattle.sdh_plant.specs.Fibres.{HasNoFibres};
+
+use sdh_cli::{Status, sdhring};
+use sdh_outside::{MemSink, MemSource};
+use sdh_plant::Plant;
+use std::alloc::{AllocError, Global};
+
+/// How many bytes a source and a sink give and take at a time, and the numbers of the read and the write that fail, 0 for none.
+#[derive(Clone, Copy)]
+pub struct Failing {
+    pub piece: usize,
+    pub read: u32,
+    pub write: u32,
+}
+
+impl Failing {
+    /// No call fails.
+    pub const NONE: Failing = Failing {
+        piece: 4096,
+        read: 0,
+        write: 0,
+    };
+}
+
+// The words of a command by its number: `run`, `check`, `drop c1 a`, and no words.
+fn words_of(alloc: Global, command: u8) -> Result<Vec<String>, AllocError> {
+    let words: &[&str] = match command {
+        0 => &["run"],
+        1 => &["check"],
+        2 => &["drop", "c1", "a"],
+        _ => &[],
+    };
+    let mut list = Vec::new(alloc);
+    for word in words {
+        list.push(String::from_str(alloc, word)?)?;
+    }
+    Ok(list)
+}
+
+/// The status, and the sink with what was written.
+pub fn call_over<P: Plant>(
+    alloc: Global,
+    command: u8,
+    document: &[u8],
+    outside: Failing,
+    room: usize,
+    plant: &mut P,
+) -> Result<(Status, MemSink), AllocError>
+    requires piece { 0 < outside.piece }
+    requires fresh { HasNoFibres (P.fibres plant.old) }
+{
+    let words = words_of(alloc, command)?;
+    let mut source = MemSource::new(alloc, document, outside.piece, &[outside.read])?;
+    let mut sink = MemSink::new(alloc, room, outside.piece, &[outside.write])?;
+    let status = sdhring(alloc, &words, &mut source, &mut sink, plant);
+    Ok((status, sink))
+}
