@@ -356,6 +356,7 @@ module _ (w : World) (whole : IsWhole w) where
       may = may_go;
       words = sym (ap (λ (s : Signals). s.words) (goes_free free_there)) ∙ words_still;
     }
+
   -- a later round that holds no node and leaves all that is compared at each is calm
   pub calm_where_same : 0 < t → AtEach (λ p n. is_held n ≡ false) w.ring.nodes → ((p : ℕ) → p < length w.ring.nodes → compared (after_at p) ≡ compared (node_at w.ring.nodes p)) → is_calm after ≡ true
   calm_where_same ran free same = list_all-from_AllPass (λ (n : Node). n.calm) after (λ p x h.

@@ -181,12 +181,7 @@ fn first_frame(rt: &impl Abort, alloc: Global, a1: u8, k1: u8, k2: u8) -> FrameB
 
 // What the second node makes of so many honest idle frames from the third, and as many times this frame from the west: its
 // state, and the words that it sends.
-fn after_west(
-    rt: &impl Abort,
-    alloc: Global,
-    frame: &FrameBuf,
-    times: u8,
-) -> (Shape, [(u8, u8); 2])
+fn after_west(rt: &impl Abort, alloc: Global, frame: &FrameBuf, times: u8) -> (Shape, [(u8, u8); 2])
     requires rate { frame.now.rate ≡ Rate.Four }
     requires few { times ≤ 3 }
 {

@@ -114,7 +114,7 @@ hold_within nodes [] e = cc
 hold_within nodes (a ∷ []) e = cc
 hold_within nodes (a ∷ (b ∷ [])) e =
     let bounds : (1 ≤ unwrap_or (numeral_in 1 100 b) 0) × (unwrap_or (numeral_in 1 100 b) 0 ≤ 100) =
-          number_there 1 100 b false None (later_none (is_none (node_at nodes a) || (false || false)) 24 (cond (is_none (numeral_in 1 100 b) || false) (Some 26) None) e) in
+    number_there 1 100 b false None (later_none (is_none (node_at nodes a) || (false || false)) 24 (cond (is_none (numeral_in 1 100 b) || false) (Some 26) None) e) in
     (node_there nodes a _ _ e, bounds.0, bounds.1)
 hold_within nodes (a ∷ (b ∷ (c ∷ ws))) e = absurd (too_many_none nodes (node ∷ number 1 100 ∷ []) (a ∷ (b ∷ (c ∷ ws))) (omega arith) e)
 

@@ -148,19 +148,69 @@ fn each_call_of_fibres_that_fails_is_told(rt: HostRuntime) -> Result<(), Fail> {
     let cut = SMALLEST.replacen(rt.alloc(), "\"settle\"", "\"cut 2 east\", \"settle\"", 1)?;
     let broken = format!(in rt.alloc(); "{SMALLEST_REPORT}plant fault\n")?;
     for (document, call, status, text) in [
-        (SMALLEST, (PlantCall::Prepare, 1), Status::PlantFault, "plant fault\n"),
+        (
+            SMALLEST,
+            (PlantCall::Prepare, 1),
+            Status::PlantFault,
+            "plant fault\n",
+        ),
         (SMALLEST, (PlantCall::Prepare, 2), Status::Ok, SMALLEST_TEXT),
-        (SMALLEST, (PlantCall::Send, 1), Status::PlantFault, "plant fault\n"),
-        (SMALLEST, (PlantCall::Send, 5), Status::PlantFault, "plant fault\n"),
-        (SMALLEST, (PlantCall::Send, 774), Status::PlantFault, "plant fault\n"),
+        (
+            SMALLEST,
+            (PlantCall::Send, 1),
+            Status::PlantFault,
+            "plant fault\n",
+        ),
+        (
+            SMALLEST,
+            (PlantCall::Send, 5),
+            Status::PlantFault,
+            "plant fault\n",
+        ),
+        (
+            SMALLEST,
+            (PlantCall::Send, 774),
+            Status::PlantFault,
+            "plant fault\n",
+        ),
         (SMALLEST, (PlantCall::Send, 775), Status::Ok, SMALLEST_TEXT),
-        (SMALLEST, (PlantCall::Receive, 1), Status::PlantFault, "plant fault\n"),
-        (SMALLEST, (PlantCall::Receive, 768), Status::PlantFault, "plant fault\n"),
-        (SMALLEST, (PlantCall::Receive, 769), Status::Ok, SMALLEST_TEXT),
+        (
+            SMALLEST,
+            (PlantCall::Receive, 1),
+            Status::PlantFault,
+            "plant fault\n",
+        ),
+        (
+            SMALLEST,
+            (PlantCall::Receive, 768),
+            Status::PlantFault,
+            "plant fault\n",
+        ),
+        (
+            SMALLEST,
+            (PlantCall::Receive, 769),
+            Status::Ok,
+            SMALLEST_TEXT,
+        ),
         (SMALLEST, (PlantCall::Apply, 1), Status::Ok, SMALLEST_TEXT),
-        (twice.as_str(), (PlantCall::Send, 775), Status::PlantFault, broken.as_str()),
-        (twice.as_str(), (PlantCall::Receive, 769), Status::PlantFault, broken.as_str()),
-        (cut.as_str(), (PlantCall::Apply, 1), Status::PlantFault, "plant fault\n"),
+        (
+            twice.as_str(),
+            (PlantCall::Send, 775),
+            Status::PlantFault,
+            broken.as_str(),
+        ),
+        (
+            twice.as_str(),
+            (PlantCall::Receive, 769),
+            Status::PlantFault,
+            broken.as_str(),
+        ),
+        (
+            cut.as_str(),
+            (PlantCall::Apply, 1),
+            Status::PlantFault,
+            "plant fault\n",
+        ),
     ] {
         let mut plant = FailingPlant::new(rt.alloc(), &[call])?;
         let (answer, sink) = call_over(rt.alloc(), RUN, document.as_bytes(), SOUND, &mut plant)?;

@@ -126,3 +126,29 @@ done
 ";
 
 pub const USAGE: &str = "usage: sdhring run, check, drop NAME END, big NUMBER\n";
+
+/// A span that is cut both ways while the controller beside it misses its first turns.
+pub const HELD: &str = r#"rate = 4
+nodes = [1, 2, 3, 4]
+threshold = 3
+wait = 10
+limit = 1000
+script = ["hold 2 50", "cut 2 east", "cut 3 west", "settle"]
+[[circuit]]
+name = "c1"
+from = 1
+to = 3
+slot = 1
+text_a = "ABCDEFG"
+text_b = "abcdefg"
+"#;
+
+pub const HELD_TEXT: &str = "settle 1 round 128
+node 1 pass west b3 2a east b2 3a
+node 2 switch-east west b3 2a east b3 26
+node 3 switch-west west b2 36 east b2 3a
+node 4 pass west b3 2a east b2 3a
+port c1 a norm 0 00636465666761626364656667616263
+port c1 b norm 0 00434445464741424344454647414243
+done
+";

@@ -2,8 +2,8 @@
 
 use crate::called::{CHECK, Outside, RUN, SOUND, call, call_over};
 use crate::plans::{
-    CUT_OFF, CUT_OFF_TABLES, NO_CIRCUITS, NO_CIRCUITS_TEXT, SMALLEST, SMALLEST_TABLES,
-    SMALLEST_TEXT, TWO_NODES, TWO_NODES_TEXT,
+    CUT_OFF, CUT_OFF_TABLES, HELD, HELD_TEXT, NO_CIRCUITS, NO_CIRCUITS_TEXT, SMALLEST,
+    SMALLEST_TABLES, SMALLEST_TEXT, TWO_NODES, TWO_NODES_TEXT,
 };
 use sdh_cli::Status;
 use sdh_frame::Rate;
@@ -16,6 +16,7 @@ fn runs_write_their_reports(rt: HostRuntime) -> Result<(), Fail> {
     for (document, text) in [
         (SMALLEST, SMALLEST_TEXT),
         (TWO_NODES, TWO_NODES_TEXT),
+        (HELD, HELD_TEXT),
         (NO_CIRCUITS, NO_CIRCUITS_TEXT),
     ] {
         let (status, sink) = call(rt.alloc(), RUN, document.as_bytes(), SOUND)?;

@@ -17,7 +17,7 @@ use sdh_ringmap::{Pos, Side};
 use std::alloc::Global;
 
 // After so many equal words in a row a word counts.
-const TIMES: usize = 1;
+const TIMES: usize = 3;
 
 const ASKED: Asked<'static> = Asked {
     name: "c1",

@@ -71,8 +71,19 @@ fn is_alike(ring: &Ring, signals: &SignalRing, at: u8) -> bool
         && node.sent_k(Side::East) == sent.east
 }
 
-// A round of signals with the needs of the round of frames, and whether all nodes are alike then.
-fn goes_alike(ring: &Ring, signals: &mut SignalRing, cuts: &[(u8, Side)]) -> bool
+// Which node is held in a round of this number: the one at the position, in so many rounds.
+fn held_in(held: (u8, u32), round: u32) -> [bool; 4] {
+    let is_held = round < held.1;
+    [
+        is_held && held.0 == 0,
+        is_held && held.0 == 1,
+        is_held && held.0 == 2,
+        is_held && held.0 == 3,
+    ]
+}
+
+// A round of signals with the needs of the round of frames, in which these nodes are held, and whether all nodes are alike then.
+fn goes_alike(ring: &Ring, signals: &mut SignalRing, cuts: &[(u8, Side)], held: [bool; 4]) -> bool
     requires { length signals.old.ring.ids ≡ 4 }
     ensures { length signals.new.ring.ids ≡ 4 }
 {
@@ -82,7 +93,7 @@ fn goes_alike(ring: &Ring, signals: &mut SignalRing, cuts: &[(u8, Side)]) -> boo
         needs_at(ring, 2, cuts),
         needs_at(ring, 3, cuts),
     ];
-    signals.round(&needs);
+    signals.round(&needs, &held);
     is_alike(ring, signals, 0)
         && is_alike(ring, signals, 1)
         && is_alike(ring, signals, 2)
@@ -103,6 +114,7 @@ fn alike_rounds<P: Plant>(
     plant: &mut P,
     signals: &mut SignalRing,
     cuts: &[(u8, Side)],
+    held: (u8, u32),
 ) -> Result<u32, PlantFault>
     requires prepared { IsPrepared ring.old.settings.rate (length ring.old.ids) (P.fibres plant.old) }
     requires whole { ring.old.broken ≡ false }
@@ -112,7 +124,7 @@ fn alike_rounds<P: Plant>(
     let mut alike = 0u32;
     'turns: for _turn in 0..40u32 {
         ring.round(plant)?;
-        let goes = goes_alike(ring, signals, cuts);
+        let goes = goes_alike(ring, signals, cuts, held_in(held, _turn));
         alike = one_more(goes, alike);
     }
     Ok(alike)
@@ -141,11 +153,25 @@ fn order(ring: &mut Ring, at: u8, side: Side, command: Command)
     }
 }
 
-// What happens before the first round: fibres that leave a position on a side come into a condition, and sides are given commands.
+// The controller of a node misses so many rounds.
+fn hold(ring: &mut Ring, at: u8, turns: u32)
+    ensures settings { ring.new.settings ≡ ring.old.settings }
+    ensures ids { ring.new.ids ≡ ring.old.ids }
+    ensures whole { ring.new.broken ≡ ring.old.broken }
+    ensures rounds { ring.new.rounds ≡ ring.old.rounds }
+{
+    if (at as usize) < ring.map().len() && turns >= 1 && turns <= 100 {
+        ring.hold(Pos(at), turns);
+    }
+}
+
+// What happens before the first round: fibres that leave a position on a side come into a condition, sides are given commands, and
+// the controller of a node misses so many rounds.
 #[derive(Clone, Copy)]
 struct Events {
     fibres: [(u8, Side, Condition); 4],
     commands: [(u8, Side, Command); 2],
+    held: (u8, u32),
     // the sides at which cut fibres end
     cuts: &'static [(u8, Side)],
 }
@@ -177,6 +203,7 @@ fn begun<P: Plant>(alloc: Global, plant: &mut P, events: &Events) -> Result<Ring
     let (first, second) = (events.commands[0], events.commands[1]);
     order(&mut ring, first.0, first.1, first.2);
     order(&mut ring, second.0, second.1, second.2);
+    hold(&mut ring, events.held.0, events.held.1);
     if a && b && c && d {
         Ok(ring)
     } else {
@@ -190,7 +217,7 @@ fn alike_over<P: Plant>(alloc: Global, plant: &mut P, events: &Events) -> Result
 {
     let mut signals = signals_of(alloc)?;
     let mut ring = begun(alloc, plant, events)?;
-    alike_rounds(&mut ring, plant, &mut signals, events.cuts).map_err(|_| AllocError)
+    alike_rounds(&mut ring, plant, &mut signals, events.cuts, events.held).map_err(|_| AllocError)
 }
 
 fn alike(alloc: Global, events: &Events) -> Option<u32> {
@@ -204,16 +231,18 @@ fn rings_over_frames_are_rings_of_signals(rt: HostRuntime) {
     let degraded = Condition::Degraded(3);
     let forced = Command::Forced;
     let manual = Command::Manual;
-    // nothing; a span; two spans in one arc; a node; forced switches; a tie; a degraded span; pre-emption
+    // nothing; a span; two spans in one arc; a node; forced switches; a tie; a degraded span; pre-emption; a span beside a held node
     let rows = [
         Events {
             fibres: [NOTHING, NOTHING, NOTHING, NOTHING],
             commands: [NO_COMMAND, NO_COMMAND],
+            held: (0, 0),
             cuts: &[],
         },
         Events {
             fibres: [(1, Side::East, cut), (2, Side::West, cut), NOTHING, NOTHING],
             commands: [NO_COMMAND, NO_COMMAND],
+            held: (0, 0),
             cuts: &[(2, Side::West), (1, Side::East)],
         },
         Events {
@@ -224,6 +253,7 @@ fn rings_over_frames_are_rings_of_signals(rt: HostRuntime) {
                 (3, Side::West, cut),
             ],
             commands: [NO_COMMAND, NO_COMMAND],
+            held: (0, 0),
             cuts: &[
                 (1, Side::West),
                 (0, Side::East),
@@ -239,6 +269,7 @@ fn rings_over_frames_are_rings_of_signals(rt: HostRuntime) {
                 (2, Side::West, cut),
             ],
             commands: [NO_COMMAND, NO_COMMAND],
+            held: (0, 0),
             cuts: &[
                 (1, Side::West),
                 (0, Side::East),
@@ -249,16 +280,19 @@ fn rings_over_frames_are_rings_of_signals(rt: HostRuntime) {
         Events {
             fibres: [NOTHING, NOTHING, NOTHING, NOTHING],
             commands: [(0, Side::East, forced), (2, Side::East, forced)],
+            held: (3, 1),
             cuts: &[],
         },
         Events {
             fibres: [NOTHING, NOTHING, NOTHING, NOTHING],
             commands: [(1, Side::East, manual), (3, Side::East, manual)],
+            held: (0, 0),
             cuts: &[],
         },
         Events {
             fibres: [(1, Side::East, degraded), NOTHING, NOTHING, NOTHING],
             commands: [NO_COMMAND, NO_COMMAND],
+            held: (0, 0),
             cuts: &[],
         },
         Events {
@@ -269,7 +303,14 @@ fn rings_over_frames_are_rings_of_signals(rt: HostRuntime) {
                 NOTHING,
             ],
             commands: [NO_COMMAND, NO_COMMAND],
+            held: (0, 0),
             cuts: &[(0, Side::West), (3, Side::East)],
+        },
+        Events {
+            fibres: [(1, Side::East, cut), (2, Side::West, cut), NOTHING, NOTHING],
+            commands: [NO_COMMAND, NO_COMMAND],
+            held: (1, 17),
+            cuts: &[(2, Side::West), (1, Side::East)],
         },
     ];
     for i in 0..rows.len() {
