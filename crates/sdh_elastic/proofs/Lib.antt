@@ -1,4 +1,5 @@
-pub mod Parts
+pub mod Lists
+pub mod Chunks
 pub mod Near
 pub mod Turning
 pub mod Course

@@ -139,14 +139,3 @@ bounded_after s input b chunk held =
 -- a steady turn isn't a drift
 pub no_drift : (s : Store) (n : ℕ) → IsBounded s → IsChunk n → s.steady ≡ true → keeps_steady n s.lengths ≡ true → (2340 ≤ fill_after s n) × (fill_after s n ≤ 2358)
 no_drift s n b chunk steady four = held_after s.stage s.lengths (length s.held) n b.at (b.near steady) b.chunks chunk four
-
--- there is room for a chunk
-pub few_held : (st : Stage) (ls : Lengths) (f : ℕ) → IsAt st ls f → AreChunks ls → f ≤ 2358
-few_held First Empty f at chunks = omega arith
-few_held Second (One a) f at chunks = omega arith
-few_held Moved (Two a b) f at chunks = at.1
-few_held Moved (Three a b c) f at chunks = at.1
-few_held OneLater (Three a b c) f at chunks = at.1
-few_held TwoLater (Three a b c) f at chunks = at.1
-few_held Free (Three a b c) f at chunks = at.1
-few_held _ _ f at chunks = absurd at

@@ -3,3 +3,4 @@ pub mod Lengths
 pub mod History
 pub mod Store
 pub mod Laws
+pub mod Kept

@@ -3,6 +3,7 @@
 //! this project's own.
 #![tactic(auto)]
 
+mod held;
 pub mod laws;
 mod lengths;
 mod stage;

@@ -1,15 +1,14 @@
 //! The store and its turns.
 ghost use Rattle.std.specs.Prelude.{◌≡◌, ℕ, ◌+◌, ◌-◌, ◌<◌, ◌≤◌, ◌⊎◌, ◌↔◌, ◌&&◌, true, false, List, [], ◌∷◌, ◌++◌, length, take, drop, IfOk, OnOk, OnErr, IsOk, IsErr};
-ghost use Rattle.circular_buffer.specs.Buffer.{buffer};
 ghost use Rattle.sdh_pointer.specs.Reading.{action_on, after_word};
 ghost use Rattle.sdh_elastic.specs.Turns.{value_after, word_for, IsChunk};
 ghost use Rattle.sdh_elastic.specs.Lengths.{is_steady, with_length, keeps_steady};
 ghost use Rattle.sdh_elastic.specs.History.{actions, fill, lasts, lengths, last_word};
 ghost use Rattle.sdh_elastic.specs.Store.{empty, action_at, fill_after, given_at, after_turn, stage_after, reading_of, AreChunks, CameBy, GoesOn};
 
+use crate::held::Held;
 use crate::lengths::Lengths;
 use crate::stage::{Stage, given, value_after, word_for};
-use circular_buffer::HeapCircularBuffer;
 use sdh_payload::Cells;
 use sdh_pointer::{Action, Word};
 use std::alloc::{AllocError, Global};
@@ -20,9 +19,6 @@ use thiserror::Error;
 const LEAST: usize = 2340;
 
 const MOST: usize = 2358;
-
-/// Room for what is held and a chunk.
-const ROOM: usize = 4710;
 
 /// Fewer or more bytes would be held after a turn than a store holds.
 #[derive(Clone, Copy, Debug, PartialEq, Eq, Error)]
@@ -65,46 +61,18 @@ impl Course {
 /// keeps of its history.
 #[derive(Debug, Drop)]
 pub struct Elastic {
-    held: HeapCircularBuffer<u8>,
+    held: Held,
     course: Course,
 }
 
 impl Model for Elastic {
-    ghost use Rattle.std.specs.Prelude.{◌≡◌};
     ghost use Rattle.sdh_elastic.specs.Store.{Store, IsBounded};
 
     ghost Value = { Store };
 
-    ghost view = { λ e. record { held = e.held.items; stage = e.course.stage; value = e.course.value; word = e.course.word.0; lengths = e.course.lengths; steady = e.course.steady } };
+    ghost view = { λ e. record { held = e.held; stage = e.course.stage; value = e.course.value; word = e.course.word.0; lengths = e.course.lengths; steady = e.course.steady } };
 
-    ghost invariant = { λ e. (e.held.capacity ≡ 4710) × IsBounded (record { held = e.held.items; stage = e.course.stage; value = e.course.value; word = e.course.word.0; lengths = e.course.lengths; steady = e.course.steady }) };
-}
-
-// Moves the first bytes held to `out`, in one run or two.
-fn give(held: &mut HeapCircularBuffer<u8>, count: usize, out: &mut Cells)
-    requires there { count ≤ length held.old.items }
-    requires few { count ≤ 2352 }
-    ensures given { out.new ≡ take count held.old.items }
-    ensures left { held.new ≡ buffer (drop count held.old.items) held.old.capacity }
-{
-    let (front, back) = held.as_slices();
-    let from_front = front.len().min(count);
-    out.clear();
-    out.extend_from_slice(&front[..from_front]);
-    out.extend_from_slice(&back[..count - from_front]);
-    held.truncate_front(held.len() - count);
-}
-
-// Takes bytes in, and moves the first ones to `out`.
-fn exchange(held: &mut HeapCircularBuffer<u8>, input: &[u8], count: usize, out: &mut Cells)
-    requires room { length held.old.items + length input.now ≤ held.old.capacity }
-    requires there { count ≤ length held.old.items + length input.now }
-    requires few { count ≤ 2352 }
-    ensures given { out.new ≡ take count (held.old.items ++ input.now) }
-    ensures left { held.new ≡ buffer (drop count (held.old.items ++ input.now)) held.old.capacity }
-{
-    held.fill_from_slice(input);
-    give(held, count, out);
+    ghost invariant = { λ e. IsBounded (record { held = e.held; stage = e.course.stage; value = e.course.value; word = e.course.word.0; lengths = e.course.lengths; steady = e.course.steady }) };
 }
 
 impl Elastic {
@@ -121,7 +89,7 @@ impl Elastic {
             lengths: Lengths::Empty,
             steady: true,
         };
-        let held = HeapCircularBuffer::with_capacity(alloc, ROOM)?;
+        let held = Held::try_new(alloc)?;
         Ok(Elastic { held, course })
     }
 
@@ -147,7 +115,7 @@ impl Elastic {
         if fill < LEAST || MOST < fill {
             return Err(Drift);
         }
-        exchange(&mut self.held, input, given(action), out);
+        self.held.exchange(input, given(action), out);
         self.course = self.course.after(action, input.len() as u16);
         Ok(action)
     }

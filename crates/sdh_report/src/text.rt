@@ -6,6 +6,7 @@ ghost use Rattle.sdh_report.specs.Written.{Written, with_part};
 
 use itoa::Buffer;
 use std::alloc::{AllocError, Global};
+use std::fmt;
 use std::marker::Model;
 
 /// Room for any one line but a delivered chunk's, in bytes. A chunk's lines have at most 4,707.
@@ -27,6 +28,17 @@ impl Model for Text {
     ghost view = { λ t. record { bytes = t.bytes.items; room = t.room } };
 
     ghost invariant = { λ t. vec_len t.bytes + t.room ≤ vec_capacity t.bytes };
+}
+
+impl fmt::Debug for Text {
+    fn fmt<W: fmt::Write>(&self, f: &mut fmt::Formatter<W>) -> fmt::Result {
+        write!(
+            f,
+            "Text({} bytes, room for {})",
+            self.bytes.len(),
+            self.room
+        )
+    }
 }
 
 // The hexadecimal digit of a number below 16, in lower case.

@@ -22,7 +22,7 @@ use std::alloc::{AllocError, Global};
 const TURN_ROOM: usize = 4801;
 
 /// What is to be written, and how the program ends then.
-#[derive(Drop)]
+#[derive(Debug, Drop)]
 pub struct Report {
     pub status: Status,
     pub text: Text,

@@ -6,7 +6,7 @@ use Rattle.sdh_elastic.specs.contracts.store.Elastic.{the_view}
 use Rattle.sdh_elastic.specs.Turns.{given, is_held, value_after, word_for}
 use Rattle.sdh_elastic.specs.Lengths.{keeps_steady}
 use Rattle.sdh_elastic.specs.Store.{Store, action_at, action_in, stage_after, fill_after, reading_in}
-use Rattle.sdh_elastic.proofs.Near.{not_held_below, not_held_above, bounded_after, no_drift, few_held, is_held_by}
+use Rattle.sdh_elastic.proofs.Near.{not_held_below, not_held_above, bounded_after, no_drift, is_held_by}
 use Rattle.sdh_elastic.proofs.Course.{goes_on, steady_now, drift_of_history}
 use Rattle.sdh_elastic.proofs.Heard.{turn_is_heard}
 use Rattle.sdh_elastic.proofs.Turning.{IsTurn, made}
@@ -15,20 +15,19 @@ use Rattle.sdh_elastic.proofs.store.Elastic.turn.Goals.{then-fill-lt-LEAST-via-t
 
 pub exchange-requires : goal.exchange-requires
 exchange-requires c =
-    let few = few_held c.self.inside.course.stage c.self.inside.course.lengths (length c.self.inside.held.items) c.self.invariant.1.at c.self.invariant.1.chunks in
-    record { room = omega (arith, few); there = omega arith; few = omega arith }
+    record { least = omega arith; most = omega arith; there = omega arith; few = omega arith; left = omega arith }
 
 -- what the turn does
 acts : (c : goal.After-self-1) → c.action-action.result ≡ action_at (the_view c.self.inside)
-acts c = c.action-action.ensures ∙ ap (action_in c.self.inside.course.stage) c.len.ensures.len
+acts c = c.action-action.ensures ∙ ap (action_in c.self.inside.course.stage) c.len.ensures
 
 turned : (c : goal.After-self-1)
-    → IsTurn (the_view c.self.inside) c.args.input.now c.action-action.result c.exchange.new.out (the_view (record { held = c.exchange.new.held; course = c.after-self-inside.result }))
+    → IsTurn (the_view c.self.inside) c.args.input.now c.action-action.result c.exchange.new.out (the_view (record { held = c.exchange.new.self; course = c.after-self-inside.result }))
 turned c =
     let r = c.after-self-inside.result in
     let e = c.after-self-inside.ensures in
-    made (the_view c.self.inside) c.args.input.now c.action-action.result c.given-2.result c.exchange.new.out c.exchange.new.held.items r.stage r.value r.word.0 r.lengths r.steady
-    (acts c) c.given-2.ensures.count c.exchange.ensures.given (ap (λ b. b.items) c.exchange.ensures.left) e.stage e.value e.word e.lengths e.steady
+    made (the_view c.self.inside) c.args.input.now c.action-action.result c.given-2.result c.exchange.new.out c.exchange.new.self r.stage r.value r.word.0 r.lengths r.steady
+    (acts c) c.given-2.ensures.count c.exchange.ensures.given c.exchange.ensures.left e.stage e.value e.word e.lengths e.steady
 
 -- the fill after it is within its bounds
 fits : (c : goal.After-self-1) → is_held (fill_after (the_view c.self.inside) (length c.args.input.now)) ≡ true
@@ -36,7 +35,7 @@ fits c =
     let s : Store = the_view c.self.inside in
     let n = length c.args.input.now in
     let same : c.saturating_sub-fill.result ≡ fill_after s n =
-    c.saturating_sub-fill.ensures ∙ ap (λ (k : ℕ). c.len-2.result + n - k) (c.given.ensures.count ∙ ap given (acts c)) ∙ ap (λ (f : ℕ). f + n - given (action_at s)) c.len-2.ensures.len in
+    c.saturating_sub-fill.ensures ∙ ap (λ (k : ℕ). c.len-2.result + n - k) (c.given.ensures.count ∙ ap given (acts c)) ∙ ap (λ (f : ℕ). f + n - given (action_at s)) c.len-2.ensures in
     is_held_by (fill_after s n) (omega (arith, same)) (omega (arith, same))
 
 pub returns-clause-ok : goal.returns-clause-ok
@@ -45,7 +44,7 @@ returns-clause-ok c = let t = turned c in rw (← c.self.view_is) (t.action, t.g
 pub invariant_of-self : goal.invariant_of-self
 invariant_of-self c =
     let t = turned c in
-    (ap (λ b. b.capacity) c.exchange.ensures.left ∙ c.self.invariant.0, rw t.store (bounded_after (the_view c.self.inside) c.args.input.now c.self.invariant.1 c.requires (fits c)))
+    rw t.store (bounded_after (the_view c.self.inside) c.args.input.now c.self.invariant c.requires (fits c))
 
 pub returns-clause-history : goal.returns-clause-history
 returns-clause-history c = λ first past came.
@@ -56,7 +55,7 @@ pub returns-clause-heard : goal.returns-clause-heard
 returns-clause-heard c =
     let i = c.self.inside.course in
     let e = c.after-self-inside.ensures in
-    let turn = turn_is_heard i.stage i.value (length c.self.inside.held.items) c.self.invariant.1.value in
+    let turn = turn_is_heard i.stage i.value (length c.self.inside.held) c.self.invariant.value in
     let word = e.word ∙ ap (λ (b : Action). word_for b i.value) (acts c) in
     let stage = e.stage ∙ ap (stage_after i.stage) (acts c) in
     let value = e.value ∙ ap (λ (b : Action). value_after b i.value) (acts c) in
@@ -67,20 +66,20 @@ returns-clause-heard c =
 
 -- what it would have done, and the fill after that
 would_act : (c : goal.Joined-then-fill-lt-LEAST) → c.action-action.result ≡ action_at (the_view c.self.inside)
-would_act c = c.action-action.ensures ∙ ap (action_in c.self.inside.course.stage) c.len.ensures.len
+would_act c = c.action-action.ensures ∙ ap (action_in c.self.inside.course.stage) c.len.ensures
 
 would_be : (c : goal.Joined-then-fill-lt-LEAST) → c.saturating_sub-fill.result ≡ fill_after (the_view c.self.inside) (length c.args.input.now)
 would_be c =
     let s : Store = the_view c.self.inside in
     let n = length c.args.input.now in
-    c.saturating_sub-fill.ensures ∙ ap (λ (k : ℕ). c.len-2.result + n - k) (c.given.ensures.count ∙ ap given (would_act c)) ∙ ap (λ (f : ℕ). f + n - given (action_at s)) c.len-2.ensures.len
+    c.saturating_sub-fill.ensures ∙ ap (λ (k : ℕ). c.len-2.result + n - k) (c.given.ensures.count ∙ ap given (would_act c)) ∙ ap (λ (f : ℕ). f + n - given (action_at s)) c.len-2.ensures
 
 pub returns-then-fill-lt-LEAST-clause-steady_run : goal.returns-then-fill-lt-LEAST-clause-steady_run
 returns-then-fill-lt-LEAST-clause-steady_run c = λ first past came h.
     let s : Store = the_view c.self.inside in
     let n = length c.args.input.now in
     let now = steady_now s n first past (rw (← c.self.view_is) at came) h in
-    let bounds = no_drift s n c.self.invariant.1 c.requires now.0 now.1 in
+    let bounds = no_drift s n c.self.invariant c.requires now.0 now.1 in
     elim c.then-fill-lt-LEAST.branch [
       | then-fill-lt-LEAST-via-then-fill-lt-LEAST w ↦ absurd (omega (arith, would_be c, bounds.0, w.if-fill-lt-LEAST.true))
       | then-fill-lt-LEAST-via-else-fill-lt-LEAST+then-fill-gt-MOST w ↦ absurd (omega (arith, would_be c, bounds.1, w.if-fill-gt-MOST.true))
@@ -91,7 +90,7 @@ returns-then-fill-lt-LEAST-clause-steady c =
     let s : Store = the_view c.self.inside in
     let n = length c.args.input.now in
     let none : s.steady ≡ true → keeps_steady n s.lengths ≡ true → false ≡ true = λ steady four.
-    let bounds = no_drift s n c.self.invariant.1 c.requires steady four in
+    let bounds = no_drift s n c.self.invariant c.requires steady four in
     elim c.then-fill-lt-LEAST.branch [
       | then-fill-lt-LEAST-via-then-fill-lt-LEAST w ↦ absurd (omega (arith, would_be c, bounds.0, w.if-fill-lt-LEAST.true))
       | then-fill-lt-LEAST-via-else-fill-lt-LEAST+then-fill-gt-MOST w ↦ absurd (omega (arith, would_be c, bounds.1, w.if-fill-gt-MOST.true))
