@@ -97,11 +97,13 @@ impl Adm {
         self.cross.command(side, command);
     }
 
-    /// Keeps what arrived on a side for the next `send`. A second call before it replaces the first.
-    pub fn receive(&mut self, side: Side, arrived: Arrived, frame: &FrameBuf)
-        requires { frame.now.rate ≡ self.old.settings.rate }
-        ensures node { self.new ≡ at_receiving side (arrived_on (as_arrival arrived frame.now.bytes)) self.old }
+    /// Keeps what arrived on a side for the next `send`. A second call before it replaces the first. A frame is taken in
+    /// exchange for another of the same rate, whose bytes mean nothing.
+    pub fn receive(&mut self, side: Side, arrived: Arrived, frame: &mut FrameBuf)
+        requires { frame.old.rate ≡ self.old.settings.rate }
+        ensures node { self.new ≡ at_receiving side (arrived_on (as_arrival arrived frame.old.bytes)) self.old }
         ensures moment { moment_of self.new ≡ moment_of self.old }
+        ensures rate { frame.new.rate ≡ frame.old.rate }
     {
         self.cross.receive(side, arrived, frame);
     }

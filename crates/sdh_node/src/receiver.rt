@@ -69,15 +69,17 @@ impl Receiver {
         })
     }
 
-    /// Keeps what arrived for the next round, in place of what arrived since the last one.
-    pub fn receive(&mut self, arrived: Arrived, frame: &FrameBuf)
-        requires { frame.now.rate ≡ self.old.section.rate }
-        ensures side { self.new ≡ arrived_on (as_arrival arrived frame.now.bytes) self.old }
+    /// Keeps what arrived for the next round, in place of what arrived since the last one. A frame is taken in exchange for
+    /// another, whose bytes don't count.
+    pub fn receive(&mut self, arrived: Arrived, frame: &mut FrameBuf)
+        requires { frame.old.rate ≡ self.old.section.rate }
+        ensures side { self.new ≡ arrived_on (as_arrival arrived frame.old.bytes) self.old }
         ensures local { self.new.local ≡ self.old.local }
+        ensures rate { frame.new.rate ≡ frame.old.rate }
     {
         match arrived {
             Arrived::Frame => {
-                self.frame.copy_from(frame);
+                std::mem::swap(&mut self.frame, frame);
                 self.arrived = Some(Arrived::Frame);
             }
             Arrived::Dark => self.arrived = Some(Arrived::Dark),

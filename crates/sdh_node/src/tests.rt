@@ -96,14 +96,15 @@ fn turn(node: &mut Adm, west: &mut FrameBuf, east: &mut FrameBuf)
 }
 
 // A frame or darkness arrives.
-fn hear(node: &mut Adm, side: Side, arrived: Arrived, frame: &FrameBuf)
+fn hear(node: &mut Adm, side: Side, arrived: Arrived, frame: &mut FrameBuf)
     requires rate { node.old.settings.rate ≡ Rate.Four }
     requires moment { moment_of node.old ≡ 0 }
-    requires frame { frame.now.rate ≡ Rate.Four }
+    requires frame { frame.old.rate ≡ Rate.Four }
     ensures rate { node.new.settings.rate ≡ Rate.Four }
     ensures rounds { node.new.rounds ≡ node.old.rounds }
     ensures moment { moment_of node.new ≡ 0 }
     ensures ports { node.new.ports ≡ node.old.ports }
+    ensures frame { frame.new.rate ≡ Rate.Four }
 {
     node.receive(side, arrived, frame);
 }
@@ -157,16 +158,16 @@ fn first_frame(rt: &impl Abort, alloc: Global, a1: u8, k1: u8, k2: u8) -> FrameB
 
 // What the second node makes of an honest idle frame from the third, and this frame from the west: its state, and the
 // words that it sends.
-fn after_west(rt: &impl Abort, alloc: Global, frame: &FrameBuf) -> (Shape, [(u8, u8); 2])
-    requires { frame.now.rate ≡ Rate.Four }
+fn after_west(rt: &impl Abort, alloc: Global, mut frame: FrameBuf) -> (Shape, [(u8, u8); 2])
+    requires { frame.rate ≡ Rate.Four }
 {
-    let third = from_third(rt, alloc);
+    let mut third = from_third(rt, alloc);
     let mut second = node(rt, alloc, 1, 3);
     let mut west = blank(rt, alloc);
     let mut east = blank(rt, alloc);
     turn(&mut second, &mut west, &mut east);
-    hear(&mut second, Side::East, Arrived::Frame, &third);
-    hear(&mut second, Side::West, Arrived::Frame, frame);
+    hear(&mut second, Side::East, Arrived::Frame, &mut third);
+    hear(&mut second, Side::West, Arrived::Frame, &mut frame);
     turn(&mut second, &mut west, &mut east);
     (shape_of(second.state()), sent(&second))
 }
@@ -181,7 +182,7 @@ fn answers(
 ) -> bool {
     let (a1, k1, k2) = from_west;
     let frame = first_frame(rt, alloc, a1, k1, k2);
-    let (found, said) = after_west(rt, alloc, &frame);
+    let (found, said) = after_west(rt, alloc, frame);
     same_shape(found, shape) && said == words
 }
 
@@ -275,19 +276,19 @@ fn from_first(rt: &impl Abort, alloc: Global) -> FrameBuf
 #[test]
 fn a_port_delivers_what_the_other_sent(rt: HostRuntime) {
     let alloc = rt.alloc();
-    let first = from_first(&rt, alloc);
+    let mut first = from_first(&rt, alloc);
     let mut second = node(&rt, alloc, 1, 1000);
     let mut west = blank(&rt, alloc);
     let mut east = blank(&rt, alloc);
     assert!(rt; second.has(PORT_B));
     assert!(rt; matches!(second.delivered(PORT_B), Delivered::Ais));
-    hear(&mut second, Side::West, Arrived::Frame, &first);
+    hear(&mut second, Side::West, Arrived::Frame, &mut first);
     turn(&mut second, &mut west, &mut east);
     assert!(rt; is_alpha(second.delivered(PORT_B)));
     assert!(rt; second.value(PORT_B) == 0);
     // a second call replaces the first
-    hear(&mut second, Side::West, Arrived::Frame, &first);
-    hear(&mut second, Side::West, Arrived::Dark, &first);
+    hear(&mut second, Side::West, Arrived::Frame, &mut first);
+    hear(&mut second, Side::West, Arrived::Dark, &mut first);
     turn(&mut second, &mut west, &mut east);
     assert!(rt; second.request(Side::West) == Code::Sf);
     assert!(rt; matches!(second.delivered(PORT_B), Delivered::Ais));
