@@ -1,6 +1,7 @@
 pub mod Marks
 pub mod Ports
 pub mod Passed
+mod Planned
 pub mod Frames
 pub mod Rounds
 pub mod Turning

@@ -6,4 +6,5 @@ pub mod Tributaries
 pub mod Places
 pub mod Crossing
 pub mod Sending
+pub mod Sources
 pub mod Node

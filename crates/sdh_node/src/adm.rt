@@ -104,6 +104,17 @@ impl Adm {
         self.cross.receive(side, arrived, frame);
     }
 
+    /// Keeps what arrived on a side as `receive` does, without a copy: a frame is taken in exchange for another of the same
+    /// rate, whose bytes mean nothing.
+    pub fn exchange(&mut self, side: Side, arrived: Arrived, frame: &mut FrameBuf)
+        requires { frame.old.rate ≡ self.old.settings.rate }
+        ensures node { self.new ≡ at_receiving side (arrived_on (as_arrival arrived frame.old.bytes)) self.old }
+        ensures moment { moment_of self.new ≡ moment_of self.old }
+        ensures rate { frame.new.rate ≡ frame.old.rate }
+    {
+        self.cross.exchange(side, arrived, frame);
+    }
+
     // Whether a port is at the node.
     #[cfg(test)]
     pub(crate) fn has(&self, port: PortId) -> bool

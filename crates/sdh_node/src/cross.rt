@@ -6,6 +6,7 @@ ghost use Rattle.sdh_squelch.specs.Kept.{KeepsRing};
 ghost use Rattle.sdh_nodestate.specs.Rules.{word};
 ghost use Rattle.sdh_nodestate.specs.Words.{SendsSpellable};
 ghost use Rattle.sdh_nodestate.specs.Shapes.{same_state};
+ghost use Rattle.sdh_interchange.specs.Taking.{IsOf};
 ghost use Rattle.sdh_node.specs.Same.{same_in};
 ghost use Rattle.sdh_plant.specs.Arrivals.{as_arrival};
 ghost use Rattle.sdh_node.specs.Receiving.{commanded_by, arrived_on};
@@ -20,6 +21,7 @@ use crate::settings::Settings;
 use sdh_bridge::{Origin, drop_origin, protection_origin, working_origin};
 use sdh_circuits::{CircuitMap, Slot};
 use sdh_frame::{FrameBuf, Rate};
+use sdh_interchange::Taken;
 use sdh_nodestate::{Heard, Needs, NodeState, Sent, same_shape, shape_of, start, step};
 use sdh_payload::ChunkForm;
 use sdh_plant::Arrived;
@@ -115,6 +117,19 @@ impl CrossConnect {
         match side {
             Side::West => self.west.receive(arrived, frame),
             Side::East => self.east.receive(arrived, frame),
+        }
+    }
+
+    /// Keeps what arrived on a side, and takes a frame in exchange for another.
+    pub fn exchange(&mut self, side: Side, arrived: Arrived, frame: &mut FrameBuf)
+        requires { frame.old.rate ≡ self.old.west.section.rate }
+        ensures cross { self.new ≡ at_side side (arrived_on (as_arrival arrived frame.old.bytes)) self.old }
+        ensures moment { self.new.west.local.moment ≡ self.old.west.local.moment }
+        ensures rate { frame.new.rate ≡ frame.old.rate }
+    {
+        match side {
+            Side::West => self.west.exchange(arrived, frame),
+            Side::East => self.east.exchange(arrived, frame),
         }
     }
 
@@ -265,41 +280,79 @@ impl CrossConnect {
     }
 
     // Delivers an AU-4 that isn't AIS.
-    fn deliver_chunk(&self, side: Side, au: u16, outlet: &mut Outlet)
+    fn deliver_chunk(&self, side: Side, au: u16, payloads: &mut Taken, outlet: &mut Outlet)
         requires first { 1 ≤ au }
         requires last { au ≤ n_of self.now.west.section.rate }
-        ensures { outlet.new ≡ chunk_from (received self.now side au) }
+        requires payloads { IsOf (intake_on self.now side).frame payloads.old }
+        ensures payloads { IsOf (intake_on self.now side).frame payloads.new }
+        ensures outlet { outlet.new ≡ chunk_from (received self.now side au) }
     {
         let frame = self.intake(side).frame();
         let form = chunk_form(self.action(side, au));
-        outlet.deliver(frame, au, form, self.value(side, au));
+        outlet.deliver(frame, payloads, au, form, self.value(side, au));
     }
 
     // Delivers an AU-4.
     #[tactic(auto, unfolding(crate::specs::Outlets::delivered_from))]
-    fn deliver_from(&self, side: Side, au: u16, outlet: &mut Outlet)
+    fn deliver_from(&self, side: Side, au: u16, payloads: &mut Taken, outlet: &mut Outlet)
         requires first { 1 ≤ au }
         requires last { au ≤ n_of self.now.west.section.rate }
-        ensures { outlet.new ≡ delivered_from (received self.now side au) }
+        requires payloads { IsOf (intake_on self.now side).frame payloads.old }
+        ensures payloads { IsOf (intake_on self.now side).frame payloads.new }
+        ensures outlet { outlet.new ≡ delivered_from (received self.now side au) }
     {
         match self.action(side, au) {
             Action::Ais => outlet.silence(),
-            _ => self.deliver_chunk(side, au, outlet),
+            _ => self.deliver_chunk(side, au, payloads, outlet),
         }
     }
 
-    /// Delivers what the working arrival of a slot from a side stands for.
+    // Delivers an AU-4 that came from a side.
+    fn deliver_on(
+        &self,
+        side: Side,
+        au: u16,
+        west: &mut Taken,
+        east: &mut Taken,
+        outlet: &mut Outlet,
+    )
+        requires first { 1 ≤ au }
+        requires last { au ≤ n_of self.now.west.section.rate }
+        requires west { IsOf self.now.west_in.frame west.old }
+        requires east { IsOf self.now.east_in.frame east.old }
+        ensures west { IsOf self.now.west_in.frame west.new }
+        ensures east { IsOf self.now.east_in.frame east.new }
+        ensures outlet { outlet.new ≡ delivered_from (received self.now side au) }
+    {
+        match side {
+            Side::West => self.deliver_from(Side::West, au, west, outlet),
+            Side::East => self.deliver_from(Side::East, au, east, outlet),
+        }
+    }
+
+    /// Delivers what the working arrival of a slot from a side stands for. Payloads may have been taken out of both frames.
     #[tactic(auto, unfolding(crate::specs::Crossing::dropped_at, crate::specs::Outlets::delivered_from))]
-    pub fn deliver(&self, side: Side, slot: Slot, outlet: &mut Outlet)
+    pub fn deliver(
+        &self,
+        side: Side,
+        slot: Slot,
+        west: &mut Taken,
+        east: &mut Taken,
+        outlet: &mut Outlet,
+    )
         requires first { 1 ≤ slot.0 }
         requires last { slot.0 ≤ half_of self.now }
-        ensures { outlet.new ≡ delivered_from (dropped_at self.now side slot.0) }
+        requires west { IsOf self.now.west_in.frame west.old }
+        requires east { IsOf self.now.east_in.frame east.old }
+        ensures west { IsOf self.now.west_in.frame west.new }
+        ensures east { IsOf self.now.east_in.frame east.new }
+        ensures outlet { outlet.new ≡ delivered_from (dropped_at self.now side slot.0) }
     {
         let half = self.half();
         let au = u16::from(slot.0);
         match drop_origin(&self.state, &self.map, &self.table, self.at, side, slot) {
-            Origin::Working(from) => self.deliver_from(from, au, outlet),
-            Origin::Protection(from) => self.deliver_from(from, half + au, outlet),
+            Origin::Working(from) => self.deliver_on(from, au, west, east, outlet),
+            Origin::Protection(from) => self.deliver_on(from, half + au, west, east, outlet),
             Origin::Add(_) | Origin::Ais => outlet.silence(),
         }
     }

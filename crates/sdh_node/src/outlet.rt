@@ -4,10 +4,12 @@ ghost use Rattle.sdh_frame.specs.Sizes.{n_of};
 ghost use Rattle.sdh_frame.specs.Aus.{au_of};
 ghost use Rattle.sdh_payload.specs.Chunk.{taken};
 ghost use Rattle.sdh_payload.specs.Outlet.{silent, delivering};
+ghost use Rattle.sdh_interchange.specs.Taking.{IsOf};
 ghost use Rattle.sdh_node.specs.Passing.{h3_of};
 
 use crate::intake::h3_at;
 use sdh_frame::FrameBuf;
+use sdh_interchange::Taken;
 use sdh_payload::{Cells, ChunkForm, Delivered, take_chunk_in_place};
 use std::alloc::{AllocError, Global};
 use std::marker::Model;
@@ -71,29 +73,40 @@ impl Outlet {
         self.value = 0;
     }
 
-    /// Delivers an AU-4 of a frame.
-    pub fn deliver(&mut self, frame: &FrameBuf, au: u16, form: ChunkForm, value: u16)
+    /// Delivers an AU-4 of a frame, of which some payloads have been taken out.
+    pub fn deliver(
+        &mut self,
+        frame: &FrameBuf,
+        payloads: &mut Taken,
+        au: u16,
+        form: ChunkForm,
+        value: u16,
+    )
         requires first { 1 ≤ au }
         requires last { au ≤ n_of frame.now.rate }
         requires value { value ≤ 782 }
-        ensures { let came = au_of (n_of frame.now.rate) au frame.now.bytes in self.new ≡ delivering value (taken form came.payload (h3_of came.pointers)) }
+        requires payloads { IsOf frame.now payloads.old }
+        ensures payloads { IsOf frame.now payloads.new }
+        ensures outlet { let came = au_of (n_of frame.now.rate) au frame.now.bytes in self.new ≡ delivering value (taken form came.payload (h3_of came.pointers)) }
     {
         self.is_here = true;
         self.value = value;
         if let Delivered::Chunk(cells) = &mut self.chunk {
-            take_au(frame, au, form, cells);
+            take_au(frame, payloads, au, form, cells);
         }
     }
 }
 
 // The bytes that a port takes from an AU-4 of a frame.
 #[tactic(auto, using(sdh_payload::proofs::Splicing::written_whole))]
-fn take_au(frame: &FrameBuf, au: u16, form: ChunkForm, cells: &mut Cells)
+fn take_au(frame: &FrameBuf, payloads: &mut Taken, au: u16, form: ChunkForm, cells: &mut Cells)
     requires first { 1 ≤ au }
     requires last { au ≤ n_of frame.now.rate }
-    ensures { let came = au_of (n_of frame.now.rate) au frame.now.bytes in cells.new ≡ taken form came.payload (h3_of came.pointers) }
+    requires payloads { IsOf frame.now payloads.old }
+    ensures payloads { IsOf frame.now payloads.new }
+    ensures cells { let came = au_of (n_of frame.now.rate) au frame.now.bytes in cells.new ≡ taken form came.payload (h3_of came.pointers) }
 {
-    frame.take_payload(au, cells.lend_payload());
+    payloads.copy_payload(frame, au, cells.lend_payload());
     let h3 = h3_at(frame, au);
     take_chunk_in_place(&h3, form, cells);
 }

@@ -1,11 +1,15 @@
 //! AU-4s that are sent.
-ghost use Rattle.std.specs.Prelude.{◌≡◌, ℕ, ◌+◌, ◌/◌, ◌%◌, ◌<◌, ◌≤◌, length};
+ghost use Rattle.std.specs.Prelude.{◌≡◌, ◌≢◌, ℕ, List, ◌+◌, ◌*◌, ◌/◌, ◌%◌, ◌<◌, ◌≤◌, IfOk, length};
 ghost use Rattle.sdh_frame.specs.Sizes.{n_of};
-ghost use Rattle.sdh_frame.specs.Aus.{au_of, with_au, with_aus, ones};
+ghost use Rattle.sdh_frame.specs.Aus.{au_of, with_aus};
 ghost use Rattle.std.specs.List.{list_any};
+ghost use Rattle.sdh_pointer.specs.declared.word.Form.{Form};
 ghost use Rattle.sdh_pointer.specs.Sending.{Generator, after_action};
+ghost use Rattle.sdh_interchange.specs.Choosing.{AreSources, payload_in};
+ghost use Rattle.sdh_interchange.specs.Assembled.{payload_from, assembled};
 ghost use Rattle.sdh_node.specs.Same.{same_generators};
-ghost use Rattle.sdh_node.specs.Passing.{no_input, h3_sent, pointers_with, au_with, au_for, au_sent, states_of, aus_sent, after_inputs};
+ghost use Rattle.sdh_node.specs.Passing.{no_input, h3_sent, pointers_with, au_for, au_sent, states_of, aus_sent, after_inputs};
+ghost use Rattle.sdh_node.specs.Sources.{payload_by, IsSourceOf, bytes_on};
 ghost use Rattle.sdh_node.specs.Tributaries.{own_input, added_last};
 ghost use Rattle.sdh_node.specs.Crossing.{received, half_of, input_of, input_at};
 
@@ -16,8 +20,11 @@ use crate::tributary::Tributary;
 use sdh_bridge::Origin;
 use sdh_circuits::PortId;
 use sdh_frame::FrameBuf;
+use sdh_interchange::{Source, assemble, put_own};
 use sdh_pointer::{Action, Form, Gen, Word, write_word};
 use sdh_ringmap::Side;
+use std::alloc::{AllocError, Global};
+use std::fmt;
 
 // The nine pointer bytes with a word.
 fn pointers_with(word: Word, h3: [u8; 3]) -> [u8; 9]
@@ -40,134 +47,133 @@ fn h3_sent(form: Form, frame: &FrameBuf, au: u16) -> [u8; 3]
     }
 }
 
-// An AU-4 becomes one of another frame, with a word of this form.
-#[tactic(auto, unfolding(sdh_frame::specs::Aus::with_au))]
-fn put_with(form: Form, word: Word, from: &FrameBuf, au: u16, out: &mut FrameBuf, to: u16)
-    requires rate { from.now.rate ≡ out.old.rate }
+// The nine pointer bytes of an AU-4 of a frame that is passed on.
+fn pointers_for(action: Action, form: Form, word: Word, frame: &FrameBuf, au: u16) -> [u8; 9]
     requires first { 1 ≤ au }
-    requires last { au ≤ n_of out.old.rate }
-    requires to_first { 1 ≤ to }
-    requires to_last { to ≤ n_of out.old.rate }
-    ensures { out.new ≡ record out.old { bytes = with_au (n_of out.old.rate) to (au_with form word.0 (au_of (n_of out.old.rate) au from.now.bytes)) out.old.bytes } }
-{
-    let pointers = pointers_with(word, h3_sent(form, from, au));
-    out.copy_payload(to, from, au);
-    out.put_pointers(to, &pointers);
-}
-
-// An AU-4 becomes what an action makes of one of another frame.
-fn put_for(
-    action: Action,
-    form: Form,
-    word: Word,
-    from: &FrameBuf,
-    au: u16,
-    out: &mut FrameBuf,
-    to: u16,
-)
-    requires rate { from.now.rate ≡ out.old.rate }
-    requires first { 1 ≤ au }
-    requires last { au ≤ n_of out.old.rate }
-    requires to_first { 1 ≤ to }
-    requires to_last { to ≤ n_of out.old.rate }
-    ensures { out.new ≡ record out.old { bytes = with_au (n_of out.old.rate) to (au_for action form word.0 (au_of (n_of out.old.rate) au from.now.bytes)) out.old.bytes } }
+    requires last { au ≤ n_of frame.now.rate }
+    ensures { result ≡ (au_for action form word.0 (au_of (n_of frame.now.rate) au frame.now.bytes)).pointers }
 {
     match action {
-        Action::Ais => out.fill_ones(to),
-        Action::Normal | Action::New | Action::Up | Action::Down => put_with(
-            form, word, from, au, out, to,
-        ),
+        Action::Ais => [0xFF; 9],
+        Action::Normal | Action::New | Action::Up | Action::Down => {
+            pointers_with(word, h3_sent(form, frame, au))
+        }
     }
 }
 
-// Sends AIS.
-#[tactic(auto, unfolding(crate::specs::Passing::au_sent))]
-fn send_ais(generator: &mut Gen, out: &mut FrameBuf, to: u16)
-    requires to_first { 1 ≤ to }
-    requires to_last { to ≤ n_of out.old.rate }
-    ensures generator { generator.new ≡ after_action generator.old Action.Ais 0 }
-    ensures frame { out.new ≡ record out.old { bytes = with_au (n_of out.old.rate) to (au_sent generator.old.sending no_input) out.old.bytes } }
+// Where the payload of an AU-4 comes from that a side received.
+fn source_for(action: Action, side: Side, au: u16) -> Source
+    requires { 1 ≤ au }
+    ensures source { (n to : ℕ) → au ≤ n → IsSourceOf n to result }
+    ensures payload { (n w : ℕ) (form : Form) (west east own : List ℕ) → payload_from n west east own result ≡ (au_for action form w (au_of n au (bytes_on side west east))).payload }
 {
-    generator.step(Action::Ais, 0);
-    out.fill_ones(to);
+    match action {
+        Action::Ais => Source::Ones,
+        Action::Normal | Action::New | Action::Up | Action::Down => match side {
+            Side::West => Source::First(au),
+            Side::East => Source::Second(au),
+        },
+    }
 }
 
-// Passes on an AU-4 that a side received.
+// AIS.
+#[tactic(auto, unfolding(crate::specs::Passing::au_sent))]
+fn send_ais(generator: &mut Gen) -> (Source, [u8; 9])
+    ensures generator { generator.new ≡ after_action generator.old Action.Ais 0 }
+    ensures source { (n to : ℕ) → IsSourceOf n to result.0 }
+    ensures pointers { result.1 ≡ (au_sent generator.old.sending no_input).pointers }
+    ensures payload { (n : ℕ) (west east own : List ℕ) → payload_from n west east own result.0 ≡ (au_sent generator.old.sending no_input).payload }
+{
+    generator.step(Action::Ais, 0);
+    (Source::Ones, [0xFF; 9])
+}
+
+// An AU-4 that a side received.
 #[tactic(auto, unfolding(crate::specs::Passing::au_sent, sdh_pointer::specs::Sending::after_action))]
-fn pass_on(
-    cross: &CrossConnect,
-    side: Side,
-    au: u16,
-    generator: &mut Gen,
-    out: &mut FrameBuf,
-    to: u16,
-)
-    requires rate { cross.now.west.section.rate ≡ out.old.rate }
+fn pass_on(cross: &CrossConnect, side: Side, au: u16, generator: &mut Gen) -> (Source, [u8; 9])
     requires first { 1 ≤ au }
-    requires last { au ≤ n_of out.old.rate }
-    requires to_first { 1 ≤ to }
-    requires to_last { to ≤ n_of out.old.rate }
+    requires last { au ≤ n_of cross.now.west.section.rate }
     ensures generator { let input = received cross.now side au in generator.new ≡ after_action generator.old input.action input.value }
-    ensures frame { out.new ≡ record out.old { bytes = with_au (n_of out.old.rate) to (au_sent generator.old.sending (received cross.now side au)) out.old.bytes } }
+    ensures source { (to : ℕ) → IsSourceOf (n_of cross.now.west.section.rate) to result.0 }
+    ensures pointers { result.1 ≡ (au_sent generator.old.sending (received cross.now side au)).pointers }
+    ensures payload { (own : List ℕ) → payload_by cross.now own result.0 ≡ (au_sent generator.old.sending (received cross.now side au)).payload }
 {
     let action = cross.action(side, au);
     let form = generator.step(action, cross.value(side, au));
     let frame = cross.intake(side).frame();
-    put_for(action, form, generator.word(), frame, au, out, to);
+    let pointers = pointers_for(action, form, generator.word(), frame, au);
+    (source_for(action, side, au), pointers)
 }
 
-// Sends the next chunk of a port.
-#[tactic(auto, using(crate::proofs::Ports::own_h3), unfolding(crate::specs::Passing::au_sent, crate::specs::Tributaries::sent_in, sdh_pointer::specs::Sending::after_action, sdh_frame::specs::Aus::with_au))]
-fn send_own(port: &Tributary, generator: &mut Gen, out: &mut FrameBuf, to: u16)
-    requires to_first { 1 ≤ to }
-    requires to_last { to ≤ n_of out.old.rate }
+// The next chunk of a port.
+#[tactic(auto, using(crate::proofs::Ports::own_h3), unfolding(crate::specs::Passing::au_sent, crate::specs::Tributaries::sent_in, sdh_pointer::specs::Sending::after_action))]
+fn send_own(port: &Tributary, generator: &mut Gen, own: &mut [u8], to: u16) -> (Source, [u8; 9])
+    requires first { 1 ≤ to }
+    requires room { 2349 * to ≤ length own.old }
     ensures generator { generator.new ≡ after_action generator.old Action.Normal port.now.feed.port.offset }
-    ensures frame { out.new ≡ record out.old { bytes = with_au (n_of out.old.rate) to (au_sent generator.old.sending (own_input port.now)) out.old.bytes } }
+    ensures source { (n : ℕ) → IsSourceOf n to result.0 }
+    ensures pointers { result.1 ≡ (au_sent generator.old.sending (own_input port.now)).pointers }
+    ensures payload { (n : ℕ) (west east : List ℕ) → payload_from n west east own.new result.0 ≡ (au_sent generator.old.sending (own_input port.now)).payload }
+    ensures others { (m : ℕ) → 1 ≤ m → m ≢ to → payload_in m own.new ≡ payload_in m own.old }
+    ensures len { length own.new ≡ length own.old }
 {
-    let form = generator.step(Action::Normal, port.offset());
-    let pointers = pointers_with(generator.word(), [0, 0, 0]);
-    out.put_payload(to, port.chunk());
-    out.put_pointers(to, &pointers);
+    generator.step(Action::Normal, port.offset());
+    put_own(own, to, port.chunk());
+    (Source::Own(to), pointers_with(generator.word(), [0, 0, 0]))
 }
 
-// Adds the stream of the port with this name, if it is there.
+// The stream of the port with this name, if it is there.
 #[tactic(auto, unfolding(crate::specs::Tributaries::sent_in))]
-fn add(id: PortId, ports: &Tributaries, generator: &mut Gen, out: &mut FrameBuf, to: u16)
-    requires to_first { 1 ≤ to }
-    requires to_last { to ≤ n_of out.old.rate }
+fn add(
+    id: PortId,
+    ports: &Tributaries,
+    generator: &mut Gen,
+    own: &mut [u8],
+    to: u16,
+) -> (Source, [u8; 9])
+    requires first { 1 ≤ to }
+    requires room { 2349 * to ≤ length own.old }
     ensures generator { let input = added_last ports.now id in generator.new ≡ after_action generator.old input.action input.value }
-    ensures frame { out.new ≡ record out.old { bytes = with_au (n_of out.old.rate) to (au_sent generator.old.sending (added_last ports.now id)) out.old.bytes } }
+    ensures source { (n : ℕ) → IsSourceOf n to result.0 }
+    ensures pointers { result.1 ≡ (au_sent generator.old.sending (added_last ports.now id)).pointers }
+    ensures payload { (n : ℕ) (west east : List ℕ) → payload_from n west east own.new result.0 ≡ (au_sent generator.old.sending (added_last ports.now id)).payload }
+    ensures others { (m : ℕ) → 1 ≤ m → m ≢ to → payload_in m own.new ≡ payload_in m own.old }
+    ensures len { length own.new ≡ length own.old }
 {
     match ports.find(id) {
-        Some(port) => send_own(port, generator, out, to),
-        None => send_ais(generator, out, to),
+        Some(port) => send_own(port, generator, own, to),
+        None => send_ais(generator),
     }
 }
 
-// Sends one AU-4.
+// What one AU-4 is: where its payload comes from, and its pointer bytes. A port's payload goes to the place of the AU-4 among
+// the own ones.
 fn send_one(
     cross: &CrossConnect,
     ports: &Tributaries,
     slot: u16,
     origin: Origin,
     generator: &mut Gen,
-    out: &mut FrameBuf,
+    own: &mut [u8],
     to: u16,
-)
-    requires rate { cross.now.west.section.rate ≡ out.old.rate }
+) -> (Source, [u8; 9])
     requires first { 1 ≤ slot }
     requires last { slot ≤ half_of cross.now }
     requires to_first { 1 ≤ to }
-    requires to_last { to ≤ n_of out.old.rate }
+    requires room { 2349 * to ≤ length own.old }
     ensures generator { let input = input_of cross.now (added_last ports.now) slot origin in generator.new ≡ after_action generator.old input.action input.value }
-    ensures frame { out.new ≡ record out.old { bytes = with_au (n_of out.old.rate) to (au_sent generator.old.sending (input_of cross.now (added_last ports.now) slot origin)) out.old.bytes } }
+    ensures source { IsSourceOf (n_of cross.now.west.section.rate) to result.0 }
+    ensures pointers { result.1 ≡ (au_sent generator.old.sending (input_of cross.now (added_last ports.now) slot origin)).pointers }
+    ensures payload { payload_by cross.now own.new result.0 ≡ (au_sent generator.old.sending (input_of cross.now (added_last ports.now) slot origin)).payload }
+    ensures others { (m : ℕ) → 1 ≤ m → m ≢ to → payload_in m own.new ≡ payload_in m own.old }
+    ensures len { length own.new ≡ length own.old }
 {
     let half = cross.half();
     match origin {
-        Origin::Add(id) => add(id, ports, generator, out, to),
-        Origin::Working(side) => pass_on(cross, side, slot, generator, out, to),
-        Origin::Protection(side) => pass_on(cross, side, half + slot, generator, out, to),
-        Origin::Ais => send_ais(generator, out, to),
+        Origin::Add(id) => add(id, ports, generator, own, to),
+        Origin::Working(side) => pass_on(cross, side, slot, generator),
+        Origin::Protection(side) => pass_on(cross, side, half + slot, generator),
+        Origin::Ais => send_ais(generator),
     }
 }
 
@@ -178,27 +184,112 @@ fn any_moved(generators: &[Gen]) -> bool
     generators.iter().any(|generator| generator.moved())
 }
 
+// All generators of a side step, and tell what the AU-4s are. Whether they are in the states in which they were.
+fn plan_all(
+    cross: &CrossConnect,
+    ports: &Tributaries,
+    side: Side,
+    generators: &mut Vec<Gen>,
+    sources: &mut [Source],
+    pointers: &mut [[u8; 9]],
+    own: &mut [u8],
+) -> bool
+    requires few { n_of cross.now.west.section.rate ≤ 16 }
+    requires len { length generators.old.items ≡ n_of cross.now.west.section.rate }
+    requires sources { length sources.old ≡ n_of cross.now.west.section.rate }
+    requires pointers { length pointers.old ≡ n_of cross.now.west.section.rate }
+    requires own { length own.old ≡ 2349 * n_of cross.now.west.section.rate }
+    ensures generators { states_of generators.new.items ≡ after_inputs (input_at cross.now (added_last ports.now) side) (states_of generators.old.items) }
+    ensures aus { assembled (n_of cross.now.west.section.rate) cross.now.west_in.frame.bytes cross.now.east_in.frame.bytes own.new sources.new pointers.new ≡ aus_sent (input_at cross.now (added_last ports.now) side) (states_of generators.old.items) }
+    ensures sources { AreSources (n_of cross.now.west.section.rate) sources.new }
+    ensures same { result ≡ same_generators (states_of generators.new.items) (states_of generators.old.items) }
+    ensures len { length generators.new.items ≡ n_of cross.now.west.section.rate }
+    ensures pointers_len { length pointers.new ≡ n_of cross.now.west.section.rate }
+    ensures own_len { length own.new ≡ 2349 * n_of cross.now.west.section.rate }
+{
+    for k in 0..generators.len() {
+        let to = k as u16 + 1;
+        let (slot, origin) = cross.leaving(side, to);
+        let generator = &mut generators[k];
+        let (source, bytes) = send_one(cross, ports, slot, origin, generator, own, to);
+        sources[k] = source;
+        pointers[k] = bytes;
+    }
+    !any_moved(generators)
+}
+
+/// What the AU-4s of a frame are before it is put together: where the payload of each comes from, its pointer bytes, and room
+/// for the payloads of the node's own ports.
+#[derive(Drop)]
+pub struct Assembly {
+    pub sources: Vec<Source>,
+    pub pointers: Vec<[u8; 9]>,
+    pub own: Vec<u8>,
+}
+
+impl fmt::Debug for Assembly {
+    fn fmt<W: fmt::Write>(&self, f: &mut fmt::Formatter<W>) -> fmt::Result {
+        write!(f, "Assembly({} AU-4s)", self.sources.len())
+    }
+}
+
+impl Assembly {
+    /// Room for so many AU-4s. All its memory is taken here.
+    pub fn try_new(alloc: Global, n: usize) -> Result<Assembly, AllocError>
+        requires { n ≤ 16 }
+        ensures sources { IfOk result (λ a. length a.sources.items ≡ n) }
+        ensures pointers { IfOk result (λ a. length a.pointers.items ≡ n) }
+        ensures own { IfOk result (λ a. length a.own.items ≡ 2349 * n) }
+    {
+        Ok(Assembly {
+            sources: vec![in alloc; Source::Ones; n]?,
+            pointers: vec![in alloc; [0xFF; 9]; n]?,
+            own: vec![in alloc; 0; 2349 * n]?,
+        })
+    }
+}
+
 /// All generators of a side send. Whether they are in the states in which they were.
 pub fn send_all(
     cross: &CrossConnect,
     ports: &Tributaries,
     side: Side,
     generators: &mut Vec<Gen>,
+    assembly: &mut Assembly,
     out: &mut FrameBuf,
 ) -> bool
     requires rate { cross.now.west.section.rate ≡ out.old.rate }
     requires few { n_of out.old.rate ≤ 16 }
     requires len { length generators.old.items ≡ n_of out.old.rate }
+    requires sources { length assembly.old.sources.items ≡ n_of out.old.rate }
+    requires pointers { length assembly.old.pointers.items ≡ n_of out.old.rate }
+    requires own { length assembly.old.own.items ≡ 2349 * n_of out.old.rate }
     ensures generators { states_of generators.new.items ≡ after_inputs (input_at cross.now (added_last ports.now) side) (states_of generators.old.items) }
     ensures frame { out.new ≡ record out.old { bytes = with_aus (n_of out.old.rate) 1 (aus_sent (input_at cross.now (added_last ports.now) side) (states_of generators.old.items)) out.old.bytes } }
     ensures len { length generators.new.items ≡ n_of out.old.rate }
     ensures same { result ≡ same_generators (states_of generators.new.items) (states_of generators.old.items) }
+    ensures sources { length assembly.new.sources.items ≡ n_of out.old.rate }
+    ensures pointers { length assembly.new.pointers.items ≡ n_of out.old.rate }
+    ensures own { length assembly.new.own.items ≡ 2349 * n_of out.old.rate }
 {
-    for k in 0..generators.len() {
-        let to = k as u16 + 1;
-        let (slot, origin) = cross.leaving(side, to);
-        let generator = &mut generators[k];
-        send_one(cross, ports, slot, origin, generator, out, to);
-    }
-    !any_moved(generators)
+    let same = plan_all(
+        cross,
+        ports,
+        side,
+        generators,
+        assembly.sources.as_mut_slice(),
+        assembly.pointers.as_mut_slice(),
+        assembly.own.as_mut_slice(),
+    );
+    let west = cross.intake(Side::West).frame();
+    let east = cross.intake(Side::East).frame();
+    assemble(
+        out,
+        assembly.sources.as_slice(),
+        assembly.pointers.as_slice(),
+        west,
+        east,
+        assembly.own.as_slice(),
+    );
+    same
 }

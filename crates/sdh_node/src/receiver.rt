@@ -86,6 +86,23 @@ impl Receiver {
         }
     }
 
+    /// Keeps what arrived for the next round as `receive` does, and takes a frame in exchange for another, whose bytes don't
+    /// count.
+    pub fn exchange(&mut self, arrived: Arrived, frame: &mut FrameBuf)
+        requires { frame.old.rate ≡ self.old.section.rate }
+        ensures side { self.new ≡ arrived_on (as_arrival arrived frame.old.bytes) self.old }
+        ensures local { self.new.local ≡ self.old.local }
+        ensures rate { frame.new.rate ≡ frame.old.rate }
+    {
+        match arrived {
+            Arrived::Frame => {
+                std::mem::swap(&mut self.frame, frame);
+                self.arrived = Some(Arrived::Frame);
+            }
+            Arrived::Dark => self.arrived = Some(Arrived::Dark),
+        }
+    }
+
     /// Gives the side a command.
     pub fn command(&mut self, command: Command)
         ensures { self.new ≡ commanded_by command self.old }

@@ -11,7 +11,7 @@ ghost use Rattle.sdh_node.specs.Node.{new_sending};
 
 use crate::cross::CrossConnect;
 use crate::making::new_generators;
-use crate::passing::send_all;
+use crate::passing::{Assembly, send_all};
 use crate::settings::Settings;
 use crate::tributaries::Tributaries;
 use sdh_frame::FrameBuf;
@@ -27,10 +27,13 @@ use std::marker::Model;
 pub struct Sender {
     section: Section,
     generators: Vec<Gen>,
+    assembly: Assembly,
     word: K,
 }
 
 impl Model for Sender {
+    ghost use Rattle.std.specs.Prelude.{◌≡◌, ◌*◌, length};
+    ghost use Rattle.sdh_frame.specs.Sizes.{n_of};
     ghost use Rattle.sdh_node.specs.Passing.{states_of};
     ghost use Rattle.sdh_node.specs.Sending.{Sending, IsSending};
 
@@ -38,7 +41,12 @@ impl Model for Sender {
 
     ghost view = { λ s. record { section = s.section; generators = states_of s.generators.items; word = s.word } };
 
-    ghost invariant = { λ s. IsSending (record { section = s.section; generators = states_of s.generators.items; word = s.word }) };
+    ghost invariant = { λ s. record {
+      side : IsSending (record { section = s.section; generators = states_of s.generators.items; word = s.word });
+      sources : length s.assembly.sources.items ≡ n_of s.section.rate;
+      pointers : length s.assembly.pointers.items ≡ n_of s.section.rate;
+      own : length s.assembly.own.items ≡ 2349 * n_of s.section.rate;
+    } };
 }
 
 impl Sender {
@@ -50,6 +58,7 @@ impl Sender {
         Ok(Sender {
             section: Section::try_new(settings.rate),
             generators: new_generators(alloc, settings.rate.n())?,
+            assembly: Assembly::try_new(alloc, settings.rate.n())?,
             word,
         })
     }
@@ -91,7 +100,14 @@ impl Sender {
     {
         // Reading it gives the proof what is true of every frame.
         let _ = out.rate();
-        let same = send_all(cross, ports, side, &mut self.generators, out);
+        let same = send_all(
+            cross,
+            ports,
+            side,
+            &mut self.generators,
+            &mut self.assembly,
+            out,
+        );
         let (k1, k2) = encode(self.word);
         write_section(&mut self.section, k1, k2, out);
         same

@@ -9,7 +9,8 @@ use crate::cross::CrossConnect;
 use crate::outlet::Outlet;
 use crate::tributary::{Tributary, deliver_all, feed_all, place_of, tributaries_at};
 use sdh_circuits::{CircuitMap, End, PortId};
-use sdh_ringmap::Pos;
+use sdh_interchange::Taken;
+use sdh_ringmap::{Pos, Side};
 use std::alloc::{AllocError, Global};
 use std::marker::Model;
 
@@ -19,6 +20,9 @@ pub struct Tributaries {
     items: Vec<Tributary>,
     // The places of the ports of circuit 0, of circuit 1 and so on, A before B.
     places: Vec<Option<usize>>,
+    // What is taken out of both frames that were received, while the ports deliver.
+    west: Taken,
+    east: Taken,
 }
 
 impl Model for Tributaries {
@@ -78,7 +82,12 @@ impl Tributaries {
     {
         let items = tributaries_at(alloc, circuits, at)?;
         let places = places_in(alloc, &items, 2 * circuits.len())?;
-        Ok(Tributaries { items, places })
+        Ok(Tributaries {
+            items,
+            places,
+            west: Taken::try_new(alloc)?,
+            east: Taken::try_new(alloc)?,
+        })
     }
 
     fn place(&self, id: PortId) -> Option<usize>
@@ -131,6 +140,8 @@ impl Tributaries {
         requires { All (λ t. (1 ≤ t.slot.0) × (t.slot.0 ≤ half_of cross.now)) self.old }
         ensures { self.new ≡ all_delivered cross.now self.old }
     {
-        deliver_all(cross, &mut self.items);
+        self.west.begin(cross.intake(Side::West).frame());
+        self.east.begin(cross.intake(Side::East).frame());
+        deliver_all(cross, &mut self.items, &mut self.west, &mut self.east);
     }
 }

@@ -1,6 +1,7 @@
 //! The ports of circuits at a node.
 ghost use Rattle.std.specs.Prelude.{◌≡◌, ℕ, ◌+◌, ◌-◌, ◌^◌, ◌<◌, ◌≤◌, [], ◌∷◌, ◌++◌, if◌then◌else◌, All, IfOk, OnOk, IfSome, length, position};
 ghost use Rattle.sdh_circuits.specs.Provisioned.{customer_at};
+ghost use Rattle.sdh_interchange.specs.Taking.{IsOf};
 ghost use Rattle.sdh_payload.specs.Stream.{chunk_of};
 ghost use Rattle.sdh_node.specs.Tributaries.{new_tributary, ends_at, tributaries_at, is_port, own_chunk, fed, all_fed, IsTributary};
 ghost use Rattle.sdh_node.specs.Crossing.{half_of, delivered_to, all_delivered};
@@ -8,6 +9,7 @@ ghost use Rattle.sdh_node.specs.Crossing.{half_of, delivered_to, all_delivered};
 use crate::cross::CrossConnect;
 use crate::outlet::Outlet;
 use sdh_circuits::{Circuit, CircuitMap, End, PortId, Slot, same_end};
+use sdh_interchange::Taken;
 use sdh_payload::{Cells, Feed, Port};
 use sdh_ringmap::{Pos, Side};
 use std::alloc::{AllocError, Global};
@@ -109,12 +111,16 @@ impl Tributary {
     }
 
     /// Delivers what the node's state leads to it.
-    pub fn deliver(&mut self, cross: &CrossConnect)
+    pub fn deliver(&mut self, cross: &CrossConnect, west: &mut Taken, east: &mut Taken)
         requires first { 1 ≤ self.old.slot.0 }
         requires last { self.old.slot.0 ≤ half_of cross.now }
-        ensures { self.new ≡ delivered_to cross.now self.old }
+        requires west { IsOf cross.now.west_in.frame west.old }
+        requires east { IsOf cross.now.east_in.frame east.old }
+        ensures west { IsOf cross.now.west_in.frame west.new }
+        ensures east { IsOf cross.now.east_in.frame east.new }
+        ensures port { self.new ≡ delivered_to cross.now self.old }
     {
-        cross.deliver(self.side, self.slot, &mut self.outlet);
+        cross.deliver(self.side, self.slot, west, east, &mut self.outlet);
     }
 }
 
@@ -138,13 +144,20 @@ pub fn feed_all(ports: &mut Vec<Tributary>)
 }
 
 /// Each port delivers what the node's state leads to it.
-pub fn deliver_all(cross: &CrossConnect, ports: &mut Vec<Tributary>)
-    requires { All (λ t. (1 ≤ t.slot.0) × (t.slot.0 ≤ half_of cross.now)) ports.old.items }
+pub fn deliver_all(
+    cross: &CrossConnect,
+    ports: &mut Vec<Tributary>,
+    west: &mut Taken,
+    east: &mut Taken,
+)
+    requires ports { All (λ t. (1 ≤ t.slot.0) × (t.slot.0 ≤ half_of cross.now)) ports.old.items }
+    requires west { IsOf cross.now.west_in.frame west.old }
+    requires east { IsOf cross.now.east_in.frame east.old }
     ensures { ports.new.items ≡ all_delivered cross.now ports.old.items }
 {
     for i in 0..ports.len() {
         let port = &mut ports[i];
-        port.deliver(cross);
+        port.deliver(cross, west, east);
     }
 }
 

@@ -33,7 +33,7 @@ fn receive_one<P: Plant>(
     ensures cause { HasCause P.exact (P.faults plant.old) (P.faults plant.new) result }
 {
     let arrived = plant.receive(at, side, frame)?;
-    node.receive(side, arrived, frame);
+    node.exchange(side, arrived, frame);
     Ok(())
 }
 

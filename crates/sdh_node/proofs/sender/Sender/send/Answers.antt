@@ -14,7 +14,7 @@ returns-clause-frame c =
     let s : Sending = record { section = c.self.inside.section; generators = states_of c.self.inside.generators.items; word = c.self.inside.word } in
     let is : s ≡ c.args.self.now = c.self.view_is in
     let rate : c.args.out.now.rate ≡ s.section.rate = sym (ap (λ (x : Sending). x.section.rate) is ∙ c.requires.section) in
-    frame_is input s c.args.out.now c.send_all-same.new.out c.encode-k1.result.0 c.encode-k1.result.1 c.rate.ensures.len rate c.self.invariant.generators c.send_all-same.ensures.frame c.encode-k1.ensures.bytes.first c.encode-k1.ensures.bytes.second
+    frame_is input s c.args.out.now c.send_all-same.new.out c.encode-k1.result.0 c.encode-k1.result.1 c.rate.ensures.len rate c.self.invariant.side.generators c.send_all-same.ensures.frame c.encode-k1.ensures.bytes.first c.encode-k1.ensures.bytes.second
     c.write_section.new.frame c.write_section.ensures.frame
     ∙ ap (frame_from input) is
 
@@ -25,9 +25,9 @@ returns-clause-sender c =
     let s : Sending = record { section = c.self.inside.section; generators = states_of c.self.inside.generators.items; word = c.self.inside.word } in
     let is : s ≡ c.args.self.now = c.self.view_is in
     let rate : c.args.out.now.rate ≡ s.section.rate = sym (ap (λ (x : Sending). x.section.rate) is ∙ c.requires.section) in
-    let clear = clear_is input s c.args.out.now c.send_all-same.new.out c.encode-k1.result.0 c.encode-k1.result.1 c.rate.ensures.len rate c.self.invariant.generators c.send_all-same.ensures.frame c.encode-k1.ensures.bytes.first c.encode-k1.ensures.bytes.second in
+    let clear = clear_is input s c.args.out.now c.send_all-same.new.out c.encode-k1.result.0 c.encode-k1.result.1 c.rate.ensures.len rate c.self.invariant.side.generators c.send_all-same.ensures.frame c.encode-k1.ensures.bytes.first c.encode-k1.ensures.bytes.second in
     let frame : c.write_section.new.frame ≡ frame_from input s =
-    frame_is input s c.args.out.now c.send_all-same.new.out c.encode-k1.result.0 c.encode-k1.result.1 c.rate.ensures.len rate c.self.invariant.generators c.send_all-same.ensures.frame c.encode-k1.ensures.bytes.first c.encode-k1.ensures.bytes.second
+    frame_is input s c.args.out.now c.send_all-same.new.out c.encode-k1.result.0 c.encode-k1.result.1 c.rate.ensures.len rate c.self.invariant.side.generators c.send_all-same.ensures.frame c.encode-k1.ensures.bytes.first c.encode-k1.ensures.bytes.second
     c.write_section.new.frame c.write_section.ensures.frame in
     let line : c.write_section.new.frame.bytes ≡ line_frame_from input s = ap (λ (f : Frame). f.bytes) frame in
     let kept : c.write_section.new.section ≡ holding s.section.rate (Some (parities_of (n_of s.section.rate) (clear_frame_from input s) (line_frame_from input s))) =

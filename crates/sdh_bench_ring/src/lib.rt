@@ -1,0 +1,190 @@
+//! Rounds of whole rings over fibres in memory, which `bench/ring` measures. No other crate uses this one.
+#![tactic(auto)]
+
+ghost use Rattle.std.specs.Prelude.{◌≡◌, ◌≤◌, ◌<◌, ◌+◌, ◌*◌, ◌/◌, ◌^◌, ◌⊎◌, ℕ, IfOk, OnOk, false, length};
+ghost use Rattle.sdh_frame.specs.Sizes.{n_of};
+ghost use Rattle.sdh_plant.specs.Fibres.{HasNoFibres, IsPrepared};
+ghost use Rattle.sdh_squelch.specs.Kept.{KeepsRing};
+
+use sdh_circuits::{Asked, CircuitMap, End, PortId};
+use sdh_frame::Rate;
+use sdh_node::{Delivered, Settings};
+use sdh_plant::{Condition, FibreEvent, FibrePlant, Plant};
+use sdh_ring::{PlantFault, Ring};
+use sdh_ringmap::{Pos, RingMap, Side};
+use std::alloc::{AllocError, Global};
+
+fn rate_of(n: usize) -> Rate
+    requires { (n ≡ 4) ⊎ (n ≡ 16) }
+    ensures { n_of result ≡ n }
+{
+    if n == 4 { Rate::Four } else { Rate::Sixteen }
+}
+
+// The name of a circuit: four letters.
+fn name_at(names: &str, number: usize) -> &str
+    requires { number < 128 }
+{
+    match names.get(4 * number..4 * number + 4) {
+        Some(name) => name,
+        None => "",
+    }
+}
+
+// So many circuits: the first ones leave each node eastwards for the next in slot 1, those after them in slot 2, and so on.
+fn circuits_of(
+    alloc: Global,
+    rate: Rate,
+    map: &RingMap,
+    nodes: usize,
+    count: usize,
+    names: &str,
+) -> Result<CircuitMap, AllocError>
+    requires nodes { 1 ≤ nodes }
+    requires few { nodes ≤ 16 }
+    requires count { count ≤ 128 }
+    ensures slots { IfOk result (λ circuits. circuits.slots ≡ n_of rate / 2) }
+    ensures kept { IfOk result (λ circuits. KeepsRing circuits map.now) }
+{
+    let mut circuits = CircuitMap::new(alloc, (rate.n() / 2) as u8);
+    'wishes: for number in 0..count {
+        let name = name_at(names, number);
+        let asked = Asked {
+            name,
+            from: (number % nodes) as i64,
+            to: ((number + 1) % nodes) as i64,
+            slot: (number / nodes + 1) as i64,
+            offset_a: 0,
+            offset_b: 0,
+            text_a: "ABCDEFG",
+            text_b: "abcdefg",
+            trace_a: name,
+            trace_b: name,
+        };
+        circuits.add(map, &asked).map_err(|_| AllocError)?;
+    }
+    Ok(circuits)
+}
+
+// The ring of nodes 0, 1 and so on, and the plant laid for it; a refusal counts as want of memory here.
+fn laid<P: Plant>(
+    alloc: Global,
+    plant: &mut P,
+    rate: Rate,
+    ids: &[i64],
+    count: usize,
+    names: &str,
+) -> Result<Ring, AllocError>
+    requires plant { HasNoFibres (P.fibres plant.old) }
+    requires count { count ≤ 128 }
+    ensures prepared { IfOk result (λ ring. IsPrepared ring.settings.rate (length ring.ids) (P.fibres plant.new)) }
+    ensures whole { IfOk result (λ ring. ring.broken ≡ false) }
+    ensures new { IfOk result (λ ring. ring.rounds ≡ 0) }
+{
+    let map = RingMap::new(ids).map_err(|_| AllocError)?;
+    let nodes = map.len();
+    let circuits = circuits_of(alloc, rate, &map, nodes, count, names)?;
+    plant.prepare(alloc, rate, nodes).map_err(|_| AllocError)?;
+    let settings = Settings {
+        rate,
+        threshold: 3,
+        wait: 10,
+    };
+    Ok(Ring::try_new(alloc, settings, map, circuits)?)
+}
+
+// Cuts the fibre that leaves a position on a side.
+fn cut<P: Plant>(plant: &mut P, at: usize, side: Side)
+    requires at { at < (P.fibres plant.old).nodes }
+    requires few { at < 16 }
+    ensures { (rate : _) (n : ℕ) → IsPrepared rate n (P.fibres plant.old) → IsPrepared rate n (P.fibres plant.new) }
+{
+    let event = FibreEvent {
+        at: Pos(at as u8),
+        side,
+        condition: Condition::Cut,
+    };
+    let _ = plant.apply(event);
+}
+
+// Cuts so many spans both ways, five nodes apart.
+fn cut_spans<P: Plant>(ring: &Ring, plant: &mut P, count: usize)
+    requires prepared { IsPrepared ring.now.settings.rate (length ring.now.ids) (P.fibres plant.old) }
+    requires count { count ≤ 3 }
+    ensures prepared { IsPrepared ring.now.settings.rate (length ring.now.ids) (P.fibres plant.new) }
+{
+    let nodes = ring.map().len();
+    'cuts: for number in 0..count {
+        let at = 5 * number % nodes;
+        cut(plant, at, Side::East);
+        cut(plant, (at + 1) % nodes, Side::West);
+    }
+}
+
+// Runs so many rounds.
+fn run<P: Plant>(ring: &mut Ring, plant: &mut P, rounds: u32) -> Result<(), PlantFault>
+    requires prepared { IsPrepared ring.old.settings.rate (length ring.old.ids) (P.fibres plant.old) }
+    requires whole { ring.old.broken ≡ false }
+    requires room { ring.old.rounds + rounds ≤ 2 ^ 32 }
+{
+    'turns: for _turn in 0..rounds {
+        ring.round(plant)?;
+    }
+    Ok(())
+}
+
+fn is_chunk(ring: &Ring, port: PortId) -> bool
+    requires { port.circuit < length ring.now.circuits.circuits }
+{
+    match ring.port(port) {
+        Delivered::Ais => false,
+        Delivered::Chunk(_) => true,
+    }
+}
+
+// How many ports delivered a chunk in the last round.
+fn chunks_in(ring: &Ring) -> u32
+    ensures { result ≤ 256 }
+{
+    let mut chunks = 0u32;
+    for circuit in 0..ring.circuits().len() {
+        let circuit = circuit as u8;
+        for end in [End::A, End::B] {
+            if is_chunk(ring, PortId { circuit, end }) {
+                chunks = chunks.saturating_add(1);
+            }
+        }
+    }
+    chunks.min(256)
+}
+
+/// Makes a ring of these nodes with so many circuits and so many spans that are cut, runs so many rounds, and tells how many
+/// ports delivered a chunk in the last. It is 1,000 where there is no such ring, or no memory.
+#[unsafe(no_mangle)]
+pub extern "C" fn sdh_bench_ring(
+    alloc: Global,
+    n: usize,
+    ids: &[i64],
+    circuits: usize,
+    names: &[u8],
+    cuts: usize,
+    rounds: u32,
+) -> u32
+    requires rate { (n ≡ 4) ⊎ (n ≡ 16) }
+    requires circuits { circuits ≤ 128 }
+    requires cuts { cuts ≤ 3 }
+    requires rounds { rounds ≤ 1000000 }
+{
+    let Ok(names) = std::str::from_utf8(names) else {
+        return 1000;
+    };
+    let mut plant = FibrePlant::new();
+    let Ok(mut ring) = laid(alloc, &mut plant, rate_of(n), ids, circuits, names) else {
+        return 1000;
+    };
+    cut_spans(&ring, &mut plant, cuts);
+    match run(&mut ring, &mut plant, rounds) {
+        Ok(()) => chunks_in(&ring),
+        Err(_) => 1000,
+    }
+}

@@ -1,0 +1,193 @@
+-- The frame whose AU-4s come from two others, byte by byte.
+use Rattle.std.proofs.Common.{◌≡◌, ◌≢◌, ℕ, zero, suc, ◌+◌, ◌*◌, ◌-◌, ◌/◌, ◌%◌, ◌<◌, ◌≤◌, ◌⊎◌, inl, inr, Bool, true, false, eqb, leb, List, [], ◌∷◌, length, take, drop, get_or, map, replicate, refl, ap, sym, ◌∙◌, arith, subst}
+use Rattle.std.specs.Prelude.{◌||◌, if◌then◌else◌, slice_index_or}
+use Rattle.std.proofs.lemmas.Bool.{cases_Bool, cases_eq, cases_lt, eq-eqb, ne_eqb, le-leb, lt-leb}
+use Rattle.std.proofs.lemmas.List.{ext_get_or, get_or-replicate, get_or-map, length-map, get_or-take, get_or-drop, length-take, length-drop}
+use Rattle.sdh_basics.proofs.CellsLaws.{get_or-cells}
+use Rattle.sdh_frame.specs.declared.Rate.{Rate}
+use Rattle.sdh_frame.specs.declared.Rate.TheVariants.{Four, Sixteen}
+use Rattle.sdh_interchange.specs.declared.choose.Source.{Source}
+use Rattle.sdh_interchange.specs.declared.choose.Source.TheVariants.{First, Second, Own, Ones}
+use Rattle.sdh_frame.specs.Sizes.{n_of, size_of}
+use Rattle.sdh_frame.specs.Fields.{index_of, payload_place, place_of_pointer}
+use Rattle.sdh_frame.specs.Aus.{payload_of, pointers_of, Au, au_of, with_aus, ones}
+use Rattle.sdh_interchange.specs.Choosing.{payload_in, au_from, chosen, IsSource, AreSources, own_byte, picked, picked_at, is_au_byte, IsPlain}
+use Rattle.sdh_frame.proofs.PlaceProofs.{IsIn, IsPointerByte}
+use Rattle.sdh_frame.proofs.AuProofs.{au_byte, at_pointer, length-with_pointers, payload_byte-here, payload_byte-other, payload_byte-before, pointer_byte-here, pointer_byte-other, pointer_byte-payload, pointer_byte-row}
+use Rattle.sdh_frame.proofs.Moves.{taken}
+use Rattle.sdh_frame.proofs.AllAus.{aus_byte, at_aus, length-with_aus}
+
+-- ---- payloads that stand one after the other
+
+pub own_byte-at : (n : ℕ) (own : List ℕ) (i a q : ℕ) → 9 * n ≤ i % (270 * n) → i % n ≡ a → 261 * (i / (270 * n)) + (i % (270 * n) - 9 * n) / n ≡ q → own_byte n own i ≡ get_or own (2349 * a + q) 0
+unfolding own_byte
+own_byte-at n own i a q h lane column = let behind : leb (9 * n) (i % (270 * n)) ≡ true = le-leb _ _ h in rw (behind, lane, column) refl
+
+own_byte-none : (n : ℕ) (own : List ℕ) (i : ℕ) → i % (270 * n) < 9 * n → own_byte n own i ≡ 0
+unfolding own_byte
+own_byte-none n own i h = let before : leb (9 * n) (i % (270 * n)) ≡ false = lt-leb _ _ h in rw before refl
+
+pub plain4 : (s : Source) (own : List ℕ) (i : ℕ) → 3240 ≤ i → i < 3276 → IsSource 4 s → IsPlain 4 s own i
+plain4 (First au) own i low high is = tt
+plain4 (Second au) own i low high is = tt
+plain4 (Own k) own i low high is = let few : k ≤ 4 = is.1 in own_byte-none 4 own (i - i % 4 + (k - 1)) (omega arith)
+plain4 Ones own i low high is = tt
+
+pub plain16 : (s : Source) (own : List ℕ) (i : ℕ) → 12960 ≤ i → i < 13104 → IsSource 16 s → IsPlain 16 s own i
+plain16 (First au) own i low high is = tt
+plain16 (Second au) own i low high is = tt
+plain16 (Own k) own i low high is = let few : k ≤ 16 = is.1 in own_byte-none 16 own (i - i % 16 + (k - 1)) (omega arith)
+plain16 Ones own i low high is = tt
+
+-- where a byte of a payload stands in its column
+record IsOwn (n i k j : ℕ) : Type 0 where
+  behind : 9 * n ≤ j % (270 * n)
+  lane : j % n ≡ k - 1
+  column : 261 * (j / (270 * n)) + (j % (270 * n) - 9 * n) / n ≡ 261 * (i / (270 * n)) + (i % (270 * n) - 9 * n) / n
+
+own_there : (rate : Rate) (i k : ℕ) → 1 ≤ k → k ≤ n_of rate → 9 * n_of rate ≤ i % (270 * n_of rate) → IsOwn (n_of rate) i k (i - i % n_of rate + (k - 1))
+own_there Four i k low high h = record { behind = omega arith; lane = omega arith; column = omega arith }
+own_there Sixteen i k low high h = record { behind = omega arith; lane = omega arith; column = omega arith }
+
+own_pointers : (rate : Rate) (i k : ℕ) → 1 ≤ k → k ≤ n_of rate → i % (270 * n_of rate) < 9 * n_of rate → (i - i % n_of rate + (k - 1)) % (270 * n_of rate) < 9 * n_of rate
+own_pointers Four i k low high h = omega arith
+own_pointers Sixteen i k low high h = omega arith
+
+pub get_or-payload_in : (k : ℕ) (own : List ℕ) (q : ℕ) → 1 ≤ k → q < 2349 → get_or (payload_in k own) q 0 ≡ get_or own (2349 * (k - 1) + q) 0
+get_or-payload_in k own q low h = get_or-take (2349 * k - 2349 * (k - 1)) (drop (2349 * (k - 1)) own) q 0 (omega arith) ∙ get_or-drop (2349 * (k - 1)) own q 0
+
+-- ---- one AU-4
+
+au_byte-other : (n k : ℕ) (au : Au) (i x : ℕ) → i % n + 1 ≢ k → au_byte n k au i x ≡ x
+unfolding au_byte
+au_byte-other n k au i x h = pointer_byte-other n k au.pointers i _ h ∙ payload_byte-other n k au.payload i x h
+
+au_byte-overhead : (n k : ℕ) (au : Au) (i x : ℕ) → i % (270 * n) < 9 * n → i / (270 * n) ≢ 3 → au_byte n k au i x ≡ x
+unfolding au_byte
+au_byte-overhead n k au i x h r = pointer_byte-row n k au.pointers i _ r ∙ payload_byte-before n k au.payload i x h
+
+-- ---- all of them
+
+aus_byte-after : (n k : ℕ) (aus : List Au) (i x : ℕ) → i % n + 1 < k → aus_byte n k aus i x ≡ x
+unfolding aus_byte
+aus_byte-after n k [] i x h = refl
+aus_byte-after n k (au ∷ aus) i x h = aus_byte-after n (k + 1) aus i (au_byte n k au i x) (omega arith) ∙ au_byte-other n k au i x (λ e. omega arith)
+
+pub aus_byte-at : (n k j : ℕ) (aus : List Au) (d : Au) (i x : ℕ) → i % n + 1 ≡ k + j → j < length aus → aus_byte n k aus i x ≡ au_byte n (k + j) (get_or aus j d) i x
+unfolding aus_byte
+aus_byte-at n k j [] d i x e lt = absurd (omega arith)
+aus_byte-at n k zero (au ∷ aus) d i x e lt = aus_byte-after n (k + 1) aus i (au_byte n k au i x) (omega arith) ∙ ap (λ m. au_byte n m au i x) (omega arith)
+aus_byte-at n k (suc j) (au ∷ aus) d i x e lt =
+    aus_byte-at n (k + 1) j aus d i (au_byte n k au i x) (omega arith) (omega arith) ∙ ap (λ m. au_byte n m (get_or aus j d) i (au_byte n k au i x)) (omega arith)
+    ∙ ap (au_byte n (k + suc j) (get_or aus j d) i) (au_byte-other n k au i x (λ f. omega arith))
+
+aus_byte-overhead : (n k : ℕ) (aus : List Au) (i x : ℕ) → i % (270 * n) < 9 * n → i / (270 * n) ≢ 3 → aus_byte n k aus i x ≡ x
+unfolding aus_byte
+aus_byte-overhead n k [] i x h r = refl
+aus_byte-overhead n k (au ∷ aus) i x h r = aus_byte-overhead n (k + 1) aus i (au_byte n k au i x) h r ∙ au_byte-overhead n k au i x h r
+
+-- ---- where a byte of an AU-4 stands in its source
+
+payload_from : (rate : Rate) (i au : ℕ) → 1 ≤ au → i < size_of rate → 9 * n_of rate ≤ i % (270 * n_of rate)
+    → (index_of (n_of rate) (payload_place (n_of rate) au (261 * (i / (270 * n_of rate)) + (i % (270 * n_of rate) - 9 * n_of rate) / n_of rate)) ≡ i - i % n_of rate + (au - 1))
+    × (261 * (i / (270 * n_of rate)) + (i % (270 * n_of rate) - 9 * n_of rate) / n_of rate < 2349)
+payload_from Four i au low h col = (omega arith, omega arith)
+payload_from Sixteen i au low h col = (omega arith, omega arith)
+
+pointer_from : (rate : Rate) (i au : ℕ) → 1 ≤ au → i < size_of rate → i / (270 * n_of rate) ≡ 3 → i % (270 * n_of rate) < 9 * n_of rate
+    → (index_of (n_of rate) (place_of_pointer (n_of rate) au (i % (270 * n_of rate) / n_of rate)) ≡ i - i % n_of rate + (au - 1)) × (i % (270 * n_of rate) / n_of rate < 9)
+pointer_from Four i au low h row col = (omega arith, omega arith)
+pointer_from Sixteen i au low h row col = (omega arith, omega arith)
+
+column_of : (rate : Rate) (i : ℕ) → 9 * n_of rate ≤ i % (270 * n_of rate) → i % (270 * n_of rate) + 1 ≡ 9 * n_of rate + ((i % (270 * n_of rate) - 9 * n_of rate) / n_of rate * n_of rate + (i % n_of rate + 1))
+column_of Four i h = omega arith
+column_of Sixteen i h = omega arith
+
+module _ (rate : Rate) (i x : ℕ) (inside : i < size_of rate) where
+  abbrev n : ℕ
+  n = n_of rate
+
+  is_in : 9 * n ≤ i % (270 * n) → IsIn n i (i / (270 * n)) ((i % (270 * n) - 9 * n) / n) (i % n + 1)
+  is_in h = record { column = column_of rate i h; number = refl; behind = h; back = refl; row = refl; within = inside }
+
+  is_pointer_byte : i / (270 * n) ≡ 3 → i % (270 * n) < 9 * n → IsPointerByte n i (i % (270 * n) / n) (i % n + 1)
+  is_pointer_byte r h = record { row = r; before = h; number = refl; within = inside; back = refl }
+
+  of_frame : (s : List ℕ) (au : ℕ) → 1 ≤ au → (9 * n ≤ i % (270 * n)) ⊎ ((i / (270 * n) ≡ 3) × (i % (270 * n) < 9 * n)) → au_byte n (i % n + 1) (au_of n au s) i x ≡ get_or s (i - i % n + (au - 1)) 0
+  unfolding au_byte payload_of pointers_of
+  of_frame s au low (inl h) =
+      let at = payload_from rate i au low inside h in
+      pointer_byte-payload n _ _ i _ h ∙ payload_byte-here n _ _ _ _ i x (is_in h) ∙ get_or-cells _ 2349 _ 0 at.1 ∙ ap (λ z. get_or s z 0) at.0
+  of_frame s au low (inr h) =
+      let at = pointer_from rate i au low inside h.0 h.1 in
+      pointer_byte-here n _ _ _ i _ (is_pointer_byte h.0 h.1) ∙ get_or-cells _ 9 _ 0 at.1 ∙ ap (λ z. get_or s z 0) at.0
+
+  of_ones : (9 * n ≤ i % (270 * n)) ⊎ ((i / (270 * n) ≡ 3) × (i % (270 * n) < 9 * n)) → au_byte n (i % n + 1) ones i x ≡ 0xFF
+  unfolding au_byte
+  of_ones (inl h) = pointer_byte-payload n _ _ i _ h ∙ payload_byte-here n _ _ _ _ i x (is_in h) ∙ get_or-replicate 2349 _ 0xFF 0 (payload_from rate i 1 (omega arith) inside h).1
+  of_ones (inr h) = pointer_byte-here n _ _ _ i _ (is_pointer_byte h.0 h.1) ∙ get_or-replicate 9 _ 0xFF 0 (pointer_from rate i 1 (omega arith) inside h.0 h.1).1
+
+  of_own : (own : List ℕ) (k : ℕ) → 1 ≤ k → k ≤ n → (9 * n ≤ i % (270 * n)) ⊎ ((i / (270 * n) ≡ 3) × (i % (270 * n) < 9 * n)) → au_byte n (i % n + 1) (record { pointers = replicate 9 0; payload = payload_in k own }) i x ≡ own_byte n own (i - i % n + (k - 1))
+  unfolding au_byte
+  of_own own k low high (inl h) =
+      let there = own_there rate i k low high h in
+      pointer_byte-payload n _ _ i _ h ∙ payload_byte-here n _ _ _ _ i x (is_in h) ∙ get_or-payload_in k own _ low (payload_from rate i 1 (omega arith) inside h).1
+      ∙ sym (own_byte-at n own (i - i % n + (k - 1)) (k - 1) _ there.behind there.lane there.column)
+  of_own own k low high (inr h) =
+      pointer_byte-here n _ _ _ i _ (is_pointer_byte h.0 h.1) ∙ get_or-replicate 9 _ 0 0 (pointer_from rate i 1 (omega arith) inside h.0 h.1).1 ∙ sym (own_byte-none n own (i - i % n + (k - 1)) (own_pointers rate i k low high h.1))
+
+  of_source : (s : Source) (first second own : List ℕ) → IsSource n s → (9 * n ≤ i % (270 * n)) ⊎ ((i / (270 * n) ≡ 3) × (i % (270 * n) < 9 * n)) → au_byte n (i % n + 1) (au_from n first second own s) i x ≡ picked n s first second own i
+  of_source (First au) first second own is part = of_frame first au is.0 part
+  of_source (Second au) first second own is part = of_frame second au is.0 part
+  of_source (Own k) first second own is part = of_own own k is.0 is.1 part
+  of_source Ones first second own is part = of_ones part
+
+  lane_in : i % n < n
+  lane_in = rate_lane rate i
+    where
+      rate_lane : (rate : Rate) (i : ℕ) → i % n_of rate < n_of rate
+      rate_lane Four i = omega arith
+      rate_lane Sixteen i = omega arith
+
+  -- a byte of an AU-4
+  chosen_here : (sources : List Source) (first second own : List ℕ) → AreSources n sources → (9 * n ≤ i % (270 * n)) ⊎ ((i / (270 * n) ≡ 3) × (i % (270 * n) < 9 * n))
+      → aus_byte n 1 (map (au_from n first second own) sources) i x ≡ picked_at n sources first second own i
+  chosen_here sources first second own are part =
+      let few : i % n < length sources = omega (arith, lane_in, are.many) in
+      aus_byte-at n 1 (i % n) (map (au_from n first second own) sources) ones i x (omega arith) (omega (arith, length-map sources (au_from n first second own)))
+      ∙ ap (λ m. au_byte n m (get_or (map (au_from n first second own) sources) (i % n) ones) i x) (omega arith)
+      ∙ ap (λ a. au_byte n (i % n + 1) a i x) (get_or-map (au_from n first second own) sources (i % n) Ones ones few)
+      ∙ of_source (get_or sources (i % n) Ones) first second own (are.each (i % n) lane_in) part
+
+  chosen_byte : (sources : List Source) (first second own : List ℕ) → AreSources n sources → aus_byte n 1 (map (au_from n first second own) sources) i x ≡ (if is_au_byte n i then picked_at n sources first second own i else x)
+  chosen_byte sources first second own are =
+      elim (cases_lt (i % (270 * n)) (9 * n)) [
+        | inl before ↦ (
+            let a : leb (9 * n) (i % (270 * n)) ≡ false = lt-leb _ _ before in
+            elim (cases_eq (i / (270 * n)) 3) [
+              | inl row ↦ (let b : eqb (i / (270 * n)) 3 ≡ true = eq-eqb _ _ row in rw (a, b) (chosen_here sources first second own are (inr (row, before))))
+              | inr row ↦ (let b : eqb (i / (270 * n)) 3 ≡ false = ne_eqb _ _ row in rw (a, b) (aus_byte-overhead n 1 (map (au_from n first second own) sources) i x before row))
+            ])
+        | inr behind ↦ (let a : leb (9 * n) (i % (270 * n)) ≡ true = le-leb _ _ behind in rw a (chosen_here sources first second own are (inl behind)))
+      ]
+
+pub chosen_is : (rate : Rate) (sources : List Source) (first second own old new : List ℕ) → length old ≡ size_of rate → length new ≡ size_of rate → AreSources (n_of rate) sources
+    → ((i : ℕ) → i < size_of rate → get_or new i 0 ≡ (if is_au_byte (n_of rate) i then picked_at (n_of rate) sources first second own i else get_or old i 0)) → new ≡ chosen (n_of rate) sources first second own old
+unfolding chosen
+chosen_is rate sources first second own old new whole len are h =
+    ext_get_or 0 new (with_aus (n_of rate) 1 (map (au_from (n_of rate) first second own) sources) old) (len ∙ sym (length-with_aus rate 1 (map (au_from (n_of rate) first second own) sources) old whole)) (λ i lt.
+    (let inside : i < size_of rate = omega (arith, len) in
+    h i inside ∙ sym (at_aus rate 1 (map (au_from (n_of rate) first second own) sources) old i whole inside ∙ chosen_byte rate i (get_or old i 0) inside sources first second own are)))
+
+length-payload_in : (k : ℕ) (own : List ℕ) → 1 ≤ k → 2349 * k ≤ length own → length (payload_in k own) ≡ 2349
+length-payload_in k own low h = omega (arith, length-take (2349 * k - 2349 * (k - 1)) (drop (2349 * (k - 1)) own), length-drop (2349 * (k - 1)) own)
+
+-- the payload of one AU-4 among those of half of them
+pub half_taken : (n h base au : ℕ) (bytes out : List ℕ) → base < au → au ≤ base + h → 2349 * h ≤ length out → ((a j : ℕ) → a < h → j < 2349 → get_or out (2349 * a + j) 0 ≡ get_or bytes (index_of n (payload_place n (base + a + 1) j)) 0)
+    → payload_in (au - base) out ≡ payload_of n au bytes
+half_taken n h base au bytes out low high len each =
+    let k : ℕ = au - base in
+    let whole : 2349 * k ≤ length out = omega arith in
+    taken n au bytes (payload_in k out) (length-payload_in k out (omega arith) whole) (λ j lt.
+    (let e : base + (k - 1) + 1 ≡ au = omega arith in
+    get_or-payload_in k out j (omega arith) lt ∙ each (k - 1) j (omega arith) lt ∙ ap (λ a. get_or bytes (index_of n (payload_place n a j)) 0) e))

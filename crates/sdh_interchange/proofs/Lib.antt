@@ -1,0 +1,5 @@
+pub mod Vectors
+pub mod ByBytes
+pub mod Turning
+pub mod Sorts
+pub mod Pointing

@@ -1,0 +1,156 @@
+-- Sixteen bytes of a frame by the lanes of two others.
+use Rattle.std.proofs.Common.{◌≡◌, ℕ, ◌+◌, ◌*◌, ◌-◌, ◌/◌, ◌%◌, ◌<◌, ◌≤◌, ◌⊎◌, inl, inr, Bool, true, false, ◌||◌, T, w8, ltb, List, length, get_or, bit_or, refl, ap, sym, ◌∙◌, arith, subst}
+use Rattle.std.specs.Prelude.{slice_index, slice_index_or}
+use Rattle.std.specs.Int.Bits.{or_zero_l, or_zero_r}
+use Rattle.std.specs.Simd.Lanes.{zip2, chunk, put_chunk}
+use Rattle.std.proofs.lemmas.Simd.{swz_l, SwzOk, SwzOk-from_Each1, Each1-from_get_or, length-swz_l, get_or-swz_l, get_or-swz_l_below, length-zip2, get_or-zip2, get_or-chunk, get_or-put_chunk_below, get_or-put_chunk_at, get_or-put_chunk_above}
+use lib.Dec.{lt→ltb}
+use mathlib.Core.Bool.{cond}
+use mir.Val.{zeroes}
+use Rattle.sdh_interchange.specs.declared.choose.Source.{Source}
+use Rattle.sdh_interchange.specs.declared.choose.Source.TheVariants.{First, Second, Own, Ones}
+use Rattle.sdh_interchange.specs.Choosing.{own_byte, picked, picked_at, IsLane, AreLanes, IsExtra, AreExtra, IsPlain}
+
+-- ---- what a swizzle reads
+
+or_right : (a b : Bool) → T b → T (a || b)
+or_right true b t = tt
+or_right false b t = t
+
+lane_fits : (a : ℕ) → (a < 16) ⊎ (a ≡ 128) → T (zeroes 16 w8 a || ltb a 16)
+lane_fits a (inl h) = or_right (zeroes 16 w8 a) _ (lt→ltb a 16 h)
+lane_fits a (inr h) = rw h tt
+
+pub lanes_fit : (js : List ℕ) → length js ≡ 16 → ((j : ℕ) → j < 16 → (get_or js j 0 < 16) ⊎ (get_or js j 0 ≡ 128)) → SwzOk w8 16 16 0 js
+lanes_fit js long h = SwzOk-from_Each1 w8 16 1 16 0 js refl (omega arith) (Each1-from_get_or (λ j. T (zeroes 16 w8 j || ltb j 16)) js 0 (λ i lt. lane_fits _ (h i (omega arith))))
+
+first_read : (n : ℕ) (s : Source) (j a b c o : ℕ) → IsLane n s j a b c o → (a < 16) ⊎ (a ≡ 128)
+first_read n (First au) j a b c o h = inl h.1
+first_read n (Second au) j a b c o h = inr h.2
+first_read n (Own k) j a b c o h = inr h.2
+first_read n Ones j a b c o h = inr h.0
+
+second_read : (n : ℕ) (s : Source) (j a b c o : ℕ) → IsLane n s j a b c o → (b < 16) ⊎ (b ≡ 128)
+second_read n (First au) j a b c o h = inr h.2
+second_read n (Second au) j a b c o h = inl h.1
+second_read n (Own k) j a b c o h = inr h.3
+second_read n Ones j a b c o h = inr h.1
+
+own_read : (n : ℕ) (s : Source) (j a b c o : ℕ) → IsLane n s j a b c o → (c < 16) ⊎ (c ≡ 128)
+own_read n (First au) j a b c o h = inr h.3
+own_read n (Second au) j a b c o h = inr h.3
+own_read n (Own k) j a b c o h = inl h.1
+own_read n Ones j a b c o h = inr h.2
+
+pub reads : (xs js : List ℕ) (j c : ℕ) → j < 16 → length js ≡ 16 → get_or js j 0 ≡ c → c < 16 → get_or (swz_l w8 16 xs 0 js) j 0 ≡ get_or xs c 0
+reads xs js j c h long e small = get_or-swz_l_below w8 16 xs 0 js j (omega arith) (omega arith) ∙ ap (λ z. get_or xs z 0) (omega arith)
+
+reads_none : (xs js : List ℕ) (j : ℕ) → j < 16 → length js ≡ 16 → get_or js j 0 ≡ 128 → get_or (swz_l w8 16 xs 0 js) j 0 ≡ 0
+reads_none xs js j h long e = get_or-swz_l w8 16 xs 0 js j (omega arith) ∙ ap (λ z. cond (zeroes 16 w8 z) 0 (get_or xs (16 * ((0 + j) / 16) + z) 0)) e
+
+or_first : (x y o v : ℕ) → x ≡ v → y ≡ 0 → o ≡ 0 → bit_or (bit_or x y) o ≡ v
+or_first x y o v p q r = ap (bit_or (bit_or x y)) r ∙ or_zero_r (bit_or x y) ∙ ap (bit_or x) q ∙ or_zero_r x ∙ p
+
+or_second : (x y o v : ℕ) → x ≡ 0 → y ≡ v → o ≡ 0 → bit_or (bit_or x y) o ≡ v
+or_second x y o v p q r = ap (bit_or (bit_or x y)) r ∙ or_zero_r (bit_or x y) ∙ ap (λ z. bit_or z y) p ∙ or_zero_l y ∙ q
+
+or_more : (x y o v : ℕ) → x ≡ 0 → y ≡ 0 → o ≡ v → bit_or (bit_or x y) o ≡ v
+or_more x y o v p q r = ap (λ z. bit_or (bit_or z y) o) p ∙ ap (λ z. bit_or z o) (or_zero_l y ∙ q) ∙ or_zero_l o ∙ r
+
+-- ---- a vector that begins with a whole column
+
+pub column : (n at j au : ℕ) → (n ≡ 4) ⊎ (n ≡ 16) → at % n ≡ 0 → (at + (j - j % n + (au - 1)) ≡ at + j - (at + j) % n + (au - 1)) × (j % n ≡ (at + j) % n)
+column n at j au (inl e) h = subst (λ m. at % m ≡ 0 → (at + (j - j % m + (au - 1)) ≡ at + j - (at + j) % m + (au - 1)) × (j % m ≡ (at + j) % m)) (sym e) (λ w. (omega arith, omega arith)) h
+column n at j au (inr e) h = subst (λ m. at % m ≡ 0 → (at + (j - j % m + (au - 1)) ≡ at + j - (at + j) % m + (au - 1)) × (j % m ≡ (at + j) % m)) (sym e) (λ w. (omega arith, omega arith)) h
+
+module _ (n at : ℕ) (first second own : List ℕ) (rate : (n ≡ 4) ⊎ (n ≡ 16)) (whole : at % n ≡ 0) where
+  lane : (s : Source) (fs ss : List ℕ) (j c o x : ℕ) → j < 16 → length fs ≡ 16 → length ss ≡ 16 → IsLane n s j (get_or fs j 0) (get_or ss j 0) c o → IsExtra n s own (at + j) x
+      → bit_or (bit_or (get_or (swz_l w8 16 (chunk at 16 first) 0 fs) j 0) (get_or (swz_l w8 16 (chunk at 16 second) 0 ss) j 0)) x ≡ picked n s first second own (at + j)
+  lane (First au) fs ss j c o x h lf ls is more =
+      or_first _ _ x _
+      (reads (chunk at 16 first) fs j _ h lf refl is.1 ∙ get_or-chunk at 16 first _ 0 is.1 ∙ ap (λ z. get_or first (at + z) 0) is.0 ∙ ap (λ z. get_or first z 0) (column n at j au rate whole).0)
+      (reads_none (chunk at 16 second) ss j h ls is.2) more
+  lane (Second au) fs ss j c o x h lf ls is more =
+      or_second _ _ x _ (reads_none (chunk at 16 first) fs j h lf is.2)
+      (reads (chunk at 16 second) ss j _ h ls refl is.1 ∙ get_or-chunk at 16 second _ 0 is.1 ∙ ap (λ z. get_or second (at + z) 0) is.0 ∙ ap (λ z. get_or second z 0) (column n at j au rate whole).0)
+      more
+  lane (Own k) fs ss j c o x h lf ls is more = or_more _ _ x _ (reads_none (chunk at 16 first) fs j h lf is.2) (reads_none (chunk at 16 second) ss j h ls is.3) more
+  lane Ones fs ss j c o x h lf ls is more = or_more _ _ x _ (reads_none (chunk at 16 first) fs j h lf is.0) (reads_none (chunk at 16 second) ss j h ls is.1) more
+
+  module _ (sources : List Source) (fs ss os ms extra : List ℕ) (up : ℕ) (lanes : AreLanes n sources fs ss os ms up) (more : AreExtra n sources own at extra) where
+    abbrev pub vector : List ℕ
+    vector = zip2 bit_or (zip2 bit_or (swz_l w8 16 (chunk at 16 first) 0 fs) (swz_l w8 16 (chunk at 16 second) 0 ss)) extra
+
+    abbrev both : List ℕ
+    both = zip2 bit_or (swz_l w8 16 (chunk at 16 first) 0 fs) (swz_l w8 16 (chunk at 16 second) 0 ss)
+
+    long_first : length (swz_l w8 16 (chunk at 16 first) 0 fs) ≡ 16
+    long_first = length-swz_l w8 16 (chunk at 16 first) 0 fs ∙ lanes.first_long
+
+    long_second : length (swz_l w8 16 (chunk at 16 second) 0 ss) ≡ 16
+    long_second = length-swz_l w8 16 (chunk at 16 second) 0 ss ∙ lanes.second_long
+
+    long_both : length both ≡ 16
+    long_both = length-zip2 bit_or (swz_l w8 16 (chunk at 16 first) 0 fs) (swz_l w8 16 (chunk at 16 second) 0 ss) (long_first ∙ sym long_second) ∙ long_first
+
+    pub long_vector : length vector ≡ 16
+    long_vector = length-zip2 bit_or both extra (long_both ∙ sym more.long) ∙ long_both
+
+    in_vector : (j : ℕ) → j < 16 → get_or vector j 0 ≡ picked_at n sources first second own (at + j)
+    in_vector j h =
+        get_or-zip2 bit_or both extra j 0 0 0 (omega (arith, long_both)) (omega (arith, more.long))
+        ∙ ap (λ z. bit_or z (get_or extra j 0)) (get_or-zip2 bit_or (swz_l w8 16 (chunk at 16 first) 0 fs) (swz_l w8 16 (chunk at 16 second) 0 ss) j 0 0 0 (omega (arith, long_first)) (omega (arith, long_second)))
+        ∙ lane (get_or sources (j % n) Ones) fs ss j (get_or os j 0) (get_or ms j 0) (get_or extra j 0) h lanes.first_long lanes.second_long (lanes.each j h) (more.each j h)
+        ∙ ap (λ m. picked n (get_or sources m Ones) first second own (at + j)) (column n at j 0 rate whole).1
+
+    pub first_fits : SwzOk w8 16 16 0 fs
+    first_fits = lanes_fit fs lanes.first_long (λ j h. first_read n (get_or sources (j % n) Ones) j _ _ _ _ (lanes.each j h))
+
+    pub second_fits : SwzOk w8 16 16 0 ss
+    second_fits = lanes_fit ss lanes.second_long (λ j h. second_read n (get_or sources (j % n) Ones) j _ _ _ _ (lanes.each j h))
+
+    pub stored_inside : (bytes : List ℕ) (i : ℕ) → at + 16 ≤ length bytes → at ≤ i → i < at + 16 → get_or (put_chunk at bytes vector) i 0 ≡ picked_at n sources first second own i
+    stored_inside bytes i room low high =
+        let j : ℕ = i - at in
+        let e : at + j ≡ i = omega arith in
+        let h : j < 16 = omega arith in
+        ap (λ k. get_or (put_chunk at bytes vector) k 0) (sym e) ∙ get_or-put_chunk_at at bytes vector j 0 (omega (arith, long_vector)) (omega (arith, long_vector)) ∙ in_vector j h
+        ∙ ap (picked_at n sources first second own) e
+
+    pub stored_after : (bytes : List ℕ) (i : ℕ) → at + 16 ≤ i → get_or (put_chunk at bytes vector) i 0 ≡ get_or bytes i 0
+    stored_after bytes i h = get_or-put_chunk_above at bytes vector i 0 (omega (arith, long_vector))
+
+  -- ---- what comes from the payloads
+
+  own_lane : (s : Source) (xs os : List ℕ) (j a b o up : ℕ) → j < 16 → length os ≡ 16 → ((k : ℕ) → k < up → get_or xs k 0 ≡ own_byte n own (at + k)) → (get_or os j 0 < 16 → get_or os j 0 < up) → IsLane n s j a b (get_or os j 0) o
+      → IsExtra n s own (at + j) (bit_or (get_or (swz_l w8 16 xs 0 os) j 0) o)
+  own_lane (First au) xs os j a b o up h long each below is = ap (λ z. bit_or z o) (reads_none xs os j h long is.3) ∙ or_zero_l o ∙ is.4
+  own_lane (Second au) xs os j a b o up h long each below is = ap (λ z. bit_or z o) (reads_none xs os j h long is.3) ∙ or_zero_l o ∙ is.4
+  own_lane (Own k) xs os j a b o up h long each below is =
+      ap (bit_or _) is.4 ∙ or_zero_r _ ∙ reads xs os j _ h long refl is.1 ∙ each _ (below is.1) ∙ ap (λ z. own_byte n own (at + z)) is.0 ∙ ap (own_byte n own) (column n at j k rate whole).0
+  own_lane Ones xs os j a b o up h long each below is = ap (λ z. bit_or z o) (reads_none xs os j h long is.2) ∙ or_zero_l o ∙ is.3
+
+  module _ (sources : List Source) (fs ss os ms xs : List ℕ) (up : ℕ) (lanes : AreLanes n sources fs ss os ms up) where
+    pub own_fits : SwzOk w8 16 16 0 os
+    own_fits = lanes_fit os lanes.own_long (λ j h. own_read n (get_or sources (j % n) Ones) j _ _ _ _ (lanes.each j h))
+
+    pub own_extra : ((k : ℕ) → k < up → get_or xs k 0 ≡ own_byte n own (at + k)) → AreExtra n sources own at (zip2 bit_or (swz_l w8 16 xs 0 os) ms)
+    own_extra each =
+        let long : length (swz_l w8 16 xs 0 os) ≡ 16 = length-swz_l w8 16 xs 0 os ∙ lanes.own_long in
+        record {
+          long = length-zip2 bit_or (swz_l w8 16 xs 0 os) ms (long ∙ sym lanes.more_long) ∙ long;
+          each = λ j h. subst (IsExtra n (get_or sources (j % n) Ones) own (at + j)) (sym (get_or-zip2 bit_or (swz_l w8 16 xs 0 os) ms j 0 0 0 (omega (arith, long)) (omega (arith, lanes.more_long))))
+              (own_lane (get_or sources (j % n) Ones) xs os j _ _ (get_or ms j 0) up h lanes.own_long each (lanes.below j h) (lanes.each j h));
+        }
+
+    plain_lane : (s : Source) (j a b c o : ℕ) → IsLane n s j a b c o → IsPlain n s own (at + j) → IsExtra n s own (at + j) o
+    plain_lane (First au) j a b c o is plain = is.4
+    plain_lane (Second au) j a b c o is plain = is.4
+    plain_lane (Own k) j a b c o is plain = is.4 ∙ sym plain
+    plain_lane Ones j a b c o is plain = is.3
+
+    pub plain_extra : ((j : ℕ) → j < 16 → IsPlain n (get_or sources ((at + j) % n) Ones) own (at + j)) → AreExtra n sources own at ms
+    plain_extra plain = record {
+      long = lanes.more_long;
+      each = λ j h. plain_lane (get_or sources (j % n) Ones) j _ _ _ _ (lanes.each j h) (subst (λ m. IsPlain n (get_or sources m Ones) own (at + j)) (sym (column n at j 0 rate whole).1) (plain j h));
+    }

@@ -1,0 +1,107 @@
+-- A frame whose AU-4s come from two other frames or from payloads that stand one after the other, or are ones.
+use Rattle.std.specs.Prelude.{true, false, ℕ, ◌≡◌, ◌+◌, ◌*◌, ◌-◌, ◌/◌, ◌%◌, ◌==◌, ◌||◌, ◌⊎◌, ◌<◌, ◌≤◌, Bool, nat_le, if◌then◌else◌, List, map, length, slice_index, slice_index_or, slice_range, replicate}
+use Rattle.sdh_interchange.specs.declared.choose.Source.{Source}
+use Rattle.sdh_interchange.specs.declared.choose.Source.TheVariants.{First, Second, Own, Ones}
+use Rattle.sdh_frame.specs.Aus.{Au, au_of, with_aus, ones}
+
+-- payload number k, from 1 on, of those that stand one after the other
+abbrev pub payload_in : ℕ → List ℕ → List ℕ
+payload_in k own = slice_range own (2349 * (k - 1)) (2349 * k)
+
+-- the AU-4 that a source stands for: one of the first frame, one of the second, a payload with pointer bytes of zeros, or ones
+abbrev pub au_from : ℕ → List ℕ → List ℕ → List ℕ → Source → Au
+au_from n first second own (First au) = au_of n au first
+au_from n first second own (Second au) = au_of n au second
+au_from n first second own (Own k) = record { pointers = replicate 9 0; payload = payload_in k own }
+au_from n first second own Ones = ones
+
+-- the frame whose AU-4s, from number 1 on, come from these sources
+unfoldable pub chosen : ℕ → List Source → List ℕ → List ℕ → List ℕ → List ℕ → List ℕ
+chosen n sources first second own bytes = with_aus n 1 (map (au_from n first second own) sources) bytes
+
+-- the source is one of N
+abbrev pub IsSource : ℕ → Source → Type 0
+IsSource n (First au) = (1 ≤ au) × (au ≤ n)
+IsSource n (Second au) = (1 ≤ au) × (au ≤ n)
+IsSource n (Own k) = (1 ≤ k) × (k ≤ n)
+IsSource n Ones = Unit {0}
+
+-- one for each AU-4
+pub record AreSources (n : ℕ) (sources : List Source) : Type 0 where
+  pub many : length sources ≡ n
+  pub each : (j : ℕ) → j < n → IsSource n (slice_index_or sources j Ones)
+
+-- ---- byte by byte
+
+-- byte i of a frame with these payloads, whose pointer bytes are zeros
+unfoldable pub own_byte : ℕ → List ℕ → ℕ → ℕ
+own_byte n own i = if nat_le (9 * n) (i % (270 * n)) then slice_index own (2349 * (i % n) + (261 * (i / (270 * n)) + (i % (270 * n) - 9 * n) / n)) else 0
+
+-- byte i of an AU-4 from a source
+abbrev pub picked : ℕ → Source → List ℕ → List ℕ → List ℕ → ℕ → ℕ
+picked n (First au) first second own i = slice_index first (i - i % n + (au - 1))
+picked n (Second au) first second own i = slice_index second (i - i % n + (au - 1))
+picked n (Own k) first second own i = own_byte n own (i - i % n + (k - 1))
+picked n Ones first second own i = 0xFF
+
+-- the same by the sources of all AU-4s
+abbrev pub picked_at : ℕ → List Source → List ℕ → List ℕ → List ℕ → ℕ → ℕ
+picked_at n sources first second own i = picked n (slice_index_or sources (i % n) Ones) first second own i
+
+-- whether byte i of a frame is of an AU-4
+abbrev pub is_au_byte : ℕ → ℕ → Bool
+is_au_byte n i = nat_le (9 * n) (i % (270 * n)) || (i / (270 * n) == 3)
+
+-- ---- lanes of a vector over whole columns
+
+-- lane j reads the first frame at lane a, the second at b, the payloads at c, where 128 is none, and adds o
+abbrev pub IsLane : ℕ → Source → ℕ → ℕ → ℕ → ℕ → ℕ → Type 0
+IsLane n (First au) j a b c o = (a ≡ j - j % n + (au - 1)) × (a < 16) × (b ≡ 128) × (c ≡ 128) × (o ≡ 0)
+IsLane n (Second au) j a b c o = (b ≡ j - j % n + (au - 1)) × (b < 16) × (a ≡ 128) × (c ≡ 128) × (o ≡ 0)
+IsLane n (Own k) j a b c o = (c ≡ j - j % n + (k - 1)) × (c < 16) × (a ≡ 128) × (b ≡ 128) × (o ≡ 0)
+IsLane n Ones j a b c o = (a ≡ 128) × (b ≡ 128) × (c ≡ 128) × (o ≡ 0xFF)
+
+-- sixteen lanes, which read the payloads below lane `upto`
+pub record AreLanes (n : ℕ) (sources : List Source) (first second own more : List ℕ) (upto : ℕ) : Type 0 where
+  pub first_long : length first ≡ 16
+  pub second_long : length second ≡ 16
+  pub own_long : length own ≡ 16
+  pub more_long : length more ≡ 16
+  pub each : (j : ℕ) → j < 16 → IsLane n (slice_index_or sources (j % n) Ones) j (slice_index first j) (slice_index second j) (slice_index own j) (slice_index more j)
+  pub few : (upto ≡ 8) ⊎ (upto ≡ 16)
+  pub below : (j : ℕ) → j < 16 → slice_index own j < 16 → slice_index own j < upto
+
+-- what byte i gets besides the bytes of the two frames
+abbrev pub IsExtra : ℕ → Source → List ℕ → ℕ → ℕ → Type 0
+IsExtra n (First au) own i x = x ≡ 0
+IsExtra n (Second au) own i x = x ≡ 0
+IsExtra n (Own k) own i x = x ≡ own_byte n own (i - i % n + (k - 1))
+IsExtra n Ones own i x = x ≡ 0xFF
+
+-- a vector of it for the sixteen bytes from a place on
+pub record AreExtra (n : ℕ) (sources : List Source) (own : List ℕ) (at : ℕ) (extra : List ℕ) : Type 0 where
+  pub long : length extra ≡ 16
+  pub each : (j : ℕ) → j < 16 → IsExtra n (slice_index_or sources (j % n) Ones) own (at + j) (slice_index extra j)
+
+-- no payload is wanted at this byte, or its byte is zero
+abbrev pub IsPlain : ℕ → Source → List ℕ → ℕ → Type 0
+IsPlain n (First au) own i = Unit {0}
+IsPlain n (Second au) own i = Unit {0}
+IsPlain n (Own k) own i = own_byte n own (i - i % n + (k - 1)) ≡ 0
+IsPlain n Ones own i = Unit {0}
+
+-- ---- what a choice needs at all
+
+-- the source is an AU-4 of one of the two frames
+abbrev pub is_passed : Source → Bool
+is_passed (First au) = true
+is_passed (Second au) = true
+is_passed (Own k) = false
+is_passed Ones = false
+
+-- the source is a payload
+abbrev pub is_own : Source → Bool
+is_own (First au) = false
+is_own (Second au) = false
+is_own (Own k) = true
+is_own Ones = false

@@ -1,0 +1,4 @@
+pub mod Tables
+pub mod Choosing
+pub mod Assembled
+pub mod Taking

@@ -1,0 +1,152 @@
+//! The payloads of half of the AU-4s of a frame at once, sixteen columns at a time.
+ghost use Rattle.std.specs.Prelude.{◌≡◌, ℕ, ◌+◌, ◌*◌, ◌-◌, ◌/◌, ◌%◌, ◌<◌, ◌≤◌, ◌⊎◌, length, slice_index};
+ghost use Rattle.sdh_frame.specs.Sizes.{n_of, size_of};
+ghost use Rattle.sdh_frame.specs.Fields.{index_of, payload_place};
+ghost use Rattle.sdh_frame.specs.Aus.{payload_of};
+ghost use Rattle.sdh_interchange.specs.Choosing.{payload_in};
+ghost use Rattle.sdh_interchange.specs.Tables.{cell, IsTable};
+
+use crate::table::{lanes_from, sort4};
+use sdh_frame::Rate;
+use std::simd::prelude::*;
+
+// Sixteen bytes become these.
+#[inline(always)]
+fn put(out: &mut [u8], at: usize, lanes: u8x16)
+    requires long { length lanes ≡ 16 }
+    requires room { at + 16 ≤ length out.old }
+    ensures before { (i : ℕ) → i < at → slice_index out.new i ≡ slice_index out.old i }
+    ensures inside { (k : ℕ) → k < 16 → slice_index out.new (at + k) ≡ slice_index lanes k }
+    ensures after { (i : ℕ) → at + 16 ≤ i → slice_index out.new i ≡ slice_index out.old i }
+{
+    lanes.copy_to_slice(&mut out[at..]);
+}
+
+// 4 vectors from a place on.
+#[inline(always)]
+fn load4(bytes: &[u8], at: usize) -> [u8x16; 4]
+    requires room { at + 64 ≤ length bytes.now }
+    ensures table { IsTable 4 result }
+    ensures each { (k j : ℕ) → k < 4 → j < 16 → cell result k j ≡ slice_index bytes.now (at + (16 * k + j)) }
+{
+    let mut rows = [u8x16::splat(0); 4];
+    for k in 0..4 {
+        rows[k] = u8x16::from_slice(&bytes[at + 16 * k..]);
+    }
+    rows
+}
+
+// Sixteen columns of row r, from payload column c on.
+#[inline(always)]
+fn take_block4(bytes: &[u8], base: usize, r: usize, c: usize, out: &mut [u8])
+    requires base { base ≤ 2 }
+    requires row { r < 9 }
+    requires column { c ≤ 245 }
+    requires size { length bytes.now ≡ 9720 }
+    requires out { 4698 ≤ length out.old }
+    ensures before { (a j : ℕ) → a < 2 → j < 261 * r + c → slice_index out.new (2349 * a + j) ≡ slice_index out.old (2349 * a + j) }
+    ensures inside { (a k : ℕ) → a < 2 → k < 16 → slice_index out.new (2349 * a + (261 * r + c + k)) ≡ slice_index bytes.now (1080 * r + (36 + 4 * (c + k)) + (base + a)) }
+{
+    let at = 1080 * r + (36 + 4 * c);
+    let from = 261 * r + c;
+    let payloads = sort4(load4(bytes, at));
+    for a in 0..2 {
+        put(out, 2349 * a + from, payloads[base + a]);
+    }
+}
+
+fn take_row4(bytes: &[u8], base: usize, r: usize, out: &mut [u8])
+    requires base { base ≤ 2 }
+    requires row { r < 9 }
+    requires size { length bytes.now ≡ 9720 }
+    requires out { 4698 ≤ length out.old }
+    ensures before { (a j : ℕ) → a < 2 → j < 261 * r → slice_index out.new (2349 * a + j) ≡ slice_index out.old (2349 * a + j) }
+    ensures inside { (a k : ℕ) → a < 2 → k < 261 → slice_index out.new (2349 * a + (261 * r + k)) ≡ slice_index bytes.now (1080 * r + (36 + 4 * k) + (base + a)) }
+{
+    for b in 0..16 {
+        take_block4(bytes, base, r, 16 * b, out);
+    }
+    take_block4(bytes, base, r, 245, out);
+}
+
+fn take4(bytes: &[u8], base: usize, out: &mut [u8])
+    requires base { base ≤ 2 }
+    requires size { length bytes.now ≡ 9720 }
+    requires out { 4698 ≤ length out.old }
+    ensures { (a j : ℕ) → a < 2 → j < 2349 → slice_index out.new (2349 * a + j) ≡ slice_index bytes.now (index_of 4 (payload_place 4 (base + a + 1) j)) }
+{
+    for r in 0..9 {
+        take_row4(bytes, base, r, out);
+    }
+}
+
+// 16 vectors from a place on.
+#[inline(always)]
+fn load16(bytes: &[u8], at: usize) -> [u8x16; 16]
+    requires room { at + 256 ≤ length bytes.now }
+    ensures table { IsTable 16 result }
+    ensures each { (k j : ℕ) → k < 16 → j < 16 → cell result k j ≡ slice_index bytes.now (at + (16 * k + j)) }
+{
+    let mut rows = [u8x16::splat(0); 16];
+    for k in 0..16 {
+        rows[k] = u8x16::from_slice(&bytes[at + 16 * k..]);
+    }
+    rows
+}
+
+// Sixteen columns of row r, from payload column c on.
+#[inline(always)]
+fn take_block16(bytes: &[u8], base: usize, r: usize, c: usize, out: &mut [u8])
+    requires base { (base ≡ 0) ⊎ (base ≡ 8) }
+    requires row { r < 9 }
+    requires column { c ≤ 245 }
+    requires size { length bytes.now ≡ 38880 }
+    requires out { 18792 ≤ length out.old }
+    ensures before { (a j : ℕ) → a < 8 → j < 261 * r + c → slice_index out.new (2349 * a + j) ≡ slice_index out.old (2349 * a + j) }
+    ensures inside { (a k : ℕ) → a < 8 → k < 16 → slice_index out.new (2349 * a + (261 * r + c + k)) ≡ slice_index bytes.now (4320 * r + (144 + 16 * (c + k)) + (base + a)) }
+{
+    let at = 4320 * r + (144 + 16 * c);
+    let from = 261 * r + c;
+    let payloads = lanes_from(load16(bytes, at), base);
+    for a in 0..8 {
+        put(out, 2349 * a + from, payloads[a]);
+    }
+}
+
+fn take_row16(bytes: &[u8], base: usize, r: usize, out: &mut [u8])
+    requires base { (base ≡ 0) ⊎ (base ≡ 8) }
+    requires row { r < 9 }
+    requires size { length bytes.now ≡ 38880 }
+    requires out { 18792 ≤ length out.old }
+    ensures before { (a j : ℕ) → a < 8 → j < 261 * r → slice_index out.new (2349 * a + j) ≡ slice_index out.old (2349 * a + j) }
+    ensures inside { (a k : ℕ) → a < 8 → k < 261 → slice_index out.new (2349 * a + (261 * r + k)) ≡ slice_index bytes.now (4320 * r + (144 + 16 * k) + (base + a)) }
+{
+    for b in 0..16 {
+        take_block16(bytes, base, r, 16 * b, out);
+    }
+    take_block16(bytes, base, r, 245, out);
+}
+
+fn take16(bytes: &[u8], base: usize, out: &mut [u8])
+    requires base { (base ≡ 0) ⊎ (base ≡ 8) }
+    requires size { length bytes.now ≡ 38880 }
+    requires out { 18792 ≤ length out.old }
+    ensures { (a j : ℕ) → a < 8 → j < 2349 → slice_index out.new (2349 * a + j) ≡ slice_index bytes.now (index_of 16 (payload_place 16 (base + a + 1) j)) }
+{
+    for r in 0..9 {
+        take_row16(bytes, base, r, out);
+    }
+}
+
+// The payloads of half of the AU-4s, those behind the first `base`.
+pub(crate) fn take(rate: Rate, bytes: &[u8], base: usize, out: &mut [u8])
+    requires base { (base ≡ 0) ⊎ (2 * base ≡ n_of rate) }
+    requires size { length bytes.now ≡ size_of rate }
+    requires out { 2349 * n_of rate ≤ 2 * length out.old }
+    ensures { (au : ℕ) → base < au → 2 * au ≤ 2 * base + n_of rate → payload_in (au - base) out.new ≡ payload_of (n_of rate) au bytes.now }
+{
+    match rate {
+        Rate::Four => take4(bytes, base, out),
+        Rate::Sixteen => take16(bytes, base, out),
+    }
+}
