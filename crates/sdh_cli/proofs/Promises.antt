@@ -1,15 +1,13 @@
 -- What the program promises follows from its outcome.
-use Rattle.std.proofs.Common.{arith, ◌≡◌, ◌⊎◌, ℕ, ◌≤◌, true, None, Some, List, ◌++◌, length, refl, ap, sym, ◌∙◌, subst, inl, inr}
+use Rattle.std.proofs.Common.{arith, ◌≡◌, ℕ, true, None, Some, List, refl, ap, sym, ◌∙◌, subst, inl, inr}
 use Rattle.std.specs.Prelude.{Option, IfSome}
 use Rattle.std.specs.Io.KnownBytes.{Appends}
-use Rattle.toml.specs.Data.{Members}
 use Rattle.sdh_plant.specs.Fibres.{Fibres}
 use Rattle.sdh_plan.specs.Planned.{Planned}
 use Rattle.sdh_plan.specs.Plans.{plan_of}
 use Rattle.sdh_report.specs.declared.listing.Listing.{Listing}
 use Rattle.sdh_report.specs.declared.status.Status.{Status}
 use Rattle.sdh_report.specs.declared.status.Status.TheVariants as status
-use Rattle.sdh_report.specs.Statuses.{last_line}
 use Rattle.sdh_cli.specs.Words.{Ask, Run, Check, Drop, Big}
 use Rattle.sdh_cli.specs.Outcome.{IsRunOutcome, OfListing, listing_of, HasNoPlan, TellsPlan, IsOutcome, Counts, HasCause, IsShown, MayEnd, Writes}
 use Rattle.sdh_cli.specs.Headline.{Lists, HasRun, Delivers, EndsAsItRuns, Settles, StaysHealthy}

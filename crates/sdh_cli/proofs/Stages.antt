@@ -1,11 +1,10 @@
 -- The outcome, stage by stage: a run, a plan, the bytes of a source, the words.
-use Rattle.std.proofs.Common.{arith, ◌≡◌, ◌≢◌, ◌⊎◌, ℕ, ◌≤◌, true, None, Some, List, ◌++◌, length, refl, sym, ◌∙◌, subst, inl, inr}
+use Rattle.std.proofs.Common.{arith, ◌≡◌, ◌≢◌, ℕ, ◌≤◌, true, None, Some, List, ◌++◌, length, refl, sym, subst}
 use Rattle.std.specs.Prelude.{Option, IfSome, ◌↔◌}
 use Rattle.std.specs.Io.KnownBytes.{IsAtEnd}
 use Rattle.sdh_plant.specs.Fibres.{Fibres}
 use Rattle.sdh_plant.specs.Arrivals.{Knows}
 use Rattle.sdh_plan.specs.Planned.{Planned}
-use Rattle.sdh_plan.specs.Answers.{IsPlanOf}
 use Rattle.sdh_report.specs.declared.listing.Listing.{Listing}
 use Rattle.sdh_report.specs.declared.status.Status.{Status}
 use Rattle.sdh_report.specs.declared.status.Status.TheVariants as status
@@ -14,10 +13,10 @@ use Rattle.sdh_converging.specs.Laws.{enough_for}
 use Rattle.sdh_owed.specs.Healthy.{AllSettle, IsSettled}
 use Rattle.sdh_script.specs.Plans.{world_of, ran_of, Comes, ComesKnown, IsOwedText, IsHealthyText}
 use Rattle.sdh_cli.specs.Words.{Ask, Run, Check, Drop, Big}
-use Rattle.sdh_cli.specs.Outcome.{IsRunOutcome, OfListing, OfPlan, OfBytes, listing_of, IsShort, TellsPlan, IsOutcome, told, LeavesSource, LeavesPlant, HasRead, Counts, HaveFailed, HasCause, IsShown}
-use Rattle.sdh_cli.specs.Headline.{HasRun, MayGo, MayBeDone}
+use Rattle.sdh_cli.specs.Outcome.{IsRunOutcome, OfListing, OfPlan, OfBytes, listing_of, TellsPlan, IsOutcome, told, LeavesSource, LeavesPlant, HasRead, Counts, HaveFailed, HasCause, IsShown}
+use Rattle.sdh_cli.specs.Headline.{MayGo, MayBeDone}
 use Rattle.sdh_cli.proofs.Endings.{Ends, it_isnt}
-use Rattle.sdh_cli.proofs.Promises.{some_same, one_plan}
+use Rattle.sdh_cli.proofs.Promises.{one_plan}
 
 -- ---- a run
 

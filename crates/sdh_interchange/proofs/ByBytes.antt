@@ -1,7 +1,7 @@
 -- The frame whose AU-4s come from two others, byte by byte.
-use Rattle.std.proofs.Common.{◌≡◌, ◌≢◌, ℕ, zero, suc, ◌+◌, ◌*◌, ◌-◌, ◌/◌, ◌%◌, ◌<◌, ◌≤◌, ◌⊎◌, inl, inr, Bool, true, false, eqb, leb, List, [], ◌∷◌, length, take, drop, get_or, map, replicate, refl, ap, sym, ◌∙◌, arith, subst}
-use Rattle.std.specs.Prelude.{◌||◌, if◌then◌else◌, slice_index_or}
-use Rattle.std.proofs.lemmas.Bool.{cases_Bool, cases_eq, cases_lt, eq-eqb, ne_eqb, le-leb, lt-leb}
+use Rattle.std.proofs.Common.{◌≡◌, ◌≢◌, ℕ, zero, suc, ◌+◌, ◌*◌, ◌-◌, ◌/◌, ◌%◌, ◌<◌, ◌≤◌, ◌⊎◌, inl, inr, true, false, eqb, leb, List, [], ◌∷◌, length, drop, get_or, map, replicate, refl, ap, sym, ◌∙◌, arith}
+use Rattle.std.specs.Prelude.{if◌then◌else◌}
+use Rattle.std.proofs.lemmas.Bool.{cases_eq, cases_lt, eq-eqb, ne_eqb, le-leb, lt-leb}
 use Rattle.std.proofs.lemmas.List.{ext_get_or, get_or-replicate, get_or-map, length-map, get_or-take, get_or-drop, length-take, length-drop}
 use Rattle.sdh_basics.proofs.CellsLaws.{get_or-cells}
 use Rattle.sdh_frame.specs.declared.Rate.{Rate}
@@ -13,7 +13,7 @@ use Rattle.sdh_frame.specs.Fields.{index_of, payload_place, place_of_pointer}
 use Rattle.sdh_frame.specs.Aus.{payload_of, pointers_of, Au, au_of, with_aus, ones}
 use Rattle.sdh_interchange.specs.Choosing.{payload_in, au_from, chosen, IsSource, AreSources, own_byte, picked, picked_at, is_au_byte, IsPlain}
 use Rattle.sdh_frame.proofs.PlaceProofs.{IsIn, IsPointerByte}
-use Rattle.sdh_frame.proofs.AuProofs.{au_byte, at_pointer, length-with_pointers, payload_byte-here, payload_byte-other, payload_byte-before, pointer_byte-here, pointer_byte-other, pointer_byte-payload, pointer_byte-row}
+use Rattle.sdh_frame.proofs.AuProofs.{au_byte, payload_byte-here, payload_byte-other, payload_byte-before, pointer_byte-here, pointer_byte-other, pointer_byte-payload, pointer_byte-row}
 use Rattle.sdh_frame.proofs.Moves.{taken}
 use Rattle.sdh_frame.proofs.AllAus.{aus_byte, at_aus, length-with_aus}
 

@@ -1,13 +1,11 @@
 -- Choices that need no payload, or no frame.
-use Rattle.std.proofs.Common.{◌≡◌, ℕ, ◌%◌, ◌<◌, Bool, true, false, List, length, get_or, inl, inr, refl, sym, ◌∙◌, arith}
+use Rattle.std.proofs.Common.{◌≡◌, ℕ, ◌%◌, ◌<◌, Bool, true, false, List, length, get_or, inl, inr, sym, ◌∙◌}
 use Rattle.std.specs.List.{list_any}
 use Rattle.std.proofs.lemmas.Bool.{cases_Bool}
 use Rattle.std.proofs.lemmas.List.Folds.{list_any_at}
-use Rattle.std.proofs.lemmas.Simd.{get_or-put_chunk_at}
-use Rattle.std.specs.Simd.Lanes.{put_chunk}
 use Rattle.sdh_interchange.specs.declared.choose.Source.{Source}
 use Rattle.sdh_interchange.specs.declared.choose.Source.TheVariants.{First, Second, Own, Ones}
-use Rattle.sdh_interchange.specs.Choosing.{is_passed, is_own, own_byte, picked, picked_at, IsPlain, IsExtra, AreExtra}
+use Rattle.sdh_interchange.specs.Choosing.{is_passed, is_own, picked, picked_at, IsPlain, IsExtra}
 
 -- no element passes a test that none passes
 none_at : (p : Source → Bool) (sources : List Source) (j : ℕ) → list_any p sources ≡ false → j < length sources → p (get_or sources j Ones) ≡ false

@@ -1,9 +1,8 @@
 -- Sixteen bytes of a frame by the lanes of two others.
 use Rattle.std.proofs.Common.{◌≡◌, ℕ, ◌+◌, ◌*◌, ◌-◌, ◌/◌, ◌%◌, ◌<◌, ◌≤◌, ◌⊎◌, inl, inr, Bool, true, false, ◌||◌, T, w8, ltb, List, length, get_or, bit_or, refl, ap, sym, ◌∙◌, arith, subst}
-use Rattle.std.specs.Prelude.{slice_index, slice_index_or}
 use Rattle.std.specs.Int.Bits.{or_zero_l, or_zero_r}
 use Rattle.std.specs.Simd.Lanes.{zip2, chunk, put_chunk}
-use Rattle.std.proofs.lemmas.Simd.{swz_l, SwzOk, SwzOk-from_Each1, Each1-from_get_or, length-swz_l, get_or-swz_l, get_or-swz_l_below, length-zip2, get_or-zip2, get_or-chunk, get_or-put_chunk_below, get_or-put_chunk_at, get_or-put_chunk_above}
+use Rattle.std.proofs.lemmas.Simd.{swz_l, SwzOk, SwzOk-from_Each1, Each1-from_get_or, length-swz_l, get_or-swz_l, get_or-swz_l_below, length-zip2, get_or-zip2, get_or-chunk, get_or-put_chunk_at, get_or-put_chunk_above}
 use lib.Dec.{lt→ltb}
 use mathlib.Core.Bool.{cond}
 use mir.Val.{zeroes}

@@ -1,5 +1,5 @@
 -- Payloads that are kept once they have been taken out of a frame.
-use Rattle.std.specs.Prelude.{◌≡◌, ◌*◌, ◌-◌, ◌<◌, ◌≤◌, ℕ, Bool, true, List, length}
+use Rattle.std.specs.Prelude.{◌≡◌, ◌*◌, ◌-◌, ◌<◌, ◌≤◌, ℕ, Bool, true, List}
 use Rattle.sdh_frame.specs.Sizes.{Frame, n_of}
 use Rattle.sdh_frame.specs.Aus.{payload_of}
 use Rattle.sdh_interchange.specs.Choosing.{payload_in}

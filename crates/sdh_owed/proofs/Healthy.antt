@@ -1,11 +1,9 @@
 -- A script of settle steps alone shows a healthy ring.
-use Rattle.std.proofs.Common.{◌≡◌, ◌⊎◌, ℕ, zero, suc, ◌+◌, ◌-◌, ◌*◌, ◌≤◌, None, Some, List, [], ◌∷◌, length, refl, ap, sym, ◌∙◌, subst, arith, inl, inr}
-use Rattle.std.specs.Prelude.{Option, slice_get}
+use Rattle.std.proofs.Common.{◌≡◌, ◌⊎◌, ℕ, suc, ◌+◌, ◌-◌, ◌*◌, ◌≤◌, None, Some, List, [], ◌∷◌, length, refl, ap, sym, ◌∙◌, subst, arith, inl, inr}
+use Rattle.std.specs.Prelude.{Option}
 use Rattle.std.proofs.lemmas.Bool.{cases_lt}
-use Rattle.sdh_circuits.specs.declared.End.{End}
-use Rattle.sdh_circuits.specs.Provisioned.{Provisioned}
 use Rattle.sdh_circuits.specs.Provisioning.{Provisioning}
-use Rattle.sdh_restoration.specs.Due.{due, nothing_applied}
+use Rattle.sdh_restoration.specs.Due.{nothing_applied}
 use Rattle.sdh_plant.specs.Fibres.{Fibres}
 use Rattle.sdh_plant.specs.Arrivals.{Knows}
 use Rattle.sdh_plant.proofs.Calling.{stay_honest}
@@ -13,8 +11,8 @@ use Rattle.sdh_node.specs.declared.settings.Settings.{Settings}
 use Rattle.sdh_payload.specs.Outlet.{Outlet}
 use Rattle.sdh_world.specs.Held.{outlet_at}
 use Rattle.sdh_world.specs.Rounds.{World}
-use Rattle.sdh_world.specs.Runs.{run, course}
-use Rattle.sdh_world.specs.Quiet.{Settles, SettlesAt, Unsettles, settles_in}
+use Rattle.sdh_world.specs.Runs.{run}
+use Rattle.sdh_world.specs.Quiet.{settles_in}
 use Rattle.sdh_world.specs.Changes.{after_stretches, new_world}
 use Rattle.sdh_world.proofs.Runs.{known_settles, known_unsettles}
 use Rattle.sdh_world.proofs.Laws.{steps_are_computed}
@@ -31,7 +29,7 @@ use Rattle.sdh_report.specs.Reports.{Report}
 use Rattle.sdh_owed.specs.Reports.{report_of, ports_from}
 use Rattle.sdh_owed.specs.Scripts.{Runs}
 use Rattle.sdh_owed.specs.Owed.{owed_ports}
-use Rattle.sdh_owed.specs.Healthy.{AllSettle, AreHealthy, IsHealthy}
+use Rattle.sdh_owed.specs.Healthy.{AllSettle, AreHealthy}
 use Rattle.sdh_owed.specs.Laws.{HealthyScripts}
 use Rattle.sdh_owed.proofs.Known.{knows_after}
 use Rattle.sdh_owed.proofs.Ports.{ports_are}

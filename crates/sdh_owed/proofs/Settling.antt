@@ -1,12 +1,12 @@
 -- With a large limit no settle step of a script is unsettled.
-use Rattle.std.proofs.Common.{◌≡◌, ℕ, ◌+◌, ◌≤◌, List, [], ◌∷◌, ◌++◌, All, length, refl, ap, sym, ◌∙◌, subst, arith, inl, inr}
+use Rattle.std.proofs.Common.{◌≡◌, ℕ, ◌+◌, ◌≤◌, List, [], ◌∷◌, ◌++◌, All, length, ap, sym, ◌∙◌, subst, arith, inl, inr}
 use Rattle.sdh_circuits.specs.Provisioning.{Provisioning}
 use Rattle.sdh_plant.specs.Fibres.{Fibres}
 use Rattle.sdh_node.specs.declared.settings.Settings.{Settings}
 use Rattle.sdh_world.specs.Rounds.{World}
 use Rattle.sdh_world.specs.Runs.{run}
 use Rattle.sdh_world.specs.Quiet.{Unsettles}
-use Rattle.sdh_world.specs.Changes.{Change, all_changed, Stretch, after_stretch, after_stretches, new_world}
+use Rattle.sdh_world.specs.Changes.{Change, Stretch, after_stretches, new_world}
 use Rattle.sdh_world.specs.Laws.{IsChangeAt}
 use Rattle.sdh_world.proofs.Runs.{known_unsettles}
 use Rattle.sdh_hearing.specs.Laws.{MayStart, MayHappen}
@@ -22,7 +22,7 @@ use Rattle.sdh_plan.specs.Scripts.{AreSteps}
 use Rattle.sdh_report.specs.declared.status.Status.{Status}
 use Rattle.sdh_report.specs.declared.status.Status.TheVariants as status
 use Rattle.sdh_report.specs.Reports.{Report}
-use Rattle.sdh_owed.specs.Steps.{changes_of, after_step}
+use Rattle.sdh_owed.specs.Steps.{changes_of}
 use Rattle.sdh_owed.specs.Scripts.{Runs}
 use Rattle.sdh_owed.specs.Healthy.{IsSettled}
 use Rattle.sdh_owed.specs.Laws.{ScriptsSettle}

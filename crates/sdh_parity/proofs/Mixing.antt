@@ -1,10 +1,10 @@
 -- Vectors that are added, and sums that grow by a row.
-use Rattle.std.proofs.Common.{◌≡◌, ℕ, ◌+◌, ◌*◌, ◌-◌, ◌/◌, ◌%◌, ◌^◌, ◌<◌, ◌≤◌, List, length, get_or, refl, ap, sym, ◌∙◌, arith, bit_xor, inl, inr, subst}
+use Rattle.std.proofs.Common.{◌≡◌, ℕ, ◌+◌, ◌*◌, ◌-◌, ◌/◌, ◌%◌, ◌^◌, ◌<◌, ◌≤◌, List, length, get_or, ap, sym, ◌∙◌, arith, bit_xor, inl, inr, subst}
 use Rattle.std.specs.Int.Bits.{xor_assoc, xor_self, xor_zero_r}
 use Rattle.std.proofs.lemmas.Bool.{cases_lt}
-use Rattle.std.specs.Simd.Lanes.{zip2, chunk, put_chunk}
+use Rattle.std.specs.Simd.Lanes.{zip2}
 use Rattle.std.proofs.lemmas.Nat.{xor_lt}
-use Rattle.std.proofs.lemmas.Simd.{length-zip2, get_or-zip2, length-chunk, get_or-chunk, get_or-put_chunk_at}
+use Rattle.std.proofs.lemmas.Simd.{length-zip2, get_or-zip2}
 use Rattle.std.proofs.Math.ListN.{get_or-eq_default}
 use Rattle.sdh_basics.specs.Parity.{bip8}
 use Rattle.sdh_basics.proofs.ParityLaws.{bip8-nil, bip8-push, from_bits-lt}

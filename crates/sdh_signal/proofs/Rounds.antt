@@ -1,25 +1,23 @@
 -- One round, from the lists that it was made of, and the rounds before that left the words as they were.
-use Rattle.std.proofs.Common.{◌≡◌, ◌↔◌, ℕ, zero, suc, ◌+◌, ◌-◌, ◌^◌, ◌<◌, ◌≤◌, min, Bool, true, false, IsTrue, List, [], length, get_or, refl, ap, sym, subst, ◌∙◌, arith, ◌⊎◌, inl, inr}
+use Rattle.std.proofs.Common.{◌≡◌, ℕ, zero, suc, ◌+◌, ◌-◌, ◌^◌, ◌<◌, ◌≤◌, min, Bool, true, false, IsTrue, List, [], length, get_or, refl, ap, sym, subst, ◌∙◌, arith, ◌⊎◌, inl, inr}
 use Rattle.std.specs.Prelude.{All, nat_lt, if◌then◌else◌}
-use Rattle.std.proofs.lemmas.Bool.{cases_lt, lt-ltb, ltb-true}
+use Rattle.std.proofs.lemmas.Bool.{cases_lt, lt-ltb}
 use Rattle.sdh_basics.specs.Cells.{cells}
 use Rattle.sdh_basics.specs.Indexed.{map_from}
 use Rattle.sdh_basics.proofs.CellsLaws.{length-cells, get_or-cells, length-map_from}
 use Rattle.sdh_nodestate.specs.declared.Needs.{Needs}
 use Rattle.sdh_nodestate.specs.declared.Sent.{Sent}
 use Rattle.sdh_nodestate.specs.declared.NodeState.{NodeState}
-use Rattle.sdh_nodestate.specs.declared.NodeState.TheVariants.{Idle}
-use Rattle.sdh_nodestate.specs.Conditions.{MayNeed}
 use Rattle.sdh_nodestate.specs.Words.{first_words, IsSourced}
-use Rattle.sdh_nodestate.specs.Rules.{scene, state_after, sent_after}
+use Rattle.sdh_nodestate.specs.Rules.{state_after, sent_after}
 use Rattle.sdh_restoration.specs.Settled.{settled_states}
-use Rattle.sdh_settling.specs.Signals.{Signals, Filters, no_filters, no_needs, unsaid, on_their_way, filters_after, heard_through, is_held, state_in, words_in, scene_at, round, free_round, MayGo, requests_in}
+use Rattle.sdh_settling.specs.Signals.{Signals, Filters, no_filters, no_needs, filters_after, is_held, state_in, words_in, scene_at, round, free_round, MayGo, requests_in}
 use Rattle.sdh_settling.specs.Laws.{ChangesNoWord}
 use Rattle.sdh_settling.proofs.Lists.{map_from-same}
 use Rattle.sdh_settling.proofs.Rounds.{filters_in}
 use Rattle.sdh_settling.proofs.StillRings.{may_go_on}
 use Rattle.sdh_settling.proofs.Fixpoint.{still_rings_are_settled, free_rounds}
-use Rattle.sdh_signal.specs.SignalRing.{ring_of, NoneHeld, LeavesWords, WereUnchanged, IsRing}
+use Rattle.sdh_signal.specs.SignalRing.{ring_of, LeavesWords, WereUnchanged, IsRing}
 use Rattle.sdh_signal.specs.Nodes.{filters_with, scene_through, next_state, next_sent}
 
 -- a round has run

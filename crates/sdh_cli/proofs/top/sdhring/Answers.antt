@@ -1,4 +1,4 @@
-use Rattle.std.proofs.Common.{◌≡◌, true, subst}
+use Rattle.std.proofs.Common.{subst}
 use Rattle.std.specs.Io.KnownBytes.{Appends}
 use Rattle.sdh_cli.specs.Words.{words_of, asked}
 use Rattle.sdh_cli.specs.Outcome.{told, Counts}

@@ -1,4 +1,4 @@
-use Rattle.std.proofs.Common.{ℕ, ◌≡◌, ◌+◌, ◌<◌, get_or, [], refl, ap, sym, ◌∙◌, arith}
+use Rattle.std.proofs.Common.{◌+◌, ◌<◌, get_or, [], refl, ap, sym, ◌∙◌, arith}
 use Rattle.sdh_frame.specs.Sizes.{Frame, n_of}
 use Rattle.sdh_frame.specs.Aus.{with_pointers, with_aus}
 use Rattle.sdh_interchange.proofs.Pointing.{point_none, point_more}

@@ -1,4 +1,4 @@
-use Rattle.std.proofs.Common.{◌≡◌, ◌⊎◌, inl, inr, ap, arith}
+use Rattle.std.proofs.Common.{◌≡◌, ap, arith}
 use Rattle.sdh_frame.specs.Sizes.{n_of}
 use Rattle.sdh_interchange.proofs.ByBytes.{half_taken}
 use Rattle.sdh_interchange.proofs.payloads.take.Goals as goal

@@ -1,4 +1,4 @@
-use Rattle.std.proofs.Common.{◌<◌, refl, ap, subst, arith}
+use Rattle.std.proofs.Common.{◌<◌, refl, arith}
 use Rattle.sdh_interchange.proofs.Turning.{last, two-rows, two-lanes, two-done}
 use Rattle.sdh_interchange.proofs.table.apart.Goals as goal
 

@@ -1,4 +1,4 @@
-use Rattle.std.proofs.Common.{◌≡◌, ◌<◌, ◌++◌, ap, sym, refl, ◌∙◌, arith}
+use Rattle.std.proofs.Common.{refl, ◌∙◌, arith}
 use Rattle.sdh_parity.proofs.Folding.{by-lanes}
 use Rattle.sdh_parity.proofs.pieces.receive_piece.Goals as goal
 

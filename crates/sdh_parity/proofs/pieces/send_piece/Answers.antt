@@ -1,4 +1,4 @@
-use Rattle.std.proofs.Common.{◌≡◌, ◌<◌, ◌++◌, ap, sym, ◌∙◌, arith}
+use Rattle.std.proofs.Common.{sym, ◌∙◌, arith}
 use Rattle.sdh_parity.proofs.Folding.{by-lanes}
 use Rattle.sdh_parity.proofs.pieces.send_piece.Goals as goal
 

@@ -1,4 +1,4 @@
-use Rattle.std.proofs.Common.{◌<◌, arith}
+use Rattle.std.proofs.Common.{arith}
 use Rattle.sdh_parity.proofs.Table.{table_at}
 use Rattle.sdh_parity.proofs.scrambler.sequence.Goals as goal
 

@@ -1,4 +1,4 @@
-use Rattle.std.proofs.Common.{◌≡◌, ℕ, ◌+◌, ◌*◌, ◌%◌, ◌<◌, ◌≤◌, get_or, replicate, length, refl, ap, sym, ◌∙◌, arith}
+use Rattle.std.proofs.Common.{◌≡◌, ◌+◌, ◌*◌, get_or, refl, ap, sym, ◌∙◌, arith}
 use Rattle.std.proofs.lemmas.List.{get_or-replicate}
 use Rattle.sdh_parity.proofs.Mixing.{no-rows, was1, was2, was3, is1, is2, more-done, more-rest, sum-before, sum-after}
 use Rattle.sdh_parity.proofs.through.mix.Goals as goal

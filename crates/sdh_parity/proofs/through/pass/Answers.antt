@@ -1,6 +1,4 @@
-use Rattle.std.proofs.Common.{◌≡◌, ℕ, ◌+◌, ◌*◌, ◌/◌, ◌%◌, ◌^◌, ◌<◌, ◌≤◌, ◌++◌, length, get_or, replicate, ap, sym, ◌∙◌, arith, bit_xor}
-use Rattle.std.proofs.lemmas.List.{length-append, get_or_append_left, get_or-append_right, get_or-replicate}
-use Rattle.std.specs.Int.Bits.{xor_zero_l}
+use Rattle.std.proofs.Common.{◌≡◌, ℕ, ◌+◌, ◌/◌, ◌^◌, ◌<◌, ◌≤◌, ◌++◌, length, get_or, ◌∙◌, arith, bit_xor}
 use Rattle.sdh_parity.specs.Scrambling.{scrambling_byte}
 use Rattle.sdh_parity.proofs.Mixing.{all-small}
 use Rattle.sdh_parity.proofs.Behind.{in-thirds, lanes-behind, key-behind, small-behind}

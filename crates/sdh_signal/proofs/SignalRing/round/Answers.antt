@@ -1,13 +1,12 @@
-use Rattle.std.proofs.Common.{◌≡◌, List, length, get_or, ap, sym, subst, ◌∙◌, arith}
-use Rattle.std.specs.Prelude.{[], nat_lt, if◌then◌else◌, ◌<◌, IsTrue}
+use Rattle.std.proofs.Common.{length, get_or, ap, sym, subst, ◌∙◌}
+use Rattle.std.specs.Prelude.{[], nat_lt, if◌then◌else◌, IsTrue}
 use Rattle.std.proofs.lemmas.Bool.{lt-ltb}
 use Rattle.sdh_basics.specs.Indexed.{map_from}
-use Rattle.sdh_settling.specs.Signals.{Signals, Filters, no_filters, round, MayGo}
-use Rattle.sdh_nodestate.specs.declared.Sent.{Sent}
+use Rattle.sdh_settling.specs.Signals.{Signals, no_filters, round, MayGo}
 use Rattle.sdh_signal.specs.SignalRing.{Signalling, ring_of, LeavesWords, IsRing}
 use Rattle.sdh_signal.specs.Nodes.{filters_with, next_state, next_sent}
 use Rattle.sdh_signal.proofs.Scenes.{all_silent}
-use Rattle.sdh_signal.proofs.Rounds.{Made, is_round, ring_after, is_settled}
+use Rattle.sdh_signal.proofs.Rounds.{is_round, ring_after, is_settled}
 use Rattle.sdh_signal.proofs.SignalRing.round.Goals as goal
 
 pub step_all-stays-requires-clause-silent : goal.step_all-stays-requires-clause-silent

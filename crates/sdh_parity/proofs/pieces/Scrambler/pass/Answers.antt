@@ -1,4 +1,4 @@
-use Rattle.std.proofs.Common.{◌≡◌, ℕ, ◌+◌, ◌-◌, ◌≤◌, ap, sym, ◌∙◌, arith}
+use Rattle.std.proofs.Common.{◌≡◌, ◌-◌, ap, ◌∙◌, arith}
 use Rattle.sdh_parity.specs.Pieces.{Position, scrambled_from}
 use Rattle.sdh_parity.proofs.Cutting.{passed-piece}
 use Rattle.sdh_parity.proofs.Mixing.{all-small}
