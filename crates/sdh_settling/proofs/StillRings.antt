@@ -1,22 +1,20 @@
 -- A ring of signals after three rounds, one after the other, that held no node and changed no word. The same sides failed in all
 -- three, so that each round brought the same words, and the filters are full of them. One more round with the needs of the third
 -- leaves the ring as it is, and so do all later ones.
-use Rattle.std.proofs.Common.{◌≡◌, ℕ, zero, suc, ◌<◌, Bool, true, false, Option, Some, None, List, [], length, get_or, refl, ap, sym, subst, ◌∙◌, arith}
-use Rattle.std.specs.Prelude.{slice_get, option_map, if◌then◌else◌, All}
+use Rattle.std.proofs.Common.{◌≡◌, ℕ, zero, suc, ◌<◌, Bool, true, Option, None, List, [], length, get_or, refl, ap, sym, subst, ◌∙◌, arith}
+use Rattle.std.specs.Prelude.{slice_get, option_map, if◌then◌else◌}
 use Rattle.std.proofs.lemmas.List.Elements.{All-get_or}
-use Rattle.sdh_basics.specs.Indexed.{map_from}
 use Rattle.sdh_basics.proofs.CellsLaws.{get_or-placed}
 use Rattle.sdh_kbytes.specs.declared.K.{K}
 use Rattle.sdh_ringmap.specs.Places.{neighbour, opposite}
 use Rattle.sdh_ringmap.specs.declared.Side.{Side}
 use Rattle.sdh_ringmap.specs.declared.Side.TheVariants.{West, East}
 use Rattle.sdh_nodestate.specs.declared.Needs.{Needs}
-use Rattle.sdh_nodestate.specs.declared.NodeState.{NodeState}
 use Rattle.sdh_nodestate.specs.declared.Sent.{Sent}
 use Rattle.sdh_nodestate.specs.Conditions.{MayNeed}
 use Rattle.sdh_nodestate.specs.Filtering.{Brought, with_brought}
-use Rattle.sdh_nodestate.specs.Rules.{Scene, scene, own_id, fails, word, state_after, sent_after}
-use Rattle.sdh_settling.specs.Signals.{Signals, Filters, fails_on, sent_on, incoming, on_their_way, filters_after, heard_through, is_held, state_in, words_in, unsaid, scene_at, round, free_round, rounds, MayGo, no_filters, no_needs}
+use Rattle.sdh_nodestate.specs.Rules.{scene, own_id, fails, word, state_after, sent_after}
+use Rattle.sdh_settling.specs.Signals.{Signals, Filters, fails_on, sent_on, incoming, on_their_way, filters_after, heard_through, is_held, state_in, words_in, unsaid, scene_at, round, free_round, rounds, MayGo, no_needs}
 use Rattle.sdh_settling.specs.Laws.{ChangesNoWord}
 use Rattle.sdh_settling.proofs.Lists.{map_from-same}
 use Rattle.sdh_settling.proofs.Marks.{same_failing}
