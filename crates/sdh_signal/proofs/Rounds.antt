@@ -8,6 +8,7 @@ use Rattle.sdh_basics.proofs.CellsLaws.{length-cells, get_or-cells, length-map_f
 use Rattle.sdh_nodestate.specs.declared.Needs.{Needs}
 use Rattle.sdh_nodestate.specs.declared.Sent.{Sent}
 use Rattle.sdh_nodestate.specs.declared.NodeState.{NodeState}
+use Rattle.sdh_nodestate.specs.Conditions.{MayNeed}
 use Rattle.sdh_nodestate.specs.Words.{first_words, IsSourced}
 use Rattle.sdh_nodestate.specs.Rules.{state_after, sent_after}
 use Rattle.sdh_restoration.specs.Settled.{settled_states}
@@ -17,7 +18,7 @@ use Rattle.sdh_settling.proofs.Lists.{map_from-same}
 use Rattle.sdh_settling.proofs.Rounds.{filters_in}
 use Rattle.sdh_settling.proofs.StillRings.{may_go_on}
 use Rattle.sdh_settling.proofs.Fixpoint.{still_rings_are_settled, free_rounds}
-use Rattle.sdh_signal.specs.SignalRing.{ring_of, LeavesWords, WereUnchanged, IsRing}
+use Rattle.sdh_signal.specs.SignalRing.{ring_of, NoneHeld, LeavesWords, WereUnchanged, IsRing}
 use Rattle.sdh_signal.specs.Nodes.{filters_with, scene_through, next_state, next_sent}
 
 -- a round has run
@@ -32,8 +33,22 @@ pub record Made (ids : List ℕ) (needs : List Needs) (held : List Bool) (states
   pub words_are : now_words ≡ map_from (next_sent ids now_filters held words) 0 needs
   pub count : later ≡ min (rounds + 1) (2 ^ 64 - 1)
 
-module _ (ids : List ℕ) (needs : List Needs) (held : List Bool) (states : List NodeState) (words : List Sent) (filters : List Filters) (rounds : ℕ)
-    (now_states : List NodeState) (now_words : List Sent) (now_filters : List Filters) (later : ℕ)
+-- from what each part says: the words that are on their way, and the filters, were read from those lists
+pub made_by : {ids : List ℕ} {needs : List Needs} {held : List Bool} {states : List NodeState} {words way : List Sent} {filters through : List Filters} {rounds : ℕ}
+    {now_states : List NodeState} {now_words : List Sent} {now_filters : List Filters} {later : ℕ}
+    → way ≡ (if nat_lt 0 rounds then words else []) → through ≡ now_filters
+    → now_filters ≡ map_from (λ p x. filters_with way (length ids) p x (get_or filters p no_filters)) 0 needs
+    → now_states ≡ map_from (next_state ids through held states) 0 needs → now_words ≡ map_from (next_sent ids through held words) 0 needs → later ≡ min (rounds + 1) (2 ^ 64 - 1)
+    → Made ids needs held states words filters rounds now_states now_words now_filters later
+made_by {ids} {needs} {held} {states} {words} {way} {filters} {through} found read fs ss ws count = record {
+  filters_are = fs ∙ ap (λ out. map_from (λ p x. filters_with out (length ids) p x (get_or filters p no_filters)) 0 needs) found;
+  states_are = ss ∙ ap (λ gs. map_from (next_state ids gs held states) 0 needs) read;
+  words_are = ws ∙ ap (λ gs. map_from (next_sent ids gs held words) 0 needs) read;
+  count = count;
+}
+
+module _ {ids : List ℕ} {needs : List Needs} {held : List Bool} {states : List NodeState} {words : List Sent} {filters : List Filters} {rounds : ℕ}
+    {now_states : List NodeState} {now_words : List Sent} {now_filters : List Filters} {later : ℕ}
     (made : Made ids needs held states words filters rounds now_states now_words now_filters later) where
   abbrev old : Signals
   old = ring_of ids states words filters rounds
@@ -72,11 +87,19 @@ module _ (ids : List ℕ) (needs : List Needs) (held : List Bool) (states : List
       ∙ ap (λ fs. record { ids = ids; states = (round needs held old).states; words = (round needs held old).words; filters = fs; running = nat_lt 0 later }) new_filters
       ∙ ap (λ b. record { ids = ids; states = (round needs held old).states; words = (round needs held old).words; filters = (round needs held old).filters; running = b }) (ran rounds later made.count)
 
+  -- and one that leaves the words as they were, where no node is held and they are the same
+  pub words_left : (0 < rounds) × NoneHeld held × (now_words ≡ words) → LeavesWords held old (round needs held old)
+  words_left (some, free, same) = record { later = lt-ltb 0 rounds some; free = free; words = ap (λ (s : Signals). s.words) (sym is_round) ∙ same }
+
 -- the words of new nodes have their sources in the ring
 pub first_sourced : (ids : List ℕ) (words : List Sent) → words ≡ cells (first_words ids) (length ids) → All (IsSourced ids) words
 first_sourced ids words is = λ k d h.
     let few : k < length ids = omega (arith, ap length is, length-cells (first_words ids) (length ids)) in
     subst (IsSourced ids) (sym (ap (λ (ws : List Sent). get_or ws k d) is ∙ get_or-cells (first_words ids) (length ids) k d few)) (record { west = (k, few, refl); east = (k, few, refl) })
+
+-- what a ring keeps is enough for a round
+pub may_go : {s : Signals} {rounds unchanged : ℕ} (needs : List Needs) → IsRing s rounds unchanged → length needs ≡ length s.ids → All MayNeed needs → MayGo needs s
+may_go needs ring size sound = record { ids_ok = ring.ids_ok; size = size; sound = sound; said = ring.words_len; sourced = ring.sourced }
 
 -- the rounds before
 
