@@ -7,7 +7,7 @@ use sdh_plant::{FibrePlant, Plant};
 use std::alloc::{AllocError, Global};
 
 /// A source and a sink: how many bytes they give and take at a time, and which of their calls fail, counted from 1.
-#[derive(Clone, Copy)]
+#[derive(Clone, Copy, Debug)]
 pub struct Outside<'a> {
     pub piece: usize,
     pub reads: &'a [u32],
