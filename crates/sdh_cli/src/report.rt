@@ -24,7 +24,7 @@ use sdh_tables::table_text;
 use std::alloc::{AllocError, Global};
 
 /// What is to be written, and how the program ends then.
-#[derive(Drop)]
+#[derive(Debug, Drop)]
 pub struct Report {
     pub status: Status,
     pub text: Text,

@@ -6,7 +6,7 @@ use sdh_circuits::End;
 use sdh_plan::numeral_in;
 
 /// What the program is asked for.
-#[derive(Clone, Copy)]
+#[derive(Clone, Copy, Debug)]
 pub enum Command<'a> {
     /// Run the plan and report every settle step.
     Run,

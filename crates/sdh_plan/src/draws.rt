@@ -5,7 +5,7 @@ ghost use Rattle.sdh_plan.specs.Big.{next, drawn};
 use std::marker::Model;
 
 /// A generator of numbers, each from the state before.
-#[derive(Drop)]
+#[derive(Debug, Drop)]
 pub struct Draws {
     state: u32,
 }

@@ -8,7 +8,7 @@ use crate::step::Step;
 use std::marker::Model;
 
 /// The present moment, and the number of settle steps.
-#[derive(Drop)]
+#[derive(Debug, Drop)]
 pub struct Past {
     moment: u64,
     settles: u32,

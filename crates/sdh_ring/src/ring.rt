@@ -33,7 +33,7 @@ use std::alloc::{AllocError, Global};
 use std::marker::Model;
 
 /// The nodes of a ring, which run in rounds.
-#[derive(Drop)]
+#[derive(Debug, Drop)]
 pub struct Ring {
     settings: Settings,
     map: RingMap,

@@ -21,7 +21,7 @@ use sdh_ringmap::RingMap;
 use std::alloc::{AllocError, Global};
 
 /// What a run wrote, and how it ended: `Ok`, `Unsettled` or `PlantFault`. There is room for one more line.
-#[derive(Drop)]
+#[derive(Debug, Drop)]
 pub struct Run {
     pub status: Status,
     pub text: Text,

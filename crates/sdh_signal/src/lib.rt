@@ -20,7 +20,7 @@ use std::alloc::{AllocError, Global};
 use std::marker::Model;
 
 /// The node states and K words of a ring without frames.
-#[derive(Drop)]
+#[derive(Debug, Drop)]
 pub struct SignalRing {
     map: RingMap,
     states: Vec<NodeState>,

@@ -8,7 +8,7 @@ use std::alloc::{AllocError, Global};
 
 /// A source and a sink: how many bytes they give and take at a time, which of their calls fail, counted from 1, and the room of
 /// the sink.
-#[derive(Clone, Copy)]
+#[derive(Clone, Copy, Debug)]
 pub struct Outside<'a> {
     pub piece: usize,
     pub reads: &'a [u32],
