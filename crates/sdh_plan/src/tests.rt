@@ -484,7 +484,7 @@ fn reads_each_part_of_a_plan(rt: HostRuntime) -> Result<(), Fail> {
     ];
     assert_eq!(rt; plan.steps(), wanted.as_slice());
     let (map, circuits, steps) = plan.into_parts();
-    assert!(rt; map.len() == 3 && circuits.len() == 2 && steps.len() == 10);
+    assert!(rt; map.len() == 3 && circuits.len() == 2 && steps.len() == 11);
     Ok(())
 }
 
