@@ -1,5 +1,5 @@
 -- Payloads that are kept once they have been taken out of a frame.
-use Rattle.std.specs.Prelude.{◌≡◌, ◌*◌, ◌-◌, ◌<◌, ◌≤◌, ℕ, Bool, true, List}
+use Rattle.std.specs.Prelude.{◌≡◌, ◌*◌, ◌-◌, ◌<◌, ◌≤◌, ℕ, nat_le, if◌then◌else◌, Bool, true, List}
 use Rattle.sdh_frame.specs.Sizes.{Frame, n_of}
 use Rattle.sdh_frame.specs.Aus.{payload_of}
 use Rattle.sdh_interchange.specs.Choosing.{payload_in}
@@ -13,6 +13,10 @@ pub record Held : Type 0 where
   -- those of the others
   pub has_upper : Bool
   pub upper : List ℕ
+
+-- whether the payload of an AU-4 has been taken
+abbrev pub has : Held → ℕ → Bool
+has held au = if nat_le au held.half then held.has_lower else held.has_upper
 
 -- what has been taken is this frame's
 pub record IsOf (frame : Frame) (held : Held) : Type 0 where

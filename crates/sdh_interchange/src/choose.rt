@@ -241,6 +241,38 @@ fn store_own(
     extra.copy_to_slice(&mut bytes[at..]);
 }
 
+// All columns from `from` up to `to`, where every AU-4 is ones.
+fn blank(
+    bytes: &mut [u8],
+    from: usize,
+    to: usize,
+    first: &[u8],
+    second: &[u8],
+    own: &[u8],
+    n: usize,
+    sources: &[Source],
+    lanes: &Lanes,
+)
+    requires rate { (n ≡ 4) ⊎ (n ≡ 16) }
+    requires start { from % n ≡ 0 }
+    requires end { to % n ≡ 0 }
+    requires some { from + 16 ≤ to }
+    requires room { to ≤ length bytes.old }
+    requires many { length sources.now ≡ n }
+    requires none { list_any is_passed sources.now ≡ false }
+    requires lanes { AreLanes n sources.now lanes.now.first lanes.now.second lanes.now.own lanes.now.more lanes.now.upto }
+    requires plain { (i : ℕ) → from ≤ i → i < to → IsPlain n (slice_index_or sources.now (i % n) Ones) own.now i }
+    ensures before { (i : ℕ) → i < from → slice_index bytes.new i ≡ slice_index bytes.old i }
+    ensures inside { (i : ℕ) → from ≤ i → i < to → slice_index bytes.new i ≡ picked_at n sources.now first.now second.now own.now i }
+    ensures after { (i : ℕ) → to ≤ i → slice_index bytes.new i ≡ slice_index bytes.old i }
+{
+    let more = u8x16::from_array(lanes.more);
+    for b in 0..(to - from) / 16 {
+        store_own(bytes, from + b * 16, first, second, own, more, n, sources);
+    }
+    store_own(bytes, to - 16, first, second, own, more, n, sources);
+}
+
 // Sixteen columns of the payloads from byte `from` of each on.
 #[inline(always)]
 fn own16(own: &[u8], from: usize) -> [u8x16; 16]
@@ -475,8 +507,20 @@ fn any_row4(
     ensures inside { (i : ℕ) → 1080 * r + 36 ≤ i → i < 1080 * r + 1080 → slice_index bytes.new i ≡ picked_at 4 sources.now first.now second.now own.now i }
     ensures after { (i : ℕ) → 1080 * r + 1080 ≤ i → slice_index bytes.new i ≡ slice_index bytes.old i }
 {
-    if !owned {
+    if !owned && passed {
         pass(
+            bytes,
+            1080 * r + 36,
+            1080 * r + 1080,
+            first,
+            second,
+            own,
+            4,
+            sources,
+            lanes,
+        );
+    } else if !owned {
+        blank(
             bytes,
             1080 * r + 36,
             1080 * r + 1080,
@@ -578,8 +622,20 @@ fn any_row16(
     ensures inside { (i : ℕ) → 4320 * r + 144 ≤ i → i < 4320 * r + 4320 → slice_index bytes.new i ≡ picked_at 16 sources.now first.now second.now own.now i }
     ensures after { (i : ℕ) → 4320 * r + 4320 ≤ i → slice_index bytes.new i ≡ slice_index bytes.old i }
 {
-    if !owned {
+    if !owned && passed {
         pass(
+            bytes,
+            4320 * r + 144,
+            4320 * r + 4320,
+            first,
+            second,
+            own,
+            16,
+            sources,
+            lanes,
+        );
+    } else if !owned {
+        blank(
             bytes,
             4320 * r + 144,
             4320 * r + 4320,

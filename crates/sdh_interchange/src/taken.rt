@@ -1,9 +1,9 @@
 //! Payloads that are taken out of a frame half of the AU-4s at a time, when the first of them is asked for.
 ghost use Rattle.std.specs.Prelude.{◌≡◌, ◌*◌, ◌≤◌, true, IfOk, length};
-ghost use Rattle.sdh_frame.specs.Sizes.{n_of};
+ghost use Rattle.sdh_frame.specs.Sizes.{Frame, n_of};
 ghost use Rattle.sdh_frame.specs.Aus.{payload_of};
 ghost use Rattle.sdh_interchange.specs.Choosing.{payload_in};
-ghost use Rattle.sdh_interchange.specs.Taking.{IsOf};
+ghost use Rattle.sdh_interchange.specs.Taking.{IsOf, has};
 
 use crate::payloads::take;
 use sdh_frame::FrameBuf;
@@ -50,13 +50,13 @@ fn room(alloc: Global) -> Result<Vec<u8>, AllocError>
 }
 
 // One of the payloads that stand one after the other.
-fn copy_out(all: &[u8], k: usize, out: &mut [u8])
+fn payload_at(all: &[u8], k: usize) -> &[u8]
     requires first { 1 ≤ k }
     requires last { 2349 * k ≤ length all.now }
-    requires out { length out.old ≡ 2349 }
-    ensures { out.new ≡ payload_in k all.now }
+    ensures payload { result.now ≡ payload_in k all.now }
+    ensures len { length result.now ≡ 2349 }
 {
-    out.copy_from_slice(&all[2349 * (k - 1)..2349 * k]);
+    &all[2349 * (k - 1)..2349 * k]
 }
 
 impl Taken {
@@ -113,22 +113,35 @@ impl Taken {
         self.has_upper = true;
     }
 
-    /// Copies out the payload of an AU-4 of the frame, 1 to N.
-    pub fn copy_payload(&mut self, frame: &FrameBuf, au: u16, out: &mut [u8])
+    /// Takes out the payload of an AU-4 of the frame, 1 to N, with those of half of the AU-4s.
+    pub fn take(&mut self, frame: &FrameBuf, au: u16)
         requires held { IsOf frame.now self.old }
         requires first { 1 ≤ au }
         requires last { au ≤ n_of frame.now.rate }
-        requires out { length out.old ≡ 2349 }
         ensures held { IsOf frame.now self.new }
-        ensures out { out.new ≡ payload_of (n_of frame.now.rate) au frame.now.bytes }
+        ensures here { has self.new au ≡ true }
+        ensures half { self.new.half ≡ self.old.half }
+    {
+        if au as usize <= self.half {
+            self.take_lower(frame);
+        } else {
+            self.take_upper(frame);
+        }
+    }
+
+    /// A payload that has been taken out, of the frame that it is of.
+    pub fn payload(&self, au: u16) -> &[u8]
+        requires first { 1 ≤ au }
+        requires last { au ≤ 2 * self.now.half }
+        requires here { has self.now au ≡ true }
+        ensures payload { (frame : Frame) → IsOf frame self.now → result.now ≡ payload_of (n_of frame.rate) au frame.bytes }
+        ensures len { length result.now ≡ 2349 }
     {
         let au = au as usize;
         if au <= self.half {
-            self.take_lower(frame);
-            copy_out(&self.lower, au, out);
+            payload_at(&self.lower, au)
         } else {
-            self.take_upper(frame);
-            copy_out(&self.upper, au - self.half, out);
+            payload_at(&self.upper, au - self.half)
         }
     }
 }

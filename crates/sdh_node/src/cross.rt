@@ -120,16 +120,16 @@ impl CrossConnect {
         }
     }
 
-    /// Keeps what arrived on a side, and takes a frame in exchange for another.
+    /// Keeps what arrived on a side, and takes a frame in exchange for another. What was taken in before isn't kept.
     pub fn exchange(&mut self, side: Side, arrived: Arrived, frame: &mut FrameBuf)
         requires { frame.old.rate ≡ self.old.west.section.rate }
-        ensures cross { self.new ≡ at_side side (arrived_on (as_arrival arrived frame.old.bytes)) self.old }
+        ensures cross { self.new ≡ record (at_side side (arrived_on (as_arrival arrived frame.old.bytes)) self.old) { west_in = self.new.west_in; east_in = self.new.east_in } }
         ensures moment { self.new.west.local.moment ≡ self.old.west.local.moment }
         ensures rate { frame.new.rate ≡ frame.old.rate }
     {
         match side {
-            Side::West => self.west.exchange(arrived, frame),
-            Side::East => self.east.exchange(arrived, frame),
+            Side::West => self.west.exchange(arrived, frame, &mut self.west_in),
+            Side::East => self.east.exchange(arrived, frame, &mut self.east_in),
         }
     }
 

@@ -72,6 +72,15 @@ impl Intake {
         self.actions[au as usize - 1]
     }
 
+    /// Gives its frame, which has been read, in exchange for another.
+    pub fn exchange(&mut self, frame: &mut FrameBuf)
+        requires { frame.old.rate ≡ self.old.frame.rate }
+        ensures intake { self.new ≡ record self.old { frame = frame.old } }
+        ensures frame { frame.new ≡ self.old.frame }
+    {
+        std::mem::swap(&mut self.frame, frame);
+    }
+
     /// A frame of ones.
     pub fn fill_ones(&mut self)
         ensures { self.new ≡ record self.old { frame = record { rate = self.old.frame.rate; bytes = all_ones self.old.frame.rate } } }

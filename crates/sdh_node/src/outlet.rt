@@ -98,7 +98,6 @@ impl Outlet {
 }
 
 // The bytes that a port takes from an AU-4 of a frame.
-#[tactic(auto, using(sdh_payload::proofs::Splicing::written_whole))]
 fn take_au(frame: &FrameBuf, payloads: &mut Taken, au: u16, form: ChunkForm, cells: &mut Cells)
     requires first { 1 ≤ au }
     requires last { au ≤ n_of frame.now.rate }
@@ -106,7 +105,9 @@ fn take_au(frame: &FrameBuf, payloads: &mut Taken, au: u16, form: ChunkForm, cel
     ensures payloads { IsOf frame.now payloads.new }
     ensures cells { let came = au_of (n_of frame.now.rate) au frame.now.bytes in cells.new ≡ taken form came.payload (h3_of came.pointers) }
 {
-    payloads.copy_payload(frame, au, cells.lend_payload());
+    payloads.take(frame, au);
+    cells.clear();
+    cells.extend_from_slice(payloads.payload(au));
     let h3 = h3_at(frame, au);
     take_chunk_in_place(&h3, form, cells);
 }

@@ -86,16 +86,20 @@ impl Receiver {
         }
     }
 
-    /// Keeps what arrived for the next round as `receive` does, and takes a frame in exchange for another, whose bytes don't
-    /// count.
-    pub fn exchange(&mut self, arrived: Arrived, frame: &mut FrameBuf)
-        requires { frame.old.rate ≡ self.old.section.rate }
+    /// Keeps what arrived for the next round as `receive` does, and takes a frame in exchange for the one that was taken in
+    /// before, so that few buffers go round.
+    pub fn exchange(&mut self, arrived: Arrived, frame: &mut FrameBuf, intake: &mut Intake)
+        requires rate { frame.old.rate ≡ self.old.section.rate }
+        requires intake { intake.old.frame.rate ≡ self.old.section.rate }
         ensures side { self.new ≡ arrived_on (as_arrival arrived frame.old.bytes) self.old }
         ensures local { self.new.local ≡ self.old.local }
         ensures rate { frame.new.rate ≡ frame.old.rate }
+        ensures intake { intake.new ≡ record intake.old { frame = intake.new.frame } }
+        ensures intake_rate { intake.new.frame.rate ≡ intake.old.frame.rate }
     {
         match arrived {
             Arrived::Frame => {
+                intake.exchange(&mut self.frame);
                 std::mem::swap(&mut self.frame, frame);
                 self.arrived = Some(Arrived::Frame);
             }
