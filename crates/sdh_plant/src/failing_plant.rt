@@ -24,7 +24,7 @@ pub enum PlantCall {
 }
 
 /// Fibres as those of a `FibrePlant`, of which the calls of a list fail, and no others.
-#[derive(Drop)]
+#[derive(Debug, Drop)]
 pub struct FailingPlant {
     plant: FibrePlant,
     failing: Vec<(PlantCall, u32)>,
