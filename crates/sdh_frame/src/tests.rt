@@ -1,5 +1,6 @@
 //! Places by the layout's own tables, and frames written and read.
-ghost use Rattle.std.specs.Prelude.{◌≡◌, ◌*◌, ◌<◌, ◌≤◌, IfOk, vec_len};
+ghost use Rattle.std.specs.Prelude.{◌≡◌, ◌*◌, ◌<◌, ◌≤◌, IfOk, replicate, vec_len};
+ghost use Rattle.sdh_frame.specs.Lending.{with_row};
 ghost use Rattle.sdh_frame.specs.Sizes.{n_of};
 
 use super::*;
@@ -141,6 +142,59 @@ fn bytes_of_a_frame(rt: HostRuntime) -> Result<(), Fail> {
     let large = FrameBuf::try_new(rt.alloc(), Rate::Sixteen)?;
     assert_eq!(rt; large.bytes().len(), 38880);
     assert_eq!(rt; large.rate(), Rate::Sixteen);
+    Ok(())
+}
+
+fn fill_row(frame: &mut FrameBuf, row: u16, value: u8)
+    requires first { 1 ≤ row }
+    requires last { row ≤ 9 }
+    ensures { frame.new ≡ with_row frame.old row (replicate (270 * n_of frame.old.rate) value) }
+{
+    frame.row_mut(row).fill(value);
+}
+
+fn is_filled(bytes: &[u8], value: u8) -> bool {
+    for byte in bytes {
+        if *byte != value {
+            return false;
+        }
+    }
+    true
+}
+
+// Whether this row is filled with a value and the others hold zeros.
+fn is_the_row_written(frame: &FrameBuf, row: u16, value: u8) -> bool {
+    for each in 1..10 {
+        let expected = if each == row { value } else { 0 };
+        if !is_filled(frame.row(each), expected) {
+            return false;
+        }
+    }
+    true
+}
+
+// Row 4 of an STM-4 frame has the indexes 3240 to 4319.
+#[test]
+fn one_row_of_an_stm4_frame_is_written(rt: HostRuntime) -> Result<(), Fail> {
+    let mut frame = FrameBuf::try_new(rt.alloc(), Rate::Four)?;
+    fill_row(&mut frame, 4, 0x5A);
+    assert_eq!(rt; is_the_row_written(&frame, 4, 0x5A), true);
+    assert_eq!(rt; frame.bytes()[3239], 0);
+    assert_eq!(rt; frame.bytes()[3240], 0x5A);
+    assert_eq!(rt; frame.bytes()[4319], 0x5A);
+    assert_eq!(rt; frame.bytes()[4320], 0);
+    Ok(())
+}
+
+// Row 9 of an STM-16 frame has the indexes 34560 to 38879.
+#[test]
+fn one_row_of_an_stm16_frame_is_written(rt: HostRuntime) -> Result<(), Fail> {
+    let mut frame = FrameBuf::try_new(rt.alloc(), Rate::Sixteen)?;
+    fill_row(&mut frame, 9, 0x5A);
+    assert_eq!(rt; is_the_row_written(&frame, 9, 0x5A), true);
+    assert_eq!(rt; frame.bytes()[34559], 0);
+    assert_eq!(rt; frame.bytes()[34560], 0x5A);
+    assert_eq!(rt; frame.bytes()[38879], 0x5A);
     Ok(())
 }
 

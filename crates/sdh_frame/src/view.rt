@@ -1,7 +1,9 @@
 //! AU-4s lent in place.
 ghost use Rattle.std.specs.Prelude.{◌≡◌, ◌+◌, ◌*◌, ◌-◌, ◌<◌, ◌≤◌, length, slice_index, slice_set, slice_range};
+ghost use Rattle.std.specs.Borrow.{sem};
 ghost use Rattle.sdh_frame.specs.Sizes.{n_of, size_of};
 ghost use Rattle.sdh_frame.specs.Fields.{index_of, payload_place, place_of_pointer};
+ghost use Rattle.sdh_frame.specs.Lending.{LendsRow};
 ghost use Rattle.sdh_frame.specs.Aus.{payload_of, pointers_of, with_payload, with_pointers, with_au, ones};
 
 use crate::{FrameBuf, Rate};
@@ -146,6 +148,19 @@ impl FrameBuf {
         let width = 270 * self.rate.n();
         let row = row as usize;
         &self.bytes.as_slice()[(row - 1) * width..row * width]
+    }
+
+    /// The bytes of row 1 to 9, for writing.
+    pub fn row_mut(&mut self, row: u16) -> &mut [u8]
+        requires first { 1 ≤ row }
+        requires last { row ≤ 9 }
+        ensures* lends { sem 𝓛 (LendsRow row self.entry result) }
+        ensures row { let w = 270 * n_of self.old.rate in result.now ≡ slice_range self.old.bytes ((row - 1) * w) (row * w) }
+        ensures len { length result.now ≡ 270 * n_of self.old.rate }
+    {
+        let width = 270 * self.rate.n();
+        let row = row as usize;
+        self.bytes.slice_mut((row - 1) * width..row * width)
     }
 }
 
