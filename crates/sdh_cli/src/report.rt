@@ -24,7 +24,7 @@ use sdh_tables::table_text;
 use std::alloc::{AllocError, Global};
 
 /// What is to be written, and how the program ends then.
-#[derive(Debug, Drop)]
+#[derive(Drop)]
 pub struct Report {
     pub status: Status,
     pub text: Text,
@@ -141,18 +141,20 @@ fn read_report<R: Source, P: Plant>(
     ensures later { (R.faults source.old ≤ R.faults source.new) × (P.faults plant.old ≤ P.faults plant.new) }
     ensures unsent { OnErr result (P.fibres plant.new ≡ P.fibres plant.old) }
 {
+    // Room for the line is taken first, so that a read that fails is always told.
+    let line = Text::try_new(alloc, LINE_MAX)?;
     let bytes = match read_all(alloc, source) {
         Ok(bytes) => bytes,
         Err(ReadAllError::Memory) => return Err(AllocError),
-        Err(ReadAllError::ReadFault) => return last_report(alloc, Status::ReadFault),
-        Err(ReadAllError::TooLong) => return last_report(alloc, Status::TooLong),
+        Err(ReadAllError::ReadFault) => return Ok(ended(Status::ReadFault, line)),
+        Err(ReadAllError::TooLong) => return Ok(ended(Status::TooLong, line)),
     };
     match read_plan(alloc, &bytes) {
         Ok(plan) => plan_report(alloc, command, plan, plant),
         Err(PlanError::Memory) => Err(AllocError),
-        Err(PlanError::NotToml) => last_report(alloc, Status::NotToml),
+        Err(PlanError::NotToml) => Ok(ended(Status::NotToml, line)),
         Err(PlanError::BadPlan { reason, place }) => {
-            last_report(alloc, Status::BadPlan { reason, place })
+            Ok(ended(Status::BadPlan { reason, place }, line))
         }
     }
 }
