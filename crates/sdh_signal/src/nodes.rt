@@ -13,7 +13,7 @@ use sdh_ringmap::{Pos, RingMap, Side};
 use std::marker::Model;
 
 /// The filters of a node's two sides.
-#[derive(Drop)]
+#[derive(Debug, Drop)]
 pub struct Hearing {
     west: Filter,
     east: Filter,
