@@ -6,7 +6,7 @@ use Rattle.sdh_circuits.specs.Checks.{Wish, has_slot, has_ends, has_two_ends, ha
 use Rattle.sdh_circuits.specs.Provisioned.{Provisioned}
 use Rattle.sdh_circuits.specs.Provisioning.{Provisioning}
 use Rattle.sdh_plan.specs.Check.{Check, Fault, at_place}
-use Rattle.sdh_plan.specs.Document.{integer_at, text_at, has_only}
+use Rattle.sdh_plan.specs.Document.{◌>>=◌, integer_at, text_at, has_only}
 use Rattle.sdh_plan.specs.Reasons as reason
 
 -- the keys that a circuit may have

@@ -9,7 +9,7 @@ use Rattle.sdh_frame.specs.Sizes.{n_of}
 use Rattle.sdh_ringmap.specs.Numbering.{is_ring_size, first_unfit, first_repeat, magnitude}
 use Rattle.sdh_plan.specs.declared.step.Step.{Step}
 use Rattle.sdh_plan.specs.Check.{Check}
-use Rattle.sdh_plan.specs.Document.{has_only, number_at, elements_in, is_array_of, is_integer, is_text, is_table, integer_of, text_of}
+use Rattle.sdh_plan.specs.Document.{◌>>=◌, has_only, number_at, elements_in, is_array_of, is_integer, is_text, is_table, integer_of, text_of}
 use Rattle.sdh_plan.specs.Circuits.{members_of, circuit_in, circuits_checks}
 use Rattle.sdh_plan.specs.Steps.{step_of, steps_checks, start, ends_settled}
 use Rattle.sdh_plan.specs.Planned.{Planned}

@@ -5,5 +5,5 @@ pub returns-clause-node : goal.returns-clause-node
 returns-clause-node g c = record {
   came = as_arrival c.in_ok-arrived.arrived c.receive.new.frame.bytes;
   known = c.in_ok-arrived.ensures.arrival;
-  node = c.receive-2.ensures.node;
+  node = c.exchange.ensures.node;
 }
