@@ -222,12 +222,7 @@ fn hear_both(
 
 // What the second node makes of an honest idle frame from the third and of this frame from the west, once or three times: its
 // state, and the words that it sends.
-fn after_west(
-    rt: &impl Abort,
-    alloc: Global,
-    frame: &FrameBuf,
-    times: u8,
-) -> (Shape, [(u8, u8); 2])
+fn after_west(rt: &impl Abort, alloc: Global, frame: &FrameBuf, times: u8) -> (Shape, [(u8, u8); 2])
     requires { frame.now.rate ≡ Rate.Four }
 {
     let third = from_third(rt, alloc);
