@@ -24,19 +24,23 @@ impl Failing {
     };
 }
 
-// The words of a command by its number: `run`, `check`, `drop c1 a`, and no words.
-fn words_of(alloc: Global, command: u8) -> Result<Vec<String>, AllocError> {
-    let words: &[&str] = match command {
-        0 => &["run"],
-        1 => &["check"],
-        2 => &["drop", "c1", "a"],
-        _ => &[],
-    };
+// The list of these words.
+fn listed(alloc: Global, words: &[&str]) -> Result<Vec<String>, AllocError> {
     let mut list = Vec::new(alloc);
     for word in words {
         list.push(String::from_str(alloc, word)?)?;
     }
     Ok(list)
+}
+
+// The words of a command by its number: `run`, `check`, `drop c1 a`, and no words.
+fn words_of(alloc: Global, command: u8) -> Result<Vec<String>, AllocError> {
+    match command {
+        0 => listed(alloc, &["run"]),
+        1 => listed(alloc, &["check"]),
+        2 => listed(alloc, &["drop", "c1", "a"]),
+        _ => Ok(Vec::new(alloc)),
+    }
 }
 
 /// The status, and the sink with what was written.
