@@ -1,12 +1,12 @@
 -- The quiet window that ends a step, and what ports have delivered after it.
-use Rattle.std.proofs.Common.{◌≡◌, ℕ, suc, ◌+◌, ◌-◌, ◌*◌, ◌<◌, ◌≤◌, true, Some, List, [], ◌∷◌, ◌++◌, length, refl, ap, sym, ◌∙◌, subst, arith, inl, inr}
-use Rattle.std.specs.Prelude.{slice_get, slice_index_or}
+use Rattle.std.proofs.Common.{◌≡◌, ℕ, suc, ◌+◌, ◌-◌, ◌*◌, ◌<◌, ◌≤◌, Bool, true, Some, List, [], ◌∷◌, ◌++◌, length, refl, ap, sym, ◌∙◌, subst, arith, inl, inr}
+use Rattle.std.specs.Prelude.{slice_get, slice_index_or, ◌/◌, if◌then◌else◌}
 use Rattle.std.specs.Option.{option_map_or}
 use Rattle.std.proofs.lemmas.List.{get_or-map}
 use Rattle.std.proofs.lemmas.List.Elements.{All-nil}
 use Rattle.sdh_basics.proofs.CellsLaws.{get_or-cells}
 use Rattle.sdh_circuits.specs.Naming.{is_name}
-use Rattle.sdh_circuits.specs.Provisioned.{Provisioned}
+use Rattle.sdh_circuits.specs.Provisioned.{Provisioned, arc_of, customer_at}
 use Rattle.sdh_circuits.specs.Provisioning.{Provisioning, AreCircuits, HasOffsets, IsProvisioning, IsInRing, IsInSlots}
 use Rattle.sdh_squelch.specs.Kept.{KeepsRing}
 use Rattle.sdh_nodestate.specs.declared.NodeState.{NodeState}
@@ -16,18 +16,38 @@ use Rattle.sdh_settling.specs.Laws.{StillRingsAreSettled}
 use Rattle.sdh_world.specs.Rounds.{World, round}
 use Rattle.sdh_world.specs.Runs.{run, course}
 use Rattle.sdh_world.specs.Quiet.{IsCalm, EndsWindow}
-use Rattle.sdh_world.specs.Changes.{Change, Fibre, Order, Hold, Now, changed, all_changed, Stretch, after_stretch, after_stretches, new_world}
+use Rattle.sdh_world.specs.Changes.{Change, Fibre, Order, Hold, Slip, Now, changed, all_changed, Stretch, after_stretch, after_stretches, rounds_in, new_world}
 use Rattle.sdh_world.proofs.Runs.{known_settles}
 use Rattle.sdh_hearing.specs.Signalling.{signals_of}
-use Rattle.sdh_hearing.specs.Laws.{IsWhole, asked_in}
+use Rattle.sdh_payload.specs.Clock.{Clock, ticks}
+use Rattle.sdh_payload.specs.Stream.{stream_from}
+use Rattle.sdh_payload.specs.Outlet.{silent, delivering}
+use Rattle.sdh_ringmap.specs.Arcs.{is_joined}
+use Rattle.sdh_circuits.specs.declared.End.{End}
+use Rattle.sdh_circuits.specs.declared.PortId.{PortId}
+use Rattle.sdh_restoration.specs.Applied.{is_applied}
+use Rattle.sdh_restoration.specs.Routes.{hops}
+use Rattle.sdh_restoration.specs.Due.{due, other_end}
+use Rattle.sdh_frame.specs.Sizes.{n_of}
+use Rattle.sdh_plant.specs.Fibres.{Fibres}
+use Rattle.sdh_node.specs.declared.settings.Settings.{Settings}
+use Rattle.sdh_routes.specs.Walks.{port_at}
+use Rattle.sdh_routes.proofs.Ways.{short, few_hops, end_inside}
+use Rattle.sdh_world.specs.Sides.{world_in}
+use Rattle.sdh_world.specs.Laws.{MayHappen}
+use Rattle.sdh_world.specs.Clocks.{HasPortIn, clock_at, clocks_from, clock_in, clocks_by}
+use Rattle.sdh_world.proofs.Clocks.{goes_run, goes_in, clocks_go_on}
+use Rattle.sdh_hearing.specs.Laws.{IsWhole, MayStart, asked_in}
+use Rattle.sdh_hearing.proofs.Staying.{left_all, left_run, left_stretches, world_low, world_high}
 use Rattle.sdh_hearing.proofs.Nodes.{count}
-use Rattle.sdh_hearing.proofs.Changes.{whole_run}
+use Rattle.sdh_hearing.proofs.Changes.{whole_run, new_worlds_are_whole}
 use Rattle.sdh_hearing.proofs.Requests.{whole_last, requests_last, after_last}
 use Rattle.sdh_hearing.proofs.Signalling.{requests_stay, windows_are_settled}
 use Rattle.sdh_carrying.specs.Windows.{Layout, layout_of, size_of, HasCircuits, requests_of, AreSettled, FailOnApplied, IsQuiet}
-use Rattle.sdh_carrying.specs.Laws.{IsRestored, SettledRingsAreRestored, SettledRingsRestore, RingsHaveCircuits}
+use Rattle.sdh_carrying.specs.Laws.{DeliversWhatIsDue, IsRestored, SettledRingsAreRestored, SettledRingsRestore, RingsHaveCircuits}
 use Rattle.sdh_carrying.proofs.Applied.{failures_applied, length-requests_of}
-use Rattle.sdh_carrying.proofs.Owed.{quiet_delivers}
+use Rattle.sdh_carrying.proofs.Owed.{quiet_delivers, port_is_there}
+use Rattle.sdh_carrying.proofs.Ports.{port_id}
 use Rattle.sdh_carrying.proofs.Ways.{layout_run}
 use Rattle.sdh_world.specs.Held.{nowhere}
 
@@ -83,7 +103,7 @@ module _ (law : StillRingsAreSettled) (w : World) (whole : IsWhole w) (k : ℕ) 
     failing = λ j early late. failing_at j (omega (arith, long)) (omega (arith, whole.placed.ids.enough)) late;
   }
 
-  pub window_restores : HasCircuits (layout_of w) → IsRestored (run k w) rs
+  pub window_restores : HasCircuits (layout_of w) → IsRestored (clocks_from w) (run k w) rs
   window_restores form = record {
     states = windows_are_settled law w k k whole ends (omega (arith, whole.placed.ids.enough)) (omega arith);
     ports = quiet_delivers w whole form rs (k + 1 - 3 * n) k quiet (omega (arith, long)) (omega (arith, long, whole.placed.ids.enough));
@@ -94,7 +114,7 @@ module _ (law : StillRingsAreSettled) (w : World) (whole : IsWhole w) (k : ℕ) 
 pub steps_restore : StillRingsAreSettled → SettledRingsAreRestored
 steps_restore law w left limit form settles whole =
     let known = known_settles w limit left (inl whole.paired.honest.honest) settles in
-    subst (λ v. IsRestored v (requests_of v)) (sym known.2) (window_restores law w whole known.0 known.1.window form)
+    subst (λ v. IsRestored (clocks_from w) v (requests_of v)) (sym known.2) (window_restores law w whole known.0 known.1.window form)
 
 -- ---- stretches
 
@@ -103,6 +123,7 @@ unfolding changed
 layout_changed (Fibre p d condition) w = refl
 layout_changed (Order p d c) w = refl
 layout_changed (Hold p turns) w = refl
+layout_changed (Slip port turn more) w = refl
 layout_changed (Now t) w = refl
 
 pub layout_all : (cs : List Change) (w : World) → layout_of (all_changed cs w) ≡ layout_of w
@@ -113,15 +134,94 @@ pub layout_stretches : (ss : List Stretch) (w : World) → layout_of (after_stre
 layout_stretches [] w = refl
 layout_stretches (s ∷ ss) w = layout_stretches ss (after_stretch s w) ∙ layout_run (all_changed s.changes w) s.rounds ∙ layout_all s.changes w
 
+-- the world in which a round of the last of some stretches begins
+world_last : (earlier : List Stretch) (last : Stretch) (w : World) (t : ℕ) → rounds_in earlier ≤ t → t < rounds_in earlier + last.rounds
+    → world_in (earlier ++ last ∷ []) w t ≡ run (t - rounds_in earlier) (all_changed last.changes (after_stretches earlier w))
+world_last [] last w t low high = world_low last [] w t (omega arith) ∙ ap (λ k. run k (all_changed last.changes w)) (let none : t ≡ t - 0 = omega arith in none)
+world_last (s ∷ ss) last w t low high =
+    let left : t - s.rounds - rounds_in ss ≡ t - (s.rounds + rounds_in ss) = omega arith in
+    world_high s (ss ++ last ∷ []) w t (omega arith) ∙ world_last ss last (after_stretch s w) (t - s.rounds) (omega arith) (omega arith)
+    ∙ ap (λ k. run k (all_changed last.changes (after_stretches (s ∷ ss) w))) left
+
+-- what is owed is owed by one clock alone
+pub due_by : (n : ℕ) (applied : ℕ → Bool) (c : Provisioned) (e : End) (f g : ℕ → Clock) (t : ℕ) → f (t - hops n applied (arc_of n c)) ≡ g (t - hops n applied (arc_of n c)) → due n applied c e f t ≡ due n applied c e g t
+unfolding due
+due_by n applied c e f g t same = ap (λ (k : Clock). if is_joined n applied (arc_of n c) then delivering k.value (stream_from (customer_at c (other_end e)) k.sent 2349) else silent) same
+
+module _ (law : StillRingsAreSettled) (s : Settings) (ids : List ℕ) (circuits : Provisioning) (f : Fibres) (earlier : List Stretch) (last : Stretch) (t : ℕ) (may : MayStart s ids f) (happen : MayHappen (new_world s ids circuits f) (earlier ++ last ∷ []))
+    (form : AreCircuits (length ids) (n_of s.rate / 2) circuits.circuits) (ends : EndsWindow (course (all_changed last.changes (after_stretches earlier (new_world s ids circuits f)))) last.rounds) (many : rounds_in (earlier ++ last ∷ []) ≡ t + 1) where
+  abbrev begun : World
+  begun = new_world s ids circuits f
+
+  abbrev v : World
+  v = all_changed last.changes (after_stretches earlier begun)
+
+  abbrev u : World
+  u = run last.rounds v
+
+  abbrev ss : List Stretch
+  ss = earlier ++ last ∷ []
+
+  abbrev qs : List ℕ
+  qs = span_requests (length ids) (asked_in s (length ids) ss t)
+
+  whole_v : IsWhole v
+  whole_v = whole_last s ids circuits f earlier last may happen
+
+  layout_v : layout_of v ≡ layout_of begun
+  layout_v = layout_all last.changes (after_stretches earlier begun) ∙ layout_stretches earlier begun
+
+  restored : IsRestored (clocks_from v) u qs
+  restored =
+      subst (IsRestored (clocks_from v) u) (requests_last s ids circuits f earlier last may happen t many)
+      (window_restores law v whole_v last.rounds ends (subst HasCircuits (sym layout_v) form))
+
+  rounds_v : v.ring.rounds ≡ rounds_in earlier
+  rounds_v = let a = (left_all last.changes (after_stretches earlier begun)).rounds in let b = (left_stretches earlier begun).rounds in omega arith
+
+  rounds_u : u.ring.rounds ≡ rounds_in earlier + last.rounds
+  rounds_u = omega (arith, (left_run last.rounds v).rounds, rounds_v)
+
+  rounds_all : u.ring.rounds ≡ rounds_in ss
+  rounds_all =
+      let none : begun.ring.rounds ≡ 0 = refl in
+      omega (arith, ap (λ (y : World). y.ring.rounds) (after_last earlier last begun), (left_stretches ss begun).rounds, none)
+
+  -- the clock of a port, from the last of them on and by the history of all
+  module _ (id : PortId) (there : HasPortIn begun.ring id) (there_v : HasPortIn v.ring id) (k : ℕ) (low : rounds_in earlier ≤ k) (high : k < rounds_in earlier + last.rounds) where
+    clock_same : clocks_from v id k ≡ clocks_by circuits.circuits ss id k
+    clock_same =
+        ap (λ r. ticks (k - r) (clock_at v.ring id)) rounds_v
+        ∙ sym (goes_run id (k - rounds_in earlier) v there_v).1
+        ∙ ap (λ (y : World). clock_at y.ring id) (sym (world_last earlier last begun k low high))
+        ∙ (goes_in id ss k begun (omega (arith, rounds_u, rounds_all, high)) there).1
+        ∙ ap (λ c. clock_in id ss c k) (clocks_go_on.new s ids circuits id there)
+
+  delivers : DeliversWhatIsDue (clocks_by circuits.circuits ss) u qs
+  delivers index c get e =
+      let n = length u.ring.ids in
+      let applied = is_applied qs in
+      let far = other_end e in
+      let id = port_id index far in
+      let k = u.ring.rounds - 1 - hops n applied (arc_of n c) in
+      let here : slice_get v.ring.circuits.circuits index ≡ Some c = ap (λ (l : Layout). slice_get l.circuits index) (sym (layout_run v last.rounds)) ∙ get in
+      let first : slice_get circuits.circuits index ≡ Some c = ap (λ (l : Layout). slice_get l.circuits index) (sym layout_v) ∙ here in
+      let form_u : AreCircuits n (n_of s.rate / 2) circuits.circuits = subst (λ (l : Layout). AreCircuits (size_of l) (n_of s.rate / 2) circuits.circuits) (sym (layout_run v last.rounds ∙ layout_v)) form in
+      let few = few_hops n applied c (short n applied (n_of s.rate / 2) circuits.circuits form_u index c first) in
+      let size : n ≡ length ids = ap size_of (layout_run v last.rounds ∙ layout_v) in
+      let long = ends.long in
+      let inside = end_inside (length ids) (n_of s.rate / 2) circuits.circuits form index c first far in
+      let whole_w = new_worlds_are_whole s ids circuits f may.ids_ok may.honest in
+      let there = port_is_there begun whole_w index c far first inside in
+      let there_v = port_is_there v whole_v index c far here (subst (λ (l : Layout). port_at c far < size_of l) (sym layout_v) inside) in
+      restored.ports index c get e
+      ∙ due_by n applied c e (clocks_from v id) (clocks_by circuits.circuits ss id) (u.ring.rounds - 1) (clock_same id there there_v k (omega (arith, rounds_u, few, long, may.ids_ok.enough)) (omega (arith, rounds_u, few, long, may.ids_ok.enough)))
+
+  pub restored_by_history : IsRestored (clocks_by circuits.circuits ss) (after_stretches ss begun) qs
+  restored_by_history = subst (λ y. IsRestored (clocks_by circuits.circuits ss) y qs) (sym (after_last earlier last begun)) (record { states = restored.states; ports = delivers })
+
 pub stretches_restore : StillRingsAreSettled → SettledRingsRestore
-stretches_restore law s ids circuits f earlier last t may happen form ends many =
-    let w = new_world s ids circuits f in
-    let v = all_changed last.changes (after_stretches earlier w) in
-    let u = run last.rounds v in
-    let same : layout_of v ≡ layout_of w = layout_all last.changes (after_stretches earlier w) ∙ layout_stretches earlier w in
-    let restored = window_restores law v (whole_last s ids circuits f earlier last may happen) last.rounds ends (subst HasCircuits (sym same) form) in
-    let rs : List ℕ = span_requests (length ids) (asked_in s (length ids) (earlier ++ last ∷ []) t) in
-    subst (λ y. IsRestored y rs) (sym (after_last earlier last w)) (subst (IsRestored u) (requests_last s ids circuits f earlier last may happen t many) restored)
+stretches_restore law s ids circuits f earlier last t may happen form ends many = restored_by_history law s ids circuits f earlier last t may happen form ends many
 
 -- ---- the circuits of a ring
 

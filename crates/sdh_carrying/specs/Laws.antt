@@ -10,7 +10,7 @@ use Rattle.sdh_plant.specs.Fibres.{Fibres}
 use Rattle.sdh_restoration.specs.Applied.{span_requests, is_applied}
 use Rattle.sdh_restoration.specs.Settled.{settled_states}
 use Rattle.sdh_payload.specs.Outlet.{Outlet}
-use Rattle.sdh_restoration.specs.Due.{due}
+use Rattle.sdh_restoration.specs.Due.{due, other_end}
 use Rattle.sdh_node.specs.declared.settings.Settings.{Settings}
 use Rattle.sdh_node.specs.Crossing.{is_failed, received}
 use Rattle.sdh_node.specs.Node.{receiving_on}
@@ -21,7 +21,11 @@ use Rattle.sdh_world.specs.Runs.{run, course}
 use Rattle.sdh_world.specs.Quiet.{is_calm, EndsWindow, Settles}
 use Rattle.sdh_world.specs.Changes.{all_changed, Stretch, after_stretches, rounds_in, new_world}
 use Rattle.sdh_hearing.specs.Signalling.{crossing_at, signals_of}
-use Rattle.sdh_hearing.specs.Laws.{IsWhole, MayStart, MayHappen, asked_in}
+use Rattle.sdh_world.specs.Laws.{MayHappen}
+use Rattle.sdh_world.specs.Clocks.{clocks_from, clocks_by}
+use Rattle.sdh_payload.specs.Clock.{Clock}
+use Rattle.sdh_circuits.specs.declared.PortId.{PortId}
+use Rattle.sdh_hearing.specs.Laws.{IsWhole, MayStart, asked_in}
 use Rattle.sdh_carrying.specs.Brought.{Brings, HasValue}
 use Rattle.sdh_carrying.specs.Windows.{layout_in, layout_of, HasCircuits, sent_at, requests_of, FailOnApplied, IsQuiet}
 
@@ -36,28 +40,29 @@ ASpanCarries = (w : World) → IsWhole w → is_calm (round w).ring.nodes ≡ tr
 abbrev pub FailuresAreApplied : Type 0
 FailuresAreApplied = (w : World) → IsWhole w → FailOnApplied (length w.ring.ids) (requests_of (round w)) (round w)
 
--- the port of a circuit has delivered in the last round what it is owed under these requests of spans
-abbrev pub DeliversItsDue : World → List ℕ → Provisioned → ℕ → End → Type 0
-DeliversItsDue w rs c index e =
-    outlet_at w.ring (record { circuit = index; end = e }) ≡ due (length w.ring.ids) (is_applied rs) c e (w.ring.rounds - 1)
+-- the port of a circuit has delivered in the last round what it is owed under these requests of spans, where these are the ports'
+-- clocks before each round
+abbrev pub DeliversItsDue : (PortId → ℕ → Clock) → World → List ℕ → Provisioned → ℕ → End → Type 0
+DeliversItsDue clocks w rs c index e =
+    outlet_at w.ring (record { circuit = index; end = e }) ≡ due (length w.ring.ids) (is_applied rs) c e (clocks (record { circuit = index; end = other_end e })) (w.ring.rounds - 1)
 
 -- each port has
-abbrev pub DeliversWhatIsDue : World → List ℕ → Type 0
-DeliversWhatIsDue w rs = (index : ℕ) (c : Provisioned) → slice_get w.ring.circuits.circuits index ≡ Some c → (e : End) → DeliversItsDue w rs c index e
+abbrev pub DeliversWhatIsDue : (PortId → ℕ → Clock) → World → List ℕ → Type 0
+DeliversWhatIsDue clocks w rs = (index : ℕ) (c : Provisioned) → slice_get w.ring.circuits.circuits index ≡ Some c → (e : End) → DeliversItsDue clocks w rs c index e
 
 -- after 2n quiet rounds each port delivers what it is owed
 abbrev pub QuietRingsDeliverWhatIsDue : Type 0
 QuietRingsDeliverWhatIsDue = (w : World) → IsWhole w → HasCircuits (layout_of w)
-    → (rs : List ℕ) (first last : ℕ) → IsQuiet (length w.ring.ids) rs w first last → 1 ≤ first → first + 2 * length w.ring.ids ≤ last → DeliversWhatIsDue (run last w) rs
+    → (rs : List ℕ) (first last : ℕ) → IsQuiet (length w.ring.ids) rs w first last → 1 ≤ first → first + 2 * length w.ring.ids ≤ last → DeliversWhatIsDue (clocks_from w) (run last w) rs
 
 -- each node is in the settled state of these requests of spans, and each port has delivered what it is owed under them
-pub record IsRestored (w : World) (rs : List ℕ) : Type 0 where
+pub record IsRestored (clocks : PortId → ℕ → Clock) (w : World) (rs : List ℕ) : Type 0 where
   pub states : (signals_of w).states ≡ settled_states rs
-  pub ports : DeliversWhatIsDue w rs
+  pub ports : DeliversWhatIsDue clocks w rs
 
--- what is left of a whole world is restored under the requests of the last round
+-- what is left of a whole world by rounds alone is restored under the requests of the last round
 abbrev pub Restores : World → World → Type 0
-Restores w left = IsWhole w → IsRestored left (requests_of left)
+Restores w left = IsWhole w → IsRestored (clocks_from w) left (requests_of left)
 
 -- so it is where a settle step answered
 abbrev pub SettledRingsAreRestored : Type 0
@@ -66,10 +71,10 @@ SettledRingsAreRestored = (w left : World) (limit : ℕ) → HasCircuits (layout
 -- where a quiet window ends with the last of some stretches, the ring is restored under the requests of the histories in its
 -- last round
 abbrev pub SettledRingsRestore : Type 0
-SettledRingsRestore = (s : Settings) (ids : List ℕ) (circuits : Provisioning) (f : Fibres) (earlier : List Stretch) (last : Stretch) (t : ℕ) → MayStart s ids f → MayHappen s.rate (earlier ++ last ∷ [])
+SettledRingsRestore = (s : Settings) (ids : List ℕ) (circuits : Provisioning) (f : Fibres) (earlier : List Stretch) (last : Stretch) (t : ℕ) → MayStart s ids f → MayHappen (new_world s ids circuits f) (earlier ++ last ∷ [])
     → AreCircuits (length ids) (n_of s.rate / 2) circuits.circuits
     → EndsWindow (course (all_changed last.changes (after_stretches earlier (new_world s ids circuits f)))) last.rounds → rounds_in (earlier ++ last ∷ []) ≡ t + 1
-    → IsRestored (after_stretches (earlier ++ last ∷ []) (new_world s ids circuits f)) (span_requests (length ids) (asked_in s (length ids) (earlier ++ last ∷ []) t))
+    → IsRestored (clocks_by circuits.circuits (earlier ++ last ∷ [])) (after_stretches (earlier ++ last ∷ []) (new_world s ids circuits f)) (span_requests (length ids) (asked_in s (length ids) (earlier ++ last ∷ []) t))
 
 -- ---- where circuits come from
 

@@ -4,6 +4,7 @@ use Rattle.sdh_ringmap.specs.declared.Pos.{Pos}
 use Rattle.sdh_ringmap.specs.Arcs.{Arc, arc_between, holds_span}
 use Rattle.sdh_payload.specs.Customer.{Customer}
 use Rattle.sdh_circuits.specs.declared.Slot.{Slot}
+use Rattle.sdh_circuits.specs.declared.PortId.{PortId}
 use Rattle.sdh_circuits.specs.declared.End.{End}
 use Rattle.sdh_circuits.specs.declared.End.TheVariants.{A, B}
 
@@ -35,6 +36,10 @@ same_end A A = true
 same_end B B = true
 same_end A B = false
 same_end B A = false
+
+-- two names are those of one port
+abbrev pub same_port : PortId → PortId → Bool
+same_port p q = (p.circuit == q.circuit) && same_end p.end q.end
 
 -- no two circuits share a span and a slot
 abbrev pub AreApart : ℕ → List Provisioned → Type 0

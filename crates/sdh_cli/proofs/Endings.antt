@@ -23,6 +23,7 @@ runs_end limit before (step.Fibre e ∷ later) w reports end left (inl x) = runs
 runs_end limit before (step.Fibre e ∷ later) w reports end left (inr x) = subst HasRun (sym x.1.1) tt
 runs_end limit before (step.Order p d c ∷ later) w reports end left x = runs_end limit before later (after_step (step.Order p d c) w) reports end left x
 runs_end limit before (step.Hold p turns ∷ later) w reports end left x = runs_end limit before later (after_step (step.Hold p turns) w) reports end left x
+runs_end limit before (step.Slip port turn count ∷ later) w reports end left x = runs_end limit before later (after_step (step.Slip port turn count) w) reports end left x
 runs_end limit before (step.Moment m ∷ later) w reports end left x = runs_end limit before later (after_step (step.Moment m) w) reports end left x
 runs_end limit before (step.Settle ∷ later) w reports end left (inl x) = runs_end limit (before + 1) later x.0 x.1 end left x.4
 runs_end limit before (step.Settle ∷ later) w reports end left (inr (inl x)) = subst HasRun (sym x.1.1) tt

@@ -99,6 +99,7 @@ module _ (w : World) (whole : IsWhole w) (form : HasCircuits (layout_of w)) (sti
   at_rest = record {
     spans = length-requests_of (run 103 w) n (nodes_run 103) ∙ ap length (sym (left_run base w).ids);
     free = λ j. subst AllFree (sym (run_more w base j)) (still.free (j + base) (omega arith));
+    unslipped = still.slips base (omega arith);
     settled_are = λ k some. subst (λ ids. AreSettled (length ids) rs (run k (run base w))) (sym (left_run base w).ids) (subst (AreSettled n rs) (sym (run_more w base k)) (settled_from (k + base) (omega arith)));
   }
 

@@ -35,10 +35,10 @@ use Rattle.sdh_carrying.specs.Windows.{layout_of, HasCircuits}
 use Rattle.sdh_carrying.proofs.Spans.{word_behind}
 use Rattle.sdh_converging.specs.Steady.{went, came, brought, HasStillPointers}
 use Rattle.sdh_converging.proofs.Spans.{sending_in, reading_in, word_in, Takes, generator_goes, interpreter_goes}
-use Rattle.sdh_converging.proofs.Ports.{IsSent, source_at, source_small}
-use Rattle.sdh_converging.proofs.Spreading.{two_halves, working_goes, protection_goes, protection_comes, source_goes, inside_of, beside, generators_many, readings_many}
+use Rattle.sdh_converging.proofs.Ports.{IsSent, source_at, source_small, sources_send}
+use Rattle.sdh_converging.proofs.Spreading.{two_halves, working_goes, protection_goes, protection_comes, inside_of, beside, generators_many, readings_many}
 use Rattle.sdh_converging.proofs.Runs.{length_run}
-use Rattle.sdh_converging.proofs.HealthySignals.{begin_whole, size, new_is, clear_begin, healthy, free_in}
+use Rattle.sdh_converging.proofs.HealthySignals.{begin_whole, size, new_is, new_unslipped, clear_begin, healthy, free_in}
 use Rattle.sdh_world.specs.Held.{node_at}
 use Rattle.sdh_world.specs.Sides.{condition_to}
 use Rattle.sdh_world.specs.Changes.{new_world}
@@ -179,13 +179,13 @@ module _ (s : Settings) (ids : List ℕ) (circuits : Provisioning) (f : Fibres) 
 
   module _ (form : HasCircuits (layout_of w)) where
     abbrev source : Stand → Option ℕ
-    source y = source_at cs y.at y.origin
+    source y = source_at w y.at y.origin
 
-    small_at : (y : Stand) → IsSmall (source y)
-    small_at y = source_small cs form.offsets y.at y.origin
+    small_at : (y : Stand) → y.at < n → IsSmall (source y)
+    small_at y h = source_small w whole form.offsets y.at y.origin (inside y.at h)
 
-    starts : (q m : ℕ) (o : Origin) → q < n → IsOver o → IsFrom (brought w q m o) (source_at cs q o) 0
-    starts q m o h over = from_source (brought w q m o) (source_at cs q o) (λ t. source_goes w whole t q m o h over)
+    starts : (q m : ℕ) (o : Origin) → q < n → IsOver o → IsFrom (brought w q m o) (source_at w q o) 0
+    starts q m o h over = from_source (brought w q m o) (source_at w q o) (λ t. sources_send w whole (new_unslipped s ids circuits f may) t q m o h over)
 
     module _ (m : ℕ) (low : 1 ≤ m) (high : m ≤ half) where
       went_working : (q j : ℕ) (e : Side) → q < n → went w q e m j ≡ brought w q m (working_in n cs q Idle e m) j
@@ -220,13 +220,17 @@ module _ (s : Settings) (ids : List ℕ) (circuits : Provisioning) (f : Fibres) 
       back_inside p (Working d) h = near p d
       back_inside p (Protection d) h = near p d
 
+      leads_inside : (h : ℕ) (a y : Stand) → a.at < n → Leads n all_idle cs m h a y → y.at < n
+      leads_inside zero a y there leads = subst (λ (z : Stand). z.at < n) leads there
+      leads_inside (suc h) a y there leads = leads_inside h (back_from n all_idle cs m a.at a.origin) y (back_inside a.at a.origin there) leads.1
+
       along : (h : ℕ) (a y : Stand) → a.at < n → Leads n all_idle cs m h a y → IsOver y.origin → IsFrom (brought w a.at m a.origin) (source y) h
       along zero a y there leads over =
           subst (λ (z : Stand). IsFrom (brought w z.at m z.origin) (source y) 0) (sym leads) (starts y.at m y.origin (subst (λ (z : Stand). z.at < n) leads there) over)
       along (suc h) a y there leads over =
           let b = back_from n all_idle cs m a.at a.origin in
           subst (IsFrom (brought w a.at m a.origin) (source y)) (let e : h + 1 ≡ suc h = omega arith in e)
-          (over_span a.at a.origin (source y) h (small_at y) there leads.0 (along h b y (back_inside a.at a.origin there) leads.1 over))
+          (over_span a.at a.origin (source y) h (small_at y (leads_inside (suc h) a y there leads)) there leads.0 (along h b y (back_inside a.at a.origin there) leads.1 over))
 
     -- ---- each AU-4
 
@@ -247,7 +251,7 @@ module _ (s : Settings) (ids : List ℕ) (circuits : Provisioning) (f : Fibres) 
           source = source t.last;
           spans = t.spans;
           near = let z = t.within in omega arith;
-          small = small_at t.last;
+          small = small_at t.last (leads_inside m (omega arith) high t.spans (stand q o) t.last there t.leads);
           from = from_as (brought w q m o) (went w q e m) (source t.last) t.spans (λ j. went_working m (omega arith) high q j e there) (along m (omega arith) high t.spans (stand q o) t.last there t.leads t.over);
         }
 

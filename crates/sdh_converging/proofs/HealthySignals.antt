@@ -1,9 +1,8 @@
 -- A healthy ring's requests, states and words.
 use Rattle.std.proofs.Common.{◌≡◌, ◌≢◌, ℕ, zero, suc, ◌-◌, ◌*◌, ◌<◌, ◌≤◌, Bool, true, false, List, [], ◌∷◌, length, get_or, replicate, Option, Some, None, refl, ap, ap₂, sym, ◌∙◌, subst, arith, inl, inr}
-use Rattle.std.specs.Prelude.{◌||◌, nat_lt, nat_le, if◌then◌else◌, slice_index, All}
+use Rattle.std.specs.Prelude.{◌||◌, nat_lt, nat_le, if◌then◌else◌, slice_index}
 use Rattle.std.proofs.lemmas.Bool.{cases_lt}
 use Rattle.std.proofs.lemmas.List.{get_or-replicate, length-replicate, get_or_past}
-use Rattle.std.proofs.lemmas.List.Elements.{All-nil, All-cons}
 use Rattle.sdh_basics.proofs.CellsLaws.{length-cells, get_or-cells}
 use Rattle.sdh_ringmap.specs.declared.Side.{Side}
 use Rattle.sdh_ringmap.specs.declared.Side.TheVariants.{West, East}
@@ -31,10 +30,12 @@ use Rattle.sdh_world.specs.Held.{new_nodes, nowhere, node_at}
 use Rattle.sdh_world.specs.Rounds.{World, node_after}
 use Rattle.sdh_world.specs.Runs.{run}
 use Rattle.sdh_world.specs.Changes.{Stretch, new_world}
-use Rattle.sdh_world.specs.Laws.{IsChangeAt}
+use Rattle.sdh_world.specs.Laws.{MayHappen}
 use Rattle.sdh_world.specs.Sides.{new_holding, holding_in, side_history, condition_to}
 use Rattle.sdh_hearing.specs.Signalling.{word_to, is_lost}
-use Rattle.sdh_hearing.specs.Laws.{IsWhole, MayStart, MayHappen}
+use Rattle.sdh_hearing.specs.Laws.{IsWhole, MayStart, NoneWait}
+use Rattle.sdh_hearing.proofs.Clocks.{new_none}
+use Rattle.sdh_converging.specs.Steady.{IsUnslipped}
 use Rattle.sdh_hearing.proofs.Changes.{new_worlds_are_whole, whole_run}
 use Rattle.sdh_node.proofs.Decided.{scene_in, state_is, word_is, turns_left}
 use Rattle.sdh_hearing.proofs.Nodes.{informed, nodes_after, is_at}
@@ -90,6 +91,11 @@ module _ (s : Settings) (ids : List ℕ) (circuits : Provisioning) (f : Fibres) 
   unfolding new_nodes run
   new_is p h = get_or-cells (λ p. new_node s ids circuits.circuits (position_of p)) (length ids) p nowhere h
 
+  -- no slip waits
+  pub new_unslipped : IsUnslipped begin
+  unfolding new_node run
+  new_unslipped p h = subst (λ (n : Node). NoneWait n.ports) (sym (new_is p (omega (arith, size)))) (new_none (position_of p) circuits.circuits)
+
   pub clear_begin : (p : ℕ) (d : Side) → condition_to begin p d ≡ Clear
   clear_begin p d = all_clear (2 * length ids) (fibre_to (length ids) p d)
 
@@ -101,7 +107,7 @@ module _ (s : Settings) (ids : List ℕ) (circuits : Provisioning) (f : Fibres) 
   pub request_none : (k p : ℕ) (d : Side) → p < length ids → (receiving_on d (node_at (run (suc k) begin).ring.nodes p)).request ≡ Nr
   request_none k p d h =
       let ss : List Stretch = only_rounds (suc k) ∷ [] in
-      let happen : MayHappen s.rate ss = All-cons (λ (s1 : Stretch). All (IsChangeAt s.rate) s1.changes) (only_rounds (suc k)) [] (All-nil (IsChangeAt s.rate)) (All-nil (λ (s1 : Stretch). All (IsChangeAt s.rate) s1.changes)) in
+      let happen : MayHappen begin ss = (tt, tt) in
       (requests_are s ids circuits f ss may happen).last p d k h (omega arith) ∙ side.asks_nothing s.threshold may.least s.wait (side_history (length ids) p d ss) (uneventful (length ids) p d (suc k)) k
 
   -- ---- each node

@@ -1,19 +1,28 @@
 -- A ring for which the laws hold.
-use Rattle.std.proofs.Common.{◌≡◌, ℕ, zero, suc, ◌+◌, ◌<◌, true, [], ◌∷◌, length, Some, refl, sym, ◌∙◌, arith}
-use Rattle.std.specs.Prelude.{slice_get, slice_index, All}
+use Rattle.std.proofs.Common.{◌≡◌, ℕ, zero, suc, ◌+◌, ◌<◌, true, [], ◌∷◌, length, Some, refl, ap, sym, subst, ◌∙◌, arith}
+use Rattle.std.specs.Prelude.{slice_get, slice_index}
 use Rattle.std.proofs.lemmas.List.Elements.{All-nil, All-cons}
-use Rattle.sdh_frame.specs.declared.Rate.TheVariants.{Four}
 use Rattle.sdh_ringmap.specs.Ids.{AreIds}
 use Rattle.sdh_ringmap.specs.declared.Side.TheVariants.{West, East}
-use Rattle.sdh_request.specs.declared.Command.TheVariants as command
 use Rattle.sdh_circuits.specs.Naming.{is_name}
 use Rattle.sdh_circuits.specs.Provisioned.{Provisioned}
 use Rattle.sdh_circuits.specs.Provisioning.{IsInRing, IsInSlots, HasOffsets, AreCircuits}
 use Rattle.sdh_settling.specs.Laws.{RingsSettle}
 use Rattle.sdh_plant.specs.declared.plant.Condition.TheVariants.{Cut, Degraded}
-use Rattle.sdh_world.specs.Changes.{Change, Fibre, Order, Now, Stretch}
-use Rattle.sdh_world.specs.Laws.{IsChangeAt}
-use Rattle.sdh_hearing.specs.Laws.{MayStart, MayHappen}
+use Rattle.sdh_circuits.specs.declared.End.TheVariants.{A}
+use Rattle.sdh_payload.specs.declared.clock.Turn.TheVariants.{Up}
+use Rattle.sdh_payload.specs.Clock.{Clock, waiting}
+use Rattle.sdh_plant.specs.Fibres.{Fibres, IsHonest, IsConditionAt}
+use Rattle.sdh_node.specs.declared.settings.Settings.{Settings}
+use Rattle.sdh_world.specs.Clocks.{first_clock, waiting_at}
+use Rattle.sdh_world.specs.Changes.{Fibre, Slip, Stretch, after_stretch, new_world}
+use Rattle.sdh_world.specs.Laws.{MayHappen}
+use Rattle.sdh_world.proofs.Clocks.{clocks_go_on}
+use Rattle.sdh_hearing.specs.Laws.{MayStart}
+use Rattle.sdh_hearing.proofs.Changes.{new_worlds_are_whole}
+use Rattle.sdh_hearing.proofs.Staying.{left_stretch}
+use Rattle.sdh_carrying.proofs.Ports.{port_id}
+use Rattle.sdh_carrying.proofs.Owed.{port_is_there}
 use Rattle.sdh_converging.specs.Rings.{settings, three, c1, one_circuit, troubles, ARingOccurs}
 use Rattle.sdh_converging.proofs.HealthyRounds.{healthy_steps_settle}
 use Rattle.sdh_converging.proofs.Stretches.{stretches_converge}
@@ -48,21 +57,20 @@ circuits_are = record {
   apart = λ i j s c d e f x y same. only i c e ∙ sym (only j d f);
 }
 
-may_happen : MayHappen settings.rate troubles
-may_happen =
-    let May : Change → Type 0 = IsChangeAt Four in
-    let All_may : Stretch → Type 0 = λ s. All May s.changes in
-    let cut : Change = Fibre 0 East Cut in
-    let back : Change = Fibre 1 West Cut in
-    let degraded : Change = Fibre 1 East (Degraded 3) in
-    let forced : Change = Order 2 West command.Forced in
-    let later : Change = Now 7 in
-    let first : Stretch = record { changes = cut ∷ back ∷ []; rounds = 129 } in
-    let second : Stretch = record { changes = degraded ∷ forced ∷ later ∷ []; rounds = 40 } in
-    All-cons All_may first (second ∷ [])
-    (All-cons May cut (back ∷ []) tt (All-cons May back [] tt (All-nil May)))
-    (All-cons All_may second []
-    (All-cons May degraded (forced ∷ later ∷ []) (omega arith, omega arith) (All-cons May forced (later ∷ []) tt (All-cons May later [] tt (All-nil May)))) (All-nil All_may))
+-- no slip waits at the port before
+waits_none : (f : Fibres) → IsHonest f → waiting_at (new_world settings three one_circuit f).ring (port_id 0 A) ≡ 0
+unfolding first_clock
+waits_none f honest =
+    let w = new_world settings three one_circuit f in
+    let there = port_is_there w (new_worlds_are_whole settings three one_circuit f three_ids honest) 0 c1 A refl (omega arith) in
+    ap (λ (c : Clock). waiting c) (clocks_go_on.new settings three one_circuit (port_id 0 A) there)
+
+may_happen : (f : Fibres) → IsHonest f → MayHappen (new_world settings three one_circuit f) troubles
+may_happen f honest =
+    let w = new_world settings three one_circuit f in
+    let first : Stretch = record { changes = Slip (port_id 0 A) Up 3 ∷ Fibre 0 East Cut ∷ Fibre 1 West Cut ∷ []; rounds = 129 } in
+    let degraded : IsConditionAt (after_stretch first w).ring.settings.rate (Degraded 3) = subst (λ (s : Settings). IsConditionAt s.rate (Degraded 3)) (sym (left_stretch first w).settings) (omega arith, omega arith) in
+    ((omega (arith, waits_none f honest), (tt, (tt, tt))), ((degraded, (tt, (tt, tt))), tt))
 
 pub a_ring_occurs : RingsSettle → ARingOccurs
 a_ring_occurs law f honest =
@@ -70,7 +78,7 @@ a_ring_occurs law f honest =
     record {
       may = may;
       circuits = circuits_are;
-      happen = may_happen;
+      happen = may_happen f honest;
       steps = healthy_steps_settle settings three one_circuit f may circuits_are;
-      converges = stretches_converge law settings three one_circuit f troubles may may_happen circuits_are;
+      converges = stretches_converge law settings three one_circuit f troubles may (may_happen f honest) circuits_are;
     }

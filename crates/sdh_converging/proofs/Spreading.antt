@@ -33,7 +33,7 @@ use Rattle.sdh_converging.specs.Steady.{went, came, brought, IsConstant, IsAtRes
 use Rattle.sdh_converging.specs.Laws.{PointersRest}
 use Rattle.sdh_converging.proofs.Runs.{length_run, rate_run}
 use Rattle.sdh_converging.proofs.Spans.{a_span_is_steady, sending_rests, reading_rests}
-use Rattle.sdh_converging.proofs.Ports.{does_by, value_by, sound_by, source_at, source_small, SourcesSend, sources_send}
+use Rattle.sdh_converging.proofs.Ports.{does_by, value_by, sound_by, source_at, source_small, sources_send}
 use Rattle.sdh_world.specs.Held.{node_at}
 
 -- ---- constants
@@ -77,9 +77,6 @@ module _ (w : World) (whole : IsWhole w) where
   pub protection_comes : (p m j : ℕ) (d : Side) → p < n → brought w p m (Protection d) j ≡ came w p d (half + m) j
   protection_comes p m j d = subst (λ l. BringsProtection l (run j w)) (layout_run w j) (brings_protection (run j w) (whole_run w j whole)) p m d
 
-  pub source_goes : (j : ℕ) → SourcesSend (layout_of w) (run j w)
-  source_goes j = subst (λ l. SourcesSend l (run j w)) (layout_run w j) (sources_send (run j w) (whole_run w j whole))
-
   pub inside_of : (p : ℕ) → p < n → p < length w.ring.nodes
   inside_of p h = omega (arith, count w whole.placed)
 
@@ -97,13 +94,13 @@ module _ (w : World) (whole : IsWhole w) where
 module _ (w : World) (whole : IsWhole w) (form : HasCircuits (layout_of w)) (rs : List ℕ) (rest : IsAtRest w rs) where
   starts : (p m : ℕ) (o : Origin) → p < n w whole → IsOver o → IsConstant (brought w p m o) 0
   starts p m o h over =
-      let source = source_at (cs w whole) p o in
+      let source = source_at w p o in
       record {
         does = does_by source;
         value = value_by source;
-        sound = sound_by source (source_small (cs w whole) form.offsets p o);
-        does_is = λ j late. (source_goes w whole j p m o h over).does;
-        value_is = λ j late. (source_goes w whole j p m o h over).value;
+        sound = sound_by source (source_small w whole form.offsets p o (inside_of w whole p h));
+        does_is = λ j late. (sources_send w whole rest.unslipped j p m o h over).does;
+        value_is = λ j late. (sources_send w whole rest.unslipped j p m o h over).value;
       }
 
   module _ (m : ℕ) (low : 1 ≤ m) (high : m ≤ half w whole) where

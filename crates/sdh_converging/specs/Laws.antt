@@ -10,7 +10,8 @@ use Rattle.sdh_world.specs.Rounds.{World}
 use Rattle.sdh_world.specs.Runs.{course}
 use Rattle.sdh_world.specs.Quiet.{IsCalm, EndsWindow, NeverSettles, settles_in, Unsettles}
 use Rattle.sdh_world.specs.Changes.{Stretch, after_stretches, new_world}
-use Rattle.sdh_hearing.specs.Laws.{IsWhole, MayStart, MayHappen}
+use Rattle.sdh_world.specs.Laws.{MayHappen}
+use Rattle.sdh_hearing.specs.Laws.{IsWhole, MayStart}
 use Rattle.sdh_carrying.specs.Windows.{layout_of, HasCircuits}
 use Rattle.sdh_converging.specs.Steady.{went, came, IsConstant, IsFree, IsAtRest, HasStillPointers}
 
@@ -37,7 +38,7 @@ abbrev pub CalmEndsWindows : Type 0
 CalmEndsWindows = (w : World) (first : ℕ) → ((j : ℕ) → first ≤ j → IsCalm (course w) j) → WindowBy w (first + 3 * length w.ring.ids + 128)
 
 -- From every ring that is paired with its fibres, where nothing happens but rounds, all rounds are calm from some round on,
--- whatever the nodes' interpreters, generators, parities, words, filters and held turns were, and whichever fibres are cut or degraded.
+-- whatever the nodes' interpreters, generators, parities, words, filters and held turns were, however many slips wait at their ports, and whichever fibres are cut or degraded.
 abbrev pub RoundsGetCalm : Type 0
 RoundsGetCalm = (w : World) → IsWhole w → HasCircuits (layout_of w) → (j : ℕ) → 31 * length w.ring.ids + 128 ≤ j → IsCalm (course w) j
 
@@ -63,5 +64,5 @@ StepsAnswer = (w left : World) (limit : ℕ) → HasCircuits (layout_of w) → A
 
 -- after any stretches of changes and rounds, from a new ring over new honest fibres on
 abbrev pub StretchesConverge : Type 0
-StretchesConverge = (s : Settings) (ids : List ℕ) (circuits : Provisioning) (f : Fibres) (ss : List Stretch) → MayStart s ids f → MayHappen s.rate ss → HasCircuits (layout_of (new_world s ids circuits f))
+StretchesConverge = (s : Settings) (ids : List ℕ) (circuits : Provisioning) (f : Fibres) (ss : List Stretch) → MayStart s ids f → MayHappen (new_world s ids circuits f) ss → HasCircuits (layout_of (new_world s ids circuits f))
     → Converges (after_stretches ss (new_world s ids circuits f))

@@ -10,8 +10,11 @@ use Rattle.sdh_circuits.specs.Provisioning.{Provisioning}
 use Rattle.sdh_plant.specs.declared.plant.Condition.TheVariants.{Cut, Degraded}
 use Rattle.sdh_plant.specs.Fibres.{Fibres, IsHonest}
 use Rattle.sdh_node.specs.declared.settings.Settings.{Settings}
-use Rattle.sdh_world.specs.Changes.{Fibre, Order, Now, Stretch, new_world, after_stretches}
-use Rattle.sdh_hearing.specs.Laws.{MayStart, MayHappen}
+use Rattle.sdh_circuits.specs.declared.End.TheVariants.{A}
+use Rattle.sdh_payload.specs.declared.clock.Turn.TheVariants.{Up}
+use Rattle.sdh_world.specs.Changes.{Fibre, Order, Slip, Now, Stretch, new_world, after_stretches}
+use Rattle.sdh_world.specs.Laws.{MayHappen}
+use Rattle.sdh_hearing.specs.Laws.{MayStart}
 use Rattle.sdh_carrying.specs.Windows.{layout_of, HasCircuits}
 use Rattle.sdh_converging.specs.Laws.{Converges}
 use Rattle.sdh_converging.specs.Healthy.{HealthySteps}
@@ -33,10 +36,10 @@ c1 = record { name = 99 ∷ 49 ∷ []; from = position_of 0; to = position_of 2;
 abbrev pub one_circuit : Provisioning
 one_circuit = record { slots = 2; ring = Some three; circuits = c1 ∷ [] }
 
--- a span is cut both ways; then a fibre is degraded, a switch is forced, and time passes
+-- a customer's clock slips three times and a span is cut both ways; then a fibre is degraded, a switch is forced, and time passes
 abbrev pub troubles : List Stretch
 troubles =
-    record { changes = Fibre 0 East Cut ∷ Fibre 1 West Cut ∷ []; rounds = 129 }
+    record { changes = Slip (record { circuit = 0; end = A }) Up 3 ∷ Fibre 0 East Cut ∷ Fibre 1 West Cut ∷ []; rounds = 129 }
     ∷ record { changes = Fibre 1 East (Degraded 3) ∷ Order 2 West command.Forced ∷ Now 7 ∷ []; rounds = 40 } ∷ []
 
 -- over every honest plant the ring may start, its circuit is one of its size, and the troubles may happen; so its settle steps
@@ -44,7 +47,7 @@ troubles =
 pub record RingOccurs (f : Fibres) : Type 0 where
   pub may : MayStart settings three f
   pub circuits : HasCircuits (layout_of (new_world settings three one_circuit f))
-  pub happen : MayHappen settings.rate troubles
+  pub happen : MayHappen (new_world settings three one_circuit f) troubles
   pub steps : HealthySteps (new_world settings three one_circuit f)
   pub converges : Converges (after_stretches troubles (new_world settings three one_circuit f))
 

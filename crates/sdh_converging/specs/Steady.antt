@@ -10,6 +10,7 @@ use Rattle.sdh_node.specs.Node.{receiving_on, sending_on, is_held}
 use Rattle.sdh_world.specs.Rounds.{World}
 use Rattle.sdh_world.specs.Runs.{run}
 use Rattle.sdh_hearing.specs.Signalling.{crossing_at}
+use Rattle.sdh_hearing.specs.Laws.{NoneWait}
 use Rattle.sdh_carrying.specs.Windows.{value_at, sent_at, AreSettled}
 use Rattle.sdh_world.specs.Held.{node_at, AtEach}
 
@@ -38,10 +39,15 @@ pub record IsConstant (f : ℕ → Input) (k : ℕ) : Type 0 where
 abbrev pub IsFree : World → Type 0
 IsFree w = (j : ℕ) → AtEach (λ p n. is_held n ≡ false) (run j w).ring.nodes
 
--- no controller misses a turn, and after each round the nodes are in the settled states of these requests of spans
+-- no slip waits at any port
+abbrev pub IsUnslipped : World → Type 0
+IsUnslipped w = AtEach (λ p n. NoneWait n.ports) w.ring.nodes
+
+-- no controller misses a turn, no slip waits, and after each round the nodes are in the settled states of these requests of spans
 pub record IsAtRest (w : World) (rs : List ℕ) : Type 0 where
   pub spans : length rs ≡ length w.ring.ids
   pub free : IsFree w
+  pub unslipped : IsUnslipped w
   pub settled_are : (k : ℕ) → 1 ≤ k → AreSettled (length w.ring.ids) rs (run k w)
 
 -- round j left all generators and interpreters as they were

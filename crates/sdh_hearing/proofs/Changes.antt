@@ -1,7 +1,6 @@
 -- A new ring over prepared fibres, and what happens between two rounds.
-use Rattle.std.proofs.Common.{◌≡◌, ℕ, zero, suc, ◌+◌, ◌*◌, ◌<◌, ◌≤◌, Bool, true, false, List, [], ◌∷◌, length, get_or, replicate, None, refl, ap, sym, subst, ◌∙◌, arith, inl, inr}
-use Rattle.std.specs.Prelude.{All, ◌==◌, if◌then◌else◌}
-use Rattle.std.proofs.lemmas.List.Elements.{All-append, All-cons, All-nil}
+use Rattle.std.proofs.Common.{◌≡◌, ℕ, zero, suc, ◌*◌, ◌<◌, ◌≤◌, List, [], ◌∷◌, length, get_or, replicate, map, Some, None, refl, ap, sym, subst, ◌∙◌, arith, inl, inr}
+use Rattle.std.specs.Prelude.{slice_get}
 use Rattle.std.proofs.lemmas.Bool.{cases_lt}
 use Rattle.std.proofs.lemmas.List.{length-replicate, get_or-replicate, get_or_past}
 use Rattle.sdh_ringmap.specs.declared.Side.{Side}
@@ -12,9 +11,6 @@ use Rattle.sdh_ringmap.proofs.Sides.{neighbour_below}
 use Rattle.sdh_request.specs.declared.Command.{Command}
 use Rattle.sdh_nodestate.specs.Words.{IsSpellable, IsMember, first_word}
 use Rattle.sdh_circuits.specs.Provisioned.{Provisioned}
-use Rattle.sdh_circuits.specs.declared.End.TheVariants.{A, B}
-use Rattle.sdh_ringmap.specs.declared.Pos.{Pos}
-use Rattle.sdh_node.specs.Tributaries.{Tributary, new_tributary, ends_at, ends_from, tributaries_at}
 use Rattle.sdh_circuits.specs.Provisioning.{Provisioning}
 use Rattle.sdh_kbytes.specs.declared.K.{K}
 use Rattle.sdh_plant.specs.Fibres.{Arrival, fibre, Fibres}
@@ -22,20 +18,23 @@ use Rattle.sdh_plant.specs.Arrivals.{carried_on}
 use Rattle.sdh_plant.specs.Calls.{prepared}
 use Rattle.sdh_plant.proofs.Calling.{stay_prepared}
 use Rattle.sdh_plant.proofs.Calling as plant
-use Rattle.sdh_world.specs.Laws.{IsChangeAt}
+use Rattle.sdh_world.specs.Laws.{IsChangeOf, AreChangesOf}
 use Rattle.sdh_world.proofs.Honest.{stay_honest, changes_keep_prepared}
 use Rattle.sdh_node.specs.declared.settings.Settings.{Settings}
 use Rattle.sdh_node.specs.Receiving.{Receiving, commanded_by}
-use Rattle.sdh_node.specs.Node.{Node, new_node, at_receiving, held_for, receiving_on, sending_on, word_of}
-use Rattle.sdh_world.specs.Held.{new_nodes, at_place, new_ring, nowhere, AtEach}
+use Rattle.sdh_node.specs.Node.{Node, new_node, at_receiving, held_for, slips_at, receiving_on, sending_on, word_of}
+use Rattle.sdh_world.specs.Held.{new_nodes, at_place, place_of_port, new_ring, nowhere, AtEach}
 use Rattle.sdh_world.specs.Rounds.{World, world}
 use Rattle.sdh_world.specs.Runs.{run}
-use Rattle.sdh_world.specs.Changes.{Change, Fibre, Order, Hold, Now, changed, all_changed}
-use Rattle.sdh_world.proofs.Keeping.{length-new, new_at, all_commanded, all_held}
-use Rattle.sdh_hearing.specs.Placed.{IsReceiver, IsSender, HasSides, HaveGiven, IsBetween, IsPlaced}
-use Rattle.sdh_hearing.specs.Paired.{CarriesWord, AreCarried, IsSourcedIn, KeepsSourced, IsSpelled}
+use Rattle.sdh_world.specs.Changes.{Change, Fibre, Order, Hold, Slip, Now, changed, all_changed}
+use Rattle.sdh_world.proofs.Keeping.{length-new, new_at, all_commanded, all_held, all_slipped}
+use Rattle.sdh_hearing.specs.Placed.{IsReceiver, IsSender, HasSides, IsBetween, IsPlaced}
+use Rattle.sdh_hearing.specs.Paired.{CarriesWord, AreCarried, IsSourcedIn, KeepsSourced, IsSpelled, FewWait, IsPaired}
 use Rattle.sdh_hearing.specs.Laws.{IsWhole, NewWorldsAreWhole, StayWhole, StayPlaced}
-use Rattle.sdh_hearing.proofs.Staying.{left_changed}
+use Rattle.sdh_world.specs.Fixed.{fixed}
+use Rattle.sdh_payload.specs.declared.clock.Turn.{Turn}
+use Rattle.sdh_circuits.specs.declared.PortId.{PortId}
+use Rattle.sdh_hearing.proofs.Clocks.{new_gone, new_few, gone_slipped, few_slipped}
 use Rattle.sdh_hearing.proofs.Nodes.{placed_round}
 use Rattle.sdh_hearing.proofs.Rounds.{whole_round}
 
@@ -47,24 +46,6 @@ first_spells ids p d is h =
     let a = is.small (neighbour (length ids) p d) below in
     let b = is.small p h in
     record { to = omega arith; from = omega arith }
-
-fresh_if : (b : Bool) (t : Tributary) → t.feed.chunks ≡ 0 → HaveGiven 0 (if b then t ∷ [] else [])
-fresh_if true t e = All-cons (λ (t : Tributary). t.feed.chunks ≡ 0) t [] e (All-nil (λ (t : Tributary). t.feed.chunks ≡ 0))
-fresh_if false t e = All-nil (λ (t : Tributary). t.feed.chunks ≡ 0)
-
-fresh_ends : (at : Pos) (i : ℕ) (cs : List Provisioned) → HaveGiven 0 (ends_from at i cs)
-fresh_ends at i [] = All-nil (λ (t : Tributary). t.feed.chunks ≡ 0)
-fresh_ends at i (c ∷ cs) =
-    let P = λ (t : Tributary). t.feed.chunks ≡ 0 in
-    let a = new_tributary i A East c.slot c.a in
-    let b = new_tributary i B West c.slot c.b in
-    All-append P (ends_at at i c) (ends_from at (i + 1) cs)
-    (All-append P (if c.from.0 == at.0 then a ∷ [] else []) (if c.to.0 == at.0 then b ∷ [] else []) (fresh_if (c.from.0 == at.0) a refl) (fresh_if (c.to.0 == at.0) b refl))
-    (fresh_ends at (i + 1) cs)
-
-fresh_ports : (at : Pos) (cs : List Provisioned) → HaveGiven 0 (tributaries_at at cs)
-unfolding tributaries_at
-fresh_ports at cs = fresh_ends at 0 cs
 
 module _ (s : Settings) (ids : List ℕ) (circuits : List Provisioned) (p : ℕ) where
   abbrev one : Node
@@ -84,7 +65,7 @@ module _ (s : Settings) (ids : List ℕ) (circuits : List Provisioned) (p : ℕ)
 
   new_between : IsBetween 0 one
   unfolding new_node
-  new_between = record { ran = refl; gave = fresh_ports (position_of p) circuits; fresh = fresh }
+  new_between = record { ran = refl; gone = new_gone (position_of p) circuits; fresh = fresh }
     where
       fresh : (d : Side) → (receiving_on d one).arrived ≡ None
       fresh West = refl
@@ -103,6 +84,10 @@ module _ (s : Settings) (ids : List ℕ) (circuits : List Provisioned) (p : ℕ)
   new_held : one.held ≤ 100
   unfolding new_node
   new_held = omega arith
+
+  new_slips : FewWait one.ports
+  unfolding new_node
+  new_slips = new_few (position_of p) circuits
 
   new_spelled : AreIds ids → p < length ids → IsSpelled one
   unfolding new_node
@@ -142,6 +127,7 @@ new_worlds_are_whole s ids circuits f is honest =
         kept = each_new (λ p m. (d : Side) → KeepsSourced ids (receiving_on d m).brought) s ids cs (λ p low. new_kept s ids cs p);
         spelled = each_new (λ p m. IsSpelled m) s ids cs (λ p low. new_spelled s ids cs p is low);
         held = each_new (λ p m. m.held ≤ 100) s ids cs (λ p low. new_held s ids cs p);
+        slips = each_new (λ p m. FewWait m.ports) s ids cs (λ p low. new_slips s ids cs p);
       };
     }
 
@@ -154,6 +140,14 @@ each_at_place P f keep zero (n ∷ ns) each zero h = keep 0 n (each 0 (omega ari
 each_at_place P f keep zero (n ∷ ns) each (suc q) h = each (suc q) (omega arith)
 each_at_place P f keep (suc p) (n ∷ ns) each zero h = each 0 (omega arith)
 each_at_place P f keep (suc p) (n ∷ ns) each (suc q) h = each_at_place (λ k. P (suc k)) f (λ k. keep (suc k)) p ns (λ k low. each (suc k) (omega arith)) q (omega arith)
+
+-- and what the node that is changed gets of it
+each_changed : (P : ℕ → Node → Type 0) (f : Node → Node) (p : ℕ) (ns : List Node) → ((n : Node) → slice_get ns p ≡ Some n → P p n → P p (f n)) → AtEach P ns → AtEach P (at_place p f ns)
+each_changed P f p [] keep each q h = absurd (omega arith)
+each_changed P f zero (n ∷ ns) keep each zero h = keep n refl (each 0 (omega arith))
+each_changed P f zero (n ∷ ns) keep each (suc q) h = each (suc q) (omega arith)
+each_changed P f (suc p) (n ∷ ns) keep each zero h = each 0 (omega arith)
+each_changed P f (suc p) (n ∷ ns) keep each (suc q) h = each_changed (λ k. P (suc k)) f p ns keep (λ k low. each (suc k) (omega arith)) q (omega arith)
 
 -- it leaves the sides that send
 pub sending_commanded : (d e : Side) (c : Command) (n : Node) → sending_on e (at_receiving d (commanded_by c) n) ≡ sending_on e n
@@ -176,7 +170,7 @@ sides_commanded : (s : Settings) (d : Side) (c : Command) (n : Node) → HasSide
 sides_commanded s d c n h = record { receives = λ e. receiver_commanded s c d e n (h.receives e); sends = λ e. subst (IsSender s) (sym (sending_commanded d e c n)) (h.sends e) }
 
 between_commanded : (rounds : ℕ) (d : Side) (c : Command) (n : Node) → IsBetween rounds n → IsBetween rounds (at_receiving d (commanded_by c) n)
-between_commanded rounds d c n h = record { ran = h.ran; gave = h.gave; fresh = λ e. arrived_commanded d e c n ∙ h.fresh e }
+between_commanded rounds d c n h = record { ran = h.ran; gone = h.gone; fresh = λ e. arrived_commanded d e c n ∙ h.fresh e }
 
 -- what holds of a word still holds
 word_commanded : (P : K → Type 0) (d e : Side) (c : Command) (n : Node) → P (word_of e n) → P (word_of e (at_receiving d (commanded_by c) n))
@@ -194,32 +188,78 @@ kept_commanded ids East East c n h = h
 held_commanded : (d : Side) (c : Command) (n : Node) → (at_receiving d (commanded_by c) n).held ≡ n.held
 held_commanded d c n = refl
 
--- ---- a held controller
+-- ---- a change that leaves all sides of a node
 
--- it leaves all sides
-pub receiving_held : (e : Side) (turns : ℕ) (n : Node) → receiving_on e (held_for turns n) ≡ receiving_on e n
-receiving_held West turns n = refl
-receiving_held East turns n = refl
+pub record LeavesSides (f : Node → Node) : Type 0 where
+  pub receiving : (e : Side) (n : Node) → receiving_on e (f n) ≡ receiving_on e n
+  pub sending : (e : Side) (n : Node) → sending_on e (f n) ≡ sending_on e n
 
-pub sending_held : (e : Side) (turns : ℕ) (n : Node) → sending_on e (held_for turns n) ≡ sending_on e n
-sending_held West turns n = refl
-sending_held East turns n = refl
+-- a held controller
+pub held_leaves : (turns : ℕ) → LeavesSides (held_for turns)
+held_leaves turns = record { receiving = received; sending = sent }
+  where
+    received : (e : Side) (n : Node) → receiving_on e (held_for turns n) ≡ receiving_on e n
+    received West n = refl
+    received East n = refl
 
-sides_held : (s : Settings) (turns : ℕ) (n : Node) → HasSides s n → HasSides s (held_for turns n)
-sides_held s turns n h = record { receives = λ e. subst (IsReceiver s) (sym (receiving_held e turns n)) (h.receives e); sends = λ e. subst (IsSender s) (sym (sending_held e turns n)) (h.sends e) }
+    sent : (e : Side) (n : Node) → sending_on e (held_for turns n) ≡ sending_on e n
+    sent West n = refl
+    sent East n = refl
 
-between_held : (rounds turns : ℕ) (n : Node) → IsBetween rounds n → IsBetween rounds (held_for turns n)
-between_held rounds turns n h = record { ran = h.ran; gave = h.gave; fresh = λ e. ap (λ (r : Receiving). r.arrived) (receiving_held e turns n) ∙ h.fresh e }
+-- and slips
+pub slips_leave : (id : PortId) (turn : Turn) (count : ℕ) → LeavesSides (slips_at id turn count)
+slips_leave id turn count = record { receiving = received; sending = sent }
+  where
+    received : (e : Side) (n : Node) → receiving_on e (slips_at id turn count n) ≡ receiving_on e n
+    received West n = refl
+    received East n = refl
 
--- what holds of a word still holds
-word_held : (P : K → Type 0) (e : Side) (turns : ℕ) (n : Node) → P (word_of e n) → P (word_of e (held_for turns n))
-word_held P e turns n h = subst (λ x. P x.word) (sym (sending_held e turns n)) h
+    sent : (e : Side) (n : Node) → sending_on e (slips_at id turn count n) ≡ sending_on e n
+    sent West n = refl
+    sent East n = refl
 
-carried_held : (w : World) (turns p : ℕ) (n : Node) → AreCarried w.ring.settings.rate w.fibres w.ring.rounds p n → AreCarried w.ring.settings.rate w.fibres w.ring.rounds p (held_for turns n)
-carried_held w turns p n h = record { dark = h.dark; frames = λ e some. word_held (λ k. CarriesWord w.ring.settings.rate k (carried_on w.fibres (fibre p e))) e turns n (h.frames e some) }
+-- a world with a change of one node
+abbrev pub with_node : ℕ → (Node → Node) → World → World
+with_node p f w = record w { ring = record w.ring { nodes = at_place p f w.ring.nodes } }
 
-kept_held : (ids : List ℕ) (e : Side) (turns : ℕ) (n : Node) → KeepsSourced ids (receiving_on e n).brought → KeepsSourced ids (receiving_on e (held_for turns n)).brought
-kept_held ids e turns n h = subst (λ (r : Receiving). KeepsSourced ids r.brought) (sym (receiving_held e turns n)) h
+module _ (f : Node → Node) (leaves : LeavesSides f) where
+  sides_left : (s : Settings) (n : Node) → HasSides s n → HasSides s (f n)
+  sides_left s n h = record { receives = λ e. subst (IsReceiver s) (sym (leaves.receiving e n)) (h.receives e); sends = λ e. subst (IsSender s) (sym (leaves.sending e n)) (h.sends e) }
+
+  fresh_left : (rounds : ℕ) (n : Node) → IsBetween rounds n → (e : Side) → (receiving_on e (f n)).arrived ≡ None
+  fresh_left rounds n h e = ap (λ (r : Receiving). r.arrived) (leaves.receiving e n) ∙ h.fresh e
+
+  -- what holds of a word still holds
+  word_left : (P : K → Type 0) (e : Side) (n : Node) → P (word_of e n) → P (word_of e (f n))
+  word_left P e n h = subst (λ x. P x.word) (sym (leaves.sending e n)) h
+
+  carried_left : (w : World) (p : ℕ) (n : Node) → AreCarried w.ring.settings.rate w.fibres w.ring.rounds p n → AreCarried w.ring.settings.rate w.fibres w.ring.rounds p (f n)
+  carried_left w p n h = record { dark = h.dark; frames = λ e some. word_left (λ k. CarriesWord w.ring.settings.rate k (carried_on w.fibres (fibre p e))) e n (h.frames e some) }
+
+  kept_left : (ids : List ℕ) (e : Side) (n : Node) → KeepsSourced ids (receiving_on e n).brought → KeepsSourced ids (receiving_on e (f n)).brought
+  kept_left ids e n h = subst (λ (r : Receiving). KeepsSourced ids r.brought) (sym (leaves.receiving e n)) h
+
+  placed_left : (p : ℕ) (w : World) → map fixed (at_place p f w.ring.nodes) ≡ map fixed w.ring.nodes → ((n : Node) → IsBetween w.ring.rounds n → IsBetween w.ring.rounds (f n)) → IsPlaced w → IsPlaced (with_node p f w)
+  placed_left p w same between is = record {
+    ids = is.ids;
+    nodes = same ∙ is.nodes;
+    sides = each_at_place (λ q n. HasSides w.ring.settings n) f (λ q n h. sides_left w.ring.settings n h) p w.ring.nodes is.sides;
+    between = each_at_place (λ q n. IsBetween w.ring.rounds n) f (λ q n h. between n h) p w.ring.nodes is.between;
+  }
+
+  paired_left : (p : ℕ) (w : World) → AtEach (λ q n. n.held ≤ 100) (at_place p f w.ring.nodes) → AtEach (λ q n. FewWait n.ports) (at_place p f w.ring.nodes) → IsPaired w → IsPaired (with_node p f w)
+  paired_left p w held slips was =
+      let ns = w.ring.nodes in
+      record {
+        honest = was.honest;
+        prepared = was.prepared;
+        carried = each_at_place (AreCarried w.ring.settings.rate w.fibres w.ring.rounds) f (λ q n h. carried_left w q n h) p ns was.carried;
+        sourced = each_at_place (λ q n. IsSourcedIn w.ring.ids n) f (λ q n h e. word_left (λ k. IsMember w.ring.ids k.from) e n (h e)) p ns was.sourced;
+        kept = each_at_place (λ q n. (e : Side) → KeepsSourced w.ring.ids (receiving_on e n).brought) f (λ q n h e. kept_left w.ring.ids e n (h e)) p ns was.kept;
+        spelled = each_at_place (λ q n. IsSpelled n) f (λ q n h e. word_left IsSpellable e n (h e)) p ns was.spelled;
+        held = held;
+        slips = slips;
+      }
 
 -- ---- all changes
 
@@ -232,29 +272,31 @@ placed_changed (Order p d c) w is = record {
   sides = each_at_place (λ q n. HasSides w.ring.settings n) (at_receiving d (commanded_by c)) (λ q n h. sides_commanded w.ring.settings d c n h) p w.ring.nodes is.sides;
   between = each_at_place (λ q n. IsBetween w.ring.rounds n) (at_receiving d (commanded_by c)) (λ q n h. between_commanded w.ring.rounds d c n h) p w.ring.nodes is.between;
 }
-placed_changed (Hold p turns) w is = record {
-  ids = is.ids;
-  nodes = all_held p turns w.ring.nodes ∙ is.nodes;
-  sides = each_at_place (λ q n. HasSides w.ring.settings n) (held_for turns) (λ q n h. sides_held w.ring.settings turns n h) p w.ring.nodes is.sides;
-  between = each_at_place (λ q n. IsBetween w.ring.rounds n) (held_for turns) (λ q n h. between_held w.ring.rounds turns n h) p w.ring.nodes is.between;
-}
+placed_changed (Hold p turns) w is =
+    placed_left (held_for turns) (held_leaves turns) p w (all_held p turns w.ring.nodes) (λ n h. record { ran = h.ran; gone = h.gone; fresh = fresh_left (held_for turns) (held_leaves turns) w.ring.rounds n h }) is
+placed_changed (Slip id turn count) w is =
+    let f = slips_at id turn count in
+    let leaves = slips_leave id turn count in
+    let p = place_of_port w.ring id in
+    placed_left f leaves p w (all_slipped p id turn count w.ring.nodes) (λ n h. record { ran = h.ran; gone = gone_slipped w.ring.rounds id turn count n.ports h.gone; fresh = fresh_left f leaves w.ring.rounds n h }) is
 placed_changed (Now t) w is = record { ids = is.ids; nodes = is.nodes; sides = is.sides; between = is.between }
 
 pub stay_placed : StayPlaced
 stay_placed = record { new = new_is_placed; round = placed_round; change = placed_changed }
 
-pub whole_changed : (c : Change) (w : World) → IsChangeAt w.ring.settings.rate c → IsWhole w → IsWhole (changed c w)
+pub whole_changed : (c : Change) (w : World) → IsChangeOf w c → IsWhole w → IsWhole (changed c w)
 unfolding changed
 whole_changed (Fibre p d condition) w may whole = record {
   placed = whole.placed;
   paired = record {
     honest = stay_honest.change w (Fibre p d condition) whole.paired.honest;
-    prepared = changes_keep_prepared w.ring.settings.rate (length w.ring.ids) w (Fibre p d condition) may whole.paired.prepared;
+    prepared = changes_keep_prepared (length w.ring.ids) w (Fibre p d condition) may whole.paired.prepared;
     carried = λ q h. (let is = whole.paired.carried q h in record { dark = is.dark; frames = is.frames });
     sourced = whole.paired.sourced;
     kept = whole.paired.kept;
     spelled = whole.paired.spelled;
     held = whole.paired.held;
+    slips = whole.paired.slips;
   };
 }
 whole_changed (Order p d c) w may whole =
@@ -271,33 +313,33 @@ whole_changed (Order p d c) w may whole =
         kept = each_at_place (λ q n. (e : Side) → KeepsSourced w.ring.ids (receiving_on e n).brought) change (λ q n h e. kept_commanded w.ring.ids d e c n (h e)) p ns was.kept;
         spelled = each_at_place (λ q n. IsSpelled n) change (λ q n h e. word_commanded IsSpellable d e c n (h e)) p ns was.spelled;
         held = each_at_place (λ q n. n.held ≤ 100) change (λ q n h. let same = held_commanded d c n in omega arith) p ns was.held;
+        slips = each_at_place (λ q n. FewWait n.ports) change (λ q n h. h) p ns was.slips;
       };
     }
 whole_changed (Hold p turns) w may whole =
-    let change = held_for turns in
+    let f = held_for turns in
     let ns = w.ring.nodes in
-    let was = whole.paired in
     record {
       placed = placed_changed (Hold p turns) w whole.placed;
-      paired = record {
-        honest = was.honest;
-        prepared = was.prepared;
-        carried = each_at_place (AreCarried w.ring.settings.rate w.fibres w.ring.rounds) change (λ q n h. carried_held w turns q n h) p ns was.carried;
-        sourced = each_at_place (λ q n. IsSourcedIn w.ring.ids n) change (λ q n h e. word_held (λ k. IsMember w.ring.ids k.from) e turns n (h e)) p ns was.sourced;
-        kept = each_at_place (λ q n. (e : Side) → KeepsSourced w.ring.ids (receiving_on e n).brought) change (λ q n h e. kept_held w.ring.ids e turns n (h e)) p ns was.kept;
-        spelled = each_at_place (λ q n. IsSpelled n) change (λ q n h e. word_held IsSpellable e turns n (h e)) p ns was.spelled;
-        held = each_at_place (λ q n. n.held ≤ 100) change (λ q n h. may) p ns was.held;
-      };
+      paired = paired_left f (held_leaves turns) p w (each_at_place (λ q n. n.held ≤ 100) f (λ q n h. may) p ns whole.paired.held) (each_at_place (λ q n. FewWait n.ports) f (λ q n h. h) p ns whole.paired.slips) whole.paired;
+    }
+whole_changed (Slip id turn count) w may whole =
+    let f = slips_at id turn count in
+    let p = place_of_port w.ring id in
+    let ns = w.ring.nodes in
+    record {
+      placed = placed_changed (Slip id turn count) w whole.placed;
+      paired = paired_left f (slips_leave id turn count) p w (each_at_place (λ q n. n.held ≤ 100) f (λ q n h. h) p ns whole.paired.held)
+          (each_changed (λ q n. FewWait n.ports) f p ns (λ n at few. few_slipped w.ring id turn count n may at few) whole.paired.slips) whole.paired;
     }
 whole_changed (Now t) w may whole = record {
   placed = placed_changed (Now t) w whole.placed;
-  paired = (let was = whole.paired in record { honest = was.honest; prepared = was.prepared; carried = was.carried; sourced = was.sourced; kept = was.kept; spelled = was.spelled; held = was.held });
+  paired = (let was = whole.paired in record { honest = was.honest; prepared = was.prepared; carried = was.carried; sourced = was.sourced; kept = was.kept; spelled = was.spelled; held = was.held; slips = was.slips });
 }
 
-pub whole_all : (cs : List Change) (w : World) → All (IsChangeAt w.ring.settings.rate) cs → IsWhole w → IsWhole (all_changed cs w)
+pub whole_all : (cs : List Change) (w : World) → AreChangesOf w cs → IsWhole w → IsWhole (all_changed cs w)
 whole_all [] w may whole = whole
-whole_all (c ∷ cs) w may whole =
-    whole_all cs (changed c w) (λ i d lt. subst (λ (s : Settings). IsChangeAt s.rate (get_or cs i d)) (sym (left_changed c w).settings) (may (suc i) d (omega arith))) (whole_changed c w (may 0 c (omega arith)) whole)
+whole_all (c ∷ cs) w may whole = whole_all cs (changed c w) may.1 (whole_changed c w may.0 whole)
 
 pub whole_run : (w : World) (k : ℕ) → IsWhole w → IsWhole (run k w)
 unfolding run

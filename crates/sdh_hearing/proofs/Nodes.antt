@@ -1,12 +1,15 @@
 -- The nodes of a ring, one by one, and what stays of them whatever arrives.
 use Rattle.std.proofs.Common.{◌≡◌, ℕ, zero, suc, ◌+◌, ◌<◌, Bool, true, false, List, [], ◌∷◌, length, get_or, map, Option, Some, None, refl, ap, sym, subst, ◌∙◌, arith}
-use Rattle.std.specs.Prelude.{◌==◌, if◌then◌else◌}
+use Rattle.std.specs.Prelude.{All, ◌==◌, if◌then◌else◌}
 use Rattle.std.proofs.lemmas.Bool.{eq-eqb, ne_eqb}
 use Rattle.std.proofs.lemmas.List.{get_or-map}
 use Rattle.sdh_basics.specs.Indexed.{map_from}
 use Rattle.sdh_ringmap.specs.declared.Side.{Side}
 use Rattle.sdh_ringmap.specs.declared.Side.TheVariants.{West, East}
 use Rattle.sdh_circuits.specs.Provisioned.{Provisioned}
+use Rattle.sdh_payload.specs.Feed.{Fed, next_feed}
+use Rattle.sdh_payload.specs.Clock.{IsClock}
+use Rattle.sdh_payload.proofs.Clocking.{next_clock}
 use Rattle.sdh_plant.specs.Fibres.{Arrival, Fibres}
 use Rattle.sdh_node.specs.declared.settings.Settings.{Settings}
 use Rattle.sdh_node.specs.Receiving.{Receiving}
@@ -16,9 +19,9 @@ use Rattle.sdh_node.specs.Node.{Node, new_node, receiving_on, sending_on, crossi
 use Rattle.sdh_world.specs.Held.{nowhere, node_at, AtEach}
 use Rattle.sdh_world.specs.Fixed.{Fixed, fixed}
 use Rattle.sdh_world.specs.Rounds.{World, arrival_at, arrivals_from, arrivals_of, receivers_in, all_with_arrivals, with_arrivals, node_after, nodes_with, round_with, round}
-use Rattle.sdh_world.proofs.Keeping.{all_heard, all_next, length-fixed, node_is}
+use Rattle.sdh_world.proofs.Keeping.{all_heard, all_next, length-fixed, node_is, feeds_next}
 use Rattle.sdh_world.proofs.Runs.{length-heard, count_round}
-use Rattle.sdh_hearing.specs.Placed.{IsReceiver, IsSender, HasSides, HaveGiven, IsBetween, IsPlaced}
+use Rattle.sdh_hearing.specs.Placed.{IsReceiver, IsSender, HasSides, HaveGone, IsBetween, IsPlaced}
 use Rattle.sdh_hearing.proofs.OneNode.{receiving_after, rounds_after, receiver_after, sender_after, side_took}
 use Rattle.sdh_ringmap.specs.Places.{position_of}
 
@@ -64,27 +67,18 @@ sides_next s now n is = record {
   sends = λ d. sender_after now n s d (is.sends d);
 }
 
--- so many rounds, in each of which its ports gave a chunk
+-- so many rounds, and the clocks of its ports too
 abbrev HasRun : ℕ → Node → Type 0
-HasRun rounds n = (n.rounds ≡ rounds) × HaveGiven rounds n.ports
+HasRun rounds n = (n.rounds ≡ rounds) × HaveGone rounds n.ports
 
 ran_met : (rounds : ℕ) (a b : Arrival) (n : Node) → HasRun rounds n → HasRun rounds (with_arrivals a b n)
 unfolding with_arrivals
 ran_met rounds a b n ran = (ran.0, ran.1)
 
-ports_gave : (x : Cross) (i j k : ℕ) (ts : List Tributary) → HaveGiven k ts → HaveGiven (k + 1) (map_from (λ i t. fed t) i (map_from (λ i t. delivered_to x t) j ts))
-ports_gave x i j k [] all m d lt = absurd (omega arith)
-ports_gave x i j k (t ∷ ts) all zero d lt = ap (λ c. c + 1) (all 0 d (omega arith))
-ports_gave x i j k (t ∷ ts) all (suc m) d lt = ports_gave x (i + 1) (j + 1) k ts (λ a e low. all (suc a) e (omega arith)) m d (omega arith)
-
-node_gave : (rounds now : ℕ) (n : Node) → HaveGiven rounds n.ports → HaveGiven (rounds + 1) (node_after now n).ports
-unfolding node_round with_calm after_crossing ports_after all_fed all_delivered
-node_gave rounds now n gave = ports_gave (crossing now n) 0 0 rounds n.ports gave
-
 between_next : (rounds now : ℕ) (n : Node) → HasRun rounds n → IsBetween (rounds + 1) (node_after now n)
 between_next rounds now n ran = record {
   ran = rounds_after now n ∙ ap (λ k. k + 1) ran.0;
-  gave = node_gave rounds now n ran.1;
+  gone = feeds_next (λ f. IsClock f.port.offset rounds f.clock) (λ f. IsClock f.port.offset (rounds + 1) f.clock) (λ f h. next_clock f.port.offset rounds f.clock h) now n ran.1;
   fresh = λ d. ap (λ (r : Receiving). r.arrived) (receiving_after now n d) ∙ (side_took n.settings.threshold (receiving_on d n).arrived (receiving_on d n) now).arrived;
 }
 
@@ -100,7 +94,7 @@ placed_round xs w placed =
       nodes = all_next now (nodes_with xs w) ∙ all_heard xs ns ∙ placed.nodes;
       sides = each_map (HasSides s) (HasSides s) (node_after now) (sides_next s now) (nodes_with xs w) (each_heard (HasSides s) (sides_met s) xs ns placed.sides);
       between = each_map (HasRun t) (IsBetween (t + 1)) (node_after now) (between_next t now) (nodes_with xs w)
-          (each_heard (HasRun t) (ran_met t) xs ns (λ p h. ((placed.between p h).ran, (placed.between p h).gave)));
+          (each_heard (HasRun t) (ran_met t) xs ns (λ p h. ((placed.between p h).ran, (placed.between p h).gone)));
     }
 
 -- ---- what is told to a node
@@ -166,6 +160,12 @@ told_later w p d h = ap (λ (b : Bool). if b then None else Some (arrival_at w.f
 pub length-after : (w : World) → length (round w).ring.nodes ≡ length w.ring.nodes
 unfolding round
 length-after w = count_round (arrivals_of w) w
+
+-- what holds of the feed of each port of each node, by what the round makes of it
+pub feeds_round : (P Q : Fed → Type 0) → ((f : Fed) → P f → Q (next_feed f)) → (w : World) → IsPlaced w → AtEach (λ p n. All (λ (t : Tributary). P t.feed) n.ports) w.ring.nodes → AtEach (λ p n. All (λ (t : Tributary). Q t.feed) n.ports) (round w).ring.nodes
+feeds_round P Q to w placed each p h =
+    let low : p < length w.ring.nodes = omega (arith, length-after w) in
+    subst (λ (n : Node). All (λ (t : Tributary). Q t.feed) n.ports) (sym (nodes_after w placed p low)) (feeds_next P Q to w.ring.moment (informed w p) (each p low))
 
 pub one_more : (w : World) → (round w).ring.rounds ≡ w.ring.rounds + 1
 unfolding round round_with

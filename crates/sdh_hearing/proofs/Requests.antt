@@ -1,6 +1,5 @@
 -- In the window that ends the last of some stretches the nodes are in the settled states of the histories.
-use Rattle.std.proofs.Common.{suc, ◌≡◌, ℕ, ◌+◌, ◌<◌, List, [], ◌∷◌, ◌++◌, length, get_or, map, zero, refl, ap, sym, subst, ◌∙◌, arith}
-use Rattle.std.specs.Prelude.{All}
+use Rattle.std.proofs.Common.{◌≡◌, ℕ, ◌+◌, ◌<◌, List, [], ◌∷◌, ◌++◌, length, get_or, map, refl, ap, sym, ◌∙◌, arith}
 use Rattle.std.proofs.lemmas.List.{length-map}
 use Rattle.sdh_ringmap.specs.declared.Side.{Side}
 use Rattle.sdh_kbytes.specs.declared.Code.{Code}
@@ -15,10 +14,10 @@ use Rattle.sdh_node.specs.Node.{receiving_on, needed}
 use Rattle.sdh_world.specs.Rounds.{World}
 use Rattle.sdh_world.specs.Runs.{run}
 use Rattle.sdh_world.specs.Changes.{all_changed, Stretch, after_stretch, after_stretches, rounds_in, new_world}
-use Rattle.sdh_world.specs.Laws.{IsChangeAt}
+use Rattle.sdh_world.specs.Laws.{AreChangesOf, MayHappen}
 use Rattle.sdh_hearing.specs.Signalling.{needs_in}
-use Rattle.sdh_hearing.specs.Laws.{IsWhole, MayStart, MayHappen, asked_in, StretchesSettle}
-use Rattle.sdh_hearing.proofs.Staying.{left_all, left_run, left_stretch, left_stretches}
+use Rattle.sdh_hearing.specs.Laws.{IsWhole, MayStart, asked_in, StretchesSettle}
+use Rattle.sdh_hearing.proofs.Staying.{left_all, left_run, left_stretches}
 use Rattle.sdh_hearing.proofs.Nodes.{count}
 use Rattle.sdh_hearing.proofs.Changes.{new_worlds_are_whole, whole_all, whole_run}
 use Rattle.sdh_hearing.proofs.Signalling.{spans_same, needs_at, windows_are_settled}
@@ -35,20 +34,18 @@ requests_by v n size g each =
 
 -- ---- all stretches
 
-last_of : (P : Stretch → Type 0) (ss : List Stretch) (s : Stretch) → All P (ss ++ s ∷ []) → P s
-last_of P [] s all = all 0 s (omega arith)
-last_of P (r ∷ ss) s all = last_of P ss s (λ i d lt. all (suc i) d (omega arith))
+pub last_of : (ss : List Stretch) (s : Stretch) (w : World) → MayHappen w (ss ++ s ∷ []) → AreChangesOf (after_stretches ss w) s.changes
+last_of [] s w may = may.0
+last_of (r ∷ ss) s w may = last_of ss s (after_stretch r w) may.1
 
-earlier_of : (P : Stretch → Type 0) (ss : List Stretch) (s : Stretch) → All P (ss ++ s ∷ []) → All P ss
-earlier_of P [] s all i d lt = absurd (omega arith)
-earlier_of P (r ∷ ss) s all zero d lt = all 0 d (omega arith)
-earlier_of P (r ∷ ss) s all (suc i) d lt = earlier_of P ss s (λ j e low. all (suc j) e (omega arith)) i d (omega arith)
+pub earlier_of : (ss : List Stretch) (s : Stretch) (w : World) → MayHappen w (ss ++ s ∷ []) → MayHappen w ss
+earlier_of [] s w may = tt
+earlier_of (r ∷ ss) s w may = (may.0, earlier_of ss s (after_stretch r w) may.1)
 
-pub whole_stretches : (ss : List Stretch) (w : World) → MayHappen w.ring.settings.rate ss → IsWhole w → IsWhole (after_stretches ss w)
+pub whole_stretches : (ss : List Stretch) (w : World) → MayHappen w ss → IsWhole w → IsWhole (after_stretches ss w)
 whole_stretches [] w may whole = whole
 whole_stretches (s ∷ ss) w may whole =
-    whole_stretches ss (after_stretch s w) (subst (λ (y : Settings). MayHappen y.rate ss) (sym (left_stretch s w).settings) (λ i d lt. may (suc i) d (omega arith)))
-    (whole_run (all_changed s.changes w) s.rounds (whole_all s.changes w (may 0 s (omega arith)) whole))
+    whole_stretches ss (after_stretch s w) may.1 (whole_run (all_changed s.changes w) s.rounds (whole_all s.changes w may.0 whole))
 
 pub after_last : (ss : List Stretch) (s : Stretch) (w : World) → after_stretches (ss ++ s ∷ []) w ≡ after_stretch s (after_stretches ss w)
 after_last [] s w = refl
@@ -56,7 +53,7 @@ after_last (r ∷ ss) s w = after_last ss s (after_stretch r w)
 
 -- ---- the last of some stretches
 
-module _ (s : Settings) (ids : List ℕ) (circuits : Provisioning) (f : Fibres) (earlier : List Stretch) (last : Stretch) (may : MayStart s ids f) (happen : MayHappen s.rate (earlier ++ last ∷ [])) where
+module _ (s : Settings) (ids : List ℕ) (circuits : Provisioning) (f : Fibres) (earlier : List Stretch) (last : Stretch) (may : MayStart s ids f) (happen : MayHappen (new_world s ids circuits f) (earlier ++ last ∷ [])) where
   abbrev w : World
   w = new_world s ids circuits f
 
@@ -71,8 +68,8 @@ module _ (s : Settings) (ids : List ℕ) (circuits : Provisioning) (f : Fibres) 
   ss = earlier ++ last ∷ []
 
   pub whole_last : IsWhole v
-  whole_last = whole_all last.changes (after_stretches earlier w) (subst (λ (y : Settings). All (IsChangeAt y.rate) last.changes) (sym (left_stretches earlier w).settings) (last_of (λ (x : Stretch). All (IsChangeAt s.rate) x.changes) earlier last happen))
-      (whole_stretches earlier w (earlier_of (λ (x : Stretch). All (IsChangeAt s.rate) x.changes) earlier last happen) (new_worlds_are_whole s ids circuits f may.ids_ok may.honest))
+  whole_last = whole_all last.changes (after_stretches earlier w) (last_of earlier last w happen)
+      (whole_stretches earlier w (earlier_of earlier last w happen) (new_worlds_are_whole s ids circuits f may.ids_ok may.honest))
 
   ids_last : v.ring.ids ≡ ids
   ids_last = (left_all last.changes (after_stretches earlier w)).ids ∙ (left_stretches earlier w).ids

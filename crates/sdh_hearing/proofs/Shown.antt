@@ -1,6 +1,5 @@
 -- What changes leave of the parities that sections keep, and the violations that a side counts.
 use Rattle.std.proofs.Common.{◌≡◌, ℕ, ◌*◌, ◌<◌, List, [], ◌∷◌, length, refl, ap, sym, subst, ◌∙◌, inl, inr, arith}
-use Rattle.std.specs.Prelude.{All}
 use Rattle.std.proofs.lemmas.Bool.{cases_Bool}
 use Rattle.sdh_frame.specs.Sizes.{n_of}
 use Rattle.sdh_ringmap.specs.declared.Side.{Side}
@@ -11,21 +10,20 @@ use Rattle.sdh_parity.specs.Scrambling.{scrambled}
 use Rattle.sdh_overhead.specs.Sections.{b2_violations}
 use Rattle.sdh_plant.specs.Fibres.{fibre, fibre_to, is_cut}
 use Rattle.sdh_plant.specs.Arrivals.{carried_on}
-use Rattle.sdh_node.specs.declared.settings.Settings.{Settings}
 use Rattle.sdh_node.specs.Receiving.{Receiving, commanded_by}
-use Rattle.sdh_node.specs.Node.{Node, receiving_on, sending_on, at_receiving, held_for}
+use Rattle.sdh_node.specs.Node.{Node, receiving_on, sending_on, at_receiving, held_for, slips_at}
 use Rattle.sdh_world.specs.Held.{node_at, AtEach}
 use Rattle.sdh_world.specs.Rounds.{World, round, round_with}
-use Rattle.sdh_world.specs.Changes.{Change, Fibre, Order, Hold, Now, changed, all_changed}
+use Rattle.sdh_world.specs.Changes.{Change, Fibre, Order, Hold, Slip, Now, changed, all_changed}
 use Rattle.sdh_world.specs.Sides.{condition_to}
-use Rattle.sdh_world.specs.Laws.{IsChangeAt}
+use Rattle.sdh_world.specs.Held.{place_of_port}
 use Rattle.sdh_hearing.specs.Signalling.{CountsViolations, shown_by}
 use Rattle.sdh_hearing.specs.Laws.{IsWhole, ViolationsAreOfTheRoundBefore}
 use Rattle.sdh_hearing.proofs.Parities.{b2_through}
 use Rattle.sdh_hearing.proofs.Staying.{left_all}
 use Rattle.sdh_hearing.proofs.Nodes.{count, length-after}
 use Rattle.sdh_hearing.proofs.Rounds.{same_line, neighbour_inside, arrival_cut, arrival_word, word_goes, whole_round}
-use Rattle.sdh_hearing.proofs.Changes.{each_at_place, sending_commanded, receiving_held, sending_held, whole_all}
+use Rattle.sdh_hearing.proofs.Changes.{each_at_place, sending_commanded, LeavesSides, held_leaves, slips_leave, with_node, whole_all}
 use Rattle.sdh_hearing.proofs.Violations.{KeepsParities, ShowsSo, b2_by, shows_later}
 use Rattle.sdh_hearing.proofs.Follows.{Keeps, keeps_one}
 
@@ -35,13 +33,17 @@ section_commanded West East c n = refl
 section_commanded East West c n = refl
 section_commanded East East c n = refl
 
+pub keeps_left : (f : Node → Node) → LeavesSides f → (p : ℕ) (w : World) → Keeps w → Keeps (with_node p f w)
+keeps_left f leaves p w k = λ e. each_at_place (λ q n. KeepsParities w.ring.settings.rate w.ring.rounds (carried_on w.fibres (fibre q e)) (sending_on e n).section.last) f
+    (λ q n h line some there. ap (λ y. y.section.last) (leaves.sending e n) ∙ h line some there) p w.ring.nodes (k e)
+
 pub keeps_changed : (c : Change) (w : World) → Keeps w → Keeps (changed c w)
 unfolding changed
 keeps_changed (Fibre p d c) w k = k
 keeps_changed (Order p d c) w k = λ e. each_at_place (λ q n. KeepsParities w.ring.settings.rate w.ring.rounds (carried_on w.fibres (fibre q e)) (sending_on e n).section.last) (at_receiving d (commanded_by c))
     (λ q n h line some there. ap (λ y. y.section.last) (sending_commanded d e c n) ∙ h line some there) p w.ring.nodes (k e)
-keeps_changed (Hold p turns) w k = λ e. each_at_place (λ q n. KeepsParities w.ring.settings.rate w.ring.rounds (carried_on w.fibres (fibre q e)) (sending_on e n).section.last) (held_for turns)
-    (λ q n h line some there. ap (λ y. y.section.last) (sending_held e turns n) ∙ h line some there) p w.ring.nodes (k e)
+keeps_changed (Hold p turns) w k = keeps_left (held_for turns) (held_leaves turns) p w k
+keeps_changed (Slip id turn count) w k = keeps_left (slips_at id turn count) (slips_leave id turn count) (place_of_port w.ring id) w k
 keeps_changed (Now t) w k = k
 
 keeps_all : (cs : List Change) (w : World) → Keeps w → Keeps (all_changed cs w)
@@ -52,13 +54,17 @@ keeps_all (c ∷ cs) w k = keeps_all cs (changed c w) (keeps_changed c w k)
 abbrev pub AllShow : (ℕ → Side → ℕ) → World → Type 0
 AllShow shown w = (d : Side) → AtEach (λ p n. ShowsSo w.ring.settings.rate (shown p d) w.ring.rounds (carried_on w.fibres (fibre_to (length w.ring.ids) p d)) (receiving_on d n).section.last) w.ring.nodes
 
+pub shows_left : (shown : ℕ → Side → ℕ) (f : Node → Node) → LeavesSides f → (p : ℕ) (w : World) → AllShow shown w → AllShow shown (with_node p f w)
+shows_left shown f leaves p w k = λ e. each_at_place (λ q n. ShowsSo w.ring.settings.rate (shown q e) w.ring.rounds (carried_on w.fibres (fibre_to (length w.ring.ids) q e)) (receiving_on e n).section.last) f
+    (λ q n h. subst (λ (y : Receiving). ShowsSo w.ring.settings.rate (shown q e) w.ring.rounds (carried_on w.fibres (fibre_to (length w.ring.ids) q e)) y.section.last) (sym (leaves.receiving e n)) h) p w.ring.nodes (k e)
+
 pub shows_changed : (shown : ℕ → Side → ℕ) (c : Change) (w : World) → AllShow shown w → AllShow shown (changed c w)
 unfolding changed
 shows_changed shown (Fibre p d c) w k = k
 shows_changed shown (Order p d c) w k = λ e. each_at_place (λ q n. ShowsSo w.ring.settings.rate (shown q e) w.ring.rounds (carried_on w.fibres (fibre_to (length w.ring.ids) q e)) (receiving_on e n).section.last) (at_receiving d (commanded_by c))
     (λ q n h. subst (λ y. ShowsSo w.ring.settings.rate (shown q e) w.ring.rounds (carried_on w.fibres (fibre_to (length w.ring.ids) q e)) y.last) (sym (section_commanded d e c n)) h) p w.ring.nodes (k e)
-shows_changed shown (Hold p turns) w k = λ e. each_at_place (λ q n. ShowsSo w.ring.settings.rate (shown q e) w.ring.rounds (carried_on w.fibres (fibre_to (length w.ring.ids) q e)) (receiving_on e n).section.last) (held_for turns)
-    (λ q n h. subst (λ (y : Receiving). ShowsSo w.ring.settings.rate (shown q e) w.ring.rounds (carried_on w.fibres (fibre_to (length w.ring.ids) q e)) y.section.last) (sym (receiving_held e turns n)) h) p w.ring.nodes (k e)
+shows_changed shown (Hold p turns) w k = shows_left shown (held_for turns) (held_leaves turns) p w k
+shows_changed shown (Slip id turn count) w k = shows_left shown (slips_at id turn count) (slips_leave id turn count) (place_of_port w.ring id) w k
 shows_changed shown (Now t) w k = k
 
 shows_all : (shown : ℕ → Side → ℕ) (cs : List Change) (w : World) → AllShow shown w → AllShow shown (all_changed cs w)
@@ -88,13 +94,11 @@ violations_are_of_the_round_before w first second p d whole may may_then h =
     let one = round w in
     let whole_one = whole_round w whole in
     let before = all_changed first one in
-    let settings_one : before.ring.settings ≡ w.ring.settings = (left_all first one).settings in
     let whole_before : IsWhole before = whole_all first one may whole_one in
     let two = round before in
     let whole_two = whole_round before whole_before in
-    let may_two : All (IsChangeAt two.ring.settings.rate) second = subst (λ (s : Settings). All (IsChangeAt s.rate) second) (sym settings_one) may_then in
     let now = all_changed second two in
-    let whole_now : IsWhole now = whole_all second two may_two whole_two in
+    let whole_now : IsWhole now = whole_all second two may_then whole_two in
     let shown : ℕ → Side → ℕ = λ q e. shown_by (condition_to before q e) in
     let ran : 0 < before.ring.rounds = (let e = (left_all first one).rounds in omega arith) in
     let shows_two : AllShow shown two = λ e q low.

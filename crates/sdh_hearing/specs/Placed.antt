@@ -7,6 +7,7 @@ use Rattle.sdh_overhead.specs.Laws.{AreParities}
 use Rattle.sdh_node.specs.declared.settings.Settings.{Settings}
 use Rattle.sdh_node.specs.Receiving.{Receiving}
 use Rattle.sdh_node.specs.Sending.{Sending}
+use Rattle.sdh_payload.specs.Clock.{IsClock}
 use Rattle.sdh_node.specs.Tributaries.{Tributary}
 use Rattle.sdh_node.specs.Node.{Node, receiving_on, sending_on}
 use Rattle.sdh_world.specs.Held.{HeldRing, new_nodes, AtEach}
@@ -29,14 +30,14 @@ pub record HasSides (s : Settings) (n : Node) : Type 0 where
   pub receives : (d : Side) → IsReceiver s (receiving_on d n)
   pub sends : (d : Side) → IsSender s (sending_on d n)
 
--- each of a node's ports gave so many chunks
-abbrev pub HaveGiven : ℕ → List Tributary → Type 0
-HaveGiven chunks ports = All (λ (t : Tributary). t.feed.chunks ≡ chunks) ports
+-- the clocks of a node's ports have run so many rounds
+abbrev pub HaveGone : ℕ → List Tributary → Type 0
+HaveGone rounds ports = All (λ (t : Tributary). IsClock t.feed.port.offset rounds t.feed.clock) ports
 
--- between rounds: the node has run so many, in each its ports gave a chunk, and nothing was told on a side since the last one
+-- between rounds: the node has run so many, the clocks of its ports too, and nothing was told on a side since the last one
 pub record IsBetween (rounds : ℕ) (n : Node) : Type 0 where
   pub ran : n.rounds ≡ rounds
-  pub gave : HaveGiven rounds n.ports
+  pub gone : HaveGone rounds n.ports
   pub fresh : (d : Side) → (receiving_on d n).arrived ≡ None
 
 -- Each node of the ring is where it belongs: it is the new node of its position, but for what calls change.

@@ -10,3 +10,4 @@ pub mod Itself
 pub mod Calm
 pub mod Decided
 pub mod Places
+pub mod Slips

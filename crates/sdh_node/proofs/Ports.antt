@@ -1,17 +1,27 @@
 -- Ports at a node.
-use Rattle.std.proofs.Common.{◌≡◌, ℕ, zero, suc, ◌+◌, ◌-◌, ◌<◌, ◌≤◌, Bool, true, false, cond, nat_lt, Some, None, List, [], ◌∷◌, ◌++◌, length, take, get_or, replicate, inl, inr, refl, ap, sym, subst, ◌∙◌, arith, append_assoc}
+use Rattle.std.proofs.Common.{◌≡◌, ℕ, zero, suc, ◌+◌, ◌<◌, ◌≤◌, Bool, true, false, cond, nat_lt, Some, None, List, [], ◌∷◌, ◌++◌, length, take, drop, get_or, inl, inr, refl, ap, sym, subst, ◌∙◌, arith, append_assoc}
 use Rattle.std.specs.Prelude.{◌^◌, ◌==◌, if◌then◌else◌, All, find, slice_get}
 use Rattle.std.specs.List.{position, position_or_len}
 use Rattle.std.proofs.lemmas.Bool.{cases_lt, cond_both}
 use Rattle.std.proofs.lemmas.Bool.Decides.{nat_tests}
-use Rattle.std.proofs.lemmas.List.{take_more, length-take-le, append-nil}
+use Rattle.std.proofs.lemmas.List.{take_more, length-take-le, length-drop, append-nil}
 use Rattle.std.proofs.lemmas.Option.{get_or_from_slice_get}
 use Rattle.std.proofs.lemmas.List.Elements.{All-nil, All-cons, All-append}
 use Rattle.std.proofs.lemmas.List.Quantifiers.{position-Some}
 use Rattle.sdh_basics.specs.Indexed.{map_from}
 use Rattle.sdh_basics.proofs.CellsLaws.{length-map_from, get_or-placed}
 use Rattle.sdh_payload.specs.Customer.{Customer}
-use Rattle.sdh_payload.specs.Stream.{chunk_of}
+use Rattle.sdh_payload.specs.declared.chunk.ChunkForm.{ChunkForm}
+use Rattle.sdh_payload.specs.declared.chunk.ChunkForm.TheVariants.{Plain, Short, Long}
+use Rattle.sdh_payload.specs.declared.clock.Turn.{Turn}
+use Rattle.sdh_payload.specs.declared.clock.Turn.TheVariants.{Up, Down}
+use Rattle.sdh_payload.specs.Chunk.{taken_len, laid, laid_h3}
+use Rattle.sdh_payload.specs.Clock.{Clock, waits, next_form, after_form, ticked, last_from}
+use Rattle.sdh_payload.specs.Feed.{Fed, next_feed}
+use Rattle.sdh_payload.specs.Stream.{stream_from}
+use Rattle.sdh_payload.proofs.Chunks.{length-stream_from}
+use Rattle.sdh_payload.proofs.Clocking.{next_clock, next_few, form_after}
+use Rattle.sdh_frame.specs.Aus.{Au}
 use Rattle.sdh_ringmap.specs.declared.Pos.{Pos}
 use Rattle.sdh_ringmap.specs.declared.Side.{Side}
 use Rattle.sdh_ringmap.specs.declared.Side.TheVariants.{West, East}
@@ -20,26 +30,12 @@ use Rattle.sdh_circuits.specs.declared.Slot.{Slot}
 use Rattle.sdh_circuits.specs.declared.End.{End}
 use Rattle.sdh_circuits.specs.declared.End.TheVariants.{A, B}
 use Rattle.sdh_circuits.specs.Provisioned.{Provisioned}
-use Rattle.sdh_circuits.specs.Provisioning.{Provisioning, IsProvisioning, IsInSlots}
+use Rattle.sdh_circuits.specs.Provisioning.{Provisioning, IsProvisioning, IsInSlots, HasOffsets}
 use Rattle.sdh_pointer.specs.declared.word.Form.{Form}
-use Rattle.sdh_pointer.specs.declared.word.Form.TheVariants as form
 use Rattle.std.specs.Option.{option_map_or}
-use Rattle.sdh_pointer.specs.declared.reading.Action.TheVariants as action
-use Rattle.sdh_node.specs.Passing.{h3_sent, no_input}
-use Rattle.sdh_node.specs.Tributaries.{Tributary, new_tributary, ends_at, ends_from, tributaries_at, is_port, port_of, sent_in, input_by, added_by, own_input, added_last, fed, all_fed, IsTributary}
+use Rattle.sdh_node.specs.Passing.{h3_of, au_with, au_for, no_input}
+use Rattle.sdh_node.specs.Tributaries.{Tributary, new_tributary, ends_at, ends_from, tributaries_at, is_port, port_of, sent_in, input_by, added_by, own_input, added_last, action_of, last_sent, sent_by, fed, all_fed, IsTributary, IsFed}
 use Rattle.sdh_node.specs.Crossing.{Cross, delivered_to, all_delivered}
-
--- a port has nothing in H3
-pub own_h3 : (f : Form) → 0 ∷ 0 ∷ 0 ∷ [] ≡ h3_sent f (replicate 9 0)
-own_h3 form.Normal = refl
-own_h3 form.Enabled = refl
-own_h3 form.Up = refl
-own_h3 form.Down = refl
-own_h3 form.Ais = refl
-
--- the chunk that was taken before the count grew
-pub chunk_after : (p : Customer) (j : ℕ) → chunk_of p (j + 1 - 1) ≡ chunk_of p j
-chunk_after p j = ap (chunk_of p) (omega arith)
 
 -- ---- the search for a port
 
@@ -101,15 +97,67 @@ found-mapped p f g h d same is i (t ∷ ts) = go (p t) refl (found-mapped p f g 
     go false e rest = let here : p (f i t) ≡ false = same i t ∙ e in rw (here, e) rest
 
 holds_id : (x : Cross) (ports : List Tributary) (id : PortId) → added_last (all_fed (all_delivered x ports)) id ≡ added_by ports id
-unfolding all_fed all_delivered port_of sent_in
+unfolding all_fed all_delivered port_of
 holds_id x ports id =
-    found-mapped (is_port id) (λ i t. fed t) own_input (λ t. input_by (sent_in t.feed)) no_input (λ k t. refl)
-    (λ k t. ap (λ bytes. input_by (record { bytes = bytes; action = action.Normal; value = t.feed.port.offset })) (chunk_after t.feed.port t.feed.chunks)) 0 (map_from (λ i t. delivered_to x t) 0 ports)
+    found-mapped (is_port id) (λ i t. fed t) own_input (λ t. input_by (sent_in t.feed)) no_input (λ k t. refl) (λ k t. refl) 0 (map_from (λ i t. delivered_to x t) 0 ports)
     ∙ found-mapped (is_port id) (λ i t. delivered_to x t) (λ t. input_by (sent_in t.feed)) (λ t. input_by (sent_in t.feed)) no_input (λ k t. refl) (λ k t. refl) 0 ports
+
+-- the clock of a port goes on
+pub clock-next : (x : Cross) (id : PortId) (ports : List Tributary)
+    → option_map_or (λ (t : Tributary). Some t.feed.clock) (port_of id (all_fed (all_delivered x ports))) None ≡ option_map_or (λ (t : Tributary). Some (ticked t.feed.clock)) (port_of id ports) None
+unfolding all_fed all_delivered port_of
+clock-next x id ports =
+    found-mapped (is_port id) (λ i t. fed t) (λ (t : Tributary). Some t.feed.clock) (λ (t : Tributary). Some (ticked t.feed.clock)) None (λ k t. refl) (λ k t. refl) 0 (map_from (λ i t. delivered_to x t) 0 ports)
+    ∙ found-mapped (is_port id) (λ i t. delivered_to x t) (λ (t : Tributary). Some (ticked t.feed.clock)) (λ (t : Tributary). Some (ticked t.feed.clock)) None (λ k t. refl) (λ k t. refl) 0 ports
 
 -- ports that have taken the chunk of the round hold what they add in it
 pub holds-adds : (x : Cross) (ports : List Tributary) → added_last (all_fed (all_delivered x ports)) ≡ added_by ports
 holds-adds x ports = λ i id. holds_id x ports id i
+
+-- ---- what a port keeps of a round
+
+sent_from : (form : ChunkForm) (c : Clock) → last_from (after_form form c) ≡ c.sent
+sent_from Plain c = omega arith
+sent_from Short c = omega arith
+sent_from Long c = omega arith
+
+pub fed_kept : (old : Fed) (form : ChunkForm) (bytes payload h3 : List ℕ) → form ≡ next_form old.clock → bytes ≡ stream_from old.port old.clock.sent (taken_len form)
+    → payload ≡ laid form bytes → h3 ≡ laid_h3 form bytes → length payload ≡ 2349 → IsFed (next_feed old) payload h3
+unfolding sent_by ticked
+fed_kept old form bytes payload h3 is are lay three full =
+    let c = old.clock in
+    let f : (after_form (next_form c) c).form ≡ form = form_after (next_form c) c ∙ sym is in
+    let from : last_from (after_form (next_form c) c) ≡ c.sent = sent_from (next_form c) c in
+    let sent : last_sent (next_feed old) ≡ bytes = (λ j. stream_from old.port (from j) (taken_len (f j))) ∙ sym are in
+    record { full = full; payload_is = lay ∙ sym (λ j. laid (f j) (sent j)); h3_is = three ∙ sym (λ j. laid_h3 (f j) (sent j)) }
+
+-- slips that wait change nothing of it
+pub slipped_kept : (feed : Fed) (turn : Turn) (count : ℕ) (payload h3 : List ℕ) → IsFed feed payload h3 → IsFed (record feed { clock = waits turn count feed.clock }) payload h3
+unfolding sent_by
+slipped_kept feed Up count payload h3 h = record { full = h.full; payload_is = h.payload_is; h3_is = h.h3_is }
+slipped_kept feed Down count payload h3 h = record { full = h.full; payload_is = h.payload_is; h3_is = h.h3_is }
+
+-- a port's AU-4 is passed on with a word of its own
+pub own_passed : (form : ChunkForm) (f : Form) (w : ℕ) (au : Au) → au_for (action_of form) f w au ≡ au_with f w au
+own_passed Plain f w au = refl
+own_passed Short f w au = refl
+own_passed Long f w au = refl
+
+three_bytes : (form : ChunkForm) (bytes : List ℕ) → length bytes ≡ taken_len form → length (laid_h3 form bytes) ≡ 3
+three_bytes Plain bytes len = refl
+three_bytes Short bytes len = refl
+three_bytes Long bytes len = length-take-le 3 (drop 783 bytes) (omega (arith, len, length-drop 783 bytes))
+
+pub own_three : (feed : Fed) → length (sent_by feed).h3 ≡ 3
+unfolding sent_by
+own_three feed = three_bytes feed.clock.form (last_sent feed) (length-stream_from feed.port (last_from feed.clock) (taken_len feed.clock.form))
+
+pub own_h3 : (h3 : List ℕ) → length h3 ≡ 3 → h3 ≡ h3_of (0 ∷ 0 ∷ 0 ∷ 0 ∷ 0 ∷ 0 ∷ h3)
+own_h3 [] len = absurd (omega (arith, len))
+own_h3 (a ∷ []) len = absurd (omega (arith, len))
+own_h3 (a ∷ b ∷ []) len = absurd (omega (arith, len))
+own_h3 (a ∷ b ∷ c ∷ []) len = refl
+own_h3 (a ∷ b ∷ c ∷ d ∷ more) len = absurd (omega (arith, len))
 
 -- ---- what is true of each port
 
@@ -119,16 +167,16 @@ placed_all P Q f xs h all = λ k d lt. (let below : k < length xs = omega (arith
 pub in_slots : (slots rounds : ℕ) (ports : List Tributary) → All (IsTributary slots rounds) ports → All (λ t. (1 ≤ t.slot.0) × (t.slot.0 ≤ slots)) ports
 in_slots slots rounds ports all = λ k d lt. ((all k d lt).first, (all k d lt).last)
 
-pub few_chunks : (slots rounds : ℕ) (ports : List Tributary) → rounds < 2 ^ 32 → All (IsTributary slots rounds) ports → All (λ t. t.feed.chunks < 2 ^ 32) ports
-few_chunks slots rounds ports few all = λ k d lt. omega (arith, (all k d lt).chunks)
+pub few_rounds : (slots rounds : ℕ) (ports : List Tributary) → rounds < 2 ^ 32 → All (IsTributary slots rounds) ports → All (λ t. t.feed.clock.rounds < 2 ^ 32) ports
+few_rounds slots rounds ports few all = λ k d lt. omega (arith, (all k d lt).clock.rounds_are)
 
 pub delivered_are : (x : Cross) (slots rounds : ℕ) (ports : List Tributary) → All (IsTributary slots rounds) ports → All (IsTributary slots rounds) (all_delivered x ports)
 unfolding all_delivered
-delivered_are x slots rounds ports all = placed_all (IsTributary slots rounds) (IsTributary slots rounds) (λ i t. delivered_to x t) ports (λ k t h. record { first = h.first; last = h.last; chunks = h.chunks }) all
+delivered_are x slots rounds ports all = placed_all (IsTributary slots rounds) (IsTributary slots rounds) (λ i t. delivered_to x t) ports (λ k t h. record { first = h.first; last = h.last; offset = h.offset; clock = h.clock; few = h.few }) all
 
 pub fed_are : (slots rounds : ℕ) (ports : List Tributary) → All (IsTributary slots rounds) ports → All (IsTributary slots (rounds + 1)) (all_fed ports)
 unfolding all_fed
-fed_are slots rounds ports all = placed_all (IsTributary slots rounds) (IsTributary slots (rounds + 1)) (λ i t. fed t) ports (λ k t h. record { first = h.first; last = h.last; chunks = ap (λ n. n + 1) h.chunks }) all
+fed_are slots rounds ports all = placed_all (IsTributary slots rounds) (IsTributary slots (rounds + 1)) (λ i t. fed t) ports (λ k t h. record { first = h.first; last = h.last; offset = h.offset; clock = next_clock _ _ t.feed.clock h.clock; few = next_few t.feed.clock 16 h.few }) all
 
 -- ---- the ports of a ring's circuits at a position
 
@@ -148,22 +196,24 @@ ends_more at circuits i c read h =
     ∙ ap (λ x. ends_from at 0 (take i circuits) ++ (ends_at at i x ++ [])) there
     ∙ ap (λ r. ends_from at 0 (take i circuits) ++ r) (append-nil (ends_at at i c))
 
-new_is : (slots i : ℕ) (e : End) (d : Side) (m : Slot) (p : Customer) → 1 ≤ m.0 → m.0 ≤ slots → IsTributary slots 0 (new_tributary i e d m p)
-new_is slots i e d m p low high = record { first = low; last = high; chunks = refl }
+new_is : (slots i : ℕ) (e : End) (d : Side) (m : Slot) (p : Customer) → 1 ≤ m.0 → m.0 ≤ slots → p.offset ≤ 782 → IsTributary slots 0 (new_tributary i e d m p)
+new_is slots i e d m p low high small =
+    record { first = low; last = high; offset = small; clock = record { rounds_are = refl; rest_few = omega arith; value_small = λ h. h }; few = omega arith }
 
-ends_are : (slots : ℕ) (at : Pos) (i : ℕ) (circuits : List Provisioned) → All (IsInSlots slots) circuits → All (IsTributary slots 0) (ends_from at i circuits)
-ends_are slots at i [] all = All-nil (IsTributary slots 0)
-ends_are slots at i (c ∷ cs) all =
+ends_are : (slots : ℕ) (at : Pos) (i : ℕ) (circuits : List Provisioned) → All (IsInSlots slots) circuits → All HasOffsets circuits → All (IsTributary slots 0) (ends_from at i circuits)
+ends_are slots at i [] all offsets = All-nil (IsTributary slots 0)
+ends_are slots at i (c ∷ cs) all offsets =
     let p = IsTributary slots 0 in
     let here = all 0 c (omega arith) in
+    let small : HasOffsets c = offsets 0 c (omega arith) in
     let a = new_tributary i A East c.slot c.a in
     let b = new_tributary i B West c.slot c.b in
     All-append p (ends_at at i c) (ends_from at (i + 1) cs)
     (All-append p (if c.from.0 == at.0 then a ∷ [] else []) (if c.to.0 == at.0 then b ∷ [] else [])
-    (cond_both (c.from.0 == at.0) (a ∷ []) [] (All p) (λ _. All-cons p a [] (new_is slots i A East c.slot c.a here.from_1 here.small) (All-nil p)) (λ _. All-nil p))
-    (cond_both (c.to.0 == at.0) (b ∷ []) [] (All p) (λ _. All-cons p b [] (new_is slots i B West c.slot c.b here.from_1 here.small) (All-nil p)) (λ _. All-nil p)))
-    (ends_are slots at (i + 1) cs (λ k d lt. all (suc k) d (omega arith)))
+    (cond_both (c.from.0 == at.0) (a ∷ []) [] (All p) (λ _. All-cons p a [] (new_is slots i A East c.slot c.a here.from_1 here.small small.a) (All-nil p)) (λ _. All-nil p))
+    (cond_both (c.to.0 == at.0) (b ∷ []) [] (All p) (λ _. All-cons p b [] (new_is slots i B West c.slot c.b here.from_1 here.small small.b) (All-nil p)) (λ _. All-nil p)))
+    (ends_are slots at (i + 1) cs (λ k d lt. all (suc k) d (omega arith)) (λ k d lt. offsets (suc k) d (omega arith)))
 
 pub tributaries_are : (at : Pos) (p : Provisioning) → IsProvisioning p → All (IsTributary p.slots 0) (tributaries_at at p.circuits)
 unfolding tributaries_at
-tributaries_are at p form = ends_are p.slots at 0 p.circuits form.circuits.in_slots
+tributaries_are at p form = ends_are p.slots at 0 p.circuits form.circuits.in_slots form.circuits.offsets

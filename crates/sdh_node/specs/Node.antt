@@ -18,7 +18,8 @@ use Rattle.sdh_pointer.specs.Reading.{start}
 use Rattle.sdh_node.specs.declared.settings.Settings.{Settings}
 use Rattle.sdh_node.specs.Same.{ComparedIn, ComparedOut, Compared, same_compared}
 use Rattle.sdh_node.specs.Receiving.{Receiving, after_intake, intake_of, new_intake, if_west, if_east}
-use Rattle.sdh_node.specs.Tributaries.{Tributary, HasPort, IsTributary, tributaries_at, added_by, all_fed}
+use Rattle.sdh_payload.specs.declared.clock.Turn.{Turn}
+use Rattle.sdh_node.specs.Tributaries.{Tributary, HasPort, IsTributary, tributaries_at, with_slips, added_by, all_fed}
 use Rattle.sdh_node.specs.Crossing.{Cross, after_decision, next_word, all_delivered, input_at, is_failed}
 use Rattle.sdh_node.specs.Sending.{Sending, with_word, frame_from, after_sending}
 use Rattle.sdh_nodestate.specs.declared.Needs.{Needs}
@@ -105,6 +106,10 @@ at_receiving side f n = record n { west = if_west side f n.west; east = if_east 
 abbrev pub held_for : ℕ → Node → Node
 held_for turns n = record n { held = turns }
 
+-- a node at one of whose ports so many more slips wait
+abbrev pub slips_at : PortId → Turn → ℕ → Node → Node
+slips_at id turn count n = record n { ports = with_slips id turn count n.ports }
+
 -- ---- a round, at a moment
 
 -- the controller misses the turn
@@ -124,7 +129,7 @@ crossing now n = after_decision (is_held n) (record {
   east_in = intake_of n.settings.threshold n.east;
 })
 
--- the ports in the round: what they deliver, in the new state, and the next chunk of each port's stream
+-- the ports in the round: what they deliver, in the new state, and the next bytes of each port's stream
 unfoldable pub ports_after : Cross → List Tributary → List Tributary
 ports_after x ports = all_fed (all_delivered x ports)
 

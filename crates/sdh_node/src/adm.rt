@@ -5,8 +5,8 @@ ghost use Rattle.sdh_squelch.specs.Kept.{KeepsRing};
 ghost use Rattle.sdh_nodestate.specs.Words.{SendsSpellable};
 ghost use Rattle.sdh_plant.specs.Arrivals.{as_arrival};
 ghost use Rattle.sdh_node.specs.Receiving.{commanded_by, arrived_on};
-ghost use Rattle.sdh_node.specs.Tributaries.{HasPort, outlet_of};
-ghost use Rattle.sdh_node.specs.Node.{new_node, at_receiving, held_for, node_round, GoesOn, receiving_on, sending_on, moment_of};
+ghost use Rattle.sdh_node.specs.Tributaries.{HasPort, outlet_of, waiting_of};
+ghost use Rattle.sdh_node.specs.Node.{new_node, at_receiving, held_for, slips_at, node_round, GoesOn, receiving_on, sending_on, moment_of};
 
 use crate::cross::CrossConnect;
 use crate::sender::Sender;
@@ -16,7 +16,7 @@ use sdh_circuits::{CircuitMap, PortId};
 use sdh_frame::FrameBuf;
 use sdh_kbytes::{Code, K};
 use sdh_nodestate::{NodeState, Sent, first_word};
-use sdh_payload::Delivered;
+use sdh_payload::{Delivered, Turn};
 use sdh_plant::Arrived;
 use sdh_request::{Command, Moment};
 use sdh_ringmap::{Pos, RingMap, Side};
@@ -93,6 +93,26 @@ impl Adm {
         ensures moment { moment_of self.new ≡ moment_of self.old }
     {
         self.held = turns;
+    }
+
+    /// So many more slips of the clock of a port's customer wait. Each is used up in a round of its own, in which the port justifies
+    /// its pointer.
+    pub fn slip(&mut self, port: PortId, turn: Turn, count: u8)
+        requires there { HasPort self.old.ports port }
+        requires few { waiting_of port self.old.ports + count ≤ 16 }
+        ensures node { self.new ≡ slips_at port turn count self.old }
+        ensures moment { moment_of self.new ≡ moment_of self.old }
+    {
+        self.ports.slip(port, turn, count);
+    }
+
+    /// How many slips wait at a port.
+    pub fn waiting(&self, port: PortId) -> u8
+        requires { HasPort self.now.ports port }
+        ensures waiting { result ≡ waiting_of port self.now.ports }
+        ensures few { result ≤ 16 }
+    {
+        self.ports.waiting(port)
     }
 
     /// Keeps what arrived on a side for the next `send`. A second call before it replaces the first.

@@ -17,7 +17,7 @@ mod tributaries;
 mod tributary;
 
 pub use adm::Adm;
-pub use sdh_payload::Delivered;
+pub use sdh_payload::{Delivered, Turn};
 pub use settings::Settings;
 
 #[cfg(test)]

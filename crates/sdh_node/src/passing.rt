@@ -8,7 +8,7 @@ ghost use Rattle.sdh_pointer.specs.Sending.{Generator, after_action};
 ghost use Rattle.sdh_interchange.specs.Choosing.{AreSources, payload_in};
 ghost use Rattle.sdh_interchange.specs.Assembled.{payload_from, assembled};
 ghost use Rattle.sdh_node.specs.Same.{same_generators};
-ghost use Rattle.sdh_node.specs.Passing.{no_input, h3_sent, pointers_with, au_for, au_sent, states_of, aus_sent, after_inputs};
+ghost use Rattle.sdh_node.specs.Passing.{no_input, h3_of, h3_sent, pointers_with, au_for, au_sent, states_of, aus_sent, after_inputs};
 ghost use Rattle.sdh_node.specs.Sources.{payload_by, IsSourceOf, bytes_on};
 ghost use Rattle.sdh_node.specs.Tributaries.{own_input, added_last};
 ghost use Rattle.sdh_node.specs.Crossing.{received, half_of, input_of, input_at};
@@ -35,14 +35,12 @@ fn pointers_with(word: Word, h3: [u8; 3]) -> [u8; 9]
     [h[0], 0x9B, 0x9B, h[1], 0xFF, 0xFF, h3[0], h3[1], h3[2]]
 }
 
-// The three bytes H3 that go with a word of this form.
-fn h3_sent(form: Form, frame: &FrameBuf, au: u16) -> [u8; 3]
-    requires first { 1 ≤ au }
-    requires last { au ≤ n_of frame.now.rate }
-    ensures { result ≡ h3_sent form (au_of (n_of frame.now.rate) au frame.now.bytes).pointers }
+// The three bytes H3 that go with a word of this form, where these came.
+fn h3_sent(form: Form, h3: [u8; 3]) -> [u8; 3]
+    ensures { (pointers : List ℕ) → h3 ≡ h3_of pointers → result ≡ h3_sent form pointers }
 {
     match form {
-        Form::Down => h3_at(frame, au),
+        Form::Down => h3,
         Form::Normal | Form::Enabled | Form::Up | Form::Ais => [0, 0, 0],
     }
 }
@@ -56,7 +54,7 @@ fn pointers_for(action: Action, form: Form, word: Word, frame: &FrameBuf, au: u1
     match action {
         Action::Ais => [0xFF; 9],
         Action::Normal | Action::New | Action::Up | Action::Down => {
-            pointers_with(word, h3_sent(form, frame, au))
+            pointers_with(word, h3_sent(form, h3_at(frame, au)))
         }
     }
 }
@@ -105,25 +103,25 @@ fn pass_on(cross: &CrossConnect, side: Side, au: u16, generator: &mut Gen) -> (S
     (source_for(action, side, au), pointers)
 }
 
-// The next chunk of a port.
-#[tactic(auto, using(crate::proofs::Ports::own_h3), unfolding(crate::specs::Passing::au_sent, crate::specs::Tributaries::sent_in, sdh_pointer::specs::Sending::after_action))]
+// What a port sends.
+#[tactic(auto, unfolding(crate::specs::Passing::au_sent, sdh_pointer::specs::Sending::after_action))]
 fn send_own(port: &Tributary, generator: &mut Gen, own: &mut [u8], to: u16) -> (Source, [u8; 9])
     requires first { 1 ≤ to }
     requires room { 2349 * to ≤ length own.old }
-    ensures generator { generator.new ≡ after_action generator.old Action.Normal port.now.feed.port.offset }
+    ensures generator { let input = own_input port.now in generator.new ≡ after_action generator.old input.action input.value }
     ensures source { (n : ℕ) → IsSourceOf n to result.0 }
     ensures pointers { result.1 ≡ (au_sent generator.old.sending (own_input port.now)).pointers }
     ensures payload { (n : ℕ) (west east : List ℕ) → payload_from n west east own.new result.0 ≡ (au_sent generator.old.sending (own_input port.now)).payload }
     ensures others { (m : ℕ) → 1 ≤ m → m ≢ to → payload_in m own.new ≡ payload_in m own.old }
     ensures len { length own.new ≡ length own.old }
 {
-    generator.step(Action::Normal, port.offset());
-    put_own(own, to, port.chunk());
-    (Source::Own(to), pointers_with(generator.word(), [0, 0, 0]))
+    let form = generator.step(port.action(), port.value());
+    put_own(own, to, port.payload());
+    let h3 = h3_sent(form, port.h3());
+    (Source::Own(to), pointers_with(generator.word(), h3))
 }
 
-// The stream of the port with this name, if it is there.
-#[tactic(auto, unfolding(crate::specs::Tributaries::sent_in))]
+// What the port with this name sends, if it is there.
 fn add(
     id: PortId,
     ports: &Tributaries,

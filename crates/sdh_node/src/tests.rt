@@ -6,11 +6,12 @@ ghost use Rattle.sdh_node.specs.Tributaries.{HasPort};
 ghost use Rattle.sdh_node.specs.Node.{moment_of};
 
 use super::*;
+use crate::intake::h3_at;
 use sdh_circuits::{Asked, CircuitMap, End, PortId};
 use sdh_frame::{FrameBuf, Place, Rate};
 use sdh_kbytes::{Code, encode};
 use sdh_nodestate::{NodeState, Shape, same_shape, shape_of};
-use sdh_overhead::{Section, write_section};
+use sdh_overhead::{Section, read_section, write_section};
 use sdh_plant::Arrived;
 use sdh_request::{Command, Moment};
 use sdh_ringmap::{Pos, RingMap, Side};
@@ -365,4 +366,137 @@ fn a_port_delivers_what_the_other_sent(rt: HostRuntime) {
     turn(&mut second, &mut west, &mut east);
     assert!(rt; second.request(Side::West) == Code::Sf);
     assert!(rt; matches!(second.delivered(PORT_B), Delivered::Ais));
+}
+
+const PORT_A: PortId = PortId {
+    circuit: 0,
+    end: End::A,
+};
+
+// So many more slips wait at port A of the circuit. False where it isn't there, or has no room for them.
+fn slips(node: &mut Adm, turn: Turn, count: u8) -> bool
+    ensures rate { node.new.settings.rate ≡ node.old.settings.rate }
+    ensures rounds { node.new.rounds ≡ node.old.rounds }
+    ensures moment { moment_of node.new ≡ moment_of node.old }
+{
+    if !node.has(PORT_A) || count > 16 || node.waiting(PORT_A) > 16 - count {
+        return false;
+    }
+    node.slip(PORT_A, turn, count);
+    true
+}
+
+// What a node sends in a round in an AU-4: the pointer word, the three H3 bytes, and the three bytes of the payload behind them;
+// and how many slips wait at port A after it.
+type Sending = (u16, [u8; 3], [u8; 3], u8);
+
+// What the first AU-4 of a frame is, with so many slips that wait.
+fn first_au(frame: &mut FrameBuf, waiting: u8) -> Sending
+    requires { frame.old.rate ≡ Rate.Four }
+    ensures { frame.new.rate ≡ Rate.Four }
+{
+    let mut section = Section::try_new(Rate::Four);
+    read_section(&mut section, frame);
+    let word = 256 * u16::from(frame.pointer(1, 0)) + u16::from(frame.pointer(1, 3));
+    let behind = [
+        frame.get(Place { row: 4, column: 37 }),
+        frame.get(Place { row: 4, column: 41 }),
+        frame.get(Place { row: 4, column: 45 }),
+    ];
+    (word, h3_at(frame, 1), behind, waiting)
+}
+
+// A round of a node, and what it sends east. Where port A isn't there, 255 slips wait.
+fn sent_east(node: &mut Adm, west: &mut FrameBuf, east: &mut FrameBuf) -> Sending
+    requires rate { node.old.settings.rate ≡ Rate.Four }
+    requires rounds { node.old.rounds < 100 }
+    requires moment { moment_of node.old ≡ 0 }
+    requires west { west.old.rate ≡ Rate.Four }
+    requires east { east.old.rate ≡ Rate.Four }
+    ensures rate { node.new.settings.rate ≡ Rate.Four }
+    ensures rounds { node.new.rounds ≡ node.old.rounds + 1 }
+    ensures moment { moment_of node.new ≡ 0 }
+    ensures west { west.new.rate ≡ Rate.Four }
+    ensures east { east.new.rate ≡ Rate.Four }
+{
+    turn(node, west, east);
+    let waiting = if node.has(PORT_A) {
+        node.waiting(PORT_A)
+    } else {
+        255
+    };
+    first_au(east, waiting)
+}
+
+// Whether the first node, at whose port A so many slips wait, sends these words and bytes east from its fifth round on.
+fn sends(rt: &impl Abort, alloc: Global, downs: u8, ups: u8, rounds: &[Sending]) -> bool {
+    let mut first = node(rt, alloc, 0, 3);
+    let mut west = blank(rt, alloc);
+    let mut east = blank(rt, alloc);
+    if rounds.len() > 50 || downs > 16 || ups > 16 {
+        return false;
+    }
+    if !slips(&mut first, Turn::Down, downs) || !slips(&mut first, Turn::Up, ups) {
+        return false;
+    }
+    turn(&mut first, &mut west, &mut east);
+    turn(&mut first, &mut west, &mut east);
+    turn(&mut first, &mut west, &mut east);
+    if sent_east(&mut first, &mut west, &mut east) != (0x6800, ZEROS, FRONT, downs + ups) {
+        return false;
+    }
+    for i in 0..rounds.len() {
+        if sent_east(&mut first, &mut west, &mut east) != rounds[i] {
+            return false;
+        }
+    }
+    true
+}
+
+const ZEROS: [u8; 3] = [0, 0, 0];
+
+// The front of a container, with J1 first, what follows it, and the last bytes of a container.
+const FRONT: [u8; 3] = [b' ', b'A', b'L'];
+
+const NEXT: [u8; 3] = [b'P', b'H', b'A'];
+
+const LAST: [u8; 3] = [b'P', b'H', b'A'];
+
+#[test]
+fn a_port_justifies_where_its_clock_slips(rt: HostRuntime) {
+    let alloc = rt.alloc();
+    // How many slips down and up wait, and what is sent.
+    let table: [(u8, u8, &[Sending]); 4] = [
+        (0, 1, &[(0x6AAA, ZEROS, ZEROS, 0), (0x6801, ZEROS, LAST, 0)]),
+        (1, 0, &[(0x6955, FRONT, NEXT, 0), (0x6B0E, ZEROS, NEXT, 0)]),
+        // ups before downs
+        (
+            1,
+            1,
+            &[
+                (0x6AAA, ZEROS, ZEROS, 1),
+                (0x6801, ZEROS, LAST, 1),
+                (0x6801, ZEROS, LAST, 1),
+                (0x6801, ZEROS, LAST, 1),
+                (0x6954, LAST, FRONT, 0),
+                (0x6800, ZEROS, FRONT, 0),
+            ],
+        ),
+        // three rounds between two slips
+        (
+            0,
+            2,
+            &[
+                (0x6AAA, ZEROS, ZEROS, 1),
+                (0x6801, ZEROS, LAST, 1),
+                (0x6801, ZEROS, LAST, 1),
+                (0x6801, ZEROS, LAST, 1),
+                (0x6AAB, ZEROS, ZEROS, 0),
+                (0x6802, ZEROS, [b'A', b'A', b'L'], 0),
+            ],
+        ),
+    ];
+    for (downs, ups, rounds) in table {
+        assert!(rt; sends(&rt, alloc, downs, ups, rounds), "{downs} {ups}");
+    }
 }

@@ -1,7 +1,7 @@
 //! The ports at a node, each found by its circuit and its end.
 ghost use Rattle.std.specs.Prelude.{◌≡◌, ◌+◌, ◌*◌, ◌/◌, ◌^◌, ◌<◌, ◌≤◌, IfOk, IfSome, IfNone, IsTrue, IsSome, Some, None, All, length, position};
 ghost use Rattle.sdh_basics.specs.Cells.{cells};
-ghost use Rattle.sdh_node.specs.Tributaries.{tributaries_at, is_port, port_of, HasPort, outlet_of, all_fed, IsTributary};
+ghost use Rattle.sdh_node.specs.Tributaries.{tributaries_at, is_port, port_of, HasPort, outlet_of, waiting_of, with_slips, all_fed, IsTributary};
 ghost use Rattle.sdh_node.specs.Places.{number_of, port_numbered};
 ghost use Rattle.sdh_node.specs.Crossing.{half_of, all_delivered};
 
@@ -10,6 +10,7 @@ use crate::outlet::Outlet;
 use crate::tributary::{Tributary, deliver_all, feed_all, place_of, tributaries_at};
 use sdh_circuits::{CircuitMap, End, PortId};
 use sdh_interchange::Taken;
+use sdh_payload::Turn;
 use sdh_ringmap::{Pos, Side};
 use std::alloc::{AllocError, Global};
 use std::marker::Model;
@@ -90,8 +91,10 @@ impl Tributaries {
         })
     }
 
+    #[tactic(auto, using(crate::proofs::Ports::port_missing))]
     fn place(&self, id: PortId) -> Option<usize>
-        ensures { result ≡ position (is_port id) self.now }
+        ensures place { result ≡ position (is_port id) self.now }
+        ensures missing { IfNone result (port_of id self.now ≡ None) }
     {
         match self.places.get(number_of(id)) {
             Some(place) => *place,
@@ -100,7 +103,7 @@ impl Tributaries {
     }
 
     /// The port with this name, if it is at the node.
-    #[tactic(auto, using(crate::proofs::Ports::port_found, crate::proofs::Ports::port_missing, crate::proofs::Ports::place_within))]
+    #[tactic(auto, using(crate::proofs::Ports::port_found, crate::proofs::Ports::place_within))]
     pub fn find(&self, id: PortId) -> Option<&Tributary>
         ensures found { IfSome result (λ port. port_of id self.now ≡ Some port.now) }
         ensures missing { IfNone result (port_of id self.now ≡ None) }
@@ -125,10 +128,36 @@ impl Tributaries {
         port.outlet()
     }
 
-    /// Each port takes the next chunk of its stream.
+    /// How many slips wait at a port.
+    pub fn waiting(&self, id: PortId) -> u8
+        requires { HasPort self.now id }
+        ensures waiting { result ≡ waiting_of id self.now }
+        ensures few { result ≤ 16 }
+    {
+        let Some(port) = self.find(id) else {
+            unreachable!()
+        };
+        port.waiting()
+    }
+
+    /// So many more slips wait at a port.
+    #[tactic(auto, using(crate::proofs::Slips::slips_stay, crate::proofs::Slips::slips_placed, crate::proofs::Slips::waiting_here, crate::proofs::Ports::place_within))]
+    pub fn slip(&mut self, id: PortId, turn: Turn, count: u8)
+        requires there { HasPort self.old id }
+        requires few { waiting_of id self.old + count ≤ 16 }
+        ensures { self.new ≡ with_slips id turn count self.old }
+    {
+        let Some(i) = self.place(id) else {
+            unreachable!()
+        };
+        let port = &mut self.items[i];
+        port.slip(turn, count);
+    }
+
+    /// Each port takes the next bytes of its stream.
     #[tactic(auto, using(crate::proofs::Places::fed_stay))]
     pub fn feed(&mut self)
-        requires { All (λ t. t.feed.chunks < 2 ^ 32) self.old }
+        requires { All (λ t. t.feed.clock.rounds < 2 ^ 32) self.old }
         ensures { self.new ≡ all_fed self.old }
     {
         feed_all(&mut self.items);

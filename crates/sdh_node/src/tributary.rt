@@ -2,15 +2,17 @@
 ghost use Rattle.std.specs.Prelude.{◌≡◌, ℕ, ◌+◌, ◌-◌, ◌^◌, ◌<◌, ◌≤◌, [], ◌∷◌, ◌++◌, if◌then◌else◌, All, IfOk, OnOk, IfSome, length, position};
 ghost use Rattle.sdh_circuits.specs.Provisioned.{customer_at};
 ghost use Rattle.sdh_interchange.specs.Taking.{IsOf};
-ghost use Rattle.sdh_payload.specs.Stream.{chunk_of};
-ghost use Rattle.sdh_node.specs.Tributaries.{new_tributary, ends_at, tributaries_at, is_port, own_chunk, fed, all_fed, IsTributary};
+ghost use Rattle.sdh_payload.specs.Stream.{stream_from};
+ghost use Rattle.sdh_payload.specs.Clock.{waiting};
+ghost use Rattle.sdh_node.specs.Tributaries.{new_tributary, ends_at, tributaries_at, is_port, sent_by, action_of, slipped, fed, all_fed, IsTributary};
 ghost use Rattle.sdh_node.specs.Crossing.{half_of, delivered_to, all_delivered};
 
 use crate::cross::CrossConnect;
 use crate::outlet::Outlet;
 use sdh_circuits::{Circuit, CircuitMap, End, PortId, Slot, same_end};
 use sdh_interchange::Taken;
-use sdh_payload::{Cells, Feed, Port};
+use sdh_payload::{Cells, ChunkForm, Feed, Port, Turn, lay_chunk_in_place};
+use sdh_pointer::Action;
 use sdh_ringmap::{Pos, Side};
 use std::alloc::{AllocError, Global};
 use std::marker::Model;
@@ -22,8 +24,9 @@ pub struct Tributary {
     side: Side,
     slot: Slot,
     feed: Feed,
-    offset: u16,
-    chunk: Cells,
+    // The payload of its AU-4 in the last round, and the three H3 bytes.
+    payload: Cells,
+    h3: [u8; 3],
     outlet: Outlet,
 }
 
@@ -34,12 +37,12 @@ impl Model for Tributary {
 
     ghost view = { λ t. record { port = t.port; side = t.side; slot = t.slot; feed = t.feed; outlet = t.outlet } };
 
-    ghost invariant = { λ t. IsFed t.feed t.offset t.chunk };
+    ghost invariant = { λ t. IsFed t.feed t.payload t.h3 };
 }
 
-// The first chunk of a port's stream.
-fn first_chunk(alloc: Global, port: &Port) -> Result<Cells, AllocError>
-    ensures chunk { IfOk result (λ cells. cells ≡ chunk_of port.now 0) }
+// The first bytes of a port's stream.
+fn first_payload(alloc: Global, port: &Port) -> Result<Cells, AllocError>
+    ensures bytes { IfOk result (λ cells. cells ≡ stream_from port.now 0 2349) }
     ensures full { IfOk result (λ cells. length cells ≡ 2349) }
 {
     let mut cells = Cells::try_new(alloc)?;
@@ -50,7 +53,7 @@ fn first_chunk(alloc: Global, port: &Port) -> Result<Cells, AllocError>
 
 impl Tributary {
     /// A port that hasn't sent or delivered anything. All its memory is taken here.
-    #[tactic(auto, unfolding(crate::specs::Tributaries::sent_in))]
+    #[tactic(auto, unfolding(crate::specs::Tributaries::sent_by))]
     pub fn try_new(
         alloc: Global,
         port: PortId,
@@ -65,8 +68,8 @@ impl Tributary {
             side,
             slot,
             feed: Feed::new(customer),
-            offset: customer.offset(),
-            chunk: first_chunk(alloc, customer)?,
+            payload: first_payload(alloc, customer)?,
+            h3: [0, 0, 0],
             outlet: Outlet::try_new(alloc)?,
         })
     }
@@ -78,29 +81,61 @@ impl Tributary {
         self.port.circuit == id.circuit && same_end(self.port.end, id.end)
     }
 
-    /// Takes the next chunk of its stream.
-    #[tactic(auto, using(crate::proofs::Ports::chunk_after), unfolding(crate::specs::Tributaries::sent_in))]
+    /// Takes the next bytes of its stream.
     pub fn feed(&mut self)
-        requires { self.old.feed.chunks < 2 ^ 32 }
+        requires { self.old.feed.clock.rounds < 2 ^ 32 }
         ensures { self.new ≡ fed self.old }
     {
-        self.feed.next(&mut self.chunk);
+        let form = self.feed.next_form(&mut self.payload);
+        self.h3 = lay_chunk_in_place(form, &mut self.payload);
     }
 
-    /// The offset of its stream.
-    pub fn offset(&self) -> u16
-        ensures offset { result ≡ self.now.feed.port.offset }
+    /// So many more slips of its customer's clock wait.
+    pub fn slip(&mut self, turn: Turn, count: u8)
+        requires { waiting self.old.feed.clock + count ≤ 16 }
+        ensures { self.new ≡ slipped turn count self.old }
+    {
+        self.feed.wait(turn, count);
+    }
+
+    /// How many slips wait.
+    pub fn waiting(&self) -> u8
+        ensures waiting { result ≡ waiting self.now.feed.clock }
+        ensures few { result ≤ 16 }
+    {
+        self.feed.waiting()
+    }
+
+    /// What its pointer generator is asked for in the round.
+    #[tactic(auto, unfolding(crate::specs::Tributaries::sent_by))]
+    pub fn action(&self) -> Action
+        ensures { result ≡ (sent_by self.now.feed).action }
+    {
+        action_of(self.feed.form())
+    }
+
+    /// The pointer value after it.
+    #[tactic(auto, unfolding(crate::specs::Tributaries::sent_by))]
+    pub fn value(&self) -> u16
+        ensures value { result ≡ (sent_by self.now.feed).value }
         ensures small { result ≤ 782 }
     {
-        self.offset
+        self.feed.value()
     }
 
-    /// The chunk of its stream that was taken last.
-    pub fn chunk(&self) -> &[u8]
-        ensures bytes { result.now ≡ own_chunk self.now.feed }
+    /// The payload of its AU-4.
+    pub fn payload(&self) -> &[u8]
+        ensures bytes { result.now ≡ (sent_by self.now.feed).payload }
         ensures full { length result.now ≡ 2349 }
     {
-        self.chunk.as_slice()
+        self.payload.as_slice()
+    }
+
+    /// The three H3 bytes of its AU-4.
+    pub fn h3(&self) -> [u8; 3]
+        ensures { result ≡ (sent_by self.now.feed).h3 }
+    {
+        self.h3
     }
 
     /// What it delivers.
@@ -124,6 +159,17 @@ impl Tributary {
     }
 }
 
+// A port that sends fewer or more bytes justifies its pointer.
+fn action_of(form: ChunkForm) -> Action
+    ensures { result ≡ action_of form }
+{
+    match form {
+        ChunkForm::Plain => Action::Normal,
+        ChunkForm::Short => Action::Up,
+        ChunkForm::Long => Action::Down,
+    }
+}
+
 /// The place of a port among those of a node.
 pub fn place_of(ports: &[Tributary], id: PortId) -> Option<usize>
     ensures place { result ≡ position (is_port id) ports.now }
@@ -132,9 +178,9 @@ pub fn place_of(ports: &[Tributary], id: PortId) -> Option<usize>
     ports.iter().position(|port| port.is(id))
 }
 
-/// Each port takes the next chunk of its stream.
+/// Each port takes the next bytes of its stream.
 pub fn feed_all(ports: &mut Vec<Tributary>)
-    requires { All (λ t. t.feed.chunks < 2 ^ 32) ports.old.items }
+    requires { All (λ t. t.feed.clock.rounds < 2 ^ 32) ports.old.items }
     ensures { ports.new.items ≡ all_fed ports.old.items }
 {
     for i in 0..ports.len() {

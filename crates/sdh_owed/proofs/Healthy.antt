@@ -1,15 +1,15 @@
 -- A script of settle steps alone shows a healthy ring.
-use Rattle.std.proofs.Common.{◌≡◌, ◌⊎◌, ℕ, suc, ◌+◌, ◌-◌, ◌*◌, ◌≤◌, None, Some, List, [], ◌∷◌, length, refl, ap, sym, ◌∙◌, subst, arith, inl, inr}
+use Rattle.std.proofs.Common.{◌≡◌, ◌⊎◌, ℕ, suc, ◌+◌, ◌*◌, ◌≤◌, None, Some, List, [], ◌∷◌, length, refl, ap, sym, ◌∙◌, subst, arith, inl, inr}
 use Rattle.std.specs.Prelude.{Option}
 use Rattle.std.proofs.lemmas.Bool.{cases_lt}
 use Rattle.sdh_circuits.specs.Provisioning.{Provisioning}
-use Rattle.sdh_restoration.specs.Due.{nothing_applied}
+use Rattle.sdh_restoration.specs.Due.{nothing_applied, due, other_end}
 use Rattle.sdh_plant.specs.Fibres.{Fibres}
 use Rattle.sdh_plant.specs.Arrivals.{Knows}
 use Rattle.sdh_plant.proofs.Calling.{stay_honest}
 use Rattle.sdh_node.specs.declared.settings.Settings.{Settings}
-use Rattle.sdh_payload.specs.Outlet.{Outlet}
 use Rattle.sdh_world.specs.Held.{outlet_at}
+use Rattle.sdh_world.specs.Clocks.{clocks_by}
 use Rattle.sdh_world.specs.Rounds.{World}
 use Rattle.sdh_world.specs.Runs.{run}
 use Rattle.sdh_world.specs.Quiet.{settles_in}
@@ -90,11 +90,11 @@ module _ (settle : HealthyStepsSettle) (deliver : HealthyStepsDeliver) (s : Sett
       let after = after_stretches (healthy_steps steps) from in
       let there : w ≡ after = is ∙ sym (steps_are.left steps (omega arith)) in
       let number : w.ring.rounds ≡ 128 * steps + 1 = ap (λ (v : World). v.ring.rounds) there ∙ steps_are.number steps (omega arith) in
-      let ports = subst (λ (v : World). ports_from v.ring 0 circuits.circuits ≡ owed_ports (length ids) nothing_applied (128 * steps) circuits.circuits) (sym there)
-      (ports_are after.ring (length ids) nothing_applied (128 * steps) 0 circuits.circuits (λ k c get e. (
-      let one : 0 + k ≡ k = omega arith in
-      let at = λ (i : ℕ). let x : Outlet = outlet_at after.ring (record { circuit = i; end = e }) in x in
-      ap at one ∙ deliver s ids circuits f may form steps k c (omega arith) get e))) in
+      let clocks = clocks_by circuits.circuits [] in
+      let ports = subst (λ (v : World). ports_from v.ring 0 circuits.circuits ≡ owed_ports (length ids) nothing_applied clocks (128 * steps) 0 circuits.circuits) (sym there)
+      (ports_are after.ring (length ids) nothing_applied clocks (128 * steps) 0 circuits.circuits (λ k c get e. (
+      let one : k ≡ 0 + k = omega arith in
+      subst (λ i. outlet_at after.ring (record { circuit = i; end = e }) ≡ due (length ids) nothing_applied c e (clocks (record { circuit = i; end = other_end e })) (128 * steps)) one (deliver s ids circuits f may form steps k c (omega arith) get e)))) in
       let same : w.ring.circuits.circuits ≡ circuits.circuits = ap (λ (v : World). v.ring.circuits.circuits) there ∙ ap (λ (l : Layout). l.circuits) (layout_stretches (healthy_steps steps) from) in
       (refl, omega (arith, number), ap (ports_from w.ring 0) same ∙ ports, more)
 
@@ -108,6 +108,7 @@ module _ (settle : HealthyStepsSettle) (deliver : HealthyStepsDeliver) (s : Sett
   walk before m (step.Fibre e ∷ later) w reports end left all is reached some x = absurd all
   walk before m (step.Order p d c ∷ later) w reports end left all is reached some x = absurd all
   walk before m (step.Hold p turns ∷ later) w reports end left all is reached some x = absurd all
+  walk before m (step.Slip port turn count ∷ later) w reports end left all is reached some x = absurd all
   walk before m (step.Moment t ∷ later) w reports end left all is reached some x = absurd all
   walk before m (step.Settle ∷ later) w reports end left all is reached some (inl x) =
       let mid = x.0 in

@@ -8,7 +8,7 @@ use Rattle.std.proofs.lemmas.List.{take-append-le, length-append}
 use Rattle.sdh_plant.specs.Fibres.{Arrival, Fibres}
 use Rattle.sdh_plant.specs.Arrivals.{Knows}
 use Rattle.sdh_node.specs.Node.{Node}
-use Rattle.sdh_world.specs.Held.{HeldRing, at_place}
+use Rattle.sdh_world.specs.Held.{HeldRing, at_place, place_of_port}
 use Rattle.sdh_world.specs.Rounds.{World, arrivals_of, frames_with, nodes_with, round_with, round}
 use Rattle.sdh_world.specs.Runs.{run, arrivals_in, run_with, course}
 use Rattle.sdh_world.specs.Quiet.{SettlesAt, NeverSettles, BreaksOff, settles_in}
@@ -72,6 +72,7 @@ none_sent limit before n frames [] w some low = refl
 none_sent limit before n frames (step.Fibre e ∷ later) w some low = none_sent limit before n frames later (after_step (step.Fibre e) w) some low
 none_sent limit before n frames (step.Order p d c ∷ later) w some low = none_sent limit before n frames later (after_step (step.Order p d c) w) some low
 none_sent limit before n frames (step.Hold p turns ∷ later) w some low = none_sent limit before n frames later (after_step (step.Hold p turns) w) some low
+none_sent limit before n frames (step.Slip port turn count ∷ later) w some low = none_sent limit before n frames later (after_step (step.Slip port turn count) w) some low
 none_sent limit before n frames (step.Moment m ∷ later) w some low = none_sent limit before n frames later (after_step (step.Moment m) w) some low
 none_sent limit before n frames (step.Settle ∷ later) w some low = by_count (settles_in w limit) refl (λ k. none_sent limit (before + 1) n frames later (run k w))
   where
@@ -296,6 +297,10 @@ known limit before (step.Hold p turns ∷ later) w reports end left knows some s
     let v = after_step (step.Hold p turns) w in
     carried (script limit before later v) (length w.ring.ids) (2 * length w.ring.ids * w.ring.rounds) v w reports end left refl
     (known limit before later v reports end left knows some (length-placed _ p.0 w.ring.nodes ∙ size) x)
+known limit before (step.Slip port turn count ∷ later) w reports end left knows some size x =
+    let v = after_step (step.Slip port turn count) w in
+    carried (script limit before later v) (length w.ring.ids) (2 * length w.ring.ids * w.ring.rounds) v w reports end left refl
+    (known limit before later v reports end left knows some (length-placed _ (place_of_port w.ring port) w.ring.nodes ∙ size) x)
 known limit before (step.Moment m ∷ later) w reports end left knows some size x =
     let v = after_step (step.Moment m) w in
     carried (script limit before later v) (length w.ring.ids) (2 * length w.ring.ids * w.ring.rounds) v w reports end left refl (known limit before later v reports end left knows some size x)

@@ -1,3 +1,4 @@
+pub mod Standing
 pub mod Ports
 pub mod History
 pub mod Known

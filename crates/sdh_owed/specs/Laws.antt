@@ -27,13 +27,13 @@ KnownScripts = (limit before : ℕ) (steps : List Step) (w : World) (reports : L
 -- from a new ring over new honest fibres, each report shows what is owed under the requests of the script's history
 abbrev pub ReportsAreOwed : Type 0
 ReportsAreOwed = (s : Settings) (ids : List ℕ) (circuits : Provisioning) (f : Fibres) → (let l = layout_in (new_ring s ids circuits) in
-    MayStart s ids f → HasCircuits l → (limit : ℕ) (past : Past) (steps : List Step) → AreSteps s.rate (length ids) past steps
+    MayStart s ids f → HasCircuits l → (limit : ℕ) (past : Past) (steps : List Step) → AreSteps s.rate (length ids) (length circuits.circuits) past steps
     → (reports : List Report) (end : Status) (left : World) → Runs limit 0 steps (new_world s ids circuits f) reports end left → AreOwed l [] [] 0 steps reports end)
 
 -- from there no settle step with so large a limit is unsettled
 abbrev pub ScriptsSettle : Type 0
 ScriptsSettle = (s : Settings) (ids : List ℕ) (circuits : Provisioning) (f : Fibres) → (let l = layout_in (new_ring s ids circuits) in
-    MayStart s ids f → HasCircuits l → (limit : ℕ) (past : Past) (steps : List Step) → AreSteps s.rate (length ids) past steps → enough_for (length ids) ≤ limit
+    MayStart s ids f → HasCircuits l → (limit : ℕ) (past : Past) (steps : List Step) → AreSteps s.rate (length ids) (length circuits.circuits) past steps → enough_for (length ids) ≤ limit
     → (reports : List Report) (end : Status) (left : World) → Runs limit 0 steps (new_world s ids circuits f) reports end left → IsSettled end)
 
 -- and a script of settle steps alone shows a healthy ring

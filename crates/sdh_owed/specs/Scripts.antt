@@ -31,6 +31,7 @@ Runs limit before [] w reports end left = (left ≡ w) × Stops status.Ok report
 Runs limit before (step.Fibre e ∷ later) w reports end left = Runs limit before later (after_step (step.Fibre e) w) reports end left ⊎ Refuses w reports end left
 Runs limit before (step.Order p d c ∷ later) w reports end left = Runs limit before later (after_step (step.Order p d c) w) reports end left
 Runs limit before (step.Hold p turns ∷ later) w reports end left = Runs limit before later (after_step (step.Hold p turns) w) reports end left
+Runs limit before (step.Slip port turn count ∷ later) w reports end left = Runs limit before later (after_step (step.Slip port turn count) w) reports end left
 Runs limit before (step.Moment m ∷ later) w reports end left = Runs limit before later (after_step (step.Moment m) w) reports end left
 Runs limit before (step.Settle ∷ later) w reports end left =
     ((mid : World) × (rest : List Report) × Settles w limit mid × (reports ≡ report_of (before + 1) mid.ring ∷ rest) × Runs limit (before + 1) later mid rest end left)
@@ -63,6 +64,7 @@ script limit before [] w = ran_none w
 script limit before (step.Fibre e ∷ later) w = script limit before later (after_step (step.Fibre e) w)
 script limit before (step.Order p d c ∷ later) w = script limit before later (after_step (step.Order p d c) w)
 script limit before (step.Hold p turns ∷ later) w = script limit before later (after_step (step.Hold p turns) w)
+script limit before (step.Slip port turn count ∷ later) w = script limit before later (after_step (step.Slip port turn count) w)
 script limit before (step.Moment m ∷ later) w = script limit before later (after_step (step.Moment m) w)
 script limit before (step.Settle ∷ later) w =
     option_map_or (λ k. ran_settled k (before + 1) w (script limit (before + 1) later (run k w))) (settles_in w limit) (ran_unsettled limit (before + 1) w)

@@ -12,6 +12,7 @@ changes_of (step.Fibre e) = change.Fibre e.at.0 e.side e.condition ∷ []
 changes_of (step.Order p d command) = change.Order p.0 d command ∷ []
 changes_of (step.Moment now) = change.Now now.0 ∷ []
 changes_of (step.Hold p turns) = change.Hold p.0 turns ∷ []
+changes_of (step.Slip port turn count) = change.Slip port turn count ∷ []
 changes_of step.Settle = []
 
 abbrev pub after_step : Step → World → World

@@ -21,7 +21,6 @@ pub fn reports_are_owed()
 pub fn scripts_settle()
     ensures { ScriptsSettle }
 {
-    sdh_carrying::settled_rings_restore();
     sdh_converging::stretches_converge();
 }
 

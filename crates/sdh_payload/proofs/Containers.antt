@@ -7,7 +7,7 @@ use Rattle.sdh_basics.specs.Cells.{cells}
 use Rattle.sdh_basics.proofs.CellsLaws.{cells-zero, cells-more, cells-append, cells-same, length-cells}
 use Rattle.sdh_basics.proofs.ParityLaws.{bip8-push, bip8-append}
 use Rattle.sdh_payload.specs.Customer.{Customer}
-use Rattle.sdh_payload.specs.Stream.{padded, path_overhead, text_place, byte_at, vc4_byte, vc4_front, b3_of, container_byte, start_of, stream_byte, chunk_of}
+use Rattle.sdh_payload.specs.Stream.{padded, path_overhead, text_place, byte_at, vc4_byte, vc4_front, b3_of, container_byte, start_of, stream_byte, stream_from}
 use Rattle.sdh_payload.specs.Walk.{text_before, containers_from, repeated_from}
 
 pub padded_inside : (trace : List ℕ) (i : ℕ) → i < length trace → get_or trace i 0 ≡ get_or (padded trace) i 0
@@ -92,9 +92,9 @@ pub parity_push : (f : ℕ → ℕ) (i parity byte : ℕ) → parity ≡ bip8 (c
 parity_push f i parity byte was is small =
     ap (λ p. bit_xor p byte) was ∙ sym (bip8-push (cells f i) byte small) ∙ ap (λ b. bip8 (cells f i ++ b ∷ [])) is ∙ ap bip8 (sym (cells-more f i))
 
--- what a walk gives is a chunk of the stream
-pub chunk_of-containers : (port : Customer) (j at : ℕ) → at ≡ 2349 * j + start_of port.offset → containers_from port at 2349 ≡ chunk_of port j
-unfolding containers_from chunk_of stream_byte
-chunk_of-containers port j at h =
-    cells-same (λ k. container_byte port (at + k)) (λ k. stream_byte port (2349 * j + k)) 2349 0
-    (λ k lt. let e : at + k ≡ 2349 * j + k + start_of port.offset = omega (arith, h) in ap (container_byte port) e)
+-- what a walk gives is the stream
+pub stream_from-containers : (port : Customer) (p at n : ℕ) → at ≡ p + start_of port.offset → containers_from port at n ≡ stream_from port p n
+unfolding containers_from stream_from stream_byte
+stream_from-containers port p at n h =
+    cells-same (λ k. container_byte port (at + k)) (λ k. stream_byte port (p + k)) n 0
+    (λ k lt. let e : at + k ≡ p + k + start_of port.offset = omega (arith, h) in ap (container_byte port) e)

@@ -4,3 +4,4 @@ pub mod Containers
 pub mod Walking
 pub mod Chunks
 pub mod Splicing
+pub mod Clocking

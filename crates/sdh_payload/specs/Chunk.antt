@@ -1,5 +1,5 @@
--- What a port takes from an AU-4 that arrived (pointer justification: ITU-T G.707 clause 8.1).
-use Rattle.std.specs.Prelude.{ℕ, List, [], ◌++◌, take, drop}
+-- What a port takes from an AU-4 that arrived, and how it fills one of its own (pointer justification: ITU-T G.707 clause 8.1).
+use Rattle.std.specs.Prelude.{ℕ, List, [], ◌∷◌, ◌++◌, take, drop}
 use Rattle.sdh_payload.specs.declared.chunk.ChunkForm.{ChunkForm}
 use Rattle.sdh_payload.specs.declared.chunk.ChunkForm.TheVariants.{Plain, Short, Long}
 
@@ -19,3 +19,16 @@ abbrev pub taken_len : ChunkForm → ℕ
 taken_len Plain = 2349
 taken_len Short = 2346
 taken_len Long = 2352
+
+-- the payload of an AU-4 in which a port sends these bytes: at a positive justification with three zeros before index 783, and at a
+-- negative one without the three bytes from there on
+abbrev pub laid : ChunkForm → List ℕ → List ℕ
+laid Plain bytes = bytes
+laid Short bytes = around 783 (0 ∷ 0 ∷ 0 ∷ []) 783 bytes
+laid Long bytes = around 783 [] 786 bytes
+
+-- and its H3 bytes, which carry those at a negative justification
+abbrev pub laid_h3 : ChunkForm → List ℕ → List ℕ
+laid_h3 Plain bytes = 0 ∷ 0 ∷ 0 ∷ []
+laid_h3 Short bytes = 0 ∷ 0 ∷ 0 ∷ []
+laid_h3 Long bytes = take 3 (drop 783 bytes)

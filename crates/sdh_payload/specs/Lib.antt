@@ -3,6 +3,7 @@ pub mod Port
 pub mod Chunk
 pub mod Stream
 pub mod Walk
+pub mod Clock
 pub mod Feed
 pub mod Laws
 pub mod Room

@@ -53,6 +53,10 @@ start_of offset = (2349 - phase_of offset) % 2349
 unfoldable pub stream_byte : Customer → ℕ → ℕ
 stream_byte port p = container_byte port (p + start_of port.offset)
 
--- chunk j of the stream: what is sent in one frame
-unfoldable pub chunk_of : Customer → ℕ → List ℕ
-chunk_of port j = cells (λ k. stream_byte port (2349 * j + k)) 2349
+-- n bytes of the stream from byte p on
+unfoldable pub stream_from : Customer → ℕ → ℕ → List ℕ
+stream_from port p n = cells (λ k. stream_byte port (p + k)) n
+
+-- chunk j of the stream: what is sent in one frame where the clock never slipped
+abbrev pub chunk_of : Customer → ℕ → List ℕ
+chunk_of port j = stream_from port (2349 * j) 2349

@@ -1,6 +1,6 @@
-//! What a port takes from an AU-4 that arrived.
+//! What a port takes from an AU-4 that arrived, and how it fills one of its own.
 ghost use Rattle.std.specs.Prelude.{◌≡◌, length};
-ghost use Rattle.sdh_payload.specs.Chunk.{taken, taken_len};
+ghost use Rattle.sdh_payload.specs.Chunk.{taken, taken_len, laid, laid_h3};
 
 use crate::cells::Cells;
 
@@ -40,5 +40,28 @@ pub fn take_chunk_in_place(h3: &[u8], form: ChunkForm, out: &mut Cells)
         ChunkForm::Plain => {}
         ChunkForm::Short => out.splice(783, 786, &[]),
         ChunkForm::Long => out.splice(783, 783, h3),
+    }
+}
+
+/// How a port fills an AU-4 with the bytes of a round: the payload takes their place, and the three H3 bytes are answered. The bytes
+/// at the stuffing place of a positive justification are zeros, and so is H3 but at a negative one. It takes no memory.
+pub fn lay_chunk_in_place(form: ChunkForm, out: &mut Cells) -> [u8; 3]
+    requires { length out.old ≡ taken_len form }
+    ensures payload { out.new ≡ laid form out.old }
+    ensures h3 { result ≡ laid_h3 form out.old }
+    ensures full { length out.new ≡ 2349 }
+{
+    match form {
+        ChunkForm::Plain => [0, 0, 0],
+        ChunkForm::Short => {
+            out.splice(783, 783, &[0, 0, 0]);
+            [0, 0, 0]
+        }
+        ChunkForm::Long => {
+            let bytes = out.as_slice();
+            let h3 = [bytes[783], bytes[784], bytes[785]];
+            out.splice(783, 786, &[]);
+            h3
+        }
     }
 }

@@ -1,51 +1,112 @@
-//! What a customer sends, chunk by chunk.
-ghost use Rattle.std.specs.Prelude.{◌≡◌, ◌+◌, ◌^◌, ◌<◌, length};
-ghost use Rattle.sdh_payload.specs.Stream.{chunk_of};
+//! What a customer sends, round by round.
+ghost use Rattle.std.specs.Prelude.{◌≡◌, ◌+◌, ◌^◌, ◌<◌, ◌≤◌, length};
+ghost use Rattle.sdh_payload.specs.Chunk.{taken_len};
+ghost use Rattle.sdh_payload.specs.Clock.{waiting, waits, next_form};
+ghost use Rattle.sdh_payload.specs.Feed.{new_feed, next_feed};
+ghost use Rattle.sdh_payload.specs.Stream.{stream_from};
 
 use crate::cells::Cells;
+use crate::chunk::ChunkForm;
+use crate::clock::{Clock, Turn};
 use crate::port::Port;
 use crate::walk::Walk;
 use std::marker::Model;
 
-/// The stream of a port, a chunk of 2349 bytes in each frame. It keeps a copy of the port and takes
-/// no memory.
+/// The stream of a port, of which each round sends 2349 bytes, or three fewer or more where the port's clock slips. It keeps a
+/// copy of the port and takes no memory.
 #[derive(Debug, Drop)]
 pub struct Feed {
     walk: Walk,
-    chunks: u64,
+    clock: Clock,
 }
 
 impl Model for Feed {
-    ghost use Rattle.std.specs.Prelude.{◌≡◌, ◌+◌, ◌*◌};
-    ghost use Rattle.sdh_payload.specs.Feed.{Fed};
-    ghost use Rattle.sdh_payload.specs.Stream.{start_of};
+    ghost use Rattle.sdh_payload.specs.Feed.{Fed, IsFeed};
 
     ghost Value = { Fed };
 
-    ghost view = { λ f. record { port = f.walk.port; chunks = f.chunks } };
+    ghost view = { λ f. record { port = f.walk.port; clock = f.clock } };
 
-    ghost invariant = { λ f. f.walk.at ≡ 2349 * f.chunks + start_of f.walk.port.offset };
+    ghost invariant = { λ f. IsFeed (record { port = f.walk.port; clock = f.clock }) f.walk.at };
 }
 
 impl Feed {
-    /// At the start of the port's stream.
+    /// At the start of the port's stream, before round 0.
     pub fn new(port: &Port) -> Feed
-        ensures { result ≡ record { port = port.now; chunks = 0 } }
+        ensures { result ≡ new_feed port.now }
     {
         Feed {
             walk: Walk::new(port),
-            chunks: 0,
+            clock: Clock::new(port.offset()),
         }
     }
 
-    /// The next chunk of the stream. What `out` held before is dropped.
-    pub fn next(&mut self, out: &mut Cells)
-        requires { self.old.chunks < 2 ^ 32 }
-        ensures chunk { out.new ≡ chunk_of self.old.port self.old.chunks }
-        ensures full { length out.new ≡ 2349 }
-        ensures next { self.new ≡ record self.old { chunks = self.old.chunks + 1 } }
+    /// The bytes that the port sends in the next round, in place of what `out` held: 2346 where it justifies upwards, 2352 where
+    /// downwards, and otherwise 2349. One slip is used up where one waits and the clock may slip: in none of the first four rounds,
+    /// and in none of three behind a slip; ups before downs.
+    pub fn next_form(&mut self, out: &mut Cells) -> ChunkForm
+        requires { self.old.clock.rounds < 2 ^ 32 }
+        ensures form { result ≡ next_form self.old.clock }
+        ensures chunk { out.new ≡ stream_from self.old.port self.old.clock.sent (taken_len result) }
+        ensures count { length out.new ≡ taken_len result }
+        ensures next { self.new ≡ next_feed self.old }
     {
-        self.walk.fill(out);
-        self.chunks += 1;
+        let form = self.clock.tick();
+        self.walk.fill(taken_len(form), out);
+        form
+    }
+
+    /// The 2349 bytes that the port sends in the next round, where no slip waits. What `out` held before is dropped.
+    pub fn next(&mut self, out: &mut Cells)
+        requires few { self.old.clock.rounds < 2 ^ 32 }
+        requires plain { waiting self.old.clock ≡ 0 }
+        ensures chunk { out.new ≡ stream_from self.old.port self.old.clock.sent 2349 }
+        ensures full { length out.new ≡ 2349 }
+        ensures next { self.new ≡ next_feed self.old }
+    {
+        self.next_form(out);
+    }
+
+    /// So many more slips wait.
+    pub fn wait(&mut self, turn: Turn, count: u8)
+        requires { waiting self.old.clock + count ≤ 16 }
+        ensures { self.new ≡ record self.old { clock = waits turn count self.old.clock } }
+    {
+        self.clock.wait(turn, count);
+    }
+
+    /// The pointer value before the next round.
+    pub fn value(&self) -> u16
+        ensures value { result ≡ self.now.clock.value }
+        ensures small { result ≤ 782 }
+    {
+        self.clock.value()
+    }
+
+    /// What was sent in the last round, and `Plain` before the first.
+    pub fn form(&self) -> ChunkForm
+        ensures { result ≡ self.now.clock.form }
+    {
+        self.clock.form()
+    }
+
+    /// How many slips wait.
+    pub fn waiting(&self) -> u8
+        ensures waiting { result ≡ waiting self.now.clock }
+        ensures few { result ≤ 16 }
+    {
+        self.clock.waiting()
+    }
+}
+
+// How many bytes are sent in this form.
+fn taken_len(form: ChunkForm) -> usize
+    ensures len { result ≡ taken_len form }
+    ensures small { result ≤ 2352 }
+{
+    match form {
+        ChunkForm::Plain => 2349,
+        ChunkForm::Short => 2346,
+        ChunkForm::Long => 2352,
     }
 }

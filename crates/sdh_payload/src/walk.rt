@@ -194,16 +194,17 @@ impl Walk {
         count
     }
 
-    /// Puts the next bytes, as many as a VC-4 has, in place of what `out` held.
-    pub fn fill(&mut self, out: &mut Cells)
-        requires { self.old.at < 2 ^ 59 }
-        ensures bytes { out.new ≡ containers_from self.old.port self.old.at 2349 }
-        ensures next { self.new ≡ record self.old { at = self.old.at + 2349 } }
+    /// Puts the next `count` bytes in place of what `out` held.
+    pub fn fill(&mut self, count: usize, out: &mut Cells)
+        requires room { count ≤ 2352 }
+        requires few { self.old.at < 2 ^ 59 }
+        ensures bytes { out.new ≡ containers_from self.old.port self.old.at count }
+        ensures next { self.new ≡ record self.old { at = self.old.at + count } }
     {
         out.clear();
         let mut done = 0;
-        while done < VC4_LEN {
-            done += self.put_some(VC4_LEN - done, out);
+        while done < count {
+            done += self.put_some(count - done, out);
         }
     }
 }

@@ -1,5 +1,5 @@
 -- Checks one after the other.
-use Rattle.std.proofs.Common.{◌≡◌, ℕ, List, [], ◌∷◌, ◌++◌, Bool, true, false, cond, Option, Some, None, Result, Ok, Err, refl, ap, sym, ◌∙◌}
+use Rattle.std.proofs.Common.{◌≡◌, ℕ, List, [], ◌∷◌, ◌++◌, Bool, true, false, cond, Option, Some, None, Ok, Err, refl, ap, sym, ◌∙◌}
 use Rattle.sdh_plan.specs.declared.error.PlanError.{PlanError}
 use Rattle.sdh_plan.specs.declared.error.PlanError.TheVariants as error
 use Rattle.sdh_plan.specs.Refusals.{IsRefused}
@@ -39,25 +39,13 @@ second_fails faults more x y f z reason e h =
     let parts : (first_fault faults ≡ None) × (y ≡ x) = passes (first_fault faults) x y e in
     sym (ap (λ r. unless r z) (fault_behind faults (more x) parts.0 ∙ ap (λ v. first_fault (more v)) (sym parts.1) ∙ refuses (first_fault (more y)) (f y) reason h))
 
-pair_up : {X Y : Type 0} (x y : X) (z w : Y) → y ≡ x → z ≡ w → ◌≡◌ {A = Result (X × Y) ℕ} (Ok (y, z)) (Ok (x, w))
-pair_up x y z w e h = cc
-
--- a pair that is read
-pub passes_pair : {X Y : Type 0} (r : Option ℕ) (x y : X) (z w : Y) → ◌≡◌ {A = Result (X × Y) ℕ} (Ok (y, w)) (unless r (x, z)) → (r ≡ None) × (y ≡ x) × (w ≡ z)
-passes_pair {X = X} {Y = Y} r x y z w e =
-    let pair : X × Y = (x, z) in
-    let told : X × Y = (y, w) in
-    let parts : (r ≡ None) × (told ≡ pair) = passes r pair told e in
-    (parts.0, ap (λ p. p.0) parts.1, ap (λ p. p.1) parts.1)
-
 pub both_pass : {X Y : Type 0} (faults : List Fault) (more : X → List Fault) (x y : X) (f : X → Y) (made : Y)
-    → Ok y ≡ unless (first_fault faults) x → Ok made ≡ unless (first_fault (more y)) (f y) → ◌≡◌ {A = Result (X × Y) ℕ} (Ok (y, made)) (unless (first_fault (faults ++ more x)) (x, f x))
-both_pass {X = X} {Y = Y} faults more x y f made e h =
+    → Ok y ≡ unless (first_fault faults) x → Ok made ≡ unless (first_fault (more y)) (f y) → Ok y ≡ unless (first_fault (faults ++ more x)) x
+both_pass faults more x y f made e h =
     let parts : (first_fault faults ≡ None) × (y ≡ x) = passes (first_fault faults) x y e in
     let later : (first_fault (more y) ≡ None) × (made ≡ f y) = passes (first_fault (more y)) (f y) made h in
     let none : first_fault (faults ++ more x) ≡ None = fault_behind faults (more x) parts.0 ∙ ap (λ v. first_fault (more v)) (sym parts.1) ∙ later.0 in
-    let same : made ≡ f x = later.1 ∙ ap f parts.1 in
-    pair_up x y made (f x) parts.1 same ∙ sym (let reading : Option ℕ → Result (X × Y) ℕ = λ r. unless r (x, f x) in ap reading none)
+    ap Ok parts.1 ∙ sym (ap (λ r. unless r x) none)
 
 -- the checks of one place, and those behind them
 pub place_passes : (place : ℕ) (faults : List Fault) (more : List Check) → first_fault faults ≡ None → answer (at_place place faults ++ more) ≡ answer more

@@ -1,6 +1,8 @@
 -- What is true of steps that pass the checks.
-use Rattle.std.proofs.Common.{◌≡◌, ℕ, ◌+◌, ◌*◌, ◌<◌, ◌≤◌, List, [], ◌∷◌, ◌++◌, map, length, Bool, true, false, ◌==◌, ◌&&◌, ◌||◌, not, cond, nat_le, Option, Some, None, is_none, unwrap_or, position, codes, refl, ap, sym, subst, ◌∙◌, arith}
+use Rattle.std.proofs.Common.{◌≡◌, ℕ, ◌+◌, ◌*◌, ◌<◌, ◌≤◌, List, [], ◌∷◌, ◌++◌, map, length, Bool, true, false, ◌==◌, ◌&&◌, ◌||◌, not, cond, nat_le, nat_lt, Option, Some, None, is_none, unwrap_or, position, codes, refl, ap, sym, subst, ◌∙◌, arith}
 use Rattle.std.specs.Option.{option_and_then, option_map, option_map_or}
+use Rattle.std.specs.List.{position_or_len}
+use Rattle.std.specs.Str.{bytes_eq}
 use Rattle.std.proofs.lemmas.Bool.Decides.{nat_tests}
 use Rattle.std.proofs.lemmas.List.Quantifiers.{position-Some}
 use Rattle.toml.specs.Data.{Data, Members}
@@ -8,6 +10,7 @@ use Rattle.sdh_ringmap.specs.declared.Pos.{Pos}
 use Rattle.sdh_ringmap.specs.Places.{found_at}
 use Rattle.sdh_frame.specs.declared.Rate.{Rate}
 use Rattle.sdh_frame.specs.Sizes.{n_of}
+use Rattle.sdh_circuits.specs.Provisioned.{Provisioned}
 use Rattle.sdh_plan.specs.declared.step.Step.{Step}
 use Rattle.sdh_plan.specs.declared.step.Step.TheVariants as step
 use Rattle.sdh_plan.specs.Verbs as verb
@@ -16,8 +19,8 @@ use Rattle.sdh_plan.specs.Document.{text_of, elements_in, is_array_of, is_text}
 use Rattle.sdh_plan.specs.Plans.{whole, last_check, texts_checks, is_script_length, script_checks}
 use Rattle.sdh_plan.specs.Words.{words, numeral_in, is_number, decimal_from}
 use Rattle.sdh_plan.specs.Verbs.{Verb, verb_of, Part, node, side, number, parts_of}
-use Rattle.sdh_plan.specs.Steps.{Past, node_at, side_at, part_faults, place_of, number_of, word_at, verb_faults, verb_step, form_faults, form_step, step_of, step_faults, steps_checks, past_faults, after, start, ends_settled}
-use Rattle.sdh_plan.specs.Scripts.{IsStepIn, AreSteps}
+use Rattle.sdh_plan.specs.Steps.{Past, node_at, side_at, part_faults, place_of, number_of, word_at, verb_faults, verb_step, form_faults, form_step, step_of, step_faults, steps_checks, circuit_named, end_at, turn_at, port_named, past_faults, after, start, ends_settled}
+use Rattle.sdh_plan.specs.Scripts.{IsStepIn, HasRoom, AreSteps}
 use Rattle.sdh_plan.proofs.Forms.{mismatch}
 
 later_none : (b : Bool) (reason : ℕ) (r : Option ℕ) → cond b (Some reason) r ≡ None → r ≡ None
@@ -118,48 +121,87 @@ hold_within nodes (a ∷ (b ∷ [])) e =
     (node_there nodes a _ _ e, bounds.0, bounds.1)
 hold_within nodes (a ∷ (b ∷ (c ∷ ws))) e = absurd (too_many_none nodes (node ∷ number 1 100 ∷ []) (a ∷ (b ∷ (c ∷ ws))) (omega arith) e)
 
-verb_within : (rate : Rate) (nodes : List ℕ) (v : Verb) (others : List (List ℕ)) → first_fault (part_faults nodes (parts_of (n_of rate) v) others) ≡ None → IsStepIn rate (length nodes) (verb_step (n_of rate) nodes v others)
-verb_within rate nodes verb.Cut others e = (place_within nodes others e, tt)
-verb_within rate nodes verb.Mend others e = (place_within nodes others e, tt)
-verb_within rate nodes verb.Degrade others e =
+-- a circuit that is named is one of them
+circuit_within : (circuits : List Provisioned) (word : List ℕ) (k : ℕ) → circuit_named circuits word ≡ Some k → k < length circuits
+unfolding circuit_named
+circuit_within circuits word k e = within (position_or_len (λ c. bytes_eq c.name word) circuits) e
+  where
+    within : (at : ℕ) → cond (nat_lt at (length circuits)) (Some at) None ≡ Some k → k < length circuits
+    within at h = grind (arith, nat_tests)
+
+circuit_there : (circuits : List Provisioned) (word : List ℕ) (rest : Bool) (r : Option ℕ) → cond (is_none (circuit_named circuits word) || rest) (Some 30) r ≡ None → unwrap_or (circuit_named circuits word) 0 < length circuits
+circuit_there circuits word rest r e = named (circuit_named circuits word) (circuit_within circuits word) e
+  where
+    named : (o : Option ℕ) → ((k : ℕ) → o ≡ Some k → k < length circuits) → cond (is_none o || rest) (Some 30) r ≡ None → unwrap_or o 0 < length circuits
+    named None h e' = cc
+    named (Some k) h e' = h k refl
+
+slip_within : (nodes : List ℕ) (circuits : List Provisioned) (others : List (List ℕ)) → first_fault (part_faults nodes (verb.circuit circuits ∷ verb.end ∷ verb.turn ∷ number 1 16 ∷ []) others) ≡ None
+    → ((port_named circuits others).circuit < length circuits) × (1 ≤ number_of 1 16 (word_at others 3)) × (number_of 1 16 (word_at others 3) ≤ 16)
+unfolding part_faults
+slip_within nodes circuits [] e = cc
+slip_within nodes circuits (a ∷ []) e = cc
+slip_within nodes circuits (a ∷ (b ∷ [])) e = cc
+slip_within nodes circuits (a ∷ (b ∷ (c ∷ []))) e = cc
+slip_within nodes circuits (a ∷ (b ∷ (c ∷ (d ∷ [])))) e =
+    let counted : Option ℕ = cond (is_none (numeral_in 1 16 d) || false) (Some 26) None in
+    let turned : Option ℕ = cond (is_none (turn_at c) || (false || false)) (Some 25) counted in
+    let bounds : (1 ≤ unwrap_or (numeral_in 1 16 d) 0) × (unwrap_or (numeral_in 1 16 d) 0 ≤ 16) =
+    number_there 1 16 d false None (later_none (is_none (turn_at c) || (false || false)) 25 counted
+    (later_none (is_none (circuit_named circuits a) || (is_none (end_at b) || (false || (false || false)))) 30 turned e)) in
+    (circuit_there circuits a _ _ e, bounds.0, bounds.1)
+slip_within nodes circuits (a ∷ (b ∷ (c ∷ (d ∷ (f ∷ ws))))) e =
+    absurd (too_many_none nodes (verb.circuit circuits ∷ verb.end ∷ verb.turn ∷ number 1 16 ∷ []) (a ∷ (b ∷ (c ∷ (d ∷ (f ∷ ws))))) (omega arith) e)
+
+verb_within : (rate : Rate) (nodes : List ℕ) (circuits : List Provisioned) (v : Verb) (others : List (List ℕ)) → first_fault (part_faults nodes (parts_of (n_of rate) circuits v) others) ≡ None → IsStepIn rate (length nodes) (length circuits) (verb_step (n_of rate) nodes circuits v others)
+verb_within rate nodes circuits verb.Cut others e = (place_within nodes others e, tt)
+verb_within rate nodes circuits verb.Mend others e = (place_within nodes others e, tt)
+verb_within rate nodes circuits verb.Degrade others e =
     let bounds : ((place_of nodes others).0 < length nodes) × (1 ≤ number_of 1 (3 * n_of rate) (word_at others 2)) × (number_of 1 (3 * n_of rate) (word_at others 2) ≤ 3 * n_of rate) = degree_within (3 * n_of rate) nodes others e in
     (bounds.0, (bounds.1, bounds.2))
-verb_within rate nodes verb.Forced others e = place_within nodes others e
-verb_within rate nodes verb.Manual others e = place_within nodes others e
-verb_within rate nodes verb.Clear others e = place_within nodes others e
-verb_within rate nodes verb.Moment others e = moment_within 1000000000 nodes others e
-verb_within rate nodes verb.Settle others e = tt
-verb_within rate nodes verb.Hold others e = hold_within nodes others e
+verb_within rate nodes circuits verb.Forced others e = place_within nodes others e
+verb_within rate nodes circuits verb.Manual others e = place_within nodes others e
+verb_within rate nodes circuits verb.Clear others e = place_within nodes others e
+verb_within rate nodes circuits verb.Moment others e = moment_within 1000000000 nodes others e
+verb_within rate nodes circuits verb.Settle others e = tt
+verb_within rate nodes circuits verb.Hold others e = hold_within nodes others e
+verb_within rate nodes circuits verb.Slip others e = slip_within nodes circuits others e
 
-option_within : (rate : Rate) (nodes : List ℕ) (o : Option Verb) (others : List (List ℕ)) → first_fault (verb_faults (n_of rate) nodes o others) ≡ None → IsStepIn rate (length nodes) (option_map_or (λ v. verb_step (n_of rate) nodes v others) o step.Settle)
-option_within rate nodes None others e = cc
-option_within rate nodes (Some v) others e = verb_within rate nodes v others e
+option_within : (rate : Rate) (nodes : List ℕ) (circuits : List Provisioned) (o : Option Verb) (others : List (List ℕ)) → first_fault (verb_faults (n_of rate) nodes circuits o others) ≡ None → IsStepIn rate (length nodes) (length circuits) (option_map_or (λ v. verb_step (n_of rate) nodes circuits v others) o step.Settle)
+option_within rate nodes circuits None others e = cc
+option_within rate nodes circuits (Some v) others e = verb_within rate nodes circuits v others e
 
-form_within : (rate : Rate) (nodes : List ℕ) (ws : List (List ℕ)) → first_fault (form_faults (n_of rate) nodes ws) ≡ None → IsStepIn rate (length nodes) (form_step (n_of rate) nodes ws)
+form_within : (rate : Rate) (nodes : List ℕ) (circuits : List Provisioned) (ws : List (List ℕ)) → first_fault (form_faults (n_of rate) nodes circuits ws) ≡ None → IsStepIn rate (length nodes) (length circuits) (form_step (n_of rate) nodes circuits ws)
 unfolding form_faults form_step
-form_within rate nodes [] e = cc
-form_within rate nodes (first ∷ others) e = option_within rate nodes (verb_of first) others (later_none _ _ _ e)
+form_within rate nodes circuits [] e = cc
+form_within rate nodes circuits (first ∷ others) e = option_within rate nodes circuits (verb_of first) others (later_none _ _ _ e)
 
 -- what a step leads to where the checks against the steps before pass
-past_within : (past : Past) (s : Step) → past.settles ≤ 64 → first_fault (past_faults past s) ≡ None → (past.moment ≤ (after past s).moment) × ((after past s).settles ≤ 64)
-unfolding past_faults
-past_within past (step.Fibre event) h e = (omega arith, h)
-past_within past (step.Order at on c) h e = (omega arith, h)
-past_within past (step.Moment m) h e = (grind (arith, nat_tests), h)
-past_within past (step.Hold at turns) h e = (omega arith, h)
-past_within past step.Settle h e = (omega arith, grind (arith, nat_tests))
+record Leads (past : Past) (s : Step) : Type 0 where
+  pub forward : past.moment ≤ (after past s).moment
+  pub few_settles : (after past s).settles ≤ 64
+  pub few_slips : HasRoom past.slips s
 
-pub steps_within : (rate : Rate) (nodes : List ℕ) (past : Past) (place : ℕ) (ds : List Data) → past.settles ≤ 64 → answer (steps_checks (n_of rate) nodes past place ds) ≡ None
-    → AreSteps rate (length nodes) past (map (λ d. step_of (n_of rate) nodes (text_of d)) ds)
-steps_within rate nodes past place [] h e = tt
-steps_within rate nodes past place (d ∷ ds) h e =
-    let s : Step = step_of (n_of rate) nodes (text_of d) in
-    let parts : (first_fault (step_faults (n_of rate) nodes past (text_of d)) ≡ None) × (answer (steps_checks (n_of rate) nodes (after past s) (place + 1) ds) ≡ None) =
-    place_none place (step_faults (n_of rate) nodes past (text_of d)) (steps_checks (n_of rate) nodes (after past s) (place + 1) ds) e in
-    let form : (first_fault (form_faults (n_of rate) nodes (words (text_of d))) ≡ None) × (first_fault (past_faults past s) ≡ None) =
-    both_none (form_faults (n_of rate) nodes (words (text_of d))) (past_faults past s) parts.0 in
-    let leads : (past.moment ≤ (after past s).moment) × ((after past s).settles ≤ 64) = past_within past s h form.1 in
-    (record { in_ring = form_within rate nodes (words (text_of d)) form.0; forward = leads.0; few_settles = leads.1 }, steps_within rate nodes (after past s) (place + 1) ds leads.1 parts.1)
+past_within : (past : Past) (s : Step) → past.settles ≤ 64 → first_fault (past_faults past s) ≡ None → Leads past s
+unfolding past_faults
+past_within past (step.Fibre event) h e = record { forward = omega arith; few_settles = h; few_slips = tt }
+past_within past (step.Order at on c) h e = record { forward = omega arith; few_settles = h; few_slips = tt }
+past_within past (step.Moment m) h e = record { forward = grind (arith, nat_tests); few_settles = h; few_slips = tt }
+past_within past (step.Hold at turns) h e = record { forward = omega arith; few_settles = h; few_slips = tt }
+past_within past (step.Slip port turn count) h e = record { forward = omega arith; few_settles = h; few_slips = grind (arith, nat_tests) }
+past_within past step.Settle h e = record { forward = omega arith; few_settles = grind (arith, nat_tests); few_slips = tt }
+
+pub steps_within : (rate : Rate) (nodes : List ℕ) (circuits : List Provisioned) (past : Past) (place : ℕ) (ds : List Data) → past.settles ≤ 64 → answer (steps_checks (n_of rate) nodes circuits past place ds) ≡ None
+    → AreSteps rate (length nodes) (length circuits) past (map (λ d. step_of (n_of rate) nodes circuits (text_of d)) ds)
+steps_within rate nodes circuits past place [] h e = tt
+steps_within rate nodes circuits past place (d ∷ ds) h e =
+    let s : Step = step_of (n_of rate) nodes circuits (text_of d) in
+    let parts : (first_fault (step_faults (n_of rate) nodes circuits past (text_of d)) ≡ None) × (answer (steps_checks (n_of rate) nodes circuits (after past s) (place + 1) ds) ≡ None) =
+    place_none place (step_faults (n_of rate) nodes circuits past (text_of d)) (steps_checks (n_of rate) nodes circuits (after past s) (place + 1) ds) e in
+    let form : (first_fault (form_faults (n_of rate) nodes circuits (words (text_of d))) ≡ None) × (first_fault (past_faults past s) ≡ None) =
+    both_none (form_faults (n_of rate) nodes circuits (words (text_of d))) (past_faults past s) parts.0 in
+    let leads : Leads past s = past_within past s h form.1 in
+    (record { in_ring = form_within rate nodes circuits (words (text_of d)) form.0; forward = leads.forward; few_settles = leads.few_settles; few_slips = leads.few_slips }, steps_within rate nodes circuits (after past s) (place + 1) ds leads.few_settles parts.1)
 
 -- checks in two parts that all pass
 answers_none : (checks more : List Check) → answer (checks ++ more) ≡ None → (answer checks ≡ None) × (answer more ≡ None)
@@ -179,17 +221,17 @@ turned : (b : Bool) → not b ≡ false → b ≡ true
 turned true e = refl
 turned false e = cc
 
-pub script_fits : (ms : Members) (rate : Rate) (nodes : List ℕ) (n : ℕ) (steps : List Step) → n ≡ n_of rate → answer (script_checks n nodes ms) ≡ None
-    → steps ≡ map (λ d. step_of n nodes (text_of d)) (elements_in (codes "script") ms) → AreSteps rate (length nodes) start steps × (ends_settled steps ≡ true)
+pub script_fits : (ms : Members) (rate : Rate) (nodes : List ℕ) (circuits : List Provisioned) (n : ℕ) (steps : List Step) → n ≡ n_of rate → answer (script_checks n nodes circuits ms) ≡ None
+    → steps ≡ map (λ d. step_of n nodes circuits (text_of d)) (elements_in (codes "script") ms) → AreSteps rate (length nodes) (length circuits) start steps × (ends_settled steps ≡ true)
 unfolding script_checks
-script_fits ms rate nodes n steps h e made =
+script_fits ms rate nodes circuits n steps h e made =
     let ds : List Data = elements_in (codes "script") ms in
-    let first : (not (is_array_of is_text (codes "script") ms) ≡ false) × (answer (whole 21 (not (is_script_length (length ds))) ∷ texts_checks n nodes ds) ≡ None) = check_none _ _ _ e in
-    let second : (not (is_script_length (length ds)) ≡ false) × (answer (texts_checks n nodes ds) ≡ None) = check_none _ _ _ first.1 in
-    let parts : (answer (steps_checks n nodes start 1 ds) ≡ None) × (answer (last_check (map (λ d. step_of n nodes (text_of d)) ds) ∷ []) ≡ None) =
-    answers_none (steps_checks n nodes start 1 ds) (last_check (map (λ d. step_of n nodes (text_of d)) ds) ∷ []) second.1 in
-    let last : not (ends_settled (map (λ d. step_of n nodes (text_of d)) ds)) ≡ false = (check_none _ _ None parts.1).0 in
-    let fit : AreSteps rate (length nodes) start (map (λ d. step_of (n_of rate) nodes (text_of d)) ds) =
-    steps_within rate nodes start 1 ds (omega arith) (ap (λ k. answer (steps_checks k nodes start 1 ds)) (sym h) ∙ parts.0) in
-    let same : steps ≡ map (λ d. step_of (n_of rate) nodes (text_of d)) ds = made ∙ ap (λ k. map (λ d. step_of k nodes (text_of d)) ds) h in
-    (subst (λ (l : List Step). AreSteps rate (length nodes) start l) (sym same) fit, ap ends_settled made ∙ turned _ last)
+    let first : (not (is_array_of is_text (codes "script") ms) ≡ false) × (answer (whole 21 (not (is_script_length (length ds))) ∷ texts_checks n nodes circuits ds) ≡ None) = check_none _ _ _ e in
+    let second : (not (is_script_length (length ds)) ≡ false) × (answer (texts_checks n nodes circuits ds) ≡ None) = check_none _ _ _ first.1 in
+    let parts : (answer (steps_checks n nodes circuits start 1 ds) ≡ None) × (answer (last_check (map (λ d. step_of n nodes circuits (text_of d)) ds) ∷ []) ≡ None) =
+    answers_none (steps_checks n nodes circuits start 1 ds) (last_check (map (λ d. step_of n nodes circuits (text_of d)) ds) ∷ []) second.1 in
+    let last : not (ends_settled (map (λ d. step_of n nodes circuits (text_of d)) ds)) ≡ false = (check_none _ _ None parts.1).0 in
+    let fit : AreSteps rate (length nodes) (length circuits) start (map (λ d. step_of (n_of rate) nodes circuits (text_of d)) ds) =
+    steps_within rate nodes circuits start 1 ds (omega arith) (ap (λ k. answer (steps_checks k nodes circuits start 1 ds)) (sym h) ∙ parts.0) in
+    let same : steps ≡ map (λ d. step_of (n_of rate) nodes circuits (text_of d)) ds = made ∙ ap (λ k. map (λ d. step_of k nodes circuits (text_of d)) ds) h in
+    (subst (λ (l : List Step). AreSteps rate (length nodes) (length circuits) start l) (sym same) fit, ap ends_settled made ∙ turned _ last)

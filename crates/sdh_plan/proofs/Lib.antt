@@ -2,6 +2,7 @@ pub mod Decimals
 pub mod Cutting
 pub mod Forms
 pub mod Checking
+pub mod Slipping
 pub mod Scripts
 pub mod Elements
 pub mod Refusing

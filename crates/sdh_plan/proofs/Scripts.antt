@@ -3,81 +3,83 @@ use Rattle.std.proofs.Common.{◌≡◌, ℕ, ◌+◌, ◌<◌, ◌≤◌, List,
 use Rattle.std.proofs.lemmas.List.{drop_more, drop_all, take_more, take_all, map-append, length-map}
 use Rattle.toml.specs.declared.value.Value.{Value}
 use Rattle.toml.specs.View.{view}
+use Rattle.sdh_circuits.specs.Provisioned.{Provisioned}
 use Rattle.sdh_plan.specs.declared.step.Step.{Step}
 use Rattle.sdh_plan.specs.Document.{text_of}
 use Rattle.sdh_plan.specs.Check.{answer, first_fault, unless}
 use Rattle.sdh_plan.specs.Steps.{Past, step_of, step_faults, steps_checks, start, after, ends_settled}
 use Rattle.sdh_plan.specs.Plans.{texts_checks, last_check}
-use Rattle.sdh_plan.proofs.Checking.{answer_behind, passes_pair, refuses, place_passes, place_fails}
+use Rattle.sdh_plan.proofs.Checking.{answer_behind, passes, refuses, place_passes, place_fails}
 
-module _ (n : ℕ) (nodes : List ℕ) (values : List Value) where
+module _ (n : ℕ) (nodes : List ℕ) (circuits : List Provisioned) (values : List Value) where
   abbrev text_in : Value → List ℕ
   text_in v = text_of (view v)
 
   abbrev step_in : Value → Step
-  step_in v = step_of n nodes (text_in v)
+  step_in v = step_of n nodes circuits (text_in v)
 
   -- the checks before the i-th value pass, and the steps that they give are these
   pub record Read (past : Past) (steps : List Step) (i : ℕ) : Type 0 where
-    pub checks : answer (steps_checks n nodes start 1 (map view values)) ≡ answer (steps_checks n nodes past (i + 1) (map view (drop i values)))
+    pub checks : answer (steps_checks n nodes circuits start 1 (map view values)) ≡ answer (steps_checks n nodes circuits past (i + 1) (map view (drop i values)))
     pub made : steps ≡ map step_in (take i values)
 
   pub read_none : Read start [] 0
   read_none = record { checks = refl; made = refl }
 
-  here : (past : Past) (i : ℕ) (v : Value) → i < length values → v ≡ get_or values i v → answer (steps_checks n nodes past (i + 1) (map view (drop i values))) ≡ answer (steps_checks n nodes past (i + 1) (view v ∷ map view (drop (i + 1) values)))
+  here : (past : Past) (i : ℕ) (v : Value) → i < length values → v ≡ get_or values i v → answer (steps_checks n nodes circuits past (i + 1) (map view (drop i values))) ≡ answer (steps_checks n nodes circuits past (i + 1) (view v ∷ map view (drop (i + 1) values)))
   here past i v h e =
-      ap (λ l. answer (steps_checks n nodes past (i + 1) (map view l))) (drop_more values i v h)
-      ∙ ap (λ w. answer (steps_checks n nodes past (i + 1) (view w ∷ map view (drop (i + 1) values)))) (sym e)
+      ap (λ l. answer (steps_checks n nodes circuits past (i + 1) (map view l))) (drop_more values i v h)
+      ∙ ap (λ w. answer (steps_checks n nodes circuits past (i + 1) (view w ∷ map view (drop (i + 1) values)))) (sym e)
 
   -- what is told of the text
-  abbrev pub Tells : Past → List ℕ → Result (Step × Past) ℕ → Type 0
-  Tells past text told = told ≡ unless (first_fault (step_faults n nodes past text)) (step_of n nodes text, after past (step_of n nodes text))
+  abbrev pub Tells : Past → List ℕ → Result Step ℕ → Type 0
+  Tells past text told = told ≡ unless (first_fault (step_faults n nodes circuits past text)) (step_of n nodes circuits text)
 
   pub read_next : (past next : Past) (steps more : List Step) (step : Step) (i : ℕ) (v : Value) (text : List ℕ) → Read past steps i → i < length values → v ≡ get_or values i v → text ≡ text_in v → more ≡ steps ++ step ∷ []
-      → Tells past text (Ok (step, next)) → Read next more (i + 1)
-  read_next past next steps more step i v text before h e is pushed told =
-      let parts : (first_fault (step_faults n nodes past (text_in v)) ≡ None) × (step ≡ step_in v) × (next ≡ after past (step_in v)) =
-      passes_pair _ _ _ _ _ (subst (λ (t : List ℕ). Tells past t (Ok (step, next))) is told) in
+      → Tells past text (Ok step) → next ≡ after past (step_of n nodes circuits text) → Read next more (i + 1)
+  read_next past next steps more step i v text before h e is pushed told goes =
+      let parts : (first_fault (step_faults n nodes circuits past (text_in v)) ≡ None) × (step ≡ step_in v) =
+      passes _ _ _ (subst (λ (t : List ℕ). Tells past t (Ok step)) is told) in
+      let led : next ≡ after past (step_in v) = goes ∙ ap (λ t. after past (step_of n nodes circuits t)) is in
       record {
-        checks = before.checks ∙ here past i v h e ∙ place_passes (i + 1) (step_faults n nodes past (text_in v)) (steps_checks n nodes (after past (step_in v)) (i + 1 + 1) (map view (drop (i + 1) values))) parts.0
-            ∙ ap (λ p. answer (steps_checks n nodes p (i + 1 + 1) (map view (drop (i + 1) values)))) (sym parts.2);
+        checks = before.checks ∙ here past i v h e ∙ place_passes (i + 1) (step_faults n nodes circuits past (text_in v)) (steps_checks n nodes circuits (after past (step_in v)) (i + 1 + 1) (map view (drop (i + 1) values))) parts.0
+            ∙ ap (λ p. answer (steps_checks n nodes circuits p (i + 1 + 1) (map view (drop (i + 1) values)))) (sym led);
         made = pushed ∙ ap (λ l. l ++ step ∷ []) before.made ∙ ap (λ s. map step_in (take i values) ++ s ∷ []) (parts.1 ∙ ap step_in e)
             ∙ sym (map-append step_in (take i values) (get_or values i v ∷ [])) ∙ ap (map step_in) (sym (take_more values i v h));
       }
 
   pub read_fails : (past : Past) (steps : List Step) (i : ℕ) (v : Value) (text : List ℕ) (reason : ℕ) → Read past steps i → i < length values → v ≡ get_or values i v → text ≡ text_in v
-      → Tells past text (Err reason) → answer (steps_checks n nodes start 1 (map view values)) ≡ Some (record { reason = reason; place = i + 1 })
+      → Tells past text (Err reason) → answer (steps_checks n nodes circuits start 1 (map view values)) ≡ Some (record { reason = reason; place = i + 1 })
   read_fails past steps i v text reason before h e is told =
-      before.checks ∙ here past i v h e ∙ place_fails (i + 1) (step_faults n nodes past (text_in v)) (steps_checks n nodes (after past (step_in v)) (i + 1 + 1) (map view (drop (i + 1) values))) reason
+      before.checks ∙ here past i v h e ∙ place_fails (i + 1) (step_faults n nodes circuits past (text_in v)) (steps_checks n nodes circuits (after past (step_in v)) (i + 1 + 1) (map view (drop (i + 1) values))) reason
       (refuses _ _ _ (subst (λ (t : List ℕ). Tells past t (Err reason)) is told))
 
-  pub read_all : (past : Past) (steps : List Step) (i : ℕ) → Read past steps i → length values ≤ i → answer (steps_checks n nodes start 1 (map view values)) ≡ None
-  read_all past steps i before h = before.checks ∙ ap (λ l. answer (steps_checks n nodes past (i + 1) (map view l))) (drop_all i values h)
+  pub read_all : (past : Past) (steps : List Step) (i : ℕ) → Read past steps i → length values ≤ i → answer (steps_checks n nodes circuits start 1 (map view values)) ≡ None
+  read_all past steps i before h = before.checks ∙ ap (λ l. answer (steps_checks n nodes circuits past (i + 1) (map view l))) (drop_all i values h)
 
-  maps : (vs : List Value) → map step_in vs ≡ map (λ d. step_of n nodes (text_of d)) (map view vs)
+  maps : (vs : List Value) → map step_in vs ≡ map (λ d. step_of n nodes circuits (text_of d)) (map view vs)
   maps [] = refl
   maps (v ∷ vs) = ap (λ l. step_in v ∷ l) (maps vs)
 
-  pub read_steps : (past : Past) (steps : List Step) (i : ℕ) → Read past steps i → length values ≤ i → steps ≡ map (λ d. step_of n nodes (text_of d)) (map view values)
+  pub read_steps : (past : Past) (steps : List Step) (i : ℕ) → Read past steps i → length values ≤ i → steps ≡ map (λ d. step_of n nodes circuits (text_of d)) (map view values)
   read_steps past steps i before h = before.made ∙ ap (map step_in) (take_all i values h) ∙ maps values
 
-  pub counted : (steps : List Step) → steps ≡ map (λ d. step_of n nodes (text_of d)) (map view values) → length steps ≡ length values
-  counted steps e = ap length e ∙ length-map (map view values) (λ d. step_of n nodes (text_of d)) ∙ length-map values view
+  pub counted : (steps : List Step) → steps ≡ map (λ d. step_of n nodes circuits (text_of d)) (map view values) → length steps ≡ length values
+  counted steps e = ap length e ∙ length-map (map view values) (λ d. step_of n nodes circuits (text_of d)) ∙ length-map values view
 
-  last_checked : (steps : List Step) → answer (steps_checks n nodes start 1 (map view values)) ≡ None → steps ≡ map (λ d. step_of n nodes (text_of d)) (map view values)
-      → answer (texts_checks n nodes (map view values)) ≡ answer (last_check steps ∷ [])
+  last_checked : (steps : List Step) → answer (steps_checks n nodes circuits start 1 (map view values)) ≡ None → steps ≡ map (λ d. step_of n nodes circuits (text_of d)) (map view values)
+      → answer (texts_checks n nodes circuits (map view values)) ≡ answer (last_check steps ∷ [])
   last_checked steps passed e =
-      answer_behind (steps_checks n nodes start 1 (map view values)) (last_check (map (λ d. step_of n nodes (text_of d)) (map view values)) ∷ []) passed
+      answer_behind (steps_checks n nodes circuits start 1 (map view values)) (last_check (map (λ d. step_of n nodes circuits (text_of d)) (map view values)) ∷ []) passed
       ∙ ap (λ l. answer (last_check l ∷ [])) (sym e)
 
-  pub last_fails : (steps : List Step) → answer (steps_checks n nodes start 1 (map view values)) ≡ None → steps ≡ map (λ d. step_of n nodes (text_of d)) (map view values) → ends_settled steps ≡ false
-      → answer (texts_checks n nodes (map view values)) ≡ Some (record { reason = 29; place = length values })
+  pub last_fails : (steps : List Step) → answer (steps_checks n nodes circuits start 1 (map view values)) ≡ None → steps ≡ map (λ d. step_of n nodes circuits (text_of d)) (map view values) → ends_settled steps ≡ false
+      → answer (texts_checks n nodes circuits (map view values)) ≡ Some (record { reason = 29; place = length values })
   last_fails steps passed e fails =
       last_checked steps passed e
       ∙ ap (λ b. cond (not b) (Some (record { reason = 29; place = length steps })) None) fails
       ∙ ap (λ k. Some (record { reason = 29; place = k })) (counted steps e)
 
-  pub last_passes : (steps : List Step) → answer (steps_checks n nodes start 1 (map view values)) ≡ None → steps ≡ map (λ d. step_of n nodes (text_of d)) (map view values) → ends_settled steps ≡ true
-      → answer (texts_checks n nodes (map view values)) ≡ None
+  pub last_passes : (steps : List Step) → answer (steps_checks n nodes circuits start 1 (map view values)) ≡ None → steps ≡ map (λ d. step_of n nodes circuits (text_of d)) (map view values) → ends_settled steps ≡ true
+      → answer (texts_checks n nodes circuits (map view values)) ≡ None
   last_passes steps passed e settled = last_checked steps passed e ∙ ap (λ b. cond (not b) (Some (record { reason = 29; place = length steps })) None) settled

@@ -2,6 +2,7 @@ pub mod Check
 pub mod Words
 pub mod Document
 pub mod Verbs
+pub mod Counted
 pub mod Steps
 pub mod Scripts
 pub mod Reasons

@@ -41,5 +41,5 @@ pub record IsPlanned (plan : Planned) : Type 0 where
   pub circuits_fit : IsProvisioning (provisioning_of plan)
   pub steps_from_1 : 1 ≤ length plan.steps
   pub steps_few : length plan.steps ≤ 1000
-  pub steps_fit : AreSteps plan.settings.rate (length plan.nodes) start plan.steps
+  pub steps_fit : AreSteps plan.settings.rate (length plan.nodes) (length plan.circuits) start plan.steps
   pub last_settles : ends_settled plan.steps ≡ true

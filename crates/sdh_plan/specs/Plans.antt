@@ -7,6 +7,7 @@ use Rattle.sdh_frame.specs.declared.Rate.{Rate}
 use Rattle.sdh_frame.specs.declared.Rate.TheVariants.{Four, Sixteen}
 use Rattle.sdh_frame.specs.Sizes.{n_of}
 use Rattle.sdh_ringmap.specs.Numbering.{is_ring_size, first_unfit, first_repeat, magnitude}
+use Rattle.sdh_circuits.specs.Provisioned.{Provisioned}
 use Rattle.sdh_plan.specs.declared.step.Step.{Step}
 use Rattle.sdh_plan.specs.Check.{Check}
 use Rattle.sdh_plan.specs.Document.{◌>>=◌, has_only, number_at, elements_in, is_array_of, is_integer, is_text, is_table, integer_of, text_of}
@@ -47,8 +48,12 @@ wait_at ms = number_at (codes "wait") 0 1000000 ms
 abbrev pub limit_at : Members → Option ℕ
 limit_at ms = number_at (codes "limit") 1 65536 ms
 
+-- the circuits that tables ask for, in a ring of these nodes
+abbrev pub circuits_in : List ℕ → Members → List Provisioned
+circuits_in nodes ms = map (λ d. circuit_in nodes (members_of d)) (elements_in (codes "circuit") ms)
+
 abbrev pub steps_in : Members → List Step
-steps_in ms = map (λ d. step_of (n_in ms) (nodes_in ms) (text_of d)) (elements_in (codes "script") ms)
+steps_in ms = map (λ d. step_of (n_in ms) (nodes_in ms) (circuits_in (nodes_in ms) ms) (text_of d)) (elements_in (codes "script") ms)
 
 -- a check of the document
 abbrev pub whole : ℕ → Bool → Check
@@ -92,24 +97,24 @@ provision_checks n nodes ms =
 abbrev pub last_check : List Step → Check
 last_check steps = record { reason = reason.last_step; place = length steps; fails = not (ends_settled steps) }
 
--- the checks of the texts of a script, in a ring of these nodes at STM-n
-abbrev pub texts_checks : ℕ → List ℕ → List Data → List Check
-texts_checks n nodes ds = steps_checks n nodes start 1 ds ++ last_check (map (λ d. step_of n nodes (text_of d)) ds) ∷ []
+-- the checks of the texts of a script, in a ring of these nodes and circuits at STM-n
+abbrev pub texts_checks : ℕ → List ℕ → List Provisioned → List Data → List Check
+texts_checks n nodes circuits ds = steps_checks n nodes circuits start 1 ds ++ last_check (map (λ d. step_of n nodes circuits (text_of d)) ds) ∷ []
 
 -- a script has 1 to 1,000 steps
 abbrev pub is_script_length : ℕ → Bool
 is_script_length k = nat_le 1 k && nat_le k 1000
 
--- the checks of the script, in a ring of these nodes at STM-n
-unfoldable pub script_checks : ℕ → List ℕ → Members → List Check
-script_checks n nodes ms =
+-- the checks of the script, in a ring of these nodes and circuits at STM-n
+unfoldable pub script_checks : ℕ → List ℕ → List Provisioned → Members → List Check
+script_checks n nodes circuits ms =
     whole reason.script (not (is_array_of is_text (codes "script") ms))
     ∷ whole reason.script_length (not (is_script_length (length (elements_in (codes "script") ms))))
-    ∷ texts_checks n nodes (elements_in (codes "script") ms)
+    ∷ texts_checks n nodes circuits (elements_in (codes "script") ms)
 
 -- all checks of a document, in their order
 unfoldable pub checks : Members → List Check
-checks ms = ring_checks ms ++ (settings_checks (n_in ms) ms ++ (provision_checks (n_in ms) (nodes_in ms) ms ++ script_checks (n_in ms) (nodes_in ms) ms))
+checks ms = ring_checks ms ++ (settings_checks (n_in ms) ms ++ (provision_checks (n_in ms) (nodes_in ms) ms ++ script_checks (n_in ms) (nodes_in ms) (circuits_in (nodes_in ms) ms) ms))
 
 -- the plan that the keys and words give
 unfoldable pub plan_of : Members → Planned
@@ -117,6 +122,6 @@ plan_of ms = record {
   settings = record { rate = rate_in ms; threshold = unwrap_or (threshold_at (n_in ms) ms) 0; wait = unwrap_or (wait_at ms) 0 };
   limit = unwrap_or (limit_at ms) 0;
   nodes = nodes_in ms;
-  circuits = map (λ d. circuit_in (nodes_in ms) (members_of d)) (elements_in (codes "circuit") ms);
+  circuits = circuits_in (nodes_in ms) ms;
   steps = steps_in ms;
 }

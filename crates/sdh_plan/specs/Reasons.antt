@@ -116,3 +116,11 @@ settles = 28
 -- the last step runs no rounds
 abbrev pub last_step : ℕ
 last_step = 29
+
+-- a word isn't the name of a circuit, or isn't an end of one
+abbrev pub slip_port : ℕ
+slip_port = 30
+
+-- a port is given more than 16 slips between two settle steps
+abbrev pub slips : ℕ
+slips = 31

@@ -1,5 +1,5 @@
 -- The steps of a script: their forms, their checks and what each does. All this is this project's own.
-use Rattle.std.specs.Prelude.{ℕ, ◌+◌, ◌-◌, ◌*◌, Bool, true, false, ◌==◌, ◌&&◌, ◌||◌, not, nat_le, nat_lt, if◌then◌else◌, List, [], ◌∷◌, ◌++◌, length, codes, Option, Some, None, is_none, unwrap_or, slice_index_or, slice_get}
+use Rattle.std.specs.Prelude.{ℕ, ◌+◌, ◌-◌, ◌*◌, Bool, true, false, ◌==◌, ◌&&◌, ◌||◌, not, nat_le, nat_lt, if◌then◌else◌, List, [], ◌∷◌, ◌++◌, length, codes, Option, Some, None, is_none, unwrap_or, slice_index_or, slice_get, position}
 use Rattle.std.specs.List.{list_any}
 use Rattle.std.specs.Str.{bytes_eq}
 use Rattle.std.specs.Option.{option_and_then, option_map_or}
@@ -11,6 +11,12 @@ use Rattle.sdh_plant.specs.declared.plant.Condition.{Condition}
 use Rattle.sdh_plant.specs.declared.plant.Condition.TheVariants as condition
 use Rattle.sdh_request.specs.declared.Command.{Command}
 use Rattle.sdh_request.specs.declared.Command.TheVariants as command
+use Rattle.sdh_circuits.specs.declared.PortId.{PortId}
+use Rattle.sdh_circuits.specs.declared.End.{End}
+use Rattle.sdh_circuits.specs.declared.End.TheVariants.{A, B}
+use Rattle.sdh_circuits.specs.Provisioned.{Provisioned, same_port}
+use Rattle.sdh_payload.specs.declared.clock.Turn.{Turn}
+use Rattle.sdh_payload.specs.declared.clock.Turn.TheVariants.{Up, Down}
 use Rattle.sdh_plan.specs.declared.step.Step.{Step}
 use Rattle.sdh_plan.specs.declared.step.Step.TheVariants as step
 use Rattle.sdh_plan.specs.Verbs.{Verb, verb_of, Part, node, side, number, parts_of}
@@ -29,23 +35,53 @@ node_at nodes word = option_and_then (found_at nodes) (numeral_in 0 15 word)
 abbrev pub side_at : List ℕ → Option Side
 side_at word = if bytes_eq word (codes "west") then Some West else if bytes_eq word (codes "east") then Some East else None
 
+-- the circuit whose name the word is, counted from 0
+unfoldable pub circuit_named : List Provisioned → List ℕ → Option ℕ
+circuit_named circuits word = position (λ c. bytes_eq c.name word) circuits
+
+-- the end of a circuit that the word names
+abbrev pub end_at : List ℕ → Option End
+end_at word = if bytes_eq word (codes "a") then Some A else if bytes_eq word (codes "b") then Some B else None
+
+-- the turn of a clock that the word names
+abbrev pub turn_at : List ℕ → Option Turn
+turn_at word = if bytes_eq word (codes "up") then Some Up else if bytes_eq word (codes "down") then Some Down else None
+
 -- the word is to be a node of the ring and is none
 abbrev pub no_node : List ℕ → Part → List ℕ → Bool
 no_node nodes node word = is_none (node_at nodes word)
 no_node nodes side word = false
 no_node nodes (number low high) word = false
+no_node nodes (verb.circuit circuits) word = false
+no_node nodes verb.end word = false
+no_node nodes verb.turn word = false
 
--- the word is to be a side and is none
+-- the word is to name a circuit or an end of one, and names none
+abbrev pub no_port : Part → List ℕ → Bool
+no_port node word = false
+no_port side word = false
+no_port (number low high) word = false
+no_port (verb.circuit circuits) word = is_none (circuit_named circuits word)
+no_port verb.end word = is_none (end_at word)
+no_port verb.turn word = false
+
+-- the word is to be a side or a turn and is none
 abbrev pub no_side : Part → List ℕ → Bool
 no_side node word = false
 no_side side word = is_none (side_at word)
 no_side (number low high) word = false
+no_side (verb.circuit circuits) word = false
+no_side verb.end word = false
+no_side verb.turn word = is_none (turn_at word)
 
 -- the word is to be a number in a range and is none
 abbrev pub no_number : Part → List ℕ → Bool
 no_number node word = false
 no_number side word = false
 no_number (number low high) word = is_none (numeral_in low high word)
+no_number (verb.circuit circuits) word = false
+no_number verb.end word = false
+no_number verb.turn word = false
 
 -- one of the words isn't what it is to be
 abbrev pub any_amiss : (Part → List ℕ → Bool) → List Part → List (List ℕ) → Bool
@@ -57,14 +93,15 @@ unfoldable pub part_faults : List ℕ → List Part → List (List ℕ) → List
 part_faults nodes parts others =
     (reason.step_form, not (length others == length parts))
     ∷ (reason.step_node, any_amiss (no_node nodes) parts others)
+    ∷ (reason.slip_port, any_amiss no_port parts others)
     ∷ (reason.step_side, any_amiss no_side parts others)
     ∷ (reason.step_number, any_amiss no_number parts others)
     ∷ []
 
 -- the checks behind the first word, which is to be listed
-abbrev pub verb_faults : ℕ → List ℕ → Option Verb → List (List ℕ) → List Fault
-verb_faults n nodes None others = (reason.step_word, true) ∷ []
-verb_faults n nodes (Some v) others = (reason.step_word, false) ∷ part_faults nodes (parts_of n v) others
+abbrev pub verb_faults : ℕ → List ℕ → List Provisioned → Option Verb → List (List ℕ) → List Fault
+verb_faults n nodes circuits None others = (reason.step_word, true) ∷ []
+verb_faults n nodes circuits (Some v) others = (reason.step_word, false) ∷ part_faults nodes (parts_of n circuits v) others
 
 -- the word at a place behind the first, counted from 0; no bytes where there is none
 abbrev pub word_at : List (List ℕ) → ℕ → List ℕ
@@ -76,6 +113,12 @@ place_of nodes others = unwrap_or (node_at nodes (word_at others 0)) (record { 0
 
 abbrev pub side_of : List (List ℕ) → Side
 side_of others = unwrap_or (side_at (word_at others 1)) West
+
+abbrev pub port_named : List Provisioned → List (List ℕ) → PortId
+port_named circuits others = record { circuit = unwrap_or (circuit_named circuits (word_at others 0)) 0; end = unwrap_or (end_at (word_at others 1)) A }
+
+abbrev pub turn_of : List (List ℕ) → Turn
+turn_of others = unwrap_or (turn_at (word_at others 2)) Up
 
 abbrev pub number_of : ℕ → ℕ → List ℕ → ℕ
 number_of low high word = unwrap_or (numeral_in low high word) 0
@@ -89,57 +132,66 @@ abbrev pub order_step : List ℕ → List (List ℕ) → Command → Step
 order_step nodes others c = step.Order (place_of nodes others) (side_of others) c
 
 -- the step that the words behind the first give
-abbrev pub verb_step : ℕ → List ℕ → Verb → List (List ℕ) → Step
-verb_step n nodes verb.Cut others = fibre_step nodes others condition.Cut
-verb_step n nodes verb.Mend others = fibre_step nodes others condition.Clear
-verb_step n nodes verb.Degrade others = fibre_step nodes others (condition.Degraded (number_of 1 (3 * n) (word_at others 2)))
-verb_step n nodes verb.Forced others = order_step nodes others command.Forced
-verb_step n nodes verb.Manual others = order_step nodes others command.Manual
-verb_step n nodes verb.Clear others = order_step nodes others command.Clear
-verb_step n nodes verb.Moment others = step.Moment (record { 0 = number_of 0 1000000000 (word_at others 0) })
-verb_step n nodes verb.Settle others = step.Settle
-verb_step n nodes verb.Hold others = step.Hold (place_of nodes others) (number_of 1 100 (word_at others 1))
+abbrev pub verb_step : ℕ → List ℕ → List Provisioned → Verb → List (List ℕ) → Step
+verb_step n nodes circuits verb.Cut others = fibre_step nodes others condition.Cut
+verb_step n nodes circuits verb.Mend others = fibre_step nodes others condition.Clear
+verb_step n nodes circuits verb.Degrade others = fibre_step nodes others (condition.Degraded (number_of 1 (3 * n) (word_at others 2)))
+verb_step n nodes circuits verb.Forced others = order_step nodes others command.Forced
+verb_step n nodes circuits verb.Manual others = order_step nodes others command.Manual
+verb_step n nodes circuits verb.Clear others = order_step nodes others command.Clear
+verb_step n nodes circuits verb.Moment others = step.Moment (record { 0 = number_of 0 1000000000 (word_at others 0) })
+verb_step n nodes circuits verb.Settle others = step.Settle
+verb_step n nodes circuits verb.Hold others = step.Hold (place_of nodes others) (number_of 1 100 (word_at others 1))
+verb_step n nodes circuits verb.Slip others = step.Slip (port_named circuits others) (turn_of others) (number_of 1 16 (word_at others 3))
 
 -- the checks of a step's words
-unfoldable pub form_faults : ℕ → List ℕ → List (List ℕ) → List Fault
-form_faults n nodes [] = (reason.step_form, true) ∷ []
-form_faults n nodes (first ∷ others) = (reason.step_form, list_any is_empty (first ∷ others)) ∷ verb_faults n nodes (verb_of first) others
+unfoldable pub form_faults : ℕ → List ℕ → List Provisioned → List (List ℕ) → List Fault
+form_faults n nodes circuits [] = (reason.step_form, true) ∷ []
+form_faults n nodes circuits (first ∷ others) = (reason.step_form, list_any is_empty (first ∷ others)) ∷ verb_faults n nodes circuits (verb_of first) others
 
 -- the step that a first word gives with those behind it; any step where it isn't listed
-abbrev pub told_step : ℕ → List ℕ → Option Verb → List (List ℕ) → Step
-told_step n nodes first others = option_map_or (λ v. verb_step n nodes v others) first step.Settle
+abbrev pub told_step : ℕ → List ℕ → List Provisioned → Option Verb → List (List ℕ) → Step
+told_step n nodes circuits first others = option_map_or (λ v. verb_step n nodes circuits v others) first step.Settle
 
 -- the step that words give where they pass the checks
-unfoldable pub form_step : ℕ → List ℕ → List (List ℕ) → Step
-form_step n nodes [] = step.Settle
-form_step n nodes (first ∷ others) = told_step n nodes (verb_of first) others
+unfoldable pub form_step : ℕ → List ℕ → List Provisioned → List (List ℕ) → Step
+form_step n nodes circuits [] = step.Settle
+form_step n nodes circuits (first ∷ others) = told_step n nodes circuits (verb_of first) others
 
--- the step of a text, in the ring of these nodes at STM-n
-abbrev pub step_of : ℕ → List ℕ → List ℕ → Step
-step_of n nodes text = form_step n nodes (words text)
+-- the step of a text, in the ring of these nodes and circuits at STM-n
+abbrev pub step_of : ℕ → List ℕ → List Provisioned → List ℕ → Step
+step_of n nodes circuits text = form_step n nodes circuits (words text)
 
--- what a script has led to before a step: the present moment, and the number of settle steps
+-- what a script has led to before a step: the present moment, the number of settle steps, and how many slips each port was given
+-- since the last of them
 pub record Past : Type 0 where
   pub moment : ℕ
   pub settles : ℕ
+  pub slips : PortId → ℕ
 
 -- nothing has happened yet, and the present moment is 0
 abbrev pub start : Past
-start = record { moment = 0; settles = 0 }
+start = record { moment = 0; settles = 0; slips = λ port. 0 }
+
+-- with so many more slips of a port
+abbrev pub with_slips : PortId → ℕ → (PortId → ℕ) → PortId → ℕ
+with_slips port count slips other = if same_port other port then slips other + count else slips other
 
 -- what the script has led to behind the step
 abbrev pub after : Past → Step → Past
 after past (step.Fibre event) = past
 after past (step.Order at on c) = past
 after past (step.Hold at turns) = past
+after past (step.Slip port turn count) = record past { slips = with_slips port count past.slips }
 after past (step.Moment m) = record past { moment = m.0 }
-after past step.Settle = record past { settles = past.settles + 1 }
+after past step.Settle = record past { settles = past.settles + 1; slips = λ port. 0 }
 
 -- the step tells a moment below that one
 abbrev pub is_back : ℕ → Step → Bool
 is_back moment (step.Fibre event) = false
 is_back moment (step.Order at on c) = false
 is_back moment (step.Hold at turns) = false
+is_back moment (step.Slip port turn count) = false
 is_back moment (step.Moment m) = nat_lt m.0 moment
 is_back moment step.Settle = false
 
@@ -148,8 +200,18 @@ abbrev pub is_settle : Step → Bool
 is_settle (step.Fibre event) = false
 is_settle (step.Order at on c) = false
 is_settle (step.Hold at turns) = false
+is_settle (step.Slip port turn count) = false
 is_settle (step.Moment m) = false
 is_settle step.Settle = true
+
+-- the step gives a port more slips than 16 since the last settle step
+abbrev pub is_too_many : (PortId → ℕ) → Step → Bool
+is_too_many slips (step.Fibre event) = false
+is_too_many slips (step.Order at on c) = false
+is_too_many slips (step.Hold at turns) = false
+is_too_many slips (step.Slip port turn count) = nat_lt 16 (slips port + count)
+is_too_many slips (step.Moment m) = false
+is_too_many slips step.Settle = false
 
 -- the last step runs rounds
 abbrev pub ends_settled : List Step → Bool
@@ -159,14 +221,15 @@ ends_settled steps = option_map_or is_settle (slice_get steps (length steps - 1)
 unfoldable pub past_faults : Past → Step → List Fault
 past_faults past this =
     (reason.moment_back, is_back past.moment this)
+    ∷ (reason.slips, is_too_many past.slips this)
     ∷ (reason.settles, is_settle this && nat_le 64 past.settles)
     ∷ []
 
 -- all checks of the step that a text gives
-abbrev pub step_faults : ℕ → List ℕ → Past → List ℕ → List Fault
-step_faults n nodes past text = form_faults n nodes (words text) ++ past_faults past (step_of n nodes text)
+abbrev pub step_faults : ℕ → List ℕ → List Provisioned → Past → List ℕ → List Fault
+step_faults n nodes circuits past text = form_faults n nodes circuits (words text) ++ past_faults past (step_of n nodes circuits text)
 
 -- the checks of the steps from this place on, one after the other
-abbrev pub steps_checks : ℕ → List ℕ → Past → ℕ → List Data → List Check
-steps_checks n nodes past place [] = []
-steps_checks n nodes past place (d ∷ ds) = at_place place (step_faults n nodes past (text_of d)) ++ steps_checks n nodes (after past (step_of n nodes (text_of d))) (place + 1) ds
+abbrev pub steps_checks : ℕ → List ℕ → List Provisioned → Past → ℕ → List Data → List Check
+steps_checks n nodes circuits past place [] = []
+steps_checks n nodes circuits past place (d ∷ ds) = at_place place (step_faults n nodes circuits past (text_of d)) ++ steps_checks n nodes circuits (after past (step_of n nodes circuits (text_of d))) (place + 1) ds

@@ -1,6 +1,7 @@
 -- The first words of steps, and what is to follow each. All this is this project's own.
 use Rattle.std.specs.Prelude.{ℕ, ◌*◌, if◌then◌else◌, List, [], ◌∷◌, codes, Option, Some, None}
 use Rattle.std.specs.Str.{bytes_eq}
+use Rattle.sdh_circuits.specs.Provisioned.{Provisioned}
 
 -- what a step does
 pub data Verb : Type 0 where
@@ -18,6 +19,8 @@ pub data Verb : Type 0 where
   Settle : Verb
   -- the controller of a node misses the next rounds
   Hold : Verb
+  -- the clock of a port slips against the ring's
+  Slip : Verb
 
 -- what a step does, by its first word
 abbrev pub verb_of : List ℕ → Option Verb
@@ -31,22 +34,28 @@ verb_of word =
     else if bytes_eq word (codes "moment") then Some Moment
     else if bytes_eq word (codes "settle") then Some Settle
     else if bytes_eq word (codes "hold") then Some Hold
+    else if bytes_eq word (codes "slip") then Some Slip
     else None
 
--- what a word behind the first is to be: the identifier of a node in the ring, a side, a number in a range
+-- what a word behind the first is to be: the identifier of a node in the ring, a side, a number in a range, the name of one of these
+-- circuits, an end of a circuit, a turn of a clock
 pub data Part : Type 0 where
   node : Part
   side : Part
   number : ℕ → ℕ → Part
+  circuit : List Provisioned → Part
+  end : Part
+  turn : Part
 
--- the words that follow the first one, at STM-n
-abbrev pub parts_of : ℕ → Verb → List Part
-parts_of n Cut = node ∷ side ∷ []
-parts_of n Mend = node ∷ side ∷ []
-parts_of n Degrade = node ∷ side ∷ number 1 (3 * n) ∷ []
-parts_of n Forced = node ∷ side ∷ []
-parts_of n Manual = node ∷ side ∷ []
-parts_of n Clear = node ∷ side ∷ []
-parts_of n Moment = number 0 1000000000 ∷ []
-parts_of n Settle = []
-parts_of n Hold = node ∷ number 1 100 ∷ []
+-- the words that follow the first one, at STM-n with these circuits
+abbrev pub parts_of : ℕ → List Provisioned → Verb → List Part
+parts_of n circuits Cut = node ∷ side ∷ []
+parts_of n circuits Mend = node ∷ side ∷ []
+parts_of n circuits Degrade = node ∷ side ∷ number 1 (3 * n) ∷ []
+parts_of n circuits Forced = node ∷ side ∷ []
+parts_of n circuits Manual = node ∷ side ∷ []
+parts_of n circuits Clear = node ∷ side ∷ []
+parts_of n circuits Moment = number 0 1000000000 ∷ []
+parts_of n circuits Settle = []
+parts_of n circuits Hold = node ∷ number 1 100 ∷ []
+parts_of n circuits Slip = circuit circuits ∷ end ∷ turn ∷ number 1 16 ∷ []

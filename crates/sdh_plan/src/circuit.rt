@@ -4,7 +4,7 @@ ghost use Rattle.std.specs.BTreeMap.{keys};
 ghost use Rattle.std.specs.List.{list_all};
 ghost use Rattle.toml.specs.View.{view, table_view};
 ghost use Rattle.toml.specs.Data.{as_array};
-ghost use Rattle.sdh_plan.specs.Plans.{provision_checks};
+ghost use Rattle.sdh_plan.specs.Plans.{circuits_in, provision_checks};
 ghost use Rattle.sdh_circuits.specs.Checks.{wish_of, with_circuit};
 ghost use Rattle.sdh_plan.specs.Check.{answer, first_fault};
 ghost use Rattle.sdh_plan.specs.Document.{is_among, has_only, is_table, elements, elements_in};
@@ -205,7 +205,7 @@ pub fn circuits_under(
     n: u8,
 ) -> Result<CircuitMap, PlanError>
     requires { (n ≡ 4) ⊎ (n ≡ 16) }
-    ensures circuits { IfOk result (λ circuits. circuits ≡ provisioned (n / 2) ring.now (map (λ d. circuit_in ring.now (members_of d)) (elements_in (codes "circuit") (table_view table.now)))) }
+    ensures circuits { IfOk result (λ circuits. circuits ≡ provisioned (n / 2) ring.now (circuits_in ring.now (table_view table.now))) }
     ensures passed { OnOk result (answer (provision_checks n ring.now (table_view table.now)) ≡ None) }
     ensures refused { IfErr result (IsRefused (answer (provision_checks n ring.now (table_view table.now)))) }
 {

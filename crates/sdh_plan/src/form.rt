@@ -2,13 +2,15 @@
 ghost use Rattle.std.specs.Prelude.{◌≡◌, ◌≤◌, ◌∷◌, [], map, false};
 ghost use Rattle.std.specs.List.{list_any};
 ghost use Rattle.sdh_plan.specs.Check.{first_fault, unless};
-ghost use Rattle.sdh_plan.specs.Verbs.{verb_of, node, side, number};
-ghost use Rattle.sdh_plan.specs.Steps.{node_at, side_at, part_faults, verb_faults, place_of, fibre_step, order_step, number_of, word_at, told_step, form_faults, form_step};
+ghost use Rattle.sdh_plan.specs.Verbs.{verb_of, node, side, number, circuit, end, turn};
+ghost use Rattle.sdh_plan.specs.Steps.{node_at, side_at, circuit_named, end_at, turn_at, part_faults, verb_faults, place_of, port_named, turn_of, fibre_step, order_step, number_of, word_at, told_step, form_faults, form_step};
 ghost use Rattle.sdh_plan.specs.Words.{words, is_empty};
 
 use crate::reason;
 use crate::step::Step;
 use crate::words::{is_word, numeral_in, words_of};
+use sdh_circuits::{CircuitMap, End, PortId};
+use sdh_payload::Turn;
 use sdh_plant::{Condition, FibreEvent};
 use sdh_request::{Command, Moment};
 use sdh_ringmap::{Pos, RingMap, Side};
@@ -32,6 +34,45 @@ fn side_at(word: &[u8]) -> Option<Side>
         Some(Side::West)
     } else if is_word(word, "east") {
         Some(Side::East)
+    } else {
+        None
+    }
+}
+
+// The circuit whose name the word is, counted from 0.
+#[tactic(auto, unfolding(crate::specs::Steps::circuit_named))]
+fn circuit_named(circuits: &CircuitMap, word: &[u8]) -> Option<u8>
+    ensures { result ≡ circuit_named circuits.now.circuits word.now }
+{
+    for circuit in 0..circuits.len() as u8 {
+        if circuits.get(circuit).name().as_slice() == word {
+            return Some(circuit);
+        }
+    }
+    None
+}
+
+// The end of a circuit that the word names.
+fn end_at(word: &[u8]) -> Option<End>
+    ensures { result ≡ end_at word.now }
+{
+    if is_word(word, "a") {
+        Some(End::A)
+    } else if is_word(word, "b") {
+        Some(End::B)
+    } else {
+        None
+    }
+}
+
+// The turn of a clock that the word names.
+fn turn_at(word: &[u8]) -> Option<Turn>
+    ensures { result ≡ turn_at word.now }
+{
+    if is_word(word, "up") {
+        Some(Turn::Up)
+    } else if is_word(word, "down") {
+        Some(Turn::Down)
     } else {
         None
     }
@@ -131,6 +172,29 @@ fn hold(ring: &RingMap, others: &[&[u8]]) -> Result<Step, u8>
     Ok(Step::Hold(at, turns))
 }
 
+// The clock of the port that the words name slips so many times more.
+#[tactic(auto, unfolding(crate::specs::Steps::part_faults))]
+fn slip(ring: &RingMap, circuits: &CircuitMap, others: &[&[u8]]) -> Result<Step, u8>
+    ensures { result ≡ unless (first_fault (part_faults ring.now (circuit circuits.now.circuits ∷ end ∷ turn ∷ number 1 16 ∷ []) (map (λ word. word.now) others.now))) (Step.Slip (port_named circuits.now.circuits (map (λ word. word.now) others.now)) (turn_of (map (λ word. word.now) others.now)) (number_of 1 16 (word_at (map (λ word. word.now) others.now) 3))) }
+{
+    let [name, end, turn, count] = others else {
+        return Err(reason::STEP_FORM);
+    };
+    let Some(circuit) = circuit_named(circuits, name) else {
+        return Err(reason::SLIP_PORT);
+    };
+    let Some(end) = end_at(end) else {
+        return Err(reason::SLIP_PORT);
+    };
+    let Some(turn) = turn_at(turn) else {
+        return Err(reason::STEP_SIDE);
+    };
+    let Some(count) = numeral_in(count, 1, 16) else {
+        return Err(reason::STEP_NUMBER);
+    };
+    Ok(Step::Slip(PortId { circuit, end }, turn, count as u8))
+}
+
 // Rounds run until a quiet window ends.
 #[tactic(auto, unfolding(crate::specs::Steps::part_faults))]
 fn settle(ring: &RingMap, others: &[&[u8]]) -> Result<Step, u8>
@@ -144,9 +208,15 @@ fn settle(ring: &RingMap, others: &[&[u8]]) -> Result<Step, u8>
 }
 
 // The step that a first word and those behind it give at STM-n.
-fn told(ring: &RingMap, n: u8, first: &[u8], others: &[&[u8]]) -> Result<Step, u8>
+fn told(
+    ring: &RingMap,
+    circuits: &CircuitMap,
+    n: u8,
+    first: &[u8],
+    others: &[&[u8]],
+) -> Result<Step, u8>
     requires { n ≤ 16 }
-    ensures { result ≡ unless (first_fault (verb_faults n ring.now (verb_of first.now) (map (λ word. word.now) others.now))) (told_step n ring.now (verb_of first.now) (map (λ word. word.now) others.now)) }
+    ensures { result ≡ unless (first_fault (verb_faults n ring.now circuits.now.circuits (verb_of first.now) (map (λ word. word.now) others.now))) (told_step n ring.now circuits.now.circuits (verb_of first.now) (map (λ word. word.now) others.now)) }
 {
     if is_word(first, "cut") {
         fibre(ring, others, Condition::Cut)
@@ -166,6 +236,8 @@ fn told(ring: &RingMap, n: u8, first: &[u8], others: &[&[u8]]) -> Result<Step, u
         settle(ring, others)
     } else if is_word(first, "hold") {
         hold(ring, others)
+    } else if is_word(first, "slip") {
+        slip(ring, circuits, others)
     } else {
         Err(reason::STEP_WORD)
     }
@@ -173,24 +245,24 @@ fn told(ring: &RingMap, n: u8, first: &[u8], others: &[&[u8]]) -> Result<Step, u
 
 // The step that words give, of which none is empty.
 #[tactic(auto, unfolding(crate::specs::Steps::form_faults, crate::specs::Steps::form_step))]
-fn step_in(ring: &RingMap, n: u8, words: &[&[u8]]) -> Result<Step, u8>
+fn step_in(ring: &RingMap, circuits: &CircuitMap, n: u8, words: &[&[u8]]) -> Result<Step, u8>
     requires small { n ≤ 16 }
     requires whole { list_any is_empty (map (λ word. word.now) words.now) ≡ false }
-    ensures { result ≡ unless (first_fault (form_faults n ring.now (map (λ word. word.now) words.now))) (form_step n ring.now (map (λ word. word.now) words.now)) }
+    ensures { result ≡ unless (first_fault (form_faults n ring.now circuits.now.circuits (map (λ word. word.now) words.now))) (form_step n ring.now circuits.now.circuits (map (λ word. word.now) words.now)) }
 {
     let [first, others @ ..] = words else {
         return Err(reason::STEP_FORM);
     };
-    told(ring, n, first, others)
+    told(ring, circuits, n, first, others)
 }
 
-/// The step that a text gives, in a ring at STM-n, or the reason of the first check that fails.
-pub fn step_of(ring: &RingMap, n: u8, text: &[u8]) -> Result<Step, u8>
+/// The step that a text gives, in a ring of these circuits at STM-n, or the reason of the first check that fails.
+pub fn step_of(ring: &RingMap, circuits: &CircuitMap, n: u8, text: &[u8]) -> Result<Step, u8>
     requires { n ≤ 16 }
-    ensures { result ≡ unless (first_fault (form_faults n ring.now (words text.now))) (form_step n ring.now (words text.now)) }
+    ensures { result ≡ unless (first_fault (form_faults n ring.now circuits.now.circuits (words text.now))) (form_step n ring.now circuits.now.circuits (words text.now)) }
 {
     match words_of(text) {
-        Some(words) => step_in(ring, n, &words),
+        Some(words) => step_in(ring, circuits, n, &words),
         None => Err(reason::STEP_FORM),
     }
 }

@@ -13,6 +13,7 @@ mod reading;
 mod reason;
 mod ring;
 mod script;
+mod slips;
 mod step;
 #[cfg(test)]
 mod tests;

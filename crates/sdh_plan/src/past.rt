@@ -1,67 +1,61 @@
 //! What a script has led to.
-ghost use Rattle.std.specs.Prelude.{◌≡◌};
+ghost use Rattle.std.specs.Prelude.{◌≡◌, OnOk};
 ghost use Rattle.sdh_plan.specs.Check.{first_fault, unless};
 ghost use Rattle.sdh_plan.specs.Steps.{past_faults, start, after};
+ghost use Rattle.sdh_plan.specs.Counted.{past_in};
 
 use crate::reason;
+use crate::slips::Slips;
 use crate::step::Step;
-use std::marker::Model;
 
-/// The present moment, and the number of settle steps.
+/// The present moment, the number of settle steps, and the slips that ports were given since the last of them.
 #[derive(Debug, Drop)]
 pub struct Past {
     moment: u64,
     settles: u32,
-}
-
-impl Model for Past {
-    ghost use Rattle.sdh_plan.specs.Steps.{Past};
-
-    ghost Value = { Past };
-
-    ghost view = { λ p. record { moment = p.moment; settles = p.settles } };
-
-    ghost inverse = { λ p. record { moment = p.moment; settles = p.settles } };
+    slips: Slips,
 }
 
 impl Past {
     /// Nothing has happened yet.
     pub fn start() -> Past
-        ensures { result ≡ start }
+        ensures { past_in result ≡ start }
     {
         Past {
             moment: 0,
             settles: 0,
+            slips: Slips::new(),
         }
     }
 
-    /// What the script has led to behind the step, or the reason why the step can't stand there.
+    /// Goes on behind the step, or answers the reason why the step can't stand there.
     #[tactic(auto, unfolding(crate::specs::Steps::past_faults))]
-    pub fn follow(self, step: Step) -> Result<Past, u8>
-        ensures { result ≡ unless (first_fault (past_faults self step)) (after self step) }
+    pub fn follow(&mut self, step: Step) -> Result<(), u8>
+        ensures reason { result ≡ unless (first_fault (past_faults (past_in self.old) step)) tt }
+        ensures past { OnOk result (past_in self.new ≡ after (past_in self.old) step) }
     {
         match step {
             Step::Moment(now) => {
                 if now.0 < self.moment {
                     return Err(reason::MOMENT_BACK);
                 }
-                Ok(Past {
-                    moment: now.0,
-                    settles: self.settles,
-                })
+                self.moment = now.0;
+            }
+            Step::Slip(port, _, count) => {
+                if u16::from(self.slips.count(port)) + u16::from(count) > 16 {
+                    return Err(reason::SLIPS);
+                }
+                self.slips.add(port, count);
             }
             Step::Settle => {
                 if self.settles >= 64 {
                     return Err(reason::SETTLES);
                 }
-                Ok(Past {
-                    moment: self.moment,
-                    settles: self.settles + 1,
-                })
+                self.settles += 1;
+                self.slips = Slips::new();
             }
-            Step::Fibre(_) => Ok(self),
-            Step::Order(_, _, _) => Ok(self),
-            Step::Hold(_, _) => Ok(self),
+            Step::Fibre(_) | Step::Order(_, _, _) | Step::Hold(_, _) => {}
         }
+        Ok(())
     }
 }

@@ -34,7 +34,7 @@ fn plan_under(alloc: Global, table: &Table) -> Result<Plan, PlanError>
         Ok(circuits) => circuits,
         Err(error) => return Err(error),
     };
-    let steps = match script_under(alloc, table, &ring, n) {
+    let steps = match script_under(alloc, table, &ring, &circuits, n) {
         Ok(steps) => steps,
         Err(error) => return Err(error),
     };

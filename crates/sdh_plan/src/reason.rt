@@ -57,3 +57,7 @@ pub const MOMENT_BACK: u8 = 27;
 pub const SETTLES: u8 = 28;
 
 pub const LAST_STEP: u8 = 29;
+
+pub const SLIP_PORT: u8 = 30;
+
+pub const SLIPS: u8 = 31;

@@ -4,7 +4,8 @@ ghost use Rattle.std.specs.List.{list_all};
 ghost use Rattle.toml.specs.View.{view, table_view};
 ghost use Rattle.sdh_plan.specs.Check.{first_fault, unless, answer};
 ghost use Rattle.sdh_plan.specs.Words.{words};
-ghost use Rattle.sdh_plan.specs.Steps.{form_step, step_faults, step_of, steps_checks, start, after, ends_settled};
+ghost use Rattle.sdh_plan.specs.Counted.{past_in};
+ghost use Rattle.sdh_plan.specs.Steps.{step_faults, step_of, steps_checks, start, after, ends_settled};
 ghost use Rattle.sdh_plan.specs.Document.{is_text, text_of, elements_in};
 ghost use Rattle.sdh_plan.specs.Refusals.{IsRefused};
 ghost use Rattle.sdh_plan.specs.Plans.{texts_checks, script_checks};
@@ -15,21 +16,29 @@ use crate::form::step_of;
 use crate::past::Past;
 use crate::reason;
 use crate::step::Step;
+use sdh_circuits::CircuitMap;
 use sdh_ringmap::RingMap;
 use std::alloc::Global;
 use toml::{Table, Value};
 
-// The step that a text gives and what the script has then led to, or the reason of the first check that fails.
-fn next_step(ring: &RingMap, n: u8, past: Past, text: &[u8]) -> Result<(Step, Past), u8>
+// The step that a text gives, or the reason of the first check that fails. The script has then led to what is behind the step.
+fn next_step(
+    ring: &RingMap,
+    circuits: &CircuitMap,
+    n: u8,
+    past: &mut Past,
+    text: &[u8],
+) -> Result<Step, u8>
     requires { n ≤ 16 }
-    ensures { let step = form_step n ring.now (words text.now) in result ≡ unless (first_fault (step_faults n ring.now past text.now)) (step, after past step) }
+    ensures step { result ≡ unless (first_fault (step_faults n ring.now circuits.now.circuits (past_in past.old) text.now)) (step_of n ring.now circuits.now.circuits text.now) }
+    ensures past { OnOk result (past_in past.new ≡ after (past_in past.old) (step_of n ring.now circuits.now.circuits text.now)) }
 {
-    let step = match step_of(ring, n, text) {
+    let step = match step_of(ring, circuits, n, text) {
         Ok(step) => step,
         Err(reason) => return Err(reason),
     };
     match past.follow(step) {
-        Ok(past) => Ok((step, past)),
+        Ok(()) => Ok(step),
         Err(reason) => Err(reason),
     }
 }
@@ -38,25 +47,25 @@ fn next_step(ring: &RingMap, n: u8, past: Past, text: &[u8]) -> Result<(Step, Pa
 pub fn steps_of(
     alloc: Global,
     ring: &RingMap,
+    circuits: &CircuitMap,
     n: u8,
     values: &[Value],
 ) -> Result<Vec<Step>, PlanError>
     requires rate { n ≤ 16 }
     requires few { length values.now ≤ 1000 }
-    ensures steps { IfOk result (λ steps. steps.items ≡ map (λ d. step_of n ring.now (text_of d)) (map view values.now)) }
-    ensures passed { OnOk result (answer (steps_checks n ring.now start 1 (map view values.now)) ≡ None) }
-    ensures refused { IfErr result (IsRefused (answer (steps_checks n ring.now start 1 (map view values.now)))) }
+    ensures steps { IfOk result (λ steps. steps.items ≡ map (λ d. step_of n ring.now circuits.now.circuits (text_of d)) (map view values.now)) }
+    ensures passed { OnOk result (answer (steps_checks n ring.now circuits.now.circuits start 1 (map view values.now)) ≡ None) }
+    ensures refused { IfErr result (IsRefused (answer (steps_checks n ring.now circuits.now.circuits start 1 (map view values.now)))) }
 {
     let mut steps = Vec::new(alloc);
     let mut past = Past::start();
     for (i, value) in values.iter().enumerate() {
         let text = text_of(value);
-        match next_step(ring, n, past, text.as_bytes()) {
-            Ok((step, after)) => {
+        match next_step(ring, circuits, n, &mut past, text.as_bytes()) {
+            Ok(step) => {
                 if steps.push(step).is_err() {
                     return Err(PlanError::Memory);
                 }
-                past = after;
             }
             Err(reason) => {
                 return Err(PlanError::BadPlan {
@@ -99,17 +108,18 @@ fn ends_settled(steps: &[Step]) -> bool
 fn settled_steps(
     alloc: Global,
     ring: &RingMap,
+    circuits: &CircuitMap,
     n: u8,
     values: &[Value],
 ) -> Result<Vec<Step>, PlanError>
     requires rate { n ≤ 16 }
     requires few { length values.now ≤ 1000 }
-    ensures steps { IfOk result (λ steps. steps.items ≡ map (λ d. step_of n ring.now (text_of d)) (map view values.now)) }
+    ensures steps { IfOk result (λ steps. steps.items ≡ map (λ d. step_of n ring.now circuits.now.circuits (text_of d)) (map view values.now)) }
     ensures count { IfOk result (λ steps. length steps.items ≡ length values.now) }
-    ensures passed { OnOk result (answer (texts_checks n ring.now (map view values.now)) ≡ None) }
-    ensures refused { IfErr result (IsRefused (answer (texts_checks n ring.now (map view values.now)))) }
+    ensures passed { OnOk result (answer (texts_checks n ring.now circuits.now.circuits (map view values.now)) ≡ None) }
+    ensures refused { IfErr result (IsRefused (answer (texts_checks n ring.now circuits.now.circuits (map view values.now)))) }
 {
-    let steps = match steps_of(alloc, ring, n, values) {
+    let steps = match steps_of(alloc, ring, circuits, n, values) {
         Ok(steps) => steps,
         Err(error) => return Err(error),
     };
@@ -128,13 +138,14 @@ pub fn script_under(
     alloc: Global,
     table: &Table,
     ring: &RingMap,
+    circuits: &CircuitMap,
     n: u8,
 ) -> Result<Vec<Step>, PlanError>
     requires { n ≤ 16 }
-    ensures steps { IfOk result (λ steps. steps.items ≡ map (λ d. step_of n ring.now (text_of d)) (elements_in (codes "script") (table_view table.now))) }
+    ensures steps { IfOk result (λ steps. steps.items ≡ map (λ d. step_of n ring.now circuits.now.circuits (text_of d)) (elements_in (codes "script") (table_view table.now))) }
     ensures count { IfOk result (λ steps. (1 ≤ length steps.items) × (length steps.items ≤ 1000)) }
-    ensures passed { OnOk result (answer (script_checks n ring.now (table_view table.now)) ≡ None) }
-    ensures refused { IfErr result (IsRefused (answer (script_checks n ring.now (table_view table.now)))) }
+    ensures passed { OnOk result (answer (script_checks n ring.now circuits.now.circuits (table_view table.now)) ≡ None) }
+    ensures refused { IfErr result (IsRefused (answer (script_checks n ring.now circuits.now.circuits (table_view table.now)))) }
 {
     let Some(values) = array_under(table, "script") else {
         return Err(of_document(reason::SCRIPT));
@@ -148,5 +159,5 @@ pub fn script_under(
     if values.len() > 1000 {
         return Err(of_document(reason::SCRIPT_LENGTH));
     }
-    settled_steps(alloc, ring, n, values)
+    settled_steps(alloc, ring, circuits, n, values)
 }

@@ -1,4 +1,6 @@
 //! What a script does.
+use sdh_circuits::PortId;
+use sdh_payload::Turn;
 use sdh_plant::FibreEvent;
 use sdh_request::{Command, Moment};
 use sdh_ringmap::{Pos, Side};
@@ -14,6 +16,8 @@ pub enum Step {
     Moment(Moment),
     /// The controller of a node misses so many of the next rounds.
     Hold(Pos, u32),
+    /// The clock of a port is to slip so many times more, at most 16 times between two settle steps.
+    Slip(PortId, Turn, u8),
     /// Rounds run until a quiet window ends.
     Settle,
 }

@@ -1,8 +1,9 @@
 //! Plans that are read, and the first check that fails of others.
 
 use crate::{Plan, PlanError, Step, big_plan, read_plan};
-use sdh_circuits::{End, Slot};
+use sdh_circuits::{End, PortId, Slot};
 use sdh_frame::Rate;
+use sdh_payload::Turn;
 use sdh_plant::{Condition, FibreEvent};
 use sdh_request::{Command, Moment};
 use sdh_ringmap::{Pos, Side, Span};
@@ -32,7 +33,7 @@ nodes = [15, 0, 7]
 threshold = 48
 wait = 1000000
 limit = 65536
-script = ["cut 7 east", "mend 15 west", "degrade 0 west 48", "forced 7 west", "manual 0 east", "clear 15 east", "hold 7 100", "moment 0", "moment 1000000000", "moment 1000000000", "settle"]
+script = ["cut 7 east", "mend 15 west", "degrade 0 west 48", "forced 7 west", "manual 0 east", "clear 15 east", "hold 7 100", "slip a-z_0123456789-z b down 16", "slip b a up 16", "slip b b down 1", "moment 0", "moment 1000000000", "moment 1000000000", "settle"]
 [[circuit]]
 name = "a-z_0123456789-z"
 from = 7
@@ -292,6 +293,48 @@ const OF_SCRIPTS: &[Case] = &[
     ("\"settle\"", "\"settle\", \"moment 5\"", 29, 2),
 ];
 
+// Steps before the last one of the smallest run, and the reason and the place that are then answered, if the plan is refused.
+const OF_SLIPS: &[(&str, Option<(u8, u32)>)] = &[
+    ("slip c1 a up 1", None),
+    ("slip c1 a down 1", None),
+    ("slip c1 a up 16", None),
+    ("slip c1 a up 16|slip c1 a down 1", Some((31, 2))),
+    ("slip c9 a up 1", Some((30, 1))),
+    ("slip c1 a over 1", Some((25, 1))),
+    ("slip c1 a up 17", Some((26, 1))),
+    ("slip c1 a up 0", Some((26, 1))),
+    ("slip c1 a up 01", Some((26, 1))),
+    ("slip c1 c up 1", Some((30, 1))),
+    ("slip c1 A up 1", Some((30, 1))),
+    ("slip C1 a up 1", Some((30, 1))),
+    ("slip c a up 1", Some((30, 1))),
+    ("slip c11 a up 1", Some((30, 1))),
+    ("slip c1 a west 1", Some((25, 1))),
+    ("slip c1 a up", Some((23, 1))),
+    ("slip c1 a up 1 now", Some((23, 1))),
+    ("slip c9 c over 17 now", Some((23, 1))),
+    ("slip c9  over 17", Some((23, 1))),
+    ("slip c9 a over 1", Some((30, 1))),
+    ("slip c1 c over 1", Some((30, 1))),
+    ("slip c9 a up 17", Some((30, 1))),
+    ("slip c1 a over 17", Some((25, 1))),
+    ("slip c1 a up 16|slip c1 a up 17", Some((26, 2))),
+    ("slip c1 a up 16|slip c1 b down 16", None),
+    (
+        "slip c1 a up 16|slip c1 b down 16|slip c1 b up 1",
+        Some((31, 3)),
+    ),
+    ("slip c1 a up 10|slip c1 a down 6", None),
+    ("slip c1 a up 10|slip c1 a down 7", Some((31, 2))),
+    ("slip c1 a up 16|moment 5|slip c1 a up 1", Some((31, 3))),
+    ("slip c1 a up 16|settle|slip c1 a down 16", None),
+    (
+        "slip c1 a up 1|settle|slip c1 a down 16|slip c1 a up 1",
+        Some((31, 4)),
+    ),
+    ("slip c1 a up 16|slip c1 a down 1|cut 9 east", Some((31, 2))),
+];
+
 // Bytes that are no document.
 const NO_DOCUMENTS: &[&[u8]] = &[
     b"rate = ",
@@ -417,6 +460,44 @@ fn answers_the_first_check_of_a_script_that_fails(rt: HostRuntime) -> Result<(),
     Ok(())
 }
 
+// The smallest run with these steps before its own.
+fn beginning(alloc: Global, steps: &str) -> Result<String, AllocError> {
+    let steps = steps.replace(alloc, "|", "\", \"")?;
+    let mut all = String::new(alloc);
+    all.push_str("\"")?;
+    all.push_str(steps.as_str())?;
+    all.push_str("\", \"settle\"")?;
+    SMALLEST.replacen(alloc, "\"settle\"", all.as_str(), 1)
+}
+
+#[test]
+fn counts_the_slips_of_each_port(rt: HostRuntime) -> Result<(), Fail> {
+    for (steps, error) in OF_SLIPS {
+        let document = beginning(rt.alloc(), steps)?;
+        let wanted = match *error {
+            Some((reason, place)) => Some(PlanError::BadPlan { reason, place }),
+            None => None,
+        };
+        assert_eq!(rt;
+            error_of(rt.alloc(), document.as_bytes()),
+            wanted,
+            "{steps}"
+        );
+    }
+    let unsettled = SMALLEST.replacen(
+        rt.alloc(),
+        "\"settle\"",
+        "\"settle\", \"slip c1 a up 1\"",
+        1,
+    )?;
+    let (reason, place) = (29, 2);
+    assert_eq!(rt;
+        error_of(rt.alloc(), unsettled.as_bytes()),
+        Some(PlanError::BadPlan { reason, place })
+    );
+    Ok(())
+}
+
 // A fibre of a position comes into a condition.
 fn fibre(at: u8, side: Side, condition: Condition) -> Step {
     Step::Fibre(FibreEvent {
@@ -424,6 +505,11 @@ fn fibre(at: u8, side: Side, condition: Condition) -> Step {
         side,
         condition,
     })
+}
+
+// A port's clock slips so many times more.
+fn slip(circuit: u8, end: End, turn: Turn, count: u8) -> Step {
+    Step::Slip(PortId { circuit, end }, turn, count)
 }
 
 #[test]
@@ -477,6 +563,9 @@ fn reads_each_part_of_a_plan(rt: HostRuntime) -> Result<(), Fail> {
         Step::Order(Pos(1), Side::East, Command::Manual),
         Step::Order(Pos(0), Side::East, Command::Clear),
         Step::Hold(Pos(2), 100),
+        slip(0, End::B, Turn::Down, 16),
+        slip(1, End::A, Turn::Up, 16),
+        slip(1, End::B, Turn::Down, 1),
         Step::Moment(Moment(0)),
         Step::Moment(Moment(1_000_000_000)),
         Step::Moment(Moment(1_000_000_000)),
@@ -484,7 +573,7 @@ fn reads_each_part_of_a_plan(rt: HostRuntime) -> Result<(), Fail> {
     ];
     assert_eq!(rt; plan.steps(), wanted.as_slice());
     let (map, circuits, steps) = plan.into_parts();
-    assert!(rt; map.len() == 3 && circuits.len() == 2 && steps.len() == 11);
+    assert!(rt; map.len() == 3 && circuits.len() == 2 && steps.len() == 14);
     Ok(())
 }
 

@@ -33,9 +33,9 @@ fn cut(text: &[u8]) -> (&[u8], Option<&[u8]>)
     }
 }
 
-/// The first five words of a text, or `None` where one of its words is empty.
-pub fn words_of(text: &[u8]) -> Option<ArrayVec<&[u8], 5>>
-    ensures words { IfSome result (λ kept. map (λ word. word.now) kept.items ≡ take 5 (words text.now)) }
+/// The first six words of a text, or `None` where one of its words is empty.
+pub fn words_of(text: &[u8]) -> Option<ArrayVec<&[u8], 6>>
+    ensures words { IfSome result (λ kept. map (λ word. word.now) kept.items ≡ take 6 (words text.now)) }
     ensures whole { IfSome result (λ _. list_any is_empty (words text.now) ≡ false) }
     ensures empty { IfNone result (list_any is_empty (words text.now) ≡ true) }
 {
@@ -46,7 +46,7 @@ pub fn words_of(text: &[u8]) -> Option<ArrayVec<&[u8], 5>>
         if word.is_empty() {
             return None;
         }
-        if words.len() < 5 {
+        if words.len() < 6 {
             words.push(word);
         }
         rest = behind;

@@ -5,7 +5,8 @@ use Rattle.std.proofs.lemmas.Bool.{cond-true}
 use Rattle.sdh_ringmap.specs.Arcs.{Arc, is_clear, is_joined, opposite_arc}
 use Rattle.sdh_ringmap.proofs.Clear.{none_of-never}
 use Rattle.sdh_payload.specs.Outlet.{Outlet, silent, delivering}
-use Rattle.sdh_payload.specs.Stream.{chunk_of}
+use Rattle.sdh_payload.specs.Clock.{Clock}
+use Rattle.sdh_payload.specs.Stream.{stream_from}
 use Rattle.sdh_circuits.specs.Provisioned.{Provisioned, arc_of, customer_at}
 use Rattle.sdh_circuits.specs.declared.End.{End}
 use Rattle.sdh_restoration.specs.Routes.{hops}
@@ -24,10 +25,13 @@ pub hops-nothing : (n : ℕ) (arc : Arc) → hops n nothing_applied arc ≡ arc.
 unfolding hops
 hops-nothing n arc = cond-true (is_clear n nothing_applied arc) arc.spans _ (is_clear-nothing n arc)
 
+-- what a port is owed by a clock of the other one
+abbrev by_clock : Provisioned → End → Clock → Outlet
+by_clock c end clock = delivering clock.value (stream_from (customer_at c (other_end end)) clock.sent 2349)
+
 -- each port is owed what the other one sent as many rounds before as the arc has spans
-pub due-nothing : (n : ℕ) (c : Provisioned) (end : End) (t : ℕ) → due n nothing_applied c end t ≡ delivering (customer_at c (other_end end)).offset (chunk_of (customer_at c (other_end end)) (t - (arc_of n c).spans))
+pub due-nothing : (n : ℕ) (c : Provisioned) (end : End) (clocks : ℕ → Clock) (t : ℕ) → due n nothing_applied c end clocks t ≡ by_clock c end (clocks (t - (arc_of n c).spans))
 unfolding due
-due-nothing n c end t =
-    let sender = customer_at c (other_end end) in
-    let owed : ℕ → Outlet = λ h. delivering sender.offset (chunk_of sender (t - h)) in
+due-nothing n c end clocks t =
+    let owed : ℕ → Outlet = λ h. by_clock c end (clocks (t - h)) in
     ap (λ b. if b then owed (hops n nothing_applied (arc_of n c)) else silent) (is_joined-nothing n (arc_of n c)) ∙ ap owed (hops-nothing n (arc_of n c))

@@ -3,7 +3,7 @@ use Rattle.std.proofs.Common.{◌≡◌, ℕ, zero, suc, ◌<◌, List, [], ◌�
 use Rattle.std.proofs.lemmas.List.{map-set, set-get_or, length-map}
 use Rattle.std.specs.Prelude.{Result, Ok, Err, OnErr}
 use Rattle.sdh_node.specs.Node.{Node}
-use Rattle.sdh_world.specs.Held.{at_place}
+use Rattle.sdh_world.specs.Held.{at_place, node_at}
 use Rattle.sdh_world.specs.Fixed.{fixed}
 
 -- the node x at i becomes y, which is fixed alike
@@ -27,3 +27,9 @@ placed change (suc i) (n ∷ ns) x h read = ap (λ zs. n ∷ zs) (placed change 
 -- the node x at i was changed
 pub placed_at : (change : Node → Node) (i : ℕ) (ns : List Node) (x y : Node) → i < length ns → x ≡ get_or ns i x → y ≡ change x → set ns i y ≡ at_place i change ns
 placed_at change i ns x y h read is = ap (set ns i) is ∙ placed change i ns x h read
+
+-- the node that is read there
+pub node_same : (ns : List Node) (i : ℕ) (x : Node) → i < length ns → x ≡ get_or ns i x → node_at ns i ≡ x
+node_same [] i x h read = absurd (omega arith)
+node_same (n ∷ ns) zero x h read = sym read
+node_same (n ∷ ns) (suc i) x h read = node_same ns i x (omega arith) read

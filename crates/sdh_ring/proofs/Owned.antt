@@ -1,6 +1,7 @@
 -- The node where a port of a circuit is.
-use Rattle.std.proofs.Common.{◌≡◌, ℕ, zero, suc, ◌+◌, ◌<◌, Bool, true, false, List, [], ◌∷◌, ◌++◌, Some, length, get_or, inl, inr, refl, ap, subst, ◌∙◌, arith}
-use Rattle.std.specs.Prelude.{◌==◌, if◌then◌else◌, find, IsSome, slice_get}
+use Rattle.std.proofs.Common.{◌≡◌, ℕ, zero, suc, ◌+◌, ◌<◌, Bool, true, false, List, [], ◌∷◌, ◌++◌, Option, Some, None, length, get_or, inl, inr, refl, ap, sym, subst, ◌∙◌, arith}
+use Rattle.std.specs.Prelude.{◌==◌, if◌then◌else◌, find, IsSome, All, slice_get, option_and_then}
+use Rattle.std.proofs.lemmas.Option.{get_or_from_slice_get, slice_get-get_or, slice_get_within}
 use Rattle.std.specs.Option.{option_map_or}
 use Rattle.std.proofs.lemmas.Bool.Decides.{nat_tests}
 use Rattle.sdh_ringmap.specs.declared.Pos.{Pos}
@@ -11,10 +12,16 @@ use Rattle.sdh_circuits.specs.declared.PortId.{PortId}
 use Rattle.sdh_circuits.specs.Provisioned.{Provisioned, end_of}
 use Rattle.sdh_circuits.specs.Provisioning.{Provisioning, IsProvisioning, IsInRing}
 use Rattle.sdh_squelch.specs.Kept.{KeepsRing}
-use Rattle.sdh_node.specs.Tributaries.{Tributary, new_tributary, ends_at, ends_from, tributaries_at, is_port, port_of, HasPort, outlet_of}
-use Rattle.sdh_node.specs.Node.{Node}
+use Rattle.sdh_payload.specs.Clock.{Clock, waiting}
+use Rattle.sdh_node.specs.Tributaries.{Tributary, new_tributary, ends_at, ends_from, tributaries_at, is_port, port_of, HasPort, outlet_of, waiting_of}
+use Rattle.sdh_node.specs.Node.{Node, new_node}
+use Rattle.sdh_world.specs.Clocks.{port_in, HasPortIn, clock_at, waiting_at}
+use Rattle.sdh_world.specs.Fixed.{IsRested, IsRing}
+use Rattle.sdh_world.proofs.Clocks.{clock_of, found_has}
+use Rattle.sdh_world.proofs.Keeping.{has_fixed, node_is, new_has}
+use Rattle.sdh_ring.proofs.Rings.{count_of}
 use Rattle.sdh_payload.specs.Outlet.{silent}
-use Rattle.sdh_world.specs.Held.{HeldRing, outlet_at}
+use Rattle.sdh_world.specs.Held.{HeldRing, nowhere, node_at, place_of_port, outlet_at}
 use Rattle.sdh_ringmap.specs.Places.{position_of}
 
 found-left : (p : Tributary → Bool) (xs ys : List Tributary) → IsSome (find p xs) → IsSome (find p (xs ++ ys))
@@ -82,3 +89,70 @@ unfolding outlet_at
 outlet_is r id c n circuit node =
     ap (λ o. option_map_or (λ x. option_map_or (λ m. outlet_of id m.ports) (slice_get r.nodes (end_of x id.end).0) silent) o silent) circuit
     ∙ ap (λ o. option_map_or (λ (m : Node). outlet_of id m.ports) o silent) node
+
+-- ---- the port of a circuit in the ring
+
+place_at : (r : HeldRing) (id : PortId) (c : Provisioned) → slice_get r.circuits.circuits id.circuit ≡ Some c → place_of_port r id ≡ (end_of c id.end).0
+unfolding place_of_port
+place_at r id c is = ap (λ o. option_map_or (λ (c : Provisioned). (end_of c id.end).0) o (length r.nodes)) is
+
+-- the place of its node, and that it is there
+pub record IsOwned (r : HeldRing) (id : PortId) (p : ℕ) : Type 0 where
+  pub place : p ≡ place_of_port r id
+  pub inside : p < length r.nodes
+  pub there : slice_get r.nodes p ≡ Some (node_at r.nodes p)
+  pub has : HasPort (node_at r.nodes p).ports id
+
+pub owned_at : (r : HeldRing) → IsRing r → (id : PortId) (c : Provisioned) → slice_get r.circuits.circuits id.circuit ≡ Some c → IsOwned r id (end_of c id.end).0
+owned_at r h id c is =
+    let cs = r.circuits.circuits in
+    let p = (end_of c id.end).0 in
+    let below : id.circuit < length cs = slice_get_within cs id.circuit c is in
+    let read : get_or cs id.circuit c ≡ c = get_or_from_slice_get cs id.circuit c c is in
+    let low : p < length r.ids = end_inside r.circuits r.ids id.circuit c id.end h.circuits h.kept below read in
+    let inside : p < length r.nodes = omega (arith, low, count_of r h) in
+    record {
+      place = sym (place_at r id c is);
+      inside = inside;
+      there = slice_get-get_or r.nodes p nowhere inside;
+      has = has_fixed id (node_at r.nodes p) (new_node r.settings r.ids cs (position_of p)) (node_is r.settings r.ids cs (length r.ids) r.nodes p nowhere h.nodes low) (new_has r.settings r.ids cs p id (has_own cs c id below read));
+    }
+
+pub owned_from : (r s : HeldRing) (id : PortId) (c : Provisioned) (at : Pos) → IsRing r → r ≡ s → slice_get r.circuits.circuits id.circuit ≡ Some c → at ≡ end_of c id.end → IsOwned s id at.0
+owned_from r s id c at h same is there = subst (λ (x : HeldRing). IsOwned x id at.0) same (subst (λ (p : Pos). IsOwned r id p.0) (sym there) (owned_at r h id c is))
+
+module _ (r : HeldRing) (id : PortId) (p : ℕ) (o : IsOwned r id p) where
+  abbrev ports : List Tributary
+  ports = (node_at r.nodes p).ports
+
+  port_is : port_in r id ≡ port_of id ports
+  port_is = ap (λ q. option_and_then (λ (n : Node). port_of id n.ports) q) (ap (slice_get r.nodes) (sym o.place) ∙ o.there)
+
+  clock_is : clock_at r id ≡ clock_of (port_of id ports)
+  unfolding clock_at
+  clock_is = ap clock_of port_is
+
+  waits_of : (x : Option Tributary) → option_map_or (λ (t : Tributary). waiting t.feed.clock) x 0 ≡ waiting (clock_of x)
+  waits_of None = refl
+  waits_of (Some t) = refl
+
+  -- how many slips wait at it
+  pub waits_there : waiting_of id ports ≡ waiting_at r id
+  waits_there = waits_of (port_of id ports) ∙ sym (ap (λ (c : Clock). waiting c) clock_is)
+
+-- ---- the clocks of a ring that goes on
+
+rested_in : (r : HeldRing) (id : PortId) (o : Option Node) → ((n : Node) → o ≡ Some n → All (λ (t : Tributary). IsRested t.feed.clock) n.ports) → IsSome (option_and_then (λ (n : Node). port_of id n.ports) o)
+    → IsRested (clock_of (option_and_then (λ (n : Node). port_of id n.ports) o))
+rested_in r id None all there = absurd (cc)
+rested_in r id (Some n) all there = by (port_of id n.ports) refl there
+  where
+    by : (x : Option Tributary) → port_of id n.ports ≡ x → IsSome x → IsRested (clock_of x)
+    by None e some = absurd (cc)
+    by (Some t) e some = (found_has (λ (t : Tributary). IsRested t.feed.clock) id n.ports t (all n refl) e).0
+
+pub rested_there : (r : HeldRing) → IsRing r → r.broken ≡ false → (id : PortId) → HasPortIn r id → IsRested (clock_at r id)
+unfolding clock_at
+rested_there r h whole id there =
+    rested_in r id (slice_get r.nodes (place_of_port r id))
+    (λ n at. subst (λ (m : Node). All (λ (t : Tributary). IsRested t.feed.clock) m.ports) (get_or_from_slice_get r.nodes (place_of_port r id) n n at) (h.going whole (place_of_port r id) n (slice_get_within r.nodes (place_of_port r id) n at)).clocks) there

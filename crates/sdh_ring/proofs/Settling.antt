@@ -8,6 +8,10 @@ use Rattle.sdh_world.specs.Held.{HeldRing}
 use Rattle.sdh_world.specs.Rounds.{World, round_with}
 use Rattle.sdh_world.specs.Runs.{Arrive, run_with, ArriveIn, course_with, IsRound, IsBrokenOff}
 use Rattle.sdh_world.specs.Quiet.{is_calm, EndsWindow, NeverSettles, streak, Settles, Unsettles, BreaksOff}
+use Rattle.sdh_circuits.specs.declared.PortId.{PortId}
+use Rattle.sdh_world.specs.Clocks.{HasPortIn, clock_at, waiting_at}
+use Rattle.sdh_world.specs.Fixed.{IsRested}
+use Rattle.sdh_world.proofs.Waiting.{waits_run_out}
 use Rattle.sdh_world.proofs.Windows.{window_if, window_only, none_more, streak_none, streak_more, streak_same, never_same}
 use Rattle.sdh_world.proofs.Runs.{run_with_more, arrive_more, course_more, course_whole, held_round, held_run}
 
@@ -117,3 +121,10 @@ held_none r = ap (λ n. record r { rounds = n }) (omega arith)
 
 pub counts_on : (now after : World) → IsRound now after → after.ring.rounds ≡ now.ring.rounds + 1
 counts_on now after is = ap (λ (w : World). w.ring.rounds) is.after_is ∙ ap (λ (r : HeldRing). r.rounds) (held_round is.arrivals now)
+
+-- a step of at least 68 rounds uses up all slips
+pub none_left : (w left : World) (limit : ℕ) (port : PortId) → Settles w limit left → (HasPortIn w.ring port → IsRested (clock_at w.ring port)) → w.ring.rounds + 68 ≤ left.ring.rounds → waiting_at left.ring port ≡ 0
+none_left w left limit port settles rested long =
+    let ran : left.ring.rounds ≡ w.ring.rounds + length settles.rounds = ap (λ (x : World). x.ring.rounds) settles.left_is ∙ ap (λ (r : HeldRing). r.rounds) (held_run settles.rounds w) in
+    ap (λ (x : World). waiting_at x.ring port) settles.left_is
+    ∙ waits_run_out settles.rounds w port (λ there. (let h = rested there in (h.rest_few, h.few))) (omega (arith, ran, long))

@@ -1,13 +1,16 @@
 -- Calls leave a ring and its fibres in order.
-use Rattle.std.proofs.Common.{ℕ, ◌≤◌, sym, subst}
+use Rattle.std.proofs.Common.{ℕ, ◌+◌, ◌≤◌, sym, subst}
 use Rattle.sdh_ringmap.specs.declared.Side.{Side}
 use Rattle.sdh_request.specs.declared.Command.{Command}
 use Rattle.sdh_plant.specs.Fibres.{Fibres}
 use Rattle.sdh_node.specs.Receiving.{commanded_by}
-use Rattle.sdh_node.specs.Node.{at_receiving, held_for}
-use Rattle.sdh_world.specs.Held.{HeldRing, at_place}
+use Rattle.sdh_node.specs.Node.{at_receiving, held_for, slips_at}
+use Rattle.sdh_world.specs.Held.{HeldRing, at_place, place_of_port}
 use Rattle.sdh_world.specs.Rounds.{world}
-use Rattle.sdh_world.specs.Changes.{Order, Hold, Now}
+use Rattle.sdh_world.specs.Changes.{Order, Hold, Slip, Now}
+use Rattle.sdh_circuits.specs.declared.PortId.{PortId}
+use Rattle.sdh_payload.specs.declared.clock.Turn.{Turn}
+use Rattle.sdh_world.specs.Clocks.{waiting_at}
 use Rattle.sdh_world.proofs.Histories.{calls_change}
 use Rattle.sdh_hearing.specs.Laws.{IsWhole, StayWhole}
 
@@ -16,6 +19,9 @@ whole_commanded stay r f p d c whole = subst IsWhole (sym (calls_change.command 
 
 pub whole_held : StayWhole → (r : HeldRing) (f : Fibres) (p turns : ℕ) → turns ≤ 100 → IsWhole (world r f) → IsWhole (world (record r { nodes = at_place p (held_for turns) r.nodes }) f)
 whole_held stay r f p turns few whole = subst IsWhole (sym (calls_change.hold r f p turns)) (stay.change (Hold p turns) (world r f) few whole)
+
+pub whole_slipped : StayWhole → (r : HeldRing) (f : Fibres) (port : PortId) (turn : Turn) (count : ℕ) → waiting_at r port + count ≤ 16 → IsWhole (world r f) → IsWhole (world (record r { nodes = at_place (place_of_port r port) (slips_at port turn count) r.nodes }) f)
+whole_slipped stay r f port turn count few whole = subst IsWhole (sym (calls_change.slip r f port turn count)) (stay.change (Slip port turn count) (world r f) few whole)
 
 pub whole_later : StayWhole → (r : HeldRing) (f : Fibres) (t : ℕ) → IsWhole (world r f) → IsWhole (world (record r { moment = t }) f)
 whole_later stay r f t whole = subst IsWhole (sym (calls_change.moment r f t)) (stay.change (Now t) (world r f) tt whole)

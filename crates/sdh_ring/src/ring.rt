@@ -6,9 +6,12 @@ ghost use Rattle.sdh_squelch.specs.Kept.{KeepsRing};
 ghost use Rattle.sdh_plant.specs.Fibres.{Fibres, IsPrepared, IsHonest};
 ghost use Rattle.sdh_plant.specs.Calls.{prepared};
 ghost use Rattle.sdh_node.specs.Receiving.{commanded_by};
-ghost use Rattle.sdh_node.specs.Tributaries.{HasPort, outlet_of};
-ghost use Rattle.sdh_node.specs.Node.{at_receiving, held_for};
-ghost use Rattle.sdh_world.specs.Held.{new_nodes, new_ring, at_place, outlet_at};
+ghost use Rattle.sdh_node.specs.Tributaries.{HasPort, outlet_of, waiting_of};
+ghost use Rattle.sdh_node.specs.Node.{at_receiving, held_for, slips_at};
+ghost use Rattle.sdh_circuits.specs.declared.PortId.{PortId};
+ghost use Rattle.sdh_world.specs.Held.{new_nodes, new_ring, at_place, node_at, place_of_port, outlet_at};
+ghost use Rattle.sdh_world.specs.Clocks.{HasPortIn, clock_at, waiting_at};
+ghost use Rattle.sdh_world.specs.Fixed.{IsRested};
 ghost use Rattle.sdh_world.specs.Rounds.{world};
 ghost use Rattle.sdh_world.specs.Runs.{IsRound, IsBrokenOff};
 ghost use Rattle.sdh_world.specs.Quiet.{is_calm};
@@ -25,7 +28,7 @@ use crate::receiving::hear;
 use crate::sending::send_all;
 use sdh_circuits::{Circuit, CircuitMap, End, PortId};
 use sdh_frame::FrameBuf;
-use sdh_node::{Adm, Delivered, Settings};
+use sdh_node::{Adm, Delivered, Settings, Turn};
 use sdh_plant::Plant;
 use sdh_request::{Command, Moment};
 use sdh_ringmap::{Pos, RingMap, Side};
@@ -106,6 +109,15 @@ fn hold_at(nodes: &mut Vec<Adm>, at: usize, turns: u32)
     ensures { nodes.new.items ≡ at_place at (held_for turns) nodes.old.items }
 {
     nodes[at].hold(turns);
+}
+
+fn slip_at(nodes: &mut Vec<Adm>, at: usize, port: PortId, turn: Turn, count: u8)
+    requires at { at < length nodes.old.items }
+    requires port { HasPort (node_at nodes.old.items at).ports port }
+    requires few { waiting_of port (node_at nodes.old.items at).ports + count ≤ 16 }
+    ensures { nodes.new.items ≡ at_place at (slips_at port turn count) nodes.old.items }
+{
+    nodes[at].slip(port, turn, count);
 }
 
 // The position of a circuit's port.
@@ -198,6 +210,40 @@ impl Ring {
         hold_at(&mut self.nodes, at.0 as usize, turns);
     }
 
+    // The position of the node where a port of a circuit is.
+    fn place_of(&self, port: PortId) -> usize
+        requires { port.circuit < length self.now.circuits.circuits }
+        ensures place { result ≡ place_of_port self.now port }
+        ensures inside { result < length self.now.nodes }
+        ensures port { HasPort (node_at self.now.nodes result).ports port }
+        ensures waiting { waiting_of port (node_at self.now.nodes result).ports ≡ waiting_at self.now port }
+    {
+        let at = end_of(self.circuits.get(port.circuit), port.end);
+        at.0 as usize
+    }
+
+    /// The clock of a port slips so many times more in the next rounds, each time by three bytes, of which it sends fewer or more.
+    pub fn slip(&mut self, port: PortId, turn: Turn, count: u8)
+        requires port { port.circuit < length self.old.circuits.circuits }
+        requires few { waiting_at self.old port + count ≤ 16 }
+        ensures ring { self.new ≡ record self.old { nodes = at_place (place_of_port self.old port) (slips_at port turn count) self.old.nodes } }
+        ensures whole { (f : Fibres) → IsWhole (world self.old f) → IsWhole (world self.new f) }
+    {
+        sdh_hearing::stay_whole();
+        let at = self.place_of(port);
+        slip_at(&mut self.nodes, at, port, turn, count);
+    }
+
+    /// How many slips wait at a port of a circuit.
+    pub fn waiting(&self, port: PortId) -> u8
+        requires { port.circuit < length self.now.circuits.circuits }
+        ensures waiting { result ≡ waiting_at self.now port }
+        ensures few { result ≤ 16 }
+    {
+        let at = self.place_of(port);
+        self.nodes[at].waiting(port)
+    }
+
     /// Tells the present moment, at which the next rounds run.
     pub fn moment(&mut self, now: Moment)
         requires later { self.old.moment ≤ now.0 }
@@ -277,6 +323,15 @@ impl Ring {
         let _rounds = self.rounds;
     }
 
+    // At most 16 slips wait at each port.
+    fn has_rested(&self)
+        requires { self.now.broken ≡ false }
+        ensures { (port : PortId) → HasPortIn self.now port → IsRested (clock_at self.now port) }
+    {
+        // Reading it gives the proof what is true of every ring.
+        let _rounds = self.rounds;
+    }
+
     /// Runs rounds until one ends a quiet window, which is `3 * n` calm rounds of this step whose last number is a multiple
     /// of 128, at most `limit` of them. It takes no memory.
     pub fn settle<P: Plant>(&mut self, plant: &mut P, limit: u32) -> Result<(), SettleError>
@@ -293,6 +348,9 @@ impl Ring {
         ensures all { result ≡ Err SettleError.Unsettled → self.new.rounds ≡ self.old.rounds + limit }
         ensures whole { result ≢ Err SettleError.PlantFault → IsWhole (world self.old (P.fibres plant.old)) → IsWhole (world self.new (P.fibres plant.new)) }
 
+        // A step of at least 68 rounds uses up all slips.
+        ensures slips { OnOk result ((port : PortId) → self.old.rounds + 68 ≤ self.new.rounds → waiting_at self.new port ≡ 0) }
+
         // Where what comes is what was sent, each node is in its settled state then, and each port has delivered what it is owed.
         ensures restored { OnOk result (Restores (world self.old (P.fibres plant.old)) (world self.new (P.fibres plant.new))) }
 
@@ -308,6 +366,7 @@ impl Ring {
         ensures counted { IsCounted P.exact (result ≡ Err SettleError.PlantFault) (P.faults plant.old) (P.faults plant.new) }
     {
         self.has_circuits();
+        self.has_rested();
         sdh_world::settled_numbers();
         sdh_hearing::steps_stay_whole();
         sdh_carrying::settled_rings_are_restored();

@@ -72,7 +72,7 @@ short n applied slots cs form index c get =
     let ring = on-ring n slots cs form in
     is-short n applied c (arc-long n cs ring index c get) (arc-short n cs ring index c get)
 
-pub few_hops : (n : ℕ) (applied : ℕ → Bool) (c : Provisioned) → IsShort n applied c → hops n applied (arc_of n c) ≤ 2 * n
+pub few_hops : (n : ℕ) (applied : ℕ → Bool) (c : Provisioned) → IsShort n applied c → hops n applied (arc_of n c) + 1 ≤ 2 * n
 few_hops n applied c s = elim (cases_Bool (is_clear n applied (arc_of n c))) [
   | inl t ↦ (let a = s.straight t in omega arith)
   | inr t ↦ (let a = s.around t in omega arith)
@@ -106,11 +106,11 @@ module _ (rs : List ℕ) (slots : ℕ) (cs : List Provisioned) (form : AreCircui
   unfolding delivery
   start_free = (connects (port_at c e) (inward e)).stands
 
-  module _ (P : ℕ → ℕ → Origin → Type 0) (first last : ℕ) (kept : IsKeptOver n applied (settled rs) cs m P first last) (long : first + 2 * n ≤ last) where
+  module _ (P : ℕ → ℕ → Origin → Type 0) (first last : ℕ) (kept : IsKeptOver n applied (settled rs) cs m P first last) where
     -- a port of a joined circuit gets what the other port sent `hops` rounds before
-    pub joined_arrives : is_joined n applied (arc_of n c) ≡ true
-        → (let h = hops n applied (arc_of n c) in (h ≤ last) × (P (last - h) (port_at c (other_end e)) (port index (other_end e)) → P last start.at start.origin))
-    joined_arrives j =
+    pub joined_arrives : first + 2 * n ≤ last + 1 → is_joined n applied (arc_of n c) ≡ true
+        → (let h = hops n applied (arc_of n c) in (first + h ≤ last) × (P (last - h) (port_at c (other_end e)) (port index (other_end e)) → P last start.at start.origin))
+    joined_arrives long j =
         let h = hops n applied (arc_of n c) in
         let few = few_hops n applied c (short n applied slots cs form index c get) in
         let t : last - h + h ≡ last = omega arith in (
@@ -120,8 +120,8 @@ module _ (rs : List ℕ) (slots : ℕ) (cs : List Provisioned) (form : AreCircui
         )
 
     -- every other port gets AIS
-    pub parted_arrives : is_joined n applied (arc_of n c) ≡ false → ((t q : ℕ) → P t q Ais) → P last start.at start.origin
-    parted_arrives j silent =
+    pub parted_arrives : first + 2 * n ≤ last → is_joined n applied (arc_of n c) ≡ false → ((t q : ℕ) → P t q Ais) → P last start.at start.origin
+    parted_arrives long j silent =
         let s = (routed rs slots cs form index c get e).parted j in
         let less = s.2 in
         let t : last - s.0 + s.0 ≡ last = omega arith in

@@ -1,7 +1,8 @@
 -- When a script may be run.
-use Rattle.std.specs.Prelude.{ℕ, ◌≡◌, ◌+◌, ◌-◌, ◌*◌, ◌≤◌, false, List, [], ◌∷◌, ◌++◌, length}
+use Rattle.std.specs.Prelude.{ℕ, ◌≡◌, ◌⊎◌, ◌+◌, ◌-◌, ◌*◌, ◌%◌, ◌≤◌, false, List, [], ◌∷◌, ◌++◌, length}
 use Rattle.sdh_plant.specs.Fibres.{Fibres, IsPrepared}
 use Rattle.sdh_world.specs.Held.{HeldRing}
+use Rattle.sdh_world.specs.Clocks.{waiting_at}
 use Rattle.sdh_world.specs.Rounds.{World}
 use Rattle.sdh_plan.specs.declared.step.Step.{Step}
 use Rattle.sdh_plan.specs.declared.step.Step.TheVariants as step
@@ -15,9 +16,13 @@ use Rattle.sdh_report.specs.declared.listing.Listing.{Listing}
 use Rattle.sdh_owed.specs.Scripts.{Runs}
 use Rattle.sdh_script.specs.Room.{report_room, MayList}
 
--- what the script has led to so far: the ring's moment, and so many settle steps
+-- what the script has led to so far: the ring's moment, so many settle steps, and the slips that wait at its ports
 abbrev pub past_of : ℕ → HeldRing → Past
-past_of before r = record { moment = r.moment; settles = before }
+past_of before r = record { moment = r.moment; settles = before; slips = waiting_at r }
+
+-- no round has run, or the number of the last one is a multiple of 128
+abbrev pub BeginsAtAMultiple : HeldRing → Type 0
+BeginsAtAMultiple r = (r.rounds ≡ 0) ⊎ ((r.rounds - 1) % 128 ≡ 0)
 
 -- These steps may be run over a ring and fibres after `before` settle steps that have ended: the ring isn't broken, the fibres are
 -- prepared for it, the steps are those of a plan, no settle step had more than 65,536 rounds, and there is room for the reports
@@ -25,8 +30,9 @@ past_of before r = record { moment = r.moment; settles = before }
 pub record MayRun (listing : Listing) (before : ℕ) (steps : List Step) (r : HeldRing) (f : Fibres) (t : Written) : Type 0 where
   pub whole : r.broken ≡ false
   pub prepared : IsPrepared r.settings.rate (length r.ids) f
-  pub steps_fit : AreSteps r.settings.rate (length r.ids) (past_of before r) steps
+  pub steps_fit : AreSteps r.settings.rate (length r.ids) (length r.circuits.circuits) (past_of before r) steps
   pub few : before ≤ 64
+  pub begins : BeginsAtAMultiple r
   pub rounds : r.rounds ≤ 65536 * before
   pub listed : MayList (length r.circuits.circuits) listing
   pub room : report_room listing (length r.ids) (length r.circuits.circuits) * (64 - before) + 96 ≤ t.room
@@ -38,6 +44,7 @@ abbrev pub Refused : Step → Fibres → Fibres → Status → Type 0
 Refused (step.Fibre e) f g how = (g ≡ f) × (how ≡ status.PlantFault)
 Refused (step.Order p d c) f g how = ⊥
 Refused (step.Hold p turns) f g how = ⊥
+Refused (step.Slip port turn count) f g how = ⊥
 Refused (step.Moment m) f g how = ⊥
 Refused step.Settle f g how = ⊥
 

@@ -19,7 +19,7 @@ use sdh_ring::{Ring, SettleError};
 #[tactic(auto, unfolding(sdh_world::specs::Changes::changed))]
 fn change<P: Plant>(ring: &mut Ring, plant: &mut P, step: Step, number: u32) -> Result<(), Status>
     requires prepared { IsPrepared ring.old.settings.rate (length ring.old.ids) (P.fibres plant.old) }
-    requires steps { AreSteps ring.old.settings.rate (length ring.old.ids) (past_of number ring.old) (step ∷ []) }
+    requires steps { AreSteps ring.old.settings.rate (length ring.old.ids) (length ring.old.circuits.circuits) (past_of number ring.old) (step ∷ []) }
     ensures ok { OnOk result (world ring.new (P.fibres plant.new) ≡ after_step step (world ring.old (P.fibres plant.old))) }
     ensures err { IfErr result (λ how. Refused step (P.fibres plant.old) (P.fibres plant.new) how) }
     ensures later { P.faults plant.old ≤ P.faults plant.new }
@@ -34,6 +34,10 @@ fn change<P: Plant>(ring: &mut Ring, plant: &mut P, step: Step, number: u32) -> 
         }
         Step::Hold(at, turns) => {
             ring.hold(at, turns);
+            Ok(())
+        }
+        Step::Slip(port, turn, count) => {
+            ring.slip(port, turn, count);
             Ok(())
         }
         Step::Moment(now) => {

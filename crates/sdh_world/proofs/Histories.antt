@@ -15,15 +15,17 @@ use Rattle.sdh_plant.specs.declared.plant.Condition.TheVariants.{Clear}
 use Rattle.sdh_plant.specs.Fibres.{Arrival, fibre, fibre_to}
 use Rattle.sdh_node.specs.Receiving.{after_intake, after_overhead, commanded_by}
 use Rattle.sdh_node.specs.Crossing.{after_decision}
-use Rattle.sdh_node.specs.Node.{Node, new_node, at_receiving, held_for, crossing, after_crossing, with_calm, node_round}
+use Rattle.sdh_payload.specs.declared.clock.Turn.{Turn}
+use Rattle.sdh_circuits.specs.declared.PortId.{PortId}
+use Rattle.sdh_node.specs.Node.{Node, new_node, at_receiving, held_for, slips_at, crossing, after_crossing, with_calm, node_round}
 use Rattle.sdh_circuits.specs.Provisioned.{Provisioned}
 use Rattle.sdh_node.specs.declared.settings.Settings.{Settings}
-use Rattle.sdh_world.specs.Held.{at_place, new_nodes}
+use Rattle.sdh_world.specs.Held.{at_place, place_of_port, new_nodes}
 use Rattle.sdh_world.specs.Laws.{NewHolds, HistoriesHold, CallsChange}
 use Rattle.sdh_world.proofs.Keeping.{new_at, length-new, all_placed}
 use Rattle.sdh_world.specs.Rounds.{World, with_arrival, with_arrivals, all_with_arrivals, node_after, nodes_with, round_with, round, arrivals_of}
 use Rattle.sdh_world.specs.Runs.{run}
-use Rattle.sdh_world.specs.Changes.{Change, Fibre, Order, Hold, Now, changed, all_changed, Stretch, after_stretch}
+use Rattle.sdh_world.specs.Changes.{Change, Fibre, Order, Hold, Slip, Now, changed, all_changed, Stretch, after_stretch}
 use Rattle.sdh_world.specs.Sides.{Holding, holding_after, all_holding, holding_in, command_on, holding_of, world_in, Fits}
 use Rattle.sdh_world.proofs.Runs.{count_round, conditions_round}
 
@@ -190,6 +192,10 @@ held_command : (d : Side) (turns : ℕ) (n : Node) → command_on d (held_for tu
 held_command West turns n = refl
 held_command East turns n = refl
 
+slipped_command : (d : Side) (id : PortId) (turn : Turn) (count : ℕ) (n : Node) → command_on d (slips_at id turn count n) ≡ command_on d n
+slipped_command West id turn count n = refl
+slipped_command East id turn count n = refl
+
 holding_changed : (n p : ℕ) (d : Side) (c : Change) (w : World) → Fits n w → p < n → holding_of n p d (changed c w) ≡ holding_after n p d c (holding_of n p d w)
 unfolding holding_of changed
 holding_changed n p d (Fibre q e condition) w fits low =
@@ -200,9 +206,11 @@ holding_changed n p d (Order q e c) w fits low =
     ∙ command_if (fibre q e == fibre p d) c (holding_of n p d w)
 holding_changed n p d (Hold q turns) w fits low =
     ap (λ cs. record (holding_of n p d w) { command = get_or cs p command.Clear }) (all_placed (command_on d) (held_for turns) (held_command d turns) q w.ring.nodes)
+holding_changed n p d (Slip id turn count) w fits low =
+    ap (λ cs. record (holding_of n p d w) { command = get_or cs p command.Clear }) (all_placed (command_on d) (slips_at id turn count) (slipped_command d id turn count) (place_of_port w.ring id) w.ring.nodes)
 holding_changed n p d (Now t) w fits low = refl
 
-length-placed : (change : Node → Node) (i : ℕ) (ns : List Node) → length (at_place i change ns) ≡ length ns
+pub length-placed : (change : Node → Node) (i : ℕ) (ns : List Node) → length (at_place i change ns) ≡ length ns
 length-placed change i [] = refl
 length-placed change zero (n ∷ ns) = refl
 length-placed change (suc i) (n ∷ ns) = ap suc (length-placed change i ns)
@@ -212,6 +220,7 @@ unfolding changed
 fits_changed n (Fibre q e condition) w h = record { conditions = length-set w.fibres.conditions (fibre q e) condition ∙ h.conditions; nodes = h.nodes }
 fits_changed n (Order q e c) w h = record { conditions = h.conditions; nodes = length-placed (at_receiving e (commanded_by c)) q w.ring.nodes ∙ h.nodes }
 fits_changed n (Hold q turns) w h = record { conditions = h.conditions; nodes = length-placed (held_for turns) q w.ring.nodes ∙ h.nodes }
+fits_changed n (Slip id turn count) w h = record { conditions = h.conditions; nodes = length-placed (slips_at id turn count) (place_of_port w.ring id) w.ring.nodes ∙ h.nodes }
 fits_changed n (Now t) w h = record { conditions = h.conditions; nodes = h.nodes }
 
 fits_all : (n : ℕ) (cs : List Change) (w : World) → Fits n w → Fits n (all_changed cs w)
@@ -269,4 +278,4 @@ histories_hold n p d ss w t fits low = holding_is n p d ss w t fits low
 
 pub calls_change : CallsChange
 unfolding changed
-calls_change = record { command = λ r f p d c. refl; hold = λ r f p turns. refl; moment = λ r f t. refl; apply = λ r f p d c. refl }
+calls_change = record { command = λ r f p d c. refl; hold = λ r f p turns. refl; slip = λ r f port turn count. refl; moment = λ r f t. refl; apply = λ r f p d c. refl }

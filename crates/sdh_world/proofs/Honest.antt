@@ -7,7 +7,7 @@ use Rattle.sdh_plant.specs.Fibres.{Arrival, Fibres, IsHonest, fibre}
 use Rattle.sdh_plant.specs.Arrivals.{honest_arrival}
 use Rattle.sdh_plant.proofs.Calling as plant
 use Rattle.sdh_world.specs.Rounds.{World, arrival_at, after_given, sent_all, round_with}
-use Rattle.sdh_world.specs.Changes.{Change, Fibre, Order, Hold, Now, changed}
+use Rattle.sdh_world.specs.Changes.{Change, Fibre, Order, Hold, Slip, Now, changed}
 use Rattle.sdh_world.specs.Laws.{StayHonest, ChangesKeepPrepared}
 
 honest_round : (w : World) (xs : List Arrival) → IsHonest w.fibres → IsHonest (round_with xs w).fibres
@@ -19,6 +19,7 @@ unfolding changed
 honest_changed w (Fibre p d c) is = record { honest = is.honest; tells_none = is.tells_none }
 honest_changed w (Order p d c) is = is
 honest_changed w (Hold p turns) is = is
+honest_changed w (Slip port turn count) is = is
 honest_changed w (Now t) is = is
 
 honest_arrives : (f : Fibres) (p : ℕ) (d : Side) → IsHonest f → arrival_at f p d ≡ honest_arrival f p d
@@ -30,7 +31,8 @@ stay_honest = record { round = honest_round; change = honest_changed; arrives = 
 
 pub changes_keep_prepared : ChangesKeepPrepared
 unfolding changed
-changes_keep_prepared rate n w (Fibre p d c) at is = plant.stay_prepared.apply rate n w.fibres p d c at is
-changes_keep_prepared rate n w (Order p d c) at is = is
-changes_keep_prepared rate n w (Hold p turns) at is = is
-changes_keep_prepared rate n w (Now t) at is = is
+changes_keep_prepared n w (Fibre p d c) at is = plant.stay_prepared.apply w.ring.settings.rate n w.fibres p d c at is
+changes_keep_prepared n w (Order p d c) at is = is
+changes_keep_prepared n w (Hold p turns) at is = is
+changes_keep_prepared n w (Slip port turn count) at is = is
+changes_keep_prepared n w (Now t) at is = is

@@ -1,25 +1,38 @@
 -- What calls keep of a node, and of all nodes of a ring.
 use Rattle.std.proofs.Common.{◌≡◌, ℕ, zero, suc, ◌+◌, ◌<◌, ◌≤◌, Bool, true, false, List, [], ◌∷◌, ◌++◌, length, get_or, map, refl, ap, sym, subst, ◌∙◌, arith}
-use Rattle.std.specs.Prelude.{All, IsSome, find, ◌==◌, ◌&&◌}
+use Rattle.std.specs.Prelude.{All, IsSome, Some, find, slice_get, ◌==◌, ◌&&◌, if◌then◌else◌}
 use Rattle.std.proofs.lemmas.List.{length-map}
-use Rattle.std.proofs.lemmas.List.Elements.{All-map}
+use Rattle.std.proofs.lemmas.Bool.{cond_both}
+use Rattle.std.proofs.lemmas.List.Elements.{All-map, All-append, All-cons, All-nil}
 use Rattle.sdh_basics.specs.Indexed.{map_from}
 use Rattle.sdh_basics.proofs.CellsLaws.{cells-zero, cells-more, length-cells, get_or-cells}
 use Rattle.sdh_ringmap.specs.declared.Side.{Side}
 use Rattle.sdh_ringmap.specs.declared.Side.TheVariants.{West, East}
 use Rattle.sdh_request.specs.declared.Command.{Command}
+use Rattle.sdh_ringmap.specs.declared.Pos.{Pos}
+use Rattle.sdh_circuits.specs.declared.End.{End}
+use Rattle.sdh_circuits.specs.declared.End.TheVariants.{A, B}
+use Rattle.sdh_circuits.specs.declared.Slot.{Slot}
+use Rattle.sdh_payload.specs.declared.chunk.ChunkForm.{ChunkForm}
+use Rattle.sdh_payload.specs.declared.chunk.ChunkForm.TheVariants.{Plain, Short, Long}
+use Rattle.sdh_payload.specs.Customer.{Customer}
+use Rattle.sdh_payload.specs.Clock.{Clock, waiting, next_form, after_form, ticked}
+use Rattle.sdh_payload.specs.Feed.{Fed, next_feed}
+use Rattle.sdh_payload.proofs.Clocking.{next_few}
+use Rattle.sdh_payload.specs.declared.clock.Turn.{Turn}
+use Rattle.sdh_payload.specs.declared.clock.Turn.TheVariants.{Up, Down}
 use Rattle.sdh_circuits.specs.declared.PortId.{PortId}
 use Rattle.sdh_circuits.specs.Provisioned.{Provisioned, same_end}
 use Rattle.sdh_plant.specs.Fibres.{Arrival}
 use Rattle.sdh_node.specs.declared.settings.Settings.{Settings}
 use Rattle.sdh_node.specs.Receiving.{after_intake, after_overhead, commanded_by}
-use Rattle.sdh_node.specs.Tributaries.{Tributary, is_port, port_of, HasPort, fed, all_fed, tributaries_at}
+use Rattle.sdh_node.specs.Tributaries.{Tributary, is_port, port_of, HasPort, slipped, with_slips, fed, all_fed, new_tributary, ends_at, ends_from, tributaries_at}
 use Rattle.sdh_node.specs.Crossing.{Cross, after_decision, delivered_to, all_delivered}
-use Rattle.sdh_node.specs.Node.{Node, new_node, at_receiving, held_for, crossing, ports_after, after_crossing, with_calm, node_round}
+use Rattle.sdh_node.specs.Node.{Node, new_node, at_receiving, held_for, slips_at, crossing, ports_after, after_crossing, with_calm, node_round}
 use Rattle.sdh_node.proofs.Rounds.{round_goes_on}
 use Rattle.sdh_world.specs.Held.{new_nodes, at_place}
 use Rattle.sdh_world.specs.Rounds.{with_arrival, with_arrivals, all_with_arrivals, node_after}
-use Rattle.sdh_world.specs.Fixed.{FixedPort, fixed_port, Fixed, fixed, IsOn}
+use Rattle.sdh_world.specs.Fixed.{FixedPort, fixed_port, Fixed, fixed, IsRested, IsOn}
 use Rattle.sdh_ringmap.specs.Places.{position_of}
 
 -- ---- one node
@@ -45,6 +58,23 @@ ports_mapped f i (t ∷ ts) same = ap (λ p. p ∷ map fixed_port (map_from f (i
 ports_kept : (x : Cross) (ports : List Tributary) → map fixed_port (ports_after x ports) ≡ map fixed_port ports
 unfolding ports_after all_fed all_delivered
 ports_kept x ports = ports_mapped (λ i t. fed t) 0 (map_from (λ i t. delivered_to x t) 0 ports) (λ k t. refl) ∙ ports_mapped (λ i t. delivered_to x t) 0 ports (λ k t. refl)
+
+port_slipped : (turn : Turn) (count : ℕ) (t : Tributary) → fixed_port (slipped turn count t) ≡ fixed_port t
+port_slipped Up count t = refl
+port_slipped Down count t = refl
+
+ports_slipped : (id : PortId) (turn : Turn) (count : ℕ) (ts : List Tributary) → map fixed_port (with_slips id turn count ts) ≡ map fixed_port ts
+unfolding with_slips
+ports_slipped id turn count [] = refl
+ports_slipped id turn count (t ∷ ts) = go (is_port id t) (ports_slipped id turn count ts)
+  where
+    go : (b : Bool) → map fixed_port (with_slips id turn count ts) ≡ map fixed_port ts → map fixed_port (if b then slipped turn count t ∷ ts else t ∷ with_slips id turn count ts) ≡ map fixed_port (t ∷ ts)
+    go true rest = ap (λ p. p ∷ map fixed_port ts) (port_slipped turn count t)
+    go false rest = ap (λ ps. fixed_port t ∷ ps) rest
+
+pub fixed_slipped : (id : PortId) (turn : Turn) (count : ℕ) (n : Node) → fixed (slips_at id turn count n) ≡ fixed n
+unfolding fixed
+fixed_slipped id turn count n = ap (λ (ps : List FixedPort). record (fixed n) { ports = ps }) (ports_slipped id turn count n.ports)
 
 pub fixed_next : (now : ℕ) (n : Node) → fixed (node_after now n) ≡ fixed n
 unfolding fixed node_round with_calm after_crossing crossing after_decision after_intake after_overhead
@@ -75,11 +105,47 @@ pub all_held : (i turns : ℕ) (ns : List Node) → map fixed (at_place i (held_
 unfolding fixed
 all_held i turns ns = all_placed fixed (held_for turns) (λ n. refl) i ns
 
+pub all_slipped : (i : ℕ) (id : PortId) (turn : Turn) (count : ℕ) (ns : List Node) → map fixed (at_place i (slips_at id turn count) ns) ≡ map fixed ns
+all_slipped i id turn count ns = all_placed fixed (slips_at id turn count) (fixed_slipped id turn count) i ns
+
+-- ---- the feeds of ports
+
+-- what holds of each port's feed, by what the round makes of it
+feeds_after : (P Q : Fed → Type 0) → ((f : Fed) → P f → Q (next_feed f)) → (x : Cross) (i j : ℕ) (ts : List Tributary) → All (λ (t : Tributary). P t.feed) ts → All (λ (t : Tributary). Q t.feed) (map_from (λ i t. fed t) i (map_from (λ i t. delivered_to x t) j ts))
+feeds_after P Q to x i j [] all m d lt = absurd (omega arith)
+feeds_after P Q to x i j (t ∷ ts) all zero d lt = to t.feed (all 0 d (omega arith))
+feeds_after P Q to x i j (t ∷ ts) all (suc m) d lt = feeds_after P Q to x (i + 1) (j + 1) ts (λ a e low. all (suc a) e (omega arith)) m d (omega arith)
+
+pub feeds_next : (P Q : Fed → Type 0) → ((f : Fed) → P f → Q (next_feed f)) → (now : ℕ) (n : Node) → All (λ (t : Tributary). P t.feed) n.ports → All (λ (t : Tributary). Q t.feed) (node_after now n).ports
+unfolding node_round with_calm after_crossing ports_after all_fed all_delivered
+feeds_next P Q to now n all = feeds_after P Q to (crossing now n) 0 0 n.ports all
+
+-- of new ports
+pub new_ports : (P : Tributary → Type 0) → ((i : ℕ) (e : End) (d : Side) (s : Slot) (c : Customer) → P (new_tributary i e d s c)) → (at : Pos) (i : ℕ) (cs : List Provisioned) → All P (ends_from at i cs)
+new_ports P each at i [] = All-nil P
+new_ports P each at i (c ∷ cs) =
+    let a = new_tributary i A East c.slot c.a in
+    let b = new_tributary i B West c.slot c.b in
+    All-append P (ends_at at i c) (ends_from at (i + 1) cs)
+    (All-append P (if c.from.0 == at.0 then a ∷ [] else []) (if c.to.0 == at.0 then b ∷ [] else [])
+    (cond_both (c.from.0 == at.0) (a ∷ []) [] (All P) (λ _. All-cons P a [] (each i A East c.slot c.a) (All-nil P)) (λ _. All-nil P))
+    (cond_both (c.to.0 == at.0) (b ∷ []) [] (All P) (λ _. All-cons P b [] (each i B West c.slot c.b) (All-nil P)) (λ _. All-nil P)))
+    (new_ports P each at (i + 1) cs)
+
 -- ---- rounds and moments
 
+rested_form : (f : ChunkForm) (c : Clock) → waiting (after_form f c) ≤ 16 → c.rest ≤ 4 → IsRested (after_form f c)
+rested_form Plain c few rest = record { few = few; rest_few = omega (arith, rest) }
+rested_form Short c few rest = record { few = few; rest_few = omega arith }
+rested_form Long c few rest = record { few = few; rest_few = omega arith }
+
+rested_next : (c : Clock) → IsRested c → IsRested (ticked c)
+unfolding ticked
+rested_next c h = rested_form (next_form c) c (next_few c 16 h.few) h.rest_few
+
 on_with : (d : Side) (a : Arrival) (r m : ℕ) (n : Node) → IsOn r m n → IsOn r m (with_arrival d a n)
-on_with West a r m n h = record { rounds_are = h.rounds_are; early = h.early }
-on_with East a r m n h = record { rounds_are = h.rounds_are; early = h.early }
+on_with West a r m n h = record { rounds_are = h.rounds_are; early = h.early; clocks = h.clocks }
+on_with East a r m n h = record { rounds_are = h.rounds_are; early = h.early; clocks = h.clocks }
 
 on_met : (west east : Arrival) (r m : ℕ) (n : Node) → IsOn r m n → IsOn r m (with_arrivals west east n)
 unfolding with_arrivals
@@ -89,6 +155,7 @@ pub on_next : (r m : ℕ) (n : Node) → IsOn r m n → IsOn (r + 1) m (node_aft
 on_next r m n h = record {
   rounds_are = (round_goes_on m n).rounds ∙ ap (λ k. k + 1) h.rounds_are;
   early = let e = (round_goes_on m n).moment in omega arith;
+  clocks = feeds_next (λ f. IsRested f.clock) (λ f. IsRested f.clock) (λ f was. rested_next f.clock was) m n h.clocks;
 }
 
 pub all_on_heard : (xs : List Arrival) (r m : ℕ) (ns : List Node) → All (IsOn r m) ns → All (IsOn r m) (all_with_arrivals xs ns)
@@ -102,24 +169,24 @@ pub all_on_next : (r m : ℕ) (ns : List Node) → All (IsOn r m) ns → All (Is
 all_on_next r m ns all = All-map (IsOn (r + 1) m) (node_after m) ns (λ i d lt. on_next r m (get_or ns i d) (all i d lt))
 
 on_commanded : (side : Side) (c : Command) (r m : ℕ) (n : Node) → IsOn r m n → IsOn r m (at_receiving side (commanded_by c) n)
-on_commanded West c r m n h = record { rounds_are = h.rounds_are; early = h.early }
-on_commanded East c r m n h = record { rounds_are = h.rounds_are; early = h.early }
+on_commanded West c r m n h = record { rounds_are = h.rounds_are; early = h.early; clocks = h.clocks }
+on_commanded East c r m n h = record { rounds_are = h.rounds_are; early = h.early; clocks = h.clocks }
 
-all_at_place : (P : Node → Type 0) (change : Node → Node) → ((n : Node) → P n → P (change n)) → (p : ℕ) (ns : List Node) → All P ns → All P (at_place p change ns)
-all_at_place P change keep p [] all i d lt = all i d lt
-all_at_place P change keep zero (n ∷ ns) all zero d lt = keep n (all 0 d (omega arith))
-all_at_place P change keep zero (n ∷ ns) all (suc i) d lt = all (suc i) d lt
-all_at_place P change keep (suc p) (n ∷ ns) all zero d lt = all zero d (omega arith)
-all_at_place P change keep (suc p) (n ∷ ns) all (suc i) d lt = all_at_place P change keep p ns (λ j e low. all (suc j) e (omega arith)) i d (omega arith)
+pub all_at_place : (P : Node → Type 0) (change : Node → Node) (p : ℕ) (ns : List Node) → ((n : Node) → slice_get ns p ≡ Some n → P n → P (change n)) → All P ns → All P (at_place p change ns)
+all_at_place P change p [] keep all i d lt = all i d lt
+all_at_place P change zero (n ∷ ns) keep all zero d lt = keep n refl (all 0 d (omega arith))
+all_at_place P change zero (n ∷ ns) keep all (suc i) d lt = all (suc i) d lt
+all_at_place P change (suc p) (n ∷ ns) keep all zero d lt = all zero d (omega arith)
+all_at_place P change (suc p) (n ∷ ns) keep all (suc i) d lt = all_at_place P change p ns keep (λ j e low. all (suc j) e (omega arith)) i d (omega arith)
 
 pub all_on_commanded : (p : ℕ) (side : Side) (c : Command) (r m : ℕ) (ns : List Node) → All (IsOn r m) ns → All (IsOn r m) (at_place p (at_receiving side (commanded_by c)) ns)
-all_on_commanded p side c r m ns all = all_at_place (IsOn r m) (at_receiving side (commanded_by c)) (λ n h. on_commanded side c r m n h) p ns all
+all_on_commanded p side c r m ns all = all_at_place (IsOn r m) (at_receiving side (commanded_by c)) p ns (λ n at h. on_commanded side c r m n h) all
 
 pub all_on_held : (p turns r m : ℕ) (ns : List Node) → All (IsOn r m) ns → All (IsOn r m) (at_place p (held_for turns) ns)
-all_on_held p turns r m ns all = all_at_place (IsOn r m) (held_for turns) (λ n h. record { rounds_are = h.rounds_are; early = h.early }) p ns all
+all_on_held p turns r m ns all = all_at_place (IsOn r m) (held_for turns) p ns (λ n at h. record { rounds_are = h.rounds_are; early = h.early; clocks = h.clocks }) all
 
 pub all_on_later : (r m now : ℕ) (ns : List Node) → m ≤ now → All (IsOn r m) ns → All (IsOn r now) ns
-all_on_later r m now ns later all i d lt = let h = all i d lt in record { rounds_are = h.rounds_are; early = let e = h.early in omega arith }
+all_on_later r m now ns later all i d lt = let h = all i d lt in record { rounds_are = h.rounds_are; early = let e = h.early in omega arith; clocks = h.clocks }
 
 -- ---- a new ring
 
@@ -140,8 +207,12 @@ unfolding new_nodes
 new_at s ids cs n k d h = get_or-cells _ n k d h
 
 new_on : (s : Settings) (ids : List ℕ) (cs : List Provisioned) (p : ℕ) → IsOn 0 0 (new_node s ids cs (position_of p))
-unfolding new_node
-new_on s ids cs p = record { rounds_are = refl; early = omega arith }
+unfolding new_node tributaries_at
+new_on s ids cs p = record {
+  rounds_are = refl;
+  early = omega arith;
+  clocks = new_ports (λ (t : Tributary). IsRested t.feed.clock) (λ i e d m c. record { few = omega arith; rest_few = omega arith }) (position_of p) 0 cs;
+}
 
 pub all_new : (s : Settings) (ids : List ℕ) (cs : List Provisioned) (n : ℕ) → All (IsOn 0 0) (new_nodes s ids cs n)
 all_new s ids cs n = λ p d lt. (let low : p < n = omega (arith, length-new s ids cs n) in subst (IsOn 0 0) (sym (new_at s ids cs n p d low)) (new_on s ids cs p))

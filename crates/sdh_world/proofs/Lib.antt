@@ -6,3 +6,5 @@ pub mod FirstWindows
 pub mod Laws
 pub mod Histories
 pub mod Honest
+pub mod Clocks
+pub mod Waiting

@@ -5,8 +5,10 @@ use Rattle.sdh_request.specs.declared.Command.{Command}
 use Rattle.sdh_plant.specs.declared.plant.Condition.{Condition}
 use Rattle.sdh_plant.specs.Calls.{after_apply, prepared}
 use Rattle.sdh_node.specs.Receiving.{commanded_by}
-use Rattle.sdh_node.specs.Node.{at_receiving, held_for}
-use Rattle.sdh_world.specs.Held.{at_place, new_ring}
+use Rattle.sdh_payload.specs.declared.clock.Turn.{Turn}
+use Rattle.sdh_circuits.specs.declared.PortId.{PortId}
+use Rattle.sdh_node.specs.Node.{at_receiving, held_for, slips_at}
+use Rattle.sdh_world.specs.Held.{at_place, place_of_port, new_ring}
 use Rattle.sdh_world.specs.Rounds.{World, world}
 use Rattle.sdh_world.specs.Runs.{run}
 use Rattle.sdh_node.specs.declared.settings.Settings.{Settings}
@@ -14,17 +16,19 @@ use Rattle.sdh_circuits.specs.Provisioning.{Provisioning}
 use Rattle.sdh_plant.specs.Fibres.{Fibres}
 
 -- the fibre that leaves a position on a side comes into a condition; a side of a node is given a command; the controller of a node is
--- to miss so many turns; the moment is told
+-- to miss so many turns; so many more slips wait at a port; the moment is told
 pub data Change : Type 0 where
   Fibre : ℕ → Side → Condition → Change
   Order : ℕ → Side → Command → Change
   Hold : ℕ → ℕ → Change
+  Slip : PortId → Turn → ℕ → Change
   Now : ℕ → Change
 
 unfoldable pub changed : Change → World → World
 changed (Fibre p d condition) w = record w { fibres = after_apply w.fibres p d condition }
 changed (Order p d command) w = record w { ring = record w.ring { nodes = at_place p (at_receiving d (commanded_by command)) w.ring.nodes } }
 changed (Hold p turns) w = record w { ring = record w.ring { nodes = at_place p (held_for turns) w.ring.nodes } }
+changed (Slip port turn count) w = record w { ring = record w.ring { nodes = at_place (place_of_port w.ring port) (slips_at port turn count) w.ring.nodes } }
 changed (Now t) w = record w { ring = record w.ring { moment = t } }
 
 abbrev pub all_changed : List Change → World → World

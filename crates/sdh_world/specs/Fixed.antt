@@ -9,6 +9,7 @@ use Rattle.sdh_circuits.specs.declared.PortId.{PortId}
 use Rattle.sdh_circuits.specs.Provisioned.{Provisioned}
 use Rattle.sdh_circuits.specs.Provisioning.{IsProvisioning}
 use Rattle.sdh_payload.specs.Customer.{Customer}
+use Rattle.sdh_payload.specs.Clock.{Clock, waiting}
 use Rattle.sdh_squelch.specs.Kept.{KeepsRing}
 use Rattle.sdh_node.specs.declared.settings.Settings.{Settings}
 use Rattle.sdh_node.specs.Tributaries.{Tributary}
@@ -48,10 +49,16 @@ fixed n = record {
   ports = map fixed_port n.ports;
 }
 
+-- a clock at which at most 16 slips wait, and which may slip within four rounds
+pub record IsRested (c : Clock) : Type 0 where
+  pub few : waiting c ≤ 16
+  pub rest_few : c.rest ≤ 4
+
 -- a node that has run so many rounds, the last of them not after that moment
 pub record IsOn (rounds moment : ℕ) (n : Node) : Type 0 where
   pub rounds_are : n.rounds ≡ rounds
   pub early : moment_of n ≤ moment
+  pub clocks : All (λ (t : Tributary). IsRested t.feed.clock) n.ports
 
 -- each node is that of a new ring, but for what calls change; and all have run the ring's rounds, but where one was broken off
 pub record IsRing (r : HeldRing) : Type 0 where

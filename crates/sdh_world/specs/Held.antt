@@ -47,6 +47,10 @@ at_place p change [] = []
 at_place zero change (n ∷ ns) = change n ∷ ns
 at_place (suc p) change (n ∷ ns) = n ∷ at_place p change ns
 
+-- the position of the node where a port of a circuit is, and none of the ring where there is no such circuit
+unfoldable pub place_of_port : HeldRing → PortId → ℕ
+place_of_port r port = option_map_or (λ c. (end_of c port.end).0) (slice_get r.circuits.circuits port.circuit) (length r.nodes)
+
 -- what a port of a circuit delivered in the last round, at the node where it is
 unfoldable pub outlet_at : HeldRing → PortId → Outlet
 outlet_at r port =

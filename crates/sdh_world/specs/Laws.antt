@@ -10,9 +10,13 @@ use Rattle.sdh_plant.specs.declared.plant.Condition.{Condition}
 use Rattle.sdh_plant.specs.Calls.{prepared, after_apply}
 use Rattle.sdh_node.specs.declared.settings.Settings.{Settings}
 use Rattle.sdh_node.specs.Receiving.{commanded_by}
-use Rattle.sdh_node.specs.Node.{at_receiving, held_for}
-use Rattle.sdh_world.specs.Held.{HeldRing, new_ring, at_place}
-use Rattle.sdh_world.specs.Changes.{Change, Order, Hold, Now, Fibre, changed, Stretch}
+use Rattle.sdh_payload.specs.declared.clock.Turn.{Turn}
+use Rattle.sdh_circuits.specs.declared.PortId.{PortId}
+use Rattle.sdh_node.specs.Node.{at_receiving, held_for, slips_at}
+use Rattle.sdh_world.specs.Held.{HeldRing, new_ring, at_place, place_of_port}
+use Rattle.sdh_world.specs.Changes.{Change, Order, Hold, Slip, Now, Fibre, changed, Stretch, after_stretch, after_stretches, rounds_in}
+use Rattle.sdh_payload.specs.Clock.{ticked}
+use Rattle.sdh_world.specs.Clocks.{HasPortIn, clock_at, waiting_at, clock_after, clock_in, first_clock}
 use Rattle.sdh_world.specs.Sides.{new_holding, holding_of, holding_in, world_in, Fits}
 use Rattle.sdh_world.specs.Rounds.{World, world, arrival_at, frames_with, round_with, round}
 use Rattle.sdh_world.specs.Runs.{IsRound, IsBrokenOff, run, run_with, course}
@@ -91,19 +95,32 @@ pub record StepsAreComputed : Type 0 where
 pub record CallsChange : Type 0 where
   pub command : (r : HeldRing) (f : Fibres) (p : ℕ) (d : Side) (c : Command) → world (record r { nodes = at_place p (at_receiving d (commanded_by c)) r.nodes }) f ≡ changed (Order p d c) (world r f)
   pub hold : (r : HeldRing) (f : Fibres) (p turns : ℕ) → world (record r { nodes = at_place p (held_for turns) r.nodes }) f ≡ changed (Hold p turns) (world r f)
+  pub slip : (r : HeldRing) (f : Fibres) (port : PortId) (turn : Turn) (count : ℕ) → world (record r { nodes = at_place (place_of_port r port) (slips_at port turn count) r.nodes }) f ≡ changed (Slip port turn count) (world r f)
   pub moment : (r : HeldRing) (f : Fibres) (t : ℕ) → world (record r { moment = t }) f ≡ changed (Now t) (world r f)
   pub apply : (r : HeldRing) (f : Fibres) (p : ℕ) (d : Side) (c : Condition) → world r (after_apply f p d c) ≡ changed (Fibre p d c) (world r f)
 
--- a condition that a change gives a fibre is one of the rate, and a controller misses at most 100 turns
-abbrev pub IsChangeAt : Rate → Change → Type 0
-IsChangeAt rate (Fibre p d c) = IsConditionAt rate c
-IsChangeAt rate (Order p d c) = Unit {0}
-IsChangeAt rate (Hold p turns) = turns ≤ 100
-IsChangeAt rate (Now t) = Unit {0}
+-- a condition that a change gives a fibre is one of the rate, a controller misses at most 100 turns, and at most 16 slips wait at a
+-- port then
+abbrev pub IsChangeOf : World → Change → Type 0
+IsChangeOf w (Fibre p d c) = IsConditionAt w.ring.settings.rate c
+IsChangeOf w (Order p d c) = Unit {0}
+IsChangeOf w (Hold p turns) = turns ≤ 100
+IsChangeOf w (Slip port turn count) = waiting_at w.ring port + count ≤ 16
+IsChangeOf w (Now t) = Unit {0}
+
+-- so is each of these, one after the other
+abbrev pub AreChangesOf : World → List Change → Type 0
+AreChangesOf w [] = Unit {0}
+AreChangesOf w (c ∷ cs) = IsChangeOf w c × AreChangesOf (changed c w) cs
+
+-- and each of the stretches
+abbrev pub MayHappen : World → List Stretch → Type 0
+MayHappen w [] = Unit {0}
+MayHappen w (s ∷ ss) = AreChangesOf w s.changes × MayHappen (after_stretch s w) ss
 
 -- such changes leave prepared fibres prepared
 abbrev pub ChangesKeepPrepared : Type 0
-ChangesKeepPrepared = (rate : Rate) (n : ℕ) (w : World) (c : Change) → IsChangeAt rate c → IsPrepared rate n w.fibres → IsPrepared rate n (changed c w).fibres
+ChangesKeepPrepared = (n : ℕ) (w : World) (c : Change) → IsChangeOf w c → IsPrepared w.ring.settings.rate n w.fibres → IsPrepared w.ring.settings.rate n (changed c w).fibres
 
 -- in a new ring over new fibres nothing holds
 abbrev pub NewHolds : Type 0
@@ -112,3 +129,17 @@ NewHolds = (s : Settings) (ids : List ℕ) (circuits : Provisioning) (rate : Rat
 -- what holds when round t of some stretches begins is what their history tells
 abbrev pub HistoriesHold : Type 0
 HistoriesHold = (n p : ℕ) (d : Side) (ss : List Stretch) (w : World) (t : ℕ) → Fits n w → p < n → holding_of n p d (world_in ss w t) ≡ holding_in n p d ss (holding_of n p d w) t
+
+-- ---- clocks
+
+-- The clock of each port that is in a ring starts with the offset of its customer, goes on by each round, whatever arrives, and is
+-- changed between rounds by slips of its own alone; so it is that of its history before each round of some stretches, and behind the
+-- last one.
+pub record ClocksGoOn : Type 0 where
+  pub new : (s : Settings) (ids : List ℕ) (circuits : Provisioning) (port : PortId) → HasPortIn (new_ring s ids circuits) port → clock_at (new_ring s ids circuits) port ≡ first_clock circuits.circuits port
+  pub round : (arrivals : List Arrival) (w : World) (port : PortId) → HasPortIn w.ring port → HasPortIn (round_with arrivals w).ring port × (clock_at (round_with arrivals w).ring port ≡ ticked (clock_at w.ring port))
+  pub change : (c : Change) (w : World) (port : PortId) → HasPortIn w.ring port → HasPortIn (changed c w).ring port × (clock_at (changed c w).ring port ≡ clock_after port c (clock_at w.ring port))
+  pub history : (ss : List Stretch) (w : World) (port : PortId) (t : ℕ) → HasPortIn w.ring port → t < rounds_in ss → clock_at (world_in ss w t).ring port ≡ clock_in port ss (clock_at w.ring port) t
+  pub behind : (ss : List Stretch) (w : World) (port : PortId) → HasPortIn w.ring port → clock_at (after_stretches ss w).ring port ≡ clock_in port ss (clock_at w.ring port) (rounds_in ss)
+  -- 68 rounds use up 16 slips: four at the start, and four with each
+  pub run_out : (rounds : List (List Arrival)) (w : World) (port : PortId) → HasPortIn w.ring port → (clock_at w.ring port).rest ≤ 4 → waiting_at w.ring port ≤ 16 → 68 ≤ length rounds → waiting_at (run_with rounds w).ring port ≡ 0

@@ -5,4 +5,5 @@ pub mod Quiet
 pub mod Fixed
 pub mod Changes
 pub mod Sides
+pub mod Clocks
 pub mod Laws

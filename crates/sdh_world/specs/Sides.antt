@@ -11,7 +11,7 @@ use Rattle.sdh_plant.specs.Arrivals.{condition_of}
 use Rattle.sdh_node.specs.Node.{Node, receiving_on}
 use Rattle.sdh_world.specs.Rounds.{World}
 use Rattle.sdh_world.specs.Runs.{run}
-use Rattle.sdh_world.specs.Changes.{Change, Fibre, Order, Hold, Now, all_changed, Stretch, after_stretch}
+use Rattle.sdh_world.specs.Changes.{Change, Fibre, Order, Hold, Slip, Now, all_changed, Stretch, after_stretch}
 
 -- what holds on a side in a round: the condition of the fibre that comes in, the command, and the moment
 pub record Holding : Type 0 where
@@ -28,6 +28,7 @@ abbrev pub holding_after : ℕ → ℕ → Side → Change → Holding → Holdi
 holding_after n p d (Fibre q e condition) h = if fibre q e == fibre_to n p d then record h { condition = condition } else h
 holding_after n p d (Order q e command) h = if fibre q e == fibre p d then record h { command = command } else h
 holding_after n p d (Hold q turns) h = h
+holding_after n p d (Slip port turn count) h = h
 holding_after n p d (Now t) h = record h { moment = t }
 
 abbrev pub all_holding : ℕ → ℕ → Side → List Change → Holding → Holding

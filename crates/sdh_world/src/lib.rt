@@ -3,7 +3,7 @@
 //! `specs/Changes.antt`. Each function here has a law as its contract and no work to do.
 #![tactic(auto)]
 
-ghost use Rattle.sdh_world.specs.Laws.{KnownRounds, RoundsKeep, FaultsKeep, StayHonest, RunsKeep, SettledNumbers, BrokenStepsSend, KnownSteps, StepsAreComputed, CallsChange, ChangesKeepPrepared, NewHolds, HistoriesHold};
+ghost use Rattle.sdh_world.specs.Laws.{KnownRounds, RoundsKeep, FaultsKeep, StayHonest, RunsKeep, SettledNumbers, BrokenStepsSend, KnownSteps, StepsAreComputed, CallsChange, ChangesKeepPrepared, NewHolds, HistoriesHold, ClocksGoOn};
 
 /// Where arrivals are known a round is determined.
 pub fn known_rounds_are()
@@ -76,4 +76,11 @@ pub fn new_holds()
 #[tactic(auto, using(crate::proofs::Histories::histories_hold))]
 pub fn histories_hold()
     ensures { HistoriesHold }
+{}
+
+/// A port's clock goes on by each round, whatever arrives, and is changed between rounds by slips of its own alone; where none
+/// come, 68 rounds use up all that wait.
+#[tactic(auto, using(crate::proofs::Clocks::clocks_go_on))]
+pub fn clocks_go_on()
+    ensures { ClocksGoOn }
 {}

@@ -6,7 +6,7 @@ use Rattle.sdh_node.proofs.tributary.feed_all.Goals as goal
 pub feed-requires : goal.feed-requires
 feed-requires c =
     let x = c.index_mut-port.result.now in
-    subst (λ (t : Tributary). t.feed.chunks < 4294967296) (sym (read_here c.loop-i.ports.items c.args.ports.now.items c.loop-i.i x c.loop-i.invariant.rest c.index_mut-port.ensures.value)) (c.requires c.loop-i.i x (omega arith))
+    subst (λ (t : Tributary). t.feed.clock.rounds < 4294967296) (sym (read_here c.loop-i.ports.items c.args.ports.now.items c.loop-i.i x c.loop-i.invariant.rest c.index_mut-port.ensures.value)) (c.requires c.loop-i.i x (omega arith))
 
 pub loop-i-preserved : goal.loop-i-preserved
 loop-i-preserved c =

@@ -6,8 +6,8 @@ use Rattle.sdh_plan.proofs.words.words_of.Given as goal
 
 abbrev pub invariant-loop-rest : goal.invariant-loop-rest
 invariant-loop-rest l = record {
-  said : Said (λ word. word.now) 5 (words l.fn.text) l.words.items l.rest;
-  few : length l.words.items ≤ 5;
+  said : Said (λ word. word.now) 6 (words l.fn.text) l.words.items l.rest;
+  few : length l.words.items ≤ 6;
 }
 
 abbrev pub decreases-loop-rest : goal.decreases-loop-rest

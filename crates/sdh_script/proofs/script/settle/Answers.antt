@@ -2,6 +2,8 @@ use Rattle.std.proofs.Common.{ℕ, zero, suc, ◌≤◌, ◌+◌, ◌-◌, ◌*�
 use Rattle.std.specs.Prelude.{length}
 use Rattle.sdh_world.specs.Held.{HeldRing}
 use Rattle.sdh_world.specs.Rounds.{world}
+use Rattle.sdh_circuits.specs.declared.PortId.{PortId}
+use Rattle.sdh_owed.proofs.Standing.{long_step}
 use Rattle.sdh_script.specs.Room.{report_room, MayList}
 use Rattle.sdh_script.proofs.Steps.{settled_held, settled_whole, settled_went, settled_next}
 use Rattle.sdh_script.proofs.script.settle.Goals as goal
@@ -36,4 +38,6 @@ returns-in-Ok-clause-next g c =
     let left = world c.settle.new.self (means c.settle.new.plant) in
     let s = c.in-Ok.ensures.outcome in
     let same = ap (λ (x : HeldRing). report_room c.args.listing (length x.ids) (length x.circuits.circuits)) (settled_held w left c.args.limit s) in
-    settled_next c.args.limit c.args.number c.args.listing w left c.args.text.now c.put_report.new.text c.requires.few s (c.in-Ok.ensures.prepared (settled_whole w left c.args.limit s c.requires.may.whole)) (omega (arith, same, c.put_report.ensures.room))
+    let long = long_step w.ring left.ring c.args.limit c.requires.may.begins c.in-Ok.ensures.numbers in
+    let none = λ (port : PortId). c.in-Ok.ensures.slips port (omega (arith, long.1)) in
+    settled_next c.args.limit c.args.number c.args.listing w left c.args.text.now c.put_report.new.text c.requires.few s c.in-Ok.ensures.numbers none (c.in-Ok.ensures.prepared (settled_whole w left c.args.limit s c.requires.may.whole)) (omega (arith, same, c.put_report.ensures.room))

@@ -7,7 +7,7 @@ use Rattle.sdh_node.specs.Sending.{Sending}
 use Rattle.sdh_ringmap.specs.declared.Side.TheVariants.{West, East}
 use Rattle.sdh_node.specs.Crossing.{after_decision, next_word}
 use Rattle.sdh_node.specs.Node.{Node, node_round, GoesOn}
-use Rattle.sdh_node.proofs.Ports.{few_chunks, delivered_are, fed_are}
+use Rattle.sdh_node.proofs.Ports.{few_rounds, delivered_are, fed_are}
 use Rattle.sdh_node.proofs.Rounds.{round_goes_on}
 use Rattle.sdh_node.proofs.Turning.{node_of, west_frame_is, east_frame_is, calm_is, node_is}
 use Rattle.sdh_node.proofs.adm.Adm.send.Goals as goal
@@ -17,8 +17,8 @@ feed-requires c =
     let i = c.self.inside in
     let slots = n_of i.settings.rate / 2 in
     let few : i.rounds < 2 ^ 32 = subst (λ (n : Node). n.rounds < 2 ^ 32) (sym c.self.view_is) c.requires.few in
-    subst (All (λ (t : Tributary). t.feed.chunks < 2 ^ 32)) (sym c.deliver.ensures)
-    (few_chunks slots i.rounds _ few (delivered_are c.decide-decided.new.self slots i.rounds i.ports c.self.invariant.ports))
+    subst (All (λ (t : Tributary). t.feed.clock.rounds < 2 ^ 32)) (sym c.deliver.ensures)
+    (few_rounds slots i.rounds _ few (delivered_are c.decide-decided.new.self slots i.rounds i.ports c.self.invariant.ports))
 
 pub invariant_of-self : goal.invariant_of-self
 invariant_of-self c =

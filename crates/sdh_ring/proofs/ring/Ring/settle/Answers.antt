@@ -1,7 +1,7 @@
 use Rattle.std.proofs.Common.{◌+◌, refl, arith, rules}
 use Rattle.std.proofs.lemmas.Bool.{false≢true}
 use Rattle.sdh_world.specs.Rounds.{world}
-use Rattle.sdh_ring.proofs.Settling.{goes_none, went_more, settles, goes_on, counts_on, held_went, held_none, less_counted, prepared_back, unsettles}
+use Rattle.sdh_ring.proofs.Settling.{goes_none, went_more, settles, goes_on, counts_on, held_went, held_none, less_counted, prepared_back, unsettles, none_left}
 use Rattle.sdh_ring.proofs.ring.Ring.settle.Goals as goal
 
 pub rounds-init : goal.rounds-init
@@ -46,6 +46,10 @@ returns-then-is_over-clause-numbers g c = c.settled_numbers.ensures _ _ c.args.l
 
 pub returns-then-is_over-clause-whole : goal.returns-then-is_over-clause-whole
 returns-then-is_over-clause-whole g c = λ _ whole. c.steps_stay_whole.ensures.settled _ _ c.args.limit whole (returns-then-is_over-clause-outcome g c)
+
+pub returns-then-is_over-clause-slips : goal.returns-then-is_over-clause-slips
+returns-then-is_over-clause-slips g c = λ port long.
+    none_left (world c.args.self.now (g.P.Plant.fibres c.args.plant.now)) (world c.round.new.self (g.P.Plant.fibres c.round.new.plant)) c.args.limit port (returns-then-is_over-clause-outcome g c) (c.has_rested.ensures port) long
 
 pub returns-clause-outcome : goal.returns-clause-outcome
 returns-clause-outcome g c = search (rules, unsettles)

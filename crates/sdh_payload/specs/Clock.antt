@@ -1,0 +1,79 @@
+-- A customer's clock, which may run fast or slow against the ring's: its port then justifies the AU-4 pointer (ITU-T G.707
+-- clause 8.1). That it slips when it is told to, and when, is this project's own.
+use Rattle.std.specs.Prelude.{◌≡◌, ℕ, zero, suc, ◌+◌, ◌-◌, ◌*◌, ◌%◌, ◌≤◌, nat_le, if◌then◌else◌}
+use Rattle.sdh_payload.specs.declared.chunk.ChunkForm.{ChunkForm}
+use Rattle.sdh_payload.specs.declared.chunk.ChunkForm.TheVariants.{Plain, Short, Long}
+use Rattle.sdh_payload.specs.declared.clock.Turn.{Turn}
+use Rattle.sdh_payload.specs.declared.clock.Turn.TheVariants.{Up, Down}
+use Rattle.sdh_payload.specs.Chunk.{taken_len}
+
+pub record Clock : Type 0 where
+  -- how many rounds it has run
+  pub rounds : ℕ
+  -- how many slips wait: positive justifications, each with three bytes less in its round, and negative ones, with three more
+  pub ups : ℕ
+  pub downs : ℕ
+  -- how many rounds come before one that may justify: the first four of all, and three behind each justification
+  pub rest : ℕ
+  -- how many bytes of the stream it has sent
+  pub sent : ℕ
+  -- the pointer value, which counts steps of three bytes
+  pub value : ℕ
+  -- what it sent in the last round, and `Plain` before the first
+  pub form : ChunkForm
+
+-- of a port with this offset, before round 0
+abbrev pub new_clock : ℕ → Clock
+new_clock offset = record { rounds = 0; ups = 0; downs = 0; rest = 4; sent = 0; value = offset; form = Plain }
+
+-- what is true of every clock of a port with this offset, after so many rounds
+pub record IsClock (offset rounds : ℕ) (c : Clock) : Type 0 where
+  pub rounds_are : c.rounds ≡ rounds
+  pub rest_few : c.rest ≤ 4
+  pub value_small : offset ≤ 782 → c.value ≤ 782
+
+-- ---- between rounds
+
+-- all slips that wait
+abbrev pub waiting : Clock → ℕ
+waiting c = c.ups + c.downs
+
+-- with so many more
+abbrev pub waits : Turn → ℕ → Clock → Clock
+waits Up count c = record c { ups = c.ups + count }
+waits Down count c = record c { downs = c.downs + count }
+
+-- ---- a round
+
+-- what it sends in the next round: one slip is used up where one may be and one waits, ups before downs
+abbrev pub next_form : Clock → ChunkForm
+next_form c =
+    if nat_le 1 c.rest then Plain else
+    if nat_le 1 c.ups then Short else
+    if nat_le 1 c.downs then Long else Plain
+
+-- after a round in which it sent this; 782 steps forward are one step back
+abbrev pub after_form : ChunkForm → Clock → Clock
+after_form Plain c = record c { rounds = c.rounds + 1; rest = c.rest - 1; sent = c.sent + 2349; form = Plain }
+after_form Short c = record c { rounds = c.rounds + 1; ups = c.ups - 1; rest = 3; sent = c.sent + 2346; value = (c.value + 1) % 783; form = Short }
+after_form Long c = record c { rounds = c.rounds + 1; downs = c.downs - 1; rest = 3; sent = c.sent + 2352; value = (c.value + 782) % 783; form = Long }
+
+-- after the next round
+unfoldable pub ticked : Clock → Clock
+ticked c = after_form (next_form c) c
+
+-- after so many
+unfoldable pub ticks : ℕ → Clock → Clock
+ticks zero c = c
+ticks (suc k) c = ticked (ticks k c)
+
+-- where the bytes of the last round begin in the stream
+abbrev pub last_from : Clock → ℕ
+last_from c = c.sent - taken_len c.form
+
+-- what is true of every clock: its value is one of a pointer, at most 16 slips wait, and it went on by about 2349 bytes a round
+pub record IsKept (c : Clock) : Type 0 where
+  pub value_small : c.value ≤ 782
+  pub rest_few : c.rest ≤ 4
+  pub few : waiting c ≤ 16
+  pub sent_few : c.sent ≤ 2352 * c.rounds

@@ -1,0 +1,60 @@
+-- The clocks of a ring's ports, and their history from the stretches of a run. No frame occurs in it.
+use Rattle.std.specs.Prelude.{ℕ, ◌-◌, nat_lt, if◌then◌else◌, Option, IsSome, List, [], ◌∷◌, slice_get}
+use Rattle.std.specs.Option.{option_map_or, option_and_then}
+use Rattle.sdh_payload.specs.Clock.{Clock, new_clock, waiting, waits, ticks}
+use Rattle.sdh_circuits.specs.declared.PortId.{PortId}
+use Rattle.sdh_circuits.specs.Provisioned.{Provisioned, customer_at, same_port}
+use Rattle.sdh_node.specs.Tributaries.{Tributary, port_of}
+use Rattle.sdh_world.specs.Held.{HeldRing, place_of_port}
+use Rattle.sdh_world.specs.Rounds.{World}
+use Rattle.sdh_world.specs.Changes.{Change, Fibre, Order, Hold, Slip, Now, Stretch}
+
+-- before round 0, by the offset of the port's customer
+unfoldable pub first_clock : List Provisioned → PortId → Clock
+first_clock circuits port = new_clock (option_map_or (λ c. (customer_at c port.end).offset) (slice_get circuits port.circuit) 0)
+
+-- ---- in a ring
+
+-- the port of a circuit, at the node where it is
+abbrev pub port_in : HeldRing → PortId → Option Tributary
+port_in r port = option_and_then (λ n. port_of port n.ports) (slice_get r.nodes (place_of_port r port))
+
+-- it is there
+abbrev pub HasPortIn : HeldRing → PortId → Type 0
+HasPortIn r port = IsSome (port_in r port)
+
+-- its clock; that of no port where there is no such circuit
+unfoldable pub clock_at : HeldRing → PortId → Clock
+clock_at r port = option_map_or (λ t. t.feed.clock) (port_in r port) (new_clock 0)
+
+-- how many slips wait at it
+abbrev pub waiting_at : HeldRing → PortId → ℕ
+waiting_at r port = waiting (clock_at r port)
+
+-- the clock before each round of a run from this world on, in which nothing happens but rounds
+abbrev pub clocks_from : World → PortId → ℕ → Clock
+clocks_from w port t = ticks (t - w.ring.rounds) (clock_at w.ring port)
+
+-- ---- by history
+
+-- after a change
+abbrev pub clock_after : PortId → Change → Clock → Clock
+clock_after port (Fibre q e condition) c = c
+clock_after port (Order q e command) c = c
+clock_after port (Hold q turns) c = c
+clock_after port (Slip other turn count) c = if same_port port other then waits turn count c else c
+clock_after port (Now t) c = c
+
+abbrev pub clock_changed : PortId → List Change → Clock → Clock
+clock_changed port [] c = c
+clock_changed port (x ∷ xs) c = clock_changed port xs (clock_after port x c)
+
+-- before round t of the stretches, or of rounds alone behind them
+abbrev pub clock_in : PortId → List Stretch → Clock → ℕ → Clock
+clock_in port [] c t = ticks t c
+clock_in port (s ∷ ss) c t =
+    if nat_lt t s.rounds then ticks t (clock_changed port s.changes c) else clock_in port ss (ticks s.rounds (clock_changed port s.changes c)) (t - s.rounds)
+
+-- from a new ring with these circuits
+abbrev pub clocks_by : List Provisioned → List Stretch → PortId → ℕ → Clock
+clocks_by circuits ss port t = clock_in port ss (first_clock circuits port) t
