@@ -28,7 +28,7 @@ VALUES = NUMBERS + [
     "true", "'2'", '""', "''", "[]", "{}", "[1]", "[[]]", "['settle']", '"c1"', '"\\u0041"', '"\\x41"', '"\\e"', '"\\u00e9"', "'''\n1'''",
     '"""a"""', "2026-01-02", "10:30", "2026-01-02 10:30:00Z", "2026-02-30", "{a = 1}", "{a = 1,\n}", "[1,\n 2,]", "[{}]", "[" * 81 + "]" * 81,
 ]  # fmt: skip
-WORDS = "cut mend degrade forced manual clear moment settle hold lock Cut west east up East 0 1 2 3 7 9 12 13 15 16 48 49 05 +1 1000000000 1000000001 5 4 \u00e9".split() + [""]
+WORDS = "cut mend degrade forced manual clear moment settle hold slip lock Cut west east up down a b c0 c1 c9 East 0 1 2 3 7 9 12 13 15 16 48 49 05 +1 1000000000 1000000001 5 4 \u00e9".split() + [""]
 BYTES = [b"\n", b"\r\n", b"\r", b"\t", b" ", b"  ", b"#", b"=", b",", b".", b"[", b"]", b"{", b"}", b'"', b"'", b'"""', b"\\", b"_", b"-", b"0", b"1", b"9", b"a", b"\x00", b"\x7f", b"\x80", b"\xc3\xa9", b"\xef\xbb\xbf"]  # fmt: skip
 KEYS = "rate nodes threshold wait limit script circuit name from to slot text_a text_b trace_a trace_b offset_a offset_b colour".split()
 NAMES = ["c1", "c2", "a-b_c", "x" * 16, "x" * 17, "C1", "", "c 1", "~", "\u00e9"]
@@ -40,7 +40,7 @@ BORDERS = {
     "threshold": (0, 1, 12, 13, 48, 49),
     "wait": (-1, 0, 1000000, 1000001),
     "limit": (0, 1, 65536, 65537),
-    "script": ("[]", '["settle", 1]', '["moment 9", "moment 8"]', '["moment 1000000000", "moment 1000000001", "settle"]', '"settle"', '["settle", ""]'),
+    "script": ('["slip c0 a up 9", "slip c0 a down 8", "settle"]', '["slip c0 a up 9", "settle", "slip c0 a down 8", "slip c0 b up 16", "settle"]', "[]", '["settle", 1]', '["moment 9", "moment 8"]', '["moment 1000000000", "moment 1000000001", "settle"]', '"settle"', '["settle", ""]'),
     "circuit": ("[]", "{}", "[1]", "3", "[[]]"),
     "from": (0, 1, 2, 3, 16, -1),
     "to": (0, 1, 2, 3, 16, -1),
@@ -106,7 +106,8 @@ def script(chance, rate, nodes):
         steps.append(
             chance.choice(
                 (f"cut {node} {side}", f"mend {node} {side}", f"degrade {node} {side} {chance.randint(1, 3 * rate)}",
-                 f"forced {node} {side}", f"manual {node} {side}", f"clear {node} {side}", f"hold {node} {chance.choice((1, 2, 99, 100))}", f"moment {moment}", "settle")
+                 f"forced {node} {side}", f"manual {node} {side}", f"clear {node} {side}", f"hold {node} {chance.choice((1, 2, 99, 100))}",
+                 f"slip c{chance.randint(0, 2)} {chance.choice('ab')} {chance.choice(('up', 'down'))} {chance.choice((1, 2, 5, 16))}", f"moment {moment}", "settle")
             )
         )  # fmt: skip
     return steps + ["settle"]
@@ -277,7 +278,7 @@ def main():
         reasons[line.rsplit(" at ", 1)[0]] += times
     for line, times in sorted(reasons.items(), key=lambda item: [int(d) for d in re.findall(r"\d+", item[0])]):
         print(f"{times:8} {line}")
-    missing = [reason for reason in range(1, 30) if not reasons[f"bad plan {reason}"]]
+    missing = [reason for reason in range(1, 32) if not reasons[f"bad plan {reason}"]]
     print(f"{words.count} documents, {differ} differ, {len(answers)} answers" + (f", reasons that never came: {missing}" if missing else ""))
     sys.exit(1 if differ or missing else 0)
 

@@ -69,9 +69,16 @@ def check(document):
     script = document.get("script")
     want(is_array(script) and all(is_text(step) for step in script), 20)
     want(1 <= len(script) <= 1000, 21)
-    moment, settles = 0, 0
+    moment, settles, slips = 0, 0, {}
     for place, step in enumerate(script, 1):
-        moment, settles = check_step(step.encode(), place, n, nodes, moment, settles)
+        words = step.encode().split(b" ")
+        check_form(words, place)
+        if words[0] == b"slip":
+            check_slip(words[1:], place, names, slips)
+            continue
+        moment, settles = check_step(words, place, n, nodes, moment, settles)
+        if words[0] == b"settle":
+            slips.clear()
     want(script[-1] == "settle", 29, len(script))
 
 
@@ -116,13 +123,29 @@ def number_in(word, low, high):
     return int(word) if low <= int(word) <= high else None
 
 
-def check_step(step, place, n, nodes, moment, settles):
-    words = step.split(b" ")
+FORMS = {b"cut": 2, b"mend": 2, b"degrade": 3, b"forced": 2, b"manual": 2, b"clear": 2, b"moment": 1, b"settle": 0, b"hold": 2, b"slip": 4}
+
+
+def check_form(words, place):
     want(all(words), 23, place)
-    forms = {b"cut": 2, b"mend": 2, b"degrade": 3, b"forced": 2, b"manual": 2, b"clear": 2, b"moment": 1, b"settle": 0, b"hold": 2}
     verb, *others = words
-    want(verb in forms, 22, place)
-    want(len(others) == forms[verb], 23, place)
+    want(verb in FORMS, 22, place)
+    want(len(others) == FORMS[verb], 23, place)
+
+
+def check_slip(words, place, names, slips):
+    """The slips of a port since the last settle step, one more of them."""
+    name, end, turn, count = words
+    want(name in {name.encode() for name in names} and end in (b"a", b"b"), 30, place)
+    want(turn in (b"up", b"down"), 25, place)
+    count = number_in(count, 1, 16)
+    want(count is not None, 26, place)
+    slips[name, end] = slips.get((name, end), 0) + count
+    want(slips[name, end] <= 16, 31, place)
+
+
+def check_step(words, place, n, nodes, moment, settles):
+    verb, *others = words
     if verb not in (b"moment", b"settle"):
         want(number_in(others[0], 0, 15) in nodes, 24, place)
         want(verb == b"hold" or others[1] in (b"west", b"east"), 25, place)

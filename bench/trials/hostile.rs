@@ -14,20 +14,27 @@ struct Trial {
     plan: String,
 }
 
-// The steps before the settle step: commands, moments, conditions and held controllers.
+// The steps before the settle step: commands, moments, conditions, held controllers, and slips, of which no port gets more than 15.
 fn steps(dice: &mut Dice, n: usize, nodes: usize) -> String {
     let mut steps = String::new();
     let mut moment = 0;
     for _ in 0..dice.below(6) {
         let node = dice.below(nodes as u64);
         let side = dice.one_of(&["west", "east"]);
-        let step = match dice.below(7) {
+        let step = match dice.below(8) {
             0 => format!("forced {node} {side}"),
             1 => format!("manual {node} {side}"),
             2 => format!("cut {node} {side}"),
             3 => format!("degrade {node} {side} {}", 1 + dice.below(3 * n as u64)),
             4 => format!("clear {node} {side}"),
             5 => format!("hold {node} {}", 1 + dice.below(100)),
+            6 => {
+                let slot = 1 + dice.below(n as u64 / 2);
+                let end = dice.one_of(&["a", "b"]);
+                let turn = dice.one_of(&["up", "down"]);
+                let count = 1 + dice.below(3);
+                format!("slip l{slot}-{node} {end} {turn} {count}")
+            }
             _ => {
                 moment += dice.below(100);
                 format!("moment {moment}")

@@ -11,7 +11,7 @@ from common import RINGS, Page, call, ring
 DONE = [
     "healthy", "two-nodes", "no-circuits", "four-nodes", "span-cut", "fibre-cut", "two-cuts-in-one-arc", "node-cut-off",
     "forced-on-healthy-spans", "mending", "tie", "end-of-waiting", "degraded-below-threshold", "degraded", "pre-emption",
-    "longest-route", "before-maintenance", "all-dark",
+    "longest-route", "before-maintenance", "all-dark", "slip-up", "slip-down",
 ]  # fmt: skip
 REFUSED = {
     "too-many-nodes": ("a ring has 2 to 16 nodes", "in the document itself"),
@@ -21,6 +21,8 @@ REFUSED = {
     "no-settle-at-the-end": ("the last step isn't `settle`", "at step 1, `cut 2 east`"),
     "unknown-step": ("the step's first word isn't known", "at step 2, `lock 2 east`"),
     "moment-back": ("the moment lies before the one that was set last", "at step 2, `moment 4`"),
+    "slip-of-no-port": ("the step's port isn't one of the plan's", "at step 1, `slip c9 a up 1`"),
+    "too-many-slips": ("more than 16 slips of one port since the last settle step", "at step 2, `slip c1 a down 1`"),
     "not-toml": ("isn't a TOML document", "no TOML document"),
     "no-such-port": ("The port that was asked for isn't one of the plan's", ""),
     "usage": ("words that it doesn't know", ""),

@@ -1,38 +1,22 @@
 -- How a script may end, and the outcome of what is asked.
-use Rattle.std.proofs.Common.{◌≡◌, ℕ, ◌+◌, None, Some, List, [], ◌∷◌, ◌++◌, ap, sym, ◌∙◌, subst, inl, inr, append-nil}
+use Rattle.std.proofs.Common.{◌≡◌, ℕ, None, Some, List, ◌++◌, ap, sym, ◌∙◌, subst, inl, inr, append-nil}
 use Rattle.std.specs.Prelude.{Option, IfSome, ◌⊎◌}
 use Rattle.std.specs.Io.KnownBytes.{Consumes, IsAtEnd}
 use Rattle.sdh_plant.specs.Fibres.{Fibres}
-use Rattle.sdh_world.specs.Rounds.{World}
 use Rattle.sdh_plan.specs.Planned.{Planned}
-use Rattle.sdh_plan.specs.declared.step.Step.{Step}
-use Rattle.sdh_plan.specs.declared.step.Step.TheVariants as step
-use Rattle.sdh_report.specs.Reports.{Report}
 use Rattle.sdh_report.specs.declared.listing.Listing.{Listing}
 use Rattle.sdh_report.specs.declared.status.Status.{Status}
 use Rattle.sdh_report.specs.declared.status.Status.TheVariants as status
-use Rattle.sdh_owed.specs.Steps.{after_step}
-use Rattle.sdh_owed.specs.Scripts.{Runs}
+use Rattle.sdh_script.proofs.Plans.{plan_ends_in}
 use Rattle.sdh_cli.specs.Words.{Ask, Run, Check, Drop, Big}
 use Rattle.sdh_cli.specs.Outcome.{IsRunOutcome, OfListing, OfPlan, listing_of}
 use Rattle.sdh_cli.specs.Headline.{HasRun}
 
-runs_end : (limit before : ℕ) (steps : List Step) (w : World) (reports : List Report) (end : Status) (left : World) → Runs limit before steps w reports end left → HasRun end
-runs_end limit before [] w reports end left x = subst HasRun (sym x.1.1) tt
-runs_end limit before (step.Fibre e ∷ later) w reports end left (inl x) = runs_end limit before later (after_step (step.Fibre e) w) reports end left x
-runs_end limit before (step.Fibre e ∷ later) w reports end left (inr x) = subst HasRun (sym x.1.1) tt
-runs_end limit before (step.Order p d c ∷ later) w reports end left x = runs_end limit before later (after_step (step.Order p d c) w) reports end left x
-runs_end limit before (step.Hold p turns ∷ later) w reports end left x = runs_end limit before later (after_step (step.Hold p turns) w) reports end left x
-runs_end limit before (step.Slip port turn count ∷ later) w reports end left x = runs_end limit before later (after_step (step.Slip port turn count) w) reports end left x
-runs_end limit before (step.Moment m ∷ later) w reports end left x = runs_end limit before later (after_step (step.Moment m) w) reports end left x
-runs_end limit before (step.Settle ∷ later) w reports end left (inl x) = runs_end limit (before + 1) later x.0 x.1 end left x.4
-runs_end limit before (step.Settle ∷ later) w reports end left (inr (inl x)) = subst HasRun (sym x.1.1) tt
-runs_end limit before (step.Settle ∷ later) w reports end left (inr (inr x)) = subst HasRun (sym x.1.1) tt
-
 pub run_ends : (plan : Planned) (listing : Listing) (f left : Fibres) (how : Status) (text : List ℕ) → IsRunOutcome plan listing f how text left → HasRun how
-run_ends plan listing f left how text x = elim x.ran [
-  | inl pf ↦ subst HasRun (sym pf.0) tt
-  | inr r ↦ runs_end plan.limit 0 plan.steps _ r.2.reports how r.0 r.2.runs
+run_ends plan listing f left how text x = elim (plan_ends_in plan listing f left x.reports how x.ran) [
+  | inl done ↦ subst HasRun (sym done) tt
+  | inr (inl at) ↦ subst HasRun (sym at.1) tt
+  | inr (inr fault) ↦ subst HasRun (sym fault) tt
 ]
 
 -- the endings that there are with a plan

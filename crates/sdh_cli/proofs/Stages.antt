@@ -11,7 +11,7 @@ use Rattle.sdh_report.specs.declared.status.Status.TheVariants as status
 use Rattle.sdh_report.specs.Statuses.{last_line}
 use Rattle.sdh_converging.specs.Laws.{enough_for}
 use Rattle.sdh_owed.specs.Healthy.{AllSettle, IsSettled}
-use Rattle.sdh_script.specs.Plans.{world_of, ran_of, Comes, ComesKnown, IsOwedText, IsHealthyText}
+use Rattle.sdh_script.specs.Plans.{world_of, MaySettle, Comes, ComesKnown, IsOwedText, IsHealthyText}
 use Rattle.sdh_cli.specs.Words.{Ask, Run, Check, Drop, Big}
 use Rattle.sdh_cli.specs.Outcome.{IsRunOutcome, OfListing, OfPlan, OfBytes, listing_of, TellsPlan, IsOutcome, told, LeavesSource, LeavesPlant, HasRead, Counts, HaveFailed, HasCause, IsShown}
 use Rattle.sdh_cli.specs.Headline.{MayGo, MayBeDone}
@@ -48,11 +48,11 @@ module _ (plan : Planned) (listing : Listing) (f : Fibres) where
   run_makes_fibres (Drop name end) A e x = absurd x
   run_makes_fibres (Big number) A e x = absurd x
 
-  pub run_may_go : (ask : Ask) → listing_of ask plan ≡ Some listing → MayGo ask plan f → Knows (world_of plan f).fibres × ((ran_of plan f).ending ≡ status.Ok)
-  run_may_go Run e x = (x.2, x.3)
+  pub run_may_go : (ask : Ask) → listing_of ask plan ≡ Some listing → MayGo ask plan f → MaySettle plan f
+  run_may_go Run e x = x.2
   run_may_go Check e x = absurd (grind arith)
-  run_may_go (Drop name end) e x = (x.2, x.3)
-  run_may_go (Big number) e x = (x.2, x.3)
+  run_may_go (Drop name end) e x = x.2
+  run_may_go (Big number) e x = x.2
 
 -- ---- with the bytes of a source
 

@@ -11,7 +11,7 @@ use Rattle.sdh_report.specs.declared.listing.Listing.{Listing}
 use Rattle.sdh_report.specs.Statuses.{last_line}
 use Rattle.sdh_converging.specs.Laws.{enough_for}
 use Rattle.sdh_owed.specs.Healthy.{AllSettle}
-use Rattle.sdh_script.specs.Plans.{world_of, ran_of, IsOwedText, IsHealthyText}
+use Rattle.sdh_script.specs.Plans.{world_of, ran_of, MaySettle, IsOwedText, IsHealthyText}
 use Rattle.sdh_cli.specs.Words.{Ask, Run, Check, Drop, Big}
 use Rattle.sdh_cli.specs.Outcome.{TellsPlan, listing_of}
 
@@ -63,10 +63,11 @@ abbrev pub StaysHealthy : Option Ask → List ℕ → Status → Option (List �
 StaysHealthy ask bytes how old new = (plan : Planned) (listing : Listing) → Lists ask bytes plan listing → HasRun how → AllSettle plan.steps
     → (reports : List ℕ) × Appends old new (reports ++ last_line how) × IsHealthyText plan listing reports how
 
--- all is given for what is asked with a plan: for the tables nothing more; for a run its port, and a script that settles
+-- all is given for what is asked with a plan: for the tables nothing more; for a run its port, and a script that settles, as it does over
+-- honest fibres where the limit is large
 abbrev pub MayGo : Ask → Planned → Fibres → Type 0
 MayGo Check plan f = Unit {0}
-MayGo ask plan f = (listing : Listing) × (listing_of ask plan ≡ Some listing) × Knows (world_of plan f).fibres × ((ran_of plan f).ending ≡ status.Ok)
+MayGo ask plan f = (listing : Listing) × (listing_of ask plan ≡ Some listing) × MaySettle plan f
 
 -- the words are one of the forms, and the source tells the bytes of a plan with which all is given
 abbrev pub MayBeDone : Option Ask → Option (List ℕ) → Fibres → Type 0

@@ -8,7 +8,7 @@ ghost use Rattle.sdh_plan.specs.Big.{big_planned};
 ghost use Rattle.sdh_report.specs.Statuses.{last_line};
 ghost use Rattle.sdh_tables.specs.Tables.{tables_of};
 ghost use Rattle.sdh_script.specs.Room.{MayList};
-ghost use Rattle.sdh_script.specs.Plans.{world_of, ran_of};
+ghost use Rattle.sdh_script.specs.Plans.{MaySettle};
 ghost use Rattle.sdh_cli.specs.Words.{Big, ask_of, words_of, asked};
 ghost use Rattle.sdh_cli.specs.Outcome.{IsRunOutcome, listing_of, OfPlan, OfBytes, IsOutcome, told, LeavesSource, LeavesPlant, HasRead, HasCause, IsShown};
 ghost use Rattle.sdh_cli.specs.Headline.{MayGo, MayBeDone};
@@ -70,7 +70,7 @@ fn run_report<P: Plant>(
     ensures failed { IfOk result (λ report. report.status ≡ Status.PlantFault → Rose (P.faults plant.old) (P.faults plant.new)) }
     ensures calls { IfOk result (λ report. report.status ≢ Status.PlantFault → P.exact ≡ true → P.faults plant.new ≡ P.faults plant.old) }
     ensures without { OnErr result (P.exact ≡ true → P.faults plant.new ≡ P.faults plant.old) }
-    ensures complete { IfOk result (λ report. Knows (world_of plan (P.fibres plant.old)).fibres → (ran_of plan (P.fibres plant.old)).ending ≡ Status.Ok → ¬ (Rose (P.faults plant.old) (P.faults plant.new)) → report.status ≡ Status.Ok) }
+    ensures complete { IfOk result (λ report. MaySettle plan (P.fibres plant.old) → ¬ (Rose (P.faults plant.old) (P.faults plant.new)) → report.status ≡ Status.Ok) }
     ensures later { P.faults plant.old ≤ P.faults plant.new }
     ensures unsent { OnErr result (P.fibres plant.new ≡ P.fibres plant.old) }
 {

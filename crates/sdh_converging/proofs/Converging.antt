@@ -32,7 +32,7 @@ use Rattle.sdh_carrying.proofs.Applied.{length-requests_of}
 use Rattle.sdh_carrying.proofs.Settles.{each_settled}
 use Rattle.sdh_carrying.proofs.Ways.{layout_run}
 use Rattle.sdh_converging.specs.Steady.{IsAtRest, HasStillPointers}
-use Rattle.sdh_converging.specs.Laws.{enough_for, RoundsGetCalm, RingsConverge, StepsAnswer}
+use Rattle.sdh_converging.specs.Laws.{enough_for, RoundsGetCalm, WindowsComeSoon, RingsConverge, StepsAnswer}
 use Rattle.sdh_converging.proofs.Runs.{length_run, condition_run, run_more}
 use Rattle.sdh_converging.proofs.Spreading.{pointers_rest}
 use Rattle.sdh_converging.proofs.Windows.{calm_ends_windows, answers_by}
@@ -219,11 +219,17 @@ module _ (w : World) (whole : IsWhole w) (form : HasCircuits (layout_of w)) (sti
 pub rounds_get_calm : RingsSettle → RoundsGetCalm
 rounds_get_calm law w whole form j late = calm_from w whole form (runs_get_still law w whole) j late
 
+pub windows_come_soon : RingsSettle → WindowsComeSoon
+windows_come_soon law w whole form =
+    let n = length w.ring.ids in
+    let by = calm_ends_windows w (31 * n + 128) (rounds_get_calm law w whole form) in
+    record { ends = by.ends; soon = omega (arith, by.soon); window = by.window }
+
 pub rings_converge : RingsSettle → RingsConverge
 rings_converge law w whole form =
     let n = length w.ring.ids in
-    let by = calm_ends_windows w (31 * n + 128) (rounds_get_calm law w whole form) in
-    let soon : by.ends ≤ enough_for n = (let s = by.soon in omega arith) in
+    let by = windows_come_soon law w whole form in
+    let soon : by.ends ≤ enough_for n = omega (arith, by.soon) in
     record {
       window = record { ends = by.ends; soon = soon; window = by.window };
       answers = λ limit large. answers_by w (enough_for n) limit large (record { ends = by.ends; soon = soon; window = by.window });

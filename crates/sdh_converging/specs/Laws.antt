@@ -42,6 +42,10 @@ CalmEndsWindows = (w : World) (first : ℕ) → ((j : ℕ) → first ≤ j → I
 abbrev pub RoundsGetCalm : Type 0
 RoundsGetCalm = (w : World) → IsWhole w → HasCircuits (layout_of w) → (j : ℕ) → 31 * length w.ring.ids + 128 ≤ j → IsCalm (course w) j
 
+-- so a quiet window always comes, within 34n + 256 rounds: 31n + 128 until all rounds are calm, and 3n + 128 until a window ends
+abbrev pub WindowsComeSoon : Type 0
+WindowsComeSoon = (w : World) → IsWhole w → HasCircuits (layout_of w) → WindowBy w (34 * length w.ring.ids + 256)
+
 -- so many rounds are always enough, in a ring of n
 abbrev pub enough_for : ℕ → ℕ
 enough_for n = 64 * n + 512

@@ -3,7 +3,7 @@
 //! as its contract and no work to do.
 #![tactic(auto)]
 
-ghost use Rattle.sdh_converging.specs.Laws.{ASpanIsSteady, PointersRest, CalmEndsWindows, RoundsGetCalm, RingsConverge, StepsAnswer, StretchesConverge};
+ghost use Rattle.sdh_converging.specs.Laws.{WindowsComeSoon, ASpanIsSteady, PointersRest, CalmEndsWindows, RoundsGetCalm, RingsConverge, StepsAnswer, StretchesConverge};
 ghost use Rattle.sdh_converging.specs.Healthy.{HealthyRoundsAreCalm, HealthyStepsSettle, HealthyRingsApplyNothing, HealthyStepsDeliver};
 ghost use Rattle.sdh_converging.specs.Rings.{ARingOccurs};
 
@@ -25,6 +25,13 @@ pub fn calm_ends_windows()
 /// Where nothing happens but rounds, they are calm from some round on.
 pub fn rounds_get_calm()
     ensures { RoundsGetCalm }
+{
+    sdh_settling::rings_settle();
+}
+
+/// From every whole ring on a quiet window ends within 34n + 256 rounds.
+pub fn windows_come_soon()
+    ensures { WindowsComeSoon }
 {
     sdh_settling::rings_settle();
 }

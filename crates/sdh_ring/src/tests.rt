@@ -6,9 +6,11 @@ use crate::{PlantFault, Ring, SettleError};
 use sdh_circuits::{Asked, CircuitMap, End, PortId};
 use sdh_frame::Rate;
 use sdh_kbytes::encode;
-use sdh_node::{Delivered, Settings};
+use sdh_node::{Delivered, Settings, Turn};
 use sdh_nodestate::NodeState;
-use sdh_plant::{Condition, FibreEvent, FibrePlant, Plant, RecordingPlant};
+use sdh_plant::{
+    Condition, FailingPlant, FibreEvent, FibrePlant, Plant, PlantCall, RecordingPlant,
+};
 use sdh_ringmap::{Pos, RingMap, Side};
 use std::alloc::Global;
 use std::test::Fail;
@@ -179,5 +181,63 @@ fn a_fault_of_the_plant_breaks_the_ring(rt: HostRuntime) -> Result<(), Fail> {
     let mut ring = laid(rt.alloc(), &mut plant, &[1, 2, 3], 2)?;
     assert_eq!(rt; ring.round(&mut plant), Err(PlantFault));
     assert!(rt; ring.is_broken());
+    Ok(())
+}
+
+// A ring of three nodes, in whose circuit two slips wait at one port.
+fn slipping<P: Plant>(alloc: Global, plant: &mut P, end: End, turn: Turn) -> Result<Ring, Fail>
+    requires { HasNoFibres (P.fibres plant.old) }
+    ensures prepared { IfOk result (λ ring. IsPrepared ring.settings.rate (length ring.ids) (P.fibres plant.new)) }
+    ensures whole { IfOk result (λ ring. ring.broken ≡ false) }
+    ensures new { IfOk result (λ ring. ring.rounds ≡ 0) }
+{
+    let mut ring = laid(alloc, plant, &[1, 2, 3], 2)?;
+    let port = PortId { circuit: 0, end };
+    if ring.circuits().len() == 0 || ring.waiting(port) != 0 {
+        return Err(Fail::from("no circuit"));
+    }
+    ring.slip(port, turn, 2);
+    Ok(ring)
+}
+
+// How many slips wait at a port of the circuit.
+fn waiting_at(ring: &Ring, end: End) -> Option<u8> {
+    if ring.circuits().len() == 0 {
+        return None;
+    }
+    Some(ring.waiting(PortId { circuit: 0, end }))
+}
+
+#[test]
+fn slips_wait_at_the_port_told_until_a_round_of_their_own(rt: HostRuntime) -> Result<(), Fail> {
+    // How many rounds have run, and how many of two slips still wait.
+    for (rounds, wants) in [(1, 2), (4, 2), (5, 1), (8, 1), (9, 0)] {
+        for (end, other) in [(End::A, End::B), (End::B, End::A)] {
+            for turn in [Turn::Up, Turn::Down] {
+                let mut plant = FibrePlant::new();
+                let mut ring = slipping(rt.alloc(), &mut plant, end, turn)?;
+                assert_eq!(rt; waiting_at(&ring, end), Some(2));
+                assert_eq!(rt;
+                    ring.settle(&mut plant, rounds),
+                    Err(SettleError::Unsettled)
+                );
+                assert_eq!(rt; waiting_at(&ring, end), Some(wants), "{rounds}");
+                assert_eq!(rt; waiting_at(&ring, other), Some(0), "{rounds}");
+            }
+        }
+    }
+    Ok(())
+}
+
+#[test]
+fn a_round_without_a_send_uses_up_no_slip(rt: HostRuntime) -> Result<(), Fail> {
+    // Round 4 would use up a slip, and its first or its last receive fails.
+    for receive in [19, 24] {
+        let mut plant = FailingPlant::new(rt.alloc(), &[(PlantCall::Receive, receive)])?;
+        let mut ring = slipping(rt.alloc(), &mut plant, End::A, Turn::Up)?;
+        assert_eq!(rt; ring.settle(&mut plant, 1000), Err(SettleError::PlantFault));
+        assert_eq!(rt; ring.rounds(), 4);
+        assert_eq!(rt; waiting_at(&ring, End::A), Some(2));
+    }
     Ok(())
 }

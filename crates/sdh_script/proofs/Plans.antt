@@ -1,5 +1,5 @@
 -- What comes of a plan.
-use Rattle.std.proofs.Common.{◌≡◌, ◌⊎◌, ℕ, ◌+◌, ◌*◌, List, [], length, take, refl, ◌≤◌, ap, sym, ◌∙◌, subst, arith, inl, inr}
+use Rattle.std.proofs.Common.{◌≡◌, ◌⊎◌, true, ℕ, ◌+◌, ◌*◌, List, [], ◌∷◌, length, take, refl, ◌≤◌, ap, sym, ◌∙◌, subst, arith, inl, inr}
 use Rattle.std.specs.Prelude.{Result, Ok, Err, IfOk}
 use Rattle.sdh_plant.specs.Fibres.{Fibres, IsHonest}
 use Rattle.sdh_plant.specs.Arrivals.{Knows}
@@ -10,11 +10,14 @@ use Rattle.sdh_carrying.proofs.Settles.{circuits_are}
 use Rattle.sdh_plan.specs.Planned.{Planned, IsPlanned, provisioning_of}
 use Rattle.sdh_plan.specs.Steps.{start}
 use Rattle.sdh_plan.proofs.Following.{circuits_keep_the_ring}
-use Rattle.sdh_report.specs.Reports.{text_of}
+use Rattle.sdh_report.specs.Reports.{Report, text_of}
 use Rattle.sdh_report.specs.declared.listing.Listing.{Listing}
 use Rattle.sdh_report.specs.declared.status.Status.{Status}
 use Rattle.sdh_report.specs.declared.status.Status.TheVariants as status
-use Rattle.sdh_owed.specs.Scripts.{sent_by, IsRan, IsCutShort}
+use Rattle.sdh_plan.specs.declared.step.Step.{Step}
+use Rattle.sdh_plan.specs.declared.step.Step.TheVariants as step
+use Rattle.sdh_owed.specs.Steps.{after_step}
+use Rattle.sdh_owed.specs.Scripts.{Runs, sent_by, IsRan, IsCutShort}
 use Rattle.sdh_owed.specs.Healthy.{AllSettle, IsSettled}
 use Rattle.sdh_owed.specs.Laws.{KnownScripts, ReportsAreOwed, ScriptsSettle, HealthyScripts}
 use Rattle.sdh_owed.proofs.Known.{none_sent, none_appended}
@@ -23,7 +26,7 @@ use Rattle.sdh_owed.proofs.Settling.{settled_by, fault_settles}
 use Rattle.sdh_converging.specs.Laws.{enough_for}
 use Rattle.sdh_hearing.specs.Laws.{MayStart}
 use Rattle.sdh_script.specs.Running.{Lists}
-use Rattle.sdh_script.specs.Plans.{world_of, ran_of, Comes, ComesKnown, layout_of_plan, IsOwedText, IsHealthyText}
+use Rattle.sdh_script.specs.Plans.{world_of, ran_of, MaySettle, Comes, ComesKnown, layout_of_plan, IsOwedText, IsHealthyText}
 
 -- an answer with Ok from another
 pub on_ok : {A E : Type 0} (r : Result A E) (P Q : A → Type 0) → ((a : A) → P a → Q a) → IfOk r P → IfOk r Q
@@ -93,9 +96,39 @@ healthy_comes law plan listing f left text end fits (inr x) honest all = record 
       x.2.reports end x.0 x.2.runs;
 }
 
-pub complete_comes : (plan : Planned) (listing : Listing) (f left : Fibres) (text : List ℕ) (end : Status) → ComesKnown plan listing f text end left → (ran_of plan f).ending ≡ status.Ok → (end ≡ status.PlantFault → ⊥) → end ≡ status.Ok
+complete_comes : (plan : Planned) (listing : Listing) (f left : Fibres) (text : List ℕ) (end : Status) → ComesKnown plan listing f text end left → (ran_of plan f).ending ≡ status.Ok → (end ≡ status.PlantFault → ⊥) → end ≡ status.Ok
 complete_comes plan listing f left text end (inl x) done fine = x.end_is ∙ done
 complete_comes plan listing f left text end (inr x) done fine = absurd (fine x.0)
+
+-- how a script may end
+ends_in : (limit before : ℕ) (steps : List Step) (w : World) (reports : List Report) (end : Status) (left : World) → Runs limit before steps w reports end left → (end ≡ status.Ok) ⊎ (((k : ℕ) × (end ≡ status.Unsettled k)) ⊎ (end ≡ status.PlantFault))
+ends_in limit before [] w reports end left x = inl x.1.1
+ends_in limit before (step.Fibre e ∷ later) w reports end left (inl x) = ends_in limit before later (after_step (step.Fibre e) w) reports end left x
+ends_in limit before (step.Fibre e ∷ later) w reports end left (inr x) = inr (inr x.1.1)
+ends_in limit before (step.Order p d c ∷ later) w reports end left x = ends_in limit before later (after_step (step.Order p d c) w) reports end left x
+ends_in limit before (step.Hold p turns ∷ later) w reports end left x = ends_in limit before later (after_step (step.Hold p turns) w) reports end left x
+ends_in limit before (step.Slip port turn count ∷ later) w reports end left x = ends_in limit before later (after_step (step.Slip port turn count) w) reports end left x
+ends_in limit before (step.Moment m ∷ later) w reports end left x = ends_in limit before later (after_step (step.Moment m) w) reports end left x
+ends_in limit before (step.Settle ∷ later) w reports end left (inl x) = ends_in limit (before + 1) later x.0 x.1 end left x.4
+ends_in limit before (step.Settle ∷ later) w reports end left (inr (inl x)) = inr (inl (before + 1, x.1.1))
+ends_in limit before (step.Settle ∷ later) w reports end left (inr (inr x)) = inr (inr x.1.1)
+
+pub plan_ends_in : (plan : Planned) (listing : Listing) (f left : Fibres) (text : List ℕ) (end : Status) → Comes plan listing f text end left → (end ≡ status.Ok) ⊎ (((k : ℕ) × (end ≡ status.Unsettled k)) ⊎ (end ≡ status.PlantFault))
+plan_ends_in plan listing f left text end (inl x) = inr (inr x.0)
+plan_ends_in plan listing f left text end (inr x) = ends_in plan.limit 0 plan.steps (world_of plan f) x.2.reports end x.0 x.2.runs
+
+-- one that settles, and that no fault broke off, is done
+settled_comes : (plan : Planned) (listing : Listing) (f left : Fibres) (text : List ℕ) (end : Status) → Comes plan listing f text end left → IsSettled end → (end ≡ status.PlantFault → ⊥) → end ≡ status.Ok
+settled_comes plan listing f left text end x settled fine = elim (plan_ends_in plan listing f left text end x) [
+  | inl done ↦ done
+  | inr (inl at) ↦ absurd (settled at.0 at.1)
+  | inr (inr fault) ↦ absurd (fine fault)
+]
+
+pub done_comes : KnownScripts → ScriptsSettle → (plan : Planned) (listing : Listing) (f left : Fibres) (text : List ℕ) (end : Status) → IsPlanned plan → (f.honest ≡ true → IsHonest f)
+    → Comes plan listing f text end left → MaySettle plan f → (end ≡ status.PlantFault → ⊥) → end ≡ status.Ok
+done_comes known settles plan listing f left text end fits honest x (inl may) fine = complete_comes plan listing f left text end (known_comes known plan listing f left text end fits x may.0) may.1 fine
+done_comes known settles plan listing f left text end fits honest x (inr may) fine = settled_comes plan listing f left text end x (settles_comes settles plan listing f left text end fits x (honest may.0) may.1) fine
 
 -- and from two
 pub on_two : {A E : Type 0} (r : Result A E) (P Q R : A → Type 0) → ((a : A) → P a → Q a → R a) → IfOk r P → IfOk r Q → IfOk r R

@@ -1,6 +1,8 @@
 -- What comes of a plan over fibres that aren't there yet.
-use Rattle.std.specs.Prelude.{ℕ, ◌≡◌, ◌⊎◌, List, [], length, take}
+use Rattle.std.specs.Prelude.{ℕ, ◌≡◌, ◌⊎◌, ◌≤◌, true, List, [], length, take}
 use Rattle.sdh_plant.specs.Fibres.{Fibres}
+use Rattle.sdh_plant.specs.Arrivals.{Knows}
+use Rattle.sdh_converging.specs.Laws.{enough_for}
 use Rattle.sdh_world.specs.Held.{new_ring}
 use Rattle.sdh_world.specs.Rounds.{World}
 use Rattle.sdh_world.specs.Changes.{new_world}
@@ -49,6 +51,12 @@ pub record IsCut (plan : Planned) (listing : Listing) (f : Fibres) (text : List 
 
 abbrev pub ComesKnown : Planned → Listing → Fibres → List ℕ → Status → Fibres → Type 0
 ComesKnown plan listing f text end left = IsDone plan listing f text end left ⊎ ((end ≡ status.PlantFault) × IsCut plan listing f text left)
+
+-- ---- a script that settles
+
+-- where the arrivals are known each settle step has a quiet window within the limit; or the fibres are honest and the limit is large
+abbrev pub MaySettle : Planned → Fibres → Type 0
+MaySettle plan f = (Knows (world_of plan f).fibres × ((ran_of plan f).ending ≡ status.Ok)) ⊎ ((f.honest ≡ true) × (enough_for (length plan.nodes) ≤ plan.limit))
 
 -- ---- over honest fibres
 

@@ -9,7 +9,7 @@ ghost use Rattle.sdh_script.specs.Room.{report_room, MayList};
 ghost use Rattle.sdh_script.specs.Running.{MayRun, Lists};
 ghost use Rattle.sdh_converging.specs.Laws.{enough_for};
 ghost use Rattle.sdh_owed.specs.Healthy.{AllSettle, IsSettled};
-ghost use Rattle.sdh_script.specs.Plans.{world_of, ran_of, Comes, ComesKnown, IsOwedText, IsHealthyText};
+ghost use Rattle.sdh_script.specs.Plans.{world_of, MaySettle, Comes, ComesKnown, IsOwedText, IsHealthyText};
 
 use crate::script::run_script;
 use sdh_circuits::CircuitMap;
@@ -121,7 +121,7 @@ pub fn run_plan<P: Plant>(
     // Where the plant's count is exact: one call failed with a fault, and none with any other ending, nor without memory.
     ensures counted { IfOk result (λ run. IsCounted P.exact (run.status ≡ Status.PlantFault) (P.faults plant.old) (P.faults plant.new)) }
     ensures uncounted { OnErr result (P.exact ≡ true → P.faults plant.new ≡ P.faults plant.old) }
-    ensures complete { IfOk result (λ run. Knows (world_of plan (P.fibres plant.old)).fibres → (ran_of plan (P.fibres plant.old)).ending ≡ Status.Ok → ¬ (Rose (P.faults plant.old) (P.faults plant.new)) → run.status ≡ Status.Ok) }
+    ensures complete { IfOk result (λ run. MaySettle plan (P.fibres plant.old) → ¬ (Rose (P.faults plant.old) (P.faults plant.new)) → run.status ≡ Status.Ok) }
     ensures later { P.faults plant.old ≤ P.faults plant.new }
     ensures room { IfOk result (λ run. 96 ≤ run.text.room) }
 

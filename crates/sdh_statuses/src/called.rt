@@ -5,6 +5,8 @@ use sdh_cli::{Status, sdhring};
 use sdh_outside::{MemSink, MemSource};
 use sdh_plant::{FibrePlant, Plant};
 use std::alloc::{AllocError, Global};
+use std::process::Abort;
+use std::test::Fail;
 
 /// A source and a sink: how many bytes they give and take at a time, which of their calls fail, counted from 1, and the room of
 /// the sink.
@@ -32,6 +34,9 @@ pub const CHECK: &[&str] = &["check"];
 pub const DROP: &[&str] = &["drop", "c1", "a"];
 
 pub const DROP_OTHER: &[&str] = &["drop", "c9", "a"];
+
+/// All commands that read a plan.
+pub const READERS: &[&[&str]] = &[RUN, CHECK, DROP, DROP_OTHER];
 
 /// Words that are no command.
 pub const NO_WORDS: &[&str] = &[];
@@ -75,4 +80,45 @@ pub fn call(
 ) -> Result<(Status, MemSink), AllocError> {
     let mut plant = FibrePlant::new();
     call_over(alloc, words, document, outside, &mut plant)
+}
+
+/// A plan with the steps of another script, which are quoted texts with commas between them. The plan's own is one settle step.
+pub fn scripted(alloc: Global, plan: &str, script: &str) -> Result<String, AllocError> {
+    plan.replacen(alloc, "\"settle\"", script, 1)
+}
+
+/// How a call ends: its status, the number of it, and all that is written.
+pub type Ending<'a> = (Status, u8, &'a [u8]);
+
+/// Stops where a call doesn't end so.
+pub fn ends_over<P: Plant>(
+    rt: &impl Abort,
+    alloc: Global,
+    words: &[&str],
+    document: &[u8],
+    outside: Outside<'_>,
+    plant: &mut P,
+    ending: Ending<'_>,
+) -> Result<(), Fail>
+    requires { HasNoFibres (P.fibres plant.old) }
+{
+    let (status, number, text) = ending;
+    let (answer, sink) = call_over(alloc, words, document, outside, plant)?;
+    assert_eq!(rt; answer, status, "{words:?} {outside:?} {document:?}");
+    assert_eq!(rt; answer.number(), number);
+    assert_eq!(rt; sink.bytes(), text, "{words:?} {outside:?} {document:?}");
+    Ok(())
+}
+
+/// The same over honest fibres that never fail.
+pub fn ends(
+    rt: &impl Abort,
+    alloc: Global,
+    words: &[&str],
+    document: &[u8],
+    outside: Outside<'_>,
+    ending: Ending<'_>,
+) -> Result<(), Fail> {
+    let mut plant = FibrePlant::new();
+    ends_over(rt, alloc, words, document, outside, &mut plant, ending)
 }

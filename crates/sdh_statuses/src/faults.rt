@@ -2,9 +2,10 @@
 //! any other.
 
 use crate::called::{
-    CHECK, DROP, DROP_OTHER, NO_WORDS, Outside, ROOM, RUN, SOUND, call, call_over, words_of,
+    CHECK, DROP_OTHER, NO_WORDS, Outside, READERS, ROOM, RUN, SOUND, ends, ends_over, scripted,
+    words_of,
 };
-use crate::plans::{SMALLEST, SMALLEST_REPORT, SMALLEST_TABLES, SMALLEST_TEXT, USAGE};
+use crate::plans::{SMALLEST, SMALLEST_BROKEN, SMALLEST_TABLES, SMALLEST_TEXT, USAGE};
 use sdh_cli::{Status, sdhring};
 use sdh_outside::{MemSink, MemSource};
 use sdh_plant::{FailingPlant, FibrePlant, PlantCall, RecordingPlant};
@@ -20,11 +21,9 @@ fn each_read_that_fails_is_told(rt: HostRuntime) -> Result<(), Fail> {
             reads: &failing,
             ..SOUND
         };
-        for words in [RUN, CHECK, DROP, DROP_OTHER] {
-            let (status, sink) = call(rt.alloc(), words, SMALLEST.as_bytes(), outside)?;
-            assert_eq!(rt; status, Status::ReadFault, "read {number}");
-            assert_eq!(rt; status.number(), 3);
-            assert_eq!(rt; sink.bytes(), b"read fault\n".as_slice(), "read {number}");
+        let ending = (Status::ReadFault, 3, b"read fault\n".as_slice());
+        for words in READERS {
+            ends(&rt, rt.alloc(), words, SMALLEST.as_bytes(), outside, ending)?;
         }
     }
     let failing = [reads + 1];
@@ -32,10 +31,8 @@ fn each_read_that_fails_is_told(rt: HostRuntime) -> Result<(), Fail> {
         reads: &failing,
         ..SOUND
     };
-    let (status, sink) = call(rt.alloc(), RUN, SMALLEST.as_bytes(), outside)?;
-    assert_eq!(rt; status, Status::Ok);
-    assert_eq!(rt; sink.bytes(), SMALLEST_TEXT.as_bytes());
-    Ok(())
+    let ending = (Status::Ok, 0, SMALLEST_TEXT.as_bytes());
+    ends(&rt, rt.alloc(), RUN, SMALLEST.as_bytes(), outside, ending)
 }
 
 // Two pieces of spaces are taken, the third read fails, and the plan is left.
@@ -85,15 +82,9 @@ fn each_write_that_fails_is_told(rt: HostRuntime) -> Result<(), Fail> {
                 writes: &failing,
                 ..SOUND
             };
-            let (status, sink) = call(rt.alloc(), words, SMALLEST.as_bytes(), outside)?;
-            assert_eq!(rt; status, Status::WriteFault, "{words:?}, write {number}");
-            assert_eq!(rt; status.number(), 4);
             let front = (number - 1).saturating_mul(50).min(text.len());
-            assert_eq!(rt;
-                sink.bytes(),
-                &text.as_bytes()[..front],
-                "{words:?}, write {number}"
-            );
+            let ending = (Status::WriteFault, 4, &text.as_bytes()[..front]);
+            ends(&rt, rt.alloc(), words, SMALLEST.as_bytes(), outside, ending)?;
         }
     }
     Ok(())
@@ -120,104 +111,74 @@ fn a_sink_goes_on_where_a_write_failed(rt: HostRuntime) -> Result<(), Fail> {
     Ok(())
 }
 
+const TWICE: &str = "\"settle\", \"settle\"";
+
 // A ring of three sends 6 frames in each round, and its first settle step has 129 rounds.
+const ROOMS: &[(usize, &str)] = &[
+    (0, "plant fault\n"),
+    (4, "plant fault\n"),
+    (773, "plant fault\n"),
+    (774, SMALLEST_BROKEN),
+    (780, SMALLEST_BROKEN),
+];
+
 #[test]
 fn fibres_that_fail_are_told(rt: HostRuntime) -> Result<(), Fail> {
-    let document = SMALLEST.replacen(rt.alloc(), "\"settle\"", "\"settle\", \"settle\"", 1)?;
-    for (room, reports) in [
-        (0, ""),
-        (4, ""),
-        (773, ""),
-        (774, SMALLEST_REPORT),
-        (780, SMALLEST_REPORT),
-    ] {
-        let mut plant = RecordingPlant::new(room);
-        let (status, sink) = call_over(rt.alloc(), RUN, document.as_bytes(), SOUND, &mut plant)?;
-        assert_eq!(rt; status, Status::PlantFault, "{room}");
-        assert_eq!(rt; status.number(), 8);
-        let text = format!(in rt.alloc(); "{reports}plant fault\n")?;
-        assert_eq!(rt; sink.bytes(), text.as_bytes(), "{room}");
+    let document = scripted(rt.alloc(), SMALLEST, TWICE)?;
+    for (room, text) in ROOMS {
+        let mut plant = RecordingPlant::new(*room);
+        let document = document.as_bytes();
+        let ending = (Status::PlantFault, 8, text.as_bytes());
+        ends_over(&rt, rt.alloc(), RUN, document, SOUND, &mut plant, ending)?;
     }
     Ok(())
 }
 
-// A ring of three receives 6 frames in each round but the first, and sends 6 in each. A call that is never made doesn't fail.
+const ONCE: &str = "\"settle\"";
+
+const CUT: &str = "\"cut 2 east\", \"settle\"";
+
+// A ring of three receives 6 frames in each round but the first, and sends 6 in each.
+const CALLS: &[(&str, PlantCall, u32, &str)] = &[
+    (ONCE, PlantCall::Prepare, 1, "plant fault\n"),
+    (ONCE, PlantCall::Send, 1, "plant fault\n"),
+    (ONCE, PlantCall::Send, 5, "plant fault\n"),
+    (ONCE, PlantCall::Send, 774, "plant fault\n"),
+    (ONCE, PlantCall::Receive, 1, "plant fault\n"),
+    (ONCE, PlantCall::Receive, 768, "plant fault\n"),
+    (TWICE, PlantCall::Send, 775, SMALLEST_BROKEN),
+    (TWICE, PlantCall::Receive, 769, SMALLEST_BROKEN),
+    (CUT, PlantCall::Apply, 1, "plant fault\n"),
+];
+
 #[test]
 fn each_call_of_fibres_that_fails_is_told(rt: HostRuntime) -> Result<(), Fail> {
-    let twice = SMALLEST.replacen(rt.alloc(), "\"settle\"", "\"settle\", \"settle\"", 1)?;
-    let cut = SMALLEST.replacen(rt.alloc(), "\"settle\"", "\"cut 2 east\", \"settle\"", 1)?;
-    let broken = format!(in rt.alloc(); "{SMALLEST_REPORT}plant fault\n")?;
-    for (document, call, status, text) in [
-        (
-            SMALLEST,
-            (PlantCall::Prepare, 1),
-            Status::PlantFault,
-            "plant fault\n",
-        ),
-        (SMALLEST, (PlantCall::Prepare, 2), Status::Ok, SMALLEST_TEXT),
-        (
-            SMALLEST,
-            (PlantCall::Send, 1),
-            Status::PlantFault,
-            "plant fault\n",
-        ),
-        (
-            SMALLEST,
-            (PlantCall::Send, 5),
-            Status::PlantFault,
-            "plant fault\n",
-        ),
-        (
-            SMALLEST,
-            (PlantCall::Send, 774),
-            Status::PlantFault,
-            "plant fault\n",
-        ),
-        (SMALLEST, (PlantCall::Send, 775), Status::Ok, SMALLEST_TEXT),
-        (
-            SMALLEST,
-            (PlantCall::Receive, 1),
-            Status::PlantFault,
-            "plant fault\n",
-        ),
-        (
-            SMALLEST,
-            (PlantCall::Receive, 768),
-            Status::PlantFault,
-            "plant fault\n",
-        ),
-        (
-            SMALLEST,
-            (PlantCall::Receive, 769),
-            Status::Ok,
-            SMALLEST_TEXT,
-        ),
-        (SMALLEST, (PlantCall::Apply, 1), Status::Ok, SMALLEST_TEXT),
-        (
-            twice.as_str(),
-            (PlantCall::Send, 775),
-            Status::PlantFault,
-            broken.as_str(),
-        ),
-        (
-            twice.as_str(),
-            (PlantCall::Receive, 769),
-            Status::PlantFault,
-            broken.as_str(),
-        ),
-        (
-            cut.as_str(),
-            (PlantCall::Apply, 1),
-            Status::PlantFault,
-            "plant fault\n",
-        ),
-    ] {
-        let mut plant = FailingPlant::new(rt.alloc(), &[call])?;
-        let (answer, sink) = call_over(rt.alloc(), RUN, document.as_bytes(), SOUND, &mut plant)?;
-        assert_eq!(rt; answer, status, "{call:?}");
-        assert_eq!(rt; sink.bytes(), text.as_bytes(), "{call:?}");
+    for (script, call, number, text) in CALLS {
+        let document = scripted(rt.alloc(), SMALLEST, script)?;
+        let mut plant = FailingPlant::new(rt.alloc(), &[(*call, *number)])?;
+        let document = document.as_bytes();
+        let ending = (Status::PlantFault, 8, text.as_bytes());
+        ends_over(&rt, rt.alloc(), RUN, document, SOUND, &mut plant, ending)?;
     }
-    assert_eq!(rt; Status::PlantFault.number(), 8);
+    Ok(())
+}
+
+// These calls are never made.
+const OTHER_CALLS: &[(PlantCall, u32)] = &[
+    (PlantCall::Prepare, 2),
+    (PlantCall::Send, 775),
+    (PlantCall::Receive, 769),
+    (PlantCall::Apply, 1),
+];
+
+#[test]
+fn a_call_that_is_never_made_does_not_fail(rt: HostRuntime) -> Result<(), Fail> {
+    for call in OTHER_CALLS {
+        let mut plant = FailingPlant::new(rt.alloc(), &[*call])?;
+        let document = SMALLEST.as_bytes();
+        let ending = (Status::Ok, 0, SMALLEST_TEXT.as_bytes());
+        ends_over(&rt, rt.alloc(), RUN, document, SOUND, &mut plant, ending)?;
+    }
     Ok(())
 }
 
@@ -232,9 +193,8 @@ fn a_sink_that_fails_has_the_front_of_the_text(rt: HostRuntime) -> Result<(), Fa
         },
         Outside { room: 10, ..SOUND },
     ] {
-        let (status, sink) = call(rt.alloc(), RUN, SMALLEST.as_bytes(), outside)?;
-        assert_eq!(rt; status, Status::WriteFault);
-        assert_eq!(rt; sink.bytes(), b"settle 1 r".as_slice());
+        let ending = (Status::WriteFault, 4, b"settle 1 r".as_slice());
+        ends(&rt, rt.alloc(), RUN, SMALLEST.as_bytes(), outside, ending)?;
     }
     Ok(())
 }
@@ -246,8 +206,6 @@ fn a_write_that_fails_hides_a_read_that_fails(rt: HostRuntime) -> Result<(), Fai
         writes: &[1],
         ..SOUND
     };
-    let (status, sink) = call(rt.alloc(), RUN, SMALLEST.as_bytes(), outside)?;
-    assert_eq!(rt; status, Status::WriteFault);
-    assert!(rt; sink.bytes().is_empty());
-    Ok(())
+    let ending = (Status::WriteFault, 4, b"".as_slice());
+    ends(&rt, rt.alloc(), RUN, SMALLEST.as_bytes(), outside, ending)
 }

@@ -1,7 +1,7 @@
 //! What `drop` and `big` list.
 ghost use Rattle.std.specs.Prelude.{◌≤◌};
 
-use crate::called::{DROP, Outside, SOUND, call};
+use crate::called::{DROP, Outside, SOUND, call, ends, scripted};
 use crate::plans::{CUT_OFF, SMALLEST};
 use sdh_cli::Status;
 use std::test::Fail;
@@ -16,33 +16,49 @@ fn digits_at(text: &[u8], line: usize, byte: usize) -> Option<&[u8]>
 }
 
 // Port b of the smallest run receives from port a, whose trace is `c1` and spaces. Its VC-4 begins at index 783 and three times the
-// offset: in this line, at this byte. J1 of number 128 is the trace's first byte, that of number 127 its last.
-const PATHS: &[(u16, usize, usize, &str)] = &[
-    (0, 4, 1, "63"),
-    (521, 9, 259, "63"),
-    (522, 1, 1, "20"),
-    (782, 3, 259, "63"),
+// offset, or the value that it slipped to: in this line, at this byte. J1 of number 128 is the trace's first byte, that of number 127 its
+// last. The digits of the first eight bytes stand last.
+const PATHS: &[(u16, &str, usize, usize, &str, &str)] = &[
+    (0, "\"settle\"", 4, 1, "63", "00414c504841414c"),
+    (521, "\"settle\"", 9, 259, "63", "504841414c504841"),
+    (522, "\"settle\"", 1, 1, "20", "20414c504841414c"),
+    (782, "\"settle\"", 3, 259, "63", "504841414c504841"),
+    (
+        0,
+        "\"slip c1 a up 1\", \"settle\"",
+        4,
+        4,
+        "63",
+        "50484100414c5048",
+    ),
+    (
+        522,
+        "\"slip c1 a down 1\", \"settle\"",
+        9,
+        259,
+        "63",
+        "504841414c504841",
+    ),
 ];
 
 #[test]
 fn drop_lists_all_that_a_port_delivers(rt: HostRuntime) -> Result<(), Fail> {
-    for (offset, line, byte, trace) in PATHS {
-        let document = format!(in rt.alloc(); "{SMALLEST}offset_a = {offset}\n")?;
+    for (offset, script, line, byte, trace, front) in PATHS {
+        let plan = scripted(rt.alloc(), SMALLEST, script)?;
+        let document = format!(in rt.alloc(); "{plan}offset_a = {offset}\n")?;
         let words = ["drop", "c1", "b"];
         let (status, sink) = call(rt.alloc(), &words, document.as_bytes(), SOUND)?;
-        assert_eq!(rt; status, Status::Ok, "{offset}");
+        assert_eq!(rt; status, Status::Ok, "{document}");
         let text = sink.bytes();
-        assert_eq!(rt; text.len(), 9 * 523 + 5, "{offset}");
-        assert!(rt; text.ends_with(b"\ndone\n"), "{offset}");
+        assert_eq!(rt; text.len(), 9 * 523 + 5, "{document}");
+        assert!(rt; text.ends_with(b"\ndone\n"), "{document}");
         let (line, byte) = (*line, *byte);
         assert!(rt; 1 <= line && line <= 9 && 1 <= byte && byte <= 261);
         assert!(rt;
             digits_at(text, line, byte) == Some(trace.as_bytes()),
-            "{offset}"
+            "{document}"
         );
-        if *offset == 0 {
-            assert!(rt; text.starts_with(b"00414c5048"));
-        }
+        assert!(rt; text.starts_with(front.as_bytes()), "{document}");
     }
     Ok(())
 }
@@ -51,10 +67,8 @@ fn drop_lists_all_that_a_port_delivers(rt: HostRuntime) -> Result<(), Fail> {
 #[test]
 fn drop_lists_ais(rt: HostRuntime) -> Result<(), Fail> {
     let document = CUT_OFF.replacen(rt.alloc(), "\"x\"", "\"c1\"", 1)?;
-    let (status, sink) = call(rt.alloc(), DROP, document.as_bytes(), SOUND)?;
-    assert_eq!(rt; status, Status::Ok);
-    assert_eq!(rt; sink.bytes(), b"ais\ndone\n".as_slice());
-    Ok(())
+    let ending = (Status::Ok, 0, b"ais\ndone\n".as_slice());
+    ends(&rt, rt.alloc(), DROP, document.as_bytes(), SOUND, ending)
 }
 
 // The large plan of number 0 has 12 circuits, and cuts the spans east of nodes 2 and 3. While both are cut, two circuits lead from

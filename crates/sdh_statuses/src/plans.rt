@@ -25,13 +25,14 @@ port c1 b norm 0 00414c504841414c504841414c504841
 done
 ";
 
-/// What its first settle step reports where a second one is cut short.
-pub const SMALLEST_REPORT: &str = "settle 1 round 128
+/// What is written where its first settle step ended and a fault came in a second one.
+pub const SMALLEST_BROKEN: &str = "settle 1 round 128
 node 1 idle west 03 10 east 02 10
 node 2 idle west 01 20 east 03 20
 node 3 idle west 02 30 east 01 30
 port c1 a norm 0 00424554412142455441214245544121
 port c1 b norm 0 00414c504841414c504841414c504841
+plant fault
 ";
 
 /// Its ring without the circuit.
@@ -127,13 +128,13 @@ done
 
 pub const USAGE: &str = "usage: sdhring run, check, drop NAME END, big NUMBER\n";
 
-/// A span that is cut both ways while the controller beside it misses its first turns.
-pub const HELD: &str = r#"rate = 4
+/// Four nodes and a circuit over two spans.
+pub const TWO_SPANS: &str = r#"rate = 4
 nodes = [1, 2, 3, 4]
 threshold = 3
 wait = 10
 limit = 1000
-script = ["hold 2 50", "cut 2 east", "cut 3 west", "settle"]
+script = ["settle"]
 [[circuit]]
 name = "c1"
 from = 1
@@ -143,12 +144,24 @@ text_a = "ABCDEFG"
 text_b = "abcdefg"
 "#;
 
-pub const HELD_TEXT: &str = "settle 1 round 128
+/// Its report where the second of them is cut both ways.
+pub const TWO_SPANS_CUT: &str = "settle 1 round 128
 node 1 pass west b3 2a east b2 3a
 node 2 switch-east west b3 2a east b3 26
 node 3 switch-west west b2 36 east b2 3a
 node 4 pass west b3 2a east b2 3a
 port c1 a norm 0 00636465666761626364656667616263
 port c1 b norm 0 00434445464741424344454647414243
+done
+";
+
+/// The same where port a went 5 steps up, and port b 7 down.
+pub const TWO_SPANS_CUT_SLIPPED: &str = "settle 1 round 128
+node 1 pass west b3 2a east b2 3a
+node 2 switch-east west b3 2a east b3 26
+node 3 switch-west west b2 36 east b2 3a
+node 4 pass west b3 2a east b2 3a
+port c1 a norm 776 62636465666761626364656667616263
+port c1 b norm 5 42434445464741424344454647414200
 done
 ";

@@ -1,6 +1,6 @@
 //! Words, documents and plans that are refused, each with its status, number and line.
 
-use crate::called::{CHECK, DROP, DROP_OTHER, Outside, RUN, SOUND, call};
+use crate::called::{Ending, Outside, READERS, RUN, SOUND, ends};
 use crate::plans::{SMALLEST, SMALLEST_TEXT, USAGE};
 use sdh_cli::Status;
 use std::alloc::{AllocError, Global};
@@ -45,10 +45,8 @@ fn other_words_are_answered_with_the_usage_line(rt: HostRuntime) -> Result<(), F
         ..SOUND
     };
     for words in NO_FORMS {
-        let (status, sink) = call(rt.alloc(), words, SMALLEST.as_bytes(), deaf)?;
-        assert_eq!(rt; status, Status::Usage, "{words:?}");
-        assert_eq!(rt; status.number(), 2);
-        assert_eq!(rt; sink.bytes(), USAGE.as_bytes(), "{words:?}");
+        let ending = (Status::Usage, 2, USAGE.as_bytes());
+        ends(&rt, rt.alloc(), words, SMALLEST.as_bytes(), deaf, ending)?;
     }
     Ok(())
 }
@@ -75,6 +73,34 @@ const CHANGES: &[Change] = &[
         "bad plan 7 at 1\n",
     ),
     ("\"settle\"", "\"cut 2 east\"", 29, 1, "bad plan 29 at 1\n"),
+    (
+        "\"settle\"",
+        "\"slip c1 a up 16\", \"slip c1 a down 1\", \"settle\"",
+        31,
+        2,
+        "bad plan 31 at 2\n",
+    ),
+    (
+        "\"settle\"",
+        "\"slip c9 a up 1\", \"settle\"",
+        30,
+        1,
+        "bad plan 30 at 1\n",
+    ),
+    (
+        "\"settle\"",
+        "\"slip c1 a over 1\", \"settle\"",
+        25,
+        1,
+        "bad plan 25 at 1\n",
+    ),
+    (
+        "\"settle\"",
+        "\"slip c1 a up 17\", \"settle\"",
+        26,
+        1,
+        "bad plan 26 at 1\n",
+    ),
     // from 3 to 2 it passes the span between 1 and 2 too
     (
         "from = 1\nto = 2\nslot = 1\ntext_a = \"ALPHA\"\ntext_b = \"BETA!\"\n",
@@ -85,23 +111,16 @@ const CHANGES: &[Change] = &[
     ),
 ];
 
-// All commands that read a plan.
-const READERS: &[&[&str]] = &[RUN, CHECK, DROP, DROP_OTHER];
-
-// Whether all commands that read a plan refuse this one, with this status, number and line.
+// Stops where a command that reads a plan doesn't refuse this one so.
 fn is_refused(
     rt: &impl Abort,
     alloc: Global,
     document: &[u8],
-    status: Status,
-    number: u8,
-    text: &str,
+    outside: Outside<'_>,
+    ending: Ending<'_>,
 ) -> Result<(), Fail> {
     for words in READERS {
-        let (answer, sink) = call(alloc, words, document, SOUND)?;
-        assert_eq!(rt; answer, status, "{words:?} {text}");
-        assert_eq!(rt; answer.number(), number);
-        assert_eq!(rt; sink.bytes(), text.as_bytes(), "{words:?}");
+        ends(rt, alloc, words, document, outside, ending)?;
     }
     Ok(())
 }
@@ -115,19 +134,22 @@ fn bad_plans_are_answered_with_reason_and_place(rt: HostRuntime) -> Result<(), F
             reason: *reason,
             place: *place,
         };
-        is_refused(&rt, rt.alloc(), document.as_bytes(), status, 6, text)?;
+        let ending = (status, 6, text.as_bytes());
+        is_refused(&rt, rt.alloc(), document.as_bytes(), SOUND, ending)?;
     }
     let empty = Status::BadPlan {
         reason: 13,
         place: 0,
     };
-    is_refused(&rt, rt.alloc(), b"", empty, 6, "bad plan 13 at 0\n")
+    let ending = (empty, 6, b"bad plan 13 at 0\n".as_slice());
+    is_refused(&rt, rt.alloc(), b"", SOUND, ending)
 }
 
 #[test]
 fn no_documents_are_answered_as_such(rt: HostRuntime) -> Result<(), Fail> {
     for document in [b"rate = ".as_slice(), b"\xff".as_slice()] {
-        is_refused(&rt, rt.alloc(), document, Status::NotToml, 5, "not toml\n")?;
+        let ending = (Status::NotToml, 5, b"not toml\n".as_slice());
+        is_refused(&rt, rt.alloc(), document, SOUND, ending)?;
     }
     Ok(())
 }
@@ -138,10 +160,8 @@ fn a_port_that_the_plan_has_not_is_told(rt: HostRuntime) -> Result<(), Fail> {
     for name in ["c9", "c", "c11", "C1", ""] {
         for end in ["a", "b"] {
             let words = ["drop", name, end];
-            let (status, sink) = call(rt.alloc(), &words, unsettled.as_bytes(), SOUND)?;
-            assert_eq!(rt; status, Status::NoSuchPort, "{name}");
-            assert_eq!(rt; status.number(), 10);
-            assert_eq!(rt; sink.bytes(), b"no such port\n".as_slice(), "{name}");
+            let ending = (Status::NoSuchPort, 10, b"no such port\n".as_slice());
+            ends(&rt, rt.alloc(), &words, unsettled.as_bytes(), SOUND, ending)?;
         }
     }
     Ok(())
@@ -163,15 +183,9 @@ fn takes_1048576_bytes_and_no_more(rt: HostRuntime) -> Result<(), Fail> {
         ..SOUND
     };
     let document = padded(rt.alloc(), 1_048_576)?;
-    let (status, sink) = call(rt.alloc(), RUN, &document, outside)?;
-    assert_eq!(rt; status, Status::Ok);
-    assert_eq!(rt; sink.bytes(), SMALLEST_TEXT.as_bytes());
+    let ending = (Status::Ok, 0, SMALLEST_TEXT.as_bytes());
+    ends(&rt, rt.alloc(), RUN, &document, outside, ending)?;
     let document = padded(rt.alloc(), 1_048_577)?;
-    for words in READERS {
-        let (status, sink) = call(rt.alloc(), words, &document, outside)?;
-        assert_eq!(rt; status, Status::TooLong, "{words:?}");
-        assert_eq!(rt; status.number(), 9);
-        assert_eq!(rt; sink.bytes(), b"too long\n".as_slice(), "{words:?}");
-    }
-    Ok(())
+    let ending = (Status::TooLong, 9, b"too long\n".as_slice());
+    is_refused(&rt, rt.alloc(), &document, outside, ending)
 }

@@ -1,9 +1,9 @@
 //! Whole runs with their texts.
 
-use crate::called::{CHECK, Outside, RUN, SOUND, call, call_over};
+use crate::called::{CHECK, Outside, RUN, SOUND, ends, ends_over, scripted};
 use crate::plans::{
-    CUT_OFF, CUT_OFF_TABLES, HELD, HELD_TEXT, NO_CIRCUITS, NO_CIRCUITS_TEXT, SMALLEST,
-    SMALLEST_TABLES, SMALLEST_TEXT, TWO_NODES, TWO_NODES_TEXT,
+    CUT_OFF, CUT_OFF_TABLES, NO_CIRCUITS, NO_CIRCUITS_TEXT, SMALLEST, SMALLEST_TABLES,
+    SMALLEST_TEXT, TWO_NODES, TWO_NODES_TEXT, TWO_SPANS, TWO_SPANS_CUT, TWO_SPANS_CUT_SLIPPED,
 };
 use sdh_cli::Status;
 use sdh_frame::Rate;
@@ -11,18 +11,87 @@ use sdh_plant::{RecordingPlant, ToldPlant};
 use std::alloc::{AllocError, Global};
 use std::test::Fail;
 
+// Plans, the steps in place of their first settle step, and the texts that their runs write. Where a span is cut, the controller
+// beside it misses its first turns, or both ports slip.
+const RUNS: &[(&str, &str, &str)] = &[
+    (SMALLEST, "\"settle\"", SMALLEST_TEXT),
+    (TWO_NODES, "\"settle\"", TWO_NODES_TEXT),
+    (NO_CIRCUITS, "\"settle\"", NO_CIRCUITS_TEXT),
+    (
+        TWO_SPANS,
+        "\"hold 2 50\", \"cut 2 east\", \"cut 3 west\", \"settle\"",
+        TWO_SPANS_CUT,
+    ),
+    (
+        TWO_SPANS,
+        "\"slip c1 a up 5\", \"slip c1 b down 7\", \"cut 2 east\", \"cut 3 west\", \"settle\"",
+        TWO_SPANS_CUT_SLIPPED,
+    ),
+    (SMALLEST, "\"slip c1 a up 1\", \"settle\"", UP),
+    (SMALLEST, "\"slip c1 a down 1\", \"settle\"", DOWN),
+    (
+        SMALLEST,
+        "\"slip c1 a down 1\", \"slip c1 b down 2\", \"slip c1 a up 3\", \"settle\"",
+        BOTH_ENDS,
+    ),
+    (
+        SMALLEST,
+        "\"slip c1 a up 16\", \"settle\", \"slip c1 a down 16\", \"settle\"",
+        UP_AND_DOWN,
+    ),
+];
+
+// Port a of the smallest run is one step up, and one down.
+const UP: &str = "settle 1 round 128
+node 1 idle west 03 10 east 02 10
+node 2 idle west 01 20 east 03 20
+node 3 idle west 02 30 east 01 30
+port c1 a norm 0 00424554412142455441214245544121
+port c1 b norm 1 50484100414c504841414c504841414c
+done
+";
+
+const DOWN: &str = "settle 1 round 128
+node 1 idle west 03 10 east 02 10
+node 2 idle west 01 20 east 03 20
+node 3 idle west 02 30 east 01 30
+port c1 a norm 0 00424554412142455441214245544121
+port c1 b norm 782 504841414c504841414c504841414c50
+done
+";
+
+// Port a is two steps up in all, and port b two down.
+const BOTH_ENDS: &str = "settle 1 round 128
+node 1 idle west 03 10 east 02 10
+node 2 idle west 01 20 east 03 20
+node 3 idle west 02 30 east 01 30
+port c1 a norm 781 42455441214245544121424554412142
+port c1 b norm 2 41414c50484100414c504841414c5048
+done
+";
+
+// Port a goes sixteen steps up, and then back.
+const UP_AND_DOWN: &str = "settle 1 round 128
+node 1 idle west 03 10 east 02 10
+node 2 idle west 01 20 east 03 20
+node 3 idle west 02 30 east 01 30
+port c1 a norm 0 00424554412142455441214245544121
+port c1 b norm 16 504841414c504841414c504841414c50
+settle 2 round 256
+node 1 idle west 03 10 east 02 10
+node 2 idle west 01 20 east 03 20
+node 3 idle west 02 30 east 01 30
+port c1 a norm 0 00424554412142455441214245544121
+port c1 b norm 0 00414c504841414c504841414c504841
+done
+";
+
 #[test]
 fn runs_write_their_reports(rt: HostRuntime) -> Result<(), Fail> {
-    for (document, text) in [
-        (SMALLEST, SMALLEST_TEXT),
-        (TWO_NODES, TWO_NODES_TEXT),
-        (HELD, HELD_TEXT),
-        (NO_CIRCUITS, NO_CIRCUITS_TEXT),
-    ] {
-        let (status, sink) = call(rt.alloc(), RUN, document.as_bytes(), SOUND)?;
-        assert_eq!(rt; status, Status::Ok, "{document}");
-        assert_eq!(rt; status.number(), 0);
-        assert_eq!(rt; sink.bytes(), text.as_bytes(), "{document}");
+    for (plan, script, text) in RUNS {
+        let document = scripted(rt.alloc(), plan, script)?;
+        let ending = (Status::Ok, 0, text.as_bytes());
+        ends(&rt, rt.alloc(), RUN, document.as_bytes(), SOUND, ending)?;
     }
     Ok(())
 }
@@ -31,9 +100,8 @@ fn runs_write_their_reports(rt: HostRuntime) -> Result<(), Fail> {
 fn sources_may_come_in_pieces(rt: HostRuntime) -> Result<(), Fail> {
     for piece in [1, 7, 4096] {
         let outside = Outside { piece, ..SOUND };
-        let (status, sink) = call(rt.alloc(), RUN, SMALLEST.as_bytes(), outside)?;
-        assert_eq!(rt; status, Status::Ok, "{piece}");
-        assert_eq!(rt; sink.bytes(), SMALLEST_TEXT.as_bytes(), "{piece}");
+        let ending = (Status::Ok, 0, SMALLEST_TEXT.as_bytes());
+        ends(&rt, rt.alloc(), RUN, SMALLEST.as_bytes(), outside, ending)?;
     }
     Ok(())
 }
@@ -44,7 +112,7 @@ fn limited(alloc: Global, limit: &str, settles: usize) -> Result<String, AllocEr
     for _ in 1..settles {
         steps.push_str(", \"settle\"")?;
     }
-    let document = SMALLEST.replacen(alloc, "\"settle\"", steps.as_str(), 1)?;
+    let document = scripted(alloc, SMALLEST, steps.as_str())?;
     document.as_str().replacen(alloc, "limit = 1000", limit, 1)
 }
 
@@ -58,10 +126,8 @@ fn a_first_step_needs_129_rounds(rt: HostRuntime) -> Result<(), Fail> {
         ("limit = 129", 1, Status::Ok, 0, SMALLEST_TEXT),
     ] {
         let document = limited(rt.alloc(), limit, settles)?;
-        let (answer, sink) = call(rt.alloc(), RUN, document.as_bytes(), SOUND)?;
-        assert_eq!(rt; answer, status, "{limit} {settles}");
-        assert_eq!(rt; answer.number(), number);
-        assert_eq!(rt; sink.bytes(), text.as_bytes(), "{limit} {settles}");
+        let ending = (status, number, text.as_bytes());
+        ends(&rt, rt.alloc(), RUN, document.as_bytes(), SOUND, ending)?;
     }
     Ok(())
 }
@@ -76,9 +142,9 @@ fn tables_use_no_fibres(rt: HostRuntime) -> Result<(), Fail> {
         (NO_CIRCUITS, "done\n"),
     ] {
         let mut plant = RecordingPlant::new(0);
-        let (status, sink) = call_over(rt.alloc(), CHECK, document.as_bytes(), SOUND, &mut plant)?;
-        assert_eq!(rt; status, Status::Ok, "{document}");
-        assert_eq!(rt; sink.bytes(), text.as_bytes(), "{document}");
+        let ending = (Status::Ok, 0, text.as_bytes());
+        let document = document.as_bytes();
+        ends_over(&rt, rt.alloc(), CHECK, document, SOUND, &mut plant, ending)?;
     }
     Ok(())
 }
@@ -96,8 +162,7 @@ done
 #[test]
 fn fibres_out_of_which_nothing_comes(rt: HostRuntime) -> Result<(), Fail> {
     let mut plant = ToldPlant::new(Rate::Four, Vec::new(rt.alloc()));
-    let (status, sink) = call_over(rt.alloc(), RUN, SMALLEST.as_bytes(), SOUND, &mut plant)?;
-    assert_eq!(rt; status, Status::Ok);
-    assert_eq!(rt; sink.bytes(), DARK_TEXT.as_bytes());
-    Ok(())
+    let document = SMALLEST.as_bytes();
+    let ending = (Status::Ok, 0, DARK_TEXT.as_bytes());
+    ends_over(&rt, rt.alloc(), RUN, document, SOUND, &mut plant, ending)
 }

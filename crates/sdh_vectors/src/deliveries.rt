@@ -28,8 +28,8 @@ enum Step {
 
 const CUT: Condition = Condition::Cut;
 
-// What one end of a circuit sends.
-fn sender_at<'a>(asked: &Asked<'a>, end: End) -> Sender<'a> {
+/// What one end of a circuit sends.
+pub(crate) fn sender_at<'a>(asked: &Asked<'a>, end: End) -> Sender<'a> {
     match end {
         End::A => Sender {
             text: asked.text_a.as_bytes(),
@@ -158,8 +158,8 @@ fn comes_out(
     all_comes_out(alloc, &mut plant, rate, ids, circuits, script).unwrap_or(false)
 }
 
-// A circuit between two nodes, with these texts.
-const ALPHABETS: Asked<'static> = Asked {
+/// A circuit between two nodes, with these texts.
+pub(crate) const ALPHABETS: Asked<'static> = Asked {
     name: "c1",
     from: 1,
     to: 3,

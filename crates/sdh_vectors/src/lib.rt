@@ -4,11 +4,17 @@
 #[cfg(test)]
 mod deliveries;
 #[cfg(test)]
+mod hostile;
+#[cfg(test)]
+mod neighbours;
+#[cfg(test)]
 mod requests;
 #[cfg(test)]
 mod rings;
 #[cfg(test)]
 mod signals;
+#[cfg(test)]
+mod slips;
 #[cfg(test)]
 mod streams;
 #[cfg(test)]

@@ -123,6 +123,18 @@ pub(crate) fn laid<P: Plant>(
     laid_with(alloc, plant, rate, ids, &[ASKED])
 }
 
+/// Makes new fibres for a ring at STM-4.
+pub(crate) fn lay_for<P: Plant>(alloc: Global, ring: &Ring, plant: &mut P) -> Result<(), AllocError>
+    requires fresh { HasNoFibres (P.fibres plant.old) }
+    requires rate { ring.now.settings.rate ≡ Rate.Four }
+    ensures { OnOk result (IsPrepared ring.now.settings.rate (length ring.now.ids) (P.fibres plant.new)) }
+{
+    let nodes = ring.map().len();
+    plant
+        .prepare(alloc, Rate::Four, nodes)
+        .map_err(|_| AllocError)
+}
+
 /// Brings the fibre that leaves a position on a side into a condition.
 pub(crate) fn apply<P: Plant>(
     ring: &Ring,
@@ -158,6 +170,7 @@ pub(crate) fn run<P: Plant>(ring: &mut Ring, plant: &mut P, rounds: u32) -> Resu
     ensures whole { OnOk result (ring.new.broken ≡ false) }
     ensures rounds { OnOk result (ring.new.rounds ≡ ring.old.rounds + rounds) }
     ensures moment { OnOk result (ring.new.moment ≡ ring.old.moment) }
+    ensures rate { OnOk result (ring.new.settings.rate ≡ ring.old.settings.rate) }
 {
     'turns: for _turn in 0..rounds {
         ring.round(plant)?;

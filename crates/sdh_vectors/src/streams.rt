@@ -1,6 +1,8 @@
 //! What a customer sends, told by the place of a byte in its stream, apart from the code that sends it.
 ghost use Rattle.std.specs.Prelude.{◌≡◌, ◌<◌, ◌≤◌, length};
 
+use std::alloc::{AllocError, Global};
+
 /// The bytes of a VC-4: nine rows of 261.
 const VC: u64 = 2349;
 
@@ -68,20 +70,30 @@ fn b3(sender: Sender<'_>, number: u64) -> u8
     parity
 }
 
-// The byte at a place of the stream, which begins where the pointer's offset says: three bytes for each step of it, counted
-// from the fourth row of the AU-4.
+// The number of the VC-4 of a byte at a place of the stream, and the byte's place in it. The stream begins where the pointer's
+// offset says: three bytes for each step of it, counted from the fourth row of the AU-4.
+fn place_at(sender: Sender<'_>, place: u64) -> (u64, u64)
+    requires few { place ≤ 20000000 }
+    requires offset { sender.offset ≤ 782 }
+    ensures number { result.0 ≤ 10000 }
+    ensures within { result.1 < 2349 }
+{
+    let phase = (783 + 3 * sender.offset) % VC;
+    let from_the_first = place + (VC - phase) % VC;
+    (from_the_first / VC, from_the_first % VC)
+}
+
+// The byte at a place of the stream.
 fn byte_at(sender: Sender<'_>, place: u64) -> u8
     requires text { 1 ≤ length sender.text.now }
     requires few { place ≤ 20000000 }
     requires offset { sender.offset ≤ 782 }
 {
-    let phase = (783 + 3 * sender.offset) % VC;
-    let from_the_first = place + (VC - phase) % VC;
-    let number = from_the_first / VC;
-    match from_the_first % VC {
-        B3 => b3(sender, number),
-        within => byte_but_b3(sender, number, within),
+    let (number, within) = place_at(sender, place);
+    if within == B3 {
+        return b3(sender, number);
     }
+    byte_but_b3(sender, number, within)
 }
 
 /// Whether these are the 2349 bytes that it sends in a round.
@@ -91,6 +103,50 @@ pub(crate) fn is_sent_in(sender: Sender<'_>, round: u64, bytes: &[u8]) -> bool {
     }
     for (k, byte) in bytes.iter().enumerate() {
         if *byte != byte_at(sender, VC * round + k as u64) {
+            return false;
+        }
+    }
+    true
+}
+
+/// The B3 of so many VC-4s from the first one on, each of which `is_sent_from` would else make of all VC-4s before it.
+pub(crate) fn parities_of(
+    alloc: Global,
+    sender: Sender<'_>,
+    count: u64,
+) -> Result<Vec<u8>, AllocError>
+    requires text { 1 ≤ length sender.text.now }
+    requires few { count ≤ 10000 }
+{
+    let mut parities = Vec::new(alloc);
+    let mut parity = 0;
+    for number in 0..count {
+        parities.push(parity)?;
+        parity ^= parity_but_b3(sender, number);
+    }
+    Ok(parities)
+}
+
+// The byte at a place of the stream, where these are the B3 of its VC-4s.
+fn byte_with(sender: Sender<'_>, parities: &[u8], place: u64) -> u8
+    requires text { 1 ≤ length sender.text.now }
+    requires few { place ≤ 20000000 }
+    requires offset { sender.offset ≤ 782 }
+{
+    let (number, within) = place_at(sender, place);
+    if within == B3 {
+        return parities.get(number as usize).copied().unwrap_or(0);
+    }
+    byte_but_b3(sender, number, within)
+}
+
+/// Whether these are the bytes of its stream from a place on, where these are the B3 of its VC-4s.
+pub(crate) fn is_sent_from(sender: Sender<'_>, parities: &[u8], from: u64, bytes: &[u8]) -> bool {
+    if sender.text.is_empty() || sender.offset > 782 || from > 19_000_000 || bytes.len() > 2352 {
+        return false;
+    }
+    for (k, byte) in bytes.iter().enumerate() {
+        if *byte != byte_with(sender, parities, from + k as u64) {
             return false;
         }
     }

@@ -9,8 +9,8 @@ use sdh_ring::{PlantFault, Ring};
 use sdh_ringmap::{Pos, Side};
 use std::alloc::Global;
 
-// Cuts the span between the second and the third node both ways, or not.
-fn cut_if<P: Plant>(ring: &Ring, plant: &mut P, is_cut: bool) -> bool
+/// Cuts the span between the second and the third node both ways, or not.
+pub(crate) fn cut_if<P: Plant>(ring: &Ring, plant: &mut P, is_cut: bool) -> bool
     requires prepared { IsPrepared ring.now.settings.rate (length ring.now.ids) (P.fibres plant.old) }
     ensures prepared { IsPrepared ring.now.settings.rate (length ring.now.ids) (P.fibres plant.new) }
 {

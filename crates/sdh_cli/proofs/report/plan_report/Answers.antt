@@ -19,7 +19,7 @@ returns-in-Some g c =
       failed = c.run_report.ensures.failed;
       calls = c.run_report.ensures.calls;
       without = c.run_report.ensures.without;
-      complete = on_ok c.run_report.result _ _ (λ report done go fine. (let may = run_may_go plan listing f ask is go in done may.0 may.1 fine)) c.run_report.ensures.complete;
+      complete = on_ok c.run_report.result _ _ (λ report done go fine. done (run_may_go plan listing f ask is go) fine) c.run_report.ensures.complete;
       later = c.run_report.ensures.later;
       unsent = c.run_report.ensures.unsent;
     }

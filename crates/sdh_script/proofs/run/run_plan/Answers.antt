@@ -1,5 +1,5 @@
 use Rattle.std.proofs.Common.{◌≡◌, true}
-use Rattle.sdh_script.proofs.Plans.{on_ok, on_two, known_comes, owed_comes, settles_comes, healthy_comes, complete_comes}
+use Rattle.sdh_script.proofs.Plans.{on_ok, on_two, known_comes, owed_comes, settles_comes, healthy_comes, done_comes}
 use Rattle.sdh_script.proofs.run.run_plan.Goals as goal
 
 pub returns-clause-known : goal.returns-clause-known
@@ -36,6 +36,6 @@ returns-clause-complete g c =
     let means = g.P.Plant.fibres in
     let f = means c.args.plant.now in
     on_two c.run_new.result _ _ _
-    (λ run ran failed knows done fine. complete_comes c.args.plan c.args.listing f (means c.run_new.new.plant) run.text.bytes run.status
-    (known_comes c.known_scripts.ensures c.args.plan c.args.listing f (means c.run_new.new.plant) run.text.bytes run.status c.steps-steps.ensures.form ran knows) done (λ fault. fine (failed fault)))
+    (λ run ran failed may fine. done_comes c.known_scripts.ensures c.scripts_settle.ensures c.args.plan c.args.listing f (means c.run_new.new.plant) run.text.bytes run.status c.steps-steps.ensures.form
+    (λ (honest : f.honest ≡ true). record { honest = honest; tells_none = g.met.P.Plant.honest_tells_none c.args.plant.now honest }) ran may (λ fault. fine (failed fault)))
     c.run_new.ensures.ran c.run_new.ensures.failed

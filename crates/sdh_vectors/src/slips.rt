@@ -1,0 +1,461 @@
+//! Ports whose customers' clocks slip, against a count of what each has sent, apart from the code that counts.
+ghost use Rattle.std.specs.Prelude.{◌≡◌, ◌≤◌, ◌<◌, OnOk, false, length};
+ghost use Rattle.sdh_plant.specs.Fibres.{HasNoFibres, IsPrepared};
+
+use crate::deliveries::{ALPHABETS, sender_at};
+use crate::rings::{laid_with, run, settle};
+use crate::streams::{Sender, is_sent_from, parities_of};
+use crate::windows::cut_if;
+use sdh_circuits::{Asked, End, PortId};
+use sdh_frame::Rate;
+use sdh_node::{Delivered, Turn};
+use sdh_plant::{FibrePlant, Plant};
+use sdh_ring::Ring;
+use std::alloc::{AllocError, Global};
+
+/// What a port sends in a round: so many bytes of its stream from a place on, and the pointer value with them.
+#[derive(Clone, Copy, PartialEq, Eq)]
+struct Sent {
+    from: u64,
+    count: u64,
+    value: u64,
+}
+
+/// The slips of a port's clock: those that wait, those that were made good, and the number of the last round in which one was.
+#[derive(Clone, Copy)]
+struct Slips {
+    ups: u64,
+    downs: u64,
+    raised: u64,
+    lowered: u64,
+    last: Option<u64>,
+}
+
+const NONE: Slips = Slips {
+    ups: 0,
+    downs: 0,
+    raised: 0,
+    lowered: 0,
+    last: None,
+};
+
+impl Slips {
+    // How many wait.
+    fn waiting(self) -> u64 {
+        self.ups.saturating_add(self.downs)
+    }
+
+    // With so many more that wait.
+    fn with(self, turn: Turn, count: u8) -> Slips {
+        let count = u64::from(count);
+        match turn {
+            Turn::Up => Slips {
+                ups: self.ups.saturating_add(count),
+                ..self
+            },
+            Turn::Down => Slips {
+                downs: self.downs.saturating_add(count),
+                ..self
+            },
+        }
+    }
+
+    // Whether one may be made good in a round: in none of the first four, and in none of three behind another.
+    fn may_be(self, round: u64) -> bool {
+        match self.last {
+            None => round >= 4,
+            Some(last) => round.saturating_sub(last) >= 4,
+        }
+    }
+
+    // After a round: ups come before downs.
+    fn after(self, round: u64) -> Slips {
+        let last = Some(round);
+        if !self.may_be(round) || self.waiting() == 0 {
+            self
+        } else if self.ups > 0 {
+            Slips {
+                ups: self.ups - 1,
+                raised: self.raised.saturating_add(1),
+                last,
+                ..self
+            }
+        } else {
+            Slips {
+                downs: self.downs.saturating_sub(1),
+                lowered: self.lowered.saturating_add(1),
+                last,
+                ..self
+            }
+        }
+    }
+
+    // How many bytes were sent before a round, three fewer for each up and three more for each down.
+    fn bytes_before(self, round: u64) -> u64 {
+        let most = 2349 * round.min(5000) + 3 * self.lowered.min(5000);
+        most.saturating_sub(3 * self.raised.min(5000))
+    }
+
+    // The pointer value after so many.
+    fn value(self, offset: u64) -> u64 {
+        (offset % 783 + self.raised % 783 + 783 - self.lowered % 783) % 783
+    }
+}
+
+// What a port sends in a round that finds its clock with these slips and leaves it with those.
+fn sent_in(offset: u64, found: Slips, left: Slips, round: u64) -> Sent {
+    let from = found.bytes_before(round);
+    Sent {
+        from,
+        count: left
+            .bytes_before(round.saturating_add(1))
+            .saturating_sub(from),
+        value: left.value(offset),
+    }
+}
+
+// Whether a port delivers what the other end sent, with its pointer value.
+fn has_delivered(
+    ring: &Ring,
+    port: PortId,
+    other: Sender<'_>,
+    parities: &[u8],
+    sent: Sent,
+) -> bool {
+    if ring.circuits().len() <= port.circuit as usize {
+        return false;
+    }
+    match ring.port(port) {
+        Delivered::Ais => false,
+        Delivered::Chunk(cells) => {
+            u64::from(ring.value(port)) == sent.value
+                && cells.as_slice().len() as u64 == sent.count
+                && is_sent_from(other, parities, sent.from, cells.as_slice())
+        }
+    }
+}
+
+// Whether so many slips wait at a port.
+fn has_waiting(ring: &Ring, port: PortId, slips: Slips) -> bool {
+    ring.circuits().len() > port.circuit as usize
+        && u64::from(ring.waiting(port)) == slips.waiting()
+}
+
+// The clock of a port slips so many times more, where that many may wait.
+fn slip(ring: &mut Ring, port: PortId, turn: Turn, count: u8) -> bool
+    ensures settings { ring.new.settings ≡ ring.old.settings }
+    ensures ids { ring.new.ids ≡ ring.old.ids }
+    ensures whole { ring.new.broken ≡ ring.old.broken }
+    ensures rounds { ring.new.rounds ≡ ring.old.rounds }
+{
+    if ring.circuits().len() <= port.circuit as usize
+        || count > 16
+        || ring.waiting(port) > 16 - count
+    {
+        return false;
+    }
+    ring.slip(port, turn, count);
+    true
+}
+
+const PORT_A: PortId = PortId {
+    circuit: 0,
+    end: End::A,
+};
+
+const PORT_B: PortId = PortId {
+    circuit: 0,
+    end: End::B,
+};
+
+// ---- random slips
+
+/// A linear congruential generator.
+#[derive(Clone, Copy)]
+struct Chance {
+    state: u64,
+}
+
+impl Chance {
+    // The next number below a bound.
+    fn below(&mut self, bound: u64) -> u64
+        requires { 1 ≤ bound }
+        ensures { result < bound }
+    {
+        self.state = (self.state % 2_147_483_648 * 1_103_515_245 + 12_345) % 2_147_483_648;
+        self.state / 65_536 % bound
+    }
+}
+
+/// One end of the circuit: what it sends and with which B3, its slips, what it sent last, and how often its pointer value went over
+/// the largest one and under 0.
+#[derive(Drop)]
+struct Far<'a> {
+    port: PortId,
+    sender: Sender<'a>,
+    parities: Vec<u8>,
+    slips: Slips,
+    sent: Sent,
+    over: u64,
+    under: u64,
+}
+
+fn new_far<'a>(
+    alloc: Global,
+    port: PortId,
+    sender: Sender<'a>,
+    rounds: u64,
+) -> Result<Far<'a>, AllocError>
+    requires text { 1 ≤ length sender.text.now }
+    requires few { rounds ≤ 9000 }
+{
+    Ok(Far {
+        port,
+        sender,
+        parities: parities_of(alloc, sender, rounds + 2)?,
+        slips: NONE,
+        sent: Sent {
+            from: 0,
+            count: 0,
+            value: sender.offset,
+        },
+        over: 0,
+        under: 0,
+    })
+}
+
+// What it sends in a round.
+fn send(far: &mut Far<'_>, round: u64) {
+    let left = far.slips.after(round);
+    let sent = sent_in(far.sender.offset, far.slips, left, round);
+    if far.sent.value == 782 && sent.value == 0 {
+        far.over = far.over.saturating_add(1);
+    }
+    if far.sent.value == 0 && sent.value == 782 {
+        far.under = far.under.saturating_add(1);
+    }
+    far.slips = left;
+    far.sent = sent;
+}
+
+// In two of five rounds, up to four slips at a port.
+fn slip_by_chance(ring: &mut Ring, far: &mut Far<'_>, chance: &mut Chance)
+    ensures settings { ring.new.settings ≡ ring.old.settings }
+    ensures ids { ring.new.ids ≡ ring.old.ids }
+    ensures whole { ring.new.broken ≡ ring.old.broken }
+    ensures rounds { ring.new.rounds ≡ ring.old.rounds }
+{
+    let turn = match chance.below(5) {
+        0 => Turn::Up,
+        1 => Turn::Down,
+        _ => return,
+    };
+    let count = 1 + chance.below(4) as u8;
+    if slip(ring, far.port, turn, count) {
+        far.slips = far.slips.with(turn, count);
+    }
+}
+
+// One round, before which both clocks slip by chance: whether each port delivers what the other end sent in the round before, and as
+// many slips wait as are to.
+fn go<P: Plant>(
+    ring: &mut Ring,
+    plant: &mut P,
+    a: &mut Far<'_>,
+    b: &mut Far<'_>,
+    chance: &mut Chance,
+) -> Result<bool, AllocError>
+    requires prepared { IsPrepared ring.old.settings.rate (length ring.old.ids) (P.fibres plant.old) }
+    requires whole { ring.old.broken ≡ false }
+    ensures prepared { OnOk result (IsPrepared ring.new.settings.rate (length ring.new.ids) (P.fibres plant.new)) }
+    ensures whole { OnOk result (ring.new.broken ≡ false) }
+{
+    if ring.rounds() > 100_000 {
+        return Err(AllocError);
+    }
+    let round = ring.rounds();
+    slip_by_chance(ring, a, chance);
+    slip_by_chance(ring, b, chance);
+    run(ring, plant, 1).map_err(|_| AllocError)?;
+    let deliver = has_delivered(ring, PORT_A, b.sender, b.parities.as_slice(), b.sent)
+        && has_delivered(ring, PORT_B, a.sender, a.parities.as_slice(), a.sent);
+    send(a, round);
+    send(b, round);
+    Ok(deliver && has_waiting(ring, PORT_A, a.slips) && has_waiting(ring, PORT_B, b.slips))
+}
+
+/// In how many rounds all was as it is to be, how often both pointer values rose and fell, and how often they went over the largest
+/// value and under 0.
+#[derive(Clone, Copy, Debug)]
+struct Tally {
+    right: u64,
+    raised: u64,
+    lowered: u64,
+    over: u64,
+    under: u64,
+}
+
+// Runs so many rounds of a new ring of two nodes with one circuit.
+fn tallied<P: Plant>(
+    alloc: Global,
+    plant: &mut P,
+    asked: Asked<'_>,
+    rounds: u64,
+) -> Result<Tally, AllocError>
+    requires fresh { HasNoFibres (P.fibres plant.old) }
+    requires few { rounds ≤ 9000 }
+{
+    let (from_a, from_b) = (sender_at(&asked, End::A), sender_at(&asked, End::B));
+    if from_a.text.is_empty() || from_b.text.is_empty() {
+        return Err(AllocError);
+    }
+    let mut ring = laid_with(alloc, plant, Rate::Four, &[1, 2], &[asked])?;
+    let mut a = new_far(alloc, PORT_A, from_a, rounds)?;
+    let mut b = new_far(alloc, PORT_B, from_b, rounds)?;
+    let mut chance = Chance { state: 1 };
+    let mut right = 0u64;
+    'turns: for _turn in 0..rounds {
+        if go(&mut ring, plant, &mut a, &mut b, &mut chance)? {
+            right = right.saturating_add(1);
+        }
+    }
+    Ok(Tally {
+        right,
+        raised: a.slips.raised.saturating_add(b.slips.raised),
+        lowered: a.slips.lowered.saturating_add(b.slips.lowered),
+        over: a.over.saturating_add(b.over),
+        under: a.under.saturating_add(b.under),
+    })
+}
+
+const ONE_SPAN: Asked<'static> = Asked {
+    to: 2,
+    offset_a: 781,
+    offset_b: 1,
+    trace_a: "to the second node",
+    trace_b: "to the first node",
+    ..ALPHABETS
+};
+
+#[test]
+fn neighbours_interpret_random_slips(rt: HostRuntime) {
+    let mut plant = FibrePlant::new();
+    let tally = tallied(rt.alloc(), &mut plant, ONE_SPAN, 2000);
+    assert!(rt; tally.is_ok());
+    let Ok(tally) = tally else {
+        return;
+    };
+    // Nothing arrives in round 0. From round 1 on, each interpreter is in Norm.
+    assert_eq!(rt; tally.right, 1999, "{tally:?}");
+    // The values wrap both ways.
+    assert!(rt;
+        tally.raised > 100 && tally.lowered > 100 && tally.over > 0 && tally.under > 0,
+        "{tally:?}"
+    );
+}
+
+// ---- slips before a settle step
+
+// What a port sends in a round by which so many slips up and down were made good, where none was waiting for that round.
+fn settled(offset: u64, ups: u8, downs: u8, round: u64) -> Sent {
+    let slips = Slips {
+        raised: u64::from(ups),
+        lowered: u64::from(downs),
+        ..NONE
+    };
+    sent_in(offset, slips, slips, round)
+}
+
+/// The ups and the downs that wait at both ports before a settle step, whether the span between the second and the third node is cut
+/// both ways, and how many rounds before its last one the other end sent what a port delivers.
+#[derive(Clone, Copy)]
+struct Row {
+    a: (u8, u8),
+    b: (u8, u8),
+    is_cut: bool,
+    hops: u64,
+}
+
+// Ups and downs wait at a port.
+fn slip_both(ring: &mut Ring, port: PortId, slips: (u8, u8)) -> bool
+    ensures settings { ring.new.settings ≡ ring.old.settings }
+    ensures ids { ring.new.ids ≡ ring.old.ids }
+    ensures whole { ring.new.broken ≡ ring.old.broken }
+    ensures rounds { ring.new.rounds ≡ ring.old.rounds }
+{
+    let ups = slip(ring, port, Turn::Up, slips.0);
+    let downs = slip(ring, port, Turn::Down, slips.1);
+    ups && downs
+}
+
+// Whether a port delivers what the other end sent in a round, when so many of its slips were made good.
+fn is_owed(
+    alloc: Global,
+    ring: &Ring,
+    port: PortId,
+    other: Sender<'_>,
+    slips: (u8, u8),
+    round: u64,
+) -> Result<bool, AllocError> {
+    if other.text.is_empty() {
+        return Ok(false);
+    }
+    let parities = parities_of(alloc, other, 150)?;
+    let sent = settled(other.offset, slips.0, slips.1, round);
+    Ok(
+        ring.rounds() == 129
+            && has_waiting(ring, port, NONE)
+            && has_delivered(ring, port, other, parities.as_slice(), sent),
+    )
+}
+
+// Whether a row comes out, in a ring of four nodes with a circuit over two spans.
+fn row_comes_out<P: Plant>(alloc: Global, plant: &mut P, row: Row) -> Result<bool, AllocError>
+    requires { HasNoFibres (P.fibres plant.old) }
+{
+    let mut ring = laid_with(alloc, plant, Rate::Four, &[1, 2, 3, 4], &[TWO_SPANS])?;
+    let a = slip_both(&mut ring, PORT_A, row.a);
+    let b = slip_both(&mut ring, PORT_B, row.b);
+    if !cut_if(&ring, plant, row.is_cut) {
+        return Ok(false);
+    }
+    settle(&mut ring, plant)?;
+    let round = 128 - row.hops.min(128);
+    let at_a = is_owed(
+        alloc,
+        &ring,
+        PORT_A,
+        sender_at(&TWO_SPANS, End::B),
+        row.b,
+        round,
+    )?;
+    let at_b = is_owed(
+        alloc,
+        &ring,
+        PORT_B,
+        sender_at(&TWO_SPANS, End::A),
+        row.a,
+        round,
+    )?;
+    Ok(a && b && at_a && at_b)
+}
+
+const TWO_SPANS: Asked<'static> = Asked { to: 3, ..ONE_SPAN };
+
+#[test]
+fn slips_before_a_settle_step(rt: HostRuntime) {
+    let rows = [
+        ((0, 0), (0, 0), true, 4),
+        ((1, 0), (0, 1), false, 2),
+        ((3, 1), (2, 9), true, 4),
+        ((16, 0), (0, 16), true, 4),
+    ];
+    for (a, b, is_cut, hops) in rows {
+        let mut plant = FibrePlant::new();
+        let row = Row { a, b, is_cut, hops };
+        assert!(rt;
+            row_comes_out(rt.alloc(), &mut plant, row) == Ok(true),
+            "{a:?} {b:?}"
+        );
+    }
+}
