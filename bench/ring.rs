@@ -1,4 +1,4 @@
-//! Rounds of whole rings, against the copies that a round can't do without: each frame once into a fibre and once out of it.
+//! Rounds of whole rings, against copies of as many frames: each once into a fibre and once out of it.
 //! The functions are those of the static library `crates/sdh_bench_ring`.
 
 use std::hint::black_box;

@@ -25,36 +25,6 @@ fn copy4(bytes: &mut [u8], to: usize, source: &[u8], from: usize)
     }
 }
 
-fn put4(bytes: &mut [u8], au: usize, payload: &[u8])
-    requires size { length bytes.old ≡ 9720 }
-    requires payload { length payload.now ≡ 2349 }
-    requires low { 1 ≤ au }
-    requires high { au ≤ 4 }
-    ensures { (i : ℕ) → i < 9720 → slice_index bytes.new i ≡ (if is_payload 4 au i then slice_index payload.now (261 * (i / 1080) + (i % 1080 - 36) / 4) else slice_index bytes.old i) }
-{
-    for r in 0..9 {
-        let at = r * 1080 + 35 + au;
-        for c in 0..261 {
-            bytes[at + c * 4] = payload[r * 261 + c];
-        }
-    }
-}
-
-fn take4(bytes: &[u8], au: usize, out: &mut [u8])
-    requires size { length bytes.now ≡ 9720 }
-    requires out { length out.old ≡ 2349 }
-    requires low { 1 ≤ au }
-    requires high { au ≤ 4 }
-    ensures { (j : ℕ) → j < 2349 → slice_index out.new j ≡ slice_index bytes.now (index_of 4 (payload_place 4 au j)) }
-{
-    for r in 0..9 {
-        let at = r * 1080 + 35 + au;
-        for c in 0..261 {
-            out[r * 261 + c] = bytes[at + c * 4];
-        }
-    }
-}
-
 fn fill4(bytes: &mut [u8], au: usize)
     requires size { length bytes.old ≡ 9720 }
     requires low { 1 ≤ au }
@@ -100,36 +70,6 @@ fn copy16(bytes: &mut [u8], to: usize, source: &[u8], from: usize)
     }
 }
 
-fn put16(bytes: &mut [u8], au: usize, payload: &[u8])
-    requires size { length bytes.old ≡ 38880 }
-    requires payload { length payload.now ≡ 2349 }
-    requires low { 1 ≤ au }
-    requires high { au ≤ 16 }
-    ensures { (i : ℕ) → i < 38880 → slice_index bytes.new i ≡ (if is_payload 16 au i then slice_index payload.now (261 * (i / 4320) + (i % 4320 - 144) / 16) else slice_index bytes.old i) }
-{
-    for r in 0..9 {
-        let at = r * 4320 + 143 + au;
-        for c in 0..261 {
-            bytes[at + c * 16] = payload[r * 261 + c];
-        }
-    }
-}
-
-fn take16(bytes: &[u8], au: usize, out: &mut [u8])
-    requires size { length bytes.now ≡ 38880 }
-    requires out { length out.old ≡ 2349 }
-    requires low { 1 ≤ au }
-    requires high { au ≤ 16 }
-    ensures { (j : ℕ) → j < 2349 → slice_index out.new j ≡ slice_index bytes.now (index_of 16 (payload_place 16 au j)) }
-{
-    for r in 0..9 {
-        let at = r * 4320 + 143 + au;
-        for c in 0..261 {
-            out[r * 261 + c] = bytes[at + c * 16];
-        }
-    }
-}
-
 fn fill16(bytes: &mut [u8], au: usize)
     requires size { length bytes.old ≡ 38880 }
     requires low { 1 ≤ au }
@@ -169,32 +109,6 @@ fn copy(rate: Rate, bytes: &mut [u8], to: usize, source: &[u8], from: usize)
     match rate {
         Rate::Four => copy4(bytes, to, source, from),
         Rate::Sixteen => copy16(bytes, to, source, from),
-    }
-}
-
-fn put(rate: Rate, bytes: &mut [u8], au: usize, payload: &[u8])
-    requires size { length bytes.old ≡ size_of rate }
-    requires payload { length payload.now ≡ 2349 }
-    requires low { 1 ≤ au }
-    requires high { au ≤ n_of rate }
-    ensures { bytes.new ≡ with_payload (n_of rate) au payload.now bytes.old }
-{
-    match rate {
-        Rate::Four => put4(bytes, au, payload),
-        Rate::Sixteen => put16(bytes, au, payload),
-    }
-}
-
-fn take(rate: Rate, bytes: &[u8], au: usize, out: &mut [u8])
-    requires size { length bytes.now ≡ size_of rate }
-    requires out { length out.old ≡ 2349 }
-    requires low { 1 ≤ au }
-    requires high { au ≤ n_of rate }
-    ensures { out.new ≡ payload_of (n_of rate) au bytes.now }
-{
-    match rate {
-        Rate::Four => take4(bytes, au, out),
-        Rate::Sixteen => take16(bytes, au, out),
     }
 }
 
@@ -252,26 +166,6 @@ impl FrameBuf {
             from.bytes.as_slice(),
             au as usize,
         );
-    }
-
-    /// The payload of an AU-4 becomes these 2349 bytes.
-    pub fn put_payload(&mut self, au: u16, payload: &[u8])
-        requires first { 1 ≤ au }
-        requires last { au ≤ n_of self.old.rate }
-        requires payload { length payload.now ≡ 2349 }
-        ensures { self.new ≡ record self.old { bytes = with_payload (n_of self.old.rate) au payload.now self.old.bytes } }
-    {
-        put(self.rate, self.bytes.as_mut_slice(), au as usize, payload);
-    }
-
-    /// The payload of an AU-4, 2349 bytes row by row.
-    pub fn take_payload(&self, au: u16, out: &mut [u8])
-        requires first { 1 ≤ au }
-        requires last { au ≤ n_of self.now.rate }
-        requires out { length out.old ≡ 2349 }
-        ensures { out.new ≡ payload_of (n_of self.now.rate) au self.now.bytes }
-    {
-        take(self.rate, self.bytes.as_slice(), au as usize, out);
     }
 
     /// The nine pointer bytes of an AU-4 become these.

@@ -1,5 +1,5 @@
 //! Places by the layout's own tables, and frames written and read.
-ghost use Rattle.std.specs.Prelude.{◌≡◌, ◌*◌, ◌<◌, ◌≤◌, IfOk, replicate, vec_len};
+ghost use Rattle.std.specs.Prelude.{◌≡◌, ◌*◌, ◌<◌, ◌≤◌, replicate};
 ghost use Rattle.sdh_frame.specs.Lending.{with_row};
 ghost use Rattle.sdh_frame.specs.Sizes.{n_of};
 
@@ -198,19 +198,11 @@ fn one_row_of_an_stm16_frame_is_written(rt: HostRuntime) -> Result<(), Fail> {
     Ok(())
 }
 
-fn chunk(alloc: Global, value: u8) -> Result<Vec<u8>, AllocError>
-    ensures { IfOk result (λ v. vec_len v ≡ 2349) }
-{
-    vec![in alloc; value; 2349]
-}
-
 // AU-4 number 3 has H2 at row 4, column 51, and its first payload byte at row 1, column 147.
 #[test]
 fn an_au_is_written_and_read(rt: HostRuntime) -> Result<(), Fail> {
     let mut frame = FrameBuf::try_new(rt.alloc(), Rate::Sixteen)?;
-    let payload = chunk(rt.alloc(), 0x5A)?;
-    let mut out = chunk(rt.alloc(), 0)?;
-    frame.put_payload(3, payload.as_slice());
+    frame.au_mut(3).set_payload(0, 0x5A);
     frame.put_pointers(3, &[0x68, 0x9B, 0x9B, 0x0A, 0xFF, 0xFF, 1, 2, 3]);
     assert_eq!(rt; frame.get(Place { row: 4, column: 51 }), 0x0A);
     assert_eq!(rt;
@@ -228,8 +220,8 @@ fn an_au_is_written_and_read(rt: HostRuntime) -> Result<(), Fail> {
         0
     );
     assert_eq!(rt; frame.pointer(3, 8), 3);
-    frame.take_payload(3, out.as_mut_slice());
-    assert_eq!(rt; out.as_slice() == payload.as_slice(), true);
+    assert_eq!(rt; frame.au(3).payload(0), 0x5A);
+    assert_eq!(rt; frame.au(4).payload(0), 0);
     Ok(())
 }
 

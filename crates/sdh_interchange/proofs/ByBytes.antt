@@ -27,16 +27,16 @@ own_byte-none : (n : ℕ) (own : List ℕ) (i : ℕ) → i % (270 * n) < 9 * n �
 unfolding own_byte
 own_byte-none n own i h = let before : leb (9 * n) (i % (270 * n)) ≡ false = lt-leb _ _ h in rw before refl
 
-pub plain4 : (s : Source) (own : List ℕ) (i : ℕ) → 3240 ≤ i → i < 3276 → IsSource 4 s → IsPlain 4 s own i
+pub plain4 : (s : Source) (own : List ℕ) (i : ℕ) → 3240 ≤ i → i < 3276 → IsSource 4 (i % 4 + 1) s → IsPlain 4 s own i
 plain4 (First au) own i low high is = tt
 plain4 (Second au) own i low high is = tt
-plain4 (Own k) own i low high is = let few : k ≤ 4 = is.1 in own_byte-none 4 own (i - i % 4 + (k - 1)) (omega arith)
+plain4 (Own k) own i low high is = let few : k ≤ 4 = omega (arith, is) in own_byte-none 4 own (i - i % 4 + (k - 1)) (omega arith)
 plain4 Ones own i low high is = tt
 
-pub plain16 : (s : Source) (own : List ℕ) (i : ℕ) → 12960 ≤ i → i < 13104 → IsSource 16 s → IsPlain 16 s own i
+pub plain16 : (s : Source) (own : List ℕ) (i : ℕ) → 12960 ≤ i → i < 13104 → IsSource 16 (i % 16 + 1) s → IsPlain 16 s own i
 plain16 (First au) own i low high is = tt
 plain16 (Second au) own i low high is = tt
-plain16 (Own k) own i low high is = let few : k ≤ 16 = is.1 in own_byte-none 16 own (i - i % 16 + (k - 1)) (omega arith)
+plain16 (Own k) own i low high is = let few : k ≤ 16 = omega (arith, is) in own_byte-none 16 own (i - i % 16 + (k - 1)) (omega arith)
 plain16 Ones own i low high is = tt
 
 -- where a byte of a payload stands in its column
@@ -136,18 +136,18 @@ module _ (rate : Rate) (i x : ℕ) (inside : i < size_of rate) where
   of_own own k low high (inr h) =
       pointer_byte-here n _ _ _ i _ (is_pointer_byte h.0 h.1) ∙ get_or-replicate 9 _ 0 0 (pointer_from rate i 1 (omega arith) inside h.0 h.1).1 ∙ sym (own_byte-none n own (i - i % n + (k - 1)) (own_pointers rate i k low high h.1))
 
-  of_source : (s : Source) (first second own : List ℕ) → IsSource n s → (9 * n ≤ i % (270 * n)) ⊎ ((i / (270 * n) ≡ 3) × (i % (270 * n) < 9 * n)) → au_byte n (i % n + 1) (au_from n first second own s) i x ≡ picked n s first second own i
-  of_source (First au) first second own is part = of_frame first au is.0 part
-  of_source (Second au) first second own is part = of_frame second au is.0 part
-  of_source (Own k) first second own is part = of_own own k is.0 is.1 part
-  of_source Ones first second own is part = of_ones part
-
   lane_in : i % n < n
   lane_in = rate_lane rate i
     where
       rate_lane : (rate : Rate) (i : ℕ) → i % n_of rate < n_of rate
       rate_lane Four i = omega arith
       rate_lane Sixteen i = omega arith
+
+  of_source : (s : Source) (first second own : List ℕ) → IsSource n (i % n + 1) s → (9 * n ≤ i % (270 * n)) ⊎ ((i / (270 * n) ≡ 3) × (i % (270 * n) < 9 * n)) → au_byte n (i % n + 1) (au_from n first second own s) i x ≡ picked n s first second own i
+  of_source (First au) first second own is part = of_frame first au is.0 part
+  of_source (Second au) first second own is part = of_frame second au is.0 part
+  of_source (Own k) first second own is part = of_own own k (omega (arith, is)) (omega (arith, is, lane_in)) part
+  of_source Ones first second own is part = of_ones part
 
   -- a byte of an AU-4
   chosen_here : (sources : List Source) (first second own : List ℕ) → AreSources n sources → (9 * n ≤ i % (270 * n)) ⊎ ((i / (270 * n) ≡ 3) × (i % (270 * n) < 9 * n))

@@ -3,3 +3,4 @@ pub mod ByBytes
 pub mod Turning
 pub mod Sorts
 pub mod Pointing
+pub mod Fours

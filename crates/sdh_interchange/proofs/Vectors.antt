@@ -1,11 +1,13 @@
 -- Sixteen bytes of a frame by the lanes of two others.
-use Rattle.std.proofs.Common.{◌≡◌, ℕ, ◌+◌, ◌*◌, ◌-◌, ◌/◌, ◌%◌, ◌<◌, ◌≤◌, ◌⊎◌, inl, inr, Bool, true, false, ◌||◌, T, w8, ltb, List, length, get_or, bit_or, refl, ap, sym, ◌∙◌, arith, subst}
+use Rattle.std.proofs.Common.{◌≡◌, ℕ, ◌+◌, ◌*◌, ◌-◌, ◌/◌, ◌%◌, ◌<◌, ◌≤◌, ◌⊎◌, inl, inr, Bool, true, false, ◌||◌, T, w8, ltb, List, length, get_or, bit_or, bit_and, refl, ap, sym, ◌∙◌, arith, subst}
 use Rattle.std.specs.Int.Bits.{or_zero_l, or_zero_r}
-use Rattle.std.specs.Simd.Lanes.{zip2, chunk, put_chunk}
-use Rattle.std.proofs.lemmas.Simd.{swz_l, SwzOk, SwzOk-from_Each1, Each1-from_get_or, length-swz_l, get_or-swz_l, get_or-swz_l_below, length-zip2, get_or-zip2, get_or-chunk, get_or-put_chunk_at, get_or-put_chunk_above}
+use Rattle.std.proofs.lemmas.Grind.{and_numeral}
+use lib.Bits.{and_zero_r}
+use Rattle.std.specs.Simd.Lanes.{zip2, chunk, put_chunk, Each1}
+use Rattle.std.proofs.lemmas.Simd.{swz_l, SwzOk, SwzOk-from_Each1, Each1-from_get_or, Each1-get_or, below_from_Fits, length-swz_l, get_or-swz_l, get_or-swz_l_below, length-zip2, get_or-zip2, get_or-chunk, get_or-put_chunk_at, get_or-put_chunk_above}
 use lib.Dec.{lt→ltb}
 use mathlib.Core.Bool.{cond}
-use mir.Val.{zeroes}
+use mir.Val.{zeroes, Fits}
 use Rattle.sdh_interchange.specs.declared.choose.Source.{Source}
 use Rattle.sdh_interchange.specs.declared.choose.Source.TheVariants.{First, Second, Own, Ones}
 use Rattle.sdh_interchange.specs.Choosing.{own_byte, picked, picked_at, IsLane, AreLanes, IsExtra, AreExtra, IsPlain}
@@ -35,16 +37,10 @@ second_read n (Second au) j a b c o h = inl h.1
 second_read n (Own k) j a b c o h = inr h.3
 second_read n Ones j a b c o h = inr h.1
 
-own_read : (n : ℕ) (s : Source) (j a b c o : ℕ) → IsLane n s j a b c o → (c < 16) ⊎ (c ≡ 128)
-own_read n (First au) j a b c o h = inr h.3
-own_read n (Second au) j a b c o h = inr h.3
-own_read n (Own k) j a b c o h = inl h.1
-own_read n Ones j a b c o h = inr h.2
-
 pub reads : (xs js : List ℕ) (j c : ℕ) → j < 16 → length js ≡ 16 → get_or js j 0 ≡ c → c < 16 → get_or (swz_l w8 16 xs 0 js) j 0 ≡ get_or xs c 0
 reads xs js j c h long e small = get_or-swz_l_below w8 16 xs 0 js j (omega arith) (omega arith) ∙ ap (λ z. get_or xs z 0) (omega arith)
 
-reads_none : (xs js : List ℕ) (j : ℕ) → j < 16 → length js ≡ 16 → get_or js j 0 ≡ 128 → get_or (swz_l w8 16 xs 0 js) j 0 ≡ 0
+pub reads_none : (xs js : List ℕ) (j : ℕ) → j < 16 → length js ≡ 16 → get_or js j 0 ≡ 128 → get_or (swz_l w8 16 xs 0 js) j 0 ≡ 0
 reads_none xs js j h long e = get_or-swz_l w8 16 xs 0 js j (omega arith) ∙ ap (λ z. cond (zeroes 16 w8 z) 0 (get_or xs (16 * ((0 + j) / 16) + z) 0)) e
 
 or_first : (x y o v : ℕ) → x ≡ v → y ≡ 0 → o ≡ 0 → bit_or (bit_or x y) o ≡ v
@@ -55,6 +51,12 @@ or_second x y o v p q r = ap (bit_or (bit_or x y)) r ∙ or_zero_r (bit_or x y) 
 
 or_more : (x y o v : ℕ) → x ≡ 0 → y ≡ 0 → o ≡ v → bit_or (bit_or x y) o ≡ v
 or_more x y o v p q r = ap (λ z. bit_or (bit_or z y) o) p ∙ ap (λ z. bit_or z o) (or_zero_l y ∙ q) ∙ or_zero_l o ∙ r
+
+masked : (x c o : ℕ) → c ≡ 0 → bit_or (bit_and x c) o ≡ o
+masked x c o e = ap (λ z. bit_or (bit_and x z) o) e ∙ ap (λ z. bit_or z o) (and_zero_r x) ∙ or_zero_l o
+
+kept : (x c o : ℕ) → x < 256 → c ≡ 0xFF → o ≡ 0 → bit_or (bit_and x c) o ≡ x
+kept x c o small e z = ap (bit_or (bit_and x c)) z ∙ or_zero_r _ ∙ ap (bit_and x) e ∙ and_numeral x 254 refl ∙ omega arith
 
 -- ---- a vector that begins with a whole column
 
@@ -121,25 +123,21 @@ module _ (n at : ℕ) (first second own : List ℕ) (rate : (n ≡ 4) ⊎ (n ≡
 
   -- ---- what comes from the payloads
 
-  own_lane : (s : Source) (xs os : List ℕ) (j a b o up : ℕ) → j < 16 → length os ≡ 16 → ((k : ℕ) → k < up → get_or xs k 0 ≡ own_byte n own (at + k)) → (get_or os j 0 < 16 → get_or os j 0 < up) → IsLane n s j a b (get_or os j 0) o
-      → IsExtra n s own (at + j) (bit_or (get_or (swz_l w8 16 xs 0 os) j 0) o)
-  own_lane (First au) xs os j a b o up h long each below is = ap (λ z. bit_or z o) (reads_none xs os j h long is.3) ∙ or_zero_l o ∙ is.4
-  own_lane (Second au) xs os j a b o up h long each below is = ap (λ z. bit_or z o) (reads_none xs os j h long is.3) ∙ or_zero_l o ∙ is.4
-  own_lane (Own k) xs os j a b o up h long each below is =
-      ap (bit_or _) is.4 ∙ or_zero_r _ ∙ reads xs os j _ h long refl is.1 ∙ each _ (below is.1) ∙ ap (λ z. own_byte n own (at + z)) is.0 ∙ ap (own_byte n own) (column n at j k rate whole).0
-  own_lane Ones xs os j a b o up h long each below is = ap (λ z. bit_or z o) (reads_none xs os j h long is.2) ∙ or_zero_l o ∙ is.3
+  own_lane : (s : Source) (xs : List ℕ) (j a b c o up : ℕ) → get_or xs j 0 < 256 → ((k : ℕ) → k < up → get_or xs k 0 ≡ own_byte n own (at + k)) → (1 ≤ c → j < up) → IsLane n s j a b c o → IsExtra n s own (at + j) (bit_or (bit_and (get_or xs j 0) c) o)
+  own_lane (First au) xs j a b c o up small each below is = masked (get_or xs j 0) c o is.3 ∙ is.4
+  own_lane (Second au) xs j a b c o up small each below is = masked (get_or xs j 0) c o is.3 ∙ is.4
+  own_lane (Own k) xs j a b c o up small each below is =
+      kept (get_or xs j 0) c o small is.1 is.4 ∙ each j (below (omega (arith, is.1))) ∙ ap (λ z. own_byte n own (at + z)) is.0 ∙ ap (own_byte n own) (column n at j k rate whole).0
+  own_lane Ones xs j a b c o up small each below is = masked (get_or xs j 0) c o is.2 ∙ is.3
 
   module _ (sources : List Source) (fs ss os ms xs : List ℕ) (up : ℕ) (lanes : AreLanes n sources fs ss os ms up) where
-    pub own_fits : SwzOk w8 16 16 0 os
-    own_fits = lanes_fit os lanes.own_long (λ j h. own_read n (get_or sources (j % n) Ones) j _ _ _ _ (lanes.each j h))
-
-    pub own_extra : ((k : ℕ) → k < up → get_or xs k 0 ≡ own_byte n own (at + k)) → AreExtra n sources own at (zip2 bit_or (swz_l w8 16 xs 0 os) ms)
-    own_extra each =
-        let long : length (swz_l w8 16 xs 0 os) ≡ 16 = length-swz_l w8 16 xs 0 os ∙ lanes.own_long in
+    pub own_extra : length xs ≡ 16 → Each1 (Fits w8) xs → ((k : ℕ) → k < up → get_or xs k 0 ≡ own_byte n own (at + k)) → AreExtra n sources own at (zip2 bit_or (zip2 bit_and xs os) ms)
+    own_extra long_xs bytes each =
+        let long : length (zip2 bit_and xs os) ≡ 16 = length-zip2 bit_and xs os (long_xs ∙ sym lanes.own_long) ∙ long_xs in
         record {
-          long = length-zip2 bit_or (swz_l w8 16 xs 0 os) ms (long ∙ sym lanes.more_long) ∙ long;
-          each = λ j h. subst (IsExtra n (get_or sources (j % n) Ones) own (at + j)) (sym (get_or-zip2 bit_or (swz_l w8 16 xs 0 os) ms j 0 0 0 (omega (arith, long)) (omega (arith, lanes.more_long))))
-              (own_lane (get_or sources (j % n) Ones) xs os j _ _ (get_or ms j 0) up h lanes.own_long each (lanes.below j h) (lanes.each j h));
+          long = length-zip2 bit_or (zip2 bit_and xs os) ms (long ∙ sym lanes.more_long) ∙ long;
+          each = λ j h. subst (IsExtra n (get_or sources (j % n) Ones) own (at + j)) (sym (get_or-zip2 bit_or (zip2 bit_and xs os) ms j 0 0 0 (omega (arith, long)) (omega (arith, lanes.more_long)) ∙ ap (λ z. bit_or z (get_or ms j 0)) (get_or-zip2 bit_and xs os j 0 0 0 (omega (arith, long_xs)) (omega (arith, lanes.own_long)))))
+              (own_lane (get_or sources (j % n) Ones) xs j _ _ (get_or os j 0) (get_or ms j 0) up (Each1-get_or (λ x. x < 256) xs j 0 (omega (arith, long_xs)) (below_from_Fits w8 xs bytes)) each (lanes.below j h) (lanes.each j h));
         }
 
     plain_lane : (s : Source) (j a b c o : ℕ) → IsLane n s j a b c o → IsPlain n s own (at + j) → IsExtra n s own (at + j) o

@@ -19,17 +19,17 @@ au_from n first second own Ones = ones
 unfoldable pub chosen : ℕ → List Source → List ℕ → List ℕ → List ℕ → List ℕ → List ℕ
 chosen n sources first second own bytes = with_aus n 1 (map (au_from n first second own) sources) bytes
 
--- the source is one of N
-abbrev pub IsSource : ℕ → Source → Type 0
-IsSource n (First au) = (1 ≤ au) × (au ≤ n)
-IsSource n (Second au) = (1 ≤ au) × (au ≤ n)
-IsSource n (Own k) = (1 ≤ k) × (k ≤ n)
-IsSource n Ones = Unit {0}
+-- a source of AU-4 number `to` of N: an AU-4 of either frame, the payload of the same number, or ones
+abbrev pub IsSource : ℕ → ℕ → Source → Type 0
+IsSource n to (First au) = (1 ≤ au) × (au ≤ n)
+IsSource n to (Second au) = (1 ≤ au) × (au ≤ n)
+IsSource n to (Own k) = k ≡ to
+IsSource n to Ones = Unit {0}
 
 -- one for each AU-4
 pub record AreSources (n : ℕ) (sources : List Source) : Type 0 where
   pub many : length sources ≡ n
-  pub each : (j : ℕ) → j < n → IsSource n (slice_index_or sources j Ones)
+  pub each : (j : ℕ) → j < n → IsSource n (j + 1) (slice_index_or sources j Ones)
 
 -- ---- byte by byte
 
@@ -54,14 +54,14 @@ is_au_byte n i = nat_le (9 * n) (i % (270 * n)) || (i / (270 * n) == 3)
 
 -- ---- lanes of a vector over whole columns
 
--- lane j reads the first frame at lane a, the second at b, the payloads at c, where 128 is none, and adds o
+-- lane j reads the first frame at lane a, the second at b, where 128 is none, keeps the bits c of the payloads' lane, and adds o
 abbrev pub IsLane : ℕ → Source → ℕ → ℕ → ℕ → ℕ → ℕ → Type 0
-IsLane n (First au) j a b c o = (a ≡ j - j % n + (au - 1)) × (a < 16) × (b ≡ 128) × (c ≡ 128) × (o ≡ 0)
-IsLane n (Second au) j a b c o = (b ≡ j - j % n + (au - 1)) × (b < 16) × (a ≡ 128) × (c ≡ 128) × (o ≡ 0)
-IsLane n (Own k) j a b c o = (c ≡ j - j % n + (k - 1)) × (c < 16) × (a ≡ 128) × (b ≡ 128) × (o ≡ 0)
-IsLane n Ones j a b c o = (a ≡ 128) × (b ≡ 128) × (c ≡ 128) × (o ≡ 0xFF)
+IsLane n (First au) j a b c o = (a ≡ j - j % n + (au - 1)) × (a < 16) × (b ≡ 128) × (c ≡ 0) × (o ≡ 0)
+IsLane n (Second au) j a b c o = (b ≡ j - j % n + (au - 1)) × (b < 16) × (a ≡ 128) × (c ≡ 0) × (o ≡ 0)
+IsLane n (Own k) j a b c o = (j ≡ j - j % n + (k - 1)) × (c ≡ 0xFF) × (a ≡ 128) × (b ≡ 128) × (o ≡ 0)
+IsLane n Ones j a b c o = (a ≡ 128) × (b ≡ 128) × (c ≡ 0) × (o ≡ 0xFF)
 
--- sixteen lanes, which read the payloads below lane `upto`
+-- sixteen lanes, which keep bits of the payloads below lane `upto`
 pub record AreLanes (n : ℕ) (sources : List Source) (first second own more : List ℕ) (upto : ℕ) : Type 0 where
   pub first_long : length first ≡ 16
   pub second_long : length second ≡ 16
@@ -69,7 +69,7 @@ pub record AreLanes (n : ℕ) (sources : List Source) (first second own more : L
   pub more_long : length more ≡ 16
   pub each : (j : ℕ) → j < 16 → IsLane n (slice_index_or sources (j % n) Ones) j (slice_index first j) (slice_index second j) (slice_index own j) (slice_index more j)
   pub few : (upto ≡ 8) ⊎ (upto ≡ 16)
-  pub below : (j : ℕ) → j < 16 → slice_index own j < 16 → slice_index own j < upto
+  pub below : (j : ℕ) → j < 16 → 1 ≤ slice_index own j → j < upto
 
 -- what byte i gets besides the bytes of the two frames
 abbrev pub IsExtra : ℕ → Source → List ℕ → ℕ → ℕ → Type 0

@@ -57,8 +57,8 @@ fn any_own(sources: &[Source]) -> bool
     sources.iter().any(|source| source.is_own())
 }
 
-// What each lane reads in either frame and in the payloads, 128 for nothing, and what it adds. Lanes from `upto` on of the
-// payloads aren't read.
+// Which lane each lane reads in either frame, 128 for none, which bits of its own lane of the payloads it keeps, and what it adds.
+// Lanes from `upto` on keep none of the payloads.
 #[derive(Drop)]
 struct Lanes {
     first: [u8; 16],
@@ -68,30 +68,30 @@ struct Lanes {
     upto: usize,
 }
 
-// One lane: where it reads, and what it adds.
+// One lane: where it reads, what it keeps, and what it adds.
 fn lane_of(n: usize, j: usize, source: Source) -> (u8, u8, u8, u8)
     requires rate { (n ≡ 4) ⊎ (n ≡ 16) }
     requires lane { j < 16 }
-    requires source { IsSource n source }
+    requires source { IsSource n (j % n + 1) source }
     ensures { IsLane n source j result.0 result.1 result.2 result.3 }
 {
     let column = j - j % n;
     match source {
-        Source::First(au) => ((column + (au as usize - 1)) as u8, 128, 128, 0),
-        Source::Second(au) => (128, (column + (au as usize - 1)) as u8, 128, 0),
-        Source::Own(k) => (128, 128, (column + (k as usize - 1)) as u8, 0),
-        Source::Ones => (128, 128, 128, 0xFF),
+        Source::First(au) => ((column + (au as usize - 1)) as u8, 128, 0, 0),
+        Source::Second(au) => (128, (column + (au as usize - 1)) as u8, 0, 0),
+        Source::Own(_) => (128, 128, 0xFF, 0),
+        Source::Ones => (128, 128, 0, 0xFF),
     }
 }
 
-// The lane below which these lanes read: the eighth, or the last.
+// The lane below which lanes keep something: the eighth, or the last.
 fn upto_of(own: &[u8; 16]) -> usize
     requires { length own.now ≡ 16 }
     ensures few { (result ≡ 8) ⊎ (result ≡ 16) }
-    ensures below { (j : ℕ) → j < 16 → slice_index own.now j < 16 → slice_index own.now j < result }
+    ensures below { (j : ℕ) → j < 16 → 1 ≤ slice_index own.now j → j < result }
 {
-    for j in 0..16 {
-        if own[j] >= 8 && own[j] < 16 {
+    for j in 8..16 {
+        if own[j] > 0 {
             return 16;
         }
     }
@@ -171,7 +171,7 @@ fn with_own(
     requires column { (j : ℕ) → j < lanes.now.upto → slice_index column j ≡ own_byte n own.now (at + j) }
     ensures { AreExtra n sources.now own.now at result }
 {
-    column.swizzle_dyn(u8x16::from_array(lanes.own)) | u8x16::from_array(lanes.more)
+    (column & u8x16::from_array(lanes.own)) | u8x16::from_array(lanes.more)
 }
 
 // All columns from `from` up to `to`, where no payload is wanted.

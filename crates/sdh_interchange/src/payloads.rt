@@ -6,7 +6,7 @@ ghost use Rattle.sdh_frame.specs.Aus.{payload_of};
 ghost use Rattle.sdh_interchange.specs.Choosing.{payload_in};
 ghost use Rattle.sdh_interchange.specs.Tables.{cell, IsTable};
 
-use crate::table::{lanes_from, sort4};
+use crate::table::{lane4, lanes_from};
 use sdh_frame::Rate;
 use std::simd::prelude::*;
 
@@ -49,12 +49,13 @@ fn take_block4(bytes: &[u8], base: usize, r: usize, c: usize, out: &mut [u8])
 {
     let at = 1080 * r + (36 + 4 * c);
     let from = 261 * r + c;
-    let payloads = sort4(load4(bytes, at));
+    let rows = load4(bytes, at);
     for a in 0..2 {
-        put(out, 2349 * a + from, payloads[base + a]);
+        put(out, 2349 * a + from, lane4(rows, base + a));
     }
 }
 
+#[inline(always)]
 fn take_row4(bytes: &[u8], base: usize, r: usize, out: &mut [u8])
     requires base { base ≤ 2 }
     requires row { r < 9 }
@@ -69,6 +70,7 @@ fn take_row4(bytes: &[u8], base: usize, r: usize, out: &mut [u8])
     take_block4(bytes, base, r, 245, out);
 }
 
+#[inline(always)]
 fn take4(bytes: &[u8], base: usize, out: &mut [u8])
     requires base { base ≤ 2 }
     requires size { length bytes.now ≡ 9720 }
@@ -113,6 +115,7 @@ fn take_block16(bytes: &[u8], base: usize, r: usize, c: usize, out: &mut [u8])
     }
 }
 
+#[inline(always)]
 fn take_row16(bytes: &[u8], base: usize, r: usize, out: &mut [u8])
     requires base { (base ≡ 0) ⊎ (base ≡ 8) }
     requires row { r < 9 }
@@ -127,6 +130,7 @@ fn take_row16(bytes: &[u8], base: usize, r: usize, out: &mut [u8])
     take_block16(bytes, base, r, 245, out);
 }
 
+#[inline(always)]
 fn take16(bytes: &[u8], base: usize, out: &mut [u8])
     requires base { (base ≡ 0) ⊎ (base ≡ 8) }
     requires size { length bytes.now ≡ 38880 }
@@ -138,6 +142,33 @@ fn take16(bytes: &[u8], base: usize, out: &mut [u8])
     }
 }
 
+// The lower or the upper half: code of its own for each, in which the lanes are constants.
+fn take_half4(bytes: &[u8], base: usize, out: &mut [u8])
+    requires base { (base ≡ 0) ⊎ (base ≡ 2) }
+    requires size { length bytes.now ≡ 9720 }
+    requires out { 4698 ≤ length out.old }
+    ensures { (a j : ℕ) → a < 2 → j < 2349 → slice_index out.new (2349 * a + j) ≡ slice_index bytes.now (index_of 4 (payload_place 4 (base + a + 1) j)) }
+{
+    if base == 0 {
+        take4(bytes, 0, out);
+    } else {
+        take4(bytes, 2, out);
+    }
+}
+
+fn take_half16(bytes: &[u8], base: usize, out: &mut [u8])
+    requires base { (base ≡ 0) ⊎ (base ≡ 8) }
+    requires size { length bytes.now ≡ 38880 }
+    requires out { 18792 ≤ length out.old }
+    ensures { (a j : ℕ) → a < 8 → j < 2349 → slice_index out.new (2349 * a + j) ≡ slice_index bytes.now (index_of 16 (payload_place 16 (base + a + 1) j)) }
+{
+    if base == 0 {
+        take16(bytes, 0, out);
+    } else {
+        take16(bytes, 8, out);
+    }
+}
+
 // The payloads of half of the AU-4s, those behind the first `base`.
 pub(crate) fn take(rate: Rate, bytes: &[u8], base: usize, out: &mut [u8])
     requires base { (base ≡ 0) ⊎ (2 * base ≡ n_of rate) }
@@ -146,7 +177,7 @@ pub(crate) fn take(rate: Rate, bytes: &[u8], base: usize, out: &mut [u8])
     ensures { (au : ℕ) → base < au → 2 * au ≤ 2 * base + n_of rate → payload_in (au - base) out.new ≡ payload_of (n_of rate) au bytes.now }
 {
     match rate {
-        Rate::Four => take4(bytes, base, out),
-        Rate::Sixteen => take16(bytes, base, out),
+        Rate::Four => take_half4(bytes, base, out),
+        Rate::Sixteen => take_half16(bytes, base, out),
     }
 }

@@ -1,5 +1,5 @@
 //! Payloads of several AU-4s that change places with the columns of a frame, sixteen columns at a time.
-ghost use Rattle.std.specs.Prelude.{◌≡◌, ℕ, ◌+◌, ◌*◌, ◌/◌, ◌%◌, ◌<◌, ◌⊎◌, length};
+ghost use Rattle.std.specs.Prelude.{◌≡◌, ℕ, ◌+◌, ◌*◌, ◌/◌, ◌%◌, ◌<◌, ◌⊎◌, ◌==◌, if◌then◌else◌, length, slice_index};
 ghost use Rattle.sdh_interchange.specs.Tables.{IsTable, cell};
 
 use std::simd::prelude::*;
@@ -139,12 +139,32 @@ pub(crate) fn transpose4(v: [u8x16; 4]) -> [u8x16; 4]
     turn4(turn4(v))
 }
 
-// And are sorted again.
+// Where the sixteen columns of a lane stand in one of four rows, each of which has four columns of four lanes; 128 for none.
 #[inline(always)]
-pub(crate) fn sort4(v: [u8x16; 4]) -> [u8x16; 4]
-    requires { IsTable 4 v }
-    ensures table { IsTable 4 result }
-    ensures each { (i j : ℕ) → i < 4 → j < 16 → cell result i j ≡ cell v (j / 4) (4 * (j % 4) + i) }
+fn places_in(row: usize, lane: usize) -> [u8; 16]
+    requires row { row < 4 }
+    requires lane { lane < 4 }
+    ensures long { length result ≡ 16 }
+    ensures each { (j : ℕ) → j < 16 → slice_index result j ≡ (if j / 4 == row then 4 * (j % 4) + lane else 128) }
 {
-    transpose4(transpose4(v))
+    let mut places = [128; 16];
+    for c in 0..4 {
+        places[4 * row + c] = (4 * c + lane) as u8;
+    }
+    places
+}
+
+// A lane of the sixteen columns of four rows.
+#[inline(always)]
+pub(crate) fn lane4(v: [u8x16; 4], lane: usize) -> u8x16
+    requires rows { IsTable 4 v }
+    requires lane { lane < 4 }
+    ensures long { length result ≡ 16 }
+    ensures each { (j : ℕ) → j < 16 → slice_index result j ≡ cell v (j / 4) (4 * (j % 4) + lane) }
+{
+    let a = v[0].swizzle_dyn(u8x16::from_array(places_in(0, lane)));
+    let b = v[1].swizzle_dyn(u8x16::from_array(places_in(1, lane)));
+    let c = v[2].swizzle_dyn(u8x16::from_array(places_in(2, lane)));
+    let d = v[3].swizzle_dyn(u8x16::from_array(places_in(3, lane)));
+    (a | b) | (c | d)
 }

@@ -13,7 +13,7 @@ use Rattle.sdh_interchange.specs.Assembled.{payload_from, assembled}
 use Rattle.sdh_ringmap.specs.declared.Side.{Side}
 use Rattle.sdh_ringmap.specs.declared.Side.TheVariants.{West, East}
 use Rattle.sdh_node.specs.Passing.{Input, au_sent, aus_sent}
-use Rattle.sdh_node.specs.Sources.{payload_by, IsSourceOf, bytes_on}
+use Rattle.sdh_node.specs.Sources.{payload_by, bytes_on}
 use Rattle.sdh_node.specs.Crossing.{Cross, intake_on}
 
 -- what a side received stands on its side
@@ -23,7 +23,7 @@ bytes_there x East = refl
 
 -- AU-4 number `to` is this one, by its source and its pointer bytes
 pub record IsPlanned (x : Cross) (own : List ℕ) (to : ℕ) (s : Source) (ps : List ℕ) (au : Au) : Type 0 where
-  pub source : IsSourceOf (n_of x.west.section.rate) to s
+  pub source : IsSource (n_of x.west.section.rate) to s
   pub pointers : ps ≡ au.pointers
   pub payload : payload_by x own s ≡ au.payload
 
@@ -32,7 +32,7 @@ abbrev pub ArePlanned : Cross → List ℕ → (ℕ → Input) → List (Option 
 ArePlanned x own input states sources pointers k = (j : ℕ) → j < k → IsPlanned x own (j + 1) (get_or sources j Ones) (get_or pointers j []) (au_sent (get_or states j None) (input (j + 1)))
 
 -- the own payload of an AU-4 is that of its number
-payload_kept : (n to : ℕ) (west east own later : List ℕ) (s : Source) → IsSourceOf n to s → payload_in to later ≡ payload_in to own → payload_from n west east later s ≡ payload_from n west east own s
+payload_kept : (n to : ℕ) (west east own later : List ℕ) (s : Source) → IsSource n to s → payload_in to later ≡ payload_in to own → payload_from n west east later s ≡ payload_from n west east own s
 payload_kept n to west east own later (First au) is h = refl
 payload_kept n to west east own later (Second au) is h = refl
 payload_kept n to west east own later (Own k) is h = ap (λ m. payload_in m later) is ∙ h ∙ ap (λ m. payload_in m own) (sym is)
@@ -61,17 +61,11 @@ module _ (x : Cross) (own later : List ℕ) (input : ℕ → Input) (states : Li
             (plan_kept (j + 1) (get_or sources j Ones) (get_or pointers j []) (au_sent (get_or states j None) (input (j + 1))) same (done j before))))
       ]
 
-is_one : (n to : ℕ) (s : Source) → 1 ≤ to → to ≤ n → IsSourceOf n to s → IsSource n s
-is_one n to (First au) low high is = is
-is_one n to (Second au) low high is = is
-is_one n to (Own k) low high is = (omega arith, omega arith)
-is_one n to Ones low high is = tt
-
 module _ (x : Cross) (own : List ℕ) (input : ℕ → Input) (states : List (Option ℕ)) (sources : List Source) (pointers : List (List ℕ)) (n : ℕ) (rate : n_of x.west.section.rate ≡ n) (many : length sources ≡ n) (done : ArePlanned x own input states sources pointers n) where
   pub planned_sources : AreSources (n_of x.west.section.rate) sources
   planned_sources = record {
     many = many ∙ sym rate;
-    each = λ j lt. is_one (n_of x.west.section.rate) (j + 1) (get_or sources j Ones) (omega arith) (omega arith) (done j (omega arith)).source;
+    each = λ j lt. (done j (omega arith)).source;
   }
 
   pub planned_all : length states ≡ n → assembled (n_of x.west.section.rate) x.west_in.frame.bytes x.east_in.frame.bytes own sources pointers ≡ aus_sent input states

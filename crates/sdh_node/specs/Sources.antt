@@ -1,8 +1,7 @@
 -- Where the payload of a sent AU-4 comes from.
-use Rattle.std.specs.Prelude.{◌≡◌, ◌≤◌, ℕ, List}
+use Rattle.std.specs.Prelude.{ℕ, List}
 use Rattle.sdh_frame.specs.Sizes.{n_of}
 use Rattle.sdh_interchange.specs.declared.choose.Source.{Source}
-use Rattle.sdh_interchange.specs.declared.choose.Source.TheVariants.{First, Second, Own, Ones}
 use Rattle.sdh_interchange.specs.Assembled.{payload_from}
 use Rattle.sdh_ringmap.specs.declared.Side.{Side}
 use Rattle.sdh_ringmap.specs.declared.Side.TheVariants.{West, East}
@@ -12,13 +11,6 @@ use Rattle.sdh_node.specs.Crossing.{Cross}
 -- payloads stand one after the other
 abbrev pub payload_by : Cross → List ℕ → Source → List ℕ
 payload_by x own source = payload_from (n_of x.west.section.rate) x.west_in.frame.bytes x.east_in.frame.bytes own source
-
--- a source of AU-4 number `to` of N: an AU-4 of either frame, the own payload of the same number, or ones
-abbrev pub IsSourceOf : ℕ → ℕ → Source → Type 0
-IsSourceOf n to (First au) = (1 ≤ au) × (au ≤ n)
-IsSourceOf n to (Second au) = (1 ≤ au) × (au ≤ n)
-IsSourceOf n to (Own k) = k ≡ to
-IsSourceOf n to Ones = Unit {0}
 
 -- the bytes from a side
 abbrev pub bytes_on : Side → List ℕ → List ℕ → List ℕ

@@ -5,11 +5,11 @@ ghost use Rattle.sdh_frame.specs.Aus.{au_of, with_aus};
 ghost use Rattle.std.specs.List.{list_any};
 ghost use Rattle.sdh_pointer.specs.declared.word.Form.{Form};
 ghost use Rattle.sdh_pointer.specs.Sending.{Generator, after_action};
-ghost use Rattle.sdh_interchange.specs.Choosing.{AreSources, payload_in};
+ghost use Rattle.sdh_interchange.specs.Choosing.{IsSource, AreSources, payload_in};
 ghost use Rattle.sdh_interchange.specs.Assembled.{payload_from, assembled};
 ghost use Rattle.sdh_node.specs.Same.{same_generators};
 ghost use Rattle.sdh_node.specs.Passing.{no_input, h3_of, h3_sent, pointers_with, au_for, au_sent, states_of, aus_sent, after_inputs};
-ghost use Rattle.sdh_node.specs.Sources.{payload_by, IsSourceOf, bytes_on};
+ghost use Rattle.sdh_node.specs.Sources.{payload_by, bytes_on};
 ghost use Rattle.sdh_node.specs.Tributaries.{own_input, added_last};
 ghost use Rattle.sdh_node.specs.Crossing.{received, half_of, input_of, input_at};
 
@@ -62,7 +62,7 @@ fn pointers_for(action: Action, form: Form, word: Word, frame: &FrameBuf, au: u1
 // Where the payload of an AU-4 comes from that a side received.
 fn source_for(action: Action, side: Side, au: u16) -> Source
     requires { 1 ≤ au }
-    ensures source { (n to : ℕ) → au ≤ n → IsSourceOf n to result }
+    ensures source { (n to : ℕ) → au ≤ n → IsSource n to result }
     ensures payload { (n w : ℕ) (form : Form) (west east own : List ℕ) → payload_from n west east own result ≡ (au_for action form w (au_of n au (bytes_on side west east))).payload }
 {
     match action {
@@ -78,7 +78,7 @@ fn source_for(action: Action, side: Side, au: u16) -> Source
 #[tactic(auto, unfolding(crate::specs::Passing::au_sent))]
 fn send_ais(generator: &mut Gen) -> (Source, [u8; 9])
     ensures generator { generator.new ≡ after_action generator.old Action.Ais 0 }
-    ensures source { (n to : ℕ) → IsSourceOf n to result.0 }
+    ensures source { (n to : ℕ) → IsSource n to result.0 }
     ensures pointers { result.1 ≡ (au_sent generator.old.sending no_input).pointers }
     ensures payload { (n : ℕ) (west east own : List ℕ) → payload_from n west east own result.0 ≡ (au_sent generator.old.sending no_input).payload }
 {
@@ -92,7 +92,7 @@ fn pass_on(cross: &CrossConnect, side: Side, au: u16, generator: &mut Gen) -> (S
     requires first { 1 ≤ au }
     requires last { au ≤ n_of cross.now.west.section.rate }
     ensures generator { let input = received cross.now side au in generator.new ≡ after_action generator.old input.action input.value }
-    ensures source { (to : ℕ) → IsSourceOf (n_of cross.now.west.section.rate) to result.0 }
+    ensures source { (to : ℕ) → IsSource (n_of cross.now.west.section.rate) to result.0 }
     ensures pointers { result.1 ≡ (au_sent generator.old.sending (received cross.now side au)).pointers }
     ensures payload { (own : List ℕ) → payload_by cross.now own result.0 ≡ (au_sent generator.old.sending (received cross.now side au)).payload }
 {
@@ -109,7 +109,7 @@ fn send_own(port: &Tributary, generator: &mut Gen, own: &mut [u8], to: u16) -> (
     requires first { 1 ≤ to }
     requires room { 2349 * to ≤ length own.old }
     ensures generator { let input = own_input port.now in generator.new ≡ after_action generator.old input.action input.value }
-    ensures source { (n : ℕ) → IsSourceOf n to result.0 }
+    ensures source { (n : ℕ) → IsSource n to result.0 }
     ensures pointers { result.1 ≡ (au_sent generator.old.sending (own_input port.now)).pointers }
     ensures payload { (n : ℕ) (west east : List ℕ) → payload_from n west east own.new result.0 ≡ (au_sent generator.old.sending (own_input port.now)).payload }
     ensures others { (m : ℕ) → 1 ≤ m → m ≢ to → payload_in m own.new ≡ payload_in m own.old }
@@ -132,7 +132,7 @@ fn add(
     requires first { 1 ≤ to }
     requires room { 2349 * to ≤ length own.old }
     ensures generator { let input = added_last ports.now id in generator.new ≡ after_action generator.old input.action input.value }
-    ensures source { (n : ℕ) → IsSourceOf n to result.0 }
+    ensures source { (n : ℕ) → IsSource n to result.0 }
     ensures pointers { result.1 ≡ (au_sent generator.old.sending (added_last ports.now id)).pointers }
     ensures payload { (n : ℕ) (west east : List ℕ) → payload_from n west east own.new result.0 ≡ (au_sent generator.old.sending (added_last ports.now id)).payload }
     ensures others { (m : ℕ) → 1 ≤ m → m ≢ to → payload_in m own.new ≡ payload_in m own.old }
@@ -160,7 +160,7 @@ fn send_one(
     requires to_first { 1 ≤ to }
     requires room { 2349 * to ≤ length own.old }
     ensures generator { let input = input_of cross.now (added_last ports.now) slot origin in generator.new ≡ after_action generator.old input.action input.value }
-    ensures source { IsSourceOf (n_of cross.now.west.section.rate) to result.0 }
+    ensures source { IsSource (n_of cross.now.west.section.rate) to result.0 }
     ensures pointers { result.1 ≡ (au_sent generator.old.sending (input_of cross.now (added_last ports.now) slot origin)).pointers }
     ensures payload { payload_by cross.now own.new result.0 ≡ (au_sent generator.old.sending (input_of cross.now (added_last ports.now) slot origin)).payload }
     ensures others { (m : ℕ) → 1 ≤ m → m ≢ to → payload_in m own.new ≡ payload_in m own.old }

@@ -5,3 +5,4 @@ pub mod Walking
 pub mod Chunks
 pub mod Splicing
 pub mod Clocking
+pub mod Histories

@@ -1,9 +1,10 @@
 -- What holds of every customer's stream.
-use Rattle.std.specs.Prelude.{◌≡◌, ℕ, zero, suc, ◌+◌, ◌%◌, List, [], ◌++◌, ◌==◌, if◌then◌else◌, length, slice_index}
+use Rattle.std.specs.Prelude.{◌≡◌, ℕ, zero, suc, ◌+◌, ◌-◌, ◌%◌, ◌≤◌, pos, List, [], ◌∷◌, ◌++◌, ◌==◌, if◌then◌else◌, length, slice_index}
 use Rattle.sdh_payload.specs.declared.chunk.ChunkForm.{ChunkForm}
 use Rattle.sdh_payload.specs.Chunk.{taken, taken_len, laid, laid_h3}
 use Rattle.sdh_payload.specs.Customer.{Customer}
-use Rattle.sdh_payload.specs.Clock.{Clock, next_form, ticks}
+use Rattle.sdh_payload.specs.Clock.{Clock, new_clock, waits, next_form, ticked, ticks}
+use Rattle.sdh_payload.specs.History.{Happening, told, went, rounds, forms, last_form, ups_waiting, downs_waiting, form_now, first_byte, value_now}
 use Rattle.sdh_payload.specs.Stream.{padded, phase_of, stream_from, chunk_of}
 
 -- what is sent in the next n rounds of a clock, one after the other
@@ -26,3 +27,33 @@ begun_in port j = if phase_of port.offset == 0 then j else j + 1
 -- a VC-4 begins, with J1, at the payload index that the offset tells (ITU-T G.707 clause 8.1)
 abbrev pub BeginsAtTheOffset : Type 0
 BeginsAtTheOffset = (port : Customer) (j : ℕ) → slice_index (chunk_of port j) (phase_of port.offset) ≡ slice_index (padded port.trace) (begun_in port j % 64)
+
+-- ---- clocks and their histories
+
+-- the clock of a port with this offset, after what happened. These are the steps of its feed: `Feed::new`, `wait`, and `next_form` or
+-- `next`
+abbrev pub clock_by : ℕ → List Happening → Clock
+clock_by offset [] = new_clock offset
+clock_by offset (told turn count ∷ earlier) = waits turn count (clock_by offset earlier)
+clock_by offset (went ∷ earlier) = ticked (clock_by offset earlier)
+
+-- a clock tells what its history does: how many rounds went by, the slips that wait, what was sent in the last round and is sent in
+-- the next, with which byte of the stream that begins, and the pointer value
+pub record GoesBy (offset : ℕ) (history : List Happening) (c : Clock) : Type 0 where
+  pub rounds_are : c.rounds ≡ rounds history
+  pub ups_wait : c.ups ≡ ups_waiting history
+  pub downs_wait : c.downs ≡ downs_waiting history
+  pub last : c.form ≡ last_form (forms history)
+  pub next : next_form c ≡ form_now history
+  pub begins : c.sent ≡ first_byte history
+  pub value_is : pos c.value ≡ value_now offset history
+
+-- every clock goes by its history
+abbrev pub ClocksGoByHistory : Type 0
+ClocksGoByHistory = (offset : ℕ) (history : List Happening) → offset ≤ 782 → GoesBy offset history (clock_by offset history)
+
+-- in each round the bytes from the one with which it begins to the one with which the next begins are sent
+abbrev pub RoundsFollowEachOther : Type 0
+RoundsFollowEachOther =
+    (port : Customer) (history : List Happening) →
+    (let c = clock_by port.offset history in stream_from port c.sent (taken_len (next_form c)) ≡ stream_from port (first_byte history) (first_byte (went ∷ history) - first_byte history))

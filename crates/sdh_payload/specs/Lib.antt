@@ -4,6 +4,7 @@ pub mod Chunk
 pub mod Stream
 pub mod Walk
 pub mod Clock
+pub mod History
 pub mod Feed
 pub mod Laws
 pub mod Room

@@ -1,5 +1,5 @@
 //! Laws of customers' streams. Each function does nothing: its contract is the law.
-ghost use Rattle.sdh_payload.specs.Laws.{BeginsAtTheOffset, ChunksAreTheStream, WhatIsLaidIsTaken};
+ghost use Rattle.sdh_payload.specs.Laws.{BeginsAtTheOffset, ChunksAreTheStream, ClocksGoByHistory, RoundsFollowEachOther, WhatIsLaidIsTaken};
 
 /// Chunks follow each other without a gap: together they are the stream.
 pub fn chunks_are_the_stream()
@@ -14,4 +14,16 @@ pub fn what_is_laid_is_taken()
 /// In each chunk a VC-4 begins, with J1, at the payload index that the port's offset tells.
 pub fn begins_at_the_offset()
     ensures { BeginsAtTheOffset }
+{}
+
+/// Every clock goes by its history: what it sends in the next round, with which byte of the stream that begins, its pointer value and
+/// the slips that wait are those that the slips told so far and the rounds that went by decide.
+pub fn clocks_go_by_history()
+    ensures { ClocksGoByHistory }
+{}
+
+/// In each round a port sends the bytes of its stream from the one with which its history says that the round begins to the one before
+/// the next round's first.
+pub fn rounds_follow_each_other()
+    ensures { RoundsFollowEachOther }
 {}

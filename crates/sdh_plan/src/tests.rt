@@ -1,9 +1,9 @@
 //! Plans that are read, and the first check that fails of others.
 
 use crate::{Plan, PlanError, Step, big_plan, read_plan};
-use sdh_circuits::{End, PortId, Slot};
+use sdh_circuits::{Circuit, End, PortId, Slot};
 use sdh_frame::Rate;
-use sdh_payload::Turn;
+use sdh_payload::{Port, Turn};
 use sdh_plant::{Condition, FibreEvent};
 use sdh_request::{Command, Moment};
 use sdh_ringmap::{Pos, Side, Span};
@@ -293,46 +293,53 @@ const OF_SCRIPTS: &[Case] = &[
     ("\"settle\"", "\"settle\", \"moment 5\"", 29, 2),
 ];
 
-// Steps before the last one of the smallest run, and the reason and the place that are then answered, if the plan is refused.
+// The steps of the smallest run, and the reason and the place that are then answered, if the plan is refused.
 const OF_SLIPS: &[(&str, Option<(u8, u32)>)] = &[
-    ("slip c1 a up 1", None),
-    ("slip c1 a down 1", None),
-    ("slip c1 a up 16", None),
-    ("slip c1 a up 16|slip c1 a down 1", Some((31, 2))),
-    ("slip c9 a up 1", Some((30, 1))),
-    ("slip c1 a over 1", Some((25, 1))),
-    ("slip c1 a up 17", Some((26, 1))),
-    ("slip c1 a up 0", Some((26, 1))),
-    ("slip c1 a up 01", Some((26, 1))),
-    ("slip c1 c up 1", Some((30, 1))),
-    ("slip c1 A up 1", Some((30, 1))),
-    ("slip C1 a up 1", Some((30, 1))),
-    ("slip c a up 1", Some((30, 1))),
-    ("slip c11 a up 1", Some((30, 1))),
-    ("slip c1 a west 1", Some((25, 1))),
-    ("slip c1 a up", Some((23, 1))),
-    ("slip c1 a up 1 now", Some((23, 1))),
-    ("slip c9 c over 17 now", Some((23, 1))),
-    ("slip c9  over 17", Some((23, 1))),
-    ("slip c9 a over 1", Some((30, 1))),
-    ("slip c1 c over 1", Some((30, 1))),
-    ("slip c9 a up 17", Some((30, 1))),
-    ("slip c1 a over 17", Some((25, 1))),
-    ("slip c1 a up 16|slip c1 a up 17", Some((26, 2))),
-    ("slip c1 a up 16|slip c1 b down 16", None),
+    ("slip c1 a up 1|settle", None),
+    ("slip c1 a down 1|settle", None),
+    ("slip c1 a up 16|settle", None),
+    ("slip c1 a up 16|slip c1 a down 1|settle", Some((31, 2))),
+    ("slip c9 a up 1|settle", Some((30, 1))),
+    ("slip c1 a over 1|settle", Some((25, 1))),
+    ("slip c1 a up 17|settle", Some((26, 1))),
+    ("slip c1 a up 0|settle", Some((26, 1))),
+    ("slip c1 a up 01|settle", Some((26, 1))),
+    ("slip c1 c up 1|settle", Some((30, 1))),
+    ("slip c1 A up 1|settle", Some((30, 1))),
+    ("slip C1 a up 1|settle", Some((30, 1))),
+    ("slip c a up 1|settle", Some((30, 1))),
+    ("slip c11 a up 1|settle", Some((30, 1))),
+    ("slip c1 a west 1|settle", Some((25, 1))),
+    ("slip c1 a up|settle", Some((23, 1))),
+    ("slip c1 a up 1 now|settle", Some((23, 1))),
+    ("slip c9 c over 17 now|settle", Some((23, 1))),
+    ("slip c9  over 17|settle", Some((23, 1))),
+    ("slip c9 a over 1|settle", Some((30, 1))),
+    ("slip c1 c over 1|settle", Some((30, 1))),
+    ("slip c9 a up 17|settle", Some((30, 1))),
+    ("slip c1 a over 17|settle", Some((25, 1))),
+    ("slip c1 a up 16|slip c1 a up 17|settle", Some((26, 2))),
+    ("slip c1 a up 16|slip c1 b down 16|settle", None),
     (
-        "slip c1 a up 16|slip c1 b down 16|slip c1 b up 1",
+        "slip c1 a up 16|slip c1 b down 16|slip c1 b up 1|settle",
         Some((31, 3)),
     ),
-    ("slip c1 a up 10|slip c1 a down 6", None),
-    ("slip c1 a up 10|slip c1 a down 7", Some((31, 2))),
-    ("slip c1 a up 16|moment 5|slip c1 a up 1", Some((31, 3))),
-    ("slip c1 a up 16|settle|slip c1 a down 16", None),
+    ("slip c1 a up 10|slip c1 a down 6|settle", None),
+    ("slip c1 a up 10|slip c1 a down 7|settle", Some((31, 2))),
     (
-        "slip c1 a up 1|settle|slip c1 a down 16|slip c1 a up 1",
+        "slip c1 a up 16|moment 5|slip c1 a up 1|settle",
+        Some((31, 3)),
+    ),
+    ("slip c1 a up 16|settle|slip c1 a down 16|settle", None),
+    (
+        "slip c1 a up 1|settle|slip c1 a down 16|slip c1 a up 1|settle",
         Some((31, 4)),
     ),
-    ("slip c1 a up 16|slip c1 a down 1|cut 9 east", Some((31, 2))),
+    (
+        "slip c1 a up 16|slip c1 a down 1|cut 9 east|settle",
+        Some((31, 2)),
+    ),
+    ("settle|slip c1 a up 1", Some((29, 2))),
 ];
 
 // Bytes that are no document.
@@ -346,33 +353,29 @@ const NO_DOCUMENTS: &[&[u8]] = &[
     b"colour = 1e999",
 ];
 
-// The error, if there is no plan.
-fn error_of(alloc: Global, document: &[u8]) -> Option<PlanError> {
-    read_plan(alloc, document).err()
-}
-
-// The smallest run with so many of the step before its own.
-fn repeating(alloc: Global, step: &str, times: usize) -> Result<String, AllocError> {
-    let mut steps = String::new(alloc);
-    for _ in 0..times {
-        steps.push_str("\"")?;
-        steps.push_str(step)?;
-        steps.push_str("\", ")?;
+// The error of a reason at a place, if there is one.
+fn bad_plan(refusal: Option<(u8, u32)>) -> Option<PlanError> {
+    match refusal {
+        Some((reason, place)) => Some(PlanError::BadPlan { reason, place }),
+        None => None,
     }
-    steps.push_str("\"settle\"")?;
-    SMALLEST.replacen(alloc, "\"settle\"", steps.as_str(), 1)
 }
 
-// Whether each change of the smallest run is answered as it is to be.
+// Stops where a document isn't answered with this error, or with a plan where that is none.
+fn ends(rt: &impl Abort, alloc: Global, document: &[u8], wanted: Option<PlanError>) {
+    assert_eq!(rt; read_plan(alloc, document).err(), wanted, "{document:?}");
+}
+
+// Stops where a change of the smallest run isn't answered as it is to be.
 fn answers(rt: &impl Abort, alloc: Global, cases: &[Case]) -> Result<(), Fail> {
     for (old, new, reason, place) in cases {
         let document = SMALLEST.replacen(alloc, old, new, 1)?;
         assert!(rt; document.as_str() != SMALLEST, "{old}");
-        let (reason, place) = (*reason, *place);
-        assert_eq!(rt;
-            error_of(alloc, document.as_bytes()),
-            Some(PlanError::BadPlan { reason, place }),
-            "{new}"
+        ends(
+            rt,
+            alloc,
+            document.as_bytes(),
+            bad_plan(Some((*reason, *place))),
         );
     }
     Ok(())
@@ -380,26 +383,20 @@ fn answers(rt: &impl Abort, alloc: Global, cases: &[Case]) -> Result<(), Fail> {
 
 #[test]
 fn answers_the_first_check_of_a_document_that_fails(rt: HostRuntime) -> Result<(), Fail> {
-    answers(&rt, rt.alloc(), OF_DOCUMENTS)?;
-    let (reason, place) = (13, 0);
-    assert_eq!(rt;
-        error_of(rt.alloc(), b""),
-        Some(PlanError::BadPlan { reason, place })
-    );
+    answers(&rt, rt.alloc(), OF_DOCUMENTS)
+}
+
+#[test]
+fn tells_what_is_no_document(rt: HostRuntime) {
+    ends(&rt, rt.alloc(), b"", bad_plan(Some((13, 0))));
     for bytes in NO_DOCUMENTS {
-        assert_eq!(rt;
-            error_of(rt.alloc(), bytes),
-            Some(PlanError::NotToml),
-            "{bytes:?}"
-        );
+        ends(&rt, rt.alloc(), bytes, Some(PlanError::NotToml));
     }
-    Ok(())
 }
 
 // A document with so many arrays in one another.
 fn nested(alloc: Global, levels: usize) -> Result<String, AllocError> {
-    let mut document = String::new(alloc);
-    document.push_str("colour = ")?;
+    let mut document = String::from_str(alloc, "colour = ")?;
     for bracket in ["[", "]"] {
         for _ in 0..levels {
             document.push_str(bracket)?;
@@ -410,8 +407,7 @@ fn nested(alloc: Global, levels: usize) -> Result<String, AllocError> {
 
 // A document whose key has so many parts.
 fn dotted(alloc: Global, parts: usize) -> Result<String, AllocError> {
-    let mut document = String::new(alloc);
-    document.push_str("colour")?;
+    let mut document = String::from_str(alloc, "colour")?;
     for _ in 1..parts {
         document.push_str(".x")?;
     }
@@ -421,14 +417,14 @@ fn dotted(alloc: Global, parts: usize) -> Result<String, AllocError> {
 
 #[test]
 fn knows_the_limits_of_a_document(rt: HostRuntime) -> Result<(), Fail> {
-    let (reason, place) = (12, 0);
-    let unknown_key = Some(PlanError::BadPlan { reason, place });
-    let no_document = Some(PlanError::NotToml);
-    for (parts, wanted) in [(80, unknown_key), (81, no_document)] {
+    for (parts, wanted) in [
+        (80, bad_plan(Some((12, 0)))),
+        (81, Some(PlanError::NotToml)),
+    ] {
         let deep = nested(rt.alloc(), parts)?;
-        assert_eq!(rt; error_of(rt.alloc(), deep.as_bytes()), wanted);
+        ends(&rt, rt.alloc(), deep.as_bytes(), wanted);
         let long = dotted(rt.alloc(), parts)?;
-        assert_eq!(rt; error_of(rt.alloc(), long.as_bytes()), wanted);
+        ends(&rt, rt.alloc(), long.as_bytes(), wanted);
     }
     Ok(())
 }
@@ -440,61 +436,45 @@ fn answers_the_first_check_of_a_circuit_that_fails(rt: HostRuntime) -> Result<()
 
 #[test]
 fn answers_the_first_check_of_a_script_that_fails(rt: HostRuntime) -> Result<(), Fail> {
-    answers(&rt, rt.alloc(), OF_SCRIPTS)?;
-    for (step, times, error) in [
-        ("settle", 63, None),
-        ("settle", 64, Some((28, 65))),
-        ("mend 2 east", 999, None),
-        ("mend 2 east", 1000, Some((21, 0))),
-        ("mend 9 east", 1000, Some((21, 0))),
-        ("settle\", \"mend 2 east", 63, None),
-        ("settle\", \"mend 2 east", 64, Some((28, 129))),
+    answers(&rt, rt.alloc(), OF_SCRIPTS)
+}
+
+// The smallest run with so many of these steps before its own.
+fn repeating(alloc: Global, steps: &str, times: usize) -> Result<String, AllocError> {
+    let mut script = steps.repeat(alloc, times)?;
+    script.push_str("\"settle\"")?;
+    SMALLEST.replacen(alloc, "\"settle\"", script.as_str(), 1)
+}
+
+#[test]
+fn counts_the_steps_of_a_script(rt: HostRuntime) -> Result<(), Fail> {
+    for (steps, times, refusal) in [
+        ("\"settle\", ", 63, None),
+        ("\"settle\", ", 64, Some((28, 65))),
+        ("\"mend 2 east\", ", 999, None),
+        ("\"mend 2 east\", ", 1000, Some((21, 0))),
+        ("\"mend 9 east\", ", 1000, Some((21, 0))),
+        ("\"settle\", \"mend 2 east\", ", 63, None),
+        ("\"settle\", \"mend 2 east\", ", 64, Some((28, 129))),
     ] {
-        let document = repeating(rt.alloc(), step, times)?;
-        let wanted = match error {
-            Some((reason, place)) => Some(PlanError::BadPlan { reason, place }),
-            None => None,
-        };
-        assert_eq!(rt; error_of(rt.alloc(), document.as_bytes()), wanted, "{step}");
+        let document = repeating(rt.alloc(), steps, times)?;
+        ends(&rt, rt.alloc(), document.as_bytes(), bad_plan(refusal));
     }
     Ok(())
 }
 
-// The smallest run with these steps before its own.
-fn beginning(alloc: Global, steps: &str) -> Result<String, AllocError> {
-    let steps = steps.replace(alloc, "|", "\", \"")?;
-    let mut all = String::new(alloc);
-    all.push_str("\"")?;
-    all.push_str(steps.as_str())?;
-    all.push_str("\", \"settle\"")?;
-    SMALLEST.replacen(alloc, "\"settle\"", all.as_str(), 1)
+// The smallest run with these steps.
+fn with_steps(alloc: Global, steps: &str) -> Result<String, AllocError> {
+    let script = steps.replace(alloc, "|", "\", \"")?;
+    SMALLEST.replacen(alloc, "settle", script.as_str(), 1)
 }
 
 #[test]
 fn counts_the_slips_of_each_port(rt: HostRuntime) -> Result<(), Fail> {
-    for (steps, error) in OF_SLIPS {
-        let document = beginning(rt.alloc(), steps)?;
-        let wanted = match *error {
-            Some((reason, place)) => Some(PlanError::BadPlan { reason, place }),
-            None => None,
-        };
-        assert_eq!(rt;
-            error_of(rt.alloc(), document.as_bytes()),
-            wanted,
-            "{steps}"
-        );
+    for (steps, refusal) in OF_SLIPS {
+        let document = with_steps(rt.alloc(), steps)?;
+        ends(&rt, rt.alloc(), document.as_bytes(), bad_plan(*refusal));
     }
-    let unsettled = SMALLEST.replacen(
-        rt.alloc(),
-        "\"settle\"",
-        "\"settle\", \"slip c1 a up 1\"",
-        1,
-    )?;
-    let (reason, place) = (29, 2);
-    assert_eq!(rt;
-        error_of(rt.alloc(), unsettled.as_bytes()),
-        Some(PlanError::BadPlan { reason, place })
-    );
     Ok(())
 }
 
@@ -512,50 +492,62 @@ fn slip(circuit: u8, end: End, turn: Turn, count: u8) -> Step {
     Step::Slip(PortId { circuit, end }, turn, count)
 }
 
+// The rate, the threshold, the wait, the limit, and how many nodes and circuits there are.
+fn figures_of(plan: &Plan) -> (Rate, u16, u32, u32, usize, usize) {
+    let settings = plan.settings();
+    (
+        settings.rate,
+        settings.threshold,
+        settings.wait,
+        plan.limit(),
+        plan.map().len(),
+        plan.circuits().len(),
+    )
+}
+
+// A circuit: its name, the positions of its ends and its slot.
+type Led = (&'static str, u8, u8, u8);
+
+fn is_led(circuit: &Circuit, led: Led) -> bool {
+    let (name, from, to, slot) = led;
+    circuit.name().as_slice() == name.as_bytes()
+        && circuit.from() == Pos(from)
+        && circuit.to() == Pos(to)
+        && circuit.slot() == Slot(slot)
+}
+
+// A port: its text, its trace and its offset.
+type Sends = (&'static str, &'static str, u16);
+
+fn is_sender(port: &Port, sends: Sends) -> bool {
+    let (text, trace, offset) = sends;
+    port.text() == text.as_bytes() && port.trace() == trace.as_bytes() && port.offset() == offset
+}
+
+// Whether a plan has this circuit, with these ports.
+fn has_circuit(plan: &Plan, number: u8, led: Led, a: Sends, b: Sends) -> bool {
+    if number as usize >= plan.circuits().len() {
+        return false;
+    }
+    let circuit = plan.circuits().get(number);
+    is_led(circuit, led) && is_sender(circuit.port(End::A), a) && is_sender(circuit.port(End::B), b)
+}
+
 #[test]
 fn reads_the_same_plan_in_other_words(rt: HostRuntime) -> Result<(), Fail> {
     for document in [SMALLEST, IN_BRACES] {
         let plan = read_plan(rt.alloc(), document.as_bytes())?;
-        let settings = plan.settings();
-        assert!(rt; settings.rate == Rate::Four && settings.threshold == 3 && settings.wait == 10);
-        assert!(rt; plan.limit() == 1000 && plan.map().len() == 3);
+        assert_eq!(rt; figures_of(&plan), (Rate::Four, 3, 10, 1000, 3, 1));
         assert_eq!(rt; plan.steps(), [Step::Settle].as_slice());
-        assert_eq!(rt; plan.circuits().len(), 1);
-        if plan.circuits().len() == 1 {
-            let circuit = plan.circuits().get(0);
-            assert_eq!(rt; circuit.name().as_slice(), b"c1".as_slice());
-            assert!(rt;
-                circuit.from() == Pos(0) && circuit.to() == Pos(1) && circuit.slot().0 == 1
-            );
-            assert_eq!(rt; circuit.port(End::A).text(), b"ALPHA".as_slice());
-            assert_eq!(rt; circuit.port(End::B).trace(), b"c1".as_slice());
-        }
+        let (a, b) = (("ALPHA", "c1", 0), ("BETA!", "c1", 0));
+        assert!(rt; has_circuit(&plan, 0, ("c1", 0, 1, 1), a, b));
     }
     Ok(())
 }
 
-#[test]
-fn reads_each_part_of_a_plan(rt: HostRuntime) -> Result<(), Fail> {
-    let plan = read_plan(rt.alloc(), FULL.as_bytes())?;
-    let settings = plan.settings();
-    assert!(rt;
-        settings.rate == Rate::Sixteen && settings.threshold == 48 && settings.wait == 1_000_000
-    );
-    assert!(rt; plan.limit() == 65_536 && plan.map().len() == 3);
-    let circuits = plan.circuits();
-    assert_eq!(rt; circuits.len(), 2);
-    if circuits.len() == 2 {
-        let (one, other) = (circuits.get(0), circuits.get(1));
-        assert_eq!(rt; one.name().as_slice(), b"a-z_0123456789-z".as_slice());
-        assert!(rt; one.from() == Pos(2) && one.to() == Pos(1) && one.slot().0 == 8);
-        assert_eq!(rt; one.port(End::A).trace(), b"near".as_slice());
-        assert_eq!(rt; one.port(End::B).trace(), b"a-z_0123456789-z".as_slice());
-        assert!(rt; one.port(End::A).offset() == 0 && one.port(End::B).offset() == 782);
-        assert_eq!(rt; other.port(End::B).trace(), b"far".as_slice());
-        assert_eq!(rt; other.port(End::A).text(), b"A".as_slice());
-        assert!(rt; other.port(End::A).offset() == 1 && other.port(End::B).offset() == 0);
-    }
-    let wanted = [
+// The steps of the plan that has each.
+fn all_steps() -> [Step; 14] {
+    [
         fibre(2, Side::East, Condition::Cut),
         fibre(0, Side::West, Condition::Clear),
         fibre(1, Side::West, Condition::Degraded(48)),
@@ -570,8 +562,19 @@ fn reads_each_part_of_a_plan(rt: HostRuntime) -> Result<(), Fail> {
         Step::Moment(Moment(1_000_000_000)),
         Step::Moment(Moment(1_000_000_000)),
         Step::Settle,
-    ];
-    assert_eq!(rt; plan.steps(), wanted.as_slice());
+    ]
+}
+
+#[test]
+fn reads_each_part_of_a_plan(rt: HostRuntime) -> Result<(), Fail> {
+    let plan = read_plan(rt.alloc(), FULL.as_bytes())?;
+    let figures = (Rate::Sixteen, 48, 1_000_000, 65_536, 3, 2);
+    assert_eq!(rt; figures_of(&plan), figures);
+    let (a, b) = ((" ", "near", 0), ("~", "a-z_0123456789-z", 782));
+    assert!(rt; has_circuit(&plan, 0, ("a-z_0123456789-z", 2, 1, 8), a, b));
+    let (a, b) = (("A", "b", 1), ("B", "far", 0));
+    assert!(rt; has_circuit(&plan, 1, ("b", 1, 2, 8), a, b));
+    assert_eq!(rt; plan.steps(), all_steps().as_slice());
     let (map, circuits, steps) = plan.into_parts();
     assert!(rt; map.len() == 3 && circuits.len() == 2 && steps.len() == 14);
     Ok(())
@@ -610,42 +613,39 @@ const OF_GREATEST: &[Drawn] = &[
     ("c2-5", 6, 8, 2, 183, 445),
 ];
 
-// The circuits of the plan are these.
-fn has_circuits(rt: &impl Abort, plan: &Plan, wanted: &[Drawn]) -> Result<(), Fail> {
+// Whether a port sends its circuit's name, with this letter behind it, from this offset on, and has the name as its trace.
+fn sends_name(port: &Port, name: &[u8], letter: u8, offset: u16) -> bool {
+    let Some((last, front)) = port.text().split_last() else {
+        return false;
+    };
+    *last == letter && front == name && port.trace() == name && port.offset() == offset
+}
+
+fn is_drawn(circuit: &Circuit, drawn: Drawn) -> bool {
+    let (name, from, to, slot, offset_a, offset_b) = drawn;
+    is_led(circuit, (name, from, to, slot))
+        && sends_name(circuit.port(End::A), name.as_bytes(), b'a', offset_a)
+        && sends_name(circuit.port(End::B), name.as_bytes(), b'b', offset_b)
+}
+
+// Stops where the circuits of the plan aren't these.
+fn has_circuits(rt: &impl Abort, plan: &Plan, wanted: &[Drawn]) {
     let circuits = plan.circuits();
     assert_eq!(rt; circuits.len(), wanted.len());
-    for (i, (name, from, to, slot, offset_a, offset_b)) in wanted.iter().enumerate() {
+    for (i, drawn) in wanted.iter().enumerate() {
         if i < circuits.len() {
-            let circuit = circuits.get(i as u8);
-            let (a, b) = (circuit.port(End::A), circuit.port(End::B));
-            assert_eq!(rt; circuit.name().as_slice(), name.as_bytes());
-            assert!(rt;
-                circuit.from() == Pos(*from)
-                    && circuit.to() == Pos(*to)
-                    && circuit.slot() == Slot(*slot)
-            );
-            assert!(rt;
-                a.offset() == *offset_a && b.offset() == *offset_b,
-                "{name}"
-            );
-            assert_eq!(rt; a.trace(), name.as_bytes());
-            assert_eq!(rt; b.trace(), name.as_bytes());
-            assert!(rt; a.text().starts_with(name.as_bytes()) && a.text().ends_with(b"a"));
-            assert!(rt; b.text().starts_with(name.as_bytes()) && b.text().ends_with(b"b"));
-            assert!(rt; a.text().len() == name.len() + 1 && b.text().len() == name.len() + 1);
+            assert!(rt; is_drawn(circuits.get(i as u8), *drawn), "{drawn:?}");
         }
     }
-    Ok(())
 }
 
 #[test]
 fn draws_the_circuits_of_a_number(rt: HostRuntime) -> Result<(), Fail> {
     for (number, wanted) in [(0, OF_0), (4_294_967_295, OF_GREATEST)] {
         let plan = big_plan(rt.alloc(), number)?;
-        has_circuits(&rt, &plan, wanted)?;
-        let settings = plan.settings();
-        assert!(rt; settings.rate == Rate::Four && settings.threshold == 3 && settings.wait == 10);
-        assert!(rt; plan.limit() == 4096 && plan.map().len() == 16);
+        has_circuits(&rt, &plan, wanted);
+        let figures = (Rate::Four, 3, 10, 4096, 16, wanted.len());
+        assert_eq!(rt; figures_of(&plan), figures);
         for at in 0..16 {
             assert_eq!(rt; plan.map().find(at), Some(Pos(at)));
         }

@@ -19,6 +19,7 @@ use std::marker::Model;
 pub enum PlantCall {
     Prepare,
     Apply,
+    /// `send` and `exchange`.
     Send,
     Receive,
 }
@@ -180,6 +181,23 @@ impl Plant for FailingPlant {
         self.call(PlantCall::Send)?;
         self.plant.carry(at, side, frame);
         Ok(())
+    }
+
+    fn exchange(&mut self, at: Pos, side: Side, frame: &mut FrameBuf) -> Result<(), Failed>
+        requires at { at.0 < (fibres_of self.old.fibres).nodes }
+        requires rate { frame.old.rate ≡ (fibres_of self.old.fibres).rate }
+        ensures ok { OnOk result (fibres_of self.new.fibres ≡ after_send (fibres_of self.old.fibres) at.0 side frame.old.bytes) }
+        ensures rate { frame.new.rate ≡ frame.old.rate }
+        ensures err { OnErr result (fibres_of self.new.fibres ≡ fibres_of self.old.fibres) }
+        ensures untouched { OnErr result (frame.new ≡ frame.old) }
+        ensures cause { HasCause true self.old.faults self.new.faults result }
+
+        ensures fails { IsErr result ↔ IsFailing Send self.old }
+        ensures kept { OnOk result (self.new ≡ record (called Send self.old) { fibres = self.new.fibres }) }
+        ensures refused { OnErr result (self.new ≡ refused Send self.old) }
+        ensures same { frame.new ≡ frame.old }
+    {
+        self.send(at, side, frame)
     }
 
     fn receive(&mut self, at: Pos, side: Side, frame: &mut FrameBuf) -> Result<Arrived, Failed>

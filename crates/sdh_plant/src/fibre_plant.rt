@@ -1,10 +1,10 @@
 //! Honest fibres in memory.
-ghost use Rattle.std.specs.Prelude.{◌≡◌, true, ◌*◌, ◌<◌, ◌≤◌, Some, None, Ok, IfOk, IsOk, OnOk, OnErr, IsOkUnless, IsErrOf, All, length, replicate, slice_set, refl};
+ghost use Rattle.std.specs.Prelude.{◌≡◌, true, ◌*◌, ◌<◌, ◌≤◌, Some, None, Ok, IfSome, IfOk, IsOk, OnOk, OnErr, IsOkUnless, IsErrOf, All, length, replicate, slice_index_or, slice_set, refl};
 ghost use Rattle.sdh_basics.specs.Causes.{Rose, IsCounted, HasCause};
 ghost use Rattle.sdh_frame.specs.Sizes.{n_of};
 ghost use Rattle.sdh_plant.specs.declared.plant.Condition.TheVariants.{Clear};
 ghost use Rattle.sdh_plant.specs.Fibres.{HasNoFibres, IsConditionAt, fibre, fibre_to};
-ghost use Rattle.sdh_plant.specs.Arrivals.{Knows, arrival, as_arrival, through, honest_arrival};
+ghost use Rattle.sdh_plant.specs.Arrivals.{Knows, arrival, as_arrival, through, carried_on, honest_arrival};
 ghost use Rattle.sdh_plant.specs.Calls.{prepared, after_apply, after_send, after_receive};
 ghost use Rattle.sdh_plant.specs.InMemory.{fibres_of, laid};
 ghost use Rattle.sdh_plant.specs.Kept.{IsFibre, carried_by, conditions, carried};
@@ -109,6 +109,20 @@ fn store(fibres: &mut [Fibre], at: usize, frame: &FrameBuf)
     fibre.carries = true;
 }
 
+fn store_in_exchange(fibres: &mut [Fibre], at: usize, frame: &mut FrameBuf)
+    requires at { at < length fibres.old }
+    requires fit { All (IsFibre frame.old.rate) fibres.old }
+    ensures conditions { conditions fibres.new ≡ conditions fibres.old }
+    ensures carried { carried fibres.new ≡ slice_set (carried fibres.old) at (Some frame.old.bytes) }
+    ensures fit { All (IsFibre frame.old.rate) fibres.new }
+    ensures rate { frame.new.rate ≡ frame.old.rate }
+    ensures back { IfSome (slice_index_or (carried fibres.old) at None) (λ bytes. frame.new.bytes ≡ bytes) }
+{
+    let kept = &mut fibres[at];
+    std::mem::swap(&mut kept.frame, frame);
+    kept.carries = true;
+}
+
 fn deliver(fibre: &Fibre, frame: &mut FrameBuf) -> Arrived
     requires { IsFibre frame.old.rate fibre.now }
     ensures arrival { as_arrival result frame.new.bytes ≡ through (n_of frame.old.rate) fibre.now.condition (carried_by fibre.now) }
@@ -184,6 +198,20 @@ impl FibrePlant {
         store(fibres, fibre_at(at, side), frame);
     }
 
+    // Puts a frame on a fibre, in exchange for the one that the fibre carried.
+    fn carry_in_exchange(&mut self, at: Pos, side: Side, frame: &mut FrameBuf)
+        requires at { at.0 < self.old.nodes }
+        requires rate { frame.old.rate ≡ self.old.rate }
+        ensures fibres { self.new ≡ record self.old { carried = slice_set self.old.carried (fibre at.0 side) (Some frame.old.bytes) } }
+        ensures rate { frame.new.rate ≡ frame.old.rate }
+        ensures back { IfSome (slice_index_or self.old.carried (fibre at.0 side) None) (λ bytes. frame.new.bytes ≡ bytes) }
+    {
+        let Some(fibres) = &mut self.fibres else {
+            return;
+        };
+        store_in_exchange(fibres, fibre_at(at, side), frame);
+    }
+
     // Gives what comes out of a fibre.
     pub(crate) fn give(&self, at: Pos, side: Side, frame: &mut FrameBuf) -> Arrived
         requires at { at.0 < self.now.nodes }
@@ -245,6 +273,22 @@ impl Plant for FibrePlant {
         ensures never_fails { IsOk result }
     {
         self.carry(at, side, frame);
+        Ok(())
+    }
+
+    fn exchange(&mut self, at: Pos, side: Side, frame: &mut FrameBuf) -> Result<(), Failed>
+        requires at { at.0 < (fibres_of self.old).nodes }
+        requires rate { frame.old.rate ≡ (fibres_of self.old).rate }
+        ensures ok { OnOk result (fibres_of self.new ≡ after_send (fibres_of self.old) at.0 side frame.old.bytes) }
+        ensures rate { frame.new.rate ≡ frame.old.rate }
+        ensures err { OnErr result (fibres_of self.new ≡ fibres_of self.old) }
+        ensures untouched { OnErr result (frame.new ≡ frame.old) }
+        ensures cause { HasCause true 0 0 result }
+
+        ensures never_fails { IsOk result }
+        ensures back { IfSome (carried_on (fibres_of self.old) (fibre at.0 side)) (λ bytes. frame.new.bytes ≡ bytes) }
+    {
+        self.carry_in_exchange(at, side, frame);
         Ok(())
     }
 

@@ -101,6 +101,20 @@ pub trait Plant {
         ensures err { OnErr result (fibres self.new ≡ fibres self.old) }
         ensures cause { HasCause exact (faults self.old) (faults self.new) result };
 
+    /// Sends a frame as `send` does, and may keep it: then another of the same rate, whose bytes mean nothing, comes back in its
+    /// place.
+    fn exchange(&mut self, at: Pos, side: Side, frame: &mut FrameBuf) -> Result<(), Failed>
+        requires at { at.0 < (fibres self.old).nodes }
+        requires rate { frame.old.rate ≡ (fibres self.old).rate }
+        ensures ok { OnOk result (fibres self.new ≡ after_send (fibres self.old) at.0 side frame.old.bytes) }
+        ensures rate { frame.new.rate ≡ frame.old.rate }
+        ensures err { OnErr result (fibres self.new ≡ fibres self.old) }
+        ensures untouched { OnErr result (frame.new ≡ frame.old) }
+        ensures cause { HasCause exact (faults self.old) (faults self.new) result }
+    {
+        self.send(at, side, frame)
+    }
+
     /// Receives at a position on a side what comes out of the fibre that ends there. The fibre carries it still.
     fn receive(&mut self, at: Pos, side: Side, frame: &mut FrameBuf) -> Result<Arrived, Failed>
         requires at { at.0 < (fibres self.old).nodes }

@@ -13,7 +13,7 @@ use sdh_ringmap::{Pos, Side};
 use std::alloc::{AllocError, Global};
 use std::marker::Model;
 
-/// Fibres as those of a `FibrePlant`, with the list of the frames sent. A `send` past its room fails, and no other call does.
+/// Fibres as those of a `FibrePlant`, with the list of the frames sent. A `send` or `exchange` past its room fails, and no other call.
 #[derive(Debug, Drop)]
 pub struct RecordingPlant {
     plant: FibrePlant,
@@ -155,6 +155,23 @@ impl Plant for RecordingPlant {
         self.append(frame);
         self.plant.carry(at, side, frame);
         Ok(())
+    }
+
+    fn exchange(&mut self, at: Pos, side: Side, frame: &mut FrameBuf) -> Result<(), Failed>
+        requires at { at.0 < (recorded_of self.old).nodes }
+        requires rate { frame.old.rate ≡ (recorded_of self.old).rate }
+        ensures ok { OnOk result (recorded_of self.new ≡ after_send (recorded_of self.old) at.0 side frame.old.bytes) }
+        ensures rate { frame.new.rate ≡ frame.old.rate }
+        ensures err { OnErr result (recorded_of self.new ≡ recorded_of self.old) }
+        ensures untouched { OnErr result (frame.new ≡ frame.old) }
+        ensures cause { HasCause true self.old.faults self.new.faults result }
+
+        ensures fails { IsErr result ↔ (length self.old.sent ≡ self.old.room) }
+        ensures sent { OnOk result (self.new ≡ record self.old { fibres = self.new.fibres; sent = self.old.sent ++ frame.old ∷ [] }) }
+        ensures counted { OnErr result (self.new ≡ record self.old { faults = one_more self.old.faults }) }
+        ensures same { frame.new ≡ frame.old }
+    {
+        self.send(at, side, frame)
     }
 
     fn receive(&mut self, at: Pos, side: Side, frame: &mut FrameBuf) -> Result<Arrived, Failed>

@@ -50,6 +50,18 @@ fn sends<P: Plant>(plant: &mut P, at: Pos, side: Side, frame: &mut FrameBuf, val
     plant.send(at, side, frame).is_ok()
 }
 
+// Whether a frame with this byte everywhere is sent by exchange.
+fn exchanges<P: Plant>(plant: &mut P, at: Pos, side: Side, frame: &mut FrameBuf, value: u8) -> bool
+    requires at { at.0 < (P.fibres plant.old).nodes }
+    requires rate { frame.old.rate ≡ (P.fibres plant.old).rate }
+    ensures nodes { (P.fibres plant.new).nodes ≡ (P.fibres plant.old).nodes }
+    ensures rate { (P.fibres plant.new).rate ≡ (P.fibres plant.old).rate }
+    ensures frame { frame.new.rate ≡ frame.old.rate }
+{
+    frame.fill(value);
+    plant.exchange(at, side, frame).is_ok()
+}
+
 // The byte that a frame which comes has everywhere, or darkness, which leaves the frame as it was.
 fn came<P: Plant>(plant: &mut P, at: Pos, side: Side, frame: &mut FrameBuf) -> Option<u8>
     requires at { at.0 < (P.fibres plant.old).nodes }
@@ -267,6 +279,64 @@ fn a_span_of_any_plant(rt: HostRuntime) -> Result<(), Fail> {
         let came = over_a_span(rt.alloc(), &mut told, rate)?;
         assert_eq!(rt; came, Some(1));
     }
+    Ok(())
+}
+
+// Prepares a plant, sends two frames over a span by exchange, and answers what comes after each.
+fn exchanged_over_a_span<P: Plant>(
+    alloc: Global,
+    plant: &mut P,
+    rate: Rate,
+) -> Result<[Option<u8>; 2], Fail>
+    requires { HasNoFibres (P.fibres plant.old) }
+{
+    plant.prepare(alloc, rate, 2).map_err(|_| "not prepared")?;
+    let mut frame = frame_of(alloc, rate, 0)?;
+    let first = exchanges(plant, Pos(0), Side::East, &mut frame, 0x35);
+    let came_first = came(plant, Pos(1), Side::West, &mut frame);
+    let second = exchanges(plant, Pos(0), Side::East, &mut frame, 0x36);
+    let came_second = came(plant, Pos(1), Side::West, &mut frame);
+    if !first || !second {
+        return Ok([None; 2]);
+    }
+    Ok([came_first, came_second])
+}
+
+#[test]
+fn a_frame_sent_by_exchange_comes(rt: HostRuntime) -> Result<(), Fail> {
+    let wants = [Some(0x35), Some(0x36)];
+    for rate in [Rate::Four, Rate::Sixteen] {
+        let came = exchanged_over_a_span(rt.alloc(), &mut FibrePlant::new(), rate)?;
+        assert_eq!(rt; came, wants);
+        let mut failing = FailingPlant::new(rt.alloc(), &[(PlantCall::Send, 3)])?;
+        let came = exchanged_over_a_span(rt.alloc(), &mut failing, rate)?;
+        assert_eq!(rt; came, wants);
+        assert_eq!(rt; failing.calls(PlantCall::Send), 2);
+        let mut told = ToldPlant::new(rate, three_arrivals(rt.alloc(), rate)?);
+        let came = exchanged_over_a_span(rt.alloc(), &mut told, rate)?;
+        assert_eq!(rt; came, [Some(1), Some(DARK)]);
+        let mut recording = RecordingPlant::new(2);
+        let came = exchanged_over_a_span(rt.alloc(), &mut recording, rate)?;
+        assert_eq!(rt; came, wants);
+        let sent = recording.sent();
+        assert!(rt; sent.len() == 2);
+        assert!(rt; is_full_of(&sent[0], 0x35) && is_full_of(&sent[1], 0x36));
+    }
+    Ok(())
+}
+
+// What the fibre carried comes back, and only the fibre that the frame is sent on carries it.
+#[test]
+fn a_fibre_gives_its_frame_in_exchange(rt: HostRuntime) -> Result<(), Fail> {
+    let mut plant = three_nodes(rt.alloc(), Rate::Four)?;
+    let mut frame = frame_of(rt.alloc(), Rate::Four, 0)?;
+    assert!(rt; exchanges(&mut plant, Pos(0), Side::East, &mut frame, 0x35));
+    assert!(rt; exchanges(&mut plant, Pos(1), Side::West, &mut frame, 0x36));
+    assert!(rt; exchanges(&mut plant, Pos(0), Side::East, &mut frame, 0x37));
+    assert!(rt; is_full_of(&frame, 0x35));
+    let there = came(&mut plant, Pos(1), Side::West, &mut frame);
+    let back = came(&mut plant, Pos(0), Side::East, &mut frame);
+    assert_eq!(rt; [there, back], [Some(0x37), Some(0x36)]);
     Ok(())
 }
 

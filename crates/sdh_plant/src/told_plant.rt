@@ -162,6 +162,21 @@ impl Plant for ToldPlant {
         Ok(())
     }
 
+    fn exchange(&mut self, at: Pos, side: Side, frame: &mut FrameBuf) -> Result<(), Failed>
+        requires at { at.0 < (told_of self.old).nodes }
+        requires rate { frame.old.rate ≡ (told_of self.old).rate }
+        ensures ok { OnOk result (told_of self.new ≡ after_send (told_of self.old) at.0 side frame.old.bytes) }
+        ensures rate { frame.new.rate ≡ frame.old.rate }
+        ensures err { OnErr result (told_of self.new ≡ told_of self.old) }
+        ensures untouched { OnErr result (frame.new ≡ frame.old) }
+        ensures cause { HasCause true 0 0 result }
+
+        ensures never_fails { IsOk result }
+        ensures same { frame.new ≡ frame.old }
+    {
+        self.send(at, side, frame)
+    }
+
     fn receive(&mut self, at: Pos, side: Side, frame: &mut FrameBuf) -> Result<Arrived, Failed>
         requires at { at.0 < (told_of self.old).nodes }
         requires rate { frame.old.rate ≡ (told_of self.old).rate }

@@ -3,5 +3,6 @@ pub mod Receives
 pub mod Sends
 pub mod Rings
 pub mod Owned
+pub mod Breaking
 pub mod Settling
 mod Whole

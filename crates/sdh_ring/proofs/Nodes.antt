@@ -6,11 +6,11 @@ use Rattle.sdh_node.specs.Node.{Node}
 use Rattle.sdh_world.specs.Held.{at_place, node_at}
 use Rattle.sdh_world.specs.Fixed.{fixed}
 
--- the node x at i becomes y, which is fixed alike
-pub fixed_more : (old now : List Node) (i : ℕ) (x y : Node) → x ≡ get_or now i x → fixed y ≡ fixed x → map fixed now ≡ map fixed old → map fixed (set now i y) ≡ map fixed old
-fixed_more old now i x y read same all =
-    map-set fixed now i y ∙ ap (set (map fixed now) i) same ∙ sym (map-set fixed now i x)
-    ∙ ap (λ z. map fixed (set now i z)) read ∙ ap (map fixed) (set-get_or now i x) ∙ all
+-- the node x at i becomes y, of which this is the same
+pub kept_more : {Y : Type 0} (f : Node → Y) (old now : List Node) (i : ℕ) (x y : Node) → x ≡ get_or now i x → f y ≡ f x → map f now ≡ map f old → map f (set now i y) ≡ map f old
+kept_more f old now i x y read same all =
+    map-set f now i y ∙ ap (set (map f now) i) same ∙ sym (map-set f now i x)
+    ∙ ap (λ z. map f (set now i z)) read ∙ ap (map f) (set-get_or now i x) ∙ all
 
 pub length_fixed : (old now : List Node) → map fixed now ≡ map fixed old → length now ≡ length old
 length_fixed old now all = sym (length-map now fixed) ∙ ap length all ∙ length-map old fixed

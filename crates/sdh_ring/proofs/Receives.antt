@@ -102,9 +102,9 @@ hears_more i f g h old now x y ho hn rest read done both after =
     }
 
 pub hears_some : (i n : ℕ) (f g h : Fibres) (old now : List Node) → i < n → FirstReceive i f g old now → (h ≡ g) ⊎ (h ≡ after_receive g) → SomeReceive n f h
-hears_some i n f g h old now low done (inl same) = record { given = length done.arrivals; most = let c = done.count in omega arith; after_is = same ∙ done.fibres }
+hears_some i n f g h old now low done (inl same) = record { given = length done.arrivals; not_all = let c = done.count in omega arith; after_is = same ∙ done.fibres }
 hears_some i n f g h old now low done (inr one) =
-    record { given = length done.arrivals + 1; most = let c = done.count in omega arith; after_is = one ∙ ap after_receive done.fibres ∙ taken_one f (length done.arrivals) }
+    record { given = length done.arrivals + 1; not_all = let c = done.count in omega arith; after_is = one ∙ ap after_receive done.fibres ∙ taken_one f (length done.arrivals) }
 
 pub hears_all : (i : ℕ) (f g : Fibres) (old now : List Node) → i ≡ length old → length now ≡ length old → FirstReceive i f g (take i old) (take i now) → FirstReceive (length old) f g old now
 hears_all i f g old now all size done =

@@ -45,7 +45,7 @@ on_sends rounds m old new is on = subst (All (IsOn (rounds + 1) m)) (sym is) (al
 
 -- ---- a round
 
-arrive_of : (r : HeldRing) (f g : Fibres) (ns : List Node) → length r.nodes ≡ length r.ids → (h : FirstReceive (receivers_in r.rounds (length r.nodes)) f g r.nodes ns) → Arrive (world r f) h.arrivals
+pub arrive_of : (r : HeldRing) (f g : Fibres) (ns : List Node) → length r.nodes ≡ length r.ids → (h : FirstReceive (receivers_in r.rounds (length r.nodes)) f g r.nodes ns) → Arrive (world r f) h.arrivals
 unfolding arrivals_of
 arrive_of r f g ns size h = record {
   count = h.count ∙ ap (λ n. 2 * receivers_in r.rounds n) size;
@@ -65,12 +65,12 @@ ran r f g h ns new whole size hears sent is = record {
 }
 
 -- a fault while nodes received
-pub off_hearing : (r : HeldRing) (f h : Fibres) → length r.nodes ≡ length r.ids → 2 ≤ length r.ids → SomeReceive (receivers_in r.rounds (length r.nodes)) f h → IsBrokenOff (world r f) h
+unfoldable pub off_hearing : (r : HeldRing) (f h : Fibres) → length r.nodes ≡ length r.ids → 2 ≤ length r.ids → SomeReceive (receivers_in r.rounds (length r.nodes)) f h → IsBrokenOff (world r f) h
 off_hearing r f h size enough some = record {
   arrivals = arrivals_of (world r f);
   arrive = known_arrive (world r f);
   given = some.given;
-  most = let m = some.most in let c = (known_arrive (world r f)).count in let e : receivers_in r.rounds (length r.nodes) ≡ receivers_in r.rounds (length r.ids) = ap (receivers_in r.rounds) size in omega arith;
+  most = let m = some.not_all in let c = (known_arrive (world r f)).count in let e : receivers_in r.rounds (length r.nodes) ≡ receivers_in r.rounds (length r.ids) = ap (receivers_in r.rounds) size in omega arith;
   out = 0;
   not_all = omega arith;
   order = λ e. absurd (omega arith);
@@ -78,8 +78,8 @@ off_hearing r f h size enough some = record {
 }
 
 -- a fault while they sent
-pub off_sending : (r : HeldRing) (f g h : Fibres) (ns : List Node) → length r.nodes ≡ length r.ids → FirstReceive (receivers_in r.rounds (length r.nodes)) f g r.nodes ns → SendsSome (frames_of r.moment ns) g h → IsBrokenOff (world r f) h
-off_sending r f g h ns size hears some = record {
+unfoldable pub off_sending : (r : HeldRing) (f g h : Fibres) (ns new : List Node) → length r.nodes ≡ length r.ids → FirstReceive (receivers_in r.rounds (length r.nodes)) f g r.nodes ns → SendsSome r.moment ns new g h → IsBrokenOff (world r f) h
+off_sending r f g h ns new size hears some = record {
   arrivals = hears.arrivals;
   arrive = arrive_of r f g ns size hears;
   given = length hears.arrivals;

@@ -1,15 +1,15 @@
 -- What is sent, one call after the other.
-use Rattle.std.proofs.Common.{◌≡◌, ℕ, zero, suc, ◌+◌, ◌*◌, ◌<◌, ◌≤◌, List, [], ◌∷◌, ◌++◌, length, take, drop, set, get_or, map, Option, Some, None, refl, ap, sym, ◌∙◌, arith, append_assoc, ◌⊎◌, inl, inr}
-use Rattle.std.proofs.lemmas.List.{take_more, take_more_set, drop_more, map-append, append-nil, set_at, length_push, length-map, drop_all, flat_map_more, length-take-le}
+use Rattle.std.proofs.Common.{◌≡◌, ℕ, zero, suc, ◌+◌, ◌*◌, ◌/◌, ◌<◌, ◌≤◌, List, [], ◌∷◌, ◌++◌, length, take, drop, set, get_or, map, Option, Some, None, refl, ap, sym, ◌∙◌, arith, append_assoc, ◌⊎◌, inl, inr}
+use Rattle.std.proofs.lemmas.List.{take_more, take_more_set, drop_more, map-append, append-nil, set_at, length_push, length-map, take-append-drop, drop_all, flat_map_more, length-take-le}
 use Rattle.std.specs.Prelude.{option_map}
-use Rattle.sdh_basics.proofs.Indexing.{read_here}
+use Rattle.sdh_basics.proofs.Indexing.{rest_more, read_here}
 use Rattle.sdh_ringmap.specs.declared.Side.TheVariants.{East}
 use Rattle.sdh_plant.specs.Fibres.{Arrival, Fibres}
 use Rattle.sdh_plant.specs.Calls.{after_send}
 use Rattle.sdh_node.specs.Node.{Node}
-use Rattle.sdh_world.specs.Rounds.{west_frame, east_frame, both_frames, frames_of, sent_all, sent_some}
+use Rattle.sdh_world.specs.Rounds.{node_after, west_frame, east_frame, both_frames, frames_of, sent_all, sent_some}
 use Rattle.sdh_world.proofs.Runs.{length-frames}
-use Rattle.sdh_ring.specs.Calls.{sent_west, sent_now, SendsSome}
+use Rattle.sdh_ring.specs.Calls.{sent_west, sent_now, first_after, SendsSome}
 
 -- ---- node after node
 
@@ -103,18 +103,28 @@ first_west now [] i x h read = absurd (omega arith)
 first_west now (n ∷ ns) zero x h read = ap (λ m. west_frame now m ∷ []) (sym read)
 first_west now (n ∷ ns) (suc i) x h read = take_two_one (west_frame now n) (east_frame now n) (frames_of now ns) i ∙ ap (λ fs. west_frame now n ∷ east_frame now n ∷ fs) (first_west now ns i x (omega arith) read)
 
--- a send of the node at i failed
-pub sends_some : (now : ℕ) (ns : List Node) (f g h : Fibres) (i : ℕ) (x : Node) → i < length ns → x ≡ get_or ns i x → 2 * i + 1 < length f.carried → g ≡ sent_some (frames_of now (take i ns)) f
-    → (h ≡ g) ⊎ (h ≡ sent_west now i x g) → SendsSome (frames_of now ns) f h
-sends_some now ns f g h i x low read room done (inl same) = record {
+-- the node at i has had its round too
+pub step_first : (now : ℕ) (xs ns : List Node) (i : ℕ) (x y : Node) → i < length xs → i < length ns → drop i xs ≡ drop i ns → x ≡ get_or xs i x → y ≡ node_after now x → take i xs ≡ map (node_after now) (take i ns)
+    → set xs i y ≡ first_after now (i + 1) ns
+step_first now xs ns i x y hx hn rest read is done =
+    sym (take-append-drop (i + 1) (set xs i y))
+    ∙ ap (λ zs. zs ++ drop (i + 1) (set xs i y)) (step_map (node_after now) xs ns i x y hx hn rest read is done)
+    ∙ ap (λ zs. map (node_after now) (take (i + 1) ns) ++ zs) (rest_more xs ns i y rest)
+
+-- and a send of it failed
+pub sends_some : (now : ℕ) (ns new : List Node) (f g h : Fibres) (i : ℕ) (x : Node) → i < length ns → x ≡ get_or ns i x → 2 * i + 1 < length f.carried → new ≡ first_after now (i + 1) ns → g ≡ sent_some (frames_of now (take i ns)) f
+    → (h ≡ g) ⊎ (h ≡ sent_west now i x g) → SendsSome now ns new f h
+sends_some now ns new f g h i x low read room had done (inl same) = record {
   out = 2 * i;
   not_all = let all = length-frames now ns in omega arith;
   after_is = same ∙ done ∙ ap (λ fs. sent_some fs f) (sym (first_nodes now ns i));
+  nodes = had ∙ ap (λ k. first_after now k ns) (let e : i + 1 ≡ 2 * i / 2 + 1 = omega arith in e);
 }
-sends_some now ns f g h i x low read room done (inr one) = record {
+sends_some now ns new f g h i x low read room had done (inr one) = record {
   out = 2 * i + 1;
   not_all = let all = length-frames now ns in omega arith;
   after_is = one ∙ ap (sent_west now i x) done ∙ west_more now ns f i x low room ∙ ap (λ fs. sent_some fs f) (sym (first_west now ns i x low read));
+  nodes = had ∙ ap (λ k. first_after now k ns) (let e : i + 1 ≡ (2 * i + 1) / 2 + 1 = omega arith in e);
 }
 
 pub nodes_some : (frames : List (List ℕ)) (f : Fibres) → (sent_some frames f).nodes ≡ f.nodes

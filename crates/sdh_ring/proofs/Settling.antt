@@ -12,6 +12,8 @@ use Rattle.sdh_circuits.specs.declared.PortId.{PortId}
 use Rattle.sdh_world.specs.Clocks.{HasPortIn, clock_at, waiting_at}
 use Rattle.sdh_world.specs.Fixed.{IsRested}
 use Rattle.sdh_world.proofs.Waiting.{waits_run_out}
+use Rattle.sdh_ring.specs.Faults.{BreaksRound, BreaksStep}
+use Rattle.sdh_ring.proofs.Breaking.{breaks_after}
 use Rattle.sdh_world.proofs.Windows.{window_if, window_only, none_more, streak_none, streak_more, streak_same, never_same}
 use Rattle.sdh_world.proofs.Runs.{run_with_more, arrive_more, course_more, course_whole, held_round, held_run}
 
@@ -100,6 +102,12 @@ breaks_off w now limit k calm f on within off = record {
   never = subst (NeverSettles (course_with on.went.rounds w)) (sym on.went.count) on.never;
   off = subst (λ x. IsBrokenOff x f) on.went.now_is off;
 }
+
+-- with the clocks of its ports
+pub breaks_step : (w now left : World) (limit k calm : ℕ) → GoesOn w now k calm → k < limit → BreaksRound now left → BreaksStep w limit left
+breaks_step w now left limit k calm on within broke =
+    breaks_after on.went.rounds w left limit on.went.arrive (let c = on.went.count in omega arith) (subst (NeverSettles (course_with on.went.rounds w)) (sym on.went.count) on.never)
+    (subst (λ x. BreaksRound x left) on.went.now_is broke)
 
 -- ---- the ring of a step
 

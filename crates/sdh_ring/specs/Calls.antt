@@ -1,19 +1,24 @@
 -- A round as its calls make it, one after the other.
-use Rattle.std.specs.Prelude.{ℕ, ◌≡◌, ◌*◌, ◌^◌, ◌<◌, ◌≤◌, List, length, take}
+use Rattle.std.specs.Prelude.{ℕ, ◌≡◌, ◌+◌, ◌*◌, ◌/◌, ◌^◌, ◌<◌, ◌≤◌, List, ◌++◌, length, map, take, drop}
 use Rattle.sdh_frame.specs.declared.Rate.{Rate}
 use Rattle.sdh_ringmap.specs.declared.Side.{Side}
 use Rattle.sdh_ringmap.specs.declared.Side.TheVariants.{West, East}
 use Rattle.sdh_plant.specs.Fibres.{Arrival, Fibres}
 use Rattle.sdh_plant.specs.Arrivals.{Knows, arrival}
 use Rattle.sdh_plant.specs.Calls.{after_receive, after_send}
+use Rattle.sdh_node.specs.Tributaries.{Tributary}
 use Rattle.sdh_node.specs.Node.{Node, moment_of}
-use Rattle.sdh_world.specs.Rounds.{with_arrival, with_arrivals, all_with_arrivals, arrivals_from, after_given, west_frame, east_frame, sent_some}
+use Rattle.sdh_world.specs.Rounds.{with_arrival, with_arrivals, all_with_arrivals, arrivals_from, after_given, node_after, west_frame, east_frame, frames_of, sent_some}
 
 -- ---- receives
 
 -- the node receives frames of a rate
 abbrev pub MayReceive : Rate → Node → Type 0
 MayReceive rate n = n.settings.rate ≡ rate
+
+-- the ports of circuits at a node, with their clocks: no receive changes them
+abbrev pub ports_of : Node → List Tributary
+ports_of n = n.ports
 
 -- the node at position p received on a side what came, which is what the fibres give where that is known
 pub record ReceivesOne (f : Fibres) (p : ℕ) (d : Side) (old new : Node) : Type 0 where
@@ -37,10 +42,10 @@ pub record FirstReceive (k : ℕ) (f g : Fibres) (old new : List Node) : Type 0 
   pub nodes : new ≡ all_with_arrivals arrivals old
   pub fibres : g ≡ after_given (length arrivals) f
 
--- at most so many nodes received, the last of them maybe on the west alone
+-- some of the first k nodes received, but not all on both sides
 pub record SomeReceive (k : ℕ) (f g : Fibres) : Type 0 where
   pub given : ℕ
-  pub most : given ≤ 2 * k
+  pub not_all : given < 2 * k
   pub after_is : g ≡ after_given given f
 
 -- ---- sends
@@ -58,8 +63,13 @@ sent_west now p n f = after_send f p West (west_frame now n)
 abbrev pub sent_now : ℕ → ℕ → Node → Fibres → Fibres
 sent_now now p n f = after_send (sent_west now p n f) p East (east_frame now n)
 
--- the first of these frames were sent, but not all
-pub record SendsSome (frames : List (List ℕ)) (f g : Fibres) : Type 0 where
+-- the nodes after the first k of them have had their round
+abbrev pub first_after : ℕ → ℕ → List Node → List Node
+first_after now k ns = map (node_after now) (take k ns) ++ drop k ns
+
+-- the first frames of these nodes were sent, but not all; the node of which a send failed had its round before
+pub record SendsSome (now : ℕ) (old new : List Node) (f g : Fibres) : Type 0 where
   pub out : ℕ
-  pub not_all : out < length frames
-  pub after_is : g ≡ sent_some (take out frames) f
+  pub not_all : out < length (frames_of now old)
+  pub after_is : g ≡ sent_some (take out (frames_of now old)) f
+  pub nodes : new ≡ first_after now (out / 2 + 1) old

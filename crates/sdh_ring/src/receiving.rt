@@ -5,7 +5,7 @@ ghost use Rattle.sdh_plant.specs.Fibres.{IsPrepared};
 ghost use Rattle.sdh_plant.specs.Calls.{after_receive};
 ghost use Rattle.sdh_world.specs.Rounds.{receivers_in};
 ghost use Rattle.sdh_world.specs.Fixed.{fixed};
-ghost use Rattle.sdh_ring.specs.Calls.{MayReceive, ReceivesOne, ReceivesBoth, FirstReceive, SomeReceive};
+ghost use Rattle.sdh_ring.specs.Calls.{MayReceive, ports_of, ReceivesOne, ReceivesBoth, FirstReceive, SomeReceive};
 
 use crate::faults::PlantFault;
 use sdh_frame::FrameBuf;
@@ -29,6 +29,7 @@ fn receive_one<P: Plant>(
     ensures kept { OnErr result (P.fibres plant.new ≡ P.fibres plant.old) }
     ensures node { OnOk result (ReceivesOne (P.fibres plant.old) at.0 side node.old node.new) }
     ensures fixed { fixed node.new ≡ fixed node.old }
+    ensures ports { ports_of node.new ≡ ports_of node.old }
     ensures rate { frame.new.rate ≡ frame.old.rate }
     ensures cause { HasCause P.exact (P.faults plant.old) (P.faults plant.new) result }
 {
@@ -51,6 +52,7 @@ fn receive_both<P: Plant>(
     ensures kept { OnErr result ((P.fibres plant.new ≡ P.fibres plant.old) ⊎ (P.fibres plant.new ≡ after_receive (P.fibres plant.old))) }
     ensures node { OnOk result (ReceivesBoth (P.fibres plant.old) at.0 node.old node.new) }
     ensures fixed { fixed node.new ≡ fixed node.old }
+    ensures ports { ports_of node.new ≡ ports_of node.old }
     ensures rate { frame.new.rate ≡ frame.old.rate }
     ensures cause { HasCause P.exact (P.faults plant.old) (P.faults plant.new) result }
 {
@@ -69,6 +71,7 @@ fn receive_all<P: Plant>(
     ensures ok { OnOk result (FirstReceive (length nodes.old.items) (P.fibres plant.old) (P.fibres plant.new) nodes.old.items nodes.new.items) }
     ensures err { OnErr result (SomeReceive (length nodes.old.items) (P.fibres plant.old) (P.fibres plant.new)) }
     ensures fixed { map fixed nodes.new.items ≡ map fixed nodes.old.items }
+    ensures ports { map ports_of nodes.new.items ≡ map ports_of nodes.old.items }
     ensures rate { frame.new.rate ≡ frame.old.rate }
     ensures cause { HasCause P.exact (P.faults plant.old) (P.faults plant.new) result }
 {
@@ -92,6 +95,7 @@ pub fn hear<P: Plant>(
     ensures ok { OnOk result (FirstReceive (receivers_in rounds (length nodes.old.items)) (P.fibres plant.old) (P.fibres plant.new) nodes.old.items nodes.new.items) }
     ensures err { OnErr result (SomeReceive (receivers_in rounds (length nodes.old.items)) (P.fibres plant.old) (P.fibres plant.new)) }
     ensures fixed { map fixed nodes.new.items ≡ map fixed nodes.old.items }
+    ensures ports { map ports_of nodes.new.items ≡ map ports_of nodes.old.items }
     ensures rate { frame.new.rate ≡ frame.old.rate }
     ensures cause { HasCause P.exact (P.faults plant.old) (P.faults plant.new) result }
 {

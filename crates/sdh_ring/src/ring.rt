@@ -10,7 +10,7 @@ ghost use Rattle.sdh_node.specs.Tributaries.{HasPort, outlet_of, waiting_of};
 ghost use Rattle.sdh_node.specs.Node.{at_receiving, held_for, slips_at};
 ghost use Rattle.sdh_circuits.specs.declared.PortId.{PortId};
 ghost use Rattle.sdh_world.specs.Held.{new_nodes, new_ring, at_place, node_at, place_of_port, outlet_at};
-ghost use Rattle.sdh_world.specs.Clocks.{HasPortIn, clock_at, waiting_at};
+ghost use Rattle.sdh_world.specs.Clocks.{HasPortIn, clock_at, waiting_at, clocks_from};
 ghost use Rattle.sdh_world.specs.Fixed.{IsRested};
 ghost use Rattle.sdh_world.specs.Rounds.{world};
 ghost use Rattle.sdh_world.specs.Runs.{IsRound, IsBrokenOff};
@@ -21,6 +21,7 @@ ghost use Rattle.sdh_carrying.specs.Windows.{layout_in, HasCircuits};
 ghost use Rattle.sdh_carrying.specs.Laws.{Restores};
 ghost use Rattle.sdh_converging.specs.Laws.{enough_for};
 ghost use Rattle.sdh_ring.specs.Outcome.{Outcome};
+ghost use Rattle.sdh_ring.specs.Faults.{BreaksRound, BreaksStep};
 ghost use Rattle.sdh_circuits.specs.Provisioned.{end_of};
 
 use crate::faults::{PlantFault, SettleError};
@@ -268,9 +269,11 @@ impl Ring {
         // nodes.
         ensures signals { OnOk result (IsWhole (world self.old (P.fibres plant.old)) → GoesAsSignals (world self.old (P.fibres plant.old)) (world self.new (P.fibres plant.new))) }
 
-        // A fault breaks the ring. The first frames of the round may have been sent.
+        // A fault breaks the ring. The first frames of the round may have been sent, and the clocks of ports have gone on where their
+        // nodes had the round before it.
         ensures err { OnErr result (IsBrokenOff (world self.old (P.fibres plant.old)) (P.fibres plant.new)) }
         ensures broken { OnErr result (self.new.broken ≡ true) }
+        ensures clocks { OnErr result (BreaksRound (world self.old (P.fibres plant.old)) (world self.new (P.fibres plant.new))) }
         ensures later { P.faults plant.old ≤ P.faults plant.new }
         ensures failed { OnErr result (Rose (P.faults plant.old) (P.faults plant.new)) }
 
@@ -357,8 +360,12 @@ impl Ring {
         // And with so large a limit a window does end, whatever happened before, where no fault breaks the step off.
         ensures answers { IsWhole (world self.old (P.fibres plant.old)) → enough_for (length self.old.ids) ≤ limit → result ≢ Err SettleError.Unsettled }
 
-        // A fault breaks the ring.
+        // Each port's clock has gone on by the rounds that ran.
+        ensures clocks { result ≢ Err SettleError.PlantFault → (port : PortId) → HasPortIn self.old port → clock_at self.new port ≡ clocks_from (world self.old (P.fibres plant.old)) port self.new.rounds }
+
+        // A fault breaks the ring. Clocks have gone on by the whole rounds, and by the last one where their nodes had it.
         ensures broken { result ≡ Err SettleError.PlantFault → self.new.broken ≡ true }
+        ensures broken_clocks { result ≡ Err SettleError.PlantFault → BreaksStep (world self.old (P.fibres plant.old)) limit (world self.new (P.fibres plant.new)) }
         ensures later { P.faults plant.old ≤ P.faults plant.new }
         ensures failed { result ≡ Err SettleError.PlantFault → Rose (P.faults plant.old) (P.faults plant.new) }
 

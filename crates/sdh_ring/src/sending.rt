@@ -35,8 +35,8 @@ fn send_both<P: Plant>(
     ensures cause { HasCause P.exact (P.faults plant.old) (P.faults plant.new) result }
 {
     node.send(now, west, east);
-    plant.send(at, Side::West, west)?;
-    plant.send(at, Side::East, east)?;
+    plant.exchange(at, Side::West, west)?;
+    plant.exchange(at, Side::East, east)?;
     Ok(())
 }
 
@@ -54,7 +54,7 @@ pub fn send_all<P: Plant>(
     requires within { now.0 ≤ 1000000000 }
     ensures fibres { OnOk result (P.fibres plant.new ≡ sent_all (frames_of now.0 nodes.old.items) (P.fibres plant.old)) }
     ensures nodes { OnOk result (nodes.new.items ≡ map (node_after now.0) nodes.old.items) }
-    ensures err { OnErr result (SendsSome (frames_of now.0 nodes.old.items) (P.fibres plant.old) (P.fibres plant.new)) }
+    ensures err { OnErr result (SendsSome now.0 nodes.old.items nodes.new.items (P.fibres plant.old) (P.fibres plant.new)) }
     ensures fixed { map fixed nodes.new.items ≡ map fixed nodes.old.items }
     ensures west { west.new.rate ≡ west.old.rate }
     ensures east { east.new.rate ≡ east.old.rate }

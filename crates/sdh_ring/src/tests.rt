@@ -184,14 +184,20 @@ fn a_fault_of_the_plant_breaks_the_ring(rt: HostRuntime) -> Result<(), Fail> {
     Ok(())
 }
 
-// A ring of three nodes, in whose circuit two slips wait at one port.
-fn slipping<P: Plant>(alloc: Global, plant: &mut P, end: End, turn: Turn) -> Result<Ring, Fail>
+// A ring of three nodes with a circuit from node 1 to another, at one port of which two slips wait.
+fn slipping<P: Plant>(
+    alloc: Global,
+    plant: &mut P,
+    to: i64,
+    end: End,
+    turn: Turn,
+) -> Result<Ring, Fail>
     requires { HasNoFibres (P.fibres plant.old) }
     ensures prepared { IfOk result (λ ring. IsPrepared ring.settings.rate (length ring.ids) (P.fibres plant.new)) }
     ensures whole { IfOk result (λ ring. ring.broken ≡ false) }
     ensures new { IfOk result (λ ring. ring.rounds ≡ 0) }
 {
-    let mut ring = laid(alloc, plant, &[1, 2, 3], 2)?;
+    let mut ring = laid(alloc, plant, &[1, 2, 3], to)?;
     let port = PortId { circuit: 0, end };
     if ring.circuits().len() == 0 || ring.waiting(port) != 0 {
         return Err(Fail::from("no circuit"));
@@ -215,7 +221,7 @@ fn slips_wait_at_the_port_told_until_a_round_of_their_own(rt: HostRuntime) -> Re
         for (end, other) in [(End::A, End::B), (End::B, End::A)] {
             for turn in [Turn::Up, Turn::Down] {
                 let mut plant = FibrePlant::new();
-                let mut ring = slipping(rt.alloc(), &mut plant, end, turn)?;
+                let mut ring = slipping(rt.alloc(), &mut plant, 2, end, turn)?;
                 assert_eq!(rt; waiting_at(&ring, end), Some(2));
                 assert_eq!(rt;
                     ring.settle(&mut plant, rounds),
@@ -234,10 +240,28 @@ fn a_round_without_a_send_uses_up_no_slip(rt: HostRuntime) -> Result<(), Fail> {
     // Round 4 would use up a slip, and its first or its last receive fails.
     for receive in [19, 24] {
         let mut plant = FailingPlant::new(rt.alloc(), &[(PlantCall::Receive, receive)])?;
-        let mut ring = slipping(rt.alloc(), &mut plant, End::A, Turn::Up)?;
+        let mut ring = slipping(rt.alloc(), &mut plant, 2, End::A, Turn::Up)?;
         assert_eq!(rt; ring.settle(&mut plant, 1000), Err(SettleError::PlantFault));
         assert_eq!(rt; ring.rounds(), 4);
         assert_eq!(rt; waiting_at(&ring, End::A), Some(2));
+    }
+    Ok(())
+}
+
+#[test]
+fn a_send_that_fails_uses_up_slips_at_its_node_and_those_before(
+    rt: HostRuntime,
+) -> Result<(), Fail> {
+    // Round 4 would use up a slip at each port, and a send of the second node fails in it, on the west or on the east.
+    for send in [27, 28] {
+        // The circuit's other node, the port where two slips wait, and how many still do.
+        for (to, end, wants) in [(2, End::A, 1), (2, End::B, 1), (3, End::B, 2)] {
+            let mut plant = FailingPlant::new(rt.alloc(), &[(PlantCall::Send, send)])?;
+            let mut ring = slipping(rt.alloc(), &mut plant, to, end, Turn::Up)?;
+            assert_eq!(rt; ring.settle(&mut plant, 1000), Err(SettleError::PlantFault));
+            assert_eq!(rt; ring.rounds(), 4);
+            assert_eq!(rt; waiting_at(&ring, end), Some(wants), "{send}");
+        }
     }
     Ok(())
 }

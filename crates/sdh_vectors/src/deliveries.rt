@@ -3,7 +3,7 @@
 ghost use Rattle.std.specs.Prelude.{◌≡◌, ◌≤◌, ◌<◌, OnOk, false, length};
 ghost use Rattle.sdh_plant.specs.Fibres.{HasNoFibres, IsPrepared};
 
-use crate::rings::{apply, laid_with, settle};
+use crate::rings::{ALPHABETS, apply, laid_with, settle};
 use crate::streams::{Sender, is_sent_in};
 use sdh_circuits::{Asked, End, PortId};
 use sdh_frame::Rate;
@@ -157,20 +157,6 @@ fn comes_out(
     let mut plant = FibrePlant::new();
     all_comes_out(alloc, &mut plant, rate, ids, circuits, script).unwrap_or(false)
 }
-
-/// A circuit between two nodes, with these texts.
-pub(crate) const ALPHABETS: Asked<'static> = Asked {
-    name: "c1",
-    from: 1,
-    to: 3,
-    slot: 1,
-    offset_a: 0,
-    offset_b: 0,
-    text_a: "ABCDEFG",
-    text_b: "abcdefg",
-    trace_a: "c1",
-    trace_b: "c1",
-};
 
 const X: Asked<'static> = Asked {
     name: "x",

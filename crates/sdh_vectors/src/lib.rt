@@ -21,3 +21,5 @@ mod streams;
 mod told;
 #[cfg(test)]
 mod windows;
+#[cfg(test)]
+mod worked;

@@ -4,7 +4,7 @@ ghost use Rattle.std.specs.Prelude.{◌≡◌, ◌≤◌, ◌<◌, IfSome, All, 
 ghost use Rattle.sdh_plant.specs.Fibres.{HasNoFibres, IsPrepared};
 ghost use Rattle.sdh_plant.specs.Kept.{IsToldAt};
 
-use crate::rings::{laid_with, run};
+use crate::rings::{ALPHABETS, laid_with, run};
 use sdh_circuits::{Asked, End, PortId};
 use sdh_frame::{FrameBuf, Place, Rate};
 use sdh_kbytes::encode;
@@ -19,17 +19,11 @@ use std::alloc::Global;
 // After so many equal words in a row a word counts.
 const TIMES: usize = 3;
 
-const ASKED: Asked<'static> = Asked {
-    name: "c1",
-    from: 1,
+const TO_SECOND: Asked<'static> = Asked {
     to: 2,
-    slot: 1,
-    offset_a: 0,
-    offset_b: 0,
     text_a: "ALPHA",
     text_b: "BETA!",
-    trace_a: "c1",
-    trace_b: "c1",
+    ..ALPHABETS
 };
 
 // What is chosen of a frame: its first byte A1, its bytes K1 and K2, and the pointer word of its first AU-4.
@@ -114,7 +108,7 @@ fn ring_after(alloc: Global, from_west: &[Sent]) -> Option<Ring>
     ensures { IfSome result (λ ring. ring.broken ≡ false) }
 {
     let mut plant = ToldPlant::new(Rate::Four, arrivals_of(alloc, from_west)?);
-    let mut ring = laid_with(alloc, &mut plant, Rate::Four, &[1, 2, 3], &[ASKED]).ok()?;
+    let mut ring = laid_with(alloc, &mut plant, Rate::Four, &[1, 2, 3], &[TO_SECOND]).ok()?;
     run(&mut ring, &mut plant, 1 + from_west.len() as u32).ok()?;
     Some(ring)
 }

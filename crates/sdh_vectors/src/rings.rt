@@ -14,7 +14,8 @@ use sdh_ring::{PlantFault, Ring};
 use sdh_ringmap::{Pos, RingMap, Side};
 use std::alloc::{AllocError, Global};
 
-const ASKED: Asked<'static> = Asked {
+/// A circuit over two spans, with these texts.
+pub(crate) const ALPHABETS: Asked<'static> = Asked {
     name: "c1",
     from: 1,
     to: 3,
@@ -120,7 +121,7 @@ pub(crate) fn laid<P: Plant>(
     ensures moment { IfOk result (λ ring. ring.moment ≡ 0) }
     ensures rate { IfOk result (λ ring. ring.settings.rate ≡ rate) }
 {
-    laid_with(alloc, plant, rate, ids, &[ASKED])
+    laid_with(alloc, plant, rate, ids, &[ALPHABETS])
 }
 
 /// Makes new fibres for a ring at STM-4.

@@ -2,8 +2,8 @@
 ghost use Rattle.std.specs.Prelude.{◌≡◌, ◌≤◌, ◌<◌, OnOk, false, length};
 ghost use Rattle.sdh_plant.specs.Fibres.{HasNoFibres, IsPrepared};
 
-use crate::deliveries::{ALPHABETS, sender_at};
-use crate::rings::{laid_with, run, settle};
+use crate::deliveries::sender_at;
+use crate::rings::{ALPHABETS, laid_with, run, settle};
 use crate::streams::{Sender, is_sent_from, parities_of};
 use crate::windows::cut_if;
 use sdh_circuits::{Asked, End, PortId};
@@ -158,12 +158,12 @@ fn slip(ring: &mut Ring, port: PortId, turn: Turn, count: u8) -> bool
     true
 }
 
-const PORT_A: PortId = PortId {
+pub(crate) const PORT_A: PortId = PortId {
     circuit: 0,
     end: End::A,
 };
 
-const PORT_B: PortId = PortId {
+pub(crate) const PORT_B: PortId = PortId {
     circuit: 0,
     end: End::B,
 };
@@ -376,8 +376,8 @@ struct Row {
     hops: u64,
 }
 
-// Ups and downs wait at a port.
-fn slip_both(ring: &mut Ring, port: PortId, slips: (u8, u8)) -> bool
+/// Ups and downs wait at a port.
+pub(crate) fn slip_both(ring: &mut Ring, port: PortId, slips: (u8, u8)) -> bool
     ensures settings { ring.new.settings ≡ ring.old.settings }
     ensures ids { ring.new.ids ≡ ring.old.ids }
     ensures whole { ring.new.broken ≡ ring.old.broken }

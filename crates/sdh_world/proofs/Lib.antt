@@ -8,3 +8,4 @@ pub mod Histories
 pub mod Honest
 pub mod Clocks
 pub mod Waiting
+pub mod Happened

@@ -15,8 +15,10 @@ use Rattle.sdh_circuits.specs.declared.PortId.{PortId}
 use Rattle.sdh_node.specs.Node.{at_receiving, held_for, slips_at}
 use Rattle.sdh_world.specs.Held.{HeldRing, new_ring, at_place, place_of_port}
 use Rattle.sdh_world.specs.Changes.{Change, Order, Hold, Slip, Now, Fibre, changed, Stretch, after_stretch, after_stretches, rounds_in}
+use Rattle.sdh_circuits.specs.Provisioned.{Provisioned}
 use Rattle.sdh_payload.specs.Clock.{ticked}
-use Rattle.sdh_world.specs.Clocks.{HasPortIn, clock_at, waiting_at, clock_after, clock_in, first_clock}
+use Rattle.sdh_payload.specs.Laws.{clock_by}
+use Rattle.sdh_world.specs.Clocks.{HasPortIn, clock_at, waiting_at, clock_after, clock_in, offset_of, first_clock, clocks_by, happened}
 use Rattle.sdh_world.specs.Sides.{new_holding, holding_of, holding_in, world_in, Fits}
 use Rattle.sdh_world.specs.Rounds.{World, world, arrival_at, frames_with, round_with, round}
 use Rattle.sdh_world.specs.Runs.{IsRound, IsBrokenOff, run, run_with, course}
@@ -143,3 +145,7 @@ pub record ClocksGoOn : Type 0 where
   pub behind : (ss : List Stretch) (w : World) (port : PortId) → HasPortIn w.ring port → clock_at (after_stretches ss w).ring port ≡ clock_in port ss (clock_at w.ring port) (rounds_in ss)
   -- 68 rounds use up 16 slips: four at the start, and four with each
   pub run_out : (rounds : List (List Arrival)) (w : World) (port : PortId) → HasPortIn w.ring port → (clock_at w.ring port).rest ≤ 4 → waiting_at w.ring port ≤ 16 → 68 ≤ length rounds → waiting_at (run_with rounds w).ring port ≡ 0
+
+-- the clock by a history of stretches is that of what happened at the port, which goes by the rule of `sdh_payload`
+abbrev pub ClocksTellWhatHappened : Type 0
+ClocksTellWhatHappened = (circuits : List Provisioned) (ss : List Stretch) (port : PortId) (t : ℕ) → clocks_by circuits ss port t ≡ clock_by (offset_of circuits port) (happened ss port t)

@@ -3,7 +3,7 @@
 //! `specs/Changes.antt`. Each function here has a law as its contract and no work to do.
 #![tactic(auto)]
 
-ghost use Rattle.sdh_world.specs.Laws.{KnownRounds, RoundsKeep, FaultsKeep, StayHonest, RunsKeep, SettledNumbers, BrokenStepsSend, KnownSteps, StepsAreComputed, CallsChange, ChangesKeepPrepared, NewHolds, HistoriesHold, ClocksGoOn};
+ghost use Rattle.sdh_world.specs.Laws.{KnownRounds, RoundsKeep, FaultsKeep, StayHonest, RunsKeep, SettledNumbers, BrokenStepsSend, KnownSteps, StepsAreComputed, CallsChange, ChangesKeepPrepared, NewHolds, HistoriesHold, ClocksGoOn, ClocksTellWhatHappened};
 
 /// Where arrivals are known a round is determined.
 pub fn known_rounds_are()
@@ -83,4 +83,10 @@ pub fn histories_hold()
 #[tactic(auto, using(crate::proofs::Clocks::clocks_go_on))]
 pub fn clocks_go_on()
     ensures { ClocksGoOn }
+{}
+
+/// A port's clock by the history of the ring is that of what happened at the port: the slips told there, and the rounds.
+#[tactic(auto, using(crate::proofs::Happened::clocks_tell))]
+pub fn clocks_tell_what_happened()
+    ensures { ClocksTellWhatHappened }
 {}

@@ -23,6 +23,6 @@ loop-a-preserved c =
             let same : a ≡ la = omega arith in
             let place : 2349 * a + (from + k) ≡ 2349 * la + from + k = omega arith in
             let source : at + (16 * (k / 4) + (4 * (k % 4) + (c.args.base + la))) ≡ 1080 * r + (36 + 4 * (c.args.c + k)) + (c.args.base + a) = omega arith in
-            ap (λ i. get_or out i 0) place ∙ c.put.ensures.inside k small_k ∙ c.sort4-payloads.ensures.each (c.args.base + la) k small_a small_k ∙ c.load4.ensures.each (k / 4) (4 * (k % 4) + (c.args.base + la)) (omega arith) (omega arith) ∙ ap (λ i. get_or bytes i 0) source)
+            ap (λ i. get_or out i 0) place ∙ c.put.ensures.inside k small_k ∙ c.lane4.ensures.each k small_k ∙ c.load4-rows.ensures.each (k / 4) (4 * (k % 4) + (c.args.base + la)) (omega arith) (omega arith) ∙ ap (λ i. get_or bytes i 0) source)
       ];
     }

@@ -1,5 +1,5 @@
 use Rattle.std.proofs.Common.{◌<◌, refl, arith}
-use Rattle.sdh_interchange.proofs.Turning.{last, two-rows, two-lanes, two-done}
+use Rattle.sdh_interchange.proofs.Turning.{two-rows, two-lanes, two-done}
 use Rattle.sdh_interchange.proofs.table.apart.Goals as goal
 
 pub loop-i-preserved : goal.loop-i-preserved

@@ -1,13 +1,14 @@
 use Rattle.std.proofs.Common.{◌≡◌, refl, ap, sym, ◌∙◌, arith, rules, subst, length}
 use Rattle.sdh_basics.proofs.Indexing.{rest_more, read_here}
 use Rattle.sdh_plant.specs.Fibres.{Fibres}
-use Rattle.sdh_ring.specs.Calls.{MayReceive}
-use Rattle.sdh_ring.proofs.Nodes.{fixed_more, length_fixed, on_err}
+use Rattle.sdh_world.specs.Fixed.{fixed}
+use Rattle.sdh_ring.specs.Calls.{MayReceive, ports_of}
+use Rattle.sdh_ring.proofs.Nodes.{kept_more, length_fixed, on_err}
 use Rattle.sdh_ring.proofs.Receives.{hears_none, hears_more, hears_some, hears_all, nodes_taken, rate_taken}
 use Rattle.sdh_ring.proofs.receiving.receive_all.Goals as goal
 
 pub receives-init : goal.receives-init
-receives-init g c = record { done = hears_none _ _; rest = refl; fixed = refl; rate = refl; later = omega arith; none = λ _. refl }
+receives-init g c = record { done = hears_none _ _; rest = refl; fixed = refl; ports = refl; rate = refl; later = omega arith; none = λ _. refl }
 
 pub receive_both-requires-clause-at : goal.receive_both-requires-clause-at
 receive_both-requires-clause-at g c =
@@ -34,7 +35,10 @@ returns-in_err-receive_both-clause-err g c =
     on_err c.from_residual.result (hears_some c.receives.i _ _ _ _ _ _ (omega arith) inv.done c.in_err-receive_both.ensures.kept)
 
 pub returns-in_err-receive_both-clause-fixed : goal.returns-in_err-receive_both-clause-fixed
-returns-in_err-receive_both-clause-fixed g c = fixed_more _ _ c.receives.i c.index_mut-node.result.now c.receive_both.new.node c.index_mut-node.ensures.value c.receive_both.ensures.fixed c.receives.invariant.fixed
+returns-in_err-receive_both-clause-fixed g c = kept_more fixed _ _ c.receives.i c.index_mut-node.result.now c.receive_both.new.node c.index_mut-node.ensures.value c.receive_both.ensures.fixed c.receives.invariant.fixed
+
+pub returns-in_err-receive_both-clause-ports : goal.returns-in_err-receive_both-clause-ports
+returns-in_err-receive_both-clause-ports g c = kept_more ports_of _ _ c.receives.i c.index_mut-node.result.now c.receive_both.new.node c.index_mut-node.ensures.value c.receive_both.ensures.ports c.receives.invariant.ports
 
 pub returns-clause-ok : goal.returns-clause-ok
 returns-clause-ok g c =
@@ -56,7 +60,8 @@ receives-preserved g c =
       done = hears_more i (means c.args.plant.now) (means c.receives.plant) _ old now x y (omega arith) (omega arith) inv.rest c.index_mut-node.ensures.value inv.done
           c.in_ok-receive_both.ensures.node c.in_ok-receive_both.ensures.fibres;
       rest = rest_more now old i y inv.rest;
-      fixed = fixed_more old now i x y c.index_mut-node.ensures.value c.receive_both.ensures.fixed inv.fixed;
+      fixed = kept_more fixed old now i x y c.index_mut-node.ensures.value c.receive_both.ensures.fixed inv.fixed;
+      ports = kept_more ports_of old now i x y c.index_mut-node.ensures.value c.receive_both.ensures.ports inv.ports;
       rate = c.receive_both.ensures.rate ∙ inv.rate;
       later = omega (arith, c.receive_both.ensures.cause.later);
       none = search rules;

@@ -7,8 +7,8 @@ use Rattle.sdh_world.specs.Fixed.{fixed}
 use Rattle.sdh_world.proofs.Runs.{length-frames}
 use Rattle.sdh_world.proofs.Keeping.{fixed_next}
 use Rattle.sdh_ring.specs.Calls.{sent_now, MaySend}
-use Rattle.sdh_ring.proofs.Nodes.{fixed_more, length_fixed, on_err}
-use Rattle.sdh_ring.proofs.Sends.{step_map, some_none, both_more, sends_some, some_all, nodes_some, rate_some}
+use Rattle.sdh_ring.proofs.Nodes.{kept_more, length_fixed, on_err}
+use Rattle.sdh_ring.proofs.Sends.{step_map, step_first, some_none, both_more, sends_some, some_all, nodes_some, rate_some}
 use Rattle.sdh_ring.proofs.sending.send_all.Goals as goal
 
 pub sends-init : goal.sends-init
@@ -44,13 +44,15 @@ returns-in_err-send_both-clause-err g c =
     let i = c.sends.i in
     let x = c.index_mut-node.result.now in
     let room = c.requires.prepared.carried in
-    let size = length_fixed _ _ c.sends.invariant.fixed in
-    on_err c.from_residual.result (sends_some c.args.now.0 ns _ _ _ i x (omega arith) (read_here _ ns i x c.sends.invariant.rest c.index_mut-node.ensures.value) (omega arith) c.sends.invariant.fibres c.in_err-send_both.ensures.kept)
+    let inv = c.sends.invariant in
+    let size = length_fixed _ _ inv.fixed in
+    let had = step_first c.args.now.0 c.sends.nodes.items ns i x c.send_both.new.node (omega arith) (omega arith) inv.rest c.index_mut-node.ensures.value c.send_both.ensures.node inv.done in
+    on_err c.from_residual.result (sends_some c.args.now.0 ns _ _ _ _ i x (omega arith) (read_here _ ns i x inv.rest c.index_mut-node.ensures.value) (omega arith) had inv.fibres c.in_err-send_both.ensures.kept)
 
 pub returns-in_err-send_both-clause-fixed : goal.returns-in_err-send_both-clause-fixed
 returns-in_err-send_both-clause-fixed g c =
     let x = c.index_mut-node.result.now in
-    fixed_more _ _ c.sends.i x c.send_both.new.node c.index_mut-node.ensures.value (ap fixed c.send_both.ensures.node ∙ fixed_next c.args.now.0 x) c.sends.invariant.fixed
+    kept_more fixed _ _ c.sends.i x c.send_both.new.node c.index_mut-node.ensures.value (ap fixed c.send_both.ensures.node ∙ fixed_next c.args.now.0 x) c.sends.invariant.fixed
 
 pub sends-preserved : goal.sends-preserved
 sends-preserved g c =
@@ -67,7 +69,7 @@ sends-preserved g c =
           ∙ both_more now ns old i x (omega arith) (read_here _ ns i x inv.rest c.index_mut-node.ensures.value) (let room = c.requires.prepared.carried in omega arith);
       done = step_map (node_after now) _ _ _ _ _ (omega arith) (omega arith) inv.rest c.index_mut-node.ensures.value c.send_both.ensures.node inv.done;
       rest = rest_more c.sends.nodes.items ns i c.send_both.new.node inv.rest;
-      fixed = fixed_more ns c.sends.nodes.items i x c.send_both.new.node c.index_mut-node.ensures.value (ap fixed c.send_both.ensures.node ∙ fixed_next now x) inv.fixed;
+      fixed = kept_more fixed ns c.sends.nodes.items i x c.send_both.new.node c.index_mut-node.ensures.value (ap fixed c.send_both.ensures.node ∙ fixed_next now x) inv.fixed;
       west = c.send_both.ensures.west ∙ inv.west;
       east = c.send_both.ensures.east ∙ inv.east;
       later = omega (arith, c.send_both.ensures.cause.later);

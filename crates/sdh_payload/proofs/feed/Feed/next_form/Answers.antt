@@ -1,5 +1,4 @@
-use Rattle.std.proofs.Common.{◌≡◌, ◌+◌, length, ap, refl, ◌∙◌, arith}
-use Rattle.sdh_payload.specs.Customer.{Customer}
+use Rattle.std.proofs.Common.{◌≡◌, ◌+◌, length, ap, ◌∙◌, arith}
 use Rattle.sdh_payload.specs.Clock.{Clock, next_form}
 use Rattle.sdh_payload.specs.Chunk.{taken_len}
 use Rattle.sdh_payload.specs.Stream.{start_of, stream_from}

@@ -1,10 +1,12 @@
-use Rattle.std.proofs.Common.{refl, ap, sym, subst, ◌∙◌, ◌≡◌, ◌+◌, ◌<◌, ◌≤◌, ◌^◌, length}
+use Rattle.std.proofs.Common.{refl, ap, sym, subst, ◌∙◌, ◌≡◌, ◌+◌, ◌<◌, ◌≤◌, ◌^◌, true, length}
 use Rattle.std.specs.Prelude.{All}
 use Rattle.sdh_plant.specs.Fibres.{IsPrepared}
 use Rattle.sdh_world.specs.Held.{HeldRing}
 use Rattle.sdh_world.specs.Rounds.{world}
 use Rattle.sdh_world.specs.Runs.{IsRound, IsBrokenOff}
 use Rattle.sdh_ring.specs.Calls.{MayReceive, MaySend}
+use Rattle.sdh_ring.specs.Faults.{BreaksRound}
+use Rattle.sdh_ring.proofs.Breaking.{breaks_hearing, breaks_sending}
 use Rattle.sdh_ring.proofs.Nodes.{length_fixed, on_err}
 use Rattle.sdh_ring.proofs.Rings.{count_of, ring_with, may_receive, may_send, on_hears, on_sends, ran, off_hearing, off_sending, prepared_after, prepared_nodes, prepared_hears}
 use Rattle.sdh_ring.proofs.ring.Ring.round.Goals as goal
@@ -24,6 +26,13 @@ returns-in_err-hear-clause-err g c =
     on_err c.from_residual.result
     (subst (λ (r : HeldRing). IsBrokenOff (world r (g.P.Plant.fibres c.args.plant.now)) (g.P.Plant.fibres c.hear.new.plant)) c.self.view_is
     (off_hearing _ _ _ (count_of _ c.self.invariant.ring) enough c.in_err-hear.ensures.err))
+
+pub returns-in_err-hear-clause-clocks : goal.returns-in_err-hear-clause-clocks
+returns-in_err-hear-clause-clocks g c =
+    let enough : 2 ≤ length c.self.inside.map = subst (λ (r : HeldRing). 2 ≤ length r.ids) (sym c.self.view_is) c.requires.prepared.enough in
+    on_err c.from_residual.result
+    (subst (λ (r : HeldRing). BreaksRound (world r (g.P.Plant.fibres c.args.plant.now)) (world (record { settings = c.self.inside.settings; ids = c.self.inside.map; circuits = c.self.inside.circuits; nodes = c.hear.new.nodes.items; moment = c.self.inside.present.0; rounds = c.self.inside.rounds; broken = true }) (g.P.Plant.fibres c.hear.new.plant))) c.self.view_is
+    (breaks_hearing _ _ _ c.hear.new.nodes.items (count_of _ c.self.invariant.ring) enough (length_fixed _ _ c.hear.ensures.fixed) c.hear.ensures.ports c.in_err-hear.ensures.err))
 
 pub send_all-requires-clause-prepared : goal.send_all-requires-clause-prepared
 send_all-requires-clause-prepared g c =
@@ -48,7 +57,16 @@ returns-in_err-send_all-clause-err g c =
     let hears = c.in_ok-hear.ensures.ok in
     on_err c.from_residual-in_err-send_all.result
     (subst (λ (r : HeldRing). IsBrokenOff (world r f) (g.P.Plant.fibres c.send_all.new.plant)) c.self.view_is
-    (off_sending _ f _ _ c.hear.new.nodes.items (count_of _ inv.ring) hears c.in_err-send_all.ensures.err))
+    (off_sending _ f _ _ c.hear.new.nodes.items _ (count_of _ inv.ring) hears c.in_err-send_all.ensures.err))
+
+pub returns-in_err-send_all-clause-clocks : goal.returns-in_err-send_all-clause-clocks
+returns-in_err-send_all-clause-clocks g c =
+    let inv = c.self.invariant in
+    let f = g.P.Plant.fibres c.args.plant.now in
+    let size = length_fixed _ _ (c.send_all.ensures.fixed ∙ c.hear.ensures.fixed) in
+    on_err c.from_residual-in_err-send_all.result
+    (subst (λ (r : HeldRing). BreaksRound (world r f) (world (record { settings = c.self.inside.settings; ids = c.self.inside.map; circuits = c.self.inside.circuits; nodes = c.send_all.new.nodes.items; moment = c.self.inside.present.0; rounds = c.self.inside.rounds; broken = true }) (g.P.Plant.fibres c.send_all.new.plant))) c.self.view_is
+    (breaks_sending _ f _ _ c.hear.new.nodes.items c.send_all.new.nodes.items (count_of _ inv.ring) size c.hear.ensures.ports c.in_ok-hear.ensures.ok c.in_err-send_all.ensures.err))
 
 pub invariant_of-self-2 : goal.invariant_of-self-2
 invariant_of-self-2 g c =

@@ -1,7 +1,8 @@
 use Rattle.std.proofs.Common.{◌+◌, refl, arith, rules}
 use Rattle.std.proofs.lemmas.Bool.{false≢true}
 use Rattle.sdh_world.specs.Rounds.{world}
-use Rattle.sdh_ring.proofs.Settling.{goes_none, went_more, settles, goes_on, counts_on, held_went, held_none, less_counted, prepared_back, unsettles, none_left}
+use Rattle.sdh_ring.proofs.Settling.{goes_none, went_more, settles, goes_on, counts_on, held_went, held_none, less_counted, prepared_back, breaks_step, unsettles, none_left}
+use Rattle.sdh_ring.proofs.Breaking.{went_by}
 use Rattle.sdh_ring.proofs.ring.Ring.settle.Goals as goal
 
 pub rounds-init : goal.rounds-init
@@ -51,8 +52,17 @@ pub returns-then-is_over-clause-slips : goal.returns-then-is_over-clause-slips
 returns-then-is_over-clause-slips g c = λ port long.
     none_left (world c.args.self.now (g.P.Plant.fibres c.args.plant.now)) (world c.round.new.self (g.P.Plant.fibres c.round.new.plant)) c.args.limit port (returns-then-is_over-clause-outcome g c) (c.has_rested.ensures port) long
 
+pub returns-then-is_over-clause-clocks : goal.returns-then-is_over-clause-clocks
+returns-then-is_over-clause-clocks g c = λ _ port there. (let settled = returns-then-is_over-clause-outcome g c in went_by settled.rounds _ (world c.round.new.self (g.P.Plant.fibres c.round.new.plant)) port settled.left_is there)
+
+pub returns-in_err-round-clause-broken_clocks : goal.returns-in_err-round-clause-broken_clocks
+returns-in_err-round-clause-broken_clocks g c = λ _. breaks_step _ _ _ c.args.limit c.rounds._turn c.rounds.calm c.rounds.invariant.on (omega arith) c.in_err-round.ensures.clocks
+
 pub returns-clause-outcome : goal.returns-clause-outcome
 returns-clause-outcome g c = search (rules, unsettles)
+
+pub returns-clause-clocks : goal.returns-clause-clocks
+returns-clause-clocks g c = λ _ port there. (let unsettled = returns-clause-outcome g c in went_by unsettled.rounds _ (world c.rounds.self (g.P.Plant.fibres c.rounds.plant)) port unsettled.left_is there)
 
 pub returns-clause-whole : goal.returns-clause-whole
 returns-clause-whole g c = λ _ whole. c.steps_stay_whole.ensures.unsettled _ _ c.args.limit whole (returns-clause-outcome g c)

@@ -1,0 +1,114 @@
+-- A customer's clock, told by history alone: what a port was told, and the rounds that went by, decide what it sends. A `Clock` keeps of
+-- a history just what it needs; that every clock goes by its history is the law `clocks_go_by_history`. That a clock slips when it is
+-- told to, and in which round its port makes that good by a justification of the AU-4 pointer (ITU-T G.707 clause 8.1), is this
+-- project's own.
+use Rattle.std.specs.Prelude.{ℕ, ◌+◌, ◌-◌, ◌*◌, ℤ, pos, ◌+ℤ◌, ◌-ℤ◌, Bool, true, false, not, ◌&&◌, nat_le, if◌then◌else◌, List, [], ◌∷◌, length, take, count_by}
+use Rattle.std.specs.List.{list_all}
+use Rattle.std.specs.Int.{int_rem_euclid}
+use Rattle.sdh_payload.specs.declared.chunk.ChunkForm.{ChunkForm}
+use Rattle.sdh_payload.specs.declared.chunk.ChunkForm.TheVariants.{Plain, Short, Long}
+use Rattle.sdh_payload.specs.declared.clock.Turn.{Turn}
+use Rattle.sdh_payload.specs.declared.clock.Turn.TheVariants.{Up, Down}
+
+-- what happens at a port: it is told of so many slips, or a round goes by
+pub data Happening : Type 0 where
+  told : Turn → ℕ → Happening
+  went : Happening
+
+-- A history is the list of what happened, the latest first.
+
+-- ---- a round, by what was sent in the rounds before it, the latest first
+
+-- a port that justifies upwards sends three bytes fewer
+abbrev pub is_up : ChunkForm → Bool
+is_up Plain = false
+is_up Short = true
+is_up Long = false
+
+-- one that justifies downwards sends three bytes more
+abbrev pub is_down : ChunkForm → Bool
+is_down Plain = false
+is_down Short = false
+is_down Long = true
+
+-- it does neither
+abbrev pub is_plain : ChunkForm → Bool
+is_plain Plain = true
+is_plain Short = false
+is_plain Long = false
+
+-- in round t, counted from 0, a port may justify where t is at least 4 and it justified in none of the three rounds before
+abbrev pub may_justify : List ChunkForm → Bool
+may_justify before = nat_le 4 (length before) && list_all is_plain (take 3 before)
+
+-- of so many ups or downs that it was told of, those that wait: each justification used up one
+abbrev pub ups_left : ℕ → List ChunkForm → ℕ
+ups_left all before = all - count_by is_up before
+
+abbrev pub downs_left : ℕ → List ChunkForm → ℕ
+downs_left all before = all - count_by is_down before
+
+-- what it sends, where it was told of so many ups and downs: it justifies where it may and one waits, and ups come before downs
+abbrev pub form_then : List ChunkForm → ℕ → ℕ → ChunkForm
+form_then before ups downs =
+    if not (may_justify before) then Plain else
+    if nat_le 1 (ups_left ups before) then Short else
+    if nat_le 1 (downs_left downs before) then Long else Plain
+
+-- ---- what happened so far
+
+-- how many ups it was told of, and how many downs
+abbrev pub ups_told : List Happening → ℕ
+ups_told [] = 0
+ups_told (told Up count ∷ earlier) = ups_told earlier + count
+ups_told (told Down count ∷ earlier) = ups_told earlier
+ups_told (went ∷ earlier) = ups_told earlier
+
+abbrev pub downs_told : List Happening → ℕ
+downs_told [] = 0
+downs_told (told Up count ∷ earlier) = downs_told earlier
+downs_told (told Down count ∷ earlier) = downs_told earlier + count
+downs_told (went ∷ earlier) = downs_told earlier
+
+-- what it sent in each round, the latest first
+abbrev pub forms : List Happening → List ChunkForm
+forms [] = []
+forms (told turn count ∷ earlier) = forms earlier
+forms (went ∷ earlier) = form_then (forms earlier) (ups_told earlier) (downs_told earlier) ∷ forms earlier
+
+-- how many rounds went by, which is the number of the next one
+abbrev pub rounds : List Happening → ℕ
+rounds history = length (forms history)
+
+-- in how many of them it justified upwards, and in how many downwards
+abbrev pub ups : List Happening → ℕ
+ups history = count_by is_up (forms history)
+
+abbrev pub downs : List Happening → ℕ
+downs history = count_by is_down (forms history)
+
+-- what it sent in the last one, and `Plain` before the first
+abbrev pub last_form : List ChunkForm → ChunkForm
+last_form [] = Plain
+last_form (form ∷ before) = form
+
+-- ---- the next round
+
+-- how many ups wait before it, and how many downs
+abbrev pub ups_waiting : List Happening → ℕ
+ups_waiting history = ups_left (ups_told history) (forms history)
+
+abbrev pub downs_waiting : List Happening → ℕ
+downs_waiting history = downs_left (downs_told history) (forms history)
+
+-- what is sent in it
+abbrev pub form_now : List Happening → ChunkForm
+form_now history = form_then (forms history) (ups_told history) (downs_told history)
+
+-- the byte of the stream with which it begins: 2349 for each round before it, less three for each up and plus three for each down
+abbrev pub first_byte : List Happening → ℕ
+first_byte history = 2349 * rounds history - 3 * ups history + 3 * downs history
+
+-- the pointer value before it: the port's offset plus the ups less the downs, modulo 783
+abbrev pub value_now : ℕ → List Happening → ℤ
+value_now offset history = int_rem_euclid (pos offset +ℤ pos (ups history) -ℤ pos (downs history)) (pos 783)
