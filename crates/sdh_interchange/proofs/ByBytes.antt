@@ -1,8 +1,8 @@
 -- The frame whose AU-4s come from two others, byte by byte.
-use Rattle.std.proofs.Common.{◌≡◌, ◌≢◌, ℕ, zero, suc, ◌+◌, ◌*◌, ◌-◌, ◌/◌, ◌%◌, ◌<◌, ◌≤◌, ◌⊎◌, inl, inr, true, false, eqb, leb, List, [], ◌∷◌, length, drop, get_or, map, replicate, refl, ap, sym, ◌∙◌, arith}
+use Rattle.std.proofs.Common.{◌≡◌, ◌≢◌, ℕ, zero, suc, ◌+◌, ◌*◌, ◌-◌, ◌/◌, ◌%◌, ◌<◌, ◌≤◌, ◌⊎◌, inl, inr, true, false, eqb, leb, List, [], ◌∷◌, length, get_or, map, replicate, refl, ap, sym, ◌∙◌, arith}
 use Rattle.std.specs.Prelude.{if◌then◌else◌}
 use Rattle.std.proofs.lemmas.Bool.{cases_eq, cases_lt, eq-eqb, ne_eqb, le-leb, lt-leb}
-use Rattle.std.proofs.lemmas.List.{ext_get_or, get_or-replicate, get_or-map, length-map, get_or-take, get_or-drop, length-take, length-drop}
+use Rattle.std.proofs.lemmas.List.{ext_get_or, get_or-replicate, get_or-map, length-map}
 use Rattle.sdh_basics.proofs.CellsLaws.{get_or-cells}
 use Rattle.sdh_frame.specs.declared.Rate.{Rate}
 use Rattle.sdh_frame.specs.declared.Rate.TheVariants.{Four, Sixteen}
@@ -14,26 +14,25 @@ use Rattle.sdh_frame.specs.Aus.{payload_of, pointers_of, Au, au_of, with_aus, on
 use Rattle.sdh_interchange.specs.Choosing.{payload_in, au_from, chosen, IsSource, AreSources, own_byte, picked, picked_at, is_au_byte, IsPlain}
 use Rattle.sdh_frame.proofs.PlaceProofs.{IsIn, IsPointerByte}
 use Rattle.sdh_frame.proofs.AuProofs.{au_byte, payload_byte-here, payload_byte-other, payload_byte-before, pointer_byte-here, pointer_byte-other, pointer_byte-payload, pointer_byte-row}
-use Rattle.sdh_frame.proofs.Moves.{taken}
 use Rattle.sdh_frame.proofs.AllAus.{aus_byte, at_aus, length-with_aus}
 
--- ---- payloads that stand one after the other
+-- ---- payloads of a node's own ports
 
-pub own_byte-at : (n : ℕ) (own : List ℕ) (i a q : ℕ) → 9 * n ≤ i % (270 * n) → i % n ≡ a → 261 * (i / (270 * n)) + (i % (270 * n) - 9 * n) / n ≡ q → own_byte n own i ≡ get_or own (2349 * a + q) 0
+pub own_byte-at : (n : ℕ) (own : List (List ℕ)) (i a q : ℕ) → 9 * n ≤ i % (270 * n) → i % n ≡ a → 261 * (i / (270 * n)) + (i % (270 * n) - 9 * n) / n ≡ q → own_byte n own i ≡ get_or (get_or own a []) q 0
 unfolding own_byte
 own_byte-at n own i a q h lane column = let behind : leb (9 * n) (i % (270 * n)) ≡ true = le-leb _ _ h in rw (behind, lane, column) refl
 
-own_byte-none : (n : ℕ) (own : List ℕ) (i : ℕ) → i % (270 * n) < 9 * n → own_byte n own i ≡ 0
+own_byte-none : (n : ℕ) (own : List (List ℕ)) (i : ℕ) → i % (270 * n) < 9 * n → own_byte n own i ≡ 0
 unfolding own_byte
 own_byte-none n own i h = let before : leb (9 * n) (i % (270 * n)) ≡ false = lt-leb _ _ h in rw before refl
 
-pub plain4 : (s : Source) (own : List ℕ) (i : ℕ) → 3240 ≤ i → i < 3276 → IsSource 4 (i % 4 + 1) s → IsPlain 4 s own i
+pub plain4 : (s : Source) (own : List (List ℕ)) (i : ℕ) → 3240 ≤ i → i < 3276 → IsSource 4 (i % 4 + 1) s → IsPlain 4 s own i
 plain4 (First au) own i low high is = tt
 plain4 (Second au) own i low high is = tt
 plain4 (Own k) own i low high is = let few : k ≤ 4 = omega (arith, is) in own_byte-none 4 own (i - i % 4 + (k - 1)) (omega arith)
 plain4 Ones own i low high is = tt
 
-pub plain16 : (s : Source) (own : List ℕ) (i : ℕ) → 12960 ≤ i → i < 13104 → IsSource 16 (i % 16 + 1) s → IsPlain 16 s own i
+pub plain16 : (s : Source) (own : List (List ℕ)) (i : ℕ) → 12960 ≤ i → i < 13104 → IsSource 16 (i % 16 + 1) s → IsPlain 16 s own i
 plain16 (First au) own i low high is = tt
 plain16 (Second au) own i low high is = tt
 plain16 (Own k) own i low high is = let few : k ≤ 16 = omega (arith, is) in own_byte-none 16 own (i - i % 16 + (k - 1)) (omega arith)
@@ -52,9 +51,6 @@ own_there Sixteen i k low high h = record { behind = omega arith; lane = omega a
 own_pointers : (rate : Rate) (i k : ℕ) → 1 ≤ k → k ≤ n_of rate → i % (270 * n_of rate) < 9 * n_of rate → (i - i % n_of rate + (k - 1)) % (270 * n_of rate) < 9 * n_of rate
 own_pointers Four i k low high h = omega arith
 own_pointers Sixteen i k low high h = omega arith
-
-pub get_or-payload_in : (k : ℕ) (own : List ℕ) (q : ℕ) → 1 ≤ k → q < 2349 → get_or (payload_in k own) q 0 ≡ get_or own (2349 * (k - 1) + q) 0
-get_or-payload_in k own q low h = get_or-take (2349 * k - 2349 * (k - 1)) (drop (2349 * (k - 1)) own) q 0 (omega arith) ∙ get_or-drop (2349 * (k - 1)) own q 0
 
 -- ---- one AU-4
 
@@ -127,11 +123,11 @@ module _ (rate : Rate) (i x : ℕ) (inside : i < size_of rate) where
   of_ones (inl h) = pointer_byte-payload n _ _ i _ h ∙ payload_byte-here n _ _ _ _ i x (is_in h) ∙ get_or-replicate 2349 _ 0xFF 0 (payload_from rate i 1 (omega arith) inside h).1
   of_ones (inr h) = pointer_byte-here n _ _ _ i _ (is_pointer_byte h.0 h.1) ∙ get_or-replicate 9 _ 0xFF 0 (pointer_from rate i 1 (omega arith) inside h.0 h.1).1
 
-  of_own : (own : List ℕ) (k : ℕ) → 1 ≤ k → k ≤ n → (9 * n ≤ i % (270 * n)) ⊎ ((i / (270 * n) ≡ 3) × (i % (270 * n) < 9 * n)) → au_byte n (i % n + 1) (record { pointers = replicate 9 0; payload = payload_in k own }) i x ≡ own_byte n own (i - i % n + (k - 1))
+  of_own : (own : List (List ℕ)) (k : ℕ) → 1 ≤ k → k ≤ n → (9 * n ≤ i % (270 * n)) ⊎ ((i / (270 * n) ≡ 3) × (i % (270 * n) < 9 * n)) → au_byte n (i % n + 1) (record { pointers = replicate 9 0; payload = payload_in k own }) i x ≡ own_byte n own (i - i % n + (k - 1))
   unfolding au_byte
   of_own own k low high (inl h) =
       let there = own_there rate i k low high h in
-      pointer_byte-payload n _ _ i _ h ∙ payload_byte-here n _ _ _ _ i x (is_in h) ∙ get_or-payload_in k own _ low (payload_from rate i 1 (omega arith) inside h).1
+      pointer_byte-payload n _ _ i _ h ∙ payload_byte-here n _ _ _ _ i x (is_in h)
       ∙ sym (own_byte-at n own (i - i % n + (k - 1)) (k - 1) _ there.behind there.lane there.column)
   of_own own k low high (inr h) =
       pointer_byte-here n _ _ _ i _ (is_pointer_byte h.0 h.1) ∙ get_or-replicate 9 _ 0 0 (pointer_from rate i 1 (omega arith) inside h.0 h.1).1 ∙ sym (own_byte-none n own (i - i % n + (k - 1)) (own_pointers rate i k low high h.1))
@@ -143,14 +139,14 @@ module _ (rate : Rate) (i x : ℕ) (inside : i < size_of rate) where
       rate_lane Four i = omega arith
       rate_lane Sixteen i = omega arith
 
-  of_source : (s : Source) (first second own : List ℕ) → IsSource n (i % n + 1) s → (9 * n ≤ i % (270 * n)) ⊎ ((i / (270 * n) ≡ 3) × (i % (270 * n) < 9 * n)) → au_byte n (i % n + 1) (au_from n first second own s) i x ≡ picked n s first second own i
+  of_source : (s : Source) (first second : List ℕ) (own : List (List ℕ)) → IsSource n (i % n + 1) s → (9 * n ≤ i % (270 * n)) ⊎ ((i / (270 * n) ≡ 3) × (i % (270 * n) < 9 * n)) → au_byte n (i % n + 1) (au_from n first second own s) i x ≡ picked n s first second own i
   of_source (First au) first second own is part = of_frame first au is.0 part
   of_source (Second au) first second own is part = of_frame second au is.0 part
   of_source (Own k) first second own is part = of_own own k (omega (arith, is)) (omega (arith, is, lane_in)) part
   of_source Ones first second own is part = of_ones part
 
   -- a byte of an AU-4
-  chosen_here : (sources : List Source) (first second own : List ℕ) → AreSources n sources → (9 * n ≤ i % (270 * n)) ⊎ ((i / (270 * n) ≡ 3) × (i % (270 * n) < 9 * n))
+  chosen_here : (sources : List Source) (first second : List ℕ) (own : List (List ℕ)) → AreSources n sources → (9 * n ≤ i % (270 * n)) ⊎ ((i / (270 * n) ≡ 3) × (i % (270 * n) < 9 * n))
       → aus_byte n 1 (map (au_from n first second own) sources) i x ≡ picked_at n sources first second own i
   chosen_here sources first second own are part =
       let few : i % n < length sources = omega (arith, lane_in, are.many) in
@@ -159,7 +155,7 @@ module _ (rate : Rate) (i x : ℕ) (inside : i < size_of rate) where
       ∙ ap (λ a. au_byte n (i % n + 1) a i x) (get_or-map (au_from n first second own) sources (i % n) Ones ones few)
       ∙ of_source (get_or sources (i % n) Ones) first second own (are.each (i % n) lane_in) part
 
-  chosen_byte : (sources : List Source) (first second own : List ℕ) → AreSources n sources → aus_byte n 1 (map (au_from n first second own) sources) i x ≡ (if is_au_byte n i then picked_at n sources first second own i else x)
+  chosen_byte : (sources : List Source) (first second : List ℕ) (own : List (List ℕ)) → AreSources n sources → aus_byte n 1 (map (au_from n first second own) sources) i x ≡ (if is_au_byte n i then picked_at n sources first second own i else x)
   chosen_byte sources first second own are =
       elim (cases_lt (i % (270 * n)) (9 * n)) [
         | inl before ↦ (
@@ -171,23 +167,10 @@ module _ (rate : Rate) (i x : ℕ) (inside : i < size_of rate) where
         | inr behind ↦ (let a : leb (9 * n) (i % (270 * n)) ≡ true = le-leb _ _ behind in rw a (chosen_here sources first second own are (inl behind)))
       ]
 
-pub chosen_is : (rate : Rate) (sources : List Source) (first second own old new : List ℕ) → length old ≡ size_of rate → length new ≡ size_of rate → AreSources (n_of rate) sources
+pub chosen_is : (rate : Rate) (sources : List Source) (first second : List ℕ) (own : List (List ℕ)) (old new : List ℕ) → length old ≡ size_of rate → length new ≡ size_of rate → AreSources (n_of rate) sources
     → ((i : ℕ) → i < size_of rate → get_or new i 0 ≡ (if is_au_byte (n_of rate) i then picked_at (n_of rate) sources first second own i else get_or old i 0)) → new ≡ chosen (n_of rate) sources first second own old
 unfolding chosen
 chosen_is rate sources first second own old new whole len are h =
     ext_get_or 0 new (with_aus (n_of rate) 1 (map (au_from (n_of rate) first second own) sources) old) (len ∙ sym (length-with_aus rate 1 (map (au_from (n_of rate) first second own) sources) old whole)) (λ i lt.
     (let inside : i < size_of rate = omega (arith, len) in
     h i inside ∙ sym (at_aus rate 1 (map (au_from (n_of rate) first second own) sources) old i whole inside ∙ chosen_byte rate i (get_or old i 0) inside sources first second own are)))
-
-length-payload_in : (k : ℕ) (own : List ℕ) → 1 ≤ k → 2349 * k ≤ length own → length (payload_in k own) ≡ 2349
-length-payload_in k own low h = omega (arith, length-take (2349 * k - 2349 * (k - 1)) (drop (2349 * (k - 1)) own), length-drop (2349 * (k - 1)) own)
-
--- the payload of one AU-4 among those of half of them
-pub half_taken : (n h base au : ℕ) (bytes out : List ℕ) → base < au → au ≤ base + h → 2349 * h ≤ length out → ((a j : ℕ) → a < h → j < 2349 → get_or out (2349 * a + j) 0 ≡ get_or bytes (index_of n (payload_place n (base + a + 1) j)) 0)
-    → payload_in (au - base) out ≡ payload_of n au bytes
-half_taken n h base au bytes out low high len each =
-    let k : ℕ = au - base in
-    let whole : 2349 * k ≤ length out = omega arith in
-    taken n au bytes (payload_in k out) (length-payload_in k out (omega arith) whole) (λ j lt.
-    (let e : base + (k - 1) + 1 ≡ au = omega arith in
-    get_or-payload_in k out j (omega arith) lt ∙ each (k - 1) j (omega arith) lt ∙ ap (λ a. get_or bytes (index_of n (payload_place n a j)) 0) e))

@@ -4,3 +4,4 @@ pub mod Turning
 pub mod Sorts
 pub mod Pointing
 pub mod Fours
+pub mod Holding

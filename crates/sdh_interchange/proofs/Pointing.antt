@@ -112,13 +112,13 @@ point_more rate k ps aus bytes whole many h =
 
 -- ---- and with the AU-4s that were chosen
 
-same_payload : (n : ℕ) (first second own : List ℕ) (s : Source) → (au_from n first second own s).payload ≡ payload_from n first second own s
+same_payload : (n : ℕ) (first second : List ℕ) (own : List (List ℕ)) (s : Source) → (au_from n first second own s).payload ≡ payload_from n first second own s
 same_payload n first second own (First au) = refl
 same_payload n first second own (Second au) = refl
 same_payload n first second own (Own k) = refl
 same_payload n first second own Ones = refl
 
-pub all_pointed : (n : ℕ) (first second own : List ℕ) (sources : List Source) (ps : List (List ℕ)) → length sources ≡ n → pointed_to n ps (map (au_from n first second own) sources) ≡ assembled n first second own sources ps
+pub all_pointed : (n : ℕ) (first second : List ℕ) (own : List (List ℕ)) (sources : List Source) (ps : List (List ℕ)) → length sources ≡ n → pointed_to n ps (map (au_from n first second own) sources) ≡ assembled n first second own sources ps
 unfolding assembled
 all_pointed n first second own sources ps many =
     let f = au_from n first second own in

@@ -48,27 +48,25 @@ turned-four v long i j h small =
       ]
     ]
 
--- one row more of sixteen bytes from each of several places
-module _ (n : ℕ) (rows : List (List ℕ)) (s : List ℕ) (a from : ℕ) (many : length rows ≡ n) (small : a < n) (room : 2349 * a + from + 16 ≤ length s) where
-  pub put-rows : length (set rows a (chunk (2349 * a + from) 16 s)) ≡ n
+-- one row more, of sixteen bytes of one of several lists
+module _ (n : ℕ) (rows own : List (List ℕ)) (v : List ℕ) (a from : ℕ) (many : length rows ≡ n) (small : a < n) (long_v : length v ≡ 16) (each : (k : ℕ) → k < 16 → get_or v k 0 ≡ cell own a (from + k)) where
+  pub put-rows : length (set rows a v) ≡ n
   put-rows = length-set rows a _ ∙ many
 
-  put-here : get_or (set rows a (chunk (2349 * a + from) 16 s)) a [] ≡ chunk (2349 * a + from) 16 s
+  put-here : get_or (set rows a v) a [] ≡ v
   put-here = get_or-set_same rows a _ [] (omega arith)
 
-  pub put-lanes : ((i : ℕ) → i < n → length (get_or rows i []) ≡ 16) → (i : ℕ) → i < n → length (get_or (set rows a (chunk (2349 * a + from) 16 s)) i []) ≡ 16
+  pub put-lanes : ((i : ℕ) → i < n → length (get_or rows i []) ≡ 16) → (i : ℕ) → i < n → length (get_or (set rows a v) i []) ≡ 16
   put-lanes long i h =
       elim (cases_eq i a) [
-        | inl same ↦ ap (λ k. length (get_or (set rows a (chunk (2349 * a + from) 16 s)) k [])) same ∙ ap length put-here ∙ length-chunk (2349 * a + from) 16 s room
+        | inl same ↦ ap (λ k. length (get_or (set rows a v) k [])) same ∙ ap length put-here ∙ long_v
         | inr other ↦ ap length (get_or-set_other rows a i _ [] other) ∙ long i h
       ]
 
-  pub put-done : ((i k : ℕ) → i < a → k < 16 → cell rows i k ≡ get_or s (2349 * i + (from + k)) 0) → (i k : ℕ) → i < a + 1 → k < 16 → cell (set rows a (chunk (2349 * a + from) 16 s)) i k ≡ get_or s (2349 * i + (from + k)) 0
+  pub put-done : ((i k : ℕ) → i < a → k < 16 → cell rows i k ≡ cell own i (from + k)) → (i k : ℕ) → i < a + 1 → k < 16 → cell (set rows a v) i k ≡ cell own i (from + k)
   put-done done i k h lt =
       elim (cases_eq i a) [
-        | inl same ↦ (
-            let e : 2349 * a + from + k ≡ 2349 * i + (from + k) = omega arith in
-            ap (λ m. cell (set rows a (chunk (2349 * a + from) 16 s)) m k) same ∙ ap (λ l. get_or l k 0) put-here ∙ get_or-chunk (2349 * a + from) 16 s k 0 lt ∙ ap (λ m. get_or s m 0) e)
+        | inl same ↦ ap (λ m. cell (set rows a v) m k) same ∙ ap (λ l. get_or l k 0) put-here ∙ each k lt ∙ ap (λ m. cell own m (from + k)) (sym same)
         | inr other ↦ ap (λ l. get_or l k 0) (get_or-set_other rows a i _ [] other) ∙ done i k (omega arith) lt
       ]
 

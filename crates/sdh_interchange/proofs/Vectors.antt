@@ -64,7 +64,7 @@ pub column : (n at j au : ℕ) → (n ≡ 4) ⊎ (n ≡ 16) → at % n ≡ 0 →
 column n at j au (inl e) h = subst (λ m. at % m ≡ 0 → (at + (j - j % m + (au - 1)) ≡ at + j - (at + j) % m + (au - 1)) × (j % m ≡ (at + j) % m)) (sym e) (λ w. (omega arith, omega arith)) h
 column n at j au (inr e) h = subst (λ m. at % m ≡ 0 → (at + (j - j % m + (au - 1)) ≡ at + j - (at + j) % m + (au - 1)) × (j % m ≡ (at + j) % m)) (sym e) (λ w. (omega arith, omega arith)) h
 
-module _ (n at : ℕ) (first second own : List ℕ) (rate : (n ≡ 4) ⊎ (n ≡ 16)) (whole : at % n ≡ 0) where
+module _ (n at : ℕ) (first second : List ℕ) (own : List (List ℕ)) (rate : (n ≡ 4) ⊎ (n ≡ 16)) (whole : at % n ≡ 0) where
   lane : (s : Source) (fs ss : List ℕ) (j c o x : ℕ) → j < 16 → length fs ≡ 16 → length ss ≡ 16 → IsLane n s j (get_or fs j 0) (get_or ss j 0) c o → IsExtra n s own (at + j) x
       → bit_or (bit_or (get_or (swz_l w8 16 (chunk at 16 first) 0 fs) j 0) (get_or (swz_l w8 16 (chunk at 16 second) 0 ss) j 0)) x ≡ picked n s first second own (at + j)
   lane (First au) fs ss j c o x h lf ls is more =

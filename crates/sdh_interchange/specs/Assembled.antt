@@ -7,16 +7,15 @@ use Rattle.sdh_interchange.specs.declared.choose.Source.TheVariants.{First, Seco
 use Rattle.sdh_frame.specs.Aus.{Au, payload_of}
 use Rattle.sdh_interchange.specs.Choosing.{payload_in}
 
--- the payload that a source stands for: that of an AU-4 of the first frame, of one of the second, one of those that stand one
--- after the other, or ones
-abbrev pub payload_from : ℕ → List ℕ → List ℕ → List ℕ → Source → List ℕ
+-- the payload that a source stands for: that of an AU-4 of the first frame, of one of the second, an own one, or ones
+abbrev pub payload_from : ℕ → List ℕ → List ℕ → List (List ℕ) → Source → List ℕ
 payload_from n first second own (First au) = payload_of n au first
 payload_from n first second own (Second au) = payload_of n au second
 payload_from n first second own (Own k) = payload_in k own
 payload_from n first second own Ones = replicate 2349 0xFF
 
 -- the AU-4s with the payloads of these sources and these pointer bytes
-unfoldable pub assembled : ℕ → List ℕ → List ℕ → List ℕ → List Source → List (List ℕ) → List Au
+unfoldable pub assembled : ℕ → List ℕ → List ℕ → List (List ℕ) → List Source → List (List ℕ) → List Au
 assembled n first second own sources pointers = map_from (λ k s. record { pointers = slice_index_or pointers k []; payload = payload_from n first second own s }) 0 sources
 
 -- these AU-4s, of which the first k have other pointer bytes

@@ -1,25 +1,25 @@
--- A frame whose AU-4s come from two other frames or from payloads that stand one after the other, or are ones.
-use Rattle.std.specs.Prelude.{true, false, ℕ, ◌≡◌, ◌+◌, ◌*◌, ◌-◌, ◌/◌, ◌%◌, ◌==◌, ◌||◌, ◌⊎◌, ◌<◌, ◌≤◌, Bool, nat_le, if◌then◌else◌, List, map, length, slice_index, slice_index_or, slice_range, replicate}
+-- A frame whose AU-4s come from two other frames or from payloads of a node's own ports, or are ones.
+use Rattle.std.specs.Prelude.{true, false, ℕ, ◌≡◌, ◌+◌, ◌*◌, ◌-◌, ◌/◌, ◌%◌, ◌==◌, ◌||◌, ◌⊎◌, ◌<◌, ◌≤◌, Bool, nat_le, if◌then◌else◌, List, [], map, length, slice_index, slice_index_or, replicate}
 use Rattle.sdh_interchange.specs.declared.choose.Source.{Source}
 use Rattle.sdh_interchange.specs.declared.choose.Source.TheVariants.{First, Second, Own, Ones}
 use Rattle.sdh_frame.specs.Aus.{Au, au_of, with_aus, ones}
 
--- payload number k, from 1 on, of those that stand one after the other
-abbrev pub payload_in : ℕ → List ℕ → List ℕ
-payload_in k own = slice_range own (2349 * (k - 1)) (2349 * k)
+-- the own payload for AU-4 number k
+abbrev pub payload_in : ℕ → List (List ℕ) → List ℕ
+payload_in k own = slice_index_or own (k - 1) []
 
 -- the AU-4 that a source stands for: one of the first frame, one of the second, a payload with pointer bytes of zeros, or ones
-abbrev pub au_from : ℕ → List ℕ → List ℕ → List ℕ → Source → Au
+abbrev pub au_from : ℕ → List ℕ → List ℕ → List (List ℕ) → Source → Au
 au_from n first second own (First au) = au_of n au first
 au_from n first second own (Second au) = au_of n au second
 au_from n first second own (Own k) = record { pointers = replicate 9 0; payload = payload_in k own }
 au_from n first second own Ones = ones
 
 -- the frame whose AU-4s, from number 1 on, come from these sources
-unfoldable pub chosen : ℕ → List Source → List ℕ → List ℕ → List ℕ → List ℕ → List ℕ
+unfoldable pub chosen : ℕ → List Source → List ℕ → List ℕ → List (List ℕ) → List ℕ → List ℕ
 chosen n sources first second own bytes = with_aus n 1 (map (au_from n first second own) sources) bytes
 
--- a source of AU-4 number `to` of N: an AU-4 of either frame, the payload of the same number, or ones
+-- a source of AU-4 number `to` of N: an AU-4 of either frame, the own payload for it, or ones
 abbrev pub IsSource : ℕ → ℕ → Source → Type 0
 IsSource n to (First au) = (1 ≤ au) × (au ≤ n)
 IsSource n to (Second au) = (1 ≤ au) × (au ≤ n)
@@ -34,18 +34,18 @@ pub record AreSources (n : ℕ) (sources : List Source) : Type 0 where
 -- ---- byte by byte
 
 -- byte i of a frame with these payloads, whose pointer bytes are zeros
-unfoldable pub own_byte : ℕ → List ℕ → ℕ → ℕ
-own_byte n own i = if nat_le (9 * n) (i % (270 * n)) then slice_index own (2349 * (i % n) + (261 * (i / (270 * n)) + (i % (270 * n) - 9 * n) / n)) else 0
+unfoldable pub own_byte : ℕ → List (List ℕ) → ℕ → ℕ
+own_byte n own i = if nat_le (9 * n) (i % (270 * n)) then slice_index (slice_index_or own (i % n) []) (261 * (i / (270 * n)) + (i % (270 * n) - 9 * n) / n) else 0
 
 -- byte i of an AU-4 from a source
-abbrev pub picked : ℕ → Source → List ℕ → List ℕ → List ℕ → ℕ → ℕ
+abbrev pub picked : ℕ → Source → List ℕ → List ℕ → List (List ℕ) → ℕ → ℕ
 picked n (First au) first second own i = slice_index first (i - i % n + (au - 1))
 picked n (Second au) first second own i = slice_index second (i - i % n + (au - 1))
 picked n (Own k) first second own i = own_byte n own (i - i % n + (k - 1))
 picked n Ones first second own i = 0xFF
 
 -- the same by the sources of all AU-4s
-abbrev pub picked_at : ℕ → List Source → List ℕ → List ℕ → List ℕ → ℕ → ℕ
+abbrev pub picked_at : ℕ → List Source → List ℕ → List ℕ → List (List ℕ) → ℕ → ℕ
 picked_at n sources first second own i = picked n (slice_index_or sources (i % n) Ones) first second own i
 
 -- whether byte i of a frame is of an AU-4
@@ -72,19 +72,19 @@ pub record AreLanes (n : ℕ) (sources : List Source) (first second own more : L
   pub below : (j : ℕ) → j < 16 → 1 ≤ slice_index own j → j < upto
 
 -- what byte i gets besides the bytes of the two frames
-abbrev pub IsExtra : ℕ → Source → List ℕ → ℕ → ℕ → Type 0
+abbrev pub IsExtra : ℕ → Source → List (List ℕ) → ℕ → ℕ → Type 0
 IsExtra n (First au) own i x = x ≡ 0
 IsExtra n (Second au) own i x = x ≡ 0
 IsExtra n (Own k) own i x = x ≡ own_byte n own (i - i % n + (k - 1))
 IsExtra n Ones own i x = x ≡ 0xFF
 
 -- a vector of it for the sixteen bytes from a place on
-pub record AreExtra (n : ℕ) (sources : List Source) (own : List ℕ) (at : ℕ) (extra : List ℕ) : Type 0 where
+pub record AreExtra (n : ℕ) (sources : List Source) (own : List (List ℕ)) (at : ℕ) (extra : List ℕ) : Type 0 where
   pub long : length extra ≡ 16
   pub each : (j : ℕ) → j < 16 → IsExtra n (slice_index_or sources (j % n) Ones) own (at + j) (slice_index extra j)
 
 -- no payload is wanted at this byte, or its byte is zero
-abbrev pub IsPlain : ℕ → Source → List ℕ → ℕ → Type 0
+abbrev pub IsPlain : ℕ → Source → List (List ℕ) → ℕ → Type 0
 IsPlain n (First au) own i = Unit {0}
 IsPlain n (Second au) own i = Unit {0}
 IsPlain n (Own k) own i = own_byte n own (i - i % n + (k - 1)) ≡ 0

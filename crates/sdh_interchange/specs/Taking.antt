@@ -1,25 +1,35 @@
 -- Payloads that are kept once they have been taken out of a frame.
-use Rattle.std.specs.Prelude.{◌≡◌, ◌*◌, ◌-◌, ◌<◌, ◌≤◌, ℕ, nat_le, if◌then◌else◌, Bool, true, List}
+use Rattle.std.specs.Prelude.{◌≡◌, ◌+◌, ◌*◌, ◌-◌, ◌<◌, ◌≤◌, ◌⊎◌, ℕ, Bool, true, false, List, [], length, slice_index_or}
 use Rattle.sdh_frame.specs.Sizes.{Frame, n_of}
 use Rattle.sdh_frame.specs.Aus.{payload_of}
-use Rattle.sdh_interchange.specs.Choosing.{payload_in}
+
+-- ---- cells, by their places
+
+-- so many of them from a place on have room for a payload
+pub record HaveRoom (from count : ℕ) (cells : List (List ℕ)) : Type 0 where
+  pub many : from + count ≤ length cells
+  pub each : (a : ℕ) → a < count → length (slice_index_or cells (from + a) []) ≡ 2349
+
+-- only so many from a place on have changed, and none has more bytes or fewer
+pub record KeepsOthers (from count : ℕ) (old new : List (List ℕ)) : Type 0 where
+  pub many : length new ≡ length old
+  pub lengths : (a : ℕ) → length (slice_index_or new a []) ≡ length (slice_index_or old a [])
+  pub others : (a : ℕ) → (a < from) ⊎ (from + count ≤ a) → slice_index_or new a [] ≡ slice_index_or old a []
+
+-- ---- what has been taken
 
 pub record Held : Type 0 where
   -- N / 2
   pub half : ℕ
-  -- whether the payloads of AU-4s 1 to N / 2 have been taken, and where they stand one after the other
-  pub has_lower : Bool
-  pub lower : List ℕ
-  -- those of the others
-  pub has_upper : Bool
-  pub upper : List ℕ
+  -- by the number of the AU-4, less one: whether its payload stands here, and the bytes
+  pub here : List Bool
+  pub payloads : List (List ℕ)
 
--- whether the payload of an AU-4 has been taken
+-- whether the payload of an AU-4 stands here
 abbrev pub has : Held → ℕ → Bool
-has held au = if nat_le au held.half then held.has_lower else held.has_upper
+has held au = slice_index_or held.here (au - 1) false
 
--- what has been taken is this frame's
+-- what stands here is this frame's
 pub record IsOf (frame : Frame) (held : Held) : Type 0 where
   pub rate : 2 * held.half ≡ n_of frame.rate
-  pub lower : held.has_lower ≡ true → (au : ℕ) → 1 ≤ au → au ≤ held.half → payload_in au held.lower ≡ payload_of (n_of frame.rate) au frame.bytes
-  pub upper : held.has_upper ≡ true → (au : ℕ) → held.half < au → au ≤ 2 * held.half → payload_in (au - held.half) held.upper ≡ payload_of (n_of frame.rate) au frame.bytes
+  pub each : (au : ℕ) → 1 ≤ au → au ≤ 2 * held.half → has held au ≡ true → slice_index_or held.payloads (au - 1) [] ≡ payload_of (n_of frame.rate) au frame.bytes

@@ -1,25 +1,13 @@
 //! A frame is put together from the AU-4s of two others and from payloads of its own.
-ghost use Rattle.std.specs.Prelude.{◌≡◌, ◌≢◌, ℕ, List, ◌+◌, ◌*◌, ◌-◌, ◌≤◌, length};
+ghost use Rattle.std.specs.Prelude.{◌≡◌, ℕ, List, ◌+◌, ◌*◌, ◌-◌, ◌≤◌, length};
 ghost use Rattle.sdh_frame.specs.Sizes.{n_of, size_of};
 ghost use Rattle.sdh_frame.specs.Aus.{Au, with_aus};
-ghost use Rattle.sdh_interchange.specs.Choosing.{AreSources, payload_in};
+ghost use Rattle.sdh_interchange.specs.Choosing.{AreSources};
 ghost use Rattle.sdh_interchange.specs.Assembled.{assembled, pointed_to};
 
 use crate::choose::{Source, choose_aus};
+use crate::own::Payloads;
 use sdh_frame::FrameBuf;
-
-/// The payload of this number, from 1 on, of those that stand one after the other, becomes this one.
-pub fn put_own(own: &mut [u8], k: u16, payload: &[u8])
-    requires first { 1 ≤ k }
-    requires room { 2349 * k ≤ length own.old }
-    requires payload { length payload.now ≡ 2349 }
-    ensures here { payload_in k own.new ≡ payload.now }
-    ensures others { (m : ℕ) → 1 ≤ m → m ≢ k → payload_in m own.new ≡ payload_in m own.old }
-    ensures len { length own.new ≡ length own.old }
-{
-    let at = 2349 * (k as usize - 1);
-    own[at..at + 2349].copy_from_slice(payload);
-}
 
 // All AU-4s get these pointer bytes.
 fn point_all(frame: &mut FrameBuf, pointers: &[[u8; 9]])
@@ -33,20 +21,19 @@ fn point_all(frame: &mut FrameBuf, pointers: &[[u8; 9]])
     }
 }
 
-/// All AU-4s get the payloads of these sources and these pointer bytes; all overhead stays. `own` has N payloads.
+/// All AU-4s get the payloads of these sources and these pointer bytes; all overhead stays.
 pub fn assemble(
     frame: &mut FrameBuf,
     sources: &[Source],
     pointers: &[[u8; 9]],
     first: &FrameBuf,
     second: &FrameBuf,
-    own: &[u8],
+    own: &Payloads,
 )
     requires sources { AreSources (n_of frame.old.rate) sources.now }
     requires pointers { length pointers.now ≡ n_of frame.old.rate }
     requires first { first.now.rate ≡ frame.old.rate }
     requires second { second.now.rate ≡ frame.old.rate }
-    requires own { length own.now ≡ 2349 * n_of frame.old.rate }
     ensures { frame.new ≡ record frame.old { bytes = with_aus (n_of frame.old.rate) 1 (assembled (n_of frame.old.rate) first.now.bytes second.now.bytes own.now sources.now pointers.now) frame.old.bytes } }
 {
     // Reading it gives the proof what is true of every frame.

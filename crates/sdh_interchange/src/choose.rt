@@ -1,4 +1,4 @@
-//! All AU-4s of a frame in one pass: each comes from one of two other frames or from a payload, or is ones. The bytes of the
+//! All AU-4s of a frame in one pass: each comes from one of two other frames or from an own payload, or is ones. The bytes of the
 //! N AU-4s take turns, so sixteen neighbouring bytes are one column of all AU-4s (STM-16) or four (STM-4), and a lane of such
 //! a vector reads the same lane, or another one, of the vector at the same place in its source.
 ghost use Rattle.std.specs.Prelude.{◌≡◌, ℕ, ◌+◌, ◌*◌, ◌-◌, ◌/◌, ◌%◌, ◌<◌, ◌≤◌, ◌⊎◌, true, false, length, slice_index, slice_index_or, if◌then◌else◌};
@@ -8,6 +8,7 @@ ghost use Rattle.sdh_frame.specs.Sizes.{n_of, size_of};
 ghost use Rattle.sdh_interchange.specs.Choosing.{chosen, IsSource, AreSources, IsLane, is_passed, is_own, own_byte, picked_at, is_au_byte, AreLanes, AreExtra, IsPlain};
 ghost use Rattle.sdh_interchange.specs.Tables.{cell, IsTable};
 
+use crate::own::Payloads;
 use crate::table::{apart, transpose, transpose4, transpose8};
 use sdh_frame::{FrameBuf, Rate};
 use std::simd::prelude::*;
@@ -19,7 +20,7 @@ pub enum Source {
     First(u16),
     /// The AU-4 of this number of the second frame.
     Second(u16),
-    /// The payload of this number, 1 to N, of those that stand one after the other.
+    /// The own payload for the AU-4 of this number, which is its place.
     Own(u16),
     /// None: it becomes ones.
     Ones,
@@ -69,6 +70,7 @@ struct Lanes {
 }
 
 // One lane: where it reads, what it keeps, and what it adds.
+#[inline(always)]
 fn lane_of(n: usize, j: usize, source: Source) -> (u8, u8, u8, u8)
     requires rate { (n ≡ 4) ⊎ (n ≡ 16) }
     requires lane { j < 16 }
@@ -98,6 +100,8 @@ fn upto_of(own: &[u8; 16]) -> usize
     8
 }
 
+// All lanes. In the callers' code N is a constant.
+#[inline(always)]
 fn lanes_of(n: usize, sources: &[Source]) -> Lanes
     requires rate { (n ≡ 4) ⊎ (n ≡ 16) }
     requires sources { AreSources n sources.now }
@@ -131,7 +135,7 @@ fn store(
     at: usize,
     first: &[u8],
     second: &[u8],
-    own: &[u8],
+    own: &Payloads,
     extra: u8x16,
     n: usize,
     sources: &[Source],
@@ -159,7 +163,7 @@ fn store(
 fn with_own(
     at: usize,
     column: u8x16,
-    own: &[u8],
+    own: &Payloads,
     n: usize,
     sources: &[Source],
     lanes: &Lanes,
@@ -181,7 +185,7 @@ fn pass(
     to: usize,
     first: &[u8],
     second: &[u8],
-    own: &[u8],
+    own: &Payloads,
     n: usize,
     sources: &[Source],
     lanes: &Lanes,
@@ -223,7 +227,7 @@ fn store_own(
     at: usize,
     first: &[u8],
     second: &[u8],
-    own: &[u8],
+    own: &Payloads,
     extra: u8x16,
     n: usize,
     sources: &[Source],
@@ -248,7 +252,7 @@ fn blank(
     to: usize,
     first: &[u8],
     second: &[u8],
-    own: &[u8],
+    own: &Payloads,
     n: usize,
     sources: &[Source],
     lanes: &Lanes,
@@ -275,42 +279,39 @@ fn blank(
 
 // Sixteen columns of the payloads from byte `from` of each on.
 #[inline(always)]
-fn own16(own: &[u8], from: usize) -> [u8x16; 16]
-    requires size { length own.now ≡ 37584 }
+fn own16(own: &Payloads, from: usize) -> [u8x16; 16]
     requires room { from + 16 ≤ 2349 }
     ensures table { IsTable 16 result }
-    ensures each { (k a : ℕ) → k < 16 → a < 16 → cell result k a ≡ slice_index own.now (2349 * a + (from + k)) }
+    ensures each { (k a : ℕ) → k < 16 → a < 16 → cell result k a ≡ cell own.now a (from + k) }
 {
     let mut rows = [u8x16::splat(0); 16];
     for a in 0..16 {
-        rows[a] = u8x16::from_slice(&own[2349 * a + from..]);
+        rows[a] = own.sixteen(a, from);
     }
     transpose(rows)
 }
 
 // The same of the first eight payloads: the other lanes mean nothing.
 #[inline(always)]
-fn own8(own: &[u8], from: usize) -> [u8x16; 16]
-    requires size { length own.now ≡ 37584 }
+fn own8(own: &Payloads, from: usize) -> [u8x16; 16]
     requires room { from + 16 ≤ 2349 }
     ensures table { IsTable 16 result }
-    ensures each { (k a : ℕ) → k < 16 → a < 8 → cell result k a ≡ slice_index own.now (2349 * a + (from + k)) }
+    ensures each { (k a : ℕ) → k < 16 → a < 8 → cell result k a ≡ cell own.now a (from + k) }
 {
     let mut rows = [u8x16::splat(0); 8];
     for a in 0..8 {
-        rows[a] = u8x16::from_slice(&own[2349 * a + from..]);
+        rows[a] = own.sixteen(a, from);
     }
     apart(transpose8(rows))
 }
 
 // Sixteen columns of the payloads, as far as lanes below `upto` are read.
 #[inline(always)]
-fn columns16(own: &[u8], from: usize, upto: usize) -> [u8x16; 16]
-    requires size { length own.now ≡ 37584 }
+fn columns16(own: &Payloads, from: usize, upto: usize) -> [u8x16; 16]
     requires room { from + 16 ≤ 2349 }
     requires few { (upto ≡ 8) ⊎ (upto ≡ 16) }
     ensures table { IsTable 16 result }
-    ensures each { (k a : ℕ) → k < 16 → a < upto → cell result k a ≡ slice_index own.now (2349 * a + (from + k)) }
+    ensures each { (k a : ℕ) → k < 16 → a < upto → cell result k a ≡ cell own.now a (from + k) }
 {
     if upto == 8 {
         own8(own, from)
@@ -321,15 +322,14 @@ fn columns16(own: &[u8], from: usize, upto: usize) -> [u8x16; 16]
 
 // The same of four payloads: each vector has four columns.
 #[inline(always)]
-fn own4(own: &[u8], from: usize) -> [u8x16; 4]
-    requires size { length own.now ≡ 9396 }
+fn own4(own: &Payloads, from: usize) -> [u8x16; 4]
     requires room { from + 16 ≤ 2349 }
     ensures table { IsTable 4 result }
-    ensures each { (k j : ℕ) → k < 4 → j < 16 → cell result k j ≡ slice_index own.now (2349 * (j % 4) + (from + (4 * k + j / 4))) }
+    ensures each { (k j : ℕ) → k < 4 → j < 16 → cell result k j ≡ cell own.now (j % 4) (from + (4 * k + j / 4)) }
 {
     let mut rows = [u8x16::splat(0); 4];
     for a in 0..4 {
-        rows[a] = u8x16::from_slice(&own[2349 * a + from..]);
+        rows[a] = own.sixteen(a, from);
     }
     transpose4(rows)
 }
@@ -342,7 +342,7 @@ fn block16(
     c: usize,
     first: &[u8],
     second: &[u8],
-    own: &[u8],
+    own: &Payloads,
     sources: &[Source],
     lanes: &Lanes,
 )
@@ -351,7 +351,6 @@ fn block16(
     requires size { length bytes.old ≡ 38880 }
     requires first { length first.now ≡ 38880 }
     requires second { length second.now ≡ 38880 }
-    requires own { length own.now ≡ 37584 }
     requires lanes { AreLanes 16 sources.now lanes.now.first lanes.now.second lanes.now.own lanes.now.more lanes.now.upto }
     ensures before { (i : ℕ) → i < 4320 * r + (144 + 16 * c) → slice_index bytes.new i ≡ slice_index bytes.old i }
     ensures inside { (i : ℕ) → 4320 * r + (144 + 16 * c) ≤ i → i < 4320 * r + (400 + 16 * c) → slice_index bytes.new i ≡ picked_at 16 sources.now first.now second.now own.now i }
@@ -373,7 +372,7 @@ fn block4(
     c: usize,
     first: &[u8],
     second: &[u8],
-    own: &[u8],
+    own: &Payloads,
     sources: &[Source],
     lanes: &Lanes,
 )
@@ -382,7 +381,6 @@ fn block4(
     requires size { length bytes.old ≡ 9720 }
     requires first { length first.now ≡ 9720 }
     requires second { length second.now ≡ 9720 }
-    requires own { length own.now ≡ 9396 }
     requires lanes { AreLanes 4 sources.now lanes.now.first lanes.now.second lanes.now.own lanes.now.more lanes.now.upto }
     ensures before { (i : ℕ) → i < 1080 * r + (36 + 4 * c) → slice_index bytes.new i ≡ slice_index bytes.old i }
     ensures inside { (i : ℕ) → 1080 * r + (36 + 4 * c) ≤ i → i < 1080 * r + (100 + 4 * c) → slice_index bytes.new i ≡ picked_at 4 sources.now first.now second.now own.now i }
@@ -403,7 +401,7 @@ fn row4(
     r: usize,
     first: &[u8],
     second: &[u8],
-    own: &[u8],
+    own: &Payloads,
     sources: &[Source],
     lanes: &Lanes,
 )
@@ -411,7 +409,6 @@ fn row4(
     requires size { length bytes.old ≡ 9720 }
     requires first { length first.now ≡ 9720 }
     requires second { length second.now ≡ 9720 }
-    requires own { length own.now ≡ 9396 }
     requires lanes { AreLanes 4 sources.now lanes.now.first lanes.now.second lanes.now.own lanes.now.more lanes.now.upto }
     ensures before { (i : ℕ) → i < 1080 * r + 36 → slice_index bytes.new i ≡ slice_index bytes.old i }
     ensures inside { (i : ℕ) → 1080 * r + 36 ≤ i → i < 1080 * r + 1080 → slice_index bytes.new i ≡ picked_at 4 sources.now first.now second.now own.now i }
@@ -430,7 +427,7 @@ fn own_block4(
     c: usize,
     first: &[u8],
     second: &[u8],
-    own: &[u8],
+    own: &Payloads,
     sources: &[Source],
     lanes: &Lanes,
 )
@@ -439,7 +436,6 @@ fn own_block4(
     requires size { length bytes.old ≡ 9720 }
     requires first { length first.now ≡ 9720 }
     requires second { length second.now ≡ 9720 }
-    requires own { length own.now ≡ 9396 }
     requires many { length sources.now ≡ 4 }
     requires none { list_any is_passed sources.now ≡ false }
     requires lanes { AreLanes 4 sources.now lanes.now.first lanes.now.second lanes.now.own lanes.now.more lanes.now.upto }
@@ -461,7 +457,7 @@ fn own_row4(
     r: usize,
     first: &[u8],
     second: &[u8],
-    own: &[u8],
+    own: &Payloads,
     sources: &[Source],
     lanes: &Lanes,
 )
@@ -469,7 +465,6 @@ fn own_row4(
     requires size { length bytes.old ≡ 9720 }
     requires first { length first.now ≡ 9720 }
     requires second { length second.now ≡ 9720 }
-    requires own { length own.now ≡ 9396 }
     requires many { length sources.now ≡ 4 }
     requires none { list_any is_passed sources.now ≡ false }
     requires lanes { AreLanes 4 sources.now lanes.now.first lanes.now.second lanes.now.own lanes.now.more lanes.now.upto }
@@ -488,7 +483,7 @@ fn any_row4(
     r: usize,
     first: &[u8],
     second: &[u8],
-    own: &[u8],
+    own: &Payloads,
     sources: &[Source],
     lanes: &Lanes,
     passed: bool,
@@ -498,7 +493,6 @@ fn any_row4(
     requires size { length bytes.old ≡ 9720 }
     requires first { length first.now ≡ 9720 }
     requires second { length second.now ≡ 9720 }
-    requires own { length own.now ≡ 9396 }
     requires sources { AreSources 4 sources.now }
     requires passed { passed ≡ list_any is_passed sources.now }
     requires owned { owned ≡ list_any is_own sources.now }
@@ -545,7 +539,7 @@ fn own_block16(
     c: usize,
     first: &[u8],
     second: &[u8],
-    own: &[u8],
+    own: &Payloads,
     sources: &[Source],
     lanes: &Lanes,
 )
@@ -554,7 +548,6 @@ fn own_block16(
     requires size { length bytes.old ≡ 38880 }
     requires first { length first.now ≡ 38880 }
     requires second { length second.now ≡ 38880 }
-    requires own { length own.now ≡ 37584 }
     requires many { length sources.now ≡ 16 }
     requires none { list_any is_passed sources.now ≡ false }
     requires lanes { AreLanes 16 sources.now lanes.now.first lanes.now.second lanes.now.own lanes.now.more lanes.now.upto }
@@ -576,7 +569,7 @@ fn own_row16(
     r: usize,
     first: &[u8],
     second: &[u8],
-    own: &[u8],
+    own: &Payloads,
     sources: &[Source],
     lanes: &Lanes,
 )
@@ -584,7 +577,6 @@ fn own_row16(
     requires size { length bytes.old ≡ 38880 }
     requires first { length first.now ≡ 38880 }
     requires second { length second.now ≡ 38880 }
-    requires own { length own.now ≡ 37584 }
     requires many { length sources.now ≡ 16 }
     requires none { list_any is_passed sources.now ≡ false }
     requires lanes { AreLanes 16 sources.now lanes.now.first lanes.now.second lanes.now.own lanes.now.more lanes.now.upto }
@@ -603,7 +595,7 @@ fn any_row16(
     r: usize,
     first: &[u8],
     second: &[u8],
-    own: &[u8],
+    own: &Payloads,
     sources: &[Source],
     lanes: &Lanes,
     passed: bool,
@@ -613,7 +605,6 @@ fn any_row16(
     requires size { length bytes.old ≡ 38880 }
     requires first { length first.now ≡ 38880 }
     requires second { length second.now ≡ 38880 }
-    requires own { length own.now ≡ 37584 }
     requires sources { AreSources 16 sources.now }
     requires passed { passed ≡ list_any is_passed sources.now }
     requires owned { owned ≡ list_any is_own sources.now }
@@ -653,11 +644,10 @@ fn any_row16(
     }
 }
 
-fn choose4(bytes: &mut [u8], first: &[u8], second: &[u8], own: &[u8], sources: &[Source])
+fn choose4(bytes: &mut [u8], first: &[u8], second: &[u8], own: &Payloads, sources: &[Source])
     requires size { length bytes.old ≡ 9720 }
     requires first { length first.now ≡ 9720 }
     requires second { length second.now ≡ 9720 }
-    requires own { length own.now ≡ 9396 }
     requires sources { AreSources 4 sources.now }
     ensures { (i : ℕ) → i < 9720 → slice_index bytes.new i ≡ (if is_au_byte 4 i then picked_at 4 sources.now first.now second.now own.now i else slice_index bytes.old i) }
 {
@@ -676,7 +666,7 @@ fn row16(
     r: usize,
     first: &[u8],
     second: &[u8],
-    own: &[u8],
+    own: &Payloads,
     sources: &[Source],
     lanes: &Lanes,
 )
@@ -684,7 +674,6 @@ fn row16(
     requires size { length bytes.old ≡ 38880 }
     requires first { length first.now ≡ 38880 }
     requires second { length second.now ≡ 38880 }
-    requires own { length own.now ≡ 37584 }
     requires lanes { AreLanes 16 sources.now lanes.now.first lanes.now.second lanes.now.own lanes.now.more lanes.now.upto }
     ensures before { (i : ℕ) → i < 4320 * r + 144 → slice_index bytes.new i ≡ slice_index bytes.old i }
     ensures inside { (i : ℕ) → 4320 * r + 144 ≤ i → i < 4320 * r + 4320 → slice_index bytes.new i ≡ picked_at 16 sources.now first.now second.now own.now i }
@@ -696,11 +685,10 @@ fn row16(
     block16(bytes, r, 245, first, second, own, sources, lanes);
 }
 
-fn choose16(bytes: &mut [u8], first: &[u8], second: &[u8], own: &[u8], sources: &[Source])
+fn choose16(bytes: &mut [u8], first: &[u8], second: &[u8], own: &Payloads, sources: &[Source])
     requires size { length bytes.old ≡ 38880 }
     requires first { length first.now ≡ 38880 }
     requires second { length second.now ≡ 38880 }
-    requires own { length own.now ≡ 37584 }
     requires sources { AreSources 16 sources.now }
     ensures { (i : ℕ) → i < 38880 → slice_index bytes.new i ≡ (if is_au_byte 16 i then picked_at 16 sources.now first.now second.now own.now i else slice_index bytes.old i) }
 {
@@ -713,11 +701,17 @@ fn choose16(bytes: &mut [u8], first: &[u8], second: &[u8], own: &[u8], sources: 
     pass(bytes, 12960, 13104, first, second, own, 16, sources, &lanes);
 }
 
-fn choose(rate: Rate, bytes: &mut [u8], first: &[u8], second: &[u8], own: &[u8], sources: &[Source])
+fn choose(
+    rate: Rate,
+    bytes: &mut [u8],
+    first: &[u8],
+    second: &[u8],
+    own: &Payloads,
+    sources: &[Source],
+)
     requires size { length bytes.old ≡ size_of rate }
     requires first { length first.now ≡ size_of rate }
     requires second { length second.now ≡ size_of rate }
-    requires own { length own.now ≡ 2349 * n_of rate }
     requires sources { AreSources (n_of rate) sources.now }
     ensures { bytes.new ≡ chosen (n_of rate) sources.now first.now second.now own.now bytes.old }
 {
@@ -727,18 +721,17 @@ fn choose(rate: Rate, bytes: &mut [u8], first: &[u8], second: &[u8], own: &[u8],
     }
 }
 
-/// All AU-4s of a frame become those of their sources, in the order of their numbers; all overhead stays. `own` has N payloads.
+/// All AU-4s of a frame become those of their sources, in the order of their numbers; all overhead stays.
 pub(crate) fn choose_aus(
     frame: &mut FrameBuf,
     sources: &[Source],
     first: &FrameBuf,
     second: &FrameBuf,
-    own: &[u8],
+    own: &Payloads,
 )
     requires sources { AreSources (n_of frame.old.rate) sources.now }
     requires first { first.now.rate ≡ frame.old.rate }
     requires second { second.now.rate ≡ frame.old.rate }
-    requires own { length own.now ≡ 2349 * n_of frame.old.rate }
     ensures { frame.new ≡ record frame.old { bytes = chosen (n_of frame.old.rate) sources.now first.now.bytes second.now.bytes own.now frame.old.bytes } }
 {
     let rate = frame.rate();

@@ -1,12 +1,14 @@
-//! All AU-4s of a frame in one pass: each comes from one of two other frames or from a payload, or is ones.
+//! All AU-4s of a frame in one pass: each comes from one of two other frames or from an own payload, or is ones.
 #![tactic(auto)]
 
 mod assembling;
 mod choose;
+mod own;
 mod payloads;
 mod table;
 mod taken;
 
-pub use assembling::{assemble, put_own};
+pub use assembling::assemble;
 pub use choose::Source;
+pub use own::Payloads;
 pub use taken::Taken;

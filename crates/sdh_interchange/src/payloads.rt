@@ -1,13 +1,14 @@
-//! The payloads of half of the AU-4s of a frame at once, sixteen columns at a time.
-ghost use Rattle.std.specs.Prelude.{◌≡◌, ℕ, ◌+◌, ◌*◌, ◌-◌, ◌/◌, ◌%◌, ◌<◌, ◌≤◌, ◌⊎◌, length, slice_index};
+//! The payloads of half of the AU-4s of a frame at once, sixteen columns at a time, each into cells of its own.
+ghost use Rattle.std.specs.Prelude.{◌≡◌, ◌≢◌, ℕ, ◌+◌, ◌*◌, ◌-◌, ◌/◌, ◌%◌, ◌<◌, ◌≤◌, ◌⊎◌, [], length, slice_index, slice_index_or};
 ghost use Rattle.sdh_frame.specs.Sizes.{n_of, size_of};
 ghost use Rattle.sdh_frame.specs.Fields.{index_of, payload_place};
 ghost use Rattle.sdh_frame.specs.Aus.{payload_of};
-ghost use Rattle.sdh_interchange.specs.Choosing.{payload_in};
 ghost use Rattle.sdh_interchange.specs.Tables.{cell, IsTable};
+ghost use Rattle.sdh_interchange.specs.Taking.{HaveRoom, KeepsOthers};
 
 use crate::table::{lane4, lanes_from};
 use sdh_frame::Rate;
+use sdh_payload::Cells;
 use std::simd::prelude::*;
 
 // Sixteen bytes become these.
@@ -17,9 +18,23 @@ fn put(out: &mut [u8], at: usize, lanes: u8x16)
     requires room { at + 16 ≤ length out.old }
     ensures before { (i : ℕ) → i < at → slice_index out.new i ≡ slice_index out.old i }
     ensures inside { (k : ℕ) → k < 16 → slice_index out.new (at + k) ≡ slice_index lanes k }
-    ensures after { (i : ℕ) → at + 16 ≤ i → slice_index out.new i ≡ slice_index out.old i }
+    ensures len { length out.new ≡ length out.old }
 {
     lanes.copy_to_slice(&mut out[at..]);
+}
+
+// Sixteen bytes of one payload become these.
+#[inline(always)]
+fn put_in(out: &mut [Cells], a: usize, at: usize, lanes: u8x16)
+    requires long { length lanes ≡ 16 }
+    requires there { a < length out.old }
+    requires room { at + 16 ≤ length (slice_index_or out.old a []) }
+    ensures before { (i : ℕ) → i < at → cell out.new a i ≡ cell out.old a i }
+    ensures inside { (k : ℕ) → k < 16 → cell out.new a (at + k) ≡ slice_index lanes k }
+    ensures keeps { KeepsOthers a 1 out.old out.new }
+{
+    let payload = &mut out[a];
+    put(payload.as_mut_slice(), at, lanes);
 }
 
 // 4 vectors from a place on.
@@ -38,31 +53,33 @@ fn load4(bytes: &[u8], at: usize) -> [u8x16; 4]
 
 // Sixteen columns of row r, from payload column c on.
 #[inline(always)]
-fn take_block4(bytes: &[u8], base: usize, r: usize, c: usize, out: &mut [u8])
+fn take_block4(bytes: &[u8], base: usize, r: usize, c: usize, out: &mut [Cells])
     requires base { base ≤ 2 }
     requires row { r < 9 }
     requires column { c ≤ 245 }
     requires size { length bytes.now ≡ 9720 }
-    requires out { 4698 ≤ length out.old }
-    ensures before { (a j : ℕ) → a < 2 → j < 261 * r + c → slice_index out.new (2349 * a + j) ≡ slice_index out.old (2349 * a + j) }
-    ensures inside { (a k : ℕ) → a < 2 → k < 16 → slice_index out.new (2349 * a + (261 * r + c + k)) ≡ slice_index bytes.now (1080 * r + (36 + 4 * (c + k)) + (base + a)) }
+    requires room { HaveRoom base 2 out.old }
+    ensures before { (a j : ℕ) → a < 2 → j < 261 * r + c → cell out.new (base + a) j ≡ cell out.old (base + a) j }
+    ensures inside { (a k : ℕ) → a < 2 → k < 16 → cell out.new (base + a) (261 * r + c + k) ≡ slice_index bytes.now (1080 * r + (36 + 4 * (c + k)) + (base + a)) }
+    ensures keeps { KeepsOthers base 2 out.old out.new }
 {
     let at = 1080 * r + (36 + 4 * c);
     let from = 261 * r + c;
     let rows = load4(bytes, at);
     for a in 0..2 {
-        put(out, 2349 * a + from, lane4(rows, base + a));
+        put_in(out, base + a, from, lane4(rows, base + a));
     }
 }
 
 #[inline(always)]
-fn take_row4(bytes: &[u8], base: usize, r: usize, out: &mut [u8])
+fn take_row4(bytes: &[u8], base: usize, r: usize, out: &mut [Cells])
     requires base { base ≤ 2 }
     requires row { r < 9 }
     requires size { length bytes.now ≡ 9720 }
-    requires out { 4698 ≤ length out.old }
-    ensures before { (a j : ℕ) → a < 2 → j < 261 * r → slice_index out.new (2349 * a + j) ≡ slice_index out.old (2349 * a + j) }
-    ensures inside { (a k : ℕ) → a < 2 → k < 261 → slice_index out.new (2349 * a + (261 * r + k)) ≡ slice_index bytes.now (1080 * r + (36 + 4 * k) + (base + a)) }
+    requires room { HaveRoom base 2 out.old }
+    ensures before { (a j : ℕ) → a < 2 → j < 261 * r → cell out.new (base + a) j ≡ cell out.old (base + a) j }
+    ensures inside { (a k : ℕ) → a < 2 → k < 261 → cell out.new (base + a) (261 * r + k) ≡ slice_index bytes.now (1080 * r + (36 + 4 * k) + (base + a)) }
+    ensures keeps { KeepsOthers base 2 out.old out.new }
 {
     for b in 0..16 {
         take_block4(bytes, base, r, 16 * b, out);
@@ -71,11 +88,12 @@ fn take_row4(bytes: &[u8], base: usize, r: usize, out: &mut [u8])
 }
 
 #[inline(always)]
-fn take4(bytes: &[u8], base: usize, out: &mut [u8])
+fn take4(bytes: &[u8], base: usize, out: &mut [Cells])
     requires base { base ≤ 2 }
     requires size { length bytes.now ≡ 9720 }
-    requires out { 4698 ≤ length out.old }
-    ensures { (a j : ℕ) → a < 2 → j < 2349 → slice_index out.new (2349 * a + j) ≡ slice_index bytes.now (index_of 4 (payload_place 4 (base + a + 1) j)) }
+    requires room { HaveRoom base 2 out.old }
+    ensures payloads { (a j : ℕ) → a < 2 → j < 2349 → cell out.new (base + a) j ≡ slice_index bytes.now (index_of 4 (payload_place 4 (base + a + 1) j)) }
+    ensures keeps { KeepsOthers base 2 out.old out.new }
 {
     for r in 0..9 {
         take_row4(bytes, base, r, out);
@@ -98,31 +116,33 @@ fn load16(bytes: &[u8], at: usize) -> [u8x16; 16]
 
 // Sixteen columns of row r, from payload column c on.
 #[inline(always)]
-fn take_block16(bytes: &[u8], base: usize, r: usize, c: usize, out: &mut [u8])
+fn take_block16(bytes: &[u8], base: usize, r: usize, c: usize, out: &mut [Cells])
     requires base { (base ≡ 0) ⊎ (base ≡ 8) }
     requires row { r < 9 }
     requires column { c ≤ 245 }
     requires size { length bytes.now ≡ 38880 }
-    requires out { 18792 ≤ length out.old }
-    ensures before { (a j : ℕ) → a < 8 → j < 261 * r + c → slice_index out.new (2349 * a + j) ≡ slice_index out.old (2349 * a + j) }
-    ensures inside { (a k : ℕ) → a < 8 → k < 16 → slice_index out.new (2349 * a + (261 * r + c + k)) ≡ slice_index bytes.now (4320 * r + (144 + 16 * (c + k)) + (base + a)) }
+    requires room { HaveRoom base 8 out.old }
+    ensures before { (a j : ℕ) → a < 8 → j < 261 * r + c → cell out.new (base + a) j ≡ cell out.old (base + a) j }
+    ensures inside { (a k : ℕ) → a < 8 → k < 16 → cell out.new (base + a) (261 * r + c + k) ≡ slice_index bytes.now (4320 * r + (144 + 16 * (c + k)) + (base + a)) }
+    ensures keeps { KeepsOthers base 8 out.old out.new }
 {
     let at = 4320 * r + (144 + 16 * c);
     let from = 261 * r + c;
     let payloads = lanes_from(load16(bytes, at), base);
     for a in 0..8 {
-        put(out, 2349 * a + from, payloads[a]);
+        put_in(out, base + a, from, payloads[a]);
     }
 }
 
 #[inline(always)]
-fn take_row16(bytes: &[u8], base: usize, r: usize, out: &mut [u8])
+fn take_row16(bytes: &[u8], base: usize, r: usize, out: &mut [Cells])
     requires base { (base ≡ 0) ⊎ (base ≡ 8) }
     requires row { r < 9 }
     requires size { length bytes.now ≡ 38880 }
-    requires out { 18792 ≤ length out.old }
-    ensures before { (a j : ℕ) → a < 8 → j < 261 * r → slice_index out.new (2349 * a + j) ≡ slice_index out.old (2349 * a + j) }
-    ensures inside { (a k : ℕ) → a < 8 → k < 261 → slice_index out.new (2349 * a + (261 * r + k)) ≡ slice_index bytes.now (4320 * r + (144 + 16 * k) + (base + a)) }
+    requires room { HaveRoom base 8 out.old }
+    ensures before { (a j : ℕ) → a < 8 → j < 261 * r → cell out.new (base + a) j ≡ cell out.old (base + a) j }
+    ensures inside { (a k : ℕ) → a < 8 → k < 261 → cell out.new (base + a) (261 * r + k) ≡ slice_index bytes.now (4320 * r + (144 + 16 * k) + (base + a)) }
+    ensures keeps { KeepsOthers base 8 out.old out.new }
 {
     for b in 0..16 {
         take_block16(bytes, base, r, 16 * b, out);
@@ -131,11 +151,12 @@ fn take_row16(bytes: &[u8], base: usize, r: usize, out: &mut [u8])
 }
 
 #[inline(always)]
-fn take16(bytes: &[u8], base: usize, out: &mut [u8])
+fn take16(bytes: &[u8], base: usize, out: &mut [Cells])
     requires base { (base ≡ 0) ⊎ (base ≡ 8) }
     requires size { length bytes.now ≡ 38880 }
-    requires out { 18792 ≤ length out.old }
-    ensures { (a j : ℕ) → a < 8 → j < 2349 → slice_index out.new (2349 * a + j) ≡ slice_index bytes.now (index_of 16 (payload_place 16 (base + a + 1) j)) }
+    requires room { HaveRoom base 8 out.old }
+    ensures payloads { (a j : ℕ) → a < 8 → j < 2349 → cell out.new (base + a) j ≡ slice_index bytes.now (index_of 16 (payload_place 16 (base + a + 1) j)) }
+    ensures keeps { KeepsOthers base 8 out.old out.new }
 {
     for r in 0..9 {
         take_row16(bytes, base, r, out);
@@ -143,11 +164,12 @@ fn take16(bytes: &[u8], base: usize, out: &mut [u8])
 }
 
 // The lower or the upper half: code of its own for each, in which the lanes are constants.
-fn take_half4(bytes: &[u8], base: usize, out: &mut [u8])
+fn take_half4(bytes: &[u8], base: usize, out: &mut [Cells])
     requires base { (base ≡ 0) ⊎ (base ≡ 2) }
     requires size { length bytes.now ≡ 9720 }
-    requires out { 4698 ≤ length out.old }
-    ensures { (a j : ℕ) → a < 2 → j < 2349 → slice_index out.new (2349 * a + j) ≡ slice_index bytes.now (index_of 4 (payload_place 4 (base + a + 1) j)) }
+    requires room { HaveRoom base 2 out.old }
+    ensures payloads { (a j : ℕ) → a < 2 → j < 2349 → cell out.new (base + a) j ≡ slice_index bytes.now (index_of 4 (payload_place 4 (base + a + 1) j)) }
+    ensures keeps { KeepsOthers base 2 out.old out.new }
 {
     if base == 0 {
         take4(bytes, 0, out);
@@ -156,11 +178,12 @@ fn take_half4(bytes: &[u8], base: usize, out: &mut [u8])
     }
 }
 
-fn take_half16(bytes: &[u8], base: usize, out: &mut [u8])
+fn take_half16(bytes: &[u8], base: usize, out: &mut [Cells])
     requires base { (base ≡ 0) ⊎ (base ≡ 8) }
     requires size { length bytes.now ≡ 38880 }
-    requires out { 18792 ≤ length out.old }
-    ensures { (a j : ℕ) → a < 8 → j < 2349 → slice_index out.new (2349 * a + j) ≡ slice_index bytes.now (index_of 16 (payload_place 16 (base + a + 1) j)) }
+    requires room { HaveRoom base 8 out.old }
+    ensures payloads { (a j : ℕ) → a < 8 → j < 2349 → cell out.new (base + a) j ≡ slice_index bytes.now (index_of 16 (payload_place 16 (base + a + 1) j)) }
+    ensures keeps { KeepsOthers base 8 out.old out.new }
 {
     if base == 0 {
         take16(bytes, 0, out);
@@ -169,12 +192,13 @@ fn take_half16(bytes: &[u8], base: usize, out: &mut [u8])
     }
 }
 
-// The payloads of half of the AU-4s, those behind the first `base`.
-pub(crate) fn take(rate: Rate, bytes: &[u8], base: usize, out: &mut [u8])
+// The payloads of half of the AU-4s, those behind the first `base`, each into the cells in its place.
+pub(crate) fn take(rate: Rate, bytes: &[u8], base: usize, out: &mut [Cells])
     requires base { (base ≡ 0) ⊎ (2 * base ≡ n_of rate) }
     requires size { length bytes.now ≡ size_of rate }
-    requires out { 2349 * n_of rate ≤ 2 * length out.old }
-    ensures { (au : ℕ) → base < au → 2 * au ≤ 2 * base + n_of rate → payload_in (au - base) out.new ≡ payload_of (n_of rate) au bytes.now }
+    requires room { HaveRoom base (n_of rate / 2) out.old }
+    ensures payloads { (au : ℕ) → base < au → 2 * au ≤ 2 * base + n_of rate → slice_index_or out.new (au - 1) [] ≡ payload_of (n_of rate) au bytes.now }
+    ensures keeps { KeepsOthers base (n_of rate / 2) out.old out.new }
 {
     match rate {
         Rate::Four => take_half4(bytes, base, out),

@@ -1,24 +1,22 @@
-//! Payloads that are taken out of a frame half of the AU-4s at a time, when the first of them is asked for.
-ghost use Rattle.std.specs.Prelude.{◌≡◌, ◌*◌, ◌≤◌, true, IfOk, length};
+//! Payloads that are taken out of a frame half of the AU-4s at a time, when one of them is asked for.
+ghost use Rattle.std.specs.Prelude.{◌≡◌, ℕ, ◌+◌, ◌*◌, ◌-◌, ◌<◌, ◌≤◌, ◌⊎◌, true, false, IfOk, [], length, slice_index_or};
 ghost use Rattle.sdh_frame.specs.Sizes.{Frame, n_of};
 ghost use Rattle.sdh_frame.specs.Aus.{payload_of};
-ghost use Rattle.sdh_interchange.specs.Choosing.{payload_in};
-ghost use Rattle.sdh_interchange.specs.Taking.{IsOf, has};
+ghost use Rattle.sdh_interchange.specs.Taking.{HaveRoom, KeepsOthers, IsOf, has};
 
 use crate::payloads::take;
 use sdh_frame::FrameBuf;
+use sdh_payload::Cells;
 use std::alloc::{AllocError, Global};
 use std::fmt;
 use std::marker::Model;
 
-/// The payloads of a frame that have been taken out of it.
+/// The payloads of a frame that have been taken out of it and not been given away.
 #[derive(Drop)]
 pub struct Taken {
     half: usize,
-    has_lower: bool,
-    lower: Vec<u8>,
-    has_upper: bool,
-    upper: Vec<u8>,
+    here: [bool; 16],
+    payloads: Vec<Cells>,
 }
 
 impl Model for Taken {
@@ -27,12 +25,12 @@ impl Model for Taken {
 
     ghost Value = { Held };
 
-    ghost view = { λ t. record { half = t.half; has_lower = t.has_lower; lower = t.lower.items; has_upper = t.has_upper; upper = t.upper.items } };
+    ghost view = { λ t. record { half = t.half; here = t.here; payloads = t.payloads.items } };
 
     ghost invariant = { λ t. record {
       few : t.half ≤ 8;
-      lower : length t.lower.items ≡ 18792;
-      upper : length t.upper.items ≡ 18792;
+      here : length t.here ≡ 16;
+      payloads : length t.payloads.items ≡ 16;
     } };
 }
 
@@ -42,21 +40,40 @@ impl fmt::Debug for Taken {
     }
 }
 
-// Room for eight payloads.
-fn room(alloc: Global) -> Result<Vec<u8>, AllocError>
-    ensures { IfOk result (λ bytes. length bytes.items ≡ 18792) }
+// Cells for sixteen payloads.
+fn sixteen_cells(alloc: Global) -> Result<Vec<Cells>, AllocError>
+    ensures { IfOk result (λ v. length v.items ≡ 16) }
 {
-    vec![in alloc; 0; 18792]
+    let mut cells = Vec::with_capacity(alloc, 16)?;
+    'cells: for _cell in 0..16usize {
+        cells.push(Cells::try_new(alloc)?)?;
+    }
+    Ok(cells)
 }
 
-// One of the payloads that stand one after the other.
-fn payload_at(all: &[u8], k: usize) -> &[u8]
-    requires first { 1 ≤ k }
-    requires last { 2349 * k ≤ length all.now }
-    ensures payload { result.now ≡ payload_in k all.now }
-    ensures len { length result.now ≡ 2349 }
+// So many cells from a place on get room for a payload each.
+fn make_room(cells: &mut [Cells], from: usize, count: usize)
+    requires { from + count ≤ length cells.old }
+    ensures room { HaveRoom from count cells.new }
+    ensures many { length cells.new ≡ length cells.old }
+    ensures others { (a : ℕ) → (a < from) ⊎ (from + count ≤ a) → slice_index_or cells.new a [] ≡ slice_index_or cells.old a [] }
 {
-    &all[2349 * (k - 1)..2349 * k]
+    for a in 0..count {
+        let payload = &mut cells[from + a];
+        payload.make_room(2349);
+    }
+}
+
+// So many marks from a place on are set.
+fn mark(here: &mut [bool], from: usize, count: usize)
+    requires { from + count ≤ length here.old }
+    ensures inside { (a : ℕ) → a < count → slice_index_or here.new (from + a) false ≡ true }
+    ensures others { (a : ℕ) → (a < from) ⊎ (from + count ≤ a) → slice_index_or here.new a false ≡ slice_index_or here.old a false }
+    ensures many { length here.new ≡ length here.old }
+{
+    for a in 0..count {
+        here[from + a] = true;
+    }
 }
 
 impl Taken {
@@ -64,10 +81,8 @@ impl Taken {
     pub fn try_new(alloc: Global) -> Result<Taken, AllocError> {
         Ok(Taken {
             half: 0,
-            has_lower: false,
-            lower: room(alloc)?,
-            has_upper: false,
-            upper: room(alloc)?,
+            here: [false; 16],
+            payloads: sixteen_cells(alloc)?,
         })
     }
 
@@ -76,72 +91,56 @@ impl Taken {
         ensures { IsOf frame.now self.new }
     {
         self.half = frame.rate().n() / 2;
-        self.has_lower = false;
-        self.has_upper = false;
+        self.here = [false; 16];
     }
 
-    // The payloads of AU-4s 1 to N / 2.
-    fn take_lower(&mut self, frame: &FrameBuf)
-        requires { IsOf frame.now self.old }
+    // The payloads of half of the AU-4s, those behind the first `base`.
+    fn take(&mut self, frame: &FrameBuf, base: usize)
+        requires held { IsOf frame.now self.old }
+        requires base { (base ≡ 0) ⊎ (base ≡ self.old.half) }
         ensures held { IsOf frame.now self.new }
-        ensures here { self.new.has_lower ≡ true }
+        ensures here { (au : ℕ) → base < au → au ≤ base + self.old.half → has self.new au ≡ true }
         ensures half { self.new.half ≡ self.old.half }
     {
-        if self.has_lower {
-            return;
-        }
-        take(frame.rate(), frame.bytes(), 0, self.lower.as_mut_slice());
-        self.has_lower = true;
-    }
-
-    // Those of the others.
-    fn take_upper(&mut self, frame: &FrameBuf)
-        requires { IsOf frame.now self.old }
-        ensures held { IsOf frame.now self.new }
-        ensures here { self.new.has_upper ≡ true }
-        ensures half { self.new.half ≡ self.old.half }
-    {
-        if self.has_upper {
-            return;
-        }
+        make_room(self.payloads.as_mut_slice(), base, self.half);
         take(
             frame.rate(),
             frame.bytes(),
-            self.half,
-            self.upper.as_mut_slice(),
+            base,
+            self.payloads.as_mut_slice(),
         );
-        self.has_upper = true;
+        mark(&mut self.here, base, self.half);
     }
 
-    /// Takes out the payload of an AU-4 of the frame, 1 to N, with those of half of the AU-4s.
-    pub fn take(&mut self, frame: &FrameBuf, au: u16)
+    // Has the payload of an AU-4 taken out, with those of half of the AU-4s.
+    fn provide(&mut self, frame: &FrameBuf, au: usize)
         requires held { IsOf frame.now self.old }
         requires first { 1 ≤ au }
-        requires last { au ≤ n_of frame.now.rate }
+        requires last { au ≤ 2 * self.old.half }
         ensures held { IsOf frame.now self.new }
         ensures here { has self.new au ≡ true }
         ensures half { self.new.half ≡ self.old.half }
     {
-        if au as usize <= self.half {
-            self.take_lower(frame);
-        } else {
-            self.take_upper(frame);
+        if self.here[au - 1] {
+            return;
         }
+        let base = if au <= self.half { 0 } else { self.half };
+        self.take(frame, base);
     }
 
-    /// A payload that has been taken out, of the frame that it is of.
-    pub fn payload(&self, au: u16) -> &[u8]
+    /// Gives the payload of an AU-4 of the frame, 1 to N, in place of the bytes in `out`, without a copy. It is taken out of the
+    /// frame with those of half of the AU-4s where it doesn't stand here.
+    pub fn give(&mut self, frame: &FrameBuf, au: u16, out: &mut Cells)
+        requires held { IsOf frame.now self.old }
         requires first { 1 ≤ au }
-        requires last { au ≤ 2 * self.now.half }
-        requires here { has self.now au ≡ true }
-        ensures payload { (frame : Frame) → IsOf frame self.now → result.now ≡ payload_of (n_of frame.rate) au frame.bytes }
-        ensures len { length result.now ≡ 2349 }
+        requires last { au ≤ n_of frame.now.rate }
+        ensures held { IsOf frame.now self.new }
+        ensures payload { out.new ≡ payload_of (n_of frame.now.rate) au frame.now.bytes }
+        ensures full { length out.new ≡ 2349 }
     {
         let au = au as usize;
-        if au <= self.half {
-            payload_at(&self.lower, au)
-        } else {
-            payload_at(&self.upper, au - self.half)
-        }
+        self.provide(frame, au);
+        std::mem::swap(&mut self.payloads[au - 1], out);
+        self.here[au - 1] = false;
     }
 }

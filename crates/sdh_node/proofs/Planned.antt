@@ -22,23 +22,23 @@ bytes_there x West = refl
 bytes_there x East = refl
 
 -- AU-4 number `to` is this one, by its source and its pointer bytes
-pub record IsPlanned (x : Cross) (own : List ℕ) (to : ℕ) (s : Source) (ps : List ℕ) (au : Au) : Type 0 where
+pub record IsPlanned (x : Cross) (own : List (List ℕ)) (to : ℕ) (s : Source) (ps : List ℕ) (au : Au) : Type 0 where
   pub source : IsSource (n_of x.west.section.rate) to s
   pub pointers : ps ≡ au.pointers
   pub payload : payload_by x own s ≡ au.payload
 
 -- the first k are those that are sent
-abbrev pub ArePlanned : Cross → List ℕ → (ℕ → Input) → List (Option ℕ) → List Source → List (List ℕ) → ℕ → Type 0
+abbrev pub ArePlanned : Cross → List (List ℕ) → (ℕ → Input) → List (Option ℕ) → List Source → List (List ℕ) → ℕ → Type 0
 ArePlanned x own input states sources pointers k = (j : ℕ) → j < k → IsPlanned x own (j + 1) (get_or sources j Ones) (get_or pointers j []) (au_sent (get_or states j None) (input (j + 1)))
 
 -- the own payload of an AU-4 is that of its number
-payload_kept : (n to : ℕ) (west east own later : List ℕ) (s : Source) → IsSource n to s → payload_in to later ≡ payload_in to own → payload_from n west east later s ≡ payload_from n west east own s
+payload_kept : (n to : ℕ) (west east : List ℕ) (own later : List (List ℕ)) (s : Source) → IsSource n to s → payload_in to later ≡ payload_in to own → payload_from n west east later s ≡ payload_from n west east own s
 payload_kept n to west east own later (First au) is h = refl
 payload_kept n to west east own later (Second au) is h = refl
 payload_kept n to west east own later (Own k) is h = ap (λ m. payload_in m later) is ∙ h ∙ ap (λ m. payload_in m own) (sym is)
 payload_kept n to west east own later Ones is h = refl
 
-module _ (x : Cross) (own later : List ℕ) (input : ℕ → Input) (states : List (Option ℕ)) where
+module _ (x : Cross) (own later : List (List ℕ)) (input : ℕ → Input) (states : List (Option ℕ)) where
   plan_kept : (to : ℕ) (s : Source) (ps : List ℕ) (au : Au) → payload_in to later ≡ payload_in to own → IsPlanned x own to s ps au → IsPlanned x later to s ps au
   plan_kept to s ps au h is = record {
     source = is.source;
@@ -61,7 +61,7 @@ module _ (x : Cross) (own later : List ℕ) (input : ℕ → Input) (states : Li
             (plan_kept (j + 1) (get_or sources j Ones) (get_or pointers j []) (au_sent (get_or states j None) (input (j + 1))) same (done j before))))
       ]
 
-module _ (x : Cross) (own : List ℕ) (input : ℕ → Input) (states : List (Option ℕ)) (sources : List Source) (pointers : List (List ℕ)) (n : ℕ) (rate : n_of x.west.section.rate ≡ n) (many : length sources ≡ n) (done : ArePlanned x own input states sources pointers n) where
+module _ (x : Cross) (own : List (List ℕ)) (input : ℕ → Input) (states : List (Option ℕ)) (sources : List Source) (pointers : List (List ℕ)) (n : ℕ) (rate : n_of x.west.section.rate ≡ n) (many : length sources ≡ n) (done : ArePlanned x own input states sources pointers n) where
   pub planned_sources : AreSources (n_of x.west.section.rate) sources
   planned_sources = record {
     many = many ∙ sym rate;

@@ -7,9 +7,8 @@ use Rattle.sdh_ringmap.specs.declared.Side.{Side}
 use Rattle.sdh_ringmap.specs.declared.Side.TheVariants.{West, East}
 use Rattle.sdh_node.specs.Crossing.{Cross}
 
--- the payload that a source stands for: first is the frame from the west, second that from the east, and the ports' own
--- payloads stand one after the other
-abbrev pub payload_by : Cross → List ℕ → Source → List ℕ
+-- the payload that a source stands for: first is the frame from the west, second that from the east, and own ones are those of ports
+abbrev pub payload_by : Cross → List (List ℕ) → Source → List ℕ
 payload_by x own source = payload_from (n_of x.west.section.rate) x.west_in.frame.bytes x.east_in.frame.bytes own source
 
 -- the bytes from a side

@@ -105,9 +105,7 @@ fn take_au(frame: &FrameBuf, payloads: &mut Taken, au: u16, form: ChunkForm, cel
     ensures payloads { IsOf frame.now payloads.new }
     ensures cells { let came = au_of (n_of frame.now.rate) au frame.now.bytes in cells.new ≡ taken form came.payload (h3_of came.pointers) }
 {
-    payloads.take(frame, au);
-    cells.clear();
-    cells.extend_from_slice(payloads.payload(au));
+    payloads.give(frame, au, cells);
     let h3 = h3_at(frame, au);
     take_chunk_in_place(&h3, form, cells);
 }

@@ -20,7 +20,7 @@ use crate::tributary::Tributary;
 use sdh_bridge::Origin;
 use sdh_circuits::PortId;
 use sdh_frame::FrameBuf;
-use sdh_interchange::{Source, assemble, put_own};
+use sdh_interchange::{Payloads, Source, assemble};
 use sdh_pointer::{Action, Form, Gen, Word, write_word};
 use sdh_ringmap::Side;
 use std::alloc::{AllocError, Global};
@@ -63,7 +63,7 @@ fn pointers_for(action: Action, form: Form, word: Word, frame: &FrameBuf, au: u1
 fn source_for(action: Action, side: Side, au: u16) -> Source
     requires { 1 ≤ au }
     ensures source { (n to : ℕ) → au ≤ n → IsSource n to result }
-    ensures payload { (n w : ℕ) (form : Form) (west east own : List ℕ) → payload_from n west east own result ≡ (au_for action form w (au_of n au (bytes_on side west east))).payload }
+    ensures payload { (n w : ℕ) (form : Form) (west east : List ℕ) (own : List (List ℕ)) → payload_from n west east own result ≡ (au_for action form w (au_of n au (bytes_on side west east))).payload }
 {
     match action {
         Action::Ais => Source::Ones,
@@ -80,7 +80,7 @@ fn send_ais(generator: &mut Gen) -> (Source, [u8; 9])
     ensures generator { generator.new ≡ after_action generator.old Action.Ais 0 }
     ensures source { (n to : ℕ) → IsSource n to result.0 }
     ensures pointers { result.1 ≡ (au_sent generator.old.sending no_input).pointers }
-    ensures payload { (n : ℕ) (west east own : List ℕ) → payload_from n west east own result.0 ≡ (au_sent generator.old.sending no_input).payload }
+    ensures payload { (n : ℕ) (west east : List ℕ) (own : List (List ℕ)) → payload_from n west east own result.0 ≡ (au_sent generator.old.sending no_input).payload }
 {
     generator.step(Action::Ais, 0);
     (Source::Ones, [0xFF; 9])
@@ -94,7 +94,7 @@ fn pass_on(cross: &CrossConnect, side: Side, au: u16, generator: &mut Gen) -> (S
     ensures generator { let input = received cross.now side au in generator.new ≡ after_action generator.old input.action input.value }
     ensures source { (to : ℕ) → IsSource (n_of cross.now.west.section.rate) to result.0 }
     ensures pointers { result.1 ≡ (au_sent generator.old.sending (received cross.now side au)).pointers }
-    ensures payload { (own : List ℕ) → payload_by cross.now own result.0 ≡ (au_sent generator.old.sending (received cross.now side au)).payload }
+    ensures payload { (own : List (List ℕ)) → payload_by cross.now own result.0 ≡ (au_sent generator.old.sending (received cross.now side au)).payload }
 {
     let action = cross.action(side, au);
     let form = generator.step(action, cross.value(side, au));
@@ -105,38 +105,41 @@ fn pass_on(cross: &CrossConnect, side: Side, au: u16, generator: &mut Gen) -> (S
 
 // What a port sends.
 #[tactic(auto, unfolding(crate::specs::Passing::au_sent, sdh_pointer::specs::Sending::after_action))]
-fn send_own(port: &Tributary, generator: &mut Gen, own: &mut [u8], to: u16) -> (Source, [u8; 9])
+fn send_own<'a>(
+    port: &'a Tributary,
+    generator: &mut Gen,
+    own: &mut Payloads<'a>,
+    to: u16,
+) -> (Source, [u8; 9])
     requires first { 1 ≤ to }
-    requires room { 2349 * to ≤ length own.old }
+    requires last_to { to ≤ 16 }
     ensures generator { let input = own_input port.now in generator.new ≡ after_action generator.old input.action input.value }
     ensures source { (n : ℕ) → IsSource n to result.0 }
     ensures pointers { result.1 ≡ (au_sent generator.old.sending (own_input port.now)).pointers }
     ensures payload { (n : ℕ) (west east : List ℕ) → payload_from n west east own.new result.0 ≡ (au_sent generator.old.sending (own_input port.now)).payload }
     ensures others { (m : ℕ) → 1 ≤ m → m ≢ to → payload_in m own.new ≡ payload_in m own.old }
-    ensures len { length own.new ≡ length own.old }
 {
     let form = generator.step(port.action(), port.value());
-    put_own(own, to, port.payload());
+    own.put(to, port.payload());
     let h3 = h3_sent(form, port.h3());
     (Source::Own(to), pointers_with(generator.word(), h3))
 }
 
 // What the port with this name sends, if it is there.
-fn add(
+fn add<'a>(
     id: PortId,
-    ports: &Tributaries,
+    ports: &'a Tributaries,
     generator: &mut Gen,
-    own: &mut [u8],
+    own: &mut Payloads<'a>,
     to: u16,
 ) -> (Source, [u8; 9])
     requires first { 1 ≤ to }
-    requires room { 2349 * to ≤ length own.old }
+    requires last_to { to ≤ 16 }
     ensures generator { let input = added_last ports.now id in generator.new ≡ after_action generator.old input.action input.value }
     ensures source { (n : ℕ) → IsSource n to result.0 }
     ensures pointers { result.1 ≡ (au_sent generator.old.sending (added_last ports.now id)).pointers }
     ensures payload { (n : ℕ) (west east : List ℕ) → payload_from n west east own.new result.0 ≡ (au_sent generator.old.sending (added_last ports.now id)).payload }
     ensures others { (m : ℕ) → 1 ≤ m → m ≢ to → payload_in m own.new ≡ payload_in m own.old }
-    ensures len { length own.new ≡ length own.old }
 {
     match ports.find(id) {
         Some(port) => send_own(port, generator, own, to),
@@ -146,25 +149,24 @@ fn add(
 
 // What one AU-4 is: where its payload comes from, and its pointer bytes. A port's payload goes to the place of the AU-4 among
 // the own ones.
-fn send_one(
+fn send_one<'a>(
     cross: &CrossConnect,
-    ports: &Tributaries,
+    ports: &'a Tributaries,
     slot: u16,
     origin: Origin,
     generator: &mut Gen,
-    own: &mut [u8],
+    own: &mut Payloads<'a>,
     to: u16,
 ) -> (Source, [u8; 9])
     requires first { 1 ≤ slot }
     requires last { slot ≤ half_of cross.now }
     requires to_first { 1 ≤ to }
-    requires room { 2349 * to ≤ length own.old }
+    requires last_to { to ≤ 16 }
     ensures generator { let input = input_of cross.now (added_last ports.now) slot origin in generator.new ≡ after_action generator.old input.action input.value }
     ensures source { IsSource (n_of cross.now.west.section.rate) to result.0 }
     ensures pointers { result.1 ≡ (au_sent generator.old.sending (input_of cross.now (added_last ports.now) slot origin)).pointers }
     ensures payload { payload_by cross.now own.new result.0 ≡ (au_sent generator.old.sending (input_of cross.now (added_last ports.now) slot origin)).payload }
     ensures others { (m : ℕ) → 1 ≤ m → m ≢ to → payload_in m own.new ≡ payload_in m own.old }
-    ensures len { length own.new ≡ length own.old }
 {
     let half = cross.half();
     match origin {
@@ -183,27 +185,25 @@ fn any_moved(generators: &[Gen]) -> bool
 }
 
 // All generators of a side step, and tell what the AU-4s are. Whether they are in the states in which they were.
-fn plan_all(
+fn plan_all<'a>(
     cross: &CrossConnect,
-    ports: &Tributaries,
+    ports: &'a Tributaries,
     side: Side,
     generators: &mut Vec<Gen>,
     sources: &mut [Source],
     pointers: &mut [[u8; 9]],
-    own: &mut [u8],
+    own: &mut Payloads<'a>,
 ) -> bool
     requires few { n_of cross.now.west.section.rate ≤ 16 }
     requires len { length generators.old.items ≡ n_of cross.now.west.section.rate }
     requires sources { length sources.old ≡ n_of cross.now.west.section.rate }
     requires pointers { length pointers.old ≡ n_of cross.now.west.section.rate }
-    requires own { length own.old ≡ 2349 * n_of cross.now.west.section.rate }
     ensures generators { states_of generators.new.items ≡ after_inputs (input_at cross.now (added_last ports.now) side) (states_of generators.old.items) }
     ensures aus { assembled (n_of cross.now.west.section.rate) cross.now.west_in.frame.bytes cross.now.east_in.frame.bytes own.new sources.new pointers.new ≡ aus_sent (input_at cross.now (added_last ports.now) side) (states_of generators.old.items) }
     ensures sources { AreSources (n_of cross.now.west.section.rate) sources.new }
     ensures same { result ≡ same_generators (states_of generators.new.items) (states_of generators.old.items) }
     ensures len { length generators.new.items ≡ n_of cross.now.west.section.rate }
     ensures pointers_len { length pointers.new ≡ n_of cross.now.west.section.rate }
-    ensures own_len { length own.new ≡ 2349 * n_of cross.now.west.section.rate }
 {
     for k in 0..generators.len() {
         let to = k as u16 + 1;
@@ -216,13 +216,11 @@ fn plan_all(
     !any_moved(generators)
 }
 
-/// What the AU-4s of a frame are before it is put together: where the payload of each comes from, its pointer bytes, and room
-/// for the payloads of the node's own ports.
+/// What the AU-4s of a frame are before it is put together: where the payload of each comes from, and its pointer bytes.
 #[derive(Drop)]
 pub struct Assembly {
     pub sources: Vec<Source>,
     pub pointers: Vec<[u8; 9]>,
-    pub own: Vec<u8>,
 }
 
 impl fmt::Debug for Assembly {
@@ -237,12 +235,10 @@ impl Assembly {
         requires { n ≤ 16 }
         ensures sources { IfOk result (λ a. length a.sources.items ≡ n) }
         ensures pointers { IfOk result (λ a. length a.pointers.items ≡ n) }
-        ensures own { IfOk result (λ a. length a.own.items ≡ 2349 * n) }
     {
         Ok(Assembly {
             sources: vec![in alloc; Source::Ones; n]?,
             pointers: vec![in alloc; [0xFF; 9]; n]?,
-            own: vec![in alloc; 0; 2349 * n]?,
         })
     }
 }
@@ -261,15 +257,14 @@ pub fn send_all(
     requires len { length generators.old.items ≡ n_of out.old.rate }
     requires sources { length assembly.old.sources.items ≡ n_of out.old.rate }
     requires pointers { length assembly.old.pointers.items ≡ n_of out.old.rate }
-    requires own { length assembly.old.own.items ≡ 2349 * n_of out.old.rate }
     ensures generators { states_of generators.new.items ≡ after_inputs (input_at cross.now (added_last ports.now) side) (states_of generators.old.items) }
     ensures frame { out.new ≡ record out.old { bytes = with_aus (n_of out.old.rate) 1 (aus_sent (input_at cross.now (added_last ports.now) side) (states_of generators.old.items)) out.old.bytes } }
     ensures len { length generators.new.items ≡ n_of out.old.rate }
     ensures same { result ≡ same_generators (states_of generators.new.items) (states_of generators.old.items) }
     ensures sources { length assembly.new.sources.items ≡ n_of out.old.rate }
     ensures pointers { length assembly.new.pointers.items ≡ n_of out.old.rate }
-    ensures own { length assembly.new.own.items ≡ 2349 * n_of out.old.rate }
 {
+    let mut own = Payloads::none();
     let same = plan_all(
         cross,
         ports,
@@ -277,7 +272,7 @@ pub fn send_all(
         generators,
         assembly.sources.as_mut_slice(),
         assembly.pointers.as_mut_slice(),
-        assembly.own.as_mut_slice(),
+        &mut own,
     );
     let west = cross.intake(Side::West).frame();
     let east = cross.intake(Side::East).frame();
@@ -287,7 +282,7 @@ pub fn send_all(
         assembly.pointers.as_slice(),
         west,
         east,
-        assembly.own.as_slice(),
+        &own,
     );
     same
 }

@@ -45,7 +45,6 @@ impl Model for Sender {
       side : IsSending (record { section = s.section; generators = states_of s.generators.items; word = s.word });
       sources : length s.assembly.sources.items ≡ n_of s.section.rate;
       pointers : length s.assembly.pointers.items ≡ n_of s.section.rate;
-      own : length s.assembly.own.items ≡ 2349 * n_of s.section.rate;
     } };
 }
 

@@ -1,5 +1,5 @@
 -- Rows of a frame, one after the other.
-use Rattle.std.proofs.Common.{◌≡◌, ℕ, zero, suc, ◌+◌, ◌*◌, ◌-◌, ◌<◌, ◌≤◌, true, false, List, [], ◌∷◌, ◌++◌, length, get_or, take, drop, Option, Some, None, refl, ap, sym, subst, ◌∙◌, arith, inl, inr, append_assoc}
+use Rattle.std.proofs.Common.{◌≡◌, ℕ, zero, suc, ◌+◌, ◌*◌, ◌-◌, ◌<◌, ◌≤◌, true, false, List, [], ◌∷◌, ◌++◌, length, get_or, take, drop, Option, Some, None, refl, ap, sym, subst, ◌∙◌, arith, ◌⊎◌, inl, inr, append_assoc}
 use Rattle.std.specs.Prelude.{slice_range, nat_le, ◌==◌, if◌then◌else◌}
 use Rattle.std.proofs.lemmas.Bool.{cases_lt, cases_eq, ne_eqb, eq-eqb, lt-leb}
 use Rattle.std.proofs.lemmas.List.{ext_get_or, take_all, length-append, length-take, length-drop, get_or-drop, get_or_append_left, get_or-append_right, append-nil, take-append-le, drop-append-le}
@@ -59,7 +59,7 @@ row-written n row k1 k2 p last bytes head first long len same each =
           ∙ sym (right ∙ ap (λ (f : field.Field). written a f (get_or bytes c 0)) (field-payload n row (c + 1) (omega arith)))
     ]))
 
--- ---- the bytes that B2 is over, one row more
+-- ---- the bytes that B2 is over, with rows more
 
 -- a part that ends in the first of two lists, that is past the end of a list, that is in the second, and that goes to the end
 pub range-before : (a b : ℕ) (xs ys : List ℕ) → a ≤ b → b ≤ length xs → slice_range (xs ++ ys) a b ≡ slice_range xs a b
@@ -121,27 +121,34 @@ module _ (n : ℕ) (clear bytes : List ℕ) (long : length bytes ≡ 270 * n) wh
       ∙ append-nil (a ++ b ++ d)
       ∙ sym (ap (λ l. l ++ d) (four _ _ _ _ a b [] [] refl refl (range-past (549 * n) (810 * n) clear (omega arith)) (drop-past (810 * n) clear (omega arith)) ∙ append-nil (a ++ b ++ []) ∙ append-nil (a ++ b)))
 
-  later : 810 * n ≤ length clear → section_bytes n (clear ++ bytes) ≡ section_bytes n clear ++ bytes
-  unfolding section_bytes
-  later at =
-      let a = slice_range clear (9 * n) (270 * n) in
-      let b = slice_range clear (279 * n) (540 * n) in
-      let c = slice_range clear (549 * n) (810 * n) in
-      let e = drop (810 * n) clear in
-      four _ _ _ _ a b c (e ++ bytes) (range-before (9 * n) (270 * n) clear bytes (omega arith) (omega arith)) (range-before (279 * n) (540 * n) clear bytes (omega arith) (omega arith)) (range-before (549 * n) (810 * n) clear bytes (omega arith) (omega arith))
-      (drop-append-le (810 * n) clear bytes at) ∙ sym (append_assoc (a ++ b ++ c) e bytes)
+later : (n : ℕ) (clear bytes : List ℕ) → 810 * n ≤ length clear → section_bytes n (clear ++ bytes) ≡ section_bytes n clear ++ bytes
+unfolding section_bytes
+later n clear bytes at =
+    let a = slice_range clear (9 * n) (270 * n) in
+    let b = slice_range clear (279 * n) (540 * n) in
+    let c = slice_range clear (549 * n) (810 * n) in
+    let e = drop (810 * n) clear in
+    four _ _ _ _ a b c (e ++ bytes) (range-before (9 * n) (270 * n) clear bytes (omega arith) (omega arith)) (range-before (279 * n) (540 * n) clear bytes (omega arith) (omega arith)) (range-before (549 * n) (810 * n) clear bytes (omega arith) (omega arith))
+    (drop-append-le (810 * n) clear bytes at) ∙ sym (append_assoc (a ++ b ++ c) e bytes)
 
-pub section-more : (n row : ℕ) (clear bytes : List ℕ) → 1 ≤ row → length clear ≡ (row - 1) * (270 * n) → length bytes ≡ 270 * n → section_bytes n (clear ++ bytes) ≡ section_bytes n clear ++ drop (skipped n row) bytes
-section-more n zero clear bytes some at long = absurd (omega arith)
-section-more n (suc zero) clear bytes some at long = first n clear bytes long (omega arith)
-section-more n (suc (suc zero)) clear bytes some at long = second n clear bytes long (omega arith)
-section-more n (suc (suc (suc zero))) clear bytes some at long = third n clear bytes long (omega arith)
-section-more n (suc (suc (suc (suc r)))) clear bytes some at long =
-    let back : suc (suc (suc (suc r))) - 1 ≡ 3 + r = omega arith in
-    let size : length clear ≡ (3 + r) * (270 * n) = at ∙ ap (λ k. k * (270 * n)) back in
-    let least : 3 * (270 * n) ≤ (3 + r) * (270 * n) = mul-le 3 (270 * n) (3 + r) (270 * n) (omega arith) (omega arith) in
-    let row : nat_le (suc (suc (suc (suc r)))) 3 ≡ false = lt-leb _ _ (omega arith) in
-    later n clear bytes long (omega arith) ∙ ap (λ t. section_bytes n clear ++ drop (if t then 9 * n else 0) bytes) (sym row)
+-- from row 4 on, however many rows
+section-late : (n row : ℕ) (clear bytes : List ℕ) → 4 ≤ row → length clear ≡ (row - 1) * (270 * n) → section_bytes n (clear ++ bytes) ≡ section_bytes n clear ++ drop (skipped n row) bytes
+section-late n row clear bytes late at =
+    let least : 3 * (270 * n) ≤ (row - 1) * (270 * n) = mul-le 3 (270 * n) (row - 1) (270 * n) (omega arith) (omega arith) in
+    let past : nat_le row 3 ≡ false = lt-leb _ _ (omega arith) in
+    later n clear bytes (omega (arith, least, at)) ∙ ap (λ t. section_bytes n clear ++ drop (if t then 9 * n else 0) bytes) (sym past)
+
+section-one : (n row : ℕ) (clear bytes : List ℕ) → 1 ≤ row → length clear ≡ (row - 1) * (270 * n) → length bytes ≡ 270 * n → section_bytes n (clear ++ bytes) ≡ section_bytes n clear ++ drop (skipped n row) bytes
+section-one n zero clear bytes some at long = absurd (omega arith)
+section-one n (suc zero) clear bytes some at long = first n clear bytes long (omega arith)
+section-one n (suc (suc zero)) clear bytes some at long = second n clear bytes long (omega arith)
+section-one n (suc (suc (suc zero))) clear bytes some at long = third n clear bytes long (omega arith)
+section-one n (suc (suc (suc (suc r)))) clear bytes some at long = section-late n (suc (suc (suc (suc r)))) clear bytes (omega arith) at
+
+-- one row, or m rows from row 4 on
+pub section-more : (n row m : ℕ) (clear bytes : List ℕ) → 1 ≤ row → (m ≡ 1) ⊎ (4 ≤ row) → length clear ≡ (row - 1) * (270 * n) → length bytes ≡ m * (270 * n) → section_bytes n (clear ++ bytes) ≡ section_bytes n clear ++ drop (skipped n row) bytes
+section-more n row m clear bytes some (inl one) at long = let single : m * (270 * n) ≡ 1 * (270 * n) = ap (λ k. k * (270 * n)) one in section-one n row clear bytes some at (omega (arith, long, single))
+section-more n row m clear bytes some (inr late) at long = section-late n row clear bytes late at
 
 -- ---- what is kept of the rows that have gone by
 
@@ -170,24 +177,25 @@ as-passed n place clear line u placed are =
       | inr some ↦ subst (ArePassed n clear line) (some-under-way u (omega arith)) are
     ]
 
--- one row more
-pub row-more : (n row : ℕ) (clear line old new : List ℕ) (u v : UnderWay) → HavePassed n clear line u → row ≡ u.rows + 1 → v.rows ≡ row → length old ≡ 270 * n → length new ≡ length old
+-- m rows more
+pub row-more : (n row m : ℕ) (clear line old new : List ℕ) (u v : UnderWay) → HavePassed n clear line u → row ≡ u.rows + 1 → v.rows ≡ row + m - 1 → (m ≡ 1) ⊎ (4 ≤ row) → length old ≡ m * (270 * n) → length new ≡ length old
     → ((before : List ℕ) → u.line ≡ bip8 before → v.line ≡ bip8 (before ++ new)) → ((before : List ℕ) → u.clear ≡ after_bytes n before → v.clear ≡ after_bytes n (before ++ drop (skipped n row) old))
     → HavePassed n (clear ++ old) (line ++ new) v
-row-more n row clear line old new u v passed next rows long same sum sums =
+row-more n row m clear line old new u v passed next rows together long same sum sums =
     let at : length clear ≡ (row - 1) * (270 * n) = passed.whole ∙ passed.rows ∙ ap (λ k. k * (270 * n)) (omega arith) in
-    let wide : u.rows * (270 * n) + 270 * n ≡ (u.rows + 1) * (270 * n) = sym (add-mul u.rows 1 (270 * n) ∙ ap (λ k. u.rows * (270 * n) + k) (omega arith)) in record {
-      rows = length-append line new ∙ ap (λ k. length line + k) (same ∙ long) ∙ ap (λ k. k + 270 * n) passed.rows ∙ wide ∙ ap (λ k. k * (270 * n)) (sym (rows ∙ next));
+    let wide : u.rows * (270 * n) + m * (270 * n) ≡ (u.rows + m) * (270 * n) = sym (add-mul u.rows m (270 * n)) in
+    let end : u.rows + m ≡ v.rows = omega arith in record {
+      rows = length-append line new ∙ ap (λ k. length line + k) (same ∙ long) ∙ ap (λ k. k + m * (270 * n)) passed.rows ∙ wide ∙ ap (λ k. k * (270 * n)) end;
       whole = length-append clear old ∙ ap (λ k. length clear + k) (sym same) ∙ ap (λ k. k + length new) passed.whole ∙ sym (length-append line new);
       b1 = sum line passed.b1;
-      b2 = sums (section_bytes n clear) passed.b2 ∙ ap (after_bytes n) (sym (section-more n row clear old (omega arith) at long));
+      b2 = sums (section_bytes n clear) passed.b2 ∙ ap (after_bytes n) (sym (section-more n row m clear old (omega arith) together at long));
     }
 
-pub one-more : (n row : ℕ) (clear line old new : List ℕ) (u v : UnderWay) → HavePassed n clear line u → row ≡ u.rows + 1 → v.rows ≡ row → length old ≡ 270 * n → length new ≡ length old
+pub one-more : (n row m : ℕ) (clear line old new : List ℕ) (u v : UnderWay) → HavePassed n clear line u → row ≡ u.rows + 1 → 1 ≤ m → v.rows ≡ row + m - 1 → (m ≡ 1) ⊎ (4 ≤ row) → length old ≡ m * (270 * n) → length new ≡ length old
     → ((before : List ℕ) → u.line ≡ bip8 before → v.line ≡ bip8 (before ++ new)) → ((before : List ℕ) → u.clear ≡ after_bytes n before → v.clear ≡ after_bytes n (before ++ drop (skipped n row) old))
     → ArePassed n (clear ++ old) (line ++ new) (under_way_of v)
-one-more n row clear line old new u v passed next rows long same sum sums =
-    subst (ArePassed n (clear ++ old) (line ++ new)) (sym (some-under-way v (omega arith))) (row-more n row clear line old new u v passed next rows long same sum sums)
+one-more n row m clear line old new u v passed next some rows together long same sum sums =
+    subst (ArePassed n (clear ++ old) (line ++ new)) (sym (some-under-way v (omega arith))) (row-more n row m clear line old new u v passed next rows together long same sum sums)
 
 pub rows-next : (u : UnderWay) → next_of (under_way_of u) ≡ u.rows + 1
 rows-next u =
@@ -207,8 +215,12 @@ passed-length : (n : ℕ) (clear line : List ℕ) (o : Option UnderWay) → AreP
 passed-length n clear line None are = ap length are.1 ∙ sym (zero-mul (270 * n))
 passed-length n clear line (Some u) are = are.rows ∙ ap (λ k. k * (270 * n)) (omega arith)
 
-module _ (first old mid : SectionKept) (row : ℕ) (clear line more new : List ℕ) (h : HasSent first clear line old)
-    (some : 1 ≤ n_of first.rate) (next : row ≡ next_of old.under_way) (long : length new ≡ 270 * n_of first.rate)
+next-some : (o : Option UnderWay) → 1 ≤ next_of o
+next-some None = omega arith
+next-some (Some u) = omega arith
+
+module _ (first old mid : SectionKept) (row m : ℕ) (clear line more new : List ℕ) (h : HasSent first clear line old)
+    (some : 1 ≤ n_of first.rate) (next : row ≡ next_of old.under_way) (many : 1 ≤ m) (long : length new ≡ m * (270 * n_of first.rate))
     (rate : mid.rate ≡ old.rate) (last : mid.last ≡ old.last)
     (passed : ArePassed (n_of old.rate) clear line old.under_way → ArePassed (n_of old.rate) (clear ++ more) (line ++ new) mid.under_way) where
   at : length line < 2430 * n_of first.rate → length line ≡ (row - 1) * (270 * n_of first.rate)
@@ -219,49 +231,59 @@ module _ (first old mid : SectionKept) (row : ℕ) (clear line more new : List �
       subst (λ (r : Rate). ArePassed (n_of r) (clear ++ more) (line ++ new) mid.under_way) h.rate
       (passed (subst (λ (r : Rate). ArePassed (n_of r) clear line old.under_way) (sym h.rate) (h.under_way below).1))
 
-  longer : length (line ++ new) ≡ length line + 270 * n_of first.rate
+  longer : length (line ++ new) ≡ length line + m * (270 * n_of first.rate)
   longer = length-append line new ∙ ap (λ k. length line + k) long
 
-  -- a row before the ninth
-  pub sent-more : row < 9 → HasSent first (clear ++ more) (line ++ new) mid
+  -- the rows have bytes
+  least : 1 * (270 * n_of first.rate) ≤ m * (270 * n_of first.rate)
+  least = mul-le 1 (270 * n_of first.rate) m (270 * n_of first.rate) many (omega arith)
+
+  end-at : length line < 2430 * n_of first.rate → length (line ++ new) ≡ (row + m - 1) * (270 * n_of first.rate)
+  end-at below =
+      let back : row - 1 + m ≡ row + m - 1 = omega (arith, next-some old.under_way) in
+      longer ∙ ap (λ k. k + m * (270 * n_of first.rate)) (at below) ∙ sym (add-mul (row - 1) m (270 * n_of first.rate)) ∙ ap (λ k. k * (270 * n_of first.rate)) back
+
+  -- rows before the ninth
+  pub sent-more : row + m < 10 → HasSent first (clear ++ more) (line ++ new) mid
   sent-more early = record {
     rate = rate ∙ h.rate;
     fresh = h.fresh;
     under_way = λ below. let less : length line < 2430 * n_of first.rate = omega (arith, longer) in (last ∙ (h.under_way less).0, after less);
     ended = λ end.
-        let less : length line < 2430 * n_of first.rate = omega (arith, longer) in
-        let few : (row - 1) * (270 * n_of first.rate) ≤ 7 * (270 * n_of first.rate) = mul-le (row - 1) (270 * n_of first.rate) 7 (270 * n_of first.rate) (omega arith) (omega arith) in
-        absurd (omega (arith, at less, longer));
+        let less : length line < 2430 * n_of first.rate = omega (arith, longer, least) in
+        let few : (row + m - 1) * (270 * n_of first.rate) ≤ 8 * (270 * n_of first.rate) = mul-le (row + m - 1) (270 * n_of first.rate) 8 (270 * n_of first.rate) (omega arith) (omega arith) in
+        absurd (omega (arith, end-at less));
   }
 
-  -- the ninth
-  pub sent-all : row ≡ 9 → (now : SectionKept) → ((c l : List ℕ) → ArePassed (n_of mid.rate) c l mid.under_way → now ≡ record { rate = mid.rate; last = Some (parities_of (n_of mid.rate) c l); under_way = None })
+  -- the last rows
+  pub sent-all : row + m ≡ 10 → (now : SectionKept) → ((c l : List ℕ) → ArePassed (n_of mid.rate) c l mid.under_way → now ≡ record { rate = mid.rate; last = Some (parities_of (n_of mid.rate) c l); under_way = None })
       → now.rate ≡ mid.rate → HasSent first (clear ++ more) (line ++ new) now
   sent-all ninth now ends same = record {
     rate = same ∙ rate ∙ h.rate;
     fresh = h.fresh;
     under_way = λ below.
         let less : length line < 2430 * n_of first.rate = omega (arith, longer) in
-        let eighth : (row - 1) * (270 * n_of first.rate) ≡ 8 * (270 * n_of first.rate) = ap (λ k. (k - 1) * (270 * n_of first.rate)) ninth in
-        absurd (omega (arith, at less, longer, eighth));
+        let nine : (row + m - 1) * (270 * n_of first.rate) ≡ 9 * (270 * n_of first.rate) = ap (λ k. (k - 1) * (270 * n_of first.rate)) ninth in
+        absurd (omega (arith, end-at less, nine));
     ended = λ end.
-        let less : length line < 2430 * n_of first.rate = omega (arith, longer) in
+        let less : length line < 2430 * n_of first.rate = omega (arith, longer, least) in
         let here : mid.rate ≡ first.rate = rate ∙ h.rate in
         ends (clear ++ more) (line ++ new) (subst (λ (r : Rate). ArePassed (n_of r) (clear ++ more) (line ++ new) mid.under_way) (sym here) (after less))
         ∙ ap (λ (r : Rate). record { rate = r; last = Some (parities_of (n_of r) (clear ++ more) (line ++ new)); under_way = None }) here;
   }
 
--- ---- a row that is cut behind its head
+-- ---- rows that are cut behind the head of the first
 
 pub cut-row : (n at a : ℕ) (old head rest head' rest' : List ℕ) → old ≡ head ++ rest → a ≡ at + length head → head' ≡ scrambled_from (9 * n) at head → rest' ≡ scrambled_from (9 * n) a rest → head' ++ rest' ≡ scrambled_from (9 * n) at old
 cut-row n at a old head rest head' rest' cut place one two =
     ap (λ l. l ++ rest') one ∙ ap (λ l. scrambled_from (9 * n) at head ++ l) (two ∙ ap (λ k. scrambled_from (9 * n) k rest) place) ∙ sym (in-pieces.cut (9 * n) at head rest) ∙ ap (scrambled_from (9 * n) at) (sym cut)
 
-pub row-ends : (row w : ℕ) → 1 ≤ row → (row - 1) * w + w ≡ row * w
-row-ends row w some =
-    let one : w ≡ 1 * w = omega arith in
-    let back : row - 1 + 1 ≡ row = omega arith in
-    ap (λ k. (row - 1) * w + k) one ∙ sym (add-mul (row - 1) 1 w) ∙ ap (λ k. k * w) back
+pub row-ends : (row m w : ℕ) → 1 ≤ row → (row - 1) * w + m * w ≡ (row + m - 1) * w
+row-ends row m w some = let back : row - 1 + m ≡ row + m - 1 = omega arith in sym (add-mul (row - 1) m w) ∙ ap (λ k. k * w) back
+
+-- a row is no longer than several
+pub one-within : (n m : ℕ) → 1 ≤ m → 270 * n ≤ m * (270 * n)
+one-within n m some = let least : 1 * (270 * n) ≤ m * (270 * n) = mul-le 1 (270 * n) m (270 * n) some (omega arith) in omega arith
 
 pub sum-up : (a h r w : ℕ) → h + r ≡ w → a + h + r ≡ a + w
 sum-up a h r w e = omega arith

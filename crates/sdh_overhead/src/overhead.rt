@@ -4,6 +4,7 @@ ghost use Rattle.sdh_frame.specs.Fields.{field_at};
 ghost use Rattle.sdh_overhead.specs.Overhead.{Added, written};
 
 // Writes one byte from a place up to another.
+#[inline(always)]
 fn fill_part(bytes: &mut [u8], from: usize, to: usize, value: u8)
     requires order { from ≤ to }
     requires within { to ≤ length bytes.old }
@@ -17,6 +18,7 @@ fn fill_part(bytes: &mut [u8], from: usize, to: usize, value: u8)
 }
 
 // Row 1: A1, A2, J0 and the other unscrambled bytes.
+#[inline(always)]
 fn write_framing(n: usize, head: &mut [u8])
     requires few { n ≤ 16 }
     requires some { 1 ≤ n }
@@ -33,6 +35,7 @@ fn write_framing(n: usize, head: &mut [u8])
 }
 
 // Row 5: B2, K1 and K2.
+#[inline(always)]
 fn write_multiplex(n: usize, k1: u8, k2: u8, b2: &[u8], head: &mut [u8])
     requires few { n ≤ 16 }
     requires some { 1 ≤ n }
@@ -53,6 +56,7 @@ fn write_multiplex(n: usize, k1: u8, k2: u8, b2: &[u8], head: &mut [u8])
 }
 
 /// Writes the first 9N bytes of a row.
+#[inline(always)]
 pub fn write_head(n: usize, row: usize, k1: u8, k2: u8, b1: u8, b2: &[u8], head: &mut [u8])
     requires few { n ≤ 16 }
     requires some { 1 ≤ n }

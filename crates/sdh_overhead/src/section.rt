@@ -10,7 +10,7 @@ ghost use Rattle.sdh_overhead.specs.Laws.{AreParities};
 
 use crate::Received;
 use crate::overhead::write_head;
-use crate::rows::{Rows, b1_after, b2_after, k_after, parity_of_rows};
+use crate::rows::{Rows, b1_after, b2_after, k_after, parity_of_rows, seen_row, start_of};
 use sdh_frame::{FrameBuf, Rate};
 use std::marker::Model;
 
@@ -110,35 +110,63 @@ impl Section {
     }
 
     // Writes the overhead of a row with the parities of the frame before.
+    #[inline(always)]
+    fn place_by(&self, n: usize, row: u16, k1: u8, k2: u8, bytes: &mut [u8])
+        requires rate { n ≡ n_of self.now.rate }
+        requires first { 1 ≤ row }
+        requires last { row ≤ 9 }
+        requires bytes { length bytes.old ≡ 270 * n_of self.now.rate }
+        ensures { bytes.new ≡ clear_row (n_of self.now.rate) self.now.last k1 k2 ((row - 1) * (270 * n_of self.now.rate)) bytes.old }
+    {
+        let b2 = &self.b2[..3 * n];
+        write_head(n, row as usize, k1, k2, self.b1, b2, &mut bytes[..9 * n]);
+    }
+
+    // The same: code of its own for each rate, in which N is a constant.
     fn place(&self, row: u16, k1: u8, k2: u8, bytes: &mut [u8])
         requires first { 1 ≤ row }
         requires last { row ≤ 9 }
         requires bytes { length bytes.old ≡ 270 * n_of self.now.rate }
         ensures { bytes.new ≡ clear_row (n_of self.now.rate) self.now.last k1 k2 ((row - 1) * (270 * n_of self.now.rate)) bytes.old }
     {
-        let n = self.rate.n();
-        let b2 = &self.b2[..3 * n];
-        write_head(n, row as usize, k1, k2, self.b1, b2, &mut bytes[..9 * n]);
+        match self.rate {
+            Rate::Four => self.place_by(4, row, k1, k2, bytes),
+            Rate::Sixteen => self.place_by(16, row, k1, k2, bytes),
+        }
     }
 
-    // Sums and scrambles the next row of a sent frame.
-    fn send(&mut self, row: u16, bytes: &mut [u8])
+    // Writes the overhead of rows 4 to 9 with the parities of the frame before.
+    fn place_last(&self, k1: u8, k2: u8, bytes: &mut [u8])
+        requires { length bytes.old ≡ 6 * (270 * n_of self.now.rate) }
+        ensures { bytes.new ≡ clear_row (n_of self.now.rate) self.now.last k1 k2 (3 * (270 * n_of self.now.rate)) bytes.old }
+    {
+        let width = 270 * self.rate.n();
+        for row in 4..10 {
+            let at = (row as usize - 4) * width;
+            self.place(row, k1, k2, &mut bytes[at..at + width]);
+        }
+    }
+
+    // Sums and scrambles the next rows of a sent frame.
+    fn send(&mut self, row: u16, rows: u16, bytes: &mut [u8])
         requires next { row ≡ next_of self.old.under_way }
-        requires last { row ≤ 9 }
-        requires bytes { length bytes.old ≡ 270 * n_of self.old.rate }
+        requires some { 1 ≤ rows }
+        requires last { row + rows ≤ 10 }
+        requires together { (rows ≡ 1) ⊎ (4 ≤ row) }
+        requires bytes { length bytes.old ≡ rows * (270 * n_of self.old.rate) }
         ensures rate { self.new.rate ≡ self.old.rate }
         ensures last { self.new.last ≡ self.old.last }
-        ensures next { next_of self.new.under_way ≡ row + 1 }
+        ensures next { next_of self.new.under_way ≡ row + rows }
         ensures bytes { bytes.new ≡ scrambled_from (9 * n_of self.old.rate) ((row - 1) * (270 * n_of self.old.rate)) bytes.old }
         ensures passed { (clear line : List ℕ) → ArePassed (n_of self.old.rate) clear line self.old.under_way → ArePassed (n_of self.old.rate) (clear ++ bytes.old) (line ++ bytes.new) self.new.under_way }
     {
-        self.rows.send(self.rate.n(), row, bytes);
+        self.rows.send(self.rate.n(), row, rows, bytes);
     }
 
-    // Whether the frame is framed to which the next row belongs: row 1 tells.
+    // Whether the frame is framed to which the next rows belong: row 1 tells.
     fn is_framed(&self, row: u16, bytes: &[u8]) -> bool
         requires next { row ≡ next_of self.now.under_way }
-        requires bytes { length bytes.now ≡ 270 * n_of self.now.rate }
+        requires bytes { 270 * n_of self.now.rate ≤ length bytes.now }
         ensures { (line : List ℕ) → AreRead (n_of self.now.rate) self.now.last line self.now.under_way → result ≡ is_framed (n_of self.now.rate) (line ++ bytes.now) }
     {
         if row == 1 {
@@ -147,40 +175,46 @@ impl Section {
         self.rows.framed
     }
 
-    // Goes past the next row of an unframed frame.
-    fn pass_over(&mut self, row: u16)
+    // Goes past the next rows of an unframed frame.
+    fn pass_over(&mut self, row: u16, rows: u16)
         requires next { row ≡ next_of self.old.under_way }
-        requires last { row ≤ 9 }
+        requires some { 1 ≤ rows }
+        requires last { row + rows ≤ 10 }
+        requires together { (rows ≡ 1) ⊎ (4 ≤ row) }
         ensures rate { self.new.rate ≡ self.old.rate }
         ensures last { self.new.last ≡ self.old.last }
-        ensures next { next_of self.new.under_way ≡ row + 1 }
-        ensures read { (line bytes : List ℕ) → AreRead (n_of self.old.rate) self.old.last line self.old.under_way → length bytes ≡ 270 * n_of self.old.rate → is_framed (n_of self.old.rate) (line ++ bytes) ≡ false → AreRead (n_of self.old.rate) self.old.last (line ++ bytes) self.new.under_way }
+        ensures next { next_of self.new.under_way ≡ row + rows }
+        ensures read { (line bytes : List ℕ) → AreRead (n_of self.old.rate) self.old.last line self.old.under_way → length bytes ≡ rows * (270 * n_of self.old.rate) → is_framed (n_of self.old.rate) (line ++ bytes) ≡ false → AreRead (n_of self.old.rate) self.old.last (line ++ bytes) self.new.under_way }
     {
-        self.rows.pass_over(self.rate.n(), row);
+        self.rows.pass_over(self.rate.n(), row, rows);
     }
 
-    // Descrambles and sums the next row of a framed frame, and keeps what it says.
-    fn receive(&mut self, row: u16, bytes: &mut [u8])
+    // Descrambles and sums the next rows of a framed frame, and keeps what they say.
+    fn receive(&mut self, row: u16, rows: u16, bytes: &mut [u8])
         requires next { row ≡ next_of self.old.under_way }
-        requires last { row ≤ 9 }
-        requires bytes { length bytes.old ≡ 270 * n_of self.old.rate }
+        requires some { 1 ≤ rows }
+        requires last { row + rows ≤ 10 }
+        requires together { (rows ≡ 1) ⊎ (4 ≤ row) }
+        requires bytes { length bytes.old ≡ rows * (270 * n_of self.old.rate) }
         ensures rate { self.new.rate ≡ self.old.rate }
         ensures last { self.new.last ≡ self.old.last }
-        ensures next { next_of self.new.under_way ≡ row + 1 }
+        ensures next { next_of self.new.under_way ≡ row + rows }
         ensures bytes { bytes.new ≡ scrambled_from (9 * n_of self.old.rate) ((row - 1) * (270 * n_of self.old.rate)) bytes.old }
         ensures read { (line : List ℕ) → AreRead (n_of self.old.rate) self.old.last line self.old.under_way → is_framed (n_of self.old.rate) (line ++ bytes.old) ≡ true → AreRead (n_of self.old.rate) self.old.last (line ++ bytes.old) self.new.under_way }
     {
         let n = self.rate.n();
-        self.rows.receive(n, row, bytes);
-        self.rows.k1 = k_after(row, self.rows.k1, bytes[3 * n]);
-        self.rows.k2 = k_after(row, self.rows.k2, bytes[6 * n]);
+        self.rows.receive(n, row, rows, bytes);
+        let seen = seen_row(row, rows);
+        let at = start_of(n, rows, seen - row);
+        self.rows.k1 = k_after(seen, self.rows.k1, bytes[at + 3 * n]);
+        self.rows.k2 = k_after(seen, self.rows.k2, bytes[at + 6 * n]);
         self.rows.b1 = b1_after(row, self.rows.b1, self.known, self.b1, bytes[0]);
         self.rows.b2 = b2_after(
-            row,
+            seen,
             self.rows.b2,
             self.known,
             &self.b2[..3 * n],
-            &bytes[..3 * n],
+            &bytes[at..at + 3 * n],
         );
         self.rows.framed = true;
     }
@@ -243,10 +277,23 @@ pub fn write_row(section: &mut Section, row: u16, k1: u8, k2: u8, bytes: &mut [u
     ensures ninth { row ≡ 9 → section.new.under_way ≡ None }
 {
     section.place(row, k1, k2, bytes);
-    section.send(row, bytes);
+    section.send(row, 1, bytes);
     if row < 9 {
         return;
     }
+    section.end();
+}
+
+// Writes rows 4 to 9 of a frame in one piece.
+fn write_last(section: &mut Section, k1: u8, k2: u8, bytes: &mut [u8])
+    requires next { next_of section.old.under_way ≡ 4 }
+    requires bytes { length bytes.old ≡ 6 * (270 * n_of section.old.rate) }
+    ensures bytes { bytes.new ≡ line_row (n_of section.old.rate) section.old.last k1 k2 (3 * (270 * n_of section.old.rate)) bytes.old }
+    ensures section { (first : SectionKept) (clear line : List ℕ) → HasSent first clear line section.old → HasSent first (clear ++ clear_row (n_of section.old.rate) section.old.last k1 k2 (3 * (270 * n_of section.old.rate)) bytes.old) (line ++ bytes.new) section.new }
+    ensures rate { section.new.rate ≡ section.old.rate }
+{
+    section.place_last(k1, k2, bytes);
+    section.send(4, 6, bytes);
     section.end();
 }
 
@@ -258,10 +305,11 @@ fn write_rows(section: &mut Section, k1: u8, k2: u8, bytes: &mut [u8])
     ensures section { section.new ≡ holding section.old.rate (Some (parities_of (n_of section.old.rate) (clear_frame (n_of section.old.rate) section.old.last k1 k2 bytes.old) bytes.new)) }
 {
     let width = 270 * section.rate.n();
-    for row in 1..10 {
+    for row in 1..4 {
         let at = (row as usize - 1) * width;
         write_row(section, row, k1, k2, &mut bytes[at..at + width]);
     }
+    write_last(section, k1, k2, &mut bytes[3 * width..9 * width]);
 }
 
 /// Sets all section overhead of a frame, with the parities of the frame written before, and scrambles it in place.
@@ -277,6 +325,26 @@ pub fn write_section(section: &mut Section, k1: u8, k2: u8, frame: &mut FrameBuf
     write_rows(section, k1, k2, frame.bytes_mut());
 }
 
+// Reads the next rows of a received frame.
+fn read_piece(section: &mut Section, row: u16, rows: u16, bytes: &mut [u8])
+    requires next { row ≡ next_of section.old.under_way }
+    requires some { 1 ≤ rows }
+    requires last { row + rows ≤ 10 }
+    requires together { (rows ≡ 1) ⊎ (4 ≤ row) }
+    requires bytes { length bytes.old ≡ rows * (270 * n_of section.old.rate) }
+    ensures bytes { (line : List ℕ) → AreRead (n_of section.old.rate) section.old.last line section.old.under_way → bytes.new ≡ opened_row (n_of section.old.rate) line bytes.old }
+    ensures read { (line : List ℕ) → AreRead (n_of section.old.rate) section.old.last line section.old.under_way → AreRead (n_of section.old.rate) section.old.last (line ++ bytes.old) section.new.under_way }
+    ensures rate { section.new.rate ≡ section.old.rate }
+    ensures last { section.new.last ≡ section.old.last }
+    ensures next { next_of section.new.under_way ≡ row + rows }
+{
+    if !section.is_framed(row, bytes) {
+        section.pass_over(row, rows);
+        return;
+    }
+    section.receive(row, rows, bytes);
+}
+
 /// Reads the next row of a received frame, and descrambles it in place. The rows of an unframed frame are left as they
 /// came. After the ninth row comes `finish_read`.
 pub fn read_row(section: &mut Section, row: u16, bytes: &mut [u8])
@@ -289,11 +357,7 @@ pub fn read_row(section: &mut Section, row: u16, bytes: &mut [u8])
     ensures last { section.new.last ≡ section.old.last }
     ensures next { next_of section.new.under_way ≡ row + 1 }
 {
-    if !section.is_framed(row, bytes) {
-        section.pass_over(row);
-        return;
-    }
-    section.receive(row, bytes);
+    read_piece(section, row, 1, bytes);
 }
 
 // Reads the nine rows of a frame.
@@ -307,10 +371,11 @@ fn read_rows(section: &mut Section, bytes: &mut [u8])
     ensures next { next_of section.new.under_way ≡ 10 }
 {
     let width = 270 * section.rate.n();
-    for row in 1..10 {
+    for row in 1..4 {
         let at = (row as usize - 1) * width;
         read_row(section, row, &mut bytes[at..at + width]);
     }
+    read_piece(section, 4, 6, &mut bytes[3 * width..9 * width]);
 }
 
 /// Reads the overhead of a received frame against the parities of the frame read before, and descrambles it in place. An

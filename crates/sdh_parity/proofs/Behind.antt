@@ -1,5 +1,6 @@
 -- The bytes of a piece behind its whole rows of 48.
-use Rattle.std.proofs.Common.{◌≡◌, ℕ, ◌+◌, ◌*◌, ◌-◌, ◌/◌, ◌%◌, ◌^◌, ◌<◌, ◌≤◌, List, [], ◌∷◌, ◌++◌, length, get_or, refl, ap, sym, ◌∙◌, arith, bit_xor, inl, inr}
+use Rattle.std.proofs.Common.{◌≡◌, ℕ, ◌+◌, ◌*◌, ◌-◌, ◌/◌, ◌%◌, ◌^◌, ◌<◌, ◌≤◌, Bool, true, false, List, [], ◌∷◌, ◌++◌, length, get_or, refl, ap, sym, ◌∙◌, arith, bit_xor, inl, inr}
+use Rattle.std.specs.Prelude.{if◌then◌else◌}
 use Rattle.std.specs.Int.Bits.{xor_zero_l, xor_zero_r}
 use Rattle.std.proofs.lemmas.Bool.{cases_lt}
 use Rattle.std.proofs.lemmas.List.{take_all, get_or_append_left, get_or-append_right}
@@ -29,7 +30,7 @@ single : (x : ℕ) → x < 2 ^ 8 → bip8 (x ∷ []) ≡ x
 single x h = bip8-push [] x h ∙ ap (λ z. bit_xor z x) bip8-nil ∙ xor_zero_l x
 
 -- the lanes of whole rows and of what is behind them
-pub lanes-behind : (s whole rest mid out : List ℕ) (rows : ℕ) → s ≡ whole ++ rest → length whole ≡ 48 * rows → length rest ≤ 48 → ((k : ℕ) → get_or rest k 0 < 2 ^ 8)
+lanes-behind : (s whole rest mid out : List ℕ) (rows : ℕ) → s ≡ whole ++ rest → length whole ≡ 48 * rows → length rest ≤ 48 → ((k : ℕ) → get_or rest k 0 < 2 ^ 8)
     → ((j : ℕ) → j < 48 → get_or mid j 0 ≡ bip8 (every j 48 rows whole))
     → ((j : ℕ) → j < length rest → get_or out j 0 ≡ bit_xor (get_or mid j 0) (get_or rest j 0)) → ((j : ℕ) → length rest ≤ j → get_or out j 0 ≡ get_or mid j 0) → HasLanes 48 s out
 lanes-behind s whole rest mid out rows cut long few small rows_are front back j h =
@@ -60,7 +61,19 @@ key-behind old front back whole rest at rows cut long same first second i h =
           ∙ ap (bit_xor (get_or old i 0)) (sym (byte-repeats ((at + 48 * rows) / 1016) ((at + 48 * rows) % 1016 + k)) ∙ ap scrambling_byte f)
     ]
 
-pub small-behind : (s front back : List ℕ) → s ≡ front ++ back → ((i : ℕ) → get_or s i 0 < 2 ^ 8) → (k : ℕ) → get_or back k 0 < 2 ^ 8
+small-behind : (s front back : List ℕ) → s ≡ front ++ back → ((i : ℕ) → get_or s i 0 < 2 ^ 8) → (k : ℕ) → get_or back k 0 < 2 ^ 8
 small-behind s front back cut small k =
     let at : get_or s (length front + k) 0 ≡ get_or back k 0 = ap (λ l. get_or l (length front + k) 0) cut ∙ get_or-append_right front back (length front) (length front + k) 0 refl (omega arith) ∙ ap (λ i. get_or back i 0) (omega arith) in
     omega (arith, small (length front + k), at)
+
+-- the lanes of the clear bytes, where the sequence makes a piece clear and where the piece was
+pub clear-lanes : (after : Bool) (old whole rest whole_new rest_new mid out : List ℕ) (rows : ℕ) → old ≡ whole ++ rest → length whole ≡ 48 * rows → length rest ≤ 48 → length whole_new ≡ length whole → length rest_new ≡ length rest
+    → ((k : ℕ) → get_or old k 0 < 2 ^ 8) → ((k : ℕ) → get_or (whole_new ++ rest_new) k 0 < 2 ^ 8)
+    → ((j : ℕ) → j < 48 → get_or mid j 0 ≡ bip8 (every j 48 rows (if after then whole_new else whole)))
+    → ((j : ℕ) → j < length rest → get_or out j 0 ≡ bit_xor (get_or mid j 0) (get_or (if after then rest_new else rest) j 0)) → ((j : ℕ) → length rest ≤ j → get_or out j 0 ≡ get_or mid j 0)
+    → HasLanes 48 (if after then whole_new ++ rest_new else old) out
+clear-lanes true old whole rest whole_new rest_new mid out rows cut long few same_whole same_rest small_old small_new rows_are front back =
+    lanes-behind (whole_new ++ rest_new) whole_new rest_new mid out rows refl (same_whole ∙ long) (omega arith) (small-behind (whole_new ++ rest_new) whole_new rest_new refl small_new) rows_are
+    (λ j h. front j (omega arith)) (λ j h. back j (omega arith))
+clear-lanes false old whole rest whole_new rest_new mid out rows cut long few same_whole same_rest small_old small_new rows_are front back =
+    lanes-behind old whole rest mid out rows cut long few (small-behind old whole rest cut small_old) rows_are front back

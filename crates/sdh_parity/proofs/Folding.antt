@@ -1,5 +1,5 @@
 -- BIP of 48 bytes holds BIP of fewer bytes: each of its bytes is a sum of some of the 48.
-use Rattle.std.proofs.Common.{◌≡◌, ◌≢◌, ℕ, zero, suc, ◌+◌, ◌*◌, ◌-◌, ◌/◌, ◌%◌, ◌^◌, ◌<◌, true, false, List, [], ◌∷◌, ◌++◌, length, get_or, refl, ap, sym, ◌∙◌, arith, bit_xor, inl, inr}
+use Rattle.std.proofs.Common.{◌≡◌, ◌≢◌, ℕ, zero, suc, ◌+◌, ◌*◌, ◌/◌, ◌%◌, ◌^◌, ◌<◌, true, false, List, [], ◌∷◌, length, get_or, refl, ap, sym, ◌∙◌, arith, bit_xor, inl, inr}
 use Rattle.std.specs.Prelude.{◌==◌}
 use Rattle.std.specs.Int.Bits.{xor_assoc, xor_comm, xor_zero_l, xor_zero_r}
 use Rattle.std.proofs.Math.Numerals.{suc-eq-add-one}
@@ -15,7 +15,7 @@ use Rattle.sdh_parity.specs.Pieces.{HasLanes}
 in-front : (x : ℕ) (xs : List ℕ) → x < 2 ^ 8 → bip8 (x ∷ xs) ≡ bit_xor x (bip8 xs)
 in-front x xs small = bip8-append (x ∷ []) xs ∙ ap (λ z. bit_xor z (bip8 xs)) (bip8-push [] x small ∙ ap (λ z. bit_xor z x) bip8-nil ∙ xor_zero_l x)
 
-one-more : (f : ℕ → ℕ) (c : ℕ) → f c < 2 ^ 8 → bip8 (cells f (suc c)) ≡ bit_xor (bip8 (cells f c)) (f c)
+pub one-more : (f : ℕ → ℕ) (c : ℕ) → f c < 2 ^ 8 → bip8 (cells f (suc c)) ≡ bit_xor (bip8 (cells f c)) (f c)
 one-more f c small = ap (λ n. bip8 (cells f n)) (suc-eq-add-one c) ∙ ap bip8 (cells-more f c) ∙ bip8-push (cells f c) (f c) small
 
 nothing : (f : ℕ → ℕ) (c : ℕ) → ((i : ℕ) → f i ≡ 0) → bip8 (cells f c) ≡ 0
@@ -95,7 +95,3 @@ four-lanes j xs lanes h small has =
   where
     four : (a b c d x y z w : ℕ) → a ≡ x → b ≡ y → c ≡ z → d ≡ w → bit_xor (bit_xor (bit_xor a b) c) d ≡ bit_xor (bit_xor (bit_xor x y) z) w
     four a b c d x y z w p q r s = cc
-
--- a parity to which the sums of a piece are added in place of its bytes
-pub by-lanes : (before xs lanes : List ℕ) → ((i : ℕ) → get_or xs i 0 < 2 ^ 8) → length lanes ≡ 48 → HasLanes 48 xs lanes → bip8 (before ++ lanes) ≡ bip8 (before ++ xs)
-by-lanes before xs lanes small long has = bip8-append before lanes ∙ ap (bit_xor (bip8 before)) (sum-of-lanes xs lanes small long has) ∙ sym (bip8-append before xs)

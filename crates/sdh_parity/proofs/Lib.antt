@@ -9,3 +9,4 @@ pub mod Running
 pub mod Mixing
 pub mod Folding
 pub mod Behind
+pub mod Sums

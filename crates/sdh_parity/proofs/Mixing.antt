@@ -1,5 +1,6 @@
 -- Vectors that are added, and sums that grow by a row.
-use Rattle.std.proofs.Common.{◌≡◌, ℕ, ◌+◌, ◌*◌, ◌-◌, ◌/◌, ◌%◌, ◌^◌, ◌<◌, ◌≤◌, List, length, get_or, ap, sym, ◌∙◌, arith, bit_xor, inl, inr, subst}
+use Rattle.std.proofs.Common.{◌≡◌, ℕ, ◌+◌, ◌*◌, ◌-◌, ◌/◌, ◌%◌, ◌^◌, ◌<◌, ◌≤◌, Bool, true, false, List, length, get_or, ap, sym, ◌∙◌, arith, bit_xor, inl, inr, subst}
+use Rattle.std.specs.Prelude.{if◌then◌else◌}
 use Rattle.std.specs.Int.Bits.{xor_assoc, xor_self, xor_zero_r}
 use Rattle.std.proofs.lemmas.Bool.{cases_lt}
 use Rattle.std.specs.Simd.Lanes.{zip2}
@@ -37,7 +38,7 @@ no-rows s at = sym (ap bip8 (cells-zero (λ i. get_or s (at + i * 48) 0)) ∙ bi
 pub same-rows : (s t : List ℕ) (at r : ℕ) → at < 48 → ((i : ℕ) → i < 48 * r → get_or s i 0 ≡ get_or t i 0) → every at 48 r s ≡ every at 48 r t
 same-rows s t at r h same = cells-same _ _ r 0 (λ q lt. same (at + q * 48) (omega arith))
 
-byte-lt : (k : ℕ) → scrambling_byte k < 2 ^ 8
+pub byte-lt : (k : ℕ) → scrambling_byte k < 2 ^ 8
 unfolding scrambling_byte
 byte-lt k = from_bits-lt (λ j. scrambling_bit (8 * k + (7 - j))) 8 (λ j. bit-lt (8 * k + (7 - j)))
 
@@ -62,20 +63,20 @@ module _ (old bytes b1 b2 b3 : List ℕ) (at r k : ℕ) (key : k ≡ (at + 48 * 
     (above3 : (m : ℕ) → 48 * r + 32 + 16 ≤ m → get_or b3 m 0 ≡ get_or b2 m 0)
     (small : (m : ℕ) → get_or b3 m 0 < 2 ^ 8) where
   -- the bytes of the next row before each third
-  pub was1 : (j : ℕ) → j < 16 → get_or bytes (48 * r + j) 0 ≡ get_or old (48 * r + j) 0
+  was1 : (j : ℕ) → j < 16 → get_or bytes (48 * r + j) 0 ≡ get_or old (48 * r + j) 0
   was1 j h = rest (48 * r + j) (omega arith)
 
-  pub was2 : (j : ℕ) → j < 16 → get_or b1 (48 * r + 16 + j) 0 ≡ get_or old (48 * r + 16 + j) 0
+  was2 : (j : ℕ) → j < 16 → get_or b1 (48 * r + 16 + j) 0 ≡ get_or old (48 * r + 16 + j) 0
   was2 j h = above1 (48 * r + 16 + j) (omega arith) ∙ rest (48 * r + 16 + j) (omega arith)
 
-  pub was3 : (j : ℕ) → j < 16 → get_or b2 (48 * r + 32 + j) 0 ≡ get_or old (48 * r + 32 + j) 0
+  was3 : (j : ℕ) → j < 16 → get_or b2 (48 * r + 32 + j) 0 ≡ get_or old (48 * r + 32 + j) 0
   was3 j h = above2 (48 * r + 32 + j) (omega arith) ∙ above1 (48 * r + 32 + j) (omega arith) ∙ rest (48 * r + 32 + j) (omega arith)
 
   -- and after all
-  pub is1 : (j : ℕ) → j < 16 → get_or b3 (48 * r + j) 0 ≡ get_or b1 (48 * r + j) 0
+  is1 : (j : ℕ) → j < 16 → get_or b3 (48 * r + j) 0 ≡ get_or b1 (48 * r + j) 0
   is1 j h = below3 (48 * r + j) (omega arith) ∙ below2 (48 * r + j) (omega arith)
 
-  pub is2 : (j : ℕ) → j < 16 → get_or b3 (48 * r + 16 + j) 0 ≡ get_or b2 (48 * r + 16 + j) 0
+  is2 : (j : ℕ) → j < 16 → get_or b3 (48 * r + 16 + j) 0 ≡ get_or b2 (48 * r + 16 + j) 0
   is2 j h = below3 (48 * r + 16 + j) (omega arith)
 
   pub more-done : (i : ℕ) → i < 48 * (r + 1) → get_or b3 i 0 ≡ bit_xor (get_or old i 0) (scrambling_byte (at + i))
@@ -120,11 +121,28 @@ module _ (old bytes b1 b2 b3 : List ℕ) (at r k : ℕ) (key : k ≡ (at + 48 * 
   old-small i h = small-back (get_or old i 0) (get_or b3 i 0) (at + i) (more-done i h) (small i)
 
   -- one row more of a column, before and after
-  pub sum-before : (m s v x : ℕ) → m < 48 → s ≡ bip8 (every m 48 r old) → v ≡ bit_xor s x → x ≡ get_or old (m + r * 48) 0 → v ≡ bip8 (every m 48 (r + 1) old)
+  sum-before : (m s v x : ℕ) → m < 48 → s ≡ bip8 (every m 48 r old) → v ≡ bit_xor s x → x ≡ get_or old (m + r * 48) 0 → v ≡ bip8 (every m 48 (r + 1) old)
   sum-before m s v x h e f g = f ∙ ap (λ z. bit_xor z x) e ∙ ap (bit_xor (bip8 (every m 48 r old))) g ∙ one-more old m r 0 (old-small (m + r * 48) (omega arith))
 
-  pub sum-after : (m s v x : ℕ) → m < 48 → s ≡ bip8 (every m 48 r bytes) → v ≡ bit_xor s x → x ≡ get_or b3 (m + r * 48) 0 → v ≡ bip8 (every m 48 (r + 1) b3)
+  sum-after : (m s v x : ℕ) → m < 48 → s ≡ bip8 (every m 48 r bytes) → v ≡ bit_xor s x → x ≡ get_or b3 (m + r * 48) 0 → v ≡ bip8 (every m 48 (r + 1) b3)
   sum-after m s v x h e f g = f ∙ ap (λ z. bit_xor z x) (e ∙ ap bip8 (sym (rows-stay m h))) ∙ ap (bit_xor (bip8 (every m 48 r b3))) g ∙ one-more b3 m r 0 (small (m + r * 48))
+
+  -- the same of the clear bytes
+  pub clear1 : (after : Bool) (j : ℕ) → j < 16 → get_or (if after then b1 else bytes) (48 * r + j) 0 ≡ get_or (if after then b3 else old) (j + r * 48) 0
+  clear1 true j h = sym (is1 j h) ∙ ap (λ i. get_or b3 i 0) (omega arith)
+  clear1 false j h = was1 j h ∙ ap (λ i. get_or old i 0) (omega arith)
+
+  pub clear2 : (after : Bool) (j : ℕ) → j < 16 → get_or (if after then b2 else b1) (48 * r + 16 + j) 0 ≡ get_or (if after then b3 else old) (16 + j + r * 48) 0
+  clear2 true j h = sym (is2 j h) ∙ ap (λ i. get_or b3 i 0) (omega arith)
+  clear2 false j h = was2 j h ∙ ap (λ i. get_or old i 0) (omega arith)
+
+  pub clear3 : (after : Bool) (j : ℕ) → j < 16 → get_or (if after then b3 else b2) (48 * r + 32 + j) 0 ≡ get_or (if after then b3 else old) (32 + j + r * 48) 0
+  clear3 true j h = ap (λ i. get_or b3 i 0) (omega arith)
+  clear3 false j h = was3 j h ∙ ap (λ i. get_or old i 0) (omega arith)
+
+  pub sum-clear : (after : Bool) (m s v x : ℕ) → m < 48 → s ≡ bip8 (every m 48 r (if after then bytes else old)) → v ≡ bit_xor s x → x ≡ get_or (if after then b3 else old) (m + r * 48) 0 → v ≡ bip8 (every m 48 (r + 1) (if after then b3 else old))
+  sum-clear true m s v x h e f g = sum-after m s v x h e f g
+  sum-clear false m s v x h e f g = sum-before m s v x h e f g
 
 -- bytes to which the sequence was added are small where what is left of them is
 pub all-small : (old new : List ℕ) (at : ℕ) → ((i : ℕ) → i < length old → get_or new i 0 ≡ bit_xor (get_or old i 0) (scrambling_byte (at + i))) → ((i : ℕ) → get_or new i 0 < 2 ^ 8) → (i : ℕ) → get_or old i 0 < 2 ^ 8

@@ -1,5 +1,5 @@
 //! The scrambler and the parities over the pieces of a frame: the same results however it is cut.
-ghost use Rattle.std.specs.Prelude.{◌≡◌, ℕ, ◌+◌, ◌-◌, ◌*◌, ◌%◌, ◌^◌, ◌<◌, ◌≤◌, ◌⊎◌, ◌==◌, nat_le, List, [], ◌++◌, length, slice_index, bit_xor};
+ghost use Rattle.std.specs.Prelude.{◌≡◌, ℕ, ◌+◌, ◌-◌, ◌*◌, ◌%◌, ◌^◌, ◌<◌, ◌≤◌, ◌⊎◌, ◌==◌, nat_le, if◌then◌else◌, List, [], ◌++◌, length, slice_index, bit_xor};
 ghost use Rattle.sdh_basics.specs.Parity.{bip8 as parity_of};
 ghost use Rattle.sdh_parity.specs.Scrambling.{scrambling_byte};
 ghost use Rattle.sdh_parity.specs.Pieces.{scrambled_from, after_bytes, HasLanes, InPieces};
@@ -99,19 +99,20 @@ impl Scrambler {
         self.clear <= self.at
     }
 
-    // Scrambles or descrambles the next piece, which is behind the clear bytes, and sums it on the way.
-    fn pass(&mut self, bytes: &mut [u8]) -> Passed
+    // Scrambles the next piece, or descrambles it, which makes it clear, and sums it on the way. It is behind the first bytes,
+    // which stay as they are.
+    #[inline(always)]
+    fn pass(&mut self, bytes: &mut [u8], clear_after: bool) -> Passed
         requires behind { self.old.clear ≤ self.old.at }
         requires few { self.old.at + length bytes.old ≤ 38880 }
         ensures bytes { bytes.new ≡ scrambled_from self.old.clear self.old.at bytes.old }
         ensures at { self.new ≡ record self.old { at = self.old.at + length bytes.old } }
-        ensures before { HasLanes 48 bytes.old result.before }
-        ensures after { HasLanes 48 bytes.new result.after }
-        ensures before_len { length result.before ≡ 48 }
-        ensures after_len { length result.after ≡ 48 }
+        ensures lanes { HasLanes 48 (if clear_after then bytes.new else bytes.old) result.lanes }
+        ensures long { length result.lanes ≡ 48 }
+        ensures line { result.line ≡ parity_of (if clear_after then bytes.old else bytes.new) }
         ensures small { (i : ℕ) → slice_index bytes.old i < 2 ^ 8 }
     {
-        let passed = pass(bytes, self.at - self.clear);
+        let passed = pass(bytes, self.at - self.clear, clear_after);
         self.at += bytes.len();
         passed
     }
@@ -152,6 +153,13 @@ impl Bip8 {
         ensures { (before : List ℕ) → self.old ≡ parity_of before → self.new ≡ parity_of (before ++ bytes.now) }
     {
         self.value ^= bip8(bytes);
+    }
+
+    // Adds the next piece by its parity.
+    fn add_parity(&mut self, parity: u8)
+        ensures { (before bytes : List ℕ) → self.old ≡ parity_of before → parity ≡ parity_of bytes → self.new ≡ parity_of (before ++ bytes) }
+    {
+        self.value ^= parity;
     }
 
     /// The parity of all pieces.
@@ -251,9 +259,9 @@ pub fn send_piece(
         line.add(bytes);
         return;
     }
-    let passed = scrambler.pass(bytes);
-    clear.add_lanes(bytes.len(), &passed.before);
-    line.add(&passed.after);
+    let passed = scrambler.pass(bytes, false);
+    clear.add_lanes(bytes.len(), &passed.lanes);
+    line.add_parity(passed.line);
 }
 
 /// Receives the next piece: it is added to the parity of the bytes on the line, descrambled, and added to that of the
@@ -277,9 +285,9 @@ pub fn receive_piece(
         clear.add(bytes);
         return;
     }
-    let passed = scrambler.pass(bytes);
-    line.add(&passed.before);
-    clear.add_lanes(bytes.len(), &passed.after);
+    let passed = scrambler.pass(bytes, true);
+    line.add_parity(passed.line);
+    clear.add_lanes(bytes.len(), &passed.lanes);
 }
 
 /// However a frame is cut, its pieces make what the whole makes.

@@ -1,32 +1,32 @@
-//! The scrambler and both parities in one pass over the bytes of a piece.
-ghost use Rattle.std.specs.Prelude.{◌≡◌, ℕ, ◌+◌, ◌*◌, ◌%◌, ◌<◌, ◌≤◌, length, slice_index, bit_xor};
+//! The scrambler and both parities in one pass over the bytes of a piece. Only the clear bytes are summed: as they are after
+//! the pass where `clear_after` holds, as they were before it otherwise. The parity of the other bytes, those on the line, is
+//! the clear bytes' with that of the sequence added.
+ghost use Rattle.std.specs.Prelude.{◌≡◌, ℕ, ◌+◌, ◌*◌, ◌%◌, ◌<◌, ◌≤◌, if◌then◌else◌, length, slice_index, bit_xor};
 ghost use Rattle.sdh_basics.specs.Parity.{bip8 as parity_of};
 ghost use Rattle.sdh_parity.specs.Parity.{every};
 ghost use Rattle.sdh_parity.specs.Scrambling.{scrambling_byte};
 ghost use Rattle.sdh_parity.specs.Pieces.{HasLanes};
 
-use crate::scrambler::{key, sequence};
+use crate::parity::bip8;
+use crate::scrambler::{key, sequence, sequence_parity};
 use std::simd::prelude::*;
 
-// Sixteen bytes from i on get the sequence from k on. They are added to the sums, as they were and as they are.
+// Sixteen bytes from i on get the sequence from k on. The clear ones are added to the sum.
 #[inline(always)]
-fn step(bytes: &mut [u8], i: usize, k: usize, before: u8x16, after: u8x16) -> (u8x16, u8x16)
+fn step(bytes: &mut [u8], i: usize, k: usize, sum: u8x16, clear_after: bool) -> u8x16
     requires room { i + 16 ≤ length bytes.old }
     requires key { k + 16 ≤ 1064 }
-    requires before { length before ≡ 16 }
-    requires after { length after ≡ 16 }
+    requires sum { length sum ≡ 16 }
     ensures below { (m : ℕ) → m < i → slice_index bytes.new m ≡ slice_index bytes.old m }
     ensures inside { (j : ℕ) → j < 16 → slice_index bytes.new (i + j) ≡ bit_xor (slice_index bytes.old (i + j)) (scrambling_byte (k + j)) }
     ensures above { (m : ℕ) → i + 16 ≤ m → slice_index bytes.new m ≡ slice_index bytes.old m }
-    ensures before_long { length result.0 ≡ 16 }
-    ensures after_long { length result.1 ≡ 16 }
-    ensures before { (j : ℕ) → j < 16 → slice_index result.0 j ≡ bit_xor (slice_index before j) (slice_index bytes.old (i + j)) }
-    ensures after { (j : ℕ) → j < 16 → slice_index result.1 j ≡ bit_xor (slice_index after j) (slice_index bytes.new (i + j)) }
+    ensures long { length result ≡ 16 }
+    ensures sum { (j : ℕ) → j < 16 → slice_index result j ≡ bit_xor (slice_index sum j) (slice_index (if clear_after then bytes.new else bytes.old) (i + j)) }
 {
     let old = u8x16::from_slice(&bytes[i..]);
     let new = old ^ key(k);
     new.copy_to_slice(&mut bytes[i..]);
-    (before ^ old, after ^ new)
+    sum ^ (if clear_after { new } else { old })
 }
 
 // The place in the sequence 48 bytes on, modulo 1016.
@@ -42,41 +42,35 @@ fn after_row(k: usize) -> usize
     }
 }
 
-// The sums of 48 columns: of the bytes as they were, and as they are.
+// The sums of 48 columns.
 #[derive(Drop)]
 struct Sums {
     a: u8x16,
     b: u8x16,
     c: u8x16,
-    x: u8x16,
-    y: u8x16,
-    z: u8x16,
 }
 
-// Whole rows of 48 bytes get the sequence from its byte `at` on.
-fn mix(bytes: &mut [u8], at: usize, rows: usize) -> Sums
+// Whole rows of 48 bytes get the sequence from its byte `at` on. The sums are those of the clear bytes.
+#[inline(always)]
+fn mix(bytes: &mut [u8], at: usize, rows: usize, clear_after: bool) -> Sums
     requires rows { length bytes.old ≡ 48 * rows }
     ensures bytes { (i : ℕ) → i < 48 * rows → slice_index bytes.new i ≡ bit_xor (slice_index bytes.old i) (scrambling_byte (at + i)) }
-    ensures a { (j : ℕ) → j < 16 → slice_index result.a j ≡ parity_of (every j 48 rows bytes.old) }
-    ensures b { (j : ℕ) → j < 16 → slice_index result.b j ≡ parity_of (every (16 + j) 48 rows bytes.old) }
-    ensures c { (j : ℕ) → j < 16 → slice_index result.c j ≡ parity_of (every (32 + j) 48 rows bytes.old) }
-    ensures x { (j : ℕ) → j < 16 → slice_index result.x j ≡ parity_of (every j 48 rows bytes.new) }
-    ensures y { (j : ℕ) → j < 16 → slice_index result.y j ≡ parity_of (every (16 + j) 48 rows bytes.new) }
-    ensures z { (j : ℕ) → j < 16 → slice_index result.z j ≡ parity_of (every (32 + j) 48 rows bytes.new) }
-    ensures longs { (length result.a ≡ 16) × (length result.b ≡ 16) × (length result.c ≡ 16) × (length result.x ≡ 16) × (length result.y ≡ 16) × (length result.z ≡ 16) }
+    ensures a { (j : ℕ) → j < 16 → slice_index result.a j ≡ parity_of (every j 48 rows (if clear_after then bytes.new else bytes.old)) }
+    ensures b { (j : ℕ) → j < 16 → slice_index result.b j ≡ parity_of (every (16 + j) 48 rows (if clear_after then bytes.new else bytes.old)) }
+    ensures c { (j : ℕ) → j < 16 → slice_index result.c j ≡ parity_of (every (32 + j) 48 rows (if clear_after then bytes.new else bytes.old)) }
+    ensures longs { (length result.a ≡ 16) × (length result.b ≡ 16) × (length result.c ≡ 16) }
 {
     let none = u8x16::splat(0);
     let (mut a, mut b, mut c) = (none, none, none);
-    let (mut x, mut y, mut z) = (none, none, none);
     let mut k = at % 1016;
     for r in 0..rows {
         let i = 48 * r;
-        (a, x) = step(bytes, i, k, a, x);
-        (b, y) = step(bytes, i + 16, k + 16, b, y);
-        (c, z) = step(bytes, i + 32, k + 32, c, z);
+        a = step(bytes, i, k, a, clear_after);
+        b = step(bytes, i + 16, k + 16, b, clear_after);
+        c = step(bytes, i + 32, k + 32, c, clear_after);
         k = after_row(k);
     }
-    Sums { a, b, c, x, y, z }
+    Sums { a, b, c }
 }
 
 // Three vectors one after the other.
@@ -121,65 +115,63 @@ fn add_key(bytes: &mut [u8], len: usize, k: usize)
 
 // Part of a row of 48 bytes.
 #[inline(always)]
-fn pass_part(bytes: &mut [u8], len: usize, k: usize, before: &mut [u8], after: &mut [u8])
+fn pass_part(bytes: &mut [u8], len: usize, k: usize, lanes: &mut [u8], clear_after: bool)
     requires bytes { length bytes.old ≡ len }
     requires few { len ≤ 48 }
     requires key { k + len ≤ 1064 }
-    requires before { length before.old ≡ 48 }
-    requires after { length after.old ≡ 48 }
+    requires lanes { length lanes.old ≡ 48 }
     ensures bytes { (i : ℕ) → i < len → slice_index bytes.new i ≡ bit_xor (slice_index bytes.old i) (scrambling_byte (k + i)) }
-    ensures before { (j : ℕ) → j < len → slice_index before.new j ≡ bit_xor (slice_index before.old j) (slice_index bytes.old j) }
-    ensures before_rest { (j : ℕ) → len ≤ j → slice_index before.new j ≡ slice_index before.old j }
-    ensures after { (j : ℕ) → j < len → slice_index after.new j ≡ bit_xor (slice_index after.old j) (slice_index bytes.new j) }
-    ensures after_rest { (j : ℕ) → len ≤ j → slice_index after.new j ≡ slice_index after.old j }
+    ensures lanes { (j : ℕ) → j < len → slice_index lanes.new j ≡ bit_xor (slice_index lanes.old j) (slice_index (if clear_after then bytes.new else bytes.old) j) }
+    ensures rest { (j : ℕ) → len ≤ j → slice_index lanes.new j ≡ slice_index lanes.old j }
 {
-    add_to(before, bytes, len);
-    add_key(bytes, len, k);
-    add_to(after, bytes, len);
-}
-
-// The same. An STM-4 row has 24 bytes behind its whole rows of 48, and one without its overhead 36.
-fn pass_rest(bytes: &mut [u8], k: usize, before: &mut [u8], after: &mut [u8])
-    requires few { length bytes.old ≤ 48 }
-    requires key { k + length bytes.old ≤ 1064 }
-    requires before { length before.old ≡ 48 }
-    requires after { length after.old ≡ 48 }
-    ensures bytes { (i : ℕ) → i < length bytes.old → slice_index bytes.new i ≡ bit_xor (slice_index bytes.old i) (scrambling_byte (k + i)) }
-    ensures before { (j : ℕ) → j < length bytes.old → slice_index before.new j ≡ bit_xor (slice_index before.old j) (slice_index bytes.old j) }
-    ensures before_rest { (j : ℕ) → length bytes.old ≤ j → slice_index before.new j ≡ slice_index before.old j }
-    ensures after { (j : ℕ) → j < length bytes.old → slice_index after.new j ≡ bit_xor (slice_index after.old j) (slice_index bytes.new j) }
-    ensures after_rest { (j : ℕ) → length bytes.old ≤ j → slice_index after.new j ≡ slice_index after.old j }
-{
-    match bytes.len() {
-        24 => pass_part(bytes, 24, k, before, after),
-        36 => pass_part(bytes, 36, k, before, after),
-        len => pass_part(bytes, len, k, before, after),
+    if clear_after {
+        add_key(bytes, len, k);
+        add_to(lanes, bytes, len);
+    } else {
+        add_to(lanes, bytes, len);
+        add_key(bytes, len, k);
     }
 }
 
-/// BIP of 48 bytes of a piece, as it was and as it is.
-#[derive(Drop)]
-pub struct Passed {
-    pub before: [u8; 48],
-    pub after: [u8; 48],
+// The same. An STM-4 row has 24 bytes behind its whole rows of 48, and one without its overhead 36.
+fn pass_rest(bytes: &mut [u8], k: usize, lanes: &mut [u8], clear_after: bool)
+    requires few { length bytes.old ≤ 48 }
+    requires key { k + length bytes.old ≤ 1064 }
+    requires lanes { length lanes.old ≡ 48 }
+    ensures bytes { (i : ℕ) → i < length bytes.old → slice_index bytes.new i ≡ bit_xor (slice_index bytes.old i) (scrambling_byte (k + i)) }
+    ensures lanes { (j : ℕ) → j < length bytes.old → slice_index lanes.new j ≡ bit_xor (slice_index lanes.old j) (slice_index (if clear_after then bytes.new else bytes.old) j) }
+    ensures rest { (j : ℕ) → length bytes.old ≤ j → slice_index lanes.new j ≡ slice_index lanes.old j }
+{
+    match bytes.len() {
+        24 => pass_part(bytes, 24, k, lanes, clear_after),
+        36 => pass_part(bytes, 36, k, lanes, clear_after),
+        len => pass_part(bytes, len, k, lanes, clear_after),
+    }
 }
 
-/// A piece gets the sequence from its byte `at` on.
-pub fn pass(bytes: &mut [u8], at: usize) -> Passed
+/// BIP of 48 bytes of the clear bytes of a piece, and BIP-8 of its bytes on the line.
+#[derive(Drop)]
+pub struct Passed {
+    pub lanes: [u8; 48],
+    pub line: u8,
+}
+
+/// A piece gets the sequence from its byte `at` on, and is summed on the way.
+#[inline(always)]
+pub fn pass(bytes: &mut [u8], at: usize, clear_after: bool) -> Passed
     requires { at + length bytes.old ≤ 38880 }
     ensures bytes { (i : ℕ) → i < length bytes.old → slice_index bytes.new i ≡ bit_xor (slice_index bytes.old i) (scrambling_byte (at + i)) }
-    ensures before { HasLanes 48 bytes.old result.before }
-    ensures after { HasLanes 48 bytes.new result.after }
-    ensures before_len { length result.before ≡ 48 }
-    ensures after_len { length result.after ≡ 48 }
+    ensures lanes { HasLanes 48 (if clear_after then bytes.new else bytes.old) result.lanes }
+    ensures long { length result.lanes ≡ 48 }
+    ensures line { result.line ≡ parity_of (if clear_after then bytes.old else bytes.new) }
 {
-    let rows = bytes.len() / 48;
+    let len = bytes.len();
+    let rows = len / 48;
     let (whole, rest) = bytes.split_at_mut(48 * rows);
-    let sums = mix(whole, at, rows);
-    let mut before = [0; 48];
-    let mut after = [0; 48];
-    join(sums.a, sums.b, sums.c, &mut before);
-    join(sums.x, sums.y, sums.z, &mut after);
-    pass_rest(rest, (at + 48 * rows) % 1016, &mut before, &mut after);
-    Passed { before, after }
+    let sums = mix(whole, at, rows, clear_after);
+    let mut lanes = [0; 48];
+    join(sums.a, sums.b, sums.c, &mut lanes);
+    pass_rest(rest, (at + 48 * rows) % 1016, &mut lanes, clear_after);
+    let line = bip8(&lanes) ^ sequence_parity(at, len);
+    Passed { lanes, line }
 }

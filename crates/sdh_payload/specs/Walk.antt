@@ -1,5 +1,5 @@
 -- A walk along a customer's VC-4s, with counters.
-use Rattle.std.specs.Prelude.{◌≡◌, ℕ, ◌+◌, ◌-◌, ◌*◌, ◌/◌, ◌%◌, ◌<◌, ◌≤◌, List, length, slice_index}
+use Rattle.std.specs.Prelude.{◌≡◌, ℕ, ◌+◌, ◌-◌, ◌*◌, ◌/◌, ◌%◌, ◌<◌, ◌≤◌, List, length, take, slice_index}
 use Rattle.sdh_basics.specs.Parity.{bip8}
 use Rattle.sdh_basics.specs.Cells.{cells}
 use Rattle.sdh_payload.specs.Customer.{Customer}
@@ -37,3 +37,8 @@ pub record Repeats (len : ℕ) (bytes : List ℕ) : Type 0 where
   pub few : len ≤ 64
   pub enough : length bytes ≡ 324
   pub same : (k : ℕ) → k < 324 → slice_index bytes k ≡ slice_index bytes (k % len)
+
+-- the parities of the first bytes of a list: of none, of one and so on, up to all
+pub record AreFrontParities (bytes parities : List ℕ) : Type 0 where
+  pub long : length parities ≡ length bytes + 1
+  pub each : (k : ℕ) → k ≤ length bytes → slice_index parities k ≡ bip8 (take k bytes)

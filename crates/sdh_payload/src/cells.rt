@@ -74,12 +74,12 @@ impl Cells {
         self.bytes.extend_from_slice(bytes).unwrap();
     }
 
-    // As many bytes as a payload has, in place of the bytes.
-    fn make_room(&mut self)
-        ensures { length self.new ≡ 2349 }
+    /// So many bytes in place of those that there are. They mean nothing. It takes no memory.
+    pub fn make_room(&mut self, count: usize)
+        requires { count ≤ 2352 }
+        ensures { length self.new ≡ count }
     {
-        self.clear();
-        self.bytes.resize(2349, 0).unwrap();
+        self.bytes.resize(count, 0).unwrap();
     }
 
     /// Lends room for the 2349 bytes of a payload, in place of the bytes. It takes no memory.
@@ -87,7 +87,15 @@ impl Cells {
         ensures* lends { sem 𝓛 (LendsRoom self.entry result) }
         ensures full { length result.now ≡ 2349 }
     {
-        self.make_room();
+        self.make_room(2349);
+        self.bytes.as_mut_slice()
+    }
+
+    /// Lends the bytes, to be written in place.
+    pub fn as_mut_slice(&mut self) -> &mut [u8]
+        ensures* lends { sem 𝓛 (LendsRoom self.entry result) }
+        ensures bytes { result.now ≡ self.old }
+    {
         self.bytes.as_mut_slice()
     }
 

@@ -7,7 +7,6 @@ pub mod clock;
 pub mod delivered;
 pub mod feed;
 pub mod laws;
-mod parity;
 pub mod port;
 mod repeated;
 mod short_text;

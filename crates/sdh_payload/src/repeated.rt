@@ -1,6 +1,7 @@
 //! A text that is repeated for more than a row of a VC-4.
-ghost use Rattle.std.specs.Prelude.{◌≡◌, ◌+◌, ◌<◌, ◌≤◌, length};
-ghost use Rattle.sdh_payload.specs.Walk.{repeated_from};
+ghost use Rattle.std.specs.Prelude.{◌≡◌, ◌+◌, ◌%◌, ◌<◌, ◌≤◌, length};
+ghost use Rattle.sdh_basics.specs.Parity.{bip8};
+ghost use Rattle.sdh_payload.specs.Walk.{repeated_from, AreFrontParities};
 
 use std::fmt;
 use std::marker::Model;
@@ -11,28 +12,48 @@ pub const ROW: usize = 260;
 /// A place in the longest text, and a row behind it.
 const ROOM: usize = 64 + ROW;
 
-/// A text of 1 to 64 bytes. From each place in it a row's text bytes stand in one piece.
+/// A text of 1 to 64 bytes. From each place in it a row's text bytes stand in one piece, whose parity is known.
 #[derive(Drop)]
 pub struct Repeated {
     bytes: [u8; ROOM],
+    // The parities of the first bytes: of none, of one and so on.
+    parities: [u8; ROOM + 1],
     len: usize,
+    // The place behind a row from place 0 on.
+    after_row: usize,
 }
 
 impl Model for Repeated {
-    ghost use Rattle.std.specs.Prelude.{ℕ, List, take};
-    ghost use Rattle.sdh_payload.specs.Walk.{Repeats};
+    ghost use Rattle.std.specs.Prelude.{◌≡◌, ◌%◌, ℕ, List, take};
+    ghost use Rattle.sdh_payload.specs.Walk.{Repeats, AreFrontParities};
 
     ghost Value = { List ℕ };
 
     ghost view = { λ r. take r.len r.bytes };
 
-    ghost invariant = { λ r. Repeats r.len r.bytes };
+    ghost invariant = { λ r. record {
+      repeats : Repeats r.len r.bytes;
+      parities : AreFrontParities r.bytes r.parities;
+      after_row : r.after_row ≡ 260 % r.len;
+    } };
 }
 
 impl fmt::Debug for Repeated {
     fn fmt<W: fmt::Write>(&self, f: &mut fmt::Formatter<W>) -> fmt::Result {
         write!(f, "Repeated({} bytes)", self.len)
     }
+}
+
+// The parities of the first bytes.
+fn front_parities(bytes: &[u8; ROOM]) -> [u8; ROOM + 1]
+    requires { length bytes.now ≡ 324 }
+    ensures { AreFrontParities bytes.now result }
+{
+    let mut parities = [0; ROOM + 1];
+    for i in 0..ROOM {
+        parities[i + 1] = parities[i] ^ bytes[i];
+    }
+    parities
 }
 
 impl Repeated {
@@ -46,7 +67,13 @@ impl Repeated {
         for i in 0..ROOM {
             bytes[i] = text[i % len];
         }
-        Repeated { bytes, len }
+        let parities = front_parities(&bytes);
+        Repeated {
+            bytes,
+            parities,
+            len,
+            after_row: ROW % len,
+        }
     }
 
     pub fn len(&self) -> usize
@@ -66,5 +93,31 @@ impl Repeated {
     {
         let rest = &self.bytes[place..];
         &rest[..count]
+    }
+
+    /// The parity of these bytes.
+    pub fn parity(&self, place: usize, count: usize) -> u8
+        requires place { place < length self.now }
+        requires count { count ≤ 260 }
+        ensures { result ≡ bip8 (repeated_from self.now place count) }
+    {
+        self.parities[place] ^ self.parities[place + count]
+    }
+
+    /// The place behind these bytes.
+    pub fn behind(&self, place: usize, count: usize) -> usize
+        requires place { place < length self.now }
+        requires count { count ≤ 260 }
+        ensures { result ≡ (place + count) % length self.now }
+    {
+        if count < ROW {
+            return (place + count) % self.len;
+        }
+        let next = place + self.after_row;
+        if next < self.len {
+            next
+        } else {
+            next - self.len
+        }
     }
 }

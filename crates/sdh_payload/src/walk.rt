@@ -1,12 +1,11 @@
 //! A walk along a customer's VC-4s, row by row.
-ghost use Rattle.std.specs.Prelude.{◌≡◌, ◌+◌, ◌-◌, ◌*◌, ◌/◌, ◌%◌, ◌^◌, ◌<◌, ◌≤◌, ◌++◌, length, slice_index};
+ghost use Rattle.std.specs.Prelude.{◌≡◌, ◌+◌, ◌-◌, ◌*◌, ◌/◌, ◌%◌, ◌^◌, ◌<◌, ◌≤◌, ◌++◌, length, take, slice_index};
 ghost use Rattle.sdh_basics.specs.Parity.{bip8};
 ghost use Rattle.sdh_payload.specs.Customer.{Customer};
 ghost use Rattle.sdh_payload.specs.Stream.{path_overhead, padded, start_of, vc4_byte, vc4_front};
 ghost use Rattle.sdh_payload.specs.Walk.{containers_from, text_before};
 
 use crate::cells::Cells;
-use crate::parity::bip8_of;
 use crate::port::Port;
 use crate::repeated::{ROW, Repeated};
 use std::marker::Model;
@@ -135,10 +134,11 @@ impl Walk {
     }
 
     // Puts the path overhead byte at the start of a row.
-    fn put_overhead(&mut self, out: &mut Cells)
+    fn put_overhead(&mut self, out: &mut [u8], done: usize)
         requires start { self.old.at % 261 ≡ 0 }
-        requires room { length out.old < 2352 }
-        ensures bytes { out.new ≡ out.old ++ containers_from self.old.port self.old.at 1 }
+        requires room { done < length out.old }
+        ensures bytes { take (done + 1) out.new ≡ take done out.old ++ containers_from self.old.port self.old.at 1 }
+        ensures len { length out.new ≡ length out.old }
         ensures next { self.new ≡ record self.old { at = self.old.at + 1 } }
     {
         let byte = overhead_byte(
@@ -147,24 +147,25 @@ impl Walk {
             self.number,
             self.index / COLUMNS,
         );
-        out.push(byte);
+        out[done] = byte;
         self.parity ^= byte;
         self.index += 1;
     }
 
     // Puts the next `count` text bytes of one row.
-    fn put_text(&mut self, count: usize, out: &mut Cells)
+    fn put_text(&mut self, count: usize, out: &mut [u8], done: usize)
         requires inside { 0 < self.old.at % 261 }
         requires fits { self.old.at % 261 + count ≤ 261 }
-        requires room { length out.old + count ≤ 2352 }
+        requires room { done + count ≤ length out.old }
         requires few { self.old.at < 2 ^ 60 }
-        ensures bytes { out.new ≡ out.old ++ containers_from self.old.port self.old.at count }
+        ensures bytes { take (done + count) out.new ≡ take done out.old ++ containers_from self.old.port self.old.at count }
+        ensures len { length out.new ≡ length out.old }
         ensures next { self.new ≡ record self.old { at = self.old.at + count } }
     {
         let run = self.text.from(self.place, count);
-        out.extend_from_slice(run);
-        self.parity ^= bip8_of(run);
-        self.place = (self.place + count) % self.text.len();
+        out[done..done + count].copy_from_slice(run);
+        self.parity ^= self.text.parity(self.place, count);
+        self.place = self.text.behind(self.place, count);
         self.index += count;
         if self.index == VC4_LEN {
             self.index = 0;
@@ -174,24 +175,38 @@ impl Walk {
         }
     }
 
-    /// Puts the next bytes of one row, at least one and at most `most`, and says how many.
-    pub fn put_some(&mut self, most: usize, out: &mut Cells) -> usize
-        requires some { 0 < most }
-        requires room { length out.old + most ≤ 2352 }
+    /// Puts the next bytes of one row behind the first `done`, at least one and at most as many as there is room for, and says how
+    /// many.
+    pub fn put_some(&mut self, out: &mut [u8], done: usize) -> usize
+        requires some { done < length out.old }
         requires few { self.old.at < 2 ^ 60 }
         ensures some { 0 < result }
-        ensures within { result ≤ most }
-        ensures bytes { out.new ≡ out.old ++ containers_from self.old.port self.old.at result }
+        ensures within { done + result ≤ length out.old }
+        ensures bytes { take (done + result) out.new ≡ take done out.old ++ containers_from self.old.port self.old.at result }
+        ensures len { length out.new ≡ length out.old }
         ensures next { self.new ≡ record self.old { at = self.old.at + result } }
     {
         let column = self.index % COLUMNS;
         if column == 0 {
-            self.put_overhead(out);
+            self.put_overhead(out, done);
             return 1;
         }
-        let count = most.min(COLUMNS - column);
-        self.put_text(count, out);
+        let count = (out.len() - done).min(COLUMNS - column);
+        self.put_text(count, out, done);
         count
+    }
+
+    // Puts the next bytes, as many as there is room for.
+    fn fill_all(&mut self, out: &mut [u8])
+        requires room { length out.old ≤ 2352 }
+        requires few { self.old.at < 2 ^ 59 }
+        ensures bytes { out.new ≡ containers_from self.old.port self.old.at (length out.old) }
+        ensures next { self.new ≡ record self.old { at = self.old.at + length out.old } }
+    {
+        let mut done = 0;
+        while done < out.len() {
+            done += self.put_some(out, done);
+        }
     }
 
     /// Puts the next `count` bytes in place of what `out` held.
@@ -201,10 +216,7 @@ impl Walk {
         ensures bytes { out.new ≡ containers_from self.old.port self.old.at count }
         ensures next { self.new ≡ record self.old { at = self.old.at + count } }
     {
-        out.clear();
-        let mut done = 0;
-        while done < count {
-            done += self.put_some(count - done, out);
-        }
+        out.make_room(count);
+        self.fill_all(out.as_mut_slice());
     }
 }

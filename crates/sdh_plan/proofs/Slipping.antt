@@ -106,24 +106,18 @@ slips_more s t port more few here others = fun_ext (λ other. by other (same_end
         ap (λ xs. get_or xs other.circuit 0) (others other.end e)
         ∙ ap (λ b. cond b (slips_in s other + more) (slips_in s other)) (sym (ap (λ b. (other.circuit == port.circuit) && b) e ∙ both_false (other.circuit == port.circuit)))
 
-pub slips_more_at_a : (s : Slips) (at_a : List ℕ) (port : PortId) (more : ℕ) → port.end ≡ A → port.circuit < length s.at_a → at_a ≡ set s.at_a port.circuit (slips_in s port + more)
-    → slips_in (record s { at_a = at_a }) ≡ with_slips port more (slips_in s)
-slips_more_at_a s at_a port more e few is =
-    slips_more s (record s { at_a = at_a }) port more (subst (λ (d : End). port.circuit < length (counts_at s d)) (sym e) few)
-    (subst (λ (d : End). counts_at (record s { at_a = at_a }) d ≡ set (counts_at s d) port.circuit (slips_in s port + more)) (sym e) is)
-    (λ d h. other d (ap (same_end d) (sym e) ∙ h))
-  where
-    other : (d : End) → same_end d A ≡ false → counts_at (record s { at_a = at_a }) d ≡ counts_at s d
-    other A h = cc
-    other B h = refl
+-- the same of the port at an end
+pub slips_more_at : (s t : Slips) (port : PortId) (more : ℕ) (end : End) → port.end ≡ end → port.circuit < length (counts_at s end) → counts_at t end ≡ set (counts_at s end) port.circuit (slips_in s port + more)
+    → ((d : End) → same_end d end ≡ false → counts_at t d ≡ counts_at s d) → slips_in t ≡ with_slips port more (slips_in s)
+slips_more_at s t port more end e few is others =
+    slips_more s t port more (subst (λ (d : End). port.circuit < length (counts_at s d)) (sym e) few) (subst (λ (d : End). counts_at t d ≡ set (counts_at s d) port.circuit (slips_in s port + more)) (sym e) is)
+    (λ d h. others d (ap (same_end d) (sym e) ∙ h))
 
-pub slips_more_at_b : (s : Slips) (at_b : List ℕ) (port : PortId) (more : ℕ) → port.end ≡ B → port.circuit < length s.at_b → at_b ≡ set s.at_b port.circuit (slips_in s port + more)
-    → slips_in (record s { at_b = at_b }) ≡ with_slips port more (slips_in s)
-slips_more_at_b s at_b port more e few is =
-    slips_more s (record s { at_b = at_b }) port more (subst (λ (d : End). port.circuit < length (counts_at s d)) (sym e) few)
-    (subst (λ (d : End). counts_at (record s { at_b = at_b }) d ≡ set (counts_at s d) port.circuit (slips_in s port + more)) (sym e) is)
-    (λ d h. other d (ap (same_end d) (sym e) ∙ h))
-  where
-    other : (d : End) → same_end d B ≡ false → counts_at (record s { at_b = at_b }) d ≡ counts_at s d
-    other A h = refl
-    other B h = cc
+-- the counts at the other end stay
+pub b_stays : (s : Slips) (at_a : List ℕ) (d : End) → same_end d A ≡ false → counts_at (record s { at_a = at_a }) d ≡ counts_at s d
+b_stays s at_a A h = cc
+b_stays s at_a B h = refl
+
+pub a_stays : (s : Slips) (at_b : List ℕ) (d : End) → same_end d B ≡ false → counts_at (record s { at_b = at_b }) d ≡ counts_at s d
+a_stays s at_b A h = refl
+a_stays s at_b B h = cc

@@ -302,25 +302,41 @@ fn exchanged_over_a_span<P: Plant>(
     Ok([came_first, came_second])
 }
 
+// The same over a plant that counts its calls, with the count of its calls to send.
+fn exchanged_by_a_failing_plant(alloc: Global, rate: Rate) -> Result<([Option<u8>; 2], u64), Fail> {
+    let mut plant = FailingPlant::new(alloc, &[(PlantCall::Send, 3)])?;
+    let came = exchanged_over_a_span(alloc, &mut plant, rate)?;
+    Ok((came, plant.calls(PlantCall::Send)))
+}
+
+// The same over a plant that records, and whether it recorded both frames as they were sent.
+fn exchanged_on_record(alloc: Global, rate: Rate) -> Result<([Option<u8>; 2], bool), Fail> {
+    let mut plant = RecordingPlant::new(2);
+    let came = exchanged_over_a_span(alloc, &mut plant, rate)?;
+    let sent = plant.sent();
+    let both = sent.len() == 2 && is_full_of(&sent[0], 0x35) && is_full_of(&sent[1], 0x36);
+    Ok((came, both))
+}
+
 #[test]
 fn a_frame_sent_by_exchange_comes(rt: HostRuntime) -> Result<(), Fail> {
     let wants = [Some(0x35), Some(0x36)];
     for rate in [Rate::Four, Rate::Sixteen] {
         let came = exchanged_over_a_span(rt.alloc(), &mut FibrePlant::new(), rate)?;
         assert_eq!(rt; came, wants);
-        let mut failing = FailingPlant::new(rt.alloc(), &[(PlantCall::Send, 3)])?;
-        let came = exchanged_over_a_span(rt.alloc(), &mut failing, rate)?;
-        assert_eq!(rt; came, wants);
-        assert_eq!(rt; failing.calls(PlantCall::Send), 2);
+        assert_eq!(rt; exchanged_by_a_failing_plant(rt.alloc(), rate)?, (wants, 2));
+        assert_eq!(rt; exchanged_on_record(rt.alloc(), rate)?, (wants, true));
+    }
+    Ok(())
+}
+
+// What a plant was told comes, whatever is sent by exchange.
+#[test]
+fn what_was_told_comes_behind_an_exchange(rt: HostRuntime) -> Result<(), Fail> {
+    for rate in [Rate::Four, Rate::Sixteen] {
         let mut told = ToldPlant::new(rate, three_arrivals(rt.alloc(), rate)?);
         let came = exchanged_over_a_span(rt.alloc(), &mut told, rate)?;
         assert_eq!(rt; came, [Some(1), Some(DARK)]);
-        let mut recording = RecordingPlant::new(2);
-        let came = exchanged_over_a_span(rt.alloc(), &mut recording, rate)?;
-        assert_eq!(rt; came, wants);
-        let sent = recording.sent();
-        assert!(rt; sent.len() == 2);
-        assert!(rt; is_full_of(&sent[0], 0x35) && is_full_of(&sent[1], 0x36));
     }
     Ok(())
 }

@@ -5,4 +5,5 @@ pub mod Rings
 pub mod Owned
 pub mod Breaking
 pub mod Settling
+pub mod Turns
 mod Whole

@@ -9,6 +9,7 @@ use Rattle.sdh_circuits.specs.declared.PortId.{PortId}
 use Rattle.sdh_circuits.specs.Provisioned.{same_port}
 use Rattle.sdh_frame.specs.declared.Rate.{Rate}
 use Rattle.sdh_world.specs.Clocks.{waiting_at}
+use Rattle.sdh_node.specs.Node.{Node}
 use Rattle.sdh_world.specs.Laws.{EndsAtAMultiple}
 use Rattle.sdh_circuits.specs.Provisioning.{Provisioning}
 use Rattle.sdh_node.specs.declared.settings.Settings.{Settings}
@@ -183,59 +184,30 @@ fit_changed : (listing : Listing) (before : ℕ) (s : Step) (later : List Step) 
 fit_changed listing before s later w t other h =
     steps_less w.ring.settings.rate (length w.ring.ids) (length w.ring.circuits.circuits) later (past_of before (after_step s w).ring) (after (past_of before w.ring) s) (less_changed before s w other) h.steps_fit.1
 
+-- a ring with other nodes at another moment, over fibres that are prepared for it, and steps that fit it
+may_on : (listing : Listing) (before : ℕ) (steps later : List Step) (r : HeldRing) (nodes : List Node) (moment : ℕ) (f g : Fibres) (t : Written) → MayRun listing before steps r f t → IsPrepared r.settings.rate (length r.ids) g
+    → AreSteps r.settings.rate (length r.ids) (length r.circuits.circuits) (past_of before (record r { nodes = nodes; moment = moment })) later → MayRun listing before later (record r { nodes = nodes; moment = moment }) g t
+may_on listing before steps later r nodes moment f g t h laid fit = record {
+  whole = h.whole;
+  prepared = laid;
+  steps_fit = fit;
+  few = h.few;
+  begins = h.begins;
+  rounds = h.rounds;
+  listed = h.listed;
+  room = h.room;
+}
+
 changed_may : (listing : Listing) (before : ℕ) (s : Step) (later : List Step) (w : World) (t : Written) → (s ≡ step.Settle → ⊥) → MayRun listing before (s ∷ later) w.ring w.fibres t
     → MayRun listing before later (after_step s w).ring (after_step s w).fibres t
 unfolding changed
-changed_may listing before (step.Fibre e) later w t other h = record {
-  whole = h.whole;
-  prepared = stay_prepared.apply w.ring.settings.rate (length w.ring.ids) w.fibres e.at.0 e.side e.condition h.steps_fit.0.in_ring.1 h.prepared;
-  steps_fit = fit_changed listing before (step.Fibre e) later w t other h;
-  few = h.few;
-  begins = h.begins;
-  rounds = h.rounds;
-  listed = h.listed;
-  room = h.room;
-}
-changed_may listing before (step.Order p d c) later w t other h = record {
-  whole = h.whole;
-  prepared = h.prepared;
-  steps_fit = fit_changed listing before (step.Order p d c) later w t other h;
-  few = h.few;
-  begins = h.begins;
-  rounds = h.rounds;
-  listed = h.listed;
-  room = h.room;
-}
-changed_may listing before (step.Hold p turns) later w t other h = record {
-  whole = h.whole;
-  prepared = h.prepared;
-  steps_fit = fit_changed listing before (step.Hold p turns) later w t other h;
-  few = h.few;
-  begins = h.begins;
-  rounds = h.rounds;
-  listed = h.listed;
-  room = h.room;
-}
-changed_may listing before (step.Slip port turn count) later w t other h = record {
-  whole = h.whole;
-  prepared = h.prepared;
-  steps_fit = fit_changed listing before (step.Slip port turn count) later w t other h;
-  few = h.few;
-  begins = h.begins;
-  rounds = h.rounds;
-  listed = h.listed;
-  room = h.room;
-}
-changed_may listing before (step.Moment m) later w t other h = record {
-  whole = h.whole;
-  prepared = h.prepared;
-  steps_fit = fit_changed listing before (step.Moment m) later w t other h;
-  few = h.few;
-  begins = h.begins;
-  rounds = h.rounds;
-  listed = h.listed;
-  room = h.room;
-}
+changed_may listing before (step.Fibre e) later w t other h =
+    may_on listing before (step.Fibre e ∷ later) later w.ring _ _ w.fibres _ t h (stay_prepared.apply w.ring.settings.rate (length w.ring.ids) w.fibres e.at.0 e.side e.condition h.steps_fit.0.in_ring.1 h.prepared)
+    (fit_changed listing before (step.Fibre e) later w t other h)
+changed_may listing before (step.Order p d c) later w t other h = may_on listing before (step.Order p d c ∷ later) later w.ring _ _ w.fibres _ t h h.prepared (fit_changed listing before (step.Order p d c) later w t other h)
+changed_may listing before (step.Hold p turns) later w t other h = may_on listing before (step.Hold p turns ∷ later) later w.ring _ _ w.fibres _ t h h.prepared (fit_changed listing before (step.Hold p turns) later w t other h)
+changed_may listing before (step.Slip port turn count) later w t other h = may_on listing before (step.Slip port turn count ∷ later) later w.ring _ _ w.fibres _ t h h.prepared (fit_changed listing before (step.Slip port turn count) later w t other h)
+changed_may listing before (step.Moment m) later w t other h = may_on listing before (step.Moment m ∷ later) later w.ring _ _ w.fibres _ t h h.prepared (fit_changed listing before (step.Moment m) later w t other h)
 changed_may listing before step.Settle later w t other h = absurd (other refl)
 
 pub changed_next : (listing : Listing) (before : ℕ) (s : Step) (w left : World) (t : Written) → (s ≡ step.Settle → ⊥) → left ≡ after_step s w
@@ -253,16 +225,7 @@ refused_stops limit before step.Settle w left how h later = absurd h
 -- ---- one step behind others
 
 pub may_first : (listing : Listing) (before : ℕ) (s : Step) (later : List Step) (r : HeldRing) (f : Fibres) (t : Written) → MayRun listing before (s ∷ later) r f t → MayRun listing before (s ∷ []) r f t
-may_first listing before s later r f t h = record {
-  whole = h.whole;
-  prepared = h.prepared;
-  steps_fit = (h.steps_fit.0, tt);
-  few = h.few;
-  begins = h.begins;
-  rounds = h.rounds;
-  listed = h.listed;
-  room = h.room;
-}
+may_first listing before s later r f t h = may_on listing before (s ∷ later) (s ∷ []) r r.nodes r.moment f f t h h.prepared (h.steps_fit.0, tt)
 
 -- the step at a place, and those behind it
 pub here : (steps : List Step) (i : ℕ) (d : Step) → i < length steps → drop i steps ≡ get_or steps i d ∷ drop (i + 1) steps

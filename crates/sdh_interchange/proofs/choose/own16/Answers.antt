@@ -1,4 +1,4 @@
-use Rattle.std.proofs.Common.{◌+◌, ◌*◌, ◌<◌, ◌≤◌, length, arith}
+use Rattle.std.proofs.Common.{◌<◌, arith}
 use Rattle.sdh_interchange.proofs.Turning.{put-rows, put-lanes, put-done}
 use Rattle.sdh_interchange.proofs.choose.own16.Goals as goal
 
@@ -6,10 +6,10 @@ pub loop-a-preserved : goal.loop-a-preserved
 loop-a-preserved c =
     let a = c.loop-a.a in
     let own = c.args.own.now in
+    let v = c.sixteen.result in
     let small : a < 16 = omega arith in
-    let room : 2349 * a + c.args.from + 16 ≤ length own = omega arith in
     record {
-      rows = put-rows 16 c.loop-a.rows own a c.args.from c.loop-a.invariant.rows small room;
-      lanes = put-lanes 16 c.loop-a.rows own a c.args.from c.loop-a.invariant.rows small room c.loop-a.invariant.lanes;
-      done = put-done 16 c.loop-a.rows own a c.args.from c.loop-a.invariant.rows small room c.loop-a.invariant.done;
+      rows = put-rows 16 c.loop-a.rows own v a c.args.from c.loop-a.invariant.rows small c.sixteen.ensures.long c.sixteen.ensures.each;
+      lanes = put-lanes 16 c.loop-a.rows own v a c.args.from c.loop-a.invariant.rows small c.sixteen.ensures.long c.sixteen.ensures.each c.loop-a.invariant.lanes;
+      done = put-done 16 c.loop-a.rows own v a c.args.from c.loop-a.invariant.rows small c.sixteen.ensures.long c.sixteen.ensures.each c.loop-a.invariant.done;
     }

@@ -1,4 +1,4 @@
-use Rattle.std.proofs.Common.{◌≡◌, ℕ, ◌+◌, ◌*◌, ◌<◌, [], length, slice_index, slice_index_or}
+use Rattle.std.proofs.Common.{◌≡◌, ℕ, ◌+◌, ◌<◌, [], length, slice_index_or}
 use Rattle.sdh_interchange.specs.Tables.{cell}
 use Rattle.sdh_interchange.proofs.choose.own8.Given as goal
 
@@ -6,5 +6,5 @@ abbrev pub invariant-loop-a : goal.invariant-loop-a
 invariant-loop-a l = record {
   rows : length l.rows ≡ 8;
   lanes : (i : ℕ) → i < 8 → length (slice_index_or l.rows i []) ≡ 16;
-  done : (a k : ℕ) → a < l.a → k < 16 → cell l.rows a k ≡ slice_index l.own (2349 * a + (l.from + k));
+  done : (a k : ℕ) → a < l.a → k < 16 → cell l.rows a k ≡ cell l.own a (l.from + k);
 }

@@ -1,8 +1,11 @@
 use Rattle.std.proofs.Common.{◌≡◌, ℕ, ◌+◌, ◌*◌, ◌<◌, slice_index}
+use Rattle.sdh_interchange.specs.Tables.{cell}
+use Rattle.sdh_interchange.specs.Taking.{KeepsOthers}
 use Rattle.sdh_interchange.proofs.payloads.take_row16.Given as goal
 
 abbrev pub invariant-loop-b : goal.invariant-loop-b
 invariant-loop-b l = record {
-  before : (a j : ℕ) → a < 8 → j < 261 * l.r → slice_index l.out (2349 * a + j) ≡ slice_index l.fn.out (2349 * a + j);
-  inside : (a k : ℕ) → a < 8 → k < 16 * l.b → slice_index l.out (2349 * a + (261 * l.r + k)) ≡ slice_index l.bytes (4320 * l.r + (144 + 16 * k) + (l.base + a));
+  keeps : KeepsOthers l.base 8 l.fn.out l.out;
+  before : (a j : ℕ) → a < 8 → j < 261 * l.r → cell l.out (l.base + a) j ≡ cell l.fn.out (l.base + a) j;
+  inside : (a k : ℕ) → a < 8 → k < 16 * l.b → cell l.out (l.base + a) (261 * l.r + k) ≡ slice_index l.bytes (4320 * l.r + (144 + 16 * k) + (l.base + a));
 }

@@ -1,6 +1,21 @@
-use Rattle.std.proofs.Common.{◌≡◌, ℕ, ◌+◌, ◌-◌, ◌*◌, ◌<◌, get_or, ap, ◌∙◌, inl, inr, arith}
+use Rattle.std.proofs.Common.{◌≡◌, ℕ, ◌+◌, ◌-◌, ◌*◌, ◌<◌, get_or, refl, ap, ◌∙◌, inl, inr, arith}
 use Rattle.std.proofs.lemmas.Bool.{cases_lt}
+use Rattle.sdh_interchange.specs.Tables.{cell}
+use Rattle.sdh_interchange.proofs.Holding.{keeps_none, keeps_more, room_kept}
 use Rattle.sdh_interchange.proofs.payloads.take_row4.Goals as goal
+
+pub loop-b-init : goal.loop-b-init
+loop-b-init c = record {
+  keeps = keeps_none c.args.base 2 c.args.out.now;
+  before = λ a j ha hj. refl;
+  inside = λ a k ha hk. absurd (omega arith);
+}
+
+pub take_block4-requires-clause-room : goal.take_block4-requires-clause-room
+take_block4-requires-clause-room c = room_kept c.args.base 2 c.args.base 2 c.args.out.now c.loop-b.out c.requires.room c.loop-b.invariant.keeps
+
+pub take_block4-requires-2-clause-room : goal.take_block4-requires-2-clause-room
+take_block4-requires-2-clause-room c = room_kept c.args.base 2 c.args.base 2 c.args.out.now c.loop-b.out c.requires.room c.loop-b.invariant.keeps
 
 pub loop-b-preserved : goal.loop-b-preserved
 loop-b-preserved c =
@@ -9,17 +24,24 @@ loop-b-preserved c =
     let bytes = c.args.bytes.now in
     let out = c.take_block4.new.out in
     record {
+      keeps = keeps_more c.args.base 2 c.args.base 2 c.args.out.now c.loop-b.out out (omega arith) (omega arith) c.loop-b.invariant.keeps c.take_block4.ensures.keeps;
       before = λ a j ha hj. c.take_block4.ensures.before a j ha (omega arith) ∙ c.loop-b.invariant.before a j ha hj;
       inside = λ a k ha hk. elim (cases_lt k (16 * b)) [
         | inl below ↦ c.take_block4.ensures.before a (261 * r + k) ha (omega arith) ∙ c.loop-b.invariant.inside a k ha below
         | inr here ↦ (
             let m : ℕ = k - 16 * b in
             let small : m < 16 = omega arith in
-            let place : 2349 * a + (261 * r + k) ≡ 2349 * a + (261 * r + 16 * b + m) = omega arith in
+            let place : 261 * r + k ≡ 261 * r + 16 * b + m = omega arith in
             let source : 1080 * r + (36 + 4 * (16 * b + m)) + (c.args.base + a) ≡ 1080 * r + (36 + 4 * k) + (c.args.base + a) = omega arith in
-            ap (λ i. get_or out i 0) place ∙ c.take_block4.ensures.inside a m ha small ∙ ap (λ i. get_or bytes i 0) source)
+            ap (λ i. cell out (c.args.base + a) i) place ∙ c.take_block4.ensures.inside a m ha small ∙ ap (λ i. get_or bytes i 0) source)
       ];
     }
+
+pub returns-clause-before : goal.returns-clause-before
+returns-clause-before c = λ a j ha hj. c.take_block4-2.ensures.before a j ha (omega arith) ∙ c.loop-b.invariant.before a j ha hj
+
+pub returns-clause-keeps : goal.returns-clause-keeps
+returns-clause-keeps c = keeps_more c.args.base 2 c.args.base 2 c.args.out.now c.loop-b.out c.take_block4-2.new.out (omega arith) (omega arith) c.loop-b.invariant.keeps c.take_block4-2.ensures.keeps
 
 pub returns-clause-inside : goal.returns-clause-inside
 returns-clause-inside c = λ a k ha hk.
@@ -31,7 +53,7 @@ returns-clause-inside c = λ a k ha hk.
       | inr here ↦ (
           let m : ℕ = k - 245 in
           let small : m < 16 = omega arith in
-          let place : 2349 * a + (261 * r + k) ≡ 2349 * a + (261 * r + 245 + m) = omega arith in
+          let place : 261 * r + k ≡ 261 * r + 245 + m = omega arith in
           let source : 1080 * r + (36 + 4 * (245 + m)) + (c.args.base + a) ≡ 1080 * r + (36 + 4 * k) + (c.args.base + a) = omega arith in
-          ap (λ i. get_or out i 0) place ∙ c.take_block4-2.ensures.inside a m ha small ∙ ap (λ i. get_or bytes i 0) source)
+          ap (λ i. cell out (c.args.base + a) i) place ∙ c.take_block4-2.ensures.inside a m ha small ∙ ap (λ i. get_or bytes i 0) source)
     ]

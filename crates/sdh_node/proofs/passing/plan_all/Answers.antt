@@ -14,7 +14,7 @@ use Rattle.sdh_node.proofs.Marks.{states-sent, unmoved-generators}
 use Rattle.sdh_node.proofs.passing.plan_all.Goals as goal
 
 pub loop-k-init : goal.loop-k-init
-loop-k-init c = record { sent = refl; rest = refl; planned = λ j lt. absurd (omega arith); len = refl; sources_len = c.requires.sources; pointers_len = c.requires.pointers; own_len = c.requires.own }
+loop-k-init c = record { sent = refl; rest = refl; planned = λ j lt. absurd (omega arith); len = refl; sources_len = c.requires.sources; pointers_len = c.requires.pointers }
 
 pub loop-k-preserved : goal.loop-k-preserved
 unfolding input_at
@@ -42,7 +42,6 @@ loop-k-preserved c =
       len = search rules;
       sources_len = search rules;
       pointers_len = search rules;
-      own_len = search rules;
     }
 
 pub returns-clause-generators : goal.returns-clause-generators

@@ -1,4 +1,4 @@
-use Rattle.std.proofs.Common.{◌≡◌, ◌+◌, ◌*◌, take, drop, length}
+use Rattle.std.proofs.Common.{◌≡◌, ◌+◌, take, drop, length}
 use Rattle.sdh_basics.specs.Indexed.{map_from}
 use Rattle.sdh_frame.specs.Sizes.{n_of}
 use Rattle.sdh_pointer.specs.Sending.{Generator, after_action}
@@ -19,5 +19,4 @@ invariant-loop-k l =
       len : length l.generators.items ≡ length old;
       sources_len : length l.sources ≡ n_of l.cross.west.section.rate;
       pointers_len : length l.pointers ≡ n_of l.cross.west.section.rate;
-      own_len : length l.own ≡ 2349 * n_of l.cross.west.section.rate;
     }

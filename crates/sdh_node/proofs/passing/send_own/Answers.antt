@@ -27,4 +27,4 @@ returns-clause-payload c = λ n west east.
     let s = c.args.generator.now.sending in
     let port = c.args.port.now in
     let i : Input = own_input port in
-    c.put_own.ensures.here ∙ c.payload.ensures.bytes ∙ sym (ap (λ (a : Au). a.payload) (own_passed port.feed.clock.form (form_sent s i.action i.value) (word_sent s i.action i.value) i.au))
+    c.put.ensures.here ∙ c.payload.ensures.bytes ∙ sym (ap (λ (a : Au). a.payload) (own_passed port.feed.clock.form (form_sent s i.action i.value) (word_sent s i.action i.value) i.au))

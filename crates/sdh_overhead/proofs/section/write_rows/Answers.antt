@@ -1,8 +1,8 @@
-use Rattle.std.proofs.Common.{◌≡◌, ℕ, ◌+◌, ◌*◌, ◌-◌, ◌≤◌, length, ap, ◌∙◌, arith}
+use Rattle.std.proofs.Common.{◌≡◌, ℕ, ◌+◌, ◌*◌, ◌-◌, ◌≤◌, length, ap, subst, ◌∙◌, arith}
 use Rattle.sdh_frame.specs.Sizes.{n_of}
 use Rattle.sdh_overhead.specs.Sections.{SectionKept}
 use Rattle.sdh_basics.proofs.Parts.{length-part}
-use Rattle.sdh_overhead.proofs.Nine.{none-sent, sent-next, row-within}
+use Rattle.sdh_overhead.proofs.Nine.{SentTo, none-sent, sent-next, row-within, sent-last, all-sent, all-kept}
 use Rattle.sdh_overhead.proofs.section.write_rows.Goals as goal
 
 pub loop-row-init : goal.loop-row-init
@@ -17,7 +17,29 @@ loop-row-preserved c =
     let k : ℕ = a + 270 * w - a in
     let n : w ≡ n_of first.rate = c.n-width.ensures ∙ ap (λ (s : SectionKept). n_of s.rate) c.section.view_is in
     let at : a ≡ (row - 1) * (270 * n_of first.rate) = ap (λ m. (row - 1) * (270 * m)) n in
-    let many : k ≡ 270 * n_of first.rate = omega arith in
-    let room : a + k ≤ length c.loop-row.bytes = omega (arith, at, row-within first row (omega arith), c.loop-row.invariant.long) in
-    sent-next first c.loop-row.section c.write_row.new.section c.args.k1 c.args.k2 row a k c.args.bytes.now c.loop-row.bytes c.write_row.new.bytes c.requires.bytes (omega arith) (omega arith) at many c.loop-row.invariant
-    (c.write_row.auto.bytes ∙ length-part a k c.loop-row.bytes room) c.write_row.ensures.bytes c.write_row.ensures.section c.write_row.ensures.rate c.write_row.ensures.next
+    let many : k ≡ 1 * (270 * n_of first.rate) = omega arith in
+    let room : a + k ≤ length c.loop-row.bytes = omega (arith, at, row-within first row 1 (omega arith) (omega arith), c.loop-row.invariant.long) in
+    sent-next first c.loop-row.section c.write_row.new.section c.args.k1 c.args.k2 row 1 a k c.args.bytes.now c.loop-row.bytes c.write_row.new.bytes c.requires.bytes (omega arith) (omega arith) (omega arith) at many c.loop-row.invariant
+    (c.write_row.auto.bytes ∙ length-part a k c.loop-row.bytes room) c.write_row.ensures.bytes c.write_row.ensures.section c.write_row.ensures.rate (λ h. c.write_row.ensures.next (omega arith))
+
+pub returns-clause-bytes : goal.returns-clause-bytes
+returns-clause-bytes c =
+    let first = c.args.section.now in
+    let old = c.args.bytes.now in
+    let row : c.loop-row.row ≡ 4 = omega arith in
+    let n : c.n-width.result ≡ n_of first.rate = c.n-width.ensures ∙ ap (λ (s : SectionKept). n_of s.rate) c.section.view_is in
+    all-sent first c.write_last.new.section c.args.k1 c.args.k2 old _ c.requires.bytes
+    (sent-last first c.loop-row.section c.write_last.new.section c.args.k1 c.args.k2 c.n-width.result old c.loop-row.bytes c.write_last.new.bytes c.requires.bytes n
+    (subst (λ (r : ℕ). SentTo first c.args.k1 c.args.k2 old r c.loop-row.section c.loop-row.bytes) row c.loop-row.invariant)
+    c.write_last.auto.bytes c.write_last.ensures.bytes c.write_last.ensures.section c.write_last.ensures.rate)
+
+pub returns-clause-section : goal.returns-clause-section
+returns-clause-section c =
+    let first = c.args.section.now in
+    let old = c.args.bytes.now in
+    let row : c.loop-row.row ≡ 4 = omega arith in
+    let n : c.n-width.result ≡ n_of first.rate = c.n-width.ensures ∙ ap (λ (s : SectionKept). n_of s.rate) c.section.view_is in
+    all-kept first c.write_last.new.section c.args.k1 c.args.k2 old _ c.requires.bytes
+    (sent-last first c.loop-row.section c.write_last.new.section c.args.k1 c.args.k2 c.n-width.result old c.loop-row.bytes c.write_last.new.bytes c.requires.bytes n
+    (subst (λ (r : ℕ). SentTo first c.args.k1 c.args.k2 old r c.loop-row.section c.loop-row.bytes) row c.loop-row.invariant)
+    c.write_last.auto.bytes c.write_last.ensures.bytes c.write_last.ensures.section c.write_last.ensures.rate)

@@ -1,4 +1,4 @@
-use Rattle.std.proofs.Common.{◌≡◌, ℕ, ◌+◌, ◌*◌, ◌%◌, ◌++◌, length, ap, sym, subst, ◌∙◌, arith}
+use Rattle.std.proofs.Common.{◌≡◌, ℕ, ◌*◌, ◌%◌, ◌++◌, length, ap, sym, subst, ◌∙◌, arith}
 use Rattle.sdh_parity.specs.Pieces.{HasLanes}
 use Rattle.sdh_parity.proofs.Running.{folded-in, lanes-in}
 use Rattle.sdh_parity.proofs.adding.add_lanes.Goals as goal

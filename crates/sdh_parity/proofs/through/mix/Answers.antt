@@ -1,11 +1,12 @@
-use Rattle.std.proofs.Common.{◌≡◌, ◌+◌, ◌*◌, get_or, refl, ap, sym, ◌∙◌, arith}
+use Rattle.std.proofs.Common.{◌+◌, refl, ◌∙◌, arith}
+use Rattle.std.specs.Prelude.{if◌then◌else◌}
 use Rattle.std.proofs.lemmas.List.{get_or-replicate}
-use Rattle.sdh_parity.proofs.Mixing.{no-rows, was1, was2, was3, is1, is2, more-done, more-rest, sum-before, sum-after}
+use Rattle.sdh_parity.proofs.Mixing.{no-rows, more-done, more-rest, clear1, clear2, clear3, sum-clear}
 use Rattle.sdh_parity.proofs.through.mix.Goals as goal
 
 pub loop-r-init : goal.loop-r-init
 loop-r-init c =
-    let s = c.args.bytes.now in
+    let s = if c.args.clear_after then c.args.bytes.now else c.args.bytes.now in
     record {
       key = omega arith;
       done = λ i h. absurd (omega arith);
@@ -13,60 +14,43 @@ loop-r-init c =
       la = refl;
       lb = refl;
       lc = refl;
-      lx = refl;
-      ly = refl;
-      lz = refl;
       a = λ j h. get_or-replicate 16 j 0 0 h ∙ no-rows s j;
       b = λ j h. get_or-replicate 16 j 0 0 h ∙ no-rows s (16 + j);
       c = λ j h. get_or-replicate 16 j 0 0 h ∙ no-rows s (32 + j);
-      x = λ j h. get_or-replicate 16 j 0 0 h ∙ no-rows s j;
-      y = λ j h. get_or-replicate 16 j 0 0 h ∙ no-rows s (16 + j);
-      z = λ j h. get_or-replicate 16 j 0 0 h ∙ no-rows s (32 + j);
     }
 
 pub loop-r-preserved : goal.loop-r-preserved
 loop-r-preserved c =
-    let r = c.loop-r.r in
     record {
       key = omega (arith, c.loop-r.invariant.key, c.after_row-k.ensures);
-      done = more-done c.args.bytes.now c.loop-r.bytes c.step.new.bytes c.step-in-loop-r.new.bytes c.step-in-loop-r-2.new.bytes c.args.at c.loop-r.r c.loop-r.k c.loop-r.invariant.key c.loop-r.invariant.done c.loop-r.invariant.rest
-          c.step.ensures.below c.step.ensures.inside c.step.ensures.above c.step-in-loop-r.ensures.below c.step-in-loop-r.ensures.inside c.step-in-loop-r.ensures.above c.step-in-loop-r-2.ensures.below c.step-in-loop-r-2.ensures.inside c.step-in-loop-r-2.ensures.above
+      done = more-done c.args.bytes.now c.loop-r.bytes c.step-a.new.bytes c.step-b.new.bytes c.step-c.new.bytes c.args.at c.loop-r.r c.loop-r.k c.loop-r.invariant.key c.loop-r.invariant.done c.loop-r.invariant.rest
+          c.step-a.ensures.below c.step-a.ensures.inside c.step-a.ensures.above c.step-b.ensures.below c.step-b.ensures.inside c.step-b.ensures.above c.step-c.ensures.below c.step-c.ensures.inside c.step-c.ensures.above
           (λ m. omega (arith, c.type_inv.bytes m));
-      rest = more-rest c.args.bytes.now c.loop-r.bytes c.step.new.bytes c.step-in-loop-r.new.bytes c.step-in-loop-r-2.new.bytes c.args.at c.loop-r.r c.loop-r.k c.loop-r.invariant.key c.loop-r.invariant.done c.loop-r.invariant.rest
-          c.step.ensures.below c.step.ensures.inside c.step.ensures.above c.step-in-loop-r.ensures.below c.step-in-loop-r.ensures.inside c.step-in-loop-r.ensures.above c.step-in-loop-r-2.ensures.below c.step-in-loop-r-2.ensures.inside c.step-in-loop-r-2.ensures.above
+      rest = more-rest c.args.bytes.now c.loop-r.bytes c.step-a.new.bytes c.step-b.new.bytes c.step-c.new.bytes c.args.at c.loop-r.r c.loop-r.k c.loop-r.invariant.key c.loop-r.invariant.done c.loop-r.invariant.rest
+          c.step-a.ensures.below c.step-a.ensures.inside c.step-a.ensures.above c.step-b.ensures.below c.step-b.ensures.inside c.step-b.ensures.above c.step-c.ensures.below c.step-c.ensures.inside c.step-c.ensures.above
           (λ m. omega (arith, c.type_inv.bytes m));
-      la = c.step.ensures.before_long;
-      lb = c.step-in-loop-r.ensures.before_long;
-      lc = c.step-in-loop-r-2.ensures.before_long;
-      lx = c.step.ensures.after_long;
-      ly = c.step-in-loop-r.ensures.after_long;
-      lz = c.step-in-loop-r-2.ensures.after_long;
-      a = (λ j h. (let e : 48 * r + j ≡ j + r * 48 = omega arith in sum-before c.args.bytes.now c.loop-r.bytes c.step.new.bytes c.step-in-loop-r.new.bytes c.step-in-loop-r-2.new.bytes c.args.at c.loop-r.r c.loop-r.k c.loop-r.invariant.key c.loop-r.invariant.done c.loop-r.invariant.rest
-          c.step.ensures.below c.step.ensures.inside c.step.ensures.above c.step-in-loop-r.ensures.below c.step-in-loop-r.ensures.inside c.step-in-loop-r.ensures.above c.step-in-loop-r-2.ensures.below c.step-in-loop-r-2.ensures.inside c.step-in-loop-r-2.ensures.above
-          (λ m. omega (arith, c.type_inv.bytes m)) j _ _ _ (omega arith) (c.loop-r.invariant.a j h) (c.step.ensures.before j h) (was1 c.args.bytes.now c.loop-r.bytes c.step.new.bytes c.step-in-loop-r.new.bytes c.step-in-loop-r-2.new.bytes c.args.at c.loop-r.r c.loop-r.k c.loop-r.invariant.key c.loop-r.invariant.done c.loop-r.invariant.rest
-          c.step.ensures.below c.step.ensures.inside c.step.ensures.above c.step-in-loop-r.ensures.below c.step-in-loop-r.ensures.inside c.step-in-loop-r.ensures.above c.step-in-loop-r-2.ensures.below c.step-in-loop-r-2.ensures.inside c.step-in-loop-r-2.ensures.above
-          (λ m. omega (arith, c.type_inv.bytes m)) j h ∙ ap (λ i. get_or c.args.bytes.now i 0) e)));
-      b = (λ j h. (let e : 48 * r + 16 + j ≡ (16 + j) + r * 48 = omega arith in sum-before c.args.bytes.now c.loop-r.bytes c.step.new.bytes c.step-in-loop-r.new.bytes c.step-in-loop-r-2.new.bytes c.args.at c.loop-r.r c.loop-r.k c.loop-r.invariant.key c.loop-r.invariant.done c.loop-r.invariant.rest
-          c.step.ensures.below c.step.ensures.inside c.step.ensures.above c.step-in-loop-r.ensures.below c.step-in-loop-r.ensures.inside c.step-in-loop-r.ensures.above c.step-in-loop-r-2.ensures.below c.step-in-loop-r-2.ensures.inside c.step-in-loop-r-2.ensures.above
-          (λ m. omega (arith, c.type_inv.bytes m)) (16 + j) _ _ _ (omega arith) (c.loop-r.invariant.b j h) (c.step-in-loop-r.ensures.before j h) (was2 c.args.bytes.now c.loop-r.bytes c.step.new.bytes c.step-in-loop-r.new.bytes c.step-in-loop-r-2.new.bytes c.args.at c.loop-r.r c.loop-r.k c.loop-r.invariant.key c.loop-r.invariant.done c.loop-r.invariant.rest
-          c.step.ensures.below c.step.ensures.inside c.step.ensures.above c.step-in-loop-r.ensures.below c.step-in-loop-r.ensures.inside c.step-in-loop-r.ensures.above c.step-in-loop-r-2.ensures.below c.step-in-loop-r-2.ensures.inside c.step-in-loop-r-2.ensures.above
-          (λ m. omega (arith, c.type_inv.bytes m)) j h ∙ ap (λ i. get_or c.args.bytes.now i 0) e)));
-      c = (λ j h. (let e : 48 * r + 32 + j ≡ (32 + j) + r * 48 = omega arith in sum-before c.args.bytes.now c.loop-r.bytes c.step.new.bytes c.step-in-loop-r.new.bytes c.step-in-loop-r-2.new.bytes c.args.at c.loop-r.r c.loop-r.k c.loop-r.invariant.key c.loop-r.invariant.done c.loop-r.invariant.rest
-          c.step.ensures.below c.step.ensures.inside c.step.ensures.above c.step-in-loop-r.ensures.below c.step-in-loop-r.ensures.inside c.step-in-loop-r.ensures.above c.step-in-loop-r-2.ensures.below c.step-in-loop-r-2.ensures.inside c.step-in-loop-r-2.ensures.above
-          (λ m. omega (arith, c.type_inv.bytes m)) (32 + j) _ _ _ (omega arith) (c.loop-r.invariant.c j h) (c.step-in-loop-r-2.ensures.before j h) (was3 c.args.bytes.now c.loop-r.bytes c.step.new.bytes c.step-in-loop-r.new.bytes c.step-in-loop-r-2.new.bytes c.args.at c.loop-r.r c.loop-r.k c.loop-r.invariant.key c.loop-r.invariant.done c.loop-r.invariant.rest
-          c.step.ensures.below c.step.ensures.inside c.step.ensures.above c.step-in-loop-r.ensures.below c.step-in-loop-r.ensures.inside c.step-in-loop-r.ensures.above c.step-in-loop-r-2.ensures.below c.step-in-loop-r-2.ensures.inside c.step-in-loop-r-2.ensures.above
-          (λ m. omega (arith, c.type_inv.bytes m)) j h ∙ ap (λ i. get_or c.args.bytes.now i 0) e)));
-      x = (λ j h. (let e : 48 * r + j ≡ j + r * 48 = omega arith in sum-after c.args.bytes.now c.loop-r.bytes c.step.new.bytes c.step-in-loop-r.new.bytes c.step-in-loop-r-2.new.bytes c.args.at c.loop-r.r c.loop-r.k c.loop-r.invariant.key c.loop-r.invariant.done c.loop-r.invariant.rest
-          c.step.ensures.below c.step.ensures.inside c.step.ensures.above c.step-in-loop-r.ensures.below c.step-in-loop-r.ensures.inside c.step-in-loop-r.ensures.above c.step-in-loop-r-2.ensures.below c.step-in-loop-r-2.ensures.inside c.step-in-loop-r-2.ensures.above
-          (λ m. omega (arith, c.type_inv.bytes m)) j _ _ _ (omega arith) (c.loop-r.invariant.x j h) (c.step.ensures.after j h) (sym (is1 c.args.bytes.now c.loop-r.bytes c.step.new.bytes c.step-in-loop-r.new.bytes c.step-in-loop-r-2.new.bytes c.args.at c.loop-r.r c.loop-r.k c.loop-r.invariant.key c.loop-r.invariant.done c.loop-r.invariant.rest
-          c.step.ensures.below c.step.ensures.inside c.step.ensures.above c.step-in-loop-r.ensures.below c.step-in-loop-r.ensures.inside c.step-in-loop-r.ensures.above c.step-in-loop-r-2.ensures.below c.step-in-loop-r-2.ensures.inside c.step-in-loop-r-2.ensures.above
-          (λ m. omega (arith, c.type_inv.bytes m)) j h) ∙ ap (λ i. get_or c.step-in-loop-r-2.new.bytes i 0) e)));
-      y = (λ j h. (let e : 48 * r + 16 + j ≡ (16 + j) + r * 48 = omega arith in sum-after c.args.bytes.now c.loop-r.bytes c.step.new.bytes c.step-in-loop-r.new.bytes c.step-in-loop-r-2.new.bytes c.args.at c.loop-r.r c.loop-r.k c.loop-r.invariant.key c.loop-r.invariant.done c.loop-r.invariant.rest
-          c.step.ensures.below c.step.ensures.inside c.step.ensures.above c.step-in-loop-r.ensures.below c.step-in-loop-r.ensures.inside c.step-in-loop-r.ensures.above c.step-in-loop-r-2.ensures.below c.step-in-loop-r-2.ensures.inside c.step-in-loop-r-2.ensures.above
-          (λ m. omega (arith, c.type_inv.bytes m)) (16 + j) _ _ _ (omega arith) (c.loop-r.invariant.y j h) (c.step-in-loop-r.ensures.after j h) (sym (is2 c.args.bytes.now c.loop-r.bytes c.step.new.bytes c.step-in-loop-r.new.bytes c.step-in-loop-r-2.new.bytes c.args.at c.loop-r.r c.loop-r.k c.loop-r.invariant.key c.loop-r.invariant.done c.loop-r.invariant.rest
-          c.step.ensures.below c.step.ensures.inside c.step.ensures.above c.step-in-loop-r.ensures.below c.step-in-loop-r.ensures.inside c.step-in-loop-r.ensures.above c.step-in-loop-r-2.ensures.below c.step-in-loop-r-2.ensures.inside c.step-in-loop-r-2.ensures.above
-          (λ m. omega (arith, c.type_inv.bytes m)) j h) ∙ ap (λ i. get_or c.step-in-loop-r-2.new.bytes i 0) e)));
-      z = (λ j h. (let e : 48 * r + 32 + j ≡ (32 + j) + r * 48 = omega arith in sum-after c.args.bytes.now c.loop-r.bytes c.step.new.bytes c.step-in-loop-r.new.bytes c.step-in-loop-r-2.new.bytes c.args.at c.loop-r.r c.loop-r.k c.loop-r.invariant.key c.loop-r.invariant.done c.loop-r.invariant.rest
-          c.step.ensures.below c.step.ensures.inside c.step.ensures.above c.step-in-loop-r.ensures.below c.step-in-loop-r.ensures.inside c.step-in-loop-r.ensures.above c.step-in-loop-r-2.ensures.below c.step-in-loop-r-2.ensures.inside c.step-in-loop-r-2.ensures.above
-          (λ m. omega (arith, c.type_inv.bytes m)) (32 + j) _ _ _ (omega arith) (c.loop-r.invariant.z j h) (c.step-in-loop-r-2.ensures.after j h) (ap (λ i. get_or c.step-in-loop-r-2.new.bytes i 0) e)));
+      la = c.step-a.ensures.long;
+      lb = c.step-b.ensures.long;
+      lc = c.step-c.ensures.long;
+      a = λ j h.
+          sum-clear c.args.bytes.now c.loop-r.bytes c.step-a.new.bytes c.step-b.new.bytes c.step-c.new.bytes c.args.at c.loop-r.r c.loop-r.k c.loop-r.invariant.key c.loop-r.invariant.done c.loop-r.invariant.rest
+          c.step-a.ensures.below c.step-a.ensures.inside c.step-a.ensures.above c.step-b.ensures.below c.step-b.ensures.inside c.step-b.ensures.above c.step-c.ensures.below c.step-c.ensures.inside c.step-c.ensures.above
+          (λ m. omega (arith, c.type_inv.bytes m)) c.args.clear_after j _ _ _ (omega arith) (c.loop-r.invariant.a j h) (c.step-a.ensures.sum j h)
+          (clear1 c.args.bytes.now c.loop-r.bytes c.step-a.new.bytes c.step-b.new.bytes c.step-c.new.bytes c.args.at c.loop-r.r c.loop-r.k c.loop-r.invariant.key c.loop-r.invariant.done c.loop-r.invariant.rest
+          c.step-a.ensures.below c.step-a.ensures.inside c.step-a.ensures.above c.step-b.ensures.below c.step-b.ensures.inside c.step-b.ensures.above c.step-c.ensures.below c.step-c.ensures.inside c.step-c.ensures.above
+          (λ m. omega (arith, c.type_inv.bytes m)) c.args.clear_after j h);
+      b = λ j h.
+          sum-clear c.args.bytes.now c.loop-r.bytes c.step-a.new.bytes c.step-b.new.bytes c.step-c.new.bytes c.args.at c.loop-r.r c.loop-r.k c.loop-r.invariant.key c.loop-r.invariant.done c.loop-r.invariant.rest
+          c.step-a.ensures.below c.step-a.ensures.inside c.step-a.ensures.above c.step-b.ensures.below c.step-b.ensures.inside c.step-b.ensures.above c.step-c.ensures.below c.step-c.ensures.inside c.step-c.ensures.above
+          (λ m. omega (arith, c.type_inv.bytes m)) c.args.clear_after (16 + j) _ _ _ (omega arith) (c.loop-r.invariant.b j h) (c.step-b.ensures.sum j h)
+          (clear2 c.args.bytes.now c.loop-r.bytes c.step-a.new.bytes c.step-b.new.bytes c.step-c.new.bytes c.args.at c.loop-r.r c.loop-r.k c.loop-r.invariant.key c.loop-r.invariant.done c.loop-r.invariant.rest
+          c.step-a.ensures.below c.step-a.ensures.inside c.step-a.ensures.above c.step-b.ensures.below c.step-b.ensures.inside c.step-b.ensures.above c.step-c.ensures.below c.step-c.ensures.inside c.step-c.ensures.above
+          (λ m. omega (arith, c.type_inv.bytes m)) c.args.clear_after j h);
+      c = λ j h.
+          sum-clear c.args.bytes.now c.loop-r.bytes c.step-a.new.bytes c.step-b.new.bytes c.step-c.new.bytes c.args.at c.loop-r.r c.loop-r.k c.loop-r.invariant.key c.loop-r.invariant.done c.loop-r.invariant.rest
+          c.step-a.ensures.below c.step-a.ensures.inside c.step-a.ensures.above c.step-b.ensures.below c.step-b.ensures.inside c.step-b.ensures.above c.step-c.ensures.below c.step-c.ensures.inside c.step-c.ensures.above
+          (λ m. omega (arith, c.type_inv.bytes m)) c.args.clear_after (32 + j) _ _ _ (omega arith) (c.loop-r.invariant.c j h) (c.step-c.ensures.sum j h)
+          (clear3 c.args.bytes.now c.loop-r.bytes c.step-a.new.bytes c.step-b.new.bytes c.step-c.new.bytes c.args.at c.loop-r.r c.loop-r.k c.loop-r.invariant.key c.loop-r.invariant.done c.loop-r.invariant.rest
+          c.step-a.ensures.below c.step-a.ensures.inside c.step-a.ensures.above c.step-b.ensures.below c.step-b.ensures.inside c.step-b.ensures.above c.step-c.ensures.below c.step-c.ensures.inside c.step-c.ensures.above
+          (λ m. omega (arith, c.type_inv.bytes m)) c.args.clear_after j h);
     }

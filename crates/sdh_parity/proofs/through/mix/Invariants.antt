@@ -1,4 +1,5 @@
 use Rattle.std.proofs.Common.{◌≡◌, ℕ, ◌+◌, ◌*◌, ◌%◌, ◌<◌, ◌≤◌, slice_index, length, bit_xor}
+use Rattle.std.specs.Prelude.{if◌then◌else◌}
 use Rattle.sdh_basics.specs.Parity.{bip8}
 use Rattle.sdh_parity.specs.Parity.{every}
 use Rattle.sdh_parity.specs.Scrambling.{scrambling_byte}
@@ -12,13 +13,7 @@ invariant-loop-r l = record {
   la : length l.a ≡ 16;
   lb : length l.b ≡ 16;
   lc : length l.c ≡ 16;
-  lx : length l.x ≡ 16;
-  ly : length l.y ≡ 16;
-  lz : length l.z ≡ 16;
-  a : (j : ℕ) → j < 16 → slice_index l.a j ≡ bip8 (every j 48 l.r l.fn.bytes);
-  b : (j : ℕ) → j < 16 → slice_index l.b j ≡ bip8 (every (16 + j) 48 l.r l.fn.bytes);
-  c : (j : ℕ) → j < 16 → slice_index l.c j ≡ bip8 (every (32 + j) 48 l.r l.fn.bytes);
-  x : (j : ℕ) → j < 16 → slice_index l.x j ≡ bip8 (every j 48 l.r l.bytes);
-  y : (j : ℕ) → j < 16 → slice_index l.y j ≡ bip8 (every (16 + j) 48 l.r l.bytes);
-  z : (j : ℕ) → j < 16 → slice_index l.z j ≡ bip8 (every (32 + j) 48 l.r l.bytes);
+  a : (j : ℕ) → j < 16 → slice_index l.a j ≡ bip8 (every j 48 l.r (if l.clear_after then l.bytes else l.fn.bytes));
+  b : (j : ℕ) → j < 16 → slice_index l.b j ≡ bip8 (every (16 + j) 48 l.r (if l.clear_after then l.bytes else l.fn.bytes));
+  c : (j : ℕ) → j < 16 → slice_index l.c j ≡ bip8 (every (32 + j) 48 l.r (if l.clear_after then l.bytes else l.fn.bytes));
 }

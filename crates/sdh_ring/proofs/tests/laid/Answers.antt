@@ -1,20 +1,10 @@
-use Rattle.std.proofs.Common.{rules, ◌≡◌, ◌≤◌, length, sym, subst, arith}
+use Rattle.std.proofs.Common.{rules, arith}
 use Rattle.sdh_frame.specs.declared.Rate.TheVariants.{Four}
-use Rattle.sdh_plant.specs.Fibres.{IsPrepared}
-use Rattle.sdh_plant.specs.Calls.{prepared}
-use Rattle.sdh_plant.proofs.Calling.{stay_prepared}
+use Rattle.sdh_ring.proofs.Turns.{prepared_for}
 use Rattle.sdh_ring.proofs.tests.laid.Goals as goal
 
 pub returns-clause-prepared : goal.returns-clause-prepared
 returns-clause-prepared g c =
     let n = c.len-nodes.result in
-    let f = g.P.Plant.fibres c.args.plant.now in
-    let now = g.P.Plant.fibres c.prepare.new.self in
     let ring = c.in_ok-try_new.field-0 in
-    let enough : 2 ≤ n = omega (arith, c.len-nodes.ensures.len, c.len-nodes.ensures.enough) in
-    let few : n ≤ 16 = omega (arith, c.len-nodes.ensures.len, c.len-nodes.ensures.few) in
-    let laid : now ≡ prepared Four n f = search rules in
-    let rate : Four ≡ ring.settings.rate = search rules in
-    let size : n ≡ length ring.ids = search rules in
-    subst (λ r. IsPrepared r (length ring.ids) now) rate
-    (subst (λ k. IsPrepared Four k now) size (subst (IsPrepared Four n) (sym laid) (stay_prepared.prepared Four n f enough few)))
+    prepared_for Four ring.settings.rate n _ (g.P.Plant.fibres c.args.plant.now) (g.P.Plant.fibres c.prepare.new.self) (omega (arith, c.len-nodes.ensures.len, c.len-nodes.ensures.enough)) (omega (arith, c.len-nodes.ensures.len, c.len-nodes.ensures.few)) (search rules) (search rules) (search rules)

@@ -2,7 +2,7 @@ use Rattle.std.proofs.Common.{length, refl, subst, arith}
 use Rattle.sdh_plant.specs.Fibres.{IsPrepared}
 use Rattle.sdh_world.specs.Held.{HeldRing}
 use Rattle.sdh_world.specs.Rounds.{world}
-use Rattle.sdh_vectors.proofs.Runs.{held_more}
+use Rattle.sdh_ring.proofs.Turns.{held_more}
 use Rattle.sdh_vectors.proofs.windows.first_window.Goals as goal
 
 pub turns-preserved : goal.turns-preserved

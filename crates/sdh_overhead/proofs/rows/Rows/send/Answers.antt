@@ -22,8 +22,8 @@ returns-clause-place c =
     let rest = c.split_at_mut-head.result.1.now in
     let at : ℕ = (c.args.row - 1) * (270 * n) in
     let mid = c.apply.ensures.at ∙ ap (λ (p : Position). record p { at = p.at + length head }) c.requires.place in
-    let wide : length head + length rest ≡ 270 * n = omega (arith, c.split_at_mut-head.ensures.front_len, c.split_at_mut-head.ensures.back_len, c.requires.bytes) in
-    let end : at + length head + length rest ≡ c.args.row * (270 * n) = sum-up at (length head) (length rest) (270 * n) wide ∙ row-ends c.args.row (270 * n) c.requires.first in
+    let wide : length head + length rest ≡ c.args.rows * (270 * n) = omega (arith, c.split_at_mut-head.ensures.front_len, c.split_at_mut-head.ensures.back_len, c.requires.bytes) in
+    let end : at + length head + length rest ≡ (c.args.row + c.args.rows - 1) * (270 * n) = sum-up at (length head) (length rest) (c.args.rows * (270 * n)) wide ∙ row-ends c.args.row c.args.rows (270 * n) c.requires.first in
     c.send_piece.ensures.at ∙ ap (λ (p : Position). record p { at = p.at + length rest }) mid ∙ (λ i. record { clear = 9 * n; at = end i })
 
 pub returns-clause-line : goal.returns-clause-line

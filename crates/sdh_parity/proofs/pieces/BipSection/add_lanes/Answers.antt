@@ -1,4 +1,4 @@
-use Rattle.std.proofs.Common.{◌≡◌, ◌+◌, ◌*◌, ◌%◌, ◌++◌, length, ap, sym, ◌∙◌, arith}
+use Rattle.std.proofs.Common.{◌≡◌, ◌*◌, ◌%◌, ◌++◌, length, ap, sym, ◌∙◌, arith}
 use Rattle.sdh_parity.specs.Pieces.{Running, after_bytes}
 use Rattle.sdh_parity.proofs.Running.{kept-is, kept-next, kept-lanes, length-behind}
 use Rattle.sdh_parity.proofs.pieces.BipSection.add_lanes.Goals as goal

@@ -1,30 +1,9 @@
-use Rattle.std.proofs.Common.{◌≡◌, ◌+◌, ◌++◌, length, refl, sym, ap, ◌∙◌, arith, rules}
-use Rattle.sdh_payload.specs.Customer.{Customer}
-use Rattle.sdh_payload.specs.Walk.{Walked, containers_from}
-use Rattle.sdh_payload.proofs.Containers.{containers_from-zero, containers_from-append, length-containers_from}
+use Rattle.std.proofs.Common.{length, ap, ◌∙◌}
+use Rattle.sdh_payload.specs.Walk.{containers_from}
+use Rattle.sdh_payload.proofs.Splicing.{written_whole}
 use Rattle.sdh_payload.proofs.walk.Walk.fill.Goals as goal
 
-pub loop-done-init : goal.loop-done-init
-loop-done-init c = record {
-  within = search rules;
-  port = refl;
-  at = search rules;
-  put = c.clear.ensures ∙ sym (containers_from-zero _ _);
-}
-
-pub put_some-done-requires-clause-room : goal.put_some-done-requires-clause-room
-put_some-done-requires-clause-room c = omega (arith, ap length c.loop-done.invariant.put ∙ length-containers_from c.args.self.now.port c.args.self.now.at c.loop-done.done)
-
-pub loop-done-preserved : goal.loop-done-preserved
-loop-done-preserved c =
-    let at : c.put_some-done.new.self.at ≡ c.loop-done.self.at + c.put_some-done.result = ap (λ (w : Walked). w.at) c.put_some-done.ensures.next in
-    record {
-      within = omega (arith, c.put_some-done.ensures.within, c.loop-done-test.true);
-      port = ap (λ (w : Walked). w.port) c.put_some-done.ensures.next ∙ c.loop-done.invariant.port;
-      at = omega (arith, at, c.loop-done.invariant.at);
-      put =
-          c.put_some-done.ensures.bytes ∙ ap (λ l. l ++ containers_from c.loop-done.self.port c.loop-done.self.at c.put_some-done.result) c.loop-done.invariant.put
-          ∙ ap (λ (p : Customer). containers_from c.args.self.now.port c.args.self.now.at c.loop-done.done ++ containers_from p c.loop-done.self.at c.put_some-done.result) c.loop-done.invariant.port
-          ∙ ap (λ q. containers_from c.args.self.now.port c.args.self.now.at c.loop-done.done ++ containers_from c.args.self.now.port q c.put_some-done.result) c.loop-done.invariant.at
-          ∙ sym (containers_from-append c.args.self.now.port c.args.self.now.at c.loop-done.done c.put_some-done.result);
-    }
+pub returns-clause-bytes : goal.returns-clause-bytes
+returns-clause-bytes c =
+    let many = ap length c.as_mut_slice.ensures.bytes ∙ c.make_room.ensures in
+    written_whole c.as_mut_slice.result.now c.fill_all.new.out c.fill_all.auto.out ∙ c.fill_all.ensures.bytes ∙ ap (containers_from c.args.self.now.port c.args.self.now.at) many

@@ -1,6 +1,0 @@
-use Rattle.std.proofs.Common.{◌≡◌, take}
-use Rattle.sdh_basics.specs.Parity.{bip8}
-use Rattle.sdh_payload.proofs.parity.bip8_of.Given as goal
-
-abbrev pub invariant-loop-byte : goal.invariant-loop-byte
-invariant-loop-byte l = l.parity ≡ bip8 (take l.byte-index l.bytes)
