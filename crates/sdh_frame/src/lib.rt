@@ -2,6 +2,7 @@
 #![tactic(auto)]
 
 mod au;
+mod landing;
 mod laws;
 mod places;
 mod view;
@@ -12,6 +13,7 @@ ghost use Rattle.sdh_frame.specs.Sizes.{n_of, size_of};
 ghost use Rattle.sdh_frame.specs.Fields.{index_of};
 ghost use Rattle.sdh_frame.specs.Lending.{LendsBytes};
 
+pub use landing::Landing;
 pub use laws::{
     payload_places_have_one_index, pointer_places_have_one_index, writing_all_aus_keeps_overhead,
     writing_an_au_keeps_the_rest, writing_one_list_writes_the_au,

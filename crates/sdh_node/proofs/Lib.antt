@@ -1,4 +1,5 @@
 pub mod Marks
+pub mod Landing
 pub mod Ports
 pub mod Passed
 mod Planned

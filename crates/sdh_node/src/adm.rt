@@ -1,9 +1,9 @@
 //! One multiplexer.
-ghost use Rattle.std.specs.Prelude.{◌≡◌, ◌&&◌, not, nat_le, ◌+◌, ◌-◌, ◌/◌, ◌^◌, ◌<◌, ◌≤◌, IfOk, IsTrue, length};
+ghost use Rattle.std.specs.Prelude.{◌≡◌, ◌&&◌, not, nat_le, ◌+◌, ◌-◌, ◌/◌, ◌^◌, ◌<◌, ◌≤◌, ◌≢◌, None, IfOk, IsTrue, length};
 ghost use Rattle.sdh_frame.specs.Sizes.{n_of};
 ghost use Rattle.sdh_squelch.specs.Kept.{KeepsRing};
 ghost use Rattle.sdh_nodestate.specs.Words.{SendsSpellable};
-ghost use Rattle.sdh_plant.specs.Arrivals.{as_arrival};
+ghost use Rattle.sdh_plant.specs.Arrivals.{as_arrival, arrived_in};
 ghost use Rattle.sdh_node.specs.Receiving.{commanded_by, arrived_on};
 ghost use Rattle.sdh_node.specs.Tributaries.{HasPort, outlet_of, waiting_of};
 ghost use Rattle.sdh_node.specs.Node.{new_node, at_receiving, held_for, slips_at, node_round, GoesOn, receiving_on, sending_on, moment_of};
@@ -16,6 +16,7 @@ use sdh_circuits::{CircuitMap, PortId};
 use sdh_frame::FrameBuf;
 use sdh_kbytes::{Code, K};
 use sdh_nodestate::{NodeState, Sent, first_word};
+use sdh_overhead::Landed;
 use sdh_payload::{Delivered, Turn};
 use sdh_plant::Arrived;
 use sdh_request::{Command, Moment};
@@ -124,15 +125,16 @@ impl Adm {
         self.cross.receive(side, arrived, frame);
     }
 
-    /// Keeps what arrived on a side as `receive` does, without a copy: a frame is taken in exchange for another of the same
-    /// rate, whose bytes mean nothing.
-    pub fn exchange(&mut self, side: Side, arrived: Arrived, frame: &mut FrameBuf)
-        requires { frame.old.rate ≡ self.old.settings.rate }
-        ensures node { self.new ≡ at_receiving side (arrived_on (as_arrival arrived frame.old.bytes)) self.old }
+    /// Keeps what arrived on a side as `receive` does, without a copy: what landed is taken in exchange for another buffer of the
+    /// same rate.
+    pub fn exchange(&mut self, side: Side, arrived: Arrived, inbox: &mut Landed)
+        requires rate { inbox.old.rate ≡ self.old.settings.rate }
+        requires here { arrived ≡ Arrived.Frame → inbox.old.landed ≢ None }
+        ensures node { self.new ≡ at_receiving side (arrived_on (arrived_in arrived inbox.old.landed)) self.old }
         ensures moment { moment_of self.new ≡ moment_of self.old }
-        ensures rate { frame.new.rate ≡ frame.old.rate }
+        ensures rate { inbox.new.rate ≡ inbox.old.rate }
     {
-        self.cross.exchange(side, arrived, frame);
+        self.cross.exchange(side, arrived, inbox);
     }
 
     // Whether a port is at the node.

@@ -1,5 +1,5 @@
 //! The cross-connect: both sides that receive and what they take in, the state, and where it leads what comes in.
-ghost use Rattle.std.specs.Prelude.{◌≡◌, ◌&&◌, ◌+◌, ◌*◌, ◌-◌, ◌/◌, ◌<◌, ◌≤◌, true, false, IfOk, length};
+ghost use Rattle.std.specs.Prelude.{◌≡◌, ◌&&◌, ◌+◌, ◌*◌, ◌-◌, ◌/◌, ◌<◌, ◌≤◌, ◌≢◌, None, true, false, IfOk, length};
 ghost use Rattle.sdh_frame.specs.Sizes.{n_of};
 ghost use Rattle.sdh_ringmap.specs.declared.Side.TheVariants.{West, East};
 ghost use Rattle.sdh_squelch.specs.Kept.{KeepsRing};
@@ -8,7 +8,7 @@ ghost use Rattle.sdh_nodestate.specs.Words.{SendsSpellable};
 ghost use Rattle.sdh_nodestate.specs.Shapes.{same_state};
 ghost use Rattle.sdh_interchange.specs.Taking.{IsOf};
 ghost use Rattle.sdh_node.specs.Same.{same_in};
-ghost use Rattle.sdh_plant.specs.Arrivals.{as_arrival};
+ghost use Rattle.sdh_plant.specs.Arrivals.{as_arrival, arrived_in};
 ghost use Rattle.sdh_node.specs.Receiving.{commanded_by, arrived_on};
 ghost use Rattle.sdh_node.specs.Node.{new_cross, compared_in};
 ghost use Rattle.sdh_node.specs.Crossing.{on_side, intake_on, at_side, half_of, after_intakes, scene_of, after_decision, next_word, received, leaving, slot_of, dropped_at};
@@ -23,6 +23,7 @@ use sdh_circuits::{CircuitMap, Slot};
 use sdh_frame::{FrameBuf, Rate};
 use sdh_interchange::Taken;
 use sdh_nodestate::{Heard, Needs, NodeState, Sent, same_shape, shape_of, start, step};
+use sdh_overhead::Landed;
 use sdh_payload::ChunkForm;
 use sdh_plant::Arrived;
 use sdh_pointer::Action;
@@ -120,16 +121,17 @@ impl CrossConnect {
         }
     }
 
-    /// Keeps what arrived on a side, and takes a frame in exchange for another. What was taken in before isn't kept.
-    pub fn exchange(&mut self, side: Side, arrived: Arrived, frame: &mut FrameBuf)
-        requires { frame.old.rate ≡ self.old.west.section.rate }
-        ensures cross { self.new ≡ record (at_side side (arrived_on (as_arrival arrived frame.old.bytes)) self.old) { west_in = self.new.west_in; east_in = self.new.east_in } }
+    /// Keeps what arrived on a side, and takes what landed in exchange for another buffer. What was taken in before isn't kept.
+    pub fn exchange(&mut self, side: Side, arrived: Arrived, inbox: &mut Landed)
+        requires rate { inbox.old.rate ≡ self.old.west.section.rate }
+        requires here { arrived ≡ Arrived.Frame → inbox.old.landed ≢ None }
+        ensures cross { self.new ≡ record (at_side side (arrived_on (arrived_in arrived inbox.old.landed)) self.old) { west_in = self.new.west_in; east_in = self.new.east_in } }
         ensures moment { self.new.west.local.moment ≡ self.old.west.local.moment }
-        ensures rate { frame.new.rate ≡ frame.old.rate }
+        ensures rate { inbox.new.rate ≡ inbox.old.rate }
     {
         match side {
-            Side::West => self.west.exchange(arrived, frame, &mut self.west_in),
-            Side::East => self.east.exchange(arrived, frame, &mut self.east_in),
+            Side::West => self.west.exchange(arrived, inbox, &mut self.west_in),
+            Side::East => self.east.exchange(arrived, inbox, &mut self.east_in),
         }
     }
 

@@ -1,19 +1,19 @@
 //! What a side takes in, in a round.
-ghost use Rattle.std.specs.Prelude.{◌≡◌, ◌&&◌, ◌+◌, ◌*◌, ◌-◌, ◌%◌, ◌<◌, ◌≤◌, None, Some, IfSome, IfOk, length, slice_index_or, replicate};
+ghost use Rattle.std.specs.Prelude.{◌≡◌, ◌&&◌, ◌+◌, ◌*◌, ◌-◌, ◌%◌, ◌<◌, ◌≤◌, ◌≢◌, Option, None, Some, IfSome, IfOk, length, slice_index_or, replicate};
 ghost use Rattle.std.specs.List.{list_any};
 ghost use Rattle.sdh_frame.specs.Sizes.{n_of, size_of};
 ghost use Rattle.sdh_frame.specs.Aus.{au_of};
-ghost use Rattle.sdh_overhead.specs.Sections.{holding};
+ghost use Rattle.sdh_overhead.specs.Sections.{Parities, holding};
 ghost use Rattle.sdh_nodestate.specs.Words.{IsSpellable};
 ghost use Rattle.sdh_pointer.specs.Reading.{Interpreter};
 ghost use Rattle.sdh_node.specs.Same.{same_readings};
-ghost use Rattle.sdh_node.specs.Receiving.{reception_of, all_ones, pointer_word_at, readings_of, after_frame, actions_in, readings_by, actions_by, new_intake};
+ghost use Rattle.sdh_node.specs.Receiving.{reception_of, frame_reception, all_ones, pointer_word_at, readings_of, after_frame, actions_in, readings_by, actions_by, new_intake};
 ghost use Rattle.sdh_node.specs.Passing.{h3_of};
 
 use crate::making::no_actions;
 use sdh_frame::{FrameBuf, Rate};
 use sdh_kbytes::{K, decode};
-use sdh_overhead::{Received, Section, read_section};
+use sdh_overhead::{Landed, Received, Section, read_landed};
 use sdh_pointer::{Action, Interp, Word, read_word};
 use sdh_request::Defect;
 use std::alloc::{AllocError, Global};
@@ -72,13 +72,14 @@ impl Intake {
         self.actions[au as usize - 1]
     }
 
-    /// Gives its frame, which has been read, in exchange for another.
-    pub fn exchange(&mut self, frame: &mut FrameBuf)
-        requires { frame.old.rate ≡ self.old.frame.rate }
-        ensures intake { self.new ≡ record self.old { frame = frame.old } }
-        ensures frame { frame.new ≡ self.old.frame }
+    /// Gives the buffer of its frame, which has been read, in exchange for that of a frame that doesn't count any more.
+    pub fn exchange(&mut self, inbox: &mut Landed)
+        requires { inbox.old.rate ≡ self.old.frame.rate }
+        ensures intake { self.new ≡ record self.old { frame = self.new.frame } }
+        ensures rate { self.new.frame.rate ≡ self.old.frame.rate }
+        ensures inbox { inbox.new ≡ record inbox.old { landed = None } }
     {
-        std::mem::swap(&mut self.frame, frame);
+        inbox.swap_frame(&mut self.frame);
     }
 
     /// A frame of ones.
@@ -88,25 +89,27 @@ impl Intake {
         self.frame.fill(0xFF);
     }
 
-    /// Takes a frame that arrived, in exchange for its own, and finds in it the defect and the word that it brings.
+    /// Takes the frame that landed, in exchange for its own, and finds in it the defect and the word that it brings.
     pub fn find(
         &mut self,
         threshold: u16,
         section: &mut Section,
-        frame: &mut FrameBuf,
+        inbox: &mut Landed,
     ) -> (Defect, Option<K>)
-        requires rate { frame.old.rate ≡ self.old.frame.rate }
+        requires rate { inbox.old.rate ≡ self.old.frame.rate }
+        requires here { inbox.old.landed ≢ None }
         requires section { section.old.rate ≡ self.old.frame.rate }
-        ensures intake { self.new ≡ record self.old { frame = record { rate = self.old.frame.rate; bytes = (reception_of (Some (Some frame.old.bytes)) frame.old.rate threshold section.old.last).bytes } } }
-        ensures section { section.new ≡ holding section.old.rate (reception_of (Some (Some frame.old.bytes)) frame.old.rate threshold section.old.last).last }
-        ensures frame { frame.new.rate ≡ frame.old.rate }
-        ensures defect { result.0 ≡ (reception_of (Some (Some frame.old.bytes)) frame.old.rate threshold section.old.last).defect }
-        ensures word { result.1 ≡ (reception_of (Some (Some frame.old.bytes)) frame.old.rate threshold section.old.last).word }
+        ensures intake { self.new ≡ record self.old { frame = record { rate = self.old.frame.rate; bytes = (reception_of (Some inbox.old.landed) inbox.old.rate threshold section.old.last).bytes } } }
+        ensures section { section.new ≡ holding section.old.rate (reception_of (Some inbox.old.landed) inbox.old.rate threshold section.old.last).last }
+        ensures rate { inbox.new.rate ≡ inbox.old.rate }
+        ensures defect { result.0 ≡ (reception_of (Some inbox.old.landed) inbox.old.rate threshold section.old.last).defect }
+        ensures word { result.1 ≡ (reception_of (Some inbox.old.landed) inbox.old.rate threshold section.old.last).word }
         ensures silent { result.0 ≡ Defect.Sf → result.1 ≡ None }
         ensures spellable { IfSome result.1 IsSpellable }
     {
-        std::mem::swap(&mut self.frame, frame);
-        find_frame(threshold, section, &mut self.frame)
+        let received = read_landed(section, inbox);
+        inbox.swap_frame(&mut self.frame);
+        find_frame(threshold, received, &mut self.frame)
     }
 
     /// All interpreters read the frame. Whether they keep what they kept.
@@ -128,18 +131,16 @@ impl Intake {
     }
 }
 
-// What a frame is to a side, where B2 may have fewer violations than the threshold: the defect, and the word heard. A
-// frame that fails becomes ones.
-fn find_frame(threshold: u16, section: &mut Section, frame: &mut FrameBuf) -> (Defect, Option<K>)
-    requires rate { section.old.rate ≡ frame.old.rate }
-    ensures frame { frame.new ≡ record frame.old { bytes = (reception_of (Some (Some frame.old.bytes)) frame.old.rate threshold section.old.last).bytes } }
-    ensures section { section.new ≡ holding section.old.rate (reception_of (Some (Some frame.old.bytes)) frame.old.rate threshold section.old.last).last }
-    ensures defect { result.0 ≡ (reception_of (Some (Some frame.old.bytes)) frame.old.rate threshold section.old.last).defect }
-    ensures word { result.1 ≡ (reception_of (Some (Some frame.old.bytes)) frame.old.rate threshold section.old.last).word }
+// What an opened frame is to a side by what it says, where B2 may have fewer violations than the threshold: the defect, and the
+// word heard. A frame that fails becomes ones.
+fn find_frame(threshold: u16, received: Received, frame: &mut FrameBuf) -> (Defect, Option<K>)
+    ensures frame { (last : Option Parities) → frame.new ≡ record frame.old { bytes = (frame_reception frame.old.rate threshold frame.old.bytes last received).bytes } }
+    ensures defect { (last : Option Parities) → result.0 ≡ (frame_reception frame.old.rate threshold frame.old.bytes last received).defect }
+    ensures word { (last : Option Parities) → result.1 ≡ (frame_reception frame.old.rate threshold frame.old.bytes last received).word }
     ensures silent { result.0 ≡ Defect.Sf → result.1 ≡ None }
     ensures spellable { IfSome result.1 IsSpellable }
 {
-    match read_section(section, frame) {
+    match received {
         Received::Unframed => {
             frame.fill(0xFF);
             (Defect::Sf, None)

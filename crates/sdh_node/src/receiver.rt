@@ -8,7 +8,7 @@ ghost use Rattle.sdh_nodestate.specs.Filtering.{hears};
 ghost use Rattle.sdh_pointer.specs.Reading.{start};
 ghost use Rattle.sdh_kbytes.specs.Same.{same_code, same_heard};
 ghost use Rattle.sdh_node.specs.Same.{same_readings, same_in};
-ghost use Rattle.sdh_plant.specs.Arrivals.{as_arrival};
+ghost use Rattle.sdh_plant.specs.Arrivals.{as_arrival, arrived_in};
 ghost use Rattle.sdh_node.specs.Receiving.{reception, after_overhead, after_intake, intake_of, readings_by, actions_by, commanded_by, arrived_on, IsReceiving};
 ghost use Rattle.sdh_node.specs.Crossing.{is_failed};
 ghost use Rattle.sdh_node.specs.Node.{new_receiving, compared_in};
@@ -16,22 +16,22 @@ ghost use Rattle.sdh_node.specs.Node.{new_receiving, compared_in};
 use crate::intake::Intake;
 use crate::making::new_interpreters;
 use crate::settings::Settings;
-use sdh_frame::FrameBuf;
+use sdh_frame::{FrameBuf, Landing};
 use sdh_kbytes::{Code, K, same_code, same_heard};
 use sdh_nodestate::Filter;
-use sdh_overhead::Section;
+use sdh_overhead::{Landed, Section};
 use sdh_plant::Arrived;
 use sdh_pointer::Interp;
 use sdh_request::{Command, Defect, Local, Moment};
 use std::alloc::{AllocError, Global};
 use std::marker::Model;
 
-/// One side that receives: what arrived, the section, the local request and the interpreters. The buffer counts only
-/// where a frame arrived since the last round.
+/// One side that receives: what arrived, the section, the local request and the interpreters. What landed counts only where a
+/// frame arrived since the last round.
 #[derive(Debug, Drop)]
 pub struct Receiver {
     arrived: Option<Arrived>,
-    frame: FrameBuf,
+    inbox: Landed,
     section: Section,
     local: Local,
     request: Code,
@@ -40,18 +40,19 @@ pub struct Receiver {
 }
 
 impl Model for Receiver {
-    ghost use Rattle.std.specs.Prelude.{◌≡◌};
-    ghost use Rattle.std.specs.Option.{option_map};
-    ghost use Rattle.sdh_plant.specs.Arrivals.{as_arrival};
+    ghost use Rattle.std.specs.Prelude.{◌≡◌, ◌≢◌, None, Some, option_map};
+    ghost use Rattle.sdh_plant.specs.declared.plant.Arrived.TheVariants.{Frame};
+    ghost use Rattle.sdh_plant.specs.Arrivals.{arrived_in};
     ghost use Rattle.sdh_node.specs.Receiving.{Receiving, IsReceiving, readings_of};
 
     ghost Value = { Receiving };
 
-    ghost view = { λ r. record { arrived = option_map (λ a. as_arrival a r.frame.bytes) r.arrived; section = r.section; local = r.local; request = r.request; brought = r.filter; readings = readings_of r.interps.items } };
+    ghost view = { λ r. record { arrived = option_map (λ a. arrived_in a r.inbox.landed) r.arrived; section = r.section; local = r.local; request = r.request; brought = r.filter; readings = readings_of r.interps.items } };
 
     ghost invariant = { λ r. record {
-      rate : r.frame.rate ≡ r.section.rate;
-      side : IsReceiving (record { arrived = option_map (λ a. as_arrival a r.frame.bytes) r.arrived; section = r.section; local = r.local; request = r.request; brought = r.filter; readings = readings_of r.interps.items });
+      rate : r.inbox.rate ≡ r.section.rate;
+      here : r.arrived ≡ Some Frame → r.inbox.landed ≢ None;
+      side : IsReceiving (record { arrived = option_map (λ a. arrived_in a r.inbox.landed) r.arrived; section = r.section; local = r.local; request = r.request; brought = r.filter; readings = readings_of r.interps.items });
     } };
 }
 
@@ -62,7 +63,7 @@ impl Receiver {
     {
         Ok(Receiver {
             arrived: None,
-            frame: FrameBuf::try_new(alloc, settings.rate)?,
+            inbox: Landed::try_new(alloc, settings.rate)?,
             section: Section::try_new(settings.rate),
             local: Local::new(settings.wait),
             request: Code::Nr,
@@ -79,28 +80,29 @@ impl Receiver {
     {
         match arrived {
             Arrived::Frame => {
-                self.frame.copy_from(frame);
+                self.inbox.land(frame);
                 self.arrived = Some(Arrived::Frame);
             }
             Arrived::Dark => self.arrived = Some(Arrived::Dark),
         }
     }
 
-    /// Keeps what arrived for the next round as `receive` does, and takes a frame in exchange for the one that was taken in
+    /// Keeps what arrived for the next round as `receive` does, and takes what landed in exchange for the buffer that was taken in
     /// before, so that few buffers go round.
-    pub fn exchange(&mut self, arrived: Arrived, frame: &mut FrameBuf, intake: &mut Intake)
-        requires rate { frame.old.rate ≡ self.old.section.rate }
+    pub fn exchange(&mut self, arrived: Arrived, inbox: &mut Landed, intake: &mut Intake)
+        requires rate { inbox.old.rate ≡ self.old.section.rate }
+        requires here { arrived ≡ Arrived.Frame → inbox.old.landed ≢ None }
         requires intake { intake.old.frame.rate ≡ self.old.section.rate }
-        ensures side { self.new ≡ arrived_on (as_arrival arrived frame.old.bytes) self.old }
+        ensures side { self.new ≡ arrived_on (arrived_in arrived inbox.old.landed) self.old }
         ensures local { self.new.local ≡ self.old.local }
-        ensures rate { frame.new.rate ≡ frame.old.rate }
+        ensures rate { inbox.new.rate ≡ inbox.old.rate }
         ensures intake { intake.new ≡ record intake.old { frame = intake.new.frame } }
         ensures intake_rate { intake.new.frame.rate ≡ intake.old.frame.rate }
     {
         match arrived {
             Arrived::Frame => {
-                intake.exchange(&mut self.frame);
-                std::mem::swap(&mut self.frame, frame);
+                intake.exchange(&mut self.inbox);
+                std::mem::swap(&mut self.inbox, inbox);
                 self.arrived = Some(Arrived::Frame);
             }
             Arrived::Dark => self.arrived = Some(Arrived::Dark),
@@ -148,7 +150,7 @@ impl Receiver {
                 intake.fill_ones();
                 (Defect::Sf, None)
             }
-            Some(Arrived::Frame) => intake.find(threshold, &mut self.section, &mut self.frame),
+            Some(Arrived::Frame) => intake.find(threshold, &mut self.section, &mut self.inbox),
         }
     }
 

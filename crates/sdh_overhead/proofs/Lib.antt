@@ -5,3 +5,4 @@ pub mod Alone
 pub mod Passing
 pub mod Reading
 pub mod Nine
+pub mod Opening

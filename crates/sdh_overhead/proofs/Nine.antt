@@ -34,7 +34,7 @@ length-clear : (n : ℕ) (last : Option Parities) (k1 k2 : ℕ) (xs : List ℕ) 
 unfolding clear_frame with_overhead
 length-clear n last k1 k2 xs = length-map_from (byte_at n (added_after n last k1 k2)) 0 xs
 
-pieces : (clear : ℕ) (xs ys : List ℕ) → scrambled clear (xs ++ ys) ≡ scrambled clear xs ++ scrambled_from clear (length xs) ys
+pub pieces : (clear : ℕ) (xs ys : List ℕ) → scrambled clear (xs ++ ys) ≡ scrambled clear xs ++ scrambled_from clear (length xs) ys
 unfolding scrambled scrambled_from
 pieces clear xs ys = let at : 0 + length xs ≡ length xs = omega arith in map_from-append (scrambled_byte clear) 0 xs ys ∙ ap (λ k. map_from (scrambled_byte clear) 0 xs ++ map_from (scrambled_byte clear) k ys) at
 
@@ -43,13 +43,13 @@ line-more n last k1 k2 xs ys =
     ap (scrambled (9 * n)) (clear-more n last k1 k2 xs ys) ∙ pieces (9 * n) (clear_frame n last k1 k2 xs) (clear_row n last k1 k2 (length xs) ys)
     ∙ ap (λ k. line_frame n last k1 k2 xs ++ scrambled_from (9 * n) k (clear_row n last k1 k2 (length xs) ys)) (length-clear n last k1 k2 xs)
 
-put-length : (a k : ℕ) (s part : List ℕ) → a + k ≤ length s → length part ≡ k → length (put_mid a k s part) ≡ length s
+pub put-length : (a k : ℕ) (s part : List ℕ) → a + k ≤ length s → length part ≡ k → length (put_mid a k s part) ≡ length s
 put-length a k s part room len = grind (arith, common_steps)
 
 drop-more : (a w : ℕ) (xs ys : List ℕ) → drop a xs ≡ drop a ys → drop (a + w) xs ≡ drop (a + w) ys
 drop-more a w xs ys e = sym (drop-drop w a xs) ∙ ap (drop w) e ∙ drop-drop w a ys
 
-next-at : (row m w : ℕ) → 1 ≤ row → (row + m - 1) * w ≡ (row - 1) * w + m * w
+pub next-at : (row m w : ℕ) → 1 ≤ row → (row + m - 1) * w ≡ (row - 1) * w + m * w
 next-at row m w some = sym (row-ends row m w some)
 
 pub row-within : (first : SectionKept) (row m : ℕ) → 1 ≤ row → row + m ≤ 10 → (row - 1) * (270 * n_of first.rate) + m * (270 * n_of first.rate) ≤ size_of first.rate

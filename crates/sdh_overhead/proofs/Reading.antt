@@ -46,11 +46,11 @@ pieces : (n : ℕ) (line bytes : List ℕ) → scrambled (9 * n) (line ++ bytes)
 unfolding scrambled scrambled_from
 pieces n line bytes = map_from-append (scrambled_byte (9 * n)) 0 line bytes ∙ ap (λ k. map_from (scrambled_byte (9 * n)) 0 line ++ map_from (scrambled_byte (9 * n)) k bytes) (omega arith)
 
-by-b1 : (n : ℕ) (known : Bool) (b1 : ℕ) (b2 clear : List ℕ) → b1_violations n (last_of n known b1 b2) clear ≡ (if known then differing_bits b1 (byte_in n clear 2 1) else 0)
+pub by-b1 : (n : ℕ) (known : Bool) (b1 : ℕ) (b2 clear : List ℕ) → b1_violations n (last_of n known b1 b2) clear ≡ (if known then differing_bits b1 (byte_in n clear 2 1) else 0)
 by-b1 n true b1 b2 clear = refl
 by-b1 n false b1 b2 clear = refl
 
-by-b2 : (n : ℕ) (known : Bool) (b1 : ℕ) (b2 clear : List ℕ) → b2_violations n (last_of n known b1 b2) clear ≡ (if known then violations_of (take (3 * n) b2) (b2_in n clear) else 0)
+pub by-b2 : (n : ℕ) (known : Bool) (b1 : ℕ) (b2 clear : List ℕ) → b2_violations n (last_of n known b1 b2) clear ≡ (if known then violations_of (take (3 * n) b2) (b2_in n clear) else 0)
 by-b2 n true b1 b2 clear = refl
 by-b2 n false b1 b2 clear = refl
 

@@ -1,11 +1,13 @@
 //! Section overhead both ways (ITU-T G.707 clause 9.2): framing, K bytes, the parities B1 and B2, and the scrambler.
 #![tactic(auto)]
 
+mod landed;
 mod laws;
 mod overhead;
 mod rows;
 mod section;
 
+pub use landed::{Landed, read_landed};
 pub use laws::{fields_are_found, what_is_written_is_read};
 pub use section::{Section, read_row, read_section, write_row, write_section};
 

@@ -53,7 +53,7 @@ fn are_all(bytes: &[u8], value: u8) -> bool
 
 // Whether all bytes A1 and A2 have their values.
 #[tactic(auto, unfolding(crate::specs::Sections::is_framed))]
-fn is_framed(n: usize, bytes: &[u8]) -> bool
+pub(crate) fn is_framed(n: usize, bytes: &[u8]) -> bool
     requires few { n ≤ 16 }
     requires size { 6 * n ≤ length bytes.now }
     ensures { result ≡ is_framed n bytes.now }
@@ -231,6 +231,32 @@ impl Section {
             b1: rows.b1,
             b2: rows.b2,
         }
+    }
+
+    // What a whole framed frame says, which is descrambled.
+    pub(crate) fn find(&self, bytes: &[u8]) -> Received
+        requires { length bytes.now ≡ size_of self.now.rate }
+        ensures { result ≡ found_in (n_of self.now.rate) self.now.last bytes.now }
+    {
+        let n = self.rate.n();
+        let b2 = &bytes[1080 * n..1083 * n];
+        Received::Framed {
+            k1: bytes[1083 * n],
+            k2: bytes[1086 * n],
+            b1: b1_after(2, 0, self.known, self.b1, bytes[270 * n]),
+            b2: b2_after(5, 0, self.known, &self.b2[..3 * n], b2),
+        }
+    }
+
+    // Keeps these parities, as those of a frame.
+    pub(crate) fn keep(&mut self, b1: u8, b2: [u8; 48])
+        requires { length b2 ≡ 48 }
+        ensures { self.new ≡ holding self.old.rate (Some (record { b1 = b1; b2 = take (3 * n_of self.old.rate) b2 })) }
+    {
+        self.known = true;
+        self.b1 = b1;
+        self.b2 = b2;
+        self.rows = Rows::new(self.rate.n());
     }
 
     // Keeps the parities of the rows that have gone by, as those of a frame.

@@ -48,6 +48,61 @@ small-back x y k e h =
     let back : bit_xor y (scrambling_byte k) ≡ x = ap (λ z. bit_xor z (scrambling_byte k)) e ∙ xor_assoc x (scrambling_byte k) (scrambling_byte k) ∙ ap (bit_xor x) (xor_self (scrambling_byte k)) ∙ xor_zero_r x in
     subst (λ z. z < 2 ^ 8) back (xor_lt 8 y (scrambling_byte k) h (byte-lt k))
 
+-- the three thirds of the next row done, each from the old bytes: what is there, and the sums of it
+module _ (old bytes b1 b2 b3 : List ℕ) (at r k : ℕ) (key : k ≡ (at + 48 * r) % 1016)
+    (done : (i : ℕ) → i < 48 * r → get_or bytes i 0 ≡ bit_xor (get_or old i 0) (scrambling_byte (at + i)))
+    (below1 : (m : ℕ) → m < 48 * r → get_or b1 m 0 ≡ get_or bytes m 0)
+    (inside1 : (j : ℕ) → j < 16 → get_or b1 (48 * r + j) 0 ≡ bit_xor (get_or old (48 * r + j) 0) (scrambling_byte (k + j)))
+    (below2 : (m : ℕ) → m < 48 * r + 16 → get_or b2 m 0 ≡ get_or b1 m 0)
+    (inside2 : (j : ℕ) → j < 16 → get_or b2 (48 * r + 16 + j) 0 ≡ bit_xor (get_or old (48 * r + 16 + j) 0) (scrambling_byte (k + 16 + j)))
+    (below3 : (m : ℕ) → m < 48 * r + 32 → get_or b3 m 0 ≡ get_or b2 m 0)
+    (inside3 : (j : ℕ) → j < 16 → get_or b3 (48 * r + 32 + j) 0 ≡ bit_xor (get_or old (48 * r + 32 + j) 0) (scrambling_byte (k + 32 + j)))
+    (small : (m : ℕ) → get_or b3 m 0 < 2 ^ 8) where
+  pub stays1 : (j : ℕ) → j < 16 → get_or b3 (48 * r + j) 0 ≡ get_or b1 (48 * r + j) 0
+  stays1 j h = below3 (48 * r + j) (omega arith) ∙ below2 (48 * r + j) (omega arith)
+
+  pub stays2 : (j : ℕ) → j < 16 → get_or b3 (48 * r + 16 + j) 0 ≡ get_or b2 (48 * r + 16 + j) 0
+  stays2 j h = below3 (48 * r + 16 + j) (omega arith)
+
+  pub opened-done : (i : ℕ) → i < 48 * (r + 1) → get_or b3 i 0 ≡ bit_xor (get_or old i 0) (scrambling_byte (at + i))
+  opened-done i h =
+      elim (cases_lt i (48 * r)) [
+        | inl before ↦ below3 i (omega arith) ∙ below2 i (omega arith) ∙ below1 i before ∙ done i before
+        | inr row ↦ elim (cases_lt i (48 * r + 16)) [
+          | inl first ↦ (
+              let j : ℕ = i - 48 * r in
+              let lt : j < 16 = omega arith in
+              let e : 48 * r + j ≡ i = omega arith in
+              let f : at + (48 * r + j) ≡ at + i = omega arith in
+              ap (λ m. get_or b3 m 0) (sym e) ∙ stays1 j lt ∙ inside1 j lt ∙ ap (λ z. bit_xor z (scrambling_byte (k + j))) (ap (λ m. get_or old m 0) e) ∙ ap (bit_xor (get_or old i 0)) (key-at at r k j key ∙ ap scrambling_byte f))
+          | inr later ↦ elim (cases_lt i (48 * r + 32)) [
+            | inl second ↦ (
+                let j : ℕ = i - (48 * r + 16) in
+                let lt : j < 16 = omega arith in
+                let e : 48 * r + 16 + j ≡ i = omega arith in
+                let g : k + 16 + j ≡ k + (16 + j) = omega arith in
+                let f : at + (48 * r + (16 + j)) ≡ at + i = omega arith in
+                ap (λ m. get_or b3 m 0) (sym e) ∙ stays2 j lt ∙ inside2 j lt ∙ ap (λ z. bit_xor z (scrambling_byte (k + 16 + j))) (ap (λ m. get_or old m 0) e)
+                ∙ ap (bit_xor (get_or old i 0)) (ap scrambling_byte g ∙ key-at at r k (16 + j) key ∙ ap scrambling_byte f))
+            | inr third ↦ (
+                let j : ℕ = i - (48 * r + 32) in
+                let lt : j < 16 = omega arith in
+                let e : 48 * r + 32 + j ≡ i = omega arith in
+                let g : k + 32 + j ≡ k + (32 + j) = omega arith in
+                let f : at + (48 * r + (32 + j)) ≡ at + i = omega arith in
+                ap (λ m. get_or b3 m 0) (sym e) ∙ inside3 j lt ∙ ap (λ z. bit_xor z (scrambling_byte (k + 32 + j))) (ap (λ m. get_or old m 0) e)
+                ∙ ap (bit_xor (get_or old i 0)) (ap scrambling_byte g ∙ key-at at r k (32 + j) key ∙ ap scrambling_byte f))
+          ]
+        ]
+      ]
+
+  stay : (m : ℕ) → m < 48 → every m 48 r b3 ≡ every m 48 r bytes
+  stay m h = same-rows b3 bytes m r h (λ i lt. below3 i (omega arith) ∙ below2 i (omega arith) ∙ below1 i lt)
+
+  -- one row more of a column
+  pub opened-sum : (m s v x : ℕ) → m < 48 → s ≡ bip8 (every m 48 r bytes) → v ≡ bit_xor s x → x ≡ get_or b3 (m + r * 48) 0 → v ≡ bip8 (every m 48 (r + 1) b3)
+  opened-sum m s v x h e f g = f ∙ ap (λ z. bit_xor z x) (e ∙ ap bip8 (sym (stay m h))) ∙ ap (bit_xor (bip8 (every m 48 r b3))) g ∙ one-more b3 m r 0 (small (m + r * 48))
+
 -- the state of a pass over rows of 48 bytes: what it was, what it is, and the three thirds of the next row done
 module _ (old bytes b1 b2 b3 : List ℕ) (at r k : ℕ) (key : k ≡ (at + 48 * r) % 1016)
     (done : (i : ℕ) → i < 48 * r → get_or bytes i 0 ≡ bit_xor (get_or old i 0) (scrambling_byte (at + i)))
@@ -72,50 +127,28 @@ module _ (old bytes b1 b2 b3 : List ℕ) (at r k : ℕ) (key : k ≡ (at + 48 * 
   was3 : (j : ℕ) → j < 16 → get_or b2 (48 * r + 32 + j) 0 ≡ get_or old (48 * r + 32 + j) 0
   was3 j h = above2 (48 * r + 32 + j) (omega arith) ∙ above1 (48 * r + 32 + j) (omega arith) ∙ rest (48 * r + 32 + j) (omega arith)
 
+  -- each third from the old bytes
+  from1 : (j : ℕ) → j < 16 → get_or b1 (48 * r + j) 0 ≡ bit_xor (get_or old (48 * r + j) 0) (scrambling_byte (k + j))
+  from1 j h = inside1 j h ∙ ap (λ z. bit_xor z (scrambling_byte (k + j))) (was1 j h)
+
+  from2 : (j : ℕ) → j < 16 → get_or b2 (48 * r + 16 + j) 0 ≡ bit_xor (get_or old (48 * r + 16 + j) 0) (scrambling_byte (k + 16 + j))
+  from2 j h = inside2 j h ∙ ap (λ z. bit_xor z (scrambling_byte (k + 16 + j))) (was2 j h)
+
+  from3 : (j : ℕ) → j < 16 → get_or b3 (48 * r + 32 + j) 0 ≡ bit_xor (get_or old (48 * r + 32 + j) 0) (scrambling_byte (k + 32 + j))
+  from3 j h = inside3 j h ∙ ap (λ z. bit_xor z (scrambling_byte (k + 32 + j))) (was3 j h)
+
   -- and after all
   is1 : (j : ℕ) → j < 16 → get_or b3 (48 * r + j) 0 ≡ get_or b1 (48 * r + j) 0
-  is1 j h = below3 (48 * r + j) (omega arith) ∙ below2 (48 * r + j) (omega arith)
+  is1 = stays1 old bytes b1 b2 b3 at r k key done below1 from1 below2 from2 below3 from3 small
 
   is2 : (j : ℕ) → j < 16 → get_or b3 (48 * r + 16 + j) 0 ≡ get_or b2 (48 * r + 16 + j) 0
-  is2 j h = below3 (48 * r + 16 + j) (omega arith)
+  is2 = stays2 old bytes b1 b2 b3 at r k key done below1 from1 below2 from2 below3 from3 small
 
   pub more-done : (i : ℕ) → i < 48 * (r + 1) → get_or b3 i 0 ≡ bit_xor (get_or old i 0) (scrambling_byte (at + i))
-  more-done i h =
-      elim (cases_lt i (48 * r)) [
-        | inl before ↦ below3 i (omega arith) ∙ below2 i (omega arith) ∙ below1 i before ∙ done i before
-        | inr row ↦ elim (cases_lt i (48 * r + 16)) [
-          | inl first ↦ (
-              let j : ℕ = i - 48 * r in
-              let lt : j < 16 = omega arith in
-              let e : 48 * r + j ≡ i = omega arith in
-              let f : at + (48 * r + j) ≡ at + i = omega arith in
-              ap (λ m. get_or b3 m 0) (sym e) ∙ is1 j lt ∙ inside1 j lt ∙ ap (λ z. bit_xor z (scrambling_byte (k + j))) (was1 j lt ∙ ap (λ m. get_or old m 0) e) ∙ ap (bit_xor (get_or old i 0)) (key-at at r k j key ∙ ap scrambling_byte f))
-          | inr later ↦ elim (cases_lt i (48 * r + 32)) [
-            | inl second ↦ (
-                let j : ℕ = i - (48 * r + 16) in
-                let lt : j < 16 = omega arith in
-                let e : 48 * r + 16 + j ≡ i = omega arith in
-                let g : k + 16 + j ≡ k + (16 + j) = omega arith in
-                let f : at + (48 * r + (16 + j)) ≡ at + i = omega arith in
-                ap (λ m. get_or b3 m 0) (sym e) ∙ is2 j lt ∙ inside2 j lt ∙ ap (λ z. bit_xor z (scrambling_byte (k + 16 + j))) (was2 j lt ∙ ap (λ m. get_or old m 0) e)
-                ∙ ap (bit_xor (get_or old i 0)) (ap scrambling_byte g ∙ key-at at r k (16 + j) key ∙ ap scrambling_byte f))
-            | inr third ↦ (
-                let j : ℕ = i - (48 * r + 32) in
-                let lt : j < 16 = omega arith in
-                let e : 48 * r + 32 + j ≡ i = omega arith in
-                let g : k + 32 + j ≡ k + (32 + j) = omega arith in
-                let f : at + (48 * r + (32 + j)) ≡ at + i = omega arith in
-                ap (λ m. get_or b3 m 0) (sym e) ∙ inside3 j lt ∙ ap (λ z. bit_xor z (scrambling_byte (k + 32 + j))) (was3 j lt ∙ ap (λ m. get_or old m 0) e)
-                ∙ ap (bit_xor (get_or old i 0)) (ap scrambling_byte g ∙ key-at at r k (32 + j) key ∙ ap scrambling_byte f))
-          ]
-        ]
-      ]
+  more-done = opened-done old bytes b1 b2 b3 at r k key done below1 from1 below2 from2 below3 from3 small
 
   pub more-rest : (i : ℕ) → 48 * (r + 1) ≤ i → get_or b3 i 0 ≡ get_or old i 0
   more-rest i h = above3 i (omega arith) ∙ above2 i (omega arith) ∙ above1 i (omega arith) ∙ rest i (omega arith)
-
-  rows-stay : (m : ℕ) → m < 48 → every m 48 r b3 ≡ every m 48 r bytes
-  rows-stay m h = same-rows b3 bytes m r h (λ i lt. below3 i (omega arith) ∙ below2 i (omega arith) ∙ below1 i lt)
 
   old-small : (i : ℕ) → i < 48 * (r + 1) → get_or old i 0 < 2 ^ 8
   old-small i h = small-back (get_or old i 0) (get_or b3 i 0) (at + i) (more-done i h) (small i)
@@ -125,7 +158,7 @@ module _ (old bytes b1 b2 b3 : List ℕ) (at r k : ℕ) (key : k ≡ (at + 48 * 
   sum-before m s v x h e f g = f ∙ ap (λ z. bit_xor z x) e ∙ ap (bit_xor (bip8 (every m 48 r old))) g ∙ one-more old m r 0 (old-small (m + r * 48) (omega arith))
 
   sum-after : (m s v x : ℕ) → m < 48 → s ≡ bip8 (every m 48 r bytes) → v ≡ bit_xor s x → x ≡ get_or b3 (m + r * 48) 0 → v ≡ bip8 (every m 48 (r + 1) b3)
-  sum-after m s v x h e f g = f ∙ ap (λ z. bit_xor z x) (e ∙ ap bip8 (sym (rows-stay m h))) ∙ ap (bit_xor (bip8 (every m 48 r b3))) g ∙ one-more b3 m r 0 (small (m + r * 48))
+  sum-after = opened-sum old bytes b1 b2 b3 at r k key done below1 from1 below2 from2 below3 from3 small
 
   -- the same of the clear bytes
   pub clear1 : (after : Bool) (j : ℕ) → j < 16 → get_or (if after then b1 else bytes) (48 * r + j) 0 ≡ get_or (if after then b3 else old) (j + r * 48) 0

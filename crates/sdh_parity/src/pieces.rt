@@ -7,7 +7,7 @@ ghost use Rattle.sdh_parity.specs.Pieces.{scrambled_from, after_bytes, HasLanes,
 use crate::adding::{add_lanes, add_piece, lane_behind};
 use crate::parity::bip8;
 use crate::scrambler::{Rate9, add_sequence, sequence};
-use crate::through::{Passed, pass};
+use crate::through::{Passed, open, pass};
 use std::marker::Model;
 
 // Adds the bytes of the sequence from byte s on.
@@ -114,6 +114,23 @@ impl Scrambler {
     {
         let passed = pass(bytes, self.at - self.clear, clear_after);
         self.at += bytes.len();
+        passed
+    }
+
+    // Descrambles the next piece from one place to another, and sums it on the way. It is behind the first bytes.
+    #[inline(always)]
+    fn open(&mut self, from: &[u8], to: &mut [u8]) -> Passed
+        requires behind { self.old.clear ≤ self.old.at }
+        requires few { self.old.at + length from.now ≤ 38880 }
+        requires same { length to.old ≡ length from.now }
+        ensures bytes { to.new ≡ scrambled_from self.old.clear self.old.at from.now }
+        ensures at { self.new ≡ record self.old { at = self.old.at + length from.now } }
+        ensures lanes { HasLanes 48 to.new result.lanes }
+        ensures long { length result.lanes ≡ 48 }
+        ensures line { result.line ≡ parity_of from.now }
+    {
+        let passed = open(from, to, self.at - self.clear);
+        self.at += from.len();
         passed
     }
 
@@ -288,6 +305,33 @@ pub fn receive_piece(
     let passed = scrambler.pass(bytes, true);
     line.add_parity(passed.line);
     clear.add_lanes(bytes.len(), &passed.lanes);
+}
+
+/// Receives the next piece from one place to another: the same as `receive_piece`, but the bytes stay as they were where
+/// they came from.
+pub fn open_piece(
+    line: &mut Bip8,
+    scrambler: &mut Scrambler,
+    clear: &mut BipSection,
+    from: &[u8],
+    to: &mut [u8],
+)
+    requires few { scrambler.old.at + length from.now ≤ 38880 }
+    requires same { length to.old ≡ length from.now }
+    ensures bytes { to.new ≡ scrambled_from scrambler.old.clear scrambler.old.at from.now }
+    ensures at { scrambler.new ≡ record scrambler.old { at = scrambler.old.at + length from.now } }
+    ensures line { (before : List ℕ) → line.old ≡ parity_of before → line.new ≡ parity_of (before ++ from.now) }
+    ensures clear { (before : List ℕ) → clear.old ≡ after_bytes clear.old.n before → clear.new ≡ after_bytes clear.old.n (before ++ to.new) }
+    ensures rate { clear.new.n ≡ clear.old.n }
+{
+    if !(scrambler.is_behind() && clear.is_whole()) {
+        to.copy_from_slice(from);
+        receive_piece(line, scrambler, clear, to);
+        return;
+    }
+    let passed = scrambler.open(from, to);
+    line.add_parity(passed.line);
+    clear.add_lanes(from.len(), &passed.lanes);
 }
 
 /// However a frame is cut, its pieces make what the whole makes.

@@ -11,6 +11,17 @@ use crate::parity::bip8;
 use crate::scrambler::{key, sequence, sequence_parity};
 use std::simd::prelude::*;
 
+// Sixteen bytes get the sequence from k on.
+#[inline(always)]
+fn keyed(old: u8x16, k: usize) -> u8x16
+    requires long { length old ≡ 16 }
+    requires key { k + 16 ≤ 1064 }
+    ensures len { length result ≡ 16 }
+    ensures each { (j : ℕ) → j < 16 → slice_index result j ≡ bit_xor (slice_index old j) (scrambling_byte (k + j)) }
+{
+    old ^ key(k)
+}
+
 // Sixteen bytes from i on get the sequence from k on. The clear ones are added to the sum.
 #[inline(always)]
 fn step(bytes: &mut [u8], i: usize, k: usize, sum: u8x16, clear_after: bool) -> u8x16
@@ -24,9 +35,26 @@ fn step(bytes: &mut [u8], i: usize, k: usize, sum: u8x16, clear_after: bool) -> 
     ensures sum { (j : ℕ) → j < 16 → slice_index result j ≡ bit_xor (slice_index sum j) (slice_index (if clear_after then bytes.new else bytes.old) (i + j)) }
 {
     let old = u8x16::from_slice(&bytes[i..]);
-    let new = old ^ key(k);
+    let new = keyed(old, k);
     new.copy_to_slice(&mut bytes[i..]);
     sum ^ (if clear_after { new } else { old })
+}
+
+// The same from one place to another, where the bytes that go over are the clear ones.
+#[inline(always)]
+fn open_step(from: &[u8], to: &mut [u8], i: usize, k: usize, sum: u8x16) -> u8x16
+    requires room { i + 16 ≤ length from.now }
+    requires same { length to.old ≡ length from.now }
+    requires key { k + 16 ≤ 1064 }
+    requires sum { length sum ≡ 16 }
+    ensures below { (m : ℕ) → m < i → slice_index to.new m ≡ slice_index to.old m }
+    ensures inside { (j : ℕ) → j < 16 → slice_index to.new (i + j) ≡ bit_xor (slice_index from.now (i + j)) (scrambling_byte (k + j)) }
+    ensures long { length result ≡ 16 }
+    ensures sum { (j : ℕ) → j < 16 → slice_index result j ≡ bit_xor (slice_index sum j) (slice_index to.new (i + j)) }
+{
+    let new = keyed(u8x16::from_slice(&from[i..]), k);
+    new.copy_to_slice(&mut to[i..]);
+    sum ^ new
 }
 
 // The place in the sequence 48 bytes on, modulo 1016.
@@ -68,6 +96,31 @@ fn mix(bytes: &mut [u8], at: usize, rows: usize, clear_after: bool) -> Sums
         a = step(bytes, i, k, a, clear_after);
         b = step(bytes, i + 16, k + 16, b, clear_after);
         c = step(bytes, i + 32, k + 32, c, clear_after);
+        k = after_row(k);
+    }
+    Sums { a, b, c }
+}
+
+// Whole rows of 48 bytes go from one place to another with the sequence from its byte `at` on. The sums are those of the
+// bytes that went over.
+#[inline(always)]
+fn open_rows(from: &[u8], to: &mut [u8], at: usize, rows: usize) -> Sums
+    requires rows { length from.now ≡ 48 * rows }
+    requires same { length to.old ≡ length from.now }
+    ensures bytes { (i : ℕ) → i < 48 * rows → slice_index to.new i ≡ bit_xor (slice_index from.now i) (scrambling_byte (at + i)) }
+    ensures a { (j : ℕ) → j < 16 → slice_index result.a j ≡ parity_of (every j 48 rows to.new) }
+    ensures b { (j : ℕ) → j < 16 → slice_index result.b j ≡ parity_of (every (16 + j) 48 rows to.new) }
+    ensures c { (j : ℕ) → j < 16 → slice_index result.c j ≡ parity_of (every (32 + j) 48 rows to.new) }
+    ensures longs { (length result.a ≡ 16) × (length result.b ≡ 16) × (length result.c ≡ 16) }
+{
+    let none = u8x16::splat(0);
+    let (mut a, mut b, mut c) = (none, none, none);
+    let mut k = at % 1016;
+    for r in 0..rows {
+        let i = 48 * r;
+        a = open_step(from, to, i, k, a);
+        b = open_step(from, to, i + 16, k + 16, b);
+        c = open_step(from, to, i + 32, k + 32, c);
         k = after_row(k);
     }
     Sums { a, b, c }
@@ -174,4 +227,30 @@ pub fn pass(bytes: &mut [u8], at: usize, clear_after: bool) -> Passed
     pass_rest(rest, (at + 48 * rows) % 1016, &mut lanes, clear_after);
     let line = bip8(&lanes) ^ sequence_parity(at, len);
     Passed { lanes, line }
+}
+
+/// A piece goes from one place to another with the sequence from its byte `at` on, and is summed on the way. The bytes that
+/// went over are the clear ones.
+#[inline(always)]
+pub fn open(from: &[u8], to: &mut [u8], at: usize) -> Passed
+    requires few { at + length from.now ≤ 38880 }
+    requires same { length to.old ≡ length from.now }
+    ensures bytes { (i : ℕ) → i < length from.now → slice_index to.new i ≡ bit_xor (slice_index from.now i) (scrambling_byte (at + i)) }
+    ensures lanes { HasLanes 48 to.new result.lanes }
+    ensures long { length result.lanes ≡ 48 }
+    ensures line { result.line ≡ parity_of from.now }
+{
+    let len = from.len();
+    let rows = len / 48;
+    let (front, back) = from.split_at(48 * rows);
+    let (whole, rest) = to.split_at_mut(48 * rows);
+    let sums = open_rows(front, whole, at, rows);
+    rest.copy_from_slice(back);
+    let mut lanes = [0; 48];
+    join(sums.a, sums.b, sums.c, &mut lanes);
+    pass_rest(rest, (at + 48 * rows) % 1016, &mut lanes, true);
+    Passed {
+        line: bip8(&lanes) ^ sequence_parity(at, len),
+        lanes,
+    }
 }

@@ -1,14 +1,16 @@
 -- A frame behind a degraded fibre, byte by byte.
-use Rattle.std.proofs.Common.{◌≡◌, ℕ, ◌+◌, ◌*◌, ◌<◌, ◌≤◌, List, length, get_or, sym, ◌∙◌, arith, inl, inr}
-use Rattle.std.specs.Prelude.{slice_index, bit_xor}
+use Rattle.std.proofs.Common.{◌≡◌, ℕ, ◌+◌, ◌*◌, ◌/◌, ◌%◌, ◌<◌, ◌≤◌, Bool, true, false, List, [], ◌∷◌, length, get_or, refl, ap, sym, ◌∙◌, arith, inl, inr}
+use Rattle.std.specs.Prelude.{slice_index, bit_xor, if◌then◌else◌}
+use Rattle.std.specs.Int.Bits.{xor_assoc, xor_self, xor_zero_r}
 use Rattle.std.proofs.lemmas.Bool.{cases_lt}
 use Rattle.std.proofs.lemmas.Bool.Decides.{nat_tests}
 use Rattle.std.proofs.lemmas.List.{ext_get_or}
+use Rattle.sdh_basics.specs.Indexed.{map_from}
 use Rattle.sdh_basics.proofs.CellsLaws.{length-map_from, get_or-placed}
 use Rattle.sdh_frame.specs.declared.Rate.{Rate}
 use Rattle.sdh_frame.specs.declared.Rate.TheVariants.{Four, Sixteen}
 use Rattle.sdh_frame.specs.Sizes.{n_of}
-use Rattle.sdh_plant.specs.Arrivals.{degraded_byte, degraded}
+use Rattle.sdh_plant.specs.Arrivals.{is_inverted, degraded_byte, degraded}
 
 pub byte_inside : (rate : Rate) (k i x : ℕ) → k ≤ 3 * n_of rate → 1350 * n_of rate ≤ i → i < 1350 * n_of rate + k → degraded_byte (n_of rate) k i x ≡ bit_xor x 0x80
 unfolding degraded_byte
@@ -43,3 +45,20 @@ degraded-from rate k old new few len before inside behind =
         | inr far ↦ behind i far ∙ sym (is i inside_old ∙ byte_behind rate k i _ few far)
       ]
     ]))
+
+inverted_twice : (b : Bool) (x : ℕ) → (if b then bit_xor (if b then bit_xor x 0x80 else x) 0x80 else (if b then bit_xor x 0x80 else x)) ≡ x
+inverted_twice true x = xor_assoc x 0x80 0x80 ∙ ap (bit_xor x) (xor_self 0x80) ∙ xor_zero_r x
+inverted_twice false x = refl
+
+byte_twice : (n k i x : ℕ) → degraded_byte n k i (degraded_byte n k i x) ≡ x
+unfolding degraded_byte
+byte_twice n k i x = inverted_twice (is_inverted k (i / (270 * n) + 1) (i % (270 * n) + 1)) x
+
+placed_twice : (f : ℕ → ℕ → ℕ) → ((i x : ℕ) → f i (f i x) ≡ x) → (i : ℕ) (xs : List ℕ) → map_from f i (map_from f i xs) ≡ xs
+placed_twice f back i [] = refl
+placed_twice f back i (x ∷ xs) = ap (λ y. y ∷ map_from f (i + 1) (map_from f (i + 1) xs)) (back i x) ∙ ap (λ l. x ∷ l) (placed_twice f back (i + 1) xs)
+
+-- the same bits inverted again give back what was sent
+pub degraded_twice : (n k : ℕ) (bytes : List ℕ) → degraded n k (degraded n k bytes) ≡ bytes
+unfolding degraded
+degraded_twice n k bytes = placed_twice (degraded_byte n k) (byte_twice n k) 0 bytes

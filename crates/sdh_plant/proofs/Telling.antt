@@ -1,9 +1,12 @@
 -- The told arrivals that are left once there are fibres.
-use Rattle.std.proofs.Common.{◌≡◌, ℕ, ◌-◌, Bool, true, false, List, [], length, map, take, take_all, drop, length-drop, ap, sym, ◌∙◌, arith}
+use Rattle.std.proofs.Common.{◌≡◌, ℕ, ◌-◌, ◌==◌, Bool, true, false, List, [], length, map, take, take_all, drop, length-drop, refl, ap, sym, ◌∙◌, arith}
+use Rattle.std.proofs.lemmas.Bool.Decides.{nat_tests}
 use Rattle.std.proofs.lemmas.List.Folds.{list_all-map}
 use Rattle.std.specs.Prelude.{if◌then◌else◌}
 use Rattle.std.specs.List.{list_all}
 use Rattle.sdh_frame.specs.declared.Rate.{Rate}
+use Rattle.sdh_frame.specs.declared.Rate.TheVariants.{Four, Sixteen}
+use Rattle.sdh_frame.specs.Sizes.{size_of}
 use Rattle.sdh_plant.specs.declared.told_plant.Told.{Told}
 use Rattle.sdh_plant.specs.Fibres.{Arrival}
 use Rattle.sdh_plant.specs.Calls.{is_at, told_at, prepared}
@@ -27,3 +30,10 @@ pub told_of-prepared : (rate : Rate) (n : ℕ) (old : HeldTold) (fibres : HeldFi
     → told_of (record { fibres = fibres; told = told }) ≡ prepared rate n (told_of old)
 told_of-prepared rate n old fibres told are left =
     ap (λ (h : HeldFibres). told_of (record { fibres = h; told = told })) are ∙ ap (λ (l : List Arrival). told_of (record { fibres = laid rate n; told = l })) left
+
+-- frames of one size have one rate
+pub rate_of_size : (one other : Rate) (n : ℕ) → n ≡ size_of one → (n == size_of other) ≡ true → one ≡ other
+rate_of_size Four Four n size same = refl
+rate_of_size Sixteen Sixteen n size same = refl
+rate_of_size Four Sixteen n size same = grind (arith, nat_tests)
+rate_of_size Sixteen Four n size same = grind (arith, nat_tests)

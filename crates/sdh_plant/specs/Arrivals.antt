@@ -1,5 +1,5 @@
 -- What comes out of the fibres.
-use Rattle.std.specs.Prelude.{ℕ, ◌≡◌, ◌≢◌, ◌⊎◌, ◌+◌, ◌*◌, ◌/◌, ◌%◌, ◌==◌, ◌&&◌, Bool, true, nat_le, if◌then◌else◌, bit_xor, Some, None, List, [], ◌∷◌, slice_index_or, option_map}
+use Rattle.std.specs.Prelude.{ℕ, ◌≡◌, ◌≢◌, ◌⊎◌, ◌+◌, ◌*◌, ◌/◌, ◌%◌, ◌==◌, ◌&&◌, Bool, true, nat_le, if◌then◌else◌, bit_xor, Option, Some, None, List, [], ◌∷◌, slice_index_or, option_map}
 use Rattle.std.specs.Option.{option_map_or}
 use Rattle.sdh_basics.specs.Indexed.{map_from}
 use Rattle.sdh_frame.specs.Sizes.{n_of}
@@ -57,3 +57,8 @@ Knows f = (f.honest ≡ true) ⊎ (f.told ≢ None)
 abbrev pub as_arrival : Arrived → List ℕ → Arrival
 as_arrival arrived.Frame bytes = Some bytes
 as_arrival arrived.Dark bytes = None
+
+-- what a call answered, and what landed where a frame arrived
+abbrev pub arrived_in : Arrived → Option (List ℕ) → Arrival
+arrived_in arrived.Frame landed = landed
+arrived_in arrived.Dark landed = None

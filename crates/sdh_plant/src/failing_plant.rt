@@ -1,15 +1,15 @@
 //! Honest fibres in memory of which some calls fail.
-ghost use Rattle.std.specs.Prelude.{◌≡◌, true, ◌<◌, ◌≤◌, ◌↔◌, [], Ok, Err, IfOk, IsErr, OnOk, OnErr, IsErrOf, IsTrue, Contains, refl};
+ghost use Rattle.std.specs.Prelude.{◌≡◌, ◌≢◌, true, ◌<◌, ◌≤◌, ◌↔◌, [], None, Ok, Err, IfOk, IsErr, OnOk, OnErr, IsErrOf, IsTrue, Contains, refl};
 ghost use Rattle.sdh_basics.specs.Causes.{Rose, IsCounted, HasCause, one_more};
 ghost use Rattle.sdh_plant.specs.declared.failing_plant.PlantCall.TheVariants.{Prepare, Apply, Send, Receive};
 ghost use Rattle.sdh_plant.specs.Fibres.{HasNoFibres, IsConditionAt};
-ghost use Rattle.sdh_plant.specs.Arrivals.{Knows, arrival, as_arrival};
+ghost use Rattle.sdh_plant.specs.Arrivals.{Knows, arrival, arrived_in};
 ghost use Rattle.sdh_plant.specs.Calls.{prepared, after_apply, after_send, after_receive};
 ghost use Rattle.sdh_plant.specs.InMemory.{fibres_of, laid, made, IsFailing, called, refused};
 
 use crate::fibre_plant::FibrePlant;
 use crate::plant::{Arrived, Failed, FibreEvent, Plant, PrepareError};
-use sdh_frame::{FrameBuf, Rate};
+use sdh_frame::{FrameBuf, Landing, Rate};
 use sdh_ringmap::{Pos, Side};
 use std::alloc::{AllocError, Global};
 use std::marker::Model;
@@ -200,23 +200,24 @@ impl Plant for FailingPlant {
         self.send(at, side, frame)
     }
 
-    fn receive(&mut self, at: Pos, side: Side, frame: &mut FrameBuf) -> Result<Arrived, Failed>
+    fn receive<L: Landing>(&mut self, at: Pos, side: Side, into: &mut L) -> Result<Arrived, Failed>
         requires at { at.0 < (fibres_of self.old.fibres).nodes }
-        requires rate { frame.old.rate ≡ (fibres_of self.old.fibres).rate }
+        requires rate { L.rate into.old ≡ (fibres_of self.old.fibres).rate }
         ensures ok { OnOk result (fibres_of self.new.fibres ≡ after_receive (fibres_of self.old.fibres)) }
-        ensures arrival { IfOk result (λ a. Knows (fibres_of self.old.fibres) → as_arrival a frame.new.bytes ≡ arrival (fibres_of self.old.fibres) at.0 side) }
-        ensures dark { result ≡ Ok Arrived.Dark → frame.new ≡ frame.old }
-        ensures rate { frame.new.rate ≡ frame.old.rate }
+        ensures arrival { IfOk result (λ a. Knows (fibres_of self.old.fibres) → arrived_in a (L.landed into.new) ≡ arrival (fibres_of self.old.fibres) at.0 side) }
+        ensures landed { result ≡ Ok Arrived.Frame → L.landed into.new ≢ None }
+        ensures dark { result ≡ Ok Arrived.Dark → into.new ≡ into.old }
+        ensures rate { L.rate into.new ≡ L.rate into.old }
         ensures err { OnErr result (fibres_of self.new.fibres ≡ fibres_of self.old.fibres) }
         ensures cause { HasCause true self.old.faults self.new.faults result }
 
         ensures fails { IsErr result ↔ IsFailing Receive self.old }
         ensures kept { OnOk result (self.new ≡ called Receive self.old) }
         ensures refused { OnErr result (self.new ≡ refused Receive self.old) }
-        ensures untouched { OnErr result (frame.new ≡ frame.old) }
+        ensures untouched { OnErr result (into.new ≡ into.old) }
     {
         self.call(PlantCall::Receive)?;
-        Ok(self.plant.give(at, side, frame))
+        Ok(self.plant.give(at, side, into))
     }
 
     ghost honest_tells_none = { λ p honest. refl };

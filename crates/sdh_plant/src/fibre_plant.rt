@@ -1,17 +1,17 @@
 //! Honest fibres in memory.
-ghost use Rattle.std.specs.Prelude.{◌≡◌, true, ◌*◌, ◌<◌, ◌≤◌, Some, None, Ok, IfSome, IfOk, IsOk, OnOk, OnErr, IsOkUnless, IsErrOf, All, length, replicate, slice_index_or, slice_set, refl};
+ghost use Rattle.std.specs.Prelude.{◌≡◌, ◌≢◌, true, ◌*◌, ◌<◌, ◌≤◌, Some, None, Ok, IfSome, IfOk, IsOk, OnOk, OnErr, IsOkUnless, IsErrOf, All, length, replicate, slice_index_or, slice_set, refl};
 ghost use Rattle.sdh_basics.specs.Causes.{Rose, IsCounted, HasCause};
 ghost use Rattle.sdh_frame.specs.Sizes.{n_of};
 ghost use Rattle.sdh_plant.specs.declared.plant.Condition.TheVariants.{Clear};
 ghost use Rattle.sdh_plant.specs.Fibres.{HasNoFibres, IsConditionAt, fibre, fibre_to};
-ghost use Rattle.sdh_plant.specs.Arrivals.{Knows, arrival, as_arrival, through, carried_on, honest_arrival};
+ghost use Rattle.sdh_plant.specs.Arrivals.{Knows, arrival, arrived_in, through, carried_on, honest_arrival};
 ghost use Rattle.sdh_plant.specs.Calls.{prepared, after_apply, after_send, after_receive};
 ghost use Rattle.sdh_plant.specs.InMemory.{fibres_of, laid};
 ghost use Rattle.sdh_plant.specs.Kept.{IsFibre, carried_by, conditions, carried};
 
-use crate::frames::degrade;
+use crate::frames::land_degraded;
 use crate::plant::{Arrived, Condition, Failed, FibreEvent, Plant, PrepareError};
-use sdh_frame::{FrameBuf, Rate};
+use sdh_frame::{FrameBuf, Landing, Rate};
 use sdh_ringmap::{Pos, Side};
 use std::alloc::{AllocError, Global};
 use std::marker::Model;
@@ -123,24 +123,36 @@ fn store_in_exchange(fibres: &mut [Fibre], at: usize, frame: &mut FrameBuf)
     kept.carries = true;
 }
 
-fn deliver(fibre: &Fibre, frame: &mut FrameBuf) -> Arrived
-    requires { IsFibre frame.old.rate fibre.now }
-    ensures arrival { as_arrival result frame.new.bytes ≡ through (n_of frame.old.rate) fibre.now.condition (carried_by fibre.now) }
-    ensures dark { result ≡ Arrived.Dark → frame.new ≡ frame.old }
-    ensures rate { frame.new.rate ≡ frame.old.rate }
+fn deliver<L: Landing>(fibre: &mut Fibre, into: &mut L) -> Arrived
+    requires { IsFibre (L.rate into.old) fibre.old }
+    ensures same { fibre.new ≡ fibre.old }
+    ensures arrival { arrived_in result (L.landed into.new) ≡ through (n_of (L.rate into.old)) fibre.old.condition (carried_by fibre.old) }
+    ensures landed { result ≡ Arrived.Frame → L.landed into.new ≢ None }
+    ensures dark { result ≡ Arrived.Dark → into.new ≡ into.old }
+    ensures rate { L.rate into.new ≡ L.rate into.old }
 {
     if !fibre.carries {
         return Arrived::Dark;
     }
     match fibre.condition {
-        Condition::Clear => frame.copy_from(&fibre.frame),
+        Condition::Clear => into.land(&fibre.frame),
         Condition::Cut => return Arrived::Dark,
-        Condition::Degraded(columns) => {
-            frame.copy_from(&fibre.frame);
-            degrade(frame, columns);
-        }
+        Condition::Degraded(columns) => land_degraded(&mut fibre.frame, columns, into),
     }
     Arrived::Frame
+}
+
+fn deliver_from<L: Landing>(fibres: &mut [Fibre], at: usize, into: &mut L) -> Arrived
+    requires at { at < length fibres.old }
+    requires fit { All (IsFibre (L.rate into.old)) fibres.old }
+    ensures same { fibres.new ≡ fibres.old }
+    ensures arrival { arrived_in result (L.landed into.new) ≡ through (n_of (L.rate into.old)) (slice_index_or (conditions fibres.old) at Clear) (slice_index_or (carried fibres.old) at None) }
+    ensures landed { result ≡ Arrived.Frame → L.landed into.new ≢ None }
+    ensures dark { result ≡ Arrived.Dark → into.new ≡ into.old }
+    ensures rate { L.rate into.new ≡ L.rate into.old }
+{
+    let fibre = &mut fibres[at];
+    deliver(fibre, into)
 }
 
 impl FibrePlant {
@@ -213,17 +225,19 @@ impl FibrePlant {
     }
 
     // Gives what comes out of a fibre.
-    pub(crate) fn give(&self, at: Pos, side: Side, frame: &mut FrameBuf) -> Arrived
-        requires at { at.0 < self.now.nodes }
-        requires rate { frame.old.rate ≡ self.now.rate }
-        ensures arrival { as_arrival result frame.new.bytes ≡ honest_arrival (fibres_of self.now) at.0 side }
-        ensures dark { result ≡ Arrived.Dark → frame.new ≡ frame.old }
-        ensures rate { frame.new.rate ≡ frame.old.rate }
+    pub(crate) fn give<L: Landing>(&mut self, at: Pos, side: Side, into: &mut L) -> Arrived
+        requires at { at.0 < self.old.nodes }
+        requires rate { L.rate into.old ≡ self.old.rate }
+        ensures same { self.new ≡ self.old }
+        ensures arrival { arrived_in result (L.landed into.new) ≡ honest_arrival (fibres_of self.old) at.0 side }
+        ensures landed { result ≡ Arrived.Frame → L.landed into.new ≢ None }
+        ensures dark { result ≡ Arrived.Dark → into.new ≡ into.old }
+        ensures rate { L.rate into.new ≡ L.rate into.old }
     {
-        let Some(fibres) = &self.fibres else {
+        let Some(fibres) = &mut self.fibres else {
             return Arrived::Dark;
         };
-        deliver(&fibres[fibre_into(self.nodes, at, side)], frame)
+        deliver_from(fibres, fibre_into(self.nodes, at, side), into)
     }
 }
 
@@ -292,19 +306,20 @@ impl Plant for FibrePlant {
         Ok(())
     }
 
-    fn receive(&mut self, at: Pos, side: Side, frame: &mut FrameBuf) -> Result<Arrived, Failed>
+    fn receive<L: Landing>(&mut self, at: Pos, side: Side, into: &mut L) -> Result<Arrived, Failed>
         requires at { at.0 < (fibres_of self.old).nodes }
-        requires rate { frame.old.rate ≡ (fibres_of self.old).rate }
+        requires rate { L.rate into.old ≡ (fibres_of self.old).rate }
         ensures ok { OnOk result (fibres_of self.new ≡ after_receive (fibres_of self.old)) }
-        ensures arrival { IfOk result (λ a. Knows (fibres_of self.old) → as_arrival a frame.new.bytes ≡ arrival (fibres_of self.old) at.0 side) }
-        ensures dark { result ≡ Ok Arrived.Dark → frame.new ≡ frame.old }
-        ensures rate { frame.new.rate ≡ frame.old.rate }
+        ensures arrival { IfOk result (λ a. Knows (fibres_of self.old) → arrived_in a (L.landed into.new) ≡ arrival (fibres_of self.old) at.0 side) }
+        ensures landed { result ≡ Ok Arrived.Frame → L.landed into.new ≢ None }
+        ensures dark { result ≡ Ok Arrived.Dark → into.new ≡ into.old }
+        ensures rate { L.rate into.new ≡ L.rate into.old }
         ensures err { OnErr result (fibres_of self.new ≡ fibres_of self.old) }
         ensures cause { HasCause true 0 0 result }
 
         ensures never_fails { IsOk result }
     {
-        Ok(self.give(at, side, frame))
+        Ok(self.give(at, side, into))
     }
 
     ghost honest_tells_none = { λ p honest. refl };

@@ -1,9 +1,9 @@
 //! Frames as a degraded fibre leaves them.
-ghost use Rattle.std.specs.Prelude.{◌≡◌, ◌*◌, ◌≤◌, length};
+ghost use Rattle.std.specs.Prelude.{◌≡◌, ◌*◌, ◌≤◌, Some, length};
 ghost use Rattle.sdh_frame.specs.Sizes.{n_of, size_of};
 ghost use Rattle.sdh_plant.specs.Arrivals.{degraded};
 
-use sdh_frame::{FrameBuf, Rate};
+use sdh_frame::{FrameBuf, Landing, Rate};
 
 // Inverts the top bit of the first bytes of row 6.
 fn invert_row_6(rate: Rate, columns: usize, bytes: &mut [u8])
@@ -17,10 +17,25 @@ fn invert_row_6(rate: Rate, columns: usize, bytes: &mut [u8])
     }
 }
 
-/// Makes a frame what it is behind a fibre that is degraded by so many columns.
-pub fn degrade(frame: &mut FrameBuf, columns: u16)
+// Makes a frame what it is behind a fibre that is degraded by so many columns.
+fn degrade(frame: &mut FrameBuf, columns: u16)
     requires { columns ≤ 3 * n_of frame.old.rate }
     ensures { frame.new ≡ record frame.old { bytes = degraded (n_of frame.old.rate) columns frame.old.bytes } }
 {
     invert_row_6(frame.rate(), usize::from(columns), frame.bytes_mut());
+}
+
+#[tactic(auto, using(crate::proofs::Degrading::degraded_twice))]
+/// A frame lands as it is behind a fibre that is degraded by so many columns. It is degraded in place, and then again, which
+/// gives back what it was.
+pub fn land_degraded<L: Landing>(frame: &mut FrameBuf, columns: u16, into: &mut L)
+    requires columns { columns ≤ 3 * n_of frame.old.rate }
+    requires rate { frame.old.rate ≡ L.rate into.old }
+    ensures same { frame.new ≡ frame.old }
+    ensures landed { L.landed into.new ≡ Some (degraded (n_of frame.old.rate) columns frame.old.bytes) }
+    ensures rate { L.rate into.new ≡ L.rate into.old }
+{
+    degrade(frame, columns);
+    into.land(frame);
+    degrade(frame, columns);
 }

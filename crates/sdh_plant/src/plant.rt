@@ -1,11 +1,11 @@
 //! What a ring asks of its fibres.
-ghost use Rattle.std.specs.Prelude.{◌≡◌, ◌<◌, ◌≤◌, ℕ, Bool, true, None, Ok, IfOk, OnOk, OnErr, IsErrOf};
+ghost use Rattle.std.specs.Prelude.{◌≡◌, ◌≢◌, ◌<◌, ◌≤◌, ℕ, Bool, true, None, Ok, IfOk, OnOk, OnErr, IsErrOf};
 ghost use Rattle.sdh_basics.specs.Causes.{Rose, IsCounted, HasCause};
 ghost use Rattle.sdh_plant.specs.Fibres.{Fibres, HasNoFibres, IsConditionAt};
-ghost use Rattle.sdh_plant.specs.Arrivals.{Knows, arrival, as_arrival};
+ghost use Rattle.sdh_plant.specs.Arrivals.{Knows, arrival, arrived_in};
 ghost use Rattle.sdh_plant.specs.Calls.{prepared, after_apply, after_send, after_receive};
 
-use sdh_frame::{FrameBuf, Rate};
+use sdh_frame::{FrameBuf, Landing, Rate};
 use sdh_ringmap::{Pos, Side};
 use std::alloc::{AllocError, Global};
 use thiserror::Error;
@@ -116,13 +116,14 @@ pub trait Plant {
     }
 
     /// Receives at a position on a side what comes out of the fibre that ends there. The fibre carries it still.
-    fn receive(&mut self, at: Pos, side: Side, frame: &mut FrameBuf) -> Result<Arrived, Failed>
+    fn receive<L: Landing>(&mut self, at: Pos, side: Side, into: &mut L) -> Result<Arrived, Failed>
         requires at { at.0 < (fibres self.old).nodes }
-        requires rate { frame.old.rate ≡ (fibres self.old).rate }
+        requires rate { L.rate into.old ≡ (fibres self.old).rate }
         ensures ok { OnOk result (fibres self.new ≡ after_receive (fibres self.old)) }
-        ensures arrival { IfOk result (λ a. Knows (fibres self.old) → as_arrival a frame.new.bytes ≡ arrival (fibres self.old) at.0 side) }
-        ensures dark { result ≡ Ok Arrived.Dark → frame.new ≡ frame.old }
-        ensures rate { frame.new.rate ≡ frame.old.rate }
+        ensures arrival { IfOk result (λ a. Knows (fibres self.old) → arrived_in a (L.landed into.new) ≡ arrival (fibres self.old) at.0 side) }
+        ensures landed { result ≡ Ok Arrived.Frame → L.landed into.new ≢ None }
+        ensures dark { result ≡ Ok Arrived.Dark → into.new ≡ into.old }
+        ensures rate { L.rate into.new ≡ L.rate into.old }
         ensures err { OnErr result (fibres self.new ≡ fibres self.old) }
         ensures cause { HasCause exact (faults self.old) (faults self.new) result };
 

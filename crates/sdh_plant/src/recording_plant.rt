@@ -1,14 +1,14 @@
 //! Honest fibres in memory that also tell what was sent.
-ghost use Rattle.std.specs.Prelude.{◌≡◌, true, ◌+◌, ◌-◌, ◌^◌, ◌<◌, ◌≤◌, ◌↔◌, [], ◌∷◌, ◌++◌, min, Ok, IfOk, IsOk, IsErr, OnOk, OnErr, IsOkUnless, IsErrOf, All, length, slice_set, refl};
+ghost use Rattle.std.specs.Prelude.{◌≡◌, ◌≢◌, true, ◌+◌, ◌-◌, ◌^◌, ◌<◌, ◌≤◌, ◌↔◌, [], ◌∷◌, ◌++◌, min, None, Ok, IfOk, IsOk, IsErr, OnOk, OnErr, IsOkUnless, IsErrOf, All, length, slice_set, refl};
 ghost use Rattle.sdh_basics.specs.Causes.{Rose, IsCounted, HasCause, one_more};
 ghost use Rattle.sdh_plant.specs.Fibres.{HasNoFibres, IsConditionAt};
-ghost use Rattle.sdh_plant.specs.Arrivals.{Knows, arrival, as_arrival};
+ghost use Rattle.sdh_plant.specs.Arrivals.{Knows, arrival, arrived_in};
 ghost use Rattle.sdh_plant.specs.Calls.{prepared, after_apply, after_send, after_receive};
 ghost use Rattle.sdh_plant.specs.InMemory.{laid, recorded_of};
 
 use crate::fibre_plant::FibrePlant;
 use crate::plant::{Arrived, Failed, FibreEvent, Plant, PrepareError};
-use sdh_frame::{FrameBuf, Rate};
+use sdh_frame::{FrameBuf, Landing, Rate};
 use sdh_ringmap::{Pos, Side};
 use std::alloc::{AllocError, Global};
 use std::marker::Model;
@@ -174,20 +174,21 @@ impl Plant for RecordingPlant {
         self.send(at, side, frame)
     }
 
-    fn receive(&mut self, at: Pos, side: Side, frame: &mut FrameBuf) -> Result<Arrived, Failed>
+    fn receive<L: Landing>(&mut self, at: Pos, side: Side, into: &mut L) -> Result<Arrived, Failed>
         requires at { at.0 < (recorded_of self.old).nodes }
-        requires rate { frame.old.rate ≡ (recorded_of self.old).rate }
+        requires rate { L.rate into.old ≡ (recorded_of self.old).rate }
         ensures ok { OnOk result (recorded_of self.new ≡ after_receive (recorded_of self.old)) }
-        ensures arrival { IfOk result (λ a. Knows (recorded_of self.old) → as_arrival a frame.new.bytes ≡ arrival (recorded_of self.old) at.0 side) }
-        ensures dark { result ≡ Ok Arrived.Dark → frame.new ≡ frame.old }
-        ensures rate { frame.new.rate ≡ frame.old.rate }
+        ensures arrival { IfOk result (λ a. Knows (recorded_of self.old) → arrived_in a (L.landed into.new) ≡ arrival (recorded_of self.old) at.0 side) }
+        ensures landed { result ≡ Ok Arrived.Frame → L.landed into.new ≢ None }
+        ensures dark { result ≡ Ok Arrived.Dark → into.new ≡ into.old }
+        ensures rate { L.rate into.new ≡ L.rate into.old }
         ensures err { OnErr result (recorded_of self.new ≡ recorded_of self.old) }
         ensures cause { HasCause true self.old.faults self.new.faults result }
 
         ensures never_fails { IsOk result }
         ensures kept { self.new ≡ self.old }
     {
-        Ok(self.plant.give(at, side, frame))
+        Ok(self.plant.give(at, side, into))
     }
 
     ghost honest_tells_none = { λ p honest. refl };

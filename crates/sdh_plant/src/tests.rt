@@ -162,6 +162,31 @@ fn a_degraded_fibre_inverts_the_first_columns_of_row_6(rt: HostRuntime) -> Resul
     Ok(())
 }
 
+// It carries what was sent still, so the same comes again, and what was sent once it is clear.
+#[test]
+fn a_degraded_fibre_gives_its_frame_twice(rt: HostRuntime) -> Result<(), Fail> {
+    let mut plant = three_nodes(rt.alloc(), Rate::Four)?;
+    let mut frame = frame_of(rt.alloc(), Rate::Four, 0)?;
+    let mut again = frame_of(rt.alloc(), Rate::Four, 0)?;
+    let mut event = FibreEvent {
+        at: Pos(0),
+        side: Side::East,
+        condition: Condition::Degraded(12),
+    };
+    assert!(rt; sends(&mut plant, Pos(0), Side::East, &mut frame, 0x35));
+    assert_eq!(rt; plant.apply(event), Ok(()));
+    let first = plant.receive(Pos(1), Side::West, &mut frame);
+    let second = plant.receive(Pos(1), Side::West, &mut again);
+    assert_eq!(rt; [first, second], [Ok(Arrived::Frame); 2]);
+    assert!(rt; is_full_of_but(&frame, 0x35, 5400, 12, 0xB5));
+    assert!(rt; is_full_of_but(&again, 0x35, 5400, 12, 0xB5));
+    event.condition = Condition::Clear;
+    assert_eq!(rt; plant.apply(event), Ok(()));
+    let clear = came(&mut plant, Pos(1), Side::West, &mut frame);
+    assert_eq!(rt; clear, Some(0x35));
+    Ok(())
+}
+
 #[test]
 fn the_condition_in_the_round_of_arrival_counts(rt: HostRuntime) -> Result<(), Fail> {
     for rate in [Rate::Four, Rate::Sixteen] {

@@ -1,18 +1,18 @@
 //! Fibres in memory that give arrivals from a list.
-ghost use Rattle.std.specs.Prelude.{◌≡◌, ◌<◌, ◌≤◌, true, Ok, IfOk, IsOk, OnOk, OnErr, IsOkUnless, IsErrOf, All, length, map, drop};
+ghost use Rattle.std.specs.Prelude.{◌≡◌, ◌≢◌, ◌<◌, ◌≤◌, true, None, Ok, IfOk, IsOk, OnOk, OnErr, IsOkUnless, IsErrOf, All, length, map, drop};
 ghost use Rattle.std.specs.List.{list_all};
 ghost use Rattle.std.proofs.lemmas.Bool.{false≢true};
 ghost use Rattle.sdh_basics.specs.Causes.{Rose, IsCounted, HasCause};
 ghost use Rattle.sdh_frame.specs.Sizes.{size_of};
 ghost use Rattle.sdh_plant.specs.Fibres.{HasNoFibres, IsConditionAt};
-ghost use Rattle.sdh_plant.specs.Arrivals.{Knows, arrival, as_arrival, next_told};
+ghost use Rattle.sdh_plant.specs.Arrivals.{Knows, arrival, arrived_in, next_told};
 ghost use Rattle.sdh_plant.specs.Calls.{is_at, prepared, after_apply, after_send, after_receive};
 ghost use Rattle.sdh_plant.specs.InMemory.{laid, told_of};
 ghost use Rattle.sdh_plant.specs.Kept.{arrival_of, IsToldAt};
 
 use crate::fibre_plant::FibrePlant;
 use crate::plant::{Arrived, Failed, FibreEvent, Plant, PrepareError};
-use sdh_frame::{FrameBuf, Rate};
+use sdh_frame::{FrameBuf, Landing, Rate};
 use sdh_ringmap::{Pos, Side};
 use std::alloc::Global;
 use std::marker::Model;
@@ -64,16 +64,20 @@ fn are_told_at(arrivals: &[Told], rate: Rate) -> bool
 }
 
 // Gives a told arrival.
-fn tell(told: &Told, frame: &mut FrameBuf) -> Arrived
-    requires { is_at frame.old.rate (arrival_of told.now) ≡ true }
-    ensures arrival { as_arrival result frame.new.bytes ≡ arrival_of told.now }
-    ensures dark { result ≡ Arrived.Dark → frame.new ≡ frame.old }
-    ensures rate { frame.new.rate ≡ frame.old.rate }
+#[tactic(auto, using(crate::proofs::Telling::rate_of_size))]
+fn tell<L: Landing>(told: &Told, into: &mut L) -> Arrived
+    requires { is_at (L.rate into.old) (arrival_of told.now) ≡ true }
+    ensures arrival { arrived_in result (L.landed into.new) ≡ arrival_of told.now }
+    ensures landed { result ≡ Arrived.Frame → L.landed into.new ≢ None }
+    ensures dark { result ≡ Arrived.Dark → into.new ≡ into.old }
+    ensures rate { L.rate into.new ≡ L.rate into.old }
 {
     match told {
         Told::Dark => Arrived::Dark,
-        Told::Frame(sent) => {
-            frame.bytes_mut().copy_from_slice(sent.bytes());
+        Told::Frame(frame) => {
+            // The length of a frame is that of its rate.
+            let _rate = frame.rate();
+            into.land(frame);
             Arrived::Frame
         }
     }
@@ -93,18 +97,19 @@ impl ToldPlant {
     }
 
     // Gives the next told arrival, if there is one.
-    fn give_next(&mut self, frame: &mut FrameBuf) -> Arrived
+    fn give_next<L: Landing>(&mut self, into: &mut L) -> Arrived
         requires fibres { 0 < self.old.fibres.nodes }
-        requires rate { frame.old.rate ≡ self.old.fibres.rate }
+        requires rate { L.rate into.old ≡ self.old.fibres.rate }
         ensures told { self.new ≡ record self.old { told = drop 1 self.old.told } }
-        ensures arrival { as_arrival result frame.new.bytes ≡ next_told self.old.told }
-        ensures dark { result ≡ Arrived.Dark → frame.new ≡ frame.old }
-        ensures rate { frame.new.rate ≡ frame.old.rate }
+        ensures arrival { arrived_in result (L.landed into.new) ≡ next_told self.old.told }
+        ensures landed { result ≡ Arrived.Frame → L.landed into.new ≢ None }
+        ensures dark { result ≡ Arrived.Dark → into.new ≡ into.old }
+        ensures rate { L.rate into.new ≡ L.rate into.old }
     {
         if self.next == self.arrivals.len() {
             return Arrived::Dark;
         }
-        let arrived = tell(&self.arrivals[self.next], frame);
+        let arrived = tell(&self.arrivals[self.next], into);
         self.next += 1;
         arrived
     }
@@ -177,19 +182,20 @@ impl Plant for ToldPlant {
         self.send(at, side, frame)
     }
 
-    fn receive(&mut self, at: Pos, side: Side, frame: &mut FrameBuf) -> Result<Arrived, Failed>
+    fn receive<L: Landing>(&mut self, at: Pos, side: Side, into: &mut L) -> Result<Arrived, Failed>
         requires at { at.0 < (told_of self.old).nodes }
-        requires rate { frame.old.rate ≡ (told_of self.old).rate }
+        requires rate { L.rate into.old ≡ (told_of self.old).rate }
         ensures ok { OnOk result (told_of self.new ≡ after_receive (told_of self.old)) }
-        ensures arrival { IfOk result (λ a. Knows (told_of self.old) → as_arrival a frame.new.bytes ≡ arrival (told_of self.old) at.0 side) }
-        ensures dark { result ≡ Ok Arrived.Dark → frame.new ≡ frame.old }
-        ensures rate { frame.new.rate ≡ frame.old.rate }
+        ensures arrival { IfOk result (λ a. Knows (told_of self.old) → arrived_in a (L.landed into.new) ≡ arrival (told_of self.old) at.0 side) }
+        ensures landed { result ≡ Ok Arrived.Frame → L.landed into.new ≢ None }
+        ensures dark { result ≡ Ok Arrived.Dark → into.new ≡ into.old }
+        ensures rate { L.rate into.new ≡ L.rate into.old }
         ensures err { OnErr result (told_of self.new ≡ told_of self.old) }
         ensures cause { HasCause true 0 0 result }
 
         ensures never_fails { IsOk result }
     {
-        Ok(self.give_next(frame))
+        Ok(self.give_next(into))
     }
 
     ghost honest_tells_none = { λ p honest. absurd (false≢true honest) };

@@ -30,6 +30,7 @@ use crate::sending::send_all;
 use sdh_circuits::{Circuit, CircuitMap, End, PortId};
 use sdh_frame::FrameBuf;
 use sdh_node::{Adm, Delivered, Settings, Turn};
+use sdh_overhead::Landed;
 use sdh_plant::Plant;
 use sdh_request::{Command, Moment};
 use sdh_ringmap::{Pos, RingMap, Side};
@@ -44,7 +45,7 @@ pub struct Ring {
     circuits: CircuitMap,
     nodes: Vec<Adm>,
     // What a node receives, and what it sends on each side.
-    arrived: FrameBuf,
+    arrived: Landed,
     west: FrameBuf,
     east: FrameBuf,
     present: Moment,
@@ -148,7 +149,7 @@ impl Ring {
     {
         sdh_hearing::new_worlds_are_whole();
         let nodes = new_nodes(alloc, settings, &map, &circuits)?;
-        let arrived = FrameBuf::try_new(alloc, settings.rate)?;
+        let arrived = Landed::try_new(alloc, settings.rate)?;
         let west = FrameBuf::try_new(alloc, settings.rate)?;
         let east = FrameBuf::try_new(alloc, settings.rate)?;
         Ok(Ring::of_nodes(settings, map, circuits, nodes, arrived, west, east))
@@ -160,7 +161,7 @@ impl Ring {
         map: RingMap,
         circuits: CircuitMap,
         nodes: Vec<Adm>,
-        arrived: FrameBuf,
+        arrived: Landed,
         west: FrameBuf,
         east: FrameBuf,
     ) -> Ring

@@ -220,6 +220,7 @@ fn slips_wait_at_the_port_told_until_a_round_of_their_own(rt: HostRuntime) -> Re
     for (rounds, wants) in [(1, 2), (4, 2), (5, 1), (8, 1), (9, 0)] {
         for (end, other) in [(End::A, End::B), (End::B, End::A)] {
             for turn in [Turn::Up, Turn::Down] {
+                assert!(rt; rounds >= 1);
                 let mut plant = FibrePlant::new();
                 let mut ring = slipping(rt.alloc(), &mut plant, 2, end, turn)?;
                 assert_eq!(rt; waiting_at(&ring, end), Some(2));

@@ -1,14 +1,14 @@
 //! Fibres whose arrivals are told, with the bytes of all frames sent.
-ghost use Rattle.std.specs.Prelude.{◌≡◌, ◌≤◌, ◌<◌, true, false, Ok, OnOk, OnErr, IfOk, IsErrOf, All, map};
+ghost use Rattle.std.specs.Prelude.{◌≡◌, ◌≢◌, ◌≤◌, ◌<◌, true, false, None, Ok, OnOk, OnErr, IfOk, IsErrOf, All, map};
 ghost use Rattle.std.proofs.lemmas.Bool.{false≢true};
 ghost use Rattle.sdh_basics.specs.Causes.{Rose, IsCounted, HasCause};
 ghost use Rattle.sdh_plant.specs.Fibres.{HasNoFibres, IsConditionAt};
-ghost use Rattle.sdh_plant.specs.Arrivals.{Knows, arrival, as_arrival};
+ghost use Rattle.sdh_plant.specs.Arrivals.{Knows, arrival, arrived_in};
 ghost use Rattle.sdh_plant.specs.Calls.{prepared, after_apply, after_send, after_receive};
 ghost use Rattle.sdh_plant.specs.InMemory.{laid, told_of};
 ghost use Rattle.sdh_plant.specs.Kept.{arrival_of, IsToldAt};
 
-use sdh_frame::{FrameBuf, Rate};
+use sdh_frame::{FrameBuf, Landing, Rate};
 use sdh_plant::{Arrived, Failed, FibreEvent, Plant, PrepareError, Told, ToldPlant};
 use sdh_ringmap::{Pos, Side};
 use std::alloc::{AllocError, Global};
@@ -94,17 +94,18 @@ impl Plant for Watched {
         self.plant.send(at, side, frame)
     }
 
-    fn receive(&mut self, at: Pos, side: Side, frame: &mut FrameBuf) -> Result<Arrived, Failed>
+    fn receive<L: Landing>(&mut self, at: Pos, side: Side, into: &mut L) -> Result<Arrived, Failed>
         requires at { at.0 < (told_of self.old).nodes }
-        requires rate { frame.old.rate ≡ (told_of self.old).rate }
+        requires rate { L.rate into.old ≡ (told_of self.old).rate }
         ensures ok { OnOk result (told_of self.new ≡ after_receive (told_of self.old)) }
-        ensures arrival { IfOk result (λ a. Knows (told_of self.old) → as_arrival a frame.new.bytes ≡ arrival (told_of self.old) at.0 side) }
-        ensures dark { result ≡ Ok Arrived.Dark → frame.new ≡ frame.old }
-        ensures rate { frame.new.rate ≡ frame.old.rate }
+        ensures arrival { IfOk result (λ a. Knows (told_of self.old) → arrived_in a (L.landed into.new) ≡ arrival (told_of self.old) at.0 side) }
+        ensures landed { result ≡ Ok Arrived.Frame → L.landed into.new ≢ None }
+        ensures dark { result ≡ Ok Arrived.Dark → into.new ≡ into.old }
+        ensures rate { L.rate into.new ≡ L.rate into.old }
         ensures err { OnErr result (told_of self.new ≡ told_of self.old) }
         ensures cause { HasCause true 0 0 result }
     {
-        self.plant.receive(at, side, frame)
+        self.plant.receive(at, side, into)
     }
 
     ghost honest_tells_none = { λ p honest. absurd (false≢true honest) };

@@ -25,7 +25,7 @@ pub receive_both-requires-clause-node : goal.receive_both-requires-clause-node
 receive_both-requires-clause-node g c =
     let x = c.index_mut-node.result.now in
     let size = length_fixed _ _ c.receives.invariant.fixed in
-    let may : MayReceive c.args.frame.now.rate x = subst (λ z. MayReceive c.args.frame.now.rate z) (sym (read_here _ c.args.nodes.now.items c.receives.i x c.receives.invariant.rest c.index_mut-node.ensures.value)) (c.requires.nodes c.receives.i x (omega arith)) in
+    let may : MayReceive c.args.inbox.now.rate x = subst (λ z. MayReceive c.args.inbox.now.rate z) (sym (read_here _ c.args.nodes.now.items c.receives.i x c.receives.invariant.rest c.index_mut-node.ensures.value)) (c.requires.nodes c.receives.i x (omega arith)) in
     may ∙ sym c.receives.invariant.rate
 
 pub returns-in_err-receive_both-clause-err : goal.returns-in_err-receive_both-clause-err

@@ -11,7 +11,7 @@ invariant-receives g l =
       rest : drop l.i l.nodes.items ≡ drop l.i l.fn.nodes.items;
       fixed : map fixed l.nodes.items ≡ map fixed l.fn.nodes.items;
       ports : map ports_of l.nodes.items ≡ map ports_of l.fn.nodes.items;
-      rate : l.frame.rate ≡ l.fn.frame.rate;
+      rate : l.inbox.rate ≡ l.fn.inbox.rate;
       later : g.P.Plant.faults l.fn.plant ≤ g.P.Plant.faults l.plant;
       none : g.P.Plant.exact ≡ true → g.P.Plant.faults l.plant ≡ g.P.Plant.faults l.fn.plant;
     }

@@ -1,0 +1,36 @@
+//! Where a frame goes that comes out of a fibre.
+ghost use Rattle.std.specs.Prelude.{◌≡◌, Some};
+
+use crate::FrameBuf;
+
+/// Room for a frame that arrives: a buffer that it is copied into, or one that looks at its bytes on the way.
+pub trait Landing {
+    ghost use Rattle.std.specs.Prelude.{ℕ, List, Option};
+    ghost use Rattle.sdh_frame.specs.declared.Rate.{Rate};
+
+    /// The rate of the frames that it has room for.
+    ghost rate: { Self → Rate };
+
+    /// The bytes of the frame that landed last, as they arrived, where they are still there.
+    ghost landed: { Self → Option (List ℕ) };
+
+    /// Takes a frame in place of the one before.
+    fn land(&mut self, frame: &FrameBuf)
+        requires { frame.now.rate ≡ rate self.old }
+        ensures landed { landed self.new ≡ Some frame.now.bytes }
+        ensures rate { rate self.new ≡ rate self.old };
+}
+
+impl Landing for FrameBuf {
+    ghost rate = { λ f. f.rate };
+
+    ghost landed = { λ f. Some f.bytes };
+
+    fn land(&mut self, frame: &FrameBuf)
+        requires { frame.now.rate ≡ self.old.rate }
+        ensures landed { Some self.new.bytes ≡ Some frame.now.bytes }
+        ensures rate { self.new.rate ≡ self.old.rate }
+    {
+        self.copy_from(frame);
+    }
+}

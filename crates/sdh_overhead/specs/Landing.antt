@@ -1,0 +1,20 @@
+-- Frames that landed: descrambled on their way, with both parities summed.
+use Rattle.std.specs.Prelude.{ℕ, ◌≡◌, ◌*◌, Bool, true, false, Option, Some, None, List, take}
+use Rattle.sdh_frame.specs.declared.Rate.{Rate}
+use Rattle.sdh_parity.specs.Scrambling.{scrambled}
+use Rattle.sdh_overhead.specs.Sections.{parities_of}
+
+-- the rate of the frames that there is room for, and the bytes of the one that landed last, as they arrived
+pub record LandedFrame : Type 0 where
+  pub rate : Rate
+  pub landed : Option (List ℕ)
+
+-- the bytes that arrived, of which the buffer has the descrambled ones: none where no frame is there
+abbrev pub landed_of : ℕ → Bool → List ℕ → Option (List ℕ)
+landed_of n true clear = Some (scrambled (9 * n) clear)
+landed_of n false clear = None
+
+-- these are the parities of the frame that is there: B1 of the bytes that arrived, B2 of the descrambled ones
+abbrev pub AreSummed : ℕ → Bool → ℕ → List ℕ → List ℕ → Type 0
+AreSummed n true b1 b2 clear = record { b1 = b1; b2 = take (3 * n) b2 } ≡ parities_of n clear (scrambled (9 * n) clear)
+AreSummed n false b1 b2 clear = Unit {0}

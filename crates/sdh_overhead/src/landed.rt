@@ -1,0 +1,127 @@
+//! Frames that are descrambled and summed as they land, so that a section reads them without going over them again.
+ghost use Rattle.std.specs.Prelude.{◌≡◌, ◌≢◌, ℕ, ◌+◌, ◌*◌, ◌-◌, ◌≤◌, ◌⊎◌, List, Option, Some, None, IfOk, length};
+ghost use Rattle.sdh_basics.specs.Parity.{bip8 as parity_of};
+ghost use Rattle.sdh_frame.specs.Sizes.{n_of, size_of};
+ghost use Rattle.sdh_parity.specs.Parity.{section_bytes};
+ghost use Rattle.sdh_parity.specs.Pieces.{after_bytes};
+ghost use Rattle.sdh_parity.specs.Scrambling.{scrambled};
+ghost use Rattle.sdh_overhead.specs.Sections.{holding, received_in, kept_after};
+
+use crate::Received;
+use crate::rows::{Rows, parity_of_rows};
+use crate::section::{Section, is_framed};
+use sdh_frame::{FrameBuf, Landing, Rate};
+use std::alloc::{AllocError, Global};
+use std::marker::Model;
+
+/// A frame that landed: descrambled on its way, with both parities summed.
+#[derive(Debug, Drop)]
+pub struct Landed {
+    frame: FrameBuf,
+    here: bool,
+    line: u8,
+    clear: [u8; 48],
+}
+
+impl Model for Landed {
+    ghost use Rattle.std.specs.Prelude.{◌≡◌, length};
+    ghost use Rattle.sdh_frame.specs.Sizes.{n_of, size_of};
+    ghost use Rattle.sdh_overhead.specs.Landing.{LandedFrame, landed_of, AreSummed};
+
+    ghost Value = { LandedFrame };
+
+    ghost view = { λ a. record { rate = a.frame.rate; landed = landed_of (n_of a.frame.rate) a.here a.frame.bytes } };
+
+    ghost invariant = { λ a. record {
+      wide : length a.clear ≡ 48;
+      size : length a.frame.bytes ≡ size_of a.frame.rate;
+      summed : AreSummed (n_of a.frame.rate) a.here a.line a.clear a.frame.bytes;
+    } };
+}
+
+// Descrambles the nine rows of a frame on their way to another place, and sums them.
+fn open_frame(n: usize, from: &[u8], to: &mut [u8]) -> Rows
+    requires rate { (n ≡ 4) ⊎ (n ≡ 16) }
+    requires from { length from.now ≡ 2430 * n }
+    requires to { length to.old ≡ 2430 * n }
+    ensures bytes { to.new ≡ scrambled (9 * n) from.now }
+    ensures line { result.line ≡ parity_of from.now }
+    ensures clear { result.clear ≡ after_bytes n (section_bytes n to.new) }
+    ensures rate { result.clear.n ≡ n }
+{
+    let width = 270 * n;
+    let mut rows = Rows::new(n);
+    for row in 1..4 {
+        let at = (row as usize - 1) * width;
+        rows.open(n, row, 1, &from[at..at + width], &mut to[at..at + width]);
+    }
+    let last = &mut to[3 * width..9 * width];
+    rows.open(n, 4, 6, &from[3 * width..9 * width], last);
+    rows
+}
+
+impl Landed {
+    /// Nothing has landed. Takes all memory that frames need.
+    pub fn try_new(alloc: Global, rate: Rate) -> Result<Landed, AllocError>
+        ensures { IfOk result (λ l. l ≡ record { rate = rate; landed = None }) }
+    {
+        let frame = FrameBuf::try_new(alloc, rate)?;
+        // Reading it gives the proof what is true of every frame.
+        let _ = frame.bytes();
+        Ok(Landed {
+            frame,
+            here: false,
+            line: 0,
+            clear: [0; 48],
+        })
+    }
+
+    /// Gives the descrambled frame in exchange for another, or the buffer where nothing has landed. Nothing has landed then.
+    pub fn swap_frame(&mut self, frame: &mut FrameBuf)
+        requires { frame.old.rate ≡ self.old.rate }
+        ensures rate { frame.new.rate ≡ frame.old.rate }
+        ensures frame { (bytes : List ℕ) → self.old.landed ≡ Some bytes → frame.new ≡ record { rate = self.old.rate; bytes = scrambled (9 * n_of self.old.rate) bytes } }
+        ensures none { self.new ≡ record self.old { landed = None } }
+    {
+        // Reading it gives the proof what is true of every frame.
+        let _ = frame.bytes();
+        std::mem::swap(&mut self.frame, frame);
+        self.here = false;
+    }
+}
+
+impl Landing for Landed {
+    ghost rate = { λ l. l.rate };
+
+    ghost landed = { λ l. l.landed };
+
+    fn land(&mut self, frame: &FrameBuf)
+        requires { frame.now.rate ≡ self.old.rate }
+        ensures landed { self.new.landed ≡ Some frame.now.bytes }
+        ensures rate { self.new.rate ≡ self.old.rate }
+    {
+        let n = self.frame.rate().n();
+        let rows = open_frame(n, frame.bytes(), self.frame.bytes_mut());
+        self.line = rows.line.value();
+        self.clear = parity_of_rows(n, &rows.clear);
+        self.here = true;
+    }
+}
+
+/// Reads the overhead of the frame that landed against the parities of the frame read before, without going over its bytes
+/// again. An unframed frame makes the section forget. Rows of a frame that is under way are forgotten.
+pub fn read_landed(section: &mut Section, landed: &Landed) -> Received
+    requires rate { landed.now.rate ≡ section.old.rate }
+    requires landed { landed.now.landed ≢ None }
+    ensures result { (bytes : List ℕ) → landed.now.landed ≡ Some bytes → result ≡ received_in (n_of section.old.rate) section.old.last bytes }
+    ensures section { (bytes : List ℕ) → landed.now.landed ≡ Some bytes → section.new ≡ holding section.old.rate (kept_after (n_of section.old.rate) bytes) }
+{
+    let frame = &landed.frame;
+    if !is_framed(frame.rate().n(), frame.bytes()) {
+        section.forget();
+        return Received::Unframed;
+    }
+    let received = section.find(frame.bytes());
+    section.keep(landed.line, landed.clear);
+    received
+}
