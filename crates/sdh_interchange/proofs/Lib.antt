@@ -3,5 +3,6 @@ pub mod ByBytes
 pub mod Turning
 pub mod Sorts
 pub mod Pointing
-pub mod Fours
+pub mod Pairs
 pub mod Holding
+pub mod Spreading

@@ -8,7 +8,7 @@ use Rattle.sdh_interchange.specs.declared.choose.Source.TheVariants.{First, Seco
 use Rattle.sdh_interchange.specs.Choosing.{is_passed, is_own, picked, picked_at, IsPlain, IsExtra}
 
 -- no element passes a test that none passes
-none_at : (p : Source → Bool) (sources : List Source) (j : ℕ) → list_any p sources ≡ false → j < length sources → p (get_or sources j Ones) ≡ false
+pub none_at : (p : Source → Bool) (sources : List Source) (j : ℕ) → list_any p sources ≡ false → j < length sources → p (get_or sources j Ones) ≡ false
 none_at p sources j none h =
     elim (cases_Bool (p (get_or sources j Ones))) [
       | inl t ↦ absurd (let e : true ≡ false = sym (list_any_at p sources j Ones h t) ∙ none in cc)

@@ -24,7 +24,7 @@ in_either v i d t x p long h two low high =
           get_or-append_right (get_or v i []) (get_or v (i + d) []) 16 (x + 16 * p) 0 long (omega arith) ∙ ap (λ k. get_or (get_or v (i + d) []) k 0) e ∙ ap (λ k. get_or (get_or v k []) x 0) (high (omega arith)))
     ]
 
-at_turn : (v : List (List ℕ)) (i d t s j : ℕ) → length (get_or v i []) ≡ 16 → s ≤ 8 → j < 16 → (j % 2 ≡ 0 → i ≡ t) → (j % 2 ≡ 1 → i + d ≡ t) → get_or (by_turns s (get_or v i []) (get_or v (i + d) [])) j 0 ≡ cell v t (s + j / 2)
+pub at_turn : (v : List (List ℕ)) (i d t s j : ℕ) → length (get_or v i []) ≡ 16 → s ≤ 8 → j < 16 → (j % 2 ≡ 0 → i ≡ t) → (j % 2 ≡ 1 → i + d ≡ t) → get_or (by_turns s (get_or v i []) (get_or v (i + d) [])) j 0 ≡ cell v t (s + j / 2)
 at_turn v i d t s j long few h low high =
     get_or-map-range_with_len (λ k. get_or (get_or v i [] ++ get_or v (i + d) []) (s + k / 2 + 16 * (k % 2)) 0) 0 16 j j 0 h (omega arith)
     ∙ in_either v i d t (s + j / 2) (j % 2) long (omega arith) (omega arith) low high

@@ -1,6 +1,7 @@
 -- Sixteen bytes of a frame by the lanes of two others.
 use Rattle.std.proofs.Common.{◌≡◌, ℕ, ◌+◌, ◌*◌, ◌-◌, ◌/◌, ◌%◌, ◌<◌, ◌≤◌, ◌⊎◌, inl, inr, Bool, true, false, ◌||◌, T, w8, ltb, List, length, get_or, bit_or, bit_and, refl, ap, sym, ◌∙◌, arith, subst}
-use Rattle.std.specs.Int.Bits.{or_zero_l, or_zero_r}
+use Rattle.std.specs.List.{list_any}
+use Rattle.std.specs.Int.Bits.{or_zero_l, or_zero_r, or_add_and}
 use Rattle.std.proofs.lemmas.Grind.{and_numeral}
 use lib.Bits.{and_zero_r}
 use Rattle.std.specs.Simd.Lanes.{zip2, chunk, put_chunk, Each1}
@@ -10,7 +11,8 @@ use mathlib.Core.Bool.{cond}
 use mir.Val.{zeroes, Fits}
 use Rattle.sdh_interchange.specs.declared.choose.Source.{Source}
 use Rattle.sdh_interchange.specs.declared.choose.Source.TheVariants.{First, Second, Own, Ones}
-use Rattle.sdh_interchange.specs.Choosing.{own_byte, picked, picked_at, IsLane, AreLanes, IsExtra, AreExtra, IsPlain}
+use Rattle.sdh_interchange.specs.Choosing.{is_passed, own_byte, picked, picked_at, IsLane, AreLanes, IsExtra, AreExtra, IsPlain}
+use Rattle.sdh_interchange.proofs.Sorts.{none_at}
 
 -- ---- what a swizzle reads
 
@@ -58,7 +60,14 @@ masked x c o e = ap (λ z. bit_or (bit_and x z) o) e ∙ ap (λ z. bit_or z o) (
 kept : (x c o : ℕ) → x < 256 → c ≡ 0xFF → o ≡ 0 → bit_or (bit_and x c) o ≡ x
 kept x c o small e z = ap (bit_or (bit_and x c)) z ∙ or_zero_r _ ∙ ap (bit_and x) e ∙ and_numeral x 254 refl ∙ omega arith
 
+or_ones : (x : ℕ) → x < 256 → bit_or x 0xFF ≡ 0xFF
+or_ones x small = let e : bit_and x 255 ≡ x = and_numeral x 254 refl ∙ omega arith in omega (arith, or_add_and x 255)
+
 -- ---- a vector that begins with a whole column
+
+pub in_rate : (n i : ℕ) → (n ≡ 4) ⊎ (n ≡ 16) → i % n < n
+in_rate n i (inl e) = subst (λ m. i % m < m) (sym e) (omega arith)
+in_rate n i (inr e) = subst (λ m. i % m < m) (sym e) (omega arith)
 
 pub column : (n at j au : ℕ) → (n ≡ 4) ⊎ (n ≡ 16) → at % n ≡ 0 → (at + (j - j % n + (au - 1)) ≡ at + j - (at + j) % n + (au - 1)) × (j % n ≡ (at + j) % n)
 column n at j au (inl e) h = subst (λ m. at % m ≡ 0 → (at + (j - j % m + (au - 1)) ≡ at + j - (at + j) % m + (au - 1)) × (j % m ≡ (at + j) % m)) (sym e) (λ w. (omega arith, omega arith)) h
@@ -123,22 +132,38 @@ module _ (n at : ℕ) (first second : List ℕ) (own : List (List ℕ)) (rate : 
 
   -- ---- what comes from the payloads
 
-  own_lane : (s : Source) (xs : List ℕ) (j a b c o up : ℕ) → get_or xs j 0 < 256 → ((k : ℕ) → k < up → get_or xs k 0 ≡ own_byte n own (at + k)) → (1 ≤ c → j < up) → IsLane n s j a b c o → IsExtra n s own (at + j) (bit_or (bit_and (get_or xs j 0) c) o)
-  own_lane (First au) xs j a b c o up small each below is = masked (get_or xs j 0) c o is.3 ∙ is.4
-  own_lane (Second au) xs j a b c o up small each below is = masked (get_or xs j 0) c o is.3 ∙ is.4
-  own_lane (Own k) xs j a b c o up small each below is =
-      kept (get_or xs j 0) c o small is.1 is.4 ∙ each j (below (omega (arith, is.1))) ∙ ap (λ z. own_byte n own (at + z)) is.0 ∙ ap (own_byte n own) (column n at j k rate whole).0
-  own_lane Ones xs j a b c o up small each below is = masked (get_or xs j 0) c o is.2 ∙ is.3
+  own_lane : (s : Source) (xs : List ℕ) (j a b c o up : ℕ) → j < 16 → get_or xs j 0 < 256 → ((k : ℕ) → k < 16 → k % n < up → get_or xs k 0 ≡ own_byte n own (at + k)) → (1 ≤ c → j % n < up) → IsLane n s j a b c o
+      → IsExtra n s own (at + j) (bit_or (bit_and (get_or xs j 0) c) o)
+  own_lane (First au) xs j a b c o up h small each below is = masked (get_or xs j 0) c o is.3 ∙ is.4
+  own_lane (Second au) xs j a b c o up h small each below is = masked (get_or xs j 0) c o is.3 ∙ is.4
+  own_lane (Own k) xs j a b c o up h small each below is =
+      kept (get_or xs j 0) c o small is.1 is.4 ∙ each j h (below (omega (arith, is.1))) ∙ ap (λ z. own_byte n own (at + z)) is.0 ∙ ap (own_byte n own) (column n at j k rate whole).0
+  own_lane Ones xs j a b c o up h small each below is = masked (get_or xs j 0) c o is.2 ∙ is.3
+
+  ones_lane : (s : Source) (xs : List ℕ) (j a b c o up : ℕ) → is_passed s ≡ false → j < 16 → get_or xs j 0 < 256 → ((k : ℕ) → k < 16 → k % n < up → get_or xs k 0 ≡ own_byte n own (at + k)) → (1 ≤ c → j % n < up) → IsLane n s j a b c o
+      → IsExtra n s own (at + j) (bit_or (get_or xs j 0) o)
+  ones_lane (First au) xs j a b c o up none h small each below is = absurd (cc)
+  ones_lane (Second au) xs j a b c o up none h small each below is = absurd (cc)
+  ones_lane (Own k) xs j a b c o up none h small each below is =
+      ap (bit_or (get_or xs j 0)) is.4 ∙ or_zero_r _ ∙ each j h (below (omega (arith, is.1))) ∙ ap (λ z. own_byte n own (at + z)) is.0 ∙ ap (own_byte n own) (column n at j k rate whole).0
+  ones_lane Ones xs j a b c o up none h small each below is = ap (bit_or (get_or xs j 0)) is.3 ∙ or_ones (get_or xs j 0) small
 
   module _ (sources : List Source) (fs ss os ms xs : List ℕ) (up : ℕ) (lanes : AreLanes n sources fs ss os ms up) where
-    pub own_extra : length xs ≡ 16 → Each1 (Fits w8) xs → ((k : ℕ) → k < up → get_or xs k 0 ≡ own_byte n own (at + k)) → AreExtra n sources own at (zip2 bit_or (zip2 bit_and xs os) ms)
+    pub own_extra : length xs ≡ 16 → Each1 (Fits w8) xs → ((k : ℕ) → k < 16 → k % n < up → get_or xs k 0 ≡ own_byte n own (at + k)) → AreExtra n sources own at (zip2 bit_or (zip2 bit_and xs os) ms)
     own_extra long_xs bytes each =
         let long : length (zip2 bit_and xs os) ≡ 16 = length-zip2 bit_and xs os (long_xs ∙ sym lanes.own_long) ∙ long_xs in
         record {
           long = length-zip2 bit_or (zip2 bit_and xs os) ms (long ∙ sym lanes.more_long) ∙ long;
           each = λ j h. subst (IsExtra n (get_or sources (j % n) Ones) own (at + j)) (sym (get_or-zip2 bit_or (zip2 bit_and xs os) ms j 0 0 0 (omega (arith, long)) (omega (arith, lanes.more_long)) ∙ ap (λ z. bit_or z (get_or ms j 0)) (get_or-zip2 bit_and xs os j 0 0 0 (omega (arith, long_xs)) (omega (arith, lanes.own_long)))))
-              (own_lane (get_or sources (j % n) Ones) xs j _ _ (get_or os j 0) (get_or ms j 0) up (Each1-get_or (λ x. x < 256) xs j 0 (omega (arith, long_xs)) (below_from_Fits w8 xs bytes)) each (lanes.below j h) (lanes.each j h));
+              (own_lane (get_or sources (j % n) Ones) xs j _ _ (get_or os j 0) (get_or ms j 0) up h (Each1-get_or (λ x. x < 256) xs j 0 (omega (arith, long_xs)) (below_from_Fits w8 xs bytes)) each (lanes.below j h) (lanes.each j h));
         }
+
+    pub ones_extra : length sources ≡ n → list_any is_passed sources ≡ false → length xs ≡ 16 → Each1 (Fits w8) xs → ((k : ℕ) → k < 16 → k % n < up → get_or xs k 0 ≡ own_byte n own (at + k)) → AreExtra n sources own at (zip2 bit_or xs ms)
+    ones_extra many none long_xs bytes each = record {
+      long = length-zip2 bit_or xs ms (long_xs ∙ sym lanes.more_long) ∙ long_xs;
+      each = λ j h. subst (IsExtra n (get_or sources (j % n) Ones) own (at + j)) (sym (get_or-zip2 bit_or xs ms j 0 0 0 (omega (arith, long_xs)) (omega (arith, lanes.more_long))))
+          (ones_lane (get_or sources (j % n) Ones) xs j _ _ (get_or os j 0) (get_or ms j 0) up (none_at is_passed sources (j % n) none (omega (arith, in_rate n j rate, many))) h (Each1-get_or (λ x. x < 256) xs j 0 (omega (arith, long_xs)) (below_from_Fits w8 xs bytes)) each (lanes.below j h) (lanes.each j h));
+    }
 
     plain_lane : (s : Source) (j a b c o : ℕ) → IsLane n s j a b c o → IsPlain n s own (at + j) → IsExtra n s own (at + j) o
     plain_lane (First au) j a b c o is plain = is.4

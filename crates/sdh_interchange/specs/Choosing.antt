@@ -61,15 +61,15 @@ IsLane n (Second au) j a b c o = (b ≡ j - j % n + (au - 1)) × (b < 16) × (a 
 IsLane n (Own k) j a b c o = (j ≡ j - j % n + (k - 1)) × (c ≡ 0xFF) × (a ≡ 128) × (b ≡ 128) × (o ≡ 0)
 IsLane n Ones j a b c o = (a ≡ 128) × (b ≡ 128) × (c ≡ 0) × (o ≡ 0xFF)
 
--- sixteen lanes, which keep bits of the payloads below lane `upto`
+-- sixteen lanes, which keep bits of the first `upto` payloads, half of them or all
 pub record AreLanes (n : ℕ) (sources : List Source) (first second own more : List ℕ) (upto : ℕ) : Type 0 where
   pub first_long : length first ≡ 16
   pub second_long : length second ≡ 16
   pub own_long : length own ≡ 16
   pub more_long : length more ≡ 16
   pub each : (j : ℕ) → j < 16 → IsLane n (slice_index_or sources (j % n) Ones) j (slice_index first j) (slice_index second j) (slice_index own j) (slice_index more j)
-  pub few : (upto ≡ 8) ⊎ (upto ≡ 16)
-  pub below : (j : ℕ) → j < 16 → 1 ≤ slice_index own j → j < upto
+  pub few : (2 * upto ≡ n) ⊎ (upto ≡ n)
+  pub below : (j : ℕ) → j < 16 → 1 ≤ slice_index own j → j % n < upto
 
 -- what byte i gets besides the bytes of the two frames
 abbrev pub IsExtra : ℕ → Source → List (List ℕ) → ℕ → ℕ → Type 0

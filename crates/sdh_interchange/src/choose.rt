@@ -9,7 +9,7 @@ ghost use Rattle.sdh_interchange.specs.Choosing.{chosen, IsSource, AreSources, I
 ghost use Rattle.sdh_interchange.specs.Tables.{cell, IsTable};
 
 use crate::own::Payloads;
-use crate::table::{apart, transpose, transpose4, transpose8};
+use crate::table::{apart, spread, transpose, transpose4, transpose8};
 use sdh_frame::{FrameBuf, Rate};
 use std::simd::prelude::*;
 
@@ -59,7 +59,7 @@ fn any_own(sources: &[Source]) -> bool
 }
 
 // Which lane each lane reads in either frame, 128 for none, which bits of its own lane of the payloads it keeps, and what it adds.
-// Lanes from `upto` on keep none of the payloads.
+// None keeps any of the payloads behind the first `upto`.
 #[derive(Drop)]
 struct Lanes {
     first: [u8; 16],
@@ -86,18 +86,20 @@ fn lane_of(n: usize, j: usize, source: Source) -> (u8, u8, u8, u8)
     }
 }
 
-// The lane below which lanes keep something: the eighth, or the last.
-fn upto_of(own: &[u8; 16]) -> usize
-    requires { length own.now ≡ 16 }
-    ensures few { (result ≡ 8) ⊎ (result ≡ 16) }
-    ensures below { (j : ℕ) → j < 16 → 1 ≤ slice_index own.now j → j < result }
+// How many payloads, half or all, have those that some lane keeps.
+#[inline(always)]
+fn upto_of(n: usize, own: &[u8; 16]) -> usize
+    requires rate { (n ≡ 4) ⊎ (n ≡ 16) }
+    requires long { length own.now ≡ 16 }
+    ensures few { (2 * result ≡ n) ⊎ (result ≡ n) }
+    ensures below { (j : ℕ) → j < 16 → 1 ≤ slice_index own.now j → j % n < result }
 {
-    for j in 8..16 {
-        if own[j] > 0 {
-            return 16;
+    for j in 0..16 {
+        if j % n >= n / 2 && own[j] > 0 {
+            return n;
         }
     }
-    8
+    n / 2
 }
 
 // All lanes. In the callers' code N is a constant.
@@ -118,7 +120,7 @@ fn lanes_of(n: usize, sources: &[Source]) -> Lanes
         own[j] = c;
         more[j] = o;
     }
-    let upto = upto_of(&own);
+    let upto = upto_of(n, &own);
     Lanes {
         first,
         second,
@@ -172,10 +174,32 @@ fn with_own(
     requires whole { at % n ≡ 0 }
     requires lanes { AreLanes n sources.now lanes.now.first lanes.now.second lanes.now.own lanes.now.more lanes.now.upto }
     requires long { length column ≡ 16 }
-    requires column { (j : ℕ) → j < lanes.now.upto → slice_index column j ≡ own_byte n own.now (at + j) }
+    requires column { (j : ℕ) → j < 16 → j % n < lanes.now.upto → slice_index column j ≡ own_byte n own.now (at + j) }
     ensures { AreExtra n sources.now own.now at result }
 {
     (column & u8x16::from_array(lanes.own)) | u8x16::from_array(lanes.more)
+}
+
+// The same where nothing comes from the two frames, so that what no payload goes to is ones.
+#[inline(always)]
+fn with_ones(
+    at: usize,
+    column: u8x16,
+    own: &Payloads,
+    n: usize,
+    sources: &[Source],
+    lanes: &Lanes,
+) -> u8x16
+    requires rate { (n ≡ 4) ⊎ (n ≡ 16) }
+    requires whole { at % n ≡ 0 }
+    requires many { length sources.now ≡ n }
+    requires none { list_any is_passed sources.now ≡ false }
+    requires lanes { AreLanes n sources.now lanes.now.first lanes.now.second lanes.now.own lanes.now.more lanes.now.upto }
+    requires long { length column ≡ 16 }
+    requires column { (j : ℕ) → j < 16 → j % n < lanes.now.upto → slice_index column j ≡ own_byte n own.now (at + j) }
+    ensures { AreExtra n sources.now own.now at result }
+{
+    column | u8x16::from_array(lanes.more)
 }
 
 // All columns from `from` up to `to`, where no payload is wanted.
@@ -334,6 +358,32 @@ fn own4(own: &Payloads, from: usize) -> [u8x16; 4]
     transpose4(rows)
 }
 
+// The same of the first two of four payloads: the other lanes mean nothing.
+#[inline(always)]
+fn own2(own: &Payloads, from: usize) -> [u8x16; 4]
+    requires room { from + 16 ≤ 2349 }
+    ensures table { IsTable 4 result }
+    ensures each { (k j : ℕ) → k < 4 → j < 16 → j % 4 < 2 → cell result k j ≡ cell own.now (j % 4) (from + (4 * k + j / 4)) }
+{
+    let rows = [own.sixteen(0, from), own.sixteen(1, from)];
+    spread(rows)
+}
+
+// Four columns in each vector, as far as payloads below `upto` are read.
+#[inline(always)]
+fn columns4(own: &Payloads, from: usize, upto: usize) -> [u8x16; 4]
+    requires room { from + 16 ≤ 2349 }
+    requires few { (upto ≡ 2) ⊎ (upto ≡ 4) }
+    ensures table { IsTable 4 result }
+    ensures each { (k j : ℕ) → k < 4 → j < 16 → j % 4 < upto → cell result k j ≡ cell own.now (j % 4) (from + (4 * k + j / 4)) }
+{
+    if upto == 2 {
+        own2(own, from)
+    } else {
+        own4(own, from)
+    }
+}
+
 // Sixteen columns of row r, from payload column c on.
 #[inline(always)]
 fn block16(
@@ -386,7 +436,7 @@ fn block4(
     ensures inside { (i : ℕ) → 1080 * r + (36 + 4 * c) ≤ i → i < 1080 * r + (100 + 4 * c) → slice_index bytes.new i ≡ picked_at 4 sources.now first.now second.now own.now i }
     ensures after { (i : ℕ) → 1080 * r + (100 + 4 * c) ≤ i → slice_index bytes.new i ≡ slice_index bytes.old i }
 {
-    let columns = own4(own, 261 * r + c);
+    let columns = columns4(own, 261 * r + c, lanes.upto);
     let at = 1080 * r + (36 + 4 * c);
     for k in 0..4 {
         let here = at + 16 * k;
@@ -443,11 +493,11 @@ fn own_block4(
     ensures inside { (i : ℕ) → 1080 * r + (36 + 4 * c) ≤ i → i < 1080 * r + (100 + 4 * c) → slice_index bytes.new i ≡ picked_at 4 sources.now first.now second.now own.now i }
     ensures after { (i : ℕ) → 1080 * r + (100 + 4 * c) ≤ i → slice_index bytes.new i ≡ slice_index bytes.old i }
 {
-    let columns = own4(own, 261 * r + c);
+    let columns = columns4(own, 261 * r + c, lanes.upto);
     let at = 1080 * r + (36 + 4 * c);
     for k in 0..4 {
         let here = at + 16 * k;
-        let extra = with_own(here, columns[k], own, 4, sources, lanes);
+        let extra = with_ones(here, columns[k], own, 4, sources, lanes);
         store_own(bytes, here, first, second, own, extra, 4, sources);
     }
 }
@@ -559,7 +609,7 @@ fn own_block16(
     let at = 4320 * r + (144 + 16 * c);
     for k in 0..16 {
         let here = at + 16 * k;
-        let extra = with_own(here, columns[k], own, 16, sources, lanes);
+        let extra = with_ones(here, columns[k], own, 16, sources, lanes);
         store_own(bytes, here, first, second, own, extra, 16, sources);
     }
 }

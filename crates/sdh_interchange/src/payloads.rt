@@ -6,7 +6,7 @@ ghost use Rattle.sdh_frame.specs.Aus.{payload_of};
 ghost use Rattle.sdh_interchange.specs.Tables.{cell, IsTable};
 ghost use Rattle.sdh_interchange.specs.Taking.{HaveRoom, KeepsOthers};
 
-use crate::table::{lane4, lanes_from};
+use crate::table::{lanes_from, last_two};
 use sdh_frame::Rate;
 use sdh_payload::Cells;
 use std::simd::prelude::*;
@@ -63,11 +63,12 @@ fn take_block4(bytes: &[u8], base: usize, r: usize, c: usize, out: &mut [Cells])
     ensures inside { (a k : ℕ) → a < 2 → k < 16 → cell out.new (base + a) (261 * r + c + k) ≡ slice_index bytes.now (1080 * r + (36 + 4 * (c + k)) + (base + a)) }
     ensures keeps { KeepsOthers base 2 out.old out.new }
 {
-    let at = 1080 * r + (36 + 4 * c);
+    // Lanes `base` and the one behind it are the last two of each four from here on.
+    let at = 1080 * r + (34 + 4 * c) + base;
     let from = 261 * r + c;
-    let rows = load4(bytes, at);
+    let payloads = last_two(load4(bytes, at));
     for a in 0..2 {
-        put_in(out, base + a, from, lane4(rows, base + a));
+        put_in(out, base + a, from, payloads[a]);
     }
 }
 

@@ -139,32 +139,66 @@ pub(crate) fn transpose4(v: [u8x16; 4]) -> [u8x16; 4]
     turn4(turn4(v))
 }
 
-// Where the sixteen columns of a lane stand in one of four rows, each of which has four columns of four lanes; 128 for none.
+// Each two of the first eight lanes, twice.
 #[inline(always)]
-fn places_in(row: usize, lane: usize) -> [u8; 16]
-    requires row { row < 4 }
-    requires lane { lane < 4 }
+fn low_twice(v: u8x16) -> u8x16
+    requires { length v ≡ 16 }
     ensures long { length result ≡ 16 }
-    ensures each { (j : ℕ) → j < 16 → slice_index result j ≡ (if j / 4 == row then 4 * (j % 4) + lane else 128) }
+    ensures each { (j : ℕ) → j < 16 → slice_index result j ≡ slice_index v (0 + (2 * (j / 4) + j % 2)) }
 {
-    let mut places = [128; 16];
-    for c in 0..4 {
-        places[4 * row + c] = (4 * c + lane) as u8;
-    }
-    places
+    v.swizzle([0, 1, 0, 1, 2, 3, 2, 3, 4, 5, 4, 5, 6, 7, 6, 7])
 }
 
-// A lane of the sixteen columns of four rows.
+// Each two of the last eight lanes, twice.
 #[inline(always)]
-pub(crate) fn lane4(v: [u8x16; 4], lane: usize) -> u8x16
-    requires rows { IsTable 4 v }
-    requires lane { lane < 4 }
+fn high_twice(v: u8x16) -> u8x16
+    requires { length v ≡ 16 }
     ensures long { length result ≡ 16 }
-    ensures each { (j : ℕ) → j < 16 → slice_index result j ≡ cell v (j / 4) (4 * (j % 4) + lane) }
+    ensures each { (j : ℕ) → j < 16 → slice_index result j ≡ slice_index v (8 + (2 * (j / 4) + j % 2)) }
 {
-    let a = v[0].swizzle_dyn(u8x16::from_array(places_in(0, lane)));
-    let b = v[1].swizzle_dyn(u8x16::from_array(places_in(1, lane)));
-    let c = v[2].swizzle_dyn(u8x16::from_array(places_in(2, lane)));
-    let d = v[3].swizzle_dyn(u8x16::from_array(places_in(3, lane)));
-    (a | b) | (c | d)
+    v.swizzle([8, 9, 8, 9, 10, 11, 10, 11, 12, 13, 12, 13, 14, 15, 14, 15])
+}
+
+// The bytes of two rows take the first two turns of four each.
+#[inline(always)]
+pub(crate) fn spread(v: [u8x16; 2]) -> [u8x16; 4]
+    requires { IsTable 2 v }
+    ensures table { IsTable 4 result }
+    ensures each { (k j : ℕ) → k < 4 → j < 16 → j % 4 < 2 → cell result k j ≡ cell v (j % 4) (4 * k + j / 4) }
+{
+    let (low, high) = v[0].interleave(v[1]);
+    [
+        low_twice(low),
+        high_twice(low),
+        low_twice(high),
+        high_twice(high),
+    ]
+}
+
+// The last two of each four lanes of two rows.
+#[inline(always)]
+fn last_pairs(a: u8x16, b: u8x16) -> u8x16
+    requires a { length a ≡ 16 }
+    requires b { length b ≡ 16 }
+    ensures long { length result ≡ 16 }
+    ensures first { (j : ℕ) → j < 8 → slice_index result j ≡ slice_index a (4 * (j / 2) + (2 + j % 2)) }
+    ensures second { (j : ℕ) → j < 8 → slice_index result (8 + j) ≡ slice_index b (4 * (j / 2) + (2 + j % 2)) }
+{
+    a.shuffle(
+        b,
+        [2, 3, 6, 7, 10, 11, 14, 15, 18, 19, 22, 23, 26, 27, 30, 31],
+    )
+}
+
+// The last two of each four lanes of four rows, as a row each.
+#[inline(always)]
+pub(crate) fn last_two(v: [u8x16; 4]) -> [u8x16; 2]
+    requires { IsTable 4 v }
+    ensures table { IsTable 2 result }
+    ensures each { (a j : ℕ) → a < 2 → j < 16 → cell result a j ≡ cell v (j / 4) (4 * (j % 4) + (2 + a)) }
+{
+    let first = last_pairs(v[0], v[1]);
+    let second = last_pairs(v[2], v[3]);
+    let (a, b) = first.deinterleave(second);
+    [a, b]
 }

@@ -1,15 +1,11 @@
-use Rattle.std.proofs.Common.{◌≡◌, ℕ, ◌+◌, ◌-◌, ◌%◌, ◌<◌, ◌⊎◌, inl, inr, get_or, length, ap, sym, ◌∙◌, subst, arith}
+use Rattle.std.proofs.Common.{◌≡◌, ℕ, ◌+◌, ◌-◌, ◌%◌, ◌<◌, get_or, length, ap, sym, ◌∙◌, subst, arith}
 use Rattle.std.specs.Simd.Lanes.{put_chunk}
 use Rattle.std.proofs.lemmas.Simd.{get_or-put_chunk_below, get_or-put_chunk_at, get_or-put_chunk_above}
 use Rattle.sdh_interchange.specs.declared.choose.Source.TheVariants.{Ones}
 use Rattle.sdh_interchange.specs.Choosing.{IsExtra, picked_at}
 use Rattle.sdh_interchange.proofs.Sorts.{extra_without}
-use Rattle.sdh_interchange.proofs.Vectors.{column}
+use Rattle.sdh_interchange.proofs.Vectors.{column, in_rate}
 use Rattle.sdh_interchange.proofs.choose.store_own.Goals as goal
-
-lane_in : (n i : ℕ) → (n ≡ 4) ⊎ (n ≡ 16) → i % n < n
-lane_in n i (inl e) = subst (λ m. i % m < m) (sym e) (omega arith)
-lane_in n i (inr e) = subst (λ m. i % m < m) (sym e) (omega arith)
 
 pub returns-clause-before : goal.returns-clause-before
 returns-clause-before c = λ i h. get_or-put_chunk_below c.args.at c.args.bytes.now c.args.extra i 0 h
@@ -25,7 +21,7 @@ returns-clause-inside c = λ i low high.
     let e : at + j ≡ i = omega arith in
     let h : j < 16 = omega arith in
     let long : length extra ≡ 16 = c.requires.extra.long in
-    let few : (at + j) % n < length sources = omega (arith, lane_in n (at + j) c.requires.rate, c.requires.many) in
+    let few : (at + j) % n < length sources = omega (arith, in_rate n (at + j) c.requires.rate, c.requires.many) in
     ap (λ k. get_or (put_chunk at c.args.bytes.now extra) k 0) (sym e) ∙ get_or-put_chunk_at at c.args.bytes.now extra j 0 (omega arith) (omega arith)
     ∙ extra_without n sources c.args.first.now c.args.second.now own (at + j) (get_or extra j 0) c.requires.none few
     (subst (λ m. IsExtra n (get_or sources m Ones) own (at + j) (get_or extra j 0)) (column n at j 0 c.requires.rate c.requires.whole).1 (c.requires.extra.each j h))

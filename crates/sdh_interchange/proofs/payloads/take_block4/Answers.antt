@@ -20,7 +20,7 @@ loop-a-preserved c =
     let was = c.loop-a.out in
     let out = c.put_in.new.out in
     let from : ℕ = 261 * r + c.args.c in
-    let at : ℕ = 1080 * r + (36 + 4 * c.args.c) in
+    let at : ℕ = 1080 * r + (34 + 4 * c.args.c) + c.args.base in
     let within : c.args.base + la < 4 = omega arith in
     let small_a : la < 2 = omega arith in
     record {
@@ -34,8 +34,8 @@ loop-a-preserved c =
         | inl below ↦ (cell_kept (c.args.base + la) 1 was out (c.args.base + a) (from + k) (inl (omega arith)) c.put_in.ensures.keeps ∙ c.loop-a.invariant.inside a k below small_k)
         | inr here ↦ (
             let same : c.args.base + a ≡ c.args.base + la = omega arith in
-            let source : at + (16 * (k / 4) + (4 * (k % 4) + (c.args.base + la))) ≡ 1080 * r + (36 + 4 * (c.args.c + k)) + (c.args.base + a) = omega arith in
-            ap (λ m. cell out m (from + k)) same ∙ c.put_in.ensures.inside k small_k ∙ c.lane4.ensures.each k small_k ∙ c.load4-rows.ensures.each (k / 4) (4 * (k % 4) + (c.args.base + la)) (omega arith) (omega arith) ∙ ap (λ i. get_or bytes i 0) source)
+            let source : at + (16 * (k / 4) + (4 * (k % 4) + (2 + la))) ≡ 1080 * r + (36 + 4 * (c.args.c + k)) + (c.args.base + a) = omega arith in
+            ap (λ m. cell out m (from + k)) same ∙ c.put_in.ensures.inside k small_k ∙ c.last_two-payloads.ensures.each la k small_a small_k ∙ c.load4.ensures.each (k / 4) (4 * (k % 4) + (2 + la)) (omega arith) (omega arith) ∙ ap (λ i. get_or bytes i 0) source)
       ];
     }
 
