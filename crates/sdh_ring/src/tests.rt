@@ -1,5 +1,5 @@
 //! Rings over fibres in memory: what healthy rings and rings with a cut span send once they are quiet, and a plant that fails.
-ghost use Rattle.std.specs.Prelude.{◌≡◌, ◌<◌, ℕ, IfOk, false, length};
+ghost use Rattle.std.specs.Prelude.{◌≡◌, ◌<◌, ◌≤◌, ℕ, IfOk, false, length};
 ghost use Rattle.sdh_plant.specs.Fibres.{HasNoFibres, IsPrepared};
 
 use crate::{PlantFault, Ring, SettleError};
@@ -214,23 +214,32 @@ fn waiting_at(ring: &Ring, end: End) -> Option<u8> {
     Some(ring.waiting(PortId { circuit: 0, end }))
 }
 
+// How many slips wait at the ports of the circuit, where two waited at one of them before a step of so many rounds that doesn't
+// settle.
+fn waiting_after(alloc: Global, end: End, turn: Turn, rounds: u32) -> Result<[Option<u8>; 2], Fail>
+    requires some { 1 ≤ rounds }
+    requires few { rounds ≤ 9 }
+{
+    let mut plant = FibrePlant::new();
+    let mut ring = slipping(alloc, &mut plant, 2, end, turn)?;
+    if waiting_at(&ring, end) != Some(2) {
+        return Err(Fail::from("no two slips"));
+    }
+    match ring.settle(&mut plant, rounds) {
+        Err(SettleError::Unsettled) => Ok([waiting_at(&ring, End::A), waiting_at(&ring, End::B)]),
+        _ => Err(Fail::from("it settled")),
+    }
+}
+
 #[test]
 fn slips_wait_at_the_port_told_until_a_round_of_their_own(rt: HostRuntime) -> Result<(), Fail> {
     // How many rounds have run, and how many of two slips still wait.
     for (rounds, wants) in [(1, 2), (4, 2), (5, 1), (8, 1), (9, 0)] {
-        for (end, other) in [(End::A, End::B), (End::B, End::A)] {
-            for turn in [Turn::Up, Turn::Down] {
-                assert!(rt; rounds >= 1);
-                let mut plant = FibrePlant::new();
-                let mut ring = slipping(rt.alloc(), &mut plant, 2, end, turn)?;
-                assert_eq!(rt; waiting_at(&ring, end), Some(2));
-                assert_eq!(rt;
-                    ring.settle(&mut plant, rounds),
-                    Err(SettleError::Unsettled)
-                );
-                assert_eq!(rt; waiting_at(&ring, end), Some(wants), "{rounds}");
-                assert_eq!(rt; waiting_at(&ring, other), Some(0), "{rounds}");
-            }
+        for turn in [Turn::Up, Turn::Down] {
+            let first = waiting_after(rt.alloc(), End::A, turn, rounds)?;
+            assert_eq!(rt; first, [Some(wants), Some(0)], "{rounds}");
+            let second = waiting_after(rt.alloc(), End::B, turn, rounds)?;
+            assert_eq!(rt; second, [Some(0), Some(wants)], "{rounds}");
         }
     }
     Ok(())
