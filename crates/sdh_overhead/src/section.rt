@@ -135,18 +135,6 @@ impl Section {
         }
     }
 
-    // Writes the overhead of rows 4 to 9 with the parities of the frame before.
-    fn place_last(&self, k1: u8, k2: u8, bytes: &mut [u8])
-        requires { length bytes.old ≡ 6 * (270 * n_of self.now.rate) }
-        ensures { bytes.new ≡ clear_row (n_of self.now.rate) self.now.last k1 k2 (3 * (270 * n_of self.now.rate)) bytes.old }
-    {
-        let width = 270 * self.rate.n();
-        for row in 4..10 {
-            let at = (row as usize - 4) * width;
-            self.place(row, k1, k2, &mut bytes[at..at + width]);
-        }
-    }
-
     // Sums and scrambles the next rows of a sent frame.
     fn send(&mut self, row: u16, rows: u16, bytes: &mut [u8])
         requires next { row ≡ next_of self.old.under_way }
@@ -310,19 +298,6 @@ pub fn write_row(section: &mut Section, row: u16, k1: u8, k2: u8, bytes: &mut [u
     section.end();
 }
 
-// Writes rows 4 to 9 of a frame in one piece.
-fn write_last(section: &mut Section, k1: u8, k2: u8, bytes: &mut [u8])
-    requires next { next_of section.old.under_way ≡ 4 }
-    requires bytes { length bytes.old ≡ 6 * (270 * n_of section.old.rate) }
-    ensures bytes { bytes.new ≡ line_row (n_of section.old.rate) section.old.last k1 k2 (3 * (270 * n_of section.old.rate)) bytes.old }
-    ensures section { (first : SectionKept) (clear line : List ℕ) → HasSent first clear line section.old → HasSent first (clear ++ clear_row (n_of section.old.rate) section.old.last k1 k2 (3 * (270 * n_of section.old.rate)) bytes.old) (line ++ bytes.new) section.new }
-    ensures rate { section.new.rate ≡ section.old.rate }
-{
-    section.place_last(k1, k2, bytes);
-    section.send(4, 6, bytes);
-    section.end();
-}
-
 // Writes the nine rows of a frame.
 fn write_rows(section: &mut Section, k1: u8, k2: u8, bytes: &mut [u8])
     requires fresh { section.old.under_way ≡ None }
@@ -331,11 +306,10 @@ fn write_rows(section: &mut Section, k1: u8, k2: u8, bytes: &mut [u8])
     ensures section { section.new ≡ holding section.old.rate (Some (parities_of (n_of section.old.rate) (clear_frame (n_of section.old.rate) section.old.last k1 k2 bytes.old) bytes.new)) }
 {
     let width = 270 * section.rate.n();
-    for row in 1..4 {
+    for row in 1..10 {
         let at = (row as usize - 1) * width;
         write_row(section, row, k1, k2, &mut bytes[at..at + width]);
     }
-    write_last(section, k1, k2, &mut bytes[3 * width..9 * width]);
 }
 
 /// Sets all section overhead of a frame, with the parities of the frame written before, and scrambles it in place.

@@ -2,7 +2,7 @@ use Rattle.std.proofs.Common.{◌≡◌, ℕ, ◌+◌, ◌*◌, ◌-◌, ◌≤�
 use Rattle.sdh_frame.specs.Sizes.{n_of}
 use Rattle.sdh_overhead.specs.Sections.{SectionKept}
 use Rattle.sdh_basics.proofs.Parts.{length-part}
-use Rattle.sdh_overhead.proofs.Nine.{SentTo, none-sent, sent-next, row-within, sent-last, all-sent, all-kept}
+use Rattle.sdh_overhead.proofs.Nine.{SentTo, none-sent, sent-next, row-within, all-sent, all-kept}
 use Rattle.sdh_overhead.proofs.section.write_rows.Goals as goal
 
 pub loop-row-init : goal.loop-row-init
@@ -24,22 +24,10 @@ loop-row-preserved c =
 
 pub returns-clause-bytes : goal.returns-clause-bytes
 returns-clause-bytes c =
-    let first = c.args.section.now in
-    let old = c.args.bytes.now in
-    let row : c.loop-row.row ≡ 4 = omega arith in
-    let n : c.n-width.result ≡ n_of first.rate = c.n-width.ensures ∙ ap (λ (s : SectionKept). n_of s.rate) c.section.view_is in
-    all-sent first c.write_last.new.section c.args.k1 c.args.k2 old _ c.requires.bytes
-    (sent-last first c.loop-row.section c.write_last.new.section c.args.k1 c.args.k2 c.n-width.result old c.loop-row.bytes c.write_last.new.bytes c.requires.bytes n
-    (subst (λ (r : ℕ). SentTo first c.args.k1 c.args.k2 old r c.loop-row.section c.loop-row.bytes) row c.loop-row.invariant)
-    c.write_last.auto.bytes c.write_last.ensures.bytes c.write_last.ensures.section c.write_last.ensures.rate)
+    let row : c.loop-row.row ≡ 10 = omega arith in
+    all-sent c.args.section.now c.loop-row.section c.args.k1 c.args.k2 c.args.bytes.now c.loop-row.bytes c.requires.bytes (subst (λ (r : ℕ). SentTo c.args.section.now c.args.k1 c.args.k2 c.args.bytes.now r c.loop-row.section c.loop-row.bytes) row c.loop-row.invariant)
 
 pub returns-clause-section : goal.returns-clause-section
 returns-clause-section c =
-    let first = c.args.section.now in
-    let old = c.args.bytes.now in
-    let row : c.loop-row.row ≡ 4 = omega arith in
-    let n : c.n-width.result ≡ n_of first.rate = c.n-width.ensures ∙ ap (λ (s : SectionKept). n_of s.rate) c.section.view_is in
-    all-kept first c.write_last.new.section c.args.k1 c.args.k2 old _ c.requires.bytes
-    (sent-last first c.loop-row.section c.write_last.new.section c.args.k1 c.args.k2 c.n-width.result old c.loop-row.bytes c.write_last.new.bytes c.requires.bytes n
-    (subst (λ (r : ℕ). SentTo first c.args.k1 c.args.k2 old r c.loop-row.section c.loop-row.bytes) row c.loop-row.invariant)
-    c.write_last.auto.bytes c.write_last.ensures.bytes c.write_last.ensures.section c.write_last.ensures.rate)
+    let row : c.loop-row.row ≡ 10 = omega arith in
+    all-kept c.args.section.now c.loop-row.section c.args.k1 c.args.k2 c.args.bytes.now c.loop-row.bytes c.requires.bytes (subst (λ (r : ℕ). SentTo c.args.section.now c.args.k1 c.args.k2 c.args.bytes.now r c.loop-row.section c.loop-row.bytes) row c.loop-row.invariant)

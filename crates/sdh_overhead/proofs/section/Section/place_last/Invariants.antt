@@ -1,5 +1,0 @@
-use Rattle.sdh_overhead.proofs.Nine.{PlacedTo}
-use Rattle.sdh_overhead.proofs.section.Section.place_last.Given as goal
-
-abbrev pub invariant-loop-row : goal.invariant-loop-row
-invariant-loop-row l = PlacedTo l.fn.self l.k1 l.k2 l.fn.bytes l.row l.bytes
