@@ -1,8 +1,8 @@
 -- The frame whose AU-4s come from two others, byte by byte.
-use Rattle.std.proofs.Common.{◌≡◌, ◌≢◌, ℕ, zero, suc, ◌+◌, ◌*◌, ◌-◌, ◌/◌, ◌%◌, ◌<◌, ◌≤◌, ◌⊎◌, inl, inr, true, false, eqb, leb, List, [], ◌∷◌, length, get_or, map, replicate, refl, ap, sym, ◌∙◌, arith}
+use Rattle.std.proofs.Common.{◌≡◌, ◌≢◌, ℕ, zero, suc, ◌+◌, ◌*◌, ◌-◌, ◌/◌, ◌%◌, ◌<◌, ◌≤◌, ◌⊎◌, inl, inr, true, false, eqb, leb, List, [], ◌∷◌, length, get_or, map, replicate, refl, ap, sym, subst, ◌∙◌, arith}
 use Rattle.std.specs.Prelude.{if◌then◌else◌}
 use Rattle.std.proofs.lemmas.Bool.{cases_eq, cases_lt, eq-eqb, ne_eqb, le-leb, lt-leb}
-use Rattle.std.proofs.lemmas.List.{ext_get_or, get_or-replicate, get_or-map, length-map}
+use Rattle.std.proofs.lemmas.List.{get_or-replicate, get_or-map, length-map}
 use Rattle.sdh_basics.proofs.CellsLaws.{get_or-cells}
 use Rattle.sdh_frame.specs.declared.Rate.{Rate}
 use Rattle.sdh_frame.specs.declared.Rate.TheVariants.{Four, Sixteen}
@@ -10,11 +10,11 @@ use Rattle.sdh_interchange.specs.declared.choose.Source.{Source}
 use Rattle.sdh_interchange.specs.declared.choose.Source.TheVariants.{First, Second, Own, Ones}
 use Rattle.sdh_frame.specs.Sizes.{n_of, size_of}
 use Rattle.sdh_frame.specs.Fields.{index_of, payload_place, place_of_pointer}
-use Rattle.sdh_frame.specs.Aus.{payload_of, pointers_of, Au, au_of, with_aus, ones}
+use Rattle.sdh_frame.specs.Aus.{payload_of, pointers_of, Au, au_of, ones}
 use Rattle.sdh_interchange.specs.Choosing.{payload_in, au_from, chosen, IsSource, AreSources, own_byte, picked, picked_at, is_au_byte, IsPlain}
 use Rattle.sdh_frame.proofs.PlaceProofs.{IsIn, IsPointerByte}
 use Rattle.sdh_frame.proofs.AuProofs.{au_byte, payload_byte-here, payload_byte-other, payload_byte-before, pointer_byte-here, pointer_byte-other, pointer_byte-payload, pointer_byte-row}
-use Rattle.sdh_frame.proofs.AllAus.{aus_byte, at_aus, length-with_aus}
+use Rattle.sdh_frame.proofs.AllAus.{aus_byte, at_aus}
 
 -- ---- payloads of a node's own ports
 
@@ -82,6 +82,10 @@ unfolding aus_byte
 aus_byte-overhead n k [] i x h r = refl
 aus_byte-overhead n k (au ∷ aus) i x h r = aus_byte-overhead n (k + 1) aus i (au_byte n k au i x) h r ∙ au_byte-overhead n k au i x h r
 
+pub rate_lane : (rate : Rate) (i : ℕ) → i % n_of rate < n_of rate
+rate_lane Four i = omega arith
+rate_lane Sixteen i = omega arith
+
 -- ---- where a byte of an AU-4 stands in its source
 
 payload_from : (rate : Rate) (i au : ℕ) → 1 ≤ au → i < size_of rate → 9 * n_of rate ≤ i % (270 * n_of rate)
@@ -134,10 +138,6 @@ module _ (rate : Rate) (i x : ℕ) (inside : i < size_of rate) where
 
   lane_in : i % n < n
   lane_in = rate_lane rate i
-    where
-      rate_lane : (rate : Rate) (i : ℕ) → i % n_of rate < n_of rate
-      rate_lane Four i = omega arith
-      rate_lane Sixteen i = omega arith
 
   of_source : (s : Source) (first second : List ℕ) (own : List (List ℕ)) → IsSource n (i % n + 1) s → (9 * n ≤ i % (270 * n)) ⊎ ((i / (270 * n) ≡ 3) × (i % (270 * n) < 9 * n)) → au_byte n (i % n + 1) (au_from n first second own s) i x ≡ picked n s first second own i
   of_source (First au) first second own is part = of_frame first au is.0 part
@@ -146,9 +146,9 @@ module _ (rate : Rate) (i x : ℕ) (inside : i < size_of rate) where
   of_source Ones first second own is part = of_ones part
 
   -- a byte of an AU-4
-  chosen_here : (sources : List Source) (first second : List ℕ) (own : List (List ℕ)) → AreSources n sources → (9 * n ≤ i % (270 * n)) ⊎ ((i / (270 * n) ≡ 3) × (i % (270 * n) < 9 * n))
+  chosen_in : (sources : List Source) (first second : List ℕ) (own : List (List ℕ)) → AreSources n sources → (9 * n ≤ i % (270 * n)) ⊎ ((i / (270 * n) ≡ 3) × (i % (270 * n) < 9 * n))
       → aus_byte n 1 (map (au_from n first second own) sources) i x ≡ picked_at n sources first second own i
-  chosen_here sources first second own are part =
+  chosen_in sources first second own are part =
       let few : i % n < length sources = omega (arith, lane_in, are.many) in
       aus_byte-at n 1 (i % n) (map (au_from n first second own) sources) ones i x (omega arith) (omega (arith, length-map sources (au_from n first second own)))
       ∙ ap (λ m. au_byte n m (get_or (map (au_from n first second own) sources) (i % n) ones) i x) (omega arith)
@@ -161,16 +161,31 @@ module _ (rate : Rate) (i x : ℕ) (inside : i < size_of rate) where
         | inl before ↦ (
             let a : leb (9 * n) (i % (270 * n)) ≡ false = lt-leb _ _ before in
             elim (cases_eq (i / (270 * n)) 3) [
-              | inl row ↦ (let b : eqb (i / (270 * n)) 3 ≡ true = eq-eqb _ _ row in rw (a, b) (chosen_here sources first second own are (inr (row, before))))
+              | inl row ↦ (let b : eqb (i / (270 * n)) 3 ≡ true = eq-eqb _ _ row in rw (a, b) (chosen_in sources first second own are (inr (row, before))))
               | inr row ↦ (let b : eqb (i / (270 * n)) 3 ≡ false = ne_eqb _ _ row in rw (a, b) (aus_byte-overhead n 1 (map (au_from n first second own) sources) i x before row))
             ])
-        | inr behind ↦ (let a : leb (9 * n) (i % (270 * n)) ≡ true = le-leb _ _ behind in rw a (chosen_here sources first second own are (inl behind)))
+        | inr behind ↦ (let a : leb (9 * n) (i % (270 * n)) ≡ true = le-leb _ _ behind in rw a (chosen_in sources first second own are (inl behind)))
       ]
 
-pub chosen_is : (rate : Rate) (sources : List Source) (first second : List ℕ) (own : List (List ℕ)) (old new : List ℕ) → length old ≡ size_of rate → length new ≡ size_of rate → AreSources (n_of rate) sources
-    → ((i : ℕ) → i < size_of rate → get_or new i 0 ≡ (if is_au_byte (n_of rate) i then picked_at (n_of rate) sources first second own i else get_or old i 0)) → new ≡ chosen (n_of rate) sources first second own old
+-- byte by byte
+pub chosen-at : (rate : Rate) (sources : List Source) (first second : List ℕ) (own : List (List ℕ)) (old : List ℕ) (i : ℕ) → length old ≡ size_of rate → i < size_of rate → AreSources (n_of rate) sources
+    → get_or (chosen (n_of rate) sources first second own old) i 0 ≡ (if is_au_byte (n_of rate) i then picked_at (n_of rate) sources first second own i else get_or old i 0)
 unfolding chosen
-chosen_is rate sources first second own old new whole len are h =
-    ext_get_or 0 new (with_aus (n_of rate) 1 (map (au_from (n_of rate) first second own) sources) old) (len ∙ sym (length-with_aus rate 1 (map (au_from (n_of rate) first second own) sources) old whole)) (λ i lt.
-    (let inside : i < size_of rate = omega (arith, len) in
-    h i inside ∙ sym (at_aus rate 1 (map (au_from (n_of rate) first second own) sources) old i whole inside ∙ chosen_byte rate i (get_or old i 0) inside sources first second own are)))
+chosen-at rate sources first second own old i whole inside are =
+    at_aus rate 1 (map (au_from (n_of rate) first second own) sources) old i whole inside ∙ chosen_byte rate i (get_or old i 0) inside sources first second own are
+
+-- a row of it
+abbrev pub PickedAt : Rate → ℕ → List Source → List ℕ → List ℕ → List (List ℕ) → List ℕ → List ℕ → Type 0
+PickedAt rate r sources first second own old new = (i : ℕ) → i < size_of rate → i / (270 * n_of rate) ≡ r → get_or new i 0 ≡ (if is_au_byte (n_of rate) i then picked_at (n_of rate) sources first second own i else get_or old i 0)
+
+abbrev pub HereAt : Rate → ℕ → List Source → List ℕ → List ℕ → List (List ℕ) → List ℕ → List ℕ → Type 0
+HereAt rate r sources first second own old new = (i : ℕ) → i < size_of rate → i / (270 * n_of rate) ≡ r → get_or new i 0 ≡ get_or (chosen (n_of rate) sources first second own old) i 0
+
+pub chosen-here : (rate : Rate) (r : ℕ) (sources : List Source) (first second : List ℕ) (own : List (List ℕ)) (old new : List ℕ) → length old ≡ size_of rate → AreSources (n_of rate) sources → PickedAt rate r sources first second own old new
+    → HereAt rate r sources first second own old new
+chosen-here rate r sources first second own old new whole are picks = λ i inside here. picks i inside here ∙ sym (chosen-at rate sources first second own old i whole inside are)
+
+pub same-here : (rate rate' : Rate) (r : ℕ) (sources : List Source) (first first' second second' : List ℕ) (own : List (List ℕ)) (old old' new : List ℕ) → rate ≡ rate' → first ≡ first' → second ≡ second' → old ≡ old'
+    → HereAt rate r sources first second own old new → HereAt rate' r sources first' second' own old' new
+same-here rate rate' r sources first first' second second' own old old' new a b c d is =
+    subst (λ m. HereAt m r sources first' second' own old' new) a (subst (λ l. HereAt rate r sources l second' own old' new) b (subst (λ l. HereAt rate r sources first l own old' new) c (subst (λ l. HereAt rate r sources first second own l new) d is)))

@@ -6,3 +6,4 @@ pub mod Pointing
 pub mod Pairs
 pub mod Holding
 pub mod Spreading
+pub mod Rows

@@ -1,6 +1,7 @@
 -- A frame that is put together: the payload of each AU-4 is another AU-4's, is a port's, or is ones, and its pointer bytes
 -- are given.
-use Rattle.std.specs.Prelude.{ℕ, nat_lt, if◌then◌else◌, List, [], slice_index_or, replicate}
+use Rattle.std.specs.Prelude.{ℕ, ◌≡◌, ◌*◌, ◌-◌, List, [], length, take, drop, slice_range, slice_index_or, replicate}
+use Rattle.sdh_frame.specs.declared.Rate.{Rate}
 use Rattle.sdh_basics.specs.Indexed.{map_from}
 use Rattle.sdh_interchange.specs.declared.choose.Source.{Source}
 use Rattle.sdh_interchange.specs.declared.choose.Source.TheVariants.{First, Second, Own, Ones}
@@ -18,6 +19,14 @@ payload_from n first second own Ones = replicate 2349 0xFF
 unfoldable pub assembled : ℕ → List ℕ → List ℕ → List (List ℕ) → List Source → List (List ℕ) → List Au
 assembled n first second own sources pointers = map_from (λ k s. record { pointers = slice_index_or pointers k []; payload = payload_from n first second own s }) 0 sources
 
--- these AU-4s, of which the first k have other pointer bytes
-unfoldable pub pointed_to : ℕ → List (List ℕ) → List Au → List Au
-pointed_to k pointers aus = map_from (λ j au. if nat_lt j k then record { pointers = slice_index_or pointers j []; payload = au.payload } else au) 0 aus
+-- where the AU-4s of a frame come from, in the order of their numbers
+pub record Origins : Type 0 where
+  pub rate : Rate
+  pub sources : List Source
+
+-- a frame that got this row, 1 to 9, of another one, and is as it was in all others
+pub record HasRow (n row : ℕ) (other old new : List ℕ) : Type 0 where
+  pub here : slice_range new ((row - 1) * (270 * n)) (row * (270 * n)) ≡ slice_range other ((row - 1) * (270 * n)) (row * (270 * n))
+  pub before : take ((row - 1) * (270 * n)) new ≡ take ((row - 1) * (270 * n)) old
+  pub behind : drop (row * (270 * n)) new ≡ drop (row * (270 * n)) old
+  pub long : length new ≡ length old

@@ -1,11 +1,10 @@
-//! A frame is put together from the AU-4s of two others and from payloads of its own.
-ghost use Rattle.std.specs.Prelude.{◌≡◌, ℕ, List, ◌+◌, ◌*◌, ◌-◌, ◌≤◌, length};
+//! A frame is put together, row by row, from the AU-4s of two others and from payloads of its own.
+ghost use Rattle.std.specs.Prelude.{◌≡◌, ℕ, ◌+◌, ◌%◌, ◌<◌, ◌≤◌, [], length, slice_index, slice_index_or};
 ghost use Rattle.sdh_frame.specs.Sizes.{n_of, size_of};
-ghost use Rattle.sdh_frame.specs.Aus.{Au, with_aus};
-ghost use Rattle.sdh_interchange.specs.Choosing.{AreSources};
-ghost use Rattle.sdh_interchange.specs.Assembled.{assembled, pointed_to};
+ghost use Rattle.sdh_frame.specs.Aus.{with_aus, pointer_byte};
+ghost use Rattle.sdh_interchange.specs.Assembled.{assembled, HasRow};
 
-use crate::choose::{Source, choose_aus};
+use crate::choice::Choice;
 use crate::own::Payloads;
 use sdh_frame::FrameBuf;
 
@@ -13,31 +12,40 @@ use sdh_frame::FrameBuf;
 fn point_all(frame: &mut FrameBuf, pointers: &[[u8; 9]])
     requires len { length pointers.now ≡ n_of frame.old.rate }
     requires few { n_of frame.old.rate ≤ 16 }
+    requires long { length frame.old.bytes ≡ size_of frame.old.rate }
     ensures rate { frame.new.rate ≡ frame.old.rate }
-    ensures pointed { (aus : List Au) (bytes : List ℕ) → length bytes ≡ size_of frame.old.rate → length aus ≡ n_of frame.old.rate → frame.old.bytes ≡ with_aus (n_of frame.old.rate) 1 aus bytes → frame.new.bytes ≡ with_aus (n_of frame.old.rate) 1 (pointed_to (n_of frame.old.rate) pointers.now aus) bytes }
+    ensures long { length frame.new.bytes ≡ size_of frame.old.rate }
+    ensures pointed { let n = n_of frame.old.rate in (i : ℕ) → i < size_of frame.old.rate → slice_index frame.new.bytes i ≡ pointer_byte n (i % n + 1) (slice_index_or pointers.now (i % n) []) i (slice_index frame.old.bytes i) }
 {
     for k in 0..pointers.len() {
         frame.put_pointers(k as u16 + 1, &pointers[k]);
     }
 }
 
-/// All AU-4s get the payloads of these sources and these pointer bytes; all overhead stays.
-pub fn assemble(
+/// A row, 1 to 9, of all AU-4s gets the payloads of its sources, and row 4 these pointer bytes; overhead and all other rows stay.
+pub fn assemble_row(
     frame: &mut FrameBuf,
-    sources: &[Source],
+    row: u16,
+    choice: &Choice,
     pointers: &[[u8; 9]],
     first: &FrameBuf,
     second: &FrameBuf,
     own: &Payloads,
 )
-    requires sources { AreSources (n_of frame.old.rate) sources.now }
+    requires first_row { 1 ≤ row }
+    requires last_row { row ≤ 9 }
+    requires choice { choice.now.rate ≡ frame.old.rate }
     requires pointers { length pointers.now ≡ n_of frame.old.rate }
     requires first { first.now.rate ≡ frame.old.rate }
     requires second { second.now.rate ≡ frame.old.rate }
-    ensures { frame.new ≡ record frame.old { bytes = with_aus (n_of frame.old.rate) 1 (assembled (n_of frame.old.rate) first.now.bytes second.now.bytes own.now sources.now pointers.now) frame.old.bytes } }
+    ensures rate { frame.new.rate ≡ frame.old.rate }
+    ensures row { let n = n_of frame.old.rate in HasRow n row (with_aus n 1 (assembled n first.now.bytes second.now.bytes own.now choice.now.sources pointers.now) frame.old.bytes) frame.old.bytes frame.new.bytes }
 {
     // Reading it gives the proof what is true of every frame.
     let _ = frame.rate();
-    choose_aus(frame, sources, first, second, own);
-    point_all(frame, pointers);
+    let r = row as usize - 1;
+    choice.choose_row(frame.bytes_mut(), r, first.bytes(), second.bytes(), own);
+    if row == 4 {
+        point_all(frame, pointers);
+    }
 }

@@ -1,16 +1,15 @@
 //! All AU-4s of a frame in one pass: each comes from one of two other frames or from an own payload, or is ones. The bytes of the
 //! N AU-4s take turns, so sixteen neighbouring bytes are one column of all AU-4s (STM-16) or four (STM-4), and a lane of such
 //! a vector reads the same lane, or another one, of the vector at the same place in its source.
-ghost use Rattle.std.specs.Prelude.{◌≡◌, ℕ, ◌+◌, ◌*◌, ◌-◌, ◌/◌, ◌%◌, ◌<◌, ◌≤◌, ◌⊎◌, true, false, length, slice_index, slice_index_or, if◌then◌else◌};
+ghost use Rattle.std.specs.Prelude.{◌≡◌, ◌≢◌, ℕ, ◌+◌, ◌*◌, ◌-◌, ◌/◌, ◌%◌, ◌<◌, ◌≤◌, ◌⊎◌, true, false, length, slice_index, slice_index_or, if◌then◌else◌};
 ghost use Rattle.std.specs.List.{list_any};
 ghost use Rattle.sdh_interchange.specs.declared.choose.Source.TheVariants.{Ones};
 ghost use Rattle.sdh_frame.specs.Sizes.{n_of, size_of};
-ghost use Rattle.sdh_interchange.specs.Choosing.{chosen, IsSource, AreSources, IsLane, is_passed, is_own, own_byte, picked_at, is_au_byte, AreLanes, AreExtra, IsPlain};
+ghost use Rattle.sdh_interchange.specs.Choosing.{IsSource, AreSources, IsLane, is_passed, is_own, own_byte, picked_at, is_au_byte, AreLanes, AreExtra, IsPlain};
 ghost use Rattle.sdh_interchange.specs.Tables.{cell, IsTable};
 
 use crate::own::Payloads;
 use crate::table::{apart, spread, transpose, transpose4, transpose8};
-use sdh_frame::{FrameBuf, Rate};
 use std::simd::prelude::*;
 
 /// Where an AU-4 comes from.
@@ -46,13 +45,13 @@ impl Source {
     }
 }
 
-fn any_passed(sources: &[Source]) -> bool
+pub(crate) fn any_passed(sources: &[Source]) -> bool
     ensures { result ≡ list_any is_passed sources.now }
 {
     sources.iter().any(|source| source.is_passed())
 }
 
-fn any_own(sources: &[Source]) -> bool
+pub(crate) fn any_own(sources: &[Source]) -> bool
     ensures { result ≡ list_any is_own sources.now }
 {
     sources.iter().any(|source| source.is_own())
@@ -61,7 +60,7 @@ fn any_own(sources: &[Source]) -> bool
 // Which lane each lane reads in either frame, 128 for none, which bits of its own lane of the payloads it keeps, and what it adds.
 // None keeps any of the payloads behind the first `upto`.
 #[derive(Drop)]
-struct Lanes {
+pub(crate) struct Lanes {
     first: [u8; 16],
     second: [u8; 16],
     own: [u8; 16],
@@ -104,7 +103,7 @@ fn upto_of(n: usize, own: &[u8; 16]) -> usize
 
 // All lanes. In the callers' code N is a constant.
 #[inline(always)]
-fn lanes_of(n: usize, sources: &[Source]) -> Lanes
+pub(crate) fn lanes_of(n: usize, sources: &[Source]) -> Lanes
     requires rate { (n ≡ 4) ⊎ (n ≡ 16) }
     requires sources { AreSources n sources.now }
     ensures { AreLanes n sources.now result.first result.second result.own result.more result.upto }
@@ -694,20 +693,33 @@ fn any_row16(
     }
 }
 
-fn choose4(bytes: &mut [u8], first: &[u8], second: &[u8], own: &Payloads, sources: &[Source])
+// Row r of all AU-4s, with the pointers in row 3.
+pub(crate) fn choose_row4(
+    bytes: &mut [u8],
+    r: usize,
+    first: &[u8],
+    second: &[u8],
+    own: &Payloads,
+    sources: &[Source],
+    lanes: &Lanes,
+    passed: bool,
+    owned: bool,
+)
+    requires row { r < 9 }
     requires size { length bytes.old ≡ 9720 }
     requires first { length first.now ≡ 9720 }
     requires second { length second.now ≡ 9720 }
     requires sources { AreSources 4 sources.now }
-    ensures { (i : ℕ) → i < 9720 → slice_index bytes.new i ≡ (if is_au_byte 4 i then picked_at 4 sources.now first.now second.now own.now i else slice_index bytes.old i) }
+    requires passed { passed ≡ list_any is_passed sources.now }
+    requires owned { owned ≡ list_any is_own sources.now }
+    requires lanes { AreLanes 4 sources.now lanes.now.first lanes.now.second lanes.now.own lanes.now.more lanes.now.upto }
+    ensures here { (i : ℕ) → i < 9720 → i / 1080 ≡ r → slice_index bytes.new i ≡ (if is_au_byte 4 i then picked_at 4 sources.now first.now second.now own.now i else slice_index bytes.old i) }
+    ensures others { (i : ℕ) → i / 1080 ≢ r → slice_index bytes.new i ≡ slice_index bytes.old i }
 {
-    let lanes = lanes_of(4, sources);
-    let passed = any_passed(sources);
-    let owned = any_own(sources);
-    for r in 0..9 {
-        any_row4(bytes, r, first, second, own, sources, &lanes, passed, owned);
+    any_row4(bytes, r, first, second, own, sources, lanes, passed, owned);
+    if r == 3 {
+        pass(bytes, 3240, 3276, first, second, own, 4, sources, lanes);
     }
-    pass(bytes, 3240, 3276, first, second, own, 4, sources, &lanes);
 }
 
 // The payload of row r.
@@ -735,62 +747,31 @@ fn row16(
     block16(bytes, r, 245, first, second, own, sources, lanes);
 }
 
-fn choose16(bytes: &mut [u8], first: &[u8], second: &[u8], own: &Payloads, sources: &[Source])
-    requires size { length bytes.old ≡ 38880 }
-    requires first { length first.now ≡ 38880 }
-    requires second { length second.now ≡ 38880 }
-    requires sources { AreSources 16 sources.now }
-    ensures { (i : ℕ) → i < 38880 → slice_index bytes.new i ≡ (if is_au_byte 16 i then picked_at 16 sources.now first.now second.now own.now i else slice_index bytes.old i) }
-{
-    let lanes = lanes_of(16, sources);
-    let passed = any_passed(sources);
-    let owned = any_own(sources);
-    for r in 0..9 {
-        any_row16(bytes, r, first, second, own, sources, &lanes, passed, owned);
-    }
-    pass(bytes, 12960, 13104, first, second, own, 16, sources, &lanes);
-}
-
-fn choose(
-    rate: Rate,
+// Row r of all AU-4s, with the pointers in row 3.
+pub(crate) fn choose_row16(
     bytes: &mut [u8],
+    r: usize,
     first: &[u8],
     second: &[u8],
     own: &Payloads,
     sources: &[Source],
+    lanes: &Lanes,
+    passed: bool,
+    owned: bool,
 )
-    requires size { length bytes.old ≡ size_of rate }
-    requires first { length first.now ≡ size_of rate }
-    requires second { length second.now ≡ size_of rate }
-    requires sources { AreSources (n_of rate) sources.now }
-    ensures { bytes.new ≡ chosen (n_of rate) sources.now first.now second.now own.now bytes.old }
+    requires row { r < 9 }
+    requires size { length bytes.old ≡ 38880 }
+    requires first { length first.now ≡ 38880 }
+    requires second { length second.now ≡ 38880 }
+    requires sources { AreSources 16 sources.now }
+    requires passed { passed ≡ list_any is_passed sources.now }
+    requires owned { owned ≡ list_any is_own sources.now }
+    requires lanes { AreLanes 16 sources.now lanes.now.first lanes.now.second lanes.now.own lanes.now.more lanes.now.upto }
+    ensures here { (i : ℕ) → i < 38880 → i / 4320 ≡ r → slice_index bytes.new i ≡ (if is_au_byte 16 i then picked_at 16 sources.now first.now second.now own.now i else slice_index bytes.old i) }
+    ensures others { (i : ℕ) → i / 4320 ≢ r → slice_index bytes.new i ≡ slice_index bytes.old i }
 {
-    match rate {
-        Rate::Four => choose4(bytes, first, second, own, sources),
-        Rate::Sixteen => choose16(bytes, first, second, own, sources),
+    any_row16(bytes, r, first, second, own, sources, lanes, passed, owned);
+    if r == 3 {
+        pass(bytes, 12960, 13104, first, second, own, 16, sources, lanes);
     }
-}
-
-/// All AU-4s of a frame become those of their sources, in the order of their numbers; all overhead stays.
-pub(crate) fn choose_aus(
-    frame: &mut FrameBuf,
-    sources: &[Source],
-    first: &FrameBuf,
-    second: &FrameBuf,
-    own: &Payloads,
-)
-    requires sources { AreSources (n_of frame.old.rate) sources.now }
-    requires first { first.now.rate ≡ frame.old.rate }
-    requires second { second.now.rate ≡ frame.old.rate }
-    ensures { frame.new ≡ record frame.old { bytes = chosen (n_of frame.old.rate) sources.now first.now.bytes second.now.bytes own.now frame.old.bytes } }
-{
-    let rate = frame.rate();
-    choose(
-        rate,
-        frame.bytes_mut(),
-        first.bytes(),
-        second.bytes(),
-        own,
-        sources,
-    );
 }

@@ -2,13 +2,15 @@
 #![tactic(auto)]
 
 mod assembling;
+mod choice;
 mod choose;
 mod own;
 mod payloads;
 mod table;
 mod taken;
 
-pub use assembling::assemble;
+pub use assembling::assemble_row;
+pub use choice::Choice;
 pub use choose::Source;
 pub use own::Payloads;
 pub use taken::Taken;
