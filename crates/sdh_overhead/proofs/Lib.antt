@@ -6,3 +6,4 @@ pub mod Passing
 pub mod Reading
 pub mod Nine
 pub mod Opening
+pub mod Built

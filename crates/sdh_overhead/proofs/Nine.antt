@@ -46,7 +46,7 @@ line-more n last k1 k2 xs ys =
 pub put-length : (a k : ℕ) (s part : List ℕ) → a + k ≤ length s → length part ≡ k → length (put_mid a k s part) ≡ length s
 put-length a k s part room len = grind (arith, common_steps)
 
-drop-more : (a w : ℕ) (xs ys : List ℕ) → drop a xs ≡ drop a ys → drop (a + w) xs ≡ drop (a + w) ys
+pub drop-more : (a w : ℕ) (xs ys : List ℕ) → drop a xs ≡ drop a ys → drop (a + w) xs ≡ drop (a + w) ys
 drop-more a w xs ys e = sym (drop-drop w a xs) ∙ ap (drop w) e ∙ drop-drop w a ys
 
 pub next-at : (row m w : ℕ) → 1 ≤ row → (row + m - 1) * w ≡ (row - 1) * w + m * w
@@ -96,6 +96,15 @@ none-sent first k1 k2 old fresh long =
       long = long;
     }
 
+-- between its rows a section keeps the parities that it held before the frame
+pub sent-last : (first section : SectionKept) (k1 k2 row : ℕ) (old now : List ℕ) → length old ≡ size_of first.rate → 1 ≤ row → row < 10 → SentTo first k1 k2 old row section now → section.last ≡ first.last
+sent-last first section k1 k2 row old now size some few so =
+    let n = n_of first.rate in
+    let a : ℕ = (row - 1) * (270 * n) in
+    let within : a + 1 * (270 * n) ≤ size_of first.rate = row-within first row 1 some (omega arith) in
+    let whole : length (line_frame n first.last k1 k2 (take a old)) ≡ a = length-scrambled (9 * n) (clear_frame n first.last k1 k2 (take a old)) ∙ length-clear n first.last k1 k2 (take a old) ∙ length-take-le a old (omega (arith, within)) in
+    (so.sent.under_way (omega (arith, whole, within, rate_some first.rate))).0
+
 module _ (first section after : SectionKept) (k1 k2 row m a k : ℕ) (old now part : List ℕ) (size : length old ≡ size_of first.rate) (some : 1 ≤ row) (more : 1 ≤ m) (few : row + m ≤ 10)
     (at : a ≡ (row - 1) * (270 * n_of first.rate)) (many : k ≡ m * (270 * n_of first.rate)) (so : SentTo first k1 k2 old row section now) (len : length part ≡ k)
     (bytes : part ≡ line_row (n_of section.rate) section.last k1 k2 ((row - 1) * (270 * n_of section.rate)) (take k (drop a now)))
@@ -104,17 +113,11 @@ module _ (first section after : SectionKept) (k1 k2 row m a k : ℕ) (old now pa
   within : (row - 1) * (270 * n_of first.rate) + m * (270 * n_of first.rate) ≤ size_of first.rate
   within = row-within first row m some few
 
-  least : 270 * n_of first.rate ≤ m * (270 * n_of first.rate)
-  least = one-within (n_of first.rate) m more
-
   front : length (take ((row - 1) * (270 * n_of first.rate)) old) ≡ (row - 1) * (270 * n_of first.rate)
   front = length-take-le ((row - 1) * (270 * n_of first.rate)) old (omega (arith, within))
 
   last : section.last ≡ first.last
-  last =
-      let n = n_of first.rate in
-      let whole : length (line_frame n first.last k1 k2 (take ((row - 1) * (270 * n)) old)) ≡ (row - 1) * (270 * n) = length-scrambled (9 * n) (clear_frame n first.last k1 k2 (take ((row - 1) * (270 * n)) old)) ∙ length-clear n first.last k1 k2 (take ((row - 1) * (270 * n)) old) ∙ front in
-      (so.sent.under_way (omega (arith, whole, within, least, rate_some first.rate))).0
+  last = sent-last first section k1 k2 row old now size some (omega arith) so
 
   -- the rows as they were, and the rows up to their end
   row-was : take k (drop a now) ≡ take (m * (270 * n_of first.rate)) (drop ((row - 1) * (270 * n_of first.rate)) old)
@@ -165,21 +168,6 @@ module _ (first section after : SectionKept) (k1 k2 row m a k : ℕ) (old now pa
             ∙ drop-more ((row - 1) * (270 * n)) (m * (270 * n)) now old so.rest ∙ ap (λ x. drop x old) (sym (next-at row m (270 * n) some));
         long = put-length a k now part room len ∙ so.long;
       }
-
--- rows 4 to 9 behind the first three
-module _ (first section after : SectionKept) (k1 k2 w : ℕ) (old now part : List ℕ) (size : length old ≡ size_of first.rate) (n : w ≡ n_of first.rate) (so : SentTo first k1 k2 old 4 section now)
-    (len : length part ≡ length (take (9 * (270 * w) - 3 * (270 * w)) (drop (3 * (270 * w)) now)))
-    (bytes : part ≡ line_row (n_of section.rate) section.last k1 k2 (3 * (270 * n_of section.rate)) (take (9 * (270 * w) - 3 * (270 * w)) (drop (3 * (270 * w)) now)))
-    (goes : (f : SectionKept) (clear line : List ℕ) → HasSent f clear line section → HasSent f (clear ++ clear_row (n_of section.rate) section.last k1 k2 (3 * (270 * n_of section.rate)) (take (9 * (270 * w) - 3 * (270 * w)) (drop (3 * (270 * w)) now))) (line ++ part) after)
-    (rate : after.rate ≡ section.rate) where
-  pub sent-last : SentTo first k1 k2 old 10 after (put_mid (3 * (270 * w)) (9 * (270 * w) - 3 * (270 * w)) now part)
-  sent-last =
-      let a : ℕ = 3 * (270 * w) in
-      let k : ℕ = 9 * (270 * w) - 3 * (270 * w) in
-      let at : a ≡ (4 - 1) * (270 * n_of first.rate) = ap (λ x. 3 * (270 * x)) n in
-      let many : k ≡ 6 * (270 * n_of first.rate) = omega arith in
-      let room : a + k ≤ length now = omega (arith, at, many, so.long) in
-      sent-next first section after k1 k2 4 6 a k old now part size (omega arith) (omega arith) (omega arith) at many so (len ∙ length-part a k now room) bytes goes rate (λ h. absurd (omega arith))
 
 -- all rows were written
 module _ (first section : SectionKept) (k1 k2 : ℕ) (old now : List ℕ) (size : length old ≡ size_of first.rate) (so : SentTo first k1 k2 old 10 section now) where
