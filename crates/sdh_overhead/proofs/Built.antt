@@ -8,7 +8,7 @@ use Rattle.sdh_frame.specs.Sizes.{n_of, size_of}
 use Rattle.sdh_frame.specs.Lending.{with_row}
 use Rattle.sdh_overhead.specs.Sections.{SectionKept, holding, parities_of, clear_frame, line_frame, next_of}
 use Rattle.sdh_overhead.specs.Rows.{clear_row, line_row, HasSent}
-use Rattle.sdh_overhead.proofs.Nine.{SentTo, none-sent, sent-next, sent-last, all-sent, all-kept, next-at, row-within, drop-more}
+use Rattle.sdh_overhead.proofs.Nine.{SentTo, none-sent, sent-next, sent-last, all-sent, all-kept, next-row, row-within, drop-more}
 
 -- a frame that is put together from the rows of this target, and whose rows below this one were written; the later ones are those
 -- of the start
@@ -62,9 +62,7 @@ module _ (first section after : SectionKept) (k1 k2 row : ℕ) (target start now
     (is : new ≡ (with_row (record { rate = first.rate; bytes = mid }) row part).bytes) where
   -- where the row ends
   end-at : (row + 1 - 1) * (270 * n_of first.rate) ≡ (row - 1) * (270 * n_of first.rate) + 270 * n_of first.rate
-  end-at =
-      let one : 1 * (270 * n_of first.rate) ≡ 270 * n_of first.rate = omega arith in
-      next-at row 1 (270 * n_of first.rate) some ∙ ap (λ x. (row - 1) * (270 * n_of first.rate) + x) one
+  end-at = next-row row (270 * n_of first.rate) some
 
   end-of : row * (270 * n_of first.rate) ≡ (row - 1) * (270 * n_of first.rate) + 270 * n_of first.rate
   end-of =
@@ -72,7 +70,7 @@ module _ (first section after : SectionKept) (k1 k2 row : ℕ) (target start now
       ap (λ x. x * (270 * n_of first.rate)) back ∙ end-at
 
   room : (row - 1) * (270 * n_of first.rate) + 270 * n_of first.rate ≤ size_of first.rate
-  room = omega (arith, row-within first row 1 some (omega arith))
+  room = row-within first row few
 
   front : length (take ((row - 1) * (270 * n_of first.rate)) now) ≡ (row - 1) * (270 * n_of first.rate)
   front = length-take-le ((row - 1) * (270 * n_of first.rate)) now (omega (arith, room, so.long))
@@ -118,13 +116,12 @@ module _ (first section after : SectionKept) (k1 k2 row : ℕ) (target start now
   built-next =
       let w : ℕ = 270 * n_of first.rate in
       let a : ℕ = (row - 1) * w in
-      let mixed = take a now ++ drop a target in
-      let one : w ≡ 1 * w = omega arith in record {
+      let mixed = take a now ++ drop a target in record {
         sent = subst (SentTo first k1 k2 target (row + 1) after) whole
-            (sent-next first section after k1 k2 row 1 a w target mixed part size some (omega arith) (omega arith) refl one so.sent len
+            (sent-next first section after k1 k2 row a w target mixed part size some few refl refl so.sent len
             (bytes ∙ ap (line_row (n_of section.rate) section.last k1 k2 ((row - 1) * (270 * n_of section.rate))) row-is)
             (λ f clear line h. subst (λ l. HasSent f (clear ++ clear_row (n_of section.rate) section.last k1 k2 ((row - 1) * (270 * n_of section.rate)) l) (line ++ part) after) row-is (goes f clear line h))
-            rate (λ h. next (omega arith)));
+            rate next);
         rest = new-rest;
         long = ap length new-is ∙ middle-long a w mid part (omega (arith, room)) len ∙ long;
       }

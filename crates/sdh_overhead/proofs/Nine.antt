@@ -9,7 +9,6 @@ use Rattle.std.proofs.lemmas.Slice.{take-put_mid, drop-put_mid}
 use Rattle.std.proofs.lemmas.Grind.{common_steps}
 use borrow.Rule.Slice.PartMut.{put_mid}
 use Rattle.sdh_basics.specs.Indexed.{map_from}
-use Rattle.sdh_basics.proofs.Parts.{length-part}
 use Rattle.sdh_basics.proofs.Indexing.{map_from-append}
 use Rattle.sdh_basics.proofs.CellsLaws.{length-map_from}
 use Rattle.sdh_frame.specs.declared.Rate.{Rate}
@@ -20,7 +19,7 @@ use Rattle.sdh_overhead.specs.Overhead.{byte_at, with_overhead}
 use Rattle.sdh_overhead.specs.Sections.{Parities, SectionKept, holding, parities_of, added_after, clear_frame, line_frame, is_framed, opened, next_of}
 use Rattle.sdh_overhead.specs.Rows.{clear_row, line_row, ArePassed, HasSent, AreRead, opened_row}
 use Rattle.sdh_parity.proofs.Scrambled.{length-scrambled}
-use Rattle.sdh_overhead.proofs.Passing.{rate_some, row-ends, one-within}
+use Rattle.sdh_overhead.proofs.Passing.{rate_some}
 use Rattle.sdh_overhead.proofs.Reading.{framed-front}
 
 clear-more : (n : ℕ) (last : Option Parities) (k1 k2 : ℕ) (xs ys : List ℕ) → clear_frame n last k1 k2 (xs ++ ys) ≡ clear_frame n last k1 k2 xs ++ clear_row n last k1 k2 (length xs) ys
@@ -49,14 +48,14 @@ put-length a k s part room len = grind (arith, common_steps)
 pub drop-more : (a w : ℕ) (xs ys : List ℕ) → drop a xs ≡ drop a ys → drop (a + w) xs ≡ drop (a + w) ys
 drop-more a w xs ys e = sym (drop-drop w a xs) ∙ ap (drop w) e ∙ drop-drop w a ys
 
-pub next-at : (row m w : ℕ) → 1 ≤ row → (row + m - 1) * w ≡ (row - 1) * w + m * w
-next-at row m w some = sym (row-ends row m w some)
+pub next-row : (row w : ℕ) → 1 ≤ row → (row + 1 - 1) * w ≡ (row - 1) * w + w
+next-row row w some = ap (λ k. k * w) (omega arith) ∙ add-mul (row - 1) 1 w ∙ ap (λ k. (row - 1) * w + k) (omega arith)
 
-pub row-within : (first : SectionKept) (row m : ℕ) → 1 ≤ row → row + m ≤ 10 → (row - 1) * (270 * n_of first.rate) + m * (270 * n_of first.rate) ≤ size_of first.rate
-row-within first row m some few =
-    let n = n_of first.rate in
-    let most : (row + m - 1) * (270 * n) ≤ 9 * (270 * n) = mul-le (row + m - 1) (270 * n) 9 (270 * n) (omega arith) (omega arith) in
-    omega (arith, next-at row m (270 * n) some)
+up-to : (row w : ℕ) → row < 10 → (row - 1) * w ≤ 8 * w
+up-to row w h = mul-le (row - 1) w 8 w (omega arith) (omega arith)
+
+pub row-within : (first : SectionKept) (row : ℕ) → row < 10 → (row - 1) * (270 * n_of first.rate) + 270 * n_of first.rate ≤ size_of first.rate
+row-within first row few = let h = up-to row (270 * n_of first.rate) few in omega arith
 
 -- a frame whose rows below this one were written
 pub record SentTo (first : SectionKept) (k1 k2 : ℕ) (old : List ℕ) (row : ℕ) (section : SectionKept) (now : List ℕ) : Type 0 where
@@ -101,40 +100,40 @@ pub sent-last : (first section : SectionKept) (k1 k2 row : ℕ) (old now : List 
 sent-last first section k1 k2 row old now size some few so =
     let n = n_of first.rate in
     let a : ℕ = (row - 1) * (270 * n) in
-    let within : a + 1 * (270 * n) ≤ size_of first.rate = row-within first row 1 some (omega arith) in
+    let within : a + 270 * n ≤ size_of first.rate = row-within first row few in
     let whole : length (line_frame n first.last k1 k2 (take a old)) ≡ a = length-scrambled (9 * n) (clear_frame n first.last k1 k2 (take a old)) ∙ length-clear n first.last k1 k2 (take a old) ∙ length-take-le a old (omega (arith, within)) in
     (so.sent.under_way (omega (arith, whole, within, rate_some first.rate))).0
 
-module _ (first section after : SectionKept) (k1 k2 row m a k : ℕ) (old now part : List ℕ) (size : length old ≡ size_of first.rate) (some : 1 ≤ row) (more : 1 ≤ m) (few : row + m ≤ 10)
-    (at : a ≡ (row - 1) * (270 * n_of first.rate)) (many : k ≡ m * (270 * n_of first.rate)) (so : SentTo first k1 k2 old row section now) (len : length part ≡ k)
+module _ (first section after : SectionKept) (k1 k2 row a k : ℕ) (old now part : List ℕ) (size : length old ≡ size_of first.rate) (some : 1 ≤ row) (few : row < 10)
+    (at : a ≡ (row - 1) * (270 * n_of first.rate)) (many : k ≡ 270 * n_of first.rate) (so : SentTo first k1 k2 old row section now) (len : length part ≡ k)
     (bytes : part ≡ line_row (n_of section.rate) section.last k1 k2 ((row - 1) * (270 * n_of section.rate)) (take k (drop a now)))
     (goes : (f : SectionKept) (clear line : List ℕ) → HasSent f clear line section → HasSent f (clear ++ clear_row (n_of section.rate) section.last k1 k2 ((row - 1) * (270 * n_of section.rate)) (take k (drop a now))) (line ++ part) after)
-    (rate : after.rate ≡ section.rate) (next : row + m < 10 → next_of after.under_way ≡ row + m) where
-  within : (row - 1) * (270 * n_of first.rate) + m * (270 * n_of first.rate) ≤ size_of first.rate
-  within = row-within first row m some few
+    (rate : after.rate ≡ section.rate) (next : row < 9 → next_of after.under_way ≡ row + 1) where
+  within : (row - 1) * (270 * n_of first.rate) + 270 * n_of first.rate ≤ size_of first.rate
+  within = row-within first row few
 
   front : length (take ((row - 1) * (270 * n_of first.rate)) old) ≡ (row - 1) * (270 * n_of first.rate)
   front = length-take-le ((row - 1) * (270 * n_of first.rate)) old (omega (arith, within))
 
   last : section.last ≡ first.last
-  last = sent-last first section k1 k2 row old now size some (omega arith) so
+  last = sent-last first section k1 k2 row old now size some few so
 
-  -- the rows as they were, and the rows up to their end
-  row-was : take k (drop a now) ≡ take (m * (270 * n_of first.rate)) (drop ((row - 1) * (270 * n_of first.rate)) old)
-  row-was = ap (λ x. take x (drop a now)) many ∙ ap (λ x. take (m * (270 * n_of first.rate)) (drop x now)) at ∙ ap (take (m * (270 * n_of first.rate))) so.rest
+  -- the row as it was, and the rows up to its end
+  row-was : take k (drop a now) ≡ take (270 * n_of first.rate) (drop ((row - 1) * (270 * n_of first.rate)) old)
+  row-was = ap (λ m. take m (drop a now)) many ∙ ap (λ m. take (270 * n_of first.rate) (drop m now)) at ∙ ap (take (270 * n_of first.rate)) so.rest
 
-  up : take ((row + m - 1) * (270 * n_of first.rate)) old ≡ take ((row - 1) * (270 * n_of first.rate)) old ++ take (m * (270 * n_of first.rate)) (drop ((row - 1) * (270 * n_of first.rate)) old)
-  up = ap (λ x. take x old) (next-at row m (270 * n_of first.rate) some) ∙ take-add ((row - 1) * (270 * n_of first.rate)) (m * (270 * n_of first.rate)) old
+  up : take ((row + 1 - 1) * (270 * n_of first.rate)) old ≡ take ((row - 1) * (270 * n_of first.rate)) old ++ take (270 * n_of first.rate) (drop ((row - 1) * (270 * n_of first.rate)) old)
+  up = ap (λ m. take m old) (next-row row (270 * n_of first.rate) some) ∙ take-add ((row - 1) * (270 * n_of first.rate)) (270 * n_of first.rate) old
 
   clear-is : clear_row (n_of section.rate) section.last k1 k2 ((row - 1) * (270 * n_of section.rate)) (take k (drop a now))
-      ≡ clear_row (n_of first.rate) first.last k1 k2 (length (take ((row - 1) * (270 * n_of first.rate)) old)) (take (m * (270 * n_of first.rate)) (drop ((row - 1) * (270 * n_of first.rate)) old))
+      ≡ clear_row (n_of first.rate) first.last k1 k2 (length (take ((row - 1) * (270 * n_of first.rate)) old)) (take (270 * n_of first.rate) (drop ((row - 1) * (270 * n_of first.rate)) old))
   clear-is =
       ap (λ (r : Rate). clear_row (n_of r) section.last k1 k2 ((row - 1) * (270 * n_of r)) (take k (drop a now))) so.rate
       ∙ ap (λ (l : Option Parities). clear_row (n_of first.rate) l k1 k2 ((row - 1) * (270 * n_of first.rate)) (take k (drop a now))) last
       ∙ ap (λ i. clear_row (n_of first.rate) first.last k1 k2 i (take k (drop a now))) (sym front)
       ∙ ap (clear_row (n_of first.rate) first.last k1 k2 (length (take ((row - 1) * (270 * n_of first.rate)) old))) row-was
 
-  line-is : part ≡ line_row (n_of first.rate) first.last k1 k2 (length (take ((row - 1) * (270 * n_of first.rate)) old)) (take (m * (270 * n_of first.rate)) (drop ((row - 1) * (270 * n_of first.rate)) old))
+  line-is : part ≡ line_row (n_of first.rate) first.last k1 k2 (length (take ((row - 1) * (270 * n_of first.rate)) old)) (take (270 * n_of first.rate) (drop ((row - 1) * (270 * n_of first.rate)) old))
   line-is =
       bytes
       ∙ ap (λ (r : Rate). scrambled_from (9 * n_of r) ((row - 1) * (270 * n_of r)) (clear_row (n_of section.rate) section.last k1 k2 ((row - 1) * (270 * n_of section.rate)) (take k (drop a now)))) so.rate
@@ -142,30 +141,30 @@ module _ (first section after : SectionKept) (k1 k2 row m a k : ℕ) (old now pa
       ∙ ap (scrambled_from (9 * n_of first.rate) (length (take ((row - 1) * (270 * n_of first.rate)) old))) clear-is
 
   clear-up : clear_frame (n_of first.rate) first.last k1 k2 (take ((row - 1) * (270 * n_of first.rate)) old) ++ clear_row (n_of section.rate) section.last k1 k2 ((row - 1) * (270 * n_of section.rate)) (take k (drop a now))
-      ≡ clear_frame (n_of first.rate) first.last k1 k2 (take ((row + m - 1) * (270 * n_of first.rate)) old)
+      ≡ clear_frame (n_of first.rate) first.last k1 k2 (take ((row + 1 - 1) * (270 * n_of first.rate)) old)
   clear-up =
       ap (λ l. clear_frame (n_of first.rate) first.last k1 k2 (take ((row - 1) * (270 * n_of first.rate)) old) ++ l) clear-is
-      ∙ sym (clear-more (n_of first.rate) first.last k1 k2 (take ((row - 1) * (270 * n_of first.rate)) old) (take (m * (270 * n_of first.rate)) (drop ((row - 1) * (270 * n_of first.rate)) old)))
+      ∙ sym (clear-more (n_of first.rate) first.last k1 k2 (take ((row - 1) * (270 * n_of first.rate)) old) (take (270 * n_of first.rate) (drop ((row - 1) * (270 * n_of first.rate)) old)))
       ∙ ap (clear_frame (n_of first.rate) first.last k1 k2) (sym up)
 
-  line-up : line_frame (n_of first.rate) first.last k1 k2 (take ((row - 1) * (270 * n_of first.rate)) old) ++ part ≡ line_frame (n_of first.rate) first.last k1 k2 (take ((row + m - 1) * (270 * n_of first.rate)) old)
+  line-up : line_frame (n_of first.rate) first.last k1 k2 (take ((row - 1) * (270 * n_of first.rate)) old) ++ part ≡ line_frame (n_of first.rate) first.last k1 k2 (take ((row + 1 - 1) * (270 * n_of first.rate)) old)
   line-up =
       ap (λ l. line_frame (n_of first.rate) first.last k1 k2 (take ((row - 1) * (270 * n_of first.rate)) old) ++ l) line-is
-      ∙ sym (line-more (n_of first.rate) first.last k1 k2 (take ((row - 1) * (270 * n_of first.rate)) old) (take (m * (270 * n_of first.rate)) (drop ((row - 1) * (270 * n_of first.rate)) old)))
+      ∙ sym (line-more (n_of first.rate) first.last k1 k2 (take ((row - 1) * (270 * n_of first.rate)) old) (take (270 * n_of first.rate) (drop ((row - 1) * (270 * n_of first.rate)) old)))
       ∙ ap (line_frame (n_of first.rate) first.last k1 k2) (sym up)
 
-  pub sent-next : SentTo first k1 k2 old (row + m) after (put_mid a k now part)
+  pub sent-next : SentTo first k1 k2 old (row + 1) after (put_mid a k now part)
   sent-next =
       let n = n_of first.rate in
-      let end : (row + m - 1) * (270 * n) ≡ a + k = next-at row m (270 * n) some ∙ ap (λ x. x + m * (270 * n)) (sym at) ∙ ap (λ x. a + x) (sym many) in
+      let end : (row + 1 - 1) * (270 * n) ≡ a + k = next-row row (270 * n) some ∙ ap (λ m. m + 270 * n) (sym at) ∙ ap (λ m. a + m) (sym many) in
       let room : a + k ≤ length now = omega (arith, within, at, many, so.long) in record {
         rate = rate ∙ so.rate;
-        next = next;
-        sent = subst (λ l. HasSent first (clear_frame n first.last k1 k2 (take ((row + m - 1) * (270 * n)) old)) l after) line-up
+        next = λ h. next (omega arith);
+        sent = subst (λ l. HasSent first (clear_frame n first.last k1 k2 (take ((row + 1 - 1) * (270 * n)) old)) l after) line-up
             (subst (λ l. HasSent first l (line_frame n first.last k1 k2 (take ((row - 1) * (270 * n)) old) ++ part) after) clear-up (goes first _ _ so.sent));
-        done = take-put_mid a k now part ((row + m - 1) * (270 * n)) (end ∙ ap (λ x. a + x) (sym len)) (omega arith) ∙ ap (λ x. take x now ++ part) at ∙ ap (λ l. l ++ part) so.done ∙ line-up;
-        rest = drop-put_mid a k now part ((row + m - 1) * (270 * n)) (omega (arith, end)) (omega arith) len ∙ ap (λ x. drop x now) (next-at row m (270 * n) some)
-            ∙ drop-more ((row - 1) * (270 * n)) (m * (270 * n)) now old so.rest ∙ ap (λ x. drop x old) (sym (next-at row m (270 * n) some));
+        done = take-put_mid a k now part ((row + 1 - 1) * (270 * n)) (end ∙ ap (λ m. a + m) (sym len)) (omega arith) ∙ ap (λ m. take m now ++ part) at ∙ ap (λ l. l ++ part) so.done ∙ line-up;
+        rest = drop-put_mid a k now part ((row + 1 - 1) * (270 * n)) (omega (arith, end)) (omega arith) len ∙ ap (λ m. drop m now) (next-row row (270 * n) some)
+            ∙ drop-more ((row - 1) * (270 * n)) (270 * n) now old so.rest ∙ ap (λ m. drop m old) (sym (next-row row (270 * n) some));
         long = put-length a k now part room len ∙ so.long;
       }
 
@@ -186,81 +185,6 @@ module _ (first section : SectionKept) (k1 k2 : ℕ) (old now : List ℕ) (size 
       let line : length (line_frame n first.last k1 k2 (take ((10 - 1) * (270 * n)) old)) ≡ 2430 * n = length-scrambled (9 * n) (clear_frame n first.last k1 k2 (take ((10 - 1) * (270 * n)) old)) ∙ length-clear n first.last k1 k2 (take ((10 - 1) * (270 * n)) old) ∙ ap length whole-sent ∙ size ∙ omega arith in
       so.sent.ended line ∙ ap (λ l. holding first.rate (Some (parities_of n (clear_frame n first.last k1 k2 l) (line_frame n first.last k1 k2 l)))) whole-sent
       ∙ ap (λ l. holding first.rate (Some (parities_of n (clear_frame n first.last k1 k2 old) l))) (sym all-sent)
-
--- ---- the overhead of rows 4 to 9
-
--- a piece of these rows in which the overhead of those below this one was written
-pub record PlacedTo (s : SectionKept) (k1 k2 : ℕ) (old : List ℕ) (row : ℕ) (now : List ℕ) : Type 0 where
-  pub done : take ((row - 4) * (270 * n_of s.rate)) now ≡ clear_row (n_of s.rate) s.last k1 k2 (3 * (270 * n_of s.rate)) (take ((row - 4) * (270 * n_of s.rate)) old)
-  pub rest : drop ((row - 4) * (270 * n_of s.rate)) now ≡ drop ((row - 4) * (270 * n_of s.rate)) old
-  pub long : length now ≡ 6 * (270 * n_of s.rate)
-
-rows-more : (n : ℕ) (last : Option Parities) (k1 k2 i : ℕ) (xs ys : List ℕ) → clear_row n last k1 k2 i (xs ++ ys) ≡ clear_row n last k1 k2 i xs ++ clear_row n last k1 k2 (i + length xs) ys
-unfolding clear_row
-rows-more n last k1 k2 i xs ys = map_from-append (byte_at n (added_after n last k1 k2)) i xs ys
-
-no-rows : (n : ℕ) (kept : Option Parities) (k1 k2 i : ℕ) → clear_row n kept k1 k2 i [] ≡ []
-unfolding clear_row
-no-rows n kept k1 k2 i = refl
-
-pub none-placed : (s : SectionKept) (k1 k2 : ℕ) (old : List ℕ) → length old ≡ 6 * (270 * n_of s.rate) → PlacedTo s k1 k2 old 4 old
-none-placed s k1 k2 old long =
-    let n = n_of s.rate in
-    let zero_at : (4 - 4) * (270 * n) ≡ 0 = omega arith in
-    let start : take ((4 - 4) * (270 * n)) old ≡ [] = ap (λ k. take k old) zero_at in record {
-      done = start ∙ sym (ap (clear_row n s.last k1 k2 (3 * (270 * n))) start ∙ no-rows n s.last k1 k2 (3 * (270 * n)));
-      rest = refl;
-      long = long;
-    }
-
-up-one : (row w : ℕ) → 4 ≤ row → (row + 1 - 4) * w ≡ (row - 4) * w + w
-up-one row w some =
-    let back : row + 1 - 4 ≡ row - 4 + 1 = omega arith in
-    ap (λ x. x * w) back ∙ add-mul (row - 4) 1 w ∙ ap (λ x. (row - 4) * w + x) (omega arith)
-
-behind-third : (row w : ℕ) → 4 ≤ row → (row - 1) * w ≡ 3 * w + (row - 4) * w
-behind-third row w some =
-    let back : row - 1 ≡ 3 + (row - 4) = omega arith in
-    ap (λ x. x * w) back ∙ add-mul 3 (row - 4) w
-
-pub place-within : (s : SectionKept) (row : ℕ) → 4 ≤ row → row < 10 → (row - 4) * (270 * n_of s.rate) + 270 * n_of s.rate ≤ 6 * (270 * n_of s.rate)
-place-within s row some few =
-    let w : ℕ = 270 * n_of s.rate in
-    let most : (row + 1 - 4) * w ≤ 6 * w = mul-le (row + 1 - 4) w 6 w (omega arith) (omega arith) in
-    omega (arith, most, up-one row w some)
-
-module _ (s : SectionKept) (k1 k2 row a k : ℕ) (old now part : List ℕ) (size : length old ≡ 6 * (270 * n_of s.rate)) (some : 4 ≤ row) (few : row < 10)
-    (at : a ≡ (row - 4) * (270 * n_of s.rate)) (many : k ≡ 270 * n_of s.rate) (so : PlacedTo s k1 k2 old row now) (len : length part ≡ k)
-    (bytes : part ≡ clear_row (n_of s.rate) s.last k1 k2 ((row - 1) * (270 * n_of s.rate)) (take k (drop a now))) where
-  placed-part : part ≡ clear_row (n_of s.rate) s.last k1 k2 (3 * (270 * n_of s.rate) + length (take ((row - 4) * (270 * n_of s.rate)) old)) (take (270 * n_of s.rate) (drop ((row - 4) * (270 * n_of s.rate)) old))
-  placed-part =
-      let n = n_of s.rate in
-      let front : length (take ((row - 4) * (270 * n)) old) ≡ (row - 4) * (270 * n) = length-take-le ((row - 4) * (270 * n)) old (omega (arith, place-within s row some few)) in
-      bytes ∙ ap (λ i. clear_row n s.last k1 k2 i (take k (drop a now))) (behind-third row (270 * n) some ∙ ap (λ x. 3 * (270 * n) + x) (sym front))
-      ∙ ap (clear_row n s.last k1 k2 (3 * (270 * n) + length (take ((row - 4) * (270 * n)) old)))
-      (ap (λ x. take x (drop a now)) many ∙ ap (λ x. take (270 * n) (drop x now)) at ∙ ap (take (270 * n)) so.rest)
-
-  pub place-next : PlacedTo s k1 k2 old (row + 1) (put_mid a k now part)
-  place-next =
-      let n = n_of s.rate in
-      let w : ℕ = 270 * n in
-      let end : (row + 1 - 4) * w ≡ a + k = up-one row w some ∙ ap (λ x. x + w) (sym at) ∙ ap (λ x. a + x) (sym many) in
-      let room : a + k ≤ length now = omega (arith, place-within s row some few, at, many, so.long) in record {
-        done = take-put_mid a k now part ((row + 1 - 4) * w) (end ∙ ap (λ x. a + x) (sym len)) (omega arith) ∙ ap (λ x. take x now ++ part) at ∙ ap (λ l. l ++ part) so.done
-            ∙ ap (λ l. clear_row n s.last k1 k2 (3 * w) (take ((row - 4) * w) old) ++ l) placed-part
-            ∙ sym (rows-more n s.last k1 k2 (3 * w) (take ((row - 4) * w) old) (take w (drop ((row - 4) * w) old)))
-            ∙ ap (clear_row n s.last k1 k2 (3 * w)) (sym (take-add ((row - 4) * w) w old) ∙ ap (λ x. take x old) (sym (up-one row w some)));
-        rest = drop-put_mid a k now part ((row + 1 - 4) * w) (omega (arith, end)) (omega arith) len ∙ ap (λ x. drop x now) (up-one row w some)
-            ∙ drop-more ((row - 4) * w) w now old so.rest ∙ ap (λ x. drop x old) (sym (up-one row w some));
-        long = put-length a k now part room len ∙ so.long;
-      }
-
-pub all-placed : (s : SectionKept) (k1 k2 : ℕ) (old now : List ℕ) → length old ≡ 6 * (270 * n_of s.rate) → PlacedTo s k1 k2 old 10 now → now ≡ clear_row (n_of s.rate) s.last k1 k2 (3 * (270 * n_of s.rate)) old
-all-placed s k1 k2 old now size so =
-    let n = n_of s.rate in
-    let end : (10 - 4) * (270 * n) ≡ 6 * (270 * n) = omega arith in
-    let whole : take ((10 - 4) * (270 * n)) old ≡ old = take_all ((10 - 4) * (270 * n)) old (omega (arith, end)) in
-    sym (take_all ((10 - 4) * (270 * n)) now (omega (arith, end, so.long))) ∙ so.done ∙ ap (clear_row n s.last k1 k2 (3 * (270 * n))) whole
 
 -- ---- rows that are read
 
@@ -297,31 +221,31 @@ none-read first old fresh long =
       long = long;
     }
 
-module _ (first section after : SectionKept) (row m a k : ℕ) (old now part : List ℕ) (size : length old ≡ size_of first.rate) (some : 1 ≤ row) (more : 1 ≤ m) (few : row + m ≤ 10)
-    (at : a ≡ (row - 1) * (270 * n_of first.rate)) (many : k ≡ m * (270 * n_of first.rate)) (so : ReadTo first old row section now) (len : length part ≡ k)
+module _ (first section after : SectionKept) (row a k : ℕ) (old now part : List ℕ) (size : length old ≡ size_of first.rate) (some : 1 ≤ row) (few : row < 10)
+    (at : a ≡ (row - 1) * (270 * n_of first.rate)) (many : k ≡ 270 * n_of first.rate) (so : ReadTo first old row section now) (len : length part ≡ k)
     (bytes : (line : List ℕ) → AreRead (n_of section.rate) section.last line section.under_way → part ≡ opened_row (n_of section.rate) line (take k (drop a now)))
     (goes : (line : List ℕ) → AreRead (n_of section.rate) section.last line section.under_way → AreRead (n_of section.rate) section.last (line ++ take k (drop a now)) after.under_way)
-    (rate : after.rate ≡ section.rate) (last : after.last ≡ section.last) (next : next_of after.under_way ≡ row + m) where
-  read-row-was : take k (drop a now) ≡ take (m * (270 * n_of first.rate)) (drop ((row - 1) * (270 * n_of first.rate)) old)
-  read-row-was = ap (λ x. take x (drop a now)) many ∙ ap (λ x. take (m * (270 * n_of first.rate)) (drop x now)) at ∙ ap (take (m * (270 * n_of first.rate))) so.rest
+    (rate : after.rate ≡ section.rate) (last : after.last ≡ section.last) (next : next_of after.under_way ≡ row + 1) where
+  read-row-was : take k (drop a now) ≡ take (270 * n_of first.rate) (drop ((row - 1) * (270 * n_of first.rate)) old)
+  read-row-was = ap (λ m. take m (drop a now)) many ∙ ap (λ m. take (270 * n_of first.rate) (drop m now)) at ∙ ap (take (270 * n_of first.rate)) so.rest
 
-  read-up : take ((row - 1) * (270 * n_of first.rate)) old ++ take k (drop a now) ≡ take ((row + m - 1) * (270 * n_of first.rate)) old
-  read-up = ap (λ l. take ((row - 1) * (270 * n_of first.rate)) old ++ l) read-row-was ∙ sym (take-add ((row - 1) * (270 * n_of first.rate)) (m * (270 * n_of first.rate)) old) ∙ ap (λ x. take x old) (sym (next-at row m (270 * n_of first.rate) some))
+  read-up : take ((row - 1) * (270 * n_of first.rate)) old ++ take k (drop a now) ≡ take ((row + 1 - 1) * (270 * n_of first.rate)) old
+  read-up = ap (λ l. take ((row - 1) * (270 * n_of first.rate)) old ++ l) read-row-was ∙ sym (take-add ((row - 1) * (270 * n_of first.rate)) (270 * n_of first.rate) old) ∙ ap (λ m. take m old) (sym (next-row row (270 * n_of first.rate) some))
 
-  read-within : (row - 1) * (270 * n_of first.rate) + m * (270 * n_of first.rate) ≤ size_of first.rate
-  read-within = row-within first row m some few
+  read-within : (row - 1) * (270 * n_of first.rate) + 270 * n_of first.rate ≤ size_of first.rate
+  read-within = row-within first row few
 
   was : AreRead (n_of section.rate) section.last (take ((row - 1) * (270 * n_of first.rate)) old) section.under_way
   was =
       subst (λ (r : Rate). AreRead (n_of r) section.last (take ((row - 1) * (270 * n_of first.rate)) old) section.under_way) (sym so.rate)
       (subst (λ (l : Option Parities). AreRead (n_of first.rate) l (take ((row - 1) * (270 * n_of first.rate)) old) section.under_way) (sym so.last) so.read)
 
-  -- the rows up to their end tell as much of the framing as the frame
+  -- the rows up to its end tell as much of the framing as the frame
   framing : is_framed (n_of first.rate) (take ((row - 1) * (270 * n_of first.rate)) old ++ take k (drop a now)) ≡ is_framed (n_of first.rate) old
   framing =
       let n = n_of first.rate in
-      let end = (row + m - 1) * (270 * n) in
-      let room : 6 * n ≤ length (take end old) = omega (arith, length-take-le end old (omega (arith, read-within, next-at row m (270 * n) some)), next-at row m (270 * n) some, one-within n m more) in
+      let end = (row + 1 - 1) * (270 * n) in
+      let room : 6 * n ≤ length (take end old) = omega (arith, length-take-le end old (omega (arith, read-within, next-row row (270 * n) some)), next-row row (270 * n) some) in
       ap (is_framed n) read-up ∙ sym (framed-front n (take end old) (drop end old) room) ∙ ap (is_framed n) (take-append-drop end old)
 
   part-is : part ≡ (if is_framed (n_of first.rate) old then scrambled_from (9 * n_of first.rate) (length (take ((row - 1) * (270 * n_of first.rate)) old)) (take k (drop a now)) else take k (drop a now))
@@ -329,40 +253,25 @@ module _ (first section after : SectionKept) (row m a k : ℕ) (old now part : L
       bytes (take ((row - 1) * (270 * n_of first.rate)) old) was ∙ ap (λ (r : Rate). opened_row (n_of r) (take ((row - 1) * (270 * n_of first.rate)) old) (take k (drop a now))) so.rate
       ∙ ap (λ t. if t then scrambled_from (9 * n_of first.rate) (length (take ((row - 1) * (270 * n_of first.rate)) old)) (take k (drop a now)) else take k (drop a now)) framing
 
-  pub read-next : ReadTo first old (row + m) after (put_mid a k now part)
+  pub read-next : ReadTo first old (row + 1) after (put_mid a k now part)
   read-next =
       let n = n_of first.rate in
       let xs = take ((row - 1) * (270 * n)) old in
       let ys = take k (drop a now) in
       let t = is_framed n old in
-      let end : (row + m - 1) * (270 * n) ≡ a + k = next-at row m (270 * n) some ∙ ap (λ x. x + m * (270 * n)) (sym at) ∙ ap (λ x. a + x) (sym many) in
+      let end : (row + 1 - 1) * (270 * n) ≡ a + k = next-row row (270 * n) some ∙ ap (λ m. m + 270 * n) (sym at) ∙ ap (λ m. a + m) (sym many) in
       let room : a + k ≤ length now = omega (arith, read-within, at, many, so.long) in record {
         rate = rate ∙ so.rate;
         last = last ∙ so.last;
         next = next;
         read = subst (λ l. AreRead n first.last l after.under_way) read-up
             (subst (λ (l : Option Parities). AreRead n l (xs ++ ys) after.under_way) so.last (subst (λ (r : Rate). AreRead (n_of r) section.last (xs ++ ys) after.under_way) so.rate (goes xs was)));
-        done = take-put_mid a k now part ((row + m - 1) * (270 * n)) (end ∙ ap (λ x. a + x) (sym len)) (omega arith) ∙ ap (λ x. take x now ++ part) at ∙ ap (λ l. l ++ part) so.done
+        done = take-put_mid a k now part ((row + 1 - 1) * (270 * n)) (end ∙ ap (λ m. a + m) (sym len)) (omega arith) ∙ ap (λ m. take m now ++ part) at ∙ ap (λ l. l ++ part) so.done
             ∙ ap (λ l. (if t then scrambled (9 * n) xs else xs) ++ l) part-is ∙ either t n xs ys ∙ ap (λ l. if t then scrambled (9 * n) l else l) read-up;
-        rest = drop-put_mid a k now part ((row + m - 1) * (270 * n)) (omega (arith, end)) (omega arith) len ∙ ap (λ x. drop x now) (next-at row m (270 * n) some)
-            ∙ drop-more ((row - 1) * (270 * n)) (m * (270 * n)) now old so.rest ∙ ap (λ x. drop x old) (sym (next-at row m (270 * n) some));
+        rest = drop-put_mid a k now part ((row + 1 - 1) * (270 * n)) (omega (arith, end)) (omega arith) len ∙ ap (λ m. drop m now) (next-row row (270 * n) some)
+            ∙ drop-more ((row - 1) * (270 * n)) (270 * n) now old so.rest ∙ ap (λ m. drop m old) (sym (next-row row (270 * n) some));
         long = put-length a k now part room len ∙ so.long;
       }
-
--- rows 4 to 9 behind the first three
-module _ (first section after : SectionKept) (w : ℕ) (old now part : List ℕ) (size : length old ≡ size_of first.rate) (n : w ≡ n_of first.rate) (so : ReadTo first old 4 section now)
-    (len : length part ≡ length (take (9 * (270 * w) - 3 * (270 * w)) (drop (3 * (270 * w)) now)))
-    (bytes : (line : List ℕ) → AreRead (n_of section.rate) section.last line section.under_way → part ≡ opened_row (n_of section.rate) line (take (9 * (270 * w) - 3 * (270 * w)) (drop (3 * (270 * w)) now)))
-    (goes : (line : List ℕ) → AreRead (n_of section.rate) section.last line section.under_way → AreRead (n_of section.rate) section.last (line ++ take (9 * (270 * w) - 3 * (270 * w)) (drop (3 * (270 * w)) now)) after.under_way)
-    (rate : after.rate ≡ section.rate) (last : after.last ≡ section.last) (next : next_of after.under_way ≡ 10) where
-  pub read-last : ReadTo first old 10 after (put_mid (3 * (270 * w)) (9 * (270 * w) - 3 * (270 * w)) now part)
-  read-last =
-      let a : ℕ = 3 * (270 * w) in
-      let k : ℕ = 9 * (270 * w) - 3 * (270 * w) in
-      let at : a ≡ (4 - 1) * (270 * n_of first.rate) = ap (λ x. 3 * (270 * x)) n in
-      let many : k ≡ 6 * (270 * n_of first.rate) = omega arith in
-      let room : a + k ≤ length now = omega (arith, at, many, so.long) in
-      read-next first section after 4 6 a k old now part size (omega arith) (omega arith) (omega arith) at many so (len ∙ length-part a k now room) bytes goes rate last next
 
 pub all-heard : (first section : SectionKept) (old now : List ℕ) → length old ≡ size_of first.rate → ReadTo first old 10 section now → AreRead (n_of first.rate) first.last old section.under_way
 all-heard first section old now size so =

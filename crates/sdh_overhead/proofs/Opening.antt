@@ -20,9 +20,9 @@ use Rattle.sdh_overhead.specs.declared.Received.TheVariants.{Framed, Unframed}
 use Rattle.sdh_overhead.specs.Sections.{Parities, last_of, parities_of, is_framed, byte_in, b2_in, found_in, received_in, kept_after}
 use Rattle.sdh_overhead.specs.Rows.{skipped}
 use Rattle.sdh_overhead.specs.Landing.{LandedFrame, landed_of, AreSummed}
-use Rattle.sdh_overhead.proofs.Passing.{section-none, section-more, rows-kept}
+use Rattle.sdh_overhead.proofs.Passing.{section-none, section-more, rows-kept, row-ends}
 use Rattle.sdh_overhead.proofs.Reading.{framed-front, by-b1, by-b2, is-unframed, kept-unframed, kept-framed}
-use Rattle.sdh_overhead.proofs.Nine.{pieces, put-length, next-at}
+use Rattle.sdh_overhead.proofs.Nine.{pieces, put-length}
 
 -- ---- what a frame says
 
@@ -147,6 +147,9 @@ none-opened n from place line clear to is rate none empty long =
       done = ap (λ k. take k to) (sym at) ∙ opened;
       long = long;
     }
+
+next-at : (row m w : ℕ) → 1 ≤ row → (row + m - 1) * w ≡ (row - 1) * w + m * w
+next-at row m w some = sym (row-ends row m w some)
 
 pub rows-within : (n row m : ℕ) → 1 ≤ row → row + m ≤ 10 → (row - 1) * (270 * n) + m * (270 * n) ≤ 2430 * n
 rows-within n row m some few =

@@ -177,25 +177,24 @@ as-passed n place clear line u placed are =
       | inr some ↦ subst (ArePassed n clear line) (some-under-way u (omega arith)) are
     ]
 
--- m rows more
-pub row-more : (n row m : ℕ) (clear line old new : List ℕ) (u v : UnderWay) → HavePassed n clear line u → row ≡ u.rows + 1 → v.rows ≡ row + m - 1 → (m ≡ 1) ⊎ (4 ≤ row) → length old ≡ m * (270 * n) → length new ≡ length old
+-- one row more
+pub row-more : (n row : ℕ) (clear line old new : List ℕ) (u v : UnderWay) → HavePassed n clear line u → row ≡ u.rows + 1 → v.rows ≡ row → length old ≡ 270 * n → length new ≡ length old
     → ((before : List ℕ) → u.line ≡ bip8 before → v.line ≡ bip8 (before ++ new)) → ((before : List ℕ) → u.clear ≡ after_bytes n before → v.clear ≡ after_bytes n (before ++ drop (skipped n row) old))
     → HavePassed n (clear ++ old) (line ++ new) v
-row-more n row m clear line old new u v passed next rows together long same sum sums =
+row-more n row clear line old new u v passed next rows long same sum sums =
     let at : length clear ≡ (row - 1) * (270 * n) = passed.whole ∙ passed.rows ∙ ap (λ k. k * (270 * n)) (omega arith) in
-    let wide : u.rows * (270 * n) + m * (270 * n) ≡ (u.rows + m) * (270 * n) = sym (add-mul u.rows m (270 * n)) in
-    let end : u.rows + m ≡ v.rows = omega arith in record {
-      rows = length-append line new ∙ ap (λ k. length line + k) (same ∙ long) ∙ ap (λ k. k + m * (270 * n)) passed.rows ∙ wide ∙ ap (λ k. k * (270 * n)) end;
+    let wide : u.rows * (270 * n) + 270 * n ≡ (u.rows + 1) * (270 * n) = sym (add-mul u.rows 1 (270 * n) ∙ ap (λ k. u.rows * (270 * n) + k) (omega arith)) in record {
+      rows = length-append line new ∙ ap (λ k. length line + k) (same ∙ long) ∙ ap (λ k. k + 270 * n) passed.rows ∙ wide ∙ ap (λ k. k * (270 * n)) (sym (rows ∙ next));
       whole = length-append clear old ∙ ap (λ k. length clear + k) (sym same) ∙ ap (λ k. k + length new) passed.whole ∙ sym (length-append line new);
       b1 = sum line passed.b1;
-      b2 = sums (section_bytes n clear) passed.b2 ∙ ap (after_bytes n) (sym (section-more n row m clear old (omega arith) together at long));
+      b2 = sums (section_bytes n clear) passed.b2 ∙ ap (after_bytes n) (sym (section-one n row clear old (omega arith) at long));
     }
 
-pub one-more : (n row m : ℕ) (clear line old new : List ℕ) (u v : UnderWay) → HavePassed n clear line u → row ≡ u.rows + 1 → 1 ≤ m → v.rows ≡ row + m - 1 → (m ≡ 1) ⊎ (4 ≤ row) → length old ≡ m * (270 * n) → length new ≡ length old
+pub one-more : (n row : ℕ) (clear line old new : List ℕ) (u v : UnderWay) → HavePassed n clear line u → row ≡ u.rows + 1 → v.rows ≡ row → length old ≡ 270 * n → length new ≡ length old
     → ((before : List ℕ) → u.line ≡ bip8 before → v.line ≡ bip8 (before ++ new)) → ((before : List ℕ) → u.clear ≡ after_bytes n before → v.clear ≡ after_bytes n (before ++ drop (skipped n row) old))
     → ArePassed n (clear ++ old) (line ++ new) (under_way_of v)
-one-more n row m clear line old new u v passed next some rows together long same sum sums =
-    subst (ArePassed n (clear ++ old) (line ++ new)) (sym (some-under-way v (omega arith))) (row-more n row m clear line old new u v passed next rows together long same sum sums)
+one-more n row clear line old new u v passed next rows long same sum sums =
+    subst (ArePassed n (clear ++ old) (line ++ new)) (sym (some-under-way v (omega arith))) (row-more n row clear line old new u v passed next rows long same sum sums)
 
 pub rows-next : (u : UnderWay) → next_of (under_way_of u) ≡ u.rows + 1
 rows-next u =
@@ -215,12 +214,8 @@ passed-length : (n : ℕ) (clear line : List ℕ) (o : Option UnderWay) → AreP
 passed-length n clear line None are = ap length are.1 ∙ sym (zero-mul (270 * n))
 passed-length n clear line (Some u) are = are.rows ∙ ap (λ k. k * (270 * n)) (omega arith)
 
-next-some : (o : Option UnderWay) → 1 ≤ next_of o
-next-some None = omega arith
-next-some (Some u) = omega arith
-
-module _ (first old mid : SectionKept) (row m : ℕ) (clear line more new : List ℕ) (h : HasSent first clear line old)
-    (some : 1 ≤ n_of first.rate) (next : row ≡ next_of old.under_way) (many : 1 ≤ m) (long : length new ≡ m * (270 * n_of first.rate))
+module _ (first old mid : SectionKept) (row : ℕ) (clear line more new : List ℕ) (h : HasSent first clear line old)
+    (some : 1 ≤ n_of first.rate) (next : row ≡ next_of old.under_way) (long : length new ≡ 270 * n_of first.rate)
     (rate : mid.rate ≡ old.rate) (last : mid.last ≡ old.last)
     (passed : ArePassed (n_of old.rate) clear line old.under_way → ArePassed (n_of old.rate) (clear ++ more) (line ++ new) mid.under_way) where
   at : length line < 2430 * n_of first.rate → length line ≡ (row - 1) * (270 * n_of first.rate)
@@ -231,42 +226,33 @@ module _ (first old mid : SectionKept) (row m : ℕ) (clear line more new : List
       subst (λ (r : Rate). ArePassed (n_of r) (clear ++ more) (line ++ new) mid.under_way) h.rate
       (passed (subst (λ (r : Rate). ArePassed (n_of r) clear line old.under_way) (sym h.rate) (h.under_way below).1))
 
-  longer : length (line ++ new) ≡ length line + m * (270 * n_of first.rate)
+  longer : length (line ++ new) ≡ length line + 270 * n_of first.rate
   longer = length-append line new ∙ ap (λ k. length line + k) long
 
-  -- the rows have bytes
-  least : 1 * (270 * n_of first.rate) ≤ m * (270 * n_of first.rate)
-  least = mul-le 1 (270 * n_of first.rate) m (270 * n_of first.rate) many (omega arith)
-
-  end-at : length line < 2430 * n_of first.rate → length (line ++ new) ≡ (row + m - 1) * (270 * n_of first.rate)
-  end-at below =
-      let back : row - 1 + m ≡ row + m - 1 = omega (arith, next-some old.under_way) in
-      longer ∙ ap (λ k. k + m * (270 * n_of first.rate)) (at below) ∙ sym (add-mul (row - 1) m (270 * n_of first.rate)) ∙ ap (λ k. k * (270 * n_of first.rate)) back
-
-  -- rows before the ninth
-  pub sent-more : row + m < 10 → HasSent first (clear ++ more) (line ++ new) mid
+  -- a row before the ninth
+  pub sent-more : row < 9 → HasSent first (clear ++ more) (line ++ new) mid
   sent-more early = record {
     rate = rate ∙ h.rate;
     fresh = h.fresh;
     under_way = λ below. let less : length line < 2430 * n_of first.rate = omega (arith, longer) in (last ∙ (h.under_way less).0, after less);
     ended = λ end.
-        let less : length line < 2430 * n_of first.rate = omega (arith, longer, least) in
-        let few : (row + m - 1) * (270 * n_of first.rate) ≤ 8 * (270 * n_of first.rate) = mul-le (row + m - 1) (270 * n_of first.rate) 8 (270 * n_of first.rate) (omega arith) (omega arith) in
-        absurd (omega (arith, end-at less));
+        let less : length line < 2430 * n_of first.rate = omega (arith, longer) in
+        let few : (row - 1) * (270 * n_of first.rate) ≤ 7 * (270 * n_of first.rate) = mul-le (row - 1) (270 * n_of first.rate) 7 (270 * n_of first.rate) (omega arith) (omega arith) in
+        absurd (omega (arith, at less, longer));
   }
 
-  -- the last rows
-  pub sent-all : row + m ≡ 10 → (now : SectionKept) → ((c l : List ℕ) → ArePassed (n_of mid.rate) c l mid.under_way → now ≡ record { rate = mid.rate; last = Some (parities_of (n_of mid.rate) c l); under_way = None })
+  -- the ninth
+  pub sent-all : row ≡ 9 → (now : SectionKept) → ((c l : List ℕ) → ArePassed (n_of mid.rate) c l mid.under_way → now ≡ record { rate = mid.rate; last = Some (parities_of (n_of mid.rate) c l); under_way = None })
       → now.rate ≡ mid.rate → HasSent first (clear ++ more) (line ++ new) now
   sent-all ninth now ends same = record {
     rate = same ∙ rate ∙ h.rate;
     fresh = h.fresh;
     under_way = λ below.
         let less : length line < 2430 * n_of first.rate = omega (arith, longer) in
-        let nine : (row + m - 1) * (270 * n_of first.rate) ≡ 9 * (270 * n_of first.rate) = ap (λ k. (k - 1) * (270 * n_of first.rate)) ninth in
-        absurd (omega (arith, end-at less, nine));
+        let eighth : (row - 1) * (270 * n_of first.rate) ≡ 8 * (270 * n_of first.rate) = ap (λ k. (k - 1) * (270 * n_of first.rate)) ninth in
+        absurd (omega (arith, at less, longer, eighth));
     ended = λ end.
-        let less : length line < 2430 * n_of first.rate = omega (arith, longer, least) in
+        let less : length line < 2430 * n_of first.rate = omega (arith, longer) in
         let here : mid.rate ≡ first.rate = rate ∙ h.rate in
         ends (clear ++ more) (line ++ new) (subst (λ (r : Rate). ArePassed (n_of r) (clear ++ more) (line ++ new) mid.under_way) (sym here) (after less))
         ∙ ap (λ (r : Rate). record { rate = r; last = Some (parities_of (n_of r) (clear ++ more) (line ++ new)); under_way = None }) here;
@@ -281,9 +267,11 @@ cut-row n at a old head rest head' rest' cut place one two =
 pub row-ends : (row m w : ℕ) → 1 ≤ row → (row - 1) * w + m * w ≡ (row + m - 1) * w
 row-ends row m w some = let back : row - 1 + m ≡ row + m - 1 = omega arith in sym (add-mul (row - 1) m w) ∙ ap (λ k. k * w) back
 
--- a row is no longer than several
-pub one-within : (n m : ℕ) → 1 ≤ m → 270 * n ≤ m * (270 * n)
-one-within n m some = let least : 1 * (270 * n) ≤ m * (270 * n) = mul-le 1 (270 * n) m (270 * n) some (omega arith) in omega arith
+pub row-end : (row w : ℕ) → 1 ≤ row → (row - 1) * w + w ≡ row * w
+row-end row w some =
+    let one : w ≡ 1 * w = omega arith in
+    let back : row - 1 + 1 ≡ row = omega arith in
+    ap (λ k. (row - 1) * w + k) one ∙ sym (add-mul (row - 1) 1 w) ∙ ap (λ k. k * w) back
 
 pub sum-up : (a h r w : ℕ) → h + r ≡ w → a + h + r ≡ a + w
 sum-up a h r w e = omega arith

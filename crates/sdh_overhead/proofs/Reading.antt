@@ -1,10 +1,10 @@
 -- Rows of a received frame, one after the other.
-use Rattle.std.proofs.Common.{◌≡◌, ℕ, ◌+◌, ◌*◌, ◌-◌, ◌<◌, ◌≤◌, Bool, true, false, List, [], ◌++◌, length, get_or, take, drop, Option, Some, None, refl, ap, sym, subst, ◌∙◌, arith, ◌⊎◌, ◌≢◌, inl, inr}
+use Rattle.std.proofs.Common.{◌≡◌, ℕ, ◌+◌, ◌*◌, ◌-◌, ◌<◌, ◌≤◌, Bool, true, false, List, [], ◌++◌, length, get_or, take, drop, Option, Some, None, refl, ap, sym, subst, ◌∙◌, arith, inl, inr}
 use Rattle.std.specs.Prelude.{slice_range, ◌==◌, ◌&&◌, if◌then◌else◌}
 use Rattle.std.specs.List.{list_all}
-use Rattle.std.proofs.lemmas.Bool.{cases_lt, cases_eq, ne_eqb, eq-eqb}
+use Rattle.std.proofs.lemmas.Bool.{cases_eq, ne_eqb, eq-eqb}
 use Rattle.std.proofs.lemmas.Nat.{mul-le}
-use Rattle.std.proofs.Math.Nat.{add-mul, zero-mul}
+use Rattle.std.proofs.Math.Nat.{zero-mul}
 use Rattle.std.proofs.Math.Seq.{drop-append-add}
 use Rattle.std.proofs.lemmas.List.{get_or_append_left, get_or-append_right, take-append-le}
 use Rattle.sdh_basics.specs.Parity.{bip8}
@@ -62,10 +62,11 @@ next-byte : (n l k : ℕ) (clear new : List ℕ) (row column : ℕ) → (row - 1
 next-byte n l k clear new row column at long =
     ap (λ i. get_or (clear ++ new) i 0) at ∙ get_or-append_right clear new l (l + k) 0 long (omega arith) ∙ ap (λ i. get_or new i 0) (omega arith)
 
-next-b2 : (n j : ℕ) (clear new : List ℕ) → length clear + j ≡ 1080 * n → b2_in n (clear ++ new) ≡ slice_range new j (j + 3 * n)
-next-b2 n j clear new at =
-    let many : 1083 * n - 1080 * n ≡ j + 3 * n - j = omega arith in
-    ap (λ k. take (1083 * n - 1080 * n) (drop k (clear ++ new))) (sym at) ∙ ap (take (1083 * n - 1080 * n)) (drop-append-add clear new j) ∙ ap (λ k. take k (drop j new)) many
+next-b2 : (n : ℕ) (clear new : List ℕ) → length clear ≡ 1080 * n → b2_in n (clear ++ new) ≡ take (3 * n) new
+next-b2 n clear new long =
+    let at : length clear + 0 ≡ 1080 * n = omega arith in
+    let many : 1083 * n - 1080 * n ≡ 3 * n = omega arith in
+    ap (λ k. take (1083 * n - 1080 * n) (drop k (clear ++ new))) (sym at) ∙ ap (take (1083 * n - 1080 * n)) (drop-append-add clear new 0) ∙ ap (λ k. take k new) many
 
 no-bytes : (n : ℕ) → scrambled (9 * n) [] ≡ []
 unfolding scrambled
@@ -92,16 +93,14 @@ found-before n last place line u placed are framed =
       | inr some ↦ (some-read n last line u (omega arith) are).found (framed (omega arith))
     ]
 
--- m rows more: row `seen`, which begins at j in the new bytes, is row 5 where it is one of them
-module _ (n row m seen j : ℕ) (known : Bool) (kept : ℕ) (b2 line old new : List ℕ) (place : Position) (u v : UnderWay)
+module _ (n row : ℕ) (known : Bool) (kept : ℕ) (b2 line old new : List ℕ) (place : Position) (u v : UnderWay)
     (some : 1 ≤ n) (placed : IsPlaced n u.rows place u.line u.clear) (are : AreRead n (last_of n known kept b2) line (under_way_of u)) (framed : is_framed n (line ++ old) ≡ true)
-    (next : row ≡ u.rows + 1) (many : 1 ≤ m) (rows : v.rows ≡ row + m - 1) (together : (m ≡ 1) ⊎ (4 ≤ row)) (is : v.framed ≡ true) (long : length old ≡ m * (270 * n))
-    (low : row ≤ seen) (fifth : row ≤ 5 → 5 < row + m → seen ≡ 5) (begins : j ≡ (seen - row) * (270 * n))
+    (next : row ≡ u.rows + 1) (rows : v.rows ≡ row) (is : v.framed ≡ true) (long : length old ≡ 270 * n)
     (opens : new ≡ scrambled_from (9 * n) ((row - 1) * (270 * n)) old) (same : length old ≡ length new)
     (sum : (before : List ℕ) → u.line ≡ bip8 before → v.line ≡ bip8 (before ++ old)) (sums : (before : List ℕ) → u.clear ≡ after_bytes n before → v.clear ≡ after_bytes n (before ++ drop (skipped n row) new))
-    (k1 : v.k1 ≡ (if seen == 5 then get_or new (j + 3 * n) 0 else u.k1)) (k2 : v.k2 ≡ (if seen == 5 then get_or new (j + 6 * n) 0 else u.k2))
+    (k1 : v.k1 ≡ (if row == 5 then get_or new (3 * n) 0 else u.k1)) (k2 : v.k2 ≡ (if row == 5 then get_or new (6 * n) 0 else u.k2))
     (b1 : v.b1 ≡ (if row == 2 then (if known then differing_bits kept (get_or new 0 0) else 0) else u.b1))
-    (b2s : v.b2 ≡ (if seen == 5 then (if known then violations_of (take (3 * n) b2) (slice_range new j (j + 3 * n)) else 0) else u.b2)) where
+    (b2s : v.b2 ≡ (if row == 5 then (if known then violations_of (take (3 * n) b2) (take (3 * n) new) else 0) else u.b2)) where
   was : HasFound n (last_of n known kept b2) (scrambled (9 * n) line) line u
   was = found-before n (last_of n known kept b2) place line u placed are (λ h. sym (framed-front n line old (room-in n (last_of n known kept b2) line u h (some-read n (last_of n known kept b2) line u h are))) ∙ framed)
 
@@ -112,48 +111,26 @@ module _ (n row m seen j : ℕ) (known : Bool) (kept : ℕ) (b2 line old new : L
   whole = pieces n line old ∙ ap (λ k. scrambled (9 * n) line ++ scrambled_from (9 * n) k old) (sym was.passed.whole ∙ at) ∙ ap (λ l. scrambled (9 * n) line ++ l) (sym opens)
 
   passed : HavePassed n (scrambled (9 * n) line ++ new) (line ++ old) v
-  passed = row-more n row m (scrambled (9 * n) line) line new old u v was.passed next rows together (sym same ∙ long) same sum sums
+  passed = row-more n row (scrambled (9 * n) line) line new old u v was.passed next rows (sym same ∙ long) same sum sums
 
   at-row : (r : ℕ) → row ≡ r → length (scrambled (9 * n) line) ≡ (r - 1) * (270 * n)
   at-row r e = at ∙ ap (λ k. (k - 1) * (270 * n)) e
 
-  -- where row 5 begins
-  at-fifth : seen ≡ 5 → length (scrambled (9 * n) line) + j ≡ 1080 * n
-  at-fifth e =
-      let back : row - 1 + (seen - row) ≡ 4 = omega arith in
-      ap (λ k. k + j) at ∙ ap (λ k. (row - 1) * (270 * n) + k) begins ∙ sym (add-mul (row - 1) (seen - row) (270 * n)) ∙ ap (λ k. k * (270 * n)) back ∙ omega arith
-
   past : (r : ℕ) → r ≤ row - 1 → r * (270 * n) ≤ length (scrambled (9 * n) line)
   past r h = let least : r * (270 * n) ≤ (row - 1) * (270 * n) = mul-le r (270 * n) (row - 1) (270 * n) h (omega arith) in omega (arith, at)
 
-  -- rows up to row 5 or beyond, without it: it was among the rows before
-  beyond : 5 ≤ v.rows → seen ≢ 5 → 5 ≤ row - 1
-  beyond h other =
-      elim (cases_lt 5 row) [
-        | inl past5 ↦ omega arith
-        | inr up ↦ absurd (other (fifth up (omega arith)))
-      ]
-
   -- a K byte: column 3 N + 1 or 6 N + 1 of row 5
-  k-found : (c x y : ℕ) → c ≤ 6 * n → y ≡ (if seen == 5 then get_or new (j + c) 0 else x) → (5 ≤ u.rows → x ≡ byte_in n (scrambled (9 * n) line) 5 (c + 1)) → 5 ≤ v.rows → y ≡ byte_in n (scrambled (9 * n) line ++ new) 5 (c + 1)
+  k-found : (c x y : ℕ) → c ≤ 6 * n → y ≡ (if row == 5 then get_or new c 0 else x) → (5 ≤ u.rows → x ≡ byte_in n (scrambled (9 * n) line) 5 (c + 1)) → 5 ≤ v.rows → y ≡ byte_in n (scrambled (9 * n) line ++ new) 5 (c + 1)
   k-found c x y room here before h =
-      elim (cases_eq seen 5) [
+      elim (cases_eq row 5) [
         | inl e ↦ (
-            let hit : (seen == 5) ≡ true = eq-eqb _ _ e in
-            let there = at-fifth e in
-            let front = length (scrambled (9 * n) line) in
-            here ∙ ap (λ t. if t then get_or new (j + c) 0 else x) hit ∙ sym (next-byte n front (j + c) (scrambled (9 * n) line) new 5 (c + 1) (omega (arith, there)) refl))
+            let hit : (row == 5) ≡ true = eq-eqb _ _ e in
+            here ∙ ap (λ t. if t then get_or new c 0 else x) hit ∙ sym (next-byte n (1080 * n) c (scrambled (9 * n) line) new 5 (c + 1) (omega arith) (at-row 5 e ∙ omega arith)))
         | inr other ↦ (
-            let miss : (seen == 5) ≡ false = ne_eqb _ _ other in
-            let late = beyond h other in
-            let far : 5 * (270 * n) ≤ length (scrambled (9 * n) line) = past 5 late in
-            here ∙ ap (λ t. if t then get_or new (j + c) 0 else x) miss ∙ before (omega arith) ∙ sym (kept-byte n (1080 * n + c) (scrambled (9 * n) line) new 5 (c + 1) (omega arith) (omega arith)))
+            let miss : (row == 5) ≡ false = ne_eqb _ _ other in
+            let far : 5 * (270 * n) ≤ length (scrambled (9 * n) line) = past 5 (omega arith) in
+            here ∙ ap (λ t. if t then get_or new c 0 else x) miss ∙ before (omega arith) ∙ sym (kept-byte n (1080 * n + c) (scrambled (9 * n) line) new 5 (c + 1) (omega arith) (omega arith)))
       ]
-
-  -- rows behind row 2, without it: it was among the rows before
-  third : 2 ≤ v.rows → row ≢ 2 → (m ≡ 1) ⊎ (4 ≤ row) → 2 ≤ row - 1
-  third h other (inl one) = omega arith
-  third h other (inr late) = omega arith
 
   b1-found : 2 ≤ v.rows → v.b1 ≡ b1_violations n (last_of n known kept b2) (scrambled (9 * n) line ++ new)
   b1-found h =
@@ -165,7 +142,7 @@ module _ (n row m seen j : ℕ) (known : Bool) (kept : ℕ) (b2 line old new : L
             ∙ ap (λ x. if known then differing_bits kept x else 0) (sym (next-byte n (270 * n) 0 clear new 2 1 (omega arith) (at-row 2 e ∙ omega arith))) ∙ sym (by-b1 n known kept b2 (clear ++ new)))
         | inr other ↦ (
             let miss : (row == 2) ≡ false = ne_eqb _ _ other in
-            let far : 2 * (270 * n) ≤ length clear = past 2 (third h other together) in
+            let far : 2 * (270 * n) ≤ length clear = past 2 (omega arith) in
             b1 ∙ ap (λ t. if t then (if known then differing_bits kept (get_or new 0 0) else 0) else u.b1) miss ∙ was.b1 (omega arith) ∙ by-b1 n known kept b2 clear
             ∙ ap (λ x. if known then differing_bits kept x else 0) (sym (kept-byte n (270 * n) clear new 2 1 (omega arith) (omega arith))) ∙ sym (by-b1 n known kept b2 (clear ++ new)))
       ]
@@ -173,17 +150,15 @@ module _ (n row m seen j : ℕ) (known : Bool) (kept : ℕ) (b2 line old new : L
   b2-found : 5 ≤ v.rows → v.b2 ≡ b2_violations n (last_of n known kept b2) (scrambled (9 * n) line ++ new)
   b2-found h =
       let clear = scrambled (9 * n) line in
-      let part = slice_range new j (j + 3 * n) in
-      elim (cases_eq seen 5) [
+      elim (cases_eq row 5) [
         | inl e ↦ (
-            let hit : (seen == 5) ≡ true = eq-eqb _ _ e in
-            b2s ∙ ap (λ t. if t then (if known then violations_of (take (3 * n) b2) part else 0) else u.b2) hit
-            ∙ ap (λ l. if known then violations_of (take (3 * n) b2) l else 0) (sym (next-b2 n j clear new (at-fifth e))) ∙ sym (by-b2 n known kept b2 (clear ++ new)))
+            let hit : (row == 5) ≡ true = eq-eqb _ _ e in
+            b2s ∙ ap (λ t. if t then (if known then violations_of (take (3 * n) b2) (take (3 * n) new) else 0) else u.b2) hit
+            ∙ ap (λ l. if known then violations_of (take (3 * n) b2) l else 0) (sym (next-b2 n clear new (at-row 5 e ∙ omega arith))) ∙ sym (by-b2 n known kept b2 (clear ++ new)))
         | inr other ↦ (
-            let miss : (seen == 5) ≡ false = ne_eqb _ _ other in
-            let late = beyond h other in
-            let far : 5 * (270 * n) ≤ length clear = past 5 late in
-            b2s ∙ ap (λ t. if t then (if known then violations_of (take (3 * n) b2) part else 0) else u.b2) miss ∙ was.b2 (omega arith) ∙ by-b2 n known kept b2 clear
+            let miss : (row == 5) ≡ false = ne_eqb _ _ other in
+            let far : 5 * (270 * n) ≤ length clear = past 5 (omega arith) in
+            b2s ∙ ap (λ t. if t then (if known then violations_of (take (3 * n) b2) (take (3 * n) new) else 0) else u.b2) miss ∙ was.b2 (omega arith) ∙ by-b2 n known kept b2 clear
             ∙ ap (λ l. if known then violations_of (take (3 * n) b2) l else 0) (sym (range-before (1080 * n) (1083 * n) clear new (omega arith) (omega arith))) ∙ sym (by-b2 n known kept b2 (clear ++ new)))
       ]
 

@@ -1,5 +1,5 @@
 //! The rows of a frame that is under way: the scrambler and the parities run along, and what a received row says is kept.
-ghost use Rattle.std.specs.Prelude.{◌≡◌, ℕ, ◌+◌, ◌*◌, ◌-◌, ◌<◌, ◌≤◌, ◌⊎◌, ◌==◌, false, List, [], ◌++◌, length, take, drop, slice_index, if◌then◌else◌};
+ghost use Rattle.std.specs.Prelude.{◌≡◌, ℕ, ◌+◌, ◌*◌, ◌-◌, ◌≤◌, ◌⊎◌, ◌==◌, false, List, [], ◌++◌, length, take, drop, slice_index, if◌then◌else◌};
 ghost use Rattle.sdh_basics.specs.Parity.{bip8 as parity_of};
 ghost use Rattle.sdh_parity.specs.Pieces.{scrambled_from, after_bytes};
 ghost use Rattle.sdh_parity.specs.Violations.{differing_bits, violations_of};
@@ -54,18 +54,16 @@ impl Rows {
         }
     }
 
-    /// The next rows of a sent frame, one or several behind row 3: they are summed for B2, scrambled, and summed for B1.
-    pub fn send(&mut self, n: usize, row: u16, rows: u16, bytes: &mut [u8])
+    /// The next row of a sent frame: it is summed for B2, scrambled, and summed for B1.
+    pub fn send(&mut self, n: usize, row: u16, bytes: &mut [u8])
         requires few { n ≤ 16 }
         requires rate { self.old.clear.n ≡ n }
         requires first { 1 ≤ row }
-        requires some { 1 ≤ rows }
-        requires last { row + rows ≤ 10 }
-        requires together { (rows ≡ 1) ⊎ (4 ≤ row) }
-        requires bytes { length bytes.old ≡ rows * (270 * n) }
+        requires last { row ≤ 9 }
+        requires bytes { length bytes.old ≡ 270 * n }
         requires place { self.old.scrambler ≡ record { clear = 9 * n; at = (row - 1) * (270 * n) } }
-        ensures passed { self.new.passed ≡ row + rows - 1 }
-        ensures place { self.new.scrambler ≡ record { clear = 9 * n; at = (row + rows - 1) * (270 * n) } }
+        ensures passed { self.new.passed ≡ row }
+        ensures place { self.new.scrambler ≡ record { clear = 9 * n; at = row * (270 * n) } }
         ensures rate { self.new.clear.n ≡ n }
         ensures bytes { bytes.new ≡ scrambled_from (9 * n) ((row - 1) * (270 * n)) bytes.old }
         ensures line { (before : List ℕ) → self.old.line ≡ parity_of before → self.new.line ≡ parity_of (before ++ bytes.new) }
@@ -75,22 +73,19 @@ impl Rows {
         self.scrambler.apply(head);
         self.line.add(head);
         send_piece(&mut self.clear, &mut self.scrambler, &mut self.line, rest);
-        self.passed = row + rows - 1;
+        self.passed = row;
     }
 
-    /// The next rows of a framed frame that is received, one or several behind row 3: they are summed for B1, descrambled,
-    /// and summed for B2.
-    pub fn receive(&mut self, n: usize, row: u16, rows: u16, bytes: &mut [u8])
+    /// The next row of a framed frame that is received: it is summed for B1, descrambled, and summed for B2.
+    pub fn receive(&mut self, n: usize, row: u16, bytes: &mut [u8])
         requires few { n ≤ 16 }
         requires rate { self.old.clear.n ≡ n }
         requires first { 1 ≤ row }
-        requires some { 1 ≤ rows }
-        requires last { row + rows ≤ 10 }
-        requires together { (rows ≡ 1) ⊎ (4 ≤ row) }
-        requires bytes { length bytes.old ≡ rows * (270 * n) }
+        requires last { row ≤ 9 }
+        requires bytes { length bytes.old ≡ 270 * n }
         requires place { self.old.scrambler ≡ record { clear = 9 * n; at = (row - 1) * (270 * n) } }
-        ensures passed { self.new.passed ≡ row + rows - 1 }
-        ensures place { self.new.scrambler ≡ record { clear = 9 * n; at = (row + rows - 1) * (270 * n) } }
+        ensures passed { self.new.passed ≡ row }
+        ensures place { self.new.scrambler ≡ record { clear = 9 * n; at = row * (270 * n) } }
         ensures rate { self.new.clear.n ≡ n }
         ensures bytes { bytes.new ≡ scrambled_from (9 * n) ((row - 1) * (270 * n)) bytes.old }
         ensures line { (before : List ℕ) → self.old.line ≡ parity_of before → self.new.line ≡ parity_of (before ++ bytes.old) }
@@ -104,10 +99,11 @@ impl Rows {
         self.line.add(head);
         self.scrambler.apply(head);
         receive_piece(&mut self.line, &mut self.scrambler, &mut self.clear, rest);
-        self.passed = row + rows - 1;
+        self.passed = row;
     }
 
-    /// The same from one place to another, of a frame that needs not be framed.
+    /// The next rows of a frame that needs not be framed, one or several behind row 3, from one place to another: they are
+    /// summed for B1, descrambled, and summed for B2.
     pub fn open(&mut self, n: usize, row: u16, rows: u16, from: &[u8], to: &mut [u8])
         requires few { n ≤ 16 }
         requires rate { self.old.clear.n ≡ n }
@@ -141,22 +137,20 @@ impl Rows {
         self.passed = row + rows - 1;
     }
 
-    /// The next rows of an unframed frame, which are left as they came.
-    pub fn pass_over(&mut self, n: usize, row: u16, rows: u16)
+    /// The next row of an unframed frame, which is left as it came.
+    pub fn pass_over(&mut self, n: usize, row: u16)
         requires few { n ≤ 16 }
         requires first { 1 ≤ row }
-        requires some { 1 ≤ rows }
-        requires last { row + rows ≤ 10 }
-        requires together { (rows ≡ 1) ⊎ (4 ≤ row) }
+        requires last { row ≤ 9 }
         requires place { self.old.scrambler ≡ record { clear = 9 * n; at = (row - 1) * (270 * n) } }
-        ensures passed { self.new.passed ≡ row + rows - 1 }
-        ensures place { self.new.scrambler ≡ record { clear = 9 * n; at = (row + rows - 1) * (270 * n) } }
+        ensures passed { self.new.passed ≡ row }
+        ensures place { self.new.scrambler ≡ record { clear = 9 * n; at = row * (270 * n) } }
         ensures framed { self.new.framed ≡ false }
         ensures clear { self.new.clear ≡ self.old.clear }
     {
-        self.scrambler.skip(rows as usize * (270 * n));
+        self.scrambler.skip(270 * n);
         self.framed = false;
-        self.passed = row + rows - 1;
+        self.passed = row;
     }
 }
 
@@ -169,28 +163,6 @@ pub fn parity_of_rows(n: usize, clear: &BipSection) -> [u8; 48]
     let mut parity = [0; 48];
     clear.write_value(&mut parity[..3 * n]);
     parity
-}
-
-/// Where the K bytes and B2 are looked for: in row 5 where it is one of these rows, and else in the first.
-pub fn seen_row(row: u16, rows: u16) -> u16
-    requires some { 1 ≤ rows }
-    requires last { row + rows ≤ 10 }
-    ensures first { row ≤ result }
-    ensures last { result < row + rows }
-    ensures fifth { row ≤ 5 → 5 < row + rows → result ≡ 5 }
-{
-    if row <= 5 && 5 < row + rows { 5 } else { row }
-}
-
-/// Where a row begins in so many rows, counted from 0.
-pub fn start_of(n: usize, rows: u16, row: u16) -> usize
-    requires few { n ≤ 16 }
-    requires last { row < rows }
-    requires short { rows ≤ 9 }
-    ensures at { result ≡ row * (270 * n) }
-    ensures room { result + 270 * n ≤ rows * (270 * n) }
-{
-    row as usize * (270 * n)
 }
 
 /// A K byte of the rows that have gone by: row 5 has it.

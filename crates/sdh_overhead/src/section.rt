@@ -1,5 +1,5 @@
 //! Sections: what they send, and what they find in a received frame.
-ghost use Rattle.std.specs.Prelude.{◌≡◌, ◌≢◌, ℕ, List, [], ◌++◌, ◌+◌, ◌*◌, ◌-◌, ◌<◌, ◌≤◌, ◌⊎◌, ◌==◌, true, false, length, take, slice_index, None, Some, IfSome};
+ghost use Rattle.std.specs.Prelude.{◌≡◌, ◌≢◌, ℕ, List, [], ◌++◌, ◌+◌, ◌*◌, ◌-◌, ◌<◌, ◌≤◌, ◌==◌, true, false, length, take, slice_index, None, Some, IfSome};
 ghost use Rattle.std.specs.List.{list_all};
 ghost use Rattle.sdh_frame.specs.Sizes.{n_of, size_of};
 ghost use Rattle.sdh_parity.specs.Scrambling.{scrambled};
@@ -10,7 +10,7 @@ ghost use Rattle.sdh_overhead.specs.Laws.{AreParities};
 
 use crate::Received;
 use crate::overhead::write_head;
-use crate::rows::{Rows, b1_after, b2_after, k_after, parity_of_rows, seen_row, start_of};
+use crate::rows::{Rows, b1_after, b2_after, k_after, parity_of_rows};
 use sdh_frame::{FrameBuf, Rate};
 use std::marker::Model;
 
@@ -135,23 +135,21 @@ impl Section {
         }
     }
 
-    // Sums and scrambles the next rows of a sent frame.
-    fn send(&mut self, row: u16, rows: u16, bytes: &mut [u8])
+    // Sums and scrambles the next row of a sent frame.
+    fn send(&mut self, row: u16, bytes: &mut [u8])
         requires next { row ≡ next_of self.old.under_way }
-        requires some { 1 ≤ rows }
-        requires last { row + rows ≤ 10 }
-        requires together { (rows ≡ 1) ⊎ (4 ≤ row) }
-        requires bytes { length bytes.old ≡ rows * (270 * n_of self.old.rate) }
+        requires last { row ≤ 9 }
+        requires bytes { length bytes.old ≡ 270 * n_of self.old.rate }
         ensures rate { self.new.rate ≡ self.old.rate }
         ensures last { self.new.last ≡ self.old.last }
-        ensures next { next_of self.new.under_way ≡ row + rows }
+        ensures next { next_of self.new.under_way ≡ row + 1 }
         ensures bytes { bytes.new ≡ scrambled_from (9 * n_of self.old.rate) ((row - 1) * (270 * n_of self.old.rate)) bytes.old }
         ensures passed { (clear line : List ℕ) → ArePassed (n_of self.old.rate) clear line self.old.under_way → ArePassed (n_of self.old.rate) (clear ++ bytes.old) (line ++ bytes.new) self.new.under_way }
     {
-        self.rows.send(self.rate.n(), row, rows, bytes);
+        self.rows.send(self.rate.n(), row, bytes);
     }
 
-    // Whether the frame is framed to which the next rows belong: row 1 tells.
+    // Whether the frame is framed to which the next row belongs: row 1 tells.
     fn is_framed(&self, row: u16, bytes: &[u8]) -> bool
         requires next { row ≡ next_of self.now.under_way }
         requires bytes { 270 * n_of self.now.rate ≤ length bytes.now }
@@ -163,46 +161,40 @@ impl Section {
         self.rows.framed
     }
 
-    // Goes past the next rows of an unframed frame.
-    fn pass_over(&mut self, row: u16, rows: u16)
+    // Goes past the next row of an unframed frame.
+    fn pass_over(&mut self, row: u16)
         requires next { row ≡ next_of self.old.under_way }
-        requires some { 1 ≤ rows }
-        requires last { row + rows ≤ 10 }
-        requires together { (rows ≡ 1) ⊎ (4 ≤ row) }
+        requires last { row ≤ 9 }
         ensures rate { self.new.rate ≡ self.old.rate }
         ensures last { self.new.last ≡ self.old.last }
-        ensures next { next_of self.new.under_way ≡ row + rows }
-        ensures read { (line bytes : List ℕ) → AreRead (n_of self.old.rate) self.old.last line self.old.under_way → length bytes ≡ rows * (270 * n_of self.old.rate) → is_framed (n_of self.old.rate) (line ++ bytes) ≡ false → AreRead (n_of self.old.rate) self.old.last (line ++ bytes) self.new.under_way }
+        ensures next { next_of self.new.under_way ≡ row + 1 }
+        ensures read { (line bytes : List ℕ) → AreRead (n_of self.old.rate) self.old.last line self.old.under_way → length bytes ≡ 270 * n_of self.old.rate → is_framed (n_of self.old.rate) (line ++ bytes) ≡ false → AreRead (n_of self.old.rate) self.old.last (line ++ bytes) self.new.under_way }
     {
-        self.rows.pass_over(self.rate.n(), row, rows);
+        self.rows.pass_over(self.rate.n(), row);
     }
 
-    // Descrambles and sums the next rows of a framed frame, and keeps what they say.
-    fn receive(&mut self, row: u16, rows: u16, bytes: &mut [u8])
+    // Descrambles and sums the next row of a framed frame, and keeps what it says.
+    fn receive(&mut self, row: u16, bytes: &mut [u8])
         requires next { row ≡ next_of self.old.under_way }
-        requires some { 1 ≤ rows }
-        requires last { row + rows ≤ 10 }
-        requires together { (rows ≡ 1) ⊎ (4 ≤ row) }
-        requires bytes { length bytes.old ≡ rows * (270 * n_of self.old.rate) }
+        requires last { row ≤ 9 }
+        requires bytes { length bytes.old ≡ 270 * n_of self.old.rate }
         ensures rate { self.new.rate ≡ self.old.rate }
         ensures last { self.new.last ≡ self.old.last }
-        ensures next { next_of self.new.under_way ≡ row + rows }
+        ensures next { next_of self.new.under_way ≡ row + 1 }
         ensures bytes { bytes.new ≡ scrambled_from (9 * n_of self.old.rate) ((row - 1) * (270 * n_of self.old.rate)) bytes.old }
         ensures read { (line : List ℕ) → AreRead (n_of self.old.rate) self.old.last line self.old.under_way → is_framed (n_of self.old.rate) (line ++ bytes.old) ≡ true → AreRead (n_of self.old.rate) self.old.last (line ++ bytes.old) self.new.under_way }
     {
         let n = self.rate.n();
-        self.rows.receive(n, row, rows, bytes);
-        let seen = seen_row(row, rows);
-        let at = start_of(n, rows, seen - row);
-        self.rows.k1 = k_after(seen, self.rows.k1, bytes[at + 3 * n]);
-        self.rows.k2 = k_after(seen, self.rows.k2, bytes[at + 6 * n]);
+        self.rows.receive(n, row, bytes);
+        self.rows.k1 = k_after(row, self.rows.k1, bytes[3 * n]);
+        self.rows.k2 = k_after(row, self.rows.k2, bytes[6 * n]);
         self.rows.b1 = b1_after(row, self.rows.b1, self.known, self.b1, bytes[0]);
         self.rows.b2 = b2_after(
-            seen,
+            row,
             self.rows.b2,
             self.known,
             &self.b2[..3 * n],
-            &bytes[at..at + 3 * n],
+            &bytes[..3 * n],
         );
         self.rows.framed = true;
     }
@@ -291,7 +283,7 @@ pub fn write_row(section: &mut Section, row: u16, k1: u8, k2: u8, bytes: &mut [u
     ensures ninth { row ≡ 9 → section.new.under_way ≡ None }
 {
     section.place(row, k1, k2, bytes);
-    section.send(row, 1, bytes);
+    section.send(row, bytes);
     if row < 9 {
         return;
     }
@@ -325,26 +317,6 @@ pub fn write_section(section: &mut Section, k1: u8, k2: u8, frame: &mut FrameBuf
     write_rows(section, k1, k2, frame.bytes_mut());
 }
 
-// Reads the next rows of a received frame.
-fn read_piece(section: &mut Section, row: u16, rows: u16, bytes: &mut [u8])
-    requires next { row ≡ next_of section.old.under_way }
-    requires some { 1 ≤ rows }
-    requires last { row + rows ≤ 10 }
-    requires together { (rows ≡ 1) ⊎ (4 ≤ row) }
-    requires bytes { length bytes.old ≡ rows * (270 * n_of section.old.rate) }
-    ensures bytes { (line : List ℕ) → AreRead (n_of section.old.rate) section.old.last line section.old.under_way → bytes.new ≡ opened_row (n_of section.old.rate) line bytes.old }
-    ensures read { (line : List ℕ) → AreRead (n_of section.old.rate) section.old.last line section.old.under_way → AreRead (n_of section.old.rate) section.old.last (line ++ bytes.old) section.new.under_way }
-    ensures rate { section.new.rate ≡ section.old.rate }
-    ensures last { section.new.last ≡ section.old.last }
-    ensures next { next_of section.new.under_way ≡ row + rows }
-{
-    if !section.is_framed(row, bytes) {
-        section.pass_over(row, rows);
-        return;
-    }
-    section.receive(row, rows, bytes);
-}
-
 /// Reads the next row of a received frame, and descrambles it in place. The rows of an unframed frame are left as they
 /// came. After the ninth row comes `finish_read`.
 pub fn read_row(section: &mut Section, row: u16, bytes: &mut [u8])
@@ -357,7 +329,11 @@ pub fn read_row(section: &mut Section, row: u16, bytes: &mut [u8])
     ensures last { section.new.last ≡ section.old.last }
     ensures next { next_of section.new.under_way ≡ row + 1 }
 {
-    read_piece(section, row, 1, bytes);
+    if !section.is_framed(row, bytes) {
+        section.pass_over(row);
+        return;
+    }
+    section.receive(row, bytes);
 }
 
 // Reads the nine rows of a frame.
@@ -371,11 +347,10 @@ fn read_rows(section: &mut Section, bytes: &mut [u8])
     ensures next { next_of section.new.under_way ≡ 10 }
 {
     let width = 270 * section.rate.n();
-    for row in 1..4 {
+    for row in 1..10 {
         let at = (row as usize - 1) * width;
         read_row(section, row, &mut bytes[at..at + width]);
     }
-    read_piece(section, 4, 6, &mut bytes[3 * width..9 * width]);
 }
 
 /// Reads the overhead of a received frame against the parities of the frame read before, and descrambles it in place. An

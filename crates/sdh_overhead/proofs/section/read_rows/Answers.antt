@@ -2,7 +2,7 @@ use Rattle.std.proofs.Common.{◌≡◌, ℕ, ◌+◌, ◌*◌, ◌-◌, ◌≤�
 use Rattle.sdh_frame.specs.Sizes.{n_of}
 use Rattle.sdh_overhead.specs.Sections.{SectionKept}
 use Rattle.sdh_basics.proofs.Parts.{length-part}
-use Rattle.sdh_overhead.proofs.Nine.{ReadTo, none-read, read-next, read-last, all-read, all-heard, row-within}
+use Rattle.sdh_overhead.proofs.Nine.{ReadTo, none-read, read-next, all-read, all-heard, row-within}
 use Rattle.sdh_overhead.proofs.section.read_rows.Goals as goal
 
 pub loop-row-init : goal.loop-row-init
@@ -17,29 +17,17 @@ loop-row-preserved c =
     let k : ℕ = a + 270 * w - a in
     let n : w ≡ n_of first.rate = c.n-width.ensures ∙ ap (λ (s : SectionKept). n_of s.rate) c.section.view_is in
     let at : a ≡ (row - 1) * (270 * n_of first.rate) = ap (λ m. (row - 1) * (270 * m)) n in
-    let many : k ≡ 1 * (270 * n_of first.rate) = omega arith in
-    let room : a + k ≤ length c.loop-row.bytes = omega (arith, at, row-within first row 1 (omega arith) (omega arith), c.loop-row.invariant.long) in
-    read-next first c.loop-row.section c.read_row.new.section row 1 a k c.args.bytes.now c.loop-row.bytes c.read_row.new.bytes c.requires.bytes (omega arith) (omega arith) (omega arith) at many c.loop-row.invariant
+    let many : k ≡ 270 * n_of first.rate = omega arith in
+    let room : a + k ≤ length c.loop-row.bytes = omega (arith, at, row-within first row (omega arith), c.loop-row.invariant.long) in
+    read-next first c.loop-row.section c.read_row.new.section row a k c.args.bytes.now c.loop-row.bytes c.read_row.new.bytes c.requires.bytes (omega arith) (omega arith) at many c.loop-row.invariant
     (c.read_row.auto.bytes ∙ length-part a k c.loop-row.bytes room) c.read_row.ensures.bytes c.read_row.ensures.read c.read_row.ensures.rate c.read_row.ensures.last c.read_row.ensures.next
 
 pub returns-clause-bytes : goal.returns-clause-bytes
 returns-clause-bytes c =
-    let first = c.args.section.now in
-    let old = c.args.bytes.now in
-    let row : c.loop-row.row ≡ 4 = omega arith in
-    let n : c.n-width.result ≡ n_of first.rate = c.n-width.ensures ∙ ap (λ (s : SectionKept). n_of s.rate) c.section.view_is in
-    all-read first c.read_piece.new.section old _ c.requires.bytes
-    (read-last first c.loop-row.section c.read_piece.new.section c.n-width.result old c.loop-row.bytes c.read_piece.new.bytes c.requires.bytes n
-    (subst (λ (r : ℕ). ReadTo first old r c.loop-row.section c.loop-row.bytes) row c.loop-row.invariant)
-    c.read_piece.auto.bytes c.read_piece.ensures.bytes c.read_piece.ensures.read c.read_piece.ensures.rate c.read_piece.ensures.last c.read_piece.ensures.next)
+    let row : c.loop-row.row ≡ 10 = omega arith in
+    all-read c.args.section.now c.loop-row.section c.args.bytes.now c.loop-row.bytes c.requires.bytes (subst (λ (r : ℕ). ReadTo c.args.section.now c.args.bytes.now r c.loop-row.section c.loop-row.bytes) row c.loop-row.invariant)
 
 pub returns-clause-read : goal.returns-clause-read
 returns-clause-read c =
-    let first = c.args.section.now in
-    let old = c.args.bytes.now in
-    let row : c.loop-row.row ≡ 4 = omega arith in
-    let n : c.n-width.result ≡ n_of first.rate = c.n-width.ensures ∙ ap (λ (s : SectionKept). n_of s.rate) c.section.view_is in
-    all-heard first c.read_piece.new.section old _ c.requires.bytes
-    (read-last first c.loop-row.section c.read_piece.new.section c.n-width.result old c.loop-row.bytes c.read_piece.new.bytes c.requires.bytes n
-    (subst (λ (r : ℕ). ReadTo first old r c.loop-row.section c.loop-row.bytes) row c.loop-row.invariant)
-    c.read_piece.auto.bytes c.read_piece.ensures.bytes c.read_piece.ensures.read c.read_piece.ensures.rate c.read_piece.ensures.last c.read_piece.ensures.next)
+    let row : c.loop-row.row ≡ 10 = omega arith in
+    all-heard c.args.section.now c.loop-row.section c.args.bytes.now c.loop-row.bytes c.requires.bytes (subst (λ (r : ℕ). ReadTo c.args.section.now c.args.bytes.now r c.loop-row.section c.loop-row.bytes) row c.loop-row.invariant)

@@ -17,10 +17,10 @@ loop-row-preserved c =
     let k : ℕ = a + 270 * w - a in
     let n : w ≡ n_of first.rate = c.n-width.ensures ∙ ap (λ (s : SectionKept). n_of s.rate) c.section.view_is in
     let at : a ≡ (row - 1) * (270 * n_of first.rate) = ap (λ m. (row - 1) * (270 * m)) n in
-    let many : k ≡ 1 * (270 * n_of first.rate) = omega arith in
-    let room : a + k ≤ length c.loop-row.bytes = omega (arith, at, row-within first row 1 (omega arith) (omega arith), c.loop-row.invariant.long) in
-    sent-next first c.loop-row.section c.write_row.new.section c.args.k1 c.args.k2 row 1 a k c.args.bytes.now c.loop-row.bytes c.write_row.new.bytes c.requires.bytes (omega arith) (omega arith) (omega arith) at many c.loop-row.invariant
-    (c.write_row.auto.bytes ∙ length-part a k c.loop-row.bytes room) c.write_row.ensures.bytes c.write_row.ensures.section c.write_row.ensures.rate (λ h. c.write_row.ensures.next (omega arith))
+    let many : k ≡ 270 * n_of first.rate = omega arith in
+    let room : a + k ≤ length c.loop-row.bytes = omega (arith, at, row-within first row (omega arith), c.loop-row.invariant.long) in
+    sent-next first c.loop-row.section c.write_row.new.section c.args.k1 c.args.k2 row a k c.args.bytes.now c.loop-row.bytes c.write_row.new.bytes c.requires.bytes (omega arith) (omega arith) at many c.loop-row.invariant
+    (c.write_row.auto.bytes ∙ length-part a k c.loop-row.bytes room) c.write_row.ensures.bytes c.write_row.ensures.section c.write_row.ensures.rate c.write_row.ensures.next
 
 pub returns-clause-bytes : goal.returns-clause-bytes
 returns-clause-bytes c =

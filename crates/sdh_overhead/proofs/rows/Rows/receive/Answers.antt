@@ -3,7 +3,7 @@ use Rattle.std.proofs.Math.Seq.{drop-append_seam}
 use Rattle.sdh_basics.specs.Parity.{bip8}
 use Rattle.sdh_parity.specs.Pieces.{Position, after_bytes, scrambled_from}
 use Rattle.sdh_overhead.specs.Rows.{skipped}
-use Rattle.sdh_overhead.proofs.Passing.{cut-row, row-ends, sum-up}
+use Rattle.sdh_overhead.proofs.Passing.{cut-row, row-end, sum-up}
 use Rattle.sdh_overhead.proofs.rows.Rows.receive.Goals as goal
 
 pub returns-clause-bytes : goal.returns-clause-bytes
@@ -24,8 +24,8 @@ returns-clause-place c =
     let rest = c.split_at_mut-head.result.1.now in
     let at : ℕ = (c.args.row - 1) * (270 * n) in
     let mid = c.apply.ensures.at ∙ ap (λ (p : Position). record p { at = p.at + length head }) c.requires.place in
-    let wide : length head + length rest ≡ c.args.rows * (270 * n) = omega (arith, c.split_at_mut-head.ensures.front_len, c.split_at_mut-head.ensures.back_len, c.requires.bytes) in
-    let end : at + length head + length rest ≡ (c.args.row + c.args.rows - 1) * (270 * n) = sum-up at (length head) (length rest) (c.args.rows * (270 * n)) wide ∙ row-ends c.args.row c.args.rows (270 * n) c.requires.first in
+    let wide : length head + length rest ≡ 270 * n = omega (arith, c.split_at_mut-head.ensures.front_len, c.split_at_mut-head.ensures.back_len, c.requires.bytes) in
+    let end : at + length head + length rest ≡ c.args.row * (270 * n) = sum-up at (length head) (length rest) (270 * n) wide ∙ row-end c.args.row (270 * n) c.requires.first in
     c.receive_piece.ensures.at ∙ ap (λ (p : Position). record p { at = p.at + length rest }) mid ∙ (λ i. record { clear = 9 * n; at = end i })
 
 pub returns-clause-line : goal.returns-clause-line

@@ -17,7 +17,7 @@ returns-clause-passed c = λ clear line are.
     let rate : n_of s.rate ≡ n_of c.args.self.now.rate = ap (λ (k : SectionKept). n_of k.rate) c.self.view_is in
     let was : ArePassed n clear line (under_way_of u) = subst (λ m. ArePassed m clear line (under_way_of u)) (sym rate) (subst (ArePassed (n_of c.args.self.now.rate) clear line) (sym (ap (λ (k : SectionKept). k.under_way) c.self.view_is)) are) in
     let next : c.args.row ≡ u.rows + 1 = c.requires.next ∙ sym (ap (λ (k : SectionKept). next_of k.under_way) c.self.view_is) ∙ rows-next u in
-    let long : length c.args.bytes.now ≡ c.args.rows * (270 * n) = c.requires.bytes ∙ ap (λ k. c.args.rows * (270 * k)) (sym rate) in
+    let long : length c.args.bytes.now ≡ 270 * n = c.requires.bytes ∙ ap (λ k. 270 * k) (sym rate) in
     subst (λ m. ArePassed m (clear ++ c.args.bytes.now) (line ++ c.send.new.bytes) (under_way_of v)) rate
-    (one-more n c.args.row c.args.rows clear line c.args.bytes.now c.send.new.bytes u v (as-passed n r.scrambler clear line u c.self.invariant.placed was) next c.requires.some c.send.ensures.passed c.requires.together long c.send.auto.bytes c.send.ensures.line
+    (one-more n c.args.row clear line c.args.bytes.now c.send.new.bytes u v (as-passed n r.scrambler clear line u c.self.invariant.placed was) next c.send.ensures.passed long c.send.auto.bytes c.send.ensures.line
     (λ before e. subst (λ m. t.clear ≡ after_bytes m (before ++ drop (skipped m c.args.row) c.args.bytes.now)) c.n.ensures (c.send.ensures.clear before (e ∙ ap (λ m. after_bytes m before) (sym c.n.ensures)))))
