@@ -1,9 +1,9 @@
 -- The frame that a side sends is the same whatever stood in its buffer.
-use Rattle.std.proofs.Common.{◌≡◌, ℕ, length, replicate, ap, ◌∙◌}
+use Rattle.std.proofs.Common.{◌≡◌, ℕ, List, Some, length, replicate, ap, ◌∙◌}
 use Rattle.std.proofs.lemmas.List.{length-replicate}
 use Rattle.sdh_frame.specs.Sizes.{Frame, n_of, size_of}
-use Rattle.sdh_frame.specs.Aus.{with_aus}
-use Rattle.sdh_overhead.specs.Sections.{clear_frame, line_frame}
+use Rattle.sdh_frame.specs.Aus.{Au, with_aus}
+use Rattle.sdh_overhead.specs.Sections.{SectionKept, holding, parities_of, clear_frame, line_frame}
 use Rattle.sdh_overhead.proofs.Alone.{clear_alone, line_alone}
 use Rattle.sdh_kbytes.specs.KBytes.{first_byte, second_byte}
 use Rattle.sdh_node.specs.Passing.{Input, aus_sent}
@@ -41,3 +41,22 @@ module _ (input : ℕ → Input) (s : Sending) (first full : Frame) (k1 k2 : ℕ
 
   pub frame_is : (last : Frame) → last ≡ record full { bytes = line_frame (n_of s.section.rate) s.section.last k1 k2 full.bytes } → last ≡ frame_from input s
   frame_is last seal = seal ∙ λ i. record { rate = (ap (λ (f : Frame). f.rate) fill ∙ e) i; bytes = line_is i }
+
+-- a side that sent a frame of these AU-4s
+module _ (input : ℕ → Input) (s : Sending) (out new : Frame) (aus : List Au) (k1 k2 : ℕ) (whole : length out.bytes ≡ size_of out.rate) (e : out.rate ≡ s.section.rate) (len : length s.generators ≡ n_of s.section.rate)
+    (same : aus ≡ aus_sent input s.generators) (one : k1 ≡ first_byte s.word) (two : k2 ≡ second_byte s.word) (seal : new ≡ record out { bytes = line_frame (n_of out.rate) s.section.last k1 k2 (with_aus (n_of out.rate) 1 aus out.bytes) }) where
+  fill : record out { bytes = with_aus (n_of out.rate) 1 aus out.bytes } ≡ record out { bytes = with_aus (n_of out.rate) 1 (aus_sent input s.generators) out.bytes }
+  fill i = record out { bytes = with_aus (n_of out.rate) 1 (same i) out.bytes }
+
+  pub sent-is : new ≡ frame_from input s
+  sent-is =
+      frame_is input s out (record out { bytes = with_aus (n_of out.rate) 1 aus out.bytes }) k1 k2 whole e len fill one two new
+      (seal ∙ ap (λ r. record out { bytes = line_frame (n_of r) s.section.last k1 k2 (with_aus (n_of out.rate) 1 aus out.bytes) }) e)
+
+  pub kept-is : (section : SectionKept) → section ≡ holding out.rate (Some (parities_of (n_of out.rate) (clear_frame (n_of out.rate) s.section.last k1 k2 (with_aus (n_of out.rate) 1 aus out.bytes)) new.bytes))
+      → section ≡ holding s.section.rate (Some (parities_of (n_of s.section.rate) (clear_frame_from input s) (line_frame_from input s)))
+  kept-is section holds =
+      let clear = clear_is input s out (record out { bytes = with_aus (n_of out.rate) 1 aus out.bytes }) k1 k2 whole e len fill one two in
+      let line : new.bytes ≡ line_frame_from input s = ap (λ (f : Frame). f.bytes) sent-is in
+      holds ∙ ap (λ r. holding r (Some (parities_of (n_of r) (clear_frame (n_of r) s.section.last k1 k2 (with_aus (n_of out.rate) 1 aus out.bytes)) new.bytes))) e
+      ∙ λ i. holding s.section.rate (Some (parities_of (n_of s.section.rate) (clear i) (line i)))

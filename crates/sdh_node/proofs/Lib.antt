@@ -12,3 +12,4 @@ pub mod Calm
 pub mod Decided
 pub mod Places
 pub mod Slips
+pub mod Rowwise

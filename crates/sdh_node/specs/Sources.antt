@@ -2,7 +2,8 @@
 use Rattle.std.specs.Prelude.{ℕ, List}
 use Rattle.sdh_frame.specs.Sizes.{n_of}
 use Rattle.sdh_interchange.specs.declared.choose.Source.{Source}
-use Rattle.sdh_interchange.specs.Assembled.{payload_from}
+use Rattle.sdh_frame.specs.Aus.{with_aus}
+use Rattle.sdh_interchange.specs.Assembled.{payload_from, assembled}
 use Rattle.sdh_ringmap.specs.declared.Side.{Side}
 use Rattle.sdh_ringmap.specs.declared.Side.TheVariants.{West, East}
 use Rattle.sdh_node.specs.Crossing.{Cross}
@@ -15,3 +16,7 @@ payload_by x own source = payload_from (n_of x.west.section.rate) x.west_in.fram
 abbrev pub bytes_on : Side → List ℕ → List ℕ → List ℕ
 bytes_on West west east = west
 bytes_on East west east = east
+
+-- a frame's bytes with all AU-4s from these sources, with these pointer bytes
+abbrev pub put_together : ℕ → List ℕ → List ℕ → List (List ℕ) → List Source → List (List ℕ) → List ℕ → List ℕ
+put_together n first second own sources pointers bytes = with_aus n 1 (assembled n first second own sources pointers) bytes

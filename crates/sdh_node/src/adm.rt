@@ -9,7 +9,7 @@ ghost use Rattle.sdh_node.specs.Tributaries.{HasPort, outlet_of, waiting_of};
 ghost use Rattle.sdh_node.specs.Node.{new_node, at_receiving, held_for, slips_at, node_round, GoesOn, receiving_on, sending_on, moment_of};
 
 use crate::cross::CrossConnect;
-use crate::sender::Sender;
+use crate::sender::{Sender, send_both};
 use crate::settings::Settings;
 use crate::tributaries::Tributaries;
 use sdh_circuits::{CircuitMap, PortId};
@@ -222,12 +222,14 @@ impl Adm {
         self.ports.feed();
         self.rounds += 1;
         self.held = one_less(self.held);
-        let west_made = self
-            .west_out
-            .send(&self.cross, &self.ports, Side::West, west);
-        let east_made = self
-            .east_out
-            .send(&self.cross, &self.ports, Side::East, east);
+        let (west_made, east_made) = send_both(
+            &mut self.west_out,
+            &mut self.east_out,
+            &self.cross,
+            &self.ports,
+            west,
+            east,
+        );
         let calm = is_calm(
             counts, taken, decided, west_said, west_made, east_said, east_made,
         );

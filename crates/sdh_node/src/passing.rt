@@ -1,4 +1,4 @@
-//! AU-4s that are sent.
+//! What the AU-4s of a sent frame are.
 ghost use Rattle.std.specs.Prelude.{◌≡◌, ◌≢◌, ℕ, List, ◌+◌, ◌*◌, ◌/◌, ◌%◌, ◌<◌, ◌≤◌, IfOk, length};
 ghost use Rattle.sdh_frame.specs.Sizes.{n_of};
 ghost use Rattle.sdh_frame.specs.Aus.{au_of, with_aus};
@@ -20,7 +20,7 @@ use crate::tributary::Tributary;
 use sdh_bridge::Origin;
 use sdh_circuits::PortId;
 use sdh_frame::FrameBuf;
-use sdh_interchange::{Payloads, Source, assemble};
+use sdh_interchange::{Payloads, Source};
 use sdh_pointer::{Action, Form, Gen, Word, write_word};
 use sdh_ringmap::Side;
 use std::alloc::{AllocError, Global};
@@ -241,48 +241,30 @@ impl Assembly {
             pointers: vec![in alloc; [0xFF; 9]; n]?,
         })
     }
-}
 
-/// All generators of a side send. Whether they are in the states in which they were.
-pub fn send_all(
-    cross: &CrossConnect,
-    ports: &Tributaries,
-    side: Side,
-    generators: &mut Vec<Gen>,
-    assembly: &mut Assembly,
-    out: &mut FrameBuf,
-) -> bool
-    requires rate { cross.now.west.section.rate ≡ out.old.rate }
-    requires few { n_of out.old.rate ≤ 16 }
-    requires len { length generators.old.items ≡ n_of out.old.rate }
-    requires sources { length assembly.old.sources.items ≡ n_of out.old.rate }
-    requires pointers { length assembly.old.pointers.items ≡ n_of out.old.rate }
-    ensures generators { states_of generators.new.items ≡ after_inputs (input_at cross.now (added_last ports.now) side) (states_of generators.old.items) }
-    ensures frame { out.new ≡ record out.old { bytes = with_aus (n_of out.old.rate) 1 (aus_sent (input_at cross.now (added_last ports.now) side) (states_of generators.old.items)) out.old.bytes } }
-    ensures len { length generators.new.items ≡ n_of out.old.rate }
-    ensures same { result ≡ same_generators (states_of generators.new.items) (states_of generators.old.items) }
-    ensures sources { length assembly.new.sources.items ≡ n_of out.old.rate }
-    ensures pointers { length assembly.new.pointers.items ≡ n_of out.old.rate }
-{
-    let mut own = Payloads::none();
-    let same = plan_all(
-        cross,
-        ports,
-        side,
-        generators,
-        assembly.sources.as_mut_slice(),
-        assembly.pointers.as_mut_slice(),
-        &mut own,
-    );
-    let west = cross.intake(Side::West).frame();
-    let east = cross.intake(Side::East).frame();
-    assemble(
-        out,
-        assembly.sources.as_slice(),
-        assembly.pointers.as_slice(),
-        west,
-        east,
-        &own,
-    );
-    same
+    /// All generators of a side step, and tell what the AU-4s of its next frame are. Whether they are in the states in which they
+    /// were.
+    pub fn plan<'a>(
+        &mut self,
+        cross: &CrossConnect,
+        ports: &'a Tributaries,
+        side: Side,
+        generators: &mut Vec<Gen>,
+        own: &mut Payloads<'a>,
+    ) -> bool
+        requires few { n_of cross.now.west.section.rate ≤ 16 }
+        requires len { length generators.old.items ≡ n_of cross.now.west.section.rate }
+        requires sources { length self.old.sources.items ≡ n_of cross.now.west.section.rate }
+        requires pointers { length self.old.pointers.items ≡ n_of cross.now.west.section.rate }
+        ensures generators { states_of generators.new.items ≡ after_inputs (input_at cross.now (added_last ports.now) side) (states_of generators.old.items) }
+        ensures aus { assembled (n_of cross.now.west.section.rate) cross.now.west_in.frame.bytes cross.now.east_in.frame.bytes own.new self.new.sources.items self.new.pointers.items ≡ aus_sent (input_at cross.now (added_last ports.now) side) (states_of generators.old.items) }
+        ensures sources { AreSources (n_of cross.now.west.section.rate) self.new.sources.items }
+        ensures same { result ≡ same_generators (states_of generators.new.items) (states_of generators.old.items) }
+        ensures len { length generators.new.items ≡ n_of cross.now.west.section.rate }
+        ensures pointers { length self.new.pointers.items ≡ n_of cross.now.west.section.rate }
+    {
+        let sources = self.sources.as_mut_slice();
+        let pointers = self.pointers.as_mut_slice();
+        plan_all(cross, ports, side, generators, sources, pointers, own)
+    }
 }

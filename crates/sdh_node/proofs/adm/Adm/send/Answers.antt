@@ -29,8 +29,8 @@ invariant_of-self c =
     let east = c.decide-decided.ensures.east_in in
     record {
       west_rate = ap (λ (r : Receiving). r.section.rate) west ∙ c.take-taken.ensures.rate ∙ inv.west_rate;
-      west_out_rate = c.send-west_made.ensures.rate ∙ ap (λ (s : Sending). s.section.rate) c.say-west_said.ensures.sender ∙ inv.west_out_rate;
-      east_out_rate = c.send-east_made.ensures.rate ∙ ap (λ (s : Sending). s.section.rate) c.say-east_said.ensures.sender ∙ inv.east_out_rate;
+      west_out_rate = c.send_both-west_made.ensures.rates.0 ∙ ap (λ (s : Sending). s.section.rate) c.say-west_said.ensures.sender ∙ inv.west_out_rate;
+      east_out_rate = c.send_both-west_made.ensures.rates.1 ∙ ap (λ (s : Sending). s.section.rate) c.say-east_said.ensures.sender ∙ inv.east_out_rate;
       moments = ap (λ (r : Receiving). r.local.moment) east ∙ c.take-taken.ensures.east ∙ sym c.take-taken.ensures.west ∙ sym (ap (λ (r : Receiving). r.local.moment) west);
       held = (let was = inv.held in let now = c.one_less-self-inside.ensures in omega arith);
       ports = subst (All (IsTributary slots (i.rounds + 1))) (sym c.feed.ensures)
@@ -47,9 +47,9 @@ returns-clause-west c =
     let east_said = c.decide-decided.ensures.east ∙ (λ j. next_word (held j) tk East (c.words_of-before.ensures.east j)) in
     west_frame_is c.args.now.0 i.settings i.rounds i.held i.cross i.ports i.west_out i.east_out i.calm
     c.take-taken.new.self c.decide-decided.new.self c.deliver.new.self c.feed.new.self c.take-taken.ensures.cross decided c.deliver.ensures c.feed.ensures
-    c.decide-decided.result.0.west c.decide-decided.result.0.east c.say-west_said.new.self c.say-east_said.new.self c.send-west_made.new.self c.send-east_made.new.self c.feed.new.self c.feed.new.self
+    c.decide-decided.result.0.west c.decide-decided.result.0.east c.say-west_said.new.self c.say-east_said.new.self c.send_both-west_made.new.west c.send_both-west_made.new.east c.feed.new.self c.feed.new.self
     west_said east_said c.say-west_said.ensures.sender c.say-east_said.ensures.sender refl refl
-    c.send-west_made.new.out c.send-west_made.ensures.frame
+    c.send_both-west_made.new.west_out c.send_both-west_made.ensures.west_frame
     ∙ ap (λ (n : Node). (node_round c.args.now.0 n).1.west) c.self.view_is
 
 pub returns-clause-east : goal.returns-clause-east
@@ -62,9 +62,9 @@ returns-clause-east c =
     let east_said = c.decide-decided.ensures.east ∙ (λ j. next_word (held j) tk East (c.words_of-before.ensures.east j)) in
     east_frame_is c.args.now.0 i.settings i.rounds i.held i.cross i.ports i.west_out i.east_out i.calm
     c.take-taken.new.self c.decide-decided.new.self c.deliver.new.self c.feed.new.self c.take-taken.ensures.cross decided c.deliver.ensures c.feed.ensures
-    c.decide-decided.result.0.west c.decide-decided.result.0.east c.say-west_said.new.self c.say-east_said.new.self c.send-west_made.new.self c.send-east_made.new.self c.feed.new.self c.feed.new.self
+    c.decide-decided.result.0.west c.decide-decided.result.0.east c.say-west_said.new.self c.say-east_said.new.self c.send_both-west_made.new.west c.send_both-west_made.new.east c.feed.new.self c.feed.new.self
     west_said east_said c.say-west_said.ensures.sender c.say-east_said.ensures.sender refl refl
-    c.send-east_made.new.out c.send-east_made.ensures.frame
+    c.send_both-west_made.new.east_out c.send_both-west_made.ensures.east_frame
     ∙ ap (λ (n : Node). (node_round c.args.now.0 n).1.east) c.self.view_is
 
 pub returns-clause-node : goal.returns-clause-node
@@ -80,17 +80,17 @@ returns-clause-node c =
     c.is_calm-calm.ensures
     ∙ calm_is c.args.now.0 i.settings i.rounds i.held i.cross i.ports i.west_out i.east_out i.calm
     c.take-taken.new.self c.decide-decided.new.self c.deliver.new.self c.feed.new.self c.take-taken.ensures.cross decided c.deliver.ensures c.feed.ensures
-    c.decide-decided.result.0.west c.decide-decided.result.0.east c.say-west_said.new.self c.say-east_said.new.self c.send-west_made.new.self c.send-east_made.new.self c.feed.new.self c.feed.new.self
+    c.decide-decided.result.0.west c.decide-decided.result.0.east c.say-west_said.new.self c.say-east_said.new.self c.send_both-west_made.new.west c.send_both-west_made.new.east c.feed.new.self c.feed.new.self
     west_said east_said c.say-west_said.ensures.sender c.say-east_said.ensures.sender refl refl
-    c.send-west_made.ensures.sender c.send-east_made.ensures.sender
-    c.may_be_calm-counts.result c.take-taken.result c.decide-decided.result.1 c.say-west_said.result c.send-west_made.result c.say-east_said.result c.send-east_made.result
-    counted c.take-taken.ensures.same c.decide-decided.ensures.same c.say-west_said.ensures.same c.send-west_made.ensures.same c.say-east_said.ensures.same c.send-east_made.ensures.same in
-    (λ j. node_of i.settings (i.rounds + 1) (c.one_less-self-inside.ensures j) c.decide-decided.new.self c.feed.new.self c.send-west_made.new.self c.send-east_made.new.self c.is_calm-calm.result)
+    c.send_both-west_made.ensures.west c.send_both-west_made.ensures.east
+    c.may_be_calm-counts.result c.take-taken.result c.decide-decided.result.1 c.say-west_said.result c.send_both-west_made.result.0 c.say-east_said.result c.send_both-west_made.result.1
+    counted c.take-taken.ensures.same c.decide-decided.ensures.same c.say-west_said.ensures.same c.send_both-west_made.ensures.west_same c.say-east_said.ensures.same c.send_both-west_made.ensures.east_same in
+    (λ j. node_of i.settings (i.rounds + 1) (c.one_less-self-inside.ensures j) c.decide-decided.new.self c.feed.new.self c.send_both-west_made.new.west c.send_both-west_made.new.east c.is_calm-calm.result)
     ∙ node_is c.args.now.0 i.settings i.rounds i.held i.cross i.ports i.west_out i.east_out i.calm
     c.take-taken.new.self c.decide-decided.new.self c.deliver.new.self c.feed.new.self c.take-taken.ensures.cross decided c.deliver.ensures c.feed.ensures
-    c.decide-decided.result.0.west c.decide-decided.result.0.east c.say-west_said.new.self c.say-east_said.new.self c.send-west_made.new.self c.send-east_made.new.self c.feed.new.self c.feed.new.self
+    c.decide-decided.result.0.west c.decide-decided.result.0.east c.say-west_said.new.self c.say-east_said.new.self c.send_both-west_made.new.west c.send_both-west_made.new.east c.feed.new.self c.feed.new.self
     west_said east_said c.say-west_said.ensures.sender c.say-east_said.ensures.sender refl refl
-    c.send-west_made.ensures.sender c.send-east_made.ensures.sender
+    c.send_both-west_made.ensures.west c.send_both-west_made.ensures.east
     c.is_calm-calm.result told
     ∙ ap (λ (n : Node). (node_round c.args.now.0 n).0) c.self.view_is
 
