@@ -62,6 +62,7 @@ module _ (row : ℕ) (some : 1 ≤ row) (few : row ≤ 9) where
           behind = ext_get_or 0 (drop e new) (drop e old) (length-drop e new ∙ ap (λ m. m - e) (after ∙ sym before) ∙ sym (length-drop e old)) (λ i lt. get_or-drop e new i 0 ∙ others (e + i) (let small : i < length new - e = omega (arith, length-drop e new) in omega arith) (in_back rate (e + i) (omega arith)) ∙ sym (get_or-drop e old i 0));
           long = after ∙ sym before;
         }
+
   -- a row of AU-4s that were chosen, which has no pointers, and the one with their pointers
   module _ (rate : Rate) (sources : List Source) (first second : List ℕ) (own : List (List ℕ)) (ps : List (List ℕ)) (old mid : List ℕ) (whole : length old ≡ size_of rate) (after : length mid ≡ size_of rate) (many : length sources ≡ n_of rate)
       (here : HereAt rate (row - 1) sources first second own old mid) (others : OthersAt rate (row - 1) old mid) where

@@ -1,10 +1,8 @@
-use Rattle.std.proofs.Common.{◌≡◌, ℕ, ◌+◌, length, refl, ap, sym, ◌∙◌, arith}
-use Rattle.sdh_frame.specs.declared.Rate.{Rate}
+use Rattle.std.proofs.Common.{◌≡◌, length, refl, ap, sym, ◌∙◌, arith}
 use Rattle.sdh_frame.specs.Sizes.{n_of, size_of}
 use Rattle.sdh_frame.proofs.AllAus.{length-with_aus}
 use Rattle.sdh_overhead.proofs.Built.{none-built}
 use Rattle.sdh_interchange.specs.Assembled.{assembled}
-use Rattle.sdh_node.specs.Sources.{put_together}
 use Rattle.sdh_node.proofs.Rowwise.{row-built, frame-built, section-kept}
 use Rattle.sdh_node.proofs.sender.send_rows.Goals as goal
 

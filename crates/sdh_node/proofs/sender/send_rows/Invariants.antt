@@ -1,5 +1,5 @@
-use Rattle.std.specs.Prelude.{◌≡◌, ◌≤◌, ℕ, length}
-use Rattle.sdh_frame.specs.Sizes.{n_of, size_of}
+use Rattle.std.specs.Prelude.{◌≡◌, ◌≤◌}
+use Rattle.sdh_frame.specs.Sizes.{n_of}
 use Rattle.sdh_overhead.proofs.Built.{BuiltTo}
 use Rattle.sdh_node.specs.Sources.{put_together}
 use Rattle.sdh_node.proofs.sender.send_rows.Given as goal
