@@ -11,8 +11,8 @@ use Rattle.sdh_pointer.specs.Laws.{lasting_state}
 use Rattle.sdh_pointer.specs.Sending.{next_sending}
 use Rattle.sdh_pointer.proofs.Sent.{next_by_action}
 use Rattle.sdh_bridge.specs.declared.Origin.TheVariants.{Add}
-use Rattle.sdh_node.specs.Passing.{Input, no_input}
-use Rattle.sdh_node.specs.Tributaries.{Tributary, action_of, sent_by, sent_in, input_by, port_of}
+use Rattle.sdh_terminal.specs.Passing.{Input, no_input}
+use Rattle.sdh_terminal.specs.Tributaries.{Tributary, action_of, sent_by, sent_in, input_by, port_of}
 use Rattle.sdh_node.specs.Node.{Node, sending_on}
 use Rattle.sdh_world.specs.Held.{node_at}
 use Rattle.sdh_world.specs.Rounds.{World, round, round_with}

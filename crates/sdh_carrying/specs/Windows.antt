@@ -10,8 +10,8 @@ use Rattle.sdh_restoration.specs.Applied.{is_applied}
 use Rattle.sdh_restoration.specs.Settled.{settled}
 use Rattle.sdh_settling.specs.Signals.{requests_in}
 use Rattle.sdh_node.specs.declared.settings.Settings.{Settings}
-use Rattle.sdh_node.specs.Passing.{Input}
-use Rattle.sdh_node.specs.Tributaries.{added_by}
+use Rattle.sdh_terminal.specs.Passing.{Input}
+use Rattle.sdh_terminal.specs.Tributaries.{added_by}
 use Rattle.sdh_node.specs.Crossing.{is_failed, input_of, input_at}
 use Rattle.sdh_node.specs.Node.{receiving_on}
 use Rattle.sdh_world.specs.Held.{HeldRing, node_at}

@@ -25,7 +25,7 @@ use Rattle.sdh_pointer.specs.Spreading.{IsSmall, IsValueOver, action_over, word_
 use Rattle.sdh_pointer.proofs.Spreading.{values_spread, source_sends, action_start, sending_start, reading_start, reading_value, sending_stays, reading_stays}
 use Rattle.sdh_plant.specs.Fibres.{Fibres, is_cut}
 use Rattle.sdh_node.specs.declared.settings.Settings.{Settings}
-use Rattle.sdh_node.specs.Passing.{Input}
+use Rattle.sdh_terminal.specs.Passing.{Input}
 use Rattle.sdh_node.specs.Node.{Node, receiving_on, sending_on, new_node, is_held}
 use Rattle.sdh_world.specs.Rounds.{World}
 use Rattle.sdh_world.specs.Runs.{run}

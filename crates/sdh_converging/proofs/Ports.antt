@@ -21,10 +21,10 @@ use Rattle.sdh_pointer.specs.declared.reading.Action.TheVariants as action
 use Rattle.sdh_pointer.specs.Spreading.{IsSmall}
 use Rattle.sdh_pointer.specs.Laws.{IsSound}
 use Rattle.sdh_routes.specs.Walks.{IsOver}
-use Rattle.sdh_node.specs.Passing.{Input, no_input}
-use Rattle.sdh_node.specs.Tributaries.{Tributary, action_of, port_of, sent_by, sent_in, input_by, added_by, ends_at, ends_from, new_tributary, tributaries_at}
+use Rattle.sdh_terminal.specs.Passing.{Input, no_input}
+use Rattle.sdh_terminal.specs.Tributaries.{Tributary, action_of, port_of, sent_by, sent_in, input_by, added_by, ends_at, ends_from, new_tributary, tributaries_at}
 use Rattle.sdh_node.specs.Node.{Node, crossing, ports_after, after_crossing, with_calm, node_round}
-use Rattle.sdh_node.proofs.Ports.{clock-next}
+use Rattle.sdh_node.proofs.Dropped.{clock-next}
 use Rattle.sdh_world.specs.Fixed.{FixedPort, fixed_port}
 use Rattle.sdh_world.specs.Held.{node_at}
 use Rattle.sdh_world.specs.Rounds.{World, round}

@@ -19,7 +19,7 @@ use Rattle.sdh_routes.specs.Walks.{IsOver, IsArrival, back_from, working_in, pro
 use Rattle.sdh_routes.specs.Rounds.{Spreads}
 use Rattle.sdh_routes.proofs.Spread.{steadiness_spreads}
 use Rattle.sdh_pointer.specs.Reading.{start}
-use Rattle.sdh_node.specs.Passing.{Input}
+use Rattle.sdh_terminal.specs.Passing.{Input}
 use Rattle.sdh_node.specs.Node.{receiving_on, sending_on}
 use Rattle.sdh_world.specs.Rounds.{World}
 use Rattle.sdh_world.specs.Runs.{run}

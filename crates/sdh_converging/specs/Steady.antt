@@ -4,7 +4,7 @@ use Rattle.sdh_ringmap.specs.declared.Side.{Side}
 use Rattle.sdh_bridge.specs.declared.Origin.{Origin}
 use Rattle.sdh_pointer.specs.declared.reading.Action.{Action}
 use Rattle.sdh_pointer.specs.Laws.{IsSound}
-use Rattle.sdh_node.specs.Passing.{Input}
+use Rattle.sdh_terminal.specs.Passing.{Input}
 use Rattle.sdh_node.specs.Crossing.{received}
 use Rattle.sdh_node.specs.Node.{receiving_on, sending_on, is_held}
 use Rattle.sdh_world.specs.Rounds.{World}

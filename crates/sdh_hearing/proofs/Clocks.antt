@@ -18,7 +18,7 @@ use Rattle.sdh_payload.specs.declared.clock.Turn.{Turn}
 use Rattle.sdh_payload.specs.declared.clock.Turn.TheVariants.{Up, Down}
 use Rattle.sdh_payload.specs.Clock.{Clock, IsClock, new_clock, waiting, waits, ticked, ticks}
 use Rattle.sdh_payload.proofs.Clocking.{next_few, slips_run_out}
-use Rattle.sdh_node.specs.Tributaries.{Tributary, new_tributary, ends_at, ends_from, tributaries_at, is_port, port_of, slipped, with_slips}
+use Rattle.sdh_terminal.specs.Tributaries.{Tributary, new_tributary, ends_at, ends_from, tributaries_at, is_port, port_of, slipped, with_slips}
 use Rattle.sdh_node.specs.Node.{Node}
 use Rattle.sdh_world.specs.Held.{HeldRing, place_of_port, AtEach}
 use Rattle.sdh_world.specs.Rounds.{World, round}

@@ -13,7 +13,7 @@ use Rattle.sdh_payload.proofs.Clocking.{next_clock}
 use Rattle.sdh_plant.specs.Fibres.{Arrival, Fibres}
 use Rattle.sdh_node.specs.declared.settings.Settings.{Settings}
 use Rattle.sdh_node.specs.Receiving.{Receiving}
-use Rattle.sdh_node.specs.Tributaries.{Tributary, fed, all_fed}
+use Rattle.sdh_terminal.specs.Tributaries.{Tributary, fed, all_fed}
 use Rattle.sdh_node.specs.Crossing.{Cross, delivered_to, all_delivered}
 use Rattle.sdh_node.specs.Node.{Node, new_node, receiving_on, sending_on, crossing, ports_after, after_crossing, with_calm, node_round}
 use Rattle.sdh_world.specs.Held.{nowhere, node_at, AtEach}

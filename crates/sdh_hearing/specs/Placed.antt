@@ -6,9 +6,9 @@ use Rattle.sdh_frame.specs.Sizes.{n_of}
 use Rattle.sdh_overhead.specs.Laws.{AreParities}
 use Rattle.sdh_node.specs.declared.settings.Settings.{Settings}
 use Rattle.sdh_node.specs.Receiving.{Receiving}
-use Rattle.sdh_node.specs.Sending.{Sending}
+use Rattle.sdh_terminal.specs.Sending.{Sending}
 use Rattle.sdh_payload.specs.Clock.{IsClock}
-use Rattle.sdh_node.specs.Tributaries.{Tributary}
+use Rattle.sdh_terminal.specs.Tributaries.{Tributary}
 use Rattle.sdh_node.specs.Node.{Node, receiving_on, sending_on}
 use Rattle.sdh_world.specs.Held.{HeldRing, new_nodes, AtEach}
 use Rattle.sdh_world.specs.Fixed.{fixed}

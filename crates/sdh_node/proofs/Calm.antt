@@ -10,7 +10,8 @@ use Rattle.sdh_pointer.specs.declared.reading.Reading.{Reading}
 use Rattle.sdh_pointer.specs.Reading.{same_reading}
 use Rattle.sdh_pointer.specs.Sending.{same_sending}
 use Rattle.sdh_pointer.proofs.Unmoved as one
-use Rattle.sdh_node.specs.Same.{same_readings, same_generators, ComparedIn, ComparedOut, Compared, same_in, same_out, same_compared}
+use Rattle.sdh_terminal.specs.Same.{same_readings, same_generators}
+use Rattle.sdh_node.specs.Same.{ComparedIn, ComparedOut, Compared, same_in, same_out, same_compared}
 use Rattle.sdh_node.specs.Node.{Node, crossing, after_crossing, with_calm, may_be_calm, is_held, compared, node_round}
 use Rattle.sdh_node.proofs.Itself.{compared_itself}
 

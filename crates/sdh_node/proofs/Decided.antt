@@ -6,7 +6,7 @@ use Rattle.sdh_ringmap.specs.declared.Side.TheVariants.{West, East}
 use Rattle.sdh_kbytes.specs.declared.K.{K}
 use Rattle.sdh_nodestate.specs.Rules.{Scene, scene, state_after, word}
 use Rattle.sdh_node.specs.Crossing.{scene_of, after_decision, next_word}
-use Rattle.sdh_node.specs.Sending.{after_sending}
+use Rattle.sdh_terminal.specs.Sending.{after_sending}
 use Rattle.sdh_node.specs.Node.{Node, is_held, crossing, after_crossing, with_calm, node_round, needed, heard_by, word_of}
 
 -- the scene of the last round

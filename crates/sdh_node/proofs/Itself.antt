@@ -7,8 +7,9 @@ use Rattle.sdh_kbytes.specs.KBytes.{code_number}
 use Rattle.sdh_nodestate.proofs.SameStates.{state_itself}
 use Rattle.sdh_pointer.proofs.Sent as sent
 use Rattle.sdh_kbytes.specs.Same.{same_code, same_heard}
-use Rattle.sdh_node.specs.Same.{same_generators, ComparedIn, ComparedOut, Compared, same_in, same_out, same_compared}
-use Rattle.sdh_node.proofs.Marks.{same-readings}
+use Rattle.sdh_terminal.specs.Same.{same_generators}
+use Rattle.sdh_node.specs.Same.{ComparedIn, ComparedOut, Compared, same_in, same_out, same_compared}
+use Rattle.sdh_terminal.proofs.Marks.{same-readings}
 use Rattle.sdh_kbytes.proofs.SameWords.{is_same}
 
 code_itself : (c : Code) → same_code c c ≡ true

@@ -9,7 +9,7 @@ use Rattle.sdh_plant.specs.Fibres.{Arrival}
 use Rattle.sdh_circuits.specs.declared.PortId.{PortId}
 use Rattle.sdh_node.specs.Receiving.{after_overhead, after_intake, arrived_on, commanded_by}
 use Rattle.sdh_circuits.specs.Provisioned.{same_end}
-use Rattle.sdh_node.specs.Tributaries.{Tributary, is_port, port_of, HasPort, fed, all_fed}
+use Rattle.sdh_terminal.specs.Tributaries.{Tributary, is_port, port_of, HasPort, fed, all_fed}
 use Rattle.sdh_node.specs.Crossing.{Cross, after_intakes, after_decision, delivered_to, all_delivered}
 use Rattle.sdh_node.specs.Node.{Node, at_receiving, moment_of, is_held, crossing, ports_after, after_crossing, with_calm, node_round, GoesOn}
 

@@ -8,11 +8,12 @@ use Rattle.sdh_ringmap.specs.declared.Side.TheVariants.{West, East}
 use Rattle.sdh_node.specs.declared.settings.Settings.{Settings}
 use Rattle.sdh_kbytes.specs.Same.{same_word}
 use Rattle.sdh_nodestate.specs.Shapes.{same_state}
-use Rattle.sdh_node.specs.Same.{same_in, same_generators, same_compared}
-use Rattle.sdh_node.specs.Tributaries.{Tributary, added_by, added_last, all_fed}
+use Rattle.sdh_terminal.specs.Same.{same_generators}
+use Rattle.sdh_node.specs.Same.{same_in, same_compared}
+use Rattle.sdh_terminal.specs.Tributaries.{Tributary, added_by, added_last, all_fed}
 use Rattle.sdh_node.specs.Crossing.{Cross, after_intakes, scene_of, after_decision, next_word, all_delivered, input_at}
-use Rattle.sdh_node.specs.Sending.{Sending, with_word, frame_from, after_sending}
-use Rattle.sdh_node.proofs.Ports.{holds-adds}
+use Rattle.sdh_terminal.specs.Sending.{Sending, with_word, frame_from, after_sending}
+use Rattle.sdh_node.proofs.Dropped.{holds-adds}
 use Rattle.sdh_node.specs.Node.{Node, crossing, ports_after, with_next_word, after_crossing, frames_of, compared, compared_in, may_be_calm, with_calm, node_round}
 
 -- the node that holds these

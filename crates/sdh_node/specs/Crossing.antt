@@ -1,7 +1,6 @@
 -- The cross-connect of a node in a round: both sides that receive and what they take in, the state, and where the state
 -- leads what comes in (bridge and switch of shared protection rings: ITU-T G.841).
 use Rattle.std.specs.Prelude.{◌≡◌, ℕ, ◌+◌, ◌-◌, ◌/◌, ◌<◌, Bool, true, false, nat_le, if◌then◌else◌, Option, List, length, slice_index_or}
-use Rattle.sdh_basics.specs.Indexed.{map_from}
 use Rattle.sdh_frame.specs.Sizes.{n_of}
 use Rattle.sdh_frame.specs.Aus.{au_of}
 use Rattle.sdh_ringmap.specs.declared.Pos.{Pos}
@@ -24,10 +23,14 @@ use Rattle.sdh_bridge.specs.declared.Origin.TheVariants as origin
 use Rattle.sdh_bridge.specs.Connections.{stands_for, leaves_working, leaves_protection}
 use Rattle.sdh_pointer.specs.declared.reading.Action.TheVariants as action
 use Rattle.sdh_pointer.specs.Reading.{start}
-use Rattle.sdh_node.specs.Receiving.{Receiving, Intake, after_intake, intake_of, if_west, if_east}
-use Rattle.sdh_node.specs.Passing.{Input, no_input}
-use Rattle.sdh_node.specs.Outlets.{delivered_from}
-use Rattle.sdh_node.specs.Tributaries.{Tributary}
+use Rattle.sdh_terminal.specs.Receiving.{Intake}
+use Rattle.sdh_node.specs.Receiving.{Receiving, after_intake, intake_of, if_west, if_east}
+use Rattle.sdh_terminal.specs.Passing.{Input, no_input}
+use Rattle.sdh_terminal.specs.Outlets.{delivered_from}
+use Rattle.sdh_terminal.specs.Tributaries.{Tributary, all_delivered_with}
+use Rattle.sdh_terminal.specs.Lines.{Lines}
+use Rattle.sdh_terminal.specs.declared.matrix.Feeder.{Feeder}
+use Rattle.sdh_terminal.specs.declared.matrix.Feeder.TheVariants as feeder
 
 pub record Cross : Type 0 where
   -- the identifiers of the ring, and the node's position
@@ -131,6 +134,25 @@ leaving x side au =
     if nat_le au (half_of x) then leaves_working (length x.ids) x.at (circuit_in x (slot_of x au)) x.state side
     else leaves_protection (length x.ids) x.at (circuit_in x (slot_of x au)) x.state side
 
+-- what an AU-4 is fed with that comes from an origin in slot m: working slot m is AU-4 number m, and protection slot m number
+-- N / 2 + m
+abbrev pub feeder_of : Cross → ℕ → Origin → Feeder
+feeder_of x m (origin.Add port) = feeder.Port port
+feeder_of x m (origin.Working side) = feeder.Received side m
+feeder_of x m (origin.Protection side) = feeder.Received side (half_of x + m)
+feeder_of x m origin.Ais = feeder.Ais
+
+-- both sides in the round
+abbrev pub lines_of : Cross → Lines
+lines_of x = record { rate = x.west.section.rate; west = record { readings = x.west.readings; intake = x.west_in }; east = record { readings = x.east.readings; intake = x.east_in } }
+
+-- what feeds AU-4 number au that leaves on a side, and what is dropped of slot m from a side
+unfoldable pub leads : Cross → Side → ℕ → Feeder
+leads x side au = feeder_of x (slot_of x au) (leaving x side au)
+
+unfoldable pub drops : Cross → Side → ℕ → Feeder
+drops x side m = feeder_of x m (stands_for (length x.ids) x.at (circuit_in x m) x.state side)
+
 -- what goes into it
 unfoldable pub input_at : Cross → (PortId → Input) → Side → ℕ → Input
 input_at x added side au = input_of x added (slot_of x au) (leaving x side au)
@@ -145,7 +167,7 @@ abbrev pub delivered_to : Cross → Tributary → Tributary
 delivered_to x t = record t { outlet = delivered_from (dropped_at x t.side t.slot.0) }
 
 unfoldable pub all_delivered : Cross → List Tributary → List Tributary
-all_delivered x ports = map_from (λ i t. delivered_to x t) 0 ports
+all_delivered x ports = all_delivered_with (λ t. dropped_at x t.side t.slot.0) ports
 
 -- ---- what is true of every cross-connect
 

@@ -1,10 +1,4 @@
 pub mod Same
 pub mod Receiving
-pub mod Passing
-pub mod Outlets
-pub mod Tributaries
-pub mod Places
 pub mod Crossing
-pub mod Sending
-pub mod Sources
 pub mod Node

@@ -17,11 +17,13 @@ use Rattle.sdh_nodestate.specs.Words.{first_word}
 use Rattle.sdh_pointer.specs.Reading.{start}
 use Rattle.sdh_node.specs.declared.settings.Settings.{Settings}
 use Rattle.sdh_node.specs.Same.{ComparedIn, ComparedOut, Compared, same_compared}
-use Rattle.sdh_node.specs.Receiving.{Receiving, after_intake, intake_of, new_intake, if_west, if_east}
+use Rattle.sdh_terminal.specs.Receiving.{new_intake}
+use Rattle.sdh_node.specs.Receiving.{Receiving, after_intake, intake_of, if_west, if_east}
 use Rattle.sdh_payload.specs.declared.clock.Turn.{Turn}
-use Rattle.sdh_node.specs.Tributaries.{Tributary, HasPort, IsTributary, tributaries_at, with_slips, added_by, all_fed}
+use Rattle.sdh_terminal.specs.Tributaries.{Tributary, HasPort, IsTributary, tributaries_at, with_slips, added_by, all_fed}
 use Rattle.sdh_node.specs.Crossing.{Cross, after_decision, next_word, all_delivered, input_at, is_failed}
-use Rattle.sdh_node.specs.Sending.{Sending, with_word, frame_from, after_sending}
+use Rattle.sdh_terminal.specs.Sending as terminal
+use Rattle.sdh_terminal.specs.Sending.{Sending, with_word, frame_from, after_sending}
 use Rattle.sdh_nodestate.specs.declared.Needs.{Needs}
 use Rattle.sdh_nodestate.specs.declared.Heard.{Heard}
 use Rattle.sdh_nodestate.specs.declared.Sent.{Sent}
@@ -63,7 +65,7 @@ new_receiving s = record {
 
 -- a side that has sent nothing
 abbrev pub new_sending : Settings → K → Sending
-new_sending s k = record { section = holding s.rate None; generators = replicate (n_of s.rate) None; word = k }
+new_sending s k = terminal.new_sending s.rate k
 
 -- the node at a position of a ring with these circuits: idle, without commands and defects
 unfoldable pub new_node : Settings → List ℕ → List Provisioned → Pos → Node

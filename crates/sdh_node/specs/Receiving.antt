@@ -29,6 +29,7 @@ use Rattle.sdh_pointer.specs.declared.reading.Action.{Action}
 use Rattle.sdh_pointer.specs.declared.reading.Action.TheVariants as action
 use Rattle.sdh_pointer.specs.Reading.{Interpreter, after_word, action_on}
 use Rattle.sdh_plant.specs.Fibres.{Arrival}
+use Rattle.sdh_terminal.specs.Receiving.{Inlet, Reception, reception_of, Intake, readings_by, actions_by}
 
 pub record Receiving : Type 0 where
   -- what arrived since the last round: None where nothing was told; else the bytes of a frame, or darkness
@@ -44,42 +45,6 @@ pub record Receiving : Type 0 where
   -- what the interpreters of AU-4s 1 to N keep
   pub readings : List Reading
 
--- ---- what arrived
-
--- what a side makes of it: its defect, the word that it brings, the frame without scrambling, and the parities for the
--- next frame
-pub record Reception : Type 0 where
-  pub defect : Defect
-  pub word : Option K
-  pub bytes : List ℕ
-  pub last : Option Parities
-
-abbrev pub all_ones : Rate → List ℕ
-all_ones rate = replicate (size_of rate) 0xFF
-
--- a side that fails: it brings no word, and its frame counts as ones
-abbrev pub failure : Rate → Option Parities → Reception
-failure rate last = record { defect = defect.Sf; word = None; bytes = all_ones rate; last = last }
-
--- a framed frame: AIS of the multiplex section, whose low three bits of K2 are ones, is a failure; else the side is
--- degraded where B2 has at least `threshold` violations
-abbrev pub framed_reception : Rate → ℕ → List ℕ → Option Parities → ℕ → ℕ → ℕ → Reception
-framed_reception rate threshold clear last k1 k2 b2 =
-    if k2 % 8 == 7 then failure rate last else
-    record { defect = if nat_le threshold b2 then defect.Sd else defect.None; word = decoded k1 k2; bytes = clear; last = last }
-
--- a frame: an unframed one is a failure
-abbrev pub frame_reception : Rate → ℕ → List ℕ → Option Parities → Received → Reception
-frame_reception rate threshold clear last Unframed = failure rate last
-frame_reception rate threshold clear last (Framed k1 k2 b1 b2) = framed_reception rate threshold clear last k1 k2 b2
-
--- A frame; darkness, which is a failure; or nothing was told: then the side has no defect, brings no word, and its frame
--- counts as ones. Where there is no frame the section forgets.
-abbrev pub reception_of : Option Arrival → Rate → ℕ → Option Parities → Reception
-reception_of None rate threshold last = record { defect = defect.None; word = None; bytes = all_ones rate; last = None }
-reception_of (Some None) rate threshold last = failure rate None
-reception_of (Some (Some bytes)) rate threshold last = frame_reception rate threshold (opened (n_of rate) bytes) (kept_after (n_of rate) bytes) (received_in (n_of rate) last bytes)
-
 unfoldable pub reception : ℕ → Receiving → Reception
 reception threshold r = reception_of r.arrived r.section.rate threshold r.section.last
 
@@ -89,45 +54,7 @@ reception threshold r = reception_of r.arrived r.section.rate threshold r.sectio
 abbrev pub local_after : ℕ → Defect → local.LocalKept → local.LocalKept
 local_after now d k = after (seen d) (after (reached now) k)
 
--- ---- the interpreters
-
--- the pointer word H1 and H2 in the nine pointer bytes of an AU-4
-abbrev pub pointer_word : List ℕ → ℕ
-pointer_word pointers = 256 * slice_index pointers 0 + slice_index pointers 3
-
--- the pointer word of an AU-4 of a frame
-abbrev pub pointer_word_at : ℕ → List ℕ → ℕ → ℕ
-pointer_word_at n bytes au = pointer_word (pointers_of n au bytes)
-
--- what interpreters keep
-abbrev pub readings_of : List Interpreter → List Reading
-readings_of interps = map (λ (i : Interpreter). i.reading) interps
-
--- what interpreters keep after they read a frame, and their actions
-unfoldable pub after_frame : ℕ → List ℕ → List Reading → List Reading
-after_frame n bytes readings = map_from (λ k r. after_word r (pointer_word_at n bytes (k + 1))) 0 readings
-
-unfoldable pub actions_in : ℕ → List ℕ → List Reading → List Action
-actions_in n bytes readings = map_from (λ k r. action_on r (pointer_word_at n bytes (k + 1))) 0 readings
-
 -- ---- a round
-
--- What a side takes in, in a round: the frame without scrambling, ones where the side fails or nothing was told, and what
--- the interpreters of AU-4s 1 to N made of it.
-pub record Intake : Type 0 where
-  pub frame : Frame
-  pub actions : List Action
-
--- before the first round
-abbrev pub new_intake : Rate → Intake
-new_intake rate = record { frame = record { rate = rate; bytes = replicate (size_of rate) 0 }; actions = replicate (n_of rate) action.Ais }
-
--- interpreters read where something was told; where nothing was, they keep what they kept, and every AU-4 counts as AIS
-abbrev pub readings_by : Bool → ℕ → List ℕ → List Reading → List Reading
-readings_by told n bytes readings = if told then after_frame n bytes readings else readings
-
-abbrev pub actions_by : Bool → ℕ → List ℕ → List Reading → List Action
-actions_by told n bytes readings = if told then actions_in n bytes readings else replicate n action.Ais
 
 unfoldable pub intake_of : ℕ → Receiving → Intake
 intake_of threshold r = record {
@@ -176,3 +103,7 @@ pub record IsReceiving (r : Receiving) : Type 0 where
   pub failing : r.local.defect ≡ defect.Sf → 11 ≤ code_number r.request
   pub silent : r.local.defect ≡ defect.Sf → hears r.brought ≡ None
   pub spellable : IfSome (hears r.brought) IsSpellable
+
+-- what of it frames and pointers are about
+abbrev pub inlet_of : Receiving → Inlet
+inlet_of r = record { arrived = r.arrived; section = r.section; readings = r.readings }

@@ -1,27 +1,12 @@
 -- What is compared between a round and the round before, and when it is the same.
-use Rattle.std.specs.Prelude.{ℕ, Bool, true, false, ◌&&◌, Option, List, [], ◌∷◌}
+use Rattle.std.specs.Prelude.{ℕ, Bool, ◌&&◌, Option, List}
 use Rattle.sdh_kbytes.specs.Same.{same_code, same_word, same_heard}
 use Rattle.sdh_kbytes.specs.declared.Code.{Code}
 use Rattle.sdh_kbytes.specs.declared.K.{K}
 use Rattle.sdh_nodestate.specs.declared.NodeState.{NodeState}
 use Rattle.sdh_nodestate.specs.Shapes.{same_state}
 use Rattle.sdh_pointer.specs.declared.reading.Reading.{Reading}
-use Rattle.sdh_pointer.specs.Reading.{same_reading}
-use Rattle.sdh_pointer.specs.Sending.{same_sending}
-
--- interpreters, one by one, keep the same
-abbrev pub same_readings : List Reading → List Reading → Bool
-same_readings [] [] = true
-same_readings (a ∷ xs) (b ∷ ys) = same_reading a b && same_readings xs ys
-same_readings [] (b ∷ ys) = false
-same_readings (a ∷ xs) [] = false
-
--- generators, one by one, are in the same state
-abbrev pub same_generators : List (Option ℕ) → List (Option ℕ) → Bool
-same_generators [] [] = true
-same_generators (a ∷ xs) (b ∷ ys) = same_sending a b && same_generators xs ys
-same_generators [] (b ∷ ys) = false
-same_generators (a ∷ xs) [] = false
+use Rattle.sdh_terminal.specs.Same.{same_readings, same_generators}
 
 -- ---- what is compared
 

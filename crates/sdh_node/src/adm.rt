@@ -5,13 +5,11 @@ ghost use Rattle.sdh_squelch.specs.Kept.{KeepsRing};
 ghost use Rattle.sdh_nodestate.specs.Words.{SendsSpellable};
 ghost use Rattle.sdh_plant.specs.Arrivals.{as_arrival, arrived_in};
 ghost use Rattle.sdh_node.specs.Receiving.{commanded_by, arrived_on};
-ghost use Rattle.sdh_node.specs.Tributaries.{HasPort, outlet_of, waiting_of};
+ghost use Rattle.sdh_terminal.specs.Tributaries.{HasPort, outlet_of, waiting_of};
 ghost use Rattle.sdh_node.specs.Node.{new_node, at_receiving, held_for, slips_at, node_round, GoesOn, receiving_on, sending_on, moment_of};
 
-use crate::cross::CrossConnect;
-use crate::sender::{Sender, send_both};
+use crate::cross::{CrossConnect, deliver, send_both};
 use crate::settings::Settings;
-use crate::tributaries::Tributaries;
 use sdh_circuits::{CircuitMap, PortId};
 use sdh_frame::FrameBuf;
 use sdh_kbytes::{Code, K};
@@ -21,6 +19,7 @@ use sdh_payload::{Delivered, Turn};
 use sdh_plant::Arrived;
 use sdh_request::{Command, Moment};
 use sdh_ringmap::{Pos, RingMap, Side};
+use sdh_terminal::{Sender, Tributaries};
 use std::alloc::{AllocError, Global};
 use std::marker::Model;
 
@@ -70,8 +69,8 @@ impl Adm {
             rounds: 0,
             cross: CrossConnect::try_new(alloc, settings, map, circuits, at)?,
             ports: Tributaries::try_new(alloc, circuits, at)?,
-            west_out: Sender::try_new(alloc, settings, west)?,
-            east_out: Sender::try_new(alloc, settings, east)?,
+            west_out: Sender::try_new(alloc, settings.rate, west)?,
+            east_out: Sender::try_new(alloc, settings.rate, east)?,
             held: 0,
             calm: false,
         })
@@ -218,7 +217,7 @@ impl Adm {
         let (sent, decided) = self.cross.decide(held, before);
         let west_said = self.west_out.say(sent.west);
         let east_said = self.east_out.say(sent.east);
-        self.ports.deliver(&self.cross);
+        deliver(&self.cross, &mut self.ports);
         self.ports.feed();
         self.rounds += 1;
         self.held = one_less(self.held);

@@ -1,35 +1,33 @@
 //! The cross-connect: both sides that receive and what they take in, the state, and where it leads what comes in.
-ghost use Rattle.std.specs.Prelude.{◌≡◌, ◌&&◌, ◌+◌, ◌*◌, ◌-◌, ◌/◌, ◌<◌, ◌≤◌, ◌≢◌, None, true, false, IfOk, length};
+ghost use Rattle.std.specs.Prelude.{◌≡◌, ◌&&◌, ◌+◌, ◌*◌, ◌-◌, ◌/◌, ◌<◌, ◌≤◌, ◌≢◌, None, true, false, All, IfOk, length};
 ghost use Rattle.sdh_frame.specs.Sizes.{n_of};
 ghost use Rattle.sdh_ringmap.specs.declared.Side.TheVariants.{West, East};
 ghost use Rattle.sdh_squelch.specs.Kept.{KeepsRing};
 ghost use Rattle.sdh_nodestate.specs.Rules.{word};
 ghost use Rattle.sdh_nodestate.specs.Words.{SendsSpellable};
 ghost use Rattle.sdh_nodestate.specs.Shapes.{same_state};
-ghost use Rattle.sdh_interchange.specs.Taking.{IsOf};
 ghost use Rattle.sdh_node.specs.Same.{same_in};
 ghost use Rattle.sdh_plant.specs.Arrivals.{as_arrival, arrived_in};
 ghost use Rattle.sdh_node.specs.Receiving.{commanded_by, arrived_on};
 ghost use Rattle.sdh_node.specs.Node.{new_cross, compared_in};
-ghost use Rattle.sdh_node.specs.Crossing.{on_side, intake_on, at_side, half_of, after_intakes, scene_of, after_decision, next_word, received, leaving, slot_of, dropped_at};
-ghost use Rattle.sdh_node.specs.Outlets.{chunk_form, chunk_from, delivered_from};
+ghost use Rattle.sdh_node.specs.Crossing.{on_side, at_side, half_of, after_intakes, scene_of, after_decision, next_word, feeder_of, lines_of, leads, drops, input_at, all_delivered};
+ghost use Rattle.sdh_terminal.specs.Lines.{line_on, received, IsFeeder};
+ghost use Rattle.sdh_terminal.specs.Same.{same_generators};
+ghost use Rattle.sdh_terminal.specs.Sending.{frame_from, after_sending};
+ghost use Rattle.sdh_terminal.specs.Tributaries.{added_last};
 
-use crate::intake::Intake;
-use crate::outlet::Outlet;
 use crate::receiver::Receiver;
 use crate::settings::Settings;
 use sdh_bridge::{Origin, drop_origin, protection_origin, working_origin};
 use sdh_circuits::{CircuitMap, Slot};
 use sdh_frame::{FrameBuf, Rate};
-use sdh_interchange::Taken;
 use sdh_nodestate::{Heard, Needs, NodeState, Sent, same_shape, shape_of, start, step};
 use sdh_overhead::Landed;
-use sdh_payload::ChunkForm;
 use sdh_plant::Arrived;
-use sdh_pointer::Action;
 use sdh_request::{Command, Moment};
 use sdh_ringmap::{Pos, RingMap, Side};
 use sdh_squelch::Table;
+use sdh_terminal::{Feeder, Intake, Matrix, Sender, Tributaries};
 use std::alloc::{AllocError, Global};
 use std::marker::Model;
 
@@ -216,156 +214,104 @@ impl CrossConnect {
         }
     }
 
-    /// What a side takes in.
-    pub fn intake(&self, side: Side) -> &Intake
-        ensures intake { result.now ≡ intake_on self.now side }
-        ensures rate { result.now.frame.rate ≡ self.now.west.section.rate }
+    // What an AU-4 is fed with that comes from an origin in a slot.
+    fn feeder_of(&self, slot: u16, origin: Origin) -> Feeder
+        requires first { 1 ≤ slot }
+        requires last { slot ≤ half_of self.now }
+        ensures feeder { result ≡ feeder_of self.now slot origin }
+        ensures inside { IsFeeder (n_of self.now.west.section.rate) result }
     {
+        let half = half_of(self.west_in.rate());
+        match origin {
+            Origin::Add(port) => Feeder::Port(port),
+            Origin::Working(side) => Feeder::Received(side, slot),
+            Origin::Protection(side) => Feeder::Received(side, half + slot),
+            Origin::Ais => Feeder::Ais,
+        }
+    }
+}
+
+impl Matrix for CrossConnect {
+    ghost lines = { λ x. lines_of x };
+
+    ghost leads = { λ x. leads x };
+
+    ghost drops = { λ x. drops x };
+
+    fn rate(&self) -> Rate {
+        self.west_in.rate()
+    }
+
+    fn intake(&self, side: Side) -> &Intake {
         match side {
             Side::West => &self.west_in,
             Side::East => &self.east_in,
         }
     }
 
-    /// The action of the interpreter of an AU-4.
-    pub fn action(&self, side: Side, au: u16) -> Action
-        requires first { 1 ≤ au }
-        requires last { au ≤ n_of self.now.west.section.rate }
-        ensures { result ≡ (received self.now side au).action }
-    {
-        self.intake(side).action(au)
+    fn value(&self, side: Side, au: u16) -> u16 {
+        match side {
+            Side::West => self.west.value(au),
+            Side::East => self.east.value(au),
+        }
     }
 
-    /// The value of the interpreter of an AU-4.
-    pub fn value(&self, side: Side, au: u16) -> u16
-        requires first { 1 ≤ au }
-        requires last { au ≤ n_of self.now.west.section.rate }
-        ensures value { result ≡ (received self.now side au).value }
-        ensures small { result ≤ 782 }
-    {
-        self.receiver(side).value(au)
-    }
-
-    /// Half of N.
-    pub fn half(&self) -> u16
-        ensures half { result ≡ half_of self.now }
-        ensures few { result ≤ 8 }
-        ensures twice { 2 * result ≡ n_of self.now.west.section.rate }
-    {
-        half_of(self.west_in.rate())
-    }
-
-    /// Where an AU-4 that leaves on a side comes from, and its slot: AU-4s up to half of N are the working slots, and
-    /// those above it the protection slots.
-    pub fn leaving(&self, side: Side, au: u16) -> (u16, Origin)
-        requires first { 1 ≤ au }
-        requires last { au ≤ n_of self.now.west.section.rate }
-        ensures slot { result.0 ≡ slot_of self.now au }
-        ensures origin { result.1 ≡ leaving self.now side au }
-        ensures first { 1 ≤ result.0 }
-        ensures last { result.0 ≤ half_of self.now }
-    {
-        let half = self.half();
+    // AU-4s up to half of N are the working slots, and those above it the protection slots.
+    #[tactic(auto, unfolding(crate::specs::Crossing::leads))]
+    fn leaving(&self, side: Side, au: u16) -> Feeder {
+        let half = half_of(self.west_in.rate());
         if au <= half {
             let slot = Slot(au as u8);
-            (
-                au,
-                working_origin(&self.state, &self.map, &self.table, self.at, side, slot),
-            )
+            let origin = working_origin(&self.state, &self.map, &self.table, self.at, side, slot);
+            self.feeder_of(au, origin)
         } else {
             let slot = Slot((au - half) as u8);
-            (
-                au - half,
-                protection_origin(&self.state, &self.map, &self.table, self.at, side, slot),
-            )
+            let origin = protection_origin(
+                &self.state, &self.map, &self.table, self.at, side, slot,
+            );
+            self.feeder_of(au - half, origin)
         }
     }
 
-    // Delivers an AU-4 that isn't AIS.
-    fn deliver_chunk(&self, side: Side, au: u16, payloads: &mut Taken, outlet: &mut Outlet)
-        requires first { 1 ≤ au }
-        requires last { au ≤ n_of self.now.west.section.rate }
-        requires payloads { IsOf (intake_on self.now side).frame payloads.old }
-        ensures payloads { IsOf (intake_on self.now side).frame payloads.new }
-        ensures outlet { outlet.new ≡ chunk_from (received self.now side au) }
-    {
-        let frame = self.intake(side).frame();
-        let form = chunk_form(self.action(side, au));
-        outlet.deliver(frame, payloads, au, form, self.value(side, au));
-    }
-
-    // Delivers an AU-4.
-    #[tactic(auto, unfolding(crate::specs::Outlets::delivered_from))]
-    fn deliver_from(&self, side: Side, au: u16, payloads: &mut Taken, outlet: &mut Outlet)
-        requires first { 1 ≤ au }
-        requires last { au ≤ n_of self.now.west.section.rate }
-        requires payloads { IsOf (intake_on self.now side).frame payloads.old }
-        ensures payloads { IsOf (intake_on self.now side).frame payloads.new }
-        ensures outlet { outlet.new ≡ delivered_from (received self.now side au) }
-    {
-        match self.action(side, au) {
-            Action::Ais => outlet.silence(),
-            _ => self.deliver_chunk(side, au, payloads, outlet),
-        }
-    }
-
-    // Delivers an AU-4 that came from a side.
-    fn deliver_on(
-        &self,
-        side: Side,
-        au: u16,
-        west: &mut Taken,
-        east: &mut Taken,
-        outlet: &mut Outlet,
-    )
-        requires first { 1 ≤ au }
-        requires last { au ≤ n_of self.now.west.section.rate }
-        requires west { IsOf self.now.west_in.frame west.old }
-        requires east { IsOf self.now.east_in.frame east.old }
-        ensures west { IsOf self.now.west_in.frame west.new }
-        ensures east { IsOf self.now.east_in.frame east.new }
-        ensures outlet { outlet.new ≡ delivered_from (received self.now side au) }
-    {
-        match side {
-            Side::West => self.deliver_from(Side::West, au, west, outlet),
-            Side::East => self.deliver_from(Side::East, au, east, outlet),
-        }
-    }
-
-    /// Delivers what the working arrival of a slot from a side stands for. Payloads may have been taken out of both frames.
-    #[tactic(auto, unfolding(crate::specs::Crossing::dropped_at, crate::specs::Outlets::delivered_from))]
-    pub fn deliver(
-        &self,
-        side: Side,
-        slot: Slot,
-        west: &mut Taken,
-        east: &mut Taken,
-        outlet: &mut Outlet,
-    )
-        requires first { 1 ≤ slot.0 }
-        requires last { slot.0 ≤ half_of self.now }
-        requires west { IsOf self.now.west_in.frame west.old }
-        requires east { IsOf self.now.east_in.frame east.old }
-        ensures west { IsOf self.now.west_in.frame west.new }
-        ensures east { IsOf self.now.east_in.frame east.new }
-        ensures outlet { outlet.new ≡ delivered_from (dropped_at self.now side slot.0) }
-    {
-        let half = self.half();
-        let au = u16::from(slot.0);
-        match drop_origin(&self.state, &self.map, &self.table, self.at, side, slot) {
-            Origin::Working(from) => self.deliver_on(from, au, west, east, outlet),
-            Origin::Protection(from) => self.deliver_on(from, half + au, west, east, outlet),
-            Origin::Add(_) | Origin::Ais => outlet.silence(),
-        }
+    #[tactic(auto, unfolding(crate::specs::Crossing::drops))]
+    fn dropped(&self, side: Side, slot: Slot) -> Feeder {
+        let origin = drop_origin(&self.state, &self.map, &self.table, self.at, side, slot);
+        self.feeder_of(u16::from(slot.0), origin)
     }
 }
 
-fn chunk_form(action: Action) -> ChunkForm
-    ensures { result ≡ chunk_form action }
+/// Each port delivers what the node's state leads to it.
+pub fn deliver(cross: &CrossConnect, ports: &mut Tributaries)
+    requires { All (λ t. (1 ≤ t.slot.0) × (t.slot.0 ≤ half_of cross.now)) ports.old }
+    ensures { ports.new ≡ all_delivered cross.now ports.old }
 {
-    match action {
-        Action::Up => ChunkForm::Short,
-        Action::Down => ChunkForm::Long,
-        Action::Normal | Action::New | Action::Ais => ChunkForm::Plain,
-    }
+    // Reading it gives the proof what is true of every rate.
+    let _half = half_of(cross.west_in.rate());
+    ports.deliver(cross);
+}
+
+/// Both sides send their next frames. Whether all generators of the west side, and all of the east side, are in the states in which
+/// they were.
+pub fn send_both(
+    west: &mut Sender,
+    east: &mut Sender,
+    cross: &CrossConnect,
+    ports: &Tributaries,
+    west_out: &mut FrameBuf,
+    east_out: &mut FrameBuf,
+) -> (bool, bool)
+    requires west_rate { cross.now.west.section.rate ≡ west_out.old.rate }
+    requires east_rate { cross.now.west.section.rate ≡ east_out.old.rate }
+    requires west_section { west.old.section.rate ≡ west_out.old.rate }
+    requires east_section { east.old.section.rate ≡ east_out.old.rate }
+    ensures west { west.new ≡ after_sending (input_at cross.now (added_last ports.now) West) west.old }
+    ensures east { east.new ≡ after_sending (input_at cross.now (added_last ports.now) East) east.old }
+    ensures west_frame { west_out.new ≡ frame_from (input_at cross.now (added_last ports.now) West) west.old }
+    ensures east_frame { east_out.new ≡ frame_from (input_at cross.now (added_last ports.now) East) east.old }
+    ensures west_same { result.0 ≡ same_generators west.new.generators west.old.generators }
+    ensures east_same { result.1 ≡ same_generators east.new.generators east.old.generators }
+    ensures rates { (west.new.section.rate ≡ west.old.section.rate) × (east.new.section.rate ≡ east.old.section.rate) }
+    ensures outs { (west_out.new.rate ≡ west_out.old.rate) × (east_out.new.rate ≡ east_out.old.rate) }
+{
+    sdh_terminal::send_both(west, east, cross, ports, west_out, east_out)
 }

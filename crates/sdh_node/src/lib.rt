@@ -6,15 +6,8 @@
 
 mod adm;
 mod cross;
-mod intake;
-mod making;
-mod outlet;
-mod passing;
 mod receiver;
-mod sender;
 mod settings;
-mod tributaries;
-mod tributary;
 
 pub use adm::Adm;
 pub use sdh_payload::{Delivered, Turn};

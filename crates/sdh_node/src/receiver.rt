@@ -7,53 +7,44 @@ ghost use Rattle.sdh_nodestate.specs.Words.{IsSpellable};
 ghost use Rattle.sdh_nodestate.specs.Filtering.{hears};
 ghost use Rattle.sdh_pointer.specs.Reading.{start};
 ghost use Rattle.sdh_kbytes.specs.Same.{same_code, same_heard};
-ghost use Rattle.sdh_node.specs.Same.{same_readings, same_in};
+ghost use Rattle.sdh_terminal.specs.Same.{same_readings};
+ghost use Rattle.sdh_node.specs.Same.{same_in};
 ghost use Rattle.sdh_plant.specs.Arrivals.{as_arrival, arrived_in};
-ghost use Rattle.sdh_node.specs.Receiving.{reception, after_overhead, after_intake, intake_of, readings_by, actions_by, commanded_by, arrived_on, IsReceiving};
+ghost use Rattle.sdh_terminal.specs.Receiving.{readings_by, actions_by};
+ghost use Rattle.sdh_request.specs.Kept.{kept_request};
+ghost use Rattle.sdh_nodestate.specs.Filtering.{with_brought};
+ghost use Rattle.sdh_node.specs.Receiving.{local_after, after_intake, intake_of, commanded_by, arrived_on, IsReceiving};
 ghost use Rattle.sdh_node.specs.Crossing.{is_failed};
 ghost use Rattle.sdh_node.specs.Node.{new_receiving, compared_in};
 
-use crate::intake::Intake;
-use crate::making::new_interpreters;
 use crate::settings::Settings;
-use sdh_frame::{FrameBuf, Landing};
+use sdh_frame::FrameBuf;
 use sdh_kbytes::{Code, K, same_code, same_heard};
 use sdh_nodestate::Filter;
-use sdh_overhead::{Landed, Section};
+use sdh_overhead::Landed;
 use sdh_plant::Arrived;
-use sdh_pointer::Interp;
 use sdh_request::{Command, Defect, Local, Moment};
+use sdh_terminal::{Inlet, Intake};
 use std::alloc::{AllocError, Global};
 use std::marker::Model;
 
-/// One side that receives: what arrived, the section, the local request and the interpreters. What landed counts only where a
-/// frame arrived since the last round.
+/// One side that receives: what arrived and the interpreters, the local request and the words.
 #[derive(Debug, Drop)]
 pub struct Receiver {
-    arrived: Option<Arrived>,
-    inbox: Landed,
-    section: Section,
+    inlet: Inlet,
     local: Local,
     request: Code,
     filter: Filter,
-    interps: Vec<Interp>,
 }
 
 impl Model for Receiver {
-    ghost use Rattle.std.specs.Prelude.{◌≡◌, ◌≢◌, None, Some, option_map};
-    ghost use Rattle.sdh_plant.specs.declared.plant.Arrived.TheVariants.{Frame};
-    ghost use Rattle.sdh_plant.specs.Arrivals.{arrived_in};
-    ghost use Rattle.sdh_node.specs.Receiving.{Receiving, IsReceiving, readings_of};
+    ghost use Rattle.sdh_node.specs.Receiving.{Receiving, IsReceiving};
 
     ghost Value = { Receiving };
 
-    ghost view = { λ r. record { arrived = option_map (λ a. arrived_in a r.inbox.landed) r.arrived; section = r.section; local = r.local; request = r.request; brought = r.filter; readings = readings_of r.interps.items } };
+    ghost view = { λ r. record { arrived = r.inlet.arrived; section = r.inlet.section; local = r.local; request = r.request; brought = r.filter; readings = r.inlet.readings } };
 
-    ghost invariant = { λ r. record {
-      rate : r.inbox.rate ≡ r.section.rate;
-      here : r.arrived ≡ Some Frame → r.inbox.landed ≢ None;
-      side : IsReceiving (record { arrived = option_map (λ a. arrived_in a r.inbox.landed) r.arrived; section = r.section; local = r.local; request = r.request; brought = r.filter; readings = readings_of r.interps.items });
-    } };
+    ghost invariant = { λ r. IsReceiving (record { arrived = r.inlet.arrived; section = r.inlet.section; local = r.local; request = r.request; brought = r.filter; readings = r.inlet.readings }) };
 }
 
 impl Receiver {
@@ -62,13 +53,10 @@ impl Receiver {
         ensures { IfOk result (λ r. r ≡ new_receiving settings) }
     {
         Ok(Receiver {
-            arrived: None,
-            inbox: Landed::try_new(alloc, settings.rate)?,
-            section: Section::try_new(settings.rate),
+            inlet: Inlet::try_new(alloc, settings.rate)?,
             local: Local::new(settings.wait),
             request: Code::Nr,
             filter: Filter::new(),
-            interps: new_interpreters(alloc, settings.rate.n())?,
         })
     }
 
@@ -78,13 +66,7 @@ impl Receiver {
         ensures side { self.new ≡ arrived_on (as_arrival arrived frame.now.bytes) self.old }
         ensures local { self.new.local ≡ self.old.local }
     {
-        match arrived {
-            Arrived::Frame => {
-                self.inbox.land(frame);
-                self.arrived = Some(Arrived::Frame);
-            }
-            Arrived::Dark => self.arrived = Some(Arrived::Dark),
-        }
+        self.inlet.receive(arrived, frame);
     }
 
     /// Keeps what arrived for the next round as `receive` does, and takes what landed in exchange for the buffer that was taken in
@@ -99,14 +81,7 @@ impl Receiver {
         ensures intake { intake.new ≡ record intake.old { frame = intake.new.frame } }
         ensures intake_rate { intake.new.frame.rate ≡ intake.old.frame.rate }
     {
-        match arrived {
-            Arrived::Frame => {
-                intake.exchange(&mut self.inbox);
-                std::mem::swap(&mut self.inbox, inbox);
-                self.arrived = Some(Arrived::Frame);
-            }
-            Arrived::Dark => self.arrived = Some(Arrived::Dark),
-        }
+        self.inlet.exchange(arrived, inbox, intake);
     }
 
     /// Gives the side a command.
@@ -116,56 +91,16 @@ impl Receiver {
         self.local.command(command);
     }
 
-    // Whether something was told to have arrived.
-    fn is_told(&self) -> bool
-        ensures { result ≡ is_some self.now.arrived }
-    {
-        match self.arrived {
-            Some(_) => true,
-            None => false,
-        }
-    }
-
-    // Finds in what arrived the defect and the word that it brings.
-    #[tactic(auto, unfolding(crate::specs::Receiving::reception))]
-    fn find(&mut self, threshold: u16, intake: &mut Intake) -> (Defect, Option<K>)
-        requires { intake.old.frame.rate ≡ self.old.section.rate }
-        ensures side { self.new ≡ record self.old { arrived = None; section = holding self.old.section.rate (reception threshold self.old).last } }
-        ensures intake { intake.new ≡ record intake.old { frame = record { rate = self.old.section.rate; bytes = (reception threshold self.old).bytes } } }
-        ensures defect { result.0 ≡ (reception threshold self.old).defect }
-        ensures word { result.1 ≡ (reception threshold self.old).word }
-        ensures silent { result.0 ≡ Defect.Sf → result.1 ≡ None }
-        ensures spellable { IfSome result.1 IsSpellable }
-    {
-        let arrived = self.arrived;
-        self.arrived = None;
-        match arrived {
-            None => {
-                self.section.forget();
-                intake.fill_ones();
-                (Defect::None, None)
-            }
-            Some(Arrived::Dark) => {
-                self.section.forget();
-                intake.fill_ones();
-                (Defect::Sf, None)
-            }
-            Some(Arrived::Frame) => intake.find(threshold, &mut self.section, &mut self.inbox),
-        }
-    }
-
-    // Section overhead, the defect at a moment, what the filter makes of the word that came, and the local request. Whether the word
-    // heard and the request are as before.
-    #[tactic(auto, unfolding(crate::specs::Receiving::after_overhead))]
-    fn hear(&mut self, threshold: u16, now: Moment, intake: &mut Intake) -> bool
+    // What the filter makes of the word that came, and the local request with the defect at a moment. Whether the word heard and the
+    // request are as before.
+    fn hear(&mut self, now: Moment, defect: Defect, word: Option<K>) -> bool
         requires later { self.old.local.moment ≤ now.0 }
         requires within { now.0 ≤ 1000000000 }
-        requires rate { intake.old.frame.rate ≡ self.old.section.rate }
-        ensures side { self.new ≡ after_overhead threshold now.0 self.old }
-        ensures intake { intake.new ≡ record intake.old { frame = record { rate = self.old.section.rate; bytes = (reception threshold self.old).bytes } } }
+        requires silent { defect ≡ Defect.Sf → word ≡ None }
+        requires spellable { IfSome word IsSpellable }
+        ensures side { self.new ≡ record self.old { local = local_after now.0 defect self.old.local; request = kept_request (local_after now.0 defect self.old.local); brought = with_brought word self.old.brought } }
         ensures same { result ≡ (same_code self.new.request self.old.request && same_heard (hears self.new.brought) (hears self.old.brought)) }
     {
-        let (defect, word) = self.find(threshold, intake);
         self.local.at_moment(now);
         self.local.see(defect);
         let request = self.local.request();
@@ -176,25 +111,9 @@ impl Receiver {
         same
     }
 
-    // All interpreters read the frame, where something was told. Where nothing was they don't, and every AU-4 counts as
-    // AIS. Whether they keep what they kept.
-    fn interpret(&mut self, told: bool, intake: &mut Intake) -> bool
-        requires { intake.old.frame.rate ≡ self.old.section.rate }
-        ensures side { self.new ≡ record self.old { readings = readings_by told (n_of self.old.section.rate) intake.old.frame.bytes self.old.readings } }
-        ensures intake { intake.new ≡ record intake.old { actions = actions_by told (n_of self.old.section.rate) intake.old.frame.bytes self.old.readings } }
-        ensures same { result ≡ same_readings self.new.readings self.old.readings }
-    {
-        if told {
-            intake.read(&mut self.interps)
-        } else {
-            intake.silence();
-            true
-        }
-    }
-
     /// Takes what arrived, at a moment, and the interpreters read. Whether the local request, the word heard and what the
     /// interpreters keep are as before.
-    #[tactic(auto, unfolding(crate::specs::Receiving::after_intake, crate::specs::Receiving::intake_of, crate::specs::Receiving::after_overhead))]
+    #[tactic(auto, unfolding(crate::specs::Receiving::after_intake, crate::specs::Receiving::intake_of, crate::specs::Receiving::after_overhead, crate::specs::Receiving::reception, sdh_terminal::specs::Receiving::taken_in, sdh_terminal::specs::Receiving::after_taking))]
     pub fn take(&mut self, threshold: u16, now: Moment, intake: &mut Intake) -> bool
         requires later { self.old.local.moment ≤ now.0 }
         requires within { now.0 ≤ 1000000000 }
@@ -206,9 +125,9 @@ impl Receiver {
         ensures in_rate { intake.new.frame.rate ≡ self.old.section.rate }
         ensures moment { self.new.local.moment ≡ now.0 }
     {
-        let told = self.is_told();
-        let heard = self.hear(threshold, now, intake);
-        let read = self.interpret(told, intake);
+        let (defect, word, read) = self.inlet.take(threshold, intake);
+        self.inlet.has_readings();
+        let heard = self.hear(now, defect, word);
         heard && read
     }
 
@@ -242,7 +161,6 @@ impl Receiver {
         ensures value { result ≡ (slice_index_or self.now.readings (au - 1) start).value }
         ensures small { result ≤ 782 }
     {
-        let interp = &self.interps[au as usize - 1];
-        interp.value()
+        self.inlet.value(au)
     }
 }

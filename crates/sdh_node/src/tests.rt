@@ -2,11 +2,11 @@
 ghost use Rattle.std.specs.Prelude.{◌≡◌, ◌+◌, ◌<◌, ◌≤◌, IfSome};
 ghost use Rattle.sdh_frame.specs.Sizes.{n_of};
 ghost use Rattle.sdh_circuits.specs.declared.End.TheVariants.{B};
-ghost use Rattle.sdh_node.specs.Tributaries.{HasPort};
+ghost use Rattle.sdh_terminal.specs.Tributaries.{HasPort};
 ghost use Rattle.sdh_node.specs.Node.{moment_of};
 
 use super::*;
-use crate::intake::h3_at;
+use sdh_terminal::h3_at;
 use sdh_circuits::{Asked, CircuitMap, End, PortId};
 use sdh_frame::{FrameBuf, Place, Rate};
 use sdh_kbytes::{Code, encode};

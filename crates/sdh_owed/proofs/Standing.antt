@@ -12,7 +12,7 @@ use Rattle.sdh_payload.specs.declared.clock.Turn.TheVariants.{Up, Down}
 use Rattle.sdh_payload.specs.Clock.{Clock, new_clock, waiting, waits}
 use Rattle.sdh_plant.specs.Fibres.{Fibres, IsConditionAt}
 use Rattle.sdh_node.specs.declared.settings.Settings.{Settings}
-use Rattle.sdh_node.specs.Tributaries.{Tributary, port_of}
+use Rattle.sdh_terminal.specs.Tributaries.{Tributary, port_of}
 use Rattle.sdh_node.specs.Node.{Node}
 use Rattle.sdh_world.specs.Held.{HeldRing, new_ring, place_of_port, nowhere, node_at, AtEach}
 use Rattle.sdh_world.specs.Rounds.{World}

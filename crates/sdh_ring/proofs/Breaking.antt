@@ -9,7 +9,7 @@ use Rattle.sdh_circuits.specs.declared.PortId.{PortId}
 use Rattle.sdh_circuits.specs.Provisioned.{Provisioned, end_of}
 use Rattle.sdh_payload.specs.Clock.{Clock, ticks}
 use Rattle.sdh_plant.specs.Fibres.{Arrival, Fibres}
-use Rattle.sdh_node.specs.Tributaries.{Tributary, port_of}
+use Rattle.sdh_terminal.specs.Tributaries.{Tributary, port_of}
 use Rattle.sdh_node.specs.Node.{Node}
 use Rattle.sdh_world.specs.Held.{HeldRing, place_of_port}
 use Rattle.sdh_world.specs.Clocks.{HasPortIn, clock_at, clocks_from}

@@ -13,7 +13,7 @@ use Rattle.sdh_circuits.specs.Provisioned.{Provisioned, end_of}
 use Rattle.sdh_circuits.specs.Provisioning.{Provisioning, IsProvisioning, IsInRing}
 use Rattle.sdh_squelch.specs.Kept.{KeepsRing}
 use Rattle.sdh_payload.specs.Clock.{Clock, waiting}
-use Rattle.sdh_node.specs.Tributaries.{Tributary, new_tributary, ends_at, ends_from, tributaries_at, is_port, port_of, HasPort, outlet_of, waiting_of}
+use Rattle.sdh_terminal.specs.Tributaries.{Tributary, new_tributary, ends_at, ends_from, tributaries_at, is_port, port_of, HasPort, outlet_of, waiting_of}
 use Rattle.sdh_node.specs.Node.{Node, new_node}
 use Rattle.sdh_world.specs.Clocks.{port_in, HasPortIn, clock_at, waiting_at}
 use Rattle.sdh_world.specs.Fixed.{IsRested, IsRing}

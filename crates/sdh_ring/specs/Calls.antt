@@ -6,7 +6,7 @@ use Rattle.sdh_ringmap.specs.declared.Side.TheVariants.{West, East}
 use Rattle.sdh_plant.specs.Fibres.{Arrival, Fibres}
 use Rattle.sdh_plant.specs.Arrivals.{Knows, arrival}
 use Rattle.sdh_plant.specs.Calls.{after_receive, after_send}
-use Rattle.sdh_node.specs.Tributaries.{Tributary}
+use Rattle.sdh_terminal.specs.Tributaries.{Tributary}
 use Rattle.sdh_node.specs.Node.{Node, moment_of}
 use Rattle.sdh_world.specs.Rounds.{with_arrival, with_arrivals, all_with_arrivals, arrivals_from, after_given, node_after, west_frame, east_frame, frames_of, sent_some}
 

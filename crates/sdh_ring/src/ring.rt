@@ -6,7 +6,7 @@ ghost use Rattle.sdh_squelch.specs.Kept.{KeepsRing};
 ghost use Rattle.sdh_plant.specs.Fibres.{Fibres, IsPrepared, IsHonest};
 ghost use Rattle.sdh_plant.specs.Calls.{prepared};
 ghost use Rattle.sdh_node.specs.Receiving.{commanded_by};
-ghost use Rattle.sdh_node.specs.Tributaries.{HasPort, outlet_of, waiting_of};
+ghost use Rattle.sdh_terminal.specs.Tributaries.{HasPort, outlet_of, waiting_of};
 ghost use Rattle.sdh_node.specs.Node.{at_receiving, held_for, slips_at};
 ghost use Rattle.sdh_circuits.specs.declared.PortId.{PortId};
 ghost use Rattle.sdh_world.specs.Held.{new_nodes, new_ring, at_place, node_at, place_of_port, outlet_at};

@@ -22,7 +22,7 @@ use Rattle.sdh_payload.specs.Clock.{Clock, new_clock, waiting, waits, ticked, ti
 use Rattle.sdh_payload.proofs.Clocking.{slips_run_out}
 use Rattle.sdh_plant.specs.Fibres.{Arrival}
 use Rattle.sdh_node.specs.declared.settings.Settings.{Settings}
-use Rattle.sdh_node.specs.Tributaries.{Tributary, new_tributary, ends_at, ends_from, tributaries_at, is_port, port_of, slipped, with_slips, fed, all_fed}
+use Rattle.sdh_terminal.specs.Tributaries.{Tributary, new_tributary, ends_at, ends_from, tributaries_at, is_port, port_of, slipped, with_slips, fed, all_fed}
 use Rattle.sdh_node.specs.Crossing.{Cross, delivered_to, all_delivered}
 use Rattle.sdh_node.specs.Node.{Node, new_node, at_receiving, held_for, slips_at, crossing, ports_after, after_crossing, with_calm, node_round}
 use Rattle.sdh_node.specs.Receiving.{commanded_by}

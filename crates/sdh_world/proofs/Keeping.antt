@@ -26,7 +26,7 @@ use Rattle.sdh_circuits.specs.Provisioned.{Provisioned, same_end}
 use Rattle.sdh_plant.specs.Fibres.{Arrival}
 use Rattle.sdh_node.specs.declared.settings.Settings.{Settings}
 use Rattle.sdh_node.specs.Receiving.{after_intake, after_overhead, commanded_by}
-use Rattle.sdh_node.specs.Tributaries.{Tributary, is_port, port_of, HasPort, slipped, with_slips, fed, all_fed, new_tributary, ends_at, ends_from, tributaries_at}
+use Rattle.sdh_terminal.specs.Tributaries.{Tributary, is_port, port_of, HasPort, slipped, with_slips, fed, all_fed, new_tributary, ends_at, ends_from, tributaries_at}
 use Rattle.sdh_node.specs.Crossing.{Cross, after_decision, delivered_to, all_delivered}
 use Rattle.sdh_node.specs.Node.{Node, new_node, at_receiving, held_for, slips_at, crossing, ports_after, after_crossing, with_calm, node_round}
 use Rattle.sdh_node.proofs.Rounds.{round_goes_on}

@@ -10,7 +10,7 @@ use Rattle.sdh_circuits.specs.Provisioning.{Provisioning}
 use Rattle.sdh_payload.specs.Clock.{Clock, new_clock, waiting}
 use Rattle.sdh_plant.specs.Fibres.{Arrival}
 use Rattle.sdh_node.specs.declared.settings.Settings.{Settings}
-use Rattle.sdh_node.specs.Tributaries.{port_of}
+use Rattle.sdh_terminal.specs.Tributaries.{port_of}
 use Rattle.sdh_node.specs.Node.{Node}
 use Rattle.sdh_world.specs.Held.{HeldRing, new_ring, place_of_port}
 use Rattle.sdh_world.specs.Fixed.{fixed}

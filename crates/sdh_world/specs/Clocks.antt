@@ -5,7 +5,7 @@ use Rattle.sdh_payload.specs.Clock.{Clock, new_clock, waiting, waits, ticks}
 use Rattle.sdh_payload.specs.History.{Happening, told, went}
 use Rattle.sdh_circuits.specs.declared.PortId.{PortId}
 use Rattle.sdh_circuits.specs.Provisioned.{Provisioned, customer_at, same_port}
-use Rattle.sdh_node.specs.Tributaries.{Tributary, port_of}
+use Rattle.sdh_terminal.specs.Tributaries.{Tributary, port_of}
 use Rattle.sdh_world.specs.Held.{HeldRing, place_of_port}
 use Rattle.sdh_world.specs.Rounds.{World}
 use Rattle.sdh_world.specs.Changes.{Change, Fibre, Order, Hold, Slip, Now, Stretch}

@@ -7,7 +7,7 @@ use Rattle.sdh_circuits.specs.Provisioned.{Provisioned, end_of}
 use Rattle.sdh_circuits.specs.Provisioning.{Provisioning}
 use Rattle.sdh_node.specs.declared.settings.Settings.{Settings}
 use Rattle.sdh_payload.specs.Outlet.{Outlet, silent}
-use Rattle.sdh_node.specs.Tributaries.{outlet_of}
+use Rattle.sdh_terminal.specs.Tributaries.{outlet_of}
 use Rattle.sdh_node.specs.Node.{Node, new_node}
 use Rattle.sdh_ringmap.specs.Places.{position_of}
 use Rattle.sdh_frame.specs.declared.Rate.TheVariants.{Four}

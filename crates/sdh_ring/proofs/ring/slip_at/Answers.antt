@@ -1,5 +1,5 @@
 use Rattle.std.proofs.Common.{◌+◌, ◌≤◌, subst, arith}
-use Rattle.sdh_node.specs.Tributaries.{HasPort, waiting_of}
+use Rattle.sdh_terminal.specs.Tributaries.{HasPort, waiting_of}
 use Rattle.sdh_node.specs.Node.{Node}
 use Rattle.sdh_ring.proofs.Nodes.{placed_at, node_same}
 use Rattle.sdh_ring.proofs.ring.slip_at.Goals as goal

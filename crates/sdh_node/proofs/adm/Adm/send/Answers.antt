@@ -1,13 +1,14 @@
 use Rattle.std.proofs.Common.{◌+◌, ◌/◌, ◌<◌, ap, refl, sym, subst, arith, ◌∙◌}
 use Rattle.std.specs.Prelude.{All, ◌^◌, ◌&&◌, not, nat_le}
 use Rattle.sdh_frame.specs.Sizes.{n_of}
-use Rattle.sdh_node.specs.Tributaries.{Tributary, IsTributary}
+use Rattle.sdh_terminal.specs.Tributaries.{Tributary, IsTributary}
 use Rattle.sdh_node.specs.Receiving.{Receiving}
-use Rattle.sdh_node.specs.Sending.{Sending}
+use Rattle.sdh_terminal.specs.Sending.{Sending}
 use Rattle.sdh_ringmap.specs.declared.Side.TheVariants.{West, East}
 use Rattle.sdh_node.specs.Crossing.{after_decision, next_word}
 use Rattle.sdh_node.specs.Node.{Node, node_round, GoesOn}
-use Rattle.sdh_node.proofs.Ports.{few_rounds, delivered_are, fed_are}
+use Rattle.sdh_terminal.proofs.Ports.{few_rounds, fed_are}
+use Rattle.sdh_node.proofs.Dropped.{delivered_are}
 use Rattle.sdh_node.proofs.Rounds.{round_goes_on}
 use Rattle.sdh_node.proofs.Turning.{node_of, west_frame_is, east_frame_is, calm_is, node_is}
 use Rattle.sdh_node.proofs.adm.Adm.send.Goals as goal
@@ -46,7 +47,7 @@ returns-clause-west c =
     let west_said = c.decide-decided.ensures.west ∙ (λ j. next_word (held j) tk West (c.words_of-before.ensures.west j)) in
     let east_said = c.decide-decided.ensures.east ∙ (λ j. next_word (held j) tk East (c.words_of-before.ensures.east j)) in
     west_frame_is c.args.now.0 i.settings i.rounds i.held i.cross i.ports i.west_out i.east_out i.calm
-    c.take-taken.new.self c.decide-decided.new.self c.deliver.new.self c.feed.new.self c.take-taken.ensures.cross decided c.deliver.ensures c.feed.ensures
+    c.take-taken.new.self c.decide-decided.new.self c.deliver.new.ports c.feed.new.self c.take-taken.ensures.cross decided c.deliver.ensures c.feed.ensures
     c.decide-decided.result.0.west c.decide-decided.result.0.east c.say-west_said.new.self c.say-east_said.new.self c.send_both-west_made.new.west c.send_both-west_made.new.east c.feed.new.self c.feed.new.self
     west_said east_said c.say-west_said.ensures.sender c.say-east_said.ensures.sender refl refl
     c.send_both-west_made.new.west_out c.send_both-west_made.ensures.west_frame
@@ -61,7 +62,7 @@ returns-clause-east c =
     let west_said = c.decide-decided.ensures.west ∙ (λ j. next_word (held j) tk West (c.words_of-before.ensures.west j)) in
     let east_said = c.decide-decided.ensures.east ∙ (λ j. next_word (held j) tk East (c.words_of-before.ensures.east j)) in
     east_frame_is c.args.now.0 i.settings i.rounds i.held i.cross i.ports i.west_out i.east_out i.calm
-    c.take-taken.new.self c.decide-decided.new.self c.deliver.new.self c.feed.new.self c.take-taken.ensures.cross decided c.deliver.ensures c.feed.ensures
+    c.take-taken.new.self c.decide-decided.new.self c.deliver.new.ports c.feed.new.self c.take-taken.ensures.cross decided c.deliver.ensures c.feed.ensures
     c.decide-decided.result.0.west c.decide-decided.result.0.east c.say-west_said.new.self c.say-east_said.new.self c.send_both-west_made.new.west c.send_both-west_made.new.east c.feed.new.self c.feed.new.self
     west_said east_said c.say-west_said.ensures.sender c.say-east_said.ensures.sender refl refl
     c.send_both-west_made.new.east_out c.send_both-west_made.ensures.east_frame
@@ -79,7 +80,7 @@ returns-clause-node c =
     let told =
     c.is_calm-calm.ensures
     ∙ calm_is c.args.now.0 i.settings i.rounds i.held i.cross i.ports i.west_out i.east_out i.calm
-    c.take-taken.new.self c.decide-decided.new.self c.deliver.new.self c.feed.new.self c.take-taken.ensures.cross decided c.deliver.ensures c.feed.ensures
+    c.take-taken.new.self c.decide-decided.new.self c.deliver.new.ports c.feed.new.self c.take-taken.ensures.cross decided c.deliver.ensures c.feed.ensures
     c.decide-decided.result.0.west c.decide-decided.result.0.east c.say-west_said.new.self c.say-east_said.new.self c.send_both-west_made.new.west c.send_both-west_made.new.east c.feed.new.self c.feed.new.self
     west_said east_said c.say-west_said.ensures.sender c.say-east_said.ensures.sender refl refl
     c.send_both-west_made.ensures.west c.send_both-west_made.ensures.east
@@ -87,7 +88,7 @@ returns-clause-node c =
     counted c.take-taken.ensures.same c.decide-decided.ensures.same c.say-west_said.ensures.same c.send_both-west_made.ensures.west_same c.say-east_said.ensures.same c.send_both-west_made.ensures.east_same in
     (λ j. node_of i.settings (i.rounds + 1) (c.one_less-self-inside.ensures j) c.decide-decided.new.self c.feed.new.self c.send_both-west_made.new.west c.send_both-west_made.new.east c.is_calm-calm.result)
     ∙ node_is c.args.now.0 i.settings i.rounds i.held i.cross i.ports i.west_out i.east_out i.calm
-    c.take-taken.new.self c.decide-decided.new.self c.deliver.new.self c.feed.new.self c.take-taken.ensures.cross decided c.deliver.ensures c.feed.ensures
+    c.take-taken.new.self c.decide-decided.new.self c.deliver.new.ports c.feed.new.self c.take-taken.ensures.cross decided c.deliver.ensures c.feed.ensures
     c.decide-decided.result.0.west c.decide-decided.result.0.east c.say-west_said.new.self c.say-east_said.new.self c.send_both-west_made.new.west c.send_both-west_made.new.east c.feed.new.self c.feed.new.self
     west_said east_said c.say-west_said.ensures.sender c.say-east_said.ensures.sender refl refl
     c.send_both-west_made.ensures.west c.send_both-west_made.ensures.east

@@ -1,9 +1,9 @@
 use Rattle.std.proofs.Common.{◌+◌, ◌/◌, ◌≤◌, sym, subst}
 use Rattle.std.specs.Prelude.{All}
 use Rattle.sdh_frame.specs.Sizes.{n_of}
-use Rattle.sdh_node.specs.Tributaries.{waiting_of, IsTributary}
+use Rattle.sdh_terminal.specs.Tributaries.{waiting_of, IsTributary}
 use Rattle.sdh_node.specs.Node.{Node}
-use Rattle.sdh_node.proofs.Slips.{slips_are}
+use Rattle.sdh_terminal.proofs.Slips.{slips_are}
 use Rattle.sdh_node.proofs.adm.Adm.slip.Goals as goal
 
 pub invariant_of-self : goal.invariant_of-self

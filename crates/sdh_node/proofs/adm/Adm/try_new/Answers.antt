@@ -1,8 +1,8 @@
 use Rattle.std.proofs.Common.{ap, sym, subst, arith, ◌∙◌}
 use Rattle.std.specs.Prelude.{All}
 use Rattle.sdh_node.specs.Crossing.{Cross}
-use Rattle.sdh_node.specs.Sending.{Sending}
-use Rattle.sdh_node.specs.Tributaries.{IsTributary}
+use Rattle.sdh_terminal.specs.Sending.{Sending}
+use Rattle.sdh_terminal.specs.Tributaries.{IsTributary}
 use Rattle.sdh_node.proofs.adm.Adm.try_new.Goals as goal
 
 pub invariant_of-result : goal.invariant_of-result

@@ -1,6 +1,6 @@
 use Rattle.std.proofs.Common.{◌≡◌, ◌<◌, length, get_or, refl, ap, sym, subst, ◌∙◌, arith}
 use Rattle.std.proofs.lemmas.Option.{get_or_from_slice_get, slice_get_read}
-use Rattle.sdh_node.specs.Tributaries.{HasPort, outlet_of}
+use Rattle.sdh_terminal.specs.Tributaries.{HasPort, outlet_of}
 use Rattle.sdh_world.specs.Held.{HeldRing, outlet_at}
 use Rattle.sdh_node.specs.Node.{Node, new_node}
 use Rattle.sdh_world.proofs.Keeping.{node_is, has_fixed, new_has}

@@ -1,0 +1,9 @@
+pub mod Marks
+pub mod Landing
+pub mod Ports
+pub mod Passed
+mod Planned
+pub mod Frames
+pub mod Places
+pub mod Slips
+pub mod Rowwise

@@ -1,0 +1,83 @@
+-- Interpreters and generators tell after each step whether it moved them: none moved where all keep what they kept.
+use Rattle.std.proofs.Common.{◌≡◌, ℕ, ◌+◌, Bool, true, false, List, [], ◌∷◌, map, replicate, zero, suc, refl, ap, sym, ◌∙◌}
+use Rattle.std.specs.Prelude.{◌&&◌, ◌||◌, not}
+use Rattle.std.specs.List.{list_any}
+use Rattle.sdh_basics.specs.Indexed.{map_from}
+use Rattle.sdh_pointer.specs.declared.reading.Reading.{Reading}
+use Rattle.sdh_pointer.specs.Reading.{Interpreter, after_word, after_step, same_reading}
+use Rattle.sdh_pointer.specs.Sending.{Generator, next_sending, after_action, same_sending}
+use Rattle.sdh_pointer.proofs.Unmoved.{reading_itself}
+use Rattle.sdh_terminal.specs.Same.{same_readings, same_generators}
+use Rattle.sdh_terminal.specs.Receiving.{readings_of}
+use Rattle.sdh_terminal.specs.Passing.{Input, states_of, after_inputs}
+
+-- ---- lists
+
+pub map-map_from : {X Y Z : Type 0} (g : Y → Z) (f : ℕ → X → Y) (i : ℕ) (xs : List X) → map g (map_from f i xs) ≡ map_from (λ k x. g (f k x)) i xs
+map-map_from g f i [] = refl
+map-map_from g f i (x ∷ xs) = ap (λ r. g (f i x) ∷ r) (map-map_from g f (i + 1) xs)
+
+pub map_from-map : {X Y Z : Type 0} (f : ℕ → Y → Z) (g : X → Y) (i : ℕ) (xs : List X) → map_from f i (map g xs) ≡ map_from (λ k x. f k (g x)) i xs
+map_from-map f g i [] = refl
+map_from-map f g i (x ∷ xs) = ap (λ r. f i (g x) ∷ r) (map_from-map f g (i + 1) xs)
+
+pub map-replicate : {X Y : Type 0} (g : X → Y) (n : ℕ) (x : X) → map g (replicate n x) ≡ replicate n (g x)
+map-replicate g zero x = refl
+map-replicate g (suc n) x = ap (λ r. g x ∷ r) (map-replicate g n x)
+
+-- ---- marks
+
+none-or : (a b : Bool) → not (not a || b) ≡ (a && not b)
+none-or true b = refl
+none-or false b = refl
+
+-- ---- interpreters
+
+step_reading : (i : Interpreter) (w : ℕ) → (after_step i w).reading ≡ after_word i.reading w
+unfolding after_step
+step_reading i w = refl
+
+step_moved : (i : Interpreter) (w : ℕ) → (after_step i w).moved ≡ not (same_reading (after_word i.reading w) i.reading)
+unfolding after_step
+step_moved i w = refl
+
+module _ (w : ℕ → ℕ) where
+  abbrev stepped : ℕ → List Interpreter → List Interpreter
+  stepped i xs = map_from (λ k (x : Interpreter). after_step x (w k)) i xs
+
+  pub unmoved-interpreters : (i : ℕ) (xs : List Interpreter) → not (list_any (λ (x : Interpreter). x.moved) (stepped i xs)) ≡ same_readings (readings_of (stepped i xs)) (readings_of xs)
+  unfolding after_step
+  unmoved-interpreters i [] = refl
+  unmoved-interpreters i (x ∷ xs) =
+      none-or (same_reading (after_word x.reading (w i)) x.reading) (list_any (λ (x : Interpreter). x.moved) (stepped (i + 1) xs))
+      ∙ ap (λ b. same_reading (after_word x.reading (w i)) x.reading && b) (unmoved-interpreters (i + 1) xs)
+
+  pub readings-stepped : (xs : List Interpreter) → readings_of (stepped 0 xs) ≡ map_from (λ k r. after_word r (w k)) 0 (readings_of xs)
+  unfolding after_step
+  readings-stepped xs = map-map_from (λ (x : Interpreter). x.reading) (λ k (x : Interpreter). after_step x (w k)) 0 xs ∙ sym (map_from-map (λ k r. after_word r (w k)) (λ (x : Interpreter). x.reading) 0 xs)
+
+-- ---- generators
+
+module _ (input : ℕ → Input) where
+  abbrev sent : ℕ → List Generator → List Generator
+  sent i xs = map_from (λ k (g : Generator). after_action g (input (k + 1)).action (input (k + 1)).value) i xs
+
+  pub unmoved-generators : (i : ℕ) (xs : List Generator) → not (list_any (λ (x : Generator). x.moved) (sent i xs)) ≡ same_generators (states_of (sent i xs)) (states_of xs)
+  unfolding after_action
+  unmoved-generators i [] = refl
+  unmoved-generators i (x ∷ xs) =
+      let next = next_sending x.sending (input (i + 1)).action (input (i + 1)).value in
+      none-or (same_sending next x.sending) (list_any (λ (x : Generator). x.moved) (sent (i + 1) xs))
+      ∙ ap (λ b. same_sending next x.sending && b) (unmoved-generators (i + 1) xs)
+
+  pub states-sent : (xs : List Generator) → states_of (sent 0 xs) ≡ after_inputs input (states_of xs)
+  unfolding after_action after_inputs
+  states-sent xs =
+      map-map_from (λ (g : Generator). g.sending) (λ k (g : Generator). after_action g (input (k + 1)).action (input (k + 1)).value) 0 xs
+      ∙ sym (map_from-map (λ k s. next_sending s (input (k + 1)).action (input (k + 1)).value) (λ (g : Generator). g.sending) 0 xs)
+
+-- ---- nothing moves what doesn't step
+
+pub same-readings : (rs : List Reading) → same_readings rs rs ≡ true
+same-readings [] = refl
+same-readings (r ∷ rs) = rw (reading_itself r) (same-readings rs)

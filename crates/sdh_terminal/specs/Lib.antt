@@ -1,0 +1,9 @@
+pub mod Same
+pub mod Passing
+pub mod Receiving
+pub mod Outlets
+pub mod Tributaries
+pub mod Places
+pub mod Lines
+pub mod Sending
+pub mod Sources

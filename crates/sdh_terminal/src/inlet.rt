@@ -1,0 +1,190 @@
+//! One side that receives frames.
+ghost use Rattle.std.specs.Prelude.{◌≡◌, ◌≢◌, ◌-◌, ◌≤◌, None, Some, IfSome, IfOk, length, slice_index_or};
+ghost use Rattle.std.specs.Option.{is_some};
+ghost use Rattle.sdh_frame.specs.Sizes.{n_of};
+ghost use Rattle.sdh_overhead.specs.Sections.{holding};
+ghost use Rattle.sdh_nodestate.specs.Words.{IsSpellable};
+ghost use Rattle.sdh_pointer.specs.Reading.{start};
+ghost use Rattle.sdh_plant.specs.Arrivals.{as_arrival, arrived_in};
+ghost use Rattle.sdh_terminal.specs.Same.{same_readings};
+ghost use Rattle.sdh_terminal.specs.Receiving.{new_inlet, inlet_told, found, taken_in, after_taking, readings_by, actions_by};
+
+use crate::intake::Intake;
+use crate::making::new_interpreters;
+use sdh_frame::{FrameBuf, Landing, Rate};
+use sdh_kbytes::K;
+use sdh_overhead::{Landed, Section};
+use sdh_plant::Arrived;
+use sdh_pointer::Interp;
+use sdh_request::Defect;
+use std::alloc::{AllocError, Global};
+use std::marker::Model;
+
+/// One side that receives: what arrived, the section and the interpreters. What landed counts only where a frame arrived since the
+/// last round.
+#[derive(Debug, Drop)]
+pub struct Inlet {
+    arrived: Option<Arrived>,
+    inbox: Landed,
+    section: Section,
+    interps: Vec<Interp>,
+}
+
+impl Model for Inlet {
+    ghost use Rattle.std.specs.Prelude.{◌≡◌, ◌≢◌, None, Some, option_map};
+    ghost use Rattle.sdh_plant.specs.declared.plant.Arrived.TheVariants.{Frame};
+    ghost use Rattle.sdh_plant.specs.Arrivals.{arrived_in};
+    ghost use Rattle.sdh_terminal.specs.Receiving.{Inlet, IsInlet, readings_of};
+
+    ghost Value = { Inlet };
+
+    ghost view = { λ r. record { arrived = option_map (λ a. arrived_in a r.inbox.landed) r.arrived; section = r.section; readings = readings_of r.interps.items } };
+
+    ghost invariant = { λ r. record {
+      rate : r.inbox.rate ≡ r.section.rate;
+      here : r.arrived ≡ Some Frame → r.inbox.landed ≢ None;
+      side : IsInlet (record { arrived = option_map (λ a. arrived_in a r.inbox.landed) r.arrived; section = r.section; readings = readings_of r.interps.items });
+    } };
+}
+
+impl Inlet {
+    /// A side that has received nothing. All its memory is taken here.
+    pub fn try_new(alloc: Global, rate: Rate) -> Result<Inlet, AllocError>
+        ensures { IfOk result (λ r. r ≡ new_inlet rate) }
+    {
+        Ok(Inlet {
+            arrived: None,
+            inbox: Landed::try_new(alloc, rate)?,
+            section: Section::try_new(rate),
+            interps: new_interpreters(alloc, rate.n())?,
+        })
+    }
+
+    /// Keeps what arrived for the next round, in place of what arrived since the last one.
+    pub fn receive(&mut self, arrived: Arrived, frame: &FrameBuf)
+        requires { frame.now.rate ≡ self.old.section.rate }
+        ensures { self.new ≡ inlet_told (as_arrival arrived frame.now.bytes) self.old }
+    {
+        match arrived {
+            Arrived::Frame => {
+                self.inbox.land(frame);
+                self.arrived = Some(Arrived::Frame);
+            }
+            Arrived::Dark => self.arrived = Some(Arrived::Dark),
+        }
+    }
+
+    /// Keeps what arrived for the next round as `receive` does, and takes what landed in exchange for the buffer that was taken in
+    /// before, so that few buffers go round.
+    pub fn exchange(&mut self, arrived: Arrived, inbox: &mut Landed, intake: &mut Intake)
+        requires rate { inbox.old.rate ≡ self.old.section.rate }
+        requires here { arrived ≡ Arrived.Frame → inbox.old.landed ≢ None }
+        requires intake { intake.old.frame.rate ≡ self.old.section.rate }
+        ensures side { self.new ≡ inlet_told (arrived_in arrived inbox.old.landed) self.old }
+        ensures rate { inbox.new.rate ≡ inbox.old.rate }
+        ensures intake { intake.new ≡ record intake.old { frame = intake.new.frame } }
+        ensures intake_rate { intake.new.frame.rate ≡ intake.old.frame.rate }
+    {
+        match arrived {
+            Arrived::Frame => {
+                intake.exchange(&mut self.inbox);
+                std::mem::swap(&mut self.inbox, inbox);
+                self.arrived = Some(Arrived::Frame);
+            }
+            Arrived::Dark => self.arrived = Some(Arrived::Dark),
+        }
+    }
+
+    // Whether something was told to have arrived.
+    fn is_told(&self) -> bool
+        ensures { result ≡ is_some self.now.arrived }
+    {
+        match self.arrived {
+            Some(_) => true,
+            None => false,
+        }
+    }
+
+    // Finds in what arrived the defect and the word that it brings.
+    fn find(&mut self, threshold: u16, intake: &mut Intake) -> (Defect, Option<K>)
+        requires { intake.old.frame.rate ≡ self.old.section.rate }
+        ensures side { self.new ≡ record self.old { arrived = None; section = holding self.old.section.rate (found threshold self.old).last } }
+        ensures intake { intake.new ≡ record intake.old { frame = record { rate = self.old.section.rate; bytes = (found threshold self.old).bytes } } }
+        ensures defect { result.0 ≡ (found threshold self.old).defect }
+        ensures word { result.1 ≡ (found threshold self.old).word }
+        ensures silent { result.0 ≡ Defect.Sf → result.1 ≡ None }
+        ensures spellable { IfSome result.1 IsSpellable }
+    {
+        let arrived = self.arrived;
+        self.arrived = None;
+        match arrived {
+            None => {
+                self.section.forget();
+                intake.fill_ones();
+                (Defect::None, None)
+            }
+            Some(Arrived::Dark) => {
+                self.section.forget();
+                intake.fill_ones();
+                (Defect::Sf, None)
+            }
+            Some(Arrived::Frame) => intake.find(threshold, &mut self.section, &mut self.inbox),
+        }
+    }
+
+    // All interpreters read the frame, where something was told. Where nothing was they don't, and every AU-4 counts as
+    // AIS. Whether they keep what they kept.
+    fn interpret(&mut self, told: bool, intake: &mut Intake) -> bool
+        requires { intake.old.frame.rate ≡ self.old.section.rate }
+        ensures side { self.new ≡ record self.old { readings = readings_by told (n_of self.old.section.rate) intake.old.frame.bytes self.old.readings } }
+        ensures intake { intake.new ≡ record intake.old { actions = actions_by told (n_of self.old.section.rate) intake.old.frame.bytes self.old.readings } }
+        ensures same { result ≡ same_readings self.new.readings self.old.readings }
+    {
+        if told {
+            intake.read(&mut self.interps)
+        } else {
+            intake.silence();
+            true
+        }
+    }
+
+    /// Takes what arrived, and the interpreters read. The defect and the word that it brings, and whether the interpreters keep what
+    /// they kept.
+    #[tactic(auto, unfolding(crate::specs::Receiving::taken_in, crate::specs::Receiving::after_taking))]
+    pub fn take(&mut self, threshold: u16, intake: &mut Intake) -> (Defect, Option<K>, bool)
+        requires { intake.old.frame.rate ≡ self.old.section.rate }
+        ensures side { self.new ≡ after_taking threshold self.old }
+        ensures intake { intake.new ≡ taken_in threshold self.old }
+        ensures defect { result.0 ≡ (found threshold self.old).defect }
+        ensures word { result.1 ≡ (found threshold self.old).word }
+        ensures silent { result.0 ≡ Defect.Sf → result.1 ≡ None }
+        ensures spellable { IfSome result.1 IsSpellable }
+        ensures same { result.2 ≡ same_readings self.new.readings self.old.readings }
+        ensures rate { self.new.section.rate ≡ self.old.section.rate }
+        ensures in_rate { intake.new.frame.rate ≡ self.old.section.rate }
+    {
+        let told = self.is_told();
+        let (defect, word) = self.find(threshold, intake);
+        let same = self.interpret(told, intake);
+        (defect, word, same)
+    }
+
+    /// The value of the interpreter of an AU-4.
+    pub fn value(&self, au: u16) -> u16
+        requires first { 1 ≤ au }
+        requires last { au ≤ n_of self.now.section.rate }
+        ensures value { result ≡ (slice_index_or self.now.readings (au - 1) start).value }
+        ensures small { result ≤ 782 }
+    {
+        let interp = &self.interps[au as usize - 1];
+        interp.value()
+    }
+
+    /// So many readings are kept.
+    pub fn has_readings(&self)
+        ensures { length self.now.readings ≡ n_of self.now.section.rate }
+    {
+        // Reading it gives the proof what is true of every side.
+        let _arrived = self.arrived;
+    }
+}

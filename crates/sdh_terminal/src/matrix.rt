@@ -1,0 +1,61 @@
+//! Where AU-4s come from.
+ghost use Rattle.std.specs.Prelude.{◌≡◌, ℕ, ◌*◌, ◌≤◌};
+ghost use Rattle.sdh_frame.specs.Sizes.{n_of};
+ghost use Rattle.sdh_ringmap.specs.declared.Side.{Side};
+ghost use Rattle.sdh_terminal.specs.declared.matrix.Feeder.{Feeder};
+ghost use Rattle.sdh_terminal.specs.Lines.{Lines, line_on, received, IsFeeder};
+
+use crate::intake::Intake;
+use sdh_circuits::{PortId, Slot};
+use sdh_frame::Rate;
+use sdh_ringmap::Side;
+
+/// What an AU-4 is fed with: a port, an AU-4 that a side received, or AIS.
+#[derive(Clone, Copy, Debug, PartialEq, Eq)]
+pub enum Feeder {
+    Port(PortId),
+    Received(Side, u16),
+    Ais,
+}
+
+/// Both sides of a node in a round, and where what comes in on them leads. (A connection matrix, in the terms of ITU-T G.783.)
+pub trait Matrix {
+    /// What both sides took in, and what their interpreters keep.
+    ghost lines: { Self → Lines };
+
+    /// What feeds the AU-4 of a number that leaves on a side.
+    ghost leads: { Self → Side → ℕ → Feeder };
+
+    /// What is dropped of a slot to a port whose circuit leaves on a side.
+    ghost drops: { Self → Side → ℕ → Feeder };
+
+    /// The rate of both sides.
+    fn rate(&self) -> Rate
+        ensures { result ≡ (lines self.now).rate };
+
+    /// What a side took in.
+    fn intake(&self, side: Side) -> &Intake
+        ensures intake { result.now ≡ (line_on (lines self.now) side).intake }
+        ensures rate { result.now.frame.rate ≡ (lines self.now).rate };
+
+    /// The value of the interpreter of an AU-4.
+    fn value(&self, side: Side, au: u16) -> u16
+        requires first { 1 ≤ au }
+        requires last { au ≤ n_of (lines self.now).rate }
+        ensures value { result ≡ (received (lines self.now) side au).value }
+        ensures small { result ≤ 782 };
+
+    /// What feeds an AU-4 that leaves on a side.
+    fn leaving(&self, side: Side, au: u16) -> Feeder
+        requires first { 1 ≤ au }
+        requires last { au ≤ n_of (lines self.now).rate }
+        ensures feeder { result ≡ leads self.now side au }
+        ensures inside { IsFeeder (n_of (lines self.now).rate) result };
+
+    /// What is dropped to a port.
+    fn dropped(&self, side: Side, slot: Slot) -> Feeder
+        requires first { 1 ≤ slot.0 }
+        requires last { 2 * slot.0 ≤ n_of (lines self.now).rate }
+        ensures feeder { result ≡ drops self.now side slot.0 }
+        ensures inside { IsFeeder (n_of (lines self.now).rate) result };
+}

@@ -1,0 +1,189 @@
+//! What a port delivers.
+ghost use Rattle.std.specs.Prelude.{◌≡◌, ◌≤◌, IfOk};
+ghost use Rattle.sdh_frame.specs.Sizes.{n_of};
+ghost use Rattle.sdh_frame.specs.Aus.{au_of};
+ghost use Rattle.sdh_payload.specs.Chunk.{taken};
+ghost use Rattle.sdh_payload.specs.Outlet.{silent, delivering};
+ghost use Rattle.sdh_interchange.specs.Taking.{IsOf};
+ghost use Rattle.sdh_terminal.specs.Passing.{h3_of};
+ghost use Rattle.sdh_terminal.specs.Lines.{line_on, received, dropped_by, IsFeeder};
+ghost use Rattle.sdh_terminal.specs.Outlets.{chunk_form, chunk_from, delivered_from};
+
+use crate::intake::h3_at;
+use crate::matrix::{Feeder, Matrix};
+use sdh_frame::FrameBuf;
+use sdh_interchange::Taken;
+use sdh_payload::{Cells, ChunkForm, Delivered, take_chunk_in_place};
+use sdh_pointer::Action;
+use sdh_ringmap::Side;
+use std::alloc::{AllocError, Global};
+use std::marker::Model;
+
+/// What a port delivers, and the value of the interpreter through which it came. The memory of a chunk is kept while
+/// AIS is delivered.
+#[derive(Debug, Drop)]
+pub struct Outlet {
+    chunk: Delivered,
+    ais: Delivered,
+    is_here: bool,
+    value: u16,
+}
+
+impl Model for Outlet {
+    ghost use Rattle.std.specs.Prelude.{◌≡◌, ◌≤◌, if◌then◌else◌};
+    ghost use Rattle.sdh_payload.specs.Outlet.{Outlet};
+    ghost use Rattle.sdh_payload.specs.declared.delivered.Delivered.TheVariants.{Ais};
+    ghost use Rattle.sdh_terminal.specs.Outlets.{IsChunk};
+
+    ghost Value = { Outlet };
+
+    ghost view = { λ o. record { delivered = if o.is_here then o.chunk else Ais; value = o.value } };
+
+    ghost invariant = { λ o. IsChunk o.chunk × (o.ais ≡ Ais) × (o.value ≤ 782) };
+}
+
+impl Outlet {
+    /// AIS, with room for a chunk.
+    pub fn try_new(alloc: Global) -> Result<Outlet, AllocError>
+        ensures { IfOk result (λ outlet. outlet ≡ silent) }
+    {
+        Ok(Outlet {
+            chunk: Delivered::Chunk(Cells::try_new(alloc)?),
+            ais: Delivered::Ais,
+            is_here: false,
+            value: 0,
+        })
+    }
+
+    /// What is delivered.
+    pub fn delivered(&self) -> &Delivered
+        ensures { result.now ≡ self.now.delivered }
+    {
+        if self.is_here { &self.chunk } else { &self.ais }
+    }
+
+    /// The value of the interpreter through which it came, 0 with AIS.
+    pub fn value(&self) -> u16
+        ensures value { result ≡ self.now.value }
+        ensures small { result ≤ 782 }
+    {
+        self.value
+    }
+
+    /// Delivers AIS.
+    pub fn silence(&mut self)
+        ensures { self.new ≡ silent }
+    {
+        self.is_here = false;
+        self.value = 0;
+    }
+
+    /// Delivers an AU-4 of a frame, of which some payloads have been taken out.
+    pub fn deliver(
+        &mut self,
+        frame: &FrameBuf,
+        payloads: &mut Taken,
+        au: u16,
+        form: ChunkForm,
+        value: u16,
+    )
+        requires first { 1 ≤ au }
+        requires last { au ≤ n_of frame.now.rate }
+        requires value { value ≤ 782 }
+        requires payloads { IsOf frame.now payloads.old }
+        ensures payloads { IsOf frame.now payloads.new }
+        ensures outlet { let came = au_of (n_of frame.now.rate) au frame.now.bytes in self.new ≡ delivering value (taken form came.payload (h3_of came.pointers)) }
+    {
+        self.is_here = true;
+        self.value = value;
+        if let Delivered::Chunk(cells) = &mut self.chunk {
+            take_au(frame, payloads, au, form, cells);
+        }
+    }
+}
+
+// The bytes that a port takes from an AU-4 of a frame.
+fn take_au(frame: &FrameBuf, payloads: &mut Taken, au: u16, form: ChunkForm, cells: &mut Cells)
+    requires first { 1 ≤ au }
+    requires last { au ≤ n_of frame.now.rate }
+    requires payloads { IsOf frame.now payloads.old }
+    ensures payloads { IsOf frame.now payloads.new }
+    ensures cells { let came = au_of (n_of frame.now.rate) au frame.now.bytes in cells.new ≡ taken form came.payload (h3_of came.pointers) }
+{
+    payloads.give(frame, au, cells);
+    let h3 = h3_at(frame, au);
+    take_chunk_in_place(&h3, form, cells);
+}
+
+fn chunk_form(action: Action) -> ChunkForm
+    ensures { result ≡ chunk_form action }
+{
+    match action {
+        Action::Up => ChunkForm::Short,
+        Action::Down => ChunkForm::Long,
+        Action::Normal | Action::New | Action::Ais => ChunkForm::Plain,
+    }
+}
+
+// Delivers an AU-4 that a side received and that isn't AIS.
+fn deliver_chunk<X: Matrix>(
+    cross: &X,
+    side: Side,
+    au: u16,
+    payloads: &mut Taken,
+    outlet: &mut Outlet,
+)
+    requires first { 1 ≤ au }
+    requires last { au ≤ n_of (X.lines cross.now).rate }
+    requires payloads { IsOf (line_on (X.lines cross.now) side).intake.frame payloads.old }
+    ensures payloads { IsOf (line_on (X.lines cross.now) side).intake.frame payloads.new }
+    ensures outlet { outlet.new ≡ chunk_from (received (X.lines cross.now) side au) }
+{
+    let intake = cross.intake(side);
+    let form = chunk_form(intake.action(au));
+    outlet.deliver(intake.frame(), payloads, au, form, cross.value(side, au));
+}
+
+// Delivers an AU-4 that a side received.
+#[tactic(auto, unfolding(crate::specs::Outlets::delivered_from))]
+fn deliver_received<X: Matrix>(
+    cross: &X,
+    side: Side,
+    au: u16,
+    payloads: &mut Taken,
+    outlet: &mut Outlet,
+)
+    requires first { 1 ≤ au }
+    requires last { au ≤ n_of (X.lines cross.now).rate }
+    requires payloads { IsOf (line_on (X.lines cross.now) side).intake.frame payloads.old }
+    ensures payloads { IsOf (line_on (X.lines cross.now) side).intake.frame payloads.new }
+    ensures outlet { outlet.new ≡ delivered_from (received (X.lines cross.now) side au) }
+{
+    match cross.intake(side).action(au) {
+        Action::Ais => outlet.silence(),
+        _ => deliver_chunk(cross, side, au, payloads, outlet),
+    }
+}
+
+/// Delivers what is dropped. Payloads may have been taken out of both frames.
+#[tactic(auto, unfolding(crate::specs::Outlets::delivered_from))]
+pub fn deliver<X: Matrix>(
+    cross: &X,
+    feeder: Feeder,
+    west: &mut Taken,
+    east: &mut Taken,
+    outlet: &mut Outlet,
+)
+    requires inside { IsFeeder (n_of (X.lines cross.now).rate) feeder }
+    requires west { IsOf (X.lines cross.now).west.intake.frame west.old }
+    requires east { IsOf (X.lines cross.now).east.intake.frame east.old }
+    ensures west { IsOf (X.lines cross.now).west.intake.frame west.new }
+    ensures east { IsOf (X.lines cross.now).east.intake.frame east.new }
+    ensures outlet { outlet.new ≡ delivered_from (dropped_by (X.lines cross.now) feeder) }
+{
+    match feeder {
+        Feeder::Received(Side::West, au) => deliver_received(cross, Side::West, au, west, outlet),
+        Feeder::Received(Side::East, au) => deliver_received(cross, Side::East, au, east, outlet),
+        Feeder::Port(_) | Feeder::Ais => outlet.silence(),
+    }
+}

@@ -1,0 +1,177 @@
+//! The ports at a node, each found by its circuit and its end.
+ghost use Rattle.std.specs.Prelude.{◌≡◌, ◌+◌, ◌*◌, ◌/◌, ◌^◌, ◌<◌, ◌≤◌, IfOk, IfSome, IfNone, IsTrue, IsSome, Some, None, All, length, position};
+ghost use Rattle.sdh_basics.specs.Cells.{cells};
+ghost use Rattle.sdh_terminal.specs.Tributaries.{tributaries_at, is_port, port_of, HasPort, outlet_of, waiting_of, with_slips, all_fed, all_delivered_with, IsTributary};
+ghost use Rattle.sdh_terminal.specs.Places.{number_of, port_numbered};
+ghost use Rattle.sdh_frame.specs.Sizes.{n_of};
+ghost use Rattle.sdh_terminal.specs.Lines.{dropped_by};
+
+use crate::matrix::Matrix;
+use crate::outlet::Outlet;
+use crate::tributary::{Tributary, deliver_all, feed_all, place_of, tributaries_at};
+use sdh_circuits::{CircuitMap, End, PortId};
+use sdh_interchange::Taken;
+use sdh_payload::Turn;
+use sdh_ringmap::{Pos, Side};
+use std::alloc::{AllocError, Global};
+use std::marker::Model;
+
+/// The ports of circuits at a node, in the order of circuits. Each one's place is found once, when the node is made.
+#[derive(Debug, Drop)]
+pub struct Tributaries {
+    items: Vec<Tributary>,
+    // The places of the ports of circuit 0, of circuit 1 and so on, A before B.
+    places: Vec<Option<usize>>,
+    // What is taken out of both frames that were received, while the ports deliver.
+    west: Taken,
+    east: Taken,
+}
+
+impl Model for Tributaries {
+    ghost use Rattle.std.specs.Prelude.{List};
+    ghost use Rattle.sdh_terminal.specs.Tributaries.{Tributary};
+    ghost use Rattle.sdh_terminal.specs.Places.{ArePlaces};
+
+    ghost Value = { List Tributary };
+
+    ghost view = { λ p. p.items.items };
+
+    ghost invariant = { λ p. ArePlaces p.places.items p.items.items };
+}
+
+fn number_of(id: PortId) -> usize
+    ensures { result ≡ number_of id }
+{
+    let number = 2 * usize::from(id.circuit);
+    match id.end {
+        End::A => number,
+        End::B => number + 1,
+    }
+}
+
+fn port_numbered(number: usize) -> PortId
+    requires { number < 512 }
+    ensures { result ≡ port_numbered number }
+{
+    PortId {
+        circuit: (number / 2) as u8,
+        end: if number % 2 == 0 { End::A } else { End::B },
+    }
+}
+
+// The places of so many ports of a ring's circuits.
+fn places_in(
+    alloc: Global,
+    ports: &[Tributary],
+    count: usize,
+) -> Result<Vec<Option<usize>>, AllocError>
+    requires { count ≤ 512 }
+    ensures { IfOk result (λ v. v.items ≡ cells (λ k. position (is_port (port_numbered k)) ports.now) count) }
+{
+    let mut places = Vec::with_capacity(alloc, count)?;
+    for k in 0..count {
+        places.push(place_of(ports, port_numbered(k)))?;
+    }
+    Ok(places)
+}
+
+impl Tributaries {
+    /// The ports of a ring's circuits that are at a position. All their memory is taken here.
+    #[tactic(auto, using(crate::proofs::Places::new_places))]
+    pub fn try_new(alloc: Global, circuits: &CircuitMap, at: Pos) -> Result<Tributaries, AllocError>
+        ensures ports { IfOk result (λ ports. ports ≡ tributaries_at at circuits.now.circuits) }
+        ensures slots { IfOk result (λ ports. All (IsTributary circuits.now.slots 0) ports) }
+    {
+        let items = tributaries_at(alloc, circuits, at)?;
+        let places = places_in(alloc, &items, 2 * circuits.len())?;
+        Ok(Tributaries {
+            items,
+            places,
+            west: Taken::try_new(alloc)?,
+            east: Taken::try_new(alloc)?,
+        })
+    }
+
+    #[tactic(auto, using(crate::proofs::Ports::port_missing))]
+    fn place(&self, id: PortId) -> Option<usize>
+        ensures place { result ≡ position (is_port id) self.now }
+        ensures missing { IfNone result (port_of id self.now ≡ None) }
+    {
+        match self.places.get(number_of(id)) {
+            Some(place) => *place,
+            None => None,
+        }
+    }
+
+    /// The port with this name, if it is at the node.
+    #[tactic(auto, using(crate::proofs::Ports::port_found, crate::proofs::Ports::place_within))]
+    pub fn find(&self, id: PortId) -> Option<&Tributary>
+        ensures found { IfSome result (λ port. port_of id self.now ≡ Some port.now) }
+        ensures missing { IfNone result (port_of id self.now ≡ None) }
+    {
+        match self.place(id) {
+            Some(i) => {
+                let port = &self.items[i];
+                Some(port)
+            }
+            None => None,
+        }
+    }
+
+    /// What a port delivers.
+    pub fn outlet(&self, id: PortId) -> &Outlet
+        requires { HasPort self.now id }
+        ensures { result.now ≡ outlet_of id self.now }
+    {
+        let Some(port) = self.find(id) else {
+            unreachable!()
+        };
+        port.outlet()
+    }
+
+    /// How many slips wait at a port.
+    pub fn waiting(&self, id: PortId) -> u8
+        requires { HasPort self.now id }
+        ensures waiting { result ≡ waiting_of id self.now }
+        ensures few { result ≤ 16 }
+    {
+        let Some(port) = self.find(id) else {
+            unreachable!()
+        };
+        port.waiting()
+    }
+
+    /// So many more slips wait at a port.
+    #[tactic(auto, using(crate::proofs::Slips::slips_stay, crate::proofs::Slips::slips_placed, crate::proofs::Slips::waiting_here, crate::proofs::Ports::place_within))]
+    pub fn slip(&mut self, id: PortId, turn: Turn, count: u8)
+        requires there { HasPort self.old id }
+        requires few { waiting_of id self.old + count ≤ 16 }
+        ensures { self.new ≡ with_slips id turn count self.old }
+    {
+        let Some(i) = self.place(id) else {
+            unreachable!()
+        };
+        let port = &mut self.items[i];
+        port.slip(turn, count);
+    }
+
+    /// Each port takes the next bytes of its stream.
+    #[tactic(auto, using(crate::proofs::Places::fed_stay))]
+    pub fn feed(&mut self)
+        requires { All (λ t. t.feed.clock.rounds < 2 ^ 32) self.old }
+        ensures { self.new ≡ all_fed self.old }
+    {
+        feed_all(&mut self.items);
+    }
+
+    /// Each port delivers what is dropped to it.
+    #[tactic(auto, using(crate::proofs::Places::delivered_stay))]
+    pub fn deliver<X: Matrix>(&mut self, cross: &X)
+        requires { All (λ t. (1 ≤ t.slot.0) × (2 * t.slot.0 ≤ n_of (X.lines cross.now).rate)) self.old }
+        ensures { self.new ≡ all_delivered_with (λ t. dropped_by (X.lines cross.now) (X.drops cross.now t.side t.slot.0)) self.old }
+    {
+        self.west.begin(cross.intake(Side::West).frame());
+        self.east.begin(cross.intake(Side::East).frame());
+        deliver_all(cross, &mut self.items, &mut self.west, &mut self.east);
+    }
+}

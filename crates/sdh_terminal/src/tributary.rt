@@ -1,0 +1,282 @@
+//! The ports of circuits at a node.
+ghost use Rattle.std.specs.Prelude.{◌≡◌, ℕ, ◌+◌, ◌-◌, ◌*◌, ◌^◌, ◌<◌, ◌≤◌, [], ◌∷◌, ◌++◌, if◌then◌else◌, All, IfOk, OnOk, IfSome, length, position};
+ghost use Rattle.sdh_circuits.specs.Provisioned.{customer_at};
+ghost use Rattle.sdh_interchange.specs.Taking.{IsOf};
+ghost use Rattle.sdh_payload.specs.Stream.{stream_from};
+ghost use Rattle.sdh_payload.specs.Clock.{waiting};
+ghost use Rattle.sdh_terminal.specs.Tributaries.{new_tributary, ends_at, tributaries_at, is_port, sent_by, action_of, slipped, fed, all_fed, delivered_with, all_delivered_with, IsTributary};
+ghost use Rattle.sdh_frame.specs.Sizes.{n_of};
+ghost use Rattle.sdh_terminal.specs.Lines.{dropped_by};
+
+use crate::matrix::Matrix;
+use crate::outlet::{Outlet, deliver};
+use sdh_circuits::{Circuit, CircuitMap, End, PortId, Slot, same_end};
+use sdh_interchange::Taken;
+use sdh_payload::{Cells, ChunkForm, Feed, Port, Turn, lay_chunk_in_place};
+use sdh_pointer::Action;
+use sdh_ringmap::{Pos, Side};
+use std::alloc::{AllocError, Global};
+use std::marker::Model;
+
+/// A port of a circuit at the node: what it sends, and what it delivers.
+#[derive(Debug, Drop)]
+pub struct Tributary {
+    port: PortId,
+    side: Side,
+    slot: Slot,
+    feed: Feed,
+    // The payload of its AU-4 in the last round, and the three H3 bytes.
+    payload: Cells,
+    h3: [u8; 3],
+    outlet: Outlet,
+}
+
+impl Model for Tributary {
+    ghost use Rattle.sdh_terminal.specs.Tributaries.{Tributary, IsFed};
+
+    ghost Value = { Tributary };
+
+    ghost view = { λ t. record { port = t.port; side = t.side; slot = t.slot; feed = t.feed; outlet = t.outlet } };
+
+    ghost invariant = { λ t. IsFed t.feed t.payload t.h3 };
+}
+
+// The first bytes of a port's stream.
+fn first_payload(alloc: Global, port: &Port) -> Result<Cells, AllocError>
+    ensures bytes { IfOk result (λ cells. cells ≡ stream_from port.now 0 2349) }
+    ensures full { IfOk result (λ cells. length cells ≡ 2349) }
+{
+    let mut cells = Cells::try_new(alloc)?;
+    let mut feed = Feed::new(port);
+    feed.next(&mut cells);
+    Ok(cells)
+}
+
+impl Tributary {
+    /// A port that hasn't sent or delivered anything. All its memory is taken here.
+    #[tactic(auto, unfolding(crate::specs::Tributaries::sent_by))]
+    pub fn try_new(
+        alloc: Global,
+        port: PortId,
+        side: Side,
+        slot: Slot,
+        customer: &Port,
+    ) -> Result<Tributary, AllocError>
+        ensures { IfOk result (λ t. t ≡ new_tributary port.circuit port.end side slot customer.now) }
+    {
+        Ok(Tributary {
+            port,
+            side,
+            slot,
+            feed: Feed::new(customer),
+            payload: first_payload(alloc, customer)?,
+            h3: [0, 0, 0],
+            outlet: Outlet::try_new(alloc)?,
+        })
+    }
+
+    // Whether it is this port.
+    fn is(&self, id: PortId) -> bool
+        ensures { result ≡ is_port id self.now }
+    {
+        self.port.circuit == id.circuit && same_end(self.port.end, id.end)
+    }
+
+    /// Takes the next bytes of its stream.
+    pub fn feed(&mut self)
+        requires { self.old.feed.clock.rounds < 2 ^ 32 }
+        ensures { self.new ≡ fed self.old }
+    {
+        let form = self.feed.next_form(&mut self.payload);
+        self.h3 = lay_chunk_in_place(form, &mut self.payload);
+    }
+
+    /// So many more slips of its customer's clock wait.
+    pub fn slip(&mut self, turn: Turn, count: u8)
+        requires { waiting self.old.feed.clock + count ≤ 16 }
+        ensures { self.new ≡ slipped turn count self.old }
+    {
+        self.feed.wait(turn, count);
+    }
+
+    /// How many slips wait.
+    pub fn waiting(&self) -> u8
+        ensures waiting { result ≡ waiting self.now.feed.clock }
+        ensures few { result ≤ 16 }
+    {
+        self.feed.waiting()
+    }
+
+    /// What its pointer generator is asked for in the round.
+    #[tactic(auto, unfolding(crate::specs::Tributaries::sent_by))]
+    pub fn action(&self) -> Action
+        ensures { result ≡ (sent_by self.now.feed).action }
+    {
+        action_of(self.feed.form())
+    }
+
+    /// The pointer value after it.
+    #[tactic(auto, unfolding(crate::specs::Tributaries::sent_by))]
+    pub fn value(&self) -> u16
+        ensures value { result ≡ (sent_by self.now.feed).value }
+        ensures small { result ≤ 782 }
+    {
+        self.feed.value()
+    }
+
+    /// The payload of its AU-4.
+    pub fn payload(&self) -> &[u8]
+        ensures bytes { result.now ≡ (sent_by self.now.feed).payload }
+        ensures full { length result.now ≡ 2349 }
+    {
+        self.payload.as_slice()
+    }
+
+    /// The three H3 bytes of its AU-4.
+    pub fn h3(&self) -> [u8; 3]
+        ensures { result ≡ (sent_by self.now.feed).h3 }
+    {
+        self.h3
+    }
+
+    /// What it delivers.
+    pub fn outlet(&self) -> &Outlet
+        ensures { result.now ≡ self.now.outlet }
+    {
+        &self.outlet
+    }
+
+    /// Delivers what is dropped to it. Payloads may have been taken out of both frames.
+    pub fn deliver<X: Matrix>(&mut self, cross: &X, west: &mut Taken, east: &mut Taken)
+        requires first { 1 ≤ self.old.slot.0 }
+        requires last { 2 * self.old.slot.0 ≤ n_of (X.lines cross.now).rate }
+        requires west { IsOf (X.lines cross.now).west.intake.frame west.old }
+        requires east { IsOf (X.lines cross.now).east.intake.frame east.old }
+        ensures west { IsOf (X.lines cross.now).west.intake.frame west.new }
+        ensures east { IsOf (X.lines cross.now).east.intake.frame east.new }
+        ensures port { self.new ≡ delivered_with (λ t. dropped_by (X.lines cross.now) (X.drops cross.now t.side t.slot.0)) self.old }
+    {
+        let feeder = cross.dropped(self.side, self.slot);
+        deliver(cross, feeder, west, east, &mut self.outlet);
+    }
+}
+
+// A port that sends fewer or more bytes justifies its pointer.
+fn action_of(form: ChunkForm) -> Action
+    ensures { result ≡ action_of form }
+{
+    match form {
+        ChunkForm::Plain => Action::Normal,
+        ChunkForm::Short => Action::Up,
+        ChunkForm::Long => Action::Down,
+    }
+}
+
+/// The place of a port among those of a node.
+pub fn place_of(ports: &[Tributary], id: PortId) -> Option<usize>
+    ensures place { result ≡ position (is_port id) ports.now }
+    ensures within { IfSome result (λ i. i < length ports.now) }
+{
+    ports.iter().position(|port| port.is(id))
+}
+
+/// Each port takes the next bytes of its stream.
+pub fn feed_all(ports: &mut Vec<Tributary>)
+    requires { All (λ t. t.feed.clock.rounds < 2 ^ 32) ports.old.items }
+    ensures { ports.new.items ≡ all_fed ports.old.items }
+{
+    for i in 0..ports.len() {
+        let port = &mut ports[i];
+        port.feed();
+    }
+}
+
+/// Each port delivers what is dropped to it.
+pub fn deliver_all<X: Matrix>(
+    cross: &X,
+    ports: &mut Vec<Tributary>,
+    west: &mut Taken,
+    east: &mut Taken,
+)
+    requires ports { All (λ t. (1 ≤ t.slot.0) × (2 * t.slot.0 ≤ n_of (X.lines cross.now).rate)) ports.old.items }
+    requires west { IsOf (X.lines cross.now).west.intake.frame west.old }
+    requires east { IsOf (X.lines cross.now).east.intake.frame east.old }
+    ensures { ports.new.items ≡ all_delivered_with (λ t. dropped_by (X.lines cross.now) (X.drops cross.now t.side t.slot.0)) ports.old.items }
+{
+    for i in 0..ports.len() {
+        let port = &mut ports[i];
+        port.deliver(cross, west, east);
+    }
+}
+
+// Adds a port, if it is at the node.
+fn add_end(
+    alloc: Global,
+    ports: &mut Vec<Tributary>,
+    is_here: bool,
+    port: PortId,
+    side: Side,
+    circuit: &Circuit,
+) -> Result<(), AllocError>
+    ensures { OnOk result (ports.new.items ≡ ports.old.items ++ (if is_here then new_tributary port.circuit port.end side circuit.now.slot (customer_at circuit.now port.end) ∷ [] else [])) }
+{
+    if is_here {
+        let customer = circuit.port(port.end);
+        ports.push(Tributary::try_new(alloc, port, side, circuit.slot(), customer)?)?;
+    }
+    Ok(())
+}
+
+// Adds the ports of a circuit that are at a position.
+#[tactic(auto, using(std::proofs::Common::append_assoc))]
+fn add_ends(
+    alloc: Global,
+    ports: &mut Vec<Tributary>,
+    at: Pos,
+    number: u8,
+    circuit: &Circuit,
+) -> Result<(), AllocError>
+    ensures { OnOk result (ports.new.items ≡ ports.old.items ++ ends_at at number circuit.now) }
+{
+    let start = PortId {
+        circuit: number,
+        end: End::A,
+    };
+    let stop = PortId {
+        circuit: number,
+        end: End::B,
+    };
+    add_end(
+        alloc,
+        ports,
+        circuit.from().0 == at.0,
+        start,
+        Side::East,
+        circuit,
+    )?;
+    add_end(
+        alloc,
+        ports,
+        circuit.to().0 == at.0,
+        stop,
+        Side::West,
+        circuit,
+    )
+}
+
+/// The ports of a ring's circuits that are at a position. All their memory is taken here.
+pub fn tributaries_at(
+    alloc: Global,
+    circuits: &CircuitMap,
+    at: Pos,
+) -> Result<Vec<Tributary>, AllocError>
+    ensures ports { IfOk result (λ v. v.items ≡ tributaries_at at circuits.now.circuits) }
+    ensures slots { IfOk result (λ v. All (IsTributary circuits.now.slots 0) v.items) }
+{
+    let mut ports = Vec::new(alloc);
+    for i in 0..circuits.len() {
+        let circuit = circuits.get(i as u8);
+        add_ends(alloc, &mut ports, at, i as u8, circuit)?;
+    }
+    Ok(ports)
+}
