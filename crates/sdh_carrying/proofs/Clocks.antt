@@ -24,6 +24,7 @@ use Rattle.sdh_hearing.proofs.Rounds.{whole_round}
 use Rattle.sdh_hearing.proofs.Signalling.{same_there}
 use Rattle.sdh_carrying.specs.Windows.{value_at, sent_at}
 use Rattle.sdh_carrying.proofs.Spans.{generator_step, generators_on}
+use Rattle.sdh_rounds.specs.Rounds as any_round
 
 -- ---- a clock
 
@@ -88,7 +89,7 @@ module _ (v : World) (whole : IsWhole v) (q : ℕ) (d : Side) (au m : ℕ) (id :
   inside = omega (arith, length-after v)
 
   same_rate : n_of u.ring.settings.rate ≡ n_of v.ring.settings.rate
-  unfolding round round_with
+  unfolding any_round.round any_round.round_with
   same_rate = refl
 
   abbrev state_of : World → Option ℕ

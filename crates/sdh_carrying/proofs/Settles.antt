@@ -17,7 +17,7 @@ use Rattle.sdh_world.specs.Rounds.{World, round}
 use Rattle.sdh_world.specs.Runs.{run, course}
 use Rattle.sdh_world.specs.Quiet.{IsCalm, EndsWindow}
 use Rattle.sdh_world.specs.Changes.{Change, Fibre, Order, Hold, Slip, Now, changed, all_changed, Stretch, after_stretch, after_stretches, rounds_in, new_world}
-use Rattle.sdh_world.proofs.Runs.{known_settles}
+use Rattle.sdh_rounds.proofs.Runs.{known_settles}
 use Rattle.sdh_hearing.specs.Signalling.{signals_of}
 use Rattle.sdh_payload.specs.Clock.{Clock, ticks}
 use Rattle.sdh_payload.specs.Stream.{stream_from}
@@ -30,7 +30,7 @@ use Rattle.sdh_restoration.specs.Routes.{hops}
 use Rattle.sdh_restoration.specs.Due.{due, other_end}
 use Rattle.sdh_frame.specs.Sizes.{n_of}
 use Rattle.sdh_plant.specs.Fibres.{Fibres}
-use Rattle.sdh_node.specs.declared.settings.Settings.{Settings}
+use Rattle.sdh_request.specs.declared.settings.Settings.{Settings}
 use Rattle.sdh_routes.specs.Walks.{port_at}
 use Rattle.sdh_routes.proofs.Ways.{short, few_hops, end_inside}
 use Rattle.sdh_world.specs.Sides.{world_in}
@@ -50,6 +50,8 @@ use Rattle.sdh_carrying.proofs.Owed.{quiet_delivers, port_is_there}
 use Rattle.sdh_carrying.proofs.Ports.{port_id}
 use Rattle.sdh_carrying.proofs.Ways.{layout_run}
 use Rattle.sdh_world.specs.Held.{nowhere}
+use Rattle.sdh_node.specs.Stations.{adm}
+use Rattle.sdh_rounds.specs.Runs as any_run
 
 -- ---- one position
 
@@ -87,7 +89,7 @@ module _ (law : StillRingsAreSettled) (w : World) (whole : IsWhole w) (k : ℕ) 
   settled_at j low high = each_settled (run j w) n rs (nodes_after_all j) (length-requests_of (run k w) n (nodes_after_all k)) (windows_are_settled law w k j whole ends low high)
 
   failing_after : (j : ℕ) → FailOnApplied n (requests_of (run (suc j) w)) (run (suc j) w)
-  unfolding run
+  unfolding any_run.run
   failing_after j = subst (λ (l : Layout). FailOnApplied (size_of l) (requests_of (round (run j w))) (round (run j w))) (layout_run w j) (failures_applied (run j w) (whole_run w j whole))
 
   failing_at : (j : ℕ) → 1 ≤ j → k < j + 3 * n → j ≤ k → FailOnApplied n rs (run j w)
@@ -113,7 +115,7 @@ module _ (law : StillRingsAreSettled) (w : World) (whole : IsWhole w) (k : ℕ) 
 
 pub steps_restore : StillRingsAreSettled → SettledRingsAreRestored
 steps_restore law w left limit form settles whole =
-    let known = known_settles w limit left (inl whole.paired.honest.honest) settles in
+    let known = known_settles adm w limit left (inl whole.paired.honest.honest) settles in
     subst (λ v. IsRestored (clocks_from w) v (requests_of v)) (sym known.2) (window_restores law w whole known.0 known.1.window form)
 
 -- ---- stretches

@@ -11,7 +11,7 @@ use Rattle.sdh_restoration.specs.Applied.{span_requests, is_applied}
 use Rattle.sdh_restoration.specs.Settled.{settled_states}
 use Rattle.sdh_payload.specs.Outlet.{Outlet}
 use Rattle.sdh_restoration.specs.Due.{due, other_end}
-use Rattle.sdh_node.specs.declared.settings.Settings.{Settings}
+use Rattle.sdh_request.specs.declared.settings.Settings.{Settings}
 use Rattle.sdh_node.specs.Crossing.{is_failed, received}
 use Rattle.sdh_node.specs.Node.{receiving_on}
 use Rattle.sdh_world.specs.Held.{HeldRing, outlet_at, node_at}

@@ -9,7 +9,7 @@ use Rattle.sdh_bridge.specs.declared.Origin.{Origin}
 use Rattle.sdh_restoration.specs.Applied.{is_applied}
 use Rattle.sdh_restoration.specs.Settled.{settled}
 use Rattle.sdh_settling.specs.Signals.{requests_in}
-use Rattle.sdh_node.specs.declared.settings.Settings.{Settings}
+use Rattle.sdh_request.specs.declared.settings.Settings.{Settings}
 use Rattle.sdh_terminal.specs.Passing.{Input}
 use Rattle.sdh_terminal.specs.Tributaries.{added_by}
 use Rattle.sdh_node.specs.Crossing.{is_failed, input_of, input_at}

@@ -18,7 +18,7 @@ use Rattle.sdh_node.specs.Node.{Node, receiving_on, sending_on, is_held, word_of
 use Rattle.sdh_world.specs.Rounds.{World, round}
 use Rattle.sdh_world.specs.Runs.{run, course}
 use Rattle.sdh_world.specs.Quiet.{IsCalm}
-use Rattle.sdh_world.proofs.Runs.{known_unsettles}
+use Rattle.sdh_rounds.proofs.Runs.{known_unsettles}
 use Rattle.sdh_hearing.specs.Signalling.{word_to, is_lost, signals_of, needs_in}
 use Rattle.sdh_hearing.specs.Laws.{IsWhole, GetsStill}
 use Rattle.sdh_hearing.proofs.Changes.{whole_run}
@@ -41,6 +41,8 @@ use Rattle.sdh_plant.specs.Fibres.{is_cut}
 use Rattle.sdh_world.specs.Held.{nowhere, node_at, AtEach}
 use Rattle.sdh_kbytes.specs.KBytes.{is_ms_ais}
 use Rattle.sdh_world.specs.Sides.{condition_to}
+use Rattle.sdh_node.specs.Stations.{adm}
+use Rattle.sdh_rounds.specs.Runs as any_run
 
 -- what lists that are the same when mapped have at a place
 same_at : {Y : Type 0} (f : Node → Y) (xs ys : List Node) (p : ℕ) → p < length xs → p < length ys → map f xs ≡ map f ys → f (node_at xs p) ≡ f (node_at ys p)
@@ -149,12 +151,12 @@ module _ (w : World) (whole : IsWhole w) (form : HasCircuits (layout_of w)) (sti
   kept k p d = (receiving_on d (node_at (run k w).ring.nodes p)).brought
 
   came_in : (k p : ℕ) (d : Side) → 1 ≤ k → p < length w.ring.nodes → (kept (suc k) p d).last ≡ come_behind (condition_to w p d) (word_to (run k w) p d)
-  unfolding run
+  unfolding any_run.run
   came_in k p d some h =
       came_after (run k w) (whole_run w k whole) p d (inside_run k p h) (let r = (left_run k w).rounds in omega arith) ∙ ap (λ c. come_behind c (word_to (run k w) p d)) (condition_run w k p d)
 
   earlier_in : (k p : ℕ) (d : Side) → p < length w.ring.nodes → kept (suc k) p d ≡ with_brought (kept (suc k) p d).last (kept k p d)
-  unfolding run
+  unfolding any_run.run
   earlier_in k p d h = (brings (run k w) (whole_run w k whole) p d (inside_run k p h)).earlier
 
   -- the same word comes in each round
@@ -210,7 +212,7 @@ module _ (w : World) (whole : IsWhole w) (form : HasCircuits (layout_of w)) (sti
       }
 
   calm_after : (k : ℕ) → 31 * n + 127 ≤ k → IsCalm (course w) (suc k)
-  unfolding run
+  unfolding any_run.run
   calm_after k late = calm_round (run k w) (whole_run w k whole) (let r = (left_run k w).rounds in omega arith) (still.free k (omega arith)) (λ p h. same_from k late p (omega (arith, length_run w k)))
 
   calm_from : (j : ℕ) → 31 * n + 128 ≤ j → IsCalm (course w) j
@@ -238,4 +240,4 @@ rings_converge law w whole form =
 
 pub steps_answer : RingsSettle → StepsAnswer
 steps_answer law w left limit form whole large unsettles =
-    (rings_converge law w whole form).never limit large (known_unsettles w limit left (inl whole.paired.honest.honest) unsettles).0
+    (rings_converge law w whole form).never limit large (known_unsettles adm w limit left (inl whole.paired.honest.honest) unsettles).0

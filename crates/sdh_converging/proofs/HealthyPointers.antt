@@ -24,7 +24,7 @@ use Rattle.sdh_pointer.specs.Sending.{word_sent, next_sending}
 use Rattle.sdh_pointer.specs.Spreading.{IsSmall, IsValueOver, action_over, word_over, sending_over, reading_over}
 use Rattle.sdh_pointer.proofs.Spreading.{values_spread, source_sends, action_start, sending_start, reading_start, reading_value, sending_stays, reading_stays}
 use Rattle.sdh_plant.specs.Fibres.{Fibres, is_cut}
-use Rattle.sdh_node.specs.declared.settings.Settings.{Settings}
+use Rattle.sdh_request.specs.declared.settings.Settings.{Settings}
 use Rattle.sdh_terminal.specs.Passing.{Input}
 use Rattle.sdh_node.specs.Node.{Node, receiving_on, sending_on, new_node, is_held}
 use Rattle.sdh_world.specs.Rounds.{World}
@@ -42,6 +42,7 @@ use Rattle.sdh_converging.proofs.HealthySignals.{begin_whole, size, new_is, new_
 use Rattle.sdh_world.specs.Held.{node_at}
 use Rattle.sdh_world.specs.Sides.{condition_to}
 use Rattle.sdh_world.specs.Changes.{new_world}
+use Rattle.sdh_rounds.specs.Runs as any_run
 
 -- ---- what comes over h spans from a source
 
@@ -114,11 +115,11 @@ module _ (s : Settings) (ids : List ℕ) (circuits : Provisioning) (f : Fibres) 
 
   -- in round 0 no interpreter reads, and all comes as AIS
   reading_one : (p : ℕ) (d : Side) (i : ℕ) → p < n → reading_in w p d i 1 ≡ interpreter.start
-  unfolding run
+  unfolding any_run.run
   reading_one p d i h = ap (λ l. get_or l i interpreter.start) ((reads w whole p d (inside p h)).idle refl) ∙ reading_zero p d i h
 
   came_zero : (p : ℕ) (d : Side) (i : ℕ) → p < n → (came w p d (i + 1) 0).action ≡ action.Ais
-  unfolding run
+  unfolding any_run.run
   came_zero p d i h = ap (λ l. get_or l (i + 1 - 1) action.Ais) ((reads w whole p d (inside p h)).none refl) ∙ same_all (n_of s.rate) (i + 1 - 1) action.Ais
 
   -- ---- one span

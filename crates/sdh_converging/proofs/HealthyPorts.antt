@@ -7,7 +7,7 @@ use Rattle.sdh_circuits.specs.Provisioning.{Provisioning}
 use Rattle.sdh_payload.specs.Clock.{ticks}
 use Rattle.sdh_plant.specs.Fibres.{Fibres}
 use Rattle.sdh_routes.proofs.Ways.{end_inside}
-use Rattle.sdh_node.specs.declared.settings.Settings.{Settings}
+use Rattle.sdh_request.specs.declared.settings.Settings.{Settings}
 use Rattle.sdh_world.specs.Clocks.{first_clock, HasPortIn, clocks_from, clocks_by}
 use Rattle.sdh_world.proofs.Clocks.{clocks_go_on}
 use Rattle.sdh_carrying.proofs.Ports.{port_id}

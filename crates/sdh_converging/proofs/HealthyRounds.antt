@@ -7,12 +7,12 @@ use Rattle.sdh_kbytes.specs.declared.Code.TheVariants.{Nr}
 use Rattle.sdh_restoration.specs.Applied.{span_requests, highest, applies, is_applied}
 use Rattle.sdh_circuits.specs.Provisioning.{Provisioning}
 use Rattle.sdh_plant.specs.Fibres.{Fibres}
-use Rattle.sdh_node.specs.declared.settings.Settings.{Settings}
+use Rattle.sdh_request.specs.declared.settings.Settings.{Settings}
 use Rattle.sdh_world.specs.Rounds.{World}
 use Rattle.sdh_world.specs.Runs.{run, course}
 use Rattle.sdh_world.specs.Quiet.{is_calm, IsCalm, EndsWindow, SettlesAt, settles_in}
 use Rattle.sdh_world.specs.Changes.{after_stretches, new_world}
-use Rattle.sdh_world.proofs.FirstWindows.{settles_only, never_only}
+use Rattle.sdh_rounds.proofs.FirstWindows.{settles_only, never_only}
 use Rattle.sdh_hearing.specs.Laws.{MayStart}
 use Rattle.sdh_hearing.proofs.Changes.{whole_run}
 use Rattle.sdh_hearing.proofs.Requests.{requests_by}
@@ -24,6 +24,8 @@ use Rattle.sdh_converging.proofs.Calming.{AreSame, calm_round}
 use Rattle.sdh_converging.proofs.HealthySignals.{begin_whole, size, healthy, request_none, heard_first, free_in}
 use Rattle.sdh_converging.proofs.HealthyPointers.{still_pointers}
 use Rattle.sdh_world.specs.Held.{node_at}
+use Rattle.sdh_node.specs.Stations.{adm}
+use Rattle.sdh_rounds.specs.Runs as any_run
 
 -- ---- windows of a course that is calm
 
@@ -50,7 +52,7 @@ module _ (v : World) (n b k : ℕ) (two : 2 ≤ n) (sizes : (j : ℕ) → length
 
 -- the rounds of later steps
 run_steps : (later : ℕ) (v : World) → after_stretches (replicate later (record { changes = []; rounds = 128 })) v ≡ run (128 * later) v
-unfolding run
+unfolding any_run.run
 run_steps zero v = refl
 run_steps (suc later) v = run_steps later (run 128 v) ∙ run_more v 128 (128 * later) ∙ ap (λ k. run k v) {x = 128 * later + 128} {y = 128 * suc later} (omega arith)
 
@@ -87,7 +89,7 @@ module _ (s : Settings) (ids : List ℕ) (circuits : Provisioning) (f : Fibres) 
         }
 
     calm_after : (j : ℕ) → n + 4 ≤ suc j → IsCalm (course w) (suc (suc j))
-    unfolding run
+    unfolding any_run.run
     calm_after j late =
         calm_round (run (suc j) w) (whole_run w (suc j) (begin_whole s ids circuits f may)) (let r = rounds_run (suc j) in omega arith) (λ p h. free_in s ids circuits f may (suc j) p h) (λ p h. same_from j late p (inside (suc j) p h))
 
@@ -132,10 +134,10 @@ pub healthy_steps_settle : HealthyStepsSettle
 healthy_steps_settle s ids circuits f may form =
     let w = new_world s ids circuits f in
     record {
-      short = λ limit h. never_only w limit (λ j low e. not_earlier s ids circuits f may form j (omega arith) e);
-      first = λ limit h. settles_only w limit 129 (first_step s ids circuits f may form limit h);
+      short = λ limit h. never_only adm w limit (λ j low e. not_earlier s ids circuits f may form j (omega arith) e);
+      first = λ limit h. settles_only adm w limit 129 (first_step s ids circuits f may form limit h);
       later = λ limit steps h some. (let left = left_steps s ids circuits f may steps some in
-          ap (λ v. settles_in v limit) left ∙ settles_only (run (128 * steps + 1) w) limit 128 (later_step s ids circuits f may form steps some limit h));
+          ap (λ v. settles_in v limit) left ∙ settles_only adm (run (128 * steps + 1) w) limit 128 (later_step s ids circuits f may form steps some limit h));
       left = left_steps s ids circuits f may;
       number = λ steps some. ap (λ (v : World). v.ring.rounds) (left_steps s ids circuits f may steps some) ∙ rounds_run s ids circuits f may (128 * steps + 1);
     }

@@ -19,7 +19,7 @@ use Rattle.sdh_nodestate.specs.Rules.{word_on, word, state_after, own_id, id_on}
 use Rattle.sdh_settling.specs.Signals.{no_needs}
 use Rattle.sdh_plant.specs.declared.plant.Condition.TheVariants.{Clear}
 use Rattle.sdh_plant.specs.Fibres.{Fibres, fibre_to, is_cut, degraded_by}
-use Rattle.sdh_node.specs.declared.settings.Settings.{Settings}
+use Rattle.sdh_request.specs.declared.settings.Settings.{Settings}
 use Rattle.sdh_nodestate.specs.Words.{first_word}
 use Rattle.sdh_nodestate.specs.Filtering.{Brought, with_brought, hears, heard_of}
 use Rattle.sdh_nodestate.proofs.Filtering.{heard_last}
@@ -47,6 +47,7 @@ use Rattle.sdh_converging.proofs.Idle.{IsQuiet, idle, asks_nothing}
 use Rattle.sdh_converging.proofs.Uneventful as side
 use Rattle.sdh_converging.proofs.Uneventful.{IsUneventful}
 use Rattle.sdh_kbytes.specs.KBytes.{is_ms_ais}
+use Rattle.sdh_rounds.specs.Runs as any_run
 
 all_clear : (m i : ℕ) → get_or (replicate m Clear) i Clear ≡ Clear
 all_clear m i = elim (cases_lt i m) [
@@ -88,12 +89,12 @@ module _ (s : Settings) (ids : List ℕ) (circuits : Provisioning) (f : Fibres) 
   size = length-cells _ (length ids)
 
   pub new_is : (p : ℕ) → p < length ids → node_at (run 0 begin).ring.nodes p ≡ new_node s ids circuits.circuits (position_of p)
-  unfolding new_nodes run
+  unfolding new_nodes any_run.run
   new_is p h = get_or-cells (λ p. new_node s ids circuits.circuits (position_of p)) (length ids) p nowhere h
 
   -- no slip waits
   pub new_unslipped : IsUnslipped begin
-  unfolding new_node run
+  unfolding new_node any_run.run
   new_unslipped p h = subst (λ (n : Node). NoneWait n.ports) (sym (new_is p (omega (arith, size)))) (new_none (position_of p) circuits.circuits)
 
   pub clear_begin : (p : ℕ) (d : Side) → condition_to begin p d ≡ Clear
@@ -165,7 +166,7 @@ module _ (s : Settings) (ids : List ℕ) (circuits : Provisioning) (f : Fibres) 
     new = node_at (run (suc k) begin).ring.nodes p
 
     new_next : new ≡ node_after u.ring.moment (informed u p)
-    unfolding run
+    unfolding any_run.run
     new_next = nodes_after u uwhole.placed p there
 
     beside : (d : Side) → neighbour count p d < count
@@ -180,7 +181,7 @@ module _ (s : Settings) (ids : List ℕ) (circuits : Provisioning) (f : Fibres) 
     not_lost d = ap₂ (λ c (w : K). is_cut c || is_ms_ais w.mark) (clear_run k p d) (word_comes d)
 
     works : (d : Side) → is_failed (receiving_on d new).local.defect ≡ false
-    unfolding run
+    unfolding any_run.run
     works d =
         let b = brings u uwhole p d there in
         elim (cases_lt 0 u.ring.rounds) [
@@ -197,7 +198,7 @@ module _ (s : Settings) (ids : List ℕ) (circuits : Provisioning) (f : Fibres) 
         λ i. record { west = west i; east = east i; west_fails = west_fails i; east_fails = east_fails i }
 
     quiet_last : (d : Side) → IsQuiet (receiving_on d new).brought.last
-    unfolding run
+    unfolding any_run.run
     quiet_last d =
         let b = brings u uwhole p d there in
         elim (cases_lt 0 u.ring.rounds) [
@@ -213,13 +214,13 @@ module _ (s : Settings) (ids : List ℕ) (circuits : Provisioning) (f : Fibres) 
         by_heard (Some k) e = subst IsQuiet (heard_last (receiving_on d new).brought k e) (quiet_last d)
 
     pub last_next : (d : Side) → 1 ≤ k → (kept (suc k) p d).last ≡ Some (first_word ids (neighbour count p d) (opposite d))
-    unfolding run
+    unfolding any_run.run
     last_next d some =
         let b = brings u uwhole p d there in
         b.comes (let r = (left_run k begin).rounds in omega arith) (not_lost d) ∙ ap (λ w. Some w) (word_comes d)
 
     pub earlier_next : (d : Side) → kept (suc k) p d ≡ with_brought (kept (suc k) p d).last (kept k p d)
-    unfolding run
+    unfolding any_run.run
     earlier_next d = (brings u uwhole p d there).earlier
 
     free : is_held (node_at u.ring.nodes p) ≡ false

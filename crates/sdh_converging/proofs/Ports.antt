@@ -37,6 +37,7 @@ use Rattle.sdh_carrying.specs.Windows.{value_at}
 use Rattle.sdh_carrying.proofs.Connections.{node_of}
 use Rattle.sdh_converging.specs.Steady.{IsUnslipped}
 use Rattle.sdh_converging.proofs.Runs.{length_run}
+use Rattle.sdh_rounds.specs.Runs as any_run
 
 -- ---- what a source sends: AIS (None), or a value for ever
 
@@ -79,7 +80,7 @@ clock_next w whole q id h =
 
 -- after j rounds
 clock_later : (w : World) → IsWhole w → (q : ℕ) (id : PortId) → q < length w.ring.nodes → (j : ℕ) → clock_there (run j w) q id ≡ option_map (ticks j) (clock_there w q id)
-unfolding run ticks
+unfolding any_run.run ticks
 clock_later w whole q id h zero = same (clock_there w q id)
   where
     same : (o : Option Clock) → o ≡ option_map (λ c. c) o
@@ -114,7 +115,7 @@ none_there w q id none = by_found (port_of id (node_at w.ring.nodes q).ports) re
     by_found (Some t) e = (found_has (λ (t : Tributary). waiting t.feed.clock ≡ 0) id (node_at w.ring.nodes q).ports t none e).0
 
 none_later : (w : World) → IsWhole w → IsUnslipped w → (j : ℕ) → IsUnslipped (run j w)
-unfolding run
+unfolding any_run.run
 none_later w whole unslipped zero = unslipped
 none_later w whole unslipped (suc j) = feeds_round (λ f. waiting f.clock ≡ 0) (λ f. waiting f.clock ≡ 0) (λ f none. (plain_tick f.clock none).0) (run j w) (whole_run w j whole).placed (none_later w whole unslipped j)
 

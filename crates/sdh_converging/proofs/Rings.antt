@@ -13,7 +13,7 @@ use Rattle.sdh_circuits.specs.declared.End.TheVariants.{A}
 use Rattle.sdh_payload.specs.declared.clock.Turn.TheVariants.{Up}
 use Rattle.sdh_payload.specs.Clock.{Clock, waiting}
 use Rattle.sdh_plant.specs.Fibres.{Fibres, IsHonest, IsConditionAt}
-use Rattle.sdh_node.specs.declared.settings.Settings.{Settings}
+use Rattle.sdh_request.specs.declared.settings.Settings.{Settings}
 use Rattle.sdh_world.specs.Clocks.{first_clock, waiting_at}
 use Rattle.sdh_world.specs.Changes.{Fibre, Slip, Stretch, after_stretch, new_world}
 use Rattle.sdh_world.specs.Laws.{MayHappen}

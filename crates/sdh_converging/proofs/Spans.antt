@@ -26,6 +26,7 @@ use Rattle.sdh_converging.proofs.Runs.{length_run, rate_run, condition_run}
 use Rattle.sdh_plant.specs.Fibres.{is_cut}
 use Rattle.sdh_world.specs.Held.{node_at}
 use Rattle.sdh_world.specs.Sides.{condition_to}
+use Rattle.sdh_rounds.specs.Runs as any_run
 
 -- of AU-4 number i + 1: the state of its generator and what its interpreter keeps after k rounds, and the word that is sent in round k
 abbrev pub sending_in : World → ℕ → Side → ℕ → ℕ → Option ℕ
@@ -45,14 +46,14 @@ module _ (w : World) (whole : IsWhole w) where
   -- a generator goes on by what goes into its AU-4
   pub generator_goes : (p : ℕ) (d : Side) (i j : ℕ) → p < length w.ring.nodes → i < n_of w.ring.settings.rate
       → sending_in w p d i (suc j) ≡ next_sending (sending_in w p d i j) (went w p d (i + 1) j).action (went w p d (i + 1) j).value
-  unfolding run
+  unfolding any_run.run
   generator_goes p d i j inside few =
       generator_step (run j w) (whole_run w j whole) p d i (omega (arith, length_run w j)) (omega (arith, rate_run w j))
 
   -- an interpreter goes on by the word that was sent behind the span one round before
   pub interpreter_goes : (p : ℕ) (d : Side) (i j : ℕ) → p < length w.ring.nodes → i < n_of w.ring.settings.rate → is_held (node_at (run j w).ring.nodes (neighbour (length w.ring.ids) p d)) ≡ false
       → Takes w p d i (suc j) (word_behind (is_cut (condition_to w p d)) (word_in w (neighbour (length w.ring.ids) p d) (opposite d) i j))
-  unfolding run
+  unfolding any_run.run
   interpreter_goes p d i j inside few free =
       let u = run j w in
       let took = interpreter_step u (whole_run w j whole) p d i (omega (arith, length_run w j)) (omega (arith, rate_run w j)) (ap (λ ids. is_held (node_at u.ring.nodes (neighbour (length ids) p d))) (left_run j w).ids ∙ free) in

@@ -35,6 +35,7 @@ use Rattle.sdh_converging.proofs.Runs.{length_run, rate_run}
 use Rattle.sdh_converging.proofs.Spans.{a_span_is_steady, sending_rests, reading_rests}
 use Rattle.sdh_converging.proofs.Ports.{does_by, value_by, sound_by, source_at, source_small, sources_send}
 use Rattle.sdh_world.specs.Held.{node_at}
+use Rattle.sdh_rounds.specs.Runs as any_run
 
 -- ---- constants
 
@@ -67,11 +68,11 @@ module _ (w : World) (whole : IsWhole w) where
   half = slots_of (layout_of w)
 
   pub working_goes : (q m j : ℕ) (e : Side) (st : NodeState) → q < n → m ≤ half → (node_at (run (suc j) w).ring.nodes q).state ≡ st → went w q e m j ≡ brought w q m (working_in n cs q st e m) j
-  unfolding run
+  unfolding any_run.run
   working_goes q m j e st = subst (λ l. SendsWorking l (run j w)) (layout_run w j) (sends_working (run j w) (whole_run w j whole)) q m e st
 
   pub protection_goes : (q m j : ℕ) (e : Side) (st : NodeState) → q < n → 1 ≤ m → (node_at (run (suc j) w).ring.nodes q).state ≡ st → went w q e (half + m) j ≡ brought w q m (protection_in n cs q st e m) j
-  unfolding run
+  unfolding any_run.run
   protection_goes q m j e st = subst (λ l. SendsProtection l (run j w)) (layout_run w j) (sends_protection (run j w) (whole_run w j whole)) q m e st
 
   pub protection_comes : (p m j : ℕ) (d : Side) → p < n → brought w p m (Protection d) j ≡ came w p d (half + m) j

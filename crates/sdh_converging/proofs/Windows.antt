@@ -3,9 +3,10 @@ use Rattle.std.proofs.Common.{◌≡◌, ℕ, ◌+◌, ◌-◌, ◌*◌, ◌%◌
 use Rattle.sdh_world.specs.Rounds.{World}
 use Rattle.sdh_world.specs.Runs.{run}
 use Rattle.sdh_world.specs.Quiet.{settles_in}
-use Rattle.sdh_world.proofs.FirstWindows.{never_if}
+use Rattle.sdh_rounds.proofs.FirstWindows.{never_if}
 use Rattle.sdh_hearing.proofs.Staying.{left_run}
 use Rattle.sdh_converging.specs.Laws.{WindowBy, CalmEndsWindows}
+use Rattle.sdh_node.specs.Stations.{adm}
 
 -- the last multiple of 128 of 128 numbers
 at_place : (s : ℕ) → (s - s % 128) % 128 ≡ 0
@@ -32,5 +33,5 @@ pub answers_by : (w : World) (most limit : ℕ) → most ≤ limit → WindowBy 
 answers_by w most limit large by = by_answer (settles_in w limit) refl
   where
     by_answer : (o : Option ℕ) → settles_in w limit ≡ o → (k : ℕ) × (settles_in w limit ≡ Some k)
-    by_answer None e = absurd (never_if w limit e by.ends (let z = by.soon in omega arith) by.window)
+    by_answer None e = absurd (never_if adm w limit e by.ends (let z = by.soon in omega arith) by.window)
     by_answer (Some k) e = (k, e)

@@ -5,7 +5,7 @@ use Rattle.sdh_ringmap.specs.Places.{neighbour, opposite}
 use Rattle.sdh_frame.specs.Sizes.{n_of}
 use Rattle.sdh_circuits.specs.Provisioning.{Provisioning}
 use Rattle.sdh_plant.specs.Fibres.{Fibres}
-use Rattle.sdh_node.specs.declared.settings.Settings.{Settings}
+use Rattle.sdh_request.specs.declared.settings.Settings.{Settings}
 use Rattle.sdh_world.specs.Rounds.{World}
 use Rattle.sdh_world.specs.Runs.{course}
 use Rattle.sdh_world.specs.Quiet.{IsCalm, EndsWindow, NeverSettles, settles_in, Unsettles}

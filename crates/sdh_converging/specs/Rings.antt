@@ -9,7 +9,7 @@ use Rattle.sdh_circuits.specs.Provisioned.{Provisioned}
 use Rattle.sdh_circuits.specs.Provisioning.{Provisioning}
 use Rattle.sdh_plant.specs.declared.plant.Condition.TheVariants.{Cut, Degraded}
 use Rattle.sdh_plant.specs.Fibres.{Fibres, IsHonest}
-use Rattle.sdh_node.specs.declared.settings.Settings.{Settings}
+use Rattle.sdh_request.specs.declared.settings.Settings.{Settings}
 use Rattle.sdh_circuits.specs.declared.End.TheVariants.{A}
 use Rattle.sdh_payload.specs.declared.clock.Turn.TheVariants.{Up}
 use Rattle.sdh_world.specs.Changes.{Fibre, Order, Slip, Now, Stretch, new_world, after_stretches}

@@ -9,7 +9,8 @@ use Rattle.sdh_ringmap.specs.Ids.{AreIds}
 use Rattle.sdh_ringmap.specs.Places.{neighbour, position_of}
 use Rattle.sdh_ringmap.proofs.Sides.{neighbour_below}
 use Rattle.sdh_request.specs.declared.Command.{Command}
-use Rattle.sdh_nodestate.specs.Words.{IsSpellable, IsMember, first_word}
+use Rattle.sdh_nodestate.specs.Words.{IsMember, first_word}
+use Rattle.sdh_kbytes.specs.KBytes.{IsSpellable}
 use Rattle.sdh_circuits.specs.Provisioned.{Provisioned}
 use Rattle.sdh_circuits.specs.Provisioning.{Provisioning}
 use Rattle.sdh_kbytes.specs.declared.K.{K}
@@ -19,8 +20,8 @@ use Rattle.sdh_plant.specs.Calls.{prepared}
 use Rattle.sdh_plant.proofs.Calling.{stay_prepared}
 use Rattle.sdh_plant.proofs.Calling as plant
 use Rattle.sdh_world.specs.Laws.{IsChangeOf, AreChangesOf}
-use Rattle.sdh_world.proofs.Honest.{stay_honest, changes_keep_prepared}
-use Rattle.sdh_node.specs.declared.settings.Settings.{Settings}
+use Rattle.sdh_world.proofs.Honest.{changes_keep_honest, changes_keep_prepared}
+use Rattle.sdh_request.specs.declared.settings.Settings.{Settings}
 use Rattle.sdh_node.specs.Receiving.{Receiving, commanded_by}
 use Rattle.sdh_node.specs.Node.{Node, new_node, at_receiving, held_for, slips_at, receiving_on, sending_on, word_of}
 use Rattle.sdh_world.specs.Held.{new_nodes, at_place, place_of_port, new_ring, nowhere, AtEach}
@@ -37,6 +38,7 @@ use Rattle.sdh_circuits.specs.declared.PortId.{PortId}
 use Rattle.sdh_hearing.proofs.Clocks.{new_gone, new_few, gone_slipped, few_slipped}
 use Rattle.sdh_hearing.proofs.Nodes.{placed_round}
 use Rattle.sdh_hearing.proofs.Rounds.{whole_round}
+use Rattle.sdh_rounds.specs.Runs as any_run
 
 -- ---- a new ring
 
@@ -289,7 +291,7 @@ unfolding changed
 whole_changed (Fibre p d condition) w may whole = record {
   placed = whole.placed;
   paired = record {
-    honest = stay_honest.change w (Fibre p d condition) whole.paired.honest;
+    honest = changes_keep_honest w (Fibre p d condition) whole.paired.honest;
     prepared = changes_keep_prepared (length w.ring.ids) w (Fibre p d condition) may whole.paired.prepared;
     carried = λ q h. (let is = whole.paired.carried q h in record { dark = is.dark; frames = is.frames });
     sourced = whole.paired.sourced;
@@ -342,7 +344,7 @@ whole_all [] w may whole = whole
 whole_all (c ∷ cs) w may whole = whole_all cs (changed c w) may.1 (whole_changed c w may.0 whole)
 
 pub whole_run : (w : World) (k : ℕ) → IsWhole w → IsWhole (run k w)
-unfolding run
+unfolding any_run.run
 whole_run w zero whole = whole
 whole_run w (suc k) whole = whole_round (run k w) (whole_run w k whole)
 

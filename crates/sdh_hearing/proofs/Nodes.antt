@@ -11,19 +11,22 @@ use Rattle.sdh_payload.specs.Feed.{Fed, next_feed}
 use Rattle.sdh_payload.specs.Clock.{IsClock}
 use Rattle.sdh_payload.proofs.Clocking.{next_clock}
 use Rattle.sdh_plant.specs.Fibres.{Arrival, Fibres}
-use Rattle.sdh_node.specs.declared.settings.Settings.{Settings}
+use Rattle.sdh_request.specs.declared.settings.Settings.{Settings}
 use Rattle.sdh_node.specs.Receiving.{Receiving}
 use Rattle.sdh_terminal.specs.Tributaries.{Tributary, fed, all_fed}
 use Rattle.sdh_node.specs.Crossing.{Cross, delivered_to, all_delivered}
 use Rattle.sdh_node.specs.Node.{Node, new_node, receiving_on, sending_on, crossing, ports_after, after_crossing, with_calm, node_round}
 use Rattle.sdh_world.specs.Held.{nowhere, node_at, AtEach}
 use Rattle.sdh_world.specs.Fixed.{Fixed, fixed}
-use Rattle.sdh_world.specs.Rounds.{World, arrival_at, arrivals_from, arrivals_of, receivers_in, all_with_arrivals, with_arrivals, node_after, nodes_with, round_with, round}
+use Rattle.sdh_world.specs.Rounds.{World, arrivals_of, all_with_arrivals, with_arrivals, node_after, nodes_with, round_with, round}
+use Rattle.sdh_rounds.specs.Rounds.{arrival_at, arrivals_from, receivers_in}
 use Rattle.sdh_world.proofs.Keeping.{all_heard, all_next, length-fixed, node_is, feeds_next}
-use Rattle.sdh_world.proofs.Runs.{length-heard, count_round}
+use Rattle.sdh_rounds.proofs.Runs.{length-heard, count_round}
 use Rattle.sdh_hearing.specs.Placed.{IsReceiver, IsSender, HasSides, HaveGone, IsBetween, IsPlaced}
 use Rattle.sdh_hearing.proofs.OneNode.{receiving_after, rounds_after, receiver_after, sender_after, side_took}
 use Rattle.sdh_ringmap.specs.Places.{position_of}
+use Rattle.sdh_node.specs.Stations.{adm}
+use Rattle.sdh_rounds.specs.Rounds as any_round
 
 -- ---- lists
 
@@ -50,7 +53,7 @@ each_heard P keep (a ∷ b ∷ later) (n ∷ ns) each (suc p) h = each_heard P k
 -- ---- a node stays in its place in its round
 
 sides_met : (s : Settings) (a b : Arrival) (n : Node) → HasSides s n → HasSides s (with_arrivals a b n)
-unfolding with_arrivals
+unfolding any_round.with_arrivals
 sides_met s a b n is = record { receives = received; sends = sent }
   where
     received : (d : Side) → IsReceiver s (receiving_on d (with_arrivals a b n))
@@ -72,7 +75,7 @@ abbrev HasRun : ℕ → Node → Type 0
 HasRun rounds n = (n.rounds ≡ rounds) × HaveGone rounds n.ports
 
 ran_met : (rounds : ℕ) (a b : Arrival) (n : Node) → HasRun rounds n → HasRun rounds (with_arrivals a b n)
-unfolding with_arrivals
+unfolding any_round.with_arrivals
 ran_met rounds a b n ran = (ran.0, ran.1)
 
 between_next : (rounds now : ℕ) (n : Node) → HasRun rounds n → IsBetween (rounds + 1) (node_after now n)
@@ -83,7 +86,7 @@ between_next rounds now n ran = record {
 }
 
 pub placed_round : (xs : List Arrival) (w : World) → IsPlaced w → IsPlaced (round_with xs w)
-unfolding round_with
+unfolding any_round.round_with
 placed_round xs w placed =
     let s = w.ring.settings in
     let now = w.ring.moment in
@@ -119,7 +122,7 @@ informed_out w p West = refl
 informed_out w p East = refl
 
 heard_at : (f : Fibres) (q k : ℕ) (ns : List Node) (p : ℕ) → p < k → p < length ns → node_at (all_with_arrivals (arrivals_from f q k) ns) p ≡ told_both (Some (arrival_at f (q + p) West)) (Some (arrival_at f (q + p) East)) (node_at ns p)
-unfolding with_arrivals
+unfolding any_round.with_arrivals
 heard_at f q zero ns p h low = absurd (omega arith)
 heard_at f q (suc k) [] p h low = absurd (omega arith)
 heard_at f q (suc k) (n ∷ ns) zero h low = ap (λ i. told_both (Some (arrival_at f i West)) (Some (arrival_at f i East)) n) (let e : q ≡ q + 0 = omega arith in e)
@@ -135,7 +138,7 @@ module _ (w : World) (placed : IsPlaced w) where
   count = length-fixed w.ring.settings w.ring.ids w.ring.circuits.circuits (length w.ring.ids) w.ring.nodes placed.nodes
 
   pub listening_at : (p : ℕ) → p < length w.ring.nodes → node_at (nodes_with (arrivals_of w) w) p ≡ informed w p
-  unfolding arrivals_of receivers_in
+  unfolding any_round.arrivals_of receivers_in
   listening_at p h = by_test (w.ring.rounds == 0)
     where
       by_test : (b : Bool) → node_at (all_with_arrivals (arrivals_from w.fibres 0 (if b then 0 else length w.ring.ids)) w.ring.nodes) p
@@ -146,9 +149,9 @@ module _ (w : World) (placed : IsPlaced w) where
           ∙ ap (λ i. told_both (Some (arrival_at w.fibres i West)) (Some (arrival_at w.fibres i East)) (node_at w.ring.nodes p)) (let e : 0 + p ≡ p = omega arith in e)
 
   pub nodes_after : (p : ℕ) → p < length w.ring.nodes → node_at (round w).ring.nodes p ≡ node_after w.ring.moment (informed w p)
-  unfolding round round_with
+  unfolding any_round.round any_round.round_with
   nodes_after p h =
-      node_map (node_after w.ring.moment) (nodes_with (arrivals_of w) w) p (let e = length-heard (arrivals_of w) w.ring.nodes in omega arith)
+      node_map (node_after w.ring.moment) (nodes_with (arrivals_of w) w) p (let e = length-heard adm (arrivals_of w) w.ring.nodes in omega arith)
       ∙ ap (node_after w.ring.moment) (listening_at p h)
 
 pub told_first : (w : World) (p : ℕ) (d : Side) → w.ring.rounds ≡ 0 → told_to w p d ≡ None
@@ -158,8 +161,8 @@ pub told_later : (w : World) (p : ℕ) (d : Side) → 0 < w.ring.rounds → told
 told_later w p d h = ap (λ (b : Bool). if b then None else Some (arrival_at w.fibres p d)) (ne_eqb w.ring.rounds 0 (λ z. omega arith))
 
 pub length-after : (w : World) → length (round w).ring.nodes ≡ length w.ring.nodes
-unfolding round
-length-after w = count_round (arrivals_of w) w
+unfolding any_round.round
+length-after w = count_round adm (arrivals_of w) w
 
 -- what holds of the feed of each port of each node, by what the round makes of it
 pub feeds_round : (P Q : Fed → Type 0) → ((f : Fed) → P f → Q (next_feed f)) → (w : World) → IsPlaced w → AtEach (λ p n. All (λ (t : Tributary). P t.feed) n.ports) w.ring.nodes → AtEach (λ p n. All (λ (t : Tributary). Q t.feed) n.ports) (round w).ring.nodes
@@ -168,7 +171,7 @@ feeds_round P Q to w placed each p h =
     subst (λ (n : Node). All (λ (t : Tributary). Q t.feed) n.ports) (sym (nodes_after w placed p low)) (feeds_next P Q to w.ring.moment (informed w p) (each p low))
 
 pub one_more : (w : World) → (round w).ring.rounds ≡ w.ring.rounds + 1
-unfolding round round_with
+unfolding any_round.round any_round.round_with
 one_more w = refl
 
 -- ---- what a node is by its place

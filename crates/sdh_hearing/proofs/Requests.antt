@@ -9,7 +9,7 @@ use Rattle.sdh_settling.specs.Signals.{requests_in, request_on, no_needs}
 use Rattle.sdh_settling.specs.Laws.{StillRingsAreSettled}
 use Rattle.sdh_circuits.specs.Provisioning.{Provisioning}
 use Rattle.sdh_plant.specs.Fibres.{Fibres}
-use Rattle.sdh_node.specs.declared.settings.Settings.{Settings}
+use Rattle.sdh_request.specs.declared.settings.Settings.{Settings}
 use Rattle.sdh_node.specs.Node.{receiving_on, needed}
 use Rattle.sdh_world.specs.Rounds.{World}
 use Rattle.sdh_world.specs.Runs.{run}

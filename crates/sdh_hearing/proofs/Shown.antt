@@ -26,6 +26,7 @@ use Rattle.sdh_hearing.proofs.Rounds.{same_line, neighbour_inside, arrival_cut, 
 use Rattle.sdh_hearing.proofs.Changes.{each_at_place, sending_commanded, LeavesSides, held_leaves, slips_leave, with_node, whole_all}
 use Rattle.sdh_hearing.proofs.Violations.{KeepsParities, ShowsSo, b2_by, shows_later}
 use Rattle.sdh_hearing.proofs.Follows.{Keeps, keeps_one}
+use Rattle.sdh_rounds.specs.Rounds as any_round
 
 pub section_commanded : (d e : Side) (c : Command) (n : Node) → (receiving_on e (at_receiving d (commanded_by c) n)).section ≡ (receiving_on e n).section
 section_commanded West West c n = refl
@@ -89,7 +90,7 @@ counts w whole p d k some shows out comes = elim (cases_Bool (is_cut (condition_
 ]
 
 pub violations_are_of_the_round_before : ViolationsAreOfTheRoundBefore
-unfolding round round_with
+unfolding any_round.round any_round.round_with
 violations_are_of_the_round_before w first second p d whole may may_then h =
     let one = round w in
     let whole_one = whole_round w whole in

@@ -37,7 +37,7 @@ use Rattle.sdh_node.specs.Node.{Node, receiving_on, is_held, compared, sent_of, 
 use Rattle.sdh_world.specs.Rounds.{World, round, round_with, node_after}
 use Rattle.sdh_world.specs.Runs.{run, course}
 use Rattle.sdh_world.specs.Quiet.{is_calm, IsCalm}
-use Rattle.sdh_world.proofs.Runs.{known_settles}
+use Rattle.sdh_rounds.proofs.Runs.{known_settles}
 use Rattle.sdh_hearing.specs.Placed.{IsPlaced}
 use Rattle.sdh_hearing.specs.Signalling.{is_lost, filters_of, signals_of, needs_in, held_in}
 use Rattle.sdh_hearing.specs.Laws.{IsWhole, RoundsAreSignalRounds, IsStill, CalmRoundsAreStill, ThreeCalmRoundsAreSettled, WindowsAreSettled, IsSettled, StepsSettle}
@@ -49,6 +49,9 @@ use Rattle.sdh_hearing.proofs.Nodes.{at_any, informed, informed_out, count, node
 use Rattle.sdh_hearing.proofs.Rounds.{neighbour_inside, brings, took_is, whole_round}
 use Rattle.sdh_hearing.proofs.Changes.{whole_run}
 use Rattle.sdh_world.specs.Held.{nowhere, node_at, AtEach}
+use Rattle.sdh_node.specs.Stations.{adm}
+use Rattle.sdh_rounds.specs.Rounds as any_round
+use Rattle.sdh_rounds.specs.Runs as any_run
 
 -- ---- lists
 
@@ -179,7 +182,7 @@ module _ (w : World) (whole : IsWhole w) where
   placed = (whole_round w whole).placed
 
   ids_same : (round w).ring.ids ≡ w.ring.ids
-  unfolding round round_with
+  unfolding any_round.round any_round.round_with
   ids_same = refl
 
   -- the scene of a node is that of the ring of signals
@@ -374,11 +377,11 @@ calm_rounds_are_still w whole calm = is_still w whole calm
 -- ---- runs
 
 pub one_run : (w : World) (k : ℕ) → run (suc k) w ≡ round (run k w)
-unfolding run
+unfolding any_run.run
 one_run w k = refl
 
 no_run : (w : World) → run 0 w ≡ w
-unfolding run
+unfolding any_run.run
 no_run w = refl
 
 calm_next : (w : World) (k : ℕ) → IsCalm (course w) (suc k) → is_calm (round (run k w)).ring.nodes ≡ true
@@ -442,7 +445,7 @@ windows_are_settled law w k j whole ends low high =
 
 pub steps_settle : StillRingsAreSettled → StepsSettle
 steps_settle law w left limit whole settles =
-    let known = known_settles w limit left (inl whole.paired.honest.honest) settles in
+    let known = known_settles adm w limit left (inl whole.paired.honest.honest) settles in
     let k = known.0 in
     let ends = known.1 in
     let same : length (run k w).ring.ids ≡ length w.ring.ids = ap length (left_run k w).ids in

@@ -4,7 +4,7 @@ use Rattle.sdh_ringmap.specs.Ids.{AreIds}
 use Rattle.sdh_ringmap.specs.declared.Side.{Side}
 use Rattle.sdh_frame.specs.Sizes.{n_of}
 use Rattle.sdh_overhead.specs.Laws.{AreParities}
-use Rattle.sdh_node.specs.declared.settings.Settings.{Settings}
+use Rattle.sdh_request.specs.declared.settings.Settings.{Settings}
 use Rattle.sdh_node.specs.Receiving.{Receiving}
 use Rattle.sdh_terminal.specs.Sending.{Sending}
 use Rattle.sdh_payload.specs.Clock.{IsClock}

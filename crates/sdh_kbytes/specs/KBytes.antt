@@ -90,3 +90,8 @@ is_ms_ais Idle = false
 is_ms_ais Bridged = false
 is_ms_ais BridgedSwitched = false
 is_ms_ais Rdi = false
+
+-- both identifiers of a word have four bits, so that two bytes can spell it
+pub record IsSpellable (k : K) : Type 0 where
+  pub to : k.to ≤ 15
+  pub from : k.from ≤ 15

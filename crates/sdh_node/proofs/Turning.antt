@@ -5,7 +5,7 @@ use Rattle.sdh_frame.specs.Sizes.{Frame}
 use Rattle.sdh_kbytes.specs.declared.K.{K}
 use Rattle.sdh_ringmap.specs.declared.Side.{Side}
 use Rattle.sdh_ringmap.specs.declared.Side.TheVariants.{West, East}
-use Rattle.sdh_node.specs.declared.settings.Settings.{Settings}
+use Rattle.sdh_request.specs.declared.settings.Settings.{Settings}
 use Rattle.sdh_kbytes.specs.Same.{same_word}
 use Rattle.sdh_nodestate.specs.Shapes.{same_state}
 use Rattle.sdh_terminal.specs.Same.{same_generators}

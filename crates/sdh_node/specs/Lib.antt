@@ -2,3 +2,4 @@ pub mod Same
 pub mod Receiving
 pub mod Crossing
 pub mod Node
+pub mod Stations

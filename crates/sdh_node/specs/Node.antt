@@ -15,7 +15,7 @@ use Rattle.sdh_nodestate.specs.declared.NodeState.TheVariants as state
 use Rattle.sdh_nodestate.specs.Filtering.{nothing_brought, hears}
 use Rattle.sdh_nodestate.specs.Words.{first_word}
 use Rattle.sdh_pointer.specs.Reading.{start}
-use Rattle.sdh_node.specs.declared.settings.Settings.{Settings}
+use Rattle.sdh_request.specs.declared.settings.Settings.{Settings}
 use Rattle.sdh_node.specs.Same.{ComparedIn, ComparedOut, Compared, same_compared}
 use Rattle.sdh_terminal.specs.Receiving.{new_intake}
 use Rattle.sdh_node.specs.Receiving.{Receiving, after_intake, intake_of, if_west, if_east}

@@ -22,7 +22,7 @@ use Rattle.sdh_request.specs.declared.Command.{Command}
 use Rattle.sdh_request.specs.History.{seen, reached, commanded}
 use Rattle.sdh_request.specs.Kept as local
 use Rattle.sdh_request.specs.Kept.{after, kept_request}
-use Rattle.sdh_nodestate.specs.Words.{IsSpellable}
+use Rattle.sdh_kbytes.specs.KBytes.{IsSpellable}
 use Rattle.sdh_nodestate.specs.Filtering.{Brought, with_brought, hears}
 use Rattle.sdh_pointer.specs.declared.reading.Reading.{Reading}
 use Rattle.sdh_pointer.specs.declared.reading.Action.{Action}

@@ -9,7 +9,6 @@ ghost use Rattle.sdh_terminal.specs.Tributaries.{HasPort, outlet_of, waiting_of}
 ghost use Rattle.sdh_node.specs.Node.{new_node, at_receiving, held_for, slips_at, node_round, GoesOn, receiving_on, sending_on, moment_of};
 
 use crate::cross::{CrossConnect, deliver, send_both};
-use crate::settings::Settings;
 use sdh_circuits::{CircuitMap, PortId};
 use sdh_frame::FrameBuf;
 use sdh_kbytes::{Code, K};
@@ -17,7 +16,7 @@ use sdh_nodestate::{NodeState, Sent, first_word};
 use sdh_overhead::Landed;
 use sdh_payload::{Delivered, Turn};
 use sdh_plant::Arrived;
-use sdh_request::{Command, Moment};
+use sdh_request::{Command, Moment, Settings};
 use sdh_ringmap::{Pos, RingMap, Side};
 use sdh_terminal::{Sender, Tributaries};
 use std::alloc::{AllocError, Global};

@@ -17,14 +17,13 @@ ghost use Rattle.sdh_terminal.specs.Sending.{frame_from, after_sending};
 ghost use Rattle.sdh_terminal.specs.Tributaries.{added_last};
 
 use crate::receiver::Receiver;
-use crate::settings::Settings;
 use sdh_bridge::{Origin, drop_origin, protection_origin, working_origin};
 use sdh_circuits::{CircuitMap, Slot};
 use sdh_frame::{FrameBuf, Rate};
 use sdh_nodestate::{Heard, Needs, NodeState, Sent, same_shape, shape_of, start, step};
 use sdh_overhead::Landed;
 use sdh_plant::Arrived;
-use sdh_request::{Command, Moment};
+use sdh_request::{Command, Moment, Settings};
 use sdh_ringmap::{Pos, RingMap, Side};
 use sdh_squelch::Table;
 use sdh_terminal::{Feeder, Intake, Matrix, Sender, Tributaries};

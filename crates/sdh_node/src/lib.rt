@@ -7,11 +7,11 @@
 mod adm;
 mod cross;
 mod receiver;
-mod settings;
+mod station;
 
 pub use adm::Adm;
 pub use sdh_payload::{Delivered, Turn};
-pub use settings::Settings;
+pub use sdh_request::Settings;
 
 #[cfg(test)]
 mod tests;

@@ -3,7 +3,7 @@ ghost use Rattle.std.specs.Prelude.{◌≡◌, ◌≢◌, ◌&&◌, ◌+◌, ◌
 ghost use Rattle.std.specs.Option.{is_some};
 ghost use Rattle.sdh_frame.specs.Sizes.{n_of};
 ghost use Rattle.sdh_overhead.specs.Sections.{holding};
-ghost use Rattle.sdh_nodestate.specs.Words.{IsSpellable};
+ghost use Rattle.sdh_kbytes.specs.KBytes.{IsSpellable};
 ghost use Rattle.sdh_nodestate.specs.Filtering.{hears};
 ghost use Rattle.sdh_pointer.specs.Reading.{start};
 ghost use Rattle.sdh_kbytes.specs.Same.{same_code, same_heard};
@@ -17,13 +17,12 @@ ghost use Rattle.sdh_node.specs.Receiving.{local_after, after_intake, intake_of,
 ghost use Rattle.sdh_node.specs.Crossing.{is_failed};
 ghost use Rattle.sdh_node.specs.Node.{new_receiving, compared_in};
 
-use crate::settings::Settings;
 use sdh_frame::FrameBuf;
 use sdh_kbytes::{Code, K, same_code, same_heard};
 use sdh_nodestate::Filter;
 use sdh_overhead::Landed;
 use sdh_plant::Arrived;
-use sdh_request::{Command, Defect, Local, Moment};
+use sdh_request::{Command, Defect, Local, Moment, Settings};
 use sdh_terminal::{Inlet, Intake};
 use std::alloc::{AllocError, Global};
 use std::marker::Model;

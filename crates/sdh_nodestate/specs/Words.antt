@@ -4,6 +4,7 @@ use Rattle.sdh_kbytes.specs.declared.Code.TheVariants.{Nr}
 use Rattle.sdh_kbytes.specs.declared.Path.TheVariants.{Short}
 use Rattle.sdh_kbytes.specs.declared.Mark.TheVariants as mark
 use Rattle.sdh_kbytes.specs.declared.K.{K}
+use Rattle.sdh_kbytes.specs.KBytes.{IsSpellable}
 use Rattle.sdh_ringmap.specs.Places.{neighbour}
 use Rattle.sdh_ringmap.specs.declared.Side.{Side}
 use Rattle.sdh_ringmap.specs.declared.Side.TheVariants.{West, East}
@@ -31,11 +32,6 @@ pub record IsSourced (ids : List ℕ) (s : Sent) : Type 0 where
 pub record HearsSourced (ids : List ℕ) (h : Heard) : Type 0 where
   pub west : IfSome h.west (λ k. IsMember ids k.from)
   pub east : IfSome h.east (λ k. IsMember ids k.from)
-
--- both identifiers of a word have four bits, so that two bytes can spell it
-pub record IsSpellable (k : K) : Type 0 where
-  pub to : k.to ≤ 15
-  pub from : k.from ≤ 15
 
 pub record SendsSpellable (s : Sent) : Type 0 where
   pub west : IsSpellable s.west

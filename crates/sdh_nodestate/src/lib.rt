@@ -8,7 +8,8 @@
 ghost use Rattle.std.specs.Prelude.{◌≡◌, ◌<◌, length};
 ghost use Rattle.sdh_nodestate.specs.Rules.{scene, state_after, sent_after};
 ghost use Rattle.sdh_nodestate.specs.Conditions.{MayStep};
-ghost use Rattle.sdh_nodestate.specs.Words.{first_word, IsSourced, HearsSourced, IsSpellable, SendsSpellable, HearsSpellable};
+ghost use Rattle.sdh_nodestate.specs.Words.{first_word, IsSourced, HearsSourced, SendsSpellable, HearsSpellable};
+ghost use Rattle.sdh_kbytes.specs.KBytes.{IsSpellable};
 ghost use Rattle.sdh_nodestate.specs.FarEnds.{far_of, IsElsewhere, west_chain, east_chain};
 ghost use Rattle.sdh_nodestate.specs.Urgency.{FirstWordsAreSent};
 

@@ -2,7 +2,8 @@
 ghost use Rattle.std.specs.Prelude.{◌≡◌, ◌<◌, ◌≤◌, length, IfSome};
 ghost use Rattle.sdh_nodestate.specs.Rules.{own_id, id_on, local, fails, word_on, short, long, is_about, stronger, relayed, is_below, switches, choose, chosen, far, switched, mark_on, own_word, word, state_after};
 ghost use Rattle.sdh_nodestate.specs.Views.{view, choice_of};
-ghost use Rattle.sdh_nodestate.specs.Words.{IsMember, IsSpellable, HearsSourced, HearsSpellable};
+ghost use Rattle.sdh_nodestate.specs.Words.{IsMember, HearsSourced, HearsSpellable};
+ghost use Rattle.sdh_kbytes.specs.KBytes.{IsSpellable};
 ghost use Rattle.sdh_nodestate.specs.FarEnds.{far_of, IsElsewhere};
 
 use crate::{Heard, Idle, Isolated, Needs, NodeState, PassThrough, SwitchEast, SwitchWest};

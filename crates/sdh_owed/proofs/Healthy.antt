@@ -7,15 +7,15 @@ use Rattle.sdh_restoration.specs.Due.{nothing_applied, due, other_end}
 use Rattle.sdh_plant.specs.Fibres.{Fibres}
 use Rattle.sdh_plant.specs.Arrivals.{Knows}
 use Rattle.sdh_plant.proofs.Calling.{stay_honest}
-use Rattle.sdh_node.specs.declared.settings.Settings.{Settings}
+use Rattle.sdh_request.specs.declared.settings.Settings.{Settings}
 use Rattle.sdh_world.specs.Held.{outlet_at}
 use Rattle.sdh_world.specs.Clocks.{clocks_by}
 use Rattle.sdh_world.specs.Rounds.{World}
 use Rattle.sdh_world.specs.Runs.{run}
 use Rattle.sdh_world.specs.Quiet.{settles_in}
 use Rattle.sdh_world.specs.Changes.{after_stretches, new_world}
-use Rattle.sdh_world.proofs.Runs.{known_settles, known_unsettles}
-use Rattle.sdh_world.proofs.Laws.{steps_are_computed}
+use Rattle.sdh_rounds.proofs.Runs.{known_settles, known_unsettles}
+use Rattle.sdh_rounds.proofs.Laws.{steps_are_computed}
 use Rattle.sdh_hearing.specs.Laws.{MayStart}
 use Rattle.sdh_carrying.specs.Windows.{Layout, layout_of, HasCircuits}
 use Rattle.sdh_carrying.proofs.Settles.{layout_stretches}
@@ -33,6 +33,8 @@ use Rattle.sdh_owed.specs.Healthy.{AllSettle, AreHealthy}
 use Rattle.sdh_owed.specs.Laws.{HealthyScripts}
 use Rattle.sdh_owed.proofs.Known.{knows_after}
 use Rattle.sdh_owed.proofs.Ports.{ports_are}
+use Rattle.sdh_node.specs.Stations.{adm}
+use Rattle.sdh_rounds.specs.Runs as any_run
 
 -- one number of rounds
 same_rounds : (o : Option ℕ) (k m : ℕ) → o ≡ Some k → o ≡ Some m → k ≡ m
@@ -66,13 +68,13 @@ module _ (settle : HealthyStepsSettle) (deliver : HealthyStepsDeliver) (s : Sett
 
   -- how many rounds the next step runs
   next : (before m k : ℕ) → Reached before m → settles_in (run m from) limit ≡ Some k → (k + m ≡ 128 * (before + 1) + 1) × (129 ≤ limit)
-  unfolding run
+  unfolding any_run.run
   next before m k (inl h) e = let there : settles_in from limit ≡ Some k = ap (λ j. settles_in (run j from) limit) (sym h.1) ∙ e in let r = ends_first k there in (omega (arith, h.0, h.1, r.0), r.1)
   next before m k (inr h) e = let there : settles_in (run (128 * before + 1) from) limit ≡ Some k = ap (λ j. settles_in (run j from) limit) (sym h.1) ∙ e in (omega (arith, h.1, ends_later before k h.0 h.2 there), h.2)
 
   -- no step after the first, and none with a limit of 129, is unsettled
   never_none : (before m : ℕ) → Reached before m → settles_in (run m from) limit ≡ None → (before ≡ 0) × (limit ≤ 128)
-  unfolding run
+  unfolding any_run.run
   never_none before m (inl h) e = elim (cases_lt limit 129) [
     | inl low ↦ (h.0, omega arith)
     | inr high ↦ let there : settles_in from limit ≡ None = ap (λ j. settles_in (run j from) limit) (sym h.1) ∙ e in let some = steps_are.first limit high in absurd (grind arith)
@@ -112,9 +114,9 @@ module _ (settle : HealthyStepsSettle) (deliver : HealthyStepsDeliver) (s : Sett
   walk before m (step.Moment t ∷ later) w reports end left all is reached some x = absurd all
   walk before m (step.Settle ∷ later) w reports end left all is reached some (inl x) =
       let mid = x.0 in
-      let known = known_settles w limit mid (subst (λ (v : World). Knows v.fibres) (sym is) (knows m)) x.2 in
+      let known = known_settles adm w limit mid (subst (λ (v : World). Knows v.fibres) (sym is) (knows m)) x.2 in
       let k = known.0 in
-      let e : settles_in (run m from) limit ≡ Some k = ap (λ v. settles_in v limit) (sym is) ∙ (steps_are_computed.settled w limit k).1 known.1 in
+      let e : settles_in (run m from) limit ≡ Some k = ap (λ v. settles_in v limit) (sym is) ∙ ((steps_are_computed adm).settled w limit k).1 known.1 in
       let n = next before m k reached e in
       let there : mid ≡ run (128 * (before + 1) + 1) from = known.2 ∙ ap (run k) is ∙ run_more from m k ∙ ap (λ j. run j from) n.0 in
       let r = walk (before + 1) (128 * (before + 1) + 1) later mid x.1 end left all there (inr (omega arith, refl, n.1)) (λ z. absurd (omega (arith, z))) x.4 in (
@@ -123,8 +125,8 @@ module _ (settle : HealthyStepsSettle) (deliver : HealthyStepsDeliver) (s : Sett
         λ low. absurd (omega (arith, n.1, low)),
       )
   walk before m (step.Settle ∷ later) w reports end left all is reached some (inr (inl x)) =
-      let known = known_unsettles w limit left (subst (λ (v : World). Knows v.fibres) (sym is) (knows m)) x.0 in
-      let e : settles_in (run m from) limit ≡ None = ap (λ v. settles_in v limit) (sym is) ∙ (steps_are_computed.unsettled w limit).1 known.0 in
+      let known = known_unsettles adm w limit left (subst (λ (v : World). Knows v.fibres) (sym is) (knows m)) x.0 in
+      let e : settles_in (run m from) limit ≡ None = ap (λ v. settles_in v limit) (sym is) ∙ ((steps_are_computed adm).unsettled w limit).1 known.0 in
       let none = never_none before m reached e in (
         subst (AreHealthy (length ids) circuits.circuits before) (sym x.1.0) tt,
         λ high. absurd (omega (arith, high, none.1)),
@@ -134,7 +136,7 @@ module _ (settle : HealthyStepsSettle) (deliver : HealthyStepsDeliver) (s : Sett
       (subst (AreHealthy (length ids) circuits.circuits before) (sym x.1.0) tt, λ high. inr x.1.1, λ low. (x.1.0, inr x.1.1))
 
 pub healthy_scripts : HealthyStepsSettle → HealthyStepsDeliver → HealthyScripts
-unfolding run
+unfolding any_run.run
 healthy_scripts settle deliver s ids circuits f may form limit steps all some reports end left x =
     let r = walk settle deliver s ids circuits f may form limit 0 0 steps (new_world s ids circuits f) reports end left all refl (inl (refl, refl)) (λ z. some) x in
     record { show = r.0; enough = r.1; short = r.2 }

@@ -2,7 +2,7 @@
 use Rattle.std.proofs.Common.{◌≡◌, ℕ, ◌+◌, ◌-◌, List, [], ◌∷◌, ◌++◌, length, refl, sym, subst, inl, inr}
 use Rattle.sdh_circuits.specs.Provisioning.{Provisioning}
 use Rattle.sdh_plant.specs.Fibres.{Fibres}
-use Rattle.sdh_node.specs.declared.settings.Settings.{Settings}
+use Rattle.sdh_request.specs.declared.settings.Settings.{Settings}
 use Rattle.sdh_world.specs.Held.{new_ring}
 use Rattle.sdh_world.specs.Rounds.{World}
 use Rattle.sdh_world.specs.Changes.{Change, Stretch, rounds_in, new_world}

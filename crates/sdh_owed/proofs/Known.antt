@@ -13,10 +13,10 @@ use Rattle.sdh_world.specs.Rounds.{World, arrivals_of, frames_with, nodes_with, 
 use Rattle.sdh_world.specs.Runs.{run, arrivals_in, run_with, course}
 use Rattle.sdh_world.specs.Quiet.{SettlesAt, NeverSettles, BreaksOff, settles_in}
 use Rattle.sdh_world.specs.Changes.{changed}
-use Rattle.sdh_world.specs.Laws.{frames_in, Appends}
-use Rattle.sdh_world.proofs.Runs.{run_first, known_rounds, known_course, course_whole, known_settles, known_unsettles, knows_run, length-heard, length-frames, count_round}
-use Rattle.sdh_world.proofs.Windows.{never_same}
-use Rattle.sdh_world.proofs.Laws.{runs_keep, broken_steps_send, steps_are_computed}
+use Rattle.sdh_rounds.specs.Laws.{frames_in, Appends}
+use Rattle.sdh_rounds.proofs.Runs.{run_first, known_rounds, known_course, course_whole, known_settles, known_unsettles, knows_run, length-heard, length-frames, count_round}
+use Rattle.sdh_rounds.proofs.Windows.{never_same}
+use Rattle.sdh_rounds.proofs.Laws.{runs_keep, broken_steps_send, steps_are_computed}
 use Rattle.sdh_hearing.proofs.Staying.{left_run}
 use Rattle.sdh_plan.specs.declared.step.Step.{Step}
 use Rattle.sdh_plan.specs.declared.step.Step.TheVariants as step
@@ -27,6 +27,9 @@ use Rattle.sdh_owed.specs.Steps.{after_step}
 use Rattle.sdh_owed.specs.Reports.{report_of}
 use Rattle.sdh_owed.specs.Scripts.{Runs, Ran, ran_unsettled, ran_settled, script, IsRan, sent_by, IsCutShort, ComesTo}
 use Rattle.sdh_owed.specs.Laws.{KnownScripts}
+use Rattle.sdh_node.specs.Stations.{adm}
+use Rattle.sdh_rounds.specs.Rounds as any_round
+use Rattle.sdh_rounds.specs.Runs as any_run
 
 -- ---- products
 
@@ -80,7 +83,7 @@ none_sent limit before n frames (step.Settle ∷ later) w some low = by_count (s
         → sent_by n frames (option_map_or (λ k. ran_settled k (before + 1) w (script limit (before + 1) later (run k w))) o (ran_unsettled limit (before + 1) w)).reports ≡ []
     by_count None e rest = refl
     by_count (Some k) e rest =
-        let s = (steps_are_computed.settled w limit k).0 e in
+        let s = ((steps_are_computed adm).settled w limit k).0 e in
         let r = report_of (before + 1) (run k w).ring in
         let at = left_run k w in
         let same : length (run k w).ring.ids ≡ length w.ring.ids = ap (λ (x : List ℕ). length x) at.ids in
@@ -91,42 +94,42 @@ none_sent limit before n frames (step.Settle ∷ later) w some low = by_count (s
 -- ---- frames of rounds
 
 run_is : (k : ℕ) (w : World) → run_with (arrivals_in k w) w ≡ run k w
-unfolding arrivals_in run round
+unfolding any_run.arrivals_in any_run.run any_round.round
 run_is zero w = refl
-run_is (suc k) w = run_is k (round_with (arrivals_of w) w) ∙ sym (run_first k w)
+run_is (suc k) w = run_is k (round_with (arrivals_of w) w) ∙ sym (run_first adm k w)
 
-frames_sent : (k : ℕ) (w : World) → Appends w.fibres (frames_in (arrivals_in k w) w) (run k w).fibres
-frames_sent k w = subst (λ (v : World). Appends w.fibres (frames_in (arrivals_in k w) w) v.fibres) (run_is k w) (runs_keep (arrivals_in k w) w).1
+frames_sent : (k : ℕ) (w : World) → Appends w.fibres (frames_in adm (arrivals_in k w) w) (run k w).fibres
+frames_sent k w = subst (λ (v : World). Appends w.fibres (frames_in adm (arrivals_in k w) w) v.fibres) (run_is k w) (runs_keep adm (arrivals_in k w) w).1
 
 length-one : (xs : List Arrival) (w : World) → length (frames_with xs w) ≡ 2 * length w.ring.nodes
-length-one xs w = omega (arith, length-frames w.ring.moment (nodes_with xs w), length-heard xs w.ring.nodes)
+length-one xs w = omega (arith, length-frames adm w.ring.moment (nodes_with xs w), length-heard adm xs w.ring.nodes)
 
-length-all : (k : ℕ) (w : World) → length (frames_in (arrivals_in k w) w) ≡ 2 * length w.ring.nodes * k
-unfolding arrivals_in round
+length-all : (k : ℕ) (w : World) → length (frames_in adm (arrivals_in k w) w) ≡ 2 * length w.ring.nodes * k
+unfolding any_run.arrivals_in any_round.round
 length-all zero w = omega arith
 length-all (suc k) w =
     let xs = arrivals_of w in
     let v = round_with xs w in
     let n = length w.ring.nodes in
-    let rest : length (frames_in (arrivals_in k v) v) ≡ 2 * n * k = length-all k v ∙ ap (λ j. 2 * j * k) (count_round xs w) in
+    let rest : length (frames_in adm (arrivals_in k v) v) ≡ 2 * n * k = length-all k v ∙ ap (λ j. 2 * j * k) (count_round adm xs w) in
     let one : 2 * n * suc k ≡ 2 * n + 2 * n * k = omega arith in
-    omega (arith, length-append (frames_with xs w) (frames_in (arrivals_in k v) v), length-one xs w, rest, one)
+    omega (arith, length-append (frames_with xs w) (frames_in adm (arrivals_in k v) v), length-one xs w, rest, one)
 
 -- those of the first j rounds, of the next one, and of the others
-frames_parted : (j m : ℕ) (w : World) → (rest : List (List ℕ)) × (frames_in (arrivals_in (j + suc m) w) w ≡ frames_in (arrivals_in j w) w ++ (frames_with (arrivals_of (run j w)) (run j w) ++ rest))
-unfolding arrivals_in run round
+frames_parted : (j m : ℕ) (w : World) → (rest : List (List ℕ)) × (frames_in adm (arrivals_in (j + suc m) w) w ≡ frames_in adm (arrivals_in j w) w ++ (frames_with (arrivals_of (run j w)) (run j w) ++ rest))
+unfolding any_run.arrivals_in any_run.run any_round.round
 frames_parted zero m w =
     let e : 0 + suc m ≡ suc m = omega arith in
-    (frames_in (arrivals_in m (round_with (arrivals_of w) w)) (round_with (arrivals_of w) w), ap (λ k. frames_in (arrivals_in k w) w) e)
+    (frames_in adm (arrivals_in m (round_with (arrivals_of w) w)) (round_with (arrivals_of w) w), ap (λ k. frames_in adm (arrivals_in k w) w) e)
 frames_parted (suc j) m w =
     let v = round_with (arrivals_of w) w in
     let h = frames_parted j m v in
     let e : suc j + suc m ≡ suc (j + suc m) = omega arith in
     let one = frames_with (arrivals_of w) w in
-    let same : run j v ≡ run (suc j) w = sym (run_first j w) in (
+    let same : run j v ≡ run (suc j) w = sym (run_first adm j w) in (
       h.0,
-      ap (λ k. frames_in (arrivals_in k w) w) e ∙ ap (λ l. one ++ l) h.1 ∙ sym (append_assoc one (frames_in (arrivals_in j v) v) (frames_with (arrivals_of (run j v)) (run j v) ++ h.0))
-          ∙ ap (λ (u : World). (one ++ frames_in (arrivals_in j v) v) ++ (frames_with (arrivals_of u) u ++ h.0)) same,
+      ap (λ k. frames_in adm (arrivals_in k w) w) e ∙ ap (λ l. one ++ l) h.1 ∙ sym (append_assoc one (frames_in adm (arrivals_in j v) v) (frames_with (arrivals_of (run j v)) (run j v) ++ h.0))
+          ∙ ap (λ (u : World). (one ++ frames_in adm (arrivals_in j v) v) ++ (frames_with (arrivals_of u) u ++ h.0)) same,
     )
 
 take_past : (xs ys : List (List ℕ)) (k : ℕ) → take (length xs + k) (xs ++ ys) ≡ xs ++ take k ys
@@ -137,14 +140,14 @@ take_past (x ∷ xs) ys k =
 
 -- the first frames of a run, up to some of the round behind the first j
 front : (j k out : ℕ) (w : World) (more : List (List ℕ)) → j < k → out ≤ length (frames_with (arrivals_of (run j w)) (run j w))
-    → take (length (frames_in (arrivals_in j w) w) + out) (frames_in (arrivals_in k w) w ++ more) ≡ frames_in (arrivals_in j w) w ++ take out (frames_with (arrivals_of (run j w)) (run j w))
+    → take (length (frames_in adm (arrivals_in j w) w) + out) (frames_in adm (arrivals_in k w) w ++ more) ≡ frames_in adm (arrivals_in j w) w ++ take out (frames_with (arrivals_of (run j w)) (run j w))
 front j k out w more low small =
-    let first = frames_in (arrivals_in j w) w in
+    let first = frames_in adm (arrivals_in j w) w in
     let next = frames_with (arrivals_of (run j w)) (run j w) in
     let count : k ≡ j + suc (k - j - 1) = omega arith in
     let parted = frames_parted j (k - j - 1) w in
-    let all : frames_in (arrivals_in k w) w ++ more ≡ first ++ (next ++ (parted.0 ++ more)) =
-    ap (λ i. frames_in (arrivals_in i w) w ++ more) count ∙ ap (λ l. l ++ more) parted.1 ∙ append_assoc first (next ++ parted.0) more ∙ ap (λ l. first ++ l) (append_assoc next parted.0 more) in
+    let all : frames_in adm (arrivals_in k w) w ++ more ≡ first ++ (next ++ (parted.0 ++ more)) =
+    ap (λ i. frames_in adm (arrivals_in i w) w ++ more) count ∙ ap (λ l. l ++ more) parted.1 ∙ append_assoc first (next ++ parted.0) more ∙ ap (λ l. first ++ l) (append_assoc next parted.0 more) in
     ap (λ l. take (length first + out) l) all ∙ take_past first (next ++ (parted.0 ++ more)) out ∙ ap (λ l. first ++ l) (take-append-le out next (parted.0 ++ more) small)
 
 appended : (o : Option (List (List ℕ))) (xs ys : List (List ℕ)) → option_map (λ sent. sent ++ ys) (option_map (λ sent. sent ++ xs) o) ≡ option_map (λ sent. sent ++ (xs ++ ys)) o
@@ -177,7 +180,7 @@ settled_came limit before k w mid later reports rest end left some size s there 
 })
 settled_came limit before k w mid later reports rest end left some size s there is (inr x) =
     let n = length w.ring.ids in
-    let first = frames_in (arrivals_in k w) w in
+    let first = frames_in adm (arrivals_in k w) w in
     let r = report_of (before + 1) (run k w).ring in
     let c = x.1.count in
     let at = left_run k w in
@@ -199,12 +202,12 @@ settled_came limit before k w mid later reports rest end left some size s there 
     )
 
 nodes_run : (k : ℕ) (v : World) → length (run k v).ring.nodes ≡ length v.ring.nodes
-unfolding run round
+unfolding any_run.run any_round.round
 nodes_run zero v = refl
-nodes_run (suc k) v = count_round (arrivals_of (run k v)) (run k v) ∙ nodes_run k v
+nodes_run (suc k) v = count_round adm (arrivals_of (run k v)) (run k v) ∙ nodes_run k v
 
 pub knows_after : (k : ℕ) (w : World) → Knows w.fibres → Knows (run k w).fibres
-knows_after k w h = subst (λ (v : World). Knows v.fibres) (run_is k w) (knows_run (arrivals_in k w) w h)
+knows_after k w h = subst (λ (v : World). Knows v.fibres) (run_is k w) (knows_run adm (arrivals_in k w) w h)
 
 length-placed : (change : Node → Node) (p : ℕ) (ns : List Node) → length (at_place p change ns) ≡ length ns
 length-placed change p [] = refl
@@ -213,13 +216,13 @@ length-placed change (suc p) (n ∷ ns) = ap suc (length-placed change p ns)
 
 -- the frames that were sent are the first of those of the script, and no report's last round is among them
 cut_short : (limit before : ℕ) (later : List Step) (w left : World) (o : Option ℕ) → settles_in w limit ≡ o → (j out : ℕ) → 1 ≤ length w.ring.ids → length w.ring.nodes ≡ length w.ring.ids
-    → Appends w.fibres (frames_in (arrivals_in j w) w ++ take out (frames_with (arrivals_of (run j w)) (run j w))) left.fibres → out < 2 * length w.ring.ids → NeverSettles (course w) j
-    → length (frames_in (arrivals_in j w) w) ≡ 2 * length w.ring.ids * j → out ≤ length (frames_with (arrivals_of (run j w)) (run j w)) → j < limit
+    → Appends w.fibres (frames_in adm (arrivals_in j w) w ++ take out (frames_with (arrivals_of (run j w)) (run j w))) left.fibres → out < 2 * length w.ring.ids → NeverSettles (course w) j
+    → length (frames_in adm (arrivals_in j w) w) ≡ 2 * length w.ring.ids * j → out ≤ length (frames_with (arrivals_of (run j w)) (run j w)) → j < limit
     → IsCutShort (option_map_or (λ k. ran_settled k (before + 1) w (script limit (before + 1) later (run k w))) o (ran_unsettled limit (before + 1) w)) (length w.ring.ids) (2 * length w.ring.ids * w.ring.rounds) w [] left
 cut_short limit before later w left None e j out some size sends few never long small within =
-    let first = frames_in (arrivals_in j w) w in
-    let whole : take (length first + out) (frames_in (arrivals_in limit w) w) ≡ first ++ take out (frames_with (arrivals_of (run j w)) (run j w)) =
-    ap (take (length first + out)) (sym (append-nil (frames_in (arrivals_in limit w) w))) ∙ front j limit out w [] within small in
+    let first = frames_in adm (arrivals_in j w) w in
+    let whole : take (length first + out) (frames_in adm (arrivals_in limit w) w) ≡ first ++ take out (frames_with (arrivals_of (run j w)) (run j w)) =
+    ap (take (length first + out)) (sym (append-nil (frames_in adm (arrivals_in limit w) w))) ∙ front j limit out w [] within small in
     record {
       count = length first + out;
       frames = sends ∙ ap (λ l. option_map (λ sent. sent ++ l) w.fibres.sent) (sym whole);
@@ -227,8 +230,8 @@ cut_short limit before later w left None e j out some size sends few never long 
     }
 cut_short limit before later w left (Some k) e j out some size sends few never long small within =
     let n = length w.ring.ids in
-    let first = frames_in (arrivals_in j w) w in
-    let s = (steps_are_computed.settled w limit k).0 e in
+    let first = frames_in adm (arrivals_in j w) w in
+    let s = ((steps_are_computed adm).settled w limit k).0 e in
     let low : j < k = elim (cases_lt j k) [ inl less ↦ less | inr high ↦ absurd (never k high s.window) ] in
     let rest = script limit (before + 1) later (run k w) in
     let r = report_of (before + 1) (run k w).ring in
@@ -252,19 +255,19 @@ broken_came limit before later w left knows some size b o is =
     let n = length w.ring.ids in
     let j = length b.rounds in
     let out = b.off.out in
-    let rounds : b.rounds ≡ arrivals_in j w = known_rounds b.rounds w knows b.arrive in
-    let there : run_with b.rounds w ≡ run j w = course_whole b.rounds w ∙ known_course b.rounds w j knows b.arrive (omega arith) in
-    let come : b.off.arrivals ≡ arrivals_of (run j w) = b.off.arrive.known (knows_run b.rounds w knows) ∙ ap arrivals_of there in
-    let first = frames_in (arrivals_in j w) w in
+    let rounds : b.rounds ≡ arrivals_in j w = known_rounds adm b.rounds w knows b.arrive in
+    let there : run_with b.rounds w ≡ run j w = course_whole adm b.rounds w ∙ known_course adm b.rounds w j knows b.arrive (omega arith) in
+    let come : b.off.arrivals ≡ arrivals_of (run j w) = b.off.arrive.known (knows_run adm b.rounds w knows) ∙ ap arrivals_of there in
+    let first = frames_in adm (arrivals_in j w) w in
     let next = frames_with (arrivals_of (run j w)) (run j w) in
     let at = left_run j w in
     let length_first : length first ≡ 2 * n * j = length-all j w ∙ ap (λ i. 2 * i * j) size in
     let few : out < 2 * n = omega (arith, b.off.not_all, ap (λ (v : World). length v.ring.ids) there, ap (λ (l : List ℕ). length l) at.ids) in
     let small : out ≤ length next = omega (arith, few, length-one (arrivals_of (run j w)) (run j w), nodes_run j w, size) in
     let sends : Appends w.fibres (first ++ take out next) left.fibres =
-    subst (λ l. Appends w.fibres (l ++ take out next) left.fibres) (ap (λ x. frames_in x w) rounds)
-    (subst (λ l. Appends w.fibres (frames_in b.rounds w ++ take out l) left.fibres) (ap (λ x. frames_with x (run_with b.rounds w)) come ∙ ap (frames_with (arrivals_of (run j w))) there) (broken_steps_send w limit left.fibres b)) in
-    let never : NeverSettles (course w) j = never_same _ (course w) j (λ i h. known_course b.rounds w i knows b.arrive h) b.never in
+    subst (λ l. Appends w.fibres (l ++ take out next) left.fibres) (ap (λ x. frames_in adm x w) rounds)
+    (subst (λ l. Appends w.fibres (frames_in adm b.rounds w ++ take out l) left.fibres) (ap (λ x. frames_with x (run_with b.rounds w)) come ∙ ap (frames_with (arrivals_of (run j w))) there) (broken_steps_send adm w limit left.fibres b)) in
+    let never : NeverSettles (course w) j = never_same adm _ (course w) j (λ i h. known_course adm b.rounds w i knows b.arrive h) b.never in
     cut_short limit before later w left o is j out some size sends few never length_first small b.within
 
 -- ---- a script
@@ -306,11 +309,11 @@ known limit before (step.Moment m ∷ later) w reports end left knows some size 
     carried (script limit before later v) (length w.ring.ids) (2 * length w.ring.ids * w.ring.rounds) v w reports end left refl (known limit before later v reports end left knows some size x)
 known limit before (step.Settle ∷ later) w reports end left knows some size (inl x) =
     let mid = x.0 in
-    let there = known_settles w limit mid knows x.2 in
+    let there = known_settles adm w limit mid knows x.2 in
     let k = there.0 in
     let v = run k w in
     let at = left_run k w in
-    let e : settles_in w limit ≡ Some k = (steps_are_computed.settled w limit k).1 there.1 in
+    let e : settles_in w limit ≡ Some k = ((steps_are_computed adm).settled w limit k).1 there.1 in
     let a = λ (o : Option ℕ). option_map_or (λ i. ran_settled i (before + 1) w (script limit (before + 1) later (run i w))) o (ran_unsettled limit (before + 1) w) in
     let rest : Runs limit (before + 1) later v x.1 end left = subst (λ u. Runs limit (before + 1) later u x.1 end left) there.2 x.4 in
     let same : length v.ring.ids ≡ length w.ring.ids = ap (λ (l : List ℕ). length l) at.ids in
@@ -318,8 +321,8 @@ known limit before (step.Settle ∷ later) w reports end left knows some size (i
     subst (λ o. Came (a o) (length w.ring.ids) (2 * length w.ring.ids * w.ring.rounds) w reports end left) (sym e)
     (settled_came limit before k w mid (script limit (before + 1) later v) reports x.1 end left some size there.1 there.2 x.3 came)
 known limit before (step.Settle ∷ later) w reports end left knows some size (inr (inl x)) =
-    let there = known_unsettles w limit left knows x.0 in
-    let e : settles_in w limit ≡ None = (steps_are_computed.unsettled w limit).1 there.0 in
+    let there = known_unsettles adm w limit left knows x.0 in
+    let e : settles_in w limit ≡ None = ((steps_are_computed adm).unsettled w limit).1 there.0 in
     let a = λ (o : Option ℕ). option_map_or (λ i. ran_settled i (before + 1) w (script limit (before + 1) later (run i w))) o (ran_unsettled limit (before + 1) w) in
     subst (λ o. Came (a o) (length w.ring.ids) (2 * length w.ring.ids * w.ring.rounds) w reports end left) (sym e)
     (inl (record { reports_are = x.1.0; end_is = x.1.1; left_is = there.1 }))

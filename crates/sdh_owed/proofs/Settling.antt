@@ -2,13 +2,13 @@
 use Rattle.std.proofs.Common.{◌≡◌, ℕ, ◌+◌, ◌≤◌, List, [], ◌∷◌, ◌++◌, length, ap, sym, ◌∙◌, refl, subst, arith, inl, inr}
 use Rattle.sdh_circuits.specs.Provisioning.{Provisioning}
 use Rattle.sdh_plant.specs.Fibres.{Fibres}
-use Rattle.sdh_node.specs.declared.settings.Settings.{Settings}
+use Rattle.sdh_request.specs.declared.settings.Settings.{Settings}
 use Rattle.sdh_world.specs.Held.{new_ring}
 use Rattle.sdh_world.specs.Rounds.{World}
 use Rattle.sdh_world.specs.Runs.{run}
 use Rattle.sdh_world.specs.Quiet.{Unsettles}
 use Rattle.sdh_world.specs.Changes.{Change, Stretch, after_stretches, new_world}
-use Rattle.sdh_world.proofs.Runs.{known_unsettles}
+use Rattle.sdh_rounds.proofs.Runs.{known_unsettles}
 use Rattle.sdh_hearing.specs.Laws.{MayStart}
 use Rattle.sdh_hearing.proofs.Requests.{after_last}
 use Rattle.sdh_carrying.specs.Windows.{layout_in, size_of, HasCircuits}
@@ -25,6 +25,8 @@ use Rattle.sdh_owed.specs.Scripts.{Runs}
 use Rattle.sdh_owed.specs.Healthy.{IsSettled}
 use Rattle.sdh_owed.specs.Laws.{ScriptsSettle}
 use Rattle.sdh_owed.proofs.Standing.{Stands, whole, layout_is, changed_then, settled_then, may_go, stands_new}
+use Rattle.sdh_node.specs.Stations.{adm}
+use Rattle.sdh_rounds.specs.Runs as any_run
 
 -- an end that is no unsettled step
 pub settled_by : (end how : Status) → end ≡ how → IsSettled how → IsSettled end
@@ -42,14 +44,14 @@ module _ (converge : StretchesConverge) (s : Settings) (ids : List ℕ) (circuit
 
   -- a step with so large a limit
   never : (past : Past) (earlier : List Stretch) (changes : List Change) (w left : World) (limit : ℕ) → Now past earlier changes w → enough_for (length ids) ≤ limit → Unsettles w limit left → ⊥
-  unfolding run
+  unfolding any_run.run
   never past earlier changes w left limit h large x =
       let from = new_world s ids circuits f in
       let last : Stretch = record { changes = changes; rounds = 0 } in
       let there : w ≡ after_stretches (earlier ++ last ∷ []) from = h.is ∙ sym (after_last earlier last from) in
       let size : length w.ring.ids ≡ length ids = ap size_of (layout_is s ids circuits f may past earlier changes w h) in
       let meets : Converges w = subst Converges (sym there) (converge s ids circuits f (earlier ++ last ∷ []) may (may_go s ids circuits f may past earlier changes w h) form) in
-      meets.never limit (omega (arith, size, large)) (known_unsettles w limit left (inl (whole s ids circuits f may past earlier changes w h).paired.honest.honest) x).0
+      meets.never limit (omega (arith, size, large)) (known_unsettles adm w limit left (inl (whole s ids circuits f may past earlier changes w h).paired.honest.honest) x).0
 
   walk : (limit before : ℕ) (past : Past) (earlier : List Stretch) (changes : List Change) (steps : List Step) (w : World) (reports : List Report) (end : Status) (left : World)
       → Now past earlier changes w → AreSteps s.rate (length ids) (length circuits.circuits) past steps → enough_for (length ids) ≤ limit → Runs limit before steps w reports end left → IsSettled end

@@ -11,7 +11,7 @@ use Rattle.sdh_payload.specs.declared.clock.Turn.{Turn}
 use Rattle.sdh_payload.specs.declared.clock.Turn.TheVariants.{Up, Down}
 use Rattle.sdh_payload.specs.Clock.{Clock, new_clock, waiting, waits}
 use Rattle.sdh_plant.specs.Fibres.{Fibres, IsConditionAt}
-use Rattle.sdh_node.specs.declared.settings.Settings.{Settings}
+use Rattle.sdh_request.specs.declared.settings.Settings.{Settings}
 use Rattle.sdh_terminal.specs.Tributaries.{Tributary, port_of}
 use Rattle.sdh_node.specs.Node.{Node}
 use Rattle.sdh_world.specs.Held.{HeldRing, new_ring, place_of_port, nowhere, node_at, AtEach}
@@ -21,11 +21,12 @@ use Rattle.sdh_world.specs.Quiet.{EndsWindow, Settles}
 use Rattle.sdh_world.specs.Changes as change
 use Rattle.sdh_world.specs.Changes.{Change, changed, all_changed, Stretch, after_stretch, after_stretches, rounds_in, new_world}
 use Rattle.sdh_world.specs.Clocks.{clock_at, waiting_at, clock_after}
-use Rattle.sdh_world.specs.Laws.{AreChangesOf, MayHappen, EndsAtAMultiple}
+use Rattle.sdh_world.specs.Laws.{AreChangesOf, MayHappen}
+use Rattle.sdh_rounds.specs.Laws.{EndsAtAMultiple}
 use Rattle.sdh_world.proofs.Clocks.{found_has}
 use Rattle.sdh_world.proofs.Waiting.{waits_changed, waits_new}
-use Rattle.sdh_world.proofs.Laws.{settled_numbers}
-use Rattle.sdh_world.proofs.Runs.{known_settles}
+use Rattle.sdh_rounds.proofs.Laws.{settled_numbers}
+use Rattle.sdh_rounds.proofs.Runs.{known_settles}
 use Rattle.sdh_hearing.specs.Laws.{IsWhole, MayStart, NoneWait}
 use Rattle.sdh_hearing.proofs.Changes.{new_worlds_are_whole, whole_all}
 use Rattle.sdh_hearing.proofs.Requests.{whole_stretches, after_last}
@@ -38,6 +39,7 @@ use Rattle.sdh_plan.specs.declared.step.Step.TheVariants as step
 use Rattle.sdh_plan.specs.Steps.{Past, after, with_slips, is_settle}
 use Rattle.sdh_plan.specs.Scripts as plan
 use Rattle.sdh_owed.specs.Steps.{changes_of, after_step}
+use Rattle.sdh_node.specs.Stations.{adm}
 
 -- ---- lists of changes and of stretches
 
@@ -191,10 +193,10 @@ module _ (s : Settings) (ids : List ℕ) (circuits : Provisioning) (f : Fibres) 
     pub settled_then : (mid : World) (limit : ℕ) → Settles w limit mid → Ended mid
     settled_then mid limit settles =
         let v = after_stretches earlier from in
-        let known = known_settles w limit mid (inl whole.paired.honest.honest) settles in
+        let known = known_settles adm w limit mid (inl whole.paired.honest.honest) settles in
         let k = known.0 in
         let ends : EndsWindow (course w) k = known.1.window in
-        let long = long_step w.ring mid.ring limit h.begins (settled_numbers w mid limit (omega (arith, size, may.ids_ok.enough)) settles) in
+        let long = long_step w.ring mid.ring limit h.begins (settled_numbers adm w mid limit (omega (arith, size, may.ids_ok.enough)) settles) in
         let grown : mid.ring.rounds ≡ w.ring.rounds + k = ap (λ (x : World). x.ring.rounds) known.2 ∙ (left_run k w).rounds in
         let last = stretch_to mid in
         let count : k ≡ last.rounds = omega (arith, grown, long.1, ran) in

@@ -4,7 +4,7 @@ use Rattle.std.specs.Option.{option_map_or}
 use Rattle.sdh_world.specs.Rounds.{World}
 use Rattle.sdh_world.specs.Runs.{run, arrivals_in}
 use Rattle.sdh_world.specs.Quiet.{Settles, Unsettles, BreaksOff, settles_in}
-use Rattle.sdh_world.specs.Laws.{frames_in, Appends}
+use Rattle.sdh_rounds.specs.Laws.{frames_in, Appends}
 use Rattle.sdh_plan.specs.declared.step.Step.{Step}
 use Rattle.sdh_plan.specs.declared.step.Step.TheVariants as step
 use Rattle.sdh_report.specs.declared.status.Status.{Status}
@@ -12,6 +12,7 @@ use Rattle.sdh_report.specs.declared.status.Status.TheVariants as status
 use Rattle.sdh_report.specs.Reports.{Report}
 use Rattle.sdh_owed.specs.Steps.{after_step}
 use Rattle.sdh_owed.specs.Reports.{report_of}
+use Rattle.sdh_node.specs.Stations.{adm}
 
 -- ---- over any fibres
 
@@ -52,11 +53,11 @@ ran_none w = record { reports = []; ending = status.Ok; left = w; frames = [] }
 
 -- settle step `number` is unsettled
 abbrev pub ran_unsettled : ℕ → ℕ → World → Ran
-ran_unsettled limit number w = record { reports = []; ending = status.Unsettled number; left = run limit w; frames = frames_in (arrivals_in limit w) w }
+ran_unsettled limit number w = record { reports = []; ending = status.Unsettled number; left = run limit w; frames = frames_in adm (arrivals_in limit w) w }
 
 -- it ends in k rounds, and the script goes on
 abbrev pub ran_settled : ℕ → ℕ → World → Ran → Ran
-ran_settled k number w later = record later { reports = report_of number (run k w).ring ∷ later.reports; frames = frames_in (arrivals_in k w) w ++ later.frames }
+ran_settled k number w later = record later { reports = report_of number (run k w).ring ∷ later.reports; frames = frames_in adm (arrivals_in k w) w ++ later.frames }
 
 -- the steps from a world, after `before` settle steps that have ended
 abbrev pub script : ℕ → ℕ → List Step → World → Ran

@@ -3,7 +3,7 @@ use Rattle.std.proofs.Common.{◌≡◌, ℕ, ◌/◌, List, ◌++◌, map, Some
 use Rattle.toml.specs.Data.{Members}
 use Rattle.sdh_frame.specs.declared.Rate.{Rate}
 use Rattle.sdh_frame.specs.Sizes.{n_of}
-use Rattle.sdh_node.specs.declared.settings.Settings.{Settings}
+use Rattle.sdh_request.specs.declared.settings.Settings.{Settings}
 use Rattle.sdh_circuits.specs.Provisioned.{Provisioned}
 use Rattle.sdh_circuits.specs.Provisioning.{Provisioning}
 use Rattle.sdh_plan.specs.declared.step.Step.{Step}

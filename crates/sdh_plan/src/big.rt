@@ -10,9 +10,8 @@ use crate::plan::Plan;
 use crate::step::Step;
 use sdh_circuits::{AddError, Asked, CircuitMap};
 use sdh_frame::Rate;
-use sdh_node::Settings;
 use sdh_plant::{Condition, FibreEvent};
-use sdh_request::Moment;
+use sdh_request::{Moment, Settings};
 use sdh_ringmap::{Pos, RingMap, Side};
 use std::alloc::{AllocError, Global};
 

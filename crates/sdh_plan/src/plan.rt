@@ -5,7 +5,7 @@ ghost use Rattle.sdh_plan.specs.Planned.{IsPlanned, provisioning_of};
 
 use crate::step::Step;
 use sdh_circuits::CircuitMap;
-use sdh_node::Settings;
+use sdh_request::Settings;
 use sdh_ringmap::RingMap;
 use std::marker::Model;
 

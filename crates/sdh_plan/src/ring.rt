@@ -15,7 +15,7 @@ use crate::error::{PlanError, of_document};
 use crate::reason;
 use arrayvec::ArrayVec;
 use sdh_frame::Rate;
-use sdh_node::Settings;
+use sdh_request::Settings;
 use sdh_ringmap::{MapError, RingMap};
 use toml::{Table, Value};
 

@@ -6,6 +6,10 @@
 ghost use Rattle.std.specs.Prelude.{◌≡◌, ◌≢◌, ℕ, ◌≤◌, List, []};
 ghost use Rattle.sdh_kbytes.specs.KBytes.{code_number};
 
+mod settings;
+
+pub use settings::Settings;
+
 use sdh_kbytes::Code;
 use std::marker::Model;
 

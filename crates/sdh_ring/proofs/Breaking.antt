@@ -5,6 +5,8 @@ use Rattle.std.specs.Option.{option_map_or}
 use Rattle.std.proofs.lemmas.Bool.{cases_lt}
 use Rattle.std.proofs.lemmas.Bool.Decides.{nat_tests}
 use Rattle.std.proofs.lemmas.Option.{slice_get-map}
+use Rattle.sdh_ringmap.specs.declared.Side.{Side}
+use Rattle.sdh_ringmap.specs.declared.Side.TheVariants.{West, East}
 use Rattle.sdh_circuits.specs.declared.PortId.{PortId}
 use Rattle.sdh_circuits.specs.Provisioned.{Provisioned, end_of}
 use Rattle.sdh_payload.specs.Clock.{Clock, ticks}
@@ -13,15 +15,33 @@ use Rattle.sdh_terminal.specs.Tributaries.{Tributary, port_of}
 use Rattle.sdh_node.specs.Node.{Node}
 use Rattle.sdh_world.specs.Held.{HeldRing, place_of_port}
 use Rattle.sdh_world.specs.Clocks.{HasPortIn, clock_at, clocks_from}
-use Rattle.sdh_world.specs.Rounds.{World, world, receivers_in, arrivals_of}
+use Rattle.sdh_world.specs.Rounds.{World, world, arrivals_of}
+use Rattle.sdh_rounds.specs.Rounds.{receivers_in}
 use Rattle.sdh_world.specs.Runs.{ArriveIn, run_with, course_with}
 use Rattle.sdh_world.specs.Quiet.{NeverSettles}
-use Rattle.sdh_world.proofs.Runs.{known_arrive, held_run}
-use Rattle.sdh_world.proofs.Laws.{runs_keep}
+use Rattle.sdh_rounds.proofs.Runs.{known_arrive, held_run}
+use Rattle.sdh_rounds.proofs.Laws.{runs_keep}
 use Rattle.sdh_world.proofs.Clocks.{clock_of, Follows, node_next, goes_rounds}
-use Rattle.sdh_ring.specs.Calls.{ports_of, first_after, FirstReceive, SomeReceive, SendsSome}
+use Rattle.sdh_rounds.specs.Calls.{first_after, FirstReceive, SomeReceive, SendsSome}
+use Rattle.sdh_rounds.proofs.Rings as rings
+use Rattle.sdh_rounds.proofs.Rings.{heard_keep, some_keep, off_hearing, off_sending}
 use Rattle.sdh_ring.specs.Faults.{ClocksWentOn, had_round, BreaksRound, BreaksStep}
-use Rattle.sdh_ring.proofs.Rings.{off_hearing, off_sending}
+use Rattle.sdh_node.specs.Stations.{adm}
+
+-- ---- the ports of circuits at a node, with their clocks: no receive changes them
+
+abbrev pub ports_of : Node → List Tributary
+ports_of n = n.ports
+
+told_ports : (d : Side) (a : Arrival) (n : Node) → ports_of (adm.told d a n) ≡ ports_of n
+told_ports West a n = refl
+told_ports East a n = refl
+
+pub heard_ports : (k : ℕ) (f g : Fibres) (old new : List Node) → FirstReceive adm k f g old new → map ports_of new ≡ map ports_of old
+heard_ports k f g old new h = ap (map ports_of) h.nodes ∙ heard_keep adm ports_of told_ports h.arrivals old
+
+pub some_ports : (k : ℕ) (f g : Fibres) (old new : List Node) → SomeReceive adm k f g old new → map ports_of new ≡ map ports_of old
+some_ports k f g old new h = ap (map ports_of) h.nodes ∙ some_keep adm ports_of told_ports h.arrivals old
 
 -- ---- a port, node by node
 
@@ -54,7 +74,7 @@ goes_none : (id : PortId) (ns : List Node) (p : ℕ) → Goes id 0 ns ns p
 unfolding ticks
 goes_none id ns p = let e : nat_lt p 0 ≡ false = grind (arith, nat_tests) in rw e (λ there. (there, refl))
 
-goes_first : (id : PortId) (now k : ℕ) (ns : List Node) (p : ℕ) → Goes id k ns (first_after now k ns) p
+goes_first : (id : PortId) (now k : ℕ) (ns : List Node) (p : ℕ) → Goes id k ns (first_after adm now k ns) p
 unfolding ticks
 goes_first id now k [] p = λ there. absurd (cc)
 goes_first id now zero (n ∷ ns) p = goes_none id (n ∷ ns) p
@@ -71,15 +91,15 @@ went_on r ns b k size goes = λ port there.
     subst (λ q. IsSome (port_at port ns q) × (clock_of (port_at port ns q) ≡ ticks (if nat_lt p k then 0 + 1 else 0) (clock_at r port))) (sym place) (goes port p there)
 
 -- a fault while nodes received
-pub breaks_hearing : (r : HeldRing) (f h : Fibres) (ns : List Node) → length r.nodes ≡ length r.ids → 2 ≤ length r.ids → length ns ≡ length r.nodes → map ports_of ns ≡ map ports_of r.nodes → SomeReceive (receivers_in r.rounds (length r.nodes)) f h
+pub breaks_hearing : (r : HeldRing) (f h : Fibres) (ns : List Node) → length r.nodes ≡ length r.ids → 2 ≤ length r.ids → length ns ≡ length r.nodes → map ports_of ns ≡ map ports_of r.nodes → SomeReceive adm (receivers_in r.rounds (length r.nodes)) f h r.nodes ns
     → BreaksRound (world r f) (world (record r { nodes = ns; broken = true }) h)
-unfolding off_hearing
+unfolding rings.off_hearing
 breaks_hearing r f h ns size enough kept same some =
-    let off = off_hearing r f h size enough some in
+    let off = off_hearing adm r f h ns size enough some in
     let count = (known_arrive (world r f)).count in
     let n : receivers_in r.rounds (length r.nodes) ≡ receivers_in r.rounds (length r.ids) = ap (receivers_in r.rounds) size in
-    let low : some.given < length (arrivals_of (world r f)) = (let m = some.not_all in omega arith) in
-    let e : nat_lt some.given (length (arrivals_of (world r f))) ≡ true = grind (arith, nat_tests) in
+    let low : length some.arrivals < length (arrivals_of (world r f)) = (let m = some.not_all in omega arith) in
+    let e : nat_lt (length some.arrivals) (length (arrivals_of (world r f))) ≡ true = grind (arith, nat_tests) in
     record {
       off = off;
       ring = refl;
@@ -88,18 +108,18 @@ breaks_hearing r f h ns size enough kept same some =
     }
 
 -- and while they sent
-pub breaks_sending : (r : HeldRing) (f g h : Fibres) (ns new : List Node) → length r.nodes ≡ length r.ids → length new ≡ length r.nodes → map ports_of ns ≡ map ports_of r.nodes → FirstReceive (receivers_in r.rounds (length r.nodes)) f g r.nodes ns
-    → SendsSome r.moment ns new g h → BreaksRound (world r f) (world (record r { nodes = new; broken = true }) h)
-unfolding off_sending
+pub breaks_sending : (r : HeldRing) (f g h : Fibres) (ns new : List Node) → length r.nodes ≡ length r.ids → length new ≡ length r.nodes → map ports_of ns ≡ map ports_of r.nodes → FirstReceive adm (receivers_in r.rounds (length r.nodes)) f g r.nodes ns
+    → SendsSome adm r.moment ns new g h → BreaksRound (world r f) (world (record r { nodes = new; broken = true }) h)
+unfolding rings.off_sending
 breaks_sending r f g h ns new size kept same hears some =
     let k = some.out / 2 + 1 in
     let e : nat_lt (length hears.arrivals) (length hears.arrivals) ≡ false = grind (arith, nat_tests) in
     record {
-      off = off_sending r f g h ns new size hears some;
+      off = off_sending adm r f g h ns new size hears some;
       ring = refl;
       clocks = subst (λ b. ClocksWentOn 0 (if b then 0 else k) r (record r { nodes = new; broken = true })) (sym e)
           (went_on r new true k kept (λ id p. subst (λ ms. Goes id k r.nodes ms p) (sym some.nodes)
-          (subst (λ o. Follows (ticks (if nat_lt p k then 0 + 1 else 0)) o (port_at id (first_after r.moment k ns) p)) (sym (found_same id r.nodes ns p same)) (goes_first id r.moment k ns p))));
+          (subst (λ o. Follows (ticks (if nat_lt p k then 0 + 1 else 0)) o (port_at id (first_after adm r.moment k ns) p)) (sym (found_same id r.nodes ns p same)) (goes_first id r.moment k ns p))));
     }
 
 -- ---- a step
@@ -112,13 +132,13 @@ ticks_more false t c = refl
 place_run : (rounds : List (List Arrival)) (w : World) (port : PortId) → place_of_port (run_with rounds w).ring port ≡ place_of_port w.ring port
 unfolding place_of_port
 place_run rounds w port =
-    ap (λ (r : HeldRing). option_map_or (λ (c : Provisioned). (end_of c port.end).0) (slice_get r.circuits.circuits port.circuit) (length (run_with rounds w).ring.nodes)) (held_run rounds w)
-    ∙ ap (λ n. option_map_or (λ (c : Provisioned). (end_of c port.end).0) (slice_get w.ring.circuits.circuits port.circuit) n) (runs_keep rounds w).0.size
+    ap (λ (r : HeldRing). option_map_or (λ (c : Provisioned). (end_of c port.end).0) (slice_get r.circuits.circuits port.circuit) (length (run_with rounds w).ring.nodes)) (held_run adm rounds w)
+    ∙ ap (λ n. option_map_or (λ (c : Provisioned). (end_of c port.end).0) (slice_get w.ring.circuits.circuits port.circuit) n) (runs_keep adm rounds w).0.size
 
 -- after whole rounds
 pub went_by : (rounds : List (List Arrival)) (w left : World) (port : PortId) → left ≡ run_with rounds w → HasPortIn w.ring port → clock_at left.ring port ≡ clocks_from w port left.ring.rounds
 went_by rounds w left port is there =
-    let ran : left.ring.rounds ≡ w.ring.rounds + length rounds = ap (λ (x : World). x.ring.rounds) is ∙ ap (λ (r : HeldRing). r.rounds) (held_run rounds w) in
+    let ran : left.ring.rounds ≡ w.ring.rounds + length rounds = ap (λ (x : World). x.ring.rounds) is ∙ ap (λ (r : HeldRing). r.rounds) (held_run adm rounds w) in
     ap (λ (x : World). clock_at x.ring port) is ∙ (goes_rounds port rounds w there).1
     ∙ ap (λ n. ticks n (clock_at w.ring port)) (let e : length rounds ≡ left.ring.rounds - w.ring.rounds = omega arith in e)
 
@@ -126,7 +146,7 @@ went_by rounds w left port is there =
 pub breaks_after : (rounds : List (List Arrival)) (w left : World) (limit : ℕ) → ArriveIn rounds w → length rounds < limit → NeverSettles (course_with rounds w) (length rounds) → BreaksRound (run_with rounds w) left → BreaksStep w limit left
 breaks_after rounds w left limit arrive within never broke = record {
   step = record { rounds = rounds; arrive = arrive; within = within; never = never; off = broke.off };
-  ring = broke.ring ∙ ap (λ (r : HeldRing). record r { nodes = left.ring.nodes; broken = true }) (held_run rounds w);
+  ring = broke.ring ∙ ap (λ (r : HeldRing). record r { nodes = left.ring.nodes; broken = true }) (held_run adm rounds w);
   clocks = λ port there. (
       let whole = goes_rounds port rounds w there in
       let last = broke.clocks port whole.0 in (

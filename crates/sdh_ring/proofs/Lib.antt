@@ -1,6 +1,4 @@
 pub mod Nodes
-pub mod Receives
-pub mod Sends
 pub mod Rings
 pub mod Owned
 pub mod Breaking

@@ -4,12 +4,9 @@
 //! The round is `round` in `specs/Rounds.antt`, and where a step ends is in `specs/Quiet.antt`.
 #![tactic(auto)]
 
-mod faults;
-mod receiving;
 mod ring;
-mod sending;
 #[cfg(test)]
 mod tests;
 
-pub use faults::{PlantFault, SettleError};
 pub use ring::Ring;
+pub use sdh_rounds::{PlantFault, SettleError};

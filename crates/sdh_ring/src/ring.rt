@@ -15,7 +15,7 @@ ghost use Rattle.sdh_world.specs.Fixed.{IsRested};
 ghost use Rattle.sdh_world.specs.Rounds.{world};
 ghost use Rattle.sdh_world.specs.Runs.{IsRound, IsBrokenOff};
 ghost use Rattle.sdh_world.specs.Quiet.{is_calm};
-ghost use Rattle.sdh_world.specs.Laws.{EndsAtAMultiple};
+ghost use Rattle.sdh_rounds.specs.Laws.{EndsAtAMultiple};
 ghost use Rattle.sdh_hearing.specs.Laws.{IsWhole, GoesAsSignals};
 ghost use Rattle.sdh_carrying.specs.Windows.{layout_in, HasCircuits};
 ghost use Rattle.sdh_carrying.specs.Laws.{Restores};
@@ -24,9 +24,6 @@ ghost use Rattle.sdh_ring.specs.Outcome.{Outcome};
 ghost use Rattle.sdh_ring.specs.Faults.{BreaksRound, BreaksStep};
 ghost use Rattle.sdh_circuits.specs.Provisioned.{end_of};
 
-use crate::faults::{PlantFault, SettleError};
-use crate::receiving::hear;
-use crate::sending::send_all;
 use sdh_circuits::{Circuit, CircuitMap, End, PortId};
 use sdh_frame::FrameBuf;
 use sdh_node::{Adm, Delivered, Settings, Turn};
@@ -34,6 +31,7 @@ use sdh_overhead::Landed;
 use sdh_plant::Plant;
 use sdh_request::{Command, Moment};
 use sdh_ringmap::{Pos, RingMap, Side};
+use sdh_rounds::{PlantFault, SettleError, all_calm, hear, send_all};
 use std::alloc::{AllocError, Global};
 use std::marker::Model;
 
@@ -88,13 +86,6 @@ fn new_nodes(
         nodes.push(Adm::try_new(alloc, settings, map, circuits, Pos(i as u8))?)?;
     }
     Ok(nodes)
-}
-
-// Whether the last round was calm at each node.
-fn all_calm(nodes: &[Adm]) -> bool
-    ensures { result ≡ is_calm nodes.now }
-{
-    nodes.iter().all(|node| node.calm())
 }
 
 fn command_at(nodes: &mut Vec<Adm>, at: usize, side: Side, command: Command)
@@ -375,7 +366,7 @@ impl Ring {
     {
         self.has_circuits();
         self.has_rested();
-        sdh_world::settled_numbers();
+        sdh_rounds::settled_numbers::<Adm>();
         sdh_hearing::steps_stay_whole();
         sdh_carrying::settled_rings_are_restored();
         sdh_converging::steps_answer();

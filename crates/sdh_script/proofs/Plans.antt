@@ -4,7 +4,7 @@ use Rattle.std.specs.Prelude.{Result, Ok, Err, IfOk}
 use Rattle.sdh_plant.specs.Fibres.{Fibres, IsHonest}
 use Rattle.sdh_plant.specs.Arrivals.{Knows}
 use Rattle.sdh_world.specs.Rounds.{World}
-use Rattle.sdh_world.specs.Laws.{Appends}
+use Rattle.sdh_rounds.specs.Laws.{Appends}
 use Rattle.sdh_world.proofs.Keeping.{length-new}
 use Rattle.sdh_carrying.proofs.Settles.{circuits_are}
 use Rattle.sdh_plan.specs.Planned.{Planned, IsPlanned, provisioning_of}

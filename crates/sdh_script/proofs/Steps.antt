@@ -10,15 +10,15 @@ use Rattle.sdh_circuits.specs.Provisioned.{same_port}
 use Rattle.sdh_frame.specs.declared.Rate.{Rate}
 use Rattle.sdh_world.specs.Clocks.{waiting_at}
 use Rattle.sdh_node.specs.Node.{Node}
-use Rattle.sdh_world.specs.Laws.{EndsAtAMultiple}
+use Rattle.sdh_rounds.specs.Laws.{EndsAtAMultiple}
 use Rattle.sdh_circuits.specs.Provisioning.{Provisioning}
-use Rattle.sdh_node.specs.declared.settings.Settings.{Settings}
+use Rattle.sdh_request.specs.declared.settings.Settings.{Settings}
 use Rattle.sdh_world.specs.Held.{HeldRing, new_ring}
 use Rattle.sdh_world.proofs.Waiting.{waits_new}
 use Rattle.sdh_world.specs.Rounds.{World}
 use Rattle.sdh_world.specs.Changes.{changed}
 use Rattle.sdh_world.specs.Quiet.{Settles}
-use Rattle.sdh_world.proofs.Runs.{held_run}
+use Rattle.sdh_rounds.proofs.Runs.{held_run}
 use Rattle.sdh_plan.specs.declared.step.Step.{Step}
 use Rattle.sdh_plan.specs.declared.step.Step.TheVariants as step
 use Rattle.sdh_plan.specs.Planned.{Planned, IsPlanned, provisioning_of}
@@ -35,6 +35,7 @@ use Rattle.sdh_owed.specs.Reports.{report_of}
 use Rattle.sdh_owed.specs.Scripts.{Runs}
 use Rattle.sdh_script.specs.Room.{report_room, MayList}
 use Rattle.sdh_script.specs.Running.{past_of, MayRun, Refused, Went, StopsAt, Lists}
+use Rattle.sdh_node.specs.Stations.{adm}
 
 -- ---- fewer slips
 
@@ -100,7 +101,7 @@ prepared_made r s ids circuits n f g is size enough few made =
 
 -- what a step that ended keeps of the ring
 pub settled_held : (w left : World) (limit : ℕ) → (s : Settles w limit left) → left.ring ≡ record w.ring { nodes = left.ring.nodes; rounds = w.ring.rounds + length s.rounds }
-settled_held w left limit s = subst (λ (v : World). v.ring ≡ record w.ring { nodes = v.ring.nodes; rounds = w.ring.rounds + length s.rounds }) (sym s.left_is) (held_run s.rounds w)
+settled_held w left limit s = subst (λ (v : World). v.ring ≡ record w.ring { nodes = v.ring.nodes; rounds = w.ring.rounds + length s.rounds }) (sym s.left_is) (held_run adm s.rounds w)
 
 pub settled_whole : (w left : World) (limit : ℕ) → Settles w limit left → w.ring.broken ≡ false → left.ring.broken ≡ false
 settled_whole w left limit s whole = ap (λ (r : HeldRing). r.broken) (settled_held w left limit s) ∙ whole

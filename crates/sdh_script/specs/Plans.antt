@@ -6,7 +6,7 @@ use Rattle.sdh_converging.specs.Laws.{enough_for}
 use Rattle.sdh_world.specs.Held.{new_ring}
 use Rattle.sdh_world.specs.Rounds.{World}
 use Rattle.sdh_world.specs.Changes.{new_world}
-use Rattle.sdh_world.specs.Laws.{Appends}
+use Rattle.sdh_rounds.specs.Laws.{Appends}
 use Rattle.sdh_carrying.specs.Windows.{Layout, layout_in}
 use Rattle.sdh_plan.specs.Planned.{Planned, provisioning_of}
 use Rattle.sdh_report.specs.Reports.{Report, text_of}

@@ -7,7 +7,7 @@ use Rattle.sdh_overhead.specs.Sections as section
 use Rattle.sdh_overhead.specs.Sections.{holding, clear_frame, line_frame, parities_of}
 use Rattle.sdh_kbytes.specs.declared.K.{K}
 use Rattle.sdh_kbytes.specs.KBytes.{first_byte, second_byte}
-use Rattle.sdh_nodestate.specs.Words.{IsSpellable}
+use Rattle.sdh_kbytes.specs.KBytes.{IsSpellable}
 use Rattle.sdh_terminal.specs.Passing.{Input, aus_sent, after_inputs}
 
 pub record Sending : Type 0 where

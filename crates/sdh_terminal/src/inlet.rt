@@ -3,7 +3,7 @@ ghost use Rattle.std.specs.Prelude.{◌≡◌, ◌≢◌, ◌-◌, ◌≤◌, No
 ghost use Rattle.std.specs.Option.{is_some};
 ghost use Rattle.sdh_frame.specs.Sizes.{n_of};
 ghost use Rattle.sdh_overhead.specs.Sections.{holding};
-ghost use Rattle.sdh_nodestate.specs.Words.{IsSpellable};
+ghost use Rattle.sdh_kbytes.specs.KBytes.{IsSpellable};
 ghost use Rattle.sdh_pointer.specs.Reading.{start};
 ghost use Rattle.sdh_plant.specs.Arrivals.{as_arrival, arrived_in};
 ghost use Rattle.sdh_terminal.specs.Same.{same_readings};

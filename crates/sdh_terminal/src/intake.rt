@@ -4,7 +4,7 @@ ghost use Rattle.std.specs.List.{list_any};
 ghost use Rattle.sdh_frame.specs.Sizes.{n_of, size_of};
 ghost use Rattle.sdh_frame.specs.Aus.{au_of};
 ghost use Rattle.sdh_overhead.specs.Sections.{Parities, holding};
-ghost use Rattle.sdh_nodestate.specs.Words.{IsSpellable};
+ghost use Rattle.sdh_kbytes.specs.KBytes.{IsSpellable};
 ghost use Rattle.sdh_pointer.specs.Reading.{Interpreter};
 ghost use Rattle.sdh_terminal.specs.Same.{same_readings};
 ghost use Rattle.sdh_terminal.specs.Receiving.{reception_of, frame_reception, all_ones, pointer_word_at, readings_of, after_frame, actions_in, readings_by, actions_by, new_intake};

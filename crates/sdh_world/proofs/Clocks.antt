@@ -21,7 +21,7 @@ use Rattle.sdh_payload.specs.declared.clock.Turn.TheVariants.{Up, Down}
 use Rattle.sdh_payload.specs.Clock.{Clock, new_clock, waiting, waits, ticked, ticks}
 use Rattle.sdh_payload.proofs.Clocking.{slips_run_out}
 use Rattle.sdh_plant.specs.Fibres.{Arrival}
-use Rattle.sdh_node.specs.declared.settings.Settings.{Settings}
+use Rattle.sdh_request.specs.declared.settings.Settings.{Settings}
 use Rattle.sdh_terminal.specs.Tributaries.{Tributary, new_tributary, ends_at, ends_from, tributaries_at, is_port, port_of, slipped, with_slips, fed, all_fed}
 use Rattle.sdh_node.specs.Crossing.{Cross, delivered_to, all_delivered}
 use Rattle.sdh_node.specs.Node.{Node, new_node, at_receiving, held_for, slips_at, crossing, ports_after, after_crossing, with_calm, node_round}
@@ -33,11 +33,14 @@ use Rattle.sdh_world.specs.Changes.{Change, Fibre, Order, Hold, Slip, Now, chang
 use Rattle.sdh_world.specs.Sides.{world_in}
 use Rattle.sdh_world.specs.Clocks.{first_clock, HasPortIn, clock_at, waiting_at, clock_after, clock_changed, clock_in}
 use Rattle.sdh_world.specs.Laws.{ClocksGoOn}
-use Rattle.sdh_world.proofs.FirstWindows.{left_true, right_true}
+use Rattle.sdh_rounds.proofs.FirstWindows.{left_true, right_true}
 use Rattle.sdh_world.specs.Fixed.{IsRested, IsOn}
 use Rattle.sdh_world.proofs.Keeping.{length-new, new_at, all_at_place}
 use Rattle.sdh_world.proofs.Histories.{length-placed}
-use Rattle.sdh_world.proofs.Runs.{count_round}
+use Rattle.sdh_rounds.proofs.Runs.{count_round}
+use Rattle.sdh_node.specs.Stations.{adm}
+use Rattle.sdh_rounds.specs.Rounds as any_round
+use Rattle.sdh_rounds.specs.Runs as any_run
 
 -- ---- the port that is found
 
@@ -111,7 +114,7 @@ unfolding node_round with_calm after_crossing
 node_next id now n = ports_next id (crossing now n) n.ports
 
 node_met : (id : PortId) (west east : Arrival) (n : Node) → NodeFollows id (λ c. c) n (with_arrivals west east n)
-unfolding with_arrivals
+unfolding any_round.with_arrivals
 node_met id west east n = follows_same (port_of id n.ports)
 
 clock_slipped : (turn : Turn) (count : ℕ) (t : Tributary) → (slipped turn count t).feed.clock ≡ waits turn count t.feed.clock
@@ -237,11 +240,11 @@ unfolding clock_at
 goes_at id f w v same follows = subst (λ p. Follows f (port_at id w.ring.nodes (place_of_port w.ring id)) (port_at id v.ring.nodes p)) (sym same) follows
 
 place_round : (id : PortId) (xs : List Arrival) (w : World) → place_of_port (round_with xs w).ring id ≡ place_of_port w.ring id
-unfolding place_of_port round_with
-place_round id xs w = ap (λ k. option_map_or (λ (c : Provisioned). (end_of c id.end).0) (slice_get w.ring.circuits.circuits id.circuit) k) (count_round xs w)
+unfolding place_of_port any_round.round_with
+place_round id xs w = ap (λ k. option_map_or (λ (c : Provisioned). (end_of c id.end).0) (slice_get w.ring.circuits.circuits id.circuit) k) (count_round adm xs w)
 
 follows_round : (id : PortId) (xs : List Arrival) (w : World) (p : ℕ) → Follows ticked (port_at id w.ring.nodes p) (port_at id (round_with xs w).ring.nodes p)
-unfolding round_with
+unfolding any_round.round_with
 follows_round id xs w p = λ there.
     let met = nodes_met id xs w.ring.nodes p there in
     let next = nodes_next id w.ring.moment (nodes_with xs w) p met.0 in
@@ -307,7 +310,7 @@ goes_rounds id (xs ∷ rounds) w = λ there.
     (all.0, all.1 ∙ ticks_first (length rounds) (clock_at w.ring id))
 
 pub goes_run : (id : PortId) (k : ℕ) (w : World) → Goes id (ticks k) w (run k w)
-unfolding run round ticks
+unfolding any_run.run any_round.round ticks
 goes_run id zero w = λ there. (there, refl)
 goes_run id (suc k) w = goes_twice id (ticks k) ticked w (run k w) (round_with (arrivals_of (run k w)) (run k w)) (goes_run id k w) (goes_round id (arrivals_of (run k w)) (run k w))
 

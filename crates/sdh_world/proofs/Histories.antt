@@ -19,7 +19,7 @@ use Rattle.sdh_payload.specs.declared.clock.Turn.{Turn}
 use Rattle.sdh_circuits.specs.declared.PortId.{PortId}
 use Rattle.sdh_node.specs.Node.{Node, new_node, at_receiving, held_for, slips_at, crossing, after_crossing, with_calm, node_round}
 use Rattle.sdh_circuits.specs.Provisioned.{Provisioned}
-use Rattle.sdh_node.specs.declared.settings.Settings.{Settings}
+use Rattle.sdh_request.specs.declared.settings.Settings.{Settings}
 use Rattle.sdh_world.specs.Held.{at_place, place_of_port, new_nodes}
 use Rattle.sdh_world.specs.Laws.{NewHolds, HistoriesHold, CallsChange}
 use Rattle.sdh_world.proofs.Keeping.{new_at, length-new, all_placed}
@@ -27,7 +27,10 @@ use Rattle.sdh_world.specs.Rounds.{World, with_arrival, with_arrivals, all_with_
 use Rattle.sdh_world.specs.Runs.{run}
 use Rattle.sdh_world.specs.Changes.{Change, Fibre, Order, Hold, Slip, Now, changed, all_changed, Stretch, after_stretch}
 use Rattle.sdh_world.specs.Sides.{Holding, holding_after, all_holding, holding_in, command_on, holding_of, world_in, Fits}
-use Rattle.sdh_world.proofs.Runs.{count_round, conditions_round}
+use Rattle.sdh_rounds.proofs.Runs.{count_round, conditions_round}
+use Rattle.sdh_node.specs.Stations.{adm}
+use Rattle.sdh_rounds.specs.Rounds as any_round
+use Rattle.sdh_rounds.specs.Runs as any_run
 
 -- ---- numbers
 
@@ -60,7 +63,7 @@ command_with East a West n = refl
 command_with East a East n = refl
 
 command_met : (west east : Arrival) (d : Side) (n : Node) → command_on d (with_arrivals west east n) ≡ command_on d n
-unfolding with_arrivals
+unfolding any_round.with_arrivals
 command_met west east d n = command_with East east d (with_arrival West west n) ∙ command_with West west d n
 
 command_next : (now : ℕ) (d : Side) (n : Node) → command_on d (node_after now n) ≡ command_on d n
@@ -89,11 +92,11 @@ commands_next now d [] = refl
 commands_next now d (n ∷ ns) = ap (λ c. c ∷ map (command_on d) (map (node_after now) ns)) (command_next now d n) ∙ ap (λ cs. command_on d n ∷ cs) (commands_next now d ns)
 
 commands_round : (xs : List Arrival) (d : Side) (w : World) → map (command_on d) (round_with xs w).ring.nodes ≡ map (command_on d) w.ring.nodes
-unfolding round_with
+unfolding any_round.round_with
 commands_round xs d w = commands_next w.ring.moment d (nodes_with xs w) ∙ commands_heard xs d w.ring.nodes
 
 moment_round : (xs : List Arrival) (w : World) → (round_with xs w).ring.moment ≡ w.ring.moment
-unfolding round_with
+unfolding any_round.round_with
 moment_round xs w = refl
 
 held_alike : (a b : Condition) (c d : Command) (m n : ℕ) → a ≡ b → c ≡ d → m ≡ n → ◌≡◌ {A = Holding} (record { condition = a; command = c; moment = m }) (record { condition = b; command = d; moment = n })
@@ -103,10 +106,10 @@ held_alike a b c d m n e f g =
 -- a round changes nothing that holds
 holding_round : (n p : ℕ) (d : Side) (xs : List Arrival) (w : World) → holding_of n p d (round_with xs w) ≡ holding_of n p d w
 unfolding holding_of
-holding_round n p d xs w = held_alike _ _ _ _ _ _ (ap (λ cs. slice_index_or cs (fibre_to n p d) Clear) (conditions_round xs w)) (ap (λ cs. slice_index_or cs p command.Clear) (commands_round xs d w)) (moment_round xs w)
+holding_round n p d xs w = held_alike _ _ _ _ _ _ (ap (λ cs. slice_index_or cs (fibre_to n p d) Clear) (conditions_round adm xs w)) (ap (λ cs. slice_index_or cs p command.Clear) (commands_round xs d w)) (moment_round xs w)
 
 holding_run : (n p : ℕ) (d : Side) (k : ℕ) (w : World) → holding_of n p d (run k w) ≡ holding_of n p d w
-unfolding run round
+unfolding any_run.run any_round.round
 holding_run n p d zero w = refl
 holding_run n p d (suc k) w = holding_round n p d (arrivals_of (run k w)) (run k w) ∙ holding_run n p d k w
 
@@ -228,10 +231,10 @@ fits_all n [] w h = h
 fits_all n (c ∷ cs) w h = fits_all n cs (changed c w) (fits_changed n c w h)
 
 fits_run : (n k : ℕ) (w : World) → Fits n w → Fits n (run k w)
-unfolding run round
+unfolding any_run.run any_round.round
 fits_run n zero w h = h
 fits_run n (suc k) w h = let was = fits_run n k w h in
-    record { conditions = ap length (conditions_round (arrivals_of (run k w)) (run k w)) ∙ was.conditions; nodes = count_round (arrivals_of (run k w)) (run k w) ∙ was.nodes }
+    record { conditions = ap length (conditions_round adm (arrivals_of (run k w)) (run k w)) ∙ was.conditions; nodes = count_round adm (arrivals_of (run k w)) (run k w) ∙ was.nodes }
 
 holding_all : (n p : ℕ) (d : Side) (cs : List Change) (w : World) → Fits n w → p < n → holding_of n p d (all_changed cs w) ≡ all_holding n p d cs (holding_of n p d w)
 holding_all n p d [] w fits low = refl

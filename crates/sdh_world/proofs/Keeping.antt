@@ -24,7 +24,7 @@ use Rattle.sdh_payload.specs.declared.clock.Turn.TheVariants.{Up, Down}
 use Rattle.sdh_circuits.specs.declared.PortId.{PortId}
 use Rattle.sdh_circuits.specs.Provisioned.{Provisioned, same_end}
 use Rattle.sdh_plant.specs.Fibres.{Arrival}
-use Rattle.sdh_node.specs.declared.settings.Settings.{Settings}
+use Rattle.sdh_request.specs.declared.settings.Settings.{Settings}
 use Rattle.sdh_node.specs.Receiving.{after_intake, after_overhead, commanded_by}
 use Rattle.sdh_terminal.specs.Tributaries.{Tributary, is_port, port_of, HasPort, slipped, with_slips, fed, all_fed, new_tributary, ends_at, ends_from, tributaries_at}
 use Rattle.sdh_node.specs.Crossing.{Cross, after_decision, delivered_to, all_delivered}
@@ -34,6 +34,7 @@ use Rattle.sdh_world.specs.Held.{new_nodes, at_place}
 use Rattle.sdh_world.specs.Rounds.{with_arrival, with_arrivals, all_with_arrivals, node_after}
 use Rattle.sdh_world.specs.Fixed.{FixedPort, fixed_port, Fixed, fixed, IsRested, IsOn}
 use Rattle.sdh_ringmap.specs.Places.{position_of}
+use Rattle.sdh_rounds.specs.Rounds as any_round
 
 -- ---- one node
 
@@ -43,7 +44,7 @@ fixed_with West a n = refl
 fixed_with East a n = refl
 
 pub fixed_met : (west east : Arrival) (n : Node) → fixed (with_arrivals west east n) ≡ fixed n
-unfolding with_arrivals
+unfolding any_round.with_arrivals
 fixed_met west east n = fixed_with East east (with_arrival West west n) ∙ fixed_with West west n
 
 pub fixed_commanded : (d : Side) (c : Command) (n : Node) → fixed (at_receiving d (commanded_by c) n) ≡ fixed n
@@ -148,7 +149,7 @@ on_with West a r m n h = record { rounds_are = h.rounds_are; early = h.early; cl
 on_with East a r m n h = record { rounds_are = h.rounds_are; early = h.early; clocks = h.clocks }
 
 on_met : (west east : Arrival) (r m : ℕ) (n : Node) → IsOn r m n → IsOn r m (with_arrivals west east n)
-unfolding with_arrivals
+unfolding any_round.with_arrivals
 on_met west east r m n h = on_with East east r m (with_arrival West west n) (on_with West west r m n h)
 
 pub on_next : (r m : ℕ) (n : Node) → IsOn r m n → IsOn (r + 1) m (node_after m n)

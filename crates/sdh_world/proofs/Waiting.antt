@@ -9,7 +9,7 @@ use Rattle.sdh_circuits.specs.Provisioned.{Provisioned, end_of}
 use Rattle.sdh_circuits.specs.Provisioning.{Provisioning}
 use Rattle.sdh_payload.specs.Clock.{Clock, new_clock, waiting}
 use Rattle.sdh_plant.specs.Fibres.{Arrival}
-use Rattle.sdh_node.specs.declared.settings.Settings.{Settings}
+use Rattle.sdh_request.specs.declared.settings.Settings.{Settings}
 use Rattle.sdh_terminal.specs.Tributaries.{port_of}
 use Rattle.sdh_node.specs.Node.{Node}
 use Rattle.sdh_world.specs.Held.{HeldRing, new_ring, place_of_port}
@@ -20,6 +20,7 @@ use Rattle.sdh_world.specs.Changes.{Change, Fibre, Order, Hold, Slip, Now, chang
 use Rattle.sdh_world.specs.Clocks.{first_clock, port_in, HasPortIn, clock_at, waiting_at, clock_after}
 use Rattle.sdh_world.proofs.Keeping.{all_heard, all_next, all_commanded, all_held, all_slipped, has_fixed}
 use Rattle.sdh_world.proofs.Clocks.{clock_of, clocks_go_on, goes_changed}
+use Rattle.sdh_rounds.specs.Rounds as any_round
 
 -- ---- a port that is there was there before
 
@@ -52,7 +53,7 @@ like_changed (Slip port turn count) w = record { circuits = refl; nodes = all_sl
 like_changed (Now t) w = record { circuits = refl; nodes = refl }
 
 like_run : (rounds : List (List Arrival)) (w : World) → IsLike w.ring (run_with rounds w).ring
-unfolding round_with
+unfolding any_round.round_with
 like_run [] w = record { circuits = refl; nodes = refl }
 like_run (xs ∷ later) w =
     let rest = like_run later (round_with xs w) in

@@ -11,7 +11,7 @@ use Rattle.sdh_node.specs.Node.{at_receiving, held_for, slips_at}
 use Rattle.sdh_world.specs.Held.{at_place, place_of_port, new_ring}
 use Rattle.sdh_world.specs.Rounds.{World, world}
 use Rattle.sdh_world.specs.Runs.{run}
-use Rattle.sdh_node.specs.declared.settings.Settings.{Settings}
+use Rattle.sdh_request.specs.declared.settings.Settings.{Settings}
 use Rattle.sdh_circuits.specs.Provisioning.{Provisioning}
 use Rattle.sdh_plant.specs.Fibres.{Fibres}
 

@@ -11,7 +11,7 @@ use Rattle.sdh_circuits.specs.Provisioning.{IsProvisioning}
 use Rattle.sdh_payload.specs.Customer.{Customer}
 use Rattle.sdh_payload.specs.Clock.{Clock, waiting}
 use Rattle.sdh_squelch.specs.Kept.{KeepsRing}
-use Rattle.sdh_node.specs.declared.settings.Settings.{Settings}
+use Rattle.sdh_request.specs.declared.settings.Settings.{Settings}
 use Rattle.sdh_terminal.specs.Tributaries.{Tributary}
 use Rattle.sdh_node.specs.Node.{Node, moment_of}
 use Rattle.sdh_world.specs.Held.{HeldRing, new_nodes}

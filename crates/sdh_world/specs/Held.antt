@@ -1,30 +1,21 @@
 -- What a ring holds.
-use Rattle.std.specs.Prelude.{ℕ, zero, suc, Bool, false, List, [], ◌∷◌, length, slice_get, slice_index_or, ◌<◌}
+use Rattle.std.specs.Prelude.{ℕ, false, List, [], length, slice_get, slice_index_or, ◌<◌}
 use Rattle.std.specs.Option.{option_map_or}
 use Rattle.sdh_basics.specs.Cells.{cells}
 use Rattle.sdh_circuits.specs.declared.PortId.{PortId}
 use Rattle.sdh_circuits.specs.Provisioned.{Provisioned, end_of}
 use Rattle.sdh_circuits.specs.Provisioning.{Provisioning}
-use Rattle.sdh_node.specs.declared.settings.Settings.{Settings}
+use Rattle.sdh_request.specs.declared.settings.Settings.{Settings}
 use Rattle.sdh_payload.specs.Outlet.{Outlet, silent}
 use Rattle.sdh_terminal.specs.Tributaries.{outlet_of}
 use Rattle.sdh_node.specs.Node.{Node, new_node}
+use Rattle.sdh_rounds.specs.Held as held
 use Rattle.sdh_ringmap.specs.Places.{position_of}
 use Rattle.sdh_frame.specs.declared.Rate.TheVariants.{Four}
 
-pub record HeldRing : Type 0 where
-  pub settings : Settings
-  -- the identifiers of the nodes, by position
-  pub ids : List ℕ
-  pub circuits : Provisioning
-  -- the nodes, by position
-  pub nodes : List Node
-  -- the present moment
-  pub moment : ℕ
-  -- how many rounds have run, so that the next one has this number
-  pub rounds : ℕ
-  -- a fault of the plant broke a round off
-  pub broken : Bool
+-- a ring of add-drop multiplexers
+abbrev pub HeldRing : Type 0
+HeldRing = held.HeldRing Node
 
 -- a ring in which no round has run, at moment 0: each node is new
 unfoldable pub new_nodes : Settings → List ℕ → List Provisioned → ℕ → List Node
@@ -43,9 +34,7 @@ new_ring settings ids circuits = record {
 
 -- the nodes with a change at one position
 abbrev pub at_place : ℕ → (Node → Node) → List Node → List Node
-at_place p change [] = []
-at_place zero change (n ∷ ns) = change n ∷ ns
-at_place (suc p) change (n ∷ ns) = n ∷ at_place p change ns
+at_place = held.at_place
 
 -- the position of the node where a port of a circuit is, and none of the ring where there is no such circuit
 unfoldable pub place_of_port : HeldRing → PortId → ℕ

@@ -1,14 +1,13 @@
--- Laws of rounds and steps over any fibres.
-use Rattle.std.specs.Prelude.{◌≡◌, ℕ, ◌+◌, ◌-◌, ◌%◌, ◌<◌, ◌≤◌, ◌↔◌, Some, None, List, [], ◌∷◌, ◌++◌, length, take, option_map}
+-- Laws of what happens between rounds, and of clocks.
+use Rattle.std.specs.Prelude.{◌≡◌, ℕ, ◌+◌, ◌<◌, ◌≤◌, List, [], ◌∷◌, length}
 use Rattle.sdh_frame.specs.declared.Rate.{Rate}
 use Rattle.sdh_plant.specs.Fibres.{Arrival, Fibres, IsConditionAt, IsPrepared, IsHonest}
-use Rattle.sdh_plant.specs.Arrivals.{Knows, honest_arrival}
 use Rattle.sdh_ringmap.specs.declared.Side.{Side}
 use Rattle.sdh_request.specs.declared.Command.{Command}
 use Rattle.sdh_circuits.specs.Provisioning.{Provisioning}
 use Rattle.sdh_plant.specs.declared.plant.Condition.{Condition}
 use Rattle.sdh_plant.specs.Calls.{prepared, after_apply}
-use Rattle.sdh_node.specs.declared.settings.Settings.{Settings}
+use Rattle.sdh_request.specs.declared.settings.Settings.{Settings}
 use Rattle.sdh_node.specs.Receiving.{commanded_by}
 use Rattle.sdh_payload.specs.declared.clock.Turn.{Turn}
 use Rattle.sdh_circuits.specs.declared.PortId.{PortId}
@@ -20,78 +19,14 @@ use Rattle.sdh_payload.specs.Clock.{ticked}
 use Rattle.sdh_payload.specs.Laws.{clock_by}
 use Rattle.sdh_world.specs.Clocks.{HasPortIn, clock_at, waiting_at, clock_after, clock_in, offset_of, first_clock, clocks_by, happened}
 use Rattle.sdh_world.specs.Sides.{new_holding, holding_of, holding_in, world_in, Fits}
-use Rattle.sdh_world.specs.Rounds.{World, world, arrival_at, frames_with, round_with, round}
-use Rattle.sdh_world.specs.Runs.{IsRound, IsBrokenOff, run, run_with, course}
-use Rattle.sdh_world.specs.Quiet.{SettlesAt, NeverSettles, settles_in, Settles, Unsettles, BreaksOff}
-
--- ---- a round
-
--- where arrivals are known it is determined, and they stay known
-abbrev pub KnownRounds : Type 0
-KnownRounds = (w after : World) → Knows w.fibres → IsRound w after → (after ≡ round w) × Knows after.fibres
-
--- what a round leaves as it was
-pub record Keeps (w after : World) (rounds : ℕ) : Type 0 where
-  pub ring : after.ring ≡ record w.ring { nodes = after.ring.nodes; rounds = w.ring.rounds + rounds }
-  pub size : length after.ring.nodes ≡ length w.ring.nodes
-  pub conditions : after.fibres.conditions ≡ w.fibres.conditions
-  pub honest : after.fibres.honest ≡ w.fibres.honest
-  pub prepared : (rate : Rate) → IsPrepared rate (length w.ring.nodes) w.fibres → IsPrepared rate (length w.ring.nodes) after.fibres
-
--- where the plant tells what was sent, these frames were appended
-abbrev pub Appends : Fibres → List (List ℕ) → Fibres → Type 0
-Appends f frames g = g.sent ≡ option_map (λ sent. sent ++ frames) f.sent
-
-abbrev pub RoundsKeep : Type 0
-RoundsKeep = (w after : World) → (r : IsRound w after) → Keeps w after 1 × Appends w.fibres (frames_with r.arrivals w) after.fibres
-
--- a round that was broken off
-pub record FaultsKeep : Type 0 where
-  pub conditions : (w : World) (g : Fibres) → IsBrokenOff w g → g.conditions ≡ w.fibres.conditions
-  pub honest : (w : World) (g : Fibres) → IsBrokenOff w g → g.honest ≡ w.fibres.honest
-  pub sent : (w : World) (g : Fibres) → (b : IsBrokenOff w g) → Appends w.fibres (take b.out (frames_with b.arrivals w)) g
-
--- fibres that are honest stay so, over rounds and changes, and what arrives is what was sent, as their conditions let it through
-pub record StayHonest : Type 0 where
-  pub round : (w : World) (arrivals : List Arrival) → IsHonest w.fibres → IsHonest (round_with arrivals w).fibres
-  pub change : (w : World) (c : Change) → IsHonest w.fibres → IsHonest (changed c w).fibres
-  pub arrives : (f : Fibres) (p : ℕ) (d : Side) → IsHonest f → arrival_at f p d ≡ honest_arrival f p d
-
--- ---- a step
-
--- the frames of rounds with these arrivals, in order
-abbrev pub frames_in : List (List Arrival) → World → List (List ℕ)
-frames_in [] w = []
-frames_in (arrivals ∷ later) w = frames_with arrivals w ++ frames_in later (round_with arrivals w)
-
-abbrev pub RunsKeep : Type 0
-RunsKeep = (rounds : List (List Arrival)) (w : World) → Keeps w (run_with rounds w) (length rounds) × Appends w.fibres (frames_in rounds w) (run_with rounds w).fibres
-
--- a step that ended ran at least one round, and the number of the last is a multiple of 128 and not 0
-pub record EndsAtAMultiple (r left : HeldRing) (limit : ℕ) : Type 0 where
-  pub ran : r.rounds < left.rounds
-  pub most : left.rounds ≤ r.rounds + limit
-  pub multiple : (left.rounds - 1) % 128 ≡ 0
-  pub later : 128 < left.rounds
-
-abbrev pub SettledNumbers : Type 0
-SettledNumbers = (w left : World) (limit : ℕ) → 1 ≤ length w.ring.ids → Settles w limit left → EndsAtAMultiple w.ring left.ring limit
-
--- where a fault broke it off, frames were appended of all whole rounds and of the one that was broken off
-abbrev pub BrokenStepsSend : Type 0
-BrokenStepsSend = (w : World) (limit : ℕ) (g : Fibres) → (b : BreaksOff w limit g) → Appends w.fibres (frames_in b.rounds w ++ take b.off.out (frames_with b.off.arrivals (run_with b.rounds w))) g
-
--- where arrivals are known a step is determined
-pub record KnownSteps : Type 0 where
-  pub settled : (w left : World) (limit : ℕ) → Knows w.fibres → Settles w limit left → (k : ℕ) × SettlesAt (course w) limit k × (left ≡ run k w)
-  pub unsettled : (w left : World) (limit : ℕ) → Knows w.fibres → Unsettles w limit left → NeverSettles (course w) limit × (left ≡ run limit w)
-
--- and its number of rounds can be computed
-pub record StepsAreComputed : Type 0 where
-  pub settled : (w : World) (limit k : ℕ) → (settles_in w limit ≡ Some k) ↔ SettlesAt (course w) limit k
-  pub unsettled : (w : World) (limit : ℕ) → (settles_in w limit ≡ None) ↔ NeverSettles (course w) limit
+use Rattle.sdh_world.specs.Rounds.{World, world, round_with}
+use Rattle.sdh_world.specs.Runs.{run_with}
 
 -- ---- between rounds
+
+-- changes leave honest fibres honest
+abbrev pub ChangesKeepHonest : Type 0
+ChangesKeepHonest = (w : World) (c : Change) → IsHonest w.fibres → IsHonest (changed c w).fibres
 
 -- what the calls do is a change
 pub record CallsChange : Type 0 where

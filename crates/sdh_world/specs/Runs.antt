@@ -1,60 +1,46 @@
 -- Rounds one after the other, over any fibres.
-use Rattle.std.specs.Prelude.{◌≡◌, ℕ, zero, suc, ◌*◌, ◌<◌, ◌≤◌, List, [], ◌∷◌, length, take}
+use Rattle.std.specs.Prelude.{ℕ, List}
 use Rattle.sdh_plant.specs.Fibres.{Arrival, Fibres}
-use Rattle.sdh_plant.specs.Arrivals.{Knows}
-use Rattle.sdh_world.specs.Rounds.{World, receivers, arrivals_of, after_given, sent_some, frames_with, round_with, round}
+use Rattle.sdh_node.specs.Stations.{adm}
+use Rattle.sdh_rounds.specs.Runs as runs
+use Rattle.sdh_world.specs.Rounds.{World}
 
 -- ---- one round
 
--- these may arrive in the next round: two for each node that receives, and those of the fibres where they are known
-pub record Arrive (w : World) (arrivals : List Arrival) : Type 0 where
-  pub count : length arrivals ≡ 2 * receivers w
-  pub known : Knows w.fibres → arrivals ≡ arrivals_of w
+-- these may arrive in the next round
+abbrev pub Arrive : World → List Arrival → Type 0
+Arrive = runs.Arrive
 
 -- a round, whatever arrives in it
-pub record IsRound (w after : World) : Type 0 where
-  pub arrivals : List Arrival
-  pub arrive : Arrive w arrivals
-  pub after_is : after ≡ round_with arrivals w
+abbrev pub IsRound : World → World → Type 0
+IsRound = runs.IsRound adm
 
--- the fibres after a round that a fault broke off: of its arrivals the first were taken, and of its frames the first were
--- sent but not all; none before all arrivals were taken
-pub record IsBrokenOff (w : World) (after : Fibres) : Type 0 where
-  pub arrivals : List Arrival
-  pub arrive : Arrive w arrivals
-  pub given : ℕ
-  pub most : given ≤ length arrivals
-  pub out : ℕ
-  pub not_all : out < 2 * length w.ring.ids
-  pub order : 0 < out → given ≡ length arrivals
-  pub after_is : after ≡ sent_some (take out (frames_with arrivals w)) (after_given given w.fibres)
+-- the fibres after a round that a fault broke off
+abbrev pub IsBrokenOff : World → Fibres → Type 0
+IsBrokenOff = runs.IsBrokenOff adm
 
 -- ---- a run
 
 -- the world after k more rounds, where arrivals are known
-unfoldable pub run : ℕ → World → World
-run zero w = w
-run (suc k) w = round (run k w)
+abbrev pub run : ℕ → World → World
+run = runs.run adm
 
 -- the arrivals of these rounds
-unfoldable pub arrivals_in : ℕ → World → List (List Arrival)
-arrivals_in zero w = []
-arrivals_in (suc k) w = arrivals_of w ∷ arrivals_in k (round w)
+abbrev pub arrivals_in : ℕ → World → List (List Arrival)
+arrivals_in = runs.arrivals_in adm
 
 -- the world after a round with each of these lists of arrivals
 abbrev pub run_with : List (List Arrival) → World → World
-run_with [] w = w
-run_with (arrivals ∷ later) w = run_with later (round_with arrivals w)
+run_with = runs.run_with adm
 
 -- they may arrive in so many rounds
 abbrev pub ArriveIn : List (List Arrival) → World → Type 0
-ArriveIn [] w = Unit {0}
-ArriveIn (arrivals ∷ later) w = Arrive w arrivals × ArriveIn later (round_with arrivals w)
+ArriveIn = runs.ArriveIn adm
 
 -- the course of such a run: the world after each number of rounds
 abbrev pub course_with : List (List Arrival) → World → ℕ → World
-course_with rounds w j = run_with (take j rounds) w
+course_with = runs.course_with adm
 
 -- the course where arrivals are known
 abbrev pub course : World → ℕ → World
-course w j = run j w
+course = runs.course adm

@@ -1,5 +1,5 @@
 use Rattle.std.proofs.Common.{arith}
-use Rattle.sdh_ring.proofs.Nodes.{placed_at}
+use Rattle.sdh_rounds.proofs.Nodes.{placed_at}
 use Rattle.sdh_ring.proofs.ring.hold_at.Goals as goal
 
 pub returns : goal.returns

@@ -1,7 +1,8 @@
 use Rattle.std.proofs.Common.{◌+◌, ◌≤◌, subst, arith}
 use Rattle.sdh_terminal.specs.Tributaries.{HasPort, waiting_of}
 use Rattle.sdh_node.specs.Node.{Node}
-use Rattle.sdh_ring.proofs.Nodes.{placed_at, node_same}
+use Rattle.sdh_rounds.proofs.Nodes.{placed_at}
+use Rattle.sdh_ring.proofs.Nodes.{node_same}
 use Rattle.sdh_ring.proofs.ring.slip_at.Goals as goal
 
 pub slip-requires-clause-there : goal.slip-requires-clause-there

@@ -1,13 +1,15 @@
-use Rattle.std.proofs.Common.{◌+◌, refl, arith, rules}
+use Rattle.std.proofs.Common.{◌≡◌, ◌+◌, refl, subst, arith, rules}
 use Rattle.std.proofs.lemmas.Bool.{false≢true}
 use Rattle.sdh_world.specs.Rounds.{world}
-use Rattle.sdh_ring.proofs.Settling.{goes_none, went_more, settles, goes_on, counts_on, held_went, held_none, less_counted, prepared_back, breaks_step, unsettles, none_left}
+use Rattle.sdh_node.specs.Stations.{adm}
+use Rattle.sdh_rounds.proofs.Settling.{GoesOn, goes_none, went_more, settles, goes_on, counts_on, held_went, held_none, less_counted, prepared_back, unsettles}
+use Rattle.sdh_ring.proofs.Settling.{breaks_step, none_left}
 use Rattle.sdh_ring.proofs.Breaking.{went_by}
 use Rattle.sdh_ring.proofs.ring.Ring.settle.Goals as goal
 
 pub rounds-init : goal.rounds-init
 rounds-init g c = record {
-  on = goes_none _ (let enough = c.requires.prepared.enough in omega arith);
+  on = goes_none adm _ (let enough = c.requires.prepared.enough in omega arith);
   held = held_none c.args.self.now;
   prepared = c.requires.prepared;
   small = omega arith;
@@ -19,10 +21,10 @@ pub rounds-preserved : goal.rounds-preserved
 rounds-preserved g c =
     let inv = c.rounds.invariant in
     let from = c.args.self.now in
-    let went = went_more _ _ _ c.rounds._turn c.rounds.calm c.calm_rounds-calm.result inv.on c.in_ok-round.ensures.ok c.calm_rounds-calm.ensures in
+    let went = went_more adm _ _ _ c.rounds._turn c.rounds.calm c.calm_rounds-calm.result inv.on c.in_ok-round.ensures.ok c.calm_rounds-calm.ensures in
     record {
-      on = goes_on _ _ c.rounds._turn c.calm_rounds-calm.result went (λ w. false≢true (c.if-is_over.ensures.1 w));
-      held = held_went _ _ (c.rounds._turn + 1) c.calm_rounds-calm.result went;
+      on = goes_on adm _ _ c.rounds._turn c.calm_rounds-calm.result went (λ w. false≢true (c.if-is_over.ensures.1 w));
+      held = held_went adm _ _ (c.rounds._turn + 1) c.calm_rounds-calm.result went;
       prepared = prepared_back from c.rounds.self _ _ _ inv.held c.in_ok-round.ensures.prepared;
       small = less_counted _ _ _ _ c.calm_rounds-calm.ensures inv.small;
       later = omega (arith, c.round.ensures.later);
@@ -31,13 +33,13 @@ rounds-preserved g c =
 
 pub is_over-requires : goal.is_over-requires
 is_over-requires g c =
-    let held = counts_on (world c.rounds.self (g.P.Plant.fibres c.rounds.plant)) _ c.in_ok-round.ensures.ok in
+    let held = counts_on adm (world c.rounds.self (g.P.Plant.fibres c.rounds.plant)) _ c.in_ok-round.ensures.ok in
     omega arith
 
 pub returns-then-is_over-clause-outcome : goal.returns-then-is_over-clause-outcome
 returns-then-is_over-clause-outcome g c =
-    let went = went_more _ _ _ c.rounds._turn c.rounds.calm c.calm_rounds-calm.result c.rounds.invariant.on c.in_ok-round.ensures.ok c.calm_rounds-calm.ensures in
-    settles _ _ c.args.limit (c.rounds._turn + 1) c.calm_rounds-calm.result went (omega arith) (c.is_over.ensures.0 c.if-is_over.true)
+    let went = went_more adm _ _ _ c.rounds._turn c.rounds.calm c.calm_rounds-calm.result c.rounds.invariant.on c.in_ok-round.ensures.ok c.calm_rounds-calm.ensures in
+    settles adm _ _ c.args.limit (c.rounds._turn + 1) c.calm_rounds-calm.result went (omega arith) (c.is_over.ensures.0 c.if-is_over.true)
 
 pub returns-then-is_over-clause-restored : goal.returns-then-is_over-clause-restored
 returns-then-is_over-clause-restored g c = c.settled_rings_are_restored.ensures _ _ c.args.limit c.has_circuits.ensures (returns-then-is_over-clause-outcome g c)
@@ -59,7 +61,11 @@ pub returns-in_err-round-clause-broken_clocks : goal.returns-in_err-round-clause
 returns-in_err-round-clause-broken_clocks g c = λ _. breaks_step _ _ _ c.args.limit c.rounds._turn c.rounds.calm c.rounds.invariant.on (omega arith) c.in_err-round.ensures.clocks
 
 pub returns-clause-outcome : goal.returns-clause-outcome
-returns-clause-outcome g c = search (rules, unsettles)
+returns-clause-outcome g c =
+    let w = world c.args.self.now (g.P.Plant.fibres c.args.plant.now) in
+    let now = world c.rounds.self (g.P.Plant.fibres c.rounds.plant) in
+    let all : c.rounds._turn ≡ c.args.limit = omega arith in
+    unsettles adm w now c.args.limit c.rounds.calm (subst (λ k. GoesOn adm w now k c.rounds.calm) all c.rounds.invariant.on)
 
 pub returns-clause-clocks : goal.returns-clause-clocks
 returns-clause-clocks g c = λ _ port there. (let unsettled = returns-clause-outcome g c in went_by unsettled.rounds _ (world c.rounds.self (g.P.Plant.fibres c.rounds.plant)) port unsettled.left_is there)

@@ -1,0 +1,11 @@
+pub mod Arrived
+pub mod Nodes
+pub mod Windows
+pub mod FirstWindows
+pub mod Runs
+pub mod Laws
+pub mod Honest
+pub mod Receives
+pub mod Sends
+pub mod Rings
+pub mod Settling

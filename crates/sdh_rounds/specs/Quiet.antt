@@ -1,0 +1,82 @@
+-- Quiet windows, and where a settle step ends. This project's own.
+use Rattle.std.specs.Prelude.{ℕ, ◌≡◌, ◌+◌, ◌*◌, ◌-◌, ◌%◌, ◌==◌, ◌&&◌, ◌<◌, ◌≤◌, suc, zero, Bool, true, nat_le, Option, Some, None, List, length, if◌then◌else◌}
+use Rattle.std.specs.List.{list_all}
+use Rattle.sdh_plant.specs.Fibres.{Arrival, Fibres}
+use Rattle.sdh_rounds.specs.Stations.{Station}
+use Rattle.sdh_rounds.specs.Held.{World}
+use Rattle.sdh_rounds.specs.Runs.{run_with, ArriveIn, course_with, course, IsBrokenOff}
+
+-- the last round was calm at each node
+abbrev pub is_calm : {N : Type 0} → Station N → List N → Bool
+is_calm s ns = list_all s.calm ns
+
+-- ---- windows in a course, which gives the world after each number of rounds of a step
+
+-- the k-th round, counted from 1, is calm
+abbrev pub IsCalm : {N : Type 0} → Station N → (ℕ → World N) → ℕ → Type 0
+IsCalm s at k = is_calm s (at k).ring.nodes ≡ true
+
+-- a quiet window ends with the k-th round: it is the last of 3 n calm rounds of the step, and its number is a multiple of 128
+pub record EndsWindow {N : Type 0} (s : Station N) (at : ℕ → World N) (k : ℕ) : Type 0 where
+  pub long : 3 * length (at k).ring.ids ≤ k
+  pub calm : (j : ℕ) → k < j + 3 * length (at k).ring.ids → j ≤ k → IsCalm s at j
+  pub place : ((at k).ring.rounds - 1) % 128 ≡ 0
+
+-- the step ends with its k-th round, which is the first to end a window
+pub record SettlesAt {N : Type 0} (s : Station N) (at : ℕ → World N) (limit k : ℕ) : Type 0 where
+  pub within : k ≤ limit
+  pub window : EndsWindow s at k
+  pub first : (j : ℕ) → j < k → EndsWindow s at j → ⊥
+
+-- no window ends in so many rounds
+abbrev pub NeverSettles : {N : Type 0} → Station N → (ℕ → World N) → ℕ → Type 0
+NeverSettles s at limit = (j : ℕ) → j ≤ limit → EndsWindow s at j → ⊥
+
+-- ---- the same, computed
+
+-- how many calm rounds the k-th round ends
+unfoldable pub streak : {N : Type 0} → Station N → (ℕ → World N) → ℕ → ℕ
+streak s at zero = 0
+streak s at (suc k) = if is_calm s (at (suc k)).ring.nodes then streak s at k + 1 else 0
+
+-- whether a window ends with the k-th round
+unfoldable pub ends_window : {N : Type 0} → Station N → (ℕ → World N) → ℕ → Bool
+ends_window s at k = nat_le (3 * length (at k).ring.ids) (streak s at k) && (((at k).ring.rounds - 1) % 128 == 0)
+
+abbrev pub or_now : ℕ → Bool → Option ℕ → Option ℕ
+or_now k ends (Some j) = Some j
+or_now k ends None = if ends then Some k else None
+
+-- the first number of rounds within the limit that ends a window
+abbrev pub first_window : {N : Type 0} → Station N → (ℕ → World N) → ℕ → Option ℕ
+first_window s at zero = if ends_window s at zero then Some zero else None
+first_window s at (suc k) = or_now (suc k) (ends_window s at (suc k)) (first_window s at k)
+
+-- in how many rounds a step from w ends, where arrivals are known
+abbrev pub settles_in : {N : Type 0} → Station N → World N → ℕ → Option ℕ
+settles_in s w limit = first_window s (course s w) limit
+
+-- ---- what a step leaves, whatever arrives
+
+-- it ended with a window
+pub record Settles {N : Type 0} (s : Station N) (w : World N) (limit : ℕ) (left : World N) : Type 0 where
+  pub rounds : List (List Arrival)
+  pub arrive : ArriveIn s rounds w
+  pub settles : SettlesAt s (course_with s rounds w) limit (length rounds)
+  pub left_is : left ≡ run_with s rounds w
+
+-- as many rounds ran as it might run, and none ended a window
+pub record Unsettles {N : Type 0} (s : Station N) (w : World N) (limit : ℕ) (left : World N) : Type 0 where
+  pub rounds : List (List Arrival)
+  pub arrive : ArriveIn s rounds w
+  pub all : length rounds ≡ limit
+  pub never : NeverSettles s (course_with s rounds w) limit
+  pub left_is : left ≡ run_with s rounds w
+
+-- a fault broke a round off, before any ended a window
+pub record BreaksOff {N : Type 0} (s : Station N) (w : World N) (limit : ℕ) (left : Fibres) : Type 0 where
+  pub rounds : List (List Arrival)
+  pub arrive : ArriveIn s rounds w
+  pub within : length rounds < limit
+  pub never : NeverSettles s (course_with s rounds w) (length rounds)
+  pub off : IsBrokenOff s (run_with s rounds w) left

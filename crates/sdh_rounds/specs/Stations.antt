@@ -1,0 +1,14 @@
+-- What a round asks of a node, whatever kind of node it is.
+use Rattle.std.specs.Prelude.{ℕ, List, Bool}
+use Rattle.sdh_ringmap.specs.declared.Side.{Side}
+use Rattle.sdh_plant.specs.Fibres.{Arrival}
+
+pub record Station (N : Type 0) : Type 0 where
+  -- the node with what arrived on a side, in place of what arrived there before
+  pub told : Side → Arrival → N → N
+  -- the node after its round at a moment
+  pub after : ℕ → N → N
+  -- the bytes of the frame that it sends on a side in that round
+  pub sends : ℕ → Side → N → List ℕ
+  -- its last round was calm: nothing that is compared changed
+  pub calm : N → Bool

@@ -1,0 +1,64 @@
+//! Rounds of a ring over its fibres, whatever kind its nodes are of: what a round asks of a node is the trait `Station`, a round is
+//! in `specs/Rounds.antt`, a run whatever arrives in `specs/Runs.antt`, and where a settle step ends in `specs/Quiet.antt`. What has no work to do here is a law.
+#![tactic(auto)]
+
+ghost use Rattle.sdh_rounds.specs.Laws.{KnownRounds, RoundsKeep, FaultsKeep, HonestRounds, RunsKeep, SettledNumbers, BrokenStepsSend, KnownSteps, StepsAreComputed};
+
+mod faults;
+mod receiving;
+mod sending;
+mod station;
+
+pub use faults::{PlantFault, SettleError};
+pub use receiving::hear;
+pub use sending::send_all;
+pub use station::{Station, all_calm};
+
+/// Where arrivals are known a round is determined.
+pub fn known_rounds_are<S: Station>()
+    ensures { KnownRounds S.kind }
+{}
+
+/// What a round keeps, and the frames that it appends.
+pub fn rounds_keep<S: Station>()
+    ensures { RoundsKeep S.kind }
+{}
+
+/// What a round keeps that a fault broke off, and the frames that it appends.
+#[tactic(auto, using(crate::proofs::Laws::faults_keep))]
+pub fn faults_keep<S: Station>()
+    ensures { FaultsKeep S.kind }
+{}
+
+/// Honest fibres stay honest, and what arrives is what was sent.
+#[tactic(auto, using(crate::proofs::Honest::honest_rounds))]
+pub fn honest_fibres_stay_honest<S: Station>()
+    ensures { HonestRounds S.kind }
+{}
+
+/// What rounds one after the other keep, and the frames that they append.
+pub fn runs_keep<S: Station>()
+    ensures { RunsKeep S.kind }
+{}
+
+/// A step that ends with a window ends with a round whose number is a multiple of 128 and not 0.
+pub fn settled_numbers<S: Station>()
+    ensures { SettledNumbers S.kind }
+{}
+
+/// A step that a fault broke off has sent all frames of its whole rounds and the first of the next one.
+pub fn broken_steps_send<S: Station>()
+    ensures { BrokenStepsSend S.kind }
+{}
+
+/// Where arrivals are known a step is determined.
+#[tactic(auto, using(crate::proofs::Laws::known_steps))]
+pub fn known_steps<S: Station>()
+    ensures { KnownSteps S.kind }
+{}
+
+/// And its number of rounds can be computed.
+#[tactic(auto, using(crate::proofs::Laws::steps_are_computed))]
+pub fn steps_are_computed<S: Station>()
+    ensures { StepsAreComputed S.kind }
+{}

@@ -1,0 +1,99 @@
+//! All receives of a round.
+ghost use Rattle.std.specs.Prelude.{◌≡◌, ◌⊎◌, ◌<◌, ◌≤◌, OnOk, OnErr, All, length};
+ghost use Rattle.sdh_basics.specs.Causes.{HasCause};
+ghost use Rattle.sdh_ringmap.specs.declared.Side.TheVariants.{West};
+ghost use Rattle.sdh_plant.specs.Fibres.{IsPrepared};
+ghost use Rattle.sdh_plant.specs.Calls.{after_receive};
+ghost use Rattle.sdh_rounds.specs.Rounds.{receivers_in};
+ghost use Rattle.sdh_rounds.specs.Calls.{ReceivesOne, ReceivesBoth, FirstReceive, SomeReceive};
+
+use crate::faults::PlantFault;
+use crate::station::Station;
+use sdh_overhead::Landed;
+use sdh_plant::Plant;
+use sdh_ringmap::{Pos, Side};
+
+// One receive of a node.
+fn receive_one<S: Station, P: Plant>(
+    node: &mut S,
+    at: Pos,
+    side: Side,
+    inbox: &mut Landed,
+    plant: &mut P,
+) -> Result<(), PlantFault>
+    requires at { at.0 < (P.fibres plant.old).nodes }
+    requires rate { inbox.old.rate ≡ (P.fibres plant.old).rate }
+    requires node { S.rate node.old ≡ inbox.old.rate }
+    ensures fibres { OnOk result (P.fibres plant.new ≡ after_receive (P.fibres plant.old)) }
+    ensures kept { OnErr result (P.fibres plant.new ≡ P.fibres plant.old) }
+    ensures node { OnOk result (ReceivesOne S.kind (P.fibres plant.old) at.0 side node.old node.new) }
+    ensures same { OnErr result (node.new ≡ node.old) }
+    ensures same_rate { S.rate node.new ≡ S.rate node.old }
+    ensures rate { inbox.new.rate ≡ inbox.old.rate }
+    ensures cause { HasCause P.exact (P.faults plant.old) (P.faults plant.new) result }
+{
+    let arrived = plant.receive(at, side, inbox)?;
+    node.exchange(side, arrived, inbox);
+    Ok(())
+}
+
+// Both receives of a node, west before east.
+fn receive_both<S: Station, P: Plant>(
+    node: &mut S,
+    at: Pos,
+    inbox: &mut Landed,
+    plant: &mut P,
+) -> Result<(), PlantFault>
+    requires at { at.0 < (P.fibres plant.old).nodes }
+    requires rate { inbox.old.rate ≡ (P.fibres plant.old).rate }
+    requires node { S.rate node.old ≡ inbox.old.rate }
+    ensures fibres { OnOk result (P.fibres plant.new ≡ after_receive (after_receive (P.fibres plant.old))) }
+    ensures node { OnOk result (ReceivesBoth S.kind (P.fibres plant.old) at.0 node.old node.new) }
+    ensures kept { OnErr result (((P.fibres plant.new ≡ P.fibres plant.old) × (node.new ≡ node.old)) ⊎ ((P.fibres plant.new ≡ after_receive (P.fibres plant.old)) × ReceivesOne S.kind (P.fibres plant.old) at.0 West node.old node.new)) }
+    ensures rate { inbox.new.rate ≡ inbox.old.rate }
+    ensures cause { HasCause P.exact (P.faults plant.old) (P.faults plant.new) result }
+{
+    receive_one(node, at, Side::West, inbox, plant)?;
+    receive_one(node, at, Side::East, inbox, plant)
+}
+
+// All receives, by position.
+fn receive_all<S: Station, P: Plant>(
+    nodes: &mut Vec<S>,
+    inbox: &mut Landed,
+    plant: &mut P,
+) -> Result<(), PlantFault>
+    requires prepared { IsPrepared inbox.old.rate (length nodes.old.items) (P.fibres plant.old) }
+    requires nodes { All (λ n. S.rate n ≡ inbox.old.rate) nodes.old.items }
+    ensures ok { OnOk result (FirstReceive S.kind (length nodes.old.items) (P.fibres plant.old) (P.fibres plant.new) nodes.old.items nodes.new.items) }
+    ensures err { OnErr result (SomeReceive S.kind (length nodes.old.items) (P.fibres plant.old) (P.fibres plant.new) nodes.old.items nodes.new.items) }
+    ensures rate { inbox.new.rate ≡ inbox.old.rate }
+    ensures cause { HasCause P.exact (P.faults plant.old) (P.faults plant.new) result }
+{
+    'receives: for i in 0..nodes.len() {
+        let node = &mut nodes[i];
+        receive_both(node, Pos(i as u8), inbox, plant)?;
+    }
+    Ok(())
+}
+
+/// The receives of a round by position, west before east; in round 0 there are none.
+#[tactic(auto, unfolding(crate::specs::Rounds::receivers_in))]
+pub fn hear<S: Station, P: Plant>(
+    rounds: u64,
+    nodes: &mut Vec<S>,
+    inbox: &mut Landed,
+    plant: &mut P,
+) -> Result<(), PlantFault>
+    requires prepared { IsPrepared inbox.old.rate (length nodes.old.items) (P.fibres plant.old) }
+    requires nodes { All (λ n. S.rate n ≡ inbox.old.rate) nodes.old.items }
+    ensures ok { OnOk result (FirstReceive S.kind (receivers_in rounds (length nodes.old.items)) (P.fibres plant.old) (P.fibres plant.new) nodes.old.items nodes.new.items) }
+    ensures err { OnErr result (SomeReceive S.kind (receivers_in rounds (length nodes.old.items)) (P.fibres plant.old) (P.fibres plant.new) nodes.old.items nodes.new.items) }
+    ensures rate { inbox.new.rate ≡ inbox.old.rate }
+    ensures cause { HasCause P.exact (P.faults plant.old) (P.faults plant.new) result }
+{
+    if rounds == 0 {
+        return Ok(());
+    }
+    receive_all(nodes, inbox, plant)
+}

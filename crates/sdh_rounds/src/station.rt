@@ -1,0 +1,55 @@
+//! What a round asks of a node.
+ghost use Rattle.std.specs.Prelude.{◌≡◌, ◌≢◌, ℕ, None};
+ghost use Rattle.sdh_frame.specs.declared.Rate.{Rate};
+ghost use Rattle.sdh_ringmap.specs.declared.Side.TheVariants.{West, East};
+ghost use Rattle.sdh_plant.specs.Arrivals.{arrived_in};
+ghost use Rattle.sdh_rounds.specs.Stations.{Station as Kind};
+ghost use Rattle.sdh_rounds.specs.Quiet.{is_calm};
+
+use sdh_frame::FrameBuf;
+use sdh_overhead::Landed;
+use sdh_plant::Arrived;
+use sdh_request::Moment;
+use sdh_ringmap::Side;
+
+/// A node that runs in rounds: it takes in what arrived on both its sides, and then sends a frame on each.
+pub trait Station {
+    /// What it does, as definitions tell it.
+    ghost kind: { Kind Self };
+
+    /// The rate of its frames.
+    ghost rate: { Self → Rate };
+
+    /// It may run a round at a moment.
+    ghost MayRun: { ℕ → Self → Type 0 };
+
+    /// Keeps what arrived on a side for its next round, in place of what arrived there since the last one. What landed is taken in
+    /// exchange for another buffer of the same rate.
+    fn exchange(&mut self, side: Side, arrived: Arrived, inbox: &mut Landed)
+        requires rate { inbox.old.rate ≡ rate self.old }
+        requires here { arrived ≡ Arrived.Frame → inbox.old.landed ≢ None }
+        ensures node { self.new ≡ kind.told side (arrived_in arrived inbox.old.landed) self.old }
+        ensures same_rate { rate self.new ≡ rate self.old }
+        ensures rate { inbox.new.rate ≡ inbox.old.rate };
+
+    /// Runs a round at a moment, and gives the frames that it sends on both sides.
+    fn send(&mut self, now: Moment, west: &mut FrameBuf, east: &mut FrameBuf)
+        requires west { west.old.rate ≡ rate self.old }
+        requires east { east.old.rate ≡ rate self.old }
+        requires may { MayRun now.0 self.old }
+        ensures node { self.new ≡ kind.after now.0 self.old }
+        ensures west { west.new.bytes ≡ kind.sends now.0 West self.old }
+        ensures east { east.new.bytes ≡ kind.sends now.0 East self.old }
+        ensures rates { (west.new.rate ≡ west.old.rate) × (east.new.rate ≡ east.old.rate) };
+
+    /// Whether its last round was calm: nothing that is compared changed.
+    fn calm(&self) -> bool
+        ensures { result ≡ kind.calm self.now };
+}
+
+/// Whether the last round was calm at each of these nodes.
+pub fn all_calm<S: Station>(nodes: &[S]) -> bool
+    ensures { result ≡ is_calm S.kind nodes.now }
+{
+    nodes.iter().all(|node| node.calm())
+}
