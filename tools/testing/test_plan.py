@@ -138,7 +138,7 @@ class Schema(unittest.TestCase):
 
 class Index(unittest.TestCase):
     def test_reasons_are_told_in_the_order_of_their_numbers(self):
-        rows = table_of("Reason | Place | Name | Fails where")
+        rows = table_of("Reason | Place | Name | In the list of")
         self.assertEqual([int(row[0]) for row in rows], list(REASONS))
         self.assertEqual([row[2] for row in rows], [reason.name for reason in REASONS.values()])
 
