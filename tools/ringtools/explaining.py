@@ -263,16 +263,16 @@ def explain(data):
 
 
 def of_unsettled(explanation, step):
-    """Which settle step ran out of rounds, and the limit that is enough."""
+    """That a settle step ran out of rounds, and the limit that is enough. Without its number the limit is shown."""
     document, source = explanation.document, explanation.source
     places = [at for at, text in enumerate(document["script"]) if text == "settle"]
     bound, limit = enough(document["nodes"]), document["limit"]
-    head = f"unsettled {step}: settle step {step} ran all {limit} rounds of the limit without a quiet window"
+    head = f"unsettled{f' {step}' if step else ''}: a settle step ran all {limit} rounds of the limit without a quiet window"
     note = f"what to do: write limit = {bound}, 64 for each node and 512 more, which is always enough"
     if limit >= bound:
         note = f"a limit of {bound} is always enough over honest fibres: this text isn't of this plan"
-    where = source.of(("script", places[step - 1])) if step <= len(places) else None
-    return Finding(head, where, (note,))
+    is_there = step and step <= len(places)
+    return Finding(head, source.of(("script", places[step - 1]) if is_there else ("limit",)), (note,))
 
 
 def of_no_port(explanation):
@@ -282,8 +282,8 @@ def of_no_port(explanation):
 
 def of_last_line(explanation, last):
     """What the last line of the program's text says beyond the plan itself."""
-    if explanation.status == 0 and (found := re.fullmatch("unsettled ([1-9][0-9]{0,2})", last)):
-        return of_unsettled(explanation, int(found[1]))
+    if explanation.status == 0 and (found := re.fullmatch("unsettled( [1-9][0-9]{0,2})?", last)):
+        return of_unsettled(explanation, int(found[1] or 0))
     if explanation.status == 0 and last == "no such port":
         return of_no_port(explanation)
     if explanation.status == 0 and re.fullmatch("bad plan .*|not toml|too long", last):

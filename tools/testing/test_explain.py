@@ -175,7 +175,8 @@ class Good(unittest.TestCase):
         self.assertEqual(ended.returncode, 7)
         self.assertIn(b":6:11: unsettled 1:", ended.stdout)
         self.assertIn(b"write limit = 704", ended.stdout)
-        ended = call("explain", RINGS / "healthy.toml", "--last", "unsettled 1")
+        self.assertIn(b":5:9: unsettled: ", call("explain", RINGS / "limit-too-small.toml", "--status", "7").stdout)
+        ended = call("explain", RINGS / "healthy.toml", RINGS / "limit-too-small.text")
         self.assertIn(b"isn't of this plan", ended.stdout)
 
     def test_a_port_that_is_not_there(self):
