@@ -35,7 +35,7 @@ def said_of(text):
 class Refusals(unittest.TestCase):
     def test_beside_a_second_reading(self):
         """Each answer of changed plans, reason and place, but where Python's reader stops at what is TOML 1.1."""
-        seen, stopped, count = set(), 0, 3000
+        seen, stopped, count = set(), 0, 2000
         for seed in range(count):
             document = mutate.document(seed)
             told, wanted = explain(document), plans.answer(document)

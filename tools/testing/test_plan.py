@@ -114,7 +114,7 @@ class Schema(unittest.TestCase):
 
     def test_good_plans_fit_and_refused_ones_don_t(self):
         good, bad = 0, set()
-        for seed in range(3000):
+        for seed in range(1500):
             data = mutate.document(50_000 + seed)
             told = explain(data)
             if told.status not in (0, 6):

@@ -1,5 +1,6 @@
 """Worked rows: what differs is told, and the table names all that is there."""
 
+import json
 import os
 import sys
 import tempfile
@@ -10,18 +11,13 @@ from common import RINGS, call
 
 from ringtools.rows import RowsProblem, changed, read_rows
 
-# Answers each row by its table, but for one that it answers with another text, and one with another status.
-PROGRAM = """#!{python}
-import sys
-sys.path.insert(0, {tools!r})
-from ringtools.rows import read_rows
-given, words = sys.stdin.buffer.read(), tuple(sys.argv[1:])
-row = next(row for row in read_rows() if (row.given, row.words) == (given, words))
-text, status = row.text, row.status
-if row.name == {text!r}:
-    text = text.replace(b"norm 0", b"norm 1")
-sys.stdout.buffer.write(text)
-sys.exit(0 if row.name == {status!r} else status)
+# Answers each row by what stands in a file beside it.
+PROGRAM = """#!{python} -IS
+import json, sys
+given = repr((sys.argv[1:], sys.stdin.buffer.read()))
+status, text = json.load(open({answers!r}))[given]
+sys.stdout.write(text)
+sys.exit(status)
 """
 
 
@@ -32,8 +28,14 @@ class Rows(unittest.TestCase):
         self.folder = Path(folder.name)
 
     def program(self, text="", status=""):
-        file = self.folder / "program"
-        file.write_text(PROGRAM.format(python=sys.executable, tools=str(RINGS.parents[1]), text=text, status=status))
+        """Answers each row by its table, but for one with another text, and one with another status."""
+        answers = {}
+        for row in read_rows():
+            told = row.text.decode().replace("norm 0", "norm 1") if row.name == text else row.text.decode()
+            answers[repr((list(row.words), row.given))] = 0 if row.name == status else row.status, told
+        file, beside = self.folder / "program", self.folder / "answers"
+        beside.write_text(json.dumps(answers))
+        file.write_text(PROGRAM.format(python=sys.executable, answers=str(beside)))
         os.chmod(file, 0o755)
         return file
 
@@ -43,7 +45,7 @@ class Rows(unittest.TestCase):
         self.assertIn(f"{len(read_rows())} passed, 0 failed".encode(), ended.stdout)
 
     def test_what_differs_is_named(self):
-        ended = call("rows", self.program(text="span-cut", status="too-long"))
+        ended = call("rows", self.program(text="span-cut", status="too-long"), "healthy", "span-cut", "too-long", "tie")
         said = ended.stdout.decode()
         self.assertEqual(ended.returncode, 1)
         self.assertIn("span-cut: run\n", said)
