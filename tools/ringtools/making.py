@@ -53,9 +53,10 @@ def read_steps(words):
 
 
 def text_of(name, end):
-    """A text that no other port sends, of a length that shows delays."""
-    text = f"{name} {end}"
-    return text.ljust(next(length for length in LENGTHS if length >= len(text)), ".")
+    """The name and the end, over and over, to a length that shows delays; no other port sends it."""
+    text = f"{name} {end} "
+    length = next(length for length in LENGTHS if length >= len(text) - 1)
+    return (text * length)[:length]
 
 
 def slots_of(asked):
