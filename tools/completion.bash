@@ -28,8 +28,8 @@ _sdhring_tools() {
     explain) words='--first --status --name --help' ;;
     report) words='--json --csv --nodes --plan --help' ;;
     plan) words='new --nodes --rate --steps --to --help' ;;
-    ringview) words='--svg --help' ;;
-    whatif) words='--also --dir --program --jobs --shard --sshlogin --parallel --anew --help' ;;
+    ringview) words='--svg --program --help' ;;
+    whatif) words='--also --works --kinds --dir --program --jobs --shard --sshlogin --parallel --anew --help' ;;
   esac
   mapfile -t COMPREPLY < <(compgen -W "$words" -- "$word")
   [ "${#COMPREPLY[@]}" -ne 0 ] || compopt -o default

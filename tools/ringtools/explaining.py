@@ -7,7 +7,7 @@ from difflib import get_close_matches
 from math import isinf
 
 from .checks import arc_of, refusals
-from .plan import PlanProblem, read_document
+from .plan import PlanProblem, enough, read_document
 from .reasons import REASONS
 from .source import Place, Source
 from .stream import TEXT_BYTES
@@ -42,11 +42,6 @@ def shown(place, width=100):
     part = place.whole[begin : begin + width].replace("\t", " ")
     marks = "^" * max(1, min(place.width, width - (place.column - 1 - begin)))
     return ["    " + part, "    " + " " * (place.column - 1 - begin) + marks]
-
-
-def enough(nodes):
-    """The limit with which a settle step always answers."""
-    return 64 * len(nodes) + 512
 
 
 def nearest(word, right):
@@ -217,9 +212,9 @@ def text_warnings(document, source):
 
 def warnings(document, source):
     nodes, circuits = document["nodes"], document.get("circuit", [])
-    if document["limit"] < enough(nodes):
-        head = f"warning: with a limit below {enough(nodes)} a settle step may be unsettled"
-        yield Finding(head, source.of(("limit",)), (f"what to do: write limit = {enough(nodes)}",))
+    if document["limit"] < enough(len(nodes)):
+        head = f"warning: with a limit below {enough(len(nodes))} a settle step may be unsettled"
+        yield Finding(head, source.of(("limit",)), (f"what to do: write limit = {enough(len(nodes))}",))
     ends = {table[key] for table in circuits for key in ("from", "to")}
     bare = [node for node in nodes if node not in ends]
     if bare and circuits:
@@ -266,7 +261,7 @@ def of_unsettled(explanation, step):
     """That a settle step ran out of rounds, and the limit that is enough. Without its number the limit is shown."""
     document, source = explanation.document, explanation.source
     places = [at for at, text in enumerate(document["script"]) if text == "settle"]
-    bound, limit = enough(document["nodes"]), document["limit"]
+    bound, limit = enough(len(document["nodes"])), document["limit"]
     head = f"unsettled{f' {step}' if step else ''}: a settle step ran all {limit} rounds of the limit without a quiet window"
     note = f"what to do: write limit = {bound}, 64 for each node and 512 more, which is always enough"
     if limit >= bound:

@@ -4,8 +4,8 @@ import re
 from dataclasses import dataclass
 
 from .checks import arc_of
-from .explaining import counted, enough, explain
-from .plan import quoted
+from .explaining import counted, explain
+from .plan import enough, quoted
 
 # Lengths of texts that don't divide 2340, so that each report shows another front of them.
 LENGTHS = (11, 17, 19)
@@ -96,7 +96,7 @@ threshold = 3
 wait = 10
 
 # A settle step runs at most so many rounds. 64 for each node and 512 more are always enough.
-limit = {enough(asked.nodes)}
+limit = {enough(len(asked.nodes))}
 """
 
 

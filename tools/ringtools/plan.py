@@ -9,6 +9,11 @@ from .checks import SIDES, STEP_FORMS, Checks, refusals
 READABLE = {27, 28, 31}
 
 
+def enough(size):
+    """The limit with which every settle step of a ring of so many nodes answers."""
+    return 64 * size + 512
+
+
 class PlanProblem(Exception):
     """The document is no plan that these tools can read."""
 
