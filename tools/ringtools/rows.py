@@ -3,8 +3,13 @@
 This module reads no TOML, so that rows run where Python has no reader of it.
 """
 
+from __future__ import annotations
+
+import os
 import re
 import subprocess
+import time
+from contextlib import ExitStack
 from dataclasses import dataclass
 from difflib import unified_diff
 from pathlib import Path
@@ -14,6 +19,7 @@ RINGS = TOP / "tools" / "testing" / "rings"
 TABLE = "rows.md"
 COLUMNS = ["Row", "Words", "Plan", "Change", "Status", "Text"]
 SECONDS = 300  # for one row
+FOLDER, FULL, SLOWLY = ".", "/dev/full", "byte by byte"  # what can't be read, what can't be written, how it comes
 
 
 class RowsProblem(Exception):
@@ -25,10 +31,11 @@ class Row:
     """One run: what goes in, and what has to come out."""
 
     name: str
-    words: tuple
-    given: bytes
+    words: tuple  # each as bytes
+    given: bytes | None  # nothing where standard input is a folder
     status: int
-    text: bytes
+    text: bytes | None  # nothing where standard output is full
+    is_slow: bool  # whether the input comes byte by byte
 
 
 @dataclass(frozen=True)
@@ -49,7 +56,7 @@ def file_of(folder, name):
 
 def changed(plan, change):
     """The plan with one line in the place of the one with its key, or behind the last line where no line has it."""
-    if not change:
+    if change in ("", SLOWLY):
         return plan
     if found := re.fullmatch(r"spaces up to ([0-9]+) bytes", change):
         return plan.ljust(int(found[1]))
@@ -66,9 +73,15 @@ def read_row(folder, cells):
     if len(cells) != len(COLUMNS):
         raise RowsProblem(f"{folder / TABLE}: {len(cells)} cells where {len(COLUMNS)} were expected: {cells}")
     name, words, plan, change, status, text = cells
-    given = changed(file_of(folder, plan) if plan else b"", change)
-    wanted = file_of(folder, text) if text.endswith(".text") else text.encode() + b"\n"
-    return Row(name, tuple(words.split()), given, int(status), wanted)
+    given = None if plan == FOLDER else changed(file_of(folder, plan) if plan else b"", change)
+    wanted = None if text == FULL else file_of(folder, text) if text.endswith(".text") else text_of(text)
+    said = tuple(word.encode().replace(b"\\xff", b"\xff") for word in words.split())
+    return Row(name, said, given, int(status), wanted, change == SLOWLY)
+
+
+def text_of(line):
+    """A text of one line; an empty one has none."""
+    return line.encode() + b"\n" if line else b""
 
 
 def cells_of(line):
@@ -87,13 +100,37 @@ def read_rows(folder=RINGS):
     return rows
 
 
+def feed(started, given):
+    """Writes one byte after the other, so that a read that comes soon gets one."""
+    try:
+        for at in range(len(given)):
+            os.write(started.stdin.fileno(), given[at : at + 1])
+            time.sleep(0.0005)
+    except BrokenPipeError:
+        pass
+    started.stdin.close()
+    started.stdin = None
+
+
 def ask(program, row):
     """What the program answers to a row."""
-    try:
-        ended = subprocess.run([program, *row.words], input=row.given, capture_output=True, timeout=SECONDS)
-    except subprocess.TimeoutExpired:
-        return Answer(-1, b"", f"no answer in {SECONDS} s".encode())
-    return Answer(ended.returncode, ended.stdout, ended.stderr)
+    with ExitStack() as files:
+        pipe = subprocess.PIPE
+        given, written = pipe, pipe
+        if row.given is None:
+            given = os.open(TOP, os.O_RDONLY)
+            files.callback(os.close, given)
+        if row.text is None:
+            written = files.enter_context(open(FULL, "wb"))
+        started = files.enter_context(subprocess.Popen([program, *row.words], stdin=given, stdout=written, stderr=pipe))
+        if row.is_slow:
+            feed(started, row.given)
+        try:
+            text, said = started.communicate(None if row.is_slow else row.given, SECONDS)
+        except subprocess.TimeoutExpired:
+            started.kill()
+            return Answer(-1, b"", f"no answer in {SECONDS} s".encode())
+    return Answer(started.returncode, text or b"", said)
 
 
 def difference(row, answer):
@@ -101,7 +138,7 @@ def difference(row, answer):
     told = []
     if answer.status != row.status:
         told.append(f"  status {answer.status}, wanted {row.status}")
-    if answer.text != row.text:
+    if row.text is not None and answer.text != row.text:
         pair = ([line[:120] for line in text.decode("latin-1").splitlines()] for text in (row.text, answer.text))
         told += ["  " + line for line in unified_diff(*pair, "wanted", "written", lineterm="", n=1)][:40]
         told += [] if len(told) > 1 else ["  the texts differ behind column 120, or in their ends of lines"]

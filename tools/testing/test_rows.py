@@ -11,13 +11,22 @@ from common import RINGS, call
 
 from ringtools.rows import RowsProblem, changed, read_rows
 
-# Answers each row by what stands in a file beside it.
-PROGRAM = """#!{python} -IS
-import json, sys
-given = repr((sys.argv[1:], sys.stdin.buffer.read()))
-status, text = json.load(open({answers!r}))[given]
-sys.stdout.write(text)
-sys.exit(status)
+# Answers each row by what stands in a file beside it. Python itself can't read from a folder.
+PROGRAM = """#!/bin/sh
+if [ -d /dev/stdin ]; then exec {python} -IS {beside}.py {beside} folder "$@" </dev/null; fi
+exec {python} -IS {beside}.py {beside} file "$@"
+"""
+ANSWERS = """
+import json, os, sys
+answers, kind, *words = sys.argv[1:]
+given = None if kind == "folder" else sys.stdin.buffer.read()
+is_full = os.fstat(1).st_rdev == os.stat("/dev/full").st_rdev
+status, text = json.load(open(answers))[repr(([os.fsencode(word) for word in words], given, is_full))]
+try:
+    os.write(1, text.encode())
+except OSError:
+    pass
+os._exit(status)
 """
 
 
@@ -31,11 +40,13 @@ class Rows(unittest.TestCase):
         """Answers each row by its table, but for one with another text, and one with another status."""
         answers = {}
         for row in read_rows():
-            told = row.text.decode().replace("norm 0", "norm 1") if row.name == text else row.text.decode()
-            answers[repr((list(row.words), row.given))] = 0 if row.name == status else row.status, told
+            told = (row.text or b"").decode()
+            told = told.replace("norm 0", "norm 1") if row.name == text else told
+            answers[repr((list(row.words), row.given, row.text is None))] = 0 if row.name == status else row.status, told
         file, beside = self.folder / "program", self.folder / "answers"
         beside.write_text(json.dumps(answers))
-        file.write_text(PROGRAM.format(python=sys.executable, answers=str(beside)))
+        beside.with_suffix(".py").write_text(ANSWERS)
+        file.write_text(PROGRAM.format(python=sys.executable, beside=beside))
         os.chmod(file, 0o755)
         return file
 
@@ -45,7 +56,7 @@ class Rows(unittest.TestCase):
         self.assertIn(f"{len(read_rows())} passed, 0 failed".encode(), ended.stdout)
 
     def test_what_differs_is_named(self):
-        ended = call("rows", self.program(text="span-cut", status="too-long"), "healthy", "span-cut", "too-long", "tie")
+        ended = call("rows", self.program(text="span-cut", status="too-long"), "write-fault", "span-cut", "too-long", "tie")
         said = ended.stdout.decode()
         self.assertEqual(ended.returncode, 1)
         self.assertIn("span-cut: run\n", said)
@@ -72,8 +83,8 @@ class Rows(unittest.TestCase):
         examples = {path.name for path in (RINGS.parents[2] / "examples").glob("*.toml")}
         self.assertEqual({name for name in examples if f"| examples/{name} |" not in table}, set())
 
-    def test_every_status_that_a_plan_can_bring(self):
-        self.assertEqual({row.status for row in read_rows()}, {0, 2, 5, 6, 7, 9, 10})
+    def test_every_status_that_can_be_brought_about(self):
+        self.assertEqual({row.status for row in read_rows()}, {0, 2, 3, 4, 5, 6, 7, 9, 10, 71})
 
     def test_limits_within_which_a_ring_always_settles(self):
         for row in read_rows():
