@@ -1,1 +1,1 @@
-"""What ringview and whatif share: plans, the restoration model, reports, drawings."""
+"""What the tools share: plans and their checks, texts, rows, the restoration model, drawings."""

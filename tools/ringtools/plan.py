@@ -3,22 +3,15 @@
 import tomllib
 from dataclasses import dataclass
 
-SIDES = ("west", "east")
-KEYS = {"rate", "nodes", "threshold", "wait", "limit", "script", "circuit"}
-CIRCUIT_KEYS = {"name", "from", "to", "slot", "text_a", "text_b", "trace_a", "trace_b", "offset_a", "offset_b"}
-# Words of a step, the side or the number that each wants.
-STEP_FORMS = {
-    "cut": ("node", "side"),
-    "mend": ("node", "side"),
-    "degrade": ("node", "side", "number"),
-    "forced": ("node", "side"),
-    "manual": ("node", "side"),
-    "clear": ("node", "side"),
-    "moment": ("number",),
-    "hold": ("node", "number"),
-    "slip": ("name", "end", "turn", "number"),
-    "settle": (),
-}
+from .checks import SIDES, STEP_FORMS, Checks, refusals
+
+# Refusals of steps that can each be read even so; the program itself decides what it accepts, and why not.
+READABLE = {27, 28, 31}
+
+
+def enough(size):
+    """The limit with which every settle step of a ring of so many nodes answers."""
+    return 64 * size + 512
 
 
 class PlanProblem(Exception):
@@ -93,129 +86,60 @@ class Plan:
 def read_document(data):
     """The TOML document as it stands, or a PlanProblem."""
     try:
-        return tomllib.loads(data.decode("utf-8"))
+        return tomllib.loads(data.decode("utf-8-sig"))
     except (UnicodeDecodeError, tomllib.TOMLDecodeError) as error:
         raise PlanProblem(f"no TOML document: {error}") from None
 
 
-def is_number(value):
-    return isinstance(value, int) and not isinstance(value, bool)
+def needs(found):
+    """Raises the first refusal of these that leaves a plan unreadable."""
+    for refusal in found:
+        if refusal.reason not in READABLE:
+            raise PlanProblem(f"{place_words(refusal)}{refusal.said}")
 
 
-def need(holds, what):
-    if not holds:
-        raise PlanProblem(what)
+def place_words(refusal):
+    """What leads to the thing, as `circuit 2: `; nothing where it is the document's own."""
+    kind = {"circuit": "circuit", "script": "step", "nodes": "node"}.get(refusal.path[0])
+    return f"{kind} {refusal.place}: " if refusal.place else ""
 
 
-def number_in(table, key, low, high, where):
-    value = table.get(key)
-    need(is_number(value) and low <= value <= high, f"{where}: `{key}` is to be a number from {low} to {high}")
-    return value
+def read_port(table, end):
+    trace = table.get(f"trace_{end}", table["name"])
+    return Port(table[f"text_{end}"].encode("ascii"), trace.encode("ascii"), table.get(f"offset_{end}", 0))
 
 
-def text_in(table, key, where):
-    value = table.get(key)
-    need(isinstance(value, str), f"{where}: `{key}` is to be a text")
-    need(1 <= len(value) <= 64 and all(" " <= c <= "~" for c in value), f"{where}: `{key}` is to have 1 to 64 printable characters")
-    return value.encode("ascii")
-
-
-def read_nodes(document):
-    nodes = document.get("nodes")
-    need(isinstance(nodes, list) and all(map(is_number, nodes)), "`nodes` is to be an array of numbers")
-    need(2 <= len(nodes) <= 16, "a ring has 2 to 16 nodes")
-    need(all(0 <= node <= 15 for node in nodes), "identifiers of nodes are 0 to 15")
-    need(len(set(nodes)) == len(nodes), "no two nodes have one identifier")
-    return tuple(nodes)
-
-
-def read_port(table, end, name, where):
-    trace = text_in(table, f"trace_{end}", where) if f"trace_{end}" in table else name.encode("ascii")
-    offset = number_in(table, f"offset_{end}", 0, 782, where) if f"offset_{end}" in table else 0
-    return Port(text_in(table, f"text_{end}", where), trace, offset)
-
-
-def is_name(name):
-    return isinstance(name, str) and 1 <= len(name) <= 16 and all(c in "abcdefghijklmnopqrstuvwxyz0123456789-_" for c in name)
-
-
-def read_circuit(table, place, ids, rate):
-    where = f"circuit {place}"
-    need(isinstance(table, dict), f"{where} is to be a table")
-    need(set(table) <= CIRCUIT_KEYS, f"{where} has a key that isn't known")
-    name = table.get("name")
-    need(is_name(name), f"{where}: `name` is to have 1 to 16 of a to z, 0 to 9, - and _")
-    for key in ("from", "to"):
-        need(is_number(table.get(key)) and table[key] in ids, f"{where}: `{key}` is to be a node of the ring")
+def read_circuit(table, ids):
     start, end = ids.index(table["from"]), ids.index(table["to"])
-    need(start != end, f"{where} ends where it begins")
-    slot = number_in(table, "slot", 1, rate // 2, where)
-    return Circuit(name, start, end, slot, read_port(table, "a", name, where), read_port(table, "b", name, where))
+    return Circuit(table["name"], start, end, table["slot"], read_port(table, "a"), read_port(table, "b"))
 
 
-def check_apart(circuits, size):
-    """No two circuits share a name, or a span and a slot."""
-    names, places = set(), set()
-    for circuit in circuits:
-        need(circuit.name not in names, f"two circuits are named {circuit.name}")
-        names.add(circuit.name)
-        for i in range((circuit.end - circuit.start) % size):
-            place = (circuit.start + i) % size, circuit.slot
-            need(place not in places, f"circuit {circuit.name} shares a span and a slot with an earlier one")
-            places.add(place)
-
-
-def decimal(word, where):
-    need(word.isascii() and word.isdigit() and (word == "0" or word[0] != "0"), f"{where}: `{word}` is no number")
-    return int(word)
-
-
-def read_word(kind, word, ids, where):
-    """One word of a step behind its first: the key and the value that it gives."""
-    if kind == "node":
-        number = decimal(word, where)
-        need(number in ids, f"{where}: no node {number}")
-        return "at", ids.index(number)
-    if kind == "number":
-        return "number", decimal(word, where)
-    allowed = {"side": SIDES, "end": ("a", "b"), "turn": ("up", "down")}.get(kind)
-    need(allowed is None or word in allowed, f"{where}: `{word}` isn't one of {allowed}")
-    return kind, word
+def parsed(text, ids):
+    """A step whose form was checked."""
+    first, *rest = text.split(" ")
+    step = {"number" if kind == "number" else "at" if kind == "node" else kind: word for kind, word in zip(STEP_FORMS[first], rest)}
+    if "at" in step:
+        step["at"] = ids.index(int(step["at"]))
+    if "number" in step:
+        step["number"] = int(step["number"])
+    return Step(text, first, **step)
 
 
 def read_step(text, place, ids):
-    where = f"step {place}"
-    need(isinstance(text, str), f"{where} is to be a text")
-    first, *rest = text.split(" ")
-    need(first in STEP_FORMS, f"{where}: `{text}` isn't known")
-    form = STEP_FORMS[first]
-    need(len(rest) == len(form), f"{where}: `{text}` is to have {len(form) + 1} words")
-    return Step(text, first, **dict(read_word(kind, word, ids, where) for kind, word in zip(form, rest)))
-
-
-def read_steps(document, ids):
-    script = document.get("script")
-    need(isinstance(script, list), "`script` is to be an array of texts")
-    steps = tuple(read_step(text, i + 1, ids) for i, text in enumerate(script))
-    need(steps and steps[-1].word == "settle", "the last step is to be `settle`")
-    return steps
+    """One step alone, as it stands at that place of a script; whether its port is there isn't looked at."""
+    checks = Checks({"rate": 16, "nodes": list(ids)})
+    needs(refusal for refusal in checks.step(text, place) if refusal.reason != 30)
+    return parsed(text, ids)
 
 
 def read_plan(data):
-    """The plan of these bytes, or a PlanProblem. The program itself decides what it accepts, and why not."""
+    """The plan of these bytes, or a PlanProblem."""
     document = read_document(data)
-    need(set(document) <= KEYS, "the document has a key that isn't known")
-    rate = document.get("rate")
-    need(is_number(rate) and rate in (4, 16), "`rate` is to be 4 or 16")
-    ids = read_nodes(document)
-    threshold = number_in(document, "threshold", 1, 3 * rate, "the plan")
-    wait = number_in(document, "wait", 0, 1_000_000, "the plan")
-    limit = number_in(document, "limit", 1, 65_536, "the plan")
-    tables = document.get("circuit", [])
-    need(isinstance(tables, list), "`circuit` is to be an array of tables")
-    circuits = tuple(read_circuit(table, i + 1, ids, rate) for i, table in enumerate(tables))
-    check_apart(circuits, len(ids))
-    return Plan(rate, ids, threshold, wait, limit, circuits, read_steps(document, ids))
+    needs(refusals(document))
+    ids = tuple(document["nodes"])
+    circuits = tuple(read_circuit(table, ids) for table in document.get("circuit", []))
+    steps = tuple(parsed(text, ids) for text in document["script"])
+    return Plan(document["rate"], ids, document["threshold"], document["wait"], document["limit"], circuits, steps)
 
 
 def quoted(text):

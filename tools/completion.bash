@@ -1,0 +1,39 @@
+# Completion of sdhring, sdhretime and the tools beside them, for bash: source it, or let `--install` put it in place.
+
+_sdhring_words() {
+  local program=${COMP_WORDS[0]##*/} word=${COMP_WORDS[COMP_CWORD]}
+  COMPREPLY=()
+  case $program:$COMP_CWORD:${COMP_WORDS[1]-} in
+    sdhring:1:*) mapfile -t COMPREPLY < <(compgen -W "run check drop big $1" -- "$word") ;;
+    sdhring:3:drop) mapfile -t COMPREPLY < <(compgen -W "a b" -- "$word") ;;
+    sdhretime:1:*) mapfile -t COMPREPLY < <(compgen -W "$1" -- "$word") ;;
+    *:*:--install) compopt -o dirnames ;;
+  esac
+  # Behind `<` stands the plan.
+  [ "${COMP_WORDS[COMP_CWORD - 1]}" != '<' ] || { COMPREPLY=() && compopt -o default; }
+}
+
+# In a checkout the launcher has words of its own; an installed program has none.
+_sdhring() {
+  local launcher=
+  [ "$(head -c 2 -- "$(type -P -- "${COMP_WORDS[0]}")" 2>/dev/null | tr -d '\0')" != '#!' ] ||
+    launcher='--prove --install --where --version --help'
+  _sdhring_words "$launcher"
+}
+
+_sdhring_tools() {
+  local words word=${COMP_WORDS[COMP_CWORD]}
+  case ${COMP_WORDS[0]##*/} in
+    rows) words='--dir --jobs --list --help' ;;
+    explain) words='--first --status --name --help' ;;
+    report) words='--json --csv --nodes --plan --help' ;;
+    plan) words='new --nodes --rate --steps --to --help' ;;
+    ringview) words='--svg --program --help' ;;
+    whatif) words='--also --works --kinds --dir --program --jobs --shard --sshlogin --parallel --anew --help' ;;
+  esac
+  mapfile -t COMPREPLY < <(compgen -W "$words" -- "$word")
+  [ "${#COMPREPLY[@]}" -ne 0 ] || compopt -o default
+}
+
+complete -F _sdhring sdhring sdhretime ./sdhring ./sdhretime
+complete -F _sdhring_tools {,./}tools/{rows,explain,report,plan,ringview,whatif}

@@ -1,0 +1,21 @@
+"""Files that the tools read, `-` for standard input among them."""
+
+import signal
+import sys
+from pathlib import Path
+
+
+class FileProblem(Exception):
+    """A file can't be read."""
+
+
+def read_input(name):
+    try:
+        return sys.stdin.buffer.read() if name == "-" else Path(name).read_bytes()
+    except OSError as error:
+        raise FileProblem(f"{name}: {error.strerror}") from None
+
+
+def end_with_reader():
+    """Has the tool end without a word where nobody reads what it writes any longer, as `head` does."""
+    signal.signal(signal.SIGPIPE, signal.SIG_DFL)
