@@ -9,7 +9,7 @@ mod pieces;
 mod scrambler;
 mod through;
 
-pub use difference::violations;
+pub use difference::{differing_bits, violations};
 pub use laws::scrambling_is_undone;
 pub use parity::{bip_section, bip8};
 pub use pieces::{

@@ -18,6 +18,7 @@ pub use clock::Turn;
 pub use delivered::Delivered;
 pub use feed::Feed;
 pub use port::{Port, PortError};
+pub use walk::trace_byte;
 
 #[cfg(test)]
 mod tests;
