@@ -16,6 +16,3 @@ pub use pieces::{
     Bip8, BipSection, Scrambler, open_piece, pieces_make_the_whole, receive_piece, send_piece,
 };
 pub use scrambler::{Rate9, scramble};
-
-#[cfg(test)]
-mod tests;

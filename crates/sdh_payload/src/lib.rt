@@ -19,6 +19,3 @@ pub use delivered::Delivered;
 pub use feed::Feed;
 pub use port::{Port, PortError};
 pub use walk::trace_byte;
-
-#[cfg(test)]
-mod tests;

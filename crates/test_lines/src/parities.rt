@@ -1,7 +1,7 @@
 //! Parities and scrambling bytes that are known from outside.
 ghost use Rattle.std.specs.Prelude.{◌≡◌, ◌*◌, ◌<◌, ◌≤◌, IfOk, vec_len, length};
 
-use super::*;
+use sdh_parity::{Bip8, BipSection, Rate9, bip_section, bip8, scramble, violations};
 use std::alloc::{AllocError, Global};
 use std::test::Fail;
 
@@ -116,22 +116,6 @@ fn a_frame_cut_after_each_of_its_first_bytes(rt: HostRuntime) -> Result<(), Fail
             "{cut}"
         );
         assert_eq!(rt; wide, lanes, "{cut}");
-    }
-    Ok(())
-}
-
-// Pieces of a frame, each scrambled behind the one before it, are the scrambled frame.
-#[test]
-fn a_frame_is_scrambled_in_pieces(rt: HostRuntime) -> Result<(), Fail> {
-    let mut whole = mixed_frame(rt.alloc())?;
-    scramble(Rate9(144), whole.as_mut_slice());
-    for cut in [0, 1, 143, 144, 145, 1159, 1160, 4320, 38880] {
-        let mut bytes = mixed_frame(rt.alloc())?;
-        let (first, second) = bytes.as_mut_slice().split_at_mut(cut);
-        let mut scrambler = Scrambler::new(Rate9(144));
-        scrambler.apply(first);
-        scrambler.apply(second);
-        assert!(rt; bytes.as_slice() == whole.as_slice(), "{cut}");
     }
     Ok(())
 }

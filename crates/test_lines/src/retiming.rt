@@ -1,7 +1,7 @@
 //! Runs over objects in memory: each number with its text.
 
-use crate::retime;
 use sdh_outside::{MemSink, MemSource};
+use sdh_retime::retime;
 use std::alloc::{AllocError, Global};
 use std::test::Fail;
 
@@ -50,22 +50,6 @@ fn run(
     let mut sink = MemSink::new(alloc, 65_536, 5000, writes)?;
     let number = retime(alloc, &words, &mut source, &mut sink);
     Ok((number, sink))
-}
-
-#[test]
-fn little_is_held_so_a_turn_gives_less(rt: HostRuntime) -> Result<(), Fail> {
-    let lines: [(&str, usize); 6] = [
-        ("1 ais 2346", 0),
-        ("2 new 2346", 2349),
-        ("3 plain 2346", 2349),
-        ("4 plain 2346", 2349),
-        ("5 plain 2343", 2349),
-        ("6 up 2346", 2346),
-    ];
-    let (number, sink) = run(rt.alloc(), "0333", 14_090, &[], &[])?;
-    assert_eq!(rt; number, 0);
-    assert!(rt; sink.bytes() == text(rt.alloc(), &lines, "left 2")?.as_slice());
-    Ok(())
 }
 
 #[test]

@@ -1,5 +1,5 @@
 //! Words, steps of interpreters and of generators, worked by hand from the tables.
-use crate::{Action, Form, Gen, Interp, Word, laws, read_word, word_of, write_word};
+use sdh_pointer::{Action, Form, Gen, Interp, Word, read_word, word_of, write_word};
 
 #[test]
 fn words(rt: HostRuntime) {
@@ -167,23 +167,4 @@ fn rows_of_the_generator(rt: HostRuntime) {
         assert_eq!(rt; generator.moved(), moved, "{action:?} {value}");
         assert!(rt; generator.sending() == sending, "{action:?} {value}");
     }
-}
-
-// The laws are functions that do nothing.
-#[test]
-fn laws_are_called(_rt: HostRuntime) {
-    laws::each_word_has_one_row();
-    laws::each_input_has_one_row();
-    laws::answer_tells_mode();
-    laws::bounds_are_kept();
-    laws::interpreter_moves();
-    laws::generator_moves();
-    laws::generator_repeats();
-    laws::normal_word_settles();
-    laws::enabled_word_settles();
-    laws::ais_settles();
-    laws::unmoved_is_normal();
-    laws::unmoved_is_ais();
-    laws::steady_is_normal();
-    laws::reads_what_is_sent();
 }

@@ -1,6 +1,6 @@
 //! Turns by given lengths, and what they give.
 
-use crate::{Drift, Elastic};
+use sdh_elastic::Elastic;
 use sdh_payload::Cells;
 use sdh_pointer::{Action, Interp, Word};
 use std::alloc::{AllocError, Global};
@@ -46,27 +46,5 @@ fn justifies_in_turn_6(rt: HostRuntime) -> Result<(), Fail> {
     }
     assert_eq!(rt; given, 11748);
     assert_eq!(rt; interp.value(), 781);
-    Ok(())
-}
-
-#[test]
-fn a_drift_changes_nothing(rt: HostRuntime) -> Result<(), Fail> {
-    let long = chunk(rt.alloc(), 0, 2352)?;
-    let short = chunk(rt.alloc(), 0, 2346)?;
-    assert!(rt; long.len() == 2352 && short.len() == 2346);
-    let mut store = Elastic::try_new(rt.alloc(), 0)?;
-    let mut out = Cells::try_new(rt.alloc())?;
-    for action in [Action::Ais, Action::New, Action::Normal] {
-        assert_eq!(rt; store.turn(&long, &mut out), Ok(action));
-    }
-    let word = store.word();
-    assert_eq!(rt; store.turn(&long, &mut out), Err(Drift));
-    assert_eq!(rt; store.fill(), 2358);
-    assert_eq!(rt; out.as_slice().len(), 2349);
-    assert_eq!(rt; store.word(), word);
-    assert!(rt; store.is_steady());
-    assert_eq!(rt; store.turn(&short, &mut out), Ok(Action::Normal));
-    assert_eq!(rt; store.fill(), 2355);
-    assert!(rt; !store.is_steady());
     Ok(())
 }

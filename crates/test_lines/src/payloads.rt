@@ -1,8 +1,8 @@
 //! Worked values of ports, of what they send, and of what is taken.
-ghost use Rattle.std.specs.Prelude.{◌≡◌, ◌^◌, ◌<◌, ◌≤◌, ◌+◌, length};
-ghost use Rattle.sdh_payload.specs.Stream.{chunk_of};
+ghost use Rattle.std.specs.Prelude.{◌≡◌, ◌^◌, ◌<◌, ◌+◌, length};
+ghost use Rattle.sdh_payload.specs.Clock.{waiting};
 
-use crate::{Cells, ChunkForm, Feed, Port, PortError, Turn, take_chunk};
+use sdh_payload::{Cells, ChunkForm, Feed, Port, PortError, take_chunk};
 use std::test::Fail;
 
 // 64 bytes, the longest text.
@@ -40,16 +40,27 @@ fn says_what_is_wrong_with_a_port(rt: HostRuntime) {
     }
 }
 
+// The next chunk of a port that never slips.
+#[tactic(auto, using(sdh_payload::proofs::Clocking::rounds_more, sdh_payload::proofs::Clocking::plain_tick))]
+pub(crate) fn next_chunk(feed: &mut Feed, out: &mut Cells)
+    requires few { feed.old.clock.rounds < 2 ^ 32 }
+    requires plain { waiting feed.old.clock ≡ 0 }
+    ensures full { length out.new ≡ 2349 }
+    ensures rounds { feed.new.clock.rounds ≡ feed.old.clock.rounds + 1 }
+    ensures plain { waiting feed.new.clock ≡ 0 }
+{
+    feed.next(out);
+}
+
 // The chunk of this number, counted from 0.
 fn chunk(port: &Port, number: u64, out: &mut Cells)
     requires { number < 2 ^ 32 }
-    ensures { out.new ≡ chunk_of port.now number }
 {
     let mut feed = Feed::new(port);
     for i in 0..number {
-        feed.next(out);
+        next_chunk(&mut feed, out);
     }
-    feed.next(out);
+    next_chunk(&mut feed, out);
 }
 
 #[test]
@@ -144,73 +155,6 @@ fn takes_a_chunk_of_each_form(rt: HostRuntime) -> Result<(), Fail> {
         assert_eq!(rt; out.as_slice().first().copied(), Some(0), "{form:?}");
         // The last byte is that of index 2348, which is 89 modulo 251.
         assert_eq!(rt; out.as_slice().last().copied(), Some(89), "{form:?}");
-    }
-    Ok(())
-}
-
-// One slip more waits, of the turn that the letter tells.
-fn wait(feed: &mut Feed, letter: u8)
-    ensures { feed.new.clock.rounds ≡ feed.old.clock.rounds }
-{
-    if feed.waiting() < 16 {
-        match letter {
-            b'u' => feed.wait(Turn::Up, 1),
-            b'd' => feed.wait(Turn::Down, 1),
-            _ => {}
-        }
-    }
-}
-
-// The letter of a form, and how many bytes it sends.
-fn told_by(form: ChunkForm) -> (u8, usize) {
-    match form {
-        ChunkForm::Plain => (b'=', 2349),
-        ChunkForm::Short => (b's', 2346),
-        ChunkForm::Long => (b'l', 2352),
-    }
-}
-
-// The pointer value and how many slips wait after as many rounds as there are letters: the slip that is told before each, and the
-// form that it sends. None where another form, or another number of bytes, is sent.
-fn after_rounds(port: &Port, slips: &[u8], forms: &[u8], out: &mut Cells) -> Option<(u16, u8)>
-    requires { length slips.now < 100 }
-{
-    let mut feed = Feed::new(port);
-    for i in 0..slips.len() {
-        wait(&mut feed, slips[i]);
-        let form = feed.next_form(out);
-        let (letter, len) = told_by(form);
-        if feed.form() != form || forms.get(i) != Some(&letter) || out.as_slice().len() != len {
-            return None;
-        }
-    }
-    Some((feed.value(), feed.waiting()))
-}
-
-#[test]
-fn slips_with_the_clock(rt: HostRuntime) -> Result<(), Fail> {
-    let mut out = Cells::try_new(rt.alloc())?;
-    // The offset, the slip that is told before each round, the form of each, and the value and the slips that wait then.
-    let rows: [(u16, &[u8], &[u8], u16, u8); 11] = [
-        (0, b"-----", b"=====", 0, 0),
-        (0, b"u---", b"====", 0, 1),
-        (0, b"u--------", b"====s====", 1, 0),
-        (0, b"d--------", b"====l====", 782, 0),
-        (782, b"u----", b"====s", 0, 0),
-        (5, b"du-------", b"====s===l", 5, 0),
-        (5, b"uu-------", b"====s===s", 7, 0),
-        (0, b"------u--", b"======s==", 1, 0),
-        (0, b"-----uu---", b"=====s===s", 2, 0),
-        (9, b"----d-d---", b"====l===l=", 7, 0),
-        (0, b"ud-u----", b"====s===", 1, 2),
-    ];
-    for (offset, slips, forms, value, waiting) in rows {
-        let made = Port::new(b"ALPHA", b"c1", offset);
-        assert!(rt; made.is_ok());
-        let port = made.expect(&rt, "a port");
-        assert!(rt; slips.len() < 100);
-        let after = after_rounds(&port, slips, forms, &mut out);
-        assert_eq!(rt; after, Some((value, waiting)), "{offset} {slips:?}");
     }
     Ok(())
 }

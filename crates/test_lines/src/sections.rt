@@ -1,8 +1,8 @@
 //! Frames from zeros with K bytes 03 10, as they are written and as they are read.
 ghost use Rattle.std.specs.Prelude.{◌≡◌, ◌≤◌, IfOk, None, length};
 
-use super::*;
 use sdh_frame::{FrameBuf, Place, Rate};
+use sdh_overhead::{Received, Section, read_row, read_section, write_row, write_section};
 use std::alloc::{AllocError, Global};
 use std::test::Fail;
 
@@ -122,31 +122,6 @@ fn row_1_on_the_line(rt: HostRuntime) -> Result<(), Fail> {
     Ok(())
 }
 
-#[test]
-fn an_stm16_frame(rt: HostRuntime) -> Result<(), Fail> {
-    let mut sending = Section::try_new(Rate::Sixteen);
-    let mut receiving = Section::try_new(Rate::Sixteen);
-    let mut frame = written(rt.alloc(), &mut sending, Rate::Sixteen)?;
-    let bytes = frame.bytes();
-    assert_eq!(rt; bytes[47], 0xF6);
-    assert_eq!(rt; bytes[95], 0x28);
-    assert_eq!(rt; bytes[96], 0x01);
-    assert_eq!(rt; bytes[97], 0xAA);
-    assert_eq!(rt; bytes[143], 0xAA);
-    assert_eq!(rt; bytes[144], 0xFE);
-    assert_eq!(rt; read(&mut receiving, &mut frame), GOOD);
-    assert_eq!(rt; frame.get(Place { row: 5, column: 49 }), 0x03);
-    assert_eq!(rt; frame.get(Place { row: 5, column: 97 }), 0x10);
-    assert_eq!(rt;
-        frame.get(Place {
-            row: 1,
-            column: 145
-        }),
-        0
-    );
-    Ok(())
-}
-
 // Writes the rows of an STM-4 frame one by one, behind each other, with K bytes 03 10.
 fn write_by_rows(sending: &mut Section, bytes: &mut [u8])
     requires rate { sending.old.rate ≡ Rate.Four }
@@ -214,24 +189,6 @@ fn frames_go_row_by_row(rt: HostRuntime) -> Result<(), Fail> {
         (GOOD, 0, 0)
     );
     assert_eq!(rt; sending.next_row(), 1);
-    assert_eq!(rt; receiving.next_row(), 1);
-    Ok(())
-}
-
-// The first row alone.
-#[test]
-fn a_frame_under_way(rt: HostRuntime) -> Result<(), Fail> {
-    let mut sending = Section::try_new(Rate::Four);
-    let mut row = vec![in rt.alloc(); 0; 1080]?;
-    write_row(&mut sending, 1, 0x03, 0x10, row.as_mut_slice());
-    assert_eq!(rt; sending.next_row(), 2);
-    assert_eq!(rt; row[12], 0x28);
-    assert_eq!(rt; row[36], 0xFE);
-    let mut receiving = Section::try_new(Rate::Four);
-    read_row(&mut receiving, 1, row.as_mut_slice());
-    assert_eq!(rt; receiving.next_row(), 2);
-    assert_eq!(rt; row[36], 0);
-    receiving.forget();
     assert_eq!(rt; receiving.next_row(), 1);
     Ok(())
 }

@@ -4,11 +4,11 @@ ghost use Rattle.sdh_frame.specs.Sizes.{n_of};
 ghost use Rattle.sdh_plant.specs.Fibres.{HasNoFibres};
 ghost use Rattle.sdh_plant.specs.Kept.{IsToldAt};
 
-use crate::{
+use sdh_frame::{FrameBuf, Rate};
+use sdh_plant::{
     Arrived, Condition, FailingPlant, FibreEvent, FibrePlant, Plant, PlantCall, PrepareError,
     RecordingPlant, Told, ToldPlant,
 };
-use sdh_frame::{FrameBuf, Rate};
 use sdh_ringmap::{Pos, Side};
 use std::alloc::{AllocError, Global};
 use std::test::Fail;
@@ -50,18 +50,6 @@ fn sends<P: Plant>(plant: &mut P, at: Pos, side: Side, frame: &mut FrameBuf, val
     plant.send(at, side, frame).is_ok()
 }
 
-// Whether a frame with this byte everywhere is sent by exchange.
-fn exchanges<P: Plant>(plant: &mut P, at: Pos, side: Side, frame: &mut FrameBuf, value: u8) -> bool
-    requires at { at.0 < (P.fibres plant.old).nodes }
-    requires rate { frame.old.rate ≡ (P.fibres plant.old).rate }
-    ensures nodes { (P.fibres plant.new).nodes ≡ (P.fibres plant.old).nodes }
-    ensures rate { (P.fibres plant.new).rate ≡ (P.fibres plant.old).rate }
-    ensures frame { frame.new.rate ≡ frame.old.rate }
-{
-    frame.fill(value);
-    plant.exchange(at, side, frame).is_ok()
-}
-
 // The byte that a frame which comes has everywhere, or darkness, which leaves the frame as it was.
 fn came<P: Plant>(plant: &mut P, at: Pos, side: Side, frame: &mut FrameBuf) -> Option<u8>
     requires at { at.0 < (P.fibres plant.old).nodes }
@@ -81,35 +69,6 @@ fn came<P: Plant>(plant: &mut P, at: Pos, side: Side, frame: &mut FrameBuf) -> O
         Arrived::Dark if first == 0x11 => Some(DARK),
         Arrived::Dark => None,
     }
-}
-
-#[test]
-fn a_frame_comes_to_the_neighbour_alone(rt: HostRuntime) -> Result<(), Fail> {
-    // Where it is sent, and what comes to the west and east sides of positions 0, 1 and 2.
-    let rows = [
-        (0, Side::West, [0, 0, 0, 0, 0, 0x35]),
-        (0, Side::East, [0, 0, 0x35, 0, 0, 0]),
-        (1, Side::West, [0, 0x35, 0, 0, 0, 0]),
-        (1, Side::East, [0, 0, 0, 0, 0x35, 0]),
-        (2, Side::West, [0, 0, 0, 0x35, 0, 0]),
-        (2, Side::East, [0x35, 0, 0, 0, 0, 0]),
-    ];
-    for (at, side, wants) in rows {
-        assert!(rt; at < 3);
-        let mut plant = three_nodes(rt.alloc(), Rate::Four)?;
-        let mut frame = frame_of(rt.alloc(), Rate::Four, 0)?;
-        assert!(rt; sends(&mut plant, Pos(at), side, &mut frame, 0x35));
-        let all = [
-            came(&mut plant, Pos(0), Side::West, &mut frame),
-            came(&mut plant, Pos(0), Side::East, &mut frame),
-            came(&mut plant, Pos(1), Side::West, &mut frame),
-            came(&mut plant, Pos(1), Side::East, &mut frame),
-            came(&mut plant, Pos(2), Side::West, &mut frame),
-            came(&mut plant, Pos(2), Side::East, &mut frame),
-        ];
-        assert_eq!(rt; all, wants.map(Some), "{at}");
-    }
-    Ok(())
 }
 
 // Whether a frame has the second byte in these places, and the first one everywhere else.
@@ -158,53 +117,6 @@ fn a_degraded_fibre_inverts_the_first_columns_of_row_6(rt: HostRuntime) -> Resul
             is_full_of_but(&frame, 0x35, first, count, 0xB5),
             "{columns}"
         );
-    }
-    Ok(())
-}
-
-// It carries what was sent still, so the same comes again, and what was sent once it is clear.
-#[test]
-fn a_degraded_fibre_gives_its_frame_twice(rt: HostRuntime) -> Result<(), Fail> {
-    let mut plant = three_nodes(rt.alloc(), Rate::Four)?;
-    let mut frame = frame_of(rt.alloc(), Rate::Four, 0)?;
-    let mut again = frame_of(rt.alloc(), Rate::Four, 0)?;
-    let mut event = FibreEvent {
-        at: Pos(0),
-        side: Side::East,
-        condition: Condition::Degraded(12),
-    };
-    assert!(rt; sends(&mut plant, Pos(0), Side::East, &mut frame, 0x35));
-    assert_eq!(rt; plant.apply(event), Ok(()));
-    let first = plant.receive(Pos(1), Side::West, &mut frame);
-    let second = plant.receive(Pos(1), Side::West, &mut again);
-    assert_eq!(rt; [first, second], [Ok(Arrived::Frame); 2]);
-    assert!(rt; is_full_of_but(&frame, 0x35, 5400, 12, 0xB5));
-    assert!(rt; is_full_of_but(&again, 0x35, 5400, 12, 0xB5));
-    event.condition = Condition::Clear;
-    assert_eq!(rt; plant.apply(event), Ok(()));
-    let clear = came(&mut plant, Pos(1), Side::West, &mut frame);
-    assert_eq!(rt; clear, Some(0x35));
-    Ok(())
-}
-
-#[test]
-fn the_condition_in_the_round_of_arrival_counts(rt: HostRuntime) -> Result<(), Fail> {
-    for rate in [Rate::Four, Rate::Sixteen] {
-        let mut plant = three_nodes(rt.alloc(), rate)?;
-        let mut frame = frame_of(rt.alloc(), rate, 0)?;
-        let mut event = FibreEvent {
-            at: Pos(0),
-            side: Side::East,
-            condition: Condition::Cut,
-        };
-        assert!(rt; sends(&mut plant, Pos(0), Side::East, &mut frame, 0x35));
-        assert_eq!(rt; plant.apply(event), Ok(()));
-        let cut = came(&mut plant, Pos(1), Side::West, &mut frame);
-        assert_eq!(rt; cut, Some(DARK));
-        event.condition = Condition::Clear;
-        assert_eq!(rt; plant.apply(event), Ok(()));
-        let clear = came(&mut plant, Pos(1), Side::West, &mut frame);
-        assert_eq!(rt; clear, Some(0x35));
     }
     Ok(())
 }
@@ -304,80 +216,6 @@ fn a_span_of_any_plant(rt: HostRuntime) -> Result<(), Fail> {
         let came = over_a_span(rt.alloc(), &mut told, rate)?;
         assert_eq!(rt; came, Some(1));
     }
-    Ok(())
-}
-
-// Prepares a plant, sends two frames over a span by exchange, and answers what comes after each.
-fn exchanged_over_a_span<P: Plant>(
-    alloc: Global,
-    plant: &mut P,
-    rate: Rate,
-) -> Result<[Option<u8>; 2], Fail>
-    requires { HasNoFibres (P.fibres plant.old) }
-{
-    plant.prepare(alloc, rate, 2).map_err(|_| "not prepared")?;
-    let mut frame = frame_of(alloc, rate, 0)?;
-    let first = exchanges(plant, Pos(0), Side::East, &mut frame, 0x35);
-    let came_first = came(plant, Pos(1), Side::West, &mut frame);
-    let second = exchanges(plant, Pos(0), Side::East, &mut frame, 0x36);
-    let came_second = came(plant, Pos(1), Side::West, &mut frame);
-    if !first || !second {
-        return Ok([None; 2]);
-    }
-    Ok([came_first, came_second])
-}
-
-// The same over a plant that counts its calls, with the count of its calls to send.
-fn exchanged_by_a_failing_plant(alloc: Global, rate: Rate) -> Result<([Option<u8>; 2], u64), Fail> {
-    let mut plant = FailingPlant::new(alloc, &[(PlantCall::Send, 3)])?;
-    let came = exchanged_over_a_span(alloc, &mut plant, rate)?;
-    Ok((came, plant.calls(PlantCall::Send)))
-}
-
-// The same over a plant that records, and whether it recorded both frames as they were sent.
-fn exchanged_on_record(alloc: Global, rate: Rate) -> Result<([Option<u8>; 2], bool), Fail> {
-    let mut plant = RecordingPlant::new(2);
-    let came = exchanged_over_a_span(alloc, &mut plant, rate)?;
-    let sent = plant.sent();
-    let both = sent.len() == 2 && is_full_of(&sent[0], 0x35) && is_full_of(&sent[1], 0x36);
-    Ok((came, both))
-}
-
-#[test]
-fn a_frame_sent_by_exchange_comes(rt: HostRuntime) -> Result<(), Fail> {
-    let wants = [Some(0x35), Some(0x36)];
-    for rate in [Rate::Four, Rate::Sixteen] {
-        let came = exchanged_over_a_span(rt.alloc(), &mut FibrePlant::new(), rate)?;
-        assert_eq!(rt; came, wants);
-        assert_eq!(rt; exchanged_by_a_failing_plant(rt.alloc(), rate)?, (wants, 2));
-        assert_eq!(rt; exchanged_on_record(rt.alloc(), rate)?, (wants, true));
-    }
-    Ok(())
-}
-
-// What a plant was told comes, whatever is sent by exchange.
-#[test]
-fn what_was_told_comes_behind_an_exchange(rt: HostRuntime) -> Result<(), Fail> {
-    for rate in [Rate::Four, Rate::Sixteen] {
-        let mut told = ToldPlant::new(rate, three_arrivals(rt.alloc(), rate)?);
-        let came = exchanged_over_a_span(rt.alloc(), &mut told, rate)?;
-        assert_eq!(rt; came, [Some(1), Some(DARK)]);
-    }
-    Ok(())
-}
-
-// What the fibre carried comes back, and only the fibre that the frame is sent on carries it.
-#[test]
-fn a_fibre_gives_its_frame_in_exchange(rt: HostRuntime) -> Result<(), Fail> {
-    let mut plant = three_nodes(rt.alloc(), Rate::Four)?;
-    let mut frame = frame_of(rt.alloc(), Rate::Four, 0)?;
-    assert!(rt; exchanges(&mut plant, Pos(0), Side::East, &mut frame, 0x35));
-    assert!(rt; exchanges(&mut plant, Pos(1), Side::West, &mut frame, 0x36));
-    assert!(rt; exchanges(&mut plant, Pos(0), Side::East, &mut frame, 0x37));
-    assert!(rt; is_full_of(&frame, 0x35));
-    let there = came(&mut plant, Pos(1), Side::West, &mut frame);
-    let back = came(&mut plant, Pos(0), Side::East, &mut frame);
-    assert_eq!(rt; [there, back], [Some(0x37), Some(0x36)]);
     Ok(())
 }
 

@@ -1,9 +1,8 @@
-//! Places by the layout's own tables, and frames written and read.
-ghost use Rattle.std.specs.Prelude.{◌≡◌, ◌*◌, ◌<◌, ◌≤◌, replicate};
-ghost use Rattle.sdh_frame.specs.Lending.{with_row};
+//! Places in frames by the layout's own tables.
+ghost use Rattle.std.specs.Prelude.{◌≡◌, ◌*◌, ◌<◌, ◌≤◌};
 ghost use Rattle.sdh_frame.specs.Sizes.{n_of};
 
-use super::*;
+use sdh_frame::{Field, FrameBuf, Place, Rate, au_place, place_of, pointer_place};
 use std::test::Fail;
 
 fn field(rate: Rate, row: u16, column: u16) -> Field
@@ -145,110 +144,6 @@ fn bytes_of_a_frame(rt: HostRuntime) -> Result<(), Fail> {
     Ok(())
 }
 
-fn fill_row(frame: &mut FrameBuf, row: u16, value: u8)
-    requires first { 1 ≤ row }
-    requires last { row ≤ 9 }
-    ensures { frame.new ≡ with_row frame.old row (replicate (270 * n_of frame.old.rate) value) }
-{
-    frame.row_mut(row).fill(value);
-}
-
-fn is_filled(bytes: &[u8], value: u8) -> bool {
-    for byte in bytes {
-        if *byte != value {
-            return false;
-        }
-    }
-    true
-}
-
-// Whether this row is filled with a value and the others hold zeros.
-fn is_the_row_written(frame: &FrameBuf, row: u16, value: u8) -> bool {
-    for each in 1..10 {
-        let expected = if each == row { value } else { 0 };
-        if !is_filled(frame.row(each), expected) {
-            return false;
-        }
-    }
-    true
-}
-
-// Row 4 of an STM-4 frame has the indexes 3240 to 4319.
-#[test]
-fn one_row_of_an_stm4_frame_is_written(rt: HostRuntime) -> Result<(), Fail> {
-    let mut frame = FrameBuf::try_new(rt.alloc(), Rate::Four)?;
-    fill_row(&mut frame, 4, 0x5A);
-    assert_eq!(rt; is_the_row_written(&frame, 4, 0x5A), true);
-    assert_eq!(rt; frame.bytes()[3239], 0);
-    assert_eq!(rt; frame.bytes()[3240], 0x5A);
-    assert_eq!(rt; frame.bytes()[4319], 0x5A);
-    assert_eq!(rt; frame.bytes()[4320], 0);
-    Ok(())
-}
-
-// Row 9 of an STM-16 frame has the indexes 34560 to 38879.
-#[test]
-fn one_row_of_an_stm16_frame_is_written(rt: HostRuntime) -> Result<(), Fail> {
-    let mut frame = FrameBuf::try_new(rt.alloc(), Rate::Sixteen)?;
-    fill_row(&mut frame, 9, 0x5A);
-    assert_eq!(rt; is_the_row_written(&frame, 9, 0x5A), true);
-    assert_eq!(rt; frame.bytes()[34559], 0);
-    assert_eq!(rt; frame.bytes()[34560], 0x5A);
-    assert_eq!(rt; frame.bytes()[38879], 0x5A);
-    Ok(())
-}
-
-// AU-4 number 3 has H2 at row 4, column 51, and its first payload byte at row 1, column 147.
-#[test]
-fn an_au_is_written_and_read(rt: HostRuntime) -> Result<(), Fail> {
-    let mut frame = FrameBuf::try_new(rt.alloc(), Rate::Sixteen)?;
-    frame.au_mut(3).set_payload(0, 0x5A);
-    frame.put_pointers(3, &[0x68, 0x9B, 0x9B, 0x0A, 0xFF, 0xFF, 1, 2, 3]);
-    assert_eq!(rt; frame.get(Place { row: 4, column: 51 }), 0x0A);
-    assert_eq!(rt;
-        frame.get(Place {
-            row: 1,
-            column: 147
-        }),
-        0x5A
-    );
-    assert_eq!(rt;
-        frame.get(Place {
-            row: 1,
-            column: 148
-        }),
-        0
-    );
-    assert_eq!(rt; frame.pointer(3, 8), 3);
-    assert_eq!(rt; frame.au(3).payload(0), 0x5A);
-    assert_eq!(rt; frame.au(4).payload(0), 0);
-    Ok(())
-}
-
-#[test]
-fn an_au_of_ones_is_copied(rt: HostRuntime) -> Result<(), Fail> {
-    let mut frame = FrameBuf::try_new(rt.alloc(), Rate::Four)?;
-    let mut other = FrameBuf::try_new(rt.alloc(), Rate::Four)?;
-    other.fill_ones(2);
-    frame.copy_payload(4, &other, 2);
-    assert_eq!(rt; other.get(Place { row: 4, column: 2 }), 0xFF);
-    assert_eq!(rt;
-        frame.get(Place {
-            row: 9,
-            column: 1080
-        }),
-        0xFF
-    );
-    assert_eq!(rt;
-        frame.get(Place {
-            row: 9,
-            column: 1079
-        }),
-        0
-    );
-    Ok(())
-}
-
 // Whether a payload byte of AU-4 number 2 of an STM-4 frame, by its index, stands at a place.
 fn payload_stands_at(frame: &mut FrameBuf, index: u16, row: u16, column: u16) -> bool
     requires rate { frame.old.rate ≡ Rate.Four }
@@ -290,50 +185,5 @@ fn places_of_a_view(rt: HostRuntime) -> Result<(), Fail> {
     assert!(rt; pointer_stands_at(&mut frame, 0, 2));
     assert!(rt; pointer_stands_at(&mut frame, 3, 14));
     assert!(rt; pointer_stands_at(&mut frame, 8, 34));
-    Ok(())
-}
-
-// AU-4 number 2 of another frame is copied to number 16. A view for writing is done with before the next one is lent.
-fn write_two(frame: &mut FrameBuf, other: &mut FrameBuf)
-    requires rate { frame.old.rate ≡ Rate.Sixteen }
-    requires other_rate { other.old.rate ≡ Rate.Sixteen }
-    ensures rate { frame.new.rate ≡ Rate.Sixteen }
-{
-    other.au_mut(2).fill_ones();
-    let mut first = frame.au_mut(16);
-    first.copy_payload(&other.au(2));
-    first.set_pointer(0, 0x68);
-    let mut second = frame.au_mut(1);
-    second.set_payload(0, 7);
-}
-
-// The first pointer byte of an AU-4 of an STM-16 frame, and the first and the last byte of its payload.
-fn ends_of(frame: &FrameBuf, au: u16) -> [u8; 3]
-    requires rate { frame.now.rate ≡ Rate.Sixteen }
-    requires first { 1 ≤ au }
-    requires last { au ≤ 16 }
-{
-    let view = frame.au(au);
-    [view.pointer(0), view.payload(0), view.payload(2348)]
-}
-
-#[test]
-fn views_are_lent_one_after_the_other(rt: HostRuntime) -> Result<(), Fail> {
-    let mut frame = FrameBuf::try_new(rt.alloc(), Rate::Sixteen)?;
-    let mut other = FrameBuf::try_new(rt.alloc(), Rate::Sixteen)?;
-    write_two(&mut frame, &mut other);
-    assert_eq!(rt; ends_of(&frame, 16), [0x68, 0xFF, 0xFF]);
-    assert_eq!(rt; ends_of(&frame, 15), [0, 0, 0]);
-    assert_eq!(rt; ends_of(&frame, 1), [0, 7, 0]);
-    Ok(())
-}
-
-#[test]
-fn rows_of_a_frame(rt: HostRuntime) -> Result<(), Fail> {
-    let mut frame = FrameBuf::try_new(rt.alloc(), Rate::Four)?;
-    frame.set(Place { row: 5, column: 13 }, 0xB3);
-    assert_eq!(rt; frame.row(5).len(), 1080);
-    assert_eq!(rt; frame.row(5)[12], 0xB3);
-    assert_eq!(rt; frame.row(4)[12], 0);
     Ok(())
 }
