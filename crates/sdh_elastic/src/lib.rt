@@ -12,6 +12,3 @@ mod store;
 pub use lengths::Lengths;
 pub use stage::Stage;
 pub use store::{Drift, Elastic};
-
-#[cfg(test)]
-mod tests;

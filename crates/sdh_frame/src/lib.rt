@@ -185,6 +185,3 @@ impl FrameBuf {
         self.bytes.as_mut_slice().fill(value);
     }
 }
-
-#[cfg(test)]
-mod tests;

@@ -19,6 +19,3 @@ pub enum Received {
     /// A byte A1 or A2 differs.
     Unframed,
 }
-
-#[cfg(test)]
-mod tests;

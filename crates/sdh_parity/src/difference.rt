@@ -2,8 +2,9 @@
 ghost use Rattle.std.specs.Prelude.{◌≡◌, ◌≤◌, length};
 ghost use Rattle.sdh_parity.specs.Violations.{differing_bits, violations_of};
 
+/// In how many of their eight bits two bytes differ.
 #[tactic(auto, using(crate::proofs::Differing::ones_of_xor))]
-fn differing(left: u8, right: u8) -> u32
+pub fn differing_bits(left: u8, right: u8) -> u32
     ensures bits { result ≡ differing_bits left right }
     ensures few { result ≤ 8 }
 {
@@ -18,7 +19,7 @@ pub fn violations(left: &[u8], right: &[u8]) -> u32
 {
     let mut count = 0;
     for i in 0..left.len() {
-        count += differing(left[i], right[i]);
+        count += differing_bits(left[i], right[i]);
     }
     count
 }

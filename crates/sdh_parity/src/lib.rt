@@ -9,13 +9,10 @@ mod pieces;
 mod scrambler;
 mod through;
 
-pub use difference::violations;
+pub use difference::{differing_bits, violations};
 pub use laws::scrambling_is_undone;
 pub use parity::{bip_section, bip8};
 pub use pieces::{
     Bip8, BipSection, Scrambler, open_piece, pieces_make_the_whole, receive_piece, send_piece,
 };
 pub use scrambler::{Rate9, scramble};
-
-#[cfg(test)]
-mod tests;

@@ -18,6 +18,4 @@ pub use clock::Turn;
 pub use delivered::Delivered;
 pub use feed::Feed;
 pub use port::{Port, PortError};
-
-#[cfg(test)]
-mod tests;
+pub use walk::trace_byte;

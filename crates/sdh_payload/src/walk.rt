@@ -46,8 +46,8 @@ impl Model for Walk {
     ghost invariant = { λ w. IsAt w.port w.number w.index w.b3 w.parity w.place × (w.text ≡ w.port.text) };
 }
 
-// J1 of VC-4 number `number`.
-fn trace_byte(trace: &[u8], number: u64) -> u8
+/// J1 of VC-4 number `number`, of a port with this trace.
+pub fn trace_byte(trace: &[u8], number: u64) -> u8
     ensures { result ≡ slice_index (padded trace.now) (number % 64) }
 {
     let place = (number % 64) as usize;

@@ -7,8 +7,6 @@ mod frames;
 mod laws;
 mod plant;
 mod recording_plant;
-#[cfg(test)]
-mod tests;
 mod told_plant;
 
 pub use failing_plant::{FailingPlant, PlantCall};

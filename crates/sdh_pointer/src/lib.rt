@@ -12,6 +12,3 @@ pub use generator::Gen;
 pub use interpreter::Interp;
 pub use reading::{Action, Event, Mode, Reading};
 pub use word::{Form, Word, read_word, word_of, write_word};
-
-#[cfg(test)]
-mod tests;

@@ -10,6 +10,3 @@ mod top;
 
 pub use status::Status;
 pub use top::retime;
-
-#[cfg(test)]
-mod tests;

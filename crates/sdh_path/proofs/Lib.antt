@@ -1,0 +1,4 @@
+pub mod Tracing
+pub mod Tallying
+pub mod Watching
+pub mod Clean

@@ -1,0 +1,4 @@
+pub mod History
+pub mod Report
+pub mod Kept
+pub mod Laws

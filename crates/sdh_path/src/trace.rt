@@ -1,0 +1,49 @@
+//! Path traces: 64 bytes over and over.
+ghost use Rattle.std.specs.Prelude.{◌≡◌, ◌%◌, ◌<◌, ◌≤◌, length, bytes_eq};
+ghost use Rattle.sdh_payload.specs.Stream.{padded};
+ghost use Rattle.sdh_path.specs.Report.{rotated, is_rotation};
+
+use sdh_payload::trace_byte;
+
+/// The bytes of a trace.
+pub(crate) const TRACE_LEN: usize = 64;
+
+/// A trace with spaces behind.
+pub(crate) fn padded(trace: &[u8]) -> [u8; TRACE_LEN]
+    requires { length trace.now ≤ 64 }
+    ensures { result ≡ padded trace.now }
+{
+    let mut all = [0; TRACE_LEN];
+    for i in 0..TRACE_LEN {
+        all[i] = trace_byte(trace, i as u64);
+    }
+    all
+}
+
+/// A trace, begun at its byte `from`, counted on round its end.
+pub(crate) fn begun_at(from: usize, trace: &[u8; TRACE_LEN]) -> [u8; TRACE_LEN]
+    requires { from ≤ 1000000 }
+    ensures { result ≡ rotated (from % 64) trace.now }
+{
+    let mut all = [0; TRACE_LEN];
+    for i in 0..TRACE_LEN {
+        all[i] = trace[(from + i) % TRACE_LEN];
+    }
+    all
+}
+
+// Whether some bytes are a trace, begun at its byte `from`.
+fn is_begun_at(from: usize, bytes: &[u8; TRACE_LEN], trace: &[u8; TRACE_LEN]) -> bool
+    requires { from < 64 }
+    ensures { result ≡ bytes_eq bytes.now (rotated from trace.now) }
+{
+    *bytes == begun_at(from, trace)
+}
+
+/// Whether some bytes are a trace, begun somewhere.
+#[tactic(auto, unfolding(crate::specs::Report::is_rotation))]
+pub(crate) fn is_rotation(bytes: &[u8; TRACE_LEN], trace: &[u8; TRACE_LEN]) -> bool
+    ensures { result ≡ is_rotation bytes.now trace.now }
+{
+    (0..TRACE_LEN).any(|from| is_begun_at(from, bytes, trace))
+}

@@ -1,0 +1,22 @@
+//! What stands below nodes and goes over a line, as tests: frames and their sections, parities, pointers, payloads, watches on
+//! them, elastic stores and fibres. No other crate stands on this one.
+#![tactic(auto)]
+
+#[cfg(test)]
+mod fibres;
+#[cfg(test)]
+mod frames;
+#[cfg(test)]
+mod parities;
+#[cfg(test)]
+mod payloads;
+#[cfg(test)]
+mod pointers;
+#[cfg(test)]
+mod retiming;
+#[cfg(test)]
+mod sections;
+#[cfg(test)]
+mod stores;
+#[cfg(test)]
+mod watches;
