@@ -96,10 +96,10 @@ module _ (v : World) (whole : IsWhole v) (q : ℕ) (d : Side) (au m : ℕ) (id :
   state_of w = get_or (sending_on d (node_at w.ring.nodes q)).generators k None
 
   first_step : state_of u ≡ next_sending (state_of v) (brings_port (port_there v q id)).action (brings_port (port_there v q id)).value
-  first_step = generator_step v whole q d k h (omega arith) ∙ ap (λ a. next_sending (state_of v) (sent_at v q d a).action (sent_at v q d a).value) back ∙ ap (λ (i : Input). next_sending (state_of v) i.action i.value) first
+  first_step = generator_step v whole q d h k (omega arith) ∙ ap (λ a. next_sending (state_of v) (sent_at v q d a).action (sent_at v q d a).value) back ∙ ap (λ (i : Input). next_sending (state_of v) i.action i.value) first
 
   second_step : state_of (round u) ≡ next_sending (state_of u) (brings_port (port_there u q id)).action (brings_port (port_there u q id)).value
-  second_step = generator_step u (whole_round v whole) q d k inside (omega (arith, same_rate)) ∙ ap (λ a. next_sending (state_of u) (sent_at u q d a).action (sent_at u q d a).value) back ∙ ap (λ (i : Input). next_sending (state_of u) i.action i.value) second
+  second_step = generator_step u (whole_round v whole) q d inside k (omega (arith, same_rate)) ∙ ap (λ a. next_sending (state_of u) (sent_at u q d a).action (sent_at u q d a).value) back ∙ ap (λ (i : Input). next_sending (state_of u) i.action i.value) second
 
   stays : state_of (round u) ≡ state_of u
   stays = ap (λ l. get_or l k None) (generators_on d (node_at (round u).ring.nodes q) (node_at u.ring.nodes q) (same_there u (whole_round v whole) calm q inside))

@@ -12,7 +12,8 @@ use Rattle.sdh_restoration.specs.Settled.{settled_states}
 use Rattle.sdh_payload.specs.Outlet.{Outlet}
 use Rattle.sdh_restoration.specs.Due.{due, other_end}
 use Rattle.sdh_request.specs.declared.settings.Settings.{Settings}
-use Rattle.sdh_node.specs.Crossing.{is_failed, received}
+use Rattle.sdh_terminal.specs.Lines.{received}
+use Rattle.sdh_node.specs.Crossing.{is_failed}
 use Rattle.sdh_node.specs.Node.{receiving_on}
 use Rattle.sdh_world.specs.Held.{HeldRing, outlet_at, node_at}
 use Rattle.sdh_world.specs.Fixed.{IsRing}
@@ -20,13 +21,13 @@ use Rattle.sdh_world.specs.Rounds.{World, round}
 use Rattle.sdh_world.specs.Runs.{run, course}
 use Rattle.sdh_world.specs.Quiet.{is_calm, EndsWindow, Settles}
 use Rattle.sdh_world.specs.Changes.{all_changed, Stretch, after_stretches, rounds_in, new_world}
-use Rattle.sdh_hearing.specs.Signalling.{crossing_at, signals_of}
+use Rattle.sdh_hearing.specs.Signalling.{lines_at, signals_of}
 use Rattle.sdh_world.specs.Laws.{MayHappen}
 use Rattle.sdh_world.specs.Clocks.{clocks_from, clocks_by}
 use Rattle.sdh_payload.specs.Clock.{Clock}
 use Rattle.sdh_circuits.specs.declared.PortId.{PortId}
 use Rattle.sdh_hearing.specs.Laws.{IsWhole, MayStart, asked_in}
-use Rattle.sdh_carrying.specs.Brought.{Brings, HasValue}
+use Rattle.sdh_spans.specs.Brought.{Brings, HasValue}
 use Rattle.sdh_carrying.specs.Windows.{layout_in, layout_of, HasCircuits, sent_at, requests_of, FailOnApplied, IsQuiet}
 
 -- over a span that didn't fail an AU-4 brings in a calm round what the neighbour sent in it in the calm round before
@@ -34,7 +35,7 @@ abbrev pub ASpanCarries : Type 0
 ASpanCarries = (w : World) → IsWhole w → is_calm (round w).ring.nodes ≡ true → is_calm (round (round w)).ring.nodes ≡ true
     → (p : ℕ) (d : Side) (au : ℕ) (b : Outlet) → p < length w.ring.ids → 1 ≤ au → au ≤ n_of w.ring.settings.rate → HasValue b
     → is_failed (receiving_on d (node_at (round (round w)).ring.nodes p)).local.defect ≡ false
-    → Brings (sent_at w (neighbour (length w.ring.ids) p d) (opposite d) au) b → Brings (received (crossing_at (round w) p) d au) b
+    → Brings (sent_at w (neighbour (length w.ring.ids) p d) (opposite d) au) b → Brings (received (lines_at (round w) p) d au) b
 
 -- after a round a side that failed is on an applied span
 abbrev pub FailuresAreApplied : Type 0

@@ -10,15 +10,17 @@ use Rattle.sdh_restoration.specs.Applied.{is_applied}
 use Rattle.sdh_restoration.specs.Settled.{settled}
 use Rattle.sdh_settling.specs.Signals.{requests_in}
 use Rattle.sdh_request.specs.declared.settings.Settings.{Settings}
+use Rattle.sdh_terminal.specs.declared.matrix.Feeder.{Feeder}
 use Rattle.sdh_terminal.specs.Passing.{Input}
+use Rattle.sdh_terminal.specs.Lines.{fed_by}
 use Rattle.sdh_terminal.specs.Tributaries.{added_by}
-use Rattle.sdh_node.specs.Crossing.{is_failed, input_of, input_at}
+use Rattle.sdh_node.specs.Crossing.{is_failed, feeder_of, leads}
 use Rattle.sdh_node.specs.Node.{receiving_on}
 use Rattle.sdh_world.specs.Held.{HeldRing, node_at}
 use Rattle.sdh_world.specs.Rounds.{World}
 use Rattle.sdh_world.specs.Runs.{run, course}
 use Rattle.sdh_world.specs.Quiet.{IsCalm}
-use Rattle.sdh_hearing.specs.Signalling.{crossing_at, needs_in}
+use Rattle.sdh_hearing.specs.Signalling.{crossing_at, lines_at, needs_in}
 
 -- what no round changes: the settings, the identifiers by position, and the circuits
 pub record Layout : Type 0 where
@@ -45,13 +47,17 @@ HasCircuits l = AreCircuits (size_of l) (slots_of l) l.circuits
 
 -- ---- in the round that begins with this world
 
--- what an origin in slot m brings at position p
+-- what an AU-4 at position p is fed with
+abbrev pub fed_at : World → ℕ → Feeder → Input
+fed_at w p f = fed_by (lines_at w p) (added_by (node_at w.ring.nodes p).ports) f
+
+-- what an origin in slot m brings there
 abbrev pub value_at : World → ℕ → ℕ → Origin → Input
-value_at w p m o = input_of (crossing_at w p) (added_by (node_at w.ring.nodes p).ports) m o
+value_at w p m o = fed_at w p (feeder_of (crossing_at w p) m o)
 
 -- what goes into AU-4 number au that leaves position p on side d
 abbrev pub sent_at : World → ℕ → Side → ℕ → Input
-sent_at w p d au = input_at (crossing_at w p) (added_by (node_at w.ring.nodes p).ports) d au
+sent_at w p d au = fed_at w p (leads (crossing_at w p) d au)
 
 -- ---- after a round
 

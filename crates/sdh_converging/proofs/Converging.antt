@@ -1,6 +1,6 @@
 -- From any ring that is paired with its fibres: all rounds are calm from some round on.
-use Rattle.std.proofs.Common.{◌≡◌, ℕ, zero, suc, ◌+◌, ◌-◌, ◌*◌, ◌<◌, ◌≤◌, Bool, false, List, length, map, get_or, Option, Some, None, ap, sym, ◌∙◌, subst, arith, inl, inr}
-use Rattle.std.specs.Prelude.{◌||◌, if◌then◌else◌}
+use Rattle.std.proofs.Common.{◌≡◌, ℕ, zero, suc, ◌+◌, ◌-◌, ◌*◌, ◌<◌, ◌≤◌, Bool, List, length, map, get_or, Option, Some, None, ap, sym, ◌∙◌, subst, arith, inl, inr}
+use Rattle.std.specs.Prelude.{if◌then◌else◌}
 use Rattle.std.proofs.lemmas.Bool.{cases_Bool}
 use Rattle.std.proofs.lemmas.List.{get_or-map}
 use Rattle.sdh_ringmap.specs.declared.Side.{Side}
@@ -14,12 +14,12 @@ use Rattle.sdh_settling.specs.Signals.{requests_in, request_on, no_needs}
 use Rattle.sdh_settling.specs.Laws.{RingsSettle}
 use Rattle.sdh_plant.specs.declared.plant.Condition.{Condition}
 use Rattle.sdh_nodestate.specs.Filtering.{Brought, with_brought, hears, heard_of}
-use Rattle.sdh_node.specs.Node.{Node, receiving_on, sending_on, is_held, word_of, sent_of}
+use Rattle.sdh_node.specs.Node.{Node, receiving_on, sending_on, word_of, sent_of}
 use Rattle.sdh_world.specs.Rounds.{World, round}
 use Rattle.sdh_world.specs.Runs.{run, course}
 use Rattle.sdh_world.specs.Quiet.{IsCalm}
 use Rattle.sdh_rounds.proofs.Runs.{known_unsettles}
-use Rattle.sdh_hearing.specs.Signalling.{word_to, is_lost, signals_of, needs_in}
+use Rattle.sdh_hearing.specs.Signalling.{word_to, signals_of, needs_in}
 use Rattle.sdh_hearing.specs.Laws.{IsWhole, GetsStill}
 use Rattle.sdh_hearing.proofs.Changes.{whole_run}
 use Rattle.sdh_hearing.proofs.Nodes.{count}
@@ -38,8 +38,7 @@ use Rattle.sdh_converging.proofs.Spreading.{pointers_rest}
 use Rattle.sdh_converging.proofs.Windows.{calm_ends_windows, answers_by}
 use Rattle.sdh_converging.proofs.Calming.{AreSame, calm_round}
 use Rattle.sdh_plant.specs.Fibres.{is_cut}
-use Rattle.sdh_world.specs.Held.{nowhere, node_at, AtEach}
-use Rattle.sdh_kbytes.specs.KBytes.{is_ms_ais}
+use Rattle.sdh_world.specs.Held.{nowhere, node_at}
 use Rattle.sdh_world.specs.Sides.{condition_to}
 use Rattle.sdh_node.specs.Stations.{adm}
 use Rattle.sdh_rounds.specs.Runs as any_run
@@ -52,19 +51,15 @@ same_at f xs ys p hx hy e = sym (get_or-map f xs p nowhere (f nowhere) hx) ∙ a
 
 -- the word behind a fibre, if it comes
 abbrev come_behind : Condition → K → Option K
-come_behind c k = if is_cut c || is_ms_ais k.mark then None else Some k
+come_behind c k = if is_cut c then None else Some k
 
 came_after : (u : World) → IsWhole u → (p : ℕ) (d : Side) → p < length u.ring.nodes → 0 < u.ring.rounds → (receiving_on d (node_at (round u).ring.nodes p)).brought.last ≡ come_behind (condition_to u p d) (word_to u p d)
 came_after u whole p d inside started =
     let b = brings u whole p d inside in
-    elim (cases_Bool (is_lost u p d)) [
-      | inl lost ↦ b.silent started lost ∙ sym (ap (λ (t : Bool). if t then None else Some (word_to u p d)) lost)
-      | inr kept ↦ b.comes started kept ∙ sym (ap (λ (t : Bool). if t then None else Some (word_to u p d)) kept)
+    elim (cases_Bool (is_cut (condition_to u p d))) [
+      | inl cut ↦ b.silent started cut ∙ sym (ap (λ (t : Bool). if t then None else Some (word_to u p d)) cut)
+      | inr clear ↦ b.comes started clear ∙ sym (ap (λ (t : Bool). if t then None else Some (word_to u p d)) clear)
     ]
-
--- no controller misses the next turn
-abbrev AllFree : World → Type 0
-AllFree w = AtEach (λ p n. is_held n ≡ false) w.ring.nodes
 
 module _ (w : World) (whole : IsWhole w) (form : HasCircuits (layout_of w)) (still : GetsStill w) where
   abbrev n : ℕ
@@ -100,7 +95,6 @@ module _ (w : World) (whole : IsWhole w) (form : HasCircuits (layout_of w)) (sti
   at_rest : IsAtRest (run base w) rs
   at_rest = record {
     spans = length-requests_of (run 103 w) n (nodes_run 103) ∙ ap length (sym (left_run base w).ids);
-    free = λ j. subst AllFree (sym (run_more w base j)) (still.free (j + base) (omega arith));
     unslipped = still.slips base (omega arith);
     settled_are = λ k some. subst (λ ids. AreSettled (length ids) rs (run k (run base w))) (sym (left_run base w).ids) (subst (AreSettled n rs) (sym (run_more w base k)) (settled_from (k + base) (omega arith)));
   }

@@ -1,5 +1,5 @@
 -- The pointers of a healthy ring, along the walk of each AU-4.
-use Rattle.std.proofs.Common.{false, ◌≡◌, ℕ, zero, suc, ◌+◌, ◌-◌, ◌<◌, ◌≤◌, List, length, get_or, replicate, Option, Some, None, refl, ap, ap₂, sym, ◌∙◌, subst, arith, inl, inr}
+use Rattle.std.proofs.Common.{◌≡◌, ℕ, zero, suc, ◌+◌, ◌-◌, ◌<◌, ◌≤◌, List, length, get_or, replicate, Option, Some, None, refl, ap, ap₂, sym, ◌∙◌, subst, arith, inl, inr}
 use Rattle.std.specs.Prelude.{◌/◌}
 use Rattle.std.proofs.lemmas.Bool.{cases_lt}
 use Rattle.std.proofs.lemmas.List.{get_or-replicate, length-replicate, get_or_past, ext_get_or}
@@ -26,19 +26,18 @@ use Rattle.sdh_pointer.proofs.Spreading.{values_spread, source_sends, action_sta
 use Rattle.sdh_plant.specs.Fibres.{Fibres, is_cut}
 use Rattle.sdh_request.specs.declared.settings.Settings.{Settings}
 use Rattle.sdh_terminal.specs.Passing.{Input}
-use Rattle.sdh_node.specs.Node.{Node, receiving_on, sending_on, new_node, is_held}
+use Rattle.sdh_node.specs.Node.{Node, receiving_on, sending_on, new_node}
 use Rattle.sdh_world.specs.Rounds.{World}
 use Rattle.sdh_world.specs.Runs.{run}
 use Rattle.sdh_hearing.specs.Laws.{IsWhole, MayStart}
 use Rattle.sdh_hearing.proofs.Rounds.{reads}
 use Rattle.sdh_carrying.specs.Windows.{layout_of, HasCircuits}
-use Rattle.sdh_carrying.proofs.Spans.{word_behind}
+use Rattle.sdh_spans.specs.Spans.{word_behind}
 use Rattle.sdh_converging.specs.Steady.{went, came, brought, HasStillPointers}
 use Rattle.sdh_converging.proofs.Spans.{sending_in, reading_in, word_in, Takes, generator_goes, interpreter_goes}
 use Rattle.sdh_converging.proofs.Ports.{IsSent, source_at, source_small, sources_send}
 use Rattle.sdh_converging.proofs.Spreading.{two_halves, working_goes, protection_goes, protection_comes, inside_of, beside, generators_many, readings_many}
-use Rattle.sdh_converging.proofs.Runs.{length_run}
-use Rattle.sdh_converging.proofs.HealthySignals.{begin_whole, size, new_is, new_unslipped, clear_begin, healthy, free_in}
+use Rattle.sdh_converging.proofs.HealthySignals.{begin_whole, size, new_is, new_unslipped, clear_begin, healthy}
 use Rattle.sdh_world.specs.Held.{node_at}
 use Rattle.sdh_world.specs.Sides.{condition_to}
 use Rattle.sdh_world.specs.Changes.{new_world}
@@ -88,9 +87,6 @@ module _ (s : Settings) (ids : List ℕ) (circuits : Provisioning) (f : Fibres) 
 
   near : (p : ℕ) (d : Side) → neighbour n p d < n
   near p d = beside w whole p d
-
-  free_near : (p : ℕ) (d : Side) (k : ℕ) → is_held (node_at (run k w).ring.nodes (neighbour n p d)) ≡ false
-  free_near p d k = free_in s ids circuits f may k (neighbour n p d) (let q = near p d in omega (arith, size s ids circuits f may, length_run w k))
 
   idle_after : (k p : ℕ) → p < n → (node_at (run k w).ring.nodes p).state ≡ Idle
   idle_after k p h = (healthy s ids circuits f may k p h).state_idle
@@ -146,7 +142,7 @@ module _ (s : Settings) (ids : List ℕ) (circuits : Provisioning) (f : Fibres) 
     takes k =
         subst (λ c. Takes w p d i (suc k) (word_behind (is_cut c) (word_over o h k))) (clear_begin s ids circuits f may p d)
         (subst (λ u. Takes w p d i (suc k) (word_behind (is_cut (condition_to w p d)) u)) (word_so (neighbour n p d) (opposite d) i o h small (near p d) few from k)
-        (interpreter_goes w whole p d i k (inside p there) few (free_near p d k)))
+        (interpreter_goes w whole p d i k (inside p there) few))
 
     pub reading_so : (k : ℕ) → reading_in w p d i k ≡ reading_over o (h + 1) k
     reading_so zero = reading_zero p d i there ∙ sym (reading_start o (h + 1) 0 (omega arith))

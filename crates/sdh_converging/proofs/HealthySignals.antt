@@ -1,6 +1,6 @@
 -- A healthy ring's requests, states and words.
-use Rattle.std.proofs.Common.{◌≡◌, ◌≢◌, ℕ, zero, suc, ◌-◌, ◌*◌, ◌<◌, ◌≤◌, Bool, true, false, List, [], ◌∷◌, length, get_or, replicate, Option, Some, None, refl, ap, ap₂, sym, ◌∙◌, subst, arith, inl, inr}
-use Rattle.std.specs.Prelude.{◌||◌, nat_lt, nat_le, if◌then◌else◌, slice_index}
+use Rattle.std.proofs.Common.{◌≡◌, ◌≢◌, ℕ, zero, suc, ◌-◌, ◌*◌, ◌<◌, ◌≤◌, Bool, true, false, List, [], ◌∷◌, length, get_or, replicate, Option, Some, None, refl, ap, sym, ◌∙◌, subst, arith, inl, inr}
+use Rattle.std.specs.Prelude.{nat_lt, nat_le, if◌then◌else◌, slice_index}
 use Rattle.std.proofs.lemmas.Bool.{cases_lt}
 use Rattle.std.proofs.lemmas.List.{get_or-replicate, length-replicate, get_or_past}
 use Rattle.sdh_basics.proofs.CellsLaws.{length-cells, get_or-cells}
@@ -32,7 +32,7 @@ use Rattle.sdh_world.specs.Runs.{run}
 use Rattle.sdh_world.specs.Changes.{Stretch, new_world}
 use Rattle.sdh_world.specs.Laws.{MayHappen}
 use Rattle.sdh_world.specs.Sides.{new_holding, holding_in, side_history, condition_to}
-use Rattle.sdh_hearing.specs.Signalling.{word_to, is_lost}
+use Rattle.sdh_hearing.specs.Signalling.{word_to}
 use Rattle.sdh_hearing.specs.Laws.{IsWhole, MayStart, NoneWait}
 use Rattle.sdh_hearing.proofs.Clocks.{new_none}
 use Rattle.sdh_converging.specs.Steady.{IsUnslipped}
@@ -46,7 +46,6 @@ use Rattle.sdh_converging.proofs.Runs.{length_run, condition_run}
 use Rattle.sdh_converging.proofs.Idle.{IsQuiet, idle, asks_nothing}
 use Rattle.sdh_converging.proofs.Uneventful as side
 use Rattle.sdh_converging.proofs.Uneventful.{IsUneventful}
-use Rattle.sdh_kbytes.specs.KBytes.{is_ms_ais}
 use Rattle.sdh_rounds.specs.Runs as any_run
 
 all_clear : (m i : ℕ) → get_or (replicate m Clear) i Clear ≡ Clear
@@ -177,8 +176,8 @@ module _ (s : Settings) (ids : List ℕ) (circuits : Provisioning) (f : Fibres) 
         ap (λ i. word_of (opposite d) (node_at u.ring.nodes (neighbour (length i) p d))) (left_run k begin).ids
         ∙ (before (neighbour count p d) (beside d)).word_first (opposite d)
 
-    not_lost : (d : Side) → is_lost u p d ≡ false
-    not_lost d = ap₂ (λ c (w : K). is_cut c || is_ms_ais w.mark) (clear_run k p d) (word_comes d)
+    not_cut : (d : Side) → is_cut (condition_to u p d) ≡ false
+    not_cut d = ap is_cut (clear_run k p d)
 
     works : (d : Side) → is_failed (receiving_on d new).local.defect ≡ false
     unfolding any_run.run
@@ -186,7 +185,7 @@ module _ (s : Settings) (ids : List ℕ) (circuits : Provisioning) (f : Fibres) 
         let b = brings u uwhole p d there in
         elim (cases_lt 0 u.ring.rounds) [
           | inr none ↦ ap is_failed (b.no_defect (let z : u.ring.rounds ≡ 0 = omega arith in z))
-          | inl some ↦ failed_not _ (b.works some (not_lost d))
+          | inl some ↦ failed_not _ (b.works some (not_cut d))
         ]
 
     needs_none : needed new ≡ no_needs
@@ -203,7 +202,7 @@ module _ (s : Settings) (ids : List ℕ) (circuits : Provisioning) (f : Fibres) 
         let b = brings u uwhole p d there in
         elim (cases_lt 0 u.ring.rounds) [
           | inr none ↦ subst IsQuiet (sym (b.nothing (let z : u.ring.rounds ≡ 0 = omega arith in z))) tt
-          | inl some ↦ subst IsQuiet (sym (b.comes some (not_lost d) ∙ ap (λ w. Some w) (word_comes d))) (refl, refl)
+          | inl some ↦ subst IsQuiet (sym (b.comes some (not_cut d) ∙ ap (λ w. Some w) (word_comes d))) (refl, refl)
         ]
 
     quiet_next : (d : Side) → IsQuiet (hears (receiving_on d new).brought)
@@ -217,7 +216,7 @@ module _ (s : Settings) (ids : List ℕ) (circuits : Provisioning) (f : Fibres) 
     unfolding any_run.run
     last_next d some =
         let b = brings u uwhole p d there in
-        b.comes (let r = (left_run k begin).rounds in omega arith) (not_lost d) ∙ ap (λ w. Some w) (word_comes d)
+        b.comes (let r = (left_run k begin).rounds in omega arith) (not_cut d) ∙ ap (λ w. Some w) (word_comes d)
 
     pub earlier_next : (d : Side) → kept (suc k) p d ≡ with_brought (kept (suc k) p d).last (kept k p d)
     unfolding any_run.run

@@ -10,9 +10,7 @@ use Rattle.sdh_circuits.specs.declared.PortId.{PortId}
 use Rattle.sdh_circuits.specs.declared.End.TheVariants.{A, B}
 use Rattle.sdh_circuits.specs.Provisioned.{Provisioned}
 use Rattle.sdh_circuits.specs.Provisioning.{HasOffsets}
-use Rattle.sdh_payload.specs.declared.chunk.ChunkForm.{ChunkForm}
-use Rattle.sdh_payload.specs.declared.chunk.ChunkForm.TheVariants.{Plain, Short, Long}
-use Rattle.sdh_payload.specs.Clock.{Clock, IsClock, waiting, next_form, after_form, ticked, ticks}
+use Rattle.sdh_payload.specs.Clock.{Clock, IsClock, waiting, ticked, ticks}
 use Rattle.sdh_payload.proofs.Clocking.{form_ticked, goes_plain, plain_tick, goes_on}
 use Rattle.sdh_bridge.specs.declared.Origin.{Origin}
 use Rattle.sdh_bridge.specs.declared.Origin.TheVariants.{Add, Working, Protection, Ais}
@@ -24,7 +22,8 @@ use Rattle.sdh_routes.specs.Walks.{IsOver}
 use Rattle.sdh_terminal.specs.Passing.{Input, no_input}
 use Rattle.sdh_terminal.specs.Tributaries.{Tributary, action_of, port_of, sent_by, sent_in, input_by, added_by, ends_at, ends_from, new_tributary, tributaries_at}
 use Rattle.sdh_node.specs.Node.{Node, crossing, ports_after, after_crossing, with_calm, node_round}
-use Rattle.sdh_node.proofs.Dropped.{clock-next}
+use Rattle.sdh_terminal.proofs.Ports.{clock-next}
+use Rattle.sdh_node.specs.Crossing.{dropped_to, all_delivered}
 use Rattle.sdh_world.specs.Fixed.{FixedPort, fixed_port}
 use Rattle.sdh_world.specs.Held.{node_at}
 use Rattle.sdh_world.specs.Rounds.{World, round}
@@ -68,10 +67,10 @@ abbrev pub value_there : World → ℕ → PortId → Option ℕ
 value_there w q id = option_map (λ (c : Clock). c.value) (clock_there w q id)
 
 clock_next : (w : World) → IsWhole w → (q : ℕ) (id : PortId) → q < length w.ring.nodes → clock_there (round w) q id ≡ option_map ticked (clock_there w q id)
-unfolding node_round with_calm after_crossing ports_after
+unfolding node_round with_calm after_crossing ports_after all_delivered
 clock_next w whole q id h =
     ap (λ (y : Node). option_map_or (λ (t : Tributary). Some t.feed.clock) (port_of id y.ports) None) (nodes_after w whole.placed q h)
-    ∙ clock-next (crossing w.ring.moment (informed w q)) id (node_at w.ring.nodes q).ports
+    ∙ clock-next (dropped_to (crossing w.ring.moment (informed w q))) id (node_at w.ring.nodes q).ports
     ∙ mapped (port_of id (node_at w.ring.nodes q).ports)
   where
     mapped : (o : Option Tributary) → option_map_or (λ (t : Tributary). Some (ticked t.feed.clock)) o None ≡ option_map ticked (option_map_or (λ (t : Tributary). Some t.feed.clock) o None)

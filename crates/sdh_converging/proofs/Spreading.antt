@@ -1,5 +1,5 @@
 -- Pointers come to rest span by span.
-use Rattle.std.proofs.Common.{◌≡◌, ℕ, suc, ◌+◌, ◌-◌, ◌*◌, ◌<◌, ◌≤◌, List, length, None, refl, ap, sym, ◌∙◌, subst, arith, inl, inr}
+use Rattle.std.proofs.Common.{◌≡◌, ℕ, suc, ◌+◌, ◌-◌, ◌*◌, ◌<◌, ◌≤◌, List, length, None, refl, sym, ◌∙◌, subst, arith, inl, inr}
 use Rattle.std.specs.Prelude.{◌/◌}
 use Rattle.std.proofs.lemmas.Bool.{cases_lt}
 use Rattle.std.proofs.lemmas.List.{ext_get_or}
@@ -19,7 +19,6 @@ use Rattle.sdh_routes.specs.Walks.{IsOver, IsArrival, back_from, working_in, pro
 use Rattle.sdh_routes.specs.Rounds.{Spreads}
 use Rattle.sdh_routes.proofs.Spread.{steadiness_spreads}
 use Rattle.sdh_pointer.specs.Reading.{start}
-use Rattle.sdh_terminal.specs.Passing.{Input}
 use Rattle.sdh_node.specs.Node.{receiving_on, sending_on}
 use Rattle.sdh_world.specs.Rounds.{World}
 use Rattle.sdh_world.specs.Runs.{run}
@@ -29,27 +28,15 @@ use Rattle.sdh_hearing.proofs.Nodes.{count}
 use Rattle.sdh_carrying.specs.Windows.{layout_of, slots_of, HasCircuits}
 use Rattle.sdh_carrying.proofs.Connections.{SendsWorking, SendsProtection, BringsProtection, sends_working, sends_protection, brings_protection}
 use Rattle.sdh_carrying.proofs.Ways.{layout_run}
-use Rattle.sdh_converging.specs.Steady.{went, came, brought, IsConstant, IsAtRest, HasStillPointers}
+use Rattle.sdh_spans.specs.Spans.{IsConstant}
+use Rattle.sdh_spans.proofs.Steady.{constant_as, constant_later}
+use Rattle.sdh_converging.specs.Steady.{went, came, brought, IsAtRest, HasStillPointers}
 use Rattle.sdh_converging.specs.Laws.{PointersRest}
 use Rattle.sdh_converging.proofs.Runs.{length_run, rate_run}
 use Rattle.sdh_converging.proofs.Spans.{a_span_is_steady, sending_rests, reading_rests}
 use Rattle.sdh_converging.proofs.Ports.{does_by, value_by, sound_by, source_at, source_small, sources_send}
 use Rattle.sdh_world.specs.Held.{node_at}
 use Rattle.sdh_rounds.specs.Runs as any_run
-
--- ---- constants
-
-constant_as : (f g : ℕ → Input) (k : ℕ) → ((j : ℕ) → g j ≡ f j) → IsConstant f k → IsConstant g k
-constant_as f g k same c = record {
-  does = c.does;
-  value = c.value;
-  sound = c.sound;
-  does_is = λ j h. ap (λ (i : Input). i.action) (same j) ∙ c.does_is j h;
-  value_is = λ j h. ap (λ (i : Input). i.value) (same j) ∙ c.value_is j h;
-}
-
-constant_later : (f : ℕ → Input) (k l : ℕ) → k ≤ l → IsConstant f k → IsConstant f l
-constant_later f k l late c = record { does = c.does; value = c.value; sound = c.sound; does_is = λ j h. c.does_is j (omega arith); value_is = λ j h. c.value_is j (omega arith) }
 
 pub two_halves : (rate : Rate) → n_of rate / 2 + n_of rate / 2 ≡ n_of rate
 two_halves Four = refl
@@ -117,12 +104,12 @@ module _ (w : World) (whole : IsWhole w) (form : HasCircuits (layout_of w)) (rs 
     over_span t p (Add id) h arrives c = absurd arrives
     over_span t p (Working d) h arrives c =
         let q = neighbour (n w whole) p d in
-        a_span_is_steady w whole rest.free p d m t h low (omega (arith, two_halves w.ring.settings.rate))
+        a_span_is_steady w whole p d m t h low (omega (arith, two_halves w.ring.settings.rate))
         (constant_as _ (went w q (opposite d) m) t (λ j. went_working q j (opposite d) (beside w whole p d)) c)
     over_span t p (Protection d) h arrives c =
         let q = neighbour (n w whole) p d in
         constant_as (came w p d (half w whole + m)) (brought w p m (Protection d)) (t + 9) (λ j. protection_comes w whole p m j d h)
-        (a_span_is_steady w whole rest.free p d (half w whole + m) t h (omega arith) (omega (arith, two_halves w.ring.settings.rate))
+        (a_span_is_steady w whole p d (half w whole + m) t h (omega arith) (omega (arith, two_halves w.ring.settings.rate))
         (constant_as _ (went w q (opposite d) (half w whole + m)) t (λ j. went_protection q j (opposite d) (beside w whole p d)) c))
 
     spreads : Spreads (n w whole) (settled rs) (cs w whole) m (λ t p o. IsConstant (brought w p m o) t) 0 9
@@ -167,7 +154,7 @@ module _ (w : World) (whole : IsWhole w) (form : HasCircuits (layout_of w)) (rs 
         sending_rests w whole p d i (27 * n w whole + 9) h few c (suc j) (omega arith) ∙ sym (sending_rests w whole p d i (27 * n w whole + 9) h few c j (omega arith))));
     readings = λ p d h. ext_get_or start _ _ (readings_many w whole (suc j) p d h ∙ sym (readings_many w whole j p d h)) (λ i small.
         (let few : i < n_of w.ring.settings.rate = omega (arith, readings_many w whole (suc j) p d h) in
-        reading_rests w whole p d i (27 * n w whole + 9) h few (all_went (neighbour (n w whole) p d) i (opposite d) (beside w whole p d) few) rest.free j (omega arith)));
+        reading_rests w whole p d i (27 * n w whole + 9) h few (all_went (neighbour (n w whole) p d) i (opposite d) (beside w whole p d) few) j (omega arith)));
   }
 
 pub pointers_rest : PointersRest

@@ -13,13 +13,13 @@ use Rattle.sdh_world.specs.Changes.{Stretch, after_stretches, new_world}
 use Rattle.sdh_world.specs.Laws.{MayHappen}
 use Rattle.sdh_hearing.specs.Laws.{IsWhole, MayStart}
 use Rattle.sdh_carrying.specs.Windows.{layout_of, HasCircuits}
-use Rattle.sdh_converging.specs.Steady.{went, came, IsConstant, IsFree, IsAtRest, HasStillPointers}
+use Rattle.sdh_spans.specs.Spans.{IsConstant}
+use Rattle.sdh_converging.specs.Steady.{went, came, IsAtRest, HasStillPointers}
 
 -- What goes into an AU-4 with one action and one value from round k on comes out on the other side of the span, or AIS where
--- its fibre is cut, with one action and one value nine rounds later, whatever its generator and its interpreter kept, as long as no
--- controller misses a turn.
+-- its fibre is cut, with one action and one value nine rounds later, whatever its generator and its interpreter kept.
 abbrev pub ASpanIsSteady : Type 0
-ASpanIsSteady = (w : World) → IsWhole w → IsFree w → (p : ℕ) (d : Side) (au k : ℕ) → p < length w.ring.ids → 1 ≤ au → au ≤ n_of w.ring.settings.rate
+ASpanIsSteady = (w : World) → IsWhole w → (p : ℕ) (d : Side) (au k : ℕ) → p < length w.ring.ids → 1 ≤ au → au ≤ n_of w.ring.settings.rate
     → IsConstant (went w (neighbour (length w.ring.ids) p d) (opposite d) au) k → IsConstant (came w p d au) (k + 9)
 
 -- Where the nodes stay in settled states, no pointer moves after 27n + 18 rounds: nine for each span of the longest walk, and

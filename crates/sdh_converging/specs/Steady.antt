@@ -1,15 +1,13 @@
 -- What stays the same from some round of a run on.
-use Rattle.std.specs.Prelude.{ℕ, suc, ◌≡◌, ◌<◌, ◌≤◌, false, List, length}
+use Rattle.std.specs.Prelude.{ℕ, suc, ◌≡◌, ◌<◌, ◌≤◌, List, length}
 use Rattle.sdh_ringmap.specs.declared.Side.{Side}
 use Rattle.sdh_bridge.specs.declared.Origin.{Origin}
-use Rattle.sdh_pointer.specs.declared.reading.Action.{Action}
-use Rattle.sdh_pointer.specs.Laws.{IsSound}
 use Rattle.sdh_terminal.specs.Passing.{Input}
-use Rattle.sdh_node.specs.Crossing.{received}
-use Rattle.sdh_node.specs.Node.{receiving_on, sending_on, is_held}
+use Rattle.sdh_terminal.specs.Lines.{received}
+use Rattle.sdh_node.specs.Node.{receiving_on, sending_on}
 use Rattle.sdh_world.specs.Rounds.{World}
 use Rattle.sdh_world.specs.Runs.{run}
-use Rattle.sdh_hearing.specs.Signalling.{crossing_at}
+use Rattle.sdh_hearing.specs.Signalling.{lines_at}
 use Rattle.sdh_hearing.specs.Laws.{NoneWait}
 use Rattle.sdh_carrying.specs.Windows.{value_at, sent_at, AreSettled}
 use Rattle.sdh_world.specs.Held.{node_at, AtEach}
@@ -21,32 +19,19 @@ abbrev pub went : World → ℕ → Side → ℕ → ℕ → Input
 went w p d au k = sent_at (run k w) p d au
 
 abbrev pub came : World → ℕ → Side → ℕ → ℕ → Input
-came w p d au k = received (crossing_at (run k w) p) d au
+came w p d au k = received (lines_at (run k w) p) d au
 
 -- what an origin in slot m brought there
 abbrev pub brought : World → ℕ → ℕ → Origin → ℕ → Input
 brought w p m o k = value_at (run k w) p m o
 
--- from round k on these have one action and one value
-pub record IsConstant (f : ℕ → Input) (k : ℕ) : Type 0 where
-  pub does : Action
-  pub value : ℕ
-  pub sound : IsSound does value
-  pub does_is : (j : ℕ) → k ≤ j → (f j).action ≡ does
-  pub value_is : (j : ℕ) → k ≤ j → (f j).value ≡ value
-
--- no controller misses a turn from now on
-abbrev pub IsFree : World → Type 0
-IsFree w = (j : ℕ) → AtEach (λ p n. is_held n ≡ false) (run j w).ring.nodes
-
 -- no slip waits at any port
 abbrev pub IsUnslipped : World → Type 0
 IsUnslipped w = AtEach (λ p n. NoneWait n.ports) w.ring.nodes
 
--- no controller misses a turn, no slip waits, and after each round the nodes are in the settled states of these requests of spans
+-- no slip waits, and after each round the nodes are in the settled states of these requests of spans
 pub record IsAtRest (w : World) (rs : List ℕ) : Type 0 where
   pub spans : length rs ≡ length w.ring.ids
-  pub free : IsFree w
   pub unslipped : IsUnslipped w
   pub settled_are : (k : ℕ) → 1 ≤ k → AreSettled (length w.ring.ids) rs (run k w)
 

@@ -1,5 +1,5 @@
 -- A new ring over prepared fibres, and what happens between two rounds.
-use Rattle.std.proofs.Common.{◌≡◌, ℕ, zero, suc, ◌*◌, ◌<◌, ◌≤◌, List, [], ◌∷◌, length, get_or, replicate, map, Some, None, refl, ap, sym, subst, ◌∙◌, arith, inl, inr}
+use Rattle.std.proofs.Common.{◌≡◌, ◌≢◌, ℕ, zero, suc, ◌*◌, ◌<◌, ◌≤◌, List, [], ◌∷◌, length, get_or, replicate, map, Some, None, refl, ap, sym, subst, ◌∙◌, arith, inl, inr}
 use Rattle.std.specs.Prelude.{slice_get}
 use Rattle.std.proofs.lemmas.Bool.{cases_lt}
 use Rattle.std.proofs.lemmas.List.{length-replicate, get_or-replicate, get_or_past}
@@ -14,6 +14,7 @@ use Rattle.sdh_kbytes.specs.KBytes.{IsSpellable}
 use Rattle.sdh_circuits.specs.Provisioned.{Provisioned}
 use Rattle.sdh_circuits.specs.Provisioning.{Provisioning}
 use Rattle.sdh_kbytes.specs.declared.K.{K}
+use Rattle.sdh_kbytes.specs.declared.Mark.TheVariants as mark
 use Rattle.sdh_plant.specs.Fibres.{Arrival, fibre, Fibres}
 use Rattle.sdh_plant.specs.Arrivals.{carried_on}
 use Rattle.sdh_plant.specs.Calls.{prepared}
@@ -22,15 +23,18 @@ use Rattle.sdh_plant.proofs.Calling as plant
 use Rattle.sdh_world.specs.Laws.{IsChangeOf, AreChangesOf}
 use Rattle.sdh_world.proofs.Honest.{changes_keep_honest, changes_keep_prepared}
 use Rattle.sdh_request.specs.declared.settings.Settings.{Settings}
-use Rattle.sdh_node.specs.Receiving.{Receiving, commanded_by}
+use Rattle.sdh_node.specs.Receiving.{Receiving, commanded_by, inlet_of}
+use Rattle.sdh_frame.specs.declared.Rate.{Rate}
+use Rattle.sdh_spans.specs.Frames.{CarriesWord, AreCarried}
+use Rattle.sdh_spans.specs.Sides.{IsInletAt, IsSenderAt}
 use Rattle.sdh_node.specs.Node.{Node, new_node, at_receiving, held_for, slips_at, receiving_on, sending_on, word_of}
 use Rattle.sdh_world.specs.Held.{new_nodes, at_place, place_of_port, new_ring, nowhere, AtEach}
 use Rattle.sdh_world.specs.Rounds.{World, world}
 use Rattle.sdh_world.specs.Runs.{run}
 use Rattle.sdh_world.specs.Changes.{Change, Fibre, Order, Hold, Slip, Now, changed, all_changed}
 use Rattle.sdh_world.proofs.Keeping.{length-new, new_at, all_commanded, all_held, all_slipped}
-use Rattle.sdh_hearing.specs.Placed.{IsReceiver, IsSender, HasSides, IsBetween, IsPlaced}
-use Rattle.sdh_hearing.specs.Paired.{CarriesWord, AreCarried, IsSourcedIn, KeepsSourced, IsSpelled, FewWait, IsPaired}
+use Rattle.sdh_hearing.specs.Placed.{HasSides, IsBetween, IsPlaced}
+use Rattle.sdh_hearing.specs.Paired.{IsSourcedIn, KeepsSourced, IsSpelled, NeverAis, FewWait, IsPaired}
 use Rattle.sdh_hearing.specs.Laws.{IsWhole, NewWorldsAreWhole, StayWhole, StayPlaced}
 use Rattle.sdh_world.specs.Fixed.{fixed}
 use Rattle.sdh_payload.specs.declared.clock.Turn.{Turn}
@@ -57,11 +61,11 @@ module _ (s : Settings) (ids : List ℕ) (circuits : List Provisioned) (p : ℕ)
   unfolding new_node
   new_sides = record { receives = receives; sends = sends }
     where
-      receives : (d : Side) → IsReceiver s (receiving_on d one)
+      receives : (d : Side) → IsInletAt s.rate (inlet_of (receiving_on d one))
       receives West = record { rate = refl; readings = length-replicate _ _ }
       receives East = record { rate = refl; readings = length-replicate _ _ }
 
-      sends : (d : Side) → IsSender s (sending_on d one)
+      sends : (d : Side) → IsSenderAt s.rate (sending_on d one)
       sends West = record { rate = refl; generators = length-replicate _ _; parities = tt }
       sends East = record { rate = refl; generators = length-replicate _ _; parities = tt }
 
@@ -96,6 +100,11 @@ module _ (s : Settings) (ids : List ℕ) (circuits : List Provisioned) (p : ℕ)
   new_spelled is h West = first_spells ids p West is h
   new_spelled is h East = first_spells ids p East is h
 
+  new_never_ais : NeverAis one
+  unfolding new_node
+  new_never_ais West e = cc
+  new_never_ais East e = cc
+
 none_at : (m i : ℕ) → get_or {A = Arrival} (replicate m None) i None ≡ None
 none_at m i = elim (cases_lt i m) [
   | inl lt ↦ get_or-replicate m i None None lt
@@ -128,6 +137,7 @@ new_worlds_are_whole s ids circuits f is honest =
         sourced = each_new (λ p m. IsSourcedIn ids m) s ids cs (λ p low. new_sourced s ids cs p low);
         kept = each_new (λ p m. (d : Side) → KeepsSourced ids (receiving_on d m).brought) s ids cs (λ p low. new_kept s ids cs p);
         spelled = each_new (λ p m. IsSpelled m) s ids cs (λ p low. new_spelled s ids cs p is low);
+        never_ais = each_new (λ p m. NeverAis m) s ids cs (λ p low. new_never_ais s ids cs p);
         held = each_new (λ p m. m.held ≤ 100) s ids cs (λ p low. new_held s ids cs p);
         slips = each_new (λ p m. FewWait m.ports) s ids cs (λ p low. new_slips s ids cs p);
       };
@@ -156,11 +166,11 @@ pub sending_commanded : (d e : Side) (c : Command) (n : Node) → sending_on e (
 sending_commanded d West c n = refl
 sending_commanded d East c n = refl
 
-receiver_commanded : (s : Settings) (c : Command) (d e : Side) (n : Node) → IsReceiver s (receiving_on e n) → IsReceiver s (receiving_on e (at_receiving d (commanded_by c) n))
-receiver_commanded s c West West n h = record { rate = h.rate; readings = h.readings }
-receiver_commanded s c West East n h = h
-receiver_commanded s c East West n h = h
-receiver_commanded s c East East n h = record { rate = h.rate; readings = h.readings }
+receiver_commanded : (at : Rate) (c : Command) (d e : Side) (n : Node) → IsInletAt at (inlet_of (receiving_on e n)) → IsInletAt at (inlet_of (receiving_on e (at_receiving d (commanded_by c) n)))
+receiver_commanded at c West West n h = record { rate = h.rate; readings = h.readings }
+receiver_commanded at c West East n h = h
+receiver_commanded at c East West n h = h
+receiver_commanded at c East East n h = record { rate = h.rate; readings = h.readings }
 
 arrived_commanded : (d e : Side) (c : Command) (n : Node) → (receiving_on e (at_receiving d (commanded_by c) n)).arrived ≡ (receiving_on e n).arrived
 arrived_commanded West West c n = refl
@@ -169,7 +179,7 @@ arrived_commanded East West c n = refl
 arrived_commanded East East c n = refl
 
 sides_commanded : (s : Settings) (d : Side) (c : Command) (n : Node) → HasSides s n → HasSides s (at_receiving d (commanded_by c) n)
-sides_commanded s d c n h = record { receives = λ e. receiver_commanded s c d e n (h.receives e); sends = λ e. subst (IsSender s) (sym (sending_commanded d e c n)) (h.sends e) }
+sides_commanded s d c n h = record { receives = λ e. receiver_commanded s.rate c d e n (h.receives e); sends = λ e. subst (IsSenderAt s.rate) (sym (sending_commanded d e c n)) (h.sends e) }
 
 between_commanded : (rounds : ℕ) (d : Side) (c : Command) (n : Node) → IsBetween rounds n → IsBetween rounds (at_receiving d (commanded_by c) n)
 between_commanded rounds d c n h = record { ran = h.ran; gone = h.gone; fresh = λ e. arrived_commanded d e c n ∙ h.fresh e }
@@ -178,7 +188,11 @@ between_commanded rounds d c n h = record { ran = h.ran; gone = h.gone; fresh = 
 word_commanded : (P : K → Type 0) (d e : Side) (c : Command) (n : Node) → P (word_of e n) → P (word_of e (at_receiving d (commanded_by c) n))
 word_commanded P d e c n h = subst (λ x. P x.word) (sym (sending_commanded d e c n)) h
 
-carried_commanded : (w : World) (d : Side) (c : Command) (p : ℕ) (n : Node) → AreCarried w.ring.settings.rate w.fibres w.ring.rounds p n → AreCarried w.ring.settings.rate w.fibres w.ring.rounds p (at_receiving d (commanded_by c) n)
+-- the fibres that leave a node carry its words
+abbrev CarriedFrom : World → ℕ → Node → Type 0
+CarriedFrom w p n = AreCarried w.ring.settings.rate w.fibres w.ring.rounds p (λ d. word_of d n)
+
+carried_commanded : (w : World) (d : Side) (c : Command) (p : ℕ) (n : Node) → CarriedFrom w p n → CarriedFrom w p (at_receiving d (commanded_by c) n)
 carried_commanded w d c p n h = record { dark = h.dark; frames = λ e some. word_commanded (λ k. CarriesWord w.ring.settings.rate k (carried_on w.fibres (fibre p e))) d e c n (h.frames e some) }
 
 kept_commanded : (ids : List ℕ) (d e : Side) (c : Command) (n : Node) → KeepsSourced ids (receiving_on e n).brought → KeepsSourced ids (receiving_on e (at_receiving d (commanded_by c) n)).brought
@@ -226,7 +240,7 @@ with_node p f w = record w { ring = record w.ring { nodes = at_place p f w.ring.
 
 module _ (f : Node → Node) (leaves : LeavesSides f) where
   sides_left : (s : Settings) (n : Node) → HasSides s n → HasSides s (f n)
-  sides_left s n h = record { receives = λ e. subst (IsReceiver s) (sym (leaves.receiving e n)) (h.receives e); sends = λ e. subst (IsSender s) (sym (leaves.sending e n)) (h.sends e) }
+  sides_left s n h = record { receives = λ e. subst (λ r. IsInletAt s.rate (inlet_of r)) (sym (leaves.receiving e n)) (h.receives e); sends = λ e. subst (IsSenderAt s.rate) (sym (leaves.sending e n)) (h.sends e) }
 
   fresh_left : (rounds : ℕ) (n : Node) → IsBetween rounds n → (e : Side) → (receiving_on e (f n)).arrived ≡ None
   fresh_left rounds n h e = ap (λ (r : Receiving). r.arrived) (leaves.receiving e n) ∙ h.fresh e
@@ -235,7 +249,7 @@ module _ (f : Node → Node) (leaves : LeavesSides f) where
   word_left : (P : K → Type 0) (e : Side) (n : Node) → P (word_of e n) → P (word_of e (f n))
   word_left P e n h = subst (λ x. P x.word) (sym (leaves.sending e n)) h
 
-  carried_left : (w : World) (p : ℕ) (n : Node) → AreCarried w.ring.settings.rate w.fibres w.ring.rounds p n → AreCarried w.ring.settings.rate w.fibres w.ring.rounds p (f n)
+  carried_left : (w : World) (p : ℕ) (n : Node) → CarriedFrom w p n → CarriedFrom w p (f n)
   carried_left w p n h = record { dark = h.dark; frames = λ e some. word_left (λ k. CarriesWord w.ring.settings.rate k (carried_on w.fibres (fibre p e))) e n (h.frames e some) }
 
   kept_left : (ids : List ℕ) (e : Side) (n : Node) → KeepsSourced ids (receiving_on e n).brought → KeepsSourced ids (receiving_on e (f n)).brought
@@ -255,10 +269,11 @@ module _ (f : Node → Node) (leaves : LeavesSides f) where
       record {
         honest = was.honest;
         prepared = was.prepared;
-        carried = each_at_place (AreCarried w.ring.settings.rate w.fibres w.ring.rounds) f (λ q n h. carried_left w q n h) p ns was.carried;
+        carried = each_at_place (CarriedFrom w) f (λ q n h. carried_left w q n h) p ns was.carried;
         sourced = each_at_place (λ q n. IsSourcedIn w.ring.ids n) f (λ q n h e. word_left (λ k. IsMember w.ring.ids k.from) e n (h e)) p ns was.sourced;
         kept = each_at_place (λ q n. (e : Side) → KeepsSourced w.ring.ids (receiving_on e n).brought) f (λ q n h e. kept_left w.ring.ids e n (h e)) p ns was.kept;
         spelled = each_at_place (λ q n. IsSpelled n) f (λ q n h e. word_left IsSpellable e n (h e)) p ns was.spelled;
+        never_ais = each_at_place (λ q n. NeverAis n) f (λ q n h e. word_left (λ k. k.mark ≢ mark.MsAis) e n (h e)) p ns was.never_ais;
         held = held;
         slips = slips;
       }
@@ -297,6 +312,7 @@ whole_changed (Fibre p d condition) w may whole = record {
     sourced = whole.paired.sourced;
     kept = whole.paired.kept;
     spelled = whole.paired.spelled;
+    never_ais = whole.paired.never_ais;
     held = whole.paired.held;
     slips = whole.paired.slips;
   };
@@ -310,10 +326,11 @@ whole_changed (Order p d c) w may whole =
       paired = record {
         honest = was.honest;
         prepared = was.prepared;
-        carried = each_at_place (AreCarried w.ring.settings.rate w.fibres w.ring.rounds) change (λ q n h. carried_commanded w d c q n h) p ns was.carried;
+        carried = each_at_place (CarriedFrom w) change (λ q n h. carried_commanded w d c q n h) p ns was.carried;
         sourced = each_at_place (λ q n. IsSourcedIn w.ring.ids n) change (λ q n h e. word_commanded (λ k. IsMember w.ring.ids k.from) d e c n (h e)) p ns was.sourced;
         kept = each_at_place (λ q n. (e : Side) → KeepsSourced w.ring.ids (receiving_on e n).brought) change (λ q n h e. kept_commanded w.ring.ids d e c n (h e)) p ns was.kept;
         spelled = each_at_place (λ q n. IsSpelled n) change (λ q n h e. word_commanded IsSpellable d e c n (h e)) p ns was.spelled;
+        never_ais = each_at_place (λ q n. NeverAis n) change (λ q n h e. word_commanded (λ k. k.mark ≢ mark.MsAis) d e c n (h e)) p ns was.never_ais;
         held = each_at_place (λ q n. n.held ≤ 100) change (λ q n h. let same = held_commanded d c n in omega arith) p ns was.held;
         slips = each_at_place (λ q n. FewWait n.ports) change (λ q n h. h) p ns was.slips;
       };
@@ -336,7 +353,7 @@ whole_changed (Slip id turn count) w may whole =
     }
 whole_changed (Now t) w may whole = record {
   placed = placed_changed (Now t) w whole.placed;
-  paired = (let was = whole.paired in record { honest = was.honest; prepared = was.prepared; carried = was.carried; sourced = was.sourced; kept = was.kept; spelled = was.spelled; held = was.held; slips = was.slips });
+  paired = (let was = whole.paired in record { honest = was.honest; prepared = was.prepared; carried = was.carried; sourced = was.sourced; kept = was.kept; spelled = was.spelled; never_ais = was.never_ais; held = was.held; slips = was.slips });
 }
 
 pub whole_all : (cs : List Change) (w : World) → AreChangesOf w cs → IsWhole w → IsWhole (all_changed cs w)

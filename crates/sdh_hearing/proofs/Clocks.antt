@@ -1,28 +1,19 @@
 -- The clocks of a node's ports, and the slips that wait at them.
-use Rattle.std.proofs.Common.{◌≡◌, ℕ, suc, ◌+◌, ◌≤◌, Bool, true, false, List, [], ◌∷◌, Some, refl, ap, ◌∙◌, arith}
-use Rattle.std.specs.Prelude.{All, ◌==◌, if◌then◌else◌, find, slice_get, option_and_then}
-use Rattle.std.specs.Option.{option_map_or}
-use Rattle.std.proofs.lemmas.Bool.{cond_both}
-use Rattle.std.proofs.lemmas.List.Elements.{All-append, All-cons, All-nil}
+use Rattle.std.proofs.Common.{◌≡◌, ℕ, suc, ◌+◌, ◌≤◌, List, Some, refl, ap, ◌∙◌, arith}
+use Rattle.std.specs.Prelude.{All, slice_get}
 use Rattle.sdh_ringmap.specs.declared.Pos.{Pos}
-use Rattle.sdh_ringmap.specs.declared.Side.{Side}
-use Rattle.sdh_ringmap.specs.declared.Side.TheVariants.{West, East}
-use Rattle.sdh_circuits.specs.declared.End.{End}
-use Rattle.sdh_circuits.specs.declared.End.TheVariants.{A, B}
 use Rattle.sdh_circuits.specs.declared.PortId.{PortId}
-use Rattle.sdh_circuits.specs.declared.Slot.{Slot}
 use Rattle.sdh_circuits.specs.Provisioned.{Provisioned}
-use Rattle.sdh_payload.specs.Customer.{Customer}
 use Rattle.sdh_payload.specs.Feed.{Fed, next_feed}
 use Rattle.sdh_payload.specs.declared.clock.Turn.{Turn}
 use Rattle.sdh_payload.specs.declared.clock.Turn.TheVariants.{Up, Down}
-use Rattle.sdh_payload.specs.Clock.{Clock, IsClock, new_clock, waiting, waits, ticked, ticks}
+use Rattle.sdh_payload.specs.Clock.{Clock, IsClock, waiting, waits, ticked, ticks}
 use Rattle.sdh_payload.proofs.Clocking.{next_few, slips_run_out}
-use Rattle.sdh_terminal.specs.Tributaries.{Tributary, new_tributary, ends_at, ends_from, tributaries_at, is_port, port_of, slipped, with_slips}
+use Rattle.sdh_terminal.specs.Tributaries.{Tributary, tributaries_at, with_slips}
 use Rattle.sdh_node.specs.Node.{Node}
 use Rattle.sdh_world.specs.Held.{HeldRing, place_of_port, AtEach}
 use Rattle.sdh_world.specs.Rounds.{World, round}
-use Rattle.sdh_world.specs.Clocks.{clock_at, waiting_at}
+use Rattle.sdh_world.specs.Clocks.{waiting_at}
 use Rattle.sdh_world.proofs.Keeping.{new_ports}
 use Rattle.sdh_world.proofs.Clocks.{slips_keep, few_waits, waiting_found}
 use Rattle.sdh_hearing.specs.Placed.{HaveGone, IsPlaced}

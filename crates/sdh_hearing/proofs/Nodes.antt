@@ -3,7 +3,6 @@ use Rattle.std.proofs.Common.{◌≡◌, ℕ, zero, suc, ◌+◌, ◌<◌, Bool,
 use Rattle.std.specs.Prelude.{All, ◌==◌, if◌then◌else◌}
 use Rattle.std.proofs.lemmas.Bool.{eq-eqb, ne_eqb}
 use Rattle.std.proofs.lemmas.List.{get_or-map}
-use Rattle.sdh_basics.specs.Indexed.{map_from}
 use Rattle.sdh_ringmap.specs.declared.Side.{Side}
 use Rattle.sdh_ringmap.specs.declared.Side.TheVariants.{West, East}
 use Rattle.sdh_circuits.specs.Provisioned.{Provisioned}
@@ -12,18 +11,18 @@ use Rattle.sdh_payload.specs.Clock.{IsClock}
 use Rattle.sdh_payload.proofs.Clocking.{next_clock}
 use Rattle.sdh_plant.specs.Fibres.{Arrival, Fibres}
 use Rattle.sdh_request.specs.declared.settings.Settings.{Settings}
-use Rattle.sdh_node.specs.Receiving.{Receiving}
-use Rattle.sdh_terminal.specs.Tributaries.{Tributary, fed, all_fed}
-use Rattle.sdh_node.specs.Crossing.{Cross, delivered_to, all_delivered}
-use Rattle.sdh_node.specs.Node.{Node, new_node, receiving_on, sending_on, crossing, ports_after, after_crossing, with_calm, node_round}
+use Rattle.sdh_node.specs.Receiving.{Receiving, inlet_of}
+use Rattle.sdh_spans.specs.Sides.{IsInletAt, IsSenderAt}
+use Rattle.sdh_terminal.specs.Tributaries.{Tributary}
+use Rattle.sdh_node.specs.Node.{Node, new_node, receiving_on, sending_on}
 use Rattle.sdh_world.specs.Held.{nowhere, node_at, AtEach}
 use Rattle.sdh_world.specs.Fixed.{Fixed, fixed}
 use Rattle.sdh_world.specs.Rounds.{World, arrivals_of, all_with_arrivals, with_arrivals, node_after, nodes_with, round_with, round}
 use Rattle.sdh_rounds.specs.Rounds.{arrival_at, arrivals_from, receivers_in}
 use Rattle.sdh_world.proofs.Keeping.{all_heard, all_next, length-fixed, node_is, feeds_next}
 use Rattle.sdh_rounds.proofs.Runs.{length-heard, count_round}
-use Rattle.sdh_hearing.specs.Placed.{IsReceiver, IsSender, HasSides, HaveGone, IsBetween, IsPlaced}
-use Rattle.sdh_hearing.proofs.OneNode.{receiving_after, rounds_after, receiver_after, sender_after, side_took}
+use Rattle.sdh_hearing.specs.Placed.{HasSides, HaveGone, IsBetween, IsPlaced}
+use Rattle.sdh_hearing.proofs.OneNode.{receiving_after, rounds_after, fresh_after, receiver_after, sender_after}
 use Rattle.sdh_ringmap.specs.Places.{position_of}
 use Rattle.sdh_node.specs.Stations.{adm}
 use Rattle.sdh_rounds.specs.Rounds as any_round
@@ -56,18 +55,18 @@ sides_met : (s : Settings) (a b : Arrival) (n : Node) → HasSides s n → HasSi
 unfolding any_round.with_arrivals
 sides_met s a b n is = record { receives = received; sends = sent }
   where
-    received : (d : Side) → IsReceiver s (receiving_on d (with_arrivals a b n))
+    received : (d : Side) → IsInletAt s.rate (inlet_of (receiving_on d (with_arrivals a b n)))
     received West = let r = is.receives West in record { rate = r.rate; readings = r.readings }
     received East = let r = is.receives East in record { rate = r.rate; readings = r.readings }
 
-    sent : (d : Side) → IsSender s (sending_on d (with_arrivals a b n))
+    sent : (d : Side) → IsSenderAt s.rate (sending_on d (with_arrivals a b n))
     sent West = is.sends West
     sent East = is.sends East
 
 sides_next : (s : Settings) (now : ℕ) (n : Node) → HasSides s n → HasSides s (node_after now n)
 sides_next s now n is = record {
-  receives = λ d. subst (IsReceiver s) (sym (receiving_after now n d)) (receiver_after s n.settings.threshold now (receiving_on d n) (is.receives d));
-  sends = λ d. sender_after now n s d (is.sends d);
+  receives = λ d. subst (λ r. IsInletAt s.rate (inlet_of r)) (sym (receiving_after now n d)) (receiver_after s.rate n.settings.threshold now (receiving_on d n) (is.receives d));
+  sends = λ d. sender_after now n s.rate d (is.sends d);
 }
 
 -- so many rounds, and the clocks of its ports too
@@ -82,7 +81,7 @@ between_next : (rounds now : ℕ) (n : Node) → HasRun rounds n → IsBetween (
 between_next rounds now n ran = record {
   ran = rounds_after now n ∙ ap (λ k. k + 1) ran.0;
   gone = feeds_next (λ f. IsClock f.port.offset rounds f.clock) (λ f. IsClock f.port.offset (rounds + 1) f.clock) (λ f h. next_clock f.port.offset rounds f.clock h) now n ran.1;
-  fresh = λ d. ap (λ (r : Receiving). r.arrived) (receiving_after now n d) ∙ (side_took n.settings.threshold (receiving_on d n).arrived (receiving_on d n) now).arrived;
+  fresh = λ d. ap (λ (r : Receiving). r.arrived) (receiving_after now n d) ∙ fresh_after now n.settings.threshold (receiving_on d n);
 }
 
 pub placed_round : (xs : List Arrival) (w : World) → IsPlaced w → IsPlaced (round_with xs w)

@@ -17,14 +17,16 @@ use Rattle.sdh_world.specs.Rounds.{World, round, round_with}
 use Rattle.sdh_world.specs.Changes.{Change, Fibre, Order, Hold, Slip, Now, changed, all_changed}
 use Rattle.sdh_world.specs.Sides.{condition_to}
 use Rattle.sdh_world.specs.Held.{place_of_port}
-use Rattle.sdh_hearing.specs.Signalling.{CountsViolations, shown_by}
+use Rattle.sdh_hearing.specs.Signalling.{CountsViolations}
+use Rattle.sdh_spans.specs.Frames.{shown_by}
+use Rattle.sdh_spans.proofs.Finding.{b2_by}
+use Rattle.sdh_spans.proofs.Parities.{b2_through}
 use Rattle.sdh_hearing.specs.Laws.{IsWhole, ViolationsAreOfTheRoundBefore}
-use Rattle.sdh_hearing.proofs.Parities.{b2_through}
 use Rattle.sdh_hearing.proofs.Staying.{left_all}
 use Rattle.sdh_hearing.proofs.Nodes.{count, length-after}
-use Rattle.sdh_hearing.proofs.Rounds.{same_line, neighbour_inside, arrival_cut, arrival_word, word_goes, whole_round}
+use Rattle.sdh_hearing.proofs.Rounds.{same_line, neighbour_inside, sent_to, arrival_cut, arrival_word, word_goes, whole_round}
 use Rattle.sdh_hearing.proofs.Changes.{each_at_place, sending_commanded, LeavesSides, held_leaves, slips_leave, with_node, whole_all}
-use Rattle.sdh_hearing.proofs.Violations.{KeepsParities, ShowsSo, b2_by, shows_later}
+use Rattle.sdh_hearing.proofs.Violations.{KeepsParities, ShowsSo, shows_later}
 use Rattle.sdh_hearing.proofs.Follows.{Keeps, keeps_one}
 use Rattle.sdh_rounds.specs.Rounds as any_round
 
@@ -81,7 +83,7 @@ counts w whole p d k some shows out comes = elim (cases_Bool (is_cut (condition_
       let rate = w.ring.settings.rate in
       let n = n_of rate in
       let last = (receiving_on d (node_at w.ring.nodes p)).section.last in
-      let sent = (whole.paired.carried (neighbour (length w.ring.ids) p d) (neighbour_inside w whole p d)).frames (opposite d) some in
+      let sent = sent_to w whole p d some in
       let came = arrival_word w whole p d some clear in
       let goes = word_goes w whole p d some clear sent.line sent.there in
       ap (λ y. b2_violations n last (scrambled (9 * n) y)) (same_line out came.line _ comes came.there)

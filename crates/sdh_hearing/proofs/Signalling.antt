@@ -39,7 +39,9 @@ use Rattle.sdh_world.specs.Runs.{run, course}
 use Rattle.sdh_world.specs.Quiet.{is_calm, IsCalm}
 use Rattle.sdh_rounds.proofs.Runs.{known_settles}
 use Rattle.sdh_hearing.specs.Placed.{IsPlaced}
-use Rattle.sdh_hearing.specs.Signalling.{is_lost, filters_of, signals_of, needs_in, held_in}
+use Rattle.sdh_plant.specs.Fibres.{is_cut}
+use Rattle.sdh_world.specs.Sides.{condition_to}
+use Rattle.sdh_hearing.specs.Signalling.{filters_of, signals_of, needs_in, held_in}
 use Rattle.sdh_hearing.specs.Laws.{IsWhole, RoundsAreSignalRounds, IsStill, CalmRoundsAreStill, ThreeCalmRoundsAreSettled, WindowsAreSettled, IsSettled, StepsSettle}
 use Rattle.sdh_node.proofs.Decided.{scene_in, state_is, word_is}
 use Rattle.sdh_node.proofs.Calm.{calm_leaves, unchanged_is_calm}
@@ -151,9 +153,9 @@ module _ (w : World) (whole : IsWhole w) where
       let fails = fails_on (needed n) d in
       elim (cases_lt 0 t) [
         | inr none ↦ (let e : t ≡ 0 = omega arith in b.nothing e ∙ nothing_in fails q (opposite d) ∙ ap (In fails) (sym (none_coming e)))
-        | inl some ↦ elim (cases_Bool (is_lost w p d)) [
-          | inl lost ↦ b.silent some lost ∙ sym (ap (λ f. In f coming) (fails_on_is n d ∙ is_sf r.local.defect (b.fails some lost)))
-          | inr kept ↦ b.comes some kept ∙ sym (ap (λ f. In f coming) (fails_on_is n d ∙ no_sf r.local.defect (b.works some kept)) ∙ ap (In false) (all_coming some)
+        | inl some ↦ elim (cases_Bool (is_cut (condition_to w p d))) [
+          | inl cut ↦ b.silent some cut ∙ sym (ap (λ f. In f coming) (fails_on_is n d ∙ is_sf r.local.defect (b.fails some cut)))
+          | inr clear ↦ b.comes some clear ∙ sym (ap (λ f. In f coming) (fails_on_is n d ∙ no_sf r.local.defect (b.works some clear)) ∙ ap (In false) (all_coming some)
               ∙ ap (option_map (λ s. sent_on s (opposite d))) (slice_get-map sent_of w.ring.nodes q ∙ ap (option_map sent_of) (slice_get-get_or w.ring.nodes q nowhere (neighbour_inside w whole p d)))
               ∙ ap Some (sent_on_is (node_at w.ring.nodes q) (opposite d)))
         ]

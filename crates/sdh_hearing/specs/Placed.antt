@@ -2,11 +2,9 @@
 use Rattle.std.specs.Prelude.{ℕ, ◌≡◌, None, List, length, map, All}
 use Rattle.sdh_ringmap.specs.Ids.{AreIds}
 use Rattle.sdh_ringmap.specs.declared.Side.{Side}
-use Rattle.sdh_frame.specs.Sizes.{n_of}
-use Rattle.sdh_overhead.specs.Laws.{AreParities}
 use Rattle.sdh_request.specs.declared.settings.Settings.{Settings}
-use Rattle.sdh_node.specs.Receiving.{Receiving}
-use Rattle.sdh_terminal.specs.Sending.{Sending}
+use Rattle.sdh_node.specs.Receiving.{inlet_of}
+use Rattle.sdh_spans.specs.Sides.{IsInletAt, IsSenderAt}
 use Rattle.sdh_payload.specs.Clock.{IsClock}
 use Rattle.sdh_terminal.specs.Tributaries.{Tributary}
 use Rattle.sdh_node.specs.Node.{Node, receiving_on, sending_on}
@@ -14,21 +12,10 @@ use Rattle.sdh_world.specs.Held.{HeldRing, new_nodes, AtEach}
 use Rattle.sdh_world.specs.Fixed.{fixed}
 use Rattle.sdh_world.specs.Rounds.{World}
 
--- a side that receives at these settings
-pub record IsReceiver (s : Settings) (r : Receiving) : Type 0 where
-  pub rate : r.section.rate ≡ s.rate
-  pub readings : length r.readings ≡ n_of s.rate
-
--- a side that sends at these settings
-pub record IsSender (s : Settings) (x : Sending) : Type 0 where
-  pub rate : x.section.rate ≡ s.rate
-  pub generators : length x.generators ≡ n_of s.rate
-  pub parities : AreParities (n_of s.rate) x.section.last
-
--- all sides of a node are
+-- all sides of a node are sides at the rate of these settings
 pub record HasSides (s : Settings) (n : Node) : Type 0 where
-  pub receives : (d : Side) → IsReceiver s (receiving_on d n)
-  pub sends : (d : Side) → IsSender s (sending_on d n)
+  pub receives : (d : Side) → IsInletAt s.rate (inlet_of (receiving_on d n))
+  pub sends : (d : Side) → IsSenderAt s.rate (sending_on d n)
 
 -- the clocks of a node's ports have run so many rounds
 abbrev pub HaveGone : ℕ → List Tributary → Type 0

@@ -1,4 +1,3 @@
-pub mod Dropped
 pub mod Rounds
 pub mod Turning
 pub mod Steps

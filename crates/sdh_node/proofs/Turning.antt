@@ -11,9 +11,9 @@ use Rattle.sdh_nodestate.specs.Shapes.{same_state}
 use Rattle.sdh_terminal.specs.Same.{same_generators}
 use Rattle.sdh_node.specs.Same.{same_in, same_compared}
 use Rattle.sdh_terminal.specs.Tributaries.{Tributary, added_by, added_last, all_fed}
-use Rattle.sdh_node.specs.Crossing.{Cross, after_intakes, scene_of, after_decision, next_word, all_delivered, input_at}
+use Rattle.sdh_node.specs.Crossing.{Cross, after_intakes, scene_of, after_decision, next_word, dropped_to, all_delivered, input_at}
 use Rattle.sdh_terminal.specs.Sending.{Sending, with_word, frame_from, after_sending}
-use Rattle.sdh_node.proofs.Dropped.{holds-adds}
+use Rattle.sdh_terminal.proofs.Ports.{holds-adds}
 use Rattle.sdh_node.specs.Node.{Node, crossing, ports_after, with_next_word, after_crossing, frames_of, compared, compared_in, may_be_calm, with_calm, node_round}
 
 -- the node that holds these
@@ -52,8 +52,8 @@ module _ (now : ℕ) (s : Settings) (rounds turns : ℕ) (x0 : Cross) (ports : L
     ports_is = feed ∙ ap all_fed (deliver ∙ ap (λ y. all_delivered y ports) cross_is)
 
     added_is : (qs : List Tributary) → qs ≡ fs → added_last qs ≡ added_by ports
-    unfolding ports_after
-    added_is qs same = ap added_last (same ∙ ports_is) ∙ holds-adds (crossing now n) ports
+    unfolding ports_after all_delivered
+    added_is qs same = ap added_last (same ∙ ports_is) ∙ holds-adds (dropped_to (crossing now n)) ports
 
     -- what a side that sends says
     said_is : (side : Side) (k : K) (o said : Sending) → k ≡ next_word held tk side o.word → said ≡ with_word k o → said ≡ with_next_word held (crossing now n) side o

@@ -1,8 +1,7 @@
 -- The cross-connect of a node in a round: both sides that receive and what they take in, the state, and where the state
 -- leads what comes in (bridge and switch of shared protection rings: ITU-T G.841).
-use Rattle.std.specs.Prelude.{◌≡◌, ℕ, ◌+◌, ◌-◌, ◌/◌, ◌<◌, Bool, true, false, nat_le, if◌then◌else◌, Option, List, length, slice_index_or}
+use Rattle.std.specs.Prelude.{◌≡◌, ℕ, ◌+◌, ◌-◌, ◌/◌, ◌<◌, Bool, true, false, nat_le, if◌then◌else◌, Option, List, length}
 use Rattle.sdh_frame.specs.Sizes.{n_of}
-use Rattle.sdh_frame.specs.Aus.{au_of}
 use Rattle.sdh_ringmap.specs.declared.Pos.{Pos}
 use Rattle.sdh_ringmap.specs.declared.Side.{Side}
 use Rattle.sdh_ringmap.specs.declared.Side.TheVariants.{West, East}
@@ -21,14 +20,11 @@ use Rattle.sdh_squelch.specs.Table.{OnSpan, circuits_at}
 use Rattle.sdh_bridge.specs.declared.Origin.{Origin}
 use Rattle.sdh_bridge.specs.declared.Origin.TheVariants as origin
 use Rattle.sdh_bridge.specs.Connections.{stands_for, leaves_working, leaves_protection}
-use Rattle.sdh_pointer.specs.declared.reading.Action.TheVariants as action
-use Rattle.sdh_pointer.specs.Reading.{start}
 use Rattle.sdh_terminal.specs.Receiving.{Intake}
 use Rattle.sdh_node.specs.Receiving.{Receiving, after_intake, intake_of, if_west, if_east}
-use Rattle.sdh_terminal.specs.Passing.{Input, no_input}
-use Rattle.sdh_terminal.specs.Outlets.{delivered_from}
-use Rattle.sdh_terminal.specs.Tributaries.{Tributary, all_delivered_with}
-use Rattle.sdh_terminal.specs.Lines.{Lines}
+use Rattle.sdh_terminal.specs.Passing.{Input}
+use Rattle.sdh_terminal.specs.Tributaries.{Tributary, delivered_with, all_delivered_with}
+use Rattle.sdh_terminal.specs.Lines.{Lines, all_fed_by, dropped_by}
 use Rattle.sdh_terminal.specs.declared.matrix.Feeder.{Feeder}
 use Rattle.sdh_terminal.specs.declared.matrix.Feeder.TheVariants as feeder
 
@@ -48,10 +44,6 @@ pub record Cross : Type 0 where
 abbrev pub on_side : Cross → Side → Receiving
 on_side x West = x.west
 on_side x East = x.east
-
-abbrev pub intake_on : Cross → Side → Intake
-intake_on x West = x.west_in
-intake_on x East = x.east_in
 
 -- with a change on one side
 abbrev pub at_side : Side → (Receiving → Receiving) → Cross → Cross
@@ -95,30 +87,7 @@ after_decision held x = record x { state = if held then x.state else state_after
 unfoldable pub next_word : Bool → Cross → Side → K → K
 next_word held x side k = if held then k else word (scene_of x) side
 
--- ---- origins
-
--- AU-4 number au as a side received it, with what its interpreter made of it
-abbrev pub received : Cross → Side → ℕ → Input
-received x side au = record {
-  action = slice_index_or (intake_on x side).actions (au - 1) action.Ais;
-  value = (slice_index_or (on_side x side).readings (au - 1) start).value;
-  au = au_of (n_of (intake_on x side).frame.rate) au (intake_on x side).frame.bytes;
-}
-
--- what an origin in slot m stands for, where it is no port: working slot m is AU-4 number m, and protection slot m number
--- N / 2 + m
-abbrev pub arrival_of : Cross → ℕ → Origin → Input
-arrival_of x m (origin.Working side) = received x side m
-arrival_of x m (origin.Protection side) = received x side (half_of x + m)
-arrival_of x m (origin.Add port) = no_input
-arrival_of x m origin.Ais = no_input
-
--- the same, where it may be a port, which adds what it sends
-abbrev pub input_of : Cross → (PortId → Input) → ℕ → Origin → Input
-input_of x added m (origin.Add port) = added port
-input_of x added m (origin.Working side) = arrival_of x m (origin.Working side)
-input_of x added m (origin.Protection side) = arrival_of x m (origin.Protection side)
-input_of x added m origin.Ais = no_input
+-- ---- where the state leads
 
 -- the slot of an AU-4
 abbrev pub slot_of : Cross → ℕ → ℕ
@@ -153,21 +122,24 @@ leads x side au = feeder_of x (slot_of x au) (leaving x side au)
 unfoldable pub drops : Cross → Side → ℕ → Feeder
 drops x side m = feeder_of x m (stands_for (length x.ids) x.at (circuit_in x m) x.state side)
 
--- what goes into it
-unfoldable pub input_at : Cross → (PortId → Input) → Side → ℕ → Input
-input_at x added side au = input_of x added (slot_of x au) (leaving x side au)
+-- what goes into that AU-4, and what is dropped of that slot
+abbrev pub input_at : Cross → (PortId → Input) → Side → ℕ → Input
+input_at x added side au = all_fed_by (lines_of x) added (leads x side) au
 
--- what the circuit of a port comes in with
-unfoldable pub dropped_at : Cross → Side → ℕ → Input
-dropped_at x side m = arrival_of x m (stands_for (length x.ids) x.at (circuit_in x m) x.state side)
+abbrev pub dropped_at : Cross → Side → ℕ → Input
+dropped_at x side m = dropped_by (lines_of x) (drops x side m)
 
 -- ---- deliveries
 
+-- what the circuit of a port comes in with
+abbrev pub dropped_to : Cross → Tributary → Input
+dropped_to x t = dropped_at x t.side t.slot.0
+
 abbrev pub delivered_to : Cross → Tributary → Tributary
-delivered_to x t = record t { outlet = delivered_from (dropped_at x t.side t.slot.0) }
+delivered_to x t = delivered_with (dropped_to x) t
 
 unfoldable pub all_delivered : Cross → List Tributary → List Tributary
-all_delivered x ports = all_delivered_with (λ t. dropped_at x t.side t.slot.0) ports
+all_delivered x ports = all_delivered_with (dropped_to x) ports
 
 -- ---- what is true of every cross-connect
 

@@ -8,7 +8,7 @@ ghost use Rattle.sdh_node.specs.Receiving.{commanded_by, arrived_on};
 ghost use Rattle.sdh_terminal.specs.Tributaries.{HasPort, outlet_of, waiting_of};
 ghost use Rattle.sdh_node.specs.Node.{new_node, at_receiving, held_for, slips_at, node_round, GoesOn, receiving_on, sending_on, moment_of};
 
-use crate::cross::{CrossConnect, deliver, send_both};
+use crate::cross::{CrossConnect, deliver};
 use sdh_circuits::{CircuitMap, PortId};
 use sdh_frame::FrameBuf;
 use sdh_kbytes::{Code, K};
@@ -18,7 +18,7 @@ use sdh_payload::{Delivered, Turn};
 use sdh_plant::Arrived;
 use sdh_request::{Command, Moment, Settings};
 use sdh_ringmap::{Pos, RingMap, Side};
-use sdh_terminal::{Sender, Tributaries};
+use sdh_terminal::{Sender, Tributaries, send_both};
 use std::alloc::{AllocError, Global};
 use std::marker::Model;
 

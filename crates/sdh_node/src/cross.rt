@@ -10,11 +10,8 @@ ghost use Rattle.sdh_node.specs.Same.{same_in};
 ghost use Rattle.sdh_plant.specs.Arrivals.{as_arrival, arrived_in};
 ghost use Rattle.sdh_node.specs.Receiving.{commanded_by, arrived_on};
 ghost use Rattle.sdh_node.specs.Node.{new_cross, compared_in};
-ghost use Rattle.sdh_node.specs.Crossing.{on_side, at_side, half_of, after_intakes, scene_of, after_decision, next_word, feeder_of, lines_of, leads, drops, input_at, all_delivered};
+ghost use Rattle.sdh_node.specs.Crossing.{on_side, at_side, half_of, after_intakes, scene_of, after_decision, next_word, feeder_of, lines_of, leads, drops, all_delivered};
 ghost use Rattle.sdh_terminal.specs.Lines.{line_on, received, IsFeeder};
-ghost use Rattle.sdh_terminal.specs.Same.{same_generators};
-ghost use Rattle.sdh_terminal.specs.Sending.{frame_from, after_sending};
-ghost use Rattle.sdh_terminal.specs.Tributaries.{added_last};
 
 use crate::receiver::Receiver;
 use sdh_bridge::{Origin, drop_origin, protection_origin, working_origin};
@@ -26,7 +23,7 @@ use sdh_plant::Arrived;
 use sdh_request::{Command, Moment, Settings};
 use sdh_ringmap::{Pos, RingMap, Side};
 use sdh_squelch::Table;
-use sdh_terminal::{Feeder, Intake, Matrix, Sender, Tributaries};
+use sdh_terminal::{Feeder, Intake, Matrix, Tributaries};
 use std::alloc::{AllocError, Global};
 use std::marker::Model;
 
@@ -266,7 +263,12 @@ impl Matrix for CrossConnect {
         } else {
             let slot = Slot((au - half) as u8);
             let origin = protection_origin(
-                &self.state, &self.map, &self.table, self.at, side, slot,
+                &self.state,
+                &self.map,
+                &self.table,
+                self.at,
+                side,
+                slot,
             );
             self.feeder_of(au - half, origin)
         }
@@ -287,30 +289,4 @@ pub fn deliver(cross: &CrossConnect, ports: &mut Tributaries)
     // Reading it gives the proof what is true of every rate.
     let _half = half_of(cross.west_in.rate());
     ports.deliver(cross);
-}
-
-/// Both sides send their next frames. Whether all generators of the west side, and all of the east side, are in the states in which
-/// they were.
-pub fn send_both(
-    west: &mut Sender,
-    east: &mut Sender,
-    cross: &CrossConnect,
-    ports: &Tributaries,
-    west_out: &mut FrameBuf,
-    east_out: &mut FrameBuf,
-) -> (bool, bool)
-    requires west_rate { cross.now.west.section.rate ≡ west_out.old.rate }
-    requires east_rate { cross.now.west.section.rate ≡ east_out.old.rate }
-    requires west_section { west.old.section.rate ≡ west_out.old.rate }
-    requires east_section { east.old.section.rate ≡ east_out.old.rate }
-    ensures west { west.new ≡ after_sending (input_at cross.now (added_last ports.now) West) west.old }
-    ensures east { east.new ≡ after_sending (input_at cross.now (added_last ports.now) East) east.old }
-    ensures west_frame { west_out.new ≡ frame_from (input_at cross.now (added_last ports.now) West) west.old }
-    ensures east_frame { east_out.new ≡ frame_from (input_at cross.now (added_last ports.now) East) east.old }
-    ensures west_same { result.0 ≡ same_generators west.new.generators west.old.generators }
-    ensures east_same { result.1 ≡ same_generators east.new.generators east.old.generators }
-    ensures rates { (west.new.section.rate ≡ west.old.section.rate) × (east.new.section.rate ≡ east.old.section.rate) }
-    ensures outs { (west_out.new.rate ≡ west_out.old.rate) × (east_out.new.rate ≡ east_out.old.rate) }
-{
-    sdh_terminal::send_both(west, east, cross, ports, west_out, east_out)
 }

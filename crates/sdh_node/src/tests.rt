@@ -6,7 +6,6 @@ ghost use Rattle.sdh_terminal.specs.Tributaries.{HasPort};
 ghost use Rattle.sdh_node.specs.Node.{moment_of};
 
 use super::*;
-use sdh_terminal::h3_at;
 use sdh_circuits::{Asked, CircuitMap, End, PortId};
 use sdh_frame::{FrameBuf, Place, Rate};
 use sdh_kbytes::{Code, encode};
@@ -15,6 +14,7 @@ use sdh_overhead::{Section, read_section, write_section};
 use sdh_plant::Arrived;
 use sdh_request::{Command, Moment};
 use sdh_ringmap::{Pos, RingMap, Side};
+use sdh_terminal::h3_at;
 use std::alloc::Global;
 use std::process::Abort;
 

@@ -1,9 +1,15 @@
-use Rattle.std.proofs.Common.{◌∙◌, arith}
-use Rattle.sdh_node.proofs.Dropped.{delivered_are_all, twice_below}
+use Rattle.std.proofs.Common.{ℕ, ◌*◌, ◌/◌, ◌≤◌, arith}
+use Rattle.sdh_frame.specs.declared.Rate.{Rate}
+use Rattle.sdh_frame.specs.Sizes.{n_of}
+use Rattle.sdh_node.specs.Crossing.{all_delivered}
 use Rattle.sdh_node.proofs.cross.deliver.Goals as goal
+
+twice_below : (rate : Rate) (k : ℕ) → k ≤ n_of rate / 2 → 2 * k ≤ n_of rate
+twice_below rate k h = omega arith
 
 pub deliver-requires : goal.deliver-requires
 deliver-requires c = λ k d lt. (let is = c.requires k d lt in (is.0, twice_below c.args.cross.now.west.section.rate _ is.1))
 
 pub returns : goal.returns
-returns c = c.deliver.ensures ∙ delivered_are_all c.args.cross.now c.args.ports.now
+unfolding all_delivered
+returns c = c.deliver.ensures

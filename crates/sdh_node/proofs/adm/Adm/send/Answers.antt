@@ -5,23 +5,24 @@ use Rattle.sdh_terminal.specs.Tributaries.{Tributary, IsTributary}
 use Rattle.sdh_node.specs.Receiving.{Receiving}
 use Rattle.sdh_terminal.specs.Sending.{Sending}
 use Rattle.sdh_ringmap.specs.declared.Side.TheVariants.{West, East}
-use Rattle.sdh_node.specs.Crossing.{after_decision, next_word}
+use Rattle.sdh_node.specs.Crossing.{after_decision, next_word, dropped_to, all_delivered}
 use Rattle.sdh_node.specs.Node.{Node, node_round, GoesOn}
-use Rattle.sdh_terminal.proofs.Ports.{few_rounds, fed_are}
-use Rattle.sdh_node.proofs.Dropped.{delivered_are}
+use Rattle.sdh_terminal.proofs.Ports.{few_rounds, delivered_are, fed_are}
 use Rattle.sdh_node.proofs.Rounds.{round_goes_on}
 use Rattle.sdh_node.proofs.Turning.{node_of, west_frame_is, east_frame_is, calm_is, node_is}
 use Rattle.sdh_node.proofs.adm.Adm.send.Goals as goal
 
 pub feed-requires : goal.feed-requires
+unfolding all_delivered
 feed-requires c =
     let i = c.self.inside in
     let slots = n_of i.settings.rate / 2 in
     let few : i.rounds < 2 ^ 32 = subst (λ (n : Node). n.rounds < 2 ^ 32) (sym c.self.view_is) c.requires.few in
     subst (All (λ (t : Tributary). t.feed.clock.rounds < 2 ^ 32)) (sym c.deliver.ensures)
-    (few_rounds slots i.rounds _ few (delivered_are c.decide-decided.new.self slots i.rounds i.ports c.self.invariant.ports))
+    (few_rounds slots i.rounds _ few (delivered_are (dropped_to c.decide-decided.new.self) slots i.rounds i.ports c.self.invariant.ports))
 
 pub invariant_of-self : goal.invariant_of-self
+unfolding all_delivered
 invariant_of-self c =
     let i = c.self.inside in
     let inv = c.self.invariant in
@@ -35,7 +36,7 @@ invariant_of-self c =
       moments = ap (λ (r : Receiving). r.local.moment) east ∙ c.take-taken.ensures.east ∙ sym c.take-taken.ensures.west ∙ sym (ap (λ (r : Receiving). r.local.moment) west);
       held = (let was = inv.held in let now = c.one_less-self-inside.ensures in omega arith);
       ports = subst (All (IsTributary slots (i.rounds + 1))) (sym c.feed.ensures)
-          (fed_are slots i.rounds _ (subst (All (IsTributary slots i.rounds)) (sym c.deliver.ensures) (delivered_are c.decide-decided.new.self slots i.rounds i.ports inv.ports)));
+          (fed_are slots i.rounds _ (subst (All (IsTributary slots i.rounds)) (sym c.deliver.ensures) (delivered_are (dropped_to c.decide-decided.new.self) slots i.rounds i.ports inv.ports)));
     }
 
 pub returns-clause-west : goal.returns-clause-west

@@ -1,0 +1,9 @@
+pub mod Frames
+pub mod Lanes
+pub mod Parities
+pub mod Sections
+pub mod Finding
+pub mod Sends
+pub mod Reading
+pub mod Spans
+pub mod Steady

@@ -1,0 +1,5 @@
+pub mod Frames
+pub mod Sides
+pub mod Brought
+pub mod Spans
+pub mod Laws
