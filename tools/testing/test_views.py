@@ -11,14 +11,16 @@ AFTER = "    second.set_payload(0, 7);\n"
 
 
 def tried(tests):
-    """What `rt` says of the frames' crate with these tests, before any proof."""
+    """What `rt` says of these tests of frames, before any proof."""
     with tempfile.TemporaryDirectory() as folder:
         root = Path(folder)
-        (root / "crates.txt").write_text("sdh_basics:\nsdh_frame: sdh_basics\n")
+        (root / "crates.txt").write_text("sdh_basics:\nsdh_frame: sdh_basics\ntest_frames: sdh_frame\n")
         for name in ("sdh_basics", "sdh_frame"):
             shutil.copytree(CRATES / name, root / "crates" / name, ignore=shutil.ignore_patterns("out"))
-        crate = root / "crates" / "sdh_frame"
-        (crate / "src" / "tests.rt").write_text(tests)
+        crate = root / "crates" / "test_frames"
+        (crate / "src").mkdir(parents=True)
+        (crate / "src" / "lib.rt").write_text("#![tactic(auto)]\n\n#[cfg(test)]\nmod frames;\n")
+        (crate / "src" / "frames.rt").write_text(tests)
         ended = subprocess.run(["rt", "try", "--test"], cwd=crate, capture_output=True, text=True)
         return ended.returncode, ended.stdout + ended.stderr
 
@@ -26,7 +28,7 @@ def tried(tests):
 @unittest.skipUnless(shutil.which("rt"), "there is no rt")
 class Views(unittest.TestCase):
     def test_two_views_for_writing_at_once(self):
-        tests = (CRATES / "sdh_frame" / "src" / "tests.rt").read_text()
+        tests = (CRATES / "test_lines" / "src" / "frames.rt").read_text()
         self.assertEqual(tests.count(AFTER), 1)
         status, said = tried(tests.replace(AFTER, AFTER + "    first.set_pointer(1, 0);\n"))
         self.assertNotEqual(status, 0)

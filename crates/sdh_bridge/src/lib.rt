@@ -156,6 +156,3 @@ pub fn protection_origin(
         _ => Origin::Ais,
     }
 }
-
-#[cfg(test)]
-mod tests;

@@ -11,8 +11,6 @@ mod circuit_map;
 mod form;
 mod provisioned;
 mod search;
-#[cfg(test)]
-mod tests;
 
 pub use circuit_map::CircuitMap;
 pub use provisioned::{Circuit, Name};

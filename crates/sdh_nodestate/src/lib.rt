@@ -237,6 +237,3 @@ impl SwitchEast {
 pub fn first_words_are_sent()
     ensures { FirstWordsAreSent }
 {}
-
-#[cfg(test)]
-mod tests;

@@ -5,8 +5,6 @@ mod lines;
 mod listing;
 mod node_line;
 mod status;
-#[cfg(test)]
-mod tests;
 mod text;
 
 pub use listing::Listing;

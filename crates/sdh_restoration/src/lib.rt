@@ -6,5 +6,3 @@
 pub mod applied;
 pub mod history;
 pub mod routes;
-#[cfg(test)]
-mod tests;

@@ -12,8 +12,6 @@ ghost use Rattle.sdh_ringmap.specs.Arcs.{holds_span, arc_between, is_among, is_c
 ghost use Rattle.sdh_ringmap.specs.Numbering.{ring_of};
 
 mod search;
-#[cfg(test)]
-mod tests;
 
 use crate::search::{as_bytes, first_repeat, first_unfit, index_of};
 use arrayvec::ArrayVec;

@@ -177,6 +177,3 @@ impl SignalRing {
         &self.sent[at.0 as usize]
     }
 }
-
-#[cfg(test)]
-mod tests;

@@ -162,6 +162,3 @@ impl Table {
         }
     }
 }
-
-#[cfg(test)]
-mod tests;

@@ -187,3 +187,38 @@ fn places_of_a_view(rt: HostRuntime) -> Result<(), Fail> {
     assert!(rt; pointer_stands_at(&mut frame, 8, 34));
     Ok(())
 }
+
+// AU-4 number 2 of another frame is copied to number 16. A view for writing is done with before the next one is lent.
+fn write_two(frame: &mut FrameBuf, other: &mut FrameBuf)
+    requires rate { frame.old.rate ≡ Rate.Sixteen }
+    requires other_rate { other.old.rate ≡ Rate.Sixteen }
+    ensures rate { frame.new.rate ≡ Rate.Sixteen }
+{
+    other.au_mut(2).fill_ones();
+    let mut first = frame.au_mut(16);
+    first.copy_payload(&other.au(2));
+    first.set_pointer(0, 0x68);
+    let mut second = frame.au_mut(1);
+    second.set_payload(0, 7);
+}
+
+// The first pointer byte of an AU-4 of an STM-16 frame, and the first and the last byte of its payload.
+fn ends_of(frame: &FrameBuf, au: u16) -> [u8; 3]
+    requires rate { frame.now.rate ≡ Rate.Sixteen }
+    requires first { 1 ≤ au }
+    requires last { au ≤ 16 }
+{
+    let view = frame.au(au);
+    [view.pointer(0), view.payload(0), view.payload(2348)]
+}
+
+#[test]
+fn views_are_lent_one_after_the_other(rt: HostRuntime) -> Result<(), Fail> {
+    let mut frame = FrameBuf::try_new(rt.alloc(), Rate::Sixteen)?;
+    let mut other = FrameBuf::try_new(rt.alloc(), Rate::Sixteen)?;
+    write_two(&mut frame, &mut other);
+    assert_eq!(rt; ends_of(&frame, 16), [0x68, 0xFF, 0xFF]);
+    assert_eq!(rt; ends_of(&frame, 15), [0, 0, 0]);
+    assert_eq!(rt; ends_of(&frame, 1), [0, 7, 0]);
+    Ok(())
+}

@@ -1,8 +1,8 @@
 //! Room, and lines that no clause of another crate shows.
 ghost use Rattle.std.specs.Prelude.{◌≤◌, IfOk};
 
-use super::*;
 use sdh_payload::Delivered;
+use sdh_report::{LINE_MAX, Status, Text};
 
 #[test]
 fn counts_its_room(rt: HostRuntime) {

@@ -1,5 +1,7 @@
-use super::*;
-use sdh_ringmap::{RingMap, Span};
+//! Circuits that are added to others.
+
+use sdh_circuits::{AddError, Asked, CircuitMap};
+use sdh_ringmap::RingMap;
 use std::alloc::Global;
 
 // A circuit from node 1 to node 3 in slot 1.
@@ -174,46 +176,4 @@ fn refuses_an_overlap_over_the_last_span(rt: HostRuntime) {
         second(rt.alloc(), &map, &first, &later),
         Err(AddError::Overlap)
     );
-}
-
-#[test]
-fn finds_a_circuit(rt: HostRuntime) {
-    let made = RingMap::new(&[1, 2, 3, 4]);
-    assert!(rt; made.is_ok());
-    let map = made.expect(&rt, "a ring");
-    let mut circuits = CircuitMap::new(rt.alloc(), 8);
-    assert_eq!(rt; circuits.on_span(Span(0), Slot(1)), None);
-    assert_eq!(rt;
-        circuits.add(
-            &map,
-            &Asked {
-                from: 4,
-                to: 2,
-                slot: 8,
-                ..ASKED
-            }
-        ),
-        Ok(())
-    );
-    for (span, slot, at) in [
-        (3, 8, Some(0)),
-        (0, 8, Some(0)),
-        (1, 8, None),
-        (0, 1, None),
-        (4, 8, None),
-    ] {
-        assert_eq!(rt; circuits.on_span(Span(span), Slot(slot)), at);
-    }
-    assert_eq!(rt; circuits.at_port("c1"), Some(0));
-    assert_eq!(rt; circuits.at_port("c"), None);
-    assert_eq!(rt; circuits.len(), 1);
-    assert!(rt; circuits.len() == 1);
-    let circuit = circuits.get(0);
-    assert!(rt; circuit.name().as_slice() == b"c1".as_slice());
-    assert!(rt; circuit.from().0 == 3 && circuit.to().0 == 1 && circuit.slot() == Slot(8));
-    assert!(rt;
-        circuit.port(End::A).text() == b"ABCDEFG".as_slice()
-            && circuit.port(End::B).trace() == b"far".as_slice()
-    );
-    assert_eq!(rt; circuit.port(End::B).offset(), 521);
 }

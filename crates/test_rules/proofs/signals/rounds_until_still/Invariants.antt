@@ -1,5 +1,5 @@
 use Rattle.std.proofs.Common.{◌≡◌, ◌≤◌}
-use Rattle.sdh_signal.proofs.tests.rounds_until_still.Given as goal
+use Rattle.test_rules.proofs.signals.rounds_until_still.Given as goal
 
 abbrev pub invariant-loop-count : goal.invariant-loop-count
 invariant-loop-count l = record {

@@ -3,21 +3,14 @@
 ghost use Rattle.std.specs.Prelude.{◌≡◌, ◌≢◌, ◌≤◌, ◌<◌, true, false, length, All, IfSome};
 ghost use Rattle.sdh_nodestate.specs.Conditions.{MayNeed};
 
-use super::*;
 use sdh_kbytes::{Code, decode};
+use sdh_nodestate::Shape::{Idle, Isolated, PassThrough, SwitchEast, SwitchWest};
+use sdh_nodestate::{Needs, Shape, same_shape, shape_of};
+use sdh_ringmap::{Pos, RingMap};
+use sdh_signal::SignalRing;
+use std::alloc::Global;
 
-#[derive(Clone, Copy, Debug, PartialEq, Eq)]
-enum Kind {
-    Idle,
-    Pass,
-    SwitchWest,
-    SwitchEast,
-    Isolated,
-}
-
-use Kind::{Idle, Isolated, Pass, SwitchEast, SwitchWest};
-
-type Line = (Kind, (u8, u8), (u8, u8));
+type Line = (Shape, (u8, u8), (u8, u8));
 
 const FREE: [bool; 4] = [false; 4];
 
@@ -76,23 +69,13 @@ fn rounds_until_still(ring: &mut SignalRing, needs: &[Needs]) -> u32
     0
 }
 
-fn kind_of(state: &NodeState) -> Kind {
-    match state {
-        NodeState::Idle(_) => Idle,
-        NodeState::PassThrough(_) => Pass,
-        NodeState::SwitchWest(_) => SwitchWest,
-        NodeState::SwitchEast(_) => SwitchEast,
-        NodeState::Isolated(_) => Isolated,
-    }
-}
-
 // Whether a node has the state and sent the words of a line.
 fn has_line(ring: &SignalRing, at: u8, line: Line) -> bool
     requires at { at < length ring.now.ring.ids }
     requires ran { 1 ≤ ring.now.rounds }
 {
     let sent = ring.sent(Pos(at));
-    kind_of(ring.state(Pos(at))) == line.0
+    same_shape(shape_of(ring.state(Pos(at))), line.0)
         && Some(sent.west) == decode(line.1.0, line.1.1)
         && Some(sent.east) == decode(line.2.0, line.2.1)
 }
@@ -163,47 +146,47 @@ fn requests_of_at_least_a_signal_failure(rt: HostRuntime) {
 
     // one span fails both ways
     let lines = [
-        (Pass, (0xb3, 0x2a), (0xb2, 0x3a)),
-        (SwitchEast, (0xb3, 0x2a), (0xb3, 0x26)),
-        (SwitchWest, (0xb2, 0x36), (0xb2, 0x3a)),
-        (Pass, (0xb3, 0x2a), (0xb2, 0x3a)),
+        (PassThrough, (0xb3, 0x2a), (0xb2, 0x3a)),
+        (SwitchEast(Some(Pos(2))), (0xb3, 0x2a), (0xb3, 0x26)),
+        (SwitchWest(Some(Pos(1))), (0xb2, 0x36), (0xb2, 0x3a)),
+        (PassThrough, (0xb3, 0x2a), (0xb2, 0x3a)),
     ];
     let count = stills(rt.alloc(), four(none, east, west, none), lines);
     assert!(rt; matches!(count, Some(4..=21)));
 
     // two spans that don't meet
     let lines = [
-        (SwitchEast, (0xb2, 0x1a), (0xb2, 0x16)),
-        (SwitchWest, (0xb1, 0x26), (0xb1, 0x2a)),
-        (SwitchEast, (0xb4, 0x3a), (0xb4, 0x36)),
-        (SwitchWest, (0xb3, 0x46), (0xb3, 0x4a)),
+        (SwitchEast(Some(Pos(3))), (0xb2, 0x1a), (0xb2, 0x16)),
+        (SwitchWest(Some(Pos(2))), (0xb1, 0x26), (0xb1, 0x2a)),
+        (SwitchEast(Some(Pos(1))), (0xb4, 0x3a), (0xb4, 0x36)),
+        (SwitchWest(Some(Pos(0))), (0xb3, 0x46), (0xb3, 0x4a)),
     ];
     assert!(rt; stills(rt.alloc(), four(east, west, east, west), lines).is_some());
 
     // both spans of one node
     let lines = [
-        (SwitchEast, (0xb2, 0x1a), (0xb2, 0x16)),
+        (SwitchEast(Some(Pos(2))), (0xb2, 0x1a), (0xb2, 0x16)),
         (Isolated, (0xb1, 0x26), (0xb3, 0x26)),
-        (SwitchWest, (0xb2, 0x36), (0xb2, 0x3a)),
-        (Pass, (0xb2, 0x1a), (0xb2, 0x3a)),
+        (SwitchWest(Some(Pos(0))), (0xb2, 0x36), (0xb2, 0x3a)),
+        (PassThrough, (0xb2, 0x1a), (0xb2, 0x3a)),
     ];
     assert!(rt; stills(rt.alloc(), four(east, both, west, none), lines).is_some());
 
     // two spans that don't fail are switched by force
     let lines = [
-        (SwitchEast, (0xd2, 0x1a), (0xd2, 0x12)),
-        (SwitchWest, (0x11, 0x22), (0xd1, 0x2a)),
-        (SwitchEast, (0xd4, 0x3a), (0xd4, 0x32)),
-        (SwitchWest, (0x13, 0x42), (0xd3, 0x4a)),
+        (SwitchEast(Some(Pos(3))), (0xd2, 0x1a), (0xd2, 0x12)),
+        (SwitchWest(Some(Pos(2))), (0x11, 0x22), (0xd1, 0x2a)),
+        (SwitchEast(Some(Pos(1))), (0xd4, 0x3a), (0xd4, 0x32)),
+        (SwitchWest(Some(Pos(0))), (0x13, 0x42), (0xd3, 0x4a)),
     ];
     assert!(rt; stills(rt.alloc(), four(forced, none, forced, none), lines).is_some());
 
     // a failure goes before a degraded span
     let lines = [
-        (SwitchWest, (0xb4, 0x16), (0xb4, 0x1a)),
-        (Pass, (0xb1, 0x4a), (0xb4, 0x1a)),
-        (Pass, (0xb1, 0x4a), (0xb4, 0x1a)),
-        (SwitchEast, (0xb1, 0x4a), (0xb1, 0x46)),
+        (SwitchWest(Some(Pos(3))), (0xb4, 0x16), (0xb4, 0x1a)),
+        (PassThrough, (0xb1, 0x4a), (0xb4, 0x1a)),
+        (PassThrough, (0xb1, 0x4a), (0xb4, 0x1a)),
+        (SwitchEast(Some(Pos(0))), (0xb1, 0x4a), (0xb1, 0x46)),
     ];
     let degraded = asks(Code::Sd, Code::Nr);
     let count = stills(rt.alloc(), four(west, none, degraded, east), lines);
@@ -221,77 +204,14 @@ fn a_tie_and_its_end(rt: HostRuntime) {
         (Idle, (0x61, 0x48), (0x61, 0x40)),
     ];
     let alone = [
-        (SwitchWest, (0x14, 0x12), (0x64, 0x1a)),
-        (Pass, (0x61, 0x4a), (0x64, 0x1a)),
-        (Pass, (0x61, 0x4a), (0x64, 0x1a)),
-        (SwitchEast, (0x61, 0x4a), (0x61, 0x42)),
+        (SwitchWest(Some(Pos(3))), (0x14, 0x12), (0x64, 0x1a)),
+        (PassThrough, (0x61, 0x4a), (0x64, 0x1a)),
+        (PassThrough, (0x61, 0x4a), (0x64, 0x1a)),
+        (SwitchEast(Some(Pos(0))), (0x61, 0x4a), (0x61, 0x42)),
     ];
     let mut ring = ring_of_four(rt.alloc()).expect(&rt, "memory for a ring");
     assert!(rt; rounds_until_still(&mut ring, &four(none, manual, none, manual)) > 0);
     assert!(rt; has_lines(&ring, tie));
     assert!(rt; rounds_until_still(&mut ring, &four(none, none, none, manual)) > 0);
     assert!(rt; has_lines(&ring, alone));
-}
-
-// The needs of a ring of two.
-fn two(one: Needs, two: Needs) -> [Needs; 2]
-    requires one { MayNeed one }
-    requires two { MayNeed two }
-    ensures { All MayNeed result }
-{
-    [one, two]
-}
-
-fn ring_of_two(alloc: Global) -> Option<SignalRing>
-    ensures { IfSome result (λ ring. length ring.ring.ids ≡ 2) }
-{
-    let map = RingMap::new(&[1, 2]).ok()?;
-    SignalRing::try_new(alloc, map).ok()
-}
-
-#[test]
-fn two_rounds_without_a_change_are_too_few(rt: HostRuntime) {
-    let none = asks(Code::Nr, Code::Nr);
-    let mut ring = ring_of_two(rt.alloc()).expect(&rt, "memory for a ring");
-    ring.round(&two(none, none), &[false; 2]);
-    let failing = two(none, fails(false, true));
-    ring.round(&failing, &[false; 2]);
-    ring.round(&failing, &[false; 2]);
-    assert!(rt; !ring.is_still());
-    ring.round(&failing, &[false; 2]);
-    assert!(rt; !ring.is_still());
-    // the other end of the span that fails hasn't heard of it
-    assert!(rt; has_line(&ring, 0, (Idle, (0x02, 0x10), (0x02, 0x10))));
-    assert!(rt; has_line(&ring, 1, (SwitchEast, (0xb1, 0x29), (0xb1, 0x26))));
-    ring.round(&failing, &[false; 2]);
-    assert!(rt; has_line(&ring, 0, (SwitchWest, (0x12, 0x12), (0xb2, 0x1a))));
-}
-
-#[test]
-fn a_held_node_in_the_last_three_rounds(rt: HostRuntime) {
-    let none = asks(Code::Nr, Code::Nr);
-    let degraded = asks(Code::Sd, Code::Nr);
-    let mut ring = ring_of_two(rt.alloc()).expect(&rt, "memory for a ring");
-    ring.round(&two(degraded, none), &[false; 2]);
-    ring.round(&two(degraded, fails(false, true)), &[false, true]);
-    ring.round(&two(degraded, none), &[false; 2]);
-    ring.round(&two(degraded, none), &[false; 2]);
-    // no round after the first changed a word
-    assert!(rt; has_line(&ring, 1, (Idle, (0x01, 0x20), (0x01, 0x20))));
-    assert!(rt; !ring.is_still());
-    ring.round(&two(degraded, none), &[false; 2]);
-    assert!(rt; !has_line(&ring, 1, (Idle, (0x01, 0x20), (0x01, 0x20))));
-}
-
-#[test]
-fn a_held_node_keeps_its_state_and_words(rt: HostRuntime) {
-    let none = asks(Code::Nr, Code::Nr);
-    let needs = four(none, fails(false, true), fails(true, false), none);
-    let mut ring = ring_of_four(rt.alloc()).expect(&rt, "memory for a ring");
-    ring.round(&needs, &[false, true, false, false]);
-    assert!(rt; has_line(&ring, 1, (Idle, (0x01, 0x20), (0x03, 0x20))));
-    ring.round(&needs, &FREE);
-    assert!(rt; has_line(&ring, 1, (SwitchEast, (0xb3, 0x29), (0xb3, 0x26))));
-    ring.round(&four(none, none, none, none), &[false, true, false, false]);
-    assert!(rt; has_line(&ring, 1, (SwitchEast, (0xb3, 0x29), (0xb3, 0x26))));
 }

@@ -1,8 +1,8 @@
 //! Each call with ample memory, and failures at their places.
 
-use crate::{
-    Failed, MemSink, MemSource, READ_MAX, ReadAllError, Sink, Source, StdSink, StdSource,
-    WriteFault, read_all, write_text,
+use sdh_outside::{
+    Failed, MemSink, MemSource, ReadAllError, Sink, Source, StdSink, StdSource, WriteFault,
+    read_all, write_text,
 };
 use std::io;
 use std::io::{ErrorKind, Read, Write};
@@ -37,26 +37,6 @@ fn reads_to_the_end_or_to_the_first_failing_call(rt: HostRuntime) -> Result<(), 
                 assert_eq!(rt; error, ReadAllError::ReadFault, "{piece} {failing:?}");
             }
         }
-    }
-    Ok(())
-}
-
-#[test]
-fn reads_1048576_bytes_and_no_more(rt: HostRuntime) -> Result<(), Fail> {
-    let mut bytes = Vec::new(rt.alloc());
-    for _ in 0..1_048_576 {
-        bytes.push(b' ')?;
-    }
-    let mut source = MemSource::new(rt.alloc(), &bytes, 4096, &[])?;
-    let read = read_all(rt.alloc(), &mut source).map_err(|_| "not read")?;
-    assert_eq!(rt; read.len(), 1_048_576);
-    assert_eq!(rt; READ_MAX, 1_048_576);
-
-    bytes.push(b' ')?;
-    let mut source = MemSource::new(rt.alloc(), &bytes, 4096, &[])?;
-    match read_all(rt.alloc(), &mut source) {
-        Ok(_) => assert!(rt; false, "one byte too many was read"),
-        Err(error) => assert_eq!(rt; error, ReadAllError::TooLong),
     }
     Ok(())
 }

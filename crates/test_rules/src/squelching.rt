@@ -1,6 +1,7 @@
 //! The tables of nodes of a ring of four.
-use super::*;
-use sdh_circuits::{AddError, Asked};
+use sdh_circuits::{Asked, CircuitMap, Slot};
+use sdh_ringmap::{Pos, RingMap, Side};
+use sdh_squelch::{Row, Table};
 
 // A circuit in slot 1.
 fn asked(name: &str, from: i64, to: i64) -> Asked<'_> {

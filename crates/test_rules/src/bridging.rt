@@ -4,10 +4,12 @@ ghost use Rattle.std.specs.Prelude.{◌≡◌, ◌<◌, length, if◌then◌else
 ghost use Rattle.sdh_nodestate.specs.FarEnds.{far_of, IsElsewhere};
 ghost use Rattle.std.specs.Option.{is_none};
 
-use super::*;
-use sdh_circuits::{Asked, CircuitMap};
+use sdh_bridge::{Origin, drop_origin, protection_origin, working_origin};
+use sdh_circuits::{Asked, CircuitMap, End, PortId, Slot};
 use sdh_kbytes::{Code, K, decode};
-use sdh_nodestate::{Heard, Needs, start, step};
+use sdh_nodestate::{Heard, Needs, NodeState, start, step};
+use sdh_ringmap::{Pos, RingMap, Side};
+use sdh_squelch::Table;
 use std::alloc::Global;
 
 type Bytes = Option<(u8, u8)>;

@@ -1,0 +1,116 @@
+//! Single steps of nodes. Each word is given by its two bytes; `None` is a side on which nothing is heard.
+ghost use Rattle.std.specs.Prelude.{◌≡◌, ◌≢◌, true, false};
+ghost use Rattle.sdh_nodestate.specs.Conditions.{MayNeed};
+
+use sdh_kbytes::{Code, K, decode};
+use sdh_nodestate::{
+    Filter, Heard, Needs, NodeState, Sent, Shape, same_shape, shape_of, start, step,
+};
+use sdh_ringmap::{Pos, RingMap};
+
+type Bytes = Option<(u8, u8)>;
+
+// Two local requests, where no side fails.
+fn asks(west: Code, east: Code) -> Needs
+    requires west { west ≢ Code.Rr }
+    requires east { east ≢ Code.Rr }
+    ensures { result ≡ record { west = west; east = east; west_fails = false; east_fails = false } }
+{
+    Needs {
+        west,
+        east,
+        west_fails: false,
+        east_fails: false,
+    }
+}
+
+// Which sides fail, where nothing else is asked for.
+fn fail(west: bool, east: bool) -> Needs
+    ensures may { MayNeed result }
+    ensures west { result.west_fails ≡ west }
+    ensures east { result.east_fails ≡ east }
+{
+    let code = |fails: bool| if fails { Code::Sf } else { Code::Nr };
+    Needs {
+        west: code(west),
+        east: code(east),
+        west_fails: west,
+        east_fails: east,
+    }
+}
+
+fn word(bytes: Bytes) -> Option<K>
+    ensures { bytes ≡ None → result ≡ None }
+{
+    match bytes {
+        Some((k1, k2)) => decode(k1, k2),
+        None => None,
+    }
+}
+
+// The step of the second of four nodes, which hears these words.
+fn stepped(needs: Needs, west: Option<K>, east: Option<K>) -> Option<(NodeState, Sent)>
+    requires needs { MayNeed needs }
+    requires west { needs.west_fails ≡ true → west ≡ None }
+    requires east { needs.east_fails ≡ true → east ≡ None }
+{
+    let map = RingMap::new(&[1, 2, 3, 4]).ok()?;
+    if map.len() < 2 {
+        return None;
+    }
+    Some(step(start(), &map, Pos(1), needs, Heard { west, east }))
+}
+
+// Whether a step ends in a state, with these words.
+fn is(answer: Option<(NodeState, Sent)>, state: Shape, west: (u8, u8), east: (u8, u8)) -> bool {
+    match answer {
+        None => false,
+        Some((new, sent)) => {
+            same_shape(shape_of(&new), state)
+                && Some(sent.west) == decode(west.0, west.1)
+                && Some(sent.east) == decode(east.0, east.1)
+        }
+    }
+}
+
+#[test]
+fn requests_of_the_second_of_four(rt: HostRuntime) {
+    let none = asks(Code::Nr, Code::Nr);
+    // a long word from the neighbour, without a request here
+    let answer = stepped(none, word(Some((0xb2, 0x3a))), None);
+    assert!(rt; is(answer, Shape::Idle, (0x01, 0x20), (0x03, 0x20)));
+    // a span that fails, and nothing is heard
+    let answer = stepped(fail(false, true), None, None);
+    assert!(rt; is(answer, Shape::SwitchEast(None), (0xb3, 0x29), (0xb3, 0x26)));
+    // a span that fails, and the other end is heard the long way
+    let answer = stepped(fail(false, true), word(Some((0xb2, 0x3a))), None);
+    assert!(rt;
+        is(
+            answer,
+            Shape::SwitchEast(Some(Pos(2))),
+            (0xb3, 0x2a),
+            (0xb3, 0x26)
+        )
+    );
+    // a word of this node's own comes back
+    let answer = stepped(none, word(Some((0xb3, 0x28))), None);
+    assert!(rt; is(answer, Shape::Idle, (0x01, 0x20), (0x03, 0x20)));
+    // words of others from both sides
+    let answer = stepped(none, word(Some((0xb3, 0x18))), word(Some((0xb1, 0x38))));
+    assert!(rt; is(answer, Shape::PassThrough, (0xb1, 0x38), (0xb3, 0x18)));
+}
+
+#[test]
+fn the_third_frame_counts(rt: HostRuntime) {
+    let mut filter = Filter::new();
+    let rows = [
+        (Shape::Idle, (0x01, 0x20), (0x03, 0x20)),
+        (Shape::Idle, (0x01, 0x20), (0x03, 0x20)),
+        (Shape::SwitchWest(None), (0x11, 0x21), (0xb1, 0x29)),
+    ];
+    for (state, west, east) in rows {
+        let heard = filter.hear(decode(0xb2, 0x10));
+        let answer = stepped(asks(Code::Nr, Code::Nr), heard, None);
+        assert!(rt; is(answer, state, west, east), "{state:?}");
+    }
+}
