@@ -33,7 +33,12 @@ class Finding:
         told = [at + self.head]
         if self.place:
             told += shown(self.place)
-        return told + [f"  {note}" for note in self.notes]
+        return ["".join(map(seen, line)) for line in told + [f"  {note}" for note in self.notes]]
+
+
+def seen(letter):
+    """A letter as a terminal may be shown it: no control signs, which texts may have by escapes."""
+    return letter if letter.isprintable() else "\N{REPLACEMENT CHARACTER}"
 
 
 def shown(place, width=100):
@@ -249,8 +254,12 @@ def explain(data):
     except PlanProblem as problem:
         finding = of_no_toml(text, str(problem).removeprefix("no TOML document: "))
         return Explanation(5 if finding.head.startswith("not toml") else 1, (finding,))
-    source = Source(text)
-    if found := of_limits(document, source):
+    try:
+        source = Source(text)
+        found = of_limits(document, source)
+    except RecursionError:
+        found = [Finding(f"not toml: keys or values lie in one another more than {DEEPEST} levels deep")]
+    if found:
         return Explanation(5, tuple(found))
     if found := of_refusals(document, source):
         return Explanation(6, tuple(found))

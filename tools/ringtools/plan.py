@@ -87,8 +87,10 @@ def read_document(data):
     """The TOML document as it stands, or a PlanProblem."""
     try:
         return tomllib.loads(data.decode("utf-8-sig"))
-    except (UnicodeDecodeError, tomllib.TOMLDecodeError) as error:
+    except ValueError as error:  # of the text's bytes, of TOML, or of a number with thousands of digits
         raise PlanProblem(f"no TOML document: {error}") from None
+    except RecursionError:
+        raise PlanProblem("no TOML document: arrays and tables lie too deep in one another") from None
 
 
 def needs(found):

@@ -58,8 +58,10 @@ def changed(plan, change):
     """The plan with one line in the place of the one with its key, or behind the last line where no line has it."""
     if change in ("", SLOWLY):
         return plan
-    if found := re.fullmatch(r"spaces up to ([0-9]+) bytes", change):
-        return plan.ljust(int(found[1]))
+    if found := re.fullmatch(r"(spaces|letters) up to ([0-9]+) bytes", change):
+        fill = b" " if found[1] == "spaces" else b"abcdefghijklmnopqrstuvw"
+        count = int(found[2])
+        return (plan + fill * count)[:count]
     if found := re.fullmatch(r"([0-9]+) times settle", change):
         change = "script = [" + ", ".join(["'settle'"] * int(found[1])) + "]"
     key, line = change.split(" ", 1)[0].encode(), change.encode()
@@ -74,7 +76,8 @@ def read_row(folder, cells):
         raise RowsProblem(f"{folder / TABLE}: {len(cells)} cells where {len(COLUMNS)} were expected: {cells}")
     name, words, plan, change, status, text = cells
     given = None if plan == FOLDER else changed(file_of(folder, plan) if plan else b"", change)
-    wanted = None if text == FULL else file_of(folder, text) if text.endswith(".text") else text_of(text)
+    is_file = text.endswith(".text") or text.startswith("crates/")
+    wanted = None if text == FULL else file_of(folder, text) if is_file else text_of(text)
     said = tuple(word.encode().replace(b"\\xff", b"\xff") for word in words.split())
     return Row(name, said, given, int(status), wanted, change == SLOWLY)
 

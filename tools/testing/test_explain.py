@@ -101,6 +101,11 @@ class Refusals(unittest.TestCase):
         self.assertEqual(list(REASONS), list(range(1, 32)))
         self.assertTrue(all(reason.advice and reason.wrong for reason in REASONS.values()))
 
+    def test_control_signs_are_not_shown(self):
+        status, lines = said_of(GOOD.replace('"c1"', '"c\\u001b[31m"'))
+        self.assertEqual(status, 6)
+        self.assertTrue(all(line.isprintable() for line in lines))
+
     def test_nearest(self):
         self.assertEqual(nearest("Cut", tuple(STEP_FORMS)), "cut")
         self.assertEqual(nearest("weest", ("west", "east")), "west")
@@ -138,6 +143,8 @@ class Documents(unittest.TestCase):
         for line in ("a = 9223372036854775808", "a = " + "[" * 81 + "]" * 81, "a = 1e999", "a" + ".a" * 80 + " = 1"):
             with self.subTest(line=line[:30]):
                 self.assertEqual(explain((line + "\n" + GOOD).encode()).status, 5)
+        for line in ("a = " + "[" * 5000 + "]" * 5000, "a = " + "9" * 5000, "a" + ".a" * 5000 + " = 1"):
+            self.assertEqual(explain((line + "\n" + GOOD).encode()).status, 5)
         self.assertEqual(explain(b"\xef\xbb\xbf" + GOOD.encode()).status, 0)
         self.assertEqual(explain(GOOD.encode().ljust(1_048_576)).status, 0)
         self.assertEqual(explain(GOOD.encode().ljust(1_048_577)).status, 9)

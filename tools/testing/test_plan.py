@@ -34,6 +34,8 @@ def fits(value, schema):
         return False
     if "if" in schema and fits(value, schema["if"]) and not fits(value, schema["then"]):
         return False
+    if not all(fits(value, one) for one in schema.get("allOf", [])):
+        return False
     if "anyOf" in schema and not any(fits(value, one) for one in schema["anyOf"]):
         return False
     if value not in schema.get("enum", [value]):

@@ -1,6 +1,5 @@
 """Plans and texts: what is read, and that broken input is refused with its place."""
 
-import subprocess
 import tempfile
 import unittest
 from pathlib import Path

@@ -102,6 +102,12 @@ class Rows(unittest.TestCase):
         with self.assertRaises(RowsProblem):
             changed(plan + plan, "limit = 6")
 
+    def test_rows_of_lines(self):
+        rows = {row.name: row for row in read_rows(RINGS.parent / "lines")}
+        self.assertEqual(rows["slow-line"].given, rows["slow-line-of-letters"].given)
+        self.assertEqual([row.status for row in rows.values()], [0, 0, 0, 12, 2, 3, 4])
+        self.assertTrue(rows["drift"].text.endswith(b"drift 4\n"))
+
     def test_a_broken_table(self):
         (self.folder / "rows.md").write_text("| Row | Words |\n|---|---|\n| a | run |\n")
         with self.assertRaises(RowsProblem):
