@@ -8,9 +8,8 @@ ghost use Rattle.sdh_kbytes.specs.KBytes.{code_number};
 
 mod settings;
 
-pub use settings::Settings;
-
 use sdh_kbytes::Code;
+pub use settings::Settings;
 use std::marker::Model;
 
 /// What a look at a side sees.

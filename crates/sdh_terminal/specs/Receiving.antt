@@ -112,7 +112,6 @@ readings_by told n bytes readings = if told then after_frame n bytes readings el
 abbrev pub actions_by : Bool → ℕ → List ℕ → List Reading → List Action
 actions_by told n bytes readings = if told then actions_in n bytes readings else replicate n action.Ais
 
-
 -- what a side finds in what arrived
 abbrev pub found : ℕ → Inlet → Reception
 found threshold i = reception_of i.arrived i.section.rate threshold i.section.last

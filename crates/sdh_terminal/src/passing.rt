@@ -13,8 +13,8 @@ ghost use Rattle.sdh_terminal.specs.Sources.{payload_by, bytes_on};
 ghost use Rattle.sdh_terminal.specs.Tributaries.{own_input, added_last};
 ghost use Rattle.sdh_terminal.specs.Lines.{received, fed_by, all_fed_by, IsFeeder};
 
-use crate::matrix::{Feeder, Matrix};
 use crate::intake::h3_at;
+use crate::matrix::{Feeder, Matrix};
 use crate::tributaries::Tributaries;
 use crate::tributary::Tributary;
 use sdh_circuits::PortId;
