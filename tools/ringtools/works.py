@@ -1,0 +1,100 @@
+"""The view of a works order: customers before, during and after, and which second failures hurt meanwhile."""
+
+from html import escape
+
+from .answers import SINGLE
+from .casetables import links
+from .failures import WORKS_STAGES
+from .markup import count_of, heads, listing, names
+
+HITLESS = (
+    "A report tells what holds once the ring is quiet. While a switch is made or cleared, a customer whose way changes loses bytes, gets some of them twice, "
+    "or gets AIS for a while: a switch isn't hitless."
+)
+SECOND = (*SINGLE, "node")
+
+
+class Works:
+    """What the works of an order come to. `answers.works` is the verdict on them, None in a part without it."""
+
+    def __init__(self, answers):
+        self.answers, self.plan, self.verdict = answers, answers.plan, answers.works
+
+    def counts(self, name):
+        stage = self.verdict.stage(name)
+        shown = ((stage.count("lost"), "lost"), (stage.count("odd"), "odd"), (stage.count("over"), "over protection"), (stage.count("kept"), "on their own arc"))
+        return ", ".join(f"{count} {words}" for count, words in shown if count) or "no customers"
+
+    def summary(self):
+        """Each stage in a sentence."""
+        titles = {"before": "Before", "during": "During", "after": "After", "waited": "After waiting"}
+        for name in WORKS_STAGES:
+            stage, before = self.verdict.stage(name), self.verdict.stage("before")
+            if stage is None:
+                yield f"<strong>{titles[name]}: no report.</strong> {escape(self.verdict.problem)}"
+            elif name in ("after", "waited") and stage.cells == before.cells:
+                yield f"<strong>{titles[name]}</strong>: each customer as before."
+            else:
+                yield f"<strong>{titles[name]}</strong>: {self.counts(name)}."
+
+    def freed(self):
+        """The spans that carry nothing on their working slots during the works."""
+        before, during = self.verdict.stage("before"), self.verdict.stage("during")
+        return (during.applied - before.applied) if before and during else frozenset()
+
+    def cell(self, circuit, name):
+        stage, before = self.verdict.stage(name), self.verdict.stage("before")
+        if stage is None:
+            return "<td>–</td>"
+        cell = stage.cells[circuit.name]
+        changed = " changed-cell" if before and cell != before.cells[circuit.name] else ""
+        return f'<td class="result-{cell.kind}{changed}">{cell.words()}</td>'
+
+    def table(self):
+        rows, ids = "", self.plan.ids
+        for circuit in self.plan.circuits:
+            cells = "".join(self.cell(circuit, name) for name in WORKS_STAGES)
+            rows += f'<tr><th scope="row" class="name">{escape(circuit.name)}</th>{cells}<td>{ids[circuit.start]} to {ids[circuit.end]}, slot {circuit.slot}</td></tr>\n'
+        titles = ["customer", "before", "during", "after", "after waiting", "from, to"]
+        return f'<div class="wide"><table class="order"><caption>Customers before, during and after the works; what isn\'t as before is set off</caption><thead>{heads(titles)}</thead><tbody>\n{rows}</tbody></table></div>'
+
+    def hurting(self):
+        return [verdict for verdict in self.answers.sorted_of(SECOND) if self.answers.taken(verdict)]
+
+    def unfreed(self):
+        """Second failures under which a span that was freed isn't applied any more."""
+        freed = self.freed()
+        return [verdict for verdict, stage in self.answers.failed(SECOND) if not freed <= stage.applied]
+
+    def second_words(self):
+        asked, hurting, taken = self.answers.failed(SECOND), self.hurting(), self.answers.takers(SECOND)
+        if not asked:
+            yield "No second failure settled, or none was asked about."
+            return
+        yield f"<strong>{len(hurting)} of {count_of(len(asked), 'second failure')}</strong> of a fibre, a span or a node during the works take a customer."
+        safe, risked = [name for name in taken if not taken[name]], [name for name in taken if taken[name]]
+        if risked:
+            yield f"At risk during the works: {escape(names(risked))}."
+        if safe:
+            yield f"Taken by none of them: {escape(names(safe))}."
+        freed = names(self.plan.span_name(span) for span in sorted(self.freed()))
+        if freed and self.unfreed():
+            yield f"<strong>The switch gives way</strong> under {len(self.unfreed())} of them: span {freed} then carries traffic again, while people work there. A forced switch doesn't give way to a failure."
+        elif freed:
+            yield f"Span {freed} stays free of traffic under each of them."
+
+    def hurting_table(self):
+        rows = "".join(
+            f'<tr><th scope="row" class="name">{links([verdict])}</th><td class="result-lost">takes {len(taken)}: {escape(", ".join(taken))}</td></tr>\n'
+            for verdict in self.hurting() if (taken := self.answers.taken(verdict))
+        )
+        return f'<div class="wide"><table class="second"><thead>{heads(["second failure", "customers that it takes"])}</thead><tbody>\n{rows}</tbody></table></div>' if rows else ""
+
+    def section(self):
+        steps = ", ".join(f"<code>{escape(text)}</code>" for text in self.answers.beforehand.works_texts())
+        parts = [f'<section id="works"><h2>The works: {steps}</h2>']
+        if self.verdict is None:
+            return parts[0] + "<p>The works themselves are in part 1.</p></section>"
+        parts += [listing(self.summary()), self.table(), f'<p class="note">{HITLESS}</p>']
+        parts += ["<h3>Which second failures hurt during the works</h3>", listing(self.second_words()), self.hurting_table(), "</section>"]
+        return "\n".join(parts)
