@@ -8,6 +8,7 @@ from .markup import count_of, names
 KIND_WORDS = {"fibre": "fibre", "span": "span", "node": "node", "pair": "pair of spans"}
 KIND_PLURALS = {"fibre": "fibres", "span": "spans", "node": "nodes", "pair": "pairs of spans"}
 SINGLE = ("fibre", "span")
+FEW = 6  # circuits for each of which a sentence names its failures
 
 
 def enough(plan):
@@ -62,7 +63,7 @@ class Answers:
     def words_on_runs(self):
         part = f", part {self.shard} of the whole" if self.shard else ""
         each = names(count_of(len(self.of_kinds((kind,))), KIND_WORDS[kind], KIND_PLURALS[kind]) for kind in self.kinds)
-        yield f"{count_of(len(self.verdicts), 'failure')} of {count_of(len(self.circuits), 'circuit')} were run{part}: {each}. Nothing is said of any other failure."
+        yield f"{count_of(len(self.verdicts), 'failure')} of a ring with {count_of(len(self.circuits), 'circuit')} were run{part}: {each}. Nothing is said of others, such as degradations, or a fibre and a node at once."
         if self.beforehand.steps:
             yield "Before each: " + ", ".join(f"<code>{escape(text)}</code>" for text in self.beforehand.texts()) + "."
         before = self.lost_before()
@@ -81,14 +82,16 @@ class Answers:
     def words_on_spans(self):
         if not self.failed(SINGLE):
             return
-        takers = self.takers(SINGLE)
+        takers, single = self.takers(SINGLE), " or ".join(kind for kind in SINGLE if kind in self.kinds)
         safe, taken = [name for name in takers if not takers[name]], [name for name in takers if takers[name]]
         if not taken:
-            yield f"<strong>No single span takes</strong> any of these circuits: {escape(names(safe))}."
-        else:
-            yield f"<strong>No single span takes</strong> {count_of(len(safe), 'circuit')} of {len(takers)}: {escape(names(safe)) or 'none'}."
-            each = (f"{name} ({names((verdict.case.words for verdict in takers[name]), 4)})" for name in taken)
-            yield f"<strong>A single span takes</strong> {count_of(len(taken), 'circuit')}: {escape(names(each))}."
+            yield f"<strong>No single {single} takes</strong> any of these circuits: {escape(names(safe))}."
+            return
+        if safe:
+            yield f"<strong>No single {single} takes</strong> {count_of(len(safe), 'circuit')} of {len(takers)}: {escape(names(safe))}."
+        few = len(taken) <= FEW
+        each = (f"{name} ({names((verdict.case.words for verdict in takers[name]), 4)})" if few else name for name in taken)
+        yield f"<strong>A single {single} takes</strong> {count_of(len(taken), 'circuit')}: {escape(names(each))}."
 
     def ends_at(self, case):
         """Circuits that end at the node which is lost."""

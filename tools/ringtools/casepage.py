@@ -36,9 +36,10 @@ def answers_page(asked, verdicts):
     tables, plan = CaseTables(answers), answers.plan
     about = f"STM-{plan.rate}, {plan.size} nodes, {count_of(len(plan.circuits), 'circuit')}, wait {plan.wait}, limit {plan.limit}. "
     about += "Each failure settles, is mended, settles, and settles once more when every wait is over."
-    parts = [f"<h1>What if: {escape(asked.plan)}</h1>", warning(origin), listing(answers.words()), f"<p>{about}</p>", in_short(origin), tools()]
+    parts = [f"<h1>What if: {escape(asked.plan)}</h1>", warning(origin)]
     if asked.beforehand.works:
-        parts.append(Works(answers).section())
+        parts += [Works(answers).section(), "<section><h2>All failures during the works</h2>"]
+    parts += [listing(answers.words()), f"<p>{about}</p>", in_short(origin), tools(), "</section>" if asked.beforehand.works else ""]
     if plan.circuits:
         parts.append(f'<section id="customers"><h2>Customers: {tables.headline()}</h2>{tables.customers()}</section>')
     parts.append(f'<section id="failures"><h2>Failures</h2>{tables.failures()}</section>')

@@ -3,7 +3,7 @@
 from html import escape
 
 from .answers import KIND_PLURALS, SINGLE
-from .markup import count_of, folded, heads, unbroken
+from .markup import folded, heads, unbroken
 
 COLUMNS = 24  # customers side by side: so many fit a printed page
 KEY = (
@@ -27,12 +27,16 @@ def links(verdicts):
 
 def taken_by(verdicts, asked):
     """How many of so many failures take a customer, and which; folded where they are many."""
-    if not asked:
-        return "not asked"
+    if verdicts is None:
+        return "–"
     if not verdicts:
         return f"none of {asked}"
     count = f"{len(verdicts)} of {asked}"
     return f"{count}: {links(verdicts)}" if len(verdicts) <= 2 else folded(count, links(verdicts))
+
+
+def takes(taken):
+    return f'<strong class="result-lost">takes {len(taken)}</strong>: {escape(", ".join(taken))}'
 
 
 class CaseTables:
@@ -49,23 +53,31 @@ class CaseTables:
         if name in self.answers.lost_before():
             return "lost", "lost before anything fails"
         if not self.answers.failed(SINGLE):
-            return "kept", "no single failure was asked"
-        return ("lost", "a single fibre or span takes it") if singles[name] else ("kept", "no single fibre or span takes it")
+            return "kept", "no fibre or span was asked"
+        return ("lost", "a fibre or span takes it") if singles[name] else ("kept", "no fibre or span takes it")
+
+    def columns(self):
+        """What takes a customer, by title: the verdicts for each customer, and how many were asked; only of kinds that were asked."""
+        answers = self.answers
+        nodes = {name: [verdict for verdict in found if name not in answers.ends_at(verdict.case)] for name, found in answers.takers(("node",)).items()}
+        columns = {
+            "fibres and spans that take it": (answers.takers(SINGLE), len(answers.failed(SINGLE))),
+            "nodes besides its ends": (nodes, max(0, len(answers.failed(("node",))) - 2)),
+            "pairs of spans that take it": (answers.takers(("pair",)), len(answers.failed(("pair",)))),
+        }
+        return {title: column for title, column in columns.items() if column[1]}
+
+    def customer_row(self, circuit, columns):
+        name, ids, singles = circuit.name, self.plan.ids, self.answers.takers(SINGLE)
+        kind, words = self.customer_words(name, singles)
+        cells = [taken_by(found.get(name), asked) for found, asked in columns.values()]
+        cells += [self.longest(name), f"{ids[circuit.start]} to {ids[circuit.end]}, slot {circuit.slot}"]
+        return f'<tr><th scope="row" class="name">{escape(name)}</th><td class="result-{kind}">{words}</td>' + "".join(f"<td>{cell}</td>" for cell in cells) + "</tr>"
 
     def customers(self):
-        answers, ids = self.answers, self.plan.ids
-        singles, nodes, pairs = (answers.takers(kinds) for kinds in (SINGLE, ("node",), ("pair",)))
-        asked = [len(answers.failed(kinds)) for kinds in (SINGLE, ("node",), ("pair",))]
-        rows = ""
-        for circuit in self.plan.circuits:
-            name = circuit.name
-            kind, words = self.customer_words(name, singles)
-            besides = [verdict for verdict in nodes.get(name, []) if name not in answers.ends_at(verdict.case)]
-            cells = [taken_by(singles.get(name, []), asked[0]), taken_by(besides, asked[1] and asked[1] - 2), taken_by(pairs.get(name, []), asked[2])]
-            cells = ["–"] * 3 if name in answers.lost_before() else cells
-            cells += [self.longest(name), f"{ids[circuit.start]} to {ids[circuit.end]}, slot {circuit.slot}"]
-            rows += f'<tr><th scope="row" class="name">{escape(name)}</th><td class="result-{kind}">{words}</td>' + "".join(f"<td>{cell}</td>" for cell in cells) + "</tr>\n"
-        titles = ["customer", "in short", "fibres and spans that take it", "nodes besides its ends", "pairs of spans that take it", "most spans more", "from, to"]
+        columns = self.columns()
+        rows = "\n".join(self.customer_row(circuit, columns) for circuit in self.plan.circuits)
+        titles = ["customer", "in short", *columns, "most spans more", "from, to"]
         return f'<div class="wide"><table class="customers"><thead>{heads(titles)}</thead><tbody>\n{rows}</tbody></table></div>'
 
     def later_cell(self, verdict, name):
@@ -87,9 +99,9 @@ class CaseTables:
         if stage is None:
             return f'{head}<td colspan="5">{note}</td></tr>'
         odd = stage.all_of("odd")
-        words = [f"takes {len(taken)}: {escape(', '.join(taken))}"] if taken else [] if odd else ["takes none"]
+        words = [takes(taken)] if taken else [] if odd else ["takes none"]
         words += [f"odd: {escape(', '.join(odd))}"] if odd else []
-        kind = "odd" if odd else "lost" if taken else "kept"
+        kind = "odd" if odd else "kept"
         later = f'<td colspan="2">{note}</td>' if note else "".join(f"<td>{self.later_cell(verdict, name)}</td>" for name in ("mended", "waited"))
         return f'{head}<td class="result-{kind}">{"; ".join(words)}</td><td>{stage.count("over")}</td><td>{stage.count("kept")}</td>{later}</tr>'
 
@@ -126,7 +138,7 @@ class CaseTables:
         return KEY + "\n".join(map(self.matrix_group, range(0, len(self.answers.circuits), COLUMNS)))
 
     def headline(self):
-        """How many customers no single fibre or span takes."""
+        """How many customers a fibre or a span alone takes."""
         singles = self.answers.takers(SINGLE)
-        safe = sum(not takers for takers in singles.values())
-        return f"{safe} of {count_of(len(self.answers.circuits), 'customer')} are taken by no single fibre or span"
+        taken = sum(bool(takers) for takers in singles.values())
+        return f"a fibre or span alone takes {taken} of {len(self.answers.circuits)}" if self.answers.failed(SINGLE) else "no fibre or span alone was asked"

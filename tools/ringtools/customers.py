@@ -87,15 +87,23 @@ def port_cell(look, circuit, end):
 
 
 def circuit_table(look):
-    """Each customer with its result beside its name, then the way, and what the ports deliver."""
+    """Each customer with its result beside its name, then its way."""
     circuits, ids = look.plan.circuits, look.plan.ids
-    if not circuits:
-        return ""
     changed = {number for number, circuit in enumerate(circuits) if circuit.name in look.changed_circuits}
     rows = []
     for number, circuit in enumerate(circuits):
         result = f'<span class="result-{look.result(circuit)}">{result_words(look, circuit)}</span>'
         ends = f"{ids[circuit.start]} to {ids[circuit.end]}, slot {circuit.slot}"
-        rows.append([escape(circuit.name), result, escape(look.route_words(circuit)), ends, str(number + 1), *(port_cell(look, circuit, end) for end in "ab")])
-    titles = ["circuit", "what became of it", "way from a to b now", "from, to", "#", "port a", "port b"]
-    return table("Circuits", titles, rows, changed, lambda index: f' data-circuit="{escape(circuits[index].name)}"')
+        rows.append([escape(circuit.name), result, escape(look.route_words(circuit)), ends, str(number + 1)])
+    return table("Circuits", ["circuit", "what became of it", "way from a to b now", "from, to", "#"], rows, changed, attributes(circuits)) if rows else ""
+
+
+def port_table(look):
+    """What the ports deliver, as the text shows it."""
+    circuits = look.plan.circuits
+    rows = [[escape(circuit.name), *(port_cell(look, circuit, end) for end in "ab")] for circuit in circuits]
+    return table("Ports", ["circuit", "port a", "port b"], rows, (), attributes(circuits)) if rows else ""
+
+
+def attributes(circuits):
+    return lambda index: f' data-circuit="{escape(circuits[index].name)}"'

@@ -3,7 +3,7 @@
 from html import escape
 
 from . import drawing
-from .customers import circuit_table, outcome, steps_table
+from .customers import circuit_table, outcome, port_table, steps_table
 from .legend import legend
 from .look import condition_words
 from .markup import COMPARED, count_of, folded, listing, origin_list, table, warning, whole
@@ -86,9 +86,8 @@ def step_section(look):
         names = ", ".join(f"{name} {end}" for name, end in look.wrong_ports())
         parts.append(f'<p class="alarm">Not what the restoration model says: port {escape(names)}.</p>')
     kind, drawn = figure(look)
-    parts.append(f'<div class="{kind}"><div>{told_otherwise(look) or outcome(look)}{changes(look)}</div>{drawn}</div>')
-    parts.append(circuit_table(look))
-    parts.append(folded(f"Nodes ({look.plan.size}) and spans, with the K bytes in words", node_table(look) + span_table(look)) + "</section>")
+    parts.append(f'<div class="{kind}"><div>{told_otherwise(look) or outcome(look)}{changes(look)}{circuit_table(look)}</div>{drawn}</div>')
+    parts.append(folded("What each port delivers, each node sends, and each span asks for", port_table(look) + node_table(look) + span_table(look)) + "</section>")
     return "\n".join(parts)
 
 

@@ -3,7 +3,6 @@
 import csv
 from dataclasses import dataclass, field
 
-from .look import longer_words
 from .model import arc, is_joined, owed, route, scenes
 from .report import ReportProblem, read_report
 
@@ -35,8 +34,12 @@ class Cell:
         """For a narrow cell of the page."""
         return {"kept": "·", "over": f"{self.more:+d}" if self.more else "=", "lost": "✕", "odd": "?"}[self.kind]
 
+    def longer(self):
+        spans = f"{abs(self.more)} span{'s' if abs(self.more) > 1 else ''}"
+        return "as long" if self.more == 0 else f"{spans} {'more' if self.more > 0 else 'fewer'}"
+
     def words(self):
-        return {"kept": "kept", "over": f"over protection, {longer_words(self.more)}", "lost": "lost", "odd": "odd: see its text"}[self.kind]
+        return {"kept": "kept", "over": f"over protection, {self.longer()}", "lost": "lost", "odd": "odd: see its text"}[self.kind]
 
     def short(self):
         return f"over{self.more:+d}" if self.kind == "over" else self.kind

@@ -3,7 +3,7 @@
 from html import escape
 
 from .answers import SINGLE
-from .casetables import links
+from .casetables import links, takes
 from .failures import WORKS_STAGES
 from .markup import count_of, heads, listing, names
 
@@ -50,13 +50,24 @@ class Works:
         changed = " changed-cell" if before and cell != before.cells[circuit.name] else ""
         return f'<td class="result-{cell.kind}{changed}">{cell.words()}</td>'
 
+    def changed(self):
+        """Customers that aren't as before in each stage that came."""
+        before = self.verdict.stage("before")
+        return [circuit for circuit in self.plan.circuits if before and any(stage.cells[circuit.name] != before.cells[circuit.name] for stage in self.verdict.stages)]
+
+    def row(self, circuit):
+        cells, ids = "".join(self.cell(circuit, name) for name in WORKS_STAGES), self.plan.ids
+        return f'<tr><th scope="row" class="name">{escape(circuit.name)}</th>{cells}<td>{ids[circuit.start]} to {ids[circuit.end]}, slot {circuit.slot}</td></tr>'
+
     def table(self):
-        rows, ids = "", self.plan.ids
-        for circuit in self.plan.circuits:
-            cells = "".join(self.cell(circuit, name) for name in WORKS_STAGES)
-            rows += f'<tr><th scope="row" class="name">{escape(circuit.name)}</th>{cells}<td>{ids[circuit.start]} to {ids[circuit.end]}, slot {circuit.slot}</td></tr>\n'
+        """The customers that the works touch, stage by stage; the others by name."""
+        changed = self.changed()
+        same = [circuit.name for circuit in self.plan.circuits if circuit not in changed]
+        rows = "\n".join(map(self.row, changed))
         titles = ["customer", "before", "during", "after", "after waiting", "from, to"]
-        return f'<div class="wide"><table class="order"><caption>Customers before, during and after the works; what isn\'t as before is set off</caption><thead>{heads(titles)}</thead><tbody>\n{rows}</tbody></table></div>'
+        shown = f'<div class="wide"><table class="order"><caption>Customers that the works touch</caption><thead>{heads(titles)}</thead><tbody>\n{rows}</tbody></table></div>'
+        rest = f"<p>Not touched by the works ({len(same)}): {escape(names(same))}.</p>" if same else ""
+        return (shown if changed else "") + rest
 
     def hurting(self):
         return [verdict for verdict in self.answers.sorted_of(SECOND) if self.answers.taken(verdict)]
@@ -83,11 +94,15 @@ class Works:
         elif freed:
             yield f"Span {freed} stays free of traffic under each of them."
 
+    def by_effect(self):
+        """Second failures that take the same customers, together."""
+        found = {}
+        for verdict in self.hurting():
+            found.setdefault(tuple(self.answers.taken(verdict)), []).append(verdict)
+        return found
+
     def hurting_table(self):
-        rows = "".join(
-            f'<tr><th scope="row" class="name">{links([verdict])}</th><td class="result-lost">takes {len(taken)}: {escape(", ".join(taken))}</td></tr>\n'
-            for verdict in self.hurting() if (taken := self.answers.taken(verdict))
-        )
+        rows = "\n".join(f'<tr><th scope="row" class="name">{links(verdicts)}</th><td>{takes(taken)}</td></tr>' for taken, verdicts in self.by_effect().items())
         return f'<div class="wide"><table class="second"><thead>{heads(["second failure", "customers that it takes"])}</thead><tbody>\n{rows}</tbody></table></div>' if rows else ""
 
     def section(self):
