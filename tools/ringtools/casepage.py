@@ -58,7 +58,7 @@ def draw_case(asked, case):
     seen = looks(plan, scenes(plan, [step.round for step in report.settled]), report.settled)
     shown = [look for look in seen if case.kind == "works" or case.stages[look.scene.number - 1] == "failed"] or seen
     origin = Origin(store.program, f"{case.name}.toml", store.answer(case.name).plan, (store.answer(case.name).date,))
-    store.path(case.name, "html").write_text(run_page(case.words, plan, report, shown, origin), encoding="utf-8")
+    store.path(case.name, "html").write_text(run_page(f"{asked.plan}: {case.words}", plan, report, shown, origin), encoding="utf-8")
 
 
 def draw_cases(asked, cases, jobs):

@@ -86,7 +86,8 @@ def step_section(look):
         names = ", ".join(f"{name} {end}" for name, end in look.wrong_ports())
         parts.append(f'<p class="alarm">Not what the restoration model says: port {escape(names)}.</p>')
     kind, drawn = figure(look)
-    parts.append(f'<div class="{kind}"><div>{told_otherwise(look) or outcome(look)}{changes(look)}{circuit_table(look)}</div>{drawn}</div>')
+    beside, below = ("", circuit_table(look)) if "large" in kind else (circuit_table(look), "")
+    parts.append(f'<div class="{kind}"><div>{told_otherwise(look) or outcome(look)}{changes(look)}{beside}</div>{drawn}</div>{below}')
     parts.append(folded("What each port delivers, each node sends, and each span asks for", port_table(look) + node_table(look) + span_table(look)) + "</section>")
     return "\n".join(parts)
 

@@ -8,8 +8,8 @@ from .failures import WORKS_STAGES
 from .markup import count_of, heads, listing, names
 
 HITLESS = (
-    "A report tells what holds once the ring is quiet. While a switch is made or cleared, a customer whose way changes loses bytes, gets some of them twice, "
-    "or gets AIS for a while: a switch isn't hitless."
+    "A report tells what holds once the ring is quiet. While a switch is made or cleared, a customer whose way changes loses bytes or gets some of them twice: "
+    "no switch is hitless."
 )
 SECOND = (*SINGLE, "node")
 

@@ -92,7 +92,7 @@ class Works(Asking):
         self.check_second(["forced 2 east"])
         self.assertIn("Span 2–9 stays free of traffic under each of them.", self.words())
         self.assertEqual(self.words().count("each customer as before."), 2)
-        self.assertIn("a switch isn't hitless", self.words())
+        self.assertIn("no switch is hitless", self.words())
 
     def test_a_manual_switch_gives_way(self):
         self.ask("--works", "manual 2 east")
