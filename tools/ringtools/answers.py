@@ -80,7 +80,7 @@ class Answers:
             yield f"<strong>{count_of(len(other), 'case')} didn't end Ok</strong>: {escape(each)}."
 
     def words_on_spans(self):
-        if not self.failed(SINGLE):
+        if not self.failed(SINGLE) or not self.circuits:
             return
         takers, single = self.takers(SINGLE), " or ".join(kind for kind in SINGLE if kind in self.kinds)
         safe, taken = [name for name in takers if not takers[name]], [name for name in takers if takers[name]]

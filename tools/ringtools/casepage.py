@@ -1,5 +1,6 @@
 """whatif's page: what the failures come to, customers first; and a page with the drawing of each case."""
 
+import signal
 from concurrent.futures import ProcessPoolExecutor
 from dataclasses import dataclass
 from functools import partial
@@ -63,5 +64,5 @@ def draw_case(asked, case):
 
 def draw_cases(asked, cases, jobs):
     done = [case for case in cases if asked.store.is_done(case.name)]
-    with ProcessPoolExecutor(jobs) as pool:
+    with ProcessPoolExecutor(jobs, initializer=signal.signal, initargs=(signal.SIGINT, signal.SIG_IGN)) as pool:
         list(pool.map(partial(draw_case, asked), done, chunksize=4))

@@ -99,25 +99,27 @@ def is_launcher(words):
     return len(words) == 1 and (file := file_of(words[0])) is not None and file.read_bytes()[:2] == b"#!" and (file.parent / "crates.txt").is_file()
 
 
-def find_program(words):
+def built(launcher, plan):
+    """What a launcher runs. It builds that first if need be, asked for the tables of a plan, which runs nothing."""
+    program = launched(launcher)
+    if program is None:
+        ended = subprocess.run([launcher, "check"], input=plan, stdout=subprocess.PIPE)
+        program = launched(launcher)
+    if program is None:
+        raise CannotRun(f"{launcher} ended with status {ended.returncode}, and has no program")
+    return program
+
+
+def find_program(words, plan=b""):
     """The program of these words: what a launcher runs, or the command itself. A copy of what this checkout's launcher runs is known too."""
     words = settled_words(words)
     if is_launcher(words):
-        return launched(words[0]) or Program(words, sum_of_command(words))
+        return built(words[0], plan)
     sum = sum_of_command(words)
-    own = launched(str(LAUNCHER)) if LAUNCHER.is_file() else None
+    own = launched(str(LAUNCHER)) if len(words) == 1 and LAUNCHER.is_file() else None
     if own is not None and own.sum == sum:
         return Program(words, sum, own.version, own.proof)
     found = VERSION.match(told_by([*words, "--version"]))
     if found is None:
         return Program(words, sum)
     return Program(words, sum_of(f"{sum} {found[0]}".encode()), found["version"], PROVED if found["proof"] == PROVED else NOT_PROVED)
-
-
-def need_built(words, plan):
-    """A launcher builds its program, if need be, before anything is timed: it is asked for the tables of a plan, which runs nothing."""
-    if not is_launcher(words) or launched(str(file_of(words[0]))) is not None:
-        return
-    ended = subprocess.run([*words, "check"], input=plan, stdout=subprocess.PIPE)
-    if ended.returncode in (80, 81, 82, 129, 130, 143):
-        raise CannotRun(f"{words[0]} ended with status {ended.returncode}")

@@ -16,9 +16,10 @@ def duration(seconds):
 class Progress:
     """Tells how many cases are done, from the first one on. `expected` is how many seconds all that are left may take, or None."""
 
-    def __init__(self, total, done, expected=None):
-        self.total, self.done, self.at_begin = total, done, done
-        self.begun, self.told, self.expected = time.monotonic(), 0.0, expected
+    def __init__(self, total, done, expected=None, what="cases"):
+        self.total, self.done, self.at_begin, self.what = total, done, done, what
+        self.begun = self.told = time.monotonic()
+        self.expected = expected
 
     def left(self, gone):
         """The seconds that may be left: by the cases that ran, or by what was expected before the first of them ended."""
@@ -29,7 +30,7 @@ class Progress:
 
     def line(self, gone):
         left = self.left(gone)
-        words = f"{self.done} of {self.total} cases, {duration(gone)} gone"
+        words = f"{self.done} of {self.total} {self.what}, {duration(gone)} gone"
         if self.done == self.total or left is None:
             return words
         return f"{words}, about {duration(left)} left" if left > 0 else f"{words}, longer than was expected"

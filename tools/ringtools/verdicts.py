@@ -68,6 +68,7 @@ class Verdict:
     stages: list = field(default_factory=list)
     problem: str = ""
     differs: list = field(default_factory=list)  # where the model says otherwise, in words
+    unsettled: bool = False  # whether a stage didn't settle within the plan's limit
 
     @property
     def status(self):
@@ -76,11 +77,6 @@ class Verdict:
     @property
     def ok(self):
         return self.status == 0 and not self.problem
-
-    @property
-    def unsettled(self):
-        """A stage that didn't settle within the plan's limit, if the text says so."""
-        return self.status == UNSETTLED and len(self.stages) < len(self.case.stages)
 
     def stage(self, name):
         return next((stage for stage in self.stages if stage.name == name), None)
@@ -149,6 +145,7 @@ def judge(case, plan, text, answer):
         if report.done != (status == 0):
             verdict.problem = f"status {status} doesn't go with the text's end `{report.last}`"
         elif not report.done:
+            verdict.unsettled = report.unsettled is not None and status == UNSETTLED
             where = f" in stage `{case.stages[report.unsettled - 1]}`" if report.unsettled else ""
             verdict.problem = f"{verdict.status_words()}{where}: `{report.last}`"
     except ReportProblem as problem:

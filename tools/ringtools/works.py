@@ -110,6 +110,7 @@ class Works:
         parts = [f'<section id="works"><h2>The works: {steps}</h2>']
         if self.verdict is None:
             return parts[0] + "<p>The works themselves are in part 1.</p></section>"
-        parts += [listing(self.summary()), self.table(), f'<p class="note">{HITLESS}</p>']
+        drawn = '<p><a href="cases/works.html">The works, drawn stage by stage</a></p>' if self.verdict.stages else ""
+        parts += [listing(self.summary()), self.table(), drawn, f'<p class="note">{HITLESS}</p>']
         parts += ["<h3>Which second failures hurt during the works</h3>", listing(self.second_words()), self.hurting_table(), "</section>"]
         return "\n".join(parts)

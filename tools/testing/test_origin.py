@@ -11,7 +11,7 @@ from common import STANDIN, bytes_of, call, ring
 from pages import Seen
 
 from ringtools.kept import read_answer
-from ringtools.origin import CannotRun, find_program, need_built
+from ringtools.origin import CannotRun, find_program
 from ringtools.progress import Progress, duration
 
 LAUNCHER = """#!/bin/sh
@@ -56,6 +56,13 @@ class Launched(unittest.TestCase):
                 self.assertEqual((program.words, program.proof), ((str(runs),), proof))
                 self.assertEqual((program.sum, program.version), (sum_of(runs.read_bytes()), "sdhring 9.8.7, sources 0123456789ab"))
 
+    def test_a_launcher_builds_first(self):
+        """It is asked for a plan's tables, which runs nothing."""
+        launcher, runs = self.launcher("not proved yet", "ring.unproved", built=False)
+        text = Path(launcher).read_text().replace("*)", f'check) cat > {self.top}/asked; echo > {runs}; chmod +x {runs} ;;\n  *)')
+        program = find_program([executable(Path(launcher), text)], b"a plan")
+        self.assertEqual((program.words, (self.top / "asked").read_bytes()), ((str(runs),), b"a plan"))
+
     def test_a_command_of_which_nothing_is_known(self):
         program = find_program(STANDIN.split())
         self.assertEqual((program.proof, program.version), ("not known to be proved", ""))
@@ -63,8 +70,8 @@ class Launched(unittest.TestCase):
 
     def test_a_launcher_that_cannot_build(self):
         launcher = executable(self.top / "launcher", "#!/bin/sh\nexit 81\n")
-        with self.assertRaises(CannotRun):
-            need_built([launcher], b"")
+        with self.assertRaisesRegex(CannotRun, "ended with status 81"):
+            find_program([launcher])
         with self.assertRaises(CannotRun):
             find_program(["/nowhere/sdhring"])
 
