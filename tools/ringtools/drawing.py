@@ -125,7 +125,7 @@ class Drawing:
             self.draw_fibre(span, span, "east", self.m.ring + 5)
             self.draw_fibre(span, (span + 1) % self.plan.size, "west", self.m.ring - 5)
             self.draw_degrees(span)
-        self.under = add(self.root, "g")
+        self.under = add(self.root, "g", class_="under")
         for number, circuit in enumerate(self.plan.circuits):
             self.draw_circuit(number, circuit)
         for at in range(self.plan.size):

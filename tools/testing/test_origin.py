@@ -125,7 +125,7 @@ class Answers(Asking):
 
     def test_each_answer_and_row_tells_its_program(self):
         program = self.copy("first")
-        self.ask(program=program)
+        self.ask("--kinds", "span", program=program)
         told = {"Program": program, "Proof": "not known to be proved", "Version": "not told", "Sum": sum_of(Path(program).read_bytes()), "Plan": sum_of(self.plan.read_bytes())}
         for row in self.table():
             self.assertEqual({key: row[key] for key in told}, told)
@@ -140,40 +140,40 @@ class Answers(Asking):
 
     def test_answers_of_another_program_are_run_again(self):
         first, second = self.copy("first"), self.copy("second")
-        self.ask(program=first)
+        self.ask("--kinds", "span", program=first)
         before = self.times()
-        self.assertNotIn(b"run again", self.ask(program=first).stderr)
+        self.assertNotIn(b"run again", self.ask("--kinds", "span", program=first).stderr)
         self.assertEqual(self.times(), before)
-        self.assertIn(b"9 of 9 kept answers are another program's, and are run again", self.ask(program=second).stderr)
+        self.assertIn(b"2 of 2 kept answers are another program's, and are run again", self.ask("--kinds", "span", program=second).stderr)
         self.assertTrue(all(self.times()[name] > then for name, then in before.items()))
         self.assertEqual({row["Program"] for row in self.table()}, {second})
 
     def test_a_program_that_changes_is_another(self):
         program = self.copy("first")
-        self.ask(program=program)
+        self.ask("--kinds", "span", program=program)
         with open(program, "a") as file:
             file.write("# changed\n")
-        self.assertIn(b"are run again", self.ask(program=program).stderr)
+        self.assertIn(b"are run again", self.ask("--kinds", "span", program=program).stderr)
 
     def test_what_was_changed_or_is_older_is_run_again(self):
         """A text that isn't the one that was answered, and files that tell no program."""
-        self.ask()
+        self.ask("--kinds", "span")
         before, cases = self.times(), self.cases()
         (cases / "span-7-9.text").write_text("done\n")
-        (cases / "node-7.answer").write_text("0\n")
-        self.ask()
+        (cases / "span-9-7.answer").write_text("0\n")
+        self.ask("--kinds", "span")
         again = {name for name, then in self.times().items() if then != before[name]}
-        self.assertEqual(again, {"span-7-9.answer", "node-7.answer"})
+        self.assertEqual(again, {"span-7-9.answer", "span-9-7.answer"})
 
     def test_ringview_reads_the_answer_beside_a_text(self):
-        self.ask()
+        self.ask("--kinds", "span")
         words = [self.cases() / f"span-7-9.{kind}" for kind in ("toml", "text")]
         self.assertIn("standin", Seen(call("ringview", *words).stdout.decode()).text())
         words[0].write_bytes(words[0].read_bytes() + b"# changed\n")
         self.assertIn("not known, since", Seen(call("ringview", *words).stdout.decode()).text())
 
     def test_warnings(self):
-        self.assertIn(b"is not known to be proved", self.ask().stderr)
+        self.assertIn(b"is not known to be proved", self.ask("--kinds", "span").stderr)
 
 
 class Times(unittest.TestCase):

@@ -6,6 +6,7 @@ import subprocess
 import tempfile
 import tomllib
 import unittest
+from functools import cache
 from pathlib import Path
 
 from common import TOOLS, call, ring
@@ -29,10 +30,14 @@ document.querySelector('tr[data-circuit="c1"] button').click(); note();
 document.querySelector("button.unfold").click();
 told.push([...document.querySelectorAll("details")].every((part) => part.open));
 told.push(document.documentElement.scrollWidth <= document.documentElement.clientWidth);
-document.body.innerHTML = "<pre>" + told.join("\\n") + "</pre>";
+parent.postMessage(told.join("\\n"), "*");
 </script>"""
+# A page of a phone's width in another, which shows what the inner one says.
+PHONE = """<body><script>addEventListener("message", (event) => { document.body.innerHTML = "<pre>" + event.data + "</pre>"; });</script>
+<iframe src="page.html" width="390" height="844"></iframe></body>"""
 
 
+@cache
 def page_of(name):
     return call("ringview", *ring(name)).stdout.decode()
 
@@ -126,6 +131,11 @@ class Looks(unittest.TestCase):
         self.assertNotIn("var(", drawing)
         self.assertIn("stroke: " + self.palettes()[0]["own"], drawing)
 
+    def test_the_documents_drawings_are_of_today(self):
+        for name in ("span-cut", "node-cut-off"):
+            drawn = call("ringview", "--svg", "1", *ring(name)).stdout
+            self.assertEqual((TOOLS.parent / "docs" / f"looking-{name}.svg").read_bytes(), drawn)
+
     def test_paper(self):
         page = page_of("span-cut")
         self.assertIn("size: A4 landscape", page)
@@ -149,9 +159,10 @@ class Browser(unittest.TestCase):
 
     def test_lighting_and_unfolding(self):
         with tempfile.TemporaryDirectory() as folder:
-            page = Path(folder) / "page.html"
+            page, phone = Path(folder) / "page.html", Path(folder) / "phone.html"
             page.write_text(page_of("end-of-waiting").replace("</body>", DEEDS + "</body>"))
-            words = ["chromium", "--headless=new", "--no-sandbox", "--disable-gpu", "--window-size=390,844", f"--user-data-dir={folder}/own", "--dump-dom", page.as_uri()]
+            phone.write_text(PHONE)
+            words = ["chromium", "--headless=new", "--no-sandbox", "--disable-gpu", "--virtual-time-budget=5000", f"--user-data-dir={folder}/own", "--dump-dom", phone.as_uri()]
             ended = subprocess.run(words, capture_output=True, text=True, timeout=60)
         told = re.search("<pre>(.*?)</pre>", ended.stdout, re.S)[1].split("\n")
         circuit = "circuit c1, 1 to 3, slot 1"

@@ -107,7 +107,7 @@ class Whatif(Asking):
 
     def test_a_case_that_does_not_settle(self):
         self.small()
-        ended = self.ask(program=f"{STANDIN} unsettled", wanted=3)
+        ended = self.ask("--kinds", "fibre", program=f"{STANDIN} unsettled", wanted=3)
         rows = [row for row in self.table() if row["Case"] == "fibre-7-east"]
         self.assertEqual([row["Status"] for row in rows], ["Unsettled"] * 4)
         self.assertEqual([(row["Stage"], row["p"]) for row in rows], [("before", "kept"), ("failed", ""), ("mended", ""), ("waited", "")])
@@ -128,7 +128,7 @@ class Whatif(Asking):
 
     def test_other_bytes_are_odd(self):
         self.small()
-        self.ask(program=f"{STANDIN} wrong", wanted=4)
+        self.ask("--kinds", "fibre,pair", program=f"{STANDIN} wrong", wanted=4)
         rows = self.table()
         self.assertEqual({row["p"] for row in rows}, {"odd", "lost"})
         self.assertEqual({(row["p"] == "odd", row["Model"]) for row in rows}, {(True, "differs"), (False, "agrees")})
@@ -155,12 +155,12 @@ class Whatif(Asking):
         """The same rows but for the dates; and the kept answers tell the same."""
         self.small()
         rows = lambda: [{key: cell for key, cell in row.items() if key != "Answered"} for row in self.table()]
-        self.ask()
+        self.ask("--kinds", "span")
         table = rows()
-        self.ask("--anew", "--sshlogin", "4/:")
+        self.ask("--kinds", "span", "--anew", "--sshlogin", "4/:")
         self.assertEqual(rows(), table)
         kept = self.times()
-        self.ask()
+        self.ask("--kinds", "span")
         self.assertEqual(self.times(), kept)
 
     def test_refusals(self):

@@ -62,20 +62,20 @@ class Works(Asking):
             self.assertEqual(row["during"] == "lost", stages[1][row["customer"]] == "lost")
         return stages
 
-    def second(self, works):
-        """What each second failure takes besides what the works took, by the failure's name."""
+    def second(self, works, kinds):
+        """What each second failure of these kinds takes besides what the works took, by the failure's name."""
         found = {}
         for name, cut in failures().items():
-            if not name.startswith("pair"):
+            if name.startswith(kinds):
                 rules = rules_of(script_of(cut, works))
                 before, failed = expected(rules, 128), expected(rules, 256)
                 found[name] = [c for c in NAMES if failed[c] == "lost" and before[c] != "lost"]
         return found
 
-    def check_second(self, works):
-        hurting = {name: taken for name, taken in self.second(works).items() if taken}
-        words = self.words()
-        self.assertIn(f"{len(hurting)} of 16 second failures of a fibre, a span or a node during the works take a customer.", words)
+    def check_second(self, works, kinds=("fibre", "span", "node")):
+        second, words = self.second(works, kinds), self.words()
+        hurting = {name: taken for name, taken in second.items() if taken}
+        self.assertIn(f"{len(hurting)} of {len(second)} second failures of a fibre, a span or a node during the works take a customer.", words)
         links = [found["href"] for found in self.page().all("a")]
         self.assertTrue(all(f"cases/{name}.html" in links for name in hurting))
         by_effect = Counter(", ".join(taken) for taken in hurting.values())
@@ -102,11 +102,11 @@ class Works(Asking):
 
     def test_works_on_a_node(self):
         """Its own customers are lost meanwhile, and second failures aren't blamed for them."""
-        self.ask("--works", "node 9", "--kinds", "span,fibre,node,pair")
+        self.ask("--works", "node 9", "--kinds", "span,pair")
         steps = ["forced 2 east", "forced 4 west"]
         stages = self.check_stages(["settle", *steps, "settle", "clear 4 west", "clear 2 east", "settle", "moment 10", "settle"])
         self.assertEqual([name for name in NAMES if stages[1][name] == "lost"], [name for name, a, b, _ in CIRCUITS if 9 in (a, b)])
-        self.check_second(steps)
+        self.check_second(steps, ("span",))
 
     def test_unknown_orders(self):
         self.assertIn(b"no span leads from node 5 to node 9", self.ask("--works", "span 5-9", wanted=1).stderr)
