@@ -1,6 +1,30 @@
 """How the tests read pages: as `common.Page` does, without the scripts, and with what their elements tell the scripts."""
 
+import html
+import re
+import shutil
+import subprocess
+import tempfile
+from pathlib import Path
+
 from common import Page
+
+BROWSER = shutil.which("chromium")
+# A page of a phone's width in another, which shows what the inner one says.
+PHONE = """<body><script>addEventListener("message", (event) => { document.body.innerHTML = "<pre></pre>"; document.querySelector("pre").textContent = event.data; });</script>
+<iframe src="page.html" width="390" height="844"></iframe></body>"""
+
+
+def browsed(markup, deeds):
+    """What these lines of script put into their list `told`, at the end of the page in a browser."""
+    script = f'<script>{deeds}\nparent.postMessage(told.join("\\n"), "*");</script>'
+    with tempfile.TemporaryDirectory() as folder:
+        phone = Path(folder) / "phone.html"
+        phone.write_text(PHONE)
+        phone.with_name("page.html").write_text(markup.replace("</body>", script + "</body>"))
+        words = [BROWSER, "--headless=new", "--no-sandbox", "--disable-gpu", "--virtual-time-budget=5000", f"--user-data-dir={folder}/own", "--dump-dom", phone.as_uri()]
+        ended = subprocess.run(words, capture_output=True, text=True, timeout=60)
+    return html.unescape(re.search("<pre>(.*?)</pre>", ended.stdout, re.S)[1]).split("\n")
 
 
 class Seen(Page):

@@ -1,8 +1,6 @@
 """What pages have for those who read them in the dark, on paper, on a phone or by keys; and customers before all else."""
 
 import re
-import shutil
-import subprocess
 import tempfile
 import tomllib
 import unittest
@@ -10,14 +8,14 @@ from functools import cache
 from pathlib import Path
 
 from common import TOOLS, call, ring
-from pages import Seen
+from pages import BROWSER, Seen, browsed
 from rules import Rules
 
 RINGS_RUN = ["before-maintenance", "end-of-waiting", "node-cut-off", "all-dark", "two-nodes", "longest-route", "span-cut"]
 WEB = TOOLS / "ringtools" / "web"
 SIGNS = {"kept": "kept", "over": "protection", "lost": "lost"}
-# A page's script's own marks, after each of some things that a reader does.
-DEEDS = """<script>
+# What a reader does, and what is lit and told after each.
+DEEDS = """
 const told = [], figure = document.querySelectorAll("figure.figure")[1], key = (key) =>
   document.activeElement.dispatchEvent(new KeyboardEvent("keydown", { key, bubbles: true }));
 const lit = () => [...new Set([...document.querySelectorAll(".lit")].map((e) => e.dataset.circuit))].join();
@@ -30,11 +28,7 @@ document.querySelector('tr[data-circuit="c1"] button').click(); note();
 document.querySelector("button.unfold").click();
 told.push([...document.querySelectorAll("details")].every((part) => part.open));
 told.push(document.documentElement.scrollWidth <= document.documentElement.clientWidth);
-parent.postMessage(told.join("\\n"), "*");
-</script>"""
-# A page of a phone's width in another, which shows what the inner one says.
-PHONE = """<body><script>addEventListener("message", (event) => { document.body.innerHTML = "<pre>" + event.data + "</pre>"; });</script>
-<iframe src="page.html" width="390" height="844"></iframe></body>"""
+"""
 
 
 @cache
@@ -153,18 +147,12 @@ class Looks(unittest.TestCase):
         self.assertLessEqual(max(map(len, titles)), 13)
 
 
-@unittest.skipUnless(shutil.which("chromium"), "there is no browser")
+@unittest.skipUnless(BROWSER, "there is no browser")
 class Browser(unittest.TestCase):
     """Clicks and keys, at a phone's width."""
 
     def test_lighting_and_unfolding(self):
-        with tempfile.TemporaryDirectory() as folder:
-            page, phone = Path(folder) / "page.html", Path(folder) / "phone.html"
-            page.write_text(page_of("end-of-waiting").replace("</body>", DEEDS + "</body>"))
-            phone.write_text(PHONE)
-            words = ["chromium", "--headless=new", "--no-sandbox", "--disable-gpu", "--virtual-time-budget=5000", f"--user-data-dir={folder}/own", "--dump-dom", phone.as_uri()]
-            ended = subprocess.run(words, capture_output=True, text=True, timeout=60)
-        told = re.search("<pre>(.*?)</pre>", ended.stdout, re.S)[1].split("\n")
+        told = browsed(page_of("end-of-waiting"), DEEDS)
         circuit = "circuit c1, 1 to 3, slot 1"
         self.assertEqual(told[:4], [f"c1|{circuit}", f"|{circuit}", f"c1|{circuit}", "c1|node 1"])
         self.assertRegex(told[4], r"^c1\|fibre \d → \d$")

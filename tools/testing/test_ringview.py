@@ -82,6 +82,11 @@ class Pages(unittest.TestCase):
             changed.flush()
             return Seen(call("ringview", plan, changed.name).stdout.decode()).text()
 
+    def test_what_is_not_owed_stands_first(self):
+        words = self.words_of_changed("span-cut", "00636465", "00646566")
+        self.assertIn("Not what they are owed (1): c1", words)
+        self.assertIn("c1 not what it is owed 1 → 2, protection", words)
+
     def test_what_is_not_owed_is_seen(self):
         said = "Not what the restoration model says: port "
         self.assertIn(f"{said}c1 a.", self.words_of_changed("span-cut", "00636465", "00646566"))

@@ -12,6 +12,7 @@ from collections import Counter
 
 from cases import CIRCUITS, Asking, document, expected, failures, script_of
 from common import STANDIN, TOOLS, ring
+from pages import BROWSER, browsed
 from rules import Rules
 
 
@@ -175,6 +176,31 @@ class Whatif(Asking):
         self.assertIn(b"line 1: an unknown line", self.ask(program=self.script("greeting", "good morning", 0), wanted=1).stderr)
         self.plan.write_text("rate = 4")
         self.assertIn(b"`nodes` is to be an array", self.ask(wanted=1).stderr)
+
+
+# What is shown of the failures' tables after each thing that a reader sets.
+SETS = """
+const told = [], form = document.querySelector("form.filter");
+const set = (name, key, value) => { form.elements[name][key] = value; form.dispatchEvent(new Event("input", { bubbles: true })); };
+const note = () => { for (const kind of [".failures", ".matrix"])
+  told.push([...document.querySelectorAll(kind + " tr[data-words]")].filter((row) => !row.hidden).map((row) => row.dataset.words).sort().join("|")); };
+note(); set("customer", "value", "far"); note();
+set("words", "value", "5-2"); note(); set("customer", "value", ""); note();
+set("words", "value", ""); set("taking", "checked", true); note();
+"""
+
+
+@unittest.skipUnless(BROWSER, "there is no browser")
+class Filter(Asking):
+    def test_the_filter(self):
+        """Each setting shows the same failures in the tables and in the matrix: those that the rows ask for."""
+        self.ask("--kinds", "span,pair")
+        rows = [row for row in self.table() if row["Stage"] == "failed"]
+        shown = lambda fits: "|".join(sorted(row["Failure"] for row in rows if fits(row)))
+        far, here = lambda row: row["far"] == "lost", lambda row: "5–2" in row["Failure"]
+        wanted = [lambda row: True, far, lambda row: far(row) and here(row), here, lambda row: int(row["Lost"]) > 0]
+        self.assertEqual(browsed((self.top / "out" / "page.html").read_text(), SETS), [shown(fits) for fits in wanted for _ in range(2)])
+        self.assertTrue(shown(wanted[2]) and shown(wanted[2]) != shown(far))
 
 
 if __name__ == "__main__":

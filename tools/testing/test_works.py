@@ -102,10 +102,10 @@ class Works(Asking):
 
     def test_works_on_a_node(self):
         """Its own customers are lost meanwhile, and second failures aren't blamed for them."""
-        self.ask("--works", "node 9", "--kinds", "span,pair")
-        steps = ["forced 2 east", "forced 4 west"]
-        stages = self.check_stages(["settle", *steps, "settle", "clear 4 west", "clear 2 east", "settle", "moment 10", "settle"])
-        self.assertEqual([name for name in NAMES if stages[1][name] == "lost"], [name for name, a, b, _ in CIRCUITS if 9 in (a, b)])
+        self.ask("--works", "node 2", "--kinds", "span,pair")
+        steps = ["forced 5 east", "forced 9 west"]
+        stages = self.check_stages(["settle", *steps, "settle", "clear 9 west", "clear 5 east", "settle", "moment 10", "settle"])
+        self.assertEqual([name for name in NAMES if stages[1][name] == "lost"], ["near", "far"])
         self.check_second(steps, ("span",))
 
     def test_unknown_orders(self):
