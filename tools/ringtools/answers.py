@@ -8,6 +8,7 @@ from .markup import count_of, names
 KIND_WORDS = {"fibre": "fibre", "span": "span", "node": "node", "pair": "pair of spans"}
 KIND_PLURALS = {"fibre": "fibres", "span": "spans", "node": "nodes", "pair": "pairs of spans"}
 SINGLE = ("fibre", "span")
+NOT_ASKED = "Nothing is said of others, such as degradations, or a fibre and a node at once."
 FEW = 6  # circuits for each of which a sentence names its failures
 
 
@@ -17,9 +18,10 @@ def enough(plan):
 
 
 def limit_advice(plan):
+    settles = "with that the proved program always settles"
     if plan.limit >= enough(plan):
-        return f"the limit of {plan.limit} is at least 64n + 512 = {enough(plan)}, with which the proved program always settles: another program answered, or a fault is found"
-    return f"raise `limit` from {plan.limit} to {enough(plan)}, which is 64n + 512 for {plan.size} nodes: with that the proved program always settles"
+        return f"the limit of {plan.limit} is at least 64n + 512 = {enough(plan)}, and {settles}: another program answered, or a fault is found"
+    return f"raise `limit` from {plan.limit} to {enough(plan)}, which is 64n + 512 for {plan.size} nodes: {settles}"
 
 
 class Answers:
@@ -63,7 +65,7 @@ class Answers:
     def words_on_runs(self):
         part = f", part {self.shard} of the whole" if self.shard else ""
         each = names(count_of(len(self.of_kinds((kind,))), KIND_WORDS[kind], KIND_PLURALS[kind]) for kind in self.kinds)
-        yield f"{count_of(len(self.verdicts), 'failure')} of a ring with {count_of(len(self.circuits), 'circuit')} were run{part}: {each}. Nothing is said of others, such as degradations, or a fibre and a node at once."
+        yield f"{count_of(len(self.verdicts), 'failure')} of a ring with {count_of(len(self.circuits), 'circuit')} were run{part}: {each}. {NOT_ASKED}"
         if self.beforehand.steps:
             yield "Before each: " + ", ".join(f"<code>{escape(text)}</code>" for text in self.beforehand.texts()) + "."
         before = self.lost_before()
@@ -118,7 +120,8 @@ class Answers:
         takers = self.takers(("pair",))
         safe = [name for name in takers if not takers[name]]
         taking = [(len(self.taken(verdict)), verdict.case.words) for verdict, _ in failed if self.taken(verdict)]
-        yield f"{len(taking)} of {count_of(len(failed), 'pair')} of spans take at least one circuit." + (f" No pair takes {escape(names(safe))}." if safe else "")
+        spared = f" No pair takes {escape(names(safe))}." if safe else ""
+        yield f"{len(taking)} of {count_of(len(failed), 'pair')} of spans take at least one circuit.{spared}"
         if taking:
             most = max(count for count, _ in taking)
             worst = [words for count, words in taking if count == most]
@@ -133,8 +136,10 @@ class Answers:
         wanted = sum(len(verdict.case.stages) for verdict in self.all)
         if reports:
             yield f"{reports} of the {wanted} reports that were asked for came and agree with the restoration model."
+        elif differ:
+            yield f"None of the {wanted} reports that were asked for agrees with the restoration model."
         else:
-            yield f"None of the {wanted} reports that were asked for agrees with the restoration model." if differ else "No report came, so nothing is said of any failure."
+            yield "No report came, so nothing is said of any failure."
 
     def words(self):
         parts = [self.words_on_ends(), self.words_on_runs(), self.words_on_spans(), self.words_on_nodes(), self.words_on_pairs(), self.words_on_model()]

@@ -72,7 +72,8 @@ class CaseTables:
         kind, words = self.customer_words(name, singles)
         cells = [taken_by(found.get(name), asked) for found, asked in columns.values()]
         cells += [self.longest(name), f"{ids[circuit.start]} to {ids[circuit.end]}, slot {circuit.slot}"]
-        return f'<tr><th scope="row" class="name">{escape(name)}</th><td class="result-{kind}">{words}</td>' + "".join(f"<td>{cell}</td>" for cell in cells) + "</tr>"
+        head = f'<tr><th scope="row" class="name">{escape(name)}</th><td class="result-{kind}">{words}</td>'
+        return head + "".join(f"<td>{cell}</td>" for cell in cells) + "</tr>"
 
     def customers(self):
         columns = self.columns()
@@ -111,7 +112,8 @@ class CaseTables:
         titles = ["failure", "customers that it takes", "over protection", "on their own arc", "mended", "after waiting"]
         rows = "\n".join(map(self.failure_row, verdicts))
         summary = f"{KIND_PLURALS[kind].capitalize()}: {taking} of {len(verdicts)} take a customer"
-        return folded(summary, f'<div class="wide"><table class="failures"><thead>{heads(titles)}</thead><tbody>\n{rows}</tbody></table></div>', open=True)
+        table = f'<table class="failures"><thead>{heads(titles)}</thead><tbody>\n{rows}</tbody></table>'
+        return folded(summary, f'<div class="wide">{table}</div>', open=True)
 
     def filter(self):
         return FILTER.format(options="".join(f"<option>{escape(name)}</option>" for name in self.answers.circuits))
@@ -129,10 +131,12 @@ class CaseTables:
     def matrix_group(self, begin):
         """Some customers by all failures."""
         shown = self.answers.circuits[begin : begin + COLUMNS]
-        titles = '<th scope="col" class="failure">failure</th>' + "".join(f'<th scope="col" class="circuit"><span>{escape(name)}</span></th>' for name in shown)
+        titles = '<th scope="col" class="failure">failure</th>'
+        titles += "".join(f'<th scope="col" class="circuit"><span>{escape(name)}</span></th>' for name in shown)
         rows = "\n".join(self.matrix_row(verdict, shown) for kind in self.answers.kinds for verdict in self.answers.of_kinds((kind,)))
         caption = f"Customers {begin + 1} to {begin + len(shown)} of {len(self.answers.circuits)}, in each failure"
-        return f'<div class="scroll" tabindex="0" role="region" aria-label="{caption}"><table class="matrix"><caption>{caption}</caption><thead><tr>{titles}</tr></thead><tbody>\n{rows}</tbody></table></div>'
+        matrix = f'<table class="matrix"><caption>{caption}</caption><thead><tr>{titles}</tr></thead><tbody>\n{rows}</tbody></table>'
+        return f'<div class="scroll" tabindex="0" role="region" aria-label="{caption}">{matrix}</div>'
 
     def matrix(self):
         return KEY + "\n".join(map(self.matrix_group, range(0, len(self.answers.circuits), COLUMNS)))

@@ -12,6 +12,7 @@ RESULTS = {
     "kept": "Kept on their own arc",
     "untold": "Not told by this text",
 }
+TOTALS = {"odd": "not owed", "lost": "lost", "over": "over protection", "kept": "kept"}
 GROUP = 12  # settle steps side by side: so many fit a printed page
 
 
@@ -24,9 +25,8 @@ def by_result(look):
 
 def outcome(look):
     """Who is lost and who is kept, by name, the worst first."""
-    items = [
-        f'<li class="result-{result}">{words} ({len(members)}): {escape(names(members))}</li>' for result, words in RESULTS.items() if (members := by_result(look)[result])
-    ]
+    found = {result: members for result, members in by_result(look).items() if members}
+    items = [f'<li class="result-{result}">{RESULTS[result]} ({len(members)}): {escape(names(members))}</li>' for result, members in found.items()]
     return f'<ul class="outcome">{"".join(items)}</ul>' if items else '<p class="note">The plan has no circuits.</p>'
 
 
@@ -56,7 +56,7 @@ def total_row(shown):
     cells = ""
     for look in shown:
         found = by_result(look)
-        counts = [f"{len(found[result])} {word}" for result, word in (("odd", "not owed"), ("lost", "lost"), ("over", "over protection"), ("kept", "kept")) if found[result]]
+        counts = [f"{len(found[result])} {word}" for result, word in TOTALS.items() if found[result]]
         cells += f"<td>{', '.join(counts) or 'not told'}</td>"
     return f'<tr class="total"><th scope="row" class="name">all {len(shown[0].plan.circuits)}</th>{cells}</tr>'
 
@@ -71,8 +71,8 @@ def steps_table(looks):
         for circuit in shown[0].plan.circuits:
             cells = "".join(step_cell(look, circuit) for look in shown)
             rows.append(f'<tr data-circuit="{escape(circuit.name)}"><th scope="row" class="name">{escape(circuit.name)}</th>{cells}</tr>')
-        caption = f"Customers after settle steps {shown[0].scene.number} to {shown[-1].scene.number}; what changed since the step before is set off"
-        parts.append(f'<div class="wide"><table class="steps"><caption>{caption}</caption><thead>{heads(titles)}</thead><tbody>{"".join(rows)}</tbody></table></div>')
+        caption = f"<caption>Customers after settle steps {shown[0].scene.number} to {shown[-1].scene.number}; what changed since the step before is set off</caption>"
+        parts.append(f'<div class="wide"><table class="steps">{caption}<thead>{heads(titles)}</thead><tbody>{"".join(rows)}</tbody></table></div>')
     return "\n".join(parts)
 
 

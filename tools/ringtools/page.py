@@ -12,6 +12,9 @@ from .reasons import refusal, where
 from .report import STATES
 
 
+HINT = "Click or tap a circuit, node or fibre; or go there with Tab and the arrow keys, and light a circuit up with Enter."
+
+
 def word_cell(look, at, side):
     """A K word, set off where it isn't that of the step before."""
     word = getattr(look.settled.nodes[at], side)
@@ -57,6 +60,10 @@ def told_otherwise(look):
     return f'<p>The port that was asked for delivers this chunk, nine lines of 261 bytes:</p><pre class="wide"><code>{lines}</code></pre>'
 
 
+def in_columns(items):
+    return f'<div class="changes">{listing(items)}</div>'
+
+
 def changes(look):
     """What changed since the step before: customers in full, the rest folded."""
     if look.before is None:
@@ -67,14 +74,14 @@ def changes(look):
         return "<h3>Changed since the step before</h3><p>Nothing.</p>"
     counts = ", ".join(count_of(len(found), kind) for kind, found in ring.items())
     rest = [escape(change) for found in ring.values() for change in found]
-    shown = f'<div class="changes">{listing(customers)}</div>' if customers else "<p>No customer's way.</p>"
-    return "<h3>Changed since the step before</h3>" + shown + (folded(f"In the ring: {counts}", f'<div class="changes">{listing(rest)}</div>') if rest else "")
+    shown = in_columns(customers) if customers else "<p>No customer's way.</p>"
+    return "<h3>Changed since the step before</h3>" + shown + (folded(f"In the ring: {counts}", in_columns(rest)) if rest else "")
 
 
 def figure(look):
     drawn = drawing.Drawing(look, page=True)
     kind = "step large" if drawn.m.wide > 700 else "step"
-    told = '<figcaption class="told" aria-live="polite" hidden>Click or tap a circuit, node or fibre; or go there with Tab and the arrow keys, and light a circuit up with Enter.</figcaption>'
+    told = f'<figcaption class="told" aria-live="polite" hidden>{HINT}</figcaption>'
     return kind, f'<figure class="figure"><div class="frame">{drawing.written(drawn.draw())}</div>{told}</figure>'
 
 

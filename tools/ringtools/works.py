@@ -11,6 +11,7 @@ HITLESS = (
     "A report tells what holds once the ring is quiet. While a switch is made or cleared, a customer whose way changes loses bytes or gets some of them twice: "
     "no switch is hitless."
 )
+GIVES_WAY = "then carries traffic again, while people work there. A forced switch doesn't give way to a failure."
 SECOND = (*SINGLE, "node")
 
 
@@ -53,7 +54,8 @@ class Works:
     def changed(self):
         """Customers that aren't as before in each stage that came."""
         before = self.verdict.stage("before")
-        return [circuit for circuit in self.plan.circuits if before and any(stage.cells[circuit.name] != before.cells[circuit.name] for stage in self.verdict.stages)]
+        differs = lambda name: any(stage.cells[name] != before.cells[name] for stage in self.verdict.stages)
+        return [circuit for circuit in self.plan.circuits if before and differs(circuit.name)]
 
     def row(self, circuit):
         cells, ids = "".join(self.cell(circuit, name) for name in WORKS_STAGES), self.plan.ids
@@ -65,7 +67,8 @@ class Works:
         same = [circuit.name for circuit in self.plan.circuits if circuit not in changed]
         rows = "\n".join(map(self.row, changed))
         titles = ["customer", "before", "during", "after", "after waiting", "from, to"]
-        shown = f'<div class="wide"><table class="order"><caption>Customers that the works touch</caption><thead>{heads(titles)}</thead><tbody>\n{rows}</tbody></table></div>'
+        caption = "<caption>Customers that the works touch</caption>"
+        shown = f'<div class="wide"><table class="order">{caption}<thead>{heads(titles)}</thead><tbody>\n{rows}</tbody></table></div>'
         rest = f"<p>Not touched by the works ({len(same)}): {escape(names(same))}.</p>" if same else ""
         return (shown if changed else "") + rest
 
@@ -90,7 +93,7 @@ class Works:
             yield f"Taken by none of them: {escape(names(safe))}."
         freed = names(self.plan.span_name(span) for span in sorted(self.freed()))
         if freed and self.unfreed():
-            yield f"<strong>The switch gives way</strong> under {len(self.unfreed())} of them: span {freed} then carries traffic again, while people work there. A forced switch doesn't give way to a failure."
+            yield f"<strong>The switch gives way</strong> under {len(self.unfreed())} of them: span {freed} {GIVES_WAY}"
         elif freed:
             yield f"Span {freed} stays free of traffic under each of them."
 
@@ -102,8 +105,10 @@ class Works:
         return found
 
     def hurting_table(self):
-        rows = "\n".join(f'<tr><th scope="row" class="name">{links(verdicts)}</th><td>{takes(taken)}</td></tr>' for taken, verdicts in self.by_effect().items())
-        return f'<div class="wide"><table class="second"><thead>{heads(["second failure", "customers that it takes"])}</thead><tbody>\n{rows}</tbody></table></div>' if rows else ""
+        row = lambda taken, verdicts: f'<tr><th scope="row" class="name">{links(verdicts)}</th><td>{takes(taken)}</td></tr>'
+        rows = "\n".join(row(*effect) for effect in self.by_effect().items())
+        head = f"<thead>{heads(['second failure', 'customers that it takes'])}</thead>"
+        return f'<div class="wide"><table class="second">{head}<tbody>\n{rows}</tbody></table></div>' if rows else ""
 
     def section(self):
         steps = ", ".join(f"<code>{escape(text)}</code>" for text in self.answers.beforehand.works_texts())

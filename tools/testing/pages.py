@@ -11,7 +11,10 @@ from common import Page
 
 BROWSER = shutil.which("chromium")
 # A page of a phone's width in another, which shows what the inner one says.
-PHONE = """<body><script>addEventListener("message", (event) => { document.body.innerHTML = "<pre></pre>"; document.querySelector("pre").textContent = event.data; });</script>
+PHONE = """<body><script>addEventListener("message", (event) => {
+  document.body.innerHTML = "<pre></pre>";
+  document.querySelector("pre").textContent = event.data;
+});</script>
 <iframe src="page.html" width="390" height="844"></iframe></body>"""
 
 
