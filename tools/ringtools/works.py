@@ -11,7 +11,7 @@ HITLESS = (
     "A report tells what holds once the ring is quiet. While a switch is made or cleared, a customer whose way changes loses bytes or gets some of them twice: "
     "no switch is hitless."
 )
-GIVES_WAY = "then carries traffic again, while people work there. A forced switch doesn't give way to a failure."
+GIVES_WAY = "while people work there. A forced switch doesn't give way to a failure."
 SECOND = (*SINGLE, "node")
 
 
@@ -91,11 +91,11 @@ class Works:
             yield f"At risk during the works: {escape(names(risked))}."
         if safe:
             yield f"Taken by none of them: {escape(names(safe))}."
-        freed = names(self.plan.span_name(span) for span in sorted(self.freed()))
+        freed = [self.plan.span_name(span) for span in sorted(self.freed())]
         if freed and self.unfreed():
-            yield f"<strong>The switch gives way</strong> under {len(self.unfreed())} of them: span {freed} {GIVES_WAY}"
+            yield f"<strong>The switch gives way</strong> under {len(self.unfreed())} of them: traffic comes back to {names(freed)}, {GIVES_WAY}"
         elif freed:
-            yield f"Span {freed} stays free of traffic under each of them."
+            yield f"Free of traffic under each of them: {count_of(len(freed), 'span')}, {names(freed)}."
 
     def by_effect(self):
         """Second failures that take the same customers, together."""

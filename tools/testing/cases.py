@@ -101,3 +101,10 @@ class Asking(unittest.TestCase):
         script.write_text(f"#!/bin/sh\necho '{line}'\nexit {status}\n")
         script.chmod(0o755)
         return str(script)
+
+    def copy(self, name):
+        """The stand-in as another program, of one file."""
+        program = self.top / name
+        program.write_text(f'#!/bin/sh\n# {name}\nexec {STANDIN} "$@"\n')
+        program.chmod(0o755)
+        return str(program)

@@ -119,10 +119,6 @@ class Answers(Asking):
         super().setUp()
         self.plan.write_bytes(bytes_of("two-nodes")[0])
 
-    def copy(self, name):
-        """The stand-in as another program, of one file."""
-        return executable(self.top / name, f"#!/bin/sh\n# {name}\nexec {STANDIN} \"$@\"\n")
-
     def test_each_answer_and_row_tells_its_program(self):
         program = self.copy("first")
         self.ask("--kinds", "span", program=program)

@@ -124,7 +124,7 @@ class Whatif(Asking):
         self.assertEqual((ended.stdout, (self.top / "out" / "page.html").exists()), (b"", False))
         self.plan.write_text(document().replace("limit = 1000", "limit = 600"))
         ended = self.ask("--kinds", "fibre", program=f"{STANDIN} unsettled", wanted=3)
-        self.assertIn(b"warning: raise `limit` from 600 to 768", ended.stderr)
+        self.assertIn(b"warning: cases may not settle: raise `limit` from 600 to 768", ended.stderr)
         self.assertIn("raise `limit` from 600 to 768", self.words())
 
     def test_other_bytes_are_odd(self):
@@ -153,16 +153,29 @@ class Whatif(Asking):
 
     @unittest.skipUnless(shutil.which("parallel"), "GNU parallel isn't installed")
     def test_with_parallel(self):
-        """The same rows but for the dates; and the kept answers tell the same."""
+        """The same rows but for the dates; and the kept answers tell the same, of a command as of a program of one file."""
         self.small()
         rows = lambda: [{key: cell for key, cell in row.items() if key != "Answered"} for row in self.table()]
-        self.ask("--kinds", "span")
-        table = rows()
-        self.ask("--kinds", "span", "--anew", "--sshlogin", "4/:")
-        self.assertEqual(rows(), table)
-        kept = self.times()
-        self.ask("--kinds", "span")
-        self.assertEqual(self.times(), kept)
+        for program in (STANDIN, self.copy("copied")):
+            self.ask("--kinds", "span", program=program)
+            table = rows()
+            self.ask("--kinds", "span", "--anew", "--sshlogin", "4/:", program=program)
+            self.assertEqual(rows(), table)
+            kept = self.times()
+            self.ask("--kinds", "span", program=program)
+            self.assertEqual(self.times(), kept)
+
+    def test_many_circuits_are_in_groups(self):
+        """Of more than a printed page is wide, each is in one table, in one row of customers, and in the filter."""
+        circuits = [(f"c{slot}-{start}", start, (start + 2) % 16, slot) for slot in range(1, 8) for start in range(0, 16, 2)]
+        head = f"rate = 16\nnodes = {list(range(16))}\nthreshold = 3\nwait = 10\nlimit = 2000\nscript = ['settle']\n"
+        self.plan.write_text(document(circuits, head))
+        self.ask("--kinds", "span", "--shard", "1/16")
+        page, names = self.page("page-1-of-16.html"), [name for name, *_ in circuits]
+        titles = [rows[0][1:] for name, rows in page.tables if name.startswith("Customers ")]
+        self.assertEqual([name for group in titles for name in group], names)
+        self.assertEqual([len(group) for group in titles], [40, 16])
+        self.assertEqual([row["customer"] for row in page.table_with("customer", "in short")], names)
 
     def test_refusals(self):
         self.assertIn(b"isn't known", self.ask("--also", "lock 2 east", wanted=1).stderr)

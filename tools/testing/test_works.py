@@ -90,7 +90,7 @@ class Works(Asking):
         stages = self.check_stages(["settle", "forced 2 east", "settle", "clear 2 east", "settle", "moment 10", "settle"])
         self.assertEqual(stages[0], stages[2])
         self.check_second(["forced 2 east"])
-        self.assertIn("Span 2–9 stays free of traffic under each of them.", self.words())
+        self.assertIn("Free of traffic under each of them: 1 span, 2–9.", self.words())
         self.assertEqual(self.words().count("each customer as before."), 2)
         self.assertIn("no switch is hitless", self.words())
 
@@ -98,7 +98,7 @@ class Works(Asking):
         self.ask("--works", "manual 2 east")
         self.check_second(["manual 2 east"])
         gives_way = [name for name, cut in failures().items() if not name.startswith("pair") and 1 not in rules_of(script_of(cut, ["manual 2 east"])).applied(256)]
-        self.assertIn(f"The switch gives way under {len(gives_way)} of them: span 2–9 then carries traffic again", self.words())
+        self.assertIn(f"The switch gives way under {len(gives_way)} of them: traffic comes back to 2–9, while people work there.", self.words())
 
     def test_works_on_a_node(self):
         """Its own customers are lost meanwhile, and second failures aren't blamed for them."""
