@@ -94,6 +94,19 @@ class Launched(unittest.TestCase):
         self.assertIn(sum_of(plan.read_bytes()), text)
 
 
+    def test_whatif_warns(self):
+        launcher, _ = self.launcher("not proved yet", "ring.unproved")
+        words = [ring("two-nodes")[0], "--dir", self.top / "out", "--kinds", "span", "--program", launcher]
+        ended = call("whatif", *words)
+        self.assertEqual(ended.returncode, 0, ended.stderr.decode())
+        self.assertIn(b"ring.unproved is not proved; ./sdhring --prove proves it", ended.stderr)
+        self.assertIn("The program that answered is not proved.", Seen((self.top / "out" / "page.html").read_text()).text())
+        self.assertIn("ring.unproved,not proved,", (self.top / "out" / "table.csv").read_text())
+        self.launcher("proved", "ring")
+        self.assertNotIn(b"proved", call("whatif", *words).stderr.replace(b"out/", b""))
+        self.assertIn("Proved yes", Seen((self.top / "out" / "page.html").read_text()).text())
+
+
 class Texts(unittest.TestCase):
     """ringview over a text that was written before."""
 

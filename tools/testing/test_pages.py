@@ -25,6 +25,7 @@ figure.querySelector('.circuit[data-circuit="c1"] path').dispatchEvent(new Mouse
 figure.querySelector('[tabindex="0"]').focus(); key("Enter"); note();
 key("ArrowRight"); note(); key("End"); note(); key("Escape"); note();
 document.querySelector('tr[data-circuit="c1"] button').click(); note();
+document.querySelector('#step2 tr[data-circuit="c1"] button').click(); note();
 document.querySelector("button.unfold").click();
 told.push([...document.querySelectorAll("details")].every((part) => part.open));
 told.push(document.documentElement.scrollWidth <= document.documentElement.clientWidth);
@@ -147,6 +148,15 @@ class Looks(unittest.TestCase):
         self.assertLessEqual(max(map(len, titles)), 13)
 
 
+class Manuals(unittest.TestCase):
+    def test_each_option_is_told(self):
+        for tool in ("ringview", "whatif"):
+            manual = (TOOLS.parent / "docs" / f"{tool}.1").read_text().replace("\\-", "-")
+            options = set(re.findall(r"--[a-z]+", call(tool, "--help").stdout.decode())) - {"--help"}
+            self.assertEqual(set(re.findall(r"^\.TP\n\.(?:BI|B) (--[a-z]+)", manual, re.M)), options)
+            self.assertEqual(set(re.findall(r"\[ (--[a-z]+)", manual)), options)
+
+
 @unittest.skipUnless(BROWSER, "there is no browser")
 class Browser(unittest.TestCase):
     """Clicks and keys, at a phone's width."""
@@ -156,7 +166,7 @@ class Browser(unittest.TestCase):
         circuit = "circuit c1, 1 to 3, slot 1"
         self.assertEqual(told[:4], [f"c1|{circuit}", f"|{circuit}", f"c1|{circuit}", "c1|node 1"])
         self.assertRegex(told[4], r"^c1\|fibre \d → \d$")
-        self.assertEqual((told[5].split("|")[0], told[6].split("|")[0], told[7:]), ("", "c1", ["true", "true"]))
+        self.assertEqual((told[5].split("|")[0], told[6].split("|")[0], told[7:]), ("", "c1", [f"|{circuit}", "true", "true"]))
 
 
 if __name__ == "__main__":

@@ -35,7 +35,10 @@ class Whatif(Asking):
         return Rules(tomllib.loads(document()) | {"script": script_of(cut, also)}, [128, 256, 384, 512])
 
     def test_a_ring_of_four(self):
-        self.ask()
+        said = self.ask().stderr.decode()
+        self.assertRegex(said, r"22 cases to run, \d+ at a time: about \d+ s; Ctrl-C stops")
+        self.assertLess(said.index("22 cases to run"), said.index("0 of 22 cases, 0 s gone, about "))
+        self.assertIn("22 of 22 cases, ", said)
         rows = self.table()
         self.check_rows(rows)
         words = self.words()

@@ -66,7 +66,12 @@
     button.setAttribute("aria-pressed", "false");
     button.title = "light up its route";
     button.append(...cell.childNodes);
-    button.addEventListener("click", () => light(cell.closest("[data-circuit]").dataset.circuit));
+    button.addEventListener("click", () => {
+      const name = cell.closest("[data-circuit]").dataset.circuit;
+      const figure = cell.closest("section")?.querySelector("figure.figure");
+      if (figure) tell(figure, figure.querySelector(`.circuit[data-circuit="${name}"]`));
+      light(name);
+    });
     cell.append(button);
   };
 
