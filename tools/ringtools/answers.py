@@ -78,7 +78,7 @@ class Answers:
         if unsettled:
             yield f"<strong>{len(unsettled)} of {count_of(len(self.all), 'case')} didn't settle within the limit</strong>: {escape(limit_advice(self.plan))}."
         if other:
-            each = names(f"{verdict.case.words} ({verdict.status_words()})" for verdict in other)
+            each = names((f"{verdict.case.words} ({verdict.status_words()})" for verdict in other), 40)
             yield f"<strong>{count_of(len(other), 'case')} didn't end Ok</strong>: {escape(each)}."
 
     def words_on_spans(self):

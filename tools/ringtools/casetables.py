@@ -15,9 +15,9 @@ FILTER = """<form class="filter tools" hidden><label>Failure <input type="search
 <label><input type="checkbox" name="taking"> only what takes a customer</label> <output aria-live="polite"></output></form>"""
 
 
-def link(verdict, words=None):
+def link(verdict):
     """The failure's name, leading to its drawing where there is one."""
-    shown = unbroken(words or verdict.case.words)
+    shown = unbroken(verdict.case.words)
     return f'<a href="cases/{escape(verdict.case.name)}.html">{shown}</a>' if verdict.stages else shown
 
 

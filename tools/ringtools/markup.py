@@ -62,7 +62,8 @@ def folded(summary, inside, open=False):
     return f"<details{' open' if open else ''}><summary>{summary}</summary>\n{inside}</details>"
 
 
-def names(items, most=40):
+def names(items, most=128):
+    """These one after the other; of very many only the first. No ring has more than 128 circuits."""
     items = list(items)
     shown = ", ".join(items[:most])
     return shown + (f" and {len(items) - most} more" if len(items) > most else "")

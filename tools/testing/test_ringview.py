@@ -6,7 +6,7 @@ import unittest
 import xml.etree.ElementTree as ElementTree
 from functools import cache
 
-from common import RINGS, STANDIN, call, ring
+from common import RINGS, call, ring
 from pages import Seen
 
 DONE = [
