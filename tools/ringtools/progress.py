@@ -14,18 +14,21 @@ def duration(seconds):
 
 
 class Progress:
-    """Tells how many cases are done, from the first one on. `expected` is how many seconds all that are left may take, or None."""
+    """Tells how many cases are done, so many at a time, from the first one on. `expected` is how many seconds all that are left may take, or None."""
 
-    def __init__(self, total, done, expected=None, what="cases"):
-        self.total, self.done, self.at_begin, self.what = total, done, done, what
+    what = "cases"
+
+    def __init__(self, total, done, expected=None, jobs=1):
+        self.total, self.done, self.at_begin = total, done, done
         self.begun = self.told = time.monotonic()
-        self.expected = expected
+        self.expected, self.jobs = expected, jobs
 
     def left(self, gone):
         """The seconds that may be left: by the cases that ran, or by what was expected before the first of them ended."""
-        ran = self.done - self.at_begin
+        ran, asked = self.done - self.at_begin, self.total - self.at_begin
         if ran:
-            return gone / ran * (self.total - self.done)
+            of_one = gone * self.jobs / max(ran, self.jobs)
+            return of_one * max(1, asked / self.jobs) - gone
         return None if self.expected is None else self.expected - gone
 
     def line(self, gone):

@@ -85,7 +85,9 @@ class Works:
         if not asked:
             yield "No second failure settled, or none was asked about."
             return
-        yield f"<strong>{len(hurting)} of {count_of(len(asked), 'second failure')}</strong> of a fibre, a span or a node during the works take a customer."
+        kinds = [f"a {kind}" for kind in SECOND if kind in self.answers.kinds]
+        of_what = " or ".join(filter(None, [", ".join(kinds[:-1]), kinds[-1]]))
+        yield f"<strong>{len(hurting)} of {count_of(len(asked), 'second failure')}</strong> of {of_what} during the works take a customer."
         safe, risked = [name for name in taken if not taken[name]], [name for name in taken if taken[name]]
         if risked:
             yield f"At risk during the works: {escape(names(risked))}."

@@ -198,6 +198,10 @@ class Times(unittest.TestCase):
         self.assertEqual(progress.line(8000), "2 of 10 cases, 2 h 13 min gone, longer than was expected")
         progress.done = 4
         self.assertEqual(progress.line(60), "4 of 10 cases, 1 min gone, about 3 min left")
+        progress.jobs = 4
+        self.assertEqual(progress.line(60), "4 of 10 cases, 1 min gone, about 1 min left")
+        progress.done = 9
+        self.assertEqual(progress.line(70), "9 of 10 cases, 1 min gone, about 10 s left")
         progress.done = 10
         self.assertEqual(progress.line(60), "10 of 10 cases, 1 min gone")
         self.assertEqual(Progress(10, 0).line(5), "0 of 10 cases, 5 s gone")

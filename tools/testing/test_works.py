@@ -72,10 +72,10 @@ class Works(Asking):
                 found[name] = [c for c in NAMES if failed[c] == "lost" and before[c] != "lost"]
         return found
 
-    def check_second(self, works, kinds=("fibre", "span", "node")):
+    def check_second(self, works, kinds=("fibre", "span", "node"), of_what="a fibre, a span or a node"):
         second, words = self.second(works, kinds), self.words()
         hurting = {name: taken for name, taken in second.items() if taken}
-        self.assertIn(f"{len(hurting)} of {len(second)} second failures of a fibre, a span or a node during the works take a customer.", words)
+        self.assertIn(f"{len(hurting)} of {len(second)} second failures of {of_what} during the works take a customer.", words)
         links = [found["href"] for found in self.page().all("a")]
         self.assertTrue(all(f"cases/{name}.html" in links for name in hurting))
         by_effect = Counter(", ".join(taken) for taken in hurting.values())
@@ -106,7 +106,7 @@ class Works(Asking):
         steps = ["forced 5 east", "forced 9 west"]
         stages = self.check_stages(["settle", *steps, "settle", "clear 9 west", "clear 5 east", "settle", "moment 10", "settle"])
         self.assertEqual([name for name in NAMES if stages[1][name] == "lost"], ["near", "far"])
-        self.check_second(steps, ("span",))
+        self.check_second(steps, ("span",), "a span")
 
     def test_unknown_orders(self):
         self.assertIn(b"no span leads from node 5 to node 9", self.ask("--works", "span 5-9", wanted=1).stderr)
