@@ -12,6 +12,10 @@ COMPARED = (
     "Of the 2349 bytes that a port delivers in a round a report shows the first 16, and the pointer value: "
     "these are compared with what the port is owed, the other 2333 are not."
 )
+HITLESS = (
+    "A report tells what holds once the ring is quiet. While a switch is made or cleared, a customer whose way changes loses bytes or gets some of them twice: "
+    "no switch is hitless."
+)
 
 
 @cache

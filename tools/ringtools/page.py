@@ -6,7 +6,7 @@ from . import drawing
 from .customers import circuit_table, outcome, port_table, steps_table
 from .legend import legend
 from .look import condition_words
-from .markup import COMPARED, count_of, folded, listing, origin_list, table, warning, whole
+from .markup import COMPARED, HITLESS, count_of, folded, listing, origin_list, table, warning, whole
 from .model import REQUEST_NAMES
 from .reasons import refusal, where
 from .report import STATES
@@ -163,7 +163,7 @@ def run_page(title, plan, report, looks, origin):
     if report.kind == "check":
         parts.append(squelch_section(plan, report.table))
     if len(looks) > 1 and plan.circuits and report.kind == "run":
-        parts.append(steps_table(looks))
+        parts += [steps_table(looks), f'<p class="note">{HITLESS}</p>']
     elif len(looks) > 1:
         parts.append('<p class="jumps">' + " · ".join(f'<a href="#step{look.scene.number}">{look.title()}</a>' for look in looks) + "</p>")
     parts += [folded("What the marks mean", legend())] if looks else []

@@ -5,12 +5,8 @@ from html import escape
 from .answers import SINGLE
 from .casetables import links, takes
 from .failures import WORKS_STAGES
-from .markup import count_of, heads, listing, names
+from .markup import HITLESS, count_of, heads, listing, names
 
-HITLESS = (
-    "A report tells what holds once the ring is quiet. While a switch is made or cleared, a customer whose way changes loses bytes or gets some of them twice: "
-    "no switch is hitless."
-)
 GIVES_WAY = "while people work there. A forced switch doesn't give way to a failure."
 SECOND = (*SINGLE, "node")
 
