@@ -3,42 +3,8 @@
 import math
 import xml.etree.ElementTree as ElementTree
 
+from .markup import in_light, web
 from .model import CLEAR, CUT
-
-STYLE = """
-.drawing { font-family: "DejaVu Sans", Verdana, Arial, sans-serif; background: #fff; }
-.drawing path, .drawing line { fill: none; stroke-linecap: butt; }
-.drawing .fibre { stroke: #555; stroke-width: 1.6; }
-.drawing .fibre-cut { stroke: #999; stroke-width: 1.4; stroke-dasharray: 3 4; }
-.drawing .fibre-degraded { stroke: #7a4a00; stroke-width: 1.8; stroke-linejoin: round; }
-.drawing .arrow { fill: #555; }
-.drawing .cross { stroke: #000; stroke-width: 3; }
-.drawing .applied-edge { stroke: #33415c; stroke-width: 32; }
-.drawing .applied { stroke: #d3dceb; stroke-width: 29; }
-.drawing .changed { stroke: #ffe27a; stroke-width: 8; }
-.drawing .changed-node { fill: #ffe27a; stroke: none; }
-.drawing .own { stroke: #0072b2; stroke-width: 2.2; }
-.drawing .over { stroke: #c04f00; stroke-width: 2.2; }
-.drawing .protection { stroke-dasharray: 7 3; }
-.drawing .unused { stroke: #999; stroke-width: 1.2; stroke-dasharray: 1 4; }
-.drawing .lost { stroke: #000; stroke-width: 1.6; stroke-dasharray: 2 4; }
-.drawing .node { fill: #fff; stroke: #222; stroke-width: 1.6; }
-.drawing .node-pass { stroke-width: 1; stroke-dasharray: 3 2; }
-.drawing .node-isolated { fill: #222; }
-.drawing .half { fill: #8a9bb8; stroke: none; }
-.drawing .identifier { font-size: 14px; font-weight: bold; fill: #000; }
-.drawing .identifier-isolated { fill: #fff; }
-.drawing .state { font-size: 11px; fill: #000; }
-.drawing .changed-text { font-weight: bold; text-decoration: underline; }
-.drawing .note { font-size: 9.5px; fill: #000; }
-.drawing .label { fill: #000; stroke: #fff; stroke-width: 3; paint-order: stroke; }
-.drawing .port { stroke: none; }
-.drawing .port.own { fill: #0072b2; }
-.drawing .port.over { fill: #c04f00; }
-.drawing .port-ais { fill: #fff; stroke: #000; stroke-width: 1.4; }
-.drawing .port-wrong { fill: #cc3377; stroke: #000; stroke-width: 1.4; }
-.drawing .circuit:hover path, .drawing .circuit:hover .port { stroke-width: 4.5; }
-"""
 
 TURN = 2 * math.pi
 NODE = 16  # radius of a node
@@ -121,7 +87,7 @@ def zigzag(radius, start, end):
 
 def cross(parent, radius, angle, size):
     x, y = point(radius, angle)
-    add(parent, "circle", cx=x, cy=y, r=size + 1.5, fill="#fff")
+    add(parent, "circle", class_="cross-ground", cx=x, cy=y, r=size + 1.5)
     for dx, dy in ((size, size), (size, -size)):
         add(parent, "line", class_="cross", x1=x - dx, y1=y - dy, x2=x + dx, y2=y + dy)
 
@@ -147,7 +113,7 @@ class Drawing:
             self.root.set("xmlns", "http://www.w3.org/2000/svg")
             self.root.set("width", f"{self.m.wide:.0f}")
             self.root.set("height", f"{self.m.high:.0f}")
-            add(self.root, "style", STYLE)
+            add(self.root, "style", in_light(web("drawing.css")))
         else:
             self.root.set("style", f"max-width: {self.m.wide:.0f}px; min-width: {0.6 * self.m.wide:.0f}px")
 
@@ -159,7 +125,7 @@ class Drawing:
             self.draw_fibre(span, span, "east", self.m.ring + 5)
             self.draw_fibre(span, (span + 1) % self.plan.size, "west", self.m.ring - 5)
             self.draw_degrees(span)
-        self.under = add(self.root, "g")
+        self.under = add(self.root, "g", class_="under")
         for number, circuit in enumerate(self.plan.circuits):
             self.draw_circuit(number, circuit)
         for at in range(self.plan.size):
@@ -172,7 +138,7 @@ class Drawing:
         return self.m.angle(span) + clear, self.m.angle(span) + self.m.step - clear
 
     def draw_applied(self, span):
-        group = add(self.root, "g")
+        group = add(self.root, "g", class_="mark")
         add(group, "title", f"span {self.plan.span_name(span)}: applied")
         start, end = self.between(span)
         add(group, "path", class_="applied-edge", d=arc_path(self.m.ring, start, end))
@@ -182,7 +148,7 @@ class Drawing:
         fibre = at, side
         condition = self.scene.conditions[fibre]
         start, end = self.between(span)
-        group = add(self.root, "g")
+        group = add(self.root, "g", class_="fibre-item item")
         add(group, "title", self.look.fibre_words(fibre))
         if fibre in self.look.changed_fibres:
             add(group, "path", class_="changed", d=arc_path(radius, start, end))
@@ -197,7 +163,7 @@ class Drawing:
     def draw_arrow(self, group, radius, angle, side):
         back = -7 / radius if side == "east" else 7 / radius
         points = [point(radius, angle), point(radius + 3.5, angle + back), point(radius - 3.5, angle + back)]
-        add(group, "path", class_="arrow", style="fill:#555", d="M" + " L".join("{:.1f} {:.1f}".format(*p) for p in points) + "Z")
+        add(group, "path", class_="arrow", d="M" + " L".join("{:.1f} {:.1f}".format(*p) for p in points) + "Z")
 
     def draw_degrees(self, span):
         """How far the span's fibres are degraded, outside the ring at its middle."""
@@ -213,7 +179,7 @@ class Drawing:
         angle = self.m.angle(at)
         x, y = point(self.m.ring, angle)
         state = self.look.state(at)
-        group = add(self.root, "g")
+        group = add(self.root, "g", class_="node-item item")
         add(group, "title", self.look.node_words(at))
         if at in self.look.changed_nodes:
             add(group, "circle", class_="changed-node", cx=x, cy=y, r=NODE + 6)
@@ -230,7 +196,7 @@ class Drawing:
         way = 1 if side == "east" else -1
         inner = NODE - 1.5
         (x1, y1), (x2, y2) = point(inner, angle), point(inner, angle + math.pi)
-        add(group, "path", class_="half", style="fill:#8a9bb8", d=f"M{x + x1:.1f} {y + y1:.1f} A{inner} {inner} 0 0 {int(way > 0)} {x + x2:.1f} {y + y2:.1f}Z")
+        add(group, "path", class_="half", d=f"M{x + x1:.1f} {y + y1:.1f} A{inner} {inner} 0 0 {int(way > 0)} {x + x2:.1f} {y + y2:.1f}Z")
 
     def draw_node_text(self, group, at, angle):
         lines = [(self.look.state(at), at in self.look.changed_nodes)] if self.look.state(at) else []
@@ -247,7 +213,7 @@ class Drawing:
 
     def draw_circuit(self, number, circuit):
         way = self.look.ways[circuit.name]
-        group = add(self.root, "g", class_="circuit")
+        group = add(self.root, "g", class_="circuit item", data_circuit=circuit.name)
         add(group, "title", self.look.circuit_words(circuit))
         changed = circuit.name in self.look.changed_circuits
         if way.hops is None:
@@ -306,7 +272,7 @@ class Drawing:
         x, y = point(radius, angle)
         size = 4 if self.m.gap > 12 else 3.2
         verdict = self.look.port(circuit.name, end)
-        mark = add(group, "g")
+        mark = add(group, "g", class_="mark")
         add(mark, "title", self.look.port_words(circuit, end))
         if verdict == "own":
             kind = "port over" if self.look.ways[circuit.name].over else "port own"
@@ -314,10 +280,10 @@ class Drawing:
         elif verdict == "ais":
             add(mark, "rect", class_="port-ais", x=x - size, y=y - size, width=2 * size, height=2 * size)
             for dy in (size, -size):
-                add(mark, "line", x1=x - size, y1=y - dy, x2=x + size, y2=y + dy, stroke="#000", stroke_width="1.2")
+                add(mark, "line", x1=x - size, y1=y - dy, x2=x + size, y2=y + dy, class_="port-cross")
         elif verdict == "wrong":
             d = f"M{x:.1f} {y - 7:.1f} L{x + 7:.1f} {y + 5:.1f} L{x - 7:.1f} {y + 5:.1f}Z"
-            add(mark, "path", class_="port-wrong", style="fill:#cc3377", d=d)
+            add(mark, "path", class_="port-wrong", d=d)
 
     def name_place(self, circuit):
         """The stretch of the working lane that has most room for the name."""

@@ -1,5 +1,6 @@
-"""Every failure that whatif asks about, each with the script that makes it and mends it again."""
+"""The failures that whatif asks about, each with the script that makes it and mends it again; and the works of an order."""
 
+import re
 from dataclasses import dataclass, replace
 from itertools import combinations
 
@@ -7,17 +8,25 @@ from .model import CUT, CLEAR, Script
 from .plan import PlanProblem, read_step, write_plan
 
 STAGES = ("before", "failed", "mended", "waited")
+WORKS_STAGES = ("before", "during", "after", "waited")
+KINDS = ("fibre", "span", "node", "pair")
+PAIR_NAME = re.compile("span ([0-9]+)[-–]([0-9]+)")
+NODE_NAME = re.compile("node ([0-9]+)")
 LAST_MOMENT = 1_000_000_000
 
 
 @dataclass(frozen=True)
 class Case:
-    """One failure: the fibres that are cut, each by the position and side that it leaves."""
+    """One failure: the fibres that are cut, each by the position and side that it leaves. Or the works, which cut nothing."""
 
     name: str  # also of its files
-    kind: str  # fibre, span, pair or node
+    kind: str  # fibre, span, node, pair or works
     words: str
-    fibres: tuple
+    fibres: tuple = ()
+
+    @property
+    def stages(self):
+        return WORKS_STAGES if self.kind == "works" else STAGES
 
 
 def span_fibres(plan, span):
@@ -49,7 +58,7 @@ def node_case(plan, at):
     return Case(f"node-{plan.ids[at]}", "node", f"node {plan.ids[at]} lost", fibres)
 
 
-def all_cases(plan):
+def failures_of(plan):
     """Each fibre alone, each span, each node, each pair of spans."""
     cases = []
     for span in range(plan.size):
@@ -58,40 +67,71 @@ def all_cases(plan):
     return cases + [pair_case(plan, one, other) for one, other in combinations(range(plan.size), 2)]
 
 
+def all_cases(beforehand, kinds=KINDS):
+    """The works, where there are any, and each failure of these kinds."""
+    works = [Case("works", "works", "the works: " + "; ".join(beforehand.works_texts()))] if beforehand.works else []
+    return works + [case for case in failures_of(beforehand.plan) if case.kind in kinds]
+
+
 def shard_of(cases, shard, shards):
     """The `shard`-th of `shards` parts, counted from 1; put one after the other they are the whole."""
     return cases[len(cases) * (shard - 1) // shards : len(cases) * shard // shards]
 
 
-class Beforehand:
-    """The steps before each failure, and what holds after them."""
+def held(plan, steps):
+    """The script as far as these steps, which tells what holds after them."""
+    script = Script(plan)
+    for step in steps:
+        script.apply(step)
+    return script
 
-    def __init__(self, plan, steps):
-        self.plan, self.steps = plan, steps
-        script = Script(plan)
-        for step in steps:
-            script.apply(step)
-        self.conditions, self.moment = script.conditions, script.moment
+
+class Beforehand:
+    """The steps before each failure, those of the works last, and what holds after them."""
+
+    def __init__(self, plan, steps, works=()):
+        self.plan, self.also, self.works = plan, tuple(steps), tuple(works)
+        self.steps = self.also + self.works
+        after = held(plan, self.steps)
+        self.conditions, self.moment = after.conditions, after.moment
 
     def texts(self):
         return [step.text for step in self.steps]
+
+    def works_texts(self):
+        return [step.text for step in self.works]
 
     def later(self):
         """The moment when every wait that begins with the mending is over, as far as moments go."""
         return min(self.moment + self.plan.wait, LAST_MOMENT)
 
+    def place(self, place):
+        at, side = place
+        return f"{self.plan.ids[at]} {side}"
+
     def condition_step(self, fibre, condition):
-        at, side = fibre
-        place = f"{self.plan.ids[at]} {side}"
-        words = {CUT: f"cut {place}", CLEAR: f"mend {place}"}
-        return words.get(condition) or f"degrade {place} {condition}"
+        words = {CUT: f"cut {self.place(fibre)}", CLEAR: f"mend {self.place(fibre)}"}
+        return words.get(condition) or f"degrade {self.place(fibre)} {condition}"
+
+    def undoing(self):
+        """The steps that put back what the works changed, the last first."""
+        before, places = held(self.plan, self.also), []
+        for step in reversed(self.works):
+            place = step.word in ("forced", "manual", "clear"), (step.at, step.side)
+            if step.side is not None and place not in places:
+                places.append(place)
+        commands = lambda place: f"{before.commands[place] or 'clear'} {self.place(place)}"
+        return [commands(place) if is_command else self.condition_step(place, before.conditions[place]) for is_command, place in places]
 
     def script(self, case):
-        """Before, failed, mended to what was before, and after waiting: four settle steps."""
+        """Four settle steps: before, failed, mended to what was before, and after waiting; or before, during and after the works."""
+        waited = ["settle", f"moment {self.later()}", "settle"]
+        if case.kind == "works":
+            also = [step.text for step in self.also]
+            return [*also, "settle", *self.works_texts(), "settle", *self.undoing(), *waited]
         fail = [self.condition_step(fibre, CUT) for fibre in case.fibres]
         mend = [self.condition_step(fibre, self.conditions[fibre]) for fibre in case.fibres]
-        waited = f"moment {self.later()}"
-        return self.texts() + ["settle", *fail, "settle", *mend, "settle", waited, "settle"]
+        return [*self.texts(), "settle", *fail, "settle", *mend, *waited]
 
     def plan_of(self, case):
         steps = [read_step(text, place + 1, self.plan.ids) for place, text in enumerate(self.script(case))]
@@ -104,12 +144,45 @@ class Beforehand:
         return write_plan(self.plan, self.texts() + ["settle"]).encode("ascii")
 
 
-def read_also(plan, words):
-    """The steps of `--also`, parted by semicolons."""
-    steps = []
-    for text in filter(None, (part.strip() for part in (words or "").split(";"))):
-        step = read_step(" ".join(text.split()), len(steps) + 1, plan.ids)
-        if step.word == "settle":
-            raise PlanProblem("whatif settles the ring itself, so `settle` can't be among the steps before")
-        steps.append(step)
-    return Beforehand(plan, steps)
+def span_named(plan, one, other):
+    """The position of the span between these two nodes; in a ring of two the one that leads eastwards from the first."""
+    for span in range(plan.size):
+        if plan.ends(span) == (one, other):
+            return span
+    return span_named(plan, other, one) if (other, one) in map(plan.ends, range(plan.size)) else None
+
+
+def freed(plan, span):
+    return f"forced {plan.ids[span]} east"
+
+
+def works_steps(plan, text):
+    """A part of an order in steps: `span A-B` and `node A` free these of traffic by forced switches, from the nodes beside a node."""
+    if found := PAIR_NAME.fullmatch(text):
+        span = span_named(plan, int(found[1]), int(found[2]))
+        if span is None:
+            raise PlanProblem(f"works: no span leads from node {found[1]} to node {found[2]}")
+        return [freed(plan, span)]
+    if found := NODE_NAME.fullmatch(text):
+        if int(found[1]) not in plan.ids:
+            raise PlanProblem(f"works: no node {found[1]}")
+        at = plan.ids.index(int(found[1]))
+        return [freed(plan, (at - 1) % plan.size), f"forced {plan.ids[(at + 1) % plan.size]} west"]
+    return [text]
+
+
+def parts_of(words):
+    return [" ".join(part.split()) for part in (words or "").split(";") if part.strip()]
+
+
+def read_steps_of(plan, texts):
+    steps = [read_step(text, place + 1, plan.ids) for place, text in enumerate(texts)]
+    if any(step.word == "settle" for step in steps):
+        raise PlanProblem("whatif settles the ring itself, so `settle` can't be among the steps before")
+    return steps
+
+
+def read_beforehand(plan, also, works=None):
+    """The steps of `--also` and of `--works`, parted by semicolons."""
+    order = [step for part in parts_of(works) for step in works_steps(plan, part)]
+    return Beforehand(plan, read_steps_of(plan, parts_of(also)), read_steps_of(plan, order))

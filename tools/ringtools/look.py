@@ -22,6 +22,15 @@ class Way:
     def over(self):
         return self.hops is not None and any(hop.protection for hop in self.hops)
 
+    @property
+    def more(self):
+        """So many spans more than its own arc."""
+        return len(self.hops) - self.length
+
+
+def longer_words(more):
+    return "as many as its own arc" if more == 0 else f"{abs(more)} {'more' if more > 0 else 'fewer'} than its own arc"
+
 
 def judge_port(circuit, end, line, way, scene):
     """Whether a port delivers what it is owed: own, ais, or wrong."""
@@ -114,7 +123,15 @@ class Look:
         if way.hops is None:
             return "lost"
         count = f"{len(way.hops)} span" + ("s" if len(way.hops) > 1 else "")
-        return f"{count} ({len(way.hops) - way.length:+d} over protection)" if way.over else count
+        return f"{count} over protection, {longer_words(way.more)}" if way.over else count
+
+    def result(self, circuit):
+        """What the text tells of a customer: odd, lost, over, kept, or untold."""
+        verdicts = [self.port(circuit.name, end) for end in "ab"]
+        if None in verdicts:
+            return "untold"
+        way = self.ways[circuit.name]
+        return "odd" if "wrong" in verdicts else "lost" if way.hops is None else "over" if way.over else "kept"
 
     def circuit_words(self, circuit):
         ids = self.plan.ids
@@ -135,24 +152,33 @@ class Look:
     def requests(self):
         return span_requests(self.plan.size, self.scene.requests)
 
-    def changes(self):
-        """What changed since the step before, in words."""
+    def customer_changes(self):
+        """Which customers go another way than in the step before, in words."""
+        found = [circuit for circuit in self.plan.circuits if circuit.name in self.changed_circuits]
+        return [f"circuit {circuit.name}: {self.spans_words(circuit)} (was: {self.before.spans_words(circuit)})" for circuit in found]
+
+    def ring_changes(self):
+        """What else changed since the step before, by kind and in words."""
         if self.before is None:
-            return []
-        result = []
-        for fibre in sorted(self.changed_fibres):
-            result.append(self.fibre_words(fibre) + f" (was {condition_words(self.before.scene.conditions[fibre])})")
-        for at, side in sorted(self.changed_commands):
-            was, now = self.before.scene.commands[at, side], self.scene.commands[at, side]
-            result.append(f"node {self.plan.ids[at]}, {side} side: command {now or 'none'} (was {was or 'none'})")
-        for span in sorted(self.changed_spans):
-            result.append(f"span {self.plan.span_name(span)}: {self.span_words(span)} (was {self.before.span_words(span)})")
-        for at in sorted(self.changed_nodes):
-            result.append(f"node {self.plan.ids[at]}: {STATES[self.state(at)]} (was: {STATES[self.before.state(at)]})")
-        for circuit in self.plan.circuits:
-            if circuit.name in self.changed_circuits:
-                result.append(f"circuit {circuit.name}: {self.spans_words(circuit)} (was: {self.before.spans_words(circuit)})")
-        return result
+            return {}
+        return {"fibre": self.fibre_changes(), "command": self.command_changes(), "span": self.span_changes(), "node": self.node_changes()}
+
+    def fibre_changes(self):
+        was = self.before.scene.conditions
+        return [self.fibre_words(fibre) + f" (was {condition_words(was[fibre])})" for fibre in sorted(self.changed_fibres)]
+
+    def command_changes(self):
+        now, was = self.scene.commands, self.before.scene.commands
+        shown = lambda at, side: f"command {now[at, side] or 'none'} (was {was[at, side] or 'none'})"
+        return [f"node {self.plan.ids[at]}, {side} side: {shown(at, side)}" for at, side in sorted(self.changed_commands)]
+
+    def span_changes(self):
+        shown = lambda span: f"{self.span_words(span)} (was {self.before.span_words(span)})"
+        return [f"span {self.plan.span_name(span)}: {shown(span)}" for span in sorted(self.changed_spans)]
+
+    def node_changes(self):
+        shown = lambda at: f"{STATES[self.state(at)]} (was: {STATES[self.before.state(at)]})"
+        return [f"node {self.plan.ids[at]}: {shown(at)}" for at in sorted(self.changed_nodes)]
 
 
 def looks(plan, scenes, settled):

@@ -3,10 +3,10 @@
 import csv
 from dataclasses import dataclass, field
 
-from .failures import STAGES
 from .model import arc, is_joined, owed, route, scenes
 from .report import ReportProblem, read_report
 
+UNSETTLED = 7
 STATUSES = {
     0: "Ok",
     2: "Usage",
@@ -30,6 +30,17 @@ class Cell:
     kind: str
     more: int = 0
 
+    def sign(self):
+        """For a narrow cell of the page."""
+        return {"kept": "·", "over": f"{self.more:+d}" if self.more else "=", "lost": "✕", "odd": "?"}[self.kind]
+
+    def longer(self):
+        spans = f"{abs(self.more)} span{'s' if abs(self.more) > 1 else ''}"
+        return "as long" if self.more == 0 else f"{spans} {'more' if self.more > 0 else 'fewer'}"
+
+    def words(self):
+        return {"kept": "kept", "over": f"over protection, {self.longer()}", "lost": "lost", "odd": "odd: see its text"}[self.kind]
+
     def short(self):
         return f"over{self.more:+d}" if self.kind == "over" else self.kind
 
@@ -44,16 +55,24 @@ class Stage:
     def count(self, kind):
         return sum(cell.kind == kind for cell in self.cells.values())
 
+    def all_of(self, kind):
+        return [name for name, cell in self.cells.items() if cell.kind == kind]
+
 
 @dataclass
 class Verdict:
     """What came of one case. `problem` says why there are fewer stages than there should be."""
 
     case: object
-    status: int | None
+    answer: object  # what is kept of it, or None
     stages: list = field(default_factory=list)
     problem: str = ""
     differs: list = field(default_factory=list)  # where the model says otherwise, in words
+    unsettled: bool = False  # whether a stage didn't settle within the plan's limit
+
+    @property
+    def status(self):
+        return self.answer and self.answer.status
 
     @property
     def ok(self):
@@ -111,21 +130,23 @@ def compare(plan, stage, scene):
     return result
 
 
-def judge(case, plan, text, status):
+def judge(case, plan, text, answer):
     """The verdict on one case, from its plan and what the program answered."""
-    verdict = Verdict(case, status)
+    verdict = Verdict(case, answer)
+    status = verdict.status
     try:
         report = read_report(text, plan)
         for scene, settled in zip(scenes(plan, [step.round for step in report.settled]), report.settled):
             applied = applied_by_states(plan, settled.nodes)
             cells = {circuit.name: cell_of(plan, circuit, settled, applied, scene.slips) for circuit in plan.circuits}
-            stage = Stage(STAGES[scene.number - 1], settled.round, applied, cells)
+            stage = Stage(case.stages[scene.number - 1], settled.round, applied, cells)
             verdict.stages.append(stage)
             verdict.differs += compare(plan, stage, scene)
         if report.done != (status == 0):
             verdict.problem = f"status {status} doesn't go with the text's end `{report.last}`"
         elif not report.done:
-            where = f" in stage `{STAGES[report.unsettled - 1]}`" if report.unsettled else ""
+            verdict.unsettled = report.unsettled is not None and status == UNSETTLED
+            where = f" in stage `{case.stages[report.unsettled - 1]}`" if report.unsettled else ""
             verdict.problem = f"{verdict.status_words()}{where}: `{report.last}`"
     except ReportProblem as problem:
         answered = f"{verdict.status_words()}: " if status != 0 else ""
@@ -133,29 +154,39 @@ def judge(case, plan, text, status):
     return verdict
 
 
+FIXED = ["Case", "Kind", "Failure", "Status", "Stage", "Round", "Applied", "Kept", "Over", "Lost", "Odd", "Model"]
+SOURCE = ["Program", "Proof", "Version", "Sum", "Answered", "Plan"]
+
+
 def table_head(plan):
     """Names of circuits have no capitals, so no two columns have one name."""
-    fixed = ["Case", "Kind", "Failure", "Status", "Stage", "Round", "Applied", "Kept", "Over", "Lost", "Odd", "Model"]
-    return fixed + [circuit.name for circuit in plan.circuits]
+    return FIXED + SOURCE + [circuit.name for circuit in plan.circuits]
 
 
-def table_rows(plan, verdict):
+def source_cells(answer, plan_sum):
+    """Which program answered, whether it is proved, when, and the sum of the plan that was asked about."""
+    told = [answer.program, answer.proof, answer.version, answer.sum, answer.date] if answer else [""] * 5
+    return told + [plan_sum]
+
+
+def table_rows(plan, plan_sum, verdict):
     """One row for each stage; empty cells where a stage didn't come."""
-    for name in STAGES:
+    source = source_cells(verdict.answer, plan_sum)
+    for name in verdict.case.stages:
         stage = verdict.stage(name)
         begin = [verdict.case.name, verdict.case.kind, verdict.case.words, verdict.status_words(), name]
         if stage is None:
-            yield begin + [""] * (7 + len(plan.circuits))
+            yield begin + [""] * 7 + source + [""] * len(plan.circuits)
             continue
         applied = " ".join(plan.span_name(span) for span in sorted(stage.applied))
         counts = [stage.count(kind) for kind in ("kept", "over", "lost", "odd")]
         model = "differs" if any(words.startswith(f"{name}:") for words in verdict.differs) else "agrees"
-        yield begin + [stage.round, applied, *counts, model, *(stage.cells[circuit.name].short() for circuit in plan.circuits)]
+        yield begin + [stage.round, applied, *counts, model, *source, *(stage.cells[circuit.name].short() for circuit in plan.circuits)]
 
 
-def write_table(path, plan, verdicts):
+def write_table(path, plan, plan_sum, verdicts):
     with open(path, "w", newline="", encoding="utf-8") as file:
         writer = csv.writer(file, lineterminator="\n")
         writer.writerow(table_head(plan))
         for verdict in verdicts:
-            writer.writerows(table_rows(plan, verdict))
+            writer.writerows(table_rows(plan, plan_sum, verdict))

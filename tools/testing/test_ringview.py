@@ -6,7 +6,8 @@ import unittest
 import xml.etree.ElementTree as ElementTree
 from functools import cache
 
-from common import RINGS, Page, call, ring
+from common import RINGS, call, ring
+from pages import Seen
 
 DONE = [
     "healthy", "two-nodes", "no-circuits", "four-nodes", "span-cut", "fibre-cut", "two-cuts-in-one-arc", "node-cut-off",
@@ -39,15 +40,15 @@ def page_of(name, *words):
 
 @cache
 def read(name):
-    return Page(page_of(name))
+    return Seen(page_of(name))
 
 
 class Pages(unittest.TestCase):
     def spans_of(self, name, step, circuit):
-        """Way and spans of a circuit in one settle step, as its table has them."""
-        for row in read(name).tables_of("Circuits")[step - 1]:
-            if row[1] == circuit:
-                return row[3], row[4]
+        """Way and result of a circuit in one settle step, as its table has them."""
+        for row in read(name).table_named("Circuits", step - 1):
+            if row["circuit"] == circuit:
+                return row["way from a to b now"], row["what became of it"]
         raise AssertionError(f"no {circuit}")
 
     def test_every_line_of_the_text_is_told(self):
@@ -79,7 +80,12 @@ class Pages(unittest.TestCase):
         with tempfile.NamedTemporaryFile("w") as changed:
             changed.write(text.read_text().replace(old, new))
             changed.flush()
-            return Page(call("ringview", plan, changed.name).stdout.decode()).text()
+            return Seen(call("ringview", plan, changed.name).stdout.decode()).text()
+
+    def test_what_is_not_owed_stands_first(self):
+        words = self.words_of_changed("span-cut", "00636465", "00646566")
+        self.assertIn("Not what they are owed (1): c1", words)
+        self.assertIn("c1 not what it is owed 1 → 2, protection", words)
 
     def test_what_is_not_owed_is_seen(self):
         said = "Not what the restoration model says: port "
@@ -98,21 +104,22 @@ class Pages(unittest.TestCase):
         self.assertEqual([row[4] for row in spans], ["", "applied", "", ""])
 
     def test_ways(self):
-        self.assertEqual(self.spans_of("span-cut", 1, "c1"), ("1 → 2, protection 2 → 1 → 4 → 3", "4 spans (+2 over protection)"))
-        self.assertEqual(self.spans_of("two-cuts-in-one-arc", 1, "c1"), ("protection 1 → 4", "1 span (-2 over protection)"))
-        self.assertEqual(self.spans_of("four-nodes", 1, "c1"), ("1 → 2 → 3", "2 spans"))
-        self.assertEqual(self.spans_of("two-nodes", 2, "p")[1], "1 span (+0 over protection)")
-        self.assertEqual(self.spans_of("longest-route", 1, "c1")[1], "29 spans (+14 over protection)")
-        self.assertEqual(self.spans_of("before-maintenance", 2, "l3-2"), ("protection 2 → 1 → 4 → 3", "3 spans (+2 over protection)"))
-        self.assertEqual(self.spans_of("node-cut-off", 1, "x"), ("not joined", "lost"))
-        self.assertEqual(self.spans_of("forced-on-healthy-spans", 1, "y"), ("2 → 3", "1 span"))
-        self.assertEqual(self.spans_of("tie", 2, "c1")[1], "2 spans")
+        over = "kept over protection, "
+        self.assertEqual(self.spans_of("span-cut", 1, "c1"), ("1 → 2, protection 2 → 1 → 4 → 3", over + "4 spans, 2 more than its own arc"))
+        self.assertEqual(self.spans_of("two-cuts-in-one-arc", 1, "c1"), ("protection 1 → 4", over + "1 span, 2 fewer than its own arc"))
+        self.assertEqual(self.spans_of("four-nodes", 1, "c1"), ("1 → 2 → 3", "kept, 2 spans"))
+        self.assertEqual(self.spans_of("two-nodes", 2, "p")[1], over + "1 span, as many as its own arc")
+        self.assertEqual(self.spans_of("longest-route", 1, "c1")[1], over + "29 spans, 14 more than its own arc")
+        self.assertEqual(self.spans_of("before-maintenance", 2, "l3-2"), ("protection 2 → 1 → 4 → 3", over + "3 spans, 2 more than its own arc"))
+        self.assertEqual(self.spans_of("node-cut-off", 1, "x"), ("not joined", "lost: AIS at both ports"))
+        self.assertEqual(self.spans_of("forced-on-healthy-spans", 1, "y"), ("2 → 3", "kept, 1 span"))
+        self.assertEqual(self.spans_of("tie", 2, "c1")[1], "kept, 2 spans")
 
     def test_changes_are_told(self):
         text = read("end-of-waiting").text()
         self.assertIn("fibre 2 → 3: clear (was cut)", text)
         self.assertIn("span 2–3: wait to restore, applied (was signal fail, applied)", text)
-        self.assertIn("circuit c1: 2 spans (was: 4 spans (+2 over protection))", text)
+        self.assertIn("circuit c1: 2 spans (was: 4 spans over protection, 2 more than its own arc)", text)
         self.assertIn("node 2: idle (was: switches east)", text)
         self.assertIn("node 2, east side: command manual (was none)", read("before-maintenance").text())
 
@@ -143,7 +150,7 @@ class Pages(unittest.TestCase):
 
     def test_pages_are_whole_by_themselves(self):
         for name in [*DONE, *REFUSED]:
-            self.assertIsNone(re.search(r"<script|https?://(?!www\.w3\.org)|<link|@import|url\(", page_of(name)))
+            self.assertIsNone(re.search(r"https?://(?!www\.w3\.org)|<link|@import|url\(|<(script|img|iframe)[^>]*src|fetch\(|import\(", page_of(name)))
 
     def test_refusals_say_why_and_where(self):
         for name, (why, where) in REFUSED.items():

@@ -1,86 +1,22 @@
 """whatif over small rings, counted against the restoration model by its definitions."""
 
-import csv
-import io
-import os
+import hashlib
 import shutil
 import signal
 import subprocess
 import sys
-import tempfile
 import time
 import tomllib
 import unittest
 from collections import Counter
-from itertools import combinations
-from pathlib import Path
 
-from common import STANDIN, TOOLS, Page, call, ring
+from cases import CIRCUITS, Asking, document, expected, failures, script_of
+from common import STANDIN, TOOLS, ring
+from pages import BROWSER, browsed
 from rules import Rules
 
-RING = """rate = 4
-nodes = [5, 2, 9, 4]
-threshold = 3
-wait = 10
-limit = 1000
-script = ["settle"]
-"""
-CIRCUITS = [("near", 5, 2, 1), ("far", 2, 4, 1), ("round", 5, 4, 2), ("back", 4, 5, 1)]
 
-
-def document(circuits=CIRCUITS, head=RING):
-    parts = [head]
-    for name, start, end, slot in circuits:
-        parts.append(f'[[circuit]]\nname = "{name}"\nfrom = {start}\nto = {end}\nslot = {slot}\n')
-        parts.append(f'text_a = "{name}!"\ntext_b = "to {name}"\noffset_a = 390\noffset_b = {37 * slot}\n')
-    return "".join(parts)
-
-
-def spans(*places):
-    return [(span, side) for span in places for side in ("east", "west")]
-
-
-def failures():
-    """Each failure of a ring of four by its files' name: the spans it cuts, and on which sides of them."""
-    ids = [5, 2, 9, 4]
-    name = lambda span: f"{ids[span]}-{ids[(span + 1) % 4]}"
-    found = {}
-    for span in range(4):
-        found[f"fibre-{ids[span]}-east"] = [(span, "east")]
-        found[f"fibre-{ids[(span + 1) % 4]}-west"] = [(span, "west")]
-        found[f"span-{name(span)}"] = spans(span)
-        found[f"node-{ids[span]}"] = spans((span - 1) % 4, span)
-    for one, other in combinations(range(4), 2):
-        found[f"pair-{name(one)}-and-{name(other)}"] = spans(one, other)
-    return found
-
-
-class Whatif(unittest.TestCase):
-    def setUp(self):
-        self.folder = tempfile.TemporaryDirectory()
-        self.addCleanup(self.folder.cleanup)
-        self.top = Path(self.folder.name)
-        self.plan = self.top / "plan.toml"
-        self.plan.write_text(document())
-
-    def ask(self, *words, program=STANDIN, wanted=0):
-        ended = call("whatif", self.plan, "--dir", self.top / "out", "--program", program, *words)
-        self.assertEqual(ended.returncode, wanted, ended.stderr.decode())
-        self.assertNotIn(b"Traceback", ended.stderr)
-        return ended
-
-    def table(self, name="table.csv"):
-        return list(csv.DictReader(io.StringIO((self.top / "out" / name).read_text())))
-
-    def expected(self, rules, last):
-        """What becomes of each circuit at the end of a settle step."""
-        applied, cells = rules.applied(last), {}
-        for circuit in rules.circuits:
-            longer = rules.hops(circuit, applied) - len(rules.arc(circuit)) if rules.joined(circuit, applied) else None
-            struck = applied & set(rules.arc(circuit))
-            cells[circuit["name"]] = "lost" if longer is None else f"over{longer:+d}" if struck else "kept"
-        return cells
-
+class Whatif(Asking):
     def check_rows(self, rows, also=()):
         """Every row against the model, and that no failure is missing."""
         wanted = failures()
@@ -88,7 +24,7 @@ class Whatif(unittest.TestCase):
         by_case = {name: self.rules_of(cut, also) for name, cut in wanted.items()}
         for row in rows:
             last = 128 * (1 + ["before", "failed", "mended", "waited"].index(row["Stage"]))
-            cells = self.expected(by_case[row["Case"]], last)
+            cells = expected(by_case[row["Case"]], last)
             with self.subTest(case=row["Case"], stage=row["Stage"]):
                 self.assertEqual({name: row[name] for name in cells}, cells)
                 self.assertEqual(int(row["Lost"]), sum(cell == "lost" for cell in cells.values()))
@@ -96,57 +32,107 @@ class Whatif(unittest.TestCase):
                 self.assertEqual((row["Status"], row["Model"], int(row["Round"])), ("Ok", "agrees", last))
 
     def rules_of(self, cut, also):
-        """The model of the script that cuts these and mends them again."""
-        ids = [5, 2, 9, 4]
-        places = [f"{ids[span]} east" if side == "east" else f"{ids[(span + 1) % 4]} west" for span, side in cut]
-        script = [*also, "settle", *(f"cut {p}" for p in places), "settle", *(f"mend {p}" for p in places), "settle", "moment 10", "settle"]
-        return Rules(tomllib.loads(document()) | {"script": script}, [128, 256, 384, 512])
+        return Rules(tomllib.loads(document()) | {"script": script_of(cut, also)}, [128, 256, 384, 512])
 
     def test_a_ring_of_four(self):
-        self.ask()
+        said = self.ask().stderr.decode()
+        self.assertRegex(said, r"22 cases to run, \d+ at a time: about \d+ s; Ctrl-C stops")
+        self.assertLess(said.index("22 cases to run"), said.index("0 of 22 cases, 0 s gone, about "))
+        self.assertIn("22 of 22 cases, ", said)
         rows = self.table()
         self.check_rows(rows)
-        page = Page((self.top / "out" / "page.html").read_text()).text()
-        self.assertIn("No single span takes any of these circuits: near, far, round, back.", page)
-        self.assertIn("A lost node takes the circuits that end there, and no other.", page)
+        words = self.words()
+        self.assertIn("22 failures of a ring with 4 circuits were run: 8 fibres, 4 spans, 4 nodes, 6 pairs of spans.", words)
+        self.assertIn("No single fibre or span takes any of these circuits: near, far, round, back.", words)
+        self.assertIn("A lost node takes the circuits that end there, and no other.", words)
+        self.assertIn("88 of the 88 reports that were asked for came and agree with the restoration model.", words)
         failed = [row for row in rows if row["Kind"] == "pair" and row["Stage"] == "failed"]
         pairs = Counter(row["Failure"] for row in failed for name, *_ in CIRCUITS if row[name] == "lost")
         most = max(pairs.values())
-        self.assertIn(f"take {most} circuits: " + ", ".join(name for name in pairs if pairs[name] == most) + ".", page.replace("\u2060", ""))
+        self.assertIn(f"take {most} circuits: " + ", ".join(name for name in pairs if pairs[name] == most) + ".", words)
+        self.check_page(rows)
         self.check_parts()
+
+    def check_page(self, rows):
+        """The page's tables tell the same as the rows: customers, failures kind by kind, and the matrix."""
+        page, failed = self.page(), [row for row in rows if row["Stage"] == "failed"]
+        taken = {row["Failure"]: [name for name, *_ in CIRCUITS if row[name] == "lost"] for row in failed}
+        for row in page.table_with("failure", "customers that it takes"):
+            names = taken[row["failure"].replace("\u2060", "")]
+            self.assertEqual(row["customers that it takes"], f"takes {len(names)}: {', '.join(names)}" if names else "takes none")
+        for row in page.table_with("customer", "in short"):
+            pairs = [r for r in failed if r["Kind"] == "pair" and r[row["customer"]] == "lost"]
+            self.assertTrue(row["pairs of spans that take it"].startswith(f"{len(pairs)} of 6"), row)
+            self.assertEqual((row["in short"], row["fibres and spans that take it"]), ("no fibre or span takes it", "none of 12"))
+        signs = {"kept": "·", "lost": "✕", "over+0": "="}
+        for row in page.table_with("failure", "near"):
+            cells = next(r for r in failed if r["Failure"] == row["failure"].replace("\u2060", ""))
+            self.assertEqual([row[name] for name, *_ in CIRCUITS], [signs.get(cells[name], cells[name].removeprefix("over")) for name, *_ in CIRCUITS])
+        self.check_filter(page, taken)
+        self.check_links(page)
+
+    def check_filter(self, page, taken):
+        """What the filter reads: each failure once in its kind and once in the matrix, with the circuits that it takes."""
+        found = Counter((row["data-words"], row["data-taken"]) for row in page.all("tr") if "data-words" in row)
+        self.assertEqual(found, Counter({(words, " ".join(names)): 2 for words, names in taken.items()}))
+        self.assertEqual(len(page.all("option")), 1 + len(CIRCUITS))
+
+    def check_links(self, page):
+        """Each failure leads to a page with one drawing, of the stage in which it has settled."""
+        links = {found["href"] for found in page.all("a") if found["href"].startswith("cases/")}
+        self.assertEqual(links, {f"cases/{name}.html" for name in failures()})
+        for link in links:
+            drawn = (self.top / "out" / link).read_text()
+            self.assertEqual(drawn.count('<figure class="figure">'), 1)
+            self.assertIn("Settle step 2, round 256", drawn)
 
     def check_parts(self):
         """Parts of what was run, put one after the other, are the whole; and nothing is run again."""
-        whole = (self.top / "out" / "table.csv").read_text()
-        before = {path.name: path.stat().st_mtime_ns for path in (self.top / "out" / "cases").glob("*.status") if path.stem != "nothing"}
+        whole, before = (self.top / "out" / "table.csv").read_text(), self.times()
         parts = []
         for k in (1, 2):
             self.ask("--shard", f"{k}/2")
             parts.append((self.top / "out" / f"table-{k}-of-2.csv").read_text().split("\n", 1))
         self.assertEqual("\n".join([parts[0][0], "".join(rows for _, rows in parts)]), whole)
-        after = {path.name: path.stat().st_mtime_ns for path in (self.top / "out" / "cases").glob("*.status") if path.stem != "nothing"}
-        self.assertEqual(before, after)
+        self.assertEqual(before, self.times())
 
     def test_steps_before(self):
         self.ask("--also", "manual 2 east;  forced 9 east")
         self.check_rows(self.table(), ["manual 2 east", "forced 9 east"])
 
+    def test_kinds_and_standard_input(self):
+        self.ask("--kinds", "span,node", plan="-", input=document().encode())
+        self.assertEqual(Counter(row["Kind"] for row in self.table()), {"span": 16, "node": 16})
+        self.assertEqual({row["Plan"] for row in self.table()}, {hashlib.sha256(document().encode()).hexdigest()})
+        self.assertIn("8 failures of a ring with 4 circuits were run: 4 spans, 4 nodes.", self.words())
+
     def small(self):
-        self.plan.write_text(bytes_of_two())
+        self.plan.write_text(ring("two-nodes")[0].read_text())
 
     def test_a_case_that_does_not_settle(self):
         self.small()
-        self.ask(program=f"{STANDIN} unsettled")
+        ended = self.ask("--kinds", "fibre", program=f"{STANDIN} unsettled", wanted=3)
         rows = [row for row in self.table() if row["Case"] == "fibre-7-east"]
         self.assertEqual([row["Status"] for row in rows], ["Unsettled"] * 4)
         self.assertEqual([(row["Stage"], row["p"]) for row in rows], [("before", "kept"), ("failed", ""), ("mended", ""), ("waited", "")])
-        page = Page((self.top / "out" / "page.html").read_text()).text()
-        self.assertIn("Unsettled in stage `failed`: `unsettled 2`", page)
-        self.assertIn("cases didn't end Ok", page)
+        self.assertIn("Unsettled in stage `failed`: `unsettled 2`", self.words())
+        self.assertIn("cases didn't settle within the limit", self.words())
+        self.assertIn(b"cases didn't settle", ended.stderr)
+
+    def test_a_limit_that_is_too_small(self):
+        """Where nothing settles at all there is nothing to write, and one line says what to do."""
+        self.plan.write_text(document().replace("limit = 1000", "limit = 128"))
+        ended = self.ask(program=self.script("unsettled", "unsettled 1", 7), wanted=3)
+        self.assertIn(b"raise `limit` from 128 to 768, which is 64n + 512", ended.stderr)
+        self.assertEqual((ended.stdout, (self.top / "out" / "page.html").exists()), (b"", False))
+        self.plan.write_text(document().replace("limit = 1000", "limit = 600"))
+        ended = self.ask("--kinds", "fibre", program=f"{STANDIN} unsettled", wanted=3)
+        self.assertIn(b"warning: cases may not settle: raise `limit` from 600 to 768", ended.stderr)
+        self.assertIn("raise `limit` from 600 to 768", self.words())
 
     def test_other_bytes_are_odd(self):
         self.small()
-        self.ask(program=f"{STANDIN} wrong", wanted=3)
+        self.ask("--kinds", "fibre,pair", program=f"{STANDIN} wrong", wanted=4)
         rows = self.table()
         self.assertEqual({row["p"] for row in rows}, {"odd", "lost"})
         self.assertEqual({(row["p"] == "odd", row["Model"]) for row in rows}, {(True, "differs"), (False, "agrees")})
@@ -155,49 +141,82 @@ class Whatif(unittest.TestCase):
         self.small()
         words = [sys.executable, TOOLS / "whatif", self.plan, "--dir", self.top / "out", "--program", f"{STANDIN} slow 0.4", "--jobs", "2"]
         running = subprocess.Popen(words, stderr=subprocess.PIPE, stdout=subprocess.PIPE)
-        cases = self.top / "out" / "cases"
-        while len(list(cases.glob("*.status"))) < 4:
+        until = time.monotonic() + 60
+        while len(self.times()) < 3 and time.monotonic() < until:
             time.sleep(0.05)
         running.send_signal(signal.SIGTERM)
         _, errors = running.communicate(timeout=30)
         self.assertEqual(running.returncode, 130)
         self.assertIn(b"cases are kept", errors)
-        kept = {path: path.stat().st_mtime_ns for path in cases.glob("*.status") if path.stem != "nothing"}
-        self.assertLess(len(kept), 9)
-        self.ask()
-        self.assertEqual({path: path.stat().st_mtime_ns for path in kept}, kept)
+        kept = self.times()
+        self.assertTrue(3 <= len(kept) < 9, kept)
+        self.ask(program=f"{STANDIN} slow 0.4")
+        self.assertEqual({name: time for name, time in self.times().items() if name in kept}, kept)
         self.assertEqual(len(self.table()), 36)
 
     @unittest.skipUnless(shutil.which("parallel"), "GNU parallel isn't installed")
     def test_with_parallel(self):
+        """The same rows but for the dates; and the kept answers tell the same, of a command as of a program of one file."""
         self.small()
-        self.ask()
-        table = self.table()
-        self.ask("--anew", "--sshlogin", "4/:")
-        self.assertEqual(self.table(), table)
+        rows = lambda: [{key: cell for key, cell in row.items() if key != "Answered"} for row in self.table()]
+        for program in (STANDIN, self.copy("copied")):
+            self.ask("--kinds", "span", program=program)
+            table = rows()
+            self.ask("--kinds", "span", "--anew", "--sshlogin", "4/:", program=program)
+            self.assertEqual(rows(), table)
+            kept = self.times()
+            self.ask("--kinds", "span", program=program)
+            self.assertEqual(self.times(), kept)
+
+    def test_many_circuits_are_in_groups(self):
+        """Of more than a printed page is wide, each is in one table, in one row of customers, and in the filter."""
+        circuits = [(f"c{slot}-{start}", start, (start + 2) % 16, slot) for slot in range(1, 8) for start in range(0, 16, 2)]
+        head = f"rate = 16\nnodes = {list(range(16))}\nthreshold = 3\nwait = 10\nlimit = 2000\nscript = ['settle']\n"
+        self.plan.write_text(document(circuits, head))
+        self.ask("--kinds", "span", "--shard", "1/16")
+        page, names = self.page("page-1-of-16.html"), [name for name, *_ in circuits]
+        titles = [rows[0][1:] for name, rows in page.tables if name.startswith("Customers ")]
+        self.assertEqual([name for group in titles for name in group], names)
+        self.assertEqual([len(group) for group in titles], [40, 16])
+        self.assertEqual([row["customer"] for row in page.table_with("customer", "in short")], names)
 
     def test_refusals(self):
         self.assertIn(b"isn't known", self.ask("--also", "lock 2 east", wanted=1).stderr)
         self.assertIn(b"settles the ring itself", self.ask("--also", "settle", wanted=1).stderr)
         self.assertIn(b"K/N with K from 1 to N", self.ask("--shard", "3/2", wanted=1).stderr)
+        self.assertIn(b"`triple` is none of", self.ask("--kinds", "span,triple", wanted=1).stderr)
         self.assertIn(b"at least one at a time", self.ask("--jobs", "0", wanted=1).stderr)
         self.assertIn(b"No such file", self.ask(program="/nowhere/sdhring", wanted=1).stderr)
-        refused = self.ask("--also", "moment 5; moment 4", program=self.refusing("bad plan 27 at 2", 6), wanted=1)
+        refused = self.ask("--also", "moment 5; moment 4", program=self.script("refusing", "bad plan 27 at 2", 6), wanted=1)
         self.assertIn(b"bad plan 27 at 2: the moment lies before", refused.stderr)
-        self.assertIn(b"line 1: an unknown line", self.ask(program=self.refusing("good morning", 0), wanted=1).stderr)
+        self.assertIn(b"line 1: an unknown line", self.ask(program=self.script("greeting", "good morning", 0), wanted=1).stderr)
         self.plan.write_text("rate = 4")
         self.assertIn(b"`nodes` is to be an array", self.ask(wanted=1).stderr)
 
-    def refusing(self, line, status):
-        """A program that answers each plan with one line and this status."""
-        script = self.top / "refusing"
-        script.write_text(f"#!/bin/sh\necho '{line}'\nexit {status}\n")
-        os.chmod(script, 0o755)
-        return str(script)
+
+# What is shown of the failures' tables after each thing that a reader sets.
+SETS = """
+const told = [], form = document.querySelector("form.filter");
+const set = (name, key, value) => { form.elements[name][key] = value; form.dispatchEvent(new Event("input", { bubbles: true })); };
+const note = () => { for (const kind of [".failures", ".matrix"])
+  told.push([...document.querySelectorAll(kind + " tr[data-words]")].filter((row) => !row.hidden).map((row) => row.dataset.words).sort().join("|")); };
+note(); set("customer", "value", "far"); note();
+set("words", "value", "5-2"); note(); set("customer", "value", ""); note();
+set("words", "value", ""); set("taking", "checked", true); note();
+"""
 
 
-def bytes_of_two():
-    return ring("two-nodes")[0].read_text()
+@unittest.skipUnless(BROWSER, "there is no browser")
+class Filter(Asking):
+    def test_the_filter(self):
+        """Each setting shows the same failures in the tables and in the matrix: those that the rows ask for."""
+        self.ask("--kinds", "span,pair")
+        rows = [row for row in self.table() if row["Stage"] == "failed"]
+        shown = lambda fits: "|".join(sorted(row["Failure"] for row in rows if fits(row)))
+        far, here = lambda row: row["far"] == "lost", lambda row: "5–2" in row["Failure"]
+        wanted = [lambda row: True, far, lambda row: far(row) and here(row), here, lambda row: int(row["Lost"]) > 0]
+        self.assertEqual(browsed((self.top / "out" / "page.html").read_text(), SETS), [shown(fits) for fits in wanted for _ in range(2)])
+        self.assertTrue(shown(wanted[2]) and shown(wanted[2]) != shown(far))
 
 
 if __name__ == "__main__":

@@ -1,0 +1,68 @@
+"""whatif's page: what the failures come to, customers first; and a page with the drawing of each case."""
+
+import signal
+from concurrent.futures import ProcessPoolExecutor
+from dataclasses import dataclass
+from functools import partial
+from html import escape
+
+from .answers import Answers
+from .casetables import CaseTables
+from .look import looks
+from .markup import count_of, listing, warning, whole
+from .model import scenes
+from .origin import Origin
+from .page import in_short, run_page, source, tools
+from .report import ReportProblem, read_report
+from .works import Works
+
+
+@dataclass(frozen=True)
+class Asked:
+    """What was asked: the plan's file and sum, the steps before, and where the answers are kept."""
+
+    plan: str
+    plan_sum: str
+    beforehand: object
+    store: object
+    shard: str = ""
+
+    def origin(self, answers):
+        dates = tuple(answer.date for answer in answers if answer is not None)
+        return Origin(self.store.program, self.plan, self.plan_sum, dates)
+
+
+def answers_page(asked, verdicts):
+    answers, origin = Answers(asked.beforehand, verdicts, asked.shard), asked.origin([verdict.answer for verdict in verdicts])
+    tables, plan = CaseTables(answers), answers.plan
+    about = f"STM-{plan.rate}, {plan.size} nodes, {count_of(len(plan.circuits), 'circuit')}, wait {plan.wait}, limit {plan.limit}. "
+    about += "Each failure settles, is mended, settles, and settles once more when every wait is over."
+    parts = [f"<h1>What if: {escape(asked.plan)}</h1>", warning(origin)]
+    if asked.beforehand.works:
+        parts += [Works(answers).section(), "<section><h2>All failures during the works</h2>"]
+    parts += [listing(answers.words()), f"<p>{about}</p>", in_short(origin), tools(), "</section>" if asked.beforehand.works else ""]
+    if plan.circuits:
+        parts.append(f'<section id="customers"><h2>Customers: {tables.headline()}</h2>{tables.customers()}</section>')
+    parts.append(f'<section id="failures"><h2>Failures</h2>{tables.failures()}</section>')
+    if plan.circuits:
+        parts.append(f'<section id="matrix"><h2>Each customer in each failure</h2>{tables.matrix()}</section>')
+    return whole(f"What if: {asked.plan}", "\n".join([*parts, source(origin)]), ["whatif.css"], ["whatif.js"])
+
+
+def draw_case(asked, case):
+    """A page with the case's drawing: of a failure the stage in which it has settled, of the works each stage."""
+    store, plan = asked.store, asked.beforehand.plan_of(case)
+    try:
+        report = read_report(store.text(case.name), plan)
+    except ReportProblem:
+        return
+    seen = looks(plan, scenes(plan, [step.round for step in report.settled]), report.settled)
+    shown = [look for look in seen if case.kind == "works" or case.stages[look.scene.number - 1] == "failed"] or seen
+    origin = Origin(store.program, f"{case.name}.toml", store.answer(case.name).plan, (store.answer(case.name).date,))
+    store.path(case.name, "html").write_text(run_page(f"{asked.plan}: {case.words}", plan, report, shown, origin), encoding="utf-8")
+
+
+def draw_cases(asked, cases, jobs):
+    done = [case for case in cases if asked.store.is_done(case.name)]
+    with ProcessPoolExecutor(jobs, initializer=signal.signal, initargs=(signal.SIGINT, signal.SIG_IGN)) as pool:
+        list(pool.map(partial(draw_case, asked), done, chunksize=4))

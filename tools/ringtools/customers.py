@@ -1,0 +1,109 @@
+"""What becomes of each customer, settle step by settle step, as markup."""
+
+from html import escape
+
+from .look import longer_words
+from .markup import count_of, heads, names, table
+
+RESULTS = {
+    "odd": "Not what they are owed",
+    "lost": "Lost",
+    "over": "Kept over protection",
+    "kept": "Kept on their own arc",
+    "untold": "Not told by this text",
+}
+TOTALS = {"odd": "not owed", "lost": "lost", "over": "over protection", "kept": "kept"}
+GROUP = 12  # settle steps side by side: so many fit a printed page
+
+
+def by_result(look):
+    found = {result: [] for result in RESULTS}
+    for circuit in look.plan.circuits:
+        found[look.result(circuit)].append(circuit.name)
+    return found
+
+
+def outcome(look):
+    """Who is lost and who is kept, by name, the worst first."""
+    found = {result: members for result, members in by_result(look).items() if members}
+    items = [f'<li class="result-{result}">{RESULTS[result]} ({len(members)}): {escape(names(members))}</li>' for result, members in found.items()]
+    return f'<ul class="outcome">{"".join(items)}</ul>' if items else '<p class="note">The plan has no circuits.</p>'
+
+
+def result_words(look, circuit):
+    """What became of one customer, in words that stand beside its name."""
+    way, result = look.ways[circuit.name], look.result(circuit)
+    if result in ("odd", "lost", "untold"):
+        return {"odd": "not what it is owed", "lost": "lost: AIS at both ports", "untold": "not told"}[result]
+    spans = count_of(len(way.hops), "span")
+    return f"kept over protection, {spans}, {longer_words(way.more)}" if way.over else f"kept, {spans}"
+
+
+def short(look, circuit):
+    """The same for a narrow cell: a sign, and how many spans more."""
+    result, way = look.result(circuit), look.ways[circuit.name]
+    if result == "over":
+        return f"protection, {count_of(len(way.hops), 'span')}"
+    return {"odd": "not owed", "lost": "lost", "kept": "kept", "untold": "not told"}[result]
+
+
+def step_cell(look, circuit):
+    changed = " changed-cell" if circuit.name in look.changed_circuits else ""
+    return f'<td class="result-{look.result(circuit)}{changed}">{short(look, circuit)}</td>'
+
+
+def total_row(shown):
+    cells = ""
+    for look in shown:
+        found = by_result(look)
+        counts = [f"{len(found[result])} {word}" for result, word in TOTALS.items() if found[result]]
+        cells += f"<td>{', '.join(counts) or 'not told'}</td>"
+    return f'<tr class="total"><th scope="row" class="name">all {len(shown[0].plan.circuits)}</th>{cells}</tr>'
+
+
+def steps_table(looks):
+    """Customers by settle steps; in groups of steps, so that it is whole on paper."""
+    parts = []
+    for begin in range(0, len(looks), GROUP):
+        shown = looks[begin : begin + GROUP]
+        titles = ["customer", *(f'<a href="#step{look.scene.number}">step {look.scene.number}</a>' for look in shown)]
+        rows = [total_row(shown)]
+        for circuit in shown[0].plan.circuits:
+            cells = "".join(step_cell(look, circuit) for look in shown)
+            rows.append(f'<tr data-circuit="{escape(circuit.name)}"><th scope="row" class="name">{escape(circuit.name)}</th>{cells}</tr>')
+        caption = f"<caption>Customers after settle steps {shown[0].scene.number} to {shown[-1].scene.number}; what changed since the step before is set off</caption>"
+        parts.append(f'<div class="wide"><table class="steps">{caption}<thead>{heads(titles)}</thead><tbody>{"".join(rows)}</tbody></table></div>')
+    return "\n".join(parts)
+
+
+def port_cell(look, circuit, end):
+    verdict, line = look.port(circuit.name, end), look.settled.ports.get((circuit.name, end))
+    if verdict is None:
+        return "not told"
+    shown = "AIS" if line.ais else f"value {line.value}<br><code>{line.data.hex()}</code>"
+    if verdict == "wrong":
+        return f"<strong>not what it is owed</strong>: {shown}"
+    return shown if verdict == "ais" else f"its own customer's bytes, {shown}"
+
+
+def circuit_table(look):
+    """Each customer with its result beside its name, then its way."""
+    circuits, ids = look.plan.circuits, look.plan.ids
+    changed = {number for number, circuit in enumerate(circuits) if circuit.name in look.changed_circuits}
+    rows = []
+    for number, circuit in enumerate(circuits):
+        result = f'<span class="result-{look.result(circuit)}">{result_words(look, circuit)}</span>'
+        ends = f"{ids[circuit.start]} to {ids[circuit.end]}, slot {circuit.slot}"
+        rows.append([escape(circuit.name), result, escape(look.route_words(circuit)), ends, str(number + 1)])
+    return table("Circuits", ["circuit", "what became of it", "way from a to b now", "from, to", "#"], rows, changed, attributes(circuits)) if rows else ""
+
+
+def port_table(look):
+    """What the ports deliver, as the text shows it."""
+    circuits = look.plan.circuits
+    rows = [[escape(circuit.name), *(port_cell(look, circuit, end) for end in "ab")] for circuit in circuits]
+    return table("Ports", ["circuit", "port a", "port b"], rows, (), attributes(circuits)) if rows else ""
+
+
+def attributes(circuits):
+    return lambda index: f' data-circuit="{escape(circuits[index].name)}"'

@@ -1,0 +1,119 @@
+"""What all pages share: their head, tables, lists and words. A page needs nothing besides itself."""
+
+import re
+from functools import cache
+from html import escape
+from pathlib import Path
+
+from .origin import NOT_KNOWN, NOT_PROVED, now
+
+WEB = Path(__file__).parent / "web"
+COMPARED = (
+    "Of the 2349 bytes that a port delivers in a round a report shows the first 16, and the pointer value: "
+    "these are compared with what the port is owed, the other 2333 are not."
+)
+HITLESS = (
+    "A report tells what holds once the ring is quiet. While a switch is made or cleared, a customer whose way changes loses bytes or gets some of them twice: "
+    "no switch is hitless."
+)
+
+
+@cache
+def web(name):
+    return (WEB / name).read_text(encoding="utf-8")
+
+
+@cache
+def light_colours():
+    """The palette's colours on white, by name."""
+    return dict(re.findall(r"--([a-z-]+): (#[0-9a-f]+);", web("palette.css").split("@media")[0]))
+
+
+def in_light(style):
+    """A style with its colours written out, for readers of SVG that know no palette."""
+    return re.sub(r"var\(--([a-z-]+)\)", lambda found: light_colours()[found[1]], style)
+
+
+def whole(title, body, style=(), script=()):
+    """A page with these styles and scripts beside the common ones."""
+    head = '<meta charset="utf-8"><meta name="viewport" content="width=device-width, initial-scale=1">'
+    head += f'<meta name="color-scheme" content="light dark"><title>{escape(title)}</title>'
+    head += "<style>" + "".join(map(web, ("palette.css", "page.css", "drawing.css", *style))) + "</style>"
+    scripts = "".join(f"<script>{web(name)}</script>" for name in ("page.js", *script))
+    return f'<!DOCTYPE html>\n<html lang="en"><head>{head}</head>\n<body>\n<main>\n{body}\n</main>\n{scripts}</body></html>\n'
+
+
+def heads(cells):
+    return "<tr>" + "".join(f'<th scope="col">{cell}</th>' for cell in cells) + "</tr>"
+
+
+def table(caption, titles, rows, changed=(), attributes=None):
+    """Cells are markup already, the first of a row its head; rows whose index is in `changed` are set off."""
+    body = ""
+    for index, (first, *rest) in enumerate(rows):
+        kind = ' class="changed"' if index in changed else ""
+        more = attributes(index) if attributes else ""
+        body += f'<tr{kind}{more}><th scope="row" class="name">{first}</th>' + "".join(f"<td>{cell}</td>" for cell in rest) + "</tr>\n"
+    kind, head = caption.split()[0].lower(), f"<caption>{escape(caption)}</caption><thead>{heads(titles)}</thead>"
+    return f'<div class="wide"><table class="{kind}">{head}<tbody>\n{body}</tbody></table></div>'
+
+
+def listing(items, tag="ul"):
+    return f"<{tag}>" + "".join(f"<li>{item}</li>" for item in items) + f"</{tag}>"
+
+
+def folded(summary, inside, open=False):
+    return f"<details{' open' if open else ''}><summary>{summary}</summary>\n{inside}</details>"
+
+
+def names(items, most=128):
+    """These one after the other; of very many only the first. No ring has more than 128 circuits."""
+    items = list(items)
+    shown = ", ".join(items[:most])
+    return shown + (f" and {len(items) - most} more" if len(items) > most else "")
+
+
+def unbroken(words):
+    """Markup in which the name of a span stays on one line."""
+    return escape(words).replace("–", "&#8288;–&#8288;")
+
+
+def count_of(number, one, many=None):
+    return f"{number} {one if number == 1 else many or one + 's'}"
+
+
+def moment_words(date):
+    return date.replace("T", " ").removesuffix("Z") + " UTC" if date else "not known"
+
+
+def dates_words(dates):
+    first, last = min(dates, default=""), max(dates, default="")
+    return moment_words(first) if first == last else f"{moment_words(first)} to {moment_words(last)}"
+
+
+def warning(origin):
+    """What has to be read before anything else of answers whose program isn't proved."""
+    program = origin.program
+    if program is not None and program.proof == NOT_PROVED:
+        return '<p class="alarm"><strong>The program that answered is not proved.</strong> <code>./sdhring --prove</code> proves and builds the one that is.</p>'
+    if program is not None and program.proof == NOT_KNOWN:
+        return '<p class="alarm"><strong>It isn\'t known whether the program that answered is proved.</strong></p>'
+    return ""
+
+
+def origin_list(origin):
+    """Program, proved or not, version, date and sums."""
+    program, code = origin.program, lambda words: f"<code>{escape(words)}</code>"
+    told = program.lines() if program else {}
+    lines = {
+        "Program": code(told["program"]) if told else escape(origin.note),
+        "Proved": {"proved": "yes", NOT_PROVED: "<strong>no</strong>"}.get(told.get("proof"), "not known"),
+        "Version": escape(told.get("version", "not known")),
+        "Program's sum": code(told["sum"]) if told else "not known",
+        "Plan": code(origin.plan),
+        "Plan's sum": code(origin.plan_sum),
+        "Answered": dates_words(origin.dates),
+        "Page written": moment_words(now()),
+    }
+    inside = "".join(f"<dt>{name}</dt><dd>{words}</dd>" for name, words in lines.items())
+    return f'<dl class="origin">{inside}</dl>' + '<p class="note">Sums are SHA-256.</p>'

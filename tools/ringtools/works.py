@@ -1,0 +1,119 @@
+"""The view of a works order: customers before, during and after, and which second failures hurt meanwhile."""
+
+from html import escape
+
+from .answers import SINGLE
+from .casetables import links, takes
+from .failures import WORKS_STAGES
+from .markup import HITLESS, count_of, heads, listing, names
+
+GIVES_WAY = "while people work there. A forced switch doesn't give way to a failure."
+SECOND = (*SINGLE, "node")
+
+
+class Works:
+    """What the works of an order come to. `answers.works` is the verdict on them, None in a part without it."""
+
+    def __init__(self, answers):
+        self.answers, self.plan, self.verdict = answers, answers.plan, answers.works
+
+    def counts(self, name):
+        stage = self.verdict.stage(name)
+        shown = ((stage.count("lost"), "lost"), (stage.count("odd"), "odd"), (stage.count("over"), "over protection"), (stage.count("kept"), "on their own arc"))
+        return ", ".join(f"{count} {words}" for count, words in shown if count) or "no customers"
+
+    def summary(self):
+        """Each stage in a sentence."""
+        titles = {"before": "Before", "during": "During", "after": "After", "waited": "After waiting"}
+        for name in WORKS_STAGES:
+            stage, before = self.verdict.stage(name), self.verdict.stage("before")
+            if stage is None:
+                yield f"<strong>{titles[name]}: no report.</strong> {escape(self.verdict.problem)}"
+            elif name in ("after", "waited") and stage.cells == before.cells:
+                yield f"<strong>{titles[name]}</strong>: each customer as before."
+            else:
+                yield f"<strong>{titles[name]}</strong>: {self.counts(name)}."
+
+    def freed(self):
+        """The spans that carry nothing on their working slots during the works."""
+        before, during = self.verdict.stage("before"), self.verdict.stage("during")
+        return (during.applied - before.applied) if before and during else frozenset()
+
+    def cell(self, circuit, name):
+        stage, before = self.verdict.stage(name), self.verdict.stage("before")
+        if stage is None:
+            return "<td>–</td>"
+        cell = stage.cells[circuit.name]
+        changed = " changed-cell" if before and cell != before.cells[circuit.name] else ""
+        return f'<td class="result-{cell.kind}{changed}">{cell.words()}</td>'
+
+    def changed(self):
+        """Customers that aren't as before in each stage that came."""
+        before = self.verdict.stage("before")
+        differs = lambda name: any(stage.cells[name] != before.cells[name] for stage in self.verdict.stages)
+        return [circuit for circuit in self.plan.circuits if before and differs(circuit.name)]
+
+    def row(self, circuit):
+        cells, ids = "".join(self.cell(circuit, name) for name in WORKS_STAGES), self.plan.ids
+        return f'<tr><th scope="row" class="name">{escape(circuit.name)}</th>{cells}<td>{ids[circuit.start]} to {ids[circuit.end]}, slot {circuit.slot}</td></tr>'
+
+    def table(self):
+        """The customers that the works touch, stage by stage; the others by name."""
+        changed = self.changed()
+        same = [circuit.name for circuit in self.plan.circuits if circuit not in changed]
+        rows = "\n".join(map(self.row, changed))
+        titles = ["customer", "before", "during", "after", "after waiting", "from, to"]
+        caption = "<caption>Customers that the works touch</caption>"
+        shown = f'<div class="wide"><table class="order">{caption}<thead>{heads(titles)}</thead><tbody>\n{rows}</tbody></table></div>'
+        rest = f"<p>Not touched by the works ({len(same)}): {escape(names(same))}.</p>" if same else ""
+        return (shown if changed else "") + rest
+
+    def hurting(self):
+        return [verdict for verdict in self.answers.sorted_of(SECOND) if self.answers.taken(verdict)]
+
+    def unfreed(self):
+        """Second failures under which a span that was freed isn't applied any more."""
+        freed = self.freed()
+        return [verdict for verdict, stage in self.answers.failed(SECOND) if not freed <= stage.applied]
+
+    def second_words(self):
+        asked, hurting, taken = self.answers.failed(SECOND), self.hurting(), self.answers.takers(SECOND)
+        if not asked:
+            yield "No second failure settled, or none was asked about."
+            return
+        kinds = [f"a {kind}" for kind in SECOND if kind in self.answers.kinds]
+        of_what = " or ".join(filter(None, [", ".join(kinds[:-1]), kinds[-1]]))
+        yield f"<strong>{len(hurting)} of {count_of(len(asked), 'second failure')}</strong> of {of_what} during the works take a customer."
+        safe, risked = [name for name in taken if not taken[name]], [name for name in taken if taken[name]]
+        if risked:
+            yield f"At risk during the works: {escape(names(risked))}."
+        if safe:
+            yield f"Taken by none of them: {escape(names(safe))}."
+        freed = [self.plan.span_name(span) for span in sorted(self.freed())]
+        if freed and self.unfreed():
+            yield f"<strong>The switch gives way</strong> under {len(self.unfreed())} of them: traffic comes back to {names(freed)}, {GIVES_WAY}"
+        elif freed:
+            yield f"Free of traffic under each of them: {count_of(len(freed), 'span')}, {names(freed)}."
+
+    def by_effect(self):
+        """Second failures that take the same customers, together."""
+        found = {}
+        for verdict in self.hurting():
+            found.setdefault(tuple(self.answers.taken(verdict)), []).append(verdict)
+        return found
+
+    def hurting_table(self):
+        row = lambda taken, verdicts: f'<tr><th scope="row" class="name">{links(verdicts)}</th><td>{takes(taken)}</td></tr>'
+        rows = "\n".join(row(*effect) for effect in self.by_effect().items())
+        head = f"<thead>{heads(['second failure', 'customers that it takes'])}</thead>"
+        return f'<div class="wide"><table class="second">{head}<tbody>\n{rows}</tbody></table></div>' if rows else ""
+
+    def section(self):
+        steps = ", ".join(f"<code>{escape(text)}</code>" for text in self.answers.beforehand.works_texts())
+        parts = [f'<section id="works"><h2>The works: {steps}</h2>']
+        if self.verdict is None:
+            return parts[0] + "<p>The works themselves are in part 1.</p></section>"
+        drawn = '<p><a href="cases/works.html">The works, drawn stage by stage</a></p>' if self.verdict.stages else ""
+        parts += [listing(self.summary()), self.table(), drawn, f'<p class="note">{HITLESS}</p>']
+        parts += ["<h3>Which second failures hurt during the works</h3>", listing(self.second_words()), self.hurting_table(), "</section>"]
+        return "\n".join(parts)

@@ -1,0 +1,64 @@
+"""How the tests read pages: as `common.Page` does, without the scripts, and with what their elements tell the scripts."""
+
+import html
+import re
+import shutil
+import subprocess
+import tempfile
+from pathlib import Path
+
+from common import Page
+
+BROWSER = shutil.which("chromium")
+# A page of a phone's width in another, which shows what the inner one says.
+PHONE = """<body><script>addEventListener("message", (event) => {
+  document.body.innerHTML = "<pre></pre>";
+  document.querySelector("pre").textContent = event.data;
+});</script>
+<iframe src="page.html" width="390" height="844"></iframe></body>"""
+
+
+def browsed(markup, deeds):
+    """What these lines of script put into their list `told`, at the end of the page in a browser."""
+    script = f'<script>{deeds}\nparent.postMessage(told.join("\\n"), "*");</script>'
+    with tempfile.TemporaryDirectory() as folder:
+        phone = Path(folder) / "phone.html"
+        phone.write_text(PHONE)
+        phone.with_name("page.html").write_text(markup.replace("</body>", script + "</body>"))
+        words = [BROWSER, "--headless=new", "--no-sandbox", "--disable-gpu", "--virtual-time-budget=5000", f"--user-data-dir={folder}/own", "--dump-dom", phone.as_uri()]
+        ended = subprocess.run(words, capture_output=True, text=True, timeout=60)
+    return html.unescape(re.search("<pre>(.*?)</pre>", ended.stdout, re.S)[1]).split("\n")
+
+
+class Seen(Page):
+    """Besides words, tables and drawings: the attributes of all elements by tag, and what stands in folded parts."""
+
+    def __init__(self, markup):
+        self.elements, self.folded = [], []
+        super().__init__(markup)
+
+    def handle_starttag(self, tag, attributes):
+        self.elements.append((tag, dict(attributes)))
+        super().handle_starttag(tag, attributes)
+
+    def handle_data(self, data):
+        if "script" in self.open:
+            return
+        if "details" in self.open and "summary" not in self.open:
+            self.folded.append(data)
+        super().handle_data(data)
+
+    def all(self, tag, **wanted):
+        """The attributes of each such element with these attributes; `class_` is `class`, `a_b` is `a-b`."""
+        wanted = {key.rstrip("_").replace("_", "-"): value for key, value in wanted.items()}
+        return [found for name, found in self.elements if name == tag and wanted.items() <= found.items()]
+
+    def table_named(self, caption, number=0):
+        """The rows of the table of this caption, each by the titles of its columns."""
+        rows = [rows for name, rows in self.tables if name.startswith(caption)][number]
+        return [dict(zip(rows[0], row)) for row in rows[1:]]
+
+    def table_with(self, *titles):
+        """The rows of all tables that have these titles, by title."""
+        found = [rows for _, rows in self.tables if set(titles) <= set(rows[0])]
+        return [dict(zip(rows[0], row)) for rows in found for row in rows[1:]]

@@ -1,0 +1,211 @@
+"""Which program answered, whether it is proved, and about which plan: what is told of it, and what is taken up again."""
+
+import hashlib
+import stat
+import tempfile
+import unittest
+from pathlib import Path
+
+from cases import Asking
+from common import STANDIN, bytes_of, call, ring
+from pages import Seen
+
+from ringtools.kept import read_answer
+from ringtools.origin import CannotRun, find_program
+from ringtools.progress import Progress, duration
+
+LAUNCHER = """#!/bin/sh
+case "$*" in
+  --version) echo "sdhring 9.8.7, sources 0123456789ab, {state}" ;;
+  --where) [ -x {runs} ] && echo {runs} ;;
+  *) exec {runs} "$@" ;;
+esac
+"""
+
+
+def sum_of(data):
+    return hashlib.sha256(data).hexdigest()
+
+
+def executable(path, text):
+    path.write_text(text)
+    path.chmod(path.stat().st_mode | stat.S_IXUSR)
+    return str(path)
+
+
+class Launched(unittest.TestCase):
+    """A checkout with a launcher, which runs the stand-in as a program of this name."""
+
+    def setUp(self):
+        folder = tempfile.TemporaryDirectory()
+        self.addCleanup(folder.cleanup)
+        self.top = Path(folder.name)
+        (self.top / "crates.txt").write_text("")
+
+    def launcher(self, state, name, built=True):
+        runs = self.top / name
+        if built:
+            executable(runs, f'#!/bin/sh\nexec {STANDIN} "$@"\n')
+        return executable(self.top / "launcher", LAUNCHER.format(state=state, runs=runs)), runs
+
+    def test_proved_and_not_proved(self):
+        for state, name, proof in (("proved", "ring", "proved"), ("not proved yet", "ring.unproved", "not proved"), ("proved", "ring.unproved", "not proved")):
+            launcher, runs = self.launcher(state, name)
+            with self.subTest(state=state, name=name):
+                program = find_program([launcher])
+                self.assertEqual((program.words, program.proof), ((str(runs),), proof))
+                self.assertEqual((program.sum, program.version), (sum_of(runs.read_bytes()), "sdhring 9.8.7, sources 0123456789ab"))
+
+    def test_a_launcher_builds_first(self):
+        """It is asked for a plan's tables, which runs nothing."""
+        launcher, runs = self.launcher("not proved yet", "ring.unproved", built=False)
+        text = Path(launcher).read_text().replace("*)", f'check) cat > {self.top}/asked; echo > {runs}; chmod +x {runs} ;;\n  *)')
+        program = find_program([executable(Path(launcher), text)], b"a plan")
+        self.assertEqual((program.words, (self.top / "asked").read_bytes()), ((str(runs),), b"a plan"))
+
+    def test_a_command_of_which_nothing_is_known(self):
+        program = find_program(STANDIN.split())
+        self.assertEqual((program.proof, program.version), ("not known to be proved", ""))
+        self.assertNotEqual(program.sum, find_program([*STANDIN.split(), "unsettled"]).sum)
+
+    def test_a_launcher_that_cannot_build(self):
+        launcher = executable(self.top / "launcher", "#!/bin/sh\nexit 81\n")
+        with self.assertRaisesRegex(CannotRun, "ended with status 81"):
+            find_program([launcher])
+        with self.assertRaises(CannotRun):
+            find_program(["/nowhere/sdhring"])
+
+    def page_of(self, launcher, *words, **more):
+        ended = call("ringview", *words, "--program", launcher, **more)
+        self.assertEqual(ended.returncode, 0, ended.stderr.decode())
+        return Seen(ended.stdout.decode()).text()
+
+    def test_ringview_runs_the_program(self):
+        launcher, runs = self.launcher("not proved yet", "ring.unproved")
+        plan = ring("span-cut")[0]
+        text = self.page_of(launcher, plan)
+        self.assertIn("The program that answered is not proved.", text)
+        for told in (str(runs), sum_of(runs.read_bytes()), "sdhring 9.8.7, sources 0123456789ab", sum_of(plan.read_bytes()), str(plan)):
+            self.assertIn(told, text)
+        launcher, _ = self.launcher("proved", "ring")
+        text = self.page_of(launcher, "-", input=plan.read_bytes())
+        self.assertNotIn("not proved", text)
+        self.assertIn("Proved yes", text)
+        self.assertIn(sum_of(plan.read_bytes()), text)
+
+
+    def test_whatif_warns(self):
+        launcher, _ = self.launcher("not proved yet", "ring.unproved")
+        words = [ring("two-nodes")[0], "--dir", self.top / "out", "--kinds", "span", "--program", launcher]
+        ended = call("whatif", *words)
+        self.assertEqual(ended.returncode, 0, ended.stderr.decode())
+        self.assertIn(b"ring.unproved is not proved; ./sdhring --prove proves it", ended.stderr)
+        self.assertIn("The program that answered is not proved.", Seen((self.top / "out" / "page.html").read_text()).text())
+        self.assertIn("ring.unproved,not proved,", (self.top / "out" / "table.csv").read_text())
+        self.launcher("proved", "ring")
+        self.assertNotIn(b"proved", call("whatif", *words).stderr.replace(b"out/", b""))
+        self.assertIn("Proved yes", Seen((self.top / "out" / "page.html").read_text()).text())
+
+
+class Texts(unittest.TestCase):
+    """ringview over a text that was written before."""
+
+    def test_a_text_alone_names_no_program(self):
+        plan, text = ring("span-cut")
+        shown = Seen(call("ringview", plan, text).stdout.decode()).text()
+        self.assertIn("not known, since the program's text doesn't name it", shown)
+        self.assertIn(sum_of(plan.read_bytes()), shown)
+
+    def test_standard_input(self):
+        plan, text = ring("span-cut")
+        body = lambda ended: Seen(ended.stdout.decode()).text().split("Where this comes from")[0]
+        whole = body(call("ringview", plan, text))
+        self.assertEqual(body(call("ringview", plan, "-", input=text.read_bytes())), whole)
+        self.assertEqual(body(call("ringview", "-", text, input=plan.read_bytes())).replace("standard input", plan.name), whole)
+        ended = call("ringview", "-", "-", input=b"")
+        self.assertEqual((ended.returncode, ended.stdout), (1, b""))
+        self.assertIn(b"only one of PLAN and REPORT", ended.stderr)
+
+
+class Answers(Asking):
+    def setUp(self):
+        super().setUp()
+        self.plan.write_bytes(bytes_of("two-nodes")[0])
+
+    def test_each_answer_and_row_tells_its_program(self):
+        program = self.copy("first")
+        self.ask("--kinds", "span", program=program)
+        told = {"Program": program, "Proof": "not known to be proved", "Version": "not told"}
+        told |= {"Sum": sum_of(Path(program).read_bytes()), "Plan": sum_of(self.plan.read_bytes())}
+        for row in self.table():
+            self.assertEqual({key: row[key] for key in told}, told)
+            self.assertRegex(row["Answered"], r"^\d{4}-\d\d-\d\dT\d\d:\d\d:\d\dZ$")
+        for path in self.cases().glob("*.answer"):
+            answer = read_answer(path.read_bytes())
+            self.assertEqual((answer.program, answer.sum), (program, told["Sum"]))
+            self.assertEqual((answer.plan, answer.text), tuple(sum_of(path.with_suffix(kind).read_bytes()) for kind in (".toml", ".text")))
+        for page in ("page.html", "cases/span-7-9.html"):
+            self.assertIn(told["Sum"], self.page(page).text())
+        self.assertIn("It isn't known whether the program that answered is proved.", self.words())
+
+    def test_answers_of_another_program_are_run_again(self):
+        first, second = self.copy("first"), self.copy("second")
+        self.ask("--kinds", "span", program=first)
+        before = self.times()
+        self.assertNotIn(b"run again", self.ask("--kinds", "span", program=first).stderr)
+        self.assertEqual(self.times(), before)
+        self.assertIn(b"2 of 2 kept answers are another program's, and are run again", self.ask("--kinds", "span", program=second).stderr)
+        self.assertTrue(all(self.times()[name] > then for name, then in before.items()))
+        self.assertEqual({row["Program"] for row in self.table()}, {second})
+
+    def test_a_program_that_changes_is_another(self):
+        program = self.copy("first")
+        self.ask("--kinds", "span", program=program)
+        with open(program, "a") as file:
+            file.write("# changed\n")
+        self.assertIn(b"are run again", self.ask("--kinds", "span", program=program).stderr)
+
+    def test_what_was_changed_or_is_older_is_run_again(self):
+        """A text that isn't the one that was answered, and files that tell no program."""
+        self.ask("--kinds", "span")
+        before, cases = self.times(), self.cases()
+        (cases / "span-7-9.text").write_text("done\n")
+        (cases / "span-9-7.answer").write_text("0\n")
+        self.ask("--kinds", "span")
+        again = {name for name, then in self.times().items() if then != before[name]}
+        self.assertEqual(again, {"span-7-9.answer", "span-9-7.answer"})
+
+    def test_ringview_reads_the_answer_beside_a_text(self):
+        self.ask("--kinds", "span")
+        words = [self.cases() / f"span-7-9.{kind}" for kind in ("toml", "text")]
+        self.assertIn("standin", Seen(call("ringview", *words).stdout.decode()).text())
+        words[0].write_bytes(words[0].read_bytes() + b"# changed\n")
+        self.assertIn("not known, since", Seen(call("ringview", *words).stdout.decode()).text())
+
+    def test_warnings(self):
+        self.assertIn(b"is not known to be proved", self.ask("--kinds", "span").stderr)
+
+
+class Times(unittest.TestCase):
+    def test_durations(self):
+        wanted = {0: "0 s", 59.4: "59 s", 59.6: "1 min", 90: "2 min", 3569: "59 min", 3570: "1 h 0 min", 9672: "2 h 41 min", 100_000: "27 h 47 min"}
+        self.assertEqual({seconds: duration(seconds) for seconds in wanted}, wanted)
+
+    def test_progress(self):
+        """By what was expected before the first case ended; by the cases that ran after that."""
+        progress = Progress(10, 2, 7200)
+        self.assertEqual(progress.line(60), "2 of 10 cases, 1 min gone, about 1 h 59 min left")
+        self.assertEqual(progress.line(8000), "2 of 10 cases, 2 h 13 min gone, longer than was expected")
+        progress.done = 4
+        self.assertEqual(progress.line(60), "4 of 10 cases, 1 min gone, about 3 min left")
+        progress.jobs = 4
+        self.assertEqual(progress.line(60), "4 of 10 cases, 1 min gone, about 1 min left")
+        progress.done = 9
+        self.assertEqual(progress.line(70), "9 of 10 cases, 1 min gone, about 10 s left")
+        progress.done = 10
+        self.assertEqual(progress.line(60), "10 of 10 cases, 1 min gone")
+        self.assertEqual(Progress(10, 0).line(5), "0 of 10 cases, 5 s gone")
+
+
+if __name__ == "__main__":
+    unittest.main()

@@ -1,0 +1,117 @@
+"""A works order: customers before, during and after, and which second failures hurt, against the model by its definitions."""
+
+import tomllib
+import unittest
+from collections import Counter
+
+from cases import CIRCUITS, Asking, document, expected, failures, script_of
+from rules import Rules
+
+from ringtools.failures import read_beforehand, works_steps
+from ringtools.plan import PlanProblem, read_plan
+
+NAMES = [name for name, *_ in CIRCUITS]
+
+
+def rules_of(script):
+    return Rules(tomllib.loads(document()) | {"script": script}, [128 * (k + 1) for k in range(script.count("settle"))])
+
+
+class Orders(unittest.TestCase):
+    """What an order comes to in steps, and how they are undone."""
+
+    def setUp(self):
+        self.plan = read_plan(document().encode())
+
+    def test_spans_and_nodes(self):
+        self.assertEqual(works_steps(self.plan, "span 2-9"), ["forced 2 east"])
+        self.assertEqual(works_steps(self.plan, "span 9–2"), ["forced 2 east"])
+        self.assertEqual(works_steps(self.plan, "span 5-4"), ["forced 4 east"])
+        self.assertEqual(works_steps(self.plan, "node 5"), ["forced 4 east", "forced 2 west"])
+        self.assertEqual(works_steps(self.plan, "manual 2 east"), ["manual 2 east"])
+        for words in ("span 5-9", "span 2-2", "span 2-7", "node 3"):
+            with self.subTest(words=words), self.assertRaises(PlanProblem):
+                works_steps(self.plan, words)
+
+    def test_a_ring_of_two(self):
+        """Both its spans join the same nodes: the one that leads eastwards from the first is meant."""
+        plan = read_plan(document([("p", 5, 2, 1)]).replace("nodes = [5, 2, 9, 4]", "nodes = [5, 2]").encode())
+        self.assertEqual([works_steps(plan, words) for words in ("span 5-2", "span 2-5")], [["forced 5 east"], ["forced 2 east"]])
+
+    def test_undoing(self):
+        """All is put back to what it was before the works, and what they set twice only once."""
+        also, works = "manual 2 east; degrade 9 east 4; cut 4 west", "forced 2 east; cut 9 east; mend 4 west; cut 5 east; manual 2 east; moment 7"
+        beforehand = read_beforehand(self.plan, also, works)
+        self.assertEqual(beforehand.undoing(), ["manual 2 east", "mend 5 east", "cut 4 west", "degrade 9 east 4"])
+        self.assertEqual(read_beforehand(self.plan, "", "clear 2 east; forced 2 east").undoing(), ["clear 2 east"])
+
+
+class Works(Asking):
+    def check_stages(self, script):
+        """The rows of the works, and their table in the page."""
+        rows = [row for row in self.table() if row["Case"] == "works"]
+        self.assertEqual([row["Stage"] for row in rows], ["before", "during", "after", "waited"])
+        rules = rules_of(script)
+        stages = [expected(rules, 128 * (k + 1)) for k in range(4)]
+        self.assertEqual([{name: row[name] for name in NAMES} for row in rows], stages)
+        touched = [name for name in NAMES if len({stage[name] for stage in stages}) > 1]
+        shown = self.page().table_named("Customers that the works touch")
+        self.assertEqual([row["customer"] for row in shown], touched)
+        for row in shown:
+            self.assertEqual(row["during"].startswith("over protection"), stages[1][row["customer"]].startswith("over"))
+            self.assertEqual(row["during"] == "lost", stages[1][row["customer"]] == "lost")
+        return stages
+
+    def second(self, works, kinds):
+        """What each second failure of these kinds takes besides what the works took, by the failure's name."""
+        found = {}
+        for name, cut in failures().items():
+            if name.startswith(kinds):
+                rules = rules_of(script_of(cut, works))
+                before, failed = expected(rules, 128), expected(rules, 256)
+                found[name] = [c for c in NAMES if failed[c] == "lost" and before[c] != "lost"]
+        return found
+
+    def check_second(self, works, kinds=("fibre", "span", "node"), of_what="a fibre, a span or a node"):
+        second, words = self.second(works, kinds), self.words()
+        hurting = {name: taken for name, taken in second.items() if taken}
+        self.assertIn(f"{len(hurting)} of {len(second)} second failures of {of_what} during the works take a customer.", words)
+        links = [found["href"] for found in self.page().all("a")]
+        self.assertTrue(all(f"cases/{name}.html" in links for name in hurting))
+        by_effect = Counter(", ".join(taken) for taken in hurting.values())
+        for row in self.page().table_with("second failure"):
+            taken = row["customers that it takes"].split(": ")[1]
+            self.assertEqual(len(row["second failure"].split(", ")), by_effect.pop(taken))
+        self.assertFalse(by_effect)
+
+    def test_a_forced_switch(self):
+        self.ask("--works", "span 2-9")
+        self.assertEqual(Counter(row["Kind"] for row in self.table()), {"works": 4, "fibre": 32, "span": 16, "node": 16})
+        stages = self.check_stages(["settle", "forced 2 east", "settle", "clear 2 east", "settle", "moment 10", "settle"])
+        self.assertEqual(stages[0], stages[2])
+        self.check_second(["forced 2 east"])
+        self.assertIn("Free of traffic under each of them: 1 span, 2–9.", self.words())
+        self.assertEqual(self.words().count("each customer as before."), 2)
+        self.assertIn("no switch is hitless", self.words())
+
+    def test_a_manual_switch_gives_way(self):
+        self.ask("--works", "manual 2 east")
+        self.check_second(["manual 2 east"])
+        gives_way = [name for name, cut in failures().items() if not name.startswith("pair") and 1 not in rules_of(script_of(cut, ["manual 2 east"])).applied(256)]
+        self.assertIn(f"The switch gives way under {len(gives_way)} of them: traffic comes back to 2–9, while people work there.", self.words())
+
+    def test_works_on_a_node(self):
+        """Its own customers are lost meanwhile, and second failures aren't blamed for them."""
+        self.ask("--works", "node 2", "--kinds", "span,pair")
+        steps = ["forced 5 east", "forced 9 west"]
+        stages = self.check_stages(["settle", *steps, "settle", "clear 9 west", "clear 5 east", "settle", "moment 10", "settle"])
+        self.assertEqual([name for name in NAMES if stages[1][name] == "lost"], ["near", "far"])
+        self.check_second(steps, ("span",), "a span")
+
+    def test_unknown_orders(self):
+        self.assertIn(b"no span leads from node 5 to node 9", self.ask("--works", "span 5-9", wanted=1).stderr)
+        self.assertIn(b"isn't known", self.ask("--works", "free 5-9", wanted=1).stderr)
+
+
+if __name__ == "__main__":
+    unittest.main()
