@@ -4,6 +4,7 @@ from html import escape
 
 from .failures import KINDS
 from .markup import count_of, names
+from .plan import enough
 
 KIND_WORDS = {"fibre": "fibre", "span": "span", "node": "node", "pair": "pair of spans"}
 KIND_PLURALS = {"fibre": "fibres", "span": "spans", "node": "nodes", "pair": "pairs of spans"}
@@ -12,16 +13,11 @@ NOT_ASKED = "Nothing is said of others, such as degradations, or a fibre and a n
 FEW = 6  # circuits for each of which a sentence names its failures
 
 
-def enough(plan):
-    """A limit with which every settle step of the proved program answers."""
-    return 64 * plan.size + 512
-
-
 def limit_advice(plan):
     settles = "with that the proved program always settles"
-    if plan.limit >= enough(plan):
-        return f"the limit of {plan.limit} is at least 64n + 512 = {enough(plan)}, and {settles}: another program answered, or a fault is found"
-    return f"raise `limit` from {plan.limit} to {enough(plan)}, which is 64n + 512 for {plan.size} nodes: {settles}"
+    if plan.limit >= enough(plan.size):
+        return f"the limit of {plan.limit} is at least 64n + 512 = {enough(plan.size)}, and {settles}: another program answered, or a fault is found"
+    return f"raise `limit` from {plan.limit} to {enough(plan.size)}, which is 64n + 512 for {plan.size} nodes: {settles}"
 
 
 class Answers:

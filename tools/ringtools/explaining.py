@@ -7,6 +7,7 @@ from difflib import get_close_matches
 from math import isinf
 
 from .checks import arc_of, refusals
+from .markup import count_of
 from .plan import PlanProblem, enough, read_document
 from .reasons import REASONS
 from .source import Place, Source
@@ -186,18 +187,14 @@ def summary(document):
     nodes, circuits, script = document["nodes"], document.get("circuit", []), document["script"]
     settles = script.count("settle")
     told = [
-        f"{len(nodes)} nodes at STM-{document['rate']}, {counted(len(circuits), 'circuit')}, "
-        f"{counted(len(script), 'step')}, {settles} of them `settle`",
+        f"{len(nodes)} nodes at STM-{document['rate']}, {count_of(len(circuits), 'circuit')}, "
+        f"{count_of(len(script), 'step')}, {settles} of them `settle`",
         "nodes eastwards: " + " ".join(map(str, nodes)),
     ]
     for table in circuits:
-        spans = counted(len(arc_of(table, nodes)), "span")
+        spans = count_of(len(arc_of(table, nodes)), "span")
         told.append(f"circuit {table['name']}: {table['from']}>{table['to']}, slot {table['slot']}, {spans}")
     return told
-
-
-def counted(number, thing):
-    return f"{number} {thing}" + ("" if number == 1 else "s")
 
 
 def text_warnings(document, source):

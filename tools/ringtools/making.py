@@ -4,7 +4,8 @@ import re
 from dataclasses import dataclass
 
 from .checks import arc_of
-from .explaining import counted, explain
+from .explaining import explain
+from .markup import count_of
 from .plan import enough, quoted
 
 # Lengths of texts that don't divide 2340, so that each report shows another front of them.
@@ -77,7 +78,7 @@ def slots_of(asked):
 
 def head_of(asked):
     rate = {4: "STM-4, with 2 working slots on each span", 16: "STM-16, with 8 working slots on each span"}[asked.rate]
-    return f"""# A ring of {counted(len(asked.nodes), "node")}, made by `tools/plan new`. Every key is told in docs/FORMATS.md.
+    return f"""# A ring of {count_of(len(asked.nodes), "node")}, made by `tools/plan new`. Every key is told in docs/FORMATS.md.
 #
 #   ./sdhring run < {asked.name}     runs it
 #   tools/explain {asked.name}       says whether it is good, or what is wrong and where
@@ -113,7 +114,7 @@ def script_of(asked):
 
 def circuit_of(asked, number, slot):
     name, start, end = asked.circuits[number]
-    spans = counted(len(arc_of({"from": start, "to": end}, list(asked.nodes))), "span")
+    spans = count_of(len(arc_of({"from": start, "to": end}, list(asked.nodes))), "span")
     return f"""
 # Leads eastwards from node {start} to node {end} over {spans}. Port a is at node {start}, port b at node {end}.
 [[circuit]]
@@ -131,7 +132,7 @@ def new_plan(asked):
     if asked.rate not in (4, 16):
         raise MakingProblem(f"rate {asked.rate}: 4 or 16 is wanted")
     if not 2 <= len(asked.nodes) <= 16:
-        raise MakingProblem(f"{counted(len(asked.nodes), 'node')}: a ring has 2 to 16")
+        raise MakingProblem(f"{count_of(len(asked.nodes), 'node')}: a ring has 2 to 16")
     if long := [name for name, _, _ in asked.circuits if len(name) > 16]:
         raise MakingProblem(f"circuit {long[0]}: a name has at most 16 characters")
     circuits = [circuit_of(asked, number, slot) for number, slot in enumerate(slots_of(asked))]
