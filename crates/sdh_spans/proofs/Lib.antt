@@ -4,6 +4,7 @@ pub mod Parities
 pub mod Sections
 pub mod Finding
 pub mod Sends
+pub mod Ports
 pub mod Reading
 pub mod Spans
 pub mod Steady

@@ -4,6 +4,9 @@ use Rattle.sdh_frame.specs.declared.Rate.{Rate}
 use Rattle.sdh_frame.specs.Sizes.{n_of}
 use Rattle.sdh_ringmap.specs.declared.Side.{Side}
 use Rattle.sdh_kbytes.specs.declared.K.{K}
+use Rattle.sdh_payload.specs.Clock.{next_form}
+use Rattle.sdh_payload.specs.Feed.{Fed}
+use Rattle.sdh_payload.specs.declared.chunk.ChunkForm.TheVariants.{Plain}
 use Rattle.sdh_payload.specs.Outlet.{Outlet, silent}
 use Rattle.sdh_pointer.specs.declared.reading.Reading.{Reading}
 use Rattle.sdh_pointer.specs.Reading.{start}
@@ -18,7 +21,9 @@ use Rattle.sdh_terminal.specs.Lines.{Lines, line_on, received}
 use Rattle.sdh_terminal.specs.Sending.{Sending}
 use Rattle.sdh_spans.specs.Frames.{CarriesWord}
 use Rattle.sdh_spans.specs.Sides.{IsInletAt, IsSenderAt, SendsSo, FindsNothing, IsTold, FindsSo}
-use Rattle.sdh_spans.specs.Brought.{Brings, HasValue}
+use Rattle.sdh_terminal.specs.Outlets.{delivered_from}
+use Rattle.sdh_terminal.specs.Tributaries.{input_by, sent_in}
+use Rattle.sdh_spans.specs.Brought.{Brings, HasValue, plainly}
 use Rattle.sdh_spans.specs.Spans.{IsSpan, line_after, TakesWord, word_behind, IsConstant, GoesBy, TakesBehind}
 
 -- ---- frames
@@ -43,6 +48,16 @@ UntoldSidesFindNothing = (threshold : ℕ) (i : Inlet) → i.arrived ≡ None �
 abbrev pub SidesFindSo : Type 0
 SidesFindSo = (at : Rate) (c : Condition) (k : K) (line : List ℕ) (threshold : ℕ) (i : Inlet) → IsTold at c k line i → FindsSo at c k line threshold i
 
+-- ---- ports
+
+-- what an AU-4 brings is what a port delivers of it
+abbrev pub PortsDeliver : Type 0
+PortsDeliver = (i : Input) (b : Outlet) → HasValue b → Brings i b → delivered_from i ≡ b
+
+-- and a port that justifies nothing brings the next bytes of its stream
+abbrev pub PortsBring : Type 0
+PortsBring = (feed : Fed) → next_form feed.clock ≡ Plain → Brings (input_by (sent_in feed)) (plainly feed.port feed.clock)
+
 -- ---- one span in one round
 
 -- the interpreter of each AU-4 takes the word that the generator of the AU-4 sent, or ones where the fibre is cut
@@ -56,9 +71,9 @@ SpansBring = (at : Rate) (c : Condition) (input : ℕ → Input) (x : Sending) (
     → is_cut c ≡ false → (after_taking threshold i).readings ≡ i.readings → slice_index_or x.generators k None ≡ next_sending (slice_index_or x.generators k None) (input (k + 1)).action (input (k + 1)).value
     → (b : Outlet) → HasValue b → Brings (input (k + 1)) b → Brings (received l d (k + 1)) b
 
--- and where the fibre is cut AIS comes, whatever went in
+-- and where the fibre is cut AIS comes, whatever was sent
 abbrev pub CutSpansBringAis : Type 0
-CutSpansBringAis = (at : Rate) (c : Condition) (input : ℕ → Input) (x : Sending) (i : Inlet) (threshold : ℕ) (l : Lines) (d : Side) (k : ℕ) → IsSpan at c input x i → line_on l d ≡ line_after threshold i → k + 1 ≤ n_of at
+CutSpansBringAis = (at : Rate) (c : Condition) (w : K) (line : List ℕ) (i : Inlet) (threshold : ℕ) (l : Lines) (d : Side) (k : ℕ) → IsTold at c w line i → line_on l d ≡ line_after threshold i → k + 1 ≤ n_of at
     → is_cut c ≡ true → (after_taking threshold i).readings ≡ i.readings → Brings (received l d (k + 1)) silent
 
 -- ---- one span in many rounds

@@ -4,7 +4,7 @@
 //! Each function here is a law: it does nothing, and its contract is the law, whose words are in `specs/`.
 #![tactic(auto)]
 
-ghost use Rattle.sdh_spans.specs.Laws.{FramesComeThrough, SidesSendSo, InletsStay, UntoldSidesFindNothing, SidesFindSo, SpansTakeWords, SpansBring, CutSpansBringAis, GeneratorsRest, SpansAreSteady};
+ghost use Rattle.sdh_spans.specs.Laws.{FramesComeThrough, SidesSendSo, InletsStay, UntoldSidesFindNothing, SidesFindSo, PortsDeliver, PortsBring, SpansTakeWords, SpansBring, CutSpansBringAis, GeneratorsRest, SpansAreSteady};
 
 /// A frame says its word behind every fibre that isn't cut.
 pub fn frames_come_through()
@@ -29,6 +29,16 @@ pub fn untold_sides_find_nothing()
 /// A side fails exactly where its fibre is cut, and else finds the word, the degradation and the AU-4s that were sent.
 pub fn sides_find_so()
     ensures { SidesFindSo }
+{}
+
+/// A port delivers what its AU-4 brings.
+pub fn ports_deliver()
+    ensures { PortsDeliver }
+{}
+
+/// A port that justifies nothing brings the next bytes of its stream.
+pub fn ports_bring()
+    ensures { PortsBring }
 {}
 
 /// An interpreter takes the word that the generator before its span sent one round earlier.
