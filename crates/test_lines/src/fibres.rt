@@ -1,4 +1,4 @@
-//! What comes out of each plant, degraded, recorded and told, at both rates.
+//! What comes out of each plant, and out of degraded fibres, at both rates.
 ghost use Rattle.std.specs.Prelude.{◌≡◌, ◌+◌, ◌*◌, ◌<◌, ◌≤◌, All, IfOk};
 ghost use Rattle.sdh_frame.specs.Sizes.{n_of};
 ghost use Rattle.sdh_plant.specs.Fibres.{HasNoFibres};
@@ -6,8 +6,8 @@ ghost use Rattle.sdh_plant.specs.Kept.{IsToldAt};
 
 use sdh_frame::{FrameBuf, Rate};
 use sdh_plant::{
-    Arrived, Condition, FailingPlant, FibreEvent, FibrePlant, Plant, PlantCall, PrepareError,
-    RecordingPlant, Told, ToldPlant,
+    Arrived, Condition, FailingPlant, FibreEvent, FibrePlant, Plant, PlantCall, RecordingPlant,
+    Told, ToldPlant,
 };
 use sdh_ringmap::{Pos, Side};
 use std::alloc::{AllocError, Global};
@@ -121,36 +121,6 @@ fn a_degraded_fibre_inverts_the_first_columns_of_row_6(rt: HostRuntime) -> Resul
     Ok(())
 }
 
-#[test]
-fn a_recording_plant_fails_past_its_room(rt: HostRuntime) -> Result<(), Fail> {
-    // The rate, the room, and which of three frames is sent.
-    let rows = [
-        (Rate::Four, 0, [false, false, false]),
-        (Rate::Four, 1, [true, false, false]),
-        (Rate::Four, 3, [true, true, true]),
-        (Rate::Sixteen, 2, [true, true, false]),
-    ];
-    for (rate, room, wants) in rows {
-        let mut plant = RecordingPlant::new(room);
-        plant
-            .prepare(rt.alloc(), rate, 2)
-            .map_err(|_| "not prepared")?;
-        let mut frame = frame_of(rt.alloc(), rate, 0)?;
-        let sent = [
-            sends(&mut plant, Pos(0), Side::West, &mut frame, 0),
-            sends(&mut plant, Pos(1), Side::West, &mut frame, 1),
-            sends(&mut plant, Pos(0), Side::West, &mut frame, 2),
-        ];
-        assert_eq!(rt; sent, wants, "{room}");
-        let frames = plant.sent();
-        assert_eq!(rt; frames.len(), room);
-        for i in 0..frames.len() {
-            assert!(rt; i < 3 && is_full_of(&frames[i], i as u8), "{room} {i}");
-        }
-    }
-    Ok(())
-}
-
 // Two frames, of bytes 1 and 2, and darkness between them.
 fn three_arrivals(alloc: Global, rate: Rate) -> Result<Vec<Told>, Fail>
     ensures { IfOk result (λ v. All (IsToldAt rate) v.items) }
@@ -160,34 +130,6 @@ fn three_arrivals(alloc: Global, rate: Rate) -> Result<Vec<Told>, Fail>
     arrivals.push(Told::Dark)?;
     arrivals.push(Told::Frame(frame_of(alloc, rate, 2)?))?;
     Ok(arrivals)
-}
-
-#[test]
-fn a_told_plant_gives_its_arrivals_in_order(rt: HostRuntime) -> Result<(), Fail> {
-    // The rate of the arrivals, the rate that is prepared for, and what comes.
-    let rows = [
-        (Rate::Four, Rate::Four, [1, DARK, 2, DARK, DARK]),
-        (Rate::Four, Rate::Sixteen, [DARK; 5]),
-        (Rate::Sixteen, Rate::Sixteen, [1, DARK, 2, DARK, DARK]),
-        (Rate::Sixteen, Rate::Four, [DARK; 5]),
-    ];
-    for (told, rate, wants) in rows {
-        let mut plant = ToldPlant::new(told, three_arrivals(rt.alloc(), told)?);
-        plant
-            .prepare(rt.alloc(), rate, 2)
-            .map_err(|_| "not prepared")?;
-        let mut frame = frame_of(rt.alloc(), rate, 0)?;
-        assert!(rt; sends(&mut plant, Pos(1), Side::East, &mut frame, 0x35));
-        let all = [
-            came(&mut plant, Pos(0), Side::West, &mut frame),
-            came(&mut plant, Pos(0), Side::East, &mut frame),
-            came(&mut plant, Pos(1), Side::West, &mut frame),
-            came(&mut plant, Pos(1), Side::East, &mut frame),
-            came(&mut plant, Pos(0), Side::West, &mut frame),
-        ];
-        assert_eq!(rt; all, wants.map(Some));
-    }
-    Ok(())
 }
 
 // Prepares a plant, sends a frame over a span, and answers what comes.
@@ -216,46 +158,5 @@ fn a_span_of_any_plant(rt: HostRuntime) -> Result<(), Fail> {
         let came = over_a_span(rt.alloc(), &mut told, rate)?;
         assert_eq!(rt; came, Some(1));
     }
-    Ok(())
-}
-
-// Each kind is counted by itself, and a call that fails changes nothing but its count.
-#[test]
-fn a_failing_plant_fails_at_its_calls(rt: HostRuntime) -> Result<(), Fail> {
-    let calls = [
-        (PlantCall::Prepare, 1),
-        (PlantCall::Receive, 2),
-        (PlantCall::Send, 2),
-        (PlantCall::Apply, 1),
-    ];
-    let mut plant = FailingPlant::new(rt.alloc(), &calls)?;
-    let refused = plant.prepare(rt.alloc(), Rate::Four, 2);
-    assert_eq!(rt; refused, Err(PrepareError::Failed));
-    if refused.is_ok() {
-        return Ok(());
-    }
-    plant
-        .prepare(rt.alloc(), Rate::Four, 2)
-        .map_err(|_| "not prepared")?;
-    let mut frame = frame_of(rt.alloc(), Rate::Four, 0)?;
-    assert!(rt; sends(&mut plant, Pos(0), Side::East, &mut frame, 0x35));
-    assert!(rt; !sends(&mut plant, Pos(0), Side::East, &mut frame, 0x36));
-    let cut = FibreEvent {
-        at: Pos(0),
-        side: Side::East,
-        condition: Condition::Cut,
-    };
-    assert!(rt; plant.apply(cut).is_err());
-    let all = [
-        came(&mut plant, Pos(1), Side::West, &mut frame),
-        came(&mut plant, Pos(1), Side::West, &mut frame),
-        came(&mut plant, Pos(1), Side::West, &mut frame),
-    ];
-    assert_eq!(rt; all, [Some(0x35), None, Some(0x35)]);
-    assert!(rt; plant.apply(cut).is_ok());
-    assert_eq!(rt;
-        came(&mut plant, Pos(1), Side::West, &mut frame),
-        Some(DARK)
-    );
     Ok(())
 }

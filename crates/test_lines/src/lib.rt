@@ -1,5 +1,5 @@
 //! What stands below nodes and goes over a line, as tests: frames and their sections, parities, pointers, payloads, watches on
-//! them, elastic stores and fibres. No other crate stands on this one.
+//! them, retiming and fibres. No other crate stands on this one.
 #![tactic(auto)]
 
 #[cfg(test)]
@@ -16,7 +16,5 @@ mod pointers;
 mod retiming;
 #[cfg(test)]
 mod sections;
-#[cfg(test)]
-mod stores;
 #[cfg(test)]
 mod watches;
