@@ -31,7 +31,7 @@ use Rattle.sdh_carrying.specs.Windows.{layout_of, HasCircuits, AreSettled, reque
 use Rattle.sdh_carrying.proofs.Applied.{length-requests_of}
 use Rattle.sdh_carrying.proofs.Settles.{each_settled}
 use Rattle.sdh_carrying.proofs.Ways.{layout_run}
-use Rattle.sdh_converging.specs.Steady.{IsAtRest, HasStillPointers}
+use Rattle.sdh_converging.specs.Steady.{StaysSettled, HasStillPointers}
 use Rattle.sdh_converging.specs.Laws.{RoundsGetCalm, WindowsComeSoon, RingsConverge, StepsAnswer}
 use Rattle.sdh_rounds.specs.Quiet.{enough_for}
 use Rattle.sdh_converging.proofs.Runs.{length_run, condition_run, run_more}
@@ -93,7 +93,7 @@ module _ (w : World) (whole : IsWhole w) (form : HasCircuits (layout_of w)) (sti
   abbrev base : ℕ
   base = 4 * n + 109
 
-  at_rest : IsAtRest (run base w) rs
+  at_rest : StaysSettled (run base w) rs
   at_rest = record {
     spans = length-requests_of (run 103 w) n (nodes_run 103) ∙ ap length (sym (left_run base w).ids);
     unslipped = still.slips base (omega arith);

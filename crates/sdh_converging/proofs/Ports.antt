@@ -66,7 +66,7 @@ clock_there w q id = option_map_or (λ (t : Tributary). Some t.feed.clock) (port
 abbrev pub value_there : World → ℕ → PortId → Option ℕ
 value_there w q id = option_map (λ (c : Clock). c.value) (clock_there w q id)
 
-clock_next : (w : World) → IsWhole w → (q : ℕ) (id : PortId) → q < length w.ring.nodes → clock_there (round w) q id ≡ option_map ticked (clock_there w q id)
+pub clock_next : (w : World) → IsWhole w → (q : ℕ) (id : PortId) → q < length w.ring.nodes → clock_there (round w) q id ≡ option_map ticked (clock_there w q id)
 unfolding node_round with_calm after_crossing ports_after all_delivered
 clock_next w whole q id h =
     ap (λ (y : Node). option_map_or (λ (t : Tributary). Some t.feed.clock) (port_of id y.ports) None) (nodes_after w whole.placed q h)
@@ -132,7 +132,7 @@ source_at w q (Add id) = value_there w q id
 source_at w q (Working d) = None
 source_at w q (Protection d) = None
 
-abbrev HasSmall : Tributary → Type 0
+abbrev pub HasSmall : Tributary → Type 0
 HasSmall t = t.feed.port.offset ≤ 782
 
 end_small : (b : Bool) (t : Tributary) → HasSmall t → All HasSmall (if b then t ∷ [] else [])
@@ -158,7 +158,7 @@ fixed_small (t ∷ ts) (u ∷ us) same all =
     let rest : map fixed_port ts ≡ map fixed_port us = cc in
     All-cons HasSmall t ts (subst (λ (f : FixedPort). f.customer.offset ≤ 782) (sym head) (all 0 u (omega arith))) (fixed_small ts us rest (λ k d h. all (suc k) d (omega arith)))
 
-ports_small : (w : World) → IsWhole w → All HasOffsets w.ring.circuits.circuits → (q : ℕ) → q < length w.ring.nodes → All HasSmall (node_at w.ring.nodes q).ports
+pub ports_small : (w : World) → IsWhole w → All HasOffsets w.ring.circuits.circuits → (q : ℕ) → q < length w.ring.nodes → All HasSmall (node_at w.ring.nodes q).ports
 unfolding tributaries_at
 ports_small w whole all q h =
     fixed_small (node_at w.ring.nodes q).ports (tributaries_at (position_of q) w.ring.circuits.circuits) (node_of w whole q h).ports_are (ends_small (position_of q) 0 w.ring.circuits.circuits all)

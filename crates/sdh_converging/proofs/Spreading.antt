@@ -30,7 +30,7 @@ use Rattle.sdh_carrying.proofs.Connections.{SendsWorking, SendsProtection, Bring
 use Rattle.sdh_carrying.proofs.Ways.{layout_run}
 use Rattle.sdh_spans.specs.Spans.{IsConstant}
 use Rattle.sdh_spans.proofs.Steady.{constant_as, constant_later}
-use Rattle.sdh_converging.specs.Steady.{went, came, brought, IsAtRest, HasStillPointers}
+use Rattle.sdh_converging.specs.Steady.{went, came, brought, StaysSettled, HasStillPointers}
 use Rattle.sdh_converging.specs.Laws.{PointersRest}
 use Rattle.sdh_converging.proofs.Runs.{length_run, rate_run}
 use Rattle.sdh_converging.proofs.Spans.{a_span_is_steady, sending_rests, reading_rests}
@@ -79,7 +79,7 @@ module _ (w : World) (whole : IsWhole w) where
 
 -- ---- in settled states
 
-module _ (w : World) (whole : IsWhole w) (form : HasCircuits (layout_of w)) (rs : List ℕ) (rest : IsAtRest w rs) where
+module _ (w : World) (whole : IsWhole w) (form : HasCircuits (layout_of w)) (rs : List ℕ) (rest : StaysSettled w rs) where
   starts : (p m : ℕ) (o : Origin) → p < n w whole → IsOver o → IsConstant (brought w p m o) 0
   starts p m o h over =
       let source = source_at w p o in

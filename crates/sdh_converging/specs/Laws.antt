@@ -15,7 +15,7 @@ use Rattle.sdh_world.specs.Laws.{MayHappen}
 use Rattle.sdh_hearing.specs.Laws.{IsWhole, MayStart}
 use Rattle.sdh_carrying.specs.Windows.{layout_of, HasCircuits}
 use Rattle.sdh_spans.specs.Spans.{IsConstant}
-use Rattle.sdh_converging.specs.Steady.{went, came, IsAtRest, HasStillPointers}
+use Rattle.sdh_converging.specs.Steady.{went, came, StaysSettled, HasStillPointers}
 
 -- What goes into an AU-4 with one action and one value from round k on comes out on the other side of the span, or AIS where
 -- its fibre is cut, with one action and one value nine rounds later, whatever its generator and its interpreter kept.
@@ -26,7 +26,7 @@ ASpanIsSteady = (w : World) → IsWhole w → (p : ℕ) (d : Side) (au k : ℕ) 
 -- Where the nodes stay in settled states, no pointer moves after 27n + 18 rounds: nine for each span of the longest walk, and
 -- for one span more.
 abbrev pub PointersRest : Type 0
-PointersRest = (w : World) (rs : List ℕ) → IsWhole w → HasCircuits (layout_of w) → IsAtRest w rs → (j : ℕ) → 27 * length w.ring.ids + 18 ≤ j → HasStillPointers w j
+PointersRest = (w : World) (rs : List ℕ) → IsWhole w → HasCircuits (layout_of w) → StaysSettled w rs → (j : ℕ) → 27 * length w.ring.ids + 18 ≤ j → HasStillPointers w j
 
 -- a window ends with this round, which is at most so late
 pub record WindowBy (w : World) (most : ℕ) : Type 0 where

@@ -30,7 +30,7 @@ abbrev pub IsUnslipped : World → Type 0
 IsUnslipped w = AtEach (λ p n. NoneWait n.ports) w.ring.nodes
 
 -- no slip waits, and after each round the nodes are in the settled states of these requests of spans
-pub record IsAtRest (w : World) (rs : List ℕ) : Type 0 where
+pub record StaysSettled (w : World) (rs : List ℕ) : Type 0 where
   pub spans : length rs ≡ length w.ring.ids
   pub unslipped : IsUnslipped w
   pub settled_are : (k : ℕ) → 1 ≤ k → AreSettled (length w.ring.ids) rs (run k w)

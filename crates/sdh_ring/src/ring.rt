@@ -20,6 +20,9 @@ ghost use Rattle.sdh_hearing.specs.Laws.{IsWhole, GoesAsSignals};
 ghost use Rattle.sdh_carrying.specs.Windows.{layout_in, HasCircuits};
 ghost use Rattle.sdh_carrying.specs.Laws.{Restores};
 ghost use Rattle.sdh_rounds.specs.Quiet.{enough_for};
+ghost use Rattle.sdh_resting.specs.Rest.{IsAtRest, StaysAtRest};
+ghost use Rattle.sdh_resting.specs.Laws.{LeavesAtRest};
+ghost use Rattle.sdh_payload.specs.Clock.{Clock};
 ghost use Rattle.sdh_ring.specs.Outcome.{Outcome};
 ghost use Rattle.sdh_ring.specs.Faults.{BreaksRound, BreaksStep};
 ghost use Rattle.sdh_circuits.specs.Provisioned.{end_of};
@@ -261,6 +264,9 @@ impl Ring {
         // nodes.
         ensures signals { OnOk result (IsWhole (world self.old (P.fibres plant.old)) → GoesAsSignals (world self.old (P.fibres plant.old)) (world self.new (P.fibres plant.new))) }
 
+        // A ring at rest delivers what is owed in a calm round, and stays at rest.
+        ensures rest { OnOk result ((clocks : PortId → ℕ → Clock) → IsAtRest clocks (world self.old (P.fibres plant.old)) → StaysAtRest clocks (world self.new (P.fibres plant.new))) }
+
         // A fault breaks the ring. The first frames of the round may have been sent, and the clocks of ports have gone on where their
         // nodes had the round before it.
         ensures err { OnErr result (IsBrokenOff (world self.old (P.fibres plant.old)) (P.fibres plant.new)) }
@@ -273,6 +279,7 @@ impl Ring {
         ensures counted { IsCounted P.exact (IsErr result) (P.faults plant.old) (P.faults plant.new) }
     {
         sdh_hearing::whole_rounds_go_as_signals();
+        sdh_resting::rest_goes_on();
         self.broken = true;
         hear(self.rounds, &mut self.nodes, &mut self.arrived, plant)?;
         send_all(
@@ -349,6 +356,9 @@ impl Ring {
         // Where what comes is what was sent, each node is in its settled state then, and each port has delivered what it is owed.
         ensures restored { OnOk result (Restores (world self.old (P.fibres plant.old)) (world self.new (P.fibres plant.new))) }
 
+        // Ring and fibres are at rest then.
+        ensures rests { OnOk result (LeavesAtRest (world self.old (P.fibres plant.old)) (world self.new (P.fibres plant.new))) }
+
         // And with so large a limit a window does end, whatever happened before, where no fault breaks the step off.
         ensures answers { IsWhole (world self.old (P.fibres plant.old)) → enough_for (length self.old.ids) ≤ limit → result ≢ Err SettleError.Unsettled }
 
@@ -369,6 +379,7 @@ impl Ring {
         sdh_rounds::settled_numbers::<Adm>();
         sdh_hearing::steps_stay_whole();
         sdh_carrying::settled_rings_are_restored();
+        sdh_resting::steps_leave_at_rest();
         sdh_converging::steps_answer();
         let mut calm = 0u32;
         'rounds: for _turn in 0..limit {

@@ -125,3 +125,6 @@ returns-clause-prepared g c =
 
 pub returns-clause-signals : goal.returns-clause-signals
 returns-clause-signals g c = λ whole. c.whole_rounds_go_as_signals.ensures _ _ whole (returns-clause-ok g c)
+
+pub returns-clause-rest : goal.returns-clause-rest
+returns-clause-rest g c = λ clocks rests. c.rest_goes_on.ensures _ _ (returns-clause-ok g c) clocks rests

@@ -44,6 +44,9 @@ returns-then-is_over-clause-outcome g c =
 pub returns-then-is_over-clause-restored : goal.returns-then-is_over-clause-restored
 returns-then-is_over-clause-restored g c = c.settled_rings_are_restored.ensures _ _ c.args.limit c.has_circuits.ensures (returns-then-is_over-clause-outcome g c)
 
+pub returns-then-is_over-clause-rests : goal.returns-then-is_over-clause-rests
+returns-then-is_over-clause-rests g c = c.steps_leave_at_rest.ensures _ _ c.args.limit c.has_circuits.ensures (returns-then-is_over-clause-outcome g c)
+
 pub returns-then-is_over-clause-numbers : goal.returns-then-is_over-clause-numbers
 returns-then-is_over-clause-numbers g c = c.settled_numbers.ensures _ _ c.args.limit (let enough = c.requires.prepared.enough in omega arith) (returns-then-is_over-clause-outcome g c)
 
