@@ -1,8 +1,8 @@
 -- What follows of the definitions of this crate: they are no weaker than this.
 use Rattle.std.specs.Prelude.{ℕ, ◌≡◌, ◌≤◌, ◌+◌, ◌%◌, false, List, [], ◌∷◌}
 use Rattle.sdh_ringmap.specs.declared.Side.{Side}
-use Rattle.sdh_plant.specs.declared.plant.Condition.{Condition}
-use Rattle.sdh_plant.specs.Fibres.{fibre, fibre_to}
+use Rattle.sdh_terms.specs.declared.Condition.{Condition}
+use Rattle.sdh_terms.specs.Fibres.{fibre, fibre_to}
 use Rattle.sdh_payload.specs.declared.clock.Turn.{Turn}
 use Rattle.sdh_payload.specs.History.{Happening}
 use Rattle.sdh_circuits.specs.declared.End.{End}
