@@ -10,7 +10,7 @@ use Rattle.sdh_report.specs.declared.status.Status.TheVariants as status
 use Rattle.sdh_report.specs.declared.listing.Listing.{Listing}
 use Rattle.sdh_report.specs.Reports.{Report, text_of}
 use Rattle.sdh_report.specs.Statuses.{last_line}
-use Rattle.sdh_converging.specs.Laws.{enough_for}
+use Rattle.sdh_rounds.specs.Quiet.{enough_for}
 use Rattle.sdh_owed.specs.Healthy.{AllSettle}
 use Rattle.sdh_script.specs.Plans.{world_of, ran_of, MaySettle, ShowsHealth}
 use Rattle.sdh_promise.specs.Plans.{OwesAll}
