@@ -16,7 +16,7 @@ use Rattle.sdh_payload.proofs.Clocking.{goes_plain, plain_tick}
 use Rattle.sdh_bridge.specs.declared.Origin.{Origin}
 use Rattle.sdh_bridge.specs.declared.Origin.TheVariants.{Add, Working, Protection, Ais}
 use Rattle.sdh_nodestate.specs.declared.NodeState.{NodeState}
-use Rattle.sdh_restoration.specs.Settled.{settled}
+use Rattle.sdh_settling.specs.Settled.{settled}
 use Rattle.sdh_settling.specs.Laws.{StillRingsAreSettled}
 use Rattle.sdh_routes.specs.Walks.{IsOver, IsArrival, back_from, working_in, protection_in}
 use Rattle.sdh_routes.specs.Rounds.{Spreads}

@@ -4,7 +4,7 @@ use Rattle.std.specs.Prelude.{true, nat_le}
 use Rattle.std.proofs.lemmas.Bool.{cases_lt}
 use Rattle.sdh_payload.specs.Clock.{Clock}
 use Rattle.sdh_circuits.specs.declared.PortId.{PortId}
-use Rattle.sdh_restoration.specs.Settled.{settled_states}
+use Rattle.sdh_settling.specs.Settled.{settled_states}
 use Rattle.sdh_settling.specs.Laws.{StillRingsAreSettled}
 use Rattle.sdh_node.specs.Node.{Node, is_held}
 use Rattle.sdh_node.specs.Stations.{adm}

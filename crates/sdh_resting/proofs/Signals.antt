@@ -10,7 +10,7 @@ use Rattle.sdh_kbytes.specs.declared.K.{K}
 use Rattle.sdh_nodestate.specs.declared.Needs.{Needs}
 use Rattle.sdh_nodestate.specs.declared.Sent.{Sent}
 use Rattle.sdh_nodestate.specs.Filtering.{Brought, with_brought, hears, heard_of}
-use Rattle.sdh_restoration.specs.Settled.{settled_states}
+use Rattle.sdh_settling.specs.Settled.{settled_states}
 use Rattle.sdh_settling.specs.Signals.{Signals, Filters, free_round, request_on, no_needs}
 use Rattle.sdh_settling.specs.Laws.{StillRingsAreSettled}
 use Rattle.sdh_terms.specs.declared.Condition.{Condition}
