@@ -1,7 +1,7 @@
 pub mod Lists
 mod Counting
 mod Requests
-mod OneNode
+pub mod OneNode
 mod Sources
 mod Bare
 mod Runs
@@ -11,7 +11,7 @@ mod Levels
 mod Agreement
 mod Reach
 mod Firsts
-mod Ends
+pub mod Ends
 mod Standing
 mod RunLaw
 mod Convergence
