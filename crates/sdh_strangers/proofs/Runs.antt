@@ -14,7 +14,8 @@ use Rattle.sdh_request.specs.declared.settings.Settings.{Settings}
 use Rattle.sdh_node.specs.Stations.{adm}
 use Rattle.sdh_world.specs.Rounds.{World, round}
 use Rattle.sdh_world.specs.Runs.{run}
-use Rattle.sdh_world.specs.Changes.{Change, Fibre, Order, Hold, Slip, Now, Stretch, rounds_in}
+use Rattle.sdh_promise.specs.Changes.{Change, Stretch, rounds_in}
+use Rattle.sdh_promise.specs.Changes.{Fibre, Order, Hold, Slip, Now}
 use Rattle.sdh_world.specs.Changes.{changed, all_changed, after_stretch, new_world}
 use Rattle.sdh_world.specs.Clocks.{clocks_by, clock_in}
 use Rattle.sdh_world.specs.Clocks.{HasPortIn, clock_at}

@@ -32,7 +32,8 @@ use Rattle.sdh_node.specs.Node.{Node, new_node, at_receiving, held_for, slips_at
 use Rattle.sdh_node.proofs.Decided.{turns_left}
 use Rattle.sdh_world.specs.Held.{node_at, AtEach, outlet_at, at_place, place_of_port}
 use Rattle.sdh_world.specs.Rounds.{World, round}
-use Rattle.sdh_world.specs.Changes.{Change, Fibre, Order, Hold, Slip, Now}
+use Rattle.sdh_promise.specs.Changes.{Change}
+use Rattle.sdh_promise.specs.Changes.{Fibre, Order, Hold, Slip, Now}
 use Rattle.sdh_world.specs.Changes.{changed, new_world}
 use Rattle.sdh_world.specs.Clocks.{clock_at}
 use Rattle.sdh_world.specs.Laws.{IsChangeOf}

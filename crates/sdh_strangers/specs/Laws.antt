@@ -11,7 +11,8 @@ use Rattle.sdh_request.specs.declared.settings.Settings.{Settings}
 use Rattle.sdh_world.specs.Rounds.{World, round}
 use Rattle.sdh_world.specs.Runs.{IsRound, run}
 use Rattle.sdh_world.specs.Quiet.{Settles, Unsettles}
-use Rattle.sdh_world.specs.Changes.{Change, Fibre, Order, Hold, Slip, Now, Stretch, rounds_in}
+use Rattle.sdh_promise.specs.Changes.{Change, Stretch, rounds_in}
+use Rattle.sdh_promise.specs.Changes.{Fibre, Order, Hold, Slip, Now}
 use Rattle.sdh_world.specs.Changes.{changed, new_world}
 use Rattle.sdh_world.specs.Clocks.{clocks_by}
 use Rattle.sdh_world.specs.Laws.{IsChangeOf, MayHappen}

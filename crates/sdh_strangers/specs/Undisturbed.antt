@@ -17,13 +17,13 @@ use Rattle.sdh_restoration.specs.Due.{other_end}
 use Rattle.sdh_request.specs.declared.settings.Settings.{Settings}
 use Rattle.sdh_world.specs.Held.{outlet_at}
 use Rattle.sdh_world.specs.Rounds.{round}
-use Rattle.sdh_world.specs.Changes.{Stretch, rounds_in}
+use Rattle.sdh_promise.specs.Changes.{Stretch, rounds_in}
 use Rattle.sdh_world.specs.Changes.{new_world}
 use Rattle.sdh_world.specs.Clocks.{clocks_by}
 use Rattle.sdh_world.specs.Laws.{MayHappen}
 use Rattle.sdh_world.specs.Sides.{world_in}
 use Rattle.sdh_hearing.specs.Laws.{MayStart}
-use Rattle.sdh_hearing.specs.Laws.{asked_in}
+use Rattle.sdh_promise.specs.Owed.{asked_in}
 use Rattle.sdh_strangers.specs.Owners.{port_named}
 
 -- ---- the law
