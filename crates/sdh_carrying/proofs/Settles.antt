@@ -151,15 +151,15 @@ pub due_by : (n : ℕ) (applied : ℕ → Bool) (c : Provisioned) (e : End) (f g
 unfolding due
 due_by n applied c e f g t same = ap (λ (k : Clock). if is_joined n applied (arc_of n c) then plainly (customer_at c (other_end e)) k else silent) same
 
-module _ (law : StillRingsAreSettled) (s : Settings) (ids : List ℕ) (circuits : Provisioning) (f : Fibres) (earlier : List Stretch) (last : Stretch) (t : ℕ) (may : MayStart s ids f) (happen : MayHappen (new_world s ids circuits f) (earlier ++ last ∷ []))
-    (form : AreCircuits (length ids) (n_of s.rate / 2) circuits.circuits) (ends : EndsWindow (course (all_changed last.changes (after_stretches earlier (new_world s ids circuits f)))) last.rounds) (many : rounds_in (earlier ++ last ∷ []) ≡ t + 1) where
-  abbrev begun : World
+module _ (s : Settings) (ids : List ℕ) (circuits : Provisioning) (f : Fibres) (earlier : List Stretch) (last : Stretch) (t : ℕ) (may : MayStart s ids f) (happen : MayHappen (new_world s ids circuits f) (earlier ++ last ∷ []))
+    (form : AreCircuits (length ids) (n_of s.rate / 2) circuits.circuits) (many : rounds_in (earlier ++ last ∷ []) ≡ t + 1) where
+  abbrev pub begun : World
   begun = new_world s ids circuits f
 
-  abbrev v : World
+  abbrev pub v : World
   v = all_changed last.changes (after_stretches earlier begun)
 
-  abbrev u : World
+  abbrev pub u : World
   u = run last.rounds v
 
   abbrev ss : List Stretch
@@ -168,16 +168,11 @@ module _ (law : StillRingsAreSettled) (s : Settings) (ids : List ℕ) (circuits 
   abbrev qs : List ℕ
   qs = span_requests (length ids) (asked_in s.threshold s.wait (length ids) ss t)
 
-  whole_v : IsWhole v
+  pub whole_v : IsWhole v
   whole_v = whole_last s ids circuits f earlier last may happen
 
-  layout_v : layout_of v ≡ layout_of begun
+  pub layout_v : layout_of v ≡ layout_of begun
   layout_v = layout_all last.changes (after_stretches earlier begun) ∙ layout_stretches earlier begun
-
-  restored : IsRestored (clocks_from v) u qs
-  restored =
-      subst (IsRestored (clocks_from v) u) (requests_last s ids circuits f earlier last may happen t many)
-      (window_restores law v whole_v last.rounds ends (subst HasCircuits (sym layout_v) form))
 
   rounds_v : v.ring.rounds ≡ rounds_in earlier
   rounds_v = let a = (left_all last.changes (after_stretches earlier begun)).rounds in let b = (left_stretches earlier begun).rounds in omega arith
@@ -200,31 +195,38 @@ module _ (law : StillRingsAreSettled) (s : Settings) (ids : List ℕ) (circuits 
         ∙ (goes_in id ss k begun (omega (arith, rounds_u, rounds_all, high)) there).1
         ∙ ap (λ c. clock_in id ss c k) (clocks_go_on.new s ids circuits id there)
 
-  delivers : DeliversWhatIsDue (clocks_by circuits.circuits ss) u qs
-  delivers index c get e =
-      let n = length u.ring.ids in
-      let applied = is_applied qs in
-      let far = other_end e in
-      let id = port_id index far in
-      let k = u.ring.rounds - 1 - hops n applied (arc_of n c) in
-      let here : slice_get v.ring.circuits.circuits index ≡ Some c = ap (λ (l : Layout). slice_get l.circuits index) (sym (layout_run v last.rounds)) ∙ get in
-      let first : slice_get circuits.circuits index ≡ Some c = ap (λ (l : Layout). slice_get l.circuits index) (sym layout_v) ∙ here in
-      let form_u : AreCircuits n (n_of s.rate / 2) circuits.circuits = subst (λ (l : Layout). AreCircuits (size_of l) (n_of s.rate / 2) circuits.circuits) (sym (layout_run v last.rounds ∙ layout_v)) form in
-      let few = few_hops n applied c (short n applied (n_of s.rate / 2) circuits.circuits form_u index c first) in
-      let size : n ≡ length ids = ap size_of (layout_run v last.rounds ∙ layout_v) in
-      let long = ends.long in
-      let inside = end_inside (length ids) (n_of s.rate / 2) circuits.circuits form index c first far in
-      let whole_w = new_worlds_are_whole s ids circuits f may.ids_ok may.honest in
-      let there = port_is_there begun whole_w index c far first inside in
-      let there_v = port_is_there v whole_v index c far here (subst (λ (l : Layout). port_at c far < size_of l) (sym layout_v) inside) in
-      restored.ports index c get e
-      ∙ due_by n applied c e (clocks_from v id) (clocks_by circuits.circuits ss id) (u.ring.rounds - 1) (clock_same id there there_v k (omega (arith, rounds_u, few, long, may.ids_ok.enough)) (omega (arith, rounds_u, few, long, may.ids_ok.enough)))
+  -- where the last of them had so many rounds, and left the ring restored under the requests of its last round
+  module _ (long : 3 * length u.ring.ids ≤ last.rounds) (settled_u : IsRestored (clocks_from v) u (requests_of u)) where
+    restored : IsRestored (clocks_from v) u qs
+    restored = subst (IsRestored (clocks_from v) u) (requests_last s ids circuits f earlier last may happen t many) settled_u
 
-  pub restored_by_history : IsRestored (clocks_by circuits.circuits ss) (after_stretches ss begun) qs
-  restored_by_history = subst (λ y. IsRestored (clocks_by circuits.circuits ss) y qs) (sym (after_last earlier last begun)) (record { states = restored.states; ports = delivers })
+    delivers : DeliversWhatIsDue (clocks_by circuits.circuits ss) u qs
+    delivers index c get e =
+        let n = length u.ring.ids in
+        let applied = is_applied qs in
+        let far = other_end e in
+        let id = port_id index far in
+        let k = u.ring.rounds - 1 - hops n applied (arc_of n c) in
+        let here : slice_get v.ring.circuits.circuits index ≡ Some c = ap (λ (l : Layout). slice_get l.circuits index) (sym (layout_run v last.rounds)) ∙ get in
+        let first : slice_get circuits.circuits index ≡ Some c = ap (λ (l : Layout). slice_get l.circuits index) (sym layout_v) ∙ here in
+        let form_u : AreCircuits n (n_of s.rate / 2) circuits.circuits = subst (λ (l : Layout). AreCircuits (size_of l) (n_of s.rate / 2) circuits.circuits) (sym (layout_run v last.rounds ∙ layout_v)) form in
+        let few = few_hops n applied c (short n applied (n_of s.rate / 2) circuits.circuits form_u index c first) in
+        let size : n ≡ length ids = ap size_of (layout_run v last.rounds ∙ layout_v) in
+        let inside = end_inside (length ids) (n_of s.rate / 2) circuits.circuits form index c first far in
+        let whole_w = new_worlds_are_whole s ids circuits f may.ids_ok may.honest in
+        let there = port_is_there begun whole_w index c far first inside in
+        let there_v = port_is_there v whole_v index c far here (subst (λ (l : Layout). port_at c far < size_of l) (sym layout_v) inside) in
+        restored.ports index c get e
+        ∙ due_by n applied c e (clocks_from v id) (clocks_by circuits.circuits ss id) (u.ring.rounds - 1) (clock_same id there there_v k (omega (arith, rounds_u, few, long, may.ids_ok.enough)) (omega (arith, rounds_u, few, long, may.ids_ok.enough)))
+
+    pub restored_by_history : IsRestored (clocks_by circuits.circuits ss) (after_stretches ss begun) qs
+    restored_by_history = subst (λ y. IsRestored (clocks_by circuits.circuits ss) y qs) (sym (after_last earlier last begun)) (record { states = restored.states; ports = delivers })
 
 pub stretches_restore : StillRingsAreSettled → SettledRingsRestore
-stretches_restore law s ids circuits f earlier last t may happen form ends many = restored_by_history law s ids circuits f earlier last t may happen form ends many
+stretches_restore law s ids circuits f earlier last t may happen form ends many =
+    let whole = whole_v s ids circuits f earlier last t may happen form many in
+    let circuits_v = subst HasCircuits (sym (layout_v s ids circuits f earlier last t may happen form many)) form in
+    restored_by_history s ids circuits f earlier last t may happen form many ends.long (window_restores law (v s ids circuits f earlier last t may happen form many) whole last.rounds ends circuits_v)
 
 -- ---- the circuits of a ring
 

@@ -30,8 +30,9 @@ use Rattle.sdh_world.specs.Rounds.{World, round}
 use Rattle.sdh_world.specs.Runs.{run}
 use Rattle.sdh_world.proofs.Clocks.{found_has}
 use Rattle.sdh_hearing.specs.Laws.{IsWhole, NoneWait}
-use Rattle.sdh_hearing.proofs.Nodes.{informed, count, nodes_after, feeds_round}
+use Rattle.sdh_hearing.proofs.Nodes.{informed, count, nodes_after}
 use Rattle.sdh_hearing.proofs.Changes.{whole_run}
+use Rattle.sdh_hearing.proofs.Steady.{none_waits_later}
 use Rattle.sdh_carrying.specs.Windows.{value_at}
 use Rattle.sdh_carrying.proofs.Connections.{node_of}
 use Rattle.sdh_converging.specs.Steady.{IsUnslipped}
@@ -113,11 +114,6 @@ none_there w q id none = by_found (port_of id (node_at w.ring.nodes q).ports) re
     by_found None e = tt
     by_found (Some t) e = (found_has (λ (t : Tributary). waiting t.feed.clock ≡ 0) id (node_at w.ring.nodes q).ports t none e).0
 
-none_later : (w : World) → IsWhole w → IsUnslipped w → (j : ℕ) → IsUnslipped (run j w)
-unfolding any_run.run
-none_later w whole unslipped zero = unslipped
-none_later w whole unslipped (suc j) = feeds_round (λ f. waiting f.clock ≡ 0) (λ f. waiting f.clock ≡ 0) (λ f none. (plain_tick f.clock none).0) (run j w) (whole_run w j whole).placed (none_later w whole unslipped j)
-
 -- its value is that of the first round, where none waits there
 value_stays : (o : Option Clock) (j : ℕ) → IfSome o (λ c. waiting c ≡ 0) → option_map (λ (c : Clock). c.value) (option_map (ticks j) o) ≡ option_map (λ (c : Clock). c.value) o
 value_stays None j none = refl
@@ -186,4 +182,4 @@ sources_send w whole unslipped j q m (Protection d) lt over = absurd over
 sources_send w whole unslipped j q m (Add id) lt over =
     let h : q < length w.ring.nodes = omega (arith, count w whole.placed) in
     subst (IsSent (added_by (node_at (run j w).ring.nodes q).ports id)) (ap (option_map (λ (c : Clock). c.value)) (clock_later w whole q id h j) ∙ value_stays (clock_there w q id) j (none_there w q id (unslipped q h)))
-    (added_sends (node_at (run j w).ring.nodes q).ports id (clock_there (run j w) q id) (none_later w whole unslipped j q (omega (arith, length_run w j))) refl)
+    (added_sends (node_at (run j w).ring.nodes q).ports id (clock_there (run j w) q id) (none_waits_later w whole unslipped j q (omega (arith, length_run w j))) refl)
