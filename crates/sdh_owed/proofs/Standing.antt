@@ -19,7 +19,7 @@ use Rattle.sdh_world.specs.Held.{HeldRing, new_ring, place_of_port, nowhere, nod
 use Rattle.sdh_world.specs.Rounds.{World}
 use Rattle.sdh_world.specs.Runs.{run, course}
 use Rattle.sdh_world.specs.Quiet.{EndsWindow, Settles}
-use Rattle.sdh_world.specs.Changes as change
+use Rattle.sdh_promise.specs.Changes as change
 use Rattle.sdh_promise.specs.Changes.{Change, Stretch, rounds_in, changes_of}
 use Rattle.sdh_world.specs.Changes.{changed, all_changed, after_stretch, after_stretches, new_world}
 use Rattle.sdh_world.specs.Clocks.{clock_after, clock_at, waiting_at}
@@ -40,6 +40,7 @@ use Rattle.sdh_plan.specs.declared.step.Step.{Step}
 use Rattle.sdh_plan.specs.declared.step.Step.TheVariants as step
 use Rattle.sdh_plan.specs.Steps.{Past, after, with_slips, is_settle}
 use Rattle.sdh_plan.specs.Scripts as plan
+use Rattle.sdh_promise.specs.Owed.{IsLast}
 use Rattle.sdh_owed.specs.Steps.{after_step}
 use Rattle.sdh_node.specs.Stations.{adm}
 
@@ -199,7 +200,8 @@ module _ (s : Settings) (ids : List ℕ) (circuits : Provisioning) (f : Fibres) 
         let known = known_settles adm w limit mid (inl whole.paired.honest.honest) settles in
         let k = known.0 in
         let ends : EndsWindow (course w) k = known.1.window in
-        let long = long_step w.ring mid.ring limit h.begins (settled_numbers adm w mid limit (omega (arith, size, may.ids_ok.enough)) settles) in
+        let numbers = settled_numbers adm w mid limit (omega (arith, size, may.ids_ok.enough)) settles in
+        let long = long_step w.ring mid.ring limit h.begins numbers in
         let grown : mid.ring.rounds ≡ w.ring.rounds + k = ap (λ (x : World). x.ring.rounds) known.2 ∙ (left_run k w).rounds in
         let last = stretch_to mid in
         let count : k ≡ last.rounds = omega (arith, grown, long.1, ran) in
