@@ -1,6 +1,6 @@
 pub mod Runs
 pub mod Spans
-mod Ports
+pub mod Ports
 pub mod Spreading
 pub mod Windows
 pub mod Calming
