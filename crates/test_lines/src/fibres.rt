@@ -88,7 +88,7 @@ fn is_full_of_but(frame: &FrameBuf, value: u8, first: usize, count: usize, other
 // the fibre the other way is as it was.
 fn is_degraded(alloc: Global, rate: Rate, columns: u16, first: usize) -> Result<bool, Fail> {
     let count = usize::from(columns);
-    if count < 1 || count > 3 * rate.n() || first + count > 2430 * rate.n() {
+    if count < 1 || count > 3 * rate.n() || first > 30_000 || first + count > 2430 * rate.n() {
         return Ok(false);
     }
     let mut plant = three_nodes(alloc, rate)?;

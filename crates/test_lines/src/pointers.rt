@@ -25,11 +25,11 @@ fn words(rt: HostRuntime) {
 }
 
 // An interpreter that has read these words, each so many times.
-fn after(runs: [(u16, usize); 3]) -> Interp {
+fn after(runs: &[(u16, usize)]) -> Interp {
     let mut interp = Interp::new();
     for (word, count) in runs {
-        for _ in 0..count {
-            let _ = interp.step(Word(word));
+        for _ in 0..*count {
+            let _ = interp.step(Word(*word));
         }
     }
     interp
@@ -40,30 +40,28 @@ const NORM: (u16, usize) = (0x9800, 1);
 
 const READY: (u16, usize) = (0x6800, 3);
 
-const NONE: (u16, usize) = (0, 0);
-
 // What was read before, the word, the answer, the value after it, and whether it moved.
-type Read = ([(u16, usize); 3], u16, Action, u16, bool);
+type Read = (&'static [(u16, usize)], u16, Action, u16, bool);
 
 const READ: &[Read] = &[
     // a word of the value it has, and a new data flag
-    ([NORM, READY, NONE], 0x6800, Action::Normal, 0, false),
-    ([NORM, READY, NONE], 0x9A0A, Action::New, 522, true),
+    (&[NORM, READY], 0x6800, Action::Normal, 0, false),
+    (&[NORM, READY], 0x9A0A, Action::New, 522, true),
     // Up and Down, and Up too early: a new value, counted once
-    ([NORM, READY, NONE], 0x6AAA, Action::Up, 1, true),
-    ([NORM, READY, NONE], 0x6955, Action::Down, 782, true),
-    ([NORM, (0x6800, 1), NONE], 0x6AAA, Action::Normal, 0, true),
+    (&[NORM, READY], 0x6AAA, Action::Up, 1, true),
+    (&[NORM, READY], 0x6955, Action::Down, 782, true),
+    (&[NORM, (0x6800, 1)], 0x6AAA, Action::Normal, 0, true),
     // a new value and AIS count at the third word, an invalid one at the eighth
-    ([NORM, READY, (0x6803, 2)], 0x6803, Action::New, 3, true),
-    ([NORM, READY, (0xFFFF, 2)], 0xFFFF, Action::Ais, 0, true),
-    ([NORM, READY, (0, 6)], 0, Action::Normal, 0, true),
-    ([NORM, READY, (0, 7)], 0, Action::Ais, 0, true),
+    (&[NORM, READY, (0x6803, 2)], 0x6803, Action::New, 3, true),
+    (&[NORM, READY, (0xFFFF, 2)], 0xFFFF, Action::Ais, 0, true),
+    (&[NORM, READY, (0, 6)], 0, Action::Normal, 0, true),
+    (&[NORM, READY, (0, 7)], 0, Action::Ais, 0, true),
 ];
 
 #[test]
 fn rows_of_the_interpreter(rt: HostRuntime) {
     for (before, word, action, value, moved) in READ {
-        let mut interp = after(*before);
+        let mut interp = after(before);
         let found = (interp.step(Word(*word)), interp.value(), interp.moved());
         assert!(rt;
             found == (*action, *value, *moved),

@@ -62,14 +62,41 @@ fn refuses_bad_traces(rt: HostRuntime) {
 
 // The trace of a feed, its offset, how many chunks, and the report of a watch for `c1`.
 const FED: &[(&[u8], u16, u32, PathReport)] = &[
-    (b"c2", 0, 64, PathReport { vcs: 63, trace: TraceWord::Mismatch, ..CLEAN }),
-    (b"c2", 0, 63, PathReport { vcs: 62, trace: TraceWord::Short, ..CLEAN }),
+    (
+        b"c2",
+        0,
+        64,
+        PathReport {
+            vcs: 63,
+            trace: TraceWord::Mismatch,
+            ..CLEAN
+        },
+    ),
+    (
+        b"c2",
+        0,
+        63,
+        PathReport {
+            vcs: 62,
+            trace: TraceWord::Short,
+            ..CLEAN
+        },
+    ),
     (b"c1", 0, 64, PathReport { vcs: 63, ..CLEAN }),
     (b"c1", 0, 128, PathReport { vcs: 127, ..CLEAN }),
     (b"c1", 522, 128, PathReport { vcs: 128, ..CLEAN }),
     (b"c1", 521, 65, PathReport { vcs: 64, ..CLEAN }),
     (b"c1", 782, 100, PathReport { vcs: 99, ..CLEAN }),
-    (b"c1", 7, 0, PathReport { vcs: 0, trace: TraceWord::Short, ..CLEAN }),
+    (
+        b"c1",
+        7,
+        0,
+        PathReport {
+            vcs: 0,
+            trace: TraceWord::Short,
+            ..CLEAN
+        },
+    ),
 ];
 
 // The report of a watch for `c1` on so many chunks of a feed.
@@ -102,9 +129,27 @@ const CHANGED: &[(u32, usize, u8, PathReport)] = &[
     (3, 261, 0xFF, PathReport { b3: 16, ..CLEAN }),
     (0, 261, 0x01, PathReport { b3: 1, ..CLEAN }),
     (69, 700, 0xFF, CLEAN),
-    (3, 522, 0x80, PathReport { b3: 1, label: 1, ..CLEAN }),
+    (
+        3,
+        522,
+        0x80,
+        PathReport {
+            b3: 1,
+            label: 1,
+            ..CLEAN
+        },
+    ),
     (3, 0, 0x02, PathReport { b3: 1, ..CLEAN }),
-    (6, 0, 0x02, PathReport { b3: 1, trace: TraceWord::Mismatch, ..CLEAN }),
+    (
+        6,
+        0,
+        0x02,
+        PathReport {
+            b3: 1,
+            trace: TraceWord::Mismatch,
+            ..CLEAN
+        },
+    ),
 ];
 
 // The report of a watch for `c1` on 70 chunks, in one of which a byte is changed.
