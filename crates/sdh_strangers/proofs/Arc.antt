@@ -1,7 +1,7 @@
 -- A circuit on whose arc nothing is asked: what its port sends comes over its spans one by one, from round 0 on.
 use Rattle.std.proofs.Common.{◌≡◌, ◌≢◌, ℕ, zero, suc, ◌+◌, ◌-◌, ◌*◌, ◌<◌, ◌≤◌, Bool, true, false, List, length, get_or, Option, Some, None, refl, ap, ap₂, sym, ◌∙◌, subst, arith, inl, inr}
 use Rattle.std.specs.Prelude.{◌==◌, if◌then◌else◌, slice_get}
-use Rattle.std.proofs.lemmas.Bool.{cases_Bool, cases_lt, and_parts}
+use Rattle.std.proofs.lemmas.Bool.{cases_lt, and_parts}
 use Rattle.sdh_terms.specs.declared.Rate.{Rate}
 use Rattle.sdh_terms.specs.Rates.{n_of}
 use Rattle.sdh_frame.specs.Aus.{Au, au_of}
@@ -18,14 +18,11 @@ use Rattle.sdh_ringmap.proofs.Sides.{opposite_twice}
 use Rattle.sdh_ringmap.proofs.Going.{going-back, going-inside, way-behind}
 use Rattle.sdh_circuits.specs.Provisioned.{Provisioned, customer_at}
 use Rattle.sdh_circuits.specs.Provisioning.{IsInSlots}
-use Rattle.sdh_circuits.specs.declared.PortId.{PortId}
 use Rattle.sdh_squelch.specs.declared.Row.{Row}
 use Rattle.sdh_squelch.specs.Table.{circuit_from}
 use Rattle.sdh_squelch.proofs.LookUps.{entry}
 use Rattle.sdh_nodestate.specs.declared.NodeState.{NodeState}
 use Rattle.sdh_nodestate.specs.Rules.{Scene, word_on, local, word, state_after}
-use Rattle.sdh_nodestate.specs.Filtering.{hears}
-use Rattle.sdh_nodestate.proofs.Filtering.{heard_last}
 use Rattle.sdh_bridge.specs.declared.Origin.TheVariants.{Working}
 use Rattle.sdh_pointer.specs.declared.reading.Action.{Action}
 use Rattle.sdh_pointer.specs.declared.reading.Action.TheVariants as action
@@ -241,7 +238,7 @@ module _ (i : ℕ) (c : Provisioned) (d : Side) (clock : ℕ → Clock) (source 
           subst Harmless (sym (ap (word_of e) (nodes_after w whole.placed p h) ∙ word_is w.ring.moment (informed w p) e))
           (word_by_turn (is_held (node_at w.ring.nodes p)))
 
-      pub kept_here : 0 < t → lost w whole p h e ≡ false
+      kept_here : 0 < t → lost w whole p h e ≡ false
       kept_here ran = clear_where_it_works w whole p e ran h (none_asked _ _ (asks p e low held) (node_asks w whole p e h))
 
     -- ---- what comes

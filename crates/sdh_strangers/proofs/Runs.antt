@@ -6,7 +6,6 @@ use Rattle.sdh_terms.specs.Rates.{n_of}
 use Rattle.sdh_ringmap.specs.Ids.{AreIds}
 use Rattle.sdh_circuits.specs.Provisioned.{Provisioned}
 use Rattle.sdh_circuits.specs.Provisioning.{Provisioning, AreCircuits}
-use Rattle.sdh_circuits.specs.declared.End.{End}
 use Rattle.sdh_circuits.specs.declared.PortId.{PortId}
 use Rattle.sdh_payload.specs.Clock.{Clock, ticks}
 use Rattle.sdh_plant.specs.Fibres.{Fibres, IsHonest}
@@ -15,14 +14,12 @@ use Rattle.sdh_node.specs.Stations.{adm}
 use Rattle.sdh_world.specs.Rounds.{World, round}
 use Rattle.sdh_world.specs.Runs.{run}
 use Rattle.sdh_promise.specs.Changes.{Change, Stretch, rounds_in}
-use Rattle.sdh_promise.specs.Changes.{Fibre, Order, Hold, Slip, Now}
 use Rattle.sdh_world.specs.Changes.{changed, all_changed, after_stretch, new_world}
 use Rattle.sdh_world.specs.Clocks.{clocks_by, clock_in}
 use Rattle.sdh_world.specs.Clocks.{HasPortIn, clock_at}
-use Rattle.sdh_world.specs.Laws.{IsChangeOf, AreChangesOf, MayHappen}
+use Rattle.sdh_world.specs.Laws.{AreChangesOf, MayHappen}
 use Rattle.sdh_world.specs.Sides.{world_in}
 use Rattle.sdh_world.proofs.Clocks.{clocks_go_on, goes_run}
-use Rattle.sdh_rounds.specs.Rounds as any_round
 use Rattle.sdh_rounds.specs.Runs as any_run
 use Rattle.sdh_rounds.proofs.Laws.{known_rounds_are, known_steps}
 use Rattle.sdh_hearing.proofs.Staying.{left_run, left_in, world_low, world_high, world_later}
@@ -33,7 +30,7 @@ use Rattle.sdh_carrying.proofs.Owed.{port_is_there}
 use Rattle.sdh_routes.proofs.Ways.{end_inside}
 use Rattle.sdh_strangers.specs.Owners.{port_named, NoneMeetsAStranger, AreClocksOf, AreClocksBetween}
 use Rattle.sdh_strangers.specs.Vouched.{IsVouched}
-use Rattle.sdh_strangers.specs.Laws.{HoldsNone, HoldNone, NoneHolds, KeepsStrangersOut, KeepsStrangersOutInAll, VouchedRingsStay, RoundsKeepStrangersOut, StepsKeepStrangersOut, NoPortEverMeetsAStranger}
+use Rattle.sdh_strangers.specs.Laws.{HoldNone, NoneHolds, KeepsStrangersOutInAll, VouchedRingsStay, RoundsKeepStrangersOut, StepsKeepStrangersOut, NoPortEverMeetsAStranger}
 use Rattle.sdh_strangers.proofs.Vouched.{vouched_changed, vouched_new, vouched_after, none_meets}
 
 pub vouched_rings_stay : VouchedRingsStay

@@ -1,5 +1,5 @@
 -- Rings stay vouched for, over changes and rounds, and no port meets a stranger in a round of one.
-use Rattle.std.proofs.Common.{◌≡◌, ℕ, ◌+◌, ◌-◌, ◌*◌, ◌<◌, ◌≤◌, false, List, [], ◌∷◌, length, Option, Some, None, refl, ap, sym, ◌∙◌, subst, arith, inl, inr, ◌⊎◌}
+use Rattle.std.proofs.Common.{◌≡◌, ℕ, ◌+◌, ◌-◌, ◌<◌, ◌≤◌, false, List, length, Option, Some, None, refl, ap, sym, ◌∙◌, subst, arith, inl, inr, ◌⊎◌}
 use Rattle.std.specs.Prelude.{slice_get, nat_le}
 use Rattle.std.specs.Option.{option_map_or}
 use Rattle.sdh_frame.specs.Aus.{Au, ones}
@@ -10,7 +10,7 @@ use Rattle.sdh_circuits.specs.Provisioned.{Provisioned, customer_at}
 use Rattle.sdh_circuits.specs.Provisioning.{Provisioning}
 use Rattle.sdh_circuits.specs.declared.End.{End}
 use Rattle.sdh_circuits.specs.declared.PortId.{PortId}
-use Rattle.sdh_squelch.specs.Table.{OnSpan, circuits_at}
+use Rattle.sdh_squelch.specs.Table.{circuits_at}
 use Rattle.sdh_squelch.proofs.LookUps.{entry}
 use Rattle.sdh_request.specs.declared.Command.{Command}
 use Rattle.sdh_request.specs.declared.settings.Settings.{Settings}
@@ -23,7 +23,6 @@ use Rattle.sdh_pointer.specs.declared.reading.Action.TheVariants as action
 use Rattle.sdh_plant.specs.Fibres.{Fibres, IsHonest}
 use Rattle.sdh_terms.specs.Fibres.{fibre}
 use Rattle.sdh_plant.specs.Arrivals.{carried_on}
-use Rattle.sdh_restoration.specs.Due.{other_end}
 use Rattle.sdh_terminal.specs.Passing.{Input, no_input, h3_of, au_with}
 use Rattle.sdh_terminal.specs.Outlets.{chunk_form, delivered_by, delivered_from}
 use Rattle.sdh_terminal.specs.Tributaries.{Tributary, sent_in, input_by, added_by}
@@ -35,7 +34,6 @@ use Rattle.sdh_world.specs.Rounds.{World, round}
 use Rattle.sdh_promise.specs.Changes.{Change}
 use Rattle.sdh_promise.specs.Changes.{Fibre, Order, Hold, Slip, Now}
 use Rattle.sdh_world.specs.Changes.{changed, new_world}
-use Rattle.sdh_world.specs.Clocks.{clock_at}
 use Rattle.sdh_world.specs.Laws.{IsChangeOf}
 use Rattle.sdh_rounds.specs.Rounds as any_round
 use Rattle.sdh_hearing.specs.Laws.{IsWhole}
@@ -52,7 +50,7 @@ use Rattle.sdh_routes.proofs.Ways.{end_inside}
 use Rattle.sdh_strangers.specs.Owners.{port_named, other_port, put_by, HasBytesOf, Holds, nobodys, customers, MeetsNoStranger, ais_comes, bytes_come, NoneMeetsAStranger, AreClocksOf}
 use Rattle.sdh_strangers.specs.Vouched.{streams_to, spoken_of, HoldsAtMost, au_in, IsVouched}
 use Rattle.sdh_strangers.specs.Laws.{HoldsNone}
-use Rattle.sdh_strangers.proofs.Content.{IsCarried, Bears, Fine}
+use Rattle.sdh_strangers.proofs.Content.{IsCarried, Fine}
 use Rattle.sdh_strangers.proofs.Nodes.{at_port, sent_to}
 use Rattle.sdh_strangers.proofs.Worlds.{Vouches, AddOwn, vouched_round, delivers_fine}
 

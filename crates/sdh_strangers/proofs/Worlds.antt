@@ -1,48 +1,36 @@
 -- A round of a whole world: what its frames hold is what the words in them speak of.
-use Rattle.std.proofs.Common.{◌≡◌, ℕ, ◌+◌, ◌-◌, ◌*◌, ◌<◌, ◌≤◌, Bool, false, List, length, get_or, replicate, Option, Some, None, refl, ap, sym, ◌∙◌, subst, arith, inl, inr, ◌⊎◌}
-use Rattle.std.specs.Prelude.{if◌then◌else◌, slice_index, slice_get}
+use Rattle.std.proofs.Common.{◌≡◌, ℕ, ◌+◌, ◌-◌, ◌<◌, ◌≤◌, Bool, false, List, length, Option, Some, refl, ap, sym, ◌∙◌, subst, arith, inl, inr}
+use Rattle.std.specs.Prelude.{if◌then◌else◌, slice_get}
 use Rattle.std.proofs.lemmas.Bool.{cases_Bool, cases_lt}
-use Rattle.std.proofs.lemmas.List.{get_or-replicate, length-replicate}
-use Rattle.sdh_basics.proofs.CellsLaws.{cells-from}
 use Rattle.sdh_terms.specs.declared.Rate.{Rate}
-use Rattle.sdh_frame.specs.Sizes.{size_of}
 use Rattle.sdh_terms.specs.Rates.{n_of}
-use Rattle.sdh_frame.specs.Fields.{index_of, payload_place, place_of_pointer}
-use Rattle.sdh_frame.specs.Aus.{Au, au_of, pointers_of, payload_of, ones}
-use Rattle.sdh_frame.proofs.PlaceProofs.{payload_in, pointer_in}
-use Rattle.sdh_parity.specs.Scrambling.{scrambled}
+use Rattle.sdh_frame.specs.Aus.{Au}
 use Rattle.sdh_kbytes.specs.declared.K.{K}
-use Rattle.sdh_ringmap.specs.Places.{opposite, neighbour, span_at}
+use Rattle.sdh_ringmap.specs.Places.{opposite, neighbour}
 use Rattle.sdh_ringmap.specs.declared.Side.{Side}
-use Rattle.sdh_ringmap.specs.declared.Side.TheVariants.{West, East}
-use Rattle.sdh_ringmap.proofs.Sides.{opposite_twice, neighbour_back}
+use Rattle.sdh_ringmap.proofs.Sides.{opposite_twice}
 use Rattle.sdh_circuits.specs.Provisioned.{Provisioned}
 use Rattle.sdh_circuits.specs.declared.End.{End}
 use Rattle.sdh_circuits.specs.declared.PortId.{PortId}
 use Rattle.sdh_squelch.specs.Table.{OnSpan, circuits_at, circuit_on}
 use Rattle.sdh_nodestate.specs.declared.NodeState.{NodeState}
-use Rattle.sdh_nodestate.specs.Rules.{Scene, word_on, long, word, state_after}
-use Rattle.sdh_nodestate.specs.Filtering.{hears}
-use Rattle.sdh_nodestate.proofs.Filtering.{heard_last}
+use Rattle.sdh_nodestate.specs.Rules.{Scene, long, word, state_after}
 use Rattle.sdh_bridge.specs.declared.Origin.TheVariants.{Working, Protection, Ais}
 use Rattle.sdh_pointer.specs.declared.reading.Action.TheVariants as action
-use Rattle.sdh_terms.specs.Fibres.{fibre, is_cut}
+use Rattle.sdh_terms.specs.Fibres.{fibre}
 use Rattle.sdh_plant.specs.Arrivals.{carried_on}
-use Rattle.sdh_terminal.specs.Lines.{Lines, line_on, received}
+use Rattle.sdh_terminal.specs.Lines.{Lines, received}
 use Rattle.sdh_terminal.specs.Tributaries.{added_by}
-use Rattle.sdh_node.specs.Node.{Node, receiving_on, is_held, word_of}
+use Rattle.sdh_node.specs.Node.{Node, is_held, word_of}
 use Rattle.sdh_node.proofs.Decided.{scene_in, state_is, word_is}
 use Rattle.sdh_world.specs.Held.{node_at, AtEach}
-use Rattle.sdh_world.specs.Rounds.{World, round, node_after}
-use Rattle.sdh_world.specs.Sides.{condition_to}
-use Rattle.sdh_spans.specs.Frames.{CarriesWord}
+use Rattle.sdh_world.specs.Rounds.{World, round}
 use Rattle.sdh_hearing.specs.Signalling.{word_to, lines_at}
 use Rattle.sdh_hearing.specs.Laws.{IsWhole}
-use Rattle.sdh_hearing.proofs.OneNode.{node_same}
-use Rattle.sdh_hearing.proofs.Nodes.{informed, count, nodes_after, length-after, is_at}
+use Rattle.sdh_hearing.proofs.Nodes.{informed, count, nodes_after, length-after}
 use Rattle.sdh_hearing.proofs.Rounds.{reads, neighbour_inside, scene_ids, scene_place, next_node}
 use Rattle.sdh_carrying.specs.Windows.{layout_of, slots_of, value_at, sent_at}
-use Rattle.sdh_carrying.proofs.Spans.{state_at, au_left, took_in}
+use Rattle.sdh_carrying.proofs.Spans.{state_at, au_left}
 use Rattle.sdh_carrying.proofs.Connections.{sends_working, sends_protection, brings_protection}
 use Rattle.sdh_routes.specs.Walks.{port, port_at, stands_in}
 use Rattle.sdh_routes.proofs.Views.{AreOnRing}

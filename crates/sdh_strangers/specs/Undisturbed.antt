@@ -30,7 +30,7 @@ use Rattle.sdh_strangers.specs.Owners.{port_named}
 
 -- in none of the rounds anything is asked on either end of a span of the circuit's arc, by what happened there
 abbrev pub NoneAsks : Settings → ℕ → List Stretch → Provisioned → Type 0
-NoneAsks s n ss c = (r p : ℕ) (d : Side) → r < rounds_in ss → p < n → holds_span n (arc_of n c) (span_at n p d) ≡ true → asked_in s n ss r p d ≡ Nr
+NoneAsks s n ss c = (r p : ℕ) (d : Side) → r < rounds_in ss → p < n → holds_span n (arc_of n c) (span_at n p d) ≡ true → asked_in s.threshold s.wait n ss r p d ≡ Nr
 
 -- AIS until the first bytes have come over all spans of the arc; then those that the other port sent as many rounds before: 2349, or
 -- three fewer or more where its clock slipped in that round, with the pointer value that the clock had after it
