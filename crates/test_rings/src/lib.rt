@@ -20,6 +20,8 @@ mod signals;
 #[cfg(test)]
 mod slips;
 #[cfg(test)]
+mod strangers;
+#[cfg(test)]
 mod streams;
 #[cfg(test)]
 mod told;

@@ -63,8 +63,8 @@ pub(crate) fn line_of(ring: &Ring, at: usize) -> Option<Line> {
     ))
 }
 
-// The circuits that are asked for; a refusal counts as want of memory here.
-fn circuits_of(
+/// The circuits that are asked for; a refusal counts as want of memory here.
+pub(crate) fn circuits_of(
     alloc: Global,
     rate: Rate,
     map: &RingMap,
