@@ -76,8 +76,8 @@ fn both_have_delivered(ring: &Ring, circuit: u8, asked: &Asked<'_>, hops: Option
         && has_delivered(ring, b, sender_at(asked, End::A), hops)
 }
 
-// Whether the ports of each circuit did.
-fn have_delivered(ring: &Ring, circuits: &[Asked<'_>], hops: &[Option<u32>]) -> bool {
+/// Whether the ports of each circuit have delivered all that the other end sent so many rounds before, or AIS.
+pub(crate) fn have_delivered(ring: &Ring, circuits: &[Asked<'_>], hops: &[Option<u32>]) -> bool {
     if ring.circuits().len() != circuits.len() || hops.len() < circuits.len() {
         return false;
     }
@@ -89,8 +89,8 @@ fn have_delivered(ring: &Ring, circuits: &[Asked<'_>], hops: &[Option<u32>]) -> 
     true
 }
 
-// Gives one side of a node a command.
-fn order(ring: &mut Ring, at: u8, side: Side, command: Command) -> bool
+/// Gives one side of a node a command.
+pub(crate) fn order(ring: &mut Ring, at: u8, side: Side, command: Command) -> bool
     ensures settings { ring.new.settings ≡ ring.old.settings }
     ensures ids { ring.new.ids ≡ ring.old.ids }
     ensures whole { ring.new.broken ≡ ring.old.broken }

@@ -10,7 +10,11 @@ mod neighbours;
 #[cfg(test)]
 mod requests;
 #[cfg(test)]
+mod restoring;
+#[cfg(test)]
 mod rings;
+#[cfg(test)]
+mod sending;
 #[cfg(test)]
 mod signals;
 #[cfg(test)]

@@ -20,7 +20,8 @@ use std::alloc::Global;
 // After so many equal words in a row a word counts.
 const TIMES: usize = 3;
 
-const TO_SECOND: Asked<'static> = Asked {
+/// A circuit over one span.
+pub(crate) const TO_SECOND: Asked<'static> = Asked {
     to: 2,
     text_a: "ALPHA",
     text_b: "BETA!",
@@ -143,44 +144,49 @@ const FAILED: Words = ((0xB1, 0x26), (0xB1, 0x29));
 
 const NOTHING: Words = ((0x01, 0x20), (0x03, 0x20));
 
+// The first byte A1, K1 and K2 from the west, the state, and the words west and east.
+const WORDS: &[(u8, (u8, u8), Shape, Words)] = &[
+    // The neighbour fails on the span between them.
+    (0xF6, (0xB2, 0x10), ALONE, ((0x11, 0x21), (0xB1, 0x29))),
+    // The low three bits of K2 are ones.
+    (0xF6, (0xB2, 0x77), ALONE, FAILED),
+    (0xF6, (0xFF, 0xFF), ALONE, FAILED),
+    // The first byte A1 is wrong.
+    (0xF7, (0x02, 0x10), ALONE, FAILED),
+    // A long word about the span on the west side.
+    (0xF6, (0xB2, 0x18), Shape::Idle, NOTHING),
+    // A long word for the third node is passed on.
+    (
+        0xF6,
+        (0xB3, 0x18),
+        Shape::Idle,
+        ((0x01, 0x20), (0xB3, 0x18)),
+    ),
+    // So is one between nodes that aren't in the ring.
+    (
+        0xF6,
+        (0xBF, 0x78),
+        Shape::Idle,
+        ((0x01, 0x20), (0xBF, 0x78)),
+    ),
+    // The source isn't the neighbour.
+    (0xF6, (0xB2, 0x70), Shape::Idle, NOTHING),
+    // A code that isn't used.
+    (0xF6, (0x42, 0x10), Shape::Idle, NOTHING),
+];
+
+// Whether the second node is in this state and sends these words then.
+fn comes_to(alloc: Global, a1: u8, k: (u8, u8), shape: Shape, words: Words) -> bool {
+    match after(alloc, a1, k) {
+        Some((found, said)) => same_shape(found, shape) && said == words,
+        None => false,
+    }
+}
+
 #[test]
 fn what_a_ring_makes_of_any_word(rt: HostRuntime) {
-    // The first byte A1, K1 and K2 from the west, the state, and the words west and east.
-    let table = [
-        // The neighbour fails on the span between them.
-        (0xF6, (0xB2, 0x10), ALONE, ((0x11, 0x21), (0xB1, 0x29))),
-        // The low three bits of K2 are ones.
-        (0xF6, (0xB2, 0x77), ALONE, FAILED),
-        // The first byte A1 is wrong.
-        (0xF7, (0x02, 0x10), ALONE, FAILED),
-        // A long word about the span on the west side.
-        (0xF6, (0xB2, 0x18), Shape::Idle, NOTHING),
-        // A long word for the third node is passed on.
-        (
-            0xF6,
-            (0xB3, 0x18),
-            Shape::Idle,
-            ((0x01, 0x20), (0xB3, 0x18)),
-        ),
-        // So is one between nodes that aren't in the ring.
-        (
-            0xF6,
-            (0xBF, 0x78),
-            Shape::Idle,
-            ((0x01, 0x20), (0xBF, 0x78)),
-        ),
-        // The source isn't the neighbour.
-        (0xF6, (0xB2, 0x70), Shape::Idle, NOTHING),
-        // A code that isn't used.
-        (0xF6, (0x42, 0x10), Shape::Idle, NOTHING),
-    ];
-    for (a1, k, shape, words) in table {
-        let Some((found, said)) = after(rt.alloc(), a1, k) else {
-            assert!(rt; false, "no ring");
-            return;
-        };
-        assert!(rt; same_shape(found, shape), "{k:?}");
-        assert_eq!(rt; said, words, "{k:?}");
+    for (a1, k, shape, words) in WORDS {
+        assert!(rt; comes_to(rt.alloc(), *a1, *k, *shape, *words), "{k:?}");
     }
 }
 

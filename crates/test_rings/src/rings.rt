@@ -80,7 +80,30 @@ pub(crate) fn circuits_of(
     Ok(circuits)
 }
 
-/// The ring of these nodes and circuits, and the plant laid for it; a refusal counts as want of memory here.
+/// The ring of these settings, nodes and circuits, and the plant laid for it; a refusal counts as want of memory here.
+pub(crate) fn laid_as<P: Plant>(
+    alloc: Global,
+    plant: &mut P,
+    settings: Settings,
+    ids: &[i64],
+    asked: &[Asked<'_>],
+) -> Result<Ring, AllocError>
+    requires { HasNoFibres (P.fibres plant.old) }
+    ensures prepared { IfOk result (λ ring. IsPrepared ring.settings.rate (length ring.ids) (P.fibres plant.new)) }
+    ensures whole { IfOk result (λ ring. ring.broken ≡ false) }
+    ensures new { IfOk result (λ ring. ring.rounds ≡ 0) }
+    ensures moment { IfOk result (λ ring. ring.moment ≡ 0) }
+    ensures rate { IfOk result (λ ring. ring.settings.rate ≡ settings.rate) }
+{
+    let rate = settings.rate;
+    let map = RingMap::new(ids).map_err(|_| AllocError)?;
+    let circuits = circuits_of(alloc, rate, &map, asked)?;
+    let nodes = map.len();
+    plant.prepare(alloc, rate, nodes).map_err(|_| AllocError)?;
+    Ok(Ring::try_new(alloc, settings, map, circuits)?)
+}
+
+/// The same at a rate, with a threshold of three and a wait of ten.
 pub(crate) fn laid_with<P: Plant>(
     alloc: Global,
     plant: &mut P,
@@ -95,16 +118,12 @@ pub(crate) fn laid_with<P: Plant>(
     ensures moment { IfOk result (λ ring. ring.moment ≡ 0) }
     ensures rate { IfOk result (λ ring. ring.settings.rate ≡ rate) }
 {
-    let map = RingMap::new(ids).map_err(|_| AllocError)?;
-    let circuits = circuits_of(alloc, rate, &map, asked)?;
-    let nodes = map.len();
-    plant.prepare(alloc, rate, nodes).map_err(|_| AllocError)?;
     let settings = Settings {
         rate,
         threshold: 3,
         wait: 10,
     };
-    Ok(Ring::try_new(alloc, settings, map, circuits)?)
+    laid_as(alloc, plant, settings, ids, asked)
 }
 
 /// The ring of these nodes with the one circuit.
@@ -185,6 +204,7 @@ pub(crate) fn settle<P: Plant>(ring: &mut Ring, plant: &mut P) -> Result<(), All
     requires whole { ring.old.broken ≡ false }
     ensures prepared { OnOk result (IsPrepared ring.new.settings.rate (length ring.new.ids) (P.fibres plant.new)) }
     ensures whole { OnOk result (ring.new.broken ≡ false) }
+    ensures moment { OnOk result (ring.new.moment ≡ ring.old.moment) }
 {
     if ring.rounds() > 100_000 {
         return Err(AllocError);

@@ -164,23 +164,28 @@ fn hold(ring: &mut Ring, at: u8, turns: u32)
     }
 }
 
+// A fibre that leaves a position on a side comes into a condition, and a side is given a command.
+type Event = (u8, Side, Condition);
+
+type Given = (u8, Side, Command);
+
 // What happens before the first round: fibres that leave a position on a side come into a condition, sides are given commands, and
 // the controller of a node misses so many rounds.
 #[derive(Clone, Copy)]
 struct Events {
-    fibres: [(u8, Side, Condition); 4],
-    commands: [(u8, Side, Command); 2],
+    fibres: (Event, Event, Event, Event),
+    commands: (Given, Given),
     held: (u8, u32),
     // the sides at which cut fibres end
     cuts: &'static [(u8, Side)],
 }
 
-const NOTHING: (u8, Side, Condition) = (0, Side::West, Condition::Clear);
+const NOTHING: Event = (0, Side::West, Condition::Clear);
 
-const NO_COMMAND: (u8, Side, Command) = (0, Side::West, Command::Clear);
+const NO_COMMAND: Given = (0, Side::West, Command::Clear);
 
 // Brings a fibre into a condition.
-fn happen<P: Plant>(ring: &Ring, plant: &mut P, event: (u8, Side, Condition)) -> bool
+fn happen<P: Plant>(ring: &Ring, plant: &mut P, event: Event) -> bool
     requires prepared { IsPrepared ring.now.settings.rate (length ring.now.ids) (P.fibres plant.old) }
     ensures prepared { IsPrepared ring.now.settings.rate (length ring.now.ids) (P.fibres plant.new) }
 {
@@ -195,11 +200,11 @@ fn begun<P: Plant>(alloc: Global, plant: &mut P, events: &Events) -> Result<Ring
     ensures new { IfOk result (λ ring. ring.rounds ≡ 0) }
 {
     let mut ring = laid(alloc, plant, Rate::Four, &[1, 2, 3, 4])?;
-    let a = happen(&ring, plant, events.fibres[0]);
-    let b = happen(&ring, plant, events.fibres[1]);
-    let c = happen(&ring, plant, events.fibres[2]);
-    let d = happen(&ring, plant, events.fibres[3]);
-    let (first, second) = (events.commands[0], events.commands[1]);
+    let a = happen(&ring, plant, events.fibres.0);
+    let b = happen(&ring, plant, events.fibres.1);
+    let c = happen(&ring, plant, events.fibres.2);
+    let d = happen(&ring, plant, events.fibres.3);
+    let (first, second) = events.commands;
     order(&mut ring, first.0, first.1, first.2);
     order(&mut ring, second.0, second.1, second.2);
     hold(&mut ring, events.held.0, events.held.1);
@@ -224,95 +229,100 @@ fn alike(alloc: Global, events: &Events) -> Option<u32> {
     alike_over(alloc, &mut plant, events).ok()
 }
 
+const CUT: Condition = Condition::Cut;
+
+const DEGRADED: Condition = Condition::Degraded(3);
+
+const FORCED: Command = Command::Forced;
+
+const MANUAL: Command = Command::Manual;
+
+// Nothing; a span; two spans in one arc; a node; forced switches; a tie; a degraded span; pre-emption; a span beside a held node.
+const ROWS: &[Events] = &[
+    Events {
+        fibres: (NOTHING, NOTHING, NOTHING, NOTHING),
+        commands: (NO_COMMAND, NO_COMMAND),
+        held: (0, 0),
+        cuts: &[],
+    },
+    Events {
+        fibres: ((1, Side::East, CUT), (2, Side::West, CUT), NOTHING, NOTHING),
+        commands: (NO_COMMAND, NO_COMMAND),
+        held: (0, 0),
+        cuts: &[(2, Side::West), (1, Side::East)],
+    },
+    Events {
+        fibres: (
+            (0, Side::East, CUT),
+            (1, Side::West, CUT),
+            (2, Side::East, CUT),
+            (3, Side::West, CUT),
+        ),
+        commands: (NO_COMMAND, NO_COMMAND),
+        held: (0, 0),
+        cuts: &[
+            (1, Side::West),
+            (0, Side::East),
+            (3, Side::West),
+            (2, Side::East),
+        ],
+    },
+    Events {
+        fibres: (
+            (0, Side::East, CUT),
+            (1, Side::West, CUT),
+            (1, Side::East, CUT),
+            (2, Side::West, CUT),
+        ),
+        commands: (NO_COMMAND, NO_COMMAND),
+        held: (0, 0),
+        cuts: &[
+            (1, Side::West),
+            (0, Side::East),
+            (2, Side::West),
+            (1, Side::East),
+        ],
+    },
+    Events {
+        fibres: (NOTHING, NOTHING, NOTHING, NOTHING),
+        commands: ((0, Side::East, FORCED), (2, Side::East, FORCED)),
+        held: (3, 1),
+        cuts: &[],
+    },
+    Events {
+        fibres: (NOTHING, NOTHING, NOTHING, NOTHING),
+        commands: ((1, Side::East, MANUAL), (3, Side::East, MANUAL)),
+        held: (0, 0),
+        cuts: &[],
+    },
+    Events {
+        fibres: ((1, Side::East, DEGRADED), NOTHING, NOTHING, NOTHING),
+        commands: (NO_COMMAND, NO_COMMAND),
+        held: (0, 0),
+        cuts: &[],
+    },
+    Events {
+        fibres: (
+            (1, Side::East, DEGRADED),
+            (3, Side::East, CUT),
+            (0, Side::West, CUT),
+            NOTHING,
+        ),
+        commands: (NO_COMMAND, NO_COMMAND),
+        held: (0, 0),
+        cuts: &[(0, Side::West), (3, Side::East)],
+    },
+    Events {
+        fibres: ((1, Side::East, CUT), (2, Side::West, CUT), NOTHING, NOTHING),
+        commands: (NO_COMMAND, NO_COMMAND),
+        held: (1, 17),
+        cuts: &[(2, Side::West), (1, Side::East)],
+    },
+];
+
 #[test]
 fn rings_over_frames_are_rings_of_signals(rt: HostRuntime) {
-    let cut = Condition::Cut;
-    let degraded = Condition::Degraded(3);
-    let forced = Command::Forced;
-    let manual = Command::Manual;
-    // nothing; a span; two spans in one arc; a node; forced switches; a tie; a degraded span; pre-emption; a span beside a held node
-    let rows = [
-        Events {
-            fibres: [NOTHING, NOTHING, NOTHING, NOTHING],
-            commands: [NO_COMMAND, NO_COMMAND],
-            held: (0, 0),
-            cuts: &[],
-        },
-        Events {
-            fibres: [(1, Side::East, cut), (2, Side::West, cut), NOTHING, NOTHING],
-            commands: [NO_COMMAND, NO_COMMAND],
-            held: (0, 0),
-            cuts: &[(2, Side::West), (1, Side::East)],
-        },
-        Events {
-            fibres: [
-                (0, Side::East, cut),
-                (1, Side::West, cut),
-                (2, Side::East, cut),
-                (3, Side::West, cut),
-            ],
-            commands: [NO_COMMAND, NO_COMMAND],
-            held: (0, 0),
-            cuts: &[
-                (1, Side::West),
-                (0, Side::East),
-                (3, Side::West),
-                (2, Side::East),
-            ],
-        },
-        Events {
-            fibres: [
-                (0, Side::East, cut),
-                (1, Side::West, cut),
-                (1, Side::East, cut),
-                (2, Side::West, cut),
-            ],
-            commands: [NO_COMMAND, NO_COMMAND],
-            held: (0, 0),
-            cuts: &[
-                (1, Side::West),
-                (0, Side::East),
-                (2, Side::West),
-                (1, Side::East),
-            ],
-        },
-        Events {
-            fibres: [NOTHING, NOTHING, NOTHING, NOTHING],
-            commands: [(0, Side::East, forced), (2, Side::East, forced)],
-            held: (3, 1),
-            cuts: &[],
-        },
-        Events {
-            fibres: [NOTHING, NOTHING, NOTHING, NOTHING],
-            commands: [(1, Side::East, manual), (3, Side::East, manual)],
-            held: (0, 0),
-            cuts: &[],
-        },
-        Events {
-            fibres: [(1, Side::East, degraded), NOTHING, NOTHING, NOTHING],
-            commands: [NO_COMMAND, NO_COMMAND],
-            held: (0, 0),
-            cuts: &[],
-        },
-        Events {
-            fibres: [
-                (1, Side::East, degraded),
-                (3, Side::East, cut),
-                (0, Side::West, cut),
-                NOTHING,
-            ],
-            commands: [NO_COMMAND, NO_COMMAND],
-            held: (0, 0),
-            cuts: &[(0, Side::West), (3, Side::East)],
-        },
-        Events {
-            fibres: [(1, Side::East, cut), (2, Side::West, cut), NOTHING, NOTHING],
-            commands: [NO_COMMAND, NO_COMMAND],
-            held: (1, 17),
-            cuts: &[(2, Side::West), (1, Side::East)],
-        },
-    ];
-    for i in 0..rows.len() {
-        assert!(rt; alike(rt.alloc(), &rows[i]) == Some(40));
+    for events in ROWS {
+        assert!(rt; alike(rt.alloc(), events) == Some(40));
     }
 }

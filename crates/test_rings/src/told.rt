@@ -34,8 +34,8 @@ fn nothing_told(alloc: Global) -> Option<(u64, [Line; 3])> {
     ))
 }
 
-// The same frame.
-fn copy_of(alloc: Global, frame: &FrameBuf) -> Option<FrameBuf>
+/// The same frame.
+pub(crate) fn copy_of(alloc: Global, frame: &FrameBuf) -> Option<FrameBuf>
     ensures { IfSome result (λ copy. copy.rate ≡ frame.now.rate) }
 {
     let mut copy = FrameBuf::try_new(alloc, frame.rate()).ok()?;
