@@ -23,6 +23,7 @@ ghost use Rattle.sdh_carrying.specs.Laws.{Restores};
 ghost use Rattle.sdh_rounds.specs.Quiet.{enough_for};
 ghost use Rattle.sdh_resting.specs.Rest.{IsAtRest, StaysAtRest};
 ghost use Rattle.sdh_resting.specs.Laws.{LeavesAtRest};
+ghost use Rattle.sdh_soon.specs.Laws.{RestoresBy};
 ghost use Rattle.sdh_payload.specs.Clock.{Clock};
 ghost use Rattle.sdh_ring.specs.Outcome.{Outcome};
 ghost use Rattle.sdh_ring.specs.Faults.{BreaksRound, BreaksStep};
@@ -374,7 +375,10 @@ impl Ring {
         // Where what comes is what was sent, each node is in its settled state then, and each port has delivered what it is owed.
         ensures restored { OnOk result (Restores (world self.old (P.fibres plant.old)) (world self.new (P.fibres plant.new))) }
 
-        // Ring and fibres are at rest then.
+        // With a limit of at least 12n + 102 so it is after a step in which no window ended, too.
+        ensures soon { result ≡ Err SettleError.Unsettled → RestoresBy (world self.old (P.fibres plant.old)) limit (world self.new (P.fibres plant.new)) }
+
+        // Ring and fibres are at rest once a window ended.
         ensures rests { OnOk result (LeavesAtRest (world self.old (P.fibres plant.old)) (world self.new (P.fibres plant.new))) }
 
         // Where it is vouched for it stays so, and no port meets a stranger in any round of the step.
@@ -401,6 +405,7 @@ impl Ring {
         sdh_hearing::steps_stay_whole();
         sdh_carrying::settled_rings_are_restored();
         sdh_resting::steps_leave_at_rest();
+        sdh_soon::unsettled_rings_are_restored();
         sdh_converging::steps_answer();
         sdh_strangers::steps_keep_strangers_out();
         let mut calm = 0u32;

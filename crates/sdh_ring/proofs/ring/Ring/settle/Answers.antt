@@ -84,3 +84,6 @@ returns-then-is_over-clause-strangers g c = λ _. c.steps_keep_strangers_out.ens
 
 pub returns-clause-strangers : goal.returns-clause-strangers
 returns-clause-strangers g c = λ _. c.steps_keep_strangers_out.ensures.unsettled _ _ c.args.limit c.has_circuits.ensures (returns-clause-outcome g c)
+
+pub returns-clause-soon : goal.returns-clause-soon
+returns-clause-soon g c = λ _. c.unsettled_rings_are_restored.ensures _ _ c.args.limit c.has_circuits.ensures (returns-clause-outcome g c)
