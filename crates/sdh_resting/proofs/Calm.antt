@@ -112,7 +112,7 @@ module _ (law : StillRingsAreSettled) (w : World) (whole : IsWhole w) (form : Ha
   behind p d i j = word_behind (is_cut (condition_to w p d)) (word_in w (neighbour n p d) (opposite d) i j)
 
   takes : (p : ℕ) (d : Side) (i j : ℕ) → p < n → i < many → j ≤ 6 → Takes w p d i (suc j) (behind p d i j)
-  takes p d i j h few low = interpreter_goes w whole p d i j (inside_of w whole p h) few (free_now j low (neighbour n p d) (let q = neighbour_inside w whole p d in omega (arith, length_run w j)))
+  takes p d i j h few low = interpreter_goes w whole p d i j (inside_of w whole p h) few
 
   -- ---- ports that fill an AU-4
 

@@ -23,7 +23,7 @@ ghost use Rattle.sdh_carrying.specs.Laws.{Restores};
 ghost use Rattle.sdh_rounds.specs.Quiet.{enough_for};
 ghost use Rattle.sdh_resting.specs.Rest.{IsAtRest, StaysAtRest};
 ghost use Rattle.sdh_resting.specs.Laws.{LeavesAtRest};
-ghost use Rattle.sdh_soon.specs.Laws.{RestoresBy};
+ghost use Rattle.sdh_restoration_time.specs.Laws.{RestoresBy};
 ghost use Rattle.sdh_payload.specs.Clock.{Clock};
 ghost use Rattle.sdh_ring.specs.Outcome.{Outcome};
 ghost use Rattle.sdh_ring.specs.Faults.{BreaksRound, BreaksStep};
@@ -405,7 +405,7 @@ impl Ring {
         sdh_hearing::steps_stay_whole();
         sdh_carrying::settled_rings_are_restored();
         sdh_resting::steps_leave_at_rest();
-        sdh_soon::unsettled_rings_are_restored();
+        sdh_restoration_time::unsettled_rings_are_restored();
         sdh_converging::steps_answer();
         sdh_strangers::steps_keep_strangers_out();
         let mut calm = 0u32;

@@ -4,8 +4,8 @@ use Rattle.sdh_settling.specs.Laws.{RingsSettle}
 use Rattle.sdh_carrying.specs.Windows.{size_of, HasCircuits}
 use Rattle.sdh_carrying.proofs.Settles.{v, u, whole_v, layout_v, restored_by_history}
 use Rattle.sdh_carrying.proofs.Ways.{layout_run}
-use Rattle.sdh_soon.specs.Laws.{StretchesAreRestoredSoon}
-use Rattle.sdh_soon.proofs.Soon.{rings_are_restored_soon}
+use Rattle.sdh_restoration_time.specs.Laws.{StretchesAreRestoredSoon}
+use Rattle.sdh_restoration_time.proofs.Soon.{rings_are_restored_soon}
 
 pub stretches_are_restored_soon : RingsSettle → StretchesAreRestoredSoon
 stretches_are_restored_soon law s ids circuits f earlier last t may happen form long many =

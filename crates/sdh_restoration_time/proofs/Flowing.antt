@@ -41,8 +41,8 @@ use Rattle.sdh_carrying.proofs.Spans.{au_step}
 use Rattle.sdh_converging.specs.Steady.{went, came}
 use Rattle.sdh_converging.proofs.Runs.{length_run, rate_run, condition_run}
 use Rattle.sdh_converging.proofs.Spans.{sending_in, reading_in, word_in, Takes, generator_goes, interpreter_goes}
-use Rattle.sdh_soon.specs.Flowing.{Flows, FlowsBehind, IsSilent}
-use Rattle.sdh_soon.proofs.Landing.{IsAt, ByNew, keeps, answers_there, answered, lands, outside, enabled_taken, enabled_left}
+use Rattle.sdh_restoration_time.specs.Flowing.{Flows, FlowsBehind, IsSilent}
+use Rattle.sdh_restoration_time.proofs.Landing.{IsAt, ByNew, keeps, answers_there, answered, lands, outside, enabled_taken, enabled_left}
 use Rattle.sdh_rounds.specs.Runs as any_run
 
 -- ---- a generator

@@ -9,12 +9,14 @@ use Rattle.sdh_circuits.specs.declared.End.{End}
 use Rattle.sdh_payload.specs.Clock.{Clock, ticks}
 use Rattle.sdh_restoration.specs.Applied.{is_applied}
 use Rattle.sdh_settling.specs.Settled.{settled_states}
-use Rattle.sdh_restoration.specs.Due.{due, other_end}
+use Rattle.sdh_restoration.specs.Due.{other_end}
+use Rattle.sdh_carrying.specs.Laws.{due_by_clocks}
 use Rattle.sdh_restoration.specs.Routes.{hops}
 use Rattle.sdh_ringmap.specs.Arcs.{is_joined}
 use Rattle.sdh_settling.specs.Signals.{requests_in}
 use Rattle.sdh_settling.specs.Laws.{RingsSettle}
 use Rattle.sdh_node.specs.Crossing.{is_failed}
+use Rattle.sdh_node.specs.Stations.{adm}
 use Rattle.sdh_node.specs.Node.{receiving_on, is_held}
 use Rattle.sdh_routes.proofs.Ways.{end_inside}
 use Rattle.sdh_world.specs.Held.{node_at, outlet_at, AtEach}
@@ -39,8 +41,8 @@ use Rattle.sdh_hearing.proofs.Rounds.{clear_where_it_works}
 use Rattle.sdh_carrying.proofs.Ways.{layout_run}
 use Rattle.sdh_converging.specs.Steady.{StaysSettled}
 use Rattle.sdh_converging.proofs.Runs.{length_run, run_more}
-use Rattle.sdh_soon.specs.Laws.{NoneHeld, ArePortsOwedFrom, PortsAreOwedSoon, UnslippedPortsAreOwedSoon, RingsAreRestoredSoon, FreeRingsAreRestoredSoon, UnslippedRingsAreRestoredSoon, UnsettledRingsAreRestored}
-use Rattle.sdh_soon.proofs.Resting.{AreUncut, port_delivers, joined_delivers, parted_delivers}
+use Rattle.sdh_restoration_time.specs.Laws.{NoneHeld, ArePortsOwedFrom, PortsAreOwedSoon, UnslippedPortsAreOwedSoon, RingsAreRestoredSoon, FreeRingsAreRestoredSoon, UnslippedRingsAreRestoredSoon, UnsettledRingsAreRestored}
+use Rattle.sdh_restoration_time.proofs.Resting.{AreUncut, port_delivers, joined_delivers, parted_delivers}
 use Rattle.sdh_rounds.specs.Runs as any_run
 
 
@@ -123,12 +125,12 @@ module _ (law : RingsSettle) (w : World) (whole : IsWhole w) (form : HasCircuits
         ∙ (goes_run id (i + base) w (port_is_there w whole index c (other_end e) get (end_inside n (slots_of (layout_of w)) w.ring.circuits.circuits form index c get (other_end e)))).1
         ∙ ap (λ t. ticks t (clock_at w.ring id)) number
 
-    delivers_by : (j : ℕ) → outlet_at (run (suc j) u).ring (port_id index e) ≡ due (length u.ring.ids) (is_applied rs) c e (clocks_from w (port_id index (other_end e))) (u.ring.rounds + j) → DeliversItsDue (clocks_from w) (run (suc j) u) rs c index e
+    delivers_by : (j : ℕ) → outlet_at (run (suc j) u).ring (port_id index e) ≡ due_by_clocks (length u.ring.ids) (is_applied rs) c e (clocks_from w (port_id index (other_end e))) (u.ring.rounds + j) → DeliversItsDue (clocks_from w) (run (suc j) u) rs c index e
     delivers_by j so =
         let number : u.ring.rounds + j ≡ (run (suc j) u).ring.rounds - 1 = (let r = (left_run (suc j) u).rounds in omega arith) in
         so
-        ∙ ap (due (length u.ring.ids) (is_applied rs) c e (clocks_from w (port_id index (other_end e)))) number
-        ∙ ap (λ (l : Layout). due (size_of l) (is_applied rs) c e (clocks_from w (port_id index (other_end e))) ((run (suc j) u).ring.rounds - 1)) (sym (layout_run u (suc j)))
+        ∙ ap (due_by_clocks (length u.ring.ids) (is_applied rs) c e (clocks_from w (port_id index (other_end e)))) number
+        ∙ ap (λ (l : Layout). due_by_clocks (size_of l) (is_applied rs) c e (clocks_from w (port_id index (other_end e))) ((run (suc j) u).ring.rounds - 1)) (sym (layout_run u (suc j)))
 
     abbrev form_u : HasCircuits (layout_of u)
     form_u = subst HasCircuits (sym (layout_run w base)) form
@@ -228,4 +230,4 @@ unslipped_ports_are_owed_soon law w whole form free none =
 
 pub unsettled_rings_are_restored : RingsSettle → UnsettledRingsAreRestored
 unsettled_rings_are_restored law w left limit form unsettles whole enough =
-    subst (λ v. IsRestored (clocks_from w) v (requests_of v)) (sym (known_unsettles w limit left (inl whole.paired.honest.honest) unsettles).1) (rings_are_restored_soon law w whole form limit enough)
+    subst (λ v. IsRestored (clocks_from w) v (requests_of v)) (sym (known_unsettles adm w limit left (inl whole.paired.honest.honest) unsettles).1) (rings_are_restored_soon law w whole form limit enough)

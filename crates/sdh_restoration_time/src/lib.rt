@@ -2,7 +2,7 @@
 //! law as its contract and no work to do.
 #![tactic(auto)]
 
-ghost use Rattle.sdh_soon.specs.Laws.{RingsAreRestoredSoon, FreeRingsAreRestoredSoon, UnslippedRingsAreRestoredSoon, PortsAreOwedSoon, UnslippedPortsAreOwedSoon, UnsettledRingsAreRestored, StretchesAreRestoredSoon};
+ghost use Rattle.sdh_restoration_time.specs.Laws.{RingsAreRestoredSoon, FreeRingsAreRestoredSoon, UnslippedRingsAreRestoredSoon, PortsAreOwedSoon, UnslippedPortsAreOwedSoon, UnsettledRingsAreRestored, StretchesAreRestoredSoon};
 
 /// From every whole ring on, each port delivers what it is owed in each round from number 12n + 102 on.
 pub fn rings_are_restored_soon()

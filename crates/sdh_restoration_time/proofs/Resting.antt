@@ -22,6 +22,7 @@ use Rattle.sdh_restoration.specs.Applied.{is_applied}
 use Rattle.sdh_settling.specs.Settled.{settled}
 use Rattle.sdh_restoration.specs.Routes.{hops}
 use Rattle.sdh_restoration.specs.Due.{due, other_end}
+use Rattle.sdh_carrying.specs.Laws.{due_by_clocks}
 use Rattle.sdh_routes.specs.Walks.{IsArrival, back_from, working_in, protection_in, port, port_at, delivery}
 use Rattle.sdh_routes.specs.Law as routes
 use Rattle.sdh_routes.proofs.Ways.{IsKeptOver, end_inside, short}
@@ -47,9 +48,9 @@ use Rattle.sdh_converging.specs.Steady.{went, came, brought}
 use Rattle.sdh_converging.specs.Steady.{StaysSettled}
 use Rattle.sdh_converging.proofs.Runs.{length_run}
 use Rattle.sdh_converging.proofs.Spreading.{two_halves, working_goes, protection_goes, protection_comes}
-use Rattle.sdh_soon.specs.Flowing.{FlowsBehind, IsSilent}
-use Rattle.sdh_soon.proofs.Flowing.{flows_behind, silent_on}
-use Rattle.sdh_soon.proofs.Walking.{joined_walk, parted_walk}
+use Rattle.sdh_restoration_time.specs.Flowing.{FlowsBehind, IsSilent}
+use Rattle.sdh_restoration_time.proofs.Flowing.{flows_behind, silent_on}
+use Rattle.sdh_restoration_time.proofs.Walking.{joined_walk, parted_walk}
 use Rattle.sdh_rounds.specs.Runs as any_run
 
 -- ---- the same in other words
@@ -258,7 +259,7 @@ module _ (w : World) (whole : IsWhole w) (form : HasCircuits (layout_of w)) (rs 
 
     -- by any account of the clock at the other end
     module _ (clocks : ℕ → Clock) (tells : (i : ℕ) → clock i ≡ clocks (w.ring.rounds + i)) where
-      pub joined_delivers : (j : ℕ) → 4 * h + 4 ≤ j → is_joined n applied (arc_of n c) ≡ true → outlet_at (run (suc j) w).ring (port_id index e) ≡ due n applied c e clocks (w.ring.rounds + j)
+      pub joined_delivers : (j : ℕ) → 4 * h + 4 ≤ j → is_joined n applied (arc_of n c) ≡ true → outlet_at (run (suc j) w).ring (port_id index e) ≡ due_by_clocks n applied c e clocks (w.ring.rounds + j)
       unfolding due
       joined_delivers j late joined =
           let behind = joined_so joined in
@@ -270,7 +271,7 @@ module _ (w : World) (whole : IsWhole w) (form : HasCircuits (layout_of w)) (rs 
           ∙ ap (plainly (customer_at c far)) (tells (j - h) ∙ ap clocks number)
           ∙ ap (λ t. if t then plainly (customer_at c far) (clocks (w.ring.rounds + j - h)) else silent) (sym joined)
 
-      pub parted_delivers : (j : ℕ) → 3 * n ≤ j + 3 → is_joined n applied (arc_of n c) ≡ false → outlet_at (run (suc j) w).ring (port_id index e) ≡ due n applied c e clocks (w.ring.rounds + j)
+      pub parted_delivers : (j : ℕ) → 3 * n ≤ j + 3 → is_joined n applied (arc_of n c) ≡ false → outlet_at (run (suc j) w).ring (port_id index e) ≡ due_by_clocks n applied c e clocks (w.ring.rounds + j)
       unfolding due
       parted_delivers j late parted =
           let s = parted_so parted in
@@ -288,7 +289,7 @@ module _ (w : World) (whole : IsWhole w) (form : HasCircuits (layout_of w)) (rs 
             | inr t ↦ (let a = s.around t in omega arith)
           ]
 
-      pub port_delivers : (j : ℕ) → 8 * n ≤ j + 8 → outlet_at (run (suc j) w).ring (port_id index e) ≡ due n applied c e clocks (w.ring.rounds + j)
+      pub port_delivers : (j : ℕ) → 8 * n ≤ j + 8 → outlet_at (run (suc j) w).ring (port_id index e) ≡ due_by_clocks n applied c e clocks (w.ring.rounds + j)
       port_delivers j late =
           let few = few_hops in
           let two = whole.placed.ids.enough in
