@@ -21,6 +21,8 @@ ghost use Rattle.sdh_hearing.specs.Laws.{IsWhole, GoesAsSignals};
 ghost use Rattle.sdh_carrying.specs.Windows.{layout_in, HasCircuits};
 ghost use Rattle.sdh_carrying.specs.Laws.{Restores};
 ghost use Rattle.sdh_rounds.specs.Quiet.{enough_for};
+ghost use Rattle.sdh_strangers.specs.Vouched.{IsVouched};
+ghost use Rattle.sdh_strangers.specs.Laws.{KeepsStrangersOut, KeepsStrangersOutInAll};
 ghost use Rattle.sdh_resting.specs.Rest.{IsAtRest, StaysAtRest};
 ghost use Rattle.sdh_resting.specs.Laws.{LeavesAtRest};
 ghost use Rattle.sdh_restoration_time.specs.Laws.{RestoresBy};
