@@ -2,16 +2,16 @@
 #![tactic(auto)]
 
 ghost use Rattle.std.specs.Prelude.{◌≡◌, ◌≤◌, ◌<◌, ◌+◌, ◌*◌, ◌/◌, ◌^◌, ◌⊎◌, ℕ, IfOk, OnOk, false, length};
-ghost use Rattle.sdh_frame.specs.Sizes.{n_of};
+ghost use Rattle.sdh_terms.specs.Rates.{n_of};
 ghost use Rattle.sdh_plant.specs.Fibres.{HasNoFibres, IsPrepared};
 ghost use Rattle.sdh_squelch.specs.Kept.{KeepsRing};
 
 use sdh_circuits::{Asked, CircuitMap, End, PortId};
-use sdh_frame::Rate;
 use sdh_node::{Delivered, Settings};
-use sdh_plant::{Condition, FibreEvent, FibrePlant, Plant};
+use sdh_plant::{FibrePlant, Plant};
 use sdh_ring::{PlantFault, Ring};
 use sdh_ringmap::{Pos, RingMap, Side};
+use sdh_terms::{Condition, FibreEvent, Rate};
 use std::alloc::{AllocError, Global};
 
 fn rate_of(n: usize) -> Rate

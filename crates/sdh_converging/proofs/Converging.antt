@@ -12,7 +12,7 @@ use Rattle.sdh_nodestate.specs.declared.Sent.{Sent}
 use Rattle.sdh_restoration.specs.Settled.{settled_states}
 use Rattle.sdh_settling.specs.Signals.{requests_in, request_on, no_needs}
 use Rattle.sdh_settling.specs.Laws.{RingsSettle}
-use Rattle.sdh_plant.specs.declared.plant.Condition.{Condition}
+use Rattle.sdh_terms.specs.declared.Condition.{Condition}
 use Rattle.sdh_nodestate.specs.Filtering.{Brought, with_brought, hears, heard_of}
 use Rattle.sdh_node.specs.Node.{Node, receiving_on, sending_on, word_of, sent_of}
 use Rattle.sdh_world.specs.Rounds.{World, round}
@@ -37,7 +37,7 @@ use Rattle.sdh_converging.proofs.Runs.{length_run, condition_run, run_more}
 use Rattle.sdh_converging.proofs.Spreading.{pointers_rest}
 use Rattle.sdh_converging.proofs.Windows.{calm_ends_windows, answers_by}
 use Rattle.sdh_converging.proofs.Calming.{AreSame, calm_round}
-use Rattle.sdh_plant.specs.Fibres.{is_cut}
+use Rattle.sdh_terms.specs.Fibres.{is_cut}
 use Rattle.sdh_world.specs.Held.{nowhere, node_at}
 use Rattle.sdh_world.specs.Sides.{condition_to}
 use Rattle.sdh_node.specs.Stations.{adm}

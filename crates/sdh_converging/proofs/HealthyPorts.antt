@@ -1,7 +1,7 @@
 -- What ports of a healthy ring have delivered after each settle step.
 use Rattle.std.proofs.Common.{◌≡◌, ℕ, ◌+◌, ◌-◌, ◌*◌, false, List, [], length, Some, ap, ◌∙◌, arith}
 use Rattle.std.specs.Prelude.{slice_get, ◌/◌}
-use Rattle.sdh_frame.specs.Sizes.{n_of}
+use Rattle.sdh_terms.specs.Rates.{n_of}
 use Rattle.sdh_circuits.specs.declared.PortId.{PortId}
 use Rattle.sdh_circuits.specs.Provisioning.{Provisioning}
 use Rattle.sdh_payload.specs.Clock.{ticks}

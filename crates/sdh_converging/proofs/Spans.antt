@@ -1,6 +1,6 @@
 -- One span in many rounds.
 use Rattle.std.proofs.Common.{◌≡◌, ℕ, suc, ◌+◌, ◌-◌, ◌<◌, ◌≤◌, length, get_or, Option, None, sym, subst, arith}
-use Rattle.sdh_frame.specs.Sizes.{n_of}
+use Rattle.sdh_terms.specs.Rates.{n_of}
 use Rattle.sdh_ringmap.specs.declared.Side.{Side}
 use Rattle.sdh_ringmap.specs.Places.{neighbour, opposite}
 use Rattle.sdh_pointer.specs.declared.reading.Reading.{Reading}
@@ -22,7 +22,7 @@ use Rattle.sdh_carrying.proofs.Spans.{generator_step, interpreter_step}
 use Rattle.sdh_converging.specs.Steady.{went, came}
 use Rattle.sdh_converging.specs.Laws.{ASpanIsSteady}
 use Rattle.sdh_converging.proofs.Runs.{length_run, rate_run, condition_run}
-use Rattle.sdh_plant.specs.Fibres.{is_cut}
+use Rattle.sdh_terms.specs.Fibres.{is_cut}
 use Rattle.sdh_world.specs.Held.{node_at}
 use Rattle.sdh_world.specs.Sides.{condition_to}
 use Rattle.sdh_rounds.specs.Runs as any_run

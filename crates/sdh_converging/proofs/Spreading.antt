@@ -3,9 +3,9 @@ use Rattle.std.proofs.Common.{◌≡◌, ℕ, suc, ◌+◌, ◌-◌, ◌*◌, �
 use Rattle.std.specs.Prelude.{◌/◌}
 use Rattle.std.proofs.lemmas.Bool.{cases_lt}
 use Rattle.std.proofs.lemmas.List.{ext_get_or}
-use Rattle.sdh_frame.specs.declared.Rate.{Rate}
-use Rattle.sdh_frame.specs.declared.Rate.TheVariants.{Four, Sixteen}
-use Rattle.sdh_frame.specs.Sizes.{n_of}
+use Rattle.sdh_terms.specs.declared.Rate.{Rate}
+use Rattle.sdh_terms.specs.declared.Rate.TheVariants.{Four, Sixteen}
+use Rattle.sdh_terms.specs.Rates.{n_of}
 use Rattle.sdh_ringmap.specs.declared.Side.{Side}
 use Rattle.sdh_ringmap.specs.Places.{neighbour, opposite}
 use Rattle.sdh_ringmap.proofs.Sides.{neighbour_below}

@@ -1,7 +1,8 @@
 -- What a frame is after its bytes were lent for writing.
 use Rattle.std.specs.Prelude.{ℕ, List, ◌++◌, ◌+◌, ◌*◌, ◌-◌, take, drop, length}
 use Rattle.std.specs.Borrow.{Lends, MutBor, Fml, u8, Array}
-use Rattle.sdh_frame.specs.Sizes.{Frame, n_of}
+use Rattle.sdh_frame.specs.Sizes.{Frame}
+use Rattle.sdh_terms.specs.Rates.{n_of}
 use Rattle.sdh_frame.specs.contracts.FrameBuf.{the_row}
 
 -- the frame with these bytes, for as many as it has

@@ -1,12 +1,7 @@
 -- The sizes of an STM-N frame (ITU-T G.707): 9 rows of 270 N bytes, sent row by row.
 use Rattle.std.specs.Prelude.{ℕ, ◌*◌, List}
-use Rattle.sdh_frame.specs.declared.Rate.{Rate}
-use Rattle.sdh_frame.specs.declared.Rate.TheVariants.{Four, Sixteen}
-
--- N, the number of AU-4s in the frame
-abbrev pub n_of : Rate → ℕ
-n_of Four = 4
-n_of Sixteen = 16
+use Rattle.sdh_terms.specs.declared.Rate.{Rate}
+use Rattle.sdh_terms.specs.declared.Rate.TheVariants.{Four, Sixteen}
 
 -- the bytes of a frame
 abbrev pub size_of : Rate → ℕ

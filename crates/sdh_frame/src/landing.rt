@@ -6,7 +6,7 @@ use crate::FrameBuf;
 /// Room for a frame that arrives: a buffer that it is copied into, or one that looks at its bytes on the way.
 pub trait Landing {
     ghost use Rattle.std.specs.Prelude.{ℕ, List, Option};
-    ghost use Rattle.sdh_frame.specs.declared.Rate.{Rate};
+    ghost use Rattle.sdh_terms.specs.declared.Rate.{Rate};
 
     /// The rate of the frames that it has room for.
     ghost rate: { Self → Rate };

@@ -9,7 +9,8 @@ mod view;
 
 ghost use Rattle.std.specs.Prelude.{◌≡◌, ◌+◌, ◌*◌, ◌-◌, ◌<◌, ◌≤◌, length, slice_index, slice_set, replicate, IfOk};
 ghost use Rattle.std.specs.Borrow.{sem};
-ghost use Rattle.sdh_frame.specs.Sizes.{n_of, size_of};
+ghost use Rattle.sdh_frame.specs.Sizes.{size_of};
+ghost use Rattle.sdh_terms.specs.Rates.{n_of};
 ghost use Rattle.sdh_frame.specs.Fields.{index_of};
 ghost use Rattle.sdh_frame.specs.Lending.{LendsBytes};
 
@@ -19,29 +20,11 @@ pub use laws::{
     writing_an_au_keeps_the_rest, writing_one_list_writes_the_au,
 };
 pub use places::{au_place, place_of, pointer_place};
+pub use sdh_terms::Rate;
 use std::alloc::{AllocError, Global};
 use std::fmt;
 use std::marker::Model;
 pub use view::{AuView, AuViewMut};
-
-/// The rate of a ring: STM-4 or STM-16.
-#[derive(Clone, Copy, Debug, PartialEq, Eq)]
-pub enum Rate {
-    Four,
-    Sixteen,
-}
-
-impl Rate {
-    /// N, the number of AU-4s in a frame: 4 or 16.
-    pub fn n(self) -> usize
-        ensures { result ≡ n_of self }
-    {
-        match self {
-            Rate::Four => 4,
-            Rate::Sixteen => 16,
-        }
-    }
-}
 
 /// A place in a frame: row 1 to 9 and column 1 to 270N.
 #[derive(Clone, Copy, Debug, PartialEq, Eq)]

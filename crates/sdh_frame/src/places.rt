@@ -1,6 +1,6 @@
 //! The places of fields.
 ghost use Rattle.std.specs.Prelude.{◌≡◌, ◌*◌, ◌<◌, ◌≤◌};
-ghost use Rattle.sdh_frame.specs.Sizes.{n_of};
+ghost use Rattle.sdh_terms.specs.Rates.{n_of};
 ghost use Rattle.sdh_frame.specs.Fields.{field_at, payload_place, place_of_pointer};
 
 use crate::{Field, Place, Rate};

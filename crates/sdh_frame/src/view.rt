@@ -1,7 +1,8 @@
 //! AU-4s lent in place.
 ghost use Rattle.std.specs.Prelude.{◌≡◌, ◌+◌, ◌*◌, ◌-◌, ◌<◌, ◌≤◌, length, slice_index, slice_set, slice_range};
 ghost use Rattle.std.specs.Borrow.{sem};
-ghost use Rattle.sdh_frame.specs.Sizes.{n_of, size_of};
+ghost use Rattle.sdh_frame.specs.Sizes.{size_of};
+ghost use Rattle.sdh_terms.specs.Rates.{n_of};
 ghost use Rattle.sdh_frame.specs.Fields.{index_of, payload_place, place_of_pointer};
 ghost use Rattle.sdh_frame.specs.Lending.{LendsRow};
 ghost use Rattle.sdh_frame.specs.Aus.{payload_of, pointers_of, with_payload, with_pointers, with_au, ones};

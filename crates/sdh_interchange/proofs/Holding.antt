@@ -5,7 +5,8 @@ use Rattle.std.proofs.lemmas.List.{length-set, get_or-set_same, get_or-set_other
 use Rattle.sdh_payload.specs.Room.{written}
 use Rattle.sdh_payload.proofs.Splicing.{written_whole}
 use Rattle.sdh_basics.proofs.CellsLaws.{length-cells}
-use Rattle.sdh_frame.specs.Sizes.{Frame, n_of}
+use Rattle.sdh_frame.specs.Sizes.{Frame}
+use Rattle.sdh_terms.specs.Rates.{n_of}
 use Rattle.sdh_frame.specs.Fields.{index_of, payload_place}
 use Rattle.sdh_frame.specs.Aus.{payload_of}
 use Rattle.sdh_frame.proofs.Moves.{taken}

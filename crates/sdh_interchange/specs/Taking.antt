@@ -1,6 +1,7 @@
 -- Payloads that are kept once they have been taken out of a frame.
 use Rattle.std.specs.Prelude.{◌≡◌, ◌+◌, ◌*◌, ◌-◌, ◌<◌, ◌≤◌, ◌⊎◌, ℕ, Bool, true, false, List, [], length, slice_index_or}
-use Rattle.sdh_frame.specs.Sizes.{Frame, n_of}
+use Rattle.sdh_frame.specs.Sizes.{Frame}
+use Rattle.sdh_terms.specs.Rates.{n_of}
 use Rattle.sdh_frame.specs.Aus.{payload_of}
 
 -- ---- cells, by their places

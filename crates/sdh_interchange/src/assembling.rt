@@ -1,6 +1,7 @@
 //! A frame is put together, row by row, from the AU-4s of two others and from payloads of its own.
 ghost use Rattle.std.specs.Prelude.{◌≡◌, ℕ, ◌+◌, ◌%◌, ◌<◌, ◌≤◌, [], length, slice_index, slice_index_or};
-ghost use Rattle.sdh_frame.specs.Sizes.{n_of, size_of};
+ghost use Rattle.sdh_frame.specs.Sizes.{size_of};
+ghost use Rattle.sdh_terms.specs.Rates.{n_of};
 ghost use Rattle.sdh_frame.specs.Aus.{with_aus, pointer_byte};
 ghost use Rattle.sdh_interchange.specs.Assembled.{assembled, HasRow};
 

@@ -1,12 +1,13 @@
 //! Where all AU-4s of a frame come from, worked out once for its nine rows.
 ghost use Rattle.std.specs.Prelude.{◌≡◌, ◌≢◌, ℕ, ◌+◌, ◌*◌, ◌/◌, ◌<◌, length, slice_index};
 ghost use Rattle.std.specs.List.{list_any};
-ghost use Rattle.sdh_frame.specs.Sizes.{n_of, size_of};
+ghost use Rattle.sdh_frame.specs.Sizes.{size_of};
+ghost use Rattle.sdh_terms.specs.Rates.{n_of};
 ghost use Rattle.sdh_interchange.specs.Choosing.{chosen, AreSources, AreLanes, is_passed, is_own};
 
 use crate::choose::{Lanes, Source, any_own, any_passed, choose_row4, choose_row16, lanes_of};
 use crate::own::Payloads;
-use sdh_frame::Rate;
+use sdh_terms::Rate;
 use std::fmt;
 use std::marker::Model;
 
@@ -23,7 +24,7 @@ pub struct Choice<'a> {
 impl<'a> Model for Choice<'a> {
     ghost use Rattle.std.specs.Prelude.{◌≡◌};
     ghost use Rattle.std.specs.List.{list_any};
-    ghost use Rattle.sdh_frame.specs.Sizes.{n_of};
+    ghost use Rattle.sdh_terms.specs.Rates.{n_of};
     ghost use Rattle.sdh_interchange.specs.Choosing.{AreSources, AreLanes, is_passed, is_own};
     ghost use Rattle.sdh_interchange.specs.Assembled.{Origins};
 

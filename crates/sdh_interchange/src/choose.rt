@@ -4,7 +4,8 @@
 ghost use Rattle.std.specs.Prelude.{◌≡◌, ◌≢◌, ℕ, ◌+◌, ◌*◌, ◌-◌, ◌/◌, ◌%◌, ◌<◌, ◌≤◌, ◌⊎◌, true, false, length, slice_index, slice_index_or, if◌then◌else◌};
 ghost use Rattle.std.specs.List.{list_any};
 ghost use Rattle.sdh_interchange.specs.declared.choose.Source.TheVariants.{Ones};
-ghost use Rattle.sdh_frame.specs.Sizes.{n_of, size_of};
+ghost use Rattle.sdh_frame.specs.Sizes.{size_of};
+ghost use Rattle.sdh_terms.specs.Rates.{n_of};
 ghost use Rattle.sdh_interchange.specs.Choosing.{IsSource, AreSources, IsLane, is_passed, is_own, own_byte, picked_at, is_au_byte, AreLanes, AreExtra, IsPlain};
 ghost use Rattle.sdh_interchange.specs.Tables.{cell, IsTable};
 

@@ -1,14 +1,15 @@
 //! The payloads of half of the AU-4s of a frame at once, sixteen columns at a time, each into cells of its own.
 ghost use Rattle.std.specs.Prelude.{◌≡◌, ◌≢◌, ℕ, ◌+◌, ◌*◌, ◌-◌, ◌/◌, ◌%◌, ◌<◌, ◌≤◌, ◌⊎◌, [], length, slice_index, slice_index_or};
-ghost use Rattle.sdh_frame.specs.Sizes.{n_of, size_of};
+ghost use Rattle.sdh_frame.specs.Sizes.{size_of};
+ghost use Rattle.sdh_terms.specs.Rates.{n_of};
 ghost use Rattle.sdh_frame.specs.Fields.{index_of, payload_place};
 ghost use Rattle.sdh_frame.specs.Aus.{payload_of};
 ghost use Rattle.sdh_interchange.specs.Tables.{cell, IsTable};
 ghost use Rattle.sdh_interchange.specs.Taking.{HaveRoom, KeepsOthers};
 
 use crate::table::{lanes_from, last_two};
-use sdh_frame::Rate;
 use sdh_payload::Cells;
+use sdh_terms::Rate;
 use std::simd::prelude::*;
 
 // Sixteen bytes become these.

@@ -3,23 +3,13 @@
 -- source of four bits, one bit for the path and three bits for the mark. The tables of codes and marks are this
 -- project's own, after ITU-T G.841.
 use Rattle.std.specs.Prelude.{ℕ, ◌≡◌, ◌≢◌, ◌+◌, ◌*◌, ◌/◌, ◌%◌, ◌≤◌, ◌⊎◌, Option, Some, option_and_then, List, [], ◌∷◌, find, ◌==◌, if◌then◌else◌, Bool, true, false}
-use Rattle.sdh_kbytes.specs.declared.Code.{Code}
-use Rattle.sdh_kbytes.specs.declared.Code.TheVariants.{Nr, Rr, Wtr, Ms, Sd, Sf, Fs}
+use Rattle.sdh_terms.specs.declared.Code.{Code}
+use Rattle.sdh_terms.specs.declared.Code.TheVariants.{Nr, Rr, Wtr, Ms, Sd, Sf, Fs}
 use Rattle.sdh_kbytes.specs.declared.Path.{Path}
 use Rattle.sdh_kbytes.specs.declared.Path.TheVariants.{Short, Long}
 use Rattle.sdh_kbytes.specs.declared.Mark.{Mark}
 use Rattle.sdh_kbytes.specs.declared.Mark.TheVariants.{Idle, Bridged, BridgedSwitched, Rdi, MsAis}
 use Rattle.sdh_kbytes.specs.declared.K.{K}
-
--- the table of codes: the four bits of each, of which the larger number is the more urgent
-abbrev pub code_number : Code → ℕ
-code_number Nr = 0
-code_number Rr = 1
-code_number Wtr = 5
-code_number Ms = 6
-code_number Sd = 8
-code_number Sf = 11
-code_number Fs = 13
 
 -- the bit of a path
 abbrev pub path_number : Path → ℕ

@@ -3,30 +3,13 @@
 #![tactic(auto)]
 
 ghost use Rattle.std.specs.Prelude.{◌≡◌, ◌↔◌, ℕ, ◌≤◌, Some, IfSome};
-ghost use Rattle.sdh_kbytes.specs.KBytes.{code_number, path_number, mark_number, code_at, mark_at, decoded, Spells, IsUnlisted};
+ghost use Rattle.sdh_kbytes.specs.KBytes.{path_number, mark_number, code_at, mark_at, decoded, Spells, IsUnlisted};
+ghost use Rattle.sdh_terms.specs.Requests.{code_number};
 
 mod same;
 
 pub use same::{agrees, same_code, same_heard, same_word};
-
-/// What a word asks for, from the least to the most urgent.
-#[derive(Clone, Copy, Debug, PartialEq, Eq)]
-pub enum Code {
-    /// No request.
-    Nr,
-    /// Reverse request: the answer to a neighbour's request.
-    Rr,
-    /// Wait to restore: a defect has ended a short time ago.
-    Wtr,
-    /// Manual switch.
-    Ms,
-    /// Signal degrade.
-    Sd,
-    /// Signal fail.
-    Sf,
-    /// Forced switch.
-    Fs,
-}
+pub use sdh_terms::Code;
 
 /// Which way round the ring a word goes to its destination.
 #[derive(Clone, Copy, Debug, PartialEq, Eq)]
@@ -62,36 +45,20 @@ pub struct K {
     pub mark: Mark,
 }
 
-impl Code {
-    /// The four bits of the code. A more urgent code has a larger number.
-    pub fn number(self) -> u8
-        ensures { result ≡ code_number self }
-    {
-        match self {
-            Code::Nr => 0,
-            Code::Rr => 1,
-            Code::Wtr => 5,
-            Code::Ms => 6,
-            Code::Sd => 8,
-            Code::Sf => 11,
-            Code::Fs => 13,
-        }
-    }
-
-    fn of(bits: u8) -> Option<Code>
-        ensures { result ≡ code_at bits }
-    {
-        Some(match bits {
-            0 => Code::Nr,
-            1 => Code::Rr,
-            5 => Code::Wtr,
-            6 => Code::Ms,
-            8 => Code::Sd,
-            11 => Code::Sf,
-            13 => Code::Fs,
-            _ => return None,
-        })
-    }
+// The code of four bits, if the table has it.
+fn code_of(bits: u8) -> Option<Code>
+    ensures { result ≡ code_at bits }
+{
+    Some(match bits {
+        0 => Code::Nr,
+        1 => Code::Rr,
+        5 => Code::Wtr,
+        6 => Code::Ms,
+        8 => Code::Sd,
+        11 => Code::Sf,
+        13 => Code::Fs,
+        _ => return None,
+    })
 }
 
 impl Path {
@@ -153,7 +120,7 @@ pub fn decode(k1: u8, k2: u8) -> Option<K>
     ensures unlisted { (result ≡ None) ↔ IsUnlisted k1 k2 }
 {
     Some(K {
-        code: Code::of(k1 >> 4)?,
+        code: code_of(k1 >> 4)?,
         to: k1 & 15,
         from: k2 >> 4,
         path: if (k2 >> 3) & 1 == 0 {

@@ -3,17 +3,19 @@
 use Rattle.std.specs.Prelude.{◌≡◌, ◌≢◌, ℕ, ◌+◌, ◌*◌, ◌%◌, ◌≤◌, Bool, ◌==◌, nat_le, if◌then◌else◌, Option, Some, None, IfSome, List, length, map, slice_index, replicate}
 use Rattle.std.specs.Option.{is_some}
 use Rattle.sdh_basics.specs.Indexed.{map_from}
-use Rattle.sdh_frame.specs.declared.Rate.{Rate}
-use Rattle.sdh_frame.specs.Sizes.{Frame, n_of, size_of}
+use Rattle.sdh_terms.specs.declared.Rate.{Rate}
+use Rattle.sdh_frame.specs.Sizes.{Frame, size_of}
+use Rattle.sdh_terms.specs.Rates.{n_of}
 use Rattle.sdh_frame.specs.Aus.{pointers_of}
 use Rattle.sdh_overhead.specs.declared.Received.{Received}
 use Rattle.sdh_overhead.specs.declared.Received.TheVariants.{Framed, Unframed}
 use Rattle.sdh_overhead.specs.Sections as section
 use Rattle.sdh_overhead.specs.Sections.{Parities, holding, opened, received_in, kept_after}
 use Rattle.sdh_kbytes.specs.declared.K.{K}
-use Rattle.sdh_kbytes.specs.declared.Code.{Code}
-use Rattle.sdh_kbytes.specs.declared.Code.TheVariants.{Rr}
-use Rattle.sdh_kbytes.specs.KBytes.{code_number, decoded}
+use Rattle.sdh_terms.specs.declared.Code.{Code}
+use Rattle.sdh_terms.specs.declared.Code.TheVariants.{Rr}
+use Rattle.sdh_kbytes.specs.KBytes.{decoded}
+use Rattle.sdh_terms.specs.Requests.{code_number}
 use Rattle.sdh_ringmap.specs.declared.Side.{Side}
 use Rattle.sdh_ringmap.specs.declared.Side.TheVariants.{West, East}
 use Rattle.sdh_request.specs.declared.Defect.{Defect}

@@ -1,6 +1,6 @@
 //! One multiplexer.
 ghost use Rattle.std.specs.Prelude.{◌≡◌, ◌&&◌, not, nat_le, ◌+◌, ◌-◌, ◌/◌, ◌^◌, ◌<◌, ◌≤◌, ◌≢◌, None, IfOk, IsTrue, length};
-ghost use Rattle.sdh_frame.specs.Sizes.{n_of};
+ghost use Rattle.sdh_terms.specs.Rates.{n_of};
 ghost use Rattle.sdh_squelch.specs.Kept.{KeepsRing};
 ghost use Rattle.sdh_nodestate.specs.Words.{SendsSpellable};
 ghost use Rattle.sdh_plant.specs.Arrivals.{as_arrival, arrived_in};
@@ -11,7 +11,7 @@ ghost use Rattle.sdh_node.specs.Node.{new_node, at_receiving, held_for, slips_at
 use crate::cross::{CrossConnect, deliver};
 use sdh_circuits::{CircuitMap, PortId};
 use sdh_frame::FrameBuf;
-use sdh_kbytes::{Code, K};
+use sdh_kbytes::K;
 use sdh_nodestate::{NodeState, Sent, first_word};
 use sdh_overhead::Landed;
 use sdh_payload::{Delivered, Turn};
@@ -19,6 +19,7 @@ use sdh_plant::Arrived;
 use sdh_request::{Command, Moment, Settings};
 use sdh_ringmap::{Pos, RingMap, Side};
 use sdh_terminal::{Sender, Tributaries, send_both};
+use sdh_terms::Code;
 use std::alloc::{AllocError, Global};
 use std::marker::Model;
 

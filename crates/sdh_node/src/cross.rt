@@ -1,6 +1,6 @@
 //! The cross-connect: both sides that receive and what they take in, the state, and where it leads what comes in.
 ghost use Rattle.std.specs.Prelude.{◌≡◌, ◌&&◌, ◌+◌, ◌*◌, ◌-◌, ◌/◌, ◌<◌, ◌≤◌, ◌≢◌, None, true, false, All, IfOk, length};
-ghost use Rattle.sdh_frame.specs.Sizes.{n_of};
+ghost use Rattle.sdh_terms.specs.Rates.{n_of};
 ghost use Rattle.sdh_ringmap.specs.declared.Side.TheVariants.{West, East};
 ghost use Rattle.sdh_squelch.specs.Kept.{KeepsRing};
 ghost use Rattle.sdh_nodestate.specs.Rules.{word};
@@ -16,7 +16,7 @@ ghost use Rattle.sdh_terminal.specs.Lines.{line_on, received, IsFeeder};
 use crate::receiver::Receiver;
 use sdh_bridge::{Origin, drop_origin, protection_origin, working_origin};
 use sdh_circuits::{CircuitMap, Slot};
-use sdh_frame::{FrameBuf, Rate};
+use sdh_frame::FrameBuf;
 use sdh_nodestate::{Heard, Needs, NodeState, Sent, same_shape, shape_of, start, step};
 use sdh_overhead::Landed;
 use sdh_plant::Arrived;
@@ -24,6 +24,7 @@ use sdh_request::{Command, Moment, Settings};
 use sdh_ringmap::{Pos, RingMap, Side};
 use sdh_squelch::Table;
 use sdh_terminal::{Feeder, Intake, Matrix, Tributaries};
+use sdh_terms::Rate;
 use std::alloc::{AllocError, Global};
 use std::marker::Model;
 

@@ -1,7 +1,7 @@
 //! One side that receives.
 ghost use Rattle.std.specs.Prelude.{◌≡◌, ◌≢◌, ◌&&◌, ◌+◌, ◌*◌, ◌-◌, ◌<◌, ◌≤◌, None, Some, IfSome, IfOk, length, slice_index_or};
 ghost use Rattle.std.specs.Option.{is_some};
-ghost use Rattle.sdh_frame.specs.Sizes.{n_of};
+ghost use Rattle.sdh_terms.specs.Rates.{n_of};
 ghost use Rattle.sdh_overhead.specs.Sections.{holding};
 ghost use Rattle.sdh_kbytes.specs.KBytes.{IsSpellable};
 ghost use Rattle.sdh_nodestate.specs.Filtering.{hears};
@@ -18,12 +18,13 @@ ghost use Rattle.sdh_node.specs.Crossing.{is_failed};
 ghost use Rattle.sdh_node.specs.Node.{new_receiving, compared_in};
 
 use sdh_frame::FrameBuf;
-use sdh_kbytes::{Code, K, same_code, same_heard};
+use sdh_kbytes::{K, same_code, same_heard};
 use sdh_nodestate::Filter;
 use sdh_overhead::Landed;
 use sdh_plant::Arrived;
 use sdh_request::{Command, Defect, Local, Moment, Settings};
 use sdh_terminal::{Inlet, Intake};
+use sdh_terms::Code;
 use std::alloc::{AllocError, Global};
 use std::marker::Model;
 

@@ -1,20 +1,21 @@
 //! Nodes of a ring of nodes 1, 2 and 3 with a circuit from node 1 to node 2 in slot 1.
 ghost use Rattle.std.specs.Prelude.{◌≡◌, ◌+◌, ◌<◌, ◌≤◌, IfSome};
-ghost use Rattle.sdh_frame.specs.Sizes.{n_of};
+ghost use Rattle.sdh_terms.specs.Rates.{n_of};
 ghost use Rattle.sdh_circuits.specs.declared.End.TheVariants.{B};
 ghost use Rattle.sdh_terminal.specs.Tributaries.{HasPort};
 ghost use Rattle.sdh_node.specs.Node.{moment_of};
 
 use super::*;
 use sdh_circuits::{Asked, CircuitMap, End, PortId};
-use sdh_frame::{FrameBuf, Place, Rate};
-use sdh_kbytes::{Code, encode};
+use sdh_frame::{FrameBuf, Place};
+use sdh_kbytes::encode;
 use sdh_nodestate::{NodeState, Shape, same_shape, shape_of};
 use sdh_overhead::{Section, read_section, write_section};
 use sdh_plant::Arrived;
 use sdh_request::{Command, Moment};
 use sdh_ringmap::{Pos, RingMap, Side};
 use sdh_terminal::h3_at;
+use sdh_terms::{Code, Rate};
 use std::alloc::Global;
 use std::process::Abort;
 

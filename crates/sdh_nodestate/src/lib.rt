@@ -19,8 +19,9 @@ mod shape;
 
 use crate::scene::Scene;
 pub use filter::Filter;
-use sdh_kbytes::{Code, K, Mark, Path};
+use sdh_kbytes::{K, Mark, Path};
 use sdh_ringmap::{Chain, Pos, RingMap, Side};
+use sdh_terms::Code;
 pub use shape::{Shape, same_shape, shape_of};
 use std::marker::Model;
 

@@ -7,8 +7,9 @@ ghost use Rattle.sdh_kbytes.specs.KBytes.{IsSpellable};
 ghost use Rattle.sdh_nodestate.specs.FarEnds.{far_of, IsElsewhere};
 
 use crate::{Heard, Idle, Isolated, Needs, NodeState, PassThrough, SwitchEast, SwitchWest};
-use sdh_kbytes::{Code, K, Mark, Path};
+use sdh_kbytes::{K, Mark, Path};
 use sdh_ringmap::{Pos, RingMap, Side};
+use sdh_terms::Code;
 
 // A node in one round: its ring and position, what it needs and what it hears.
 #[derive(Drop)]

@@ -1,6 +1,6 @@
 -- Frames that landed: descrambled on their way, with both parities summed.
 use Rattle.std.specs.Prelude.{ℕ, ◌≡◌, ◌*◌, Bool, true, false, Option, Some, None, List, take}
-use Rattle.sdh_frame.specs.declared.Rate.{Rate}
+use Rattle.sdh_terms.specs.declared.Rate.{Rate}
 use Rattle.sdh_parity.specs.Scrambling.{scrambled}
 use Rattle.sdh_overhead.specs.Sections.{parities_of}
 

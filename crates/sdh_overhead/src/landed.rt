@@ -1,7 +1,8 @@
 //! Frames that are descrambled and summed as they land, so that a section reads them without going over them again.
 ghost use Rattle.std.specs.Prelude.{◌≡◌, ◌≢◌, ℕ, ◌+◌, ◌*◌, ◌-◌, ◌≤◌, ◌⊎◌, List, Option, Some, None, IfOk, length};
 ghost use Rattle.sdh_basics.specs.Parity.{bip8 as parity_of};
-ghost use Rattle.sdh_frame.specs.Sizes.{n_of, size_of};
+ghost use Rattle.sdh_frame.specs.Sizes.{size_of};
+ghost use Rattle.sdh_terms.specs.Rates.{n_of};
 ghost use Rattle.sdh_parity.specs.Parity.{section_bytes};
 ghost use Rattle.sdh_parity.specs.Pieces.{after_bytes};
 ghost use Rattle.sdh_parity.specs.Scrambling.{scrambled};
@@ -10,7 +11,8 @@ ghost use Rattle.sdh_overhead.specs.Sections.{holding, received_in, kept_after};
 use crate::Received;
 use crate::rows::{Rows, parity_of_rows};
 use crate::section::{Section, is_framed};
-use sdh_frame::{FrameBuf, Landing, Rate};
+use sdh_frame::{FrameBuf, Landing};
+use sdh_terms::Rate;
 use std::alloc::{AllocError, Global};
 use std::marker::Model;
 
@@ -25,7 +27,8 @@ pub struct Landed {
 
 impl Model for Landed {
     ghost use Rattle.std.specs.Prelude.{◌≡◌, length};
-    ghost use Rattle.sdh_frame.specs.Sizes.{n_of, size_of};
+    ghost use Rattle.sdh_frame.specs.Sizes.{size_of};
+    ghost use Rattle.sdh_terms.specs.Rates.{n_of};
     ghost use Rattle.sdh_overhead.specs.Landing.{LandedFrame, landed_of, AreSummed};
 
     ghost Value = { LandedFrame };

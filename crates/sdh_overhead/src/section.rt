@@ -1,7 +1,8 @@
 //! Sections: what they send, and what they find in a received frame.
 ghost use Rattle.std.specs.Prelude.{◌≡◌, ◌≢◌, ℕ, List, [], ◌++◌, ◌+◌, ◌*◌, ◌-◌, ◌<◌, ◌≤◌, ◌==◌, true, false, length, take, slice_index, None, Some, IfSome};
 ghost use Rattle.std.specs.List.{list_all};
-ghost use Rattle.sdh_frame.specs.Sizes.{n_of, size_of};
+ghost use Rattle.sdh_frame.specs.Sizes.{size_of};
+ghost use Rattle.sdh_terms.specs.Rates.{n_of};
 ghost use Rattle.sdh_parity.specs.Scrambling.{scrambled};
 ghost use Rattle.sdh_parity.specs.Pieces.{scrambled_from};
 ghost use Rattle.sdh_overhead.specs.Sections.{SectionKept, holding, clear_frame, line_frame, parities_of, is_framed, found_in, received_in, kept_after, opened, next_of};
@@ -11,7 +12,8 @@ ghost use Rattle.sdh_overhead.specs.Laws.{AreParities};
 use crate::Received;
 use crate::overhead::write_head;
 use crate::rows::{Rows, b1_after, b2_after, k_after, parity_of_rows};
-use sdh_frame::{FrameBuf, Rate};
+use sdh_frame::FrameBuf;
+use sdh_terms::Rate;
 use std::marker::Model;
 
 /// The parities of the last frame in one direction of a section, or none, and what is kept of a frame that is under way.
@@ -26,7 +28,7 @@ pub struct Section {
 
 impl Model for Section {
     ghost use Rattle.std.specs.Prelude.{◌≡◌, length};
-    ghost use Rattle.sdh_frame.specs.Sizes.{n_of};
+    ghost use Rattle.sdh_terms.specs.Rates.{n_of};
     ghost use Rattle.sdh_overhead.specs.Sections.{SectionKept, last_of, under_way_of, IsBlank};
     ghost use Rattle.sdh_overhead.specs.Rows.{IsPlaced};
 

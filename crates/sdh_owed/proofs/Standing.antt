@@ -10,7 +10,8 @@ use Rattle.sdh_circuits.specs.Provisioning.{Provisioning}
 use Rattle.sdh_payload.specs.declared.clock.Turn.{Turn}
 use Rattle.sdh_payload.specs.declared.clock.Turn.TheVariants.{Up, Down}
 use Rattle.sdh_payload.specs.Clock.{Clock, new_clock, waiting, waits}
-use Rattle.sdh_plant.specs.Fibres.{Fibres, IsConditionAt}
+use Rattle.sdh_plant.specs.Fibres.{Fibres}
+use Rattle.sdh_terms.specs.Fibres.{IsConditionAt}
 use Rattle.sdh_request.specs.declared.settings.Settings.{Settings}
 use Rattle.sdh_terminal.specs.Tributaries.{Tributary, port_of}
 use Rattle.sdh_node.specs.Node.{Node}

@@ -9,10 +9,9 @@ use crate::draws::Draws;
 use crate::plan::Plan;
 use crate::step::Step;
 use sdh_circuits::{AddError, Asked, CircuitMap};
-use sdh_frame::Rate;
-use sdh_plant::{Condition, FibreEvent};
 use sdh_request::{Moment, Settings};
 use sdh_ringmap::{Pos, RingMap, Side};
+use sdh_terms::{Condition, FibreEvent, Rate};
 use std::alloc::{AllocError, Global};
 
 // The next circuit of a slot: its number there, the position where it starts, and its number of spans.

@@ -11,9 +11,9 @@ use crate::step::Step;
 use crate::words::{is_word, numeral_in, words_of};
 use sdh_circuits::{CircuitMap, End, PortId};
 use sdh_payload::Turn;
-use sdh_plant::{Condition, FibreEvent};
 use sdh_request::{Command, Moment};
 use sdh_ringmap::{Pos, RingMap, Side};
+use sdh_terms::{Condition, FibreEvent};
 
 // The position of the node whose identifier the word is.
 #[tactic(auto, unfolding(crate::specs::Steps::node_at))]

@@ -1,6 +1,6 @@
 //! A plan.
 ghost use Rattle.std.specs.Prelude.{◌≡◌, ◌*◌, ◌≤◌};
-ghost use Rattle.sdh_frame.specs.Sizes.{n_of};
+ghost use Rattle.sdh_terms.specs.Rates.{n_of};
 ghost use Rattle.sdh_plan.specs.Planned.{IsPlanned, provisioning_of};
 
 use crate::step::Step;

@@ -1,9 +1,9 @@
 //! What a script does.
 use sdh_circuits::PortId;
 use sdh_payload::Turn;
-use sdh_plant::FibreEvent;
 use sdh_request::{Command, Moment};
 use sdh_ringmap::{Pos, Side};
+use sdh_terms::FibreEvent;
 
 /// A step of a script.
 #[derive(Clone, Copy, Debug, PartialEq, Eq)]

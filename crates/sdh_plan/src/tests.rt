@@ -2,11 +2,10 @@
 
 use crate::{Plan, PlanError, Step, big_plan, read_plan};
 use sdh_circuits::{Circuit, End, PortId, Slot};
-use sdh_frame::Rate;
 use sdh_payload::{Port, Turn};
-use sdh_plant::{Condition, FibreEvent};
 use sdh_request::{Command, Moment};
 use sdh_ringmap::{Pos, Side, Span};
+use sdh_terms::{Condition, FibreEvent, Rate};
 use std::alloc::{AllocError, Global};
 use std::process::Abort;
 use std::test::Fail;

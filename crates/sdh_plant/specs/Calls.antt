@@ -2,12 +2,13 @@
 use Rattle.std.specs.Prelude.{ℕ, ◌*◌, ◌==◌, Bool, true, if◌then◌else◌, Some, None, List, [], ◌∷◌, ◌++◌, length, drop, replicate, slice_set, option_map}
 use Rattle.std.specs.List.{list_all}
 use Rattle.std.specs.Option.{option_map_or}
-use Rattle.sdh_frame.specs.declared.Rate.{Rate}
+use Rattle.sdh_terms.specs.declared.Rate.{Rate}
 use Rattle.sdh_frame.specs.Sizes.{size_of}
 use Rattle.sdh_ringmap.specs.declared.Side.{Side}
-use Rattle.sdh_plant.specs.declared.plant.Condition.{Condition}
-use Rattle.sdh_plant.specs.declared.plant.Condition.TheVariants.{Clear}
-use Rattle.sdh_plant.specs.Fibres.{Arrival, Fibres, fibre}
+use Rattle.sdh_terms.specs.declared.Condition.{Condition}
+use Rattle.sdh_terms.specs.declared.Condition.TheVariants.{Clear}
+use Rattle.sdh_plant.specs.Fibres.{Arrival, Fibres}
+use Rattle.sdh_terms.specs.Fibres.{fibre}
 
 -- an arrival is no frame of another rate; a frame's rate is seen by its size
 abbrev pub is_at : Rate → Arrival → Bool

@@ -1,13 +1,13 @@
 -- What a plant means: the fibres of a ring, and what it tells of the frames to come and of those that were sent. This
 -- project's own; each span has two fibres, one each way, as in a two-fibre ring of ITU-T G.841.
 use Rattle.std.specs.Prelude.{ℕ, ◌≡◌, ◌+◌, ◌*◌, ◌≤◌, true, Bool, Option, None, List, length, All, false}
-use Rattle.sdh_frame.specs.declared.Rate.{Rate}
-use Rattle.sdh_frame.specs.Sizes.{n_of}
+use Rattle.sdh_terms.specs.declared.Rate.{Rate}
+use Rattle.sdh_terms.specs.Rates.{n_of}
 use Rattle.sdh_ringmap.specs.declared.Side.{Side}
 use Rattle.sdh_ringmap.specs.declared.Side.TheVariants.{West, East}
 use Rattle.sdh_ringmap.specs.Places.{opposite, neighbour}
-use Rattle.sdh_plant.specs.declared.plant.Condition.{Condition}
-use Rattle.sdh_plant.specs.declared.plant.Condition.TheVariants.{Clear, Cut, Degraded}
+use Rattle.sdh_terms.specs.declared.Condition.{Condition}
+use Rattle.sdh_terms.specs.declared.Condition.TheVariants.{Clear, Cut, Degraded}
 
 -- what comes to a side in a round: the bytes of a frame, or nothing
 abbrev pub Arrival : Type 0
@@ -30,24 +30,9 @@ pub record Fibres : Type 0 where
   -- what comes out of a fibre is what was sent into it, as its condition lets it through
   pub honest : Bool
 
--- the fibre that leaves position p on that side
-abbrev pub fibre : ℕ → Side → ℕ
-fibre p West = 2 * p
-fibre p East = 2 * p + 1
-
--- the fibre that ends at position p on that side, in a ring of n: it leaves the neighbour there on the other side
-abbrev pub fibre_to : ℕ → ℕ → Side → ℕ
-fibre_to n p d = fibre (neighbour n p d) (opposite d)
-
 -- there are no fibres yet
 abbrev pub HasNoFibres : Fibres → Type 0
 HasNoFibres f = f.nodes ≡ 0
-
--- a degradation is by 1 to 3 N columns
-abbrev pub IsConditionAt : Rate → Condition → Type 0
-IsConditionAt rate Clear = Unit {0}
-IsConditionAt rate Cut = Unit {0}
-IsConditionAt rate (Degraded k) = (1 ≤ k) × (k ≤ 3 * n_of rate)
 
 -- there are fibres for a ring of n positions and frames of this rate, each in a condition of the rate
 pub record IsPrepared (at : Rate) (n : ℕ) (f : Fibres) : Type 0 where
@@ -63,15 +48,3 @@ pub record IsPrepared (at : Rate) (n : ℕ) (f : Fibres) : Type 0 where
 pub record IsHonest (f : Fibres) : Type 0 where
   pub honest : f.honest ≡ true
   pub tells_none : f.told ≡ None
-
--- a fibre in this condition is cut
-abbrev pub is_cut : Condition → Bool
-is_cut Cut = true
-is_cut Clear = false
-is_cut (Degraded k) = false
-
--- so many bits of a frame it inverts, all of them in overhead that carries nothing
-abbrev pub degraded_by : Condition → ℕ
-degraded_by (Degraded k) = k
-degraded_by Clear = 0
-degraded_by Cut = 0

@@ -1,11 +1,12 @@
 -- Laws of the calls.
 use Rattle.std.specs.Prelude.{ℕ, ◌≡◌, ◌<◌, ◌≤◌, Some, None, List}
-use Rattle.sdh_frame.specs.declared.Rate.{Rate}
-use Rattle.sdh_frame.specs.Sizes.{n_of}
+use Rattle.sdh_terms.specs.declared.Rate.{Rate}
+use Rattle.sdh_terms.specs.Rates.{n_of}
 use Rattle.sdh_ringmap.specs.declared.Side.{Side}
 use Rattle.sdh_ringmap.specs.Places.{opposite, neighbour}
-use Rattle.sdh_plant.specs.declared.plant.Condition.{Condition}
-use Rattle.sdh_plant.specs.Fibres.{Fibres, IsConditionAt, IsPrepared, IsHonest, fibre}
+use Rattle.sdh_terms.specs.declared.Condition.{Condition}
+use Rattle.sdh_plant.specs.Fibres.{Fibres, IsPrepared, IsHonest}
+use Rattle.sdh_terms.specs.Fibres.{IsConditionAt, fibre}
 use Rattle.sdh_plant.specs.Arrivals.{Knows, arrival, honest_arrival, through, condition_of}
 use Rattle.sdh_plant.specs.Calls.{prepared, after_apply, after_send, after_receive}
 

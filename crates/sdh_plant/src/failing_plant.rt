@@ -2,15 +2,17 @@
 ghost use Rattle.std.specs.Prelude.{◌≡◌, ◌≢◌, true, ◌<◌, ◌≤◌, ◌↔◌, [], None, Ok, Err, IfOk, IsErr, OnOk, OnErr, IsErrOf, IsTrue, Contains, refl};
 ghost use Rattle.sdh_basics.specs.Causes.{Rose, IsCounted, HasCause, one_more};
 ghost use Rattle.sdh_plant.specs.declared.failing_plant.PlantCall.TheVariants.{Prepare, Apply, Send, Receive};
-ghost use Rattle.sdh_plant.specs.Fibres.{HasNoFibres, IsConditionAt};
+ghost use Rattle.sdh_plant.specs.Fibres.{HasNoFibres};
+ghost use Rattle.sdh_terms.specs.Fibres.{IsConditionAt};
 ghost use Rattle.sdh_plant.specs.Arrivals.{Knows, arrival, arrived_in};
 ghost use Rattle.sdh_plant.specs.Calls.{prepared, after_apply, after_send, after_receive};
 ghost use Rattle.sdh_plant.specs.InMemory.{fibres_of, laid, made, IsFailing, called, refused};
 
 use crate::fibre_plant::FibrePlant;
 use crate::plant::{Arrived, Failed, FibreEvent, Plant, PrepareError};
-use sdh_frame::{FrameBuf, Landing, Rate};
+use sdh_frame::{FrameBuf, Landing};
 use sdh_ringmap::{Pos, Side};
+use sdh_terms::Rate;
 use std::alloc::{AllocError, Global};
 use std::marker::Model;
 

@@ -1,9 +1,10 @@
 //! Honest fibres in memory.
 ghost use Rattle.std.specs.Prelude.{◌≡◌, ◌≢◌, true, ◌*◌, ◌<◌, ◌≤◌, Some, None, Ok, IfSome, IfOk, IsOk, OnOk, OnErr, IsOkUnless, IsErrOf, All, length, replicate, slice_index_or, slice_set, refl};
 ghost use Rattle.sdh_basics.specs.Causes.{Rose, IsCounted, HasCause};
-ghost use Rattle.sdh_frame.specs.Sizes.{n_of};
-ghost use Rattle.sdh_plant.specs.declared.plant.Condition.TheVariants.{Clear};
-ghost use Rattle.sdh_plant.specs.Fibres.{HasNoFibres, IsConditionAt, fibre, fibre_to};
+ghost use Rattle.sdh_terms.specs.Rates.{n_of};
+ghost use Rattle.sdh_terms.specs.declared.Condition.TheVariants.{Clear};
+ghost use Rattle.sdh_plant.specs.Fibres.{HasNoFibres};
+ghost use Rattle.sdh_terms.specs.Fibres.{IsConditionAt, fibre, fibre_to};
 ghost use Rattle.sdh_plant.specs.Arrivals.{Knows, arrival, arrived_in, through, carried_on, honest_arrival};
 ghost use Rattle.sdh_plant.specs.Calls.{prepared, after_apply, after_send, after_receive};
 ghost use Rattle.sdh_plant.specs.InMemory.{fibres_of, laid};
@@ -11,8 +12,9 @@ ghost use Rattle.sdh_plant.specs.Kept.{IsFibre, carried_by, conditions, carried}
 
 use crate::frames::land_degraded;
 use crate::plant::{Arrived, Condition, Failed, FibreEvent, Plant, PrepareError};
-use sdh_frame::{FrameBuf, Landing, Rate};
+use sdh_frame::{FrameBuf, Landing};
 use sdh_ringmap::{Pos, Side};
+use sdh_terms::Rate;
 use std::alloc::{AllocError, Global};
 use std::marker::Model;
 

@@ -15,6 +15,7 @@ pub use laws::{
     a_new_plant_is_dark, an_honest_plant_tells_none, calls_keep_a_plant_honest,
     calls_keep_a_plant_prepared, what_is_sent_comes_to_the_neighbour,
 };
-pub use plant::{Arrived, Condition, Failed, FibreEvent, Plant, PrepareError};
+pub use plant::{Arrived, Failed, Plant, PrepareError};
 pub use recording_plant::RecordingPlant;
+pub use sdh_terms::{Condition, FibreEvent};
 pub use told_plant::{Told, ToldPlant};

@@ -1,12 +1,14 @@
 //! What a ring asks of its fibres.
 ghost use Rattle.std.specs.Prelude.{◌≡◌, ◌≢◌, ◌<◌, ◌≤◌, ℕ, Bool, true, None, Ok, IfOk, OnOk, OnErr, IsErrOf};
 ghost use Rattle.sdh_basics.specs.Causes.{Rose, IsCounted, HasCause};
-ghost use Rattle.sdh_plant.specs.Fibres.{Fibres, HasNoFibres, IsConditionAt};
+ghost use Rattle.sdh_plant.specs.Fibres.{Fibres, HasNoFibres};
+ghost use Rattle.sdh_terms.specs.Fibres.{IsConditionAt};
 ghost use Rattle.sdh_plant.specs.Arrivals.{Knows, arrival, arrived_in};
 ghost use Rattle.sdh_plant.specs.Calls.{prepared, after_apply, after_send, after_receive};
 
-use sdh_frame::{FrameBuf, Landing, Rate};
+use sdh_frame::{FrameBuf, Landing};
 use sdh_ringmap::{Pos, Side};
+use sdh_terms::{FibreEvent, Rate};
 use std::alloc::{AllocError, Global};
 use thiserror::Error;
 
@@ -20,25 +22,6 @@ pub struct Failed;
 pub enum Arrived {
     Frame,
     Dark,
-}
-
-/// The condition of a fibre. The one in the round of arrival counts.
-#[derive(Clone, Copy, Debug, PartialEq, Eq)]
-pub enum Condition {
-    /// Frames come as they were sent.
-    Clear,
-    /// Nothing comes.
-    Cut,
-    /// Frames come with the top bit inverted of so many bytes of row 6, 1 to 3N.
-    Degraded(u16),
-}
-
-/// The fibre that leaves a position on a side comes into a condition.
-#[derive(Clone, Copy, Debug, PartialEq, Eq)]
-pub struct FibreEvent {
-    pub at: Pos,
-    pub side: Side,
-    pub condition: Condition,
 }
 
 /// Why there are no fibres.

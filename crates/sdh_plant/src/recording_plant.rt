@@ -1,15 +1,17 @@
 //! Honest fibres in memory that also tell what was sent.
 ghost use Rattle.std.specs.Prelude.{◌≡◌, ◌≢◌, true, ◌+◌, ◌-◌, ◌^◌, ◌<◌, ◌≤◌, ◌↔◌, [], ◌∷◌, ◌++◌, min, None, Ok, IfOk, IsOk, IsErr, OnOk, OnErr, IsOkUnless, IsErrOf, All, length, slice_set, refl};
 ghost use Rattle.sdh_basics.specs.Causes.{Rose, IsCounted, HasCause, one_more};
-ghost use Rattle.sdh_plant.specs.Fibres.{HasNoFibres, IsConditionAt};
+ghost use Rattle.sdh_plant.specs.Fibres.{HasNoFibres};
+ghost use Rattle.sdh_terms.specs.Fibres.{IsConditionAt};
 ghost use Rattle.sdh_plant.specs.Arrivals.{Knows, arrival, arrived_in};
 ghost use Rattle.sdh_plant.specs.Calls.{prepared, after_apply, after_send, after_receive};
 ghost use Rattle.sdh_plant.specs.InMemory.{laid, recorded_of};
 
 use crate::fibre_plant::FibrePlant;
 use crate::plant::{Arrived, Failed, FibreEvent, Plant, PrepareError};
-use sdh_frame::{FrameBuf, Landing, Rate};
+use sdh_frame::{FrameBuf, Landing};
 use sdh_ringmap::{Pos, Side};
+use sdh_terms::Rate;
 use std::alloc::{AllocError, Global};
 use std::marker::Model;
 

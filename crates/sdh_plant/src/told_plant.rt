@@ -4,7 +4,8 @@ ghost use Rattle.std.specs.List.{list_all};
 ghost use Rattle.std.proofs.lemmas.Bool.{false≢true};
 ghost use Rattle.sdh_basics.specs.Causes.{Rose, IsCounted, HasCause};
 ghost use Rattle.sdh_frame.specs.Sizes.{size_of};
-ghost use Rattle.sdh_plant.specs.Fibres.{HasNoFibres, IsConditionAt};
+ghost use Rattle.sdh_plant.specs.Fibres.{HasNoFibres};
+ghost use Rattle.sdh_terms.specs.Fibres.{IsConditionAt};
 ghost use Rattle.sdh_plant.specs.Arrivals.{Knows, arrival, arrived_in, next_told};
 ghost use Rattle.sdh_plant.specs.Calls.{is_at, prepared, after_apply, after_send, after_receive};
 ghost use Rattle.sdh_plant.specs.InMemory.{laid, told_of};
@@ -12,8 +13,9 @@ ghost use Rattle.sdh_plant.specs.Kept.{arrival_of, IsToldAt};
 
 use crate::fibre_plant::FibrePlant;
 use crate::plant::{Arrived, Failed, FibreEvent, Plant, PrepareError};
-use sdh_frame::{FrameBuf, Landing, Rate};
+use sdh_frame::{FrameBuf, Landing};
 use sdh_ringmap::{Pos, Side};
+use sdh_terms::Rate;
 use std::alloc::Global;
 use std::marker::Model;
 

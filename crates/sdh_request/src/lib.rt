@@ -4,11 +4,11 @@
 #![tactic(auto)]
 
 ghost use Rattle.std.specs.Prelude.{◌≡◌, ◌≢◌, ℕ, ◌≤◌, List, []};
-ghost use Rattle.sdh_kbytes.specs.KBytes.{code_number};
+ghost use Rattle.sdh_terms.specs.Requests.{code_number};
 
 mod settings;
 
-use sdh_kbytes::Code;
+use sdh_terms::Code;
 pub use settings::Settings;
 use std::marker::Model;
 

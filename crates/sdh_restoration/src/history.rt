@@ -4,8 +4,8 @@ ghost use Rattle.sdh_request.specs.Requests.{is_clear, waits, highest};
 ghost use Rattle.sdh_restoration.specs.History.{defect_at, ends_at, last_end, local_request};
 ghost use Rattle.sdh_restoration.specs.Rounds.{history_of, still_round};
 
-use sdh_kbytes::Code;
 use sdh_request::{Command, Defect, Moment};
+use sdh_terms::Code;
 
 /// One round of a side: the fibre that comes in, the command that holds, and the moment.
 #[derive(Clone, Copy, Debug, PartialEq, Eq)]

@@ -1,7 +1,7 @@
 -- What is true of a ring, call by call.
 use Rattle.std.proofs.Common.{◌≡◌, ℕ, ◌+◌, ◌/◌, ◌<◌, ◌≤◌, Bool, true, false, List, length, map, ap, sym, subst, ◌∙◌, arith}
 use Rattle.std.specs.Prelude.{All, ◌^◌}
-use Rattle.sdh_frame.specs.declared.Rate.{Rate}
+use Rattle.sdh_terms.specs.declared.Rate.{Rate}
 use Rattle.sdh_plant.specs.Fibres.{Fibres, IsPrepared}
 use Rattle.sdh_request.specs.declared.settings.Settings.{Settings}
 use Rattle.sdh_node.specs.Node.{Node}

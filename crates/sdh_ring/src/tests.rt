@@ -4,7 +4,6 @@ ghost use Rattle.sdh_plant.specs.Fibres.{HasNoFibres, IsPrepared};
 
 use crate::{PlantFault, Ring, SettleError};
 use sdh_circuits::{Asked, CircuitMap, End, PortId};
-use sdh_frame::Rate;
 use sdh_kbytes::encode;
 use sdh_node::{Delivered, Settings, Turn};
 use sdh_nodestate::NodeState;
@@ -12,6 +11,7 @@ use sdh_plant::{
     Condition, FailingPlant, FibreEvent, FibrePlant, Plant, PlantCall, RecordingPlant,
 };
 use sdh_ringmap::{Pos, RingMap, Side};
+use sdh_terms::Rate;
 use std::alloc::Global;
 use std::test::Fail;
 

@@ -2,7 +2,7 @@
 use Rattle.std.proofs.Common.{◌≡◌, ℕ, ◌+◌, ◌-◌, ◌%◌, List, [], ◌∷◌, ◌++◌, length, take, Option, Some, None, refl, ap, sym, subst, ◌∙◌, arith, append_assoc, append-nil}
 use Rattle.std.specs.Prelude.{option_map}
 use Rattle.sdh_plant.specs.Fibres.{Arrival, Fibres, IsPrepared}
-use Rattle.sdh_frame.specs.declared.Rate.{Rate}
+use Rattle.sdh_terms.specs.declared.Rate.{Rate}
 use Rattle.sdh_plant.specs.Arrivals.{Knows}
 use Rattle.sdh_rounds.specs.Stations.{Station}
 use Rattle.sdh_rounds.specs.Held.{HeldRing, World}

@@ -2,7 +2,7 @@
 use Rattle.std.proofs.Common.{◌≡◌, ◌≢◌, ℕ, zero, suc, ◌+◌, ◌*◌, ◌≤◌, List, [], ◌∷◌, ◌++◌, length, drop, Option, Some, None, refl, ap, sym, ◌∙◌, arith, inl, inr}
 use Rattle.std.specs.Prelude.{option_map}
 use Rattle.std.proofs.lemmas.List.{take-append-le, take_all, length-map}
-use Rattle.sdh_frame.specs.declared.Rate.{Rate}
+use Rattle.sdh_terms.specs.declared.Rate.{Rate}
 use Rattle.sdh_plant.specs.Fibres.{Arrival, Fibres, IsPrepared}
 use Rattle.sdh_plant.specs.Arrivals.{Knows}
 use Rattle.sdh_rounds.specs.Stations.{Station}

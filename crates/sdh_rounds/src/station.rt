@@ -1,6 +1,6 @@
 //! What a round asks of a node.
 ghost use Rattle.std.specs.Prelude.{◌≡◌, ◌≢◌, ℕ, None};
-ghost use Rattle.sdh_frame.specs.declared.Rate.{Rate};
+ghost use Rattle.sdh_terms.specs.declared.Rate.{Rate};
 ghost use Rattle.sdh_ringmap.specs.declared.Side.TheVariants.{West, East};
 ghost use Rattle.sdh_plant.specs.Arrivals.{arrived_in};
 ghost use Rattle.sdh_rounds.specs.Stations.{Station as Kind};

@@ -7,7 +7,8 @@ use Rattle.std.proofs.lemmas.List.Elements.{All-get_or}
 use Rattle.std.proofs.lemmas.Option.{get_or_from_slice_get, slice_get-get_or, slice_get_within}
 use Rattle.sdh_basics.specs.Indexed.{map_from}
 use Rattle.sdh_basics.proofs.CellsLaws.{length-map_from, get_or-placed}
-use Rattle.sdh_kbytes.specs.KBytes.{code_number, path_number}
+use Rattle.sdh_kbytes.specs.KBytes.{path_number}
+use Rattle.sdh_terms.specs.Requests.{code_number}
 use Rattle.sdh_kbytes.specs.Same.{agrees}
 use Rattle.sdh_kbytes.specs.declared.K.{K}
 use Rattle.sdh_ringmap.specs.Places.{neighbour, opposite}

@@ -6,8 +6,8 @@ use crate::plans::{
     SMALLEST_TEXT, TWO_NODES, TWO_NODES_TEXT, TWO_SPANS, TWO_SPANS_CUT, TWO_SPANS_CUT_SLIPPED,
 };
 use sdh_cli::Status;
-use sdh_frame::Rate;
 use sdh_plant::{RecordingPlant, ToldPlant};
+use sdh_terms::Rate;
 use std::alloc::{AllocError, Global};
 use std::test::Fail;
 

@@ -3,7 +3,7 @@
 
 ghost use Rattle.std.specs.Prelude.{◌≡◌, ◌+◌, ◌*◌, ◌/◌, ◌≤◌, ◌<◌, ◌++◌, length, slice_index, IfOk, OnOk};
 ghost use Rattle.sdh_report.specs.Lines.{table_line};
-ghost use Rattle.sdh_frame.specs.Sizes.{n_of};
+ghost use Rattle.sdh_terms.specs.Rates.{n_of};
 ghost use Rattle.sdh_squelch.specs.Table.{table_of};
 ghost use Rattle.sdh_tables.specs.Tables.{slot_line, side_lines, node_lines, tables_of};
 

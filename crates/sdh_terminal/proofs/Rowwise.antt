@@ -1,8 +1,9 @@
 -- A sent frame, of which row after row is put together and written.
 use Rattle.std.proofs.Common.{◌≡◌, ℕ, ◌+◌, ◌*◌, ◌-◌, ◌<◌, ◌≤◌, List, ◌++◌, length, Some, refl, ap, sym, subst, ◌∙◌, arith}
 use Rattle.std.specs.Prelude.{slice_range}
-use Rattle.sdh_frame.specs.declared.Rate.{Rate}
-use Rattle.sdh_frame.specs.Sizes.{Frame, n_of, size_of}
+use Rattle.sdh_terms.specs.declared.Rate.{Rate}
+use Rattle.sdh_frame.specs.Sizes.{Frame, size_of}
+use Rattle.sdh_terms.specs.Rates.{n_of}
 use Rattle.sdh_frame.specs.Aus.{Au, with_aus}
 use Rattle.sdh_frame.specs.Lending.{with_row}
 use Rattle.sdh_frame.proofs.AllAus.{length-with_aus}

@@ -1,7 +1,7 @@
 //! One side that receives frames.
 ghost use Rattle.std.specs.Prelude.{◌≡◌, ◌≢◌, ◌-◌, ◌≤◌, None, Some, IfSome, IfOk, length, slice_index_or};
 ghost use Rattle.std.specs.Option.{is_some};
-ghost use Rattle.sdh_frame.specs.Sizes.{n_of};
+ghost use Rattle.sdh_terms.specs.Rates.{n_of};
 ghost use Rattle.sdh_overhead.specs.Sections.{holding};
 ghost use Rattle.sdh_kbytes.specs.KBytes.{IsSpellable};
 ghost use Rattle.sdh_pointer.specs.Reading.{start};
@@ -11,12 +11,13 @@ ghost use Rattle.sdh_terminal.specs.Receiving.{new_inlet, inlet_told, found, tak
 
 use crate::intake::Intake;
 use crate::making::new_interpreters;
-use sdh_frame::{FrameBuf, Landing, Rate};
+use sdh_frame::{FrameBuf, Landing};
 use sdh_kbytes::K;
 use sdh_overhead::{Landed, Section};
 use sdh_plant::Arrived;
 use sdh_pointer::Interp;
 use sdh_request::Defect;
+use sdh_terms::Rate;
 use std::alloc::{AllocError, Global};
 use std::marker::Model;
 

@@ -1,7 +1,8 @@
 //! What a side takes in, in a round.
 ghost use Rattle.std.specs.Prelude.{◌≡◌, ◌&&◌, ◌+◌, ◌*◌, ◌-◌, ◌%◌, ◌<◌, ◌≤◌, ◌≢◌, Option, None, Some, IfSome, IfOk, length, slice_index_or, replicate};
 ghost use Rattle.std.specs.List.{list_any};
-ghost use Rattle.sdh_frame.specs.Sizes.{n_of, size_of};
+ghost use Rattle.sdh_frame.specs.Sizes.{size_of};
+ghost use Rattle.sdh_terms.specs.Rates.{n_of};
 ghost use Rattle.sdh_frame.specs.Aus.{au_of};
 ghost use Rattle.sdh_overhead.specs.Sections.{Parities, holding};
 ghost use Rattle.sdh_kbytes.specs.KBytes.{IsSpellable};
@@ -11,11 +12,12 @@ ghost use Rattle.sdh_terminal.specs.Receiving.{reception_of, frame_reception, al
 ghost use Rattle.sdh_terminal.specs.Passing.{h3_of};
 
 use crate::making::no_actions;
-use sdh_frame::{FrameBuf, Rate};
+use sdh_frame::FrameBuf;
 use sdh_kbytes::{K, decode};
 use sdh_overhead::{Landed, Received, Section, read_landed};
 use sdh_pointer::{Action, Interp, Word, read_word};
 use sdh_request::Defect;
+use sdh_terms::Rate;
 use std::alloc::{AllocError, Global};
 use std::marker::Model;
 
@@ -28,7 +30,7 @@ pub struct Intake {
 
 impl Model for Intake {
     ghost use Rattle.std.specs.Prelude.{◌≡◌, length};
-    ghost use Rattle.sdh_frame.specs.Sizes.{n_of};
+    ghost use Rattle.sdh_terms.specs.Rates.{n_of};
     ghost use Rattle.sdh_terminal.specs.Receiving.{Intake};
 
     ghost Value = { Intake };

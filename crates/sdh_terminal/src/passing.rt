@@ -1,6 +1,6 @@
 //! What the AU-4s of a sent frame are.
 ghost use Rattle.std.specs.Prelude.{◌≡◌, ◌≢◌, ℕ, List, ◌+◌, ◌*◌, ◌/◌, ◌%◌, ◌<◌, ◌≤◌, IfOk, length};
-ghost use Rattle.sdh_frame.specs.Sizes.{n_of};
+ghost use Rattle.sdh_terms.specs.Rates.{n_of};
 ghost use Rattle.sdh_frame.specs.Aus.{au_of, with_aus};
 ghost use Rattle.std.specs.List.{list_any};
 ghost use Rattle.sdh_pointer.specs.declared.word.Form.{Form};

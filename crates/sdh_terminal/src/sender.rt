@@ -1,6 +1,7 @@
 //! One side that sends.
 ghost use Rattle.std.specs.Prelude.{◌≡◌, ◌≤◌, None, Some, IfOk, length};
-ghost use Rattle.sdh_frame.specs.Sizes.{n_of, size_of};
+ghost use Rattle.sdh_frame.specs.Sizes.{size_of};
+ghost use Rattle.sdh_terms.specs.Rates.{n_of};
 ghost use Rattle.sdh_overhead.specs.Sections.{holding, clear_frame, line_frame, parities_of};
 ghost use Rattle.sdh_kbytes.specs.KBytes.{IsSpellable};
 ghost use Rattle.sdh_ringmap.specs.declared.Side.TheVariants.{West, East};
@@ -17,12 +18,13 @@ use crate::making::new_generators;
 use crate::matrix::Matrix;
 use crate::passing::Assembly;
 use crate::tributaries::Tributaries;
-use sdh_frame::{FrameBuf, Rate};
+use sdh_frame::FrameBuf;
 use sdh_interchange::{Choice, Payloads, assemble_row};
 use sdh_kbytes::{K, encode, same_word};
 use sdh_overhead::{Section, write_row};
 use sdh_pointer::Gen;
 use sdh_ringmap::Side;
+use sdh_terms::Rate;
 use std::alloc::{AllocError, Global};
 use std::marker::Model;
 
@@ -37,7 +39,7 @@ pub struct Sender {
 
 impl Model for Sender {
     ghost use Rattle.std.specs.Prelude.{◌≡◌, ◌*◌, None, length};
-    ghost use Rattle.sdh_frame.specs.Sizes.{n_of};
+    ghost use Rattle.sdh_terms.specs.Rates.{n_of};
     ghost use Rattle.sdh_terminal.specs.Passing.{states_of};
     ghost use Rattle.sdh_terminal.specs.Sending.{Sending, IsSending};
 

@@ -3,7 +3,7 @@ ghost use Rattle.std.specs.Prelude.{◌≡◌, ◌+◌, ◌*◌, ◌/◌, ◌^�
 ghost use Rattle.sdh_basics.specs.Cells.{cells};
 ghost use Rattle.sdh_terminal.specs.Tributaries.{tributaries_at, is_port, port_of, HasPort, outlet_of, waiting_of, with_slips, all_fed, all_delivered_with, IsTributary};
 ghost use Rattle.sdh_terminal.specs.Places.{number_of, port_numbered};
-ghost use Rattle.sdh_frame.specs.Sizes.{n_of};
+ghost use Rattle.sdh_terms.specs.Rates.{n_of};
 ghost use Rattle.sdh_terminal.specs.Lines.{dropped_by};
 
 use crate::matrix::Matrix;

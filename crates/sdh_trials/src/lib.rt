@@ -12,9 +12,9 @@ ghost use Rattle.std.specs.Prelude.{◌≤◌, ◌<◌, length};
 use crate::call::{Failing, call_over};
 use crate::told::arrivals_of;
 use crate::watched::Watched;
-use sdh_frame::Rate;
 use sdh_outside::MemSink;
 use sdh_plant::{FailingPlant, PlantCall};
+use sdh_terms::Rate;
 use std::alloc::Global;
 
 // What is answered where there was no memory for the objects themselves.

@@ -1,10 +1,11 @@
 //! Arrivals out of bytes.
 ghost use Rattle.std.specs.Prelude.{◌≡◌, ◌+◌, ◌*◌, All, IfOk, length};
-ghost use Rattle.sdh_frame.specs.Sizes.{n_of};
+ghost use Rattle.sdh_terms.specs.Rates.{n_of};
 ghost use Rattle.sdh_plant.specs.Kept.{IsToldAt};
 
-use sdh_frame::{FrameBuf, Rate};
+use sdh_frame::FrameBuf;
 use sdh_plant::Told;
+use sdh_terms::Rate;
 use std::alloc::{AllocError, Global};
 
 // An arrival: a byte that is 0 where nothing comes, and the bytes of a frame.

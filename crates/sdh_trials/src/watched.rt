@@ -2,15 +2,17 @@
 ghost use Rattle.std.specs.Prelude.{◌≡◌, ◌≢◌, ◌≤◌, ◌<◌, true, false, None, Ok, OnOk, OnErr, IfOk, IsErrOf, All, map};
 ghost use Rattle.std.proofs.lemmas.Bool.{false≢true};
 ghost use Rattle.sdh_basics.specs.Causes.{Rose, IsCounted, HasCause};
-ghost use Rattle.sdh_plant.specs.Fibres.{HasNoFibres, IsConditionAt};
+ghost use Rattle.sdh_plant.specs.Fibres.{HasNoFibres};
+ghost use Rattle.sdh_terms.specs.Fibres.{IsConditionAt};
 ghost use Rattle.sdh_plant.specs.Arrivals.{Knows, arrival, arrived_in};
 ghost use Rattle.sdh_plant.specs.Calls.{prepared, after_apply, after_send, after_receive};
 ghost use Rattle.sdh_plant.specs.InMemory.{laid, told_of};
 ghost use Rattle.sdh_plant.specs.Kept.{arrival_of, IsToldAt};
 
-use sdh_frame::{FrameBuf, Landing, Rate};
-use sdh_plant::{Arrived, Failed, FibreEvent, Plant, PrepareError, Told, ToldPlant};
+use sdh_frame::{FrameBuf, Landing};
+use sdh_plant::{Arrived, Failed, Plant, PrepareError, Told, ToldPlant};
 use sdh_ringmap::{Pos, Side};
+use sdh_terms::{FibreEvent, Rate};
 use std::alloc::{AllocError, Global};
 use std::marker::Model;
 

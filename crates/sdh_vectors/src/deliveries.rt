@@ -6,12 +6,12 @@ ghost use Rattle.sdh_plant.specs.Fibres.{HasNoFibres, IsPrepared};
 use crate::rings::{ALPHABETS, apply, laid_with, settle};
 use crate::streams::{Sender, is_sent_in};
 use sdh_circuits::{Asked, End, PortId};
-use sdh_frame::Rate;
 use sdh_node::Delivered;
-use sdh_plant::{Condition, FibrePlant, Plant};
+use sdh_plant::{FibrePlant, Plant};
 use sdh_request::Command;
 use sdh_ring::Ring;
 use sdh_ringmap::{Pos, Side};
+use sdh_terms::{Condition, Rate};
 use std::alloc::{AllocError, Global};
 
 /// One thing that is done. Positions count from 0.

@@ -4,10 +4,11 @@ ghost use Rattle.sdh_plant.specs.Kept.{IsToldAt};
 
 use crate::rings::{Line, State, laid, lay_for, line_of, run};
 use sdh_circuits::{End, PortId};
-use sdh_frame::{FrameBuf, Place, Rate};
+use sdh_frame::{FrameBuf, Place};
 use sdh_node::Delivered;
 use sdh_plant::{FibrePlant, Told, ToldPlant};
 use sdh_ring::Ring;
+use sdh_terms::Rate;
 use std::alloc::Global;
 
 // The next of numbers that look like chance.

@@ -6,7 +6,7 @@ ghost use Rattle.sdh_plant.specs.Kept.{IsToldAt};
 
 use crate::rings::{ALPHABETS, laid_with, run};
 use sdh_circuits::{Asked, End, PortId};
-use sdh_frame::{FrameBuf, Place, Rate};
+use sdh_frame::{FrameBuf, Place};
 use sdh_kbytes::encode;
 use sdh_node::Delivered;
 use sdh_nodestate::{Shape, same_shape, shape_of};
@@ -14,6 +14,7 @@ use sdh_overhead::{Section, write_section};
 use sdh_plant::{Told, ToldPlant};
 use sdh_ring::Ring;
 use sdh_ringmap::{Pos, Side};
+use sdh_terms::Rate;
 use std::alloc::Global;
 
 // After so many equal words in a row a word counts.

@@ -3,12 +3,11 @@ ghost use Rattle.std.specs.Prelude.{◌≡◌, ◌≤◌, ◌<◌, OnOk, false, 
 ghost use Rattle.sdh_plant.specs.Fibres.{HasNoFibres, IsPrepared};
 
 use crate::rings::{apply, laid, run};
-use sdh_frame::Rate;
-use sdh_kbytes::Code;
-use sdh_plant::{Condition, FibreEvent, FibrePlant, Plant};
+use sdh_plant::{FibrePlant, Plant};
 use sdh_request::Moment;
 use sdh_ring::Ring;
 use sdh_ringmap::{Pos, Side};
+use sdh_terms::{Code, Condition, FibreEvent, Rate};
 use std::alloc::{AllocError, Global};
 
 // What the third node asks for on its west side.

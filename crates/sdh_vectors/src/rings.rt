@@ -1,17 +1,17 @@
 //! A ring of four nodes with a circuit from node 1 to node 3, as the tests run it, and what is read of it.
 ghost use Rattle.std.specs.Prelude.{◌≡◌, ◌≤◌, ◌<◌, ◌+◌, ◌/◌, ◌^◌, ℕ, IfOk, OnOk, false, length};
-ghost use Rattle.sdh_frame.specs.Sizes.{n_of};
+ghost use Rattle.sdh_terms.specs.Rates.{n_of};
 ghost use Rattle.sdh_plant.specs.Fibres.{HasNoFibres, IsPrepared};
 ghost use Rattle.sdh_squelch.specs.Kept.{KeepsRing};
 
 use sdh_circuits::{Asked, CircuitMap};
-use sdh_frame::Rate;
 use sdh_kbytes::encode;
 use sdh_node::Settings;
 use sdh_nodestate::NodeState;
-use sdh_plant::{Condition, FibreEvent, Plant};
+use sdh_plant::Plant;
 use sdh_ring::{PlantFault, Ring};
 use sdh_ringmap::{Pos, RingMap, Side};
+use sdh_terms::{Condition, FibreEvent, Rate};
 use std::alloc::{AllocError, Global};
 
 /// A circuit over two spans, with these texts.

@@ -1,18 +1,17 @@
 //! Rings over frames beside rings of signals with the same needs: the same states and words, round by round.
 ghost use Rattle.std.specs.Prelude.{◌≡◌, ◌≢◌, ◌≤◌, ◌<◌, ◌+◌, IfOk, OnOk, true, false, length};
-ghost use Rattle.sdh_kbytes.specs.KBytes.{code_number};
+ghost use Rattle.sdh_terms.specs.Requests.{code_number};
 ghost use Rattle.sdh_nodestate.specs.Conditions.{MayNeed};
 ghost use Rattle.sdh_plant.specs.Fibres.{HasNoFibres, IsPrepared};
 
 use crate::rings::{apply, laid};
-use sdh_frame::Rate;
-use sdh_kbytes::Code;
 use sdh_nodestate::{Needs, same_shape, shape_of};
-use sdh_plant::{Condition, FibrePlant, Plant};
+use sdh_plant::{FibrePlant, Plant};
 use sdh_request::Command;
 use sdh_ring::{PlantFault, Ring};
 use sdh_ringmap::{Pos, RingMap, Side};
 use sdh_signal::SignalRing;
+use sdh_terms::{Code, Condition, Rate};
 use std::alloc::{AllocError, Global};
 
 // A local request that a node may have, and whether the side fails.

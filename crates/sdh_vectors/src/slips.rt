@@ -7,10 +7,10 @@ use crate::rings::{ALPHABETS, laid_with, run, settle};
 use crate::streams::{Sender, is_sent_from, parities_of};
 use crate::windows::cut_if;
 use sdh_circuits::{Asked, End, PortId};
-use sdh_frame::Rate;
 use sdh_node::{Delivered, Turn};
 use sdh_plant::{FibrePlant, Plant};
 use sdh_ring::Ring;
+use sdh_terms::Rate;
 use std::alloc::{AllocError, Global};
 
 /// What a port sends in a round: so many bytes of its stream from a place on, and the pointer value with them.

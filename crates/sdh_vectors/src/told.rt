@@ -5,10 +5,11 @@ ghost use Rattle.sdh_plant.specs.Kept.{IsToldAt};
 
 use crate::rings::{Line, State, laid, line_of};
 use sdh_circuits::{End, PortId};
-use sdh_frame::{FrameBuf, Rate};
+use sdh_frame::FrameBuf;
 use sdh_node::Delivered;
 use sdh_plant::{RecordingPlant, Told, ToldPlant};
 use sdh_ring::Ring;
+use sdh_terms::Rate;
 use std::alloc::Global;
 
 #[test]

@@ -3,10 +3,10 @@ ghost use Rattle.std.specs.Prelude.{◌≡◌, ◌≤◌, ◌<◌, ◌+◌, IfSo
 ghost use Rattle.sdh_plant.specs.Fibres.{HasNoFibres, IsPrepared};
 
 use crate::rings::{apply, laid, run};
-use sdh_frame::Rate;
-use sdh_plant::{Condition, FibrePlant, Plant};
+use sdh_plant::{FibrePlant, Plant};
 use sdh_ring::{PlantFault, Ring};
 use sdh_ringmap::{Pos, Side};
+use sdh_terms::{Condition, Rate};
 use std::alloc::Global;
 
 /// Cuts the span between the second and the third node both ways, or not.

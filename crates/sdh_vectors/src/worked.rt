@@ -12,11 +12,11 @@ ghost use Rattle.sdh_plant.specs.Fibres.{HasNoFibres, IsPrepared};
 use crate::rings::{ALPHABETS, apply, laid_with, settle};
 use crate::slips::{PORT_A, PORT_B, slip_both};
 use sdh_circuits::{Asked, PortId};
-use sdh_frame::Rate;
 use sdh_node::Delivered;
-use sdh_plant::{Condition, FibrePlant, Plant};
+use sdh_plant::{FibrePlant, Plant};
 use sdh_ring::Ring;
 use sdh_ringmap::Side;
+use sdh_terms::{Condition, Rate};
 use std::alloc::{AllocError, Global};
 
 /// What befalls a ring of four: the fibre from the second to the third node is degraded at the threshold, or both spans of the second

@@ -2,7 +2,7 @@
 use Rattle.std.specs.Prelude.{ℕ, List, [], ◌∷◌, ◌+◌, length}
 use Rattle.sdh_ringmap.specs.declared.Side.{Side}
 use Rattle.sdh_request.specs.declared.Command.{Command}
-use Rattle.sdh_plant.specs.declared.plant.Condition.{Condition}
+use Rattle.sdh_terms.specs.declared.Condition.{Condition}
 use Rattle.sdh_plant.specs.Calls.{after_apply, prepared}
 use Rattle.sdh_node.specs.Receiving.{commanded_by}
 use Rattle.sdh_payload.specs.declared.clock.Turn.{Turn}

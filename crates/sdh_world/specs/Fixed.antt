@@ -1,6 +1,6 @@
 -- What a ring's calls never change of a node, and what is true of every ring.
 use Rattle.std.specs.Prelude.{ℕ, ◌≡◌, ◌≤◌, ◌/◌, false, List, length, map, All}
-use Rattle.sdh_frame.specs.Sizes.{n_of}
+use Rattle.sdh_terms.specs.Rates.{n_of}
 use Rattle.sdh_ringmap.specs.Ids.{AreIds}
 use Rattle.sdh_ringmap.specs.declared.Pos.{Pos}
 use Rattle.sdh_ringmap.specs.declared.Side.{Side}

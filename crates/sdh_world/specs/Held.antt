@@ -11,7 +11,7 @@ use Rattle.sdh_terminal.specs.Tributaries.{outlet_of}
 use Rattle.sdh_node.specs.Node.{Node, new_node}
 use Rattle.sdh_rounds.specs.Held as held
 use Rattle.sdh_ringmap.specs.Places.{position_of}
-use Rattle.sdh_frame.specs.declared.Rate.TheVariants.{Four}
+use Rattle.sdh_terms.specs.declared.Rate.TheVariants.{Four}
 
 -- a ring of add-drop multiplexers
 abbrev pub HeldRing : Type 0

@@ -3,9 +3,9 @@ use Rattle.std.specs.Prelude.{ℕ, ◌≡◌, ◌*◌, ◌-◌, ◌==◌, nat_lt
 use Rattle.sdh_ringmap.specs.declared.Side.{Side}
 use Rattle.sdh_request.specs.declared.Command.{Command}
 use Rattle.sdh_request.specs.declared.Command.TheVariants as command
-use Rattle.sdh_plant.specs.declared.plant.Condition.{Condition}
-use Rattle.sdh_plant.specs.declared.plant.Condition.TheVariants.{Clear}
-use Rattle.sdh_plant.specs.Fibres.{fibre, fibre_to, is_cut, degraded_by}
+use Rattle.sdh_terms.specs.declared.Condition.{Condition}
+use Rattle.sdh_terms.specs.declared.Condition.TheVariants.{Clear}
+use Rattle.sdh_terms.specs.Fibres.{fibre, fibre_to, is_cut, degraded_by}
 use Rattle.sdh_restoration.specs.History.{SideHistory}
 use Rattle.sdh_plant.specs.Arrivals.{condition_of}
 use Rattle.sdh_node.specs.Node.{Node, receiving_on}

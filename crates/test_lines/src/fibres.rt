@@ -1,15 +1,16 @@
 //! What comes out of each plant, and out of degraded fibres, at both rates.
 ghost use Rattle.std.specs.Prelude.{◌≡◌, ◌+◌, ◌*◌, ◌<◌, ◌≤◌, All, IfOk};
-ghost use Rattle.sdh_frame.specs.Sizes.{n_of};
+ghost use Rattle.sdh_terms.specs.Rates.{n_of};
 ghost use Rattle.sdh_plant.specs.Fibres.{HasNoFibres};
 ghost use Rattle.sdh_plant.specs.Kept.{IsToldAt};
 
-use sdh_frame::{FrameBuf, Rate};
+use sdh_frame::FrameBuf;
 use sdh_plant::{
     Arrived, Condition, FailingPlant, FibreEvent, FibrePlant, Plant, PlantCall, RecordingPlant,
     Told, ToldPlant,
 };
 use sdh_ringmap::{Pos, Side};
+use sdh_terms::Rate;
 use std::alloc::{AllocError, Global};
 use std::test::Fail;
 

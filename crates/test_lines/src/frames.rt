@@ -1,8 +1,9 @@
 //! Places in frames by the layout's own tables.
 ghost use Rattle.std.specs.Prelude.{◌≡◌, ◌*◌, ◌<◌, ◌≤◌};
-ghost use Rattle.sdh_frame.specs.Sizes.{n_of};
+ghost use Rattle.sdh_terms.specs.Rates.{n_of};
 
-use sdh_frame::{Field, FrameBuf, Place, Rate, au_place, place_of, pointer_place};
+use sdh_frame::{Field, FrameBuf, Place, au_place, place_of, pointer_place};
+use sdh_terms::Rate;
 use std::test::Fail;
 
 fn field(rate: Rate, row: u16, column: u16) -> Field

@@ -1,8 +1,9 @@
 //! Frames from zeros with K bytes 03 10, as they are written and as they are read.
 ghost use Rattle.std.specs.Prelude.{◌≡◌, ◌≤◌, IfOk, None, length};
 
-use sdh_frame::{FrameBuf, Place, Rate};
+use sdh_frame::{FrameBuf, Place};
 use sdh_overhead::{Received, Section, read_row, read_section, write_row, write_section};
+use sdh_terms::Rate;
 use std::alloc::{AllocError, Global};
 use std::test::Fail;
 

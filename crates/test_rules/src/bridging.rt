@@ -6,10 +6,11 @@ ghost use Rattle.std.specs.Option.{is_none};
 
 use sdh_bridge::{Origin, drop_origin, protection_origin, working_origin};
 use sdh_circuits::{Asked, CircuitMap, End, PortId, Slot};
-use sdh_kbytes::{Code, K, decode};
+use sdh_kbytes::{K, decode};
 use sdh_nodestate::{Heard, Needs, NodeState, start, step};
 use sdh_ringmap::{Pos, RingMap, Side};
 use sdh_squelch::Table;
+use sdh_terms::Code;
 use std::alloc::Global;
 
 type Bytes = Option<(u8, u8)>;

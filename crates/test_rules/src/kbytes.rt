@@ -1,7 +1,8 @@
 //! K words and their bytes.
 ghost use Rattle.std.specs.Prelude.{◌≡◌, ◌≤◌};
 
-use sdh_kbytes::{Code, K, Mark, Path, decode, encode};
+use sdh_kbytes::{K, Mark, Path, decode, encode};
+use sdh_terms::Code;
 
 // Whether a word and two bytes belong together, both ways.
 fn are_one(k: K, k1: u8, k2: u8) -> bool

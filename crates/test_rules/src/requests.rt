@@ -1,7 +1,7 @@
 //! Local requests.
 
-use sdh_kbytes::Code;
 use sdh_request::{Command, Defect, Local, Moment};
+use sdh_terms::Code;
 
 #[test]
 fn waits_by_moments_alone(rt: HostRuntime) {

@@ -1,10 +1,10 @@
 //! The restoration model: local requests by the history of a side, and applied spans.
 
-use sdh_kbytes::Code;
 use sdh_request::{Command, Moment};
 use sdh_restoration::applied::{LocalRequests, is_applied, span_request};
 use sdh_restoration::history::{SideRound, local_request};
 use sdh_ringmap::Span;
+use sdh_terms::Code;
 
 const STILL: SideRound = SideRound {
     is_cut: false,

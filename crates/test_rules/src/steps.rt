@@ -2,11 +2,12 @@
 ghost use Rattle.std.specs.Prelude.{◌≡◌, ◌≢◌, true, false};
 ghost use Rattle.sdh_nodestate.specs.Conditions.{MayNeed};
 
-use sdh_kbytes::{Code, K, decode};
+use sdh_kbytes::{K, decode};
 use sdh_nodestate::{
     Filter, Heard, Needs, NodeState, Sent, Shape, same_shape, shape_of, start, step,
 };
 use sdh_ringmap::{Pos, RingMap};
+use sdh_terms::Code;
 
 type Bytes = Option<(u8, u8)>;
 

@@ -1,6 +1,6 @@
 use Rattle.std.proofs.Common.{◌≡◌, ap, arith}
-use Rattle.sdh_frame.specs.declared.Rate.TheVariants.{Four, Sixteen}
-use Rattle.sdh_frame.specs.Sizes.{n_of}
+use Rattle.sdh_terms.specs.declared.Rate.TheVariants.{Four, Sixteen}
+use Rattle.sdh_terms.specs.Rates.{n_of}
 use Rattle.sdh_frame.proofs.Moves.{filled}
 use Rattle.sdh_frame.proofs.au.fill.Goals as goal
 

@@ -1,6 +1,6 @@
 use Rattle.std.proofs.Common.{ℕ, ◌*◌, ◌/◌, ◌≤◌, arith}
-use Rattle.sdh_frame.specs.declared.Rate.{Rate}
-use Rattle.sdh_frame.specs.Sizes.{n_of}
+use Rattle.sdh_terms.specs.declared.Rate.{Rate}
+use Rattle.sdh_terms.specs.Rates.{n_of}
 use Rattle.sdh_node.specs.Crossing.{all_delivered}
 use Rattle.sdh_node.proofs.cross.deliver.Goals as goal
 

@@ -1,5 +1,5 @@
 use Rattle.std.proofs.Common.{◌≡◌, ◌+◌}
-use Rattle.sdh_frame.specs.declared.Rate.TheVariants.{Four}
+use Rattle.sdh_terms.specs.declared.Rate.TheVariants.{Four}
 use Rattle.sdh_node.specs.Node.{moment_of}
 use Rattle.sdh_node.proofs.tests.sends.Given as goal
 

@@ -1,6 +1,6 @@
 use Rattle.std.proofs.Common.{◌*◌, ◌++◌, ap, subst, ◌∙◌, arith}
-use Rattle.sdh_frame.specs.declared.Rate.{Rate}
-use Rattle.sdh_frame.specs.Sizes.{n_of}
+use Rattle.sdh_terms.specs.declared.Rate.{Rate}
+use Rattle.sdh_terms.specs.Rates.{n_of}
 use Rattle.sdh_overhead.specs.Rows.{HasSent}
 use Rattle.sdh_overhead.proofs.Passing.{rate_some, sent-more, sent-all}
 use Rattle.sdh_overhead.proofs.section.write_row.Goals as goal

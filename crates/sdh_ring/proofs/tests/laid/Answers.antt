@@ -1,5 +1,5 @@
 use Rattle.std.proofs.Common.{rules, arith}
-use Rattle.sdh_frame.specs.declared.Rate.TheVariants.{Four}
+use Rattle.sdh_terms.specs.declared.Rate.TheVariants.{Four}
 use Rattle.sdh_ring.proofs.Turns.{prepared_for}
 use Rattle.sdh_ring.proofs.tests.laid.Goals as goal
 

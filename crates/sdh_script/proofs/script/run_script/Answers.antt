@@ -1,7 +1,7 @@
 use Rattle.std.proofs.Common.{◌<◌, length, drop, get_or, ◌+◌, ap, sym, subst, arith, rules}
 use Rattle.std.proofs.lemmas.List.{drop_all}
 use Rattle.sdh_ringmap.specs.declared.Side.TheVariants.{West}
-use Rattle.sdh_plant.specs.declared.plant.Condition.TheVariants.{Clear}
+use Rattle.sdh_terms.specs.declared.Condition.TheVariants.{Clear}
 use Rattle.sdh_world.specs.Rounds.{world}
 use Rattle.sdh_plan.specs.declared.step.Step.{Step}
 use Rattle.sdh_plan.specs.declared.step.Step.TheVariants.{Fibre}

@@ -1,5 +1,5 @@
 use Rattle.std.proofs.Common.{◌≡◌}
-use Rattle.sdh_frame.specs.declared.Rate.TheVariants.{Four}
+use Rattle.sdh_terms.specs.declared.Rate.TheVariants.{Four}
 use Rattle.sdh_vectors.proofs.hostile.hostile_frame.Given as goal
 
 abbrev pub invariant-bytes : goal.invariant-bytes

@@ -1,5 +1,5 @@
 use Rattle.std.specs.Prelude.{All}
-use Rattle.sdh_frame.specs.declared.Rate.TheVariants.{Four}
+use Rattle.sdh_terms.specs.declared.Rate.TheVariants.{Four}
 use Rattle.sdh_plant.specs.Kept.{IsToldAt}
 use Rattle.sdh_vectors.proofs.hostile.hostile_frames.Given as goal
 

@@ -1,5 +1,5 @@
 use Rattle.std.proofs.Common.{◌≡◌, ap, sym, ◌∙◌, subst}
-use Rattle.sdh_frame.specs.declared.Rate.TheVariants.{Four, Sixteen}
+use Rattle.sdh_terms.specs.declared.Rate.TheVariants.{Four, Sixteen}
 use Rattle.sdh_frame.specs.Sizes.{size_of}
 use Rattle.sdh_interchange.specs.Assembled.{Origins}
 use Rattle.sdh_interchange.proofs.ByBytes.{HereAt, PickedAt, chosen-here}
