@@ -4,7 +4,7 @@ use Rattle.std.specs.Prelude.{slice_get, ◌/◌, All}
 use Rattle.std.proofs.lemmas.Bool.{cases_lt, cases_eq}
 use Rattle.std.proofs.lemmas.List.{ext_get_or}
 use Rattle.std.proofs.lemmas.Option.{get_or_from_slice_get, slice_get_within}
-use Rattle.sdh_frame.specs.Sizes.{n_of}
+use Rattle.sdh_terms.specs.Rates.{n_of}
 use Rattle.sdh_ringmap.specs.declared.Side.{Side}
 use Rattle.sdh_ringmap.specs.declared.Side.TheVariants.{West, East}
 use Rattle.sdh_ringmap.specs.Places.{neighbour, opposite}
@@ -13,41 +13,38 @@ use Rattle.sdh_ringmap.proofs.Going.{IsReached, going-none, going-first, reached
 use Rattle.sdh_ringmap.proofs.Sides.{neighbour_below}
 use Rattle.sdh_circuits.specs.declared.End.{End}
 use Rattle.sdh_circuits.specs.declared.End.TheVariants.{A, B}
-use Rattle.sdh_circuits.specs.Provisioned.{Provisioned, customer_at}
+use Rattle.sdh_circuits.specs.Provisioned.{Provisioned, customer_at, end_of}
 use Rattle.sdh_circuits.specs.Provisioning.{IsInRing, IsInSlots, HasOffsets}
 use Rattle.sdh_pointer.specs.declared.reading.Reading.{Reading}
 use Rattle.sdh_pointer.specs.declared.reading.Action.TheVariants as action
-use Rattle.sdh_pointer.specs.Words.{word_of}
-use Rattle.sdh_pointer.specs.Reading.{start, action_on}
-use Rattle.sdh_pointer.specs.Sending.{word_sent, next_sending}
-use Rattle.sdh_pointer.specs.Repeated.{after_rounds}
-use Rattle.sdh_pointer.specs.Laws.{lasting_form, lasting_state, ComesToRest}
-use Rattle.sdh_pointer.proofs.Lasting.{inputs_last, repeated_words_rest}
+use Rattle.sdh_pointer.specs.Reading.{start}
+use Rattle.sdh_pointer.specs.Sending.{word_sent}
 use Rattle.sdh_plant.specs.Arrivals.{condition_of}
-use Rattle.sdh_plant.specs.Fibres.{fibre_to, is_cut}
-use Rattle.sdh_plant.specs.declared.plant.Condition.TheVariants.{Clear}
-use Rattle.sdh_routes.specs.Walks.{port_at}
+use Rattle.sdh_terms.specs.Fibres.{fibre_to, is_cut}
+use Rattle.sdh_terms.specs.declared.Condition.TheVariants.{Clear}
 use Rattle.sdh_terminal.specs.Passing.{Input, no_input}
-use Rattle.sdh_carrying.proofs.Ports.{port_id}
-use Rattle.sdh_carrying.proofs.Spans.{TakesWord, word_behind}
-use Rattle.sdh_converging.specs.Steady.{IsConstant}
-use Rattle.sdh_converging.specs.Laws.{enough_for}
+use Rattle.sdh_rounds.specs.Runs as any_run
+use Rattle.sdh_rounds.proofs.Runs.{known_unsettles, known_settles}
+use Rattle.sdh_spans.specs.Brought.{Brings}
+use Rattle.sdh_spans.specs.Spans.{TakesWord, word_behind, IsConstant, GoesBy, TakesBehind}
+use Rattle.sdh_spans.specs.Laws.{RestsBehind}
+use Rattle.sdh_spans.proofs.Steady as spans
+use Rattle.sdh_spans.proofs.Steady.{constant_as, constant_later, spans_are_steady}
+use Rattle.sdh_sncp.specs.Stations.{path_node}
 use Rattle.sdh_sncp.specs.Node.{inlet_on, sending_on}
 use Rattle.sdh_sncp.specs.Slots.{use_of, use_by}
-use Rattle.sdh_sncp.specs.Windows.{EndsWindow, NeverSettles}
-use Rattle.sdh_sncp.specs.Ring.{node_at, World, round, run, course, is_calm, Unsettles}
+use Rattle.sdh_sncp.specs.Ring.{node_at, World, round, run, course, is_calm, EndsWindow, Unsettles}
 use Rattle.sdh_sncp.specs.Fixed.{AreAlone}
 use Rattle.sdh_sncp.specs.Laws.{IsWhole, HasCircuits, cut_in, RoundsGetCalm, StepsAnswer, StepsDeliver, DeliversWhatIsDue}
+use Rattle.sdh_sncp.proofs.Found.{port_id}
 use Rattle.sdh_sncp.proofs.Rounds.{neighbour_inside, whole_run, IsLeft, left_run}
 use Rattle.sdh_sncp.proofs.Calm.{AreSame, calm_where_same}
 use Rattle.sdh_sncp.proofs.Spans.{sent_at, came_at, generator_step, interpreter_step}
 use Rattle.sdh_sncp.proofs.Uses.{use_is, use_none, use_passed, use_ended, sends_passed, sends_ended, sends_none, port_sends}
 use Rattle.sdh_sncp.proofs.Ways.{other_side}
 use Rattle.sdh_terminal.specs.Tributaries.{added_by}
-use Rattle.sdh_carrying.specs.Brought.{Brings}
 use Rattle.sdh_sncp.specs.Due.{sent_in}
 use Rattle.sdh_sncp.proofs.Owed.{offset_small, quiet_delivers}
-use Rattle.sdh_sncp.proofs.Runs.{known_unsettles, known_settles}
 
 -- ---- one AU-4 in many rounds
 
@@ -58,17 +55,12 @@ went w p d au k = sent_at (run k w) p d au
 abbrev pub came : World → ℕ → Side → ℕ → ℕ → Input
 came w p d au k = came_at (run k w) p d au
 
+-- the states of the generator and of the interpreter of AU-4 number i + 1
 abbrev sending_in : World → ℕ → Side → ℕ → ℕ → Option ℕ
 sending_in w p d i k = get_or (sending_on d (node_at (run k w).ring.nodes p)).generators i None
 
 abbrev reading_in : World → ℕ → Side → ℕ → ℕ → Reading
 reading_in w p d i k = get_or (inlet_on d (node_at (run k w).ring.nodes p)).readings i start
-
-abbrev word_in : World → ℕ → Side → ℕ → ℕ → ℕ
-word_in w p d i k = word_sent (sending_in w p d i k) (went w p d (i + 1) k).action (went w p d (i + 1) k).value
-
-abbrev Takes : World → ℕ → Side → ℕ → ℕ → ℕ → Type 0
-Takes w p d i k word = TakesWord (reading_in w p d i k) (reading_in w p d i (suc k)) (came w p d (i + 1) k) word
 
 module _ (w : World) (whole : IsWhole w) where
   abbrev size : ℕ
@@ -89,88 +81,27 @@ module _ (w : World) (whole : IsWhole w) where
       ∙ ap (λ cs. is_cut (get_or cs (fibre_to size p d) Clear)) (left_run j w).conditions
 
   -- a generator goes on by what goes into its AU-4
-  generator_goes : (p : ℕ) (d : Side) (i j : ℕ) → p < length w.ring.nodes → i < n → sending_in w p d i (suc j) ≡ next_sending (sending_in w p d i j) (went w p d (i + 1) j).action (went w p d (i + 1) j).value
-  unfolding run
-  generator_goes p d i j inside few = generator_step (run j w) (whole_run w j whole) p d i (omega (arith, nodes_there j)) (omega (arith, rate_there j))
+  generator_goes : (p : ℕ) (d : Side) (i : ℕ) → p < length w.ring.nodes → i < n → GoesBy (went w p d (i + 1)) (sending_in w p d i)
+  unfolding any_run.run
+  generator_goes p d i inside few j = generator_step (run j w) (whole_run w j whole) p d (omega (arith, nodes_there j)) i (omega (arith, rate_there j))
 
   -- an interpreter goes on by the word that was sent behind the span one round before
-  interpreter_goes : (p : ℕ) (d : Side) (i j : ℕ) → p < length w.ring.nodes → i < n → Takes w p d i (suc j) (word_behind (cut_in w p d) (word_in w (neighbour size p d) (opposite d) i j))
-  unfolding run
-  interpreter_goes p d i j inside few =
+  interpreter_goes : (p : ℕ) (d : Side) (i : ℕ) → p < length w.ring.nodes → i < n → TakesBehind (cut_in w p d) (went w (neighbour size p d) (opposite d) (i + 1)) (sending_in w (neighbour size p d) (opposite d) i) (reading_in w p d i) (came w p d (i + 1))
+  unfolding any_run.run
+  interpreter_goes p d i inside few j =
       let u = run j w in
-      let took = interpreter_step u (whole_run w j whole) p d i (omega (arith, nodes_there j)) (omega (arith, rate_there j)) in
-      subst (λ b. Takes w p d i (suc j) (word_behind b (word_in w (neighbour size p d) (opposite d) i j))) (cut_there (suc j) p d)
-      (subst (λ ids. Takes w p d i (suc j) (word_behind (cut_in (run (suc j) w) p d) (word_in w (neighbour (length ids) p d) (opposite d) i j))) (left_run j w).ids took)
+      let e = opposite d in
+      let Takes = λ (b : Bool) (q : ℕ). TakesWord (reading_in w p d i (suc j)) (reading_in w p d i (suc (suc j))) (came w p d (i + 1) (suc j)) (word_behind b (word_sent (sending_in w q e i j) (went w q e (i + 1) j).action (went w q e (i + 1) j).value)) in
+      let took = interpreter_step u (whole_run w j whole) p d (omega (arith, nodes_there j)) i (omega (arith, rate_there j)) in
+      subst (λ b. Takes b (neighbour size p d)) (cut_there (suc j) p d)
+      (subst (λ ids. Takes (cut_in (run (suc j) w) p d) (neighbour (length ids) p d)) (left_run j w).ids took)
 
-  -- a generator that gets one action and one value from round k on
-  module _ (p : ℕ) (d : Side) (i k : ℕ) (inside : p < length w.ring.nodes) (few : i < n) (c : IsConstant (went w p d (i + 1)) k) where
-    pub sending_rests : (j : ℕ) → k + 1 ≤ j → sending_in w p d i j ≡ lasting_state c.does c.value
-    sending_rests j h =
-        let m = j - 1 in
-        let now : suc m ≡ j = omega arith in
-        ap (sending_in w p d i) (sym now) ∙ generator_goes p d i m inside few
-        ∙ ap₂ (λ a v. next_sending (sending_in w p d i m) a v) (c.does_is m (omega arith)) (c.value_is m (omega arith)) ∙ (inputs_last (sending_in w p d i m) c.does c.value c.sound).state
-
-    word_rests : (j : ℕ) → k + 1 ≤ j → word_in w p d i j ≡ word_of (lasting_form c.does) c.value
-    word_rests j h =
-        ap (λ s. word_sent s (went w p d (i + 1) j).action (went w p d (i + 1) j).value) (sending_rests j h)
-        ∙ ap₂ (λ a v. word_sent (lasting_state c.does c.value) a v) (c.does_is j (omega arith)) (c.value_is j (omega arith)) ∙ (inputs_last (sending_in w p d i j) c.does c.value c.sound).word
-
-  -- and the interpreter behind the span
-  module _ (p : ℕ) (d : Side) (i k : ℕ) (inside : p < length w.ring.nodes) (few : i < n) (c : IsConstant (went w (neighbour size p d) (opposite d) (i + 1)) k) where
-    abbrev word : ℕ
-    word = word_behind (cut_in w p d) (word_of (lasting_form c.does) c.value)
-
-    abbrev reading : ℕ → Reading
-    reading j = reading_in w p d i j
-
-    takes : (m : ℕ) → k + 2 ≤ m → Takes w p d i m word
-    takes m h =
-        let j = m - 1 in
-        let now : suc j ≡ m = omega arith in
-        subst (λ l. Takes w p d i l word) now
-        (subst (λ u. Takes w p d i (suc j) (word_behind (cut_in w p d) u)) (word_rests (neighbour size p d) (opposite d) i k (neighbour_inside w whole p d) few c j (omega arith)) (interpreter_goes p d i j inside few))
-
-    reads_on : (n t : ℕ) → k + 2 ≤ t → after_rounds n word (reading t) ≡ reading (t + n)
-    reads_on zero t h = ap reading {x = t} {y = t + zero} (omega arith)
-    reads_on (suc n) t h = ap (after_rounds n word) (sym (takes t h).reading) ∙ reads_on n (suc t) (omega arith) ∙ ap reading {x = suc t + n} {y = t + suc n} (omega arith)
-
-    by_cut : (b : Bool) (r : Reading) → ComesToRest (word_behind b (word_of (lasting_form c.does) c.value)) r
-    unfolding word_of
-    by_cut true r = repeated_words_rest action.Ais 0 (λ e. absurd (cc)) r
-    by_cut false r = repeated_words_rest c.does c.value c.sound r
-
-    rests : ComesToRest word (reading (k + 2))
-    rests = by_cut (cut_in w p d) (reading (k + 2))
-
-    there : (j : ℕ) → k + 9 ≤ j → reading j ≡ rests.last
-    there j h = ap reading {x = j} {y = k + 2 + (j - (k + 2))} (omega arith) ∙ sym (reads_on (j - (k + 2)) (k + 2) (omega arith)) ∙ rests.there (j - (k + 2)) (omega arith)
-
-    pub reading_rests : (j : ℕ) → k + 9 ≤ j → reading_in w p d i (suc j) ≡ reading_in w p d i j
-    reading_rests j h = there (suc j) (omega arith) ∙ sym (there j h)
-
-    pub span_constant : IsConstant (came w p d (i + 1)) (k + 9)
-    span_constant = record {
-      does = action_on rests.last word;
-      value = rests.last.value;
-      sound = rests.sound;
-      does_is = λ j h. (takes j (omega arith)).action ∙ ap (λ r. action_on r word) (there j h);
-      value_is = λ j h. (takes j (omega arith)).value ∙ ap (λ (r : Reading). r.value) (there (suc j) (omega arith));
-    }
-
--- ---- constants
-
-constant_as : (f g : ℕ → Input) (k : ℕ) → ((j : ℕ) → g j ≡ f j) → IsConstant f k → IsConstant g k
-constant_as f g k same c = record {
-  does = c.does;
-  value = c.value;
-  sound = c.sound;
-  does_is = λ j h. ap (λ (i : Input). i.action) (same j) ∙ c.does_is j h;
-  value_is = λ j h. ap (λ (i : Input). i.value) (same j) ∙ c.value_is j h;
-}
-
-constant_later : (f : ℕ → Input) (k l : ℕ) → k ≤ l → IsConstant f k → IsConstant f l
-constant_later f k l late c = record { does = c.does; value = c.value; sound = c.sound; does_is = λ j h. c.does_is j (omega arith); value_is = λ j h. c.value_is j (omega arith) }
+  -- what comes to rest behind a span
+  pub span_rests : (p : ℕ) (d : Side) (i k : ℕ) → p < length w.ring.nodes → i < n → IsConstant (went w (neighbour size p d) (opposite d) (i + 1)) k → RestsBehind (reading_in w p d i) (came w p d (i + 1)) k
+  span_rests p d i k inside few c =
+      let q = neighbour size p d in
+      let e = opposite d in
+      spans_are_steady (cut_in w p d) (went w q e (i + 1)) (came w p d (i + 1)) (sending_in w q e i) (reading_in w p d i) k (generator_goes q e i (neighbour_inside w whole p d) few) (interpreter_goes p d i inside few) c
 
 -- ---- slots
 
@@ -233,7 +164,7 @@ module _ (w : World) (whole : IsWhole w) (form : HasCircuits w.ring) where
     at_m = omega arith
 
     -- what the port at an end sends never changes
-    end_constant : (e : End) (d : Side) → port_at c e < size w whole → IsConstant (went w (port_at c e) d m) 0
+    end_constant : (e : End) (d : Side) → (end_of c e).0 < size w whole → IsConstant (went w ((end_of c e).0) d m) 0
     end_constant e d h = record {
       does = action.Normal;
       value = (customer_at c e).offset;
@@ -242,14 +173,14 @@ module _ (w : World) (whole : IsWhole w) (form : HasCircuits w.ring) where
       value_is = λ j late. ap (λ (i : Input). i.value) (sends j) ∙ (brings j).1;
     }
       where
-        there : (j : ℕ) → port_at c e < length (run j w).ring.nodes
-        there j = let x = nodes_there w whole j in let i = inside_of (port_at c e) h in omega arith
+        there : (j : ℕ) → (end_of c e).0 < length (run j w).ring.nodes
+        there j = let x = nodes_there w whole j in let i = inside_of ((end_of c e).0) h in omega arith
 
-        sends : (j : ℕ) → sent_at (run j w) (port_at c e) d m ≡ added_by (node_at (run j w).ring.nodes (port_at c e)).ports (port_id index e)
-        sends j = sends_ended (run j w) (whole_run w j whole) (port_at c e) m (there j) low (let x = rate_there w whole j in omega arith) d (port_id index e)
-            (use_is (run j w).ring.circuits.circuits (same_alone j) (port_at c e) index c (same_circuits j index c get) ∙ use_ended index c e ring.two_ends)
+        sends : (j : ℕ) → sent_at (run j w) ((end_of c e).0) d m ≡ added_by (node_at (run j w).ring.nodes ((end_of c e).0)).ports (port_id index e)
+        sends j = sends_ended (run j w) (whole_run w j whole) ((end_of c e).0) m (there j) low (let x = rate_there w whole j in omega arith) d (port_id index e)
+            (use_is (run j w).ring.circuits.circuits (same_alone j) ((end_of c e).0) index c (same_circuits j index c get) ∙ use_ended index c e ring.two_ends)
 
-        brings : (j : ℕ) → Brings (added_by (node_at (run j w).ring.nodes (port_at c e)).ports (port_id index e)) (sent_in (customer_at c e) (run j w).ring.rounds)
+        brings : (j : ℕ) → Brings (added_by (node_at (run j w).ring.nodes ((end_of c e).0)).ports (port_id index e)) (sent_in (customer_at c e) (run j w).ring.rounds)
         brings j = port_sends (run j w) (whole_run w j whole) index c e (same_circuits j index c get) (there j)
 
     -- s spans from the node where the circuit starts
@@ -272,7 +203,7 @@ module _ (w : World) (whole : IsWhole w) (form : HasCircuits w.ring) where
             (λ j. sends_passed (run j w) (whole_run w j whole) q m (let x = nodes_there w whole j in let i = inside_of q h in omega arith) low (let x = rate_there w whole j in omega arith) d
             (use_is (run j w).ring.circuits.circuits (same_alone j) q index c (same_circuits j index c get) ∙ use_passed q index c a b))
             (subst (λ k. IsConstant (came w q d k) (9 * s + 9)) at_m
-            (span_constant w whole q d (m - 1) (9 * s) (inside_of q h) (omega arith) (subst (λ k. IsConstant (went w (neighbour (size w whole) q d) (opposite d) k) (9 * s)) (sym at_m) earlier))))
+            ((span_rests w whole q d (m - 1) (9 * s) (inside_of q h) (omega arith) (subst (λ k. IsConstant (went w (neighbour (size w whole) q d) (opposite d) k) (9 * s)) (sym at_m) earlier)).comes)))
 
     circuit_constant : (q : ℕ) (d : Side) → q < size w whole → IsConstant (went w q (opposite d) m) (9 * size w whole)
     circuit_constant q d h =
@@ -308,7 +239,9 @@ module _ (w : World) (whole : IsWhole w) (form : HasCircuits w.ring) where
       ext_get_or None (sending_on d (node_at (run (suc j) w).ring.nodes q)).generators (sending_on d (node_at (run j w).ring.nodes q)).generators (len (suc j) ∙ sym (len j)) (λ i lt. (
       let few : i < n w whole = (let e = len (suc j) in omega arith) in
       let c = sent_constant q d (i + 1) h (omega arith) (omega arith) in
-      sending_rests w whole q d i (9 * size w whole) (inside_of q h) few c (suc j) (omega arith) ∙ sym (sending_rests w whole q d i (9 * size w whole) (inside_of q h) few c j (omega arith))))
+      let goes = generator_goes w whole q d i (inside_of q h) few in
+      let rests = λ (k : ℕ) (soon : 9 * size w whole + 1 ≤ k). spans.generators_rest (went w q d (i + 1)) (sending_in w q d i) (9 * size w whole) goes c k soon in
+      rests (suc j) (omega arith) ∙ sym (rests j (omega arith))))
 
   readings_rest : (j p : ℕ) (d : Side) → limit ≤ j → p < size w whole → (inlet_on d (node_at (run (suc j) w).ring.nodes p)).readings ≡ (inlet_on d (node_at (run j w).ring.nodes p)).readings
   readings_rest j p d late h =
@@ -316,7 +249,7 @@ module _ (w : World) (whole : IsWhole w) (form : HasCircuits w.ring) where
       let len = λ (k : ℕ). (many k).readings ∙ rate_there w whole k in
       ext_get_or start (inlet_on d (node_at (run (suc j) w).ring.nodes p)).readings (inlet_on d (node_at (run j w).ring.nodes p)).readings (len (suc j) ∙ sym (len j)) (λ i lt. (
       let few : i < n w whole = (let e = len (suc j) in omega arith) in
-      reading_rests w whole p d i (9 * size w whole) (inside_of p h) few (sent_constant (neighbour (size w whole) p d) (opposite d) (i + 1) (neighbour_below (size w whole) p d some) (omega arith) (omega arith)) j (omega arith)))
+      (span_rests w whole p d i (9 * size w whole) (inside_of p h) few (sent_constant (neighbour (size w whole) p d) (opposite d) (i + 1) (neighbour_below (size w whole) p d some) (omega arith) (omega arith))).stays j (omega arith)))
 
   same_next : (j : ℕ) → limit ≤ j → (p : ℕ) → p < length (run j w).ring.nodes → AreSame (node_at (run (suc j) w).ring.nodes p) (node_at (run j w).ring.nodes p)
   same_next j late p h =
@@ -324,7 +257,7 @@ module _ (w : World) (whole : IsWhole w) (form : HasCircuits w.ring) where
       record { readings = λ d. readings_rest j p d late low; generators = λ d. generators_rest j p d late low }
 
   pub gets_calm : (j : ℕ) → limit < j → is_calm (run j w).ring.nodes ≡ true
-  unfolding run
+  unfolding any_run.run
   gets_calm j late = subst (λ k. is_calm (run k w).ring.nodes ≡ true) (let e : suc (j - 1) ≡ j = omega arith in e) (calm_next (j - 1) (omega arith))
     where
       calm_next : (i : ℕ) → limit ≤ i → is_calm (run (suc i) w).ring.nodes ≡ true
@@ -363,7 +296,7 @@ calm_ends w first calm =
 
 pub steps_answer : StepsAnswer
 steps_answer w left limit form whole enough unsettled =
-    let never = (known_unsettles w limit left (inl whole.paired.honest.honest) unsettled).0 in
+    let never = (known_unsettles path_node w limit left (inl whole.paired.honest.honest) unsettled).0 in
     let by = calm_ends w (9 * length w.ring.ids + 20) (λ j late. rounds_get_calm w whole form j late) in
     never by.ends (let s = by.soon in omega arith) by.window
 
@@ -371,5 +304,5 @@ steps_answer w left limit form whole enough unsettled =
 
 pub steps_deliver : StepsDeliver
 steps_deliver w left limit form settles whole =
-    let k = known_settles w limit left (inl whole.paired.honest.honest) settles in
+    let k = known_settles path_node w limit left (inl whole.paired.honest.honest) settles in
     subst DeliversWhatIsDue (sym k.2) (quiet_delivers w k.0 whole form k.1.window)

@@ -1,24 +1,25 @@
 -- What calls keep of the nodes of a path ring.
-use Rattle.std.proofs.Common.{◌≡◌, ℕ, zero, suc, ◌+◌, ◌<◌, ◌≤◌, Bool, true, false, List, [], ◌∷◌, ◌++◌, length, get_or, set, map, refl, ap, sym, subst, ◌∙◌, arith}
-use Rattle.std.specs.Prelude.{All, IsSome, Some, find, slice_get, Result, Ok, Err, OnErr}
+use Rattle.std.proofs.Common.{◌≡◌, ℕ, zero, suc, ◌+◌, ◌<◌, Bool, List, [], ◌∷◌, ◌++◌, length, get_or, map, refl, ap, sym, subst, ◌∙◌, arith}
+use Rattle.std.specs.Prelude.{All, IsSome, Option, Some, None, find, option_map, slice_get}
 use Rattle.std.specs.Option.{option_map_or}
-use Rattle.std.proofs.lemmas.List.{length-map, map-set, set-get_or}
+use Rattle.std.proofs.lemmas.List.{length-map}
 use Rattle.std.proofs.lemmas.List.Elements.{All-map}
 use Rattle.sdh_basics.proofs.CellsLaws.{cells-zero, cells-more}
 use Rattle.sdh_ringmap.specs.declared.Side.{Side}
 use Rattle.sdh_ringmap.specs.declared.Side.TheVariants.{West, East}
 use Rattle.sdh_ringmap.specs.Places.{position_of}
 use Rattle.sdh_circuits.specs.declared.PortId.{PortId}
-use Rattle.sdh_circuits.specs.Provisioned.{Provisioned, end_of, same_port}
+use Rattle.sdh_circuits.specs.Provisioned.{Provisioned, end_of}
 use Rattle.sdh_payload.specs.Outlet.{silent}
 use Rattle.sdh_plant.specs.Fibres.{Arrival}
-use Rattle.sdh_terminal.specs.Tributaries.{Tributary, is_port, port_of, HasPort, outlet_of, tributaries_at}
-use Rattle.sdh_node.specs.declared.settings.Settings.{Settings}
-use Rattle.sdh_world.specs.Fixed.{FixedPort, fixed_port}
+use Rattle.sdh_request.specs.declared.settings.Settings.{Settings}
 use Rattle.sdh_terminal.specs.Receiving.{after_taking}
+use Rattle.sdh_terminal.specs.Tributaries.{Tributary, port_of, HasPort, outlet_of, tributaries_at}
+use Rattle.sdh_rounds.specs.Rounds as any_round
 use Rattle.sdh_sncp.specs.Node.{PathNode, new_node, told, crossing, after_crossing, with_calm, node_round}
-use Rattle.sdh_sncp.specs.Ring.{HeldPath, new_nodes, told_both, all_told, node_after, outlet_at}
-use Rattle.sdh_sncp.specs.Fixed.{Fixed, fixed, HaveRun}
+use Rattle.sdh_sncp.specs.Ring.{HeldPath, new_nodes, with_arrivals, all_with_arrivals, node_after, outlet_at}
+use Rattle.sdh_sncp.specs.Fixed.{FixedPort, fixed_port, Fixed, fixed, HaveRun}
+use Rattle.sdh_sncp.proofs.Found.{names, fixed_found}
 use Rattle.sdh_sncp.proofs.Nodes.{fixed_ports_after, rounds_after}
 use Rattle.sdh_sncp.proofs.New.{length-new, new_at}
 
@@ -35,18 +36,8 @@ fixed_next n = ap (λ (ps : List FixedPort). record (fixed n) { ports = ps }) (f
 
 -- ---- all nodes
 
--- the node x at i becomes y, of which this is the same
-pub kept_more : {Y : Type 0} (f : PathNode → Y) (old now : List PathNode) (i : ℕ) (x y : PathNode) → x ≡ get_or now i x → f y ≡ f x → map f now ≡ map f old → map f (set now i y) ≡ map f old
-kept_more f old now i x y read same all =
-    map-set f now i y ∙ ap (set (map f now) i) same ∙ sym (map-set f now i x)
-    ∙ ap (λ z. map f (set now i z)) read ∙ ap (map f) (set-get_or now i x) ∙ all
-
 pub length_fixed : (old now : List PathNode) → map fixed now ≡ map fixed old → length now ≡ length old
 length_fixed old now all = sym (length-map now fixed) ∙ ap length all ∙ length-map old fixed
-
-pub on_err : {T E P : Type 0} (r : Result T E) → P → OnErr r P
-on_err (Ok x) h = tt
-on_err (Err e) h = h
 
 -- ---- a new ring
 
@@ -79,21 +70,21 @@ new_rate : (s : Settings) (ids : List ℕ) (cs : List Provisioned) (p : ℕ) →
 unfolding new_node
 new_rate s ids cs p = refl
 
-pub all_rates : (s : Settings) (ids : List ℕ) (cs : List Provisioned) (n : ℕ) (ns : List PathNode) → map fixed ns ≡ map fixed (new_nodes s ids cs n) → All (λ n. n.west.section.rate ≡ s.rate) ns
+pub all_rates : (s : Settings) (ids : List ℕ) (cs : List Provisioned) (n : ℕ) (ns : List PathNode) → map fixed ns ≡ map fixed (new_nodes s ids cs n) → All (λ (n : PathNode). n.west.section.rate ≡ s.rate) ns
 all_rates s ids cs n ns same = λ p d lt. rate_fixed (get_or ns p d) (new_node s ids cs (position_of p)) (node_is s ids cs n ns p d same (omega (arith, length-fixed s ids cs n ns same))) ∙ new_rate s ids cs p
 
 -- ---- rounds
 
-run_both : (r : ℕ) (west east : Arrival) (n : PathNode) → n.rounds ≡ r → (told_both west east n).rounds ≡ r
-unfolding told_both
+run_both : (r : ℕ) (west east : Arrival) (n : PathNode) → n.rounds ≡ r → (with_arrivals west east n).rounds ≡ r
+unfolding any_round.with_arrivals
 run_both r west east n h = h
 
-pub all_run_told : (xs : List Arrival) (r : ℕ) (ns : List PathNode) → HaveRun r ns → HaveRun r (all_told xs ns)
-all_run_told [] r ns all i d lt = all i d lt
-all_run_told (west ∷ []) r ns all i d lt = all i d lt
-all_run_told (west ∷ east ∷ later) r [] all i d lt = all i d lt
-all_run_told (west ∷ east ∷ later) r (n ∷ ns) all zero d lt = run_both r west east n (all 0 d (omega arith))
-all_run_told (west ∷ east ∷ later) r (n ∷ ns) all (suc i) d lt = all_run_told later r ns (λ j e low. all (suc j) e (omega arith)) i d (omega arith)
+pub all_run_heard : (xs : List Arrival) (r : ℕ) (ns : List PathNode) → HaveRun r ns → HaveRun r (all_with_arrivals xs ns)
+all_run_heard [] r ns all i d lt = all i d lt
+all_run_heard (west ∷ []) r ns all i d lt = all i d lt
+all_run_heard (west ∷ east ∷ later) r [] all i d lt = all i d lt
+all_run_heard (west ∷ east ∷ later) r (n ∷ ns) all zero d lt = run_both r west east n (all 0 d (omega arith))
+all_run_heard (west ∷ east ∷ later) r (n ∷ ns) all (suc i) d lt = all_run_heard later r ns (λ j e low. all (suc j) e (omega arith)) i d (omega arith)
 
 pub all_run_next : (r : ℕ) (ns : List PathNode) → HaveRun r ns → HaveRun (r + 1) (map node_after ns)
 all_run_next r ns all = All-map (λ (n : PathNode). n.rounds ≡ r + 1) node_after ns (λ i d lt. rounds_after (get_or ns i d) ∙ ap (λ k. k + 1) (all i d lt))
@@ -107,30 +98,21 @@ all_new s ids cs n = λ p d lt. (let low : p < n = omega (arith, length-new s id
 
 -- ---- ports
 
-names : PortId → FixedPort → Bool
-names id f = same_port f.port id
+some_mapped : {X Y : Type 0} (f : X → Y) (o : Option X) → IsSome o → IsSome (option_map f o)
+some_mapped f None h = h
+some_mapped f (Some x) h = refl
 
-named : (id : PortId) (ts : List Tributary) → IsSome (find (is_port id) ts) → IsSome (find (names id) (map fixed_port ts))
-unfolding names
-named id [] h = h
-named id (t ∷ ts) h = go (is_port id t) refl (named id ts)
-  where
-    go : (b : Bool) → is_port id t ≡ b → (IsSome (find (is_port id) ts) → IsSome (find (names id) (map fixed_port ts))) → IsSome (find (names id) (map fixed_port (t ∷ ts)))
-    go true e rest = rw e refl
-    go false e rest = let later : IsSome (find (is_port id) ts) = rw e at h in rw e (rest later)
+some_before : {X Y : Type 0} (f : X → Y) (o : Option X) → IsSome (option_map f o) → IsSome o
+some_before f None h = h
+some_before f (Some x) h = refl
 
-has_named : (id : PortId) (ts : List Tributary) → IsSome (find (names id) (map fixed_port ts)) → IsSome (find (is_port id) ts)
-unfolding names
-has_named id [] h = h
-has_named id (t ∷ ts) h = go (is_port id t) refl (has_named id ts)
-  where
-    go : (b : Bool) → is_port id t ≡ b → (IsSome (find (names id) (map fixed_port ts)) → IsSome (find (is_port id) ts)) → IsSome (find (is_port id) (t ∷ ts))
-    go true e rest = rw e refl
-    go false e rest = let later : IsSome (find (names id) (map fixed_port ts)) = rw e at h in rw e (rest later)
-
+-- ports of which the same is fixed have the same names
 pub has_fixed : (id : PortId) (m n : PathNode) → fixed m ≡ fixed n → HasPort n.ports id → HasPort m.ports id
-unfolding fixed port_of
-has_fixed id m n same h = has_named id m.ports (subst (λ (f : Fixed). IsSome (find (names id) f.ports)) (sym same) (named id n.ports h))
+unfolding fixed
+has_fixed id m n same h =
+    let ports : map fixed_port m.ports ≡ map fixed_port n.ports = ap (λ (f : Fixed). f.ports) same in
+    let found : option_map fixed_port (port_of id n.ports) ≡ option_map fixed_port (port_of id m.ports) = sym (fixed_found id n.ports) ∙ ap (find (names id)) (sym ports) ∙ fixed_found id m.ports in
+    some_before fixed_port (port_of id m.ports) (subst IsSome found (some_mapped fixed_port (port_of id n.ports) h))
 
 pub new_has : (s : Settings) (ids : List ℕ) (cs : List Provisioned) (p : ℕ) (id : PortId) → HasPort (tributaries_at (position_of p) cs) id → HasPort (new_node s ids cs (position_of p)).ports id
 unfolding new_node

@@ -4,7 +4,7 @@ use Rattle.std.specs.Prelude.{All}
 use Rattle.std.proofs.lemmas.Bool.{cases_lt}
 use Rattle.std.proofs.lemmas.List.{length-replicate, get_or-replicate, get_or_past}
 use Rattle.sdh_basics.proofs.CellsLaws.{length-cells, get_or-cells}
-use Rattle.sdh_frame.specs.Sizes.{n_of}
+use Rattle.sdh_terms.specs.Rates.{n_of}
 use Rattle.sdh_ringmap.specs.declared.Side.{Side}
 use Rattle.sdh_ringmap.specs.declared.Side.TheVariants.{West, East}
 use Rattle.sdh_ringmap.specs.Ids.{AreIds}
@@ -12,17 +12,18 @@ use Rattle.sdh_ringmap.specs.Places.{position_of}
 use Rattle.sdh_circuits.specs.Provisioned.{Provisioned}
 use Rattle.sdh_circuits.specs.Provisioning.{Provisioning}
 use Rattle.sdh_nodestate.specs.Words.{first_word}
-use Rattle.sdh_plant.specs.declared.plant.Condition.{Condition}
-use Rattle.sdh_plant.specs.Fibres.{Arrival, Fibres, fibre}
+use Rattle.sdh_terms.specs.declared.Condition.{Condition}
+use Rattle.sdh_plant.specs.Fibres.{Arrival, Fibres}
+use Rattle.sdh_terms.specs.Fibres.{fibre}
 use Rattle.sdh_plant.specs.Calls.{prepared}
 use Rattle.sdh_plant.proofs.Calling.{stay_prepared, stay_honest}
-use Rattle.sdh_node.specs.declared.settings.Settings.{Settings}
+use Rattle.sdh_request.specs.declared.settings.Settings.{Settings}
 use Rattle.sdh_terminal.specs.Tributaries.{Tributary, tributaries_at}
-use Rattle.sdh_world.proofs.Keeping.{new_ports}
-use Rattle.sdh_hearing.specs.Placed.{IsSender}
+use Rattle.sdh_spans.specs.Sides.{IsInletAt, IsSenderAt}
 use Rattle.sdh_sncp.specs.Node.{PathNode, new_node, inlet_on, sending_on}
 use Rattle.sdh_sncp.specs.Ring.{HeldPath, new_nodes, new_ring, nowhere, node_at, AtEach, World, world}
-use Rattle.sdh_sncp.specs.Laws.{IsInletAt, HasPlace, IsUnslipped, HasRun, IsBetween, IsPlaced, IsPaired, IsWhole, NewWorldsAreWhole, StayWhole}
+use Rattle.sdh_sncp.specs.Laws.{HasPlace, IsUnslipped, HasRun, IsBetween, IsPlaced, IsPaired, IsWhole, NewWorldsAreWhole, StayWhole}
+use Rattle.sdh_sncp.proofs.Found.{new_ports}
 use Rattle.sdh_sncp.proofs.Rounds.{whole_round, whole_run}
 
 -- ---- a new node
@@ -35,11 +36,11 @@ module _ (s : Settings) (ids : List ℕ) (circuits : Provisioning) (p : ℕ) whe
   unfolding new_node
   new_place = record { uses = refl; ports = refl; inlets = inlets; senders = senders; words = words }
     where
-      inlets : (d : Side) → IsInletAt s (inlet_on d one)
+      inlets : (d : Side) → IsInletAt s.rate (inlet_on d one)
       inlets West = record { rate = refl; readings = length-replicate _ _ }
       inlets East = record { rate = refl; readings = length-replicate _ _ }
 
-      senders : (d : Side) → IsSender s (sending_on d one)
+      senders : (d : Side) → IsSenderAt s.rate (sending_on d one)
       senders West = record { rate = refl; generators = length-replicate _ _; parities = tt }
       senders East = record { rate = refl; generators = length-replicate _ _; parities = tt }
 

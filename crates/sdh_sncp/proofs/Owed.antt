@@ -4,7 +4,7 @@ use Rattle.std.specs.Prelude.{slice_get, if◌then◌else◌, find, All, not, �
 use Rattle.std.specs.Option.{option_map_or}
 use Rattle.std.proofs.lemmas.Option.{slice_get-get_or, get_or_from_slice_get, slice_get_within}
 use Rattle.sdh_basics.specs.Indexed.{map_from}
-use Rattle.sdh_frame.specs.Sizes.{n_of}
+use Rattle.sdh_terms.specs.Rates.{n_of}
 use Rattle.sdh_ringmap.specs.declared.Side.{Side}
 use Rattle.sdh_ringmap.specs.declared.Side.TheVariants.{West, East}
 use Rattle.sdh_ringmap.specs.Places.{neighbour, opposite}
@@ -22,35 +22,25 @@ use Rattle.sdh_pointer.specs.declared.reading.Action.TheVariants as action
 use Rattle.sdh_pointer.specs.Laws.{is_ais_action}
 use Rattle.sdh_ringmap.specs.Steps.{going}
 use Rattle.sdh_restoration.specs.Due.{other_end}
-use Rattle.sdh_routes.specs.Walks.{inward, port_at}
-use Rattle.sdh_world.proofs.Clocks.{find_head, find_tail}
 use Rattle.sdh_terminal.specs.Passing.{Input, no_input}
 use Rattle.sdh_terminal.specs.Lines.{received, dropped_by}
 use Rattle.sdh_terminal.specs.Outlets.{delivered_by, delivered_from}
 use Rattle.sdh_terminal.specs.Tributaries.{Tributary, is_port, port_of, outlet_of, fed, all_fed, delivered_with, all_delivered_with}
-use Rattle.sdh_carrying.specs.Brought.{BringsWith, IsValueOf, Brings, HasValue}
-use Rattle.sdh_carrying.proofs.Ports.{port_id, IsPortOf, port-found}
+use Rattle.sdh_rounds.specs.Rounds as any_round
+use Rattle.sdh_rounds.specs.Runs as any_run
+use Rattle.sdh_spans.specs.Brought.{Brings, HasValue}
+use Rattle.sdh_spans.proofs.Ports.{ports_deliver}
 use Rattle.sdh_sncp.specs.Node.{PathNode, PathCross, crossing, drops, dropped_to, lines_of, ports_after, after_crossing, with_calm, node_round, comes}
-use Rattle.sdh_sncp.specs.Windows.{EndsWindow}
-use Rattle.sdh_sncp.specs.Ring.{HeldPath, nowhere, node_at, World, outlet_at, node_after, round, run, course, is_calm}
+use Rattle.sdh_sncp.specs.Ring.{HeldPath, nowhere, node_at, World, outlet_at, node_after, round, run, course, is_calm, EndsWindow}
 use Rattle.sdh_sncp.specs.Due.{way_clear, main_side, main_spans, spare_spans, sent_in, due_path}
 use Rattle.sdh_sncp.specs.Laws.{IsWhole, HasCircuits, cut_in, DeliversWhatIsDue, QuietRingsDeliver}
+use Rattle.sdh_sncp.proofs.Found.{port_id, IsPortOf, port-found, found_one, twice}
 use Rattle.sdh_sncp.proofs.Nodes.{informed, nodes_after, length-after}
 use Rattle.sdh_sncp.proofs.Rounds.{whole_round, whole_run, left_run}
 use Rattle.sdh_sncp.proofs.Spans.{crossing_at, came_at}
 use Rattle.sdh_sncp.proofs.Ways.{both_arcs, main_leads, spare_leads, either, cut_same, comes_along}
 
 -- ---- what is dropped
-
-outlet_with : (i : Input) (v : ℕ) (b : Delivered) → IsValueOf v b → BringsWith i v b → delivered_from i ≡ record { delivered = b; value = v }
-unfolding delivered_from
-outlet_with i v delivered.Ais has is = ap (λ a. delivered_by a i) is ∙ λ t. record { delivered = delivered.Ais; value = sym has t }
-outlet_with i v (delivered.Chunk payload) has is =
-    let input : i ≡ record { action = action.Normal; value = v; au = i.au } = λ t. record { action = is.0 t; value = is.1 t; au = i.au } in
-    ap (λ (j : Input). delivered_by j.action j) input ∙ ap (delivering v) is.2
-
-outlet_brings : (i : Input) (b : Outlet) → HasValue b → Brings i b → delivered_from i ≡ b
-outlet_brings i b has is = outlet_with i b.value b.delivered has is
 
 -- the main way's bytes, or else the spare way's, or else AIS
 abbrev chosen : Bool → Bool → Outlet → Outlet → Outlet
@@ -66,11 +56,11 @@ module _ (x : PathCross) (d : Side) (m : ℕ) (s : Customer) (t u : ℕ) (small 
   unfolding drops delivered_from
   drops_chosen true b main spare =
       let first : comes (received (lines_of x) d m) ≡ true = comes_if true d t main in
-      rw first (outlet_brings (received (lines_of x) d m) (sent_in s t) small main)
+      rw first (ports_deliver (received (lines_of x) d m) (sent_in s t) small main)
   drops_chosen false true main spare =
       let first : comes (received (lines_of x) d m) ≡ false = comes_if false d t main in
       let second : comes (received (lines_of x) (opposite d) m) ≡ true = comes_if true (opposite d) u spare in
-      rw (first, second) (outlet_brings (received (lines_of x) (opposite d) m) (sent_in s u) small spare)
+      rw (first, second) (ports_deliver (received (lines_of x) (opposite d) m) (sent_in s u) small spare)
   drops_chosen false false main spare =
       let first : comes (received (lines_of x) d m) ≡ false = comes_if false d t main in
       let second : comes (received (lines_of x) (opposite d) m) ≡ false = comes_if false (opposite d) u spare in
@@ -84,18 +74,6 @@ module _ (x : PathCross) (d : Side) (m : ℕ) (s : Customer) (t u : ℕ) (small 
 abbrev HasDelivered : PathCross → Tributary → Type 0
 HasDelivered x t = t.outlet ≡ delivered_from (dropped_to x t)
 
-found_one : (P : Tributary → Type 0) (id : PortId) (f : ℕ → Tributary → Tributary) (i : ℕ) (ts : List Tributary) (t : Tributary) → ((k : ℕ) (u : Tributary) → P (f k u)) → find (is_port id) (map_from f i ts) ≡ Some t → P t
-found_one P id f i [] t each is = absurd (cc)
-found_one P id f i (u ∷ ts) t each is = by (is_port id (f i u)) refl (λ rest. found_one P id f (i + 1) ts t each rest)
-  where
-    by : (b : Bool) → is_port id (f i u) ≡ b → (find (is_port id) (map_from f (i + 1) ts) ≡ Some t → P t) → P t
-    by true e later = let same : f i u ≡ t = (let k = sym (find_head id (f i u) (map_from f (i + 1) ts) e) ∙ is in cc) in subst P same (each i u)
-    by false e later = later (sym (find_tail id (f i u) (map_from f (i + 1) ts) e) ∙ is)
-
-twice : (f g : ℕ → Tributary → Tributary) (i : ℕ) (ts : List Tributary) → map_from f i (map_from g i ts) ≡ map_from (λ k t. f k (g k t)) i ts
-twice f g i [] = refl
-twice f g i (t ∷ ts) = ap (λ us. f i (g i t) ∷ us) (twice f g (i + 1) ts)
-
 port-delivered : (x : PathCross) (ts : List Tributary) (id : PortId) (t : Tributary) → port_of id (ports_after x ts) ≡ Some t → HasDelivered x t
 unfolding port_of ports_after all_fed
 port-delivered x ts id t is =
@@ -105,26 +83,21 @@ next-delivered : (n : PathNode) (id : PortId) (t : Tributary) → port_of id (no
 unfolding node_round with_calm after_crossing
 next-delivered n id t is = port-delivered (crossing n) n.ports id t is
 
-same_place : (c : Provisioned) (e : End) → (end_of c e).0 ≡ port_at c e
-same_place c A = refl
-same_place c B = refl
-
-outlet_there : (r : HeldPath) (index : ℕ) (c : Provisioned) (e : End) → slice_get r.circuits.circuits index ≡ Some c → port_at c e < length r.nodes → outlet_at r (port_id index e) ≡ outlet_of (port_id index e) (node_at r.nodes (port_at c e)).ports
+outlet_there : (r : HeldPath) (index : ℕ) (c : Provisioned) (e : End) → slice_get r.circuits.circuits index ≡ Some c → (end_of c e).0 < length r.nodes → outlet_at r (port_id index e) ≡ outlet_of (port_id index e) (node_at r.nodes ((end_of c e).0)).ports
 unfolding outlet_at
 outlet_there r index c e get lt =
     let id = port_id index e in
-    let p = port_at c e in
+    let p = (end_of c e).0 in
     let node : slice_get r.nodes p ≡ Some (node_at r.nodes p) = slice_get-get_or r.nodes p nowhere lt in
     ap (λ found. option_map_or (λ (c : Provisioned). option_map_or (λ (n : PathNode). outlet_of id n.ports) (slice_get r.nodes (end_of c e).0) silent) found silent) get
-    ∙ ap (λ q. option_map_or (λ (n : PathNode). outlet_of id n.ports) (slice_get r.nodes q) silent) (same_place c e)
     ∙ ap (λ found. option_map_or (λ (n : PathNode). outlet_of id n.ports) found silent) node
 
 -- in the round that begins with v
-outlet_after : (v : World) (whole : IsWhole v) (index : ℕ) (c : Provisioned) (e : End) → slice_get v.ring.circuits.circuits index ≡ Some c → port_at c e < length v.ring.nodes
-    → outlet_at (round v).ring (port_id index e) ≡ delivered_from (dropped_by (lines_of (crossing_at v (port_at c e))) (drops (crossing_at v (port_at c e)) (inward e) c.slot.0))
-unfolding round run
+outlet_after : (v : World) (whole : IsWhole v) (index : ℕ) (c : Provisioned) (e : End) → slice_get v.ring.circuits.circuits index ≡ Some c → (end_of c e).0 < length v.ring.nodes
+    → outlet_at (round v).ring (port_id index e) ≡ delivered_from (dropped_by (lines_of (crossing_at v ((end_of c e).0))) (drops (crossing_at v ((end_of c e).0)) (main_side e) c.slot.0))
+unfolding any_round.round any_run.run
 outlet_after v whole index c e get h =
-    let p = port_at c e in
+    let p = (end_of c e).0 in
     let id = port_id index e in
     let hu = whole_round v whole in
     let hp : p < length (round v).ring.nodes = omega (arith, length-after v) in
@@ -142,10 +115,6 @@ offset_small cs all index c get e = by (subst HasOffsets (get_or_from_slice_get 
     by : HasOffsets c → (e : End) → (customer_at c e).offset ≤ 782
     by h A = h.a
     by h B = h.b
-
-main_inward : (e : End) → main_side e ≡ inward e
-main_inward A = refl
-main_inward B = refl
 
 -- ---- the law
 
@@ -177,7 +146,7 @@ module _ (w : World) (whole : IsWhole w) (form : HasCircuits w.ring) (k : ℕ) (
   in_slots : IsInSlots (n_of w.ring.settings.rate / 2) c
   in_slots = subst (IsInSlots (n_of w.ring.settings.rate / 2)) (get_or_from_slice_get w.ring.circuits.circuits index c c get) (form.are.in_slots index c (slice_get_within w.ring.circuits.circuits index c get))
 
-  inside : (e : End) → port_at c e < size
+  inside : (e : End) → (end_of c e).0 < size
   inside A = in_ring.from_inside
   inside B = in_ring.to_inside
 
@@ -194,25 +163,21 @@ module _ (w : World) (whole : IsWhole w) (form : HasCircuits w.ring) (k : ℕ) (
   calm_at s j few low late = window.calm j (let z = size_there in let l = one in omega arith) (let l = one in omega arith)
 
   -- what comes in along a way
-  along : (d : Side) (s : ℕ) → 1 ≤ s → s < size → going size d (port_at c e) s ≡ port_at c (other_end e)
-      → Brings (came_at v (port_at c e) d c.slot.0) (either (way_clear size (cut_in w) (port_at c e) d s) (sent_in (customer_at c (other_end e)) (v.ring.rounds - s)))
+  along : (d : Side) (s : ℕ) → 1 ≤ s → s < size → going size d ((end_of c e).0) s ≡ (end_of c (other_end e)).0
+      → Brings (came_at v ((end_of c e).0) d c.slot.0) (either (way_clear size (cut_in w) ((end_of c e).0) d s) (sent_in (customer_at c (other_end e)) (v.ring.rounds - s)))
   along d s more few leads =
-      comes_along w whole form.alone index c get in_slots.from_1 high in_ring.two_ends inside e small d last s (port_at c e) size more (let l = long in let o = one in omega arith) (inside e) leads
-      (ap (going size d (port_at c e)) (let z : size ≡ 0 + size = omega arith in z) ∙ going-round size (let z = some in omega arith) d (port_at c e) 0 ∙ going-none size (let z = some in omega arith) d (port_at c e) (inside e)) few (omega arith) (λ j low late. calm_at s j few low late)
+      comes_along w whole form.alone index c get in_slots.from_1 high in_ring.two_ends inside e small d last s ((end_of c e).0) size more (let l = long in let o = one in omega arith) (inside e) leads
+      (ap (going size d ((end_of c e).0)) (let z : size ≡ 0 + size = omega arith in z) ∙ going-round size (let z = some in omega arith) d ((end_of c e).0) 0 ∙ going-none size (let z = some in omega arith) d ((end_of c e).0) (inside e)) few (omega arith) (λ j low late. calm_at s j few low late)
 
-  main_comes : Brings (came_at v (port_at c e) (inward e) c.slot.0) (either (way_clear size (cut_in w) (port_at c e) (inward e) (main_spans size c)) (sent_in (customer_at c (other_end e)) (v.ring.rounds - main_spans size c)))
-  main_comes = along (inward e) (main_spans size c) arcs.1 (let a = arcs.0 in let b = arcs.2 in omega arith) (main_leads size (let z = some in omega arith) c in_ring.from_inside in_ring.to_inside e)
+  main_comes : Brings (came_at v ((end_of c e).0) (main_side e) c.slot.0) (either (way_clear size (cut_in w) ((end_of c e).0) (main_side e) (main_spans size c)) (sent_in (customer_at c (other_end e)) (v.ring.rounds - main_spans size c)))
+  main_comes = along (main_side e) (main_spans size c) arcs.1 (let a = arcs.0 in let b = arcs.2 in omega arith) (main_leads size (let z = some in omega arith) c in_ring.from_inside in_ring.to_inside e)
 
-  spare_comes : Brings (came_at v (port_at c e) (opposite (inward e)) c.slot.0) (either (way_clear size (cut_in w) (port_at c e) (opposite (inward e)) (spare_spans size c)) (sent_in (customer_at c (other_end e)) (v.ring.rounds - spare_spans size c)))
-  spare_comes = along (opposite (inward e)) (spare_spans size c) arcs.2 (let a = arcs.0 in let b = arcs.1 in omega arith) (spare_leads size (let z = some in omega arith) c in_ring.from_inside in_ring.to_inside in_ring.two_ends e)
+  spare_comes : Brings (came_at v ((end_of c e).0) (opposite (main_side e)) c.slot.0) (either (way_clear size (cut_in w) ((end_of c e).0) (opposite (main_side e)) (spare_spans size c)) (sent_in (customer_at c (other_end e)) (v.ring.rounds - spare_spans size c)))
+  spare_comes = along (opposite (main_side e)) (spare_spans size c) arcs.2 (let a = arcs.0 in let b = arcs.1 in omega arith) (spare_leads size (let z = some in omega arith) c in_ring.from_inside in_ring.to_inside in_ring.two_ends e)
 
-  due_is : (cut : ℕ → Side → Bool) → due_path size cut c e v.ring.rounds ≡ chosen (way_clear size cut (port_at c e) (inward e) (main_spans size c)) (way_clear size cut (port_at c e) (opposite (inward e)) (spare_spans size c)) (sent_in (customer_at c (other_end e)) (v.ring.rounds - main_spans size c)) (sent_in (customer_at c (other_end e)) (v.ring.rounds - spare_spans size c))
+  due_is : (cut : ℕ → Side → Bool) → due_path size cut c e v.ring.rounds ≡ chosen (way_clear size cut ((end_of c e).0) (main_side e) (main_spans size c)) (way_clear size cut ((end_of c e).0) (opposite (main_side e)) (spare_spans size c)) (sent_in (customer_at c (other_end e)) (v.ring.rounds - main_spans size c)) (sent_in (customer_at c (other_end e)) (v.ring.rounds - spare_spans size c))
   unfolding due_path
-  due_is cut = by_end e
-    where
-      by_end : (e : End) → due_path size cut c e v.ring.rounds ≡ chosen (way_clear size cut (port_at c e) (inward e) (main_spans size c)) (way_clear size cut (port_at c e) (opposite (inward e)) (spare_spans size c)) (sent_in (customer_at c (other_end e)) (v.ring.rounds - main_spans size c)) (sent_in (customer_at c (other_end e)) (v.ring.rounds - spare_spans size c))
-      by_end A = refl
-      by_end B = refl
+  due_is cut = refl
 
   get_there : slice_get v.ring.circuits.circuits index ≡ Some c
   get_there = ap (λ ps. slice_get ps.circuits index) (left_run last w).circuits ∙ get
@@ -220,12 +185,12 @@ module _ (w : World) (whole : IsWhole w) (form : HasCircuits w.ring) (k : ℕ) (
   delivers : outlet_at (round v).ring (port_id index e) ≡ due_path size (cut_in w) c e v.ring.rounds
   delivers =
       outlet_after v (whole_run w last whole) index c e get_there (let a = (left_run last w).nodes in let b = whole.placed.size in let i = inside e in omega arith)
-      ∙ drops_chosen (crossing_at v (port_at c e)) (inward e) c.slot.0 (customer_at c (other_end e)) (v.ring.rounds - main_spans size c) (v.ring.rounds - spare_spans size c) small
-      (way_clear size (cut_in w) (port_at c e) (inward e) (main_spans size c)) (way_clear size (cut_in w) (port_at c e) (opposite (inward e)) (spare_spans size c)) main_comes spare_comes
+      ∙ drops_chosen (crossing_at v ((end_of c e).0)) (main_side e) c.slot.0 (customer_at c (other_end e)) (v.ring.rounds - main_spans size c) (v.ring.rounds - spare_spans size c) small
+      (way_clear size (cut_in w) ((end_of c e).0) (main_side e) (main_spans size c)) (way_clear size (cut_in w) ((end_of c e).0) (opposite (main_side e)) (spare_spans size c)) main_comes spare_comes
       ∙ sym (due_is (cut_in w))
 
   pub delivers_due : outlet_at (run k w).ring (port_id index e) ≡ due_path (length (run k w).ring.ids) (cut_in (run k w)) c e ((run k w).ring.rounds - 1)
-  unfolding run
+  unfolding any_run.run
   delivers_due =
       let now : round v ≡ run k w = same_run last ∙ ap (λ j. run j w) one in
       let number : v.ring.rounds ≡ (run k w).ring.rounds - 1 = (let a = (left_run last w).rounds in let b = (left_run k w).rounds in let o = one in omega arith) in

@@ -1,80 +1,44 @@
 -- A round of a path ring whose nodes are in their places and whose fibres carry what they sent.
-use Rattle.std.proofs.Common.{◌≡◌, ℕ, zero, suc, ◌+◌, ◌-◌, ◌*◌, ◌<◌, ◌≤◌, Bool, true, false, List, [], ◌∷◌, length, get_or, map, replicate, Option, Some, None, refl, ap, sym, subst, ◌∙◌, arith, inl, inr}
-use Rattle.std.specs.Prelude.{option_map, drop}
-use Rattle.std.specs.Option.{is_some, option_map_or}
+use Rattle.std.proofs.Common.{◌≡◌, ◌≢◌, ℕ, zero, suc, ◌+◌, ◌*◌, ◌<◌, ◌≤◌, List, [], ◌∷◌, length, get_or, map, Some, None, refl, ap, sym, subst, ◌∙◌, arith, inl, inr}
 use Rattle.std.proofs.lemmas.Bool.{cases_lt}
-use Rattle.std.proofs.lemmas.List.{get_or_past, length-map, length-replicate, get_or-replicate}
-use Rattle.sdh_basics.proofs.CellsLaws.{length-cells, get_or-cells}
-use Rattle.sdh_frame.specs.declared.Rate.{Rate}
-use Rattle.sdh_frame.specs.Sizes.{n_of, size_of}
-use Rattle.sdh_frame.specs.Aus.{au_of}
+use Rattle.std.proofs.lemmas.List.{get_or_past}
+use Rattle.sdh_terms.specs.declared.Rate.{Rate}
+use Rattle.sdh_terms.specs.Rates.{n_of}
 use Rattle.sdh_ringmap.specs.declared.Side.{Side}
 use Rattle.sdh_ringmap.specs.declared.Side.TheVariants.{West, East}
 use Rattle.sdh_ringmap.specs.Places.{neighbour, opposite}
-use Rattle.sdh_ringmap.specs.Ids.{AreIds}
 use Rattle.sdh_ringmap.proofs.Sides.{neighbour_below}
 use Rattle.sdh_kbytes.specs.declared.K.{K}
-use Rattle.sdh_nodestate.specs.Words.{IsSpellable, first_word}
-use Rattle.sdh_overhead.specs.Sections.{b2_violations, parities_of}
-use Rattle.sdh_overhead.specs.Laws.{AreParities}
-use Rattle.sdh_parity.specs.Scrambling.{scrambled}
-use Rattle.sdh_pointer.specs.declared.reading.Action.TheVariants as action
-use Rattle.sdh_plant.specs.Fibres.{Arrival, IsPrepared, IsConditionAt, IsHonest, fibre, fibre_to, is_cut}
-use Rattle.sdh_plant.specs.declared.plant.Condition.TheVariants.{Clear}
+use Rattle.sdh_kbytes.specs.declared.Mark.TheVariants as mark
+use Rattle.sdh_nodestate.specs.Words.{first_word}
+use Rattle.sdh_plant.specs.Fibres.{IsPrepared, IsHonest}
+use Rattle.sdh_terms.specs.Fibres.{IsConditionAt, fibre, fibre_to}
+use Rattle.sdh_terms.specs.declared.Condition.TheVariants.{Clear}
 use Rattle.sdh_plant.specs.Arrivals.{through, carried_on, condition_of}
-use Rattle.sdh_terminal.specs.Receiving as terminal
-use Rattle.sdh_terminal.specs.Receiving.{Inlet, Reception, reception_of, failure, after_taking, taken_in}
-use Rattle.sdh_terminal.specs.Passing.{Input}
+use Rattle.sdh_terminal.specs.Receiving.{Inlet, after_taking}
+use Rattle.sdh_terminal.specs.Lines.{line_on}
 use Rattle.sdh_terminal.specs.Sending.{Sending, line_frame_from}
-use Rattle.sdh_terminal.specs.Lines.{Lines, Line, line_on}
-use Rattle.sdh_node.specs.declared.settings.Settings.{Settings}
-use Rattle.sdh_world.specs.Rounds.{arrival_at, after_given, sent_all}
-use Rattle.sdh_hearing.specs.Placed.{IsSender}
-use Rattle.sdh_hearing.specs.Paired.{Says, CarriesWord}
-use Rattle.sdh_hearing.proofs.Frames.{cut_is_dark, comes_through, line_says}
-use Rattle.sdh_hearing.proofs.Parities.{aus_through}
-use Rattle.sdh_hearing.proofs.OneNode.{FindsWord, found_word}
-use Rattle.sdh_hearing.proofs.Rounds.{same_line}
-use Rattle.sdh_sncp.specs.Node.{PathNode, crossing, lines_of, input_at, after_crossing, with_calm, frames_of, node_round, inlet_on, sending_on}
-use Rattle.sdh_sncp.specs.Ring.{node_at, AtEach, World, node_after, both_frames, nodes_with, frames_with, arrivals_of, round_with, round, run}
-use Rattle.sdh_sncp.specs.Ring as ring
-use Rattle.sdh_sncp.specs.Laws.{AreCarried, IsPaired, IsWhole, condition_to, cut_in}
-use Rattle.sdh_sncp.proofs.Nodes.{placed_round, told_to, told_first, told_later, informed, informed_on, informed_out, listening_at, nodes_after, length-after, length-told, one_more, inlet_after, word_after}
-
--- ---- the frame that goes out on a side of a node
-
-abbrev pub frame_on : Side → PathNode → List ℕ
-frame_on West n = (node_round n).1.west.bytes
-frame_on East n = (node_round n).1.east.bytes
-
-abbrev pub puts : PathNode → Side → ℕ → Input
-puts n d = input_at (crossing n) n.ports d
-
-line_of : (n : PathNode) (d : Side) → frame_on d n ≡ line_frame_from (puts n d) (sending_on d n)
-unfolding node_round frames_of
-line_of n West = refl
-line_of n East = refl
-
-line_at : (s : Settings) (input : ℕ → Input) (x : Sending) → IsSender s x → Says s.rate x.word (line_frame_from input x)
-line_at s input x is =
-    subst (λ r. Says r x.word (line_frame_from input x)) is.rate
-    (line_says input x (subst (λ r. AreParities (n_of r) x.section.last) (sym is.rate) is.parities))
-
--- what is compared with the round before of a node's side in the cross-connect of its round
-pub line_after : (n : PathNode) (d : Side) → line_on (lines_of (crossing n)) d ≡ record { readings = (after_taking n.threshold (inlet_on d n)).readings; intake = taken_in n.threshold (inlet_on d n) }
-unfolding crossing
-line_after n West = refl
-line_after n East = refl
+use Rattle.sdh_rounds.specs.Rounds as any_round
+use Rattle.sdh_rounds.specs.Rounds.{arrival_at, sent_all}
+use Rattle.sdh_rounds.specs.Runs as any_run
+use Rattle.sdh_rounds.specs.Laws.{Keeps}
+use Rattle.sdh_rounds.proofs.Runs.{length-heard, prepared_round, count_round, held_round, conditions_round}
+use Rattle.sdh_rounds.proofs.Honest.{honest_rounds}
+use Rattle.sdh_spans.specs.Frames.{Says, CarriesWord, AreCarried}
+use Rattle.sdh_spans.specs.Sides.{IsSenderAt, IsTold}
+use Rattle.sdh_spans.specs.Spans.{line_after}
+use Rattle.sdh_sncp.specs.Node.{PathNode, lines_of, crossing, inlet_on, sending_on}
+use Rattle.sdh_sncp.specs.Stations.{path_node}
+use Rattle.sdh_sncp.specs.Ring.{HeldPath, node_at, World, sent_on, frames_of, nodes_with, arrivals_of, round, run}
+use Rattle.sdh_sncp.specs.Laws.{IsPaired, IsWhole, condition_to}
+use Rattle.sdh_sncp.proofs.Nodes.{puts, placed_round, told_to, told_later, informed, informed_on, informed_out, listening_at, nodes_after, length-after, inlet_after, line_taken, frame_is, node_sends}
 
 module _ (w : World) (whole : IsWhole w) where
   abbrev size : ℕ
   size = length w.ring.ids
 
-  abbrev s : Settings
-  s = w.ring.settings
-
   abbrev rate : Rate
-  rate = s.rate
+  rate = w.ring.settings.rate
 
   abbrev t : ℕ
   t = w.ring.rounds
@@ -93,19 +57,9 @@ module _ (w : World) (whole : IsWhole w) where
   neighbour_inside p d =
       let below : neighbour size p d < size = neighbour_below size p d (let e = whole.placed.ids.enough in omega arith) in let e = whole.placed.size in omega arith
 
-  word_spells : (p : ℕ) (d : Side) → p < size → IsSpellable (first_word w.ring.ids p d)
-  word_spells p d h =
-      let below : neighbour size p d < size = neighbour_below size p d (let e = whole.placed.ids.enough in omega arith) in
-      let a = whole.placed.ids.small (neighbour size p d) below in
-      let b = whole.placed.ids.small p h in
-      record { to = omega arith; from = omega arith }
-
-  word_to_spells : (p : ℕ) (d : Side) → IsSpellable (word_to p d)
-  word_to_spells p d = word_spells (neighbour size p d) (opposite d) (neighbour_below size p d (let e = whole.placed.ids.enough in omega arith))
-
   -- ---- what arrives
 
-  may_at : (p : ℕ) (d : Side) → IsConditionAt rate (condition_to w p d)
+  pub may_at : (p : ℕ) (d : Side) → IsConditionAt rate (condition_to w p d)
   may_at p d =
       let cs = w.fibres.conditions in
       let i = fibre_to size p d in
@@ -114,196 +68,103 @@ module _ (w : World) (whole : IsWhole w) where
         | inr past ↦ subst (IsConditionAt rate) (sym (get_or_past cs i Clear past)) tt
       ]
 
-  arrives : (p : ℕ) (d : Side) → arrival_at w.fibres p d ≡ through (n_of rate) (condition_to w p d) (carried_on w.fibres (fibre_to size p d))
-  unfolding arrival_at
-  arrives p d =
+  pub arrival_is : (p : ℕ) (d : Side) → arrival_at w.fibres p d ≡ through (n_of rate) (condition_to w p d) (carried_on w.fibres (fibre_to size p d))
+  arrival_is p d =
       let f = w.fibres in
-      ap (λ told. option_map_or (λ xs. get_or xs (fibre p d) None) told (through (n_of f.rate) (condition_of f (fibre_to f.nodes p d)) (carried_on f (fibre_to f.nodes p d)))) whole.paired.honest.tells_none
+      (honest_rounds path_node).arrives f p d whole.paired.honest
       ∙ ap (λ r. through (n_of r) (condition_of f (fibre_to f.nodes p d)) (carried_on f (fibre_to f.nodes p d))) whole.paired.prepared.rate
       ∙ ap (λ n. through (n_of rate) (condition_of f (fibre_to n p d)) (carried_on f (fibre_to n p d))) whole.paired.prepared.nodes
 
-  arrival_cut : (p : ℕ) (d : Side) → cut_in w p d ≡ true → arrival_at w.fibres p d ≡ None
-  arrival_cut p d cut = arrives p d ∙ cut_is_dark (n_of rate) (condition_to w p d) _ cut
+  -- the frame that was sent to a side
+  pub sent_to : (p : ℕ) (d : Side) → 0 < t → CarriesWord rate (word_to p d) (carried_on w.fibres (fibre_to size p d))
+  sent_to p d some = (whole.paired.carried (neighbour size p d) (neighbour_inside p d)).frames (opposite d) some
 
-  arrival_word : (p : ℕ) (d : Side) → 0 < t → cut_in w p d ≡ false → CarriesWord rate (word_to p d) (arrival_at w.fibres p d)
-  arrival_word p d some clear =
-      subst (CarriesWord rate (word_to p d)) (sym (arrives p d))
-      (comes_through rate (word_to p d) (condition_to w p d) _ clear ((whole.paired.carried (neighbour size p d) (neighbour_inside p d)).frames (opposite d) some))
+  -- ---- a side
 
-  word_goes : (p : ℕ) (d : Side) (some : 0 < t) (clear : cut_in w p d ≡ false) (line : List ℕ) → carried_on w.fibres (fibre_to size p d) ≡ Some line
-      → through (n_of rate) (condition_to w p d) (Some line) ≡ Some (arrival_word p d some clear).line
-  word_goes p d some clear line there = sym (ap (through (n_of rate) (condition_to w p d)) there) ∙ sym (arrives p d) ∙ (arrival_word p d some clear).there
+  -- with what is told to it
+  abbrev pub inlet_at : ℕ → Side → Inlet
+  inlet_at p d = record (old_on p d) { arrived = told_to w p d }
 
-  -- ---- what a side finds
-
-  abbrev made : ℕ → Side → ℕ → Reception
-  made p d threshold = reception_of (told_to w p d) rate threshold (old_on p d).section.last
-
-  dark_made : (p : ℕ) (d : Side) (threshold : ℕ) → 0 < t → cut_in w p d ≡ true → made p d threshold ≡ failure rate None
-  dark_made p d threshold some cut = ap (λ a. reception_of a rate threshold (old_on p d).section.last) (told_later w p d some ∙ ap Some (arrival_cut p d cut))
-
-  word_found : (p : ℕ) (d : Side) (threshold : ℕ) (some : 0 < t) (clear : cut_in w p d ≡ false) → (made p d threshold).bytes ≡ scrambled (9 * n_of rate) (arrival_word p d some clear).line
-  word_found p d threshold some clear =
-      let last = (old_on p d).section.last in
-      let c = arrival_word p d some clear in
-      ap (λ a. (reception_of a rate threshold last).bytes) (told_later w p d some ∙ ap Some c.there)
-      ∙ (found_word rate threshold (word_to p d) c.line last c.says (word_to_spells p d)).bytes_are refl
-
-  -- ---- the round of a side
-
-  rate_on : (p : ℕ) (d : Side) → p < length w.ring.nodes → (old_on p d).section.rate ≡ rate
-  rate_on p d h = ((whole.placed.places p h).inlets d).rate
-
-  abbrev threshold_at : ℕ → ℕ
+  abbrev pub threshold_at : ℕ → ℕ
   threshold_at p = (informed w p).threshold
 
-  abbrev told_on : ℕ → Side → Inlet
-  told_on p d = record (old_on p d) { arrived = told_to w p d }
+  pub told_side : (p : ℕ) (d : Side) (some : 0 < t) → p < length w.ring.nodes → IsTold rate (condition_to w p d) (word_to p d) (sent_to p d some).line (inlet_at p d)
+  told_side p d some h =
+      let sent = sent_to p d some in
+      record {
+        may = may_at p d;
+        says = sent.says;
+        no_ais = λ e. cc;
+        inlet = (let r = (whole.placed.places p h).inlets d in record { rate = r.rate; readings = r.readings });
+        told = told_later w p d some ∙ ap Some (arrival_is p d ∙ ap (through (n_of rate) (condition_to w p d)) sent.there);
+      }
 
-  side_is : (p : ℕ) (d : Side) → p < length w.ring.nodes → new_on p d ≡ after_taking (threshold_at p) (told_on p d)
+  -- what the round leaves of it
+  pub side_is : (p : ℕ) (d : Side) → p < length w.ring.nodes → new_on p d ≡ after_taking (threshold_at p) (inlet_at p d)
   side_is p d h = ap (inlet_on d) (nodes_after w whole.placed p h) ∙ inlet_after (informed w p) d ∙ ap (after_taking (threshold_at p)) (informed_on w p d)
 
-  -- the sides of the cross-connect in the round
-  pub line_is : (p : ℕ) (d : Side) → p < length w.ring.nodes → line_on (lines_of (crossing (informed w p))) d ≡ record { readings = (new_on p d).readings; intake = taken_in (threshold_at p) (told_on p d) }
-  line_is p d h =
-      line_after (informed w p) d ∙ ap (λ (i : Inlet). record { readings = (after_taking (threshold_at p) i).readings; intake = taken_in (threshold_at p) i }) (informed_on w p d)
-      ∙ ap (λ (i : Inlet). record { readings = i.readings; intake = taken_in (threshold_at p) (told_on p d) }) (sym (side_is p d h))
-
-  taken_bytes : (p : ℕ) (d : Side) → p < length w.ring.nodes → (taken_in (threshold_at p) (told_on p d)).frame.bytes ≡ (made p d (threshold_at p)).bytes
-  unfolding taken_in
-  taken_bytes p d h = ap (λ r. (reception_of (told_to w p d) r (threshold_at p) (old_on p d).section.last).bytes) (rate_on p d h)
-
-  taken_rate : (p : ℕ) (d : Side) → p < length w.ring.nodes → (taken_in (threshold_at p) (told_on p d)).frame.rate ≡ rate
-  unfolding taken_in
-  taken_rate p d h = rate_on p d h
-
--- what a side takes in, in a round, and what its interpreters leave. In round 0 they don't read; where the fibre is cut they read
--- ones; and else each AU-4 as it left the neighbour
-pub record Reads (w : World) (p : ℕ) (d : Side) (old new : Inlet) (l : Line) : Type 0 where
-  pub readings : l.readings ≡ new.readings
-  pub rate : l.intake.frame.rate ≡ w.ring.settings.rate
-  pub reads : 0 < w.ring.rounds → new.readings ≡ terminal.after_frame (n_of w.ring.settings.rate) l.intake.frame.bytes old.readings
-  pub acts : 0 < w.ring.rounds → l.intake.actions ≡ terminal.actions_in (n_of w.ring.settings.rate) l.intake.frame.bytes old.readings
-  pub ones : 0 < w.ring.rounds → cut_in w p d ≡ true → l.intake.frame.bytes ≡ replicate (size_of w.ring.settings.rate) 0xFF
-  pub aus : 0 < w.ring.rounds → cut_in w p d ≡ false
-      → (line : List ℕ) → carried_on w.fibres (fibre_to (length w.ring.ids) p d) ≡ Some line → (au : ℕ) → 1 ≤ au → au ≤ n_of w.ring.settings.rate
-      → au_of (n_of w.ring.settings.rate) au l.intake.frame.bytes ≡ au_of (n_of w.ring.settings.rate) au (scrambled (9 * n_of w.ring.settings.rate) line)
-
-module _ (w : World) (whole : IsWhole w) where
-  abbrev m : ℕ
-  m = n_of w.ring.settings.rate
-
-  abbrev taken_at : ℕ → Side → List ℕ
-  taken_at p d = (taken_in (threshold_at w whole p) (told_on w whole p d)).frame.bytes
-
-  read_after : (p : ℕ) (d : Side) → p < length w.ring.nodes → 0 < w.ring.rounds → (new_on w whole p d).readings ≡ terminal.after_frame m (taken_at p d) (old_on w whole p d).readings
-  unfolding after_taking taken_in
-  read_after p d h some =
-      let old = (old_on w whole p d).readings in
-      let r = (old_on w whole p d).section.rate in
-      let bytes = (reception_of (told_to w p d) r (threshold_at w whole p) (old_on w whole p d).section.last).bytes in
-      ap (λ (i : Inlet). i.readings) (side_is w whole p d h)
-      ∙ ap (λ a. terminal.readings_by (is_some a) (n_of r) bytes old) (told_later w p d some)
-      ∙ ap (λ x. terminal.after_frame (n_of x) bytes old) (rate_on w whole p d h)
-
-  acted : (p : ℕ) (d : Side) → p < length w.ring.nodes → 0 < w.ring.rounds → (taken_in (threshold_at w whole p) (told_on w whole p d)).actions ≡ terminal.actions_in m (taken_at p d) (old_on w whole p d).readings
-  unfolding taken_in
-  acted p d h some =
-      let old = (old_on w whole p d).readings in
-      let r = (old_on w whole p d).section.rate in
-      let bytes = (reception_of (told_to w p d) r (threshold_at w whole p) (old_on w whole p d).section.last).bytes in
-      ap (λ a. terminal.actions_by (is_some a) (n_of r) bytes old) (told_later w p d some)
-      ∙ ap (λ x. terminal.actions_in (n_of x) bytes old) (rate_on w whole p d h)
-
-  line_size : (p : ℕ) (d : Side) → 0 < w.ring.rounds → (line : List ℕ) → carried_on w.fibres (fibre_to (length w.ring.ids) p d) ≡ Some line → length line ≡ size_of w.ring.settings.rate
-  line_size p d some line there =
-      let c = (whole.paired.carried (neighbour (length w.ring.ids) p d) (neighbour_inside w whole p d)).frames (opposite d) some in
-      let same : c.line ≡ line = same_line c.line line _ c.there there in
-      ap length (sym same) ∙ c.says.size
-
-  pub reads : (p : ℕ) (d : Side) → p < length w.ring.nodes → Reads w p d (old_on w whole p d) (new_on w whole p d) (line_on (lines_of (crossing (informed w p))) d)
-  reads p d h =
-      subst (Reads w p d (old_on w whole p d) (new_on w whole p d)) (sym (line_is w whole p d h))
-      (record {
-        readings = refl;
-        rate = taken_rate w whole p d h;
-        reads = read_after p d h;
-        acts = acted p d h;
-        ones = λ some cut. taken_bytes w whole p d h ∙ ap (λ (f : Reception). f.bytes) (dark_made w whole p d (threshold_at w whole p) some cut);
-        aus = λ some clear line there au low high. (
-            ap (au_of m au) (taken_bytes w whole p d h ∙ word_found w whole p d (threshold_at w whole p) some clear)
-            ∙ aus_through w.ring.settings.rate (condition_to w p d) line (arrival_word w whole p d some clear).line (line_size p d some line there) (may_at w whole p d) (word_goes w whole p d some clear line there) au low high);
-      })
+  -- and in the cross-connect of the round
+  pub line_is : (p : ℕ) (d : Side) → line_on (lines_of (crossing (informed w p))) d ≡ line_after (threshold_at p) (inlet_at p d)
+  line_is p d = line_taken (informed w p) d ∙ ap (line_after (threshold_at p)) (informed_on w p d)
 
   -- ---- what the fibres carry after the round
 
-  frame_there : (ns : List PathNode) (p : ℕ) (d : Side) → p < length ns → get_or (map Some (ring.frames_of ns)) (fibre p d) None ≡ Some (frame_on d (node_at ns p))
+  frame_there : (ns : List PathNode) (p : ℕ) (d : Side) → p < length ns → get_or (map Some (frames_of w.ring.moment ns)) (fibre p d) None ≡ Some (sent_on d (node_at ns p))
   frame_there [] p d h = absurd (omega arith)
   frame_there (n ∷ ns) zero West h = refl
   frame_there (n ∷ ns) zero East h = refl
   frame_there (n ∷ ns) (suc p) West h =
       let i : 2 * suc p ≡ suc (suc (2 * p)) = omega arith in
-      ap (λ k. get_or (map Some (ring.frames_of (n ∷ ns))) k None) i ∙ frame_there ns p West (omega arith)
+      ap (λ k. get_or (map Some (frames_of w.ring.moment (n ∷ ns))) k None) i ∙ frame_there ns p West (omega arith)
   frame_there (n ∷ ns) (suc p) East h =
       let i : 2 * suc p + 1 ≡ suc (suc (2 * p + 1)) = omega arith in
-      ap (λ k. get_or (map Some (ring.frames_of (n ∷ ns))) k None) i ∙ frame_there ns p East (omega arith)
+      ap (λ k. get_or (map Some (frames_of w.ring.moment (n ∷ ns))) k None) i ∙ frame_there ns p East (omega arith)
 
-  pub carried_after : (p : ℕ) (d : Side) → p < length w.ring.nodes → carried_on (round w).fibres (fibre p d) ≡ Some (frame_on d (informed w p))
-  unfolding round round_with sent_all
+  pub carried_after : (p : ℕ) (d : Side) → p < length w.ring.nodes → carried_on (round w).fibres (fibre p d) ≡ Some (sent_on d (informed w p))
+  unfolding any_round.round any_round.round_with sent_all
   carried_after p d h =
-      frame_there (nodes_with (arrivals_of w) w) p d (let e = length-told (arrivals_of w) w.ring.nodes in omega arith)
-      ∙ ap (λ n. Some (frame_on d n)) (listening_at w whole.placed p h)
+      frame_there (nodes_with (arrivals_of w) w) p d (let e = length-heard path_node (arrivals_of w) w.ring.nodes in omega arith)
+      ∙ ap (λ n. Some (sent_on d n)) (listening_at w whole.placed p h)
 
-  pub sends_at : (p : ℕ) (d : Side) → p < length w.ring.nodes → IsSender w.ring.settings (sending_on d (informed w p))
-  sends_at p d h = subst (IsSender w.ring.settings) (sym (informed_out w p d)) ((whole.placed.places p h).senders d)
+  pub sends_at : (p : ℕ) (d : Side) → p < length w.ring.nodes → IsSenderAt rate (sending_on d (informed w p))
+  sends_at p d h = subst (IsSenderAt rate) (sym (informed_out w p d)) ((whole.placed.places p h).senders d)
 
-  frame_says : (p : ℕ) (d : Side) → p < length w.ring.nodes → Says w.ring.settings.rate (first_word w.ring.ids p d) (frame_on d (informed w p))
+  -- the word that a node says
+  pub word_is : (p : ℕ) (d : Side) → p < length w.ring.nodes → (sending_on d (informed w p)).word ≡ first_word w.ring.ids p d
+  word_is p d h = ap (λ (x : Sending). x.word) (informed_out w p d) ∙ (whole.placed.places p h).words d
+
+  frame_says : (p : ℕ) (d : Side) → p < length w.ring.nodes → Says rate (first_word w.ring.ids p d) (sent_on d (informed w p))
   frame_says p d h =
-      subst (λ k. Says w.ring.settings.rate k (frame_on d (informed w p))) (ap (λ (x : Sending). x.word) (informed_out w p d) ∙ (whole.placed.places p h).words d)
-      (subst (Says w.ring.settings.rate (sending_on d (informed w p)).word) (sym (line_of (informed w p) d)) (line_at w.ring.settings (puts (informed w p) d) (sending_on d (informed w p)) (sends_at p d h)))
+      subst (λ k. Says rate k (sent_on d (informed w p))) (word_is p d h)
+      (subst (Says rate (sending_on d (informed w p)).word) (sym (frame_is (informed w p) d)) (node_sends (informed w p) rate d (sends_at p d h)).says)
 
-pub length-frames : (ns : List PathNode) → length (ring.frames_of ns) ≡ 2 * length ns
-length-frames [] = refl
-length-frames (n ∷ ns) = omega (arith, length-frames ns)
+  prepared_after : IsPrepared rate size (round w).fibres
+  unfolding any_round.round
+  prepared_after =
+      let c = whole.placed.size in
+      subst (λ n. IsPrepared rate n (round w).fibres) c (prepared_round path_node rate (arrivals_of w) w (subst (λ n. IsPrepared rate n w.fibres) (sym c) whole.paired.prepared))
 
-pub prepared_round : (rate : Rate) (xs : List Arrival) (w : World) → length w.ring.nodes ≡ length w.ring.ids → IsPrepared rate (length w.ring.ids) w.fibres → IsPrepared rate (length w.ring.ids) (round_with xs w).fibres
-unfolding round_with sent_all after_given
-prepared_round rate xs w size h = record {
-  nodes = h.nodes;
-  rate = h.rate;
-  conditions = h.conditions;
-  each = h.each;
-  carried = length-map (frames_with xs w) Some ∙ length-frames (nodes_with xs w) ∙ ap (λ n. 2 * n) (length-told xs w.ring.nodes ∙ size);
-  enough = h.enough;
-  few = h.few;
-}
+  honest_after : IsHonest (round w).fibres
+  unfolding any_round.round
+  honest_after = (honest_rounds path_node).round w (arrivals_of w) whole.paired.honest
 
-honest_after : (xs : List Arrival) (w : World) → IsHonest w.fibres → IsHonest (round_with xs w).fibres
-unfolding round_with sent_all after_given
-honest_after xs w is = record { honest = is.honest; tells_none = ap (option_map (drop (length xs))) is.tells_none }
+  pub paired_after : IsPaired (round w)
+  unfolding any_round.round any_round.round_with
+  paired_after = record {
+    honest = honest_after;
+    prepared = prepared_after;
+    carried = λ p h. (let low : p < length w.ring.nodes = omega (arith, length-after w) in record {
+      dark = λ d e. absurd (omega arith);
+      frames = λ d some. record { line = sent_on d (informed w p); there = carried_after p d low; says = frame_says p d low };
+    });
+  }
 
 pub whole_round : (w : World) → IsWhole w → IsWhole (round w)
-unfolding round round_with
-whole_round w whole = record {
-  placed = placed_round w (arrivals_of w) whole.placed;
-  paired = record {
-    honest = honest_after (arrivals_of w) w whole.paired.honest;
-    prepared = prepared_at;
-    carried = λ p h. (let low : p < length w.ring.nodes = (let e = length-after w in omega arith) in carried_at p low);
-  };
-}
-  where
-    prepared_at : IsPrepared (round w).ring.settings.rate (length (round w).ring.ids) (round w).fibres
-    prepared_at = prepared_round w.ring.settings.rate (arrivals_of w) w whole.placed.size whole.paired.prepared
-
-    carried_at : (p : ℕ) → p < length w.ring.nodes → AreCarried (round w) p
-    carried_at p low = record {
-      dark = λ d e. absurd (omega arith);
-      frames = λ d some. record { line = frame_on d (informed w p); there = carried_after w whole p d low; says = frame_says w whole p d low };
-    }
+unfolding any_round.round
+whole_round w whole = record { placed = placed_round w (arrivals_of w) whole.placed; paired = paired_after w whole }
 
 pub whole_run : (w : World) (k : ℕ) → IsWhole w → IsWhole (run k w)
-unfolding run
+unfolding any_run.run
 whole_run w zero whole = whole
 whole_run w (suc k) whole = whole_round (run k w) (whole_run w k whole)
 
@@ -318,17 +179,19 @@ pub record IsLeft (w v : World) (k : ℕ) : Type 0 where
   pub nodes : length v.ring.nodes ≡ length w.ring.nodes
 
 left_round : (w v : World) (k : ℕ) → IsLeft w v k → IsLeft w (round v) (suc k)
-unfolding round round_with sent_all after_given
-left_round w v k is = record {
-  settings = is.settings;
-  ids = is.ids;
-  circuits = is.circuits;
-  conditions = is.conditions;
-  rounds = let e = is.rounds in omega arith;
-  nodes = length-map (nodes_with (arrivals_of v) v) node_after ∙ length-told (arrivals_of v) v.ring.nodes ∙ is.nodes;
-}
+unfolding any_round.round
+left_round w v k is =
+    let held = held_round path_node (arrivals_of v) v in
+    record {
+      settings = ap (λ (r : HeldPath). r.settings) held ∙ is.settings;
+      ids = ap (λ (r : HeldPath). r.ids) held ∙ is.ids;
+      circuits = ap (λ (r : HeldPath). r.circuits) held ∙ is.circuits;
+      conditions = conditions_round path_node (arrivals_of v) v ∙ is.conditions;
+      rounds = let e = is.rounds in let f : (round v).ring.rounds ≡ v.ring.rounds + 1 = ap (λ (r : HeldPath). r.rounds) held in omega arith;
+      nodes = count_round path_node (arrivals_of v) v ∙ is.nodes;
+    }
 
 pub left_run : (k : ℕ) (w : World) → IsLeft w (run k w) k
-unfolding run
+unfolding any_run.run
 left_run zero w = record { settings = refl; ids = refl; circuits = refl; conditions = refl; rounds = omega arith; nodes = refl }
 left_run (suc k) w = left_round w (run k w) k (left_run k w)

@@ -4,7 +4,7 @@ use Rattle.std.specs.Prelude.{slice_get, ◌==◌, if◌then◌else◌}
 use Rattle.std.specs.Option.{option_map_or}
 use Rattle.std.proofs.lemmas.Bool.{eq-eqb, ne_eqb, cases_eq}
 use Rattle.sdh_basics.proofs.CellsLaws.{get_or-cells}
-use Rattle.sdh_frame.specs.Sizes.{n_of}
+use Rattle.sdh_terms.specs.Rates.{n_of}
 use Rattle.sdh_ringmap.specs.declared.Side.{Side}
 use Rattle.sdh_ringmap.specs.declared.Side.TheVariants.{West, East}
 use Rattle.sdh_payload.specs.Outlet.{delivering}
@@ -12,21 +12,18 @@ use Rattle.sdh_ringmap.specs.Places.{opposite, position_of}
 use Rattle.sdh_circuits.specs.declared.End.{End}
 use Rattle.sdh_circuits.specs.declared.End.TheVariants.{A, B}
 use Rattle.sdh_circuits.specs.declared.PortId.{PortId}
-use Rattle.sdh_circuits.specs.Provisioned.{Provisioned, customer_at}
+use Rattle.sdh_circuits.specs.Provisioned.{Provisioned, customer_at, end_of}
 use Rattle.sdh_payload.specs.Customer.{Customer}
 use Rattle.sdh_payload.specs.declared.chunk.ChunkForm.{ChunkForm}
 use Rattle.sdh_payload.specs.declared.chunk.ChunkForm.TheVariants.{Plain}
 use Rattle.sdh_payload.specs.Clock.{Clock, next_form, after_form, ticked}
 use Rattle.sdh_payload.specs.Stream.{stream_from}
-use Rattle.sdh_routes.specs.Walks.{port_at}
-use Rattle.sdh_world.specs.Fixed.{fixed_port}
-use Rattle.sdh_world.proofs.Clocks.{found_has}
 use Rattle.sdh_terminal.specs.declared.matrix.Feeder.{Feeder}
 use Rattle.sdh_terminal.specs.Passing.{Input, no_input}
 use Rattle.sdh_terminal.specs.Lines.{fed_by}
 use Rattle.sdh_terminal.specs.Tributaries.{Tributary, sent_by, sent_in, input_by, added_by, port_of}
-use Rattle.sdh_carrying.specs.Brought.{Brings}
-use Rattle.sdh_carrying.proofs.Ports.{port_id, IsPortOf, port-found}
+use Rattle.sdh_spans.specs.Brought.{Brings}
+use Rattle.sdh_spans.proofs.Ports.{ports_bring}
 use Rattle.sdh_sncp.specs.declared.slots.Use.{Use}
 use Rattle.sdh_sncp.specs.declared.slots.Use.TheVariants.{Unused, Passed, Ended}
 use Rattle.sdh_sncp.specs.Slots.{use_by, use_from, use_of, uses_at}
@@ -35,6 +32,7 @@ use Rattle.sdh_sncp.specs.Node.{PathNode, fed_for, leads, lines_of, crossing}
 use Rattle.sdh_sncp.specs.Fixed.{AreAlone}
 use Rattle.sdh_sncp.specs.Ring.{node_at, World}
 use Rattle.sdh_sncp.specs.Laws.{IsUnslipped, IsWhole}
+use Rattle.sdh_sncp.proofs.Found.{found_has, port_id, IsPortOf, port-found}
 use Rattle.sdh_sncp.proofs.Nodes.{informed, unslipped_plain}
 use Rattle.sdh_sncp.proofs.Spans.{crossing_at, sent_at, came_at}
 
@@ -69,7 +67,7 @@ use_passed at i c a b =
     let second : (c.to.0 == at) ≡ false = ne_eqb c.to.0 at (λ e. b (sym e)) in
     rw (first, second) refl
 
-pub use_ended : (i : ℕ) (c : Provisioned) (e : End) → c.from.0 ≢ c.to.0 → use_by (port_at c e) i c ≡ Ended (port_id i e)
+pub use_ended : (i : ℕ) (c : Provisioned) (e : End) → c.from.0 ≢ c.to.0 → use_by ((end_of c e).0) i c ≡ Ended (port_id i e)
 use_ended i c A apart = let first : (c.from.0 == c.from.0) ≡ true = eq-eqb c.from.0 c.from.0 refl in rw first refl
 use_ended i c B apart =
     let first : (c.from.0 == c.to.0) ≡ false = ne_eqb c.from.0 c.to.0 apart in
@@ -108,25 +106,19 @@ module _ (w : World) (whole : IsWhole w) (q m : ℕ) (h : q < length w.ring.node
 
 -- ---- what a port sends
 
-brings_plain : (c : Clock) (sender : Customer) (f : ChunkForm) → f ≡ Plain → Brings (input_by (sent_by (record { port = sender; clock = after_form f c }))) (delivering c.value (stream_from sender c.sent 2349))
-unfolding sent_by
-brings_plain c sender f is = let back : c.sent + 2349 - 2349 ≡ c.sent = omega arith in rw is (refl, refl, ap (λ p. stream_from sender p 2349) back)
-
 sends_it : (t : Tributary) (sender : Customer) (rounds : ℕ) → t.feed.port ≡ sender → IsUnslipped rounds t.feed → Brings (input_by (sent_in t.feed)) (due.sent_in sender rounds)
-unfolding ticked
 sends_it t sender rounds from is =
-    let plain = unslipped_plain rounds t.feed is in
     let value : t.feed.clock.value ≡ sender.offset = is.value ∙ ap (λ (s : Customer). s.offset) from in
     let bytes : stream_from t.feed.port t.feed.clock.sent 2349 ≡ stream_from sender (2349 * rounds) 2349 = ap (λ p. stream_from t.feed.port p 2349) is.sent ∙ ap (λ s. stream_from s (2349 * rounds) 2349) from in
-    subst (λ o. Brings (input_by (sent_in t.feed)) o) (λ i. delivering (value i) (bytes i)) (brings_plain t.feed.clock t.feed.port (next_form t.feed.clock) plain)
+    subst (λ o. Brings (input_by (sent_in t.feed)) o) (λ i. delivering (value i) (bytes i)) (ports_bring t.feed (unslipped_plain rounds t.feed is))
 
-module _ (w : World) (whole : IsWhole w) (index : ℕ) (c : Provisioned) (e : End) (get : slice_get w.ring.circuits.circuits index ≡ Some c) (h : port_at c e < length w.ring.nodes) where
-  pub found : IsPortOf c e (port_of (port_id index e) (node_at w.ring.nodes (port_at c e)).ports)
-  found = port-found w.ring.circuits.circuits (node_at w.ring.nodes (port_at c e)).ports index c e get (whole.placed.places (port_at c e) h).ports
+module _ (w : World) (whole : IsWhole w) (index : ℕ) (c : Provisioned) (e : End) (get : slice_get w.ring.circuits.circuits index ≡ Some c) (h : (end_of c e).0 < length w.ring.nodes) where
+  pub found : IsPortOf c e (port_of (port_id index e) (node_at w.ring.nodes ((end_of c e).0)).ports)
+  found = port-found w.ring.circuits.circuits (node_at w.ring.nodes ((end_of c e).0)).ports index c e get (whole.placed.places ((end_of c e).0) h).ports
 
   -- the port sends in the round what its customer sends in it
-  pub port_sends : Brings (added_by (node_at w.ring.nodes (port_at c e)).ports (port_id index e)) (due.sent_in (customer_at c e) w.ring.rounds)
+  pub port_sends : Brings (added_by (node_at w.ring.nodes ((end_of c e).0)).ports (port_id index e)) (due.sent_in (customer_at c e) w.ring.rounds)
   port_sends =
       let t = found.it in
-      let clocks = (found_has (λ (t : Tributary). IsUnslipped w.ring.rounds t.feed) (port_id index e) (node_at w.ring.nodes (port_at c e)).ports t (whole.placed.between (port_at c e) h).run.clocks found.is).0 in
+      let clocks = (found_has (λ (t : Tributary). IsUnslipped w.ring.rounds t.feed) (port_id index e) (node_at w.ring.nodes ((end_of c e).0)).ports t (whole.placed.between ((end_of c e).0) h).run.clocks found.is).0 in
       subst (λ i. Brings i (due.sent_in (customer_at c e) w.ring.rounds)) (sym (ap (λ o. option_map_or (λ (t : Tributary). input_by (sent_in t.feed)) o no_input) found.is)) (sends_it t (customer_at c e) w.ring.rounds found.sender clocks)

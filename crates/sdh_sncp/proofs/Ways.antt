@@ -2,7 +2,7 @@
 use Rattle.std.proofs.Common.{◌≡◌, ◌≢◌, ℕ, zero, suc, ◌+◌, ◌-◌, ◌*◌, ◌<◌, ◌≤◌, Bool, true, false, length, get_or, Some, refl, ap, sym, ◌∙◌, subst, arith, inl, inr}
 use Rattle.std.specs.Prelude.{slice_get, if◌then◌else◌}
 use Rattle.std.proofs.lemmas.Bool.{cases_Bool, cases_lt}
-use Rattle.sdh_frame.specs.Sizes.{n_of}
+use Rattle.sdh_terms.specs.Rates.{n_of}
 use Rattle.sdh_ringmap.specs.declared.Side.{Side}
 use Rattle.sdh_ringmap.specs.declared.Side.TheVariants.{West, East}
 use Rattle.sdh_ringmap.specs.Places.{neighbour, opposite, eastwards}
@@ -12,25 +12,25 @@ use Rattle.sdh_ringmap.proofs.Sides.{neighbour_below}
 use Rattle.sdh_ringmap.proofs.Around.{eastwards_on, eastwards_round}
 use Rattle.sdh_circuits.specs.declared.End.{End}
 use Rattle.sdh_circuits.specs.declared.End.TheVariants.{A, B}
-use Rattle.sdh_circuits.specs.Provisioned.{Provisioned, customer_at}
+use Rattle.sdh_circuits.specs.Provisioned.{Provisioned, customer_at, end_of}
 use Rattle.sdh_payload.specs.Customer.{Customer}
 use Rattle.sdh_payload.specs.Outlet.{Outlet, silent}
-use Rattle.sdh_plant.specs.declared.plant.Condition.TheVariants.{Clear}
-use Rattle.sdh_plant.specs.Fibres.{fibre_to, is_cut}
+use Rattle.sdh_terms.specs.declared.Condition.TheVariants.{Clear}
+use Rattle.sdh_terms.specs.Fibres.{fibre_to, is_cut}
 use Rattle.sdh_plant.specs.Arrivals.{condition_of}
 use Rattle.sdh_restoration.specs.Due.{other_end}
-use Rattle.sdh_routes.specs.Walks.{inward, port_at}
 use Rattle.sdh_terminal.specs.Passing.{Input}
-use Rattle.sdh_carrying.specs.Brought.{Brings, HasValue}
-use Rattle.sdh_carrying.proofs.Ports.{port_id}
-use Rattle.sdh_sncp.specs.Due.{way_clear, main_spans, spare_spans, sent_in}
+use Rattle.sdh_rounds.specs.Runs as any_run
+use Rattle.sdh_spans.specs.Brought.{Brings, HasValue}
+use Rattle.sdh_sncp.specs.Due.{way_clear, main_side, main_spans, spare_spans, sent_in}
 use Rattle.sdh_sncp.specs.Slots.{use_by, use_of}
 use Rattle.sdh_sncp.specs.declared.slots.Use.TheVariants.{Passed, Ended}
 use Rattle.sdh_sncp.specs.Fixed.{AreAlone}
 use Rattle.sdh_sncp.specs.Ring.{World, HeldPath, round, run, is_calm}
 use Rattle.sdh_sncp.specs.Laws.{IsWhole, cut_in}
+use Rattle.sdh_sncp.proofs.Found.{port_id}
 use Rattle.sdh_sncp.proofs.Rounds.{whole_run, IsLeft, left_run}
-use Rattle.sdh_sncp.proofs.Spans.{sent_at, came_at, span_brings, node_silent}
+use Rattle.sdh_sncp.proofs.Spans.{sent_at, came_at, span_brings, span_silent}
 use Rattle.sdh_sncp.proofs.Uses.{use_is, use_passed, use_ended, sends_passed, sends_ended, port_sends}
 
 -- ---- the two ways of a circuit's port
@@ -58,11 +58,11 @@ westwards n some p q hp hq =
     ap (λ b. going n West b (eastwards n q p)) (sym (going-to n some q p hq hp)) ∙ mirror n some East q (eastwards n q p) 0 (eastwards n q p) (omega arith) ∙ going-none n some East q hq
 
 -- the main way leads to the other end, and so does the spare one
-pub main_leads : (n : ℕ) → 0 < n → (c : Provisioned) → c.from.0 < n → c.to.0 < n → (e : End) → going n (inward e) (port_at c e) (main_spans n c) ≡ port_at c (other_end e)
+pub main_leads : (n : ℕ) → 0 < n → (c : Provisioned) → c.from.0 < n → c.to.0 < n → (e : End) → going n (main_side e) ((end_of c e).0) (main_spans n c) ≡ (end_of c (other_end e)).0
 main_leads n some c hf ht A = going-to n some c.from.0 c.to.0 hf ht
 main_leads n some c hf ht B = westwards n some c.to.0 c.from.0 ht hf
 
-pub spare_leads : (n : ℕ) → 0 < n → (c : Provisioned) → c.from.0 < n → c.to.0 < n → c.from.0 ≢ c.to.0 → (e : End) → going n (opposite (inward e)) (port_at c e) (spare_spans n c) ≡ port_at c (other_end e)
+pub spare_leads : (n : ℕ) → 0 < n → (c : Provisioned) → c.from.0 < n → c.to.0 < n → c.from.0 ≢ c.to.0 → (e : End) → going n (opposite (main_side e)) ((end_of c e).0) (spare_spans n c) ≡ (end_of c (other_end e)).0
 spare_leads n some c hf ht apart A =
     let both = both_arcs n c.from.0 c.to.0 hf ht apart in
     let arc = both.0 in
@@ -85,7 +85,7 @@ either_value true s t small = small
 either_value false s t small = refl
 
 module _ (w : World) (whole : IsWhole w) (alone : AreAlone w.ring.circuits.circuits) (index : ℕ) (c : Provisioned) (get : slice_get w.ring.circuits.circuits index ≡ Some c)
-    (low : 1 ≤ c.slot.0) (high : c.slot.0 ≤ n_of w.ring.settings.rate) (apart : c.from.0 ≢ c.to.0) (inside : (e : End) → port_at c e < length w.ring.ids) (e : End) (small : IsSmallCustomer (customer_at c (other_end e))) (d : Side) where
+    (low : 1 ≤ c.slot.0) (high : c.slot.0 ≤ n_of w.ring.settings.rate) (apart : c.from.0 ≢ c.to.0) (inside : (e : End) → (end_of c e).0 < length w.ring.ids) (e : End) (small : IsSmallCustomer (customer_at c (other_end e))) (d : Side) where
   abbrev size : ℕ
   size = length w.ring.ids
 
@@ -96,10 +96,10 @@ module _ (w : World) (whole : IsWhole w) (alone : AreAlone w.ring.circuits.circu
   m = c.slot.0
 
   abbrev far : ℕ
-  far = port_at c (other_end e)
+  far = (end_of c (other_end e)).0
 
   abbrev near : ℕ
-  near = port_at c e
+  near = (end_of c e).0
 
   abbrev sender : Customer
   sender = customer_at c (other_end e)
@@ -132,7 +132,7 @@ module _ (w : World) (whole : IsWhole w) (alone : AreAlone w.ring.circuits.circu
         ap (λ ids. is_cut (condition_of u.fibres (fibre_to (length ids) p d))) left.ids
         ∙ ap (λ cs. is_cut (get_or cs (fibre_to size p d) Clear)) left.conditions
 
-    ends_there : (e : End) → port_at c e < length u.ring.nodes
+    ends_there : (e : End) → (end_of c e).0 < length u.ring.nodes
     ends_there e = let a = inside e in let b = nodes_there in omega arith
 
     -- a node between the ends passes on, and the other end's port sends
@@ -157,7 +157,7 @@ module _ (w : World) (whole : IsWhole w) (alone : AreAlone w.ring.circuits.circu
   neither : (q : ℕ) → q ≢ far → q ≢ near → (q ≢ c.from.0) × (q ≢ c.to.0)
   neither q a b = by_end e a b
     where
-      by_end : (e : End) → q ≢ port_at c (other_end e) → q ≢ port_at c e → (q ≢ c.from.0) × (q ≢ c.to.0)
+      by_end : (e : End) → q ≢ (end_of c (other_end e)).0 → q ≢ (end_of c e).0 → (q ≢ c.from.0) × (q ≢ c.to.0)
       by_end A x y = (y, x)
       by_end B x y = (x, y)
 
@@ -166,19 +166,19 @@ module _ (w : World) (whole : IsWhole w) (alone : AreAlone w.ring.circuits.circu
 
   -- behind a cut fibre AIS comes
   behind_cut : (i p : ℕ) → 0 < i → p < size → is_calm (run (suc i) w).ring.nodes ≡ true → cut p d ≡ true → Brings (came_at (run i w) p d m) silent
-  unfolding run
+  unfolding any_run.run
   behind_cut i p ran h calm is =
       subst (λ a. Brings (came_at (run i w) p d a) silent) at_m
-      (node_silent (run i w) (there i) (let r = (left i).rounds in omega arith) p d (let e = nodes_there i in omega arith) calm (cut_same i p d ∙ is) back (let h = high_there i in omega arith))
+      (span_silent (run i w) (there i) (let r = (left i).rounds in omega arith) p d (let e = nodes_there i in omega arith) back (let h = high_there i in omega arith) calm (cut_same i p d ∙ is))
 
   -- over any other what the neighbour sent comes
   over_span : (i p : ℕ) (b : Outlet) → p < size → is_calm (run (suc i) w).ring.nodes ≡ true → is_calm (run (suc (suc i)) w).ring.nodes ≡ true → cut p d ≡ false → HasValue b
       → Brings (sent_at (run i w) (neighbour size p d) (opposite d) m) b → Brings (came_at (run (suc i) w) p d m) b
-  unfolding run
+  unfolding any_run.run
   over_span i p b h calm0 calm1 is value sent =
       let q = neighbour size p d in
       subst (λ a. Brings (came_at (run (suc i) w) p d a) b) at_m
-      (span_brings (run i w) (there i) calm0 calm1 p d back b (let e = nodes_there i in omega arith) (let h = high_there i in omega arith) value (cut_same (suc i) p d ∙ is)
+      (span_brings (run i w) (there i) p d (let e = nodes_there i in omega arith) back (let h = high_there i in omega arith) calm0 calm1 (cut_same (suc i) p d ∙ is) b value
       (subst (λ ids. Brings (sent_at (run i w) (neighbour (length ids) p d) (opposite d) (back + 1)) b) (sym (left i).ids) (subst (λ a. Brings (sent_at (run i w) q (opposite d) a) b) (sym at_m) sent)))
 
   -- what comes after i rounds, s spans from the other end, where the port's own node is x spans ahead

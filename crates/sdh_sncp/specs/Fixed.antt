@@ -1,7 +1,7 @@
 -- What a path ring's calls never change of a node, and what is true of every path ring.
 use Rattle.std.specs.Prelude.{ℕ, ◌≡◌, ◌/◌, false, Some, List, length, map, All, slice_get}
-use Rattle.sdh_frame.specs.declared.Rate.{Rate}
-use Rattle.sdh_frame.specs.Sizes.{n_of}
+use Rattle.sdh_terms.specs.declared.Rate.{Rate}
+use Rattle.sdh_terms.specs.Rates.{n_of}
 use Rattle.sdh_ringmap.specs.declared.Side.{Side}
 use Rattle.sdh_ringmap.specs.Ids.{AreIds}
 use Rattle.sdh_circuits.specs.declared.Slot.{Slot}

@@ -2,7 +2,7 @@
 use Rattle.std.specs.Prelude.{ℕ, ◌<◌, Bool, false, List, [], length, slice_get, slice_index_or}
 use Rattle.std.specs.Option.{option_map_or}
 use Rattle.sdh_basics.specs.Cells.{cells}
-use Rattle.sdh_frame.specs.declared.Rate.TheVariants.{Four}
+use Rattle.sdh_terms.specs.declared.Rate.TheVariants.{Four}
 use Rattle.sdh_ringmap.specs.declared.Side.{Side}
 use Rattle.sdh_ringmap.specs.Places.{position_of}
 use Rattle.sdh_circuits.specs.declared.PortId.{PortId}

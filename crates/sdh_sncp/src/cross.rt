@@ -1,6 +1,6 @@
 //! Both sides that receive, and where what comes in on them leads.
 ghost use Rattle.std.specs.Prelude.{◌≡◌, ◌≢◌, ◌&&◌, ◌≤◌, None, IfOk, length};
-ghost use Rattle.sdh_frame.specs.Sizes.{n_of};
+ghost use Rattle.sdh_terms.specs.Rates.{n_of};
 ghost use Rattle.sdh_plant.specs.Arrivals.{arrived_in};
 ghost use Rattle.sdh_ringmap.specs.Places.{opposite};
 ghost use Rattle.sdh_terminal.specs.Same.{same_readings};
@@ -10,7 +10,7 @@ ghost use Rattle.sdh_sncp.specs.Node.{new_cross, cross_told, after_taken, lines_
 
 use crate::slots::{Use, uses_at};
 use sdh_circuits::{CircuitMap, Slot};
-use sdh_frame::Rate;
+use sdh_terms::Rate;
 use sdh_overhead::Landed;
 use sdh_plant::Arrived;
 use sdh_pointer::Action;

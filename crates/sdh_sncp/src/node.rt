@@ -1,6 +1,6 @@
 //! One node.
 ghost use Rattle.std.specs.Prelude.{◌≡◌, ◌≢◌, ◌&&◌, nat_le, ◌+◌, ◌/◌, ◌^◌, ◌<◌, ◌≤◌, None, IfOk, length};
-ghost use Rattle.sdh_frame.specs.Sizes.{n_of};
+ghost use Rattle.sdh_terms.specs.Rates.{n_of};
 ghost use Rattle.sdh_plant.specs.Arrivals.{arrived_in};
 ghost use Rattle.sdh_terminal.specs.Tributaries.{HasPort, outlet_of};
 ghost use Rattle.sdh_sncp.specs.Node.{new_node, told, node_round, GoesOn};
