@@ -103,11 +103,15 @@ impl Model for Circuit {
 }
 
 impl Circuit {
-    /// Its name.
+    /// Its name, of at most 16 bytes.
+    #[tactic(auto, unfolding(crate::specs::Naming::is_name))]
     pub fn name(&self) -> &Name
-        ensures { result.now ≡ self.now.name }
+        ensures name { result.now ≡ self.now.name }
+        ensures short { length result.now ≤ 16 }
     {
-        &self.name
+        let name = &self.name;
+        prove!(name.as_slice().len() <= 16);
+        name
     }
 
     /// Where its arc starts, and its port A is.

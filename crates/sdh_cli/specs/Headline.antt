@@ -9,7 +9,7 @@ use Rattle.sdh_report.specs.declared.status.Status.{Status}
 use Rattle.sdh_report.specs.declared.status.Status.TheVariants as status
 use Rattle.sdh_report.specs.declared.listing.Listing.{Listing}
 use Rattle.sdh_report.specs.Statuses.{last_line}
-use Rattle.sdh_converging.specs.Laws.{enough_for}
+use Rattle.sdh_rounds.specs.Quiet.{enough_for}
 use Rattle.sdh_owed.specs.Healthy.{AllSettle}
 use Rattle.sdh_script.specs.Plans.{world_of, ran_of, MaySettle, IsOwedText, IsHealthyText}
 use Rattle.sdh_cli.specs.Words.{Ask, Run, Check, Drop, Big}

@@ -19,7 +19,7 @@ use Rattle.sdh_report.specs.declared.listing.Listing.{Listing}
 use Rattle.sdh_report.specs.declared.listing.Listing.TheVariants as listing
 use Rattle.sdh_report.specs.Statuses.{last_line}
 use Rattle.sdh_tables.specs.Tables.{tables_of}
-use Rattle.sdh_converging.specs.Laws.{enough_for}
+use Rattle.sdh_rounds.specs.Quiet.{enough_for}
 use Rattle.sdh_owed.specs.Healthy.{AllSettle, IsSettled}
 use Rattle.sdh_script.specs.Plans.{world_of, Comes, ComesKnown, IsOwedText, IsHealthyText}
 use Rattle.sdh_cli.specs.Words.{Ask, Run, Check, Drop, Big}

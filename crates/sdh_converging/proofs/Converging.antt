@@ -32,7 +32,8 @@ use Rattle.sdh_carrying.proofs.Applied.{length-requests_of}
 use Rattle.sdh_carrying.proofs.Settles.{each_settled}
 use Rattle.sdh_carrying.proofs.Ways.{layout_run}
 use Rattle.sdh_converging.specs.Steady.{IsAtRest, HasStillPointers}
-use Rattle.sdh_converging.specs.Laws.{enough_for, RoundsGetCalm, WindowsComeSoon, RingsConverge, StepsAnswer}
+use Rattle.sdh_converging.specs.Laws.{RoundsGetCalm, WindowsComeSoon, RingsConverge, StepsAnswer}
+use Rattle.sdh_rounds.specs.Quiet.{enough_for}
 use Rattle.sdh_converging.proofs.Runs.{length_run, condition_run, run_more}
 use Rattle.sdh_converging.proofs.Spreading.{pointers_rest}
 use Rattle.sdh_converging.proofs.Windows.{calm_ends_windows, answers_by}

@@ -1,5 +1,6 @@
 -- The laws of rest. They are promised by the functions of this crate, which have no work to do.
 use Rattle.std.specs.Prelude.{ℕ, ◌≡◌, ◌<◌, ◌≤◌, ◌+◌, ◌*◌, Some, List, length}
+use Rattle.sdh_rounds.specs.Quiet.{enough_for}
 use Rattle.sdh_ringmap.specs.declared.Side.{Side}
 use Rattle.sdh_ringmap.specs.Places.{neighbour, opposite}
 use Rattle.sdh_terms.specs.Rates.{n_of}
@@ -45,10 +46,6 @@ RoundsGetCalm = (w : World) → IsWhole w → HasCircuits (layout_of w) → (j :
 -- so a quiet window always comes, within 34n + 256 rounds: 31n + 128 until all rounds are calm, and 3n + 128 until a window ends
 abbrev pub WindowsComeSoon : Type 0
 WindowsComeSoon = (w : World) → IsWhole w → HasCircuits (layout_of w) → WindowBy w (34 * length w.ring.ids + 256)
-
--- so many rounds are always enough, in a ring of n
-abbrev pub enough_for : ℕ → ℕ
-enough_for n = 64 * n + 512
 
 -- a step with so large a limit ends with a window
 pub record Converges (w : World) : Type 0 where

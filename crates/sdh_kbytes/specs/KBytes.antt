@@ -4,6 +4,7 @@
 -- project's own, after ITU-T G.841.
 use Rattle.std.specs.Prelude.{ℕ, ◌≡◌, ◌≢◌, ◌+◌, ◌*◌, ◌/◌, ◌%◌, ◌≤◌, ◌⊎◌, Option, Some, option_and_then, List, [], ◌∷◌, find, ◌==◌, if◌then◌else◌, Bool, true, false}
 use Rattle.sdh_terms.specs.declared.Code.{Code}
+use Rattle.sdh_terms.specs.Requests.{code_number}
 use Rattle.sdh_terms.specs.declared.Code.TheVariants.{Nr, Rr, Wtr, Ms, Sd, Sf, Fs}
 use Rattle.sdh_kbytes.specs.declared.Path.{Path}
 use Rattle.sdh_kbytes.specs.declared.Path.TheVariants.{Short, Long}

@@ -12,7 +12,8 @@ use Rattle.sdh_rounds.proofs.Runs.{known_unsettles}
 use Rattle.sdh_hearing.specs.Laws.{MayStart}
 use Rattle.sdh_hearing.proofs.Requests.{after_last}
 use Rattle.sdh_carrying.specs.Windows.{layout_in, size_of, HasCircuits}
-use Rattle.sdh_converging.specs.Laws.{enough_for, Converges, StretchesConverge}
+use Rattle.sdh_converging.specs.Laws.{Converges, StretchesConverge}
+use Rattle.sdh_rounds.specs.Quiet.{enough_for}
 use Rattle.sdh_plan.specs.declared.step.Step.{Step}
 use Rattle.sdh_plan.specs.declared.step.Step.TheVariants as step
 use Rattle.sdh_plan.specs.Steps.{Past, after}

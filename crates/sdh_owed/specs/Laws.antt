@@ -9,7 +9,7 @@ use Rattle.sdh_world.specs.Rounds.{World}
 use Rattle.sdh_world.specs.Changes.{new_world}
 use Rattle.sdh_hearing.specs.Laws.{MayStart}
 use Rattle.sdh_carrying.specs.Windows.{layout_in, HasCircuits}
-use Rattle.sdh_converging.specs.Laws.{enough_for}
+use Rattle.sdh_rounds.specs.Quiet.{enough_for}
 use Rattle.sdh_plan.specs.declared.step.Step.{Step}
 use Rattle.sdh_plan.specs.Steps.{Past}
 use Rattle.sdh_plan.specs.Scripts.{AreSteps}

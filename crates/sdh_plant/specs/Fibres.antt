@@ -1,13 +1,9 @@
 -- What a plant means: the fibres of a ring, and what it tells of the frames to come and of those that were sent. This
 -- project's own; each span has two fibres, one each way, as in a two-fibre ring of ITU-T G.841.
-use Rattle.std.specs.Prelude.{ℕ, ◌≡◌, ◌+◌, ◌*◌, ◌≤◌, true, Bool, Option, None, List, length, All, false}
+use Rattle.std.specs.Prelude.{ℕ, ◌≡◌, ◌*◌, ◌≤◌, true, Bool, Option, None, List, length, All}
 use Rattle.sdh_terms.specs.declared.Rate.{Rate}
-use Rattle.sdh_terms.specs.Rates.{n_of}
-use Rattle.sdh_ringmap.specs.declared.Side.{Side}
-use Rattle.sdh_ringmap.specs.declared.Side.TheVariants.{West, East}
-use Rattle.sdh_ringmap.specs.Places.{opposite, neighbour}
 use Rattle.sdh_terms.specs.declared.Condition.{Condition}
-use Rattle.sdh_terms.specs.declared.Condition.TheVariants.{Clear, Cut, Degraded}
+use Rattle.sdh_terms.specs.Fibres.{IsConditionAt}
 
 -- what comes to a side in a round: the bytes of a frame, or nothing
 abbrev pub Arrival : Type 0

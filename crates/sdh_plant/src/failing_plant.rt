@@ -9,10 +9,10 @@ ghost use Rattle.sdh_plant.specs.Calls.{prepared, after_apply, after_send, after
 ghost use Rattle.sdh_plant.specs.InMemory.{fibres_of, laid, made, IsFailing, called, refused};
 
 use crate::fibre_plant::FibrePlant;
-use crate::plant::{Arrived, Failed, FibreEvent, Plant, PrepareError};
+use crate::plant::{Arrived, Failed, Plant, PrepareError};
 use sdh_frame::{FrameBuf, Landing};
 use sdh_ringmap::{Pos, Side};
-use sdh_terms::Rate;
+use sdh_terms::{FibreEvent, Rate};
 use std::alloc::{AllocError, Global};
 use std::marker::Model;
 

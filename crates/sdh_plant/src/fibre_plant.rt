@@ -11,10 +11,10 @@ ghost use Rattle.sdh_plant.specs.InMemory.{fibres_of, laid};
 ghost use Rattle.sdh_plant.specs.Kept.{IsFibre, carried_by, conditions, carried};
 
 use crate::frames::land_degraded;
-use crate::plant::{Arrived, Condition, Failed, FibreEvent, Plant, PrepareError};
+use crate::plant::{Arrived, Failed, Plant, PrepareError};
 use sdh_frame::{FrameBuf, Landing};
 use sdh_ringmap::{Pos, Side};
-use sdh_terms::Rate;
+use sdh_terms::{Condition, FibreEvent, Rate};
 use std::alloc::{AllocError, Global};
 use std::marker::Model;
 

@@ -12,10 +12,10 @@ ghost use Rattle.sdh_plant.specs.InMemory.{laid, told_of};
 ghost use Rattle.sdh_plant.specs.Kept.{arrival_of, IsToldAt};
 
 use crate::fibre_plant::FibrePlant;
-use crate::plant::{Arrived, Failed, FibreEvent, Plant, PrepareError};
+use crate::plant::{Arrived, Failed, Plant, PrepareError};
 use sdh_frame::{FrameBuf, Landing};
 use sdh_ringmap::{Pos, Side};
-use sdh_terms::Rate;
+use sdh_terms::{FibreEvent, Rate};
 use std::alloc::Global;
 use std::marker::Model;
 

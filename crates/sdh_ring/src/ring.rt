@@ -19,7 +19,7 @@ ghost use Rattle.sdh_rounds.specs.Laws.{EndsAtAMultiple};
 ghost use Rattle.sdh_hearing.specs.Laws.{IsWhole, GoesAsSignals};
 ghost use Rattle.sdh_carrying.specs.Windows.{layout_in, HasCircuits};
 ghost use Rattle.sdh_carrying.specs.Laws.{Restores};
-ghost use Rattle.sdh_converging.specs.Laws.{enough_for};
+ghost use Rattle.sdh_rounds.specs.Quiet.{enough_for};
 ghost use Rattle.sdh_ring.specs.Outcome.{Outcome};
 ghost use Rattle.sdh_ring.specs.Faults.{BreaksRound, BreaksStep};
 ghost use Rattle.sdh_circuits.specs.Provisioned.{end_of};

@@ -80,3 +80,7 @@ pub record BreaksOff {N : Type 0} (s : Station N) (w : World N) (limit : ℕ) (l
   pub within : length rounds < limit
   pub never : NeverSettles s (course_with s rounds w) (length rounds)
   pub off : IsBrokenOff s (run_with s rounds w) left
+
+-- so many rounds are always enough for a quiet window in a ring of n over honest fibres, as the laws of each kind of ring say
+abbrev pub enough_for : ℕ → ℕ
+enough_for n = 64 * n + 512

@@ -23,7 +23,7 @@ use Rattle.sdh_owed.specs.Laws.{KnownScripts, ReportsAreOwed, ScriptsSettle, Hea
 use Rattle.sdh_owed.proofs.Known.{none_sent, none_appended}
 use Rattle.sdh_owed.proofs.History.{owed_none}
 use Rattle.sdh_owed.proofs.Settling.{settled_by, fault_settles}
-use Rattle.sdh_converging.specs.Laws.{enough_for}
+use Rattle.sdh_rounds.specs.Quiet.{enough_for}
 use Rattle.sdh_hearing.specs.Laws.{MayStart}
 use Rattle.sdh_script.specs.Running.{Lists}
 use Rattle.sdh_script.specs.Plans.{world_of, ran_of, MaySettle, Comes, ComesKnown, layout_of_plan, IsOwedText, IsHealthyText}

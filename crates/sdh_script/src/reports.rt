@@ -14,17 +14,6 @@ use sdh_report::{Listing, NodeLine, StateWord, Text};
 use sdh_ring::Ring;
 use sdh_ringmap::{Pos, Side};
 
-// The name of a circuit, which has at most 16 bytes.
-#[tactic(auto, unfolding(sdh_circuits::specs::Naming::is_name))]
-fn name_of(circuit: &Circuit) -> &Name
-    ensures name { result.now ≡ circuit.now.name }
-    ensures short { length result.now ≤ 16 }
-{
-    let name = circuit.name();
-    prove!(name.as_slice().len() <= 16);
-    name
-}
-
 // What is told of the node at a position.
 fn node_told(ring: &Ring, at: u8) -> NodeLine
     requires at { at < length ring.now.ids }
@@ -76,7 +65,7 @@ fn put_port(text: &mut Text, ring: &Ring, circuit: u8, named: &Circuit, end: End
     ensures room { text.old.room ≤ text.new.room + 96 }
 {
     let port = PortId { circuit, end };
-    text.port_line(name_of(named), end, ring.port(port), ring.value(port));
+    text.port_line(named.name(), end, ring.port(port), ring.value(port));
 }
 
 // The lines of both ports of a circuit.

@@ -7,7 +7,7 @@ ghost use Rattle.sdh_world.specs.Held.{HeldRing};
 ghost use Rattle.sdh_world.specs.Rounds.{world};
 ghost use Rattle.sdh_script.specs.Room.{report_room, MayList};
 ghost use Rattle.sdh_script.specs.Running.{MayRun, Lists};
-ghost use Rattle.sdh_converging.specs.Laws.{enough_for};
+ghost use Rattle.sdh_rounds.specs.Quiet.{enough_for};
 ghost use Rattle.sdh_owed.specs.Healthy.{AllSettle, IsSettled};
 ghost use Rattle.sdh_script.specs.Plans.{world_of, MaySettle, Comes, ComesKnown, IsOwedText, IsHealthyText};
 

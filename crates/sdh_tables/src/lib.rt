@@ -22,17 +22,6 @@ fn slots_of(plan: &Plan) -> u8
     (plan.settings().rate.n() / 2) as u8
 }
 
-// The name of a circuit, which has at most 16 bytes.
-#[tactic(auto, unfolding(sdh_circuits::specs::Naming::is_name))]
-fn name_of(circuit: &Circuit) -> &Name
-    ensures name { result.now ≡ circuit.now.name }
-    ensures short { length result.now ≤ 16 }
-{
-    let name = circuit.name();
-    prove!(name.as_slice().len() <= 16);
-    name
-}
-
 // The line of a circuit of this name between the nodes at two positions.
 fn put_circuit(
     text: &mut Text,
@@ -72,7 +61,7 @@ fn put_slot(text: &mut Text, plan: &Plan, table: &Table, at: Pos, side: Side, sl
     let circuits = plan.circuits();
     // Reading it gives the proof what is true of every circuit map.
     let _count = circuits.len();
-    let name = name_of(circuits.get(number));
+    let name = circuits.get(number).name();
     put_circuit(text, plan.map(), at, side, slot, name, ends);
 }
 
