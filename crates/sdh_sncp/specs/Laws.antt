@@ -21,6 +21,7 @@ use Rattle.sdh_plant.specs.Calls.{prepared, after_apply}
 use Rattle.sdh_request.specs.declared.settings.Settings.{Settings}
 use Rattle.sdh_terminal.specs.Receiving.{Inlet, IsInlet, taken_in, after_taking}
 use Rattle.sdh_terminal.specs.Tributaries.{Tributary, tributaries_at}
+use Rattle.sdh_rounds.specs.Quiet.{enough_for}
 use Rattle.sdh_spans.specs.Frames.{AreCarried}
 use Rattle.sdh_spans.specs.Sides.{IsInletAt, IsSenderAt}
 use Rattle.sdh_sncp.specs.Slots.{uses_at}
@@ -119,7 +120,7 @@ RoundsGetCalm = (w : World) → IsWhole w → HasCircuits w.ring → (j : ℕ) �
 
 -- so with so large a limit no step is unsettled
 abbrev pub StepsAnswer : Type 0
-StepsAnswer = (w left : World) (limit : ℕ) → HasCircuits w.ring → IsWhole w → 64 * length w.ring.ids + 512 ≤ limit → Unsettles w limit left → ⊥
+StepsAnswer = (w left : World) (limit : ℕ) → HasCircuits w.ring → IsWhole w → enough_for (length w.ring.ids) ≤ limit → Unsettles w limit left → ⊥
 
 -- ---- what a port takes
 

@@ -6,6 +6,7 @@ ghost use Rattle.sdh_squelch.specs.Kept.{KeepsRing};
 ghost use Rattle.sdh_plant.specs.Fibres.{Fibres, IsPrepared, IsHonest};
 ghost use Rattle.sdh_plant.specs.Calls.{prepared};
 ghost use Rattle.sdh_rounds.specs.Laws.{EndsAtAMultiple};
+ghost use Rattle.sdh_rounds.specs.Quiet.{enough_for};
 ghost use Rattle.sdh_rounds.specs.Outcome.{Outcome};
 ghost use Rattle.sdh_sncp.specs.Laws.{IsWhole, DeliversWhatIsDue, HasCircuits};
 ghost use Rattle.sdh_circuits.specs.Provisioned.{end_of};
@@ -260,7 +261,7 @@ impl PathRing {
         ensures whole { result ≢ Err SettleError.PlantFault → IsWhole (world self.old (P.fibres plant.old)) → IsWhole (world self.new (P.fibres plant.new)) }
 
         // No step with a large limit is unsettled.
-        ensures answers { IsWhole (world self.old (P.fibres plant.old)) → 64 * length self.old.ids + 512 ≤ limit → result ≢ Err SettleError.Unsettled }
+        ensures answers { IsWhole (world self.old (P.fibres plant.old)) → enough_for (length self.old.ids) ≤ limit → result ≢ Err SettleError.Unsettled }
         ensures all { result ≡ Err SettleError.Unsettled → self.new.rounds ≡ self.old.rounds + limit }
         ensures broken { result ≡ Err SettleError.PlantFault → self.new.broken ≡ true }
         ensures later { P.faults plant.old ≤ P.faults plant.new }
