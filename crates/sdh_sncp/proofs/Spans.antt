@@ -40,18 +40,18 @@ sent_at w p d au = puts (informed w p) d au
 abbrev pub came_at : World → ℕ → Side → ℕ → Input
 came_at w p d au = received (lines_of (crossing_at w p)) d au
 
+-- the state of a generator before the round
+abbrev pub state_at : World → ℕ → Side → ℕ → Option ℕ
+state_at w q d k = get_or (sending_on d (node_at w.ring.nodes q)).generators k None
+
 -- ---- a node that sends
 
 module _ (w : World) (whole : IsWhole w) (q : ℕ) (d : Side) (h : q < length w.ring.nodes) where
-  -- the state of a generator before the round
-  abbrev pub state_at : ℕ → Option ℕ
-  state_at k = get_or (sending_on d (node_at w.ring.nodes q)).generators k None
-
-  state_is : (k : ℕ) → get_or (sending_on d (informed w q)).generators k None ≡ state_at k
+  state_is : (k : ℕ) → get_or (sending_on d (informed w q)).generators k None ≡ state_at w q d k
   state_is k = ap (λ (s : Sending). get_or s.generators k None) (informed_out w q d)
 
-  -- it goes on by what goes into its AU-4
-  pub generator_step : (k : ℕ) → k + 1 ≤ n_of w.ring.settings.rate → get_or (sending_on d (node_at (round w).ring.nodes q)).generators k None ≡ next_sending (state_at k) (sent_at w q d (k + 1)).action (sent_at w q d (k + 1)).value
+  -- a generator goes on by what goes into its AU-4
+  pub generator_step : (k : ℕ) → k + 1 ≤ n_of w.ring.settings.rate → get_or (sending_on d (node_at (round w).ring.nodes q)).generators k None ≡ next_sending (state_at w q d k) (sent_at w q d (k + 1)).action (sent_at w q d (k + 1)).value
   generator_step k high =
       ap (λ (m : PathNode). get_or (sending_on d m).generators k None) (nodes_after w whole.placed q h)
       ∙ ap (λ (s : Sending). get_or s.generators k None) (sending_after (informed w q) d)
@@ -117,7 +117,7 @@ module _ (w : World) (whole : IsWhole w) (p : ℕ) (d : Side) (lt : p < length w
   module _ (k : ℕ) (high : k + 1 ≤ n_of w.ring.settings.rate) where
     -- the interpreter behind a span takes the word that the generator before it sent in the round before
     pub interpreter_step : TakesWord (get_or (inlet_on d (node_at v.ring.nodes p)).readings k start) (get_or (inlet_on d (node_at (round v).ring.nodes p)).readings k start) (came_at v p d (k + 1))
-        (word_behind (cut_in v p d) (word_sent (state_at w whole q e qn k) (sent_at w q e (k + 1)).action (sent_at w q e (k + 1)).value))
+        (word_behind (cut_in v p d) (word_sent (state_at w q e k) (sent_at w q e (k + 1)).action (sent_at w q e (k + 1)).value))
     interpreter_step =
         let took = spans_take_words rate c (puts (informed w q) e) sender old threshold (lines_of (crossing_at v p)) d k is_span (line_is v next p d) high in
         let new = sym (ap (λ rs. get_or rs k start) left) in
