@@ -10,22 +10,22 @@ use Rattle.sdh_circuits.specs.Provisioned.{Provisioned, arc_of, customer_at}
 use Rattle.sdh_circuits.specs.Provisioning.{Provisioning, AreCircuits, HasOffsets, IsProvisioning, IsInRing, IsInSlots}
 use Rattle.sdh_squelch.specs.Kept.{KeepsRing}
 use Rattle.sdh_nodestate.specs.declared.NodeState.{NodeState}
-use Rattle.sdh_restoration.specs.Applied.{span_requests}
-use Rattle.sdh_restoration.specs.Settled.{settled, settled_states}
+use Rattle.sdh_restoration.specs.Applied.{span_requests, is_applied}
+use Rattle.sdh_settling.specs.Settled.{settled, settled_states}
 use Rattle.sdh_settling.specs.Laws.{StillRingsAreSettled}
 use Rattle.sdh_world.specs.Rounds.{World, round}
 use Rattle.sdh_world.specs.Runs.{run, course}
 use Rattle.sdh_world.specs.Quiet.{IsCalm, EndsWindow}
-use Rattle.sdh_world.specs.Changes.{Change, Fibre, Order, Hold, Slip, Now, changed, all_changed, Stretch, after_stretch, after_stretches, rounds_in, new_world}
+use Rattle.sdh_promise.specs.Changes.{Change, Fibre, Order, Hold, Slip, Now, Stretch, rounds_in}
+use Rattle.sdh_world.specs.Changes.{changed, all_changed, after_stretch, after_stretches, new_world}
 use Rattle.sdh_rounds.proofs.Runs.{known_settles}
 use Rattle.sdh_hearing.specs.Signalling.{signals_of}
 use Rattle.sdh_payload.specs.Clock.{Clock, ticks}
-use Rattle.sdh_payload.specs.Stream.{stream_from}
-use Rattle.sdh_payload.specs.Outlet.{silent, delivering}
+use Rattle.sdh_payload.specs.Outlet.{silent}
+use Rattle.sdh_spans.specs.Brought.{plainly}
 use Rattle.sdh_ringmap.specs.Arcs.{is_joined}
 use Rattle.sdh_circuits.specs.declared.End.{End}
 use Rattle.sdh_circuits.specs.declared.PortId.{PortId}
-use Rattle.sdh_restoration.specs.Applied.{is_applied}
 use Rattle.sdh_restoration.specs.Routes.{hops}
 use Rattle.sdh_restoration.specs.Due.{due, other_end}
 use Rattle.sdh_terms.specs.Rates.{n_of}
@@ -35,16 +35,17 @@ use Rattle.sdh_routes.specs.Walks.{port_at}
 use Rattle.sdh_routes.proofs.Ways.{short, few_hops, end_inside}
 use Rattle.sdh_world.specs.Sides.{world_in}
 use Rattle.sdh_world.specs.Laws.{MayHappen}
-use Rattle.sdh_world.specs.Clocks.{HasPortIn, clock_at, clocks_from, clock_in, clocks_by}
+use Rattle.sdh_world.specs.Clocks.{clock_in, clocks_by, HasPortIn, clock_at, clocks_from}
 use Rattle.sdh_world.proofs.Clocks.{goes_run, goes_in, clocks_go_on}
-use Rattle.sdh_hearing.specs.Laws.{IsWhole, MayStart, asked_in}
+use Rattle.sdh_promise.specs.Owed.{asked_in}
+use Rattle.sdh_hearing.specs.Laws.{IsWhole, MayStart}
 use Rattle.sdh_hearing.proofs.Staying.{left_all, left_run, left_stretches, world_low, world_high}
 use Rattle.sdh_hearing.proofs.Nodes.{count}
 use Rattle.sdh_hearing.proofs.Changes.{whole_run, new_worlds_are_whole}
 use Rattle.sdh_hearing.proofs.Requests.{whole_last, requests_last, after_last}
 use Rattle.sdh_hearing.proofs.Signalling.{requests_stay, windows_are_settled}
 use Rattle.sdh_carrying.specs.Windows.{Layout, layout_of, size_of, HasCircuits, requests_of, AreSettled, FailOnApplied, IsQuiet}
-use Rattle.sdh_carrying.specs.Laws.{DeliversWhatIsDue, IsRestored, SettledRingsAreRestored, SettledRingsRestore, RingsHaveCircuits}
+use Rattle.sdh_carrying.specs.Laws.{due_by_clocks, DeliversWhatIsDue, IsRestored, SettledRingsAreRestored, SettledRingsRestore, RingsHaveCircuits}
 use Rattle.sdh_carrying.proofs.Applied.{failures_applied, length-requests_of}
 use Rattle.sdh_carrying.proofs.Owed.{quiet_delivers, port_is_there}
 use Rattle.sdh_carrying.proofs.Ports.{port_id}
@@ -146,9 +147,9 @@ world_last (s ∷ ss) last w t low high =
     ∙ ap (λ k. run k (all_changed last.changes (after_stretches (s ∷ ss) w))) left
 
 -- what is owed is owed by one clock alone
-pub due_by : (n : ℕ) (applied : ℕ → Bool) (c : Provisioned) (e : End) (f g : ℕ → Clock) (t : ℕ) → f (t - hops n applied (arc_of n c)) ≡ g (t - hops n applied (arc_of n c)) → due n applied c e f t ≡ due n applied c e g t
+pub due_by : (n : ℕ) (applied : ℕ → Bool) (c : Provisioned) (e : End) (f g : ℕ → Clock) (t : ℕ) → f (t - hops n applied (arc_of n c)) ≡ g (t - hops n applied (arc_of n c)) → due_by_clocks n applied c e f t ≡ due_by_clocks n applied c e g t
 unfolding due
-due_by n applied c e f g t same = ap (λ (k : Clock). if is_joined n applied (arc_of n c) then delivering k.value (stream_from (customer_at c (other_end e)) k.sent 2349) else silent) same
+due_by n applied c e f g t same = ap (λ (k : Clock). if is_joined n applied (arc_of n c) then plainly (customer_at c (other_end e)) k else silent) same
 
 module _ (law : StillRingsAreSettled) (s : Settings) (ids : List ℕ) (circuits : Provisioning) (f : Fibres) (earlier : List Stretch) (last : Stretch) (t : ℕ) (may : MayStart s ids f) (happen : MayHappen (new_world s ids circuits f) (earlier ++ last ∷ []))
     (form : AreCircuits (length ids) (n_of s.rate / 2) circuits.circuits) (ends : EndsWindow (course (all_changed last.changes (after_stretches earlier (new_world s ids circuits f)))) last.rounds) (many : rounds_in (earlier ++ last ∷ []) ≡ t + 1) where
@@ -165,7 +166,7 @@ module _ (law : StillRingsAreSettled) (s : Settings) (ids : List ℕ) (circuits 
   ss = earlier ++ last ∷ []
 
   abbrev qs : List ℕ
-  qs = span_requests (length ids) (asked_in s (length ids) ss t)
+  qs = span_requests (length ids) (asked_in s.threshold s.wait (length ids) ss t)
 
   whole_v : IsWhole v
   whole_v = whole_last s ids circuits f earlier last may happen

@@ -1,14 +1,14 @@
 -- The laws on what is carried.
-use Rattle.std.specs.Prelude.{ℕ, ◌≡◌, ◌+◌, ◌-◌, ◌*◌, ◌<◌, ◌≤◌, ◌/◌, true, false, Some, List, length, slice_get, [], ◌∷◌, ◌++◌}
+use Rattle.std.specs.Prelude.{ℕ, Bool, ◌≡◌, ◌+◌, ◌-◌, ◌*◌, ◌<◌, ◌≤◌, ◌/◌, true, false, Some, List, length, slice_get, [], ◌∷◌, ◌++◌}
 use Rattle.sdh_terms.specs.Rates.{n_of}
 use Rattle.sdh_ringmap.specs.Places.{opposite, neighbour}
 use Rattle.sdh_ringmap.specs.declared.Side.{Side}
-use Rattle.sdh_circuits.specs.Provisioned.{Provisioned}
+use Rattle.sdh_circuits.specs.Provisioned.{Provisioned, customer_at}
 use Rattle.sdh_circuits.specs.declared.End.{End}
 use Rattle.sdh_circuits.specs.Provisioning.{Provisioning, AreCircuits}
 use Rattle.sdh_plant.specs.Fibres.{Fibres}
 use Rattle.sdh_restoration.specs.Applied.{span_requests, is_applied}
-use Rattle.sdh_restoration.specs.Settled.{settled_states}
+use Rattle.sdh_settling.specs.Settled.{settled_states}
 use Rattle.sdh_payload.specs.Outlet.{Outlet}
 use Rattle.sdh_restoration.specs.Due.{due, other_end}
 use Rattle.sdh_request.specs.declared.settings.Settings.{Settings}
@@ -20,14 +20,16 @@ use Rattle.sdh_world.specs.Fixed.{IsRing}
 use Rattle.sdh_world.specs.Rounds.{World, round}
 use Rattle.sdh_world.specs.Runs.{run, course}
 use Rattle.sdh_world.specs.Quiet.{is_calm, EndsWindow, Settles}
-use Rattle.sdh_world.specs.Changes.{all_changed, Stretch, after_stretches, rounds_in, new_world}
+use Rattle.sdh_promise.specs.Changes.{Stretch, rounds_in}
+use Rattle.sdh_world.specs.Changes.{all_changed, after_stretches, new_world}
 use Rattle.sdh_hearing.specs.Signalling.{lines_at, signals_of}
 use Rattle.sdh_world.specs.Laws.{MayHappen}
-use Rattle.sdh_world.specs.Clocks.{clocks_from, clocks_by}
+use Rattle.sdh_world.specs.Clocks.{clocks_by, clocks_from}
 use Rattle.sdh_payload.specs.Clock.{Clock}
 use Rattle.sdh_circuits.specs.declared.PortId.{PortId}
-use Rattle.sdh_hearing.specs.Laws.{IsWhole, MayStart, asked_in}
-use Rattle.sdh_spans.specs.Brought.{Brings, HasValue}
+use Rattle.sdh_promise.specs.Owed.{asked_in}
+use Rattle.sdh_hearing.specs.Laws.{IsWhole, MayStart}
+use Rattle.sdh_spans.specs.Brought.{Brings, HasValue, plainly}
 use Rattle.sdh_carrying.specs.Windows.{layout_in, layout_of, HasCircuits, sent_at, requests_of, FailOnApplied, IsQuiet}
 
 -- over a span that didn't fail an AU-4 brings in a calm round what the neighbour sent in it in the calm round before
@@ -41,11 +43,15 @@ ASpanCarries = (w : World) → IsWhole w → is_calm (round w).ring.nodes ≡ tr
 abbrev pub FailuresAreApplied : Type 0
 FailuresAreApplied = (w : World) → IsWhole w → FailOnApplied (length w.ring.ids) (requests_of (round w)) (round w)
 
+-- what a port is owed where these are the other port's clocks before each round
+abbrev pub due_by_clocks : ℕ → (ℕ → Bool) → Provisioned → End → (ℕ → Clock) → ℕ → Outlet
+due_by_clocks n applied c e clocks t = due n applied c (λ k. plainly (customer_at c (other_end e)) (clocks k)) t
+
 -- the port of a circuit has delivered in the last round what it is owed under these requests of spans, where these are the ports'
 -- clocks before each round
 abbrev pub DeliversItsDue : (PortId → ℕ → Clock) → World → List ℕ → Provisioned → ℕ → End → Type 0
 DeliversItsDue clocks w rs c index e =
-    outlet_at w.ring (record { circuit = index; end = e }) ≡ due (length w.ring.ids) (is_applied rs) c e (clocks (record { circuit = index; end = other_end e })) (w.ring.rounds - 1)
+    outlet_at w.ring (record { circuit = index; end = e }) ≡ due_by_clocks (length w.ring.ids) (is_applied rs) c e (clocks (record { circuit = index; end = other_end e })) (w.ring.rounds - 1)
 
 -- each port has
 abbrev pub DeliversWhatIsDue : (PortId → ℕ → Clock) → World → List ℕ → Type 0
@@ -75,7 +81,7 @@ abbrev pub SettledRingsRestore : Type 0
 SettledRingsRestore = (s : Settings) (ids : List ℕ) (circuits : Provisioning) (f : Fibres) (earlier : List Stretch) (last : Stretch) (t : ℕ) → MayStart s ids f → MayHappen (new_world s ids circuits f) (earlier ++ last ∷ [])
     → AreCircuits (length ids) (n_of s.rate / 2) circuits.circuits
     → EndsWindow (course (all_changed last.changes (after_stretches earlier (new_world s ids circuits f)))) last.rounds → rounds_in (earlier ++ last ∷ []) ≡ t + 1
-    → IsRestored (clocks_by circuits.circuits (earlier ++ last ∷ [])) (after_stretches (earlier ++ last ∷ []) (new_world s ids circuits f)) (span_requests (length ids) (asked_in s (length ids) (earlier ++ last ∷ []) t))
+    → IsRestored (clocks_by circuits.circuits (earlier ++ last ∷ [])) (after_stretches (earlier ++ last ∷ []) (new_world s ids circuits f)) (span_requests (length ids) (asked_in s.threshold s.wait (length ids) (earlier ++ last ∷ []) t))
 
 -- ---- where circuits come from
 

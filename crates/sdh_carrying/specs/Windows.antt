@@ -7,7 +7,7 @@ use Rattle.sdh_circuits.specs.Provisioned.{Provisioned}
 use Rattle.sdh_circuits.specs.Provisioning.{AreCircuits}
 use Rattle.sdh_bridge.specs.declared.Origin.{Origin}
 use Rattle.sdh_restoration.specs.Applied.{is_applied}
-use Rattle.sdh_restoration.specs.Settled.{settled}
+use Rattle.sdh_settling.specs.Settled.{settled}
 use Rattle.sdh_settling.specs.Signals.{requests_in}
 use Rattle.sdh_request.specs.declared.settings.Settings.{Settings}
 use Rattle.sdh_terminal.specs.declared.matrix.Feeder.{Feeder}

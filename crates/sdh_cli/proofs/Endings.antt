@@ -13,7 +13,7 @@ use Rattle.sdh_cli.specs.Outcome.{IsRunOutcome, OfListing, OfPlan, listing_of}
 use Rattle.sdh_cli.specs.Headline.{HasRun}
 
 pub run_ends : (plan : Planned) (listing : Listing) (f left : Fibres) (how : Status) (text : List ℕ) → IsRunOutcome plan listing f how text left → HasRun how
-run_ends plan listing f left how text x = elim (plan_ends_in plan listing f left x.reports how x.ran) [
+run_ends plan listing f left how text x = elim (plan_ends_in plan f left x.reports how x.came.ran) [
   | inl done ↦ subst HasRun (sym done) tt
   | inr (inl at) ↦ subst HasRun (sym at.1) tt
   | inr (inr fault) ↦ subst HasRun (sym fault) tt
@@ -28,10 +28,8 @@ listing_ends None plan f left how text x = inr x.0
 listing_ends (Some listing) plan f left how text x = inl (run_ends plan listing f left how text x)
 
 pub plan_ends : (ask : Ask) (plan : Planned) (f left : Fibres) (how : Status) (text : List ℕ) → OfPlan ask plan f how text left → Ends how
-plan_ends Run plan f left how text x = listing_ends (listing_of Run plan) plan f left how text x
 plan_ends Check plan f left how text x = inl (subst HasRun (sym x.how_is) tt)
-plan_ends (Drop name end) plan f left how text x = listing_ends (listing_of (Drop name end) plan) plan f left how text x
-plan_ends (Big number) plan f left how text x = listing_ends (listing_of (Big number) plan) plan f left how text x
+plan_ends ask plan f left how text x = listing_ends (listing_of ask plan) plan f left how text x
 
 -- such a status is no other
 pub it_isnt : (how other : Status) (A : Type 0) → Ends how → (HasRun other → ⊥) → (other ≡ status.NoSuchPort → ⊥) → how ≡ other → A

@@ -2,6 +2,7 @@
 use Rattle.std.proofs.Common.{arith, ◌≡◌, ℕ, true, None, Some, List, refl, ap, sym, ◌∙◌, subst, inl, inr}
 use Rattle.std.specs.Prelude.{Option, IfSome}
 use Rattle.std.specs.Io.KnownBytes.{Appends}
+use Rattle.sdh_outside.specs.Writing.{AppendsFewer}
 use Rattle.sdh_plant.specs.Fibres.{Fibres}
 use Rattle.sdh_plan.specs.Planned.{Planned}
 use Rattle.sdh_plan.specs.Plans.{plan_of}
@@ -26,14 +27,7 @@ no_run : (bytes : List ℕ) (how : Status) (A : Type 0) → HasNoPlan bytes how 
 no_run bytes status.Ok A x h = absurd x
 no_run bytes (status.Unsettled k) A x h = absurd x
 no_run bytes status.PlantFault A x h = absurd x
-no_run bytes status.Usage A x h = absurd h
-no_run bytes status.ReadFault A x h = absurd h
-no_run bytes status.WriteFault A x h = absurd h
-no_run bytes status.NotToml A x h = absurd h
-no_run bytes (status.BadPlan reason place) A x h = absurd h
-no_run bytes status.TooLong A x h = absurd h
-no_run bytes status.NoSuchPort A x h = absurd h
-no_run bytes status.Memory A x h = absurd h
+no_run bytes how A x h = absurd h
 
 module _ (f left : Fibres) (how : Status) (text : List ℕ) where
   listed : (o : Option Listing) (plan : Planned) (listing : Listing) → o ≡ Some listing → OfListing o plan f how text left → IsRunOutcome plan listing f how text left
@@ -58,46 +52,31 @@ written : (may : Status → List ℕ → Type 0) (how : Status) (old new : Optio
 written may status.Ok old new h x = x
 written may (status.Unsettled k) old new h x = x
 written may status.PlantFault old new h x = x
-written may status.Usage old new h x = absurd h
-written may status.ReadFault old new h x = absurd h
-written may status.WriteFault old new h x = absurd h
-written may status.NotToml old new h x = absurd h
-written may (status.BadPlan reason place) old new h x = absurd h
-written may status.TooLong old new h x = absurd h
-written may status.NoSuchPort old new h x = absurd h
-written may status.Memory old new h x = absurd h
+written may how old new h x = absurd h
 
 module _ (ask : Option Ask) (bytes : List ℕ) (f left : Fibres) (reads calls : Counts) (how : Status) (old new : Option (List ℕ)) (x : Writes (λ how text. MayEnd ask bytes f reads calls how text left) how old new) where
   ran : (plan : Planned) (listing : Listing) → Lists ask bytes plan listing → HasRun how → (text : List ℕ) × IsRunOutcome plan listing f how text left × Appends old new text
   ran plan listing is h = let w = written (λ how text. MayEnd ask bytes f reads calls how text left) how old new h x in (w.0, ran_with f left how w.0 ask bytes plan listing h is w.1.0, w.2)
 
   pub delivers : f.honest ≡ true → Delivers ask bytes how old new
-  delivers honest plan listing is h = let r = ran plan listing is h in (r.1.reports, subst (Appends old new) r.1.text_is r.2, r.1.owed honest)
+  delivers honest plan listing is h = let r = ran plan listing is h in (r.1.reports, subst (Appends old new) r.1.text_is r.2, r.1.came.owed honest)
 
   pub stays_healthy : f.honest ≡ true → StaysHealthy ask bytes how old new
-  stays_healthy honest plan listing is h all = let r = ran plan listing is h in (r.1.reports, subst (Appends old new) r.1.text_is r.2, r.1.healthy honest all)
+  stays_healthy honest plan listing is h all = let r = ran plan listing is h in (r.1.reports, subst (Appends old new) r.1.text_is r.2, r.1.came.healthy honest all)
 
   pub ends_as_it_runs : EndsAsItRuns ask bytes f how
-  ends_as_it_runs plan listing is h knows = elim ((ran plan listing is h).1.known knows) [ inl done ↦ inl done.end_is | inr cut ↦ inr cut.0 ]
+  ends_as_it_runs plan listing is h knows = elim ((ran plan listing is h).1.came.known knows) [ inl done ↦ inl done.end_is | inr cut ↦ inr cut.0 ]
 
   pub settles : f.honest ≡ true → Settles ask bytes how
-  settles honest plan listing is large k e = (ran plan listing is (subst HasRun (sym e) tt)).1.settles honest large k e
+  settles honest plan listing is large k e = (ran plan listing is (subst HasRun (sym e) tt)).1.came.settles honest large k e
 
 -- ---- where something is told of the source
 
 -- the text of an outcome was written whole
 writes_shown : (may : Status → List ℕ → Type 0) (how : Status) (text : List ℕ) (old new : Option (List ℕ)) → IsShown how → may how text → Appends old new text → Writes may how old new
-writes_shown may status.Ok text old new h x a = (text, x, a)
-writes_shown may status.Usage text old new h x a = (text, x, a)
-writes_shown may status.ReadFault text old new h x a = (text, x, a)
 writes_shown may status.WriteFault text old new h x a = absurd (h.0 refl)
-writes_shown may status.NotToml text old new h x a = (text, x, a)
-writes_shown may (status.BadPlan reason place) text old new h x a = (text, x, a)
-writes_shown may (status.Unsettled k) text old new h x a = (text, x, a)
-writes_shown may status.PlantFault text old new h x a = (text, x, a)
-writes_shown may status.TooLong text old new h x a = (text, x, a)
-writes_shown may status.NoSuchPort text old new h x a = (text, x, a)
 writes_shown may status.Memory text old new h x a = absurd (h.1 refl)
+writes_shown may how text old new h x a = (text, x, a)
 
 pub told_all : (o : Option (List ℕ)) (P Q : List ℕ → Type 0) → ((bytes : List ℕ) → P bytes → Q bytes) → IfSome o P → IfSome o Q
 told_all None P Q h x = tt
@@ -122,3 +101,8 @@ module _ (o : Option (List ℕ)) (ask : Option Ask) (f left : Fibres) (reads cal
 
   pub told_unsettled : IfSome o (λ bytes. EndsAsItRuns ask bytes f how)
   told_unsettled = told_all o _ _ (λ bytes x. ends_as_it_runs ask bytes f left reads calls how old new (writes_of bytes x)) outcome
+
+-- a front of the text of an outcome was written
+pub told_fewer : (o : Option (List ℕ)) (ask : Option Ask) (f left : Fibres) (reads calls : Counts) (how : Status) (text : List ℕ) (old new : Option (List ℕ)) → HasCause reads calls how → AppendsFewer old new text
+    → IfSome o (λ bytes. IsOutcome ask bytes f how text left) → IfSome o (λ bytes. Writes (λ how text. MayEnd ask bytes f reads calls how text left) status.WriteFault old new)
+told_fewer o ask f left reads calls how text old new cause fewer outcome = told_all o _ _ (λ bytes x. (how, text, (x, cause), fewer)) outcome

@@ -1,37 +1,51 @@
 -- The outcome, stage by stage: a run, a plan, the bytes of a source, the words.
-use Rattle.std.proofs.Common.{arith, ◌≡◌, ◌≢◌, ℕ, ◌≤◌, true, None, Some, List, ◌++◌, length, refl, sym, subst}
-use Rattle.std.specs.Prelude.{Option, IfSome, ◌↔◌}
+use Rattle.std.proofs.Common.{arith, ◌≡◌, ◌≢◌, ℕ, Bool, true, None, Some, List, ◌++◌, refl, ap, sym, ◌∙◌, subst}
+use Rattle.std.specs.Prelude.{Option, Result, Ok, Err, IfSome, ◌↔◌}
 use Rattle.std.specs.Io.KnownBytes.{IsAtEnd}
+use Rattle.sdh_basics.specs.Causes.{IsCounted}
 use Rattle.sdh_plant.specs.Fibres.{Fibres}
-use Rattle.sdh_plant.specs.Arrivals.{Knows}
 use Rattle.sdh_plan.specs.Planned.{Planned}
 use Rattle.sdh_report.specs.declared.listing.Listing.{Listing}
 use Rattle.sdh_report.specs.declared.status.Status.{Status}
 use Rattle.sdh_report.specs.declared.status.Status.TheVariants as status
 use Rattle.sdh_report.specs.Statuses.{last_line}
-use Rattle.sdh_rounds.specs.Quiet.{enough_for}
-use Rattle.sdh_owed.specs.Healthy.{AllSettle, IsSettled}
-use Rattle.sdh_script.specs.Plans.{world_of, MaySettle, Comes, ComesKnown, IsOwedText, IsHealthyText}
+use Rattle.sdh_script.specs.Plans.{MaySettle, IsRunOf, Tells}
 use Rattle.sdh_cli.specs.Words.{Ask, Run, Check, Drop, Big}
-use Rattle.sdh_cli.specs.Outcome.{IsRunOutcome, OfListing, OfPlan, OfBytes, listing_of, TellsPlan, IsOutcome, told, LeavesSource, LeavesPlant, HasRead, Counts, HaveFailed, HasCause, IsShown}
+use Rattle.sdh_cli.specs.Outcome.{IsRunOutcome, OfListing, OfPlan, OfBytes, listing_of, TellsPlan, IsOutcome, told, LeavesSource, LeavesPlant, HasRead, Counts, CameTo, HaveFailed, HasCause, IsShown}
 use Rattle.sdh_cli.specs.Headline.{MayGo, MayBeDone}
 use Rattle.sdh_cli.proofs.Endings.{Ends, it_isnt}
 use Rattle.sdh_cli.proofs.Promises.{one_plan}
 
+-- ---- calls that failed
+
+not_err_eq : {T E : Type 0} (x : T) (e : E) (r : Result T E) → r ≡ Ok x → r ≡ Err e → ⊥
+not_err_eq x e r a b = grind arith
+
+-- what is Ok is no error
+pub not_err : {T E : Type 0} (x : T) (e : E) → ◌≡◌ {A = Result T E} (Ok x) (Err e) → ⊥
+not_err x e d = not_err_eq x e (Ok x) refl d
+
+-- no call failed, and there is no fault
+pub counted_none : {A : Type 0} (exact : Bool) (before now : ℕ) → (A → ⊥) → (exact ≡ true → now ≡ before) → IsCounted exact A before now
+counted_none exact before now never same = record { one = λ e a. absurd (never a); none = λ e other. same e }
+
+-- there was no memory, and no call failed
+pub came_without : (source_exact plant_exact : Bool) (source plant : Counts) (left now : Option (List ℕ)) → (source_exact ≡ true → source.after ≡ source.before) × (plant_exact ≡ true → plant.after ≡ plant.before)
+    → CameTo source_exact plant_exact source plant left now status.Memory
+came_without source_exact plant_exact source plant left now same = record {
+  reads = counted_none source_exact source.before source.after (λ e. grind arith) same.0;
+  calls = counted_none plant_exact plant.before plant.after (λ e. grind arith) same.1;
+  too_long = λ e. absurd (grind arith);
+}
+
 -- ---- a run
 
-module _ (plan : Planned) (listing : Listing) (f left : Fibres) (reports text : List ℕ) (now how : Status) (is : how ≡ now) where
-  pub run_outcome : text ≡ reports ++ last_line how → Comes plan listing f reports now left → (Knows (world_of plan f).fibres → ComesKnown plan listing f reports now left) → (f.honest ≡ true → IsOwedText plan listing reports now)
-      → (f.honest ≡ true → enough_for (length plan.nodes) ≤ plan.limit → IsSettled now) → (f.honest ≡ true → AllSettle plan.steps → IsHealthyText plan listing reports now) → IsRunOutcome plan listing f how text left
-  run_outcome text_is ran known owed settles healthy = record {
-    reports = reports;
-    text_is = text_is;
-    ran = subst (λ e. Comes plan listing f reports e left) (sym is) ran;
-    known = λ k. subst (λ e. ComesKnown plan listing f reports e left) (sym is) (known k);
-    owed = λ h. subst (IsOwedText plan listing reports) (sym is) (owed h);
-    settles = λ h large. subst IsSettled (sym is) (settles h large);
-    healthy = λ h all. subst (IsHealthyText plan listing reports) (sym is) (healthy h all);
-  }
+pub run_outcome : (plan : Planned) (listing : Listing) (f left : Fibres) (run text : List ℕ) (now how : Status) → how ≡ now → text ≡ run ++ last_line how → Tells plan listing f run now left → IsRunOutcome plan listing f how text left
+run_outcome plan listing f left run text now how is text_is x = record {
+  reports = x.reports;
+  text_is = text_is ∙ ap (λ l. l ++ last_line how) x.text_is;
+  came = subst (λ e. IsRunOf plan f x.reports e left) (sym is) x.came;
+}
 
 -- ---- with a plan that is run
 
@@ -59,15 +73,13 @@ module _ (plan : Planned) (listing : Listing) (f : Fibres) where
 pub has_cause : (reads calls : Counts) (how : Status) → Ends how → (how ≡ status.PlantFault → HaveFailed calls) → HasCause reads calls how
 has_cause reads calls status.PlantFault h failed = failed refl
 has_cause reads calls status.ReadFault h failed = it_isnt status.ReadFault status.ReadFault _ h (λ x. x) (λ e. absurd (grind arith)) refl
-has_cause reads calls status.Ok h failed = tt
-has_cause reads calls status.Usage h failed = tt
-has_cause reads calls status.WriteFault h failed = tt
-has_cause reads calls status.NotToml h failed = tt
-has_cause reads calls (status.BadPlan reason place) h failed = tt
-has_cause reads calls (status.Unsettled k) h failed = tt
-has_cause reads calls status.TooLong h failed = tt
-has_cause reads calls status.NoSuchPort h failed = tt
-has_cause reads calls status.Memory h failed = tt
+has_cause reads calls how h failed = tt
+
+pub no_read : (how : Status) → Ends how → how ≡ status.ReadFault → ⊥
+no_read how h e = it_isnt how status.ReadFault ⊥ h (λ x. x) (λ d. grind arith) e
+
+pub no_long : (how : Status) (A : Type 0) → Ends how → how ≡ status.TooLong → A
+no_long how A h e = it_isnt how status.TooLong A h (λ x. x) (λ d. grind arith) e
 
 pub is_shown : (how : Status) → Ends how → (how ≢ status.Usage) × IsShown how
 is_shown how h = (

@@ -8,19 +8,19 @@ use Rattle.sdh_plan.specs.Big.{big_planned}
 use Rattle.sdh_report.specs.declared.status.Status.{Status}
 use Rattle.sdh_report.specs.declared.status.Status.TheVariants as status
 use Rattle.sdh_report.specs.declared.listing.Listing.{Listing}
+use Rattle.sdh_report.specs.Reports.{Report, text_of}
 use Rattle.sdh_report.specs.Statuses.{last_line}
 use Rattle.sdh_rounds.specs.Quiet.{enough_for}
 use Rattle.sdh_owed.specs.Healthy.{AllSettle}
-use Rattle.sdh_script.specs.Plans.{world_of, ran_of, MaySettle, IsOwedText, IsHealthyText}
+use Rattle.sdh_script.specs.Plans.{world_of, ran_of, MaySettle, ShowsHealth}
+use Rattle.sdh_promise.specs.Plans.{OwesAll}
 use Rattle.sdh_cli.specs.Words.{Ask, Run, Check, Drop, Big}
 use Rattle.sdh_cli.specs.Outcome.{TellsPlan, listing_of}
 
 -- the plan of what is asked: that of the source's bytes, or the one of the number
 abbrev pub IsPlanFor : Ask → List ℕ → Planned → Type 0
-IsPlanFor Run bytes plan = TellsPlan bytes plan
-IsPlanFor Check bytes plan = TellsPlan bytes plan
-IsPlanFor (Drop name end) bytes plan = TellsPlan bytes plan
 IsPlanFor (Big number) bytes plan = plan ≡ big_planned number
+IsPlanFor ask bytes plan = TellsPlan bytes plan
 
 -- this plan is run, and this is listed of its reports
 abbrev pub Lists : Option Ask → List ℕ → Planned → Listing → Type 0
@@ -32,20 +32,13 @@ abbrev pub HasRun : Status → Type 0
 HasRun status.Ok = Unit {0}
 HasRun (status.Unsettled k) = Unit {0}
 HasRun status.PlantFault = Unit {0}
-HasRun status.Usage = ⊥
-HasRun status.ReadFault = ⊥
-HasRun status.WriteFault = ⊥
-HasRun status.NotToml = ⊥
-HasRun (status.BadPlan reason place) = ⊥
-HasRun status.TooLong = ⊥
-HasRun status.NoSuchPort = ⊥
-HasRun status.Memory = ⊥
+HasRun how = ⊥
 
--- The headline. What was written is what is listed of the reports, and the last line; and the reports show for every port what it is
+-- The headline. What was written is what is listed of reports, and the last line; and the reports show for every port what it is
 -- owed by the restoration model, under the requests of the script's history.
 abbrev pub Delivers : Option Ask → List ℕ → Status → Option (List ℕ) → Option (List ℕ) → Type 0
 Delivers ask bytes how old new = (plan : Planned) (listing : Listing) → Lists ask bytes plan listing → HasRun how
-    → (reports : List ℕ) × Appends old new (reports ++ last_line how) × IsOwedText plan listing reports how
+    → (reports : List Report) × Appends old new (text_of listing reports ++ last_line how) × OwesAll plan reports how
 
 -- it ends as the script does where the arrivals are known: unsettled at exactly the step in which no quiet window comes within the
 -- limit; or a plant's call failed
@@ -61,7 +54,7 @@ Settles ask bytes how = (plan : Planned) (listing : Listing) → Lists ask bytes
 -- a script of settle steps alone shows a healthy ring
 abbrev pub StaysHealthy : Option Ask → List ℕ → Status → Option (List ℕ) → Option (List ℕ) → Type 0
 StaysHealthy ask bytes how old new = (plan : Planned) (listing : Listing) → Lists ask bytes plan listing → HasRun how → AllSettle plan.steps
-    → (reports : List ℕ) × Appends old new (reports ++ last_line how) × IsHealthyText plan listing reports how
+    → (reports : List Report) × Appends old new (text_of listing reports ++ last_line how) × ShowsHealth plan reports how
 
 -- all is given for what is asked with a plan: for the tables nothing more; for a run its port, and a script that settles, as it does over
 -- honest fibres where the limit is large

@@ -1,12 +1,12 @@
 -- How a call of the program ends: each status, when it is answered, and the text that goes with it.
-use Rattle.std.specs.Prelude.{◌≡◌, ◌≢◌, ◌⊎◌, ℕ, ◌<◌, ◌≤◌, true, List, [], ◌++◌, length, Option, Some, None, option_map}
+use Rattle.std.specs.Prelude.{◌≡◌, ◌≢◌, ◌⊎◌, ℕ, ◌<◌, ◌≤◌, Bool, List, [], ◌++◌, length, Option, Some, None, option_map}
 use Rattle.std.specs.Io.KnownBytes.{Appends, Keeps, IsAtEnd}
 use Rattle.toml.specs.Data.{Members}
-use Rattle.sdh_basics.specs.Causes.{Rose}
+use Rattle.sdh_basics.specs.Causes.{Rose, IsCounted}
+use Rattle.sdh_outside.specs.Reading.{TakesCount}
 use Rattle.sdh_outside.specs.Writing.{AppendsFewer}
 use Rattle.sdh_circuits.specs.Provisioning.{at_port}
 use Rattle.sdh_plant.specs.Fibres.{Fibres}
-use Rattle.sdh_plant.specs.Arrivals.{Knows}
 use Rattle.sdh_plan.specs.Planned.{Planned, provisioning_of}
 use Rattle.sdh_plan.specs.Big.{big_planned}
 use Rattle.sdh_plan.specs.Check.{answer}
@@ -17,11 +17,10 @@ use Rattle.sdh_report.specs.declared.status.Status.{Status}
 use Rattle.sdh_report.specs.declared.status.Status.TheVariants as status
 use Rattle.sdh_report.specs.declared.listing.Listing.{Listing}
 use Rattle.sdh_report.specs.declared.listing.Listing.TheVariants as listing
+use Rattle.sdh_report.specs.Reports.{Report, text_of}
 use Rattle.sdh_report.specs.Statuses.{last_line}
 use Rattle.sdh_tables.specs.Tables.{tables_of}
-use Rattle.sdh_rounds.specs.Quiet.{enough_for}
-use Rattle.sdh_owed.specs.Healthy.{AllSettle, IsSettled}
-use Rattle.sdh_script.specs.Plans.{world_of, Comes, ComesKnown, IsOwedText, IsHealthyText}
+use Rattle.sdh_script.specs.Plans.{IsRunOf}
 use Rattle.sdh_cli.specs.Words.{Ask, Run, Check, Drop, Big}
 
 -- the last line is all of the text, and the fibres are left alone
@@ -30,16 +29,12 @@ Says how text f left = (text ≡ last_line how) × (left ≡ f)
 
 -- ---- with a plan
 
--- a plan was run over new fibres: the text is what is listed of the reports, and the last line. What the reports are is told over
--- every plant, where the arrivals are known, and over honest fibres
+-- A plan was run over new fibres: the text is what is listed of its reports, and the last line. One list of reports is told over
+-- every plant, where the arrivals are known, and over honest fibres.
 pub record IsRunOutcome (plan : Planned) (listing : Listing) (f : Fibres) (how : Status) (text : List ℕ) (left : Fibres) : Type 0 where
-  pub reports : List ℕ
-  pub text_is : text ≡ reports ++ last_line how
-  pub ran : Comes plan listing f reports how left
-  pub known : Knows (world_of plan f).fibres → ComesKnown plan listing f reports how left
-  pub owed : f.honest ≡ true → IsOwedText plan listing reports how
-  pub settles : f.honest ≡ true → enough_for (length plan.nodes) ≤ plan.limit → IsSettled how
-  pub healthy : f.honest ≡ true → AllSettle plan.steps → IsHealthyText plan listing reports how
+  pub reports : List Report
+  pub text_is : text ≡ text_of listing reports ++ last_line how
+  pub came : IsRunOf plan f reports how left
 
 -- the tables were written, and no round was run
 pub record IsTablesOutcome (plan : Planned) (f : Fibres) (how : Status) (text : List ℕ) (left : Fibres) : Type 0 where
@@ -65,10 +60,8 @@ OfListing (Some listing) plan f how text left = IsRunOutcome plan listing f how 
 
 -- what is asked comes to this with a plan
 abbrev pub OfPlan : Ask → Planned → Fibres → Status → List ℕ → Fibres → Type 0
-OfPlan Run plan f how text left = OfListing (listing_of Run plan) plan f how text left
 OfPlan Check plan f how text left = IsTablesOutcome plan f how text left
-OfPlan (Drop name end) plan f how text left = OfListing (listing_of (Drop name end) plan) plan f how text left
-OfPlan (Big number) plan f how text left = OfListing (listing_of (Big number) plan) plan f how text left
+OfPlan ask plan f how text left = OfListing (listing_of ask plan) plan f how text left
 
 -- ---- with the bytes of a source
 
@@ -157,15 +150,14 @@ HaveFailed counts = Rose counts.before counts.after
 abbrev pub HasCause : Counts → Counts → Status → Type 0
 HasCause reads plant status.ReadFault = HaveFailed reads
 HasCause reads plant status.PlantFault = HaveFailed plant
-HasCause reads plant status.Ok = Unit {0}
-HasCause reads plant status.Usage = Unit {0}
-HasCause reads plant status.WriteFault = Unit {0}
-HasCause reads plant status.NotToml = Unit {0}
-HasCause reads plant (status.BadPlan reason place) = Unit {0}
-HasCause reads plant (status.Unsettled k) = Unit {0}
-HasCause reads plant status.TooLong = Unit {0}
-HasCause reads plant status.NoSuchPort = Unit {0}
-HasCause reads plant status.Memory = Unit {0}
+HasCause reads plant how = Unit {0}
+
+-- What had come of source and plant when there was this to tell. Where a count is exact, calls failed as the fault that is told:
+-- one with it, and none without it. With too many bytes, one more than a plan may have was taken.
+pub record CameTo (source_exact plant_exact : Bool) (source plant : Counts) (left now : Option (List ℕ)) (how : Status) : Type 0 where
+  pub reads : IsCounted source_exact (how ≡ status.ReadFault) source.before source.after
+  pub calls : IsCounted plant_exact (how ≡ status.PlantFault) plant.before plant.after
+  pub too_long : how ≡ status.TooLong → TakesCount left now 1048577
 
 -- something is to be written with this status: no writing has failed, and there was memory
 abbrev pub IsShown : Status → Type 0

@@ -1,7 +1,8 @@
 //! From what is asked to a status and a text.
 ghost use Rattle.std.specs.Prelude.{◌≡◌, ◌≢◌, true, ◌↔◌, ◌≤◌, ◌++◌, Some, None, IfOk, OnErr, IfSome, IfNone, length};
 ghost use Rattle.std.specs.Io.KnownBytes.{IsAtEnd};
-ghost use Rattle.sdh_basics.specs.Causes.{Rose};
+ghost use Rattle.sdh_basics.specs.Causes.{Rose, IsCounted};
+ghost use Rattle.sdh_outside.specs.Reading.{TakesCount};
 ghost use Rattle.sdh_plant.specs.Fibres.{HasNoFibres};
 ghost use Rattle.sdh_plant.specs.Arrivals.{Knows};
 ghost use Rattle.sdh_plan.specs.Big.{big_planned};
@@ -68,7 +69,7 @@ fn run_report<P: Plant>(
     requires listing { MayList (length plan.circuits) listing }
     ensures outcome { IfOk result (λ report. IsRunOutcome plan listing (P.fibres plant.old) report.status report.text.bytes (P.fibres plant.new)) }
     ensures failed { IfOk result (λ report. report.status ≡ Status.PlantFault → Rose (P.faults plant.old) (P.faults plant.new)) }
-    ensures calls { IfOk result (λ report. report.status ≢ Status.PlantFault → P.exact ≡ true → P.faults plant.new ≡ P.faults plant.old) }
+    ensures calls { IfOk result (λ report. IsCounted P.exact (report.status ≡ Status.PlantFault) (P.faults plant.old) (P.faults plant.new)) }
     ensures without { OnErr result (P.exact ≡ true → P.faults plant.new ≡ P.faults plant.old) }
     ensures complete { IfOk result (λ report. MaySettle plan (P.fibres plant.old) → ¬ (Rose (P.faults plant.old) (P.faults plant.new)) → report.status ≡ Status.Ok) }
     ensures later { P.faults plant.old ≤ P.faults plant.new }
@@ -105,7 +106,7 @@ fn plan_report<P: Plant>(
     ensures outcome { IfOk result (λ report. OfPlan (ask_of command.entry) plan (P.fibres plant.old) report.status report.text.bytes (P.fibres plant.new)) }
     ensures alone { LeavesPlant (Some (ask_of command.entry)) → plant.new ≡ plant.old }
     ensures failed { IfOk result (λ report. report.status ≡ Status.PlantFault → Rose (P.faults plant.old) (P.faults plant.new)) }
-    ensures calls { IfOk result (λ report. report.status ≢ Status.PlantFault → P.exact ≡ true → P.faults plant.new ≡ P.faults plant.old) }
+    ensures calls { IfOk result (λ report. IsCounted P.exact (report.status ≡ Status.PlantFault) (P.faults plant.old) (P.faults plant.new)) }
     ensures without { OnErr result (P.exact ≡ true → P.faults plant.new ≡ P.faults plant.old) }
     ensures complete { IfOk result (λ report. MayGo (ask_of command.entry) plan (P.fibres plant.old) → ¬ (Rose (P.faults plant.old) (P.faults plant.new)) → report.status ≡ Status.Ok) }
     ensures later { P.faults plant.old ≤ P.faults plant.new }
@@ -132,8 +133,9 @@ fn read_report<R: Source, P: Plant>(
     ensures outcome { IfOk result (λ report. IfSome (R.left source.old) (λ bytes. OfBytes (ask_of command.entry) bytes (P.fibres plant.old) report.status report.text.bytes (P.fibres plant.new))) }
     ensures alone { LeavesPlant (Some (ask_of command.entry)) → plant.new ≡ plant.old }
     ensures cause { IfOk result (λ report. HasCause (record { before = R.faults source.old; after = R.faults source.new }) (record { before = P.faults plant.old; after = P.faults plant.new }) report.status) }
-    ensures reads { IfOk result (λ report. report.status ≢ Status.ReadFault → R.exact ≡ true → R.faults source.new ≡ R.faults source.old) }
-    ensures calls { IfOk result (λ report. report.status ≢ Status.PlantFault → P.exact ≡ true → P.faults plant.new ≡ P.faults plant.old) }
+    ensures reads { IfOk result (λ report. IsCounted R.exact (report.status ≡ Status.ReadFault) (R.faults source.old) (R.faults source.new)) }
+    ensures too_long { IfOk result (λ report. report.status ≡ Status.TooLong → TakesCount (R.left source.old) (R.left source.new) 1048577) }
+    ensures calls { IfOk result (λ report. IsCounted P.exact (report.status ≡ Status.PlantFault) (P.faults plant.old) (P.faults plant.new)) }
     ensures without { OnErr result ((R.exact ≡ true → R.faults source.new ≡ R.faults source.old) × (P.exact ≡ true → P.faults plant.new ≡ P.faults plant.old)) }
     ensures own { IfOk result (λ report. (report.status ≢ Status.Usage) × IsShown report.status) }
     ensures read { IfOk result (λ report. report.status ≡ Status.Ok → IsAtEnd (R.left source.new)) }
@@ -175,7 +177,7 @@ fn big_report<P: Plant>(alloc: Global, number: u32, plant: &mut P) -> Result<Rep
     requires fresh { HasNoFibres (P.fibres plant.old) }
     ensures outcome { IfOk result (λ report. OfPlan (Big number) (big_planned number) (P.fibres plant.old) report.status report.text.bytes (P.fibres plant.new)) }
     ensures failed { IfOk result (λ report. report.status ≡ Status.PlantFault → Rose (P.faults plant.old) (P.faults plant.new)) }
-    ensures calls { IfOk result (λ report. report.status ≢ Status.PlantFault → P.exact ≡ true → P.faults plant.new ≡ P.faults plant.old) }
+    ensures calls { IfOk result (λ report. IsCounted P.exact (report.status ≡ Status.PlantFault) (P.faults plant.old) (P.faults plant.new)) }
     ensures without { OnErr result (P.exact ≡ true → P.faults plant.new ≡ P.faults plant.old) }
     ensures complete { IfOk result (λ report. MayGo (Big number) (big_planned number) (P.fibres plant.old) → ¬ (Rose (P.faults plant.old) (P.faults plant.new)) → report.status ≡ Status.Ok) }
     ensures later { P.faults plant.old ≤ P.faults plant.new }
@@ -195,8 +197,9 @@ pub fn report_on<R: Source, P: Plant>(
     requires fresh { HasNoFibres (P.fibres plant.old) }
     ensures outcome { IfOk result (λ report. let ask = asked (words_of words.now) in IfSome (told ask (R.left source.old)) (λ bytes. IsOutcome ask bytes (P.fibres plant.old) report.status report.text.bytes (P.fibres plant.new))) }
     ensures cause { IfOk result (λ report. HasCause (record { before = R.faults source.old; after = R.faults source.new }) (record { before = P.faults plant.old; after = P.faults plant.new }) report.status) }
-    ensures reads { IfOk result (λ report. report.status ≢ Status.ReadFault → R.exact ≡ true → R.faults source.new ≡ R.faults source.old) }
-    ensures calls { IfOk result (λ report. report.status ≢ Status.PlantFault → P.exact ≡ true → P.faults plant.new ≡ P.faults plant.old) }
+    ensures reads { IfOk result (λ report. IsCounted R.exact (report.status ≡ Status.ReadFault) (R.faults source.old) (R.faults source.new)) }
+    ensures too_long { IfOk result (λ report. report.status ≡ Status.TooLong → TakesCount (R.left source.old) (R.left source.new) 1048577) }
+    ensures calls { IfOk result (λ report. IsCounted P.exact (report.status ≡ Status.PlantFault) (P.faults plant.old) (P.faults plant.new)) }
     ensures without { OnErr result ((R.exact ≡ true → R.faults source.new ≡ R.faults source.old) × (P.exact ≡ true → P.faults plant.new ≡ P.faults plant.old)) }
     ensures usage { IfOk result (λ report. report.status ≡ Status.Usage ↔ (asked (words_of words.now) ≡ None)) }
     ensures unread { LeavesSource (asked (words_of words.now)) → source.new ≡ source.old }

@@ -1,9 +1,10 @@
 //! The program's call.
 ghost use Rattle.std.specs.Prelude.{◌≡◌, ◌≢◌, ◌⊎◌, ◌≤◌, ◌↔◌, None, IfSome, true};
-ghost use Rattle.sdh_basics.specs.Causes.{Rose};
+ghost use Rattle.sdh_basics.specs.Causes.{Rose, IsCounted};
 ghost use Rattle.sdh_plant.specs.Fibres.{HasNoFibres};
+ghost use Rattle.sdh_report.specs.declared.status.Status.{Status};
 ghost use Rattle.sdh_cli.specs.Words.{words_of, asked};
-ghost use Rattle.sdh_cli.specs.Outcome.{told, LeavesSource, LeavesPlant, HasRead, Counts, MayEnd, Writes};
+ghost use Rattle.sdh_cli.specs.Outcome.{told, LeavesSource, LeavesPlant, HasRead, Counts, CameTo, MayEnd, Writes};
 ghost use Rattle.sdh_cli.specs.Headline.{Delivers, EndsAsItRuns, Settles, StaysHealthy, MayBeDone};
 
 use crate::report::report_on;
@@ -50,10 +51,12 @@ pub fn sdhring<R: Source, W: Sink, P: Plant>(
     ensures plant_fault { result ≡ Status.PlantFault → Rose (P.faults plant.old) (P.faults plant.new) }
     ensures write_fault { result ≡ Status.WriteFault → Rose (W.faults sink.old) (W.faults sink.new) }
 
-    // Where an object's count is exact, a call of it failed only with its own fault, or with a write fault in that one's place.
-    ensures reads { result ≢ Status.ReadFault → result ≢ Status.WriteFault → R.exact ≡ true → R.faults source.new ≡ R.faults source.old }
-    ensures writes { result ≢ Status.WriteFault → W.exact ≡ true → W.faults sink.new ≡ W.faults sink.old }
-    ensures calls { result ≢ Status.PlantFault → result ≢ Status.WriteFault → P.exact ≡ true → P.faults plant.new ≡ P.faults plant.old }
+    // Where an object's count is exact, each of its calls that failed is told by its fault, and none is tried again; a write fault
+    // may stand in place of what was to be told. With TooLong one byte more than a plan may have was taken.
+    ensures came { let reads : Counts = record { before = R.faults source.old; after = R.faults source.new } in
+        let calls : Counts = record { before = P.faults plant.old; after = P.faults plant.new } in
+        (how : Status) × ((result ≡ how) ⊎ (result ≡ Status.WriteFault)) × CameTo R.exact P.exact reads calls (R.left source.old) (R.left source.new) how }
+    ensures writes { IsCounted W.exact (result ≡ Status.WriteFault) (W.faults sink.old) (W.faults sink.new) }
 
     ensures memory { result ≡ Status.Memory → (sink.new ≡ sink.old) × (P.fibres plant.new ≡ P.fibres plant.old) }
     ensures read_whole { result ≡ Status.Ok → HasRead (asked (words_of words.now)) (R.left source.new) }

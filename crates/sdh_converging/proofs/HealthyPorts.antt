@@ -8,12 +8,13 @@ use Rattle.sdh_payload.specs.Clock.{ticks}
 use Rattle.sdh_plant.specs.Fibres.{Fibres}
 use Rattle.sdh_routes.proofs.Ways.{end_inside}
 use Rattle.sdh_request.specs.declared.settings.Settings.{Settings}
-use Rattle.sdh_world.specs.Clocks.{first_clock, HasPortIn, clocks_from, clocks_by}
+use Rattle.sdh_world.specs.Clocks.{first_clock, clocks_by, HasPortIn, clocks_from}
 use Rattle.sdh_world.proofs.Clocks.{clocks_go_on}
 use Rattle.sdh_carrying.proofs.Ports.{port_id}
 use Rattle.sdh_carrying.proofs.Owed.{port_is_there}
 use Rattle.sdh_restoration.specs.Applied.{is_applied}
-use Rattle.sdh_restoration.specs.Due.{due, other_end}
+use Rattle.sdh_restoration.specs.Due.{other_end}
+use Rattle.sdh_carrying.specs.Laws.{due_by_clocks}
 use Rattle.sdh_settling.specs.Laws.{StillRingsAreSettled}
 use Rattle.sdh_world.specs.Held.{outlet_at}
 use Rattle.sdh_world.specs.Rounds.{World}
@@ -50,4 +51,4 @@ healthy_steps_deliver law s ids circuits f may form steps index c some get e =
     ap (λ (v : World). outlet_at v.ring (record { circuit = index; end = e })) (left_steps s ids circuits f may steps some)
     ∙ restored.ports index c there e
     ∙ due_by (length (run k w).ring.ids) (is_applied rs) c e (clocks_from w id) (clocks_by circuits.circuits [] id) ((run k w).ring.rounds - 1) (clock_from_new s ids circuits f id in_ring _)
-    ∙ λ i. due (size i) (nothing i) c e (clocks_by circuits.circuits [] id) (number i)
+    ∙ λ i. due_by_clocks (size i) (nothing i) c e (clocks_by circuits.circuits [] id) (number i)

@@ -30,9 +30,11 @@ use Rattle.sdh_node.specs.Node.{Node, receiving_on, new_node, is_held, word_of, 
 use Rattle.sdh_world.specs.Held.{new_nodes, nowhere, node_at}
 use Rattle.sdh_world.specs.Rounds.{World, node_after}
 use Rattle.sdh_world.specs.Runs.{run}
-use Rattle.sdh_world.specs.Changes.{Stretch, new_world}
+use Rattle.sdh_promise.specs.Changes.{Stretch}
+use Rattle.sdh_world.specs.Changes.{new_world}
 use Rattle.sdh_world.specs.Laws.{MayHappen}
-use Rattle.sdh_world.specs.Sides.{new_holding, holding_in, side_history, condition_to}
+use Rattle.sdh_promise.specs.Sides.{new_holding, holding_in, side_history}
+use Rattle.sdh_world.specs.Sides.{condition_to}
 use Rattle.sdh_hearing.specs.Signalling.{word_to}
 use Rattle.sdh_hearing.specs.Laws.{IsWhole, MayStart, NoneWait}
 use Rattle.sdh_hearing.proofs.Clocks.{new_none}

@@ -16,7 +16,8 @@ use Rattle.sdh_plant.specs.Fibres.{Fibres, IsHonest}
 use Rattle.sdh_terms.specs.Fibres.{IsConditionAt}
 use Rattle.sdh_request.specs.declared.settings.Settings.{Settings}
 use Rattle.sdh_world.specs.Clocks.{first_clock, waiting_at}
-use Rattle.sdh_world.specs.Changes.{Fibre, Slip, Stretch, after_stretch, new_world}
+use Rattle.sdh_promise.specs.Changes.{Fibre, Slip, Stretch}
+use Rattle.sdh_world.specs.Changes.{after_stretch, new_world}
 use Rattle.sdh_world.specs.Laws.{MayHappen}
 use Rattle.sdh_world.proofs.Clocks.{clocks_go_on}
 use Rattle.sdh_hearing.specs.Laws.{MayStart}

@@ -1,7 +1,8 @@
 -- The laws of a healthy ring: a new ring over new honest fibres, all clear, and without commands.
 use Rattle.std.specs.Prelude.{ℕ, zero, suc, ◌≡◌, ◌≤◌, ◌+◌, ◌*◌, false, Some, None, List, [], ◌∷◌, length, replicate, slice_get}
 use Rattle.sdh_restoration.specs.Applied.{is_applied}
-use Rattle.sdh_restoration.specs.Due.{due, other_end}
+use Rattle.sdh_restoration.specs.Due.{other_end}
+use Rattle.sdh_carrying.specs.Laws.{due_by_clocks}
 use Rattle.sdh_world.specs.Clocks.{clocks_by}
 use Rattle.sdh_circuits.specs.declared.End.{End}
 use Rattle.sdh_circuits.specs.Provisioned.{Provisioned}
@@ -12,7 +13,8 @@ use Rattle.sdh_request.specs.declared.settings.Settings.{Settings}
 use Rattle.sdh_world.specs.Rounds.{World}
 use Rattle.sdh_world.specs.Runs.{run, course}
 use Rattle.sdh_world.specs.Quiet.{IsCalm, settles_in}
-use Rattle.sdh_world.specs.Changes.{Stretch, after_stretches, new_world}
+use Rattle.sdh_promise.specs.Changes.{Stretch}
+use Rattle.sdh_world.specs.Changes.{after_stretches, new_world}
 use Rattle.sdh_hearing.specs.Laws.{MayStart}
 use Rattle.sdh_carrying.specs.Windows.{layout_of, HasCircuits, requests_of}
 
@@ -48,4 +50,4 @@ HealthyRingsApplyNothing = (s : Settings) (ids : List ℕ) (circuits : Provision
 abbrev pub HealthyStepsDeliver : Type 0
 HealthyStepsDeliver = (s : Settings) (ids : List ℕ) (circuits : Provisioning) (f : Fibres) → MayStart s ids f → HasCircuits (layout_of (new_world s ids circuits f))
     → (steps index : ℕ) (c : Provisioned) → 1 ≤ steps → slice_get circuits.circuits index ≡ Some c → (e : End)
-    → outlet_at (after_stretches (healthy_steps steps) (new_world s ids circuits f)).ring (record { circuit = index; end = e }) ≡ due (length ids) (λ span. false) c e (clocks_by circuits.circuits [] (record { circuit = index; end = other_end e })) (128 * steps)
+    → outlet_at (after_stretches (healthy_steps steps) (new_world s ids circuits f)).ring (record { circuit = index; end = e }) ≡ due_by_clocks (length ids) (λ span. false) c e (clocks_by circuits.circuits [] (record { circuit = index; end = other_end e })) (128 * steps)

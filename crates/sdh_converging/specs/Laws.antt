@@ -10,7 +10,8 @@ use Rattle.sdh_request.specs.declared.settings.Settings.{Settings}
 use Rattle.sdh_world.specs.Rounds.{World}
 use Rattle.sdh_world.specs.Runs.{course}
 use Rattle.sdh_world.specs.Quiet.{IsCalm, EndsWindow, NeverSettles, settles_in, Unsettles}
-use Rattle.sdh_world.specs.Changes.{Stretch, after_stretches, new_world}
+use Rattle.sdh_promise.specs.Changes.{Stretch}
+use Rattle.sdh_world.specs.Changes.{after_stretches, new_world}
 use Rattle.sdh_world.specs.Laws.{MayHappen}
 use Rattle.sdh_hearing.specs.Laws.{IsWhole, MayStart}
 use Rattle.sdh_carrying.specs.Windows.{layout_of, HasCircuits}

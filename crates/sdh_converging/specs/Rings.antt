@@ -12,7 +12,8 @@ use Rattle.sdh_plant.specs.Fibres.{Fibres, IsHonest}
 use Rattle.sdh_request.specs.declared.settings.Settings.{Settings}
 use Rattle.sdh_circuits.specs.declared.End.TheVariants.{A}
 use Rattle.sdh_payload.specs.declared.clock.Turn.TheVariants.{Up}
-use Rattle.sdh_world.specs.Changes.{Fibre, Order, Slip, Now, Stretch, new_world, after_stretches}
+use Rattle.sdh_promise.specs.Changes.{Fibre, Order, Slip, Now, Stretch}
+use Rattle.sdh_world.specs.Changes.{new_world, after_stretches}
 use Rattle.sdh_world.specs.Laws.{MayHappen}
 use Rattle.sdh_hearing.specs.Laws.{MayStart}
 use Rattle.sdh_carrying.specs.Windows.{layout_of, HasCircuits}

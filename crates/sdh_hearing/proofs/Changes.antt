@@ -32,7 +32,8 @@ use Rattle.sdh_node.specs.Node.{Node, new_node, at_receiving, held_for, slips_at
 use Rattle.sdh_world.specs.Held.{new_nodes, at_place, place_of_port, new_ring, nowhere, AtEach}
 use Rattle.sdh_world.specs.Rounds.{World, world}
 use Rattle.sdh_world.specs.Runs.{run}
-use Rattle.sdh_world.specs.Changes.{Change, Fibre, Order, Hold, Slip, Now, changed, all_changed}
+use Rattle.sdh_promise.specs.Changes.{Change, Fibre, Order, Hold, Slip, Now}
+use Rattle.sdh_world.specs.Changes.{changed, all_changed}
 use Rattle.sdh_world.proofs.Keeping.{length-new, new_at, all_commanded, all_held, all_slipped}
 use Rattle.sdh_hearing.specs.Placed.{HasSides, IsBetween, IsPlaced}
 use Rattle.sdh_hearing.specs.Paired.{IsSourcedIn, KeepsSourced, IsSpelled, NeverAis, FewWait, IsPaired}

@@ -4,7 +4,7 @@ use Rattle.std.proofs.lemmas.List.{length-map}
 use Rattle.sdh_ringmap.specs.declared.Side.{Side}
 use Rattle.sdh_terms.specs.declared.Code.{Code}
 use Rattle.sdh_restoration.specs.Applied.{span_requests}
-use Rattle.sdh_restoration.specs.Settled.{settled_states}
+use Rattle.sdh_settling.specs.Settled.{settled_states}
 use Rattle.sdh_settling.specs.Signals.{requests_in, request_on, no_needs}
 use Rattle.sdh_settling.specs.Laws.{StillRingsAreSettled}
 use Rattle.sdh_circuits.specs.Provisioning.{Provisioning}
@@ -13,10 +13,12 @@ use Rattle.sdh_request.specs.declared.settings.Settings.{Settings}
 use Rattle.sdh_node.specs.Node.{receiving_on, needed}
 use Rattle.sdh_world.specs.Rounds.{World}
 use Rattle.sdh_world.specs.Runs.{run}
-use Rattle.sdh_world.specs.Changes.{all_changed, Stretch, after_stretch, after_stretches, rounds_in, new_world}
+use Rattle.sdh_promise.specs.Changes.{Stretch, rounds_in}
+use Rattle.sdh_world.specs.Changes.{all_changed, after_stretch, after_stretches, new_world}
 use Rattle.sdh_world.specs.Laws.{AreChangesOf, MayHappen}
 use Rattle.sdh_hearing.specs.Signalling.{needs_in}
-use Rattle.sdh_hearing.specs.Laws.{IsWhole, MayStart, asked_in, StretchesSettle}
+use Rattle.sdh_promise.specs.Owed.{asked_in}
+use Rattle.sdh_hearing.specs.Laws.{IsWhole, MayStart, StretchesSettle}
 use Rattle.sdh_hearing.proofs.Staying.{left_all, left_run, left_stretches}
 use Rattle.sdh_hearing.proofs.Nodes.{count}
 use Rattle.sdh_hearing.proofs.Changes.{new_worlds_are_whole, whole_all, whole_run}
@@ -75,10 +77,10 @@ module _ (s : Settings) (ids : List ℕ) (circuits : Provisioning) (f : Fibres) 
   ids_last = (left_all last.changes (after_stretches earlier w)).ids ∙ (left_stretches earlier w).ids
 
   -- the requests of its last round are those of the histories
-  pub requests_last : (t : ℕ) → rounds_in ss ≡ t + 1 → requests_in (needs_in u) ≡ span_requests (length ids) (asked_in s (length ids) ss t)
+  pub requests_last : (t : ℕ) → rounds_in ss ≡ t + 1 → requests_in (needs_in u) ≡ span_requests (length ids) (asked_in s.threshold s.wait (length ids) ss t)
   requests_last t many =
       let all : length u.ring.nodes ≡ length ids = count u (whole_run v last.rounds whole_last).placed ∙ ap length (left_run last.rounds v).ids ∙ ap length ids_last in
-      requests_by u (length ids) all (asked_in s (length ids) ss t)
+      requests_by u (length ids) all (asked_in s.threshold s.wait (length ids) ss t)
       (λ p d lt. ap (λ (y : World). (receiving_on d (node_at y.ring.nodes p)).request) (sym (after_last earlier last w)) ∙ (requests_are s ids circuits f ss may happen).last p d t lt many)
 
 pub stretches_settle : StillRingsAreSettled → StretchesSettle

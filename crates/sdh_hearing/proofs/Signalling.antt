@@ -18,7 +18,7 @@ use Rattle.sdh_nodestate.specs.Conditions.{MayNeed}
 use Rattle.sdh_nodestate.specs.Words.{IsSourced}
 use Rattle.sdh_nodestate.specs.Filtering.{Brought, with_brought}
 use Rattle.sdh_restoration.specs.Applied.{span_requests}
-use Rattle.sdh_restoration.specs.Settled.{settled_states}
+use Rattle.sdh_settling.specs.Settled.{settled_states}
 use Rattle.sdh_settling.specs.Signals as signal
 use Rattle.sdh_settling.specs.Signals.{Filters, no_filters, Signals, fails_on, sent_on, on_their_way, incoming, filters_after, heard_through, scene_at, state_in, words_in, free_round, MayGo, requests_in, request_on, no_needs}
 use Rattle.sdh_settling.specs.Laws.{ChangesNoWord, StillRingsAreSettled}

@@ -3,13 +3,13 @@ use Rattle.std.proofs.Common.{◌≡◌, ◌⊎◌, ℕ, suc, ◌+◌, ◌*◌, 
 use Rattle.std.specs.Prelude.{Option}
 use Rattle.std.proofs.lemmas.Bool.{cases_lt}
 use Rattle.sdh_circuits.specs.Provisioning.{Provisioning}
-use Rattle.sdh_restoration.specs.Due.{nothing_applied, due, other_end}
+use Rattle.sdh_restoration.specs.Due.{nothing_applied, due, sends_by, other_end}
 use Rattle.sdh_plant.specs.Fibres.{Fibres}
 use Rattle.sdh_plant.specs.Arrivals.{Knows}
 use Rattle.sdh_plant.proofs.Calling.{stay_honest}
 use Rattle.sdh_request.specs.declared.settings.Settings.{Settings}
 use Rattle.sdh_world.specs.Held.{outlet_at}
-use Rattle.sdh_world.specs.Clocks.{clocks_by}
+use Rattle.sdh_promise.specs.Happened.{happened}
 use Rattle.sdh_world.specs.Rounds.{World}
 use Rattle.sdh_world.specs.Runs.{run}
 use Rattle.sdh_world.specs.Quiet.{settles_in}
@@ -28,11 +28,13 @@ use Rattle.sdh_report.specs.declared.status.Status.TheVariants as status
 use Rattle.sdh_report.specs.Reports.{Report}
 use Rattle.sdh_owed.specs.Reports.{report_of, ports_from}
 use Rattle.sdh_owed.specs.Scripts.{Runs}
-use Rattle.sdh_owed.specs.Owed.{owed_ports}
+use Rattle.sdh_promise.specs.Owed.{owed_ports}
 use Rattle.sdh_owed.specs.Healthy.{AllSettle, AreHealthy}
 use Rattle.sdh_owed.specs.Laws.{HealthyScripts}
 use Rattle.sdh_owed.proofs.Known.{knows_after}
-use Rattle.sdh_owed.proofs.Ports.{ports_are}
+use Rattle.sdh_owed.proofs.Ports.{due_told, ports_are}
+use Rattle.sdh_carrying.proofs.Owed.{offset_small}
+use Rattle.sdh_circuits.specs.Provisioned.{customer_at}
 use Rattle.sdh_node.specs.Stations.{adm}
 use Rattle.sdh_rounds.specs.Runs as any_run
 
@@ -92,11 +94,11 @@ module _ (settle : HealthyStepsSettle) (deliver : HealthyStepsDeliver) (s : Sett
       let after = after_stretches (healthy_steps steps) from in
       let there : w ≡ after = is ∙ sym (steps_are.left steps (omega arith)) in
       let number : w.ring.rounds ≡ 128 * steps + 1 = ap (λ (v : World). v.ring.rounds) there ∙ steps_are.number steps (omega arith) in
-      let clocks = clocks_by circuits.circuits [] in
-      let ports = subst (λ (v : World). ports_from v.ring 0 circuits.circuits ≡ owed_ports (length ids) nothing_applied clocks (128 * steps) 0 circuits.circuits) (sym there)
-      (ports_are after.ring (length ids) nothing_applied clocks (128 * steps) 0 circuits.circuits (λ k c get e. (
+      let ports = subst (λ (v : World). ports_from v.ring 0 circuits.circuits ≡ owed_ports (length ids) nothing_applied (happened []) (128 * steps) 0 circuits.circuits) (sym there)
+      (ports_are after.ring (length ids) nothing_applied (happened []) (128 * steps) 0 circuits.circuits (λ k c get e. (
       let one : k ≡ 0 + k = omega arith in
-      subst (λ i. outlet_at after.ring (record { circuit = i; end = e }) ≡ due (length ids) nothing_applied c e (clocks (record { circuit = i; end = other_end e })) (128 * steps)) one (deliver s ids circuits f may form steps k c (omega arith) get e)))) in
+      subst (λ i. outlet_at after.ring (record { circuit = i; end = e }) ≡ due (length ids) nothing_applied c (λ j. sends_by (customer_at c (other_end e)) (happened [] (record { circuit = i; end = other_end e }) j)) (128 * steps)) one
+      (deliver s ids circuits f may form steps k c (omega arith) get e ∙ due_told (length ids) nothing_applied circuits.circuits [] k c e (128 * steps) get (offset_small circuits.circuits form.offsets k c get (other_end e)))))) in
       let same : w.ring.circuits.circuits ≡ circuits.circuits = ap (λ (v : World). v.ring.circuits.circuits) there ∙ ap (λ (l : Layout). l.circuits) (layout_stretches (healthy_steps steps) from) in
       (refl, omega (arith, number), ap (ports_from w.ring 0) same ∙ ports, more)
 
@@ -107,11 +109,6 @@ module _ (settle : HealthyStepsSettle) (deliver : HealthyStepsDeliver) (s : Sett
     λ high. inl (x.1.1, ap (λ (l : List Report). length l) x.1.0),
     λ low. elim reached [ inl h ↦ let one = some h.0 in absurd (omega (arith, one)) | inr h ↦ absurd (omega (arith, h.2, low)) ],
   )
-  walk before m (step.Fibre e ∷ later) w reports end left all is reached some x = absurd all
-  walk before m (step.Order p d c ∷ later) w reports end left all is reached some x = absurd all
-  walk before m (step.Hold p turns ∷ later) w reports end left all is reached some x = absurd all
-  walk before m (step.Slip port turn count ∷ later) w reports end left all is reached some x = absurd all
-  walk before m (step.Moment t ∷ later) w reports end left all is reached some x = absurd all
   walk before m (step.Settle ∷ later) w reports end left all is reached some (inl x) =
       let mid = x.0 in
       let known = known_settles adm w limit mid (subst (λ (v : World). Knows v.fibres) (sym is) (knows m)) x.2 in
@@ -134,6 +131,7 @@ module _ (settle : HealthyStepsSettle) (deliver : HealthyStepsDeliver) (s : Sett
       )
   walk before m (step.Settle ∷ later) w reports end left all is reached some (inr (inr x)) =
       (subst (AreHealthy (length ids) circuits.circuits before) (sym x.1.0) tt, λ high. inr x.1.1, λ low. (x.1.0, inr x.1.1))
+  walk before m (this ∷ later) w reports end left all is reached some x = absurd all
 
 pub healthy_scripts : HealthyStepsSettle → HealthyStepsDeliver → HealthyScripts
 unfolding any_run.run

@@ -25,7 +25,7 @@ use Rattle.sdh_report.specs.declared.status.Status.TheVariants as status
 use Rattle.sdh_report.specs.Reports.{Report}
 use Rattle.sdh_owed.specs.Steps.{after_step}
 use Rattle.sdh_owed.specs.Reports.{report_of}
-use Rattle.sdh_owed.specs.Scripts.{Runs, Ran, ran_unsettled, ran_settled, script, IsRan, sent_by, IsCutShort, ComesTo}
+use Rattle.sdh_owed.specs.Scripts.{Refuses, Runs, Ran, ran_unsettled, ran_settled, script, IsRan, sent_by, IsCutShort, ComesTo}
 use Rattle.sdh_owed.specs.Laws.{KnownScripts}
 use Rattle.sdh_node.specs.Stations.{adm}
 use Rattle.sdh_rounds.specs.Rounds as any_round
@@ -72,11 +72,6 @@ last_round w limit k number h s = omega (arith, round_is number (run k w).ring, 
 pub none_sent : (limit before n frames : ℕ) (steps : List Step) (w : World) → 1 ≤ length w.ring.ids → frames < 2 * n * (w.ring.rounds + 1) → sent_by n frames (script limit before steps w).reports ≡ []
 unfolding changed
 none_sent limit before n frames [] w some low = refl
-none_sent limit before n frames (step.Fibre e ∷ later) w some low = none_sent limit before n frames later (after_step (step.Fibre e) w) some low
-none_sent limit before n frames (step.Order p d c ∷ later) w some low = none_sent limit before n frames later (after_step (step.Order p d c) w) some low
-none_sent limit before n frames (step.Hold p turns ∷ later) w some low = none_sent limit before n frames later (after_step (step.Hold p turns) w) some low
-none_sent limit before n frames (step.Slip port turn count ∷ later) w some low = none_sent limit before n frames later (after_step (step.Slip port turn count) w) some low
-none_sent limit before n frames (step.Moment m ∷ later) w some low = none_sent limit before n frames later (after_step (step.Moment m) w) some low
 none_sent limit before n frames (step.Settle ∷ later) w some low = by_count (settles_in w limit) refl (λ k. none_sent limit (before + 1) n frames later (run k w))
   where
     by_count : (o : Option ℕ) → settles_in w limit ≡ o → ((k : ℕ) → 1 ≤ length (run k w).ring.ids → frames < 2 * n * ((run k w).ring.rounds + 1) → sent_by n frames (script limit (before + 1) later (run k w)).reports ≡ [])
@@ -90,6 +85,7 @@ none_sent limit before n frames (step.Settle ∷ later) w some low = by_count (s
         let first : 2 * n * (w.ring.rounds + 1) ≤ 2 * n * (r.round + 1) = grows (2 * n) (w.ring.rounds + 1) (r.round + 1) (omega (arith, last_round w limit k (before + 1) some s, some_rounds w limit k some s)) in
         let others : 2 * n * (w.ring.rounds + 1) ≤ 2 * n * ((run k w).ring.rounds + 1) = grows (2 * n) (w.ring.rounds + 1) ((run k w).ring.rounds + 1) (omega (arith, at.rounds)) in
         skipped n frames r _ (omega (arith, low, first)) ∙ rest k (omega (arith, same, some)) (omega (arith, low, others))
+none_sent limit before n frames (this ∷ later) w some low = none_sent limit before n frames later (after_step this w) some low
 
 -- ---- frames of rounds
 
@@ -270,21 +266,22 @@ broken_came limit before later w left knows some size b o is =
     let never : NeverSettles (course w) j = never_same adm _ (course w) j (λ i h. known_course adm b.rounds w i knows b.arrive h) b.never in
     cut_short limit before later w left o is j out some size sends few never length_first small b.within
 
--- ---- a script
-
-known : (limit before : ℕ) (steps : List Step) (w : World) (reports : List Report) (end : Status) (left : World)
-    → Knows w.fibres → 1 ≤ length w.ring.ids → length w.ring.nodes ≡ length w.ring.ids → Runs limit before steps w reports end left → ComesTo limit before steps w reports end left
+-- as many nodes as before
+count_step : (this : Step) (w : World) → length (after_step this w).ring.nodes ≡ length w.ring.nodes
 unfolding changed
-known limit before [] w reports end left knows some size x = inl (record { reports_are = x.1.0; end_is = x.1.1; left_is = x.0 })
-known limit before (step.Fibre e ∷ later) w reports end left knows some size (inl x) =
-    let v = after_step (step.Fibre e) w in
-    carried (script limit before later v) (length w.ring.ids) (2 * length w.ring.ids * w.ring.rounds) v w reports end left refl (known limit before later v reports end left knows some size x)
-known limit before (step.Fibre e ∷ later) w reports end left knows some size (inr x) =
+count_step (step.Order p d c) w = length-placed _ p.0 w.ring.nodes
+count_step (step.Hold p turns) w = length-placed _ p.0 w.ring.nodes
+count_step (step.Slip port turn count) w = length-placed _ (place_of_port w.ring port) w.ring.nodes
+count_step this w = refl
+
+-- a step that was refused sends no frame, and no report's last round is among those before
+refused_cut : (limit before : ℕ) (this : Step) (later : List Step) (w : World) (reports : List Report) (end : Status) (left : World) → 1 ≤ length w.ring.ids → Refuses this w reports end left
+    → (end ≡ status.PlantFault) × IsCutShort (script limit before (this ∷ later) w) (length w.ring.ids) (2 * length w.ring.ids * w.ring.rounds) w reports left
+unfolding changed
+refused_cut limit before (step.Fibre e) later w reports end left some x =
     let n = length w.ring.ids in
     let v = after_step (step.Fibre e) w in
-    let a = script limit before later v in
-    let all : 2 * n * (w.ring.rounds + 1) ≡ 2 * n * w.ring.rounds + 2 * n * 1 = more_of (2 * n) w.ring.rounds 1 in
-    inr (
+    let all : 2 * n * (w.ring.rounds + 1) ≡ 2 * n * w.ring.rounds + 2 * n * 1 = more_of (2 * n) w.ring.rounds 1 in (
       x.1.1,
       record {
         count = 0;
@@ -292,21 +289,14 @@ known limit before (step.Fibre e ∷ later) w reports end left knows some size (
         reports_are = x.1.0 ∙ sym (none_sent limit before n (2 * n * w.ring.rounds + 0) later v some (omega (arith, all, some)));
       },
     )
-known limit before (step.Order p d c ∷ later) w reports end left knows some size x =
-    let v = after_step (step.Order p d c) w in
-    carried (script limit before later v) (length w.ring.ids) (2 * length w.ring.ids * w.ring.rounds) v w reports end left refl
-    (known limit before later v reports end left knows some (length-placed _ p.0 w.ring.nodes ∙ size) x)
-known limit before (step.Hold p turns ∷ later) w reports end left knows some size x =
-    let v = after_step (step.Hold p turns) w in
-    carried (script limit before later v) (length w.ring.ids) (2 * length w.ring.ids * w.ring.rounds) v w reports end left refl
-    (known limit before later v reports end left knows some (length-placed _ p.0 w.ring.nodes ∙ size) x)
-known limit before (step.Slip port turn count ∷ later) w reports end left knows some size x =
-    let v = after_step (step.Slip port turn count) w in
-    carried (script limit before later v) (length w.ring.ids) (2 * length w.ring.ids * w.ring.rounds) v w reports end left refl
-    (known limit before later v reports end left knows some (length-placed _ (place_of_port w.ring port) w.ring.nodes ∙ size) x)
-known limit before (step.Moment m ∷ later) w reports end left knows some size x =
-    let v = after_step (step.Moment m) w in
-    carried (script limit before later v) (length w.ring.ids) (2 * length w.ring.ids * w.ring.rounds) v w reports end left refl (known limit before later v reports end left knows some size x)
+refused_cut limit before this later w reports end left some x = absurd x
+
+-- ---- a script
+
+known : (limit before : ℕ) (steps : List Step) (w : World) (reports : List Report) (end : Status) (left : World)
+    → Knows w.fibres → 1 ≤ length w.ring.ids → length w.ring.nodes ≡ length w.ring.ids → Runs limit before steps w reports end left → ComesTo limit before steps w reports end left
+unfolding changed
+known limit before [] w reports end left knows some size x = inl (record { reports_are = x.1.0; end_is = x.1.1; left_is = x.0 })
 known limit before (step.Settle ∷ later) w reports end left knows some size (inl x) =
     let mid = x.0 in
     let there = known_settles adm w limit mid knows x.2 in
@@ -329,6 +319,13 @@ known limit before (step.Settle ∷ later) w reports end left knows some size (i
 known limit before (step.Settle ∷ later) w reports end left knows some size (inr (inr x)) =
     let a = script limit before (step.Settle ∷ later) w in
     inr (x.1.1, subst (λ rs. IsCutShort a (length w.ring.ids) (2 * length w.ring.ids * w.ring.rounds) w rs left) (sym x.1.0) (broken_came limit before later w left knows some size x.0 (settles_in w limit) refl))
+known limit before (this ∷ later) w reports end left knows some size x =
+    let v = after_step this w in
+    elim x [
+      | inl goes ↦ carried (script limit before later v) (length w.ring.ids) (2 * length w.ring.ids * w.ring.rounds) v w reports end left refl
+          (known limit before later v reports end left knows some (count_step this w ∙ size) goes)
+      | inr refused ↦ inr (refused_cut limit before this later w reports end left some refused)
+    ]
 
 pub known_scripts : KnownScripts
 known_scripts = known

@@ -7,7 +7,8 @@ use Rattle.sdh_world.specs.Held.{new_ring}
 use Rattle.sdh_world.specs.Rounds.{World}
 use Rattle.sdh_world.specs.Runs.{run}
 use Rattle.sdh_world.specs.Quiet.{Unsettles}
-use Rattle.sdh_world.specs.Changes.{Change, Stretch, after_stretches, new_world}
+use Rattle.sdh_promise.specs.Changes.{Change, Stretch, changes_of}
+use Rattle.sdh_world.specs.Changes.{after_stretches, new_world}
 use Rattle.sdh_rounds.proofs.Runs.{known_unsettles}
 use Rattle.sdh_hearing.specs.Laws.{MayStart}
 use Rattle.sdh_hearing.proofs.Requests.{after_last}
@@ -21,10 +22,10 @@ use Rattle.sdh_plan.specs.Scripts.{AreSteps}
 use Rattle.sdh_report.specs.declared.status.Status.{Status}
 use Rattle.sdh_report.specs.declared.status.Status.TheVariants as status
 use Rattle.sdh_report.specs.Reports.{Report}
-use Rattle.sdh_owed.specs.Steps.{changes_of}
 use Rattle.sdh_owed.specs.Scripts.{Runs}
 use Rattle.sdh_owed.specs.Healthy.{IsSettled}
 use Rattle.sdh_owed.specs.Laws.{ScriptsSettle}
+use Rattle.sdh_owed.proofs.History.{refused_ends}
 use Rattle.sdh_owed.proofs.Standing.{Stands, whole, layout_is, changed_then, settled_then, may_go, stands_new}
 use Rattle.sdh_node.specs.Stations.{adm}
 use Rattle.sdh_rounds.specs.Runs as any_run
@@ -57,21 +58,15 @@ module _ (converge : StretchesConverge) (s : Settings) (ids : List ℕ) (circuit
   walk : (limit before : ℕ) (past : Past) (earlier : List Stretch) (changes : List Change) (steps : List Step) (w : World) (reports : List Report) (end : Status) (left : World)
       → Now past earlier changes w → AreSteps s.rate (length ids) (length circuits.circuits) past steps → enough_for (length ids) ≤ limit → Runs limit before steps w reports end left → IsSettled end
   walk limit before past earlier changes [] w reports end left h each large x = settled_by end status.Ok x.1.1 ok_settles
-  walk limit before past earlier changes (step.Fibre e ∷ later) w reports end left h each large (inl x) =
-      walk limit before (after past (step.Fibre e)) earlier (changes ++ changes_of (step.Fibre e)) later _ reports end left (changed_then s ids circuits f may past earlier changes w h (step.Fibre e) refl each.0) each.1 large x
-  walk limit before past earlier changes (step.Fibre e ∷ later) w reports end left h each large (inr x) = settled_by end status.PlantFault x.1.1 fault_settles
-  walk limit before past earlier changes (step.Order p d c ∷ later) w reports end left h each large x =
-      walk limit before (after past (step.Order p d c)) earlier (changes ++ changes_of (step.Order p d c)) later _ reports end left (changed_then s ids circuits f may past earlier changes w h (step.Order p d c) refl each.0) each.1 large x
-  walk limit before past earlier changes (step.Hold p turns ∷ later) w reports end left h each large x =
-      walk limit before (after past (step.Hold p turns)) earlier (changes ++ changes_of (step.Hold p turns)) later _ reports end left (changed_then s ids circuits f may past earlier changes w h (step.Hold p turns) refl each.0) each.1 large x
-  walk limit before past earlier changes (step.Slip port turn count ∷ later) w reports end left h each large x =
-      walk limit before (after past (step.Slip port turn count)) earlier (changes ++ changes_of (step.Slip port turn count)) later _ reports end left (changed_then s ids circuits f may past earlier changes w h (step.Slip port turn count) refl each.0) each.1 large x
-  walk limit before past earlier changes (step.Moment m ∷ later) w reports end left h each large x =
-      walk limit before (after past (step.Moment m)) earlier (changes ++ changes_of (step.Moment m)) later _ reports end left (changed_then s ids circuits f may past earlier changes w h (step.Moment m) refl each.0) each.1 large x
   walk limit before past earlier changes (step.Settle ∷ later) w reports end left h each large (inl x) =
       walk limit (before + 1) (after past step.Settle) _ [] later x.0 x.1 end left (settled_then s ids circuits f may past earlier changes w h x.0 limit x.2).stands each.1 large x.4
   walk limit before past earlier changes (step.Settle ∷ later) w reports end left h each large (inr (inl x)) = absurd (never past earlier changes w left limit h large x.0)
   walk limit before past earlier changes (step.Settle ∷ later) w reports end left h each large (inr (inr x)) = settled_by end status.PlantFault x.1.1 fault_settles
+  walk limit before past earlier changes (this ∷ later) w reports end left h each large x =
+      elim x [
+        | inl goes ↦ walk limit before (after past this) earlier (changes ++ changes_of this) later _ reports end left (changed_then s ids circuits f may past earlier changes w h this refl each.0) each.1 large goes
+        | inr refused ↦ settled_by end status.PlantFault (refused_ends this w reports end left refused).1 fault_settles
+      ]
 
 pub scripts_settle : StretchesConverge → ScriptsSettle
 scripts_settle converge s ids circuits f may form limit past steps each large reports end left x =

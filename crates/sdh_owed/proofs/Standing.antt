@@ -19,9 +19,10 @@ use Rattle.sdh_world.specs.Held.{HeldRing, new_ring, place_of_port, nowhere, nod
 use Rattle.sdh_world.specs.Rounds.{World}
 use Rattle.sdh_world.specs.Runs.{run, course}
 use Rattle.sdh_world.specs.Quiet.{EndsWindow, Settles}
-use Rattle.sdh_world.specs.Changes as change
-use Rattle.sdh_world.specs.Changes.{Change, changed, all_changed, Stretch, after_stretch, after_stretches, rounds_in, new_world}
-use Rattle.sdh_world.specs.Clocks.{clock_at, waiting_at, clock_after}
+use Rattle.sdh_promise.specs.Changes as change
+use Rattle.sdh_promise.specs.Changes.{Change, Stretch, rounds_in, changes_of}
+use Rattle.sdh_world.specs.Changes.{changed, all_changed, after_stretch, after_stretches, new_world}
+use Rattle.sdh_world.specs.Clocks.{clock_after, clock_at, waiting_at}
 use Rattle.sdh_world.specs.Laws.{AreChangesOf, MayHappen}
 use Rattle.sdh_rounds.specs.Laws.{EndsAtAMultiple}
 use Rattle.sdh_world.proofs.Clocks.{found_has}
@@ -39,7 +40,8 @@ use Rattle.sdh_plan.specs.declared.step.Step.{Step}
 use Rattle.sdh_plan.specs.declared.step.Step.TheVariants as step
 use Rattle.sdh_plan.specs.Steps.{Past, after, with_slips, is_settle}
 use Rattle.sdh_plan.specs.Scripts as plan
-use Rattle.sdh_owed.specs.Steps.{changes_of, after_step}
+use Rattle.sdh_promise.specs.Owed.{IsLast}
+use Rattle.sdh_owed.specs.Steps.{after_step}
 use Rattle.sdh_node.specs.Stations.{adm}
 
 -- ---- lists of changes and of stretches
@@ -185,26 +187,34 @@ module _ (s : Settings) (ids : List ℕ) (circuits : Provisioning) (f : Fibres) 
     stretch_to mid = record { changes = changes; rounds = mid.ring.rounds - 1 + 1 - rounds_in earlier }
 
     -- it ended, and so the script's history went on
-    pub record Ended (mid : World) : Type 0 where
+    pub record Ended (limit : ℕ) (mid : World) : Type 0 where
+      pub last : IsLast (length ids) limit (rounds_in earlier) (mid.ring.rounds - 1)
       pub happens : MayHappen from (earlier ++ stretch_to mid ∷ [])
       pub window : EndsWindow (course (all_changed changes (after_stretches earlier from))) (stretch_to mid).rounds
       pub many : rounds_in (earlier ++ stretch_to mid ∷ []) ≡ mid.ring.rounds - 1 + 1
       pub stands : Stands (after past step.Settle) (earlier ++ stretch_to mid ∷ []) [] mid
 
-    pub settled_then : (mid : World) (limit : ℕ) → Settles w limit mid → Ended mid
+    pub settled_then : (mid : World) (limit : ℕ) → Settles w limit mid → Ended limit mid
     settled_then mid limit settles =
         let v = after_stretches earlier from in
         let known = known_settles adm w limit mid (inl whole.paired.honest.honest) settles in
         let k = known.0 in
         let ends : EndsWindow (course w) k = known.1.window in
-        let long = long_step w.ring mid.ring limit h.begins (settled_numbers adm w mid limit (omega (arith, size, may.ids_ok.enough)) settles) in
+        let numbers = settled_numbers adm w mid limit (omega (arith, size, may.ids_ok.enough)) settles in
+        let long = long_step w.ring mid.ring limit h.begins numbers in
         let grown : mid.ring.rounds ≡ w.ring.rounds + k = ap (λ (x : World). x.ring.rounds) known.2 ∙ (left_run k w).rounds in
         let last = stretch_to mid in
         let count : k ≡ last.rounds = omega (arith, grown, long.1, ran) in
         let now = earlier ++ last ∷ [] in
         let happens : MayHappen from now = happens_last earlier last from h.happened h.since in
         let there : mid ≡ after_stretches now from = known.2 ∙ ap (λ j. run j w) count ∙ ap (run last.rounds) h.is ∙ sym (after_last earlier last from) in
+        let held : length (run k w).ring.ids ≡ length ids = ap (λ (x : List ℕ). length x) (left_run k w).ids ∙ size in
         record {
+          last = record {
+            window = omega (arith, ends.long, held, grown, long.1, ran);
+            within = omega (arith, known.1.within, grown, long.1, ran);
+            multiple = numbers.multiple;
+          };
           happens = happens;
           window = subst (λ j. EndsWindow (course (all_changed changes v)) j) count (subst (λ x. EndsWindow (course x) k) h.is ends);
           many = omega (arith, rounds_last earlier last, count, grown, long.1, ran);

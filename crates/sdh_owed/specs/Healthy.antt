@@ -7,25 +7,21 @@ use Rattle.sdh_plan.specs.declared.step.Step.TheVariants as step
 use Rattle.sdh_report.specs.declared.status.Status.{Status}
 use Rattle.sdh_report.specs.declared.status.Status.TheVariants as status
 use Rattle.sdh_report.specs.Reports.{Report}
-use Rattle.sdh_world.specs.Clocks.{clocks_by}
-use Rattle.sdh_owed.specs.Owed.{owed_ports}
+use Rattle.sdh_promise.specs.Happened.{happened}
+use Rattle.sdh_promise.specs.Owed.{owed_ports}
 
 -- no step but settle steps
 abbrev pub AllSettle : List Step → Type 0
 AllSettle [] = Unit {0}
-AllSettle (step.Fibre e ∷ later) = ⊥
-AllSettle (step.Order p d c ∷ later) = ⊥
-AllSettle (step.Hold p turns ∷ later) = ⊥
-AllSettle (step.Slip port turn count ∷ later) = ⊥
-AllSettle (step.Moment m ∷ later) = ⊥
 AllSettle (step.Settle ∷ later) = AllSettle later
+AllSettle (s ∷ later) = ⊥
 
 -- the reports behind the first `before`, in a ring of n: the K-th has round 128 K, and shows for every port what it is owed where
 -- no span is applied and no clock slipped
 abbrev pub AreHealthy : ℕ → List Provisioned → ℕ → List Report → Type 0
 AreHealthy n circuits before [] = Unit {0}
 AreHealthy n circuits before (r ∷ reports) =
-    (r.number ≡ before + 1) × (r.round ≡ 128 * (before + 1)) × (r.ports ≡ owed_ports n nothing_applied (clocks_by circuits []) (128 * (before + 1)) 0 circuits) × AreHealthy n circuits (before + 1) reports
+    (r.number ≡ before + 1) × (r.round ≡ 128 * (before + 1)) × (r.ports ≡ owed_ports n nothing_applied (happened []) (128 * (before + 1)) 0 circuits) × AreHealthy n circuits (before + 1) reports
 
 -- With a limit of at least 129 each step has its report; with a smaller one the first step is unsettled. A fault may end it before.
 pub record IsHealthy (limit n : ℕ) (circuits : List Provisioned) (steps : List Step) (reports : List Report) (end : Status) : Type 0 where

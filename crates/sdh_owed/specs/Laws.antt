@@ -1,5 +1,6 @@
 -- The laws of scripts.
 use Rattle.std.specs.Prelude.{ℕ, ◌≡◌, ◌≤◌, List, [], length}
+use Rattle.sdh_circuits.specs.Provisioned.{Provisioned}
 use Rattle.sdh_circuits.specs.Provisioning.{Provisioning}
 use Rattle.sdh_plant.specs.Fibres.{Fibres}
 use Rattle.sdh_plant.specs.Arrivals.{Knows}
@@ -15,8 +16,9 @@ use Rattle.sdh_plan.specs.Steps.{Past}
 use Rattle.sdh_plan.specs.Scripts.{AreSteps}
 use Rattle.sdh_report.specs.declared.status.Status.{Status}
 use Rattle.sdh_report.specs.Reports.{Report}
+use Rattle.sdh_promise.specs.Changes.{scenes}
 use Rattle.sdh_owed.specs.Scripts.{Runs, ComesTo}
-use Rattle.sdh_owed.specs.Owed.{AreOwed}
+use Rattle.sdh_promise.specs.Owed.{Ring, AreOwed}
 use Rattle.sdh_owed.specs.Healthy.{AllSettle, IsHealthy, IsSettled}
 
 -- where arrivals are known, what comes of a script is determined, and after a fault it is the front of that
@@ -24,11 +26,15 @@ abbrev pub KnownScripts : Type 0
 KnownScripts = (limit before : ℕ) (steps : List Step) (w : World) (reports : List Report) (end : Status) (left : World)
     → Knows w.fibres → 1 ≤ length w.ring.ids → length w.ring.nodes ≡ length w.ring.ids → Runs limit before steps w reports end left → ComesTo limit before steps w reports end left
 
+-- a ring of n with these settings and circuits, as far as reports owe by it
+abbrev pub ring_by : Settings → ℕ → List Provisioned → Ring
+ring_by s n circuits = record { nodes = n; threshold = s.threshold; wait = s.wait; circuits = circuits }
+
 -- from a new ring over new honest fibres, each report shows what is owed under the requests of the script's history
 abbrev pub ReportsAreOwed : Type 0
 ReportsAreOwed = (s : Settings) (ids : List ℕ) (circuits : Provisioning) (f : Fibres) → (let l = layout_in (new_ring s ids circuits) in
     MayStart s ids f → HasCircuits l → (limit : ℕ) (past : Past) (steps : List Step) → AreSteps s.rate (length ids) (length circuits.circuits) past steps
-    → (reports : List Report) (end : Status) (left : World) → Runs limit 0 steps (new_world s ids circuits f) reports end left → AreOwed l [] [] 0 steps reports end)
+    → (reports : List Report) (end : Status) (left : World) → Runs limit 0 steps (new_world s ids circuits f) reports end left → AreOwed (ring_by s (length ids) circuits.circuits) limit [] 0 (scenes [] steps) reports end)
 
 -- from there no settle step with so large a limit is unsettled
 abbrev pub ScriptsSettle : Type 0

@@ -20,24 +20,21 @@ use Rattle.sdh_node.specs.Stations.{adm}
 abbrev pub Stops : Status → List Report → Status → Type 0
 Stops how reports end = (reports ≡ []) × (end ≡ how)
 
--- the plant refused a condition, and its fibres are as they were
-abbrev pub Refuses : World → List Report → Status → World → Type 0
-Refuses w reports end left = (left.fibres ≡ w.fibres) × Stops status.PlantFault reports end
+-- the plant refused a condition, and its fibres are as they were; no other step is refused
+abbrev pub Refuses : Step → World → List Report → Status → World → Type 0
+Refuses (step.Fibre e) w reports end left = (left.fibres ≡ w.fibres) × Stops status.PlantFault reports end
+Refuses s w reports end left = ⊥
 
 -- The steps from a world, after `before` settle steps that have ended, with this limit of rounds a settle step: they give these
 -- reports, end so, and leave that world. A settle step ends with a quiet window and has a report; or it is unsettled; or a
--- fault breaks one of its rounds off.
+-- fault breaks one of its rounds off. Any other step does what it does, or is refused.
 abbrev pub Runs : ℕ → ℕ → List Step → World → List Report → Status → World → Type 0
 Runs limit before [] w reports end left = (left ≡ w) × Stops status.Ok reports end
-Runs limit before (step.Fibre e ∷ later) w reports end left = Runs limit before later (after_step (step.Fibre e) w) reports end left ⊎ Refuses w reports end left
-Runs limit before (step.Order p d c ∷ later) w reports end left = Runs limit before later (after_step (step.Order p d c) w) reports end left
-Runs limit before (step.Hold p turns ∷ later) w reports end left = Runs limit before later (after_step (step.Hold p turns) w) reports end left
-Runs limit before (step.Slip port turn count ∷ later) w reports end left = Runs limit before later (after_step (step.Slip port turn count) w) reports end left
-Runs limit before (step.Moment m ∷ later) w reports end left = Runs limit before later (after_step (step.Moment m) w) reports end left
 Runs limit before (step.Settle ∷ later) w reports end left =
     ((mid : World) × (rest : List Report) × Settles w limit mid × (reports ≡ report_of (before + 1) mid.ring ∷ rest) × Runs limit (before + 1) later mid rest end left)
     ⊎ ((Unsettles w limit left × Stops (status.Unsettled (before + 1)) reports end)
     ⊎ (BreaksOff w limit left.fibres × Stops status.PlantFault reports end))
+Runs limit before (s ∷ later) w reports end left = Runs limit before later (after_step s w) reports end left ⊎ Refuses s w reports end left
 
 -- ---- where arrivals are known
 
@@ -62,13 +59,9 @@ ran_settled k number w later = record later { reports = report_of number (run k 
 -- the steps from a world, after `before` settle steps that have ended
 abbrev pub script : ℕ → ℕ → List Step → World → Ran
 script limit before [] w = ran_none w
-script limit before (step.Fibre e ∷ later) w = script limit before later (after_step (step.Fibre e) w)
-script limit before (step.Order p d c ∷ later) w = script limit before later (after_step (step.Order p d c) w)
-script limit before (step.Hold p turns ∷ later) w = script limit before later (after_step (step.Hold p turns) w)
-script limit before (step.Slip port turn count ∷ later) w = script limit before later (after_step (step.Slip port turn count) w)
-script limit before (step.Moment m ∷ later) w = script limit before later (after_step (step.Moment m) w)
 script limit before (step.Settle ∷ later) w =
     option_map_or (λ k. ran_settled k (before + 1) w (script limit (before + 1) later (run k w))) (settles_in w limit) (ran_unsettled limit (before + 1) w)
+script limit before (s ∷ later) w = script limit before later (after_step s w)
 
 -- so it ended
 pub record IsRan (r : Ran) (reports : List Report) (end : Status) (left : World) : Type 0 where

@@ -1,5 +1,5 @@
 //! A script over a ring and its fibres, over definitions alone: `specs/Reports.antt` says what a report tells of a ring,
-//! `specs/Scripts.antt` what comes of a script, `specs/Owed.antt` what its reports owe to each port by the restoration model, and
+//! `specs/Scripts.antt` what comes of a script, `specs/Healthy.antt` what a script of settle steps alone comes to, and
 //! `specs/Laws.antt` has the laws. Each function here has a law as its contract and no work to do.
 #![tactic(auto)]
 

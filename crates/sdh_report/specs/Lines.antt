@@ -4,19 +4,16 @@ use Rattle.std.specs.Prelude.{ℕ, ◌*◌, List, [], ◌∷◌, ◌++◌, codes
 use Rattle.std.specs.List.{flat_map}
 use Rattle.sdh_basics.specs.Cells.{cells}
 use Rattle.sdh_basics.specs.Hexadecimal.{hex_of}
-use Rattle.sdh_kbytes.specs.declared.K.{K}
-use Rattle.sdh_kbytes.specs.KBytes.{first_byte, second_byte}
 use Rattle.sdh_ringmap.specs.declared.Side.{Side}
 use Rattle.sdh_ringmap.specs.declared.Side.TheVariants.{West, East}
 use Rattle.sdh_circuits.specs.declared.End.{End}
 use Rattle.sdh_circuits.specs.declared.End.TheVariants.{A, B}
 use Rattle.sdh_circuits.specs.declared.Slot.{Slot}
-use Rattle.sdh_nodestate.specs.declared.NodeState.{NodeState}
-use Rattle.sdh_nodestate.specs.declared.NodeState.TheVariants as state
 use Rattle.sdh_payload.specs.declared.delivered.Delivered.{Delivered}
 use Rattle.sdh_payload.specs.declared.delivered.Delivered.TheVariants.{Ais, Chunk}
 use Rattle.sdh_report.specs.declared.node_line.StateWord.{StateWord}
 use Rattle.sdh_report.specs.declared.node_line.StateWord.TheVariants as word
+use Rattle.sdh_report.specs.declared.node_line.WordBytes.{WordBytes}
 use Rattle.sdh_report.specs.declared.node_line.NodeLine.{NodeLine}
 
 -- a line of the caller's own
@@ -32,14 +29,7 @@ settle_line number round = step_ended number round ++ codes "\n"
 
 -- ---- a node
 
--- the word of its state
-abbrev pub state_word : NodeState → StateWord
-state_word (state.Idle x) = word.Idle
-state_word (state.PassThrough x) = word.Pass
-state_word (state.SwitchWest far) = word.SwitchWest
-state_word (state.SwitchEast far) = word.SwitchEast
-state_word (state.Isolated x) = word.Isolated
-
+-- its state
 abbrev pub state_text : StateWord → List ℕ
 state_text word.Idle = codes "idle"
 state_text word.Pass = codes "pass"
@@ -48,8 +38,8 @@ state_text word.SwitchEast = codes "switch-east"
 state_text word.Isolated = codes "isolated"
 
 -- the bytes K1 and K2 of a word, two hexadecimal digits each
-abbrev pub word_text : K → List ℕ
-word_text k = hex_of (first_byte k ∷ []) ++ codes " " ++ hex_of (second_byte k ∷ [])
+abbrev pub word_text : WordBytes → List ℕ
+word_text w = hex_of (w.first ∷ []) ++ codes " " ++ hex_of (w.second ∷ [])
 
 -- its identifier, its state, and the words that it sent last
 abbrev pub node_line : NodeLine → List ℕ

@@ -8,6 +8,6 @@ mod status;
 mod text;
 
 pub use listing::Listing;
-pub use node_line::{NodeLine, StateWord};
+pub use node_line::{NodeLine, StateWord, WordBytes};
 pub use status::Status;
 pub use text::{LINE_MAX, Text};

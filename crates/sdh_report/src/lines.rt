@@ -5,11 +5,10 @@ ghost use Rattle.sdh_report.specs.Written.{with_part};
 ghost use Rattle.sdh_report.specs.Lines.{own_line, step_ended, settle_line, end_letter, side_text, word_text, node_line, port_named, chunk_line, port_line, row, row_line, drop_lines, table_place, table_ends, table_line, count_line};
 ghost use Rattle.sdh_report.specs.Statuses.{last_line};
 
-use crate::node_line::NodeLine;
+use crate::node_line::{NodeLine, WordBytes};
 use crate::status::Status;
 use crate::text::Text;
 use sdh_circuits::{End, Name, Slot};
-use sdh_kbytes::{K, encode};
 use sdh_payload::Delivered;
 use sdh_ringmap::Side;
 
@@ -74,24 +73,17 @@ impl Text {
     }
 
     // The bytes K1 and K2 of a word.
-    fn put_word(&mut self, word: K)
-        requires to { word.to ≤ 15 }
-        requires from { word.from ≤ 15 }
-        requires room { 5 ≤ self.old.room }
+    fn put_word(&mut self, word: WordBytes)
+        requires { 5 ≤ self.old.room }
         ensures { self.new ≡ with_part self.old (word_text word) }
     {
-        let (first, second) = encode(word);
-        self.put_hex(&[first]);
+        self.put_hex(&[word.first]);
         self.put(b" ");
-        self.put_hex(&[second]);
+        self.put_hex(&[word.second]);
     }
 
     /// The line of a node.
     pub fn node_line(&mut self, line: &NodeLine)
-        requires west_to { line.now.west.to ≤ 15 }
-        requires west_from { line.now.west.from ≤ 15 }
-        requires east_to { line.now.east.to ≤ 15 }
-        requires east_from { line.now.east.from ≤ 15 }
         requires room { length (node_line line.now) ≤ self.old.room }
         ensures { self.new ≡ with_part self.old (node_line line.now) }
     {

@@ -1,9 +1,6 @@
 //! What is told of a node.
-ghost use Rattle.std.specs.Prelude.{◌≡◌, ◌≤◌, codes, length};
-ghost use Rattle.sdh_report.specs.Lines.{state_word, state_text};
-
-use sdh_kbytes::K;
-use sdh_nodestate::NodeState;
+ghost use Rattle.std.specs.Prelude.{◌≡◌, codes};
+ghost use Rattle.sdh_report.specs.Lines.{state_text};
 
 /// The word of a state.
 #[derive(Clone, Copy, Debug, PartialEq, Eq)]
@@ -15,29 +12,23 @@ pub enum StateWord {
     Isolated,
 }
 
-/// What is told of a node: its identifier, its state, and the words that it sent last on each side.
+/// The two bytes of a word, K1 and K2.
+#[derive(Clone, Copy, Debug, PartialEq, Eq)]
+pub struct WordBytes {
+    pub first: u8,
+    pub second: u8,
+}
+
+/// What is told of a node: its identifier, its state, and the bytes of the words that it sent last on each side.
 #[derive(Clone, Copy, Debug, PartialEq, Eq)]
 pub struct NodeLine {
     pub id: u8,
     pub state: StateWord,
-    pub west: K,
-    pub east: K,
+    pub west: WordBytes,
+    pub east: WordBytes,
 }
 
 impl StateWord {
-    /// The word of a state.
-    pub fn of(state: &NodeState) -> StateWord
-        ensures { result ≡ state_word state.now }
-    {
-        match state {
-            NodeState::Idle(_) => StateWord::Idle,
-            NodeState::PassThrough(_) => StateWord::Pass,
-            NodeState::SwitchWest(_) => StateWord::SwitchWest,
-            NodeState::SwitchEast(_) => StateWord::SwitchEast,
-            NodeState::Isolated(_) => StateWord::Isolated,
-        }
-    }
-
     // Its letters.
     pub(crate) fn letters(self) -> &'static [u8]
         ensures { result.now ≡ state_text self }

@@ -2,6 +2,4 @@ pub mod Places
 pub mod Highest
 pub mod Spans
 pub mod Ends
-pub mod Healthy
-pub mod FarEnds
 pub mod Asked

@@ -4,14 +4,13 @@ use Rattle.std.specs.Prelude.{ℕ, max, Bool, ◌&&◌, nat_lt, nat_le, ◌==◌
 use Rattle.std.specs.List.{list_any}
 use Rattle.sdh_basics.specs.Cells.{cells}
 use Rattle.sdh_terms.specs.Requests.{code_number}
-use Rattle.sdh_terms.specs.declared.Code.{Code}
 use Rattle.sdh_ringmap.specs.Places.{neighbour}
-use Rattle.sdh_ringmap.specs.declared.Side.{Side}
 use Rattle.sdh_ringmap.specs.declared.Side.TheVariants.{West, East}
+use Rattle.sdh_restoration.specs.History.{Asking}
 
 -- the request of each span of a ring of n: the larger of the local requests of its two ends, where
 -- `local p d` is the local request on side d of position p
-unfoldable pub span_requests : ℕ → (ℕ → Side → Code) → List ℕ
+unfoldable pub span_requests : ℕ → Asking → List ℕ
 span_requests n local = cells (λ s. max (code_number (local s East)) (code_number (local (neighbour n s East) West))) n
 
 -- the highest of some requests, 0 where there is none

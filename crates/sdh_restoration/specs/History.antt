@@ -2,6 +2,7 @@
 -- by fibres alone, and no frame occurs. After ITU-T G.841; waiting by moments is this project's own.
 use Rattle.std.specs.Prelude.{ℕ, zero, suc, ◌-◌, Bool, false, ◌&&◌, not, nat_le, if◌then◌else◌, Option, Some, None, option_map}
 use Rattle.sdh_terms.specs.declared.Code.{Code}
+use Rattle.sdh_ringmap.specs.declared.Side.{Side}
 use Rattle.sdh_request.specs.declared.Defect.{Defect}
 use Rattle.sdh_request.specs.declared.Defect.TheVariants as defect
 use Rattle.sdh_request.specs.declared.Command.{Command}
@@ -42,3 +43,7 @@ unfoldable pub local_request : ℕ → ℕ → SideHistory → ℕ → Code
 local_request threshold wait h t =
     request.highest (h.command t) (defect_at threshold h t)
     (request.waits wait (defect_at threshold h t) (h.moment t) (option_map h.moment (last_end threshold h t)))
+
+-- what each side of each position asks for
+abbrev pub Asking : Type 0
+Asking = ℕ → Side → Code

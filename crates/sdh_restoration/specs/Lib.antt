@@ -3,5 +3,4 @@ pub mod Locals
 pub mod Routes
 pub mod History
 pub mod Rounds
-pub mod Settled
 pub mod Due

@@ -1,6 +1,8 @@
 -- How a call of the program ends: each status, when it is answered, and the text that goes with it.
-use Rattle.std.specs.Prelude.{◌≡◌, ℕ, suc, ◌+◌, ◌-◌, ◌<◌, ◌≤◌, ◌⊎◌, true, false, List, [], ◌∷◌, ◌++◌, length, codes, Option}
+use Rattle.std.specs.Prelude.{◌≡◌, ℕ, suc, ◌+◌, ◌-◌, ◌<◌, ◌≤◌, ◌⊎◌, Bool, true, false, List, [], ◌∷◌, ◌++◌, length, codes, Option}
 use Rattle.std.specs.Io.KnownBytes.{Appends, Keeps}
+use Rattle.sdh_basics.specs.Causes.{IsCounted}
+use Rattle.sdh_outside.specs.Reading.{TakesCount}
 use Rattle.sdh_outside.specs.Writing.{AppendsFewer}
 use Rattle.sdh_report.specs.Lines.{own_line}
 use Rattle.sdh_elastic.specs.History.{lasts, lengths}
@@ -73,6 +75,12 @@ pub record Answers (words : List (List ℕ)) (bytes : List ℕ) (number : ℕ) (
   pub status : Status
   pub numbered : number ≡ number_of status
   pub writes : Writes words bytes status old new
+
+-- What had come of the source when there was this to tell. Where the count is exact, one read failed with a read fault, and none
+-- without it. With too many bytes, one more than the program reads was taken.
+pub record CameTo (exact : Bool) (before after : ℕ) (left now : Option (List ℕ)) (how : Status) : Type 0 where
+  pub reads : IsCounted exact (how ≡ status.ReadFault) before after
+  pub too_long : how ≡ status.TooLong → TakesCount left now 1048577
 
 -- the source was read to its end and the run came to an end
 abbrev pub HasRun : Status → Type 0

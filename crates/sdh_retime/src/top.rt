@@ -1,11 +1,12 @@
 //! The program's call.
-ghost use Rattle.std.specs.Prelude.{◌≡◌, ◌≢◌, ◌⊎◌, ℕ, ◌<◌, ◌≤◌, ◌↔◌, length, IfOk, IfSome};
+ghost use Rattle.std.specs.Prelude.{◌≡◌, ◌≢◌, ◌⊎◌, ℕ, ◌<◌, ◌≤◌, ◌↔◌, true, [], length, IfOk, OnErr, IfSome};
 ghost use Rattle.std.specs.Io.KnownBytes.{IsAtEnd};
-ghost use Rattle.sdh_basics.specs.Causes.{Rose};
-ghost use Rattle.sdh_outside.specs.Reading.{TellsAtMost};
+ghost use Rattle.sdh_basics.specs.Causes.{Rose, IsCounted};
+ghost use Rattle.sdh_outside.specs.Reading.{TakesCount, TellsAtMost};
 ghost use Rattle.sdh_report.specs.Lines.{own_line};
 ghost use Rattle.sdh_retime.specs.Digits.{AreDigits, words_of};
-ghost use Rattle.sdh_retime.specs.Outcome.{IsOutcome, Writes, Answers, HasRun, AreUnsteady};
+ghost use Rattle.sdh_retime.specs.declared.status.Status.{Status};
+ghost use Rattle.sdh_retime.specs.Outcome.{number_of, IsOutcome, Writes, Answers, CameTo, HasRun, AreUnsteady};
 
 use crate::digits::digits_of;
 use crate::retiming::{Report, run};
@@ -15,13 +16,14 @@ use sdh_report::{LINE_MAX, Text};
 use std::alloc::{AllocError, Global};
 
 // A report of one line.
-fn line_report(alloc: Global, status: Status, line: &[u8]) -> Result<Report, AllocError>
-    requires { length line.now < 96 }
-    ensures { IfOk result (λ report. (report.status ≡ status) × (report.text.bytes ≡ own_line line.now)) }
+fn line_report(mut text: Text, status: Status, line: &[u8]) -> Report
+    requires short { length line.now < 96 }
+    requires room { 96 ≤ text.room }
+    requires empty { text.bytes ≡ [] }
+    ensures { (result.status ≡ status) × (result.text.bytes ≡ own_line line.now) }
 {
-    let mut text = Text::try_new(alloc, LINE_MAX)?;
     text.own_line(line);
-    Ok(Report { status, text })
+    Report { status, text }
 }
 
 // What the words and the source come to.
@@ -37,16 +39,23 @@ fn report_on<R: Source>(
     ensures unsteady { IfOk result (λ report. (turn : ℕ) → report.status ≡ Status.Drift turn → AreUnsteady (words_of words.now)) }
     ensures complete { IfOk result (λ report. AreDigits (words_of words.now) → TellsAtMost (R.left source.old) 1048576 → ¬ (Rose (R.faults source.old) (R.faults source.new)) → HasRun report.status) }
     ensures own { IfOk result (λ report. (report.status ≢ Status.WriteFault) × (report.status ≢ Status.Memory)) }
+    ensures reads { IfOk result (λ report. IsCounted R.exact (report.status ≡ Status.ReadFault) (R.faults source.old) (R.faults source.new)) }
+    ensures without { OnErr result (R.exact ≡ true → R.faults source.new ≡ R.faults source.old) }
+    ensures too_long { IfOk result (λ report. report.status ≡ Status.TooLong → TakesCount (R.left source.old) (R.left source.new) 1048577) }
     ensures later { R.faults source.old ≤ R.faults source.new }
 {
+    // Room for the line is taken first, so that a read that fails is always told.
+    let text = Text::try_new(alloc, LINE_MAX)?;
     let Some(digits) = digits_of(words) else {
-        return line_report(alloc, Status::Usage, b"usage: sdhretime DIGITS");
+        return Ok(line_report(text, Status::Usage, b"usage: sdhretime DIGITS"));
     };
     let bytes = match read_all(alloc, source) {
         Ok(bytes) => bytes,
         Err(ReadAllError::Memory) => return Err(AllocError),
-        Err(ReadAllError::ReadFault) => return line_report(alloc, Status::ReadFault, b"read fault"),
-        Err(ReadAllError::TooLong) => return line_report(alloc, Status::TooLong, b"too long"),
+        Err(ReadAllError::ReadFault) => {
+            return Ok(line_report(text, Status::ReadFault, b"read fault"));
+        }
+        Err(ReadAllError::TooLong) => return Ok(line_report(text, Status::TooLong, b"too long")),
     };
     run(alloc, digits, &bytes)
 }
@@ -63,6 +72,8 @@ fn answer<R: Source, W: Sink>(
     ensures usage_only { (¬ AreDigits (words_of words.now)) → (result ≡ Status.Usage) ⊎ (result ≡ Status.WriteFault) ⊎ (result ≡ Status.Memory) }
     ensures read_fault { result ≡ Status.ReadFault → Rose (R.faults source.old) (R.faults source.new) }
     ensures write_fault { result ≡ Status.WriteFault → Rose (W.faults sink.old) (W.faults sink.new) }
+    ensures came { (how : Status) × ((result ≡ how) ⊎ (result ≡ Status.WriteFault)) × CameTo R.exact (R.faults source.old) (R.faults source.new) (R.left source.old) (R.left source.new) how }
+    ensures writes { IsCounted W.exact (result ≡ Status.WriteFault) (W.faults sink.old) (W.faults sink.new) }
     ensures memory { result ≡ Status.Memory → sink.new ≡ sink.old }
     ensures read_whole { HasRun result → IsAtEnd (R.left source.new) }
     ensures unsteady { (turn : ℕ) → result ≡ Status.Drift turn → AreUnsteady (words_of words.now) }
@@ -97,6 +108,11 @@ pub fn retime<R: Source, W: Sink>(
     ensures read_fault { result ≡ 3 → Rose (R.faults source.old) (R.faults source.new) }
     ensures write_fault { result ≡ 4 → Rose (W.faults sink.old) (W.faults sink.new) }
     ensures memory { result ≡ 70 → sink.new ≡ sink.old }
+
+    // Where an object's count is exact, each of its calls that failed is told by its fault, and none is tried again; a write fault
+    // may stand in place of what was to be told. With 9 one byte more than the program reads was taken.
+    ensures came { (how : Status) × ((result ≡ number_of how) ⊎ (result ≡ 4)) × CameTo R.exact (R.faults source.old) (R.faults source.new) (R.left source.old) (R.left source.new) how }
+    ensures writes { IsCounted W.exact (result ≡ 4) (W.faults sink.old) (W.faults sink.new) }
     ensures read_whole { (result ≡ 0) ⊎ (result ≡ 12) → IsAtEnd (R.left source.new) }
     ensures unsteady { result ≡ 12 → AreUnsteady (words_of words.now) }
     ensures later { (R.faults source.old ≤ R.faults source.new) × (W.faults sink.old ≤ W.faults sink.new) }

@@ -7,7 +7,7 @@ use Rattle.sdh_node.specs.Receiving.{commanded_by}
 use Rattle.sdh_node.specs.Node.{at_receiving, held_for, slips_at}
 use Rattle.sdh_world.specs.Held.{HeldRing, at_place, place_of_port}
 use Rattle.sdh_world.specs.Rounds.{world}
-use Rattle.sdh_world.specs.Changes.{Order, Hold, Slip, Now}
+use Rattle.sdh_promise.specs.Changes.{Order, Hold, Slip, Now}
 use Rattle.sdh_circuits.specs.declared.PortId.{PortId}
 use Rattle.sdh_payload.specs.declared.clock.Turn.{Turn}
 use Rattle.sdh_world.specs.Clocks.{waiting_at}

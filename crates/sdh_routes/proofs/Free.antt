@@ -13,7 +13,7 @@ use Rattle.sdh_bridge.specs.declared.Origin.{Origin}
 use Rattle.sdh_bridge.specs.declared.Origin.TheVariants.{Protection, Ais}
 use Rattle.sdh_bridge.specs.Connections.{sent_of, stands_for, leaves_working, leaves_protection}
 use Rattle.sdh_restoration.specs.Applied.{is_applied, is_any_applied}
-use Rattle.sdh_restoration.specs.Settled.{settled, settled_by, is_outranked, far_end}
+use Rattle.sdh_settling.specs.Settled.{settled, settled_by, is_outranked, far_end}
 use Rattle.sdh_routes.specs.Walks.{port, carries_in, stands_in, working_in, protection_in}
 use Rattle.sdh_routes.specs.Law.{IsFree}
 use Rattle.sdh_routes.specs.Laws.{NoWayCrossesAnAppliedSpan}

@@ -3,7 +3,7 @@ use Rattle.std.proofs.Common.{ℕ, ◌+◌, ◌*◌, ◌<◌, ◌≤◌, suc, ze
 use Rattle.sdh_bridge.specs.declared.Origin.{Origin}
 use Rattle.sdh_circuits.specs.Provisioned.{Provisioned}
 use Rattle.sdh_circuits.specs.Provisioning.{AreCircuits}
-use Rattle.sdh_restoration.specs.Settled.{settled}
+use Rattle.sdh_settling.specs.Settled.{settled}
 use Rattle.sdh_routes.proofs.Inhabited.{below-some}
 use Rattle.sdh_routes.proofs.Rest.{resting}
 use Rattle.sdh_routes.proofs.Inside.{back-inside}

@@ -13,7 +13,7 @@ use Rattle.sdh_circuits.specs.declared.End.{End}
 use Rattle.sdh_circuits.specs.declared.End.TheVariants.{A, B}
 use Rattle.sdh_nodestate.specs.declared.NodeState.{NodeState}
 use Rattle.sdh_restoration.specs.Applied.{is_applied}
-use Rattle.sdh_restoration.specs.Settled.{settled}
+use Rattle.sdh_settling.specs.Settled.{settled}
 use Rattle.sdh_restoration.specs.Routes.{hops}
 use Rattle.sdh_restoration.specs.Due.{other_end}
 use Rattle.sdh_bridge.specs.declared.Origin.{Origin}

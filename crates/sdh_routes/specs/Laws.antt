@@ -11,7 +11,7 @@ use Rattle.sdh_squelch.specs.Table.{circuit_on}
 use Rattle.sdh_nodestate.specs.declared.NodeState.{NodeState}
 use Rattle.sdh_nodestate.specs.declared.NodeState.TheVariants as state
 use Rattle.sdh_restoration.specs.Applied.{is_applied}
-use Rattle.sdh_restoration.specs.Settled.{settled}
+use Rattle.sdh_settling.specs.Settled.{settled}
 use Rattle.sdh_bridge.specs.declared.Origin.{Origin}
 use Rattle.sdh_ringmap.specs.Steps.{going}
 use Rattle.sdh_restoration.specs.Due.{other_end}

@@ -152,12 +152,8 @@ settled_next limit before listing w left t u few s ends none prepared room later
 
 changed_goes : (limit before : ℕ) (s : Step) (w : World) → (s ≡ step.Settle → ⊥) → (later : List Step) (reports : List Report) (end : Status) (last : World)
     → Runs limit before later (after_step s w) reports end last → Runs limit before (s ∷ later) w reports end last
-changed_goes limit before (step.Fibre e) w other later reports end last x = inl x
-changed_goes limit before (step.Order p d c) w other later reports end last x = x
-changed_goes limit before (step.Hold p turns) w other later reports end last x = x
-changed_goes limit before (step.Slip port turn count) w other later reports end last x = x
-changed_goes limit before (step.Moment m) w other later reports end last x = x
 changed_goes limit before step.Settle w other later reports end last x = absurd (other refl)
+changed_goes limit before s w other later reports end last x = inl x
 
 pub changed_went : (limit before : ℕ) (listing : Listing) (s : Step) (w left : World) (text : List ℕ) → (s ≡ step.Settle → ⊥) → left ≡ after_step s w
     → (later : List Step) → Went limit listing before (s ∷ later) w text text before later left
@@ -217,11 +213,7 @@ changed_next listing before s w left t other is later h = subst (λ (v : World).
 
 pub refused_stops : (limit before : ℕ) (s : Step) (w left : World) (how : Status) → Refused s w.fibres left.fibres how → StopsAt limit before s w how left
 refused_stops limit before (step.Fibre e) w left how h later = inr (h.0, (refl, h.1))
-refused_stops limit before (step.Order p d c) w left how h later = absurd h
-refused_stops limit before (step.Hold p turns) w left how h later = absurd h
-refused_stops limit before (step.Slip port turn count) w left how h later = absurd h
-refused_stops limit before (step.Moment m) w left how h later = absurd h
-refused_stops limit before step.Settle w left how h later = absurd h
+refused_stops limit before s w left how h later = absurd h
 
 -- ---- one step behind others
 

@@ -42,11 +42,7 @@ pub record MayRun (listing : Listing) (before : ℕ) (steps : List Step) (r : He
 -- a fibre's step was refused: the plant's fibres are as they were
 abbrev pub Refused : Step → Fibres → Fibres → Status → Type 0
 Refused (step.Fibre e) f g how = (g ≡ f) × (how ≡ status.PlantFault)
-Refused (step.Order p d c) f g how = ⊥
-Refused (step.Hold p turns) f g how = ⊥
-Refused (step.Slip port turn count) f g how = ⊥
-Refused (step.Moment m) f g how = ⊥
-Refused step.Settle f g how = ⊥
+Refused s f g how = ⊥
 
 -- Steps went so far that `later` is left of them: the text grew by what is listed of some reports, and whatever comes of what is
 -- left comes behind these.

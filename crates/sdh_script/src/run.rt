@@ -2,14 +2,11 @@
 ghost use Rattle.std.specs.Prelude.{◌≡◌, ◌+◌, ◌*◌, ◌≤◌, true, length, IfOk, OnErr};
 ghost use Rattle.sdh_basics.specs.Causes.{Rose, IsCounted};
 ghost use Rattle.sdh_plant.specs.Fibres.{HasNoFibres};
-ghost use Rattle.sdh_plant.specs.Arrivals.{Knows};
 ghost use Rattle.sdh_world.specs.Held.{HeldRing};
 ghost use Rattle.sdh_world.specs.Rounds.{world};
 ghost use Rattle.sdh_script.specs.Room.{report_room, MayList};
 ghost use Rattle.sdh_script.specs.Running.{MayRun, Lists};
-ghost use Rattle.sdh_rounds.specs.Quiet.{enough_for};
-ghost use Rattle.sdh_owed.specs.Healthy.{AllSettle, IsSettled};
-ghost use Rattle.sdh_script.specs.Plans.{world_of, MaySettle, Comes, ComesKnown, IsOwedText, IsHealthyText};
+ghost use Rattle.sdh_script.specs.Plans.{MaySettle, Tells, Came};
 
 use crate::script::run_script;
 use sdh_circuits::CircuitMap;
@@ -72,7 +69,7 @@ fn run_new<P: Plant>(
 ) -> Result<Run, AllocError>
     requires fresh { HasNoFibres (P.fibres plant.old) }
     requires listing { MayList (length plan.circuits) listing }
-    ensures ran { IfOk result (λ run. Comes plan listing (P.fibres plant.old) run.text.bytes run.status (P.fibres plant.new)) }
+    ensures came { IfOk result (λ run. Came plan listing (P.fibres plant.old) run.text.bytes run.status (P.fibres plant.new)) }
     ensures failed { IfOk result (λ run. run.status ≡ Status.PlantFault → Rose (P.faults plant.old) (P.faults plant.new)) }
     ensures counted { IfOk result (λ run. IsCounted P.exact (run.status ≡ Status.PlantFault) (P.faults plant.old) (P.faults plant.new)) }
     ensures uncounted { OnErr result (P.exact ≡ true → P.faults plant.new ≡ P.faults plant.old) }
@@ -106,14 +103,9 @@ pub fn run_plan<P: Plant>(
     requires fresh { HasNoFibres (P.fibres plant.old) }
     requires listing { MayList (length plan.circuits) listing }
 
-    // The text and the ending over every plant; where the arrivals are known; and what the reports show over honest fibres.
-    ensures ran { IfOk result (λ run. Comes plan listing (P.fibres plant.old) run.text.bytes run.status (P.fibres plant.new)) }
-    ensures known { IfOk result (λ run. Knows (world_of plan (P.fibres plant.old)).fibres → ComesKnown plan listing (P.fibres plant.old) run.text.bytes run.status (P.fibres plant.new)) }
-    ensures owed { IfOk result (λ run. (P.fibres plant.old).honest ≡ true → IsOwedText plan listing run.text.bytes run.status) }
-
-    // Over honest fibres no settle step with a large limit is unsettled, and a script of settle steps alone shows a healthy ring.
-    ensures settles { IfOk result (λ run. (P.fibres plant.old).honest ≡ true → enough_for (length plan.nodes) ≤ plan.limit → IsSettled run.status) }
-    ensures healthy { IfOk result (λ run. (P.fibres plant.old).honest ≡ true → AllSettle plan.steps → IsHealthyText plan listing run.text.bytes run.status) }
+    // The text is what is listed of one list of reports, which is told over every plant, where the arrivals are known, and over
+    // honest fibres.
+    ensures came { IfOk result (λ run. Tells plan listing (P.fibres plant.old) run.text.bytes run.status (P.fibres plant.new)) }
 
     // A fault has a cause, and without one a script that settles is done.
     ensures failed { IfOk result (λ run. run.status ≡ Status.PlantFault → Rose (P.faults plant.old) (P.faults plant.new)) }

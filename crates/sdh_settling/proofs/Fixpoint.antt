@@ -11,7 +11,7 @@ use Rattle.sdh_nodestate.specs.declared.Needs.{Needs}
 use Rattle.sdh_nodestate.specs.declared.NodeState.TheVariants as state
 use Rattle.sdh_nodestate.specs.Rules.{word, state_after, sent_after}
 use Rattle.sdh_restoration.specs.Applied.{span_requests}
-use Rattle.sdh_restoration.specs.Settled.{settled, settled_states}
+use Rattle.sdh_settling.specs.Settled.{settled, settled_states}
 use Rattle.sdh_settling.proofs.Lists.{map_from-same}
 use Rattle.sdh_settling.specs.Signals.{Signals, request_on, is_held, state_in, words_in, scene_at, round, free_round, rounds, MayGo, no_needs, requests_in}
 use Rattle.sdh_settling.specs.Runs.{Run, at_round, run_requests}

@@ -1,3 +1,4 @@
+pub mod FarEnds
 pub mod Lists
 mod Counting
 mod Requests

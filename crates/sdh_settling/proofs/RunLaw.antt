@@ -15,8 +15,8 @@ use Rattle.sdh_ringmap.specs.declared.Side.TheVariants.{West, East}
 use Rattle.sdh_nodestate.specs.declared.NodeState.TheVariants as state
 use Rattle.sdh_nodestate.specs.Rules.{Scene, word_on, weight, long, relayed, stronger, weight_of, chosen, rest, switches, is_below, is_relay, state_after}
 use Rattle.sdh_restoration.specs.Applied.{highest, has_one_leader, applies, is_applied, is_any_applied}
-use Rattle.sdh_restoration.specs.Settled.{settled}
-use Rattle.sdh_restoration.proofs.FarEnds.{first_position}
+use Rattle.sdh_settling.specs.Settled.{settled}
+use Rattle.sdh_settling.proofs.FarEnds.{first_position}
 use Rattle.sdh_restoration.proofs.Highest.{top_of}
 use Rattle.sdh_settling.specs.Runs.{Run, IsRun}
 use Rattle.sdh_ringmap.specs.Steps.{going}

@@ -8,7 +8,7 @@ use Rattle.sdh_ringmap.specs.declared.Pos.{Pos}
 use Rattle.sdh_nodestate.specs.declared.NodeState.{NodeState}
 use Rattle.sdh_nodestate.specs.declared.NodeState.TheVariants as state
 use Rattle.sdh_restoration.specs.Applied.{highest, is_applied, is_any_applied}
-use Rattle.sdh_restoration.specs.Settled.{far_end, next_positions, settled, settled_by}
+use Rattle.sdh_settling.specs.Settled.{far_end, next_positions, settled, settled_by}
 
 -- the settled state where the number of spans is named
 

@@ -6,7 +6,7 @@ use Rattle.sdh_kbytes.specs.declared.K.{K}
 use Rattle.sdh_nodestate.specs.declared.Needs.{Needs}
 use Rattle.sdh_nodestate.specs.declared.NodeState.TheVariants as state
 use Rattle.sdh_nodestate.specs.Rules.{word, chosen, relay, state_after}
-use Rattle.sdh_restoration.specs.Settled.{settled, settled_states}
+use Rattle.sdh_settling.specs.Settled.{settled, settled_states}
 use Rattle.sdh_settling.specs.Signals.{Signals, round, free_round, rounds, MayGo, requests_in}
 use Rattle.sdh_settling.specs.Runs.{Run, at_round, IsRun, run_requests}
 use Rattle.sdh_ringmap.specs.Steps.{going}

@@ -1,3 +1,4 @@
+pub mod Settled
 pub mod Signals
 pub mod Runs
 pub mod Laws

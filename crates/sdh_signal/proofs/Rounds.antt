@@ -11,7 +11,7 @@ use Rattle.sdh_nodestate.specs.declared.NodeState.{NodeState}
 use Rattle.sdh_nodestate.specs.Conditions.{MayNeed}
 use Rattle.sdh_nodestate.specs.Words.{first_words, IsSourced}
 use Rattle.sdh_nodestate.specs.Rules.{state_after, sent_after}
-use Rattle.sdh_restoration.specs.Settled.{settled_states}
+use Rattle.sdh_settling.specs.Settled.{settled_states}
 use Rattle.sdh_settling.specs.Signals.{Signals, Filters, no_filters, no_needs, filters_after, is_held, state_in, words_in, scene_at, round, free_round, MayGo, requests_in}
 use Rattle.sdh_settling.specs.Laws.{ChangesNoWord}
 use Rattle.sdh_settling.proofs.Lists.{map_from-same}

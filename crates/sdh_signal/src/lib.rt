@@ -7,7 +7,7 @@ ghost use Rattle.std.specs.Prelude.{◌≡◌, ◌≢◌, ◌↔◌, ℕ, ◌+�
 ghost use Rattle.sdh_basics.specs.Cells.{cells};
 ghost use Rattle.sdh_nodestate.specs.Conditions.{MayNeed};
 ghost use Rattle.sdh_nodestate.specs.Words.{first_words};
-ghost use Rattle.sdh_restoration.specs.Settled.{settled_states};
+ghost use Rattle.sdh_settling.specs.Settled.{settled_states};
 ghost use Rattle.sdh_settling.specs.Signals.{no_filters, round, requests_in};
 ghost use Rattle.sdh_signal.specs.SignalRing.{new_ring, NoneHeld, LeavesWords, IsStill};
 

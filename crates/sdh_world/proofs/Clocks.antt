@@ -29,9 +29,10 @@ use Rattle.sdh_node.specs.Receiving.{commanded_by}
 use Rattle.sdh_world.specs.Held.{HeldRing, new_nodes, new_ring, at_place, place_of_port}
 use Rattle.sdh_world.specs.Rounds.{World, with_arrivals, all_with_arrivals, node_after, nodes_with, round_with, round, arrivals_of}
 use Rattle.sdh_world.specs.Runs.{run, run_with}
-use Rattle.sdh_world.specs.Changes.{Change, Fibre, Order, Hold, Slip, Now, changed, all_changed, Stretch, after_stretch, after_stretches, rounds_in}
+use Rattle.sdh_promise.specs.Changes.{Change, Fibre, Order, Hold, Slip, Now, Stretch, rounds_in}
+use Rattle.sdh_world.specs.Changes.{changed, all_changed, after_stretch, after_stretches}
 use Rattle.sdh_world.specs.Sides.{world_in}
-use Rattle.sdh_world.specs.Clocks.{first_clock, HasPortIn, clock_at, waiting_at, clock_after, clock_changed, clock_in}
+use Rattle.sdh_world.specs.Clocks.{first_clock, clock_after, clock_changed, clock_in, HasPortIn, clock_at, waiting_at}
 use Rattle.sdh_world.specs.Laws.{ClocksGoOn}
 use Rattle.sdh_rounds.proofs.FirstWindows.{left_true, right_true}
 use Rattle.sdh_world.specs.Fixed.{IsRested, IsOn}

@@ -7,8 +7,9 @@ use Rattle.sdh_payload.specs.History.{Happening}
 use Rattle.sdh_payload.specs.Laws.{clock_by}
 use Rattle.sdh_circuits.specs.declared.PortId.{PortId}
 use Rattle.sdh_circuits.specs.Provisioned.{same_port}
-use Rattle.sdh_world.specs.Changes.{Change, Fibre, Order, Hold, Slip, Now, Stretch}
-use Rattle.sdh_world.specs.Clocks.{offset_of, first_clock, clock_after, clock_changed, clock_in, told_by, told_by_all, went_by, happened_in}
+use Rattle.sdh_promise.specs.Changes.{Change, Fibre, Order, Hold, Slip, Now, Stretch}
+use Rattle.sdh_world.specs.Clocks.{offset_of, first_clock, clock_after, clock_changed, clock_in}
+use Rattle.sdh_promise.specs.Happened.{told_by, told_by_all, went_by, happened_in}
 use Rattle.sdh_world.specs.Laws.{ClocksTellWhatHappened}
 
 module _ (offset : ℕ) (port : PortId) where

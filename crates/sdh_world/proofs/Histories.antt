@@ -26,8 +26,10 @@ use Rattle.sdh_world.specs.Laws.{NewHolds, HistoriesHold, CallsChange}
 use Rattle.sdh_world.proofs.Keeping.{new_at, length-new, all_placed}
 use Rattle.sdh_world.specs.Rounds.{World, with_arrival, with_arrivals, all_with_arrivals, node_after, nodes_with, round_with, round, arrivals_of}
 use Rattle.sdh_world.specs.Runs.{run}
-use Rattle.sdh_world.specs.Changes.{Change, Fibre, Order, Hold, Slip, Now, changed, all_changed, Stretch, after_stretch}
-use Rattle.sdh_world.specs.Sides.{Holding, holding_after, all_holding, holding_in, command_on, holding_of, world_in, Fits}
+use Rattle.sdh_promise.specs.Changes.{Change, Fibre, Order, Hold, Slip, Now, Stretch}
+use Rattle.sdh_world.specs.Changes.{changed, all_changed, after_stretch}
+use Rattle.sdh_promise.specs.Sides.{Holding, holding_after, all_holding, holding_in}
+use Rattle.sdh_world.specs.Sides.{command_on, holding_of, world_in, Fits}
 use Rattle.sdh_rounds.proofs.Runs.{count_round, conditions_round}
 use Rattle.sdh_node.specs.Stations.{adm}
 use Rattle.sdh_rounds.specs.Rounds as any_round

@@ -16,8 +16,9 @@ use Rattle.sdh_world.specs.Held.{HeldRing, new_ring, place_of_port}
 use Rattle.sdh_world.specs.Fixed.{fixed}
 use Rattle.sdh_world.specs.Rounds.{World, nodes_with, round_with}
 use Rattle.sdh_world.specs.Runs.{run_with}
-use Rattle.sdh_world.specs.Changes.{Change, Fibre, Order, Hold, Slip, Now, changed}
-use Rattle.sdh_world.specs.Clocks.{first_clock, port_in, HasPortIn, clock_at, waiting_at, clock_after}
+use Rattle.sdh_promise.specs.Changes.{Change, Fibre, Order, Hold, Slip, Now}
+use Rattle.sdh_world.specs.Changes.{changed}
+use Rattle.sdh_world.specs.Clocks.{first_clock, clock_after, port_in, HasPortIn, clock_at, waiting_at}
 use Rattle.sdh_world.proofs.Keeping.{all_heard, all_next, all_commanded, all_held, all_slipped, has_fixed}
 use Rattle.sdh_world.proofs.Clocks.{clock_of, clocks_go_on, goes_changed}
 use Rattle.sdh_rounds.specs.Rounds as any_round

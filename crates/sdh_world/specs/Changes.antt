@@ -1,12 +1,8 @@
 -- What happens to a ring and its fibres between rounds, and a run with such changes.
-use Rattle.std.specs.Prelude.{ℕ, List, [], ◌∷◌, ◌+◌, length}
-use Rattle.sdh_ringmap.specs.declared.Side.{Side}
-use Rattle.sdh_request.specs.declared.Command.{Command}
-use Rattle.sdh_terms.specs.declared.Condition.{Condition}
+use Rattle.std.specs.Prelude.{ℕ, List, [], ◌∷◌, length}
+use Rattle.sdh_promise.specs.Changes.{Change, Fibre, Order, Hold, Slip, Now, Stretch}
 use Rattle.sdh_plant.specs.Calls.{after_apply, prepared}
 use Rattle.sdh_node.specs.Receiving.{commanded_by}
-use Rattle.sdh_payload.specs.declared.clock.Turn.{Turn}
-use Rattle.sdh_circuits.specs.declared.PortId.{PortId}
 use Rattle.sdh_node.specs.Node.{at_receiving, held_for, slips_at}
 use Rattle.sdh_world.specs.Held.{at_place, place_of_port, new_ring}
 use Rattle.sdh_world.specs.Rounds.{World, world}
@@ -15,15 +11,7 @@ use Rattle.sdh_request.specs.declared.settings.Settings.{Settings}
 use Rattle.sdh_circuits.specs.Provisioning.{Provisioning}
 use Rattle.sdh_plant.specs.Fibres.{Fibres}
 
--- the fibre that leaves a position on a side comes into a condition; a side of a node is given a command; the controller of a node is
--- to miss so many turns; so many more slips wait at a port; the moment is told
-pub data Change : Type 0 where
-  Fibre : ℕ → Side → Condition → Change
-  Order : ℕ → Side → Command → Change
-  Hold : ℕ → ℕ → Change
-  Slip : PortId → Turn → ℕ → Change
-  Now : ℕ → Change
-
+-- what a change does
 unfoldable pub changed : Change → World → World
 changed (Fibre p d condition) w = record w { fibres = after_apply w.fibres p d condition }
 changed (Order p d command) w = record w { ring = record w.ring { nodes = at_place p (at_receiving d (commanded_by command)) w.ring.nodes } }
@@ -35,22 +23,12 @@ abbrev pub all_changed : List Change → World → World
 all_changed [] w = w
 all_changed (c ∷ cs) w = all_changed cs (changed c w)
 
--- changes, and so many rounds after them
-pub record Stretch : Type 0 where
-  pub changes : List Change
-  pub rounds : ℕ
-
 abbrev pub after_stretch : Stretch → World → World
 after_stretch s w = run s.rounds (all_changed s.changes w)
 
 abbrev pub after_stretches : List Stretch → World → World
 after_stretches [] w = w
 after_stretches (s ∷ ss) w = after_stretches ss (after_stretch s w)
-
--- how many rounds stretches have
-abbrev pub rounds_in : List Stretch → ℕ
-rounds_in [] = 0
-rounds_in (s ∷ ss) = s.rounds + rounds_in ss
 
 -- a new ring over fibres that were just prepared for it
 abbrev pub new_world : Settings → List ℕ → Provisioning → Fibres → World

@@ -1,14 +1,14 @@
--- The clocks of a ring's ports, and their history from the stretches of a run. No frame occurs in it.
-use Rattle.std.specs.Prelude.{ℕ, zero, suc, ◌-◌, nat_lt, if◌then◌else◌, Option, IsSome, List, [], ◌∷◌, slice_get}
+-- The clocks of a ring's ports, and what the stretches of a run make of them. No frame occurs in it. That a clock goes by what
+-- happened at its port is the law `clocks_tell_what_happened`.
+use Rattle.std.specs.Prelude.{ℕ, ◌-◌, nat_lt, if◌then◌else◌, Option, IsSome, List, [], ◌∷◌, slice_get}
 use Rattle.std.specs.Option.{option_map_or, option_and_then}
 use Rattle.sdh_payload.specs.Clock.{Clock, new_clock, waiting, waits, ticks}
-use Rattle.sdh_payload.specs.History.{Happening, told, went}
 use Rattle.sdh_circuits.specs.declared.PortId.{PortId}
 use Rattle.sdh_circuits.specs.Provisioned.{Provisioned, customer_at, same_port}
 use Rattle.sdh_terminal.specs.Tributaries.{Tributary, port_of}
 use Rattle.sdh_world.specs.Held.{HeldRing, place_of_port}
 use Rattle.sdh_world.specs.Rounds.{World}
-use Rattle.sdh_world.specs.Changes.{Change, Fibre, Order, Hold, Slip, Now, Stretch}
+use Rattle.sdh_promise.specs.Changes.{Change, Slip, Stretch}
 
 -- the offset of a port's customer
 abbrev pub offset_of : List Provisioned → PortId → ℕ
@@ -44,11 +44,8 @@ clocks_from w port t = ticks (t - w.ring.rounds) (clock_at w.ring port)
 
 -- after a change
 abbrev pub clock_after : PortId → Change → Clock → Clock
-clock_after port (Fibre q e condition) c = c
-clock_after port (Order q e command) c = c
-clock_after port (Hold q turns) c = c
 clock_after port (Slip other turn count) c = if same_port port other then waits turn count c else c
-clock_after port (Now t) c = c
+clock_after port change c = c
 
 abbrev pub clock_changed : PortId → List Change → Clock → Clock
 clock_changed port [] c = c
@@ -63,32 +60,3 @@ clock_in port (s ∷ ss) c t =
 -- from a new ring with these circuits
 abbrev pub clocks_by : List Provisioned → List Stretch → PortId → ℕ → Clock
 clocks_by circuits ss port t = clock_in port ss (first_clock circuits port) t
-
--- ---- what happened at a port, the latest first
-
--- by a change: it may be told of slips
-abbrev pub told_by : PortId → Change → List Happening → List Happening
-told_by port (Fibre q e condition) history = history
-told_by port (Order q e command) history = history
-told_by port (Hold q turns) history = history
-told_by port (Slip other turn count) history = if same_port port other then told turn count ∷ history else history
-told_by port (Now t) history = history
-
-abbrev pub told_by_all : PortId → List Change → List Happening → List Happening
-told_by_all port [] history = history
-told_by_all port (x ∷ xs) history = told_by_all port xs (told_by port x history)
-
--- by so many rounds
-abbrev pub went_by : ℕ → List Happening → List Happening
-went_by zero history = history
-went_by (suc k) history = went ∷ went_by k history
-
--- before round t of the stretches, or of rounds alone behind them
-abbrev pub happened_in : PortId → List Stretch → List Happening → ℕ → List Happening
-happened_in port [] history t = went_by t history
-happened_in port (s ∷ ss) history t =
-    if nat_lt t s.rounds then went_by t (told_by_all port s.changes history) else happened_in port ss (went_by s.rounds (told_by_all port s.changes history)) (t - s.rounds)
-
--- from a new ring on
-abbrev pub happened : List Stretch → PortId → ℕ → List Happening
-happened ss port t = happened_in port ss [] t

@@ -14,12 +14,15 @@ use Rattle.sdh_payload.specs.declared.clock.Turn.{Turn}
 use Rattle.sdh_circuits.specs.declared.PortId.{PortId}
 use Rattle.sdh_node.specs.Node.{at_receiving, held_for, slips_at}
 use Rattle.sdh_world.specs.Held.{HeldRing, new_ring, at_place, place_of_port}
-use Rattle.sdh_world.specs.Changes.{Change, Order, Hold, Slip, Now, Fibre, changed, Stretch, after_stretch, after_stretches, rounds_in}
+use Rattle.sdh_promise.specs.Changes.{Change, Order, Hold, Slip, Now, Fibre, Stretch, rounds_in}
+use Rattle.sdh_world.specs.Changes.{changed, after_stretch, after_stretches}
 use Rattle.sdh_circuits.specs.Provisioned.{Provisioned}
 use Rattle.sdh_payload.specs.Clock.{ticked}
 use Rattle.sdh_payload.specs.Laws.{clock_by}
-use Rattle.sdh_world.specs.Clocks.{HasPortIn, clock_at, waiting_at, clock_after, clock_in, offset_of, first_clock, clocks_by, happened}
-use Rattle.sdh_world.specs.Sides.{new_holding, holding_of, holding_in, world_in, Fits}
+use Rattle.sdh_world.specs.Clocks.{clock_after, clock_in, offset_of, first_clock, clocks_by, HasPortIn, clock_at, waiting_at}
+use Rattle.sdh_promise.specs.Happened.{happened}
+use Rattle.sdh_promise.specs.Sides.{new_holding, holding_in}
+use Rattle.sdh_world.specs.Sides.{holding_of, world_in, Fits}
 use Rattle.sdh_world.specs.Rounds.{World, world, round_with}
 use Rattle.sdh_world.specs.Runs.{run_with}
 

@@ -36,4 +36,4 @@ returns-clause-bytes c =
     let written : List ℕ → List ℕ → List ℕ = λ ids name.
     table_line (slice_index ids c.args.at.0) c.args.side c.args.slot name (slice_index ids c.in-Some-ends.ends.0.0) (slice_index ids c.in-Some-ends.ends.1.0) in
     c.put_circuit.ensures.bytes
-    ∙ ap (λ l. c.args.text.now.bytes ++ l) (ap (λ ids. written ids c.name.result.now) c.map.ensures ∙ ap (written c.args.plan.now.nodes) c.name.ensures.name ∙ sym line)
+    ∙ ap (λ l. c.args.text.now.bytes ++ l) (ap (λ ids. written ids c.name-name.result.now) c.map.ensures ∙ ap (written c.args.plan.now.nodes) c.name-name.ensures.name ∙ sym line)

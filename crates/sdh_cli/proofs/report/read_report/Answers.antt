@@ -4,7 +4,7 @@ use Rattle.sdh_script.proofs.Plans.{on_ok, on_two}
 use Rattle.sdh_cli.specs.Words.{ask_of}
 use Rattle.sdh_cli.specs.Outcome.{TellsPlan}
 use Rattle.sdh_cli.proofs.Endings.{plan_ends, at_all}
-use Rattle.sdh_cli.proofs.Stages.{has_cause, is_shown, read_may_go}
+use Rattle.sdh_cli.proofs.Stages.{not_err, counted_none, no_read, no_long, has_cause, is_shown, read_may_go}
 use Rattle.sdh_cli.proofs.report.read_report.Goals as goal
 
 pub returns-in-Ok-read_plan-clause-cause : goal.returns-in-Ok-read_plan-clause-cause
@@ -33,3 +33,17 @@ returns-in-Ok-read_plan-clause-complete g c =
     let tells : TellsPlan seen plan = (omega (arith, c.in-Ok.ensures.short, ap (λ (l : List _). length l) c.deref.ensures.value), c.in-Ok-read_plan.ensures.ok) in
     on_ok c.plan_report.result _ _ (λ report done may fine_reads fine_plant. done (read_may_go (ask_of c.args.command) left seen plan f c.requires.reads same tells may) fine_plant)
     c.plan_report.ensures.complete
+
+pub returns-in-Ok-read_plan-clause-reads : goal.returns-in-Ok-read_plan-clause-reads
+returns-in-Ok-read_plan-clause-reads g c =
+    let means = g.P.Plant.fibres in
+    on_ok c.plan_report.result _ _ (λ report x. counted_none g.R.Source.exact (g.R.Source.faults c.args.source.now) (g.R.Source.faults c.read_all.new.source)
+    (no_read report.status (plan_ends (ask_of c.args.command) c.in-Ok-read_plan.plan (means c.args.plant.now) (means c.plan_report.new.plant) report.status report.text.bytes x))
+    (λ exact. c.in-Ok.ensures.counted.none exact (λ e. not_err _ _ e)))
+    c.plan_report.ensures.outcome
+
+pub returns-in-Ok-read_plan-clause-too_long : goal.returns-in-Ok-read_plan-clause-too_long
+returns-in-Ok-read_plan-clause-too_long g c =
+    let means = g.P.Plant.fibres in
+    on_ok c.plan_report.result _ _ (λ report x. no_long report.status _ (plan_ends (ask_of c.args.command) c.in-Ok-read_plan.plan (means c.args.plant.now) (means c.plan_report.new.plant) report.status report.text.bytes x))
+    c.plan_report.ensures.outcome

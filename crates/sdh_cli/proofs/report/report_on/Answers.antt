@@ -1,10 +1,10 @@
-use Rattle.std.proofs.Common.{◌≡◌, Some, sym, ◌∙◌, ap}
+use Rattle.std.proofs.Common.{◌≡◌, Some, refl, sym, ◌∙◌, ap}
 use Rattle.std.specs.Prelude.{option_map}
 use Rattle.sdh_script.proofs.Plans.{on_ok, on_two}
 use Rattle.sdh_plan.specs.Big.{big_planned}
 use Rattle.sdh_cli.specs.Words.{Big, ask_of, words_of, asked}
 use Rattle.sdh_cli.proofs.Endings.{plan_ends}
-use Rattle.sdh_cli.proofs.Stages.{has_cause, is_shown, no_usage, read_outcome}
+use Rattle.sdh_cli.proofs.Stages.{counted_none, no_read, no_long, has_cause, is_shown, no_usage, read_outcome}
 use Rattle.sdh_cli.proofs.report.report_on.Goals as goal
 
 pub returns-in-Some-number_of-clause-cause : goal.returns-in-Some-number_of-clause-cause
@@ -41,3 +41,19 @@ returns-in-None-clause-outcome g c =
     let is : a ≡ Some ask = sym c.command_of.ensures ∙ ap (option_map ask_of) c.in-Some.is in
     on_ok c.read_report.result _ _ (λ report x. read_outcome a ask is (g.R.Source.left c.args.source.now) (means c.args.plant.now) (means c.read_report.new.plant) report.status report.text.bytes c.in-None.ensures.reads x)
     c.read_report.ensures.outcome
+
+pub returns-in-Some-number_of-clause-reads : goal.returns-in-Some-number_of-clause-reads
+returns-in-Some-number_of-clause-reads g c =
+    let means = g.P.Plant.fibres in
+    let number = c.in-Some-number_of.number in
+    let now = g.R.Source.faults c.args.source.now in
+    on_ok c.big_report.result _ _ (λ report x. counted_none g.R.Source.exact now now
+    (no_read report.status (plan_ends (Big number) (big_planned number) (means c.args.plant.now) (means c.big_report.new.plant) report.status report.text.bytes x)) (λ exact. refl))
+    c.big_report.ensures.outcome
+
+pub returns-in-Some-number_of-clause-too_long : goal.returns-in-Some-number_of-clause-too_long
+returns-in-Some-number_of-clause-too_long g c =
+    let means = g.P.Plant.fibres in
+    let number = c.in-Some-number_of.number in
+    on_ok c.big_report.result _ _ (λ report x. no_long report.status _ (plan_ends (Big number) (big_planned number) (means c.args.plant.now) (means c.big_report.new.plant) report.status report.text.bytes x))
+    c.big_report.ensures.outcome

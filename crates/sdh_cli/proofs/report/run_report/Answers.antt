@@ -1,3 +1,6 @@
+use Rattle.std.proofs.Common.{◌≡◌, sym, subst}
+use Rattle.sdh_basics.specs.Causes.{IsCounted}
+use Rattle.sdh_report.specs.declared.status.Status.TheVariants as status
 use Rattle.sdh_cli.proofs.Stages.{run_outcome}
 use Rattle.sdh_cli.proofs.report.run_report.Goals as goal
 
@@ -5,6 +8,5 @@ pub returns-clause-outcome : goal.returns-clause-outcome
 returns-clause-outcome g c =
     let means = g.P.Plant.fibres in
     let run = c.in_ok-run.run' in
-    let are = c.in_ok-run.ensures in
     run_outcome c.args.plan c.args.listing (means c.args.plant.now) (means c.run_plan.new.plant) run.text.bytes c.ended.result.text.bytes run.status c.ended.result.status c.ended.ensures.status
-    c.ended.ensures.text are.ran are.known are.owed are.settles are.healthy
+    c.ended.ensures.text c.in_ok-run.ensures.came

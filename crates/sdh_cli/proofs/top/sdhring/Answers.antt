@@ -1,7 +1,10 @@
-use Rattle.std.proofs.Common.{subst}
+use Rattle.std.proofs.Common.{refl, subst, inl}
 use Rattle.std.specs.Io.KnownBytes.{Appends}
+use Rattle.sdh_outside.specs.Writing.{AppendsFewer}
 use Rattle.sdh_cli.specs.Words.{words_of, asked}
 use Rattle.sdh_cli.specs.Outcome.{told, Counts}
+use Rattle.sdh_report.specs.declared.status.Status.TheVariants as status
+use Rattle.sdh_cli.proofs.Stages.{came_without}
 use Rattle.sdh_cli.proofs.Promises as promises
 use Rattle.sdh_cli.proofs.top.sdhring.Goals as goal
 
@@ -40,3 +43,30 @@ returns-in-Ok-write_text-clause-unsettled g c =
     let new = g.W.Sink.written c.write_text.new.sink in
     let written = subst (Appends old new) c.bytes.ensures c.in-Ok-write_text.ensures.ok in
     promises.told_unsettled (told a (g.R.Source.left c.args.source.now)) a (means c.args.plant.now) (means c.report_on.new.plant) reads calls report.status report.text.bytes old new c.in-Ok.ensures.cause c.in-Ok.ensures.own written c.in-Ok.ensures.outcome
+
+pub returns-in_default-clause-came : goal.returns-in_default-clause-came
+returns-in_default-clause-came g c = (status.Memory, inl refl, came_without _ _ _ _ _ _ c.in_default.ensures.without)
+
+pub returns-in-Ok-write_text-clause-outcome : goal.returns-in-Ok-write_text-clause-outcome
+returns-in-Ok-write_text-clause-outcome g c =
+    let means = g.P.Plant.fibres in
+    let a = asked (words_of c.args.words.now) in
+    let reads : Counts = record { before = g.R.Source.faults c.args.source.now; after = g.R.Source.faults c.report_on.new.source } in
+    let calls : Counts = record { before = g.P.Plant.faults c.args.plant.now; after = g.P.Plant.faults c.report_on.new.plant } in
+    let report = c.in-Ok.report in
+    let old = g.W.Sink.written c.args.sink.now in
+    let new = g.W.Sink.written c.write_text.new.sink in
+    let written = subst (Appends old new) c.bytes.ensures c.in-Ok-write_text.ensures.ok in
+    promises.told_outcome (told a (g.R.Source.left c.args.source.now)) a (means c.args.plant.now) (means c.report_on.new.plant) reads calls report.status report.text.bytes old new c.in-Ok.ensures.cause c.in-Ok.ensures.own written c.in-Ok.ensures.outcome
+
+pub returns-clause-outcome : goal.returns-clause-outcome
+returns-clause-outcome g c =
+    let means = g.P.Plant.fibres in
+    let a = asked (words_of c.args.words.now) in
+    let reads : Counts = record { before = g.R.Source.faults c.args.source.now; after = g.R.Source.faults c.report_on.new.source } in
+    let calls : Counts = record { before = g.P.Plant.faults c.args.plant.now; after = g.P.Plant.faults c.report_on.new.plant } in
+    let report = c.in-Ok.report in
+    let old = g.W.Sink.written c.args.sink.now in
+    let new = g.W.Sink.written c.write_text.new.sink in
+    let fewer = subst (AppendsFewer old new) c.bytes.ensures c.in-Err.ensures.front in
+    promises.told_fewer (told a (g.R.Source.left c.args.source.now)) a (means c.args.plant.now) (means c.report_on.new.plant) reads calls report.status report.text.bytes old new c.in-Ok.ensures.cause fewer c.in-Ok.ensures.outcome

@@ -1,10 +1,10 @@
-use Rattle.std.proofs.Common.{List, ℕ, subst}
+use Rattle.std.proofs.Common.{List, ℕ, refl, subst, inl}
 use Rattle.std.specs.Io.KnownBytes.{Appends}
 use Rattle.sdh_outside.specs.Writing.{AppendsFewer}
 use Rattle.sdh_retime.specs.declared.status.Status.TheVariants as status
 use Rattle.sdh_retime.specs.Digits.{words_of}
 use Rattle.sdh_retime.specs.Outcome.{IsOutcome, Writes}
-use Rattle.sdh_retime.proofs.Endings.{some_then, whole, front}
+use Rattle.sdh_retime.proofs.Endings.{some_then, whole, front, came_without}
 use Rattle.sdh_retime.proofs.top.answer.Goals as goal
 
 pub returns-in-Ok-write_text-clause-outcome : goal.returns-in-Ok-write_text-clause-outcome
@@ -26,3 +26,6 @@ returns-clause-outcome g c =
     let written = subst (λ (text : List ℕ). AppendsFewer old new text) c.bytes.ensures c.in-Err.ensures.front in
     some_then (λ (bytes : List ℕ). IsOutcome words bytes r.status r.text.bytes) (λ (bytes : List ℕ). Writes words bytes status.WriteFault old new) (g.R.Source.left c.args.source.now)
     (λ bytes h. front words bytes r.status r.text.bytes old new h written) c.in-Ok.ensures.outcome
+
+pub returns-in_default-clause-came : goal.returns-in_default-clause-came
+returns-in_default-clause-came g c = (status.Memory, inl refl, came_without _ _ _ _ _ c.in_default.ensures.without)

@@ -6,7 +6,7 @@ use Rattle.std.proofs.lemmas.List.Sums.{position_or_len_is}
 use Rattle.std.proofs.lemmas.Option.{slice_get-get_or}
 use Rattle.sdh_ringmap.specs.Steps.{going}
 use Rattle.sdh_ringmap.specs.declared.Side.{Side}
-use Rattle.sdh_restoration.specs.Settled.{next_positions}
+use Rattle.sdh_settling.specs.Settled.{next_positions}
 
 pub first_position : (n : ℕ) (d : Side) (p m k : ℕ) (test : ℕ → Bool) → k < m → ((j : ℕ) → j < k → test (going n d p (suc j)) ≡ false) → test (going n d p (suc k)) ≡ true
     → find test (next_positions n d p m) ≡ Some (going n d p (suc k))

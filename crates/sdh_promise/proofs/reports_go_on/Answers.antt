@@ -1,0 +1,5 @@
+use Rattle.sdh_promise.proofs.Rounds as proved
+use Rattle.sdh_promise.proofs.reports_go_on.Goals as goal
+
+pub returns : goal.returns
+returns c = proved.reports_go_on

@@ -1,0 +1,45 @@
+-- What happens in a ring between rounds, and what a plan's script says of it.
+use Rattle.std.specs.Prelude.{ℕ, List, [], ◌∷◌, ◌++◌, ◌+◌}
+use Rattle.sdh_ringmap.specs.declared.Side.{Side}
+use Rattle.sdh_request.specs.declared.Command.{Command}
+use Rattle.sdh_terms.specs.declared.Condition.{Condition}
+use Rattle.sdh_payload.specs.declared.clock.Turn.{Turn}
+use Rattle.sdh_circuits.specs.declared.PortId.{PortId}
+use Rattle.sdh_plan.specs.declared.step.Step.{Step}
+use Rattle.sdh_plan.specs.declared.step.Step.TheVariants as step
+
+-- the fibre that leaves a position on a side comes into a condition; a side of a node is given a command; the controller of a node is
+-- to miss so many turns; so many more slips wait at a port; the moment is told
+pub data Change : Type 0 where
+  Fibre : ℕ → Side → Condition → Change
+  Order : ℕ → Side → Command → Change
+  Hold : ℕ → ℕ → Change
+  Slip : PortId → Turn → ℕ → Change
+  Now : ℕ → Change
+
+-- changes, and so many rounds after them
+pub record Stretch : Type 0 where
+  pub changes : List Change
+  pub rounds : ℕ
+
+-- how many rounds stretches have
+abbrev pub rounds_in : List Stretch → ℕ
+rounds_in [] = 0
+rounds_in (s ∷ ss) = s.rounds + rounds_in ss
+
+-- ---- a script
+
+-- the change that a step makes; a settle step makes none
+abbrev pub changes_of : Step → List Change
+changes_of (step.Fibre e) = Fibre e.at.0 e.side e.condition ∷ []
+changes_of (step.Order p d command) = Order p.0 d command ∷ []
+changes_of (step.Moment now) = Now now.0 ∷ []
+changes_of (step.Hold p turns) = Hold p.0 turns ∷ []
+changes_of (step.Slip port turn count) = Slip port turn count ∷ []
+changes_of step.Settle = []
+
+-- the changes before each settle step of these steps, where these were made before them
+abbrev pub scenes : List Change → List Step → List (List Change)
+scenes changes [] = []
+scenes changes (step.Settle ∷ later) = changes ∷ scenes [] later
+scenes changes (s ∷ later) = scenes (changes ++ changes_of s) later

@@ -1,0 +1,64 @@
+-- What each report of a script owes, in customers' bytes and by the script alone.
+use Rattle.std.specs.Prelude.{ℕ, ◌≡◌, ◌⊎◌, ◌+◌, ◌-◌, ◌*◌, ◌%◌, ◌≤◌, Bool, List, [], ◌∷◌, ◌++◌}
+use Rattle.sdh_circuits.specs.declared.End.{End}
+use Rattle.sdh_circuits.specs.declared.End.TheVariants.{A, B}
+use Rattle.sdh_circuits.specs.declared.PortId.{PortId}
+use Rattle.sdh_circuits.specs.Provisioned.{Provisioned, customer_at}
+use Rattle.sdh_payload.specs.History.{Happening}
+use Rattle.sdh_restoration.specs.History.{Asking, local_request}
+use Rattle.sdh_restoration.specs.Applied.{span_requests, is_applied}
+use Rattle.sdh_restoration.specs.Due.{due, sends_by, other_end}
+use Rattle.sdh_report.specs.declared.status.Status.{Status}
+use Rattle.sdh_report.specs.declared.status.Status.TheVariants as status
+use Rattle.sdh_report.specs.Reports.{PortLine, Report}
+use Rattle.sdh_promise.specs.Changes.{Change, Stretch, rounds_in}
+use Rattle.sdh_promise.specs.Sides.{side_history}
+use Rattle.sdh_promise.specs.Happened.{happened}
+
+-- a ring, as far as reports owe by it: how many nodes, how many violations degrade a side, how long a side waits to restore, and
+-- the circuits in their order
+pub record Ring : Type 0 where
+  pub nodes : ℕ
+  pub threshold : ℕ
+  pub wait : ℕ
+  pub circuits : List Provisioned
+
+-- what each side asks for in round t of the stretches, by what happened to it, in a ring of n with this threshold and this wait
+abbrev pub asked_in : ℕ → ℕ → ℕ → List Stretch → ℕ → Asking
+asked_in threshold wait n stretches t p d = local_request threshold wait (side_history n p d stretches) t
+
+-- the requests of all spans in round t
+abbrev pub requests_by : Ring → List Stretch → ℕ → List ℕ
+requests_by r stretches t = span_requests r.nodes (asked_in r.threshold r.wait r.nodes stretches t)
+
+-- What the port at an end of the circuit of this number is owed in round t, in a ring of n in which these spans are applied, where
+-- this had happened at each port before each round: the other end's customer sends by what happened there.
+abbrev pub owed_port : ℕ → (ℕ → Bool) → (PortId → ℕ → List Happening) → ℕ → ℕ → Provisioned → End → PortLine
+owed_port n applied before t index c e =
+    record { name = c.name; end = e; outlet = due n applied c (λ k. sends_by (customer_at c (other_end e)) (before (record { circuit = index; end = other_end e }) k)) t }
+
+-- what all ports of these circuits are owed, which are counted from `index`, in their order, a before b
+abbrev pub owed_ports : ℕ → (ℕ → Bool) → (PortId → ℕ → List Happening) → ℕ → ℕ → List Provisioned → List PortLine
+owed_ports n applied before t index [] = []
+owed_ports n applied before t index (c ∷ cs) = owed_port n applied before t index c A ∷ owed_port n applied before t index c B ∷ owed_ports n applied before t (index + 1) cs
+
+-- the report shows each port of these circuits with what it is owed in a ring of n under these requests of spans, by what happened
+abbrev pub IsOwed : ℕ → List ℕ → (PortId → ℕ → List Happening) → List Provisioned → Report → Type 0
+IsOwed n requests before circuits r = r.ports ≡ owed_ports n (is_applied requests) before r.round 0 circuits
+
+-- The last round of a settle step that ended, in a ring of n, before which so many rounds had run: a quiet window has 3 n rounds, the
+-- step has at most the limit, and the number of its last one is a multiple of 128
+pub record IsLast (n limit ran t : ℕ) : Type 0 where
+  pub window : ran + 3 * n ≤ t + 1
+  pub within : t + 1 ≤ ran + limit
+  pub multiple : t % 128 ≡ 0
+
+-- Each report shows what is owed under the requests of the history and by what happened at the ports, where `earlier` had happened, so many settle
+-- steps had ended, and these are the changes before each step to come. Report by report the number grows by 1, and the round tells
+-- how many rounds the step ran. A settle step without a report is where the script ended, unsettled or by a fault.
+abbrev pub AreOwed : Ring → ℕ → List Stretch → ℕ → List (List Change) → List Report → Status → Type 0
+AreOwed ring limit earlier before [] reports end = (reports ≡ []) × ((end ≡ status.Ok) ⊎ (end ≡ status.PlantFault))
+AreOwed ring limit earlier before (changes ∷ later) [] end = (end ≡ status.Unsettled (before + 1)) ⊎ (end ≡ status.PlantFault)
+AreOwed ring limit earlier before (changes ∷ later) (r ∷ reports) end =
+    (let now = earlier ++ record { changes = changes; rounds = r.round + 1 - rounds_in earlier } ∷ [] in
+    (r.number ≡ before + 1) × IsLast ring.nodes limit (rounds_in earlier) r.round × IsOwed ring.nodes (requests_by ring now r.round) (happened now) ring.circuits r × AreOwed ring limit now (before + 1) later reports end)

@@ -1,0 +1,16 @@
+use Rattle.std.proofs.Common.{◌≡◌, sym, subst, rules, arith}
+use Rattle.sdh_terms.specs.declared.Rate.TheVariants.{Four}
+use Rattle.sdh_plant.specs.Fibres.{IsPrepared}
+use Rattle.sdh_plant.specs.Calls.{prepared}
+use Rattle.sdh_plant.proofs.Calling.{stay_prepared}
+use Rattle.sdh_sncp.proofs.tests.laid.Goals as goal
+
+pub returns-clause-prepared : goal.returns-clause-prepared
+returns-clause-prepared g c =
+    let n = c.len-nodes.result in
+    let ring = c.in_ok-try_new.field-0 in
+    let f = g.P.Plant.fibres c.args.plant.now in
+    let laid : g.P.Plant.fibres c.prepare.new.self ≡ prepared Four n f = search rules in
+    subst (λ r. IsPrepared r _ (g.P.Plant.fibres c.prepare.new.self)) (search rules)
+    (subst (λ k. IsPrepared Four k (g.P.Plant.fibres c.prepare.new.self)) (search rules)
+    (subst (IsPrepared Four n) (sym laid) (stay_prepared.prepared Four n f (omega (arith, c.len-nodes.ensures.len, c.len-nodes.ensures.enough)) (omega (arith, c.len-nodes.ensures.len, c.len-nodes.ensures.few)))))
