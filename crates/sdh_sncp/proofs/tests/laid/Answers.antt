@@ -1,4 +1,4 @@
-use Rattle.std.proofs.Common.{◌≡◌, sym, subst, rules, arith}
+use Rattle.std.proofs.Common.{◌≡◌, length, sym, subst, rules, arith}
 use Rattle.sdh_terms.specs.declared.Rate.TheVariants.{Four}
 use Rattle.sdh_plant.specs.Fibres.{IsPrepared}
 use Rattle.sdh_plant.specs.Calls.{prepared}
@@ -8,9 +8,12 @@ use Rattle.sdh_sncp.proofs.tests.laid.Goals as goal
 pub returns-clause-prepared : goal.returns-clause-prepared
 returns-clause-prepared g c =
     let n = c.len-nodes.result in
-    let ring = c.in_ok-try_new.field-0 in
+    let ring = c.in_ok-ring.ring in
     let f = g.P.Plant.fibres c.args.plant.now in
-    let laid : g.P.Plant.fibres c.prepare.new.self ≡ prepared Four n f = search rules in
-    subst (λ r. IsPrepared r _ (g.P.Plant.fibres c.prepare.new.self)) (search rules)
-    (subst (λ k. IsPrepared Four k (g.P.Plant.fibres c.prepare.new.self)) (search rules)
+    let now = g.P.Plant.fibres c.prepare.new.self in
+    let laid : now ≡ prepared Four n f = search rules in
+    let rate : Four ≡ ring.settings.rate = search rules in
+    let size : n ≡ length ring.ids = search rules in
+    subst (λ r. IsPrepared r (length ring.ids) now) rate
+    (subst (λ k. IsPrepared Four k now) size
     (subst (IsPrepared Four n) (sym laid) (stay_prepared.prepared Four n f (omega (arith, c.len-nodes.ensures.len, c.len-nodes.ensures.enough)) (omega (arith, c.len-nodes.ensures.len, c.len-nodes.ensures.few)))))
