@@ -17,22 +17,7 @@ use Rattle.sdh_sncp.specs.Node.{PathNode, inlet_on, sending_on, unchanged, cross
 use Rattle.sdh_sncp.specs.Ring.{nowhere, node_at, World, node_after, round, is_calm}
 use Rattle.sdh_sncp.specs.Laws.{IsWhole}
 use Rattle.sdh_sncp.proofs.Nodes.{informed, informed_on, informed_out, nodes_after, length-after}
-
-readings_same : (xs ys : List Reading) → same_readings xs ys ≡ true → xs ≡ ys
-readings_same [] [] e = refl
-readings_same [] (b ∷ ys) e = cc
-readings_same (a ∷ xs) [] e = cc
-readings_same (a ∷ xs) (b ∷ ys) e = let both = and_parts (same_reading a b) (same_readings xs ys) e in ap (λ r. r ∷ xs) (one.same_readings a b both.0) ∙ ap (λ rs. b ∷ rs) (readings_same xs ys both.1)
-
-generators_same : (xs ys : List (Option ℕ)) → same_generators xs ys ≡ true → xs ≡ ys
-generators_same [] [] e = refl
-generators_same [] (b ∷ ys) e = cc
-generators_same (a ∷ xs) [] e = cc
-generators_same (a ∷ xs) (b ∷ ys) e = let both = and_parts (same_sending a b) (same_generators xs ys) e in ap (λ r. r ∷ xs) (one.same_states a b both.0) ∙ ap (λ rs. b ∷ rs) (generators_same xs ys both.1)
-
-generators_itself : (gs : List (Option ℕ)) → same_generators gs gs ≡ true
-generators_itself [] = refl
-generators_itself (g ∷ gs) = rw (sent.state_itself g) (generators_itself gs)
+use Rattle.sdh_terminal.proofs.Same.{readings_same, generators_same, generators_itself}
 
 -- interpreters and generators of both sides are the same
 pub record AreSame (a b : PathNode) : Type 0 where

@@ -36,14 +36,14 @@ use Rattle.sdh_sncp.specs.Slots.{use_of, use_by}
 use Rattle.sdh_sncp.specs.Ring.{node_at, World, round, run, course, is_calm, EndsWindow, Unsettles}
 use Rattle.sdh_sncp.specs.Fixed.{AreAlone}
 use Rattle.sdh_sncp.specs.Laws.{IsWhole, HasCircuits, cut_in, RoundsGetCalm, StepsAnswer, StepsDeliver, DeliversWhatIsDue}
-use Rattle.sdh_sncp.proofs.Found.{port_id}
+use Rattle.sdh_terminal.proofs.Found.{port_id}
 use Rattle.sdh_sncp.proofs.Rounds.{neighbour_inside, whole_run, IsLeft, left_run}
 use Rattle.sdh_sncp.proofs.Calm.{AreSame, calm_where_same}
 use Rattle.sdh_sncp.proofs.Spans.{sent_at, came_at, generator_step, interpreter_step}
 use Rattle.sdh_sncp.proofs.Uses.{use_is, use_none, use_passed, use_ended, sends_passed, sends_ended, sends_none, port_sends}
 use Rattle.sdh_sncp.proofs.Ways.{other_side}
 use Rattle.sdh_terminal.specs.Tributaries.{added_by}
-use Rattle.sdh_sncp.specs.Due.{sent_in}
+use Rattle.sdh_sncp.specs.Due.{sends_in}
 use Rattle.sdh_sncp.proofs.Owed.{offset_small, quiet_delivers}
 
 -- ---- one AU-4 in many rounds
@@ -180,7 +180,7 @@ module _ (w : World) (whole : IsWhole w) (form : HasCircuits w.ring) where
         sends j = sends_ended (run j w) (whole_run w j whole) ((end_of c e).0) m (there j) low (let x = rate_there w whole j in omega arith) d (port_id index e)
             (use_is (run j w).ring.circuits.circuits (same_alone j) ((end_of c e).0) index c (same_circuits j index c get) ∙ use_ended index c e ring.two_ends)
 
-        brings : (j : ℕ) → Brings (added_by (node_at (run j w).ring.nodes ((end_of c e).0)).ports (port_id index e)) (sent_in (customer_at c e) (run j w).ring.rounds)
+        brings : (j : ℕ) → Brings (added_by (node_at (run j w).ring.nodes ((end_of c e).0)).ports (port_id index e)) (sends_in (customer_at c e) (run j w).ring.rounds)
         brings j = port_sends (run j w) (whole_run w j whole) index c e (same_circuits j index c get) (there j)
 
     -- s spans from the node where the circuit starts

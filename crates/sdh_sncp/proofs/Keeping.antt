@@ -18,8 +18,9 @@ use Rattle.sdh_terminal.specs.Tributaries.{Tributary, port_of, HasPort, outlet_o
 use Rattle.sdh_rounds.specs.Rounds as any_round
 use Rattle.sdh_sncp.specs.Node.{PathNode, new_node, told, crossing, after_crossing, with_calm, node_round}
 use Rattle.sdh_sncp.specs.Ring.{HeldPath, new_nodes, with_arrivals, all_with_arrivals, node_after, outlet_at}
-use Rattle.sdh_sncp.specs.Fixed.{FixedPort, fixed_port, Fixed, fixed, HaveRun}
-use Rattle.sdh_sncp.proofs.Found.{names, fixed_found}
+use Rattle.sdh_terminal.specs.Fixed.{FixedPort, fixed_port}
+use Rattle.sdh_sncp.specs.Fixed.{Fixed, fixed, HaveRun}
+use Rattle.sdh_terminal.proofs.Found.{names, fixed_found}
 use Rattle.sdh_sncp.proofs.Nodes.{fixed_ports_after, rounds_after}
 use Rattle.sdh_sncp.proofs.New.{length-new, new_at}
 

@@ -1,4 +1,3 @@
-pub mod Found
 pub mod Nodes
 pub mod Rounds
 pub mod New

@@ -23,7 +23,7 @@ use Rattle.sdh_spans.specs.Sides.{IsInletAt, IsSenderAt}
 use Rattle.sdh_sncp.specs.Node.{PathNode, new_node, inlet_on, sending_on}
 use Rattle.sdh_sncp.specs.Ring.{HeldPath, new_nodes, new_ring, nowhere, node_at, AtEach, World, world}
 use Rattle.sdh_sncp.specs.Laws.{HasPlace, IsUnslipped, HasRun, IsBetween, IsPlaced, IsPaired, IsWhole, NewWorldsAreWhole, StayWhole}
-use Rattle.sdh_sncp.proofs.Found.{new_ports}
+use Rattle.sdh_terminal.proofs.Found.{new_ports}
 use Rattle.sdh_sncp.proofs.Rounds.{whole_round, whole_run}
 
 -- ---- a new node

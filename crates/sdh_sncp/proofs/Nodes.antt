@@ -29,9 +29,9 @@ use Rattle.sdh_spans.proofs.Sends.{sides_send_so}
 use Rattle.sdh_sncp.specs.Node.{PathNode, PathCross, lines_of, input_at, crossing, ports_after, dropped_to, after_crossing, with_calm, frames_of, node_round, inlet_on, sending_on}
 use Rattle.sdh_sncp.specs.Stations.{path_node}
 use Rattle.sdh_sncp.specs.Ring.{nowhere, node_at, AtEach, World, with_arrivals, all_with_arrivals, node_after, sent_on, arrivals_of, nodes_with, round_with, round}
-use Rattle.sdh_sncp.specs.Fixed.{fixed_port}
+use Rattle.sdh_terminal.specs.Fixed.{fixed_port}
 use Rattle.sdh_sncp.specs.Laws.{HasPlace, IsUnslipped, HasRun, IsBetween, IsPlaced}
-use Rattle.sdh_sncp.proofs.Found.{ports_mapped}
+use Rattle.sdh_terminal.proofs.Found.{ports_mapped}
 
 -- ---- lists
 

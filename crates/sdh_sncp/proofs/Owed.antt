@@ -21,7 +21,7 @@ use Rattle.sdh_payload.specs.Outlet.{Outlet, silent, delivering}
 use Rattle.sdh_pointer.specs.declared.reading.Action.TheVariants as action
 use Rattle.sdh_pointer.specs.Laws.{is_ais_action}
 use Rattle.sdh_ringmap.specs.Steps.{going}
-use Rattle.sdh_restoration.specs.Due.{other_end}
+use Rattle.sdh_circuits.specs.Ends.{other_end}
 use Rattle.sdh_terminal.specs.Passing.{Input, no_input}
 use Rattle.sdh_terminal.specs.Lines.{received, dropped_by}
 use Rattle.sdh_terminal.specs.Outlets.{delivered_by, delivered_from}
@@ -32,9 +32,10 @@ use Rattle.sdh_spans.specs.Brought.{Brings, HasValue}
 use Rattle.sdh_spans.proofs.Ports.{ports_deliver}
 use Rattle.sdh_sncp.specs.Node.{PathNode, PathCross, crossing, drops, dropped_to, lines_of, ports_after, after_crossing, with_calm, node_round, comes}
 use Rattle.sdh_sncp.specs.Ring.{HeldPath, nowhere, node_at, World, outlet_at, node_after, round, run, course, is_calm, EndsWindow}
-use Rattle.sdh_sncp.specs.Due.{way_clear, main_side, main_spans, spare_spans, sent_in, due_path}
+use Rattle.sdh_sncp.specs.Due.{way_clear, main_spans, spare_spans, sends_in, due_path}
+use Rattle.sdh_circuits.specs.Ends.{inward}
 use Rattle.sdh_sncp.specs.Laws.{IsWhole, HasCircuits, cut_in, DeliversWhatIsDue, QuietRingsDeliver}
-use Rattle.sdh_sncp.proofs.Found.{port_id, IsPortOf, port-found, found_one, twice}
+use Rattle.sdh_terminal.proofs.Found.{port_id, IsPortOf, port-found, found_one, twice}
 use Rattle.sdh_sncp.proofs.Nodes.{informed, nodes_after, length-after}
 use Rattle.sdh_sncp.proofs.Rounds.{whole_round, whole_run, left_run}
 use Rattle.sdh_sncp.proofs.Spans.{crossing_at, came_at}
@@ -47,20 +48,20 @@ abbrev chosen : Bool → Bool → Outlet → Outlet → Outlet
 chosen main spare a b = if main then a else if spare then b else silent
 
 module _ (x : PathCross) (d : Side) (m : ℕ) (s : Customer) (t u : ℕ) (small : s.offset ≤ 782) where
-  comes_if : (b : Bool) (e : Side) (k : ℕ) → Brings (received (lines_of x) e m) (either b (sent_in s k)) → comes (received (lines_of x) e m) ≡ b
+  comes_if : (b : Bool) (e : Side) (k : ℕ) → Brings (received (lines_of x) e m) (either b (sends_in s k)) → comes (received (lines_of x) e m) ≡ b
   comes_if true e k is = ap (λ a. not (is_ais_action a)) is.0
   comes_if false e k is = ap (λ a. not (is_ais_action a)) is
 
-  pub drops_chosen : (a b : Bool) → Brings (received (lines_of x) d m) (either a (sent_in s t)) → Brings (received (lines_of x) (opposite d) m) (either b (sent_in s u))
-      → delivered_from (dropped_by (lines_of x) (drops x d m)) ≡ chosen a b (sent_in s t) (sent_in s u)
+  pub drops_chosen : (a b : Bool) → Brings (received (lines_of x) d m) (either a (sends_in s t)) → Brings (received (lines_of x) (opposite d) m) (either b (sends_in s u))
+      → delivered_from (dropped_by (lines_of x) (drops x d m)) ≡ chosen a b (sends_in s t) (sends_in s u)
   unfolding drops delivered_from
   drops_chosen true b main spare =
       let first : comes (received (lines_of x) d m) ≡ true = comes_if true d t main in
-      rw first (ports_deliver (received (lines_of x) d m) (sent_in s t) small main)
+      rw first (ports_deliver (received (lines_of x) d m) (sends_in s t) small main)
   drops_chosen false true main spare =
       let first : comes (received (lines_of x) d m) ≡ false = comes_if false d t main in
       let second : comes (received (lines_of x) (opposite d) m) ≡ true = comes_if true (opposite d) u spare in
-      rw (first, second) (ports_deliver (received (lines_of x) (opposite d) m) (sent_in s u) small spare)
+      rw (first, second) (ports_deliver (received (lines_of x) (opposite d) m) (sends_in s u) small spare)
   drops_chosen false false main spare =
       let first : comes (received (lines_of x) d m) ≡ false = comes_if false d t main in
       let second : comes (received (lines_of x) (opposite d) m) ≡ false = comes_if false (opposite d) u spare in
@@ -94,7 +95,7 @@ outlet_there r index c e get lt =
 
 -- in the round that begins with v
 outlet_after : (v : World) (whole : IsWhole v) (index : ℕ) (c : Provisioned) (e : End) → slice_get v.ring.circuits.circuits index ≡ Some c → (end_of c e).0 < length v.ring.nodes
-    → outlet_at (round v).ring (port_id index e) ≡ delivered_from (dropped_by (lines_of (crossing_at v ((end_of c e).0))) (drops (crossing_at v ((end_of c e).0)) (main_side e) c.slot.0))
+    → outlet_at (round v).ring (port_id index e) ≡ delivered_from (dropped_by (lines_of (crossing_at v ((end_of c e).0))) (drops (crossing_at v ((end_of c e).0)) (inward e) c.slot.0))
 unfolding any_round.round any_run.run
 outlet_after v whole index c e get h =
     let p = (end_of c e).0 in
@@ -164,18 +165,18 @@ module _ (w : World) (whole : IsWhole w) (form : HasCircuits w.ring) (k : ℕ) (
 
   -- what comes in along a way
   along : (d : Side) (s : ℕ) → 1 ≤ s → s < size → going size d ((end_of c e).0) s ≡ (end_of c (other_end e)).0
-      → Brings (came_at v ((end_of c e).0) d c.slot.0) (either (way_clear size (cut_in w) ((end_of c e).0) d s) (sent_in (customer_at c (other_end e)) (v.ring.rounds - s)))
+      → Brings (came_at v ((end_of c e).0) d c.slot.0) (either (way_clear size (cut_in w) ((end_of c e).0) d s) (sends_in (customer_at c (other_end e)) (v.ring.rounds - s)))
   along d s more few leads =
       comes_along w whole form.alone index c get in_slots.from_1 high in_ring.two_ends inside e small d last s ((end_of c e).0) size more (let l = long in let o = one in omega arith) (inside e) leads
       (ap (going size d ((end_of c e).0)) (let z : size ≡ 0 + size = omega arith in z) ∙ going-round size (let z = some in omega arith) d ((end_of c e).0) 0 ∙ going-none size (let z = some in omega arith) d ((end_of c e).0) (inside e)) few (omega arith) (λ j low late. calm_at s j few low late)
 
-  main_comes : Brings (came_at v ((end_of c e).0) (main_side e) c.slot.0) (either (way_clear size (cut_in w) ((end_of c e).0) (main_side e) (main_spans size c)) (sent_in (customer_at c (other_end e)) (v.ring.rounds - main_spans size c)))
-  main_comes = along (main_side e) (main_spans size c) arcs.1 (let a = arcs.0 in let b = arcs.2 in omega arith) (main_leads size (let z = some in omega arith) c in_ring.from_inside in_ring.to_inside e)
+  main_comes : Brings (came_at v ((end_of c e).0) (inward e) c.slot.0) (either (way_clear size (cut_in w) ((end_of c e).0) (inward e) (main_spans size c)) (sends_in (customer_at c (other_end e)) (v.ring.rounds - main_spans size c)))
+  main_comes = along (inward e) (main_spans size c) arcs.1 (let a = arcs.0 in let b = arcs.2 in omega arith) (main_leads size (let z = some in omega arith) c in_ring.from_inside in_ring.to_inside e)
 
-  spare_comes : Brings (came_at v ((end_of c e).0) (opposite (main_side e)) c.slot.0) (either (way_clear size (cut_in w) ((end_of c e).0) (opposite (main_side e)) (spare_spans size c)) (sent_in (customer_at c (other_end e)) (v.ring.rounds - spare_spans size c)))
-  spare_comes = along (opposite (main_side e)) (spare_spans size c) arcs.2 (let a = arcs.0 in let b = arcs.1 in omega arith) (spare_leads size (let z = some in omega arith) c in_ring.from_inside in_ring.to_inside in_ring.two_ends e)
+  spare_comes : Brings (came_at v ((end_of c e).0) (opposite (inward e)) c.slot.0) (either (way_clear size (cut_in w) ((end_of c e).0) (opposite (inward e)) (spare_spans size c)) (sends_in (customer_at c (other_end e)) (v.ring.rounds - spare_spans size c)))
+  spare_comes = along (opposite (inward e)) (spare_spans size c) arcs.2 (let a = arcs.0 in let b = arcs.1 in omega arith) (spare_leads size (let z = some in omega arith) c in_ring.from_inside in_ring.to_inside in_ring.two_ends e)
 
-  due_is : (cut : ℕ → Side → Bool) → due_path size cut c e v.ring.rounds ≡ chosen (way_clear size cut ((end_of c e).0) (main_side e) (main_spans size c)) (way_clear size cut ((end_of c e).0) (opposite (main_side e)) (spare_spans size c)) (sent_in (customer_at c (other_end e)) (v.ring.rounds - main_spans size c)) (sent_in (customer_at c (other_end e)) (v.ring.rounds - spare_spans size c))
+  due_is : (cut : ℕ → Side → Bool) → due_path size cut c e v.ring.rounds ≡ chosen (way_clear size cut ((end_of c e).0) (inward e) (main_spans size c)) (way_clear size cut ((end_of c e).0) (opposite (inward e)) (spare_spans size c)) (sends_in (customer_at c (other_end e)) (v.ring.rounds - main_spans size c)) (sends_in (customer_at c (other_end e)) (v.ring.rounds - spare_spans size c))
   unfolding due_path
   due_is cut = refl
 
@@ -185,8 +186,8 @@ module _ (w : World) (whole : IsWhole w) (form : HasCircuits w.ring) (k : ℕ) (
   delivers : outlet_at (round v).ring (port_id index e) ≡ due_path size (cut_in w) c e v.ring.rounds
   delivers =
       outlet_after v (whole_run w last whole) index c e get_there (let a = (left_run last w).nodes in let b = whole.placed.size in let i = inside e in omega arith)
-      ∙ drops_chosen (crossing_at v ((end_of c e).0)) (main_side e) c.slot.0 (customer_at c (other_end e)) (v.ring.rounds - main_spans size c) (v.ring.rounds - spare_spans size c) small
-      (way_clear size (cut_in w) ((end_of c e).0) (main_side e) (main_spans size c)) (way_clear size (cut_in w) ((end_of c e).0) (opposite (main_side e)) (spare_spans size c)) main_comes spare_comes
+      ∙ drops_chosen (crossing_at v ((end_of c e).0)) (inward e) c.slot.0 (customer_at c (other_end e)) (v.ring.rounds - main_spans size c) (v.ring.rounds - spare_spans size c) small
+      (way_clear size (cut_in w) ((end_of c e).0) (inward e) (main_spans size c)) (way_clear size (cut_in w) ((end_of c e).0) (opposite (inward e)) (spare_spans size c)) main_comes spare_comes
       ∙ sym (due_is (cut_in w))
 
   pub delivers_due : outlet_at (run k w).ring (port_id index e) ≡ due_path (length (run k w).ring.ids) (cut_in (run k w)) c e ((run k w).ring.rounds - 1)

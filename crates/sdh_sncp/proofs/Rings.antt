@@ -11,7 +11,7 @@ use Rattle.sdh_sncp.specs.Stations.{path_node, MayRun}
 use Rattle.sdh_sncp.specs.Ring.{HeldPath, node_after}
 use Rattle.sdh_sncp.specs.Fixed.{fixed, HaveRun, IsRing}
 use Rattle.sdh_sncp.specs.Laws.{HasCircuits}
-use Rattle.sdh_sncp.proofs.Found.{circuits_are}
+use Rattle.sdh_circuits.proofs.Rings.{circuits_are}
 use Rattle.sdh_sncp.proofs.Keeping.{fixed_told, fixed_next, all_rates, length-fixed, all_run_heard, all_run_next}
 
 -- ---- a ring and its nodes

@@ -32,7 +32,7 @@ use Rattle.sdh_sncp.specs.Node.{PathNode, fed_for, leads, lines_of, crossing}
 use Rattle.sdh_sncp.specs.Fixed.{AreAlone}
 use Rattle.sdh_sncp.specs.Ring.{node_at, World}
 use Rattle.sdh_sncp.specs.Laws.{IsUnslipped, IsWhole}
-use Rattle.sdh_sncp.proofs.Found.{found_has, port_id, IsPortOf, port-found}
+use Rattle.sdh_terminal.proofs.Found.{found_has, port_id, IsPortOf, port-found}
 use Rattle.sdh_sncp.proofs.Nodes.{informed, unslipped_plain}
 use Rattle.sdh_sncp.proofs.Spans.{crossing_at, sent_at, came_at}
 
@@ -106,7 +106,7 @@ module _ (w : World) (whole : IsWhole w) (q m : ℕ) (h : q < length w.ring.node
 
 -- ---- what a port sends
 
-sends_it : (t : Tributary) (sender : Customer) (rounds : ℕ) → t.feed.port ≡ sender → IsUnslipped rounds t.feed → Brings (input_by (sent_in t.feed)) (due.sent_in sender rounds)
+sends_it : (t : Tributary) (sender : Customer) (rounds : ℕ) → t.feed.port ≡ sender → IsUnslipped rounds t.feed → Brings (input_by (sent_in t.feed)) (due.sends_in sender rounds)
 sends_it t sender rounds from is =
     let value : t.feed.clock.value ≡ sender.offset = is.value ∙ ap (λ (s : Customer). s.offset) from in
     let bytes : stream_from t.feed.port t.feed.clock.sent 2349 ≡ stream_from sender (2349 * rounds) 2349 = ap (λ p. stream_from t.feed.port p 2349) is.sent ∙ ap (λ s. stream_from s (2349 * rounds) 2349) from in
@@ -117,8 +117,8 @@ module _ (w : World) (whole : IsWhole w) (index : ℕ) (c : Provisioned) (e : En
   found = port-found w.ring.circuits.circuits (node_at w.ring.nodes ((end_of c e).0)).ports index c e get (whole.placed.places ((end_of c e).0) h).ports
 
   -- the port sends in the round what its customer sends in it
-  pub port_sends : Brings (added_by (node_at w.ring.nodes ((end_of c e).0)).ports (port_id index e)) (due.sent_in (customer_at c e) w.ring.rounds)
+  pub port_sends : Brings (added_by (node_at w.ring.nodes ((end_of c e).0)).ports (port_id index e)) (due.sends_in (customer_at c e) w.ring.rounds)
   port_sends =
       let t = found.it in
       let clocks = (found_has (λ (t : Tributary). IsUnslipped w.ring.rounds t.feed) (port_id index e) (node_at w.ring.nodes ((end_of c e).0)).ports t (whole.placed.between ((end_of c e).0) h).run.clocks found.is).0 in
-      subst (λ i. Brings i (due.sent_in (customer_at c e) w.ring.rounds)) (sym (ap (λ o. option_map_or (λ (t : Tributary). input_by (sent_in t.feed)) o no_input) found.is)) (sends_it t (customer_at c e) w.ring.rounds found.sender clocks)
+      subst (λ i. Brings i (due.sends_in (customer_at c e) w.ring.rounds)) (sym (ap (λ o. option_map_or (λ (t : Tributary). input_by (sent_in t.feed)) o no_input) found.is)) (sends_it t (customer_at c e) w.ring.rounds found.sender clocks)

@@ -18,17 +18,18 @@ use Rattle.sdh_payload.specs.Outlet.{Outlet, silent}
 use Rattle.sdh_terms.specs.declared.Condition.TheVariants.{Clear}
 use Rattle.sdh_terms.specs.Fibres.{fibre_to, is_cut}
 use Rattle.sdh_plant.specs.Arrivals.{condition_of}
-use Rattle.sdh_restoration.specs.Due.{other_end}
+use Rattle.sdh_circuits.specs.Ends.{other_end}
 use Rattle.sdh_terminal.specs.Passing.{Input}
 use Rattle.sdh_rounds.specs.Runs as any_run
 use Rattle.sdh_spans.specs.Brought.{Brings, HasValue}
-use Rattle.sdh_sncp.specs.Due.{way_clear, main_side, main_spans, spare_spans, sent_in}
+use Rattle.sdh_sncp.specs.Due.{way_clear, main_spans, spare_spans, sends_in}
+use Rattle.sdh_circuits.specs.Ends.{inward}
 use Rattle.sdh_sncp.specs.Slots.{use_by, use_of}
 use Rattle.sdh_sncp.specs.declared.slots.Use.TheVariants.{Passed, Ended}
 use Rattle.sdh_sncp.specs.Fixed.{AreAlone}
 use Rattle.sdh_sncp.specs.Ring.{World, HeldPath, round, run, is_calm}
 use Rattle.sdh_sncp.specs.Laws.{IsWhole, cut_in}
-use Rattle.sdh_sncp.proofs.Found.{port_id}
+use Rattle.sdh_terminal.proofs.Found.{port_id}
 use Rattle.sdh_sncp.proofs.Rounds.{whole_run, IsLeft, left_run}
 use Rattle.sdh_sncp.proofs.Spans.{sent_at, came_at, span_brings, span_silent}
 use Rattle.sdh_sncp.proofs.Uses.{use_is, use_passed, use_ended, sends_passed, sends_ended, port_sends}
@@ -58,11 +59,11 @@ westwards n some p q hp hq =
     ap (λ b. going n West b (eastwards n q p)) (sym (going-to n some q p hq hp)) ∙ mirror n some East q (eastwards n q p) 0 (eastwards n q p) (omega arith) ∙ going-none n some East q hq
 
 -- the main way leads to the other end, and so does the spare one
-pub main_leads : (n : ℕ) → 0 < n → (c : Provisioned) → c.from.0 < n → c.to.0 < n → (e : End) → going n (main_side e) ((end_of c e).0) (main_spans n c) ≡ (end_of c (other_end e)).0
+pub main_leads : (n : ℕ) → 0 < n → (c : Provisioned) → c.from.0 < n → c.to.0 < n → (e : End) → going n (inward e) ((end_of c e).0) (main_spans n c) ≡ (end_of c (other_end e)).0
 main_leads n some c hf ht A = going-to n some c.from.0 c.to.0 hf ht
 main_leads n some c hf ht B = westwards n some c.to.0 c.from.0 ht hf
 
-pub spare_leads : (n : ℕ) → 0 < n → (c : Provisioned) → c.from.0 < n → c.to.0 < n → c.from.0 ≢ c.to.0 → (e : End) → going n (opposite (main_side e)) ((end_of c e).0) (spare_spans n c) ≡ (end_of c (other_end e)).0
+pub spare_leads : (n : ℕ) → 0 < n → (c : Provisioned) → c.from.0 < n → c.to.0 < n → c.from.0 ≢ c.to.0 → (e : End) → going n (opposite (inward e)) ((end_of c e).0) (spare_spans n c) ≡ (end_of c (other_end e)).0
 spare_leads n some c hf ht apart A =
     let both = both_arcs n c.from.0 c.to.0 hf ht apart in
     let arc = both.0 in
@@ -80,7 +81,7 @@ either b o = if b then o else silent
 abbrev pub IsSmallCustomer : Customer → Type 0
 IsSmallCustomer s = s.offset ≤ 782
 
-either_value : (b : Bool) (s : Customer) (t : ℕ) → IsSmallCustomer s → HasValue (either b (sent_in s t))
+either_value : (b : Bool) (s : Customer) (t : ℕ) → IsSmallCustomer s → HasValue (either b (sends_in s t))
 either_value true s t small = small
 either_value false s t small = refl
 
@@ -139,9 +140,9 @@ module _ (w : World) (whole : IsWhole w) (alone : AreAlone w.ring.circuits.circu
     passes : (q : ℕ) → q < size → q ≢ c.from.0 → q ≢ c.to.0 → sent_at u q (opposite d) m ≡ came_at u q d m
     passes q h a b = sends_passed u there q m (let e = nodes_there in omega arith) low high_there d (use_is u.ring.circuits.circuits same_alone q index c same_circuits ∙ use_passed q index c a b)
 
-    far_sends : Brings (sent_at u far (opposite d) m) (sent_in sender u.ring.rounds)
+    far_sends : Brings (sent_at u far (opposite d) m) (sends_in sender u.ring.rounds)
     far_sends =
-        subst (λ x. Brings x (sent_in sender u.ring.rounds))
+        subst (λ x. Brings x (sends_in sender u.ring.rounds))
         (sym (sends_ended u there far m (ends_there (other_end e)) low high_there (opposite d) (port_id index (other_end e)) (use_is u.ring.circuits.circuits same_alone far index c same_circuits ∙ use_ended index c (other_end e) apart)))
         (port_sends u there index c (other_end e) same_circuits (ends_there (other_end e)))
 
@@ -184,7 +185,7 @@ module _ (w : World) (whole : IsWhole w) (alone : AreAlone w.ring.circuits.circu
   -- what comes after i rounds, s spans from the other end, where the port's own node is x spans ahead
   abbrev Comes : ℕ → Type 0
   Comes i = (s p x : ℕ) → 1 ≤ s → s ≤ i → p < size → going size d p s ≡ far → going size d p x ≡ near → s < x → x ≤ size → Calm s i
-      → Brings (came_at (run i w) p d m) (either (way_clear size cut p d s) (sent_in sender ((run i w).ring.rounds - s)))
+      → Brings (came_at (run i w) p d m) (either (way_clear size cut p d s) (sends_in sender ((run i w).ring.rounds - s)))
 
   -- what the node s spans from the other end sends on
   module _ (i p x s : ℕ) (earlier : Comes i) (h : p < size) (leads : going size d p (suc s) ≡ far) (ends : going size d p x ≡ near) (less : suc s < x) (most : x ≤ size) (few : s ≤ i) (calm : Calm (suc s) (suc i)) where
@@ -197,32 +198,32 @@ module _ (w : World) (whole : IsWhole w) (alone : AreAlone w.ring.circuits.circu
     ends_on : going size d q (x - 1) ≡ near
     ends_on = going-first size some d p (x - 1) ∙ ap (going size d p) (let e : suc (x - 1) ≡ x = omega arith in e) ∙ ends
 
-    last_sends : s ≡ 0 → Brings (sent_at (run i w) q (opposite d) m) (either (way_clear size cut q d s) (sent_in sender ((run i w).ring.rounds - s)))
+    last_sends : s ≡ 0 → Brings (sent_at (run i w) q (opposite d) m) (either (way_clear size cut q d s) (sends_in sender ((run i w).ring.rounds - s)))
     last_sends none =
         let here : q ≡ far = sym (going-none size some d q q_inside) ∙ going-first size some d p 0 ∙ ap (λ k. going size d p (suc k)) (sym none) ∙ leads in
-        subst (λ k. Brings (sent_at (run i w) q (opposite d) m) (either (way_clear size cut q d k) (sent_in sender ((run i w).ring.rounds - k)))) (sym none)
-        (subst (λ k. Brings (sent_at (run i w) q (opposite d) m) (sent_in sender k)) (let e : (run i w).ring.rounds ≡ (run i w).ring.rounds - 0 = omega arith in e)
-        (subst (λ y. Brings (sent_at (run i w) y (opposite d) m) (sent_in sender ((run i w).ring.rounds))) (sym here) (far_sends i)))
+        subst (λ k. Brings (sent_at (run i w) q (opposite d) m) (either (way_clear size cut q d k) (sends_in sender ((run i w).ring.rounds - k)))) (sym none)
+        (subst (λ k. Brings (sent_at (run i w) q (opposite d) m) (sends_in sender k)) (let e : (run i w).ring.rounds ≡ (run i w).ring.rounds - 0 = omega arith in e)
+        (subst (λ y. Brings (sent_at (run i w) y (opposite d) m) (sends_in sender ((run i w).ring.rounds))) (sym here) (far_sends i)))
 
-    passed_on : 1 ≤ s → Brings (sent_at (run i w) q (opposite d) m) (either (way_clear size cut q d s) (sent_in sender ((run i w).ring.rounds - s)))
+    passed_on : 1 ≤ s → Brings (sent_at (run i w) q (opposite d) m) (either (way_clear size cut q d s) (sends_in sender ((run i w).ring.rounds - s)))
     passed_on more =
         let to : going size d q s ≡ far = going-first size some d p s ∙ leads in
         let not_far : q ≢ far = λ z. going-apart size some d q s q_inside (omega arith) (omega arith) (to ∙ sym z) in
         let not_near : q ≢ near = λ z. going-apart size some d q (x - 1) q_inside (omega arith) (omega arith) (ends_on ∙ sym z) in
         let is = neither q not_far not_near in
-        subst (λ y. Brings y (either (way_clear size cut q d s) (sent_in sender ((run i w).ring.rounds - s)))) (sym (passes i q q_inside is.0 is.1))
+        subst (λ y. Brings y (either (way_clear size cut q d s) (sends_in sender ((run i w).ring.rounds - s)))) (sym (passes i q q_inside is.0 is.1))
         (earlier s q (x - 1) more few q_inside to ends_on (omega arith) (omega arith) (λ j low late. calm j (omega arith) (omega arith)))
 
-    neighbour_sends : Brings (sent_at (run i w) q (opposite d) m) (either (way_clear size cut q d s) (sent_in sender ((run i w).ring.rounds - s)))
+    neighbour_sends : Brings (sent_at (run i w) q (opposite d) m) (either (way_clear size cut q d s) (sends_in sender ((run i w).ring.rounds - s)))
     neighbour_sends = elim (cases_lt 0 s) [ inl more ↦ passed_on more | inr none ↦ last_sends (omega arith) ]
 
-    comes_one : Brings (came_at (run (suc i) w) p d m) (either (way_clear size cut p d (suc s)) (sent_in sender ((run (suc i) w).ring.rounds - suc s)))
+    comes_one : Brings (came_at (run (suc i) w) p d m) (either (way_clear size cut p d (suc s)) (sends_in sender ((run (suc i) w).ring.rounds - suc s)))
     comes_one = elim (cases_Bool (cut p d)) [
-      | inl is ↦ subst (λ b. Brings (came_at (run (suc i) w) p d m) (either (if b then false else way_clear size cut q d s) (sent_in sender ((run (suc i) w).ring.rounds - suc s)))) (sym is)
+      | inl is ↦ subst (λ b. Brings (came_at (run (suc i) w) p d m) (either (if b then false else way_clear size cut q d s) (sends_in sender ((run (suc i) w).ring.rounds - suc s)))) (sym is)
           (behind_cut (suc i) p (omega arith) h (calm (suc (suc i)) (omega arith) (omega arith)) is)
-      | inr is ↦ subst (λ b. Brings (came_at (run (suc i) w) p d m) (either (if b then false else way_clear size cut q d s) (sent_in sender ((run (suc i) w).ring.rounds - suc s)))) (sym is)
-          (subst (λ k. Brings (came_at (run (suc i) w) p d m) (either (way_clear size cut q d s) (sent_in sender k))) time
-          (over_span i p (either (way_clear size cut q d s) (sent_in sender ((run i w).ring.rounds - s))) h (calm (suc i) (omega arith) (omega arith)) (calm (suc (suc i)) (omega arith) (omega arith)) is (either_value (way_clear size cut q d s) sender ((run i w).ring.rounds - s) small) neighbour_sends))
+      | inr is ↦ subst (λ b. Brings (came_at (run (suc i) w) p d m) (either (if b then false else way_clear size cut q d s) (sends_in sender ((run (suc i) w).ring.rounds - suc s)))) (sym is)
+          (subst (λ k. Brings (came_at (run (suc i) w) p d m) (either (way_clear size cut q d s) (sends_in sender k))) time
+          (over_span i p (either (way_clear size cut q d s) (sends_in sender ((run i w).ring.rounds - s))) h (calm (suc i) (omega arith) (omega arith)) (calm (suc (suc i)) (omega arith) (omega arith)) is (either_value (way_clear size cut q d s) sender ((run i w).ring.rounds - s) small) neighbour_sends))
     ]
       where
         time : (run i w).ring.rounds - s ≡ (run (suc i) w).ring.rounds - suc s

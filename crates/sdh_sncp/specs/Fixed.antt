@@ -9,21 +9,12 @@ use Rattle.sdh_circuits.specs.declared.PortId.{PortId}
 use Rattle.sdh_circuits.specs.Provisioned.{Provisioned}
 use Rattle.sdh_circuits.specs.Provisioning.{IsProvisioning}
 use Rattle.sdh_payload.specs.Customer.{Customer}
-use Rattle.sdh_squelch.specs.Kept.{KeepsRing}
+use Rattle.sdh_circuits.specs.Kept.{KeepsRing}
 use Rattle.sdh_terminal.specs.Tributaries.{Tributary}
 use Rattle.sdh_sncp.specs.declared.slots.Use.{Use}
 use Rattle.sdh_sncp.specs.Node.{PathNode}
 use Rattle.sdh_sncp.specs.Ring.{HeldPath, new_nodes}
-
--- a port of a circuit: its name, the side and slot of its circuit, and its customer
-pub record FixedPort : Type 0 where
-  pub port : PortId
-  pub side : Side
-  pub slot : Slot
-  pub customer : Customer
-
-abbrev pub fixed_port : Tributary → FixedPort
-fixed_port t = record { port = t.port; side = t.side; slot = t.slot; customer = t.feed.port }
+use Rattle.sdh_terminal.specs.Fixed.{FixedPort, fixed_port}
 
 -- what a node is, whatever it receives and sends
 pub record Fixed : Type 0 where

@@ -27,7 +27,8 @@ use Rattle.sdh_spans.specs.Sides.{IsInletAt, IsSenderAt}
 use Rattle.sdh_sncp.specs.Slots.{uses_at}
 use Rattle.sdh_sncp.specs.Node.{PathNode, inlet_on, sending_on}
 use Rattle.sdh_sncp.specs.Ring.{HeldPath, new_ring, outlet_at, AtEach, World, world, round, run, course, is_calm, EndsWindow, Settles, Unsettles}
-use Rattle.sdh_sncp.specs.Fixed.{fixed_port, AreAlone}
+use Rattle.sdh_terminal.specs.Fixed.{fixed_port}
+use Rattle.sdh_sncp.specs.Fixed.{AreAlone}
 use Rattle.sdh_sncp.specs.Due.{due_path}
 
 -- ---- each node is where it belongs

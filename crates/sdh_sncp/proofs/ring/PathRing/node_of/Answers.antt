@@ -5,7 +5,8 @@ use Rattle.sdh_sncp.specs.Ring.{HeldPath, outlet_at}
 use Rattle.sdh_sncp.specs.Node.{PathNode, new_node}
 use Rattle.sdh_sncp.proofs.Keeping.{node_is, has_fixed, new_has, outlet_is}
 use Rattle.sdh_sncp.proofs.Rings.{count_of}
-use Rattle.sdh_sncp.proofs.Found.{has_own, end_inside}
+use Rattle.sdh_circuits.proofs.Rings.{end_inside}
+use Rattle.sdh_terminal.proofs.Found.{has_own}
 use Rattle.sdh_sncp.proofs.ring.PathRing.node_of.Goals as goal
 use Rattle.sdh_circuits.specs.Provisioned.{end_of}
 use Rattle.sdh_ringmap.specs.Places.{position_of}

@@ -14,14 +14,11 @@ use Rattle.sdh_circuits.specs.declared.End.{End}
 use Rattle.sdh_circuits.specs.declared.End.TheVariants.{A, B}
 use Rattle.sdh_circuits.specs.declared.PortId.{PortId}
 use Rattle.sdh_circuits.specs.declared.Slot.{Slot}
+use Rattle.sdh_circuits.specs.Ends.{inward}
 use Rattle.sdh_circuits.specs.Provisioned.{Provisioned, customer_at, end_of, same_port}
-use Rattle.sdh_circuits.specs.Provisioning.{Provisioning, IsProvisioning, AreCircuits, IsInRing, IsInSlots, HasOffsets}
-use Rattle.sdh_circuits.specs.Naming.{is_name}
 use Rattle.sdh_payload.specs.Customer.{Customer}
-use Rattle.sdh_squelch.specs.Kept.{KeepsRing}
 use Rattle.sdh_terminal.specs.Tributaries.{Tributary, new_tributary, ends_at, ends_from, tributaries_at, is_port, port_of, HasPort}
-use Rattle.sdh_sncp.specs.Due.{main_side}
-use Rattle.sdh_sncp.specs.Fixed.{FixedPort, fixed_port}
+use Rattle.sdh_terminal.specs.Fixed.{FixedPort, fixed_port}
 
 -- ---- the port that is found
 
@@ -59,7 +56,7 @@ port_id i e = record { circuit = i; end = e }
 
 -- the port of end e of circuit number i before the first round
 abbrev port_new : ℕ → Provisioned → End → Tributary
-port_new i c e = new_tributary i e (main_side e) c.slot (customer_at c e)
+port_new i c e = new_tributary i e (inward e) c.slot (customer_at c e)
 
 -- ---- among the ports of circuits at a position
 
@@ -143,7 +140,7 @@ fixed_found id ts = find_through (names id) fixed_port ts
 pub record IsPortOf (c : Provisioned) (e : End) (found : Option Tributary) : Type 0 where
   pub it : Tributary
   pub is : found ≡ Some it
-  pub side : it.side ≡ main_side e
+  pub side : it.side ≡ inward e
   pub slot : it.slot ≡ c.slot
   pub sender : it.feed.port ≡ customer_at c e
 
@@ -236,36 +233,3 @@ own_from at k (suc i) n (x ∷ cs) c e h read same there =
 pub has_own : (cs : List Provisioned) (c : Provisioned) (id : PortId) → id.circuit < length cs → get_or cs id.circuit c ≡ c → HasPort (tributaries_at (position_of (end_of c id.end).0) cs) id
 unfolding tributaries_at port_of
 has_own cs c id h read = own_from (position_of (end_of c id.end).0) 0 id.circuit id.circuit cs c id.end h read (omega arith) refl
-
-end_within : (n : ℕ) (c : Provisioned) (e : End) → IsInRing n c → (end_of c e).0 < n
-end_within n c A h = h.from_inside
-end_within n c B h = h.to_inside
-
-empty_has_none : {P : Type 0} (cs : List Provisioned) (i : ℕ) → cs ≡ [] → i < length cs → P
-empty_has_none cs i none h = let len : length cs ≡ 0 = ap length none in absurd (omega arith)
-
--- and that is a position of the ring
-pub end_inside : (p : Provisioning) (ids : List ℕ) (i : ℕ) (c : Provisioned) (e : End) → IsProvisioning p → KeepsRing p ids → i < length p.circuits → get_or p.circuits i c ≡ c → (end_of c e).0 < length ids
-end_inside p ids i c e form (inl none) h read = empty_has_none p.circuits i none h
-end_inside p ids i c e form (inr kept) h read =
-    let size : option_map_or length p.ring 0 ≡ length ids = ap (λ r. option_map_or length r 0) kept in
-    subst (λ n. (end_of c e).0 < n) size (end_within (option_map_or length p.ring 0) c e (subst (IsInRing (option_map_or length p.ring 0)) read (form.circuits.in_ring i c h)))
-
--- ---- the circuits of a ring
-
-none_get : (i : ℕ) (c : Provisioned) → slice_get [] i ≡ Some c → ⊥
-none_get i c e = cc
-
-no_circuits : (n slots : ℕ) → AreCircuits n slots []
-no_circuits n slots = record {
-  in_ring = All-nil (IsInRing n);
-  in_slots = All-nil (IsInSlots slots);
-  offsets = All-nil HasOffsets;
-  named = All-nil (λ c. is_name c.name ≡ true);
-  named_apart = λ i j c d e f same. absurd (none_get i c e);
-  apart = λ i j s c d e f x y same. absurd (none_get i c e);
-}
-
-pub circuits_are : (p : Provisioning) (ids : List ℕ) → IsProvisioning p → KeepsRing p ids → AreCircuits (length ids) p.slots p.circuits
-circuits_are p ids form (inl none) = subst (λ cs. AreCircuits (length ids) p.slots cs) (sym none) (no_circuits (length ids) p.slots)
-circuits_are p ids form (inr ring) = subst (λ n. AreCircuits n p.slots p.circuits) (ap (λ r. option_map_or length r 0) ring) form.circuits
