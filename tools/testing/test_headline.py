@@ -7,6 +7,8 @@ from common import TOOLS
 
 ROOT = TOOLS.parent
 PAGE = ROOT / "docs" / "HEADLINE.md"
+STRANGE = {"sdh_frame", "sdh_parity", "sdh_overhead", "sdh_plant", "sdh_kbytes", "sdh_pointer", "sdh_nodestate"}
+STRANGE |= {"sdh_squelch", "sdh_bridge", "sdh_rounds", "sdh_terminal", "sdh_node", "sdh_world", "sdh_ring"}
 
 
 def quoted(page):
@@ -22,6 +24,17 @@ def stands_in(words, text):
     return " ".join(words) in " ".join(text.split())
 
 
+def below(crate, lines):
+    """A crate, and all crates that it stands on by the lines of crates.txt, one on the other."""
+    stands = {name.split()[0]: crates.split() for name, _, crates in (line.partition(":") for line in lines if line)}
+    found, left = set(), [crate]
+    while left:
+        crate = left.pop()
+        left += [other for other in stands.get(crate, []) if other not in found]
+        found.add(crate)
+    return found
+
+
 class Headline(unittest.TestCase):
     def test_definitions_are_those_of_the_source(self):
         found = list(quoted(PAGE.read_text()))
@@ -34,6 +47,12 @@ class Headline(unittest.TestCase):
     def test_another_word_is_told(self):
         file, words = next(quoted(PAGE.read_text()))
         self.assertFalse(stands_in([*words[:-1], "others"], (ROOT / file).read_text()))
+
+    def test_the_promise_stands_on_no_frame_word_or_node(self):
+        lines = [line for line in (ROOT / "crates.txt").read_text().split("\n") if not line.startswith("#")]
+        self.assertFalse(STRANGE & below("sdh_promise", lines))
+        self.assertTrue(STRANGE <= below("sdh_owed", lines) | {"sdh_ring"})
+        self.assertIn("sdh_restoration", below("sdh_promise", lines))
 
 
 if __name__ == "__main__":

@@ -1,5 +1,8 @@
-//! Rounds of whole rings over fibres in memory, which `bench/ring` measures. No other crate uses this one.
+//! Rounds of whole rings over fibres in memory, which `bench/ring` measures and `bench/strangers` looks into. No other crate uses this
+//! one.
 #![tactic(auto)]
+
+mod strangers;
 
 ghost use Rattle.std.specs.Prelude.{◌≡◌, ◌≤◌, ◌<◌, ◌+◌, ◌*◌, ◌/◌, ◌^◌, ◌⊎◌, ℕ, IfOk, OnOk, false, length};
 ghost use Rattle.sdh_terms.specs.Rates.{n_of};

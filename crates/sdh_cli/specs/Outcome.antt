@@ -98,42 +98,32 @@ OfBytes ask bytes f how text left = (HasNoPlan bytes how × Says how text f left
 -- fault or want of memory: they may stand in place of one
 abbrev pub IsOutcome : Option Ask → List ℕ → Fibres → Status → List ℕ → Fibres → Type 0
 IsOutcome None bytes f how text left = (how ≡ status.Usage) × Says how text f left
-IsOutcome (Some Run) bytes f how text left = OfBytes Run bytes f how text left
-IsOutcome (Some Check) bytes f how text left = OfBytes Check bytes f how text left
-IsOutcome (Some (Drop name end)) bytes f how text left = OfBytes (Drop name end) bytes f how text left
 IsOutcome (Some (Big number)) bytes f how text left = OfPlan (Big number) (big_planned number) f how text left
+IsOutcome (Some ask) bytes f how text left = OfBytes ask bytes f how text left
 
 -- what has to be known of a source: its bytes, or nothing where it isn't read
 abbrev pub told : Option Ask → Option (List ℕ) → Option (List ℕ)
 told None left = Some []
-told (Some Run) left = left
-told (Some Check) left = left
-told (Some (Drop name end)) left = left
 told (Some (Big number)) left = Some []
+told (Some ask) left = left
 
 -- the source isn't read
 abbrev pub LeavesSource : Option Ask → Type 0
 LeavesSource None = Unit {0}
-LeavesSource (Some Run) = ⊥
-LeavesSource (Some Check) = ⊥
-LeavesSource (Some (Drop name end)) = ⊥
 LeavesSource (Some (Big number)) = Unit {0}
+LeavesSource (Some ask) = ⊥
 
 -- no fibre is made
 abbrev pub LeavesPlant : Option Ask → Type 0
 LeavesPlant None = Unit {0}
-LeavesPlant (Some Run) = ⊥
 LeavesPlant (Some Check) = Unit {0}
-LeavesPlant (Some (Drop name end)) = ⊥
-LeavesPlant (Some (Big number)) = ⊥
+LeavesPlant (Some ask) = ⊥
 
 -- a source that is read was read to its end
 abbrev pub HasRead : Option Ask → Option (List ℕ) → Type 0
 HasRead None left = Unit {0}
-HasRead (Some Run) left = IsAtEnd left
-HasRead (Some Check) left = IsAtEnd left
-HasRead (Some (Drop name end)) left = IsAtEnd left
 HasRead (Some (Big number)) left = Unit {0}
+HasRead (Some ask) left = IsAtEnd left
 
 -- ---- what is written
 

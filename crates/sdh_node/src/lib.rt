@@ -12,6 +12,3 @@ mod station;
 pub use adm::Adm;
 pub use sdh_payload::{Delivered, Turn};
 pub use sdh_request::Settings;
-
-#[cfg(test)]
-mod tests;

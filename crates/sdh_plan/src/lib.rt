@@ -15,8 +15,6 @@ mod ring;
 mod script;
 mod slips;
 mod step;
-#[cfg(test)]
-mod tests;
 mod words;
 
 pub use big::big_plan;

@@ -10,9 +10,12 @@ use Rattle.sdh_world.specs.Rounds.{world}
 use Rattle.sdh_promise.specs.Changes.{Order, Hold, Slip, Now}
 use Rattle.sdh_circuits.specs.declared.PortId.{PortId}
 use Rattle.sdh_payload.specs.declared.clock.Turn.{Turn}
+use Rattle.sdh_payload.specs.Clock.{Clock}
 use Rattle.sdh_world.specs.Clocks.{waiting_at}
 use Rattle.sdh_world.proofs.Histories.{calls_change}
 use Rattle.sdh_hearing.specs.Laws.{IsWhole, StayWhole}
+use Rattle.sdh_strangers.specs.Vouched.{IsVouched}
+use Rattle.sdh_strangers.specs.Laws.{VouchedRingsStay}
 
 pub whole_commanded : StayWhole → (r : HeldRing) (f : Fibres) (p : ℕ) (d : Side) (c : Command) → IsWhole (world r f) → IsWhole (world (record r { nodes = at_place p (at_receiving d (commanded_by c)) r.nodes }) f)
 whole_commanded stay r f p d c whole = subst IsWhole (sym (calls_change.command r f p d c)) (stay.change (Order p d c) (world r f) tt whole)
@@ -25,3 +28,15 @@ whole_slipped stay r f port turn count few whole = subst IsWhole (sym (calls_cha
 
 pub whole_later : StayWhole → (r : HeldRing) (f : Fibres) (t : ℕ) → IsWhole (world r f) → IsWhole (world (record r { moment = t }) f)
 whole_later stay r f t whole = subst IsWhole (sym (calls_change.moment r f t)) (stay.change (Now t) (world r f) tt whole)
+
+-- ---- and vouched for, but for those that hold a controller
+
+module _ (stay : VouchedRingsStay) (r : HeldRing) (f : Fibres) (clocks : PortId → ℕ → Clock) (is : IsVouched clocks (world r f)) where
+  pub vouched_commanded : (p : ℕ) (d : Side) (c : Command) → IsVouched clocks (world (record r { nodes = at_place p (at_receiving d (commanded_by c)) r.nodes }) f)
+  vouched_commanded p d c = subst (IsVouched clocks) (sym (calls_change.command r f p d c)) (stay.change (Order p d c) (world r f) clocks tt tt is)
+
+  pub vouched_slipped : (port : PortId) (turn : Turn) (count : ℕ) → waiting_at r port + count ≤ 16 → IsVouched clocks (world (record r { nodes = at_place (place_of_port r port) (slips_at port turn count) r.nodes }) f)
+  vouched_slipped port turn count few = subst (IsVouched clocks) (sym (calls_change.slip r f port turn count)) (stay.change (Slip port turn count) (world r f) clocks few tt is)
+
+  pub vouched_later : (t : ℕ) → IsVouched clocks (world (record r { moment = t }) f)
+  vouched_later t = subst (IsVouched clocks) (sym (calls_change.moment r f t)) (stay.change (Now t) (world r f) clocks tt tt is)

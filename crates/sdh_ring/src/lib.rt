@@ -5,8 +5,6 @@
 #![tactic(auto)]
 
 mod ring;
-#[cfg(test)]
-mod tests;
 
 pub use ring::Ring;
 pub use sdh_rounds::{PlantFault, SettleError};

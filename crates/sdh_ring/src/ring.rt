@@ -3,6 +3,7 @@ ghost use Rattle.std.specs.Prelude.{◌≡◌, ◌≢◌, ◌↔◌, ℕ, ◌+�
 ghost use Rattle.sdh_basics.specs.Causes.{Rose, IsCounted};
 ghost use Rattle.sdh_terms.specs.Rates.{n_of};
 ghost use Rattle.sdh_circuits.specs.Kept.{KeepsRing};
+ghost use Rattle.sdh_payload.specs.Clock.{Clock};
 ghost use Rattle.sdh_plant.specs.Fibres.{Fibres, IsPrepared, IsHonest};
 ghost use Rattle.sdh_plant.specs.Calls.{prepared};
 ghost use Rattle.sdh_node.specs.Receiving.{commanded_by};
@@ -137,8 +138,12 @@ impl Ring {
 
         // Over fibres that were just prepared for it, what is carried is what was sent.
         ensures whole { IfOk result (λ ring. (f : Fibres) → IsHonest f → IsWhole (world ring (prepared settings.rate (length map) f))) }
+
+        // And it is vouched for, whatever the clocks of its ports will be.
+        ensures vouched { IfOk result (λ ring. (f : Fibres) (clocks : PortId → ℕ → Clock) → IsHonest f → IsVouched clocks (world ring (prepared settings.rate (length map) f))) }
     {
         sdh_hearing::new_worlds_are_whole();
+        sdh_strangers::vouched_rings_stay();
         let nodes = new_nodes(alloc, settings, &map, &circuits)?;
         let arrived = Landed::try_new(alloc, settings.rate)?;
         let west = FrameBuf::try_new(alloc, settings.rate)?;
@@ -186,12 +191,15 @@ impl Ring {
         requires { at.0 < length self.old.ids }
         ensures ring { self.new ≡ record self.old { nodes = at_place at.0 (at_receiving side (commanded_by command)) self.old.nodes } }
         ensures whole { (f : Fibres) → IsWhole (world self.old f) → IsWhole (world self.new f) }
+        ensures vouched { (f : Fibres) (clocks : PortId → ℕ → Clock) → IsVouched clocks (world self.old f) → IsVouched clocks (world self.new f) }
     {
         sdh_hearing::stay_whole();
+        sdh_strangers::vouched_rings_stay();
         command_at(&mut self.nodes, at.0 as usize, side, command);
     }
 
-    /// The controller of a node misses so many of the next rounds, in place of those that are left of an earlier call.
+    /// The controller of a node misses so many of the next rounds, in place of those that are left of an earlier call. The ring is
+    /// vouched for no more: a node that passes traffic through goes on doing so, whatever the words beside it say.
     pub fn hold(&mut self, at: Pos, turns: u32)
         requires at { at.0 < length self.old.ids }
         requires some { 1 ≤ turns }
@@ -221,8 +229,10 @@ impl Ring {
         requires few { waiting_at self.old port + count ≤ 16 }
         ensures ring { self.new ≡ record self.old { nodes = at_place (place_of_port self.old port) (slips_at port turn count) self.old.nodes } }
         ensures whole { (f : Fibres) → IsWhole (world self.old f) → IsWhole (world self.new f) }
+        ensures vouched { (f : Fibres) (clocks : PortId → ℕ → Clock) → IsVouched clocks (world self.old f) → IsVouched clocks (world self.new f) }
     {
         sdh_hearing::stay_whole();
+        sdh_strangers::vouched_rings_stay();
         let at = self.place_of(port);
         slip_at(&mut self.nodes, at, port, turn, count);
     }
@@ -243,8 +253,10 @@ impl Ring {
         requires within { now.0 ≤ 1000000000 }
         ensures ring { self.new ≡ record self.old { moment = now.0 } }
         ensures whole { (f : Fibres) → IsWhole (world self.old f) → IsWhole (world self.new f) }
+        ensures vouched { (f : Fibres) (clocks : PortId → ℕ → Clock) → IsVouched clocks (world self.old f) → IsVouched clocks (world self.new f) }
     {
         sdh_hearing::stay_whole();
+        sdh_strangers::vouched_rings_stay();
         self.present = now;
     }
 
@@ -261,6 +273,10 @@ impl Ring {
         // nodes.
         ensures signals { OnOk result (IsWhole (world self.old (P.fibres plant.old)) → GoesAsSignals (world self.old (P.fibres plant.old)) (world self.new (P.fibres plant.new))) }
 
+        // Where it is vouched for it stays so, and no port meets a stranger in the round: each delivers AIS, or ones, or what its
+        // circuit's other port sent in one round before.
+        ensures strangers { OnOk result (KeepsStrangersOut (world self.old (P.fibres plant.old)) (world self.new (P.fibres plant.new))) }
+
         // A fault breaks the ring. The first frames of the round may have been sent, and the clocks of ports have gone on where their
         // nodes had the round before it.
         ensures err { OnErr result (IsBrokenOff (world self.old (P.fibres plant.old)) (P.fibres plant.new)) }
@@ -273,6 +289,8 @@ impl Ring {
         ensures counted { IsCounted P.exact (IsErr result) (P.faults plant.old) (P.faults plant.new) }
     {
         sdh_hearing::whole_rounds_go_as_signals();
+        sdh_strangers::rounds_keep_strangers_out();
+        self.has_circuits();
         self.broken = true;
         hear(self.rounds, &mut self.nodes, &mut self.arrived, plant)?;
         send_all(
@@ -349,6 +367,9 @@ impl Ring {
         // Where what comes is what was sent, each node is in its settled state then, and each port has delivered what it is owed.
         ensures restored { OnOk result (Restores (world self.old (P.fibres plant.old)) (world self.new (P.fibres plant.new))) }
 
+        // Where it is vouched for it stays so, and no port meets a stranger in any round of the step.
+        ensures strangers { result ≢ Err SettleError.PlantFault → KeepsStrangersOutInAll (world self.old (P.fibres plant.old)) (world self.new (P.fibres plant.new)) }
+
         // And with so large a limit a window does end, whatever happened before, where no fault breaks the step off.
         ensures answers { IsWhole (world self.old (P.fibres plant.old)) → enough_for (length self.old.ids) ≤ limit → result ≢ Err SettleError.Unsettled }
 
@@ -370,6 +391,7 @@ impl Ring {
         sdh_hearing::steps_stay_whole();
         sdh_carrying::settled_rings_are_restored();
         sdh_converging::steps_answer();
+        sdh_strangers::steps_keep_strangers_out();
         let mut calm = 0u32;
         'rounds: for _turn in 0..limit {
             self.round(plant)?;

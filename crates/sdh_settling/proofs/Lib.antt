@@ -2,7 +2,7 @@ pub mod FarEnds
 pub mod Lists
 mod Counting
 mod Requests
-mod OneNode
+pub mod OneNode
 mod Sources
 mod Bare
 mod Runs
@@ -12,7 +12,7 @@ mod Levels
 mod Agreement
 mod Reach
 mod Firsts
-mod Ends
+pub mod Ends
 mod Standing
 mod RunLaw
 mod Convergence

@@ -113,6 +113,3 @@ pub fn table_text(alloc: Global, plan: &Plan) -> Result<Text, AllocError>
     put_nodes(&mut text, alloc, plan)?;
     Ok(text)
 }
-
-#[cfg(test)]
-mod tests;

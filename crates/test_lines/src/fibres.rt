@@ -84,38 +84,49 @@ fn is_full_of_but(frame: &FrameBuf, value: u8, first: usize, count: usize, other
         && bytes[first + count..].iter().all(|byte| *byte == value)
 }
 
+// Whether a fibre that is degraded by so many columns inverts the top bits of as many bytes from an index on, the first of row 6, and
+// the fibre the other way is as it was.
+fn is_degraded(alloc: Global, rate: Rate, columns: u16, first: usize) -> Result<bool, Fail> {
+    let count = usize::from(columns);
+    if count < 1 || count > 3 * rate.n() || first > 30_000 || first + count > 2430 * rate.n() {
+        return Ok(false);
+    }
+    let mut plant = three_nodes(alloc, rate)?;
+    let mut frame = frame_of(alloc, rate, 0)?;
+    let east = sends(&mut plant, Pos(0), Side::East, &mut frame, 0x35);
+    let west = sends(&mut plant, Pos(1), Side::West, &mut frame, 0x36);
+    let degraded = FibreEvent {
+        at: Pos(0),
+        side: Side::East,
+        condition: Condition::Degraded(columns),
+    };
+    let applied = plant.apply(degraded).is_ok();
+    let back = came(&mut plant, Pos(0), Side::East, &mut frame);
+    let there = plant.receive(Pos(1), Side::West, &mut frame);
+    Ok(
+        east && west
+            && applied
+            && back == Some(0x36)
+            && there == Ok(Arrived::Frame)
+            && is_full_of_but(&frame, 0x35, first, count, 0xB5),
+    )
+}
+
+// The rate, the columns and the index of the first byte of row 6.
+const DEGREES: &[(Rate, u16, usize)] = &[
+    (Rate::Four, 1, 5400),
+    (Rate::Four, 7, 5400),
+    (Rate::Four, 12, 5400),
+    (Rate::Sixteen, 1, 21_600),
+    (Rate::Sixteen, 13, 21_600),
+    (Rate::Sixteen, 48, 21_600),
+];
+
 #[test]
 fn a_degraded_fibre_inverts_the_first_columns_of_row_6(rt: HostRuntime) -> Result<(), Fail> {
-    // The rate, the columns and the index of the first byte of row 6.
-    let rows: [(Rate, u16, usize); 6] = [
-        (Rate::Four, 1, 5400),
-        (Rate::Four, 7, 5400),
-        (Rate::Four, 12, 5400),
-        (Rate::Sixteen, 1, 21_600),
-        (Rate::Sixteen, 13, 21_600),
-        (Rate::Sixteen, 48, 21_600),
-    ];
-    for (rate, columns, first) in rows {
-        let count = usize::from(columns);
-        assert!(rt; 1 <= count && count <= 3 * rate.n());
-        assert!(rt; first + count <= 2430 * rate.n());
-        let mut plant = three_nodes(rt.alloc(), rate)?;
-        let mut frame = frame_of(rt.alloc(), rate, 0)?;
-        assert!(rt; sends(&mut plant, Pos(0), Side::East, &mut frame, 0x35));
-        assert!(rt; sends(&mut plant, Pos(1), Side::West, &mut frame, 0x36));
-        let degraded = FibreEvent {
-            at: Pos(0),
-            side: Side::East,
-            condition: Condition::Degraded(columns),
-        };
-        assert_eq!(rt; plant.apply(degraded), Ok(()));
-        // The fibre the other way is as it was.
-        let back = came(&mut plant, Pos(0), Side::East, &mut frame);
-        assert_eq!(rt; back, Some(0x36), "{columns}");
-        let there = plant.receive(Pos(1), Side::West, &mut frame);
-        assert_eq!(rt; there, Ok(Arrived::Frame), "{columns}");
+    for (rate, columns, first) in DEGREES {
         assert!(rt;
-            is_full_of_but(&frame, 0x35, first, count, 0xB5),
+            is_degraded(rt.alloc(), *rate, *columns, *first)?,
             "{columns}"
         );
     }
@@ -145,19 +156,22 @@ fn over_a_span<P: Plant>(alloc: Global, plant: &mut P, rate: Rate) -> Result<Opt
     Ok(came(plant, Pos(1), Side::West, &mut frame))
 }
 
+// The same of each plant; to the last one byte 1 is told.
+fn over_each(alloc: Global, rate: Rate) -> Result<[Option<u8>; 4], Fail> {
+    let mut failing = FailingPlant::new(alloc, &[(PlantCall::Send, 2)])?;
+    let mut told = ToldPlant::new(rate, three_arrivals(alloc, rate)?);
+    Ok([
+        over_a_span(alloc, &mut FibrePlant::new(), rate)?,
+        over_a_span(alloc, &mut RecordingPlant::new(1), rate)?,
+        over_a_span(alloc, &mut failing, rate)?,
+        over_a_span(alloc, &mut told, rate)?,
+    ])
+}
+
 #[test]
 fn a_span_of_any_plant(rt: HostRuntime) -> Result<(), Fail> {
-    for rate in [Rate::Four, Rate::Sixteen] {
-        let came = over_a_span(rt.alloc(), &mut FibrePlant::new(), rate)?;
-        assert_eq!(rt; came, Some(0x35));
-        let came = over_a_span(rt.alloc(), &mut RecordingPlant::new(1), rate)?;
-        assert_eq!(rt; came, Some(0x35));
-        let mut failing = FailingPlant::new(rt.alloc(), &[(PlantCall::Send, 2)])?;
-        let came = over_a_span(rt.alloc(), &mut failing, rate)?;
-        assert_eq!(rt; came, Some(0x35));
-        let mut told = ToldPlant::new(rate, three_arrivals(rt.alloc(), rate)?);
-        let came = over_a_span(rt.alloc(), &mut told, rate)?;
-        assert_eq!(rt; came, Some(1));
-    }
+    let wanted = [Some(0x35), Some(0x35), Some(0x35), Some(1)];
+    assert!(rt; over_each(rt.alloc(), Rate::Four)? == wanted);
+    assert!(rt; over_each(rt.alloc(), Rate::Sixteen)? == wanted);
     Ok(())
 }

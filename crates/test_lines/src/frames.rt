@@ -6,142 +6,112 @@ use sdh_frame::{Field, FrameBuf, Place, au_place, place_of, pointer_place};
 use sdh_terms::Rate;
 use std::test::Fail;
 
-fn field(rate: Rate, row: u16, column: u16) -> Field
-    requires row { 1 ≤ row }
-    requires rows { row ≤ 9 }
-    requires column { 1 ≤ column }
-    requires columns { column ≤ 270 * n_of rate }
+// What a frame has in a row and a column, both counted from 1, and nothing outside of it.
+fn field(rate: Rate, row: u16, column: u16) -> Option<Field> {
+    if row < 1 || row > 9 || column < 1 || column as usize > 270 * rate.n() {
+        return None;
+    }
+    Some(place_of(rate, Place { row, column }))
+}
+
+const FIELDS: &[(Rate, u16, u16, Field)] = &[
+    (Rate::Four, 1, 12, Field::A1),
+    (Rate::Four, 1, 13, Field::A2),
+    (Rate::Four, 1, 24, Field::A2),
+    (Rate::Four, 1, 25, Field::J0),
+    (Rate::Four, 1, 26, Field::Fixed),
+    (Rate::Four, 1, 36, Field::Fixed),
+    (Rate::Four, 2, 1, Field::B1),
+    (Rate::Four, 2, 2, Field::Unused),
+    (Rate::Four, 4, 14, Field::Pointer(2, 3)),
+    (Rate::Four, 5, 12, Field::B2(11)),
+    (Rate::Four, 5, 13, Field::K1),
+    (Rate::Four, 5, 14, Field::Unused),
+    (Rate::Four, 5, 25, Field::K2),
+    (Rate::Four, 9, 36, Field::Unused),
+    (Rate::Four, 9, 1080, Field::Payload(4)),
+    (Rate::Sixteen, 1, 48, Field::A1),
+    (Rate::Sixteen, 1, 49, Field::A2),
+    (Rate::Sixteen, 1, 97, Field::J0),
+    (Rate::Sixteen, 1, 144, Field::Fixed),
+    (Rate::Sixteen, 1, 145, Field::Payload(1)),
+    (Rate::Sixteen, 4, 144, Field::Pointer(16, 8)),
+    (Rate::Sixteen, 5, 48, Field::B2(47)),
+    (Rate::Sixteen, 5, 49, Field::K1),
+    (Rate::Sixteen, 5, 97, Field::K2),
+];
+
+#[test]
+fn fields_of_frames(rt: HostRuntime) {
+    for (rate, row, column, wanted) in FIELDS {
+        assert!(rt;
+            field(*rate, *row, *column) == Some(*wanted),
+            "{row} {column}"
+        );
+    }
+}
+
+// The row and the column of a byte of an AU-4: of its payload, or of its pointer.
+fn stands(rate: Rate, au: u16, is_payload: bool, index: u16) -> Option<(u16, u16)> {
+    if au < 1 || au as usize > rate.n() || index >= 2349 || !is_payload && index >= 9 {
+        return None;
+    }
+    let place = if is_payload {
+        au_place(rate, au, index)
+    } else {
+        pointer_place(rate, au, index)
+    };
+    Some((place.row, place.column))
+}
+
+// The rate, the AU-4, whether it is a byte of its payload, its index, and its row and its column. Payload columns are 9N + k, 10N + k
+// and so on; index 783 is the byte after the last H3. H1 is at column k, Y at N + k and 2N + k, H2 at 3N + k, ones at 4N + k and 5N + k,
+// H3 at 6N + k, 7N + k and 8N + k.
+const PLACES: &[(Rate, u16, bool, u16, u16, u16)] = &[
+    (Rate::Four, 1, true, 0, 1, 37),
+    (Rate::Four, 2, true, 1, 1, 42),
+    (Rate::Four, 3, true, 783, 4, 39),
+    (Rate::Four, 4, true, 2348, 9, 1080),
+    (Rate::Sixteen, 1, true, 0, 1, 145),
+    (Rate::Sixteen, 16, true, 1, 1, 176),
+    (Rate::Sixteen, 5, true, 783, 4, 149),
+    (Rate::Sixteen, 16, true, 2348, 9, 4320),
+    (Rate::Four, 2, false, 0, 4, 2),
+    (Rate::Four, 2, false, 3, 4, 14),
+    (Rate::Four, 2, false, 6, 4, 26),
+    (Rate::Four, 2, false, 8, 4, 34),
+    (Rate::Sixteen, 16, false, 0, 4, 16),
+    (Rate::Sixteen, 16, false, 3, 4, 64),
+    (Rate::Sixteen, 16, false, 8, 4, 144),
+];
+
+#[test]
+fn places_of_an_au(rt: HostRuntime) {
+    for (rate, au, is_payload, index, row, column) in PLACES {
+        let wanted = Some((*row, *column));
+        assert!(rt;
+            stands(*rate, *au, *is_payload, *index) == wanted,
+            "{au} {index}"
+        );
+    }
+}
+
+// Whether K1 and K2 of an STM-4 frame have the indexes 4332 and 4344.
+fn has_k_bytes_there(frame: &mut FrameBuf) -> bool
+    requires { frame.old.rate ≡ Rate.Four }
 {
-    place_of(rate, Place { row, column })
-}
-
-#[test]
-fn fields_of_an_stm4_frame(rt: HostRuntime) {
-    assert_eq!(rt; field(Rate::Four, 1, 12), Field::A1);
-    assert_eq!(rt; field(Rate::Four, 1, 13), Field::A2);
-    assert_eq!(rt; field(Rate::Four, 1, 24), Field::A2);
-    assert_eq!(rt; field(Rate::Four, 1, 25), Field::J0);
-    assert_eq!(rt; field(Rate::Four, 1, 26), Field::Fixed);
-    assert_eq!(rt; field(Rate::Four, 1, 36), Field::Fixed);
-    assert_eq!(rt; field(Rate::Four, 2, 1), Field::B1);
-    assert_eq!(rt; field(Rate::Four, 2, 2), Field::Unused);
-    assert_eq!(rt; field(Rate::Four, 4, 14), Field::Pointer(2, 3));
-    assert_eq!(rt; field(Rate::Four, 5, 12), Field::B2(11));
-    assert_eq!(rt; field(Rate::Four, 5, 13), Field::K1);
-    assert_eq!(rt; field(Rate::Four, 5, 14), Field::Unused);
-    assert_eq!(rt; field(Rate::Four, 5, 25), Field::K2);
-    assert_eq!(rt; field(Rate::Four, 9, 36), Field::Unused);
-    assert_eq!(rt; field(Rate::Four, 9, 1080), Field::Payload(4));
-}
-
-#[test]
-fn fields_of_an_stm16_frame(rt: HostRuntime) {
-    assert_eq!(rt; field(Rate::Sixteen, 1, 48), Field::A1);
-    assert_eq!(rt; field(Rate::Sixteen, 1, 49), Field::A2);
-    assert_eq!(rt; field(Rate::Sixteen, 1, 97), Field::J0);
-    assert_eq!(rt; field(Rate::Sixteen, 1, 144), Field::Fixed);
-    assert_eq!(rt; field(Rate::Sixteen, 1, 145), Field::Payload(1));
-    assert_eq!(rt; field(Rate::Sixteen, 4, 144), Field::Pointer(16, 8));
-    assert_eq!(rt; field(Rate::Sixteen, 5, 48), Field::B2(47));
-    assert_eq!(rt; field(Rate::Sixteen, 5, 49), Field::K1);
-    assert_eq!(rt; field(Rate::Sixteen, 5, 97), Field::K2);
-}
-
-// Payload columns are 9N + k, 10N + k and so on; index 783 is the byte after the last H3.
-#[test]
-fn payload_places(rt: HostRuntime) {
-    assert_eq!(rt; au_place(Rate::Four, 1, 0), Place { row: 1, column: 37 });
-    assert_eq!(rt; au_place(Rate::Four, 2, 1), Place { row: 1, column: 42 });
-    assert_eq!(rt; au_place(Rate::Four, 3, 783), Place { row: 4, column: 39 });
-    assert_eq!(rt;
-        au_place(Rate::Four, 4, 2348),
-        Place {
-            row: 9,
-            column: 1080
-        }
-    );
-    assert_eq!(rt;
-        au_place(Rate::Sixteen, 1, 0),
-        Place {
-            row: 1,
-            column: 145
-        }
-    );
-    assert_eq!(rt;
-        au_place(Rate::Sixteen, 16, 1),
-        Place {
-            row: 1,
-            column: 176
-        }
-    );
-    assert_eq!(rt;
-        au_place(Rate::Sixteen, 5, 783),
-        Place {
-            row: 4,
-            column: 149
-        }
-    );
-    assert_eq!(rt;
-        au_place(Rate::Sixteen, 16, 2348),
-        Place {
-            row: 9,
-            column: 4320
-        }
-    );
-}
-
-// H1 at column k, Y at N + k and 2N + k, H2 at 3N + k, ones at 4N + k and 5N + k, H3 at 6N + k, 7N + k and 8N + k.
-#[test]
-fn pointer_places(rt: HostRuntime) {
-    assert_eq!(rt;
-        pointer_place(Rate::Four, 2, 0),
-        Place { row: 4, column: 2 }
-    );
-    assert_eq!(rt;
-        pointer_place(Rate::Four, 2, 3),
-        Place { row: 4, column: 14 }
-    );
-    assert_eq!(rt;
-        pointer_place(Rate::Four, 2, 6),
-        Place { row: 4, column: 26 }
-    );
-    assert_eq!(rt;
-        pointer_place(Rate::Four, 2, 8),
-        Place { row: 4, column: 34 }
-    );
-    assert_eq!(rt;
-        pointer_place(Rate::Sixteen, 16, 0),
-        Place { row: 4, column: 16 }
-    );
-    assert_eq!(rt;
-        pointer_place(Rate::Sixteen, 16, 3),
-        Place { row: 4, column: 64 }
-    );
-    assert_eq!(rt;
-        pointer_place(Rate::Sixteen, 16, 8),
-        Place {
-            row: 4,
-            column: 144
-        }
-    );
-}
-
-// K1 and K2 of an STM-4 frame have the indexes 4332 and 4344.
-#[test]
-fn bytes_of_a_frame(rt: HostRuntime) -> Result<(), Fail> {
-    let mut frame = FrameBuf::try_new(rt.alloc(), Rate::Four)?;
     frame.set(Place { row: 5, column: 13 }, 0xB3);
     let bytes = frame.bytes_mut();
     bytes[4344] = 0x26;
-    assert_eq!(rt; frame.get(Place { row: 5, column: 25 }), 0x26);
-    assert_eq!(rt; frame.bytes().len(), 9720);
-    assert_eq!(rt; frame.bytes()[4332], 0xB3);
-    assert_eq!(rt; frame.bytes()[4333], 0);
-    frame.fill(0xFF);
-    assert_eq!(rt; frame.bytes()[0], 0xFF);
-    let large = FrameBuf::try_new(rt.alloc(), Rate::Sixteen)?;
-    assert_eq!(rt; large.bytes().len(), 38880);
-    assert_eq!(rt; large.rate(), Rate::Sixteen);
+    let k2 = frame.get(Place { row: 5, column: 25 });
+    let bytes = frame.bytes();
+    k2 == 0x26 && bytes[4332] == 0xB3 && bytes[4333] == 0
+}
+
+#[test]
+fn bytes_of_a_frame(rt: HostRuntime) -> Result<(), Fail> {
+    let mut frame = FrameBuf::try_new(rt.alloc(), Rate::Four)?;
+    assert!(rt; has_k_bytes_there(&mut frame));
     Ok(())
 }
 

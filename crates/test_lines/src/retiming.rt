@@ -52,54 +52,70 @@ fn run(
     Ok((number, sink))
 }
 
+const MUCH: &[(&str, usize)] = &[
+    ("1 ais 2352", 0),
+    ("2 new 2352", 2349),
+    ("3 plain 2352", 2349),
+    ("4 plain 2352", 2349),
+    ("5 plain 2355", 2349),
+    ("6 down 2352", 2352),
+];
+
 #[test]
 fn much_is_held_so_a_turn_gives_more(rt: HostRuntime) -> Result<(), Fail> {
-    let lines: [(&str, usize); 6] = [
-        ("1 ais 2352", 0),
-        ("2 new 2352", 2349),
-        ("3 plain 2352", 2349),
-        ("4 plain 2352", 2349),
-        ("5 plain 2355", 2349),
-        ("6 down 2352", 2352),
-    ];
     let (number, sink) = run(rt.alloc(), "6333", 14_100, &[], &[])?;
-    assert_eq!(rt; number, 0);
-    assert!(rt; sink.bytes() == text(rt.alloc(), &lines, "left 0")?.as_slice());
+    let wanted = text(rt.alloc(), MUCH, "left 0")?;
+    assert!(rt; number == 0 && sink.bytes() == wanted.as_slice());
     Ok(())
 }
+
+const DRIFTS: &[(&str, usize)] = &[
+    ("1 ais 2352", 0),
+    ("2 new 2355", 2349),
+    ("3 plain 2358", 2349),
+];
 
 #[test]
 fn a_run_that_is_not_steady_ends_with_a_drift(rt: HostRuntime) -> Result<(), Fail> {
-    let lines: [(&str, usize); 3] = [
-        ("1 ais 2352", 0),
-        ("2 new 2355", 2349),
-        ("3 plain 2358", 2349),
-    ];
     let (number, sink) = run(rt.alloc(), "6", 9408, &[], &[])?;
-    assert_eq!(rt; number, 12);
-    assert!(rt; sink.bytes() == text(rt.alloc(), &lines, "drift 4")?.as_slice());
+    let wanted = text(rt.alloc(), DRIFTS, "drift 4")?;
+    assert!(rt; number == 12 && sink.bytes() == wanted.as_slice());
     Ok(())
 }
 
+const LONG: &str = "0123456012345601234560123456012345601234560123456012345601234560";
+
+// The word, how many bytes come, the reads and the writes that fail, the number and the text.
+type Row = (
+    &'static str,
+    usize,
+    &'static [u32],
+    &'static [u32],
+    u8,
+    &'static str,
+);
+
+const ROWS: &[Row] = &[
+    ("3", 0, &[], &[], 0, "left 0\n"),
+    (LONG, 2345, &[], &[], 0, "left 2345\n"),
+    ("3", 2349, &[], &[], 0, "1 ais 2349\nleft 0\n"),
+    ("", 0, &[], &[], 2, "usage: sdhretime DIGITS\n"),
+    ("7", 0, &[], &[], 2, "usage: sdhretime DIGITS\n"),
+    ("3 ", 0, &[], &[], 2, "usage: sdhretime DIGITS\n"),
+    ("3", 100, &[1], &[], 3, "read fault\n"),
+    ("3", 100, &[2], &[], 3, "read fault\n"),
+    ("3", 100, &[], &[1], 4, ""),
+    ("3", 1_048_577, &[], &[], 9, "too long\n"),
+];
+
 #[test]
 fn other_words_and_faults_have_their_lines(rt: HostRuntime) -> Result<(), Fail> {
-    let long = "0123456012345601234560123456012345601234560123456012345601234560";
-    let cases: [(&str, usize, &[u32], &[u32], u8, &str); 10] = [
-        ("3", 0, &[], &[], 0, "left 0\n"),
-        (long, 2345, &[], &[], 0, "left 2345\n"),
-        ("3", 2349, &[], &[], 0, "1 ais 2349\nleft 0\n"),
-        ("", 0, &[], &[], 2, "usage: sdhretime DIGITS\n"),
-        ("7", 0, &[], &[], 2, "usage: sdhretime DIGITS\n"),
-        ("3 ", 0, &[], &[], 2, "usage: sdhretime DIGITS\n"),
-        ("3", 100, &[1], &[], 3, "read fault\n"),
-        ("3", 100, &[2], &[], 3, "read fault\n"),
-        ("3", 100, &[], &[1], 4, ""),
-        ("3", 1_048_577, &[], &[], 9, "too long\n"),
-    ];
-    for (word, len, reads, writes, number, text) in cases {
-        let (answer, sink) = run(rt.alloc(), word, len, reads, writes)?;
-        assert_eq!(rt; answer, number, "on {word} and {len}");
-        assert_eq!(rt; sink.bytes(), text.as_bytes(), "on {word} and {len}");
+    for (word, len, reads, writes, number, text) in ROWS {
+        let (answer, sink) = run(rt.alloc(), word, *len, reads, writes)?;
+        assert!(rt;
+            answer == *number && sink.bytes() == text.as_bytes(),
+            "on {word} and {len}"
+        );
     }
     Ok(())
 }

@@ -46,80 +46,95 @@ fn invert(frame: &mut FrameBuf, row: u16, column: u16)
     frame.set(place, value ^ 0x80);
 }
 
-fn has_b2(frame: &FrameBuf, first: u8) -> bool
-    requires { frame.now.rate ≡ Rate.Four }
+// Whether the next frame is read as it was written, and the bytes B2 are this one and zeros.
+fn next_is_good(
+    alloc: Global,
+    sending: &mut Section,
+    receiving: &mut Section,
+    first: u8,
+) -> Result<bool, AllocError>
+    requires sending { sending.old.rate ≡ Rate.Four }
+    requires receiving { receiving.old.rate ≡ Rate.Four }
+    ensures sending { sending.new.rate ≡ Rate.Four }
+    ensures receiving { receiving.new.rate ≡ Rate.Four }
 {
-    frame.bytes()[4320..4332] == [first, 0, 0, 0, 0, 0, 0, 0, 0, 0, 0, 0]
+    let mut frame = written(alloc, sending, Rate::Four)?;
+    let found = read(receiving, &mut frame);
+    let b2 = &frame.bytes()[4320..4332];
+    Ok(found == GOOD && b2[0] == first && b2[1..].iter().all(|byte| *byte == 0))
 }
 
 #[test]
-fn three_frames(rt: HostRuntime) -> Result<(), Fail> {
+fn three_frames(rt: HostRuntime) {
     let mut sending = Section::try_new(Rate::Four);
     let mut receiving = Section::try_new(Rate::Four);
-    let mut first = written(rt.alloc(), &mut sending, Rate::Four)?;
-    let mut second = written(rt.alloc(), &mut sending, Rate::Four)?;
-    let mut third = written(rt.alloc(), &mut sending, Rate::Four)?;
-    assert_eq!(rt; read(&mut receiving, &mut first), GOOD);
-    assert_eq!(rt; read(&mut receiving, &mut second), GOOD);
-    assert_eq!(rt; read(&mut receiving, &mut third), GOOD);
-    assert_eq!(rt; has_b2(&first, 0), true);
-    assert_eq!(rt; has_b2(&second, 0x13), true);
-    assert_eq!(rt; has_b2(&third, 0), true);
-    Ok(())
+    assert!(rt; next_is_good(rt.alloc(), &mut sending, &mut receiving, 0) == Ok(true));
+    assert!(rt; next_is_good(rt.alloc(), &mut sending, &mut receiving, 0x13) == Ok(true));
+    assert!(rt; next_is_good(rt.alloc(), &mut sending, &mut receiving, 0) == Ok(true));
 }
 
-// The second frame can't be read, so the third has nothing to be compared with.
-#[test]
-fn an_unframed_frame(rt: HostRuntime) -> Result<(), Fail> {
+// What is read of three frames, the second of which can't be read, so that the third has nothing to be compared with.
+fn past_an_unframed_frame(alloc: Global) -> Result<[Received; 3], AllocError> {
     let mut sending = Section::try_new(Rate::Four);
     let mut receiving = Section::try_new(Rate::Four);
-    let mut first = written(rt.alloc(), &mut sending, Rate::Four)?;
-    let mut second = written(rt.alloc(), &mut sending, Rate::Four)?;
-    let mut third = written(rt.alloc(), &mut sending, Rate::Four)?;
-    assert_eq!(rt; read(&mut receiving, &mut first), GOOD);
+    let mut first = written(alloc, &mut sending, Rate::Four)?;
+    let mut second = written(alloc, &mut sending, Rate::Four)?;
+    let mut third = written(alloc, &mut sending, Rate::Four)?;
     second.set(Place { row: 1, column: 1 }, 0xF7);
-    assert_eq!(rt; read(&mut receiving, &mut second), Received::Unframed);
-    assert_eq!(rt; read(&mut receiving, &mut third), GOOD);
-    receiving.forget();
-    Ok(())
+    let first = read(&mut receiving, &mut first);
+    let second = read(&mut receiving, &mut second);
+    Ok([first, second, read(&mut receiving, &mut third)])
 }
 
-// Five inverted top bits are five violations of B2, and an odd number of ones more in one bit of B1.
 #[test]
-fn a_degraded_frame(rt: HostRuntime) -> Result<(), Fail> {
+fn an_unframed_frame(rt: HostRuntime) {
+    assert!(rt; past_an_unframed_frame(rt.alloc()) == Ok([GOOD, Received::Unframed, GOOD]));
+}
+
+// What is read of two frames, in the first of which five top bits are inverted.
+fn past_a_degraded_frame(alloc: Global) -> Result<[Received; 2], AllocError> {
     let mut sending = Section::try_new(Rate::Four);
     let mut receiving = Section::try_new(Rate::Four);
-    let mut first = written(rt.alloc(), &mut sending, Rate::Four)?;
-    let mut second = written(rt.alloc(), &mut sending, Rate::Four)?;
+    let mut first = written(alloc, &mut sending, Rate::Four)?;
+    let mut second = written(alloc, &mut sending, Rate::Four)?;
     invert(&mut first, 6, 1);
     invert(&mut first, 6, 2);
     invert(&mut first, 6, 3);
     invert(&mut first, 6, 4);
     invert(&mut first, 6, 5);
-    assert_eq!(rt; read(&mut receiving, &mut first), GOOD);
-    assert_eq!(rt;
-        read(&mut receiving, &mut second),
-        Received::Framed {
-            k1: 0x03,
-            k2: 0x10,
-            b1: 1,
-            b2: 5
-        }
-    );
-    Ok(())
+    let first = read(&mut receiving, &mut first);
+    Ok([first, read(&mut receiving, &mut second)])
 }
 
-// Row 1 on the line: 3N bytes F6, 3N bytes 28, 01, the rest AA, and then the first scrambling byte over a payload of zeros.
+// Five violations of B2, and an odd number of them in one bit of B1.
+const DEGRADED: Received = Received::Framed {
+    k1: 0x03,
+    k2: 0x10,
+    b1: 1,
+    b2: 5,
+};
+
+#[test]
+fn a_degraded_frame(rt: HostRuntime) {
+    assert!(rt; past_a_degraded_frame(rt.alloc()) == Ok([GOOD, DEGRADED]));
+}
+
+// Whether row 1 has 3N bytes F6, 3N bytes 28, 01 and bytes AA, and then the first scrambling byte over a payload of zeros.
+fn has_row_1(bytes: &[u8]) -> bool
+    requires { length bytes.now ≡ 9720 }
+{
+    bytes[..12].iter().all(|byte| *byte == 0xF6)
+        && bytes[12..24].iter().all(|byte| *byte == 0x28)
+        && bytes[24] == 0x01
+        && bytes[25..36].iter().all(|byte| *byte == 0xAA)
+        && bytes[36] == 0xFE
+}
+
 #[test]
 fn row_1_on_the_line(rt: HostRuntime) -> Result<(), Fail> {
     let mut sending = Section::try_new(Rate::Four);
     let frame = written(rt.alloc(), &mut sending, Rate::Four)?;
-    let bytes = frame.bytes();
-    assert_eq!(rt; &bytes[..12] == [0xF6; 12].as_slice(), true);
-    assert_eq!(rt; &bytes[12..24] == [0x28; 12].as_slice(), true);
-    assert_eq!(rt; bytes[24], 0x01);
-    assert_eq!(rt; &bytes[25..36] == [0xAA; 11].as_slice(), true);
-    assert_eq!(rt; bytes[36], 0xFE);
+    assert!(rt; has_row_1(frame.bytes()));
     Ok(())
 }
 
@@ -173,23 +188,23 @@ fn by_rows(
     Ok((received, bytes[4320], bytes[4321]))
 }
 
-#[test]
-fn frames_go_row_by_row(rt: HostRuntime) -> Result<(), Fail> {
+// Three of them, with the rows that come next after them.
+fn three_by_rows(alloc: Global) -> Result<([(Received, u8, u8); 3], u16, u16), AllocError> {
     let mut sending = Section::try_new(Rate::Four);
     let mut receiving = Section::try_new(Rate::Four);
-    assert_eq!(rt;
-        by_rows(rt.alloc(), &mut sending, &mut receiving)?,
-        (GOOD, 0, 0)
-    );
-    assert_eq!(rt;
-        by_rows(rt.alloc(), &mut sending, &mut receiving)?,
-        (GOOD, 0x13, 0)
-    );
-    assert_eq!(rt;
-        by_rows(rt.alloc(), &mut sending, &mut receiving)?,
-        (GOOD, 0, 0)
-    );
-    assert_eq!(rt; sending.next_row(), 1);
-    assert_eq!(rt; receiving.next_row(), 1);
-    Ok(())
+    let first = by_rows(alloc, &mut sending, &mut receiving)?;
+    let second = by_rows(alloc, &mut sending, &mut receiving)?;
+    let third = by_rows(alloc, &mut sending, &mut receiving)?;
+    Ok((
+        [first, second, third],
+        sending.next_row(),
+        receiving.next_row(),
+    ))
+}
+
+const BY_ROWS: [(Received, u8, u8); 3] = [(GOOD, 0, 0), (GOOD, 0x13, 0), (GOOD, 0, 0)];
+
+#[test]
+fn frames_go_row_by_row(rt: HostRuntime) {
+    assert!(rt; three_by_rows(rt.alloc()) == Ok((BY_ROWS, 1, 1)));
 }

@@ -40,81 +40,138 @@ fn give_changed(watch: &mut Watch, feed: &mut Feed, out: &mut Cells, at: usize, 
     watch.chunk(&bytes, 522);
 }
 
-fn reported(vcs: u32, trace: TraceWord) -> PathReport {
-    PathReport {
-        vcs,
-        b3: 0,
-        label: 0,
-        trace,
-    }
-}
+// What a watch reports of so many VC-4s: no violation of B3, the right label, and so much of the trace.
+const CLEAN: PathReport = PathReport {
+    vcs: 70,
+    b3: 0,
+    label: 0,
+    trace: TraceWord::Ok,
+};
+
+const TOO_LONG: &[u8] = &[b'c'; 65];
+
+const BAD_TRACES: &[&[u8]] = &[b"", TOO_LONG, b"c\x1F", b"\x7Fc"];
 
 #[test]
 fn refuses_bad_traces(rt: HostRuntime) {
-    let long = [b'c'; 65];
-    assert!(rt; Watch::new(b"c1").is_ok());
-    assert!(rt; Watch::new(&long[..64]).is_ok());
-    let bad: [&[u8]; 4] = [b"", &long, b"c\x1F", b"\x7Fc"];
-    for trace in bad {
-        assert_eq!(rt; Watch::new(trace).err(), Some(BadTrace));
+    assert!(rt; Watch::new(b"c1").is_ok() && Watch::new(&TOO_LONG[..64]).is_ok());
+    for trace in BAD_TRACES {
+        assert!(rt; Watch::new(trace).err() == Some(BadTrace), "{trace:?}");
     }
+}
+
+// The trace of a feed, its offset, how many chunks, and the report of a watch for `c1`.
+const FED: &[(&[u8], u16, u32, PathReport)] = &[
+    (
+        b"c2",
+        0,
+        64,
+        PathReport {
+            vcs: 63,
+            trace: TraceWord::Mismatch,
+            ..CLEAN
+        },
+    ),
+    (
+        b"c2",
+        0,
+        63,
+        PathReport {
+            vcs: 62,
+            trace: TraceWord::Short,
+            ..CLEAN
+        },
+    ),
+    (b"c1", 0, 64, PathReport { vcs: 63, ..CLEAN }),
+    (b"c1", 0, 128, PathReport { vcs: 127, ..CLEAN }),
+    (b"c1", 522, 128, PathReport { vcs: 128, ..CLEAN }),
+    (b"c1", 521, 65, PathReport { vcs: 64, ..CLEAN }),
+    (b"c1", 782, 100, PathReport { vcs: 99, ..CLEAN }),
+    (
+        b"c1",
+        7,
+        0,
+        PathReport {
+            vcs: 0,
+            trace: TraceWord::Short,
+            ..CLEAN
+        },
+    ),
+];
+
+// The report of a watch for `c1` on so many chunks of a feed.
+fn report_of(trace: &[u8], offset: u16, count: u32, out: &mut Cells) -> Option<PathReport> {
+    if offset > 782 || count > 128 {
+        return None;
+    }
+    let port = Port::new(b"ALPHA", trace, offset).ok()?;
+    let mut watch = Watch::new(b"c1").ok()?;
+    let mut feed = Feed::new(&port);
+    give(&mut watch, &mut feed, out, offset, count);
+    Some(watch.report())
 }
 
 #[test]
 fn reports_what_a_feed_sends(rt: HostRuntime) -> Result<(), Fail> {
     let mut out = Cells::try_new(rt.alloc())?;
-    // The trace of the feed, its offset, how many chunks, and the report of a watch for `c1`.
-    let rows: [(&[u8], u16, u32, PathReport); 8] = [
-        (b"c2", 0, 64, reported(63, TraceWord::Mismatch)),
-        (b"c2", 0, 63, reported(62, TraceWord::Short)),
-        (b"c1", 0, 64, reported(63, TraceWord::Ok)),
-        (b"c1", 0, 128, reported(127, TraceWord::Ok)),
-        (b"c1", 522, 128, reported(128, TraceWord::Ok)),
-        (b"c1", 521, 65, reported(64, TraceWord::Ok)),
-        (b"c1", 782, 100, reported(99, TraceWord::Ok)),
-        (b"c1", 7, 0, reported(0, TraceWord::Short)),
-    ];
-    for (trace, offset, count, want) in rows {
-        assert!(rt; count <= 128);
-        let port = Port::new(b"ALPHA", trace, offset).expect(&rt, "a port");
-        let mut watch = Watch::new(b"c1").expect(&rt, "a trace");
-        let mut feed = Feed::new(&port);
-        give(&mut watch, &mut feed, &mut out, offset, count);
-        assert_eq!(rt; watch.report(), want, "{offset} {count}");
+    for (trace, offset, count, want) in FED {
+        assert!(rt;
+            report_of(trace, *offset, *count, &mut out) == Some(*want),
+            "{offset} {count}"
+        );
     }
     Ok(())
 }
 
-// At value 522 a chunk is a whole VC-4.
+// At value 522 a chunk is a whole VC-4: the VC-4 and the byte that is changed, by which bits, and the report after 70.
+const CHANGED: &[(u32, usize, u8, PathReport)] = &[
+    (3, 700, 0x07, PathReport { b3: 3, ..CLEAN }),
+    (3, 261, 0xFF, PathReport { b3: 16, ..CLEAN }),
+    (0, 261, 0x01, PathReport { b3: 1, ..CLEAN }),
+    (69, 700, 0xFF, CLEAN),
+    (
+        3,
+        522,
+        0x80,
+        PathReport {
+            b3: 1,
+            label: 1,
+            ..CLEAN
+        },
+    ),
+    (3, 0, 0x02, PathReport { b3: 1, ..CLEAN }),
+    (
+        6,
+        0,
+        0x02,
+        PathReport {
+            b3: 1,
+            trace: TraceWord::Mismatch,
+            ..CLEAN
+        },
+    ),
+];
+
+// The report of a watch for `c1` on 70 chunks, in one of which a byte is changed.
+fn report_changed(number: u32, at: usize, bits: u8, out: &mut Cells) -> Option<PathReport> {
+    if number >= 70 || at >= 2349 {
+        return None;
+    }
+    let port = Port::new(b"ALPHA", b"c1", 522).ok()?;
+    let mut watch = Watch::new(b"c1").ok()?;
+    let mut feed = Feed::new(&port);
+    give(&mut watch, &mut feed, out, 522, number);
+    give_changed(&mut watch, &mut feed, out, at, bits);
+    give(&mut watch, &mut feed, out, 522, 69 - number);
+    Some(watch.report())
+}
+
 #[test]
 fn counts_what_was_changed(rt: HostRuntime) -> Result<(), Fail> {
     let mut out = Cells::try_new(rt.alloc())?;
-    let port = Port::new(b"ALPHA", b"c1", 522).expect(&rt, "a port");
-    // The VC-4 and the byte that is changed, by which bits, and the report after 70.
-    let rows: [(u32, usize, u8, u32, u32, TraceWord); 7] = [
-        (3, 700, 0x07, 3, 0, TraceWord::Ok),
-        (3, 261, 0xFF, 16, 0, TraceWord::Ok),
-        (0, 261, 0x01, 1, 0, TraceWord::Ok),
-        (69, 700, 0xFF, 0, 0, TraceWord::Ok),
-        (3, 522, 0x80, 1, 1, TraceWord::Ok),
-        (3, 0, 0x02, 1, 0, TraceWord::Ok),
-        (6, 0, 0x02, 1, 0, TraceWord::Mismatch),
-    ];
-    for (number, at, bits, b3, label, trace) in rows {
-        assert!(rt; number < 70 && at < 2349);
-        let mut watch = Watch::new(b"c1").expect(&rt, "a trace");
-        let mut feed = Feed::new(&port);
-        give(&mut watch, &mut feed, &mut out, 522, number);
-        give_changed(&mut watch, &mut feed, &mut out, at, bits);
-        give(&mut watch, &mut feed, &mut out, 522, 69 - number);
-        assert_eq!(rt;
-            watch.report(),
-            PathReport {
-                vcs: 70,
-                b3,
-                label,
-                trace
-            },
+    for (number, at, bits, want) in CHANGED {
+        assert!(rt;
+            report_changed(*number, *at, *bits, &mut out) == Some(*want),
             "{number} {at}"
         );
     }

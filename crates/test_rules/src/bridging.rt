@@ -106,68 +106,95 @@ fn origins(
     ])
 }
 
-fn port(circuit: u8, end: End) -> Origin {
-    Origin::Add(PortId { circuit, end })
-}
-
 const WEST: Origin = Origin::Protection(Side::West);
 
 const EAST: Origin = Origin::Protection(Side::East);
 
+const FROM_WEST: Origin = Origin::Working(Side::West);
+
+const FROM_EAST: Origin = Origin::Working(Side::East);
+
 const AIS: Origin = Origin::Ais;
+
+// Port a of the first circuit, port b of it, and port b of the second one.
+const X_A: Origin = Origin::Add(PortId {
+    circuit: 0,
+    end: End::A,
+});
+
+const X_B: Origin = Origin::Add(PortId {
+    circuit: 0,
+    end: End::B,
+});
+
+const Y_B: Origin = Origin::Add(PortId {
+    circuit: 1,
+    end: End::B,
+});
+
+// Whether a node that hears these words has these origins.
+fn has(
+    alloc: Global,
+    x: &Asked<'_>,
+    y: &Asked<'_>,
+    at: u8,
+    west: Bytes,
+    east: Bytes,
+    wanted: &[Origin],
+) -> bool {
+    match origins(alloc, x, y, at, west, east) {
+        Some(found) => found.as_slice() == wanted,
+        None => false,
+    }
+}
+
+// A node, the words that it hears, and its origins.
+type Row = (u8, Bytes, Bytes, &'static [Origin]);
+
+// In slot 1 there is one circuit, from node 1 to node 3, whose second span has failed.
+const LED: &[Row] = &[
+    // the second node switches east, with the third as its far end
+    (
+        1,
+        FROM_3,
+        None,
+        &[WEST, FROM_WEST, FROM_WEST, AIS, FROM_WEST, WEST],
+    ),
+    // the third node switches west, with the second as its far end
+    (2, None, FROM_2, &[X_B, AIS, AIS, X_B, EAST, FROM_EAST]),
+    // the fourth passes through
+    (
+        3,
+        FROM_3,
+        FROM_2,
+        &[AIS, AIS, EAST, WEST, FROM_WEST, FROM_EAST],
+    ),
+];
 
 #[test]
 fn a_circuit_is_led_round_a_failed_span(rt: HostRuntime) {
-    let alloc = rt.alloc();
-    // in slot 1 there is one circuit, from node 1 to node 3
     let x = asked("x", (1, 3), 1);
     let y = asked("y", (1, 2), 2);
-    // the second node switches east, with the third as its far end
-    let second = origins(alloc, &x, &y, 1, FROM_3, None);
-    let west = Origin::Working(Side::West);
-    assert!(rt; second == Some([WEST, west, west, AIS, west, WEST]));
-    // the third node switches west, with the second as its far end
-    let third = origins(alloc, &x, &y, 2, None, FROM_2);
-    let east = Origin::Working(Side::East);
-    assert!(rt; third == Some([port(0, End::B), AIS, AIS, port(0, End::B), EAST, east]));
-    // the fourth passes through
-    let fourth = origins(alloc, &x, &y, 3, FROM_3, FROM_2);
-    assert!(rt; fourth == Some([AIS, AIS, EAST, WEST, west, east]));
+    for (at, west, east, wanted) in LED {
+        assert!(rt; has(rt.alloc(), &x, &y, *at, *west, *east, wanted), "{at}");
+    }
 }
+
+// Two circuits in one slot end at the second node, both of whose spans have failed.
+const ALONE: &[Row] = &[
+    // the first node switches east, with the third as its far end, and the third west, with the first: the circuits'
+    // other ends aren't in their chain
+    (0, FROM_3, None, &[AIS, X_A, AIS, AIS, FROM_WEST, AIS]),
+    (2, None, FROM_1, &[Y_B, AIS, AIS, AIS, AIS, FROM_EAST]),
+    // every origin of the isolated node is AIS
+    (1, None, None, &[AIS, AIS, AIS, AIS, AIS, AIS]),
+];
 
 #[test]
 fn circuits_of_an_isolated_node_meet_no_other(rt: HostRuntime) {
-    let alloc = rt.alloc();
-    // two circuits in one slot end at the second node, both of whose spans have failed
     let x = asked("x", (1, 2), 1);
     let y = asked("y", (2, 3), 1);
-    // the first node switches east, with the third as its far end, and the third west, with the first: the circuits'
-    // other ends aren't in their chain
-    let first = origins(alloc, &x, &y, 0, FROM_3, None);
-    assert!(rt;
-        first
-            == Some([
-                AIS,
-                port(0, End::A),
-                AIS,
-                AIS,
-                Origin::Working(Side::West),
-                AIS
-            ])
-    );
-    let third = origins(alloc, &x, &y, 2, None, FROM_1);
-    assert!(rt;
-        third
-            == Some([
-                port(1, End::B),
-                AIS,
-                AIS,
-                AIS,
-                AIS,
-                Origin::Working(Side::East)
-            ])
-    );
-    // every origin of the isolated node is AIS
-    let second = origins(alloc, &x, &y, 1, None, None);
-    assert!(rt; second == Some([AIS, AIS, AIS, AIS, AIS, AIS]));
+    for (at, west, east, wanted) in ALONE {
+        assert!(rt; has(rt.alloc(), &x, &y, *at, *west, *east, wanted), "{at}");
+    }
 }

@@ -28,12 +28,15 @@ const MANUAL: SideRound = SideRound {
     ..STILL
 };
 
-const fn degraded(by: u16) -> SideRound {
-    SideRound {
-        degraded: by,
-        ..STILL
-    }
-}
+const BELOW: SideRound = SideRound {
+    degraded: 2,
+    ..STILL
+};
+
+const AT_THRESHOLD: SideRound = SideRound {
+    degraded: 3,
+    ..STILL
+};
 
 // The sides of nodes 1 to 4, and the fibres that come in there.
 const EAST_OF_1: usize = 1;
@@ -89,82 +92,102 @@ fn applied_spans(sides: &[Code; 8]) -> [bool; 4] {
     ]
 }
 
-#[test]
-fn spans_are_applied_by_what_happens_on_the_sides(rt: HostRuntime) {
-    let cases: [(&str, &[(usize, SideRound)], [bool; 4]); 9] = [
-        ("nothing happens", &[], [false, false, false, false]),
-        (
-            "span 1 is cut both ways",
-            &[(WEST_OF_3, CUT), (EAST_OF_2, CUT)],
-            [false, true, false, false],
-        ),
-        (
-            "spans 0 and 1 are cut both ways",
-            &[
-                (WEST_OF_2, CUT),
-                (EAST_OF_1, CUT),
-                (WEST_OF_3, CUT),
-                (EAST_OF_2, CUT),
-            ],
-            [true, true, false, false],
-        ),
-        (
-            "two forced switches",
-            &[(EAST_OF_1, FORCED), (EAST_OF_3, FORCED)],
-            [true, false, true, false],
-        ),
-        (
-            "two equal manual switches",
-            &[(EAST_OF_2, MANUAL), (EAST_OF_4, MANUAL)],
-            [false, false, false, false],
-        ),
-        (
-            "one manual switch",
-            &[(EAST_OF_4, MANUAL)],
-            [false, false, false, true],
-        ),
-        (
-            "a degradation below the threshold",
-            &[(WEST_OF_3, degraded(2))],
-            [false, false, false, false],
-        ),
-        (
-            "a degradation at the threshold",
-            &[(WEST_OF_3, degraded(3))],
-            [false, true, false, false],
-        ),
-        (
-            "a degradation and a cut",
-            &[(WEST_OF_3, degraded(3)), (WEST_OF_1, CUT), (EAST_OF_4, CUT)],
-            [false, false, false, true],
-        ),
-    ];
-    for (what, happens, want) in cases {
-        let mut sides = [Code::Nr; 8];
-        for (side, round) in happens {
-            if *side < 8 {
-                sides[*side] = lasting(*round);
-            }
+// What happens on which sides, and which spans are applied then.
+type Row = (&'static str, &'static [(usize, SideRound)], [bool; 4]);
+
+const ROWS: &[Row] = &[
+    ("nothing happens", &[], [false, false, false, false]),
+    (
+        "span 1 is cut both ways",
+        &[(WEST_OF_3, CUT), (EAST_OF_2, CUT)],
+        [false, true, false, false],
+    ),
+    (
+        "spans 0 and 1 are cut both ways",
+        &[
+            (WEST_OF_2, CUT),
+            (EAST_OF_1, CUT),
+            (WEST_OF_3, CUT),
+            (EAST_OF_2, CUT),
+        ],
+        [true, true, false, false],
+    ),
+    (
+        "two forced switches",
+        &[(EAST_OF_1, FORCED), (EAST_OF_3, FORCED)],
+        [true, false, true, false],
+    ),
+    (
+        "two equal manual switches",
+        &[(EAST_OF_2, MANUAL), (EAST_OF_4, MANUAL)],
+        [false, false, false, false],
+    ),
+    (
+        "one manual switch",
+        &[(EAST_OF_4, MANUAL)],
+        [false, false, false, true],
+    ),
+    (
+        "a degradation below the threshold",
+        &[(WEST_OF_3, BELOW)],
+        [false, false, false, false],
+    ),
+    (
+        "a degradation at the threshold",
+        &[(WEST_OF_3, AT_THRESHOLD)],
+        [false, true, false, false],
+    ),
+    (
+        "a degradation and a cut",
+        &[
+            (WEST_OF_3, AT_THRESHOLD),
+            (WEST_OF_1, CUT),
+            (EAST_OF_4, CUT),
+        ],
+        [false, false, false, true],
+    ),
+];
+
+// Which spans of a ring of four are applied where these sides have been in these conditions.
+fn applied_where(happens: &[(usize, SideRound)]) -> [bool; 4] {
+    let mut sides = [Code::Nr; 8];
+    for (side, round) in happens {
+        if *side < 8 {
+            sides[*side] = lasting(*round);
         }
-        assert_eq!(rt; applied_spans(&sides), want, "where {what}");
     }
+    applied_spans(&sides)
 }
 
 #[test]
-fn a_side_waits_to_restore_by_moments(rt: HostRuntime) {
-    let mended_at = |moment: u64| SideRound {
+fn spans_are_applied_by_what_happens_on_the_sides(rt: HostRuntime) {
+    for (what, happens, want) in ROWS {
+        assert!(rt; applied_where(happens) == *want, "where {what}");
+    }
+}
+
+// What a side asks for in rounds 0, 2 and 5, where it was cut in two of them, and the last one is at this moment.
+fn asked_at(moment: u64) -> [Code; 3] {
+    let mended = SideRound {
         moment: Moment(moment),
         ..STILL
     };
-    let cases = [(0, Code::Wtr), (9, Code::Wtr), (10, Code::Nr)];
-    for (moment, want) in cases {
-        let rounds = [STILL, CUT, CUT, STILL, STILL, mended_at(moment)];
-        assert_eq!(rt;
-            local_request(3, 10, &rounds, 5),
-            want,
+    let rounds = [STILL, CUT, CUT, STILL, STILL, mended];
+    [
+        local_request(3, 10, &rounds, 0),
+        local_request(3, 10, &rounds, 2),
+        local_request(3, 10, &rounds, 5),
+    ]
+}
+
+const WAITS: &[(u64, Code)] = &[(0, Code::Wtr), (9, Code::Wtr), (10, Code::Nr)];
+
+#[test]
+fn a_side_waits_to_restore_by_moments(rt: HostRuntime) {
+    for (moment, want) in WAITS {
+        assert!(rt;
+            asked_at(*moment) == [Code::Nr, Code::Sf, *want],
             "at moment {moment}"
         );
-        assert_eq!(rt; local_request(3, 10, &rounds, 2), Code::Sf);
-        assert_eq!(rt; local_request(3, 10, &rounds, 0), Code::Nr);
     }
 }

@@ -82,11 +82,12 @@ fn has_line(ring: &SignalRing, at: u8, line: Line) -> bool
 }
 
 // Whether the four nodes have the states and words of these lines.
-fn has_lines(ring: &SignalRing, lines: [Line; 4]) -> bool
+fn has_lines(ring: &SignalRing, lines: &[Line]) -> bool
     requires size { length ring.now.ring.ids ≡ 4 }
     requires ran { 1 ≤ ring.now.rounds }
 {
-    has_line(ring, 0, lines[0])
+    lines.len() == 4
+        && has_line(ring, 0, lines[0])
         && has_line(ring, 1, lines[1])
         && has_line(ring, 2, lines[2])
         && has_line(ring, 3, lines[3])
@@ -101,7 +102,7 @@ fn ring_of_four(alloc: Global) -> Option<SignalRing>
 }
 
 // The number of rounds until a new ring is still, where it then has these lines.
-fn stills(alloc: Global, needs: [Needs; 4], lines: [Line; 4]) -> Option<u32>
+fn stills(alloc: Global, needs: [Needs; 4], lines: &[Line]) -> Option<u32>
     requires { All MayNeed needs }
 {
     let mut ring = ring_of_four(alloc)?;
@@ -113,106 +114,217 @@ fn stills(alloc: Global, needs: [Needs; 4], lines: [Line; 4]) -> Option<u32>
     }
 }
 
+// What a node asks for.
+#[derive(Clone, Copy)]
+enum Request {
+    Nothing,
+    FailsWest,
+    FailsEast,
+    FailsBoth,
+    Forced,
+    Manual,
+    DegradedWest,
+}
+
+fn needs_of(asked: Request) -> Needs
+    ensures { MayNeed result }
+{
+    match asked {
+        Request::Nothing => asks(Code::Nr, Code::Nr),
+        Request::FailsWest => fails(true, false),
+        Request::FailsEast => fails(false, true),
+        Request::FailsBoth => fails(true, true),
+        Request::Forced => asks(Code::Nr, Code::Fs),
+        Request::Manual => asks(Code::Nr, Code::Ms),
+        Request::DegradedWest => asks(Code::Sd, Code::Nr),
+    }
+}
+
+// What four nodes need that ask for this; nothing, where not four are told of.
+fn all_needs(asked: &[Request]) -> [Needs; 4]
+    ensures { All MayNeed result }
+{
+    if asked.len() != 4 {
+        let none = asks(Code::Nr, Code::Nr);
+        return four(none, none, none, none);
+    }
+    four(
+        needs_of(asked[0]),
+        needs_of(asked[1]),
+        needs_of(asked[2]),
+        needs_of(asked[3]),
+    )
+}
+
+const IDLE: &[Line] = &[
+    (Idle, (0x04, 0x10), (0x02, 0x10)),
+    (Idle, (0x01, 0x20), (0x03, 0x20)),
+    (Idle, (0x02, 0x30), (0x04, 0x30)),
+    (Idle, (0x03, 0x40), (0x01, 0x40)),
+];
+
+// Before a ring without requests runs, and after each of four rounds: whether it is still, and whether it has these lines.
+fn idle_rounds(ring: &mut SignalRing) -> [(bool, bool); 5]
+    requires four { length ring.old.ring.ids ≡ 4 }
+{
+    let needs = all_needs(&[Request::Nothing; 4]);
+    let before = (ring.is_still(), false);
+    ring.round(&needs, &FREE);
+    let first = (ring.is_still(), has_lines(ring, IDLE));
+    ring.round(&needs, &FREE);
+    let second = (ring.is_still(), has_lines(ring, IDLE));
+    ring.round(&needs, &FREE);
+    let third = (ring.is_still(), has_lines(ring, IDLE));
+    ring.round(&needs, &FREE);
+    let fourth = (ring.is_still(), has_lines(ring, IDLE));
+    [before, first, second, third, fourth]
+}
+
+const STILL: [(bool, bool); 5] = [
+    (false, false),
+    (false, true),
+    (false, true),
+    (false, true),
+    (true, true),
+];
+
 #[test]
 fn idle_ring(rt: HostRuntime) {
-    let none = asks(Code::Nr, Code::Nr);
-    let idle = [
-        (Idle, (0x04, 0x10), (0x02, 0x10)),
-        (Idle, (0x01, 0x20), (0x03, 0x20)),
-        (Idle, (0x02, 0x30), (0x04, 0x30)),
-        (Idle, (0x03, 0x40), (0x01, 0x40)),
-    ];
     let mut ring = ring_of_four(rt.alloc()).expect(&rt, "memory for a ring");
-    let needs = four(none, none, none, none);
-    assert!(rt; !ring.is_still());
-    ring.round(&needs, &FREE);
-    assert!(rt; !ring.is_still());
-    assert!(rt; has_lines(&ring, idle));
-    ring.round(&needs, &FREE);
-    assert!(rt; !ring.is_still());
-    ring.round(&needs, &FREE);
-    assert!(rt; !ring.is_still());
-    ring.round(&needs, &FREE);
-    assert!(rt; ring.is_still());
-    assert!(rt; has_lines(&ring, idle));
+    assert!(rt; idle_rounds(&mut ring) == STILL);
 }
+
+// What each node asks for, after at most how many rounds the ring is still, and its lines then.
+type Row = (&'static [Request], u32, &'static [Line]);
+
+const ROWS: &[Row] = &[
+    // one span fails both ways
+    (
+        &[
+            Request::Nothing,
+            Request::FailsEast,
+            Request::FailsWest,
+            Request::Nothing,
+        ],
+        21,
+        &[
+            (PassThrough, (0xb3, 0x2a), (0xb2, 0x3a)),
+            (SwitchEast(Some(Pos(2))), (0xb3, 0x2a), (0xb3, 0x26)),
+            (SwitchWest(Some(Pos(1))), (0xb2, 0x36), (0xb2, 0x3a)),
+            (PassThrough, (0xb3, 0x2a), (0xb2, 0x3a)),
+        ],
+    ),
+    // two spans that don't meet
+    (
+        &[
+            Request::FailsEast,
+            Request::FailsWest,
+            Request::FailsEast,
+            Request::FailsWest,
+        ],
+        28,
+        &[
+            (SwitchEast(Some(Pos(3))), (0xb2, 0x1a), (0xb2, 0x16)),
+            (SwitchWest(Some(Pos(2))), (0xb1, 0x26), (0xb1, 0x2a)),
+            (SwitchEast(Some(Pos(1))), (0xb4, 0x3a), (0xb4, 0x36)),
+            (SwitchWest(Some(Pos(0))), (0xb3, 0x46), (0xb3, 0x4a)),
+        ],
+    ),
+    // both spans of one node
+    (
+        &[
+            Request::FailsEast,
+            Request::FailsBoth,
+            Request::FailsWest,
+            Request::Nothing,
+        ],
+        28,
+        &[
+            (SwitchEast(Some(Pos(2))), (0xb2, 0x1a), (0xb2, 0x16)),
+            (Isolated, (0xb1, 0x26), (0xb3, 0x26)),
+            (SwitchWest(Some(Pos(0))), (0xb2, 0x36), (0xb2, 0x3a)),
+            (PassThrough, (0xb2, 0x1a), (0xb2, 0x3a)),
+        ],
+    ),
+    // two spans that don't fail are switched by force
+    (
+        &[
+            Request::Forced,
+            Request::Nothing,
+            Request::Forced,
+            Request::Nothing,
+        ],
+        28,
+        &[
+            (SwitchEast(Some(Pos(3))), (0xd2, 0x1a), (0xd2, 0x12)),
+            (SwitchWest(Some(Pos(2))), (0x11, 0x22), (0xd1, 0x2a)),
+            (SwitchEast(Some(Pos(1))), (0xd4, 0x3a), (0xd4, 0x32)),
+            (SwitchWest(Some(Pos(0))), (0x13, 0x42), (0xd3, 0x4a)),
+        ],
+    ),
+    // a failure goes before a degraded span
+    (
+        &[
+            Request::FailsWest,
+            Request::Nothing,
+            Request::DegradedWest,
+            Request::FailsEast,
+        ],
+        21,
+        &[
+            (SwitchWest(Some(Pos(3))), (0xb4, 0x16), (0xb4, 0x1a)),
+            (PassThrough, (0xb1, 0x4a), (0xb4, 0x1a)),
+            (PassThrough, (0xb1, 0x4a), (0xb4, 0x1a)),
+            (SwitchEast(Some(Pos(0))), (0xb1, 0x4a), (0xb1, 0x46)),
+        ],
+    ),
+];
 
 #[test]
 fn requests_of_at_least_a_signal_failure(rt: HostRuntime) {
-    let none = asks(Code::Nr, Code::Nr);
-    let west = fails(true, false);
-    let east = fails(false, true);
-    let both = fails(true, true);
-    let forced = asks(Code::Nr, Code::Fs);
+    for (asked, most, lines) in ROWS {
+        let count = stills(rt.alloc(), all_needs(asked), lines);
+        assert!(rt; count.is_some_and(|count| count >= 4 && count <= *most));
+    }
+}
 
-    // one span fails both ways
-    let lines = [
-        (PassThrough, (0xb3, 0x2a), (0xb2, 0x3a)),
-        (SwitchEast(Some(Pos(2))), (0xb3, 0x2a), (0xb3, 0x26)),
-        (SwitchWest(Some(Pos(1))), (0xb2, 0x36), (0xb2, 0x3a)),
-        (PassThrough, (0xb3, 0x2a), (0xb2, 0x3a)),
-    ];
-    let count = stills(rt.alloc(), four(none, east, west, none), lines);
-    assert!(rt; matches!(count, Some(4..=21)));
+const TIE: &[Line] = &[
+    (Idle, (0x14, 0x10), (0x64, 0x18)),
+    (Idle, (0x63, 0x28), (0x63, 0x20)),
+    (Idle, (0x12, 0x30), (0x62, 0x38)),
+    (Idle, (0x61, 0x48), (0x61, 0x40)),
+];
 
-    // two spans that don't meet
-    let lines = [
-        (SwitchEast(Some(Pos(3))), (0xb2, 0x1a), (0xb2, 0x16)),
-        (SwitchWest(Some(Pos(2))), (0xb1, 0x26), (0xb1, 0x2a)),
-        (SwitchEast(Some(Pos(1))), (0xb4, 0x3a), (0xb4, 0x36)),
-        (SwitchWest(Some(Pos(0))), (0xb3, 0x46), (0xb3, 0x4a)),
-    ];
-    assert!(rt; stills(rt.alloc(), four(east, west, east, west), lines).is_some());
+const ONE_ALONE: &[Line] = &[
+    (SwitchWest(Some(Pos(3))), (0x14, 0x12), (0x64, 0x1a)),
+    (PassThrough, (0x61, 0x4a), (0x64, 0x1a)),
+    (PassThrough, (0x61, 0x4a), (0x64, 0x1a)),
+    (SwitchEast(Some(Pos(0))), (0x61, 0x4a), (0x61, 0x42)),
+];
 
-    // both spans of one node
-    let lines = [
-        (SwitchEast(Some(Pos(2))), (0xb2, 0x1a), (0xb2, 0x16)),
-        (Isolated, (0xb1, 0x26), (0xb3, 0x26)),
-        (SwitchWest(Some(Pos(0))), (0xb2, 0x36), (0xb2, 0x3a)),
-        (PassThrough, (0xb2, 0x1a), (0xb2, 0x3a)),
-    ];
-    assert!(rt; stills(rt.alloc(), four(east, both, west, none), lines).is_some());
-
-    // two spans that don't fail are switched by force
-    let lines = [
-        (SwitchEast(Some(Pos(3))), (0xd2, 0x1a), (0xd2, 0x12)),
-        (SwitchWest(Some(Pos(2))), (0x11, 0x22), (0xd1, 0x2a)),
-        (SwitchEast(Some(Pos(1))), (0xd4, 0x3a), (0xd4, 0x32)),
-        (SwitchWest(Some(Pos(0))), (0x13, 0x42), (0xd3, 0x4a)),
-    ];
-    assert!(rt; stills(rt.alloc(), four(forced, none, forced, none), lines).is_some());
-
-    // a failure goes before a degraded span
-    let lines = [
-        (SwitchWest(Some(Pos(3))), (0xb4, 0x16), (0xb4, 0x1a)),
-        (PassThrough, (0xb1, 0x4a), (0xb4, 0x1a)),
-        (PassThrough, (0xb1, 0x4a), (0xb4, 0x1a)),
-        (SwitchEast(Some(Pos(0))), (0xb1, 0x4a), (0xb1, 0x46)),
-    ];
-    let degraded = asks(Code::Sd, Code::Nr);
-    let count = stills(rt.alloc(), four(west, none, degraded, east), lines);
-    assert!(rt; matches!(count, Some(4..=21)));
+// Whether a ring gets still with these requests, and has these lines then.
+fn comes_to(ring: &mut SignalRing, asked: &[Request], lines: &[Line]) -> bool
+    requires { length ring.old.ring.ids ≡ 4 }
+    ensures { ring.new.ring.ids ≡ ring.old.ring.ids }
+{
+    rounds_until_still(ring, &all_needs(asked)) > 0 && has_lines(ring, lines)
 }
 
 #[test]
 fn a_tie_and_its_end(rt: HostRuntime) {
-    let none = asks(Code::Nr, Code::Nr);
-    let manual = asks(Code::Nr, Code::Ms);
-    let tie = [
-        (Idle, (0x14, 0x10), (0x64, 0x18)),
-        (Idle, (0x63, 0x28), (0x63, 0x20)),
-        (Idle, (0x12, 0x30), (0x62, 0x38)),
-        (Idle, (0x61, 0x48), (0x61, 0x40)),
-    ];
-    let alone = [
-        (SwitchWest(Some(Pos(3))), (0x14, 0x12), (0x64, 0x1a)),
-        (PassThrough, (0x61, 0x4a), (0x64, 0x1a)),
-        (PassThrough, (0x61, 0x4a), (0x64, 0x1a)),
-        (SwitchEast(Some(Pos(0))), (0x61, 0x4a), (0x61, 0x42)),
-    ];
     let mut ring = ring_of_four(rt.alloc()).expect(&rt, "memory for a ring");
-    assert!(rt; rounds_until_still(&mut ring, &four(none, manual, none, manual)) > 0);
-    assert!(rt; has_lines(&ring, tie));
-    assert!(rt; rounds_until_still(&mut ring, &four(none, none, none, manual)) > 0);
-    assert!(rt; has_lines(&ring, alone));
+    let tie = [
+        Request::Nothing,
+        Request::Manual,
+        Request::Nothing,
+        Request::Manual,
+    ];
+    assert!(rt; comes_to(&mut ring, &tie, TIE));
+    let alone = [
+        Request::Nothing,
+        Request::Nothing,
+        Request::Nothing,
+        Request::Manual,
+    ];
+    assert!(rt; comes_to(&mut ring, &alone, ONE_ALONE));
 }

@@ -74,44 +74,86 @@ fn is(answer: Option<(NodeState, Sent)>, state: Shape, west: (u8, u8), east: (u8
     }
 }
 
+// Whether the east side fails, where nothing else is asked for, what is heard on each side, and the state and the words that are sent.
+type Row = (bool, Bytes, Bytes, Shape, (u8, u8), (u8, u8));
+
+const ROWS: &[Row] = &[
+    // a long word from the neighbour, without a request here
+    (
+        false,
+        Some((0xb2, 0x3a)),
+        None,
+        Shape::Idle,
+        (0x01, 0x20),
+        (0x03, 0x20),
+    ),
+    // a span that fails, and nothing is heard
+    (
+        true,
+        None,
+        None,
+        Shape::SwitchEast(None),
+        (0xb3, 0x29),
+        (0xb3, 0x26),
+    ),
+    // a span that fails, and the other end is heard the long way
+    (
+        true,
+        Some((0xb2, 0x3a)),
+        None,
+        Shape::SwitchEast(Some(Pos(2))),
+        (0xb3, 0x2a),
+        (0xb3, 0x26),
+    ),
+    // a word of this node's own comes back
+    (
+        false,
+        Some((0xb3, 0x28)),
+        None,
+        Shape::Idle,
+        (0x01, 0x20),
+        (0x03, 0x20),
+    ),
+    // words of others from both sides
+    (
+        false,
+        Some((0xb3, 0x18)),
+        Some((0xb1, 0x38)),
+        Shape::PassThrough,
+        (0xb1, 0x38),
+        (0xb3, 0x18),
+    ),
+];
+
+// The step of the second of four nodes, which hears these words, and whose east side fails or not.
+fn step_of(east_fails: bool, west: Bytes, east: Bytes) -> Option<(NodeState, Sent)> {
+    if east_fails {
+        stepped(fail(false, true), word(west), None)
+    } else {
+        stepped(asks(Code::Nr, Code::Nr), word(west), word(east))
+    }
+}
+
 #[test]
 fn requests_of_the_second_of_four(rt: HostRuntime) {
-    let none = asks(Code::Nr, Code::Nr);
-    // a long word from the neighbour, without a request here
-    let answer = stepped(none, word(Some((0xb2, 0x3a))), None);
-    assert!(rt; is(answer, Shape::Idle, (0x01, 0x20), (0x03, 0x20)));
-    // a span that fails, and nothing is heard
-    let answer = stepped(fail(false, true), None, None);
-    assert!(rt; is(answer, Shape::SwitchEast(None), (0xb3, 0x29), (0xb3, 0x26)));
-    // a span that fails, and the other end is heard the long way
-    let answer = stepped(fail(false, true), word(Some((0xb2, 0x3a))), None);
-    assert!(rt;
-        is(
-            answer,
-            Shape::SwitchEast(Some(Pos(2))),
-            (0xb3, 0x2a),
-            (0xb3, 0x26)
-        )
-    );
-    // a word of this node's own comes back
-    let answer = stepped(none, word(Some((0xb3, 0x28))), None);
-    assert!(rt; is(answer, Shape::Idle, (0x01, 0x20), (0x03, 0x20)));
-    // words of others from both sides
-    let answer = stepped(none, word(Some((0xb3, 0x18))), word(Some((0xb1, 0x38))));
-    assert!(rt; is(answer, Shape::PassThrough, (0xb1, 0x38), (0xb3, 0x18)));
+    for (east_fails, west, east, state, to_west, to_east) in ROWS {
+        let answer = step_of(*east_fails, *west, *east);
+        assert!(rt; is(answer, *state, *to_west, *to_east), "{state:?}");
+    }
 }
+
+const THIRD: &[(Shape, (u8, u8), (u8, u8))] = &[
+    (Shape::Idle, (0x01, 0x20), (0x03, 0x20)),
+    (Shape::Idle, (0x01, 0x20), (0x03, 0x20)),
+    (Shape::SwitchWest(None), (0x11, 0x21), (0xb1, 0x29)),
+];
 
 #[test]
 fn the_third_frame_counts(rt: HostRuntime) {
     let mut filter = Filter::new();
-    let rows = [
-        (Shape::Idle, (0x01, 0x20), (0x03, 0x20)),
-        (Shape::Idle, (0x01, 0x20), (0x03, 0x20)),
-        (Shape::SwitchWest(None), (0x11, 0x21), (0xb1, 0x29)),
-    ];
-    for (state, west, east) in rows {
+    for (state, west, east) in THIRD {
         let heard = filter.hear(decode(0xb2, 0x10));
         let answer = stepped(asks(Code::Nr, Code::Nr), heard, None);
-        assert!(rt; is(answer, state, west, east), "{state:?}");
+        assert!(rt; is(answer, *state, *west, *east), "{state:?}");
     }
 }

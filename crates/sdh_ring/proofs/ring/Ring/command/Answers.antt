@@ -3,7 +3,8 @@ use Rattle.std.specs.Prelude.{All}
 use Rattle.sdh_world.specs.Held.{HeldRing}
 use Rattle.sdh_world.specs.Rounds.{world}
 use Rattle.sdh_hearing.specs.Laws.{IsWhole}
-use Rattle.sdh_ring.proofs.Whole.{whole_commanded}
+use Rattle.sdh_strangers.specs.Vouched.{IsVouched}
+use Rattle.sdh_ring.proofs.Whole.{whole_commanded, vouched_commanded}
 use Rattle.sdh_world.specs.Fixed.{fixed, IsOn}
 use Rattle.sdh_world.proofs.Keeping.{all_commanded, all_on_commanded}
 use Rattle.sdh_ring.proofs.Rings.{count_of, ring_with}
@@ -36,3 +37,9 @@ returns-clause-whole c = λ f whole.
     let inside = c.self.inside in
     let was = whole_commanded c.stay_whole.ensures _ f c.args.at.0 c.args.side c.args.command (subst (λ (r : HeldRing). IsWhole (world r f)) (sym c.self.view_is) whole) in
     subst (λ ns. IsWhole (world (record { settings = inside.settings; ids = inside.map; circuits = inside.circuits; nodes = ns; moment = inside.present.0; rounds = inside.rounds; broken = inside.broken }) f)) (sym c.command_at.ensures) was
+
+pub returns-clause-vouched : goal.returns-clause-vouched
+returns-clause-vouched c = λ f clocks is.
+    let inside = c.self.inside in
+    let was = vouched_commanded c.vouched_rings_stay.ensures _ f clocks (subst (λ (r : HeldRing). IsVouched clocks (world r f)) (sym c.self.view_is) is) c.args.at.0 c.args.side c.args.command in
+    subst (λ ns. IsVouched clocks (world (record { settings = inside.settings; ids = inside.map; circuits = inside.circuits; nodes = ns; moment = inside.present.0; rounds = inside.rounds; broken = inside.broken }) f)) (sym c.command_at.ensures) was

@@ -125,3 +125,6 @@ returns-clause-prepared g c =
 
 pub returns-clause-signals : goal.returns-clause-signals
 returns-clause-signals g c = λ whole. c.whole_rounds_go_as_signals.ensures _ _ whole (returns-clause-ok g c)
+
+pub returns-clause-strangers : goal.returns-clause-strangers
+returns-clause-strangers g c = c.rounds_keep_strangers_out.ensures _ _ c.has_circuits.ensures (returns-clause-ok g c)

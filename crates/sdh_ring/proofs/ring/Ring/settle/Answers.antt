@@ -75,3 +75,9 @@ returns-clause-whole g c = λ _ whole. c.steps_stay_whole.ensures.unsettled _ _ 
 
 pub returns-clause-answers : goal.returns-clause-answers
 returns-clause-answers g c = λ whole large _. c.steps_answer.ensures _ _ c.args.limit c.has_circuits.ensures whole large (returns-clause-outcome g c)
+
+pub returns-then-is_over-clause-strangers : goal.returns-then-is_over-clause-strangers
+returns-then-is_over-clause-strangers g c = λ _. c.steps_keep_strangers_out.ensures.settled _ _ c.args.limit c.has_circuits.ensures (returns-then-is_over-clause-outcome g c)
+
+pub returns-clause-strangers : goal.returns-clause-strangers
+returns-clause-strangers g c = λ _. c.steps_keep_strangers_out.ensures.unsettled _ _ c.args.limit c.has_circuits.ensures (returns-clause-outcome g c)

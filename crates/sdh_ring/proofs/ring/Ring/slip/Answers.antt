@@ -5,7 +5,8 @@ use Rattle.sdh_node.specs.Node.{slips_at}
 use Rattle.sdh_world.specs.Rounds.{world}
 use Rattle.sdh_world.specs.Clocks.{waiting_at}
 use Rattle.sdh_hearing.specs.Laws.{IsWhole}
-use Rattle.sdh_ring.proofs.Whole.{whole_slipped}
+use Rattle.sdh_strangers.specs.Vouched.{IsVouched}
+use Rattle.sdh_ring.proofs.Whole.{whole_slipped, vouched_slipped}
 use Rattle.sdh_world.specs.Fixed.{fixed, IsOn}
 use Rattle.sdh_world.proofs.Keeping.{all_slipped}
 use Rattle.sdh_world.proofs.Clocks.{all_on_slipped}
@@ -43,3 +44,9 @@ returns-clause-whole c = λ f whole.
     let inside = c.self.inside in
     let was = whole_slipped c.stay_whole.ensures (old_ring c) f c.args.port c.args.turn c.args.count (few c) (subst (λ (r : HeldRing). IsWhole (world r f)) (sym c.self.view_is) whole) in
     subst (λ ns. IsWhole (world (record { settings = inside.settings; ids = inside.map; circuits = inside.circuits; nodes = ns; moment = inside.present.0; rounds = inside.rounds; broken = inside.broken }) f)) (sym (is c)) was
+
+pub returns-clause-vouched : goal.returns-clause-vouched
+returns-clause-vouched c = λ f clocks vouched.
+    let inside = c.self.inside in
+    let was = vouched_slipped c.vouched_rings_stay.ensures (old_ring c) f clocks (subst (λ (r : HeldRing). IsVouched clocks (world r f)) (sym c.self.view_is) vouched) c.args.port c.args.turn c.args.count (few c) in
+    subst (λ ns. IsVouched clocks (world (record { settings = inside.settings; ids = inside.map; circuits = inside.circuits; nodes = ns; moment = inside.present.0; rounds = inside.rounds; broken = inside.broken }) f)) (sym (is c)) was

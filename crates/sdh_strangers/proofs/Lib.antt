@@ -1,0 +1,11 @@
+pub mod Rules
+pub mod Asking
+pub mod Content
+pub mod Nodes
+pub mod Arrivals
+pub mod Worlds
+pub mod Vouched
+pub mod Runs
+pub mod Slipping
+pub mod Arc
+pub mod Straight

@@ -1,0 +1,4 @@
+pub mod Owners
+pub mod Vouched
+pub mod Laws
+pub mod Undisturbed

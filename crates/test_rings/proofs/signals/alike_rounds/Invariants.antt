@@ -1,0 +1,13 @@
+use Rattle.std.proofs.Common.{◌≡◌, ◌≤◌, ◌+◌, length}
+use Rattle.sdh_plant.specs.Fibres.{IsPrepared}
+use Rattle.test_rings.proofs.signals.alike_rounds.Given as goal
+
+abbrev pub invariant-turns : goal.invariant-turns
+invariant-turns g l =
+    let means = g.P.Plant.fibres in
+    record {
+      held : l.ring ≡ record l.fn.ring { nodes = l.ring.nodes; rounds = l.fn.ring.rounds + l._turn };
+      few : l.alike ≤ l._turn;
+      four : length l.signals.ring.ids ≡ 4;
+      prepared : IsPrepared l.fn.ring.settings.rate (length l.fn.ring.ids) (means l.plant);
+    }

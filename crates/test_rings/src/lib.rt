@@ -1,0 +1,31 @@
+//! Worked rings as tests, over the public calls of the crates that make a ring. No other crate stands on this one.
+#![tactic(auto)]
+
+#[cfg(test)]
+mod deliveries;
+#[cfg(test)]
+mod hostile;
+#[cfg(test)]
+mod neighbours;
+#[cfg(test)]
+mod requests;
+#[cfg(test)]
+mod restoring;
+#[cfg(test)]
+mod rings;
+#[cfg(test)]
+mod sending;
+#[cfg(test)]
+mod signals;
+#[cfg(test)]
+mod slips;
+#[cfg(test)]
+mod strangers;
+#[cfg(test)]
+mod streams;
+#[cfg(test)]
+mod told;
+#[cfg(test)]
+mod windows;
+#[cfg(test)]
+mod worked;
