@@ -86,9 +86,9 @@ are_first cs i j c d second first ic jd =
       order = let b = f.below in omega arith;
       least_second = λ k l kl lj same. none_shares cs l (s.least l (omega arith) lj) k kl same;
       least_first = λ k ki same. (
-      let no : share cs j k ≡ false = f.least k (omega arith) ki in
-      let yes = share_if cs k j same in
-      cc);
+          let no : share cs j k ≡ false = f.least k (omega arith) ki in
+          let yes = share_if cs k j same in
+          cc);
     }
 
 pub are_alone : (cs : List Provisioned) → find (has_before cs) (range_with_len 0 (length cs)) ≡ None → AreAlone cs

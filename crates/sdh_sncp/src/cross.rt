@@ -10,12 +10,12 @@ ghost use Rattle.sdh_sncp.specs.Node.{new_cross, cross_told, after_taken, lines_
 
 use crate::slots::{Use, uses_at};
 use sdh_circuits::{CircuitMap, Slot};
-use sdh_terms::Rate;
 use sdh_overhead::Landed;
 use sdh_plant::Arrived;
 use sdh_pointer::Action;
 use sdh_ringmap::{Pos, Side};
 use sdh_terminal::{Feeder, Inlet, Intake, Matrix};
+use sdh_terms::Rate;
 use std::alloc::{AllocError, Global};
 use std::marker::Model;
 

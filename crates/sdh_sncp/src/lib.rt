@@ -13,5 +13,8 @@ mod shared;
 mod slots;
 mod station;
 
-pub use laws::{comes_is_norm, new_worlds_are_whole, quiet_rings_deliver, rounds_get_calm, stay_whole, steps_answer, steps_deliver};
+pub use laws::{
+    comes_is_norm, new_worlds_are_whole, quiet_rings_deliver, rounds_get_calm, stay_whole,
+    steps_answer, steps_deliver,
+};
 pub use ring::{PathError, PathRing};
