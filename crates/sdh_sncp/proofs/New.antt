@@ -1,6 +1,8 @@
 -- A new path ring over prepared fibres, and what happens to whole rings.
 use Rattle.std.proofs.Common.{◌≡◌, ℕ, zero, suc, ◌+◌, ◌*◌, ◌<◌, ◌≤◌, List, [], ◌∷◌, length, get_or, replicate, Option, Some, None, refl, ap, sym, ◌∙◌, subst, arith, inl, inr}
-use Rattle.std.specs.Prelude.{All}
+use Rattle.std.specs.Prelude.{All, slice_get}
+use Rattle.std.specs.Option.{option_map_or}
+use Rattle.std.proofs.lemmas.Option.{get_or_from_slice_get, slice_get_within}
 use Rattle.std.proofs.lemmas.Bool.{cases_lt}
 use Rattle.std.proofs.lemmas.List.{length-replicate, get_or-replicate, get_or_past}
 use Rattle.sdh_basics.proofs.CellsLaws.{length-cells, get_or-cells}
@@ -9,7 +11,9 @@ use Rattle.sdh_ringmap.specs.declared.Side.{Side}
 use Rattle.sdh_ringmap.specs.declared.Side.TheVariants.{West, East}
 use Rattle.sdh_ringmap.specs.Ids.{AreIds}
 use Rattle.sdh_ringmap.specs.Places.{position_of}
-use Rattle.sdh_circuits.specs.Provisioned.{Provisioned}
+use Rattle.sdh_circuits.specs.declared.PortId.{PortId}
+use Rattle.sdh_circuits.specs.Provisioned.{Provisioned, end_of}
+use Rattle.sdh_payload.specs.Outlet.{silent}
 use Rattle.sdh_circuits.specs.Provisioning.{Provisioning}
 use Rattle.sdh_nodestate.specs.Words.{first_word}
 use Rattle.sdh_terms.specs.declared.Condition.{Condition}
@@ -18,12 +22,12 @@ use Rattle.sdh_terms.specs.Fibres.{fibre}
 use Rattle.sdh_plant.specs.Calls.{prepared}
 use Rattle.sdh_plant.proofs.Calling.{stay_prepared, stay_honest}
 use Rattle.sdh_request.specs.declared.settings.Settings.{Settings}
-use Rattle.sdh_terminal.specs.Tributaries.{Tributary, tributaries_at}
+use Rattle.sdh_terminal.specs.Tributaries.{Tributary, ends_from, tributaries_at, port_of, outlet_of}
 use Rattle.sdh_spans.specs.Sides.{IsInletAt, IsSenderAt}
 use Rattle.sdh_sncp.specs.Node.{PathNode, new_node, inlet_on, sending_on}
-use Rattle.sdh_sncp.specs.Ring.{HeldPath, new_nodes, new_ring, nowhere, node_at, AtEach, World, world}
-use Rattle.sdh_sncp.specs.Laws.{HasPlace, IsUnslipped, HasRun, IsBetween, IsPlaced, IsPaired, IsWhole, NewWorldsAreWhole, StayWhole}
-use Rattle.sdh_terminal.proofs.Found.{new_ports}
+use Rattle.sdh_sncp.specs.Ring.{HeldPath, new_nodes, new_ring, nowhere, node_at, AtEach, World, world, outlet_at}
+use Rattle.sdh_sncp.specs.Laws.{HasPlace, IsUnslipped, HasRun, IsBetween, IsPlaced, IsPaired, IsWhole, NewWorldsAreWhole, NewRingsAreSilent, StayWhole}
+use Rattle.sdh_terminal.proofs.Found.{found_has, new_ports}
 use Rattle.sdh_sncp.proofs.Rounds.{whole_round, whole_run}
 
 -- ---- a new node
@@ -92,6 +96,36 @@ new_worlds_are_whole s ids circuits f is honest = record {
     carried = λ p h. record { dark = λ d e. none_at (2 * length ids) (fibre p d); frames = λ d some. absurd (omega arith) };
   };
 }
+
+-- ---- what a new ring delivers
+
+found_silent : (id : PortId) (ts : List Tributary) → All (λ (t : Tributary). t.outlet ≡ silent) ts → outlet_of id ts ≡ silent
+found_silent id ts all = by (port_of id ts) refl
+  where
+    by : (o : Option Tributary) → port_of id ts ≡ o → option_map_or (λ (t : Tributary). t.outlet) o silent ≡ silent
+    by None e = refl
+    by (Some t) e = (found_has (λ (t : Tributary). t.outlet ≡ silent) id ts t all e).0
+
+node_silent : (s : Settings) (ids : List ℕ) (cs : List Provisioned) (p : ℕ) (id : PortId) → outlet_of id (new_node s ids cs (position_of p)).ports ≡ silent
+unfolding new_node tributaries_at
+node_silent s ids cs p id = found_silent id (ends_from (position_of p) 0 cs) (new_ports (λ (t : Tributary). t.outlet ≡ silent) (λ i e d m c. refl) (position_of p) 0 cs)
+
+place_silent : (s : Settings) (ids : List ℕ) (cs : List Provisioned) (n p : ℕ) (id : PortId) → option_map_or (λ (x : PathNode). outlet_of id x.ports) (slice_get (new_nodes s ids cs n) p) silent ≡ silent
+place_silent s ids cs n p id = by (slice_get (new_nodes s ids cs n) p) refl
+  where
+    by : (o : Option PathNode) → slice_get (new_nodes s ids cs n) p ≡ o → option_map_or (λ (x : PathNode). outlet_of id x.ports) o silent ≡ silent
+    by None e = refl
+    by (Some x) e =
+        let low : p < n = omega (arith, slice_get_within (new_nodes s ids cs n) p x e, length-new s ids cs n) in
+        ap (λ (y : PathNode). outlet_of id y.ports) (sym (get_or_from_slice_get (new_nodes s ids cs n) p x x e) ∙ new_at s ids cs n p x low) ∙ node_silent s ids cs p id
+
+pub new_rings_are_silent : NewRingsAreSilent
+unfolding outlet_at
+new_rings_are_silent s ids circuits port = by (slice_get circuits.circuits port.circuit)
+  where
+    by : (o : Option Provisioned) → option_map_or (λ (c : Provisioned). option_map_or (λ (n : PathNode). outlet_of port n.ports) (slice_get (new_nodes s ids circuits.circuits (length ids)) (end_of c port.end).0) silent) o silent ≡ silent
+    by None = refl
+    by (Some c) = place_silent s ids circuits.circuits (length ids) (end_of c port.end).0 port
 
 -- ---- what stays
 

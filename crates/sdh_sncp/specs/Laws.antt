@@ -9,10 +9,12 @@ use Rattle.sdh_ringmap.specs.Ids.{AreIds}
 use Rattle.sdh_ringmap.specs.Places.{position_of}
 use Rattle.sdh_ringmap.specs.declared.Side.{Side}
 use Rattle.sdh_circuits.specs.declared.End.{End}
+use Rattle.sdh_circuits.specs.declared.PortId.{PortId}
 use Rattle.sdh_circuits.specs.Provisioned.{Provisioned}
 use Rattle.sdh_circuits.specs.Provisioning.{Provisioning, AreCircuits}
 use Rattle.sdh_nodestate.specs.Words.{first_word}
 use Rattle.sdh_payload.specs.Feed.{Fed}
+use Rattle.sdh_payload.specs.Outlet.{silent}
 use Rattle.sdh_terms.specs.declared.Condition.{Condition}
 use Rattle.sdh_plant.specs.Fibres.{Fibres, IsPrepared, IsHonest}
 use Rattle.sdh_terms.specs.Fibres.{IsConditionAt, fibre_to, is_cut}
@@ -81,6 +83,10 @@ pub record IsWhole (w : World) : Type 0 where
 
 abbrev pub NewWorldsAreWhole : Type 0
 NewWorldsAreWhole = (s : Settings) (ids : List ℕ) (circuits : Provisioning) (f : Fibres) → AreIds ids → IsHonest f → IsWhole (world (new_ring s ids circuits) (prepared s.rate (length ids) f))
+
+-- before the first round every port delivers AIS
+abbrev pub NewRingsAreSilent : Type 0
+NewRingsAreSilent = (s : Settings) (ids : List ℕ) (circuits : Provisioning) (port : PortId) → outlet_at (new_ring s ids circuits) port ≡ silent
 
 pub record StayWhole : Type 0 where
   pub round : (w : World) → IsWhole w → IsWhole (round w)

@@ -14,7 +14,7 @@ mod slots;
 mod station;
 
 pub use laws::{
-    comes_is_norm, new_worlds_are_whole, quiet_rings_deliver, rounds_get_calm, stay_whole,
-    steps_answer, steps_deliver,
+    comes_is_norm, new_rings_are_silent, new_worlds_are_whole, quiet_rings_deliver,
+    rounds_get_calm, stay_whole, steps_answer, steps_deliver,
 };
 pub use ring::{PathError, PathRing};

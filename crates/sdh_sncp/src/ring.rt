@@ -5,6 +5,8 @@ ghost use Rattle.sdh_terms.specs.Rates.{n_of};
 ghost use Rattle.sdh_circuits.specs.Kept.{KeepsRing};
 ghost use Rattle.sdh_plant.specs.Fibres.{Fibres, IsPrepared, IsHonest};
 ghost use Rattle.sdh_plant.specs.Calls.{prepared};
+ghost use Rattle.sdh_payload.specs.Outlet.{silent};
+ghost use Rattle.sdh_circuits.specs.declared.PortId.{PortId};
 ghost use Rattle.sdh_rounds.specs.Laws.{EndsAtAMultiple};
 ghost use Rattle.sdh_rounds.specs.Quiet.{enough_for};
 ghost use Rattle.sdh_rounds.specs.Outcome.{Outcome};
@@ -126,10 +128,15 @@ impl PathRing {
 
         // Over fibres that were just prepared for it, what is carried is what was sent.
         ensures whole { IfOk result (λ ring. (f : Fibres) → IsHonest f → IsWhole (world ring (prepared settings.rate (length map) f))) }
+
+        // Before the first round every port delivers AIS.
+        ensures silent { IfOk result (λ ring. (port : PortId) → outlet_at ring port ≡ silent) }
         ensures same_slot { (first second : ℕ) → result ≡ Err (PathError.SameSlot first second) → AreFirstToShare circuits.circuits first second }
-        ensures alone { result ≡ Err PathError.Memory → AreAlone circuits.circuits }
+        ensures alone { IfOk result (λ ring. AreAlone circuits.circuits) }
+        ensures memory { result ≡ Err PathError.Memory → AreAlone circuits.circuits }
     {
         crate::laws::new_worlds_are_whole();
+        crate::laws::new_rings_are_silent();
 
         // Reading it gives the proof what is true of every ring map.
         let _count = map.len();
