@@ -1,22 +1,17 @@
 -- What a calm round leaves, and when a round is calm.
-use Rattle.std.proofs.Common.{◌≡◌, ℕ, zero, suc, subst, ◌+◌, ◌<◌, ◌≤◌, Bool, true, false, List, [], ◌∷◌, Option, length, get_or, refl, ap, sym, ◌∙◌, arith, inl, inr}
+use Rattle.std.proofs.Common.{◌≡◌, ℕ, zero, suc, subst, ◌<◌, ◌≤◌, true, List, [], ◌∷◌, length, get_or, refl, ap, sym, ◌∙◌, arith, inl, inr}
 use Rattle.std.specs.Prelude.{◌&&◌, nat_le}
 use Rattle.std.proofs.lemmas.Bool.{and_parts, leb-true, le-leb, cases_Bool, both_ways}
 use Rattle.std.proofs.lemmas.List.Folds.{list_all_at}
 use Rattle.std.proofs.lemmas.List.Sums.{list_all-from_AllPass}
 use Rattle.sdh_ringmap.specs.declared.Side.{Side}
 use Rattle.sdh_ringmap.specs.declared.Side.TheVariants.{West, East}
-use Rattle.sdh_pointer.specs.declared.reading.Reading.{Reading}
-use Rattle.sdh_pointer.specs.Reading.{same_reading}
-use Rattle.sdh_pointer.specs.Sending.{same_sending}
-use Rattle.sdh_pointer.proofs.Unmoved as one
-use Rattle.sdh_pointer.proofs.Sent as sent
 use Rattle.sdh_terminal.specs.Same.{same_readings, same_generators}
 use Rattle.sdh_terminal.proofs.Marks.{same-readings}
 use Rattle.sdh_sncp.specs.Node.{PathNode, inlet_on, sending_on, unchanged, crossing, after_crossing, with_calm, node_round}
 use Rattle.sdh_sncp.specs.Ring.{nowhere, node_at, World, node_after, round, is_calm}
 use Rattle.sdh_sncp.specs.Laws.{IsWhole}
-use Rattle.sdh_sncp.proofs.Nodes.{informed, informed_on, informed_out, nodes_after, length-after}
+use Rattle.sdh_sncp.proofs.Nodes.{informed, nodes_after, length-after}
 use Rattle.sdh_terminal.proofs.Same.{readings_same, generators_same, generators_itself}
 
 -- interpreters and generators of both sides are the same

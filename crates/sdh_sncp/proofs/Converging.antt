@@ -1,12 +1,11 @@
 -- From any path ring that is paired with its fibres: all rounds are calm from some round on, and so a quiet window comes.
-use Rattle.std.proofs.Common.{◌≡◌, ◌≢◌, ℕ, zero, suc, ◌+◌, ◌-◌, ◌*◌, ◌%◌, ◌<◌, ◌≤◌, Bool, true, false, List, [], ◌∷◌, length, get_or, Option, Some, None, refl, ap, ap₂, sym, ◌∙◌, subst, arith, inl, inr, ◌⊎◌}
-use Rattle.std.specs.Prelude.{slice_get, ◌/◌, All}
-use Rattle.std.proofs.lemmas.Bool.{cases_lt, cases_eq}
+use Rattle.std.proofs.Common.{◌≡◌, ◌≢◌, ℕ, zero, suc, ◌+◌, ◌-◌, ◌*◌, ◌%◌, ◌<◌, ◌≤◌, Bool, true, List, [], ◌∷◌, length, get_or, Option, Some, None, refl, ap, sym, ◌∙◌, subst, arith, inl, inr, ◌⊎◌}
+use Rattle.std.specs.Prelude.{slice_get}
+use Rattle.std.proofs.lemmas.Bool.{cases_eq}
 use Rattle.std.proofs.lemmas.List.{ext_get_or}
 use Rattle.std.proofs.lemmas.Option.{get_or_from_slice_get, slice_get_within}
 use Rattle.sdh_terms.specs.Rates.{n_of}
 use Rattle.sdh_ringmap.specs.declared.Side.{Side}
-use Rattle.sdh_ringmap.specs.declared.Side.TheVariants.{West, East}
 use Rattle.sdh_ringmap.specs.Places.{neighbour, opposite}
 use Rattle.sdh_ringmap.specs.Steps.{going}
 use Rattle.sdh_ringmap.proofs.Going.{IsReached, going-none, going-first, reached}
@@ -14,7 +13,7 @@ use Rattle.sdh_ringmap.proofs.Sides.{neighbour_below}
 use Rattle.sdh_circuits.specs.declared.End.{End}
 use Rattle.sdh_circuits.specs.declared.End.TheVariants.{A, B}
 use Rattle.sdh_circuits.specs.Provisioned.{Provisioned, customer_at, end_of}
-use Rattle.sdh_circuits.specs.Provisioning.{IsInRing, IsInSlots, HasOffsets}
+use Rattle.sdh_circuits.specs.Provisioning.{IsInRing}
 use Rattle.sdh_pointer.specs.declared.reading.Reading.{Reading}
 use Rattle.sdh_pointer.specs.declared.reading.Action.TheVariants as action
 use Rattle.sdh_pointer.specs.Reading.{start}
@@ -32,12 +31,11 @@ use Rattle.sdh_spans.proofs.Steady as spans
 use Rattle.sdh_spans.proofs.Steady.{constant_as, constant_later, spans_are_steady}
 use Rattle.sdh_sncp.specs.Stations.{path_node}
 use Rattle.sdh_sncp.specs.Node.{inlet_on, sending_on}
-use Rattle.sdh_sncp.specs.Slots.{use_of, use_by}
-use Rattle.sdh_sncp.specs.Ring.{node_at, World, round, run, course, is_calm, EndsWindow, Unsettles}
+use Rattle.sdh_sncp.specs.Ring.{node_at, World, run, course, is_calm, EndsWindow}
 use Rattle.sdh_sncp.specs.Fixed.{AreAlone}
 use Rattle.sdh_sncp.specs.Laws.{IsWhole, HasCircuits, cut_in, RoundsGetCalm, StepsAnswer, StepsDeliver, DeliversWhatIsDue}
 use Rattle.sdh_terminal.proofs.Found.{port_id}
-use Rattle.sdh_sncp.proofs.Rounds.{neighbour_inside, whole_run, IsLeft, left_run}
+use Rattle.sdh_sncp.proofs.Rounds.{neighbour_inside, whole_run, left_run}
 use Rattle.sdh_sncp.proofs.Calm.{AreSame, calm_where_same}
 use Rattle.sdh_sncp.proofs.Spans.{sent_at, came_at, generator_step, interpreter_step}
 use Rattle.sdh_sncp.proofs.Uses.{use_is, use_none, use_passed, use_ended, sends_passed, sends_ended, sends_none, port_sends}

@@ -1,5 +1,5 @@
 -- What calls keep of the nodes of a path ring.
-use Rattle.std.proofs.Common.{◌≡◌, ℕ, zero, suc, ◌+◌, ◌<◌, Bool, List, [], ◌∷◌, ◌++◌, length, get_or, map, refl, ap, sym, subst, ◌∙◌, arith}
+use Rattle.std.proofs.Common.{◌≡◌, ℕ, zero, suc, ◌+◌, ◌<◌, List, [], ◌∷◌, ◌++◌, length, get_or, map, refl, ap, sym, subst, ◌∙◌, arith}
 use Rattle.std.specs.Prelude.{All, IsSome, Option, Some, None, find, option_map, slice_get}
 use Rattle.std.specs.Option.{option_map_or}
 use Rattle.std.proofs.lemmas.List.{length-map}
@@ -14,7 +14,7 @@ use Rattle.sdh_payload.specs.Outlet.{silent}
 use Rattle.sdh_plant.specs.Fibres.{Arrival}
 use Rattle.sdh_request.specs.declared.settings.Settings.{Settings}
 use Rattle.sdh_terminal.specs.Receiving.{after_taking}
-use Rattle.sdh_terminal.specs.Tributaries.{Tributary, port_of, HasPort, outlet_of, tributaries_at}
+use Rattle.sdh_terminal.specs.Tributaries.{port_of, HasPort, outlet_of, tributaries_at}
 use Rattle.sdh_rounds.specs.Rounds as any_round
 use Rattle.sdh_sncp.specs.Node.{PathNode, new_node, told, crossing, after_crossing, with_calm, node_round}
 use Rattle.sdh_sncp.specs.Ring.{HeldPath, new_nodes, with_arrivals, all_with_arrivals, node_after, outlet_at}

@@ -1,32 +1,28 @@
 -- A new path ring over prepared fibres, and what happens to whole rings.
-use Rattle.std.proofs.Common.{◌≡◌, ℕ, zero, suc, ◌+◌, ◌*◌, ◌<◌, ◌≤◌, List, [], ◌∷◌, length, get_or, replicate, Option, Some, None, refl, ap, sym, ◌∙◌, subst, arith, inl, inr}
+use Rattle.std.proofs.Common.{◌≡◌, ℕ, ◌*◌, ◌<◌, List, length, get_or, replicate, Option, Some, None, refl, ap, sym, ◌∙◌, subst, arith, inl, inr}
 use Rattle.std.specs.Prelude.{All, slice_get}
 use Rattle.std.specs.Option.{option_map_or}
 use Rattle.std.proofs.lemmas.Option.{get_or_from_slice_get, slice_get_within}
 use Rattle.std.proofs.lemmas.Bool.{cases_lt}
 use Rattle.std.proofs.lemmas.List.{length-replicate, get_or-replicate, get_or_past}
 use Rattle.sdh_basics.proofs.CellsLaws.{length-cells, get_or-cells}
-use Rattle.sdh_terms.specs.Rates.{n_of}
 use Rattle.sdh_ringmap.specs.declared.Side.{Side}
 use Rattle.sdh_ringmap.specs.declared.Side.TheVariants.{West, East}
-use Rattle.sdh_ringmap.specs.Ids.{AreIds}
 use Rattle.sdh_ringmap.specs.Places.{position_of}
 use Rattle.sdh_circuits.specs.declared.PortId.{PortId}
 use Rattle.sdh_circuits.specs.Provisioned.{Provisioned, end_of}
 use Rattle.sdh_payload.specs.Outlet.{silent}
 use Rattle.sdh_circuits.specs.Provisioning.{Provisioning}
 use Rattle.sdh_nodestate.specs.Words.{first_word}
-use Rattle.sdh_terms.specs.declared.Condition.{Condition}
-use Rattle.sdh_plant.specs.Fibres.{Arrival, Fibres}
+use Rattle.sdh_plant.specs.Fibres.{Arrival}
 use Rattle.sdh_terms.specs.Fibres.{fibre}
-use Rattle.sdh_plant.specs.Calls.{prepared}
 use Rattle.sdh_plant.proofs.Calling.{stay_prepared, stay_honest}
 use Rattle.sdh_request.specs.declared.settings.Settings.{Settings}
 use Rattle.sdh_terminal.specs.Tributaries.{Tributary, ends_from, tributaries_at, port_of, outlet_of}
 use Rattle.sdh_spans.specs.Sides.{IsInletAt, IsSenderAt}
 use Rattle.sdh_sncp.specs.Node.{PathNode, new_node, inlet_on, sending_on}
-use Rattle.sdh_sncp.specs.Ring.{HeldPath, new_nodes, new_ring, nowhere, node_at, AtEach, World, world, outlet_at}
-use Rattle.sdh_sncp.specs.Laws.{HasPlace, IsUnslipped, HasRun, IsBetween, IsPlaced, IsPaired, IsWhole, NewWorldsAreWhole, NewRingsAreSilent, StayWhole}
+use Rattle.sdh_sncp.specs.Ring.{new_nodes, new_ring, nowhere, AtEach, outlet_at}
+use Rattle.sdh_sncp.specs.Laws.{HasPlace, IsUnslipped, IsBetween, NewWorldsAreWhole, NewRingsAreSilent, StayWhole}
 use Rattle.sdh_terminal.proofs.Found.{found_has, new_ports}
 use Rattle.sdh_sncp.proofs.Rounds.{whole_round, whole_run}
 

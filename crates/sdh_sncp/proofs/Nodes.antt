@@ -1,5 +1,5 @@
 -- The nodes of a path ring, one by one, and what stays of them whatever arrives.
-use Rattle.std.proofs.Common.{◌≡◌, ℕ, zero, suc, ◌+◌, ◌-◌, ◌*◌, ◌<◌, Bool, true, false, List, [], ◌∷◌, length, get_or, map, Option, Some, None, refl, ap, sym, subst, ◌∙◌, arith}
+use Rattle.std.proofs.Common.{◌≡◌, ℕ, zero, suc, ◌+◌, ◌<◌, Bool, true, false, List, [], ◌∷◌, length, map, Option, Some, None, refl, ap, sym, subst, ◌∙◌, arith}
 use Rattle.std.specs.Prelude.{All, ◌==◌, if◌then◌else◌}
 use Rattle.std.proofs.lemmas.Bool.{eq-eqb, ne_eqb}
 use Rattle.std.proofs.lemmas.List.{get_or-map}
@@ -17,7 +17,7 @@ use Rattle.sdh_nodestate.specs.Words.{first_word}
 use Rattle.sdh_terminal.specs.Receiving.{Inlet, after_taking}
 use Rattle.sdh_terminal.specs.Passing.{Input}
 use Rattle.sdh_terminal.specs.Lines.{line_on}
-use Rattle.sdh_terminal.specs.Sending.{Sending, line_frame_from, after_sending}
+use Rattle.sdh_terminal.specs.Sending.{line_frame_from, after_sending}
 use Rattle.sdh_terminal.specs.Tributaries.{Tributary, fed, all_fed, delivered_with}
 use Rattle.sdh_rounds.specs.Rounds as any_round
 use Rattle.sdh_rounds.specs.Rounds.{arrival_at, arrivals_from, receivers_in}

@@ -1,13 +1,12 @@
 -- Each port delivers what it is owed.
-use Rattle.std.proofs.Common.{◌≡◌, ◌≢◌, ℕ, zero, suc, ◌+◌, ◌-◌, ◌*◌, ◌%◌, ◌<◌, ◌≤◌, Bool, true, false, List, [], ◌∷◌, length, map, Option, Some, None, refl, ap, sym, ◌∙◌, subst, arith, inl, inr}
+use Rattle.std.proofs.Common.{◌≡◌, ℕ, suc, ◌+◌, ◌-◌, ◌*◌, ◌<◌, ◌≤◌, Bool, true, false, List, length, Some, refl, ap, sym, ◌∙◌, subst, arith}
 use Rattle.std.specs.Prelude.{slice_get, if◌then◌else◌, find, All, not, ◌/◌}
 use Rattle.std.specs.Option.{option_map_or}
 use Rattle.std.proofs.lemmas.Option.{slice_get-get_or, get_or_from_slice_get, slice_get_within}
-use Rattle.sdh_basics.specs.Indexed.{map_from}
 use Rattle.sdh_terms.specs.Rates.{n_of}
 use Rattle.sdh_ringmap.specs.declared.Side.{Side}
-use Rattle.sdh_ringmap.specs.declared.Side.TheVariants.{West, East}
-use Rattle.sdh_ringmap.specs.Places.{neighbour, opposite}
+use Rattle.sdh_ringmap.specs.declared.Side.TheVariants.{West}
+use Rattle.sdh_ringmap.specs.Places.{opposite}
 use Rattle.sdh_ringmap.proofs.Going.{going-none, going-round}
 use Rattle.sdh_circuits.specs.declared.End.{End}
 use Rattle.sdh_circuits.specs.declared.End.TheVariants.{A, B}
@@ -15,26 +14,23 @@ use Rattle.sdh_circuits.specs.declared.PortId.{PortId}
 use Rattle.sdh_circuits.specs.Provisioned.{Provisioned, customer_at, end_of}
 use Rattle.sdh_circuits.specs.Provisioning.{HasOffsets, IsInRing, IsInSlots}
 use Rattle.sdh_payload.specs.Customer.{Customer}
-use Rattle.sdh_payload.specs.declared.delivered.Delivered.{Delivered}
-use Rattle.sdh_payload.specs.declared.delivered.Delivered.TheVariants as delivered
-use Rattle.sdh_payload.specs.Outlet.{Outlet, silent, delivering}
-use Rattle.sdh_pointer.specs.declared.reading.Action.TheVariants as action
+use Rattle.sdh_payload.specs.Outlet.{Outlet, silent}
 use Rattle.sdh_pointer.specs.Laws.{is_ais_action}
 use Rattle.sdh_ringmap.specs.Steps.{going}
 use Rattle.sdh_circuits.specs.Ends.{other_end}
-use Rattle.sdh_terminal.specs.Passing.{Input, no_input}
+use Rattle.sdh_terminal.specs.Passing.{no_input}
 use Rattle.sdh_terminal.specs.Lines.{received, dropped_by}
-use Rattle.sdh_terminal.specs.Outlets.{delivered_by, delivered_from}
-use Rattle.sdh_terminal.specs.Tributaries.{Tributary, is_port, port_of, outlet_of, fed, all_fed, delivered_with, all_delivered_with}
+use Rattle.sdh_terminal.specs.Outlets.{delivered_from}
+use Rattle.sdh_terminal.specs.Tributaries.{Tributary, is_port, port_of, outlet_of, fed, all_fed, delivered_with}
 use Rattle.sdh_rounds.specs.Rounds as any_round
 use Rattle.sdh_rounds.specs.Runs as any_run
-use Rattle.sdh_spans.specs.Brought.{Brings, HasValue}
+use Rattle.sdh_spans.specs.Brought.{Brings}
 use Rattle.sdh_spans.proofs.Ports.{ports_deliver}
 use Rattle.sdh_sncp.specs.Node.{PathNode, PathCross, crossing, drops, dropped_to, lines_of, ports_after, after_crossing, with_calm, node_round, comes}
 use Rattle.sdh_sncp.specs.Ring.{HeldPath, nowhere, node_at, World, outlet_at, node_after, round, run, course, is_calm, EndsWindow}
 use Rattle.sdh_sncp.specs.Due.{way_clear, main_spans, spare_spans, sends_in, due_path}
 use Rattle.sdh_circuits.specs.Ends.{inward}
-use Rattle.sdh_sncp.specs.Laws.{IsWhole, HasCircuits, cut_in, DeliversWhatIsDue, QuietRingsDeliver}
+use Rattle.sdh_sncp.specs.Laws.{IsWhole, HasCircuits, cut_in, QuietRingsDeliver}
 use Rattle.sdh_terminal.proofs.Found.{port_id, IsPortOf, port-found, found_one, twice}
 use Rattle.sdh_sncp.proofs.Nodes.{informed, nodes_after, length-after}
 use Rattle.sdh_sncp.proofs.Rounds.{whole_round, whole_run, left_run}

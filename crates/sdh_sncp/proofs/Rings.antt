@@ -1,5 +1,5 @@
 -- What is true of a path ring, call by call.
-use Rattle.std.proofs.Common.{◌≡◌, ℕ, ◌+◌, ◌/◌, ◌<◌, ◌≤◌, Bool, true, false, List, length, map, ap, sym, subst, ◌∙◌, arith}
+use Rattle.std.proofs.Common.{◌≡◌, ℕ, ◌+◌, ◌/◌, ◌<◌, Bool, true, false, List, length, map, ap, sym, subst, ◌∙◌, arith}
 use Rattle.std.specs.Prelude.{All, ◌^◌}
 use Rattle.sdh_terms.specs.declared.Rate.{Rate}
 use Rattle.sdh_circuits.specs.Provisioning.{AreCircuits}

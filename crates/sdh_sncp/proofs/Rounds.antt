@@ -1,5 +1,5 @@
 -- A round of a path ring whose nodes are in their places and whose fibres carry what they sent.
-use Rattle.std.proofs.Common.{◌≡◌, ◌≢◌, ℕ, zero, suc, ◌+◌, ◌*◌, ◌<◌, ◌≤◌, List, [], ◌∷◌, length, get_or, map, Some, None, refl, ap, sym, subst, ◌∙◌, arith, inl, inr}
+use Rattle.std.proofs.Common.{◌≡◌, ℕ, zero, suc, ◌+◌, ◌*◌, ◌<◌, List, [], ◌∷◌, length, get_or, map, Some, None, refl, ap, sym, subst, ◌∙◌, arith, inl, inr}
 use Rattle.std.proofs.lemmas.Bool.{cases_lt}
 use Rattle.std.proofs.lemmas.List.{get_or_past}
 use Rattle.sdh_terms.specs.declared.Rate.{Rate}
@@ -9,7 +9,6 @@ use Rattle.sdh_ringmap.specs.declared.Side.TheVariants.{West, East}
 use Rattle.sdh_ringmap.specs.Places.{neighbour, opposite}
 use Rattle.sdh_ringmap.proofs.Sides.{neighbour_below}
 use Rattle.sdh_kbytes.specs.declared.K.{K}
-use Rattle.sdh_kbytes.specs.declared.Mark.TheVariants as mark
 use Rattle.sdh_nodestate.specs.Words.{first_word}
 use Rattle.sdh_plant.specs.Fibres.{IsPrepared, IsHonest}
 use Rattle.sdh_terms.specs.Fibres.{IsConditionAt, fibre, fibre_to}
@@ -17,21 +16,20 @@ use Rattle.sdh_terms.specs.declared.Condition.TheVariants.{Clear}
 use Rattle.sdh_plant.specs.Arrivals.{through, carried_on, condition_of}
 use Rattle.sdh_terminal.specs.Receiving.{Inlet, after_taking}
 use Rattle.sdh_terminal.specs.Lines.{line_on}
-use Rattle.sdh_terminal.specs.Sending.{Sending, line_frame_from}
+use Rattle.sdh_terminal.specs.Sending.{Sending}
 use Rattle.sdh_rounds.specs.Rounds as any_round
 use Rattle.sdh_rounds.specs.Rounds.{arrival_at, sent_all}
 use Rattle.sdh_rounds.specs.Runs as any_run
-use Rattle.sdh_rounds.specs.Laws.{Keeps}
 use Rattle.sdh_rounds.proofs.Runs.{length-heard, prepared_round, count_round, held_round, conditions_round}
 use Rattle.sdh_rounds.proofs.Honest.{honest_rounds}
-use Rattle.sdh_spans.specs.Frames.{Says, CarriesWord, AreCarried}
+use Rattle.sdh_spans.specs.Frames.{Says, CarriesWord}
 use Rattle.sdh_spans.specs.Sides.{IsSenderAt, IsTold}
 use Rattle.sdh_spans.specs.Spans.{line_after}
 use Rattle.sdh_sncp.specs.Node.{PathNode, lines_of, crossing, inlet_on, sending_on}
 use Rattle.sdh_sncp.specs.Stations.{path_node}
 use Rattle.sdh_sncp.specs.Ring.{HeldPath, node_at, World, sent_on, frames_of, nodes_with, arrivals_of, round, run}
 use Rattle.sdh_sncp.specs.Laws.{IsPaired, IsWhole, condition_to}
-use Rattle.sdh_sncp.proofs.Nodes.{puts, placed_round, told_to, told_later, informed, informed_on, informed_out, listening_at, nodes_after, length-after, inlet_after, line_taken, frame_is, node_sends}
+use Rattle.sdh_sncp.proofs.Nodes.{placed_round, told_to, told_later, informed, informed_on, informed_out, listening_at, nodes_after, length-after, inlet_after, line_taken, frame_is, node_sends}
 
 module _ (w : World) (whole : IsWhole w) where
   abbrev size : ℕ

@@ -24,7 +24,7 @@ use Rattle.sdh_sncp.specs.Node.{PathNode, PathCross, lines_of, leads, crossing, 
 use Rattle.sdh_sncp.specs.Ring.{node_at, World, round, is_calm}
 use Rattle.sdh_sncp.specs.Laws.{IsWhole, condition_to, cut_in}
 use Rattle.sdh_sncp.proofs.Nodes.{puts, informed, informed_out, told_later, nodes_after, length-after, one_more, frame_is, sending_after, node_sends}
-use Rattle.sdh_sncp.proofs.Rounds.{neighbour_inside, may_at, arrival_is, sent_to, inlet_at, threshold_at, told_side, side_is, line_is, carried_after, sends_at, word_is, whole_round}
+use Rattle.sdh_sncp.proofs.Rounds.{neighbour_inside, may_at, arrival_is, inlet_at, threshold_at, told_side, side_is, line_is, carried_after, sends_at, word_is, whole_round}
 use Rattle.sdh_sncp.proofs.Calm.{same_there}
 
 -- ---- in the round that begins with this world

@@ -1,34 +1,30 @@
 -- What a node does with the slot of a circuit, and what goes into its AU-4s.
-use Rattle.std.proofs.Common.{◌≡◌, ◌≢◌, ℕ, zero, suc, ◌+◌, ◌-◌, ◌*◌, ◌<◌, ◌≤◌, Bool, true, false, List, [], ◌∷◌, length, get_or, Option, Some, None, refl, ap, sym, ◌∙◌, subst, arith, inl, inr}
-use Rattle.std.specs.Prelude.{slice_get, ◌==◌, if◌then◌else◌}
+use Rattle.std.proofs.Common.{◌≡◌, ◌≢◌, ℕ, zero, suc, ◌+◌, ◌-◌, ◌*◌, ◌<◌, ◌≤◌, true, false, List, [], ◌∷◌, length, get_or, Some, refl, ap, sym, ◌∙◌, subst, arith}
+use Rattle.std.specs.Prelude.{slice_get, ◌==◌}
 use Rattle.std.specs.Option.{option_map_or}
-use Rattle.std.proofs.lemmas.Bool.{eq-eqb, ne_eqb, cases_eq}
+use Rattle.std.proofs.lemmas.Bool.{eq-eqb, ne_eqb}
 use Rattle.sdh_basics.proofs.CellsLaws.{get_or-cells}
 use Rattle.sdh_terms.specs.Rates.{n_of}
 use Rattle.sdh_ringmap.specs.declared.Side.{Side}
 use Rattle.sdh_ringmap.specs.declared.Side.TheVariants.{West, East}
 use Rattle.sdh_payload.specs.Outlet.{delivering}
-use Rattle.sdh_ringmap.specs.Places.{opposite, position_of}
+use Rattle.sdh_ringmap.specs.Places.{opposite}
 use Rattle.sdh_circuits.specs.declared.End.{End}
 use Rattle.sdh_circuits.specs.declared.End.TheVariants.{A, B}
 use Rattle.sdh_circuits.specs.declared.PortId.{PortId}
 use Rattle.sdh_circuits.specs.Provisioned.{Provisioned, customer_at, end_of}
 use Rattle.sdh_payload.specs.Customer.{Customer}
-use Rattle.sdh_payload.specs.declared.chunk.ChunkForm.{ChunkForm}
-use Rattle.sdh_payload.specs.declared.chunk.ChunkForm.TheVariants.{Plain}
-use Rattle.sdh_payload.specs.Clock.{Clock, next_form, after_form, ticked}
 use Rattle.sdh_payload.specs.Stream.{stream_from}
-use Rattle.sdh_terminal.specs.declared.matrix.Feeder.{Feeder}
-use Rattle.sdh_terminal.specs.Passing.{Input, no_input}
+use Rattle.sdh_terminal.specs.Passing.{no_input}
 use Rattle.sdh_terminal.specs.Lines.{fed_by}
-use Rattle.sdh_terminal.specs.Tributaries.{Tributary, sent_by, sent_in, input_by, added_by, port_of}
+use Rattle.sdh_terminal.specs.Tributaries.{Tributary, sent_in, input_by, added_by, port_of}
 use Rattle.sdh_spans.specs.Brought.{Brings}
 use Rattle.sdh_spans.proofs.Ports.{ports_bring}
 use Rattle.sdh_sncp.specs.declared.slots.Use.{Use}
 use Rattle.sdh_sncp.specs.declared.slots.Use.TheVariants.{Unused, Passed, Ended}
 use Rattle.sdh_sncp.specs.Slots.{use_by, use_from, use_of, uses_at}
 use Rattle.sdh_sncp.specs.Due as due
-use Rattle.sdh_sncp.specs.Node.{PathNode, fed_for, leads, lines_of, crossing}
+use Rattle.sdh_sncp.specs.Node.{fed_for, leads, lines_of, crossing}
 use Rattle.sdh_sncp.specs.Fixed.{AreAlone}
 use Rattle.sdh_sncp.specs.Ring.{node_at, World}
 use Rattle.sdh_sncp.specs.Laws.{IsUnslipped, IsWhole}

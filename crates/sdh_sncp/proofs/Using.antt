@@ -1,11 +1,10 @@
 -- What is done with a slot, circuit by circuit; and which circuits share one.
-use Rattle.std.proofs.Common.{◌≡◌, ◌≢◌, ℕ, ◌+◌, ◌==◌, ◌<◌, Bool, true, false, Option, Some, None, List, [], ◌∷◌, length, get_or, drop, refl, ap, sym, arith, eq-eqb, ne_eqb, ◌∙◌}
+use Rattle.std.proofs.Common.{◌≡◌, ◌≢◌, ℕ, ◌+◌, ◌==◌, ◌<◌, true, false, Some, List, ◌∷◌, length, drop, ap, eq-eqb, ne_eqb, ◌∙◌}
 use Rattle.std.specs.Prelude.{if◌then◌else◌, slice_get}
 use Rattle.std.proofs.lemmas.List.{drop_more}
 use Rattle.std.proofs.lemmas.Option.{get_or_from_slice_get, slice_get_within}
 use Rattle.sdh_circuits.specs.Provisioned.{Provisioned}
-use Rattle.sdh_sncp.specs.declared.slots.Use.{Use}
-use Rattle.sdh_sncp.specs.Slots.{use_by, use_from, use_of}
+use Rattle.sdh_sncp.specs.Slots.{use_by, use_from}
 
 pub use_next : (at m i : ℕ) (cs : List Provisioned) (c : Provisioned) → i < length cs → slice_get cs i ≡ Some c
     → use_from at m i (drop i cs) ≡ (if c.slot.0 == m then use_by at i c else use_from at m (i + 1) (drop (i + 1) cs))

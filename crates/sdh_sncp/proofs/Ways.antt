@@ -1,5 +1,5 @@
 -- What comes along a way in calm rounds: what the circuit's other port sent, or AIS where a fibre of the way is cut.
-use Rattle.std.proofs.Common.{◌≡◌, ◌≢◌, ℕ, zero, suc, ◌+◌, ◌-◌, ◌*◌, ◌<◌, ◌≤◌, Bool, true, false, length, get_or, Some, refl, ap, sym, ◌∙◌, subst, arith, inl, inr}
+use Rattle.std.proofs.Common.{◌≡◌, ◌≢◌, ℕ, zero, suc, ◌+◌, ◌-◌, ◌<◌, ◌≤◌, Bool, true, false, length, get_or, Some, refl, ap, sym, ◌∙◌, subst, arith, inl, inr}
 use Rattle.std.specs.Prelude.{slice_get, if◌then◌else◌}
 use Rattle.std.proofs.lemmas.Bool.{cases_Bool, cases_lt}
 use Rattle.sdh_terms.specs.Rates.{n_of}
@@ -7,7 +7,7 @@ use Rattle.sdh_ringmap.specs.declared.Side.{Side}
 use Rattle.sdh_ringmap.specs.declared.Side.TheVariants.{West, East}
 use Rattle.sdh_ringmap.specs.Places.{neighbour, opposite, eastwards}
 use Rattle.sdh_ringmap.specs.Steps.{going}
-use Rattle.sdh_ringmap.proofs.Going.{going-none, going-first, going-round, going-to, going-apart, mirror}
+use Rattle.sdh_ringmap.proofs.Going.{going-none, going-first, going-to, going-apart, mirror}
 use Rattle.sdh_ringmap.proofs.Sides.{neighbour_below}
 use Rattle.sdh_ringmap.proofs.Around.{eastwards_on, eastwards_round}
 use Rattle.sdh_circuits.specs.declared.End.{End}
@@ -19,15 +19,12 @@ use Rattle.sdh_terms.specs.declared.Condition.TheVariants.{Clear}
 use Rattle.sdh_terms.specs.Fibres.{fibre_to, is_cut}
 use Rattle.sdh_plant.specs.Arrivals.{condition_of}
 use Rattle.sdh_circuits.specs.Ends.{other_end}
-use Rattle.sdh_terminal.specs.Passing.{Input}
 use Rattle.sdh_rounds.specs.Runs as any_run
 use Rattle.sdh_spans.specs.Brought.{Brings, HasValue}
 use Rattle.sdh_sncp.specs.Due.{way_clear, main_spans, spare_spans, sends_in}
 use Rattle.sdh_circuits.specs.Ends.{inward}
-use Rattle.sdh_sncp.specs.Slots.{use_by, use_of}
-use Rattle.sdh_sncp.specs.declared.slots.Use.TheVariants.{Passed, Ended}
 use Rattle.sdh_sncp.specs.Fixed.{AreAlone}
-use Rattle.sdh_sncp.specs.Ring.{World, HeldPath, round, run, is_calm}
+use Rattle.sdh_sncp.specs.Ring.{World, run, is_calm}
 use Rattle.sdh_sncp.specs.Laws.{IsWhole, cut_in}
 use Rattle.sdh_terminal.proofs.Found.{port_id}
 use Rattle.sdh_sncp.proofs.Rounds.{whole_run, IsLeft, left_run}

@@ -1,10 +1,9 @@
 -- What calls leave of a whole ring.
-use Rattle.std.proofs.Common.{◌≡◌, ℕ, inl, ap, sym, subst, ◌∙◌}
-use Rattle.sdh_rounds.specs.Rounds as any_round
+use Rattle.std.proofs.Common.{ℕ, inl, sym, subst}
 use Rattle.sdh_rounds.proofs.Laws.{known_rounds_are}
 use Rattle.sdh_rounds.proofs.Runs.{known_settles, known_unsettles}
 use Rattle.sdh_sncp.specs.Stations.{path_node}
-use Rattle.sdh_sncp.specs.Ring.{World, round, IsRound, Settles, Unsettles}
+use Rattle.sdh_sncp.specs.Ring.{World, IsRound, Settles, Unsettles}
 use Rattle.sdh_sncp.specs.Laws.{IsWhole}
 use Rattle.sdh_sncp.proofs.Rounds.{whole_round, whole_run}
 

@@ -2,14 +2,12 @@
 -- pointer or interpreter occurs in it. This project's own, after SNC/I of ITU-T G.841.
 use Rattle.std.specs.Prelude.{ℕ, zero, suc, ◌-◌, ◌*◌, Bool, true, false, if◌then◌else◌}
 use Rattle.sdh_ringmap.specs.declared.Side.{Side}
-use Rattle.sdh_ringmap.specs.declared.Side.TheVariants.{West, East}
 use Rattle.sdh_ringmap.specs.Places.{opposite, neighbour, eastwards}
 use Rattle.sdh_payload.specs.Customer.{Customer}
 use Rattle.sdh_payload.specs.Outlet.{Outlet, silent, delivering}
 use Rattle.sdh_payload.specs.Stream.{stream_from}
 use Rattle.sdh_circuits.specs.Provisioned.{Provisioned, customer_at, end_of}
 use Rattle.sdh_circuits.specs.declared.End.{End}
-use Rattle.sdh_circuits.specs.declared.End.TheVariants.{A, B}
 use Rattle.sdh_circuits.specs.Ends.{other_end, inward}
 
 -- Of the way that comes in at position p on side d over the last k spans, in a ring of n, no fibre is cut, where `cut q d` tells

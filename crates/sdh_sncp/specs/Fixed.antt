@@ -2,15 +2,10 @@
 use Rattle.std.specs.Prelude.{ℕ, ◌≡◌, ◌/◌, false, Some, List, length, map, All, slice_get}
 use Rattle.sdh_terms.specs.declared.Rate.{Rate}
 use Rattle.sdh_terms.specs.Rates.{n_of}
-use Rattle.sdh_ringmap.specs.declared.Side.{Side}
 use Rattle.sdh_ringmap.specs.Ids.{AreIds}
-use Rattle.sdh_circuits.specs.declared.Slot.{Slot}
-use Rattle.sdh_circuits.specs.declared.PortId.{PortId}
 use Rattle.sdh_circuits.specs.Provisioned.{Provisioned}
 use Rattle.sdh_circuits.specs.Provisioning.{IsProvisioning}
-use Rattle.sdh_payload.specs.Customer.{Customer}
 use Rattle.sdh_circuits.specs.Kept.{KeepsRing}
-use Rattle.sdh_terminal.specs.Tributaries.{Tributary}
 use Rattle.sdh_sncp.specs.declared.slots.Use.{Use}
 use Rattle.sdh_sncp.specs.Node.{PathNode}
 use Rattle.sdh_sncp.specs.Ring.{HeldPath, new_nodes}

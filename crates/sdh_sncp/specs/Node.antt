@@ -16,8 +16,8 @@ use Rattle.sdh_terminal.specs.declared.matrix.Feeder.{Feeder}
 use Rattle.sdh_terminal.specs.declared.matrix.Feeder.TheVariants as feeder
 use Rattle.sdh_terminal.specs.Same.{same_readings, same_generators}
 use Rattle.sdh_terminal.specs.Passing.{Input}
-use Rattle.sdh_terminal.specs.Receiving.{Inlet, Intake, new_inlet, new_intake, inlet_told, taken_in, after_taking, IsInlet}
-use Rattle.sdh_terminal.specs.Lines.{Lines, line_on, received, all_fed_by, dropped_by}
+use Rattle.sdh_terminal.specs.Receiving.{Inlet, Intake, new_inlet, new_intake, inlet_told, taken_in, after_taking}
+use Rattle.sdh_terminal.specs.Lines.{Lines, received, all_fed_by, dropped_by}
 use Rattle.sdh_terminal.specs.Tributaries.{Tributary, tributaries_at, all_delivered_with, all_fed, added_by, IsTributary}
 use Rattle.sdh_terminal.specs.Sending.{Sending, new_sending, frame_from, after_sending}
 use Rattle.sdh_request.specs.declared.settings.Settings.{Settings}

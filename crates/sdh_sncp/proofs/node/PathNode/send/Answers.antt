@@ -1,10 +1,10 @@
-use Rattle.std.proofs.Common.{◌+◌, ◌*◌, ◌/◌, ◌<◌, ◌≤◌, ap, sym, subst, arith, ◌∙◌}
+use Rattle.std.proofs.Common.{◌+◌, ◌/◌, ◌<◌, ap, sym, subst, arith, ◌∙◌}
 use Rattle.std.specs.Prelude.{All, ◌^◌}
 use Rattle.sdh_terms.specs.Rates.{n_of}
 use Rattle.sdh_terminal.specs.Tributaries.{Tributary, IsTributary}
 use Rattle.sdh_terminal.proofs.Ports.{few_rounds, delivered_are, fed_are}
 use Rattle.sdh_sncp.specs.Node.{PathNode, dropped_to, node_round, GoesOn}
-use Rattle.sdh_sncp.proofs.Turning.{node_of, west_frame_is, east_frame_is, calm_is, node_is, round_goes_on}
+use Rattle.sdh_sncp.proofs.Turning.{west_frame_is, east_frame_is, calm_is, node_is, round_goes_on}
 use Rattle.sdh_sncp.proofs.node.PathNode.send.Goals as goal
 
 pub deliver-requires : goal.deliver-requires

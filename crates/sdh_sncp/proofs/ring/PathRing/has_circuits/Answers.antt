@@ -1,5 +1,4 @@
 use Rattle.std.proofs.Common.{subst}
-use Rattle.sdh_sncp.specs.Ring.{HeldPath}
 use Rattle.sdh_sncp.specs.Laws.{HasCircuits}
 use Rattle.sdh_sncp.proofs.Rings.{rings_circuits}
 use Rattle.sdh_sncp.proofs.ring.PathRing.has_circuits.Goals as goal

@@ -1,5 +1,4 @@
-use Rattle.std.proofs.Common.{ap, sym, subst, length, map, arith}
-use Rattle.std.specs.Prelude.{All}
+use Rattle.std.proofs.Common.{ap, sym, subst, length, map}
 use Rattle.sdh_sncp.specs.Fixed.{fixed, HaveRun}
 use Rattle.sdh_sncp.proofs.Keeping.{all_new}
 use Rattle.sdh_sncp.proofs.ring.PathRing.of_nodes.Goals as goal

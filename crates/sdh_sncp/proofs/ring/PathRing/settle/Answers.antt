@@ -1,6 +1,6 @@
 use Rattle.std.proofs.Common.{◌≡◌, ◌+◌, refl, subst, arith, rules}
 use Rattle.std.proofs.lemmas.Bool.{false≢true}
-use Rattle.sdh_rounds.proofs.Settling.{GoesOn, goes_none, went_more, settles, goes_on, counts_on, held_went, held_none, less_counted, prepared_back, unsettles, breaks_off}
+use Rattle.sdh_rounds.proofs.Settling.{GoesOn, goes_none, went_more, settles, goes_on, counts_on, held_went, held_none, less_counted, prepared_back, unsettles}
 use Rattle.sdh_sncp.specs.Stations.{path_node}
 use Rattle.sdh_sncp.specs.Ring.{world}
 use Rattle.sdh_sncp.proofs.Wholes.{whole_settled, whole_unsettled}
