@@ -8,7 +8,7 @@ use Rattle.sdh_basics.proofs.CellsLaws.{get_or-cells}
 use Rattle.sdh_circuits.specs.Naming.{is_name}
 use Rattle.sdh_circuits.specs.Provisioned.{Provisioned, arc_of, customer_at}
 use Rattle.sdh_circuits.specs.Provisioning.{Provisioning, AreCircuits, HasOffsets, IsProvisioning, IsInRing, IsInSlots}
-use Rattle.sdh_squelch.specs.Kept.{KeepsRing}
+use Rattle.sdh_circuits.specs.Kept.{KeepsRing}
 use Rattle.sdh_nodestate.specs.declared.NodeState.{NodeState}
 use Rattle.sdh_restoration.specs.Applied.{span_requests, is_applied}
 use Rattle.sdh_settling.specs.Settled.{settled, settled_states}
@@ -27,7 +27,8 @@ use Rattle.sdh_ringmap.specs.Arcs.{is_joined}
 use Rattle.sdh_circuits.specs.declared.End.{End}
 use Rattle.sdh_circuits.specs.declared.PortId.{PortId}
 use Rattle.sdh_restoration.specs.Routes.{hops}
-use Rattle.sdh_restoration.specs.Due.{due, other_end}
+use Rattle.sdh_restoration.specs.Due.{due}
+use Rattle.sdh_circuits.specs.Ends.{other_end}
 use Rattle.sdh_terms.specs.Rates.{n_of}
 use Rattle.sdh_plant.specs.Fibres.{Fibres}
 use Rattle.sdh_request.specs.declared.settings.Settings.{Settings}
@@ -48,11 +49,12 @@ use Rattle.sdh_carrying.specs.Windows.{Layout, layout_of, size_of, HasCircuits, 
 use Rattle.sdh_carrying.specs.Laws.{due_by_clocks, DeliversWhatIsDue, IsRestored, SettledRingsAreRestored, SettledRingsRestore, RingsHaveCircuits}
 use Rattle.sdh_carrying.proofs.Applied.{failures_applied, length-requests_of}
 use Rattle.sdh_carrying.proofs.Owed.{quiet_delivers, port_is_there}
-use Rattle.sdh_carrying.proofs.Ports.{port_id}
+use Rattle.sdh_terminal.proofs.Found.{port_id}
 use Rattle.sdh_carrying.proofs.Ways.{layout_run}
 use Rattle.sdh_world.specs.Held.{nowhere}
 use Rattle.sdh_node.specs.Stations.{adm}
 use Rattle.sdh_rounds.specs.Runs as any_run
+use Rattle.sdh_circuits.proofs.Rings.{circuits_are}
 
 -- ---- one position
 
@@ -229,23 +231,6 @@ stretches_restore law s ids circuits f earlier last t may happen form ends many 
     restored_by_history s ids circuits f earlier last t may happen form many ends.long (window_restores law (v s ids circuits f earlier last t may happen form many) whole last.rounds ends circuits_v)
 
 -- ---- the circuits of a ring
-
-none_get : (i : ℕ) (c : Provisioned) → slice_get [] i ≡ Some c → ⊥
-none_get i c e = cc
-
-no_circuits : (n slots : ℕ) → AreCircuits n slots []
-no_circuits n slots = record {
-  in_ring = All-nil (IsInRing n);
-  in_slots = All-nil (IsInSlots slots);
-  offsets = All-nil HasOffsets;
-  named = All-nil (λ c. is_name c.name ≡ true);
-  named_apart = λ i j c d e f same. absurd (none_get i c e);
-  apart = λ i j s c d e f x y same. absurd (none_get i c e);
-}
-
-pub circuits_are : (p : Provisioning) (ids : List ℕ) → IsProvisioning p → KeepsRing p ids → AreCircuits (length ids) p.slots p.circuits
-circuits_are p ids form (inl none) = subst (λ cs. AreCircuits (length ids) p.slots cs) (sym none) (no_circuits (length ids) p.slots)
-circuits_are p ids form (inr ring) = subst (λ n. AreCircuits n p.slots p.circuits) (ap (λ r. option_map_or length r 0) ring) form.circuits
 
 pub rings_circuits : RingsHaveCircuits
 rings_circuits r is = subst (λ s. AreCircuits (length r.ids) s r.circuits.circuits) is.slots (circuits_are r.circuits r.ids is.circuits is.kept)

@@ -10,7 +10,8 @@ use Rattle.sdh_plant.specs.Fibres.{Fibres}
 use Rattle.sdh_restoration.specs.Applied.{span_requests, is_applied}
 use Rattle.sdh_settling.specs.Settled.{settled_states}
 use Rattle.sdh_payload.specs.Outlet.{Outlet}
-use Rattle.sdh_restoration.specs.Due.{due, other_end}
+use Rattle.sdh_restoration.specs.Due.{due}
+use Rattle.sdh_circuits.specs.Ends.{other_end}
 use Rattle.sdh_request.specs.declared.settings.Settings.{Settings}
 use Rattle.sdh_terminal.specs.Lines.{received}
 use Rattle.sdh_node.specs.Crossing.{is_failed}

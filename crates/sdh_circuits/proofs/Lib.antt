@@ -3,3 +3,4 @@ pub mod Few
 mod Kept
 mod Refusing
 mod Adding
+pub mod Rings

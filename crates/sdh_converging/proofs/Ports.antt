@@ -24,11 +24,11 @@ use Rattle.sdh_terminal.specs.Tributaries.{Tributary, action_of, port_of, sent_b
 use Rattle.sdh_node.specs.Node.{Node, crossing, ports_after, after_crossing, with_calm, node_round}
 use Rattle.sdh_terminal.proofs.Ports.{clock-next}
 use Rattle.sdh_node.specs.Crossing.{dropped_to, all_delivered}
-use Rattle.sdh_world.specs.Fixed.{FixedPort, fixed_port}
+use Rattle.sdh_terminal.specs.Fixed.{FixedPort, fixed_port}
 use Rattle.sdh_world.specs.Held.{node_at}
 use Rattle.sdh_world.specs.Rounds.{World, round}
 use Rattle.sdh_world.specs.Runs.{run}
-use Rattle.sdh_world.proofs.Clocks.{found_has}
+use Rattle.sdh_terminal.proofs.Found.{found_has}
 use Rattle.sdh_hearing.specs.Laws.{IsWhole, NoneWait}
 use Rattle.sdh_hearing.proofs.Nodes.{informed, count, nodes_after}
 use Rattle.sdh_hearing.proofs.Changes.{whole_run}

@@ -23,7 +23,7 @@ use Rattle.sdh_world.proofs.Clocks.{clocks_go_on}
 use Rattle.sdh_hearing.specs.Laws.{MayStart}
 use Rattle.sdh_hearing.proofs.Changes.{new_worlds_are_whole}
 use Rattle.sdh_hearing.proofs.Staying.{left_stretch}
-use Rattle.sdh_carrying.proofs.Ports.{port_id}
+use Rattle.sdh_terminal.proofs.Found.{port_id}
 use Rattle.sdh_carrying.proofs.Owed.{port_is_there}
 use Rattle.sdh_converging.specs.Rings.{settings, three, c1, one_circuit, troubles, ARingOccurs}
 use Rattle.sdh_converging.proofs.HealthyRounds.{healthy_steps_settle}

@@ -1,7 +1,7 @@
 -- The laws of a healthy ring: a new ring over new honest fibres, all clear, and without commands.
 use Rattle.std.specs.Prelude.{ℕ, zero, suc, ◌≡◌, ◌≤◌, ◌+◌, ◌*◌, false, Some, None, List, [], ◌∷◌, length, replicate, slice_get}
 use Rattle.sdh_restoration.specs.Applied.{is_applied}
-use Rattle.sdh_restoration.specs.Due.{other_end}
+use Rattle.sdh_circuits.specs.Ends.{other_end}
 use Rattle.sdh_carrying.specs.Laws.{due_by_clocks}
 use Rattle.sdh_world.specs.Clocks.{clocks_by}
 use Rattle.sdh_circuits.specs.declared.End.{End}

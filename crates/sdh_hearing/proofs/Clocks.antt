@@ -14,7 +14,7 @@ use Rattle.sdh_node.specs.Node.{Node}
 use Rattle.sdh_world.specs.Held.{HeldRing, place_of_port, AtEach}
 use Rattle.sdh_world.specs.Rounds.{World, round}
 use Rattle.sdh_world.specs.Clocks.{waiting_at}
-use Rattle.sdh_world.proofs.Keeping.{new_ports}
+use Rattle.sdh_terminal.proofs.Found.{new_ports}
 use Rattle.sdh_world.proofs.Clocks.{slips_keep, few_waits, waiting_found}
 use Rattle.sdh_hearing.specs.Placed.{HaveGone, IsPlaced}
 use Rattle.sdh_hearing.specs.Paired.{FewWait}

@@ -14,18 +14,7 @@ use Rattle.sdh_terminal.specs.Same.{same_readings, same_generators}
 use Rattle.sdh_node.specs.Same.{ComparedIn, ComparedOut, Compared, same_in, same_out, same_compared}
 use Rattle.sdh_node.specs.Node.{Node, crossing, after_crossing, with_calm, may_be_calm, is_held, compared, node_round}
 use Rattle.sdh_node.proofs.Itself.{compared_itself}
-
-readings_same : (xs ys : List Reading) → same_readings xs ys ≡ true → xs ≡ ys
-readings_same [] [] e = refl
-readings_same [] (b ∷ ys) e = cc
-readings_same (a ∷ xs) [] e = cc
-readings_same (a ∷ xs) (b ∷ ys) e = let both = and_parts (same_reading a b) (same_readings xs ys) e in ap (λ r. r ∷ xs) (one.same_readings a b both.0) ∙ ap (λ rs. b ∷ rs) (readings_same xs ys both.1)
-
-generators_same : (xs ys : List (Option ℕ)) → same_generators xs ys ≡ true → xs ≡ ys
-generators_same [] [] e = refl
-generators_same [] (b ∷ ys) e = cc
-generators_same (a ∷ xs) [] e = cc
-generators_same (a ∷ xs) (b ∷ ys) e = let both = and_parts (same_sending a b) (same_generators xs ys) e in ap (λ r. r ∷ xs) (one.same_states a b both.0) ∙ ap (λ rs. b ∷ rs) (generators_same xs ys both.1)
+use Rattle.sdh_terminal.proofs.Same.{readings_same, generators_same}
 
 in_same : (a b : ComparedIn) → same_in a b ≡ true → a ≡ b
 in_same a b e =

@@ -2,7 +2,7 @@
 ghost use Rattle.std.specs.Prelude.{◌≡◌, ◌&&◌, ◌+◌, ◌*◌, ◌-◌, ◌/◌, ◌<◌, ◌≤◌, ◌≢◌, None, true, false, All, IfOk, length};
 ghost use Rattle.sdh_terms.specs.Rates.{n_of};
 ghost use Rattle.sdh_ringmap.specs.declared.Side.TheVariants.{West, East};
-ghost use Rattle.sdh_squelch.specs.Kept.{KeepsRing};
+ghost use Rattle.sdh_circuits.specs.Kept.{KeepsRing};
 ghost use Rattle.sdh_nodestate.specs.Rules.{word};
 ghost use Rattle.sdh_nodestate.specs.Words.{SendsSpellable};
 ghost use Rattle.sdh_nodestate.specs.Shapes.{same_state};

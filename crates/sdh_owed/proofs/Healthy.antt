@@ -3,7 +3,8 @@ use Rattle.std.proofs.Common.{◌≡◌, ◌⊎◌, ℕ, suc, ◌+◌, ◌*◌, 
 use Rattle.std.specs.Prelude.{Option}
 use Rattle.std.proofs.lemmas.Bool.{cases_lt}
 use Rattle.sdh_circuits.specs.Provisioning.{Provisioning}
-use Rattle.sdh_restoration.specs.Due.{nothing_applied, due, sends_by, other_end}
+use Rattle.sdh_restoration.specs.Due.{nothing_applied, due, sends_by}
+use Rattle.sdh_circuits.specs.Ends.{other_end}
 use Rattle.sdh_plant.specs.Fibres.{Fibres}
 use Rattle.sdh_plant.specs.Arrivals.{Knows}
 use Rattle.sdh_plant.proofs.Calling.{stay_honest}

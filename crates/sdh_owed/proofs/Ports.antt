@@ -8,7 +8,8 @@ use Rattle.sdh_circuits.specs.declared.End.TheVariants.{A, B}
 use Rattle.sdh_circuits.specs.declared.PortId.{PortId}
 use Rattle.sdh_circuits.specs.Provisioned.{Provisioned, customer_at}
 use Rattle.sdh_restoration.specs.Applied.{is_applied}
-use Rattle.sdh_restoration.specs.Due.{due, sends_by, other_end}
+use Rattle.sdh_restoration.specs.Due.{due, sends_by}
+use Rattle.sdh_circuits.specs.Ends.{other_end}
 use Rattle.sdh_payload.specs.Clock.{Clock}
 use Rattle.sdh_payload.specs.Customer.{Customer}
 use Rattle.sdh_payload.specs.History.{Happening}

@@ -25,7 +25,7 @@ use Rattle.sdh_world.specs.Changes.{changed, all_changed, after_stretch, after_s
 use Rattle.sdh_world.specs.Clocks.{clock_after, clock_at, waiting_at}
 use Rattle.sdh_world.specs.Laws.{AreChangesOf, MayHappen}
 use Rattle.sdh_rounds.specs.Laws.{EndsAtAMultiple}
-use Rattle.sdh_world.proofs.Clocks.{found_has}
+use Rattle.sdh_terminal.proofs.Found.{found_has}
 use Rattle.sdh_world.proofs.Waiting.{waits_changed, waits_new}
 use Rattle.sdh_rounds.proofs.Laws.{settled_numbers}
 use Rattle.sdh_rounds.proofs.Runs.{known_settles}

@@ -8,7 +8,8 @@ use Rattle.sdh_payload.specs.History.{Happening}
 use Rattle.sdh_circuits.specs.declared.End.{End}
 use Rattle.sdh_circuits.specs.declared.PortId.{PortId}
 use Rattle.sdh_circuits.specs.Provisioned.{Provisioned, customer_at, same_port}
-use Rattle.sdh_restoration.specs.Due.{due, sends_by, other_end}
+use Rattle.sdh_restoration.specs.Due.{due, sends_by}
+use Rattle.sdh_circuits.specs.Ends.{other_end}
 use Rattle.sdh_report.specs.declared.status.Status.{Status}
 use Rattle.sdh_report.specs.Reports.{Report}
 use Rattle.sdh_promise.specs.Changes.{Change, Fibre, Slip, Stretch, rounds_in}

@@ -7,7 +7,8 @@ use Rattle.sdh_circuits.specs.Provisioned.{Provisioned, customer_at}
 use Rattle.sdh_payload.specs.History.{Happening}
 use Rattle.sdh_restoration.specs.History.{Asking, local_request}
 use Rattle.sdh_restoration.specs.Applied.{span_requests, is_applied}
-use Rattle.sdh_restoration.specs.Due.{due, sends_by, other_end}
+use Rattle.sdh_restoration.specs.Due.{due, sends_by}
+use Rattle.sdh_circuits.specs.Ends.{other_end}
 use Rattle.sdh_report.specs.declared.status.Status.{Status}
 use Rattle.sdh_report.specs.declared.status.Status.TheVariants as status
 use Rattle.sdh_report.specs.Reports.{PortLine, Report}

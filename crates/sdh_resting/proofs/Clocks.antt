@@ -22,10 +22,11 @@ use Rattle.sdh_terminal.specs.Tributaries.{Tributary, port_of, sent_in, input_by
 use Rattle.sdh_terminal.specs.Tributaries.{action_of, sent_by, ends_at}
 use Rattle.sdh_node.specs.Node.{Node, crossing, ports_after, after_crossing, with_calm, node_round}
 use Rattle.sdh_terminal.proofs.Ports.{clock-next}
-use Rattle.sdh_world.specs.Fixed.{FixedPort, fixed_port}
+use Rattle.sdh_terminal.specs.Fixed.{FixedPort, fixed_port}
 use Rattle.sdh_world.specs.Held.{node_at}
 use Rattle.sdh_world.specs.Rounds.{World, round}
-use Rattle.sdh_world.proofs.Clocks.{found_has, clock_of}
+use Rattle.sdh_terminal.proofs.Found.{found_has}
+use Rattle.sdh_world.proofs.Clocks.{clock_of}
 use Rattle.sdh_hearing.specs.Laws.{IsWhole}
 use Rattle.sdh_hearing.proofs.Nodes.{informed, nodes_after}
 use Rattle.sdh_carrying.specs.Windows.{value_at}

@@ -7,18 +7,11 @@ use Rattle.sdh_payload.specs.History.{Happening, first_byte, value_now}
 use Rattle.sdh_payload.specs.Outlet.{Outlet, silent, delivering}
 use Rattle.sdh_payload.specs.Stream.{stream_from}
 use Rattle.sdh_circuits.specs.Provisioned.{Provisioned, arc_of}
-use Rattle.sdh_circuits.specs.declared.End.{End}
-use Rattle.sdh_circuits.specs.declared.End.TheVariants.{A, B}
 use Rattle.sdh_restoration.specs.Routes.{hops}
 
 -- no span is applied: a healthy ring
 abbrev pub nothing_applied : ℕ → Bool
 nothing_applied s = false
-
--- the other end of a circuit
-abbrev pub other_end : End → End
-other_end A = B
-other_end B = A
 
 -- what a customer sends in the next round, after all that happened at its port: 2349 bytes from the one with which the round begins,
 -- with the pointer value before it

@@ -21,7 +21,8 @@ use Rattle.sdh_bridge.specs.declared.Origin.TheVariants.{Add, Working, Protectio
 use Rattle.sdh_restoration.specs.Applied.{is_applied}
 use Rattle.sdh_settling.specs.Settled.{settled}
 use Rattle.sdh_restoration.specs.Routes.{hops}
-use Rattle.sdh_restoration.specs.Due.{due, other_end}
+use Rattle.sdh_restoration.specs.Due.{due}
+use Rattle.sdh_circuits.specs.Ends.{other_end}
 use Rattle.sdh_carrying.specs.Laws.{due_by_clocks}
 use Rattle.sdh_routes.specs.Walks.{IsArrival, back_from, working_in, protection_in, port, port_at, delivery}
 use Rattle.sdh_routes.specs.Law as routes
@@ -42,7 +43,7 @@ use Rattle.sdh_spans.specs.Brought.{Brings, HasValue}
 use Rattle.sdh_carrying.specs.Windows.{Layout, layout_of, size_of, slots_of, HasCircuits, value_at}
 use Rattle.sdh_spans.specs.Brought.{plainly}
 use Rattle.sdh_carrying.proofs.Owed.{Arrives, port_sends, port_small, port_is_there, none_here, plain_here, arrives, offset_small, slot_inside}
-use Rattle.sdh_carrying.proofs.Ports.{port_id}
+use Rattle.sdh_terminal.proofs.Found.{port_id}
 use Rattle.sdh_carrying.proofs.Ways.{layout_run}
 use Rattle.sdh_converging.specs.Steady.{went, came, brought}
 use Rattle.sdh_converging.specs.Steady.{StaysSettled}

@@ -9,7 +9,7 @@ use Rattle.sdh_circuits.specs.declared.End.{End}
 use Rattle.sdh_payload.specs.Clock.{Clock, ticks}
 use Rattle.sdh_restoration.specs.Applied.{is_applied}
 use Rattle.sdh_settling.specs.Settled.{settled_states}
-use Rattle.sdh_restoration.specs.Due.{other_end}
+use Rattle.sdh_circuits.specs.Ends.{other_end}
 use Rattle.sdh_carrying.specs.Laws.{due_by_clocks}
 use Rattle.sdh_restoration.specs.Routes.{hops}
 use Rattle.sdh_ringmap.specs.Arcs.{is_joined}
@@ -35,7 +35,7 @@ use Rattle.sdh_carrying.specs.Windows.{Layout, layout_of, size_of, slots_of, Has
 use Rattle.sdh_carrying.specs.Laws.{DeliversItsDue, IsRestored}
 use Rattle.sdh_carrying.proofs.Applied.{failures_applied, length-requests_of}
 use Rattle.sdh_carrying.proofs.Owed.{port_is_there}
-use Rattle.sdh_carrying.proofs.Ports.{port_id}
+use Rattle.sdh_terminal.proofs.Found.{port_id}
 use Rattle.sdh_carrying.proofs.Settles.{each_settled}
 use Rattle.sdh_hearing.proofs.Rounds.{clear_where_it_works}
 use Rattle.sdh_carrying.proofs.Ways.{layout_run}

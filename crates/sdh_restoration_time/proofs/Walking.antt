@@ -11,8 +11,9 @@ use Rattle.sdh_bridge.specs.declared.Origin.TheVariants.{Ais}
 use Rattle.sdh_restoration.specs.Applied.{is_applied}
 use Rattle.sdh_settling.specs.Settled.{settled}
 use Rattle.sdh_restoration.specs.Routes.{hops}
-use Rattle.sdh_restoration.specs.Due.{other_end}
-use Rattle.sdh_routes.specs.Walks.{Stand, stand, port, port_at, inward, delivery}
+use Rattle.sdh_circuits.specs.Ends.{other_end}
+use Rattle.sdh_routes.specs.Walks.{Stand, stand, port, port_at, delivery}
+use Rattle.sdh_circuits.specs.Ends.{inward}
 use Rattle.sdh_routes.specs.Law.{IsFree, ConnectsFree}
 use Rattle.sdh_routes.proofs.Free.{connects_free}
 use Rattle.sdh_routes.proofs.Ways.{IsKeptOver, along, routed, end_inside}

@@ -9,7 +9,7 @@ use Rattle.sdh_circuits.specs.declared.End.{End}
 use Rattle.sdh_circuits.specs.declared.End.TheVariants.{A, B}
 use Rattle.sdh_nodestate.specs.declared.NodeState.{NodeState}
 use Rattle.sdh_nodestate.specs.declared.NodeState.TheVariants as state
-use Rattle.sdh_restoration.specs.Due.{other_end}
+use Rattle.sdh_circuits.specs.Ends.{other_end}
 use Rattle.sdh_restoration.specs.Routes.{last_place, places_before}
 use Rattle.sdh_ringmap.specs.Arcs.{none_of}
 use Rattle.sdh_ringmap.specs.Places.{neighbour, opposite, span_at}

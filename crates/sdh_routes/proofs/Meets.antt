@@ -4,7 +4,7 @@ use Rattle.std.specs.Prelude.{◌&&◌, ◌==◌}
 use Rattle.std.proofs.lemmas.Bool.{and_parts, eqb-true, false≢true}
 use Rattle.sdh_circuits.specs.Provisioned.{Provisioned}
 use Rattle.sdh_circuits.specs.declared.End.TheVariants.{A, B}
-use Rattle.sdh_restoration.specs.Due.{other_end}
+use Rattle.sdh_circuits.specs.Ends.{other_end}
 use Rattle.sdh_ringmap.specs.Places.{opposite, span_at}
 use Rattle.sdh_ringmap.specs.declared.Pos.{Pos}
 use Rattle.sdh_ringmap.specs.declared.Side.{Side}

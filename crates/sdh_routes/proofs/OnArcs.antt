@@ -4,7 +4,7 @@ use Rattle.std.specs.Prelude.{slice_get}
 use Rattle.sdh_circuits.specs.Provisioned.{Provisioned, arc_of}
 use Rattle.sdh_circuits.specs.declared.End.{End}
 use Rattle.sdh_circuits.specs.declared.End.TheVariants.{A, B}
-use Rattle.sdh_restoration.specs.Due.{other_end}
+use Rattle.sdh_circuits.specs.Ends.{other_end}
 use Rattle.sdh_ringmap.specs.Places.{eastwards, neighbour, span_at}
 use Rattle.sdh_ringmap.specs.declared.Side.{Side}
 use Rattle.sdh_ringmap.specs.declared.Side.TheVariants.{East, West}

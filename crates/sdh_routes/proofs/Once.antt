@@ -8,7 +8,7 @@ use Rattle.sdh_circuits.specs.Provisioned.{Provisioned, arc_of}
 use Rattle.sdh_circuits.specs.declared.End.{End}
 use Rattle.sdh_circuits.specs.declared.End.TheVariants.{A}
 use Rattle.sdh_nodestate.specs.declared.NodeState.{NodeState}
-use Rattle.sdh_restoration.specs.Due.{other_end}
+use Rattle.sdh_circuits.specs.Ends.{other_end}
 use Rattle.sdh_restoration.specs.Routes.{hops}
 use Rattle.sdh_ringmap.specs.Arcs.{is_joined}
 use Rattle.sdh_routes.proofs.Routes.{routes}

@@ -5,7 +5,7 @@ use Rattle.std.proofs.lemmas.Bool.{cases_Bool, cases_lt, or_parts, or_cases, bot
 use Rattle.sdh_circuits.specs.Provisioned.{Provisioned, arc_of}
 use Rattle.sdh_circuits.specs.declared.End.{End}
 use Rattle.sdh_circuits.specs.declared.End.TheVariants.{A, B}
-use Rattle.sdh_restoration.specs.Due.{other_end}
+use Rattle.sdh_circuits.specs.Ends.{other_end}
 use Rattle.sdh_restoration.specs.Routes.{at_place, hops, last_place, places_before}
 use Rattle.sdh_ringmap.specs.Arcs.{is_clear, is_joined, none_of}
 use Rattle.sdh_ringmap.specs.declared.Side.TheVariants.{East, West}

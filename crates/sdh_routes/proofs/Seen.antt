@@ -8,7 +8,8 @@ use Rattle.sdh_ringmap.specs.Places.{opposite}
 use Rattle.sdh_ringmap.specs.declared.Side.{Side}
 use Rattle.sdh_routes.proofs.Views.{arc_length, end_at}
 use Rattle.sdh_ringmap.specs.Steps.{going, way}
-use Rattle.sdh_routes.specs.Walks.{inward, port_at}
+use Rattle.sdh_circuits.specs.Ends.{inward}
+use Rattle.sdh_routes.specs.Walks.{port_at}
 use Rattle.sdh_squelch.proofs.LookUps.{entry}
 use Rattle.sdh_squelch.specs.Table.{circuit_from}
 

@@ -15,7 +15,8 @@ use Rattle.sdh_routes.proofs.Seen.{Seen}
 use Rattle.sdh_routes.proofs.States.{IsAnyApplied, Resting, on, state-between}
 use Rattle.sdh_routes.proofs.Views.{PassThrough, arc_length, is_in_chain, passes}
 use Rattle.sdh_ringmap.specs.Steps.{going}
-use Rattle.sdh_routes.specs.Walks.{Leads, Stand, back_from, delivery, inward, port, protection_in, stand, stands_in, working_in}
+use Rattle.sdh_routes.specs.Walks.{Leads, Stand, back_from, delivery, port, protection_in, stand, stands_in, working_in}
+use Rattle.sdh_circuits.specs.Ends.{inward}
 
 lt_next : (a b : ℕ) → nat_lt a (b + 1) ≡ nat_le a b
 lt_next a b = elim (cases_lt b a) [

@@ -12,7 +12,7 @@ use Rattle.sdh_nodestate.specs.declared.NodeState.{NodeState}
 use Rattle.sdh_nodestate.specs.declared.NodeState.TheVariants as state
 use Rattle.sdh_bridge.specs.declared.Origin.{Origin}
 use Rattle.sdh_bridge.specs.declared.Origin.TheVariants.{Add, Working, Protection, Ais}
-use Rattle.sdh_restoration.specs.Due.{other_end}
+use Rattle.sdh_circuits.specs.Ends.{other_end}
 use Rattle.sdh_routes.specs.Walks.{crossed, Stand, stand, port, port_at, Leads, IsOver, stands_in, working_in, protection_in, delivery}
 
 -- a walk leads to AIS, over fewer spans than the ring has

@@ -14,7 +14,7 @@ use Rattle.sdh_restoration.specs.Applied.{is_applied}
 use Rattle.sdh_settling.specs.Settled.{settled}
 use Rattle.sdh_bridge.specs.declared.Origin.{Origin}
 use Rattle.sdh_ringmap.specs.Steps.{going}
-use Rattle.sdh_restoration.specs.Due.{other_end}
+use Rattle.sdh_circuits.specs.Ends.{other_end}
 use Rattle.sdh_routes.specs.Walks.{Stand, stand, port, IsOver, Leads, working_in, carries_in, delivery}
 use Rattle.sdh_routes.specs.Law.{IsRouted, IsAlongRoute, IsShort, Ends, ConnectsFree, is_pass, all_idle}
 use Rattle.sdh_routes.specs.Rounds.{Spreads}

@@ -13,6 +13,7 @@ use Rattle.sdh_nodestate.specs.declared.NodeState.{NodeState}
 use Rattle.sdh_bridge.specs.Connections.{may_carry, stands_for, leaves_working, leaves_protection}
 use Rattle.sdh_bridge.specs.declared.Origin.{Origin}
 use Rattle.sdh_bridge.specs.declared.Origin.TheVariants.{Add, Working, Protection, Ais}
+use Rattle.sdh_circuits.specs.Ends.{inward}
 
 -- where a walk stands: at a position, with what is to be followed from there
 pub record Stand : Type 0 where
@@ -29,11 +30,6 @@ port i e = Add (record { circuit = i; end = e })
 -- the position of a circuit's port
 abbrev pub port_at : Provisioned → End → ℕ
 port_at c e = (end_of c e).0
-
--- the side of a port's node on which its circuit's arc is
-abbrev pub inward : End → Side
-inward A = East
-inward B = West
 
 -- the walk goes on over a span
 abbrev pub IsArrival : Origin → Type 0

@@ -8,7 +8,7 @@ use Rattle.sdh_rounds.specs.Laws.{Appends}
 use Rattle.sdh_world.proofs.Keeping.{length-new}
 use Rattle.sdh_world.specs.Held.{new_ring}
 use Rattle.sdh_carrying.specs.Windows.{layout_in, HasCircuits}
-use Rattle.sdh_carrying.proofs.Settles.{circuits_are}
+use Rattle.sdh_circuits.proofs.Rings.{circuits_are}
 use Rattle.sdh_plan.specs.Planned.{Planned, IsPlanned, provisioning_of}
 use Rattle.sdh_plan.specs.Steps.{start}
 use Rattle.sdh_plan.proofs.Following.{circuits_keep_the_ring}

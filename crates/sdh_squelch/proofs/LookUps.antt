@@ -15,7 +15,7 @@ use Rattle.sdh_circuits.specs.Provisioning.{Provisioning, IsProvisioning, IsInRi
 use Rattle.sdh_ringmap.specs.declared.Pos.{Pos}
 use Rattle.sdh_squelch.specs.declared.Row.{Row}
 use Rattle.sdh_squelch.specs.Table.{circuit_from, circuit_on, HasEnds}
-use Rattle.sdh_squelch.specs.Kept.{KeepsRing}
+use Rattle.sdh_circuits.specs.Kept.{KeepsRing}
 
 -- what a table says of a circuit
 abbrev pub entry : ℕ → Provisioned → Row

@@ -7,7 +7,7 @@ ghost use Rattle.std.specs.List.{All};
 ghost use Rattle.sdh_basics.specs.Cells.{cells};
 ghost use Rattle.sdh_circuits.specs.Provisioning.{Provisioning, IsProvisioning};
 ghost use Rattle.sdh_squelch.specs.Table.{circuit_on, circuits_at, table_of, rows_of, HasEnds, is_carried};
-ghost use Rattle.sdh_squelch.specs.Kept.{KeepsRing};
+ghost use Rattle.sdh_circuits.specs.Kept.{KeepsRing};
 
 use sdh_circuits::{CircuitMap, Slot};
 use sdh_ringmap::{Chain, Pos, RingMap, Side, Span};

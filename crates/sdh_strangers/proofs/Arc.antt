@@ -35,7 +35,7 @@ use Rattle.sdh_pointer.specs.Reading.{start, after_word, action_on}
 use Rattle.sdh_pointer.specs.Sending.{form_sent, word_sent, next_sending}
 use Rattle.sdh_terms.specs.Fibres.{fibre}
 use Rattle.sdh_plant.specs.Arrivals.{carried_on}
-use Rattle.sdh_restoration.specs.Due.{other_end}
+use Rattle.sdh_circuits.specs.Ends.{other_end}
 use Rattle.sdh_terminal.specs.Passing.{Input, h3_of, au_for, au_sent}
 use Rattle.sdh_terminal.specs.Receiving.{pointer_word, pointer_word_at}
 use Rattle.sdh_terminal.specs.Lines.{line_on, received}

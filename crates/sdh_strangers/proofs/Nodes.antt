@@ -30,8 +30,9 @@ use Rattle.sdh_bridge.specs.Connections.{may_carry}
 use Rattle.sdh_frame.specs.Aus.{Au}
 use Rattle.sdh_pointer.specs.declared.reading.Action.TheVariants as action
 use Rattle.sdh_terminal.specs.Passing.{Input}
-use Rattle.sdh_restoration.specs.Due.{other_end}
-use Rattle.sdh_routes.specs.Walks.{carries_in, stands_in, working_in, protection_in, port, port_at, inward}
+use Rattle.sdh_circuits.specs.Ends.{other_end}
+use Rattle.sdh_routes.specs.Walks.{carries_in, stands_in, working_in, protection_in, port, port_at}
+use Rattle.sdh_circuits.specs.Ends.{inward}
 use Rattle.sdh_routes.proofs.Views.{AreOnRing, arc_length, end_at, holds, Switch}
 use Rattle.sdh_routes.proofs.Seen.{Seen}
 use Rattle.sdh_routes.proofs.Sights.{found-gives, arc-end}

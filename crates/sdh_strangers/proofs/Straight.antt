@@ -36,7 +36,7 @@ use Rattle.sdh_payload.proofs.Clocking.{form_ticked}
 use Rattle.sdh_pointer.specs.declared.reading.Action.TheVariants as action
 use Rattle.sdh_pointer.specs.Reading.{start}
 use Rattle.sdh_plant.specs.Fibres.{Fibres}
-use Rattle.sdh_restoration.specs.Due.{other_end}
+use Rattle.sdh_circuits.specs.Ends.{other_end}
 use Rattle.sdh_request.specs.declared.settings.Settings.{Settings}
 use Rattle.sdh_terminal.specs.Passing.{Input, no_input, h3_of}
 use Rattle.sdh_terminal.specs.Outlets.{chunk_form, chunk_from, delivered_by, delivered_from}
@@ -63,10 +63,11 @@ use Rattle.sdh_hearing.proofs.Changes.{each_new, each_at_place, new_worlds_are_w
 use Rattle.sdh_hearing.proofs.Staying.{left_in, world_low, world_high, world_later}
 use Rattle.sdh_hearing.proofs.Stretches.{requests_are_the_historys}
 use Rattle.sdh_carrying.specs.Windows.{value_at}
-use Rattle.sdh_carrying.proofs.Ports.{port-found}
+use Rattle.sdh_terminal.proofs.Found.{port-found}
 use Rattle.sdh_carrying.proofs.Connections.{node_of, state_in_turn}
 use Rattle.sdh_carrying.proofs.Owed.{found, clock_is, port_is_there, found_arrives, outlet_there}
-use Rattle.sdh_routes.specs.Walks.{port, port_at, inward, stands_in}
+use Rattle.sdh_routes.specs.Walks.{port, port_at, stands_in}
+use Rattle.sdh_circuits.specs.Ends.{inward}
 use Rattle.sdh_routes.proofs.Views.{AreOnRing, arc_length, holds, on-ring}
 use Rattle.sdh_routes.proofs.Passing.{is_open}
 use Rattle.sdh_routes.proofs.Sights.{arc-end}

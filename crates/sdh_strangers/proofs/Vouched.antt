@@ -41,10 +41,11 @@ use Rattle.sdh_hearing.proofs.Nodes.{informed, count, nodes_after, length-after}
 use Rattle.sdh_hearing.proofs.Rounds.{whole_round}
 use Rattle.sdh_hearing.proofs.Changes.{each_new, each_at_place, new_worlds_are_whole, sending_commanded, LeavesSides, held_leaves, slips_leave, with_node, whole_changed}
 use Rattle.sdh_carrying.specs.Windows.{layout_of, slots_of, HasCircuits, value_at}
-use Rattle.sdh_carrying.proofs.Ports.{port-found}
+use Rattle.sdh_terminal.proofs.Found.{port-found}
 use Rattle.sdh_carrying.proofs.Connections.{node_of, state_in_turn}
 use Rattle.sdh_carrying.proofs.Owed.{found, clock_is, found_arrives, outlet_there, slot_inside}
-use Rattle.sdh_routes.specs.Walks.{port_at, inward, stands_in}
+use Rattle.sdh_routes.specs.Walks.{port_at, stands_in}
+use Rattle.sdh_circuits.specs.Ends.{inward}
 use Rattle.sdh_routes.proofs.Views.{AreOnRing, on-ring}
 use Rattle.sdh_routes.proofs.Ways.{end_inside}
 use Rattle.sdh_strangers.specs.Owners.{port_named, other_port, put_by, HasBytesOf, Holds, nobodys, customers, MeetsNoStranger, ais_comes, bytes_come, NoneMeetsAStranger, AreClocksOf}

@@ -9,7 +9,7 @@ use Rattle.sdh_payload.specs.Clock.{Clock}
 use Rattle.sdh_payload.specs.Chunk.{taken}
 use Rattle.sdh_payload.specs.Outlet.{Outlet, silent, delivering}
 use Rattle.sdh_payload.specs.declared.chunk.ChunkForm.{ChunkForm}
-use Rattle.sdh_restoration.specs.Due.{other_end}
+use Rattle.sdh_circuits.specs.Ends.{other_end}
 use Rattle.sdh_terminal.specs.Passing.{h3_of}
 use Rattle.sdh_terminal.specs.Tributaries.{sent_in, input_by}
 use Rattle.sdh_world.specs.Clocks.{clock_at, clocks_from}

@@ -13,7 +13,7 @@ use Rattle.sdh_payload.specs.Stream.{stream_from}
 use Rattle.sdh_payload.specs.Chunk.{taken_len}
 use Rattle.sdh_payload.specs.Clock.{ticked, next_form}
 use Rattle.sdh_plant.specs.Fibres.{Fibres}
-use Rattle.sdh_restoration.specs.Due.{other_end}
+use Rattle.sdh_circuits.specs.Ends.{other_end}
 use Rattle.sdh_request.specs.declared.settings.Settings.{Settings}
 use Rattle.sdh_world.specs.Held.{outlet_at}
 use Rattle.sdh_world.specs.Rounds.{round}

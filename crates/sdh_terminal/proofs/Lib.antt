@@ -7,3 +7,5 @@ pub mod Frames
 pub mod Places
 pub mod Slips
 pub mod Rowwise
+pub mod Found
+pub mod Same

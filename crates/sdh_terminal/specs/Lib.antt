@@ -7,3 +7,4 @@ pub mod Places
 pub mod Lines
 pub mod Sending
 pub mod Sources
+pub mod Fixed

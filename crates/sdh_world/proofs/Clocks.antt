@@ -42,24 +42,9 @@ use Rattle.sdh_rounds.proofs.Runs.{count_round}
 use Rattle.sdh_node.specs.Stations.{adm}
 use Rattle.sdh_rounds.specs.Rounds as any_round
 use Rattle.sdh_rounds.specs.Runs as any_run
+use Rattle.sdh_terminal.proofs.Found.{find_head, find_tail, found_has}
 
--- ---- the port that is found
-
-pub find_head : (id : PortId) (t : Tributary) (ts : List Tributary) → is_port id t ≡ true → find (is_port id) (t ∷ ts) ≡ Some t
-find_head id t ts e = rw e refl
-
-pub find_tail : (id : PortId) (t : Tributary) (ts : List Tributary) → is_port id t ≡ false → find (is_port id) (t ∷ ts) ≡ find (is_port id) ts
-find_tail id t ts e = rw e refl
-
--- it has the name, and what is true of all ports
-pub found_has : (P : Tributary → Type 0) (id : PortId) (ts : List Tributary) (t : Tributary) → All P ts → port_of id ts ≡ Some t → P t × (is_port id t ≡ true)
-unfolding port_of
-found_has P id [] t all is = absurd (cc)
-found_has P id (u ∷ ts) t all is = by (is_port id u) refl (λ rest. found_has P id ts t (λ k d lt. all (suc k) d (omega arith)) rest)
-  where
-    by : (b : Bool) → is_port id u ≡ b → (find (is_port id) ts ≡ Some t → P t × (is_port id t ≡ true)) → P t × (is_port id t ≡ true)
-    by true e later = let same : u ≡ t = (let k = sym (find_head id u ts e) ∙ is in cc) in subst (λ x. P x × (is_port id x ≡ true)) same (all 0 u (omega arith), e)
-    by false e later = later (sym (find_tail id u ts e) ∙ is)
+-- ---- names
 
 same_ends : (e f : End) → same_end e f ≡ true → e ≡ f
 same_ends A A h = refl

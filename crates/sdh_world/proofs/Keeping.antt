@@ -32,9 +32,11 @@ use Rattle.sdh_node.specs.Node.{Node, new_node, at_receiving, held_for, slips_at
 use Rattle.sdh_node.proofs.Rounds.{round_goes_on}
 use Rattle.sdh_world.specs.Held.{new_nodes, at_place}
 use Rattle.sdh_world.specs.Rounds.{with_arrival, with_arrivals, all_with_arrivals, node_after}
-use Rattle.sdh_world.specs.Fixed.{FixedPort, fixed_port, Fixed, fixed, IsRested, IsOn}
+use Rattle.sdh_terminal.specs.Fixed.{FixedPort, fixed_port}
+use Rattle.sdh_world.specs.Fixed.{Fixed, fixed, IsRested, IsOn}
 use Rattle.sdh_ringmap.specs.Places.{position_of}
 use Rattle.sdh_rounds.specs.Rounds as any_round
+use Rattle.sdh_terminal.proofs.Found.{ports_mapped, new_ports}
 
 -- ---- one node
 
@@ -51,10 +53,6 @@ pub fixed_commanded : (d : Side) (c : Command) (n : Node) → fixed (at_receivin
 unfolding fixed
 fixed_commanded West c n = refl
 fixed_commanded East c n = refl
-
-ports_mapped : (f : ℕ → Tributary → Tributary) (i : ℕ) (ts : List Tributary) → ((k : ℕ) (t : Tributary) → fixed_port (f k t) ≡ fixed_port t) → map fixed_port (map_from f i ts) ≡ map fixed_port ts
-ports_mapped f i [] same = refl
-ports_mapped f i (t ∷ ts) same = ap (λ p. p ∷ map fixed_port (map_from f (i + 1) ts)) (same i t) ∙ ap (λ ps. fixed_port t ∷ ps) (ports_mapped f (i + 1) ts same)
 
 ports_kept : (x : Cross) (ports : List Tributary) → map fixed_port (ports_after x ports) ≡ map fixed_port ports
 unfolding ports_after all_fed all_delivered
@@ -120,18 +118,6 @@ feeds_after P Q to x i j (t ∷ ts) all (suc m) d lt = feeds_after P Q to x (i +
 pub feeds_next : (P Q : Fed → Type 0) → ((f : Fed) → P f → Q (next_feed f)) → (now : ℕ) (n : Node) → All (λ (t : Tributary). P t.feed) n.ports → All (λ (t : Tributary). Q t.feed) (node_after now n).ports
 unfolding node_round with_calm after_crossing ports_after all_fed all_delivered
 feeds_next P Q to now n all = feeds_after P Q to (crossing now n) 0 0 n.ports all
-
--- of new ports
-pub new_ports : (P : Tributary → Type 0) → ((i : ℕ) (e : End) (d : Side) (s : Slot) (c : Customer) → P (new_tributary i e d s c)) → (at : Pos) (i : ℕ) (cs : List Provisioned) → All P (ends_from at i cs)
-new_ports P each at i [] = All-nil P
-new_ports P each at i (c ∷ cs) =
-    let a = new_tributary i A East c.slot c.a in
-    let b = new_tributary i B West c.slot c.b in
-    All-append P (ends_at at i c) (ends_from at (i + 1) cs)
-    (All-append P (if c.from.0 == at.0 then a ∷ [] else []) (if c.to.0 == at.0 then b ∷ [] else [])
-    (cond_both (c.from.0 == at.0) (a ∷ []) [] (All P) (λ _. All-cons P a [] (each i A East c.slot c.a) (All-nil P)) (λ _. All-nil P))
-    (cond_both (c.to.0 == at.0) (b ∷ []) [] (All P) (λ _. All-cons P b [] (each i B West c.slot c.b) (All-nil P)) (λ _. All-nil P)))
-    (new_ports P each at (i + 1) cs)
 
 -- ---- rounds and moments
 

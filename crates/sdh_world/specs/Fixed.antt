@@ -10,21 +10,12 @@ use Rattle.sdh_circuits.specs.Provisioned.{Provisioned}
 use Rattle.sdh_circuits.specs.Provisioning.{IsProvisioning}
 use Rattle.sdh_payload.specs.Customer.{Customer}
 use Rattle.sdh_payload.specs.Clock.{Clock, waiting}
-use Rattle.sdh_squelch.specs.Kept.{KeepsRing}
+use Rattle.sdh_circuits.specs.Kept.{KeepsRing}
 use Rattle.sdh_request.specs.declared.settings.Settings.{Settings}
 use Rattle.sdh_terminal.specs.Tributaries.{Tributary}
 use Rattle.sdh_node.specs.Node.{Node, moment_of}
 use Rattle.sdh_world.specs.Held.{HeldRing, new_nodes}
-
--- a port of a circuit: its name, the side and slot of its circuit, and its customer
-pub record FixedPort : Type 0 where
-  pub port : PortId
-  pub side : Side
-  pub slot : Slot
-  pub customer : Customer
-
-abbrev pub fixed_port : Tributary → FixedPort
-fixed_port t = record { port = t.port; side = t.side; slot = t.slot; customer = t.feed.port }
+use Rattle.sdh_terminal.specs.Fixed.{FixedPort, fixed_port}
 
 pub record Fixed : Type 0 where
   pub settings : Settings

@@ -1,6 +1,6 @@
 use Rattle.std.specs.Prelude.{◌≡◌, ◌/◌, IfSome}
 use Rattle.sdh_terms.specs.Rates.{n_of}
-use Rattle.sdh_squelch.specs.Kept.{KeepsRing}
+use Rattle.sdh_circuits.specs.Kept.{KeepsRing}
 use Rattle.test_rings.proofs.rings.circuits_of.Given as goal
 
 abbrev pub invariant-wishes : goal.invariant-wishes

@@ -5,7 +5,9 @@ use Rattle.sdh_world.specs.Held.{HeldRing, outlet_at}
 use Rattle.sdh_node.specs.Node.{Node, new_node}
 use Rattle.sdh_world.proofs.Keeping.{node_is, has_fixed, new_has}
 use Rattle.sdh_ring.proofs.Rings.{count_of}
-use Rattle.sdh_ring.proofs.Owned.{has_own, end_inside, outlet_is}
+use Rattle.sdh_terminal.proofs.Found.{has_own}
+use Rattle.sdh_circuits.proofs.Rings.{end_inside}
+use Rattle.sdh_ring.proofs.Owned.{outlet_is}
 use Rattle.sdh_ring.proofs.ring.Ring.node_of.Goals as goal
 use Rattle.sdh_circuits.specs.Provisioned.{end_of}
 use Rattle.sdh_ringmap.specs.Places.{position_of}

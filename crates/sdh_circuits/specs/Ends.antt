@@ -1,0 +1,15 @@
+-- The two ends of a circuit.
+use Rattle.sdh_ringmap.specs.declared.Side.{Side}
+use Rattle.sdh_ringmap.specs.declared.Side.TheVariants.{West, East}
+use Rattle.sdh_circuits.specs.declared.End.{End}
+use Rattle.sdh_circuits.specs.declared.End.TheVariants.{A, B}
+
+-- the other end of a circuit
+abbrev pub other_end : End → End
+other_end A = B
+other_end B = A
+
+-- the side of a port's node on which its circuit's arc is
+abbrev pub inward : End → Side
+inward A = East
+inward B = West

@@ -1,0 +1,16 @@
+pub mod Nodes
+pub mod Rounds
+pub mod New
+pub mod Calm
+pub mod Hearing
+pub mod Spans
+pub mod Uses
+pub mod Ways
+pub mod Owed
+pub mod Converging
+pub mod Keeping
+pub mod Rings
+pub mod Turning
+pub mod Using
+pub mod Wholes
+pub mod Sharing

@@ -1,0 +1,136 @@
+-- A path ring over its fibres: what it holds, and its rounds, runs and windows, which are those of any ring.
+use Rattle.std.specs.Prelude.{ℕ, ◌<◌, Bool, false, List, [], length, slice_get, slice_index_or}
+use Rattle.std.specs.Option.{option_map_or}
+use Rattle.sdh_basics.specs.Cells.{cells}
+use Rattle.sdh_terms.specs.declared.Rate.TheVariants.{Four}
+use Rattle.sdh_ringmap.specs.declared.Side.{Side}
+use Rattle.sdh_ringmap.specs.Places.{position_of}
+use Rattle.sdh_circuits.specs.declared.PortId.{PortId}
+use Rattle.sdh_circuits.specs.Provisioned.{Provisioned, end_of}
+use Rattle.sdh_circuits.specs.Provisioning.{Provisioning}
+use Rattle.sdh_payload.specs.Outlet.{Outlet, silent}
+use Rattle.sdh_plant.specs.Fibres.{Arrival, Fibres}
+use Rattle.sdh_request.specs.declared.settings.Settings.{Settings}
+use Rattle.sdh_terminal.specs.Tributaries.{outlet_of}
+use Rattle.sdh_rounds.specs.Held as held
+use Rattle.sdh_rounds.specs.Rounds as rounds
+use Rattle.sdh_rounds.specs.Runs as runs
+use Rattle.sdh_rounds.specs.Quiet as quiet
+use Rattle.sdh_sncp.specs.Node.{PathNode, new_node, node_round}
+use Rattle.sdh_sncp.specs.Stations.{path_node}
+
+abbrev pub HeldPath : Type 0
+HeldPath = held.HeldRing PathNode
+
+-- a ring in which no round has run: each node is new
+unfoldable pub new_nodes : Settings → List ℕ → List Provisioned → ℕ → List PathNode
+new_nodes settings ids circuits n = cells (λ p. new_node settings ids circuits (position_of p)) n
+
+-- its moment stays 0: nothing here waits
+abbrev pub new_ring : Settings → List ℕ → Provisioning → HeldPath
+new_ring settings ids circuits = record {
+  settings = settings;
+  ids = ids;
+  circuits = circuits;
+  nodes = new_nodes settings ids circuits.circuits (length ids);
+  moment = 0;
+  rounds = 0;
+  broken = false;
+}
+
+-- what a port of a circuit delivered in the last round, at the node where it is
+unfoldable pub outlet_at : HeldPath → PortId → Outlet
+outlet_at r port =
+    option_map_or (λ c. option_map_or (λ n. outlet_of port n.ports) (slice_get r.nodes (end_of c port.end).0) silent)
+    (slice_get r.circuits.circuits port.circuit) silent
+
+-- a node of no ring
+unfoldable pub nowhere : PathNode
+nowhere = new_node (record { rate = Four; threshold = 0; wait = 0 }) [] [] (position_of 0)
+
+-- the node at a position
+abbrev pub node_at : List PathNode → ℕ → PathNode
+node_at ns p = slice_index_or ns p nowhere
+
+-- what holds of the node at position p of a ring, at each position
+abbrev pub AtEach : (ℕ → PathNode → Type 0) → List PathNode → Type 0
+AtEach P ns = (p : ℕ) → p < length ns → P p (node_at ns p)
+
+-- ---- a ring and its fibres
+
+abbrev pub World : Type 0
+World = held.World PathNode
+
+abbrev pub world : HeldPath → Fibres → World
+world = held.world
+
+-- ---- a round
+
+-- what arrives in the next round, where that is known
+abbrev pub arrivals_of : World → List Arrival
+arrivals_of = rounds.arrivals_of
+
+-- a node with both its arrivals
+abbrev pub with_arrivals : Arrival → Arrival → PathNode → PathNode
+with_arrivals = rounds.with_arrivals path_node
+
+-- the nodes that have received
+abbrev pub all_with_arrivals : List Arrival → List PathNode → List PathNode
+all_with_arrivals = rounds.all_with_arrivals path_node
+
+-- the nodes of a world after these arrivals
+abbrev pub nodes_with : List Arrival → World → List PathNode
+nodes_with = rounds.nodes_with path_node
+
+-- a node after its round, and the frame that it sends on a side
+abbrev pub node_after : PathNode → PathNode
+node_after n = (node_round n).0
+
+abbrev pub sent_on : Side → PathNode → List ℕ
+sent_on d n = path_node.sends 0 d n
+
+-- the frames of all nodes by position, west before east
+abbrev pub frames_of : ℕ → List PathNode → List (List ℕ)
+frames_of = rounds.frames_of path_node
+
+-- all nodes receive these arrivals, and then all send
+abbrev pub round_with : List Arrival → World → World
+round_with = rounds.round_with path_node
+
+-- the round where arrivals are known
+abbrev pub round : World → World
+round = rounds.round path_node
+
+-- a round, whatever arrives in it
+abbrev pub IsRound : World → World → Type 0
+IsRound = runs.IsRound path_node
+
+-- the fibres after a round that a fault broke off
+abbrev pub IsBrokenOff : World → Fibres → Type 0
+IsBrokenOff = runs.IsBrokenOff path_node
+
+-- ---- runs and windows
+
+-- the world after k more rounds, where arrivals are known
+abbrev pub run : ℕ → World → World
+run = runs.run path_node
+
+-- the world after each number of rounds
+abbrev pub course : World → ℕ → World
+course = runs.course path_node
+
+-- the last round was calm at each node
+abbrev pub is_calm : List PathNode → Bool
+is_calm = quiet.is_calm path_node
+
+-- a quiet window ends with the k-th round of a course
+abbrev pub EndsWindow : (ℕ → World) → ℕ → Type 0
+EndsWindow = quiet.EndsWindow path_node
+
+-- a settle step ended with a window
+abbrev pub Settles : World → ℕ → World → Type 0
+Settles = quiet.Settles path_node
+
+-- it ran as many rounds as it might, and none ended a window
+abbrev pub Unsettles : World → ℕ → World → Type 0
+Unsettles = quiet.Unsettles path_node

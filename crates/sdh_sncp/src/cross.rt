@@ -1,0 +1,162 @@
+//! Both sides that receive, and where what comes in on them leads.
+ghost use Rattle.std.specs.Prelude.{◌≡◌, ◌≢◌, ◌&&◌, ◌≤◌, None, IfOk, length};
+ghost use Rattle.sdh_terms.specs.Rates.{n_of};
+ghost use Rattle.sdh_plant.specs.Arrivals.{arrived_in};
+ghost use Rattle.sdh_ringmap.specs.Places.{opposite};
+ghost use Rattle.sdh_terminal.specs.Same.{same_readings};
+ghost use Rattle.sdh_terminal.specs.Receiving.{inlet_told};
+ghost use Rattle.sdh_terminal.specs.Lines.{line_on, received, IsFeeder};
+ghost use Rattle.sdh_sncp.specs.Node.{new_cross, cross_told, after_taken, lines_of, leads, comes, drops, fed_for};
+
+use crate::slots::{Use, uses_at};
+use sdh_circuits::{CircuitMap, Slot};
+use sdh_overhead::Landed;
+use sdh_plant::Arrived;
+use sdh_pointer::Action;
+use sdh_ringmap::{Pos, Side};
+use sdh_terminal::{Feeder, Inlet, Intake, Matrix};
+use sdh_terms::Rate;
+use std::alloc::{AllocError, Global};
+use std::marker::Model;
+
+/// Both sides that receive, what they take in, and what is done with each slot.
+#[derive(Debug, Drop)]
+pub struct PathCross {
+    uses: Vec<Use>,
+    west: Inlet,
+    east: Inlet,
+    west_in: Intake,
+    east_in: Intake,
+}
+
+impl Model for PathCross {
+    ghost use Rattle.sdh_sncp.specs.Node.{PathCross, IsCross};
+
+    ghost Value = { PathCross };
+
+    ghost view = { λ x. record { uses = x.uses.items; west = x.west; east = x.east; west_in = x.west_in; east_in = x.east_in } };
+
+    ghost invariant = { λ x. IsCross (record { uses = x.uses.items; west = x.west; east = x.east; west_in = x.west_in; east_in = x.east_in }) };
+}
+
+// The other side.
+fn opposite(side: Side) -> Side
+    ensures { result ≡ opposite side }
+{
+    match side {
+        Side::West => Side::East,
+        Side::East => Side::West,
+    }
+}
+
+// What feeds an AU-4 that leaves on a side, by what is done with its slot.
+fn fed_for(used: Use, side: Side, au: u16) -> Feeder
+    ensures { result ≡ fed_for used side au }
+{
+    match used {
+        Use::Unused => Feeder::Ais,
+        Use::Passed => Feeder::Received(opposite(side), au),
+        Use::Ended(port) => Feeder::Port(port),
+    }
+}
+
+impl PathCross {
+    /// With nothing received. All memory is taken here.
+    pub fn try_new(
+        alloc: Global,
+        rate: Rate,
+        circuits: &CircuitMap,
+        at: Pos,
+    ) -> Result<PathCross, AllocError>
+        ensures { IfOk result (λ x. x ≡ new_cross rate circuits.now.circuits at) }
+    {
+        Ok(PathCross {
+            uses: uses_at(alloc, circuits, at, rate.n())?,
+            west: Inlet::try_new(alloc, rate)?,
+            east: Inlet::try_new(alloc, rate)?,
+            west_in: Intake::try_new(alloc, rate)?,
+            east_in: Intake::try_new(alloc, rate)?,
+        })
+    }
+
+    /// Keeps what arrived on a side, and takes what landed in exchange for another buffer. What was taken in before isn't kept.
+    pub fn exchange(&mut self, side: Side, arrived: Arrived, inbox: &mut Landed)
+        requires rate { inbox.old.rate ≡ self.old.west.section.rate }
+        requires here { arrived ≡ Arrived.Frame → inbox.old.landed ≢ None }
+        ensures cross { self.new ≡ record (cross_told side (arrived_in arrived inbox.old.landed) self.old) { west_in = self.new.west_in; east_in = self.new.east_in } }
+        ensures rate { inbox.new.rate ≡ inbox.old.rate }
+    {
+        match side {
+            Side::West => self.west.exchange(arrived, inbox, &mut self.west_in),
+            Side::East => self.east.exchange(arrived, inbox, &mut self.east_in),
+        }
+    }
+
+    /// Both sides take what arrived, and the interpreters read. Whether they keep what they kept.
+    #[tactic(auto, unfolding(crate::specs::Node::after_taken))]
+    pub fn take(&mut self, threshold: u16) -> bool
+        ensures cross { self.new ≡ after_taken threshold self.old }
+        ensures same { result ≡ (same_readings self.new.west.readings self.old.west.readings && same_readings self.new.east.readings self.old.east.readings) }
+        ensures rate { self.new.west.section.rate ≡ self.old.west.section.rate }
+    {
+        let (_, _, west) = self.west.take(threshold, &mut self.west_in);
+        let (_, _, east) = self.east.take(threshold, &mut self.east_in);
+        west && east
+    }
+
+    // Whether an AU-4 came in on a side with a pointer.
+    fn comes(&self, side: Side, au: u16) -> bool
+        requires first { 1 ≤ au }
+        requires last { au ≤ n_of self.now.west.section.rate }
+        ensures { result ≡ comes (received (lines_of self.now) side au) }
+    {
+        let action = match side {
+            Side::West => self.west_in.action(au),
+            Side::East => self.east_in.action(au),
+        };
+        !matches!(action, Action::Ais)
+    }
+}
+
+impl Matrix for PathCross {
+    ghost lines = { λ x. lines_of x };
+
+    ghost leads = { λ x. leads x };
+
+    ghost drops = { λ x. drops x };
+
+    fn rate(&self) -> Rate {
+        self.west_in.rate()
+    }
+
+    fn intake(&self, side: Side) -> &Intake {
+        match side {
+            Side::West => &self.west_in,
+            Side::East => &self.east_in,
+        }
+    }
+
+    fn value(&self, side: Side, au: u16) -> u16 {
+        match side {
+            Side::West => self.west.value(au),
+            Side::East => self.east.value(au),
+        }
+    }
+
+    #[tactic(auto, unfolding(crate::specs::Node::leads))]
+    fn leaving(&self, side: Side, au: u16) -> Feeder {
+        fed_for(self.uses[au as usize - 1], side, au)
+    }
+
+    #[tactic(auto, unfolding(crate::specs::Node::drops))]
+    fn dropped(&self, side: Side, slot: Slot) -> Feeder {
+        let au = u16::from(slot.0);
+        if self.comes(side, au) {
+            Feeder::Received(side, au)
+        } else if self.comes(opposite(side), au) {
+            Feeder::Received(opposite(side), au)
+        } else {
+            Feeder::Ais
+        }
+    }
+}

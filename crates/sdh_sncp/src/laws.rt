@@ -1,0 +1,42 @@
+//! Laws of every path ring, over definitions alone. Each function has a law as its contract and no work to do.
+ghost use Rattle.sdh_sncp.specs.Laws.{NewWorldsAreWhole, NewRingsAreSilent, StayWhole, QuietRingsDeliver, StepsDeliver, RoundsGetCalm, StepsAnswer, ComesIsNorm};
+
+/// A new ring over a prepared plant is whole.
+pub fn new_worlds_are_whole()
+    ensures { NewWorldsAreWhole }
+{}
+
+/// Before the first round every port delivers AIS.
+pub fn new_rings_are_silent()
+    ensures { NewRingsAreSilent }
+{}
+
+/// No call ends that.
+pub fn stay_whole()
+    ensures { StayWhole }
+{}
+
+/// At the end of a quiet window all ports deliver what they are due.
+pub fn quiet_rings_deliver()
+    ensures { QuietRingsDeliver }
+{}
+
+/// So they do after every settle step that ended.
+pub fn steps_deliver()
+    ensures { StepsDeliver }
+{}
+
+/// From round number 9n + 20 on all rounds are calm.
+pub fn rounds_get_calm()
+    ensures { RoundsGetCalm }
+{}
+
+/// No settle step with a large limit is unsettled.
+pub fn steps_answer()
+    ensures { StepsAnswer }
+{}
+
+/// What a port takes comes from an interpreter whose mode is Norm.
+pub fn comes_is_norm()
+    ensures { ComesIsNorm }
+{}

@@ -1,0 +1,145 @@
+//! One node.
+ghost use Rattle.std.specs.Prelude.{◌≡◌, ◌≢◌, ◌&&◌, nat_le, ◌+◌, ◌/◌, ◌^◌, ◌<◌, ◌≤◌, None, IfOk, length};
+ghost use Rattle.sdh_terms.specs.Rates.{n_of};
+ghost use Rattle.sdh_plant.specs.Arrivals.{arrived_in};
+ghost use Rattle.sdh_terminal.specs.Tributaries.{HasPort, outlet_of};
+ghost use Rattle.sdh_sncp.specs.Node.{new_node, told, node_round, GoesOn};
+
+use crate::cross::PathCross;
+use sdh_circuits::{CircuitMap, PortId};
+use sdh_frame::FrameBuf;
+use sdh_nodestate::first_word;
+use sdh_overhead::Landed;
+use sdh_payload::Delivered;
+use sdh_plant::Arrived;
+use sdh_request::Settings;
+use sdh_ringmap::{Pos, RingMap, Side};
+use sdh_terminal::{Sender, Tributaries, send_both};
+use std::alloc::{AllocError, Global};
+use std::marker::Model;
+
+/// One node of a path ring.
+#[derive(Debug, Drop)]
+pub struct PathNode {
+    threshold: u16,
+    rounds: u64,
+    cross: PathCross,
+    ports: Tributaries,
+    west_out: Sender,
+    east_out: Sender,
+    calm: bool,
+}
+
+impl Model for PathNode {
+    ghost use Rattle.sdh_sncp.specs.Node.{PathNode, IsNode};
+
+    ghost Value = { PathNode };
+
+    ghost view = { λ a. record { threshold = a.threshold; uses = a.cross.uses; rounds = a.rounds; west = a.cross.west; east = a.cross.east; ports = a.ports; west_out = a.west_out; east_out = a.east_out; calm = a.calm } };
+
+    ghost invariant = { λ a. IsNode (record { threshold = a.threshold; uses = a.cross.uses; rounds = a.rounds; west = a.cross.west; east = a.cross.east; ports = a.ports; west_out = a.west_out; east_out = a.east_out; calm = a.calm }) };
+}
+
+impl PathNode {
+    /// The node at a position of a ring with these circuits. All its memory is taken here.
+    #[tactic(auto, unfolding(crate::specs::Node::new_node))]
+    pub fn try_new(
+        alloc: Global,
+        settings: Settings,
+        map: &RingMap,
+        circuits: &CircuitMap,
+        at: Pos,
+    ) -> Result<PathNode, AllocError>
+        requires at { at.0 < length map.now }
+        requires slots { circuits.now.slots ≡ n_of settings.rate / 2 }
+        ensures { IfOk result (λ node. node ≡ new_node settings map.now circuits.now.circuits at) }
+    {
+        let west = first_word(map, at, Side::West);
+        let east = first_word(map, at, Side::East);
+        Ok(PathNode {
+            threshold: settings.threshold,
+            rounds: 0,
+            cross: PathCross::try_new(alloc, settings.rate, circuits, at)?,
+            ports: Tributaries::try_new(alloc, circuits, at)?,
+            west_out: Sender::try_new(alloc, settings.rate, west)?,
+            east_out: Sender::try_new(alloc, settings.rate, east)?,
+            calm: false,
+        })
+    }
+
+    /// Keeps what arrived on a side for the next round, in exchange for another buffer of the same rate.
+    pub fn exchange(&mut self, side: Side, arrived: Arrived, inbox: &mut Landed)
+        requires rate { inbox.old.rate ≡ self.old.west.section.rate }
+        requires here { arrived ≡ Arrived.Frame → inbox.old.landed ≢ None }
+        ensures node { self.new ≡ told side (arrived_in arrived inbox.old.landed) self.old }
+        ensures rate { inbox.new.rate ≡ inbox.old.rate }
+    {
+        self.cross.exchange(side, arrived, inbox);
+    }
+
+    /// What a port of the node delivered in the last round, and AIS before the first.
+    pub fn delivered(&self, port: PortId) -> &Delivered
+        requires { HasPort self.now.ports port }
+        ensures { result.now ≡ (outlet_of port self.now.ports).delivered }
+    {
+        self.ports.outlet(port).delivered()
+    }
+
+    /// The value of the interpreter through which a port's chunk came, and 0 where it delivers AIS.
+    pub fn value(&self, port: PortId) -> u16
+        requires { HasPort self.now.ports port }
+        ensures value { result ≡ (outlet_of port self.now.ports).value }
+        ensures small { result ≤ 782 }
+    {
+        self.ports.outlet(port).value()
+    }
+
+    /// Whether the last round left all interpreters and generators as they were. The first round isn't calm.
+    pub fn calm(&self) -> bool
+        ensures { result ≡ self.now.calm }
+    {
+        self.calm
+    }
+
+    /// One round: what arrived is read, the ports deliver, and a frame goes out on each side. It takes no memory.
+    #[tactic(auto, unfolding(crate::specs::Node::node_round))]
+    pub fn send(&mut self, west: &mut FrameBuf, east: &mut FrameBuf)
+        requires west { west.old.rate ≡ self.old.west.section.rate }
+        requires east { east.old.rate ≡ self.old.west.section.rate }
+        requires few { self.old.rounds < 2 ^ 32 }
+        ensures node { self.new ≡ (node_round self.old).0 }
+        ensures west { west.new ≡ (node_round self.old).1.west }
+        ensures east { east.new ≡ (node_round self.old).1.east }
+        ensures rates { (west.new.rate ≡ west.old.rate) × (east.new.rate ≡ east.old.rate) }
+        ensures goes_on { GoesOn self.old self.new }
+    {
+        let ran = has_run(self.rounds);
+        let taken = self.cross.take(self.threshold);
+        self.ports.deliver(&self.cross);
+        self.ports.feed();
+        self.rounds += 1;
+        let (west_made, east_made) = send_both(
+            &mut self.west_out,
+            &mut self.east_out,
+            &self.cross,
+            &self.ports,
+            west,
+            east,
+        );
+        self.calm = is_calm(ran, taken, west_made, east_made);
+    }
+}
+
+// Whether a round ran before.
+fn has_run(rounds: u64) -> bool
+    ensures { result ≡ nat_le 1 rounds }
+{
+    rounds >= 1
+}
+
+// Whether a round was calm, by what its calls tell.
+fn is_calm(ran: bool, taken: bool, west_made: bool, east_made: bool) -> bool
+    ensures { result ≡ (ran && (taken && (west_made && east_made))) }
+{
+    ran && taken && west_made && east_made
+}
