@@ -21,6 +21,8 @@ ghost use Rattle.sdh_hearing.specs.Laws.{IsWhole, GoesAsSignals};
 ghost use Rattle.sdh_carrying.specs.Windows.{layout_in, HasCircuits};
 ghost use Rattle.sdh_carrying.specs.Laws.{Restores};
 ghost use Rattle.sdh_rounds.specs.Quiet.{enough_for};
+ghost use Rattle.sdh_strangers.specs.Vouched.{IsVouched};
+ghost use Rattle.sdh_strangers.specs.Laws.{KeepsStrangersOut, KeepsStrangersOutInAll};
 ghost use Rattle.sdh_ring.specs.Outcome.{Outcome};
 ghost use Rattle.sdh_ring.specs.Faults.{BreaksRound, BreaksStep};
 ghost use Rattle.sdh_circuits.specs.Provisioned.{end_of};
@@ -144,6 +146,9 @@ impl Ring {
     {
         sdh_hearing::new_worlds_are_whole();
         sdh_strangers::vouched_rings_stay();
+
+        // Reading it gives the proof what is true of every ring map.
+        let _count = map.len();
         let nodes = new_nodes(alloc, settings, &map, &circuits)?;
         let arrived = Landed::try_new(alloc, settings.rate)?;
         let west = FrameBuf::try_new(alloc, settings.rate)?;
