@@ -85,7 +85,11 @@ fn laid<P: Plant>(
 }
 
 fn side_of(number: u8) -> Side {
-    if number % 2 == 0 { Side::West } else { Side::East }
+    if number % 2 == 0 {
+        Side::West
+    } else {
+        Side::East
+    }
 }
 
 // Brings the fibre that leaves a position into a condition.
@@ -142,7 +146,13 @@ fn happens<P: Plant>(ring: &mut Ring, plant: &mut P, kind: u8, at: u8, value: u8
     match kind {
         0 => apply(ring, plant, at, side, Condition::Cut),
         1 => apply(ring, plant, at, side, Condition::Clear),
-        2 => apply(ring, plant, at, side, Condition::Degraded(u16::from(value / 2 % 16))),
+        2 => apply(
+            ring,
+            plant,
+            at,
+            side,
+            Condition::Degraded(u16::from(value / 2 % 16)),
+        ),
         3 => {
             if (at as usize) < ring.map().len() {
                 ring.command(Pos(at), side, command_of(value / 2));

@@ -150,6 +150,9 @@ impl Ring {
     {
         sdh_hearing::new_worlds_are_whole();
         sdh_strangers::vouched_rings_stay();
+
+        // Reading it gives the proof what is true of every ring map.
+        let _count = map.len();
         let nodes = new_nodes(alloc, settings, &map, &circuits)?;
         let arrived = Landed::try_new(alloc, settings.rate)?;
         let west = FrameBuf::try_new(alloc, settings.rate)?;

@@ -26,6 +26,7 @@ const X: Asked<'static> = Asked {
     trace_a: "x",
     trace_b: "x",
 };
+
 const Y: Asked<'static> = Asked {
     name: "y",
     from: 1,
@@ -138,7 +139,11 @@ fn span_is<P: Plant>(
 {
     let east = span < 4 && apply(ring, plant, span, Side::East, condition);
     let west = span < 4 && apply(ring, plant, (span + 1) % 4, Side::West, condition);
-    if east && west { Ok(()) } else { Err(AllocError) }
+    if east && west {
+        Ok(())
+    } else {
+        Err(AllocError)
+    }
 }
 
 // So many more slips wait at a port.

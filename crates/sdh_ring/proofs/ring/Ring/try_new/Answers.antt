@@ -1,0 +1,11 @@
+use Rattle.std.proofs.Common.{sym, subst, length}
+use Rattle.sdh_plant.specs.Calls.{prepared}
+use Rattle.sdh_world.specs.Held.{HeldRing}
+use Rattle.sdh_world.specs.Rounds.{world}
+use Rattle.sdh_strangers.specs.Vouched.{IsVouched}
+use Rattle.sdh_ring.proofs.ring.Ring.try_new.Goals as goal
+
+pub returns-clause-vouched : goal.returns-clause-vouched
+returns-clause-vouched c = λ f clocks honest.
+    subst (λ (r : HeldRing). IsVouched clocks (world r (prepared c.args.settings.rate (length c.args.map) f))) (sym c.of_nodes.ensures)
+    (c.vouched_rings_stay.ensures.new c.args.settings c.args.map c.args.circuits f clocks c.len-count.ensures.ids honest)
