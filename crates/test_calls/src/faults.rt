@@ -36,6 +36,18 @@ fn each_read_that_fails_is_told(rt: HostRuntime) -> Result<(), Fail> {
 }
 
 // Two pieces of spaces are taken, the third read fails, and the plan is left.
+const READ_ON: &[(Status, &str)] = &[
+    (Status::ReadFault, "read fault\n"),
+    (Status::Ok, SMALLEST_TEXT),
+    (
+        Status::BadPlan {
+            reason: 13,
+            place: 0,
+        },
+        "bad plan 13 at 0\n",
+    ),
+];
+
 #[test]
 fn a_source_goes_on_where_a_read_failed(rt: HostRuntime) -> Result<(), Fail> {
     let words = words_of(rt.alloc(), RUN)?;
@@ -45,35 +57,29 @@ fn a_source_goes_on_where_a_read_failed(rt: HostRuntime) -> Result<(), Fail> {
     }
     document.extend_from_slice(SMALLEST.as_bytes())?;
     let mut source = MemSource::new(rt.alloc(), &document, 64, &[3])?;
-    for (status, text) in [
-        (Status::ReadFault, "read fault\n"),
-        (Status::Ok, SMALLEST_TEXT),
-        (
-            Status::BadPlan {
-                reason: 13,
-                place: 0,
-            },
-            "bad plan 13 at 0\n",
-        ),
-    ] {
+    for (status, text) in READ_ON {
         let mut sink = MemSink::new(rt.alloc(), ROOM, 64, &[])?;
         let mut plant = FibrePlant::new();
         let answer = sdhring(rt.alloc(), &words, &mut source, &mut sink, &mut plant);
-        assert_eq!(rt; answer, status, "{text}");
-        assert_eq!(rt; sink.bytes(), text.as_bytes());
+        assert!(rt;
+            answer == *status && sink.bytes() == text.as_bytes(),
+            "{text}"
+        );
     }
     Ok(())
 }
 
 // The text goes in pieces of 50 bytes.
+const WRITTEN: &[(&[&str], &str)] = &[
+    (RUN, SMALLEST_TEXT),
+    (CHECK, SMALLEST_TABLES),
+    (DROP_OTHER, "no such port\n"),
+    (NO_WORDS, USAGE),
+];
+
 #[test]
 fn each_write_that_fails_is_told(rt: HostRuntime) -> Result<(), Fail> {
-    for (words, text) in [
-        (RUN, SMALLEST_TEXT),
-        (CHECK, SMALLEST_TABLES),
-        (DROP_OTHER, "no such port\n"),
-        (NO_WORDS, USAGE),
-    ] {
+    for (words, text) in WRITTEN {
         let writes = text.len().div_ceil(50);
         for number in 1..=writes {
             let failing = [number as u32];
@@ -91,22 +97,26 @@ fn each_write_that_fails_is_told(rt: HostRuntime) -> Result<(), Fail> {
 }
 
 // Its first call writes the front of a text, and the next one a whole one behind it.
+const WRITTEN_ON: &[(Status, &str)] = &[
+    (Status::WriteFault, "node 1 east slot 1 c"),
+    (
+        Status::Ok,
+        "node 1 east slot 1 cnode 1 east slot 1 c1 1 2\nnode 2 west slot 1 c1 1 2\ndone\n",
+    ),
+];
+
 #[test]
 fn a_sink_goes_on_where_a_write_failed(rt: HostRuntime) -> Result<(), Fail> {
     let words = words_of(rt.alloc(), CHECK)?;
     let mut sink = MemSink::new(rt.alloc(), ROOM, 10, &[3])?;
-    for (status, text) in [
-        (Status::WriteFault, "node 1 east slot 1 c"),
-        (
-            Status::Ok,
-            "node 1 east slot 1 cnode 1 east slot 1 c1 1 2\nnode 2 west slot 1 c1 1 2\ndone\n",
-        ),
-    ] {
+    for (status, text) in WRITTEN_ON {
         let mut source = MemSource::new(rt.alloc(), SMALLEST.as_bytes(), 64, &[])?;
         let mut plant = FibrePlant::new();
         let answer = sdhring(rt.alloc(), &words, &mut source, &mut sink, &mut plant);
-        assert_eq!(rt; answer, status);
-        assert_eq!(rt; sink.bytes(), text.as_bytes());
+        assert!(rt;
+            answer == *status && sink.bytes() == text.as_bytes(),
+            "{text}"
+        );
     }
     Ok(())
 }

@@ -116,17 +116,19 @@ fn limited(alloc: Global, limit: &str, settles: usize) -> Result<String, AllocEr
     document.as_str().replacen(alloc, "limit = 1000", limit, 1)
 }
 
-// The first step begins with round 0, and so reaches round 128 with its 129th round.
+// The limit, how many settle steps, and how the run ends. The first step begins with round 0, and so reaches round 128 with its 129th
+// round.
+const LIMITS: &[(&str, usize, Status, u8, &str)] = &[
+    ("limit = 128", 1, Status::Unsettled(1), 7, "unsettled 1\n"),
+    ("limit = 128", 64, Status::Unsettled(1), 7, "unsettled 1\n"),
+    ("limit = 129", 1, Status::Ok, 0, SMALLEST_TEXT),
+];
+
 #[test]
 fn a_first_step_needs_129_rounds(rt: HostRuntime) -> Result<(), Fail> {
-    let unsettled = Status::Unsettled(1);
-    for (limit, settles, status, number, text) in [
-        ("limit = 128", 1, unsettled, 7, "unsettled 1\n"),
-        ("limit = 128", 64, unsettled, 7, "unsettled 1\n"),
-        ("limit = 129", 1, Status::Ok, 0, SMALLEST_TEXT),
-    ] {
-        let document = limited(rt.alloc(), limit, settles)?;
-        let ending = (status, number, text.as_bytes());
+    for (limit, settles, status, number, text) in LIMITS {
+        let document = limited(rt.alloc(), limit, *settles)?;
+        let ending = (*status, *number, text.as_bytes());
         ends(&rt, rt.alloc(), RUN, document.as_bytes(), SOUND, ending)?;
     }
     Ok(())
