@@ -7,6 +7,14 @@ import unittest
 from pathlib import Path
 
 CRATES = Path(__file__).resolve().parents[2] / "crates"
+# The crates of frames, each with those that it stands on, and the tests.
+LAYER = {
+    "sdh_basics": [],
+    "sdh_ringmap": ["arrayvec", "thiserror"],
+    "sdh_terms": ["sdh_ringmap"],
+    "sdh_frame": ["sdh_basics", "sdh_terms"],
+    "test_frames": ["sdh_frame", "sdh_terms"],
+}
 AFTER = "    second.set_payload(0, 7);\n"
 
 
@@ -14,8 +22,8 @@ def tried(tests):
     """What `rt` says of these tests of frames, before any proof."""
     with tempfile.TemporaryDirectory() as folder:
         root = Path(folder)
-        (root / "crates.txt").write_text("sdh_basics:\nsdh_frame: sdh_basics\ntest_frames: sdh_frame\n")
-        for name in ("sdh_basics", "sdh_frame"):
+        (root / "crates.txt").write_text("".join(f"{name}: {' '.join(below)}\n" for name, below in LAYER.items()))
+        for name in list(LAYER)[:-1]:
             shutil.copytree(CRATES / name, root / "crates" / name, ignore=shutil.ignore_patterns("out"))
         crate = root / "crates" / "test_frames"
         (crate / "src").mkdir(parents=True)
