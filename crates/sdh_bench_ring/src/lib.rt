@@ -129,6 +129,8 @@ fn run<P: Plant>(ring: &mut Ring, plant: &mut P, rounds: u32) -> Result<(), Plan
     requires prepared { IsPrepared ring.old.settings.rate (length ring.old.ids) (P.fibres plant.old) }
     requires whole { ring.old.broken ≡ false }
     requires room { ring.old.rounds + rounds ≤ 2 ^ 32 }
+    ensures prepared { OnOk result (IsPrepared ring.new.settings.rate (length ring.new.ids) (P.fibres plant.new)) }
+    ensures whole { OnOk result (ring.new.broken ≡ false) }
 {
     'turns: for _turn in 0..rounds {
         ring.round(plant)?;

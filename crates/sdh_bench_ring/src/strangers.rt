@@ -4,6 +4,7 @@ ghost use Rattle.sdh_terms.specs.Rates.{n_of};
 ghost use Rattle.sdh_plant.specs.Fibres.{HasNoFibres, IsPrepared};
 ghost use Rattle.sdh_circuits.specs.Kept.{KeepsRing};
 
+use crate::run;
 use sdh_circuits::{Asked, CircuitMap, End, PortId};
 use sdh_node::{Delivered, Settings, Turn};
 use sdh_plant::{FibrePlant, Plant};
@@ -26,7 +27,8 @@ fn letter_at(letters: &str, number: usize) -> &str
     }
 }
 
-// The circuits of a list of starts, ends and slots, each port with a letter of its own for its text; those that are refused are left out.
+// The circuits of a list of starts, ends and slots, each port with a letter of its own for its text; a refusal counts as
+// want of memory here.
 fn circuits_of(
     alloc: Global,
     map: &RingMap,
@@ -52,7 +54,7 @@ fn circuits_of(
             trace_a: name,
             trace_b: name,
         };
-        let _ = circuits.add(map, &wish);
+        circuits.add(map, &wish).map_err(|_| AllocError)?;
     }
     Ok(circuits)
 }
@@ -225,7 +227,7 @@ fn run_written<P: Plant>(
         if ring.rounds() > 100_000 {
             return Err(AllocError);
         }
-        ring.round(plant).map_err(|_| AllocError)?;
+        run(ring, plant, 1).map_err(|_| AllocError)?;
         let Some(here) = out.get_mut(at..) else {
             return Err(AllocError);
         };
@@ -233,6 +235,27 @@ fn run_written<P: Plant>(
         at = at.saturating_add(room);
     }
     Ok(at)
+}
+
+// Each step, and the rounds after it.
+fn all_happen<P: Plant>(
+    ring: &mut Ring,
+    plant: &mut P,
+    steps: &[u8],
+    out: &mut [u8],
+) -> Result<(), AllocError>
+    requires prepared { IsPrepared ring.old.settings.rate (length ring.old.ids) (P.fibres plant.old) }
+    requires whole { ring.old.broken ≡ false }
+{
+    let mut at = 0usize;
+    'steps: for step in steps.chunks_exact(4) {
+        happens(ring, plant, step[0], step[1], step[2]);
+        let Some(here) = out.get_mut(at..) else {
+            return Err(AllocError);
+        };
+        at = at.saturating_add(run_written(ring, plant, step[3], here)?);
+    }
+    Ok(())
 }
 
 fn episode(
@@ -247,14 +270,7 @@ fn episode(
 {
     let mut plant = FibrePlant::new();
     let mut ring = laid(alloc, &mut plant, ids, asked, letters)?;
-    let mut at = 0usize;
-    'steps: for step in steps.chunks_exact(4) {
-        happens(&mut ring, &mut plant, step[0], step[1], step[2]);
-        let Some(here) = out.get_mut(at..) else {
-            return Err(AllocError);
-        };
-        at = at.saturating_add(run_written(&mut ring, &mut plant, step[3], here)?);
-    }
+    all_happen(&mut ring, &mut plant, steps, out)?;
     Ok(ring.circuits().len() as u32)
 }
 

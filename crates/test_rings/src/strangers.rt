@@ -2,7 +2,7 @@
 ghost use Rattle.std.specs.Prelude.{◌≡◌, ◌≤◌, ◌<◌, ◌+◌, ◌/◌, ◌^◌, ℕ, IfOk, OnOk, false, length};
 ghost use Rattle.sdh_plant.specs.Fibres.{HasNoFibres, IsPrepared};
 
-use crate::rings::{apply, circuits_of, settle};
+use crate::rings::{apply, circuits_of, run, settle};
 use sdh_circuits::{Asked, End, PortId};
 use sdh_node::{Delivered, Settings, Turn};
 use sdh_plant::{FibrePlant, Plant};
@@ -119,7 +119,7 @@ fn counted<P: Plant>(ring: &mut Ring, plant: &mut P, rounds: u32) -> Result<u32,
         if ring.rounds() > 100_000 {
             return Err(AllocError);
         }
-        ring.round(plant).map_err(|_| AllocError)?;
+        run(ring, plant, 1).map_err(|_| AllocError)?;
         if meets(ring) {
             met = met.saturating_add(1);
         }
@@ -198,14 +198,22 @@ fn taken<P: Plant>(ring: &mut Ring, plant: &mut P, step: Step) -> Result<u32, Al
 }
 
 // In how many of the rounds of these steps a port met a stranger.
+fn all_taken<P: Plant>(ring: &mut Ring, plant: &mut P, steps: &[Step]) -> Result<u32, AllocError>
+    requires prepared { IsPrepared ring.old.settings.rate (length ring.old.ids) (P.fibres plant.old) }
+    requires whole { ring.old.broken ≡ false }
+{
+    let mut met = 0u32;
+    'steps: for step in steps {
+        met = met.saturating_add(taken(ring, plant, *step)?);
+    }
+    Ok(met)
+}
+
+// The same, from a new ring on.
 fn met(alloc: Global, steps: &[Step]) -> Result<u32, AllocError> {
     let mut plant = FibrePlant::new();
     let mut ring = laid(alloc, &mut plant)?;
-    let mut met = 0u32;
-    'steps: for step in steps {
-        met = met.saturating_add(taken(&mut ring, &mut plant, *step)?);
-    }
-    Ok(met)
+    all_taken(&mut ring, &mut plant, steps)
 }
 
 // Span 0 is cut and mended, and span 1 cut while node 2 is held and mended while node 3 is, so that it goes on passing traffic
