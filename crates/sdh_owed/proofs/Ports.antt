@@ -54,8 +54,8 @@ pub due_told : (n : ℕ) (applied : ℕ → Bool) (circuits : List Provisioned) 
 due_told n applied circuits ss index c e t get small =
     let customer = customer_at c (other_end e) in
     let same : (k : ℕ) → plainly customer (clocks_by circuits ss (other_of index e) k) ≡ sends_by customer (happened ss (other_of index e) k) = λ k. (
-      let h = happened ss (other_of index e) k in
-      ap (plainly customer) (clocks_tell circuits ss (other_of index e) k ∙ ap (λ o. clock_by o h) (offset_is circuits index c e get)) ∙ sends_told customer h small) in
+    let h = happened ss (other_of index e) k in
+    ap (plainly customer) (clocks_tell circuits ss (other_of index e) k ∙ ap (λ o. clock_by o h) (offset_is circuits index c e get)) ∙ sends_told customer h small) in
     λ i. due n applied c (λ k. same k i) t
 
 -- ---- reports

@@ -326,9 +326,10 @@ module _ (law : StillRingsAreSettled) (w : World) (whole : IsWhole w) (form : Ha
   came_same : (p : ℕ) (d : Side) (i : ℕ) → p < n → i < many → SameInput (came w p d (i + 1) 6) (came w p d (i + 1) 5)
   came_same p d i h few =
       let last = takes p d i 5 h few (omega arith) in
-      let before = takes p d i 4 h few (omega arith) in
-      (last.action ∙ ap₂ action_on (reading_kept p d i 5 (inside_of w whole p h) (omega arith)) (behind_kept p d i h few) ∙ sym before.action,
-      last.value ∙ ap (λ (r : Reading). r.value) (reading_last p d i h few) ∙ sym before.value)
+      let before = takes p d i 4 h few (omega arith) in (
+        last.action ∙ ap₂ action_on (reading_kept p d i 5 (inside_of w whole p h) (omega arith)) (behind_kept p d i h few) ∙ sym before.action,
+        last.value ∙ ap (λ (r : Reading). r.value) (reading_last p d i h few) ∙ sym before.value,
+      )
 
   module _ (m : ℕ) (low : 1 ≤ m) (high : m ≤ half) where
     brought_same : (p : ℕ) (o : Origin) → p < n → ((id : PortId) → o ≡ Add id → Fills p m id) → SameInput (brought w p m o 6) (brought w p m o 5)

@@ -45,7 +45,6 @@ use Rattle.sdh_restoration_time.specs.Laws.{NoneHeld, ArePortsOwedFrom, PortsAre
 use Rattle.sdh_restoration_time.proofs.Resting.{AreUncut, port_delivers, joined_delivers, parted_delivers}
 use Rattle.sdh_rounds.specs.Runs as any_run
 
-
 -- where no controller misses a turn from round f on, and no slip waits from round `base` on
 module _ (law : RingsSettle) (w : World) (whole : IsWhole w) (form : HasCircuits (layout_of w)) (f base : ℕ) (free : (k : ℕ) → f ≤ k → AtEach (λ p n. is_held n ≡ false) (run k w).ring.nodes) (late : 4 * length w.ring.ids + f + 9 ≤ base)
     (slips : AtEach (λ p n. NoneWait n.ports) (run base w).ring.nodes) where
