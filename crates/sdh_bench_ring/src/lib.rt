@@ -1,8 +1,5 @@
-//! Rounds of whole rings over fibres in memory, which `bench/ring` measures and `bench/strangers` looks into. No other crate uses this
-//! one.
+//! Rounds of whole rings over fibres in memory, which `bench/ring` measures. No other crate uses this one.
 #![tactic(auto)]
-
-mod strangers;
 
 ghost use Rattle.std.specs.Prelude.{◌≡◌, ◌≤◌, ◌<◌, ◌+◌, ◌*◌, ◌/◌, ◌^◌, ◌⊎◌, ℕ, IfOk, OnOk, false, length};
 ghost use Rattle.sdh_terms.specs.Rates.{n_of};
@@ -129,8 +126,6 @@ fn run<P: Plant>(ring: &mut Ring, plant: &mut P, rounds: u32) -> Result<(), Plan
     requires prepared { IsPrepared ring.old.settings.rate (length ring.old.ids) (P.fibres plant.old) }
     requires whole { ring.old.broken ≡ false }
     requires room { ring.old.rounds + rounds ≤ 2 ^ 32 }
-    ensures prepared { OnOk result (IsPrepared ring.new.settings.rate (length ring.new.ids) (P.fibres plant.new)) }
-    ensures whole { OnOk result (ring.new.broken ≡ false) }
 {
     'turns: for _turn in 0..rounds {
         ring.round(plant)?;
