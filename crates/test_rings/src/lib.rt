@@ -16,8 +16,6 @@ mod rings;
 #[cfg(test)]
 mod sending;
 #[cfg(test)]
-mod signals;
-#[cfg(test)]
 mod slips;
 #[cfg(test)]
 mod strangers;

@@ -2,13 +2,13 @@
 ghost use Rattle.std.specs.Prelude.{◌≡◌, ◌≤◌, ◌<◌, ◌+◌, ◌/◌, ◌^◌, ℕ, IfOk, OnOk, false, length};
 ghost use Rattle.sdh_plant.specs.Fibres.{HasNoFibres, IsPrepared};
 
-use crate::rings::{apply, circuits_of, run, settle};
+use crate::rings::{apply, laid_as, run, settle};
 use sdh_circuits::{Asked, End, PortId};
 use sdh_node::{Delivered, Settings, Turn};
 use sdh_plant::{FibrePlant, Plant};
 use sdh_request::Command;
 use sdh_ring::Ring;
-use sdh_ringmap::{Pos, RingMap, Side};
+use sdh_ringmap::{Pos, Side};
 use sdh_terms::{Condition, Rate};
 use std::alloc::{AllocError, Global};
 use std::test::Fail;
@@ -66,13 +66,7 @@ fn laid<P: Plant>(alloc: Global, plant: &mut P) -> Result<Ring, AllocError>
     ensures prepared { IfOk result (λ ring. IsPrepared ring.settings.rate (length ring.ids) (P.fibres plant.new)) }
     ensures whole { IfOk result (λ ring. ring.broken ≡ false) }
 {
-    let map = RingMap::new(&[0, 1, 2, 3]).map_err(|_| AllocError)?;
-    let circuits = circuits_of(alloc, Rate::Four, &map, &[X, Y])?;
-    let nodes = map.len();
-    plant
-        .prepare(alloc, Rate::Four, nodes)
-        .map_err(|_| AllocError)?;
-    Ok(Ring::try_new(alloc, SETTINGS, map, circuits)?)
+    laid_as(alloc, plant, SETTINGS, &[0, 1, 2, 3], &[X, Y])
 }
 
 // The letter that a port delivers, and a dash for AIS.
