@@ -11,7 +11,7 @@ use Rattle.sdh_report.specs.declared.status.Status.{Status}
 use Rattle.sdh_report.specs.declared.status.Status.TheVariants as status
 use Rattle.sdh_cli.specs.Words.{Ask, Run, Check, Drop, Big}
 use Rattle.sdh_cli.specs.Outcome.{IsRunOutcome, OfListing, listing_of, HasNoPlan, TellsPlan, IsOutcome, Counts, HasCause, IsShown, MayEnd, Writes}
-use Rattle.sdh_cli.specs.Headline.{Lists, HasRun, Delivers, EndsAsItRuns, Settles, StaysHealthy}
+use Rattle.sdh_cli.specs.Headline.{Lists, HasRun, Delivers, GoesWell, EndsAsItRuns, Settles, StaysHealthy}
 
 pub some_same : {A : Type 0} (a b : A) → ◌≡◌ {A = Option A} (Some a) (Some b) → a ≡ b
 some_same a b e = grind arith
@@ -61,6 +61,9 @@ module _ (ask : Option Ask) (bytes : List ℕ) (f left : Fibres) (reads calls : 
   pub delivers : f.honest ≡ true → Delivers ask bytes how old new
   delivers honest plan listing is h = let r = ran plan listing is h in (r.1.reports, subst (Appends old new) r.1.text_is r.2, r.1.came.owed honest)
 
+  pub goes_well : f.honest ≡ true → GoesWell ask bytes f how old new left
+  goes_well honest plan listing is h = let r = ran plan listing is h in (r.1.reports, subst (Appends old new) r.1.text_is r.2, r.1.came.course honest)
+
   pub stays_healthy : f.honest ≡ true → StaysHealthy ask bytes how old new
   stays_healthy honest plan listing is h all = let r = ran plan listing is h in (r.1.reports, subst (Appends old new) r.1.text_is r.2, r.1.came.healthy honest all)
 
@@ -92,6 +95,9 @@ module _ (o : Option (List ℕ)) (ask : Option Ask) (f left : Fibres) (reads cal
 
   pub told_owed : f.honest ≡ true → IfSome o (λ bytes. Delivers ask bytes how old new)
   told_owed honest = told_all o _ _ (λ bytes x. delivers ask bytes f left reads calls how old new (writes_of bytes x) honest) outcome
+
+  pub told_rounds : f.honest ≡ true → IfSome o (λ bytes. GoesWell ask bytes f how old new left)
+  told_rounds honest = told_all o _ _ (λ bytes x. goes_well ask bytes f left reads calls how old new (writes_of bytes x) honest) outcome
 
   pub told_healthy : f.honest ≡ true → IfSome o (λ bytes. StaysHealthy ask bytes how old new)
   told_healthy honest = told_all o _ _ (λ bytes x. stays_healthy ask bytes f left reads calls how old new (writes_of bytes x) honest) outcome

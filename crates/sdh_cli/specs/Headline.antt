@@ -12,7 +12,7 @@ use Rattle.sdh_report.specs.Reports.{Report, text_of}
 use Rattle.sdh_report.specs.Statuses.{last_line}
 use Rattle.sdh_rounds.specs.Quiet.{enough_for}
 use Rattle.sdh_owed.specs.Healthy.{AllSettle}
-use Rattle.sdh_script.specs.Plans.{world_of, ran_of, MaySettle, ShowsHealth}
+use Rattle.sdh_script.specs.Plans.{world_of, ran_of, MaySettle, ShowsHealth, RunsWell}
 use Rattle.sdh_promise.specs.Plans.{OwesAll}
 use Rattle.sdh_cli.specs.Words.{Ask, Run, Check, Drop, Big}
 use Rattle.sdh_cli.specs.Outcome.{TellsPlan, listing_of}
@@ -39,6 +39,13 @@ HasRun how = ⊥
 abbrev pub Delivers : Option Ask → List ℕ → Status → Option (List ℕ) → Option (List ℕ) → Type 0
 Delivers ask bytes how old new = (plan : Planned) (listing : Listing) → Lists ask bytes plan listing → HasRun how
     → (reports : List Report) × Appends old new (text_of listing reports ++ last_line how) × OwesAll plan reports how
+
+-- The second headline, of every round, settled or not. What was written is what is listed of reports, and the last line; in each
+-- round that gave them, before a controller is held, no port meets a stranger, and after the changes before each settle step every
+-- port soon has what it is owed.
+abbrev pub GoesWell : Option Ask → List ℕ → Fibres → Status → Option (List ℕ) → Option (List ℕ) → Fibres → Type 0
+GoesWell ask bytes f how old new left = (plan : Planned) (listing : Listing) → Lists ask bytes plan listing → HasRun how
+    → (reports : List Report) × Appends old new (text_of listing reports ++ last_line how) × RunsWell plan f reports how left
 
 -- it ends as the script does where the arrivals are known: unsettled at exactly the step in which no quiet window comes within the
 -- limit; or a plant's call failed

@@ -5,7 +5,7 @@ ghost use Rattle.sdh_plant.specs.Fibres.{HasNoFibres};
 ghost use Rattle.sdh_report.specs.declared.status.Status.{Status};
 ghost use Rattle.sdh_cli.specs.Words.{words_of, asked};
 ghost use Rattle.sdh_cli.specs.Outcome.{told, LeavesSource, LeavesPlant, HasRead, Counts, CameTo, MayEnd, Writes};
-ghost use Rattle.sdh_cli.specs.Headline.{Delivers, EndsAsItRuns, Settles, StaysHealthy, MayBeDone};
+ghost use Rattle.sdh_cli.specs.Headline.{Delivers, GoesWell, EndsAsItRuns, Settles, StaysHealthy, MayBeDone};
 
 use crate::report::report_on;
 use sdh_outside::{Sink, Source, write_text};
@@ -38,6 +38,10 @@ pub fn sdhring<R: Source, W: Sink, P: Plant>(
     ensures owed { (P.fibres plant.old).honest ≡ true → IfSome (told (asked (words_of words.now)) (R.left source.old)) (λ bytes. Delivers (asked (words_of words.now)) bytes result (W.written sink.old) (W.written sink.new)) }
     ensures settles { (P.fibres plant.old).honest ≡ true → IfSome (told (asked (words_of words.now)) (R.left source.old)) (λ bytes. Settles (asked (words_of words.now)) bytes result) }
     ensures healthy { (P.fibres plant.old).honest ≡ true → IfSome (told (asked (words_of words.now)) (R.left source.old)) (λ bytes. StaysHealthy (asked (words_of words.now)) bytes result (W.written sink.old) (W.written sink.new)) }
+
+    // In every round that gave the reports: before a controller is held no port delivers another customer's byte, and soon after the
+    // last change every port delivers what it is owed.
+    ensures rounds { (P.fibres plant.old).honest ≡ true → IfSome (told (asked (words_of words.now)) (R.left source.old)) (λ bytes. GoesWell (asked (words_of words.now)) bytes (P.fibres plant.old) result (W.written sink.old) (W.written sink.new) (P.fibres plant.new)) }
 
     // Where arrivals are known, unsettled comes at exactly the settle step in which no quiet window comes within the limit.
     ensures unsettled { IfSome (told (asked (words_of words.now)) (R.left source.old)) (λ bytes. EndsAsItRuns (asked (words_of words.now)) bytes (P.fibres plant.old) result) }

@@ -20,6 +20,18 @@ returns-in-Ok-write_text-clause-owed g c =
     let written = subst (Appends old new) c.bytes.ensures c.in-Ok-write_text.ensures.ok in
     promises.told_owed (told a (g.R.Source.left c.args.source.now)) a (means c.args.plant.now) (means c.report_on.new.plant) reads calls report.status report.text.bytes old new c.in-Ok.ensures.cause c.in-Ok.ensures.own written c.in-Ok.ensures.outcome
 
+pub returns-in-Ok-write_text-clause-rounds : goal.returns-in-Ok-write_text-clause-rounds
+returns-in-Ok-write_text-clause-rounds g c =
+    let means = g.P.Plant.fibres in
+    let a = asked (words_of c.args.words.now) in
+    let reads : Counts = record { before = g.R.Source.faults c.args.source.now; after = g.R.Source.faults c.report_on.new.source } in
+    let calls : Counts = record { before = g.P.Plant.faults c.args.plant.now; after = g.P.Plant.faults c.report_on.new.plant } in
+    let report = c.in-Ok.report in
+    let old = g.W.Sink.written c.args.sink.now in
+    let new = g.W.Sink.written c.write_text.new.sink in
+    let written = subst (Appends old new) c.bytes.ensures c.in-Ok-write_text.ensures.ok in
+    promises.told_rounds (told a (g.R.Source.left c.args.source.now)) a (means c.args.plant.now) (means c.report_on.new.plant) reads calls report.status report.text.bytes old new c.in-Ok.ensures.cause c.in-Ok.ensures.own written c.in-Ok.ensures.outcome
+
 pub returns-in-Ok-write_text-clause-healthy : goal.returns-in-Ok-write_text-clause-healthy
 returns-in-Ok-write_text-clause-healthy g c =
     let means = g.P.Plant.fibres in
