@@ -23,12 +23,14 @@ use Rattle.sdh_owed.specs.Steps.{after_step}
 use Rattle.sdh_owed.specs.Scripts.{Runs, sent_by, IsRan, IsCutShort}
 use Rattle.sdh_owed.specs.Healthy.{AllSettle, IsSettled}
 use Rattle.sdh_owed.specs.Laws.{KnownScripts, ReportsAreOwed, ScriptsSettle, HealthyScripts}
+use Rattle.sdh_course.specs.Course.{CoursesAreTold}
+use Rattle.sdh_course.proofs.Course.{none_ran}
 use Rattle.sdh_owed.proofs.Known.{none_sent, none_appended}
 use Rattle.sdh_owed.proofs.History.{owed_none, refused_ends}
 use Rattle.sdh_owed.proofs.Settling.{settled_by, fault_settles}
 use Rattle.sdh_rounds.specs.Quiet.{enough_for}
 use Rattle.sdh_hearing.specs.Laws.{MayStart}
-use Rattle.sdh_script.specs.Plans.{world_of, ran_of, MaySettle, Comes, ComesKnown, ShowsHealth, Tells, Came}
+use Rattle.sdh_script.specs.Plans.{world_of, ran_of, MaySettle, Comes, ComesKnown, ShowsHealth, RunsWell, Tells, Came}
 use Rattle.sdh_promise.specs.Plans.{ring_of, OwesAll}
 
 -- an answer with Ok from another
@@ -89,11 +91,16 @@ module _ (plan : Planned) (f left : Fibres) (reports : List Report) (end : Statu
   healthy_comes law (inl x) all = subst (λ rs. ShowsHealth plan rs end) (sym x.1) (record { show = tt; enough = λ high. inr x.0; short = λ low. (refl, inr x.0) })
   healthy_comes law (inr x) all = law plan.settings plan.nodes (provisioning_of plan) f (may_start plan f fits honest) circuits_fit plan.limit plan.steps all fits.steps_from_1 reports end x.0 x.2
 
+  course_comes : CoursesAreTold → Comes plan f reports end left → RunsWell plan f reports end left
+  course_comes law (inl x) = none_ran (world_of plan f) (ring_of plan) plan.limit plan.steps reports end left x.1 x.0 (ap (λ (g : Fibres). g.sent) x.2)
+  course_comes law (inr x) =
+      subst (RunsWell plan f reports end) x.1 (law plan.settings plan.nodes (provisioning_of plan) f (may_start plan f fits honest) circuits_fit plan.limit start plan.steps fits.steps_fit reports end x.0 x.2)
+
 -- ---- all that is told
 
-pub tells_all : KnownScripts → ReportsAreOwed → ScriptsSettle → HealthyScripts → (plan : Planned) (listing : Listing) (f left : Fibres) (text : List ℕ) (end : Status) → IsPlanned plan → (f.honest ≡ true → IsHonest f)
+pub tells_all : KnownScripts → ReportsAreOwed → ScriptsSettle → HealthyScripts → CoursesAreTold → (plan : Planned) (listing : Listing) (f left : Fibres) (text : List ℕ) (end : Status) → IsPlanned plan → (f.honest ≡ true → IsHonest f)
     → Came plan listing f text end left → Tells plan listing f text end left
-tells_all known owed settles healthy plan listing f left text end fits honest x = record {
+tells_all known owed settles healthy courses plan listing f left text end fits honest x = record {
   reports = x.reports;
   text_is = x.text_is;
   came = record {
@@ -102,6 +109,7 @@ tells_all known owed settles healthy plan listing f left text end fits honest x 
     owed = λ h. owed_comes plan f left x.reports end fits (honest h) owed x.ran;
     settles = λ h large. settles_comes plan f left x.reports end fits (honest h) settles x.ran large;
     healthy = λ h all. healthy_comes plan f left x.reports end fits (honest h) healthy x.ran all;
+    course = λ h. course_comes plan f left x.reports end fits (honest h) courses x.ran;
   };
 }
 

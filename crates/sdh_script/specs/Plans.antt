@@ -6,15 +6,15 @@ use Rattle.sdh_rounds.specs.Quiet.{enough_for}
 use Rattle.sdh_world.specs.Rounds.{World}
 use Rattle.sdh_world.specs.Changes.{new_world}
 use Rattle.sdh_rounds.specs.Laws.{Appends}
-use Rattle.sdh_carrying.specs.Windows.{Layout, layout_in}
 use Rattle.sdh_plan.specs.Planned.{Planned, provisioning_of}
 use Rattle.sdh_report.specs.Reports.{Report, text_of}
 use Rattle.sdh_report.specs.declared.listing.Listing.{Listing}
 use Rattle.sdh_report.specs.declared.status.Status.{Status}
 use Rattle.sdh_report.specs.declared.status.Status.TheVariants as status
 use Rattle.sdh_owed.specs.Scripts.{Runs, Ran, script, sent_by}
-use Rattle.sdh_promise.specs.Plans.{OwesAll}
+use Rattle.sdh_promise.specs.Plans.{ring_of, OwesAll}
 use Rattle.sdh_owed.specs.Healthy.{AllSettle, IsHealthy, IsSettled}
+use Rattle.sdh_course.specs.Course.{HasCourse}
 
 -- the ring of a plan, in which no round has run, over fibres that were just prepared for it
 abbrev pub world_of : Planned → Fibres → World
@@ -62,16 +62,21 @@ MaySettle plan f = (Knows (world_of plan f).fibres × ((ran_of plan f).ending �
 abbrev pub ShowsHealth : Planned → List Report → Status → Type 0
 ShowsHealth plan reports end = IsHealthy plan.limit (length plan.nodes) plan.circuits plan.steps reports end
 
+-- what holds in the rounds that gave the reports: whose bytes come, and how soon they do
+abbrev pub RunsWell : Planned → Fibres → List Report → Status → Fibres → Type 0
+RunsWell plan f reports end left = HasCourse (world_of plan f) (ring_of plan) plan.limit plan.steps reports end left
+
 -- ---- all that is told of one run
 
--- One list of reports, told in each way: what ran over every plant, what it comes to where the arrivals are known, and what is
--- owed and healthy over honest fibres.
+-- One list of reports, told in each way: what ran over every plant, what it comes to where the arrivals are known, and over honest
+-- fibres what is owed and healthy, and what holds in every round.
 pub record IsRunOf (plan : Planned) (f : Fibres) (reports : List Report) (end : Status) (left : Fibres) : Type 0 where
   pub ran : Comes plan f reports end left
   pub known : Knows (world_of plan f).fibres → ComesKnown plan f reports end left
   pub owed : f.honest ≡ true → OwesAll plan reports end
   pub settles : f.honest ≡ true → enough_for (length plan.nodes) ≤ plan.limit → IsSettled end
   pub healthy : f.honest ≡ true → AllSettle plan.steps → ShowsHealth plan reports end
+  pub course : f.honest ≡ true → RunsWell plan f reports end left
 
 -- the text is what is listed of the reports of a run
 pub record Tells (plan : Planned) (listing : Listing) (f : Fibres) (text : List ℕ) (end : Status) (left : Fibres) : Type 0 where

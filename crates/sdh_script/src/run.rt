@@ -104,7 +104,7 @@ pub fn run_plan<P: Plant>(
     requires listing { MayList (length plan.circuits) listing }
 
     // The text is what is listed of one list of reports, which is told over every plant, where the arrivals are known, and over
-    // honest fibres.
+    // honest fibres, with every round that gave them.
     ensures came { IfOk result (λ run. Tells plan listing (P.fibres plant.old) run.text.bytes run.status (P.fibres plant.new)) }
 
     // A fault has a cause, and without one a script that settles is done.
@@ -124,6 +124,7 @@ pub fn run_plan<P: Plant>(
     sdh_owed::reports_are_owed();
     sdh_owed::scripts_settle();
     sdh_owed::healthy_scripts();
+    sdh_course::courses_are_told();
     // Reading it gives the proof what is true of every plan.
     let _steps = plan.steps();
     run_new(alloc, plan, plant, listing)

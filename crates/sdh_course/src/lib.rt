@@ -1,0 +1,14 @@
+//! The course of a script over honest fibres, round by round, over definitions alone: `specs/Course.antt` says which stretches it went
+//! through and what holds in their rounds. The one function here has the law as its contract and no work to do.
+#![tactic(auto)]
+
+ghost use Rattle.sdh_course.specs.Course.{CoursesAreTold};
+
+/// Whatever a script comes to from a new ring on, it has a course: no port meets a stranger before a controller is held, and after the
+/// changes before each settle step all ports soon have what they are owed.
+pub fn courses_are_told()
+    ensures { CoursesAreTold }
+{
+    sdh_strangers::no_port_ever_meets_a_stranger();
+    sdh_restoration_time::stretches_are_restored_soon();
+}
