@@ -1,19 +1,15 @@
 -- The request of a side in the last round of stretches, each of which has at least three.
-use Rattle.std.proofs.Common.{◌≡◌, ℕ, suc, ◌+◌, ◌-◌, ◌<◌, ◌≤◌, true, false, List, [], ◌∷◌, refl, sym, ap, ◌∙◌, subst, arith, max}
+use Rattle.std.proofs.Common.{◌≡◌, ℕ, suc, ◌+◌, ◌-◌, ◌<◌, ◌≤◌, true, false, List, [], ◌∷◌, refl, sym, ap, ◌∙◌, subst, arith}
 use Rattle.std.specs.Prelude.{if◌then◌else◌, nat_lt}
 use Rattle.std.proofs.lemmas.Bool.Decides.{nat_tests}
-use Rattle.sdh_basics.proofs.CellsLaws.{cells-same}
 use Rattle.sdh_ringmap.specs.declared.Side.{Side}
-use Rattle.sdh_ringmap.specs.declared.Side.TheVariants.{West, East}
-use Rattle.sdh_ringmap.specs.Places.{neighbour}
-use Rattle.sdh_terms.specs.Requests.{code_number}
-use Rattle.sdh_restoration.specs.Applied.{span_requests}
 use Rattle.sdh_restoration.specs.History.{SideHistory}
 use Rattle.sdh_promise.specs.Changes.{Stretch, rounds_in}
 use Rattle.sdh_promise.specs.Sides.{Holding, new_holding, all_holding, holding_in, side_history}
 use Rattle.sdh_promise.specs.Owed.{Ring, asked_in}
 use Rattle.sdh_foretold.specs.Resting.{Resting, fresh, rest_after, rest_in, asks}
 use Rattle.sdh_foretold.specs.Laws.{AreLong, changes_in, RequestsRest}
+use Rattle.sdh_foretold.proofs.Spans.{spans_same}
 use Rattle.sdh_foretold.proofs.Rounds.{Same, At, begins, enters, keeps, request_is}
 
 module _ (threshold : ℕ) (least : 1 ≤ threshold) (n p : ℕ) (d : Side) (g : SideHistory) where
@@ -95,10 +91,6 @@ asks_rest ring (first ∷ ss) t p d least long many =
     (λ i low. (let same : 0 + i ≡ i = omega arith in subst (λ u. Same ring.threshold least g u (holding_in n p d (first ∷ ss) new_holding i)) (sym same) (record { cut = refl; degraded = refl; command = refl; moment = refl }))) many)
 
 pub requests_rest : RequestsRest
-unfolding span_requests
 requests_rest ring ss t least long many =
-    let n = ring.nodes in
-    cells-same _ _ n 0 (λ s low. (
-    let q = neighbour n s East in
-    ap (λ c. max (code_number c) (code_number (asked_in ring.threshold ring.wait n ss t q West))) (asks_rest ring ss t s East least long many)
-    ∙ ap (λ c. max (code_number (asks ring.wait (rest_in ring.threshold n s East (changes_in ss) fresh))) (code_number c)) (asks_rest ring ss t q West least long many)))
+    spans_same ring.nodes (asked_in ring.threshold ring.wait ring.nodes ss t) (λ p d. asks ring.wait (rest_in ring.threshold ring.nodes p d (changes_in ss) fresh))
+    (λ p d low. asks_rest ring ss t p d least long many)
