@@ -108,6 +108,13 @@ class Rows(unittest.TestCase):
         self.assertEqual([row.status for row in rows.values()], [0, 0, 0, 12, 2, 3, 4])
         self.assertTrue(rows["drift"].text.endswith(b"drift 4\n"))
 
+    def test_rows_of_watches(self):
+        folder = RINGS.parent / "watches"
+        rows = read_rows(folder)
+        self.assertEqual({row.status for row in rows}, {0, 2, 3, 4, 6, 7})
+        table = (folder / "rows.md").read_text()
+        self.assertEqual({path.name for path in folder.glob("*.text") if f"| {path.name} |" not in table}, set())
+
     def test_a_broken_table(self):
         (self.folder / "rows.md").write_text("| Row | Words |\n|---|---|\n| a | run |\n")
         with self.assertRaises(RowsProblem):

@@ -14,16 +14,10 @@ mod restoring;
 #[cfg(test)]
 mod rings;
 #[cfg(test)]
-mod sending;
-#[cfg(test)]
 mod slips;
 #[cfg(test)]
 mod strangers;
 #[cfg(test)]
 mod streams;
-#[cfg(test)]
-mod told;
-#[cfg(test)]
-mod windows;
 #[cfg(test)]
 mod worked;

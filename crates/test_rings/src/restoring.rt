@@ -4,8 +4,7 @@ ghost use Rattle.std.specs.Prelude.{◌≡◌, ◌<◌, OnOk, false, length};
 ghost use Rattle.sdh_plant.specs.Fibres.{HasNoFibres, IsPrepared};
 
 use crate::deliveries::{have_delivered, order};
-use crate::rings::{ALPHABETS, Line, State, apply, laid_as, laid_with, line_of, settle};
-use crate::windows::cut_if;
+use crate::rings::{ALPHABETS, Line, State, apply, cut_if, laid_as, laid_with, line_of, settle};
 use sdh_circuits::{Asked, End, PortId};
 use sdh_node::{Delivered, Settings};
 use sdh_plant::{Condition, FibrePlant, Plant};

@@ -181,6 +181,19 @@ pub(crate) fn apply<P: Plant>(
     }
 }
 
+/// Cuts the span between the second and the third node both ways, or not.
+pub(crate) fn cut_if<P: Plant>(ring: &Ring, plant: &mut P, is_cut: bool) -> bool
+    requires prepared { IsPrepared ring.now.settings.rate (length ring.now.ids) (P.fibres plant.old) }
+    ensures prepared { IsPrepared ring.now.settings.rate (length ring.now.ids) (P.fibres plant.new) }
+{
+    if !is_cut {
+        return true;
+    }
+    let east = apply(ring, plant, 1, Side::East, Condition::Cut);
+    let west = apply(ring, plant, 2, Side::West, Condition::Cut);
+    east && west
+}
+
 /// Runs so many rounds.
 pub(crate) fn run<P: Plant>(ring: &mut Ring, plant: &mut P, rounds: u32) -> Result<(), PlantFault>
     requires prepared { IsPrepared ring.old.settings.rate (length ring.old.ids) (P.fibres plant.old) }

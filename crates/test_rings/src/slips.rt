@@ -3,9 +3,8 @@ ghost use Rattle.std.specs.Prelude.{◌≡◌, ◌≤◌, ◌<◌, OnOk, false, 
 ghost use Rattle.sdh_plant.specs.Fibres.{HasNoFibres, IsPrepared};
 
 use crate::deliveries::sender_at;
-use crate::rings::{ALPHABETS, laid_with, run, settle};
+use crate::rings::{ALPHABETS, cut_if, laid_with, run, settle};
 use crate::streams::{Sender, is_sent_from, parities_of};
-use crate::windows::cut_if;
 use sdh_circuits::{Asked, End, PortId};
 use sdh_node::{Delivered, Turn};
 use sdh_plant::{FibrePlant, Plant};

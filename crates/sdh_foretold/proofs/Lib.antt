@@ -1,0 +1,4 @@
+pub mod Spans
+pub mod Rounds
+pub mod Stretches
+pub mod Reports

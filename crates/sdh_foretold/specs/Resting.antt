@@ -1,0 +1,54 @@
+-- What each side of a ring has come to at a settle step of a script, by the changes before each settle step alone: no round is
+-- counted. So what a report shows can be told without running one.
+use Rattle.std.specs.Prelude.{ℕ, ◌&&◌, not, nat_le, if◌then◌else◌, Option, Some, None, List, [], ◌∷◌}
+use Rattle.sdh_ringmap.specs.declared.Side.{Side}
+use Rattle.sdh_terms.specs.declared.Code.{Code}
+use Rattle.sdh_terms.specs.declared.Condition.{Condition}
+use Rattle.sdh_terms.specs.declared.Condition.TheVariants.{Clear, Cut, Degraded}
+use Rattle.sdh_request.specs.declared.Defect.{Defect}
+use Rattle.sdh_request.specs.declared.Defect.TheVariants as defect
+use Rattle.sdh_request.specs.Requests as request
+use Rattle.sdh_restoration.specs.Applied.{span_requests}
+use Rattle.sdh_promise.specs.Changes.{Change}
+use Rattle.sdh_promise.specs.Sides.{Holding, new_holding, all_holding}
+use Rattle.sdh_promise.specs.Owed.{Ring}
+
+-- what holds on a side now, the defect that it had at the last settle step, and the moment of the settle step at which its last
+-- defect was no longer there
+pub record Resting : Type 0 where
+  pub holding : Holding
+  pub defect : Defect
+  pub ended : Option ℕ
+
+-- in a new ring over new fibres
+abbrev pub fresh : Resting
+fresh = record { holding = new_holding; defect = defect.None; ended = None }
+
+-- the defect of a side whose fibre stays in this condition, where so many violations are a degradation
+abbrev pub defect_of : ℕ → Condition → Defect
+defect_of threshold Clear = defect.None
+defect_of threshold Cut = defect.Sf
+defect_of threshold (Degraded k) = if nat_le threshold k then defect.Sd else defect.None
+
+-- a settle step lets the side come to rest, where this holds on it
+abbrev pub at_rest : ℕ → Holding → Resting → Resting
+at_rest threshold h r =
+    (let now = defect_of threshold h.condition in
+    record { holding = h; defect = now; ended = if not (request.is_clear r.defect) && request.is_clear now then Some h.moment else r.ended })
+
+-- side d of position p in a ring of n after these changes and a settle step
+abbrev pub rest_after : ℕ → ℕ → ℕ → Side → List Change → Resting → Resting
+rest_after threshold n p d changes r = at_rest threshold (all_holding n p d changes r.holding) r
+
+-- after the changes before each of some settle steps
+abbrev pub rest_in : ℕ → ℕ → ℕ → Side → List (List Change) → Resting → Resting
+rest_in threshold n p d [] r = r
+rest_in threshold n p d (changes ∷ later) r = rest_in threshold n p d later (rest_after threshold n p d changes r)
+
+-- what a side asks for at a settle step that left it so
+abbrev pub asks : ℕ → Resting → Code
+asks wait r = request.highest r.holding.command r.defect (request.waits wait r.defect r.holding.moment r.ended)
+
+-- the requests of all spans of a new ring over new fibres, after the changes before each of some settle steps
+abbrev pub requests_after : Ring → List (List Change) → List ℕ
+requests_after ring past = span_requests ring.nodes (λ p d. asks ring.wait (rest_in ring.threshold ring.nodes p d past fresh))

@@ -1,0 +1,4 @@
+pub mod Failures
+pub mod Sides
+pub mod Verdicts
+pub mod Laws

@@ -1,0 +1,102 @@
+-- What becomes of each circuit where these fail behind a plan's script.
+use Rattle.std.specs.Prelude.{ℕ, ◌≡◌, ◌+◌, ◌*◌, ◌/◌, ◌%◌, ◌≤◌, zero, suc, Bool, true, false, if◌then◌else◌, List, [], ◌∷◌, ◌++◌, length, slice_index, map}
+use Rattle.sdh_basics.specs.Cells.{cells}
+use Rattle.sdh_ringmap.specs.declared.Side.{Side}
+use Rattle.sdh_ringmap.specs.declared.Side.TheVariants.{West, East}
+use Rattle.sdh_ringmap.specs.Places.{neighbour, opposite}
+use Rattle.sdh_ringmap.specs.Arcs.{is_clear, is_joined}
+use Rattle.sdh_terms.specs.declared.Code.{Code}
+use Rattle.sdh_terms.specs.Fibres.{is_cut}
+use Rattle.sdh_request.specs.declared.Command.{Command}
+use Rattle.sdh_request.specs.declared.Command.TheVariants as command
+use Rattle.sdh_circuits.specs.Provisioned.{Provisioned, arc_of}
+use Rattle.sdh_restoration.specs.declared.applied.LocalRequests.{LocalRequests}
+use Rattle.sdh_restoration.specs.Applied.{is_applied}
+use Rattle.sdh_plan.specs.Planned.{Planned}
+use Rattle.sdh_plan.specs.declared.step.Step.{Step}
+use Rattle.sdh_plan.specs.declared.step.Step.TheVariants as step
+use Rattle.sdh_promise.specs.Changes.{Change, scenes}
+use Rattle.sdh_promise.specs.Plans.{ring_of}
+use Rattle.sdh_foretold.specs.Resting as rest
+use Rattle.sdh_verdicts.specs.declared.failure.Failure.{Failure}
+use Rattle.sdh_verdicts.specs.declared.failure.Failure.TheVariants.{Degraded, Cut, Span, Node, Manual, Forced}
+use Rattle.sdh_verdicts.specs.declared.judging.Sides.{Sides}
+use Rattle.sdh_verdicts.specs.declared.judging.AppliedSpans.{AppliedSpans}
+use Rattle.sdh_verdicts.specs.declared.judging.Verdict.{Verdict}
+use Rattle.sdh_verdicts.specs.declared.judging.Verdict.TheVariants.{Kept, Over, Lost}
+use Rattle.sdh_verdicts.specs.Failures.{case_steps, side_of}
+use Rattle.sdh_verdicts.specs.Sides.{resting_of, rests}
+
+-- the plan's script, then the steps of a case, and a settle step
+abbrev pub longer_steps : Planned → List Failure → List Step
+longer_steps plan case = plan.steps ++ (case_steps (length plan.nodes) plan.settings.threshold case ++ step.Settle ∷ [])
+
+-- the changes before each settle step of that
+abbrev pub scenes_with : Planned → List Failure → List (List Change)
+scenes_with plan case = scenes [] (longer_steps plan case)
+
+-- the requests of all spans that the longer script comes to
+abbrev pub requests_with : Planned → List Failure → List ℕ
+requests_with plan case = rest.requests_after (ring_of plan) (scenes_with plan case)
+
+-- what becomes of a circuit of a ring of n where these spans are applied: its ends are joined by its own arc, or only round applied
+-- spans, or not at all
+abbrev pub verdict_under : ℕ → (ℕ → Bool) → Provisioned → Verdict
+verdict_under n applied c = if is_clear n applied (arc_of n c) then Kept else if is_joined n applied (arc_of n c) then Over else Lost
+
+-- what becomes of a circuit of the plan in a case
+abbrev pub verdict_of : Planned → List Failure → Provisioned → Verdict
+verdict_of plan case c = verdict_under (length plan.nodes) (is_applied (requests_with plan case)) c
+
+-- ---- failures that are none
+
+-- what side d of position p has come to behind the plan's script
+abbrev pub left_by : Planned → ℕ → Side → rest.Resting
+left_by plan p d = rests plan.settings.threshold (length plan.nodes) p d plan.steps rest.fresh
+
+abbrev pub is_forced : Command → Bool
+is_forced command.Forced = true
+is_forced command.Manual = false
+is_forced command.Clear = false
+
+-- The failure's step would take the place of something worse that the script has set: a degradation of a fibre that is cut, or a manual
+-- switch of a side that has a forced one.
+abbrev pub mends : Planned → Failure → Bool
+mends plan (Degraded at side) = is_cut (left_by plan (neighbour (length plan.nodes) at.0 side) (opposite side)).holding.condition
+mends plan (Manual at side) = is_forced (left_by plan at.0 side).holding.command
+mends plan (Cut at side) = false
+mends plan (Span at) = false
+mends plan (Node at) = false
+mends plan (Forced at side) = false
+
+-- ---- what the program keeps
+
+-- what a side asks for behind the longer script
+abbrev pub asks_with : Planned → List Failure → ℕ → Side → Code
+asks_with plan case p d = rest.asks plan.settings.wait (rest.rest_in plan.settings.threshold (length plan.nodes) p d (scenes_with plan case) rest.fresh)
+
+-- what both sides of a node ask for
+abbrev pub asked_at : Planned → List Failure → ℕ → LocalRequests
+asked_at plan case p = record { west = asks_with plan case p West; east = asks_with plan case p East }
+
+-- what the side of a number has come to behind the plan's script
+abbrev pub numbered : Planned → ℕ → rest.Resting
+numbered plan number = left_by plan (number / 2) (side_of number)
+
+-- the program's sides are those of the plan's ring, as its script leaves them
+pub record AreSidesOf (plan : Planned) (s : Sides) : Type 0 where
+  pub nodes : s.map.now ≡ plan.nodes
+  pub threshold : s.threshold ≡ plan.settings.threshold
+  pub wait : s.wait ≡ plan.settings.wait
+  pub rests : map resting_of s.rests.items ≡ cells (numbered plan) (2 * length plan.nodes)
+
+-- how many of the first k places a test holds at
+abbrev pub counted : (ℕ → Bool) → ℕ → ℕ
+counted p zero = 0
+counted p (suc k) = counted p k + (if p k then 1 else 0)
+
+-- the applied spans are those of a ring of n for which p holds: how many there are before each place, round the ring twice
+pub record AreApplied (n : ℕ) (p : ℕ → Bool) (a : AppliedSpans) : Type 0 where
+  pub before : (i : ℕ) → i ≤ 2 * n → slice_index a.before i ≡ counted (λ j. p (j % n)) i
+  pub some : 1 ≤ n
+  pub few : n ≤ 16

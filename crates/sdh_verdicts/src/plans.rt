@@ -1,0 +1,21 @@
+//! What is told of a circuit of a plan.
+ghost use Rattle.std.specs.Prelude.{◌≡◌, ◌<◌, List, length, slice_get, Some};
+ghost use Rattle.sdh_restoration.specs.Applied.{is_applied};
+ghost use Rattle.sdh_circuits.specs.Provisioned.{Provisioned};
+ghost use Rattle.sdh_verdicts.specs.declared.failure.Failure.{Failure};
+ghost use Rattle.sdh_verdicts.specs.Verdicts.{AreApplied, requests_with, verdict_of};
+
+use crate::judging::{AppliedSpans, Verdict, judge};
+use sdh_plan::Plan;
+
+/// What becomes of a circuit, by its number, in the case of which these are the applied spans.
+pub fn told(plan: &Plan, applied: &AppliedSpans, number: u8) -> Verdict
+    requires number { number < length plan.now.circuits }
+    requires case { (case : List Failure) × AreApplied (length plan.now.nodes) (is_applied (requests_with plan.now case)) applied.now }
+    ensures { (case : List Failure) (c : Provisioned) → AreApplied (length plan.now.nodes) (is_applied (requests_with plan.now case)) applied.now → slice_get plan.now.circuits number ≡ Some c → result ≡ verdict_of plan.now case c }
+{
+    let circuits = plan.circuits();
+    // Reading it gives the proof what is true of every circuit map.
+    let _count = circuits.len();
+    judge(plan.map(), applied, circuits.get(number))
+}

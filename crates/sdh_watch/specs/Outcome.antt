@@ -1,0 +1,62 @@
+-- How a call of the program ends: each status, when it is answered, and the text that goes with it. What has to do with
+-- the bytes of plans, with causes and with what is written is as for `sdhring`.
+use Rattle.std.specs.Prelude.{◌≡◌, ◌⊎◌, ℕ, Bool, true, false, List, [], ◌∷◌, ◌++◌, Option, Some, codes}
+use Rattle.std.specs.Str.{bytes_eq}
+use Rattle.std.specs.Io.KnownBytes.{IsAtEnd}
+use Rattle.sdh_plant.specs.Fibres.{Fibres}
+use Rattle.sdh_plan.specs.Planned.{Planned}
+use Rattle.sdh_report.specs.declared.status.Status.{Status}
+use Rattle.sdh_report.specs.declared.status.Status.TheVariants as status
+use Rattle.sdh_report.specs.Lines.{own_line}
+use Rattle.sdh_report.specs.Statuses.{last_line}
+use Rattle.sdh_cli.specs.Outcome.{Says, HasNoPlan, TellsPlan, Counts, HasCause}
+use Rattle.sdh_watching.specs.Shows.{Watched}
+use Rattle.sdh_watch_script.specs.Lines.{text_of}
+use Rattle.sdh_watch_script.specs.Plans.{IsRunOf}
+
+-- the words of a command line are `run` alone
+abbrev pub is_asked : List (List ℕ) → Bool
+is_asked [] = false
+is_asked (word ∷ []) = bytes_eq word (codes "run")
+is_asked (word ∷ other ∷ more) = false
+
+-- what is told of other words
+abbrev pub usage : List ℕ
+usage = own_line (codes "usage: sdhwatch run")
+
+-- ---- with a plan
+
+-- A plan was run over new fibres: the text is that of what is told of its settle steps, and the last line. One list is
+-- told over every plant, where the arrivals are known, and over honest fibres.
+pub record IsRunOutcome (plan : Planned) (f : Fibres) (how : Status) (text : List ℕ) (left : Fibres) : Type 0 where
+  pub reports : List Watched
+  pub text_is : text ≡ text_of reports ++ last_line how
+  pub came : IsRunOf plan f reports how left
+
+-- ---- with the bytes of a source
+
+-- there is no plan, the last line is all of the text, and the fibres are left alone; or the plan was run
+abbrev pub OfBytes : List ℕ → Fibres → Status → List ℕ → Fibres → Type 0
+OfBytes bytes f how text left = (HasNoPlan bytes how × Says how text f left) ⊎ ((plan : Planned) × TellsPlan bytes plan × IsRunOutcome plan f how text left)
+
+-- ---- with the words
+
+-- the call comes to this status, with this text, where the source had these bytes left. No outcome is a write fault or
+-- want of memory: they may stand in place of one
+abbrev pub IsOutcome : Bool → List ℕ → Fibres → Status → List ℕ → Fibres → Type 0
+IsOutcome false bytes f how text left = (how ≡ status.Usage) × (text ≡ usage) × (left ≡ f)
+IsOutcome true bytes f how text left = OfBytes bytes f how text left
+
+-- what has to be known of a source: its bytes, or nothing where it isn't read
+abbrev pub told : Bool → Option (List ℕ) → Option (List ℕ)
+told false left = Some []
+told true left = left
+
+-- a source that is read was read to its end
+abbrev pub HasRead : Bool → Option (List ℕ) → Type 0
+HasRead false left = Unit {0}
+HasRead true left = IsAtEnd left
+
+-- an outcome that these failures allow
+abbrev pub MayEnd : Bool → List ℕ → Fibres → Counts → Counts → Status → List ℕ → Fibres → Type 0
+MayEnd asked bytes f reads plant how text left = IsOutcome asked bytes f how text left × HasCause reads plant how

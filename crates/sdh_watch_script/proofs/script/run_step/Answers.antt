@@ -1,0 +1,22 @@
+use Rattle.std.proofs.Common.{sym, subst}
+use Rattle.std.specs.Prelude.{IfErr}
+use Rattle.sdh_world.specs.Rounds.{world}
+use Rattle.sdh_plan.specs.declared.step.Step.{Step}
+use Rattle.sdh_watch_script.specs.Running.{StopsAt}
+use Rattle.sdh_watch_script.proofs.Steps.{changed_went, changed_next}
+use Rattle.sdh_watch_script.proofs.script.run_step.Goals as goal
+
+pub returns-in-Settle-clause-err : goal.returns-in-Settle-clause-err
+returns-in-Settle-clause-err g c =
+    let means = g.P.Plant.fibres in
+    subst (λ (s : Step). IfErr c.settle.result (λ how. StopsAt c.args.limit c.args.number s (world c.args.ring.now (means c.args.plant.now)) how (world c.settle.new.ring (means c.settle.new.plant)))) (sym c.in-Settle.is) c.settle.ensures.err
+
+pub returns-in_ok-change-in_default-clause-ok : goal.returns-in_ok-change-in_default-clause-ok
+returns-in_ok-change-in_default-clause-ok g c =
+    let means = g.P.Plant.fibres in
+    changed_went c.args.limit c.args.number c.args.step (world c.args.ring.now (means c.args.plant.now)) (world c.change.new.ring (means c.change.new.plant)) c.args.text.now.bytes c.in_default.not-Settle c.in_ok-change-in_default.ensures.ok
+
+pub returns-in_ok-change-in_default-clause-next : goal.returns-in_ok-change-in_default-clause-next
+returns-in_ok-change-in_default-clause-next g c =
+    let means = g.P.Plant.fibres in
+    changed_next c.args.number c.args.step (world c.args.ring.now (means c.args.plant.now)) (world c.change.new.ring (means c.change.new.plant)) c.args.watches.now.items c.args.text.now c.in_default.not-Settle c.in_ok-change-in_default.ensures.ok
