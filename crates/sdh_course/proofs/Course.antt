@@ -14,14 +14,14 @@ use Rattle.sdh_world.specs.Quiet.{Unsettles, BreaksOff}
 use Rattle.sdh_world.specs.Changes.{changed, all_changed, after_stretch, after_stretches, new_world}
 use Rattle.sdh_world.specs.Clocks.{clocks_by}
 use Rattle.sdh_world.specs.Laws.{MayHappen}
-use Rattle.sdh_hearing.specs.Laws.{MayStart}
-use Rattle.sdh_hearing.proofs.Requests.{after_last}
-use Rattle.sdh_hearing.proofs.Staying.{left_stretch, left_stretches}
-use Rattle.sdh_carrying.specs.Laws.{IsRestored}
-use Rattle.sdh_carrying.specs.Windows.{Layout, layout_in, layout_of, size_of, HasCircuits}
-use Rattle.sdh_carrying.proofs.Settles.{layout_stretches}
-use Rattle.sdh_strangers.specs.Laws.{NoPortEverMeetsAStranger}
-use Rattle.sdh_restoration_time.specs.Laws.{StretchesAreRestoredSoon}
+use Rattle.sdh_laws.specs.Hearing.Laws.{MayStart}
+use Rattle.sdh_laws.proofs.hearing.Requests.{after_last}
+use Rattle.sdh_laws.proofs.hearing.Staying.{left_stretch, left_stretches}
+use Rattle.sdh_laws.specs.Carrying.Laws.{IsRestored}
+use Rattle.sdh_laws.specs.Carrying.Windows.{Layout, layout_in, layout_of, size_of, HasCircuits}
+use Rattle.sdh_laws.proofs.carrying.Settles.{layout_stretches}
+use Rattle.sdh_laws.specs.Strangers.Laws.{NoPortEverMeetsAStranger}
+use Rattle.sdh_laws.specs.Restoring.Laws.{StretchesAreRestoredSoon}
 use Rattle.sdh_plan.specs.declared.step.Step.{Step}
 use Rattle.sdh_plan.specs.declared.step.Step.TheVariants as step
 use Rattle.sdh_plan.specs.Steps.{Past, after}

@@ -9,10 +9,10 @@ use Rattle.sdh_world.specs.Runs.{IsBrokenOff}
 use Rattle.sdh_world.specs.Sides.{world_in}
 use Rattle.sdh_world.specs.Changes.{after_stretches, new_world}
 use Rattle.sdh_world.specs.Clocks.{clocks_by}
-use Rattle.sdh_hearing.specs.Laws.{MayStart}
-use Rattle.sdh_carrying.specs.Windows.{layout_in, HasCircuits}
-use Rattle.sdh_strangers.specs.Owners.{NoneMeetsAStranger}
-use Rattle.sdh_strangers.specs.Laws.{NoneHolds}
+use Rattle.sdh_laws.specs.Hearing.Laws.{MayStart}
+use Rattle.sdh_laws.specs.Carrying.Windows.{layout_in, HasCircuits}
+use Rattle.sdh_laws.specs.Strangers.Owners.{NoneMeetsAStranger}
+use Rattle.sdh_laws.specs.Strangers.Laws.{NoneHolds}
 use Rattle.sdh_plan.specs.declared.step.Step.{Step}
 use Rattle.sdh_plan.specs.Steps.{Past}
 use Rattle.sdh_plan.specs.Scripts.{AreSteps}

@@ -9,6 +9,6 @@ ghost use Rattle.sdh_course.specs.Course.{CoursesAreTold};
 pub fn courses_are_told()
     ensures { CoursesAreTold }
 {
-    sdh_strangers::no_port_ever_meets_a_stranger();
-    sdh_restoration_time::stretches_are_restored_soon();
+    sdh_laws::strangers::no_port_ever_meets_a_stranger();
+    sdh_laws::restoring::stretches_are_restored_soon();
 }

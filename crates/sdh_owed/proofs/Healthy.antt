@@ -17,11 +17,11 @@ use Rattle.sdh_world.specs.Quiet.{settles_in}
 use Rattle.sdh_world.specs.Changes.{after_stretches, new_world}
 use Rattle.sdh_rounds.proofs.Runs.{known_settles, known_unsettles}
 use Rattle.sdh_rounds.proofs.Laws.{steps_are_computed}
-use Rattle.sdh_hearing.specs.Laws.{MayStart}
-use Rattle.sdh_carrying.specs.Windows.{Layout, layout_of, HasCircuits}
-use Rattle.sdh_carrying.proofs.Settles.{layout_stretches}
-use Rattle.sdh_converging.specs.Healthy.{healthy_steps, HealthySteps, HealthyStepsSettle, HealthyStepsDeliver}
-use Rattle.sdh_converging.proofs.Runs.{run_more}
+use Rattle.sdh_laws.specs.Hearing.Laws.{MayStart}
+use Rattle.sdh_laws.specs.Carrying.Windows.{Layout, layout_of, HasCircuits}
+use Rattle.sdh_laws.proofs.carrying.Settles.{layout_stretches}
+use Rattle.sdh_laws.specs.Converging.Healthy.{healthy_steps, HealthySteps, HealthyStepsSettle, HealthyStepsDeliver}
+use Rattle.sdh_laws.proofs.converging.Runs.{run_more}
 use Rattle.sdh_plan.specs.declared.step.Step.{Step}
 use Rattle.sdh_plan.specs.declared.step.Step.TheVariants as step
 use Rattle.sdh_report.specs.declared.status.Status.{Status}
@@ -34,7 +34,7 @@ use Rattle.sdh_owed.specs.Healthy.{AllSettle, AreHealthy}
 use Rattle.sdh_owed.specs.Laws.{HealthyScripts}
 use Rattle.sdh_owed.proofs.Known.{knows_after}
 use Rattle.sdh_owed.proofs.Ports.{due_told, ports_are}
-use Rattle.sdh_carrying.proofs.Owed.{offset_small}
+use Rattle.sdh_laws.proofs.carrying.Owed.{offset_small}
 use Rattle.sdh_circuits.specs.Provisioned.{customer_at}
 use Rattle.sdh_node.specs.Stations.{adm}
 use Rattle.sdh_rounds.specs.Runs as any_run

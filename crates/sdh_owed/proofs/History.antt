@@ -9,9 +9,9 @@ use Rattle.sdh_promise.specs.Changes.{Change, Stretch, rounds_in, changes_of, sc
 use Rattle.sdh_world.specs.Changes.{new_world}
 use Rattle.sdh_world.specs.Clocks.{clocks_by}
 use Rattle.sdh_promise.specs.Happened.{happened}
-use Rattle.sdh_hearing.specs.Laws.{MayStart}
-use Rattle.sdh_carrying.specs.Windows.{Layout, layout_in, layout_of, size_of, HasCircuits}
-use Rattle.sdh_carrying.specs.Laws.{IsRestored, SettledRingsRestore}
+use Rattle.sdh_laws.specs.Hearing.Laws.{MayStart}
+use Rattle.sdh_laws.specs.Carrying.Windows.{Layout, layout_in, layout_of, size_of, HasCircuits}
+use Rattle.sdh_laws.specs.Carrying.Laws.{IsRestored, SettledRingsRestore}
 use Rattle.sdh_plan.specs.declared.step.Step.{Step}
 use Rattle.sdh_plan.specs.declared.step.Step.TheVariants as step
 use Rattle.sdh_plan.specs.Steps.{Past, after}

@@ -17,7 +17,7 @@ use Rattle.sdh_rounds.specs.Laws.{frames_in, Appends}
 use Rattle.sdh_rounds.proofs.Runs.{run_first, known_rounds, known_course, course_whole, known_settles, known_unsettles, knows_run, length-heard, length-frames, count_round}
 use Rattle.sdh_rounds.proofs.Windows.{never_same}
 use Rattle.sdh_rounds.proofs.Laws.{runs_keep, broken_steps_send, steps_are_computed}
-use Rattle.sdh_hearing.proofs.Staying.{left_run}
+use Rattle.sdh_laws.proofs.hearing.Staying.{left_run}
 use Rattle.sdh_plan.specs.declared.step.Step.{Step}
 use Rattle.sdh_plan.specs.declared.step.Step.TheVariants as step
 use Rattle.sdh_report.specs.declared.status.Status.{Status}

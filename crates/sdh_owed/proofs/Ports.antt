@@ -25,9 +25,9 @@ use Rattle.sdh_world.specs.Clocks.{offset_of, clocks_by}
 use Rattle.sdh_world.proofs.Happened.{clocks_tell}
 use Rattle.sdh_world.specs.Held.{HeldRing, outlet_at}
 use Rattle.sdh_world.specs.Rounds.{World}
-use Rattle.sdh_carrying.specs.Laws.{due_by_clocks, IsRestored}
-use Rattle.sdh_carrying.specs.Windows.{layout_of, HasCircuits}
-use Rattle.sdh_carrying.proofs.Owed.{offset_small}
+use Rattle.sdh_laws.specs.Carrying.Laws.{due_by_clocks, IsRestored}
+use Rattle.sdh_laws.specs.Carrying.Windows.{layout_of, HasCircuits}
+use Rattle.sdh_laws.proofs.carrying.Owed.{offset_small}
 use Rattle.sdh_report.specs.Reports.{PortLine}
 use Rattle.sdh_owed.specs.Reports.{port_told, ports_from, report_of}
 

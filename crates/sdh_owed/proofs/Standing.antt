@@ -29,13 +29,13 @@ use Rattle.sdh_terminal.proofs.Found.{found_has}
 use Rattle.sdh_world.proofs.Waiting.{waits_changed, waits_new}
 use Rattle.sdh_rounds.proofs.Laws.{settled_numbers}
 use Rattle.sdh_rounds.proofs.Runs.{known_settles}
-use Rattle.sdh_hearing.specs.Laws.{IsWhole, MayStart, NoneWait}
-use Rattle.sdh_hearing.proofs.Changes.{new_worlds_are_whole, whole_all}
-use Rattle.sdh_hearing.proofs.Requests.{whole_stretches, after_last}
-use Rattle.sdh_hearing.proofs.Staying.{left_all, left_run, left_stretches}
-use Rattle.sdh_hearing.proofs.Steady.{none_wait}
-use Rattle.sdh_carrying.specs.Windows.{Layout, layout_in, layout_of, size_of}
-use Rattle.sdh_carrying.proofs.Settles.{layout_all, layout_stretches}
+use Rattle.sdh_laws.specs.Hearing.Laws.{IsWhole, MayStart, NoneWait}
+use Rattle.sdh_laws.proofs.hearing.Changes.{new_worlds_are_whole, whole_all}
+use Rattle.sdh_laws.proofs.hearing.Requests.{whole_stretches, after_last}
+use Rattle.sdh_laws.proofs.hearing.Staying.{left_all, left_run, left_stretches}
+use Rattle.sdh_laws.proofs.hearing.Steady.{none_wait}
+use Rattle.sdh_laws.specs.Carrying.Windows.{Layout, layout_in, layout_of, size_of}
+use Rattle.sdh_laws.proofs.carrying.Settles.{layout_all, layout_stretches}
 use Rattle.sdh_plan.specs.declared.step.Step.{Step}
 use Rattle.sdh_plan.specs.declared.step.Step.TheVariants as step
 use Rattle.sdh_plan.specs.Steps.{Past, after, with_slips, is_settle}

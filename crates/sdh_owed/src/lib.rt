@@ -14,20 +14,20 @@ pub fn known_scripts()
 pub fn reports_are_owed()
     ensures { ReportsAreOwed }
 {
-    sdh_carrying::settled_rings_restore();
+    sdh_laws::carrying::settled_rings_restore();
 }
 
 /// Over honest fibres no settle step with a large limit is unsettled.
 pub fn scripts_settle()
     ensures { ScriptsSettle }
 {
-    sdh_converging::stretches_converge();
+    sdh_laws::converging::stretches_converge();
 }
 
 /// A script of settle steps alone shows a healthy ring.
 pub fn healthy_scripts()
     ensures { HealthyScripts }
 {
-    sdh_converging::healthy_steps_settle();
-    sdh_converging::healthy_steps_deliver();
+    sdh_laws::converging::healthy_steps_settle();
+    sdh_laws::converging::healthy_steps_deliver();
 }

@@ -13,9 +13,9 @@ use Rattle.sdh_payload.specs.declared.clock.Turn.{Turn}
 use Rattle.sdh_payload.specs.Clock.{Clock}
 use Rattle.sdh_world.specs.Clocks.{waiting_at}
 use Rattle.sdh_world.proofs.Histories.{calls_change}
-use Rattle.sdh_hearing.specs.Laws.{IsWhole, StayWhole}
-use Rattle.sdh_strangers.specs.Vouched.{IsVouched}
-use Rattle.sdh_strangers.specs.Laws.{VouchedRingsStay}
+use Rattle.sdh_laws.specs.Hearing.Laws.{IsWhole, StayWhole}
+use Rattle.sdh_laws.specs.Strangers.Vouched.{IsVouched}
+use Rattle.sdh_laws.specs.Strangers.Laws.{VouchedRingsStay}
 
 pub whole_commanded : StayWhole → (r : HeldRing) (f : Fibres) (p : ℕ) (d : Side) (c : Command) → IsWhole (world r f) → IsWhole (world (record r { nodes = at_place p (at_receiving d (commanded_by c)) r.nodes }) f)
 whole_commanded stay r f p d c whole = subst IsWhole (sym (calls_change.command r f p d c)) (stay.change (Order p d c) (world r f) tt whole)

@@ -17,15 +17,15 @@ ghost use Rattle.sdh_world.specs.Rounds.{world};
 ghost use Rattle.sdh_world.specs.Runs.{IsRound, IsBrokenOff};
 ghost use Rattle.sdh_world.specs.Quiet.{is_calm};
 ghost use Rattle.sdh_rounds.specs.Laws.{EndsAtAMultiple};
-ghost use Rattle.sdh_hearing.specs.Laws.{IsWhole, GoesAsSignals};
-ghost use Rattle.sdh_carrying.specs.Windows.{layout_in, HasCircuits};
-ghost use Rattle.sdh_carrying.specs.Laws.{Restores};
+ghost use Rattle.sdh_laws.specs.Hearing.Laws.{IsWhole, GoesAsSignals};
+ghost use Rattle.sdh_laws.specs.Carrying.Windows.{layout_in, HasCircuits};
+ghost use Rattle.sdh_laws.specs.Carrying.Laws.{Restores};
 ghost use Rattle.sdh_rounds.specs.Quiet.{enough_for};
-ghost use Rattle.sdh_strangers.specs.Vouched.{IsVouched};
-ghost use Rattle.sdh_strangers.specs.Laws.{KeepsStrangersOut, KeepsStrangersOutInAll};
-ghost use Rattle.sdh_resting.specs.Rest.{IsAtRest, StaysAtRest};
-ghost use Rattle.sdh_resting.specs.Laws.{LeavesAtRest};
-ghost use Rattle.sdh_restoration_time.specs.Laws.{RestoresBy};
+ghost use Rattle.sdh_laws.specs.Strangers.Vouched.{IsVouched};
+ghost use Rattle.sdh_laws.specs.Strangers.Laws.{KeepsStrangersOut, KeepsStrangersOutInAll};
+ghost use Rattle.sdh_laws.specs.Resting.Rest.{IsAtRest, StaysAtRest};
+ghost use Rattle.sdh_laws.specs.Resting.Laws.{LeavesAtRest};
+ghost use Rattle.sdh_laws.specs.Restoring.Laws.{RestoresBy};
 ghost use Rattle.sdh_payload.specs.Clock.{Clock};
 ghost use Rattle.sdh_ring.specs.Outcome.{Outcome};
 ghost use Rattle.sdh_ring.specs.Faults.{BreaksRound, BreaksStep};
@@ -148,8 +148,8 @@ impl Ring {
         // And it is vouched for, whatever the clocks of its ports will be.
         ensures vouched { IfOk result (λ ring. (f : Fibres) (clocks : PortId → ℕ → Clock) → IsHonest f → IsVouched clocks (world ring (prepared settings.rate (length map) f))) }
     {
-        sdh_hearing::new_worlds_are_whole();
-        sdh_strangers::vouched_rings_stay();
+        sdh_laws::hearing::new_worlds_are_whole();
+        sdh_laws::strangers::vouched_rings_stay();
 
         // Reading it gives the proof what is true of every ring map.
         let _count = map.len();
@@ -202,8 +202,8 @@ impl Ring {
         ensures whole { (f : Fibres) → IsWhole (world self.old f) → IsWhole (world self.new f) }
         ensures vouched { (f : Fibres) (clocks : PortId → ℕ → Clock) → IsVouched clocks (world self.old f) → IsVouched clocks (world self.new f) }
     {
-        sdh_hearing::stay_whole();
-        sdh_strangers::vouched_rings_stay();
+        sdh_laws::hearing::stay_whole();
+        sdh_laws::strangers::vouched_rings_stay();
         command_at(&mut self.nodes, at.0 as usize, side, command);
     }
 
@@ -216,7 +216,7 @@ impl Ring {
         ensures ring { self.new ≡ record self.old { nodes = at_place at.0 (held_for turns) self.old.nodes } }
         ensures whole { (f : Fibres) → IsWhole (world self.old f) → IsWhole (world self.new f) }
     {
-        sdh_hearing::stay_whole();
+        sdh_laws::hearing::stay_whole();
         hold_at(&mut self.nodes, at.0 as usize, turns);
     }
 
@@ -240,8 +240,8 @@ impl Ring {
         ensures whole { (f : Fibres) → IsWhole (world self.old f) → IsWhole (world self.new f) }
         ensures vouched { (f : Fibres) (clocks : PortId → ℕ → Clock) → IsVouched clocks (world self.old f) → IsVouched clocks (world self.new f) }
     {
-        sdh_hearing::stay_whole();
-        sdh_strangers::vouched_rings_stay();
+        sdh_laws::hearing::stay_whole();
+        sdh_laws::strangers::vouched_rings_stay();
         let at = self.place_of(port);
         slip_at(&mut self.nodes, at, port, turn, count);
     }
@@ -264,8 +264,8 @@ impl Ring {
         ensures whole { (f : Fibres) → IsWhole (world self.old f) → IsWhole (world self.new f) }
         ensures vouched { (f : Fibres) (clocks : PortId → ℕ → Clock) → IsVouched clocks (world self.old f) → IsVouched clocks (world self.new f) }
     {
-        sdh_hearing::stay_whole();
-        sdh_strangers::vouched_rings_stay();
+        sdh_laws::hearing::stay_whole();
+        sdh_laws::strangers::vouched_rings_stay();
         self.present = now;
     }
 
@@ -300,9 +300,9 @@ impl Ring {
         // Where the plant's count is exact: one call failed with a fault, and none with Ok.
         ensures counted { IsCounted P.exact (IsErr result) (P.faults plant.old) (P.faults plant.new) }
     {
-        sdh_hearing::whole_rounds_go_as_signals();
-        sdh_resting::rest_goes_on();
-        sdh_strangers::rounds_keep_strangers_out();
+        sdh_laws::hearing::whole_rounds_go_as_signals();
+        sdh_laws::resting::rest_goes_on();
+        sdh_laws::strangers::rounds_keep_strangers_out();
         self.has_circuits();
         self.broken = true;
         hear(self.rounds, &mut self.nodes, &mut self.arrived, plant)?;
@@ -407,12 +407,12 @@ impl Ring {
         self.has_circuits();
         self.has_rested();
         sdh_rounds::settled_numbers::<Adm>();
-        sdh_hearing::steps_stay_whole();
-        sdh_carrying::settled_rings_are_restored();
-        sdh_resting::steps_leave_at_rest();
-        sdh_restoration_time::unsettled_rings_are_restored();
-        sdh_converging::steps_answer();
-        sdh_strangers::steps_keep_strangers_out();
+        sdh_laws::hearing::steps_stay_whole();
+        sdh_laws::carrying::settled_rings_are_restored();
+        sdh_laws::resting::steps_leave_at_rest();
+        sdh_laws::restoring::unsettled_rings_are_restored();
+        sdh_laws::converging::steps_answer();
+        sdh_laws::strangers::steps_keep_strangers_out();
         let mut calm = 0u32;
         'rounds: for _turn in 0..limit {
             self.round(plant)?;

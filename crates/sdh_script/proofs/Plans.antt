@@ -7,7 +7,7 @@ use Rattle.sdh_world.specs.Rounds.{World}
 use Rattle.sdh_rounds.specs.Laws.{Appends}
 use Rattle.sdh_world.proofs.Keeping.{length-new}
 use Rattle.sdh_world.specs.Held.{new_ring}
-use Rattle.sdh_carrying.specs.Windows.{layout_in, HasCircuits}
+use Rattle.sdh_laws.specs.Carrying.Windows.{layout_in, HasCircuits}
 use Rattle.sdh_circuits.proofs.Rings.{circuits_are}
 use Rattle.sdh_plan.specs.Planned.{Planned, IsPlanned, provisioning_of}
 use Rattle.sdh_plan.specs.Steps.{start}
@@ -29,7 +29,7 @@ use Rattle.sdh_owed.proofs.Known.{none_sent, none_appended}
 use Rattle.sdh_owed.proofs.History.{owed_none, refused_ends}
 use Rattle.sdh_owed.proofs.Settling.{settled_by, fault_settles}
 use Rattle.sdh_rounds.specs.Quiet.{enough_for}
-use Rattle.sdh_hearing.specs.Laws.{MayStart}
+use Rattle.sdh_laws.specs.Hearing.Laws.{MayStart}
 use Rattle.sdh_script.specs.Plans.{world_of, ran_of, MaySettle, Comes, ComesKnown, ShowsHealth, RunsWell, Tells, Came}
 use Rattle.sdh_promise.specs.Plans.{ring_of, OwesAll}
 

@@ -7,8 +7,8 @@ use Rattle.sdh_rounds.specs.Quiet.{enough_for}
 use Rattle.sdh_world.specs.Held.{new_ring}
 use Rattle.sdh_world.specs.Rounds.{World}
 use Rattle.sdh_world.proofs.Keeping.{length-new}
-use Rattle.sdh_hearing.specs.Laws.{MayStart}
-use Rattle.sdh_carrying.specs.Windows.{layout_in, HasCircuits}
+use Rattle.sdh_laws.specs.Hearing.Laws.{MayStart}
+use Rattle.sdh_laws.specs.Carrying.Windows.{layout_in, HasCircuits}
 use Rattle.sdh_circuits.proofs.Rings.{circuits_are}
 use Rattle.sdh_plan.specs.declared.step.Step.{Step}
 use Rattle.sdh_plan.specs.declared.step.Step.TheVariants as step

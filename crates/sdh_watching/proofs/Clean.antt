@@ -21,12 +21,12 @@ use Rattle.sdh_world.specs.Held.{outlet_at}
 use Rattle.sdh_world.specs.Rounds.{World, round, round_with}
 use Rattle.sdh_world.specs.Runs.{IsRound}
 use Rattle.sdh_world.specs.Quiet.{is_calm}
-use Rattle.sdh_hearing.proofs.Signalling.{calm_rounds_are_still}
-use Rattle.sdh_carrying.specs.Windows.{Layout, layout_of, size_of, slots_of, HasCircuits, requests_of}
-use Rattle.sdh_carrying.specs.Laws.{due_by_clocks, DeliversWhatIsDue}
-use Rattle.sdh_carrying.proofs.Ways.{layout_round}
-use Rattle.sdh_resting.specs.Rest.{IsAtRest}
-use Rattle.sdh_resting.proofs.Resting.{known_round, rest_goes_on}
+use Rattle.sdh_laws.proofs.hearing.Signalling.{calm_rounds_are_still}
+use Rattle.sdh_laws.specs.Carrying.Windows.{Layout, layout_of, size_of, slots_of, HasCircuits, requests_of}
+use Rattle.sdh_laws.specs.Carrying.Laws.{due_by_clocks, DeliversWhatIsDue}
+use Rattle.sdh_laws.proofs.carrying.Ways.{layout_round}
+use Rattle.sdh_laws.specs.Resting.Rest.{IsAtRest}
+use Rattle.sdh_laws.proofs.resting.Resting.{known_round, rest_goes_on}
 use Rattle.sdh_path.specs.History.{Given, Chunk, Ais}
 use Rattle.sdh_path.specs.Report.{report_of}
 use Rattle.sdh_path.specs.Laws.{clean_report, chunks_from}

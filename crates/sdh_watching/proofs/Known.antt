@@ -17,8 +17,8 @@ use Rattle.sdh_rounds.specs.Laws.{frames_in, Appends}
 use Rattle.sdh_rounds.proofs.Runs.{known_rounds, known_course, course_whole, known_settles, known_unsettles, knows_run}
 use Rattle.sdh_rounds.proofs.Windows.{never_same}
 use Rattle.sdh_rounds.proofs.Laws.{known_rounds_are, faults_keep, broken_steps_send, steps_are_computed}
-use Rattle.sdh_hearing.proofs.Staying.{left_run}
-use Rattle.sdh_converging.proofs.Runs.{run_more}
+use Rattle.sdh_laws.proofs.hearing.Staying.{left_run}
+use Rattle.sdh_laws.proofs.converging.Runs.{run_more}
 use Rattle.sdh_node.specs.Stations.{adm}
 use Rattle.sdh_rounds.specs.Rounds as any_round
 use Rattle.sdh_rounds.specs.Runs as any_run

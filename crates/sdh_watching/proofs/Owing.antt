@@ -28,21 +28,21 @@ use Rattle.sdh_world.specs.Changes.{all_changed, after_stretch, after_stretches,
 use Rattle.sdh_world.specs.Clocks.{HasPortIn, clock_at, waiting_at, clock_in, first_clock, clocks_from, clocks_by}
 use Rattle.sdh_world.specs.Laws.{MayHappen, AreChangesOf}
 use Rattle.sdh_world.proofs.Clocks.{clocks_go_on, goes_run}
-use Rattle.sdh_hearing.specs.Laws.{IsWhole, MayStart}
-use Rattle.sdh_hearing.proofs.Changes.{new_worlds_are_whole}
-use Rattle.sdh_hearing.proofs.Requests.{after_last}
-use Rattle.sdh_hearing.proofs.Staying.{left_run}
-use Rattle.sdh_hearing.proofs.Steady.{none_wait}
-use Rattle.sdh_carrying.specs.Windows.{Layout, layout_in, layout_of, size_of, HasCircuits, requests_of}
-use Rattle.sdh_carrying.specs.Laws.{due_by_clocks, IsRestored, SettledRingsRestore}
-use Rattle.sdh_carrying.proofs.Owed.{port_is_there, offset_small}
-use Rattle.sdh_carrying.proofs.Ways.{layout_run}
-use Rattle.sdh_converging.proofs.Runs.{run_more}
+use Rattle.sdh_laws.specs.Hearing.Laws.{IsWhole, MayStart}
+use Rattle.sdh_laws.proofs.hearing.Changes.{new_worlds_are_whole}
+use Rattle.sdh_laws.proofs.hearing.Requests.{after_last}
+use Rattle.sdh_laws.proofs.hearing.Staying.{left_run}
+use Rattle.sdh_laws.proofs.hearing.Steady.{none_wait}
+use Rattle.sdh_laws.specs.Carrying.Windows.{Layout, layout_in, layout_of, size_of, HasCircuits, requests_of}
+use Rattle.sdh_laws.specs.Carrying.Laws.{due_by_clocks, IsRestored, SettledRingsRestore}
+use Rattle.sdh_laws.proofs.carrying.Owed.{port_is_there, offset_small}
+use Rattle.sdh_laws.proofs.carrying.Ways.{layout_run}
+use Rattle.sdh_laws.proofs.converging.Runs.{run_more}
 use Rattle.sdh_routes.specs.Walks.{port_at}
 use Rattle.sdh_routes.proofs.Ways.{end_inside}
-use Rattle.sdh_resting.specs.Rest.{IsAtRest}
-use Rattle.sdh_resting.specs.Laws.{StepsLeaveAtRest}
-use Rattle.sdh_resting.proofs.Resting.{known_round, rest_goes_on}
+use Rattle.sdh_laws.specs.Resting.Rest.{IsAtRest}
+use Rattle.sdh_laws.specs.Resting.Laws.{StepsLeaveAtRest}
+use Rattle.sdh_laws.proofs.resting.Resting.{known_round, rest_goes_on}
 use Rattle.sdh_plan.specs.declared.step.Step.{Step}
 use Rattle.sdh_plan.specs.declared.step.Step.TheVariants as step
 use Rattle.sdh_plan.specs.Steps.{Past, after}

@@ -12,12 +12,12 @@ use Rattle.sdh_world.specs.Rounds.{World}
 use Rattle.sdh_world.specs.Quiet.{Unsettles}
 use Rattle.sdh_promise.specs.Changes.{Change, Stretch, changes_of}
 use Rattle.sdh_world.specs.Changes.{after_stretches, new_world}
-use Rattle.sdh_hearing.specs.Laws.{MayStart}
-use Rattle.sdh_hearing.proofs.Requests.{after_last}
-use Rattle.sdh_carrying.specs.Windows.{layout_in, size_of, HasCircuits}
-use Rattle.sdh_carrying.specs.Laws.{SettledRingsRestore}
-use Rattle.sdh_converging.specs.Laws.{Converges, StretchesConverge}
-use Rattle.sdh_resting.specs.Laws.{StepsLeaveAtRest}
+use Rattle.sdh_laws.specs.Hearing.Laws.{MayStart}
+use Rattle.sdh_laws.proofs.hearing.Requests.{after_last}
+use Rattle.sdh_laws.specs.Carrying.Windows.{layout_in, size_of, HasCircuits}
+use Rattle.sdh_laws.specs.Carrying.Laws.{SettledRingsRestore}
+use Rattle.sdh_laws.specs.Converging.Laws.{Converges, StretchesConverge}
+use Rattle.sdh_laws.specs.Resting.Laws.{StepsLeaveAtRest}
 use Rattle.sdh_plan.specs.declared.step.Step.{Step}
 use Rattle.sdh_plan.specs.declared.step.Step.TheVariants as step
 use Rattle.sdh_plan.specs.Steps.{Past, after}

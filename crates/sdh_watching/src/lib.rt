@@ -14,15 +14,15 @@ pub fn known_scripts()
 pub fn watches_are_clean()
     ensures { WatchesAreClean }
 {
-    sdh_carrying::settled_rings_restore();
-    sdh_resting::steps_leave_at_rest();
+    sdh_laws::carrying::settled_rings_restore();
+    sdh_laws::resting::steps_leave_at_rest();
 }
 
 /// Over honest fibres no settle step with a large limit is unsettled.
 pub fn scripts_settle()
     ensures { ScriptsSettle }
 {
-    sdh_converging::stretches_converge();
-    sdh_carrying::settled_rings_restore();
-    sdh_resting::steps_leave_at_rest();
+    sdh_laws::converging::stretches_converge();
+    sdh_laws::carrying::settled_rings_restore();
+    sdh_laws::resting::steps_leave_at_rest();
 }

@@ -2,8 +2,8 @@ use Rattle.std.proofs.Common.{ap, sym, subst, ◌∙◌, ◌≡◌, ◌<◌, map
 use Rattle.std.specs.Prelude.{All}
 use Rattle.sdh_world.specs.Held.{HeldRing}
 use Rattle.sdh_world.specs.Rounds.{world}
-use Rattle.sdh_hearing.specs.Laws.{IsWhole}
-use Rattle.sdh_strangers.specs.Vouched.{IsVouched}
+use Rattle.sdh_laws.specs.Hearing.Laws.{IsWhole}
+use Rattle.sdh_laws.specs.Strangers.Vouched.{IsVouched}
 use Rattle.sdh_ring.proofs.Whole.{whole_commanded, vouched_commanded}
 use Rattle.sdh_world.specs.Fixed.{fixed, IsOn}
 use Rattle.sdh_world.proofs.Keeping.{all_commanded, all_on_commanded}

@@ -1,6 +1,6 @@
 use Rattle.sdh_world.specs.Held.{HeldRing}
-use Rattle.sdh_carrying.specs.Windows.{layout_in, HasCircuits}
-use Rattle.sdh_carrying.proofs.Settles.{rings_circuits}
+use Rattle.sdh_laws.specs.Carrying.Windows.{layout_in, HasCircuits}
+use Rattle.sdh_laws.proofs.carrying.Settles.{rings_circuits}
 use Rattle.std.proofs.Common.{subst}
 use Rattle.sdh_ring.proofs.ring.Ring.has_circuits.Goals as goal
 

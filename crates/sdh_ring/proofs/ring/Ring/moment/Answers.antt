@@ -1,8 +1,8 @@
 use Rattle.std.proofs.Common.{sym, subst}
 use Rattle.sdh_world.specs.Held.{HeldRing}
 use Rattle.sdh_world.specs.Rounds.{world}
-use Rattle.sdh_hearing.specs.Laws.{IsWhole}
-use Rattle.sdh_strangers.specs.Vouched.{IsVouched}
+use Rattle.sdh_laws.specs.Hearing.Laws.{IsWhole}
+use Rattle.sdh_laws.specs.Strangers.Vouched.{IsVouched}
 use Rattle.sdh_ring.proofs.Whole.{whole_later, vouched_later}
 use Rattle.sdh_ring.proofs.ring.Ring.moment.Goals as goal
 

@@ -4,8 +4,8 @@ use Rattle.sdh_world.specs.Held.{HeldRing, at_place, place_of_port}
 use Rattle.sdh_node.specs.Node.{slips_at}
 use Rattle.sdh_world.specs.Rounds.{world}
 use Rattle.sdh_world.specs.Clocks.{waiting_at}
-use Rattle.sdh_hearing.specs.Laws.{IsWhole}
-use Rattle.sdh_strangers.specs.Vouched.{IsVouched}
+use Rattle.sdh_laws.specs.Hearing.Laws.{IsWhole}
+use Rattle.sdh_laws.specs.Strangers.Vouched.{IsVouched}
 use Rattle.sdh_ring.proofs.Whole.{whole_slipped, vouched_slipped}
 use Rattle.sdh_world.specs.Fixed.{fixed, IsOn}
 use Rattle.sdh_world.proofs.Keeping.{all_slipped}

@@ -2,7 +2,7 @@ use Rattle.std.proofs.Common.{sym, subst, length}
 use Rattle.sdh_plant.specs.Calls.{prepared}
 use Rattle.sdh_world.specs.Held.{HeldRing}
 use Rattle.sdh_world.specs.Rounds.{world}
-use Rattle.sdh_strangers.specs.Vouched.{IsVouched}
+use Rattle.sdh_laws.specs.Strangers.Vouched.{IsVouched}
 use Rattle.sdh_ring.proofs.ring.Ring.try_new.Goals as goal
 
 pub returns-clause-vouched : goal.returns-clause-vouched

@@ -1,5 +1,0 @@
-use Rattle.sdh_converging.proofs.Rings.{a_ring_occurs}
-use Rattle.sdh_converging.proofs.a_ring_occurs.Goals as goal
-
-pub returns : goal.returns
-returns c = a_ring_occurs c.rings_settle.ensures

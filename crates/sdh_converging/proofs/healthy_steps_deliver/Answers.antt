@@ -1,5 +1,0 @@
-use Rattle.sdh_converging.proofs.HealthyPorts.{healthy_steps_deliver}
-use Rattle.sdh_converging.proofs.healthy_steps_deliver.Goals as goal
-
-pub returns : goal.returns
-returns c = healthy_steps_deliver c.still_rings_are_settled.ensures

@@ -1,5 +1,0 @@
-use Rattle.sdh_converging.proofs.Converging.{rounds_get_calm}
-use Rattle.sdh_converging.proofs.rounds_get_calm.Goals as goal
-
-pub returns : goal.returns
-returns c = rounds_get_calm c.rings_settle.ensures

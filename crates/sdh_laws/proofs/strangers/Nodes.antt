@@ -1,0 +1,255 @@
+-- What a node sends and delivers, where what comes in is fine.
+use Rattle.std.proofs.Common.{◌≡◌, ℕ, zero, suc, ◌+◌, ◌<◌, ◌≤◌, Bool, true, false, List, length, Option, Some, None, refl, ap, sym, ◌∙◌, subst, arith, inl, inr, ◌⊎◌}
+use Rattle.std.specs.Prelude.{if◌then◌else◌, slice_index, slice_get}
+use Rattle.std.specs.Option.{option_and_then}
+use Rattle.std.proofs.lemmas.Bool.{cases_Bool, and_parts, eqb-true}
+use Rattle.std.specs.Prelude.{◌==◌}
+use Rattle.sdh_kbytes.specs.declared.K.{K}
+use Rattle.sdh_kbytes.specs.declared.Path.TheVariants.{Long}
+use Rattle.sdh_ringmap.specs.Ids.{AreIds}
+use Rattle.sdh_ringmap.specs.Places.{opposite, found_at, span_at}
+use Rattle.sdh_ringmap.specs.declared.Pos.{Pos}
+use Rattle.sdh_ringmap.specs.declared.Side.{Side}
+use Rattle.sdh_ringmap.specs.declared.Side.TheVariants.{West, East}
+use Rattle.sdh_ringmap.specs.Steps.{going}
+use Rattle.sdh_ringmap.proofs.Sides.{opposite_twice}
+use Rattle.sdh_ringmap.proofs.Going.{way-behind, going-none, going-inside}
+use Rattle.sdh_circuits.specs.Provisioned.{Provisioned}
+use Rattle.sdh_circuits.specs.declared.End.{End}
+use Rattle.sdh_circuits.specs.declared.End.TheVariants.{A, B}
+use Rattle.sdh_circuits.specs.declared.PortId.{PortId}
+use Rattle.sdh_squelch.specs.declared.Row.{Row}
+use Rattle.sdh_squelch.specs.Table.{OnSpan, circuits_at, circuit_from}
+use Rattle.sdh_squelch.proofs.LookUps.{entry}
+use Rattle.sdh_nodestate.specs.declared.NodeState.{NodeState}
+use Rattle.sdh_nodestate.specs.declared.NodeState.TheVariants as state
+use Rattle.sdh_nodestate.specs.Rules.{Scene, own_id, stronger, weight, long, word, own_word, state_after}
+use Rattle.sdh_bridge.specs.declared.Origin.{Origin}
+use Rattle.sdh_bridge.specs.declared.Origin.TheVariants.{Working, Protection, Ais}
+use Rattle.sdh_bridge.specs.Connections.{may_carry}
+use Rattle.sdh_frame.specs.Aus.{Au}
+use Rattle.sdh_pointer.specs.declared.reading.Action.TheVariants as action
+use Rattle.sdh_terminal.specs.Passing.{Input}
+use Rattle.sdh_circuits.specs.Ends.{other_end}
+use Rattle.sdh_routes.specs.Walks.{carries_in, stands_in, working_in, protection_in, port, port_at}
+use Rattle.sdh_circuits.specs.Ends.{inward}
+use Rattle.sdh_routes.proofs.Views.{AreOnRing, arc_length, end_at, holds, Switch}
+use Rattle.sdh_routes.proofs.Seen.{Seen}
+use Rattle.sdh_routes.proofs.Sights.{found-gives, arc-end}
+use Rattle.sdh_routes.proofs.OnArcs.{near_at, near_end, on-arc, seen-on}
+use Rattle.sdh_routes.proofs.Meets.{meets-own}
+use Rattle.sdh_routes.proofs.Passing.{is_open, open-stands, leaves-on, leaves-own_or_none, leaves-unused, isolated-stands, isolated-leaves, idle-leaves, switched-stands, bridged-leaves, blocked-leaves, away-leaves, passed-leaves}
+use Rattle.sdh_laws.specs.Strangers.Owners.{port_named}
+use Rattle.sdh_laws.specs.Strangers.Vouched.{sender, told_of, spoken_of}
+use Rattle.sdh_laws.proofs.strangers.Content.{Fine}
+use Rattle.sdh_settling.proofs.Ends.{found}
+use Rattle.sdh_settling.proofs.OneNode.{word_long}
+use Rattle.sdh_laws.proofs.strangers.Rules.{switched_one, passes_relays, relays, switched_says_long, long_word_is, heard_is_long, far_from}
+
+-- ---- the circuits on the two spans of a node
+
+near_is_sender : (d : Side) → near_end d ≡ sender d
+near_is_sender East = refl
+near_is_sender West = refl
+
+ends_by : (a b : Bool) (x y p : ℕ) (e : End) → ((a ≡ true) → x ≡ p) → ((b ≡ true) → y ≡ p) → (if a then Some A else (if b then Some B else None)) ≡ Some e → (e ≡ A × x ≡ p) ⊎ (e ≡ B × y ≡ p)
+ends_by true b x y p e f g h = inl (sym (let z : A ≡ e = cc in z), f refl)
+ends_by false true x y p e f g h = inr (sym (let z : B ≡ e = cc in z), g refl)
+ends_by false false x y p e f g h = cc
+
+-- a circuit that ends at a position has its port there
+ends_there : (c : Provisioned) (p : ℕ) (e : End) → end_at c p ≡ Some e → port_at c e ≡ p
+ends_there c p e h = elim (ends_by (c.from.0 == p) (c.to.0 == p) c.from.0 c.to.0 p e (eqb-true c.from.0 p) (eqb-true c.to.0 p) h) [
+  | inl a ↦ ap (port_at c) a.0 ∙ a.1
+  | inr b ↦ ap (port_at c) b.0 ∙ b.1
+]
+
+-- where a circuit is on the span of a side: it ends here, and its port sends there, or it is on the other span too
+pub data Meets (n : ℕ) (cs : List Provisioned) (p m : ℕ) (d : Side) : Type 0 where
+  nothing : circuits_at n cs p m d ≡ None → Meets n cs p m d
+  ends : (i : ℕ) (c : Provisioned) → circuits_at n cs p m d ≡ Some (entry i c) → end_at c p ≡ Some (sender d) → slice_get cs i ≡ Some c → port_at c (sender d) ≡ p → Meets n cs p m d
+  goes_on : (i : ℕ) (c : Provisioned) → circuits_at n cs p m d ≡ Some (entry i c) → end_at c p ≡ None → circuits_at n cs p m (opposite d) ≡ Some (entry i c) → Meets n cs p m d
+
+module _ (n : ℕ) (cs : List Provisioned) (ring : AreOnRing n cs) (p m : ℕ) (inside : p < n) where
+  some : 0 < n
+  some = omega (arith, inside)
+
+  met_by : (d : Side) (o : Option Row) → circuits_at n cs p m d ≡ o → Meets n cs p m d
+  met_by d None e = nothing e
+  met_by d (Some r) e =
+      let f = found-gives n (span_at n p d) m 0 cs r e in
+      let c = f.circuit in
+      let i = f.place in
+      let both = and_parts (c.slot.0 == m) (holds n c (span_at n p d)) f.on in
+      let at = on-arc n cs ring some c d p (ring.inside i c f.is).0 inside both.1 in
+      let seen = seen-on n cs ring i c f.is d in
+      let slot : c.slot.0 ≡ m = eqb-true c.slot.0 m both.0 in
+      let row : r ≡ entry i c = f.row ∙ ap (λ k. entry k c) {x = 0 + i} (omega arith) in
+      let here : circuits_at n cs p m d ≡ Some (entry i c) = e ∙ ap Some row in
+      by_step i c f.is seen slot here at.step at.few at.there
+    where
+      by_step : (i : ℕ) (c : Provisioned) → slice_get cs i ≡ Some c → Seen n cs i c d (near_at n c d) (near_end d) (other_end (near_end d)) → c.slot.0 ≡ m → circuits_at n cs p m d ≡ Some (entry i c)
+          → (k : ℕ) → k < arc_length n c → p ≡ going n d (near_at n c d) k → Meets n cs p m d
+      by_step i c get seen slot here zero few at =
+          let e = ap (end_at c) at ∙ seen.starts ∙ ap Some (near_is_sender d) in
+          ends i c here e get (ends_there c p (sender d) e)
+      by_step i c get seen slot here (suc j) few at =
+          goes_on i c here (ap (end_at c) at ∙ seen.passes_by (suc j) (omega arith) few)
+          (ap (λ q. circuits_at n cs q m (opposite d)) at
+          ∙ ap (λ s. circuit_from n s m 0 cs) (way-behind n some d (near_at n c d) j)
+          ∙ ap (λ k. circuit_from n (span_at n (going n d (near_at n c d) j) d) k 0 cs) (sym slot)
+          ∙ seen.on_arc j (omega arith))
+
+  pub meets : (d : Side) → Meets n cs p m d
+  meets d = met_by d (circuits_at n cs p m d) refl
+
+-- ---- a node
+
+-- without a far end nothing may be carried
+no_far : (n : ℕ) (cs : List Provisioned) (p : ℕ) (d : Side) (m : ℕ) → carries_in n cs p d m None ≡ false
+unfolding may_carry
+no_far n cs p West m = refl
+no_far n cs p East m = refl
+
+module _ (Own : Option PortId → Au → Type 0) (ids : List ℕ) (cs : List Provisioned) (are : AreIds ids) (ring : AreOnRing (length ids) cs)
+    (s : Scene) (same : s.ids ≡ ids) (p : ℕ) (at : s.at ≡ p) (inside : p < length ids) (m : ℕ) (value : Origin → Input)
+    (working_in_fine : (d : Side) → Fine Own (circuits_at (length ids) cs p m d) (opposite d) (value (Working d)))
+    (protection_in_fine : (d : Side) (k : K) → long s d ≡ Some k → Fine Own (spoken_of ids cs m d k) d (value (Protection d)))
+    (silence : (value Ais).action ≡ action.Ais) where
+  abbrev n : ℕ
+  n = length ids
+
+  abbrev st : NodeState
+  st = state_after s
+
+  abbrev on : Side → Option OnSpan
+  on d = circuits_at n cs p m d
+
+  by_origin : (o : Option OnSpan) (d : Side) (x y : Origin) → x ≡ y → Fine Own o d (value y) → Fine Own o d (value x)
+  by_origin o d x y e h = subst (λ z. Fine Own o d (value z)) (sym e) h
+
+  silent_is_fine : (o : Option OnSpan) (d : Side) → Fine Own o d (value Ais)
+  silent_is_fine o d = inl silence
+
+  -- the circuit of which the word speaks that is heard away from a switched side
+  heard_speaks : (d : Side) (k : K) (f : Pos) → long s d ≡ Some k → found_at s.ids k.from ≡ Some f → spoken_of ids cs m d k ≡ circuits_at n cs f.0 m d
+  heard_speaks d k f h at =
+      ap (λ o. told_of ids cs m d (option_and_then (λ (k : K). found_at ids k.from) o)) (heard_is_long s d k h)
+      ∙ ap (told_of ids cs m d) (ap (λ i. found_at i k.from) (sym same) ∙ at)
+
+  -- what comes on protection in place of the working arrival from a switched side
+  in_place : (d : Side) (f : Option Pos) → state_after s ≡ Switch d f → carries_in n cs p d m f ≡ true → Fine Own (on d) (opposite d) (value (Protection (opposite d)))
+  in_place d None h t = absurd (no (sym (no_far n cs p d m) ∙ t))
+    where
+      no : false ≡ true → ⊥
+      no z = cc
+  in_place d (Some f) h t =
+      let is = far_from s d f (sym (switched_one s d (Some f) h).end) in
+      let low : f.0 < n = subst (λ i. f.0 < length i) same is.inside in
+      let circuit : spoken_of ids cs m (opposite d) is.k ≡ on d =
+      heard_speaks (opposite d) is.k f is.heard is.found ∙ meets-own n cs ring (omega (arith, inside)) d p m f inside low t in
+      subst (λ o. Fine Own o (opposite d) (value (Protection (opposite d)))) circuit (protection_in_fine (opposite d) is.k is.heard)
+
+  switched_fine : (d : Side) (f : Option Pos) → state_after s ≡ Switch d f → Fine Own (on d) (opposite d) (value (stands_in n cs p (Switch d f) d m))
+  switched_fine d f h = elim (cases_Bool (carries_in n cs p d m f)) [
+    | inl t ↦ by_origin (on d) (opposite d) _ (Protection (opposite d)) (switched-stands n cs p d m f true t) (in_place d f h t)
+    | inr t ↦ by_origin (on d) (opposite d) _ Ais (switched-stands n cs p d m f false t) (silent_is_fine (on d) (opposite d))
+  ]
+
+  open_fine : (x : NodeState) (d : Side) → is_open x d ≡ true → Fine Own (on d) (opposite d) (value (stands_in n cs p x d m))
+  open_fine x d o = by_origin (on d) (opposite d) _ (Working d) (open-stands n cs p x d m o) (working_in_fine d)
+
+  stands_by : (x : NodeState) → state_after s ≡ x → (d : Side) → Fine Own (on d) (opposite d) (value (stands_in n cs p x d m))
+  stands_by (state.Isolated i) h d = by_origin (on d) (opposite d) _ Ais (isolated-stands n cs p d m) (silent_is_fine (on d) (opposite d))
+  stands_by (state.SwitchWest f) h West = switched_fine West f h
+  stands_by (state.SwitchWest f) h East = open_fine (state.SwitchWest f) East refl
+  stands_by (state.SwitchEast f) h West = open_fine (state.SwitchEast f) West refl
+  stands_by (state.SwitchEast f) h East = switched_fine East f h
+  stands_by (state.PassThrough i) h d = open_fine (state.PassThrough i) d refl
+  stands_by (state.Idle i) h d = open_fine (state.Idle i) d refl
+
+  -- what stands for the working arrival from a side
+  pub stands_fine : (d : Side) → Fine Own (on d) (opposite d) (value (stands_in n cs p st d m))
+  stands_fine d = stands_by st refl d
+
+  -- ---- what is sent
+
+  module _ (added_own : (i : ℕ) (c : Provisioned) (e : End) → slice_get cs i ≡ Some c → port_at c e ≡ p → Own (Some (port_named i e)) (value (port i e)).au) where
+    working_by : (d : Side) → Meets n cs p m d → Fine Own (on d) d (value (working_in n cs p st d m))
+    working_by d (nothing e) = by_origin (on d) d _ Ais (leaves-unused n cs p st d m e) (silent_is_fine (on d) d)
+    working_by d (ends i c e h get there) = elim (leaves-own_or_none n cs p st i c (sender d) d m e h) [
+      | inl none ↦ by_origin (on d) d _ Ais none (silent_is_fine (on d) d)
+      | inr own ↦ by_origin (on d) d _ (port i (sender d)) own (subst (λ o. Fine Own o d (value (port i (sender d)))) (sym e) (inr (added_own i c (sender d) get there)))
+    ]
+    working_by d (goes_on i c e h other) =
+        by_origin (on d) d _ (stands_in n cs p st (opposite d) m) (leaves-on n cs p st i c d m e h)
+        (subst (λ x. Fine Own (on d) x (value (stands_in n cs p st (opposite d) m))) (opposite_twice d)
+        (subst (λ o. Fine Own o (opposite (opposite d)) (value (stands_in n cs p st (opposite d) m))) (other ∙ sym e) (stands_fine (opposite d))))
+
+    -- what leaves in the working slot
+    pub working_fine : (d : Side) → Fine Own (on d) d (value (working_in n cs p st d m))
+    working_fine d = working_by d (meets n cs ring p m inside d)
+
+    -- the own long word speaks of the circuit on the span of the switched side
+    own_speaks : (e : Side) (f : Option Pos) → state_after s ≡ Switch e f → spoken_of ids cs m e (word s (opposite e)) ≡ on e
+    own_speaks e f h =
+        let is = switched_one s e f h in
+        let says = switched_says_long s e is.this is.other in
+        let d = opposite e in
+        let back : opposite d ≡ e = opposite_twice e in
+        let k = own_word s d (stronger s (opposite d)) (opposite d) Long in
+        let strong : 5 ≤ weight s (opposite d) = subst (λ x. 5 ≤ weight s x) (sym back) says.strong in
+        let own : own_id s ≡ slice_index ids p = λ i. slice_index (same i) (at i) in
+        ap (spoken_of ids cs m e) (word_long s d says.chosen_is)
+        ∙ ap (λ o. told_of ids cs m e (option_and_then (λ (k : K). found_at ids k.from) o)) (long_word_is k refl strong)
+        ∙ ap (told_of ids cs m e) (ap (found_at ids) own ∙ found ids p are inside)
+
+    bridged_fine : (e : Side) (f : Option Pos) → state_after s ≡ Switch e f → Fine Own (spoken_of ids cs m e (word s (opposite e))) e (value (protection_in n cs p (Switch e f) (opposite e) m))
+    bridged_fine e f h = elim (cases_Bool (carries_in n cs p e m f)) [
+      | inl t ↦ by_origin _ e _ (working_in n cs p (Switch e f) e m) (bridged-leaves n cs p e m f t)
+          (subst (λ o. Fine Own o e (value (working_in n cs p (Switch e f) e m))) (sym (own_speaks e f h))
+          (subst (λ x. Fine Own (on e) e (value (working_in n cs p x e m))) h (working_fine e)))
+      | inr t ↦ by_origin _ e _ Ais (blocked-leaves n cs p e m f t) (silent_is_fine _ e)
+    ]
+
+    passed_fine : (d : Side) → state_after s ≡ state.PassThrough tt → Fine Own (spoken_of ids cs m (opposite d) (word s d)) (opposite d) (value (protection_in n cs p (state.PassThrough tt) d m))
+    passed_fine d h =
+        let r = relays s d (passes_relays s d h) in
+        let e = opposite d in
+        let from : protection_in n cs p (state.PassThrough tt) d m ≡ Protection e = ap (λ x. protection_in n cs p (state.PassThrough tt) x m) (sym (opposite_twice d)) ∙ passed-leaves n cs p e m in
+        by_origin _ e _ (Protection e) from
+        (subst (λ k. Fine Own (spoken_of ids cs m e k) e (value (Protection e))) (sym r.says) (protection_in_fine e r.k r.heard))
+
+    protection_by : (x : NodeState) → state_after s ≡ x → (d : Side) → Fine Own (spoken_of ids cs m (opposite d) (word s d)) (opposite d) (value (protection_in n cs p x d m))
+    protection_by (state.Isolated i) h d = by_origin _ (opposite d) _ Ais (isolated-leaves n cs p d m) (silent_is_fine _ (opposite d))
+    protection_by (state.Idle i) h d = by_origin _ (opposite d) _ Ais (idle-leaves n cs p d m) (silent_is_fine _ (opposite d))
+    protection_by (state.PassThrough i) h d = passed_fine d h
+    protection_by (state.SwitchWest f) h West = by_origin _ East _ Ais (away-leaves n cs p West m f) (silent_is_fine _ East)
+    protection_by (state.SwitchWest f) h East = bridged_fine West f h
+    protection_by (state.SwitchEast f) h East = by_origin _ West _ Ais (away-leaves n cs p East m f) (silent_is_fine _ West)
+    protection_by (state.SwitchEast f) h West = bridged_fine East f h
+
+    -- what leaves in the protection slot, beside the word that is sent
+    pub protection_fine : (d : Side) → Fine Own (spoken_of ids cs m (opposite d) (word s d)) (opposite d) (value (protection_in n cs p st d m))
+    protection_fine d = protection_by st refl d
+
+-- ---- a port
+
+module _ (n : ℕ) (cs : List Provisioned) (ring : AreOnRing n cs) (i : ℕ) (c : Provisioned) (get : slice_get cs i ≡ Some c) where
+  plenty : 0 < n
+  plenty = let h = (ring.inside i c get).0 in omega arith
+
+  starts_at : (e : End) → port_at c e ≡ going n (inward e) (near_at n c (inward e)) 0
+  starts_at A = sym (going-none n plenty East c.from.0 (ring.inside i c get).0)
+  starts_at B = arc-end n cs ring i c get ∙ sym (going-none n plenty West (near_at n c West) (going-inside n plenty East c.from.0 (arc_length n c)))
+
+  -- at its port a circuit is on the span of the port's side
+  pub at_port : (e : End) → circuits_at n cs (port_at c e) c.slot.0 (inward e) ≡ Some (entry i c)
+  at_port e =
+      let seen = seen-on n cs ring i c get (inward e) in
+      ap (λ q. circuits_at n cs q c.slot.0 (inward e)) (starts_at e) ∙ seen.on_arc 0 seen.long
+
+-- and the stream that comes from there is the other port's
+pub sent_to : (e : End) → sender (opposite (inward e)) ≡ other_end e
+sent_to A = refl
+sent_to B = refl

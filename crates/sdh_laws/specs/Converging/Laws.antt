@@ -1,0 +1,70 @@
+-- The laws of rest. They are promised by the functions of this crate, which have no work to do.
+use Rattle.std.specs.Prelude.{ℕ, ◌≡◌, ◌<◌, ◌≤◌, ◌+◌, ◌*◌, Some, List, length}
+use Rattle.sdh_rounds.specs.Quiet.{enough_for}
+use Rattle.sdh_ringmap.specs.declared.Side.{Side}
+use Rattle.sdh_ringmap.specs.Places.{neighbour, opposite}
+use Rattle.sdh_terms.specs.Rates.{n_of}
+use Rattle.sdh_circuits.specs.Provisioning.{Provisioning}
+use Rattle.sdh_plant.specs.Fibres.{Fibres}
+use Rattle.sdh_request.specs.declared.settings.Settings.{Settings}
+use Rattle.sdh_world.specs.Rounds.{World}
+use Rattle.sdh_world.specs.Runs.{course}
+use Rattle.sdh_world.specs.Quiet.{IsCalm, EndsWindow, NeverSettles, settles_in, Unsettles}
+use Rattle.sdh_promise.specs.Changes.{Stretch}
+use Rattle.sdh_world.specs.Changes.{after_stretches, new_world}
+use Rattle.sdh_world.specs.Laws.{MayHappen}
+use Rattle.sdh_laws.specs.Hearing.Laws.{IsWhole, MayStart}
+use Rattle.sdh_laws.specs.Carrying.Windows.{layout_of, HasCircuits}
+use Rattle.sdh_spans.specs.Spans.{IsConstant}
+use Rattle.sdh_laws.specs.Converging.Steady.{went, came, StaysSettled, HasStillPointers}
+
+-- What goes into an AU-4 with one action and one value from round k on comes out on the other side of the span, or AIS where
+-- its fibre is cut, with one action and one value nine rounds later, whatever its generator and its interpreter kept.
+abbrev pub ASpanIsSteady : Type 0
+ASpanIsSteady = (w : World) → IsWhole w → (p : ℕ) (d : Side) (au k : ℕ) → p < length w.ring.ids → 1 ≤ au → au ≤ n_of w.ring.settings.rate
+    → IsConstant (went w (neighbour (length w.ring.ids) p d) (opposite d) au) k → IsConstant (came w p d au) (k + 9)
+
+-- Where the nodes stay in settled states, no pointer moves after 27n + 18 rounds: nine for each span of the longest walk, and
+-- for one span more.
+abbrev pub PointersRest : Type 0
+PointersRest = (w : World) (rs : List ℕ) → IsWhole w → HasCircuits (layout_of w) → StaysSettled w rs → (j : ℕ) → 27 * length w.ring.ids + 18 ≤ j → HasStillPointers w j
+
+-- a window ends with this round, which is at most so late
+pub record WindowBy (w : World) (most : ℕ) : Type 0 where
+  pub ends : ℕ
+  pub soon : ends ≤ most
+  pub window : EndsWindow (course w) ends
+
+-- where all rounds from one on are calm, a window ends soon after it
+abbrev pub CalmEndsWindows : Type 0
+CalmEndsWindows = (w : World) (first : ℕ) → ((j : ℕ) → first ≤ j → IsCalm (course w) j) → WindowBy w (first + 3 * length w.ring.ids + 128)
+
+-- From every ring that is paired with its fibres, where nothing happens but rounds, all rounds are calm from some round on,
+-- whatever the nodes' interpreters, generators, parities, words, filters and held turns were, however many slips wait at their ports, and whichever fibres are cut or degraded.
+abbrev pub RoundsGetCalm : Type 0
+RoundsGetCalm = (w : World) → IsWhole w → HasCircuits (layout_of w) → (j : ℕ) → 31 * length w.ring.ids + 128 ≤ j → IsCalm (course w) j
+
+-- so a quiet window always comes, within 34n + 256 rounds: 31n + 128 until all rounds are calm, and 3n + 128 until a window ends
+abbrev pub WindowsComeSoon : Type 0
+WindowsComeSoon = (w : World) → IsWhole w → HasCircuits (layout_of w) → WindowBy w (34 * length w.ring.ids + 256)
+
+-- a step with so large a limit ends with a window
+pub record Converges (w : World) : Type 0 where
+  pub window : WindowBy w (enough_for (length w.ring.ids))
+  pub answers : (limit : ℕ) → enough_for (length w.ring.ids) ≤ limit → (k : ℕ) × (settles_in w limit ≡ Some k)
+  pub never : (limit : ℕ) → enough_for (length w.ring.ids) ≤ limit → NeverSettles (course w) limit → ⊥
+
+abbrev pub RingsConverge : Type 0
+RingsConverge = (w : World) → IsWhole w → HasCircuits (layout_of w) → Converges w
+
+-- so no such step is unsettled
+abbrev pub Answers : World → ℕ → World → Type 0
+Answers w limit left = IsWhole w → enough_for (length w.ring.ids) ≤ limit → Unsettles w limit left → ⊥
+
+abbrev pub StepsAnswer : Type 0
+StepsAnswer = (w left : World) (limit : ℕ) → HasCircuits (layout_of w) → Answers w limit left
+
+-- after any stretches of changes and rounds, from a new ring over new honest fibres on
+abbrev pub StretchesConverge : Type 0
+StretchesConverge = (s : Settings) (ids : List ℕ) (circuits : Provisioning) (f : Fibres) (ss : List Stretch) → MayStart s ids f → MayHappen (new_world s ids circuits f) ss → HasCircuits (layout_of (new_world s ids circuits f))
+    → Converges (after_stretches ss (new_world s ids circuits f))

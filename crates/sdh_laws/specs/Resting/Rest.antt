@@ -1,0 +1,25 @@
+-- A ring at rest: nothing but its customers' bytes changes any more, as long as nothing is set.
+use Rattle.std.specs.Prelude.{ℕ, ◌≡◌, ◌≤◌, true}
+use Rattle.sdh_payload.specs.Clock.{Clock}
+use Rattle.sdh_circuits.specs.declared.PortId.{PortId}
+use Rattle.sdh_world.specs.Held.{AtEach}
+use Rattle.sdh_world.specs.Rounds.{World}
+use Rattle.sdh_world.specs.Runs.{run, course}
+use Rattle.sdh_world.specs.Quiet.{is_calm, IsCalm}
+use Rattle.sdh_laws.specs.Hearing.Laws.{IsWhole}
+use Rattle.sdh_laws.specs.Carrying.Windows.{requests_of}
+use Rattle.sdh_laws.specs.Carrying.Laws.{DeliversWhatIsDue}
+
+-- The ring and its fibres are paired, no controller misses a turn, and every round that follows with nothing set between is calm and
+-- has each port deliver what it is owed in it, under the requests of that round, where these are the ports' clocks before each round.
+pub record IsAtRest (clocks : PortId → ℕ → Clock) (w : World) : Type 0 where
+  pub whole : IsWhole w
+  pub free : AtEach (λ p n. n.held ≡ 0) w.ring.nodes
+  pub calm : (k : ℕ) → 1 ≤ k → IsCalm (course w) k
+  pub due : (k : ℕ) → 1 ≤ k → DeliversWhatIsDue clocks (run k w) (requests_of (run k w))
+
+-- what a round of a ring at rest leaves
+pub record StaysAtRest (clocks : PortId → ℕ → Clock) (after : World) : Type 0 where
+  pub calm : is_calm after.ring.nodes ≡ true
+  pub due : DeliversWhatIsDue clocks after (requests_of after)
+  pub rests : IsAtRest clocks after

@@ -1,0 +1,48 @@
+-- A circuit on whose arc nothing is ever asked delivers as if nothing happened elsewhere: the law.
+use Rattle.std.specs.Prelude.{ℕ, ◌≡◌, ◌<◌, ◌-◌, ◌/◌, true, nat_lt, if◌then◌else◌, Some, List, length, slice_get}
+use Rattle.sdh_terms.specs.Rates.{n_of}
+use Rattle.sdh_terms.specs.declared.Code.TheVariants.{Nr}
+use Rattle.sdh_ringmap.specs.Arcs.{holds_span}
+use Rattle.sdh_ringmap.specs.Places.{span_at}
+use Rattle.sdh_ringmap.specs.declared.Side.{Side}
+use Rattle.sdh_circuits.specs.Provisioned.{Provisioned, arc_of, customer_at}
+use Rattle.sdh_circuits.specs.Provisioning.{Provisioning, AreCircuits}
+use Rattle.sdh_circuits.specs.declared.End.{End}
+use Rattle.sdh_payload.specs.Outlet.{Outlet, silent, delivering}
+use Rattle.sdh_payload.specs.Stream.{stream_from}
+use Rattle.sdh_payload.specs.Chunk.{taken_len}
+use Rattle.sdh_payload.specs.Clock.{ticked, next_form}
+use Rattle.sdh_plant.specs.Fibres.{Fibres}
+use Rattle.sdh_circuits.specs.Ends.{other_end}
+use Rattle.sdh_request.specs.declared.settings.Settings.{Settings}
+use Rattle.sdh_world.specs.Held.{outlet_at}
+use Rattle.sdh_world.specs.Rounds.{round}
+use Rattle.sdh_promise.specs.Changes.{Stretch, rounds_in}
+use Rattle.sdh_world.specs.Changes.{new_world}
+use Rattle.sdh_world.specs.Clocks.{clocks_by}
+use Rattle.sdh_world.specs.Laws.{MayHappen}
+use Rattle.sdh_world.specs.Sides.{world_in}
+use Rattle.sdh_laws.specs.Hearing.Laws.{MayStart}
+use Rattle.sdh_promise.specs.Owed.{asked_in}
+use Rattle.sdh_laws.specs.Strangers.Owners.{port_named}
+
+-- ---- the law
+
+-- in none of the rounds anything is asked on either end of a span of the circuit's arc, by what happened there
+abbrev pub NoneAsks : Settings → ℕ → List Stretch → Provisioned → Type 0
+NoneAsks s n ss c = (r p : ℕ) (d : Side) → r < rounds_in ss → p < n → holds_span n (arc_of n c) (span_at n p d) ≡ true → asked_in s.threshold s.wait n ss r p d ≡ Nr
+
+-- AIS until the first bytes have come over all spans of the arc; then those that the other port sent as many rounds before: 2349, or
+-- three fewer or more where its clock slipped in that round, with the pointer value that the clock had after it
+abbrev pub straight : ℕ → List Provisioned → List Stretch → ℕ → Provisioned → End → ℕ → Outlet
+straight n circuits ss i c e t =
+    let far = other_end e in
+    let spans = (arc_of n c).spans in
+    let clock = clocks_by circuits ss (port_named i far) (t - spans) in
+    if nat_lt t spans then silent else delivering (ticked clock).value (stream_from (customer_at c far) clock.sent (taken_len (next_form clock)))
+
+abbrev pub UndisturbedPortsDeliver : Type 0
+UndisturbedPortsDeliver = (s : Settings) (ids : List ℕ) (circuits : Provisioning) (f : Fibres) (ss : List Stretch) → MayStart s ids f → MayHappen (new_world s ids circuits f) ss
+    → AreCircuits (length ids) (n_of s.rate / 2) circuits.circuits
+    → (i : ℕ) (c : Provisioned) → slice_get circuits.circuits i ≡ Some c → (e : End) → NoneAsks s (length ids) ss c
+    → (t : ℕ) → t < rounds_in ss → outlet_at (round (world_in ss (new_world s ids circuits f) t)).ring (port_named i e) ≡ straight (length ids) circuits.circuits ss i c e t

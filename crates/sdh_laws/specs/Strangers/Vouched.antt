@@ -1,0 +1,68 @@
+-- When each frame that is under way vouches for its AU-4s: a property of a ring and its fibres between rounds.
+use Rattle.std.specs.Prelude.{ℕ, ◌≡◌, ◌+◌, ◌*◌, ◌<◌, ◌≤◌, Option, Some, None, option_map, List, length}
+use Rattle.std.specs.Option.{option_and_then}
+use Rattle.sdh_terms.specs.Rates.{n_of}
+use Rattle.sdh_frame.specs.Aus.{Au, au_of, ones}
+use Rattle.sdh_parity.specs.Scrambling.{scrambled}
+use Rattle.sdh_kbytes.specs.declared.K.{K}
+use Rattle.sdh_ringmap.specs.Places.{found_at, opposite}
+use Rattle.sdh_ringmap.specs.declared.Pos.{Pos}
+use Rattle.sdh_ringmap.specs.declared.Side.{Side}
+use Rattle.sdh_ringmap.specs.declared.Side.TheVariants.{West, East}
+use Rattle.sdh_circuits.specs.Provisioned.{Provisioned}
+use Rattle.sdh_circuits.specs.declared.End.{End}
+use Rattle.sdh_circuits.specs.declared.End.TheVariants.{A, B}
+use Rattle.sdh_circuits.specs.declared.PortId.{PortId}
+use Rattle.sdh_squelch.specs.Table.{OnSpan, circuits_at}
+use Rattle.sdh_nodestate.specs.Rules.{long_word}
+use Rattle.sdh_payload.specs.Clock.{Clock}
+use Rattle.sdh_terms.specs.Fibres.{fibre}
+use Rattle.sdh_plant.specs.Arrivals.{carried_on}
+use Rattle.sdh_node.specs.Node.{word_of}
+use Rattle.sdh_world.specs.Held.{node_at, AtEach}
+use Rattle.sdh_world.specs.Rounds.{World}
+use Rattle.sdh_laws.specs.Hearing.Laws.{IsWhole}
+use Rattle.sdh_laws.specs.Carrying.Windows.{layout_of, slots_of}
+use Rattle.sdh_laws.specs.Strangers.Owners.{port_named, HasBytesOf, Holds}
+
+-- ---- whose stream goes where
+
+-- the end of a circuit whose stream goes along its arc to that side: port A is where the arc starts, and sends eastwards
+abbrev pub sender : Side → End
+sender East = A
+sender West = B
+
+-- the port whose stream goes to a side along the arc of what is on a span; nobody where no circuit is
+abbrev pub streams_to : Side → Option OnSpan → Option PortId
+streams_to d on = option_map (λ r. port_named r.circuit (sender d)) on
+
+-- what a K word speaks of in slot m: what is in that slot on the span that the source of a long word has on a side; nothing
+-- where the word isn't a long one that asks, or its source isn't in the ring
+abbrev pub told_of : List ℕ → List Provisioned → ℕ → Side → Option Pos → Option OnSpan
+told_of ids circuits m d None = None
+told_of ids circuits m d (Some source) = circuits_at (length ids) circuits source.0 m d
+
+abbrev pub spoken_of : List ℕ → List Provisioned → ℕ → Side → K → Option OnSpan
+spoken_of ids circuits m d k = told_of ids circuits m d (option_and_then (λ k. found_at ids k.from) (long_word k))
+
+-- ---- a ring that is vouched for
+
+-- an AU-4 holds at most the bytes of a port: ones, or what the port put into its AU-4 in a round before; and nobody's are ones
+abbrev pub HoldsAtMost : List Provisioned → (PortId → ℕ → Clock) → ℕ → Option PortId → Au → Type 0
+HoldsAtMost circuits clocks t None a = HasBytesOf ones a
+HoldsAtMost circuits clocks t (Some port) a = Holds circuits clocks t port a
+
+-- AU-4 number au of a frame on a fibre
+abbrev pub au_in : World → ℕ → List ℕ → Au
+au_in w au line = au_of (n_of w.ring.settings.rate) au (scrambled (9 * n_of w.ring.settings.rate) line)
+
+-- A whole ring in which no controller misses its turn, and whose frames vouch for what they hold. On each fibre a working
+-- slot holds at most the bytes of the circuit that is in it on that span, going that way. And a protection slot holds at most
+-- those of the circuit of which the K word in the same frame speaks, going the other way.
+pub record IsVouched (clocks : PortId → ℕ → Clock) (w : World) : Type 0 where
+  pub whole : IsWhole w
+  pub free : AtEach (λ p n. n.held ≡ 0) w.ring.nodes
+  pub working : (p m : ℕ) (d : Side) (line : List ℕ) → p < length w.ring.nodes → carried_on w.fibres (fibre p d) ≡ Some line → 1 ≤ m → m ≤ slots_of (layout_of w)
+      → HoldsAtMost w.ring.circuits.circuits clocks w.ring.rounds (streams_to d (circuits_at (length w.ring.ids) w.ring.circuits.circuits p m d)) (au_in w m line)
+  pub protection : (p m : ℕ) (d : Side) (line : List ℕ) → p < length w.ring.nodes → carried_on w.fibres (fibre p d) ≡ Some line → 1 ≤ m → m ≤ slots_of (layout_of w)
+      → HoldsAtMost w.ring.circuits.circuits clocks w.ring.rounds (streams_to (opposite d) (spoken_of w.ring.ids w.ring.circuits.circuits m (opposite d) (word_of d (node_at w.ring.nodes p)))) (au_in w (slots_of (layout_of w) + m) line)

@@ -1,0 +1,40 @@
+//! What ports deliver in a quiet window: over honest fibres, in calm rounds and settled states, each port delivers what it
+//! is owed.
+//!
+//! Each function here is a law: it does nothing, and its contract is the law, whose words are in `specs/`.
+
+ghost use Rattle.sdh_laws.specs.Carrying.Laws.{ASpanCarries, FailuresAreApplied, QuietRingsDeliverWhatIsDue, SettledRingsAreRestored, SettledRingsRestore, RingsHaveCircuits};
+
+/// A span carries what was sent on it.
+pub fn a_span_carries()
+    ensures { ASpanCarries }
+{}
+
+/// A side that failed is on an applied span.
+pub fn failures_are_applied()
+    ensures { FailuresAreApplied }
+{}
+
+/// After 2n quiet rounds each port delivers what it is owed.
+pub fn quiet_rings_deliver_what_is_due()
+    ensures { QuietRingsDeliverWhatIsDue }
+{}
+
+/// Once a settle step answered, the nodes are in the settled states and each port has delivered what it is owed.
+pub fn settled_rings_are_restored()
+    ensures { SettledRingsAreRestored }
+{
+    sdh_settling::still_rings_are_settled();
+}
+
+/// So it is where a quiet window ends a stretch, under the requests of the histories.
+pub fn settled_rings_restore()
+    ensures { SettledRingsRestore }
+{
+    sdh_settling::still_rings_are_settled();
+}
+
+/// The circuits of every ring are circuits of its size.
+pub fn rings_have_circuits()
+    ensures { RingsHaveCircuits }
+{}

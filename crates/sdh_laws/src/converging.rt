@@ -1,0 +1,86 @@
+//! How soon a ring comes to rest, over definitions alone: `specs/Steady.antt` says what stays the same from some round on,
+//! `specs/Laws.antt` has the laws of every ring, and `specs/Healthy.antt` those of a healthy one. Each function here has a law
+//! as its contract and no work to do.
+
+ghost use Rattle.sdh_laws.specs.Converging.Laws.{WindowsComeSoon, ASpanIsSteady, PointersRest, CalmEndsWindows, RoundsGetCalm, RingsConverge, StepsAnswer, StretchesConverge};
+ghost use Rattle.sdh_laws.specs.Converging.Healthy.{HealthyRoundsAreCalm, HealthyStepsSettle, HealthyRingsApplyNothing, HealthyStepsDeliver};
+ghost use Rattle.sdh_laws.specs.Converging.Rings.{ARingOccurs};
+
+/// Over a span what is steady stays so, nine rounds later.
+pub fn a_span_is_steady()
+    ensures { ASpanIsSteady }
+{}
+
+/// In settled states all pointers come to rest.
+pub fn pointers_rest()
+    ensures { PointersRest }
+{}
+
+/// Where all rounds are calm a window ends soon.
+pub fn calm_ends_windows()
+    ensures { CalmEndsWindows }
+{}
+
+/// Where nothing happens but rounds, they are calm from some round on.
+pub fn rounds_get_calm()
+    ensures { RoundsGetCalm }
+{
+    sdh_settling::rings_settle();
+}
+
+/// From every whole ring on a quiet window ends within 34n + 256 rounds.
+pub fn windows_come_soon()
+    ensures { WindowsComeSoon }
+{
+    sdh_settling::rings_settle();
+}
+
+/// So a window ends.
+pub fn rings_converge()
+    ensures { RingsConverge }
+{
+    sdh_settling::rings_settle();
+}
+
+/// No settle step with a large limit is unsettled.
+pub fn steps_answer()
+    ensures { StepsAnswer }
+{
+    sdh_settling::rings_settle();
+}
+
+/// A window ends after any stretches of changes and rounds.
+pub fn stretches_converge()
+    ensures { StretchesConverge }
+{
+    sdh_settling::rings_settle();
+}
+
+/// The rounds of a healthy ring are calm from round number n + 4 on.
+pub fn healthy_rounds_are_calm()
+    ensures { HealthyRoundsAreCalm }
+{}
+
+/// So its settle steps end with rounds 128, 256 and so on.
+pub fn healthy_steps_settle()
+    ensures { HealthyStepsSettle }
+{}
+
+/// In a healthy ring no span is applied.
+pub fn healthy_rings_apply_nothing()
+    ensures { HealthyRingsApplyNothing }
+{}
+
+/// After each of them each port has delivered what it is owed where nothing is applied.
+pub fn healthy_steps_deliver()
+    ensures { HealthyStepsDeliver }
+{
+    sdh_settling::still_rings_are_settled();
+}
+
+/// A ring of three nodes, with cut and degraded fibres, for which the laws hold.
+pub fn a_ring_occurs()
+    ensures { ARingOccurs }
+{
+    sdh_settling::rings_settle();
+}

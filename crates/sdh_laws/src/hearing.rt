@@ -1,0 +1,121 @@
+//! What the nodes of a ring hear of each other, over definitions alone: `specs/Placed.antt` says what each node of a ring
+//! is, `specs/Paired.antt` what its fibres carry, `specs/Signalling.antt` what a side brings in a round and how a ring with
+//! frames is a ring of signals, and `specs/Laws.antt` has the laws. Each function here has a law as its contract and no
+//! work to do.
+
+ghost use Rattle.sdh_laws.specs.Hearing.Laws.{StayPlaced, NewWorldsAreWhole, StayWhole, SidesBring, SidesRead, ViolationsAreOfTheRoundBefore, NoneSaysAis, RoundsAreSignalRounds, WholeRoundsGoAsSignals, StepsStayWhole, CalmRoundsAreStill, ThreeCalmRoundsAreSettled, WindowsAreSettled, StepsSettle, RequestsAreTheHistorys, StretchesSettle, RunsGetStill, FreeRunsGetStill};
+
+/// Each node stays where it belongs, whatever arrives.
+#[tactic(auto, using(crate::proofs::hearing::Changes::stay_placed))]
+pub fn stay_placed()
+    ensures { StayPlaced }
+{}
+
+/// A new ring over new fibres is in order.
+pub fn new_worlds_are_whole()
+    ensures { NewWorldsAreWhole }
+{}
+
+/// Rounds leave it so, and so does what may happen between them.
+#[tactic(auto, using(crate::proofs::hearing::Changes::stay_whole))]
+pub fn stay_whole()
+    ensures { StayWhole }
+{}
+
+/// A side fails exactly where its fibre is cut, and else hears the word that was sent to it.
+#[tactic(auto, using(crate::proofs::hearing::Rounds::sides_bring))]
+pub fn sides_bring()
+    ensures { SidesBring }
+{}
+
+/// Behind a fibre that isn't cut a side reads each AU-4 as it was sent, and behind one that is, ones.
+#[tactic(auto, using(crate::proofs::hearing::Rounds::sides_read))]
+pub fn sides_read()
+    ensures { SidesRead }
+{}
+
+/// What B2 shows is the degradation of the round before.
+#[tactic(auto, using(crate::proofs::hearing::Shown::violations_are_of_the_round_before))]
+pub fn violations_are_of_the_round_before()
+    ensures { ViolationsAreOfTheRoundBefore }
+{}
+
+/// No node says that nothing comes.
+#[tactic(auto, using(crate::proofs::hearing::Rounds::none_says_ais))]
+pub fn none_says_ais()
+    ensures { NoneSaysAis }
+{}
+
+/// A round is a round of signals.
+pub fn rounds_are_signal_rounds()
+    ensures { RoundsAreSignalRounds }
+{}
+
+/// So it is whichever plant ran it.
+pub fn whole_rounds_go_as_signals()
+    ensures { WholeRoundsGoAsSignals }
+{}
+
+/// Settle steps leave a ring and its fibres in order.
+#[tactic(auto, using(crate::proofs::hearing::Going::steps_stay_whole))]
+pub fn steps_stay_whole()
+    ensures { StepsStayWhole }
+{}
+
+/// A calm round leaves what is compared.
+pub fn calm_rounds_are_still()
+    ensures { CalmRoundsAreStill }
+{}
+
+/// After three calm rounds the nodes are in the settled states.
+#[tactic(auto, using(crate::proofs::hearing::Signalling::three_calm_rounds_are_settled))]
+pub fn three_calm_rounds_are_settled()
+    ensures { ThreeCalmRoundsAreSettled }
+{
+    sdh_settling::still_rings_are_settled();
+}
+
+/// In a quiet window the nodes are in the settled states.
+#[tactic(auto, using(crate::proofs::hearing::Signalling::windows_are_settled))]
+pub fn windows_are_settled()
+    ensures { WindowsAreSettled }
+{
+    sdh_settling::still_rings_are_settled();
+}
+
+/// A step that ends with such a window leaves the ring in order, and its nodes in the settled states.
+pub fn steps_settle()
+    ensures { StepsSettle }
+{
+    sdh_settling::still_rings_are_settled();
+}
+
+/// Through any stretches the requests of the sides are those of their histories.
+#[tactic(auto, using(crate::proofs::hearing::Stretches::requests_are_the_historys))]
+pub fn requests_are_the_historys()
+    ensures { RequestsAreTheHistorys }
+{}
+
+/// In a window that ends a stretch the nodes are in the settled states of the histories.
+#[tactic(auto, using(crate::proofs::hearing::Requests::stretches_settle))]
+pub fn stretches_settle()
+    ensures { StretchesSettle }
+{
+    sdh_settling::still_rings_are_settled();
+}
+
+/// Where no controller misses a turn from some round on, states and words stay from so many rounds after it on.
+#[tactic(auto, using(crate::proofs::hearing::Steady::free_runs_get_still))]
+pub fn free_runs_get_still()
+    ensures { FreeRunsGetStill }
+{
+    sdh_settling::rings_settle();
+}
+
+/// A ring to which nothing happens but rounds gets into the settled states, and its words stay.
+#[tactic(auto, using(crate::proofs::hearing::Steady::runs_get_still))]
+pub fn runs_get_still()
+    ensures { RunsGetStill }
+{
+    sdh_settling::rings_settle();
+}

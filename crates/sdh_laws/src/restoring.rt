@@ -1,0 +1,53 @@
+//! How soon every port delivers what it is owed again, over definitions alone: `specs/Laws.antt` has the laws. Each function here has a
+//! law as its contract and no work to do.
+
+ghost use Rattle.sdh_laws.specs.Restoring.Laws.{RingsAreRestoredSoon, FreeRingsAreRestoredSoon, UnslippedRingsAreRestoredSoon, PortsAreOwedSoon, UnslippedPortsAreOwedSoon, UnsettledRingsAreRestored, StretchesAreRestoredSoon};
+
+/// From every whole ring on, each port delivers what it is owed in each round from number 12n + 102 on.
+pub fn rings_are_restored_soon()
+    ensures { RingsAreRestoredSoon }
+{
+    sdh_settling::rings_settle();
+}
+
+/// Where no controller misses a turn, from number 12n + 2 on, and from 8n + 61 on where slips wait.
+pub fn free_rings_are_restored_soon()
+    ensures { FreeRingsAreRestoredSoon }
+{
+    sdh_settling::rings_settle();
+}
+
+/// Where no slip waits either, from number 12n + 2 on.
+pub fn unslipped_rings_are_restored_soon()
+    ensures { UnslippedRingsAreRestoredSoon }
+{
+    sdh_settling::rings_settle();
+}
+
+/// Each port by its own number: by the hops of its circuit, and by the ring's size where it is owed AIS.
+pub fn ports_are_owed_soon()
+    ensures { PortsAreOwedSoon }
+{
+    sdh_settling::rings_settle();
+}
+
+/// The same where no controller is held and no slip waits.
+pub fn unslipped_ports_are_owed_soon()
+    ensures { UnslippedPortsAreOwedSoon }
+{
+    sdh_settling::rings_settle();
+}
+
+/// A settle step of at least 12n + 102 rounds leaves the ring restored, though no window ended.
+pub fn unsettled_rings_are_restored()
+    ensures { UnsettledRingsAreRestored }
+{
+    sdh_settling::rings_settle();
+}
+
+/// After any stretches of changes and rounds, the last of which has at least 12n + 102 rounds.
+pub fn stretches_are_restored_soon()
+    ensures { StretchesAreRestoredSoon }
+{
+    sdh_settling::rings_settle();
+}

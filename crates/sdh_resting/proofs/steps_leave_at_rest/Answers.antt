@@ -1,5 +1,0 @@
-use Rattle.sdh_resting.proofs.Resting.{steps_leave_at_rest}
-use Rattle.sdh_resting.proofs.steps_leave_at_rest.Goals as goal
-
-pub returns : goal.returns
-returns c = steps_leave_at_rest c.still_rings_are_settled.ensures

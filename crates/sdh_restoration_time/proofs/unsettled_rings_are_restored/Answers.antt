@@ -1,5 +1,0 @@
-use Rattle.sdh_restoration_time.proofs.Soon.{unsettled_rings_are_restored}
-use Rattle.sdh_restoration_time.proofs.unsettled_rings_are_restored.Goals as goal
-
-pub returns : goal.returns
-returns c = unsettled_rings_are_restored c.rings_settle.ensures

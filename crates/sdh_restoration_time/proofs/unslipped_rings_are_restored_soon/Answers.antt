@@ -1,5 +1,0 @@
-use Rattle.sdh_restoration_time.proofs.Soon.{unslipped_rings_are_restored_soon}
-use Rattle.sdh_restoration_time.proofs.unslipped_rings_are_restored_soon.Goals as goal
-
-pub returns : goal.returns
-returns c = unslipped_rings_are_restored_soon c.rings_settle.ensures

@@ -1,5 +1,0 @@
-use Rattle.sdh_strangers.proofs.Runs.{no_port_ever_meets_a_stranger}
-use Rattle.sdh_strangers.proofs.no_port_ever_meets_a_stranger.Goals as goal
-
-pub returns : goal.returns
-returns c = no_port_ever_meets_a_stranger
