@@ -40,7 +40,7 @@ module _ (threshold n p : ℕ) (d : Side) where
     | inr past ↦ ap (λ l. rests threshold n p d l r) (take_all (i + 1) steps (omega arith) ∙ sym (take_all i steps past))
   ]
 
-  case_more : (xs ys : List Failure) → case_steps n threshold (xs ++ ys) ≡ case_steps n threshold xs ++ case_steps n threshold ys
+  pub case_more : (xs ys : List Failure) → case_steps n threshold (xs ++ ys) ≡ case_steps n threshold xs ++ case_steps n threshold ys
   case_more [] ys = refl
   case_more (x ∷ xs) ys = ap (λ l. steps_of n threshold x ++ l) (case_more xs ys) ∙ sym (append_assoc (steps_of n threshold x) (case_steps n threshold xs) (case_steps n threshold ys))
 

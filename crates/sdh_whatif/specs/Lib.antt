@@ -1,0 +1,4 @@
+pub mod Words
+pub mod Cases
+pub mod Lines
+pub mod Writing

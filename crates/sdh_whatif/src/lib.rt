@@ -1,0 +1,12 @@
+//! The table that tells which circuits survive each failure of a ring, by the restoration model alone: no round is run.
+//! `specs/Words.antt` has what words ask for, `specs/Cases.antt` the cases in their order, `specs/Lines.antt` the lines.
+#![tactic(auto)]
+
+mod ask;
+mod line;
+mod lines;
+mod table;
+
+pub use ask::{Ask, Depth, asked};
+pub use line::Line;
+pub use table::write_table;

@@ -1,0 +1,67 @@
+//! A line that is made before it is written.
+ghost use Rattle.std.specs.Prelude.{◌≡◌, ◌+◌, ◌≤◌, [], ◌++◌, length, decimal, IfOk};
+
+use itoa::Buffer;
+use std::alloc::{AllocError, Global};
+use std::marker::Model;
+
+/// Room for any one line, in bytes.
+pub const LINE_ROOM: usize = 4096;
+
+/// The bytes of a line. Its room is reserved when it is made, so no part of a line takes memory.
+#[derive(Drop)]
+pub struct Line {
+    bytes: Vec<u8>,
+}
+
+impl Model for Line {
+    ghost use Rattle.std.specs.Prelude.{◌≤◌, ℕ, List, vec_capacity};
+
+    ghost Value = { List ℕ };
+
+    ghost view = { λ l. l.bytes.items };
+
+    ghost invariant = { λ l. 4096 ≤ vec_capacity l.bytes };
+}
+
+impl Line {
+    /// An empty line.
+    pub fn try_new(alloc: Global) -> Result<Line, AllocError>
+        ensures { IfOk result (λ line. line ≡ []) }
+    {
+        Ok(Line {
+            bytes: Vec::with_capacity(alloc, LINE_ROOM)?,
+        })
+    }
+
+    /// The line so far.
+    pub fn bytes(&self) -> &[u8]
+        ensures { result.now ≡ self.now }
+    {
+        &self.bytes
+    }
+
+    /// Takes all of it away.
+    pub fn clear(&mut self)
+        ensures { self.new ≡ [] }
+    {
+        self.bytes.clear();
+    }
+
+    /// Appends a part.
+    pub fn put(&mut self, part: &[u8])
+        requires { length self.old + length part.now ≤ 4096 }
+        ensures { self.new ≡ self.old ++ part.now }
+    {
+        self.bytes.extend_from_slice(part).unwrap();
+    }
+
+    /// Appends a number in decimal.
+    pub fn put_number(&mut self, number: u64)
+        requires { length self.old + length (decimal number) ≤ 4096 }
+        ensures { self.new ≡ self.old ++ decimal number }
+    {
+        let mut buffer = Buffer::new();
+        self.put(buffer.format(number).as_bytes());
+    }
+}
