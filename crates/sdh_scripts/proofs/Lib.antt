@@ -1,0 +1,5 @@
+pub mod Known
+pub mod Outcomes
+pub mod Texts
+pub mod Ports
+pub mod Answered

@@ -1,0 +1,6 @@
+pub mod Walks
+pub mod Scripts
+pub mod Ports
+pub mod Texts
+pub mod Outcomes
+pub mod Laws
