@@ -1,5 +1,5 @@
 -- What comes of a plan with watches.
-use Rattle.std.proofs.Common.{◌≡◌, ◌⊎◌, true, ℕ, ◌+◌, ◌*◌, List, [], ◌∷◌, length, take, refl, ◌≤◌, ap, sym, ◌∙◌, subst, arith, inl, inr}
+use Rattle.std.proofs.Common.{◌≡◌, ◌⊎◌, true, ℕ, ◌+◌, ◌*◌, List, [], ◌∷◌, length, take, ◌≤◌, ap, sym, ◌∙◌, subst, arith, inl, inr}
 use Rattle.sdh_plant.specs.Fibres.{Fibres, IsHonest}
 use Rattle.sdh_plant.specs.Arrivals.{Knows}
 use Rattle.sdh_rounds.specs.Laws.{Appends}

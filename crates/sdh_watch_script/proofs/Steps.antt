@@ -1,5 +1,5 @@
 -- A script with watches, step by step. All but the settle step is as in `sdh_script`.
-use Rattle.std.proofs.Common.{◌≡◌, ◌<◌, ◌≤◌, ℕ, ◌+◌, ◌-◌, ◌*◌, Bool, true, false, List, [], ◌∷◌, ◌++◌, length, drop, get_or, refl, ap, sym, ◌∙◌, subst, arith, inl, inr, append-nil, append_assoc, drop-cons, add-one}
+use Rattle.std.proofs.Common.{◌≡◌, ◌≤◌, ℕ, ◌+◌, ◌-◌, ◌*◌, Bool, true, false, List, [], ◌∷◌, ◌++◌, length, drop, refl, ap, sym, ◌∙◌, subst, arith, inl, inr, append-nil, append_assoc}
 use Rattle.std.specs.Prelude.{if◌then◌else◌}
 use Rattle.std.proofs.lemmas.Grind.{flat_map-append}
 use Rattle.sdh_plant.specs.Fibres.{Fibres, IsPrepared}
@@ -11,17 +11,13 @@ use Rattle.sdh_terms.specs.declared.Rate.{Rate}
 use Rattle.sdh_world.specs.Clocks.{waiting_at}
 use Rattle.sdh_node.specs.Node.{Node}
 use Rattle.sdh_rounds.specs.Laws.{EndsAtAMultiple}
-use Rattle.sdh_circuits.specs.Provisioning.{Provisioning}
-use Rattle.sdh_request.specs.declared.settings.Settings.{Settings}
-use Rattle.sdh_world.specs.Held.{HeldRing, new_ring}
-use Rattle.sdh_world.proofs.Waiting.{waits_new}
+use Rattle.sdh_world.specs.Held.{HeldRing}
 use Rattle.sdh_world.specs.Rounds.{World}
 use Rattle.sdh_world.specs.Changes.{changed}
 use Rattle.sdh_world.specs.Quiet.{Settles}
 use Rattle.sdh_plan.specs.declared.step.Step.{Step}
 use Rattle.sdh_plan.specs.declared.step.Step.TheVariants as step
-use Rattle.sdh_plan.specs.Planned.{Planned, IsPlanned, provisioning_of}
-use Rattle.sdh_plan.specs.Steps.{Past, start, after, is_settle}
+use Rattle.sdh_plan.specs.Steps.{Past, after, is_settle}
 use Rattle.sdh_plan.specs.Scripts.{HasRoom, AreSteps}
 use Rattle.sdh_report.specs.Written.{Written}
 use Rattle.sdh_report.specs.declared.status.Status.{Status}

@@ -1,5 +1,5 @@
 -- When a script may be run with watches.
-use Rattle.std.specs.Prelude.{ℕ, ◌≡◌, ◌⊎◌, ◌+◌, ◌-◌, ◌*◌, ◌%◌, ◌≤◌, false, List, [], ◌∷◌, ◌++◌, length}
+use Rattle.std.specs.Prelude.{ℕ, ◌≡◌, ◌+◌, ◌-◌, ◌*◌, ◌≤◌, false, List, [], ◌∷◌, ◌++◌, length}
 use Rattle.sdh_plant.specs.Fibres.{Fibres, IsPrepared}
 use Rattle.sdh_world.specs.Held.{HeldRing}
 use Rattle.sdh_world.specs.Rounds.{World}

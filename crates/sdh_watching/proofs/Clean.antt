@@ -18,7 +18,7 @@ use Rattle.sdh_restoration.specs.Due.{due}
 use Rattle.sdh_circuits.specs.Ends.{other_end}
 use Rattle.sdh_routes.proofs.Ways.{short, few_hops}
 use Rattle.sdh_world.specs.Held.{outlet_at}
-use Rattle.sdh_world.specs.Rounds.{World, round, round_with}
+use Rattle.sdh_world.specs.Rounds.{World, round}
 use Rattle.sdh_world.specs.Runs.{IsRound}
 use Rattle.sdh_world.specs.Quiet.{is_calm}
 use Rattle.sdh_laws.proofs.hearing.Signalling.{calm_rounds_are_still}

@@ -8,7 +8,6 @@ use Rattle.std.proofs.lemmas.Bool.Decides.{nat_tests}
 use Rattle.sdh_circuits.specs.declared.PortId.{PortId}
 use Rattle.sdh_plant.specs.Fibres.{Fibres}
 use Rattle.sdh_plant.specs.Arrivals.{Knows}
-use Rattle.sdh_world.specs.Held.{HeldRing}
 use Rattle.sdh_world.specs.Rounds.{World, arrivals_of, frames_with, round}
 use Rattle.sdh_world.specs.Runs.{run, arrivals_in, run_with, course, IsBrokenOff}
 use Rattle.sdh_world.specs.Quiet.{SettlesAt, NeverSettles, BreaksOff, settles_in}
@@ -20,7 +19,6 @@ use Rattle.sdh_rounds.proofs.Laws.{known_rounds_are, faults_keep, broken_steps_s
 use Rattle.sdh_laws.proofs.hearing.Staying.{left_run}
 use Rattle.sdh_laws.proofs.converging.Runs.{run_more}
 use Rattle.sdh_node.specs.Stations.{adm}
-use Rattle.sdh_rounds.specs.Rounds as any_round
 use Rattle.sdh_rounds.specs.Runs as any_run
 use Rattle.sdh_plan.specs.declared.step.Step.{Step}
 use Rattle.sdh_plan.specs.declared.step.Step.TheVariants as step
@@ -32,7 +30,7 @@ use Rattle.sdh_owed.proofs.Known.{none_appended, knows_after}
 use Rattle.sdh_path.specs.History.{Given}
 use Rattle.sdh_watching.specs.Shows.{Watched}
 use Rattle.sdh_watching.specs.Watching.{given_at, Lead, heard_in, watched}
-use Rattle.sdh_watching.specs.Scripts.{IsWatched, BreaksWatch, Watches, Ran, ran_unsettled, ran_watched, script, IsRan, shown_by, IsCutShort, ComesTo}
+use Rattle.sdh_watching.specs.Scripts.{BreaksWatch, Watches, Ran, ran_unsettled, ran_watched, script, IsRan, shown_by, IsCutShort, ComesTo}
 use Rattle.sdh_watching.specs.Laws.{KnownScripts}
 use Rattle.sdh_watching.proofs.Rounds.{more_of, grows, frames_sent, length-one, length-all, take_past, front, appended, nodes_run, count_step}
 
