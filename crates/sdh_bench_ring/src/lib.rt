@@ -1,10 +1,12 @@
-//! Rounds of whole rings over fibres in memory, which `bench/ring` measures. No other crate uses this one.
+//! Rounds of whole rings over fibres in memory, which `bench/ring` measures and `bench/strangers` looks at. No other crate uses this one.
 #![tactic(auto)]
 
 ghost use Rattle.std.specs.Prelude.{◌≡◌, ◌≤◌, ◌<◌, ◌+◌, ◌*◌, ◌/◌, ◌^◌, ◌⊎◌, ℕ, IfOk, OnOk, false, length};
 ghost use Rattle.sdh_terms.specs.Rates.{n_of};
 ghost use Rattle.sdh_plant.specs.Fibres.{HasNoFibres, IsPrepared};
 ghost use Rattle.sdh_circuits.specs.Kept.{KeepsRing};
+
+mod strangers;
 
 use sdh_circuits::{Asked, CircuitMap, End, PortId};
 use sdh_node::{Delivered, Settings};
@@ -66,7 +68,30 @@ fn circuits_of(
     Ok(circuits)
 }
 
-// The ring of nodes 0, 1 and so on, and the plant laid for it; a refusal counts as want of memory here.
+// The ring of these nodes and circuits, and the plant laid for it; a refusal counts as want of memory here.
+pub(crate) fn made<P: Plant>(
+    alloc: Global,
+    plant: &mut P,
+    settings: Settings,
+    map: RingMap,
+    circuits: CircuitMap,
+) -> Result<Ring, AllocError>
+    requires plant { HasNoFibres (P.fibres plant.old) }
+    requires slots { circuits.slots ≡ n_of settings.rate / 2 }
+    requires kept { KeepsRing circuits map }
+    ensures prepared { IfOk result (λ ring. IsPrepared ring.settings.rate (length ring.ids) (P.fibres plant.new)) }
+    ensures whole { IfOk result (λ ring. ring.broken ≡ false) }
+    ensures new { IfOk result (λ ring. ring.rounds ≡ 0) }
+    ensures moment { IfOk result (λ ring. ring.moment ≡ 0) }
+{
+    let nodes = map.len();
+    plant
+        .prepare(alloc, settings.rate, nodes)
+        .map_err(|_| AllocError)?;
+    Ok(Ring::try_new(alloc, settings, map, circuits)?)
+}
+
+// The ring of these nodes with so many circuits.
 fn laid<P: Plant>(
     alloc: Global,
     plant: &mut P,
@@ -82,15 +107,13 @@ fn laid<P: Plant>(
     ensures new { IfOk result (λ ring. ring.rounds ≡ 0) }
 {
     let map = RingMap::new(ids).map_err(|_| AllocError)?;
-    let nodes = map.len();
-    let circuits = circuits_of(alloc, rate, &map, nodes, count, names)?;
-    plant.prepare(alloc, rate, nodes).map_err(|_| AllocError)?;
+    let circuits = circuits_of(alloc, rate, &map, map.len(), count, names)?;
     let settings = Settings {
         rate,
         threshold: 3,
         wait: 10,
     };
-    Ok(Ring::try_new(alloc, settings, map, circuits)?)
+    made(alloc, plant, settings, map, circuits)
 }
 
 // Cuts the fibre that leaves a position on a side.
@@ -122,10 +145,13 @@ fn cut_spans<P: Plant>(ring: &Ring, plant: &mut P, count: usize)
 }
 
 // Runs so many rounds.
-fn run<P: Plant>(ring: &mut Ring, plant: &mut P, rounds: u32) -> Result<(), PlantFault>
+pub(crate) fn run<P: Plant>(ring: &mut Ring, plant: &mut P, rounds: u32) -> Result<(), PlantFault>
     requires prepared { IsPrepared ring.old.settings.rate (length ring.old.ids) (P.fibres plant.old) }
     requires whole { ring.old.broken ≡ false }
     requires room { ring.old.rounds + rounds ≤ 2 ^ 32 }
+    ensures prepared { OnOk result (IsPrepared ring.new.settings.rate (length ring.new.ids) (P.fibres plant.new)) }
+    ensures whole { OnOk result (ring.new.broken ≡ false) }
+    ensures moment { OnOk result (ring.new.moment ≡ ring.old.moment) }
 {
     'turns: for _turn in 0..rounds {
         ring.round(plant)?;

@@ -1,0 +1,9 @@
+use Rattle.std.proofs.Common.{rules, arith}
+use Rattle.sdh_ring.proofs.Turns.{prepared_for}
+use Rattle.sdh_bench_ring.proofs.made.Goals as goal
+
+pub returns-clause-prepared : goal.returns-clause-prepared
+returns-clause-prepared g c =
+    let n = c.len-nodes.result in
+    let ring = c.in_ok-try_new.field-0 in
+    prepared_for c.args.settings.rate ring.settings.rate n _ (g.P.Plant.fibres c.args.plant.now) (g.P.Plant.fibres c.prepare.new.self) (omega (arith, c.len-nodes.ensures.len, c.len-nodes.ensures.enough)) (omega (arith, c.len-nodes.ensures.len, c.len-nodes.ensures.few)) (search rules) (search rules) (search rules)

@@ -1,0 +1,12 @@
+use Rattle.std.specs.Prelude.{◌≡◌, ◌/◌, IfSome}
+use Rattle.sdh_terms.specs.Rates.{n_of}
+use Rattle.sdh_terms.specs.declared.Rate.TheVariants.{Four}
+use Rattle.sdh_circuits.specs.Kept.{KeepsRing}
+use Rattle.sdh_bench_ring.proofs.strangers.asked_for.Given as goal
+
+abbrev pub invariant-wishes : goal.invariant-wishes
+invariant-wishes l = record {
+  slots : l.circuits.slots ≡ n_of Four / 2;
+  kept : KeepsRing l.circuits l.map;
+  same : IfSome l.circuits.ring (λ kept. kept ≡ l.map);
+}
