@@ -1,6 +1,6 @@
-//! Whose bytes ports get, round by round, in rings of 2 to 8 nodes with as many circuits as find room, to which anything happens in any
-//! round. The text of each port is one letter, so that what a port delivers is looked up by its letter. The function is that of the
-//! static library `crates/sdh_bench_ring`.
+//! Whose bytes ports get, round by round, in rings of 2 to 8 nodes with as many circuits as find room, to which
+//! anything happens in any round. The text of each port is one letter, so that what a port delivers is looked up by it.
+//! The function is that of the static library `crates/sdh_bench_ring`.
 
 use std::process::ExitCode;
 
@@ -87,8 +87,8 @@ enum Found {
     Other,
 }
 
-/// A justification stands behind so many bytes of a payload, where H3 is: three bytes more or fewer, or three that are nobody's where the
-/// chunk was taken in another form than it was put in.
+/// A justification stands behind so many bytes of a payload, where H3 is: three bytes more or fewer, or three that are
+/// nobody's where the chunk was taken in another form than it was put in.
 const BEFORE_H3: usize = 783;
 const AROUND_H3: usize = 6;
 
@@ -178,7 +178,8 @@ fn run(episode: &Episode, counts: &mut Counts) {
     }
 }
 
-/// In each of two slots arcs that lead round the whole ring one behind the other, from some nodes to the next of them; one in eight is left out.
+/// In each of two slots arcs that lead round the whole ring one behind the other, from some nodes to the next of them;
+/// one in eight is left out.
 fn circuits(chance: &mut Chance, nodes: u8) -> Vec<[u8; 3]> {
     let mut circuits = Vec::new();
     for slot in 1..=2 {
@@ -234,7 +235,8 @@ fn span(events: &mut Vec<Event>, span: u8, condition: u8) {
     events.push(Event::Fibre((span + 1) % 4, 0, condition));
 }
 
-/// The worked run of docs/STRANGERS.md: node 3 is held while it passes through. Two circuits meet in the last hundred rounds.
+/// The worked run of docs/STRANGERS.md: node 3 is held while it passes through. Two circuits meet in the last hundred
+/// rounds.
 fn held() -> Episode {
     let mut events = Vec::new();
     let rounds = |events: &mut Vec<Event>, many: usize| events.extend([Event::Round].repeat(many));
