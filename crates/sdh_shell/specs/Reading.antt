@@ -1,0 +1,57 @@
+-- What the bytes of a source come to: a plan, or why there is none.
+use Rattle.std.specs.Prelude.{◌≡◌, ◌⊎◌, ℕ, ◌<◌, ◌≤◌, List, length, Option, Some, None}
+use Rattle.toml.specs.Data.{Members}
+use Rattle.sdh_plan.specs.Planned.{Planned}
+use Rattle.sdh_plan.specs.Check.{answer}
+use Rattle.sdh_plan.specs.Document.{IsDocument, IsNoDocument}
+use Rattle.sdh_plan.specs.Plans.{checks}
+use Rattle.sdh_plan.specs.Answers.{IsPlanOf}
+use Rattle.sdh_report.specs.declared.status.Status.{Status}
+use Rattle.sdh_report.specs.declared.status.Status.TheVariants as status
+use Rattle.sdh_shell.specs.declared.reading.NoPlan.{NoPlan}
+use Rattle.sdh_shell.specs.declared.reading.NoPlan.TheVariants as none
+
+-- the source has no more bytes than a plan may have
+abbrev pub IsShort : List ℕ → Type 0
+IsShort bytes = length bytes ≤ 1048576
+
+-- why there is no plan: a read failed; there are too many bytes; they are no document; or they are one, and the first of its
+-- checks that fails has this reason and this place
+abbrev pub HasNoPlan : List ℕ → Status → Type 0
+HasNoPlan bytes status.ReadFault = Unit {0}
+HasNoPlan bytes status.TooLong = 1048576 < length bytes
+HasNoPlan bytes status.NotToml = IsShort bytes × IsNoDocument bytes
+HasNoPlan bytes (status.BadPlan reason place) = IsShort bytes × ((ms : Members) × IsDocument bytes ms × (answer (checks ms) ≡ Some (record { reason = reason; place = place })))
+HasNoPlan bytes status.Ok = ⊥
+HasNoPlan bytes status.Usage = ⊥
+HasNoPlan bytes status.WriteFault = ⊥
+HasNoPlan bytes (status.Unsettled k) = ⊥
+HasNoPlan bytes status.PlantFault = ⊥
+HasNoPlan bytes status.NoSuchPort = ⊥
+HasNoPlan bytes status.Memory = ⊥
+
+-- these bytes are those of this plan
+abbrev pub TellsPlan : List ℕ → Planned → Type 0
+TellsPlan bytes plan = IsShort bytes × IsPlanOf bytes plan
+
+-- the source tells the bytes of a plan
+abbrev pub HasPlan : Option (List ℕ) → Type 0
+HasPlan None = ⊥
+HasPlan (Some bytes) = (plan : Planned) × TellsPlan bytes plan
+
+-- such an answer has its reason in the bytes; want of memory needs none
+abbrev pub IsWhyNone : List ℕ → NoPlan → Type 0
+IsWhyNone bytes none.Memory = Unit {0}
+IsWhyNone bytes (none.Refused how) = HasNoPlan bytes how
+
+-- it ends with one of these statuses
+abbrev pub Refuses : Status → Type 0
+Refuses status.ReadFault = Unit {0}
+Refuses status.TooLong = Unit {0}
+Refuses status.NotToml = Unit {0}
+Refuses (status.BadPlan reason place) = Unit {0}
+Refuses how = ⊥
+
+abbrev pub IsRefusal : NoPlan → Type 0
+IsRefusal none.Memory = Unit {0}
+IsRefusal (none.Refused how) = Refuses how

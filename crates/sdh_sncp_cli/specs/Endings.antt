@@ -1,0 +1,27 @@
+-- How the program ends. The numbers and lines are this project's own.
+use Rattle.std.specs.Prelude.{ℕ, ◌+◌, List, ◌++◌, codes, decimal}
+use Rattle.sdh_report.specs.Lines.{own_line}
+use Rattle.sdh_report.specs.Statuses as status
+use Rattle.sdh_sncp_cli.specs.declared.ending.Ending.{Ending}
+use Rattle.sdh_sncp_cli.specs.declared.ending.Ending.TheVariants as ending
+
+-- the number with which the program ends
+abbrev pub number_of : Ending → ℕ
+number_of ending.Usage = 2
+number_of (ending.NoSuchStep step) = 14
+number_of (ending.SameSlot first second) = 13
+number_of (ending.Shared how) = status.number_of how
+
+-- circuits are counted from 1 in the text
+abbrev pub same_slot_line : ℕ → ℕ → List ℕ
+same_slot_line first second = codes "same slot " ++ decimal (first + 1) ++ codes " " ++ decimal (second + 1) ++ codes "\n"
+
+abbrev pub no_such_step_line : ℕ → List ℕ
+no_such_step_line step = codes "no such step " ++ decimal step ++ codes "\n"
+
+-- the last line of the text that goes with an ending
+abbrev pub line_of : Ending → List ℕ
+line_of ending.Usage = own_line (codes "usage: sdhpath run")
+line_of (ending.NoSuchStep step) = no_such_step_line step
+line_of (ending.SameSlot first second) = same_slot_line first second
+line_of (ending.Shared how) = status.last_line how

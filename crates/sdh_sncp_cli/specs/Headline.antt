@@ -1,0 +1,56 @@
+-- What the program promises of a plan that is run: what each port is owed over honest fibres, and how it ends.
+use Rattle.std.specs.Prelude.{◌≡◌, ◌≢◌, ◌⊎◌, ℕ, ◌≤◌, List, ◌++◌, length, Option, Some, None}
+use Rattle.std.specs.Io.KnownBytes.{Appends}
+use Rattle.sdh_plant.specs.Fibres.{Fibres}
+use Rattle.sdh_plant.specs.Arrivals.{Knows}
+use Rattle.sdh_rounds.specs.Quiet.{enough_for}
+use Rattle.sdh_plan.specs.Planned.{Planned}
+use Rattle.sdh_report.specs.Reports.{Report, text_of}
+use Rattle.sdh_report.specs.declared.listing.Listing.TheVariants as listing
+use Rattle.sdh_report.specs.declared.status.Status.{Status}
+use Rattle.sdh_report.specs.declared.status.Status.TheVariants as status
+use Rattle.sdh_report.specs.Statuses.{last_line}
+use Rattle.sdh_shell.specs.Reading.{TellsPlan}
+use Rattle.sdh_sncp.specs.Fixed.{AreAlone}
+use Rattle.sdh_sncp_script.specs.Steps.{AreKnown}
+use Rattle.sdh_sncp_script.specs.Promise.{OwesAll}
+use Rattle.sdh_sncp_script.specs.Plans.{world_of, ran_of, MaySettle}
+use Rattle.sdh_sncp_cli.specs.Words.{AreRun}
+
+-- the words ask for a run, and these are the bytes of this plan, whose steps are a path ring's and of whose circuits no two share a slot
+pub record IsRunPlan (words : List (List ℕ)) (bytes : List ℕ) (plan : Planned) : Type 0 where
+  pub words_are : AreRun words
+  pub tells : TellsPlan bytes plan
+  pub known : AreKnown plan.steps
+  pub alone : AreAlone plan.circuits
+
+-- a number of a script that came to an end: it is done, or a settle step was unsettled, or a plant's call failed; and how it did
+abbrev pub RanTo : ℕ → Status → Type 0
+RanTo number status.Ok = number ≡ 0
+RanTo number (status.Unsettled k) = number ≡ 7
+RanTo number status.PlantFault = number ≡ 8
+RanTo number how = ⊥
+
+abbrev pub HasRun : ℕ → Type 0
+HasRun number = (number ≡ 0) ⊎ ((number ≡ 7) ⊎ (number ≡ 8))
+
+-- What was written is the text of reports, and the last line; and the reports show for every port what it is owed by the fibres that the
+-- script cut.
+abbrev pub Delivers : List (List ℕ) → List ℕ → ℕ → Option (List ℕ) → Option (List ℕ) → Type 0
+Delivers words bytes number old new = (plan : Planned) → IsRunPlan words bytes plan → HasRun number
+    → (how : Status) × (reports : List Report) × RanTo number how × Appends old new (text_of listing.Reports reports ++ last_line how) × OwesAll plan reports how
+
+-- it ends as the script does where the arrivals are known, and the text tells so: unsettled at exactly the step in which no quiet window
+-- comes within the limit; or a plant's call failed
+abbrev pub EndsAsItRuns : List (List ℕ) → List ℕ → Fibres → ℕ → Type 0
+EndsAsItRuns words bytes f number = (plan : Planned) → IsRunPlan words bytes plan → HasRun number → Knows (world_of plan f).fibres → RanTo number (ran_of plan f).ending ⊎ (number ≡ 8)
+
+-- with so large a limit no settle step is unsettled
+abbrev pub Settles : List (List ℕ) → List ℕ → ℕ → Type 0
+Settles words bytes number = (plan : Planned) → IsRunPlan words bytes plan → enough_for (length plan.nodes) ≤ plan.limit → number ≢ 7
+
+-- the words ask for a run, and the source tells the bytes of a plan with which all is given: a script that settles, as it does over
+-- honest fibres where the limit is large
+abbrev pub MayBeDone : List (List ℕ) → Option (List ℕ) → Fibres → Type 0
+MayBeDone words None f = ⊥
+MayBeDone words (Some bytes) f = (plan : Planned) × IsRunPlan words bytes plan × MaySettle plan f

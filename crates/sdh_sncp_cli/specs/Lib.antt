@@ -1,0 +1,4 @@
+pub mod Words
+pub mod Endings
+pub mod Outcome
+pub mod Headline

@@ -1,0 +1,105 @@
+//! The program's call.
+ghost use Rattle.std.specs.Prelude.{◌≡◌, ◌≢◌, ◌⊎◌, ◌≤◌, IfSome, true, false};
+ghost use Rattle.std.specs.Io.KnownBytes.{IsAtEnd};
+ghost use Rattle.sdh_basics.specs.Causes.{Rose, IsCounted};
+ghost use Rattle.sdh_plant.specs.Fibres.{HasNoFibres};
+ghost use Rattle.sdh_report.specs.declared.status.Status.{Status};
+ghost use Rattle.sdh_shell.specs.Failing.{Counts};
+ghost use Rattle.sdh_shell.specs.Writing.{WritesAs};
+ghost use Rattle.sdh_sncp_cli.specs.Words.{words_of, is_run};
+ghost use Rattle.sdh_sncp_cli.specs.Endings.{number_of};
+ghost use Rattle.sdh_sncp_cli.specs.declared.ending.Ending.{Ending};
+ghost use Rattle.sdh_sncp_cli.specs.Outcome.{Answers, MayEnd, CameTo, telling_of, told, IsEnding};
+ghost use Rattle.sdh_sncp_cli.specs.Headline.{Delivers, EndsAsItRuns, Settles, MayBeDone};
+
+use crate::ending::Ending;
+use crate::report::report_on;
+use sdh_outside::{Sink, Source, write_text};
+use sdh_plant::Plant;
+use sdh_report::Status;
+use std::alloc::Global;
+
+// Does all, and answers how it ended.
+fn answer<R: Source, W: Sink, P: Plant>(
+    alloc: Global,
+    words: &[String],
+    source: &mut R,
+    sink: &mut W,
+    plant: &mut P,
+) -> Ending
+    requires fresh { HasNoFibres (P.fibres plant.old) }
+    ensures outcome { let reads : Counts = record { before = R.faults source.old; after = R.faults source.new } in
+        let calls : Counts = record { before = P.faults plant.old; after = P.faults plant.new } in
+        IfSome (told (words_of words.now) (R.left source.old)) (λ bytes. WritesAs (telling_of result) (λ how text. MayEnd (words_of words.now) bytes (P.fibres plant.old) reads calls how text (P.fibres plant.new)) result (W.written sink.old) (W.written sink.new)) }
+    ensures ending { IsEnding result }
+    ensures usage { result ≡ Ending.Usage → is_run (words_of words.now) ≡ false }
+    ensures usage_only { is_run (words_of words.now) ≡ false → (result ≡ Ending.Usage) ⊎ (result ≡ Ending.Shared Status.WriteFault) ⊎ (result ≡ Ending.Shared Status.Memory) }
+    ensures unasked { is_run (words_of words.now) ≡ false → (source.new ≡ source.old) × (plant.new ≡ plant.old) }
+    ensures read_fault { result ≡ Ending.Shared Status.ReadFault → Rose (R.faults source.old) (R.faults source.new) }
+    ensures plant_fault { result ≡ Ending.Shared Status.PlantFault → Rose (P.faults plant.old) (P.faults plant.new) }
+    ensures write_fault { result ≡ Ending.Shared Status.WriteFault → Rose (W.faults sink.old) (W.faults sink.new) }
+    ensures came { let reads : Counts = record { before = R.faults source.old; after = R.faults source.new } in
+        let calls : Counts = record { before = P.faults plant.old; after = P.faults plant.new } in
+        (how : Ending) × ((result ≡ how) ⊎ (result ≡ Ending.Shared Status.WriteFault)) × CameTo R.exact P.exact reads calls (R.left source.old) (R.left source.new) how }
+    ensures writes { IsCounted W.exact (result ≡ Ending.Shared Status.WriteFault) (W.faults sink.old) (W.faults sink.new) }
+    ensures memory { result ≡ Ending.Shared Status.Memory → (sink.new ≡ sink.old) × (P.fibres plant.new ≡ P.fibres plant.old) }
+    ensures read_whole { result ≡ Ending.Shared Status.Ok → IsAtEnd (R.left source.new) }
+    ensures later { (R.faults source.old ≤ R.faults source.new) × (W.faults sink.old ≤ W.faults sink.new) × (P.faults plant.old ≤ P.faults plant.new) }
+{
+    let Ok(report) = report_on(alloc, words, source, plant) else {
+        return Ending::Shared(Status::Memory);
+    };
+    match write_text(sink, report.text.bytes()) {
+        Ok(()) => report.ending,
+        Err(_) => Ending::Shared(Status::WriteFault),
+    }
+}
+
+/// Does all that the program does, and answers the number with which it ends. With the word `run` it reads a plan from the source,
+/// runs a path ring of it over the plant, and writes the report of every settle step: its line and that of each port. The last line
+/// says how it ended. All is written once, at the end.
+pub fn sdhpath<R: Source, W: Sink, P: Plant>(
+    alloc: Global,
+    words: &[String],
+    source: &mut R,
+    sink: &mut W,
+    plant: &mut P,
+) -> u8
+    requires fresh { HasNoFibres (P.fibres plant.old) }
+
+    // The number and the text that is written, for a source that tells its bytes, where it is read, and a sink that tells what was
+    // written. Over every plant the frames sent are those of the run, and where arrivals are known all of them are told.
+    ensures outcome { let reads : Counts = record { before = R.faults source.old; after = R.faults source.new } in
+        let calls : Counts = record { before = P.faults plant.old; after = P.faults plant.new } in
+        IfSome (told (words_of words.now) (R.left source.old)) (λ bytes. Answers (words_of words.now) bytes (P.fibres plant.old) (P.fibres plant.new) reads calls result (W.written sink.old) (W.written sink.new)) }
+
+    // Over honest fibres the reports show for every port what it is owed, and with a large limit no settle step is unsettled.
+    ensures owed { (P.fibres plant.old).honest ≡ true → IfSome (R.left source.old) (λ bytes. Delivers (words_of words.now) bytes result (W.written sink.old) (W.written sink.new)) }
+    ensures settles { (P.fibres plant.old).honest ≡ true → IfSome (R.left source.old) (λ bytes. Settles (words_of words.now) bytes result) }
+
+    // Where arrivals are known, unsettled comes exactly where a settle step has no quiet window within the limit.
+    ensures unsettled { IfSome (R.left source.old) (λ bytes. EndsAsItRuns (words_of words.now) bytes (P.fibres plant.old) result) }
+
+    // Over every source, sink and plant.
+    ensures usage { result ≡ 2 → is_run (words_of words.now) ≡ false }
+    ensures usage_only { is_run (words_of words.now) ≡ false → (result ≡ 2) ⊎ (result ≡ 4) ⊎ (result ≡ 70) }
+    ensures unasked { is_run (words_of words.now) ≡ false → (source.new ≡ source.old) × (plant.new ≡ plant.old) }
+    ensures read_fault { result ≡ 3 → Rose (R.faults source.old) (R.faults source.new) }
+    ensures plant_fault { result ≡ 8 → Rose (P.faults plant.old) (P.faults plant.new) }
+    ensures write_fault { result ≡ 4 → Rose (W.faults sink.old) (W.faults sink.new) }
+
+    // Where an object's count is exact, each of its calls that failed is told by its fault, and none is tried again; a write fault
+    // may stand in place of what was to be told. With 9 one byte more than a plan may have was taken.
+    ensures came { let reads : Counts = record { before = R.faults source.old; after = R.faults source.new } in
+        let calls : Counts = record { before = P.faults plant.old; after = P.faults plant.new } in
+        (how : Ending) × ((result ≡ number_of how) ⊎ (result ≡ 4)) × CameTo R.exact P.exact reads calls (R.left source.old) (R.left source.new) how }
+    ensures writes { IsCounted W.exact (result ≡ 4) (W.faults sink.old) (W.faults sink.new) }
+    ensures memory { result ≡ 70 → (sink.new ≡ sink.old) × (P.fibres plant.new ≡ P.fibres plant.old) }
+    ensures read_whole { result ≡ 0 → IsAtEnd (R.left source.new) }
+    ensures later { (R.faults source.old ≤ R.faults source.new) × (W.faults sink.old ≤ W.faults sink.new) × (P.faults plant.old ≤ P.faults plant.new) }
+
+    // With all that a run needs, and no fault, everything is done, or there is no memory.
+    ensures complete { MayBeDone (words_of words.now) (R.left source.old) (P.fibres plant.old) → ¬ (Rose (R.faults source.old) (R.faults source.new)) → ¬ (Rose (W.faults sink.old) (W.faults sink.new)) → ¬ (Rose (P.faults plant.old) (P.faults plant.new)) → (result ≡ 0) ⊎ (result ≡ 70) }
+{
+    answer(alloc, words, source, sink, plant).number()
+}
