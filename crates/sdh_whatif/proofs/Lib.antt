@@ -3,3 +3,4 @@ pub mod Parts
 pub mod Digits
 pub mod Pieces
 pub mod Below
+pub mod Told

@@ -6,7 +6,10 @@ mod ask;
 mod line;
 mod lines;
 mod table;
+mod top;
 
 pub use ask::{Ask, Depth, asked};
 pub use line::Line;
+pub use sdh_report::Status;
 pub use table::write_table;
+pub use top::whatif;
