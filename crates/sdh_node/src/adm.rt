@@ -1,5 +1,5 @@
 //! One multiplexer.
-ghost use Rattle.std.specs.Prelude.{◌≡◌, ◌&&◌, not, nat_le, ◌+◌, ◌-◌, ◌/◌, ◌^◌, ◌<◌, ◌≤◌, ◌≢◌, None, IfOk, IsTrue, length};
+ghost use Rattle.std.specs.Prelude.{◌≡◌, ◌&&◌, not, nat_le, ◌+◌, ◌-◌, ◌/◌, ◌^◌, ◌<◌, ◌≤◌, ◌≢◌, None, IfOk, length};
 ghost use Rattle.sdh_terms.specs.Rates.{n_of};
 ghost use Rattle.sdh_circuits.specs.Kept.{KeepsRing};
 ghost use Rattle.sdh_nodestate.specs.Words.{SendsSpellable};
@@ -134,14 +134,6 @@ impl Adm {
         ensures rate { inbox.new.rate ≡ inbox.old.rate }
     {
         self.cross.exchange(side, arrived, inbox);
-    }
-
-    // Whether a port is at the node.
-    #[cfg(test)]
-    pub(crate) fn has(&self, port: PortId) -> bool
-        ensures { IsTrue result → HasPort self.now.ports port }
-    {
-        self.ports.find(port).is_some()
     }
 
     /// What a port of the node delivered in the last round, and AIS before the first.
