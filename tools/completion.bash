@@ -1,4 +1,4 @@
-# Completion of sdhring, sdhwatch, sdhretime and the tools beside them, for bash: source it, or let `--install` put it in place.
+# Completion of sdhring, sdhwatch, sdhpath, sdhretime and the tools beside them, for bash: source it, or let `--install` put it in place.
 
 _sdhring_words() {
   local program=${COMP_WORDS[0]##*/} word=${COMP_WORDS[COMP_CWORD]}
@@ -6,7 +6,7 @@ _sdhring_words() {
   case $program:$COMP_CWORD:${COMP_WORDS[1]-} in
     sdhring:1:*) mapfile -t COMPREPLY < <(compgen -W "run check drop big $1" -- "$word") ;;
     sdhring:3:drop) mapfile -t COMPREPLY < <(compgen -W "a b" -- "$word") ;;
-    sdhwatch:1:*) mapfile -t COMPREPLY < <(compgen -W "run $1" -- "$word") ;;
+    sdhwatch:1:* | sdhpath:1:*) mapfile -t COMPREPLY < <(compgen -W "run $1" -- "$word") ;;
     sdhretime:1:*) mapfile -t COMPREPLY < <(compgen -W "$1" -- "$word") ;;
     *:*:--install) compopt -o dirnames ;;
   esac
@@ -36,5 +36,5 @@ _sdhring_tools() {
   [ "${#COMPREPLY[@]}" -ne 0 ] || compopt -o default
 }
 
-complete -F _sdhring {,./}sdh{ring,watch,retime}
+complete -F _sdhring {,./}sdh{ring,watch,path,retime}
 complete -F _sdhring_tools {,./}tools/{rows,explain,report,plan,ringview,whatif}
