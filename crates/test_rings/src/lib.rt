@@ -4,10 +4,6 @@
 #[cfg(test)]
 mod deliveries;
 #[cfg(test)]
-mod hostile;
-#[cfg(test)]
-mod neighbours;
-#[cfg(test)]
 mod requests;
 #[cfg(test)]
 mod restoring;

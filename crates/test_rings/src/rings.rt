@@ -143,18 +143,6 @@ pub(crate) fn laid<P: Plant>(
     laid_with(alloc, plant, rate, ids, &[ALPHABETS])
 }
 
-/// Makes new fibres for a ring at STM-4.
-pub(crate) fn lay_for<P: Plant>(alloc: Global, ring: &Ring, plant: &mut P) -> Result<(), AllocError>
-    requires fresh { HasNoFibres (P.fibres plant.old) }
-    requires rate { ring.now.settings.rate ≡ Rate.Four }
-    ensures { OnOk result (IsPrepared ring.now.settings.rate (length ring.now.ids) (P.fibres plant.new)) }
-{
-    let nodes = ring.map().len();
-    plant
-        .prepare(alloc, Rate::Four, nodes)
-        .map_err(|_| AllocError)
-}
-
 /// Brings the fibre that leaves a position on a side into a condition.
 pub(crate) fn apply<P: Plant>(
     ring: &Ring,
