@@ -1,4 +1,4 @@
-# Completion of sdhring, sdhwatch, sdhpath, sdhretime and the tools beside them, for bash: source it, or let `--install` put it in place.
+# Completion of sdhring, sdhwatch, sdhpath, sdhretime, sdhwhatif and the tools beside them, for bash: source it, or let `--install` put it in place.
 
 _sdhring_words() {
   local program=${COMP_WORDS[0]##*/} word=${COMP_WORDS[COMP_CWORD]}
@@ -7,6 +7,7 @@ _sdhring_words() {
     sdhring:1:*) mapfile -t COMPREPLY < <(compgen -W "run check drop big $1" -- "$word") ;;
     sdhring:3:drop) mapfile -t COMPREPLY < <(compgen -W "a b" -- "$word") ;;
     sdhwatch:1:* | sdhpath:1:*) mapfile -t COMPREPLY < <(compgen -W "run $1" -- "$word") ;;
+    sdhwhatif:1:*) mapfile -t COMPREPLY < <(compgen -W "single double triple $1" -- "$word") ;;
     sdhretime:1:*) mapfile -t COMPREPLY < <(compgen -W "$1" -- "$word") ;;
     *:*:--install) compopt -o dirnames ;;
   esac
@@ -30,11 +31,11 @@ _sdhring_tools() {
     report) words='--json --csv --nodes --plan --help' ;;
     plan) words='new --nodes --rate --steps --to --help' ;;
     ringview) words='--svg --program --help' ;;
-    whatif) words='--also --works --kinds --dir --program --jobs --shard --sshlogin --parallel --anew --help' ;;
+    whatif) words='--also --works --kinds --dir --program --jobs --shard --sshlogin --parallel --all --frames --teller --anew --help' ;;
   esac
   mapfile -t COMPREPLY < <(compgen -W "$words" -- "$word")
   [ "${#COMPREPLY[@]}" -ne 0 ] || compopt -o default
 }
 
-complete -F _sdhring {,./}sdh{ring,watch,path,retime}
+complete -F _sdhring {,./}sdh{ring,watch,path,retime,whatif}
 complete -F _sdhring_tools {,./}tools/{rows,explain,report,plan,ringview,whatif}

@@ -17,16 +17,17 @@ LAST_MOMENT = 1_000_000_000
 
 @dataclass(frozen=True)
 class Case:
-    """One failure: the fibres that are cut, each by the position and side that it leaves. Or the works, which cut nothing."""
+    """One failure: the fibres that are cut, each by the position and side that it leaves. Or the works, which cut nothing; or a case by its steps."""
 
     name: str  # also of its files
-    kind: str  # fibre, span, node, pair or works
+    kind: str  # fibre, span, node, pair, works or told
     words: str
     fibres: tuple = ()
+    steps: tuple = ()  # of a case that sdhwhatif tells, which isn't mended
 
     @property
     def stages(self):
-        return WORKS_STAGES if self.kind == "works" else STAGES
+        return {"works": WORKS_STAGES, "told": STAGES[:2]}.get(self.kind, STAGES)
 
 
 def span_fibres(plan, span):
@@ -124,7 +125,9 @@ class Beforehand:
         return [commands(place) if is_command else self.condition_step(place, before.conditions[place]) for is_command, place in places]
 
     def script(self, case):
-        """Four settle steps: before, failed, mended to what was before, and after waiting; or before, during and after the works."""
+        """Four settle steps: before, failed, mended to what was before, and after waiting; or before, during and after the works. Of a case by its steps two."""
+        if case.kind == "told":
+            return [*self.texts(), "settle", *case.steps, "settle"]
         waited = ["settle", f"moment {self.later()}", "settle"]
         if case.kind == "works":
             also = [step.text for step in self.also]

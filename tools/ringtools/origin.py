@@ -11,6 +11,7 @@ from datetime import datetime, timezone
 from pathlib import Path
 
 LAUNCHER = Path(__file__).resolve().parents[2] / "sdhring"
+TELLER = LAUNCHER.with_name("sdhwhatif")
 VERSION = re.compile(r"(?P<version>\S+ \S+, sources [0-9a-f]+), (?P<proof>proved|not proved)\b")
 PROVED, NOT_PROVED, NOT_KNOWN = "proved", "not proved", "not known to be proved"
 
@@ -99,22 +100,22 @@ def is_launcher(words):
     return len(words) == 1 and (file := file_of(words[0])) is not None and file.read_bytes()[:2] == b"#!" and (file.parent / "crates.txt").is_file()
 
 
-def built(launcher, plan):
-    """What a launcher runs. It builds that first if need be, asked for the tables of a plan, which runs nothing."""
+def built(launcher, plan, word):
+    """What a launcher runs. It builds that first if need be, asked with a word that runs nothing."""
     program = launched(launcher)
     if program is None:
-        ended = subprocess.run([launcher, "check"], input=plan, stdout=subprocess.PIPE)
+        ended = subprocess.run([launcher, word], input=plan, stdout=subprocess.PIPE)
         program = launched(launcher)
     if program is None:
         raise CannotRun(f"{launcher} ended with status {ended.returncode}, and has no program")
     return program
 
 
-def find_program(words, plan=b""):
+def find_program(words, plan=b"", word="check"):
     """The program of these words: what a launcher runs, or the command itself. A copy of what this checkout's launcher runs is known too."""
     words = settled_words(words)
     if is_launcher(words):
-        return built(words[0], plan)
+        return built(words[0], plan, word)
     sum = sum_of_command(words)
     own = launched(str(LAUNCHER)) if len(words) == 1 and LAUNCHER.is_file() else None
     if own is not None and own.sum == sum:

@@ -154,7 +154,8 @@ class Manuals(unittest.TestCase):
             manual = (TOOLS.parent / "docs" / f"{tool}.1").read_text().replace("\\-", "-")
             options = set(re.findall(r"--[a-z]+", call(tool, "--help").stdout.decode())) - {"--help"}
             self.assertEqual(set(re.findall(r"^\.TP\n\.(?:BI|B) (--[a-z]+)", manual, re.M)), options)
-            self.assertEqual(set(re.findall(r"\[ (--[a-z]+)", manual)), options)
+            synopsis = manual[manual.index(".SH SYNOPSIS"):manual.index(".SH DESCRIPTION")]
+            self.assertEqual(set(re.findall(r"(?:\[|^\.B \S+) (--[a-z]+)", synopsis, re.M)), options)
 
 
 @unittest.skipUnless(BROWSER, "there is no browser")

@@ -40,9 +40,3 @@ step_more f old now i x y ho hn rest read is done = place_more f old now i x y h
 pub made_more : {X Y : Type 0} (f : ℕ → X → Y) (old now : List X) (ys : List Y) (i : ℕ) (x : X) (y : Y) → i < length old → i < length ys → drop i now ≡ drop i old → x ≡ get_or now i x → y ≡ f i x
     → take i ys ≡ map_from f 0 (take i old) → take (i + 1) (set ys i y) ≡ map_from f 0 (take (i + 1) old)
 made_more f old now ys i x y ho hy rest read is done = place_more f old ys i x y ho hy (is ∙ ap (f i) (read_here now old i x rest read)) done
-
--- one place more
-pub mapped_push : {X Y : Type 0} (f : ℕ → X → Y) (xs : List X) (i : ℕ) (x : X) → i < length xs → x ≡ get_or xs i x → map_from f 0 (take (i + 1) xs) ≡ map_from f 0 (take i xs) ++ f i x ∷ []
-mapped_push f xs i x h read =
-    let len : 0 + length (take i xs) ≡ i = omega (arith, length-take-le i xs) in
-    ap (map_from f 0) (take_more xs i x h) ∙ map_from-append f 0 (take i xs) (get_or xs i x ∷ []) ∙ ap (λ k. map_from f 0 (take i xs) ++ f k (get_or xs i x) ∷ []) len ∙ ap (λ z. map_from f 0 (take i xs) ++ f i z ∷ []) (sym read)

@@ -14,8 +14,9 @@ use Rattle.sdh_rounds.specs.Quiet.{enough_for}
 use Rattle.sdh_owed.specs.Healthy.{AllSettle}
 use Rattle.sdh_script.specs.Plans.{world_of, ran_of, MaySettle, ShowsHealth, RunsWell}
 use Rattle.sdh_promise.specs.Plans.{OwesAll}
-use Rattle.sdh_cli.specs.Words.{Ask, Run, Check, Drop, Big}
-use Rattle.sdh_cli.specs.Outcome.{TellsPlan, listing_of}
+use Rattle.sdh_cli.specs.Words.{Ask, Check, Big, listing_of}
+use Rattle.sdh_shell.specs.Reading.{TellsPlan}
+use Rattle.sdh_shell.specs.Calls.{HasRun}
 
 -- the plan of what is asked: that of the source's bytes, or the one of the number
 abbrev pub IsPlanFor : Ask → List ℕ → Planned → Type 0
@@ -26,13 +27,6 @@ IsPlanFor ask bytes plan = TellsPlan bytes plan
 abbrev pub Lists : Option Ask → List ℕ → Planned → Listing → Type 0
 Lists None bytes plan listing = ⊥
 Lists (Some ask) bytes plan listing = IsPlanFor ask bytes plan × (listing_of ask plan ≡ Some listing)
-
--- the script came to an end: it is done, or a settle step was unsettled, or a plant's call failed
-abbrev pub HasRun : Status → Type 0
-HasRun status.Ok = Unit {0}
-HasRun (status.Unsettled k) = Unit {0}
-HasRun status.PlantFault = Unit {0}
-HasRun how = ⊥
 
 -- The headline. What was written is what is listed of reports, and the last line; and the reports show for every port what it is
 -- owed by the restoration model, under the requests of the script's history.

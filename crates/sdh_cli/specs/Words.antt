@@ -1,10 +1,14 @@
--- What the words of a command line ask for. The words are this project's own.
-use Rattle.std.specs.Prelude.{ℕ, ◌-◌, ◌^◌, List, [], ◌∷◌, codes, map, Option, Some, None, option_map, if◌then◌else◌, String, string_bytes}
+-- What the words of a command line ask for, and what that takes of source, plant and text. The words are this project's own.
+use Rattle.std.specs.Prelude.{ℕ, ◌-◌, ◌^◌, List, [], ◌∷◌, codes, Option, Some, None, option_map, if◌then◌else◌}
 use Rattle.std.specs.Str.{bytes_eq}
-use Rattle.std.specs.declared.alloc.Global.{Global}
+use Rattle.std.specs.Io.KnownBytes.{IsAtEnd}
+use Rattle.sdh_circuits.specs.Provisioning.{at_port}
 use Rattle.sdh_circuits.specs.declared.End.{End}
 use Rattle.sdh_circuits.specs.declared.End.TheVariants.{A, B}
+use Rattle.sdh_plan.specs.Planned.{Planned, provisioning_of}
 use Rattle.sdh_plan.specs.Words.{numeral_in}
+use Rattle.sdh_report.specs.declared.listing.Listing.{Listing}
+use Rattle.sdh_report.specs.declared.listing.Listing.TheVariants as listing
 use Rattle.sdh_cli.specs.declared.words.Command.{Command}
 use Rattle.sdh_cli.specs.declared.words.Command.TheVariants as command
 
@@ -21,10 +25,6 @@ ask_of command.Run = Run
 ask_of command.Check = Check
 ask_of (command.Drop name end) = Drop name.now end
 ask_of (command.Big number) = Big number
-
--- the words of a command line, as bytes
-abbrev pub words_of : List (String Global) → List (List ℕ)
-words_of words = map string_bytes words
 
 -- one word
 abbrev pub asked_alone : List ℕ → Option Ask
@@ -49,3 +49,36 @@ asked (word ∷ []) = asked_alone word
 asked (word ∷ number ∷ []) = asked_with_number word number
 asked (word ∷ name ∷ letter ∷ []) = asked_with_port word name letter
 asked (word ∷ name ∷ letter ∷ more ∷ others) = None
+
+-- ---- what is asked for of source, plant and text
+
+-- what has to be known of a source: its bytes, or nothing where it isn't read
+abbrev pub told : Option Ask → Option (List ℕ) → Option (List ℕ)
+told None left = Some []
+told (Some (Big number)) left = Some []
+told (Some ask) left = left
+
+-- the source isn't read
+abbrev pub LeavesSource : Option Ask → Type 0
+LeavesSource None = Unit {0}
+LeavesSource (Some (Big number)) = Unit {0}
+LeavesSource (Some ask) = ⊥
+
+-- no fibre is made
+abbrev pub LeavesPlant : Option Ask → Type 0
+LeavesPlant None = Unit {0}
+LeavesPlant (Some Check) = Unit {0}
+LeavesPlant (Some ask) = ⊥
+
+-- a source that is read was read to its end
+abbrev pub HasRead : Option Ask → Option (List ℕ) → Type 0
+HasRead None left = Unit {0}
+HasRead (Some (Big number)) left = Unit {0}
+HasRead (Some ask) left = IsAtEnd left
+
+-- what is listed of each report; the port that is asked for is none where the plan has no circuit of its name
+abbrev pub listing_of : Ask → Planned → Option Listing
+listing_of Run plan = Some listing.Reports
+listing_of Check plan = None
+listing_of (Drop name end) plan = option_map (λ circuit. listing.Port (record { circuit = circuit; end = end })) (at_port (provisioning_of plan) name)
+listing_of (Big number) plan = Some listing.Counts

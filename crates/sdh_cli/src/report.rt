@@ -10,45 +10,23 @@ ghost use Rattle.sdh_report.specs.Statuses.{last_line};
 ghost use Rattle.sdh_tables.specs.Tables.{tables_of};
 ghost use Rattle.sdh_script.specs.Room.{MayList};
 ghost use Rattle.sdh_script.specs.Plans.{MaySettle};
-ghost use Rattle.sdh_cli.specs.Words.{Big, ask_of, words_of, asked};
-ghost use Rattle.sdh_cli.specs.Outcome.{IsRunOutcome, listing_of, OfPlan, OfBytes, IsOutcome, told, LeavesSource, LeavesPlant, HasRead, HasCause, IsShown};
+ghost use Rattle.sdh_shell.specs.Calls.{words_of};
+ghost use Rattle.sdh_shell.specs.Failing.{HasCause};
+ghost use Rattle.sdh_shell.specs.Writing.{IsShown};
+ghost use Rattle.sdh_cli.specs.Words.{Big, ask_of, asked, listing_of, told, LeavesSource, LeavesPlant, HasRead};
+ghost use Rattle.sdh_cli.specs.Outcome.{IsRunOutcome, OfPlan, OfBytes, IsOutcome};
 ghost use Rattle.sdh_cli.specs.Headline.{MayGo, MayBeDone};
 
 use crate::words::{Command, command_of};
 use sdh_circuits::PortId;
-use sdh_outside::{ReadAllError, Source, read_all};
-use sdh_plan::{Plan, PlanError, big_plan, read_plan};
+use sdh_outside::Source;
+use sdh_plan::{Plan, big_plan};
 use sdh_plant::Plant;
 use sdh_report::{LINE_MAX, Listing, Status, Text};
 use sdh_script::run_plan;
+use sdh_shell::{NoPlan, Report, ended, last_report, plan_in};
 use sdh_tables::table_text;
 use std::alloc::{AllocError, Global};
-
-/// What is to be written, and how the program ends then.
-#[derive(Drop)]
-pub struct Report {
-    pub status: Status,
-    pub text: Text,
-}
-
-// A text with its last line.
-fn ended(status: Status, mut text: Text) -> Report
-    requires room { 96 ≤ text.room }
-    ensures status { result.status ≡ status }
-    ensures text { result.text.bytes ≡ text.bytes ++ last_line result.status }
-{
-    status.has_short_line();
-    text.last_line(&status);
-    Report { status, text }
-}
-
-// The report of one line.
-fn last_report(alloc: Global, status: Status) -> Result<Report, AllocError>
-    ensures { IfOk result (λ report. (report.status ≡ status) × (report.text.bytes ≡ last_line status)) }
-{
-    let text = Text::try_new(alloc, LINE_MAX)?;
-    Ok(ended(status, text))
-}
 
 // The squelch tables of a plan.
 fn table_report(alloc: Global, plan: &Plan) -> Result<Report, AllocError>
@@ -145,19 +123,10 @@ fn read_report<R: Source, P: Plant>(
 {
     // Room for the line is taken first, so that a read that fails is always told.
     let line = Text::try_new(alloc, LINE_MAX)?;
-    let bytes = match read_all(alloc, source) {
-        Ok(bytes) => bytes,
-        Err(ReadAllError::Memory) => return Err(AllocError),
-        Err(ReadAllError::ReadFault) => return Ok(ended(Status::ReadFault, line)),
-        Err(ReadAllError::TooLong) => return Ok(ended(Status::TooLong, line)),
-    };
-    match read_plan(alloc, &bytes) {
+    match plan_in(alloc, source) {
         Ok(plan) => plan_report(alloc, command, plan, plant),
-        Err(PlanError::Memory) => Err(AllocError),
-        Err(PlanError::NotToml) => Ok(ended(Status::NotToml, line)),
-        Err(PlanError::BadPlan { reason, place }) => {
-            Ok(ended(Status::BadPlan { reason, place }, line))
-        }
+        Err(NoPlan::Memory) => Err(AllocError),
+        Err(NoPlan::Refused(how)) => Ok(ended(how, line)),
     }
 }
 

@@ -3,8 +3,11 @@ ghost use Rattle.std.specs.Prelude.{◌≡◌, ◌≢◌, ◌⊎◌, ◌≤◌, 
 ghost use Rattle.sdh_basics.specs.Causes.{Rose, IsCounted};
 ghost use Rattle.sdh_plant.specs.Fibres.{HasNoFibres};
 ghost use Rattle.sdh_report.specs.declared.status.Status.{Status};
-ghost use Rattle.sdh_cli.specs.Words.{words_of, asked};
-ghost use Rattle.sdh_cli.specs.Outcome.{told, LeavesSource, LeavesPlant, HasRead, Counts, CameTo, MayEnd, Writes};
+ghost use Rattle.sdh_shell.specs.Calls.{words_of};
+ghost use Rattle.sdh_shell.specs.Failing.{Counts, CameTo};
+ghost use Rattle.sdh_shell.specs.Writing.{Writes};
+ghost use Rattle.sdh_cli.specs.Words.{asked, told, LeavesSource, LeavesPlant, HasRead};
+ghost use Rattle.sdh_cli.specs.Outcome.{MayEnd};
 ghost use Rattle.sdh_cli.specs.Headline.{Delivers, GoesWell, EndsAsItRuns, Settles, StaysHealthy, MayBeDone};
 
 use crate::report::report_on;

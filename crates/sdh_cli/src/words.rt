@@ -1,6 +1,7 @@
 //! What the words of the command line ask for.
 ghost use Rattle.std.specs.Prelude.{◌≡◌, ◌≤◌, option_map, IfSome};
-ghost use Rattle.sdh_cli.specs.Words.{words_of, ask_of, asked_alone, asked_with_number, end_lettered, asked_with_port, asked};
+ghost use Rattle.sdh_shell.specs.Calls.{words_of};
+ghost use Rattle.sdh_cli.specs.Words.{ask_of, asked_alone, asked_with_number, end_lettered, asked_with_port, asked};
 
 use sdh_circuits::End;
 use sdh_plan::numeral_in;

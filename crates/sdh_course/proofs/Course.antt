@@ -20,7 +20,7 @@ use Rattle.sdh_laws.proofs.hearing.Staying.{left_stretch, left_stretches}
 use Rattle.sdh_laws.specs.Carrying.Laws.{IsRestored}
 use Rattle.sdh_laws.specs.Carrying.Windows.{Layout, layout_in, layout_of, size_of, HasCircuits}
 use Rattle.sdh_laws.proofs.carrying.Settles.{layout_stretches}
-use Rattle.sdh_laws.specs.Strangers.Laws.{NoPortEverMeetsAStranger}
+use Rattle.sdh_laws.specs.Strangers.Laws.{NoPortEverMeetsAStranger, NoPortMeetsAStrangerForLong}
 use Rattle.sdh_laws.specs.Restoring.Laws.{StretchesAreRestoredSoon}
 use Rattle.sdh_plan.specs.declared.step.Step.{Step}
 use Rattle.sdh_plan.specs.declared.step.Step.TheVariants as step
@@ -34,12 +34,15 @@ use Rattle.sdh_promise.specs.Changes as change
 use Rattle.sdh_promise.specs.Happened.{happened}
 use Rattle.sdh_promise.specs.Owed.{Ring, asked_in, IsOwed}
 use Rattle.sdh_owed.specs.Reports.{report_of}
-use Rattle.sdh_owed.specs.Scripts.{Refuses, Runs}
+use Rattle.sdh_scripts.specs.Scripts.{Refuses}
+use Rattle.sdh_scripts.proofs.Outcomes.{refused_ends}
+use Rattle.sdh_scripts.proofs.Reporting.{settles_by, reports_by, breaks_by}
+use Rattle.sdh_owed.specs.Steps.{after_step}
+use Rattle.sdh_owed.specs.Scripts.{Runs}
 use Rattle.sdh_owed.specs.Laws.{ring_by}
-use Rattle.sdh_owed.proofs.History.{refused_ends}
 use Rattle.sdh_owed.proofs.Ports.{owed_now}
 use Rattle.sdh_owed.proofs.Standing.{Stands, whole, stretch_to, changed_then, settled_then, stands_new}
-use Rattle.sdh_course.specs.Course.{stretch, IsLeftOff, WentThrough, HasSent, NoneEverMeetsAStranger, AllIsOwedSoon, HasCourse, CoursesAreTold}
+use Rattle.sdh_course.specs.Course.{stretch, IsLeftOff, WentThrough, HasSent, NoneEverMeetsAStranger, NoneMeetsAStrangerForLong, AllIsOwedSoon, HasCourse, CoursesAreTold}
 
 -- ---- stretches one behind the other
 
@@ -156,14 +159,14 @@ module _ (s : Settings) (ids : List ℕ) (circuits : Provisioning) (f : Fibres) 
   walk : (limit before : ℕ) (past : Past) (earlier : List Stretch) (changes : List Change) (steps : List Step) (w : World) (reports : List Report) (end : Status) (left : World)
       → Now past earlier changes w → AreSteps s.rate (length ids) (length circuits.circuits) past steps → Runs limit before steps w reports end left → GoesOn limit earlier (scenes changes steps) reports end left.fibres
   walk limit before past earlier changes [] w reports end left h each x = ends_here limit past earlier changes [] w reports end left.fibres h (ap (λ (v : World). v.fibres.sent) x.0) refl
-  walk limit before past earlier changes (step.Settle ∷ later) w reports end left h each (inl x) =
-      let there = settled_then s ids circuits f may past earlier changes w h x.0 limit x.2 in
-      subst (λ rs. GoesOn limit earlier (scenes changes (step.Settle ∷ later)) rs end left.fibres) (sym x.3)
-      (settled limit past earlier changes w h (scenes [] later) x.0 (before + 1) x.1 end left.fibres there.many (walk limit (before + 1) (after past step.Settle) _ [] later x.0 x.1 end left there.stands each.1 x.4))
+  walk limit before past earlier changes (step.Settle ∷ later) w reports end left h each (inl (told, mid, rest, ended, is, x)) =
+      let there = settled_then s ids circuits f may past earlier changes w h mid limit (settles_by adm after_step report_of w limit (before + 1) told mid ended) in
+      subst (λ rs. GoesOn limit earlier (scenes changes (step.Settle ∷ later)) rs end left.fibres) (sym (reports_by adm after_step report_of w limit (before + 1) told mid reports rest ended is))
+      (settled limit past earlier changes w h (scenes [] later) mid (before + 1) rest end left.fibres there.many (walk limit (before + 1) (after past step.Settle) _ [] later mid rest end left there.stands each.1 x))
   walk limit before past earlier changes (step.Settle ∷ later) w reports end left h each (inr (inl x)) =
       subst (λ rs. GoesOn limit earlier (scenes changes (step.Settle ∷ later)) rs end left.fibres) (sym x.1.0) (unsettled limit past earlier changes w h (scenes [] later) end left (before + 1) x.1.1 x.0)
   walk limit before past earlier changes (step.Settle ∷ later) w reports end left h each (inr (inr x)) =
-      subst (λ rs. GoesOn limit earlier (scenes changes (step.Settle ∷ later)) rs end left.fibres) (sym x.1.0) (broken_off limit past earlier changes w h (scenes [] later) end left.fibres x.1.1 x.0)
+      subst (λ rs. GoesOn limit earlier (scenes changes (step.Settle ∷ later)) rs end left.fibres) (sym x.1.0) (broken_off limit past earlier changes w h (scenes [] later) end left.fibres x.1.1 (breaks_by adm after_step report_of w limit left.fibres x.0))
   walk limit before past earlier changes (this ∷ later) w reports end left h each x =
       elim x [
         | inl goes ↦ walk limit before (after past this) earlier (changes ++ changes_of this) later _ reports end left (changed_then s ids circuits f may past earlier changes w h this refl each.0) each.1 goes
@@ -183,6 +186,10 @@ module _ (s : Settings) (ids : List ℕ) (circuits : Provisioning) (f : Fibres) 
     strangers : NoPortEverMeetsAStranger → NoneEverMeetsAStranger from ring ss
     strangers law free later is none t low = law s ids circuits f free may.ids_ok may.honest (happens_front free later from (subst (MayHappen from) is happens)) none form t low
 
+    no_strangers_for_long : NoPortMeetsAStrangerForLong → NoneMeetsAStrangerForLong from ring ss
+    no_strangers_for_long law earlier last free later is none t long low =
+        law s ids circuits f earlier last free may.ids_ok may.honest (happens_front (earlier ++ last ∷ free) later from (subst (MayHappen from) is happens)) none form t long low
+
     soon : StretchesAreRestoredSoon → AllIsOwedSoon from ring ss
     unfolding report_of
     soon law earlier later last is k long few =
@@ -198,14 +205,15 @@ module _ (s : Settings) (ids : List ℕ) (circuits : Provisioning) (f : Fibres) 
         let by = subst (λ (y : Layout). IsRestored (clocks_by y.circuits now) left requests) (sym same) restored in
         subst (λ (y : Layout). IsOwed (size_of y) requests (happened now) y.circuits (report_of 0 left.ring)) same (owed_now now left 0 requests (subst HasCircuits (sym same) form) by)
 
-pub courses_are_told : NoPortEverMeetsAStranger → StretchesAreRestoredSoon → CoursesAreTold
-courses_are_told strangers_law soon_law s ids circuits f may form limit past steps each reports end left x =
+pub courses_are_told : NoPortEverMeetsAStranger → NoPortMeetsAStrangerForLong → StretchesAreRestoredSoon → CoursesAreTold
+courses_are_told strangers_law long_law soon_law s ids circuits f may form limit past steps each reports end left x =
     let goes = walk s ids circuits f may limit 0 past [] [] steps (new_world s ids circuits f) reports end left (stands_new s ids circuits f may past) each x in
     record {
       stretches = goes.stretches;
       through = goes.through;
       sent = goes.sent;
       strangers = strangers s ids circuits f may form goes.stretches goes.happens strangers_law;
+      no_strangers_for_long = no_strangers_for_long s ids circuits f may form goes.stretches goes.happens long_law;
       soon = soon s ids circuits f may form goes.stretches goes.happens soon_law;
     }
 
@@ -226,5 +234,6 @@ none_ran w ring limit steps reports end left none is sent = record {
   through = subst (λ rs. WentThrough limit 0 (scenes [] steps) rs end []) (sym none) (none_through limit 0 (scenes [] steps) end is);
   sent = inl sent;
   strangers = λ free later front holds t low. (let zero = nothing_in_front free later front in absurd (omega arith));
+  no_strangers_for_long = λ earlier last free later front none t long low. none_last earlier last (free ++ later) _ (front ∙ append_assoc earlier (last ∷ free) later);
   soon = λ earlier later last front k long few. none_last earlier last later _ front;
 }

@@ -58,6 +58,13 @@ HasSent w ss end left = (left.sent ≡ (after_stretches ss w).fibres.sent) ⊎ (
 abbrev pub NoneEverMeetsAStranger : World → Ring → List Stretch → Type 0
 NoneEverMeetsAStranger w ring ss = (free later : List Stretch) → ss ≡ free ++ later → NoneHolds free → (t : ℕ) → t < rounds_in free → NoneMeetsAStranger (clocks_by ring.circuits free) (round (world_in free w t)).ring
 
+-- Behind a held controller too, from so many rounds on: those are counted from the changes before the settle step at which one was held
+-- last, at most 100 turns long. In a ring of n it takes n + 1 rounds more for each of n spans.
+abbrev pub NoneMeetsAStrangerForLong : World → Ring → List Stretch → Type 0
+NoneMeetsAStrangerForLong w ring ss = (earlier : List Stretch) (last : Stretch) (free later : List Stretch) → ss ≡ (earlier ++ last ∷ free) ++ later → NoneHolds free
+    → (t : ℕ) → 100 + ring.nodes * (ring.nodes + 1) ≤ t → t < last.rounds + rounds_in free
+    → (let now = earlier ++ last ∷ free in NoneMeetsAStranger (clocks_by ring.circuits now) (round (world_in now w (rounds_in earlier + t))).ring)
+
 -- ---- how soon they come
 
 -- the ring after these stretches shows every port with what it is owed, as a report would
@@ -78,6 +85,7 @@ pub record HasCourse (w : World) (ring : Ring) (limit : ℕ) (steps : List Step)
   pub through : WentThrough limit 0 (scenes [] steps) reports end stretches
   pub sent : HasSent w stretches end left
   pub strangers : NoneEverMeetsAStranger w ring stretches
+  pub no_strangers_for_long : NoneMeetsAStrangerForLong w ring stretches
   pub soon : AllIsOwedSoon w ring stretches
 
 abbrev pub CoursesAreTold : Type 0

@@ -15,10 +15,6 @@ use Rattle.sdh_frame.specs.AuLaws.{IsAu, IsOverhead, IsAuByte, WritingAllKeeps, 
 use Rattle.sdh_frame.proofs.PlaceProofs.{IsPointerByte, IsAt, place_in, field-overhead}
 use Rattle.sdh_frame.proofs.AuProofs.{au_byte, at_au, au_byte-kept, pointer_byte-here, length-with_au, au-with_au, au-with_au_other}
 
-pub with_aus-push : (n k : ℕ) (aus : List Au) (au : Au) (bytes : List ℕ) → with_aus n k (aus ++ au ∷ []) bytes ≡ with_au n (k + length aus) au (with_aus n k aus bytes)
-with_aus-push n k [] au bytes = ap (λ m. with_au n m au bytes) (omega arith)
-with_aus-push n k (x ∷ aus) au bytes = with_aus-push n (k + 1) aus au (with_au n k x bytes) ∙ ap (λ m. with_au n m au (with_aus n (k + 1) aus (with_au n k x bytes))) (omega arith)
-
 pub length-with_aus : (rate : Rate) (k : ℕ) (aus : List Au) (bytes : List ℕ) → length bytes ≡ size_of rate → length (with_aus (n_of rate) k aus bytes) ≡ size_of rate
 length-with_aus rate k [] bytes whole = whole
 length-with_aus rate k (au ∷ aus) bytes whole = length-with_aus rate (k + 1) aus (with_au (n_of rate) k au bytes) (length-with_au rate k au bytes whole)

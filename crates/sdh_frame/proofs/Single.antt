@@ -47,12 +47,6 @@ back : (rate : Rate) (au i : ℕ) → au ≤ n_of rate → 9 * n_of rate ≤ i %
 back Four au i high col = omega arith
 back Sixteen au i high col = omega arith
 
-inside_payload : (rate : Rate) (au j : ℕ) → 1 ≤ au → au ≤ n_of rate → j < 2349 → index_of (n_of rate) (payload_place (n_of rate) au j) < size_of rate
-inside_payload rate au j low high h = (payload_in rate au j low high h).within
-
-inside_pointer : (rate : Rate) (au j : ℕ) → 1 ≤ au → au ≤ n_of rate → j < 9 → index_of (n_of rate) (place_of_pointer (n_of rate) au j) < size_of rate
-inside_pointer rate au j low high h = (pointer_in rate au j low high h).within
-
 module _ (rate : Rate) (au j v : ℕ) (s : List ℕ) (whole : length s ≡ size_of rate) (low : 1 ≤ au) (high : au ≤ n_of rate) where
   pub set_payload : j < 2349 → set s (index_of (n_of rate) (payload_place (n_of rate) au j)) v ≡ with_payload (n_of rate) au (set (payload_of (n_of rate) au s) j v) s
   set_payload few =

@@ -1,5 +1,5 @@
 -- Payloads that are kept once they have been taken out of a frame.
-use Rattle.std.specs.Prelude.{◌≡◌, ◌+◌, ◌*◌, ◌-◌, ◌<◌, ◌≤◌, ◌⊎◌, ℕ, Bool, true, false, List, [], length, slice_index_or}
+use Rattle.std.specs.Prelude.{◌≡◌, ◌+◌, ◌*◌, ◌-◌, ◌<◌, ◌≤◌, ◌⊎◌, ℕ, Bool, true, false, List, [], length, replicate, slice_index_or}
 use Rattle.sdh_frame.specs.Sizes.{Frame}
 use Rattle.sdh_terms.specs.Rates.{n_of}
 use Rattle.sdh_frame.specs.Aus.{payload_of}
@@ -25,6 +25,10 @@ pub record Held : Type 0 where
   -- by the number of the AU-4, less one: whether its payload stands here, and the bytes
   pub here : List Bool
   pub payloads : List (List ℕ)
+
+-- before the first frame: no payload stands here, and no bytes
+abbrev pub none_taken : Held
+none_taken = record { half = 0; here = replicate 16 false; payloads = replicate 16 [] }
 
 -- whether the payload of an AU-4 stands here
 abbrev pub has : Held → ℕ → Bool

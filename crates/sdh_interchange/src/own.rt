@@ -1,5 +1,5 @@
 //! Payloads that no frame brought.
-ghost use Rattle.std.specs.Prelude.{◌≡◌, ◌≢◌, ℕ, ◌+◌, ◌-◌, ◌<◌, ◌≤◌, [], length, slice_index, slice_index_or};
+ghost use Rattle.std.specs.Prelude.{◌≡◌, ◌≢◌, ℕ, ◌+◌, ◌-◌, ◌<◌, ◌≤◌, [], length, replicate, slice_index, slice_index_or};
 ghost use Rattle.sdh_interchange.specs.Tables.{cell};
 
 use std::fmt;
@@ -33,7 +33,7 @@ impl<'a> fmt::Debug for Payloads<'a> {
 }
 
 fn zeros<'a>() -> &'a [u8]
-    ensures { length result.now ≡ 2349 }
+    ensures { result.now ≡ replicate 2349 0 }
 {
     &ZEROS
 }
@@ -41,7 +41,8 @@ fn zeros<'a>() -> &'a [u8]
 impl<'a> Payloads<'a> {
     /// Zeros for all.
     pub fn none() -> Payloads<'a>
-        ensures { length result ≡ 16 }
+        ensures zeros { result ≡ replicate 16 (replicate 2349 0) }
+        ensures many { length result ≡ 16 }
     {
         let pieces = [zeros(); 16];
         Payloads { pieces }

@@ -1,9 +1,9 @@
 //! Payloads that are taken out of a frame half of the AU-4s at a time, when one of them is asked for.
-ghost use Rattle.std.specs.Prelude.{◌≡◌, ℕ, ◌+◌, ◌*◌, ◌-◌, ◌<◌, ◌≤◌, ◌⊎◌, true, false, IfOk, [], length, slice_index_or};
+ghost use Rattle.std.specs.Prelude.{◌≡◌, ℕ, ◌+◌, ◌*◌, ◌-◌, ◌<◌, ◌≤◌, ◌⊎◌, true, false, IfOk, [], length, replicate, slice_index_or};
 ghost use Rattle.sdh_frame.specs.Sizes.{Frame};
 ghost use Rattle.sdh_terms.specs.Rates.{n_of};
 ghost use Rattle.sdh_frame.specs.Aus.{payload_of};
-ghost use Rattle.sdh_interchange.specs.Taking.{HaveRoom, KeepsOthers, IsOf, has};
+ghost use Rattle.sdh_interchange.specs.Taking.{HaveRoom, KeepsOthers, none_taken, IsOf, has};
 
 use crate::payloads::take;
 use sdh_frame::FrameBuf;
@@ -43,7 +43,7 @@ impl fmt::Debug for Taken {
 
 // Cells for sixteen payloads.
 fn sixteen_cells(alloc: Global) -> Result<Vec<Cells>, AllocError>
-    ensures { IfOk result (λ v. length v.items ≡ 16) }
+    ensures { IfOk result (λ v. v.items ≡ replicate 16 []) }
 {
     let mut cells = Vec::with_capacity(alloc, 16)?;
     'cells: for _cell in 0..16usize {
@@ -79,7 +79,9 @@ fn mark(here: &mut [bool], from: usize, count: usize)
 
 impl Taken {
     /// Nothing has been taken. All its memory is taken here, and is enough for each rate.
-    pub fn try_new(alloc: Global) -> Result<Taken, AllocError> {
+    pub fn try_new(alloc: Global) -> Result<Taken, AllocError>
+        ensures { IfOk result (λ taken. taken ≡ none_taken) }
+    {
         Ok(Taken {
             half: 0,
             here: [false; 16],

@@ -2,7 +2,7 @@
 -- places them in the multiplex section overhead). K1 is a code of four bits and a destination of four bits; K2 is a
 -- source of four bits, one bit for the path and three bits for the mark. The tables of codes and marks are this
 -- project's own, after ITU-T G.841.
-use Rattle.std.specs.Prelude.{ℕ, ◌≡◌, ◌≢◌, ◌+◌, ◌*◌, ◌/◌, ◌%◌, ◌≤◌, ◌⊎◌, Option, Some, option_and_then, List, [], ◌∷◌, find, ◌==◌, if◌then◌else◌, Bool, true, false}
+use Rattle.std.specs.Prelude.{ℕ, ◌≡◌, ◌≢◌, ◌+◌, ◌*◌, ◌/◌, ◌%◌, ◌≤◌, ◌⊎◌, Option, Some, option_and_then, List, [], ◌∷◌, find, ◌==◌, if◌then◌else◌}
 use Rattle.sdh_terms.specs.declared.Code.{Code}
 use Rattle.sdh_terms.specs.Requests.{code_number}
 use Rattle.sdh_terms.specs.declared.Code.TheVariants.{Nr, Rr, Wtr, Ms, Sd, Sf, Fs}
@@ -73,14 +73,6 @@ decoded k1 k2 =
 -- the tables don't list the code, or they don't list the mark
 abbrev pub IsUnlisted : ℕ → ℕ → Type 0
 IsUnlisted k1 k2 = ((c : Code) → code_number c ≢ k1 / 16) ⊎ ((m : Mark) → mark_number m ≢ k2 % 8)
-
--- a word that says that nothing comes
-abbrev pub is_ms_ais : Mark → Bool
-is_ms_ais MsAis = true
-is_ms_ais Idle = false
-is_ms_ais Bridged = false
-is_ms_ais BridgedSwitched = false
-is_ms_ais Rdi = false
 
 -- both identifiers of a word have four bits, so that two bytes can spell it
 pub record IsSpellable (k : K) : Type 0 where

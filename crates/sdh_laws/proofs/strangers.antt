@@ -1,10 +1,13 @@
 pub mod Rules
 pub mod Asking
 pub mod Content
+pub mod Lags
 pub mod Nodes
 pub mod Arrivals
 pub mod Worlds
 pub mod Vouched
+pub mod Keeping
+pub mod Clearing
 pub mod Runs
 pub mod Slipping
 pub mod Arc

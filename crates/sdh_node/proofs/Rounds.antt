@@ -2,16 +2,12 @@
 use Rattle.std.proofs.Common.{◌≡◌, ℕ, ◌+◌, Bool, true, false, List, [], ◌∷◌, refl, ap, ◌∙◌}
 use Rattle.std.specs.Prelude.{IsSome, find, ◌==◌, ◌&&◌}
 use Rattle.sdh_basics.specs.Indexed.{map_from}
-use Rattle.sdh_ringmap.specs.declared.Side.{Side}
-use Rattle.sdh_ringmap.specs.declared.Side.TheVariants.{West, East}
-use Rattle.sdh_request.specs.declared.Command.{Command}
-use Rattle.sdh_plant.specs.Fibres.{Arrival}
 use Rattle.sdh_circuits.specs.declared.PortId.{PortId}
-use Rattle.sdh_node.specs.Receiving.{after_overhead, after_intake, arrived_on, commanded_by}
+use Rattle.sdh_node.specs.Receiving.{after_overhead, after_intake}
 use Rattle.sdh_circuits.specs.Provisioned.{same_end}
 use Rattle.sdh_terminal.specs.Tributaries.{Tributary, is_port, port_of, HasPort, fed, all_fed}
-use Rattle.sdh_node.specs.Crossing.{Cross, after_intakes, after_decision, delivered_to, all_delivered}
-use Rattle.sdh_node.specs.Node.{Node, at_receiving, moment_of, is_held, crossing, ports_after, after_crossing, with_calm, node_round, GoesOn}
+use Rattle.sdh_node.specs.Crossing.{Cross, after_decision, delivered_to, all_delivered}
+use Rattle.sdh_node.specs.Node.{Node, crossing, ports_after, after_crossing, with_calm, node_round, GoesOn}
 
 one_more : (id : PortId) (u t : Tributary) (us ts : List Tributary) → u.port ≡ t.port → (b : Bool) → is_port id t ≡ b → (IsSome (find (is_port id) ts) → IsSome (find (is_port id) us))
     → IsSome (find (is_port id) (t ∷ ts)) → IsSome (find (is_port id) (u ∷ us))
@@ -34,11 +30,6 @@ fed_has : (id : PortId) (ports : List Tributary) → HasPort ports id → HasPor
 unfolding all_fed port_of
 fed_has id ports h = has_mapped id (λ i t. fed t) 0 ports (λ k t. refl) h
 
--- the cross-connect of a round is what the code makes of its own
-pub turn_is : (now : ℕ) (n : Node) (x : Cross) → crossing now (record n { ids = x.ids; at = x.at; circuits = x.circuits; state = x.state; west = x.west; east = x.east }) ≡ after_decision (is_held n) (after_intakes n.settings.threshold now x)
-unfolding crossing after_intakes
-turn_is now n x = refl
-
 pub round_goes_on : (now : ℕ) (n : Node) → GoesOn now n (node_round now n).0
 unfolding node_round with_calm after_crossing crossing ports_after after_decision after_intake after_overhead
 round_goes_on now n = record {
@@ -50,11 +41,3 @@ round_goes_on now n = record {
 }
 
 -- ---- between rounds
-
-pub moment-arrived : (d : Side) (a : Arrival) (n : Node) → moment_of (at_receiving d (arrived_on a) n) ≡ moment_of n
-moment-arrived West a n = refl
-moment-arrived East a n = refl
-
-pub moment-commanded : (d : Side) (c : Command) (n : Node) → moment_of (at_receiving d (commanded_by c) n) ≡ moment_of n
-moment-commanded West c n = refl
-moment-commanded East c n = refl

@@ -67,10 +67,10 @@ impl Adm {
         Ok(Adm {
             settings,
             rounds: 0,
-            cross: CrossConnect::try_new(alloc, settings, map, circuits, at)?,
             ports: Tributaries::try_new(alloc, circuits, at)?,
             west_out: Sender::try_new(alloc, settings.rate, west)?,
             east_out: Sender::try_new(alloc, settings.rate, east)?,
+            cross: CrossConnect::try_new(alloc, settings, map, circuits, at)?,
             held: 0,
             calm: false,
         })
@@ -132,6 +132,8 @@ impl Adm {
         ensures node { self.new ≡ at_receiving side (arrived_on (arrived_in arrived inbox.old.landed)) self.old }
         ensures moment { moment_of self.new ≡ moment_of self.old }
         ensures rate { inbox.new.rate ≡ inbox.old.rate }
+        ensures dark { arrived ≡ Arrived.Dark → inbox.new ≡ inbox.old }
+        ensures taken { arrived ≡ Arrived.Frame → inbox.new.landed ≡ None }
     {
         self.cross.exchange(side, arrived, inbox);
     }

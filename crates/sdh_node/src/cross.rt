@@ -123,6 +123,8 @@ impl CrossConnect {
         ensures cross { self.new ≡ record (at_side side (arrived_on (arrived_in arrived inbox.old.landed)) self.old) { west_in = self.new.west_in; east_in = self.new.east_in } }
         ensures moment { self.new.west.local.moment ≡ self.old.west.local.moment }
         ensures rate { inbox.new.rate ≡ inbox.old.rate }
+        ensures dark { arrived ≡ Arrived.Dark → inbox.new ≡ inbox.old }
+        ensures taken { arrived ≡ Arrived.Frame → inbox.new.landed ≡ None }
     {
         match side {
             Side::West => self.west.exchange(arrived, inbox, &mut self.west_in),

@@ -2,6 +2,7 @@
 ghost use Rattle.std.specs.Prelude.{◌≡◌, ◌≢◌, ◌&&◌, ◌+◌, ◌*◌, ◌-◌, ◌<◌, ◌≤◌, None, Some, IfSome, IfOk, length, slice_index_or};
 ghost use Rattle.std.specs.Option.{is_some};
 ghost use Rattle.sdh_terms.specs.Rates.{n_of};
+ghost use Rattle.sdh_overhead.specs.Landing.{emptied};
 ghost use Rattle.sdh_overhead.specs.Sections.{holding};
 ghost use Rattle.sdh_kbytes.specs.KBytes.{IsSpellable};
 ghost use Rattle.sdh_nodestate.specs.Filtering.{hears};
@@ -70,7 +71,7 @@ impl Receiver {
     }
 
     /// Keeps what arrived for the next round as `receive` does, and takes what landed in exchange for the buffer that was taken in
-    /// before, so that few buffers go round.
+    /// before, so that few buffers go round. Where no frame arrived, nothing is exchanged.
     pub fn exchange(&mut self, arrived: Arrived, inbox: &mut Landed, intake: &mut Intake)
         requires rate { inbox.old.rate ≡ self.old.section.rate }
         requires here { arrived ≡ Arrived.Frame → inbox.old.landed ≢ None }
@@ -78,6 +79,8 @@ impl Receiver {
         ensures side { self.new ≡ arrived_on (arrived_in arrived inbox.old.landed) self.old }
         ensures local { self.new.local ≡ self.old.local }
         ensures rate { inbox.new.rate ≡ inbox.old.rate }
+        ensures dark { arrived ≡ Arrived.Dark → (inbox.new ≡ inbox.old) × (intake.new ≡ intake.old) }
+        ensures back { arrived ≡ Arrived.Frame → inbox.new ≡ emptied inbox.old.rate intake.old.frame.bytes }
         ensures intake { intake.new ≡ record intake.old { frame = intake.new.frame } }
         ensures intake_rate { intake.new.frame.rate ≡ intake.old.frame.rate }
     {

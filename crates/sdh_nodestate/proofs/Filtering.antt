@@ -1,5 +1,5 @@
 -- A word that is heard is the last one that came.
-use Rattle.std.proofs.Common.{◌≡◌, Bool, true, false, Option, Some, None, ap}
+use Rattle.std.proofs.Common.{◌≡◌, Bool, true, false, Option, Some, None}
 use Rattle.std.specs.Prelude.{◌&&◌, if◌then◌else◌}
 use Rattle.sdh_kbytes.specs.declared.K.{K}
 use Rattle.sdh_kbytes.specs.Same.{agrees}
@@ -17,7 +17,3 @@ last_of (Some a) (Some b) (Some c) k e = first (agrees a b && agrees a c) a k e
 
 pub heard_last : (b : Brought) (k : K) → hears b ≡ Some k → b.last ≡ Some k
 heard_last b k e = last_of b.last b.second b.third k e
-
--- where no word came none is heard
-pub none_heard : (b : Brought) → b.last ≡ None → hears b ≡ None
-none_heard b e = ap (λ x. heard_of x b.second b.third) e

@@ -29,11 +29,3 @@ west_chain n at far = option_map (λ f. chain_between n at f) far
 -- the chain of a node that switches east: the far end, then eastwards up to the node
 abbrev pub east_chain : ℕ → Pos → Option Pos → Option Chain
 east_chain n at far = option_map (λ f. chain_between n f at) far
-
--- the chain of a node in a state: there is one exactly where there is a far end
-abbrev pub chain_of : ℕ → Pos → NodeState → Option Chain
-chain_of n at (state.SwitchWest far) = west_chain n at far
-chain_of n at (state.SwitchEast far) = east_chain n at far
-chain_of n at (state.Idle x) = None
-chain_of n at (state.PassThrough x) = None
-chain_of n at (state.Isolated x) = None

@@ -7,7 +7,7 @@ use borrow.Rule.Slice.PartMut.{put_mid}
 use Rattle.sdh_frame.specs.Sizes.{size_of}
 use Rattle.sdh_terms.specs.Rates.{n_of}
 use Rattle.sdh_frame.specs.Lending.{with_row}
-use Rattle.sdh_overhead.specs.Sections.{SectionKept, holding, parities_of, clear_frame, line_frame, next_of}
+use Rattle.sdh_overhead.specs.Sections.{SectionKept, holding, parities_of, clear_frame, line_frame, next_of, MayWrite}
 use Rattle.sdh_overhead.specs.Rows.{clear_row, line_row, HasSent}
 use Rattle.sdh_overhead.proofs.Nine.{SentTo, none-sent, sent-next, sent-last, all-sent, all-kept, next-row, row-within, drop-more}
 
@@ -59,7 +59,7 @@ module _ (first section after : SectionKept) (k1 k2 row : ℕ) (target start now
     (bytes : part ≡ line_row (n_of section.rate) section.last k1 k2 ((row - 1) * (270 * n_of section.rate)) (slice_range mid ((row - 1) * (270 * n_of first.rate)) (row * (270 * n_of first.rate))))
     (len : length part ≡ 270 * n_of first.rate)
     (goes : (f : SectionKept) (clear line : List ℕ) → HasSent f clear line section → HasSent f (clear ++ clear_row (n_of section.rate) section.last k1 k2 ((row - 1) * (270 * n_of section.rate)) (slice_range mid ((row - 1) * (270 * n_of first.rate)) (row * (270 * n_of first.rate)))) (line ++ part) after)
-    (rate : after.rate ≡ section.rate) (next : row < 9 → next_of after.under_way ≡ row + 1)
+    (rate : after.rate ≡ section.rate) (next : row < 9 → next_of after.under_way ≡ row + 1) (way : MayWrite after.under_way)
     (is : new ≡ (with_row (record { rate = first.rate; bytes = mid }) row part).bytes) where
   -- where the row ends
   end-at : (row + 1 - 1) * (270 * n_of first.rate) ≡ (row - 1) * (270 * n_of first.rate) + 270 * n_of first.rate
@@ -122,16 +122,16 @@ module _ (first section after : SectionKept) (k1 k2 row : ℕ) (target start now
             (sent-next first section after k1 k2 row a w target mixed part size some few refl refl so.sent len
             (bytes ∙ ap (line_row (n_of section.rate) section.last k1 k2 ((row - 1) * (270 * n_of section.rate))) row-is)
             (λ f clear line h. subst (λ l. HasSent f (clear ++ clear_row (n_of section.rate) section.last k1 k2 ((row - 1) * (270 * n_of section.rate)) l) (line ++ part) after) row-is (goes f clear line h))
-            rate next);
+            rate next way);
         rest = new-rest;
         long = ap length new-is ∙ middle-long a w mid part (omega (arith, room)) len ∙ long;
       }
 
 -- what a section of such a frame is before the next row
 pub built-last : (first section : SectionKept) (k1 k2 row : ℕ) (target start now : List ℕ) → length target ≡ size_of first.rate → 1 ≤ row → row < 10 → BuiltTo first k1 k2 target start row section now
-    → (section.last ≡ first.last) × ((section.rate ≡ first.rate) × (next_of section.under_way ≡ row))
+    → (section.last ≡ first.last) × ((section.rate ≡ first.rate) × ((next_of section.under_way ≡ row) × MayWrite section.under_way))
 built-last first section k1 k2 row target start now size some few so =
-    (sent-last first section k1 k2 row target (take ((row - 1) * (270 * n_of first.rate)) now ++ drop ((row - 1) * (270 * n_of first.rate)) target) size some few so.sent, (so.sent.rate, so.sent.next few))
+    (sent-last first section k1 k2 row target (take ((row - 1) * (270 * n_of first.rate)) now ++ drop ((row - 1) * (270 * n_of first.rate)) target) size some few so.sent, (so.sent.rate, (so.sent.next few, so.sent.way)))
 
 -- all rows were written
 module _ (first section : SectionKept) (k1 k2 : ℕ) (target start now : List ℕ) (size : length target ≡ size_of first.rate) (so : BuiltTo first k1 k2 target start 10 section now) where

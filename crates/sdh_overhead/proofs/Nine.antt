@@ -17,7 +17,7 @@ use Rattle.sdh_terms.specs.Rates.{n_of}
 use Rattle.sdh_parity.specs.Scrambling.{scrambled_byte, scrambled}
 use Rattle.sdh_parity.specs.Pieces.{scrambled_from}
 use Rattle.sdh_overhead.specs.Overhead.{byte_at, with_overhead}
-use Rattle.sdh_overhead.specs.Sections.{Parities, SectionKept, holding, parities_of, added_after, clear_frame, line_frame, is_framed, opened, next_of}
+use Rattle.sdh_overhead.specs.Sections.{Parities, SectionKept, holding, parities_of, added_after, clear_frame, line_frame, is_framed, opened, next_of, MayWrite, MayRead}
 use Rattle.sdh_overhead.specs.Rows.{clear_row, line_row, ArePassed, HasSent, AreRead, opened_row}
 use Rattle.sdh_parity.proofs.Scrambled.{length-scrambled}
 use Rattle.sdh_overhead.proofs.Passing.{rate_some}
@@ -62,6 +62,7 @@ row-within first row few = let h = up-to row (270 * n_of first.rate) few in omeg
 pub record SentTo (first : SectionKept) (k1 k2 : ℕ) (old : List ℕ) (row : ℕ) (section : SectionKept) (now : List ℕ) : Type 0 where
   pub rate : section.rate ≡ first.rate
   pub next : row < 10 → next_of section.under_way ≡ row
+  pub way : MayWrite section.under_way
   pub sent : HasSent first (clear_frame (n_of first.rate) first.last k1 k2 (take ((row - 1) * (270 * n_of first.rate)) old)) (line_frame (n_of first.rate) first.last k1 k2 (take ((row - 1) * (270 * n_of first.rate)) old)) section
   pub done : take ((row - 1) * (270 * n_of first.rate)) now ≡ line_frame (n_of first.rate) first.last k1 k2 (take ((row - 1) * (270 * n_of first.rate)) old)
   pub rest : drop ((row - 1) * (270 * n_of first.rate)) now ≡ drop ((row - 1) * (270 * n_of first.rate)) old
@@ -85,6 +86,7 @@ none-sent first k1 k2 old fresh long =
     let some = rate_some first.rate in record {
       rate = refl;
       next = λ h. ap next_of fresh;
+      way = subst MayWrite (sym fresh) tt;
       sent = record {
         rate = refl;
         fresh = fresh;
@@ -109,7 +111,7 @@ module _ (first section after : SectionKept) (k1 k2 row a k : ℕ) (old now part
     (at : a ≡ (row - 1) * (270 * n_of first.rate)) (many : k ≡ 270 * n_of first.rate) (so : SentTo first k1 k2 old row section now) (len : length part ≡ k)
     (bytes : part ≡ line_row (n_of section.rate) section.last k1 k2 ((row - 1) * (270 * n_of section.rate)) (take k (drop a now)))
     (goes : (f : SectionKept) (clear line : List ℕ) → HasSent f clear line section → HasSent f (clear ++ clear_row (n_of section.rate) section.last k1 k2 ((row - 1) * (270 * n_of section.rate)) (take k (drop a now))) (line ++ part) after)
-    (rate : after.rate ≡ section.rate) (next : row < 9 → next_of after.under_way ≡ row + 1) where
+    (rate : after.rate ≡ section.rate) (next : row < 9 → next_of after.under_way ≡ row + 1) (way : MayWrite after.under_way) where
   within : (row - 1) * (270 * n_of first.rate) + 270 * n_of first.rate ≤ size_of first.rate
   within = row-within first row few
 
@@ -161,6 +163,7 @@ module _ (first section after : SectionKept) (k1 k2 row a k : ℕ) (old now part
       let room : a + k ≤ length now = omega (arith, within, at, many, so.long) in record {
         rate = rate ∙ so.rate;
         next = λ h. next (omega arith);
+        way = way;
         sent = subst (λ l. HasSent first (clear_frame n first.last k1 k2 (take ((row + 1 - 1) * (270 * n)) old)) l after) line-up
             (subst (λ l. HasSent first l (line_frame n first.last k1 k2 (take ((row - 1) * (270 * n)) old) ++ part) after) clear-up (goes first _ _ so.sent));
         done = take-put_mid a k now part ((row + 1 - 1) * (270 * n)) (end ∙ ap (λ m. a + m) (sym len)) (omega arith) ∙ ap (λ m. take m now ++ part) at ∙ ap (λ l. l ++ part) so.done ∙ line-up;
@@ -194,6 +197,7 @@ pub record ReadTo (first : SectionKept) (old : List ℕ) (row : ℕ) (section : 
   pub rate : section.rate ≡ first.rate
   pub last : section.last ≡ first.last
   pub next : next_of section.under_way ≡ row
+  pub way : MayRead section.under_way
   pub read : AreRead (n_of first.rate) first.last (take ((row - 1) * (270 * n_of first.rate)) old) section.under_way
   pub done : take ((row - 1) * (270 * n_of first.rate)) now ≡ (if is_framed (n_of first.rate) old then scrambled (9 * n_of first.rate) (take ((row - 1) * (270 * n_of first.rate)) old) else take ((row - 1) * (270 * n_of first.rate)) old)
   pub rest : drop ((row - 1) * (270 * n_of first.rate)) now ≡ drop ((row - 1) * (270 * n_of first.rate)) old
@@ -216,6 +220,7 @@ none-read first old fresh long =
       rate = refl;
       last = refl;
       next = ap next_of fresh;
+      way = subst MayRead (sym fresh) tt;
       read = subst (AreRead n first.last (take ((1 - 1) * (270 * n)) old)) (sym fresh) start;
       done = start ∙ sym (ap (λ l. if is_framed n old then scrambled (9 * n) l else l) start ∙ neither (is_framed n old) n);
       rest = refl;
@@ -226,7 +231,7 @@ module _ (first section after : SectionKept) (row a k : ℕ) (old now part : Lis
     (at : a ≡ (row - 1) * (270 * n_of first.rate)) (many : k ≡ 270 * n_of first.rate) (so : ReadTo first old row section now) (len : length part ≡ k)
     (bytes : (line : List ℕ) → AreRead (n_of section.rate) section.last line section.under_way → part ≡ opened_row (n_of section.rate) line (take k (drop a now)))
     (goes : (line : List ℕ) → AreRead (n_of section.rate) section.last line section.under_way → AreRead (n_of section.rate) section.last (line ++ take k (drop a now)) after.under_way)
-    (rate : after.rate ≡ section.rate) (last : after.last ≡ section.last) (next : next_of after.under_way ≡ row + 1) where
+    (rate : after.rate ≡ section.rate) (last : after.last ≡ section.last) (next : next_of after.under_way ≡ row + 1) (way : MayRead after.under_way) where
   read-row-was : take k (drop a now) ≡ take (270 * n_of first.rate) (drop ((row - 1) * (270 * n_of first.rate)) old)
   read-row-was = ap (λ m. take m (drop a now)) many ∙ ap (λ m. take (270 * n_of first.rate) (drop m now)) at ∙ ap (take (270 * n_of first.rate)) so.rest
 
@@ -265,6 +270,7 @@ module _ (first section after : SectionKept) (row a k : ℕ) (old now part : Lis
         rate = rate ∙ so.rate;
         last = last ∙ so.last;
         next = next;
+        way = way;
         read = subst (λ l. AreRead n first.last l after.under_way) read-up
             (subst (λ (l : Option Parities). AreRead n l (xs ++ ys) after.under_way) so.last (subst (λ (r : Rate). AreRead (n_of r) section.last (xs ++ ys) after.under_way) so.rate (goes xs was)));
         done = take-put_mid a k now part ((row + 1 - 1) * (270 * n)) (end ∙ ap (λ m. a + m) (sym len)) (omega arith) ∙ ap (λ m. take m now ++ part) at ∙ ap (λ l. l ++ part) so.done

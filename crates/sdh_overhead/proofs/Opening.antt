@@ -59,7 +59,7 @@ landed-is n true clear bytes e = (refl, same_Some _ _ e)
 landed-is n false clear bytes e = absurd (none-some bytes e)
 
 -- the frame that is given away is the descrambled one
-pub given-is : (frame : Frame) (here : Bool) (kept : LandedFrame) (bytes : List ℕ) → record { rate = frame.rate; landed = landed_of (n_of frame.rate) here frame.bytes } ≡ kept → kept.landed ≡ Some bytes
+pub given-is : (frame : Frame) (here : Bool) (kept : LandedFrame) (bytes : List ℕ) → record { rate = frame.rate; landed = landed_of (n_of frame.rate) here frame.bytes; buffer = frame.bytes } ≡ kept → kept.landed ≡ Some bytes
     → frame ≡ record { rate = kept.rate; bytes = scrambled (9 * n_of kept.rate) bytes }
 given-is frame here kept bytes view e =
     let n = n_of frame.rate in

@@ -20,7 +20,7 @@ use Rattle.sdh_parity.specs.Pieces.{Position, Running, after_bytes, scrambled_fr
 use Rattle.sdh_parity.proofs.Cutting.{in-pieces}
 use Rattle.sdh_parity.proofs.Running.{sums-are}
 use Rattle.sdh_basics.specs.Parity.{bip8}
-use Rattle.sdh_overhead.specs.Sections.{Parities, UnderWay, SectionKept, placed_after, added_after, parities_of, under_way_of, next_of}
+use Rattle.sdh_overhead.specs.Sections.{Parities, UnderWay, SectionKept, placed_after, added_after, parities_of, under_way_of, next_of, MayWrite, MayRead}
 use Rattle.sdh_overhead.specs.Rows.{clear_row, skipped, HavePassed, ArePassed, IsPlaced, HasSent}
 use Rattle.sdh_overhead.proofs.Heads.{byte_at-row}
 
@@ -157,6 +157,21 @@ some-under-way u h = let some : (u.rows == 0) ≡ false = ne_eqb _ _ (λ (e : u.
 
 pub none-under-way : (u : UnderWay) → u.rows ≡ 0 → under_way_of u ≡ None
 none-under-way u e = let none : (u.rows == 0) ≡ true = eq-eqb _ _ e in rw none refl
+
+-- what they were is told of them, also before the first
+pub may-write : (u : UnderWay) → u.written ≡ true → MayWrite (under_way_of u)
+may-write u e =
+    elim (cases_eq u.rows 0) [
+      | inl none ↦ subst MayWrite (sym (none-under-way u none)) tt
+      | inr some ↦ subst MayWrite (sym (some-under-way u (omega arith))) e
+    ]
+
+pub may-read : (u : UnderWay) → u.written ≡ false → MayRead (under_way_of u)
+may-read u e =
+    elim (cases_eq u.rows 0) [
+      | inl none ↦ subst MayRead (sym (none-under-way u none)) tt
+      | inr some ↦ subst MayRead (sym (some-under-way u (omega arith))) e
+    ]
 
 pub section-none : (n : ℕ) → section_bytes n [] ≡ []
 unfolding section_bytes

@@ -4,15 +4,21 @@ use Rattle.sdh_terms.specs.declared.Rate.{Rate}
 use Rattle.sdh_parity.specs.Scrambling.{scrambled}
 use Rattle.sdh_overhead.specs.Sections.{parities_of}
 
--- the rate of the frames that there is room for, and the bytes of the one that landed last, as they arrived
+-- the rate of the frames that there is room for, the bytes of the one that landed last, as they arrived, and those that the
+-- buffer holds: where a frame landed they are its descrambled ones
 pub record LandedFrame : Type 0 where
   pub rate : Rate
   pub landed : Option (List ℕ)
+  pub buffer : List ℕ
 
 -- the bytes that arrived, of which the buffer has the descrambled ones: none where no frame is there
 abbrev pub landed_of : ℕ → Bool → List ℕ → Option (List ℕ)
 landed_of n true clear = Some (scrambled (9 * n) clear)
 landed_of n false clear = None
+
+-- nothing has landed, and the buffer holds these bytes
+abbrev pub emptied : Rate → List ℕ → LandedFrame
+emptied rate bytes = record { rate = rate; landed = None; buffer = bytes }
 
 -- these are the parities of the frame that is there: B1 of the bytes that arrived, B2 of the descrambled ones
 abbrev pub AreSummed : ℕ → Bool → ℕ → List ℕ → List ℕ → Type 0

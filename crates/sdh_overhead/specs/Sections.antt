@@ -27,6 +27,8 @@ pub record UnderWay : Type 0 where
   -- BIP-8 of their bytes on the line, and BIP-24N of those without scrambling that B2 is over
   pub line : ℕ
   pub clear : Running
+  -- whether they are of a frame that is written, and not of one that is read
+  pub written : Bool
   -- of a frame that is read: whether it is framed, its K bytes, and the bits in which B1 and B2 differ
   pub framed : Bool
   pub k1 : ℕ
@@ -110,6 +112,15 @@ IsBlank false b1 b2 = (b1 ≡ 0) × (b2 ≡ replicate 48 0)
 -- the frame that is under way: none before its first row
 abbrev pub under_way_of : UnderWay → Option UnderWay
 under_way_of u = if u.rows == 0 then None else Some u
+
+-- a row may be written where no row has gone by, or rows that were written, and read where none has or rows that were read
+abbrev pub MayWrite : Option UnderWay → Type 0
+MayWrite None = Unit {0}
+MayWrite (Some u) = u.written ≡ true
+
+abbrev pub MayRead : Option UnderWay → Type 0
+MayRead None = Unit {0}
+MayRead (Some u) = u.written ≡ false
 
 -- the number of the row that comes next
 abbrev pub next_of : Option UnderWay → ℕ

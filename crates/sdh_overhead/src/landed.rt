@@ -1,11 +1,12 @@
 //! Frames that are descrambled and summed as they land, so that a section reads them without going over them again.
-ghost use Rattle.std.specs.Prelude.{◌≡◌, ◌≢◌, ℕ, ◌+◌, ◌*◌, ◌-◌, ◌≤◌, ◌⊎◌, List, Option, Some, None, IfOk, length};
+ghost use Rattle.std.specs.Prelude.{◌≡◌, ◌≢◌, ℕ, ◌+◌, ◌*◌, ◌-◌, ◌≤◌, ◌⊎◌, List, Option, Some, None, IfOk, length, replicate};
 ghost use Rattle.sdh_basics.specs.Parity.{bip8 as parity_of};
 ghost use Rattle.sdh_frame.specs.Sizes.{size_of};
 ghost use Rattle.sdh_terms.specs.Rates.{n_of};
 ghost use Rattle.sdh_parity.specs.Parity.{section_bytes};
 ghost use Rattle.sdh_parity.specs.Pieces.{after_bytes};
 ghost use Rattle.sdh_parity.specs.Scrambling.{scrambled};
+ghost use Rattle.sdh_overhead.specs.Landing.{emptied};
 ghost use Rattle.sdh_overhead.specs.Sections.{holding, received_in, kept_after};
 
 use crate::Received;
@@ -33,7 +34,7 @@ impl Model for Landed {
 
     ghost Value = { LandedFrame };
 
-    ghost view = { λ a. record { rate = a.frame.rate; landed = landed_of (n_of a.frame.rate) a.here a.frame.bytes } };
+    ghost view = { λ a. record { rate = a.frame.rate; landed = landed_of (n_of a.frame.rate) a.here a.frame.bytes; buffer = a.frame.bytes } };
 
     ghost invariant = { λ a. record {
       wide : length a.clear ≡ 48;
@@ -66,7 +67,7 @@ fn open_frame(n: usize, from: &[u8], to: &mut [u8]) -> Rows
 impl Landed {
     /// Nothing has landed. Takes all memory that frames need.
     pub fn try_new(alloc: Global, rate: Rate) -> Result<Landed, AllocError>
-        ensures { IfOk result (λ l. l ≡ record { rate = rate; landed = None }) }
+        ensures { IfOk result (λ l. l ≡ emptied rate (replicate (size_of rate) 0)) }
     {
         let frame = FrameBuf::try_new(alloc, rate)?;
         // Reading it gives the proof what is true of every frame.
@@ -79,12 +80,13 @@ impl Landed {
         })
     }
 
-    /// Gives the descrambled frame in exchange for another, or the buffer where nothing has landed. Nothing has landed then.
+    /// Gives what the buffer holds in exchange for another frame: the descrambled frame, where one landed. Nothing has landed then.
     pub fn swap_frame(&mut self, frame: &mut FrameBuf)
         requires { frame.old.rate ≡ self.old.rate }
         ensures rate { frame.new.rate ≡ frame.old.rate }
+        ensures buffer { frame.new ≡ record { rate = self.old.rate; bytes = self.old.buffer } }
         ensures frame { (bytes : List ℕ) → self.old.landed ≡ Some bytes → frame.new ≡ record { rate = self.old.rate; bytes = scrambled (9 * n_of self.old.rate) bytes } }
-        ensures none { self.new ≡ record self.old { landed = None } }
+        ensures none { self.new ≡ emptied self.old.rate frame.old.bytes }
     {
         // Reading it gives the proof what is true of every frame.
         let _ = frame.bytes();
@@ -102,6 +104,8 @@ impl Landing for Landed {
         requires { frame.now.rate ≡ self.old.rate }
         ensures landed { self.new.landed ≡ Some frame.now.bytes }
         ensures rate { self.new.rate ≡ self.old.rate }
+
+        ensures buffer { self.new.buffer ≡ scrambled (9 * n_of self.old.rate) frame.now.bytes }
     {
         let n = self.frame.rate().n();
         let rows = open_frame(n, frame.bytes(), self.frame.bytes_mut());

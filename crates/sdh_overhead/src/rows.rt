@@ -1,5 +1,5 @@
 //! The rows of a frame that is under way: the scrambler and the parities run along, and what a received row says is kept.
-ghost use Rattle.std.specs.Prelude.{◌≡◌, ℕ, ◌+◌, ◌*◌, ◌-◌, ◌≤◌, ◌⊎◌, ◌==◌, false, List, [], ◌++◌, length, take, drop, slice_index, if◌then◌else◌};
+ghost use Rattle.std.specs.Prelude.{◌≡◌, ℕ, ◌+◌, ◌*◌, ◌-◌, ◌≤◌, ◌⊎◌, ◌==◌, true, false, List, [], ◌++◌, length, take, drop, slice_index, if◌then◌else◌};
 ghost use Rattle.sdh_basics.specs.Parity.{bip8 as parity_of};
 ghost use Rattle.sdh_parity.specs.Pieces.{scrambled_from, after_bytes};
 ghost use Rattle.sdh_parity.specs.Violations.{differing_bits, violations_of};
@@ -24,6 +24,8 @@ pub struct Rows {
     pub scrambler: Scrambler,
     pub line: Bip8,
     pub clear: BipSection,
+    /// They are of a frame that is written, and not of one that is read.
+    pub written: bool,
     pub framed: bool,
     pub k1: u8,
     pub k2: u8,
@@ -46,6 +48,7 @@ impl Rows {
             scrambler: Scrambler::new(Rate9(9 * n)),
             line: Bip8::new(),
             clear: BipSection::new(n),
+            written: false,
             framed: true,
             k1: 0,
             k2: 0,
@@ -63,6 +66,7 @@ impl Rows {
         requires bytes { length bytes.old ≡ 270 * n }
         requires place { self.old.scrambler ≡ record { clear = 9 * n; at = (row - 1) * (270 * n) } }
         ensures passed { self.new.passed ≡ row }
+        ensures written { self.new.written ≡ true }
         ensures place { self.new.scrambler ≡ record { clear = 9 * n; at = row * (270 * n) } }
         ensures rate { self.new.clear.n ≡ n }
         ensures bytes { bytes.new ≡ scrambled_from (9 * n) ((row - 1) * (270 * n)) bytes.old }
@@ -74,6 +78,7 @@ impl Rows {
         self.line.add(head);
         send_piece(&mut self.clear, &mut self.scrambler, &mut self.line, rest);
         self.passed = row;
+        self.written = true;
     }
 
     /// The next row of a framed frame that is received: it is summed for B1, descrambled, and summed for B2.
@@ -85,6 +90,7 @@ impl Rows {
         requires bytes { length bytes.old ≡ 270 * n }
         requires place { self.old.scrambler ≡ record { clear = 9 * n; at = (row - 1) * (270 * n) } }
         ensures passed { self.new.passed ≡ row }
+        ensures written { self.new.written ≡ false }
         ensures place { self.new.scrambler ≡ record { clear = 9 * n; at = row * (270 * n) } }
         ensures rate { self.new.clear.n ≡ n }
         ensures bytes { bytes.new ≡ scrambled_from (9 * n) ((row - 1) * (270 * n)) bytes.old }
@@ -100,6 +106,7 @@ impl Rows {
         self.scrambler.apply(head);
         receive_piece(&mut self.line, &mut self.scrambler, &mut self.clear, rest);
         self.passed = row;
+        self.written = false;
     }
 
     /// The next rows of a frame that needs not be framed, one or several behind row 3, from one place to another: they are
@@ -145,10 +152,12 @@ impl Rows {
         requires place { self.old.scrambler ≡ record { clear = 9 * n; at = (row - 1) * (270 * n) } }
         ensures passed { self.new.passed ≡ row }
         ensures place { self.new.scrambler ≡ record { clear = 9 * n; at = row * (270 * n) } }
+        ensures written { self.new.written ≡ false }
         ensures framed { self.new.framed ≡ false }
         ensures clear { self.new.clear ≡ self.old.clear }
     {
         self.scrambler.skip(270 * n);
+        self.written = false;
         self.framed = false;
         self.passed = row;
     }

@@ -5,7 +5,7 @@ ghost use Rattle.sdh_frame.specs.Sizes.{size_of};
 ghost use Rattle.sdh_terms.specs.Rates.{n_of};
 ghost use Rattle.sdh_parity.specs.Scrambling.{scrambled};
 ghost use Rattle.sdh_parity.specs.Pieces.{scrambled_from};
-ghost use Rattle.sdh_overhead.specs.Sections.{SectionKept, holding, clear_frame, line_frame, parities_of, is_framed, found_in, received_in, kept_after, opened, next_of};
+ghost use Rattle.sdh_overhead.specs.Sections.{SectionKept, holding, clear_frame, line_frame, parities_of, is_framed, found_in, received_in, kept_after, opened, next_of, MayWrite, MayRead};
 ghost use Rattle.sdh_overhead.specs.Rows.{clear_row, line_row, ArePassed, HasSent, AreRead, opened_row};
 ghost use Rattle.sdh_overhead.specs.Laws.{AreParities};
 
@@ -37,7 +37,7 @@ impl Model for Section {
     ghost view = { λ a. record {
       rate = a.rate;
       last = last_of (n_of a.rate) a.known a.b1 a.b2;
-      under_way = under_way_of (record { rows = a.rows.passed; line = a.rows.line; clear = a.rows.clear; framed = a.rows.framed; k1 = a.rows.k1; k2 = a.rows.k2; b1 = a.rows.b1; b2 = a.rows.b2 });
+      under_way = under_way_of (record { rows = a.rows.passed; line = a.rows.line; clear = a.rows.clear; written = a.rows.written; framed = a.rows.framed; k1 = a.rows.k1; k2 = a.rows.k2; b1 = a.rows.b1; b2 = a.rows.b2 });
     } };
 
     ghost invariant = { λ a. record {
@@ -145,6 +145,7 @@ impl Section {
         ensures rate { self.new.rate ≡ self.old.rate }
         ensures last { self.new.last ≡ self.old.last }
         ensures next { next_of self.new.under_way ≡ row + 1 }
+        ensures way { MayWrite self.new.under_way }
         ensures bytes { bytes.new ≡ scrambled_from (9 * n_of self.old.rate) ((row - 1) * (270 * n_of self.old.rate)) bytes.old }
         ensures passed { (clear line : List ℕ) → ArePassed (n_of self.old.rate) clear line self.old.under_way → ArePassed (n_of self.old.rate) (clear ++ bytes.old) (line ++ bytes.new) self.new.under_way }
     {
@@ -170,6 +171,7 @@ impl Section {
         ensures rate { self.new.rate ≡ self.old.rate }
         ensures last { self.new.last ≡ self.old.last }
         ensures next { next_of self.new.under_way ≡ row + 1 }
+        ensures way { MayRead self.new.under_way }
         ensures read { (line bytes : List ℕ) → AreRead (n_of self.old.rate) self.old.last line self.old.under_way → length bytes ≡ 270 * n_of self.old.rate → is_framed (n_of self.old.rate) (line ++ bytes) ≡ false → AreRead (n_of self.old.rate) self.old.last (line ++ bytes) self.new.under_way }
     {
         self.rows.pass_over(self.rate.n(), row);
@@ -183,6 +185,7 @@ impl Section {
         ensures rate { self.new.rate ≡ self.old.rate }
         ensures last { self.new.last ≡ self.old.last }
         ensures next { next_of self.new.under_way ≡ row + 1 }
+        ensures way { MayRead self.new.under_way }
         ensures bytes { bytes.new ≡ scrambled_from (9 * n_of self.old.rate) ((row - 1) * (270 * n_of self.old.rate)) bytes.old }
         ensures read { (line : List ℕ) → AreRead (n_of self.old.rate) self.old.last line self.old.under_way → is_framed (n_of self.old.rate) (line ++ bytes.old) ≡ true → AreRead (n_of self.old.rate) self.old.last (line ++ bytes.old) self.new.under_way }
     {
@@ -273,15 +276,18 @@ impl Section {
 }
 
 /// Sets the section overhead of a row of a frame, with the parities of the frame written before, and scrambles it in
-/// place. Pointers and payload stay. After the ninth row the section keeps the parities of the frame.
+/// place. Pointers and payload stay. After the ninth row the section keeps the parities of the frame. Rows behind rows that
+/// were read are not written.
 pub fn write_row(section: &mut Section, row: u16, k1: u8, k2: u8, bytes: &mut [u8])
     requires next { row ≡ next_of section.old.under_way }
+    requires way { MayWrite section.old.under_way }
     requires last { row ≤ 9 }
     requires bytes { length bytes.old ≡ 270 * n_of section.old.rate }
     ensures bytes { bytes.new ≡ line_row (n_of section.old.rate) section.old.last k1 k2 ((row - 1) * (270 * n_of section.old.rate)) bytes.old }
     ensures section { (first : SectionKept) (clear line : List ℕ) → HasSent first clear line section.old → HasSent first (clear ++ clear_row (n_of section.old.rate) section.old.last k1 k2 ((row - 1) * (270 * n_of section.old.rate)) bytes.old) (line ++ bytes.new) section.new }
     ensures rate { section.new.rate ≡ section.old.rate }
     ensures next { row < 9 → next_of section.new.under_way ≡ row + 1 }
+    ensures way { MayWrite section.new.under_way }
     ensures ninth { row ≡ 9 → section.new.under_way ≡ None }
 {
     section.place(row, k1, k2, bytes);
@@ -320,9 +326,10 @@ pub fn write_section(section: &mut Section, k1: u8, k2: u8, frame: &mut FrameBuf
 }
 
 /// Reads the next row of a received frame, and descrambles it in place. The rows of an unframed frame are left as they
-/// came. After the ninth row comes `finish_read`.
+/// came. After the ninth row comes `finish_read`. Rows behind rows that were written are not read.
 pub fn read_row(section: &mut Section, row: u16, bytes: &mut [u8])
     requires next { row ≡ next_of section.old.under_way }
+    requires way { MayRead section.old.under_way }
     requires last { row ≤ 9 }
     requires bytes { length bytes.old ≡ 270 * n_of section.old.rate }
     ensures bytes { (line : List ℕ) → AreRead (n_of section.old.rate) section.old.last line section.old.under_way → bytes.new ≡ opened_row (n_of section.old.rate) line bytes.old }
@@ -330,6 +337,7 @@ pub fn read_row(section: &mut Section, row: u16, bytes: &mut [u8])
     ensures rate { section.new.rate ≡ section.old.rate }
     ensures last { section.new.last ≡ section.old.last }
     ensures next { next_of section.new.under_way ≡ row + 1 }
+    ensures way { MayRead section.new.under_way }
 {
     if !section.is_framed(row, bytes) {
         section.pass_over(row);

@@ -32,7 +32,9 @@ use Rattle.sdh_owed.specs.Scripts.{Runs}
 use Rattle.sdh_promise.specs.Owed.{owed_ports}
 use Rattle.sdh_owed.specs.Healthy.{AllSettle, AreHealthy}
 use Rattle.sdh_owed.specs.Laws.{HealthyScripts}
-use Rattle.sdh_owed.proofs.Known.{knows_after}
+use Rattle.sdh_owed.specs.Steps.{after_step}
+use Rattle.sdh_scripts.proofs.Frames.{knows_after}
+use Rattle.sdh_scripts.proofs.Reporting.{settles_by, reports_by}
 use Rattle.sdh_owed.proofs.Ports.{due_told, ports_are}
 use Rattle.sdh_laws.proofs.carrying.Owed.{offset_small}
 use Rattle.sdh_circuits.specs.Provisioned.{customer_at}
@@ -53,7 +55,7 @@ module _ (settle : HealthyStepsSettle) (deliver : HealthyStepsDeliver) (s : Sett
   steps_are = settle s ids circuits f may form
 
   knows : (m : ℕ) → Knows (run m from).fibres
-  knows m = knows_after m from (inl (stay_honest.prepared s.rate (length ids) f may.honest).honest)
+  knows m = knows_after adm m from (inl (stay_honest.prepared s.rate (length ids) f may.honest).honest)
 
   -- after so many rounds so many settle steps have ended
   abbrev Reached : ℕ → ℕ → Type 0
@@ -110,16 +112,16 @@ module _ (settle : HealthyStepsSettle) (deliver : HealthyStepsDeliver) (s : Sett
     λ high. inl (x.1.1, ap (λ (l : List Report). length l) x.1.0),
     λ low. elim reached [ inl h ↦ let one = some h.0 in absurd (omega (arith, one)) | inr h ↦ absurd (omega (arith, h.2, low)) ],
   )
-  walk before m (step.Settle ∷ later) w reports end left all is reached some (inl x) =
-      let mid = x.0 in
-      let known = known_settles adm w limit mid (subst (λ (v : World). Knows v.fibres) (sym is) (knows m)) x.2 in
+  walk before m (step.Settle ∷ later) w reports end left all is reached some (inl (told, mid, rest, ended, shown, x)) =
+      let known = known_settles adm w limit mid (subst (λ (v : World). Knows v.fibres) (sym is) (knows m)) (settles_by adm after_step report_of w limit (before + 1) told mid ended) in
+      let all_are : reports ≡ report_of (before + 1) mid.ring ∷ rest = reports_by adm after_step report_of w limit (before + 1) told mid reports rest ended shown in
       let k = known.0 in
       let e : settles_in (run m from) limit ≡ Some k = ap (λ v. settles_in v limit) (sym is) ∙ ((steps_are_computed adm).settled w limit k).1 known.1 in
       let n = next before m k reached e in
       let there : mid ≡ run (128 * (before + 1) + 1) from = known.2 ∙ ap (run k) is ∙ run_more from m k ∙ ap (λ j. run j from) n.0 in
-      let r = walk (before + 1) (128 * (before + 1) + 1) later mid x.1 end left all there (inr (omega arith, refl, n.1)) (λ z. absurd (omega (arith, z))) x.4 in (
-        subst (AreHealthy (length ids) circuits.circuits before) (sym x.3) (shows before x.1 mid there r.0),
-        λ high. elim (r.1 high) [ inl done ↦ inl (done.0, ap (λ (l : List Report). length l) x.3 ∙ ap suc done.1) | inr fault ↦ inr fault ],
+      let r = walk (before + 1) (128 * (before + 1) + 1) later mid rest end left all there (inr (omega arith, refl, n.1)) (λ z. absurd (omega (arith, z))) x in (
+        subst (AreHealthy (length ids) circuits.circuits before) (sym all_are) (shows before rest mid there r.0),
+        λ high. elim (r.1 high) [ inl done ↦ inl (done.0, ap (λ (l : List Report). length l) all_are ∙ ap suc done.1) | inr fault ↦ inr fault ],
         λ low. absurd (omega (arith, n.1, low)),
       )
   walk before m (step.Settle ∷ later) w reports end left all is reached some (inr (inl x)) =

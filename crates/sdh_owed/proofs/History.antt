@@ -20,7 +20,11 @@ use Rattle.sdh_report.specs.declared.status.Status.{Status}
 use Rattle.sdh_report.specs.declared.status.Status.TheVariants as status
 use Rattle.sdh_report.specs.Reports.{Report}
 use Rattle.sdh_owed.specs.Reports.{report_of}
-use Rattle.sdh_owed.specs.Scripts.{Stops, Refuses, Runs}
+use Rattle.sdh_scripts.proofs.Outcomes.{refused_ends}
+use Rattle.sdh_scripts.proofs.Reporting.{settles_by, reports_by}
+use Rattle.sdh_node.specs.Stations.{adm}
+use Rattle.sdh_owed.specs.Steps.{after_step}
+use Rattle.sdh_owed.specs.Scripts.{Runs}
 use Rattle.sdh_promise.specs.Owed.{Ring, requests_by, IsOwed, AreOwed}
 use Rattle.sdh_owed.specs.Laws.{ring_by, ReportsAreOwed}
 use Rattle.sdh_owed.proofs.Standing.{Stands, layout_is, changed_then, stretch_to, Ended, settled_then, stands_new}
@@ -30,11 +34,6 @@ use Rattle.sdh_owed.proofs.Ports.{owed_now}
 pub owed_none : (l : Ring) (limit : ℕ) (earlier : List Stretch) (before : ℕ) (later : List (List Change)) (end : Status) → end ≡ status.PlantFault → AreOwed l limit earlier before later [] end
 owed_none l limit earlier before [] end h = (refl, inr h)
 owed_none l limit earlier before (changes ∷ later) end h = inr h
-
--- a step that was refused ended the script by a fault
-pub refused_ends : (s : Step) (w : World) (reports : List Report) (end : Status) (left : World) → Refuses s w reports end left → Stops status.PlantFault reports end
-refused_ends (step.Fibre e) w reports end left x = x.1
-refused_ends s w reports end left x = absurd x
 
 -- ---- a script, step by step
 
@@ -64,10 +63,11 @@ module _ (law : SettledRingsRestore) (s : Settings) (ids : List ℕ) (circuits :
       → Now past earlier changes w → AreSteps s.rate (length ids) (length circuits.circuits) past steps → Runs limit before steps w reports end left → AreOwed ring limit earlier before (scenes changes steps) reports end
   unfolding report_of
   walk limit before past earlier changes [] w reports end left h each x = (x.1.0, inl x.1.1)
-  walk limit before past earlier changes (step.Settle ∷ later) w reports end left h each (inl x) =
-      let there = settled_then s ids circuits f may past earlier changes w h x.0 limit x.2 in
-      subst (λ rs. AreOwed ring limit earlier before (scenes changes (step.Settle ∷ later)) rs end) (sym x.3)
-      (refl, there.last, owed_then past earlier changes w x.0 (before + 1) limit h there, walk limit (before + 1) (after past step.Settle) _ [] later x.0 x.1 end left there.stands each.1 x.4)
+  walk limit before past earlier changes (step.Settle ∷ later) w reports end left h each (inl (told, mid, rest, ended, is, x)) =
+      let there = settled_then s ids circuits f may past earlier changes w h mid limit (settles_by adm after_step report_of w limit (before + 1) told mid ended) in
+      let all : reports ≡ report_of (before + 1) mid.ring ∷ rest = reports_by adm after_step report_of w limit (before + 1) told mid reports rest ended is in
+      subst (λ rs. AreOwed ring limit earlier before (scenes changes (step.Settle ∷ later)) rs end) (sym all)
+      (refl, there.last, owed_then past earlier changes w mid (before + 1) limit h there, walk limit (before + 1) (after past step.Settle) _ [] later mid rest end left there.stands each.1 x)
   walk limit before past earlier changes (step.Settle ∷ later) w reports end left h each (inr (inl x)) = subst (λ rs. AreOwed ring limit earlier before (scenes changes (step.Settle ∷ later)) rs end) (sym x.1.0) (inl x.1.1)
   walk limit before past earlier changes (step.Settle ∷ later) w reports end left h each (inr (inr x)) = subst (λ rs. AreOwed ring limit earlier before (scenes changes (step.Settle ∷ later)) rs end) (sym x.1.0) (inr x.1.1)
   walk limit before past earlier changes (this ∷ later) w reports end left h each x =

@@ -10,7 +10,6 @@ use Rattle.sdh_circuits.specs.Provisioned.{Provisioned, customer_at}
 use Rattle.sdh_restoration.specs.Applied.{is_applied}
 use Rattle.sdh_restoration.specs.Due.{due, sends_by}
 use Rattle.sdh_circuits.specs.Ends.{other_end}
-use Rattle.sdh_payload.specs.Clock.{Clock}
 use Rattle.sdh_payload.specs.Customer.{Customer}
 use Rattle.sdh_payload.specs.History.{Happening}
 use Rattle.sdh_payload.specs.Laws.{clock_by, GoesBy}

@@ -5,7 +5,6 @@ use Rattle.sdh_plant.specs.Fibres.{Fibres}
 use Rattle.sdh_request.specs.declared.settings.Settings.{Settings}
 use Rattle.sdh_world.specs.Held.{new_ring}
 use Rattle.sdh_world.specs.Rounds.{World}
-use Rattle.sdh_world.specs.Runs.{run}
 use Rattle.sdh_world.specs.Quiet.{Unsettles}
 use Rattle.sdh_promise.specs.Changes.{Change, Stretch, changes_of}
 use Rattle.sdh_world.specs.Changes.{after_stretches, new_world}
@@ -23,22 +22,15 @@ use Rattle.sdh_report.specs.declared.status.Status.{Status}
 use Rattle.sdh_report.specs.declared.status.Status.TheVariants as status
 use Rattle.sdh_report.specs.Reports.{Report}
 use Rattle.sdh_owed.specs.Scripts.{Runs}
-use Rattle.sdh_owed.specs.Healthy.{IsSettled}
+use Rattle.sdh_scripts.specs.Outcomes.{IsSettled}
+use Rattle.sdh_owed.specs.Steps.{after_step}
+use Rattle.sdh_owed.specs.Reports.{report_of}
 use Rattle.sdh_owed.specs.Laws.{ScriptsSettle}
-use Rattle.sdh_owed.proofs.History.{refused_ends}
+use Rattle.sdh_scripts.proofs.Outcomes.{refused_ends, settled_by, ok_settles, fault_settles}
+use Rattle.sdh_scripts.proofs.Reporting.{settles_by}
 use Rattle.sdh_owed.proofs.Standing.{Stands, whole, layout_is, changed_then, settled_then, may_go, stands_new}
 use Rattle.sdh_node.specs.Stations.{adm}
 use Rattle.sdh_rounds.specs.Runs as any_run
-
--- an end that is no unsettled step
-pub settled_by : (end how : Status) → end ≡ how → IsSettled how → IsSettled end
-settled_by end how is h k e = h k (sym is ∙ e)
-
-ok_settles : IsSettled status.Ok
-ok_settles k e = grind arith
-
-pub fault_settles : IsSettled status.PlantFault
-fault_settles k e = grind arith
 
 module _ (converge : StretchesConverge) (s : Settings) (ids : List ℕ) (circuits : Provisioning) (f : Fibres) (may : MayStart s ids f) (form : HasCircuits (layout_in (new_ring s ids circuits))) where
   abbrev Now : Past → List Stretch → List Change → World → Type 0
@@ -58,8 +50,9 @@ module _ (converge : StretchesConverge) (s : Settings) (ids : List ℕ) (circuit
   walk : (limit before : ℕ) (past : Past) (earlier : List Stretch) (changes : List Change) (steps : List Step) (w : World) (reports : List Report) (end : Status) (left : World)
       → Now past earlier changes w → AreSteps s.rate (length ids) (length circuits.circuits) past steps → enough_for (length ids) ≤ limit → Runs limit before steps w reports end left → IsSettled end
   walk limit before past earlier changes [] w reports end left h each large x = settled_by end status.Ok x.1.1 ok_settles
-  walk limit before past earlier changes (step.Settle ∷ later) w reports end left h each large (inl x) =
-      walk limit (before + 1) (after past step.Settle) _ [] later x.0 x.1 end left (settled_then s ids circuits f may past earlier changes w h x.0 limit x.2).stands each.1 large x.4
+  walk limit before past earlier changes (step.Settle ∷ later) w reports end left h each large (inl (told, mid, rest, ended, is, x)) =
+      let settles = settles_by adm after_step report_of w limit (before + 1) told mid ended in
+      walk limit (before + 1) (after past step.Settle) _ [] later mid rest end left (settled_then s ids circuits f may past earlier changes w h mid limit settles).stands each.1 large x
   walk limit before past earlier changes (step.Settle ∷ later) w reports end left h each large (inr (inl x)) = absurd (never past earlier changes w left limit h large x.0)
   walk limit before past earlier changes (step.Settle ∷ later) w reports end left h each large (inr (inr x)) = settled_by end status.PlantFault x.1.1 fault_settles
   walk limit before past earlier changes (this ∷ later) w reports end left h each large x =

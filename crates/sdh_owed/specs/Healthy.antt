@@ -1,5 +1,5 @@
 -- What a script of settle steps alone comes to: a new ring over new honest fibres stays healthy.
-use Rattle.std.specs.Prelude.{ℕ, ◌≡◌, ◌≢◌, ◌⊎◌, ◌+◌, ◌*◌, ◌≤◌, List, [], ◌∷◌, length}
+use Rattle.std.specs.Prelude.{ℕ, ◌≡◌, ◌⊎◌, ◌+◌, ◌*◌, ◌≤◌, List, [], ◌∷◌, length}
 use Rattle.sdh_circuits.specs.Provisioned.{Provisioned}
 use Rattle.sdh_restoration.specs.Due.{nothing_applied}
 use Rattle.sdh_plan.specs.declared.step.Step.{Step}
@@ -28,7 +28,3 @@ pub record IsHealthy (limit n : ℕ) (circuits : List Provisioned) (steps : List
   pub show : AreHealthy n circuits 0 reports
   pub enough : 129 ≤ limit → ((end ≡ status.Ok) × (length reports ≡ length steps)) ⊎ (end ≡ status.PlantFault)
   pub short : limit ≤ 128 → (reports ≡ []) × ((end ≡ status.Unsettled 1) ⊎ (end ≡ status.PlantFault))
-
--- no settle step was unsettled
-abbrev pub IsSettled : Status → Type 0
-IsSettled end = (k : ℕ) → end ≢ status.Unsettled k

@@ -1,9 +1,8 @@
 -- The laws of scripts.
-use Rattle.std.specs.Prelude.{ℕ, ◌≡◌, ◌≤◌, List, [], length}
+use Rattle.std.specs.Prelude.{ℕ, ◌≤◌, List, [], length}
 use Rattle.sdh_circuits.specs.Provisioned.{Provisioned}
 use Rattle.sdh_circuits.specs.Provisioning.{Provisioning}
 use Rattle.sdh_plant.specs.Fibres.{Fibres}
-use Rattle.sdh_plant.specs.Arrivals.{Knows}
 use Rattle.sdh_request.specs.declared.settings.Settings.{Settings}
 use Rattle.sdh_world.specs.Held.{new_ring}
 use Rattle.sdh_world.specs.Rounds.{World}
@@ -17,14 +16,10 @@ use Rattle.sdh_plan.specs.Scripts.{AreSteps}
 use Rattle.sdh_report.specs.declared.status.Status.{Status}
 use Rattle.sdh_report.specs.Reports.{Report}
 use Rattle.sdh_promise.specs.Changes.{scenes}
-use Rattle.sdh_owed.specs.Scripts.{Runs, ComesTo}
+use Rattle.sdh_scripts.specs.Outcomes.{IsSettled}
+use Rattle.sdh_owed.specs.Scripts.{Runs}
 use Rattle.sdh_promise.specs.Owed.{Ring, AreOwed}
-use Rattle.sdh_owed.specs.Healthy.{AllSettle, IsHealthy, IsSettled}
-
--- where arrivals are known, what comes of a script is determined, and after a fault it is the front of that
-abbrev pub KnownScripts : Type 0
-KnownScripts = (limit before : ℕ) (steps : List Step) (w : World) (reports : List Report) (end : Status) (left : World)
-    → Knows w.fibres → 1 ≤ length w.ring.ids → length w.ring.nodes ≡ length w.ring.ids → Runs limit before steps w reports end left → ComesTo limit before steps w reports end left
+use Rattle.sdh_owed.specs.Healthy.{AllSettle, IsHealthy}
 
 -- a ring of n with these settings and circuits, as far as reports owe by it
 abbrev pub ring_by : Settings → ℕ → List Provisioned → Ring

@@ -3,12 +3,7 @@
 //! `specs/Laws.antt` has the laws. Each function here has a law as its contract and no work to do.
 #![tactic(auto)]
 
-ghost use Rattle.sdh_owed.specs.Laws.{KnownScripts, ReportsAreOwed, ScriptsSettle, HealthyScripts};
-
-/// Where arrivals are known, what comes of a script is determined, and after a fault it is the front of that.
-pub fn known_scripts()
-    ensures { KnownScripts }
-{}
+ghost use Rattle.sdh_owed.specs.Laws.{ReportsAreOwed, ScriptsSettle, HealthyScripts};
 
 /// Over honest fibres each report shows for every port what it is owed.
 pub fn reports_are_owed()

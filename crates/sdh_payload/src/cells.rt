@@ -1,5 +1,5 @@
 //! A list of bytes with room for a chunk.
-ghost use Rattle.std.specs.Prelude.{◌≡◌, ◌+◌, ◌<◌, ◌≤◌, [], ◌∷◌, ◌++◌, ◌-◌, IfOk, length};
+ghost use Rattle.std.specs.Prelude.{◌≡◌, ◌+◌, ◌<◌, ◌≤◌, [], ◌∷◌, ◌++◌, ◌-◌, IfOk, length, take, replicate};
 ghost use Rattle.std.specs.Borrow.{sem};
 ghost use Rattle.sdh_payload.specs.Chunk.{around};
 ghost use Rattle.sdh_payload.specs.Room.{LendsRoom};
@@ -74,17 +74,19 @@ impl Cells {
         self.bytes.extend_from_slice(bytes).unwrap();
     }
 
-    /// So many bytes in place of those that there are. They mean nothing. It takes no memory.
+    /// So many bytes: the first of those that there are, and zeros behind them, to be written over. It takes no memory.
     pub fn make_room(&mut self, count: usize)
         requires { count ≤ 2352 }
-        ensures { length self.new ≡ count }
+        ensures bytes { self.new ≡ take count self.old ++ replicate (count - length self.old) 0 }
+        ensures count { length self.new ≡ count }
     {
         self.bytes.resize(count, 0).unwrap();
     }
 
-    /// Lends room for the 2349 bytes of a payload, in place of the bytes. It takes no memory.
+    /// Lends room for the 2349 bytes of a payload, made as `make_room` makes it. It takes no memory.
     pub fn lend_payload(&mut self) -> &mut [u8]
         ensures* lends { sem 𝓛 (LendsRoom self.entry result) }
+        ensures bytes { result.now ≡ take 2349 self.old ++ replicate (2349 - length self.old) 0 }
         ensures full { length result.now ≡ 2349 }
     {
         self.make_room(2349);

@@ -1,5 +1,5 @@
 -- A text cut at its first space.
-use Rattle.std.proofs.Common.{◌≡◌, ℕ, zero, suc, ◌+◌, ◌-◌, ◌<◌, ◌≤◌, List, [], ◌∷◌, ◌++◌, map, length, take, drop, Bool, true, false, ◌==◌, ◌||◌, not, nat_lt, cond, Option, Some, None, position, ap, sym, subst, ◌∙◌, arith, refl, append_assoc, append-nil, length-append}
+use Rattle.std.proofs.Common.{◌≡◌, ℕ, zero, suc, ◌+◌, ◌-◌, ◌<◌, ◌≤◌, List, [], ◌∷◌, ◌++◌, map, length, take, drop, Bool, true, false, ◌==◌, ◌||◌, not, nat_lt, cond, Option, Some, None, position, ap, sym, subst, ◌∙◌, arith, refl, append_assoc, length-append}
 use Rattle.std.specs.Option.{option_map_or}
 use Rattle.std.specs.List.{position_or_len, slice_split, onto_first, list_any}
 use Rattle.std.proofs.lemmas.List.{take_rest, map-append}
@@ -81,16 +81,6 @@ module _ {X : Type 0} (f : X → List ℕ) where
         empties = one_less all w now rest is full before.empties;
       }
 
-  pub said_empty : (k : ℕ) (all : List (List ℕ)) (xs : List X) (w : X) (now rest : Option X) → Said k all xs now → left now ≡ f w ∷ left rest → is_empty (f w) ≡ true → list_any is_empty all ≡ true
-  said_empty k all xs w now rest before is empty = before.empties ∙ ap (λ l. list_any is_empty l) is ∙ ap (λ b. b || list_any is_empty (left rest)) empty
-
   nothing : (n : ℕ) → take {A = List ℕ} n [] ≡ []
   nothing zero = refl
   nothing (suc n) = refl
-
-  pub said_all : (k : ℕ) (all : List (List ℕ)) (xs : List X) (now : Option X) → Said k all xs now → now ≡ None → map f xs ≡ take k all
-  said_all k all xs now before none =
-      sym (before.firsts ∙ ap (λ r. map f xs ++ take (k - length xs) (left r)) none ∙ ap (λ l. map f xs ++ l) (nothing (k - length xs)) ∙ append-nil (map f xs))
-
-  pub said_whole : (k : ℕ) (all : List (List ℕ)) (xs : List X) (now : Option X) → Said k all xs now → now ≡ None → list_any is_empty all ≡ false
-  said_whole k all xs now before none = before.empties ∙ ap (λ r. list_any is_empty (left r)) none

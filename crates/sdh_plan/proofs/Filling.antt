@@ -63,19 +63,6 @@ laid_now slot l low is some =
       apart = λ same s on. let h = held l.at (end_of l) s on in behind l.at (spans_of l) l.left s is.at_inside h.0 spans.1 is.left_few (omega (arith, h.1, long));
     }
 
--- circuits of lower slots lie before all of a slot
-laid_below : (slot y : ℕ) (l : Laying) (d : Provisioned) → IsLaid slot l d → IsLaid (slot + 1) (slot_begun y) d
-laid_below slot y l d was = record {
-  number = was.number;
-  named = was.named;
-  from_1 = was.from_1;
-  few = was.few;
-  slot_from_1 = was.slot_from_1;
-  slot_small = omega (arith, was.slot_small);
-  by_number = λ same. absurd (omega (arith, was.slot_small, same));
-  apart = λ same s on. absurd (omega (arith, was.slot_small, same));
-}
-
 -- so far the slot has the circuits before this one, and the rest will be laid
 pub record Filling (slot x : ℕ) (before : List Provisioned) (p : Provisioning) (l : Laying) : Type 0 where
   pub is : IsLaying l
@@ -157,9 +144,6 @@ filled_circuits slot x before p l none f =
 
 pub filled_state : (slot x : ℕ) (before : List Provisioned) (p : Provisioning) (l : Laying) → l.left ≡ 0 → Filling slot x before p l → l.state ≡ behind_slot x
 filled_state slot x before p l none f = sym (state_there l f.most none) ∙ f.state
-
-pub filled_laid : (slot x y : ℕ) (before : List Provisioned) (p : Provisioning) (l : Laying) → Filling slot x before p l → All (IsLaid (slot + 1) (slot_begun y)) p.circuits
-filled_laid slot x y before p l f k d h = laid_below slot y l (get_or p.circuits k d) (f.laid k d h)
 
 -- the plan of a number has these parts
 pub big_made : (number x y : ℕ) (nodes : List ℕ) (p : Provisioning) (steps : List Step) → x ≡ number → y ≡ behind_slot (behind_slot x) → nodes ≡ big_nodes → p ≡ provisioned 2 big_nodes (big_circuits x) → steps ≡ big_script y

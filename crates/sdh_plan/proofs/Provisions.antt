@@ -1,6 +1,6 @@
 -- The circuits of a document, one after the other.
-use Rattle.std.proofs.Common.{◌≡◌, ℕ, ◌+◌, ◌<◌, ◌≤◌, List, [], ◌∷◌, ◌++◌, map, length, take, drop, get_or, Option, Some, None, IfSome, refl, ap, sym, subst, ◌∙◌, length-take-le}
-use Rattle.std.proofs.lemmas.List.{drop_more, drop_all, take_more, take_all, map-append, length-map}
+use Rattle.std.proofs.Common.{◌≡◌, ℕ, ◌+◌, ◌<◌, ◌≤◌, List, [], ◌∷◌, ◌++◌, map, length, take, drop, get_or, Option, Some, None, refl, ap, sym, subst, ◌∙◌, length-take-le}
+use Rattle.std.proofs.lemmas.List.{drop_more, take_more, take_all, map-append, length-map}
 use Rattle.toml.specs.declared.value.Value.{Value}
 use Rattle.toml.specs.View.{view}
 use Rattle.sdh_circuits.specs.Provisioned.{Provisioned}
@@ -17,10 +17,6 @@ pub keeps : (nodes : List ℕ) (circuits : List Provisioned) (c : Provisioned) �
 keeps nodes [] c = refl
 keeps nodes (d ∷ circuits) c = refl
 
-pub kept_same : (nodes : List ℕ) (circuits : List Provisioned) → IfSome (kept_ring nodes circuits) (λ kept. kept ≡ nodes)
-kept_same nodes [] = tt
-kept_same nodes (c ∷ circuits) = refl
-
 module _ (slots : ℕ) (nodes : List ℕ) (values : List Value) where
   abbrev circuit_at : Value → Provisioned
   circuit_at v = circuit_in nodes (members_of (view v))
@@ -32,12 +28,6 @@ module _ (slots : ℕ) (nodes : List ℕ) (values : List Value) where
   pub record Added (circuits : Provisioning) (i : ℕ) : Type 0 where
     pub checks : answer (circuits_checks slots nodes [] 1 (map view values)) ≡ answer (circuits_checks slots nodes (made i) (i + 1) (map view (drop i values)))
     pub circuits_made : circuits ≡ provisioned slots nodes (made i)
-
-  pub added_none : (p : Provisioning) → p ≡ record { slots = slots; ring = None; circuits = [] } → Added p 0
-  added_none p e = record { checks = refl; circuits_made = e }
-
-  pub added_ring : (p : Provisioning) (i : ℕ) → Added p i → IfSome p.ring (λ kept. kept ≡ nodes)
-  added_ring p i before = subst (λ (q : Provisioning). IfSome q.ring (λ kept. kept ≡ nodes)) (sym before.circuits_made) (kept_same nodes (made i))
 
   pub added_len : (p : Provisioning) (i : ℕ) → Added p i → i ≤ length values → length p.circuits ≡ i
   added_len p i before h = ap (λ q. length q.circuits) before.circuits_made ∙ length-map (take i values) circuit_at ∙ length-take-le i values h
@@ -79,9 +69,6 @@ module _ (slots : ℕ) (nodes : List ℕ) (values : List Value) where
       refused_there i (first_fault (circuit_faults p.slots nodes p.circuits (members_of (view v)))) why _
       (λ reason fails. before.checks ∙ here i v h e ∙ place_fails (i + 1) (circuit_faults slots nodes (made i) (members_of (view v))) (circuits_checks slots nodes (made i ++ circuit_at v ∷ []) (i + 1 + 1) (map view (drop (i + 1) values))) reason (sym (seen p i v before) ∙ fails))
       (subst (λ (k : ℕ). IsRefused (refusal_at k (first_fault (circuit_faults p.slots nodes p.circuits (members_of (view v))))) why) at refused)
-
-  pub added_all : (p : Provisioning) (i : ℕ) → Added p i → length values ≤ i → answer (circuits_checks slots nodes [] 1 (map view values)) ≡ None
-  added_all p i before h = before.checks ∙ ap (λ l. answer (circuits_checks slots nodes (made i) (i + 1) (map view l))) (drop_all i values h)
 
   maps : (vs : List Value) → map circuit_at vs ≡ map (λ d. circuit_in nodes (members_of d)) (map view vs)
   maps [] = refl

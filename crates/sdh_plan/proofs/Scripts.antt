@@ -23,9 +23,6 @@ module _ (n : ℕ) (nodes : List ℕ) (circuits : List Provisioned) (values : Li
     pub checks : answer (steps_checks n nodes circuits start 1 (map view values)) ≡ answer (steps_checks n nodes circuits past (i + 1) (map view (drop i values)))
     pub made : steps ≡ map step_in (take i values)
 
-  pub read_none : Read start [] 0
-  read_none = record { checks = refl; made = refl }
-
   here : (past : Past) (i : ℕ) (v : Value) → i < length values → v ≡ get_or values i v → answer (steps_checks n nodes circuits past (i + 1) (map view (drop i values))) ≡ answer (steps_checks n nodes circuits past (i + 1) (view v ∷ map view (drop (i + 1) values)))
   here past i v h e =
       ap (λ l. answer (steps_checks n nodes circuits past (i + 1) (map view l))) (drop_more values i v h)

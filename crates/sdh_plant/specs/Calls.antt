@@ -1,9 +1,9 @@
 -- The fibres after each call that was answered with Ok. A call that wasn't leaves them as they were.
-use Rattle.std.specs.Prelude.{ℕ, ◌*◌, ◌==◌, Bool, true, if◌then◌else◌, Some, None, List, [], ◌∷◌, ◌++◌, length, drop, replicate, slice_set, option_map}
+use Rattle.std.specs.Prelude.{ℕ, ◌≡◌, ◌⊎◌, ◌*◌, ◌==◌, Bool, true, if◌then◌else◌, Some, None, List, [], ◌∷◌, ◌++◌, length, drop, replicate, slice_set, option_map}
 use Rattle.std.specs.List.{list_all}
 use Rattle.std.specs.Option.{option_map_or}
 use Rattle.sdh_terms.specs.declared.Rate.{Rate}
-use Rattle.sdh_frame.specs.Sizes.{size_of}
+use Rattle.sdh_frame.specs.Sizes.{Frame, size_of}
 use Rattle.sdh_ringmap.specs.declared.Side.{Side}
 use Rattle.sdh_terms.specs.declared.Condition.{Condition}
 use Rattle.sdh_terms.specs.declared.Condition.TheVariants.{Clear}
@@ -29,6 +29,14 @@ after_apply f p d condition = record f { conditions = slice_set f.conditions (fi
 -- it carries this frame
 abbrev pub after_send : Fibres → ℕ → Side → List ℕ → Fibres
 after_send f p d bytes = record f { carried = slice_set f.carried (fibre p d) (Some bytes); sent = option_map (λ sent. sent ++ bytes ∷ []) f.sent }
+
+-- what comes back for a frame that was sent in exchange, over a fibre that carried this before: the frame itself, or that which
+-- the fibre carried, and where it carried none one of zeros
+abbrev pub carried_or_zeros : Arrival → Frame → Frame
+carried_or_zeros carried frame = record frame { bytes = option_map_or (λ bytes. bytes) carried (replicate (size_of frame.rate) 0) }
+
+abbrev pub IsExchanged : Arrival → Frame → Frame → Type 0
+IsExchanged carried old new = (new ≡ old) ⊎ (new ≡ carried_or_zeros carried old)
 
 -- one of the told arrivals was given
 abbrev pub after_receive : Fibres → Fibres

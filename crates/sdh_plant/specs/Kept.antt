@@ -1,9 +1,9 @@
 -- What the plants in memory keep, and what it means.
-use Rattle.std.specs.Prelude.{ℕ, ◌≡◌, ◌*◌, ◌<◌, ◌≤◌, true, Option, Some, None, List, [], All, length, map, drop, if◌then◌else◌}
+use Rattle.std.specs.Prelude.{ℕ, ◌≡◌, ◌*◌, ◌<◌, ◌≤◌, true, false, Option, Some, None, List, [], All, length, map, drop, replicate, if◌then◌else◌}
 use Rattle.std.specs.List.{list_all}
 use Rattle.std.specs.Global.{Vec}
 use Rattle.sdh_terms.specs.declared.Rate.{Rate}
-use Rattle.sdh_frame.specs.Sizes.{Frame}
+use Rattle.sdh_frame.specs.Sizes.{Frame, size_of}
 use Rattle.sdh_terms.specs.declared.Condition.{Condition}
 use Rattle.sdh_plant.specs.declared.fibre_plant.Fibre.{Fibre}
 use Rattle.sdh_plant.specs.declared.told_plant.Told.{Told}
@@ -30,9 +30,10 @@ carried xs = map carried_by xs
 abbrev pub held : ℕ → Rate → List Fibre → HeldFibres
 held n rate xs = record { nodes = n; rate = rate; conditions = conditions xs; carried = carried xs }
 
--- the fibre's frame has the plant's rate, and its condition is one of that rate
+-- the fibre's frame has the plant's rate, and is of zeros where the fibre carries none; its condition is one of that rate
 pub record IsFibre (rate : Rate) (x : Fibre) : Type 0 where
   pub frame : x.frame.rate ≡ rate
+  pub blank : x.carries ≡ false → x.frame.bytes ≡ replicate (size_of rate) 0
   pub condition : IsConditionAt rate x.condition
 
 pub record AreFibres (n : ℕ) (rate : Rate) (xs : List Fibre) : Type 0 where

@@ -3,9 +3,9 @@ ghost use Rattle.std.specs.Prelude.{◌≡◌, ◌≢◌, true, ◌<◌, ◌≤�
 ghost use Rattle.sdh_basics.specs.Causes.{Rose, IsCounted, HasCause, one_more};
 ghost use Rattle.sdh_plant.specs.declared.failing_plant.PlantCall.TheVariants.{Prepare, Apply, Send, Receive};
 ghost use Rattle.sdh_plant.specs.Fibres.{HasNoFibres};
-ghost use Rattle.sdh_terms.specs.Fibres.{IsConditionAt};
-ghost use Rattle.sdh_plant.specs.Arrivals.{Knows, arrival, arrived_in};
-ghost use Rattle.sdh_plant.specs.Calls.{prepared, after_apply, after_send, after_receive};
+ghost use Rattle.sdh_terms.specs.Fibres.{IsConditionAt, fibre};
+ghost use Rattle.sdh_plant.specs.Arrivals.{Knows, arrival, arrived_in, carried_on};
+ghost use Rattle.sdh_plant.specs.Calls.{prepared, after_apply, after_send, after_receive, IsExchanged};
 ghost use Rattle.sdh_plant.specs.InMemory.{fibres_of, laid, made, IsFailing, called, refused};
 
 use crate::fibre_plant::FibrePlant;
@@ -192,6 +192,7 @@ impl Plant for FailingPlant {
         ensures rate { frame.new.rate ≡ frame.old.rate }
         ensures err { OnErr result (fibres_of self.new.fibres ≡ fibres_of self.old.fibres) }
         ensures untouched { OnErr result (frame.new ≡ frame.old) }
+        ensures exchanged { IsExchanged (carried_on (fibres_of self.old.fibres) (fibre at.0 side)) frame.old frame.new }
         ensures cause { HasCause true self.old.faults self.new.faults result }
 
         ensures fails { IsErr result ↔ IsFailing Send self.old }

@@ -6,7 +6,7 @@ ghost use Rattle.sdh_terms.specs.declared.Condition.TheVariants.{Clear};
 ghost use Rattle.sdh_plant.specs.Fibres.{HasNoFibres};
 ghost use Rattle.sdh_terms.specs.Fibres.{IsConditionAt, fibre, fibre_to};
 ghost use Rattle.sdh_plant.specs.Arrivals.{Knows, arrival, arrived_in, through, carried_on, honest_arrival};
-ghost use Rattle.sdh_plant.specs.Calls.{prepared, after_apply, after_send, after_receive};
+ghost use Rattle.sdh_plant.specs.Calls.{prepared, after_apply, after_send, after_receive, carried_or_zeros, IsExchanged};
 ghost use Rattle.sdh_plant.specs.InMemory.{fibres_of, laid};
 ghost use Rattle.sdh_plant.specs.Kept.{IsFibre, carried_by, conditions, carried};
 
@@ -22,7 +22,7 @@ use std::marker::Model;
 struct Fibre {
     condition: Condition,
     carries: bool,
-    // The last frame sent, where the fibre carries one.
+    // The last frame sent, where the fibre carries one, and else one of zeros.
     frame: FrameBuf,
 }
 
@@ -118,7 +118,7 @@ fn store_in_exchange(fibres: &mut [Fibre], at: usize, frame: &mut FrameBuf)
     ensures carried { carried fibres.new ≡ slice_set (carried fibres.old) at (Some frame.old.bytes) }
     ensures fit { All (IsFibre frame.old.rate) fibres.new }
     ensures rate { frame.new.rate ≡ frame.old.rate }
-    ensures back { IfSome (slice_index_or (carried fibres.old) at None) (λ bytes. frame.new.bytes ≡ bytes) }
+    ensures back { frame.new ≡ carried_or_zeros (slice_index_or (carried fibres.old) at None) frame.old }
 {
     let kept = &mut fibres[at];
     std::mem::swap(&mut kept.frame, frame);
@@ -218,7 +218,7 @@ impl FibrePlant {
         requires rate { frame.old.rate ≡ self.old.rate }
         ensures fibres { self.new ≡ record self.old { carried = slice_set self.old.carried (fibre at.0 side) (Some frame.old.bytes) } }
         ensures rate { frame.new.rate ≡ frame.old.rate }
-        ensures back { IfSome (slice_index_or self.old.carried (fibre at.0 side) None) (λ bytes. frame.new.bytes ≡ bytes) }
+        ensures back { frame.new ≡ carried_or_zeros (slice_index_or self.old.carried (fibre at.0 side) None) frame.old }
     {
         let Some(fibres) = &mut self.fibres else {
             return;
@@ -299,10 +299,11 @@ impl Plant for FibrePlant {
         ensures rate { frame.new.rate ≡ frame.old.rate }
         ensures err { OnErr result (fibres_of self.new ≡ fibres_of self.old) }
         ensures untouched { OnErr result (frame.new ≡ frame.old) }
+        ensures exchanged { IsExchanged (carried_on (fibres_of self.old) (fibre at.0 side)) frame.old frame.new }
         ensures cause { HasCause true 0 0 result }
 
         ensures never_fails { IsOk result }
-        ensures back { IfSome (carried_on (fibres_of self.old) (fibre at.0 side)) (λ bytes. frame.new.bytes ≡ bytes) }
+        ensures back { frame.new ≡ carried_or_zeros (carried_on (fibres_of self.old) (fibre at.0 side)) frame.old }
     {
         self.carry_in_exchange(at, side, frame);
         Ok(())

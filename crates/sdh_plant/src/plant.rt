@@ -2,9 +2,9 @@
 ghost use Rattle.std.specs.Prelude.{◌≡◌, ◌≢◌, ◌<◌, ◌≤◌, ℕ, Bool, true, None, Ok, IfOk, OnOk, OnErr, IsErrOf};
 ghost use Rattle.sdh_basics.specs.Causes.{Rose, IsCounted, HasCause};
 ghost use Rattle.sdh_plant.specs.Fibres.{Fibres, HasNoFibres};
-ghost use Rattle.sdh_terms.specs.Fibres.{IsConditionAt};
-ghost use Rattle.sdh_plant.specs.Arrivals.{Knows, arrival, arrived_in};
-ghost use Rattle.sdh_plant.specs.Calls.{prepared, after_apply, after_send, after_receive};
+ghost use Rattle.sdh_terms.specs.Fibres.{IsConditionAt, fibre};
+ghost use Rattle.sdh_plant.specs.Arrivals.{Knows, arrival, arrived_in, carried_on};
+ghost use Rattle.sdh_plant.specs.Calls.{prepared, after_apply, after_send, after_receive, IsExchanged};
 
 use sdh_frame::{FrameBuf, Landing};
 use sdh_ringmap::{Pos, Side};
@@ -84,8 +84,8 @@ pub trait Plant {
         ensures err { OnErr result (fibres self.new ≡ fibres self.old) }
         ensures cause { HasCause exact (faults self.old) (faults self.new) result };
 
-    /// Sends a frame as `send` does, and may keep it: then another of the same rate, whose bytes mean nothing, comes back in its
-    /// place.
+    /// Sends a frame as `send` does, and may keep it: then the one that the fibre carried comes back in its place, or one of zeros
+    /// where the fibre carried none.
     fn exchange(&mut self, at: Pos, side: Side, frame: &mut FrameBuf) -> Result<(), Failed>
         requires at { at.0 < (fibres self.old).nodes }
         requires rate { frame.old.rate ≡ (fibres self.old).rate }
@@ -93,6 +93,7 @@ pub trait Plant {
         ensures rate { frame.new.rate ≡ frame.old.rate }
         ensures err { OnErr result (fibres self.new ≡ fibres self.old) }
         ensures untouched { OnErr result (frame.new ≡ frame.old) }
+        ensures exchanged { IsExchanged (carried_on (fibres self.old) (fibre at.0 side)) frame.old frame.new }
         ensures cause { HasCause exact (faults self.old) (faults self.new) result }
     {
         self.send(at, side, frame)

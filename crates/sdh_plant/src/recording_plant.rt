@@ -2,9 +2,9 @@
 ghost use Rattle.std.specs.Prelude.{◌≡◌, ◌≢◌, true, ◌+◌, ◌-◌, ◌^◌, ◌<◌, ◌≤◌, ◌↔◌, [], ◌∷◌, ◌++◌, min, None, Ok, IfOk, IsOk, IsErr, OnOk, OnErr, IsOkUnless, IsErrOf, All, length, slice_set, refl};
 ghost use Rattle.sdh_basics.specs.Causes.{Rose, IsCounted, HasCause, one_more};
 ghost use Rattle.sdh_plant.specs.Fibres.{HasNoFibres};
-ghost use Rattle.sdh_terms.specs.Fibres.{IsConditionAt};
-ghost use Rattle.sdh_plant.specs.Arrivals.{Knows, arrival, arrived_in};
-ghost use Rattle.sdh_plant.specs.Calls.{prepared, after_apply, after_send, after_receive};
+ghost use Rattle.sdh_terms.specs.Fibres.{IsConditionAt, fibre};
+ghost use Rattle.sdh_plant.specs.Arrivals.{Knows, arrival, arrived_in, carried_on};
+ghost use Rattle.sdh_plant.specs.Calls.{prepared, after_apply, after_send, after_receive, IsExchanged};
 ghost use Rattle.sdh_plant.specs.InMemory.{laid, recorded_of};
 
 use crate::fibre_plant::FibrePlant;
@@ -166,6 +166,7 @@ impl Plant for RecordingPlant {
         ensures rate { frame.new.rate ≡ frame.old.rate }
         ensures err { OnErr result (recorded_of self.new ≡ recorded_of self.old) }
         ensures untouched { OnErr result (frame.new ≡ frame.old) }
+        ensures exchanged { IsExchanged (carried_on (recorded_of self.old) (fibre at.0 side)) frame.old frame.new }
         ensures cause { HasCause true self.old.faults self.new.faults result }
 
         ensures fails { IsErr result ↔ (length self.old.sent ≡ self.old.room) }

@@ -5,9 +5,9 @@ ghost use Rattle.std.proofs.lemmas.Bool.{false≢true};
 ghost use Rattle.sdh_basics.specs.Causes.{Rose, IsCounted, HasCause};
 ghost use Rattle.sdh_frame.specs.Sizes.{size_of};
 ghost use Rattle.sdh_plant.specs.Fibres.{HasNoFibres};
-ghost use Rattle.sdh_terms.specs.Fibres.{IsConditionAt};
-ghost use Rattle.sdh_plant.specs.Arrivals.{Knows, arrival, arrived_in, next_told};
-ghost use Rattle.sdh_plant.specs.Calls.{is_at, prepared, after_apply, after_send, after_receive};
+ghost use Rattle.sdh_terms.specs.Fibres.{IsConditionAt, fibre};
+ghost use Rattle.sdh_plant.specs.Arrivals.{Knows, arrival, arrived_in, carried_on, next_told};
+ghost use Rattle.sdh_plant.specs.Calls.{is_at, prepared, after_apply, after_send, after_receive, IsExchanged};
 ghost use Rattle.sdh_plant.specs.InMemory.{laid, told_of};
 ghost use Rattle.sdh_plant.specs.Kept.{arrival_of, IsToldAt};
 
@@ -176,6 +176,7 @@ impl Plant for ToldPlant {
         ensures rate { frame.new.rate ≡ frame.old.rate }
         ensures err { OnErr result (told_of self.new ≡ told_of self.old) }
         ensures untouched { OnErr result (frame.new ≡ frame.old) }
+        ensures exchanged { IsExchanged (carried_on (told_of self.old) (fibre at.0 side)) frame.old frame.new }
         ensures cause { HasCause true 0 0 result }
 
         ensures never_fails { IsOk result }

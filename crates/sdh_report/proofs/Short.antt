@@ -1,4 +1,4 @@
--- Each line is short: 96 bytes are room enough, and 4,707 for the lines of a chunk.
+-- Each line is short: `LINE_MAX` bytes are room enough, and `CHUNK_MAX` for the lines of a chunk.
 use Rattle.std.proofs.Common.{◌≡◌, ℕ, zero, suc, ◌+◌, ◌*◌, ◌^◌, ◌<◌, ◌≤◌, List, [], ◌∷◌, ◌++◌, length, drop, codes, decimal, arith, ap, ◌∙◌}
 use Rattle.std.proofs.lemmas.List.{length-append, length-take}
 use Rattle.std.proofs.lemmas.Fmt.{length-decimal-le}
@@ -14,6 +14,7 @@ use Rattle.sdh_payload.specs.declared.delivered.Delivered.TheVariants.{Ais, Chun
 use Rattle.sdh_report.specs.declared.node_line.StateWord.{StateWord}
 use Rattle.sdh_report.specs.declared.node_line.StateWord.TheVariants as word
 use Rattle.sdh_report.specs.declared.node_line.NodeLine.{NodeLine}
+use Rattle.sdh_report.specs.declared.text.TheConstants.{LINE_MAX, CHUNK_MAX}
 use Rattle.sdh_report.specs.declared.status.Status.{Status}
 use Rattle.sdh_report.specs.declared.status.Status.TheVariants as status
 use Rattle.sdh_report.specs.Lines.{step_ended, settle_line, state_text, word_text, node_line, end_letter, port_named, port_line, row, row_line, chunk_rows, drop_lines, side_text, table_place, table_ends, table_line, count_line}
@@ -40,7 +41,7 @@ short-step_ended number round hn hr =
     let b = codes " round " in
     omega (arith, length-append (a ++ decimal number ++ b) (decimal round), length-append (a ++ decimal number) b, length-append a (decimal number), digits_32 number hn, digits_64 round hr)
 
-pub short-settle_line : (number round : ℕ) → number < 2 ^ 32 → round < 2 ^ 64 → length (settle_line number round) ≤ 96
+pub short-settle_line : (number round : ℕ) → number < 2 ^ 32 → round < 2 ^ 64 → length (settle_line number round) ≤ LINE_MAX
 short-settle_line number round hn hr = omega (arith, length-append (step_ended number round) (codes "\n"), short-step_ended number round hn hr)
 
 short-state_text : (s : StateWord) → length (state_text s) ≤ 11
@@ -50,7 +51,7 @@ short-state_text word.SwitchWest = omega arith
 short-state_text word.SwitchEast = omega arith
 short-state_text word.Isolated = omega arith
 
-pub short-node_line : (l : NodeLine) → l.id < 2 ^ 8 → length (node_line l) ≤ 96
+pub short-node_line : (l : NodeLine) → l.id < 2 ^ 8 → length (node_line l) ≤ LINE_MAX
 short-node_line l h =
     let a = codes "node " ++ decimal l.id in
     let b = a ++ codes " " in
@@ -82,7 +83,7 @@ length-port_named name end =
     let a = codes "port " in
     omega (arith, length-append (a ++ name ++ codes " ") (end_letter end), length-append (a ++ name) (codes " "), length-append a name, length-end_letter end)
 
-pub short-port_line : (name : List ℕ) (end : End) (delivered : Delivered) (value : ℕ) → length name ≤ 16 → value < 2 ^ 16 → length (port_line name end delivered value) ≤ 96
+pub short-port_line : (name : List ℕ) (end : End) (delivered : Delivered) (value : ℕ) → length name ≤ 16 → value < 2 ^ 16 → length (port_line name end delivered value) ≤ LINE_MAX
 short-port_line name end Ais value hn hv = omega (arith, length-append (port_named name end) (codes " ais\n"), length-port_named name end)
 short-port_line name end (Chunk chunk) value hn hv =
     omega (arith, length-chunk_line name end value chunk, length-port_named name end, length-take 16 chunk, digits_16 value hv)
@@ -99,7 +100,7 @@ short-rows chunk (suc n) =
     let few : length (row chunk n) ≤ 261 = omega (arith, length-take 261 (drop (261 * n) chunk)) in
     omega (arith, short-rows chunk n, more, short-row_line (row chunk n) few, ap (λ j. length (chunk_rows chunk j)) e)
 
-pub short-drop_lines : (delivered : Delivered) → length (drop_lines delivered) ≤ 4707
+pub short-drop_lines : (delivered : Delivered) → length (drop_lines delivered) ≤ CHUNK_MAX
 short-drop_lines Ais = omega arith
 short-drop_lines (Chunk chunk) = omega (arith, short-rows chunk 9)
 
@@ -107,7 +108,7 @@ short-side_text : (d : Side) → length (side_text d) ≤ 4
 short-side_text West = omega arith
 short-side_text East = omega arith
 
-pub short-table_line : (id : ℕ) (d : Side) (slot : Slot) (name : List ℕ) (from to : ℕ) → id < 2 ^ 8 → slot.0 < 2 ^ 8 → length name ≤ 16 → from < 2 ^ 8 → to < 2 ^ 8 → length (table_line id d slot name from to) ≤ 96
+pub short-table_line : (id : ℕ) (d : Side) (slot : Slot) (name : List ℕ) (from to : ℕ) → id < 2 ^ 8 → slot.0 < 2 ^ 8 → length name ≤ 16 → from < 2 ^ 8 → to < 2 ^ 8 → length (table_line id d slot name from to) ≤ LINE_MAX
 short-table_line id d slot name from to hid hslot hname hfrom hto =
     let a = codes "node " ++ decimal id in
     let b = a ++ codes " " in
@@ -138,7 +139,7 @@ short-table_line id d slot name from to hid hslot hname hfrom hto =
       digits_8 to hto,
     )
 
-pub short-count_line : (number round norm ais : ℕ) → number < 2 ^ 32 → round < 2 ^ 64 → norm < 2 ^ 32 → ais < 2 ^ 32 → length (count_line number round norm ais) ≤ 96
+pub short-count_line : (number round norm ais : ℕ) → number < 2 ^ 32 → round < 2 ^ 64 → norm < 2 ^ 32 → ais < 2 ^ 32 → length (count_line number round norm ais) ≤ LINE_MAX
 short-count_line number round norm ais hn hr hc ha =
     let a = step_ended number round in
     let b = a ++ codes " norm " in
@@ -153,7 +154,7 @@ HasRoom (status.BadPlan reason place) = (reason < 2 ^ 8) × (place < 2 ^ 32)
 HasRoom (status.Unsettled k) = k < 2 ^ 32
 HasRoom _ = Unit {0}
 
-pub short-last_line : (s : Status) → HasRoom s → length (last_line s) ≤ 96
+pub short-last_line : (s : Status) → HasRoom s → length (last_line s) ≤ LINE_MAX
 short-last_line status.Ok h = omega arith
 short-last_line status.Usage h = omega arith
 short-last_line status.ReadFault h = omega arith

@@ -1,6 +1,7 @@
 //! The texts that the program writes, line by line, in room that was reserved before.
 #![tactic(auto)]
 
+pub mod laws;
 mod lines;
 mod listing;
 mod node_line;
@@ -10,4 +11,4 @@ mod text;
 pub use listing::Listing;
 pub use node_line::{NodeLine, StateWord, WordBytes};
 pub use status::Status;
-pub use text::{LINE_MAX, Text};
+pub use text::{CHUNK_MAX, LINE_MAX, Text};

@@ -2,6 +2,8 @@
 ghost use Rattle.std.specs.Prelude.{◌≡◌, ◌≤◌, length};
 ghost use Rattle.sdh_report.specs.Statuses.{number_of, last_line};
 
+use crate::text::LINE_MAX;
+
 /// How the program ends. With each status but `WriteFault` and `Memory` goes a text.
 #[derive(Clone, Copy, Debug, PartialEq, Eq)]
 pub enum Status {
@@ -52,7 +54,7 @@ impl Status {
 
     /// Its last line has room in `LINE_MAX` bytes.
     pub fn has_short_line(&self)
-        ensures { length (last_line self.now) ≤ 96 }
+        ensures { length (last_line self.now) ≤ LINE_MAX }
     {
         match *self {
             Status::BadPlan { reason, place } => short_plan(reason, place),
@@ -64,13 +66,13 @@ impl Status {
 
 // Numbers of these sizes have few digits.
 fn short_plan(reason: u8, place: u32)
-    ensures { length (last_line (Status.BadPlan reason place)) ≤ 96 }
+    ensures { length (last_line (Status.BadPlan reason place)) ≤ LINE_MAX }
 {
     let _ = (reason, place);
 }
 
 fn short_step(number: u32)
-    ensures { length (last_line (Status.Unsettled number)) ≤ 96 }
+    ensures { length (last_line (Status.Unsettled number)) ≤ LINE_MAX }
 {
     let _ = number;
 }

@@ -9,8 +9,11 @@ use std::alloc::{AllocError, Global};
 use std::fmt;
 use std::marker::Model;
 
-/// Room for any one line but a delivered chunk's, in bytes. A chunk's lines have at most 4,707.
+/// Room for any one line but those of a delivered chunk, in bytes.
 pub const LINE_MAX: usize = 96;
+
+/// Room for the lines of a delivered chunk, in bytes: nine rows of 261 bytes, two digits each, with their newline bytes.
+pub const CHUNK_MAX: usize = 4707;
 
 /// A list of bytes with reserved room. Its room is reserved when it is made, so no line takes memory.
 #[derive(Drop)]

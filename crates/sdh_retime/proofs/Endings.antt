@@ -1,21 +1,12 @@
 -- What the parts of an answer come to.
-use Rattle.std.proofs.Common.{◌≡◌, ℕ, Bool, true, List, Option, Some, None, Result, Ok, Err, subst}
-use Rattle.std.specs.Prelude.{IfOk, IfSome}
+use Rattle.std.proofs.Common.{◌≡◌, ℕ, Bool, true, List, Option, subst}
 use Rattle.std.specs.Io.KnownBytes.{Appends}
-use Rattle.sdh_outside.specs.Writing.{AppendsFewer}
+use Rattle.sdh_shell.proofs.Failing.{came_of_none}
 use Rattle.sdh_retime.specs.declared.status.Status.{Status}
 use Rattle.sdh_retime.specs.declared.status.Status.TheVariants as status
 use Rattle.sdh_retime.specs.Digits.{IsDigits}
 use Rattle.sdh_retime.specs.Outcome.{IsRunOutcome, IsOutcome, Writes, CameTo, UnsteadyBy}
 use Rattle.sdh_retime.proofs.Unsteady.{drifts_are_unsteady}
-
-pub some_then : {X : Type 0} (P Q : X → Type 0) (o : Option X) → ((x : X) → P x → Q x) → IfSome o P → IfSome o Q
-some_then P Q (Some x) f h = f x h
-some_then P Q None f h = h
-
-pub ok_then : {X E : Type 0} (P Q : X → Type 0) (r : Result X E) → ((x : X) → P x → Q x) → IfOk r P → IfOk r Q
-ok_then P Q (Ok x) f h = f x h
-ok_then P Q (Err e) f h = h
 
 -- the turn of a run that ended with a drift
 pub unsteady_run : (digits bytes : List ℕ) (s : Status) (text : List ℕ) → IsDigits digits → IsRunOutcome digits bytes s text → (turn : ℕ) → s ≡ status.Drift turn → UnsteadyBy digits turn
@@ -39,13 +30,6 @@ whole words bytes (status.Drift t) text old new is written = (text, is, written)
 whole words bytes status.WriteFault text old new is written = absurd is
 whole words bytes status.Memory text old new is written = absurd is
 
--- an outcome of which a front was written
-pub front : (words : List (List ℕ)) (bytes : List ℕ) (s : Status) (text : List ℕ) (old new : Option (List ℕ)) → IsOutcome words bytes s text → AppendsFewer old new text → Writes words bytes status.WriteFault old new
-front words bytes s text old new is written = (s, text, is, written)
-
 -- there was no memory, and no read failed
 pub came_without : (exact : Bool) (before after : ℕ) (left now : Option (List ℕ)) → (exact ≡ true → after ≡ before) → CameTo exact before after left now status.Memory
-came_without exact before after left now same = record {
-  reads = record { one = λ e f. absurd (cc); none = λ e other. same e };
-  too_long = λ e. absurd (cc);
-}
+came_without exact before after left now same = came_of_none exact (record { before = before; after = after }) left now same (λ e. cc) (λ e. cc)

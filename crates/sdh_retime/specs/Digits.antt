@@ -1,7 +1,6 @@
 -- The program's word, and the chunks into which it cuts its input.
-use Rattle.std.specs.Prelude.{◌≡◌, ℕ, zero, suc, ◌+◌, ◌-◌, ◌%◌, ◌≤◌, List, [], ◌∷◌, length, take, drop, get_or, map, String, string_bytes}
+use Rattle.std.specs.Prelude.{◌≡◌, ℕ, zero, suc, ◌+◌, ◌-◌, ◌%◌, ◌≤◌, List, [], ◌∷◌, length, take, drop, get_or}
 use Rattle.std.specs.List.{All}
-use Rattle.std.specs.declared.alloc.Global.{Global}
 
 -- a digit from `0` to `6`
 abbrev pub IsDigit : ℕ → Type 0
@@ -12,10 +11,6 @@ pub record IsDigits (word : List ℕ) : Type 0 where
   pub some : 1 ≤ length word
   pub few : length word ≤ 64
   pub each : All IsDigit word
-
--- the words of a command line, as bytes
-abbrev pub words_of : List (String Global) → List (List ℕ)
-words_of words = map string_bytes words
 
 -- the words are one word of digits
 abbrev pub AreDigits : List (List ℕ) → Type 0

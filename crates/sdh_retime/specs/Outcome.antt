@@ -1,11 +1,9 @@
 -- How a call of the program ends: each status, when it is answered, and the text that goes with it.
 use Rattle.std.specs.Prelude.{◌≡◌, ℕ, suc, ◌+◌, ◌-◌, ◌<◌, ◌≤◌, ◌⊎◌, Bool, true, false, List, [], ◌∷◌, ◌++◌, length, codes, Option}
-use Rattle.std.specs.Io.KnownBytes.{Appends, Keeps}
-use Rattle.sdh_basics.specs.Causes.{IsCounted}
-use Rattle.sdh_outside.specs.Reading.{TakesCount}
-use Rattle.sdh_outside.specs.Writing.{AppendsFewer}
 use Rattle.sdh_report.specs.Lines.{own_line}
 use Rattle.sdh_elastic.specs.History.{lasts, lengths}
+use Rattle.sdh_shell.specs.Failing.{CameOfSource}
+use Rattle.sdh_shell.specs.Writing.{Telling, Whole, Front, Nothing, WritesAs}
 use Rattle.sdh_retime.specs.declared.status.Status.{Status}
 use Rattle.sdh_retime.specs.declared.status.Status.TheVariants as status
 use Rattle.sdh_retime.specs.Digits.{IsDigits, AreDigits, size_at, offset_at, chunks}
@@ -63,12 +61,15 @@ IsOutcome words bytes (status.Drift turn) text = (digits : List ℕ) × IsRead w
 IsOutcome words bytes status.WriteFault text = ⊥
 IsOutcome words bytes status.Memory text = ⊥
 
--- what was written when this status was answered: the outcome's whole text; with a write fault fewer bytes, from the front of
--- an outcome's text; with want of memory nothing
+-- with what text a status goes
+abbrev pub telling_of : Status → Telling
+telling_of status.WriteFault = Front
+telling_of status.Memory = Nothing
+telling_of how = Whole
+
+-- what was written when this status was answered
 abbrev pub Writes : List (List ℕ) → List ℕ → Status → Option (List ℕ) → Option (List ℕ) → Type 0
-Writes words bytes status.WriteFault old new = (s : Status) × (text : List ℕ) × IsOutcome words bytes s text × AppendsFewer old new text
-Writes words bytes status.Memory old new = Keeps old new
-Writes words bytes s old new = (text : List ℕ) × IsOutcome words bytes s text × Appends old new text
+Writes words bytes how old new = WritesAs (telling_of how) (λ how text. IsOutcome words bytes how text) how old new
 
 -- what was written when this number was answered
 pub record Answers (words : List (List ℕ)) (bytes : List ℕ) (number : ℕ) (old new : Option (List ℕ)) : Type 0 where
@@ -76,11 +77,9 @@ pub record Answers (words : List (List ℕ)) (bytes : List ℕ) (number : ℕ) (
   pub numbered : number ≡ number_of status
   pub writes : Writes words bytes status old new
 
--- What had come of the source when there was this to tell. Where the count is exact, one read failed with a read fault, and none
--- without it. With too many bytes, one more than the program reads was taken.
-pub record CameTo (exact : Bool) (before after : ℕ) (left now : Option (List ℕ)) (how : Status) : Type 0 where
-  pub reads : IsCounted exact (how ≡ status.ReadFault) before after
-  pub too_long : how ≡ status.TooLong → TakesCount left now 1048577
+-- what had come of the source when there was this to tell
+abbrev pub CameTo : Bool → ℕ → ℕ → Option (List ℕ) → Option (List ℕ) → Status → Type 0
+CameTo exact before after left now how = CameOfSource exact (record { before = before; after = after }) left now (how ≡ status.ReadFault) (how ≡ status.TooLong)
 
 -- the source was read to its end and the run came to an end
 abbrev pub HasRun : Status → Type 0

@@ -1,7 +1,8 @@
 //! The program's word: digits that tell the lengths of chunks.
 ghost use Rattle.std.specs.Prelude.{◌≡◌, ◌≤◌, ◌↔◌, [], ◌∷◌, IsTrue, IfSome, MatchOption};
 ghost use Rattle.sdh_elastic.specs.Turns.{IsChunk};
-ghost use Rattle.sdh_retime.specs.Digits.{IsDigits, AreDigits, words_of, size_at};
+ghost use Rattle.sdh_shell.specs.Calls.{words_of};
+ghost use Rattle.sdh_retime.specs.Digits.{IsDigits, AreDigits, size_at};
 
 /// The most digits of a word.
 const DIGITS_MAX: usize = 64;

@@ -4,7 +4,8 @@ ghost use Rattle.std.specs.Io.KnownBytes.{IsAtEnd};
 ghost use Rattle.sdh_basics.specs.Causes.{Rose, IsCounted};
 ghost use Rattle.sdh_outside.specs.Reading.{TakesCount, TellsAtMost};
 ghost use Rattle.sdh_report.specs.Lines.{own_line};
-ghost use Rattle.sdh_retime.specs.Digits.{AreDigits, words_of};
+ghost use Rattle.sdh_shell.specs.Calls.{words_of};
+ghost use Rattle.sdh_retime.specs.Digits.{AreDigits};
 ghost use Rattle.sdh_retime.specs.declared.status.Status.{Status};
 ghost use Rattle.sdh_retime.specs.Outcome.{number_of, IsOutcome, Writes, Answers, CameTo, HasRun, AreUnsteady};
 

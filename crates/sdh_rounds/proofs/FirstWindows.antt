@@ -1,13 +1,13 @@
--- The number of rounds of a step, computed.
-use Rattle.std.proofs.Common.{◌≡◌, ℕ, zero, suc, ◌*◌, ◌-◌, ◌%◌, Bool, true, false, length, Option, Some, None, refl, ap, sym, subst, arith, inl, inr}
-use Rattle.std.specs.Prelude.{nat_le, ◌==◌, ◌&&◌, if◌then◌else◌}
-use Rattle.std.proofs.lemmas.Bool.{cases_lt}
+-- The number of rounds of a step, as the first that ends a window.
+use Rattle.std.proofs.Common.{◌≡◌, ℕ, zero, suc, ◌+◌, ◌*◌, ◌-◌, ◌%◌, ◌<◌, ◌≤◌, Bool, true, false, length, Option, Some, None, refl, ap, sym, subst, arith, inl, inr}
+use Rattle.std.specs.Prelude.{nat_le, ◌==◌, ◌&&◌, cond, find}
+use Rattle.std.specs.List.{list_all, range_with_len}
+use Rattle.std.proofs.lemmas.Bool.{cases_lt, cases_eq}
 use Rattle.std.proofs.lemmas.Bool.Decides.{nat_tests}
 use Rattle.sdh_rounds.specs.Stations.{Station}
 use Rattle.sdh_rounds.specs.Held.{World}
 use Rattle.sdh_rounds.specs.Runs.{course}
-use Rattle.sdh_rounds.specs.Quiet.{EndsWindow, SettlesAt, NeverSettles, streak, ends_window, or_now, first_window, settles_in}
-use Rattle.sdh_rounds.proofs.Windows.{window_if, window_only}
+use Rattle.sdh_rounds.specs.Quiet.{is_calm, IsCalm, EndsWindow, SettlesAt, NeverSettles, ends_window, settles_in}
 
 both_true : (a b : Bool) → a ≡ true → b ≡ true → (a && b) ≡ true
 both_true true true x y = refl
@@ -25,25 +25,45 @@ right_true false b e = absurd (none e)
     none : false ≡ true → ⊥
     none x = cc
 
+-- all of m numbers from a on pass a test
+all_pass : (p : ℕ → Bool) (a m : ℕ) → ((i : ℕ) → a ≤ i → i < a + m → p i ≡ true) → list_all p (range_with_len a m) ≡ true
+all_pass p a zero h = refl
+all_pass p a (suc m) h = both_true (p a) (list_all p (range_with_len (a + 1) m)) (h a (omega arith) (omega arith)) (all_pass p (a + 1) m (λ i low high. h i (omega arith) (omega arith)))
+
+one_passes : (p : ℕ → Bool) (a m i : ℕ) → list_all p (range_with_len a m) ≡ true → a ≤ i → i < a + m → p i ≡ true
+one_passes p a zero i e low high = absurd (omega arith)
+one_passes p a (suc m) i e low high = elim (cases_eq i a) [
+  | inl same ↦ subst (λ (x : ℕ). p x ≡ true) (sym same) (left_true (p a) (list_all p (range_with_len (a + 1) m)) e)
+  | inr other ↦ one_passes p (a + 1) m i (right_true (p a) (list_all p (range_with_len (a + 1) m)) e) (omega arith) (omega arith)
+]
+
 module _ {N : Type 0} (st : Station N) where
   pub window_computed : (at : ℕ → World N) (k : ℕ) → EndsWindow st at k → ends_window st at k ≡ true
   unfolding ends_window
   window_computed at k e =
-      let long = window_only st at k e in
+      let n : ℕ = 3 * length (at k).ring.ids in
+      let long = e.long in
       let place = e.place in
-      both_true (nat_le (3 * length (at k).ring.ids) (streak st at k)) (((at k).ring.rounds - 1) % 128 == 0) (grind (arith, nat_tests)) (grind (arith, nat_tests))
+      let calm = λ (i : ℕ). is_calm st (at (k - i)).ring.nodes in
+      both_true (nat_le n k) (list_all calm (range_with_len 0 n) && (((at k).ring.rounds - 1) % 128 == 0)) (grind (arith, nat_tests))
+      (both_true (list_all calm (range_with_len 0 n)) (((at k).ring.rounds - 1) % 128 == 0) (all_pass calm 0 n (λ i low high. e.calm (k - i) (omega arith) (omega arith))) (grind (arith, nat_tests)))
 
   pub window_from_computed : (at : ℕ → World N) (k : ℕ) → ends_window st at k ≡ true → EndsWindow st at k
   unfolding ends_window
   window_from_computed at k e =
-      let a = left_true (nat_le (3 * length (at k).ring.ids) (streak st at k)) (((at k).ring.rounds - 1) % 128 == 0) e in
-      let b = right_true (nat_le (3 * length (at k).ring.ids) (streak st at k)) (((at k).ring.rounds - 1) % 128 == 0) e in
-      window_if st at k (grind (arith, nat_tests)) (grind (arith, nat_tests))
-
-  -- what a search up to a limit says
-  abbrev Says : (ℕ → World N) → ℕ → Option ℕ → Type 0
-  Says at limit None = NeverSettles st at limit
-  Says at limit (Some k) = SettlesAt st at limit k
+      let n : ℕ = 3 * length (at k).ring.ids in
+      let calm = λ (i : ℕ). is_calm st (at (k - i)).ring.nodes in
+      let a = left_true (nat_le n k) (list_all calm (range_with_len 0 n) && (((at k).ring.rounds - 1) % 128 == 0)) e in
+      let rest = right_true (nat_le n k) (list_all calm (range_with_len 0 n) && (((at k).ring.rounds - 1) % 128 == 0)) e in
+      let all = left_true (list_all calm (range_with_len 0 n)) (((at k).ring.rounds - 1) % 128 == 0) rest in
+      let b = right_true (list_all calm (range_with_len 0 n)) (((at k).ring.rounds - 1) % 128 == 0) rest in
+      record {
+        long = grind (arith, nat_tests);
+        calm = λ j low high.
+            let back : k - (k - j) ≡ j = omega arith in
+            subst (λ (x : ℕ). IsCalm st at x) back (one_passes calm 0 n (k - j) all (omega arith) (omega arith));
+        place = grind (arith, nat_tests);
+      }
 
   no : {P : Type 0} (at : ℕ → World N) (k : ℕ) → ends_window st at k ≡ false → EndsWindow st at k → P
   no at k e w = absurd (clash (ends_window st at k) (window_computed at k w) e)
@@ -51,27 +71,53 @@ module _ {N : Type 0} (st : Station N) where
       clash : (b : Bool) → b ≡ true → b ≡ false → ⊥
       clash b x y = cc
 
-  pub says : (at : ℕ → World N) (limit : ℕ) → Says at limit (first_window st at limit)
-  says at zero = go (ends_window st at zero) refl
+  -- what a search of m numbers from a on says
+  abbrev Finds : (ℕ → World N) → ℕ → ℕ → Option ℕ → Type 0
+  Finds at a m None = (j : ℕ) → a ≤ j → j < a + m → EndsWindow st at j → ⊥
+  Finds at a m (Some k) = (a ≤ k) × ((k < a + m) × (EndsWindow st at k × ((j : ℕ) → a ≤ j → j < k → EndsWindow st at j → ⊥)))
+
+  finds : (at : ℕ → World N) (a m : ℕ) → Finds at a m (find (ends_window st at) (range_with_len a m))
+  finds at a zero = λ j low high w. absurd (omega arith)
+  finds at a (suc m) = go (ends_window st at a) refl (find (ends_window st at) (range_with_len (a + 1) m)) (finds at (a + 1) m)
     where
-      go : (b : Bool) → ends_window st at zero ≡ b → Says at zero (if b then Some zero else None)
-      go true e = record { within = omega arith; window = window_from_computed at zero e; first = λ j low w. absurd (omega arith) }
-      go false e = λ j low w. (let here : zero ≡ j = omega arith in no at zero e (subst (λ (x : ℕ). EndsWindow st at x) (sym here) w))
-  says at (suc k) = go (first_window st at k) (says at k) (ends_window st at (suc k)) refl
-    where
-      go : (o : Option ℕ) → Says at k o → (b : Bool) → ends_window st at (suc k) ≡ b → Says at (suc k) (or_now (suc k) b o)
-      go (Some j) h b e = record { within = let l = h.within in omega arith; window = h.window; first = h.first }
-      go None h true e = record { within = omega arith; window = window_from_computed at (suc k) e; first = λ j low w. h j (omega arith) w }
-      go None h false e = λ j low w. elim (cases_lt k j) [
-        | inr before ↦ h j before w
-        | inl last ↦ (let here : j ≡ suc k = omega arith in no at (suc k) e (subst (λ (x : ℕ). EndsWindow st at x) here w))
+      go : (b : Bool) → ends_window st at a ≡ b → (o : Option ℕ) → Finds at (a + 1) m o → Finds at a (suc m) (cond b (Some a) o)
+      go true e o h = (omega arith, (omega arith, (window_from_computed at a e, λ j low high w. absurd (omega arith))))
+      go false e None h = λ j low high w. elim (cases_eq j a) [
+        | inl same ↦ no at a e (subst (λ (x : ℕ). EndsWindow st at x) same w)
+        | inr other ↦ h j (omega arith) (omega arith) w
       ]
+      go false e (Some k) h = (
+        omega (arith, h.0),
+        (
+          omega (arith, h.1.0),
+          (
+            h.1.1.0,
+            λ j low high w. elim (cases_eq j a) [
+              | inl same ↦ no at a e (subst (λ (x : ℕ). EndsWindow st at x) same w)
+              | inr other ↦ h.1.1.1 j (omega arith) high w
+            ],
+          ),
+        ),
+      )
+
+  -- what a search up to a limit says
+  abbrev Says : (ℕ → World N) → ℕ → Option ℕ → Type 0
+  Says at limit None = NeverSettles st at limit
+  Says at limit (Some k) = SettlesAt st at limit k
+
+  says_by : (at : ℕ → World N) (limit : ℕ) (o : Option ℕ) → Finds at 0 (limit + 1) o → Says at limit o
+  says_by at limit None h = λ j low w. h j (omega arith) (omega arith) w
+  says_by at limit (Some k) h = record { within = omega (arith, h.1.0); window = h.1.1.0; first = λ j low w. h.1.1.1 j (omega arith) low w }
+
+  pub says : (w : World N) (limit : ℕ) → Says (course st w) limit (settles_in st w limit)
+  unfolding settles_in
+  says w limit = says_by (course st w) limit (find (ends_window st (course st w)) (range_with_len 0 (limit + 1))) (finds (course st w) 0 (limit + 1))
 
   pub settles_if : (w : World N) (limit k : ℕ) → settles_in st w limit ≡ Some k → SettlesAt st (course st w) limit k
-  settles_if w limit k e = subst (λ o. Says (course st w) limit o) e (says (course st w) limit)
+  settles_if w limit k e = subst (λ o. Says (course st w) limit o) e (says w limit)
 
   pub never_if : (w : World N) (limit : ℕ) → settles_in st w limit ≡ None → NeverSettles st (course st w) limit
-  never_if w limit e = subst (λ o. Says (course st w) limit o) e (says (course st w) limit)
+  never_if w limit e = subst (λ o. Says (course st w) limit o) e (says w limit)
 
   only : (at : ℕ → World N) (limit k : ℕ) (o : Option ℕ) → Says at limit o → SettlesAt st at limit k → o ≡ Some k
   only at limit k None h s = absurd (h k s.within s.window)
@@ -84,11 +130,11 @@ module _ {N : Type 0} (st : Station N) where
   ]
 
   pub settles_only : (w : World N) (limit k : ℕ) → SettlesAt st (course st w) limit k → settles_in st w limit ≡ Some k
-  settles_only w limit k s = only (course st w) limit k (settles_in st w limit) (says (course st w) limit) s
+  settles_only w limit k s = only (course st w) limit k (settles_in st w limit) (says w limit) s
 
   never : (at : ℕ → World N) (limit : ℕ) (o : Option ℕ) → Says at limit o → NeverSettles st at limit → o ≡ None
   never at limit None h s = refl
   never at limit (Some j) h s = absurd (s j h.within h.window)
 
   pub never_only : (w : World N) (limit : ℕ) → NeverSettles st (course st w) limit → settles_in st w limit ≡ None
-  never_only w limit s = never (course st w) limit (settles_in st w limit) (says (course st w) limit) s
+  never_only w limit s = never (course st w) limit (settles_in st w limit) (says w limit) s

@@ -7,8 +7,8 @@ use Rattle.sdh_rounds.specs.Stations.{Station}
 use Rattle.sdh_rounds.specs.Held.{HeldRing, World}
 use Rattle.sdh_rounds.specs.Rounds.{round_with}
 use Rattle.sdh_rounds.specs.Runs.{Arrive, run_with, ArriveIn, course_with, IsRound, IsBrokenOff}
-use Rattle.sdh_rounds.specs.Quiet.{is_calm, EndsWindow, NeverSettles, streak, Settles, Unsettles, BreaksOff}
-use Rattle.sdh_rounds.proofs.Windows.{window_if, window_only, none_more, streak_none, streak_more, streak_same, never_same}
+use Rattle.sdh_rounds.specs.Quiet.{is_calm, EndsWindow, NeverSettles, Settles, Unsettles, BreaksOff}
+use Rattle.sdh_rounds.proofs.Windows.{streak, window_if, window_only, none_more, streak_none, streak_more, streak_same, never_same}
 use Rattle.sdh_rounds.proofs.Runs.{run_with_more, arrive_more, course_more, course_whole, held_round, held_run}
 
 pub less_counted : (b : Bool) (before now k : ℕ) → now ≡ (if b then before + 1 else 0) → before ≤ k → now ≤ k + 1

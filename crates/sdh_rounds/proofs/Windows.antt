@@ -4,10 +4,15 @@ use Rattle.std.specs.Prelude.{if◌then◌else◌}
 use Rattle.std.proofs.lemmas.Bool.{cases_lt}
 use Rattle.sdh_rounds.specs.Stations.{Station}
 use Rattle.sdh_rounds.specs.Held.{World}
-use Rattle.sdh_rounds.specs.Quiet.{is_calm, IsCalm, EndsWindow, NeverSettles, streak}
+use Rattle.sdh_rounds.specs.Quiet.{is_calm, IsCalm, EndsWindow, NeverSettles}
 
 true_false : (b : Bool) → b ≡ true → b ≡ false → ⊥
 true_false b t f = cc
+
+-- how many calm rounds the k-th round ends, as a loop counts them
+unfoldable pub streak : {N : Type 0} → Station N → (ℕ → World N) → ℕ → ℕ
+streak s at zero = 0
+streak s at (suc k) = if is_calm s (at (suc k)).ring.nodes then streak s at k + 1 else 0
 
 module _ {N : Type 0} (st : Station N) where
   -- either a round is calm and the count grows, or it is not and the count is 0

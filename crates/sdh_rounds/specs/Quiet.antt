@@ -1,6 +1,6 @@
 -- Quiet windows, and where a settle step ends. This project's own.
-use Rattle.std.specs.Prelude.{ℕ, ◌≡◌, ◌+◌, ◌*◌, ◌-◌, ◌%◌, ◌==◌, ◌&&◌, ◌<◌, ◌≤◌, suc, zero, Bool, true, nat_le, Option, Some, None, List, length, if◌then◌else◌}
-use Rattle.std.specs.List.{list_all}
+use Rattle.std.specs.Prelude.{ℕ, ◌≡◌, ◌+◌, ◌*◌, ◌-◌, ◌%◌, ◌==◌, ◌&&◌, ◌<◌, ◌≤◌, Bool, true, nat_le, Option, List, length, find}
+use Rattle.std.specs.List.{list_all, range_with_len}
 use Rattle.sdh_plant.specs.Fibres.{Arrival, Fibres}
 use Rattle.sdh_rounds.specs.Stations.{Station}
 use Rattle.sdh_rounds.specs.Held.{World}
@@ -32,29 +32,16 @@ pub record SettlesAt {N : Type 0} (s : Station N) (at : ℕ → World N) (limit 
 abbrev pub NeverSettles : {N : Type 0} → Station N → (ℕ → World N) → ℕ → Type 0
 NeverSettles s at limit = (j : ℕ) → j ≤ limit → EndsWindow s at j → ⊥
 
--- ---- the same, computed
+-- ---- the same, as an answer
 
--- how many calm rounds the k-th round ends
-unfoldable pub streak : {N : Type 0} → Station N → (ℕ → World N) → ℕ → ℕ
-streak s at zero = 0
-streak s at (suc k) = if is_calm s (at (suc k)).ring.nodes then streak s at k + 1 else 0
-
--- whether a window ends with the k-th round
+-- whether a quiet window ends with the k-th round
 unfoldable pub ends_window : {N : Type 0} → Station N → (ℕ → World N) → ℕ → Bool
-ends_window s at k = nat_le (3 * length (at k).ring.ids) (streak s at k) && (((at k).ring.rounds - 1) % 128 == 0)
+ends_window s at k =
+    nat_le (3 * length (at k).ring.ids) k && (list_all (λ i. is_calm s (at (k - i)).ring.nodes) (range_with_len 0 (3 * length (at k).ring.ids)) && (((at k).ring.rounds - 1) % 128 == 0))
 
-abbrev pub or_now : ℕ → Bool → Option ℕ → Option ℕ
-or_now k ends (Some j) = Some j
-or_now k ends None = if ends then Some k else None
-
--- the first number of rounds within the limit that ends a window
-abbrev pub first_window : {N : Type 0} → Station N → (ℕ → World N) → ℕ → Option ℕ
-first_window s at zero = if ends_window s at zero then Some zero else None
-first_window s at (suc k) = or_now (suc k) (ends_window s at (suc k)) (first_window s at k)
-
--- in how many rounds a step from w ends, where arrivals are known
-abbrev pub settles_in : {N : Type 0} → Station N → World N → ℕ → Option ℕ
-settles_in s w limit = first_window s (course s w) limit
+-- in how many rounds a step from w ends, where arrivals are known: the first number within the limit that ends a window
+unfoldable pub settles_in : {N : Type 0} → Station N → World N → ℕ → Option ℕ
+settles_in s w limit = find (ends_window s (course s w)) (range_with_len 0 (limit + 1))
 
 -- ---- what a step leaves, whatever arrives
 

@@ -24,13 +24,15 @@ pub trait Station {
     ghost MayRun: { ℕ → Self → Type 0 };
 
     /// Keeps what arrived on a side for its next round, in place of what arrived there since the last one. What landed is taken in
-    /// exchange for another buffer of the same rate.
+    /// exchange for another buffer of the same rate, in which nothing has landed.
     fn exchange(&mut self, side: Side, arrived: Arrived, inbox: &mut Landed)
         requires rate { inbox.old.rate ≡ rate self.old }
         requires here { arrived ≡ Arrived.Frame → inbox.old.landed ≢ None }
         ensures node { self.new ≡ kind.told side (arrived_in arrived inbox.old.landed) self.old }
         ensures same_rate { rate self.new ≡ rate self.old }
-        ensures rate { inbox.new.rate ≡ inbox.old.rate };
+        ensures rate { inbox.new.rate ≡ inbox.old.rate }
+        ensures dark { arrived ≡ Arrived.Dark → inbox.new ≡ inbox.old }
+        ensures taken { arrived ≡ Arrived.Frame → inbox.new.landed ≡ None };
 
     /// Runs a round at a moment, and gives the frames that it sends on both sides.
     fn send(&mut self, now: Moment, west: &mut FrameBuf, east: &mut FrameBuf)

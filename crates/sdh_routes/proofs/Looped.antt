@@ -13,7 +13,7 @@ use Rattle.sdh_routes.proofs.Between.{passes-at}
 use Rattle.sdh_routes.proofs.Seen.{Seen}
 use Rattle.sdh_routes.proofs.Segments.{chain_passes, past}
 use Rattle.sdh_routes.proofs.Views.{arc_length, is_in_chain, passes}
-use Rattle.sdh_ringmap.specs.Steps.{going, way}
+use Rattle.sdh_ringmap.specs.Steps.{going}
 use Rattle.sdh_routes.specs.Walks.{port_at}
 use Rattle.sdh_squelch.proofs.LookUps.{entry}
 use Rattle.sdh_squelch.specs.Table.{circuit_from}
@@ -44,11 +44,13 @@ module _ (n : ℕ) (cs : List Provisioned) (some : 0 < n) (d : Side) (p : ℕ) (
     passed_last : passes n d f (going n d p x) (going n d p (arc_length n c)) ≡ true
     passed_last = (and_parts (passes n d f (going n d p x) (going n d p 0)) (passes n d f (going n d p x) (going n d p (arc_length n c))) both_passed).1
 
-    -- the chain's other end is on the arc, beyond the node
-    record IsBeyond : Type 0 where
-      around : j + k ≡ x + n
-      after : x < j
-      within : j ≤ arc_length n c
+    -- the chain's other end is on the arc, so many steps along it, beyond the node
+    pub record IsBeyond : Type 0 where
+      pub step : ℕ
+      pub there : going n d p step ≡ f
+      pub around : step + k ≡ x + n
+      pub after : x < step
+      pub within : step ≤ arc_length n c
 
     last_after : j ≤ arc_length n c → arc_length n c - j ≤ k
     last_after h = let short = seen.short in passed_if (arc_length n c - j) (ap (λ i. passes n d f (going n d p x) (going n d p i)) (omega arith) ∙ passed_last) (omega arith)
@@ -60,7 +62,7 @@ module _ (n : ℕ) (cs : List Provisioned) (some : 0 < n) (d : Side) (p : ℕ) (
 
     within_by : j + k ≡ x + n → (arc_length n c < j) ⊎ (j ≤ arc_length n c) → IsBeyond
     within_by e (inl past) = let t = last_before past in absurd (omega arith)
-    within_by e (inr good) = record { around = e; after = omega arith; within = good }
+    within_by e (inr good) = record { step = j; there = at.there; around = e; after = omega arith; within = good }
 
     by_round : (j + k < n) ⊎ (n ≤ j + k) → IsBeyond
     by_round (inl low) =
@@ -73,19 +75,13 @@ module _ (n : ℕ) (cs : List Provisioned) (some : 0 < n) (d : Side) (p : ℕ) (
         let e = going-once n some d p (j + k - n) x (omega arith) (omega arith) (sym (going-round n some d p (j + k - n)) ∙ ap (going n d p) (omega arith) ∙ same) in
         within_by (omega arith) (cases_lt (arc_length n c) j)
 
-    beyond : IsBeyond
+    pub beyond : IsBeyond
     beyond = by_round (cases_lt (j + k) n)
-
-    -- the circuit is on each span outside the chain
-    pub holds-outside : (i : ℕ) → i + k < n → circuit_from n (way n d (going n d p x) i) c.slot.0 0 cs ≡ Some (entry index c)
-    holds-outside i h =
-        let b = beyond in let a = b.around in let w = b.within in
-        ap (λ q. circuit_from n (span_at n q d) c.slot.0 0 cs) (going-add n some d p x i) ∙ seen.on_arc (x + i) (omega arith)
 
     -- so it comes back at the chain's other end
     pub comes-back : circuit_from n (span_at n f (opposite d)) c.slot.0 0 cs ≡ Some (entry index c)
     comes-back =
         let b = beyond in let a = b.after in let w = b.within in
-        let last : suc (j - 1) ≡ j = omega arith in
-        ap (λ s. circuit_from n s c.slot.0 0 cs) (ap (λ q. span_at n q (opposite d)) (sym at.there ∙ ap (going n d p) (sym last)) ∙ way-behind n some d p (j - 1))
-        ∙ seen.on_arc (j - 1) (omega arith)
+        let last : suc (b.step - 1) ≡ b.step = omega arith in
+        ap (λ s. circuit_from n s c.slot.0 0 cs) (ap (λ q. span_at n q (opposite d)) (sym b.there ∙ ap (going n d p) (sym last)) ∙ way-behind n some d p (b.step - 1))
+        ∙ seen.on_arc (b.step - 1) (omega arith)

@@ -1,10 +1,7 @@
 -- What comes of a plan.
-use Rattle.std.proofs.Common.{◌≡◌, ◌⊎◌, true, ℕ, ◌+◌, ◌*◌, List, [], ◌∷◌, length, take, refl, ◌≤◌, ap, sym, ◌∙◌, subst, arith, inl, inr}
-use Rattle.std.specs.Prelude.{Result, Ok, Err, IfOk}
+use Rattle.std.proofs.Common.{◌≡◌, true, ℕ, List, [], length, refl, ◌≤◌, ap, sym, subst, arith, inl, inr}
 use Rattle.sdh_plant.specs.Fibres.{Fibres, IsHonest}
 use Rattle.sdh_plant.specs.Arrivals.{Knows}
-use Rattle.sdh_world.specs.Rounds.{World}
-use Rattle.sdh_rounds.specs.Laws.{Appends}
 use Rattle.sdh_world.proofs.Keeping.{length-new}
 use Rattle.sdh_world.specs.Held.{new_ring}
 use Rattle.sdh_laws.specs.Carrying.Windows.{layout_in, HasCircuits}
@@ -16,63 +13,33 @@ use Rattle.sdh_report.specs.Reports.{Report}
 use Rattle.sdh_report.specs.declared.listing.Listing.{Listing}
 use Rattle.sdh_report.specs.declared.status.Status.{Status}
 use Rattle.sdh_report.specs.declared.status.Status.TheVariants as status
-use Rattle.sdh_plan.specs.declared.step.Step.{Step}
-use Rattle.sdh_plan.specs.declared.step.Step.TheVariants as step
 use Rattle.sdh_promise.specs.Changes.{scenes}
-use Rattle.sdh_owed.specs.Steps.{after_step}
-use Rattle.sdh_owed.specs.Scripts.{Runs, sent_by, IsRan, IsCutShort}
-use Rattle.sdh_owed.specs.Healthy.{AllSettle, IsSettled}
-use Rattle.sdh_owed.specs.Laws.{KnownScripts, ReportsAreOwed, ScriptsSettle, HealthyScripts}
+use Rattle.sdh_owed.specs.Healthy.{AllSettle}
+use Rattle.sdh_owed.specs.Laws.{ReportsAreOwed, ScriptsSettle, HealthyScripts}
 use Rattle.sdh_course.specs.Course.{CoursesAreTold}
 use Rattle.sdh_course.proofs.Course.{none_ran}
-use Rattle.sdh_owed.proofs.Known.{none_sent, none_appended}
-use Rattle.sdh_owed.proofs.History.{owed_none, refused_ends}
-use Rattle.sdh_owed.proofs.Settling.{settled_by, fault_settles}
+use Rattle.sdh_owed.proofs.History.{owed_none}
+use Rattle.sdh_owed.proofs.Known.{keeps_rounds}
+use Rattle.sdh_owed.specs.Scripts.{adm_walk}
+use Rattle.sdh_scripts.specs.Outcomes.{IsSettled}
+use Rattle.sdh_scripts.proofs.Outcomes.{EndsIn, comes_ends, known_comes, settled_done, known_done, settled_by, fault_settles}
 use Rattle.sdh_rounds.specs.Quiet.{enough_for}
+pub use Rattle.sdh_scripts.proofs.Answered.{on_ok, on_two}
 use Rattle.sdh_laws.specs.Hearing.Laws.{MayStart}
 use Rattle.sdh_script.specs.Plans.{world_of, ran_of, MaySettle, Comes, ComesKnown, ShowsHealth, RunsWell, Tells, Came}
 use Rattle.sdh_promise.specs.Plans.{ring_of, OwesAll}
 
--- an answer with Ok from another
-pub on_ok : {A E : Type 0} (r : Result A E) (P Q : A → Type 0) → ((a : A) → P a → Q a) → IfOk r P → IfOk r Q
-on_ok (Ok a) P Q h x = h a x
-on_ok (Err e) P Q h x = x
-
 -- ---- where the arrivals are known
 
-came : (plan : Planned) (f left : Fibres) (reports : List Report) (end : Status) (last : World) → last.fibres ≡ left
-    → IsRan (ran_of plan f) reports end last ⊎ ((end ≡ status.PlantFault) × IsCutShort (ran_of plan f) (length plan.nodes) (2 * length plan.nodes * 0) (world_of plan f) reports last) → ComesKnown plan f reports end left
-came plan f left reports end last is (inl r) = inl (record {
-  reports_are = r.reports_are;
-  end_is = r.end_is;
-  left_is = sym is ∙ ap (λ (w : World). w.fibres) r.left_is;
-})
-came plan f left reports end last is (inr r) =
-    let n = length plan.nodes in
-    let same : 2 * n * 0 + r.1.count ≡ r.1.count = omega arith in
-    inr (
-      r.0,
-      record {
-        count = r.1.count;
-        frames = subst (λ (g : Fibres). Appends f (take r.1.count (ran_of plan f).frames) g) is r.1.frames;
-        reports_are = r.1.reports_are ∙ ap (λ m. sent_by n m (ran_of plan f).reports) same;
-      },
-    )
-
-known_comes : KnownScripts → (plan : Planned) (f left : Fibres) (reports : List Report) (end : Status) → IsPlanned plan → Comes plan f reports end left → Knows (world_of plan f).fibres → ComesKnown plan f reports end left
-known_comes law plan f left reports end fits (inl x) knows =
-    let n = length plan.nodes in
+known_then : (plan : Planned) (f left : Fibres) (reports : List Report) (end : Status) → IsPlanned plan → Comes plan f reports end left → Knows (world_of plan f).fibres → ComesKnown plan f reports end left
+known_then plan f left reports end fits x knows =
     let enough = fits.nodes_fit.enough in
-    let none : sent_by n 0 (ran_of plan f).reports ≡ [] = none_sent plan.limit 0 n 0 plan.steps (world_of plan f) (omega (arith, enough)) (omega (arith, enough)) in
-    inr (x.0, record { count = 0; frames = ap (λ (g : Fibres). g.sent) x.2 ∙ none_appended f.sent; reports_are = x.1 ∙ sym none })
-known_comes law plan f left reports end fits (inr x) knows =
-    let enough = fits.nodes_fit.enough in
-    came plan f left reports end x.0 x.1 (law plan.limit 0 plan.steps (world_of plan f) reports end x.0 knows (omega (arith, enough)) (length-new plan.settings plan.nodes plan.circuits (length plan.nodes)) x.2)
+    known_comes adm_walk keeps_rounds plan.limit plan.steps (world_of plan f) f refl refl (omega (arith, enough)) (length-new plan.settings plan.nodes plan.circuits (length plan.nodes)) left reports end x knows
 
 -- ---- over honest fibres
 
 -- a plan's ring over new honest fibres
-may_start : (plan : Planned) (f : Fibres) → IsPlanned plan → IsHonest f → MayStart plan.settings plan.nodes f
+pub may_start : (plan : Planned) (f : Fibres) → IsPlanned plan → IsHonest f → MayStart plan.settings plan.nodes f
 may_start plan f fits honest = record { ids_ok = fits.nodes_fit; honest = honest; least = fits.threshold_from_1 }
 
 module _ (plan : Planned) (f left : Fibres) (reports : List Report) (end : Status) (fits : IsPlanned plan) (honest : IsHonest f) where
@@ -98,14 +65,14 @@ module _ (plan : Planned) (f left : Fibres) (reports : List Report) (end : Statu
 
 -- ---- all that is told
 
-pub tells_all : KnownScripts → ReportsAreOwed → ScriptsSettle → HealthyScripts → CoursesAreTold → (plan : Planned) (listing : Listing) (f left : Fibres) (text : List ℕ) (end : Status) → IsPlanned plan → (f.honest ≡ true → IsHonest f)
+pub tells_all : ReportsAreOwed → ScriptsSettle → HealthyScripts → CoursesAreTold → (plan : Planned) (listing : Listing) (f left : Fibres) (text : List ℕ) (end : Status) → IsPlanned plan → (f.honest ≡ true → IsHonest f)
     → Came plan listing f text end left → Tells plan listing f text end left
-tells_all known owed settles healthy courses plan listing f left text end fits honest x = record {
+tells_all owed settles healthy courses plan listing f left text end fits honest x = record {
   reports = x.reports;
   text_is = x.text_is;
   came = record {
     ran = x.ran;
-    known = λ knows. known_comes known plan f left x.reports end fits x.ran knows;
+    known = λ knows. known_then plan f left x.reports end fits x.ran knows;
     owed = λ h. owed_comes plan f left x.reports end fits (honest h) owed x.ran;
     settles = λ h large. settles_comes plan f left x.reports end fits (honest h) settles x.ran large;
     healthy = λ h all. healthy_comes plan f left x.reports end fits (honest h) healthy x.ran all;
@@ -115,38 +82,10 @@ tells_all known owed settles healthy courses plan listing f left text end fits h
 
 -- ---- how a script may end
 
-ends_in : (limit before : ℕ) (steps : List Step) (w : World) (reports : List Report) (end : Status) (left : World) → Runs limit before steps w reports end left → (end ≡ status.Ok) ⊎ (((k : ℕ) × (end ≡ status.Unsettled k)) ⊎ (end ≡ status.PlantFault))
-ends_in limit before [] w reports end left x = inl x.1.1
-ends_in limit before (step.Settle ∷ later) w reports end left (inl x) = ends_in limit (before + 1) later x.0 x.1 end left x.4
-ends_in limit before (step.Settle ∷ later) w reports end left (inr (inl x)) = inr (inl (before + 1, x.1.1))
-ends_in limit before (step.Settle ∷ later) w reports end left (inr (inr x)) = inr (inr x.1.1)
-ends_in limit before (this ∷ later) w reports end left x =
-    elim x [
-      | inl goes ↦ ends_in limit before later (after_step this w) reports end left goes
-      | inr refused ↦ inr (inr (refused_ends this w reports end left refused).1)
-    ]
-
-pub plan_ends_in : (plan : Planned) (f left : Fibres) (reports : List Report) (end : Status) → Comes plan f reports end left → (end ≡ status.Ok) ⊎ (((k : ℕ) × (end ≡ status.Unsettled k)) ⊎ (end ≡ status.PlantFault))
-plan_ends_in plan f left reports end (inl x) = inr (inr x.0)
-plan_ends_in plan f left reports end (inr x) = ends_in plan.limit 0 plan.steps (world_of plan f) reports end x.0 x.2
+pub plan_ends_in : (plan : Planned) (f left : Fibres) (reports : List Report) (end : Status) → Comes plan f reports end left → EndsIn end
+plan_ends_in plan f left reports end x = comes_ends adm_walk plan.limit plan.steps (world_of plan f) f left reports end x
 
 -- one that settles, and that no fault broke off, is done
-settled_comes : (plan : Planned) (f left : Fibres) (reports : List Report) (end : Status) → Comes plan f reports end left → IsSettled end → (end ≡ status.PlantFault → ⊥) → end ≡ status.Ok
-settled_comes plan f left reports end x settled fine = elim (plan_ends_in plan f left reports end x) [
-  | inl done ↦ done
-  | inr (inl at) ↦ absurd (settled at.0 at.1)
-  | inr (inr fault) ↦ absurd (fine fault)
-]
-
-known_done : (plan : Planned) (f left : Fibres) (reports : List Report) (end : Status) → ComesKnown plan f reports end left → (ran_of plan f).ending ≡ status.Ok → (end ≡ status.PlantFault → ⊥) → end ≡ status.Ok
-known_done plan f left reports end (inl x) done fine = x.end_is ∙ done
-known_done plan f left reports end (inr x) done fine = absurd (fine x.0)
-
 pub done_comes : (plan : Planned) (listing : Listing) (f left : Fibres) (text : List ℕ) (end : Status) → Tells plan listing f text end left → MaySettle plan f → (end ≡ status.PlantFault → ⊥) → end ≡ status.Ok
-done_comes plan listing f left text end x (inl may) fine = known_done plan f left x.reports end (x.came.known may.0) may.1 fine
-done_comes plan listing f left text end x (inr may) fine = settled_comes plan f left x.reports end x.came.ran (x.came.settles may.0 may.1) fine
-
--- and from two
-pub on_two : {A E : Type 0} (r : Result A E) (P Q R : A → Type 0) → ((a : A) → P a → Q a → R a) → IfOk r P → IfOk r Q → IfOk r R
-on_two (Ok a) P Q R h x y = h a x y
-on_two (Err e) P Q R h x y = x
+done_comes plan listing f left text end x (inl may) fine = known_done adm_walk (ran_of plan f) (length plan.nodes) f left x.reports end (x.came.known may.0) may.1 fine
+done_comes plan listing f left text end x (inr may) fine = settled_done adm_walk plan.limit plan.steps (world_of plan f) f left x.reports end x.came.ran (x.came.settles may.0 may.1) fine

@@ -3,9 +3,10 @@
 //! What comes of a script is `Runs` in `sdh_owed`, and what its reports owe to each port is `AreOwed` there.
 #![tactic(auto)]
 
+mod changing;
 mod reports;
 mod run;
 mod script;
 
+pub use changing::change;
 pub use run::{Run, run_plan};
-pub use script::run_script;

@@ -4,17 +4,21 @@ ghost use Rattle.sdh_basics.specs.Causes.{Rose, IsCounted};
 ghost use Rattle.sdh_plant.specs.Fibres.{HasNoFibres};
 ghost use Rattle.sdh_world.specs.Held.{HeldRing};
 ghost use Rattle.sdh_world.specs.Rounds.{world};
+ghost use Rattle.sdh_report.specs.Reports.{listed};
+ghost use Rattle.sdh_scripts.specs.Texts.{HasRoom, Lists};
+ghost use Rattle.sdh_owed.specs.Scripts.{adm_walk};
 ghost use Rattle.sdh_script.specs.Room.{report_room, MayList};
-ghost use Rattle.sdh_script.specs.Running.{MayRun, Lists};
+ghost use Rattle.sdh_script.specs.Running.{MayRun};
 ghost use Rattle.sdh_script.specs.Plans.{MaySettle, Tells, Came};
 
-use crate::script::run_script;
+use crate::script::RingRun;
 use sdh_circuits::CircuitMap;
 use sdh_plan::{Plan, Step};
 use sdh_plant::{Plant, PrepareError};
 use sdh_report::{Listing, Status, Text};
 use sdh_ring::Ring;
 use sdh_ringmap::RingMap;
+use sdh_scripts::run_script;
 use std::alloc::{AllocError, Global};
 
 /// What a run wrote, and how it ended: `Ok`, `Unsettled` or `PlantFault`. There is room for one more line.
@@ -40,23 +44,24 @@ fn room_for(listing: Listing, map: &RingMap, circuits: &CircuitMap) -> usize
 
 // The script over a ring and its fibres.
 fn run_from<P: Plant>(
-    mut ring: Ring,
+    mut run: RingRun,
     plant: &mut P,
     steps: &[Step],
     limit: u32,
-    listing: Listing,
     mut text: Text,
 ) -> Run
-    requires may { MayRun listing 0 steps.now ring (P.fibres plant.old) text }
+    requires may { MayRun 65536 0 steps.now run.ring (P.fibres plant.old) }
+    requires listing { MayList (length run.ring.circuits.circuits) run.listing }
+    requires room { HasRoom (report_room run.listing (length run.ring.ids) (length run.ring.circuits.circuits)) 0 text.room }
     requires some { 1 ≤ limit }
     requires few { limit ≤ 65536 }
-    ensures ran { (left : HeldRing) × Lists limit listing steps.now (world ring (P.fibres plant.old)) text.bytes result.text.bytes result.status (world left (P.fibres plant.new)) }
+    ensures ran { (left : HeldRing) × Lists adm_walk limit (listed run.listing) steps.now (world run.ring (P.fibres plant.old)) text.bytes result.text.bytes result.status (world left (P.fibres plant.new)) }
     ensures room { 96 ≤ result.text.room }
     ensures later { P.faults plant.old ≤ P.faults plant.new }
     ensures failed { result.status ≡ Status.PlantFault → Rose (P.faults plant.old) (P.faults plant.new) }
     ensures counted { IsCounted P.exact (result.status ≡ Status.PlantFault) (P.faults plant.old) (P.faults plant.new) }
 {
-    let status = run_script(&mut ring, plant, steps, limit, listing, &mut text);
+    let status = run_script(&mut run, plant, steps, limit, &mut text);
     Run { status, text }
 }
 
@@ -84,7 +89,7 @@ fn run_new<P: Plant>(
     let (map, circuits, steps) = plan.into_parts();
     let ring = Ring::try_new(alloc, settings, map, circuits)?;
     match plant.prepare(alloc, settings.rate, nodes) {
-        Ok(()) => Ok(run_from(ring, plant, &steps, limit, listing, text)),
+        Ok(()) => Ok(run_from(RingRun { ring, listing }, plant, &steps, limit, text)),
         Err(PrepareError::Memory) => Err(AllocError),
         Err(PrepareError::Failed) => Ok(Run {
             status: Status::PlantFault,
@@ -120,7 +125,6 @@ pub fn run_plan<P: Plant>(
     // Without memory no fibre was made, and no round has run.
     ensures unsent { OnErr result (P.fibres plant.new ≡ P.fibres plant.old) }
 {
-    sdh_owed::known_scripts();
     sdh_owed::reports_are_owed();
     sdh_owed::scripts_settle();
     sdh_owed::healthy_scripts();

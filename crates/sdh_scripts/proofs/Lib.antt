@@ -1,4 +1,6 @@
+pub mod Frames
 pub mod Known
+pub mod Reporting
 pub mod Outcomes
 pub mod Texts
 pub mod Ports

@@ -1,10 +1,9 @@
 -- What comes of a script over fibres that aren't there yet.
-use Rattle.std.specs.Prelude.{ℕ, ◌≡◌, ◌⊎◌, List, [], take}
+use Rattle.std.specs.Prelude.{ℕ, ◌≡◌, ◌≢◌, ◌⊎◌, List, [], take}
 use Rattle.sdh_plant.specs.Fibres.{Fibres}
 use Rattle.sdh_rounds.specs.Held.{World}
 use Rattle.sdh_rounds.specs.Laws.{Appends}
 use Rattle.sdh_plan.specs.declared.step.Step.{Step}
-use Rattle.sdh_report.specs.Reports.{Report}
 use Rattle.sdh_report.specs.declared.status.Status.{Status}
 use Rattle.sdh_report.specs.declared.status.Status.TheVariants as status
 use Rattle.sdh_scripts.specs.Walks.{Walk}
@@ -12,22 +11,26 @@ use Rattle.sdh_scripts.specs.Scripts.{Runs, Ran, sent_by}
 
 -- Over any plant: it made no fibres, and nothing ran; or these are the reports of what came of the steps from this world, which has the
 -- fibres that were prepared.
-abbrev pub Comes : {N : Type 0} → Walk N → ℕ → List Step → World N → Fibres → List Report → Status → Fibres → Type 0
+abbrev pub Comes : {N T : Type 0} → Walk N T → ℕ → List Step → World N → Fibres → List T → Status → Fibres → Type 0
 Comes {N} walk limit steps w f reports end left =
     ((end ≡ status.PlantFault) × (reports ≡ []) × (left ≡ f)) ⊎ ((last : World N) × (last.fibres ≡ left) × Runs walk limit 0 steps w reports end last)
 
 -- Where the arrivals are known it ended so: reports, ending and fibres are those that the script comes to, and with them all frames sent.
-pub record IsDone {N : Type 0} (r : Ran N) (reports : List Report) (end : Status) (left : Fibres) : Type 0 where
+pub record IsDone {N T : Type 0} (r : Ran N T) (reports : List T) (end : Status) (left : Fibres) : Type 0 where
   pub reports_are : reports ≡ r.reports
   pub end_is : end ≡ r.ending
   pub left_is : left ≡ r.left.fibres
 
--- A fault broke it off when the first so many of its frames were sent: the reports are those of exactly the settle steps whose
--- last round's frames were all sent, in a ring of n.
-pub record IsCut {N : Type 0} (r : Ran N) (n : ℕ) (f : Fibres) (reports : List Report) (left : Fibres) : Type 0 where
+-- A fault broke it off when the first so many of its frames were sent: the reports are those of exactly the settle steps of which all
+-- frames were sent, and all of the rounds behind them, in a ring of n.
+pub record IsCut {N T : Type 0} (walk : Walk N T) (r : Ran N T) (n : ℕ) (f : Fibres) (reports : List T) (left : Fibres) : Type 0 where
   pub count : ℕ
   pub frames : Appends f (take count r.frames) left
-  pub reports_are : reports ≡ sent_by n count r.reports
+  pub reports_are : reports ≡ sent_by walk n count r.reports
 
-abbrev pub ComesKnown : {N : Type 0} → Ran N → ℕ → Fibres → List Report → Status → Fibres → Type 0
-ComesKnown r n f reports end left = IsDone r reports end left ⊎ ((end ≡ status.PlantFault) × IsCut r n f reports left)
+abbrev pub ComesKnown : {N T : Type 0} → Walk N T → Ran N T → ℕ → Fibres → List T → Status → Fibres → Type 0
+ComesKnown walk r n f reports end left = IsDone r reports end left ⊎ ((end ≡ status.PlantFault) × IsCut walk r n f reports left)
+
+-- no settle step was unsettled
+abbrev pub IsSettled : Status → Type 0
+IsSettled end = (k : ℕ) → end ≢ status.Unsettled k

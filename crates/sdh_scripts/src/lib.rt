@@ -1,3 +1,17 @@
-//! Scripts over rings of any kind, over definitions alone: `specs/Walks.antt` says what a kind of ring brings to it,
-//! `specs/Scripts.antt` what comes of a script, and `specs/Laws.antt` has the law.
+//! Scripts over rings of any kind: `specs/Walks.antt` says what a kind of ring brings to a script, `specs/Scripts.antt` what comes
+//! of one, and `specs/Laws.antt` has the law. What runs a script is the trait `Runner`, and `run_script` runs it.
 #![tactic(auto)]
+
+ghost use Rattle.sdh_scripts.specs.Laws.{KeepsRounds, KnownScripts};
+
+mod runner;
+mod script;
+
+pub use runner::Runner;
+pub use script::run_script;
+
+/// Where arrivals are known, what comes of a script is determined, and after a fault it is the front of that.
+#[tactic(auto, using(crate::proofs::Known::known_scripts))]
+pub fn known_scripts<R: Runner>()
+    ensures { KeepsRounds R.walk → KnownScripts R.walk }
+{}

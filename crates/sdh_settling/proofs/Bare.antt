@@ -12,7 +12,7 @@ use Rattle.sdh_terms.specs.Requests.{code_number}
 use Rattle.sdh_ringmap.specs.Places.{opposite, found_at}
 use Rattle.sdh_ringmap.specs.declared.Side.{Side}
 use Rattle.sdh_ringmap.specs.declared.Side.TheVariants.{West, East}
-use Rattle.sdh_nodestate.specs.Rules.{Scene, scene, own_id, local, fails, word_on, short, is_from_neighbour, larger, weight, stronger, long, long_word, relayed, word, word_by, own_word, rest_word, chosen, is_short, Choice, own_short, own_long, relay, rest, weight_of, switches, is_below, is_about, far, one_side, switched, mark_by, mark_on, is_relay, state_by, state_after}
+use Rattle.sdh_nodestate.specs.Rules.{Scene, scene, own_id, local, fails, word_on, short, is_from_neighbour, larger, weight, stronger, long, long_word, relayed, word, word_by, own_word, rest_word, chosen, is_short, Choice, own_short, own_long, relay, rest, weight_of, switches, is_below, is_about, far, one_side, switched, mark_by, mark_on}
 use Rattle.sdh_settling.specs.Runs.{bare}
 
 abbrev pub bare_scene : Scene → Scene
@@ -130,17 +130,6 @@ bare_mark s d =
     ∙ ap (λ o. mark_by (fails s d) (option_map (far (bare_scene s)) o)) (bare_switched s)
     ∙ mark_option s (fails s d) (switched s)
 
-pub bare_state : (s : Scene) → state_after (bare_scene s) ≡ state_after s
-unfolding state_after
-bare_state s =
-    let b = bare_scene s in
-    ap (λ x. state_by x (switches b East) (is_relay (chosen b West)) (is_relay (chosen b East)) (far b West) (far b East)) (bare_switches s West)
-    ∙ ap (λ x. state_by (switches s West) x (is_relay (chosen b West)) (is_relay (chosen b East)) (far b West) (far b East)) (bare_switches s East)
-    ∙ ap (λ x. state_by (switches s West) (switches s East) (is_relay x) (is_relay (chosen b East)) (far b West) (far b East)) (bare_chosen s West)
-    ∙ ap (λ x. state_by (switches s West) (switches s East) (is_relay (chosen s West)) (is_relay x) (far b West) (far b East)) (bare_chosen s East)
-    ∙ ap (λ x. state_by (switches s West) (switches s East) (is_relay (chosen s West)) (is_relay (chosen s East)) x (far b East)) (bare_far s West)
-    ∙ ap (λ x. state_by (switches s West) (switches s East) (is_relay (chosen s West)) (is_relay (chosen s East)) (far s West) x) (bare_far s East)
-
 own_same : (s : Scene) (d : Side) (c c' : Code) (to : Side) (p : Path) → c ≡ c' → own_word (bare_scene s) d c to p ≡ own_word s d c' to p
 own_same s d c c' to p e = let f = bare_mark s d in cc
 
@@ -180,9 +169,6 @@ module _ (s s' : Scene) (d : Side) (e : bare_scene s ≡ bare_scene s') where
   same_words =
       let c : chosen s d ≡ chosen s' d = sym (bare_chosen s d) ∙ ap (λ x. chosen x d) e ∙ bare_chosen s' d in
       subst (λ x. IsSameOrRelayed s s' d (word_by s d (chosen s d)) (word_by s' d x)) c (by_choice (chosen s d))
-
-pub same_state : (s s' : Scene) → bare_scene s ≡ bare_scene s' → state_after s ≡ state_after s'
-same_state s s' e = sym (bare_state s) ∙ ap state_after e ∙ bare_state s'
 
 -- a word that is known but for its mark
 pub unbare : (o : Option K) (k : K) → option_map bare o ≡ Some k → (w : K) × (o ≡ Some w) × (bare w ≡ k)

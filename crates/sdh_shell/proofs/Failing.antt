@@ -1,7 +1,9 @@
 -- Calls that failed, and answers.
-use Rattle.std.proofs.Common.{◌≡◌, ◌≢◌, ℕ, Bool, true, refl, arith}
-use Rattle.std.specs.Prelude.{Result, Ok, Err}
+use Rattle.std.proofs.Common.{◌≡◌, ℕ, Bool, true, List, refl, arith}
+use Rattle.std.specs.Prelude.{Result, Ok, Err, Option}
 use Rattle.sdh_basics.specs.Causes.{IsCounted}
+use Rattle.sdh_report.specs.declared.status.Status.TheVariants as status
+use Rattle.sdh_shell.specs.Failing.{Counts, CameOfSource, CameToFaults, CameTo}
 
 not_err_eq : {T E : Type 0} (x : T) (e : E) (r : Result T E) → r ≡ Ok x → r ≡ Err e → ⊥
 not_err_eq x e r a b = grind arith
@@ -13,3 +15,26 @@ not_err x e d = not_err_eq x e (Ok x) refl d
 -- no call failed, and there is no fault
 pub counted_none : {A : Type 0} (exact : Bool) (before now : ℕ) → (A → ⊥) → (exact ≡ true → now ≡ before) → IsCounted exact A before now
 counted_none exact before now never same = record { one = λ e a. absurd (never a); none = λ e other. same e }
+
+-- no call of an object whose count is exact has failed
+abbrev pub HasNotFailed : Bool → Counts → Type 0
+HasNotFailed exact counts = exact ≡ true → counts.after ≡ counts.before
+
+-- no read failed, and what is told is none of these faults
+pub came_of_none : (exact : Bool) (reads : Counts) (left now : Option (List ℕ)) {ReadFault TooLong : Type 0} → HasNotFailed exact reads → (ReadFault → ⊥) → (TooLong → ⊥) → CameOfSource exact reads left now ReadFault TooLong
+came_of_none exact reads left now same no_read no_long = record {
+  counted = counted_none exact reads.before reads.after no_read same;
+  too_long = λ long. absurd (no_long long);
+}
+
+module _ (source_exact plant_exact : Bool) (reads calls : Counts) (left now : Option (List ℕ)) (same : HasNotFailed source_exact reads × HasNotFailed plant_exact calls) where
+  -- no call of a plant failed either
+  pub came_to_none : {ReadFault PlantFault TooLong : Type 0} → (ReadFault → ⊥) → (PlantFault → ⊥) → (TooLong → ⊥) → CameToFaults source_exact plant_exact reads calls left now ReadFault PlantFault TooLong
+  came_to_none no_read no_call no_long = record {
+    source = came_of_none source_exact reads left now same.0 no_read no_long;
+    plant = counted_none plant_exact calls.before calls.after no_call same.1;
+  }
+
+  -- there was no memory, and no call failed
+  pub came_without : CameTo source_exact plant_exact reads calls left now status.Memory
+  came_without = came_to_none (λ e. grind arith) (λ e. grind arith) (λ e. grind arith)

@@ -1,7 +1,9 @@
 -- Calls of a source and a plant that failed, and what they are told by.
-use Rattle.std.specs.Prelude.{ℕ, Bool, List, Option}
+use Rattle.std.specs.Prelude.{◌≡◌, ℕ, Bool, List, Option}
 use Rattle.sdh_basics.specs.Causes.{Rose, IsCounted}
 use Rattle.sdh_outside.specs.Reading.{TakesCount}
+use Rattle.sdh_report.specs.declared.status.Status.{Status}
+use Rattle.sdh_report.specs.declared.status.Status.TheVariants as status
 
 -- how often calls of an object had failed, before and after
 pub record Counts : Type 0 where
@@ -12,10 +14,24 @@ pub record Counts : Type 0 where
 abbrev pub HaveFailed : Counts → Type 0
 HaveFailed counts = Rose counts.before counts.after
 
--- What had come of a source and a plant when there was something to tell: a read fault, a plant fault, too many bytes or none of them.
--- Where a count is exact, calls failed as the fault that is told: one with it, and none without it. With too many bytes, one more than
--- are read was taken.
-pub record CameToFaults (source_exact plant_exact : Bool) (source plant : Counts) (left now : Option (List ℕ)) (ReadFault PlantFault TooLong : Type 0) : Type 0 where
-  pub reads : IsCounted source_exact ReadFault source.before source.after
-  pub calls : IsCounted plant_exact PlantFault plant.before plant.after
+-- a read fault and a plant fault have their causes
+abbrev pub HasCause : Counts → Counts → Status → Type 0
+HasCause reads calls status.ReadFault = HaveFailed reads
+HasCause reads calls status.PlantFault = HaveFailed calls
+HasCause reads calls how = Unit {0}
+
+-- What had come of a source when there was something to tell: a read fault, too many bytes or neither. Where its count is exact, one
+-- read failed with a read fault, and none without it. With too many bytes, one more than are read was taken.
+pub record CameOfSource (exact : Bool) (reads : Counts) (left now : Option (List ℕ)) (ReadFault TooLong : Type 0) : Type 0 where
+  pub counted : IsCounted exact ReadFault reads.before reads.after
   pub too_long : TooLong → TakesCount left now 1048577
+
+-- And of a plant: where its count is exact, one call of it failed with a plant fault, and none without it.
+pub record CameToFaults (source_exact plant_exact : Bool) (reads calls : Counts) (left now : Option (List ℕ)) (ReadFault PlantFault TooLong : Type 0) : Type 0 where
+  pub source : CameOfSource source_exact reads left now ReadFault TooLong
+  pub plant : IsCounted plant_exact PlantFault calls.before calls.after
+
+-- what had come of source and plant when there was this status to tell
+abbrev pub CameTo : Bool → Bool → Counts → Counts → Option (List ℕ) → Option (List ℕ) → Status → Type 0
+CameTo source_exact plant_exact reads calls left now how =
+    CameToFaults source_exact plant_exact reads calls left now (how ≡ status.ReadFault) (how ≡ status.PlantFault) (how ≡ status.TooLong)

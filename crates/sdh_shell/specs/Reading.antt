@@ -1,5 +1,5 @@
 -- What the bytes of a source come to: a plan, or why there is none.
-use Rattle.std.specs.Prelude.{◌≡◌, ◌⊎◌, ℕ, ◌<◌, ◌≤◌, List, length, Option, Some, None}
+use Rattle.std.specs.Prelude.{◌≡◌, ℕ, Bool, true, false, ◌<◌, ◌≤◌, List, [], length, Option, Some, None}
 use Rattle.toml.specs.Data.{Members}
 use Rattle.sdh_plan.specs.Planned.{Planned}
 use Rattle.sdh_plan.specs.Check.{answer}
@@ -55,3 +55,8 @@ Refuses how = ⊥
 abbrev pub IsRefusal : NoPlan → Type 0
 IsRefusal none.Memory = Unit {0}
 IsRefusal (none.Refused how) = Refuses how
+
+-- what has to be known of a source: its bytes, or nothing where it isn't read
+abbrev pub told_if : Bool → Option (List ℕ) → Option (List ℕ)
+told_if true left = left
+told_if false left = Some []

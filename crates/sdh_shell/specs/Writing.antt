@@ -1,7 +1,13 @@
 -- What is written with which ending of a call.
-use Rattle.std.specs.Prelude.{ℕ, List, Option}
+use Rattle.std.specs.Prelude.{◌≡◌, ◌≢◌, ℕ, List, Option}
 use Rattle.std.specs.Io.KnownBytes.{Appends, Keeps}
 use Rattle.sdh_outside.specs.Writing.{AppendsFewer}
+use Rattle.sdh_report.specs.declared.status.Status.{Status}
+use Rattle.sdh_report.specs.declared.status.Status.TheVariants as status
+
+-- this line is all of the text, and the fibres are left alone
+abbrev pub Says : {F : Type 0} → List ℕ → List ℕ → F → F → Type 0
+Says line text f left = (text ≡ line) × (left ≡ f)
 
 -- with an ending goes the whole text of an outcome; a front of one, where a write failed; or nothing, for want of memory
 pub data Telling : Type 0 where
@@ -15,3 +21,17 @@ abbrev pub WritesAs : {S : Type 0} → Telling → (S → List ℕ → Type 0) �
 WritesAs {S} Front may how old new = (told : S) × (text : List ℕ) × may told text × AppendsFewer old new text
 WritesAs Nothing may how old new = Keeps old new
 WritesAs Whole may how old new = (text : List ℕ) × may how text × Appends old new text
+
+-- with what text a status goes
+abbrev pub telling_of : Status → Telling
+telling_of status.WriteFault = Front
+telling_of status.Memory = Nothing
+telling_of how = Whole
+
+-- what was written when this status was answered
+abbrev pub Writes : (Status → List ℕ → Type 0) → Status → Option (List ℕ) → Option (List ℕ) → Type 0
+Writes may how old new = WritesAs (telling_of how) may how old new
+
+-- something is to be written with this status: no writing has failed, and there was memory
+abbrev pub IsShown : Status → Type 0
+IsShown how = (how ≢ status.WriteFault) × (how ≢ status.Memory)

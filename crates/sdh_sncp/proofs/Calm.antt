@@ -118,13 +118,6 @@ module _ (w : World) (whole : IsWhole w) where
     pub same_there : (p : ℕ) → p < length w.ring.nodes → AreSame (node_at after p) (node_at w.ring.nodes p)
     same_there p h = subst (λ n. AreSame n (node_at w.ring.nodes p)) (sym (nodes_after w whole.placed p h)) (before_same p (leaves p h).1)
 
-    pub ran_before : 0 < w.ring.rounds
-    ran_before =
-        let h : 0 < length w.ring.nodes = (let a = whole.placed.size in let b = whole.placed.ids.enough in omega arith) in
-        let r = (whole.placed.between 0 h).run.ran in
-        let s = (leaves 0 h).0 in
-        omega arith
-
   pub calm_where_same : 0 < w.ring.rounds → ((p : ℕ) → p < length w.ring.nodes → AreSame (node_at after p) (node_at w.ring.nodes p)) → is_calm after ≡ true
   calm_where_same ran same = list_all-from_AllPass (λ (n : PathNode). n.calm) after (λ p x h.
       (let low : p < length w.ring.nodes = omega (arith, length-after w) in

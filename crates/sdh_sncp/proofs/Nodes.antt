@@ -1,7 +1,7 @@
 -- The nodes of a path ring, one by one, and what stays of them whatever arrives.
 use Rattle.std.proofs.Common.{◌≡◌, ℕ, zero, suc, ◌+◌, ◌<◌, Bool, true, false, List, [], ◌∷◌, length, map, Option, Some, None, refl, ap, sym, subst, ◌∙◌, arith}
 use Rattle.std.specs.Prelude.{All, ◌==◌, if◌then◌else◌}
-use Rattle.std.proofs.lemmas.Bool.{eq-eqb, ne_eqb}
+use Rattle.std.proofs.lemmas.Bool.{ne_eqb}
 use Rattle.std.proofs.lemmas.List.{get_or-map}
 use Rattle.sdh_basics.specs.Indexed.{map_from}
 use Rattle.sdh_terms.specs.declared.Rate.{Rate}
@@ -249,9 +249,6 @@ module _ (w : World) (placed : IsPlaced w) where
   nodes_after p h =
       node_map node_after (nodes_with (arrivals_of w) w) p (let e = length-heard path_node (arrivals_of w) w.ring.nodes in omega arith)
       ∙ ap node_after (listening_at p h)
-
-pub told_first : (w : World) (p : ℕ) (d : Side) → w.ring.rounds ≡ 0 → told_to w p d ≡ None
-told_first w p d e = ap (λ (b : Bool). if b then None else Some (arrival_at w.fibres p d)) (eq-eqb w.ring.rounds 0 e)
 
 pub told_later : (w : World) (p : ℕ) (d : Side) → 0 < w.ring.rounds → told_to w p d ≡ Some (arrival_at w.fibres p d)
 told_later w p d h = ap (λ (b : Bool). if b then None else Some (arrival_at w.fibres p d)) (ne_eqb w.ring.rounds 0 (λ z. omega arith))

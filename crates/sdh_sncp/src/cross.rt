@@ -85,6 +85,8 @@ impl PathCross {
         requires here { arrived ≡ Arrived.Frame → inbox.old.landed ≢ None }
         ensures cross { self.new ≡ record (cross_told side (arrived_in arrived inbox.old.landed) self.old) { west_in = self.new.west_in; east_in = self.new.east_in } }
         ensures rate { inbox.new.rate ≡ inbox.old.rate }
+        ensures dark { arrived ≡ Arrived.Dark → inbox.new ≡ inbox.old }
+        ensures taken { arrived ≡ Arrived.Frame → inbox.new.landed ≡ None }
     {
         match side {
             Side::West => self.west.exchange(arrived, inbox, &mut self.west_in),

@@ -59,10 +59,10 @@ impl PathNode {
         Ok(PathNode {
             threshold: settings.threshold,
             rounds: 0,
-            cross: PathCross::try_new(alloc, settings.rate, circuits, at)?,
             ports: Tributaries::try_new(alloc, circuits, at)?,
             west_out: Sender::try_new(alloc, settings.rate, west)?,
             east_out: Sender::try_new(alloc, settings.rate, east)?,
+            cross: PathCross::try_new(alloc, settings.rate, circuits, at)?,
             calm: false,
         })
     }
@@ -73,6 +73,8 @@ impl PathNode {
         requires here { arrived ≡ Arrived.Frame → inbox.old.landed ≢ None }
         ensures node { self.new ≡ told side (arrived_in arrived inbox.old.landed) self.old }
         ensures rate { inbox.new.rate ≡ inbox.old.rate }
+        ensures dark { arrived ≡ Arrived.Dark → inbox.new ≡ inbox.old }
+        ensures taken { arrived ≡ Arrived.Frame → inbox.new.landed ≡ None }
     {
         self.cross.exchange(side, arrived, inbox);
     }

@@ -3,31 +3,29 @@ use Rattle.std.proofs.Common.{arith, ◌≡◌, ◌≢◌, ℕ, Bool, true, fals
 use Rattle.std.specs.Prelude.{Option, IfSome, ◌⊎◌}
 use Rattle.std.specs.Io.KnownBytes.{Appends}
 use Rattle.sdh_plant.specs.Fibres.{Fibres}
-use Rattle.toml.specs.Data.{Members}
 use Rattle.sdh_plan.specs.Planned.{Planned}
-use Rattle.sdh_plan.specs.Check.{answer}
-use Rattle.sdh_plan.specs.Plans.{checks}
 use Rattle.sdh_report.specs.Reports.{text_of}
 use Rattle.sdh_report.specs.declared.listing.Listing.TheVariants as listing
 use Rattle.sdh_report.specs.declared.status.Status.{Status}
 use Rattle.sdh_report.specs.declared.status.Status.TheVariants as status
-use Rattle.sdh_shell.specs.Reading.{HasNoPlan, TellsPlan}
+use Rattle.sdh_shell.specs.Calls.{is_run, AreRun}
+use Rattle.sdh_shell.specs.Reading.{told_if}
+use Rattle.sdh_shell.specs.Calls as shell
 use Rattle.sdh_shell.specs.Failing.{Counts, HaveFailed}
 use Rattle.sdh_shell.specs.Writing.{WritesAs}
-use Rattle.sdh_shell.proofs.Plans.{one_plan, some_same}
-use Rattle.sdh_shell.proofs.Failing.{counted_none}
+use Rattle.sdh_shell.proofs.Plans.{one_plan, plan_or_not}
+use Rattle.sdh_shell.proofs.Failing.{HasNotFailed, came_to_none}
 use Rattle.sdh_sncp.specs.Fixed.{AreAlone}
 use Rattle.sdh_sncp.specs.Sharing.{AreFirstToShare}
 use Rattle.sdh_sncp_script.specs.Steps.{first_strange, AreKnown}
 use Rattle.sdh_sncp_script.specs.Plans.{MaySettle}
 use Rattle.sdh_sncp_script.proofs.Plans.{done_comes}
-use Rattle.sdh_sncp_cli.specs.Words.{is_run, AreRun}
 use Rattle.sdh_sncp_cli.specs.Endings.{number_of}
-use Rattle.sdh_sncp_cli.specs.Outcome.{IsRunOutcome, OfPlan, IsRefused, HasCause, MayEnd, IsOwn, CameTo, told_if, told, telling_of}
+use Rattle.sdh_sncp_cli.specs.Outcome.{IsRunOutcome, OfPlan, IsRefused, HasCause, MayEnd, IsOwn, CameTo, told, telling_of}
 use Rattle.sdh_sncp_cli.specs.Headline.{IsRunPlan, RanTo, HasRun, Delivers, EndsAsItRuns, Settles, MayBeDone}
 use Rattle.sdh_sncp_cli.specs.declared.ending.Ending.{Ending}
 use Rattle.sdh_sncp_cli.specs.declared.ending.Ending.TheVariants as ending
-use Rattle.sdh_sncp_cli.proofs.Ends.{RunsTo, Ends, plan_ends}
+use Rattle.sdh_sncp_cli.proofs.Ends.{Ends, plan_ends}
 
 -- ---- what an outcome is with a plan that is run
 
@@ -44,19 +42,6 @@ run_of p plan f left (ending.NoSuchStep step) text is known alone x = absurd (so
 run_of p plan f left (ending.SameSlot first second) text is known alone x = none_share plan first second _ alone (subst (λ (q : Planned). AreFirstToShare q.circuits first second) is x.1)
 run_of p plan f left (ending.Shared s) text is known alone x = (s, refl, subst (λ q. IsRunOutcome q f s text left) is x.2)
 
--- the bytes of a plan are refused only where a read failed
-plan_or_not : (bytes : List ℕ) (plan : Planned) (how : Status) → TellsPlan bytes plan → HasNoPlan bytes how → how ≡ status.ReadFault
-plan_or_not bytes plan status.ReadFault x y = refl
-plan_or_not bytes plan status.TooLong x y = absurd (omega (arith, x.0, y))
-plan_or_not bytes plan status.NotToml x y = absurd (y.1 x.1.0 x.1.1)
-plan_or_not bytes plan (status.BadPlan reason place) x y =
-    let same : x.1.0 ≡ y.1.0 = some_same x.1.0 y.1.0 (sym x.1.1.1 ∙ y.1.1.1) in
-    absurd (none_some _ (sym x.1.2 ∙ ap (λ (ms : Members). answer (checks ms)) same ∙ y.1.2))
-  where
-    none_some : {A : Type 0} (a : A) → ◌≡◌ {A = Option A} None (Some a) → ⊥
-    none_some a e = grind arith
-plan_or_not bytes plan how x y = absurd y
-
 true_false : (b : Bool) → b ≡ true → b ≡ false → ⊥
 true_false b t f = cc
 
@@ -64,7 +49,7 @@ true_false b t f = cc
 pub record Ran (plan : Planned) (f left : Fibres) (how : Ending) (text : List ℕ) : Type 0 where
   pub status : Status
   pub how_is : how ≡ ending.Shared status
-  pub ends : RunsTo status
+  pub ends : shell.HasRun status
   pub ran : IsRunOutcome plan f status text left
 
 module _ (words : List (List ℕ)) (bytes : List ℕ) (plan : Planned) (f left : Fibres) (reads calls : Counts) (is : IsRunPlan words bytes plan) where
@@ -92,7 +77,7 @@ no_run k a b c (inl x) = a x
 no_run k a b c (inr (inl x)) = b x
 no_run k a b c (inr (inr x)) = c x
 
-ran_to : (s : Status) → RunsTo s → RanTo (number_of (ending.Shared s)) s
+ran_to : (s : Status) → shell.HasRun s → RanTo (number_of (ending.Shared s)) s
 ran_to status.Ok h = refl
 ran_to (status.Unsettled k) h = refl
 ran_to status.PlantFault h = refl
@@ -202,10 +187,6 @@ whole may (ending.Shared s) text old new own x a = by s own x
     by s own x = (text, x, a)
 
 -- there was no memory, and no call failed
-pub came_without : (source_exact plant_exact : Bool) (source plant : Counts) (left now : Option (List ℕ)) → (source_exact ≡ true → source.after ≡ source.before) × (plant_exact ≡ true → plant.after ≡ plant.before)
+pub came_without : (source_exact plant_exact : Bool) (source plant : Counts) (left now : Option (List ℕ)) → HasNotFailed source_exact source × HasNotFailed plant_exact plant
     → CameTo source_exact plant_exact source plant left now (ending.Shared status.Memory)
-came_without source_exact plant_exact source plant left now same = record {
-  reads = counted_none source_exact source.before source.after (λ e. grind arith) same.0;
-  calls = counted_none plant_exact plant.before plant.after (λ e. grind arith) same.1;
-  too_long = λ e. absurd (grind arith);
-}
+came_without source_exact plant_exact source plant left now same = came_to_none source_exact plant_exact source plant left now same (λ e. grind arith) (λ e. grind arith) (λ e. grind arith)

@@ -15,7 +15,7 @@ use Rattle.sdh_sncp.specs.Fixed.{AreAlone}
 use Rattle.sdh_sncp_script.specs.Steps.{AreKnown}
 use Rattle.sdh_sncp_script.specs.Promise.{OwesAll}
 use Rattle.sdh_sncp_script.specs.Plans.{world_of, ran_of, MaySettle}
-use Rattle.sdh_sncp_cli.specs.Words.{AreRun}
+use Rattle.sdh_shell.specs.Calls.{AreRun}
 
 -- the words ask for a run, and these are the bytes of this plan, whose steps are a path ring's and of whose circuits no two share a slot
 pub record IsRunPlan (words : List (List ℕ)) (bytes : List ℕ) (plan : Planned) : Type 0 where

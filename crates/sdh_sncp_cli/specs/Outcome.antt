@@ -1,5 +1,5 @@
 -- How a call of the program ends: each ending, when it comes, and the text that goes with it.
-use Rattle.std.specs.Prelude.{◌≡◌, ◌⊎◌, ℕ, Bool, true, false, List, [], ◌++◌, Option, Some}
+use Rattle.std.specs.Prelude.{◌≡◌, ◌⊎◌, ℕ, Bool, false, List, ◌++◌, Option, Some}
 use Rattle.sdh_plant.specs.Fibres.{Fibres}
 use Rattle.sdh_plan.specs.Planned.{Planned}
 use Rattle.sdh_report.specs.Reports.{Report, text_of}
@@ -7,21 +7,19 @@ use Rattle.sdh_report.specs.declared.listing.Listing.TheVariants as listing
 use Rattle.sdh_report.specs.declared.status.Status.{Status}
 use Rattle.sdh_report.specs.declared.status.Status.TheVariants as status
 use Rattle.sdh_report.specs.Statuses.{last_line}
-use Rattle.sdh_shell.specs.Reading.{HasNoPlan, TellsPlan}
-use Rattle.sdh_shell.specs.Failing.{Counts, HaveFailed, CameToFaults}
-use Rattle.sdh_shell.specs.Writing.{Telling, Whole, Front, Nothing, WritesAs}
+use Rattle.sdh_shell.specs.Calls.{is_run, AreRun}
+use Rattle.sdh_shell.specs.Reading.{HasNoPlan, TellsPlan, told_if}
+use Rattle.sdh_shell.specs.Failing.{Counts, CameToFaults}
+use Rattle.sdh_shell.specs.Failing as failing
+use Rattle.sdh_shell.specs.Writing.{Says, Telling, Whole, WritesAs}
+use Rattle.sdh_shell.specs.Writing as writing
 use Rattle.sdh_sncp.specs.Fixed.{AreAlone}
 use Rattle.sdh_sncp.specs.Sharing.{AreFirstToShare}
 use Rattle.sdh_sncp_script.specs.Steps.{first_strange, AreKnown}
 use Rattle.sdh_sncp_script.specs.Plans.{IsRunOf}
-use Rattle.sdh_sncp_cli.specs.Words.{is_run, AreRun}
 use Rattle.sdh_sncp_cli.specs.Endings.{number_of, line_of}
 use Rattle.sdh_sncp_cli.specs.declared.ending.Ending.{Ending}
 use Rattle.sdh_sncp_cli.specs.declared.ending.Ending.TheVariants as ending
-
--- the last line is all of the text, and the fibres are left alone
-abbrev pub Says : Ending → List ℕ → Fibres → Fibres → Type 0
-Says how text f left = (text ≡ line_of how) × (left ≡ f)
 
 -- ---- with a plan
 
@@ -36,8 +34,8 @@ pub record IsRunOutcome (plan : Planned) (f : Fibres) (how : Status) (text : Lis
 -- slot are named; or none do, and it was run.
 abbrev pub OfPlan : Planned → Fibres → Ending → List ℕ → Fibres → Type 0
 OfPlan plan f ending.Usage text left = ⊥
-OfPlan plan f (ending.NoSuchStep step) text left = (first_strange plan.steps ≡ Some step) × Says (ending.NoSuchStep step) text f left
-OfPlan plan f (ending.SameSlot first second) text left = AreKnown plan.steps × AreFirstToShare plan.circuits first second × Says (ending.SameSlot first second) text f left
+OfPlan plan f (ending.NoSuchStep step) text left = (first_strange plan.steps ≡ Some step) × Says (line_of (ending.NoSuchStep step)) text f left
+OfPlan plan f (ending.SameSlot first second) text left = AreKnown plan.steps × AreFirstToShare plan.circuits first second × Says (line_of (ending.SameSlot first second)) text f left
 OfPlan plan f (ending.Shared how) text left = AreKnown plan.steps × AreAlone plan.circuits × IsRunOutcome plan f how text left
 
 -- ---- with the bytes of a source
@@ -47,7 +45,7 @@ abbrev pub IsRefused : List ℕ → Fibres → Ending → List ℕ → Fibres �
 IsRefused bytes f ending.Usage text left = ⊥
 IsRefused bytes f (ending.NoSuchStep step) text left = ⊥
 IsRefused bytes f (ending.SameSlot first second) text left = ⊥
-IsRefused bytes f (ending.Shared how) text left = HasNoPlan bytes how × Says (ending.Shared how) text f left
+IsRefused bytes f (ending.Shared how) text left = HasNoPlan bytes how × Says (line_of (ending.Shared how)) text f left
 
 abbrev pub OfBytes : List ℕ → Fibres → Ending → List ℕ → Fibres → Type 0
 OfBytes bytes f how text left = IsRefused bytes f how text left ⊎ ((plan : Planned) × TellsPlan bytes plan × OfPlan plan f how text left)
@@ -59,7 +57,7 @@ OfBytes bytes f how text left = IsRefused bytes f how text left ⊎ ((plan : Pla
 pub record IsUsage (words : List (List ℕ)) (f : Fibres) (how : Ending) (text : List ℕ) (left : Fibres) : Type 0 where
   pub other : is_run words ≡ false
   pub how_is : how ≡ ending.Usage
-  pub says : Says ending.Usage text f left
+  pub says : Says (line_of ending.Usage) text f left
 
 abbrev pub IsOutcome : List (List ℕ) → List ℕ → Fibres → Ending → List ℕ → Fibres → Type 0
 IsOutcome words bytes f how text left = IsUsage words f how text left ⊎ (AreRun words × OfBytes bytes f how text left)
@@ -68,8 +66,7 @@ IsOutcome words bytes f how text left = IsUsage words f how text left ⊎ (AreRu
 
 -- a read fault and a plant fault have their causes
 abbrev pub HasCause : Counts → Counts → Ending → Type 0
-HasCause reads calls (ending.Shared status.ReadFault) = HaveFailed reads
-HasCause reads calls (ending.Shared status.PlantFault) = HaveFailed calls
+HasCause reads calls (ending.Shared how) = failing.HasCause reads calls how
 HasCause reads calls how = Unit {0}
 
 -- what had come of source and plant when there was this to tell
@@ -79,8 +76,7 @@ CameTo source_exact plant_exact source plant left now how =
 
 -- with what text an ending goes
 abbrev pub telling_of : Ending → Telling
-telling_of (ending.Shared status.WriteFault) = Front
-telling_of (ending.Shared status.Memory) = Nothing
+telling_of (ending.Shared how) = writing.telling_of how
 telling_of how = Whole
 
 -- an outcome that these failures allow
@@ -108,9 +104,5 @@ IsEnding (ending.Shared status.NoSuchPort) = ⊥
 IsEnding how = Unit {0}
 
 -- what has to be known of a source: its bytes, or nothing where it isn't read
-abbrev pub told_if : Bool → Option (List ℕ) → Option (List ℕ)
-told_if true left = left
-told_if false left = Some []
-
 abbrev pub told : List (List ℕ) → Option (List ℕ) → Option (List ℕ)
 told words left = told_if (is_run words) left

@@ -6,7 +6,7 @@ ghost use Rattle.sdh_outside.specs.Reading.{TakesCount};
 ghost use Rattle.sdh_plant.specs.Fibres.{HasNoFibres};
 ghost use Rattle.sdh_report.specs.declared.status.Status.{Status};
 ghost use Rattle.sdh_sncp_script.specs.Steps.{AreKnown};
-ghost use Rattle.sdh_sncp_cli.specs.Words.{words_of, is_run};
+ghost use Rattle.sdh_shell.specs.Calls.{words_of, is_run};
 ghost use Rattle.sdh_sncp_cli.specs.Endings.{line_of};
 ghost use Rattle.sdh_sncp_cli.specs.declared.ending.Ending.{Ending};
 ghost use Rattle.sdh_sncp_cli.specs.Outcome.{OfPlan, OfBytes, IsOutcome, HasCause, IsOwn, told};
@@ -16,7 +16,7 @@ use sdh_outside::Source;
 use sdh_plan::Plan;
 use sdh_plant::Plant;
 use sdh_report::{LINE_MAX, Status, Text};
-use sdh_shell::{NoPlan, plan_in};
+use sdh_shell::{NoPlan, is_run, plan_in};
 use sdh_sncp::PathError;
 use sdh_sncp_script::{first_strange, run_plan};
 use std::alloc::{AllocError, Global};
@@ -107,16 +107,6 @@ fn read_report<R: Source, P: Plant>(
         Ok(plan) => plan_report(alloc, plan, plant),
         Err(NoPlan::Memory) => Err(AllocError),
         Err(NoPlan::Refused(how)) => Ok(ended(Ending::Shared(how), line)),
-    }
-}
-
-// Whether the words are the one word `run`.
-fn is_run(words: &[String]) -> bool
-    ensures { result ≡ is_run (words_of words.now) }
-{
-    match words {
-        [word] => word.as_str() == "run",
-        _ => false,
     }
 }
 

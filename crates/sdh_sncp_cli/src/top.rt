@@ -6,7 +6,7 @@ ghost use Rattle.sdh_plant.specs.Fibres.{HasNoFibres};
 ghost use Rattle.sdh_report.specs.declared.status.Status.{Status};
 ghost use Rattle.sdh_shell.specs.Failing.{Counts};
 ghost use Rattle.sdh_shell.specs.Writing.{WritesAs};
-ghost use Rattle.sdh_sncp_cli.specs.Words.{words_of, is_run};
+ghost use Rattle.sdh_shell.specs.Calls.{words_of, is_run};
 ghost use Rattle.sdh_sncp_cli.specs.Endings.{number_of};
 ghost use Rattle.sdh_sncp_cli.specs.declared.ending.Ending.{Ending};
 ghost use Rattle.sdh_sncp_cli.specs.Outcome.{Answers, MayEnd, CameTo, telling_of, told, IsEnding};

@@ -14,7 +14,10 @@ use Rattle.sdh_rounds.specs.Quiet.{enough_for}
 use Rattle.sdh_promise.specs.Changes.{Change, Fibre, scenes}
 use Rattle.sdh_scripts.specs.Scripts.{Runs}
 use Rattle.sdh_scripts.proofs.Ports.{lines_same}
-use Rattle.sdh_scripts.proofs.Outcomes.{refused_ends}
+use Rattle.sdh_scripts.specs.Outcomes.{IsSettled}
+use Rattle.sdh_scripts.proofs.Outcomes.{refused_ends, settled_by, ok_settles, fault_settles}
+use Rattle.sdh_scripts.proofs.Reporting.{settles_by, reports_by}
+use Rattle.sdh_sncp.specs.Stations.{path_node}
 use Rattle.sdh_sncp.specs.Ring.{World}
 use Rattle.sdh_sncp.specs.Due.{due_path}
 use Rattle.sdh_sncp.specs.Laws.{DeliversWhatIsDue, cut_in}
@@ -23,7 +26,6 @@ use Rattle.sdh_sncp_script.specs.Reports.{delivered_at, ports_told, report_of}
 use Rattle.sdh_sncp_script.specs.Walking.{does, path_walk}
 use Rattle.sdh_sncp_script.specs.Steps.{MayDo}
 use Rattle.sdh_sncp_script.specs.Promise.{cut_after, due_ports, AreDue}
-use Rattle.sdh_sncp_script.specs.Plans.{IsSettled}
 use Rattle.sdh_sncp_script.specs.Laws.{ReportsAreDue, PathScriptsSettle}
 use Rattle.sdh_sncp_script.proofs.Standing.{Stands, stands_new, fibre_then, settled_then}
 
@@ -31,16 +33,6 @@ use Rattle.sdh_sncp_script.proofs.Standing.{Stands, stands_new, fibre_then, sett
 pub due_none : (n : ℕ) (circuits : List Provisioned) (limit : ℕ) (earlier : List Change) (ran before : ℕ) (later : List (List Change)) (end : Status) → end ≡ status.PlantFault → AreDue n circuits limit earlier ran before later [] end
 due_none n circuits limit earlier ran before [] end h = (refl, inr h)
 due_none n circuits limit earlier ran before (changes ∷ later) end h = inr h
-
--- an end that is no unsettled step
-pub settled_by : (end how : Status) → end ≡ how → IsSettled how → IsSettled end
-settled_by end how is h k e = h k (sym is ∙ e)
-
-ok_settles : IsSettled status.Ok
-ok_settles k e = grind arith
-
-pub fault_settles : IsSettled status.PlantFault
-fault_settles k e = grind arith
 
 module _ (rate : Rate) (ids : List ℕ) (circuits : Provisioning) where
   abbrev n : ℕ
@@ -68,16 +60,17 @@ module _ (rate : Rate) (ids : List ℕ) (circuits : Provisioning) where
       → Now (earlier ++ changes) ran w → MayDo rate n before steps → Runs path_walk limit before steps w reports end left → AreDue n circuits.circuits limit earlier ran before (scenes changes steps) reports end
   unfolding report_of
   owed limit before earlier changes [] ran w reports end left h may x = (x.1.0, inl x.1.1)
-  owed limit before earlier changes (step.Settle ∷ later) ran w reports end left h may (inl x) =
-      let mid = x.0 in
-      let there = settled_then rate ids circuits (earlier ++ changes) ran w h mid limit x.2 in
-      let delivers : DeliversWhatIsDue mid = steps_deliver w mid limit h.form x.2 h.whole in
-      subst (λ rs. AreDue n circuits.circuits limit earlier ran before (scenes changes (step.Settle ∷ later)) rs end) (sym x.3) (
+  owed limit before earlier changes (step.Settle ∷ later) ran w reports end left h may (inl (told, mid, rest, ended, is, x)) =
+      let settles = settles_by path_node does report_of w limit (before + 1) told mid ended in
+      let there = settled_then rate ids circuits (earlier ++ changes) ran w h mid limit settles in
+      let delivers : DeliversWhatIsDue mid = steps_deliver w mid limit h.form settles h.whole in
+      let all : reports ≡ report_of (before + 1) mid.ring ∷ rest = reports_by path_node does report_of w limit (before + 1) told mid reports rest ended is in
+      subst (λ rs. AreDue n circuits.circuits limit earlier ran before (scenes changes (step.Settle ∷ later)) rs end) (sym all) (
         refl,
         refl,
         there.last,
         due_then (earlier ++ changes) _ mid there.stands delivers,
-        owed limit (before + 1) (earlier ++ changes) [] later _ mid x.1 end left (subst (λ cs. Now cs (mid.ring.rounds - 1 + 1) mid) (sym (append-nil (earlier ++ changes))) there.stands) may.1 x.4,
+        owed limit (before + 1) (earlier ++ changes) [] later _ mid rest end left (subst (λ cs. Now cs (mid.ring.rounds - 1 + 1) mid) (sym (append-nil (earlier ++ changes))) there.stands) may.1 x,
       )
   owed limit before earlier changes (step.Settle ∷ later) ran w reports end left h may (inr (inl x)) = subst (λ rs. AreDue n circuits.circuits limit earlier ran before (scenes changes (step.Settle ∷ later)) rs end) (sym x.1.0) (inl x.1.1)
   owed limit before earlier changes (step.Settle ∷ later) ran w reports end left h may (inr (inr x)) = subst (λ rs. AreDue n circuits.circuits limit earlier ran before (scenes changes (step.Settle ∷ later)) rs end) (sym x.1.0) (inr x.1.1)
@@ -96,8 +89,8 @@ module _ (rate : Rate) (ids : List ℕ) (circuits : Provisioning) where
   settles : (limit before : ℕ) (changes : List Change) (steps : List Step) (ran : ℕ) (w : World) (reports : List Report) (end : Status) (left : World)
       → Now changes ran w → MayDo rate n before steps → enough_for n ≤ limit → Runs path_walk limit before steps w reports end left → IsSettled end
   settles limit before changes [] ran w reports end left h may large x = settled_by end status.Ok x.1.1 ok_settles
-  settles limit before changes (step.Settle ∷ later) ran w reports end left h may large (inl x) =
-      settles limit (before + 1) changes later _ x.0 x.1 end left (settled_then rate ids circuits changes ran w h x.0 limit x.2).stands may.1 large x.4
+  settles limit before changes (step.Settle ∷ later) ran w reports end left h may large (inl (told, mid, rest, ended, is, x)) =
+      settles limit (before + 1) changes later _ mid rest end left (settled_then rate ids circuits changes ran w h mid limit (settles_by path_node does report_of w limit (before + 1) told mid ended)).stands may.1 large x
   settles limit before changes (step.Settle ∷ later) ran w reports end left h may large (inr (inl x)) =
       absurd (steps_answer w left limit h.form h.whole (omega (arith, large, ap (λ (l : List ℕ). length l) h.ids)) x.0)
   settles limit before changes (step.Settle ∷ later) ran w reports end left h may large (inr (inr x)) = settled_by end status.PlantFault x.1.1 fault_settles

@@ -1,5 +1,5 @@
 -- What comes of a plan.
-use Rattle.std.proofs.Common.{◌≡◌, true, ℕ, List, [], length, refl, ◌≤◌, sym, ◌∙◌, subst, arith, inl, inr}
+use Rattle.std.proofs.Common.{◌≡◌, true, ℕ, List, [], length, refl, ◌≤◌, sym, subst, arith, inl, inr}
 use Rattle.sdh_plant.specs.Fibres.{Fibres, IsHonest}
 use Rattle.sdh_plant.specs.Arrivals.{Knows}
 use Rattle.sdh_circuits.proofs.Rings.{circuits_are}
@@ -12,8 +12,11 @@ use Rattle.sdh_report.specs.declared.status.Status.{Status}
 use Rattle.sdh_report.specs.declared.status.Status.TheVariants as status
 use Rattle.sdh_promise.specs.Changes.{scenes}
 use Rattle.sdh_rounds.specs.Quiet.{enough_for}
-use Rattle.sdh_scripts.specs.Laws.{KeepsRounds}
-use Rattle.sdh_scripts.proofs.Outcomes.{known_comes, comes_ends}
+use Rattle.sdh_scripts.specs.Laws.{DoesNoRound, KeepsRounds}
+use Rattle.sdh_scripts.proofs.Outcomes.{known_comes, settled_done, known_done, settled_by, fault_settles}
+use Rattle.sdh_scripts.specs.Outcomes.{IsSettled}
+use Rattle.sdh_scripts.proofs.Reporting.{keeps_by}
+use Rattle.sdh_sncp.specs.Stations.{path_node}
 use Rattle.sdh_sncp.specs.Ring.{World, new_ring}
 use Rattle.sdh_sncp.specs.Fixed.{AreAlone}
 use Rattle.sdh_sncp.specs.Laws.{HasCircuits}
@@ -22,17 +25,15 @@ use Rattle.sdh_sncp_script.specs.Reports.{report_of}
 use Rattle.sdh_sncp_script.specs.Walking.{does, path_walk}
 use Rattle.sdh_sncp_script.specs.Steps.{AreKnown}
 use Rattle.sdh_sncp_script.specs.Promise.{OwesAll}
-use Rattle.sdh_sncp_script.specs.Plans.{world_of, ran_of, Comes, ComesKnown, MaySettle, IsSettled, Tells, Came}
+use Rattle.sdh_sncp_script.specs.Plans.{world_of, ran_of, Comes, ComesKnown, MaySettle, Tells, Came}
 use Rattle.sdh_sncp_script.specs.Laws.{ReportsAreDue, PathScriptsSettle}
 use Rattle.sdh_sncp_script.proofs.Fits.{fits}
-use Rattle.sdh_sncp_script.proofs.Due.{due_none, settled_by, fault_settles}
+use Rattle.sdh_sncp_script.proofs.Due.{due_none}
 
 -- ---- where the arrivals are known
 
-pub keeps_rounds : KeepsRounds path_walk
-unfolding report_of
-keeps_rounds = record {
-  last = λ number r. refl;
+no_round : DoesNoRound does
+no_round = record {
   ids = ids;
   size = size;
   rounds = rounds;
@@ -59,6 +60,10 @@ keeps_rounds = record {
     knows : (s : Step) (w : World) → Knows w.fibres → Knows (does s w).fibres
     knows (step.Fibre e) w h = h
     knows s w h = h
+
+pub keeps_rounds : KeepsRounds path_walk
+unfolding report_of
+keeps_rounds = keeps_by path_node does report_of no_round (λ number r. refl)
 
 module _ (plan : Planned) (f left : Fibres) (reports : List Report) (end : Status) (form : IsPlanned plan) (known : AreKnown plan.steps) (alone : AreAlone plan.circuits) where
   known_then : Comes plan f reports end left → Knows (world_of plan f).fibres → ComesKnown plan f reports end left
@@ -98,17 +103,6 @@ tells_all owed settles plan f left text end form known alone honest x = record {
 
 -- ---- a script that settles, and that no fault broke off, is done
 
-settled_done : (plan : Planned) (f left : Fibres) (reports : List Report) (end : Status) → Comes plan f reports end left → IsSettled end → (end ≡ status.PlantFault → ⊥) → end ≡ status.Ok
-settled_done plan f left reports end x settled fine = elim (comes_ends path_walk plan.limit plan.steps (world_of plan f) f left reports end x) [
-  | inl done ↦ done
-  | inr (inl at) ↦ absurd (settled at.0 at.1)
-  | inr (inr fault) ↦ absurd (fine fault)
-]
-
-known_done : (plan : Planned) (f left : Fibres) (reports : List Report) (end : Status) → ComesKnown plan f reports end left → (ran_of plan f).ending ≡ status.Ok → (end ≡ status.PlantFault → ⊥) → end ≡ status.Ok
-known_done plan f left reports end (inl x) done fine = x.end_is ∙ done
-known_done plan f left reports end (inr x) done fine = absurd (fine x.0)
-
 pub done_comes : (plan : Planned) (f left : Fibres) (text : List ℕ) (end : Status) → Tells plan f text end left → MaySettle plan f → (end ≡ status.PlantFault → ⊥) → end ≡ status.Ok
-done_comes plan f left text end x (inl may) fine = known_done plan f left x.reports end (x.came.known may.0) may.1 fine
-done_comes plan f left text end x (inr may) fine = settled_done plan f left x.reports end x.came.ran (x.came.settles may.0 may.1) fine
+done_comes plan f left text end x (inl may) fine = known_done path_walk (ran_of plan f) (length plan.nodes) f left x.reports end (x.came.known may.0) may.1 fine
+done_comes plan f left text end x (inr may) fine = settled_done path_walk plan.limit plan.steps (world_of plan f) f left x.reports end x.came.ran (x.came.settles may.0 may.1) fine

@@ -1,5 +1,5 @@
 -- A script, step by step.
-use Rattle.std.proofs.Common.{◌≡◌, ◌≤◌, ℕ, ◌+◌, ◌-◌, ◌*◌, false, List, [], ◌∷◌, length, refl, ap, sym, ◌∙◌, subst, arith, inr}
+use Rattle.std.proofs.Common.{◌≡◌, ◌≤◌, ℕ, ◌+◌, false, List, ◌∷◌, length, refl, ap, sym, ◌∙◌, subst, arith}
 use Rattle.sdh_plant.specs.Fibres.{Fibres, IsPrepared}
 use Rattle.sdh_plant.specs.Calls.{prepared}
 use Rattle.sdh_plant.proofs.Calling.{stay_prepared}
@@ -9,15 +9,12 @@ use Rattle.sdh_rounds.proofs.Runs.{held_run}
 use Rattle.sdh_plan.specs.declared.step.Step.{Step}
 use Rattle.sdh_plan.specs.declared.step.Step.TheVariants as step
 use Rattle.sdh_plan.specs.Planned.{Planned, IsPlanned}
-use Rattle.sdh_report.specs.Written.{Written}
-use Rattle.sdh_report.specs.declared.status.Status.{Status}
-use Rattle.sdh_scripts.specs.Texts.{StopsAt}
 use Rattle.sdh_sncp.specs.Stations.{path_node}
 use Rattle.sdh_sncp.specs.Ring.{HeldPath, World, new_ring, Settles}
 use Rattle.sdh_sncp_script.specs.Reports.{report_room}
-use Rattle.sdh_sncp_script.specs.Walking.{does, path_walk}
+use Rattle.sdh_sncp_script.specs.Walking.{does}
 use Rattle.sdh_sncp_script.specs.Steps.{AreKnown, MayDo}
-use Rattle.sdh_sncp_script.specs.Running.{MayRun, Refused}
+use Rattle.sdh_sncp_script.specs.Running.{MayRun}
 use Rattle.sdh_sncp_script.proofs.Fits.{fits}
 
 -- ---- a new ring
@@ -47,61 +44,38 @@ settled_whole w left limit s whole = ap (λ (r : HeldPath). r.broken) (settled_h
 pub settled_room : (w left : World) (limit : ℕ) → Settles w limit left → report_room (length left.ring.circuits.circuits) ≡ report_room (length w.ring.circuits.circuits)
 settled_room w left limit s = ap (λ (r : HeldPath). report_room (length r.circuits.circuits)) (settled_held w left limit s)
 
-pub settled_next : (limit before : ℕ) (w left : World) (t u : Written) → limit ≤ 65536 → Settles w limit left → IsPrepared w.ring.settings.rate (length w.ring.ids) left.fibres
-    → t.room ≤ u.room + report_room (length w.ring.circuits.circuits) → (later : List Step) → MayRun before (step.Settle ∷ later) w.ring w.fibres t → MayRun (before + 1) later left.ring left.fibres u
-settled_next limit before w left t u few s prepared room later h =
-    let c = report_room (length w.ring.circuits.circuits) in
+pub settled_next : (limit before : ℕ) (w left : World) → limit ≤ 65536 → Settles w limit left → IsPrepared w.ring.settings.rate (length w.ring.ids) left.fibres
+    → (later : List Step) → MayRun before (step.Settle ∷ later) w.ring w.fibres → MayRun (before + 1) later left.ring left.fibres
+settled_next limit before w left few s prepared later h =
     let held = settled_held w left limit s in
     let most : length s.rounds ≤ limit = s.settles.within in
-    let enough : before + 1 ≤ 64 = h.steps_fit.0 in
     let grown : left.ring.rounds ≡ w.ring.rounds + length s.rounds = ap (λ (r : HeldPath). r.rounds) held in
-    let one : c * (64 - before) ≡ c * (64 - (before + 1)) + c = more c (64 - before) (64 - (before + 1)) (omega arith) in
-    let Shape = λ (r : HeldPath). (r.broken ≡ false) × IsPrepared r.settings.rate (length r.ids) left.fibres × MayDo r.settings.rate (length r.ids) (before + 1) later × (report_room (length r.circuits.circuits) * (64 - (before + 1)) + 96 ≤ u.room) in
-    let old : Shape (record w.ring { nodes = left.ring.nodes; rounds = w.ring.rounds + length s.rounds }) = (h.whole, prepared, h.steps_fit.1, omega (arith, h.room, room, one)) in
+    let Shape = λ (r : HeldPath). (r.broken ≡ false) × IsPrepared r.settings.rate (length r.ids) left.fibres × MayDo r.settings.rate (length r.ids) (before + 1) later in
+    let old : Shape (record w.ring { nodes = left.ring.nodes; rounds = w.ring.rounds + length s.rounds }) = (h.whole, prepared, h.steps_fit.1) in
     let new : Shape left.ring = subst Shape (sym held) old in
     record {
       whole = new.0;
       prepared = new.1;
       steps_fit = new.2;
-      few = enough;
+      few = h.steps_fit.0;
       rounds = omega (arith, h.rounds, grown, most);
-      room = new.3;
     }
-  where
-    more : (c a b : ℕ) → a ≡ b + 1 → c * a ≡ c * b + c
-    more c a b e = ap (λ k. c * k) e ∙ omega arith
 
 -- ---- any other step
 
 -- the same ring over fibres that are prepared for it
-may_on : (before : ℕ) (steps later : List Step) (r : HeldPath) (f g : Fibres) (t : Written) → MayRun before steps r f t → IsPrepared r.settings.rate (length r.ids) g → MayDo r.settings.rate (length r.ids) before later → MayRun before later r g t
-may_on before steps later r f g t h laid fit = record { whole = h.whole; prepared = laid; steps_fit = fit; few = h.few; rounds = h.rounds; room = h.room }
+may_on : (before : ℕ) (steps later : List Step) (r : HeldPath) (f g : Fibres) → MayRun before steps r f → IsPrepared r.settings.rate (length r.ids) g → MayDo r.settings.rate (length r.ids) before later → MayRun before later r g
+may_on before steps later r f g h laid fit = record { whole = h.whole; prepared = laid; steps_fit = fit; few = h.few; rounds = h.rounds }
 
-done_may : (before : ℕ) (s : Step) (later : List Step) (w : World) (t : Written) → (s ≡ step.Settle → ⊥) → MayRun before (s ∷ later) w.ring w.fibres t → MayRun before later (does s w).ring (does s w).fibres t
-done_may before (step.Fibre e) later w t other h =
-    may_on before (step.Fibre e ∷ later) later w.ring w.fibres _ t h (stay_prepared.apply w.ring.settings.rate (length w.ring.ids) w.fibres e.at.0 e.side e.condition h.steps_fit.1 h.prepared) h.steps_fit.2
-done_may before (step.Order p d c) later w t other h = absurd h.steps_fit
-done_may before (step.Moment m) later w t other h = absurd h.steps_fit
-done_may before (step.Hold p turns) later w t other h = absurd h.steps_fit
-done_may before (step.Slip port turn count) later w t other h = absurd h.steps_fit
-done_may before step.Settle later w t other h = absurd (other refl)
+done_may : (before : ℕ) (s : Step) (later : List Step) (w : World) → (s ≡ step.Settle → ⊥) → MayRun before (s ∷ later) w.ring w.fibres → MayRun before later (does s w).ring (does s w).fibres
+done_may before (step.Fibre e) later w other h =
+    may_on before (step.Fibre e ∷ later) later w.ring w.fibres _ h (stay_prepared.apply w.ring.settings.rate (length w.ring.ids) w.fibres e.at.0 e.side e.condition h.steps_fit.1 h.prepared) h.steps_fit.2
+done_may before (step.Order p d c) later w other h = absurd h.steps_fit
+done_may before (step.Moment m) later w other h = absurd h.steps_fit
+done_may before (step.Hold p turns) later w other h = absurd h.steps_fit
+done_may before (step.Slip port turn count) later w other h = absurd h.steps_fit
+done_may before step.Settle later w other h = absurd (other refl)
 
-pub done_next : (before : ℕ) (s : Step) (w left : World) (t : Written) → (s ≡ step.Settle → ⊥) → left ≡ does s w
-    → (later : List Step) → MayRun before (s ∷ later) w.ring w.fibres t → MayRun before later left.ring left.fibres t
-done_next before s w left t other is later h = subst (λ (v : World). MayRun before later v.ring v.fibres t) (sym is) (done_may before s later w t other h)
-
-pub refused_stops : (limit before : ℕ) (s : Step) (w left : World) (how : Status) → Refused s w.fibres left.fibres how → StopsAt path_walk limit before s w how left
-refused_stops limit before (step.Fibre e) w left how h later = inr (h.0, (refl, h.1))
-refused_stops limit before s w left how h later = absurd h
-
--- the step before others
-first_alone : (s : Step) (later : List Step) (before : ℕ) (r : HeldPath) → MayDo r.settings.rate (length r.ids) before (s ∷ later) → MayDo r.settings.rate (length r.ids) before (s ∷ [])
-first_alone (step.Fibre e) later before r h = (h.0, h.1, tt)
-first_alone step.Settle later before r h = (h.0, tt)
-first_alone (step.Order p d c) later before r h = h
-first_alone (step.Moment m) later before r h = h
-first_alone (step.Hold p turns) later before r h = h
-first_alone (step.Slip port turn count) later before r h = h
-
-pub may_first : (before : ℕ) (s : Step) (later : List Step) (r : HeldPath) (f : Fibres) (t : Written) → MayRun before (s ∷ later) r f t → MayRun before (s ∷ []) r f t
-may_first before s later r f t h = may_on before (s ∷ later) (s ∷ []) r f f t h h.prepared (first_alone s later before r h.steps_fit)
+pub done_next : (before : ℕ) (s : Step) (w left : World) → (s ≡ step.Settle → ⊥) → left ≡ does s w
+    → (later : List Step) → MayRun before (s ∷ later) w.ring w.fibres → MayRun before later left.ring left.fibres
+done_next before s w left other is later h = subst (λ (v : World). MayRun before later v.ring v.fibres) (sym is) (done_may before s later w other h)

@@ -11,12 +11,12 @@ use Rattle.sdh_report.specs.Reports.{Report}
 use Rattle.sdh_report.specs.declared.status.Status.{Status}
 use Rattle.sdh_promise.specs.Changes.{scenes}
 use Rattle.sdh_scripts.specs.Scripts.{Runs}
+use Rattle.sdh_scripts.specs.Outcomes.{IsSettled}
 use Rattle.sdh_sncp.specs.Ring.{World, world, new_ring}
 use Rattle.sdh_sncp.specs.Laws.{HasCircuits}
 use Rattle.sdh_sncp_script.specs.Walking.{path_walk}
 use Rattle.sdh_sncp_script.specs.Steps.{MayDo}
 use Rattle.sdh_sncp_script.specs.Promise.{AreDue}
-use Rattle.sdh_sncp_script.specs.Plans.{IsSettled}
 
 -- from a new ring over new honest fibres, each report shows what is owed
 abbrev pub ReportsAreDue : Type 0

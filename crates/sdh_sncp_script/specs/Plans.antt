@@ -1,5 +1,5 @@
 -- What comes of a plan over a path ring and fibres that aren't there yet.
-use Rattle.std.specs.Prelude.{ℕ, ◌≡◌, ◌≢◌, ◌⊎◌, ◌≤◌, true, List, length}
+use Rattle.std.specs.Prelude.{ℕ, ◌≡◌, ◌⊎◌, ◌≤◌, true, List, length}
 use Rattle.sdh_plant.specs.Fibres.{Fibres}
 use Rattle.sdh_plant.specs.Arrivals.{Knows}
 use Rattle.sdh_plant.specs.Calls.{prepared}
@@ -10,6 +10,7 @@ use Rattle.sdh_report.specs.declared.listing.Listing.TheVariants as listing
 use Rattle.sdh_report.specs.declared.status.Status.{Status}
 use Rattle.sdh_report.specs.declared.status.Status.TheVariants as status
 use Rattle.sdh_scripts.specs.Scripts.{Ran, script}
+use Rattle.sdh_scripts.specs.Outcomes.{IsSettled}
 use Rattle.sdh_scripts.specs.Outcomes as script
 use Rattle.sdh_sncp.specs.Node.{PathNode}
 use Rattle.sdh_sncp.specs.Ring.{World, world, new_ring}
@@ -21,7 +22,7 @@ abbrev pub world_of : Planned → Fibres → World
 world_of plan f = world (new_ring plan.settings plan.nodes (provisioning_of plan)) (prepared plan.settings.rate (length plan.nodes) f)
 
 -- what its script comes to there, where the arrivals are known
-abbrev pub ran_of : Planned → Fibres → Ran PathNode
+abbrev pub ran_of : Planned → Fibres → Ran PathNode Report
 ran_of plan f = script path_walk plan.limit 0 plan.steps (world_of plan f)
 
 -- over any plant
@@ -30,16 +31,12 @@ Comes plan f reports end left = script.Comes path_walk plan.limit plan.steps (wo
 
 -- where the arrivals are known
 abbrev pub ComesKnown : Planned → Fibres → List Report → Status → Fibres → Type 0
-ComesKnown plan f reports end left = script.ComesKnown (ran_of plan f) (length plan.nodes) f reports end left
+ComesKnown plan f reports end left = script.ComesKnown path_walk (ran_of plan f) (length plan.nodes) f reports end left
 
 -- a script that settles: where the arrivals are known each settle step has a quiet window within the limit; or the fibres are honest and
 -- the limit is large
 abbrev pub MaySettle : Planned → Fibres → Type 0
 MaySettle plan f = (Knows (world_of plan f).fibres × ((ran_of plan f).ending ≡ status.Ok)) ⊎ ((f.honest ≡ true) × (enough_for (length plan.nodes) ≤ plan.limit))
-
--- no settle step was unsettled
-abbrev pub IsSettled : Status → Type 0
-IsSettled end = (k : ℕ) → end ≢ status.Unsettled k
 
 -- One list of reports, told in each way: what ran over every plant, what it comes to where the arrivals are known, and what is
 -- owed over honest fibres.

@@ -11,5 +11,4 @@ mod steps;
 
 pub use laws::{path_scripts_settle, reports_are_due};
 pub use run::{Run, run_plan};
-pub use script::run_script;
 pub use steps::first_strange;

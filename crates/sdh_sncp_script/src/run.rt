@@ -2,8 +2,8 @@
 ghost use Rattle.std.specs.Prelude.{◌≡◌, ℕ, ◌+◌, ◌*◌, ◌≤◌, true, length, Err, IfOk, IfErr, OnErr};
 ghost use Rattle.sdh_basics.specs.Causes.{Rose, IsCounted};
 ghost use Rattle.sdh_plant.specs.Fibres.{HasNoFibres};
-ghost use Rattle.sdh_report.specs.declared.listing.Listing.{Listing};
-ghost use Rattle.sdh_scripts.specs.Texts.{Lists};
+ghost use Rattle.sdh_report.specs.Reports.{report_text};
+ghost use Rattle.sdh_scripts.specs.Texts.{HasRoom, Lists};
 ghost use Rattle.sdh_sncp.specs.Ring.{HeldPath, world};
 ghost use Rattle.sdh_sncp.specs.Fixed.{AreAlone};
 ghost use Rattle.sdh_sncp.specs.Sharing.{AreFirstToShare};
@@ -13,10 +13,11 @@ ghost use Rattle.sdh_sncp_script.specs.Steps.{AreKnown};
 ghost use Rattle.sdh_sncp_script.specs.Running.{MayRun};
 ghost use Rattle.sdh_sncp_script.specs.Plans.{MaySettle, Tells, Came};
 
-use crate::script::run_script;
+use crate::script::PathRun;
 use sdh_plan::{Plan, Step};
 use sdh_plant::{Plant, PrepareError};
 use sdh_report::{Status, Text};
+use sdh_scripts::run_script;
 use sdh_sncp::{PathError, PathRing};
 use std::alloc::Global;
 
@@ -29,22 +30,23 @@ pub struct Run {
 
 // The script over a ring and its fibres.
 fn run_from<P: Plant>(
-    mut ring: PathRing,
+    mut run: PathRun,
     plant: &mut P,
     steps: &[Step],
     limit: u32,
     mut text: Text,
 ) -> Run
-    requires may { MayRun 0 steps.now ring (P.fibres plant.old) text }
+    requires may { MayRun 0 steps.now run.ring (P.fibres plant.old) }
+    requires room { HasRoom (report_room (length run.ring.circuits.circuits)) 0 text.room }
     requires some { 1 ≤ limit }
     requires few { limit ≤ 65536 }
-    ensures ran { (left : HeldPath) × Lists path_walk limit Listing.Reports steps.now (world ring (P.fibres plant.old)) text.bytes result.text.bytes result.status (world left (P.fibres plant.new)) }
+    ensures ran { (left : HeldPath) × Lists path_walk limit report_text steps.now (world run.ring (P.fibres plant.old)) text.bytes result.text.bytes result.status (world left (P.fibres plant.new)) }
     ensures room { 96 ≤ result.text.room }
     ensures later { P.faults plant.old ≤ P.faults plant.new }
     ensures failed { result.status ≡ Status.PlantFault → Rose (P.faults plant.old) (P.faults plant.new) }
     ensures counted { IsCounted P.exact (result.status ≡ Status.PlantFault) (P.faults plant.old) (P.faults plant.new) }
 {
-    let status = run_script(&mut ring, plant, steps, limit, &mut text);
+    let status = run_script(&mut run, plant, steps, limit, &mut text);
     Run { status, text }
 }
 
@@ -72,7 +74,7 @@ fn run_new<P: Plant>(alloc: Global, plan: Plan, plant: &mut P) -> Result<Run, Pa
         Err(refusal) => return Err(refusal),
     };
     match plant.prepare(alloc, settings.rate, nodes) {
-        Ok(()) => Ok(run_from(ring, plant, &steps, limit, text)),
+        Ok(()) => Ok(run_from(PathRun { ring }, plant, &steps, limit, text)),
         Err(PrepareError::Memory) => Err(PathError::Memory),
         Err(PrepareError::Failed) => Ok(Run {
             status: Status::PlantFault,

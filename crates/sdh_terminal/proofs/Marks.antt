@@ -1,5 +1,5 @@
 -- Interpreters and generators tell after each step whether it moved them: none moved where all keep what they kept.
-use Rattle.std.proofs.Common.{◌≡◌, ℕ, ◌+◌, Bool, true, false, List, [], ◌∷◌, map, replicate, zero, suc, refl, ap, sym, ◌∙◌}
+use Rattle.std.proofs.Common.{◌≡◌, ℕ, ◌+◌, Bool, true, false, List, [], ◌∷◌, map, refl, ap, sym, ◌∙◌}
 use Rattle.std.specs.Prelude.{◌&&◌, ◌||◌, not}
 use Rattle.std.specs.List.{list_any}
 use Rattle.sdh_basics.specs.Indexed.{map_from}
@@ -21,10 +21,6 @@ pub map_from-map : {X Y Z : Type 0} (f : ℕ → Y → Z) (g : X → Y) (i : ℕ
 map_from-map f g i [] = refl
 map_from-map f g i (x ∷ xs) = ap (λ r. f i (g x) ∷ r) (map_from-map f g (i + 1) xs)
 
-pub map-replicate : {X Y : Type 0} (g : X → Y) (n : ℕ) (x : X) → map g (replicate n x) ≡ replicate n (g x)
-map-replicate g zero x = refl
-map-replicate g (suc n) x = ap (λ r. g x ∷ r) (map-replicate g n x)
-
 -- ---- marks
 
 none-or : (a b : Bool) → not (not a || b) ≡ (a && not b)
@@ -32,14 +28,6 @@ none-or true b = refl
 none-or false b = refl
 
 -- ---- interpreters
-
-step_reading : (i : Interpreter) (w : ℕ) → (after_step i w).reading ≡ after_word i.reading w
-unfolding after_step
-step_reading i w = refl
-
-step_moved : (i : Interpreter) (w : ℕ) → (after_step i w).moved ≡ not (same_reading (after_word i.reading w) i.reading)
-unfolding after_step
-step_moved i w = refl
 
 module _ (w : ℕ → ℕ) where
   abbrev stepped : ℕ → List Interpreter → List Interpreter

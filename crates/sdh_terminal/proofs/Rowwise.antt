@@ -7,7 +7,7 @@ use Rattle.sdh_terms.specs.Rates.{n_of}
 use Rattle.sdh_frame.specs.Aus.{Au, with_aus}
 use Rattle.sdh_frame.specs.Lending.{with_row}
 use Rattle.sdh_frame.proofs.AllAus.{length-with_aus}
-use Rattle.sdh_overhead.specs.Sections.{SectionKept, holding, parities_of, clear_frame, line_frame, next_of}
+use Rattle.sdh_overhead.specs.Sections.{SectionKept, holding, parities_of, clear_frame, line_frame, next_of, MayWrite}
 use Rattle.sdh_overhead.specs.Rows.{clear_row, line_row, HasSent}
 use Rattle.sdh_overhead.proofs.Built.{BuiltTo, built-next, all-built, built-kept}
 use Rattle.sdh_interchange.specs.Assembled.{HasRow}
@@ -27,7 +27,7 @@ module _ (first section after : SectionKept) (aus : ℕ → List Au) (k1 k2 row 
     (lent : was ≡ slice_range mid.bytes ((row - 1) * (270 * n_of mid.rate)) (row * (270 * n_of mid.rate)))
     (written : part ≡ line_row (n_of section.rate) section.last k1 k2 ((row - 1) * (270 * n_of section.rate)) was) (long : length part ≡ 270 * n_of mid.rate)
     (sends : (f : SectionKept) (clear line : List ℕ) → HasSent f clear line section → HasSent f (clear ++ clear_row (n_of section.rate) section.last k1 k2 ((row - 1) * (270 * n_of section.rate)) was) (line ++ part) after)
-    (stays : after.rate ≡ section.rate) (next : row < 9 → next_of after.under_way ≡ row + 1) where
+    (stays : after.rate ≡ section.rate) (next : row < 9 → next_of after.under_way ≡ row + 1) (way : MayWrite after.under_way) where
   gets : GetsRow aus row frame.bytes mid.bytes was part (with_row mid row part).bytes mid.rate
   gets = record {
     put = subst (λ r. HasRow (n_of r) row (with_aus (n_of r) 1 (aus (n_of r)) frame.bytes) frame.bytes mid.bytes) (sym kept) put;
@@ -44,7 +44,7 @@ module _ (first section after : SectionKept) (aus : ℕ → List Au) (k1 k2 row 
       (here.put.here ∙ row-alike row some (omega arith) first.rate (aus n) frame.bytes start so.long size so.rest) here.put.before here.put.behind (here.put.long ∙ so.long)
       (written ∙ ap (line_row (n_of section.rate) section.last k1 k2 ((row - 1) * (270 * n_of section.rate))) here.lent) here.long
       (λ f clear line h. subst (λ l. HasSent f (clear ++ clear_row (n_of section.rate) section.last k1 k2 ((row - 1) * (270 * n_of section.rate)) l) (line ++ part) after) here.lent (sends f clear line h))
-      stays next here.back
+      stays next way here.back
 
 -- all rows were written, of a frame at this rate
 module _ (first section : SectionKept) (aus : ℕ → List Au) (k1 k2 row : ℕ) (out now : Frame) (ten : row ≡ 10) (size : length out.bytes ≡ size_of first.rate) (at : first.rate ≡ out.rate)

@@ -1,6 +1,6 @@
 -- Ports at one of which more slips wait.
-use Rattle.std.proofs.Common.{◌≡◌, ℕ, zero, suc, ◌+◌, ◌<◌, ◌≤◌, Bool, true, false, Some, None, Option, List, [], ◌∷◌, length, set, get_or, inl, inr, refl, ap, sym, subst, ◌∙◌, arith}
-use Rattle.std.specs.Prelude.{◌==◌, ◌&&◌, if◌then◌else◌, All, find, IsSome}
+use Rattle.std.proofs.Common.{◌≡◌, ℕ, zero, suc, ◌+◌, ◌<◌, ◌≤◌, Bool, true, false, Some, None, Option, List, [], ◌∷◌, length, set, get_or, inl, inr, refl, ap, sym, ◌∙◌, arith}
+use Rattle.std.specs.Prelude.{◌==◌, ◌&&◌, if◌then◌else◌, All}
 use Rattle.std.specs.List.{position, position_or_len}
 use Rattle.std.specs.Option.{option_map, option_map_or}
 use Rattle.std.proofs.lemmas.Bool.{eqb-true, eq-eqb, ne_eqb, cases_eq}
@@ -8,13 +8,12 @@ use Rattle.std.proofs.lemmas.List.Elements.{All-nil, All-cons}
 use Rattle.std.proofs.lemmas.List.Quantifiers.{position-Some}
 use Rattle.sdh_payload.specs.declared.clock.Turn.{Turn}
 use Rattle.sdh_payload.specs.declared.clock.Turn.TheVariants.{Up, Down}
-use Rattle.sdh_payload.specs.Outlet.{silent}
 use Rattle.sdh_payload.specs.Clock.{Clock, IsClock, waiting, waits}
 use Rattle.sdh_circuits.specs.declared.End.{End}
 use Rattle.sdh_circuits.specs.declared.End.TheVariants.{A, B}
 use Rattle.sdh_circuits.specs.declared.PortId.{PortId}
 use Rattle.sdh_circuits.specs.Provisioned.{same_end, same_port}
-use Rattle.sdh_terminal.specs.Tributaries.{Tributary, is_port, port_of, HasPort, outlet_of, waiting_of, slipped, with_slips, IsTributary}
+use Rattle.sdh_terminal.specs.Tributaries.{Tributary, is_port, port_of, waiting_of, slipped, with_slips, IsTributary}
 use Rattle.sdh_terminal.specs.Places.{ArePlaces}
 use Rattle.sdh_terminal.proofs.Ports.{port_found}
 
@@ -106,38 +105,6 @@ slipped_where other id turn count t = if same_port other id then slipped turn co
 unslipped : (other id : PortId) (turn : Turn) (count : ℕ) → same_port other id ≡ false → (found : Option Tributary) → found ≡ option_map (slipped_where other id turn count) found
 unslipped other id turn count apart None = refl
 unslipped other id turn count apart (Some t) = rw apart refl
-
-pub port_slipped : (other id : PortId) (turn : Turn) (count : ℕ) (ports : List Tributary) → port_of other (with_slips id turn count ports) ≡ option_map (slipped_where other id turn count) (port_of other ports)
-unfolding port_of with_slips
-port_slipped other id turn count [] = refl
-port_slipped other id turn count (t ∷ ts) = go (is_port id t) (is_port other t) refl refl (port_slipped other id turn count ts)
-  where
-    go : (a b : Bool) → is_port id t ≡ a → is_port other t ≡ b → port_of other (with_slips id turn count ts) ≡ option_map (slipped_where other id turn count) (port_of other ts)
-        → port_of other (with_slips id turn count (t ∷ ts)) ≡ option_map (slipped_where other id turn count) (port_of other (t ∷ ts))
-    go true true here there rest = (let same : same_port other id ≡ true = sym (named id other t here) ∙ there in rw (here, there, same) refl)
-    go true false here there rest = (let same : same_port other id ≡ false = sym (named id other t here) ∙ there in rw (here, there) (unslipped other id turn count same (find (is_port other) ts)))
-    go false true here there rest = (let same : same_port other id ≡ false = sym (ap (λ p. same_port p id) (names_equal t.port other there)) ∙ here in rw (here, there, same) refl)
-    go false false here there rest = rw (here, there) rest
-
-outlet-slipped : (other id : PortId) (turn : Turn) (count : ℕ) (found : Option Tributary) → option_map_or (λ t. t.outlet) (option_map (slipped_where other id turn count) found) silent ≡ option_map_or (λ t. t.outlet) found silent
-outlet-slipped other id turn count None = refl
-outlet-slipped other id turn count (Some t) = go (same_port other id) refl
-  where
-    go : (b : Bool) → same_port other id ≡ b → (slipped_where other id turn count t).outlet ≡ t.outlet
-    go true e = rw e refl
-    go false e = rw e refl
-
--- no port delivers anything else
-pub outlets_stay : (other id : PortId) (turn : Turn) (count : ℕ) (ports : List Tributary) → outlet_of other (with_slips id turn count ports) ≡ outlet_of other ports
-outlets_stay other id turn count ports = ap (λ found. option_map_or (λ t. t.outlet) found silent) (port_slipped other id turn count ports) ∙ outlet-slipped other id turn count (port_of other ports)
-
-there-mapped : (f : Tributary → Tributary) (found : Option Tributary) → IsSome found → IsSome (option_map f found)
-there-mapped f (Some t) h = h
-there-mapped f None h = h
-
--- the ports stay
-pub ports_stay : (other id : PortId) (turn : Turn) (count : ℕ) (ports : List Tributary) → HasPort ports other → HasPort (with_slips id turn count ports) other
-ports_stay other id turn count ports h = subst (λ (found : Option Tributary). IsSome found) (sym (port_slipped other id turn count ports)) (there-mapped (slipped_where other id turn count) (port_of other ports) h)
 
 -- ---- what is true of each
 

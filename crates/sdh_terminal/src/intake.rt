@@ -4,6 +4,7 @@ ghost use Rattle.std.specs.List.{list_any};
 ghost use Rattle.sdh_frame.specs.Sizes.{size_of};
 ghost use Rattle.sdh_terms.specs.Rates.{n_of};
 ghost use Rattle.sdh_frame.specs.Aus.{au_of};
+ghost use Rattle.sdh_overhead.specs.Landing.{emptied};
 ghost use Rattle.sdh_overhead.specs.Sections.{Parities, holding};
 ghost use Rattle.sdh_kbytes.specs.KBytes.{IsSpellable};
 ghost use Rattle.sdh_pointer.specs.Reading.{Interpreter};
@@ -77,9 +78,9 @@ impl Intake {
     /// Gives the buffer of its frame, which has been read, in exchange for that of a frame that doesn't count any more.
     pub fn exchange(&mut self, inbox: &mut Landed)
         requires { inbox.old.rate ≡ self.old.frame.rate }
-        ensures intake { self.new ≡ record self.old { frame = self.new.frame } }
+        ensures intake { self.new ≡ record self.old { frame = record { rate = self.old.frame.rate; bytes = inbox.old.buffer } } }
         ensures rate { self.new.frame.rate ≡ self.old.frame.rate }
-        ensures inbox { inbox.new ≡ record inbox.old { landed = None } }
+        ensures inbox { inbox.new ≡ emptied inbox.old.rate self.old.frame.bytes }
     {
         inbox.swap_frame(&mut self.frame);
     }

@@ -39,7 +39,7 @@ grows p i k = omega (arith, counted_on p i k)
 first_is : (p : ℕ → Bool) (i : ℕ) (b : Bool) → p i ≡ b → counted p (suc i) ≡ counted p i + one b
 first_is p i b e = ap (λ c. counted p i + one c) e
 
-not_equal : (a b : ℕ) → (a ≡ b → ⊥) → nat_eq a b ≡ false
+pub not_equal : (a b : ℕ) → (a ≡ b → ⊥) → nat_eq a b ≡ false
 not_equal a b h = false_from_ne_true (nat_eq a b) (λ e. h (eqb-true a b e))
 
 -- a test holds nowhere there exactly where nothing is counted there

@@ -4,3 +4,4 @@ pub mod Asked
 pub mod Asking
 pub mod Agreeing
 pub mod Same
+pub mod Hops

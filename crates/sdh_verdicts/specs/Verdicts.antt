@@ -1,10 +1,10 @@
 -- What becomes of each circuit where these fail behind a plan's script.
-use Rattle.std.specs.Prelude.{ℕ, ◌≡◌, ◌+◌, ◌*◌, ◌/◌, ◌%◌, ◌≤◌, zero, suc, Bool, true, false, if◌then◌else◌, List, [], ◌∷◌, ◌++◌, length, slice_index, map}
+use Rattle.std.specs.Prelude.{ℕ, ◌≡◌, ◌+◌, ◌*◌, ◌/◌, ◌%◌, ◌<◌, ◌≤◌, zero, suc, Bool, true, false, if◌then◌else◌, List, [], ◌∷◌, ◌++◌, length, slice_index, map, take}
 use Rattle.sdh_basics.specs.Cells.{cells}
 use Rattle.sdh_ringmap.specs.declared.Side.{Side}
 use Rattle.sdh_ringmap.specs.declared.Side.TheVariants.{West, East}
 use Rattle.sdh_ringmap.specs.Places.{neighbour, opposite}
-use Rattle.sdh_ringmap.specs.Arcs.{is_clear, is_joined}
+use Rattle.sdh_ringmap.specs.Arcs.{is_clear, is_joined, is_among}
 use Rattle.sdh_terms.specs.declared.Code.{Code}
 use Rattle.sdh_terms.specs.Fibres.{is_cut}
 use Rattle.sdh_request.specs.declared.Command.{Command}
@@ -12,6 +12,7 @@ use Rattle.sdh_request.specs.declared.Command.TheVariants as command
 use Rattle.sdh_circuits.specs.Provisioned.{Provisioned, arc_of}
 use Rattle.sdh_restoration.specs.declared.applied.LocalRequests.{LocalRequests}
 use Rattle.sdh_restoration.specs.Applied.{is_applied}
+use Rattle.sdh_restoration.specs.Routes.{hops}
 use Rattle.sdh_plan.specs.Planned.{Planned}
 use Rattle.sdh_plan.specs.declared.step.Step.{Step}
 use Rattle.sdh_plan.specs.declared.step.Step.TheVariants as step
@@ -47,6 +48,18 @@ verdict_under n applied c = if is_clear n applied (arc_of n c) then Kept else if
 -- what becomes of a circuit of the plan in a case
 abbrev pub verdict_of : Planned → List Failure → Provisioned → Verdict
 verdict_of plan case c = verdict_under (length plan.nodes) (is_applied (requests_with plan case)) c
+
+-- over how many spans the bytes of a circuit with this verdict go from port to port; 0 where its ends aren't joined
+abbrev pub hops_where : Verdict → ℕ → (ℕ → Bool) → Provisioned → ℕ
+hops_where Lost n applied c = 0
+hops_where v n applied c = hops n applied (arc_of n c)
+
+abbrev pub hops_under : ℕ → (ℕ → Bool) → Provisioned → ℕ
+hops_under n applied c = hops_where (verdict_under n applied c) n applied c
+
+-- over how many those of a circuit of the plan go in a case
+abbrev pub hops_of : Planned → List Failure → Provisioned → ℕ
+hops_of plan case c = hops_under (length plan.nodes) (is_applied (requests_with plan case)) c
 
 -- ---- failures that are none
 
@@ -95,8 +108,11 @@ abbrev pub counted : (ℕ → Bool) → ℕ → ℕ
 counted p zero = 0
 counted p (suc k) = counted p k + (if p k then 1 else 0)
 
--- the applied spans are those of a ring of n for which p holds: how many there are before each place, round the ring twice
+-- the applied spans are those of a ring of n for which p holds: how many there are before each place, round the ring twice, and which
+-- they are
 pub record AreApplied (n : ℕ) (p : ℕ → Bool) (a : AppliedSpans) : Type 0 where
   pub before : (i : ℕ) → i ≤ 2 * n → slice_index a.before i ≡ counted (λ j. p (j % n)) i
+  pub among : (s : ℕ) → s < n → is_among (take a.many a.spans) s ≡ p s
+  pub fit : a.many ≤ 16
   pub some : 1 ≤ n
   pub few : n ≤ 16

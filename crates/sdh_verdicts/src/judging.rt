@@ -1,11 +1,12 @@
 //! What becomes of each circuit in a case.
-ghost use Rattle.std.specs.Prelude.{◌≡◌, ◌*◌, ◌/◌, ℕ, Bool, ◌<◌, ◌≤◌, length, map, All, IfOk};
+ghost use Rattle.std.specs.Prelude.{◌≡◌, ◌*◌, ◌/◌, ℕ, Bool, ◌<◌, ◌≤◌, length, map, take, All, IfOk};
 ghost use Rattle.sdh_plan.specs.Planned.{Planned};
 ghost use Rattle.sdh_verdicts.specs.Sides.{resting_of, rests};
 ghost use Rattle.sdh_verdicts.specs.Failures.{IsFailureIn, steps_of, case_steps, side_of};
+ghost use Rattle.sdh_ringmap.specs.Arcs.{is_among};
 ghost use Rattle.sdh_terms.specs.Requests.{code_number};
 ghost use Rattle.sdh_restoration.specs.Applied.{is_applied};
-ghost use Rattle.sdh_verdicts.specs.Verdicts.{AreApplied, AreSidesOf, left_by, mends, asks_with, requests_with, verdict_under};
+ghost use Rattle.sdh_verdicts.specs.Verdicts.{AreApplied, AreSidesOf, left_by, mends, asks_with, requests_with, verdict_under, hops_under};
 
 use crate::failure::{Failure, STEPS_MAX, step_of};
 use crate::resting::{
@@ -14,6 +15,7 @@ use crate::resting::{
 use sdh_circuits::Circuit;
 use sdh_plan::Plan;
 use sdh_restoration::applied::{LocalRequests, is_applied, span_request};
+use sdh_restoration::routes::{Ends, hops};
 use sdh_ringmap::{Pos, RingMap, Side, Span};
 use sdh_terms::Code;
 use std::alloc::{AllocError, Global};
@@ -28,10 +30,14 @@ pub struct Sides<'a> {
     rests: Vec<Resting>,
 }
 
-/// The applied spans of a ring: how many there are among the first so many, counted from span 0 on and round the ring twice.
+/// The applied spans of a ring.
 #[derive(Clone, Copy)]
 pub struct AppliedSpans {
+    // how many there are among the first so many, counted from span 0 on and round the ring twice
     before: [u8; 33],
+    // each of them, so many
+    spans: [Span; 16],
+    many: usize,
 }
 
 /// What becomes of a circuit.
@@ -190,6 +196,24 @@ impl<'a> Sides<'a> {
     }
 }
 
+// The applied spans by the requests of all, one by one, and how many they are.
+fn list(requests: &[Code]) -> ([Span; 16], usize)
+    requires few { length requests.now ≤ 16 }
+    ensures few { result.1 ≤ 16 }
+    ensures are { (s : ℕ) → s < length requests.now → is_among (take result.1 result.0) s ≡ is_applied (map code_number requests.now) s }
+{
+    let mut spans = [Span(0); 16];
+    let mut many = 0;
+    for i in 0..requests.len() {
+        let span = Span(i as u8);
+        if is_applied(requests, span) {
+            spans[many] = span;
+            many += 1;
+        }
+    }
+    (spans, many)
+}
+
 // The applied spans by the requests of all.
 fn count(requests: &[Code]) -> AppliedSpans
     requires some { 1 ≤ length requests.now }
@@ -201,7 +225,12 @@ fn count(requests: &[Code]) -> AppliedSpans
     for i in 0..2 * n {
         before[i + 1] = before[i] + u8::from(is_applied(requests, Span((i % n) as u8)));
     }
-    AppliedSpans { before }
+    let (spans, many) = list(requests);
+    AppliedSpans {
+        before,
+        spans,
+        many,
+    }
 }
 
 /// What becomes of a circuit where these spans are applied.
@@ -221,5 +250,22 @@ pub fn judge(map: &RingMap, applied: &AppliedSpans, circuit: &Circuit) -> Verdic
         Verdict::Over
     } else {
         Verdict::Lost
+    }
+}
+
+/// Over how many spans the bytes of a circuit go from port to port where these spans are applied; 0 where its ends aren't joined.
+pub fn way(map: &RingMap, applied: &AppliedSpans, circuit: &Circuit) -> u8
+    requires of { (p : ℕ → Bool) × AreApplied (length map.now) p applied.now }
+    requires from { circuit.now.from.0 < length map.now }
+    requires to { circuit.now.to.0 < length map.now }
+    ensures { (p : ℕ → Bool) → AreApplied (length map.now) p applied.now → result ≡ hops_under (length map.now) p circuit.now }
+{
+    let ends = Ends {
+        from: circuit.from(),
+        to: circuit.to(),
+    };
+    match judge(map, applied, circuit) {
+        Verdict::Lost => 0,
+        Verdict::Kept | Verdict::Over => hops(map, ends, &applied.spans[..applied.many]),
     }
 }

@@ -10,4 +10,4 @@ mod resting;
 
 pub use failure::{Failure, STEPS_MAX, count_of, failure_at, step_of};
 pub use judging::{AppliedSpans, Sides, Verdict};
-pub use plans::told;
+pub use plans::{told, told_hops};

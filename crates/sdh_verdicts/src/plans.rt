@@ -3,9 +3,9 @@ ghost use Rattle.std.specs.Prelude.{◌≡◌, ◌<◌, List, length, slice_get,
 ghost use Rattle.sdh_restoration.specs.Applied.{is_applied};
 ghost use Rattle.sdh_circuits.specs.Provisioned.{Provisioned};
 ghost use Rattle.sdh_verdicts.specs.declared.failure.Failure.{Failure};
-ghost use Rattle.sdh_verdicts.specs.Verdicts.{AreApplied, requests_with, verdict_of};
+ghost use Rattle.sdh_verdicts.specs.Verdicts.{AreApplied, requests_with, verdict_of, hops_of};
 
-use crate::judging::{AppliedSpans, Verdict, judge};
+use crate::judging::{AppliedSpans, Verdict, judge, way};
 use sdh_plan::Plan;
 
 /// What becomes of a circuit, by its number, in the case of which these are the applied spans.
@@ -18,4 +18,16 @@ pub fn told(plan: &Plan, applied: &AppliedSpans, number: u8) -> Verdict
     // Reading it gives the proof what is true of every circuit map.
     let _count = circuits.len();
     judge(plan.map(), applied, circuits.get(number))
+}
+
+/// Over how many spans the bytes of a circuit go, by its number, in the case of which these are the applied spans.
+pub fn told_hops(plan: &Plan, applied: &AppliedSpans, number: u8) -> u8
+    requires number { number < length plan.now.circuits }
+    requires case { (case : List Failure) × AreApplied (length plan.now.nodes) (is_applied (requests_with plan.now case)) applied.now }
+    ensures { (case : List Failure) (c : Provisioned) → AreApplied (length plan.now.nodes) (is_applied (requests_with plan.now case)) applied.now → slice_get plan.now.circuits number ≡ Some c → result ≡ hops_of plan.now case c }
+{
+    let circuits = plan.circuits();
+    // Reading it gives the proof what is true of every circuit map.
+    let _count = circuits.len();
+    way(plan.map(), applied, circuits.get(number))
 }

@@ -1,24 +1,17 @@
 -- What the program promises follows from its outcome.
-use Rattle.std.proofs.Common.{◌≡◌, ℕ, Bool, true, List, refl, sym, subst, inl, inr}
+use Rattle.std.proofs.Common.{◌≡◌, ℕ, Bool, true, List, sym, subst, inl, inr}
 use Rattle.std.specs.Prelude.{Option, IfSome}
 use Rattle.std.specs.Io.KnownBytes.{Appends}
-use Rattle.sdh_outside.specs.Writing.{AppendsFewer}
 use Rattle.sdh_plant.specs.Fibres.{Fibres}
 use Rattle.sdh_plan.specs.Planned.{Planned}
 use Rattle.sdh_report.specs.declared.status.Status.{Status}
-use Rattle.sdh_report.specs.declared.status.Status.TheVariants as status
-use Rattle.sdh_cli.specs.Outcome.{HasNoPlan, TellsPlan, Counts, HasCause, IsShown, Writes}
-use Rattle.sdh_cli.specs.Headline.{HasRun}
-use Rattle.sdh_cli.proofs.Promises.{one_plan, told_all}
-use Rattle.sdh_watch.specs.Outcome.{IsRunOutcome, OfBytes, IsOutcome, told, MayEnd}
+use Rattle.sdh_shell.specs.Reading.{TellsPlan, told_if}
+use Rattle.sdh_shell.specs.Calls.{HasRun}
+use Rattle.sdh_shell.proofs.Plans.{one_plan}
+use Rattle.sdh_shell.proofs.Told.{told_all}
+use Rattle.sdh_shell.proofs.Refused.{no_run}
+use Rattle.sdh_watch.specs.Outcome.{IsRunOutcome, OfBytes, IsOutcome}
 use Rattle.sdh_watch.specs.Headline.{Shows, EndsAsItRuns, Settles}
-
--- without a plan nothing is run
-no_run : (bytes : List ℕ) (how : Status) (A : Type 0) → HasNoPlan bytes how → HasRun how → A
-no_run bytes status.Ok A x h = absurd x
-no_run bytes (status.Unsettled k) A x h = absurd x
-no_run bytes status.PlantFault A x h = absurd x
-no_run bytes how A x h = absurd h
 
 -- the outcome is that of the run of this plan
 ran_with : (bytes : List ℕ) (f left : Fibres) (how : Status) (text : List ℕ) (plan : Planned) → HasRun how → TellsPlan bytes plan → OfBytes bytes f how text left → IsRunOutcome plan f how text left
@@ -35,9 +28,9 @@ module _ (f left : Fibres) (how : Status) (text : List ℕ) (old new : Option (L
   settles : f.honest ≡ true → (bytes : List ℕ) → OfBytes bytes f how text left → Settles bytes how
   settles honest bytes x plan is large k e = (ran_with bytes f left how text plan (subst HasRun (sym e) tt) is x).came.settles honest large k e
 
-  module _ (asked : Bool) (is : asked ≡ true) (source : Option (List ℕ)) (outcome : IfSome (told asked source) (λ bytes. IsOutcome asked bytes f how text left)) where
+  module _ (asked : Bool) (is : asked ≡ true) (source : Option (List ℕ)) (outcome : IfSome (told_if asked source) (λ bytes. IsOutcome asked bytes f how text left)) where
     of_bytes : IfSome source (λ bytes. OfBytes bytes f how text left)
-    of_bytes = subst (λ a. IfSome (told a source) (λ bytes. IsOutcome a bytes f how text left)) is outcome
+    of_bytes = subst (λ a. IfSome (told_if a source) (λ bytes. IsOutcome a bytes f how text left)) is outcome
 
     pub told_shows : f.honest ≡ true → IfSome source (λ bytes. Shows bytes how old new)
     told_shows honest = told_all source _ _ (shows honest) of_bytes
@@ -47,21 +40,3 @@ module _ (f left : Fibres) (how : Status) (text : List ℕ) (old new : Option (L
 
     pub told_unsettled : IfSome source (λ bytes. EndsAsItRuns bytes f how)
     told_unsettled = told_all source _ _ ends_as_it_runs of_bytes
-
--- ---- what is written
-
--- the text of an outcome was written whole
-writes_shown : (may : Status → List ℕ → Type 0) (how : Status) (text : List ℕ) (old new : Option (List ℕ)) → IsShown how → may how text → Appends old new text → Writes may how old new
-writes_shown may status.WriteFault text old new h x a = absurd (h.0 refl)
-writes_shown may status.Memory text old new h x a = absurd (h.1 refl)
-writes_shown may how text old new h x a = (text, x, a)
-
-pub told_outcome : (o : Option (List ℕ)) (asked : Bool) (f left : Fibres) (reads calls : Counts) (how : Status) (text : List ℕ) (old new : Option (List ℕ)) → HasCause reads calls how → IsShown how → Appends old new text
-    → IfSome o (λ bytes. IsOutcome asked bytes f how text left) → IfSome o (λ bytes. Writes (λ how text. MayEnd asked bytes f reads calls how text left) how old new)
-told_outcome o asked f left reads calls how text old new cause shown appends outcome =
-    told_all o _ _ (λ bytes x. writes_shown (λ how text. MayEnd asked bytes f reads calls how text left) how text old new shown (x, cause) appends) outcome
-
--- a front of the text of an outcome was written
-pub told_fewer : (o : Option (List ℕ)) (asked : Bool) (f left : Fibres) (reads calls : Counts) (how : Status) (text : List ℕ) (old new : Option (List ℕ)) → HasCause reads calls how → AppendsFewer old new text
-    → IfSome o (λ bytes. IsOutcome asked bytes f how text left) → IfSome o (λ bytes. Writes (λ how text. MayEnd asked bytes f reads calls how text left) status.WriteFault old new)
-told_fewer o asked f left reads calls how text old new cause fewer outcome = told_all o _ _ (λ bytes x. (how, text, (x, cause), fewer)) outcome

@@ -1,14 +1,13 @@
--- The outcome, stage by stage: a run, the bytes of a source, the words.
-use Rattle.std.proofs.Common.{◌≡◌, ℕ, None, Some, List, ◌++◌, ap, sym, ◌∙◌, subst, inl, inr}
+-- The outcome, stage by stage: a run, the bytes of a source.
+use Rattle.std.proofs.Common.{◌≡◌, ℕ, None, Some, List, ◌++◌, ap, sym, ◌∙◌, subst, inl}
 use Rattle.std.specs.Prelude.{Option, IfSome}
 use Rattle.sdh_plant.specs.Fibres.{Fibres}
 use Rattle.sdh_plan.specs.Planned.{Planned}
 use Rattle.sdh_report.specs.declared.status.Status.{Status}
 use Rattle.sdh_report.specs.Statuses.{last_line}
-use Rattle.sdh_cli.specs.Outcome.{TellsPlan}
-use Rattle.sdh_cli.specs.Headline.{HasRun}
-use Rattle.sdh_cli.proofs.Endings.{Ends}
-use Rattle.sdh_cli.proofs.Promises.{one_plan}
+use Rattle.sdh_shell.specs.Reading.{TellsPlan}
+use Rattle.sdh_shell.proofs.Plans.{one_plan}
+use Rattle.sdh_shell.proofs.Ends.{Ends, has_run}
 use Rattle.sdh_watch_script.specs.Plans.{IsRunOf, Tells, MaySettle}
 use Rattle.sdh_watch_script.proofs.Plans.{plan_ends_in}
 use Rattle.sdh_watch.specs.Outcome.{IsRunOutcome}
@@ -23,13 +22,9 @@ run_outcome plan f left run text now how is text_is x = record {
 
 -- how a run ends
 pub run_ends : (plan : Planned) (f left : Fibres) (how : Status) (text : List ℕ) → IsRunOutcome plan f how text left → Ends how
-run_ends plan f left how text x = inl (elim (plan_ends_in plan f left x.reports how x.came.ran) [
-  | inl done ↦ subst HasRun (sym done) tt
-  | inr (inl at) ↦ subst HasRun (sym at.1) tt
-  | inr (inr fault) ↦ subst HasRun (sym fault) tt
-])
+run_ends plan f left how text x = inl (has_run how (plan_ends_in plan f left x.reports how x.came.ran))
 
 -- the plan that was read is the one that a run needs
-pub read_may_settle : (left : Option (List ℕ)) (seen : List ℕ) (plan : Planned) (f : Fibres) → IfSome left (λ bytes. bytes ≡ seen) → TellsPlan seen plan → MayBeDone left f → MaySettle plan f
-read_may_settle None seen plan f same is x = absurd x
-read_may_settle (Some bytes) seen plan f same is x = subst (λ p. MaySettle p f) (one_plan seen x.0 plan (subst (λ b. TellsPlan b x.0) same x.1) is) x.2
+pub read_may_settle : (left : Option (List ℕ)) (plan : Planned) (f : Fibres) → IfSome left (λ bytes. TellsPlan bytes plan) → MayBeDone left f → MaySettle plan f
+read_may_settle None plan f is x = absurd x
+read_may_settle (Some bytes) plan f is x = subst (λ p. MaySettle p f) (one_plan bytes x.0 plan x.1 is) x.2

@@ -9,8 +9,8 @@ use Rattle.sdh_report.specs.declared.status.Status.TheVariants as status
 use Rattle.sdh_report.specs.Statuses.{last_line}
 use Rattle.sdh_rounds.specs.Quiet.{enough_for}
 use Rattle.sdh_script.specs.Plans.{world_of}
-use Rattle.sdh_cli.specs.Outcome.{TellsPlan}
-use Rattle.sdh_cli.specs.Headline.{HasRun}
+use Rattle.sdh_shell.specs.Reading.{TellsPlan}
+use Rattle.sdh_shell.specs.Calls.{HasRun}
 use Rattle.sdh_watching.specs.Shows.{Watched}
 use Rattle.sdh_watch_script.specs.Lines.{text_of}
 use Rattle.sdh_watch_script.specs.Plans.{ran_of, MaySettle, ShowsClean}

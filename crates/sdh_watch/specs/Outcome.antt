@@ -1,7 +1,5 @@
--- How a call of the program ends: each status, when it is answered, and the text that goes with it. What has to do with
--- the bytes of plans, with causes and with what is written is as for `sdhring`.
-use Rattle.std.specs.Prelude.{◌≡◌, ◌⊎◌, ℕ, Bool, true, false, List, [], ◌∷◌, ◌++◌, Option, Some, codes}
-use Rattle.std.specs.Str.{bytes_eq}
+-- How a call of the program ends: each status, when it is answered, and the text that goes with it.
+use Rattle.std.specs.Prelude.{◌≡◌, ◌⊎◌, ℕ, Bool, true, false, List, ◌++◌, Option, codes}
 use Rattle.std.specs.Io.KnownBytes.{IsAtEnd}
 use Rattle.sdh_plant.specs.Fibres.{Fibres}
 use Rattle.sdh_plan.specs.Planned.{Planned}
@@ -9,16 +7,12 @@ use Rattle.sdh_report.specs.declared.status.Status.{Status}
 use Rattle.sdh_report.specs.declared.status.Status.TheVariants as status
 use Rattle.sdh_report.specs.Lines.{own_line}
 use Rattle.sdh_report.specs.Statuses.{last_line}
-use Rattle.sdh_cli.specs.Outcome.{Says, HasNoPlan, TellsPlan, Counts, HasCause}
+use Rattle.sdh_shell.specs.Reading.{HasNoPlan, TellsPlan}
+use Rattle.sdh_shell.specs.Failing.{Counts, HasCause}
+use Rattle.sdh_shell.specs.Writing.{Says}
 use Rattle.sdh_watching.specs.Shows.{Watched}
 use Rattle.sdh_watch_script.specs.Lines.{text_of}
 use Rattle.sdh_watch_script.specs.Plans.{IsRunOf}
-
--- the words of a command line are `run` alone
-abbrev pub is_asked : List (List ℕ) → Bool
-is_asked [] = false
-is_asked (word ∷ []) = bytes_eq word (codes "run")
-is_asked (word ∷ other ∷ more) = false
 
 -- what is told of other words
 abbrev pub usage : List ℕ
@@ -37,20 +31,15 @@ pub record IsRunOutcome (plan : Planned) (f : Fibres) (how : Status) (text : Lis
 
 -- there is no plan, the last line is all of the text, and the fibres are left alone; or the plan was run
 abbrev pub OfBytes : List ℕ → Fibres → Status → List ℕ → Fibres → Type 0
-OfBytes bytes f how text left = (HasNoPlan bytes how × Says how text f left) ⊎ ((plan : Planned) × TellsPlan bytes plan × IsRunOutcome plan f how text left)
+OfBytes bytes f how text left = (HasNoPlan bytes how × Says (last_line how) text f left) ⊎ ((plan : Planned) × TellsPlan bytes plan × IsRunOutcome plan f how text left)
 
 -- ---- with the words
 
 -- the call comes to this status, with this text, where the source had these bytes left. No outcome is a write fault or
 -- want of memory: they may stand in place of one
 abbrev pub IsOutcome : Bool → List ℕ → Fibres → Status → List ℕ → Fibres → Type 0
-IsOutcome false bytes f how text left = (how ≡ status.Usage) × (text ≡ usage) × (left ≡ f)
+IsOutcome false bytes f how text left = (how ≡ status.Usage) × Says usage text f left
 IsOutcome true bytes f how text left = OfBytes bytes f how text left
-
--- what has to be known of a source: its bytes, or nothing where it isn't read
-abbrev pub told : Bool → Option (List ℕ) → Option (List ℕ)
-told false left = Some []
-told true left = left
 
 -- a source that is read was read to its end
 abbrev pub HasRead : Bool → Option (List ℕ) → Type 0
@@ -59,4 +48,4 @@ HasRead true left = IsAtEnd left
 
 -- an outcome that these failures allow
 abbrev pub MayEnd : Bool → List ℕ → Fibres → Counts → Counts → Status → List ℕ → Fibres → Type 0
-MayEnd asked bytes f reads plant how text left = IsOutcome asked bytes f how text left × HasCause reads plant how
+MayEnd asked bytes f reads calls how text left = IsOutcome asked bytes f how text left × HasCause reads calls how

@@ -3,9 +3,11 @@ ghost use Rattle.std.specs.Prelude.{◌≡◌, ◌≢◌, ◌⊎◌, ◌≤◌, 
 ghost use Rattle.sdh_basics.specs.Causes.{Rose, IsCounted};
 ghost use Rattle.sdh_plant.specs.Fibres.{HasNoFibres};
 ghost use Rattle.sdh_report.specs.declared.status.Status.{Status};
-ghost use Rattle.sdh_cli.specs.Words.{words_of};
-ghost use Rattle.sdh_cli.specs.Outcome.{Counts, CameTo, Writes};
-ghost use Rattle.sdh_watch.specs.Outcome.{is_asked, told, HasRead, MayEnd};
+ghost use Rattle.sdh_shell.specs.Calls.{words_of, is_run};
+ghost use Rattle.sdh_shell.specs.Reading.{told_if};
+ghost use Rattle.sdh_shell.specs.Failing.{Counts, CameTo};
+ghost use Rattle.sdh_shell.specs.Writing.{Writes};
+ghost use Rattle.sdh_watch.specs.Outcome.{HasRead, MayEnd};
 ghost use Rattle.sdh_watch.specs.Headline.{Shows, EndsAsItRuns, Settles, MayBeDone};
 
 use crate::report::report_on;
@@ -29,23 +31,23 @@ pub fn sdhwatch<R: Source, W: Sink, P: Plant>(
 
     // The status and the text that is written, for a source that tells its bytes, where it is read, and a sink that
     // tells what was written.
-    ensures outcome { let asked = is_asked (words_of words.now) in
+    ensures outcome { let asked = is_run (words_of words.now) in
         let reads : Counts = record { before = R.faults source.old; after = R.faults source.new } in
         let calls : Counts = record { before = P.faults plant.old; after = P.faults plant.new } in
-        IfSome (told asked (R.left source.old)) (λ bytes. Writes (λ how text. MayEnd asked bytes (P.fibres plant.old) reads calls how text (P.fibres plant.new)) result (W.written sink.old) (W.written sink.new)) }
+        IfSome (told_if asked (R.left source.old)) (λ bytes. Writes (λ how text. MayEnd asked bytes (P.fibres plant.old) reads calls how text (P.fibres plant.new)) result (W.written sink.old) (W.written sink.new)) }
 
     // Over honest fibres: each watch shows what its port is owed, and with a large limit no settle step is unsettled.
-    ensures owed { is_asked (words_of words.now) ≡ true → (P.fibres plant.old).honest ≡ true → IfSome (R.left source.old) (λ bytes. Shows bytes result (W.written sink.old) (W.written sink.new)) }
-    ensures settles { is_asked (words_of words.now) ≡ true → (P.fibres plant.old).honest ≡ true → IfSome (R.left source.old) (λ bytes. Settles bytes result) }
+    ensures owed { is_run (words_of words.now) ≡ true → (P.fibres plant.old).honest ≡ true → IfSome (R.left source.old) (λ bytes. Shows bytes result (W.written sink.old) (W.written sink.new)) }
+    ensures settles { is_run (words_of words.now) ≡ true → (P.fibres plant.old).honest ≡ true → IfSome (R.left source.old) (λ bytes. Settles bytes result) }
 
     // Where arrivals are known, unsettled comes at exactly the settle step in which no quiet window comes within the
     // limit.
-    ensures unsettled { is_asked (words_of words.now) ≡ true → IfSome (R.left source.old) (λ bytes. EndsAsItRuns bytes (P.fibres plant.old) result) }
+    ensures unsettled { is_run (words_of words.now) ≡ true → IfSome (R.left source.old) (λ bytes. EndsAsItRuns bytes (P.fibres plant.old) result) }
 
     // Over every source, sink and plant.
-    ensures usage { result ≡ Status.Usage → is_asked (words_of words.now) ≡ false }
-    ensures usage_only { is_asked (words_of words.now) ≡ false → (result ≡ Status.Usage) ⊎ (result ≡ Status.WriteFault) ⊎ (result ≡ Status.Memory) }
-    ensures alone { is_asked (words_of words.now) ≡ false → (source.new ≡ source.old) × (plant.new ≡ plant.old) }
+    ensures usage { result ≡ Status.Usage → is_run (words_of words.now) ≡ false }
+    ensures usage_only { is_run (words_of words.now) ≡ false → (result ≡ Status.Usage) ⊎ (result ≡ Status.WriteFault) ⊎ (result ≡ Status.Memory) }
+    ensures alone { is_run (words_of words.now) ≡ false → (source.new ≡ source.old) × (plant.new ≡ plant.old) }
     ensures read_fault { result ≡ Status.ReadFault → Rose (R.faults source.old) (R.faults source.new) }
     ensures plant_fault { result ≡ Status.PlantFault → Rose (P.faults plant.old) (P.faults plant.new) }
     ensures write_fault { result ≡ Status.WriteFault → Rose (W.faults sink.old) (W.faults sink.new) }
@@ -58,17 +60,17 @@ pub fn sdhwatch<R: Source, W: Sink, P: Plant>(
     ensures writes { IsCounted W.exact (result ≡ Status.WriteFault) (W.faults sink.old) (W.faults sink.new) }
 
     ensures memory { result ≡ Status.Memory → (sink.new ≡ sink.old) × (P.fibres plant.new ≡ P.fibres plant.old) }
-    ensures read_whole { result ≡ Status.Ok → HasRead (is_asked (words_of words.now)) (R.left source.new) }
+    ensures read_whole { result ≡ Status.Ok → HasRead (is_run (words_of words.now)) (R.left source.new) }
     ensures later { (R.faults source.old ≤ R.faults source.new) × (W.faults sink.old ≤ W.faults sink.new) × (P.faults plant.old ≤ P.faults plant.new) }
 
     // With all that a run needs, and no fault, everything is done, or there is no memory.
-    ensures complete { is_asked (words_of words.now) ≡ true → MayBeDone (R.left source.old) (P.fibres plant.old) → ¬ (Rose (R.faults source.old) (R.faults source.new)) → ¬ (Rose (W.faults sink.old) (W.faults sink.new)) → ¬ (Rose (P.faults plant.old) (P.faults plant.new)) → (result ≡ Status.Ok) ⊎ (result ≡ Status.Memory) }
+    ensures complete { is_run (words_of words.now) ≡ true → MayBeDone (R.left source.old) (P.fibres plant.old) → ¬ (Rose (R.faults source.old) (R.faults source.new)) → ¬ (Rose (W.faults sink.old) (W.faults sink.new)) → ¬ (Rose (P.faults plant.old) (P.faults plant.new)) → (result ≡ Status.Ok) ⊎ (result ≡ Status.Memory) }
 {
-    let Ok(run) = report_on(alloc, words, source, plant) else {
+    let Ok(report) = report_on(alloc, words, source, plant) else {
         return Status::Memory;
     };
-    match write_text(sink, run.text.bytes()) {
-        Ok(()) => run.status,
+    match write_text(sink, report.text.bytes()) {
+        Ok(()) => report.status,
         Err(_) => Status::WriteFault,
     }
 }

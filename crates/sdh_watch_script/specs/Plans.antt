@@ -1,19 +1,18 @@
 -- What comes of a plan with watches, over fibres that aren't there yet.
-use Rattle.std.specs.Prelude.{ℕ, ◌≡◌, ◌⊎◌, ◌≤◌, true, List, [], length, take}
+use Rattle.std.specs.Prelude.{ℕ, ◌≡◌, ◌⊎◌, ◌≤◌, true, List, [], length}
 use Rattle.sdh_plant.specs.Fibres.{Fibres}
 use Rattle.sdh_plant.specs.Arrivals.{Knows}
 use Rattle.sdh_rounds.specs.Quiet.{enough_for}
-use Rattle.sdh_rounds.specs.Laws.{Appends}
-use Rattle.sdh_world.specs.Rounds.{World}
 use Rattle.sdh_plan.specs.Planned.{Planned}
 use Rattle.sdh_report.specs.declared.status.Status.{Status}
 use Rattle.sdh_report.specs.declared.status.Status.TheVariants as status
 use Rattle.sdh_promise.specs.Changes.{scenes}
 use Rattle.sdh_promise.specs.Plans.{ring_of}
-use Rattle.sdh_owed.specs.Healthy.{IsSettled}
+use Rattle.sdh_scripts.specs.Outcomes.{IsSettled}
+use Rattle.sdh_scripts.specs.Outcomes as script
 use Rattle.sdh_script.specs.Plans.{world_of}
 use Rattle.sdh_watching.specs.Shows.{Watched}
-use Rattle.sdh_watching.specs.Scripts.{Watches, Ran, script, shown_by}
+use Rattle.sdh_watching.specs.Scripts.{watch_walk, Ran, script}
 use Rattle.sdh_watching.specs.Owed.{AreClean}
 use Rattle.sdh_watch_script.specs.Lines.{text_of}
 
@@ -21,31 +20,13 @@ use Rattle.sdh_watch_script.specs.Lines.{text_of}
 abbrev pub ran_of : Planned → Fibres → Ran
 ran_of plan f = script plan.limit 0 plan.steps (world_of plan f)
 
--- ---- over any plant
-
--- the plant made no fibres, and nothing ran; or this is told of what came of the script
+-- over any plant
 abbrev pub Comes : Planned → Fibres → List Watched → Status → Fibres → Type 0
-Comes plan f reports end left =
-    ((end ≡ status.PlantFault) × (reports ≡ []) × (left ≡ f))
-    ⊎ ((last : World) × (last.fibres ≡ left) × Watches plan.limit 0 plan.steps (world_of plan f) reports end last)
+Comes plan f reports end left = script.Comes watch_walk plan.limit plan.steps (world_of plan f) f reports end left
 
--- ---- where the arrivals are known
-
--- it ended so: what is told, ending and fibres are those that the script comes to, and with them all frames sent
-pub record IsDone (plan : Planned) (f : Fibres) (reports : List Watched) (end : Status) (left : Fibres) : Type 0 where
-  pub reports_are : reports ≡ (ran_of plan f).reports
-  pub end_is : end ≡ (ran_of plan f).ending
-  pub left_is : left ≡ (ran_of plan f).left.fibres
-
--- A fault broke it off when the first so many of its frames were sent: what is told is that of exactly the settle steps
--- of whose 128 rounds all frames were sent.
-pub record IsCut (plan : Planned) (f : Fibres) (reports : List Watched) (left : Fibres) : Type 0 where
-  pub count : ℕ
-  pub frames : Appends f (take count (ran_of plan f).frames) left
-  pub reports_are : reports ≡ shown_by (length plan.nodes) count (ran_of plan f).reports
-
+-- where the arrivals are known
 abbrev pub ComesKnown : Planned → Fibres → List Watched → Status → Fibres → Type 0
-ComesKnown plan f reports end left = IsDone plan f reports end left ⊎ ((end ≡ status.PlantFault) × IsCut plan f reports left)
+ComesKnown plan f reports end left = script.ComesKnown watch_walk (ran_of plan f) (length plan.nodes) f reports end left
 
 -- ---- a script that settles
 

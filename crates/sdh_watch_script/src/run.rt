@@ -4,16 +4,20 @@ ghost use Rattle.sdh_basics.specs.Causes.{Rose, IsCounted};
 ghost use Rattle.sdh_plant.specs.Fibres.{HasNoFibres};
 ghost use Rattle.sdh_world.specs.Held.{HeldRing};
 ghost use Rattle.sdh_world.specs.Rounds.{world};
-ghost use Rattle.sdh_watch_script.specs.Running.{lines_room, MayRun, Lists};
+ghost use Rattle.sdh_scripts.specs.Texts.{HasRoom, Lists};
+ghost use Rattle.sdh_watching.specs.Scripts.{watch_walk};
+ghost use Rattle.sdh_watch_script.specs.Lines.{watched_text};
+ghost use Rattle.sdh_watch_script.specs.Running.{lines_room, MayRun};
 ghost use Rattle.sdh_watch_script.specs.Plans.{MaySettle, Tells, Came};
 
-use crate::ports::{Both, new_watches};
-use crate::script::run_script;
+use crate::ports::new_watches;
+use crate::script::WatchRun;
 use sdh_circuits::CircuitMap;
 use sdh_plan::{Plan, Step};
 use sdh_plant::{Plant, PrepareError};
 use sdh_report::{Status, Text};
 use sdh_ring::Ring;
+use sdh_scripts::run_script;
 use std::alloc::{AllocError, Global};
 
 /// What a run wrote, and how it ended: `Ok`, `Unsettled` or `PlantFault`. There is room for one more line.
@@ -32,23 +36,23 @@ fn room_for(circuits: &CircuitMap) -> usize
 
 // The script over a ring and its fibres.
 fn run_from<P: Plant>(
-    mut ring: Ring,
+    mut run: WatchRun,
     plant: &mut P,
     steps: &[Step],
     limit: u32,
-    mut watches: Vec<Both>,
     mut text: Text,
 ) -> Run
-    requires may { MayRun 0 steps.now ring (P.fibres plant.old) watches.items text }
+    requires may { MayRun 0 steps.now run.ring run.watches.items (P.fibres plant.old) }
+    requires room { HasRoom (lines_room (length run.ring.circuits.circuits)) 0 text.room }
     requires some { 1 ≤ limit }
     requires few { limit ≤ 65536 }
-    ensures ran { (left : HeldRing) × Lists limit steps.now (world ring (P.fibres plant.old)) text.bytes result.text.bytes result.status (world left (P.fibres plant.new)) }
+    ensures ran { (left : HeldRing) × Lists watch_walk limit watched_text steps.now (world run.ring (P.fibres plant.old)) text.bytes result.text.bytes result.status (world left (P.fibres plant.new)) }
     ensures room { 96 ≤ result.text.room }
     ensures later { P.faults plant.old ≤ P.faults plant.new }
     ensures failed { result.status ≡ Status.PlantFault → Rose (P.faults plant.old) (P.faults plant.new) }
     ensures counted { IsCounted P.exact (result.status ≡ Status.PlantFault) (P.faults plant.old) (P.faults plant.new) }
 {
-    let status = run_script(&mut ring, plant, steps, limit, &mut watches, &mut text);
+    let status = run_script(&mut run, plant, steps, limit, &mut text);
     Run { status, text }
 }
 
@@ -71,7 +75,7 @@ fn run_new<P: Plant>(alloc: Global, plan: Plan, plant: &mut P) -> Result<Run, Al
     let (map, circuits, steps) = plan.into_parts();
     let ring = Ring::try_new(alloc, settings, map, circuits)?;
     match plant.prepare(alloc, settings.rate, nodes) {
-        Ok(()) => Ok(run_from(ring, plant, &steps, limit, watches, text)),
+        Ok(()) => Ok(run_from(WatchRun { ring, watches }, plant, &steps, limit, text)),
         Err(PrepareError::Memory) => Err(AllocError),
         Err(PrepareError::Failed) => Ok(Run {
             status: Status::PlantFault,
@@ -102,7 +106,6 @@ pub fn run_plan<P: Plant>(alloc: Global, plan: Plan, plant: &mut P) -> Result<Ru
     // Without memory no fibre was made, and no round has run.
     ensures unsent { OnErr result (P.fibres plant.new ≡ P.fibres plant.old) }
 {
-    sdh_watching::known_scripts();
     sdh_watching::watches_are_clean();
     sdh_watching::scripts_settle();
     // Reading it gives the proof what is true of every plan.

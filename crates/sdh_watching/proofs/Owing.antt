@@ -50,15 +50,16 @@ use Rattle.sdh_plan.specs.Scripts.{AreSteps}
 use Rattle.sdh_report.specs.declared.status.Status.{Status}
 use Rattle.sdh_report.specs.declared.status.Status.TheVariants as status
 use Rattle.sdh_owed.specs.Laws.{ring_by}
-use Rattle.sdh_owed.proofs.History.{refused_ends}
+use Rattle.sdh_scripts.proofs.Outcomes.{refused_ends}
 use Rattle.sdh_owed.proofs.Ports.{due_told}
 use Rattle.sdh_owed.proofs.Standing.{Stands, layout_is, whole, changed_then, stretch_to, Ended, settled_then, stands_new, none_at, long_step}
 use Rattle.sdh_path.specs.History.{Given}
 use Rattle.sdh_watching.specs.Shows.{Watched}
-use Rattle.sdh_watching.specs.Watching.{Lead, port_watched, ports_watched}
+use Rattle.sdh_watching.specs.Watching.{Lead, port_watched, ports_watched, watched}
 use Rattle.sdh_watching.specs.Scripts.{Watches}
 use Rattle.sdh_watching.specs.Owed.{clean_watch, owed_watch, AreClean}
 use Rattle.sdh_watching.specs.Laws.{WatchesAreClean}
+use Rattle.sdh_watching.proofs.Rounds.{watched_by}
 use Rattle.sdh_watching.proofs.Clean.{rest_shows, last_due}
 use Rattle.sdh_watching.proofs.Plainly.{GoesPlainly, IsInStep, step_first, plainly}
 
@@ -290,7 +291,11 @@ module _ (law : SettledRingsRestore) (rest : StepsLeaveAtRest) (s : Settings) (i
   walk : (limit before : ℕ) (past : Past) (earlier : List Stretch) (changes : List Change) (steps : List Step) (w : World) (reports : List Watched) (end : Status) (left : World)
       → Now past earlier changes w → AreSteps s.rate (length ids) (length circuits.circuits) past steps → Watches limit before steps w reports end left → AreClean ring limit earlier before (scenes changes steps) reports end
   walk limit before past earlier changes [] w reports end left h each x = (x.1.0, inl x.1.1)
-  walk limit before past earlier changes (step.Settle ∷ later) w reports end left h each (inl (mid, next, heard, others, is, same, x)) =
+  walk limit before past earlier changes (step.Settle ∷ later) w reports end left h each (inl (told, next, others, ended_is, told_is, x)) =
+      let is = watched_by limit (before + 1) w told next ended_is in
+      let mid = is.mid in
+      let heard = is.heard in
+      let same : reports ≡ watched (before + 1) mid.ring next.ring heard ∷ others = told_is ∙ ap (λ r. r ∷ others) is.told_is in
       let Shows = λ (u : ℕ). (let now = earlier ++ record { changes = changes; rounds = u + 1 - rounds_in earlier } ∷ [] in
       (before + 1 ≡ before + 1) × IsLast (length ids) limit (rounds_in earlier) (mid.ring.rounds - 1)
       × (ports_watched next.ring heard 0 next.ring.circuits.circuits ≡ map owed_watch (owed_ports (length ids) (is_applied (requests_by ring now u)) (happened now) u 0 circuits.circuits))
@@ -312,8 +317,9 @@ module _ (law : SettledRingsRestore) (rest : StepsLeaveAtRest) (s : Settings) (i
       elim x [
         | inl goes ↦ walk limit before (after past this) earlier (changes ++ changes_of this) later _ reports end left (changed_then s ids circuits f may past earlier changes w h this refl each.0) each.1 goes
         | inr refused ↦
-            subst (λ rs. AreClean ring limit earlier before (scenes changes (this ∷ later)) rs end) (sym refused.1)
-            (clean_none ring limit earlier before (scenes changes (this ∷ later)) end (refused_ends this w [] end left refused.0).1)
+            let stops = refused_ends this w reports end left refused in
+            subst (λ rs. AreClean ring limit earlier before (scenes changes (this ∷ later)) rs end) (sym stops.0)
+            (clean_none ring limit earlier before (scenes changes (this ∷ later)) end stops.1)
       ]
 
 pub watches_clean : SettledRingsRestore → StepsLeaveAtRest → WatchesAreClean

@@ -1,110 +1,123 @@
--- Frames of rounds, one after the other, where arrivals are known. These are as in the proofs of `sdh_owed`, where they
--- aren't public.
-use Rattle.std.proofs.Common.{◌≡◌, ℕ, zero, suc, ◌+◌, ◌-◌, ◌*◌, ◌<◌, ◌≤◌, None, Some, List, [], ◌∷◌, ◌++◌, length, take, refl, ap, sym, ◌∙◌, subst, arith, append_assoc}
-use Rattle.std.specs.Prelude.{Option, option_map}
-use Rattle.std.proofs.lemmas.List.{take-append-le, length-append}
-use Rattle.sdh_plant.specs.Fibres.{Arrival}
-use Rattle.sdh_node.specs.Node.{Node}
+-- Rounds that are watched, in a course and one after the other.
+use Rattle.std.proofs.Common.{◌≡◌, ℕ, zero, suc, ◌+◌, ◌<◌, ◌≤◌, List, [], ◌∷◌, ◌++◌, length, take, refl, ap, ap₂, sym, ◌∙◌, subst, arith}
+use Rattle.std.proofs.lemmas.List.{length_push}
+use Rattle.sdh_plant.specs.Fibres.{Arrival, Fibres}
+use Rattle.sdh_circuits.specs.declared.PortId.{PortId}
 use Rattle.sdh_node.specs.Stations.{adm}
-use Rattle.sdh_world.specs.Held.{at_place, place_of_port}
-use Rattle.sdh_world.specs.Rounds.{World, arrivals_of, frames_with, nodes_with, round_with}
-use Rattle.sdh_world.specs.Runs.{run, arrivals_in, run_with}
-use Rattle.sdh_world.specs.Changes.{changed}
-use Rattle.sdh_rounds.specs.Laws.{frames_in, Appends}
-use Rattle.sdh_rounds.proofs.Runs.{run_first, length-heard, length-frames, count_round}
-use Rattle.sdh_rounds.proofs.Laws.{runs_keep}
-use Rattle.sdh_rounds.specs.Rounds as any_round
-use Rattle.sdh_rounds.specs.Runs as any_run
-use Rattle.sdh_plan.specs.declared.step.Step.{Step}
-use Rattle.sdh_plan.specs.declared.step.Step.TheVariants as step
-use Rattle.sdh_owed.specs.Steps.{after_step}
+use Rattle.sdh_world.specs.Rounds.{World, round_with}
+use Rattle.sdh_world.specs.Runs.{run_with, course_with, ArriveIn, IsRound, IsBrokenOff}
+use Rattle.sdh_world.specs.Quiet.{Settles}
+use Rattle.sdh_rounds.specs.Runs.{Arrive}
+use Rattle.sdh_rounds.proofs.Runs.{run_with_more, arrive_more, course_more, course_whole}
+use Rattle.sdh_scripts.specs.Scripts.{Ended, BreaksBehind}
+use Rattle.sdh_scripts.proofs.Frames.{run_on, take_past}
+use Rattle.sdh_path.specs.History.{Given}
+use Rattle.sdh_watching.specs.Shows.{Watched}
+use Rattle.sdh_watching.specs.Watching.{given_at, Lead, BreaksAmong, heard_in, watched, watched_in}
+use Rattle.sdh_watching.specs.Scripts.{watch_walk}
+use Rattle.sdh_watching.proofs.Known.{heard_same}
 
--- ---- products
+-- ---- from a course to rounds one after the other
 
-pub more_of : (c a b : ℕ) → c * (a + b) ≡ c * a + c * b
-more_of c a b = omega arith
+round_at : (rounds : List (List Arrival)) (w : World) (j : ℕ) → ArriveIn rounds w → j < length rounds → IsRound (course_with rounds w j) (course_with rounds w (suc j))
+round_at [] w j arrive low = absurd (omega arith)
+round_at (xs ∷ later) w zero arrive low = record { arrivals = xs; arrive = arrive.0; after_is = refl }
+round_at (xs ∷ later) w (suc j) arrive low = round_at later (round_with xs w) j arrive.1 (omega arith)
 
-pub grows : (c a b : ℕ) → a ≤ b → c * a ≤ c * b
-grows c a b h = let e : c * (a + (b - a)) ≡ c * b = ap (λ k. c * k) (omega arith) in omega (arith, e, more_of c a (b - a))
+lead_to : (rounds : List (List Arrival)) (w : World) (j : ℕ) → ArriveIn rounds w → j ≤ length rounds → Lead j w (course_with rounds w j) (heard_in j (course_with rounds w))
+lead_to rounds w zero arrive low = (refl, λ port. refl)
+lead_to rounds w (suc j) arrive low =
+    (course_with rounds w j, heard_in j (course_with rounds w), lead_to rounds w j arrive (omega arith), round_at rounds w j arrive (omega arith), λ port. refl)
 
--- ---- frames of rounds
+-- ---- and back
 
-run_is : (k : ℕ) (w : World) → run_with (arrivals_in k w) w ≡ run k w
-unfolding any_run.arrivals_in any_run.run any_round.round
-run_is zero w = refl
-run_is (suc k) w = run_is k (round_with (arrivals_of w) w) ∙ sym (run_first adm k w)
+pub record IsLed (k : ℕ) (w left : World) (heard : PortId → List Given) : Type 0 where
+  pub rounds : List (List Arrival)
+  pub arrive : ArriveIn rounds w
+  pub count : length rounds ≡ k
+  pub left_is : left ≡ run_with rounds w
+  pub heard_is : (port : PortId) → heard port ≡ heard_in k (course_with rounds w) port
 
-pub frames_sent : (k : ℕ) (w : World) → Appends w.fibres (frames_in adm (arrivals_in k w) w) (run k w).fibres
-frames_sent k w = subst (λ (v : World). Appends w.fibres (frames_in adm (arrivals_in k w) w) v.fibres) (run_is k w) (runs_keep adm (arrivals_in k w) w).1
+led_by : (k : ℕ) (w left : World) (heard : PortId → List Given) → Lead k w left heard → IsLed k w left heard
+led_by zero w left heard lead = record { rounds = []; arrive = tt; count = refl; left_is = lead.0; heard_is = lead.1 }
+led_by (suc k) w left heard (mid, before, lead, is, more) =
+    let led = led_by k w mid before lead in
+    let old = led.rounds in
+    let all = old ++ is.arrivals ∷ [] in
+    let c = led.count in
+    let size : length all ≡ suc k = length_push old is.arrivals ∙ omega (arith, c) in
+    let here : left ≡ run_with all w = is.after_is ∙ ap (round_with is.arrivals) led.left_is ∙ sym (run_with_more adm old is.arrivals w) in
+    let last : left ≡ course_with all w (suc k) = here ∙ course_whole adm all w ∙ ap (course_with all w) size in
+    record {
+      rounds = all;
+      arrive = arrive_more adm old is.arrivals w led.arrive (subst (λ x. Arrive x is.arrivals) led.left_is is.arrive);
+      count = size;
+      left_is = here;
+      heard_is = λ port. more port
+          ∙ ap₂ (λ (v : World) l. given_at v.ring port ∷ l) last
+          (led.heard_is port ∙ heard_same k (course_with old w) (course_with all w) port (λ j h. course_more adm old is.arrivals w j (omega (arith, h, c))));
+    }
 
-pub length-one : (xs : List Arrival) (w : World) → length (frames_with xs w) ≡ 2 * length w.ring.nodes
-length-one xs w = omega (arith, length-frames adm w.ring.moment (nodes_with xs w), length-heard adm xs w.ring.nodes)
+-- ---- a course behind another
 
-pub length-all : (k : ℕ) (w : World) → length (frames_in adm (arrivals_in k w) w) ≡ 2 * length w.ring.nodes * k
-unfolding any_run.arrivals_in any_round.round
-length-all zero w = omega arith
-length-all (suc k) w =
-    let xs = arrivals_of w in
-    let v = round_with xs w in
-    let n = length w.ring.nodes in
-    let rest : length (frames_in adm (arrivals_in k v) v) ≡ 2 * n * k = length-all k v ∙ ap (λ j. 2 * j * k) (count_round adm xs w) in
-    let one : 2 * n * suc k ≡ 2 * n + 2 * n * k = omega arith in
-    omega (arith, length-append (frames_with xs w) (frames_in adm (arrivals_in k v) v), length-one xs w, rest, one)
+behind_at : (xs ys : List (List Arrival)) (w mid : World) (j : ℕ) → mid ≡ run_with xs w → course_with (xs ++ ys) w (length xs + j) ≡ course_with ys mid j
+behind_at xs ys w mid j is = ap (λ rs. run_with rs w) (take_past xs ys j) ∙ run_on adm xs (take j ys) w ∙ ap (run_with (take j ys)) (sym is)
 
--- those of the first j rounds, of the next one, and of the others
-frames_parted : (j m : ℕ) (w : World) → (rest : List (List ℕ)) × (frames_in adm (arrivals_in (j + suc m) w) w ≡ frames_in adm (arrivals_in j w) w ++ (frames_with (arrivals_of (run j w)) (run j w) ++ rest))
-unfolding any_run.arrivals_in any_run.run any_round.round
-frames_parted zero m w =
-    let e : 0 + suc m ≡ suc m = omega arith in
-    (frames_in adm (arrivals_in m (round_with (arrivals_of w) w)) (round_with (arrivals_of w) w), ap (λ k. frames_in adm (arrivals_in k w) w) e)
-frames_parted (suc j) m w =
-    let v = round_with (arrivals_of w) w in
-    let h = frames_parted j m v in
-    let e : suc j + suc m ≡ suc (j + suc m) = omega arith in
-    let one = frames_with (arrivals_of w) w in
-    let same : run j v ≡ run (suc j) w = sym (run_first adm j w) in (
-      h.0,
-      ap (λ k. frames_in adm (arrivals_in k w) w) e ∙ ap (λ l. one ++ l) h.1 ∙ sym (append_assoc one (frames_in adm (arrivals_in j v) v) (frames_with (arrivals_of (run j v)) (run j v) ++ h.0))
-          ∙ ap (λ (u : World). (one ++ frames_in adm (arrivals_in j v) v) ++ (frames_with (arrivals_of u) u ++ h.0)) same,
-    )
+-- what is told of a settle step is what its rounds and those behind it show
+told_at : (number limit : ℕ) (w mid : World) (s : Settles w limit mid) (behind : List (List Arrival)) → length behind ≡ 128
+    → watched_in number (course_with (s.rounds ++ behind) w) (length s.rounds) ≡ watched number mid.ring (run_with behind mid).ring (heard_in 128 (course_with behind mid))
+told_at number limit w mid s behind count =
+    let k = length s.rounds in
+    let at = course_with (s.rounds ++ behind) w in
+    let none : k + 0 ≡ k = omega arith in
+    let first : at k ≡ mid = ap at (sym none) ∙ behind_at s.rounds behind w mid 0 s.left_is in
+    let last : at (k + 128) ≡ run_with behind mid = behind_at s.rounds behind w mid 128 s.left_is ∙ ap (course_with behind mid) (sym count) ∙ sym (course_whole adm behind mid) in
+    let heard = λ (port : PortId). heard_same 128 (λ j. at (k + j)) (course_with behind mid) port (λ j h. behind_at s.rounds behind w mid j s.left_is) in
+    λ i. watched number (first i).ring (last i).ring (λ port. heard port i)
 
-pub take_past : (xs ys : List (List ℕ)) (k : ℕ) → take (length xs + k) (xs ++ ys) ≡ xs ++ take k ys
-take_past [] ys k = let e : 0 + k ≡ k = omega arith in ap (λ j. take j ys) e
-take_past (x ∷ xs) ys k =
-    let e : length (x ∷ xs) + k ≡ suc (length xs + k) = omega arith in
-    ap (λ j. take j (x ∷ (xs ++ ys))) e ∙ ap (λ l. x ∷ l) (take_past xs ys k)
+-- ---- a settle step, and the rounds that are watched behind it
 
--- the first frames of a run, up to some of the round behind the first j
-pub front : (j k out : ℕ) (w : World) (more : List (List ℕ)) → j < k → out ≤ length (frames_with (arrivals_of (run j w)) (run j w))
-    → take (length (frames_in adm (arrivals_in j w) w) + out) (frames_in adm (arrivals_in k w) w ++ more) ≡ frames_in adm (arrivals_in j w) w ++ take out (frames_with (arrivals_of (run j w)) (run j w))
-front j k out w more low small =
-    let first = frames_in adm (arrivals_in j w) w in
-    let next = frames_with (arrivals_of (run j w)) (run j w) in
-    let count : k ≡ j + suc (k - j - 1) = omega arith in
-    let parted = frames_parted j (k - j - 1) w in
-    let all : frames_in adm (arrivals_in k w) w ++ more ≡ first ++ (next ++ (parted.0 ++ more)) =
-    ap (λ i. frames_in adm (arrivals_in i w) w ++ more) count ∙ ap (λ l. l ++ more) parted.1 ∙ append_assoc first (next ++ parted.0) more ∙ ap (λ l. first ++ l) (append_assoc next parted.0 more) in
-    ap (λ l. take (length first + out) l) all ∙ take_past first (next ++ (parted.0 ++ more)) out ∙ ap (λ l. first ++ l) (take-append-le out next (parted.0 ++ more) small)
+-- it ended, and its 128 rounds were run and showed this
+pub record IsWatched (limit number : ℕ) (w : World) (told : Watched) (left : World) : Type 0 where
+  pub mid : World
+  pub heard : PortId → List Given
+  pub settles : Settles w limit mid
+  pub rounds : Lead 128 mid left heard
+  pub told_is : told ≡ watched number mid.ring left.ring heard
 
-pub appended : (o : Option (List (List ℕ))) (xs ys : List (List ℕ)) → option_map (λ sent. sent ++ ys) (option_map (λ sent. sent ++ xs) o) ≡ option_map (λ sent. sent ++ (xs ++ ys)) o
-appended None xs ys = refl
-appended (Some sent) xs ys = ap Some (append_assoc sent xs ys)
+pub watched_by : (limit number : ℕ) (w : World) (told : Watched) (left : World) → Ended watch_walk limit number w told left → IsWatched limit number w told left
+watched_by limit number w told left e =
+    let behind = e.behind in
+    let last : left ≡ course_with behind e.mid 128 = e.left_is ∙ course_whole adm behind e.mid ∙ ap (course_with behind e.mid) e.count in
+    record {
+      mid = e.mid;
+      heard = heard_in 128 (course_with behind e.mid);
+      settles = e.settles;
+      rounds = subst (λ v. Lead 128 e.mid v (heard_in 128 (course_with behind e.mid))) (sym last) (lead_to behind e.mid 128 e.arrive (let c = e.count in omega arith));
+      told_is = e.told_is ∙ told_at number limit w e.mid e.settles behind e.count ∙ ap (λ (v : World). watched number e.mid.ring v.ring (heard_in 128 (course_with behind e.mid))) (sym e.left_is);
+    }
 
--- ---- as many nodes as before
+pub ended_with : (limit number : ℕ) (w mid left : World) (heard : PortId → List Given) → Settles w limit mid → Lead 128 mid left heard → Ended watch_walk limit number w (watched number mid.ring left.ring heard) left
+ended_with limit number w mid left heard s lead =
+    let led = led_by 128 mid left heard lead in
+    record {
+      mid = mid;
+      settles = s;
+      behind = led.rounds;
+      arrive = led.arrive;
+      count = led.count;
+      left_is = led.left_is;
+      told_is = (λ i. watched number mid.ring (led.left_is i).ring (λ port. led.heard_is port i)) ∙ sym (told_at number limit w mid s led.rounds led.count);
+    }
 
-pub nodes_run : (k : ℕ) (v : World) → length (run k v).ring.nodes ≡ length v.ring.nodes
-unfolding any_run.run any_round.round
-nodes_run zero v = refl
-nodes_run (suc k) v = count_round adm (arrivals_of (run k v)) (run k v) ∙ nodes_run k v
-
-length-placed : (change : Node → Node) (p : ℕ) (ns : List Node) → length (at_place p change ns) ≡ length ns
-length-placed change p [] = refl
-length-placed change zero (n ∷ ns) = refl
-length-placed change (suc p) (n ∷ ns) = ap suc (length-placed change p ns)
-
-pub count_step : (this : Step) (w : World) → length (after_step this w).ring.nodes ≡ length w.ring.nodes
-unfolding changed
-count_step (step.Order p d c) w = length-placed _ p.0 w.ring.nodes
-count_step (step.Hold p turns) w = length-placed _ p.0 w.ring.nodes
-count_step (step.Slip port turn count) w = length-placed _ (place_of_port w.ring port) w.ring.nodes
-count_step this w = refl
+pub breaks_with : (limit : ℕ) (w mid : World) (left : Fibres) → Settles w limit mid → BreaksAmong 128 mid left → BreaksBehind watch_walk limit w left
+breaks_with limit w mid left s b =
+    let led = led_by b.ran mid b.last b.heard b.rounds in
+    record {
+      mid = mid;
+      settles = s;
+      rounds = led.rounds;
+      arrive = led.arrive;
+      few = let c = led.count in let few = b.few in omega arith;
+      off = subst (λ v. IsBrokenOff v left) led.left_is b.off;
+    }

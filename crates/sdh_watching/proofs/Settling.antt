@@ -24,17 +24,14 @@ use Rattle.sdh_plan.specs.Steps.{Past, after}
 use Rattle.sdh_plan.specs.Scripts.{AreSteps}
 use Rattle.sdh_report.specs.declared.status.Status.{Status}
 use Rattle.sdh_report.specs.declared.status.Status.TheVariants as status
-use Rattle.sdh_owed.specs.Healthy.{IsSettled}
-use Rattle.sdh_owed.proofs.History.{refused_ends}
-use Rattle.sdh_owed.proofs.Settling.{settled_by, fault_settles}
+use Rattle.sdh_scripts.specs.Outcomes.{IsSettled}
+use Rattle.sdh_scripts.proofs.Outcomes.{refused_ends, settled_by, ok_settles, fault_settles}
 use Rattle.sdh_owed.proofs.Standing.{Stands, whole, layout_is, changed_then, may_go, stands_new}
 use Rattle.sdh_watching.specs.Shows.{Watched}
 use Rattle.sdh_watching.specs.Scripts.{Watches}
 use Rattle.sdh_watching.specs.Laws.{ScriptsSettle}
+use Rattle.sdh_watching.proofs.Rounds.{watched_by}
 use Rattle.sdh_watching.proofs.Owing.{stands}
-
-ok_settles : IsSettled status.Ok
-ok_settles k e = grind arith
 
 module _ (converge : StretchesConverge) (law : SettledRingsRestore) (rest : StepsLeaveAtRest) (s : Settings) (ids : List ℕ) (circuits : Provisioning) (f : Fibres) (may : MayStart s ids f) (form : HasCircuits (layout_in (new_ring s ids circuits))) where
   abbrev Now : Past → List Stretch → List Change → World → Type 0
@@ -54,14 +51,15 @@ module _ (converge : StretchesConverge) (law : SettledRingsRestore) (rest : Step
   walk : (limit before : ℕ) (past : Past) (earlier : List Stretch) (changes : List Change) (steps : List Step) (w : World) (reports : List Watched) (end : Status) (left : World)
       → Now past earlier changes w → AreSteps s.rate (length ids) (length circuits.circuits) past steps → enough_for (length ids) ≤ limit → Watches limit before steps w reports end left → IsSettled end
   walk limit before past earlier changes [] w reports end left h each large x = settled_by end status.Ok x.1.1 ok_settles
-  walk limit before past earlier changes (step.Settle ∷ later) w reports end left h each large (inl (mid, next, heard, others, is, told, x)) =
-      walk limit (before + 1) (after past step.Settle) _ [] later next others end left (stands law rest s ids circuits f may form past earlier changes w h limit mid next heard is.settles is.rounds) each.1 large x
+  walk limit before past earlier changes (step.Settle ∷ later) w reports end left h each large (inl (told, next, others, ended, told_is, x)) =
+      let is = watched_by limit (before + 1) w told next ended in
+      walk limit (before + 1) (after past step.Settle) _ [] later next others end left (stands law rest s ids circuits f may form past earlier changes w h limit is.mid next is.heard is.settles is.rounds) each.1 large x
   walk limit before past earlier changes (step.Settle ∷ later) w reports end left h each large (inr (inl x)) = absurd (never past earlier changes w left limit h large x.0)
   walk limit before past earlier changes (step.Settle ∷ later) w reports end left h each large (inr (inr x)) = settled_by end status.PlantFault x.1.1 fault_settles
   walk limit before past earlier changes (this ∷ later) w reports end left h each large x =
       elim x [
         | inl goes ↦ walk limit before (after past this) earlier (changes ++ changes_of this) later _ reports end left (changed_then s ids circuits f may past earlier changes w h this refl each.0) each.1 large goes
-        | inr refused ↦ settled_by end status.PlantFault (refused_ends this w [] end left refused.0).1 fault_settles
+        | inr refused ↦ settled_by end status.PlantFault (refused_ends this w reports end left refused).1 fault_settles
       ]
 
 pub scripts_settle : StretchesConverge → SettledRingsRestore → StepsLeaveAtRest → ScriptsSettle

@@ -1,8 +1,7 @@
 -- The laws of scripts with watches.
-use Rattle.std.specs.Prelude.{ℕ, ◌≡◌, ◌≤◌, List, [], length}
+use Rattle.std.specs.Prelude.{ℕ, ◌≤◌, List, [], length}
 use Rattle.sdh_circuits.specs.Provisioning.{Provisioning}
 use Rattle.sdh_plant.specs.Fibres.{Fibres}
-use Rattle.sdh_plant.specs.Arrivals.{Knows}
 use Rattle.sdh_request.specs.declared.settings.Settings.{Settings}
 use Rattle.sdh_world.specs.Held.{new_ring}
 use Rattle.sdh_world.specs.Rounds.{World}
@@ -15,16 +14,11 @@ use Rattle.sdh_plan.specs.Scripts.{AreSteps}
 use Rattle.sdh_report.specs.declared.status.Status.{Status}
 use Rattle.sdh_promise.specs.Changes.{scenes}
 use Rattle.sdh_rounds.specs.Quiet.{enough_for}
-use Rattle.sdh_owed.specs.Healthy.{IsSettled}
+use Rattle.sdh_scripts.specs.Outcomes.{IsSettled}
 use Rattle.sdh_owed.specs.Laws.{ring_by}
 use Rattle.sdh_watching.specs.Shows.{Watched}
-use Rattle.sdh_watching.specs.Scripts.{Watches, ComesTo}
+use Rattle.sdh_watching.specs.Scripts.{Watches}
 use Rattle.sdh_watching.specs.Owed.{AreClean}
-
--- where arrivals are known, what comes of a script is determined, and after a fault it is the front of that
-abbrev pub KnownScripts : Type 0
-KnownScripts = (limit before : ℕ) (steps : List Step) (w : World) (reports : List Watched) (end : Status) (left : World)
-    → Knows w.fibres → 1 ≤ length w.ring.ids → length w.ring.nodes ≡ length w.ring.ids → Watches limit before steps w reports end left → ComesTo limit before steps w reports end left
 
 -- from a new ring over new honest fibres, each watch shows what its port is owed, whatever the settings, the nodes, the
 -- circuits and the script

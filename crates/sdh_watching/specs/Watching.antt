@@ -10,7 +10,7 @@ use Rattle.sdh_payload.specs.declared.delivered.Delivered.TheVariants as deliver
 use Rattle.sdh_plant.specs.Fibres.{Fibres}
 use Rattle.sdh_world.specs.Held.{HeldRing, outlet_at}
 use Rattle.sdh_world.specs.Rounds.{World}
-use Rattle.sdh_world.specs.Runs.{run, IsRound, IsBrokenOff}
+use Rattle.sdh_world.specs.Runs.{IsRound, IsBrokenOff}
 use Rattle.sdh_path.specs.History.{Given, Chunk, Ais}
 use Rattle.sdh_path.specs.Report.{report_of}
 use Rattle.sdh_watching.specs.Shows.{shown, WatchLine, Watched}
@@ -33,10 +33,10 @@ Lead zero w left heard = (left ≡ w) × ((port : PortId) → heard port ≡ [])
 Lead (suc k) w left heard =
     (mid : World) × (before : PortId → List Given) × Lead k w mid before × IsRound mid left × ((port : PortId) → heard port ≡ given_at left.ring port ∷ before port)
 
--- what is given in so many rounds, where arrivals are known
-abbrev pub heard_in : ℕ → World → PortId → List Given
-heard_in zero w port = []
-heard_in (suc k) w port = given_at (run (suc k) w).ring port ∷ heard_in k w port
+-- what is given in the first rounds of a course, which gives the world after each number of rounds
+abbrev pub heard_in : ℕ → (ℕ → World) → PortId → List Given
+heard_in zero at port = []
+heard_in (suc k) at port = given_at (at (suc k)).ring port ∷ heard_in k at port
 
 -- a fault broke one of so many rounds off, and left these fibres
 pub record BreaksAmong (k : ℕ) (w : World) (left : Fibres) : Type 0 where
@@ -63,3 +63,7 @@ ports_watched r heard index (c ∷ cs) = port_watched r heard index c A ∷ port
 -- of settle step `number`, which ended with the first of these rings, and the rounds to the second
 abbrev pub watched : ℕ → HeldRing → HeldRing → (PortId → List Given) → Watched
 watched number mid left heard = record { number = number; round = mid.rounds - 1; watches = ports_watched left heard 0 left.circuits.circuits }
+
+-- of settle step `number`, which ended with the k-th round of a course, and the 128 rounds behind it
+abbrev pub watched_in : ℕ → (ℕ → World) → ℕ → Watched
+watched_in number at k = watched number (at k).ring (at (k + 128)).ring (heard_in 128 (λ j. at (k + j)))

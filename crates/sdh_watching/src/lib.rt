@@ -3,12 +3,7 @@
 //! `specs/Laws.antt` has the laws. Each function here has a law as its contract and no work to do.
 #![tactic(auto)]
 
-ghost use Rattle.sdh_watching.specs.Laws.{KnownScripts, WatchesAreClean, ScriptsSettle};
-
-/// Where arrivals are known, what comes of a script is determined, and after a fault it is the front of that.
-pub fn known_scripts()
-    ensures { KnownScripts }
-{}
+ghost use Rattle.sdh_watching.specs.Laws.{WatchesAreClean, ScriptsSettle};
 
 /// Over honest fibres each watch shows what its port is owed: AIS, or no fault in all VC-4s of 128 chunks.
 pub fn watches_are_clean()

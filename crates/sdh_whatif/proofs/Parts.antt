@@ -68,7 +68,11 @@ sides_long plan s are =
 
 -- ---- a line
 
-pub all_joined : (a b k o l n e : List ℕ) {a1 b1 k1 o1 l1 n1 e1 : List ℕ} → a1 ≡ a → b1 ≡ a1 ++ b → k1 ≡ b1 ++ k → o1 ≡ k1 ++ o → l1 ≡ o1 ++ l → n1 ≡ l1 ++ n → e1 ≡ n1 ++ e
-    → e1 ≡ a ++ b ++ k ++ o ++ l ++ n ++ e
-all_joined a b k o l n e is_a is_b is_k is_o is_l is_n is_e =
-    is_e ∙ ap (λ x. x ++ e) (is_n ∙ ap (λ x. x ++ n) (is_l ∙ ap (λ x. x ++ l) (is_o ∙ ap (λ x. x ++ o) (is_k ∙ ap (λ x. x ++ k) (is_b ∙ ap (λ x. x ++ b) is_a)))))
+-- a part behind others
+pub onto : (start before part line new : List ℕ) → line ≡ start ++ before → new ≡ line ++ part → new ≡ start ++ (before ++ part)
+onto start before part line new is more = more ∙ ap (λ l. l ++ part) is ∙ append_assoc start before part
+
+pub all_joined : (a b k o l h n e : List ℕ) {a1 b1 k1 o1 l1 h1 n1 e1 : List ℕ} → a1 ≡ a → b1 ≡ a1 ++ b → k1 ≡ b1 ++ k → o1 ≡ k1 ++ o → l1 ≡ o1 ++ l → h1 ≡ l1 ++ h → n1 ≡ h1 ++ n → e1 ≡ n1 ++ e
+    → e1 ≡ a ++ b ++ k ++ o ++ l ++ h ++ n ++ e
+all_joined a b k o l h n e is_a is_b is_k is_o is_l is_h is_n is_e =
+    is_e ∙ ap (λ x. x ++ e) (is_n ∙ ap (λ x. x ++ n) (is_h ∙ ap (λ x. x ++ h) (is_l ∙ ap (λ x. x ++ l) (is_o ∙ ap (λ x. x ++ o) (is_k ∙ ap (λ x. x ++ k) (is_b ∙ ap (λ x. x ++ b) is_a))))))

@@ -1,5 +1,7 @@
 pub mod Words
 pub mod Cases
+pub mod Counting
+pub mod Singles
 pub mod Lines
 pub mod Writing
 pub mod Outcome

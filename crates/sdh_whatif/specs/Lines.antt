@@ -1,5 +1,5 @@
 -- The lines of the table: fields parted by commas, one newline byte behind each line. The texts are this project's own.
-use Rattle.std.specs.Prelude.{ℕ, ◌<◌, zero, suc, Bool, true, false, List, [], ◌++◌, codes, decimal, length, slice_index, count_by, if◌then◌else◌}
+use Rattle.std.specs.Prelude.{ℕ, ◌<◌, zero, suc, List, [], ◌++◌, codes, decimal, length, slice_index, if◌then◌else◌}
 use Rattle.std.specs.List.{flat_map}
 use Rattle.sdh_ringmap.specs.declared.Pos.{Pos}
 use Rattle.sdh_ringmap.specs.declared.Side.{Side}
@@ -13,11 +13,12 @@ use Rattle.sdh_plan.specs.Planned.{Planned}
 use Rattle.sdh_plan.specs.declared.step.Step.{Step}
 use Rattle.sdh_plan.specs.declared.step.Step.TheVariants as step
 use Rattle.sdh_verdicts.specs.declared.failure.Failure.{Failure}
-use Rattle.sdh_verdicts.specs.declared.judging.Verdict.{Verdict}
 use Rattle.sdh_verdicts.specs.declared.judging.Verdict.TheVariants.{Kept, Over, Lost}
 use Rattle.sdh_verdicts.specs.Failures.{case_steps}
 use Rattle.sdh_verdicts.specs.Verdicts.{verdict_of}
 use Rattle.sdh_whatif.specs.declared.ask.Ask.{Ask}
+use Rattle.sdh_whatif.specs.Counting.{same_verdict, count_of, longest_of}
+use Rattle.sdh_whatif.specs.Singles.{singles_text}
 use Rattle.sdh_whatif.specs.Cases.{numbers_of, first, second, third, failures_of, are_told, is_in_part}
 
 -- a verb, and the node and the side that it is about, where the nodes have these identifiers
@@ -55,16 +56,6 @@ case_text plan case = steps_text plan.nodes (case_steps (length plan.nodes) plan
 
 -- ---- circuits
 
-abbrev pub same_verdict : Verdict → Verdict → Bool
-same_verdict Kept Kept = true
-same_verdict Over Over = true
-same_verdict Lost Lost = true
-same_verdict v w = false
-
--- of so many circuits this becomes
-abbrev pub count_of : Planned → List Failure → Verdict → ℕ
-count_of plan case v = count_by (λ c. same_verdict v (verdict_of plan case c)) plan.circuits
-
 -- the name of a circuit that is lost
 abbrev pub lost_text : Planned → List Failure → Provisioned → List ℕ
 lost_text plan case c = if same_verdict Lost (verdict_of plan case c) then codes "," ++ c.name else []
@@ -75,12 +66,12 @@ number_text number = codes "," ++ decimal number
 
 -- ---- the table
 
--- the line of a case: its steps, how many circuits keep their way, how many go round applied spans, how many are lost, and the names of
--- those
+-- the line of a case: its steps, how many circuits keep their way, how many go round applied spans, how many are lost, the longest way in
+-- spans, and the names of those that are lost
 abbrev pub line_text : Planned → List Failure → List ℕ
 line_text plan case =
-    case_text plan case ++ number_text (count_of plan case Kept) ++ number_text (count_of plan case Over) ++ number_text (count_of plan case Lost)
-    ++ flat_map (lost_text plan case) plan.circuits ++ codes "\n"
+    case_text plan case ++ number_text (count_of plan case Kept) ++ number_text (count_of plan case Over)
+    ++ number_text (count_of plan case Lost) ++ number_text (longest_of plan case) ++ flat_map (lost_text plan case) plan.circuits ++ codes "\n"
 
 -- of a number with these digits, where it stands for a case that is told
 abbrev pub digits_text : Planned → ℕ → ℕ → ℕ → List ℕ
@@ -99,8 +90,12 @@ lines_below plan ask zero = []
 lines_below plan ask (suc k) = lines_below plan ask k ++ line_at plan ask k
 
 abbrev pub head_line : List ℕ
-head_line = own_line (codes "steps,kept,over,lost,circuits")
+head_line = own_line (codes "steps,kept,over,lost,hops,circuits")
+
+-- behind them what each failure alone takes, and the last line
+abbrev pub last_lines : Planned → List ℕ
+last_lines plan = singles_text plan ++ own_line (codes "done")
 
 -- all of it
 abbrev pub table_text : Planned → Ask → List ℕ
-table_text plan ask = head_line ++ lines_below plan ask (numbers_of (length plan.nodes) ask.depth) ++ own_line (codes "done")
+table_text plan ask = head_line ++ lines_below plan ask (numbers_of (length plan.nodes) ask.depth) ++ last_lines plan

@@ -5,7 +5,7 @@ use Rattle.sdh_report.specs.declared.status.Status.{Status}
 use Rattle.sdh_report.specs.declared.status.Status.TheVariants as status
 use Rattle.sdh_report.specs.Lines.{own_line}
 use Rattle.sdh_report.specs.Statuses.{last_line}
-use Rattle.sdh_cli.specs.Outcome.{HasNoPlan, TellsPlan}
+use Rattle.sdh_shell.specs.Reading.{HasNoPlan, TellsPlan}
 use Rattle.sdh_whatif.specs.declared.ask.Ask.{Ask}
 use Rattle.sdh_whatif.specs.Lines.{table_text}
 

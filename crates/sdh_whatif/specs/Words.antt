@@ -1,16 +1,11 @@
 -- What the words of a command line ask for. The words are this project's own.
-use Rattle.std.specs.Prelude.{ℕ, ◌-◌, ◌^◌, List, [], ◌∷◌, codes, map, Option, Some, None, option_map, if◌then◌else◌, String, string_bytes}
+use Rattle.std.specs.Prelude.{ℕ, ◌-◌, ◌^◌, List, [], ◌∷◌, codes, Option, Some, None, option_map, if◌then◌else◌}
 use Rattle.std.specs.Option.{option_and_then}
 use Rattle.std.specs.Str.{bytes_eq}
-use Rattle.std.specs.declared.alloc.Global.{Global}
 use Rattle.sdh_plan.specs.Words.{numeral_in}
 use Rattle.sdh_whatif.specs.declared.ask.Ask.{Ask}
 use Rattle.sdh_whatif.specs.declared.ask.Depth.{Depth}
 use Rattle.sdh_whatif.specs.declared.ask.Depth.TheVariants.{Single, Double, Triple}
-
--- the words of a command line, as bytes
-abbrev pub words_of : List (String Global) → List (List ℕ)
-words_of words = map string_bytes words
 
 -- how many failures at most are taken together
 abbrev pub depth_named : List ℕ → Option Depth

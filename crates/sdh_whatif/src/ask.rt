@@ -1,6 +1,7 @@
 //! What the words of the command line ask for.
 ghost use Rattle.std.specs.Prelude.{◌≡◌, ◌≤◌, option_map, IfSome};
-ghost use Rattle.sdh_whatif.specs.Words.{words_of, depth_named, ask_of, part_of, asked};
+ghost use Rattle.sdh_shell.specs.Calls.{words_of};
+ghost use Rattle.sdh_whatif.specs.Words.{depth_named, ask_of, part_of, asked};
 
 use sdh_plan::numeral_in;
 

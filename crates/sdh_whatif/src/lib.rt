@@ -1,15 +1,19 @@
 //! The table that tells which circuits survive each failure of a ring, by the restoration model alone: no round is run.
-//! `specs/Words.antt` has what words ask for, `specs/Cases.antt` the cases in their order, `specs/Lines.antt` the lines.
+//! `specs/Words.antt` has what words ask for, `specs/Cases.antt` the cases in their order, `specs/Lines.antt` the
+//! lines, `specs/Singles.antt` what each failure alone takes.
 #![tactic(auto)]
 
 mod ask;
+mod counting;
 mod line;
 mod lines;
+mod singles;
 mod table;
 mod top;
 
 pub use ask::{Ask, Depth, asked};
 pub use line::Line;
 pub use sdh_report::Status;
+pub use singles::Tally;
 pub use table::write_table;
 pub use top::whatif;

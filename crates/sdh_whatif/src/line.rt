@@ -64,4 +64,12 @@ impl Line {
         let mut buffer = Buffer::new();
         self.put(buffer.format(number).as_bytes());
     }
+    /// Appends a small number in decimal.
+    pub fn put_small(&mut self, number: u16)
+        requires room { length self.old + 5 ≤ 4096 }
+        ensures text { self.new ≡ self.old ++ decimal number }
+        ensures short { length self.new ≤ length self.old + 5 }
+    {
+        self.put_number(u64::from(number));
+    }
 }

@@ -1,5 +1,5 @@
 //! The parts of a line.
-ghost use Rattle.std.specs.Prelude.{◌≡◌, ◌+◌, ◌*◌, ◌<◌, ◌≤◌, ◌++◌, List, All, codes, decimal, length, count_by, slice_index, slice_get, Some, []};
+ghost use Rattle.std.specs.Prelude.{◌≡◌, ◌+◌, ◌*◌, ◌<◌, ◌≤◌, ◌++◌, List, All, codes, decimal, length, slice_index, slice_get, Some, []};
 ghost use Rattle.std.specs.List.{flat_map};
 ghost use Rattle.std.specs.Option.{option_map_or};
 ghost use Rattle.sdh_circuits.specs.Provisioned.{Provisioned};
@@ -8,8 +8,9 @@ ghost use Rattle.sdh_report.specs.Lines.{side_text};
 ghost use Rattle.sdh_verdicts.specs.declared.failure.Failure.{Failure};
 ghost use Rattle.sdh_verdicts.specs.Failures.{IsFailureIn, steps_of, case_steps};
 ghost use Rattle.sdh_verdicts.specs.Verdicts.{AreApplied, AreSidesOf, requests_with};
-ghost use Rattle.sdh_whatif.specs.Lines.{place_text, fibre_text, order_text, step_text, steps_text, IsAt, same_verdict, count_of, lost_text, number_text, line_text};
+ghost use Rattle.sdh_whatif.specs.Lines.{place_text, fibre_text, order_text, step_text, steps_text, IsAt, lost_text, number_text, line_text};
 
+use crate::counting::{count_of, longest_of, same_verdict};
 use crate::line::Line;
 use sdh_plan::{Plan, Step};
 use sdh_request::Command;
@@ -25,15 +26,6 @@ fn put_id(line: &mut Line, map: &RingMap, at: Pos)
     ensures short { length line.new ≤ length line.old + 2 }
 {
     line.put_number(u64::from(map.id(at)));
-}
-
-// A small number.
-fn put_small(line: &mut Line, number: u16)
-    requires room { length line.old + 5 ≤ 4096 }
-    ensures text { line.new ≡ line.old ++ decimal number }
-    ensures short { length line.new ≤ length line.old + 5 }
-{
-    line.put_number(u64::from(number));
 }
 
 // A side.
@@ -75,7 +67,7 @@ fn put_fibre(line: &mut Line, map: &RingMap, at: Pos, side: Side, condition: Con
         Condition::Degraded(count) => {
             put_place(line, map, b"degrade ", at, side);
             line.put(b" ");
-            put_small(line, count);
+            line.put_small(count);
         }
     }
 }
@@ -152,32 +144,6 @@ fn put_case(line: &mut Line, map: &RingMap, threshold: u16, case: &[Failure])
     }
 }
 
-// Whether two verdicts are one.
-fn same_verdict(verdict: Verdict, other: Verdict) -> bool
-    ensures { result ≡ same_verdict verdict other }
-{
-    match (verdict, other) {
-        (Verdict::Kept, Verdict::Kept) => true,
-        (Verdict::Over, Verdict::Over) => true,
-        (Verdict::Lost, Verdict::Lost) => true,
-        _ => false,
-    }
-}
-
-// Of how many circuits this becomes.
-fn count_of(plan: &Plan, applied: &AppliedSpans, verdict: Verdict) -> u8
-    requires case { (case : List Failure) × AreApplied (length plan.now.nodes) (is_applied (requests_with plan.now case)) applied.now }
-    ensures { (case : List Failure) → AreApplied (length plan.now.nodes) (is_applied (requests_with plan.now case)) applied.now → result ≡ count_of plan.now case verdict }
-{
-    let mut count = 0;
-    for i in 0..plan.circuits().len() {
-        if same_verdict(verdict, told(plan, applied, i as u8)) {
-            count += 1;
-        }
-    }
-    count
-}
-
 // A number behind a comma.
 fn put_count(line: &mut Line, count: u8)
     requires room { length line.old + 6 ≤ 4096 }
@@ -185,7 +151,7 @@ fn put_count(line: &mut Line, count: u8)
     ensures short { length line.new ≤ length line.old + 6 }
 {
     line.put(b",");
-    put_small(line, u16::from(count));
+    line.put_small(u16::from(count));
 }
 
 // The name of a circuit where it is lost.
@@ -228,6 +194,7 @@ pub fn put_line(line: &mut Line, plan: &Plan, sides: &Sides<'_>, case: &[Failure
     put_count(line, count_of(plan, &applied, Verdict::Kept));
     put_count(line, count_of(plan, &applied, Verdict::Over));
     put_count(line, count_of(plan, &applied, Verdict::Lost));
+    put_count(line, longest_of(plan, &applied));
     put_lost(line, plan, &applied);
     line.put(b"\n");
 }

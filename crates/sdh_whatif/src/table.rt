@@ -4,12 +4,13 @@ ghost use Rattle.sdh_plan.specs.Planned.{Planned};
 ghost use Rattle.sdh_verdicts.specs.Failures.{IsFailureIn};
 ghost use Rattle.sdh_verdicts.specs.Verdicts.{AreSidesOf};
 ghost use Rattle.sdh_whatif.specs.Cases.{base, numbers_of, goes_before, failures_of, mends_at, are_told};
-ghost use Rattle.sdh_whatif.specs.Lines.{line_text, number_line, line_at, lines_below, table_text};
+ghost use Rattle.sdh_whatif.specs.Lines.{line_text, number_line, line_at, lines_below, last_lines, table_text};
 ghost use Rattle.sdh_whatif.specs.Writing.{Wrote};
 
 use crate::ask::{Ask, Depth};
 use crate::line::Line;
 use crate::lines::put_line;
+use crate::singles::put_singles;
 use sdh_outside::{Sink, WriteFault, write_text};
 use sdh_plan::Plan;
 use sdh_verdicts::{Failure, Sides, failure_at};
@@ -172,6 +173,22 @@ fn write_cases<W: Sink>(
     Ok(())
 }
 
+// Writes what each failure alone takes, and the last line.
+fn write_last<W: Sink>(
+    sink: &mut W,
+    line: &mut Line,
+    plan: &Plan,
+    sides: &Sides<'_>,
+) -> Result<(), WriteFault>
+    requires sides { AreSidesOf plan.now sides.now }
+    ensures { Wrote W.exact (W.written sink.old) (W.written sink.new) (W.faults sink.old) (W.faults sink.new) (last_lines plan.now) result }
+{
+    line.clear();
+    put_singles(line, plan, sides);
+    line.put(b"done\n");
+    write_text(sink, line.bytes())
+}
+
 /// Writes the table, line by line.
 pub fn write_table<W: Sink>(
     sink: &mut W,
@@ -184,11 +201,11 @@ pub fn write_table<W: Sink>(
     requires part { (1 ≤ ask.part) × (ask.part ≤ ask.parts) }
     ensures { Wrote W.exact (W.written sink.old) (W.written sink.new) (W.faults sink.old) (W.faults sink.new) (table_text plan.now ask) result }
 {
-    if let Err(fault) = write_text(sink, b"steps,kept,over,lost,circuits\n") {
+    if let Err(fault) = write_text(sink, b"steps,kept,over,lost,hops,circuits\n") {
         return Err(fault);
     }
     if let Err(fault) = write_cases(sink, line, plan, sides, ask) {
         return Err(fault);
     }
-    write_text(sink, b"done\n")
+    write_last(sink, line, plan, sides)
 }

@@ -3,10 +3,11 @@ ghost use Rattle.std.specs.Prelude.{◌≡◌, ◌≢◌, ◌⊎◌, ◌+◌, �
 ghost use Rattle.std.specs.Io.KnownBytes.{IsAtEnd};
 ghost use Rattle.sdh_basics.specs.Causes.{Rose, IsCounted};
 ghost use Rattle.sdh_outside.specs.Reading.{TakesCount};
-ghost use Rattle.sdh_plan.specs.Planned.{Planned};
-ghost use Rattle.sdh_cli.specs.Outcome.{TellsPlan, Writes};
+ghost use Rattle.sdh_shell.specs.Reading.{HasPlan};
+ghost use Rattle.sdh_shell.specs.Writing.{Writes};
 ghost use Rattle.sdh_verdicts.specs.Laws.{VerdictsAgree, VerdictsAreShown};
-ghost use Rattle.sdh_whatif.specs.Words.{words_of, asked};
+ghost use Rattle.sdh_shell.specs.Calls.{words_of};
+ghost use Rattle.sdh_whatif.specs.Words.{asked};
 ghost use Rattle.sdh_whatif.specs.Lines.{table_text};
 ghost use Rattle.sdh_whatif.specs.Writing.{Wrote};
 ghost use Rattle.sdh_whatif.specs.Outcome.{refusal, OfBytes, IsOutcome, told};
@@ -14,9 +15,10 @@ ghost use Rattle.sdh_whatif.specs.Outcome.{refusal, OfBytes, IsOutcome, told};
 use crate::ask::{Ask, asked};
 use crate::line::Line;
 use crate::table::write_table;
-use sdh_outside::{ReadAllError, Sink, Source, WriteFault, read_all, write_text};
-use sdh_plan::{Plan, PlanError, read_plan};
+use sdh_outside::{Sink, Source, WriteFault, write_text};
+use sdh_plan::Plan;
 use sdh_report::{LINE_MAX, Status, Text};
+use sdh_shell::{NoPlan, plan_in};
 use sdh_verdicts::Sides;
 use std::alloc::{AllocError, Global};
 
@@ -84,23 +86,15 @@ fn answer_ask<R: Source, W: Sink>(
     ensures too_long { IfOk result (λ x. x.status ≡ Status.TooLong → TakesCount (R.left source.old) (R.left source.new) 1048577) }
     ensures own { IfOk result (λ x. (x.status ≢ Status.Usage) × (x.status ≢ Status.WriteFault) × (x.status ≢ Status.Memory)) }
     ensures read { IfOk result (λ x. x.status ≡ Status.Ok → IsAtEnd (R.left source.new)) }
+    ensures complete { HasPlan (R.left source.old) → ¬ (Rose (R.faults source.old) (R.faults source.new)) → IfOk result (λ x. x.status ≡ Status.Ok) }
     ensures later { R.faults source.old ≤ R.faults source.new }
     ensures memory { OnErr result ((R.exact ≡ true → R.faults source.new ≡ R.faults source.old) × (sink.new ≡ sink.old)) }
 {
     let text = Text::try_new(alloc, LINE_MAX)?;
-    let bytes = match read_all(alloc, source) {
-        Ok(bytes) => bytes,
-        Err(ReadAllError::Memory) => return Err(AllocError),
-        Err(ReadAllError::ReadFault) => return Ok(refuse(sink, text, Status::ReadFault)),
-        Err(ReadAllError::TooLong) => return Ok(refuse(sink, text, Status::TooLong)),
-    };
-    match read_plan(alloc, &bytes) {
+    match plan_in(alloc, source) {
         Ok(plan) => tell(alloc, sink, &plan, ask),
-        Err(PlanError::Memory) => Err(AllocError),
-        Err(PlanError::NotToml) => Ok(refuse(sink, text, Status::NotToml)),
-        Err(PlanError::BadPlan { reason, place }) => {
-            Ok(refuse(sink, text, Status::BadPlan { reason, place }))
-        }
+        Err(NoPlan::Memory) => Err(AllocError),
+        Err(NoPlan::Refused(how)) => Ok(refuse(sink, text, how)),
     }
 }
 
@@ -119,6 +113,7 @@ fn answer<R: Source, W: Sink>(
     ensures own { IfOk result (λ x. (x.status ≢ Status.WriteFault) × (x.status ≢ Status.Memory)) }
     ensures read { IfOk result (λ x. x.status ≡ Status.Ok → IsAtEnd (R.left source.new)) }
     ensures unread { asked (words_of words.now) ≡ None → source.new ≡ source.old }
+    ensures complete { asked (words_of words.now) ≢ None → HasPlan (R.left source.old) → ¬ (Rose (R.faults source.old) (R.faults source.new)) → IfOk result (λ x. x.status ≡ Status.Ok) }
     ensures later { R.faults source.old ≤ R.faults source.new }
     ensures memory { OnErr result ((R.exact ≡ true → R.faults source.new ≡ R.faults source.old) × (sink.new ≡ sink.old)) }
 {
@@ -160,6 +155,9 @@ pub fn whatif<R: Source, W: Sink>(
     ensures memory { result ≡ Status.Memory → sink.new ≡ sink.old }
     ensures read_whole { result ≡ Status.Ok → IsAtEnd (R.left source.new) }
     ensures later { (R.faults source.old ≤ R.faults source.new) × (W.faults sink.old ≤ W.faults sink.new) }
+
+    // With the words, the bytes of a plan and no fault, everything is told, or there is no memory.
+    ensures complete { asked (words_of words.now) ≢ None → HasPlan (R.left source.old) → ¬ (Rose (R.faults source.old) (R.faults source.new)) → ¬ (Rose (W.faults sink.old) (W.faults sink.new)) → (result ≡ Status.Ok) ⊎ (result ≡ Status.Memory) }
 {
     sdh_verdicts::laws::verdicts_agree();
     sdh_verdicts::laws::verdicts_are_shown();

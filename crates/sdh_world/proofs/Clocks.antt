@@ -103,12 +103,6 @@ node_met : (id : PortId) (west east : Arrival) (n : Node) → NodeFollows id (λ
 unfolding any_round.with_arrivals
 node_met id west east n = follows_same (port_of id n.ports)
 
-clock_slipped : (turn : Turn) (count : ℕ) (t : Tributary) → (slipped turn count t).feed.clock ≡ waits turn count t.feed.clock
-clock_slipped turn count t = refl
-
-named_slipped : (id : PortId) (turn : Turn) (count : ℕ) (t : Tributary) → is_port id (slipped turn count t) ≡ is_port id t
-named_slipped id turn count t = refl
-
 -- its own slips
 ports_slipped : (id : PortId) (turn : Turn) (count : ℕ) (ts : List Tributary) → Follows (waits turn count) (port_of id ts) (port_of id (with_slips id turn count ts))
 unfolding port_of with_slips

@@ -2,20 +2,14 @@
 use Rattle.std.proofs.Common.{◌≡◌, ℕ, zero, suc, ◌+◌, ◌<◌, ◌≤◌, Bool, true, false, List, [], ◌∷◌, ◌++◌, length, get_or, map, refl, ap, sym, subst, ◌∙◌, arith}
 use Rattle.std.specs.Prelude.{All, IsSome, Some, find, slice_get, ◌==◌, ◌&&◌, if◌then◌else◌}
 use Rattle.std.proofs.lemmas.List.{length-map}
-use Rattle.std.proofs.lemmas.Bool.{cond_both}
-use Rattle.std.proofs.lemmas.List.Elements.{All-map, All-append, All-cons, All-nil}
+use Rattle.std.proofs.lemmas.List.Elements.{All-map}
 use Rattle.sdh_basics.specs.Indexed.{map_from}
 use Rattle.sdh_basics.proofs.CellsLaws.{cells-zero, cells-more, length-cells, get_or-cells}
 use Rattle.sdh_ringmap.specs.declared.Side.{Side}
 use Rattle.sdh_ringmap.specs.declared.Side.TheVariants.{West, East}
 use Rattle.sdh_request.specs.declared.Command.{Command}
-use Rattle.sdh_ringmap.specs.declared.Pos.{Pos}
-use Rattle.sdh_circuits.specs.declared.End.{End}
-use Rattle.sdh_circuits.specs.declared.End.TheVariants.{A, B}
-use Rattle.sdh_circuits.specs.declared.Slot.{Slot}
 use Rattle.sdh_payload.specs.declared.chunk.ChunkForm.{ChunkForm}
 use Rattle.sdh_payload.specs.declared.chunk.ChunkForm.TheVariants.{Plain, Short, Long}
-use Rattle.sdh_payload.specs.Customer.{Customer}
 use Rattle.sdh_payload.specs.Clock.{Clock, waiting, next_form, after_form, ticked}
 use Rattle.sdh_payload.specs.Feed.{Fed, next_feed}
 use Rattle.sdh_payload.proofs.Clocking.{next_few}
@@ -26,7 +20,7 @@ use Rattle.sdh_circuits.specs.Provisioned.{Provisioned, same_end}
 use Rattle.sdh_plant.specs.Fibres.{Arrival}
 use Rattle.sdh_request.specs.declared.settings.Settings.{Settings}
 use Rattle.sdh_node.specs.Receiving.{after_intake, after_overhead, commanded_by}
-use Rattle.sdh_terminal.specs.Tributaries.{Tributary, is_port, port_of, HasPort, slipped, with_slips, fed, all_fed, new_tributary, ends_at, ends_from, tributaries_at}
+use Rattle.sdh_terminal.specs.Tributaries.{Tributary, is_port, port_of, HasPort, slipped, with_slips, fed, all_fed, tributaries_at}
 use Rattle.sdh_node.specs.Crossing.{Cross, after_decision, delivered_to, all_delivered}
 use Rattle.sdh_node.specs.Node.{Node, new_node, at_receiving, held_for, slips_at, crossing, ports_after, after_crossing, with_calm, node_round}
 use Rattle.sdh_node.proofs.Rounds.{round_goes_on}
@@ -171,9 +165,6 @@ all_on_commanded p side c r m ns all = all_at_place (IsOn r m) (at_receiving sid
 
 pub all_on_held : (p turns r m : ℕ) (ns : List Node) → All (IsOn r m) ns → All (IsOn r m) (at_place p (held_for turns) ns)
 all_on_held p turns r m ns all = all_at_place (IsOn r m) (held_for turns) p ns (λ n at h. record { rounds_are = h.rounds_are; early = h.early; clocks = h.clocks }) all
-
-pub all_on_later : (r m now : ℕ) (ns : List Node) → m ≤ now → All (IsOn r m) ns → All (IsOn r now) ns
-all_on_later r m now ns later all i d lt = let h = all i d lt in record { rounds_are = h.rounds_are; early = let e = h.early in omega arith; clocks = h.clocks }
 
 -- ---- a new ring
 

@@ -18,10 +18,6 @@ world = held.world
 
 -- ---- what arrives
 
--- how many nodes receive in the next round
-abbrev pub receivers : World → ℕ
-receivers = rounds.receivers
-
 -- what arrives in the next round, where that is known
 abbrev pub arrivals_of : World → List Arrival
 arrivals_of = rounds.arrivals_of
@@ -51,9 +47,6 @@ west_frame now n = adm.sends now West n
 
 abbrev pub east_frame : ℕ → Node → List ℕ
 east_frame now n = adm.sends now East n
-
-abbrev pub both_frames : ℕ → Node → List (List ℕ)
-both_frames = rounds.both_frames adm
 
 -- the frames of all nodes by position, west before east
 abbrev pub frames_of : ℕ → List Node → List (List ℕ)

@@ -7,10 +7,6 @@ use Rattle.sdh_world.specs.Rounds.{World}
 
 -- ---- one round
 
--- these may arrive in the next round
-abbrev pub Arrive : World → List Arrival → Type 0
-Arrive = runs.Arrive
-
 -- a round, whatever arrives in it
 abbrev pub IsRound : World → World → Type 0
 IsRound = runs.IsRound adm

@@ -1,5 +1,5 @@
 //! What a side asks for: behind a degraded fibre, and behind one that was cut and mended.
-ghost use Rattle.std.specs.Prelude.{◌≡◌, ◌≤◌, ◌<◌, OnOk, false, length};
+ghost use Rattle.std.specs.Prelude.{◌≡◌, ◌≤◌, ◌<◌, OnOk, true, false, length};
 ghost use Rattle.sdh_plant.specs.Fibres.{HasNoFibres, IsPrepared};
 
 use crate::rings::{apply, laid, run};
@@ -37,6 +37,26 @@ fn degrade<P: Plant>(ring: &Ring, plant: &mut P, rate: Rate, columns: u16) -> bo
 }
 
 // What it asks for after so many rounds over a fibre that inverts so many bits.
+fn asked_behind<P: Plant>(
+    ring: &mut Ring,
+    plant: &mut P,
+    rate: Rate,
+    columns: u16,
+    rounds: u32,
+) -> Option<Code>
+    requires rate { ring.old.settings.rate ≡ rate }
+    requires prepared { IsPrepared ring.old.settings.rate (length ring.old.ids) (P.fibres plant.old) }
+    requires whole { ring.old.broken ≡ false }
+    requires new { ring.old.rounds ≡ 0 }
+    requires few { rounds ≤ 100 }
+{
+    if !degrade(ring, plant, rate, columns) || run(ring, plant, rounds).is_err() {
+        return None;
+    }
+    asked(ring)
+}
+
+// The same of a new ring.
 fn asked_degraded<P: Plant>(
     alloc: Global,
     plant: &mut P,
@@ -48,11 +68,7 @@ fn asked_degraded<P: Plant>(
     requires few { rounds ≤ 100 }
 {
     let mut ring = laid(alloc, plant, rate, &[1, 2, 3, 4])?;
-    if !degrade(&ring, plant, rate, columns) {
-        return Ok(None);
-    }
-    run(&mut ring, plant, rounds).map_err(|_| AllocError)?;
-    Ok(asked(&ring))
+    Ok(asked_behind(&mut ring, plant, rate, columns, rounds))
 }
 
 fn degraded(alloc: Global, rate: Rate, columns: u16, rounds: u32) -> Option<Code>
@@ -94,6 +110,22 @@ fn asked_at<P: Plant>(ring: &mut Ring, plant: &mut P, now: u64) -> Option<Code>
     asked(ring)
 }
 
+// The fibre is cut, and mended three rounds later; two more are run.
+fn is_mended<P: Plant>(ring: &mut Ring, plant: &mut P) -> bool
+    requires prepared { IsPrepared ring.old.settings.rate (length ring.old.ids) (P.fibres plant.old) }
+    requires whole { ring.old.broken ≡ false }
+    requires new { ring.old.rounds ≡ 0 }
+    ensures prepared { result ≡ true → IsPrepared ring.new.settings.rate (length ring.new.ids) (P.fibres plant.new) }
+    ensures whole { result ≡ true → ring.new.broken ≡ false }
+    ensures rounds { result ≡ true → ring.new.rounds ≡ 5 }
+    ensures moment { result ≡ true → ring.new.moment ≡ ring.old.moment }
+{
+    if !apply(ring, plant, 1, Side::East, Condition::Cut) || run(ring, plant, 3).is_err() {
+        return false;
+    }
+    apply(ring, plant, 1, Side::East, Condition::Clear) && run(ring, plant, 2).is_ok()
+}
+
 // What is asked for at a moment after the fibre was cut and mended at moment 0.
 fn asked_mended<P: Plant>(
     alloc: Global,
@@ -104,11 +136,7 @@ fn asked_mended<P: Plant>(
     requires within { now ≤ 100 }
 {
     let mut ring = laid(alloc, plant, Rate::Four, &[1, 2, 3, 4])?;
-    let cut = apply(&ring, plant, 1, Side::East, Condition::Cut);
-    run(&mut ring, plant, 3).map_err(|_| AllocError)?;
-    let mended = apply(&ring, plant, 1, Side::East, Condition::Clear);
-    run(&mut ring, plant, 2).map_err(|_| AllocError)?;
-    if !(cut && mended) {
+    if !is_mended(&mut ring, plant) {
         return Ok(None);
     }
     Ok(asked_at(&mut ring, plant, now))

@@ -1,6 +1,6 @@
 //! Rings of four nodes that are cut, mended and wait to restore, and that are switched before works: what each node does and sends,
 //! and all that each port delivers, after each settle step.
-ghost use Rattle.std.specs.Prelude.{◌≡◌, ◌<◌, OnOk, false, length};
+ghost use Rattle.std.specs.Prelude.{◌≡◌, ◌<◌, IfOk, OnOk, false, length};
 ghost use Rattle.sdh_plant.specs.Fibres.{HasNoFibres, IsPrepared};
 
 use crate::deliveries::{have_delivered, order};
@@ -127,12 +127,21 @@ fn is_restored<P: Plant>(ring: &mut Ring, plant: &mut P) -> Result<bool, AllocEr
     Ok(third && fourth)
 }
 
+// One after the other.
+fn is_mended<P: Plant>(ring: &mut Ring, plant: &mut P) -> Result<bool, AllocError>
+    requires prepared { IsPrepared ring.old.settings.rate (length ring.old.ids) (P.fibres plant.old) }
+    requires whole { ring.old.broken ≡ false }
+    requires new { ring.old.moment ≡ 0 }
+{
+    let waits = is_cut_and_mended(ring, plant)?;
+    Ok(is_restored(ring, plant)? && waits)
+}
+
 fn mended<P: Plant>(alloc: Global, plant: &mut P) -> Result<bool, AllocError>
     requires { HasNoFibres (P.fibres plant.old) }
 {
     let mut ring = laid_with(alloc, plant, Rate::Four, &[1, 2, 3, 4], &[ALPHABETS])?;
-    let waits = is_cut_and_mended(&mut ring, plant)?;
-    Ok(is_restored(&mut ring, plant)? && waits)
+    is_mended(&mut ring, plant)
 }
 
 #[test]
@@ -227,16 +236,31 @@ const BEFORE_WORKS: Settings = Settings {
 };
 
 // A manual switch comes before a forced one, and both are cleared.
+fn is_switched<P: Plant>(ring: &mut Ring, plant: &mut P) -> Result<bool, AllocError>
+    requires prepared { IsPrepared ring.old.settings.rate (length ring.old.ids) (P.fibres plant.old) }
+    requires whole { ring.old.broken ≡ false }
+{
+    let first = settles(ring, plant, 128, IDLE)? && all_show(ring, 1);
+    let second = is_ordered(ring, plant, Command::Manual, 256, MANUAL, 3)?;
+    let third = is_ordered(ring, plant, Command::Forced, 384, FORCED, 3)?;
+    let fourth = is_ordered(ring, plant, Command::Clear, 512, IDLE, 1)?;
+    Ok(first && second && third && fourth)
+}
+
+fn full<P: Plant>(alloc: Global, plant: &mut P) -> Result<Ring, AllocError>
+    requires { HasNoFibres (P.fibres plant.old) }
+    ensures prepared { IfOk result (λ ring. IsPrepared ring.settings.rate (length ring.ids) (P.fibres plant.new)) }
+    ensures whole { IfOk result (λ ring. ring.broken ≡ false) }
+{
+    let asked = full_ring(alloc)?;
+    laid_as(alloc, plant, BEFORE_WORKS, &[1, 2, 3, 4], &asked)
+}
+
 fn before_works<P: Plant>(alloc: Global, plant: &mut P) -> Result<bool, AllocError>
     requires { HasNoFibres (P.fibres plant.old) }
 {
-    let asked = full_ring(alloc)?;
-    let mut ring = laid_as(alloc, plant, BEFORE_WORKS, &[1, 2, 3, 4], &asked)?;
-    let first = settles(&mut ring, plant, 128, IDLE)? && all_show(&ring, 1);
-    let second = is_ordered(&mut ring, plant, Command::Manual, 256, MANUAL, 3)?;
-    let third = is_ordered(&mut ring, plant, Command::Forced, 384, FORCED, 3)?;
-    let fourth = is_ordered(&mut ring, plant, Command::Clear, 512, IDLE, 1)?;
-    Ok(first && second && third && fourth)
+    let mut ring = full(alloc, plant)?;
+    is_switched(&mut ring, plant)
 }
 
 #[test]

@@ -294,6 +294,27 @@ struct Tally {
     under: u64,
 }
 
+// Runs so many rounds: in how many of them all was as it is to be.
+fn count_right<P: Plant>(
+    ring: &mut Ring,
+    plant: &mut P,
+    a: &mut Far<'_>,
+    b: &mut Far<'_>,
+    rounds: u64,
+) -> Result<u64, AllocError>
+    requires prepared { IsPrepared ring.old.settings.rate (length ring.old.ids) (P.fibres plant.old) }
+    requires whole { ring.old.broken ≡ false }
+{
+    let mut chance = Chance { state: 1 };
+    let mut right = 0u64;
+    'turns: for _turn in 0..rounds {
+        if go(ring, plant, a, b, &mut chance)? {
+            right = right.saturating_add(1);
+        }
+    }
+    Ok(right)
+}
+
 // Runs so many rounds of a new ring of two nodes with one circuit.
 fn tallied<P: Plant>(
     alloc: Global,
@@ -308,16 +329,10 @@ fn tallied<P: Plant>(
     if from_a.text.is_empty() || from_b.text.is_empty() {
         return Err(AllocError);
     }
-    let mut ring = laid_with(alloc, plant, Rate::Four, &[1, 2], &[asked])?;
     let mut a = new_far(alloc, PORT_A, from_a, rounds)?;
     let mut b = new_far(alloc, PORT_B, from_b, rounds)?;
-    let mut chance = Chance { state: 1 };
-    let mut right = 0u64;
-    'turns: for _turn in 0..rounds {
-        if go(&mut ring, plant, &mut a, &mut b, &mut chance)? {
-            right = right.saturating_add(1);
-        }
-    }
+    let mut ring = laid_with(alloc, plant, Rate::Four, &[1, 2], &[asked])?;
+    let right = count_right(&mut ring, plant, &mut a, &mut b, rounds)?;
     Ok(Tally {
         right,
         raised: a.slips.raised.saturating_add(b.slips.raised),
@@ -408,35 +423,35 @@ fn is_owed(
     )
 }
 
-// Whether a row comes out, in a ring of four nodes with a circuit over two spans.
+// Whether a row comes out in a new ring.
+fn comes_out<P: Plant>(
+    alloc: Global,
+    ring: &mut Ring,
+    plant: &mut P,
+    row: Row,
+) -> Result<bool, AllocError>
+    requires prepared { IsPrepared ring.old.settings.rate (length ring.old.ids) (P.fibres plant.old) }
+    requires whole { ring.old.broken ≡ false }
+{
+    let a = slip_both(ring, PORT_A, row.a);
+    let b = slip_both(ring, PORT_B, row.b);
+    if !cut_if(ring, plant, row.is_cut) {
+        return Ok(false);
+    }
+    settle(ring, plant)?;
+    let round = 128 - row.hops.min(128);
+    let (from_a, from_b) = (sender_at(&TWO_SPANS, End::A), sender_at(&TWO_SPANS, End::B));
+    let at_a = is_owed(alloc, ring, PORT_A, from_b, row.b, round)?;
+    let at_b = is_owed(alloc, ring, PORT_B, from_a, row.a, round)?;
+    Ok(a && b && at_a && at_b)
+}
+
+// The same of a ring of four nodes with a circuit over two spans.
 fn row_comes_out<P: Plant>(alloc: Global, plant: &mut P, row: Row) -> Result<bool, AllocError>
     requires { HasNoFibres (P.fibres plant.old) }
 {
     let mut ring = laid_with(alloc, plant, Rate::Four, &[1, 2, 3, 4], &[TWO_SPANS])?;
-    let a = slip_both(&mut ring, PORT_A, row.a);
-    let b = slip_both(&mut ring, PORT_B, row.b);
-    if !cut_if(&ring, plant, row.is_cut) {
-        return Ok(false);
-    }
-    settle(&mut ring, plant)?;
-    let round = 128 - row.hops.min(128);
-    let at_a = is_owed(
-        alloc,
-        &ring,
-        PORT_A,
-        sender_at(&TWO_SPANS, End::B),
-        row.b,
-        round,
-    )?;
-    let at_b = is_owed(
-        alloc,
-        &ring,
-        PORT_B,
-        sender_at(&TWO_SPANS, End::A),
-        row.a,
-        round,
-    )?;
-    Ok(a && b && at_a && at_b)
+    comes_out(alloc, &mut ring, plant, row)
 }
 
 const TWO_SPANS: Asked<'static> = Asked { to: 3, ..ONE_SPAN };

@@ -46,10 +46,6 @@ use Rattle.sdh_rounds.specs.Runs as any_run
 
 -- ---- what a round leaves
 
-ids_kept : (w : World) → (round w).ring.ids ≡ w.ring.ids
-unfolding any_round.round any_round.round_with
-ids_kept w = refl
-
 settings_kept : (w : World) → (round w).ring.settings ≡ w.ring.settings
 unfolding any_round.round any_round.round_with
 settings_kept w = refl

@@ -63,9 +63,6 @@ side_commanded s h rounds West East c n k = k
 side_commanded s h rounds East West c n k = k
 
 module _ (s : Settings) (ids : List ℕ) (hist : ℕ → Side → SideHistory) where
-  Goes : World → Type 0
-  Goes w = Follows s ids hist w
-
   -- a change that leaves all sides of a node
   follows_left : (f : Node → Node) → LeavesSides f → (p : ℕ) (w : World) → IsWhole (with_node p f w) → Follows s ids hist w → Follows s ids hist (with_node p f w)
   follows_left f leaves p w whole k =

@@ -80,6 +80,7 @@ passes_relays s East h = relay_by (chosen s East) (pass_by (switches s West) (sw
 pub record Relays (s : Scene) (d : Side) : Type 0 where
   pub k : K
   pub says : word s d ≡ k
+  pub relayed_is : relayed s d ≡ Some k
   pub heard : long s (opposite d) ≡ Some k
 
 pub relays : (s : Scene) (d : Side) → chosen s d ≡ relay → Relays s d
@@ -93,7 +94,7 @@ relays s d e = by (relayed s d) refl
       where
         other : relay ≡ rest → ⊥
         other z = cc
-    by (Some k) h = record { k = k; says = word_relay s d k e h; heard = (relayed_from s d k h).is_long }
+    by (Some k) h = record { k = k; says = word_relay s d k e h; relayed_is = h; heard = (relayed_from s d k h).is_long }
 
 -- ---- the node that switches one side says so the long way round
 

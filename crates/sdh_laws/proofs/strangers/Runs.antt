@@ -1,7 +1,6 @@
 -- The laws over rounds that any plant ran, over settle steps, and over stretches from a new ring on.
-use Rattle.std.proofs.Common.{◌≡◌, ℕ, zero, suc, ◌+◌, ◌-◌, ◌<◌, ◌≤◌, List, [], ◌∷◌, length, Some, refl, ap, sym, ◌∙◌, subst, arith, inl, inr}
+use Rattle.std.proofs.Common.{◌≡◌, ℕ, zero, suc, ◌+◌, ◌-◌, ◌*◌, ◌<◌, ◌≤◌, List, [], ◌∷◌, ◌++◌, length, Some, refl, ap, sym, ◌∙◌, subst, arith, inl}
 use Rattle.std.specs.Prelude.{◌/◌, slice_get}
-use Rattle.std.proofs.lemmas.Bool.{cases_lt}
 use Rattle.sdh_terms.specs.Rates.{n_of}
 use Rattle.sdh_ringmap.specs.Ids.{AreIds}
 use Rattle.sdh_circuits.specs.Provisioned.{Provisioned}
@@ -13,25 +12,30 @@ use Rattle.sdh_request.specs.declared.settings.Settings.{Settings}
 use Rattle.sdh_node.specs.Stations.{adm}
 use Rattle.sdh_world.specs.Rounds.{World, round}
 use Rattle.sdh_world.specs.Runs.{run}
-use Rattle.sdh_promise.specs.Changes.{Change, Stretch, rounds_in}
-use Rattle.sdh_world.specs.Changes.{changed, all_changed, after_stretch, new_world}
+use Rattle.sdh_promise.specs.Changes.{Stretch, rounds_in}
+use Rattle.sdh_world.specs.Changes.{all_changed, after_stretches, new_world}
 use Rattle.sdh_world.specs.Clocks.{clocks_by, clock_in}
 use Rattle.sdh_world.specs.Clocks.{HasPortIn, clock_at}
-use Rattle.sdh_world.specs.Laws.{AreChangesOf, MayHappen}
+use Rattle.sdh_world.specs.Laws.{MayHappen}
 use Rattle.sdh_world.specs.Sides.{world_in}
 use Rattle.sdh_world.proofs.Clocks.{clocks_go_on, goes_run}
 use Rattle.sdh_rounds.specs.Runs as any_run
 use Rattle.sdh_rounds.proofs.Laws.{known_rounds_are, known_steps}
-use Rattle.sdh_laws.proofs.hearing.Staying.{left_run, left_in, world_low, world_high, world_later}
+use Rattle.sdh_laws.proofs.hearing.Staying.{left_all, left_run, left_in, left_stretches}
+use Rattle.sdh_laws.proofs.hearing.Changes.{whole_all}
+use Rattle.sdh_laws.proofs.hearing.Requests.{whole_stretches}
+use Rattle.sdh_laws.specs.Hearing.Laws.{IsWhole}
 use Rattle.sdh_laws.specs.Carrying.Windows.{Layout, layout_of, slots_of, HasCircuits}
 use Rattle.sdh_laws.proofs.carrying.Ways.{layout_run}
-use Rattle.sdh_laws.proofs.carrying.Settles.{layout_all}
+use Rattle.sdh_laws.proofs.carrying.Settles.{layout_all, layout_stretches}
 use Rattle.sdh_laws.proofs.carrying.Owed.{port_is_there}
 use Rattle.sdh_routes.proofs.Ways.{end_inside}
 use Rattle.sdh_laws.specs.Strangers.Owners.{port_named, NoneMeetsAStranger, AreClocksOf, AreClocksBetween}
 use Rattle.sdh_laws.specs.Strangers.Vouched.{IsVouched}
-use Rattle.sdh_laws.specs.Strangers.Laws.{HoldNone, NoneHolds, KeepsStrangersOutInAll, VouchedRingsStay, RoundsKeepStrangersOut, StepsKeepStrangersOut, NoPortEverMeetsAStranger}
+use Rattle.sdh_laws.specs.Strangers.Laws.{NoneHolds, KeepsStrangersOutInAll, VouchedRingsStay, RoundsKeepStrangersOut, StepsKeepStrangersOut, NoPortEverMeetsAStranger, RingsComeToBeVouchedFor, NoPortMeetsAStrangerForLong}
 use Rattle.sdh_laws.proofs.strangers.Vouched.{vouched_changed, vouched_new, vouched_after, none_meets}
+use Rattle.sdh_laws.proofs.strangers.Keeping.{layout_in, kept_run, kept_in, rounds_together, happens_in_parts, world_behind}
+use Rattle.sdh_laws.proofs.strangers.Clearing.{clearing_in, cleared}
 
 pub vouched_rings_stay : VouchedRingsStay
 vouched_rings_stay = record {
@@ -46,38 +50,15 @@ rounds_keep_strangers_out w after form r clocks k tells =
 
 -- ---- stretches
 
-layout_in : (rest : List Stretch) (w : World) (t : ℕ) → layout_of (world_in rest w t) ≡ layout_of w
-layout_in [] w t = refl
-layout_in (x ∷ rest) w t = elim (cases_lt t x.rounds) [
-  | inl low ↦ ap layout_of (world_low x rest w t low) ∙ layout_run (all_changed x.changes w) t ∙ layout_all x.changes w
-  | inr high ↦ ap layout_of (world_high x rest w t high) ∙ layout_in rest (after_stretch x w) (t - x.rounds) ∙ layout_run (all_changed x.changes w) x.rounds ∙ layout_all x.changes w
-]
-
 module _ (clocks : PortId → ℕ → Clock) where
-  vouched_all : (xs : List Change) (w : World) → AreChangesOf w xs → HoldNone xs → IsVouched clocks w → IsVouched clocks (all_changed xs w)
-  vouched_all [] w may none k = k
-  vouched_all (c ∷ xs) w may none k = vouched_all xs (changed c w) may.1 none.1 (vouched_changed clocks c w may.0 none.0 k)
-
   runs_vouched : (j : ℕ) (w : World) → HasCircuits (layout_of w) → IsVouched clocks w → ((i : ℕ) → i < j → AreClocksOf clocks (run i w).ring) → IsVouched clocks (run j w)
-  unfolding any_run.run
-  runs_vouched zero w form k tells = k
-  runs_vouched (suc j) w form k tells =
-      vouched_after clocks (run j w) (subst HasCircuits (sym (layout_run w j)) form) (runs_vouched j w form k (λ i h. tells i (omega arith))) (tells j (omega arith))
+  runs_vouched j w form k tells =
+      kept_run clocks (λ i v. IsVouched clocks v) (λ i c v may none x. vouched_changed clocks c v may none x) (λ i v f x told. vouched_after clocks v f x told) j 0 w form k tells
 
   vouched_in : (rest : List Stretch) (w : World) (t : ℕ) → HasCircuits (layout_of w) → IsVouched clocks w → MayHappen w rest → NoneHolds rest → ((j : ℕ) → j < rounds_in rest → AreClocksOf clocks (world_in rest w j).ring) → t ≤ rounds_in rest
       → IsVouched clocks (world_in rest w t)
-  vouched_in [] w t form k may none tells h = k
-  vouched_in (x ∷ rest) w t form k may none tells h =
-      let v = all_changed x.changes w in
-      let begin : IsVouched clocks v = vouched_all x.changes w may.0 none.0 k in
-      let form_v : HasCircuits (layout_of v) = subst HasCircuits (sym (layout_all x.changes w)) form in
-      let within : (j : ℕ) → j < x.rounds → AreClocksOf clocks (run j v).ring = λ j low. subst (λ (u : World). AreClocksOf clocks u.ring) (world_low x rest w j low) (tells j (omega arith)) in
-      elim (cases_lt t x.rounds) [
-        | inl low ↦ subst (IsVouched clocks) (sym (world_low x rest w t low)) (runs_vouched t v form_v begin (λ j less. within j (omega arith)))
-        | inr high ↦ subst (IsVouched clocks) (sym (world_high x rest w t high))
-            (vouched_in rest (after_stretch x w) (t - x.rounds) (subst HasCircuits (sym (layout_run v x.rounds)) form_v) (runs_vouched x.rounds v form_v begin within) may.1 none.1
-            (λ j low. subst (λ (u : World). AreClocksOf clocks u.ring) (world_later x rest w j) (tells (x.rounds + j) (omega arith))) (omega arith))
-      ]
+  vouched_in rest w t form k may none tells h =
+      kept_in clocks (λ i v. IsVouched clocks v) (λ i c v may none x. vouched_changed clocks c v may none x) (λ i v f x told. vouched_after clocks v f x told) rest 0 w t form k may none tells h
 
 -- ---- rounds alone
 
@@ -117,10 +98,16 @@ steps_keep_strangers_out = record {
       subst (λ (v : World). AreClocksBetween clocks w v → IsVouched clocks v × ((j : ℕ) → 1 ≤ j → w.ring.rounds + j ≤ v.ring.rounds → NoneMeetsAStranger clocks (run j w).ring)) (sym n.1) (run_keeps w form limit clocks k));
 }
 
+-- ---- from every whole ring on
+
+-- from any ring in its place, whatever it carried, once no controller was held for long enough
+pub rings_come_to_be_vouched_for : RingsComeToBeVouchedFor
+rings_come_to_be_vouched_for most w ss clocks whole form held may none tells t long few = cleared clocks most (world_in ss w t) (0 + t) (clearing_in clocks most ss w t whole form held may none tells few)
+    (subst (λ (n : ℕ). most + n * (n + 1) ≤ 0 + t) (ap (λ ids. length ids) (sym (left_in ss w t few).ids)) (omega arith))
+
 -- ---- from a new ring on
 
-module _ (s : Settings) (ids : List ℕ) (circuits : Provisioning) (f : Fibres) (ss : List Stretch) (are : AreIds ids) (honest : IsHonest f) (happen : MayHappen (new_world s ids circuits f) ss) (none : NoneHolds ss)
-    (ring : AreCircuits (length ids) (n_of s.rate / 2) circuits.circuits) where
+module _ (s : Settings) (ids : List ℕ) (circuits : Provisioning) (f : Fibres) (ss : List Stretch) (are : AreIds ids) (honest : IsHonest f) (ring : AreCircuits (length ids) (n_of s.rate / 2) circuits.circuits) where
   abbrev w : World
   w = new_world s ids circuits f
 
@@ -145,8 +132,47 @@ module _ (s : Settings) (ids : List ℕ) (circuits : Provisioning) (f : Fibres) 
       ∙ ap (λ k. clock_in q ss k t) (clocks_go_on.new s ids circuits q has)
       ∙ ap (clocks q) (sym (ran_at t (omega arith)))
 
-  pub no_stranger : (t : ℕ) → t < rounds_in ss → NoneMeetsAStranger clocks (round (world_in ss w t)).ring
-  no_stranger t h = none_meets clocks (world_in ss w t) (subst HasCircuits (sym (layout_in ss w t)) ring) (vouched_in clocks ss w t ring begins happen none tells (omega arith))
+  none_met : (t : ℕ) → t < rounds_in ss → IsVouched clocks (world_in ss w t) → NoneMeetsAStranger clocks (round (world_in ss w t)).ring
+  none_met t h k = none_meets clocks (world_in ss w t) (subst HasCircuits (sym (layout_in ss w t)) ring) k
+
+  pub no_stranger : MayHappen w ss → NoneHolds ss → (t : ℕ) → t < rounds_in ss → NoneMeetsAStranger clocks (round (world_in ss w t)).ring
+  no_stranger happen none t h = none_met t h (vouched_in clocks ss w t ring begins happen none tells (omega arith))
+
+  -- behind stretches in which controllers may be held
+  module _ (earlier : List Stretch) (last : Stretch) (free : List Stretch) (is : ss ≡ earlier ++ last ∷ free) (happen : MayHappen w ss) (none : NoneHolds free) where
+    abbrev u : World
+    u = after_stretches earlier w
+
+    -- from the last changes that may hold a controller on
+    abbrev v : World
+    v = all_changed last.changes u
+
+    abbrev since : List Stretch
+    since = record { changes = []; rounds = last.rounds } ∷ free
+
+    there : (t : ℕ) → world_in ss w (rounds_in earlier + t) ≡ world_in since v t
+    there t = ap (λ xs. world_in xs w (rounds_in earlier + t)) is ∙ world_behind earlier (last ∷ free) w t
+
+    many : rounds_in ss ≡ rounds_in earlier + rounds_in since
+    many = ap rounds_in is ∙ rounds_together earlier (last ∷ free)
+
+    parted : MayHappen w earlier × MayHappen u (last ∷ free)
+    parted = happens_in_parts earlier (last ∷ free) w (subst (MayHappen w) is happen)
+
+    whole_then : IsWhole v
+    whole_then = whole_all last.changes u parted.1.0 (whole_stretches earlier w parted.0 begins.whole)
+
+    pub no_stranger_behind : (t : ℕ) → 100 + length ids * (length ids + 1) ≤ t → t < rounds_in since → NoneMeetsAStranger clocks (round (world_in ss w (rounds_in earlier + t))).ring
+    no_stranger_behind t long low =
+        let same : v.ring.ids ≡ ids = (left_all last.changes u).ids ∙ (left_stretches earlier w).ids in
+        let told : (j : ℕ) → j < rounds_in since → AreClocksOf clocks (world_in since v j).ring = λ j h. subst (λ (x : World). AreClocksOf clocks x.ring) (there j) (tells (rounds_in earlier + j) (omega (arith, many))) in
+        let form : HasCircuits (layout_of v) = subst HasCircuits (sym (layout_all last.changes u ∙ layout_stretches earlier w)) ring in
+        none_met (rounds_in earlier + t) (omega (arith, many))
+        (subst (IsVouched clocks) (sym (there t))
+        (rings_come_to_be_vouched_for 100 v since clocks whole_then form whole_then.paired.held (tt, parted.1.1) (tt, none) told t (subst (λ (xs : List ℕ). 100 + length xs * (length xs + 1) ≤ t) (sym same) long) (omega arith)))
 
 pub no_port_ever_meets_a_stranger : NoPortEverMeetsAStranger
-no_port_ever_meets_a_stranger s ids circuits f ss are honest happen none ring t h = no_stranger s ids circuits f ss are honest happen none ring t h
+no_port_ever_meets_a_stranger s ids circuits f ss are honest happen none ring t h = no_stranger s ids circuits f ss are honest ring happen none t h
+
+pub no_port_meets_a_stranger_for_long : NoPortMeetsAStrangerForLong
+no_port_meets_a_stranger_for_long s ids circuits f earlier last free are honest happen none ring t long low = no_stranger_behind s ids circuits f (earlier ++ last ∷ free) are honest ring earlier last free refl happen none t long low

@@ -103,9 +103,6 @@ module _ (clock : ℕ → Clock) (source : IsSource clock) where
     pub value_is : k < t → r.value ≡ V (t - 1 - k)
     pub since_is : k < t → 3 ≤ r.since + (clock (t - k)).rest
 
-  next_value : (r : ℕ) → (clock (r + 1)).value ≡ V r
-  next_value r = source.value r
-
   small_value : (r : ℕ) → V r ≤ 782
   small_value r = subst (λ x. x ≤ 782) (source.value r) (source.small (r + 1))
 

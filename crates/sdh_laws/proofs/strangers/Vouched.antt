@@ -51,9 +51,10 @@ use Rattle.sdh_routes.proofs.Ways.{end_inside}
 use Rattle.sdh_laws.specs.Strangers.Owners.{port_named, other_port, put_by, HasBytesOf, Holds, nobodys, customers, MeetsNoStranger, ais_comes, bytes_come, NoneMeetsAStranger, AreClocksOf}
 use Rattle.sdh_laws.specs.Strangers.Vouched.{streams_to, spoken_of, HoldsAtMost, au_in, IsVouched}
 use Rattle.sdh_laws.specs.Strangers.Laws.{HoldsNone}
-use Rattle.sdh_laws.proofs.strangers.Content.{IsCarried, Fine}
+use Rattle.sdh_laws.proofs.strangers.Content.{IsCarried, Bears, Fine}
+use Rattle.sdh_laws.proofs.strangers.Lags.{spoken_lag, AreLags}
 use Rattle.sdh_laws.proofs.strangers.Nodes.{at_port, sent_to}
-use Rattle.sdh_laws.proofs.strangers.Worlds.{Vouches, AddOwn, vouched_round, delivers_fine}
+use Rattle.sdh_laws.proofs.strangers.Worlds.{Vouches, WorksOn, SpeaksOf, vouched_round, delivers_fine}
 
 -- ---- what an AU-4 holds is carried
 
@@ -77,39 +78,25 @@ module _ (cs : List Provisioned) (clocks : PortId → ℕ → Clock) where
   passed_holds t (Some q) f w a (nobodys h) = nobodys (bytes_with f w ones a h)
   passed_holds t (Some q) f w a (customers c r get low h) = customers c r get low (bytes_with f w (put_by (customer_at c q.end) (clocks q r)) a h)
 
-  carried_holds : (t : ℕ) → IsCarried (HoldsAtMost cs clocks t)
+  pub carried_holds : (t : ℕ) → IsCarried (HoldsAtMost cs clocks t)
   carried_holds t = record { blank = blank_holds t; passes = passed_holds t }
 
-  holds_more : (t : ℕ) (q : Option PortId) (a : Au) → HoldsAtMost cs clocks t q a → HoldsAtMost cs clocks (t + 1) q a
+  pub holds_more : (t : ℕ) (q : Option PortId) (a : Au) → HoldsAtMost cs clocks t q a → HoldsAtMost cs clocks (t + 1) q a
   holds_more t None a h = h
   holds_more t (Some q) a (nobodys h) = nobodys h
   holds_more t (Some q) a (customers c r get low h) = customers c r get (omega arith) h
 
 -- ---- changes
 
-module _ (clocks : PortId → ℕ → Clock) where
-  -- by node: what is asked of a node's last words
-  abbrev Speaks : World → ℕ → Node → Type 0
-  Speaks w p n = (m : ℕ) (d : Side) (line : List ℕ) → carried_on w.fibres (fibre p d) ≡ Some line → 1 ≤ m → m ≤ slots_of (layout_of w)
-      → HoldsAtMost w.ring.circuits.circuits clocks w.ring.rounds (streams_to (opposite d) (spoken_of w.ring.ids w.ring.circuits.circuits m (opposite d) (word_of d n))) (au_in w (slots_of (layout_of w) + m) line)
-
-  abbrev Works : World → ℕ → Node → Type 0
-  Works w p n = (m : ℕ) (d : Side) (line : List ℕ) → carried_on w.fibres (fibre p d) ≡ Some line → 1 ≤ m → m ≤ slots_of (layout_of w)
-      → HoldsAtMost w.ring.circuits.circuits clocks w.ring.rounds (streams_to d (circuits_at (length w.ring.ids) w.ring.circuits.circuits p m d)) (au_in w m line)
-
-  -- a change of one node that leaves its words, and holds it for no turn
-  vouched_node : (f : Node → Node) → ((d : Side) (n : Node) → word_of d (f n) ≡ word_of d n) → ((n : Node) → n.held ≡ 0 → (f n).held ≡ 0) → (p : ℕ) (w : World) → IsWhole (with_node p f w) → IsVouched clocks w → IsVouched clocks (with_node p f w)
-  vouched_node f leaves lets p w whole k =
-      let works : AtEach (Works w) (at_place p f w.ring.nodes) = each_at_place (Works w) f (λ q n x. x) p w.ring.nodes (λ q lt m d line there low high. k.working q m d line lt there low high) in
-      let speaks : AtEach (Speaks w) (at_place p f w.ring.nodes) = each_at_place (Speaks w) f (λ q n x m d line there low high.
-      subst (λ j. HoldsAtMost w.ring.circuits.circuits clocks w.ring.rounds (streams_to (opposite d) (spoken_of w.ring.ids w.ring.circuits.circuits m (opposite d) j)) (au_in w (slots_of (layout_of w) + m) line)) (sym (leaves d n)) (x m d line there low high))
-      p w.ring.nodes (λ q lt m d line there low high. k.protection q m d line lt there low high) in
-      record {
-        whole = whole;
-        free = each_at_place (λ q n. n.held ≡ 0) f (λ q n h. lets n h) p w.ring.nodes k.free;
-        working = λ q m d line lt there low high. works q lt m d line there low high;
-        protection = λ q m d line lt there low high. speaks q lt m d line there low high;
-      }
+module _ (Own : ℕ → Option PortId → Au → Type 0) where
+  -- a change of one node that leaves its words
+  vouches_node : (f : Node → Node) → ((d : Side) (n : Node) → word_of d (f n) ≡ word_of d n) → (p : ℕ) (w : World) → Vouches Own w → Vouches Own (with_node p f w)
+  vouches_node f leaves p w k = record {
+    working = each_at_place (WorksOn Own w) f (λ q n x. x) p w.ring.nodes k.working;
+    protection = each_at_place (SpeaksOf Own w) f (λ q n x m d line there low high.
+        subst (λ j. Bears (Own (spoken_lag w.ring.ids w.ring.circuits.circuits m (opposite d) j q)) (spoken_of w.ring.ids w.ring.circuits.circuits m (opposite d) j) (opposite d) (au_in w (slots_of (layout_of w) + m) line))
+        (sym (leaves d n)) (x m d line there low high)) p w.ring.nodes k.protection;
+  }
 
   word_commanded : (d e : Side) (c : Command) (n : Node) → word_of e (at_receiving d (commanded_by c) n) ≡ word_of e n
   word_commanded d e c n = ap (λ x. x.word) (sending_commanded d e c n)
@@ -117,17 +104,55 @@ module _ (clocks : PortId → ℕ → Clock) where
   word_left : (f : Node → Node) → LeavesSides f → (e : Side) (n : Node) → word_of e (f n) ≡ word_of e n
   word_left f leaves e n = ap (λ x. x.word) (leaves.sending e n)
 
-  free_commanded : (d : Side) (c : Command) (n : Node) → n.held ≡ 0 → (at_receiving d (commanded_by c) n).held ≡ 0
-  free_commanded d c n h = h
+  -- no change touches a frame or a word
+  pub vouches_changed : (c : Change) (w : World) → Vouches Own w → Vouches Own (changed c w)
+  unfolding changed
+  vouches_changed (Fibre p d condition) w k = record { working = k.working; protection = k.protection }
+  vouches_changed (Order p d c) w k = vouches_node (at_receiving d (commanded_by c)) (λ e n. word_commanded d e c n) p w k
+  vouches_changed (Hold p turns) w k = vouches_node (held_for turns) (word_left (held_for turns) (held_leaves turns)) p w k
+  vouches_changed (Slip id turn count) w k = vouches_node (slips_at id turn count) (word_left (slips_at id turn count) (slips_leave id turn count)) (place_of_port w.ring id) w k
+  vouches_changed (Now t) w k = record { working = k.working; protection = k.protection }
+
+-- a change that holds no controller leaves each node as few turns to miss
+pub held_changed : (most : ℕ) (c : Change) (w : World) → HoldsNone c → AtEach (λ p n. n.held ≤ most) w.ring.nodes → AtEach (λ p n. n.held ≤ most) (changed c w).ring.nodes
+unfolding changed
+held_changed most (Fibre p d condition) w none k = k
+held_changed most (Order p d c) w none k = each_at_place (λ q n. n.held ≤ most) (at_receiving d (commanded_by c)) (λ q n h. h) p w.ring.nodes k
+held_changed most (Hold p turns) w none k = each_at_place (λ q n. n.held ≤ most) (held_for turns) (λ q n h. omega (arith, none)) p w.ring.nodes k
+held_changed most (Slip id turn count) w none k = each_at_place (λ q n. n.held ≤ most) (slips_at id turn count) (λ q n h. h) (place_of_port w.ring id) w.ring.nodes k
+held_changed most (Now t) w none k = k
+
+module _ (clocks : PortId → ℕ → Clock) where
+  -- in a ring that is vouched for it doesn't matter how far AU-4s lag
+  abbrev pub Anyhow : World → ℕ → Option PortId → Au → Type 0
+  Anyhow w i = HoldsAtMost w.ring.circuits.circuits clocks w.ring.rounds
+
+  pub vouches_of : (w : World) → IsVouched clocks w → Vouches (Anyhow w) w
+  vouches_of w k = record { working = λ p h m d line there low high. k.working p m d line h there low high; protection = λ p h m d line there low high. k.protection p m d line h there low high }
+
+  pub vouched_by : (w : World) → IsWhole w → AtEach (λ p n. n.held ≤ 0) w.ring.nodes → Vouches (Anyhow w) w → IsVouched clocks w
+  vouched_by w whole free k = record {
+    whole = whole;
+    free = λ p h. (let few = free p h in omega arith);
+    working = λ p m d line h there low high. k.working p h m d line there low high;
+    protection = λ p m d line h there low high. k.protection p h m d line there low high;
+  }
+
+  free_of : (w : World) → IsVouched clocks w → AtEach (λ p n. n.held ≤ 0) w.ring.nodes
+  free_of w k p h = (let none = k.free p h in omega arith)
 
   pub vouched_changed : (c : Change) (w : World) → IsChangeOf w c → HoldsNone c → IsVouched clocks w → IsVouched clocks (changed c w)
   unfolding changed
-  vouched_changed (Fibre p d condition) w may none k = record { whole = whole_changed (Fibre p d condition) w may k.whole; free = k.free; working = k.working; protection = k.protection }
-  vouched_changed (Order p d c) w may none k = vouched_node (at_receiving d (commanded_by c)) (λ e n. word_commanded d e c n) (free_commanded d c) p w (whole_changed (Order p d c) w may k.whole) k
-  vouched_changed (Hold p turns) w may none k = vouched_node (held_for turns) (word_left (held_for turns) (held_leaves turns)) (λ n h. none) p w (whole_changed (Hold p turns) w may k.whole) k
+  vouched_changed (Fibre p d condition) w may none k =
+      vouched_by (changed (Fibre p d condition) w) (whole_changed (Fibre p d condition) w may k.whole) (held_changed 0 (Fibre p d condition) w none (free_of w k)) (vouches_changed (Anyhow w) (Fibre p d condition) w (vouches_of w k))
+  vouched_changed (Order p d c) w may none k =
+      vouched_by (changed (Order p d c) w) (whole_changed (Order p d c) w may k.whole) (held_changed 0 (Order p d c) w none (free_of w k)) (vouches_changed (Anyhow w) (Order p d c) w (vouches_of w k))
+  vouched_changed (Hold p turns) w may none k =
+      vouched_by (changed (Hold p turns) w) (whole_changed (Hold p turns) w may k.whole) (held_changed 0 (Hold p turns) w none (free_of w k)) (vouches_changed (Anyhow w) (Hold p turns) w (vouches_of w k))
   vouched_changed (Slip id turn count) w may none k =
-      vouched_node (slips_at id turn count) (word_left (slips_at id turn count) (slips_leave id turn count)) (λ n h. h) (place_of_port w.ring id) w (whole_changed (Slip id turn count) w may k.whole) k
-  vouched_changed (Now t) w may none k = record { whole = whole_changed (Now t) w may k.whole; free = k.free; working = k.working; protection = k.protection }
+      vouched_by (changed (Slip id turn count) w) (whole_changed (Slip id turn count) w may k.whole) (held_changed 0 (Slip id turn count) w none (free_of w k)) (vouches_changed (Anyhow w) (Slip id turn count) w (vouches_of w k))
+  vouched_changed (Now t) w may none k =
+      vouched_by (changed (Now t) w) (whole_changed (Now t) w may k.whole) (held_changed 0 (Now t) w none (free_of w k)) (vouches_changed (Anyhow w) (Now t) w (vouches_of w k))
 
   -- ---- a new ring
 
@@ -155,6 +180,31 @@ module _ (clocks : PortId → ℕ → Clock) where
 
 -- ---- a round
 
+pub none_held : (w : World) → AtEach (λ p n. n.held ≤ 0) w.ring.nodes → AtEach (λ p n. is_held n ≡ false) w.ring.nodes
+none_held w k p h = (let few = k p h in ap (λ x. nat_le 1 x) (let z : (node_at w.ring.nodes p).held ≡ 0 = omega arith in z))
+
+-- a round takes each node one of the turns that it misses
+pub held_after : (w : World) → IsWhole w → (most : ℕ) → AtEach (λ p n. n.held ≤ most) w.ring.nodes → AtEach (λ p n. n.held ≤ most - 1) (round w).ring.nodes
+unfolding any_round.round any_round.round_with
+held_after w whole most k p h =
+    let low : p < length w.ring.nodes = omega (arith, length-after w) in
+    let left : (node_at (round w).ring.nodes p).held ≡ (node_at w.ring.nodes p).held - 1 = ap (λ (n : Node). n.held) (nodes_after w whole.placed p low) ∙ turns_left w.ring.moment (informed w p) in
+    let few = k p low in
+    omega arith
+
+-- what a port adds to its AU-4 is its own
+pub adds_own : (clocks : PortId → ℕ → Clock) (w : World) → IsWhole w → HasCircuits (layout_of w) → AreClocksOf clocks w.ring → (i : ℕ) (c : Provisioned) (e : End) → slice_get w.ring.circuits.circuits i ≡ Some c
+    → Holds w.ring.circuits.circuits clocks (w.ring.rounds + 1) (port_named i e) (added_by (node_at w.ring.nodes (port_at c e)).ports (port_named i e)).au
+adds_own clocks w whole form_is tells i c e get =
+    let inside = end_inside (length w.ring.ids) (slots_of (layout_of w)) w.ring.circuits.circuits form_is i c get e in
+    let t = w.ring.rounds in
+    let f = found w whole i c e get inside in
+    let clock : f.it.feed.clock ≡ clocks (port_named i e) t = sym (clock_is w whole i c e get inside) ∙ tells i c get e in
+    let added : (added_by (node_at w.ring.nodes (port_at c e)).ports (port_named i e)).au ≡ put_by (customer_at c e) (clocks (port_named i e) t) =
+    ap (λ o. (option_map_or (λ (t : Tributary). input_by (sent_in t.feed)) o no_input).au) f.is
+    ∙ λ j. (input_by (sent_in (record { port = f.sender j; clock = clock j }))).au in
+    customers c t get (omega arith) (own_bytes (put_by (customer_at c e) (clocks (port_named i e) t)) _ added)
+
 module _ (clocks : PortId → ℕ → Clock) (w : World) (form_is : HasCircuits (layout_of w)) (k : IsVouched clocks w) where
   abbrev cs : List Provisioned
   cs = w.ring.circuits.circuits
@@ -172,41 +222,31 @@ module _ (clocks : PortId → ℕ → Clock) (w : World) (form_is : HasCircuits 
   ring_is = on-ring size (slots_of (layout_of w)) cs form_is
 
   free_is : AtEach (λ p n. is_held n ≡ false) w.ring.nodes
-  free_is p h = ap (λ x. nat_le 1 x) (k.free p h)
+  free_is = none_held w (free_of clocks w k)
 
   inside : (i : ℕ) (c : Provisioned) → slice_get cs i ≡ Some c → (e : End) → port_at c e < size
   inside i c get e = end_inside size (slots_of (layout_of w)) cs form_is i c get e
 
-  now : Vouches (Own t) (carried_holds cs clocks t) w
-  now = record { working = k.working; protection = k.protection }
+  now : Vouches (λ i. Own t) w
+  now = vouches_of clocks w k
 
-  more : Vouches (Own (t + 1)) (carried_holds cs clocks (t + 1)) w
-  more = record {
-    working = λ p m d line lt there low high. holds_more cs clocks t _ _ (k.working p m d line lt there low high);
-    protection = λ p m d line lt there low high. holds_more cs clocks t _ _ (k.protection p m d line lt there low high);
-  }
+  lags_now : AreLags (λ i. Own t) (λ i. Own t)
+  lags_now = record { was = λ i. carried_holds cs clocks t; own = λ i. carried_holds cs clocks t; later = λ i j q a less x. x; longer = λ i j q a less x. x }
+
+  lags_more : AreLags (λ i. Own t) (λ i. Own (t + 1))
+  lags_more = record { was = λ i. carried_holds cs clocks t; own = λ i. carried_holds cs clocks (t + 1); later = λ i j q a less x. holds_more cs clocks t q a x; longer = λ i j q a less x. x }
 
   module _ (tells : AreClocksOf clocks w.ring) where
-    adds : AddOwn (Own (t + 1)) (carried_holds cs clocks (t + 1)) w
-    adds i c e get =
-        let f = found w k.whole i c e get (inside i c get e) in
-        let clock : f.it.feed.clock ≡ clocks (port_named i e) t = sym (clock_is w k.whole i c e get (inside i c get e)) ∙ tells i c get e in
-        let added : (added_by (node_at w.ring.nodes (port_at c e)).ports (port_named i e)).au ≡ put_by (customer_at c e) (clocks (port_named i e) t) =
-        ap (λ o. (option_map_or (λ (t : Tributary). input_by (sent_in t.feed)) o no_input).au) f.is
-        ∙ λ j. (input_by (sent_in (record { port = f.sender j; clock = clock j }))).au in
-        customers c t get (omega arith) (own_bytes (put_by (customer_at c e) (clocks (port_named i e) t)) _ added)
-
-    goes : Vouches (Own (t + 1)) (carried_holds cs clocks (t + 1)) (round w)
-    goes = vouched_round (Own (t + 1)) (carried_holds cs clocks (t + 1)) w k.whole ring_is free_is more adds
+    goes : Vouches (λ i. Own (t + 1)) (round w)
+    goes = vouched_round (λ i. Own t) (λ i. Own (t + 1)) lags_more w k.whole ring_is free_is now (λ j i c e get. adds_own clocks w k.whole form_is tells i c e get)
 
     pub vouched_after : IsVouched clocks (round w)
     unfolding any_round.round any_round.round_with
     vouched_after = record {
       whole = whole_round w k.whole;
-      free = λ p h. (let low : p < length w.ring.nodes = omega (arith, length-after w) in
-          ap (λ (n : Node). n.held) (nodes_after w k.whole.placed p low) ∙ turns_left w.ring.moment (informed w p) ∙ ap (λ x. x - 1) (k.free p low));
-      working = goes.working;
-      protection = goes.protection;
+      free = λ p h. (let few = held_after w k.whole 0 (free_of clocks w k) p h in omega arith);
+      working = λ p m d line h there low high. goes.working p h m d line there low high;
+      protection = λ p m d line h there low high. goes.protection p h m d line there low high;
     }
 
   -- ---- deliveries
@@ -252,7 +292,7 @@ module _ (clocks : PortId → ℕ → Clock) (w : World) (form_is : HasCircuits 
       outlet_there u hu i c e there hp ∙ ap (λ o. option_map_or (λ (t : Tributary). t.outlet) o silent) found_at.is
       ∙ found_arrives w k.whole i c e h st (state_in_turn w k.whole p h) found_at in
       let fine : Fine (Own t) (circuits_at size cs p m (inward e)) (opposite (inward e)) input =
-      delivers_fine (Own t) (carried_holds cs clocks t) w k.whole p h now m slot.from_1 slot.small ring_is (free_is p h) (inward e) in
+      delivers_fine (λ i. Own t) (λ i. Own t) lags_now w k.whole p h now m slot.from_1 slot.small ring_is (free_is p h) (inward e) in
       let own : Fine (Own t) (Some (entry i c)) (opposite (inward e)) input = subst (λ o. Fine (Own t) o (opposite (inward e)) input) (at_port size cs ring_is i c get e) fine in
       meets (port_named i e) input _ out (own_of i c e input own)
 

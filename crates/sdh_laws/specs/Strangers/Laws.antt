@@ -1,6 +1,6 @@
 -- No port ever delivers another customer's byte: the laws, for every round of a ring over honest fibres whose controllers miss
 -- no turn.
-use Rattle.std.specs.Prelude.{ℕ, ◌≡◌, ◌+◌, ◌<◌, ◌≤◌, ◌/◌, List, [], ◌∷◌, length}
+use Rattle.std.specs.Prelude.{ℕ, ◌≡◌, ◌+◌, ◌*◌, ◌<◌, ◌≤◌, ◌/◌, List, [], ◌∷◌, ◌++◌, length}
 use Rattle.sdh_terms.specs.Rates.{n_of}
 use Rattle.sdh_ringmap.specs.Ids.{AreIds}
 use Rattle.sdh_circuits.specs.Provisioning.{Provisioning, AreCircuits}
@@ -8,6 +8,7 @@ use Rattle.sdh_circuits.specs.declared.PortId.{PortId}
 use Rattle.sdh_payload.specs.Clock.{Clock}
 use Rattle.sdh_plant.specs.Fibres.{Fibres, IsHonest}
 use Rattle.sdh_request.specs.declared.settings.Settings.{Settings}
+use Rattle.sdh_world.specs.Held.{AtEach}
 use Rattle.sdh_world.specs.Rounds.{World, round}
 use Rattle.sdh_world.specs.Runs.{IsRound, run}
 use Rattle.sdh_world.specs.Quiet.{Settles, Unsettles}
@@ -17,6 +18,7 @@ use Rattle.sdh_world.specs.Changes.{changed, new_world}
 use Rattle.sdh_world.specs.Clocks.{clocks_by}
 use Rattle.sdh_world.specs.Laws.{IsChangeOf, MayHappen}
 use Rattle.sdh_world.specs.Sides.{world_in}
+use Rattle.sdh_laws.specs.Hearing.Laws.{IsWhole}
 use Rattle.sdh_laws.specs.Carrying.Windows.{layout_of, HasCircuits}
 use Rattle.sdh_laws.specs.Strangers.Owners.{NoneMeetsAStranger, AreClocksOf, AreClocksBetween}
 use Rattle.sdh_laws.specs.Strangers.Vouched.{IsVouched}
@@ -71,3 +73,20 @@ abbrev pub NoPortEverMeetsAStranger : Type 0
 NoPortEverMeetsAStranger = (s : Settings) (ids : List ℕ) (circuits : Provisioning) (f : Fibres) (ss : List Stretch) → AreIds ids → IsHonest f → MayHappen (new_world s ids circuits f) ss → NoneHolds ss
     → AreCircuits (length ids) (n_of s.rate / 2) circuits.circuits
     → (t : ℕ) → t < rounds_in ss → NoneMeetsAStranger (clocks_by circuits.circuits ss) (round (world_in ss (new_world s ids circuits f) t)).ring
+
+-- ---- from every whole ring on
+
+-- Whatever a ring carries, and whatever happens but for held controllers: it is vouched for once none misses its turns any more, which
+-- takes `most` rounds, and n + 1 rounds more for each of the up to n spans of an arc.
+abbrev pub RingsComeToBeVouchedFor : Type 0
+RingsComeToBeVouchedFor = (most : ℕ) (w : World) (ss : List Stretch) (clocks : PortId → ℕ → Clock) → IsWhole w → HasCircuits (layout_of w) → AtEach (λ p n. n.held ≤ most) w.ring.nodes → MayHappen w ss → NoneHolds ss
+    → ((j : ℕ) → j < rounds_in ss → AreClocksOf clocks (world_in ss w j).ring)
+    → (t : ℕ) → most + length w.ring.ids * (length w.ring.ids + 1) ≤ t → t ≤ rounds_in ss → IsVouched clocks (world_in ss w t)
+
+-- In each round that comes so long behind the changes at which a controller was last held, which misses at most 100 turns: those of the
+-- stretch `last`.
+abbrev pub NoPortMeetsAStrangerForLong : Type 0
+NoPortMeetsAStrangerForLong = (s : Settings) (ids : List ℕ) (circuits : Provisioning) (f : Fibres) (earlier : List Stretch) (last : Stretch) (free : List Stretch) → AreIds ids → IsHonest f
+    → MayHappen (new_world s ids circuits f) (earlier ++ last ∷ free) → NoneHolds free → AreCircuits (length ids) (n_of s.rate / 2) circuits.circuits
+    → (t : ℕ) → 100 + length ids * (length ids + 1) ≤ t → t < last.rounds + rounds_in free
+    → NoneMeetsAStranger (clocks_by circuits.circuits (earlier ++ last ∷ free)) (round (world_in (earlier ++ last ∷ free) (new_world s ids circuits f) (rounds_in earlier + t))).ring

@@ -1,18 +1,25 @@
 use Rattle.std.proofs.Common.{◌≡◌, Some, refl, sym, ◌∙◌, ap}
 use Rattle.std.specs.Prelude.{option_map}
-use Rattle.sdh_script.proofs.Plans.{on_ok, on_two}
+use Rattle.std.proofs.lemmas.Result.{IfOk-weaker}
+use Rattle.sdh_script.proofs.Plans.{on_two}
 use Rattle.sdh_plan.specs.Big.{big_planned}
-use Rattle.sdh_cli.specs.Words.{Big, ask_of, words_of, asked}
+use Rattle.sdh_shell.specs.Calls.{words_of}
+use Rattle.sdh_cli.specs.Words.{Big, ask_of, asked}
 use Rattle.sdh_cli.proofs.Endings.{plan_ends}
-use Rattle.sdh_cli.proofs.Stages.{counted_none, no_read, no_long, has_cause, is_shown, no_usage, read_outcome}
+use Rattle.sdh_shell.specs.Failing.{Counts}
+use Rattle.sdh_shell.proofs.Failing.{counted_none}
+use Rattle.sdh_shell.proofs.Ends.{no_read, no_long, has_cause, is_shown}
+use Rattle.sdh_cli.proofs.Stages.{no_usage, read_outcome}
 use Rattle.sdh_cli.proofs.report.report_on.Goals as goal
 
 pub returns-in-Some-number_of-clause-cause : goal.returns-in-Some-number_of-clause-cause
 returns-in-Some-number_of-clause-cause g c =
     let means = g.P.Plant.fibres in
-    let counts = g.P.Plant.faults in
+    let faults = g.R.Source.faults c.args.source.now in
+    let reads : Counts = record { before = faults; after = faults } in
+    let calls : Counts = record { before = g.P.Plant.faults c.args.plant.now; after = g.P.Plant.faults c.big_report.new.plant } in
     let number = c.in-Some-number_of.number in
-    on_two c.big_report.result _ _ _ (λ report x failed. has_cause _ (record { before = counts c.args.plant.now; after = counts c.big_report.new.plant }) report.status
+    on_two c.big_report.result _ _ _ (λ report x failed. has_cause reads calls report.status
     (plan_ends (Big number) (big_planned number) (means c.args.plant.now) (means c.big_report.new.plant) report.status report.text.bytes x) failed)
     c.big_report.ensures.outcome c.big_report.ensures.failed
 
@@ -22,7 +29,7 @@ returns-in-Some-number_of-clause-usage g c =
     let number = c.in-Some-number_of.number in
     let a = asked (words_of c.args.words.now) in
     let is : a ≡ Some (Big number) = sym c.command_of.ensures ∙ ap (option_map ask_of) c.in-Some.is ∙ ap (λ x. Some x) c.in-Some-number_of.ensures.big in
-    on_ok c.big_report.result _ _ (λ report x. no_usage a (Big number) is report.status
+    IfOk-weaker c.big_report.result _ _ (λ report x. no_usage a (Big number) is report.status
     (is_shown report.status (plan_ends (Big number) (big_planned number) (means c.args.plant.now) (means c.big_report.new.plant) report.status report.text.bytes x)).0)
     c.big_report.ensures.outcome
 
@@ -30,7 +37,7 @@ pub returns-in-Some-number_of-clause-own : goal.returns-in-Some-number_of-clause
 returns-in-Some-number_of-clause-own g c =
     let means = g.P.Plant.fibres in
     let number = c.in-Some-number_of.number in
-    on_ok c.big_report.result _ _ (λ report x. (is_shown report.status (plan_ends (Big number) (big_planned number) (means c.args.plant.now) (means c.big_report.new.plant) report.status report.text.bytes x)).1)
+    IfOk-weaker c.big_report.result _ _ (λ report x. (is_shown report.status (plan_ends (Big number) (big_planned number) (means c.args.plant.now) (means c.big_report.new.plant) report.status report.text.bytes x)).1)
     c.big_report.ensures.outcome
 
 pub returns-in-None-clause-outcome : goal.returns-in-None-clause-outcome
@@ -39,7 +46,7 @@ returns-in-None-clause-outcome g c =
     let a = asked (words_of c.args.words.now) in
     let ask = ask_of c.in-Some.command in
     let is : a ≡ Some ask = sym c.command_of.ensures ∙ ap (option_map ask_of) c.in-Some.is in
-    on_ok c.read_report.result _ _ (λ report x. read_outcome a ask is (g.R.Source.left c.args.source.now) (means c.args.plant.now) (means c.read_report.new.plant) report.status report.text.bytes c.in-None.ensures.reads x)
+    IfOk-weaker c.read_report.result _ _ (λ report x. read_outcome a ask is (g.R.Source.left c.args.source.now) (means c.args.plant.now) (means c.read_report.new.plant) report.status report.text.bytes c.in-None.ensures.reads x)
     c.read_report.ensures.outcome
 
 pub returns-in-Some-number_of-clause-reads : goal.returns-in-Some-number_of-clause-reads
@@ -47,7 +54,7 @@ returns-in-Some-number_of-clause-reads g c =
     let means = g.P.Plant.fibres in
     let number = c.in-Some-number_of.number in
     let now = g.R.Source.faults c.args.source.now in
-    on_ok c.big_report.result _ _ (λ report x. counted_none g.R.Source.exact now now
+    IfOk-weaker c.big_report.result _ _ (λ report x. counted_none g.R.Source.exact now now
     (no_read report.status (plan_ends (Big number) (big_planned number) (means c.args.plant.now) (means c.big_report.new.plant) report.status report.text.bytes x)) (λ exact. refl))
     c.big_report.ensures.outcome
 
@@ -55,5 +62,5 @@ pub returns-in-Some-number_of-clause-too_long : goal.returns-in-Some-number_of-c
 returns-in-Some-number_of-clause-too_long g c =
     let means = g.P.Plant.fibres in
     let number = c.in-Some-number_of.number in
-    on_ok c.big_report.result _ _ (λ report x. no_long report.status _ (plan_ends (Big number) (big_planned number) (means c.args.plant.now) (means c.big_report.new.plant) report.status report.text.bytes x))
+    IfOk-weaker c.big_report.result _ _ (λ report x long. absurd (no_long report.status (plan_ends (Big number) (big_planned number) (means c.args.plant.now) (means c.big_report.new.plant) report.status report.text.bytes x) long))
     c.big_report.ensures.outcome

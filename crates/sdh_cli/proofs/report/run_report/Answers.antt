@@ -1,6 +1,3 @@
-use Rattle.std.proofs.Common.{◌≡◌, sym, subst}
-use Rattle.sdh_basics.specs.Causes.{IsCounted}
-use Rattle.sdh_report.specs.declared.status.Status.TheVariants as status
 use Rattle.sdh_cli.proofs.Stages.{run_outcome}
 use Rattle.sdh_cli.proofs.report.run_report.Goals as goal
 

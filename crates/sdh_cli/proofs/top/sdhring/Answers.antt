@@ -1,10 +1,14 @@
-use Rattle.std.proofs.Common.{refl, subst, inl}
+use Rattle.std.proofs.Common.{List, ℕ, refl, subst, inl}
 use Rattle.std.specs.Io.KnownBytes.{Appends}
 use Rattle.sdh_outside.specs.Writing.{AppendsFewer}
-use Rattle.sdh_cli.specs.Words.{words_of, asked}
-use Rattle.sdh_cli.specs.Outcome.{told, Counts}
+use Rattle.sdh_report.specs.declared.status.Status.{Status}
 use Rattle.sdh_report.specs.declared.status.Status.TheVariants as status
-use Rattle.sdh_cli.proofs.Stages.{came_without}
+use Rattle.sdh_shell.specs.Calls.{words_of}
+use Rattle.sdh_shell.specs.Failing.{Counts}
+use Rattle.sdh_shell.proofs.Failing.{came_without}
+use Rattle.sdh_shell.proofs.Writing.{told_whole, told_front}
+use Rattle.sdh_cli.specs.Words.{asked, told}
+use Rattle.sdh_cli.specs.Outcome.{IsOutcome}
 use Rattle.sdh_cli.proofs.Promises as promises
 use Rattle.sdh_cli.proofs.top.sdhring.Goals as goal
 
@@ -12,49 +16,41 @@ pub returns-in-Ok-write_text-clause-owed : goal.returns-in-Ok-write_text-clause-
 returns-in-Ok-write_text-clause-owed g c =
     let means = g.P.Plant.fibres in
     let a = asked (words_of c.args.words.now) in
-    let reads : Counts = record { before = g.R.Source.faults c.args.source.now; after = g.R.Source.faults c.report_on.new.source } in
-    let calls : Counts = record { before = g.P.Plant.faults c.args.plant.now; after = g.P.Plant.faults c.report_on.new.plant } in
     let report = c.in-Ok.report in
     let old = g.W.Sink.written c.args.sink.now in
     let new = g.W.Sink.written c.write_text.new.sink in
     let written = subst (Appends old new) c.bytes.ensures c.in-Ok-write_text.ensures.ok in
-    promises.told_owed (told a (g.R.Source.left c.args.source.now)) a (means c.args.plant.now) (means c.report_on.new.plant) reads calls report.status report.text.bytes old new c.in-Ok.ensures.cause c.in-Ok.ensures.own written c.in-Ok.ensures.outcome
+    promises.told_owed a (means c.args.plant.now) (means c.report_on.new.plant) report.status report.text.bytes old new written (told a (g.R.Source.left c.args.source.now)) c.in-Ok.ensures.outcome
 
 pub returns-in-Ok-write_text-clause-rounds : goal.returns-in-Ok-write_text-clause-rounds
 returns-in-Ok-write_text-clause-rounds g c =
     let means = g.P.Plant.fibres in
     let a = asked (words_of c.args.words.now) in
-    let reads : Counts = record { before = g.R.Source.faults c.args.source.now; after = g.R.Source.faults c.report_on.new.source } in
-    let calls : Counts = record { before = g.P.Plant.faults c.args.plant.now; after = g.P.Plant.faults c.report_on.new.plant } in
     let report = c.in-Ok.report in
     let old = g.W.Sink.written c.args.sink.now in
     let new = g.W.Sink.written c.write_text.new.sink in
     let written = subst (Appends old new) c.bytes.ensures c.in-Ok-write_text.ensures.ok in
-    promises.told_rounds (told a (g.R.Source.left c.args.source.now)) a (means c.args.plant.now) (means c.report_on.new.plant) reads calls report.status report.text.bytes old new c.in-Ok.ensures.cause c.in-Ok.ensures.own written c.in-Ok.ensures.outcome
+    promises.told_rounds a (means c.args.plant.now) (means c.report_on.new.plant) report.status report.text.bytes old new written (told a (g.R.Source.left c.args.source.now)) c.in-Ok.ensures.outcome
 
 pub returns-in-Ok-write_text-clause-healthy : goal.returns-in-Ok-write_text-clause-healthy
 returns-in-Ok-write_text-clause-healthy g c =
     let means = g.P.Plant.fibres in
     let a = asked (words_of c.args.words.now) in
-    let reads : Counts = record { before = g.R.Source.faults c.args.source.now; after = g.R.Source.faults c.report_on.new.source } in
-    let calls : Counts = record { before = g.P.Plant.faults c.args.plant.now; after = g.P.Plant.faults c.report_on.new.plant } in
     let report = c.in-Ok.report in
     let old = g.W.Sink.written c.args.sink.now in
     let new = g.W.Sink.written c.write_text.new.sink in
     let written = subst (Appends old new) c.bytes.ensures c.in-Ok-write_text.ensures.ok in
-    promises.told_healthy (told a (g.R.Source.left c.args.source.now)) a (means c.args.plant.now) (means c.report_on.new.plant) reads calls report.status report.text.bytes old new c.in-Ok.ensures.cause c.in-Ok.ensures.own written c.in-Ok.ensures.outcome
+    promises.told_healthy a (means c.args.plant.now) (means c.report_on.new.plant) report.status report.text.bytes old new written (told a (g.R.Source.left c.args.source.now)) c.in-Ok.ensures.outcome
 
 pub returns-in-Ok-write_text-clause-unsettled : goal.returns-in-Ok-write_text-clause-unsettled
 returns-in-Ok-write_text-clause-unsettled g c =
     let means = g.P.Plant.fibres in
     let a = asked (words_of c.args.words.now) in
-    let reads : Counts = record { before = g.R.Source.faults c.args.source.now; after = g.R.Source.faults c.report_on.new.source } in
-    let calls : Counts = record { before = g.P.Plant.faults c.args.plant.now; after = g.P.Plant.faults c.report_on.new.plant } in
     let report = c.in-Ok.report in
     let old = g.W.Sink.written c.args.sink.now in
     let new = g.W.Sink.written c.write_text.new.sink in
     let written = subst (Appends old new) c.bytes.ensures c.in-Ok-write_text.ensures.ok in
-    promises.told_unsettled (told a (g.R.Source.left c.args.source.now)) a (means c.args.plant.now) (means c.report_on.new.plant) reads calls report.status report.text.bytes old new c.in-Ok.ensures.cause c.in-Ok.ensures.own written c.in-Ok.ensures.outcome
+    promises.told_unsettled a (means c.args.plant.now) (means c.report_on.new.plant) report.status report.text.bytes old new written (told a (g.R.Source.left c.args.source.now)) c.in-Ok.ensures.outcome
 
 pub returns-in_default-clause-came : goal.returns-in_default-clause-came
 returns-in_default-clause-came g c = (status.Memory, inl refl, came_without _ _ _ _ _ _ c.in_default.ensures.without)
@@ -69,7 +65,8 @@ returns-in-Ok-write_text-clause-outcome g c =
     let old = g.W.Sink.written c.args.sink.now in
     let new = g.W.Sink.written c.write_text.new.sink in
     let written = subst (Appends old new) c.bytes.ensures c.in-Ok-write_text.ensures.ok in
-    promises.told_outcome (told a (g.R.Source.left c.args.source.now)) a (means c.args.plant.now) (means c.report_on.new.plant) reads calls report.status report.text.bytes old new c.in-Ok.ensures.cause c.in-Ok.ensures.own written c.in-Ok.ensures.outcome
+    let is = λ (bytes : List ℕ) (how : Status) (text : List ℕ). IsOutcome a bytes (means c.args.plant.now) how text (means c.report_on.new.plant) in
+    told_whole (told a (g.R.Source.left c.args.source.now)) is reads calls report.status report.text.bytes old new c.in-Ok.ensures.cause c.in-Ok.ensures.outcome c.in-Ok.ensures.own written
 
 pub returns-clause-outcome : goal.returns-clause-outcome
 returns-clause-outcome g c =
@@ -81,4 +78,5 @@ returns-clause-outcome g c =
     let old = g.W.Sink.written c.args.sink.now in
     let new = g.W.Sink.written c.write_text.new.sink in
     let fewer = subst (AppendsFewer old new) c.bytes.ensures c.in-Err.ensures.front in
-    promises.told_fewer (told a (g.R.Source.left c.args.source.now)) a (means c.args.plant.now) (means c.report_on.new.plant) reads calls report.status report.text.bytes old new c.in-Ok.ensures.cause fewer c.in-Ok.ensures.outcome
+    let is = λ (bytes : List ℕ) (how : Status) (text : List ℕ). IsOutcome a bytes (means c.args.plant.now) how text (means c.report_on.new.plant) in
+    told_front (told a (g.R.Source.left c.args.source.now)) is reads calls report.status report.text.bytes old new c.in-Ok.ensures.cause c.in-Ok.ensures.outcome fewer

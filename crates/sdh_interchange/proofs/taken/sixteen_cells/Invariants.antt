@@ -1,5 +1,5 @@
-use Rattle.std.proofs.Common.{◌≡◌, length}
+use Rattle.std.proofs.Common.{◌≡◌, [], replicate}
 use Rattle.sdh_interchange.proofs.taken.sixteen_cells.Given as goal
 
 abbrev pub invariant-cells : goal.invariant-cells
-invariant-cells l = length l.cells.items ≡ l._cell
+invariant-cells l = l.cells.items ≡ replicate l._cell []

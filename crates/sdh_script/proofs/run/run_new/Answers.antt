@@ -13,6 +13,4 @@ run_from-requires-clause-may g c =
       few = omega arith;
       begins = inl rounds;
       rounds = omega (arith, rounds);
-      listed = search rules;
-      room = search rules;
     }

@@ -5,7 +5,7 @@ use Rattle.sdh_report.specs.declared.status.Status.TheVariants as status
 use Rattle.sdh_shell.specs.Failing.{Counts}
 use Rattle.sdh_shell.specs.Writing.{WritesAs}
 use Rattle.sdh_shell.proofs.Told.{told_all}
-use Rattle.sdh_sncp_cli.specs.Words.{words_of}
+use Rattle.sdh_shell.specs.Calls.{words_of}
 use Rattle.sdh_sncp_cli.specs.Outcome.{MayEnd, told, telling_of}
 use Rattle.sdh_sncp_cli.specs.declared.ending.Ending.{Ending}
 use Rattle.sdh_sncp_cli.specs.declared.ending.Ending.TheVariants as ending

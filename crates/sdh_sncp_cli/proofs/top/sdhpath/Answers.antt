@@ -2,7 +2,7 @@ use Rattle.std.proofs.Common.{List, ℕ}
 use Rattle.sdh_shell.specs.Failing.{Counts}
 use Rattle.sdh_shell.specs.Writing.{WritesAs}
 use Rattle.sdh_shell.proofs.Told.{told_all}
-use Rattle.sdh_sncp_cli.specs.Words.{words_of}
+use Rattle.sdh_shell.specs.Calls.{words_of}
 use Rattle.sdh_sncp_cli.specs.Outcome.{Answers, MayEnd, told, telling_of}
 use Rattle.sdh_sncp_cli.specs.Headline.{Delivers, EndsAsItRuns, Settles}
 use Rattle.sdh_sncp_cli.specs.declared.ending.Ending.{Ending}

@@ -16,7 +16,6 @@ run_from-requires-clause-may g c =
       steps_fit = fits_made _ _ _ _ c.deref.result.now c.args.plan c.in-Ok.ensures.ring c.settings-settings.ensures.settings c.into_parts-map.ensures.ring (c.deref.ensures.value ∙ c.into_parts-map.ensures.steps) c.requires.known c.into_parts-map.ensures.form;
       few = omega arith;
       rounds = omega (arith, rounds);
-      room = search rules;
     }
 
 pub returns-in-Err-clause-same_slot : goal.returns-in-Err-clause-same_slot

@@ -33,10 +33,10 @@ loop-row-preserved c =
       east_rate = c.assemble_row-in-loop-row.ensures.rate ∙ c.loop-row.invariant.east_rate;
       west = row-built c.args.west_section.now c.loop-row.west_section c.write_row.new.section (λ n. assembled n c.args.first.now.bytes c.args.second.now.bytes c.args.west.now.own c.args.west.now.choice.sources c.args.west.now.pointers.now) c.args.west.now.k1 c.args.west.now.k2 c.loop-row.row
           c.args.west_out.now.bytes c.loop-row.west_out c.assemble_row.new.frame c.row_mut.result.now c.write_row.new.bytes c.loop-row.invariant.some (omega arith) west_size (west_at) c.loop-row.invariant.west c.assemble_row.ensures.rate c.assemble_row.ensures.row c.row_mut.ensures.row
-          c.write_row.ensures.bytes (c.write_row.auto.bytes ∙ c.row_mut.ensures.len) c.write_row.ensures.section c.write_row.ensures.rate c.write_row.ensures.next;
+          c.write_row.ensures.bytes (c.write_row.auto.bytes ∙ c.row_mut.ensures.len) c.write_row.ensures.section c.write_row.ensures.rate c.write_row.ensures.next c.write_row.ensures.way;
       east = row-built c.args.east_section.now c.loop-row.east_section c.write_row-in-loop-row.new.section (λ n. assembled n c.args.first.now.bytes c.args.second.now.bytes c.args.east.now.own c.args.east.now.choice.sources c.args.east.now.pointers.now) c.args.east.now.k1 c.args.east.now.k2 c.loop-row.row
           c.args.east_out.now.bytes c.loop-row.east_out c.assemble_row-in-loop-row.new.frame c.row_mut-in-loop-row.result.now c.write_row-in-loop-row.new.bytes c.loop-row.invariant.some (omega arith) east_size (east_at) c.loop-row.invariant.east c.assemble_row-in-loop-row.ensures.rate c.assemble_row-in-loop-row.ensures.row c.row_mut-in-loop-row.ensures.row
-          c.write_row-in-loop-row.ensures.bytes (c.write_row-in-loop-row.auto.bytes ∙ c.row_mut-in-loop-row.ensures.len) c.write_row-in-loop-row.ensures.section c.write_row-in-loop-row.ensures.rate c.write_row-in-loop-row.ensures.next;
+          c.write_row-in-loop-row.ensures.bytes (c.write_row-in-loop-row.auto.bytes ∙ c.row_mut-in-loop-row.ensures.len) c.write_row-in-loop-row.ensures.section c.write_row-in-loop-row.ensures.rate c.write_row-in-loop-row.ensures.next c.write_row-in-loop-row.ensures.way;
     }
 
 pub returns-clause-west_frame : goal.returns-clause-west_frame

@@ -1,40 +1,43 @@
-use Rattle.std.proofs.Common.{refl, subst, inl}
+use Rattle.std.proofs.Common.{List, ℕ, refl, subst, inl}
 use Rattle.std.specs.Io.KnownBytes.{Appends}
 use Rattle.sdh_outside.specs.Writing.{AppendsFewer}
+use Rattle.sdh_report.specs.declared.status.Status.{Status}
 use Rattle.sdh_report.specs.declared.status.Status.TheVariants as status
-use Rattle.sdh_cli.specs.Words.{words_of}
-use Rattle.sdh_cli.specs.Outcome.{Counts}
-use Rattle.sdh_cli.proofs.Stages.{came_without}
-use Rattle.sdh_watch.specs.Outcome.{is_asked, told}
+use Rattle.sdh_shell.specs.Calls.{words_of, is_run}
+use Rattle.sdh_shell.specs.Reading.{told_if}
+use Rattle.sdh_shell.specs.Failing.{Counts}
+use Rattle.sdh_shell.proofs.Failing.{came_without}
+use Rattle.sdh_shell.proofs.Writing.{told_whole, told_front}
+use Rattle.sdh_watch.specs.Outcome.{IsOutcome}
 use Rattle.sdh_watch.proofs.Promises as promises
 use Rattle.sdh_watch.proofs.top.sdhwatch.Goals as goal
 
 pub returns-in-Ok-write_text-clause-owed : goal.returns-in-Ok-write_text-clause-owed
 returns-in-Ok-write_text-clause-owed g c = λ asked honest. (
     let means = g.P.Plant.fibres in
-    let run = c.in-Ok.run' in
+    let report = c.in-Ok.report in
     let old = g.W.Sink.written c.args.sink.now in
     let new = g.W.Sink.written c.write_text.new.sink in
     let written = subst (Appends old new) c.bytes.ensures c.in-Ok-write_text.ensures.ok in
-    promises.told_shows (means c.args.plant.now) (means c.report_on.new.plant) run.status run.text.bytes old new written (is_asked (words_of c.args.words.now)) asked (g.R.Source.left c.args.source.now) c.in-Ok.ensures.outcome honest)
+    promises.told_shows (means c.args.plant.now) (means c.report_on.new.plant) report.status report.text.bytes old new written (is_run (words_of c.args.words.now)) asked (g.R.Source.left c.args.source.now) c.in-Ok.ensures.outcome honest)
 
 pub returns-in-Ok-write_text-clause-settles : goal.returns-in-Ok-write_text-clause-settles
 returns-in-Ok-write_text-clause-settles g c = λ asked honest. (
     let means = g.P.Plant.fibres in
-    let run = c.in-Ok.run' in
+    let report = c.in-Ok.report in
     let old = g.W.Sink.written c.args.sink.now in
     let new = g.W.Sink.written c.write_text.new.sink in
     let written = subst (Appends old new) c.bytes.ensures c.in-Ok-write_text.ensures.ok in
-    promises.told_settles (means c.args.plant.now) (means c.report_on.new.plant) run.status run.text.bytes old new written (is_asked (words_of c.args.words.now)) asked (g.R.Source.left c.args.source.now) c.in-Ok.ensures.outcome honest)
+    promises.told_settles (means c.args.plant.now) (means c.report_on.new.plant) report.status report.text.bytes old new written (is_run (words_of c.args.words.now)) asked (g.R.Source.left c.args.source.now) c.in-Ok.ensures.outcome honest)
 
 pub returns-in-Ok-write_text-clause-unsettled : goal.returns-in-Ok-write_text-clause-unsettled
 returns-in-Ok-write_text-clause-unsettled g c = λ asked. (
     let means = g.P.Plant.fibres in
-    let run = c.in-Ok.run' in
+    let report = c.in-Ok.report in
     let old = g.W.Sink.written c.args.sink.now in
     let new = g.W.Sink.written c.write_text.new.sink in
     let written = subst (Appends old new) c.bytes.ensures c.in-Ok-write_text.ensures.ok in
-    promises.told_unsettled (means c.args.plant.now) (means c.report_on.new.plant) run.status run.text.bytes old new written (is_asked (words_of c.args.words.now)) asked (g.R.Source.left c.args.source.now) c.in-Ok.ensures.outcome)
+    promises.told_unsettled (means c.args.plant.now) (means c.report_on.new.plant) report.status report.text.bytes old new written (is_run (words_of c.args.words.now)) asked (g.R.Source.left c.args.source.now) c.in-Ok.ensures.outcome)
 
 pub returns-in_default-clause-came : goal.returns-in_default-clause-came
 returns-in_default-clause-came g c = (status.Memory, inl refl, came_without _ _ _ _ _ _ c.in_default.ensures.without)
@@ -42,23 +45,25 @@ returns-in_default-clause-came g c = (status.Memory, inl refl, came_without _ _ 
 pub returns-in-Ok-write_text-clause-outcome : goal.returns-in-Ok-write_text-clause-outcome
 returns-in-Ok-write_text-clause-outcome g c =
     let means = g.P.Plant.fibres in
-    let a = is_asked (words_of c.args.words.now) in
+    let a = is_run (words_of c.args.words.now) in
     let reads : Counts = record { before = g.R.Source.faults c.args.source.now; after = g.R.Source.faults c.report_on.new.source } in
     let calls : Counts = record { before = g.P.Plant.faults c.args.plant.now; after = g.P.Plant.faults c.report_on.new.plant } in
-    let run = c.in-Ok.run' in
+    let report = c.in-Ok.report in
     let old = g.W.Sink.written c.args.sink.now in
     let new = g.W.Sink.written c.write_text.new.sink in
     let written = subst (Appends old new) c.bytes.ensures c.in-Ok-write_text.ensures.ok in
-    promises.told_outcome (told a (g.R.Source.left c.args.source.now)) a (means c.args.plant.now) (means c.report_on.new.plant) reads calls run.status run.text.bytes old new c.in-Ok.ensures.cause c.in-Ok.ensures.own written c.in-Ok.ensures.outcome
+    let is = λ (bytes : List ℕ) (how : Status) (text : List ℕ). IsOutcome a bytes (means c.args.plant.now) how text (means c.report_on.new.plant) in
+    told_whole (told_if a (g.R.Source.left c.args.source.now)) is reads calls report.status report.text.bytes old new c.in-Ok.ensures.cause c.in-Ok.ensures.outcome c.in-Ok.ensures.own written
 
 pub returns-clause-outcome : goal.returns-clause-outcome
 returns-clause-outcome g c =
     let means = g.P.Plant.fibres in
-    let a = is_asked (words_of c.args.words.now) in
+    let a = is_run (words_of c.args.words.now) in
     let reads : Counts = record { before = g.R.Source.faults c.args.source.now; after = g.R.Source.faults c.report_on.new.source } in
     let calls : Counts = record { before = g.P.Plant.faults c.args.plant.now; after = g.P.Plant.faults c.report_on.new.plant } in
-    let run = c.in-Ok.run' in
+    let report = c.in-Ok.report in
     let old = g.W.Sink.written c.args.sink.now in
     let new = g.W.Sink.written c.write_text.new.sink in
     let fewer = subst (AppendsFewer old new) c.bytes.ensures c.in-Err.ensures.front in
-    promises.told_fewer (told a (g.R.Source.left c.args.source.now)) a (means c.args.plant.now) (means c.report_on.new.plant) reads calls run.status run.text.bytes old new c.in-Ok.ensures.cause fewer c.in-Ok.ensures.outcome
+    let is = λ (bytes : List ℕ) (how : Status) (text : List ℕ). IsOutcome a bytes (means c.args.plant.now) how text (means c.report_on.new.plant) in
+    told_front (told_if a (g.R.Source.left c.args.source.now)) is reads calls report.status report.text.bytes old new c.in-Ok.ensures.cause c.in-Ok.ensures.outcome fewer

@@ -8,12 +8,13 @@ run_from-requires-clause-may g c =
     let rounds : c.in_ok-ring.ring.rounds ≡ 0 = ap (λ (r : HeldRing). r.rounds) c.in_ok-ring.ensures.ring in
     let circuits = ap (λ (r : HeldRing). length r.circuits.circuits) c.in_ok-ring.ensures.ring in
     record {
-      whole = search rules;
-      prepared = prepared_made _ _ _ _ c.len-nodes.result (g.P.Plant.fibres c.args.plant.now) (g.P.Plant.fibres c.prepare.new.self) c.in_ok-ring.ensures.ring (c.len-nodes.ensures.len ∙ ap length (c.map.ensures ∙ sym c.into_parts-map.ensures.ring)) (omega (arith, c.len-nodes.ensures.len, c.len-nodes.ensures.enough)) (omega (arith, c.len-nodes.ensures.len, c.len-nodes.ensures.few)) c.in-Ok.ensures.ok;
-      steps_fit = fits_made _ _ _ _ c.deref.result.now c.args.plan c.in_ok-ring.ensures.ring c.settings-settings.ensures.settings c.into_parts-map.ensures.ring c.into_parts-map.ensures.circuits (c.deref.ensures.value ∙ c.into_parts-map.ensures.steps) c.into_parts-map.ensures.form;
-      few = omega arith;
-      begins = inl rounds;
-      rounds = omega (arith, rounds);
+      ring_may = record {
+        whole = search rules;
+        prepared = prepared_made _ _ _ _ c.len-nodes.result (g.P.Plant.fibres c.args.plant.now) (g.P.Plant.fibres c.prepare.new.self) c.in_ok-ring.ensures.ring (c.len-nodes.ensures.len ∙ ap length (c.map.ensures ∙ sym c.into_parts-map.ensures.ring)) (omega (arith, c.len-nodes.ensures.len, c.len-nodes.ensures.enough)) (omega (arith, c.len-nodes.ensures.len, c.len-nodes.ensures.few)) c.in-Ok.ensures.ok;
+        steps_fit = fits_made _ _ _ _ c.deref.result.now c.args.plan c.in_ok-ring.ensures.ring c.settings-settings.ensures.settings c.into_parts-map.ensures.ring c.into_parts-map.ensures.circuits (c.deref.ensures.value ∙ c.into_parts-map.ensures.steps) c.into_parts-map.ensures.form;
+        few = omega arith;
+        begins = inl rounds;
+        rounds = omega (arith, rounds);
+      };
       many = search rules;
-      room = search rules;
     }

@@ -11,7 +11,7 @@ pub returns-then-not-self-clause-read : goal.returns-then-not-self-clause-read
 returns-then-not-self-clause-read c = λ line are.
     let s = c.self.inside in
     let r = s.rows in
-    let u : UnderWay = record { rows = r.passed; line = r.line; clear = r.clear; framed = r.framed; k1 = r.k1; k2 = r.k2; b1 = r.b1; b2 = r.b2 } in
+    let u : UnderWay = record { rows = r.passed; line = r.line; clear = r.clear; written = r.written; framed = r.framed; k1 = r.k1; k2 = r.k2; b1 = r.b1; b2 = r.b2 } in
     let was = subst (λ (k : SectionKept). AreRead (n_of k.rate) k.last line k.under_way) (sym c.self.view_is) are in
     let nine : u.rows + 1 ≡ 10 = sym (rows-next u) ∙ ap (λ (k : SectionKept). next_of k.under_way) c.self.view_is ∙ c.requires in
     let read = some-read (n_of s.rate) (last_of (n_of s.rate) s.known s.b1 s.b2) line u (omega arith) was in
@@ -24,7 +24,7 @@ returns-clause-read c = λ line are.
     let s = c.self.inside in
     let r = s.rows in
     let n = n_of c.args.self.now.rate in
-    let u : UnderWay = record { rows = r.passed; line = r.line; clear = r.clear; framed = r.framed; k1 = r.k1; k2 = r.k2; b1 = r.b1; b2 = r.b2 } in
+    let u : UnderWay = record { rows = r.passed; line = r.line; clear = r.clear; written = r.written; framed = r.framed; k1 = r.k1; k2 = r.k2; b1 = r.b1; b2 = r.b2 } in
     let was = subst (λ (k : SectionKept). AreRead (n_of k.rate) k.last line k.under_way) (sym c.self.view_is) are in
     let nine : u.rows + 1 ≡ 10 = sym (rows-next u) ∙ ap (λ (k : SectionKept). next_of k.under_way) c.self.view_is ∙ c.requires in
     let read = some-read (n_of s.rate) (last_of (n_of s.rate) s.known s.b1 s.b2) line u (omega arith) was in

@@ -5,7 +5,7 @@ use Rattle.sdh_parity.specs.Pieces.{after_bytes, scrambled_from}
 use Rattle.sdh_parity.specs.Violations.{differing_bits, violations_of}
 use Rattle.sdh_overhead.specs.Sections.{SectionKept, UnderWay, next_of, under_way_of, is_framed}
 use Rattle.sdh_overhead.specs.Rows.{AreRead, skipped}
-use Rattle.sdh_overhead.proofs.Passing.{rate_some, rows-next}
+use Rattle.sdh_overhead.proofs.Passing.{rate_some, rows-next, may-read}
 use Rattle.sdh_overhead.proofs.Reading.{read-more}
 use Rattle.sdh_overhead.proofs.section.Section.receive.Goals as goal
 
@@ -15,8 +15,8 @@ returns-clause-read c = λ line are framed.
     let r = s.rows in
     let t = c.receive.new.self in
     let row = c.args.row in
-    let u : UnderWay = record { rows = r.passed; line = r.line; clear = r.clear; framed = r.framed; k1 = r.k1; k2 = r.k2; b1 = r.b1; b2 = r.b2 } in
-    let v : UnderWay = record { rows = t.passed; line = t.line; clear = t.clear; framed = true; k1 = c.k_after-self-inside.result; k2 = c.k_after-self-inside-2.result; b1 = c.b1_after-self-inside.result; b2 = c.b2_after-self-inside.result } in
+    let u : UnderWay = record { rows = r.passed; line = r.line; clear = r.clear; written = r.written; framed = r.framed; k1 = r.k1; k2 = r.k2; b1 = r.b1; b2 = r.b2 } in
+    let v : UnderWay = record { rows = t.passed; line = t.line; clear = t.clear; written = t.written; framed = true; k1 = c.k_after-self-inside.result; k2 = c.k_after-self-inside-2.result; b1 = c.b1_after-self-inside.result; b2 = c.b2_after-self-inside.result } in
     let n = n_of s.rate in
     let m = c.n-n.result in
     let new = c.receive.new.bytes in
@@ -35,3 +35,18 @@ returns-clause-read c = λ line are framed.
     (c.b1_after-self-inside.ensures ∙ ap (λ x. if row == 2 then (if s.known then differing_bits s.b1 (get_or new 0 0) else 0) else x) c.receive.ensures.b1)
     (c.b2_after-self-inside.ensures ∙ ap (λ x. if row == 5 then (if s.known then violations_of (take (3 * m) s.b2) (take (3 * m) new) else 0) else x) c.receive.ensures.b2
     ∙ ap (λ k. if row == 5 then (if s.known then violations_of (take (3 * k) s.b2) (take (3 * k) new) else 0) else r.b2) same))
+
+pub returns-clause-way : goal.returns-clause-way
+returns-clause-way c =
+    let t = c.receive.new.self in
+    may-read (record {
+      rows = t.passed;
+      line = t.line;
+      clear = t.clear;
+      written = t.written;
+      framed = true;
+      k1 = c.k_after-self-inside.result;
+      k2 = c.k_after-self-inside-2.result;
+      b1 = c.b1_after-self-inside.result;
+      b2 = c.b2_after-self-inside.result;
+    }) c.receive.ensures.written

@@ -1,0 +1,21 @@
+//! Laws of the lines. The functions change nothing: their contracts are the laws.
+ghost use Rattle.std.specs.Prelude.{ℕ, ◌<◌, ◌≤◌, ◌^◌, List, length};
+ghost use Rattle.sdh_circuits.specs.declared.End.{End};
+ghost use Rattle.sdh_circuits.specs.declared.Slot.{Slot};
+ghost use Rattle.sdh_payload.specs.declared.delivered.Delivered.{Delivered};
+ghost use Rattle.sdh_report.specs.declared.node_line.NodeLine.{NodeLine};
+ghost use Rattle.sdh_report.specs.Lines.{settle_line, node_line, port_line, drop_lines, table_line, count_line};
+ghost use Rattle.sdh_ringmap.specs.declared.Side.{Side};
+
+use crate::text::{CHUNK_MAX, LINE_MAX};
+
+/// Each line has room in `LINE_MAX` bytes, whatever numbers its call takes and whatever name of at most 16 bytes, and the
+/// lines of a chunk in `CHUNK_MAX`. Of the last line `Status::has_short_line` says the same.
+pub fn lines_are_short()
+    ensures settle { (number round : ℕ) → number < 2 ^ 32 → round < 2 ^ 64 → length (settle_line number round) ≤ LINE_MAX }
+    ensures node { (line : NodeLine) → line.id < 2 ^ 8 → length (node_line line) ≤ LINE_MAX }
+    ensures port { (name : List ℕ) (end : End) (delivered : Delivered) (value : ℕ) → length name ≤ 16 → value < 2 ^ 16 → length (port_line name end delivered value) ≤ LINE_MAX }
+    ensures chunk { (delivered : Delivered) → length (drop_lines delivered) ≤ CHUNK_MAX }
+    ensures table { (id : ℕ) (side : Side) (slot : Slot) (name : List ℕ) (from to : ℕ) → id < 2 ^ 8 → slot.0 < 2 ^ 8 → length name ≤ 16 → from < 2 ^ 8 → to < 2 ^ 8 → length (table_line id side slot name from to) ≤ LINE_MAX }
+    ensures count { (number round norm ais : ℕ) → number < 2 ^ 32 → round < 2 ^ 64 → norm < 2 ^ 32 → ais < 2 ^ 32 → length (count_line number round norm ais) ≤ LINE_MAX }
+{}

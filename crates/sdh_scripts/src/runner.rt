@@ -1,0 +1,74 @@
+//! What runs a script.
+ghost use Rattle.std.specs.Prelude.{◌≡◌, ℕ, ◌+◌, ◌≤◌, List, ◌∷◌, OnOk, OnErr, IfErr, Err};
+ghost use Rattle.sdh_basics.specs.Causes.{HasCause, Rose, IsCounted};
+ghost use Rattle.sdh_plant.specs.Fibres.{Fibres};
+ghost use Rattle.sdh_rounds.specs.Held.{HeldRing, world};
+ghost use Rattle.sdh_plan.specs.declared.step.Step.{Step};
+ghost use Rattle.sdh_scripts.specs.Walks.{Walk};
+ghost use Rattle.sdh_scripts.specs.Runners.{Refused, Wrote, EndsBy};
+
+use sdh_plan::Step;
+use sdh_plant::Plant;
+use sdh_report::Text;
+use sdh_rounds::{PlantFault, SettleError};
+
+/// A ring that steps of a script are run over, with what it needs to write of a settle step.
+pub trait Runner {
+    /// What its nodes are.
+    ghost Node: { Type 0 };
+
+    /// What is told of a settle step.
+    ghost Told: { Type 0 };
+
+    /// What a script does with it, as definitions tell it.
+    ghost walk: { Walk Node Told };
+
+    /// The ring.
+    ghost ring: { Self → HeldRing Node };
+
+    /// What is written of what is told of a settle step.
+    ghost text_of: { Self → Told → List ℕ };
+
+    /// Room enough for what is written of a settle step, in bytes.
+    ghost room: { Self → ℕ };
+
+    /// These steps may be run over fibres after so many settle steps that have ended.
+    ghost MayRun: { ℕ → List Step → Self → Fibres → Type 0 };
+
+    /// What a step does that runs no round. A fault leaves the fibres as they were.
+    fn change<P: Plant>(&mut self, plant: &mut P, step: Step, number: u32) -> Result<(), PlantFault>
+        requires may { (later : List Step) × MayRun number (step ∷ later) self.old (P.fibres plant.old) }
+        requires other { step ≡ Step.Settle → ⊥ }
+        ensures ok { OnOk result (world (ring self.new) (P.fibres plant.new) ≡ walk.does step (world (ring self.old) (P.fibres plant.old))) }
+        ensures next { OnOk result ((later : List Step) → MayRun number (step ∷ later) self.old (P.fibres plant.old) → MayRun number later self.new (P.fibres plant.new)) }
+        ensures err { OnErr result (Refused step (P.fibres plant.old) (P.fibres plant.new)) }
+        ensures writes { OnOk result (text_of self.new ≡ text_of self.old) }
+        ensures same_room { OnOk result (room self.new ≡ room self.old) }
+        ensures cause { HasCause P.exact (P.faults plant.old) (P.faults plant.new) result };
+
+    /// A settle step after so many that have ended, the rounds behind it, and what is written of it.
+    fn settle<P: Plant>(
+        &mut self,
+        plant: &mut P,
+        limit: u32,
+        number: u32,
+        text: &mut Text,
+    ) -> Result<(), SettleError>
+        requires may { (later : List Step) × MayRun number (Step.Settle ∷ later) self.old (P.fibres plant.old) }
+        requires room { room self.old ≤ text.old.room }
+        requires some { 1 ≤ limit }
+        requires few { limit ≤ 65536 }
+        ensures ok { OnOk result (Wrote walk limit (number + 1) (text_of self.old) (world (ring self.old) (P.fibres plant.old)) (world (ring self.new) (P.fibres plant.new)) text.old.bytes text.new.bytes) }
+        ensures next { OnOk result ((later : List Step) → MayRun number (Step.Settle ∷ later) self.old (P.fibres plant.old) → MayRun (number + 1) later self.new (P.fibres plant.new)) }
+        ensures room { OnOk result (text.old.room ≤ text.new.room + room self.old) }
+        ensures err { IfErr result (λ why. EndsBy walk limit (world (ring self.old) (P.fibres plant.old)) why (world (ring self.new) (P.fibres plant.new))) }
+        ensures same { OnErr result (text.new ≡ text.old) }
+        ensures writes { OnOk result (text_of self.new ≡ text_of self.old) }
+        ensures same_room { OnOk result (room self.new ≡ room self.old) }
+        ensures later { P.faults plant.old ≤ P.faults plant.new }
+        ensures failed { result ≡ Err SettleError.PlantFault → Rose (P.faults plant.old) (P.faults plant.new) }
+        ensures counted { IsCounted P.exact (result ≡ Err SettleError.PlantFault) (P.faults plant.old) (P.faults plant.new) };
+
+    /// At most 64 settle steps end.
+    ghost few: { (number : ℕ) (later : List Step) (r : Self) (f : Fibres) → MayRun number (Step.Settle ∷ later) r f → number + 1 ≤ 64 };
+}

@@ -1,0 +1,27 @@
+-- What the programs' calls are asked for by, and how a script ends that was run. The word is this project's own.
+use Rattle.std.specs.Prelude.{◌≡◌, ℕ, Bool, true, false, List, [], ◌∷◌, codes, map, String, string_bytes}
+use Rattle.std.specs.Str.{bytes_eq}
+use Rattle.std.specs.declared.alloc.Global.{Global}
+use Rattle.sdh_report.specs.declared.status.Status.{Status}
+use Rattle.sdh_report.specs.declared.status.Status.TheVariants as status
+
+-- the words of a command line, as bytes
+abbrev pub words_of : List (String Global) → List (List ℕ)
+words_of words = map string_bytes words
+
+-- they are the one word `run`
+abbrev pub is_run : List (List ℕ) → Bool
+is_run (word ∷ []) = bytes_eq word (codes "run")
+is_run words = false
+
+abbrev pub AreRun : List (List ℕ) → Type 0
+AreRun words = is_run words ≡ true
+
+-- ---- endings
+
+-- the script came to an end: it is done, or a settle step was unsettled, or a plant's call failed
+abbrev pub HasRun : Status → Type 0
+HasRun status.Ok = Unit {0}
+HasRun (status.Unsettled k) = Unit {0}
+HasRun status.PlantFault = Unit {0}
+HasRun how = ⊥

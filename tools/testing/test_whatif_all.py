@@ -1,0 +1,94 @@
+"""whatif --all over a ring of four: what is told, held against the rules, and what is run frame by frame."""
+
+import csv
+import json
+import subprocess
+import sys
+import tomllib
+import unittest
+
+from cases import CIRCUITS, IDS, Asking, document, expected, failures
+from common import TOOLS
+from rules import Rules
+
+MODEL = TOOLS.parent / "bench" / "whatif" / "model.py"
+TELLER = f"{sys.executable} {MODEL}"
+
+
+class All(Asking):
+    def tell(self, *words, teller=TELLER, **more):
+        return self.ask("--all", "--teller", teller, *words, **more)
+
+    def lines(self):
+        """The table's rows by their steps; of two with the same steps the first, which is a failure alone."""
+        rows = list(csv.reader((self.top / "out" / "all.csv").read_text().splitlines()))
+        self.assertEqual((rows[0], rows[-1]), (["steps", "kept", "over", "lost", "hops", "circuits"], ["done"]))
+        found = {}
+        for steps, *cells in rows[1:-7]:
+            found.setdefault(steps, cells)
+        return found
+
+    def script(self, name, text):
+        script = self.top / name
+        script.write_text(f"#!/bin/sh\n{text}\n")
+        script.chmod(0o755)
+        return str(script)
+
+    def test_every_failure_is_told_and_some_are_run(self):
+        self.tell("--frames", "5", "--frames", "cut 5 east; cut 2 west")
+        lines = self.lines()
+        for name, cut in failures().items():
+            if name.startswith("pair"):
+                continue
+            places = [f"cut {IDS[span]} east" if side == "east" else f"cut {IDS[(span + 1) % 4]} west" for span, side in cut]
+            rules = Rules(tomllib.loads(document()) | {"script": ["settle", *places, "settle"]}, [128, 256])
+            cells = expected(rules, 256)
+            kinds = [cell[:4] for cell in cells.values()]
+            line = next(row for steps, row in lines.items() if sorted(steps.split("; ")) == sorted([*places, "settle"]))
+            self.assertEqual([int(cell) for cell in line[:3]], [kinds.count(kind) for kind in ("kept", "over", "lost")], name)
+            self.assertEqual(line[4:], [circuit for circuit, cell in cells.items() if cell == "lost"], name)
+        page = self.page("all.html")
+        words = page.text().replace("\u2060", "")
+        self.assertIn("Told without a frame: 821 cases, nothing more, each failure alone and each two, in ", words)
+        self.assertIn("This build of it is not known to be proved.", words)
+        self.assertRegex(words, "Run frame by frame: [56] of these cases by sdhring ?, and each shows what was told of it.")
+        self.assertIn("single spans: 4; no circuit is lost", words)
+        run = sorted(path.stem for path in self.cases().glob("told-*.html"))
+        self.assertIn(len(run), (5, 6))
+        for name in run:
+            self.assertIn(f"cases/{name}.html", str([cell.get("href") for cell in page.all("a")]))
+
+    def test_the_same_as_json(self):
+        self.tell("--frames", "0")
+        told = json.loads((self.top / "out" / "all.json").read_text())
+        self.assertEqual((len(told["alone"]), len(told["pairs"]), told["proof"]), (40, 780, "not known to be proved"))
+        self.assertEqual(told["nothing"], {"steps": [], "kept": len(CIRCUITS), "over": 0, "lost": 0, "hops": 3, "circuits": []})
+        self.assertIn("Run frame by frame: none of them.", self.page("all.html").text())
+        self.assertFalse(self.cases().exists())
+
+    def test_what_a_run_shows_otherwise_is_told(self):
+        wrong = self.script("wrong", f"{TELLER} \"$@\" | sed 's/^\\(cut 5 east; cut 2 west; settle\\),2,2,/\\1,3,1,/'")
+        said = self.tell("--frames", "cut 5 east; cut 2 west", teller=wrong, wanted=4).stderr.decode()
+        self.assertIn("cut 5 east; cut 2 west: kept is 3, the run shows 2", said)
+        self.assertIn("1 of them differ", self.page("all.html").text())
+
+    def test_the_works_come_first(self):
+        self.tell("--works", "span 5-2", "--frames", "0")
+        lines = self.lines()
+        self.assertEqual(lines["settle"][:3], ["2", "2", "0"])
+        self.assertNotIn("manual 5 east; settle", lines)
+        self.assertIn("manual 2 east; settle", lines)
+
+    def test_refusals(self):
+        for words, said in (
+            (("--frames", "3"), "--frames and --teller go with --all"),
+            (("--all", "--teller", TELLER, "--shard", "1/2"), "--all has no parts"),
+            (("--all", "--teller", TELLER, "--frames", "cut 6 east"), "no case has these steps"),
+            (("--all", "--teller", self.script("none", "echo usage; exit 2")), "tells no table: status 2, usage"),
+            (("--all", "--teller", self.script("half", f'{TELLER} "$@" | head -5')), "tells no table: "),
+        ):
+            self.assertIn(said, self.ask(*words, wanted=1).stderr.decode())
+
+
+if __name__ == "__main__":
+    unittest.main()
