@@ -1,7 +1,7 @@
 //! The one call of the program `sdhwatch`: from the words, a source of bytes and a plant to a status and a text.
 #![tactic(auto)]
 
-mod report;
+mod program;
 mod top;
 
 pub use sdh_report::Status;

@@ -1,69 +1,43 @@
-use Rattle.std.proofs.Common.{List, ℕ, refl, subst, inl}
-use Rattle.std.specs.Io.KnownBytes.{Appends}
-use Rattle.sdh_outside.specs.Writing.{AppendsFewer}
-use Rattle.sdh_report.specs.declared.status.Status.{Status}
-use Rattle.sdh_report.specs.declared.status.Status.TheVariants as status
+use Rattle.std.proofs.Common.{inl, inr}
+use Rattle.sdh_plant.specs.Arrivals.{Knows}
 use Rattle.sdh_shell.specs.Calls.{words_of, is_run}
-use Rattle.sdh_shell.specs.Reading.{told_if}
 use Rattle.sdh_shell.specs.Failing.{Counts}
-use Rattle.sdh_shell.proofs.Failing.{came_without}
-use Rattle.sdh_shell.proofs.Writing.{told_whole, told_front}
-use Rattle.sdh_watch.specs.Outcome.{IsOutcome}
-use Rattle.sdh_watch.proofs.Promises as promises
+use Rattle.sdh_shell.proofs.Told.{told_all}
+use Rattle.sdh_script.specs.Plans.{world_of}
+use Rattle.sdh_watch_script.specs.Plans.{ran_of, ShowsClean}
+use Rattle.sdh_watching.specs.Shows.{Watched}
+use Rattle.sdh_calls.proofs.Promises.{SettlesLarge, EndsKnown, shows, settles, ends_as}
+use Rattle.sdh_watch.specs.Headline.{watching}
 use Rattle.sdh_watch.proofs.top.sdhwatch.Goals as goal
 
-pub returns-in-Ok-write_text-clause-owed : goal.returns-in-Ok-write_text-clause-owed
-returns-in-Ok-write_text-clause-owed g c = λ asked honest. (
+pub returns-clause-owed : goal.returns-clause-owed
+returns-clause-owed g c = λ asked honest. (
     let means = g.P.Plant.fibres in
-    let report = c.in-Ok.report in
-    let old = g.W.Sink.written c.args.sink.now in
-    let new = g.W.Sink.written c.write_text.new.sink in
-    let written = subst (Appends old new) c.bytes.ensures c.in-Ok-write_text.ensures.ok in
-    promises.told_shows (means c.args.plant.now) (means c.report_on.new.plant) report.status report.text.bytes old new written (is_run (words_of c.args.words.now)) asked (g.R.Source.left c.args.source.now) c.in-Ok.ensures.outcome honest)
+    let reads : Counts = record { before = g.R.Source.faults c.args.source.now; after = g.R.Source.faults c.call.new.source } in
+    let calls : Counts = record { before = g.P.Plant.faults c.args.plant.now; after = g.P.Plant.faults c.call.new.plant } in
+    shows watching (means c.args.plant.now) (means c.call.new.plant) ShowsClean (is_run (words_of c.args.words.now)) reads calls (g.R.Source.left c.args.source.now)
+    c.call.result (g.W.Sink.written c.args.sink.now) (g.W.Sink.written c.call.new.sink) asked (λ plan told came. came.owed honest) c.call.ensures.outcome)
 
-pub returns-in-Ok-write_text-clause-settles : goal.returns-in-Ok-write_text-clause-settles
-returns-in-Ok-write_text-clause-settles g c = λ asked honest. (
+pub returns-clause-settles : goal.returns-clause-settles
+returns-clause-settles g c = λ asked honest. (
     let means = g.P.Plant.fibres in
-    let report = c.in-Ok.report in
+    let reads : Counts = record { before = g.R.Source.faults c.args.source.now; after = g.R.Source.faults c.call.new.source } in
+    let calls : Counts = record { before = g.P.Plant.faults c.args.plant.now; after = g.P.Plant.faults c.call.new.plant } in
     let old = g.W.Sink.written c.args.sink.now in
-    let new = g.W.Sink.written c.write_text.new.sink in
-    let written = subst (Appends old new) c.bytes.ensures c.in-Ok-write_text.ensures.ok in
-    promises.told_settles (means c.args.plant.now) (means c.report_on.new.plant) report.status report.text.bytes old new written (is_run (words_of c.args.words.now)) asked (g.R.Source.left c.args.source.now) c.in-Ok.ensures.outcome honest)
+    let new = g.W.Sink.written c.call.new.sink in
+    told_all (g.R.Source.left c.args.source.now) _ _ (λ bytes x. settles watching (means c.args.plant.now) (means c.call.new.plant) bytes c.call.result old new x)
+    (shows watching (means c.args.plant.now) (means c.call.new.plant) (SettlesLarge Watched) (is_run (words_of c.args.words.now)) reads calls (g.R.Source.left c.args.source.now)
+    c.call.result old new asked (λ plan told came. came.settles honest) c.call.ensures.outcome))
 
-pub returns-in-Ok-write_text-clause-unsettled : goal.returns-in-Ok-write_text-clause-unsettled
-returns-in-Ok-write_text-clause-unsettled g c = λ asked. (
+pub returns-clause-unsettled : goal.returns-clause-unsettled
+returns-clause-unsettled g c = λ asked. (
     let means = g.P.Plant.fibres in
-    let report = c.in-Ok.report in
+    let f = means c.args.plant.now in
+    let reads : Counts = record { before = g.R.Source.faults c.args.source.now; after = g.R.Source.faults c.call.new.source } in
+    let calls : Counts = record { before = g.P.Plant.faults c.args.plant.now; after = g.P.Plant.faults c.call.new.plant } in
     let old = g.W.Sink.written c.args.sink.now in
-    let new = g.W.Sink.written c.write_text.new.sink in
-    let written = subst (Appends old new) c.bytes.ensures c.in-Ok-write_text.ensures.ok in
-    promises.told_unsettled (means c.args.plant.now) (means c.report_on.new.plant) report.status report.text.bytes old new written (is_run (words_of c.args.words.now)) asked (g.R.Source.left c.args.source.now) c.in-Ok.ensures.outcome)
-
-pub returns-in_default-clause-came : goal.returns-in_default-clause-came
-returns-in_default-clause-came g c = (status.Memory, inl refl, came_without _ _ _ _ _ _ c.in_default.ensures.without)
-
-pub returns-in-Ok-write_text-clause-outcome : goal.returns-in-Ok-write_text-clause-outcome
-returns-in-Ok-write_text-clause-outcome g c =
-    let means = g.P.Plant.fibres in
-    let a = is_run (words_of c.args.words.now) in
-    let reads : Counts = record { before = g.R.Source.faults c.args.source.now; after = g.R.Source.faults c.report_on.new.source } in
-    let calls : Counts = record { before = g.P.Plant.faults c.args.plant.now; after = g.P.Plant.faults c.report_on.new.plant } in
-    let report = c.in-Ok.report in
-    let old = g.W.Sink.written c.args.sink.now in
-    let new = g.W.Sink.written c.write_text.new.sink in
-    let written = subst (Appends old new) c.bytes.ensures c.in-Ok-write_text.ensures.ok in
-    let is = λ (bytes : List ℕ) (how : Status) (text : List ℕ). IsOutcome a bytes (means c.args.plant.now) how text (means c.report_on.new.plant) in
-    told_whole (told_if a (g.R.Source.left c.args.source.now)) is reads calls report.status report.text.bytes old new c.in-Ok.ensures.cause c.in-Ok.ensures.outcome c.in-Ok.ensures.own written
-
-pub returns-clause-outcome : goal.returns-clause-outcome
-returns-clause-outcome g c =
-    let means = g.P.Plant.fibres in
-    let a = is_run (words_of c.args.words.now) in
-    let reads : Counts = record { before = g.R.Source.faults c.args.source.now; after = g.R.Source.faults c.report_on.new.source } in
-    let calls : Counts = record { before = g.P.Plant.faults c.args.plant.now; after = g.P.Plant.faults c.report_on.new.plant } in
-    let report = c.in-Ok.report in
-    let old = g.W.Sink.written c.args.sink.now in
-    let new = g.W.Sink.written c.write_text.new.sink in
-    let fewer = subst (AppendsFewer old new) c.bytes.ensures c.in-Err.ensures.front in
-    let is = λ (bytes : List ℕ) (how : Status) (text : List ℕ). IsOutcome a bytes (means c.args.plant.now) how text (means c.report_on.new.plant) in
-    told_front (told_if a (g.R.Source.left c.args.source.now)) is reads calls report.status report.text.bytes old new c.in-Ok.ensures.cause c.in-Ok.ensures.outcome fewer
+    let new = g.W.Sink.written c.call.new.sink in
+    told_all (g.R.Source.left c.args.source.now) _ _
+    (λ bytes x. ends_as watching f (means c.call.new.plant) (λ plan. Knows (world_of plan f).fibres) (λ plan. (ran_of plan f).ending) bytes c.call.result old new x)
+    (shows watching f (means c.call.new.plant) (EndsKnown Watched (λ plan. Knows (world_of plan f).fibres) (λ plan. (ran_of plan f).ending)) (is_run (words_of c.args.words.now)) reads calls (g.R.Source.left c.args.source.now)
+    c.call.result old new asked (λ plan told came knows. elim (came.known knows) [ inl done ↦ inl done.end_is | inr cut ↦ inr cut.0 ]) c.call.ensures.outcome))
