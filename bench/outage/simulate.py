@@ -1,0 +1,363 @@
+#!/usr/bin/env python3
+"""A plain simulation of the shared ring, and what `sdhoutage run` must write of it. It shares nothing with the crates or the tools.
+
+  bench/outage/simulate.py run < PLAN       what `sdhoutage run` must write
+  bench/outage/simulate.py report < PLAN    what `sdhring run` must write, to hold the simulation against its worked rows
+
+Words, pointers and connections are run round by round, without frames: in place of its payload each AU-4 has a tag, which
+customer's bytes it is, from which byte on, and how they were put in. So a text of a length that divides 2340, whose VC-4s look
+alike, is no hindrance here; in real bytes a jump may not be seen there. The plan has to be a good one. Ends with the status."""
+import sys
+import tomllib
+from functools import lru_cache
+
+import signalling
+from customers import CHUNK, LENGTHS, Clock, Stream
+from pointers import NEW_INTERPRETER, generate, interpret
+
+WEST, EAST = 0, 1
+SIDES = "west", "east"
+WINDOW = 128
+AIS = ("ais", 0, None, None)  # an action, a value, a payload and the bytes H3
+SILENCE = (0xFFFF, "ones", "ones")  # an AU-4 of ones
+
+
+class Node:
+    """What a node keeps from round to round."""
+
+    def __init__(self, aus):
+        self.commands, self.defects, self.ended = [None, None], [0, 0], [None, None]
+        self.brought, self.held = [[], []], 0
+        self.state, self.words = ("idle", None), None
+        self.interpreters = {key: NEW_INTERPRETER for key in aus}
+        self.generators = {key: None for key in aus}
+        self.heard, self.local = [None, None], [0, 0]
+
+    def looks(self):
+        """All that has to stay the same in a calm round."""
+        return self.words, self.heard, self.state, self.local, self.interpreters, self.generators
+
+
+class Ring:
+    """Positions are counted from 0; a fibre is named by the position and the side that it leaves."""
+
+    def __init__(self, plan):
+        self.plan, self.ids, self.n = plan, plan["nodes"], len(plan["nodes"])
+        self.circuits = plan.get("circuit", [])
+        self.slots = sorted({circuit["slot"] for circuit in self.circuits})
+        self.on_span = {}
+        self.ends = []
+        for number, circuit in enumerate(self.circuits):
+            first, last = self.ids.index(circuit["from"]), self.ids.index(circuit["to"])
+            self.ends.append((first, last))
+            for i in range((last - first) % self.n):
+                self.on_span[(first + i) % self.n, circuit["slot"]] = number
+        aus = [(side, kind, slot) for side in (WEST, EAST) for kind in "wp" for slot in self.slots]
+        self.nodes = [Node(aus) for _ in range(self.n)]
+        for p, node in enumerate(self.nodes):
+            node.words = [(signalling.NR, self.neighbour(p, d), self.ids[p], signalling.SHORT, signalling.IDLE) for d in (WEST, EAST)]
+        self.conditions, self.before = {}, {}
+        self.clocks = {(c, end): Clock(circuit.get(f"offset_{end}", 0)) for c, circuit in enumerate(self.circuits) for end in "ab"}
+        self.carried, self.delivered = {}, {}
+        self.t, self.moment = -1, 0
+        self.origins = lru_cache(maxsize=None)(self.origins)
+
+    def neighbour(self, p, d):
+        return self.ids[(p + (1 if d == EAST else -1)) % self.n]
+
+    def span(self, p, d):
+        return p if d == EAST else (p - 1) % self.n
+
+    def fibre_into(self, p, d):
+        return ((p + 1) % self.n, WEST) if d == EAST else ((p - 1) % self.n, EAST)
+
+    def circuit_at(self, p, d, slot):
+        return self.on_span.get((self.span(p, d), slot))
+
+    # Steps of the script.
+
+    def do(self, words):
+        """Does one step that isn't `settle`."""
+        if words[0] == "moment":
+            self.moment = int(words[1])
+        elif words[0] == "hold":
+            self.nodes[self.ids.index(int(words[1]))].held = int(words[2])
+        elif words[0] == "slip":
+            names = [circuit["name"] for circuit in self.circuits]
+            self.clocks[names.index(words[1]), words[2]].waiting[words[3]] += int(words[4])
+        else:
+            p, d = self.ids.index(int(words[1])), SIDES.index(words[2])
+            if words[0] in ("cut", "mend", "degrade"):
+                self.conditions[p, d] = {"cut": "cut", "mend": 0}.get(words[0]) or int((words + ["0"])[3])
+            else:
+                self.nodes[p].commands[d] = {"forced": signalling.FS, "manual": signalling.MS, "clear": None}[words[0]]
+
+    # One round: what comes in, the state, the connections, what leaves.
+
+    def round(self):
+        """Runs a round, and tells whether it was calm."""
+        self.t += 1
+        before = [node.looks() for node in self.nodes]
+        calm = self.t > 0
+        came = []
+        for p, node in enumerate(self.nodes):
+            fails = self.sees(p, node)
+            if node.held:
+                node.held -= 1
+                calm = False
+            else:
+                look = signalling.Look(self.ids[p], [self.neighbour(p, d) for d in (WEST, EAST)], node.local, fails, node.heard)
+                node.state, node.words = signalling.step(look, self.ids)
+            came.append(self.taken(p, node, fails))
+        sent = {port: clock.next() for port, clock in self.clocks.items()}
+        self.deliver(came)
+        self.carried = {}
+        for p, node in enumerate(self.nodes):
+            self.send(p, node, came[p], sent)
+        self.before = dict(self.conditions)
+        return calm and before == [node.looks() for node in self.nodes]
+
+    def sees(self, p, node):
+        """Defects, words and local requests; tells which sides fail."""
+        fails, local, heard = [False, False], [0, 0], [None, None]
+        for d in (WEST, EAST):
+            fibre = self.fibre_into(p, d)
+            now, then = self.conditions.get(fibre, 0), self.before.get(fibre, 0)
+            fails[d] = self.t >= 1 and now == "cut"
+            is_degraded = self.t >= 2 and "cut" not in (now, then) and then >= self.plan["threshold"]
+            defect = signalling.SF if fails[d] else signalling.SD if is_degraded else 0
+            if node.defects[d] and not defect:
+                node.ended[d] = self.moment
+            node.defects[d] = defect
+            waits = not defect and node.ended[d] is not None and self.moment < node.ended[d] + self.plan["wait"]
+            local[d] = max(node.commands[d] or 0, defect, signalling.WTR if waits else 0)
+            brought = None if self.t == 0 or fails[d] else self.carried[fibre][0]
+            node.brought[d] = [*node.brought[d][-2:], brought]
+            heard[d] = signalling.hears(node.brought[d])
+        node.local, node.heard = local, heard
+        return fails
+
+    def taken(self, p, node, fails):
+        """What each AU-4 that comes in is by its interpreter: an action, a value, a payload and the bytes H3."""
+        if self.t == 0:
+            return dict.fromkeys(node.interpreters, AIS)
+        came, kept = {}, {}
+        frames = [self.carried[self.fibre_into(p, d)][1] for d in (WEST, EAST)]
+        for key in node.interpreters:
+            word, payload, h3 = SILENCE if fails[key[0]] else frames[key[0]][key[1:]]
+            kept[key], action = interpret(node.interpreters[key], word)
+            came[key] = AIS if action == "ais" else (action, kept[key][1], payload, h3)
+        node.interpreters = kept
+        return came
+
+    def may_carry(self, p, d, slot, far):
+        """Whether the circuit on the span of a switched side has both its ends on the way from there to the far end."""
+        circuit = self.circuit_at(p, d, slot)
+        if circuit is None or far is None:
+            return False
+        first, last = (self.ids.index(far), p) if d == EAST else (p, self.ids.index(far))
+        return all((end - first) % self.n <= (last - first) % self.n for end in self.ends[circuit])
+
+    def stands_for(self, p, state, d, slot):
+        """What the working arrival of a slot from a side stands for: the AU-4 that is taken, or None for AIS."""
+        name, far = state
+        if name == "isolated":
+            return None
+        if name == ("switch-west", "switch-east")[d]:
+            return (1 - d, "p", slot) if self.may_carry(p, d, slot, far) else None
+        return d, "w", slot
+
+    def working(self, p, state, d, slot):
+        """What leaves on a side in a working slot: an AU-4 that came in, a port as (circuit, end), or None for AIS."""
+        circuit = self.circuit_at(p, d, slot)
+        if state[0] == "isolated" or circuit is None:
+            return None
+        if p == self.ends[circuit][0 if d == EAST else 1]:
+            return circuit, "a" if d == EAST else "b"
+        return self.stands_for(p, state, 1 - d, slot)
+
+    def protection(self, p, state, d, slot):
+        e = 1 - d
+        if state[0] == "pass":
+            return e, "p", slot
+        if state[0] == ("switch-west", "switch-east")[e] and self.may_carry(p, e, slot, state[1]):
+            return self.working(p, state, e, slot)
+        return None
+
+    def origins(self, p, state):
+        """For each AU-4 that leaves a node in this state, what it comes from."""
+        made = {}
+        for d in (WEST, EAST):
+            for slot in self.slots:
+                made[d, "w", slot] = self.working(p, state, d, slot)
+                made[d, "p", slot] = self.protection(p, state, d, slot)
+        return made
+
+    def send(self, p, node, came, sent):
+        kept, leaves = {}, ({}, {})
+        for key, origin in self.origins(p, node.state).items():
+            if origin is None:
+                action, value, payload, h3 = AIS
+            elif len(origin) == 2:
+                position, action = sent[origin]
+                value, payload, h3 = self.clocks[origin].value, (*origin, position, action), (*origin, position)
+            else:
+                action, value, payload, h3 = came[origin]
+            word, kept[key] = generate(node.generators[key], action, value)
+            is_down = action == "down" and not word >> 12 == 9
+            leaves[key[0]][key[1:]] = SILENCE if word == 0xFFFF else (word, payload, h3 if is_down else "zeros")
+        node.generators = kept
+        for d in (WEST, EAST):
+            self.carried[p, d] = node.words[d], leaves[d]
+
+    def deliver(self, came):
+        for c, ends in enumerate(self.ends):
+            for end, p, d in (("a", ends[0], EAST), ("b", ends[1], WEST)):
+                origin = self.stands_for(p, self.nodes[p].state, d, self.circuits[c]["slot"])
+                self.delivered[c, end] = AIS if origin is None else came[p][origin]
+
+    def settle(self, seen):
+        """Runs rounds until a quiet window ends, `seen` after each; tells whether one did."""
+        calm = 0
+        for _ in range(self.plan["limit"]):
+            calm = calm + 1 if self.round() else 0
+            seen()
+            if calm >= 3 * self.n and self.t % WINDOW == 0:
+                return True
+        return False
+
+
+def bytes_of(delivered):
+    """Whose bytes a port delivers: `ais`, `ones`, `strange`, or (circuit, end, first byte, number of bytes)."""
+    action, _, payload, h3 = delivered
+    if action == "ais":
+        return "ais"
+    if payload == "ones":
+        return "ones" if action != "down" or h3 == "ones" else "strange"
+    form = "normal" if action == "new" else action
+    if payload[3] != form or form == "down" and h3 != payload[:3]:
+        return "strange"
+    return (*payload[:3], LENGTHS[form])
+
+
+class Outage:
+    """What one port delivered in the rounds of a settle step; `follows` is the byte that would come next, if the round before brought own bytes."""
+
+    def __init__(self, line, other):
+        self.line, self.other, self.follows = line, other, None
+        self.begin()
+
+    def begin(self):
+        self.counts = dict.fromkeys(("ais", "ones", "jump", "strange"), 0)
+        self.first, self.last = "-", "-"
+
+    def see(self, t, delivered):
+        came = bytes_of(delivered)
+        kind, follows = came, None
+        if isinstance(came, tuple):
+            start, end = came[2], came[2] + came[3]
+            is_own = came[:2] == self.other and CHUNK * (t - 71) <= start and end <= CHUNK * (t + 7)
+            kind = "strange" if not is_own else "jump" if self.follows not in (None, start) else "order"
+            follows = end if is_own else None
+        self.follows = follows
+        if kind != "order":
+            self.counts[kind] += 1
+            self.first, self.last = t if self.first == "-" else self.first, t
+
+    def out(self):
+        return self.counts["ais"] + self.counts["ones"] + self.counts["strange"]
+
+    def told(self):
+        out, counts = self.out(), self.counts
+        return (
+            f"{self.line} out {out} ms {milliseconds(out)} from {self.first} to {self.last} "
+            f"ais {counts['ais']} ones {counts['ones']} jump {counts['jump']} strange {counts['strange']}"
+        )
+
+
+def milliseconds(rounds):
+    return f"{rounds * 125 // 1000}.{rounds * 125 % 1000:03}"
+
+
+class Outages:
+    """The text of `sdhoutage run`."""
+
+    def __init__(self, ring):
+        self.ring, self.ports = ring, {}
+        for c, circuit in enumerate(ring.circuits):
+            for end, other in ("ab", "ba"):
+                self.ports[c, end] = Outage(f"port {circuit['name']} {end}", (c, other))
+
+    def begin(self):
+        for port in self.ports.values():
+            port.begin()
+
+    def see(self):
+        for key, port in self.ports.items():
+            port.see(self.ring.t, self.ring.delivered[key])
+
+    def lines(self):
+        outs = [port.out() for port in self.ports.values()]
+        longest = max(outs, default=0)
+        return [*(port.told() for port in self.ports.values()), f"longest {longest} ms {milliseconds(longest)} none {outs.count(0)}"]
+
+
+class Reports:
+    """The text of `sdhring run`."""
+
+    def __init__(self, ring):
+        self.ring, self.streams = ring, {}
+        for c, circuit in enumerate(ring.circuits):
+            for end in "ab":
+                trace = circuit.get(f"trace_{end}", circuit["name"])
+                self.streams[c, end] = Stream(circuit[f"text_{end}"], trace, circuit.get(f"offset_{end}", 0))
+
+    def begin(self):
+        pass
+
+    def see(self):
+        pass
+
+    def port(self, key):
+        came = bytes_of(self.ring.delivered[key])
+        if came == "ais":
+            return "ais"
+        shown = self.streams[came[:2]].bytes(came[2], 16).hex() if isinstance(came, tuple) else {"ones": "ff" * 16}.get(came, "?")
+        return f"norm {self.ring.delivered[key][1]} {shown}"
+
+    def lines(self):
+        made = []
+        for identifier, node in zip(self.ring.ids, self.ring.nodes):
+            west, east = map(signalling.written, node.words)
+            made.append(f"node {identifier} {node.state[0]} west {west} east {east}")
+        for c, circuit in enumerate(self.ring.circuits):
+            made += [f"port {circuit['name']} {end} {self.port((c, end))}" for end in "ab"]
+        return made
+
+
+def run(plan, kind=Outages):
+    """The status and the text."""
+    ring = Ring(plan)
+    teller, lines, settled = kind(ring), [], 0
+    for step in plan["script"]:
+        if step != "settle":
+            ring.do(step.split(" "))
+            continue
+        settled += 1
+        teller.begin()
+        if not ring.settle(teller.see):
+            return 7, "\n".join([*lines, f"unsettled {settled}", ""])
+        lines += [f"settle {settled} round {ring.t}", *teller.lines()]
+    return 0, "\n".join([*lines, "done", ""])
+
+
+def main(words):
+    if words not in (["run"], ["report"]):
+        sys.exit(__doc__)
+    status, text = run(tomllib.load(sys.stdin.buffer), Outages if words == ["run"] else Reports)
+    sys.stdout.write(text)
+    return status
+
+
+if __name__ == "__main__":
+    sys.exit(main(sys.argv[1:]))
