@@ -1,15 +1,17 @@
 """The signalling rules of one node in one round, rule by rule. A K word is (code, to, from, path, mark), a side 0 (west) or 1 (east)."""
+from functools import lru_cache
+
 NR, RR, WTR, MS, SD, SF, FS = 0, 1, 5, 6, 8, 11, 13
 SHORT, LONG = 0, 1
 IDLE, BRIDGED, BRIDGED_SWITCHED, RDI = 0, 1, 2, 6
 
 
 def hears(brought):
-    """The word heard of what the last rounds brought: it came three times, whatever its mark."""
-    last = brought[-3:]
-    if len(last) < 3 or None in last or len({word[:4] for word in last}) > 1:
+    """The word heard of what the last three rounds brought: it came in each of them, whatever its mark."""
+    first, second, last = brought
+    if None in brought or not first[:4] == second[:4] == last[:4]:
         return None
-    return last[-1]
+    return last
 
 
 class Look:
@@ -66,8 +68,10 @@ class Look:
         return all(word is None or word[0] < mine for word in others)
 
 
-def step(look, identifiers):
-    """The state as (name, far end or None), and the words that leave west and east."""
+@lru_cache(maxsize=None)
+def step(identifiers, *seen):
+    """The state as (name, far end or None), and the words that leave west and east, of what a node sees (`Look`)."""
+    look = Look(*seen)
     switched = [d for d in (0, 1) if look.switches(d)]
     kinds, words = zip(*(look.chosen(d) for d in (0, 1)))
     name, far = "idle", None
@@ -82,7 +86,7 @@ def step(look, identifiers):
         name = "pass"
     own = BRIDGED_SWITCHED if far is not None else BRIDGED if len(switched) == 1 else IDLE
     marks = [RDI if look.fails[d] else own for d in (0, 1)]
-    return (name, far), [word if kind == "relayed" else (*word, mark) for kind, word, mark in zip(kinds, words, marks)]
+    return (name, far), tuple(word if kind == "relayed" else (*word, mark) for kind, word, mark in zip(kinds, words, marks))
 
 
 def written(word):

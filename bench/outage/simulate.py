@@ -27,11 +27,11 @@ class Node:
 
     def __init__(self, aus):
         self.commands, self.defects, self.ended = [None, None], [0, 0], [None, None]
-        self.brought, self.held = [[], []], 0
+        self.brought, self.held = [(None,) * 3, (None,) * 3], 0
         self.state, self.words = ("idle", None), None
         self.interpreters = {key: NEW_INTERPRETER for key in aus}
         self.generators = {key: None for key in aus}
-        self.heard, self.local = [None, None], [0, 0]
+        self.heard, self.local = (None, None), (0, 0)
 
     def looks(self):
         """All that has to stay the same in a calm round."""
@@ -42,7 +42,7 @@ class Ring:
     """Positions are counted from 0; a fibre is named by the position and the side that it leaves."""
 
     def __init__(self, plan):
-        self.plan, self.ids, self.n = plan, plan["nodes"], len(plan["nodes"])
+        self.plan, self.ids, self.n = plan, tuple(plan["nodes"]), len(plan["nodes"])
         self.circuits = plan.get("circuit", [])
         self.slots = sorted({circuit["slot"] for circuit in self.circuits})
         self.on_span = {}
@@ -55,15 +55,15 @@ class Ring:
         aus = [(side, kind, slot) for side in (WEST, EAST) for kind in "wp" for slot in self.slots]
         self.nodes = [Node(aus) for _ in range(self.n)]
         for p, node in enumerate(self.nodes):
-            node.words = [(signalling.NR, self.neighbour(p, d), self.ids[p], signalling.SHORT, signalling.IDLE) for d in (WEST, EAST)]
+            node.words = tuple((signalling.NR, to, self.ids[p], signalling.SHORT, signalling.IDLE) for to in self.neighbours(p))
         self.conditions, self.before = {}, {}
         self.clocks = {(c, end): Clock(circuit.get(f"offset_{end}", 0)) for c, circuit in enumerate(self.circuits) for end in "ab"}
         self.carried, self.delivered = {}, {}
         self.t, self.moment = -1, 0
         self.origins = lru_cache(maxsize=None)(self.origins)
 
-    def neighbour(self, p, d):
-        return self.ids[(p + (1 if d == EAST else -1)) % self.n]
+    def neighbours(self, p):
+        return self.ids[p - 1], self.ids[(p + 1) % self.n]
 
     def span(self, p, d):
         return p if d == EAST else (p - 1) % self.n
@@ -106,8 +106,8 @@ class Ring:
                 node.held -= 1
                 calm = False
             else:
-                look = signalling.Look(self.ids[p], [self.neighbour(p, d) for d in (WEST, EAST)], node.local, fails, node.heard)
-                node.state, node.words = signalling.step(look, self.ids)
+                seen = self.ids[p], self.neighbours(p), node.local, fails, node.heard
+                node.state, node.words = signalling.step(self.ids, *seen)
             came.append(self.taken(p, node, fails))
         sent = {port: clock.next() for port, clock in self.clocks.items()}
         self.deliver(came)
@@ -132,10 +132,10 @@ class Ring:
             waits = not defect and node.ended[d] is not None and self.moment < node.ended[d] + self.plan["wait"]
             local[d] = max(node.commands[d] or 0, defect, signalling.WTR if waits else 0)
             brought = None if self.t == 0 or fails[d] else self.carried[fibre][0]
-            node.brought[d] = [*node.brought[d][-2:], brought]
+            node.brought[d] = *node.brought[d][1:], brought
             heard[d] = signalling.hears(node.brought[d])
-        node.local, node.heard = local, heard
-        return fails
+        node.local, node.heard = tuple(local), tuple(heard)
+        return tuple(fails)
 
     def taken(self, p, node, fails):
         """What each AU-4 that comes in is by its interpreter: an action, a value, a payload and the bytes H3."""

@@ -1,0 +1,252 @@
+"""What a switch costs: docs/RING.md against the worked rows of sdhoutage, and these against a plain simulation.
+
+The simulation is held against the worked rows of sdhring first, since the rows of sdhoutage come from it."""
+
+import re
+import subprocess
+import sys
+import tomllib
+import unittest
+from functools import cache
+
+from common import RINGS, TOOLS
+
+from ringtools.rows import read_rows
+from rules import Rules, Stream
+
+ROOT = TOOLS.parent
+PAGE, OUTAGES, BENCH = ROOT / "docs" / "RING.md", RINGS.parent / "outages", ROOT / "bench" / "outage"
+sys.path.insert(0, str(BENCH))
+
+import simulate  # noqa: E402
+
+PORT = re.compile(r"port (\S+) ([ab]) out (\d+) ms (\d+\.\d{3}) from (\d+|-) to (\d+|-) ais (\d+) ones (\d+) jump (\d+) strange (\d+)")
+SPARED = {"beside", "far", "short"}  # circuits of the worked plans whose arcs don't hold the span
+SIZES = 3, 4, 8, 16
+KEYS = "out", "ms", "from", "to", "ais", "ones", "jump", "strange"
+
+
+class Step:
+    """One settle step of a text: its first and last round, and its ports by (name, end)."""
+
+    def __init__(self, first, lines):
+        self.first, self.last, self.ports, self.longest = first, int(lines[0].split()[3]), {}, lines[-1]
+        for line in lines[1:-1]:
+            name, end, *numbers = PORT.fullmatch(line).groups()
+            self.ports[name, end] = dict(zip(KEYS, (told if told == "-" or "." in told else int(told) for told in numbers)))
+
+    def kept(self, spared=SPARED):
+        """The ports over the span that have another way: they aren't out at the end of the step."""
+        return [told for (name, _), told in self.ports.items() if name not in spared and told["to"] != self.last]
+
+    def over(self, spared=SPARED):
+        """How many rounds after the event no port is out any more; a round of a jump is in order itself."""
+        ends = [told["to"] + bool(told["out"]) for told in self.kept(spared) if told["to"] != "-"]
+        return max(ends, default=self.first) - self.first
+
+
+def steps_in(text):
+    lines, steps, first = text.splitlines(), [], 0
+    starts = [at for at, line in enumerate(lines) if line.startswith("settle ")]
+    for start, end in zip(starts, [*starts[1:], len(lines) - 1]):
+        steps.append(Step(first, lines[start:end]))
+        first = steps[-1].last + 1
+    return steps
+
+
+@cache
+def steps_of(name):
+    return steps_in((OUTAGES / f"{name}.text").read_text())
+
+
+@cache
+def rows():
+    return {row.name: row for row in read_rows(OUTAGES)}
+
+
+@cache
+def every_arc(name, n):
+    """The worked plan in a ring of n nodes, with a circuit along each arc of n - 1 spans, in place of its own circuits."""
+    plan = tomllib.loads(rows()[f"{name}-16"].given.decode())
+    nodes = [6, 7, 8, *range(9, 6 + n)]
+    both = {"text_a": "-", "text_b": "-"}
+    circuits = [{"name": f"from-{nodes[i]}", "from": nodes[i], "to": nodes[i - 1], "slot": i, **both} for i in range(n)]
+    return steps_in(simulate.run({**plan, "nodes": nodes, "circuit": circuits})[1])
+
+
+def value(formula, n):
+    """A number, or so many times n, more or less."""
+    times, sign, more = re.fullmatch(r"(?:(\d*)n)?(?: ([+-]) )?(\d*)", formula).groups()
+    times = 0 if times is None else int(times or 1)
+    return times * n + int(f"{sign or ''}{more or 0}")
+
+
+def bounds(cell, n):
+    """The lowest and the highest number of a cell."""
+    ends = cell.removesuffix(", and a jump").split(" to ")
+    return value(ends[0], n), value(ends[-1], n)
+
+
+def table():
+    """The rows of the section's table: what happens, the cells, and the worked plan with the number of its report."""
+    section = PAGE.read_text().split("## What a switch costs\n")[1].split("\n## ")[0]
+    lines = [line.strip("| ").split(" | ") for line in section.splitlines() if line.startswith("|")][2:]
+    return [(*cells, *re.fullmatch(r"`([a-z-]+)`, (\d)", plan).groups()) for *cells, plan in lines]
+
+
+class Table(unittest.TestCase):
+    """The table of docs/RING.md is what the worked plans show."""
+
+    def check(self, step, row, n, spared=SPARED):
+        what, frames, over = row[0], row[1], row[4]
+        outs = [told["out"] for told in step.kept(spared)]
+        self.assertEqual((min(outs), max(outs)), bounds(frames, n), what)
+        if "jump" in frames:
+            self.assertEqual({told["jump"] for told in step.kept(spared)}, {1}, what)
+        self.assertLessEqual(step.over(spared), value(over, n), what)
+
+    def test_frames_and_milliseconds_of_sixteen_nodes(self):
+        for _, frames, at_16, ms, *_ in table():
+            self.assertEqual(bounds(at_16, 16), bounds(frames, 16))
+            self.assertEqual(ms.split(" to "), [f"{out * 0.125:.3f}" for out in sorted({*bounds(frames, 16)})])
+
+    def test_every_row_is_what_its_worked_plans_show(self):
+        checked = 0
+        for row in table():
+            for n in SIZES:
+                if n > 3 and f"{row[5]}-{n}" in rows():
+                    with self.subTest(row=row[0], n=n):
+                        self.check(steps_of(f"{row[5]}-{n}")[int(row[6]) - 1], row, n)
+                        checked += 1
+        self.assertEqual(checked, len(table()) + 2 * 3)  # three rows have plans of 4 and 8 nodes too
+
+    def test_the_longest_arcs_show_when_all_is_over(self):
+        n, spared = 5, {"from-8"}
+        for row in table():
+            with self.subTest(row=row[0]):
+                step = every_arc(row[5], n)[int(row[6]) - 1]
+                self.check(step, row, n, spared)
+                self.assertEqual(step.over(spared), value(row[4], n))
+
+
+class Facts(unittest.TestCase):
+    """What the section says besides its table."""
+
+    def test_customers_round_the_span_lose_nothing(self):
+        untouched = {"out": 0, "ms": "0.000", "from": "-", "to": "-", "ais": 0, "ones": 0, "jump": 0, "strange": 0}
+        for name in rows():
+            if re.search("-(3|4|8|16)$", name):
+                spared = SPARED - {"far"} if name.startswith("node") else SPARED
+                for step in steps_of(name)[1:]:
+                    for (circuit, end), told in step.ports.items():
+                        self.assertTrue(circuit not in spared or told == untouched, f"{name}, {circuit} {end}")
+
+    def test_three_nodes(self):
+        outs = lambda name, number: {told["out"] for told in steps_of(name)[number - 1].kept()}
+        self.assertEqual([outs("span-3", number) for number in (2, 3, 4)], [{8}, {6}, {0}])
+        for name in ("fibre-3", "degraded-3", "forced-3", "manual-3"):
+            self.assertEqual(outs(name, 2), {8, 9}, name)
+        for name in ("fibre-3", "degraded-3"):
+            self.assertEqual(outs(name, 3), {7, 8}, name)
+        self.assertEqual(outs("node-3", 2), {4})
+
+    def test_customers_of_a_lost_node_have_ais_alone(self):
+        for n in (3, 16):
+            step = steps_of(f"node-{n}")[1]
+            for name in ("over", "far"):
+                for end in "ab":
+                    told = step.ports[name, end]
+                    self.assertEqual((told["to"], told["out"]), (step.last, told["ais"] + told["ones"]))
+                    self.assertLessEqual(told["from"] + told["ones"], step.first + 3 * n - 6)
+
+    def test_works_with_a_switch_on_one_side(self):
+        longest = [max(told["out"] for told in step.kept()) for step in steps_of("works-one-side-16")]
+        self.assertEqual(longest[1:], [60, 58, 60, 0, 0])
+        self.assertEqual({told["jump"] for told in steps_of("works-16")[5].kept()}, {1})
+        self.assertEqual([max(told["out"] for told in step.kept()) for step in steps_of("works-16")][1:], [60, 0, 0, 0, 0])
+
+    def test_examples_tell_the_truth(self):
+        comment = lambda name: (ROOT / "examples" / name).read_text().split("rate = ")[0].replace("\n# ", " ")
+        works, waiting = steps_of("example-before-works"), steps_of("example-waiting")
+        outs = [{told["out"] for (name, _), told in step.ports.items() if name != "south"} for step in works[1:]]
+        self.assertEqual(outs, [{12}, {10, 12}, {0}])
+        self.assertIn("lose twelve frames while the manual switch is made, and ten or twelve once more", comment("before-works.toml"))
+        self.assertEqual({told["out"] for step in works[1:] for (name, _), told in step.ports.items() if name == "south"}, {0})
+        self.assertEqual([{told["out"] for told in step.ports.values()} for step in waiting[1:]], [{10}, {0}, {0}])
+        self.assertIn("the mending, though the switch stays, costs each port ten frames", comment("waiting.toml"))
+        for last in (works[3].ports["north", "a"], waiting[3].ports["c1", "a"]):
+            self.assertEqual((last["out"], last["jump"]), (0, 1))
+
+
+class Rows(unittest.TestCase):
+    def test_the_simulation_tells_what_the_rows_of_sdhring_say(self):
+        checked = 0
+        for row in read_rows():
+            if row.words == (b"run",) and row.status in (0, 7) and row.given and not row.name.endswith("-within-bound"):
+                with self.subTest(row=row.name):
+                    status, text = simulate.run(tomllib.loads(row.given.decode()), simulate.Reports)
+                    self.assertEqual((status, text.encode()), (row.status, row.text))
+                    checked += 1
+        self.assertGreaterEqual(checked, 30)
+
+    def test_the_rows_are_what_the_simulation_tells(self):
+        for row in rows().values():
+            if row.words == (b"run",) and row.status in (0, 7) and row.text:
+                with self.subTest(row=row.name):
+                    status, text = simulate.run(tomllib.loads(row.given.decode()))
+                    self.assertEqual((status, text.encode()), (row.status, row.text))
+
+    def test_every_status_and_no_text_is_forgotten(self):
+        self.assertEqual({row.status for row in rows().values()}, {0, 2, 3, 4, 5, 6, 7, 9})
+        listed = (OUTAGES / "rows.md").read_text()
+        self.assertEqual({path.name for path in OUTAGES.glob("*.t*") if f"| {path.name} |" not in listed}, set())
+
+    def test_lines_agree_in_themselves(self):
+        for row in rows().values():
+            for step in steps_in(row.text.decode()) if row.text and row.status in (0, 7) else []:
+                outs = [told["out"] for told in step.ports.values()]
+                longest = max(outs, default=0)
+                self.assertEqual(step.longest, f"longest {longest} ms {longest * 0.125:.3f} none {outs.count(0)}")
+                for told in step.ports.values():
+                    self.assertEqual(told["out"], told["ais"] + told["ones"] + told["strange"])
+                    self.assertEqual(told["ms"], f"{told['out'] * 0.125:.3f}")
+                    if told["to"] != "-":
+                        self.assertTrue(step.first <= told["from"] <= told["to"] <= step.last)
+                        self.assertLessEqual(told["out"] + told["jump"], told["to"] - told["from"] + 1)
+
+    def test_texts_of_the_worked_plans_show_each_jump(self):
+        for path in [*OUTAGES.glob("*.toml"), *(ROOT / "examples" / name for name in ("before-works.toml", "waiting.toml"))]:
+            texts = [circuit[f"text_{end}"] for circuit in tomllib.loads(path.read_text())["circuit"] for end in "ab"]
+            self.assertEqual([text for text in texts if 2340 % len(text) == 0], [], path.name)
+            self.assertEqual(len(set(texts)), len(texts), path.name)
+
+    def test_the_text_of_the_waiting_example_is_owed(self):
+        """By the restoration model, which knows neither words nor pointers."""
+        plan, text = tomllib.loads((ROOT / "examples" / "waiting.toml").read_text()), (RINGS / "waiting.text").read_text()
+        rounds = [int(line.split()[3]) for line in text.splitlines() if line.startswith("settle ")]
+        rules, told = Rules(plan, rounds), [line for line in text.splitlines() if line.startswith("port ")]
+        (circuit,) = plan["circuit"]
+        wanted = []
+        for last in rounds:
+            for end, other in ("ab", "ba"):
+                start = 2349 * (last - rules.hops(circuit, rules.applied(last)))
+                stream = Stream(circuit[f"text_{other}"], "c1", 0)
+                wanted.append(f"port c1 {end} norm 0 {stream.bytes(start, 16).hex()}")
+        self.assertEqual(told, wanted)
+
+
+class Compare(unittest.TestCase):
+    """The driver that holds a built program against the simulation, with the simulation as the program."""
+
+    def test_what_agrees_and_what_differs(self):
+        words = [sys.executable, str(BENCH / "compare")]
+        agrees = subprocess.run([*words, str(BENCH / "simulate.py"), "2", "3"], capture_output=True, text=True)
+        self.assertEqual((agrees.returncode, agrees.stderr), (0, ""))
+        self.assertIn("2 plans, 0 differ", agrees.stdout)
+        differs = subprocess.run([*words, "/bin/true", "1", "3"], capture_output=True, text=True)
+        self.assertEqual(differs.returncode, 1)
+        self.assertIn("1 plans, 1 differ", differs.stdout)
+
+
+if __name__ == "__main__":
+    unittest.main()
