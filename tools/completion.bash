@@ -1,4 +1,5 @@
-# Completion of sdhring, sdhwatch, sdhpath, sdhretime, sdhwhatif and the tools beside them, for bash: source it, or let `--install` put it in place.
+# Completion of sdhring, sdhwatch, sdhoutage, sdhpath, sdhretime, sdhwhatif and the tools beside them, for bash: source
+# it, or let `--install` put it in place.
 
 _sdhring_words() {
   local program=${COMP_WORDS[0]##*/} word=${COMP_WORDS[COMP_CWORD]}
@@ -6,7 +7,7 @@ _sdhring_words() {
   case $program:$COMP_CWORD:${COMP_WORDS[1]-} in
     sdhring:1:*) mapfile -t COMPREPLY < <(compgen -W "run check drop big $1" -- "$word") ;;
     sdhring:3:drop) mapfile -t COMPREPLY < <(compgen -W "a b" -- "$word") ;;
-    sdhwatch:1:* | sdhpath:1:*) mapfile -t COMPREPLY < <(compgen -W "run $1" -- "$word") ;;
+    sdhwatch:1:* | sdhoutage:1:* | sdhpath:1:*) mapfile -t COMPREPLY < <(compgen -W "run $1" -- "$word") ;;
     sdhwhatif:1:*) mapfile -t COMPREPLY < <(compgen -W "single double triple $1" -- "$word") ;;
     sdhretime:1:*) mapfile -t COMPREPLY < <(compgen -W "$1" -- "$word") ;;
     *:*:--install) compopt -o dirnames ;;
@@ -30,12 +31,12 @@ _sdhring_tools() {
     explain) words='--first --status --name --help' ;;
     report) words='--json --csv --nodes --plan --help' ;;
     plan) words='new --nodes --rate --steps --to --help' ;;
-    ringview) words='--svg --program --help' ;;
+    ringview) words='--svg --outages --program --help' ;;
     whatif) words='--also --works --kinds --dir --program --jobs --shard --sshlogin --parallel --all --frames --teller --anew --help' ;;
   esac
   mapfile -t COMPREPLY < <(compgen -W "$words" -- "$word")
   [ "${#COMPREPLY[@]}" -ne 0 ] || compopt -o default
 }
 
-complete -F _sdhring {,./}sdh{ring,watch,path,retime,whatif}
+complete -F _sdhring {,./}sdh{ring,watch,outage,path,retime,whatif}
 complete -F _sdhring_tools {,./}tools/{rows,explain,report,plan,ringview,whatif}

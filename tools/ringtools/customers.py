@@ -47,9 +47,16 @@ def short(look, circuit):
     return {"odd": "not owed", "lost": "lost", "kept": "kept", "untold": "not told"}[result]
 
 
+def out_words(look, circuit):
+    """For how long each port of a customer was out in the step, as one where both are alike."""
+    a, b = (look.settled.outages.ports[circuit.name, end].words() for end in "ab")
+    return a if a == b else f"a: {a}; b: {b}"
+
+
 def step_cell(look, circuit):
     changed = " changed-cell" if circuit.name in look.changed_circuits else ""
-    return f'<td class="result-{look.result(circuit)}{changed}">{short(look, circuit)}</td>'
+    out = f"<br>out: {out_words(look, circuit)}" if look.settled.outages else ""
+    return f'<td class="result-{look.result(circuit)}{changed}">{short(look, circuit)}{out}</td>'
 
 
 def total_row(shown):
@@ -86,23 +93,39 @@ def port_cell(look, circuit, end):
     return shown if verdict == "ais" else f"its own customer's bytes, {shown}"
 
 
+def out_cells(look, circuit):
+    """Beside each port how long it was out, where that was told."""
+    return [look.settled.outages.ports[circuit.name, end].words() for end in "ab"] if look.settled.outages else []
+
+
+def out_heads(look):
+    return ["out at port a", "out at port b"] if look.settled.outages else []
+
+
 def circuit_table(look):
-    """Each customer with its result beside its name, then its way."""
+    """Each customer with its result beside its name and its outages, then its way."""
     circuits, ids = look.plan.circuits, look.plan.ids
     changed = {number for number, circuit in enumerate(circuits) if circuit.name in look.changed_circuits}
     rows = []
     for number, circuit in enumerate(circuits):
         result = f'<span class="result-{look.result(circuit)}">{result_words(look, circuit)}</span>'
         ends = f"{ids[circuit.start]} to {ids[circuit.end]}, slot {circuit.slot}"
-        rows.append([escape(circuit.name), result, escape(look.route_words(circuit)), ends, str(number + 1)])
-    return table("Circuits", ["circuit", "what became of it", "way from a to b now", "from, to", "#"], rows, changed, attributes(circuits)) if rows else ""
+        rows.append([escape(circuit.name), result, *out_cells(look, circuit), escape(look.route_words(circuit)), ends, str(number + 1)])
+    heads_ = ["circuit", "what became of it", *out_heads(look), "way from a to b now", "from, to", "#"]
+    return table("Circuits", heads_, rows, changed, attributes(circuits)) if rows else ""
 
 
 def port_table(look):
     """What the ports deliver, as the text shows it."""
     circuits = look.plan.circuits
-    rows = [[escape(circuit.name), *(port_cell(look, circuit, end) for end in "ab")] for circuit in circuits]
-    return table("Ports", ["circuit", "port a", "port b"], rows, (), attributes(circuits)) if rows else ""
+    rows = [[escape(circuit.name), *beside_outages(look, [port_cell(look, circuit, end) for end in "ab"], out_cells(look, circuit))] for circuit in circuits]
+    heads_ = ["circuit", *beside_outages(look, ["port a", "port b"], out_heads(look))]
+    return table("Ports", heads_, rows, (), attributes(circuits)) if rows else ""
+
+
+def beside_outages(look, ports, outs):
+    """Each port's cell, and its outage beside it where that was told."""
+    return [cell for pair in zip(ports, outs) for cell in pair] if look.settled.outages else ports
 
 
 def attributes(circuits):

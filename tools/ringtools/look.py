@@ -144,7 +144,9 @@ class Look:
             return f"port {circuit.name} {end} at node {at}: not told by this text"
         what = "AIS" if line.ais else f"value {line.value}, {line.data.hex()}"
         words = {"own": "its own customer's bytes", "ais": "AIS, as it is owed", "wrong": "NOT what it is owed"}[verdict]
-        return f"port {circuit.name} {end} at node {at}: {words} ({what})"
+        out = self.settled.outages
+        outage = f"; out in this step: {out.ports[circuit.name, end].words()}" if out else ""
+        return f"port {circuit.name} {end} at node {at}: {words} ({what}){outage}"
 
     def span_words(self, span):
         return REQUEST_NAMES[self.requests()[span]] + (", applied" if span in self.scene.applied else "")

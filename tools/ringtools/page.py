@@ -12,6 +12,10 @@ from .reasons import refusal, where
 from .report import STATES
 
 
+OUT = (
+    "Out are the frames of a settle step, of 125 microseconds each, in which a port was without its own customer's bytes; "
+    "a jump is a frame of his that doesn't follow the one before, since chunks were left out or come again."
+)
 HINT = "Click or tap a circuit, node or fibre; or go there with Tab and the arrow keys, and light a circuit up with Enter."
 
 
@@ -92,6 +96,8 @@ def step_section(look):
     if look.wrong_ports():
         names = ", ".join(f"{name} {end}" for name, end in look.wrong_ports())
         parts.append(f'<p class="alarm">Not what the restoration model says: port {escape(names)}.</p>')
+    if look.settled.outages:
+        parts.append(f"<p>{escape(look.settled.outages.words())}</p>")
     kind, drawn = figure(look)
     beside, below = ("", circuit_table(look)) if "large" in kind else (circuit_table(look), "")
     parts.append(f'<div class="{kind}"><div>{told_otherwise(look) or outcome(look)}{changes(look)}{beside}</div>{drawn}</div>{below}')
@@ -157,9 +163,18 @@ def tools():
     return '<p class="tools" hidden><button type="button" class="unfold">unfold all</button> what is folded isn\'t printed.</p>'
 
 
-def run_page(title, plan, report, looks, origin):
+def outages_note(beside):
+    """What `out` means on the page, and which text tells it."""
+    name, sum_ = beside
+    return f'<p class="note">{OUT} It is told by <code>{escape(name)}</code>, whose sum is <code>{sum_[:12]}</code>.</p>'
+
+
+def run_page(title, plan, report, looks, origin, beside=None):
+    """`beside` is the name and the sum of the text that tells outages, where there is one."""
     parts = [f"<h1>{escape(title)}</h1>", warning(origin), ending(plan, report)]
     parts += [f"<p>{about(plan)}</p>", in_short(origin), tools()]
+    if beside and looks:
+        parts.append(outages_note(beside))
     if report.kind == "check":
         parts.append(squelch_section(plan, report.table))
     if len(looks) > 1 and plan.circuits and report.kind == "run":

@@ -58,6 +58,7 @@ class Settled:
     ports: dict = field(default_factory=dict)  # (circuit's name, end) -> PortLine
     chunk: list | None = None  # lines of `drop`
     counts: tuple | None = None  # of `big`: ports that deliver bytes, and AIS
+    outages: object = None  # what sdhoutage tells of the step, where it was asked
 
 
 @dataclass(frozen=True)

@@ -150,6 +150,15 @@ class Facts(unittest.TestCase):
             self.assertEqual(outs(name, 3), {7, 8}, name)
         self.assertEqual(outs("node-3", 2), {4})
 
+    def test_two_nodes(self):
+        self.assertEqual({told["out"] for told in steps_of("two-nodes")[1].ports.values()}, {0, 4})
+
+    def test_the_page_of_outages_shows_a_run(self):
+        """Its first block of a text is the waiting example's."""
+        page = (ROOT / "docs" / "OUTAGES.md").read_text()
+        shown = page[page.index("    settle 1 ") :].split("\n\n")[0]
+        self.assertEqual(shown.replace("    ", "") + "\n", (OUTAGES / "example-waiting.text").read_text())
+
     def test_customers_of_a_lost_node_have_ais_alone(self):
         for n in (3, 16):
             step = steps_of(f"node-{n}")[1]

@@ -6,7 +6,7 @@ import unittest
 import xml.etree.ElementTree as ElementTree
 from functools import cache
 
-from common import RINGS, call, ring
+from common import RINGS, TOOLS, call, ring
 from pages import Seen
 
 DONE = [
@@ -173,6 +173,91 @@ class Pages(unittest.TestCase):
     def test_all_rings_are_asked(self):
         known = {*DONE, *REFUSED, "limit-too-small", "squelch-tables", "dropped-chunk", "large"}
         self.assertEqual({path.stem for path in RINGS.glob("*.toml")}, known)
+
+
+OUTAGES = RINGS.parent / "outages"
+WORKS = TOOLS.parent / "examples" / "before-works.toml", RINGS / "before-works.text"
+WORKS_OUT = OUTAGES / "example-before-works.text"
+
+
+class Outages(unittest.TestCase):
+    """A page with what `sdhoutage` tells beside the ports."""
+
+    def page(self, outages=WORKS_OUT, plan=WORKS):
+        ended = call("ringview", "--outages", outages, *plan)
+        self.assertEqual((ended.returncode, ended.stderr), (0, b""))
+        return Seen(ended.stdout.decode())
+
+    def said(self, old, new):
+        """What is said of a text in which this is changed."""
+        text = WORKS_OUT.read_text()
+        self.assertIn(old, text)
+        with tempfile.NamedTemporaryFile("w") as changed:
+            changed.write(text.replace(old, new, 1))
+            changed.flush()
+            ended = call("ringview", "--outages", changed.name, *WORKS)
+        self.assertEqual((ended.returncode, ended.stdout), (1, b""))
+        return ended.stderr.decode().replace(changed.name, "FILE")
+
+    def test_customers_by_steps(self):
+        rows = {row["customer"]: row for row in self.page().table_named("Customers")}
+        self.assertEqual(rows["north"]["step 2"], "protection, 4 spans out: 12 frames, 1.500 ms")
+        self.assertEqual(rows["north"]["step 3"], "protection, 4 spans out: a: 10 frames, 1.250 ms; b: 12 frames, 1.500 ms, 1 jump")
+        self.assertEqual(rows["works"]["step 4"], "kept out: none, 1 jump")
+        self.assertEqual([rows["south"][f"step {number}"] for number in (2, 3, 4)], ["kept out: none"] * 3)
+
+    def test_each_step_has_them_beside_its_ports(self):
+        page = self.page()
+        for caption in ("Circuits", "Ports"):
+            north, south, _ = page.table_named(caption, 2)
+            self.assertEqual((north["out at port a"], north["out at port b"]), ("10 frames, 1.250 ms", "12 frames, 1.500 ms, 1 jump"))
+            self.assertEqual((south["out at port a"], south["out at port b"]), ("none", "none"))
+        self.assertIn("The longest outage in this step: 12 frames, 1.500 ms, at north b, works b. 2 of 6 ports had none.", page.text())
+        self.assertIn("No port was without its own customer's bytes in this step.", page.text())
+        self.assertTrue(any("port works b at node 3" in title and title.endswith("out in this step: 12 frames, 1.500 ms, 1 jump") for title in page.titles))
+        self.assertIn(f"It is told by {WORKS_OUT} , whose sum is", page.text())
+
+    def test_a_port_that_stays_out(self):
+        rows = self.page(OUTAGES / "node-cut-off.text", ring("node-cut-off")).table_named("Circuits")
+        self.assertEqual({row[f"out at port {end}"] for row in rows for end in "ab"}, {"129 frames, 16.125 ms, still out"})
+
+    def test_every_outage_of_a_text_is_told(self):
+        for name in ("two-nodes", "slip-up", "no-circuits"):
+            page, told = self.page(OUTAGES / f"{name}.text", ring(name)), []
+            for number in range(len(page.tables_of("Circuits"))):
+                told += [row[f"out at port {end}"] for row in page.table_named("Circuits", number) for end in "ab"]
+            wanted = [line.split(" ")[4:7:2] for line in (OUTAGES / f"{name}.text").read_text().splitlines() if line.startswith("port ")]
+            frames = lambda out, ms: "none" if out == "0" else f"{out} frame{'s' if out != '1' else ''}, {ms} ms"
+            self.assertEqual(told, [frames(*pair) for pair in wanted])
+
+    def test_without_them_a_page_is_as_it_was(self):
+        page = Seen(call("ringview", *WORKS).stdout.decode())
+        self.assertEqual(list(page.table_named("Circuits")[0]), ["circuit", "what became of it", "way from a to b now", "from, to", "#"])
+        self.assertNotIn("out:", page.text())
+        self.assertNotIn("without its own customer's bytes", page.text())
+
+    def test_standard_input(self):
+        ended = call("ringview", "--outages", "-", *WORKS, input=WORKS_OUT.read_bytes())
+        self.assertEqual(ended.returncode, 0)
+        self.assertIn("told by <code>standard input</code>", ended.stdout.decode())
+        ended = call("ringview", "--outages", "-", WORKS[0], "-", input=b"")
+        self.assertEqual(ended.stderr, b"ringview: only one of PLAN, REPORT and the outages can be standard input\n")
+
+    def test_texts_that_are_none_or_another_s(self):
+        line = "port north a out 12 ms 1.500 from 130 to 141 ais 10 ones 2 jump 0 strange 0"
+        for changed in (
+            line.replace("out 12", "out 13"), line.replace("1.500", "1.501"), line.replace("to 141", "to 140"), line.replace("from 130", "from -"),
+            line.replace("north", "south"), line.replace("130", "128"), line.replace("141", "257"), line + " ", line.replace("ais 10", "ais 010"),
+        ):  # fmt: skip
+            self.assertIn("ringview: FILE: line 10: ", self.said(line, changed), changed)
+        self.assertIn("line 16: not what the ports' lines come to", self.said("longest 12 ms 1.500 none 2", "longest 12 ms 1.500 none 3"))
+        self.assertIn("line 9: a settle step can't end with this round", self.said("settle 2 round 256", "settle 2 round 250"))
+        self.assertIn("settle step 4 ends with round 640, and in the report with round 512", self.said("settle 4 round 512", "settle 4 round 640"))
+        self.assertIn("line 33: no line that sdhoutage writes here", self.said("done\n", "usage: sdhoutage run\n"))
+        self.assertIn("line 34: a line behind the last one", self.said("done\n", "done\ndone\n"))
+        self.assertIn("line 33: no line that sdhoutage writes here", self.said("done\n", ""))
+        whole = WORKS_OUT.read_text()
+        self.assertIn("it tells of 3 settle steps, and the report of 4", self.said(whole[whole.index("settle 4") :], "unsettled 4\n"))
 
 
 if __name__ == "__main__":
