@@ -241,7 +241,9 @@ def bytes_of(delivered):
 
 
 class Outage:
-    """What one port delivered in the rounds of a settle step; `follows` is the byte that would come next, if the round before brought own bytes."""
+    """What one port delivered in the rounds of a settle step; `follows` is the byte that would come next, if the round before brought own bytes.
+
+    Own are bytes of the circuit's other port, from 71 chunks before that of the round to 6 behind it."""
 
     def __init__(self, line, other):
         self.line, self.other, self.follows = line, other, None

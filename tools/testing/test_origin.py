@@ -124,7 +124,7 @@ class Texts(unittest.TestCase):
         self.assertEqual(body(call("ringview", "-", text, input=plan.read_bytes())).replace("standard input", plan.name), whole)
         ended = call("ringview", "-", "-", input=b"")
         self.assertEqual((ended.returncode, ended.stdout), (1, b""))
-        self.assertIn(b"only one of PLAN and REPORT", ended.stderr)
+        self.assertIn(b"only one of PLAN, REPORT and the outages", ended.stderr)
 
 
 class Answers(Asking):

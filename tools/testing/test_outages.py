@@ -2,12 +2,14 @@
 
 The simulation is held against the worked rows of sdhring first, since the rows of sdhoutage come from it."""
 
+import random
 import re
 import subprocess
 import sys
 import tomllib
 import unittest
 from functools import cache
+from runpy import run_path
 
 from common import RINGS, TOOLS
 
@@ -242,6 +244,41 @@ class Rows(unittest.TestCase):
                 stream = Stream(circuit[f"text_{other}"], "c1", 0)
                 wanted.append(f"port c1 {end} norm 0 {stream.bytes(start, 16).hex()}")
         self.assertEqual(told, wanted)
+
+
+def slipped(script, settle, name, end):
+    """Ups less downs that a port was told of before this settle step, counted from 0."""
+    before = " ".join(script).split("settle")[: settle + 1]
+    found = re.findall(rf"slip {name} {end} (up|down) (\d+)", " ".join(before))
+    return sum(int(count) if turn == "up" else -int(count) for turn, count in found)
+
+
+class Model(unittest.TestCase):
+    """What the simulation reports of random plans is what the restoration model says, which knows neither words nor pointers."""
+
+    def wanted(self, plan, rules, last, settle):
+        yield from (rules.state(at, last) for at in range(len(plan["nodes"])))
+        applied = rules.applied(last)
+        for circuit in plan["circuit"]:
+            for end, other in ("ab", "ba"):
+                slips, offset = slipped(plan["script"], settle, circuit["name"], other), circuit[f"offset_{other}"]
+                stream = Stream(circuit[f"text_{other}"], circuit[f"trace_{other}"], offset)
+                if not rules.joined(circuit, applied):
+                    yield f"{circuit['name']} {end} ais"
+                else:
+                    start = 2349 * (last - rules.hops(circuit, applied)) - 3 * slips
+                    yield f"{circuit['name']} {end} norm {(offset + slips) % 783} {stream.bytes(start, 16).hex()}"
+
+    def test_random_plans(self):
+        dice, maker = random.Random(2), run_path(str(BENCH / "compare"), run_name="compare")["Maker"]
+        for number in range(12):
+            plan = maker(dice).plan()
+            lines = simulate.run(plan, simulate.Reports)[1].splitlines()
+            rounds = [int(line.split()[3]) for line in lines if line.startswith("settle ")]
+            rules = Rules(plan, rounds)
+            told = [line.split(" ", 2)[2].split(" ")[0] if line.startswith("node ") else line[5:] for line in lines if line.startswith(("node ", "port "))]
+            wanted = [word for settle, last in enumerate(rounds) for word in self.wanted(plan, rules, last, settle)]
+            self.assertEqual(told, wanted, number)
 
 
 class Compare(unittest.TestCase):
