@@ -30,10 +30,10 @@ class Clock:
 
 
 class Stream:
-    """The bytes of a port's VC-4s, one after the other."""
+    """The bytes of a port's VC-4s, one after the other, of its text and trace as bytes."""
 
     def __init__(self, text, trace, offset):
-        self.text, self.trace = text.encode(), trace.encode().ljust(64)
+        self.text, self.trace = text, trace.ljust(64)
         self.skipped = (CHUNK - (783 + 3 * offset) % CHUNK) % CHUNK
         self.parities = [0]
         self.sum_of_texts = cache(self.sum_of_texts)

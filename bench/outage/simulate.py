@@ -312,7 +312,7 @@ class Reports:
         for c, circuit in enumerate(ring.circuits):
             for end in "ab":
                 trace = circuit.get(f"trace_{end}", circuit["name"])
-                self.streams[c, end] = Stream(circuit[f"text_{end}"], trace, circuit.get(f"offset_{end}", 0))
+                self.streams[c, end] = Stream(circuit[f"text_{end}"].encode(), trace.encode(), circuit.get(f"offset_{end}", 0))
 
     def begin(self):
         pass

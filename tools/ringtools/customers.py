@@ -13,7 +13,7 @@ RESULTS = {
     "untold": "Not told by this text",
 }
 TOTALS = {"odd": "not owed", "lost": "lost", "over": "over protection", "kept": "kept"}
-GROUP = 12  # settle steps side by side: so many fit a printed page
+GROUP, GROUP_WITH_OUTAGES = 12, 5  # settle steps side by side: so many fit a printed page
 
 
 def by_result(look):
@@ -70,9 +70,9 @@ def total_row(shown):
 
 def steps_table(looks):
     """Customers by settle steps; in groups of steps, so that it is whole on paper."""
-    parts = []
-    for begin in range(0, len(looks), GROUP):
-        shown = looks[begin : begin + GROUP]
+    parts, group = [], GROUP_WITH_OUTAGES if looks[0].settled.outages else GROUP
+    for begin in range(0, len(looks), group):
+        shown = looks[begin : begin + group]
         titles = ["customer", *(f'<a href="#step{look.scene.number}">step {look.scene.number}</a>' for look in shown)]
         rows = [total_row(shown)]
         for circuit in shown[0].plan.circuits:
