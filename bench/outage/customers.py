@@ -50,6 +50,12 @@ class Stream:
             self.parities.append(texts ^ self.trace[before % 64] ^ self.parities[-1] ^ 1)
         return self.parities[v]
 
+    def vc(self, v):
+        """VC-4 number v, row by row."""
+        first, start = [self.trace[v % 64], self.parity(v), 1, 0, 0, 0, 0, 0, 0], 2340 * v % len(self.text)
+        texts = (self.text * (2340 // len(self.text) + 2))[start : start + 2340]
+        return b"".join(bytes([first[row]]) + texts[260 * row : 260 * row + 260] for row in range(9))
+
     def byte(self, position):
         v, place = divmod(position + self.skipped, CHUNK)
         row, column = divmod(place, 261)

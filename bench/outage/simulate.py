@@ -2,11 +2,13 @@
 """A plain simulation of the shared ring, and what `sdhoutage run` must write of it. It shares nothing with the crates or the tools.
 
   bench/outage/simulate.py run < PLAN       what `sdhoutage run` must write
+  bench/outage/simulate.py tags < PLAN      the same for customers whose chunks are all unlike, and sooner
   bench/outage/simulate.py report < PLAN    what `sdhring run` must write, to hold the simulation against its worked rows
 
 Words, pointers and connections are run round by round, without frames: in place of its payload each AU-4 has a tag, which
-customer's bytes it is, from which byte on, and how they were put in. So a text of a length that divides 2340, whose VC-4s look
-alike, is no hindrance here; in real bytes a jump may not be seen there. The plan has to be a good one. Ends with the status."""
+customer's bytes it is, from which byte on, and how they were put in. `tags` tells the rounds' kinds by these alone. `run` makes the
+bytes of them that a port delivers, and looks for these in the customer's stream (looking.py): where the length of a text divides
+2340, VC-4s look alike, and a jump may not be seen. The plan has to be a good one. Ends with the status."""
 import sys
 import tomllib
 from functools import lru_cache
@@ -253,15 +255,20 @@ class Outage:
         self.counts = dict.fromkeys(("ais", "ones", "jump", "strange"), 0)
         self.first, self.last = "-", "-"
 
-    def see(self, t, delivered):
+    def kind(self, t, delivered):
         came = bytes_of(delivered)
-        kind, follows = came, None
-        if isinstance(came, tuple):
-            start, end = came[2], came[2] + came[3]
-            is_own = came[:2] == self.other and CHUNK * (t - 71) <= start and end <= CHUNK * (t + 7)
-            kind = "strange" if not is_own else "jump" if self.follows not in (None, start) else "order"
-            follows = end if is_own else None
-        self.follows = follows
+        if not isinstance(came, tuple):
+            self.follows = None
+            return came
+        start, end = came[2], came[2] + came[3]
+        if came[:2] != self.other or start < CHUNK * (t - 71) or end > CHUNK * (t + 7):
+            self.follows = None
+            return "strange"
+        before, self.follows = self.follows, end
+        return "order" if before in (None, start) else "jump"
+
+    def see(self, t, delivered):
+        kind = self.kind(t, delivered)
         if kind != "order":
             self.counts[kind] += 1
             self.first, self.last = t if self.first == "-" else self.first, t
@@ -282,13 +289,18 @@ def milliseconds(rounds):
 
 
 class Outages:
-    """The text of `sdhoutage run`."""
+    """The text of `sdhoutage run`, by the tags."""
 
     def __init__(self, ring):
         self.ring, self.ports = ring, {}
+        made = self.made()
         for c, circuit in enumerate(ring.circuits):
             for end, other in ("ab", "ba"):
-                self.ports[c, end] = Outage(f"port {circuit['name']} {end}", (c, other))
+                self.ports[c, end] = made(f"port {circuit['name']} {end}", (c, other))
+
+    def made(self):
+        """What makes the outage of a port, of the front of its line and of the circuit's other port."""
+        return Outage
 
     def begin(self):
         for port in self.ports.values():
@@ -304,15 +316,19 @@ class Outages:
         return [*(port.told() for port in self.ports.values()), f"longest {longest} ms {milliseconds(longest)} none {outs.count(0)}"]
 
 
+def streams_of(circuits):
+    """Text, trace and offset of each port, by circuit and end."""
+    ports = [(c, circuit, end) for c, circuit in enumerate(circuits) for end in "ab"]
+    traces = {(c, end): circuit.get(f"trace_{end}", circuit["name"]) for c, circuit, end in ports}
+    return {(c, end): (circuit[f"text_{end}"].encode(), traces[c, end].encode(), circuit.get(f"offset_{end}", 0)) for c, circuit, end in ports}
+
+
 class Reports:
     """The text of `sdhring run`."""
 
     def __init__(self, ring):
-        self.ring, self.streams = ring, {}
-        for c, circuit in enumerate(ring.circuits):
-            for end in "ab":
-                trace = circuit.get(f"trace_{end}", circuit["name"])
-                self.streams[c, end] = Stream(circuit[f"text_{end}"].encode(), trace.encode(), circuit.get(f"offset_{end}", 0))
+        self.ring = ring
+        self.streams = {port: Stream(*given) for port, given in streams_of(ring.circuits).items()}
 
     def begin(self):
         pass
@@ -354,9 +370,12 @@ def run(plan, kind=Outages):
 
 
 def main(words):
-    if words not in (["run"], ["report"]):
+    from looking import Looks
+
+    kinds = {"run": Looks, "tags": Outages, "report": Reports}
+    if len(words) != 1 or words[0] not in kinds:
         sys.exit(__doc__)
-    status, text = run(tomllib.load(sys.stdin.buffer), Outages if words == ["run"] else Reports)
+    status, text = run(tomllib.load(sys.stdin.buffer), kinds[words[0]])
     sys.stdout.write(text)
     return status
 

@@ -20,6 +20,7 @@ ROOT = TOOLS.parent
 PAGE, OUTAGES, BENCH = ROOT / "docs" / "RING.md", RINGS.parent / "outages", ROOT / "bench" / "outage"
 sys.path.insert(0, str(BENCH))
 
+import looking  # noqa: E402
 import simulate  # noqa: E402
 
 PORT = re.compile(r"port (\S+) ([ab]) out (\d+) ms (\d+\.\d{3}) from (\d+|-) to (\d+|-) ais (\d+) ones (\d+) jump (\d+) strange (\d+)")
@@ -200,12 +201,28 @@ class Rows(unittest.TestCase):
                     checked += 1
         self.assertGreaterEqual(checked, 30)
 
+    def runs(self):
+        return [row for row in rows().values() if row.words == (b"run",) and row.status in (0, 7) and row.text]
+
+    def check(self, row, kind):
+        with self.subTest(row=row.name):
+            status, text = simulate.run(tomllib.loads(row.given.decode()), kind)
+            self.assertEqual((status, text.encode()), (row.status, row.text))
+
     def test_the_rows_are_what_the_simulation_tells(self):
-        for row in rows().values():
-            if row.words == (b"run",) and row.status in (0, 7) and row.text:
-                with self.subTest(row=row.name):
-                    status, text = simulate.run(tomllib.loads(row.given.decode()))
-                    self.assertEqual((status, text.encode()), (row.status, row.text))
+        for row in self.runs():
+            self.check(row, looking.Looks if row.name == "alike" else simulate.Outages)
+
+    def test_the_bytes_say_what_the_tags_say(self):
+        for row in self.runs():
+            if row.name in ("example-waiting", "held-controller", "node-cut-off", "slip-up", "slips-amid", "two-nodes"):
+                self.check(row, looking.Looks)
+
+    def test_a_jump_that_cannot_be_seen(self):
+        plan = tomllib.loads(rows()["alike"].given.decode())
+        by_tags, by_bytes = (steps_in(simulate.run(plan, kind)[1])[2] for kind in (simulate.Outages, looking.Looks))
+        self.assertEqual({told["jump"] for told in by_tags.ports.values()}, {1})
+        self.assertEqual({told["jump"] for told in by_bytes.ports.values()}, {0})
 
     def test_every_status_and_no_text_is_forgotten(self):
         self.assertEqual({row.status for row in rows().values()}, {0, 2, 3, 4, 5, 6, 7, 9})
@@ -226,7 +243,8 @@ class Rows(unittest.TestCase):
                         self.assertLessEqual(told["out"] + told["jump"], told["to"] - told["from"] + 1)
 
     def test_texts_of_the_worked_plans_show_each_jump(self):
-        for path in [*OUTAGES.glob("*.toml"), *(ROOT / "examples" / name for name in ("before-works.toml", "waiting.toml"))]:
+        plans = [path for path in OUTAGES.glob("*.toml") if path.stem != "alike"]
+        for path in [*plans, *(ROOT / "examples" / name for name in ("before-works.toml", "waiting.toml"))]:
             texts = [circuit[f"text_{end}"] for circuit in tomllib.loads(path.read_text())["circuit"] for end in "ab"]
             self.assertEqual([text for text in texts if 2340 % len(text) == 0], [], path.name)
             self.assertEqual(len(set(texts)), len(texts), path.name)
