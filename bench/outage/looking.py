@@ -31,7 +31,7 @@ class Written:
 
 
 class LookedAt(Outage):
-    """What one port delivered, by its bytes; `last` are those of the round before, or none where it brought AIS."""
+    """What one port delivered, by its bytes; `before` are those of the round before, none where that brought AIS."""
 
     def __init__(self, line, other, written):
         super().__init__(line, other)
