@@ -13,6 +13,4 @@ mod memory;
 #[cfg(test)]
 mod plans;
 #[cfg(test)]
-mod refusals;
-#[cfg(test)]
 mod runs;
