@@ -1,0 +1,20 @@
+-- What the program tells of a plan, and how it ends.
+use Rattle.std.specs.Prelude.{ℕ, List, codes}
+use Rattle.sdh_plant.specs.Fibres.{Fibres}
+use Rattle.sdh_plant.specs.Arrivals.{Knows}
+use Rattle.sdh_report.specs.declared.status.Status.{Status}
+use Rattle.sdh_script.specs.Plans.{world_of}
+use Rattle.sdh_calls.specs.Programs.{Program}
+use Rattle.sdh_calls.specs.Headline.{EndsAs}
+use Rattle.sdh_outage_script.specs.Outages.{Outaged}
+use Rattle.sdh_outage_script.specs.Lines.{text_of}
+use Rattle.sdh_outage_script.specs.Plans.{IsRunOf, ran_of, MaySettle}
+
+-- it runs a plan, and tells of each settle step for how many rounds each port was without its own customer's bytes
+abbrev pub listening : Program Outaged
+listening = record { usage = codes "usage: sdhoutage run"; text_of = text_of; IsRunOf = IsRunOf; MaySettle = MaySettle }
+
+-- it ends as the script does where the arrivals are known: unsettled at exactly the step in which no quiet window comes
+-- within the limit; or a plant's call failed
+abbrev pub EndsAsItRuns : List ℕ → Fibres → Status → Type 0
+EndsAsItRuns bytes f how = EndsAs (λ plan. Knows (world_of plan f).fibres) (λ plan. (ran_of plan f).ending) bytes how

@@ -1,0 +1,34 @@
+//! What the program does with a plan.
+ghost use Rattle.sdh_script.specs.Plans.{world_of};
+ghost use Rattle.sdh_scripts.proofs.Outcomes.{comes_ends};
+ghost use Rattle.sdh_shell.proofs.Ends.{has_run};
+ghost use Rattle.sdh_outage_script.specs.Outages.{Outaged};
+ghost use Rattle.sdh_outage_script.specs.Scripts.{outage_walk};
+ghost use Rattle.sdh_outage_cli.specs.Headline.{listening};
+
+use sdh_calls::RunsPlans;
+use sdh_outage_script::run_plan;
+use sdh_plan::Plan;
+use sdh_plant::Plant;
+use sdh_shell::{Report, ended};
+use std::alloc::{AllocError, Global};
+
+/// The program, which runs plans and listens at each port.
+pub struct Listening;
+
+impl RunsPlans for Listening {
+    ghost Told = { Outaged };
+
+    ghost program = { listening };
+
+    fn usage() -> &'static [u8] {
+        b"usage: sdhoutage run"
+    }
+
+    fn run<P: Plant>(alloc: Global, plan: Plan, plant: &mut P) -> Result<Report, AllocError> {
+        let run = run_plan(alloc, plan, plant)?;
+        Ok(ended(run.status, run.text))
+    }
+
+    ghost ends = { λ plan f left told how x. has_run how (comes_ends outage_walk plan.limit plan.steps (world_of plan f) f left told how x.ran) };
+}
