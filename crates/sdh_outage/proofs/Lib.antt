@@ -1,0 +1,5 @@
+pub mod Standing
+pub mod Windows
+pub mod Hearing
+pub mod Parts
+pub mod Short

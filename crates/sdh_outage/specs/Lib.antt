@@ -1,0 +1,5 @@
+pub mod Near
+pub mod Kinds
+pub mod Outages
+pub mod Lines
+pub mod Kept

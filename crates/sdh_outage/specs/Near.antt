@@ -1,0 +1,18 @@
+-- The part of a customer's stream that can be on its way to a port in a round. How far it reaches is this project's own.
+use Rattle.std.specs.Prelude.{ℕ, ◌+◌, ◌-◌, ◌*◌, Bool, List, length, take, drop, bytes_eq}
+use Rattle.std.specs.List.{list_any, range_with_len}
+use Rattle.sdh_payload.specs.Customer.{Customer}
+use Rattle.sdh_payload.specs.Stream.{stream_from}
+
+-- the byte with which it begins: that of the chunk 71 rounds before, and in the first rounds that of the stream
+abbrev pub near_from : ℕ → ℕ
+near_from round = 2349 * (round - 71)
+
+-- the far customer's bytes from 71 chunks before a round's own to 6 behind it: no port's clock is off by more than 6 chunks, and
+-- nothing is longer on its way than 64 rounds
+unfoldable pub near : Customer → ℕ → List ℕ
+near port round = stream_from port (near_from round) (2349 * 78)
+
+-- some bytes stand in others, one after the other, wherever they begin
+unfoldable pub is_part : List ℕ → List ℕ → Bool
+is_part bytes others = list_any (λ place. bytes_eq bytes (take (length bytes) (drop place others))) (range_with_len 0 (length others + 1))

@@ -1,0 +1,87 @@
+//! What a port delivered in the round before.
+ghost use Rattle.std.specs.Prelude.{◌≡◌, ℕ, ◌≤◌, List, IfOk, length};
+ghost use Rattle.sdh_outage.specs.Kinds.{jumps};
+
+use crate::part::is_part;
+use sdh_payload::Delivered;
+use std::alloc::{AllocError, Global};
+use std::fmt;
+use std::marker::Model;
+
+/// Room for two chunks, in bytes.
+const ROOM: usize = 4704;
+
+/// What was delivered last, with room for one chunk more. Its memory is taken when it is made.
+#[derive(Drop)]
+pub(crate) struct Last {
+    bytes: Vec<u8>,
+    is_chunk: bool,
+}
+
+impl Model for Last {
+    ghost use Rattle.std.specs.Prelude.{◌≤◌, vec_len, vec_capacity};
+    ghost use Rattle.sdh_payload.specs.declared.delivered.Delivered.{Delivered};
+    ghost use Rattle.sdh_outage.specs.Kept.{delivered};
+
+    ghost Value = { Delivered };
+
+    ghost view = { λ l. delivered l.is_chunk l.bytes.items };
+
+    ghost invariant = { λ l. (vec_len l.bytes ≤ 2352) × (4704 ≤ vec_capacity l.bytes) };
+}
+
+impl fmt::Debug for Last {
+    fn fmt<W: fmt::Write>(&self, f: &mut fmt::Formatter<W>) -> fmt::Result {
+        write!(f, "Last({} bytes)", self.bytes.len())
+    }
+}
+
+impl Last {
+    /// AIS.
+    pub(crate) fn try_new(alloc: Global) -> Result<Last, AllocError>
+        ensures { IfOk result (λ last. last ≡ Delivered.Ais) }
+    {
+        Ok(Last {
+            bytes: Vec::with_capacity(alloc, ROOM)?,
+            is_chunk: false,
+        })
+    }
+
+    /// Something else was delivered.
+    pub(crate) fn put(&mut self, now: &Delivered)
+        ensures { self.new ≡ now.now }
+    {
+        self.bytes.clear();
+        match now {
+            Delivered::Ais => self.is_chunk = false,
+            Delivered::Chunk(chunk) => {
+                self.bytes.extend_from_slice(chunk.as_slice()).unwrap();
+                self.is_chunk = true;
+            }
+        }
+    }
+
+    /// How many bytes a chunk has.
+    pub(crate) fn len(&self) -> usize
+        ensures len { (bytes : List ℕ) → self.now ≡ Delivered.Chunk bytes → result ≡ length bytes }
+        ensures few { result ≤ 2352 }
+    {
+        self.bytes.len()
+    }
+
+    /// Whether a chunk doesn't follow it, where these bytes of a stream are near.
+    pub(crate) fn jumps(&mut self, others: &[u8], chunk: &[u8]) -> bool
+        requires { length chunk.now ≤ 2352 }
+        ensures answer { result ≡ jumps others.now self.old chunk.now }
+        ensures same { self.new ≡ self.old }
+    {
+        if !self.is_chunk || !is_part(&self.bytes, others) {
+            return false;
+        }
+        let len = self.bytes.len();
+        self.bytes.extend_from_slice(chunk).unwrap();
+        let both = is_part(&self.bytes, others);
+        self.bytes.truncate(len);
+        !both
+    }
+}

@@ -1,0 +1,121 @@
+//! The lines of outages.
+ghost use Rattle.std.specs.Prelude.{◌≡◌, ◌*◌, ◌+◌, ◌<◌, ◌≤◌, length};
+ghost use Rattle.sdh_report.specs.Lines.{end_letter, port_named};
+ghost use Rattle.sdh_report.specs.Written.{with_part};
+ghost use Rattle.sdh_outage.specs.Lines.{three_digits, ms_text, rounds_text, stretch_text, counts_text, outage_line, summary_line};
+
+use crate::outage::{Outage, Stretch};
+use crate::summary::Summary;
+use sdh_circuits::{End, Name};
+use sdh_report::Text;
+
+/// Room for any line of an outage, and for that of a summary, in bytes.
+pub const LINE_MAX: usize = 160;
+
+// The letter of a port.
+fn end_letter(end: End) -> &'static [u8]
+    ensures { result.now ≡ end_letter end }
+{
+    match end {
+        End::A => b"a",
+        End::B => b"b",
+    }
+}
+
+// The name of a port.
+fn put_named(text: &mut Text, name: &Name, end: End)
+    requires { length (port_named name.now end) ≤ text.old.room }
+    ensures { text.new ≡ with_part text.old (port_named name.now end) }
+{
+    text.put(b"port ");
+    text.put(name.as_slice());
+    text.put(b" ");
+    text.put(end_letter(end));
+}
+
+// A number, with three digits always.
+fn put_three(text: &mut Text, number: u64)
+    requires small { number < 1000 }
+    requires room { length (three_digits number) ≤ text.old.room }
+    ensures { text.new ≡ with_part text.old (three_digits number) }
+{
+    text.put_number(number / 100);
+    text.put_number(number / 10 % 10);
+    text.put_number(number % 10);
+}
+
+// How many milliseconds so many rounds are. Eight rounds are one.
+fn put_ms(text: &mut Text, rounds: u64)
+    requires { length (ms_text (125 * rounds)) ≤ text.old.room }
+    ensures { text.new ≡ with_part text.old (ms_text (125 * rounds)) }
+{
+    text.put_number(rounds / 8);
+    text.put(b".");
+    put_three(text, rounds % 8 * 125);
+}
+
+// So many rounds, and how long they are.
+fn put_rounds(text: &mut Text, rounds: u64)
+    requires { length (rounds_text rounds) ≤ text.old.room }
+    ensures { text.new ≡ with_part text.old (rounds_text rounds) }
+{
+    text.put_number(rounds);
+    text.put(b" ms ");
+    put_ms(text, rounds);
+}
+
+// The first round that wasn't in order and the last one.
+fn put_stretch(text: &mut Text, stretch: Option<Stretch>)
+    requires { length (stretch_text stretch) ≤ text.old.room }
+    ensures { text.new ≡ with_part text.old (stretch_text stretch) }
+{
+    match stretch {
+        None => text.put(b" from - to -"),
+        Some(s) => {
+            text.put(b" from ");
+            text.put_number(u64::from(s.from));
+            text.put(b" to ");
+            text.put_number(u64::from(s.to));
+        }
+    }
+}
+
+// How many rounds there were of each kind.
+fn put_counts(text: &mut Text, outage: &Outage)
+    requires { length (counts_text outage.now) ≤ text.old.room }
+    ensures { text.new ≡ with_part text.old (counts_text outage.now) }
+{
+    text.put(b" ais ");
+    text.put_number(u64::from(outage.ais));
+    text.put(b" ones ");
+    text.put_number(u64::from(outage.ones));
+    text.put(b" jump ");
+    text.put_number(u64::from(outage.jump));
+    text.put(b" strange ");
+    text.put_number(u64::from(outage.strange));
+}
+
+/// The line of the port at an end of the circuit of this name, which had this outage.
+pub fn outage_line(text: &mut Text, name: &Name, end: End, outage: &Outage)
+    requires { length (outage_line name.now end outage.now) ≤ text.old.room }
+    ensures { text.new ≡ with_part text.old (outage_line name.now end outage.now) }
+{
+    put_named(text, name, end);
+    text.put(b" out ");
+    put_rounds(text, outage.out());
+    put_stretch(text, outage.stretch);
+    put_counts(text, outage);
+    text.put(b"\n");
+}
+
+/// The line of a settle step: its longest outage, and how many ports had none.
+pub fn summary_line(text: &mut Text, summary: &Summary)
+    requires { length (summary_line summary.now) ≤ text.old.room }
+    ensures { text.new ≡ with_part text.old (summary_line summary.now) }
+{
+    text.put(b"longest ");
+    put_rounds(text, summary.longest);
+    text.put(b" none ");
+    text.put_number(u64::from(summary.none));
+    text.put(b"\n");
+}
