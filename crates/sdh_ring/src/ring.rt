@@ -13,7 +13,7 @@ ghost use Rattle.sdh_circuits.specs.declared.PortId.{PortId};
 ghost use Rattle.sdh_world.specs.Held.{new_nodes, new_ring, at_place, node_at, place_of_port, outlet_at};
 ghost use Rattle.sdh_world.specs.Clocks.{HasPortIn, clock_at, waiting_at, clocks_from};
 ghost use Rattle.sdh_world.specs.Fixed.{IsRested};
-ghost use Rattle.sdh_world.specs.Rounds.{world};
+ghost use Rattle.sdh_world.specs.Rounds.{World, world};
 ghost use Rattle.sdh_world.specs.Runs.{IsRound, IsBrokenOff};
 ghost use Rattle.sdh_world.specs.Quiet.{is_calm};
 ghost use Rattle.sdh_rounds.specs.Laws.{EndsAtAMultiple};
@@ -29,8 +29,10 @@ ghost use Rattle.sdh_laws.specs.Restoring.Laws.{RestoresBy};
 ghost use Rattle.sdh_payload.specs.Clock.{Clock};
 ghost use Rattle.sdh_ring.specs.Outcome.{Outcome};
 ghost use Rattle.sdh_ring.specs.Faults.{BreaksRound, BreaksStep};
+ghost use Rattle.sdh_ring.specs.Observed.{Hears};
 ghost use Rattle.sdh_circuits.specs.Provisioned.{end_of};
 
+use crate::observer::{Nobody, Observer};
 use sdh_circuits::{Circuit, CircuitMap, End, PortId};
 use sdh_frame::FrameBuf;
 use sdh_node::{Adm, Delivered, Settings, Turn};
@@ -404,6 +406,63 @@ impl Ring {
         // Where the plant's count is exact: one call failed with a fault, and none with Ok and with Unsettled.
         ensures counted { IsCounted P.exact (result ≡ Err SettleError.PlantFault) (P.faults plant.old) (P.faults plant.new) }
     {
+        self.settle_with(plant, limit, &mut Nobody)
+    }
+
+    /// The same, with one who looks at the ring after each round.
+    pub fn settle_with<P: Plant, O: Observer>(
+        &mut self,
+        plant: &mut P,
+        limit: u32,
+        observer: &mut O,
+    ) -> Result<(), SettleError>
+        requires prepared { IsPrepared self.old.settings.rate (length self.old.ids) (P.fibres plant.old) }
+        requires whole { self.old.broken ≡ false }
+        requires some { 1 ≤ limit }
+        requires few { limit ≤ 65536 }
+        requires room { self.old.rounds + limit ≤ 2 ^ 32 }
+        requires ready { (at : ℕ → World) → at 0 ≡ world self.old (P.fibres plant.old) → O.Heard at 0 observer.old }
+        ensures outcome { Outcome (world self.old (P.fibres plant.old)) limit result (world self.new (P.fibres plant.new)) }
+
+        // What the observer keeps of a step that ended is what it is to keep of all its rounds, and of no other.
+        ensures heard { OnOk result (Hears (λ at k. O.Heard at k observer.new) (world self.old (P.fibres plant.old)) limit (world self.new (P.fibres plant.new))) }
+        ensures prepared { self.new.broken ≡ false → IsPrepared self.old.settings.rate (length self.old.ids) (P.fibres plant.new) }
+
+        // Over any plant: a step that ended ran a round, and the number of the last is a multiple of 128 and not 0.
+        ensures numbers { OnOk result (EndsAtAMultiple self.old self.new limit) }
+        ensures all { result ≡ Err SettleError.Unsettled → self.new.rounds ≡ self.old.rounds + limit }
+        ensures whole { result ≢ Err SettleError.PlantFault → IsWhole (world self.old (P.fibres plant.old)) → IsWhole (world self.new (P.fibres plant.new)) }
+
+        // A step of at least 68 rounds uses up all slips.
+        ensures slips { OnOk result ((port : PortId) → self.old.rounds + 68 ≤ self.new.rounds → waiting_at self.new port ≡ 0) }
+
+        // Where what comes is what was sent, each node is in its settled state then, and each port has delivered what it is owed.
+        ensures restored { OnOk result (Restores (world self.old (P.fibres plant.old)) (world self.new (P.fibres plant.new))) }
+
+        // With a limit of at least 12n + 102 so it is after a step in which no window ended, too.
+        ensures soon { result ≡ Err SettleError.Unsettled → RestoresBy (world self.old (P.fibres plant.old)) limit (world self.new (P.fibres plant.new)) }
+
+        // Ring and fibres are at rest once a window ended.
+        ensures rests { OnOk result (LeavesAtRest (world self.old (P.fibres plant.old)) (world self.new (P.fibres plant.new))) }
+
+        // Where it is vouched for it stays so, and no port meets a stranger in any round of the step.
+        ensures strangers { result ≢ Err SettleError.PlantFault → KeepsStrangersOutInAll (world self.old (P.fibres plant.old)) (world self.new (P.fibres plant.new)) }
+
+        // And with so large a limit a window does end, whatever happened before, where no fault breaks the step off.
+        ensures answers { IsWhole (world self.old (P.fibres plant.old)) → enough_for (length self.old.ids) ≤ limit → result ≢ Err SettleError.Unsettled }
+
+        // Each port's clock has gone on by the rounds that ran.
+        ensures clocks { result ≢ Err SettleError.PlantFault → (port : PortId) → HasPortIn self.old port → clock_at self.new port ≡ clocks_from (world self.old (P.fibres plant.old)) port self.new.rounds }
+
+        // A fault breaks the ring. Clocks have gone on by the whole rounds, and by the last one where their nodes had it.
+        ensures broken { result ≡ Err SettleError.PlantFault → self.new.broken ≡ true }
+        ensures broken_clocks { result ≡ Err SettleError.PlantFault → BreaksStep (world self.old (P.fibres plant.old)) limit (world self.new (P.fibres plant.new)) }
+        ensures later { P.faults plant.old ≤ P.faults plant.new }
+        ensures failed { result ≡ Err SettleError.PlantFault → Rose (P.faults plant.old) (P.faults plant.new) }
+
+        // Where the plant's count is exact: one call failed with a fault, and none with Ok and with Unsettled.
+        ensures counted { IsCounted P.exact (result ≡ Err SettleError.PlantFault) (P.faults plant.old) (P.faults plant.new) }
+    {
         self.has_circuits();
         self.has_rested();
         sdh_rounds::settled_numbers::<Adm>();
@@ -416,6 +475,7 @@ impl Ring {
         let mut calm = 0u32;
         'rounds: for _turn in 0..limit {
             self.round(plant)?;
+            observer.look(self);
             calm = self.calm_rounds(calm);
             if self.is_over(calm) {
                 return Ok(());

@@ -4,7 +4,7 @@ use Rattle.sdh_plant.specs.Fibres.{IsPrepared}
 use Rattle.sdh_world.specs.Held.{HeldRing}
 use Rattle.sdh_world.specs.Rounds.{world}
 use Rattle.sdh_world.specs.Runs.{IsRound, IsBrokenOff}
-use Rattle.sdh_node.specs.Stations.{adm, MayRun}
+use Rattle.sdh_node.specs.Stations.{adm}
 use Rattle.sdh_ring.specs.Faults.{BreaksRound}
 use Rattle.sdh_rounds.proofs.Nodes.{on_err}
 use Rattle.sdh_rounds.proofs.Rings.{ran, off_hearing, off_sending, prepared_after, prepared_hears}
