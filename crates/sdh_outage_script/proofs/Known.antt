@@ -1,0 +1,45 @@
+-- What is told of outages is told by the rounds of a settle step alone.
+use Rattle.std.proofs.Common.{◌≡◌, ℕ, zero, suc, ◌+◌, ◌-◌, ◌≤◌, List, [], ◌∷◌, refl, ap, ◌∙◌, arith}
+use Rattle.sdh_circuits.specs.declared.PortId.{PortId}
+use Rattle.sdh_circuits.specs.declared.End.TheVariants.{A, B}
+use Rattle.sdh_circuits.specs.Provisioned.{Provisioned}
+use Rattle.sdh_payload.specs.Customer.{Customer}
+use Rattle.sdh_world.specs.Rounds.{World}
+use Rattle.sdh_scripts.specs.Laws.{KeepsRounds}
+use Rattle.sdh_owed.proofs.Known.{no_round}
+use Rattle.sdh_outage.specs.Kinds.{kind_of}
+use Rattle.sdh_outage.specs.Outages.{outage_of}
+use Rattle.sdh_outage_script.specs.Outages.{port_id, delivered_at, kinds_in, outage_in, ports_out, outaged_in}
+use Rattle.sdh_outage_script.specs.Scripts.{outage_walk}
+
+-- courses that are the same so far
+kinds_same : (far : Customer) (port : PortId) (k : ℕ) (at bt : ℕ → World) → ((j : ℕ) → j ≤ k → at j ≡ bt j) → kinds_in far port k at ≡ kinds_in far port k bt
+kinds_same far port zero at bt same = refl
+kinds_same far port (suc k) at bt same =
+    let before = same k (omega arith) in
+    let now = same (suc k) (omega arith) in
+    let rest = kinds_same far port k at bt (λ j h. same j (omega arith)) in
+    λ i. kind_of far ((now i).ring.rounds - 1) (delivered_at (before i).ring port) (delivered_at (now i).ring port) ∷ rest i
+
+outage_same : (far : Customer) (port : PortId) (k : ℕ) (at bt : ℕ → World) → ((j : ℕ) → j ≤ k → at j ≡ bt j) → outage_in far port k at ≡ outage_in far port k bt
+outage_same far port k at bt same =
+    let first = same 0 (omega arith) in
+    let kinds = kinds_same far port k at bt same in
+    λ i. outage_of (first i).ring.rounds (kinds i)
+
+ports_same : (k : ℕ) (at bt : ℕ → World) → ((j : ℕ) → j ≤ k → at j ≡ bt j) → (index : ℕ) (cs : List Provisioned) → ports_out k at index cs ≡ ports_out k bt index cs
+ports_same k at bt same index [] = refl
+ports_same k at bt same index (c ∷ cs) =
+    let a = outage_same c.b (port_id index A) k at bt same in
+    let b = outage_same c.a (port_id index B) k at bt same in
+    let rest = ports_same k at bt same (index + 1) cs in
+    λ i. record { name = c.name; end = A; outage = a i } ∷ record { name = c.name; end = B; outage = b i } ∷ rest i
+
+looks : (number k : ℕ) (at bt : ℕ → World) → ((j : ℕ) → j ≤ k + 0 → at j ≡ bt j) → outaged_in number at k ≡ outaged_in number bt k
+looks number k at bt same =
+    let last = same k (omega arith) in
+    let ports = ports_same k at bt (λ j h. same j (omega arith)) 0 (at k).ring.circuits.circuits ∙ ap (λ (v : World). ports_out k bt 0 v.ring.circuits.circuits) last in
+    λ i. record { number = number; round = (last i).ring.rounds - 1; ports = ports i }
+
+pub keeps_rounds : KeepsRounds outage_walk
+keeps_rounds = record { other = no_round; last = λ number at k. refl; looks = looks }

@@ -1,0 +1,7 @@
+pub mod Lists
+pub mod Listening
+pub mod Known
+pub mod Alike
+pub mod Told
+pub mod Steps
+pub mod Plans

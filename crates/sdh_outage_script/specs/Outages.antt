@@ -1,0 +1,63 @@
+-- What is told of a settle step with the outages of its ports.
+use Rattle.std.specs.Prelude.{ℕ, zero, suc, ◌+◌, ◌-◌, List, [], ◌∷◌}
+use Rattle.sdh_circuits.specs.declared.End.{End}
+use Rattle.sdh_circuits.specs.declared.End.TheVariants.{A, B}
+use Rattle.sdh_circuits.specs.declared.PortId.{PortId}
+use Rattle.sdh_circuits.specs.Ends.{other_end}
+use Rattle.sdh_circuits.specs.Provisioned.{Provisioned, customer_at}
+use Rattle.sdh_payload.specs.Customer.{Customer}
+use Rattle.sdh_payload.specs.declared.delivered.Delivered.{Delivered}
+use Rattle.sdh_world.specs.Held.{HeldRing, outlet_at}
+use Rattle.sdh_world.specs.Rounds.{World}
+use Rattle.sdh_outage.specs.declared.kind.Kind.{Kind}
+use Rattle.sdh_outage.specs.declared.outage.Outage.{Outage}
+use Rattle.sdh_outage.specs.Kinds.{kind_of}
+use Rattle.sdh_outage.specs.Outages.{outage_of}
+
+-- ---- one port
+
+abbrev pub port_id : ℕ → End → PortId
+port_id index e = record { circuit = index; end = e }
+
+-- what a port delivered in the last round
+abbrev pub delivered_at : HeldRing → PortId → Delivered
+delivered_at r port = (outlet_at r port).delivered
+
+-- What the first rounds of a course were to a port, the latest first, where a course gives the world after each number of rounds: by
+-- the customer at its far end, by the number of each round, and by what the port delivered in the round before and in it.
+abbrev pub kinds_in : Customer → PortId → ℕ → (ℕ → World) → List Kind
+kinds_in far port zero at = []
+kinds_in far port (suc k) at = kind_of far ((at (suc k)).ring.rounds - 1) (delivered_at (at k).ring port) (delivered_at (at (suc k)).ring port) ∷ kinds_in far port k at
+
+-- its outage in these rounds, of which the first has the number of the rounds before it
+abbrev pub outage_in : Customer → PortId → ℕ → (ℕ → World) → Outage
+outage_in far port k at = outage_of (at 0).ring.rounds (kinds_in far port k at)
+
+-- ---- all ports
+
+-- the port at an end of the circuit of this name had this outage
+pub record PortOutage : Type 0 where
+  pub name : List ℕ
+  pub end : End
+  pub outage : Outage
+
+-- the port at an end of the circuit of this number
+abbrev pub port_out : ℕ → (ℕ → World) → ℕ → Provisioned → End → PortOutage
+port_out k at index c e = record { name = c.name; end = e; outage = outage_in (customer_at c (other_end e)) (port_id index e) k at }
+
+-- those of these circuits, which are counted from `index`
+abbrev pub ports_out : ℕ → (ℕ → World) → ℕ → List Provisioned → List PortOutage
+ports_out k at index [] = []
+ports_out k at index (c ∷ cs) = port_out k at index c A ∷ port_out k at index c B ∷ ports_out k at (index + 1) cs
+
+-- ---- a settle step
+
+-- the settle step, counted from 1; its last round; and each port, in the order of the circuits, a before b
+pub record Outaged : Type 0 where
+  pub number : ℕ
+  pub round : ℕ
+  pub ports : List PortOutage
+
+-- of settle step `number`, which ended with the k-th round of a course
+abbrev pub outaged_in : ℕ → (ℕ → World) → ℕ → Outaged
+outaged_in number at k = record { number = number; round = (at k).ring.rounds - 1; ports = ports_out k at 0 (at k).ring.circuits.circuits }
