@@ -9,8 +9,6 @@ mod listener;
 mod outage;
 mod part;
 mod summary;
-#[cfg(test)]
-mod tests;
 mod window;
 
 pub use kind::Kind;
