@@ -1,9 +1,9 @@
 //! The program: its words, standard input and standard output, and the call that does all the rest.
 #![tactic(auto)]
 
+use sdh_outage_cli::sdhoutage;
 use sdh_outside::{StdSink, StdSource};
 use sdh_plant::FibrePlant;
-use sdh_outage_cli::sdhoutage;
 use std::process::ExitCode;
 use std::{env, io};
 
