@@ -1,21 +1,20 @@
 -- What a listener finds in a round is what the round is.
-use Rattle.std.proofs.Common.{◌≡◌, ℕ, suc, ◌+◌, ◌-◌, ◌*◌, ◌<◌, ◌≤◌, Bool, true, false, not, ◌&&◌, List, [], ◌∷◌, ◌++◌, length, drop, refl, sym, ap, ap₂, subst, ◌∙◌, arith}
-use Rattle.std.specs.Prelude.{if◌then◌else◌, Option, Some, None}
+use Rattle.std.proofs.Common.{◌≡◌, ℕ, suc, ◌+◌, ◌-◌, ◌*◌, ◌≤◌, Bool, true, false, not, ◌&&◌, List, [], ◌∷◌, ◌++◌, length, drop, refl, sym, ap, ap₂, subst, ◌∙◌, arith}
+use Rattle.std.specs.Prelude.{if◌then◌else◌, Option, Some}
 use Rattle.std.proofs.lemmas.Bool.{and_right}
-use Rattle.std.proofs.lemmas.List.{drop-drop, length-append, length-drop}
+use Rattle.std.proofs.lemmas.List.{drop-drop, length-append}
 use Rattle.sdh_payload.specs.declared.delivered.Delivered.{Delivered}
 use Rattle.sdh_payload.specs.declared.delivered.Delivered.TheVariants.{Ais, Chunk}
 use Rattle.sdh_payload.specs.Customer.{Customer}
 use Rattle.sdh_payload.specs.Stream.{stream_from}
 use Rattle.sdh_payload.proofs.Chunks.{length-stream_from, stream_from-append}
-use Rattle.sdh_outage.specs.declared.kind.Kind.{Kind}
 use Rattle.sdh_outage.specs.declared.kind.Kind.TheVariants as kind
 use Rattle.sdh_outage.specs.Near.{near, near_from, is_part}
 use Rattle.sdh_outage.specs.Kinds.{are_ones, jumps, kind_of, last_heard, kinds_of}
 use Rattle.sdh_outage.specs.Outages.{with_round, outage_of}
 use Rattle.sdh_outage.specs.Kept.{StandsAt, StandsWhere, Heard, heard}
 use Rattle.sdh_outage.proofs.Standing.{part_of_stream}
-use Rattle.sdh_outage.proofs.Windows.{drop-stream, front-stream, length-near}
+use Rattle.sdh_outage.proofs.Windows.{drop-stream, front-stream}
 
 -- ---- the chunk behind the last one
 

@@ -1,5 +1,5 @@
 -- Parts of lines, put one after the other.
-use Rattle.std.proofs.Common.{◌≡◌, ℕ, ◌+◌, ◌-◌, ◌*◌, ◌/◌, ◌%◌, List, ◌++◌, length, codes, decimal, ap₂, arith, append_assoc}
+use Rattle.std.proofs.Common.{◌≡◌, ℕ, ◌-◌, ◌*◌, ◌/◌, ◌%◌, List, ◌++◌, length, codes, decimal, ap₂, arith, append_assoc}
 use Rattle.std.proofs.lemmas.List.{length-append}
 use Rattle.sdh_report.specs.Written.{Written, with_part}
 use Rattle.sdh_outage.specs.Lines.{three_digits, ms_text}

@@ -1,12 +1,12 @@
 -- The bytes that are near, round after round.
-use Rattle.std.proofs.Common.{◌≡◌, ℕ, ◌+◌, ◌-◌, ◌*◌, ◌<◌, ◌≤◌, List, [], ◌++◌, length, get_or, take, drop, refl, sym, ap, ap₂, ◌∙◌, arith}
+use Rattle.std.proofs.Common.{◌≡◌, ℕ, ◌+◌, ◌-◌, ◌*◌, ◌<◌, ◌≤◌, List, [], ◌++◌, length, take, drop, sym, ap, ap₂, ◌∙◌, arith}
 use Rattle.std.specs.Prelude.{Result, Ok, is_ok, if◌then◌else◌}
 use Rattle.std.proofs.Math.Seq.{take-append_seam, drop-append_seam}
-use Rattle.std.proofs.lemmas.List.{ext_get_or, length-append, length-drop}
+use Rattle.std.proofs.lemmas.List.{ext_get_or, length-append}
 use Rattle.memchr.specs.Find.{OccursAt}
 use Rattle.sdh_basics.proofs.CellsLaws.{cells-zero}
 use Rattle.sdh_payload.specs.Customer.{Customer}
-use Rattle.sdh_payload.specs.Clock.{waiting, ticked}
+use Rattle.sdh_payload.specs.Clock.{waiting}
 use Rattle.sdh_payload.specs.Feed.{Fed, new_feed, next_feed}
 use Rattle.sdh_payload.specs.Stream.{stream_byte, stream_from}
 use Rattle.sdh_payload.proofs.Chunks.{length-stream_from, get_or-stream_from, stream_from-append}

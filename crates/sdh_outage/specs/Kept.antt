@@ -1,9 +1,9 @@
 -- What a listener holds.
-use Rattle.std.specs.Prelude.{◌≡◌, ℕ, ◌+◌, ◌-◌, ◌*◌, ◌≤◌, Bool, if◌then◌else◌, List, [], length, Option, Some, None}
+use Rattle.std.specs.Prelude.{◌≡◌, ℕ, ◌+◌, ◌-◌, ◌*◌, ◌≤◌, Bool, if◌then◌else◌, List, length, Option, Some, None}
 use Rattle.sdh_payload.specs.declared.delivered.Delivered.{Delivered}
 use Rattle.sdh_payload.specs.declared.delivered.Delivered.TheVariants.{Ais, Chunk}
 use Rattle.sdh_payload.specs.Customer.{Customer}
-use Rattle.sdh_payload.specs.Clock.{Clock, waiting}
+use Rattle.sdh_payload.specs.Clock.{waiting}
 use Rattle.sdh_payload.specs.Feed.{Fed}
 use Rattle.sdh_payload.specs.Stream.{stream_from}
 use Rattle.sdh_outage.specs.declared.outage.Outage.{Outage}

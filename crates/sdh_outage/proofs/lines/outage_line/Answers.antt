@@ -1,4 +1,4 @@
-use Rattle.std.proofs.Common.{◌≡◌, ◌++◌, codes, ap, ◌∙◌}
+use Rattle.std.proofs.Common.{◌++◌, codes, ap, ◌∙◌}
 use Rattle.sdh_report.specs.Lines.{port_named}
 use Rattle.sdh_report.specs.Written.{Written, with_part}
 use Rattle.sdh_outage.specs.Outages.{out}

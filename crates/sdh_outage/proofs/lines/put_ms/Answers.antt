@@ -1,4 +1,4 @@
-use Rattle.std.proofs.Common.{◌≡◌, ◌+◌, ◌*◌, ◌/◌, ◌%◌, ◌++◌, codes, decimal, ap, ◌∙◌}
+use Rattle.std.proofs.Common.{◌*◌, ◌/◌, ◌%◌, ◌++◌, codes, decimal, ap, ◌∙◌}
 use Rattle.sdh_report.specs.Written.{Written, with_part}
 use Rattle.sdh_outage.specs.Lines.{three_digits}
 use Rattle.sdh_outage.proofs.Parts.{two_parts, ms_is}

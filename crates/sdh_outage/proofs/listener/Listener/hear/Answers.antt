@@ -1,4 +1,4 @@
-use Rattle.std.proofs.Common.{◌≡◌, ℕ, ◌+◌, ap, ap₂, ◌∙◌}
+use Rattle.std.proofs.Common.{◌≡◌, ◌+◌, ap, ap₂, ◌∙◌}
 use Rattle.sdh_outage.specs.Kept.{Nearby, Heard}
 use Rattle.sdh_outage.specs.Outages.{with_round}
 use Rattle.sdh_outage.proofs.Hearing.{after, hears}

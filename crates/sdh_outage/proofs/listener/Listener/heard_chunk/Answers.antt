@@ -1,9 +1,9 @@
-use Rattle.std.proofs.Common.{◌≡◌, ◌+◌, ◌*◌, length, false, true, sym, ap, subst, ◌∙◌, arith}
+use Rattle.std.proofs.Common.{◌≡◌, ◌+◌, length, false, true, sym, ap, subst, ◌∙◌}
 use Rattle.std.specs.Prelude.{is_some}
 use Rattle.memchr.specs.Find.{OccursAt}
 use Rattle.sdh_payload.specs.declared.delivered.Delivered.TheVariants.{Chunk}
 use Rattle.sdh_payload.specs.Stream.{stream_from}
-use Rattle.sdh_outage.specs.Kept.{Heard, StandsWhere}
+use Rattle.sdh_outage.specs.Kept.{Heard}
 use Rattle.sdh_outage.specs.Near.{near, is_part}
 use Rattle.sdh_outage.specs.Kinds.{are_ones, jumps, kind_of}
 use Rattle.sdh_outage.proofs.Standing.{part_found}

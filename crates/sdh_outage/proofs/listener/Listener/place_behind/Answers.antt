@@ -1,8 +1,7 @@
-use Rattle.std.proofs.Common.{◌≡◌, ◌+◌, ◌-◌, ◌*◌, ◌≤◌, ◌++◌, length, drop, refl, sym, ap, ap₂, subst, ◌∙◌, arith}
+use Rattle.std.proofs.Common.{◌≡◌, ◌+◌, ◌-◌, ◌*◌, ◌≤◌, ◌++◌, length, drop, sym, ap, ap₂, subst, ◌∙◌, arith}
 use Rattle.std.proofs.lemmas.Bool.Decides.{Decides-eqb}
 use Rattle.std.proofs.lemmas.Slice.{between_to_end}
 use Rattle.std.proofs.lemmas.Slice.Eq.{starts_is}
-use Rattle.sdh_payload.specs.declared.delivered.Delivered.TheVariants.{Chunk}
 use Rattle.sdh_outage.specs.Near.{near, near_from}
 use Rattle.sdh_outage.specs.Kept.{Heard}
 use Rattle.sdh_outage.proofs.Hearing.{Follows, behind_last, known_place}

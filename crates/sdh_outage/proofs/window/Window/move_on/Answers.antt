@@ -1,4 +1,4 @@
-use Rattle.std.proofs.Common.{◌≡◌, ℕ, ◌+◌, ◌*◌, List, ◌++◌, length, vec_len, sym, ap, subst, ◌∙◌, arith}
+use Rattle.std.proofs.Common.{◌≡◌, ℕ, ◌+◌, List, ◌++◌, length, vec_len, sym, ap, subst, ◌∙◌, arith}
 use Rattle.sdh_payload.specs.Stream.{stream_from}
 use Rattle.sdh_outage.specs.Kept.{Nearby, IsWindow}
 use Rattle.sdh_outage.proofs.Windows.{window_next, when_ok}

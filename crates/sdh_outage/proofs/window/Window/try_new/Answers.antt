@@ -1,6 +1,6 @@
-use Rattle.std.proofs.Common.{◌≡◌, ℕ, ◌+◌, ◌*◌, List, [], ◌++◌, length, vec_len, sym, ap, subst, ◌∙◌, arith}
+use Rattle.std.proofs.Common.{◌≡◌, ℕ, ◌+◌, List, ◌++◌, length, vec_len, sym, ap, subst, ◌∙◌, arith}
 use Rattle.sdh_payload.specs.Stream.{stream_from}
-use Rattle.sdh_outage.proofs.Windows.{IsFilled, filled_none, filled_more, filled_all, when_ok}
+use Rattle.sdh_outage.proofs.Windows.{IsFilled, filled_none, filled_more, when_ok}
 use Rattle.sdh_outage.proofs.window.Window.try_new.Goals as goal
 
 pub loop-init : goal.loop-init
