@@ -1,25 +1,14 @@
 -- Circuits that share a span and a slot.
-use Rattle.std.proofs.Common.{◌≡◌, ℕ, ◌<◌, ◌≤◌, get_or, Bool, true, false, ◌&&◌, ◌||◌, ◌==◌, nat_lt, refl, sym, ap, ◌∙◌, arith, inl, inr, lt-ltb, le-ltb, eq-eqb}
+use Rattle.std.proofs.Common.{◌≡◌, ℕ, ◌<◌, get_or, Bool, true, false, ◌&&◌, ◌||◌, ◌==◌, refl, sym, ap, ◌∙◌, arith, inl, inr, eq-eqb}
 use Rattle.std.specs.List.{list_any, range_with_len}
 use Rattle.std.proofs.lemmas.Bool.{and_from}
 use Rattle.std.proofs.lemmas.List.Folds.{list_any_at, list_any_none}
 use Rattle.std.proofs.lemmas.List.FromFn.{get_or-range_with_len, length-range_with_len}
-use Rattle.sdh_ringmap.specs.Places.{eastwards}
-use Rattle.sdh_ringmap.specs.Arcs.{arc_between, holds_span}
+use Rattle.sdh_ringmap.specs.Arcs.{holds_span}
 use Rattle.sdh_ringmap.proofs.Around.{holds_start, one_holds_start, held_inside}
 use Rattle.sdh_circuits.specs.Provisioned.{Provisioned, arc_of}
 use Rattle.sdh_circuits.specs.Provisioning.{IsInRing}
 use Rattle.sdh_circuits.specs.Checks.{do_share}
-
--- a span of the ring is held by an arc where fewer spans lead to it than the arc has
-pub held : (n from to s : ℕ) → s < n → nat_lt (eastwards n from s) (eastwards n from to) ≡ holds_span n (arc_between n from to) s
-unfolding holds_span
-held n from to s h = sym (ap (λ b. b && nat_lt (eastwards n from s) (eastwards n from to)) (lt-ltb s n h))
-
--- no other span is
-pub not_held : (n from to s : ℕ) → n ≤ s → false ≡ holds_span n (arc_between n from to) s
-unfolding holds_span
-not_held n from to s h = sym (ap (λ b. b && nat_lt (eastwards n from s) (eastwards n from to)) (le-ltb s n h))
 
 -- both arcs hold the span
 both_hold : ℕ → Provisioned → Provisioned → ℕ → Bool

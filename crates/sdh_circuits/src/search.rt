@@ -8,15 +8,14 @@ ghost use Rattle.sdh_circuits.specs.Provisioning.{IsInRing};
 ghost use Rattle.sdh_circuits.specs.Checks.{do_share};
 
 use crate::{Circuit, Slot};
-use sdh_ringmap::{Pos, RingMap, Span};
+use sdh_ringmap::{RingMap, Span};
 
 // Whether the circuit's arc holds the span.
 fn holds(map: &RingMap, circuit: &Circuit, span: Span) -> bool
     requires { IsInRing (length map.now) circuit.now }
     ensures { result ≡ holds_span (length map.now) (arc_of (length map.now) circuit.now) span.0 }
 {
-    (span.0 as usize) < map.len()
-        && map.distance(circuit.from(), Pos(span.0)) < map.distance(circuit.from(), circuit.to())
+    map.holds(circuit.from(), circuit.to(), span)
 }
 
 // Whether the circuit is on the span in the slot.

@@ -1,5 +1,5 @@
 //! Honest fibres in memory.
-ghost use Rattle.std.specs.Prelude.{◌≡◌, ◌≢◌, true, ◌*◌, ◌<◌, ◌≤◌, Some, None, Ok, IfSome, IfOk, IsOk, OnOk, OnErr, IsOkUnless, IsErrOf, All, length, replicate, slice_index_or, slice_set, refl};
+ghost use Rattle.std.specs.Prelude.{◌≡◌, ◌≢◌, true, ◌+◌, ◌*◌, ◌<◌, ◌≤◌, Some, None, Ok, IfSome, IfOk, IsOk, OnOk, OnErr, IsOkUnless, IsErrOf, All, length, replicate, slice_index_or, slice_set, refl};
 ghost use Rattle.sdh_basics.specs.Causes.{Rose, IsCounted, HasCause};
 ghost use Rattle.sdh_terms.specs.Rates.{n_of};
 ghost use Rattle.sdh_terms.specs.declared.Condition.TheVariants.{Clear};
@@ -13,7 +13,7 @@ ghost use Rattle.sdh_plant.specs.Kept.{IsFibre, carried_by, conditions, carried}
 use crate::frames::land_degraded;
 use crate::plant::{Arrived, Failed, Plant, PrepareError};
 use sdh_frame::{FrameBuf, Landing};
-use sdh_ringmap::{Pos, Side};
+use sdh_ringmap::{Pos, Side, neighbour};
 use sdh_terms::{Condition, FibreEvent, Rate};
 use std::alloc::{AllocError, Global};
 use std::marker::Model;
@@ -66,7 +66,8 @@ fn new_fibres(alloc: Global, rate: Rate, count: usize) -> Result<Vec<Fibre>, All
 
 // The number of the fibre that leaves a position on a side.
 fn fibre_at(at: Pos, side: Side) -> usize
-    ensures { result ≡ fibre at.0 side }
+    ensures fibre { result ≡ fibre at.0 side }
+    ensures within { result ≤ 2 * at.0 + 1 }
 {
     match side {
         Side::West => 2 * usize::from(at.0),
@@ -81,12 +82,7 @@ fn fibre_into(nodes: usize, at: Pos, side: Side) -> usize
     ensures fibre { result ≡ fibre_to nodes at.0 side }
     ensures within { result < 2 * nodes }
 {
-    let n = nodes as u8;
-    let neighbour = match side {
-        Side::West => (at.0 + (n - 1)) % n,
-        Side::East => (at.0 + 1) % n,
-    };
-    fibre_at(Pos(neighbour), side.opposite())
+    fibre_at(neighbour(nodes, at, side), side.opposite())
 }
 
 fn set_condition(fibres: &mut [Fibre], at: usize, condition: Condition)

@@ -83,6 +83,20 @@ impl Side {
     }
 }
 
+/// The position on a side, in a ring of so many nodes.
+pub fn neighbour(nodes: usize, at: Pos, side: Side) -> Pos
+    requires at { at.0 < nodes }
+    requires few { nodes ≤ 16 }
+    ensures place { result.0 ≡ neighbour nodes at.0 side }
+    ensures within { result.0 < nodes }
+{
+    let n = nodes as u8;
+    Pos(match side {
+        Side::East => (at.0 + 1) % n,
+        Side::West => (at.0 + (n - 1)) % n,
+    })
+}
+
 impl RingMap {
     /// The ring whose nodes have these identifiers, by position. Of several things that are wrong it
     /// answers the number of nodes before a number that is no identifier, and that before a repeat.
@@ -138,11 +152,7 @@ impl RingMap {
         ensures place { result.0 ≡ neighbour (length self.now) at.0 side }
         ensures within { result.0 < length self.now }
     {
-        let n = self.ids.len() as u8;
-        Pos(match side {
-            Side::East => (at.0 + 1) % n,
-            Side::West => (at.0 + (n - 1)) % n,
-        })
+        neighbour(self.len(), at, side)
     }
 
     /// The span on a side.
@@ -191,9 +201,9 @@ impl RingMap {
         self.distance(chain.first, at) < chain.count
     }
 
-    // Whether a span is held by the arc that leads eastwards from one position to another.
+    /// Whether a span is held by the arc that leads eastwards from one position to another.
     #[tactic(auto, unfolding(crate::specs::Arcs::holds_span))]
-    fn holds(&self, from: Pos, to: Pos, span: Span) -> bool
+    pub fn holds(&self, from: Pos, to: Pos, span: Span) -> bool
         requires from { from.0 < length self.now }
         requires to { to.0 < length self.now }
         ensures { result ≡ holds_span (length self.now) (arc_between (length self.now) from.0 to.0) span.0 }
