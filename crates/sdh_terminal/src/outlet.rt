@@ -24,13 +24,12 @@ use std::marker::Model;
 #[derive(Debug, Drop)]
 pub struct Outlet {
     chunk: Delivered,
-    ais: Delivered,
     is_here: bool,
     value: u16,
 }
 
 impl Model for Outlet {
-    ghost use Rattle.std.specs.Prelude.{◌≡◌, ◌≤◌, if◌then◌else◌};
+    ghost use Rattle.std.specs.Prelude.{◌≤◌, if◌then◌else◌};
     ghost use Rattle.sdh_payload.specs.Outlet.{Outlet};
     ghost use Rattle.sdh_payload.specs.declared.delivered.Delivered.TheVariants.{Ais};
     ghost use Rattle.sdh_terminal.specs.Outlets.{IsChunk};
@@ -39,7 +38,7 @@ impl Model for Outlet {
 
     ghost view = { λ o. record { delivered = if o.is_here then o.chunk else Ais; value = o.value } };
 
-    ghost invariant = { λ o. IsChunk o.chunk × (o.ais ≡ Ais) × (o.value ≤ 782) };
+    ghost invariant = { λ o. IsChunk o.chunk × (o.value ≤ 782) };
 }
 
 impl Outlet {
@@ -49,7 +48,6 @@ impl Outlet {
     {
         Ok(Outlet {
             chunk: Delivered::Chunk(Cells::try_new(alloc)?),
-            ais: Delivered::Ais,
             is_here: false,
             value: 0,
         })
@@ -59,7 +57,11 @@ impl Outlet {
     pub fn delivered(&self) -> &Delivered
         ensures { result.now ≡ self.now.delivered }
     {
-        if self.is_here { &self.chunk } else { &self.ais }
+        if self.is_here {
+            &self.chunk
+        } else {
+            &Delivered::Ais
+        }
     }
 
     /// The value of the interpreter through which it came, 0 with AIS.
