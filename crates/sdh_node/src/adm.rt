@@ -223,15 +223,23 @@ impl Adm {
             west,
             east,
         );
-        let calm = is_calm(
-            counts, taken, decided, west_said, west_made, east_said, east_made,
-        );
+        let signs = Signs {
+            counts,
+            taken,
+            decided,
+            west_said,
+            west_made,
+            east_said,
+            east_made,
+        };
+        let calm = is_calm(&signs);
         self.calm = calm;
     }
 }
 
-// Whether a round is calm: it may be, and all that is compared is the same.
-fn is_calm(
+// What tells whether a round is calm: whether it may be, and of each of its calls whether what it compares is the same.
+#[derive(Drop)]
+struct Signs {
     counts: bool,
     taken: bool,
     decided: bool,
@@ -239,10 +247,19 @@ fn is_calm(
     west_made: bool,
     east_said: bool,
     east_made: bool,
-) -> bool
-    ensures { result ≡ (counts && (taken && decided && (west_said && west_made) && (east_said && east_made))) }
+}
+
+// Whether the round is calm: it may be, and all that is compared is the same.
+fn is_calm(signs: &Signs) -> bool
+    ensures { result ≡ (signs.now.counts && (signs.now.taken && signs.now.decided && (signs.now.west_said && signs.now.west_made) && (signs.now.east_said && signs.now.east_made))) }
 {
-    counts && taken && decided && west_said && west_made && east_said && east_made
+    signs.counts
+        && signs.taken
+        && signs.decided
+        && signs.west_said
+        && signs.west_made
+        && signs.east_said
+        && signs.east_made
 }
 
 // The words of both sides.
