@@ -128,7 +128,14 @@ impl PathNode {
             west,
             east,
         );
-        self.calm = is_calm(ran, taken, west_made, east_made);
+        let signs = Signs {
+            ran,
+            taken,
+            west_made,
+            east_made,
+        };
+        let calm = is_calm(&signs);
+        self.calm = calm;
     }
 }
 
@@ -139,9 +146,18 @@ fn has_run(rounds: u64) -> bool
     rounds >= 1
 }
 
-// Whether a round was calm, by what its calls tell.
-fn is_calm(ran: bool, taken: bool, west_made: bool, east_made: bool) -> bool
-    ensures { result ≡ (ran && (taken && (west_made && east_made))) }
+// What tells whether a round was calm: whether one ran before it, and of each of its calls whether what it compares is the same.
+#[derive(Drop)]
+struct Signs {
+    ran: bool,
+    taken: bool,
+    west_made: bool,
+    east_made: bool,
+}
+
+// Whether the round was calm, by what its calls tell.
+fn is_calm(signs: &Signs) -> bool
+    ensures { result ≡ (signs.now.ran && (signs.now.taken && (signs.now.west_made && signs.now.east_made))) }
 {
-    ran && taken && west_made && east_made
+    signs.ran && signs.taken && signs.west_made && signs.east_made
 }

@@ -51,14 +51,14 @@ returns-clause-east c =
 pub returns-clause-node : goal.returns-clause-node
 returns-clause-node c =
     let i = c.self.inside in
-    let told = c.is_calm-self-inside.ensures
+    let told = c.is_calm-calm.ensures
     ∙ calm_is i.threshold i.rounds i.cross i.ports i.west_out i.east_out i.calm c.take-taken.new.self c.deliver.new.self c.feed.new.self c.take-taken.ensures.cross c.deliver.ensures c.feed.ensures
     c.send_both-west_made.new.west c.send_both-west_made.new.east c.send_both-west_made.ensures.west c.send_both-west_made.ensures.east
     c.has_run-ran.result c.take-taken.result c.send_both-west_made.result.0 c.send_both-west_made.result.1
     c.has_run-ran.ensures c.take-taken.ensures.same c.send_both-west_made.ensures.west_same c.send_both-west_made.ensures.east_same in
     node_is i.threshold i.rounds i.cross i.ports i.west_out i.east_out i.calm c.take-taken.new.self c.deliver.new.self c.feed.new.self c.take-taken.ensures.cross c.deliver.ensures c.feed.ensures
     c.send_both-west_made.new.west c.send_both-west_made.new.east c.send_both-west_made.ensures.west c.send_both-west_made.ensures.east
-    c.is_calm-self-inside.result told
+    c.is_calm-calm.result told
     ∙ ap (λ (n : PathNode). (node_round n).0) c.self.view_is
 
 pub returns-clause-goes_on : goal.returns-clause-goes_on
