@@ -1,5 +1,5 @@
 //! The pointer generator.
-ghost use Rattle.std.specs.Prelude.{◌≡◌, ◌≤◌, None, false};
+ghost use Rattle.std.specs.Prelude.{◌≡◌, ℕ, ◌≤◌, Option, None, false};
 ghost use Rattle.std.specs.Option.{option_map_or};
 ghost use Rattle.sdh_pointer.specs.Sending.{form_sent, value_sent, next_sending, same_sending, after_action};
 
@@ -28,41 +28,30 @@ impl Model for Gen {
     ghost invariant = { λ a. option_map_or (λ g. g) a.sending 0 ≤ 782 };
 }
 
-// The form of the word that is sent in a state for an input.
-#[tactic(auto, unfolding(crate::specs::Sending::form_sent, crate::specs::Sending::row_of, crate::specs::Sending::sending_table))]
-fn form_sent(sending: Option<u16>, action: Action, value: u16) -> Form
-    requires { option_map_or (λ g. g) sending 0 ≤ 782 }
-    ensures { result ≡ form_sent sending action value }
-{
-    match (sending, action) {
-        (_, Action::Ais) => Form::Ais,
-        (Some(kept), Action::Normal) if value == kept => Form::Normal,
-        (Some(kept), Action::Up) if value == one_up(kept) => Form::Up,
-        (Some(kept), Action::Down) if value == one_down(kept) => Form::Down,
-        _ => Form::Enabled,
-    }
-}
-
-// The value that the word carries: that of the state where it is justified.
+// The form of the word that is sent in a state for an input, and the value that it carries: that of the state where it is
+// justified.
 #[tactic(auto, unfolding(crate::specs::Sending::form_sent, crate::specs::Sending::value_sent, crate::specs::Sending::row_of, crate::specs::Sending::sending_table))]
-fn value_sent(sending: Option<u16>, action: Action, value: u16, form: Form) -> u16
+fn parts_sent(sending: Option<u16>, action: Action, value: u16) -> (Form, u16)
     requires kept { option_map_or (λ g. g) sending 0 ≤ 782 }
     requires small { value ≤ 782 }
-    requires form { form ≡ form_sent sending action value }
-    ensures carried { result ≡ value_sent sending action value }
-    ensures fits { result ≤ 782 }
+    ensures form { result.0 ≡ form_sent sending action value }
+    ensures carried { result.1 ≡ value_sent sending action value }
+    ensures fits { result.1 ≤ 782 }
 {
-    match (sending, form) {
-        (Some(kept), Form::Up | Form::Down) => kept,
-        _ => value,
+    match (sending, action) {
+        (_, Action::Ais) => (Form::Ais, value),
+        (Some(kept), Action::Normal) if value == kept => (Form::Normal, kept),
+        (Some(kept), Action::Up) if value == one_up(kept) => (Form::Up, kept),
+        (Some(kept), Action::Down) if value == one_down(kept) => (Form::Down, kept),
+        _ => (Form::Enabled, value),
     }
 }
 
-// The next state.
-#[tactic(auto, unfolding(crate::specs::Sending::next_sending, crate::specs::Sending::row_of, crate::specs::Sending::sending_table))]
-fn next_sending(sending: Option<u16>, action: Action, value: u16) -> Option<u16>
+// The next state, whatever the state was.
+#[tactic(auto, using(crate::proofs::Sent::next_by_action))]
+fn next_sending(action: Action, value: u16) -> Option<u16>
     requires { value ≤ 782 }
-    ensures next { result ≡ next_sending sending action value }
+    ensures next { (sending : Option ℕ) → result ≡ next_sending sending action value }
     ensures fits { option_map_or (λ g. g) result 0 ≤ 782 }
 {
     match action {
@@ -103,9 +92,9 @@ impl Gen {
         ensures form { result ≡ form_sent self.old.sending action value }
     {
         let old = self.sending;
-        let form = form_sent(old, action, value);
-        let new = next_sending(old, action, value);
-        self.word = word_of(form, value_sent(old, action, value, form)).0;
+        let (form, carried) = parts_sent(old, action, value);
+        let new = next_sending(action, value);
+        self.word = word_of(form, carried).0;
         self.sending = new;
         self.moved = !same_sending(new, old);
         form
