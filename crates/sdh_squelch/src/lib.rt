@@ -2,7 +2,7 @@
 //! ends. By it a node that switches decides which slots it may carry round the ring, and squelches the others.
 #![tactic(auto)]
 
-ghost use Rattle.std.specs.Prelude.{◌≡◌, ◌≤◌, ◌<◌, ◌+◌, ◌-◌, ◌++◌, ◌⊎◌, ℕ, [], Some, option_map, length, IfOk, OnOk};
+ghost use Rattle.std.specs.Prelude.{◌≡◌, ◌≤◌, ◌<◌, ◌+◌, ◌-◌, ◌++◌, ◌⊎◌, ℕ, List, [], Some, option_map, length, IfOk, OnOk};
 ghost use Rattle.std.specs.List.{All};
 ghost use Rattle.sdh_basics.specs.Cells.{cells};
 ghost use Rattle.sdh_circuits.specs.Provisioning.{Provisioning, IsProvisioning};
@@ -46,11 +46,10 @@ impl Model for Table {
 }
 
 // The circuit on a span in a slot.
-fn row_on(map: &RingMap, circuits: &CircuitMap, span: Span, slot: Slot) -> Option<Row>
-    requires form { IsProvisioning circuits.now }
-    requires kept { KeepsRing circuits.now map.now }
-    ensures row { result ≡ circuit_on (length map.now) circuits.now.circuits span.0 slot.0 }
-    ensures ends { HasEnds (length map.now) result }
+fn row_on(circuits: &CircuitMap, span: Span, slot: Slot) -> Option<Row>
+    requires { IsProvisioning circuits.now }
+    ensures row { (ids : List ℕ) → KeepsRing circuits.now ids → result ≡ circuit_on (length ids) circuits.now.circuits span.0 slot.0 }
+    ensures ends { (ids : List ℕ) → KeepsRing circuits.now ids → HasEnds (length ids) result }
 {
     match circuits.on_span(span, slot) {
         Some(circuit) => {
@@ -68,18 +67,15 @@ fn row_on(map: &RingMap, circuits: &CircuitMap, span: Span, slot: Slot) -> Optio
 // Adds the circuits in slots 1 to 8 of a span.
 fn add_rows(
     rows: &mut Vec<Option<Row>>,
-    map: &RingMap,
     circuits: &CircuitMap,
     span: Span,
 ) -> Result<(), AllocError>
-    requires form { IsProvisioning circuits.now }
-    requires kept { KeepsRing circuits.now map.now }
-    requires ends { All (HasEnds (length map.now)) rows.old.items }
-    ensures rows { OnOk result (rows.new.items ≡ rows.old.items ++ cells (λ i. circuit_on (length map.now) circuits.now.circuits span.0 (i + 1)) 8) }
-    ensures ends { OnOk result (All (HasEnds (length map.now)) rows.new.items) }
+    requires { IsProvisioning circuits.now }
+    ensures rows { OnOk result ((ids : List ℕ) → KeepsRing circuits.now ids → rows.new.items ≡ rows.old.items ++ cells (λ i. circuit_on (length ids) circuits.now.circuits span.0 (i + 1)) 8) }
+    ensures ends { OnOk result ((ids : List ℕ) → KeepsRing circuits.now ids → All (HasEnds (length ids)) rows.old.items → All (HasEnds (length ids)) rows.new.items) }
 {
     for i in 0..8u8 {
-        rows.push(row_on(map, circuits, span, Slot(i + 1)))?;
+        rows.push(row_on(circuits, span, Slot(i + 1)))?;
     }
     Ok(())
 }
@@ -99,8 +95,8 @@ impl Table {
         // Reading it gives the proof what is true of every circuit map.
         let _count = circuits.len();
         let mut rows = Vec::with_capacity(alloc, 16)?;
-        add_rows(&mut rows, map, circuits, map.span(at, Side::West))?;
-        add_rows(&mut rows, map, circuits, map.span(at, Side::East))?;
+        add_rows(&mut rows, circuits, map.span(at, Side::West))?;
+        add_rows(&mut rows, circuits, map.span(at, Side::East))?;
         Ok(Table {
             at,
             map: map.copy(),
