@@ -56,9 +56,18 @@ chunks-append : (xs ys : List PortLine) → chunks_in (xs ++ ys) ≡ chunks_in x
 chunks-append [] ys = omega arith
 chunks-append (x ∷ xs) ys = let h = chunks-append xs ys in omega arith
 
-pub chunks_more : (r : HeldRing) (cs : List Provisioned) (i : ℕ) (c : Provisioned) → i < length cs → slice_get cs i ≡ Some c
+-- there is a circuit in each place below their number
+there_is : (cs : List Provisioned) (i : ℕ) → i < length cs → (c : Provisioned) × (slice_get cs i ≡ Some c)
+there_is [] i lt = absurd (omega arith)
+there_is (c ∷ cs) zero lt = (c, refl)
+there_is (c ∷ cs) (suc i) lt = there_is cs i (omega arith)
+
+pub chunks_more : (r : HeldRing) (cs : List Provisioned) (i : ℕ) → i < length cs
     → chunks_in (ports_from r 0 (take (i + 1) cs)) ≡ chunks_in (ports_from r 0 (take i cs)) + (chunks_of (outlet_at r (record { circuit = i; end = A })).delivered + chunks_of (outlet_at r (record { circuit = i; end = B })).delivered)
-chunks_more r cs i c lt get = ap chunks_in (ports_next r cs i c lt get) ∙ chunks-append (ports_from r 0 (take i cs)) (port_told r i c A ∷ port_told r i c B ∷ []) ∙ omega arith
+chunks_more r cs i lt =
+    let here = there_is cs i lt in
+    let c = here.0 in
+    ap chunks_in (ports_next r cs i c lt here.1) ∙ chunks-append (ports_from r 0 (take i cs)) (port_told r i c A ∷ port_told r i c B ∷ []) ∙ omega arith
 
 one_each : (d : Delivered) → chunks_of d + silences_of d ≡ 1
 one_each Ais = refl

@@ -168,9 +168,9 @@ fn chunks_of(ring: &Ring, circuit: u8, end: End) -> u32
 }
 
 // How many ports of a circuit delivered a chunk.
-fn chunks_at(ring: &Ring, circuit: u8, named: &Circuit) -> u32
+fn chunks_at(ring: &Ring, circuit: u8) -> u32
     requires inside { circuit < length ring.now.circuits.circuits }
-    ensures chunks { result ≡ chunks_of (port_told ring.now circuit named.now A).outlet.delivered + chunks_of (port_told ring.now circuit named.now B).outlet.delivered }
+    ensures chunks { result ≡ chunks_of (outlet_at ring.now (record { circuit = circuit; end = A })).delivered + chunks_of (outlet_at ring.now (record { circuit = circuit; end = B })).delivered }
     ensures few { result ≤ 2 }
 {
     chunks_of(ring, circuit, End::A) + chunks_of(ring, circuit, End::B)
@@ -184,7 +184,7 @@ fn chunks_in(ring: &Ring) -> u32
     let mut count = 0;
     let circuits = ring.circuits();
     for i in 0..circuits.len() {
-        count += chunks_at(ring, i as u8, circuits.get(i as u8));
+        count += chunks_at(ring, i as u8);
     }
     count
 }

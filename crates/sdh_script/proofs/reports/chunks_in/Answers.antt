@@ -1,5 +1,4 @@
-use Rattle.std.proofs.Common.{◌≡◌, ◌<◌, length, Some, ap, arith, subst}
-use Rattle.std.specs.Prelude.{slice_get}
+use Rattle.std.proofs.Common.{◌≡◌, ◌<◌, length, ap, arith}
 use Rattle.sdh_circuits.specs.Provisioning.{Provisioning}
 use Rattle.sdh_script.proofs.Told.{chunks_more}
 use Rattle.sdh_script.proofs.reports.chunks_in.Goals as goal
@@ -9,11 +8,9 @@ loop-i-preserved c =
     let r = c.args.ring.now in
     let cs = r.circuits.circuits in
     let i = c.loop-i.i in
-    let named = c.get.result.now in
     let size : length c.circuits-circuits.result.now.circuits ≡ length cs = ap (λ (p : Provisioning). length p.circuits) c.circuits-circuits.ensures in
     let lt : i < length cs = omega (arith, c.loop-i-test.true, c.len-i-end.ensures.len, size) in
-    let get : slice_get cs i ≡ Some named = subst (λ (p : Provisioning). slice_get p.circuits i ≡ Some named) c.circuits-circuits.ensures c.get.ensures in
     record {
-      counted = omega (arith, c.loop-i.invariant.counted, c.chunks_at-count.ensures.chunks, chunks_more r cs i named lt get);
+      counted = omega (arith, c.loop-i.invariant.counted, c.chunks_at-count.ensures.chunks, chunks_more r cs i lt);
       few = omega (arith, c.loop-i.invariant.few, c.chunks_at-count.ensures.few);
     }
