@@ -98,8 +98,8 @@ impl Text {
         self.put(b"\n");
     }
 
-    // The letter of a port.
-    fn put_end(&mut self, end: End)
+    /// The letter of a port: `a` where its circuit's arc starts, `b` where it ends.
+    pub fn put_end(&mut self, end: End)
         requires { 1 ≤ self.old.room }
         ensures { self.new ≡ with_part self.old (end_letter end) }
     {
@@ -109,8 +109,8 @@ impl Text {
         }
     }
 
-    // The name of a port.
-    fn put_port(&mut self, name: &Name, end: End)
+    /// How each line of a port begins: the word `port`, the circuit's name and the port's letter, with no space behind them.
+    pub fn put_port(&mut self, name: &Name, end: End)
         requires { length (port_named name.now end) ≤ self.old.room }
         ensures { self.new ≡ with_part self.old (port_named name.now end) }
     {
