@@ -5,12 +5,14 @@ ghost use Rattle.sdh_circuits.specs.declared.Slot.{Slot};
 ghost use Rattle.sdh_payload.specs.declared.delivered.Delivered.{Delivered};
 ghost use Rattle.sdh_report.specs.declared.node_line.NodeLine.{NodeLine};
 ghost use Rattle.sdh_report.specs.Lines.{settle_line, node_line, port_line, drop_lines, table_line, count_line};
+ghost use Rattle.sdh_report.specs.Statuses.{last_line};
 ghost use Rattle.sdh_ringmap.specs.declared.Side.{Side};
 
+use crate::status::Status;
 use crate::text::{CHUNK_MAX, LINE_MAX};
 
 /// Each line has room in `LINE_MAX` bytes, whatever numbers its call takes and whatever name of at most 16 bytes, and the
-/// lines of a chunk in `CHUNK_MAX`. Of the last line `Status::has_short_line` says the same.
+/// lines of a chunk in `CHUNK_MAX`. Of the last line `last_line_is_short` says the same.
 pub fn lines_are_short()
     ensures settle { (number round : ℕ) → number < 2 ^ 32 → round < 2 ^ 64 → length (settle_line number round) ≤ LINE_MAX }
     ensures node { (line : NodeLine) → line.id < 2 ^ 8 → length (node_line line) ≤ LINE_MAX }
@@ -19,3 +21,27 @@ pub fn lines_are_short()
     ensures table { (id : ℕ) (side : Side) (slot : Slot) (name : List ℕ) (from to : ℕ) → id < 2 ^ 8 → slot.0 < 2 ^ 8 → length name ≤ 16 → from < 2 ^ 8 → to < 2 ^ 8 → length (table_line id side slot name from to) ≤ LINE_MAX }
     ensures count { (number round norm ais : ℕ) → number < 2 ^ 32 → round < 2 ^ 64 → norm < 2 ^ 32 → ais < 2 ^ 32 → length (count_line number round norm ais) ≤ LINE_MAX }
 {}
+
+/// The last line of a status has room in `LINE_MAX` bytes, whatever numbers it tells.
+pub fn last_line_is_short(status: &Status)
+    ensures { length (last_line status.now) ≤ LINE_MAX }
+{
+    match *status {
+        Status::BadPlan { reason, place } => short_plan(reason, place),
+        Status::Unsettled(number) => short_step(number),
+        _ => (),
+    }
+}
+
+// Numbers of these sizes have few digits.
+fn short_plan(reason: u8, place: u32)
+    ensures { length (last_line (Status.BadPlan reason place)) ≤ LINE_MAX }
+{
+    let _ = (reason, place);
+}
+
+fn short_step(number: u32)
+    ensures { length (last_line (Status.Unsettled number)) ≤ LINE_MAX }
+{
+    let _ = number;
+}

@@ -1,8 +1,6 @@
 //! How the program ends.
-ghost use Rattle.std.specs.Prelude.{◌≡◌, ◌≤◌, length};
-ghost use Rattle.sdh_report.specs.Statuses.{number_of, last_line};
-
-use crate::text::LINE_MAX;
+ghost use Rattle.std.specs.Prelude.{◌≡◌};
+ghost use Rattle.sdh_report.specs.Statuses.{number_of};
 
 /// How the program ends. With each status but `WriteFault` and `Memory` goes a text.
 #[derive(Clone, Copy, Debug, PartialEq, Eq)]
@@ -51,28 +49,4 @@ impl Status {
             Status::Memory => 70,
         }
     }
-
-    /// Its last line has room in `LINE_MAX` bytes.
-    pub fn has_short_line(&self)
-        ensures { length (last_line self.now) ≤ LINE_MAX }
-    {
-        match *self {
-            Status::BadPlan { reason, place } => short_plan(reason, place),
-            Status::Unsettled(number) => short_step(number),
-            _ => (),
-        }
-    }
-}
-
-// Numbers of these sizes have few digits.
-fn short_plan(reason: u8, place: u32)
-    ensures { length (last_line (Status.BadPlan reason place)) ≤ LINE_MAX }
-{
-    let _ = (reason, place);
-}
-
-fn short_step(number: u32)
-    ensures { length (last_line (Status.Unsettled number)) ≤ LINE_MAX }
-{
-    let _ = number;
 }

@@ -2,6 +2,7 @@
 ghost use Rattle.std.specs.Prelude.{◌≡◌, ◌≤◌, ◌++◌, IfOk, length};
 ghost use Rattle.sdh_report.specs.Statuses.{last_line};
 
+use sdh_report::laws::last_line_is_short;
 use sdh_report::{LINE_MAX, Status, Text};
 use std::alloc::{AllocError, Global};
 
@@ -18,7 +19,7 @@ pub fn ended(status: Status, mut text: Text) -> Report
     ensures status { result.status ≡ status }
     ensures text { result.text.bytes ≡ text.bytes ++ last_line result.status }
 {
-    status.has_short_line();
+    last_line_is_short(&status);
     text.last_line(&status);
     Report { status, text }
 }

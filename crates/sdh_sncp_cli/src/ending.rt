@@ -3,6 +3,7 @@ ghost use Rattle.std.specs.Prelude.{◌≡◌, ◌≤◌, length};
 ghost use Rattle.sdh_report.specs.Written.{with_part};
 ghost use Rattle.sdh_sncp_cli.specs.Endings.{number_of, line_of, same_slot_line, no_such_step_line};
 
+use sdh_report::laws::last_line_is_short;
 use sdh_report::{Status, Text};
 
 /// How the program ends.
@@ -31,17 +32,17 @@ impl Ending {
             Ending::Shared(status) => status.number(),
         }
     }
+}
 
-    // Its last line has room in `LINE_MAX` bytes.
-    pub(crate) fn has_short_line(&self)
-        ensures { length (line_of self.now) ≤ 96 }
-    {
-        match *self {
-            Ending::Usage => (),
-            Ending::NoSuchStep(step) => short_step(step),
-            Ending::SameSlot { first, second } => short_slot(first, second),
-            Ending::Shared(status) => status.has_short_line(),
-        }
+// Its last line has room in `LINE_MAX` bytes: the function does nothing, and its contract is the law.
+pub(crate) fn line_is_short(ending: &Ending)
+    ensures { length (line_of ending.now) ≤ 96 }
+{
+    match *ending {
+        Ending::Usage => (),
+        Ending::NoSuchStep(step) => short_step(step),
+        Ending::SameSlot { first, second } => short_slot(first, second),
+        Ending::Shared(status) => last_line_is_short(&status),
     }
 }
 

@@ -11,7 +11,7 @@ ghost use Rattle.sdh_sncp_cli.specs.Endings.{line_of};
 ghost use Rattle.sdh_sncp_cli.specs.declared.ending.Ending.{Ending};
 ghost use Rattle.sdh_sncp_cli.specs.Outcome.{OfPlan, OfBytes, IsOutcome, HasCause, IsOwn, told};
 
-use crate::ending::{Ending, put_last};
+use crate::ending::{Ending, line_is_short, put_last};
 use sdh_outside::Source;
 use sdh_plan::Plan;
 use sdh_plant::Plant;
@@ -34,7 +34,7 @@ fn ended(ending: Ending, mut text: Text) -> Report
     ensures ending { result.ending ≡ ending }
     ensures text { result.text.bytes ≡ text.bytes ++ line_of ending }
 {
-    ending.has_short_line();
+    line_is_short(&ending);
     put_last(&mut text, &ending);
     Report { ending, text }
 }

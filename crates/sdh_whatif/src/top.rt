@@ -17,6 +17,7 @@ use crate::line::Line;
 use crate::table::write_table;
 use sdh_outside::{Sink, Source, WriteFault, write_text};
 use sdh_plan::Plan;
+use sdh_report::laws::last_line_is_short;
 use sdh_report::{LINE_MAX, Status, Text};
 use sdh_shell::{NoPlan, plan_in};
 use sdh_verdicts::Sides;
@@ -38,7 +39,7 @@ fn refusal(text: &mut Text, status: Status)
     match status {
         Status::Usage => text.own_line(b"usage: sdhwhatif single, double, triple, and PART PARTS"),
         _ => {
-            status.has_short_line();
+            last_line_is_short(&status);
             text.last_line(&status);
         }
     }

@@ -2,6 +2,7 @@
 ghost use Rattle.std.specs.Prelude.{◌≤◌, IfOk};
 
 use sdh_payload::Delivered;
+use sdh_report::laws::last_line_is_short;
 use sdh_report::{LINE_MAX, Status, Text};
 
 #[test]
@@ -28,7 +29,7 @@ fn writes_last_lines(rt: HostRuntime) {
     ];
     let mut text = Text::try_new(rt.alloc(), 600).expect(&rt, "room for six lines");
     for status in statuses {
-        status.has_short_line();
+        last_line_is_short(&status);
         if text.room() >= LINE_MAX {
             text.last_line(&status);
         }

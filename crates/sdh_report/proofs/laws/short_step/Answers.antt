@@ -1,7 +1,7 @@
 use Rattle.std.proofs.Common.{arith}
 use Rattle.sdh_report.specs.declared.status.Status.TheVariants as status
 use Rattle.sdh_report.proofs.Short.{short-last_line}
-use Rattle.sdh_report.proofs.status.short_plan.Goals as goal
+use Rattle.sdh_report.proofs.laws.short_step.Goals as goal
 
 pub returns : goal.returns
-returns c = short-last_line (status.BadPlan c.args.reason c.args.place) (omega arith, omega arith)
+returns c = short-last_line (status.Unsettled c.args.number) (omega arith)
