@@ -9,7 +9,7 @@ use Rattle.sdh_terms.specs.Rates.{n_of}
 use Rattle.sdh_frame.specs.Lending.{with_row}
 use Rattle.sdh_overhead.specs.Sections.{SectionKept, holding, parities_of, clear_frame, line_frame, next_of, MayWrite}
 use Rattle.sdh_overhead.specs.Rows.{clear_row, line_row, HasSent}
-use Rattle.sdh_overhead.proofs.Nine.{SentTo, none-sent, sent-next, sent-last, all-sent, all-kept, next-row, row-within, drop-more}
+use Rattle.sdh_overhead.proofs.Nine.{SentTo, none-sent, sent-next, all-sent, all-kept, next-row, row-within, drop-more}
 
 -- a frame that is put together from the rows of this target, and whose rows below this one were written; the later ones are those
 -- of the start
@@ -126,12 +126,6 @@ module _ (first section after : SectionKept) (k1 k2 row : ℕ) (target start now
         rest = new-rest;
         long = ap length new-is ∙ middle-long a w mid part (omega (arith, room)) len ∙ long;
       }
-
--- what a section of such a frame is before the next row
-pub built-last : (first section : SectionKept) (k1 k2 row : ℕ) (target start now : List ℕ) → length target ≡ size_of first.rate → 1 ≤ row → row < 10 → BuiltTo first k1 k2 target start row section now
-    → (section.last ≡ first.last) × ((section.rate ≡ first.rate) × ((next_of section.under_way ≡ row) × MayWrite section.under_way))
-built-last first section k1 k2 row target start now size some few so =
-    (sent-last first section k1 k2 row target (take ((row - 1) * (270 * n_of first.rate)) now ++ drop ((row - 1) * (270 * n_of first.rate)) target) size some few so.sent, (so.sent.rate, (so.sent.next few, so.sent.way)))
 
 -- all rows were written
 module _ (first section : SectionKept) (k1 k2 : ℕ) (target start now : List ℕ) (size : length target ≡ size_of first.rate) (so : BuiltTo first k1 k2 target start 10 section now) where
