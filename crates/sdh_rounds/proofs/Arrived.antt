@@ -4,17 +4,12 @@ use Rattle.std.specs.Prelude.{option_map}
 use Rattle.sdh_ringmap.specs.declared.Side.TheVariants.{West, East}
 use Rattle.sdh_plant.specs.Fibres.{Arrival, Fibres}
 use Rattle.sdh_plant.specs.Arrivals.{Knows}
-use Rattle.sdh_plant.specs.Calls.{after_receive}
 use Rattle.sdh_rounds.specs.Stations.{Station}
 use Rattle.sdh_rounds.specs.Rounds.{with_arrivals, all_with_arrivals, after_given, arrival_at, arrivals_from}
 
 pub told_stays : (o : Option (List Arrival)) (k : ℕ) → o ≢ None → option_map (drop k) o ≢ None
 told_stays None k h = λ _. h refl
 told_stays (Some told) k h = λ e. cc
-
-pub knows_received : (f : Fibres) → Knows f → Knows (after_receive f)
-knows_received f (inl h) = inl h
-knows_received f (inr h) = inr (told_stays f.told 1 h)
 
 pub knows_taken : (f : Fibres) (k : ℕ) → Knows f → Knows (after_given k f)
 unfolding after_given

@@ -8,7 +8,7 @@ use Rattle.sdh_plant.specs.Arrivals.{Knows}
 use Rattle.sdh_rounds.specs.Stations.{Station}
 use Rattle.sdh_rounds.specs.Held.{HeldRing, World}
 use Rattle.sdh_rounds.specs.Rounds.{receivers, arrivals_of, arrivals_from, all_with_arrivals, frames_of, nodes_with, frames_with, after_given, sent_all, round_with, round}
-use Rattle.sdh_rounds.specs.Runs.{Arrive, run, arrivals_in, run_with, ArriveIn, course_with, course}
+use Rattle.sdh_rounds.specs.Runs.{Arrive, run, run_with, ArriveIn, course_with, course}
 use Rattle.sdh_rounds.specs.Quiet.{NeverSettles, SettlesAt, Settles, Unsettles}
 use Rattle.sdh_rounds.proofs.Arrived.{told_stays}
 use Rattle.sdh_rounds.proofs.Windows.{window_same, never_same}
@@ -118,15 +118,6 @@ module _ {N : Type 0} (st : Station N) where
   run_zero : (w : World N) → run st zero w ≡ w
   unfolding run
   run_zero w = refl
-
-  -- they are those of the run
-  pub known_rounds : (rounds : List (List Arrival)) (w : World N) → Knows w.fibres → ArriveIn st rounds w → rounds ≡ arrivals_in st (length rounds) w
-  unfolding arrivals_in round
-  known_rounds [] w k h = refl
-  known_rounds (xs ∷ rounds) w k h =
-      let is = h.0.known k in
-      ap (λ rs. xs ∷ rs) (known_rounds rounds (round_with st xs w) (knows_round xs w k) h.1)
-      ∙ ap (λ bs. bs ∷ arrivals_in st (length rounds) (round_with st bs w)) is
 
   pub known_course : (rounds : List (List Arrival)) (w : World N) (j : ℕ) → Knows w.fibres → ArriveIn st rounds w → j ≤ length rounds → course_with st rounds w j ≡ course st w j
   unfolding round

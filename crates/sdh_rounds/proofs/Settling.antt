@@ -6,8 +6,8 @@ use Rattle.sdh_plant.specs.Fibres.{Arrival, Fibres, IsPrepared}
 use Rattle.sdh_rounds.specs.Stations.{Station}
 use Rattle.sdh_rounds.specs.Held.{HeldRing, World}
 use Rattle.sdh_rounds.specs.Rounds.{round_with}
-use Rattle.sdh_rounds.specs.Runs.{Arrive, run_with, ArriveIn, course_with, IsRound, IsBrokenOff}
-use Rattle.sdh_rounds.specs.Quiet.{is_calm, EndsWindow, NeverSettles, Settles, Unsettles, BreaksOff}
+use Rattle.sdh_rounds.specs.Runs.{Arrive, run_with, ArriveIn, course_with, IsRound}
+use Rattle.sdh_rounds.specs.Quiet.{is_calm, EndsWindow, NeverSettles, Settles, Unsettles}
 use Rattle.sdh_rounds.proofs.Windows.{streak, window_if, window_only, none_more, streak_none, streak_more, streak_same, never_same}
 use Rattle.sdh_rounds.proofs.Runs.{run_with_more, arrive_more, course_more, course_whole, held_round, held_run}
 
@@ -98,15 +98,6 @@ module _ {N : Type 0} (st : Station N) where
 
   pub unsettles : (w now : World N) (limit calm : ℕ) → GoesOn w now limit calm → Unsettles st w limit now
   unsettles w now limit calm on = record { rounds = on.went.rounds; arrive = on.went.arrive; all = on.went.count; never = on.never; left_is = on.went.now_is }
-
-  pub breaks_off : (w now : World N) (limit k calm : ℕ) (f : Fibres) → GoesOn w now k calm → k < limit → IsBrokenOff st now f → BreaksOff st w limit f
-  breaks_off w now limit k calm f on within off = record {
-    rounds = on.went.rounds;
-    arrive = on.went.arrive;
-    within = let c = on.went.count in omega arith;
-    never = subst (NeverSettles st (course_with st on.went.rounds w)) (sym on.went.count) on.never;
-    off = subst (λ x. IsBrokenOff st x f) on.went.now_is off;
-  }
 
   -- ---- the ring of a step
 
