@@ -58,10 +58,6 @@ frames_of = rounds.frames_of adm
 abbrev pub nodes_with : List Arrival → World → List Node
 nodes_with = rounds.nodes_with adm
 
--- the frames that they send
-abbrev pub frames_with : List Arrival → World → List (List ℕ)
-frames_with = rounds.frames_with adm
-
 -- all nodes receive these arrivals, and then all send at the present moment
 abbrev pub round_with : List Arrival → World → World
 round_with = rounds.round_with adm

@@ -21,10 +21,6 @@ IsBrokenOff = runs.IsBrokenOff adm
 abbrev pub run : ℕ → World → World
 run = runs.run adm
 
--- the arrivals of these rounds
-abbrev pub arrivals_in : ℕ → World → List (List Arrival)
-arrivals_in = runs.arrivals_in adm
-
 -- the world after a round with each of these lists of arrivals
 abbrev pub run_with : List (List Arrival) → World → World
 run_with = runs.run_with adm
