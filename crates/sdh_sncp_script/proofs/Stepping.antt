@@ -1,5 +1,5 @@
 -- A script, step by step.
-use Rattle.std.proofs.Common.{◌≡◌, ◌≤◌, ℕ, ◌+◌, false, List, ◌∷◌, length, refl, ap, sym, ◌∙◌, subst, arith}
+use Rattle.std.proofs.Common.{◌≡◌, ◌≤◌, ℕ, ◌+◌, false, List, ◌∷◌, length, ap, sym, ◌∙◌, subst, arith}
 use Rattle.sdh_plant.specs.Fibres.{Fibres, IsPrepared}
 use Rattle.sdh_plant.specs.Calls.{prepared}
 use Rattle.sdh_plant.proofs.Calling.{stay_prepared}
@@ -12,7 +12,6 @@ use Rattle.sdh_plan.specs.Planned.{Planned, IsPlanned}
 use Rattle.sdh_sncp.specs.Stations.{path_node}
 use Rattle.sdh_sncp.specs.Ring.{HeldPath, World, new_ring, Settles}
 use Rattle.sdh_sncp_script.specs.Reports.{report_room}
-use Rattle.sdh_sncp_script.specs.Walking.{does}
 use Rattle.sdh_sncp_script.specs.Steps.{AreKnown, MayDo}
 use Rattle.sdh_sncp_script.specs.Running.{MayRun}
 use Rattle.sdh_sncp_script.proofs.Fits.{fits}
@@ -60,22 +59,3 @@ settled_next limit before w left few s prepared later h =
       few = h.steps_fit.0;
       rounds = omega (arith, h.rounds, grown, most);
     }
-
--- ---- any other step
-
--- the same ring over fibres that are prepared for it
-may_on : (before : ℕ) (steps later : List Step) (r : HeldPath) (f g : Fibres) → MayRun before steps r f → IsPrepared r.settings.rate (length r.ids) g → MayDo r.settings.rate (length r.ids) before later → MayRun before later r g
-may_on before steps later r f g h laid fit = record { whole = h.whole; prepared = laid; steps_fit = fit; few = h.few; rounds = h.rounds }
-
-done_may : (before : ℕ) (s : Step) (later : List Step) (w : World) → (s ≡ step.Settle → ⊥) → MayRun before (s ∷ later) w.ring w.fibres → MayRun before later (does s w).ring (does s w).fibres
-done_may before (step.Fibre e) later w other h =
-    may_on before (step.Fibre e ∷ later) later w.ring w.fibres _ h (stay_prepared.apply w.ring.settings.rate (length w.ring.ids) w.fibres e.at.0 e.side e.condition h.steps_fit.1 h.prepared) h.steps_fit.2
-done_may before (step.Order p d c) later w other h = absurd h.steps_fit
-done_may before (step.Moment m) later w other h = absurd h.steps_fit
-done_may before (step.Hold p turns) later w other h = absurd h.steps_fit
-done_may before (step.Slip port turn count) later w other h = absurd h.steps_fit
-done_may before step.Settle later w other h = absurd (other refl)
-
-pub done_next : (before : ℕ) (s : Step) (w left : World) → (s ≡ step.Settle → ⊥) → left ≡ does s w
-    → (later : List Step) → MayRun before (s ∷ later) w.ring w.fibres → MayRun before later left.ring left.fibres
-done_next before s w left other is later h = subst (λ (v : World). MayRun before later v.ring v.fibres) (sym is) (done_may before s later w other h)
