@@ -1,70 +1,21 @@
 -- Applied spans as a list, and ways by them.
-use Rattle.std.proofs.Common.{◌≡◌, ℕ, zero, suc, ◌+◌, ◌-◌, ◌*◌, ◌<◌, ◌≤◌, Bool, true, false, nat_eq, List, [], ◌∷◌, length, take, set, refl, sym, ap, ◌∙◌, arith, eq-eqb, inl, inr}
-use Rattle.std.specs.Prelude.{if◌then◌else◌, not, ◌&&◌, ◌||◌, ◌⊎◌}
+use Rattle.std.proofs.Common.{◌≡◌, ℕ, zero, suc, ◌+◌, ◌-◌, ◌*◌, ◌<◌, ◌≤◌, Bool, false, List, take, refl, sym, ap, ◌∙◌, inl, inr}
+use Rattle.std.specs.Prelude.{if◌then◌else◌, not, ◌&&◌, ◌⊎◌}
 use Rattle.std.proofs.Math.Nat.{mod-lt}
-use Rattle.std.proofs.lemmas.Bool.{cases_eq}
-use Rattle.std.proofs.lemmas.List.{take_more_set}
-use Rattle.std.proofs.lemmas.List.Folds.{list_any-append}
 use Rattle.sdh_ringmap.specs.declared.Span.{Span}
 use Rattle.sdh_ringmap.specs.Arcs.{Arc, arc_span, none_of, is_clear, is_among}
 use Rattle.sdh_circuits.specs.Provisioned.{Provisioned, arc_of}
 use Rattle.sdh_verdicts.specs.declared.judging.Verdict.{Verdict}
 use Rattle.sdh_verdicts.specs.declared.judging.Verdict.TheVariants.{Kept, Over}
 use Rattle.sdh_verdicts.specs.Verdicts.{verdict_under, hops_where, hops_under}
-use Rattle.sdh_verdicts.proofs.Counts.{not_equal}
 use Rattle.sdh_restoration.specs.Routes.{at_place, places_before, last_place, first_applied, last_applied, hops}
 
 -- ---- a list
-
-or_false : (b : Bool) → (b || false) ≡ b
-or_false true = refl
-or_false false = refl
-
-or_true : (b : Bool) → (b || true) ≡ true
-or_true true = refl
-or_true false = refl
 
 -- the applied ones of the first i spans, so many, in a list
 pub record AreListed (p : ℕ → Bool) (spans : List Span) (many i : ℕ) : Type 0 where
   pub inside : (s : ℕ) → s < i → is_among (take many spans) s ≡ p s
   pub beyond : (s : ℕ) → i ≤ s → is_among (take many spans) s ≡ false
-
-among_more : (spans : List Span) (many s : ℕ) (span : Span) → many < length spans
-    → is_among (take (many + 1) (set spans many span)) s ≡ (is_among (take many spans) s || nat_eq span.0 s)
-among_more spans many s span low =
-    ap (λ l. is_among l s) (take_more_set spans many span low)
-    ∙ list_any-append (λ x. nat_eq x.0 s) (take many spans) (span ∷ [])
-    ∙ ap (λ b. is_among (take many spans) s || b) (or_false (nat_eq span.0 s))
-
-pub listed_none : (p : ℕ → Bool) (spans : List Span) → AreListed p spans 0 0
-listed_none p spans = record { inside = λ s low. absurd (omega (arith, low)); beyond = λ s high. refl }
-
--- span i is applied
-pub listed_one : (p : ℕ → Bool) (spans : List Span) (many i : ℕ) (span : Span) → AreListed p spans many i → many < length spans
-    → span.0 ≡ i → p i ≡ true → AreListed p (set spans many span) (many + 1) (i + 1)
-listed_one p spans many i span are low is applied = record {
-  inside = λ s h. elim (cases_eq s i) [
-    | inl here ↦ among_more spans many s span low
-        ∙ ap (λ b. is_among (take many spans) s || b) (eq-eqb span.0 s (is ∙ sym here))
-        ∙ or_true (is_among (take many spans) s) ∙ sym applied ∙ ap p (sym here)
-    | inr other ↦ among_more spans many s span low
-        ∙ ap (λ b. is_among (take many spans) s || b) (not_equal span.0 s (λ e. other (sym e ∙ is)))
-        ∙ or_false (is_among (take many spans) s) ∙ are.inside s (omega (arith, h, other))
-  ];
-  beyond = λ s h. among_more spans many s span low
-      ∙ ap (λ b. is_among (take many spans) s || b) (not_equal span.0 s (λ e. omega (arith, e, is, h)))
-      ∙ or_false (is_among (take many spans) s) ∙ are.beyond s (omega (arith, h));
-}
-
--- it isn't
-pub listed_other : (p : ℕ → Bool) (spans : List Span) (many i : ℕ) → AreListed p spans many i → p i ≡ false → AreListed p spans many (i + 1)
-listed_other p spans many i are none = record {
-  inside = λ s h. elim (cases_eq s i) [
-    | inl here ↦ are.beyond s (omega (arith, here)) ∙ sym none ∙ ap p (sym here)
-    | inr other ↦ are.inside s (omega (arith, h, other))
-  ];
-  beyond = λ s h. are.beyond s (omega (arith, h));
-}
 
 -- ---- ways
 
