@@ -43,7 +43,7 @@ module _ {N : Type 0} (st : Station N) where
   }
 
   -- one round more
-  pub went_more : (w now after : World N) (k calm n : ℕ) → GoesOn w now k calm → IsRound st now after → n ≡ (if is_calm st after.ring.nodes then calm + 1 else 0) → Went w after (k + 1) n
+  unfoldable pub went_more : (w now after : World N) (k calm n : ℕ) → GoesOn w now k calm → IsRound st now after → n ≡ (if is_calm st after.ring.nodes then calm + 1 else 0) → Went w after (k + 1) n
   went_more w now after k calm n on is counted =
       let old = on.went.rounds in
       let more = old ++ is.arrivals ∷ [] in
@@ -63,11 +63,17 @@ module _ {N : Type 0} (st : Station N) where
         before = λ j low e. never_same st (course_with st old w) (course_with st more w) k same on.never j (omega arith) e;
       }
 
-  at_end : (w now : World N) (k calm : ℕ) (went : Went w now k calm) → now ≡ course_with st went.rounds w k
+  -- up to the last round its course is the one before
+  pub along : (w now after : World N) (k calm n : ℕ) (on : GoesOn w now k calm) (is : IsRound st now after) (counted : n ≡ (if is_calm st after.ring.nodes then calm + 1 else 0)) (j : ℕ)
+      → j ≤ k → course_with st on.went.rounds w j ≡ course_with st (went_more w now after k calm n on is counted).rounds w j
+  unfolding went_more
+  along w now after k calm n on is counted j low = course_more st on.went.rounds is.arrivals w j (let c = on.went.count in omega arith)
+
+  pub at_end : (w now : World N) (k calm : ℕ) (went : Went w now k calm) → now ≡ course_with st went.rounds w k
   at_end w now k calm went = went.now_is ∙ course_whole st went.rounds w ∙ ap (course_with st went.rounds w) went.count
 
   -- the test of the code is that of a window
-  pub settles : (w now : World N) (limit k calm : ℕ) → Went w now k calm → k ≤ limit → (3 * length now.ring.ids ≤ calm) × ((now.ring.rounds - 1) % 128 ≡ 0) → Settles st w limit now
+  unfoldable pub settles : (w now : World N) (limit k calm : ℕ) → Went w now k calm → k ≤ limit → (3 * length now.ring.ids ≤ calm) × ((now.ring.rounds - 1) % 128 ≡ 0) → Settles st w limit now
   settles w now limit k calm went within test =
       let at = at_end w now k calm went in
       let c = went.count in
@@ -85,7 +91,7 @@ module _ {N : Type 0} (st : Station N) where
         left_is = went.now_is;
       }
 
-  pub goes_on : (w now : World N) (k calm : ℕ) → Went w now (k + 1) calm → ((3 * length now.ring.ids ≤ calm) × ((now.ring.rounds - 1) % 128 ≡ 0) → ⊥) → GoesOn w now (k + 1) calm
+  unfoldable pub goes_on : (w now : World N) (k calm : ℕ) → Went w now (k + 1) calm → ((3 * length now.ring.ids ≤ calm) × ((now.ring.rounds - 1) % 128 ≡ 0) → ⊥) → GoesOn w now (k + 1) calm
   goes_on w now k calm went fails =
       let at = at_end w now (k + 1) calm went in
       let calm_is = went.calm_is in
