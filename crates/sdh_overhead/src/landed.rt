@@ -70,8 +70,7 @@ impl Landed {
         ensures { IfOk result (λ l. l ≡ emptied rate (replicate (size_of rate) 0)) }
     {
         let frame = FrameBuf::try_new(alloc, rate)?;
-        // Reading it gives the proof what is true of every frame.
-        let _ = frame.bytes();
+        prove!(frame.bytes().len() == 2430 * rate.n());
         Ok(Landed {
             frame,
             here: false,
@@ -88,8 +87,7 @@ impl Landed {
         ensures frame { (bytes : List ℕ) → self.old.landed ≡ Some bytes → frame.new ≡ record { rate = self.old.rate; bytes = scrambled (9 * n_of self.old.rate) bytes } }
         ensures none { self.new ≡ emptied self.old.rate frame.old.bytes }
     {
-        // Reading it gives the proof what is true of every frame.
-        let _ = frame.bytes();
+        prove!(frame.bytes().len() == 2430 * frame.rate().n());
         std::mem::swap(&mut self.frame, frame);
         self.here = false;
     }

@@ -18,9 +18,8 @@ pub fn what_is_written_is_read(
     requires held { (receiving.now.last ≡ sending.now.last) ⊎ (receiving.now.last ≡ None) }
     ensures { ComesBack sending.now.rate sending.now.last receiving.now.last k1 k2 frame.now.bytes }
 {
-    sending.are_whole();
-    // Reading it gives the proof what is true of every frame.
-    let _ = frame.bytes();
+    sending.parities_are_whole();
+    prove!(frame.bytes().len() == 2430 * frame.rate().n());
 }
 
 /// What `read_section` looks at are the bytes of the fields A1, A2, B1, B2, K1 and K2 by rows and columns: a frame is

@@ -102,12 +102,12 @@ impl Section {
         self.rows.passed + 1
     }
 
-    // What every section keeps: none, or whole parities.
+    // Every section keeps none, or whole parities: the function does nothing, and its contract is the law.
     #[tactic(auto, using(crate::proofs::Trips::kept_whole))]
-    pub(crate) fn are_whole(&self)
+    pub(crate) fn parities_are_whole(&self)
         ensures { AreParities (n_of self.now.rate) self.now.last }
     {
-        // Reading it gives the proof what is true of every section.
+        // A field that is looked at opens the section, of whose fields the law is true.
         let _ = &self.known;
     }
 
@@ -320,7 +320,7 @@ pub fn write_section(section: &mut Section, k1: u8, k2: u8, frame: &mut FrameBuf
     ensures section { section.new ≡ holding section.old.rate (Some (parities_of (n_of section.old.rate) (clear_frame (n_of section.old.rate) section.old.last k1 k2 frame.old.bytes) frame.new.bytes)) }
     ensures whole { AreParities (n_of section.old.rate) section.old.last }
 {
-    section.are_whole();
+    section.parities_are_whole();
     section.begin();
     write_rows(section, k1, k2, frame.bytes_mut());
 }
