@@ -92,8 +92,7 @@ impl Table {
         requires kept { KeepsRing circuits.now map.now }
         ensures { IfOk result (λ table. table ≡ table_of map.now circuits.now.circuits at) }
     {
-        // Reading it gives the proof what is true of every circuit map.
-        let _count = circuits.len();
+        prove!(circuits.len() <= 128);
         let mut rows = Vec::with_capacity(alloc, 16)?;
         add_rows(&mut rows, circuits, map.span(at, Side::West))?;
         add_rows(&mut rows, circuits, map.span(at, Side::East))?;
