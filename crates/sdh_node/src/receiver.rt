@@ -129,7 +129,7 @@ impl Receiver {
         ensures moment { self.new.local.moment ≡ now.0 }
     {
         let (defect, word, read) = self.inlet.take(threshold, intake);
-        self.inlet.has_readings();
+        self.inlet.readings_are_whole();
         let heard = self.hear(now, defect, word);
         heard && read
     }

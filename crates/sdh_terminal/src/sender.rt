@@ -151,9 +151,8 @@ fn send_rows(
     ensures east_frame { east_out.new ≡ record east_out.old { bytes = line_frame (n_of east_out.old.rate) east_section.old.last east.now.k1 east.now.k2 (put_together (n_of east_out.old.rate) first.now.bytes second.now.bytes east.now.own east.now.choice.sources east.now.pointers.now east_out.old.bytes) } }
     ensures east_section { east_section.new ≡ holding east_out.old.rate (Some (parities_of (n_of east_out.old.rate) (clear_frame (n_of east_out.old.rate) east_section.old.last east.now.k1 east.now.k2 (put_together (n_of east_out.old.rate) first.now.bytes second.now.bytes east.now.own east.now.choice.sources east.now.pointers.now east_out.old.bytes)) east_out.new.bytes)) }
 {
-    // Reading them gives the proof what is true of every frame.
-    let _ = west_out.rate();
-    let _ = east_out.rate();
+    prove!(west_out.bytes().len() == 2430 * west_out.rate().n());
+    prove!(east_out.bytes().len() == 2430 * east_out.rate().n());
     for row in 1..10 {
         assemble_row(
             west_out,
