@@ -289,7 +289,5 @@ pub fn deliver(cross: &CrossConnect, ports: &mut Tributaries)
     requires { All (λ t. (1 ≤ t.slot.0) × (t.slot.0 ≤ half_of cross.now)) ports.old }
     ensures { ports.new ≡ all_delivered cross.now ports.old }
 {
-    // Reading it gives the proof what is true of every rate.
-    let _half = half_of(cross.west_in.rate());
     ports.deliver(cross);
 }
