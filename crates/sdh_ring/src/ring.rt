@@ -153,8 +153,7 @@ impl Ring {
         sdh_laws::hearing::new_worlds_are_whole();
         sdh_laws::strangers::vouched_rings_stay();
 
-        // Reading it gives the proof what is true of every ring map.
-        let _count = map.len();
+        prove!(map.len() <= 16);
         let nodes = new_nodes(alloc, settings, &map, &circuits)?;
         let arrived = Landed::try_new(alloc, settings.rate)?;
         let west = FrameBuf::try_new(alloc, settings.rate)?;
@@ -180,9 +179,8 @@ impl Ring {
         requires east { east.rate ≡ settings.rate }
         ensures { result ≡ new_ring settings map circuits }
     {
-        // Reading it gives the proof what is true of every ring map and circuit map.
-        let _count = map.len();
-        let _circuits = circuits.len();
+        prove!(map.len() <= 16);
+        prove!(circuits.len() <= 128);
         Ring {
             settings,
             map,
@@ -305,7 +303,7 @@ impl Ring {
         sdh_laws::hearing::whole_rounds_go_as_signals();
         sdh_laws::resting::rest_goes_on();
         sdh_laws::strangers::rounds_keep_strangers_out();
-        self.has_circuits();
+        self.circuits_fit();
         self.broken = true;
         hear(self.rounds, &mut self.nodes, &mut self.arrived, plant)?;
         send_all(
@@ -343,21 +341,20 @@ impl Ring {
         calm as usize >= 3 * self.map.len() && (self.rounds - 1) % 128 == 0
     }
 
-    // The circuits are circuits of its size and rate.
-    fn has_circuits(&self)
+    // The circuits are circuits of its size and rate: the function does nothing, and its contract is the law.
+    fn circuits_fit(&self)
         ensures { HasCircuits (layout_in self.now) }
     {
-        // Reading it gives the proof what is true of every ring.
-        let _rounds = self.rounds;
+        // A field that is looked at opens the ring, of whose fields the law is true.
+        let _ = &self.rounds;
     }
 
-    // At most 16 slips wait at each port.
-    fn has_rested(&self)
+    // At most 16 slips wait at each port: the same.
+    fn few_slips_wait(&self)
         requires { self.now.broken ≡ false }
         ensures { (port : PortId) → HasPortIn self.now port → IsRested (clock_at self.now port) }
     {
-        // Reading it gives the proof what is true of every ring.
-        let _rounds = self.rounds;
+        let _ = &self.rounds;
     }
 
     /// Runs rounds until one ends a quiet window, which is `3 * n` calm rounds of this step whose last number is a multiple
@@ -463,8 +460,8 @@ impl Ring {
         // Where the plant's count is exact: one call failed with a fault, and none with Ok and with Unsettled.
         ensures counted { IsCounted P.exact (result ≡ Err SettleError.PlantFault) (P.faults plant.old) (P.faults plant.new) }
     {
-        self.has_circuits();
-        self.has_rested();
+        self.circuits_fit();
+        self.few_slips_wait();
         sdh_rounds::settled_numbers::<Adm>();
         sdh_laws::hearing::steps_stay_whole();
         sdh_laws::carrying::settled_rings_are_restored();

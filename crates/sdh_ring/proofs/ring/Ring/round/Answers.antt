@@ -130,4 +130,4 @@ pub returns-clause-rest : goal.returns-clause-rest
 returns-clause-rest g c = λ clocks rests. c.rest_goes_on.ensures _ _ (returns-clause-ok g c) clocks rests
 
 pub returns-clause-strangers : goal.returns-clause-strangers
-returns-clause-strangers g c = c.rounds_keep_strangers_out.ensures _ _ c.has_circuits.ensures (returns-clause-ok g c)
+returns-clause-strangers g c = c.rounds_keep_strangers_out.ensures _ _ c.circuits_fit.ensures (returns-clause-ok g c)

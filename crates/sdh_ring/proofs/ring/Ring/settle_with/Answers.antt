@@ -52,10 +52,10 @@ pub returns-then-is_over-clause-outcome : goal.returns-then-is_over-clause-outco
 returns-then-is_over-clause-outcome g c = (returns-then-is_over-clause-heard g c).settles
 
 pub returns-then-is_over-clause-restored : goal.returns-then-is_over-clause-restored
-returns-then-is_over-clause-restored g c = c.settled_rings_are_restored.ensures _ _ c.args.limit c.has_circuits.ensures (returns-then-is_over-clause-outcome g c)
+returns-then-is_over-clause-restored g c = c.settled_rings_are_restored.ensures _ _ c.args.limit c.circuits_fit.ensures (returns-then-is_over-clause-outcome g c)
 
 pub returns-then-is_over-clause-rests : goal.returns-then-is_over-clause-rests
-returns-then-is_over-clause-rests g c = c.steps_leave_at_rest.ensures _ _ c.args.limit c.has_circuits.ensures (returns-then-is_over-clause-outcome g c)
+returns-then-is_over-clause-rests g c = c.steps_leave_at_rest.ensures _ _ c.args.limit c.circuits_fit.ensures (returns-then-is_over-clause-outcome g c)
 
 pub returns-then-is_over-clause-numbers : goal.returns-then-is_over-clause-numbers
 returns-then-is_over-clause-numbers g c = c.settled_numbers.ensures _ _ c.args.limit (let enough = c.requires.prepared.enough in omega arith) (returns-then-is_over-clause-outcome g c)
@@ -65,7 +65,7 @@ returns-then-is_over-clause-whole g c = λ _ whole. c.steps_stay_whole.ensures.s
 
 pub returns-then-is_over-clause-slips : goal.returns-then-is_over-clause-slips
 returns-then-is_over-clause-slips g c = λ port long.
-    none_left (world c.args.self.now (g.P.Plant.fibres c.args.plant.now)) (world c.round.new.self (g.P.Plant.fibres c.round.new.plant)) c.args.limit port (returns-then-is_over-clause-outcome g c) (c.has_rested.ensures port) long
+    none_left (world c.args.self.now (g.P.Plant.fibres c.args.plant.now)) (world c.round.new.self (g.P.Plant.fibres c.round.new.plant)) c.args.limit port (returns-then-is_over-clause-outcome g c) (c.few_slips_wait.ensures port) long
 
 pub returns-then-is_over-clause-clocks : goal.returns-then-is_over-clause-clocks
 returns-then-is_over-clause-clocks g c = λ _ port there. (let settled = returns-then-is_over-clause-outcome g c in went_by settled.rounds _ (world c.round.new.self (g.P.Plant.fibres c.round.new.plant)) port settled.left_is there)
@@ -87,13 +87,13 @@ pub returns-clause-whole : goal.returns-clause-whole
 returns-clause-whole g c = λ _ whole. c.steps_stay_whole.ensures.unsettled _ _ c.args.limit whole (returns-clause-outcome g c)
 
 pub returns-clause-answers : goal.returns-clause-answers
-returns-clause-answers g c = λ whole large _. c.steps_answer.ensures _ _ c.args.limit c.has_circuits.ensures whole large (returns-clause-outcome g c)
+returns-clause-answers g c = λ whole large _. c.steps_answer.ensures _ _ c.args.limit c.circuits_fit.ensures whole large (returns-clause-outcome g c)
 
 pub returns-then-is_over-clause-strangers : goal.returns-then-is_over-clause-strangers
-returns-then-is_over-clause-strangers g c = λ _. c.steps_keep_strangers_out.ensures.settled _ _ c.args.limit c.has_circuits.ensures (returns-then-is_over-clause-outcome g c)
+returns-then-is_over-clause-strangers g c = λ _. c.steps_keep_strangers_out.ensures.settled _ _ c.args.limit c.circuits_fit.ensures (returns-then-is_over-clause-outcome g c)
 
 pub returns-clause-strangers : goal.returns-clause-strangers
-returns-clause-strangers g c = λ _. c.steps_keep_strangers_out.ensures.unsettled _ _ c.args.limit c.has_circuits.ensures (returns-clause-outcome g c)
+returns-clause-strangers g c = λ _. c.steps_keep_strangers_out.ensures.unsettled _ _ c.args.limit c.circuits_fit.ensures (returns-clause-outcome g c)
 
 pub returns-clause-soon : goal.returns-clause-soon
-returns-clause-soon g c = λ _. c.unsettled_rings_are_restored.ensures _ _ c.args.limit c.has_circuits.ensures (returns-clause-outcome g c)
+returns-clause-soon g c = λ _. c.unsettled_rings_are_restored.ensures _ _ c.args.limit c.circuits_fit.ensures (returns-clause-outcome g c)

@@ -8,4 +8,4 @@ use Rattle.sdh_ring.proofs.ring.Ring.try_new.Goals as goal
 pub returns-clause-vouched : goal.returns-clause-vouched
 returns-clause-vouched c = λ f clocks honest.
     subst (λ (r : HeldRing). IsVouched clocks (world r (prepared c.args.settings.rate (length c.args.map) f))) (sym c.of_nodes.ensures)
-    (c.vouched_rings_stay.ensures.new c.args.settings c.args.map c.args.circuits f clocks c.len-count.ensures.ids honest)
+    (c.vouched_rings_stay.ensures.new c.args.settings c.args.map c.args.circuits f clocks c.len.ensures.ids honest)
