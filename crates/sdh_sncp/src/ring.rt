@@ -138,8 +138,7 @@ impl PathRing {
         crate::laws::new_worlds_are_whole();
         crate::laws::new_rings_are_silent();
 
-        // Reading it gives the proof what is true of every ring map.
-        let _count = map.len();
+        prove!(map.len() <= 16);
         if let Some((first, second)) = first_shared(&circuits) {
             return Err(PathError::SameSlot { first, second });
         }
@@ -169,9 +168,8 @@ impl PathRing {
         requires east { east.rate ≡ settings.rate }
         ensures { result ≡ new_ring settings map circuits }
     {
-        // Reading it gives the proof what is true of every ring map and circuit map.
-        let _count = map.len();
-        let _circuits = circuits.len();
+        prove!(map.len() <= 16);
+        prove!(circuits.len() <= 128);
         PathRing {
             settings,
             map,
@@ -241,12 +239,12 @@ impl PathRing {
         calm as usize >= 3 * self.map.len() && (self.rounds - 1) % 128 == 0
     }
 
-    // The circuits are circuits of its size and rate, and no two share a slot.
-    fn has_circuits(&self)
+    // The circuits are circuits of its size and rate, and no two share a slot: the function does nothing, and its contract is the law.
+    fn circuits_fit(&self)
         ensures { HasCircuits self.now }
     {
-        // Reading it gives the proof what is true of every ring.
-        let _rounds = self.rounds;
+        // A field that is looked at opens the ring, of whose fields the law is true.
+        let _ = &self.rounds;
     }
 
     /// Runs rounds until one ends a quiet window, which is `3 * n` calm rounds of this step whose last number is a multiple
@@ -277,7 +275,7 @@ impl PathRing {
         // Where the plant's count is exact: one call failed with a fault, and none with Ok and with Unsettled.
         ensures counted { IsCounted P.exact (result ≡ Err SettleError.PlantFault) (P.faults plant.old) (P.faults plant.new) }
     {
-        self.has_circuits();
+        self.circuits_fit();
         sdh_rounds::settled_numbers::<PathNode>();
         let mut calm = 0u32;
         'rounds: for _turn in 0..limit {

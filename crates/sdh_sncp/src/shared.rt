@@ -11,8 +11,7 @@ fn slot_at(circuits: &CircuitMap, circuit: usize) -> u8
     requires { circuit < length circuits.now.circuits }
     ensures { result ≡ slot_at circuits.now.circuits circuit }
 {
-    // Reading it gives the proof that there are few circuits.
-    let _count = circuits.len();
+    prove!(circuits.len() <= 128);
     circuits.get(circuit as u8).slot().0
 }
 
@@ -59,8 +58,7 @@ pub fn first_shared(circuits: &CircuitMap) -> Option<(u8, u8)>
     ensures some { IfSome result (λ two. AreFirstToShare circuits.now.circuits two.0 two.1) }
     ensures none { IfNone result (AreAlone circuits.now.circuits) }
 {
-    // Reading it gives the proof that there are few circuits.
-    let _count = circuits.len();
+    prove!(circuits.len() <= 128);
     let Some(second) = first_second(circuits) else {
         return None;
     };

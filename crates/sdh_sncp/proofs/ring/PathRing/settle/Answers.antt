@@ -52,7 +52,7 @@ returns-clause-outcome g c =
     unsettles path_node w now c.args.limit c.rounds.calm (subst (λ k. GoesOn path_node w now k c.rounds.calm) all c.rounds.invariant.on)
 
 pub returns-then-is_over-clause-owed : goal.returns-then-is_over-clause-owed
-returns-then-is_over-clause-owed g c = λ whole. steps_deliver _ _ c.args.limit c.has_circuits.ensures (returns-then-is_over-clause-outcome g c) whole
+returns-then-is_over-clause-owed g c = λ whole. steps_deliver _ _ c.args.limit c.circuits_fit.ensures (returns-then-is_over-clause-outcome g c) whole
 
 pub returns-then-is_over-clause-whole : goal.returns-then-is_over-clause-whole
 returns-then-is_over-clause-whole g c = λ _ whole. whole_settled _ _ c.args.limit (returns-then-is_over-clause-outcome g c) whole
@@ -61,4 +61,4 @@ pub returns-clause-whole : goal.returns-clause-whole
 returns-clause-whole g c = λ _ whole. whole_unsettled _ _ c.args.limit (returns-clause-outcome g c) whole
 
 pub returns-clause-answers : goal.returns-clause-answers
-returns-clause-answers g c = λ whole large _. steps_answer _ _ c.args.limit c.has_circuits.ensures whole large (returns-clause-outcome g c)
+returns-clause-answers g c = λ whole large _. steps_answer _ _ c.args.limit c.circuits_fit.ensures whole large (returns-clause-outcome g c)

@@ -8,7 +8,7 @@ use Rattle.sdh_sncp.proofs.ring.PathRing.try_new.Goals as goal
 pub returns-clause-whole : goal.returns-clause-whole
 returns-clause-whole c = λ f honest.
     subst (λ (r : HeldPath). IsWhole (world r (prepared c.args.settings.rate (length c.args.map) f))) (sym c.of_nodes.ensures)
-    (c.new_worlds_are_whole.ensures c.args.settings c.args.map c.args.circuits f c.len-count.ensures.ids honest)
+    (c.new_worlds_are_whole.ensures c.args.settings c.args.map c.args.circuits f c.len.ensures.ids honest)
 
 pub returns-clause-silent : goal.returns-clause-silent
 returns-clause-silent c = λ port. subst (λ (r : HeldPath). outlet_at r port ≡ silent) (sym c.of_nodes.ensures) (c.new_rings_are_silent.ensures c.args.settings c.args.map c.args.circuits port)
