@@ -59,8 +59,7 @@ fn put_slot(text: &mut Text, plan: &Plan, table: &Table, at: Pos, side: Side, sl
         return;
     };
     let circuits = plan.circuits();
-    // Reading it gives the proof what is true of every circuit map.
-    let _count = circuits.len();
+    prove!(circuits.len() <= 128);
     let name = circuits.get(number).name();
     put_circuit(text, plan.map(), at, side, slot, name, ends);
 }

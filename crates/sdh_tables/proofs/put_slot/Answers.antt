@@ -19,13 +19,13 @@ get-requires c =
 pub put_circuit-requires-clause-from : goal.put_circuit-requires-clause-from
 put_circuit-requires-clause-from c =
     let both = ends_inside c.args.plan.now c.args.at c.args.table.now c.requires.table c.args.side c.args.slot.0 c.in-Some.number c.in-Some-ends.ends
-    (sym c.in-Some.is ∙ c.circuit.ensures) (sym c.in-Some-ends.is ∙ c.ends.ensures) (subst IsProvisioning c.circuits-circuits.ensures c.len-count.ensures.form) in
+    (sym c.in-Some.is ∙ c.circuit.ensures) (sym c.in-Some-ends.is ∙ c.ends.ensures) (subst IsProvisioning c.circuits-circuits.ensures c.len.ensures.form) in
     omega (arith, both.0, ap (λ (l : List ℕ). length l) c.map.ensures)
 
 pub put_circuit-requires-clause-to : goal.put_circuit-requires-clause-to
 put_circuit-requires-clause-to c =
     let both = ends_inside c.args.plan.now c.args.at c.args.table.now c.requires.table c.args.side c.args.slot.0 c.in-Some.number c.in-Some-ends.ends
-    (sym c.in-Some.is ∙ c.circuit.ensures) (sym c.in-Some-ends.is ∙ c.ends.ensures) (subst IsProvisioning c.circuits-circuits.ensures c.len-count.ensures.form) in
+    (sym c.in-Some.is ∙ c.circuit.ensures) (sym c.in-Some-ends.is ∙ c.ends.ensures) (subst IsProvisioning c.circuits-circuits.ensures c.len.ensures.form) in
     omega (arith, both.1, ap (λ (l : List ℕ). length l) c.map.ensures)
 
 pub returns-clause-bytes : goal.returns-clause-bytes
