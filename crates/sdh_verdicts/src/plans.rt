@@ -15,8 +15,7 @@ pub fn told(plan: &Plan, applied: &AppliedSpans, number: u8) -> Verdict
     ensures { (case : List Failure) (c : Provisioned) → AreApplied (length plan.now.nodes) (is_applied (requests_with plan.now case)) applied.now → slice_get plan.now.circuits number ≡ Some c → result ≡ verdict_of plan.now case c }
 {
     let circuits = plan.circuits();
-    // Reading it gives the proof what is true of every circuit map.
-    let _count = circuits.len();
+    prove!(circuits.len() <= 128);
     judge(plan.map(), applied, circuits.get(number))
 }
 
@@ -27,7 +26,6 @@ pub fn told_hops(plan: &Plan, applied: &AppliedSpans, number: u8) -> u8
     ensures { (case : List Failure) (c : Provisioned) → AreApplied (length plan.now.nodes) (is_applied (requests_with plan.now case)) applied.now → slice_get plan.now.circuits number ≡ Some c → result ≡ hops_of plan.now case c }
 {
     let circuits = plan.circuits();
-    // Reading it gives the proof what is true of every circuit map.
-    let _count = circuits.len();
+    prove!(circuits.len() <= 128);
     way(plan.map(), applied, circuits.get(number))
 }
