@@ -186,8 +186,8 @@ fn pass_part(bytes: &mut [u8], len: usize, k: usize, lanes: &mut [u8], clear_aft
     }
 }
 
-// The same. An STM-4 row has 24 bytes behind its whole rows of 48, and one without its overhead 36: code of its own for each of
-// these lengths, in which it is a constant and the loops over so few bytes are unrolled.
+// The same. An STM-4 row has 24 bytes behind its whole rows of 48, and one without its overhead 36: code of its own for
+// each of these lengths, in which it is a constant and the loops over so few bytes are unrolled.
 fn pass_rest(bytes: &mut [u8], k: usize, lanes: &mut [u8], clear_after: bool)
     requires few { length bytes.old ≤ 48 }
     requires key { k + length bytes.old ≤ 1064 }

@@ -109,7 +109,8 @@ impl Text {
         }
     }
 
-    /// How each line of a port begins: the word `port`, the circuit's name and the port's letter, with no space behind them.
+    /// How each line of a port begins: the word `port`, the circuit's name and the port's letter, with no space behind
+    /// them.
     pub fn put_port(&mut self, name: &Name, end: End)
         requires { length (port_named name.now end) ≤ self.old.room }
         ensures { self.new ≡ with_part self.old (port_named name.now end) }

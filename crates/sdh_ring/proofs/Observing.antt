@@ -1,4 +1,5 @@
--- A settle step, round by round, with one who looks at the ring after each of them. The steps are those of `Settling` in `sdh_rounds`.
+-- A settle step, round by round, with one who looks at the ring after each of them. The steps are those of `Settling`
+-- in `sdh_rounds`.
 use Rattle.std.proofs.Common.{◌≡◌, ℕ, suc, ◌+◌, ◌*◌, ◌-◌, ◌%◌, ◌<◌, ◌≤◌, length, refl, ap, sym, subst, ◌∙◌, arith}
 use Rattle.std.specs.Prelude.{if◌then◌else◌}
 use Rattle.sdh_node.specs.Stations.{adm}

@@ -146,7 +146,8 @@ fn has_run(rounds: u64) -> bool
     rounds >= 1
 }
 
-// What tells whether a round was calm: whether one ran before it, and of each of its calls whether what it compares is the same.
+// What tells whether a round was calm: whether one ran before it, and of each of its calls whether what it compares is
+// the same.
 #[derive(Drop)]
 struct Signs {
     ran: bool,

@@ -239,7 +239,8 @@ impl PathRing {
         calm as usize >= 3 * self.map.len() && (self.rounds - 1) % 128 == 0
     }
 
-    // The circuits are circuits of its size and rate, and no two share a slot: the function does nothing, and its contract is the law.
+    // The circuits are circuits of its size and rate, and no two share a slot: the function does nothing, and its
+    // contract is the law.
     fn circuits_fit(&self)
         ensures { HasCircuits self.now }
     {
