@@ -77,8 +77,7 @@ fn tell<L: Landing>(told: &Told, into: &mut L) -> Arrived
     match told {
         Told::Dark => Arrived::Dark,
         Told::Frame(frame) => {
-            // The length of a frame is that of its rate.
-            let _rate = frame.rate();
+            prove!(frame.bytes().len() == 2430 * frame.rate().n());
             into.land(frame);
             Arrived::Frame
         }
