@@ -1,5 +1,5 @@
 -- A script, step by step.
-use Rattle.std.proofs.Common.{◌≡◌, ◌≤◌, ℕ, ◌+◌, ◌*◌, Bool, true, false, List, [], ◌∷◌, length, refl, ap, sym, ◌∙◌, subst, arith}
+use Rattle.std.proofs.Common.{◌≡◌, ◌≤◌, ℕ, ◌+◌, ◌*◌, Bool, true, false, List, [], ◌∷◌, length, refl, ap, sym, ◌∙◌, subst, arith, inl}
 use Rattle.std.specs.Prelude.{if◌then◌else◌}
 use Rattle.sdh_plant.specs.Fibres.{Fibres, IsPrepared}
 use Rattle.sdh_plant.specs.Calls.{prepared}
@@ -22,10 +22,12 @@ use Rattle.sdh_plan.specs.declared.step.Step.TheVariants as step
 use Rattle.sdh_plan.specs.Planned.{Planned, IsPlanned, provisioning_of}
 use Rattle.sdh_plan.specs.Steps.{Past, start, after, is_settle}
 use Rattle.sdh_plan.specs.Scripts.{HasRoom, AreSteps}
+use Rattle.sdh_scripts.proofs.Plans.{as_planned}
 use Rattle.sdh_owed.specs.Steps.{after_step}
 use Rattle.sdh_owed.proofs.Standing.{WaitAtMost, few_after}
 use Rattle.sdh_owed.proofs.Known.{no_round}
 use Rattle.sdh_script.specs.Running.{past_of, BeginsAtAMultiple, MayRun}
+use Rattle.sdh_script.specs.Plans.{new_ring_of}
 use Rattle.sdh_node.specs.Stations.{adm}
 
 -- ---- fewer slips
@@ -73,6 +75,19 @@ steps_less rate n circuits (s ∷ later) a b less each =
 -- those of a plan can be done in a new ring
 pub fits_new : (s : Settings) (ids : List ℕ) (circuits : Provisioning) (rate : Rate) (n k : ℕ) (steps : List Step) → AreSteps rate n k start steps → AreSteps rate n k (past_of 0 (new_ring s ids circuits)) steps
 fits_new s ids circuits rate n k steps fit = steps_less rate n k steps (past_of 0 (new_ring s ids circuits)) start (record { moment = refl; settles = refl; slips = λ port. omega (arith, waits_new s ids circuits port) }) fit
+
+-- they may be run over the ring that is made of it, and fibres that were just prepared for it
+pub may_new : (each : ℕ) (plan : Planned) (r : HeldRing) (rate : Rate) (n : ℕ) (steps : List Step) (f : Fibres) → IsPlanned plan → r ≡ new_ring_of plan → rate ≡ plan.settings.rate → n ≡ length plan.nodes → steps ≡ plan.steps
+    → MayRun each 0 steps r (prepared rate n f)
+may_new each plan r rate n steps f form ring rates size same =
+    as_planned (MayRun each 0) plan (new_ring_of plan) r rate n steps f ring rates size same (record {
+      whole = refl;
+      prepared = stay_prepared.prepared plan.settings.rate (length plan.nodes) f form.nodes_fit.enough form.nodes_fit.few;
+      steps_fit = fits_new plan.settings plan.nodes (provisioning_of plan) plan.settings.rate (length plan.nodes) (length plan.circuits) plan.steps form.steps_fit;
+      few = omega arith;
+      begins = inl refl;
+      rounds = omega arith;
+    })
 
 -- in the ring that is made of it
 pub fits_made : (r : HeldRing) (s : Settings) (ids : List ℕ) (circuits : Provisioning) (steps : List Step) (plan : Planned) → r ≡ new_ring s ids circuits → s ≡ plan.settings → ids ≡ plan.nodes → circuits ≡ provisioning_of plan → steps ≡ plan.steps
