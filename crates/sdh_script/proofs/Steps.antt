@@ -73,7 +73,7 @@ steps_less rate n circuits (s ∷ later) a b less each =
     )
 
 -- those of a plan can be done in a new ring
-pub fits_new : (s : Settings) (ids : List ℕ) (circuits : Provisioning) (rate : Rate) (n k : ℕ) (steps : List Step) → AreSteps rate n k start steps → AreSteps rate n k (past_of 0 (new_ring s ids circuits)) steps
+fits_new : (s : Settings) (ids : List ℕ) (circuits : Provisioning) (rate : Rate) (n k : ℕ) (steps : List Step) → AreSteps rate n k start steps → AreSteps rate n k (past_of 0 (new_ring s ids circuits)) steps
 fits_new s ids circuits rate n k steps fit = steps_less rate n k steps (past_of 0 (new_ring s ids circuits)) start (record { moment = refl; settles = refl; slips = λ port. omega (arith, waits_new s ids circuits port) }) fit
 
 -- they may be run over the ring that is made of it, and fibres that were just prepared for it
@@ -88,20 +88,6 @@ may_new each plan r rate n steps f form ring rates size same =
       begins = inl refl;
       rounds = omega arith;
     })
-
--- in the ring that is made of it
-pub fits_made : (r : HeldRing) (s : Settings) (ids : List ℕ) (circuits : Provisioning) (steps : List Step) (plan : Planned) → r ≡ new_ring s ids circuits → s ≡ plan.settings → ids ≡ plan.nodes → circuits ≡ provisioning_of plan → steps ≡ plan.steps
-    → IsPlanned plan → AreSteps r.settings.rate (length r.ids) (length r.circuits.circuits) (past_of 0 r) steps
-fits_made r s ids circuits steps plan is a b c d form =
-    let Fit = λ (t : Settings × List ℕ × Provisioning × List Step). AreSteps t.0.rate (length t.1) (length t.2.circuits) (past_of 0 (new_ring t.0 t.1 t.2)) t.3 in
-    subst (λ (x : HeldRing). AreSteps x.settings.rate (length x.ids) (length x.circuits.circuits) (past_of 0 x) steps) (sym is)
-    (subst Fit (sym (λ i. (a i, b i, c i, d i))) (fits_new plan.settings plan.nodes (provisioning_of plan) plan.settings.rate (length plan.nodes) (length plan.circuits) plan.steps form.steps_fit))
-
--- over fibres that were just prepared for it
-pub prepared_made : (r : HeldRing) (s : Settings) (ids : List ℕ) (circuits : Provisioning) (n : ℕ) (f g : Fibres) → r ≡ new_ring s ids circuits → n ≡ length ids → 2 ≤ n → n ≤ 16 → g ≡ prepared s.rate n f → IsPrepared r.settings.rate (length r.ids) g
-prepared_made r s ids circuits n f g is size enough few made =
-    subst (λ (x : HeldRing). IsPrepared x.settings.rate (length x.ids) g) (sym is)
-    (subst (λ k. IsPrepared s.rate k g) size (subst (IsPrepared s.rate n) (sym made) (stay_prepared.prepared s.rate n f enough few)))
 
 -- ---- a settle step
 
