@@ -38,13 +38,8 @@ impl Runner for OutageRun {
 
     ghost MayRun = { λ number steps r f. MayListen number steps r.ring r.listeners.items.items f };
 
-    fn change<P: Plant>(
-        &mut self,
-        plant: &mut P,
-        step: Step,
-        number: u32,
-    ) -> Result<(), PlantFault> {
-        change(&mut self.ring, plant, step, number)?;
+    fn change<P: Plant>(&mut self, plant: &mut P, step: Step) -> Result<(), PlantFault> {
+        change(&mut self.ring, plant, step)?;
         Ok(())
     }
 

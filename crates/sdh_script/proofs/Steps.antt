@@ -1,5 +1,5 @@
 -- A script, step by step.
-use Rattle.std.proofs.Common.{◌≡◌, ◌≤◌, ℕ, ◌+◌, ◌*◌, Bool, true, false, List, [], ◌∷◌, length, refl, ap, sym, ◌∙◌, subst, arith, inl}
+use Rattle.std.proofs.Common.{◌≡◌, ◌≤◌, ℕ, ◌+◌, ◌*◌, Bool, true, false, List, [], ◌∷◌, length, refl, ap, sym, ◌∙◌, subst, arith, inl, zero-le, le_refl}
 use Rattle.std.specs.Prelude.{if◌then◌else◌}
 use Rattle.sdh_plant.specs.Fibres.{Fibres, IsPrepared}
 use Rattle.sdh_plant.specs.Calls.{prepared}
@@ -32,10 +32,10 @@ use Rattle.sdh_node.specs.Stations.{adm}
 
 -- ---- fewer slips
 
--- a past that is another's, with no more slips
+-- a past that is another's, with no more settle steps and slips
 pub record IsLess (a b : Past) : Type 0 where
   pub moment : a.moment ≡ b.moment
-  pub settles : a.settles ≡ b.settles
+  pub settles : a.settles ≤ b.settles
   pub slips : (port : PortId) → a.slips port ≤ b.slips port
 
 less_after : (s : Step) (a b : Past) → IsLess a b → IsLess (after a s) (after b s)
@@ -48,7 +48,7 @@ less_after (step.Slip port turn count) a b less = record { moment = less.moment;
     by true q few = omega (arith, few)
     by false q few = few
 less_after (step.Moment m) a b less = record { moment = refl; settles = less.settles; slips = less.slips }
-less_after step.Settle a b less = record { moment = less.moment; settles = ap (λ k. k + 1) less.settles; slips = λ port. omega arith }
+less_after step.Settle a b less = record { moment = less.moment; settles = omega (arith, less.settles); slips = λ port. omega arith }
 
 less_room : (s : Step) (a b : Past) → IsLess a b → HasRoom b.slips s → HasRoom a.slips s
 less_room (step.Fibre e) a b less h = h
@@ -74,7 +74,7 @@ steps_less rate n circuits (s ∷ later) a b less each =
 
 -- those of a plan can be done in a new ring
 fits_new : (s : Settings) (ids : List ℕ) (circuits : Provisioning) (rate : Rate) (n k : ℕ) (steps : List Step) → AreSteps rate n k start steps → AreSteps rate n k (past_of 0 (new_ring s ids circuits)) steps
-fits_new s ids circuits rate n k steps fit = steps_less rate n k steps (past_of 0 (new_ring s ids circuits)) start (record { moment = refl; settles = refl; slips = λ port. omega (arith, waits_new s ids circuits port) }) fit
+fits_new s ids circuits rate n k steps fit = steps_less rate n k steps (past_of 0 (new_ring s ids circuits)) start (record { moment = refl; settles = le_refl 0; slips = λ port. omega (arith, waits_new s ids circuits port) }) fit
 
 -- they may be run over the ring that is made of it, and fibres that were just prepared for it
 pub may_new : (each : ℕ) (plan : Planned) (r : HeldRing) (rate : Rate) (n : ℕ) (steps : List Step) (f : Fibres) → IsPlanned plan → r ≡ new_ring_of plan → rate ≡ plan.settings.rate → n ≡ length plan.nodes → steps ≡ plan.steps
@@ -104,7 +104,7 @@ pub next_by : (each before k : ℕ) (w left : World) → left.ring ≡ record w.
 next_by each before k w left held most begins none prepared later h =
     let grown : left.ring.rounds ≡ w.ring.rounds + k = ap (λ (r : HeldRing). r.rounds) held in
     let past = past_of (before + 1) left.ring in
-    let less : IsLess past (after (past_of before w.ring) step.Settle) = record { moment = ap (λ (r : HeldRing). r.moment) held; settles = refl; slips = λ port. omega (arith, none port) } in
+    let less : IsLess past (after (past_of before w.ring) step.Settle) = record { moment = ap (λ (r : HeldRing). r.moment) held; settles = le_refl (before + 1); slips = λ port. omega (arith, none port) } in
     let fit = steps_less w.ring.settings.rate (length w.ring.ids) (length w.ring.circuits.circuits) later past (after (past_of before w.ring) step.Settle) less h.steps_fit.1 in
     let Shape = λ (r : HeldRing). (r.broken ≡ false) × IsPrepared r.settings.rate (length r.ids) left.fibres × AreSteps r.settings.rate (length r.ids) (length r.circuits.circuits) past later in
     let old : Shape (record w.ring { nodes = left.ring.nodes; rounds = w.ring.rounds + k }) = (h.whole, prepared, fit) in
@@ -121,17 +121,23 @@ next_by each before k w left held most begins none prepared later h =
 
 -- ---- any other step
 
+-- it can be done by itself, as in a script's beginning
+pub alone : (each before : ℕ) (s : Step) (later : List Step) (r : HeldRing) (f : Fibres) → MayRun each before (s ∷ later) r f → AreSteps r.settings.rate (length r.ids) (length r.circuits.circuits) (past_of 0 r) (s ∷ [])
+alone each before s later r f may =
+    let less : IsLess (past_of 0 r) (past_of before r) = record { moment = refl; settles = zero-le; slips = λ port. le_refl (waiting_at r port) } in
+    steps_less r.settings.rate (length r.ids) (length r.circuits.circuits) (s ∷ []) (past_of 0 r) (past_of before r) less (may.steps_fit.0, tt)
+
 -- the past that it leads to, by what waits then
 few_now : (before : ℕ) (s : Step) (w : World) → is_settle s ≡ false → WaitAtMost (after_step s w) (after (past_of before w.ring) s).slips
 few_now before s w other = few_after s (past_of before w.ring) w other (λ port. omega arith)
 
 less_changed : (before : ℕ) (s : Step) (w : World) → (s ≡ step.Settle → ⊥) → IsLess (past_of before (after_step s w).ring) (after (past_of before w.ring) s)
 unfolding changed
-less_changed before (step.Fibre e) w other = record { moment = refl; settles = refl; slips = few_now before (step.Fibre e) w refl }
-less_changed before (step.Order p d c) w other = record { moment = refl; settles = refl; slips = few_now before (step.Order p d c) w refl }
-less_changed before (step.Hold p turns) w other = record { moment = refl; settles = refl; slips = few_now before (step.Hold p turns) w refl }
-less_changed before (step.Slip port turn count) w other = record { moment = refl; settles = refl; slips = few_now before (step.Slip port turn count) w refl }
-less_changed before (step.Moment m) w other = record { moment = refl; settles = refl; slips = few_now before (step.Moment m) w refl }
+less_changed before (step.Fibre e) w other = record { moment = refl; settles = le_refl before; slips = few_now before (step.Fibre e) w refl }
+less_changed before (step.Order p d c) w other = record { moment = refl; settles = le_refl before; slips = few_now before (step.Order p d c) w refl }
+less_changed before (step.Hold p turns) w other = record { moment = refl; settles = le_refl before; slips = few_now before (step.Hold p turns) w refl }
+less_changed before (step.Slip port turn count) w other = record { moment = refl; settles = le_refl before; slips = few_now before (step.Slip port turn count) w refl }
+less_changed before (step.Moment m) w other = record { moment = refl; settles = le_refl before; slips = few_now before (step.Moment m) w refl }
 less_changed before step.Settle w other = absurd (other refl)
 
 fit_changed : (each before : ℕ) (s : Step) (later : List Step) (w : World) → (s ≡ step.Settle → ⊥) → MayRun each before (s ∷ later) w.ring w.fibres

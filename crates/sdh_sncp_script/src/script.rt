@@ -35,12 +35,7 @@ impl Runner for PathRun {
 
     ghost MayRun = { λ number steps r f. MayRunPath number steps r.ring f };
 
-    fn change<P: Plant>(
-        &mut self,
-        plant: &mut P,
-        step: Step,
-        _number: u32,
-    ) -> Result<(), PlantFault> {
+    fn change<P: Plant>(&mut self, plant: &mut P, step: Step) -> Result<(), PlantFault> {
         match step {
             Step::Fibre(event) => Ok(plant.apply(event)?),
             _ => Ok(()),

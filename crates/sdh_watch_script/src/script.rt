@@ -54,13 +54,8 @@ impl Runner for WatchRun {
 
     ghost MayRun = { λ number steps r f. MayWatch number steps r.ring r.watches.items f };
 
-    fn change<P: Plant>(
-        &mut self,
-        plant: &mut P,
-        step: Step,
-        number: u32,
-    ) -> Result<(), PlantFault> {
-        change(&mut self.ring, plant, step, number)?;
+    fn change<P: Plant>(&mut self, plant: &mut P, step: Step) -> Result<(), PlantFault> {
+        change(&mut self.ring, plant, step)?;
         Ok(())
     }
 
