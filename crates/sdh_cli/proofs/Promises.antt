@@ -39,13 +39,13 @@ module _ (ask : Option Ask) (f left : Fibres) (how : Status) (text : List ℕ) (
   ran bytes x plan listing is h = ran_with f left how text ask bytes plan listing h is x
 
   delivers : f.honest ≡ true → (bytes : List ℕ) → IsOutcome ask bytes f how text left → Delivers ask bytes how old new
-  delivers honest bytes x plan listing is h = let r = ran bytes x plan listing is h in (r.reports, subst (Appends old new) r.text_is appends, r.came.owed honest)
+  delivers honest bytes x plan listing is h = let r = ran bytes x plan listing is h in (r.reports, subst (Appends old new) r.text_is appends, (r.came.owed honest).owed)
 
   goes_well : f.honest ≡ true → (bytes : List ℕ) → IsOutcome ask bytes f how text left → GoesWell ask bytes f how old new left
-  goes_well honest bytes x plan listing is h = let r = ran bytes x plan listing is h in (r.reports, subst (Appends old new) r.text_is appends, r.came.course honest)
+  goes_well honest bytes x plan listing is h = let r = ran bytes x plan listing is h in (r.reports, subst (Appends old new) r.text_is appends, (r.came.owed honest).course)
 
   stays_healthy : f.honest ≡ true → (bytes : List ℕ) → IsOutcome ask bytes f how text left → StaysHealthy ask bytes how old new
-  stays_healthy honest bytes x plan listing is h all = let r = ran bytes x plan listing is h in (r.reports, subst (Appends old new) r.text_is appends, r.came.healthy honest all)
+  stays_healthy honest bytes x plan listing is h all = let r = ran bytes x plan listing is h in (r.reports, subst (Appends old new) r.text_is appends, (r.came.owed honest).healthy all)
 
   ends_as_it_runs : (bytes : List ℕ) → IsOutcome ask bytes f how text left → EndsAsItRuns ask bytes f how
   ends_as_it_runs bytes x plan listing is h knows = elim ((ran bytes x plan listing is h).came.known knows) [ inl done ↦ inl done.end_is | inr cut ↦ inr cut.0 ]

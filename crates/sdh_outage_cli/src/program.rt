@@ -1,9 +1,8 @@
 //! What the program does with a plan.
-ghost use Rattle.sdh_script.specs.Plans.{world_of};
-ghost use Rattle.sdh_scripts.proofs.Outcomes.{comes_ends};
+ghost use Rattle.sdh_scripts.proofs.Plans.{ends_of};
 ghost use Rattle.sdh_shell.proofs.Ends.{has_run};
 ghost use Rattle.sdh_outage_script.specs.Outages.{Outaged};
-ghost use Rattle.sdh_outage_script.specs.Scripts.{outage_walk};
+ghost use Rattle.sdh_outage_script.specs.Plans.{outage_account};
 ghost use Rattle.sdh_outage_cli.specs.Headline.{listening};
 
 use sdh_calls::RunsPlans;
@@ -30,5 +29,5 @@ impl RunsPlans for Listening {
         Ok(ended(run.status, run.text))
     }
 
-    ghost ends = { λ plan f left told how x. has_run how (comes_ends outage_walk plan.limit plan.steps (world_of plan f) f left told how x.ran) };
+    ghost ends = { λ plan f left told how x. has_run how (ends_of outage_account plan f left how told x) };
 }

@@ -9,7 +9,8 @@ use Rattle.sdh_scripts.specs.Laws.{KeepsRounds}
 use Rattle.sdh_owed.proofs.Known.{no_round}
 use Rattle.sdh_outage.specs.Kinds.{kind_of}
 use Rattle.sdh_outage.specs.Outages.{outage_of}
-use Rattle.sdh_outage_script.specs.Outages.{port_id, delivered_at, kinds_in, outage_in, ports_out, outaged_in}
+use Rattle.sdh_scripts.specs.Ports.{port_id}
+use Rattle.sdh_outage_script.specs.Outages.{delivered_at, kinds_in, outage_in, ports_out, outaged_in}
 use Rattle.sdh_outage_script.specs.Scripts.{outage_walk}
 
 -- courses that are the same so far

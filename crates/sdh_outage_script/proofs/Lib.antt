@@ -1,7 +1,6 @@
 pub mod Lists
 pub mod Listening
 pub mod Known
-pub mod Alike
 pub mod Told
 pub mod Steps
 pub mod Plans

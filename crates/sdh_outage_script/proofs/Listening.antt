@@ -16,10 +16,11 @@ use Rattle.sdh_ring.specs.Observed.{RanOne}
 use Rattle.sdh_outage.specs.Kinds.{kind_of, kinds_of, last_heard}
 use Rattle.sdh_outage.specs.Outages.{outage_of}
 use Rattle.sdh_outage.specs.Kept.{Heard, heard}
-use Rattle.sdh_outage_script.specs.Outages.{port_id, delivered_at, kinds_in, outage_in, ports_out}
+use Rattle.sdh_scripts.proofs.Lists.{some_at}
+use Rattle.sdh_scripts.specs.Ports.{port_id}
+use Rattle.sdh_outage_script.specs.Outages.{delivered_at, kinds_in, outage_in, ports_out}
 use Rattle.sdh_outage_script.specs.Ports.{AreReady, delivered_in, heard_in, IsListening, AreListening, AreFew, HaveBegun, Looked, shown}
 use Rattle.sdh_outage_script.specs.declared.ports.Both.{Both}
-use Rattle.sdh_outage_script.proofs.Lists.{some_at}
 
 -- ---- what was delivered in a course
 

@@ -47,10 +47,9 @@ module _ (w left : World) (limit : ℕ) (items : List Both) (x : Hears (λ at k.
   many_then = x.kept.many ∙ ap (λ (v : World). length v.ring.circuits.circuits) (sym left_at)
 
   -- what is told of it
-  pub told_is : (number last : ℕ) → last ≡ left.ring.rounds - 1 → (let told : Outaged = record { number = number; round = last; ports = shown left.ring.circuits.circuits items } in told ≡ outaged_in number at ran)
-  told_is number last is =
-      ap (λ n. record { number = number; round = n; ports = shown left.ring.circuits.circuits items }) is
-      ∙ ap (λ (v : World). record { number = number; round = v.ring.rounds - 1; ports = shown v.ring.circuits.circuits items }) left_at
+  pub told_is : (number : ℕ) → (let told : Outaged = record { number = number; round = left.ring.rounds - 1; ports = shown left.ring.circuits.circuits items } in told ≡ outaged_in number at ran)
+  told_is number =
+      ap (λ (v : World). record { number = number; round = v.ring.rounds - 1; ports = shown v.ring.circuits.circuits items }) left_at
       ∙ ap (λ ports. record { number = number; round = (at ran).ring.rounds - 1; ports = ports }) (shown_is at ran items numbered x.kept)
 
   -- and the script goes on

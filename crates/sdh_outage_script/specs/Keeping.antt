@@ -7,7 +7,8 @@ use Rattle.sdh_circuits.specs.declared.PortId.{PortId}
 use Rattle.sdh_payload.specs.Customer.{Customer}
 use Rattle.sdh_world.specs.Rounds.{World}
 use Rattle.sdh_outage.specs.Kept.{heard}
-use Rattle.sdh_outage_script.specs.Outages.{port_id, delivered_at}
+use Rattle.sdh_scripts.specs.Ports.{port_id}
+use Rattle.sdh_outage_script.specs.Outages.{delivered_at}
 use Rattle.sdh_outage_script.specs.Ports.{delivered_in, heard_in, AreListening}
 use Rattle.sdh_outage_script.specs.declared.ports.Both.{Both}
 

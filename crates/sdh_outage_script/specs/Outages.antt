@@ -1,7 +1,6 @@
 -- What is told of a settle step with the outages of its ports.
-use Rattle.std.specs.Prelude.{ℕ, zero, suc, ◌+◌, ◌-◌, List, [], ◌∷◌}
+use Rattle.std.specs.Prelude.{ℕ, zero, suc, ◌-◌, List, [], ◌∷◌}
 use Rattle.sdh_circuits.specs.declared.End.{End}
-use Rattle.sdh_circuits.specs.declared.End.TheVariants.{A, B}
 use Rattle.sdh_circuits.specs.declared.PortId.{PortId}
 use Rattle.sdh_circuits.specs.Ends.{other_end}
 use Rattle.sdh_circuits.specs.Provisioned.{Provisioned, customer_at}
@@ -9,15 +8,13 @@ use Rattle.sdh_payload.specs.Customer.{Customer}
 use Rattle.sdh_payload.specs.declared.delivered.Delivered.{Delivered}
 use Rattle.sdh_world.specs.Held.{HeldRing, outlet_at}
 use Rattle.sdh_world.specs.Rounds.{World}
+use Rattle.sdh_scripts.specs.Ports.{port_id, of_ports}
 use Rattle.sdh_outage.specs.declared.kind.Kind.{Kind}
 use Rattle.sdh_outage.specs.declared.outage.Outage.{Outage}
 use Rattle.sdh_outage.specs.Kinds.{kind_of}
 use Rattle.sdh_outage.specs.Outages.{outage_of}
 
 -- ---- one port
-
-abbrev pub port_id : ℕ → End → PortId
-port_id index e = record { circuit = index; end = e }
 
 -- what a port delivered in the last round
 abbrev pub delivered_at : HeldRing → PortId → Delivered
@@ -47,8 +44,7 @@ port_out k at index c e = record { name = c.name; end = e; outage = outage_in (c
 
 -- those of these circuits, which are counted from `index`
 abbrev pub ports_out : ℕ → (ℕ → World) → ℕ → List Provisioned → List PortOutage
-ports_out k at index [] = []
-ports_out k at index (c ∷ cs) = port_out k at index c A ∷ port_out k at index c B ∷ ports_out k at (index + 1) cs
+ports_out k at = of_ports (port_out k at)
 
 -- ---- a settle step
 

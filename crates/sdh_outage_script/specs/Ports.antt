@@ -8,7 +8,8 @@ use Rattle.sdh_payload.specs.declared.delivered.Delivered.{Delivered}
 use Rattle.sdh_world.specs.Held.{HeldRing}
 use Rattle.sdh_world.specs.Rounds.{World}
 use Rattle.sdh_outage.specs.Kept.{Heard, heard}
-use Rattle.sdh_outage_script.specs.Outages.{port_id, delivered_at, PortOutage}
+use Rattle.sdh_scripts.specs.Ports.{port_id}
+use Rattle.sdh_outage_script.specs.Outages.{delivered_at, PortOutage}
 use Rattle.sdh_outage_script.specs.declared.ports.Both.{Both}
 
 -- ---- between settle steps

@@ -11,4 +11,4 @@ mod ports;
 mod run;
 mod script;
 
-pub use run::{Run, run_plan};
+pub use run::run_plan;

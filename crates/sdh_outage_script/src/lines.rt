@@ -1,8 +1,7 @@
 //! The lines of a settle step.
-ghost use Rattle.std.specs.Prelude.{◌≡◌, ◌+◌, ◌*◌, ◌≤◌, ◌<◌, ◌^◌, ◌++◌, length, map};
+ghost use Rattle.std.specs.Prelude.{◌≡◌, ◌+◌, ◌-◌, ◌*◌, ◌≤◌, ◌<◌, ◌^◌, ◌++◌, length, map};
 ghost use Rattle.std.specs.List.{flat_map};
 ghost use Rattle.sdh_circuits.specs.declared.End.TheVariants.{A, B};
-ghost use Rattle.sdh_report.specs.Lines.{settle_line};
 ghost use Rattle.sdh_outage.specs.Outages.{summary_of, with_outage};
 ghost use Rattle.sdh_outage.specs.Lines.{summary_line};
 ghost use Rattle.sdh_outage_script.specs.Lines.{told_line, ports_text, outaged_text};
@@ -14,15 +13,7 @@ use sdh_circuits::{Circuit, CircuitMap, End};
 use sdh_outage::{Listener, Summary, outage_line, summary_line};
 use sdh_report::Text;
 use sdh_ring::Ring;
-
-// The line of a settle step that ended with that round.
-fn put_settle(text: &mut Text, number: u32, last: u64)
-    requires room { 96 ≤ text.old.room }
-    ensures bytes { text.new.bytes ≡ text.old.bytes ++ settle_line number last }
-    ensures room { text.old.room ≤ text.new.room + 96 }
-{
-    text.settle_line(number, last);
-}
+use sdh_scripts::put_settle;
 
 // The line of a port.
 fn put_port(text: &mut Text, summary: &mut Summary, named: &Circuit, end: End, listener: &Listener)
@@ -76,13 +67,14 @@ fn put_ports(text: &mut Text, circuits: &CircuitMap, items: &Vec<Both>)
     put_summary(text, &summary);
 }
 
-/// The line of a settle step that ended with that round, and those of its ports.
-pub fn put_step(text: &mut Text, ring: &Ring, number: u32, last: u64, items: &Vec<Both>)
+/// The line of a settle step that left a ring, and those of its ports.
+pub fn put_step(text: &mut Text, ring: &Ring, number: u32, items: &Vec<Both>)
+    requires ran { 1 ≤ ring.now.rounds }
     requires many { length items.now.items ≡ length ring.now.circuits.circuits }
     requires room { lines_room (length ring.now.circuits.circuits) ≤ text.old.room }
-    ensures bytes { text.new.bytes ≡ text.old.bytes ++ outaged_text (record { number = number; round = last; ports = shown ring.now.circuits.circuits items.now.items }) }
+    ensures bytes { text.new.bytes ≡ text.old.bytes ++ outaged_text (record { number = number; round = ring.now.rounds - 1; ports = shown ring.now.circuits.circuits items.now.items }) }
     ensures room { text.old.room ≤ text.new.room + lines_room (length ring.now.circuits.circuits) }
 {
-    put_settle(text, number, last);
+    put_settle(text, number, ring.rounds());
     put_ports(text, ring.circuits(), items);
 }

@@ -1,94 +1,52 @@
-//! A whole run: the room, the listeners, the ring and the fibres are made, and the script runs.
-ghost use Rattle.std.specs.Prelude.{◌≡◌, ◌+◌, ◌*◌, ◌≤◌, true, length, IfOk, OnErr};
+//! A whole run: the room, the listeners and the ring are made, and the script runs.
+ghost use Rattle.std.specs.Prelude.{◌≡◌, ◌≤◌, true, length, IfOk, OnErr};
 ghost use Rattle.sdh_basics.specs.Causes.{Rose, IsCounted};
 ghost use Rattle.sdh_plant.specs.Fibres.{HasNoFibres};
-ghost use Rattle.sdh_world.specs.Held.{HeldRing};
-ghost use Rattle.sdh_world.specs.Rounds.{world};
-ghost use Rattle.sdh_scripts.specs.Texts.{HasRoom, Lists};
-ghost use Rattle.sdh_outage_script.specs.Scripts.{outage_walk};
-ghost use Rattle.sdh_outage_script.specs.Lines.{outaged_text};
-ghost use Rattle.sdh_outage_script.specs.Running.{lines_room, MayRun};
-ghost use Rattle.sdh_outage_script.specs.Plans.{MaySettle, Tells, Came};
+ghost use Rattle.sdh_scripts.specs.NewRuns.{MayBegin, IsOf};
+ghost use Rattle.sdh_outage_script.specs.Running.{lines_room};
+ghost use Rattle.sdh_outage_script.specs.Plans.{outage_account, MaySettle, Tells};
 
 use crate::listeners::Listeners;
 use crate::ports::new_listeners;
 use crate::script::OutageRun;
 use sdh_circuits::CircuitMap;
-use sdh_plan::{Plan, Step};
-use sdh_plant::{Plant, PrepareError};
-use sdh_report::{Status, Text};
+use sdh_outage::LINE_MAX as PORT_LINE_MAX;
+use sdh_plan::Plan;
+use sdh_plant::Plant;
+use sdh_report::{LINE_MAX, Status};
 use sdh_ring::Ring;
-use sdh_scripts::run_script;
+use sdh_scripts::{NewRun, Run, Runner, start, text_for};
 use std::alloc::{AllocError, Global};
 
-/// What a run wrote, and how it ended: `Ok`, `Unsettled` or `PlantFault`. There is room for one more line.
-#[derive(Debug, Drop)]
-pub struct Run {
-    pub status: Status,
-    pub text: Text,
-}
-
-// Room for the lines of 64 settle steps, and a last line, in bytes.
-fn room_for(circuits: &CircuitMap) -> usize
-    ensures { result ≡ lines_room (length circuits.now.circuits) * 64 + 96 }
+// Room for the lines of a settle step, in bytes.
+fn lines_room(circuits: &CircuitMap) -> usize
+    ensures room { result ≡ lines_room (length circuits.now.circuits) }
+    ensures few { result ≤ 65536 }
 {
-    (256 + 320 * circuits.len()) * 64 + 96
+    LINE_MAX + PORT_LINE_MAX + 2 * PORT_LINE_MAX * circuits.len()
 }
 
-// The script over a ring and its fibres.
-fn run_from<P: Plant>(
-    mut run: OutageRun,
-    plant: &mut P,
-    steps: &[Step],
-    limit: u32,
-    mut text: Text,
-) -> Run
-    requires may { MayRun 0 steps.now run.ring run.listeners.items.items (P.fibres plant.old) }
-    requires room { HasRoom (lines_room (length run.ring.circuits.circuits)) 0 text.room }
-    requires some { 1 ≤ limit }
-    requires few { limit ≤ 65536 }
-    ensures ran { (left : HeldRing) × Lists outage_walk limit outaged_text steps.now (world run.ring (P.fibres plant.old)) text.bytes result.text.bytes result.status (world left (P.fibres plant.new)) }
-    ensures room { 96 ≤ result.text.room }
-    ensures later { P.faults plant.old ≤ P.faults plant.new }
-    ensures failed { result.status ≡ Status.PlantFault → Rose (P.faults plant.old) (P.faults plant.new) }
-    ensures counted { IsCounted P.exact (result.status ≡ Status.PlantFault) (P.faults plant.old) (P.faults plant.new) }
-{
-    let status = run_script(&mut run, plant, steps, limit, &mut text);
-    Run { status, text }
-}
-
-// Makes the room, the listeners, the ring and the fibres of a plan, and runs its script.
-fn run_new<P: Plant>(alloc: Global, plan: Plan, plant: &mut P) -> Result<Run, AllocError>
-    requires fresh { HasNoFibres (P.fibres plant.old) }
-    ensures came { IfOk result (λ run. Came plan (P.fibres plant.old) run.text.bytes run.status (P.fibres plant.new)) }
-    ensures failed { IfOk result (λ run. run.status ≡ Status.PlantFault → Rose (P.faults plant.old) (P.faults plant.new)) }
-    ensures counted { IfOk result (λ run. IsCounted P.exact (run.status ≡ Status.PlantFault) (P.faults plant.old) (P.faults plant.new)) }
-    ensures uncounted { OnErr result (P.exact ≡ true → P.faults plant.new ≡ P.faults plant.old) }
-    ensures later { P.faults plant.old ≤ P.faults plant.new }
-    ensures room { IfOk result (λ run. 96 ≤ run.text.room) }
-    ensures unsent { OnErr result (P.fibres plant.new ≡ P.fibres plant.old) }
+// The run of a plan, before its fibres are there.
+fn new_run(alloc: Global, plan: Plan) -> Result<NewRun<OutageRun>, AllocError>
+    ensures may { IfOk result (MayBegin ⟦<OutageRun as Runner>⟧.ring ⟦<OutageRun as Runner>⟧.room ⟦<OutageRun as Runner>⟧.MayRun) }
+    ensures is_of { IfOk result (IsOf ⟦<OutageRun as Runner>⟧.ring outage_account plan) }
 {
     let settings = plan.settings();
     let limit = plan.limit();
-    let text = Text::try_new(alloc, room_for(plan.circuits()))?;
+    let text = text_for(alloc, lines_room(plan.circuits()))?;
     let items = new_listeners(alloc, plan.circuits())?;
     let nodes = plan.map().len();
     let (map, circuits, steps) = plan.into_parts();
     let ring = Ring::try_new(alloc, settings, map, circuits)?;
-    match plant.prepare(alloc, settings.rate, nodes) {
-        Ok(()) => {
-            let run = OutageRun {
-                ring,
-                listeners: Listeners { items },
-            };
-            Ok(run_from(run, plant, &steps, limit, text))
-        }
-        Err(PrepareError::Memory) => Err(AllocError),
-        Err(PrepareError::Failed) => Ok(Run {
-            status: Status::PlantFault,
-            text,
-        }),
-    }
+    let listeners = Listeners { items };
+    Ok(NewRun {
+        runner: OutageRun { ring, listeners },
+        rate: settings.rate,
+        nodes,
+        steps,
+        limit,
+        text,
+    })
 }
 
 /// Runs the script of a plan over new fibres, and tells the outages of its ports. All memory is taken before the first round.
@@ -116,5 +74,6 @@ pub fn run_plan<P: Plant>(alloc: Global, plan: Plan, plant: &mut P) -> Result<Ru
     sdh_owed::scripts_settle();
     // Reading it gives the proof what is true of every plan.
     let _steps = plan.steps();
-    run_new(alloc, plan, plant)
+    let run = new_run(alloc, plan)?;
+    start(alloc, plant, run)
 }

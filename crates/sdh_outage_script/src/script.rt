@@ -1,5 +1,5 @@
 //! A ring that a script is run over with listeners.
-ghost use Rattle.std.specs.Prelude.{◌≡◌, ◌-◌, ◌≤◌, length};
+ghost use Rattle.std.specs.Prelude.{length};
 ghost use Rattle.sdh_node.specs.Node.{Node as AddDrop};
 ghost use Rattle.sdh_outage_script.specs.Outages.{Outaged};
 ghost use Rattle.sdh_outage_script.specs.Scripts.{outage_walk};
@@ -23,14 +23,6 @@ pub struct OutageRun {
     pub listeners: Listeners,
 }
 
-// The last round.
-fn last_round(ring: &Ring) -> u64
-    requires { 1 ≤ ring.now.rounds }
-    ensures { result ≡ ring.now.rounds - 1 }
-{
-    ring.rounds() - 1
-}
-
 impl Runner for OutageRun {
     ghost Node = { AddDrop };
 
@@ -46,13 +38,8 @@ impl Runner for OutageRun {
 
     ghost MayRun = { λ number steps r f. MayListen number steps r.ring r.listeners.items.items f };
 
-    fn change<P: Plant>(
-        &mut self,
-        plant: &mut P,
-        step: Step,
-        number: u32,
-    ) -> Result<(), PlantFault> {
-        change(&mut self.ring, plant, step, number)?;
+    fn change<P: Plant>(&mut self, plant: &mut P, step: Step) -> Result<(), PlantFault> {
+        change(&mut self.ring, plant, step)?;
         Ok(())
     }
 
@@ -65,8 +52,7 @@ impl Runner for OutageRun {
     ) -> Result<(), SettleError> {
         begin_all(&self.ring, &mut self.listeners.items);
         self.ring.settle_with(plant, limit, &mut self.listeners)?;
-        let last = last_round(&self.ring);
-        put_step(text, &self.ring, number + 1, last, &self.listeners.items);
+        put_step(text, &self.ring, number + 1, &self.listeners.items);
         Ok(())
     }
 

@@ -1,8 +1,7 @@
 -- What the report of a settle step tells of the ring that it left.
-use Rattle.std.specs.Prelude.{ℕ, ◌+◌, ◌-◌, List, [], ◌∷◌, length, get_or}
+use Rattle.std.specs.Prelude.{ℕ, ◌-◌, List, length, get_or}
 use Rattle.sdh_basics.specs.Cells.{cells}
 use Rattle.sdh_circuits.specs.declared.End.{End}
-use Rattle.sdh_circuits.specs.declared.End.TheVariants.{A, B}
 use Rattle.sdh_circuits.specs.Provisioned.{Provisioned}
 use Rattle.sdh_kbytes.specs.declared.K.{K}
 use Rattle.sdh_kbytes.specs.KBytes.{first_byte, second_byte}
@@ -15,6 +14,7 @@ use Rattle.sdh_report.specs.declared.node_line.StateWord.{StateWord}
 use Rattle.sdh_report.specs.declared.node_line.StateWord.TheVariants as word
 use Rattle.sdh_report.specs.declared.node_line.WordBytes.{WordBytes}
 use Rattle.sdh_report.specs.Reports.{PortLine, Report}
+use Rattle.sdh_scripts.specs.Ports.{of_ports}
 
 -- a node's state
 abbrev pub state_word : NodeState → StateWord
@@ -45,8 +45,7 @@ port_told r index c e = record { name = c.name; end = e; outlet = outlet_at r (r
 
 -- the ports of these circuits, which are counted from `index`
 abbrev pub ports_from : HeldRing → ℕ → List Provisioned → List PortLine
-ports_from r index [] = []
-ports_from r index (c ∷ cs) = port_told r index c A ∷ port_told r index c B ∷ ports_from r (index + 1) cs
+ports_from r = of_ports (port_told r)
 
 abbrev pub ports_told : HeldRing → List PortLine
 ports_told r = ports_from r 0 r.circuits.circuits

@@ -22,6 +22,3 @@ Runs = scripts.Runs adm_walk
 -- what a script comes to where arrivals are known
 abbrev pub Ran : Type 0
 Ran = scripts.Ran Node Report
-
-abbrev pub script : ℕ → ℕ → List Step → World → Ran
-script = scripts.script adm_walk

@@ -1,5 +1,5 @@
 -- A script, step by step.
-use Rattle.std.proofs.Common.{◌≡◌, ◌≤◌, ℕ, ◌+◌, ◌*◌, Bool, true, false, List, [], ◌∷◌, length, refl, ap, sym, ◌∙◌, subst, arith}
+use Rattle.std.proofs.Common.{◌≡◌, ◌≤◌, ℕ, ◌+◌, ◌*◌, Bool, true, false, List, [], ◌∷◌, length, refl, ap, sym, ◌∙◌, subst, arith, inl, zero-le, le_refl}
 use Rattle.std.specs.Prelude.{if◌then◌else◌}
 use Rattle.sdh_plant.specs.Fibres.{Fibres, IsPrepared}
 use Rattle.sdh_plant.specs.Calls.{prepared}
@@ -22,18 +22,20 @@ use Rattle.sdh_plan.specs.declared.step.Step.TheVariants as step
 use Rattle.sdh_plan.specs.Planned.{Planned, IsPlanned, provisioning_of}
 use Rattle.sdh_plan.specs.Steps.{Past, start, after, is_settle}
 use Rattle.sdh_plan.specs.Scripts.{HasRoom, AreSteps}
+use Rattle.sdh_scripts.proofs.Plans.{as_planned}
 use Rattle.sdh_owed.specs.Steps.{after_step}
 use Rattle.sdh_owed.proofs.Standing.{WaitAtMost, few_after}
 use Rattle.sdh_owed.proofs.Known.{no_round}
 use Rattle.sdh_script.specs.Running.{past_of, BeginsAtAMultiple, MayRun}
+use Rattle.sdh_script.specs.Plans.{new_ring_of}
 use Rattle.sdh_node.specs.Stations.{adm}
 
 -- ---- fewer slips
 
--- a past that is another's, with no more slips
+-- a past that is another's, with no more settle steps and slips
 pub record IsLess (a b : Past) : Type 0 where
   pub moment : a.moment ≡ b.moment
-  pub settles : a.settles ≡ b.settles
+  pub settles : a.settles ≤ b.settles
   pub slips : (port : PortId) → a.slips port ≤ b.slips port
 
 less_after : (s : Step) (a b : Past) → IsLess a b → IsLess (after a s) (after b s)
@@ -46,7 +48,7 @@ less_after (step.Slip port turn count) a b less = record { moment = less.moment;
     by true q few = omega (arith, few)
     by false q few = few
 less_after (step.Moment m) a b less = record { moment = refl; settles = less.settles; slips = less.slips }
-less_after step.Settle a b less = record { moment = less.moment; settles = ap (λ k. k + 1) less.settles; slips = λ port. omega arith }
+less_after step.Settle a b less = record { moment = less.moment; settles = omega (arith, less.settles); slips = λ port. omega arith }
 
 less_room : (s : Step) (a b : Past) → IsLess a b → HasRoom b.slips s → HasRoom a.slips s
 less_room (step.Fibre e) a b less h = h
@@ -71,22 +73,21 @@ steps_less rate n circuits (s ∷ later) a b less each =
     )
 
 -- those of a plan can be done in a new ring
-pub fits_new : (s : Settings) (ids : List ℕ) (circuits : Provisioning) (rate : Rate) (n k : ℕ) (steps : List Step) → AreSteps rate n k start steps → AreSteps rate n k (past_of 0 (new_ring s ids circuits)) steps
-fits_new s ids circuits rate n k steps fit = steps_less rate n k steps (past_of 0 (new_ring s ids circuits)) start (record { moment = refl; settles = refl; slips = λ port. omega (arith, waits_new s ids circuits port) }) fit
+fits_new : (s : Settings) (ids : List ℕ) (circuits : Provisioning) (rate : Rate) (n k : ℕ) (steps : List Step) → AreSteps rate n k start steps → AreSteps rate n k (past_of 0 (new_ring s ids circuits)) steps
+fits_new s ids circuits rate n k steps fit = steps_less rate n k steps (past_of 0 (new_ring s ids circuits)) start (record { moment = refl; settles = le_refl 0; slips = λ port. omega (arith, waits_new s ids circuits port) }) fit
 
--- in the ring that is made of it
-pub fits_made : (r : HeldRing) (s : Settings) (ids : List ℕ) (circuits : Provisioning) (steps : List Step) (plan : Planned) → r ≡ new_ring s ids circuits → s ≡ plan.settings → ids ≡ plan.nodes → circuits ≡ provisioning_of plan → steps ≡ plan.steps
-    → IsPlanned plan → AreSteps r.settings.rate (length r.ids) (length r.circuits.circuits) (past_of 0 r) steps
-fits_made r s ids circuits steps plan is a b c d form =
-    let Fit = λ (t : Settings × List ℕ × Provisioning × List Step). AreSteps t.0.rate (length t.1) (length t.2.circuits) (past_of 0 (new_ring t.0 t.1 t.2)) t.3 in
-    subst (λ (x : HeldRing). AreSteps x.settings.rate (length x.ids) (length x.circuits.circuits) (past_of 0 x) steps) (sym is)
-    (subst Fit (sym (λ i. (a i, b i, c i, d i))) (fits_new plan.settings plan.nodes (provisioning_of plan) plan.settings.rate (length plan.nodes) (length plan.circuits) plan.steps form.steps_fit))
-
--- over fibres that were just prepared for it
-pub prepared_made : (r : HeldRing) (s : Settings) (ids : List ℕ) (circuits : Provisioning) (n : ℕ) (f g : Fibres) → r ≡ new_ring s ids circuits → n ≡ length ids → 2 ≤ n → n ≤ 16 → g ≡ prepared s.rate n f → IsPrepared r.settings.rate (length r.ids) g
-prepared_made r s ids circuits n f g is size enough few made =
-    subst (λ (x : HeldRing). IsPrepared x.settings.rate (length x.ids) g) (sym is)
-    (subst (λ k. IsPrepared s.rate k g) size (subst (IsPrepared s.rate n) (sym made) (stay_prepared.prepared s.rate n f enough few)))
+-- they may be run over the ring that is made of it, and fibres that were just prepared for it
+pub may_new : (each : ℕ) (plan : Planned) (r : HeldRing) (rate : Rate) (n : ℕ) (steps : List Step) (f : Fibres) → IsPlanned plan → r ≡ new_ring_of plan → rate ≡ plan.settings.rate → n ≡ length plan.nodes → steps ≡ plan.steps
+    → MayRun each 0 steps r (prepared rate n f)
+may_new each plan r rate n steps f form ring rates size same =
+    as_planned (MayRun each 0) plan (new_ring_of plan) r rate n steps f ring rates size same (record {
+      whole = refl;
+      prepared = stay_prepared.prepared plan.settings.rate (length plan.nodes) f form.nodes_fit.enough form.nodes_fit.few;
+      steps_fit = fits_new plan.settings plan.nodes (provisioning_of plan) plan.settings.rate (length plan.nodes) (length plan.circuits) plan.steps form.steps_fit;
+      few = omega arith;
+      begins = inl refl;
+      rounds = omega arith;
+    })
 
 -- ---- a settle step
 
@@ -103,7 +104,7 @@ pub next_by : (each before k : ℕ) (w left : World) → left.ring ≡ record w.
 next_by each before k w left held most begins none prepared later h =
     let grown : left.ring.rounds ≡ w.ring.rounds + k = ap (λ (r : HeldRing). r.rounds) held in
     let past = past_of (before + 1) left.ring in
-    let less : IsLess past (after (past_of before w.ring) step.Settle) = record { moment = ap (λ (r : HeldRing). r.moment) held; settles = refl; slips = λ port. omega (arith, none port) } in
+    let less : IsLess past (after (past_of before w.ring) step.Settle) = record { moment = ap (λ (r : HeldRing). r.moment) held; settles = le_refl (before + 1); slips = λ port. omega (arith, none port) } in
     let fit = steps_less w.ring.settings.rate (length w.ring.ids) (length w.ring.circuits.circuits) later past (after (past_of before w.ring) step.Settle) less h.steps_fit.1 in
     let Shape = λ (r : HeldRing). (r.broken ≡ false) × IsPrepared r.settings.rate (length r.ids) left.fibres × AreSteps r.settings.rate (length r.ids) (length r.circuits.circuits) past later in
     let old : Shape (record w.ring { nodes = left.ring.nodes; rounds = w.ring.rounds + k }) = (h.whole, prepared, fit) in
@@ -120,17 +121,23 @@ next_by each before k w left held most begins none prepared later h =
 
 -- ---- any other step
 
+-- it can be done by itself, as in a script's beginning
+pub alone : (each before : ℕ) (s : Step) (later : List Step) (r : HeldRing) (f : Fibres) → MayRun each before (s ∷ later) r f → AreSteps r.settings.rate (length r.ids) (length r.circuits.circuits) (past_of 0 r) (s ∷ [])
+alone each before s later r f may =
+    let less : IsLess (past_of 0 r) (past_of before r) = record { moment = refl; settles = zero-le; slips = λ port. le_refl (waiting_at r port) } in
+    steps_less r.settings.rate (length r.ids) (length r.circuits.circuits) (s ∷ []) (past_of 0 r) (past_of before r) less (may.steps_fit.0, tt)
+
 -- the past that it leads to, by what waits then
 few_now : (before : ℕ) (s : Step) (w : World) → is_settle s ≡ false → WaitAtMost (after_step s w) (after (past_of before w.ring) s).slips
 few_now before s w other = few_after s (past_of before w.ring) w other (λ port. omega arith)
 
 less_changed : (before : ℕ) (s : Step) (w : World) → (s ≡ step.Settle → ⊥) → IsLess (past_of before (after_step s w).ring) (after (past_of before w.ring) s)
 unfolding changed
-less_changed before (step.Fibre e) w other = record { moment = refl; settles = refl; slips = few_now before (step.Fibre e) w refl }
-less_changed before (step.Order p d c) w other = record { moment = refl; settles = refl; slips = few_now before (step.Order p d c) w refl }
-less_changed before (step.Hold p turns) w other = record { moment = refl; settles = refl; slips = few_now before (step.Hold p turns) w refl }
-less_changed before (step.Slip port turn count) w other = record { moment = refl; settles = refl; slips = few_now before (step.Slip port turn count) w refl }
-less_changed before (step.Moment m) w other = record { moment = refl; settles = refl; slips = few_now before (step.Moment m) w refl }
+less_changed before (step.Fibre e) w other = record { moment = refl; settles = le_refl before; slips = few_now before (step.Fibre e) w refl }
+less_changed before (step.Order p d c) w other = record { moment = refl; settles = le_refl before; slips = few_now before (step.Order p d c) w refl }
+less_changed before (step.Hold p turns) w other = record { moment = refl; settles = le_refl before; slips = few_now before (step.Hold p turns) w refl }
+less_changed before (step.Slip port turn count) w other = record { moment = refl; settles = le_refl before; slips = few_now before (step.Slip port turn count) w refl }
+less_changed before (step.Moment m) w other = record { moment = refl; settles = le_refl before; slips = few_now before (step.Moment m) w refl }
 less_changed before step.Settle w other = absurd (other refl)
 
 fit_changed : (each before : ℕ) (s : Step) (later : List Step) (w : World) → (s ≡ step.Settle → ⊥) → MayRun each before (s ∷ later) w.ring w.fibres

@@ -1,10 +1,8 @@
--- The lines of one node and of one circuit more, and counts of ports.
+-- The lines of one node more, and counts of ports.
 use Rattle.std.proofs.Common.{◌≡◌, ℕ, suc, zero, ◌+◌, ◌*◌, ◌<◌, List, [], ◌∷◌, ◌++◌, length, take, Some, refl, ap, ◌∙◌, arith, append-nil}
 use Rattle.std.specs.Prelude.{slice_get, slice_index_or}
 use Rattle.std.specs.List.{flat_map}
 use Rattle.std.proofs.lemmas.Grind.{flat_map-append}
-use Rattle.std.proofs.lemmas.List.{take_more, length-take-le}
-use Rattle.std.proofs.lemmas.Option.{get_or_from_slice_get}
 use Rattle.sdh_basics.specs.Cells.{cells}
 use Rattle.sdh_basics.proofs.CellsLaws.{cells-zero, cells-more}
 use Rattle.sdh_circuits.specs.Provisioned.{Provisioned}
@@ -15,7 +13,8 @@ use Rattle.sdh_payload.specs.declared.delivered.Delivered.{Delivered}
 use Rattle.sdh_payload.specs.declared.delivered.Delivered.TheVariants.{Ais, Chunk}
 use Rattle.sdh_world.specs.Held.{HeldRing, outlet_at}
 use Rattle.sdh_report.specs.Lines.{node_line}
-use Rattle.sdh_report.specs.Reports.{PortLine, told_line, place_of_end, delivered_in, chunks_of, silences_of, chunks_in, silences_in}
+use Rattle.sdh_report.specs.Reports.{PortLine, place_of_end, delivered_in, chunks_of, silences_of, chunks_in, silences_in}
+use Rattle.sdh_scripts.proofs.Ports.{length-ports, ports_next}
 use Rattle.sdh_owed.specs.Reports.{told_at, port_told, ports_from, ports_told}
 
 pub nodes_none : (r : HeldRing) → flat_map node_line (cells (told_at r) 0) ≡ []
@@ -26,29 +25,6 @@ nodes_more r i =
     ap (flat_map node_line) (cells-more (told_at r) i)
     ∙ flat_map-append node_line (cells (told_at r) i) (told_at r i ∷ [])
     ∙ ap (λ l. flat_map node_line (cells (told_at r) i) ++ l) (append-nil (node_line (told_at r i)))
-
-ports-append : (r : HeldRing) (i : ℕ) (xs ys : List Provisioned) → ports_from r i (xs ++ ys) ≡ ports_from r i xs ++ ports_from r (i + length xs) ys
-ports-append r i [] ys = ap (λ j. ports_from r j ys) (omega arith)
-ports-append r i (c ∷ xs) ys =
-    let next : i + 1 + length xs ≡ i + length (c ∷ xs) = omega arith in
-    ap (λ l. port_told r i c A ∷ port_told r i c B ∷ l) (ports-append r (i + 1) xs ys ∙ ap (λ j. ports_from r (i + 1) xs ++ ports_from r j ys) next)
-
--- the ports of the first circuits, and those of the next one
-ports_next : (r : HeldRing) (cs : List Provisioned) (i : ℕ) (c : Provisioned) → i < length cs → slice_get cs i ≡ Some c
-    → ports_from r 0 (take (i + 1) cs) ≡ ports_from r 0 (take i cs) ++ port_told r i c A ∷ port_told r i c B ∷ []
-ports_next r cs i c lt get =
-    let long : 0 + length (take i cs) ≡ i = omega (arith, length-take-le i cs) in
-    ap (ports_from r 0) (take_more cs i c lt ∙ ap (λ x. take i cs ++ x ∷ []) (get_or_from_slice_get cs i c c get))
-    ∙ ports-append r 0 (take i cs) (c ∷ []) ∙ ap (λ j. ports_from r 0 (take i cs) ++ ports_from r j (c ∷ [])) long
-
-pub ports_more : (r : HeldRing) (cs : List Provisioned) (i : ℕ) (c : Provisioned) → i < length cs → slice_get cs i ≡ Some c
-    → flat_map told_line (ports_from r 0 (take (i + 1) cs)) ≡ flat_map told_line (ports_from r 0 (take i cs)) ++ (told_line (port_told r i c A) ++ told_line (port_told r i c B))
-ports_more r cs i c lt get =
-    let a = told_line (port_told r i c A) in
-    let b = told_line (port_told r i c B) in
-    ap (flat_map told_line) (ports_next r cs i c lt get)
-    ∙ flat_map-append told_line (ports_from r 0 (take i cs)) (port_told r i c A ∷ port_told r i c B ∷ [])
-    ∙ ap (λ l. flat_map told_line (ports_from r 0 (take i cs)) ++ (a ++ l)) (append-nil b)
 
 -- ---- counts
 
@@ -67,7 +43,7 @@ pub chunks_more : (r : HeldRing) (cs : List Provisioned) (i : ℕ) → i < lengt
 chunks_more r cs i lt =
     let here = there_is cs i lt in
     let c = here.0 in
-    ap chunks_in (ports_next r cs i c lt here.1) ∙ chunks-append (ports_from r 0 (take i cs)) (port_told r i c A ∷ port_told r i c B ∷ []) ∙ omega arith
+    ap chunks_in (ports_next (port_told r) cs i c lt here.1) ∙ chunks-append (ports_from r 0 (take i cs)) (port_told r i c A ∷ port_told r i c B ∷ []) ∙ omega arith
 
 one_each : (d : Delivered) → chunks_of d + silences_of d ≡ 1
 one_each Ais = refl
@@ -77,13 +53,9 @@ counts_all : (ports : List PortLine) → chunks_in ports + silences_in ports ≡
 counts_all [] = refl
 counts_all (p ∷ ports) = omega (arith, counts_all ports, one_each p.outlet.delivered)
 
-length-ports : (r : HeldRing) (i : ℕ) (cs : List Provisioned) → length (ports_from r i cs) ≡ 2 * length cs
-length-ports r i [] = refl
-length-ports r i (c ∷ cs) = omega (arith, length-ports r (i + 1) cs)
-
 -- a port that delivers no chunk delivers AIS
 pub the_others : (r : HeldRing) → chunks_in (ports_told r) + silences_in (ports_told r) ≡ 2 * length r.circuits.circuits
-the_others r = counts_all (ports_told r) ∙ length-ports r 0 r.circuits.circuits
+the_others r = counts_all (ports_told r) ∙ length-ports (port_told r) 0 r.circuits.circuits
 
 -- ---- one port
 

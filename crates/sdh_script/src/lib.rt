@@ -9,4 +9,4 @@ mod run;
 mod script;
 
 pub use changing::change;
-pub use run::{Run, run_plan};
+pub use run::run_plan;

@@ -2,7 +2,7 @@
 ghost use Rattle.std.specs.Prelude.{◌≡◌, ◌+◌, ◌-◌, ◌*◌, ◌≤◌, ◌<◌, ◌^◌, ◌++◌, Some, false, length, slice_get};
 ghost use Rattle.std.specs.List.{flat_map};
 ghost use Rattle.sdh_circuits.specs.declared.End.TheVariants.{A, B};
-ghost use Rattle.sdh_report.specs.Lines.{settle_line, node_line, drop_lines, count_line};
+ghost use Rattle.sdh_report.specs.Lines.{node_line, drop_lines, count_line};
 ghost use Rattle.sdh_report.specs.Reports.{told_line, report_text, delivered_in, chunks_of, silences_of, chunks_in, silences_in, listed};
 ghost use Rattle.sdh_owed.specs.Reports.{state_word, bytes_told, nodes_told, told_at, port_told, ports_from, ports_told, report_of};
 ghost use Rattle.sdh_world.specs.Held.{outlet_at};
@@ -15,6 +15,7 @@ use sdh_nodestate::NodeState;
 use sdh_report::{Listing, NodeLine, StateWord, Text, WordBytes};
 use sdh_ring::Ring;
 use sdh_ringmap::{Pos, Side};
+use sdh_scripts::put_settle;
 
 // What is told of a state.
 fn state_told(state: &NodeState) -> StateWord
@@ -113,24 +114,6 @@ fn put_ports(text: &mut Text, ring: &Ring)
     }
 }
 
-// The last round.
-fn last_round(ring: &Ring) -> u64
-    requires { 1 ≤ ring.now.rounds }
-    ensures { result ≡ ring.now.rounds - 1 }
-{
-    ring.rounds() - 1
-}
-
-// The line of the settle step.
-fn put_settle(text: &mut Text, ring: &Ring, number: u32)
-    requires ran { 1 ≤ ring.now.rounds }
-    requires room { 96 ≤ text.old.room }
-    ensures bytes { text.new.bytes ≡ text.old.bytes ++ settle_line number (ring.now.rounds - 1) }
-    ensures room { text.old.room ≤ text.new.room + 96 }
-{
-    text.settle_line(number, last_round(ring));
-}
-
 // The whole report.
 #[tactic(auto, unfolding(sdh_owed::specs::Reports::report_of))]
 fn put_whole(text: &mut Text, ring: &Ring, number: u32)
@@ -140,7 +123,7 @@ fn put_whole(text: &mut Text, ring: &Ring, number: u32)
     ensures bytes { text.new.bytes ≡ text.old.bytes ++ report_text (report_of number ring.now) }
     ensures room { text.old.room ≤ text.new.room + (96 + 96 * length ring.now.ids + 192 * length ring.now.circuits.circuits) }
 {
-    put_settle(text, ring, number);
+    put_settle(text, number, ring.rounds());
     put_nodes(text, ring);
     put_ports(text, ring);
 }
@@ -207,7 +190,7 @@ fn put_counts(text: &mut Text, ring: &Ring, number: u32)
     ensures room { text.old.room ≤ text.new.room + 96 }
 {
     let chunks = chunks_in(ring);
-    text.count_line(number, last_round(ring), chunks, ports_of(ring) - chunks);
+    text.count_line(number, ring.rounds() - 1, chunks, ports_of(ring) - chunks);
 }
 
 /// What is listed of the report of settle step `number`, counted from 1.

@@ -1,101 +1,54 @@
-//! A whole run: the room, the ring and the fibres are made, and the script runs.
-ghost use Rattle.std.specs.Prelude.{◌≡◌, ◌+◌, ◌*◌, ◌≤◌, true, length, IfOk, OnErr};
+//! A whole run: the room and the ring are made, and the script runs.
+ghost use Rattle.std.specs.Prelude.{◌≡◌, ◌≤◌, true, length, IfOk, OnErr};
 ghost use Rattle.sdh_basics.specs.Causes.{Rose, IsCounted};
 ghost use Rattle.sdh_plant.specs.Fibres.{HasNoFibres};
-ghost use Rattle.sdh_world.specs.Held.{HeldRing};
-ghost use Rattle.sdh_world.specs.Rounds.{world};
-ghost use Rattle.sdh_report.specs.Reports.{listed};
-ghost use Rattle.sdh_scripts.specs.Texts.{HasRoom, Lists};
-ghost use Rattle.sdh_owed.specs.Scripts.{adm_walk};
+ghost use Rattle.sdh_scripts.specs.NewRuns.{MayBegin, IsOf};
 ghost use Rattle.sdh_script.specs.Room.{report_room, MayList};
-ghost use Rattle.sdh_script.specs.Running.{MayRun};
-ghost use Rattle.sdh_script.specs.Plans.{MaySettle, Tells, Came};
+ghost use Rattle.sdh_script.specs.Plans.{adm_account, MaySettle, Tells};
 
 use crate::script::RingRun;
 use sdh_circuits::CircuitMap;
-use sdh_plan::{Plan, Step};
-use sdh_plant::{Plant, PrepareError};
-use sdh_report::{Listing, Status, Text};
+use sdh_plan::Plan;
+use sdh_plant::Plant;
+use sdh_report::{CHUNK_MAX, LINE_MAX, Listing, Status};
 use sdh_ring::Ring;
 use sdh_ringmap::RingMap;
-use sdh_scripts::run_script;
+use sdh_scripts::{NewRun, Run, Runner, lines_room, start, text_for};
 use std::alloc::{AllocError, Global};
 
-/// What a run wrote, and how it ended: `Ok`, `Unsettled` or `PlantFault`. There is room for one more line.
-#[derive(Debug, Drop)]
-pub struct Run {
-    pub status: Status,
-    pub text: Text,
-}
-
-// Room for what is listed of 64 reports, and a last line, in bytes.
-fn room_for(listing: Listing, map: &RingMap, circuits: &CircuitMap) -> usize
-    ensures { result ≡ report_room listing (length map.now) (length circuits.now.circuits) * 64 + 96 }
+// Room for what is listed of a report, in bytes.
+fn report_room(listing: Listing, map: &RingMap, circuits: &CircuitMap) -> usize
+    ensures room { result ≡ report_room listing (length map.now) (length circuits.now.circuits) }
+    ensures few { result ≤ 131072 }
 {
-    let nodes = map.len();
-    let circuits = circuits.len();
-    let report = match listing {
-        Listing::Reports => 96 + 96 * nodes + 192 * circuits,
-        Listing::Port(_) => 4707,
-        Listing::Counts => 96,
-    };
-    report * 64 + 96
+    match listing {
+        Listing::Reports => lines_room(circuits) + LINE_MAX * map.len(),
+        Listing::Port(_) => CHUNK_MAX,
+        Listing::Counts => LINE_MAX,
+    }
 }
 
-// The script over a ring and its fibres.
-fn run_from<P: Plant>(
-    mut run: RingRun,
-    plant: &mut P,
-    steps: &[Step],
-    limit: u32,
-    mut text: Text,
-) -> Run
-    requires may { MayRun 65536 0 steps.now run.ring (P.fibres plant.old) }
-    requires listing { MayList (length run.ring.circuits.circuits) run.listing }
-    requires room { HasRoom (report_room run.listing (length run.ring.ids) (length run.ring.circuits.circuits)) 0 text.room }
-    requires some { 1 ≤ limit }
-    requires few { limit ≤ 65536 }
-    ensures ran { (left : HeldRing) × Lists adm_walk limit (listed run.listing) steps.now (world run.ring (P.fibres plant.old)) text.bytes result.text.bytes result.status (world left (P.fibres plant.new)) }
-    ensures room { 96 ≤ result.text.room }
-    ensures later { P.faults plant.old ≤ P.faults plant.new }
-    ensures failed { result.status ≡ Status.PlantFault → Rose (P.faults plant.old) (P.faults plant.new) }
-    ensures counted { IsCounted P.exact (result.status ≡ Status.PlantFault) (P.faults plant.old) (P.faults plant.new) }
-{
-    let status = run_script(&mut run, plant, steps, limit, &mut text);
-    Run { status, text }
-}
-
-// Makes the room, the ring and the fibres of a plan, and runs its script.
-fn run_new<P: Plant>(
-    alloc: Global,
-    plan: Plan,
-    plant: &mut P,
-    listing: Listing,
-) -> Result<Run, AllocError>
-    requires fresh { HasNoFibres (P.fibres plant.old) }
+// The run of a plan, before its fibres are there.
+fn new_run(alloc: Global, plan: Plan, listing: Listing) -> Result<NewRun<RingRun>, AllocError>
     requires listing { MayList (length plan.circuits) listing }
-    ensures came { IfOk result (λ run. Came plan listing (P.fibres plant.old) run.text.bytes run.status (P.fibres plant.new)) }
-    ensures failed { IfOk result (λ run. run.status ≡ Status.PlantFault → Rose (P.faults plant.old) (P.faults plant.new)) }
-    ensures counted { IfOk result (λ run. IsCounted P.exact (run.status ≡ Status.PlantFault) (P.faults plant.old) (P.faults plant.new)) }
-    ensures uncounted { OnErr result (P.exact ≡ true → P.faults plant.new ≡ P.faults plant.old) }
-    ensures later { P.faults plant.old ≤ P.faults plant.new }
-    ensures room { IfOk result (λ run. 96 ≤ run.text.room) }
-    ensures unsent { OnErr result (P.fibres plant.new ≡ P.fibres plant.old) }
+    ensures may { IfOk result (MayBegin ⟦<RingRun as Runner>⟧.ring ⟦<RingRun as Runner>⟧.room ⟦<RingRun as Runner>⟧.MayRun) }
+    ensures is_of { IfOk result (IsOf ⟦<RingRun as Runner>⟧.ring adm_account plan) }
+    ensures listing { IfOk result (λ run. run.runner.listing ≡ listing) }
 {
     let settings = plan.settings();
     let limit = plan.limit();
-    let text = Text::try_new(alloc, room_for(listing, plan.map(), plan.circuits()))?;
     let nodes = plan.map().len();
+    let text = text_for(alloc, report_room(listing, plan.map(), plan.circuits()))?;
     let (map, circuits, steps) = plan.into_parts();
     let ring = Ring::try_new(alloc, settings, map, circuits)?;
-    match plant.prepare(alloc, settings.rate, nodes) {
-        Ok(()) => Ok(run_from(RingRun { ring, listing }, plant, &steps, limit, text)),
-        Err(PrepareError::Memory) => Err(AllocError),
-        Err(PrepareError::Failed) => Ok(Run {
-            status: Status::PlantFault,
-            text,
-        }),
-    }
+    Ok(NewRun {
+        runner: RingRun { ring, listing },
+        rate: settings.rate,
+        nodes,
+        steps,
+        limit,
+        text,
+    })
 }
 
 /// Runs the script of a plan over new fibres and lists the reports. All memory is taken before the first round.
@@ -130,5 +83,6 @@ pub fn run_plan<P: Plant>(
     sdh_owed::healthy_scripts();
     sdh_course::courses_are_told();
     prove!(plan.steps().len() <= 1000);
-    run_new(alloc, plan, plant, listing)
+    let run = new_run(alloc, plan, listing)?;
+    start(alloc, plant, run)
 }

@@ -36,13 +36,8 @@ impl Runner for RingRun {
 
     ghost MayRun = { λ number steps r f. MayList (length r.ring.circuits.circuits) r.listing × MayRunRing 65536 number steps r.ring f };
 
-    fn change<P: Plant>(
-        &mut self,
-        plant: &mut P,
-        step: Step,
-        number: u32,
-    ) -> Result<(), PlantFault> {
-        change(&mut self.ring, plant, step, number)?;
+    fn change<P: Plant>(&mut self, plant: &mut P, step: Step) -> Result<(), PlantFault> {
+        change(&mut self.ring, plant, step)?;
         Ok(())
     }
 

@@ -1,5 +1,6 @@
--- What is so of an answer with Ok, from others that are.
-use Rattle.std.specs.Prelude.{Result, Ok, Err, IfOk}
+-- What is so of an answer, from others that are.
+use Rattle.std.proofs.Common.{◌≡◌, arith}
+use Rattle.std.specs.Prelude.{Result, Ok, Err, IfOk, OnErr}
 
 pub on_ok : {A E : Type 0} (r : Result A E) (P Q : A → Type 0) → ((a : A) → P a → Q a) → IfOk r P → IfOk r Q
 on_ok (Ok a) P Q h x = h a x
@@ -9,6 +10,11 @@ pub on_two : {A E : Type 0} (r : Result A E) (P Q R : A → Type 0) → ((a : A)
 on_two (Ok a) P Q R h x y = h a x y
 on_two (Err e) P Q R h x y = x
 
-pub on_three : {A E : Type 0} (r : Result A E) (P Q R S : A → Type 0) → ((a : A) → P a → Q a → R a → S a) → IfOk r P → IfOk r Q → IfOk r R → IfOk r S
-on_three (Ok a) P Q R S h x y z = h a x y z
-on_three (Err e) P Q R S h x y z = x
+-- what holds at all holds after an error
+pub err_by : {A E : Type 0} (r : Result A E) (P : Type 0) → P → OnErr r P
+err_by (Ok a) P p = tt
+err_by (Err e) P p = p
+
+-- an error that is passed on is that of the call
+pub err_as : {T U E : Type 0} (x y : E) (r : Result T E) → r ≡ Err x → ◌≡◌ {A = Result U E} (Err x) (Err y) → r ≡ Err y
+err_as x y r is e = grind arith

@@ -5,3 +5,5 @@ pub mod Outcomes
 pub mod Texts
 pub mod Ports
 pub mod Answered
+pub mod Lists
+pub mod Plans

@@ -1,5 +1,5 @@
--- The lines of one circuit more, and of ports that deliver the same.
-use Rattle.std.proofs.Common.{◌≡◌, ℕ, suc, ◌+◌, ◌<◌, List, [], ◌∷◌, ◌++◌, length, take, Some, refl, ap, sym, ◌∙◌, arith, append-nil}
+-- The ports of one circuit more, and ports that deliver the same.
+use Rattle.std.proofs.Common.{◌≡◌, ℕ, suc, ◌+◌, ◌*◌, ◌<◌, List, [], ◌∷◌, ◌++◌, length, take, Some, refl, ap, sym, ◌∙◌, arith, append-nil}
 use Rattle.std.specs.Prelude.{slice_get}
 use Rattle.std.specs.List.{flat_map}
 use Rattle.std.proofs.lemmas.Grind.{flat_map-append}
@@ -9,32 +9,37 @@ use Rattle.sdh_payload.specs.Outlet.{Outlet}
 use Rattle.sdh_circuits.specs.declared.End.{End}
 use Rattle.sdh_circuits.specs.declared.End.TheVariants.{A, B}
 use Rattle.sdh_circuits.specs.Provisioned.{Provisioned}
-use Rattle.sdh_report.specs.Reports.{told_line}
-use Rattle.sdh_scripts.specs.Ports.{line_at, lines_from}
+use Rattle.sdh_scripts.specs.Ports.{of_ports, lines_from}
 
-module _ (gives : ℕ → Provisioned → End → Outlet) where
-  lines-append : (i : ℕ) (xs ys : List Provisioned) → lines_from gives i (xs ++ ys) ≡ lines_from gives i xs ++ lines_from gives (i + length xs) ys
-  lines-append i [] ys = ap (λ j. lines_from gives j ys) (omega arith)
-  lines-append i (c ∷ xs) ys =
+module _ {L : Type 0} (tells : ℕ → Provisioned → End → L) where
+  ports-append : (i : ℕ) (xs ys : List Provisioned) → of_ports tells i (xs ++ ys) ≡ of_ports tells i xs ++ of_ports tells (i + length xs) ys
+  ports-append i [] ys = ap (λ j. of_ports tells j ys) (omega arith)
+  ports-append i (c ∷ xs) ys =
       let next : i + 1 + length xs ≡ i + length (c ∷ xs) = omega arith in
-      ap (λ l. line_at gives i c A ∷ line_at gives i c B ∷ l) (lines-append (i + 1) xs ys ∙ ap (λ j. lines_from gives (i + 1) xs ++ lines_from gives j ys) next)
+      ap (λ l. tells i c A ∷ tells i c B ∷ l) (ports-append (i + 1) xs ys ∙ ap (λ j. of_ports tells (i + 1) xs ++ of_ports tells j ys) next)
 
-  -- the lines of the first circuits, and those of the next one
-  lines_next : (cs : List Provisioned) (i : ℕ) (c : Provisioned) → i < length cs → slice_get cs i ≡ Some c
-      → lines_from gives 0 (take (i + 1) cs) ≡ lines_from gives 0 (take i cs) ++ line_at gives i c A ∷ line_at gives i c B ∷ []
-  lines_next cs i c lt get =
+  -- two of each circuit
+  pub length-ports : (i : ℕ) (cs : List Provisioned) → length (of_ports tells i cs) ≡ 2 * length cs
+  length-ports i [] = refl
+  length-ports i (c ∷ cs) = omega (arith, length-ports (i + 1) cs)
+
+  -- the ports of the first circuits, and those of the next one
+  pub ports_next : (cs : List Provisioned) (i : ℕ) (c : Provisioned) → i < length cs → slice_get cs i ≡ Some c
+      → of_ports tells 0 (take (i + 1) cs) ≡ of_ports tells 0 (take i cs) ++ tells i c A ∷ tells i c B ∷ []
+  ports_next cs i c lt get =
       let long : 0 + length (take i cs) ≡ i = omega (arith, length-take-le i cs) in
-      ap (lines_from gives 0) (take_more cs i c lt ∙ ap (λ x. take i cs ++ x ∷ []) (get_or_from_slice_get cs i c c get))
-      ∙ lines-append 0 (take i cs) (c ∷ []) ∙ ap (λ j. lines_from gives 0 (take i cs) ++ lines_from gives j (c ∷ [])) long
+      ap (of_ports tells 0) (take_more cs i c lt ∙ ap (λ x. take i cs ++ x ∷ []) (get_or_from_slice_get cs i c c get))
+      ∙ ports-append 0 (take i cs) (c ∷ []) ∙ ap (λ j. of_ports tells 0 (take i cs) ++ of_ports tells j (c ∷ [])) long
 
-  pub lines_more : (cs : List Provisioned) (i : ℕ) (c : Provisioned) → i < length cs → slice_get cs i ≡ Some c
-      → flat_map told_line (lines_from gives 0 (take (i + 1) cs)) ≡ flat_map told_line (lines_from gives 0 (take i cs)) ++ (told_line (line_at gives i c A) ++ told_line (line_at gives i c B))
-  lines_more cs i c lt get =
-      let a = told_line (line_at gives i c A) in
-      let b = told_line (line_at gives i c B) in
-      ap (flat_map told_line) (lines_next cs i c lt get)
-      ∙ flat_map-append told_line (lines_from gives 0 (take i cs)) (line_at gives i c A ∷ line_at gives i c B ∷ [])
-      ∙ ap (λ l. flat_map told_line (lines_from gives 0 (take i cs)) ++ (a ++ l)) (append-nil b)
+  -- their lines
+  pub ports_more : (line : L → List ℕ) (cs : List Provisioned) (i : ℕ) (c : Provisioned) → i < length cs → slice_get cs i ≡ Some c
+      → flat_map line (of_ports tells 0 (take (i + 1) cs)) ≡ flat_map line (of_ports tells 0 (take i cs)) ++ (line (tells i c A) ++ line (tells i c B))
+  ports_more line cs i c lt get =
+      let a = line (tells i c A) in
+      let b = line (tells i c B) in
+      ap (flat_map line) (ports_next cs i c lt get)
+      ∙ flat_map-append line (of_ports tells 0 (take i cs)) (tells i c A ∷ tells i c B ∷ [])
+      ∙ ap (λ l. flat_map line (of_ports tells 0 (take i cs)) ++ (a ++ l)) (append-nil b)
 
 -- where every port of these circuits, which are counted from i, delivers the same
 pub lines_same : (gives owes : ℕ → Provisioned → End → Outlet) (i : ℕ) (cs : List Provisioned) → ((k : ℕ) (c : Provisioned) → slice_get cs k ≡ Some c → (e : End) → gives (i + k) c e ≡ owes (i + k) c e)

@@ -5,3 +5,5 @@ pub mod Texts
 pub mod Runners
 pub mod Outcomes
 pub mod Laws
+pub mod Plans
+pub mod NewRuns

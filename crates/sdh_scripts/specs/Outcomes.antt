@@ -1,7 +1,9 @@
 -- What comes of a script over fibres that aren't there yet.
-use Rattle.std.specs.Prelude.{ℕ, ◌≡◌, ◌≢◌, ◌⊎◌, List, [], take}
+use Rattle.std.specs.Prelude.{ℕ, ◌≡◌, ◌≢◌, ◌⊎◌, List, [], length, take}
+use Rattle.std.specs.List.{flat_map}
 use Rattle.sdh_plant.specs.Fibres.{Fibres}
-use Rattle.sdh_rounds.specs.Held.{World}
+use Rattle.sdh_plant.specs.Calls.{prepared}
+use Rattle.sdh_rounds.specs.Held.{HeldRing, World, world}
 use Rattle.sdh_rounds.specs.Laws.{Appends}
 use Rattle.sdh_plan.specs.declared.step.Step.{Step}
 use Rattle.sdh_report.specs.declared.status.Status.{Status}
@@ -9,11 +11,21 @@ use Rattle.sdh_report.specs.declared.status.Status.TheVariants as status
 use Rattle.sdh_scripts.specs.Walks.{Walk}
 use Rattle.sdh_scripts.specs.Scripts.{Runs, Ran, sent_by}
 
+-- a ring over fibres that were just prepared for it
+abbrev pub with_fibres : {N : Type 0} → HeldRing N → Fibres → World N
+with_fibres r f = world r (prepared r.settings.rate (length r.ids) f)
+
 -- Over any plant: it made no fibres, and nothing ran; or these are the reports of what came of the steps from this world, which has the
 -- fibres that were prepared.
 abbrev pub Comes : {N T : Type 0} → Walk N T → ℕ → List Step → World N → Fibres → List T → Status → Fibres → Type 0
 Comes {N} walk limit steps w f reports end left =
     ((end ≡ status.PlantFault) × (reports ≡ []) × (left ≡ f)) ⊎ ((last : World N) × (last.fibres ≡ left) × Runs walk limit 0 steps w reports end last)
+
+-- the text is what is written of each report of what came, over any plant
+pub record Came {N T : Type 0} (walk : Walk N T) (limit : ℕ) (text_of : T → List ℕ) (steps : List Step) (w : World N) (f : Fibres) (text : List ℕ) (end : Status) (left : Fibres) : Type 0 where
+  pub reports : List T
+  pub text_is : text ≡ flat_map text_of reports
+  pub ran : Comes walk limit steps w f reports end left
 
 -- Where the arrivals are known it ended so: reports, ending and fibres are those that the script comes to, and with them all frames sent.
 pub record IsDone {N T : Type 0} (r : Ran N T) (reports : List T) (end : Status) (left : Fibres) : Type 0 where

@@ -1,16 +1,29 @@
--- The lines of a ring's ports, in the order of the circuits, a before b.
-use Rattle.std.specs.Prelude.{ℕ, ◌+◌, List, [], ◌∷◌}
+-- What is told of a ring's ports, in the order of the circuits, a before b.
+use Rattle.std.specs.Prelude.{ℕ, ◌+◌, ◌*◌, List, [], ◌∷◌}
 use Rattle.sdh_payload.specs.Outlet.{Outlet}
 use Rattle.sdh_circuits.specs.declared.End.{End}
 use Rattle.sdh_circuits.specs.declared.End.TheVariants.{A, B}
+use Rattle.sdh_circuits.specs.declared.PortId.{PortId}
 use Rattle.sdh_circuits.specs.Provisioned.{Provisioned}
 use Rattle.sdh_report.specs.Reports.{PortLine}
+
+-- the port at an end of the circuit of this number
+abbrev pub port_id : ℕ → End → PortId
+port_id index e = record { circuit = index; end = e }
+
+-- what is told of the ports of these circuits, which are counted from `index`, where `tells` tells it of one
+abbrev pub of_ports : {L : Type 0} → (ℕ → Provisioned → End → L) → ℕ → List Provisioned → List L
+of_ports tells index [] = []
+of_ports tells index (c ∷ cs) = tells index c A ∷ tells index c B ∷ of_ports tells (index + 1) cs
 
 -- the line of the port at an end of the circuit of this number, where `gives` tells what it delivers
 abbrev pub line_at : (ℕ → Provisioned → End → Outlet) → ℕ → Provisioned → End → PortLine
 line_at gives index c e = record { name = c.name; end = e; outlet = gives index c e }
 
--- those of these circuits, which are counted from `index`
+-- those of these circuits
 abbrev pub lines_from : (ℕ → Provisioned → End → Outlet) → ℕ → List Provisioned → List PortLine
-lines_from gives index [] = []
-lines_from gives index (c ∷ cs) = line_at gives index c A ∷ line_at gives index c B ∷ lines_from gives (index + 1) cs
+lines_from gives = of_ports (line_at gives)
+
+-- room enough for the line of a settle step and one for each port, with so many circuits: 96 bytes a line
+abbrev pub lines_room : ℕ → ℕ
+lines_room circuits = 96 + 192 * circuits

@@ -1,12 +1,17 @@
 //! Scripts over rings of any kind: `specs/Walks.antt` says what a kind of ring brings to a script, `specs/Scripts.antt` what comes
-//! of one, and `specs/Laws.antt` has the law. What runs a script is the trait `Runner`, and `run_script` runs it.
+//! of one, and `specs/Laws.antt` has the law. What runs a script is the trait `Runner`, and `run_script` runs it. `start` runs one
+//! over new fibres; what is told of a plan then is `Tells` in `specs/Plans.antt`.
 #![tactic(auto)]
 
 ghost use Rattle.sdh_scripts.specs.Laws.{KeepsRounds, KnownScripts};
 
+mod lines;
+mod run;
 mod runner;
 mod script;
 
+pub use lines::{lines_room, put_settle};
+pub use run::{NewRun, Run, start, text_for};
 pub use runner::Runner;
 pub use script::run_script;
 

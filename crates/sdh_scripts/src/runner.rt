@@ -36,11 +36,11 @@ pub trait Runner {
     ghost MayRun: { ℕ → List Step → Self → Fibres → Type 0 };
 
     /// What a step does that runs no round. A fault leaves the fibres as they were.
-    fn change<P: Plant>(&mut self, plant: &mut P, step: Step, number: u32) -> Result<(), PlantFault>
-        requires may { (later : List Step) × MayRun number (step ∷ later) self.old (P.fibres plant.old) }
+    fn change<P: Plant>(&mut self, plant: &mut P, step: Step) -> Result<(), PlantFault>
+        requires may { (number : ℕ) × (later : List Step) × MayRun number (step ∷ later) self.old (P.fibres plant.old) }
         requires other { step ≡ Step.Settle → ⊥ }
         ensures ok { OnOk result (world (ring self.new) (P.fibres plant.new) ≡ walk.does step (world (ring self.old) (P.fibres plant.old))) }
-        ensures next { OnOk result ((later : List Step) → MayRun number (step ∷ later) self.old (P.fibres plant.old) → MayRun number later self.new (P.fibres plant.new)) }
+        ensures next { OnOk result ((number : ℕ) (later : List Step) → MayRun number (step ∷ later) self.old (P.fibres plant.old) → MayRun number later self.new (P.fibres plant.new)) }
         ensures err { OnErr result (Refused step (P.fibres plant.old) (P.fibres plant.new)) }
         ensures writes { OnOk result (text_of self.new ≡ text_of self.old) }
         ensures same_room { OnOk result (room self.new ≡ room self.old) }

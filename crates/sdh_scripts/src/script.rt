@@ -42,7 +42,7 @@ fn run_step<R: Runner, P: Plant>(
             Err(SettleError::Unsettled) => Err(Status::Unsettled(number + 1)),
             Err(SettleError::PlantFault) => Err(Status::PlantFault),
         },
-        _ => match runner.change(plant, step, number) {
+        _ => match runner.change(plant, step) {
             Ok(()) => Ok(number),
             Err(_) => Err(Status::PlantFault),
         },

@@ -4,12 +4,11 @@ use Rattle.sdh_plant.specs.Fibres.{Fibres}
 use Rattle.sdh_plan.specs.Planned.{Planned}
 use Rattle.sdh_report.specs.declared.status.Status.{Status}
 use Rattle.sdh_report.specs.declared.status.Status.TheVariants as status
-use Rattle.sdh_scripts.proofs.Outcomes.{comes_ends}
+use Rattle.sdh_scripts.proofs.Plans.{ends_of}
 use Rattle.sdh_shell.specs.Calls.{HasRun}
 use Rattle.sdh_shell.specs.Failing.{Counts, HaveFailed}
 use Rattle.sdh_shell.proofs.Ends.{has_run, has_cause}
-use Rattle.sdh_sncp_script.specs.Walking.{path_walk}
-use Rattle.sdh_sncp_script.specs.Plans.{world_of}
+use Rattle.sdh_sncp_script.specs.Plans.{path_account}
 use Rattle.sdh_sncp_cli.specs.Outcome.{OfPlan, HasCause, IsOwn}
 use Rattle.sdh_sncp_cli.specs.declared.ending.Ending.{Ending}
 use Rattle.sdh_sncp_cli.specs.declared.ending.Ending.TheVariants as ending
@@ -25,7 +24,7 @@ pub plan_ends : (plan : Planned) (f left : Fibres) (how : Ending) (text : List �
 plan_ends plan f left ending.Usage text x = x
 plan_ends plan f left (ending.NoSuchStep step) text x = tt
 plan_ends plan f left (ending.SameSlot first second) text x = tt
-plan_ends plan f left (ending.Shared how) text x = has_run how (comes_ends path_walk plan.limit plan.steps (world_of plan f) f left x.2.reports how x.2.came.ran)
+plan_ends plan f left (ending.Shared how) text x = has_run how (ends_of path_account plan f left how x.2.reports x.2.came)
 
 -- such an ending is no other
 pub ends_otherwise : (how other : Ending) → Ends how → (Ends other → ⊥) → how ≢ other

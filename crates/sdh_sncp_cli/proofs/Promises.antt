@@ -4,10 +4,9 @@ use Rattle.std.specs.Prelude.{Option, IfSome, ◌⊎◌}
 use Rattle.std.specs.Io.KnownBytes.{Appends}
 use Rattle.sdh_plant.specs.Fibres.{Fibres}
 use Rattle.sdh_plan.specs.Planned.{Planned}
-use Rattle.sdh_report.specs.Reports.{text_of}
-use Rattle.sdh_report.specs.declared.listing.Listing.TheVariants as listing
 use Rattle.sdh_report.specs.declared.status.Status.{Status}
 use Rattle.sdh_report.specs.declared.status.Status.TheVariants as status
+use Rattle.sdh_scripts.proofs.Plans.{done_of}
 use Rattle.sdh_shell.specs.Calls.{is_run, AreRun}
 use Rattle.sdh_shell.specs.Reading.{told_if}
 use Rattle.sdh_shell.specs.Calls as shell
@@ -18,8 +17,7 @@ use Rattle.sdh_shell.proofs.Failing.{HasNotFailed, came_to_none}
 use Rattle.sdh_sncp.specs.Fixed.{AreAlone}
 use Rattle.sdh_sncp.specs.Sharing.{AreFirstToShare}
 use Rattle.sdh_sncp_script.specs.Steps.{first_strange, AreKnown}
-use Rattle.sdh_sncp_script.specs.Plans.{MaySettle}
-use Rattle.sdh_sncp_script.proofs.Plans.{done_comes}
+use Rattle.sdh_sncp_script.specs.Plans.{path_account, MaySettle}
 use Rattle.sdh_sncp_cli.specs.Endings.{number_of}
 use Rattle.sdh_sncp_cli.specs.Outcome.{IsRunOutcome, OfPlan, IsRefused, HasCause, MayEnd, IsOwn, CameTo, told, telling_of}
 use Rattle.sdh_sncp_cli.specs.Headline.{IsRunPlan, RanTo, HasRun, Delivers, EndsAsItRuns, Settles, MayBeDone}
@@ -137,7 +135,7 @@ module _ (words : List (List ℕ)) (bytes : List ℕ) (f left : Fibres) (reads c
     | inl fault ↦ absurd (fine_reads fault.1)
     | inr run ↦ (
         let caused : HasCause reads calls (ending.Shared run.status) = subst (HasCause reads calls) run.how_is cause in
-        let ok : run.status ≡ status.Ok = done_comes plan f left (text_of listing.Reports run.ran.reports) run.status (record { reports = run.ran.reports; text_is = refl; came = run.ran.came }) may
+        let ok : run.status ≡ status.Ok = done_of path_account plan f left run.status run.ran.reports run.ran.came may
         (λ fault. fine_calls (subst (λ s. HasCause reads calls (ending.Shared s)) fault caused)) in
         ap number_of (run.how_is ∙ ap ending.Shared ok))
   ]

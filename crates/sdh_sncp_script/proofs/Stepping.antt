@@ -3,33 +3,34 @@ use Rattle.std.proofs.Common.{◌≡◌, ◌≤◌, ℕ, ◌+◌, false, List, �
 use Rattle.sdh_plant.specs.Fibres.{Fibres, IsPrepared}
 use Rattle.sdh_plant.specs.Calls.{prepared}
 use Rattle.sdh_plant.proofs.Calling.{stay_prepared}
-use Rattle.sdh_circuits.specs.Provisioning.{Provisioning}
-use Rattle.sdh_request.specs.declared.settings.Settings.{Settings}
+use Rattle.sdh_terms.specs.declared.Rate.{Rate}
 use Rattle.sdh_rounds.proofs.Runs.{held_run}
 use Rattle.sdh_plan.specs.declared.step.Step.{Step}
 use Rattle.sdh_plan.specs.declared.step.Step.TheVariants as step
 use Rattle.sdh_plan.specs.Planned.{Planned, IsPlanned}
+use Rattle.sdh_scripts.specs.Ports.{lines_room}
+use Rattle.sdh_scripts.proofs.Plans.{as_planned}
 use Rattle.sdh_sncp.specs.Stations.{path_node}
-use Rattle.sdh_sncp.specs.Ring.{HeldPath, World, new_ring, Settles}
-use Rattle.sdh_sncp_script.specs.Reports.{report_room}
+use Rattle.sdh_sncp.specs.Ring.{HeldPath, World, Settles}
+use Rattle.sdh_sncp_script.specs.Walking.{does}
 use Rattle.sdh_sncp_script.specs.Steps.{AreKnown, MayDo}
 use Rattle.sdh_sncp_script.specs.Running.{MayRun}
+use Rattle.sdh_sncp_script.specs.Plans.{new_ring_of}
 use Rattle.sdh_sncp_script.proofs.Fits.{fits}
 
 -- ---- a new ring
 
--- the steps of a plan can be done in the ring that is made of it
-pub fits_made : (r : HeldPath) (s : Settings) (ids : List ℕ) (circuits : Provisioning) (steps : List Step) (plan : Planned) → r ≡ new_ring s ids circuits → s ≡ plan.settings → ids ≡ plan.nodes → steps ≡ plan.steps
-    → AreKnown plan.steps → IsPlanned plan → MayDo r.settings.rate (length r.ids) 0 steps
-fits_made r s ids circuits steps plan is a b c known form =
-    subst (λ (x : HeldPath). MayDo x.settings.rate (length x.ids) 0 steps) (sym is)
-    (subst (λ (t : Settings × List ℕ × List Step). MayDo t.0.rate (length t.1) 0 t.2) (sym (λ i. (a i, b i, c i))) (fits plan.settings.rate (length plan.nodes) (length plan.circuits) plan.steps known form.steps_fit))
-
--- over fibres that were just prepared for it
-pub prepared_made : (r : HeldPath) (s : Settings) (ids : List ℕ) (circuits : Provisioning) (n : ℕ) (f g : Fibres) → r ≡ new_ring s ids circuits → n ≡ length ids → 2 ≤ n → n ≤ 16 → g ≡ prepared s.rate n f → IsPrepared r.settings.rate (length r.ids) g
-prepared_made r s ids circuits n f g is size enough few made =
-    subst (λ (x : HeldPath). IsPrepared x.settings.rate (length x.ids) g) (sym is)
-    (subst (λ k. IsPrepared s.rate k g) size (subst (IsPrepared s.rate n) (sym made) (stay_prepared.prepared s.rate n f enough few)))
+-- the steps of a plan may be run over the ring that is made of it, and fibres that were just prepared for it
+pub may_new : (plan : Planned) (r : HeldPath) (rate : Rate) (n : ℕ) (steps : List Step) (f : Fibres) → IsPlanned plan → AreKnown plan.steps → r ≡ new_ring_of plan → rate ≡ plan.settings.rate → n ≡ length plan.nodes → steps ≡ plan.steps
+    → MayRun 0 steps r (prepared rate n f)
+may_new plan r rate n steps f form known ring rates size same =
+    as_planned (MayRun 0) plan (new_ring_of plan) r rate n steps f ring rates size same (record {
+      whole = refl;
+      prepared = stay_prepared.prepared plan.settings.rate (length plan.nodes) f form.nodes_fit.enough form.nodes_fit.few;
+      steps_fit = fits plan.settings.rate (length plan.nodes) (length plan.circuits) plan.steps known form.steps_fit;
+      few = omega arith;
+      rounds = omega arith;
+    })
 
 -- ---- a settle step
 
@@ -40,8 +41,8 @@ settled_held w left limit s = subst (λ (v : World). v.ring ≡ record w.ring { 
 pub settled_whole : (w left : World) (limit : ℕ) → Settles w limit left → w.ring.broken ≡ false → left.ring.broken ≡ false
 settled_whole w left limit s whole = ap (λ (r : HeldPath). r.broken) (settled_held w left limit s) ∙ whole
 
-pub settled_room : (w left : World) (limit : ℕ) → Settles w limit left → report_room (length left.ring.circuits.circuits) ≡ report_room (length w.ring.circuits.circuits)
-settled_room w left limit s = ap (λ (r : HeldPath). report_room (length r.circuits.circuits)) (settled_held w left limit s)
+pub settled_room : (w left : World) (limit : ℕ) → Settles w limit left → lines_room (length left.ring.circuits.circuits) ≡ lines_room (length w.ring.circuits.circuits)
+settled_room w left limit s = ap (λ (r : HeldPath). lines_room (length r.circuits.circuits)) (settled_held w left limit s)
 
 pub settled_next : (limit before : ℕ) (w left : World) → limit ≤ 65536 → Settles w limit left → IsPrepared w.ring.settings.rate (length w.ring.ids) left.fibres
     → (later : List Step) → MayRun before (step.Settle ∷ later) w.ring w.fibres → MayRun (before + 1) later left.ring left.fibres

@@ -1,5 +1,5 @@
 -- What the report of a settle step tells of the path ring that it left. No node has a line.
-use Rattle.std.specs.Prelude.{ℕ, ◌-◌, ◌+◌, ◌*◌, List, []}
+use Rattle.std.specs.Prelude.{ℕ, ◌-◌, List, []}
 use Rattle.sdh_payload.specs.Outlet.{Outlet}
 use Rattle.sdh_circuits.specs.declared.End.{End}
 use Rattle.sdh_circuits.specs.Provisioned.{Provisioned}
@@ -17,7 +17,3 @@ ports_told r = lines_from (delivered_at r) 0 r.circuits.circuits
 -- the report of settle step `number` that left this ring
 unfoldable pub report_of : ℕ → HeldPath → Report
 report_of number r = record { number = number; round = r.rounds - 1; nodes = []; ports = ports_told r }
-
--- room enough for the text of a report in a ring with so many circuits: 96 bytes a line
-abbrev pub report_room : ℕ → ℕ
-report_room circuits = 96 + 192 * circuits

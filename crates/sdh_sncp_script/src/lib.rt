@@ -10,5 +10,5 @@ mod script;
 mod steps;
 
 pub use laws::{path_scripts_settle, reports_are_due};
-pub use run::{Run, run_plan};
+pub use run::run_plan;
 pub use steps::first_strange;

@@ -1,14 +1,14 @@
 //! The text of a report.
-ghost use Rattle.std.specs.Prelude.{◌≡◌, ◌+◌, ◌-◌, ◌*◌, ◌≤◌, ◌<◌, ◌^◌, ◌++◌, Some, length, slice_get};
+ghost use Rattle.std.specs.Prelude.{◌≡◌, ◌+◌, ◌*◌, ◌≤◌, ◌<◌, ◌^◌, ◌++◌, Some, length, slice_get};
 ghost use Rattle.std.specs.List.{flat_map};
 ghost use Rattle.sdh_circuits.specs.declared.End.TheVariants.{A, B};
-ghost use Rattle.sdh_report.specs.Lines.{settle_line};
 ghost use Rattle.sdh_report.specs.Reports.{told_line, report_text};
-ghost use Rattle.sdh_scripts.specs.Ports.{line_at, lines_from};
-ghost use Rattle.sdh_sncp_script.specs.Reports.{delivered_at, ports_told, report_of, report_room};
+ghost use Rattle.sdh_scripts.specs.Ports.{line_at, lines_from, lines_room};
+ghost use Rattle.sdh_sncp_script.specs.Reports.{delivered_at, ports_told, report_of};
 
 use sdh_circuits::{Circuit, End, PortId};
 use sdh_report::Text;
+use sdh_scripts::put_settle;
 use sdh_sncp::PathRing;
 
 // The line of the port at an end of a circuit.
@@ -45,32 +45,14 @@ fn put_ports(text: &mut Text, ring: &PathRing)
     }
 }
 
-// The last round.
-fn last_round(ring: &PathRing) -> u64
-    requires { 1 ≤ ring.now.rounds }
-    ensures { result ≡ ring.now.rounds - 1 }
-{
-    ring.rounds() - 1
-}
-
-// The line of the settle step.
-fn put_settle(text: &mut Text, ring: &PathRing, number: u32)
-    requires ran { 1 ≤ ring.now.rounds }
-    requires room { 96 ≤ text.old.room }
-    ensures bytes { text.new.bytes ≡ text.old.bytes ++ settle_line number (ring.now.rounds - 1) }
-    ensures room { text.old.room ≤ text.new.room + 96 }
-{
-    text.settle_line(number, last_round(ring));
-}
-
 /// The report of settle step `number`, counted from 1.
 #[tactic(auto, unfolding(crate::specs::Reports::report_of))]
 pub fn put_report(text: &mut Text, ring: &PathRing, number: u32)
     requires ran { 1 ≤ ring.now.rounds }
-    requires room { report_room (length ring.now.circuits.circuits) ≤ text.old.room }
+    requires room { lines_room (length ring.now.circuits.circuits) ≤ text.old.room }
     ensures bytes { text.new.bytes ≡ text.old.bytes ++ report_text (report_of number ring.now) }
-    ensures room { text.old.room ≤ text.new.room + report_room (length ring.now.circuits.circuits) }
+    ensures room { text.old.room ≤ text.new.room + lines_room (length ring.now.circuits.circuits) }
 {
-    put_settle(text, ring, number);
+    put_settle(text, number, ring.rounds());
     put_ports(text, ring);
 }

@@ -1,86 +1,46 @@
-//! A whole run: the room, the ring and the fibres are made, and the script runs.
-ghost use Rattle.std.specs.Prelude.{◌≡◌, ℕ, ◌+◌, ◌*◌, ◌≤◌, true, length, Err, IfOk, IfErr, OnErr};
+//! A whole run: the room and the ring are made, and the script runs.
+ghost use Rattle.std.specs.Prelude.{◌≡◌, ℕ, ◌≤◌, true, Err, IfOk, OnErr};
 ghost use Rattle.sdh_basics.specs.Causes.{Rose, IsCounted};
 ghost use Rattle.sdh_plant.specs.Fibres.{HasNoFibres};
-ghost use Rattle.sdh_report.specs.Reports.{report_text};
-ghost use Rattle.sdh_scripts.specs.Texts.{HasRoom, Lists};
-ghost use Rattle.sdh_sncp.specs.Ring.{HeldPath, world};
+ghost use Rattle.sdh_scripts.specs.NewRuns.{MayBegin, IsOf};
 ghost use Rattle.sdh_sncp.specs.Fixed.{AreAlone};
 ghost use Rattle.sdh_sncp.specs.Sharing.{AreFirstToShare};
-ghost use Rattle.sdh_sncp_script.specs.Reports.{report_room};
-ghost use Rattle.sdh_sncp_script.specs.Walking.{path_walk};
 ghost use Rattle.sdh_sncp_script.specs.Steps.{AreKnown};
-ghost use Rattle.sdh_sncp_script.specs.Running.{MayRun};
-ghost use Rattle.sdh_sncp_script.specs.Plans.{MaySettle, Tells, Came};
+ghost use Rattle.sdh_sncp_script.specs.Plans.{path_account, MaySettle, Tells};
 
 use crate::script::PathRun;
-use sdh_plan::{Plan, Step};
-use sdh_plant::{Plant, PrepareError};
-use sdh_report::{Status, Text};
-use sdh_scripts::run_script;
+use sdh_plan::Plan;
+use sdh_plant::Plant;
+use sdh_report::Status;
+use sdh_scripts::{NewRun, Run, Runner, lines_room, start, text_for};
 use sdh_sncp::{PathError, PathRing};
 use std::alloc::Global;
 
-/// What a run wrote, and how it ended: `Ok`, `Unsettled` or `PlantFault`. There is room for one more line.
-#[derive(Debug, Drop)]
-pub struct Run {
-    pub status: Status,
-    pub text: Text,
-}
-
-// The script over a ring and its fibres.
-fn run_from<P: Plant>(
-    mut run: PathRun,
-    plant: &mut P,
-    steps: &[Step],
-    limit: u32,
-    mut text: Text,
-) -> Run
-    requires may { MayRun 0 steps.now run.ring (P.fibres plant.old) }
-    requires room { HasRoom (report_room (length run.ring.circuits.circuits)) 0 text.room }
-    requires some { 1 ≤ limit }
-    requires few { limit ≤ 65536 }
-    ensures ran { (left : HeldPath) × Lists path_walk limit report_text steps.now (world run.ring (P.fibres plant.old)) text.bytes result.text.bytes result.status (world left (P.fibres plant.new)) }
-    ensures room { 96 ≤ result.text.room }
-    ensures later { P.faults plant.old ≤ P.faults plant.new }
-    ensures failed { result.status ≡ Status.PlantFault → Rose (P.faults plant.old) (P.faults plant.new) }
-    ensures counted { IsCounted P.exact (result.status ≡ Status.PlantFault) (P.faults plant.old) (P.faults plant.new) }
-{
-    let status = run_script(&mut run, plant, steps, limit, &mut text);
-    Run { status, text }
-}
-
-// Makes the room, the ring and the fibres of a plan, and runs its script.
-fn run_new<P: Plant>(alloc: Global, plan: Plan, plant: &mut P) -> Result<Run, PathError>
-    requires fresh { HasNoFibres (P.fibres plant.old) }
+// The run of a plan, before its fibres are there.
+fn new_run(alloc: Global, plan: Plan) -> Result<NewRun<PathRun>, PathError>
     requires known { AreKnown plan.steps }
-    ensures came { IfOk result (λ run. Came plan (P.fibres plant.old) run.text.bytes run.status (P.fibres plant.new)) }
+    ensures may { IfOk result (MayBegin ⟦<PathRun as Runner>⟧.ring ⟦<PathRun as Runner>⟧.room ⟦<PathRun as Runner>⟧.MayRun) }
+    ensures is_of { IfOk result (IsOf ⟦<PathRun as Runner>⟧.ring path_account plan) }
     ensures alone { IfOk result (λ run. AreAlone plan.circuits) }
     ensures same_slot { (first second : ℕ) → result ≡ Err (PathError.SameSlot first second) → AreFirstToShare plan.circuits first second }
-    ensures failed { IfOk result (λ run. run.status ≡ Status.PlantFault → Rose (P.faults plant.old) (P.faults plant.new)) }
-    ensures counted { IfOk result (λ run. IsCounted P.exact (run.status ≡ Status.PlantFault) (P.faults plant.old) (P.faults plant.new)) }
-    ensures uncounted { OnErr result (P.exact ≡ true → P.faults plant.new ≡ P.faults plant.old) }
-    ensures later { P.faults plant.old ≤ P.faults plant.new }
-    ensures room { IfOk result (λ run. 96 ≤ run.text.room) }
-    ensures unsent { OnErr result (P.fibres plant.new ≡ P.fibres plant.old) }
 {
     let settings = plan.settings();
     let limit = plan.limit();
     let nodes = plan.map().len();
-    let text = Text::try_new(alloc, (96 + 192 * plan.circuits().len()) * 64 + 96)?;
+    let text = text_for(alloc, lines_room(plan.circuits()))?;
     let (map, circuits, steps) = plan.into_parts();
     let ring = match PathRing::try_new(alloc, settings, map, circuits) {
         Ok(ring) => ring,
         Err(refusal) => return Err(refusal),
     };
-    match plant.prepare(alloc, settings.rate, nodes) {
-        Ok(()) => Ok(run_from(PathRun { ring }, plant, &steps, limit, text)),
-        Err(PrepareError::Memory) => Err(PathError::Memory),
-        Err(PrepareError::Failed) => Ok(Run {
-            status: Status::PlantFault,
-            text,
-        }),
-    }
+    Ok(NewRun {
+        runner: PathRun { ring },
+        rate: settings.rate,
+        nodes,
+        steps,
+        limit,
+        text,
+    })
 }
 
 /// Runs the script of a plan over a path ring and new fibres. All memory is taken before the first round.
@@ -111,5 +71,10 @@ pub fn run_plan<P: Plant>(alloc: Global, plan: Plan, plant: &mut P) -> Result<Ru
     crate::laws::reports_are_due();
     crate::laws::path_scripts_settle();
     prove!(plan.steps().len() <= 1000);
-    run_new(alloc, plan, plant)
+    let begins = match new_run(alloc, plan) {
+        Ok(begins) => begins,
+        Err(refusal) => return Err(refusal),
+    };
+    let run = start(alloc, plant, begins)?;
+    Ok(run)
 }

@@ -1,8 +1,8 @@
 //! A path ring that a script is run over.
 ghost use Rattle.std.specs.Prelude.{length};
 ghost use Rattle.sdh_report.specs.Reports.{Report, report_text};
+ghost use Rattle.sdh_scripts.specs.Ports.{lines_room};
 ghost use Rattle.sdh_sncp.specs.Node.{PathNode};
-ghost use Rattle.sdh_sncp_script.specs.Reports.{report_room};
 ghost use Rattle.sdh_sncp_script.specs.Walking.{path_walk};
 ghost use Rattle.sdh_sncp_script.specs.Running.{MayRun as MayRunPath};
 
@@ -31,16 +31,11 @@ impl Runner for PathRun {
 
     ghost text_of = { λ r told. report_text told };
 
-    ghost room = { λ r. report_room (length r.ring.circuits.circuits) };
+    ghost room = { λ r. lines_room (length r.ring.circuits.circuits) };
 
     ghost MayRun = { λ number steps r f. MayRunPath number steps r.ring f };
 
-    fn change<P: Plant>(
-        &mut self,
-        plant: &mut P,
-        step: Step,
-        _number: u32,
-    ) -> Result<(), PlantFault> {
+    fn change<P: Plant>(&mut self, plant: &mut P, step: Step) -> Result<(), PlantFault> {
         match step {
             Step::Fibre(event) => Ok(plant.apply(event)?),
             _ => Ok(()),

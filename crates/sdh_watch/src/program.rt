@@ -1,7 +1,8 @@
 //! What the program does with a plan.
+ghost use Rattle.sdh_scripts.proofs.Plans.{ends_of};
 ghost use Rattle.sdh_shell.proofs.Ends.{has_run};
 ghost use Rattle.sdh_watching.specs.Shows.{Watched};
-ghost use Rattle.sdh_watch_script.proofs.Plans.{plan_ends_in};
+ghost use Rattle.sdh_watch_script.specs.Plans.{watch_account};
 ghost use Rattle.sdh_watch.specs.Headline.{watching};
 
 use sdh_calls::RunsPlans;
@@ -28,5 +29,5 @@ impl RunsPlans for Watching {
         Ok(ended(run.status, run.text))
     }
 
-    ghost ends = { λ plan f left told how x. has_run how (plan_ends_in plan f left told how x.ran) };
+    ghost ends = { λ plan f left told how x. has_run how (ends_of watch_account plan f left how told x) };
 }

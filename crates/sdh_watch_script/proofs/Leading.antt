@@ -3,7 +3,7 @@ use Rattle.std.proofs.Common.{◌≡◌, ℕ, zero, suc, ◌+◌, ◌≤◌, Lis
 use Rattle.std.specs.Prelude.{IsSome, slice_get, option_and_then, option_map}
 use Rattle.std.specs.Option.{option_map_or}
 use Rattle.std.proofs.lemmas.List.{length-map}
-use Rattle.std.proofs.lemmas.Option.{slice_get-map, same_Some}
+use Rattle.std.proofs.lemmas.Option.{slice_get-map, same_Some, slice_get_within}
 use Rattle.sdh_circuits.specs.declared.PortId.{PortId}
 use Rattle.sdh_circuits.specs.declared.End.TheVariants.{A, B}
 use Rattle.sdh_circuits.specs.Provisioned.{Provisioned, end_of}
@@ -24,10 +24,11 @@ use Rattle.sdh_rounds.proofs.Settling.{held_none}
 use Rattle.sdh_world.proofs.Keeping.{all_heard, all_next, has_fixed}
 use Rattle.sdh_world.proofs.Clocks.{clock_of, clocks_go_on}
 use Rattle.sdh_path.specs.History.{Given}
+use Rattle.sdh_scripts.proofs.Lists.{some_at}
+use Rattle.sdh_scripts.specs.Ports.{port_id}
 use Rattle.sdh_watch_script.specs.declared.ports.Both.{Both}
 use Rattle.sdh_watching.specs.Watching.{Lead, given_at}
-use Rattle.sdh_watch_script.specs.Ports.{port_id, AreWatching, AreFew, Looked, Shown}
-use Rattle.sdh_watch_script.proofs.Lists.{inside, some_at}
+use Rattle.sdh_watch_script.specs.Ports.{AreWatching, AreFew, Looked, Shown}
 
 -- ---- the ring
 
@@ -108,7 +109,7 @@ shown_more k w mid left old new shown is many each =
       watching = record {
         many = many ∙ shown.watching.many;
         each = λ i c after there at. (
-            let was = some_at old i (let h = inside new i after at in omega (arith, many)) in
+            let was = some_at old i (let h = slice_get_within new i after at in omega (arith, many)) in
             let looked = each i was.0 after was.1 at in
             let before = shown.watching.each i c was.0 there was.1 in
             record { at_a = looked.a c.b.trace (shown.heard (port_id i A)) before.at_a; at_b = looked.b c.a.trace (shown.heard (port_id i B)) before.at_b });
@@ -118,7 +119,7 @@ shown_more k w mid left old new shown is many each =
 pub few_more : (r : HeldRing) (k : ℕ) (old new : List Both) → AreFew k old → length new ≡ length old
     → ((i : ℕ) (before after : Both) → slice_get old i ≡ Some before → slice_get new i ≡ Some after → Looked r i before after) → AreFew (k + 1) new
 few_more r k old new few many each i after at =
-    let was = some_at old i (let h = inside new i after at in omega (arith, many)) in
+    let was = some_at old i (let h = slice_get_within new i after at in omega (arith, many)) in
     let looked = each i was.0 after was.1 at in
     let h = few i was.0 was.1 in
     (omega (arith, looked.few_a, h.0), omega (arith, looked.few_b, h.1))

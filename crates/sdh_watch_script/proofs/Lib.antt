@@ -1,6 +1,4 @@
 pub mod Short
-pub mod Lists
-pub mod Told
 pub mod Leading
 pub mod Steps
 pub mod Plans

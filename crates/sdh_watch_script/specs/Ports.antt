@@ -1,6 +1,5 @@
 -- What the watches on a ring's ports have come to.
 use Rattle.std.specs.Prelude.{ℕ, ◌≡◌, ◌+◌, ◌≤◌, Some, List, ◌∷◌, length, slice_get}
-use Rattle.sdh_circuits.specs.declared.End.{End}
 use Rattle.sdh_circuits.specs.declared.End.TheVariants.{A, B}
 use Rattle.sdh_circuits.specs.declared.PortId.{PortId}
 use Rattle.sdh_circuits.specs.Provisioned.{Provisioned}
@@ -8,11 +7,9 @@ use Rattle.sdh_world.specs.Held.{HeldRing}
 use Rattle.sdh_world.specs.Rounds.{World}
 use Rattle.sdh_path.specs.History.{Given}
 use Rattle.sdh_path.specs.Kept.{CameBy}
+use Rattle.sdh_scripts.specs.Ports.{port_id}
 use Rattle.sdh_watching.specs.Watching.{given_at, Lead}
 use Rattle.sdh_watch_script.specs.declared.ports.Both.{Both}
-
-abbrev pub port_id : ℕ → End → PortId
-port_id index e = record { circuit = index; end = e }
 
 -- the watches on both ports of a circuit have come to what they keep by what they were given; each expects the trace of
 -- the other port

@@ -1,14 +1,10 @@
 -- When a script may be run with watches.
-use Rattle.std.specs.Prelude.{ℕ, ◌≡◌, ◌+◌, ◌*◌, List, length}
+use Rattle.std.specs.Prelude.{ℕ, ◌≡◌, List, length}
 use Rattle.sdh_plant.specs.Fibres.{Fibres}
 use Rattle.sdh_world.specs.Held.{HeldRing}
 use Rattle.sdh_plan.specs.declared.step.Step.{Step}
 use Rattle.sdh_script.specs.Running as ring
 use Rattle.sdh_watch_script.specs.declared.ports.Both.{Both}
-
--- room enough for the lines of a settle step with so many circuits: 96 bytes a line
-abbrev pub lines_room : ℕ → ℕ
-lines_room circuits = 96 + 192 * circuits
 
 -- These steps may be run over a ring and fibres after `before` settle steps that have ended: no settle step had more than 65,536
 -- rounds and 128 that were watched, and there are watches for all ports.

@@ -9,4 +9,4 @@ mod ports;
 mod run;
 mod script;
 
-pub use run::{Run, run_plan};
+pub use run::run_plan;

@@ -17,7 +17,7 @@ ghost use Rattle.sdh_watch_script.specs.Ports.{IsWatching, AreWatching, AreFew, 
 ghost use Rattle.sdh_watch_script.specs.declared.ports.Both.{Both};
 
 use crate::lines::watch_line;
-use sdh_circuits::{Circuit, CircuitMap, End, Name, PortId};
+use sdh_circuits::{Circuit, CircuitMap, End, PortId};
 use sdh_path::Watch;
 use sdh_payload::Delivered;
 use sdh_plant::Plant;
@@ -162,17 +162,6 @@ pub fn watch_rounds<P: Plant>(
     Ok(())
 }
 
-// The name of a circuit, which has at most 16 bytes.
-#[tactic(auto, unfolding(sdh_circuits::specs::Naming::is_name))]
-fn name_of(circuit: &Circuit) -> &Name
-    ensures name { result.now ≡ circuit.now.name }
-    ensures short { length result.now ≤ 16 }
-{
-    let name = circuit.name();
-    prove!(name.as_slice().len() <= 16);
-    name
-}
-
 // The line of the watch on a port.
 fn put_watch(text: &mut Text, ring: &Ring, circuit: u8, named: &Circuit, end: End, watch: &Watch)
     requires inside { circuit < length ring.now.circuits.circuits }
@@ -182,7 +171,7 @@ fn put_watch(text: &mut Text, ring: &Ring, circuit: u8, named: &Circuit, end: En
 {
     let port = PortId { circuit, end };
     let report = watch.report();
-    watch_line(text, name_of(named), end, ring.port(port), &report);
+    watch_line(text, named.name(), end, ring.port(port), &report);
 }
 
 // The lines of the watches on both ports of a circuit.

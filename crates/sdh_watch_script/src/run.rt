@@ -1,87 +1,39 @@
-//! A whole run: the room, the watches, the ring and the fibres are made, and the script runs.
-ghost use Rattle.std.specs.Prelude.{◌≡◌, ◌+◌, ◌*◌, ◌≤◌, true, length, IfOk, OnErr};
+//! A whole run: the room, the watches and the ring are made, and the script runs.
+ghost use Rattle.std.specs.Prelude.{◌≡◌, ◌≤◌, true, IfOk, OnErr};
 ghost use Rattle.sdh_basics.specs.Causes.{Rose, IsCounted};
 ghost use Rattle.sdh_plant.specs.Fibres.{HasNoFibres};
-ghost use Rattle.sdh_world.specs.Held.{HeldRing};
-ghost use Rattle.sdh_world.specs.Rounds.{world};
-ghost use Rattle.sdh_scripts.specs.Texts.{HasRoom, Lists};
-ghost use Rattle.sdh_watching.specs.Scripts.{watch_walk};
-ghost use Rattle.sdh_watch_script.specs.Lines.{watched_text};
-ghost use Rattle.sdh_watch_script.specs.Running.{lines_room, MayRun};
-ghost use Rattle.sdh_watch_script.specs.Plans.{MaySettle, Tells, Came};
+ghost use Rattle.sdh_scripts.specs.NewRuns.{MayBegin, IsOf};
+ghost use Rattle.sdh_watch_script.specs.Plans.{watch_account, MaySettle, Tells};
 
 use crate::ports::new_watches;
 use crate::script::WatchRun;
-use sdh_circuits::CircuitMap;
-use sdh_plan::{Plan, Step};
-use sdh_plant::{Plant, PrepareError};
-use sdh_report::{Status, Text};
+use sdh_plan::Plan;
+use sdh_plant::Plant;
+use sdh_report::Status;
 use sdh_ring::Ring;
-use sdh_scripts::run_script;
+use sdh_scripts::{NewRun, Run, Runner, lines_room, start, text_for};
 use std::alloc::{AllocError, Global};
 
-/// What a run wrote, and how it ended: `Ok`, `Unsettled` or `PlantFault`. There is room for one more line.
-#[derive(Debug, Drop)]
-pub struct Run {
-    pub status: Status,
-    pub text: Text,
-}
-
-// Room for the lines of 64 settle steps, and a last line, in bytes.
-fn room_for(circuits: &CircuitMap) -> usize
-    ensures { result ≡ lines_room (length circuits.now.circuits) * 64 + 96 }
-{
-    (96 + 192 * circuits.len()) * 64 + 96
-}
-
-// The script over a ring and its fibres.
-fn run_from<P: Plant>(
-    mut run: WatchRun,
-    plant: &mut P,
-    steps: &[Step],
-    limit: u32,
-    mut text: Text,
-) -> Run
-    requires may { MayRun 0 steps.now run.ring run.watches.items (P.fibres plant.old) }
-    requires room { HasRoom (lines_room (length run.ring.circuits.circuits)) 0 text.room }
-    requires some { 1 ≤ limit }
-    requires few { limit ≤ 65536 }
-    ensures ran { (left : HeldRing) × Lists watch_walk limit watched_text steps.now (world run.ring (P.fibres plant.old)) text.bytes result.text.bytes result.status (world left (P.fibres plant.new)) }
-    ensures room { 96 ≤ result.text.room }
-    ensures later { P.faults plant.old ≤ P.faults plant.new }
-    ensures failed { result.status ≡ Status.PlantFault → Rose (P.faults plant.old) (P.faults plant.new) }
-    ensures counted { IsCounted P.exact (result.status ≡ Status.PlantFault) (P.faults plant.old) (P.faults plant.new) }
-{
-    let status = run_script(&mut run, plant, steps, limit, &mut text);
-    Run { status, text }
-}
-
-// Makes the room, the watches, the ring and the fibres of a plan, and runs its script.
-fn run_new<P: Plant>(alloc: Global, plan: Plan, plant: &mut P) -> Result<Run, AllocError>
-    requires fresh { HasNoFibres (P.fibres plant.old) }
-    ensures came { IfOk result (λ run. Came plan (P.fibres plant.old) run.text.bytes run.status (P.fibres plant.new)) }
-    ensures failed { IfOk result (λ run. run.status ≡ Status.PlantFault → Rose (P.faults plant.old) (P.faults plant.new)) }
-    ensures counted { IfOk result (λ run. IsCounted P.exact (run.status ≡ Status.PlantFault) (P.faults plant.old) (P.faults plant.new)) }
-    ensures uncounted { OnErr result (P.exact ≡ true → P.faults plant.new ≡ P.faults plant.old) }
-    ensures later { P.faults plant.old ≤ P.faults plant.new }
-    ensures room { IfOk result (λ run. 96 ≤ run.text.room) }
-    ensures unsent { OnErr result (P.fibres plant.new ≡ P.fibres plant.old) }
+// The run of a plan, before its fibres are there.
+fn new_run(alloc: Global, plan: Plan) -> Result<NewRun<WatchRun>, AllocError>
+    ensures may { IfOk result (MayBegin ⟦<WatchRun as Runner>⟧.ring ⟦<WatchRun as Runner>⟧.room ⟦<WatchRun as Runner>⟧.MayRun) }
+    ensures is_of { IfOk result (IsOf ⟦<WatchRun as Runner>⟧.ring watch_account plan) }
 {
     let settings = plan.settings();
     let limit = plan.limit();
-    let text = Text::try_new(alloc, room_for(plan.circuits()))?;
+    let text = text_for(alloc, lines_room(plan.circuits()))?;
     let watches = new_watches(alloc, plan.circuits())?;
     let nodes = plan.map().len();
     let (map, circuits, steps) = plan.into_parts();
     let ring = Ring::try_new(alloc, settings, map, circuits)?;
-    match plant.prepare(alloc, settings.rate, nodes) {
-        Ok(()) => Ok(run_from(WatchRun { ring, watches }, plant, &steps, limit, text)),
-        Err(PrepareError::Memory) => Err(AllocError),
-        Err(PrepareError::Failed) => Ok(Run {
-            status: Status::PlantFault,
-            text,
-        }),
-    }
+    Ok(NewRun {
+        runner: WatchRun { ring, watches },
+        rate: settings.rate,
+        nodes,
+        steps,
+        limit,
+        text,
+    })
 }
 
 /// Runs the script of a plan over new fibres, with its watches. All memory is taken before the first round.
@@ -110,5 +62,6 @@ pub fn run_plan<P: Plant>(alloc: Global, plan: Plan, plant: &mut P) -> Result<Ru
     sdh_watching::scripts_settle();
     // Reading it gives the proof what is true of every plan.
     let _steps = plan.steps();
-    run_new(alloc, plan, plant)
+    let run = new_run(alloc, plan)?;
+    start(alloc, plant, run)
 }

@@ -1,16 +1,16 @@
 //! A ring that a script is run over with watches.
-ghost use Rattle.std.specs.Prelude.{◌≡◌, ◌+◌, ◌-◌, ◌≤◌, ◌++◌, List, length};
+ghost use Rattle.std.specs.Prelude.{◌≡◌, ◌+◌, ◌≤◌, ◌++◌, List, length};
 ghost use Rattle.sdh_circuits.specs.declared.PortId.{PortId};
 ghost use Rattle.sdh_node.specs.Node.{Node as AddDrop};
 ghost use Rattle.sdh_world.specs.Held.{HeldRing};
 ghost use Rattle.sdh_path.specs.History.{Given};
-ghost use Rattle.sdh_report.specs.Lines.{settle_line};
 ghost use Rattle.sdh_watching.specs.Shows.{Watched};
 ghost use Rattle.sdh_watching.specs.Watching.{watched};
 ghost use Rattle.sdh_watching.specs.Scripts.{watch_walk};
 ghost use Rattle.sdh_watch_script.specs.Lines.{watched_text};
 ghost use Rattle.sdh_watch_script.specs.Ports.{AreWatching};
-ghost use Rattle.sdh_watch_script.specs.Running.{lines_room, MayRun as MayWatch};
+ghost use Rattle.sdh_scripts.specs.Ports.{lines_room};
+ghost use Rattle.sdh_watch_script.specs.Running.{MayRun as MayWatch};
 
 use crate::ports::{Both, put_watches, watch_rounds};
 use sdh_plan::Step;
@@ -18,7 +18,7 @@ use sdh_plant::Plant;
 use sdh_report::Text;
 use sdh_ring::{PlantFault, Ring, SettleError};
 use sdh_script::change;
-use sdh_scripts::Runner;
+use sdh_scripts::{Runner, put_settle};
 
 /// A ring, and the watches on its ports.
 #[derive(Drop)]
@@ -27,31 +27,15 @@ pub struct WatchRun {
     pub watches: Vec<Both>,
 }
 
-// The last round.
-fn last_round(ring: &Ring) -> u64
-    requires { 1 ≤ ring.now.rounds }
-    ensures { result ≡ ring.now.rounds - 1 }
-{
-    ring.rounds() - 1
-}
-
-// The line of a settle step that ended with that round.
-fn put_settle(text: &mut Text, number: u32, last: u64)
-    requires room { 96 ≤ text.old.room }
-    ensures bytes { text.new.bytes ≡ text.old.bytes ++ settle_line number last }
-    ensures room { text.old.room ≤ text.new.room + 96 }
-{
-    text.settle_line(number, last);
-}
-
-// The line of a settle step that ended with that round, and those of its watches.
-fn put_step(text: &mut Text, ring: &Ring, number: u32, last: u64, watches: &Vec<Both>)
+// The line of a settle step that left a ring in which so many rounds had run, and those of its watches.
+fn put_step(text: &mut Text, ring: &Ring, number: u32, rounds: u64, watches: &Vec<Both>)
+    requires ran { 1 ≤ rounds }
     requires many { length watches.now.items ≡ length ring.now.circuits.circuits }
     requires room { lines_room (length ring.now.circuits.circuits) ≤ text.old.room }
-    ensures bytes { (mid : HeldRing) (heard : PortId → List Given) → last ≡ mid.rounds - 1 → AreWatching ring.now.circuits.circuits heard watches.now.items → text.new.bytes ≡ text.old.bytes ++ watched_text (watched number mid ring.now heard) }
+    ensures bytes { (mid : HeldRing) (heard : PortId → List Given) → rounds ≡ mid.rounds → AreWatching ring.now.circuits.circuits heard watches.now.items → text.new.bytes ≡ text.old.bytes ++ watched_text (watched number mid ring.now heard) }
     ensures room { text.old.room ≤ text.new.room + lines_room (length ring.now.circuits.circuits) }
 {
-    put_settle(text, number, last);
+    put_settle(text, number, rounds);
     put_watches(text, ring, watches);
 }
 
@@ -70,13 +54,8 @@ impl Runner for WatchRun {
 
     ghost MayRun = { λ number steps r f. MayWatch number steps r.ring r.watches.items f };
 
-    fn change<P: Plant>(
-        &mut self,
-        plant: &mut P,
-        step: Step,
-        number: u32,
-    ) -> Result<(), PlantFault> {
-        change(&mut self.ring, plant, step, number)?;
+    fn change<P: Plant>(&mut self, plant: &mut P, step: Step) -> Result<(), PlantFault> {
+        change(&mut self.ring, plant, step)?;
         Ok(())
     }
 
@@ -88,10 +67,10 @@ impl Runner for WatchRun {
         text: &mut Text,
     ) -> Result<(), SettleError> {
         self.ring.settle(plant, limit)?;
-        let last = last_round(&self.ring);
+        let rounds = self.ring.rounds();
         match watch_rounds(&mut self.ring, plant, &mut self.watches) {
             Ok(()) => {
-                put_step(text, &self.ring, number + 1, last, &self.watches);
+                put_step(text, &self.ring, number + 1, rounds, &self.watches);
                 Ok(())
             }
             Err(_) => Err(SettleError::PlantFault),

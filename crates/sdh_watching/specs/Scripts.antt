@@ -29,6 +29,3 @@ Watches = scripts.Runs watch_walk
 -- what a script comes to where arrivals are known
 abbrev pub Ran : Type 0
 Ran = scripts.Ran Node Watched
-
-abbrev pub script : ℕ → ℕ → List Step → World → Ran
-script = scripts.script watch_walk

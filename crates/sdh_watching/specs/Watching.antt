@@ -1,7 +1,6 @@
 -- What rounds show to the watches on a ring's ports.
 use Rattle.std.specs.Prelude.{ℕ, zero, suc, ◌≡◌, ◌+◌, ◌-◌, ◌<◌, ◌==◌, if◌then◌else◌, List, [], ◌∷◌, length}
 use Rattle.sdh_circuits.specs.declared.End.{End}
-use Rattle.sdh_circuits.specs.declared.End.TheVariants.{A, B}
 use Rattle.sdh_circuits.specs.declared.PortId.{PortId}
 use Rattle.sdh_circuits.specs.Ends.{other_end}
 use Rattle.sdh_circuits.specs.Provisioned.{Provisioned, customer_at}
@@ -13,6 +12,7 @@ use Rattle.sdh_world.specs.Rounds.{World}
 use Rattle.sdh_world.specs.Runs.{IsRound, IsBrokenOff}
 use Rattle.sdh_path.specs.History.{Given, Chunk, Ais}
 use Rattle.sdh_path.specs.Report.{report_of}
+use Rattle.sdh_scripts.specs.Ports.{of_ports}
 use Rattle.sdh_watching.specs.Shows.{shown, WatchLine, Watched}
 
 -- ---- rounds
@@ -57,8 +57,7 @@ port_watched r heard index c e = (let port : PortId = record { circuit = index; 
 
 -- those of these circuits, which are counted from `index`
 abbrev pub ports_watched : HeldRing → (PortId → List Given) → ℕ → List Provisioned → List WatchLine
-ports_watched r heard index [] = []
-ports_watched r heard index (c ∷ cs) = port_watched r heard index c A ∷ port_watched r heard index c B ∷ ports_watched r heard (index + 1) cs
+ports_watched r heard = of_ports (port_watched r heard)
 
 -- of settle step `number`, which ended with the first of these rings, and the rounds to the second
 abbrev pub watched : ℕ → HeldRing → HeldRing → (PortId → List Given) → Watched

@@ -1,5 +1,5 @@
 use Rattle.std.proofs.lemmas.Result.{IfOk-weaker}
-use Rattle.sdh_script.proofs.Plans.{on_two}
+use Rattle.sdh_scripts.proofs.Answered.{on_two}
 use Rattle.sdh_cli.specs.Words.{ask_of}
 use Rattle.sdh_cli.proofs.Endings.{plan_ends}
 use Rattle.sdh_shell.specs.Failing.{Counts}

@@ -3,9 +3,9 @@ use Rattle.std.specs.Prelude.{slice_get}
 use Rattle.std.proofs.Math.ListN.{length-set}
 use Rattle.std.proofs.lemmas.Option.{same_Some, slice_get_read, slice_get_within}
 use Rattle.sdh_circuits.specs.Provisioning.{Provisioning}
+use Rattle.sdh_scripts.proofs.Lists.{set_upto, set_behind}
 use Rattle.sdh_outage_script.specs.declared.ports.Both.{Both}
 use Rattle.sdh_outage_script.specs.Ports.{HaveBegun}
-use Rattle.sdh_outage_script.proofs.Lists.{set_upto, set_behind}
 use Rattle.sdh_outage_script.proofs.ports.begin_all.Goals as goal
 
 pub loop-i-preserved : goal.loop-i-preserved

@@ -4,8 +4,8 @@ use Rattle.std.specs.List.{flat_map}
 use Rattle.sdh_circuits.specs.Provisioning.{Provisioning}
 use Rattle.sdh_circuits.specs.declared.End.TheVariants.{A, B}
 use Rattle.sdh_report.specs.Reports.{told_line}
+use Rattle.sdh_scripts.proofs.Ports.{ports_more}
 use Rattle.sdh_owed.specs.Reports.{ports_from, port_told}
-use Rattle.sdh_script.proofs.Told.{ports_more}
 use Rattle.sdh_script.proofs.reports.put_ports.Goals as goal
 
 pub loop-i-preserved : goal.loop-i-preserved
@@ -23,6 +23,6 @@ loop-i-preserved c =
       bytes = c.put_circuit.ensures.bytes
           ∙ ap (λ l. l ++ lines) c.loop-i.invariant.bytes
           ∙ append_assoc c.args.text.now.bytes before lines
-          ∙ ap (λ l. c.args.text.now.bytes ++ l) (sym (ports_more r cs i named lt get));
+          ∙ ap (λ l. c.args.text.now.bytes ++ l) (sym (ports_more (port_told r) told_line cs i named lt get));
       room = omega (arith, c.put_circuit.ensures.room, c.loop-i.invariant.room);
     }

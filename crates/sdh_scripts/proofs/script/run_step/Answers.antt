@@ -20,3 +20,6 @@ settle-requires-clause-room g c =
     let later = c.requires.may.0 in
     let may = subst (λ (s : Step). g.R.Runner.MayRun c.args.number (s ∷ later) c.args.runner.now (means c.args.plant.now)) c.in-Settle.is c.requires.may.1 in
     room_now (g.R.Runner.room c.args.runner.now) c.args.number c.args.text.now.room (g.met.R.Runner.few c.args.number later c.args.runner.now (means c.args.plant.now) may) c.requires.room
+
+pub change-requires-clause-may : goal.change-requires-clause-may
+change-requires-clause-may g c = (c.args.number, c.requires.may.0, c.requires.may.1)

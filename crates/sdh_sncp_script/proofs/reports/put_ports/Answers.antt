@@ -5,7 +5,7 @@ use Rattle.sdh_circuits.specs.Provisioning.{Provisioning}
 use Rattle.sdh_circuits.specs.declared.End.TheVariants.{A, B}
 use Rattle.sdh_report.specs.Reports.{told_line}
 use Rattle.sdh_scripts.specs.Ports.{lines_from, line_at}
-use Rattle.sdh_scripts.proofs.Ports.{lines_more}
+use Rattle.sdh_scripts.proofs.Ports.{ports_more}
 use Rattle.sdh_sncp_script.specs.Reports.{delivered_at}
 use Rattle.sdh_sncp_script.proofs.reports.put_ports.Goals as goal
 
@@ -25,6 +25,6 @@ loop-i-preserved c =
       bytes = c.put_circuit.ensures.bytes
           ∙ ap (λ l. l ++ lines) c.loop-i.invariant.bytes
           ∙ append_assoc c.args.text.now.bytes before lines
-          ∙ ap (λ l. c.args.text.now.bytes ++ l) (sym (lines_more gives cs i named lt get));
+          ∙ ap (λ l. c.args.text.now.bytes ++ l) (sym (ports_more (line_at gives) told_line cs i named lt get));
       room = omega (arith, c.put_circuit.ensures.room, c.loop-i.invariant.room);
     }

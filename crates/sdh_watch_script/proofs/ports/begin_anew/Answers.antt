@@ -1,10 +1,10 @@
 use Rattle.std.proofs.Common.{◌≡◌, ◌<◌, ◌≤◌, length, Some, [], sym, subst, ◌∙◌, arith}
 use Rattle.std.specs.Prelude.{slice_get}
 use Rattle.std.proofs.Math.ListN.{length-set}
-use Rattle.std.proofs.lemmas.Option.{same_Some}
+use Rattle.std.proofs.lemmas.Option.{same_Some, slice_get_within}
 use Rattle.sdh_circuits.specs.Provisioned.{Provisioned}
+use Rattle.sdh_scripts.proofs.Lists.{set_upto}
 use Rattle.sdh_watch_script.specs.Ports.{IsWatching}
-use Rattle.sdh_watch_script.proofs.Lists.{set_upto, inside}
 use Rattle.sdh_watch_script.proofs.ports.begin_anew.Goals as goal
 
 pub loop-i-preserved : goal.loop-i-preserved
@@ -27,8 +27,8 @@ returns-clause-new c =
     let inv = c.loop-i.invariant in
     record {
       many = inv.len;
-      each = λ j x both there at. inv.new j both (let h = inside c.loop-i.watches.items j both at in omega arith) at x there;
+      each = λ j x both there at. inv.new j both (let h = slice_get_within c.loop-i.watches.items j both at in omega arith) at x there;
     }
 
 pub returns-clause-few : goal.returns-clause-few
-returns-clause-few c = λ j both at. c.loop-i.invariant.few j both (let h = inside c.loop-i.watches.items j both at in omega arith) at
+returns-clause-few c = λ j both at. c.loop-i.invariant.few j both (let h = slice_get_within c.loop-i.watches.items j both at in omega arith) at

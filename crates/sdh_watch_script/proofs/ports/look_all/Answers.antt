@@ -1,11 +1,11 @@
 use Rattle.std.proofs.Common.{◌≡◌, ◌<◌, length, Some, refl, ap, sym, subst, ◌∙◌, arith}
 use Rattle.std.specs.Prelude.{slice_get}
 use Rattle.std.proofs.Math.ListN.{length-set}
-use Rattle.std.proofs.lemmas.Option.{same_Some, slice_get_read}
+use Rattle.std.proofs.lemmas.Option.{same_Some, slice_get_read, slice_get_within}
 use Rattle.sdh_circuits.specs.Provisioning.{Provisioning}
+use Rattle.sdh_scripts.proofs.Lists.{set_upto, set_behind}
 use Rattle.sdh_watch_script.specs.declared.ports.Both.{Both}
 use Rattle.sdh_watch_script.specs.Ports.{Looked}
-use Rattle.sdh_watch_script.proofs.Lists.{set_upto, set_behind, inside}
 use Rattle.sdh_watch_script.proofs.ports.look_all.Goals as goal
 
 pub look_both-requires-clause-few : goal.look_both-requires-clause-few
@@ -40,4 +40,4 @@ loop-i-preserved c =
 pub returns-clause-each : goal.returns-clause-each
 returns-clause-each c =
     let size : length c.circuits.result.now.circuits ≡ length c.args.ring.now.circuits.circuits = ap (λ (p : Provisioning). length p.circuits) c.circuits.ensures in
-    λ i before after was at. c.loop-i.invariant.each i after (let h = inside c.loop-i.watches.items i after at in omega (arith, h, size, c.loop-i-test.false, c.len-i-end.ensures.len, c.loop-i.invariant.len, c.requires.many)) at before was
+    λ i before after was at. c.loop-i.invariant.each i after (let h = slice_get_within c.loop-i.watches.items i after at in omega (arith, h, size, c.loop-i-test.false, c.len-i-end.ensures.len, c.loop-i.invariant.len, c.requires.many)) at before was

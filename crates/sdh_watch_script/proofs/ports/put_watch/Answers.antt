@@ -11,7 +11,7 @@ use Rattle.sdh_watch_script.proofs.ports.put_watch.Goals as goal
 pub watch_line-requires : goal.watch_line-requires
 watch_line-requires c =
     let r = c.report-report.result in
-    omega (arith, c.requires.room, short-watch_line c.name_of.result.now c.args.end c.port.result.now r c.name_of.ensures.short (omega arith) (omega arith) (omega arith))
+    omega (arith, c.requires.room, short-watch_line c.name.result.now c.args.end c.port.result.now r c.name.ensures.short (omega arith) (omega arith) (omega arith))
 
 pub returns-clause-bytes : goal.returns-clause-bytes
 returns-clause-bytes c = λ heard came. (
@@ -19,11 +19,11 @@ returns-clause-bytes c = λ heard came. (
     let trace = (customer_at c.args.named.now (other_end c.args.end)).trace in
     let past = heard (record { circuit = c.args.circuit; end = c.args.end }) in
     ap (λ (w : Written). w.bytes) c.watch_line.ensures
-    ∙ ap (λ r. old ++ watch_line c.name_of.result.now c.args.end (shown c.port.result.now r)) (c.report-report.ensures.history trace past came)
-    ∙ ap₂ (λ n d. old ++ watch_line n c.args.end (shown d (report_of trace past))) c.name_of.ensures.name c.port.ensures)
+    ∙ ap (λ r. old ++ watch_line c.name.result.now c.args.end (shown c.port.result.now r)) (c.report-report.ensures.history trace past came)
+    ∙ ap₂ (λ n d. old ++ watch_line n c.args.end (shown d (report_of trace past))) c.name.ensures.name c.port.ensures)
 
 pub returns-clause-room : goal.returns-clause-room
 returns-clause-room c =
     let r = c.report-report.result in
-    let short = short-watch_line c.name_of.result.now c.args.end c.port.result.now r c.name_of.ensures.short (omega arith) (omega arith) (omega arith) in
+    let short = short-watch_line c.name.result.now c.args.end c.port.result.now r c.name.ensures.short (omega arith) (omega arith) (omega arith) in
     omega (arith, c.requires.room, ap (λ (w : Written). w.room) c.watch_line.ensures, short)

@@ -4,9 +4,9 @@ use Rattle.std.specs.List.{flat_map}
 use Rattle.std.proofs.lemmas.Option.{slice_get_read}
 use Rattle.sdh_circuits.specs.Provisioning.{Provisioning}
 use Rattle.sdh_circuits.specs.declared.End.TheVariants.{A, B}
+use Rattle.sdh_scripts.proofs.Ports.{ports_more}
 use Rattle.sdh_watching.specs.Watching.{port_watched, ports_watched}
 use Rattle.sdh_watch_script.specs.Lines.{told_line}
-use Rattle.sdh_watch_script.proofs.Told.{ports_more}
 use Rattle.sdh_watch_script.proofs.ports.put_watches.Goals as goal
 
 pub loop-i-preserved : goal.loop-i-preserved
@@ -27,6 +27,6 @@ loop-i-preserved c =
           c.put_both.ensures.bytes heard (are.each i named both get at)
           ∙ ap (λ l. l ++ lines) (c.loop-i.invariant.bytes heard are)
           ∙ append_assoc c.args.text.now.bytes before lines
-          ∙ ap (λ l. c.args.text.now.bytes ++ l) (sym (ports_more r heard cs i named lt get)));
+          ∙ ap (λ l. c.args.text.now.bytes ++ l) (sym (ports_more (port_watched r heard) told_line cs i named lt get)));
       room = omega (arith, c.put_both.ensures.room, c.loop-i.invariant.room);
     }

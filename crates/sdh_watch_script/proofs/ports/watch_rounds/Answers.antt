@@ -3,8 +3,8 @@ use Rattle.sdh_circuits.specs.Provisioning.{Provisioning}
 use Rattle.sdh_plant.specs.Fibres.{IsPrepared}
 use Rattle.sdh_world.specs.Held.{HeldRing}
 use Rattle.sdh_world.specs.Rounds.{world}
+use Rattle.sdh_scripts.proofs.Answered.{err_by}
 use Rattle.sdh_watch_script.specs.Ports.{AreWatching}
-use Rattle.sdh_watch_script.proofs.Lists.{err_by}
 use Rattle.sdh_rounds.proofs.Settling.{held_none}
 use Rattle.sdh_watch_script.proofs.Leading.{held_more, shown_none, shown_more, few_more, few_enough}
 use Rattle.sdh_watch_script.proofs.ports.watch_rounds.Goals as goal

@@ -1,17 +1,15 @@
-use Rattle.std.proofs.Common.{◌+◌, ◌++◌, ap, sym, arith, length, ◌∙◌}
+use Rattle.std.proofs.Common.{◌+◌, ◌++◌, refl, ap, sym, arith, length, ◌∙◌}
 use Rattle.sdh_circuits.specs.declared.PortId.{PortId}
-use Rattle.sdh_node.specs.Stations.{adm}
 use Rattle.sdh_world.specs.Held.{HeldRing}
 use Rattle.sdh_world.specs.Rounds.{World, world}
 use Rattle.sdh_world.specs.Runs.{course_with}
-use Rattle.sdh_owed.specs.Steps.{after_step}
-use Rattle.sdh_owed.specs.Reports.{report_of}
+use Rattle.sdh_scripts.proofs.Reporting.{ended_with}
 use Rattle.sdh_owed.proofs.Standing.{long_step}
 use Rattle.sdh_script.proofs.Steps.{settled_held, settled_whole}
-use Rattle.sdh_outage_script.specs.Outages.{Outaged, outaged_in}
+use Rattle.sdh_outage_script.specs.Outages.{outaged_in}
+use Rattle.sdh_outage_script.specs.Scripts.{outage_walk}
 use Rattle.sdh_outage_script.specs.Lines.{outaged_text}
 use Rattle.sdh_outage_script.specs.Running.{lines_room}
-use Rattle.sdh_outage_script.proofs.Alike.{ended_with}
 use Rattle.sdh_outage_script.proofs.Listening.{listening_none}
 use Rattle.sdh_outage_script.proofs.Steps.{few_before, many_then, told_is, heard_next}
 use Rattle.sdh_outage_script.proofs.script.OutageRunRunner.settle.Goals as goal
@@ -40,8 +38,8 @@ returns-clause-ok g c =
     let told = outaged_in (c.args.number + 1) (course_with x.settles.rounds w) (length x.settles.rounds) in
     record {
       told = told;
-      ended = ended_with adm after_step report_of outaged_in (λ (r : Outaged). r.round) c.args.limit (c.args.number + 1) w left x.settles;
-      text = c.put_step.ensures.bytes ∙ ap (λ r. c.args.text.now.bytes ++ outaged_text r) (told_is w left c.args.limit c.settle_with.new.observer.items.items x (c.args.number + 1) c.last_round-last.result c.last_round-last.ensures);
+      ended = ended_with outage_walk refl c.args.limit (c.args.number + 1) w left x.settles;
+      text = c.put_step.ensures.bytes ∙ ap (λ r. c.args.text.now.bytes ++ outaged_text r) (told_is w left c.args.limit c.settle_with.new.observer.items.items x (c.args.number + 1));
     }
 
 pub returns-clause-next : goal.returns-clause-next

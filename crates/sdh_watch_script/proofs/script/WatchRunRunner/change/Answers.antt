@@ -1,24 +1,24 @@
 use Rattle.std.proofs.Common.{◌∙◌, length, ap, sym}
 use Rattle.sdh_circuits.specs.Provisioning.{Provisioning}
 use Rattle.sdh_world.specs.Rounds.{world}
-use Rattle.sdh_script.proofs.Steps.{changed_next, changed_circuits}
-use Rattle.sdh_watch_script.specs.Running.{lines_room}
+use Rattle.sdh_scripts.specs.Ports.{lines_room}
+use Rattle.sdh_script.proofs.Steps.{alone, changed_next, changed_circuits}
 use Rattle.sdh_watch_script.proofs.script.WatchRunRunner.change.Goals as goal
 
 pub change-requires-clause-prepared : goal.change-requires-clause-prepared
-change-requires-clause-prepared g c = c.requires.may.1.ring_may.prepared
+change-requires-clause-prepared g c = c.requires.may.2.ring_may.prepared
 
 pub change-requires-clause-steps : goal.change-requires-clause-steps
-change-requires-clause-steps g c = (c.requires.may.1.ring_may.steps_fit.0, tt)
+change-requires-clause-steps g c = alone _ _ _ _ _ _ c.requires.may.2.ring_may
 
 pub returns-clause-next : goal.returns-clause-next
-returns-clause-next g c later may =
+returns-clause-next g c number later may =
     let means = g.P.Plant.fibres in
     let w = world c.args.self.now.ring (means c.args.plant.now) in
     let left = world c.change.new.ring (means c.change.new.plant) in
     let is = c.in_ok-change.ensures.ok in
     record {
-      ring_may = changed_next 65664 c.args.number c.args.step w left c.requires.other is later may.ring_may;
+      ring_may = changed_next 65664 number c.args.step w left c.requires.other is later may.ring_may;
       many = may.many ∙ ap (λ (p : Provisioning). length p.circuits) (sym (changed_circuits c.args.step w left is));
     }
 

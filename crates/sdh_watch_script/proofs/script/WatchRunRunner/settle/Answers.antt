@@ -5,11 +5,11 @@ use Rattle.sdh_world.specs.Held.{HeldRing}
 use Rattle.sdh_world.specs.Rounds.{world}
 use Rattle.sdh_circuits.specs.declared.PortId.{PortId}
 use Rattle.sdh_owed.proofs.Standing.{long_step}
+use Rattle.sdh_scripts.specs.Ports.{lines_room}
 use Rattle.sdh_script.proofs.Steps.{settled_held, settled_whole}
 use Rattle.sdh_watching.specs.Watching.{watched}
 use Rattle.sdh_watching.proofs.Rounds.{ended_with, breaks_with}
 use Rattle.sdh_watch_script.specs.Ports.{AreWatching}
-use Rattle.sdh_watch_script.specs.Running.{lines_room}
 use Rattle.sdh_watch_script.proofs.Leading.{held_lead}
 use Rattle.sdh_watch_script.proofs.Steps.{went_held, watched_next}
 use Rattle.sdh_watch_script.proofs.script.WatchRunRunner.settle.Goals as goal
@@ -57,7 +57,7 @@ returns-in-Ok-clause-ok g c =
     record {
       told = watched (c.args.number + 1) mid.ring left.ring shown.heard;
       ended = ended_with c.args.limit (c.args.number + 1) w mid left shown.heard c.in_ok-settle.ensures.outcome shown.rounds;
-      text = c.put_step.ensures.bytes mid.ring shown.heard c.last_round-last.ensures watching;
+      text = c.put_step.ensures.bytes mid.ring shown.heard c.rounds-rounds.ensures watching;
     }
 
 pub returns-in-Ok-clause-next : goal.returns-in-Ok-clause-next

@@ -1,10 +1,10 @@
 -- Lists in which one element after the other is changed.
 use Rattle.std.proofs.Common.{◌≡◌, ℕ, zero, suc, ◌+◌, ◌<◌, List, [], ◌∷◌, length, Some, refl, subst, arith}
-use Rattle.std.specs.Prelude.{slice_get, Result, Ok, Err, OnErr}
+use Rattle.std.specs.Prelude.{slice_get}
 use Rattle.std.proofs.Math.ListN.{set}
 use Rattle.std.proofs.lemmas.Option.{same_Some}
 
--- what holds of the first i elements and of a new element holds of the first i + 1
+-- what holds of the first i elements and of a new one holds of the first i + 1
 pub set_upto : {X : Type 0} (P : ℕ → X → Type 0) (xs : List X) (i : ℕ) (y : X) → i < length xs → P i y → ((j : ℕ) (x : X) → j < i → slice_get xs j ≡ Some x → P j x)
     → (j : ℕ) (x : X) → j < i + 1 → slice_get (set xs i y) j ≡ Some x → P j x
 set_upto P [] i y lt here before j x lj get = absurd (omega arith)
@@ -21,19 +21,8 @@ set_behind (z ∷ xs) zero y (suc j) lt = refl
 set_behind (z ∷ xs) (suc i) y zero lt = absurd (omega arith)
 set_behind (z ∷ xs) (suc i) y (suc j) lt = set_behind xs i y j (omega arith)
 
--- an element that is read is inside
-pub inside : {X : Type 0} (xs : List X) (i : ℕ) (x : X) → slice_get xs i ≡ Some x → i < length xs
-inside [] i x get = absurd (cc)
-inside (z ∷ xs) zero x get = omega arith
-inside (z ∷ xs) (suc i) x get = let h = inside xs i x get in omega arith
-
 -- an element that is inside is read
 pub some_at : {X : Type 0} (xs : List X) (i : ℕ) → i < length xs → (x : X) × (slice_get xs i ≡ Some x)
 some_at [] i lt = absurd (omega arith)
 some_at (z ∷ xs) zero lt = (z, refl)
 some_at (z ∷ xs) (suc i) lt = some_at xs i (omega arith)
-
--- what holds at all holds after an error
-pub err_by : {A E : Type 0} (r : Result A E) (P : Type 0) → P → OnErr r P
-err_by (Ok a) P p = tt
-err_by (Err e) P p = p

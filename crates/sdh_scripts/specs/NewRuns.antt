@@ -1,0 +1,29 @@
+-- What is so of a run before its fibres are there.
+use Rattle.std.specs.Prelude.{ℕ, ◌≡◌, ◌≤◌, List, [], length}
+use Rattle.sdh_plant.specs.Fibres.{Fibres}
+use Rattle.sdh_plant.specs.Calls.{prepared}
+use Rattle.sdh_rounds.specs.Held.{HeldRing}
+use Rattle.sdh_plan.specs.Planned.{Planned}
+use Rattle.sdh_plan.specs.declared.step.Step.{Step}
+use Rattle.sdh_scripts.specs.Texts.{HasRoom}
+use Rattle.sdh_scripts.specs.Plans.{Account}
+use Rattle.sdh_scripts.specs.declared.run.NewRun.{NewRun}
+
+-- the rate and the number of nodes are those of its ring, its steps may be run over fibres that are prepared for these, and nothing is
+-- written yet
+pub record MayBegin {N R : Type 0} (ring : R → HeldRing N) (room : R → ℕ) (MayRun : ℕ → List Step → R → Fibres → Type 0) (run : NewRun R) : Type 0 where
+  pub rate : run.rate ≡ (ring run.runner).settings.rate
+  pub nodes : run.nodes ≡ length (ring run.runner).ids
+  pub enough : 2 ≤ run.nodes
+  pub few : run.nodes ≤ 16
+  pub may : (f : Fibres) → MayRun 0 run.steps.items run.runner (prepared run.rate run.nodes f)
+  pub limit_from_1 : 1 ≤ run.limit
+  pub limit_small : run.limit ≤ 65536
+  pub has_room : HasRoom (room run.runner) 0 run.text.room
+  pub empty : run.text.bytes ≡ []
+
+-- it runs the script of a plan over the plan's ring
+pub record IsOf {N T R : Type 0} (ring : R → HeldRing N) (t : Account N T) (plan : Planned) (run : NewRun R) : Type 0 where
+  pub ring_is : ring run.runner ≡ t.new_ring plan
+  pub limit_is : run.limit ≡ plan.limit
+  pub steps_are : run.steps.items ≡ plan.steps

@@ -1,0 +1,58 @@
+-- What is told of a plan, over fibres that aren't there yet, whatever kind its ring is of.
+use Rattle.std.specs.Prelude.{ℕ, ◌≡◌, ◌⊎◌, ◌≤◌, true, List, length}
+use Rattle.std.specs.List.{flat_map}
+use Rattle.sdh_plant.specs.Fibres.{Fibres}
+use Rattle.sdh_plant.specs.Arrivals.{Knows}
+use Rattle.sdh_rounds.specs.Held.{HeldRing, World}
+use Rattle.sdh_rounds.specs.Quiet.{enough_for}
+use Rattle.sdh_plan.specs.Planned.{Planned}
+use Rattle.sdh_report.specs.declared.status.Status.{Status}
+use Rattle.sdh_report.specs.declared.status.Status.TheVariants as status
+use Rattle.sdh_scripts.specs.Walks.{Walk}
+use Rattle.sdh_scripts.specs.Scripts.{Ran, script}
+use Rattle.sdh_scripts.specs.Outcomes.{with_fibres, IsSettled}
+use Rattle.sdh_scripts.specs.Outcomes as outcomes
+
+-- how a plan is told of that is run over a ring of some kind
+pub record Account (N T : Type 0) : Type 1 where
+  -- what a script does with such a ring, and what is told of a settle step
+  pub walk : Walk N T
+  -- the ring of a plan, in which no round has run
+  pub new_ring : Planned → HeldRing N
+  -- what reports owe over these fibres, which are honest, with this ending and the fibres that were left
+  pub Owes : Planned → Fibres → List T → Status → Fibres → Type 0
+
+-- the ring of a plan, over fibres that were just prepared for it
+abbrev pub world_of : {N T : Type 0} → Account N T → Planned → Fibres → World N
+world_of t plan f = with_fibres (t.new_ring plan) f
+
+-- what its script comes to there, where the arrivals are known
+abbrev pub ran_of : {N T : Type 0} → Account N T → Planned → Fibres → Ran N T
+ran_of t plan f = script t.walk plan.limit 0 plan.steps (world_of t plan f)
+
+-- over any plant
+abbrev pub Comes : {N T : Type 0} → Account N T → Planned → Fibres → List T → Status → Fibres → Type 0
+Comes t plan f reports end left = outcomes.Comes t.walk plan.limit plan.steps (world_of t plan f) f reports end left
+
+-- where the arrivals are known
+abbrev pub ComesKnown : {N T : Type 0} → Account N T → Planned → Fibres → List T → Status → Fibres → Type 0
+ComesKnown t plan f reports end left = outcomes.ComesKnown t.walk (ran_of t plan f) (length plan.nodes) f reports end left
+
+-- a script that settles: where the arrivals are known each settle step has a quiet window within the limit; or the fibres are honest and
+-- the limit is large
+abbrev pub MaySettle : {N T : Type 0} → Account N T → Planned → Fibres → Type 0
+MaySettle t plan f = (Knows (world_of t plan f).fibres × ((ran_of t plan f).ending ≡ status.Ok)) ⊎ ((f.honest ≡ true) × (enough_for (length plan.nodes) ≤ plan.limit))
+
+-- One list of reports, told in each way: what ran over every plant, what it comes to where the arrivals are known, and over honest
+-- fibres what is owed, and that no settle step with so large a limit is unsettled.
+pub record IsRunOf {N T : Type 0} (t : Account N T) (plan : Planned) (f : Fibres) (reports : List T) (end : Status) (left : Fibres) : Type 0 where
+  pub ran : Comes t plan f reports end left
+  pub known : Knows (world_of t plan f).fibres → ComesKnown t plan f reports end left
+  pub owed : f.honest ≡ true → t.Owes plan f reports end left
+  pub settles : f.honest ≡ true → enough_for (length plan.nodes) ≤ plan.limit → IsSettled end
+
+-- the text is what is written of each report of a run
+pub record Tells {N T : Type 0} (t : Account N T) (text_of : T → List ℕ) (plan : Planned) (f : Fibres) (text : List ℕ) (end : Status) (left : Fibres) : Type 0 where
+  pub reports : List T
+  pub text_is : text ≡ flat_map text_of reports
+  pub came : IsRunOf t plan f reports end left
