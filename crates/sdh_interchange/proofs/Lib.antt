@@ -6,4 +6,5 @@ pub mod Pointing
 pub mod Pairs
 pub mod Holding
 pub mod Spreading
+pub mod Stretches
 pub mod Rows
