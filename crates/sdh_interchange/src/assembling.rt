@@ -46,7 +46,8 @@ pub fn assemble_row(
     // Reading it gives the proof what is true of every frame.
     let _ = frame.rate();
     let r = row as usize - 1;
-    let (first, second) = (first.bytes(), second.bytes());
+    let first = first.bytes();
+    let second = second.bytes();
     let inputs = Inputs { first, second, own };
     choice.choose_row(frame.bytes_mut(), r, &inputs);
     if row == 4 {

@@ -6,6 +6,17 @@ use crate::own::Payloads;
 use crate::table::{apart, spread, transpose, transpose4, transpose8};
 use std::simd::prelude::*;
 
+// The first byte of a column, counted from 0 through all rows.
+#[inline(always)]
+pub(crate) fn byte_of<const N: usize>(column: usize) -> usize
+    requires rate { (N ≡ 4) ⊎ (N ≡ 16) }
+    requires few { column ≤ 2430 }
+    ensures place { result ≡ N * column }
+    ensures small { result ≤ 38880 }
+{
+    N * column
+}
+
 // The same sixteen bytes of the first `A` payloads, one under the other.
 #[inline(always)]
 fn rows_of<const A: usize>(own: &Payloads, from: usize) -> [u8x16; A]

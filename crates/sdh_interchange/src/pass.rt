@@ -6,7 +6,7 @@ ghost use Rattle.sdh_interchange.specs.Lanes.{AreExtra, IsPlain};
 ghost use Rattle.sdh_interchange.specs.Passes.{IsPass, byte_at, HasPassed, AreColumns};
 
 use crate::choose::Source;
-use crate::columns::{columns4, columns16};
+use crate::columns::{byte_of, columns4, columns16};
 use crate::lanes::Lanes;
 use crate::own::Payloads;
 use std::simd::prelude::*;
@@ -27,17 +27,6 @@ pub(crate) struct Pass<'a, const N: usize> {
     pub(crate) lanes: &'a Lanes,
     pub(crate) passed: bool,
     pub(crate) owned: bool,
-}
-
-// The first byte of a column, counted from 0 through all rows.
-#[inline(always)]
-fn byte_of<const N: usize>(column: usize) -> usize
-    requires rate { (N ≡ 4) ⊎ (N ≡ 16) }
-    requires few { column ≤ 2430 }
-    ensures place { result ≡ N * column }
-    ensures small { result ≤ 38880 }
-{
-    N * column
 }
 
 // READS says whether the two frames are read: they must be where an AU-4 comes from them.
