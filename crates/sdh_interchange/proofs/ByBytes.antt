@@ -8,11 +8,13 @@ use Rattle.sdh_terms.specs.declared.Rate.{Rate}
 use Rattle.sdh_terms.specs.declared.Rate.TheVariants.{Four, Sixteen}
 use Rattle.sdh_interchange.specs.declared.choose.Source.{Source}
 use Rattle.sdh_interchange.specs.declared.choose.Source.TheVariants.{First, Second, Own, Ones}
+use Rattle.sdh_interchange.specs.declared.pass.Inputs.{Inputs}
 use Rattle.sdh_frame.specs.Sizes.{size_of}
 use Rattle.sdh_terms.specs.Rates.{n_of}
 use Rattle.sdh_frame.specs.Fields.{index_of, payload_place, place_of_pointer}
 use Rattle.sdh_frame.specs.Aus.{payload_of, pointers_of, Au, au_of, ones}
-use Rattle.sdh_interchange.specs.Choosing.{payload_in, au_from, chosen, IsSource, AreSources, own_byte, picked, picked_at, is_au_byte, IsPlain}
+use Rattle.sdh_interchange.specs.Choosing.{payload_in, au_from, chosen, IsSource, AreSources, own_byte, picked, picked_at, is_au_byte}
+use Rattle.sdh_interchange.specs.Lanes.{IsPlain}
 use Rattle.sdh_frame.proofs.PlaceProofs.{IsIn, IsPointerByte}
 use Rattle.sdh_frame.proofs.AuProofs.{au_byte, payload_byte-here, payload_byte-other, payload_byte-before, pointer_byte-here, pointer_byte-other, pointer_byte-payload, pointer_byte-row}
 use Rattle.sdh_frame.proofs.AllAus.{aus_byte, at_aus}
@@ -27,17 +29,22 @@ own_byte-none : (n : ℕ) (own : List (List ℕ)) (i : ℕ) → i % (270 * n) < 
 unfolding own_byte
 own_byte-none n own i h = let before : leb (9 * n) (i % (270 * n)) ≡ false = lt-leb _ _ h in rw before refl
 
-pub plain4 : (s : Source) (own : List (List ℕ)) (i : ℕ) → 3240 ≤ i → i < 3276 → IsSource 4 (i % 4 + 1) s → IsPlain 4 s own i
-plain4 (First au) own i low high is = tt
-plain4 (Second au) own i low high is = tt
-plain4 (Own k) own i low high is = let few : k ≤ 4 = omega (arith, is) in own_byte-none 4 own (i - i % 4 + (k - 1)) (omega arith)
-plain4 Ones own i low high is = tt
+-- what is so at both rates
+pub by_rate : (P : ℕ → Type 0) (n : ℕ) → (n ≡ 4) ⊎ (n ≡ 16) → P 4 → P 16 → P n
+by_rate P n (inl e) four sixteen = subst P (sym e) four
+by_rate P n (inr e) four sixteen = subst P (sym e) sixteen
 
-pub plain16 : (s : Source) (own : List (List ℕ)) (i : ℕ) → 12960 ≤ i → i < 13104 → IsSource 16 (i % 16 + 1) s → IsPlain 16 s own i
-plain16 (First au) own i low high is = tt
-plain16 (Second au) own i low high is = tt
-plain16 (Own k) own i low high is = let few : k ≤ 16 = omega (arith, is) in own_byte-none 16 own (i - i % 16 + (k - 1)) (omega arith)
-plain16 Ones own i low high is = tt
+pub either : (n : ℕ) (rate : Rate) → n_of rate ≡ n → (n ≡ 4) ⊎ (n ≡ 16)
+either n Four e = inl (sym e)
+either n Sixteen e = inr (sym e)
+
+-- in front of the payloads of row 3 none is wanted
+pub plain_pointer : (n : ℕ) (s : Source) (own : List (List ℕ)) (i : ℕ) → (n ≡ 4) ⊎ (n ≡ 16) → n * 810 ≤ i → i < n * 819 → IsSource n (i % n + 1) s → IsPlain n s own i
+plain_pointer n (First au) own i rate low high is = tt
+plain_pointer n (Second au) own i rate low high is = tt
+plain_pointer n (Own k) own i rate low high is =
+    own_byte-none n own (i - i % n + (k - 1)) (by_rate (λ m. m * 810 ≤ i → i < m * 819 → k ≡ i % m + 1 → (i - i % m + (k - 1)) % (270 * m) < 9 * m) n rate (λ a b e. omega arith) (λ a b e. omega arith) low high is)
+plain_pointer n Ones own i rate low high is = tt
 
 -- where a byte of a payload stands in its column
 record IsOwn (n i k j : ℕ) : Type 0 where
@@ -185,6 +192,12 @@ HereAt rate r sources first second own old new = (i : ℕ) → i < size_of rate 
 pub chosen-here : (rate : Rate) (r : ℕ) (sources : List Source) (first second : List ℕ) (own : List (List ℕ)) (old new : List ℕ) → length old ≡ size_of rate → AreSources (n_of rate) sources → PickedAt rate r sources first second own old new
     → HereAt rate r sources first second own old new
 chosen-here rate r sources first second own old new whole are picks = λ i inside here. picks i inside here ∙ sym (chosen-at rate sources first second own old i whole inside are)
+
+-- the same of other inputs that are these
+pub picked-same : (rate : Rate) (r : ℕ) (sources sources' : List Source) (from from' : Inputs) (old new : List ℕ) → sources ≡ sources' → from ≡ from'
+    → PickedAt rate r sources from.first.now from.second.now from.own.now old new → PickedAt rate r sources' from'.first.now from'.second.now from'.own.now old new
+picked-same rate r sources sources' from from' old new a b is =
+    subst (λ l. PickedAt rate r l from'.first.now from'.second.now from'.own.now old new) a (subst (λ (f : Inputs). PickedAt rate r sources f.first.now f.second.now f.own.now old new) b is)
 
 pub same-here : (rate rate' : Rate) (r : ℕ) (sources : List Source) (first first' second second' : List ℕ) (own : List (List ℕ)) (old old' new : List ℕ) → rate ≡ rate' → first ≡ first' → second ≡ second' → old ≡ old'
     → HereAt rate r sources first second own old new → HereAt rate' r sources first' second' own old' new

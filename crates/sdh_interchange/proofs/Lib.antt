@@ -5,5 +5,7 @@ pub mod Sorts
 pub mod Pointing
 pub mod Pairs
 pub mod Holding
+pub mod Halves
 pub mod Spreading
+pub mod Stretches
 pub mod Rows

@@ -5,7 +5,8 @@ use Rattle.std.proofs.lemmas.Bool.{cases_Bool}
 use Rattle.std.proofs.lemmas.List.Folds.{list_any_at}
 use Rattle.sdh_interchange.specs.declared.choose.Source.{Source}
 use Rattle.sdh_interchange.specs.declared.choose.Source.TheVariants.{First, Second, Own, Ones}
-use Rattle.sdh_interchange.specs.Choosing.{is_passed, is_own, picked, picked_at, IsPlain, IsExtra}
+use Rattle.sdh_interchange.specs.Choosing.{is_passed, is_own, picked, picked_at}
+use Rattle.sdh_interchange.specs.Lanes.{IsPlain, IsExtra}
 
 -- no element passes a test that none passes
 pub none_at : (p : Source → Bool) (sources : List Source) (j : ℕ) → list_any p sources ≡ false → j < length sources → p (get_or sources j Ones) ≡ false

@@ -11,7 +11,9 @@ use mathlib.Core.Bool.{cond}
 use mir.Val.{zeroes, Fits}
 use Rattle.sdh_interchange.specs.declared.choose.Source.{Source}
 use Rattle.sdh_interchange.specs.declared.choose.Source.TheVariants.{First, Second, Own, Ones}
-use Rattle.sdh_interchange.specs.Choosing.{is_passed, own_byte, picked, picked_at, IsLane, AreLanes, IsExtra, AreExtra, IsPlain}
+use Rattle.sdh_interchange.specs.declared.lanes.Lanes.{Lanes}
+use Rattle.sdh_interchange.specs.Choosing.{is_passed, own_byte, picked, picked_at}
+use Rattle.sdh_interchange.specs.Lanes.{IsLane, AreLanes, IsExtra, AreExtra, IsPlain}
 use Rattle.sdh_interchange.proofs.Sorts.{none_at}
 
 -- ---- what a swizzle reads
@@ -87,21 +89,21 @@ module _ (n at : ℕ) (first second : List ℕ) (own : List (List ℕ)) (rate : 
   lane (Own k) fs ss j c o x h lf ls is more = or_more _ _ x _ (reads_none (chunk at 16 first) fs j h lf is.2) (reads_none (chunk at 16 second) ss j h ls is.3) more
   lane Ones fs ss j c o x h lf ls is more = or_more _ _ x _ (reads_none (chunk at 16 first) fs j h lf is.0) (reads_none (chunk at 16 second) ss j h ls is.1) more
 
-  module _ (sources : List Source) (fs ss os ms extra : List ℕ) (up : ℕ) (lanes : AreLanes n sources fs ss os ms up) (more : AreExtra n sources own at extra) where
+  module _ (sources : List Source) (l : Lanes) (extra : List ℕ) (lanes : AreLanes n sources l) (more : AreExtra n sources own at extra) where
     abbrev pub vector : List ℕ
-    vector = zip2 bit_or (zip2 bit_or (swz_l w8 16 (chunk at 16 first) 0 fs) (swz_l w8 16 (chunk at 16 second) 0 ss)) extra
+    vector = zip2 bit_or (zip2 bit_or (swz_l w8 16 (chunk at 16 first) 0 l.first) (swz_l w8 16 (chunk at 16 second) 0 l.second)) extra
 
     abbrev both : List ℕ
-    both = zip2 bit_or (swz_l w8 16 (chunk at 16 first) 0 fs) (swz_l w8 16 (chunk at 16 second) 0 ss)
+    both = zip2 bit_or (swz_l w8 16 (chunk at 16 first) 0 l.first) (swz_l w8 16 (chunk at 16 second) 0 l.second)
 
-    long_first : length (swz_l w8 16 (chunk at 16 first) 0 fs) ≡ 16
-    long_first = length-swz_l w8 16 (chunk at 16 first) 0 fs ∙ lanes.first_long
+    long_first : length (swz_l w8 16 (chunk at 16 first) 0 l.first) ≡ 16
+    long_first = length-swz_l w8 16 (chunk at 16 first) 0 l.first ∙ lanes.first_long
 
-    long_second : length (swz_l w8 16 (chunk at 16 second) 0 ss) ≡ 16
-    long_second = length-swz_l w8 16 (chunk at 16 second) 0 ss ∙ lanes.second_long
+    long_second : length (swz_l w8 16 (chunk at 16 second) 0 l.second) ≡ 16
+    long_second = length-swz_l w8 16 (chunk at 16 second) 0 l.second ∙ lanes.second_long
 
     long_both : length both ≡ 16
-    long_both = length-zip2 bit_or (swz_l w8 16 (chunk at 16 first) 0 fs) (swz_l w8 16 (chunk at 16 second) 0 ss) (long_first ∙ sym long_second) ∙ long_first
+    long_both = length-zip2 bit_or (swz_l w8 16 (chunk at 16 first) 0 l.first) (swz_l w8 16 (chunk at 16 second) 0 l.second) (long_first ∙ sym long_second) ∙ long_first
 
     pub long_vector : length vector ≡ 16
     long_vector = length-zip2 bit_or both extra (long_both ∙ sym more.long) ∙ long_both
@@ -109,15 +111,15 @@ module _ (n at : ℕ) (first second : List ℕ) (own : List (List ℕ)) (rate : 
     in_vector : (j : ℕ) → j < 16 → get_or vector j 0 ≡ picked_at n sources first second own (at + j)
     in_vector j h =
         get_or-zip2 bit_or both extra j 0 0 0 (omega (arith, long_both)) (omega (arith, more.long))
-        ∙ ap (λ z. bit_or z (get_or extra j 0)) (get_or-zip2 bit_or (swz_l w8 16 (chunk at 16 first) 0 fs) (swz_l w8 16 (chunk at 16 second) 0 ss) j 0 0 0 (omega (arith, long_first)) (omega (arith, long_second)))
-        ∙ lane (get_or sources (j % n) Ones) fs ss j (get_or os j 0) (get_or ms j 0) (get_or extra j 0) h lanes.first_long lanes.second_long (lanes.each j h) (more.each j h)
+        ∙ ap (λ z. bit_or z (get_or extra j 0)) (get_or-zip2 bit_or (swz_l w8 16 (chunk at 16 first) 0 l.first) (swz_l w8 16 (chunk at 16 second) 0 l.second) j 0 0 0 (omega (arith, long_first)) (omega (arith, long_second)))
+        ∙ lane (get_or sources (j % n) Ones) l.first l.second j (get_or l.own j 0) (get_or l.more j 0) (get_or extra j 0) h lanes.first_long lanes.second_long (lanes.each j h) (more.each j h)
         ∙ ap (λ m. picked n (get_or sources m Ones) first second own (at + j)) (column n at j 0 rate whole).1
 
-    pub first_fits : SwzOk w8 16 16 0 fs
-    first_fits = lanes_fit fs lanes.first_long (λ j h. first_read n (get_or sources (j % n) Ones) j _ _ _ _ (lanes.each j h))
+    pub first_fits : SwzOk w8 16 16 0 l.first
+    first_fits = lanes_fit l.first lanes.first_long (λ j h. first_read n (get_or sources (j % n) Ones) j _ _ _ _ (lanes.each j h))
 
-    pub second_fits : SwzOk w8 16 16 0 ss
-    second_fits = lanes_fit ss lanes.second_long (λ j h. second_read n (get_or sources (j % n) Ones) j _ _ _ _ (lanes.each j h))
+    pub second_fits : SwzOk w8 16 16 0 l.second
+    second_fits = lanes_fit l.second lanes.second_long (λ j h. second_read n (get_or sources (j % n) Ones) j _ _ _ _ (lanes.each j h))
 
     pub stored_inside : (bytes : List ℕ) (i : ℕ) → at + 16 ≤ length bytes → at ≤ i → i < at + 16 → get_or (put_chunk at bytes vector) i 0 ≡ picked_at n sources first second own i
     stored_inside bytes i room low high =
@@ -148,21 +150,21 @@ module _ (n at : ℕ) (first second : List ℕ) (own : List (List ℕ)) (rate : 
       ap (bit_or (get_or xs j 0)) is.4 ∙ or_zero_r _ ∙ each j h (below (omega (arith, is.1))) ∙ ap (λ z. own_byte n own (at + z)) is.0 ∙ ap (own_byte n own) (column n at j k rate whole).0
   ones_lane Ones xs j a b c o up none h small each below is = ap (bit_or (get_or xs j 0)) is.3 ∙ or_ones (get_or xs j 0) small
 
-  module _ (sources : List Source) (fs ss os ms xs : List ℕ) (up : ℕ) (lanes : AreLanes n sources fs ss os ms up) where
-    pub own_extra : length xs ≡ 16 → Each1 (Fits w8) xs → ((k : ℕ) → k < 16 → k % n < up → get_or xs k 0 ≡ own_byte n own (at + k)) → AreExtra n sources own at (zip2 bit_or (zip2 bit_and xs os) ms)
+  module _ (sources : List Source) (l : Lanes) (xs : List ℕ) (lanes : AreLanes n sources l) where
+    pub own_extra : length xs ≡ 16 → Each1 (Fits w8) xs → ((k : ℕ) → k < 16 → k % n < l.upto → get_or xs k 0 ≡ own_byte n own (at + k)) → AreExtra n sources own at (zip2 bit_or (zip2 bit_and xs l.own) l.more)
     own_extra long_xs bytes each =
-        let long : length (zip2 bit_and xs os) ≡ 16 = length-zip2 bit_and xs os (long_xs ∙ sym lanes.own_long) ∙ long_xs in
+        let long : length (zip2 bit_and xs l.own) ≡ 16 = length-zip2 bit_and xs l.own (long_xs ∙ sym lanes.own_long) ∙ long_xs in
         record {
-          long = length-zip2 bit_or (zip2 bit_and xs os) ms (long ∙ sym lanes.more_long) ∙ long;
-          each = λ j h. subst (IsExtra n (get_or sources (j % n) Ones) own (at + j)) (sym (get_or-zip2 bit_or (zip2 bit_and xs os) ms j 0 0 0 (omega (arith, long)) (omega (arith, lanes.more_long)) ∙ ap (λ z. bit_or z (get_or ms j 0)) (get_or-zip2 bit_and xs os j 0 0 0 (omega (arith, long_xs)) (omega (arith, lanes.own_long)))))
-              (own_lane (get_or sources (j % n) Ones) xs j _ _ (get_or os j 0) (get_or ms j 0) up h (Each1-get_or (λ x. x < 256) xs j 0 (omega (arith, long_xs)) (below_from_Fits w8 xs bytes)) each (lanes.below j h) (lanes.each j h));
+          long = length-zip2 bit_or (zip2 bit_and xs l.own) l.more (long ∙ sym lanes.more_long) ∙ long;
+          each = λ j h. subst (IsExtra n (get_or sources (j % n) Ones) own (at + j)) (sym (get_or-zip2 bit_or (zip2 bit_and xs l.own) l.more j 0 0 0 (omega (arith, long)) (omega (arith, lanes.more_long)) ∙ ap (λ z. bit_or z (get_or l.more j 0)) (get_or-zip2 bit_and xs l.own j 0 0 0 (omega (arith, long_xs)) (omega (arith, lanes.own_long)))))
+              (own_lane (get_or sources (j % n) Ones) xs j _ _ (get_or l.own j 0) (get_or l.more j 0) l.upto h (Each1-get_or (λ x. x < 256) xs j 0 (omega (arith, long_xs)) (below_from_Fits w8 xs bytes)) each (lanes.below j h) (lanes.each j h));
         }
 
-    pub ones_extra : length sources ≡ n → list_any is_passed sources ≡ false → length xs ≡ 16 → Each1 (Fits w8) xs → ((k : ℕ) → k < 16 → k % n < up → get_or xs k 0 ≡ own_byte n own (at + k)) → AreExtra n sources own at (zip2 bit_or xs ms)
+    pub ones_extra : length sources ≡ n → list_any is_passed sources ≡ false → length xs ≡ 16 → Each1 (Fits w8) xs → ((k : ℕ) → k < 16 → k % n < l.upto → get_or xs k 0 ≡ own_byte n own (at + k)) → AreExtra n sources own at (zip2 bit_or xs l.more)
     ones_extra many none long_xs bytes each = record {
-      long = length-zip2 bit_or xs ms (long_xs ∙ sym lanes.more_long) ∙ long_xs;
-      each = λ j h. subst (IsExtra n (get_or sources (j % n) Ones) own (at + j)) (sym (get_or-zip2 bit_or xs ms j 0 0 0 (omega (arith, long_xs)) (omega (arith, lanes.more_long))))
-          (ones_lane (get_or sources (j % n) Ones) xs j _ _ (get_or os j 0) (get_or ms j 0) up (none_at is_passed sources (j % n) none (omega (arith, in_rate n j rate, many))) h (Each1-get_or (λ x. x < 256) xs j 0 (omega (arith, long_xs)) (below_from_Fits w8 xs bytes)) each (lanes.below j h) (lanes.each j h));
+      long = length-zip2 bit_or xs l.more (long_xs ∙ sym lanes.more_long) ∙ long_xs;
+      each = λ j h. subst (IsExtra n (get_or sources (j % n) Ones) own (at + j)) (sym (get_or-zip2 bit_or xs l.more j 0 0 0 (omega (arith, long_xs)) (omega (arith, lanes.more_long))))
+          (ones_lane (get_or sources (j % n) Ones) xs j _ _ (get_or l.own j 0) (get_or l.more j 0) l.upto (none_at is_passed sources (j % n) none (omega (arith, in_rate n j rate, many))) h (Each1-get_or (λ x. x < 256) xs j 0 (omega (arith, long_xs)) (below_from_Fits w8 xs bytes)) each (lanes.below j h) (lanes.each j h));
     }
 
     plain_lane : (s : Source) (j a b c o : ℕ) → IsLane n s j a b c o → IsPlain n s own (at + j) → IsExtra n s own (at + j) o
@@ -171,7 +173,7 @@ module _ (n at : ℕ) (first second : List ℕ) (own : List (List ℕ)) (rate : 
     plain_lane (Own k) j a b c o is plain = is.4 ∙ sym plain
     plain_lane Ones j a b c o is plain = is.3
 
-    pub plain_extra : ((j : ℕ) → j < 16 → IsPlain n (get_or sources ((at + j) % n) Ones) own (at + j)) → AreExtra n sources own at ms
+    pub plain_extra : ((j : ℕ) → j < 16 → IsPlain n (get_or sources ((at + j) % n) Ones) own (at + j)) → AreExtra n sources own at l.more
     plain_extra plain = record {
       long = lanes.more_long;
       each = λ j h. plain_lane (get_or sources (j % n) Ones) j _ _ _ _ (lanes.each j h) (subst (λ m. IsPlain n (get_or sources m Ones) own (at + j)) (sym (column n at j 0 rate whole).1) (plain j h));

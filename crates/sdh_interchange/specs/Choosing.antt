@@ -1,5 +1,5 @@
 -- A frame whose AU-4s come from two other frames or from payloads of a node's own ports, or are ones.
-use Rattle.std.specs.Prelude.{true, false, ℕ, ◌≡◌, ◌+◌, ◌*◌, ◌-◌, ◌/◌, ◌%◌, ◌==◌, ◌||◌, ◌⊎◌, ◌<◌, ◌≤◌, Bool, nat_le, if◌then◌else◌, List, [], map, length, slice_index, slice_index_or, replicate}
+use Rattle.std.specs.Prelude.{true, false, ℕ, ◌≡◌, ◌+◌, ◌*◌, ◌-◌, ◌/◌, ◌%◌, ◌==◌, ◌||◌, ◌<◌, ◌≤◌, Bool, nat_le, if◌then◌else◌, List, [], map, length, slice_index, slice_index_or, replicate}
 use Rattle.sdh_interchange.specs.declared.choose.Source.{Source}
 use Rattle.sdh_interchange.specs.declared.choose.Source.TheVariants.{First, Second, Own, Ones}
 use Rattle.sdh_frame.specs.Aus.{Au, au_of, with_aus, ones}
@@ -51,44 +51,6 @@ picked_at n sources first second own i = picked n (slice_index_or sources (i % n
 -- whether byte i of a frame is of an AU-4
 abbrev pub is_au_byte : ℕ → ℕ → Bool
 is_au_byte n i = nat_le (9 * n) (i % (270 * n)) || (i / (270 * n) == 3)
-
--- ---- lanes of a vector over whole columns
-
--- lane j reads the first frame at lane a, the second at b, where 128 is none, keeps the bits c of the payloads' lane, and adds o
-abbrev pub IsLane : ℕ → Source → ℕ → ℕ → ℕ → ℕ → ℕ → Type 0
-IsLane n (First au) j a b c o = (a ≡ j - j % n + (au - 1)) × (a < 16) × (b ≡ 128) × (c ≡ 0) × (o ≡ 0)
-IsLane n (Second au) j a b c o = (b ≡ j - j % n + (au - 1)) × (b < 16) × (a ≡ 128) × (c ≡ 0) × (o ≡ 0)
-IsLane n (Own k) j a b c o = (j ≡ j - j % n + (k - 1)) × (c ≡ 0xFF) × (a ≡ 128) × (b ≡ 128) × (o ≡ 0)
-IsLane n Ones j a b c o = (a ≡ 128) × (b ≡ 128) × (c ≡ 0) × (o ≡ 0xFF)
-
--- sixteen lanes, which keep bits of the first `upto` payloads, half of them or all
-pub record AreLanes (n : ℕ) (sources : List Source) (first second own more : List ℕ) (upto : ℕ) : Type 0 where
-  pub first_long : length first ≡ 16
-  pub second_long : length second ≡ 16
-  pub own_long : length own ≡ 16
-  pub more_long : length more ≡ 16
-  pub each : (j : ℕ) → j < 16 → IsLane n (slice_index_or sources (j % n) Ones) j (slice_index first j) (slice_index second j) (slice_index own j) (slice_index more j)
-  pub few : (2 * upto ≡ n) ⊎ (upto ≡ n)
-  pub below : (j : ℕ) → j < 16 → 1 ≤ slice_index own j → j % n < upto
-
--- what byte i gets besides the bytes of the two frames
-abbrev pub IsExtra : ℕ → Source → List (List ℕ) → ℕ → ℕ → Type 0
-IsExtra n (First au) own i x = x ≡ 0
-IsExtra n (Second au) own i x = x ≡ 0
-IsExtra n (Own k) own i x = x ≡ own_byte n own (i - i % n + (k - 1))
-IsExtra n Ones own i x = x ≡ 0xFF
-
--- a vector of it for the sixteen bytes from a place on
-pub record AreExtra (n : ℕ) (sources : List Source) (own : List (List ℕ)) (at : ℕ) (extra : List ℕ) : Type 0 where
-  pub long : length extra ≡ 16
-  pub each : (j : ℕ) → j < 16 → IsExtra n (slice_index_or sources (j % n) Ones) own (at + j) (slice_index extra j)
-
--- no payload is wanted at this byte, or its byte is zero
-abbrev pub IsPlain : ℕ → Source → List (List ℕ) → ℕ → Type 0
-IsPlain n (First au) own i = Unit {0}
-IsPlain n (Second au) own i = Unit {0}
-IsPlain n (Own k) own i = own_byte n own (i - i % n + (k - 1)) ≡ 0
-IsPlain n Ones own i = Unit {0}
 
 -- ---- what a choice needs at all
 

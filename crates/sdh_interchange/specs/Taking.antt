@@ -1,8 +1,10 @@
 -- Payloads that are kept once they have been taken out of a frame.
-use Rattle.std.specs.Prelude.{◌≡◌, ◌+◌, ◌*◌, ◌-◌, ◌<◌, ◌≤◌, ◌⊎◌, ℕ, Bool, true, false, List, [], length, replicate, slice_index_or}
+use Rattle.std.specs.Prelude.{◌≡◌, ◌+◌, ◌*◌, ◌-◌, ◌/◌, ◌<◌, ◌≤◌, ◌⊎◌, ℕ, Bool, true, false, List, [], length, replicate, slice_index, slice_index_or}
 use Rattle.sdh_frame.specs.Sizes.{Frame}
 use Rattle.sdh_terms.specs.Rates.{n_of}
+use Rattle.sdh_frame.specs.Fields.{index_of, payload_place}
 use Rattle.sdh_frame.specs.Aus.{payload_of}
+use Rattle.sdh_interchange.specs.Tables.{cell}
 
 -- ---- cells, by their places
 
@@ -16,6 +18,12 @@ pub record KeepsOthers (from count : ℕ) (old new : List (List ℕ)) : Type 0 w
   pub many : length new ≡ length old
   pub lengths : (a : ℕ) → length (slice_index_or new a []) ≡ length (slice_index_or old a [])
   pub others : (a : ℕ) → (a < from) ⊎ (from + count ≤ a) → slice_index_or new a [] ≡ slice_index_or old a []
+
+-- the bytes of half of the payloads from one on, up to another, have been taken out of a frame of N AU-4s, and none before
+pub record HasTaken (n base from to : ℕ) (bytes : List ℕ) (old new : List (List ℕ)) : Type 0 where
+  pub before : (a j : ℕ) → a < n / 2 → j < from → cell new (base + a) j ≡ cell old (base + a) j
+  pub inside : (a j : ℕ) → a < n / 2 → from ≤ j → j < to → cell new (base + a) j ≡ slice_index bytes (index_of n (payload_place n (base + a + 1) j))
+  pub keeps : KeepsOthers base (n / 2) old new
 
 -- ---- what has been taken
 

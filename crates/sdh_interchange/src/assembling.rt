@@ -7,6 +7,7 @@ ghost use Rattle.sdh_interchange.specs.Assembled.{assembled, HasRow};
 
 use crate::choice::Choice;
 use crate::own::Payloads;
+use crate::pass::Inputs;
 use sdh_frame::FrameBuf;
 
 // All AU-4s get these pointer bytes.
@@ -45,7 +46,10 @@ pub fn assemble_row(
     // Reading it gives the proof what is true of every frame.
     let _ = frame.rate();
     let r = row as usize - 1;
-    choice.choose_row(frame.bytes_mut(), r, first.bytes(), second.bytes(), own);
+    let first = first.bytes();
+    let second = second.bytes();
+    let inputs = Inputs { first, second, own };
+    choice.choose_row(frame.bytes_mut(), r, &inputs);
     if row == 4 {
         point_all(frame, pointers);
     }

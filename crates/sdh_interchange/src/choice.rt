@@ -3,10 +3,13 @@ ghost use Rattle.std.specs.Prelude.{◌≡◌, ◌≢◌, ℕ, ◌+◌, ◌*◌,
 ghost use Rattle.std.specs.List.{list_any};
 ghost use Rattle.sdh_frame.specs.Sizes.{size_of};
 ghost use Rattle.sdh_terms.specs.Rates.{n_of};
-ghost use Rattle.sdh_interchange.specs.Choosing.{chosen, AreSources, AreLanes, is_passed, is_own};
+ghost use Rattle.sdh_interchange.specs.Choosing.{chosen, AreSources, is_passed, is_own};
+ghost use Rattle.sdh_interchange.specs.Lanes.{AreLanes};
+ghost use Rattle.sdh_interchange.specs.Passes.{IsPass};
 
-use crate::choose::{Lanes, Source, any_own, any_passed, choose_row4, choose_row16, lanes_of};
-use crate::own::Payloads;
+use crate::choose::{Source, any_own, any_passed};
+use crate::lanes::{Lanes, lanes_of};
+use crate::pass::{Inputs, Pass};
 use sdh_terms::Rate;
 use std::fmt;
 use std::marker::Model;
@@ -25,7 +28,8 @@ impl<'a> Model for Choice<'a> {
     ghost use Rattle.std.specs.Prelude.{◌≡◌};
     ghost use Rattle.std.specs.List.{list_any};
     ghost use Rattle.sdh_terms.specs.Rates.{n_of};
-    ghost use Rattle.sdh_interchange.specs.Choosing.{AreSources, AreLanes, is_passed, is_own};
+    ghost use Rattle.sdh_interchange.specs.Choosing.{AreSources, is_passed, is_own};
+    ghost use Rattle.sdh_interchange.specs.Lanes.{AreLanes};
     ghost use Rattle.sdh_interchange.specs.Assembled.{Origins};
 
     ghost Value = { Origins };
@@ -34,7 +38,7 @@ impl<'a> Model for Choice<'a> {
 
     ghost invariant = { λ c. record {
       sources : AreSources (n_of c.rate) c.sources.now;
-      lanes : AreLanes (n_of c.rate) c.sources.now c.lanes.first c.lanes.second c.lanes.own c.lanes.more c.lanes.upto;
+      lanes : AreLanes (n_of c.rate) c.sources.now c.lanes;
       passed : c.passed ≡ list_any is_passed c.sources.now;
       owned : c.owned ≡ list_any is_own c.sources.now;
     } };
@@ -49,11 +53,11 @@ impl<'a> fmt::Debug for Choice<'a> {
 // The lanes: code of its own for each rate, in which N is a constant.
 fn lanes_at(rate: Rate, sources: &[Source]) -> Lanes
     requires { AreSources (n_of rate) sources.now }
-    ensures { AreLanes (n_of rate) sources.now result.first result.second result.own result.more result.upto }
+    ensures { AreLanes (n_of rate) sources.now result }
 {
     match rate {
-        Rate::Four => lanes_of(4, sources),
-        Rate::Sixteen => lanes_of(16, sources),
+        Rate::Four => lanes_of::<4>(sources),
+        Rate::Sixteen => lanes_of::<16>(sources),
     }
 }
 
@@ -72,30 +76,45 @@ impl<'a> Choice<'a> {
         }
     }
 
-    // A row of the AU-4s, counted from 0, becomes that of their sources; all else stays.
-    pub(crate) fn choose_row(
-        &self,
-        bytes: &mut [u8],
-        r: usize,
-        first: &[u8],
-        second: &[u8],
-        own: &Payloads,
-    )
+    // The pass over these inputs.
+    #[inline(always)]
+    fn pass<'b, const N: usize>(&'b self, inputs: &'b Inputs<'b>) -> Pass<'b, N>
+        requires rate { n_of self.now.rate ≡ N }
+        requires first { length inputs.now.first.now ≡ size_of self.now.rate }
+        requires second { length inputs.now.second.now ≡ size_of self.now.rate }
+        ensures pass { IsPass N result }
+        ensures sources { result.sources.now ≡ self.now.sources }
+        ensures inputs { result.inputs.now ≡ inputs.now }
+    {
+        Pass {
+            inputs,
+            sources: self.sources,
+            lanes: &self.lanes,
+            passed: self.passed,
+            owned: self.owned,
+        }
+    }
+
+    // A row of the AU-4s, counted from 0, becomes that of their sources; all else stays. It is code of its own for each rate, in
+    // which N is a constant.
+    pub(crate) fn choose_row(&self, bytes: &mut [u8], r: usize, inputs: &Inputs<'_>)
         requires row { r < 9 }
         requires size { length bytes.old ≡ size_of self.now.rate }
-        requires first { length first.now ≡ size_of self.now.rate }
-        requires second { length second.now ≡ size_of self.now.rate }
-        ensures here { (i : ℕ) → i < size_of self.now.rate → i / (270 * n_of self.now.rate) ≡ r → slice_index bytes.new i ≡ slice_index (chosen (n_of self.now.rate) self.now.sources first.now second.now own.now bytes.old) i }
+        requires first { length inputs.now.first.now ≡ size_of self.now.rate }
+        requires second { length inputs.now.second.now ≡ size_of self.now.rate }
+        ensures here { (i : ℕ) → i < size_of self.now.rate → i / (270 * n_of self.now.rate) ≡ r → slice_index bytes.new i ≡ slice_index (chosen (n_of self.now.rate) self.now.sources inputs.now.first.now inputs.now.second.now inputs.now.own.now bytes.old) i }
         ensures others { (i : ℕ) → i / (270 * n_of self.now.rate) ≢ r → slice_index bytes.new i ≡ slice_index bytes.old i }
         ensures many { length self.now.sources ≡ n_of self.now.rate }
     {
-        let lanes = &self.lanes;
-        let (sources, passed, owned) = (self.sources, self.passed, self.owned);
         match self.rate {
-            Rate::Four => choose_row4(bytes, r, first, second, own, sources, lanes, passed, owned),
-            Rate::Sixteen => choose_row16(
-                bytes, r, first, second, own, sources, lanes, passed, owned,
-            ),
+            Rate::Four => {
+                let pass = self.pass::<4>(inputs);
+                pass.choose_row(bytes, r);
+            }
+            Rate::Sixteen => {
+                let pass = self.pass::<16>(inputs);
+                pass.choose_row(bytes, r);
+            }
         }
     }
 }

@@ -4,7 +4,10 @@
 mod assembling;
 mod choice;
 mod choose;
+mod columns;
+mod lanes;
 mod own;
+mod pass;
 mod payloads;
 mod table;
 mod taken;

@@ -1,26 +1,30 @@
 use Rattle.std.proofs.Common.{◌≡◌, ap, sym, ◌∙◌, subst}
+use Rattle.sdh_terms.specs.declared.Rate.{Rate}
 use Rattle.sdh_terms.specs.declared.Rate.TheVariants.{Four, Sixteen}
-use Rattle.sdh_frame.specs.Sizes.{size_of}
+use Rattle.sdh_terms.specs.Rates.{n_of}
 use Rattle.sdh_interchange.specs.Assembled.{Origins}
-use Rattle.sdh_interchange.proofs.ByBytes.{HereAt, PickedAt, chosen-here}
+use Rattle.sdh_interchange.specs.Choosing.{AreSources}
+use Rattle.sdh_interchange.proofs.ByBytes.{PickedAt, picked-same, chosen-here}
 use Rattle.sdh_interchange.proofs.choice.Choice.choose_row.Goals as goal
 
 pub returns-in-Four-clause-here : goal.returns-in-Four-clause-here
 returns-in-Four-clause-here c =
-    let s : Origins = record { rate = c.self.inside.rate; sources = c.self.inside.sources.now } in
-    let is : s ≡ c.args.self.now = c.self.view_is in
-    let rate : c.self.inside.rate ≡ Four = c.in-Four.is in
-    let here : HereAt c.self.inside.rate c.args.r c.self.inside.sources.now c.args.first.now c.args.second.now c.args.own.now c.args.bytes.now c.choose_row4.new.bytes
-    = chosen-here c.self.inside.rate c.args.r c.self.inside.sources.now c.args.first.now c.args.second.now c.args.own.now c.args.bytes.now c.choose_row4.new.bytes (c.requires.size ∙ ap (λ (o : Origins). size_of o.rate) (sym is)) c.self.invariant.sources
-    (subst (λ r. PickedAt r c.args.r c.self.inside.sources.now c.args.first.now c.args.second.now c.args.own.now c.args.bytes.now c.choose_row4.new.bytes) (sym rate) c.choose_row4.ensures.here) in
-    subst (λ (o : Origins). HereAt o.rate c.args.r o.sources c.args.first.now c.args.second.now c.args.own.now c.args.bytes.now c.choose_row4.new.bytes) is here
+    let choice = c.args.self.now in
+    let from = c.args.inputs.now in
+    let pass = c.pass.result in
+    let rate : Four ≡ choice.rate = sym c.in-Four.is ∙ ap (λ (o : Origins). o.rate) c.self.view_is in
+    chosen-here choice.rate c.args.r choice.sources from.first.now from.second.now from.own.now c.args.bytes.now c.choose_row.new.bytes c.requires.size
+    (subst (λ (o : Origins). AreSources (n_of o.rate) o.sources) c.self.view_is c.self.invariant.sources)
+    (subst (λ m. PickedAt m c.args.r choice.sources from.first.now from.second.now from.own.now c.args.bytes.now c.choose_row.new.bytes) rate
+    (picked-same Four c.args.r pass.sources.now choice.sources pass.inputs.now from c.args.bytes.now c.choose_row.new.bytes c.pass.ensures.sources c.pass.ensures.inputs c.choose_row.ensures.here))
 
 pub returns-in-Sixteen-clause-here : goal.returns-in-Sixteen-clause-here
 returns-in-Sixteen-clause-here c =
-    let s : Origins = record { rate = c.self.inside.rate; sources = c.self.inside.sources.now } in
-    let is : s ≡ c.args.self.now = c.self.view_is in
-    let rate : c.self.inside.rate ≡ Sixteen = c.in-Sixteen.is in
-    let here : HereAt c.self.inside.rate c.args.r c.self.inside.sources.now c.args.first.now c.args.second.now c.args.own.now c.args.bytes.now c.choose_row16.new.bytes
-    = chosen-here c.self.inside.rate c.args.r c.self.inside.sources.now c.args.first.now c.args.second.now c.args.own.now c.args.bytes.now c.choose_row16.new.bytes (c.requires.size ∙ ap (λ (o : Origins). size_of o.rate) (sym is)) c.self.invariant.sources
-    (subst (λ r. PickedAt r c.args.r c.self.inside.sources.now c.args.first.now c.args.second.now c.args.own.now c.args.bytes.now c.choose_row16.new.bytes) (sym rate) c.choose_row16.ensures.here) in
-    subst (λ (o : Origins). HereAt o.rate c.args.r o.sources c.args.first.now c.args.second.now c.args.own.now c.args.bytes.now c.choose_row16.new.bytes) is here
+    let choice = c.args.self.now in
+    let from = c.args.inputs.now in
+    let pass = c.pass.result in
+    let rate : Sixteen ≡ choice.rate = sym c.in-Sixteen.is ∙ ap (λ (o : Origins). o.rate) c.self.view_is in
+    chosen-here choice.rate c.args.r choice.sources from.first.now from.second.now from.own.now c.args.bytes.now c.choose_row.new.bytes c.requires.size
+    (subst (λ (o : Origins). AreSources (n_of o.rate) o.sources) c.self.view_is c.self.invariant.sources)
+    (subst (λ m. PickedAt m c.args.r choice.sources from.first.now from.second.now from.own.now c.args.bytes.now c.choose_row.new.bytes) rate
+    (picked-same Sixteen c.args.r pass.sources.now choice.sources pass.inputs.now from c.args.bytes.now c.choose_row.new.bytes c.pass.ensures.sources c.pass.ensures.inputs c.choose_row.ensures.here))

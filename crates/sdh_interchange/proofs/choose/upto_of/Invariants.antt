@@ -1,5 +1,0 @@
-use Rattle.std.proofs.Common.{ℕ, ◌/◌, ◌%◌, ◌<◌, ◌≤◌, slice_index}
-use Rattle.sdh_interchange.proofs.choose.upto_of.Given as goal
-
-abbrev pub invariant-loop-j : goal.invariant-loop-j
-invariant-loop-j l = (j : ℕ) → j < l.j → 1 ≤ slice_index l.own j → j % l.n < l.n / 2

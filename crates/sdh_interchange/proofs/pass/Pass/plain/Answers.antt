@@ -1,0 +1,42 @@
+use Rattle.std.proofs.Common.{◌≡◌, ℕ, ◌+◌, ◌*◌, ◌-◌, ◌%◌, ◌<◌, ◌≤◌, [], ap, ◌∙◌, arith}
+use Rattle.sdh_interchange.proofs.Vectors.{plain_extra}
+use Rattle.sdh_interchange.proofs.Stretches.{none_passed, then_passed, whole_on, whole_back}
+use Rattle.sdh_interchange.proofs.pass.Pass.plain.Goals as goal
+
+pub loop-b-init : goal.loop-b-init
+loop-b-init g c = none_passed g.row.N c.args.self.now c.args.from (c.args.from + 0 * 16) c.args.bytes.now (omega arith)
+
+pub store-requires-clause-whole : goal.store-requires-clause-whole
+store-requires-clause-whole g c =
+    let e : c.args.from + c.loop-b.b * 16 ≡ c.args.from + 16 * c.loop-b.b = omega arith in
+    ap (λ m. m % g.row.N) e ∙ whole_on g.row.N c.args.from c.loop-b.b c.requires.pass.rate c.requires.start
+
+pub store-requires-clause-extra : goal.store-requires-clause-extra
+store-requires-clause-extra g c =
+    let pass = c.args.self.now in
+    let at : ℕ = c.args.from + c.loop-b.b * 16 in
+    let e : c.args.from + c.loop-b.b * 16 ≡ c.args.from + 16 * c.loop-b.b = omega arith in
+    plain_extra g.row.N at [] [] pass.inputs.now.own.now c.requires.pass.rate (ap (λ m. m % g.row.N) e ∙ whole_on g.row.N c.args.from c.loop-b.b c.requires.pass.rate c.requires.start) pass.sources.now pass.lanes.now [] c.requires.pass.lanes
+    (λ j h. c.requires.plain (at + j) (omega arith) (omega arith))
+
+pub store-requires-2-clause-whole : goal.store-requires-2-clause-whole
+store-requires-2-clause-whole g c = whole_back g.row.N c.args.to c.requires.pass.rate (omega arith) c.requires.end
+
+pub store-requires-2-clause-extra : goal.store-requires-2-clause-extra
+store-requires-2-clause-extra g c =
+    let pass = c.args.self.now in
+    let at : ℕ = c.args.to - 16 in
+    plain_extra g.row.N at [] [] pass.inputs.now.own.now c.requires.pass.rate (whole_back g.row.N c.args.to c.requires.pass.rate (omega arith) c.requires.end) pass.sources.now pass.lanes.now [] c.requires.pass.lanes
+    (λ j h. c.requires.plain (at + j) (omega arith) (omega arith))
+
+pub loop-b-preserved : goal.loop-b-preserved
+loop-b-preserved g c =
+    let from = c.args.from in
+    let b = c.loop-b.b in
+    then_passed g.row.N c.args.self.now from (from + b * 16) (from + b * 16) (from + b * 16 + 16) (from + (b + 1) * 16) c.args.bytes.now c.loop-b.bytes c.store.new.bytes (omega arith) (omega arith) (omega arith) (omega arith) c.loop-b.invariant c.store.ensures
+
+pub returns : goal.returns
+returns g c =
+    let from = c.args.from in
+    let to = c.args.to in
+    then_passed g.row.N c.args.self.now from (to - 16) (from + c.loop-b.b * 16) (to - 16 + 16) to c.args.bytes.now c.loop-b.bytes c.store-2.new.bytes (omega arith) (omega arith) (omega arith) (omega arith) c.loop-b.invariant c.store-2.ensures

@@ -1,0 +1,204 @@
+//! All AU-4s of a row in one pass over its columns.
+ghost use Rattle.std.specs.Prelude.{◌≡◌, ◌≢◌, ℕ, ◌+◌, ◌*◌, ◌/◌, ◌%◌, ◌<◌, ◌≤◌, ◌⊎◌, true, false, length, slice_index, slice_index_or, if◌then◌else◌};
+ghost use Rattle.sdh_interchange.specs.declared.choose.Source.TheVariants.{Ones};
+ghost use Rattle.sdh_interchange.specs.Choosing.{own_byte, is_au_byte};
+ghost use Rattle.sdh_interchange.specs.Lanes.{AreExtra, IsPlain};
+ghost use Rattle.sdh_interchange.specs.Passes.{IsPass, byte_at, HasPassed, AreColumns};
+
+use crate::choose::Source;
+use crate::columns::{byte_of, columns4, columns16};
+use crate::lanes::Lanes;
+use crate::own::Payloads;
+use std::simd::prelude::*;
+
+/// What the AU-4s of a frame come from: two other frames, and payloads.
+#[derive(Drop)]
+pub(crate) struct Inputs<'a> {
+    pub(crate) first: &'a [u8],
+    pub(crate) second: &'a [u8],
+    pub(crate) own: &'a Payloads<'a>,
+}
+
+/// What a pass over a frame of N AU-4s reads: its inputs, which of them each AU-4 comes from, and what was worked out of that.
+#[derive(Drop)]
+pub(crate) struct Pass<'a, const N: usize> {
+    pub(crate) inputs: &'a Inputs<'a>,
+    pub(crate) sources: &'a [Source],
+    pub(crate) lanes: &'a Lanes,
+    pub(crate) passed: bool,
+    pub(crate) owned: bool,
+}
+
+// READS says whether the two frames are read: they must be where an AU-4 comes from them.
+impl<'a, const N: usize> Pass<'a, N> {
+    // Sixteen bytes from `at` on: what the frames give, and what they don't.
+    #[inline(always)]
+    fn store<const READS: bool>(&self, bytes: &mut [u8], at: usize, extra: u8x16)
+        requires pass { IsPass N self.now }
+        requires reads { (READS ≡ true) ⊎ (self.now.passed ≡ false) }
+        requires size { length bytes.old ≡ 2430 * N }
+        requires whole { at % N ≡ 0 }
+        requires room { at + 16 ≤ length bytes.old }
+        requires extra { AreExtra N self.now.sources.now self.now.inputs.now.own.now at extra }
+        ensures { HasPassed N self.now at (at + 16) bytes.old bytes.new }
+    {
+        if READS {
+            let lanes = self.lanes;
+            let first = u8x16::from_slice(&self.inputs.first[at..]);
+            let second = u8x16::from_slice(&self.inputs.second[at..]);
+            let from_first = first.swizzle_dyn(u8x16::from_array(lanes.first));
+            let from_second = second.swizzle_dyn(u8x16::from_array(lanes.second));
+            let all = from_first | from_second | extra;
+            all.copy_to_slice(&mut bytes[at..]);
+        } else {
+            extra.copy_to_slice(&mut bytes[at..]);
+        }
+    }
+
+    // What a vector of columns gets besides the bytes of the two frames, where its lanes hold the bytes of payloads. Where no
+    // frame is read, each lane that no payload goes to is ones.
+    #[inline(always)]
+    fn extra<const READS: bool>(&self, at: usize, column: u8x16) -> u8x16
+        requires pass { IsPass N self.now }
+        requires reads { (READS ≡ true) ⊎ (self.now.passed ≡ false) }
+        requires whole { at % N ≡ 0 }
+        requires long { length column ≡ 16 }
+        requires column { (j : ℕ) → j < 16 → j % N < self.now.lanes.now.upto → slice_index column j ≡ own_byte N self.now.inputs.now.own.now (at + j) }
+        ensures { AreExtra N self.now.sources.now self.now.inputs.now.own.now at result }
+    {
+        let lanes = self.lanes;
+        if READS {
+            (column & u8x16::from_array(lanes.own)) | u8x16::from_array(lanes.more)
+        } else {
+            column | u8x16::from_array(lanes.more)
+        }
+    }
+
+    // The bytes from `from` up to `to`, where no payload is wanted.
+    fn plain<const READS: bool>(&self, bytes: &mut [u8], from: usize, to: usize)
+        requires pass { IsPass N self.now }
+        requires reads { (READS ≡ true) ⊎ (self.now.passed ≡ false) }
+        requires size { length bytes.old ≡ 2430 * N }
+        requires start { from % N ≡ 0 }
+        requires end { to % N ≡ 0 }
+        requires some { from + 16 ≤ to }
+        requires room { to ≤ length bytes.old }
+        requires plain { (i : ℕ) → from ≤ i → i < to → IsPlain N (slice_index_or self.now.sources.now (i % N) Ones) self.now.inputs.now.own.now i }
+        ensures { HasPassed N self.now from to bytes.old bytes.new }
+    {
+        let more = u8x16::from_array(self.lanes.more);
+        for b in 0..(to - from) / 16 {
+            self.store::<READS>(bytes, from + b * 16, more);
+        }
+        self.store::<READS>(bytes, to - 16, more);
+    }
+
+    // Sixteen columns from `at` on, of which these vectors hold the bytes of payloads.
+    #[inline(always)]
+    fn put<const READS: bool>(&self, bytes: &mut [u8], at: usize, columns: &[u8x16])
+        requires pass { IsPass N self.now }
+        requires reads { (READS ≡ true) ⊎ (self.now.passed ≡ false) }
+        requires size { length bytes.old ≡ 2430 * N }
+        requires whole { at % N ≡ 0 }
+        requires room { at + 16 * N ≤ length bytes.old }
+        requires columns { AreColumns N self.now.lanes.now.upto self.now.inputs.now.own.now at columns.now }
+        ensures { HasPassed N self.now at (at + 16 * N) bytes.old bytes.new }
+    {
+        for k in 0..N {
+            let here = at + 16 * k;
+            let extra = self.extra::<READS>(here, columns[k]);
+            self.store::<READS>(bytes, here, extra);
+        }
+    }
+
+    // Sixteen columns of row r, from payload column c on.
+    #[inline(always)]
+    fn block<const READS: bool>(&self, bytes: &mut [u8], r: usize, c: usize)
+        requires pass { IsPass N self.now }
+        requires reads { (READS ≡ true) ⊎ (self.now.passed ≡ false) }
+        requires size { length bytes.old ≡ 2430 * N }
+        requires row { r < 9 }
+        requires column { c ≤ 245 }
+        ensures { HasPassed N self.now (N * (270 * r + (9 + c))) (N * (270 * r + (25 + c))) bytes.old bytes.new }
+    {
+        let at = byte_of::<N>(270 * r + (9 + c));
+        let (own, upto) = (self.inputs.own, self.lanes.upto);
+        if N == 4 {
+            let columns = columns4(own, 261 * r + c, upto);
+            self.put::<READS>(bytes, at, &columns);
+        } else {
+            let columns = columns16(own, 261 * r + c, upto);
+            self.put::<READS>(bytes, at, &columns);
+        }
+    }
+
+    // The payloads of row r, some of which are own ones.
+    fn blocks<const READS: bool>(&self, bytes: &mut [u8], r: usize)
+        requires pass { IsPass N self.now }
+        requires reads { (READS ≡ true) ⊎ (self.now.passed ≡ false) }
+        requires size { length bytes.old ≡ 2430 * N }
+        requires row { r < 9 }
+        ensures { HasPassed N self.now (N * (270 * r + 9)) (N * (270 * r + 270)) bytes.old bytes.new }
+    {
+        for b in 0..16 {
+            self.block::<READS>(bytes, r, 16 * b);
+        }
+        self.block::<READS>(bytes, r, 245);
+    }
+
+    // The payloads of row r.
+    fn row<const READS: bool>(&self, bytes: &mut [u8], r: usize)
+        requires pass { IsPass N self.now }
+        requires reads { (READS ≡ true) ⊎ (self.now.passed ≡ false) }
+        requires size { length bytes.old ≡ 2430 * N }
+        requires row { r < 9 }
+        ensures { HasPassed N self.now (N * (270 * r + 9)) (N * (270 * r + 270)) bytes.old bytes.new }
+    {
+        if self.owned {
+            self.blocks::<READS>(bytes, r);
+        } else {
+            let from = byte_of::<N>(270 * r + 9);
+            let to = byte_of::<N>(270 * r + 270);
+            self.plain::<READS>(bytes, from, to);
+        }
+    }
+
+    // The same, with no frame read where no AU-4 comes from one.
+    fn any_row(&self, bytes: &mut [u8], r: usize)
+        requires pass { IsPass N self.now }
+        requires size { length bytes.old ≡ 2430 * N }
+        requires row { r < 9 }
+        ensures { HasPassed N self.now (N * (270 * r + 9)) (N * (270 * r + 270)) bytes.old bytes.new }
+    {
+        if self.passed {
+            self.row::<true>(bytes, r);
+        } else {
+            self.row::<false>(bytes, r);
+        }
+    }
+
+    // The pointers, in row 3.
+    fn pointers(&self, bytes: &mut [u8])
+        requires pass { IsPass N self.now }
+        requires size { length bytes.old ≡ 2430 * N }
+        ensures { HasPassed N self.now (N * 810) (N * 819) bytes.old bytes.new }
+    {
+        let from = byte_of::<N>(810);
+        let to = byte_of::<N>(819);
+        self.plain::<true>(bytes, from, to);
+    }
+
+    // Row r of all AU-4s, with the pointers in row 3.
+    pub(crate) fn choose_row(&self, bytes: &mut [u8], r: usize)
+        requires pass { IsPass N self.now }
+        requires size { length bytes.old ≡ 2430 * N }
+        requires row { r < 9 }
+        ensures here { (i : ℕ) → i < 2430 * N → i / (270 * N) ≡ r → slice_index bytes.new i ≡ (if is_au_byte N i then byte_at N self.now i else slice_index bytes.old i) }
+        ensures others { (i : ℕ) → i / (270 * N) ≢ r → slice_index bytes.new i ≡ slice_index bytes.old i }
+    {
+        self.any_row(bytes, r);
+        if r == 3 {
+            self.pointers(bytes);
+        }
+    }
+}
