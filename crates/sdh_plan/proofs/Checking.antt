@@ -2,18 +2,19 @@
 use Rattle.std.proofs.Common.{◌≡◌, ℕ, List, [], ◌∷◌, ◌++◌, Bool, true, false, cond, Option, Some, None, Ok, Err, refl, ap, sym, ◌∙◌}
 use Rattle.sdh_plan.specs.declared.error.PlanError.{PlanError}
 use Rattle.sdh_plan.specs.declared.error.PlanError.TheVariants as error
+use Rattle.sdh_plan.specs.declared.reason.Reason.{Reason}
 use Rattle.sdh_plan.specs.Refusals.{IsRefused}
 use Rattle.sdh_plan.specs.Check.{Check, Refusal, Fault, answer, at_place, first_fault, unless}
 
-pub passes : {X : Type 0} (r : Option ℕ) (x y : X) → Ok y ≡ unless r x → (r ≡ None) × (y ≡ x)
+pub passes : {X : Type 0} (r : Option Reason) (x y : X) → Ok y ≡ unless r x → (r ≡ None) × (y ≡ x)
 passes None x y e = (refl, cc)
 passes (Some reason) x y e = cc
 
-pub refuses : {X : Type 0} (r : Option ℕ) (x : X) (reason : ℕ) → Err reason ≡ unless r x → r ≡ Some reason
+pub refuses : {X : Type 0} (r : Option Reason) (x : X) (reason : Reason) → Err reason ≡ unless r x → r ≡ Some reason
 refuses None x reason e = cc
 refuses (Some other) x reason e = cc
 
-fault_later : (b : Bool) (reason : ℕ) (later more : List Fault) → (first_fault later ≡ None → first_fault (later ++ more) ≡ first_fault more) → cond b (Some reason) (first_fault later) ≡ None → cond b (Some reason) (first_fault (later ++ more)) ≡ first_fault more
+fault_later : (b : Bool) (reason : Reason) (later more : List Fault) → (first_fault later ≡ None → first_fault (later ++ more) ≡ first_fault more) → cond b (Some reason) (first_fault later) ≡ None → cond b (Some reason) (first_fault (later ++ more)) ≡ first_fault more
 fault_later true reason later more rest e = cc
 fault_later false reason later more rest e = rest e
 
@@ -21,19 +22,19 @@ pub fault_behind : (faults more : List Fault) → first_fault faults ≡ None �
 fault_behind [] more e = refl
 fault_behind (fault ∷ later) more e = fault_later fault.1 fault.0 later more (fault_behind later more) e
 
-fault_sooner : (b : Bool) (reason r : ℕ) (later more : List Fault) → (first_fault later ≡ Some r → first_fault (later ++ more) ≡ Some r) → cond b (Some reason) (first_fault later) ≡ Some r → cond b (Some reason) (first_fault (later ++ more)) ≡ Some r
+fault_sooner : (b : Bool) (reason r : Reason) (later more : List Fault) → (first_fault later ≡ Some r → first_fault (later ++ more) ≡ Some r) → cond b (Some reason) (first_fault later) ≡ Some r → cond b (Some reason) (first_fault (later ++ more)) ≡ Some r
 fault_sooner true reason r later more rest e = e
 fault_sooner false reason r later more rest e = rest e
 
-pub fault_before : (faults more : List Fault) (r : ℕ) → first_fault faults ≡ Some r → first_fault (faults ++ more) ≡ Some r
+pub fault_before : (faults more : List Fault) (r : Reason) → first_fault faults ≡ Some r → first_fault (faults ++ more) ≡ Some r
 fault_before [] more r e = cc
 fault_before (fault ∷ later) more r e = fault_sooner fault.1 fault.0 r later more (fault_before later more r) e
 
 -- two readings, one after the other
-pub first_fails : {X Z : Type 0} (faults more : List Fault) (x : X) (z : Z) (reason : ℕ) → Err reason ≡ unless (first_fault faults) x → Err reason ≡ unless (first_fault (faults ++ more)) z
+pub first_fails : {X Z : Type 0} (faults more : List Fault) (x : X) (z : Z) (reason : Reason) → Err reason ≡ unless (first_fault faults) x → Err reason ≡ unless (first_fault (faults ++ more)) z
 first_fails faults more x z reason e = sym (ap (λ r. unless r z) (fault_before faults more reason (refuses (first_fault faults) x reason e)))
 
-pub second_fails : {X Y Z : Type 0} (faults : List Fault) (more : X → List Fault) (x y : X) (f : X → Y) (z : Z) (reason : ℕ)
+pub second_fails : {X Y Z : Type 0} (faults : List Fault) (more : X → List Fault) (x y : X) (f : X → Y) (z : Z) (reason : Reason)
     → Ok y ≡ unless (first_fault faults) x → Err reason ≡ unless (first_fault (more y)) (f y) → Err reason ≡ unless (first_fault (faults ++ more x)) z
 second_fails faults more x y f z reason e h =
     let parts : (first_fault faults ≡ None) × (y ≡ x) = passes (first_fault faults) x y e in
@@ -57,7 +58,7 @@ place_passes place (fault ∷ later) more e = passed fault.1 (place_passes place
     passed true rest h = cc
     passed false rest h = rest h
 
-pub place_fails : (place : ℕ) (faults : List Fault) (more : List Check) (reason : ℕ) → first_fault faults ≡ Some reason → answer (at_place place faults ++ more) ≡ Some (record { reason = reason; place = place })
+pub place_fails : (place : ℕ) (faults : List Fault) (more : List Check) (reason : Reason) → first_fault faults ≡ Some reason → answer (at_place place faults ++ more) ≡ Some (record { reason = reason; place = place })
 place_fails place [] more reason e = cc
 place_fails place (fault ∷ later) more reason e = failed fault.1 (place_fails place later more reason) e
   where

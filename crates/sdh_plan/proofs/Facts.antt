@@ -13,6 +13,8 @@ use Rattle.sdh_terms.specs.Rates.{n_of}
 use Rattle.sdh_circuits.specs.Provisioned.{Provisioned}
 use Rattle.sdh_plan.specs.declared.step.Step.{Step}
 use Rattle.sdh_plan.specs.declared.step.Step.TheVariants as step
+use Rattle.sdh_plan.specs.declared.reason.Reason.{Reason}
+use Rattle.sdh_plan.specs.declared.reason.Reason.TheVariants as reason
 use Rattle.sdh_plan.specs.Verbs as verb
 use Rattle.sdh_plan.specs.Check.{Check, Refusal, Fault, answer, at_place, first_fault}
 use Rattle.sdh_plan.specs.Document.{text_of, elements_in, is_array_of, is_text}
@@ -23,9 +25,9 @@ use Rattle.sdh_plan.specs.Steps.{Past, node_at, side_at, part_faults, place_of, 
 use Rattle.sdh_plan.specs.Scripts.{IsStepIn, HasRoom, AreSteps}
 use Rattle.sdh_plan.proofs.Forms.{mismatch}
 
-later_none : (b : Bool) (reason : ℕ) (r : Option ℕ) → cond b (Some reason) r ≡ None → r ≡ None
-later_none true reason r e = cc
-later_none false reason r e = e
+later_none : (b : Bool) (why : Reason) (r : Option Reason) → cond b (Some why) r ≡ None → r ≡ None
+later_none true why r e = cc
+later_none false why r e = e
 
 both_none : (faults more : List Fault) → first_fault (faults ++ more) ≡ None → (first_fault faults ≡ None) × (first_fault more ≡ None)
 both_none [] more e = (refl, e)
@@ -66,23 +68,23 @@ number_within low high word k e = within (is_number word) (decimal_from 0 word) 
     within b d h = (grind (arith, nat_tests), grind (arith, nat_tests))
 
 -- a word that is to be a node's, and isn't refused
-node_there : (nodes word : List ℕ) (rest : Bool) (r : Option ℕ) → cond (is_none (node_at nodes word) || rest) (Some 24) r ≡ None → (unwrap_or (node_at nodes word) (record { 0 = 0 })).0 < length nodes
+node_there : (nodes word : List ℕ) (rest : Bool) (r : Option Reason) → cond (is_none (node_at nodes word) || rest) (Some reason.StepNode) r ≡ None → (unwrap_or (node_at nodes word) (record { 0 = 0 })).0 < length nodes
 node_there nodes word rest r e = named (node_at nodes word) (in_ring nodes word) e
   where
-    named : (o : Option Pos) → ((p : Pos) → o ≡ Some p → p.0 < length nodes) → cond (is_none o || rest) (Some 24) r ≡ None → (unwrap_or o (record { 0 = 0 })).0 < length nodes
+    named : (o : Option Pos) → ((p : Pos) → o ≡ Some p → p.0 < length nodes) → cond (is_none o || rest) (Some reason.StepNode) r ≡ None → (unwrap_or o (record { 0 = 0 })).0 < length nodes
     named None h e' = cc
     named (Some p) h e' = h p refl
 
-number_there : (low high : ℕ) (word : List ℕ) (rest : Bool) (r : Option ℕ) → cond (is_none (numeral_in low high word) || rest) (Some 26) r ≡ None
+number_there : (low high : ℕ) (word : List ℕ) (rest : Bool) (r : Option Reason) → cond (is_none (numeral_in low high word) || rest) (Some reason.StepNumber) r ≡ None
     → (low ≤ unwrap_or (numeral_in low high word) 0) × (unwrap_or (numeral_in low high word) 0 ≤ high)
 number_there low high word rest r e = told (numeral_in low high word) (number_within low high word) e
   where
-    told : (o : Option ℕ) → ((k : ℕ) → o ≡ Some k → (low ≤ k) × (k ≤ high)) → cond (is_none o || rest) (Some 26) r ≡ None → (low ≤ unwrap_or o 0) × (unwrap_or o 0 ≤ high)
+    told : (o : Option ℕ) → ((k : ℕ) → o ≡ Some k → (low ≤ k) × (k ≤ high)) → cond (is_none o || rest) (Some reason.StepNumber) r ≡ None → (low ≤ unwrap_or o 0) × (unwrap_or o 0 ≤ high)
     told None h e' = cc
     told (Some k) h e' = h k refl
 
 too_many_none : (nodes : List ℕ) (parts : List Part) (others : List (List ℕ)) → length parts < length others → first_fault (part_faults nodes parts others) ≡ None → ⊥
-too_many_none nodes parts others h e = let wrong : ◌≡◌ {A = Option ℕ} (Some 23) None = sym (mismatch nodes parts others h) ∙ e in cc
+too_many_none nodes parts others h e = let wrong : ◌≡◌ {A = Option Reason} (Some reason.StepForm) None = sym (mismatch nodes parts others h) ∙ e in cc
 
 place_within : (nodes : List ℕ) (others : List (List ℕ)) → first_fault (part_faults nodes (node ∷ side ∷ []) others) ≡ None → (place_of nodes others).0 < length nodes
 unfolding part_faults
@@ -99,8 +101,8 @@ degree_within high nodes (a ∷ []) e = cc
 degree_within high nodes (a ∷ (b ∷ [])) e = cc
 degree_within high nodes (a ∷ (b ∷ (c ∷ []))) e =
     let bounds : (1 ≤ unwrap_or (numeral_in 1 high c) 0) × (unwrap_or (numeral_in 1 high c) 0 ≤ high) =
-    number_there 1 high c false None (later_none (is_none (side_at b) || (false || false)) 25 (cond (is_none (numeral_in 1 high c) || false) (Some 26) None)
-    (later_none (is_none (node_at nodes a) || (false || (false || false))) 24 (cond (is_none (side_at b) || (false || false)) (Some 25) (cond (is_none (numeral_in 1 high c) || false) (Some 26) None)) e)) in
+    number_there 1 high c false None (later_none (is_none (side_at b) || (false || false)) reason.StepSide (cond (is_none (numeral_in 1 high c) || false) (Some reason.StepNumber) None)
+    (later_none (is_none (node_at nodes a) || (false || (false || false))) reason.StepNode (cond (is_none (side_at b) || (false || false)) (Some reason.StepSide) (cond (is_none (numeral_in 1 high c) || false) (Some reason.StepNumber) None)) e)) in
     (node_there nodes a _ _ e, bounds.0, bounds.1)
 degree_within high nodes (a ∷ (b ∷ (c ∷ (d ∷ ws)))) e = absurd (too_many_none nodes (node ∷ side ∷ number 1 high ∷ []) (a ∷ (b ∷ (c ∷ (d ∷ ws)))) (omega arith) e)
 
@@ -117,7 +119,7 @@ hold_within nodes [] e = cc
 hold_within nodes (a ∷ []) e = cc
 hold_within nodes (a ∷ (b ∷ [])) e =
     let bounds : (1 ≤ unwrap_or (numeral_in 1 100 b) 0) × (unwrap_or (numeral_in 1 100 b) 0 ≤ 100) =
-    number_there 1 100 b false None (later_none (is_none (node_at nodes a) || (false || false)) 24 (cond (is_none (numeral_in 1 100 b) || false) (Some 26) None) e) in
+    number_there 1 100 b false None (later_none (is_none (node_at nodes a) || (false || false)) reason.StepNode (cond (is_none (numeral_in 1 100 b) || false) (Some reason.StepNumber) None) e) in
     (node_there nodes a _ _ e, bounds.0, bounds.1)
 hold_within nodes (a ∷ (b ∷ (c ∷ ws))) e = absurd (too_many_none nodes (node ∷ number 1 100 ∷ []) (a ∷ (b ∷ (c ∷ ws))) (omega arith) e)
 
@@ -129,10 +131,10 @@ circuit_within circuits word k e = within (position_or_len (λ c. bytes_eq c.nam
     within : (at : ℕ) → cond (nat_lt at (length circuits)) (Some at) None ≡ Some k → k < length circuits
     within at h = grind (arith, nat_tests)
 
-circuit_there : (circuits : List Provisioned) (word : List ℕ) (rest : Bool) (r : Option ℕ) → cond (is_none (circuit_named circuits word) || rest) (Some 30) r ≡ None → unwrap_or (circuit_named circuits word) 0 < length circuits
+circuit_there : (circuits : List Provisioned) (word : List ℕ) (rest : Bool) (r : Option Reason) → cond (is_none (circuit_named circuits word) || rest) (Some reason.SlipPort) r ≡ None → unwrap_or (circuit_named circuits word) 0 < length circuits
 circuit_there circuits word rest r e = named (circuit_named circuits word) (circuit_within circuits word) e
   where
-    named : (o : Option ℕ) → ((k : ℕ) → o ≡ Some k → k < length circuits) → cond (is_none o || rest) (Some 30) r ≡ None → unwrap_or o 0 < length circuits
+    named : (o : Option ℕ) → ((k : ℕ) → o ≡ Some k → k < length circuits) → cond (is_none o || rest) (Some reason.SlipPort) r ≡ None → unwrap_or o 0 < length circuits
     named None h e' = cc
     named (Some k) h e' = h k refl
 
@@ -144,11 +146,11 @@ slip_within nodes circuits (a ∷ []) e = cc
 slip_within nodes circuits (a ∷ (b ∷ [])) e = cc
 slip_within nodes circuits (a ∷ (b ∷ (c ∷ []))) e = cc
 slip_within nodes circuits (a ∷ (b ∷ (c ∷ (d ∷ [])))) e =
-    let counted : Option ℕ = cond (is_none (numeral_in 1 16 d) || false) (Some 26) None in
-    let turned : Option ℕ = cond (is_none (turn_at c) || (false || false)) (Some 25) counted in
+    let counted : Option Reason = cond (is_none (numeral_in 1 16 d) || false) (Some reason.StepNumber) None in
+    let turned : Option Reason = cond (is_none (turn_at c) || (false || false)) (Some reason.StepSide) counted in
     let bounds : (1 ≤ unwrap_or (numeral_in 1 16 d) 0) × (unwrap_or (numeral_in 1 16 d) 0 ≤ 16) =
-    number_there 1 16 d false None (later_none (is_none (turn_at c) || (false || false)) 25 counted
-    (later_none (is_none (circuit_named circuits a) || (is_none (end_at b) || (false || (false || false)))) 30 turned e)) in
+    number_there 1 16 d false None (later_none (is_none (turn_at c) || (false || false)) reason.StepSide counted
+    (later_none (is_none (circuit_named circuits a) || (is_none (end_at b) || (false || (false || false)))) reason.SlipPort turned e)) in
     (circuit_there circuits a _ _ e, bounds.0, bounds.1)
 slip_within nodes circuits (a ∷ (b ∷ (c ∷ (d ∷ (f ∷ ws))))) e =
     absurd (too_many_none nodes (verb.circuit circuits ∷ verb.end ∷ verb.turn ∷ number 1 16 ∷ []) (a ∷ (b ∷ (c ∷ (d ∷ (f ∷ ws))))) (omega arith) e)
@@ -226,7 +228,7 @@ pub script_fits : (ms : Members) (rate : Rate) (nodes : List ℕ) (circuits : Li
 unfolding script_checks
 script_fits ms rate nodes circuits n steps h e made =
     let ds : List Data = elements_in (codes "script") ms in
-    let first : (not (is_array_of is_text (codes "script") ms) ≡ false) × (answer (whole 21 (not (is_script_length (length ds))) ∷ texts_checks n nodes circuits ds) ≡ None) = check_none _ _ _ e in
+    let first : (not (is_array_of is_text (codes "script") ms) ≡ false) × (answer (whole reason.ScriptLength (not (is_script_length (length ds))) ∷ texts_checks n nodes circuits ds) ≡ None) = check_none _ _ _ e in
     let second : (not (is_script_length (length ds)) ≡ false) × (answer (texts_checks n nodes circuits ds) ≡ None) = check_none _ _ _ first.1 in
     let parts : (answer (steps_checks n nodes circuits start 1 ds) ≡ None) × (answer (last_check (map (λ d. step_of n nodes circuits (text_of d)) ds) ∷ []) ≡ None) =
     answers_none (steps_checks n nodes circuits start 1 ds) (last_check (map (λ d. step_of n nodes circuits (text_of d)) ds) ∷ []) second.1 in

@@ -8,6 +8,7 @@ use Rattle.sdh_circuits.specs.Provisioning.{Provisioning}
 use Rattle.sdh_circuits.specs.Checks.{with_circuit}
 use Rattle.sdh_plan.specs.declared.error.PlanError.{PlanError}
 use Rattle.sdh_plan.specs.declared.error.PlanError.TheVariants as error
+use Rattle.sdh_plan.specs.declared.reason.Reason.{Reason}
 use Rattle.sdh_plan.specs.Check.{Refusal, answer, first_fault}
 use Rattle.sdh_plan.specs.Refusals.{IsRefused, refusal_at}
 use Rattle.sdh_plan.specs.Circuits.{circuit_in, circuit_faults, circuits_checks, members_of, kept_ring, provisioned}
@@ -55,7 +56,7 @@ module _ (slots : ℕ) (nodes : List ℕ) (values : List Value) where
         ∙ ap (provisioned slots nodes) (grown i v h e);
   }
 
-  refused_there : (i : ℕ) (o : Option ℕ) (why : PlanError) (all : Option Refusal) → ((reason : ℕ) → o ≡ Some reason → all ≡ Some (record { reason = reason; place = i + 1 })) → IsRefused (refusal_at (i + 1) o) why → IsRefused all why
+  refused_there : (i : ℕ) (o : Option Reason) (why : PlanError) (all : Option Refusal) → ((reason : Reason) → o ≡ Some reason → all ≡ Some (record { reason = reason; place = i + 1 })) → IsRefused (refusal_at (i + 1) o) why → IsRefused all why
   refused_there i None error.Memory all fails e = tt
   refused_there i None error.NotToml all fails e = e
   refused_there i None (error.BadPlan r p) all fails e = cc

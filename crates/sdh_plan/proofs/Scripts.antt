@@ -1,15 +1,29 @@
 -- The steps of a script, one after the other.
-use Rattle.std.proofs.Common.{◌≡◌, ℕ, ◌+◌, ◌<◌, ◌≤◌, List, [], ◌∷◌, ◌++◌, map, length, take, drop, get_or, Some, None, Result, Ok, Err, refl, ap, sym, subst, ◌∙◌, true, false, not, cond}
+use Rattle.std.proofs.Common.{◌≡◌, ℕ, ◌+◌, ◌<◌, ◌≤◌, List, [], ◌∷◌, ◌++◌, map, length, take, drop, get_or, Some, None, Result, Ok, Err, MatchResult, refl, ap, sym, subst, ◌∙◌, true, false, not, cond}
 use Rattle.std.proofs.lemmas.List.{drop_more, drop_all, take_more, take_all, map-append, length-map}
 use Rattle.toml.specs.declared.value.Value.{Value}
 use Rattle.toml.specs.View.{view}
 use Rattle.sdh_circuits.specs.Provisioned.{Provisioned}
+use Rattle.sdh_plan.specs.declared.error.PlanError.{PlanError}
+use Rattle.sdh_plan.specs.declared.error.PlanError.TheVariants as error
 use Rattle.sdh_plan.specs.declared.step.Step.{Step}
+use Rattle.sdh_plan.specs.declared.reason.Reason.{Reason}
+use Rattle.sdh_plan.specs.declared.reason.Reason.TheVariants as reason
 use Rattle.sdh_plan.specs.Document.{text_of}
 use Rattle.sdh_plan.specs.Check.{answer, first_fault, unless}
 use Rattle.sdh_plan.specs.Steps.{Past, step_of, step_faults, steps_checks, start, after, ends_settled}
 use Rattle.sdh_plan.specs.Plans.{texts_checks, last_check}
 use Rattle.sdh_plan.proofs.Checking.{answer_behind, passes, refuses, place_passes, place_fails}
+
+-- what was told of a step, by what comes of it once its reason has a place
+pub placed_step : (told : Result Step Reason) (s : Step) (Q : Reason → Type 0) → MatchResult told (λ t. ◌≡◌ {A = Result Step PlanError} (Ok s) (Ok t)) Q → ((why : Reason) → Q why → ⊥) → told ≡ Ok s
+placed_step (Ok t) s Q h never = let e : ◌≡◌ {A = Result Step PlanError} (Ok s) (Ok t) = h in let same : t ≡ s = cc in ap Ok same
+placed_step (Err why) s Q h never = absurd (never why h)
+
+pub placed_reason : (told : Result Step Reason) (place : ℕ) (why : PlanError) (Q : Reason → Type 0) → MatchResult told (λ t. ◌≡◌ {A = Result Step PlanError} (Err why) (Ok t)) Q
+    → ((r : Reason) → Q r → why ≡ error.BadPlan r place) → (r : Reason) × (told ≡ Err r) × (why ≡ error.BadPlan r place)
+placed_reason (Ok t) place why Q h is = let e : ◌≡◌ {A = Result Step PlanError} (Err why) (Ok t) = h in cc
+placed_reason (Err r) place why Q h is = (r, refl, is r h)
 
 module _ (n : ℕ) (nodes : List ℕ) (circuits : List Provisioned) (values : List Value) where
   abbrev text_in : Value → List ℕ
@@ -29,7 +43,7 @@ module _ (n : ℕ) (nodes : List ℕ) (circuits : List Provisioned) (values : Li
       ∙ ap (λ w. answer (steps_checks n nodes circuits past (i + 1) (view w ∷ map view (drop (i + 1) values)))) (sym e)
 
   -- what is told of the text
-  abbrev pub Tells : Past → List ℕ → Result Step ℕ → Type 0
+  abbrev pub Tells : Past → List ℕ → Result Step Reason → Type 0
   Tells past text told = told ≡ unless (first_fault (step_faults n nodes circuits past text)) (step_of n nodes circuits text)
 
   pub read_next : (past next : Past) (steps more : List Step) (step : Step) (i : ℕ) (v : Value) (text : List ℕ) → Read past steps i → i < length values → v ≡ get_or values i v → text ≡ text_in v → more ≡ steps ++ step ∷ []
@@ -45,11 +59,11 @@ module _ (n : ℕ) (nodes : List ℕ) (circuits : List Provisioned) (values : Li
             ∙ sym (map-append step_in (take i values) (get_or values i v ∷ [])) ∙ ap (map step_in) (sym (take_more values i v h));
       }
 
-  pub read_fails : (past : Past) (steps : List Step) (i : ℕ) (v : Value) (text : List ℕ) (reason : ℕ) → Read past steps i → i < length values → v ≡ get_or values i v → text ≡ text_in v
-      → Tells past text (Err reason) → answer (steps_checks n nodes circuits start 1 (map view values)) ≡ Some (record { reason = reason; place = i + 1 })
-  read_fails past steps i v text reason before h e is told =
-      before.checks ∙ here past i v h e ∙ place_fails (i + 1) (step_faults n nodes circuits past (text_in v)) (steps_checks n nodes circuits (after past (step_in v)) (i + 1 + 1) (map view (drop (i + 1) values))) reason
-      (refuses _ _ _ (subst (λ (t : List ℕ). Tells past t (Err reason)) is told))
+  pub read_fails : (past : Past) (steps : List Step) (i : ℕ) (v : Value) (text : List ℕ) (why : Reason) → Read past steps i → i < length values → v ≡ get_or values i v → text ≡ text_in v
+      → Tells past text (Err why) → answer (steps_checks n nodes circuits start 1 (map view values)) ≡ Some (record { reason = why; place = i + 1 })
+  read_fails past steps i v text why before h e is told =
+      before.checks ∙ here past i v h e ∙ place_fails (i + 1) (step_faults n nodes circuits past (text_in v)) (steps_checks n nodes circuits (after past (step_in v)) (i + 1 + 1) (map view (drop (i + 1) values))) why
+      (refuses _ _ _ (subst (λ (t : List ℕ). Tells past t (Err why)) is told))
 
   pub read_all : (past : Past) (steps : List Step) (i : ℕ) → Read past steps i → length values ≤ i → answer (steps_checks n nodes circuits start 1 (map view values)) ≡ None
   read_all past steps i before h = before.checks ∙ ap (λ l. answer (steps_checks n nodes circuits past (i + 1) (map view l))) (drop_all i values h)
@@ -71,12 +85,12 @@ module _ (n : ℕ) (nodes : List ℕ) (circuits : List Provisioned) (values : Li
       ∙ ap (λ l. answer (last_check l ∷ [])) (sym e)
 
   pub last_fails : (steps : List Step) → answer (steps_checks n nodes circuits start 1 (map view values)) ≡ None → steps ≡ map (λ d. step_of n nodes circuits (text_of d)) (map view values) → ends_settled steps ≡ false
-      → answer (texts_checks n nodes circuits (map view values)) ≡ Some (record { reason = 29; place = length values })
+      → answer (texts_checks n nodes circuits (map view values)) ≡ Some (record { reason = reason.LastStep; place = length values })
   last_fails steps passed e fails =
       last_checked steps passed e
-      ∙ ap (λ b. cond (not b) (Some (record { reason = 29; place = length steps })) None) fails
-      ∙ ap (λ k. Some (record { reason = 29; place = k })) (counted steps e)
+      ∙ ap (λ b. cond (not b) (Some (record { reason = reason.LastStep; place = length steps })) None) fails
+      ∙ ap (λ k. Some (record { reason = reason.LastStep; place = k })) (counted steps e)
 
   pub last_passes : (steps : List Step) → answer (steps_checks n nodes circuits start 1 (map view values)) ≡ None → steps ≡ map (λ d. step_of n nodes circuits (text_of d)) (map view values) → ends_settled steps ≡ true
       → answer (texts_checks n nodes circuits (map view values)) ≡ None
-  last_passes steps passed e settled = last_checked steps passed e ∙ ap (λ b. cond (not b) (Some (record { reason = 29; place = length steps })) None) settled
+  last_passes steps passed e settled = last_checked steps passed e ∙ ap (λ b. cond (not b) (Some (record { reason = reason.LastStep; place = length steps })) None) settled

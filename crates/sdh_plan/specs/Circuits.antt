@@ -7,7 +7,7 @@ use Rattle.sdh_circuits.specs.Provisioned.{Provisioned}
 use Rattle.sdh_circuits.specs.Provisioning.{Provisioning}
 use Rattle.sdh_plan.specs.Check.{Check, Fault, at_place}
 use Rattle.sdh_plan.specs.Document.{◌>>=◌, integer_at, text_at, has_only}
-use Rattle.sdh_plan.specs.Reasons as reason
+use Rattle.sdh_plan.specs.declared.reason.Reason.TheVariants as reason
 
 -- the keys that a circuit may have
 abbrev pub circuit_keys : List (List ℕ)
@@ -57,21 +57,21 @@ circuit_in nodes ms = circuit_of nodes (wish_of_table ms)
 -- the checks of what is asked for, behind circuits that were asked for before
 unfoldable pub wish_faults : ℕ → List ℕ → List Provisioned → Wish → List Fault
 wish_faults slots nodes before wish =
-    (reason.slot, not (has_slot slots wish))
-    ∷ (reason.end, not (has_ends nodes wish))
-    ∷ (reason.same_ends, not (has_two_ends wish))
-    ∷ (reason.offset, not (has_offsets wish))
-    ∷ (reason.text, not (has_texts wish))
-    ∷ (reason.trace, not (has_traces wish))
-    ∷ (reason.name, not (is_free_name before wish.name))
-    ∷ (reason.overlap, not (has_room nodes before wish))
+    (reason.Slot, not (has_slot slots wish))
+    ∷ (reason.End, not (has_ends nodes wish))
+    ∷ (reason.SameEnds, not (has_two_ends wish))
+    ∷ (reason.Offset, not (has_offsets wish))
+    ∷ (reason.Text, not (has_texts wish))
+    ∷ (reason.Trace, not (has_traces wish))
+    ∷ (reason.Name, not (is_free_name before wish.name))
+    ∷ (reason.Overlap, not (has_room nodes before wish))
     ∷ []
 
 -- all checks of the circuit that a table asks for
 unfoldable pub circuit_faults : ℕ → List ℕ → List Provisioned → Members → List Fault
 circuit_faults slots nodes before ms =
-    (reason.unknown_key, not (has_only circuit_keys ms))
-    ∷ (reason.circuit_field, is_none (wish_in ms))
+    (reason.UnknownKey, not (has_only circuit_keys ms))
+    ∷ (reason.CircuitField, is_none (wish_in ms))
     ∷ wish_faults slots nodes before (wish_of_table ms)
 
 -- the checks of the circuits from this place on, one after the other

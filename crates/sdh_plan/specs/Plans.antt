@@ -14,7 +14,8 @@ use Rattle.sdh_plan.specs.Document.{◌>>=◌, has_only, number_at, elements_in,
 use Rattle.sdh_plan.specs.Circuits.{members_of, circuit_in, circuits_checks}
 use Rattle.sdh_plan.specs.Steps.{step_of, steps_checks, start, ends_settled}
 use Rattle.sdh_plan.specs.Planned.{Planned}
-use Rattle.sdh_plan.specs.Reasons as reason
+use Rattle.sdh_plan.specs.declared.reason.Reason.{Reason}
+use Rattle.sdh_plan.specs.declared.reason.Reason.TheVariants as reason
 
 -- the keys that a document may have
 abbrev pub document_keys : List (List ℕ)
@@ -56,46 +57,46 @@ abbrev pub steps_in : Members → List Step
 steps_in ms = map (λ d. step_of (n_in ms) (nodes_in ms) (circuits_in (nodes_in ms) ms) (text_of d)) (elements_in (codes "script") ms)
 
 -- a check of the document
-abbrev pub whole : ℕ → Bool → Check
+abbrev pub whole : Reason → Bool → Check
 whole reason fails = record { reason = reason; place = 0; fails = fails }
 
 -- a check that fails where there is such a node, at the first of them; its place is counted from 0 here
-abbrev pub first_node : ℕ → Option ℕ → Check
+abbrev pub first_node : Reason → Option ℕ → Check
 first_node reason at = record { reason = reason; place = option_map_or (λ i. i + 1) at 0; fails = is_some at }
 
 -- the checks of the identifiers
 unfoldable pub number_checks : List ℤ → List Check
 number_checks numbers =
-    whole reason.node_count (not (is_ring_size (length numbers)))
-    ∷ first_node reason.node_id (first_unfit numbers)
-    ∷ first_node reason.repeat (first_repeat numbers)
+    whole reason.NodeCount (not (is_ring_size (length numbers)))
+    ∷ first_node reason.NodeId (first_unfit numbers)
+    ∷ first_node reason.Repeat (first_repeat numbers)
     ∷ []
 
 -- the checks of the keys, the rate and the nodes
 unfoldable pub ring_checks : Members → List Check
 ring_checks ms =
-    whole reason.unknown_key (not (has_only document_keys ms))
-    ∷ whole reason.rate (is_none (rate_at ms))
-    ∷ whole reason.nodes (not (is_array_of is_integer (codes "nodes") ms))
+    whole reason.UnknownKey (not (has_only document_keys ms))
+    ∷ whole reason.Rate (is_none (rate_at ms))
+    ∷ whole reason.Nodes (not (is_array_of is_integer (codes "nodes") ms))
     ∷ number_checks (numbers_in ms)
 
 -- the checks of the other numbers
 unfoldable pub settings_checks : ℕ → Members → List Check
 settings_checks n ms =
-    whole reason.threshold (is_none (threshold_at n ms))
-    ∷ whole reason.wait (is_none (wait_at ms))
-    ∷ whole reason.limit (is_none (limit_at ms))
+    whole reason.Threshold (is_none (threshold_at n ms))
+    ∷ whole reason.Wait (is_none (wait_at ms))
+    ∷ whole reason.Limit (is_none (limit_at ms))
     ∷ []
 
 -- the checks of the circuits, in a ring of these nodes at STM-n
 unfoldable pub provision_checks : ℕ → List ℕ → Members → List Check
 provision_checks n nodes ms =
-    whole reason.circuits (is_some (get_member (codes "circuit") ms) && not (is_array_of is_table (codes "circuit") ms))
+    whole reason.Circuits (is_some (get_member (codes "circuit") ms) && not (is_array_of is_table (codes "circuit") ms))
     ∷ circuits_checks (n / 2) nodes [] 1 (elements_in (codes "circuit") ms)
 
 -- the check of the last step
 abbrev pub last_check : List Step → Check
-last_check steps = record { reason = reason.last_step; place = length steps; fails = not (ends_settled steps) }
+last_check steps = record { reason = reason.LastStep; place = length steps; fails = not (ends_settled steps) }
 
 -- the checks of the texts of a script, in a ring of these nodes and circuits at STM-n
 abbrev pub texts_checks : ℕ → List ℕ → List Provisioned → List Data → List Check
@@ -108,8 +109,8 @@ is_script_length k = nat_le 1 k && nat_le k 1000
 -- the checks of the script, in a ring of these nodes and circuits at STM-n
 unfoldable pub script_checks : ℕ → List ℕ → List Provisioned → Members → List Check
 script_checks n nodes circuits ms =
-    whole reason.script (not (is_array_of is_text (codes "script") ms))
-    ∷ whole reason.script_length (not (is_script_length (length (elements_in (codes "script") ms))))
+    whole reason.Script (not (is_array_of is_text (codes "script") ms))
+    ∷ whole reason.ScriptLength (not (is_script_length (length (elements_in (codes "script") ms))))
     ∷ texts_checks n nodes circuits (elements_in (codes "script") ms)
 
 -- all checks of a document, in their order

@@ -5,7 +5,8 @@ use Rattle.sdh_circuits.specs.declared.AddError.TheVariants as refused
 use Rattle.sdh_plan.specs.Check.{Refusal}
 use Rattle.sdh_plan.specs.declared.error.PlanError.{PlanError}
 use Rattle.sdh_plan.specs.declared.error.PlanError.TheVariants as error
-use Rattle.sdh_plan.specs.Reasons as reason
+use Rattle.sdh_plan.specs.declared.reason.Reason.{Reason}
+use Rattle.sdh_plan.specs.declared.reason.Reason.TheVariants as reason
 
 -- the reason and the place are these; want of memory may come at any time
 abbrev pub IsRefused : Option Refusal → PlanError → Type 0
@@ -14,17 +15,17 @@ IsRefused refusal error.NotToml = ⊥
 IsRefused refusal (error.BadPlan reason place) = refusal ≡ Some (record { reason = reason; place = place })
 
 -- a reason, where there is one, at this place
-abbrev pub refusal_at : ℕ → Option ℕ → Option Refusal
+abbrev pub refusal_at : ℕ → Option Reason → Option Refusal
 refusal_at place reason = option_map (λ r. record { reason = r; place = place }) reason
 
 -- the reason for which a circuit isn't added; want of memory has none
-abbrev pub reason_of : AddError → Option ℕ
+abbrev pub reason_of : AddError → Option Reason
 reason_of refused.Memory = None
-reason_of refused.Slot = Some reason.slot
-reason_of refused.End = Some reason.end
-reason_of refused.SameEnds = Some reason.same_ends
-reason_of refused.Offset = Some reason.offset
-reason_of refused.Text = Some reason.text
-reason_of refused.Trace = Some reason.trace
-reason_of refused.Name = Some reason.name
-reason_of refused.Overlap = Some reason.overlap
+reason_of refused.Slot = Some reason.Slot
+reason_of refused.End = Some reason.End
+reason_of refused.SameEnds = Some reason.SameEnds
+reason_of refused.Offset = Some reason.Offset
+reason_of refused.Text = Some reason.Text
+reason_of refused.Trace = Some reason.Trace
+reason_of refused.Name = Some reason.Name
+reason_of refused.Overlap = Some reason.Overlap

@@ -25,7 +25,7 @@ use Rattle.toml.specs.Data.{Data}
 use Rattle.sdh_plan.specs.Document.{text_of}
 use Rattle.sdh_plan.specs.Check.{Fault, Check, at_place}
 use Rattle.sdh_plan.specs.Words.{words, is_empty, numeral_in}
-use Rattle.sdh_plan.specs.Reasons as reason
+use Rattle.sdh_plan.specs.declared.reason.Reason.TheVariants as reason
 
 -- the position of the node whose identifier the word is
 unfoldable pub node_at : List ℕ → List ℕ → Option Pos
@@ -91,17 +91,17 @@ any_amiss amiss _ _ = false
 -- the checks of the words behind the first
 unfoldable pub part_faults : List ℕ → List Part → List (List ℕ) → List Fault
 part_faults nodes parts others =
-    (reason.step_form, not (length others == length parts))
-    ∷ (reason.step_node, any_amiss (no_node nodes) parts others)
-    ∷ (reason.slip_port, any_amiss no_port parts others)
-    ∷ (reason.step_side, any_amiss no_side parts others)
-    ∷ (reason.step_number, any_amiss no_number parts others)
+    (reason.StepForm, not (length others == length parts))
+    ∷ (reason.StepNode, any_amiss (no_node nodes) parts others)
+    ∷ (reason.SlipPort, any_amiss no_port parts others)
+    ∷ (reason.StepSide, any_amiss no_side parts others)
+    ∷ (reason.StepNumber, any_amiss no_number parts others)
     ∷ []
 
 -- the checks behind the first word, which is to be listed
 abbrev pub verb_faults : ℕ → List ℕ → List Provisioned → Option Verb → List (List ℕ) → List Fault
-verb_faults n nodes circuits None others = (reason.step_word, true) ∷ []
-verb_faults n nodes circuits (Some v) others = (reason.step_word, false) ∷ part_faults nodes (parts_of n circuits v) others
+verb_faults n nodes circuits None others = (reason.StepWord, true) ∷ []
+verb_faults n nodes circuits (Some v) others = (reason.StepWord, false) ∷ part_faults nodes (parts_of n circuits v) others
 
 -- the word at a place behind the first, counted from 0; no bytes where there is none
 abbrev pub word_at : List (List ℕ) → ℕ → List ℕ
@@ -146,8 +146,8 @@ verb_step n nodes circuits verb.Slip others = step.Slip (port_named circuits oth
 
 -- the checks of a step's words
 unfoldable pub form_faults : ℕ → List ℕ → List Provisioned → List (List ℕ) → List Fault
-form_faults n nodes circuits [] = (reason.step_form, true) ∷ []
-form_faults n nodes circuits (first ∷ others) = (reason.step_form, list_any is_empty (first ∷ others)) ∷ verb_faults n nodes circuits (verb_of first) others
+form_faults n nodes circuits [] = (reason.StepForm, true) ∷ []
+form_faults n nodes circuits (first ∷ others) = (reason.StepForm, list_any is_empty (first ∷ others)) ∷ verb_faults n nodes circuits (verb_of first) others
 
 -- the step that a first word gives with those behind it; any step where it isn't listed
 abbrev pub told_step : ℕ → List ℕ → List Provisioned → Option Verb → List (List ℕ) → Step
@@ -220,9 +220,9 @@ ends_settled steps = option_map_or is_settle (slice_get steps (length steps - 1)
 -- the checks of a step against what the script has led to
 unfoldable pub past_faults : Past → Step → List Fault
 past_faults past this =
-    (reason.moment_back, is_back past.moment this)
-    ∷ (reason.slips, is_too_many past.slips this)
-    ∷ (reason.settles, is_settle this && nat_le 64 past.settles)
+    (reason.MomentBack, is_back past.moment this)
+    ∷ (reason.Slips, is_too_many past.slips this)
+    ∷ (reason.Settles, is_settle this && nat_le 64 past.settles)
     ∷ []
 
 -- all checks of the step that a text gives

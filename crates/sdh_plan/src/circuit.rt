@@ -1,9 +1,10 @@
 //! The circuits that a document asks for.
-ghost use Rattle.std.specs.Prelude.{◌≡◌, ◌⊎◌, ◌/◌, ◌+◌, [], None, option_map, map, string_bytes, IfSome, IfOk, IfErr, OnOk, codes};
+ghost use Rattle.std.specs.Prelude.{◌≡◌, ◌/◌, ◌+◌, [], None, option_map, map, string_bytes, IfSome, IfOk, IfErr, OnOk, codes};
 ghost use Rattle.std.specs.BTreeMap.{keys};
 ghost use Rattle.std.specs.List.{list_all};
 ghost use Rattle.toml.specs.View.{view, table_view};
 ghost use Rattle.toml.specs.Data.{as_array};
+ghost use Rattle.sdh_terms.specs.Rates.{n_of};
 ghost use Rattle.sdh_plan.specs.Plans.{circuits_in, provision_checks};
 ghost use Rattle.sdh_circuits.specs.Checks.{wish_of, with_circuit};
 ghost use Rattle.sdh_plan.specs.Check.{answer, first_fault};
@@ -13,9 +14,10 @@ ghost use Rattle.sdh_plan.specs.Refusals.{IsRefused, refusal_at, reason_of};
 
 use crate::document::{integer_under, is_text, text_under, value_under};
 use crate::error::{PlanError, of_document};
-use crate::reason;
+use crate::reason::Reason;
 use sdh_circuits::{AddError, Asked, CircuitMap};
 use sdh_ringmap::RingMap;
+use sdh_terms::Rate;
 use std::alloc::Global;
 use toml::value::Array;
 use toml::{Table, Value};
@@ -93,20 +95,20 @@ fn refused_at(place: u32, why: AddError) -> PlanError
 {
     let reason = match why {
         AddError::Memory => return PlanError::Memory,
-        AddError::Slot => reason::SLOT,
-        AddError::End => reason::END,
-        AddError::SameEnds => reason::SAME_ENDS,
-        AddError::Offset => reason::OFFSET,
-        AddError::Text => reason::TEXT,
-        AddError::Trace => reason::TRACE,
-        AddError::Name => reason::NAME,
-        AddError::Overlap => reason::OVERLAP,
+        AddError::Slot => Reason::Slot,
+        AddError::End => Reason::End,
+        AddError::SameEnds => Reason::SameEnds,
+        AddError::Offset => Reason::Offset,
+        AddError::Text => Reason::Text,
+        AddError::Trace => Reason::Trace,
+        AddError::Name => Reason::Name,
+        AddError::Overlap => Reason::Overlap,
     };
     PlanError::BadPlan { reason, place }
 }
 
 // Adds the circuit that a table asks for.
-#[tactic(auto, unfolding(crate::specs::Circuits::circuit_faults, crate::specs::Document::has_only), using(crate::proofs::Elements::all_keys_view, crate::proofs::Refusing::refused_by, crate::proofs::Refusing::all_passed))]
+#[tactic(auto, unfolding(crate::specs::Circuits::circuit_faults, crate::specs::Document::has_only), using(crate::proofs::Elements::all_keys_view, crate::proofs::Refusing::all_passed))]
 fn add_table(
     circuits: &mut CircuitMap,
     ring: &RingMap,
@@ -120,13 +122,13 @@ fn add_table(
 {
     if !has_circuit_keys(table) {
         return Err(PlanError::BadPlan {
-            reason: reason::UNKNOWN_KEY,
+            reason: Reason::UnknownKey,
             place,
         });
     }
     let Some(asked) = asked_under(table) else {
         return Err(PlanError::BadPlan {
-            reason: reason::CIRCUIT_FIELD,
+            reason: Reason::CircuitField,
             place,
         });
     };
@@ -152,31 +154,34 @@ fn add_circuit(
     match value.as_table() {
         Some(table) => add_table(circuits, ring, table, place),
         None => Err(PlanError::BadPlan {
-            reason: reason::CIRCUIT_FIELD,
+            reason: Reason::CircuitField,
             place,
         }),
     }
 }
 
-/// The circuits that the values ask for, in a ring at STM-n, or the first check that fails.
+// No circuits yet, at a rate. Half of N are working slots.
+fn no_circuits(alloc: Global, rate: Rate) -> CircuitMap
+    ensures { result ≡ record { slots = n_of rate / 2; ring = None; circuits = [] } }
+{
+    CircuitMap::new(alloc, (rate.n() / 2) as u8)
+}
+
+/// The circuits that the values ask for, in a ring at a rate, or the first check that fails.
 pub fn circuits_of(
     alloc: Global,
     ring: &RingMap,
-    n: u8,
+    rate: Rate,
     values: &[Value],
 ) -> Result<CircuitMap, PlanError>
-    requires { (n ≡ 4) ⊎ (n ≡ 16) }
-    ensures circuits { IfOk result (λ circuits. circuits ≡ provisioned (n / 2) ring.now (map (λ d. circuit_in ring.now (members_of d)) (map view values.now))) }
-    ensures passed { OnOk result (answer (circuits_checks (n / 2) ring.now [] 1 (map view values.now)) ≡ None) }
-    ensures refused { IfErr result (IsRefused (answer (circuits_checks (n / 2) ring.now [] 1 (map view values.now)))) }
+    ensures circuits { IfOk result (λ circuits. circuits ≡ provisioned (n_of rate / 2) ring.now (map (λ d. circuit_in ring.now (members_of d)) (map view values.now))) }
+    ensures passed { OnOk result (answer (circuits_checks (n_of rate / 2) ring.now [] 1 (map view values.now)) ≡ None) }
+    ensures refused { IfErr result (IsRefused (answer (circuits_checks (n_of rate / 2) ring.now [] 1 (map view values.now)))) }
 {
-    let mut circuits = CircuitMap::new(alloc, n / 2);
+    let mut circuits = no_circuits(alloc, rate);
     for value in values {
         let place = circuits.len() as u32 + 1;
-        match add_circuit(&mut circuits, ring, value, place) {
-            Ok(()) => {}
-            Err(error) => return Err(error),
-        }
+        add_circuit(&mut circuits, ring, value, place)?;
     }
     Ok(circuits)
 }
@@ -202,21 +207,20 @@ pub fn circuits_under(
     alloc: Global,
     table: &Table,
     ring: &RingMap,
-    n: u8,
+    rate: Rate,
 ) -> Result<CircuitMap, PlanError>
-    requires { (n ≡ 4) ⊎ (n ≡ 16) }
-    ensures circuits { IfOk result (λ circuits. circuits ≡ provisioned (n / 2) ring.now (circuits_in ring.now (table_view table.now))) }
-    ensures passed { OnOk result (answer (provision_checks n ring.now (table_view table.now)) ≡ None) }
-    ensures refused { IfErr result (IsRefused (answer (provision_checks n ring.now (table_view table.now)))) }
+    ensures circuits { IfOk result (λ circuits. circuits ≡ provisioned (n_of rate / 2) ring.now (circuits_in ring.now (table_view table.now))) }
+    ensures passed { OnOk result (answer (provision_checks (n_of rate) ring.now (table_view table.now)) ≡ None) }
+    ensures refused { IfErr result (IsRefused (answer (provision_checks (n_of rate) ring.now (table_view table.now)))) }
 {
     let Some(value) = value_under(table, "circuit") else {
-        return Ok(CircuitMap::new(alloc, n / 2));
+        return Ok(no_circuits(alloc, rate));
     };
     let Some(values) = array_of(value) else {
-        return Err(of_document(reason::CIRCUITS));
+        return Err(of_document(Reason::Circuits));
     };
     if !all_tables(values) {
-        return Err(of_document(reason::CIRCUITS));
+        return Err(of_document(Reason::Circuits));
     }
-    circuits_of(alloc, ring, n, values)
+    circuits_of(alloc, ring, rate, values)
 }

@@ -1,6 +1,8 @@
 //! Why there is no plan.
 ghost use Rattle.std.specs.Prelude.{◌≡◌};
 
+use crate::reason::Reason;
+use std::alloc::AllocFailed;
 use thiserror::Error;
 
 /// Why there is no plan.
@@ -13,12 +15,22 @@ pub enum PlanError {
     #[error("not a TOML document")]
     NotToml,
     /// A check of the plan fails. Places of nodes, circuits and steps count from 1, and 0 is the document.
-    #[error("the plan fails by reason {reason} at {place}")]
-    BadPlan { reason: u8, place: u32 },
+    #[error("the plan fails by reason {} at {place}", .reason.number())]
+    BadPlan { reason: Reason, place: u32 },
+}
+
+impl<T: Drop> From<AllocFailed<T>> for PlanError {
+    ghost use Rattle.sdh_plan.specs.declared.error.PlanError.TheVariants.{Memory};
+
+    ghost from_gives = { λ _ error. error ≡ Memory };
+
+    fn from(_failed: AllocFailed<T>) -> PlanError {
+        PlanError::Memory
+    }
 }
 
 /// A check of the whole document fails.
-pub fn of_document(reason: u8) -> PlanError
+pub fn of_document(reason: Reason) -> PlanError
     ensures { result ≡ PlanError.BadPlan reason 0 }
 {
     PlanError::BadPlan { reason, place: 0 }

@@ -1,19 +1,20 @@
 //! The forms of steps.
-ghost use Rattle.std.specs.Prelude.{◌≡◌, ◌≤◌, ◌∷◌, [], map, false};
+ghost use Rattle.std.specs.Prelude.{◌≡◌, ◌*◌, ◌∷◌, [], map, false, Some, is_none, IfOk, IfErr};
 ghost use Rattle.std.specs.List.{list_any};
+ghost use Rattle.sdh_terms.specs.Rates.{n_of};
 ghost use Rattle.sdh_plan.specs.Check.{first_fault, unless};
 ghost use Rattle.sdh_plan.specs.Verbs.{verb_of, node, side, number, circuit, end, turn};
 ghost use Rattle.sdh_plan.specs.Steps.{node_at, side_at, circuit_named, end_at, turn_at, part_faults, verb_faults, place_of, port_named, turn_of, fibre_step, order_step, number_of, word_at, told_step, form_faults, form_step};
 ghost use Rattle.sdh_plan.specs.Words.{words, is_empty};
 
-use crate::reason;
+use crate::reason::Reason;
 use crate::step::Step;
 use crate::words::{is_word, numeral_in, words_of};
 use sdh_circuits::{CircuitMap, End, PortId};
 use sdh_payload::Turn;
 use sdh_request::{Command, Moment};
 use sdh_ringmap::{Pos, RingMap, Side};
-use sdh_terms::{Condition, FibreEvent};
+use sdh_terms::{Condition, FibreEvent, Rate};
 
 // The position of the node whose identifier the word is.
 #[tactic(auto, unfolding(crate::specs::Steps::node_at))]
@@ -78,20 +79,29 @@ fn turn_at(word: &[u8]) -> Option<Turn>
     }
 }
 
+// The position of the node and the side that the words name, or the reason of the first check that fails.
+fn node_and_side(ring: &RingMap, node: &[u8], side: &[u8]) -> Result<(Pos, Side), Reason>
+    ensures both { IfOk result (λ both. (node_at ring.now node.now ≡ Some both.0) × (side_at side.now ≡ Some both.1)) }
+    ensures reason { IfErr result (λ reason. first_fault ((Reason.StepNode, is_none (node_at ring.now node.now)) ∷ (Reason.StepSide, is_none (side_at side.now)) ∷ []) ≡ Some reason) }
+{
+    let Some(at) = node_at(ring, node) else {
+        return Err(Reason::StepNode);
+    };
+    let Some(side) = side_at(side) else {
+        return Err(Reason::StepSide);
+    };
+    Ok((at, side))
+}
+
 // The fibre that the words name comes into the condition.
 #[tactic(auto, unfolding(crate::specs::Steps::part_faults))]
-fn fibre(ring: &RingMap, others: &[&[u8]], condition: Condition) -> Result<Step, u8>
+fn fibre(ring: &RingMap, others: &[&[u8]], condition: Condition) -> Result<Step, Reason>
     ensures { result ≡ unless (first_fault (part_faults ring.now (node ∷ side ∷ []) (map (λ word. word.now) others.now))) (fibre_step ring.now (map (λ word. word.now) others.now) condition) }
 {
     let [node, side] = others else {
-        return Err(reason::STEP_FORM);
+        return Err(Reason::StepForm);
     };
-    let Some(at) = node_at(ring, node) else {
-        return Err(reason::STEP_NODE);
-    };
-    let Some(side) = side_at(side) else {
-        return Err(reason::STEP_SIDE);
-    };
+    let (at, side) = node_and_side(ring, node, side)?;
     Ok(Step::Fibre(FibreEvent {
         at,
         side,
@@ -99,23 +109,17 @@ fn fibre(ring: &RingMap, others: &[&[u8]], condition: Condition) -> Result<Step,
     }))
 }
 
-// The fibre that the words name is degraded. `most` is the most that it can be.
+// The fibre that the words name is degraded, at most by 3N.
 #[tactic(auto, unfolding(crate::specs::Steps::part_faults))]
-fn degrade(ring: &RingMap, most: u16, others: &[&[u8]]) -> Result<Step, u8>
-    requires { most ≤ 48 }
-    ensures { result ≡ unless (first_fault (part_faults ring.now (node ∷ side ∷ number 1 most ∷ []) (map (λ word. word.now) others.now))) (fibre_step ring.now (map (λ word. word.now) others.now) (Condition.Degraded (number_of 1 most (word_at (map (λ word. word.now) others.now) 2)))) }
+fn degrade(ring: &RingMap, rate: Rate, others: &[&[u8]]) -> Result<Step, Reason>
+    ensures { result ≡ unless (first_fault (part_faults ring.now (node ∷ side ∷ number 1 (3 * n_of rate) ∷ []) (map (λ word. word.now) others.now))) (fibre_step ring.now (map (λ word. word.now) others.now) (Condition.Degraded (number_of 1 (3 * n_of rate) (word_at (map (λ word. word.now) others.now) 2)))) }
 {
     let [node, side, number] = others else {
-        return Err(reason::STEP_FORM);
+        return Err(Reason::StepForm);
     };
-    let Some(at) = node_at(ring, node) else {
-        return Err(reason::STEP_NODE);
-    };
-    let Some(side) = side_at(side) else {
-        return Err(reason::STEP_SIDE);
-    };
-    let Some(number) = numeral_in(number, 1, u32::from(most)) else {
-        return Err(reason::STEP_NUMBER);
+    let (at, side) = node_and_side(ring, node, side)?;
+    let Some(number) = numeral_in(number, 1, 3 * rate.n() as u32) else {
+        return Err(Reason::StepNumber);
     };
     Ok(Step::Fibre(FibreEvent {
         at,
@@ -126,104 +130,98 @@ fn degrade(ring: &RingMap, most: u16, others: &[&[u8]]) -> Result<Step, u8>
 
 // The side that the words name gets the command.
 #[tactic(auto, unfolding(crate::specs::Steps::part_faults))]
-fn order(ring: &RingMap, others: &[&[u8]], command: Command) -> Result<Step, u8>
+fn order(ring: &RingMap, others: &[&[u8]], command: Command) -> Result<Step, Reason>
     ensures { result ≡ unless (first_fault (part_faults ring.now (node ∷ side ∷ []) (map (λ word. word.now) others.now))) (order_step ring.now (map (λ word. word.now) others.now) command) }
 {
     let [node, side] = others else {
-        return Err(reason::STEP_FORM);
+        return Err(Reason::StepForm);
     };
-    let Some(at) = node_at(ring, node) else {
-        return Err(reason::STEP_NODE);
-    };
-    let Some(side) = side_at(side) else {
-        return Err(reason::STEP_SIDE);
-    };
+    let (at, side) = node_and_side(ring, node, side)?;
     Ok(Step::Order(at, side, command))
 }
 
 // The present moment is the one that the word tells.
 #[tactic(auto, unfolding(crate::specs::Steps::part_faults))]
-fn moment(ring: &RingMap, others: &[&[u8]]) -> Result<Step, u8>
+fn moment(ring: &RingMap, others: &[&[u8]]) -> Result<Step, Reason>
     ensures { result ≡ unless (first_fault (part_faults ring.now (number 0 1000000000 ∷ []) (map (λ word. word.now) others.now))) (Step.Moment (record { 0 = number_of 0 1000000000 (word_at (map (λ word. word.now) others.now) 0) })) }
 {
     let [number] = others else {
-        return Err(reason::STEP_FORM);
+        return Err(Reason::StepForm);
     };
     let Some(number) = numeral_in(number, 0, 1_000_000_000) else {
-        return Err(reason::STEP_NUMBER);
+        return Err(Reason::StepNumber);
     };
     Ok(Step::Moment(Moment(u64::from(number))))
 }
 
 // The controller of the node misses so many of the next rounds.
 #[tactic(auto, unfolding(crate::specs::Steps::part_faults))]
-fn hold(ring: &RingMap, others: &[&[u8]]) -> Result<Step, u8>
+fn hold(ring: &RingMap, others: &[&[u8]]) -> Result<Step, Reason>
     ensures { result ≡ unless (first_fault (part_faults ring.now (node ∷ number 1 100 ∷ []) (map (λ word. word.now) others.now))) (Step.Hold (place_of ring.now (map (λ word. word.now) others.now)) (number_of 1 100 (word_at (map (λ word. word.now) others.now) 1))) }
 {
     let [node, turns] = others else {
-        return Err(reason::STEP_FORM);
+        return Err(Reason::StepForm);
     };
     let Some(at) = node_at(ring, node) else {
-        return Err(reason::STEP_NODE);
+        return Err(Reason::StepNode);
     };
     let Some(turns) = numeral_in(turns, 1, 100) else {
-        return Err(reason::STEP_NUMBER);
+        return Err(Reason::StepNumber);
     };
     Ok(Step::Hold(at, turns))
 }
 
 // The clock of the port that the words name slips so many times more.
 #[tactic(auto, unfolding(crate::specs::Steps::part_faults))]
-fn slip(ring: &RingMap, circuits: &CircuitMap, others: &[&[u8]]) -> Result<Step, u8>
+fn slip(ring: &RingMap, circuits: &CircuitMap, others: &[&[u8]]) -> Result<Step, Reason>
     ensures { result ≡ unless (first_fault (part_faults ring.now (circuit circuits.now.circuits ∷ end ∷ turn ∷ number 1 16 ∷ []) (map (λ word. word.now) others.now))) (Step.Slip (port_named circuits.now.circuits (map (λ word. word.now) others.now)) (turn_of (map (λ word. word.now) others.now)) (number_of 1 16 (word_at (map (λ word. word.now) others.now) 3))) }
 {
     let [name, end, turn, count] = others else {
-        return Err(reason::STEP_FORM);
+        return Err(Reason::StepForm);
     };
     let Some(circuit) = circuit_named(circuits, name) else {
-        return Err(reason::SLIP_PORT);
+        return Err(Reason::SlipPort);
     };
     let Some(end) = end_at(end) else {
-        return Err(reason::SLIP_PORT);
+        return Err(Reason::SlipPort);
     };
     let Some(turn) = turn_at(turn) else {
-        return Err(reason::STEP_SIDE);
+        return Err(Reason::StepSide);
     };
     let Some(count) = numeral_in(count, 1, 16) else {
-        return Err(reason::STEP_NUMBER);
+        return Err(Reason::StepNumber);
     };
     Ok(Step::Slip(PortId { circuit, end }, turn, count as u8))
 }
 
 // Rounds run until a quiet window ends.
 #[tactic(auto, unfolding(crate::specs::Steps::part_faults))]
-fn settle(ring: &RingMap, others: &[&[u8]]) -> Result<Step, u8>
+fn settle(ring: &RingMap, others: &[&[u8]]) -> Result<Step, Reason>
     ensures { result ≡ unless (first_fault (part_faults ring.now [] (map (λ word. word.now) others.now))) Step.Settle }
 {
     if others.is_empty() {
         Ok(Step::Settle)
     } else {
-        Err(reason::STEP_FORM)
+        Err(Reason::StepForm)
     }
 }
 
-// The step that a first word and those behind it give at STM-n.
+// The step that a first word and those behind it give at a rate.
 fn told(
     ring: &RingMap,
     circuits: &CircuitMap,
-    n: u8,
+    rate: Rate,
     first: &[u8],
     others: &[&[u8]],
-) -> Result<Step, u8>
-    requires { n ≤ 16 }
-    ensures { result ≡ unless (first_fault (verb_faults n ring.now circuits.now.circuits (verb_of first.now) (map (λ word. word.now) others.now))) (told_step n ring.now circuits.now.circuits (verb_of first.now) (map (λ word. word.now) others.now)) }
+) -> Result<Step, Reason>
+    ensures { result ≡ unless (first_fault (verb_faults (n_of rate) ring.now circuits.now.circuits (verb_of first.now) (map (λ word. word.now) others.now))) (told_step (n_of rate) ring.now circuits.now.circuits (verb_of first.now) (map (λ word. word.now) others.now)) }
 {
     if is_word(first, "cut") {
         fibre(ring, others, Condition::Cut)
     } else if is_word(first, "mend") {
         fibre(ring, others, Condition::Clear)
     } else if is_word(first, "degrade") {
-        degrade(ring, 3 * u16::from(n), others)
+        degrade(ring, rate, others)
     } else if is_word(first, "forced") {
         order(ring, others, Command::Forced)
     } else if is_word(first, "manual") {
@@ -239,30 +237,38 @@ fn told(
     } else if is_word(first, "slip") {
         slip(ring, circuits, others)
     } else {
-        Err(reason::STEP_WORD)
+        Err(Reason::StepWord)
     }
 }
 
 // The step that words give, of which none is empty.
 #[tactic(auto, unfolding(crate::specs::Steps::form_faults, crate::specs::Steps::form_step))]
-fn step_in(ring: &RingMap, circuits: &CircuitMap, n: u8, words: &[&[u8]]) -> Result<Step, u8>
-    requires small { n ≤ 16 }
-    requires whole { list_any is_empty (map (λ word. word.now) words.now) ≡ false }
-    ensures { result ≡ unless (first_fault (form_faults n ring.now circuits.now.circuits (map (λ word. word.now) words.now))) (form_step n ring.now circuits.now.circuits (map (λ word. word.now) words.now)) }
+fn step_in(
+    ring: &RingMap,
+    circuits: &CircuitMap,
+    rate: Rate,
+    words: &[&[u8]],
+) -> Result<Step, Reason>
+    requires { list_any is_empty (map (λ word. word.now) words.now) ≡ false }
+    ensures { result ≡ unless (first_fault (form_faults (n_of rate) ring.now circuits.now.circuits (map (λ word. word.now) words.now))) (form_step (n_of rate) ring.now circuits.now.circuits (map (λ word. word.now) words.now)) }
 {
     let [first, others @ ..] = words else {
-        return Err(reason::STEP_FORM);
+        return Err(Reason::StepForm);
     };
-    told(ring, circuits, n, first, others)
+    told(ring, circuits, rate, first, others)
 }
 
-/// The step that a text gives, in a ring of these circuits at STM-n, or the reason of the first check that fails.
-pub fn step_of(ring: &RingMap, circuits: &CircuitMap, n: u8, text: &[u8]) -> Result<Step, u8>
-    requires { n ≤ 16 }
-    ensures { result ≡ unless (first_fault (form_faults n ring.now circuits.now.circuits (words text.now))) (form_step n ring.now circuits.now.circuits (words text.now)) }
+/// The step that a text gives, in a ring of these circuits at a rate, or the reason of the first check that fails.
+pub fn step_of(
+    ring: &RingMap,
+    circuits: &CircuitMap,
+    rate: Rate,
+    text: &[u8],
+) -> Result<Step, Reason>
+    ensures { result ≡ unless (first_fault (form_faults (n_of rate) ring.now circuits.now.circuits (words text.now))) (form_step (n_of rate) ring.now circuits.now.circuits (words text.now)) }
 {
     match words_of(text) {
-        Some(words) => step_in(ring, circuits, n, &words),
-        None => Err(reason::STEP_FORM),
+        Some(words) => step_in(ring, circuits, rate, &words),
+        None => Err(Reason::StepForm),
     }
 }

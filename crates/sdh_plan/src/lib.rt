@@ -21,5 +21,6 @@ pub use big::big_plan;
 pub use error::PlanError;
 pub use plan::Plan;
 pub use reading::read_plan;
+pub use reason::Reason;
 pub use step::Step;
 pub use words::numeral_in;

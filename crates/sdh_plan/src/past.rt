@@ -4,7 +4,7 @@ ghost use Rattle.sdh_plan.specs.Check.{first_fault, unless};
 ghost use Rattle.sdh_plan.specs.Steps.{past_faults, start, after};
 ghost use Rattle.sdh_plan.specs.Counted.{past_in};
 
-use crate::reason;
+use crate::reason::Reason;
 use crate::slips::Slips;
 use crate::step::Step;
 
@@ -30,26 +30,26 @@ impl Past {
 
     /// Goes on behind the step, or answers the reason why the step can't stand there.
     #[tactic(auto, unfolding(crate::specs::Steps::past_faults))]
-    pub fn follow(&mut self, step: Step) -> Result<(), u8>
+    pub fn follow(&mut self, step: Step) -> Result<(), Reason>
         ensures reason { result ≡ unless (first_fault (past_faults (past_in self.old) step)) tt }
         ensures past { OnOk result (past_in self.new ≡ after (past_in self.old) step) }
     {
         match step {
             Step::Moment(now) => {
                 if now.0 < self.moment {
-                    return Err(reason::MOMENT_BACK);
+                    return Err(Reason::MomentBack);
                 }
                 self.moment = now.0;
             }
             Step::Slip(port, _, count) => {
                 if u16::from(self.slips.count(port)) + u16::from(count) > 16 {
-                    return Err(reason::SLIPS);
+                    return Err(Reason::Slips);
                 }
                 self.slips.add(port, count);
             }
             Step::Settle => {
                 if self.settles >= 64 {
-                    return Err(reason::SETTLES);
+                    return Err(Reason::Settles);
                 }
                 self.settles += 1;
                 self.slips = Slips::new();

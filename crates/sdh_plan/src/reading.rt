@@ -10,7 +10,7 @@ use crate::circuit::circuits_under;
 use crate::document::{DocumentError, document_of};
 use crate::error::PlanError;
 use crate::plan::Plan;
-use crate::ring::{n_of, ring_under, settings_under};
+use crate::ring::{ring_under, settings_under};
 use crate::script::script_under;
 use std::alloc::Global;
 use toml::Table;
@@ -21,23 +21,10 @@ fn plan_under(alloc: Global, table: &Table) -> Result<Plan, PlanError>
     ensures passed { OnOk result (answer (checks (table_view table.now)) ≡ None) }
     ensures refused { IfErr result (IsRefused (answer (checks (table_view table.now)))) }
 {
-    let (rate, ring) = match ring_under(table) {
-        Ok(both) => both,
-        Err(error) => return Err(error),
-    };
-    let n = n_of(rate);
-    let (settings, limit) = match settings_under(table, rate) {
-        Ok(both) => both,
-        Err(error) => return Err(error),
-    };
-    let circuits = match circuits_under(alloc, table, &ring, n) {
-        Ok(circuits) => circuits,
-        Err(error) => return Err(error),
-    };
-    let steps = match script_under(alloc, table, &ring, &circuits, n) {
-        Ok(steps) => steps,
-        Err(error) => return Err(error),
-    };
+    let (rate, ring) = ring_under(table)?;
+    let (settings, limit) = settings_under(table, rate)?;
+    let circuits = circuits_under(alloc, table, &ring, rate)?;
+    let steps = script_under(alloc, table, &ring, &circuits, rate)?;
     Ok(Plan {
         settings,
         limit,

@@ -1,5 +1,5 @@
 //! The keys of a document, its rate, nodes and settings.
-ghost use Rattle.std.specs.Prelude.{◌≡◌, ◌≤◌, ◌*◌, ◌⊎◌, None, Some, map, length, string_bytes, IfOk, IfErr, OnOk};
+ghost use Rattle.std.specs.Prelude.{◌≡◌, ◌≤◌, ◌*◌, None, Some, map, length, string_bytes, IfOk, IfErr, OnOk};
 ghost use Rattle.std.specs.BTreeMap.{keys};
 ghost use Rattle.std.specs.List.{list_all};
 ghost use Rattle.toml.specs.View.{view, table_view};
@@ -12,7 +12,7 @@ ghost use Rattle.sdh_plan.specs.Refusals.{IsRefused};
 
 use crate::document::{array_under, is_text, number_under};
 use crate::error::{PlanError, of_document};
-use crate::reason;
+use crate::reason::Reason;
 use arrayvec::ArrayVec;
 use sdh_request::Settings;
 use sdh_ringmap::{MapError, RingMap};
@@ -45,17 +45,6 @@ fn rate_under(table: &Table) -> Option<Rate>
         Some(n) if n == 4 => Some(Rate::Four),
         Some(n) if n == 16 => Some(Rate::Sixteen),
         _ => None,
-    }
-}
-
-/// N of STM-N.
-pub fn n_of(rate: Rate) -> u8
-    ensures n { result ≡ n_of rate }
-    ensures form { (result ≡ 4) ⊎ (result ≡ 16) }
-{
-    match rate {
-        Rate::Four => 4,
-        Rate::Sixteen => 16,
     }
 }
 
@@ -97,22 +86,22 @@ fn ring_of(values: &[Value]) -> Result<RingMap, PlanError>
 {
     if values.len() > 16 {
         return Err(PlanError::BadPlan {
-            reason: reason::NODE_COUNT,
+            reason: Reason::NodeCount,
             place: 0,
         });
     }
     match RingMap::new(&integers_of(values)) {
         Ok(ring) => Ok(ring),
         Err(MapError::NodeCount) => Err(PlanError::BadPlan {
-            reason: reason::NODE_COUNT,
+            reason: Reason::NodeCount,
             place: 0,
         }),
         Err(MapError::NodeId(place)) => Err(PlanError::BadPlan {
-            reason: reason::NODE_ID,
+            reason: Reason::NodeId,
             place,
         }),
         Err(MapError::Repeat(place)) => Err(PlanError::BadPlan {
-            reason: reason::REPEAT,
+            reason: Reason::Repeat,
             place,
         }),
     }
@@ -127,21 +116,19 @@ pub fn ring_under(table: &Table) -> Result<(Rate, RingMap), PlanError>
     ensures refused { IfErr result (IsRefused (answer (ring_checks (table_view table.now)))) }
 {
     if !has_document_keys(table) {
-        return Err(of_document(reason::UNKNOWN_KEY));
+        return Err(of_document(Reason::UnknownKey));
     }
     let Some(rate) = rate_under(table) else {
-        return Err(of_document(reason::RATE));
+        return Err(of_document(Reason::Rate));
     };
     let Some(values) = array_under(table, "nodes") else {
-        return Err(of_document(reason::NODES));
+        return Err(of_document(Reason::Nodes));
     };
     if !all_integers(values) {
-        return Err(of_document(reason::NODES));
+        return Err(of_document(Reason::Nodes));
     }
-    match ring_of(values) {
-        Ok(ring) => Ok((rate, ring)),
-        Err(error) => Err(error),
-    }
+    let ring = ring_of(values)?;
+    Ok((rate, ring))
 }
 
 /// The settings and the limit of a document, or the first check that fails.
@@ -159,14 +146,14 @@ pub fn settings_under(table: &Table, rate: Rate) -> Result<(Settings, u32), Plan
     ensures passed { OnOk result (answer (settings_checks (n_of rate) (table_view table.now)) ≡ None) }
     ensures refused { IfErr result (IsRefused (answer (settings_checks (n_of rate) (table_view table.now)))) }
 {
-    let Some(threshold) = number_under(table, "threshold", 1, 3 * u32::from(n_of(rate))) else {
-        return Err(of_document(reason::THRESHOLD));
+    let Some(threshold) = number_under(table, "threshold", 1, 3 * rate.n() as u32) else {
+        return Err(of_document(Reason::Threshold));
     };
     let Some(wait) = number_under(table, "wait", 0, 1_000_000) else {
-        return Err(of_document(reason::WAIT));
+        return Err(of_document(Reason::Wait));
     };
     let Some(limit) = number_under(table, "limit", 1, 65_536) else {
-        return Err(of_document(reason::LIMIT));
+        return Err(of_document(Reason::Limit));
     };
     let settings = Settings {
         rate,

@@ -2,6 +2,7 @@
 ghost use Rattle.std.specs.Prelude.{◌≡◌, ◌≤◌, map, length, true, None, IfOk, OnOk, IfErr, codes};
 ghost use Rattle.std.specs.List.{list_all};
 ghost use Rattle.toml.specs.View.{view, table_view};
+ghost use Rattle.sdh_terms.specs.Rates.{n_of};
 ghost use Rattle.sdh_plan.specs.Check.{first_fault, unless, answer};
 ghost use Rattle.sdh_plan.specs.Words.{words};
 ghost use Rattle.sdh_plan.specs.Counted.{past_in};
@@ -14,10 +15,11 @@ use crate::document::{array_under, text_of};
 use crate::error::{PlanError, of_document};
 use crate::form::step_of;
 use crate::past::Past;
-use crate::reason;
+use crate::reason::Reason;
 use crate::step::Step;
 use sdh_circuits::CircuitMap;
 use sdh_ringmap::RingMap;
+use sdh_terms::Rate;
 use std::alloc::Global;
 use toml::{Table, Value};
 
@@ -25,22 +27,16 @@ use toml::{Table, Value};
 fn next_step(
     ring: &RingMap,
     circuits: &CircuitMap,
-    n: u8,
+    rate: Rate,
     past: &mut Past,
     text: &[u8],
-) -> Result<Step, u8>
-    requires { n ≤ 16 }
-    ensures step { result ≡ unless (first_fault (step_faults n ring.now circuits.now.circuits (past_in past.old) text.now)) (step_of n ring.now circuits.now.circuits text.now) }
-    ensures past { OnOk result (past_in past.new ≡ after (past_in past.old) (step_of n ring.now circuits.now.circuits text.now)) }
+) -> Result<Step, Reason>
+    ensures step { result ≡ unless (first_fault (step_faults (n_of rate) ring.now circuits.now.circuits (past_in past.old) text.now)) (step_of (n_of rate) ring.now circuits.now.circuits text.now) }
+    ensures past { OnOk result (past_in past.new ≡ after (past_in past.old) (step_of (n_of rate) ring.now circuits.now.circuits text.now)) }
 {
-    let step = match step_of(ring, circuits, n, text) {
-        Ok(step) => step,
-        Err(reason) => return Err(reason),
-    };
-    match past.follow(step) {
-        Ok(()) => Ok(step),
-        Err(reason) => Err(reason),
-    }
+    let step = step_of(ring, circuits, rate, text)?;
+    past.follow(step)?;
+    Ok(step)
 }
 
 /// The steps that texts give, or the first check that fails.
@@ -48,32 +44,22 @@ pub fn steps_of(
     alloc: Global,
     ring: &RingMap,
     circuits: &CircuitMap,
-    n: u8,
+    rate: Rate,
     values: &[Value],
 ) -> Result<Vec<Step>, PlanError>
-    requires rate { n ≤ 16 }
-    requires few { length values.now ≤ 1000 }
-    ensures steps { IfOk result (λ steps. steps.items ≡ map (λ d. step_of n ring.now circuits.now.circuits (text_of d)) (map view values.now)) }
-    ensures passed { OnOk result (answer (steps_checks n ring.now circuits.now.circuits start 1 (map view values.now)) ≡ None) }
-    ensures refused { IfErr result (IsRefused (answer (steps_checks n ring.now circuits.now.circuits start 1 (map view values.now)))) }
+    requires { length values.now ≤ 1000 }
+    ensures steps { IfOk result (λ steps. steps.items ≡ map (λ d. step_of (n_of rate) ring.now circuits.now.circuits (text_of d)) (map view values.now)) }
+    ensures passed { OnOk result (answer (steps_checks (n_of rate) ring.now circuits.now.circuits start 1 (map view values.now)) ≡ None) }
+    ensures refused { IfErr result (IsRefused (answer (steps_checks (n_of rate) ring.now circuits.now.circuits start 1 (map view values.now)))) }
 {
     let mut steps = Vec::new(alloc);
     let mut past = Past::start();
     for (i, value) in values.iter().enumerate() {
         let text = text_of(value);
-        match next_step(ring, circuits, n, &mut past, text.as_bytes()) {
-            Ok(step) => {
-                if steps.push(step).is_err() {
-                    return Err(PlanError::Memory);
-                }
-            }
-            Err(reason) => {
-                return Err(PlanError::BadPlan {
-                    reason,
-                    place: i as u32 + 1,
-                });
-            }
-        }
+        let place = i as u32 + 1;
+        let told = next_step(ring, circuits, rate, &mut past, text.as_bytes());
+        let step = told.map_err(|reason| PlanError::BadPlan { reason, place })?;
+        steps.push(step)?;
     }
     Ok(steps)
 }
@@ -109,23 +95,19 @@ fn settled_steps(
     alloc: Global,
     ring: &RingMap,
     circuits: &CircuitMap,
-    n: u8,
+    rate: Rate,
     values: &[Value],
 ) -> Result<Vec<Step>, PlanError>
-    requires rate { n ≤ 16 }
-    requires few { length values.now ≤ 1000 }
-    ensures steps { IfOk result (λ steps. steps.items ≡ map (λ d. step_of n ring.now circuits.now.circuits (text_of d)) (map view values.now)) }
+    requires { length values.now ≤ 1000 }
+    ensures steps { IfOk result (λ steps. steps.items ≡ map (λ d. step_of (n_of rate) ring.now circuits.now.circuits (text_of d)) (map view values.now)) }
     ensures count { IfOk result (λ steps. length steps.items ≡ length values.now) }
-    ensures passed { OnOk result (answer (texts_checks n ring.now circuits.now.circuits (map view values.now)) ≡ None) }
-    ensures refused { IfErr result (IsRefused (answer (texts_checks n ring.now circuits.now.circuits (map view values.now)))) }
+    ensures passed { OnOk result (answer (texts_checks (n_of rate) ring.now circuits.now.circuits (map view values.now)) ≡ None) }
+    ensures refused { IfErr result (IsRefused (answer (texts_checks (n_of rate) ring.now circuits.now.circuits (map view values.now)))) }
 {
-    let steps = match steps_of(alloc, ring, circuits, n, values) {
-        Ok(steps) => steps,
-        Err(error) => return Err(error),
-    };
+    let steps = steps_of(alloc, ring, circuits, rate, values)?;
     if !ends_settled(&steps) {
         return Err(PlanError::BadPlan {
-            reason: reason::LAST_STEP,
+            reason: Reason::LastStep,
             place: values.len() as u32,
         });
     }
@@ -139,25 +121,24 @@ pub fn script_under(
     table: &Table,
     ring: &RingMap,
     circuits: &CircuitMap,
-    n: u8,
+    rate: Rate,
 ) -> Result<Vec<Step>, PlanError>
-    requires { n ≤ 16 }
-    ensures steps { IfOk result (λ steps. steps.items ≡ map (λ d. step_of n ring.now circuits.now.circuits (text_of d)) (elements_in (codes "script") (table_view table.now))) }
+    ensures steps { IfOk result (λ steps. steps.items ≡ map (λ d. step_of (n_of rate) ring.now circuits.now.circuits (text_of d)) (elements_in (codes "script") (table_view table.now))) }
     ensures count { IfOk result (λ steps. (1 ≤ length steps.items) × (length steps.items ≤ 1000)) }
-    ensures passed { OnOk result (answer (script_checks n ring.now circuits.now.circuits (table_view table.now)) ≡ None) }
-    ensures refused { IfErr result (IsRefused (answer (script_checks n ring.now circuits.now.circuits (table_view table.now)))) }
+    ensures passed { OnOk result (answer (script_checks (n_of rate) ring.now circuits.now.circuits (table_view table.now)) ≡ None) }
+    ensures refused { IfErr result (IsRefused (answer (script_checks (n_of rate) ring.now circuits.now.circuits (table_view table.now)))) }
 {
     let Some(values) = array_under(table, "script") else {
-        return Err(of_document(reason::SCRIPT));
+        return Err(of_document(Reason::Script));
     };
     if !all_texts(values) {
-        return Err(of_document(reason::SCRIPT));
+        return Err(of_document(Reason::Script));
     }
     if values.len() < 1 {
-        return Err(of_document(reason::SCRIPT_LENGTH));
+        return Err(of_document(Reason::ScriptLength));
     }
     if values.len() > 1000 {
-        return Err(of_document(reason::SCRIPT_LENGTH));
+        return Err(of_document(Reason::ScriptLength));
     }
-    settled_steps(alloc, ring, circuits, n, values)
+    settled_steps(alloc, ring, circuits, rate, values)
 }

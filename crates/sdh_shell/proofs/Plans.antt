@@ -23,9 +23,9 @@ pub plan_or_not : (bytes : List ℕ) (plan : Planned) (how : Status) → TellsPl
 plan_or_not bytes plan status.ReadFault x y = refl
 plan_or_not bytes plan status.TooLong x y = absurd (omega (arith, x.0, y))
 plan_or_not bytes plan status.NotToml x y = absurd (y.1 x.1.0 x.1.1)
-plan_or_not bytes plan (status.BadPlan reason place) x y =
-    let same : x.1.0 ≡ y.1.0 = some_same x.1.0 y.1.0 (sym x.1.1.1 ∙ y.1.1.1) in
-    absurd (none_some _ (sym x.1.2 ∙ ap (λ (ms : Members). answer (checks ms)) same ∙ y.1.2))
+plan_or_not bytes plan (status.BadPlan number place) x y =
+    let same : x.1.0 ≡ y.1.1.0 = some_same x.1.0 y.1.1.0 (sym x.1.1.1 ∙ y.1.1.1.1) in
+    absurd (none_some _ (sym x.1.2 ∙ ap (λ (ms : Members). answer (checks ms)) same ∙ y.1.1.2))
   where
     none_some : {A : Type 0} (a : A) → ◌≡◌ {A = Option A} None (Some a) → ⊥
     none_some a e = grind arith

@@ -1,11 +1,11 @@
 -- What the bytes of a source come to: a plan, or why there is none.
 use Rattle.std.specs.Prelude.{◌≡◌, ℕ, Bool, true, false, ◌<◌, ◌≤◌, List, [], length, Option, Some, None}
-use Rattle.toml.specs.Data.{Members}
+use Rattle.sdh_plan.specs.declared.error.PlanError.TheVariants as error
+use Rattle.sdh_plan.specs.declared.reason.Reason.{Reason}
+use Rattle.sdh_plan.specs.Reasons.{reason_number}
 use Rattle.sdh_plan.specs.Planned.{Planned}
-use Rattle.sdh_plan.specs.Check.{answer}
-use Rattle.sdh_plan.specs.Document.{IsDocument, IsNoDocument}
-use Rattle.sdh_plan.specs.Plans.{checks}
-use Rattle.sdh_plan.specs.Answers.{IsPlanOf}
+use Rattle.sdh_plan.specs.Document.{IsNoDocument}
+use Rattle.sdh_plan.specs.Answers.{IsPlanOf, IsWhy}
 use Rattle.sdh_report.specs.declared.status.Status.{Status}
 use Rattle.sdh_report.specs.declared.status.Status.TheVariants as status
 use Rattle.sdh_shell.specs.declared.reading.NoPlan.{NoPlan}
@@ -16,12 +16,12 @@ abbrev pub IsShort : List ℕ → Type 0
 IsShort bytes = length bytes ≤ 1048576
 
 -- why there is no plan: a read failed; there are too many bytes; they are no document; or they are one, and the first of its
--- checks that fails has this reason and this place
+-- checks that fails has a reason of this number, and this place
 abbrev pub HasNoPlan : List ℕ → Status → Type 0
 HasNoPlan bytes status.ReadFault = Unit {0}
 HasNoPlan bytes status.TooLong = 1048576 < length bytes
 HasNoPlan bytes status.NotToml = IsShort bytes × IsNoDocument bytes
-HasNoPlan bytes (status.BadPlan reason place) = IsShort bytes × ((ms : Members) × IsDocument bytes ms × (answer (checks ms) ≡ Some (record { reason = reason; place = place })))
+HasNoPlan bytes (status.BadPlan number place) = IsShort bytes × ((reason : Reason) × IsWhy bytes (error.BadPlan reason place) × (number ≡ reason_number reason))
 HasNoPlan bytes status.Ok = ⊥
 HasNoPlan bytes status.Usage = ⊥
 HasNoPlan bytes status.WriteFault = ⊥
@@ -49,7 +49,7 @@ abbrev pub Refuses : Status → Type 0
 Refuses status.ReadFault = Unit {0}
 Refuses status.TooLong = Unit {0}
 Refuses status.NotToml = Unit {0}
-Refuses (status.BadPlan reason place) = Unit {0}
+Refuses (status.BadPlan number place) = Unit {0}
 Refuses how = ⊥
 
 abbrev pub IsRefusal : NoPlan → Type 0

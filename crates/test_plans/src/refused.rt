@@ -292,17 +292,37 @@ const NO_DOCUMENTS: &[&[u8]] = &[
     b"colour = 1e999",
 ];
 
-// The error of a reason at a place, if there is one.
-fn bad_plan(refusal: Option<(u8, u32)>) -> Option<PlanError> {
+// What is answered to a document.
+#[derive(Clone, Copy, Debug, PartialEq, Eq)]
+enum Answer {
+    Plan,
+    Memory,
+    NotToml,
+    // The number of the reason, and the place.
+    Refused(u8, u32),
+}
+
+// What is answered where a check fails with this reason at this place, or none does.
+fn bad_plan(refusal: Option<(u8, u32)>) -> Answer {
     match refusal {
-        Some((reason, place)) => Some(PlanError::BadPlan { reason, place }),
-        None => None,
+        Some((reason, place)) => Answer::Refused(reason, place),
+        None => Answer::Plan,
     }
 }
 
-// Stops where a document isn't answered with this error, or with a plan where that is none.
-fn ends(rt: &impl Abort, alloc: Global, document: &[u8], wanted: Option<PlanError>) {
-    assert_eq!(rt; read_plan(alloc, document).err(), wanted, "{document:?}");
+// What is answered to the document.
+fn answer_to(alloc: Global, document: &[u8]) -> Answer {
+    match read_plan(alloc, document) {
+        Ok(_) => Answer::Plan,
+        Err(PlanError::Memory) => Answer::Memory,
+        Err(PlanError::NotToml) => Answer::NotToml,
+        Err(PlanError::BadPlan { reason, place }) => Answer::Refused(reason.number(), place),
+    }
+}
+
+// Stops where a document isn't answered as it is to be.
+fn ends(rt: &impl Abort, alloc: Global, document: &[u8], wanted: Answer) {
+    assert_eq!(rt; answer_to(alloc, document), wanted, "{document:?}");
 }
 
 // Stops where a change of the smallest run isn't answered as it is to be.
@@ -329,7 +349,7 @@ fn answers_the_first_check_of_a_document_that_fails(rt: HostRuntime) -> Result<(
 fn tells_what_is_no_document(rt: HostRuntime) {
     ends(&rt, rt.alloc(), b"", bad_plan(Some((13, 0))));
     for bytes in NO_DOCUMENTS {
-        ends(&rt, rt.alloc(), bytes, Some(PlanError::NotToml));
+        ends(&rt, rt.alloc(), bytes, Answer::NotToml);
     }
 }
 
@@ -356,10 +376,7 @@ fn dotted(alloc: Global, parts: usize) -> Result<String, AllocError> {
 
 #[test]
 fn knows_the_limits_of_a_document(rt: HostRuntime) -> Result<(), Fail> {
-    for (parts, wanted) in [
-        (80, bad_plan(Some((12, 0)))),
-        (81, Some(PlanError::NotToml)),
-    ] {
+    for (parts, wanted) in [(80, bad_plan(Some((12, 0)))), (81, Answer::NotToml)] {
         let deep = nested(rt.alloc(), parts)?;
         ends(&rt, rt.alloc(), deep.as_bytes(), wanted);
         let long = dotted(rt.alloc(), parts)?;
