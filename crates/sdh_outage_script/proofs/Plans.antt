@@ -23,6 +23,7 @@ use Rattle.sdh_script.specs.Plans.{world_of}
 use Rattle.sdh_outage_script.specs.Outages.{Outaged, outaged_in}
 use Rattle.sdh_outage_script.specs.Scripts.{outage_walk}
 use Rattle.sdh_outage_script.specs.Plans.{ran_of, Comes, ComesKnown, MaySettle, Tells, Came}
+use Rattle.sdh_outage_script.specs.declared.listing.Listing.{Listing}
 use Rattle.sdh_outage_script.proofs.Known.{keeps_rounds}
 use Rattle.sdh_outage_script.proofs.Alike.{reported}
 
@@ -44,8 +45,8 @@ settles_comes plan f left reports end fits honest law (inr x) large =
 
 -- ---- all that is told
 
-pub tells_all : ScriptsSettle → (plan : Planned) (f left : Fibres) (text : List ℕ) (end : Status) → IsPlanned plan → (f.honest ≡ true → IsHonest f) → Came plan f text end left → Tells plan f text end left
-tells_all settles plan f left text end fits honest x = record {
+pub tells_all : ScriptsSettle → (plan : Planned) (listing : Listing) (f left : Fibres) (text : List ℕ) (end : Status) → IsPlanned plan → (f.honest ≡ true → IsHonest f) → Came plan listing f text end left → Tells plan listing f text end left
+tells_all settles plan listing f left text end fits honest x = record {
   reports = x.reports;
   text_is = x.text_is;
   came = record {
@@ -56,6 +57,6 @@ tells_all settles plan f left text end fits honest x = record {
 }
 
 -- one that settles, and that no fault broke off, is done
-pub done_comes : (plan : Planned) (f left : Fibres) (text : List ℕ) (end : Status) → Tells plan f text end left → MaySettle plan f → (end ≡ status.PlantFault → ⊥) → end ≡ status.Ok
-done_comes plan f left text end x (inl may) fine = known_done outage_walk (ran_of plan f) (length plan.nodes) f left x.reports end (x.came.known may.0) may.1 fine
-done_comes plan f left text end x (inr may) fine = settled_done outage_walk plan.limit plan.steps (world_of plan f) f left x.reports end x.came.ran (x.came.settles may.0 may.1) fine
+pub done_comes : (plan : Planned) (listing : Listing) (f left : Fibres) (text : List ℕ) (end : Status) → Tells plan listing f text end left → MaySettle plan f → (end ≡ status.PlantFault → ⊥) → end ≡ status.Ok
+done_comes plan listing f left text end x (inl may) fine = known_done outage_walk (ran_of plan f) (length plan.nodes) f left x.reports end (x.came.known may.0) may.1 fine
+done_comes plan listing f left text end x (inr may) fine = settled_done outage_walk plan.limit plan.steps (world_of plan f) f left x.reports end x.came.ran (x.came.settles may.0 may.1) fine

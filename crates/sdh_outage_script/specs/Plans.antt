@@ -12,6 +12,7 @@ use Rattle.sdh_script.specs.Plans.{world_of}
 use Rattle.sdh_outage_script.specs.Outages.{Outaged}
 use Rattle.sdh_outage_script.specs.Scripts.{outage_walk, Ran, script}
 use Rattle.sdh_outage_script.specs.Lines.{text_of}
+use Rattle.sdh_outage_script.specs.declared.listing.Listing.{Listing}
 
 -- what the script of a plan comes to, where the arrivals are known
 abbrev pub ran_of : Planned → Fibres → Ran
@@ -39,14 +40,14 @@ pub record IsRunOf (plan : Planned) (f : Fibres) (reports : List Outaged) (end :
   pub known : Knows (world_of plan f).fibres → ComesKnown plan f reports end left
   pub settles : f.honest ≡ true → enough_for (length plan.nodes) ≤ plan.limit → IsSettled end
 
--- the text is that of the lines of a run
-pub record Tells (plan : Planned) (f : Fibres) (text : List ℕ) (end : Status) (left : Fibres) : Type 0 where
+-- the text is what is listed of a run
+pub record Tells (plan : Planned) (listing : Listing) (f : Fibres) (text : List ℕ) (end : Status) (left : Fibres) : Type 0 where
   pub reports : List Outaged
-  pub text_is : text ≡ text_of reports
+  pub text_is : text ≡ text_of listing reports
   pub came : IsRunOf plan f reports end left
 
 -- the same before it is told in each way
-pub record Came (plan : Planned) (f : Fibres) (text : List ℕ) (end : Status) (left : Fibres) : Type 0 where
+pub record Came (plan : Planned) (listing : Listing) (f : Fibres) (text : List ℕ) (end : Status) (left : Fibres) : Type 0 where
   pub reports : List Outaged
-  pub text_is : text ≡ text_of reports
+  pub text_is : text ≡ text_of listing reports
   pub ran : Comes plan f reports end left

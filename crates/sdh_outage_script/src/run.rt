@@ -6,11 +6,12 @@ ghost use Rattle.sdh_world.specs.Held.{HeldRing};
 ghost use Rattle.sdh_world.specs.Rounds.{world};
 ghost use Rattle.sdh_scripts.specs.Texts.{HasRoom, Lists};
 ghost use Rattle.sdh_outage_script.specs.Scripts.{outage_walk};
-ghost use Rattle.sdh_outage_script.specs.Lines.{outaged_text};
-ghost use Rattle.sdh_outage_script.specs.Running.{lines_room, MayRun};
+ghost use Rattle.sdh_outage_script.specs.Lines.{listed};
+ghost use Rattle.sdh_outage_script.specs.Running.{MayList, lines_room, MayRun};
 ghost use Rattle.sdh_outage_script.specs.Plans.{MaySettle, Tells, Came};
 
 use crate::listeners::Listeners;
+use crate::listing::Listing;
 use crate::ports::new_listeners;
 use crate::script::OutageRun;
 use sdh_circuits::CircuitMap;
@@ -28,11 +29,15 @@ pub struct Run {
     pub text: Text,
 }
 
-// Room for the lines of 64 settle steps, and a last line, in bytes.
-fn room_for(circuits: &CircuitMap) -> usize
-    ensures { result ≡ lines_room (length circuits.now.circuits) * 64 + 96 }
+// Room for what is listed of 64 settle steps, and a last line, in bytes.
+fn room_for(listing: Listing, circuits: &CircuitMap) -> usize
+    ensures { result ≡ lines_room listing (length circuits.now.circuits) * 64 + 96 }
 {
-    (256 + 320 * circuits.len()) * 64 + 96
+    let lines = match listing {
+        Listing::Ports => 256 + 320 * circuits.len(),
+        Listing::Trace(_) => 10_656,
+    };
+    lines * 64 + 96
 }
 
 // The script over a ring and its fibres.
@@ -44,10 +49,11 @@ fn run_from<P: Plant>(
     mut text: Text,
 ) -> Run
     requires may { MayRun 0 steps.now run.ring run.listeners.items.items (P.fibres plant.old) }
-    requires room { HasRoom (lines_room (length run.ring.circuits.circuits)) 0 text.room }
+    requires listing { MayList (length run.ring.circuits.circuits) run.listing }
+    requires room { HasRoom (lines_room run.listing (length run.ring.circuits.circuits)) 0 text.room }
     requires some { 1 ≤ limit }
     requires few { limit ≤ 65536 }
-    ensures ran { (left : HeldRing) × Lists outage_walk limit outaged_text steps.now (world run.ring (P.fibres plant.old)) text.bytes result.text.bytes result.status (world left (P.fibres plant.new)) }
+    ensures ran { (left : HeldRing) × Lists outage_walk limit (listed run.listing) steps.now (world run.ring (P.fibres plant.old)) text.bytes result.text.bytes result.status (world left (P.fibres plant.new)) }
     ensures room { 96 ≤ result.text.room }
     ensures later { P.faults plant.old ≤ P.faults plant.new }
     ensures failed { result.status ≡ Status.PlantFault → Rose (P.faults plant.old) (P.faults plant.new) }
@@ -58,9 +64,15 @@ fn run_from<P: Plant>(
 }
 
 // Makes the room, the listeners, the ring and the fibres of a plan, and runs its script.
-fn run_new<P: Plant>(alloc: Global, plan: Plan, plant: &mut P) -> Result<Run, AllocError>
+fn run_new<P: Plant>(
+    alloc: Global,
+    plan: Plan,
+    plant: &mut P,
+    listing: Listing,
+) -> Result<Run, AllocError>
     requires fresh { HasNoFibres (P.fibres plant.old) }
-    ensures came { IfOk result (λ run. Came plan (P.fibres plant.old) run.text.bytes run.status (P.fibres plant.new)) }
+    requires listing { MayList (length plan.circuits) listing }
+    ensures came { IfOk result (λ run. Came plan listing (P.fibres plant.old) run.text.bytes run.status (P.fibres plant.new)) }
     ensures failed { IfOk result (λ run. run.status ≡ Status.PlantFault → Rose (P.faults plant.old) (P.faults plant.new)) }
     ensures counted { IfOk result (λ run. IsCounted P.exact (run.status ≡ Status.PlantFault) (P.faults plant.old) (P.faults plant.new)) }
     ensures uncounted { OnErr result (P.exact ≡ true → P.faults plant.new ≡ P.faults plant.old) }
@@ -70,7 +82,7 @@ fn run_new<P: Plant>(alloc: Global, plan: Plan, plant: &mut P) -> Result<Run, Al
 {
     let settings = plan.settings();
     let limit = plan.limit();
-    let text = Text::try_new(alloc, room_for(plan.circuits()))?;
+    let text = Text::try_new(alloc, room_for(listing, plan.circuits()))?;
     let items = new_listeners(alloc, plan.circuits())?;
     let nodes = plan.map().len();
     let (map, circuits, steps) = plan.into_parts();
@@ -80,6 +92,7 @@ fn run_new<P: Plant>(alloc: Global, plan: Plan, plant: &mut P) -> Result<Run, Al
             let run = OutageRun {
                 ring,
                 listeners: Listeners { items },
+                listing,
             };
             Ok(run_from(run, plant, &steps, limit, text))
         }
@@ -91,13 +104,20 @@ fn run_new<P: Plant>(alloc: Global, plan: Plan, plant: &mut P) -> Result<Run, Al
     }
 }
 
-/// Runs the script of a plan over new fibres, and tells the outages of its ports. All memory is taken before the first round.
-pub fn run_plan<P: Plant>(alloc: Global, plan: Plan, plant: &mut P) -> Result<Run, AllocError>
+/// Runs the script of a plan over new fibres, and lists the outages of its ports, or the changes of one. All memory is taken before the
+/// first round.
+pub fn run_plan<P: Plant>(
+    alloc: Global,
+    plan: Plan,
+    plant: &mut P,
+    listing: Listing,
+) -> Result<Run, AllocError>
     requires fresh { HasNoFibres (P.fibres plant.old) }
+    requires listing { MayList (length plan.circuits) listing }
 
-    // The text is that of one list of lines, which is told over every plant, where the arrivals are known, and over
+    // The text is what is listed of one list, which is told over every plant, where the arrivals are known, and over
     // honest fibres.
-    ensures came { IfOk result (λ run. Tells plan (P.fibres plant.old) run.text.bytes run.status (P.fibres plant.new)) }
+    ensures came { IfOk result (λ run. Tells plan listing (P.fibres plant.old) run.text.bytes run.status (P.fibres plant.new)) }
 
     // A fault has a cause, and without one a script that settles is done.
     ensures failed { IfOk result (λ run. run.status ≡ Status.PlantFault → Rose (P.faults plant.old) (P.faults plant.new)) }
@@ -116,5 +136,5 @@ pub fn run_plan<P: Plant>(alloc: Global, plan: Plan, plant: &mut P) -> Result<Ru
     sdh_owed::scripts_settle();
     // Reading it gives the proof what is true of every plan.
     let _steps = plan.steps();
-    run_new(alloc, plan, plant)
+    run_new(alloc, plan, plant, listing)
 }

@@ -8,7 +8,7 @@ returns-clause-came g c =
     let means = g.P.Plant.fibres in
     let f = means c.args.plant.now in
     on_ok c.run_new.result _ _
-    (λ run came. tells_all c.scripts_settle.ensures c.args.plan f (means c.run_new.new.plant) run.text.bytes run.status c.steps-steps.ensures.form
+    (λ run came. tells_all c.scripts_settle.ensures c.args.plan c.args.listing f (means c.run_new.new.plant) run.text.bytes run.status c.steps-steps.ensures.form
     (λ (honest : f.honest ≡ true). record { honest = honest; tells_none = g.met.P.Plant.honest_tells_none c.args.plant.now honest }) came)
     c.run_new.ensures.came
 
@@ -17,7 +17,7 @@ returns-clause-complete g c =
     let means = g.P.Plant.fibres in
     let f = means c.args.plant.now in
     on_two c.run_new.result _ _ _
-    (λ run came failed may fine. done_comes c.args.plan f (means c.run_new.new.plant) run.text.bytes run.status
-    (tells_all c.scripts_settle.ensures c.args.plan f (means c.run_new.new.plant) run.text.bytes run.status c.steps-steps.ensures.form
+    (λ run came failed may fine. done_comes c.args.plan c.args.listing f (means c.run_new.new.plant) run.text.bytes run.status
+    (tells_all c.scripts_settle.ensures c.args.plan c.args.listing f (means c.run_new.new.plant) run.text.bytes run.status c.steps-steps.ensures.form
     (λ (honest : f.honest ≡ true). record { honest = honest; tells_none = g.met.P.Plant.honest_tells_none c.args.plant.now honest }) came) may (λ fault. fine (failed fault)))
     c.run_new.ensures.came c.run_new.ensures.failed
