@@ -6,8 +6,9 @@ _sdhring_words() {
   COMPREPLY=()
   case $program:$COMP_CWORD:${COMP_WORDS[1]-} in
     sdhring:1:*) mapfile -t COMPREPLY < <(compgen -W "run check drop big $1" -- "$word") ;;
-    sdhring:3:drop) mapfile -t COMPREPLY < <(compgen -W "a b" -- "$word") ;;
-    sdhwatch:1:* | sdhoutage:1:* | sdhpath:1:*) mapfile -t COMPREPLY < <(compgen -W "run $1" -- "$word") ;;
+    sdhring:3:drop | sdhoutage:3:trace) mapfile -t COMPREPLY < <(compgen -W "a b" -- "$word") ;;
+    sdhoutage:1:*) mapfile -t COMPREPLY < <(compgen -W "run trace $1" -- "$word") ;;
+    sdhwatch:1:* | sdhpath:1:*) mapfile -t COMPREPLY < <(compgen -W "run $1" -- "$word") ;;
     sdhwhatif:1:*) mapfile -t COMPREPLY < <(compgen -W "single double triple $1" -- "$word") ;;
     sdhretime:1:*) mapfile -t COMPREPLY < <(compgen -W "$1" -- "$word") ;;
     *:*:--install) compopt -o dirnames ;;

@@ -1,13 +1,14 @@
 #!/usr/bin/env python3
-"""A plain simulation of the shared ring, and what `sdhoutage run` must write of it. It shares nothing with the crates or the tools.
+"""A plain simulation of the shared ring, and what `sdhoutage` must write of it. It shares nothing with the crates or the tools.
 
-  bench/outage/simulate.py run < PLAN       what `sdhoutage run` must write
-  bench/outage/simulate.py tags < PLAN      the same for customers whose chunks are all unlike, and sooner
-  bench/outage/simulate.py report < PLAN    what `sdhring run` must write, to hold the simulation against its worked rows
+  bench/outage/simulate.py run < PLAN              what `sdhoutage run` must write
+  bench/outage/simulate.py trace NAME END < PLAN   what `sdhoutage trace NAME END` must write
+  bench/outage/simulate.py tags < PLAN             what `run` must write for customers whose chunks are all unlike, and sooner
+  bench/outage/simulate.py report < PLAN           what `sdhring run` must write, to hold the simulation against its worked rows
 
 Words, pointers and connections are run round by round, without frames: in place of its payload each AU-4 has a tag, which
-customer's bytes it is, from which byte on, and how they were put in. `tags` tells the rounds' kinds by these alone. `run` makes the
-bytes of them that a port delivers, and looks for these in the customer's stream (looking.py): where the length of a text divides
+customer's bytes it is, from which byte on, and how they were put in. `tags` tells the rounds' kinds by these alone. `run` and `trace`
+make the bytes of them that a port delivers, and look for these in the customer's stream (looking.py): where the length of a text divides
 2340, VC-4s look alike, and a jump may not be seen. The plan has to be a good one. Ends with the status."""
 import sys
 import tomllib
@@ -22,6 +23,7 @@ SIDES = "west", "east"
 WINDOW = 128
 AIS = ("ais", 0, None, None)  # an action, a value, a payload and the bytes H3
 SILENCE = (0xFFFF, "ones", "ones")  # an AU-4 of ones
+TOLD = 64  # so many changes of a settle step are told
 
 
 class Node:
@@ -254,6 +256,7 @@ class Outage:
     def begin(self):
         self.counts = dict.fromkeys(("ais", "ones", "jump", "strange"), 0)
         self.first, self.last = "-", "-"
+        self.kinds = []
 
     def kind(self, t, delivered):
         came = bytes_of(delivered)
@@ -269,12 +272,18 @@ class Outage:
 
     def see(self, t, delivered):
         kind = self.kind(t, delivered)
+        self.kinds.append((t, kind))
         if kind != "order":
             self.counts[kind] += 1
             self.first, self.last = t if self.first == "-" else self.first, t
 
     def out(self):
         return self.counts["ais"] + self.counts["ones"] + self.counts["strange"]
+
+    def changes(self):
+        """The rounds of the step that were of another kind than the one before, with their kinds; its first round always."""
+        before = [None, *(kind for _, kind in self.kinds)]
+        return [(t, kind) for (t, kind), last in zip(self.kinds, before) if kind != last]
 
     def told(self):
         out, counts = self.out(), self.counts
@@ -314,6 +323,19 @@ class Outages:
         outs = [port.out() for port in self.ports.values()]
         longest = max(outs, default=0)
         return [*(port.told() for port in self.ports.values()), f"longest {longest} ms {milliseconds(longest)} none {outs.count(0)}"]
+
+
+class Traces:
+    """The text of `sdhoutage trace` of one port, whose kinds of rounds a teller of outages has."""
+
+    def __init__(self, outages, port):
+        self.outages, self.port = outages, port
+        self.begin, self.see = outages.begin, outages.see
+
+    def lines(self):
+        port = self.outages.ports[self.port]
+        changes = [f"round {t} {'in-order' if kind == 'order' else kind}" for t, kind in port.changes()]
+        return [*changes[:TOLD], *([f"more {len(changes) - TOLD}"] if len(changes) > TOLD else []), port.told()]
 
 
 def streams_of(circuits):
@@ -369,13 +391,24 @@ def run(plan, kind=Outages):
     return 0, "\n".join([*lines, "done", ""])
 
 
+def trace(plan, name, end, kind=Outages):
+    """The status and the text of one port, by this kind of outages."""
+    names = [circuit["name"] for circuit in plan.get("circuit", [])]
+    if name not in names:
+        return 10, "no such port\n"
+    return run(plan, lambda ring: Traces(kind(ring), (names.index(name), end)))
+
+
 def main(words):
     from looking import Looks
 
     kinds = {"run": Looks, "tags": Outages, "report": Reports}
-    if len(words) != 1 or words[0] not in kinds:
+    if len(words) == 1 and words[0] in kinds:
+        status, text = run(tomllib.load(sys.stdin.buffer), kinds[words[0]])
+    elif len(words) == 3 and words[0] == "trace" and words[2] in ("a", "b"):
+        status, text = trace(tomllib.load(sys.stdin.buffer), *words[1:], Looks)
+    else:
         sys.exit(__doc__)
-    status, text = run(tomllib.load(sys.stdin.buffer), kinds[words[0]])
     sys.stdout.write(text)
     return status
 

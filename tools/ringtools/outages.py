@@ -1,4 +1,4 @@
-"""The text of sdhoutage, read strictly, and put beside what sdhring tells of the same settle steps."""
+"""The text of sdhoutage run, read strictly, and put beside what sdhring tells of the same settle steps."""
 
 import re
 from dataclasses import dataclass
@@ -94,7 +94,7 @@ def read_outages(text, plan):
         read_longest(lines, told)
         steps.append(told)
     if lines.peek() not in ENDS and not lines.try_take(UNSETTLED):
-        lines.fail("no line that sdhoutage writes here")
+        lines.fail("no line that sdhoutage run writes here")
     lines.at += lines.peek() in ENDS
     if lines.peek() is not None:
         lines.fail("a line behind the last one")

@@ -7,6 +7,7 @@ import re
 import subprocess
 import sys
 import tomllib
+import types
 import unittest
 from functools import cache
 from runpy import run_path
@@ -213,6 +214,45 @@ class Rows(unittest.TestCase):
         for row in self.runs():
             self.check(row, looking.Looks if row.name == "alike" else simulate.Outages)
 
+    def traces(self):
+        return [row for row in rows().values() if row.words[:1] == (b"trace",) and row.status in (0, 7, 10)]
+
+    def traced(self, row, kind):
+        return simulate.trace(tomllib.loads(row.given.decode()), *(word.decode() for word in row.words[1:]), kind)
+
+    def test_the_traces_are_what_the_simulation_tells(self):
+        self.assertGreaterEqual(len(self.traces()), 9)
+        for row in self.traces():
+            with self.subTest(row=row.name):
+                status, text = self.traced(row, looking.Looks if row.name == "trace-alike" else simulate.Outages)
+                self.assertEqual((status, text.encode()), (row.status, row.text))
+                if row.name in ("trace-waiting", "trace-slips-amid", "trace-held-controller"):
+                    self.assertEqual(self.traced(row, looking.Looks)[1], text)
+
+    def test_traces_agree_in_themselves(self):
+        """A change is of another kind than the one before, the rounds come to the port's line, and this is that of the run."""
+        for row in self.traces():
+            text, runs = row.text.decode().split("settle ")[1:], self.run_of(row)
+            for step, (told, run) in enumerate(zip(text, runs)):
+                settle, *changes, port = told.splitlines()[: told.count("\nround ") + 2]
+                self.assertEqual([settle, port], [line for line in run.splitlines() if line[0] in "0123456789" or line.startswith(port.split(" out ")[0])])
+                rounds, kinds = zip(*(re.fullmatch(r"round (\d+) (ais|ones|in-order|jump|strange)", line).groups() for line in changes))
+                self.assertTrue(all(kind != other for kind, other in zip(kinds, kinds[1:])), row.name)
+                ends = [*map(int, rounds), int(settle.split()[2]) + 1]
+                self.assertEqual(ends[0], int(runs[step - 1].split()[2]) + 1 if step else 0)
+                counted = {kind: sum(end - start for start, end, other in zip(ends, ends[1:], kinds) if other == kind) for kind in ("ais", "ones", "jump", "strange")}
+                self.assertEqual(" ".join(f"{kind} {count}" for kind, count in counted.items()), port[port.index("ais ") :])
+
+    def run_of(self, row):
+        kind = looking.Looks if row.name == "trace-alike" else simulate.Outages
+        return simulate.run(tomllib.loads(row.given.decode()), kind)[1].split("settle ")[1:]
+
+    def test_more_changes_than_are_told(self):
+        told = simulate.Outage("port c1 a", (0, "b"))
+        told.kinds = [(t, ("ais", "order")[t % 2]) for t in range(100)]
+        teller = simulate.Traces(types.SimpleNamespace(ports={(0, "a"): told}, begin=None, see=None), (0, "a"))
+        self.assertEqual(teller.lines()[62:-1], ["round 62 ais", "round 63 in-order", "more 36"])
+
     def test_the_bytes_say_what_the_tags_say(self):
         for row in self.runs():
             if row.name in ("example-waiting", "held-controller", "node-cut-off", "slip-up", "slips-amid", "two-nodes"):
@@ -225,13 +265,13 @@ class Rows(unittest.TestCase):
         self.assertEqual({told["jump"] for told in by_bytes.ports.values()}, {0})
 
     def test_every_status_and_no_text_is_forgotten(self):
-        self.assertEqual({row.status for row in rows().values()}, {0, 2, 3, 4, 5, 6, 7, 9})
+        self.assertEqual({row.status for row in rows().values()}, {0, 2, 3, 4, 5, 6, 7, 9, 10})
         listed = (OUTAGES / "rows.md").read_text()
         self.assertEqual({path.name for path in OUTAGES.glob("*.t*") if f"| {path.name} |" not in listed}, set())
 
     def test_lines_agree_in_themselves(self):
-        for row in rows().values():
-            for step in steps_in(row.text.decode()) if row.text and row.status in (0, 7) else []:
+        for row in self.runs():
+            for step in steps_in(row.text.decode()):
                 outs = [told["out"] for told in step.ports.values()]
                 longest = max(outs, default=0)
                 self.assertEqual(step.longest, f"longest {longest} ms {longest * 0.125:.3f} none {outs.count(0)}")
@@ -306,10 +346,10 @@ class Compare(unittest.TestCase):
         words = [sys.executable, str(BENCH / "compare")]
         agrees = subprocess.run([*words, str(BENCH / "simulate.py"), "2", "3"], capture_output=True, text=True)
         self.assertEqual((agrees.returncode, agrees.stderr), (0, ""))
-        self.assertIn("2 plans, 0 differ", agrees.stdout)
+        self.assertIn("2 plans, 0 texts differ", agrees.stdout)
         differs = subprocess.run([*words, "/bin/true", "1", "3"], capture_output=True, text=True)
         self.assertEqual(differs.returncode, 1)
-        self.assertIn("1 plans, 1 differ", differs.stdout)
+        self.assertIn("1 plans, 2 texts differ", differs.stdout)
 
 
 if __name__ == "__main__":

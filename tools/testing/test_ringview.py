@@ -253,9 +253,9 @@ class Outages(unittest.TestCase):
         self.assertIn("line 16: not what the ports' lines come to", self.said("longest 12 ms 1.500 none 2", "longest 12 ms 1.500 none 3"))
         self.assertIn("line 9: a settle step can't end with this round", self.said("settle 2 round 256", "settle 2 round 250"))
         self.assertIn("settle step 4 ends with round 640, and in the report with round 512", self.said("settle 4 round 512", "settle 4 round 640"))
-        self.assertIn("line 33: no line that sdhoutage writes here", self.said("done\n", "usage: sdhoutage run\n"))
+        self.assertIn("line 33: no line that sdhoutage run writes here", self.said("done\n", "usage: sdhoutage run, trace NAME END\n"))
         self.assertIn("line 34: a line behind the last one", self.said("done\n", "done\ndone\n"))
-        self.assertIn("line 33: no line that sdhoutage writes here", self.said("done\n", ""))
+        self.assertIn("line 33: no line that sdhoutage run writes here", self.said("done\n", ""))
         whole = WORKS_OUT.read_text()
         self.assertIn("it tells of 3 settle steps, and the report of 4", self.said(whole[whole.index("settle 4") :], "unsettled 4\n"))
 

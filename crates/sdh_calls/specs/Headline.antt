@@ -12,11 +12,11 @@ use Rattle.sdh_shell.specs.Reading.{TellsPlan}
 use Rattle.sdh_shell.specs.Calls.{HasRun}
 use Rattle.sdh_calls.specs.Programs.{Program}
 
--- What was written is the text of what is told of settle steps, and the last line; and what is told, and how it ended, is what `P`
--- says of the plan.
-abbrev pub Shows : {T : Type 0} → Program T → (Planned → List T → Status → Type 0) → List ℕ → Status → Option (List ℕ) → Option (List ℕ) → Type 0
-Shows {T} program P bytes how old new = (plan : Planned) → TellsPlan bytes plan → HasRun how
-    → (told : List T) × Appends old new (program.text_of told ++ last_line how) × P plan told how
+-- What was written is what is listed of what is told of settle steps, and the last line; and what is told, and how it ended, is
+-- what `P` says of the plan.
+abbrev pub Shows : {A L T : Type 0} → Program A L T → A → (Planned → List T → Status → Type 0) → List ℕ → Status → Option (List ℕ) → Option (List ℕ) → Type 0
+Shows {L = L} {T = T} program ask P bytes how old new = (plan : Planned) → TellsPlan bytes plan → HasRun how
+    → (listing : L) × (told : List T) × (program.listing_of ask plan ≡ Some listing) × Appends old new (program.text_of listing told ++ last_line how) × P plan told how
 
 -- where so much is known of the plan it ended as told, or a plant's call failed
 abbrev pub EndsAs : (Planned → Type 0) → (Planned → Status) → List ℕ → Status → Type 0
@@ -26,7 +26,11 @@ EndsAs Known ending bytes how = (plan : Planned) → TellsPlan bytes plan → Ha
 abbrev pub Settles : List ℕ → Status → Type 0
 Settles bytes how = (plan : Planned) → TellsPlan bytes plan → enough_for (length plan.nodes) ≤ plan.limit → IsSettled how
 
--- the source tells the bytes of a plan whose script comes to its end
-abbrev pub MayBeDone : {T : Type 0} → Program T → Option (List ℕ) → Fibres → Type 0
-MayBeDone program None f = ⊥
-MayBeDone program (Some bytes) f = (plan : Planned) × TellsPlan bytes plan × program.MaySettle plan f
+-- all is given for what is asked with a plan: its port, and a script that comes to its end
+abbrev pub MayGo : {A L T : Type 0} → Program A L T → A → Planned → Fibres → Type 0
+MayGo {L = L} program ask plan f = (listing : L) × (program.listing_of ask plan ≡ Some listing) × program.MaySettle plan f
+
+-- the source tells the bytes of a plan with which all is given
+abbrev pub MayBeDone : {A L T : Type 0} → Program A L T → A → Option (List ℕ) → Fibres → Type 0
+MayBeDone program ask None f = ⊥
+MayBeDone program ask (Some bytes) f = (plan : Planned) × TellsPlan bytes plan × MayGo program ask plan f

@@ -1,9 +1,9 @@
 //! The call.
-ghost use Rattle.std.specs.Prelude.{◌≡◌, ◌⊎◌, ◌≤◌, IfSome, true, false};
+ghost use Rattle.std.specs.Prelude.{◌≡◌, ◌⊎◌, ◌≤◌, None, Some, is_some, IfSome};
 ghost use Rattle.sdh_basics.specs.Causes.{Rose, IsCounted};
 ghost use Rattle.sdh_plant.specs.Fibres.{HasNoFibres};
 ghost use Rattle.sdh_report.specs.declared.status.Status.{Status};
-ghost use Rattle.sdh_shell.specs.Calls.{words_of, is_run};
+ghost use Rattle.sdh_shell.specs.Calls.{words_of};
 ghost use Rattle.sdh_shell.specs.Reading.{told_if};
 ghost use Rattle.sdh_shell.specs.Failing.{Counts, CameTo};
 ghost use Rattle.sdh_shell.specs.Writing.{Writes};
@@ -17,11 +17,11 @@ use sdh_plant::Plant;
 use sdh_report::Status;
 use std::alloc::Global;
 
-/// Does all that a program does. With the word `run` it reads a plan from the source and runs it over the plant. The
-/// last line says how it ended. All is written once, at the end.
-pub fn call<M: RunsPlans, R: Source, W: Sink, P: Plant>(
+/// Does all that a program does. Where its words ask for something, it reads a plan from the source and runs it over the
+/// plant. The last line says how it ended. All is written once, at the end.
+pub fn call<'a, M: RunsPlans<'a>, R: Source, W: Sink, P: Plant>(
     alloc: Global,
-    words: &[String],
+    words: &'a [String],
     source: &mut R,
     sink: &mut W,
     plant: &mut P,
@@ -30,15 +30,15 @@ pub fn call<M: RunsPlans, R: Source, W: Sink, P: Plant>(
 
     // The status and the text that is written, for a source that tells its bytes, where it is read, and a sink that
     // tells what was written.
-    ensures outcome { let asked = is_run (words_of words.now) in
+    ensures outcome { let ask = M.program.asked (words_of words.now) in
         let reads : Counts = record { before = R.faults source.old; after = R.faults source.new } in
         let calls : Counts = record { before = P.faults plant.old; after = P.faults plant.new } in
-        IfSome (told_if asked (R.left source.old)) (λ bytes. Writes (λ how text. MayEnd M.program asked bytes (P.fibres plant.old) reads calls how text (P.fibres plant.new)) result (W.written sink.old) (W.written sink.new)) }
+        IfSome (told_if (is_some ask) (R.left source.old)) (λ bytes. Writes (λ how text. MayEnd M.program ask bytes (P.fibres plant.old) reads calls how text (P.fibres plant.new)) result (W.written sink.old) (W.written sink.new)) }
 
     // Over every source, sink and plant.
-    ensures usage { result ≡ Status.Usage → is_run (words_of words.now) ≡ false }
-    ensures usage_only { is_run (words_of words.now) ≡ false → (result ≡ Status.Usage) ⊎ (result ≡ Status.WriteFault) ⊎ (result ≡ Status.Memory) }
-    ensures alone { is_run (words_of words.now) ≡ false → (source.new ≡ source.old) × (plant.new ≡ plant.old) }
+    ensures usage { result ≡ Status.Usage → M.program.asked (words_of words.now) ≡ None }
+    ensures usage_only { M.program.asked (words_of words.now) ≡ None → (result ≡ Status.Usage) ⊎ (result ≡ Status.WriteFault) ⊎ (result ≡ Status.Memory) }
+    ensures alone { M.program.asked (words_of words.now) ≡ None → (source.new ≡ source.old) × (plant.new ≡ plant.old) }
     ensures read_fault { result ≡ Status.ReadFault → Rose (R.faults source.old) (R.faults source.new) }
     ensures plant_fault { result ≡ Status.PlantFault → Rose (P.faults plant.old) (P.faults plant.new) }
     ensures write_fault { result ≡ Status.WriteFault → Rose (W.faults sink.old) (W.faults sink.new) }
@@ -51,11 +51,11 @@ pub fn call<M: RunsPlans, R: Source, W: Sink, P: Plant>(
     ensures writes { IsCounted W.exact (result ≡ Status.WriteFault) (W.faults sink.old) (W.faults sink.new) }
 
     ensures memory { result ≡ Status.Memory → (sink.new ≡ sink.old) × (P.fibres plant.new ≡ P.fibres plant.old) }
-    ensures read_whole { result ≡ Status.Ok → HasRead (is_run (words_of words.now)) (R.left source.new) }
+    ensures read_whole { result ≡ Status.Ok → HasRead (is_some (M.program.asked (words_of words.now))) (R.left source.new) }
     ensures later { (R.faults source.old ≤ R.faults source.new) × (W.faults sink.old ≤ W.faults sink.new) × (P.faults plant.old ≤ P.faults plant.new) }
 
     // With all that a run needs, and no fault, everything is done, or there is no memory.
-    ensures complete { is_run (words_of words.now) ≡ true → MayBeDone M.program (R.left source.old) (P.fibres plant.old) → ¬ (Rose (R.faults source.old) (R.faults source.new)) → ¬ (Rose (W.faults sink.old) (W.faults sink.new)) → ¬ (Rose (P.faults plant.old) (P.faults plant.new)) → (result ≡ Status.Ok) ⊎ (result ≡ Status.Memory) }
+    ensures complete { (ask : M.Ask) → M.program.asked (words_of words.now) ≡ Some ask → MayBeDone M.program ask (R.left source.old) (P.fibres plant.old) → ¬ (Rose (R.faults source.old) (R.faults source.new)) → ¬ (Rose (W.faults sink.old) (W.faults sink.new)) → ¬ (Rose (P.faults plant.old) (P.faults plant.new)) → (result ≡ Status.Ok) ⊎ (result ≡ Status.Memory) }
 {
     let Ok(report) = report_on::<M, R, P>(alloc, words, source, plant) else {
         return Status::Memory;

@@ -1,5 +1,5 @@
-//! The call of a program that runs plans and has the one word `run`: from the words, a source of bytes and a plant to a
-//! status and a text. What the program tells of a plan is a `RunsPlans`; what its call comes to is `IsOutcome` in
+//! The call of a program that runs plans: from the words, a source of bytes and a plant to a status and a text. What the
+//! words ask for, and what the program tells of a plan then, is a `RunsPlans`; what its call comes to is `IsOutcome` in
 //! `specs/Outcome.antt`, and what it promises then is in `specs/Headline.antt`.
 #![tactic(auto)]
 

@@ -11,7 +11,7 @@ use Rattle.sdh_report.specs.Reports.{Report, text_of}
 use Rattle.sdh_report.specs.Statuses.{last_line}
 use Rattle.sdh_shell.specs.Reading.{HasNoPlan, TellsPlan}
 use Rattle.sdh_shell.specs.Failing.{Counts, HasCause}
-use Rattle.sdh_shell.specs.Writing.{Says}
+use Rattle.sdh_shell.specs.Writing.{Says, HasNoPort}
 use Rattle.sdh_tables.specs.Tables.{tables_of}
 use Rattle.sdh_script.specs.Plans.{IsRunOf}
 use Rattle.sdh_cli.specs.Words.{Ask, Check, Big, listing_of}
@@ -30,10 +30,6 @@ pub record IsTablesOutcome (plan : Planned) (f : Fibres) (how : Status) (text : 
   pub text_is : text ≡ tables_of plan ++ last_line how
   pub how_is : how ≡ status.Ok
   pub left_is : left ≡ f
-
--- there is no such port
-abbrev pub HasNoPort : Fibres → Status → List ℕ → Fibres → Type 0
-HasNoPort f how text left = (how ≡ status.NoSuchPort) × Says (last_line how) text f left
 
 -- what a run comes to, where this is listed
 abbrev pub OfListing : Option Listing → Planned → Fibres → Status → List ℕ → Fibres → Type 0

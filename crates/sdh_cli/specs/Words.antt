@@ -4,11 +4,11 @@ use Rattle.std.specs.Str.{bytes_eq}
 use Rattle.std.specs.Io.KnownBytes.{IsAtEnd}
 use Rattle.sdh_circuits.specs.Provisioning.{at_port}
 use Rattle.sdh_circuits.specs.declared.End.{End}
-use Rattle.sdh_circuits.specs.declared.End.TheVariants.{A, B}
 use Rattle.sdh_plan.specs.Planned.{Planned, provisioning_of}
 use Rattle.sdh_plan.specs.Words.{numeral_in}
 use Rattle.sdh_report.specs.declared.listing.Listing.{Listing}
 use Rattle.sdh_report.specs.declared.listing.Listing.TheVariants as listing
+use Rattle.sdh_shell.specs.Calls.{end_lettered}
 use Rattle.sdh_cli.specs.declared.words.Command.{Command}
 use Rattle.sdh_cli.specs.declared.words.Command.TheVariants as command
 
@@ -33,10 +33,6 @@ asked_alone word = if bytes_eq word (codes "run") then Some Run else if bytes_eq
 -- a word and a number, which is below 2 ^ 32
 abbrev pub asked_with_number : List ℕ → List ℕ → Option Ask
 asked_with_number word number = if bytes_eq word (codes "big") then option_map Big (numeral_in 0 (2 ^ 32 - 1) number) else None
-
--- the end that a letter names
-abbrev pub end_lettered : List ℕ → Option End
-end_lettered letter = if bytes_eq letter (codes "a") then Some A else if bytes_eq letter (codes "b") then Some B else None
 
 -- a word, any name and the letter of an end
 abbrev pub asked_with_port : List ℕ → List ℕ → List ℕ → Option Ask

@@ -1,10 +1,11 @@
 //! What the words of the command line ask for.
 ghost use Rattle.std.specs.Prelude.{◌≡◌, ◌≤◌, option_map, IfSome};
 ghost use Rattle.sdh_shell.specs.Calls.{words_of};
-ghost use Rattle.sdh_cli.specs.Words.{ask_of, asked_alone, asked_with_number, end_lettered, asked_with_port, asked};
+ghost use Rattle.sdh_cli.specs.Words.{ask_of, asked_alone, asked_with_number, asked_with_port, asked};
 
 use sdh_circuits::End;
 use sdh_plan::numeral_in;
+use sdh_shell::end_lettered;
 
 /// What the program is asked for.
 #[derive(Clone, Copy, Debug)]
@@ -41,19 +42,6 @@ fn asked_with_number<'a>(word: &str, number: &str) -> Option<Command<'a>>
     }
     let number = numeral_in(number.as_bytes(), 0, u32::MAX)?;
     Some(Command::Big(number))
-}
-
-// The end that a letter names.
-fn end_lettered(letter: &str) -> Option<End>
-    ensures { result ≡ end_lettered letter.now }
-{
-    if letter == "a" {
-        Some(End::A)
-    } else if letter == "b" {
-        Some(End::B)
-    } else {
-        None
-    }
 }
 
 // What a word, a name and a letter ask for.

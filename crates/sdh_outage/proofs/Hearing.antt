@@ -8,10 +8,12 @@ use Rattle.sdh_payload.specs.declared.delivered.Delivered.TheVariants.{Ais, Chun
 use Rattle.sdh_payload.specs.Customer.{Customer}
 use Rattle.sdh_payload.specs.Stream.{stream_from}
 use Rattle.sdh_payload.proofs.Chunks.{length-stream_from, stream_from-append}
+use Rattle.sdh_outage.specs.declared.kind.Kind.{Kind}
 use Rattle.sdh_outage.specs.declared.kind.Kind.TheVariants as kind
 use Rattle.sdh_outage.specs.Near.{near, near_from, is_part}
 use Rattle.sdh_outage.specs.Kinds.{are_ones, jumps, kind_of, last_heard, kinds_of}
 use Rattle.sdh_outage.specs.Outages.{with_round, outage_of}
+use Rattle.sdh_outage.specs.Changes.{Traced, traced}
 use Rattle.sdh_outage.specs.Kept.{StandsAt, StandsWhere, Heard, heard}
 use Rattle.sdh_outage.proofs.Standing.{part_of_stream}
 use Rattle.sdh_outage.proofs.Windows.{drop-stream, front-stream}
@@ -83,13 +85,23 @@ length-kinds : (port : Customer) (first : ℕ) (before : Delivered) (past : List
 length-kinds port first before [] = refl
 length-kinds port first before (now ∷ past) = ap suc (length-kinds port first before past)
 
--- what a round makes of what was heard before it
-abbrev pub after : Heard → Delivered → Heard
-after h now = record { port = h.port; round = h.round + 1; last = now; outage = with_round h.round (kind_of h.port h.round h.last now) h.outage }
+-- what a round makes of what was heard before it, where it leaves this trace
+abbrev pub after : Heard → Delivered → Traced → Heard
+after h now trace = record { port = h.port; round = h.round + 1; last = now; outage = with_round h.round (kind_of h.port h.round h.last now) h.outage; trace = trace }
 
-pub hears : (h : Heard) (now : Delivered) (port : Customer) (first : ℕ) (before : Delivered) (past : List Delivered) → h ≡ heard port first before past → after h now ≡ heard port first before (now ∷ past)
-hears h now port first before past e =
+-- the trace that it leaves
+pub trace_after : (h : Heard) (now : Delivered) (port : Customer) (first : ℕ) (before : Delivered) (past : List Delivered) (trace : Traced) → h ≡ heard port first before past
+    → ((f : ℕ) (kinds : List Kind) → h.round ≡ f + length kinds → h.trace ≡ traced f kinds → trace ≡ traced f (kind_of h.port h.round h.last now ∷ kinds))
+    → trace ≡ traced first (kinds_of port first before (now ∷ past))
+trace_after h now port first before past trace e added =
+    let kinds = kinds_of port first before past in
+    let number : h.round ≡ first + length kinds = ap (λ (x : Heard). x.round) e ∙ ap (λ n. first + n) (sym (length-kinds port first before past)) in
+    added first kinds number (ap (λ (x : Heard). x.trace) e) ∙ ap (λ (x : Heard). traced first (kind_of x.port x.round x.last now ∷ kinds)) e
+
+pub hears : (h : Heard) (now : Delivered) (port : Customer) (first : ℕ) (before : Delivered) (past : List Delivered) (trace : Traced) → h ≡ heard port first before past
+    → trace ≡ traced first (kinds_of port first before (now ∷ past)) → after h now trace ≡ heard port first before (now ∷ past)
+hears h now port first before past trace e added =
     let more : first + length past + 1 ≡ first + suc (length past) = omega arith in
     let k = kind_of port (first + length past) (last_heard before past) now in
-    ap (λ (x : Heard). after x now) e
-    ∙ ap₂ (λ n r. let x : Heard = record { port = port; round = n; last = now; outage = with_round (first + r) k (outage_of first (kinds_of port first before past)) } in x) more (sym (length-kinds port first before past))
+    ap₂ (λ (x : Heard) t. after x now t) e added
+    ∙ ap₂ (λ n r. let x : Heard = record { port = port; round = n; last = now; outage = with_round (first + r) k (outage_of first (kinds_of port first before past)); trace = traced first (kinds_of port first before (now ∷ past)) } in x) more (sym (length-kinds port first before past))

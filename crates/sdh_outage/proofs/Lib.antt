@@ -1,5 +1,6 @@
 pub mod Standing
 pub mod Windows
 pub mod Hearing
+pub mod Tracing
 pub mod Parts
 pub mod Short

@@ -6,11 +6,14 @@ use Rattle.std.proofs.lemmas.Fmt.{length-decimal-le}
 use Rattle.sdh_circuits.specs.declared.End.{End}
 use Rattle.sdh_circuits.specs.declared.End.TheVariants.{A, B}
 use Rattle.sdh_report.specs.Lines.{end_letter, port_named}
+use Rattle.sdh_outage.specs.declared.kind.Kind.{Kind}
+use Rattle.sdh_outage.specs.declared.kind.Kind.TheVariants as kind
+use Rattle.sdh_outage.specs.declared.change.Change.{Change}
 use Rattle.sdh_outage.specs.declared.outage.Outage.{Outage}
 use Rattle.sdh_outage.specs.declared.outage.Stretch.{Stretch}
 use Rattle.sdh_outage.specs.declared.summary.Summary.{Summary}
 use Rattle.sdh_outage.specs.Outages.{out}
-use Rattle.sdh_outage.specs.Lines.{three_digits, ms_text, rounds_text, stretch_text, counts_text, outage_line, summary_line}
+use Rattle.sdh_outage.specs.Lines.{three_digits, ms_text, rounds_text, stretch_text, counts_text, outage_line, kind_word, change_line, more_line, summary_line}
 
 digits_32 : (n : ℕ) → n < 2 ^ 32 → length (decimal n) ≤ 10
 digits_32 n h = length-decimal-le 10 n (omega arith) (omega arith) (omega arith)
@@ -104,6 +107,22 @@ short-outage_line name end o h small =
       short-stretch o.stretch small.stretch,
       short-counts o small,
     )
+
+short-word : (k : Kind) → length (kind_word k) ≤ 8
+short-word kind.Ais = omega arith
+short-word kind.Ones = omega arith
+short-word kind.InOrder = omega arith
+short-word kind.Jump = omega arith
+short-word kind.Strange = omega arith
+
+pub short-change_line : (c : Change) → c.round < 2 ^ 32 → length (change_line c) ≤ 160
+short-change_line c h =
+    let a = codes "round " ++ decimal c.round in
+    let b = a ++ codes " " in
+    omega (arith, length-append (b ++ kind_word c.kind) (codes "\n"), length-append b (kind_word c.kind), length-append a (codes " "), length-append (codes "round ") (decimal c.round), digits_32 c.round h, short-word c.kind)
+
+pub short-more_line : (count : ℕ) → count < 2 ^ 32 → length (more_line count) ≤ 160
+short-more_line count h = omega (arith, length-append (codes "more " ++ decimal count) (codes "\n"), length-append (codes "more ") (decimal count), digits_32 count h)
 
 pub short-summary_line : (s : Summary) → s.longest < 2 ^ 64 → s.none < 2 ^ 32 → length (summary_line s) ≤ 160
 short-summary_line s hl hn =

@@ -10,6 +10,7 @@ use Rattle.sdh_outage.specs.declared.outage.Outage.{Outage}
 use Rattle.sdh_outage.specs.Near.{near_from}
 use Rattle.sdh_outage.specs.Kinds.{last_heard, kinds_of}
 use Rattle.sdh_outage.specs.Outages.{outage_of}
+use Rattle.sdh_outage.specs.Changes.{Traced, traced}
 
 -- ---- the bytes that are near
 
@@ -53,6 +54,8 @@ pub record Heard : Type 0 where
   pub last : Delivered
   -- what was counted since the settle step began
   pub outage : Outage
+  -- and the changes since then
+  pub trace : Traced
 
 -- by the far customer, the number of the settle step's first round, what came before that, and what came in its rounds, the latest first
 abbrev pub heard : Customer → ℕ → Delivered → List Delivered → Heard
@@ -61,6 +64,7 @@ heard port first before past = record {
   round = first + length past;
   last = last_heard before past;
   outage = outage_of first (kinds_of port first before past);
+  trace = traced first (kinds_of port first before past);
 }
 
 -- there was no more than one count a round

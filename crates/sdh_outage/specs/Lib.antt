@@ -1,5 +1,6 @@
 pub mod Near
 pub mod Kinds
 pub mod Outages
+pub mod Changes
 pub mod Lines
 pub mod Kept

@@ -2,6 +2,9 @@
 use Rattle.std.specs.Prelude.{ℕ, ◌*◌, ◌/◌, ◌%◌, List, ◌++◌, codes, decimal, Option, Some, None}
 use Rattle.sdh_circuits.specs.declared.End.{End}
 use Rattle.sdh_report.specs.Lines.{port_named}
+use Rattle.sdh_outage.specs.declared.kind.Kind.{Kind}
+use Rattle.sdh_outage.specs.declared.kind.Kind.TheVariants as kind
+use Rattle.sdh_outage.specs.declared.change.Change.{Change}
 use Rattle.sdh_outage.specs.declared.outage.Outage.{Outage}
 use Rattle.sdh_outage.specs.declared.outage.Stretch.{Stretch}
 use Rattle.sdh_outage.specs.declared.summary.Summary.{Summary}
@@ -31,6 +34,26 @@ counts_text o = codes " ais " ++ decimal o.ais ++ codes " ones " ++ decimal o.on
 -- the port at that end of the circuit of that name had this outage
 abbrev pub outage_line : List ℕ → End → Outage → List ℕ
 outage_line name end o = port_named name end ++ codes " out " ++ rounds_text (out o) ++ stretch_text o.stretch ++ counts_text o ++ codes "\n"
+
+-- ---- the changes of one port
+
+-- the word of a kind
+abbrev pub kind_word : Kind → List ℕ
+kind_word kind.Ais = codes "ais"
+kind_word kind.Ones = codes "ones"
+kind_word kind.InOrder = codes "in-order"
+kind_word kind.Jump = codes "jump"
+kind_word kind.Strange = codes "strange"
+
+-- from this round on they are of this kind
+abbrev pub change_line : Change → List ℕ
+change_line c = codes "round " ++ decimal c.round ++ codes " " ++ kind_word c.kind ++ codes "\n"
+
+-- so many changes came behind those that are told
+abbrev pub more_line : ℕ → List ℕ
+more_line count = codes "more " ++ decimal count ++ codes "\n"
+
+-- ---- all ports
 
 -- the longest outage of a settle step's ports, and how many of them had none
 abbrev pub summary_line : Summary → List ℕ

@@ -1,8 +1,9 @@
 //! Laws of the lines. The functions change nothing: their contracts are the laws.
 ghost use Rattle.std.specs.Prelude.{◌≡◌, ℕ, ◌^◌, ◌<◌, ◌≤◌, List, Some, length};
 ghost use Rattle.sdh_circuits.specs.declared.End.{End};
-ghost use Rattle.sdh_outage.specs.Lines.{outage_line, summary_line};
+ghost use Rattle.sdh_outage.specs.Lines.{outage_line, change_line, more_line, summary_line};
 
+use crate::change::Change;
 use crate::lines::LINE_MAX;
 use crate::outage::{Outage, Stretch};
 use crate::summary::Summary;
@@ -47,7 +48,21 @@ pub fn outage_line_is_short(outage: &Outage)
     stretch_is_small(outage.stretch);
 }
 
-/// And so has that of any summary.
+/// And so has that of any change.
+pub fn change_line_is_short(change: &Change)
+    ensures { length (change_line change.now) ≤ LINE_MAX }
+{
+    rounds_are_few(change.round, change.round);
+}
+
+/// And that of any number of them.
+pub fn more_line_is_short(count: u32)
+    ensures { length (more_line count) ≤ LINE_MAX }
+{
+    rounds_are_few(count, count);
+}
+
+/// And that of any summary.
 pub fn summary_line_is_short(summary: &Summary)
     ensures { length (summary_line summary.now) ≤ LINE_MAX }
 {

@@ -2,14 +2,16 @@
 ghost use Rattle.std.specs.Prelude.{◌≡◌, ◌*◌, ◌+◌, ◌<◌, ◌≤◌, length};
 ghost use Rattle.sdh_report.specs.Lines.{end_letter, port_named};
 ghost use Rattle.sdh_report.specs.Written.{with_part};
-ghost use Rattle.sdh_outage.specs.Lines.{three_digits, ms_text, rounds_text, stretch_text, counts_text, outage_line, summary_line};
+ghost use Rattle.sdh_outage.specs.Lines.{three_digits, ms_text, rounds_text, stretch_text, counts_text, outage_line, kind_word, change_line, more_line, summary_line};
 
+use crate::change::Change;
+use crate::kind::Kind;
 use crate::outage::{Outage, Stretch};
 use crate::summary::Summary;
 use sdh_circuits::{End, Name};
 use sdh_report::Text;
 
-/// Room for any line of an outage, and for that of a summary, in bytes.
+/// Room for any line of an outage, a change or a summary, in bytes.
 pub const LINE_MAX: usize = 160;
 
 // The letter of a port.
@@ -105,6 +107,41 @@ pub fn outage_line(text: &mut Text, name: &Name, end: End, outage: &Outage)
     put_rounds(text, outage.out());
     put_stretch(text, outage.stretch);
     put_counts(text, outage);
+    text.put(b"\n");
+}
+
+// The word of a kind.
+fn kind_word(kind: Kind) -> &'static [u8]
+    ensures { result.now ≡ kind_word kind }
+{
+    match kind {
+        Kind::Ais => b"ais",
+        Kind::Ones => b"ones",
+        Kind::InOrder => b"in-order",
+        Kind::Jump => b"jump",
+        Kind::Strange => b"strange",
+    }
+}
+
+/// The line of a change.
+pub fn change_line(text: &mut Text, change: &Change)
+    requires { length (change_line change.now) ≤ text.old.room }
+    ensures { text.new ≡ with_part text.old (change_line change.now) }
+{
+    text.put(b"round ");
+    text.put_number(u64::from(change.round));
+    text.put(b" ");
+    text.put(kind_word(change.kind));
+    text.put(b"\n");
+}
+
+/// The line of so many changes behind those that were written.
+pub fn more_line(text: &mut Text, count: u32)
+    requires { length (more_line count) ≤ text.old.room }
+    ensures { text.new ≡ with_part text.old (more_line count) }
+{
+    text.put(b"more ");
+    text.put_number(u64::from(count));
     text.put(b"\n");
 }
 

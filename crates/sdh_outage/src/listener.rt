@@ -10,13 +10,15 @@ use crate::kind::Kind;
 use crate::last::Last;
 use crate::outage::Outage;
 use crate::part::are_ones;
+use crate::trace::Trace;
 use crate::window::Window;
 use memchr::memmem;
 use sdh_payload::{Delivered, Port};
 use std::alloc::{AllocError, Global};
 use std::marker::Model;
 
-/// A listener at a port, which counts what the port delivers in the rounds of a settle step. It takes all its memory when it is made.
+/// A listener at a port, which counts what the port delivers in the rounds of a settle step, and keeps its changes. It takes all its
+/// memory when it is made.
 #[derive(Debug, Drop)]
 pub struct Listener {
     window: Window,
@@ -24,16 +26,18 @@ pub struct Listener {
     // The byte of the stream with which the last chunk begins, where that is known.
     place: Option<usize>,
     outage: Outage,
+    trace: Trace,
 }
 
 impl Model for Listener {
+    ghost use Rattle.std.specs.Prelude.{◌≤◌};
     ghost use Rattle.sdh_outage.specs.Kept.{Heard, StandsWhere, AreFew};
 
     ghost Value = { Heard };
 
-    ghost view = { λ l. record { port = l.window.port; round = l.window.round; last = l.last; outage = l.outage } };
+    ghost view = { λ l. record { port = l.window.port; round = l.window.round; last = l.last; outage = l.outage; trace = l.trace } };
 
-    ghost invariant = { λ l. StandsWhere l.window.port l.place l.last × AreFew l.outage l.window.round };
+    ghost invariant = { λ l. StandsWhere l.window.port l.place l.last × AreFew l.outage l.window.round × (l.trace.count ≤ l.window.round) };
 }
 
 impl Listener {
@@ -46,6 +50,7 @@ impl Listener {
             last: Last::try_new(alloc)?,
             place: None,
             outage: Outage::none(),
+            trace: Trace::try_new(alloc)?,
         })
     }
 
@@ -56,6 +61,7 @@ impl Listener {
         self.last.put(before);
         self.place = None;
         self.outage = Outage::none();
+        self.trace.begin();
     }
 
     // The place of a chunk in the stream, where it stands behind the last one and both are near.
@@ -126,6 +132,7 @@ impl Listener {
     {
         let (kind, place) = self.heard(now);
         self.outage = self.outage.with_round(self.window.round(), kind);
+        self.trace.add(self.window.round(), kind);
         self.place = place;
         self.last.put(now);
         self.window.step();
@@ -136,5 +143,12 @@ impl Listener {
         ensures { result ≡ self.now.outage }
     {
         self.outage
+    }
+
+    /// The changes since then.
+    pub fn trace(&self) -> &Trace
+        ensures { result.now ≡ self.now.trace }
+    {
+        &self.trace
     }
 }

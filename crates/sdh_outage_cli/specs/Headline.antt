@@ -4,15 +4,28 @@ use Rattle.sdh_plant.specs.Fibres.{Fibres}
 use Rattle.sdh_plant.specs.Arrivals.{Knows}
 use Rattle.sdh_report.specs.declared.status.Status.{Status}
 use Rattle.sdh_script.specs.Plans.{world_of}
+use Rattle.sdh_scripts.proofs.Plans.{ends_of}
+use Rattle.sdh_shell.proofs.Ends.{has_run}
 use Rattle.sdh_calls.specs.Programs.{Program}
 use Rattle.sdh_calls.specs.Headline.{EndsAs}
 use Rattle.sdh_outage_script.specs.Outages.{Outaged}
+use Rattle.sdh_outage_script.specs.declared.listing.Listing.{Listing}
 use Rattle.sdh_outage_script.specs.Lines.{text_of}
-use Rattle.sdh_outage_script.specs.Plans.{IsRunOf, ran_of, MaySettle}
+use Rattle.sdh_outage_script.specs.Plans.{outage_account, IsRunOf, ran_of, MaySettle}
+use Rattle.sdh_outage_cli.specs.Words.{Ask, asked, listing_of}
 
--- it runs a plan, and tells of each settle step for how many rounds each port was without its own customer's bytes
-abbrev pub listening : Program Outaged
-listening = record { usage = codes "usage: sdhoutage run"; text_of = text_of; IsRunOf = IsRunOf; MaySettle = MaySettle }
+-- it runs a plan, and tells of each settle step for how many rounds each port was without its own customer's bytes, or from which
+-- round on one port got what
+abbrev pub listening : Program Ask Listing Outaged
+listening = record {
+  usage = codes "usage: sdhoutage run, trace NAME END";
+  asked = asked;
+  listing_of = listing_of;
+  text_of = text_of;
+  IsRunOf = IsRunOf;
+  ends = λ plan f left told how x. has_run how (ends_of outage_account plan f left how told x);
+  MaySettle = MaySettle;
+}
 
 -- it ends as the script does where the arrivals are known: unsettled at exactly the step in which no quiet window comes
 -- within the limit; or a plant's call failed

@@ -3,6 +3,7 @@
 
 mod program;
 mod top;
+mod words;
 
 pub use sdh_report::Status;
 pub use top::sdhoutage;

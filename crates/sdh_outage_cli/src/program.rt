@@ -1,33 +1,68 @@
 //! What the program does with a plan.
-ghost use Rattle.sdh_scripts.proofs.Plans.{ends_of};
-ghost use Rattle.sdh_shell.proofs.Ends.{has_run};
+ghost use Rattle.std.specs.Prelude.{◌≡◌, ◌≤◌, true, length, IfOk, OnErr};
+ghost use Rattle.sdh_basics.specs.Causes.{Rose, IsCounted};
+ghost use Rattle.sdh_plant.specs.Fibres.{HasNoFibres};
+ghost use Rattle.sdh_calls.specs.Outcome.{IsRunOutcome};
 ghost use Rattle.sdh_outage_script.specs.Outages.{Outaged};
-ghost use Rattle.sdh_outage_script.specs.Plans.{outage_account};
+ghost use Rattle.sdh_outage_script.specs.Running.{MayList};
+ghost use Rattle.sdh_outage_script.specs.Plans.{MaySettle};
+ghost use Rattle.sdh_outage_script.specs.declared.listing.Listing.{Listing as Listed};
+ghost use Rattle.sdh_outage_cli.specs.Words.{Ask as Asked, ask_of as what_is_asked};
 ghost use Rattle.sdh_outage_cli.specs.Headline.{listening};
 
+use crate::words::{Command, command_of, listing_of};
 use sdh_calls::RunsPlans;
-use sdh_outage_script::run_plan;
+use sdh_outage_script::{Listing, run_plan};
 use sdh_plan::Plan;
 use sdh_plant::Plant;
-use sdh_shell::{Report, ended};
+use sdh_report::Status;
+use sdh_shell::{Report, ended, last_report};
 use std::alloc::{AllocError, Global};
 
-/// The program, which runs plans and listens at each port.
-pub struct Listening;
+// A plan that is run.
+fn run_report<P: Plant>(
+    alloc: Global,
+    plan: Plan,
+    plant: &mut P,
+    listing: Listing,
+) -> Result<Report, AllocError>
+    requires fresh { HasNoFibres (P.fibres plant.old) }
+    requires listing { MayList (length plan.circuits) listing }
+    ensures outcome { IfOk result (λ report. IsRunOutcome listening listing plan (P.fibres plant.old) report.status report.text.bytes (P.fibres plant.new)) }
+    ensures failed { IfOk result (λ report. report.status ≡ Status.PlantFault → Rose (P.faults plant.old) (P.faults plant.new)) }
+    ensures calls { IfOk result (λ report. IsCounted P.exact (report.status ≡ Status.PlantFault) (P.faults plant.old) (P.faults plant.new)) }
+    ensures without { OnErr result (P.exact ≡ true → P.faults plant.new ≡ P.faults plant.old) }
+    ensures complete { IfOk result (λ report. MaySettle plan (P.fibres plant.old) → ¬ (Rose (P.faults plant.old) (P.faults plant.new)) → report.status ≡ Status.Ok) }
+    ensures later { P.faults plant.old ≤ P.faults plant.new }
+    ensures unsent { OnErr result (P.fibres plant.new ≡ P.fibres plant.old) }
+{
+    let run = run_plan(alloc, plan, plant, listing)?;
+    Ok(ended(run.status, run.text))
+}
 
-impl RunsPlans for Listening {
+impl<'a> RunsPlans<'a> for Command<'a> {
+    ghost Ask = { Asked };
+
+    ghost Listing = { Listed };
+
     ghost Told = { Outaged };
 
     ghost program = { listening };
 
+    ghost ask_of = { what_is_asked };
+
     fn usage() -> &'static [u8] {
-        b"usage: sdhoutage run"
+        b"usage: sdhoutage run, trace NAME END"
     }
 
-    fn run<P: Plant>(alloc: Global, plan: Plan, plant: &mut P) -> Result<Report, AllocError> {
-        let run = run_plan(alloc, plan, plant)?;
-        Ok(ended(run.status, run.text))
+    fn asked(words: &'a [String]) -> Option<Command<'a>> {
+        command_of(words)
     }
 
-    ghost ends = { λ plan f left told how x. has_run how (ends_of outage_account plan f left how told x) };
+    fn run<P: Plant>(self, alloc: Global, plan: Plan, plant: &mut P) -> Result<Report, AllocError> {
+        match listing_of(self, &plan) {
+            Some(listing) => run_report(alloc, plan, plant, listing),
+            None => last_report(alloc, Status::NoSuchPort),
+        }
+    }
 }

@@ -1,17 +1,18 @@
 //! The program's call.
-ghost use Rattle.std.specs.Prelude.{◌≡◌, ◌≢◌, ◌⊎◌, ◌≤◌, IfSome, true, false};
+ghost use Rattle.std.specs.Prelude.{◌≡◌, ◌≢◌, ◌⊎◌, ◌≤◌, None, Some, is_some, IfSome, true};
 ghost use Rattle.sdh_basics.specs.Causes.{Rose, IsCounted};
 ghost use Rattle.sdh_plant.specs.Fibres.{HasNoFibres};
 ghost use Rattle.sdh_report.specs.declared.status.Status.{Status};
-ghost use Rattle.sdh_shell.specs.Calls.{words_of, is_run};
+ghost use Rattle.sdh_shell.specs.Calls.{words_of};
 ghost use Rattle.sdh_shell.specs.Reading.{told_if};
 ghost use Rattle.sdh_shell.specs.Failing.{Counts, CameTo};
 ghost use Rattle.sdh_shell.specs.Writing.{Writes};
 ghost use Rattle.sdh_calls.specs.Outcome.{HasRead, MayEnd};
 ghost use Rattle.sdh_calls.specs.Headline.{Settles, MayBeDone};
+ghost use Rattle.sdh_outage_cli.specs.Words.{Ask, asked};
 ghost use Rattle.sdh_outage_cli.specs.Headline.{listening, EndsAsItRuns};
 
-use crate::program::Listening;
+use crate::words::Command;
 use sdh_calls::call;
 use sdh_outside::{Sink, Source};
 use sdh_plant::Plant;
@@ -20,7 +21,8 @@ use std::alloc::Global;
 
 /// Does all that the program does. With the word `run` it reads a plan from the source and runs its ring over the
 /// plant; of each settle step that ends it writes, for each port, in how many of the step's rounds the port was without
-/// its own customer's bytes, and how. The last line says how it ended. All is written once, at the end.
+/// its own customer's bytes, and how; with `trace`, a name and `a` or `b`, from which round on this port got what. The
+/// last line says how it ended. All is written once, at the end.
 pub fn sdhoutage<R: Source, W: Sink, P: Plant>(
     alloc: Global,
     words: &[String],
@@ -32,22 +34,22 @@ pub fn sdhoutage<R: Source, W: Sink, P: Plant>(
 
     // The status and the text that is written, for a source that tells its bytes, where it is read, and a sink that
     // tells what was written.
-    ensures outcome { let asked = is_run (words_of words.now) in
+    ensures outcome { let ask = asked (words_of words.now) in
         let reads : Counts = record { before = R.faults source.old; after = R.faults source.new } in
         let calls : Counts = record { before = P.faults plant.old; after = P.faults plant.new } in
-        IfSome (told_if asked (R.left source.old)) (λ bytes. Writes (λ how text. MayEnd listening asked bytes (P.fibres plant.old) reads calls how text (P.fibres plant.new)) result (W.written sink.old) (W.written sink.new)) }
+        IfSome (told_if (is_some ask) (R.left source.old)) (λ bytes. Writes (λ how text. MayEnd listening ask bytes (P.fibres plant.old) reads calls how text (P.fibres plant.new)) result (W.written sink.old) (W.written sink.new)) }
 
     // Over honest fibres with a large limit no settle step is unsettled.
-    ensures settles { is_run (words_of words.now) ≡ true → (P.fibres plant.old).honest ≡ true → IfSome (R.left source.old) (λ bytes. Settles bytes result) }
+    ensures settles { (ask : Ask) → asked (words_of words.now) ≡ Some ask → (P.fibres plant.old).honest ≡ true → IfSome (R.left source.old) (λ bytes. Settles bytes result) }
 
     // Where arrivals are known, unsettled comes at exactly the settle step in which no quiet window comes within the
     // limit.
-    ensures unsettled { is_run (words_of words.now) ≡ true → IfSome (R.left source.old) (λ bytes. EndsAsItRuns bytes (P.fibres plant.old) result) }
+    ensures unsettled { (ask : Ask) → asked (words_of words.now) ≡ Some ask → IfSome (R.left source.old) (λ bytes. EndsAsItRuns bytes (P.fibres plant.old) result) }
 
     // Over every source, sink and plant.
-    ensures usage { result ≡ Status.Usage → is_run (words_of words.now) ≡ false }
-    ensures usage_only { is_run (words_of words.now) ≡ false → (result ≡ Status.Usage) ⊎ (result ≡ Status.WriteFault) ⊎ (result ≡ Status.Memory) }
-    ensures alone { is_run (words_of words.now) ≡ false → (source.new ≡ source.old) × (plant.new ≡ plant.old) }
+    ensures usage { result ≡ Status.Usage → asked (words_of words.now) ≡ None }
+    ensures usage_only { asked (words_of words.now) ≡ None → (result ≡ Status.Usage) ⊎ (result ≡ Status.WriteFault) ⊎ (result ≡ Status.Memory) }
+    ensures alone { asked (words_of words.now) ≡ None → (source.new ≡ source.old) × (plant.new ≡ plant.old) }
     ensures read_fault { result ≡ Status.ReadFault → Rose (R.faults source.old) (R.faults source.new) }
     ensures plant_fault { result ≡ Status.PlantFault → Rose (P.faults plant.old) (P.faults plant.new) }
     ensures write_fault { result ≡ Status.WriteFault → Rose (W.faults sink.old) (W.faults sink.new) }
@@ -60,11 +62,11 @@ pub fn sdhoutage<R: Source, W: Sink, P: Plant>(
     ensures writes { IsCounted W.exact (result ≡ Status.WriteFault) (W.faults sink.old) (W.faults sink.new) }
 
     ensures memory { result ≡ Status.Memory → (sink.new ≡ sink.old) × (P.fibres plant.new ≡ P.fibres plant.old) }
-    ensures read_whole { result ≡ Status.Ok → HasRead (is_run (words_of words.now)) (R.left source.new) }
+    ensures read_whole { result ≡ Status.Ok → HasRead (is_some (asked (words_of words.now))) (R.left source.new) }
     ensures later { (R.faults source.old ≤ R.faults source.new) × (W.faults sink.old ≤ W.faults sink.new) × (P.faults plant.old ≤ P.faults plant.new) }
 
     // With all that a run needs, and no fault, everything is done, or there is no memory.
-    ensures complete { is_run (words_of words.now) ≡ true → MayBeDone listening (R.left source.old) (P.fibres plant.old) → ¬ (Rose (R.faults source.old) (R.faults source.new)) → ¬ (Rose (W.faults sink.old) (W.faults sink.new)) → ¬ (Rose (P.faults plant.old) (P.faults plant.new)) → (result ≡ Status.Ok) ⊎ (result ≡ Status.Memory) }
+    ensures complete { (ask : Ask) → asked (words_of words.now) ≡ Some ask → MayBeDone listening ask (R.left source.old) (P.fibres plant.old) → ¬ (Rose (R.faults source.old) (R.faults source.new)) → ¬ (Rose (W.faults sink.old) (W.faults sink.new)) → ¬ (Rose (P.faults plant.old) (P.faults plant.new)) → (result ≡ Status.Ok) ⊎ (result ≡ Status.Memory) }
 {
-    call::<Listening, R, W, P>(alloc, words, source, sink, plant)
+    call::<Command<'_>, R, W, P>(alloc, words, source, sink, plant)
 }

@@ -1,10 +1,12 @@
 -- The listeners, round by round.
-use Rattle.std.proofs.Common.{◌≡◌, ℕ, zero, suc, ◌+◌, ◌-◌, ◌^◌, ◌<◌, ◌≤◌, List, [], ◌∷◌, length, Some, refl, ap, ap₂, sym, subst, ◌∙◌, arith}
-use Rattle.std.specs.Prelude.{slice_get}
+use Rattle.std.proofs.Common.{◌≡◌, ℕ, zero, suc, ◌+◌, ◌-◌, ◌^◌, ◌<◌, ◌≤◌, List, [], ◌∷◌, ◌++◌, length, take, None, Some, refl, ap, ap₂, sym, subst, ◌∙◌, arith}
+use Rattle.std.specs.Prelude.{slice_get, Option, option_map, is_some}
 use Rattle.std.proofs.lemmas.Option.{slice_get_within}
 use Rattle.sdh_circuits.specs.declared.PortId.{PortId}
+use Rattle.sdh_circuits.specs.declared.End.{End}
 use Rattle.sdh_circuits.specs.declared.End.TheVariants.{A, B}
-use Rattle.sdh_circuits.specs.Provisioned.{Provisioned}
+use Rattle.sdh_circuits.specs.Ends.{other_end}
+use Rattle.sdh_circuits.specs.Provisioned.{Provisioned, customer_at}
 use Rattle.sdh_circuits.specs.Provisioning.{Provisioning}
 use Rattle.sdh_payload.specs.Customer.{Customer}
 use Rattle.sdh_node.specs.Stations.{adm}
@@ -15,11 +17,13 @@ use Rattle.sdh_world.specs.Runs.{IsRound}
 use Rattle.sdh_ring.specs.Observed.{RanOne}
 use Rattle.sdh_outage.specs.Kinds.{kind_of, kinds_of, last_heard}
 use Rattle.sdh_outage.specs.Outages.{outage_of}
+use Rattle.sdh_outage.specs.Changes.{changes_of}
 use Rattle.sdh_outage.specs.Kept.{Heard, heard}
 use Rattle.sdh_scripts.proofs.Lists.{some_at}
 use Rattle.sdh_scripts.specs.Ports.{port_id}
-use Rattle.sdh_outage_script.specs.Outages.{delivered_at, kinds_in, outage_in, ports_out}
-use Rattle.sdh_outage_script.specs.Ports.{AreReady, delivered_in, heard_in, IsListening, AreListening, AreFew, HaveBegun, Looked, shown}
+use Rattle.sdh_outage_script.specs.Outages.{delivered_at, kinds_in, outage_in, ports_out, trace_at, trace_in}
+use Rattle.sdh_outage_script.specs.Lines.{told_line, changes_text, trace_text}
+use Rattle.sdh_outage_script.specs.Ports.{AreReady, delivered_in, heard_in, IsListening, AreListening, AreFew, HaveBegun, Looked, shown, listener_at, heard_text, port_text}
 use Rattle.sdh_outage_script.specs.declared.ports.Both.{Both}
 
 -- ---- what was delivered in a course
@@ -106,6 +110,14 @@ ready_then at k items x rounds = record {
       });
 }
 
+-- lists that are as long have elements at the same places
+both_there : {X Y : Type 0} (xs : List X) (ys : List Y) (i : ℕ) → length xs ≡ length ys → is_some (slice_get xs i) ≡ is_some (slice_get ys i)
+both_there [] [] i long = refl
+both_there [] (y ∷ ys) i long = absurd (omega arith)
+both_there (x ∷ xs) [] i long = absurd (omega arith)
+both_there (x ∷ xs) (y ∷ ys) zero long = refl
+both_there (x ∷ xs) (y ∷ ys) (suc i) long = both_there xs ys i (omega arith)
+
 module _ (at : ℕ → World) where
   -- a port delivered last what it did in the last round
   last_is : (port : PortId) (k : ℕ) → last_heard (delivered_at (at 0).ring port) (delivered_in port k at) ≡ delivered_at (at k).ring port
@@ -141,3 +153,33 @@ module _ (at : ℕ → World) where
 
   pub shown_is : (k : ℕ) (items : List Both) → ((j : ℕ) → j ≤ k → (at j).ring.rounds ≡ (at 0).ring.rounds + j) → AreListening at k items → shown (at k).ring.circuits.circuits items ≡ ports_out k at 0 (at k).ring.circuits.circuits
   shown_is k items rounds x = shown_from k rounds (at k).ring.circuits.circuits items 0 x.many (λ i c both there here. (let none : i ≡ 0 + i = omega arith in subst (λ n. IsListening k at c n both) none (x.each i c both there here)))
+
+  -- the listener on a port shows what the port went through
+  heard_is : (far : Customer) (index : ℕ) (end : End) (name : List ℕ) (k : ℕ) (h : Heard) → ((j : ℕ) → j ≤ k → (at j).ring.rounds ≡ (at 0).ring.rounds + j) → h ≡ heard_in far (port_id index end) k at
+      → heard_text name end h ≡ trace_text (Some (record {
+        changes = changes_of (at 0).ring.rounds (kinds_in far (port_id index end) k at);
+        out = record { name = name; end = end; outage = outage_in far (port_id index end) k at };
+      }))
+  heard_is far index end name k h rounds is =
+      let first = (at 0).ring.rounds in
+      ap (heard_text name end) is
+      ∙ ap (λ kinds. changes_text (take 64 (changes_of first kinds)) (length (changes_of first kinds) - 64) ++ told_line (record { name = name; end = end; outage = outage_of first kinds })) (kinds_are far (port_id index end) k rounds)
+
+  end_is : (c : Provisioned) (index : ℕ) (k : ℕ) (both : Both) (end : End) → IsListening k at c index both → listener_at both end ≡ heard_in (customer_at c (other_end end)) (port_id index end) k at
+  end_is c index k both A x = x.at_a
+  end_is c index k both B x = x.at_b
+
+  trace_shown : (k index : ℕ) (end : End) (c : Option Provisioned) (both : Option Both) → ((j : ℕ) → j ≤ k → (at j).ring.rounds ≡ (at 0).ring.rounds + j)
+      → is_some c ≡ is_some both → ((d : Provisioned) (b : Both) → c ≡ Some d → both ≡ Some b → IsListening k at d index b)
+      → port_text c both end ≡ trace_text (option_map (λ d. trace_at k at index d end) c)
+  trace_shown k index end None None rounds same each = refl
+  trace_shown k index end None (Some both) rounds same each = refl
+  trace_shown k index end (Some c) None rounds same each = absurd (grind arith)
+  trace_shown k index end (Some c) (Some both) rounds same each =
+      heard_is (customer_at c (other_end end)) index end c.name k (listener_at both end) rounds (end_is c index k both end (each c both refl refl))
+
+  pub trace_is : (k : ℕ) (items : List Both) → ((j : ℕ) → j ≤ k → (at j).ring.rounds ≡ (at 0).ring.rounds + j) → AreListening at k items → (port : PortId)
+      → port_text (slice_get (at k).ring.circuits.circuits port.circuit) (slice_get items port.circuit) port.end ≡ trace_text (trace_in k at (at k).ring.circuits.circuits port)
+  trace_is k items rounds x port =
+      let cs = (at k).ring.circuits.circuits in
+      trace_shown k port.circuit port.end (slice_get cs port.circuit) (slice_get items port.circuit) rounds (both_there cs items port.circuit (sym x.many)) (x.each port.circuit)

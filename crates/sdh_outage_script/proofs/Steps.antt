@@ -1,5 +1,6 @@
 -- A settle step to whose rounds the listeners listened.
-use Rattle.std.proofs.Common.{◌≡◌, ℕ, ◌+◌, ◌-◌, ◌^◌, ◌≤◌, List, ◌∷◌, length, take, ap, sym, subst, ◌∙◌, arith}
+use Rattle.std.proofs.Common.{◌≡◌, ℕ, ◌+◌, ◌-◌, ◌^◌, ◌≤◌, List, ◌∷◌, ◌++◌, length, take, ap, sym, subst, ◌∙◌, arith}
+use Rattle.std.specs.Prelude.{slice_get}
 use Rattle.std.proofs.lemmas.List.{length-take-le}
 use Rattle.sdh_plant.specs.Fibres.{IsPrepared}
 use Rattle.sdh_circuits.specs.declared.PortId.{PortId}
@@ -11,6 +12,7 @@ use Rattle.sdh_world.specs.Held.{HeldRing}
 use Rattle.sdh_world.specs.Rounds.{World}
 use Rattle.sdh_world.specs.Runs.{course_with}
 use Rattle.sdh_ring.specs.Observed.{Hears}
+use Rattle.sdh_report.specs.Lines.{settle_line}
 use Rattle.sdh_plan.specs.declared.step.Step.{Step}
 use Rattle.sdh_plan.specs.declared.step.Step.TheVariants as step
 use Rattle.sdh_owed.specs.Steps.{after_step}
@@ -18,11 +20,14 @@ use Rattle.sdh_owed.proofs.Known.{no_round}
 use Rattle.sdh_script.specs.Running as ring
 use Rattle.sdh_script.specs.Running.{BeginsAtAMultiple}
 use Rattle.sdh_script.proofs.Steps.{settled_held, next_by, changed_next, changed_circuits}
-use Rattle.sdh_outage_script.specs.Outages.{Outaged, outaged_in}
-use Rattle.sdh_outage_script.specs.Ports.{AreReady, AreListening, shown}
+use Rattle.sdh_outage_script.specs.Outages.{Outaged, trace_in, outaged_in}
+use Rattle.sdh_outage_script.specs.Lines.{listed}
+use Rattle.sdh_outage_script.specs.Ports.{AreReady, AreListening, shown, port_text, shown_text}
 use Rattle.sdh_outage_script.specs.Running.{MayRun}
+use Rattle.sdh_outage_script.specs.declared.listing.Listing.{Listing}
+use Rattle.sdh_outage_script.specs.declared.listing.Listing.TheVariants as listing
 use Rattle.sdh_outage_script.specs.declared.ports.Both.{Both}
-use Rattle.sdh_outage_script.proofs.Listening.{ready_then, shown_is}
+use Rattle.sdh_outage_script.proofs.Listening.{ready_then, shown_is, trace_is}
 
 -- before it the ring has run few rounds
 pub few_before : (before : ℕ) (steps : List Step) (r : HeldRing) (f : _) → ring.MayRun 65536 before steps r f → r.rounds ≤ 2 ^ 31
@@ -47,10 +52,17 @@ module _ (w left : World) (limit : ℕ) (items : List Both) (x : Hears (λ at k.
   many_then = x.kept.many ∙ ap (λ (v : World). length v.ring.circuits.circuits) (sym left_at)
 
   -- what is told of it
-  pub told_is : (number : ℕ) → (let told : Outaged = record { number = number; round = left.ring.rounds - 1; ports = shown left.ring.circuits.circuits items } in told ≡ outaged_in number at ran)
+  pub told_is : (number : ℕ) → (let told : Outaged = record { number = number; round = left.ring.rounds - 1; ports = shown left.ring.circuits.circuits items; trace = trace_in ran at (at ran).ring.circuits.circuits } in told ≡ outaged_in number at ran)
   told_is number =
-      ap (λ (v : World). record { number = number; round = v.ring.rounds - 1; ports = shown v.ring.circuits.circuits items }) left_at
-      ∙ ap (λ ports. record { number = number; round = (at ran).ring.rounds - 1; ports = ports }) (shown_is at ran items numbered x.kept)
+      ap (λ (v : World). record { number = number; round = v.ring.rounds - 1; ports = shown v.ring.circuits.circuits items; trace = trace_in ran at (at ran).ring.circuits.circuits }) left_at
+      ∙ ap (λ ports. record { number = number; round = (at ran).ring.rounds - 1; ports = ports; trace = trace_in ran at (at ran).ring.circuits.circuits }) (shown_is at ran items numbered x.kept)
+
+  -- and what is written of that
+  pub listed_is : (listing : Listing) (number : ℕ) → shown_text listing number (left.ring.rounds - 1) left.ring.circuits.circuits items ≡ listed listing (outaged_in number at ran)
+  listed_is listing.Ports number = ap (listed listing.Ports) (told_is number)
+  listed_is (listing.Trace port) number =
+      ap (λ (v : World). settle_line number (v.ring.rounds - 1) ++ port_text (slice_get v.ring.circuits.circuits port.circuit) (slice_get items port.circuit) port.end) left_at
+      ∙ ap (λ l. settle_line number ((at ran).ring.rounds - 1) ++ l) (trace_is at ran items numbered x.kept port)
 
   -- and the script goes on
   pub heard_next : (before : ℕ) (now : List Both) → limit ≤ 65536 → BeginsAtAMultiple left.ring → ((port : PortId) → waiting_at left.ring port ≡ 0) → IsPrepared w.ring.settings.rate (length w.ring.ids) left.fibres

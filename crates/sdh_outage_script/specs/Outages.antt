@@ -1,5 +1,5 @@
 -- What is told of a settle step with the outages of its ports.
-use Rattle.std.specs.Prelude.{ℕ, zero, suc, ◌-◌, List, [], ◌∷◌}
+use Rattle.std.specs.Prelude.{ℕ, zero, suc, ◌-◌, List, [], ◌∷◌, slice_get, Option, option_map}
 use Rattle.sdh_circuits.specs.declared.End.{End}
 use Rattle.sdh_circuits.specs.declared.PortId.{PortId}
 use Rattle.sdh_circuits.specs.Ends.{other_end}
@@ -10,9 +10,11 @@ use Rattle.sdh_world.specs.Held.{HeldRing, outlet_at}
 use Rattle.sdh_world.specs.Rounds.{World}
 use Rattle.sdh_scripts.specs.Ports.{port_id, of_ports}
 use Rattle.sdh_outage.specs.declared.kind.Kind.{Kind}
+use Rattle.sdh_outage.specs.declared.change.Change.{Change}
 use Rattle.sdh_outage.specs.declared.outage.Outage.{Outage}
 use Rattle.sdh_outage.specs.Kinds.{kind_of}
 use Rattle.sdh_outage.specs.Outages.{outage_of}
+use Rattle.sdh_outage.specs.Changes.{changes_of}
 
 -- ---- one port
 
@@ -46,14 +48,38 @@ port_out k at index c e = record { name = c.name; end = e; outage = outage_in (c
 abbrev pub ports_out : ℕ → (ℕ → World) → ℕ → List Provisioned → List PortOutage
 ports_out k at = of_ports (port_out k at)
 
+-- ---- the changes of one port
+
+-- what a port went through, round by round: the changes, and what they come to
+pub record PortTrace : Type 0 where
+  pub changes : List Change
+  pub out : PortOutage
+
+-- that of the port at an end of the circuit of this number
+abbrev pub trace_at : ℕ → (ℕ → World) → ℕ → Provisioned → End → PortTrace
+trace_at k at index c e = record {
+  changes = changes_of (at 0).ring.rounds (kinds_in (customer_at c (other_end e)) (port_id index e) k at);
+  out = port_out k at index c e;
+}
+
+-- and of a port, where its circuit is one of these
+abbrev pub trace_in : ℕ → (ℕ → World) → List Provisioned → PortId → Option PortTrace
+trace_in k at cs port = option_map (λ c. trace_at k at port.circuit c port.end) (slice_get cs port.circuit)
+
 -- ---- a settle step
 
--- the settle step, counted from 1; its last round; and each port, in the order of the circuits, a before b
+-- the settle step, counted from 1; its last round; each port, in the order of the circuits, a before b; and what a port went through
 pub record Outaged : Type 0 where
   pub number : ℕ
   pub round : ℕ
   pub ports : List PortOutage
+  pub trace : PortId → Option PortTrace
 
 -- of settle step `number`, which ended with the k-th round of a course
 abbrev pub outaged_in : ℕ → (ℕ → World) → ℕ → Outaged
-outaged_in number at k = record { number = number; round = (at k).ring.rounds - 1; ports = ports_out k at 0 (at k).ring.circuits.circuits }
+outaged_in number at k = record {
+  number = number;
+  round = (at k).ring.rounds - 1;
+  ports = ports_out k at 0 (at k).ring.circuits.circuits;
+  trace = trace_in k at (at k).ring.circuits.circuits;
+}

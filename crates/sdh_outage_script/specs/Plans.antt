@@ -9,7 +9,8 @@ use Rattle.sdh_scripts.specs.Plans as plans
 use Rattle.sdh_script.specs.Plans.{new_ring_of}
 use Rattle.sdh_outage_script.specs.Outages.{Outaged}
 use Rattle.sdh_outage_script.specs.Scripts.{outage_walk, Ran}
-use Rattle.sdh_outage_script.specs.Lines.{outaged_text}
+use Rattle.sdh_outage_script.specs.Lines.{listed}
+use Rattle.sdh_outage_script.specs.declared.listing.Listing.{Listing}
 
 -- nothing is owed: over honest fibres too it tells what the rounds were
 abbrev pub outage_account : Account Node Outaged
@@ -28,6 +29,6 @@ MaySettle = plans.MaySettle outage_account
 abbrev pub IsRunOf : Planned → Fibres → List Outaged → Status → Fibres → Type 0
 IsRunOf = plans.IsRunOf outage_account
 
--- the text is that of the lines of a run
-abbrev pub Tells : Planned → Fibres → List ℕ → Status → Fibres → Type 0
-Tells = plans.Tells outage_account outaged_text
+-- the text is what is listed of a run
+abbrev pub Tells : Planned → Listing → Fibres → List ℕ → Status → Fibres → Type 0
+Tells plan listing f text end left = plans.Tells outage_account (listed listing) plan f text end left

@@ -1,5 +1,6 @@
 -- What the listeners on a ring's ports have come to.
-use Rattle.std.specs.Prelude.{ℕ, zero, suc, ◌≡◌, ◌^◌, ◌≤◌, Some, List, [], ◌∷◌, length, slice_get}
+use Rattle.std.specs.Prelude.{ℕ, zero, suc, ◌≡◌, ◌-◌, ◌^◌, ◌≤◌, Option, Some, None, List, [], ◌∷◌, ◌++◌, length, slice_get}
+use Rattle.sdh_circuits.specs.declared.End.{End}
 use Rattle.sdh_circuits.specs.declared.End.TheVariants.{A, B}
 use Rattle.sdh_circuits.specs.declared.PortId.{PortId}
 use Rattle.sdh_circuits.specs.Provisioned.{Provisioned}
@@ -7,9 +8,13 @@ use Rattle.sdh_payload.specs.Customer.{Customer}
 use Rattle.sdh_payload.specs.declared.delivered.Delivered.{Delivered}
 use Rattle.sdh_world.specs.Held.{HeldRing}
 use Rattle.sdh_world.specs.Rounds.{World}
+use Rattle.sdh_report.specs.Lines.{settle_line}
 use Rattle.sdh_outage.specs.Kept.{Heard, heard}
 use Rattle.sdh_scripts.specs.Ports.{port_id}
 use Rattle.sdh_outage_script.specs.Outages.{delivered_at, PortOutage}
+use Rattle.sdh_outage_script.specs.Lines.{told_line, step_text, changes_text}
+use Rattle.sdh_outage_script.specs.declared.listing.Listing.{Listing}
+use Rattle.sdh_outage_script.specs.declared.listing.Listing.TheVariants as listing
 use Rattle.sdh_outage_script.specs.declared.ports.Both.{Both}
 
 -- ---- between settle steps
@@ -83,3 +88,24 @@ abbrev pub shown : List Provisioned → List Both → List PortOutage
 shown [] items = []
 shown (c ∷ cs) [] = []
 shown (c ∷ cs) (both ∷ items) = record { name = c.name; end = A; outage = both.a.outage } ∷ record { name = c.name; end = B; outage = both.b.outage } ∷ shown cs items
+
+-- ---- what one of them shows
+
+-- the listener on the port at an end
+abbrev pub listener_at : Both → End → Heard
+listener_at both A = both.a
+listener_at both B = both.b
+
+-- the lines of the port at that end of the circuit of this name
+abbrev pub heard_text : List ℕ → End → Heard → List ℕ
+heard_text name end h = changes_text h.trace.changes (h.trace.count - 64) ++ told_line (record { name = name; end = end; outage = h.outage })
+
+-- those of a port, where there are its circuit and its listeners
+abbrev pub port_text : Option Provisioned → Option Both → End → List ℕ
+port_text (Some c) (Some both) end = heard_text c.name end (listener_at both end)
+port_text c both end = []
+
+-- the lines of the settle step of this number, which ended with that round
+abbrev pub shown_text : Listing → ℕ → ℕ → List Provisioned → List Both → List ℕ
+shown_text listing.Ports number round cs items = step_text number round (shown cs items)
+shown_text (listing.Trace port) number round cs items = settle_line number round ++ port_text (slice_get cs port.circuit) (slice_get items port.circuit) port.end

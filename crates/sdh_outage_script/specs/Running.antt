@@ -1,16 +1,24 @@
 -- When a script may be run of which the outages are told.
-use Rattle.std.specs.Prelude.{ℕ, ◌+◌, ◌*◌, List}
+use Rattle.std.specs.Prelude.{ℕ, ◌+◌, ◌*◌, ◌<◌, List}
 use Rattle.sdh_plant.specs.Fibres.{Fibres}
 use Rattle.sdh_world.specs.Held.{HeldRing}
 use Rattle.sdh_plan.specs.declared.step.Step.{Step}
 use Rattle.sdh_script.specs.Running as ring
 use Rattle.sdh_outage_script.specs.Ports.{AreReady}
+use Rattle.sdh_outage_script.specs.declared.listing.Listing.{Listing}
+use Rattle.sdh_outage_script.specs.declared.listing.Listing.TheVariants as listing
 use Rattle.sdh_outage_script.specs.declared.ports.Both.{Both}
 
--- room enough for the lines of a settle step with so many circuits: 96 bytes for its own, and 160 for each port's and for what is said
--- of all ports
-abbrev pub lines_room : ℕ → ℕ
-lines_room circuits = 256 + 320 * circuits
+-- the port that is listed is one of so many circuits
+abbrev pub MayList : ℕ → Listing → Type 0
+MayList circuits listing.Ports = Unit {0}
+MayList circuits (listing.Trace port) = port.circuit < circuits
+
+-- room enough for the lines of a settle step with so many circuits: 96 bytes for its own, and 160 for each other: one of each port and
+-- of what is said of all ports; or those of 64 changes, of how many more there were, and of the port
+abbrev pub lines_room : Listing → ℕ → ℕ
+lines_room listing.Ports circuits = 256 + 320 * circuits
+lines_room (listing.Trace port) circuits = 10656
 
 -- These steps may be run over a ring and fibres after `before` settle steps that have ended: no settle step had more than 65,536
 -- rounds, and there are listeners on all ports, who have heard of all rounds.

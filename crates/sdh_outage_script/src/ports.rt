@@ -1,7 +1,7 @@
 //! The listeners on all ports.
 ghost use Rattle.std.specs.Prelude.{◌≡◌, ℕ, ◌+◌, ◌<◌, ◌≤◌, ◌^◌, Some, length, slice_get, IfOk};
 ghost use Rattle.sdh_outage_script.specs.Outages.{delivered_at};
-ghost use Rattle.sdh_outage_script.specs.Ports.{IsReady, AreReady, AreFew, began, HaveBegun, HearsOne, Looked};
+ghost use Rattle.sdh_outage_script.specs.Ports.{IsReady, AreReady, AreFew, began, HaveBegun, HearsOne, Looked, listener_at};
 ghost use Rattle.sdh_outage_script.specs.declared.ports.Both.{Both};
 
 use sdh_circuits::{Circuit, CircuitMap, End, PortId};
@@ -14,6 +14,18 @@ use std::alloc::{AllocError, Global};
 pub struct Both {
     pub a: Listener,
     pub b: Listener,
+}
+
+impl Both {
+    /// The one at an end.
+    pub fn at(&self, end: End) -> &Listener
+        ensures { result.now ≡ listener_at self.now end }
+    {
+        match end {
+            End::A => &self.a,
+            End::B => &self.b,
+        }
+    }
 }
 
 // Listeners on both ports of a circuit, before any round: each knows the customer at the other end.

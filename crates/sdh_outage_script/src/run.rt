@@ -3,10 +3,11 @@ ghost use Rattle.std.specs.Prelude.{◌≡◌, ◌≤◌, true, length, IfOk, On
 ghost use Rattle.sdh_basics.specs.Causes.{Rose, IsCounted};
 ghost use Rattle.sdh_plant.specs.Fibres.{HasNoFibres};
 ghost use Rattle.sdh_scripts.specs.NewRuns.{MayBegin, IsOf};
-ghost use Rattle.sdh_outage_script.specs.Running.{lines_room};
+ghost use Rattle.sdh_outage_script.specs.Running.{MayList, lines_room};
 ghost use Rattle.sdh_outage_script.specs.Plans.{outage_account, MaySettle, Tells};
 
 use crate::listeners::Listeners;
+use crate::listing::Listing;
 use crate::ports::new_listeners;
 use crate::script::OutageRun;
 use sdh_circuits::CircuitMap;
@@ -18,29 +19,38 @@ use sdh_ring::Ring;
 use sdh_scripts::{NewRun, Run, Runner, start, text_for};
 use std::alloc::{AllocError, Global};
 
-// Room for the lines of a settle step, in bytes.
-fn lines_room(circuits: &CircuitMap) -> usize
-    ensures room { result ≡ lines_room (length circuits.now.circuits) }
+// Room for what is listed of a settle step, in bytes. Of one port that is 64 changes, how many more there were, and the line of its outage.
+fn lines_room(listing: Listing, circuits: &CircuitMap) -> usize
+    ensures room { result ≡ lines_room listing (length circuits.now.circuits) }
     ensures few { result ≤ 65536 }
 {
-    LINE_MAX + PORT_LINE_MAX + 2 * PORT_LINE_MAX * circuits.len()
+    match listing {
+        Listing::Ports => LINE_MAX + PORT_LINE_MAX + 2 * PORT_LINE_MAX * circuits.len(),
+        Listing::Trace(_) => LINE_MAX + 66 * PORT_LINE_MAX,
+    }
 }
 
 // The run of a plan, before its fibres are there.
-fn new_run(alloc: Global, plan: Plan) -> Result<NewRun<OutageRun>, AllocError>
+fn new_run(alloc: Global, plan: Plan, listing: Listing) -> Result<NewRun<OutageRun>, AllocError>
+    requires listing { MayList (length plan.circuits) listing }
     ensures may { IfOk result (MayBegin ⟦<OutageRun as Runner>⟧.ring ⟦<OutageRun as Runner>⟧.room ⟦<OutageRun as Runner>⟧.MayRun) }
     ensures is_of { IfOk result (IsOf ⟦<OutageRun as Runner>⟧.ring outage_account plan) }
+    ensures listing { IfOk result (λ run. run.runner.listing ≡ listing) }
 {
     let settings = plan.settings();
     let limit = plan.limit();
-    let text = text_for(alloc, lines_room(plan.circuits()))?;
+    let text = text_for(alloc, lines_room(listing, plan.circuits()))?;
     let items = new_listeners(alloc, plan.circuits())?;
     let nodes = plan.map().len();
     let (map, circuits, steps) = plan.into_parts();
     let ring = Ring::try_new(alloc, settings, map, circuits)?;
     let listeners = Listeners { items };
     Ok(NewRun {
-        runner: OutageRun { ring, listeners },
+        runner: OutageRun {
+            ring,
+            listeners,
+            listing,
+        },
         rate: settings.rate,
         nodes,
         steps,
@@ -49,13 +59,20 @@ fn new_run(alloc: Global, plan: Plan) -> Result<NewRun<OutageRun>, AllocError>
     })
 }
 
-/// Runs the script of a plan over new fibres, and tells the outages of its ports. All memory is taken before the first round.
-pub fn run_plan<P: Plant>(alloc: Global, plan: Plan, plant: &mut P) -> Result<Run, AllocError>
+/// Runs the script of a plan over new fibres, and lists the outages of its ports, or the changes of one. All memory is taken before the
+/// first round.
+pub fn run_plan<P: Plant>(
+    alloc: Global,
+    plan: Plan,
+    plant: &mut P,
+    listing: Listing,
+) -> Result<Run, AllocError>
     requires fresh { HasNoFibres (P.fibres plant.old) }
+    requires listing { MayList (length plan.circuits) listing }
 
-    // The text is that of one list of lines, which is told over every plant, where the arrivals are known, and over
+    // The text is what is listed of one list, which is told over every plant, where the arrivals are known, and over
     // honest fibres.
-    ensures came { IfOk result (λ run. Tells plan (P.fibres plant.old) run.text.bytes run.status (P.fibres plant.new)) }
+    ensures came { IfOk result (λ run. Tells plan listing (P.fibres plant.old) run.text.bytes run.status (P.fibres plant.new)) }
 
     // A fault has a cause, and without one a script that settles is done.
     ensures failed { IfOk result (λ run. run.status ≡ Status.PlantFault → Rose (P.faults plant.old) (P.faults plant.new)) }
@@ -74,6 +91,6 @@ pub fn run_plan<P: Plant>(alloc: Global, plan: Plan, plant: &mut P) -> Result<Ru
     sdh_owed::scripts_settle();
     // Reading it gives the proof what is true of every plan.
     let _steps = plan.steps();
-    let run = new_run(alloc, plan)?;
+    let run = new_run(alloc, plan, listing)?;
     start(alloc, plant, run)
 }

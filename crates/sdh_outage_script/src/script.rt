@@ -3,11 +3,12 @@ ghost use Rattle.std.specs.Prelude.{length};
 ghost use Rattle.sdh_node.specs.Node.{Node as AddDrop};
 ghost use Rattle.sdh_outage_script.specs.Outages.{Outaged};
 ghost use Rattle.sdh_outage_script.specs.Scripts.{outage_walk};
-ghost use Rattle.sdh_outage_script.specs.Lines.{outaged_text};
-ghost use Rattle.sdh_outage_script.specs.Running.{lines_room, MayRun as MayListen};
+ghost use Rattle.sdh_outage_script.specs.Lines.{listed};
+ghost use Rattle.sdh_outage_script.specs.Running.{MayList, lines_room, MayRun as MayListen};
 
 use crate::lines::put_step;
 use crate::listeners::Listeners;
+use crate::listing::Listing;
 use crate::ports::begin_all;
 use sdh_plan::Step;
 use sdh_plant::Plant;
@@ -16,11 +17,12 @@ use sdh_ring::{PlantFault, Ring, SettleError};
 use sdh_script::change;
 use sdh_scripts::Runner;
 
-/// A ring, and the listeners on its ports.
+/// A ring, the listeners on its ports, and what is listed of each settle step.
 #[derive(Drop)]
 pub struct OutageRun {
     pub ring: Ring,
     pub listeners: Listeners,
+    pub listing: Listing,
 }
 
 impl Runner for OutageRun {
@@ -32,11 +34,11 @@ impl Runner for OutageRun {
 
     ghost ring = { λ r. r.ring };
 
-    ghost text_of = { λ r told. outaged_text told };
+    ghost text_of = { λ r told. listed r.listing told };
 
-    ghost room = { λ r. lines_room (length r.ring.circuits.circuits) };
+    ghost room = { λ r. lines_room r.listing (length r.ring.circuits.circuits) };
 
-    ghost MayRun = { λ number steps r f. MayListen number steps r.ring r.listeners.items.items f };
+    ghost MayRun = { λ number steps r f. MayList (length r.ring.circuits.circuits) r.listing × MayListen number steps r.ring r.listeners.items.items f };
 
     fn change<P: Plant>(&mut self, plant: &mut P, step: Step) -> Result<(), PlantFault> {
         change(&mut self.ring, plant, step)?;
@@ -52,9 +54,15 @@ impl Runner for OutageRun {
     ) -> Result<(), SettleError> {
         begin_all(&self.ring, &mut self.listeners.items);
         self.ring.settle_with(plant, limit, &mut self.listeners)?;
-        put_step(text, &self.ring, number + 1, &self.listeners.items);
+        put_step(
+            text,
+            &self.ring,
+            number + 1,
+            &self.listeners.items,
+            self.listing,
+        );
         Ok(())
     }
 
-    ghost few = { λ number later r f may. may.ring_may.steps_fit.0.few_settles };
+    ghost few = { λ number later r f may. may.1.ring_may.steps_fit.0.few_settles };
 }

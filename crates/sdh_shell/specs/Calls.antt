@@ -1,7 +1,9 @@
--- What the programs' calls are asked for by, and how a script ends that was run. The word is this project's own.
-use Rattle.std.specs.Prelude.{◌≡◌, ℕ, Bool, true, false, List, [], ◌∷◌, codes, map, String, string_bytes}
+-- What the programs' calls are asked for by, and how a script ends that was run. The words are this project's own.
+use Rattle.std.specs.Prelude.{◌≡◌, ℕ, Bool, true, false, if◌then◌else◌, List, [], ◌∷◌, codes, map, Option, Some, None, String, string_bytes}
 use Rattle.std.specs.Str.{bytes_eq}
 use Rattle.std.specs.declared.alloc.Global.{Global}
+use Rattle.sdh_circuits.specs.declared.End.{End}
+use Rattle.sdh_circuits.specs.declared.End.TheVariants.{A, B}
 use Rattle.sdh_report.specs.declared.status.Status.{Status}
 use Rattle.sdh_report.specs.declared.status.Status.TheVariants as status
 
@@ -16,6 +18,10 @@ is_run words = false
 
 abbrev pub AreRun : List (List ℕ) → Type 0
 AreRun words = is_run words ≡ true
+
+-- the end that a letter names
+abbrev pub end_lettered : List ℕ → Option End
+end_lettered letter = if bytes_eq letter (codes "a") then Some A else if bytes_eq letter (codes "b") then Some B else None
 
 -- ---- endings
 

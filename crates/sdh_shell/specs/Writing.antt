@@ -4,10 +4,15 @@ use Rattle.std.specs.Io.KnownBytes.{Appends, Keeps}
 use Rattle.sdh_outside.specs.Writing.{AppendsFewer}
 use Rattle.sdh_report.specs.declared.status.Status.{Status}
 use Rattle.sdh_report.specs.declared.status.Status.TheVariants as status
+use Rattle.sdh_report.specs.Statuses.{last_line}
 
 -- this line is all of the text, and the fibres are left alone
 abbrev pub Says : {F : Type 0} → List ℕ → List ℕ → F → F → Type 0
 Says line text f left = (text ≡ line) × (left ≡ f)
+
+-- there is no such port, and that is all that is told
+abbrev pub HasNoPort : {F : Type 0} → F → Status → List ℕ → F → Type 0
+HasNoPort f how text left = (how ≡ status.NoSuchPort) × Says (last_line how) text f left
 
 -- with an ending goes the whole text of an outcome; a front of one, where a write failed; or nothing, for want of memory
 pub data Telling : Type 0 where

@@ -1,5 +1,5 @@
-//! What the programs' calls share: whether the words are the word `run`, a plan that is read or refused, calls that
-//! failed and are counted, and a text that is written once.
+//! What the programs' calls share: whether the words are the word `run`, the end that a letter names, a plan that is
+//! read or refused, calls that failed and are counted, and a text that is written once.
 //!
 //! How a plan is refused is `HasNoPlan` in `specs/Reading.antt`, how a script that was run may end is `HasRun` in
 //! `specs/Running.antt`, which failures a status tells is `CameTo` in `specs/Failing.antt`, and what is written with which
@@ -12,4 +12,4 @@ mod words;
 
 pub use reading::{NoPlan, plan_in};
 pub use report::{Report, ended, last_report};
-pub use words::is_run;
+pub use words::{end_lettered, is_run};

@@ -1,6 +1,8 @@
 //! The words of a command line.
 ghost use Rattle.std.specs.Prelude.{◌≡◌};
-ghost use Rattle.sdh_shell.specs.Calls.{words_of, is_run};
+ghost use Rattle.sdh_shell.specs.Calls.{words_of, is_run, end_lettered};
+
+use sdh_circuits::End;
 
 /// Whether the words are the one word `run`.
 pub fn is_run(words: &[String]) -> bool
@@ -9,5 +11,18 @@ pub fn is_run(words: &[String]) -> bool
     match words {
         [word] => word.as_str() == "run",
         _ => false,
+    }
+}
+
+/// The end that a letter names.
+pub fn end_lettered(letter: &str) -> Option<End>
+    ensures { result ≡ end_lettered letter.now }
+{
+    if letter == "a" {
+        Some(End::A)
+    } else if letter == "b" {
+        Some(End::B)
+    } else {
+        None
     }
 }

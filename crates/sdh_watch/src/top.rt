@@ -1,5 +1,5 @@
 //! The program's call.
-ghost use Rattle.std.specs.Prelude.{◌≡◌, ◌≢◌, ◌⊎◌, ◌≤◌, IfSome, true, false};
+ghost use Rattle.std.specs.Prelude.{◌≡◌, ◌≢◌, ◌⊎◌, ◌≤◌, IfSome, is_some, true, false};
 ghost use Rattle.sdh_basics.specs.Causes.{Rose, IsCounted};
 ghost use Rattle.sdh_plant.specs.Fibres.{HasNoFibres};
 ghost use Rattle.sdh_report.specs.declared.status.Status.{Status};
@@ -10,7 +10,7 @@ ghost use Rattle.sdh_shell.specs.Writing.{Writes};
 ghost use Rattle.sdh_calls.specs.Outcome.{HasRead, MayEnd};
 ghost use Rattle.sdh_calls.specs.Headline.{Shows, Settles, MayBeDone};
 ghost use Rattle.sdh_watch_script.specs.Plans.{ShowsClean};
-ghost use Rattle.sdh_watch.specs.Headline.{watching, EndsAsItRuns};
+ghost use Rattle.sdh_watch.specs.Headline.{asked, watching, EndsAsItRuns};
 
 use crate::program::Watching;
 use sdh_calls::call;
@@ -34,13 +34,13 @@ pub fn sdhwatch<R: Source, W: Sink, P: Plant>(
 
     // The status and the text that is written, for a source that tells its bytes, where it is read, and a sink that
     // tells what was written.
-    ensures outcome { let asked = is_run (words_of words.now) in
+    ensures outcome { let ask = asked (words_of words.now) in
         let reads : Counts = record { before = R.faults source.old; after = R.faults source.new } in
         let calls : Counts = record { before = P.faults plant.old; after = P.faults plant.new } in
-        IfSome (told_if asked (R.left source.old)) (λ bytes. Writes (λ how text. MayEnd watching asked bytes (P.fibres plant.old) reads calls how text (P.fibres plant.new)) result (W.written sink.old) (W.written sink.new)) }
+        IfSome (told_if (is_some ask) (R.left source.old)) (λ bytes. Writes (λ how text. MayEnd watching ask bytes (P.fibres plant.old) reads calls how text (P.fibres plant.new)) result (W.written sink.old) (W.written sink.new)) }
 
     // Over honest fibres: each watch shows what its port is owed, and with a large limit no settle step is unsettled.
-    ensures owed { is_run (words_of words.now) ≡ true → (P.fibres plant.old).honest ≡ true → IfSome (R.left source.old) (λ bytes. Shows watching ShowsClean bytes result (W.written sink.old) (W.written sink.new)) }
+    ensures owed { is_run (words_of words.now) ≡ true → (P.fibres plant.old).honest ≡ true → IfSome (R.left source.old) (λ bytes. Shows watching tt ShowsClean bytes result (W.written sink.old) (W.written sink.new)) }
     ensures settles { is_run (words_of words.now) ≡ true → (P.fibres plant.old).honest ≡ true → IfSome (R.left source.old) (λ bytes. Settles bytes result) }
 
     // Where arrivals are known, unsettled comes at exactly the settle step in which no quiet window comes within the
@@ -67,7 +67,7 @@ pub fn sdhwatch<R: Source, W: Sink, P: Plant>(
     ensures later { (R.faults source.old ≤ R.faults source.new) × (W.faults sink.old ≤ W.faults sink.new) × (P.faults plant.old ≤ P.faults plant.new) }
 
     // With all that a run needs, and no fault, everything is done, or there is no memory.
-    ensures complete { is_run (words_of words.now) ≡ true → MayBeDone watching (R.left source.old) (P.fibres plant.old) → ¬ (Rose (R.faults source.old) (R.faults source.new)) → ¬ (Rose (W.faults sink.old) (W.faults sink.new)) → ¬ (Rose (P.faults plant.old) (P.faults plant.new)) → (result ≡ Status.Ok) ⊎ (result ≡ Status.Memory) }
+    ensures complete { is_run (words_of words.now) ≡ true → MayBeDone watching tt (R.left source.old) (P.fibres plant.old) → ¬ (Rose (R.faults source.old) (R.faults source.new)) → ¬ (Rose (W.faults sink.old) (W.faults sink.new)) → ¬ (Rose (P.faults plant.old) (P.faults plant.new)) → (result ≡ Status.Ok) ⊎ (result ≡ Status.Memory) }
 {
     call::<Watching, R, W, P>(alloc, words, source, sink, plant)
 }

@@ -7,7 +7,7 @@ use Rattle.sdh_scripts.proofs.Plans.{may_begin}
 use Rattle.sdh_script.proofs.Steps.{may_new}
 use Rattle.sdh_script.proofs.Plans.{adm_new}
 use Rattle.sdh_outage_script.specs.Ports.{AreReady}
-use Rattle.sdh_outage_script.specs.Running.{lines_room}
+use Rattle.sdh_outage_script.specs.Running.{MayList, lines_room}
 use Rattle.sdh_outage_script.specs.Plans.{outage_account}
 use Rattle.sdh_outage_script.proofs.run.new_run.Goals as goal
 
@@ -26,8 +26,12 @@ returns-clause-may c =
     let size = c.len-nodes.ensures.len ∙ ap length c.map.ensures in
     let circuits = ap (λ (r : HeldRing). r.circuits) is.ring_is in
     let rounds = ap (λ (r : HeldRing). r.rounds) is.ring_is in
-    let each = c.lines_room.ensures.room ∙ ap (λ (p : Provisioning). lines_room (length p.circuits)) (c.circuits.ensures ∙ sym circuits) in
+    let each = c.lines_room.ensures.room ∙ ap (λ (p : Provisioning). lines_room c.args.listing (length p.circuits)) (c.circuits.ensures ∙ sym circuits) in
+    let listing = subst (λ (p : Provisioning). MayList (length p.circuits) c.args.listing) (sym circuits) c.requires.listing in
     let ready = subst (λ n. AreReady c.in_ok-ring.ring.circuits.circuits n c.in_ok-items.items.items) (sym rounds)
     (subst (λ (p : Provisioning). AreReady p.circuits 0 c.in_ok-items.items.items) (c.circuits-2.ensures ∙ sym circuits) c.in_ok-items.ensures) in
-    may_begin _ outage_account c.args.plan _ is _ _ form adm_new rate size (λ f. record { ring_may = may_new 65536 c.args.plan c.in_ok-ring.ring _ _ _ f form is.ring_is rate size is.steps_are; ready = ready })
+    may_begin _ outage_account c.args.plan _ is _ _ form adm_new rate size (λ f. (
+      listing,
+      record { ring_may = may_new 65536 c.args.plan c.in_ok-ring.ring _ _ _ f form is.ring_is rate size is.steps_are; ready = ready },
+    ))
     (subst (λ k. HasRoom k 0 c.in_ok-text.text.room) each c.in_ok-text.ensures.room) c.in_ok-text.ensures.empty

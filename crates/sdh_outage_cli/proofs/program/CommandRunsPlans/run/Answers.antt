@@ -1,0 +1,23 @@
+use Rattle.std.proofs.Common.{◌≡◌, Some, sym, ◌∙◌}
+use Rattle.std.proofs.lemmas.Result.{IfOk-weaker}
+use Rattle.sdh_outage_cli.specs.Words.{ask_of, listing_of}
+use Rattle.sdh_outage_cli.proofs.Stages.{run_of_plan}
+use Rattle.sdh_outage_cli.proofs.program.CommandRunsPlans.run.Goals as goal
+
+pub returns-in-Some : goal.returns-in-Some
+returns-in-Some g c =
+    let means = g.P.Plant.fibres in
+    let ask = ask_of c.args.self in
+    let plan = c.args.plan in
+    let listing = c.in-Some.listing in
+    let f = means c.args.plant.now in
+    let is : listing_of ask plan ≡ Some listing = sym c.listing_of.ensures.listing ∙ c.in-Some.is in
+    record {
+      outcome = IfOk-weaker c.run_report.result _ _ (λ report x. run_of_plan plan listing f (means c.run_report.new.plant) ask report.status report.text.bytes is x) c.run_report.ensures.outcome;
+      failed = c.run_report.ensures.failed;
+      calls = c.run_report.ensures.calls;
+      without = c.run_report.ensures.without;
+      complete = IfOk-weaker c.run_report.result _ _ (λ report done go fine. done go.2 fine) c.run_report.ensures.complete;
+      later = c.run_report.ensures.later;
+      unsent = c.run_report.ensures.unsent;
+    }

@@ -1,0 +1,66 @@
+//! What the words of the command line ask for.
+ghost use Rattle.std.specs.Prelude.{◌≡◌, option_map, IfSome, length};
+ghost use Rattle.sdh_shell.specs.Calls.{words_of};
+ghost use Rattle.sdh_outage_script.specs.Running.{MayList};
+ghost use Rattle.sdh_outage_cli.specs.Words.{ask_of, asked_alone, asked_with_port, asked, listing_of};
+
+use sdh_circuits::{End, PortId};
+use sdh_outage_script::Listing;
+use sdh_plan::Plan;
+use sdh_shell::end_lettered;
+
+/// What the program is asked for.
+#[derive(Clone, Copy, Debug)]
+pub enum Command<'a> {
+    /// Run the plan and tell the outages of all ports.
+    Run,
+    /// Run the plan and tell the changes of one port.
+    Trace(&'a str, End),
+}
+
+// What one word asks for.
+fn asked_alone<'a>(word: &str) -> Option<Command<'a>>
+    ensures { option_map ask_of result ≡ asked_alone word.now }
+{
+    if word == "run" {
+        Some(Command::Run)
+    } else {
+        None
+    }
+}
+
+// What a word, a name and a letter ask for.
+fn asked_with_port<'a>(word: &str, name: &'a str, letter: &str) -> Option<Command<'a>>
+    ensures { option_map ask_of result ≡ asked_with_port word.now name.now letter.now }
+{
+    if word != "trace" {
+        return None;
+    }
+    let end = end_lettered(letter)?;
+    Some(Command::Trace(name, end))
+}
+
+/// What the words ask for, or `None` where they have none of the forms that there are.
+pub fn command_of(words: &[String]) -> Option<Command<'_>>
+    ensures { option_map ask_of result ≡ asked (words_of words.now) }
+{
+    match words {
+        [word] => asked_alone(word),
+        [word, name, letter] => asked_with_port(word, name, letter),
+        _ => None,
+    }
+}
+
+/// What is listed of each settle step of a plan, or `None` where the plan has no such port.
+pub fn listing_of(command: Command<'_>, plan: &Plan) -> Option<Listing>
+    ensures listing { result ≡ listing_of (ask_of command.entry) plan.now }
+    ensures may { IfSome result (λ listing. MayList (length plan.now.circuits) listing) }
+{
+    match command {
+        Command::Run => Some(Listing::Ports),
+        Command::Trace(name, end) => {
+            let circuit = plan.circuits().at_port(name)?;
+            Some(Listing::Trace(PortId { circuit, end }))
+        }
+    }
+}
