@@ -1,6 +1,5 @@
 //! The lines of outages.
-ghost use Rattle.std.specs.Prelude.{◌≡◌, ◌*◌, ◌+◌, ◌<◌, ◌≤◌, length};
-ghost use Rattle.sdh_report.specs.Lines.{end_letter, port_named};
+ghost use Rattle.std.specs.Prelude.{◌≡◌, ◌*◌, ◌<◌, ◌≤◌, length};
 ghost use Rattle.sdh_report.specs.Written.{with_part};
 ghost use Rattle.sdh_outage.specs.Lines.{three_digits, ms_text, rounds_text, stretch_text, counts_text, outage_line, kind_word, change_line, more_line, summary_line};
 
@@ -13,27 +12,6 @@ use sdh_report::Text;
 
 /// Room for any line of an outage, a change or a summary, in bytes.
 pub const LINE_MAX: usize = 160;
-
-// The letter of a port.
-fn end_letter(end: End) -> &'static [u8]
-    ensures { result.now ≡ end_letter end }
-{
-    match end {
-        End::A => b"a",
-        End::B => b"b",
-    }
-}
-
-// The name of a port.
-fn put_named(text: &mut Text, name: &Name, end: End)
-    requires { length (port_named name.now end) ≤ text.old.room }
-    ensures { text.new ≡ with_part text.old (port_named name.now end) }
-{
-    text.put(b"port ");
-    text.put(name.as_slice());
-    text.put(b" ");
-    text.put(end_letter(end));
-}
 
 // A number, with three digits always.
 fn put_three(text: &mut Text, number: u64)
@@ -102,7 +80,7 @@ pub fn outage_line(text: &mut Text, name: &Name, end: End, outage: &Outage)
     requires { length (outage_line name.now end outage.now) ≤ text.old.room }
     ensures { text.new ≡ with_part text.old (outage_line name.now end outage.now) }
 {
-    put_named(text, name, end);
+    text.put_port(name, end);
     text.put(b" out ");
     put_rounds(text, outage.out());
     put_stretch(text, outage.stretch);
