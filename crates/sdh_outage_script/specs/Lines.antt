@@ -1,7 +1,6 @@
 -- The lines of a settle step with the outages of its ports.
 use Rattle.std.specs.Prelude.{ℕ, ◌-◌, ◌==◌, if◌then◌else◌, List, [], ◌++◌, map, take, length, Option, Some, None}
 use Rattle.std.specs.List.{flat_map}
-use Rattle.sdh_circuits.specs.declared.PortId.{PortId}
 use Rattle.sdh_report.specs.Lines.{settle_line}
 use Rattle.sdh_outage.specs.declared.change.Change.{Change}
 use Rattle.sdh_outage.specs.Lines.{outage_line, change_line, more_line, summary_line}
