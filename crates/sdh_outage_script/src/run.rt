@@ -19,7 +19,8 @@ use sdh_ring::Ring;
 use sdh_scripts::{NewRun, Run, Runner, start, text_for};
 use std::alloc::{AllocError, Global};
 
-// Room for what is listed of a settle step, in bytes. Of one port that is 64 changes, how many more there were, and the line of its outage.
+// Room for what is listed of a settle step, in bytes. Of one port that is 64 changes, how many more there were, and the
+// line of its outage.
 fn lines_room(listing: Listing, circuits: &CircuitMap) -> usize
     ensures room { result ≡ lines_room listing (length circuits.now.circuits) }
     ensures few { result ≤ 65536 }
@@ -59,8 +60,8 @@ fn new_run(alloc: Global, plan: Plan, listing: Listing) -> Result<NewRun<OutageR
     })
 }
 
-/// Runs the script of a plan over new fibres, and lists the outages of its ports, or the changes of one. All memory is taken before the
-/// first round.
+/// Runs the script of a plan over new fibres, and lists the outages of its ports, or the changes of one. All memory is
+/// taken before the first round.
 pub fn run_plan<P: Plant>(
     alloc: Global,
     plan: Plan,
