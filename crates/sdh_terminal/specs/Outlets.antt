@@ -1,4 +1,5 @@
 -- What a port delivers of the AU-4 that its circuit comes in.
+use Rattle.std.specs.Prelude.{Option, IsSome}
 use Rattle.sdh_payload.specs.declared.chunk.ChunkForm.{ChunkForm}
 use Rattle.sdh_payload.specs.declared.chunk.ChunkForm.TheVariants.{Plain, Short, Long}
 use Rattle.sdh_payload.specs.Chunk.{taken}
@@ -31,7 +32,7 @@ delivered_by action.Down i = chunk_from i
 unfoldable pub delivered_from : Input → Outlet
 delivered_from i = delivered_by i.action i
 
--- a chunk, and no AIS
-abbrev pub IsChunk : Delivered → Type 0
-IsChunk (Chunk c) = Unit {0}
-IsChunk Ais = ⊥
+-- there is memory for a chunk: that of the one that is delivered, or what is kept beside AIS
+abbrev pub HasRoom : {Memory : Type 0} → Delivered → Option Memory → Type 0
+HasRoom (Chunk c) spare = Unit {0}
+HasRoom Ais spare = IsSome spare

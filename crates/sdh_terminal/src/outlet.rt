@@ -7,7 +7,7 @@ ghost use Rattle.sdh_payload.specs.Outlet.{silent, delivering};
 ghost use Rattle.sdh_interchange.specs.Taking.{IsOf};
 ghost use Rattle.sdh_terminal.specs.Passing.{h3_of};
 ghost use Rattle.sdh_terminal.specs.Lines.{line_on, received, dropped_by, IsFeeder};
-ghost use Rattle.sdh_terminal.specs.Outlets.{chunk_form, chunk_from, delivered_from};
+ghost use Rattle.sdh_terminal.specs.Outlets.{chunk_form, chunk_from, delivered_from, HasRoom};
 
 use crate::intake::h3_at;
 use crate::matrix::{Feeder, Matrix};
@@ -19,26 +19,25 @@ use sdh_ringmap::Side;
 use std::alloc::{AllocError, Global};
 use std::marker::Model;
 
-/// What a port delivers, and the value of the interpreter through which it came. The memory of a chunk is kept while
-/// AIS is delivered.
+/// What a port delivers, and the value of the interpreter through which it came.
 #[derive(Debug, Drop)]
 pub struct Outlet {
-    chunk: Delivered,
-    is_here: bool,
+    delivered: Delivered,
+    // The memory of a chunk, while AIS is delivered.
+    spare: Option<Cells>,
     value: u16,
 }
 
 impl Model for Outlet {
-    ghost use Rattle.std.specs.Prelude.{◌≤◌, if◌then◌else◌};
+    ghost use Rattle.std.specs.Prelude.{◌≤◌};
     ghost use Rattle.sdh_payload.specs.Outlet.{Outlet};
-    ghost use Rattle.sdh_payload.specs.declared.delivered.Delivered.TheVariants.{Ais};
-    ghost use Rattle.sdh_terminal.specs.Outlets.{IsChunk};
+    ghost use Rattle.sdh_terminal.specs.Outlets.{HasRoom};
 
     ghost Value = { Outlet };
 
-    ghost view = { λ o. record { delivered = if o.is_here then o.chunk else Ais; value = o.value } };
+    ghost view = { λ o. record { delivered = o.delivered; value = o.value } };
 
-    ghost invariant = { λ o. IsChunk o.chunk × (o.value ≤ 782) };
+    ghost invariant = { λ o. HasRoom o.delivered o.spare × (o.value ≤ 782) };
 }
 
 impl Outlet {
@@ -47,8 +46,8 @@ impl Outlet {
         ensures { IfOk result (λ outlet. outlet ≡ silent) }
     {
         Ok(Outlet {
-            chunk: Delivered::Chunk(Cells::try_new(alloc)?),
-            is_here: false,
+            delivered: Delivered::Ais,
+            spare: Some(Cells::try_new(alloc)?),
             value: 0,
         })
     }
@@ -57,11 +56,7 @@ impl Outlet {
     pub fn delivered(&self) -> &Delivered
         ensures { result.now ≡ self.now.delivered }
     {
-        if self.is_here {
-            &self.chunk
-        } else {
-            &Delivered::Ais
-        }
+        &self.delivered
     }
 
     /// The value of the interpreter through which it came, 0 with AIS.
@@ -76,7 +71,9 @@ impl Outlet {
     pub fn silence(&mut self)
         ensures { self.new ≡ silent }
     {
-        self.is_here = false;
+        if let Delivered::Chunk(cells) = std::mem::replace(&mut self.delivered, Delivered::Ais) {
+            self.spare = Some(cells);
+        }
         self.value = 0;
     }
 
@@ -96,10 +93,25 @@ impl Outlet {
         ensures payloads { IsOf frame.now payloads.new }
         ensures outlet { let came = au_of (n_of frame.now.rate) au frame.now.bytes in self.new ≡ delivering value (taken form came.payload (h3_of came.pointers)) }
     {
-        self.is_here = true;
+        let mut cells = take_cells(&mut self.delivered, &mut self.spare);
+        take_au(frame, payloads, au, form, &mut cells);
+        self.delivered = Delivered::Chunk(cells);
         self.value = value;
-        if let Delivered::Chunk(cells) = &mut self.chunk {
-            take_au(frame, payloads, au, form, cells);
+    }
+}
+
+// The memory of a chunk, wherever it is. AIS is delivered then.
+fn take_cells(delivered: &mut Delivered, spare: &mut Option<Cells>) -> Cells
+    requires { HasRoom delivered.old spare.old }
+    ensures { delivered.new ≡ Delivered.Ais }
+{
+    match std::mem::replace(delivered, Delivered::Ais) {
+        Delivered::Chunk(cells) => cells,
+        Delivered::Ais => {
+            let Some(cells) = spare.take() else {
+                unreachable!()
+            };
+            cells
         }
     }
 }
