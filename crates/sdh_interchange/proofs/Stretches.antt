@@ -84,13 +84,13 @@ module _ (n : ℕ) (pass : Pass n) where
 
   -- from a to m, and then from b to e
   pub then_passed : (a b m e to : ℕ) (old mid new : List ℕ) → a ≤ b → b ≤ m → m ≤ e → e ≡ to → HasPassed n pass a m old mid → HasPassed n pass b e mid new → HasPassed n pass a to old new
-  then_passed a b m e to old mid new front meet back is first then = record {
-    before = λ i h. then.before i (omega arith) ∙ first.before i h;
+  then_passed a b m e to old mid new front meet back is first second = record {
+    before = λ i h. second.before i (omega arith) ∙ first.before i h;
     inside = λ i low high. elim (cases_lt i b) [
-      | inl h ↦ then.before i h ∙ first.inside i low (omega arith)
-      | inr h ↦ then.inside i h (omega arith)
+      | inl h ↦ second.before i h ∙ first.inside i low (omega arith)
+      | inr h ↦ second.inside i h (omega arith)
     ];
-    behind = λ i h. then.behind i (omega arith) ∙ first.behind i (omega arith);
+    behind = λ i h. second.behind i (omega arith) ∙ first.behind i (omega arith);
   }
 
   pub columns_then : (a b m e to : ℕ) (old mid new : List ℕ) → a ≤ b → b ≤ m → m ≤ e → e ≡ to → HasPassed n pass (n * a) (n * m) old mid → HasPassed n pass (n * b) (n * e) mid new → HasPassed n pass (n * a) (n * to) old new

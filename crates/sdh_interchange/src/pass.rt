@@ -68,10 +68,9 @@ impl<'a, const N: usize> Pass<'a, N> {
     {
         let lanes = self.lanes;
         if READS {
-            (column & u8x16::from_array(lanes.own)) | u8x16::from_array(lanes.more)
-        } else {
-            column | u8x16::from_array(lanes.more)
+            return (column & u8x16::from_array(lanes.own)) | u8x16::from_array(lanes.more);
         }
+        column | u8x16::from_array(lanes.more)
     }
 
     // The bytes from `from` up to `to`, where no payload is wanted.

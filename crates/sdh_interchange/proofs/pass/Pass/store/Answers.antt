@@ -20,8 +20,8 @@ swizzle-from_second g c =
     let from = pass.inputs.now in
     second_fits g.row.N c.args.at from.first.now from.second.now from.own.now c.requires.pass.rate c.requires.whole pass.sources.now pass.lanes.now c.args.extra c.requires.pass.lanes c.requires.extra
 
-pub returns-then-READS : goal.returns-then-READS
-returns-then-READS g c =
+pub returns-then-this-ne0 : goal.returns-then-this-ne0
+returns-then-this-ne0 g c =
     let pass = c.args.self.now in
     let from = pass.inputs.now in
     record {
@@ -30,15 +30,15 @@ returns-then-READS g c =
       behind = λ i h. stored_after g.row.N c.args.at from.first.now from.second.now from.own.now c.requires.pass.rate c.requires.whole pass.sources.now pass.lanes.now c.args.extra c.requires.pass.lanes c.requires.extra c.args.bytes.now i h;
     }
 
-pub returns-else-READS : goal.returns-else-READS
-returns-else-READS g c =
+pub returns-else-this-ne0 : goal.returns-else-this-ne0
+returns-else-this-ne0 g c =
     let n = g.row.N in
     let at = c.args.at in
     let pass = c.args.self.now in
     let from = pass.inputs.now in
     let extra = c.args.extra in
     let long : length extra ≡ 16 = c.requires.extra.long in
-    let none : pass.passed ≡ false = elim c.requires.reads [ inl t ↦ absurd (let e : true ≡ false = sym t ∙ c.if-READS.false in cc) | inr f ↦ f ] in
+    let none : pass.passed ≡ false = elim c.requires.reads [ inl t ↦ absurd (let e : true ≡ false = sym t ∙ c.if-this-ne0.false in cc) | inr f ↦ f ] in
     record {
       before = λ i h. get_or-put_chunk_below at c.args.bytes.now extra i 0 h;
       inside = λ i low high. (
