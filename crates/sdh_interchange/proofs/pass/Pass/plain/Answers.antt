@@ -1,4 +1,4 @@
-use Rattle.std.proofs.Common.{◌≡◌, ℕ, ◌+◌, ◌*◌, ◌-◌, ◌%◌, ◌<◌, ◌≤◌, [], ap, ◌∙◌, arith, rules}
+use Rattle.std.proofs.Common.{◌≡◌, ℕ, ◌+◌, ◌*◌, ◌-◌, ◌%◌, ◌<◌, ◌≤◌, [], ap, ◌∙◌, arith}
 use Rattle.sdh_interchange.proofs.Vectors.{plain_extra}
 use Rattle.sdh_interchange.proofs.Stretches.{none_passed, then_passed, whole_on, whole_back}
 use Rattle.sdh_interchange.proofs.pass.Pass.plain.Goals as goal
@@ -15,7 +15,7 @@ store-requires g c =
     record {
       pass = c.requires.pass;
       reads = c.requires.reads;
-      size = search rules;
+      size = omega arith;
       whole = whole;
       room = omega arith;
       extra = plain_extra g.row.N at [] [] pass.inputs.now.own.now c.requires.pass.rate whole pass.sources.now pass.lanes.now [] c.requires.pass.lanes (λ j h. c.requires.plain (at + j) (omega arith) (omega arith));
@@ -29,7 +29,7 @@ store-requires-2 g c =
     record {
       pass = c.requires.pass;
       reads = c.requires.reads;
-      size = search rules;
+      size = omega arith;
       whole = whole;
       room = omega arith;
       extra = plain_extra g.row.N at [] [] pass.inputs.now.own.now c.requires.pass.rate whole pass.sources.now pass.lanes.now [] c.requires.pass.lanes (λ j h. c.requires.plain (at + j) (omega arith) (omega arith));

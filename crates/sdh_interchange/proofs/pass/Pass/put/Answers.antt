@@ -1,9 +1,31 @@
 use Rattle.std.proofs.Common.{ℕ, ◌+◌, ◌*◌, ◌<◌, ◌≤◌, arith}
-use Rattle.sdh_interchange.proofs.Stretches.{none_passed, then_passed}
+use Rattle.sdh_interchange.proofs.Stretches.{none_passed, then_passed, whole_on}
 use Rattle.sdh_interchange.proofs.pass.Pass.put.Goals as goal
 
 pub loop-k-init : goal.loop-k-init
 loop-k-init g c = none_passed g.row.N c.args.self.now c.args.at (c.args.at + 16 * 0) c.args.bytes.now (omega arith)
+
+pub extra-extra-requires : goal.extra-extra-requires
+extra-extra-requires g c =
+    let k = c.loop-k.k in
+    let small : k < g.row.N = omega arith in
+    record {
+      pass = c.requires.pass;
+      reads = c.requires.reads;
+      whole = whole_on g.row.N c.args.at k c.requires.pass.rate c.requires.whole;
+      long = c.requires.columns.lanes k small;
+      column = λ j h low. c.requires.columns.each k j small h low;
+    }
+
+pub store-requires : goal.store-requires
+store-requires g c = record {
+  pass = c.requires.pass;
+  reads = c.requires.reads;
+  size = omega arith;
+  whole = whole_on g.row.N c.args.at c.loop-k.k c.requires.pass.rate c.requires.whole;
+  room = omega arith;
+  extra = c.extra-extra.ensures;
+}
 
 pub loop-k-preserved : goal.loop-k-preserved
 loop-k-preserved g c =
