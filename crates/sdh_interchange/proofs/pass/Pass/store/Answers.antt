@@ -38,7 +38,7 @@ returns-else-this-ne0 g c =
     let from = pass.inputs.now in
     let extra = c.args.extra in
     let long : length extra ≡ 16 = c.requires.extra.long in
-    let none : pass.passed ≡ false = elim c.requires.reads [ inl t ↦ absurd (let e : true ≡ false = sym t ∙ c.if-this-ne0.false in cc) | inr f ↦ f ] in
+    let none : pass.passed ≡ false = elim c.requires.reads [ inl t ↦ absurd (grind (arith, t, c.if-this-ne0.false)) | inr f ↦ f ] in
     record {
       before = λ i h. get_or-put_chunk_below at c.args.bytes.now extra i 0 h;
       inside = λ i low high. (
