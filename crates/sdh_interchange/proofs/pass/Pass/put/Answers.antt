@@ -9,23 +9,10 @@ pub extra-extra-requires : goal.extra-extra-requires
 extra-extra-requires g c =
     let k = c.loop-k.k in
     let small : k < g.row.N = omega arith in
-    record {
-      pass = c.requires.pass;
-      reads = c.requires.reads;
-      whole = whole_on g.row.N c.args.at k c.requires.pass.rate c.requires.whole;
-      long = c.requires.columns.lanes k small;
-      column = λ j h low. c.requires.columns.each k j small h low;
-    }
+    (omega arith, (c.requires.pass, (c.requires.reads, (whole_on g.row.N c.args.at k c.requires.pass.rate c.requires.whole, (c.requires.columns.lanes k small, ((λ j h low. c.requires.columns.each k j small h low), tt))))))
 
 pub store-requires : goal.store-requires
-store-requires g c = record {
-  pass = c.requires.pass;
-  reads = c.requires.reads;
-  size = omega arith;
-  whole = whole_on g.row.N c.args.at c.loop-k.k c.requires.pass.rate c.requires.whole;
-  room = omega arith;
-  extra = c.extra-extra.ensures;
-}
+store-requires g c = (omega arith, (c.requires.pass, (c.requires.reads, (omega arith, (whole_on g.row.N c.args.at c.loop-k.k c.requires.pass.rate c.requires.whole, (omega arith, (c.extra-extra.ensures, tt)))))))
 
 pub loop-k-preserved : goal.loop-k-preserved
 loop-k-preserved g c =
