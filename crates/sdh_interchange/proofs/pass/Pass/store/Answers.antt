@@ -9,6 +9,9 @@ use Rattle.sdh_interchange.proofs.pass.Pass.store.Goals as goal
 pub merged-all-requires-clause-lanes : goal.merged-all-requires-clause-lanes
 merged-all-requires-clause-lanes g c = (g.row.N, (c.args.self.now.sources.now, c.requires.pass.lanes))
 
+pub put-requires-clause-long : goal.put-requires-clause-long
+put-requires-clause-long g c = (c.merged-all.ensures g.row.N c.args.self.now.sources.now c.args.self.now.inputs.now.own.now c.requires.pass.rate c.requires.whole c.requires.pass.lanes c.requires.extra).long
+
 pub returns-then-this-ne0 : goal.returns-then-this-ne0
 returns-then-this-ne0 g c =
     let pass = c.args.self.now in
