@@ -12,14 +12,14 @@ store-requires g c =
     let at : ℕ = c.args.from + c.loop-b.b * 16 in
     let e : at ≡ c.args.from + 16 * c.loop-b.b = omega arith in
     let whole : at % g.row.N ≡ 0 = ap (λ m. m % g.row.N) e ∙ whole_on g.row.N c.args.from c.loop-b.b c.requires.pass.rate c.requires.start in
-    (omega arith, (c.requires.pass, (c.requires.reads, (omega arith, (whole, (omega arith, (plain_extra g.row.N at [] [] pass.inputs.now.own.now c.requires.pass.rate whole pass.sources.now pass.lanes.now [] c.requires.pass.lanes (λ j h. c.requires.plain (at + j) (omega arith) (omega arith)), tt)))))))
+    (omega arith, (c.requires.pass, (c.requires.reads, (omega arith, (whole, (omega arith, plain_extra g.row.N at [] [] pass.inputs.now.own.now c.requires.pass.rate whole pass.sources.now pass.lanes.now [] c.requires.pass.lanes (λ j h. c.requires.plain (at + j) (omega arith) (omega arith))))))))
 
 pub store-requires-2 : goal.store-requires-2
 store-requires-2 g c =
     let pass = c.args.self.now in
     let at : ℕ = c.args.to - 16 in
     let whole : at % g.row.N ≡ 0 = whole_back g.row.N c.args.to c.requires.pass.rate (omega arith) c.requires.end in
-    (omega arith, (c.requires.pass, (c.requires.reads, (omega arith, (whole, (omega arith, (plain_extra g.row.N at [] [] pass.inputs.now.own.now c.requires.pass.rate whole pass.sources.now pass.lanes.now [] c.requires.pass.lanes (λ j h. c.requires.plain (at + j) (omega arith) (omega arith)), tt)))))))
+    (omega arith, (c.requires.pass, (c.requires.reads, (omega arith, (whole, (omega arith, plain_extra g.row.N at [] [] pass.inputs.now.own.now c.requires.pass.rate whole pass.sources.now pass.lanes.now [] c.requires.pass.lanes (λ j h. c.requires.plain (at + j) (omega arith) (omega arith))))))))
 
 pub loop-b-preserved : goal.loop-b-preserved
 loop-b-preserved g c =

@@ -9,10 +9,10 @@ pub extra-extra-requires : goal.extra-extra-requires
 extra-extra-requires g c =
     let k = c.loop-k.k in
     let small : k < g.row.N = omega arith in
-    (omega arith, (c.requires.pass, (c.requires.reads, (whole_on g.row.N c.args.at k c.requires.pass.rate c.requires.whole, (c.requires.columns.lanes k small, ((λ j h low. c.requires.columns.each k j small h low), tt))))))
+    (omega arith, (c.requires.pass, (c.requires.reads, (whole_on g.row.N c.args.at k c.requires.pass.rate c.requires.whole, (c.requires.columns.lanes k small, (λ j h low. c.requires.columns.each k j small h low))))))
 
 pub store-requires : goal.store-requires
-store-requires g c = (omega arith, (c.requires.pass, (c.requires.reads, (omega arith, (whole_on g.row.N c.args.at c.loop-k.k c.requires.pass.rate c.requires.whole, (omega arith, (c.extra-extra.ensures, tt)))))))
+store-requires g c = (omega arith, (c.requires.pass, (c.requires.reads, (omega arith, (whole_on g.row.N c.args.at c.loop-k.k c.requires.pass.rate c.requires.whole, (omega arith, c.extra-extra.ensures))))))
 
 pub loop-k-preserved : goal.loop-k-preserved
 loop-k-preserved g c =
