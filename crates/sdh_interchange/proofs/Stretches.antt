@@ -84,18 +84,31 @@ module _ (n : ℕ) (pass : Pass n) where
 
   -- from a to m, and then from b to e
   pub then_passed : (a b m e to : ℕ) (old mid new : List ℕ) → a ≤ b → b ≤ m → m ≤ e → e ≡ to → HasPassed n pass a m old mid → HasPassed n pass b e mid new → HasPassed n pass a to old new
-  then_passed a b m e to old mid new front meet back is first then = record {
-    before = λ i h. then.before i (omega arith) ∙ first.before i h;
+  then_passed a b m e to old mid new front meet back is first second = record {
+    before = λ i h. second.before i (omega arith) ∙ first.before i h;
     inside = λ i low high. elim (cases_lt i b) [
-      | inl h ↦ then.before i h ∙ first.inside i low (omega arith)
-      | inr h ↦ then.inside i h (omega arith)
+      | inl h ↦ second.before i h ∙ first.inside i low (omega arith)
+      | inr h ↦ second.inside i h (omega arith)
     ];
-    behind = λ i h. then.behind i (omega arith) ∙ first.behind i (omega arith);
+    behind = λ i h. second.behind i (omega arith) ∙ first.behind i (omega arith);
   }
 
   pub columns_then : (a b m e to : ℕ) (old mid new : List ℕ) → a ≤ b → b ≤ m → m ≤ e → e ≡ to → HasPassed n pass (n * a) (n * m) old mid → HasPassed n pass (n * b) (n * e) mid new → HasPassed n pass (n * a) (n * to) old new
   columns_then a b m e to old mid new front meet back is =
       then_passed (n * a) (n * b) (n * m) (n * e) (n * to) old mid new (scaled n a b front) (scaled n b m meet) (scaled n m e back) (ap (λ q. n * q) is)
+
+  -- a vector
+  pub vector_passed : (at : ℕ) (old new all : List ℕ) → ((i : ℕ) → i < at → get_or new i 0 ≡ get_or old i 0) → ((k : ℕ) → k < 16 → get_or new (at + k) 0 ≡ get_or all k 0) → ((i : ℕ) → at + 16 ≤ i → get_or new i 0 ≡ get_or old i 0)
+      → ((j : ℕ) → j < 16 → get_or all j 0 ≡ byte_at n pass (at + j)) → HasPassed n pass at (at + 16) old new
+  vector_passed at old new all front put back each = record {
+    before = front;
+    inside = λ i low high. (
+        let k : ℕ = i - at in
+        let e : at + k ≡ i = omega arith in
+        let h : k < 16 = omega arith in
+        ap (λ m. get_or new m 0) (sym e) ∙ put k h ∙ each k h ∙ ap (byte_at n pass) e);
+    behind = back;
+  }
 
   pub block_passed : (q at to : ℕ) (old new : List ℕ) → (n ≡ 4) ⊎ (n ≡ 16) → at ≡ n * q → q + 16 ≡ to → HasPassed n pass at (at + 16 * n) old new → HasPassed n pass (n * q) (n * to) old new
   block_passed q at to old new rate here back done =

@@ -29,13 +29,13 @@ lane_fits a (inr h) = rw h tt
 pub lanes_fit : (js : List ℕ) → length js ≡ 16 → ((j : ℕ) → j < 16 → (get_or js j 0 < 16) ⊎ (get_or js j 0 ≡ 128)) → SwzOk w8 16 16 0 js
 lanes_fit js long h = SwzOk-from_Each1 w8 16 1 16 0 js refl (omega arith) (Each1-from_get_or (λ j. T (zeroes 16 w8 j || ltb j 16)) js 0 (λ i lt. lane_fits _ (h i (omega arith))))
 
-first_read : (n : ℕ) (s : Source) (j a b c o : ℕ) → IsLane n s j a b c o → (a < 16) ⊎ (a ≡ 128)
+pub first_read : (n : ℕ) (s : Source) (j a b c o : ℕ) → IsLane n s j a b c o → (a < 16) ⊎ (a ≡ 128)
 first_read n (First au) j a b c o h = inl h.1
 first_read n (Second au) j a b c o h = inr h.2
 first_read n (Own k) j a b c o h = inr h.2
 first_read n Ones j a b c o h = inr h.0
 
-second_read : (n : ℕ) (s : Source) (j a b c o : ℕ) → IsLane n s j a b c o → (b < 16) ⊎ (b ≡ 128)
+pub second_read : (n : ℕ) (s : Source) (j a b c o : ℕ) → IsLane n s j a b c o → (b < 16) ⊎ (b ≡ 128)
 second_read n (First au) j a b c o h = inr h.2
 second_read n (Second au) j a b c o h = inl h.1
 second_read n (Own k) j a b c o h = inr h.3
@@ -108,29 +108,12 @@ module _ (n at : ℕ) (first second : List ℕ) (own : List (List ℕ)) (rate : 
     pub long_vector : length vector ≡ 16
     long_vector = length-zip2 bit_or both extra (long_both ∙ sym more.long) ∙ long_both
 
-    in_vector : (j : ℕ) → j < 16 → get_or vector j 0 ≡ picked_at n sources first second own (at + j)
+    pub in_vector : (j : ℕ) → j < 16 → get_or vector j 0 ≡ picked_at n sources first second own (at + j)
     in_vector j h =
         get_or-zip2 bit_or both extra j 0 0 0 (omega (arith, long_both)) (omega (arith, more.long))
         ∙ ap (λ z. bit_or z (get_or extra j 0)) (get_or-zip2 bit_or (swz_l w8 16 (chunk at 16 first) 0 l.first) (swz_l w8 16 (chunk at 16 second) 0 l.second) j 0 0 0 (omega (arith, long_first)) (omega (arith, long_second)))
         ∙ lane (get_or sources (j % n) Ones) l.first l.second j (get_or l.own j 0) (get_or l.more j 0) (get_or extra j 0) h lanes.first_long lanes.second_long (lanes.each j h) (more.each j h)
         ∙ ap (λ m. picked n (get_or sources m Ones) first second own (at + j)) (column n at j 0 rate whole).1
-
-    pub first_fits : SwzOk w8 16 16 0 l.first
-    first_fits = lanes_fit l.first lanes.first_long (λ j h. first_read n (get_or sources (j % n) Ones) j _ _ _ _ (lanes.each j h))
-
-    pub second_fits : SwzOk w8 16 16 0 l.second
-    second_fits = lanes_fit l.second lanes.second_long (λ j h. second_read n (get_or sources (j % n) Ones) j _ _ _ _ (lanes.each j h))
-
-    pub stored_inside : (bytes : List ℕ) (i : ℕ) → at + 16 ≤ length bytes → at ≤ i → i < at + 16 → get_or (put_chunk at bytes vector) i 0 ≡ picked_at n sources first second own i
-    stored_inside bytes i room low high =
-        let j : ℕ = i - at in
-        let e : at + j ≡ i = omega arith in
-        let h : j < 16 = omega arith in
-        ap (λ k. get_or (put_chunk at bytes vector) k 0) (sym e) ∙ get_or-put_chunk_at at bytes vector j 0 (omega (arith, long_vector)) (omega (arith, long_vector)) ∙ in_vector j h
-        ∙ ap (picked_at n sources first second own) e
-
-    pub stored_after : (bytes : List ℕ) (i : ℕ) → at + 16 ≤ i → get_or (put_chunk at bytes vector) i 0 ≡ get_or bytes i 0
-    stored_after bytes i h = get_or-put_chunk_above at bytes vector i 0 (omega (arith, long_vector))
 
   -- ---- what comes from the payloads
 

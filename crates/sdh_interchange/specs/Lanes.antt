@@ -3,7 +3,7 @@ use Rattle.std.specs.Prelude.{ℕ, ◌≡◌, ◌+◌, ◌*◌, ◌-◌, ◌%◌
 use Rattle.sdh_interchange.specs.declared.choose.Source.{Source}
 use Rattle.sdh_interchange.specs.declared.choose.Source.TheVariants.{First, Second, Own, Ones}
 use Rattle.sdh_interchange.specs.declared.lanes.Lanes.{Lanes}
-use Rattle.sdh_interchange.specs.Choosing.{own_byte}
+use Rattle.sdh_interchange.specs.Choosing.{own_byte, picked_at}
 
 -- lane j reads the first frame at lane a, the second at b, where 128 is none, keeps the bits c of the payloads' lane, and adds o
 abbrev pub IsLane : ℕ → Source → ℕ → ℕ → ℕ → ℕ → ℕ → Type 0
@@ -40,3 +40,8 @@ IsPlain n (First au) own i = Unit {0}
 IsPlain n (Second au) own i = Unit {0}
 IsPlain n (Own k) own i = own_byte n own (i - i % n + (k - 1)) ≡ 0
 IsPlain n Ones own i = Unit {0}
+
+-- a vector of the bytes from a place on, by their sources
+pub record ArePicked (n : ℕ) (sources : List Source) (first second : List ℕ) (own : List (List ℕ)) (at : ℕ) (all : List ℕ) : Type 0 where
+  pub long : length all ≡ 16
+  pub each : (j : ℕ) → j < 16 → slice_index all j ≡ picked_at n sources first second own (at + j)

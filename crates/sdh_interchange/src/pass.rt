@@ -1,14 +1,16 @@
 //! All AU-4s of a row in one pass over its columns.
-ghost use Rattle.std.specs.Prelude.{◌≡◌, ◌≢◌, ℕ, ◌+◌, ◌*◌, ◌/◌, ◌%◌, ◌<◌, ◌≤◌, ◌⊎◌, true, false, length, slice_index, slice_index_or, if◌then◌else◌};
+ghost use Rattle.std.specs.Prelude.{◌≡◌, ◌≢◌, ℕ, List, ◌+◌, ◌*◌, ◌/◌, ◌%◌, ◌<◌, ◌≤◌, ◌⊎◌, true, false, length, slice_index, slice_index_or, if◌then◌else◌};
+ghost use Rattle.sdh_interchange.specs.declared.choose.Source.{Source};
 ghost use Rattle.sdh_interchange.specs.declared.choose.Source.TheVariants.{Ones};
 ghost use Rattle.sdh_interchange.specs.Choosing.{own_byte, is_au_byte};
-ghost use Rattle.sdh_interchange.specs.Lanes.{AreExtra, IsPlain};
+ghost use Rattle.sdh_interchange.specs.Lanes.{AreLanes, AreExtra, ArePicked, IsPlain};
 ghost use Rattle.sdh_interchange.specs.Passes.{IsPass, byte_at, HasPassed, AreColumns};
 
 use crate::choose::Source;
 use crate::columns::{byte_of, columns4, columns16};
 use crate::lanes::Lanes;
 use crate::own::Payloads;
+use crate::payloads::put;
 use std::simd::prelude::*;
 
 /// What the AU-4s of a frame come from: two other frames, and payloads.
@@ -29,6 +31,20 @@ pub(crate) struct Pass<'a, const N: usize> {
     pub(crate) owned: bool,
 }
 
+// Sixteen bytes from `at` on: what two frames give by these lanes, and what they don't.
+#[inline(always)]
+fn merged(first: &[u8], second: &[u8], at: usize, lanes: &Lanes, extra: u8x16) -> u8x16
+    requires first { at + 16 ≤ length first.now }
+    requires second { at + 16 ≤ length second.now }
+    requires lanes { (n : ℕ) × ((sources : List Source) × AreLanes n sources lanes.now) }
+    requires extra { length extra ≡ 16 }
+    ensures { (n : ℕ) (sources : List Source) (own : List (List ℕ)) → (n ≡ 4) ⊎ (n ≡ 16) → at % n ≡ 0 → AreLanes n sources lanes.now → AreExtra n sources own at extra → ArePicked n sources first.now second.now own at result }
+{
+    let from_first = u8x16::from_slice(&first[at..]).swizzle_dyn(u8x16::from_array(lanes.first));
+    let from_second = u8x16::from_slice(&second[at..]).swizzle_dyn(u8x16::from_array(lanes.second));
+    from_first | from_second | extra
+}
+
 // READS says whether the two frames are read: they must be where an AU-4 comes from them.
 impl<'a, const N: usize> Pass<'a, N> {
     // Sixteen bytes from `at` on: what the frames give, and what they don't.
@@ -43,15 +59,11 @@ impl<'a, const N: usize> Pass<'a, N> {
         ensures { HasPassed N self.now at (at + 16) bytes.old bytes.new }
     {
         if READS {
-            let lanes = self.lanes;
-            let first = u8x16::from_slice(&self.inputs.first[at..]);
-            let second = u8x16::from_slice(&self.inputs.second[at..]);
-            let from_first = first.swizzle_dyn(u8x16::from_array(lanes.first));
-            let from_second = second.swizzle_dyn(u8x16::from_array(lanes.second));
-            let all = from_first | from_second | extra;
-            all.copy_to_slice(&mut bytes[at..]);
+            let (first, second) = (self.inputs.first, self.inputs.second);
+            let all = merged(first, second, at, self.lanes, extra);
+            put(bytes, at, all);
         } else {
-            extra.copy_to_slice(&mut bytes[at..]);
+            put(bytes, at, extra);
         }
     }
 
@@ -68,10 +80,9 @@ impl<'a, const N: usize> Pass<'a, N> {
     {
         let lanes = self.lanes;
         if READS {
-            (column & u8x16::from_array(lanes.own)) | u8x16::from_array(lanes.more)
-        } else {
-            column | u8x16::from_array(lanes.more)
+            return (column & u8x16::from_array(lanes.own)) | u8x16::from_array(lanes.more);
         }
+        column | u8x16::from_array(lanes.more)
     }
 
     // The bytes from `from` up to `to`, where no payload is wanted.

@@ -14,11 +14,12 @@ use std::simd::prelude::*;
 
 // Sixteen bytes become these.
 #[inline(always)]
-fn put(out: &mut [u8], at: usize, lanes: u8x16)
+pub(crate) fn put(out: &mut [u8], at: usize, lanes: u8x16)
     requires long { length lanes ≡ 16 }
     requires room { at + 16 ≤ length out.old }
     ensures before { (i : ℕ) → i < at → slice_index out.new i ≡ slice_index out.old i }
     ensures inside { (k : ℕ) → k < 16 → slice_index out.new (at + k) ≡ slice_index lanes k }
+    ensures behind { (i : ℕ) → at + 16 ≤ i → slice_index out.new i ≡ slice_index out.old i }
     ensures len { length out.new ≡ length out.old }
 {
     lanes.copy_to_slice(&mut out[at..]);

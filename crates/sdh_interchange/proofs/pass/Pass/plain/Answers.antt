@@ -6,28 +6,20 @@ use Rattle.sdh_interchange.proofs.pass.Pass.plain.Goals as goal
 pub loop-b-init : goal.loop-b-init
 loop-b-init g c = none_passed g.row.N c.args.self.now c.args.from (c.args.from + 0 * 16) c.args.bytes.now (omega arith)
 
-pub store-requires-clause-whole : goal.store-requires-clause-whole
-store-requires-clause-whole g c =
-    let e : c.args.from + c.loop-b.b * 16 ≡ c.args.from + 16 * c.loop-b.b = omega arith in
-    ap (λ m. m % g.row.N) e ∙ whole_on g.row.N c.args.from c.loop-b.b c.requires.pass.rate c.requires.start
-
-pub store-requires-clause-extra : goal.store-requires-clause-extra
-store-requires-clause-extra g c =
+pub store-requires : goal.store-requires
+store-requires g c =
     let pass = c.args.self.now in
     let at : ℕ = c.args.from + c.loop-b.b * 16 in
-    let e : c.args.from + c.loop-b.b * 16 ≡ c.args.from + 16 * c.loop-b.b = omega arith in
-    plain_extra g.row.N at [] [] pass.inputs.now.own.now c.requires.pass.rate (ap (λ m. m % g.row.N) e ∙ whole_on g.row.N c.args.from c.loop-b.b c.requires.pass.rate c.requires.start) pass.sources.now pass.lanes.now [] c.requires.pass.lanes
-    (λ j h. c.requires.plain (at + j) (omega arith) (omega arith))
+    let e : at ≡ c.args.from + 16 * c.loop-b.b = omega arith in
+    let whole : at % g.row.N ≡ 0 = ap (λ m. m % g.row.N) e ∙ whole_on g.row.N c.args.from c.loop-b.b c.requires.pass.rate c.requires.start in
+    (omega arith, (c.requires.pass, (c.requires.reads, (omega arith, (whole, (omega arith, plain_extra g.row.N at [] [] pass.inputs.now.own.now c.requires.pass.rate whole pass.sources.now pass.lanes.now [] c.requires.pass.lanes (λ j h. c.requires.plain (at + j) (omega arith) (omega arith))))))))
 
-pub store-requires-2-clause-whole : goal.store-requires-2-clause-whole
-store-requires-2-clause-whole g c = whole_back g.row.N c.args.to c.requires.pass.rate (omega arith) c.requires.end
-
-pub store-requires-2-clause-extra : goal.store-requires-2-clause-extra
-store-requires-2-clause-extra g c =
+pub store-requires-2 : goal.store-requires-2
+store-requires-2 g c =
     let pass = c.args.self.now in
     let at : ℕ = c.args.to - 16 in
-    plain_extra g.row.N at [] [] pass.inputs.now.own.now c.requires.pass.rate (whole_back g.row.N c.args.to c.requires.pass.rate (omega arith) c.requires.end) pass.sources.now pass.lanes.now [] c.requires.pass.lanes
-    (λ j h. c.requires.plain (at + j) (omega arith) (omega arith))
+    let whole : at % g.row.N ≡ 0 = whole_back g.row.N c.args.to c.requires.pass.rate (omega arith) c.requires.end in
+    (omega arith, (c.requires.pass, (c.requires.reads, (omega arith, (whole, (omega arith, plain_extra g.row.N at [] [] pass.inputs.now.own.now c.requires.pass.rate whole pass.sources.now pass.lanes.now [] c.requires.pass.lanes (λ j h. c.requires.plain (at + j) (omega arith) (omega arith))))))))
 
 pub loop-b-preserved : goal.loop-b-preserved
 loop-b-preserved g c =

@@ -1,4 +1,4 @@
-use Rattle.std.proofs.Common.{◌≡◌, ℕ, ◌+◌, ◌*◌, ◌%◌, ◌<◌, ◌≤◌, get_or, sym, subst, arith}
+use Rattle.std.proofs.Common.{◌≡◌, ℕ, ◌+◌, ◌*◌, ◌%◌, ◌<◌, ◌≤◌, get_or, inl, refl, subst, arith}
 use Rattle.sdh_interchange.specs.declared.choose.Source.TheVariants.{Ones}
 use Rattle.sdh_interchange.specs.Passes.{HasPassed}
 use Rattle.sdh_interchange.proofs.ByBytes.{plain_pointer}
@@ -6,25 +6,14 @@ use Rattle.sdh_interchange.proofs.Vectors.{in_rate}
 use Rattle.sdh_interchange.proofs.Stretches.{whole_at, some_between, within_frame}
 use Rattle.sdh_interchange.proofs.pass.Pass.pointers.Goals as goal
 
-pub plain-requires-clause-start : goal.plain-requires-clause-start
-plain-requires-clause-start g c = whole_at g.row.N 810 c.byte_of-from.result c.byte_of-from.ensures.place
-
-pub plain-requires-clause-end : goal.plain-requires-clause-end
-plain-requires-clause-end g c = whole_at g.row.N 819 c.byte_of-to.result c.byte_of-to.ensures.place
-
-pub plain-requires-clause-some : goal.plain-requires-clause-some
-plain-requires-clause-some g c = some_between g.row.N 810 819 c.byte_of-from.result c.byte_of-to.result c.requires.pass.rate c.byte_of-from.ensures.place c.byte_of-to.ensures.place (omega arith)
-
-pub plain-requires-clause-room : goal.plain-requires-clause-room
-plain-requires-clause-room g c = omega (arith, within_frame g.row.N 819 c.byte_of-to.result c.requires.pass.rate c.byte_of-to.ensures.place (omega arith), c.requires.size)
-
-pub plain-requires-clause-plain : goal.plain-requires-clause-plain
-plain-requires-clause-plain g c = λ i low high.
+pub plain-requires : goal.plain-requires
+plain-requires g c =
     let pass = c.args.self.now in
     let n = g.row.N in
-    let from : n * 810 ≤ i = subst (λ m. m ≤ i) c.byte_of-from.ensures.place low in
-    let to : i < n * 819 = subst (λ m. i < m) c.byte_of-to.ensures.place high in
-    plain_pointer n (get_or pass.sources.now (i % n) Ones) pass.inputs.now.own.now i c.requires.pass.rate from to (c.requires.pass.sources.each (i % n) (in_rate n i c.requires.pass.rate))
+    let rate = c.requires.pass.rate in
+    let from = c.byte_of-from.ensures.place in
+    let to = c.byte_of-to.ensures.place in
+    (omega arith, (c.requires.pass, (inl refl, (c.requires.size, (whole_at n 810 c.byte_of-from.result from, (whole_at n 819 c.byte_of-to.result to, (some_between n 810 819 c.byte_of-from.result c.byte_of-to.result rate from to (omega arith), (omega (arith, within_frame n 819 c.byte_of-to.result rate to (omega arith), c.requires.size), (λ i low high. plain_pointer n (get_or pass.sources.now (i % n) Ones) pass.inputs.now.own.now i rate (subst (λ m. m ≤ i) from low) (subst (λ m. i < m) to high) (c.requires.pass.sources.each (i % n) (in_rate n i rate)))))))))))
 
 pub returns : goal.returns
 returns g c =

@@ -5,14 +5,14 @@ use Rattle.sdh_interchange.proofs.pass.Pass.put.Goals as goal
 pub loop-k-init : goal.loop-k-init
 loop-k-init g c = none_passed g.row.N c.args.self.now c.args.at (c.args.at + 16 * 0) c.args.bytes.now (omega arith)
 
-pub extra-extra-requires-clause-whole : goal.extra-extra-requires-clause-whole
-extra-extra-requires-clause-whole g c = whole_on g.row.N c.args.at c.loop-k.k c.requires.pass.rate c.requires.whole
+pub extra-extra-requires : goal.extra-extra-requires
+extra-extra-requires g c =
+    let k = c.loop-k.k in
+    let small : k < g.row.N = omega arith in
+    (omega arith, (c.requires.pass, (c.requires.reads, (whole_on g.row.N c.args.at k c.requires.pass.rate c.requires.whole, (c.requires.columns.lanes k small, (λ j h low. c.requires.columns.each k j small h low))))))
 
-pub extra-extra-requires-clause-column : goal.extra-extra-requires-clause-column
-extra-extra-requires-clause-column g c = λ j h low. (let small : c.loop-k.k < g.row.N = omega arith in c.requires.columns.each c.loop-k.k j small h low)
-
-pub store-requires-clause-whole : goal.store-requires-clause-whole
-store-requires-clause-whole g c = whole_on g.row.N c.args.at c.loop-k.k c.requires.pass.rate c.requires.whole
+pub store-requires : goal.store-requires
+store-requires g c = (omega arith, (c.requires.pass, (c.requires.reads, (omega arith, (whole_on g.row.N c.args.at c.loop-k.k c.requires.pass.rate c.requires.whole, (omega arith, c.extra-extra.ensures))))))
 
 pub loop-k-preserved : goal.loop-k-preserved
 loop-k-preserved g c =

@@ -7,28 +7,19 @@ use Rattle.sdh_interchange.proofs.Vectors.{in_rate}
 use Rattle.sdh_interchange.proofs.Stretches.{whole_at, some_between, within_frame}
 use Rattle.sdh_interchange.proofs.pass.Pass.row.Goals as goal
 
-pub plain-requires-clause-start : goal.plain-requires-clause-start
-plain-requires-clause-start g c = whole_at g.row.N (270 * c.args.r + 9) c.byte_of-from.result c.byte_of-from.ensures.place
-
-pub plain-requires-clause-end : goal.plain-requires-clause-end
-plain-requires-clause-end g c = whole_at g.row.N (270 * c.args.r + 270) c.byte_of-to.result c.byte_of-to.ensures.place
-
-pub plain-requires-clause-some : goal.plain-requires-clause-some
-plain-requires-clause-some g c = some_between g.row.N (270 * c.args.r + 9) (270 * c.args.r + 270) c.byte_of-from.result c.byte_of-to.result c.requires.pass.rate c.byte_of-from.ensures.place c.byte_of-to.ensures.place (omega arith)
-
-pub plain-requires-clause-room : goal.plain-requires-clause-room
-plain-requires-clause-room g c = omega (arith, within_frame g.row.N (270 * c.args.r + 270) c.byte_of-to.result c.requires.pass.rate c.byte_of-to.ensures.place (omega arith), c.requires.size)
-
-pub plain-requires-clause-plain : goal.plain-requires-clause-plain
-plain-requires-clause-plain g c = λ i low high.
+pub plain-requires : goal.plain-requires
+plain-requires g c =
     let pass = c.args.self.now in
     let n = g.row.N in
-    let none : list_any is_own pass.sources.now ≡ false = sym c.requires.pass.owned ∙ c.if-owned.false in
-    let few : i % n < length pass.sources.now = omega (arith, in_rate n i c.requires.pass.rate, c.requires.pass.sources.many) in
-    plain_without n pass.sources.now pass.inputs.now.own.now i none few
+    let r = c.args.r in
+    let rate = c.requires.pass.rate in
+    let from = c.byte_of-from.ensures.place in
+    let to = c.byte_of-to.ensures.place in
+    let none : list_any is_own pass.sources.now ≡ false = sym c.requires.pass.owned ∙ c.if-self.false in
+    (omega arith, (c.requires.pass, (c.requires.reads, (c.requires.size, (whole_at n (270 * r + 9) c.byte_of-from.result from, (whole_at n (270 * r + 270) c.byte_of-to.result to, (some_between n (270 * r + 9) (270 * r + 270) c.byte_of-from.result c.byte_of-to.result rate from to (omega arith), (omega (arith, within_frame n (270 * r + 270) c.byte_of-to.result rate to (omega arith), c.requires.size), (λ i low high. (let few : i % n < length pass.sources.now = omega (arith, in_rate n i rate, c.requires.pass.sources.many) in plain_without n pass.sources.now pass.inputs.now.own.now i none few))))))))))
 
-pub returns-else-owned : goal.returns-else-owned
-returns-else-owned g c =
+pub returns-else-self : goal.returns-else-self
+returns-else-self g c =
     let pass = c.args.self.now in
     subst (λ m. HasPassed g.row.N pass m (g.row.N * (270 * c.args.r + 270)) c.args.bytes.now c.plain.new.bytes) c.byte_of-from.ensures.place
     (subst (λ m. HasPassed g.row.N pass c.byte_of-from.result m c.args.bytes.now c.plain.new.bytes) c.byte_of-to.ensures.place c.plain.ensures)
