@@ -48,7 +48,7 @@ fn circuits_of(
     ensures slots { IfOk result (λ circuits. circuits.slots ≡ n_of rate / 2) }
     ensures kept { IfOk result (λ circuits. KeepsRing circuits map.now) }
 {
-    let mut circuits = CircuitMap::new(alloc, (rate.n() / 2) as u8);
+    let mut circuits = CircuitMap::new(alloc, rate.half());
     'wishes: for number in 0..count {
         let name = name_at(names, number);
         let asked = Asked {

@@ -93,7 +93,7 @@ impl Taken {
     pub fn begin(&mut self, frame: &FrameBuf)
         ensures { IsOf frame.now self.new }
     {
-        self.half = frame.rate().n() / 2;
+        self.half = usize::from(frame.rate().half());
         self.here = [false; 16];
     }
 

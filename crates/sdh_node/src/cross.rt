@@ -56,18 +56,6 @@ impl Model for CrossConnect {
     } };
 }
 
-// Half of N: so many slots are working slots, and so many protect them.
-fn half_of(rate: Rate) -> u16
-    ensures half { result ≡ n_of rate / 2 }
-    ensures few { result ≤ 8 }
-    ensures twice { 2 * result ≡ n_of rate }
-{
-    match rate {
-        Rate::Four => 2,
-        Rate::Sixteen => 8,
-    }
-}
-
 impl CrossConnect {
     /// Idle, with nothing received. All memory is taken here.
     pub fn try_new(
@@ -220,7 +208,7 @@ impl CrossConnect {
         ensures feeder { result ≡ feeder_of self.now slot origin }
         ensures inside { IsFeeder (n_of self.now.west.section.rate) result }
     {
-        let half = half_of(self.west_in.rate());
+        let half = u16::from(self.west_in.rate().half());
         match origin {
             Origin::Add(port) => Feeder::Port(port),
             Origin::Working(side) => Feeder::Received(side, slot),
@@ -258,7 +246,7 @@ impl Matrix for CrossConnect {
     // AU-4s up to half of N are the working slots, and those above it the protection slots.
     #[tactic(auto, unfolding(crate::specs::Crossing::leads))]
     fn leaving(&self, side: Side, au: u16) -> Feeder {
-        let half = half_of(self.west_in.rate());
+        let half = u16::from(self.west_in.rate().half());
         if au <= half {
             let slot = Slot(au as u8);
             let origin = working_origin(&self.state, &self.map, &self.table, self.at, side, slot);

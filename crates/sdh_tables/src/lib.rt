@@ -14,14 +14,6 @@ use sdh_ringmap::{Pos, RingMap, Side};
 use sdh_squelch::Table;
 use std::alloc::{AllocError, Global};
 
-// How many working slots a span has.
-fn slots_of(plan: &Plan) -> u8
-    ensures slots { result ≡ n_of plan.now.settings.rate / 2 }
-    ensures few { result ≤ 8 }
-{
-    (plan.settings().rate.n() / 2) as u8
-}
-
 // The line of a circuit of this name between the nodes at two positions.
 fn put_circuit(
     text: &mut Text,
@@ -72,7 +64,7 @@ fn put_side(text: &mut Text, plan: &Plan, table: &Table, at: Pos, side: Side)
     ensures bytes { text.new.bytes ≡ text.old.bytes ++ side_lines (n_of plan.now.settings.rate / 2) plan.now.nodes plan.now.circuits at.0 side }
     ensures room { text.old.room ≤ text.new.room + 768 }
 {
-    for i in 0..slots_of(plan) {
+    for i in 0..plan.settings().rate.half() {
         put_slot(text, plan, table, at, side, Slot(i + 1));
     }
 }

@@ -1,7 +1,7 @@
 //! The terms that a plan and a promise share with frames, K bytes and fibres: rates, conditions of fibres, and what a side asks for.
 #![tactic(auto)]
 
-ghost use Rattle.std.specs.Prelude.{◌≡◌};
+ghost use Rattle.std.specs.Prelude.{◌≡◌, ◌*◌, ◌/◌, ◌≤◌};
 ghost use Rattle.sdh_terms.specs.Rates.{n_of};
 ghost use Rattle.sdh_terms.specs.Requests.{code_number};
 
@@ -22,6 +22,18 @@ impl Rate {
         match self {
             Rate::Four => 4,
             Rate::Sixteen => 16,
+        }
+    }
+
+    /// Half of N: so many AU-4s of a span are working slots, and so many protect them.
+    pub fn half(self) -> u8
+        ensures half { result ≡ n_of self / 2 }
+        ensures few { result ≤ 8 }
+        ensures twice { 2 * result ≡ n_of self }
+    {
+        match self {
+            Rate::Four => 2,
+            Rate::Sixteen => 8,
         }
     }
 }
