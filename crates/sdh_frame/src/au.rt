@@ -2,8 +2,7 @@
 ghost use Rattle.std.specs.Prelude.{◌≡◌, ℕ, ◌+◌, ◌*◌, ◌-◌, ◌/◌, ◌%◌, ◌<◌, ◌≤◌, length, slice_index, replicate, if◌then◌else◌};
 ghost use Rattle.sdh_frame.specs.Sizes.{size_of};
 ghost use Rattle.sdh_terms.specs.Rates.{n_of};
-ghost use Rattle.sdh_frame.specs.Fields.{index_of, payload_place};
-ghost use Rattle.sdh_frame.specs.Aus.{payload_of, pointers_of, with_payload, with_pointers, with_au, ones, is_payload, is_pointer};
+ghost use Rattle.sdh_frame.specs.Aus.{payload_of, with_payload, with_pointers, with_au, ones, is_payload, is_pointer};
 
 use crate::{FrameBuf, Rate};
 
@@ -138,18 +137,6 @@ fn point(rate: Rate, bytes: &mut [u8], au: usize, pointers: &[u8])
     }
 }
 
-#[tactic(auto, using(crate::proofs::Moves::pointed_at))]
-fn pointer_byte(rate: Rate, bytes: &[u8], au: usize, index: usize) -> u8
-    requires size { length bytes.now ≡ size_of rate }
-    requires low { 1 ≤ au }
-    requires high { au ≤ n_of rate }
-    requires index { index < 9 }
-    ensures { result ≡ slice_index (pointers_of (n_of rate) au bytes.now) index }
-{
-    let n = rate.n();
-    bytes[810 * n + (index * n + au - 1)]
-}
-
 impl FrameBuf {
     /// The payload of AU-4 `to`, 1 to N, becomes that of AU-4 `au` of another frame of the same rate.
     pub fn copy_payload(&mut self, to: u16, from: &FrameBuf, au: u16)
@@ -177,21 +164,6 @@ impl FrameBuf {
         ensures { self.new ≡ record self.old { bytes = with_pointers (n_of self.old.rate) au pointers.now self.old.bytes } }
     {
         point(self.rate, self.bytes.as_mut_slice(), au as usize, pointers);
-    }
-
-    /// A pointer byte of an AU-4, by its index 0 to 8.
-    pub fn pointer(&self, au: u16, index: u16) -> u8
-        requires first { 1 ≤ au }
-        requires last { au ≤ n_of self.now.rate }
-        requires index { index < 9 }
-        ensures { result ≡ slice_index (pointers_of (n_of self.now.rate) au self.now.bytes) index }
-    {
-        pointer_byte(
-            self.rate,
-            self.bytes.as_slice(),
-            au as usize,
-            index as usize,
-        )
     }
 
     /// All bytes of an AU-4 become ones, as AU-AIS.
