@@ -1,5 +1,5 @@
 //! The places of fields, and the indexes of places among the bytes of a frame.
-ghost use Rattle.std.specs.Prelude.{◌≡◌, ◌*◌, ◌<◌, ◌≤◌};
+ghost use Rattle.std.specs.Prelude.{◌≡◌, ◌+◌, ◌*◌, ◌<◌, ◌≤◌, ◌⊎◌};
 ghost use Rattle.sdh_frame.specs.Sizes.{size_of};
 ghost use Rattle.sdh_terms.specs.Rates.{n_of};
 ghost use Rattle.sdh_frame.specs.Fields.{index_of, field_at, payload_place, place_of_pointer};
@@ -97,4 +97,16 @@ pub(crate) fn pointer_index(rate: Rate, au: u16, index: u16) -> usize
 {
     let place = pointer_place(rate, au, index);
     index_in(rate, place)
+}
+
+// The first byte of a column, counted from 0 through all rows.
+#[inline(always)]
+pub(crate) fn byte_of<const N: usize>(column: usize) -> usize
+    requires rate { (N ≡ 4) ⊎ (N ≡ 16) }
+    requires few { column < 2430 }
+    ensures place { result ≡ N * column }
+    ensures some { column ≤ result }
+    ensures within { result + N ≤ 2430 * N }
+{
+    N * column
 }
