@@ -3,3 +3,4 @@ pub mod AuProofs
 pub mod Moves
 pub mod AllAus
 pub mod Single
+pub mod ByColumns

@@ -63,7 +63,3 @@ module _ (rate : Rate) (to : ℕ) (old new : List ℕ) (high : to ≤ n_of rate)
 pub taken : (n from : ℕ) (s d : List ℕ) → length d ≡ 2349 → ((j : ℕ) → j < 2349 → slice_index d j ≡ slice_index s (index_of n (payload_place n from j))) → d ≡ payload_of n from s
 unfolding payload_of
 taken n from s d len h = sym (cells-from _ 2349 0 d len (λ j lt. sym (h j lt)))
-
-pub pointed_at : (n au p : ℕ) (s : List ℕ) → p < 9 → 1 ≤ au → get_or s (810 * n + (p * n + au - 1)) 0 ≡ get_or (pointers_of n au s) p 0
-unfolding pointers_of
-pointed_at n au p s h low = ap (λ z. get_or s z 0) (omega arith) ∙ sym (get_or-cells _ 9 p 0 h)

@@ -79,7 +79,7 @@ place_in Sixteen place is = record { row = omega arith; column = omega arith; wi
 
 -- ---- payload
 
-payload_within : (rate : Rate) (au j : ℕ) → 1 ≤ au → au ≤ n_of rate → j < 2349 → IsInFrame rate (payload_place (n_of rate) au j)
+pub payload_within : (rate : Rate) (au j : ℕ) → 1 ≤ au → au ≤ n_of rate → j < 2349 → IsInFrame rate (payload_place (n_of rate) au j)
 payload_within Four au j low high lt = record { row = omega arith; rows = omega arith; column = omega arith; columns = omega arith }
 payload_within Sixteen au j low high lt = record { row = omega arith; rows = omega arith; column = omega arith; columns = omega arith }
 
@@ -130,7 +130,7 @@ payload_indexes rate place au is e =
 
 -- ---- pointers
 
-pointer_within : (rate : Rate) (au p : ℕ) → 1 ≤ au → au ≤ n_of rate → p < 9 → IsInFrame rate (place_of_pointer (n_of rate) au p)
+pub pointer_within : (rate : Rate) (au p : ℕ) → 1 ≤ au → au ≤ n_of rate → p < 9 → IsInFrame rate (place_of_pointer (n_of rate) au p)
 pointer_within Four au p low high lt = record { row = omega arith; rows = omega arith; column = omega arith; columns = omega arith }
 pointer_within Sixteen au p low high lt = record { row = omega arith; rows = omega arith; column = omega arith; columns = omega arith }
 

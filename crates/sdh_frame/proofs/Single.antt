@@ -20,7 +20,7 @@ pub read_payload : (n au j : ℕ) (s : List ℕ) → j < 2349 → get_or s (inde
 unfolding payload_of
 read_payload n au j s h = sym (get_or-cells _ 2349 j 0 h)
 
-read_pointer : (n au j : ℕ) (s : List ℕ) → j < 9 → get_or s (index_of n (place_of_pointer n au j)) 0 ≡ get_or (pointers_of n au s) j 0
+pub read_pointer : (n au j : ℕ) (s : List ℕ) → j < 9 → get_or s (index_of n (place_of_pointer n au j)) 0 ≡ get_or (pointers_of n au s) j 0
 unfolding pointers_of
 read_pointer n au j s h = sym (get_or-cells _ 9 j 0 h)
 

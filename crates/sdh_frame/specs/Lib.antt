@@ -4,3 +4,4 @@ pub mod Lending
 pub mod Aus
 pub mod PlaceLaws
 pub mod AuLaws
+pub mod Columns

@@ -1,99 +1,91 @@
-//! The AU-4s of a frame, read and written in place. The loops have the strides of each rate as literals.
-ghost use Rattle.std.specs.Prelude.{◌≡◌, ℕ, ◌+◌, ◌*◌, ◌-◌, ◌/◌, ◌%◌, ◌<◌, ◌≤◌, length, slice_index, replicate, if◌then◌else◌};
+//! The AU-4s of a frame, written in place. The loops are code of their own for each rate, in which N is a constant.
+ghost use Rattle.std.specs.Prelude.{◌≡◌, ◌+◌, ◌*◌, ◌-◌, ◌/◌, ◌%◌, ◌<◌, ◌≤◌, ◌⊎◌, length, slice_index, replicate};
 ghost use Rattle.sdh_frame.specs.Sizes.{size_of};
 ghost use Rattle.sdh_terms.specs.Rates.{n_of};
-ghost use Rattle.sdh_frame.specs.Fields.{index_of, payload_place};
-ghost use Rattle.sdh_frame.specs.Aus.{payload_of, pointers_of, with_payload, with_pointers, with_au, ones, is_payload, is_pointer};
+ghost use Rattle.sdh_frame.specs.Columns.{HasWritten};
+ghost use Rattle.sdh_frame.specs.Aus.{payload_of, with_payload, with_pointers, with_au, ones, is_payload, is_pointer};
 
+use crate::places::byte_of;
 use crate::{FrameBuf, Rate};
 
-// The payload of an AU-4 of another frame becomes that of one of this frame.
-fn copy4(bytes: &mut [u8], to: usize, source: &[u8], from: usize)
-    requires size { length bytes.old ≡ 9720 }
-    requires source_size { length source.now ≡ 9720 }
+// The payload of an AU-4 of another frame becomes that of one of this frame, in row r.
+#[inline(always)]
+fn copy_row<const N: usize>(bytes: &mut [u8], to: usize, source: &[u8], from: usize, r: usize)
+    requires rate { (N ≡ 4) ⊎ (N ≡ 16) }
+    requires size { length bytes.old ≡ 2430 * N }
+    requires source_size { length source.now ≡ 2430 * N }
     requires to_low { 1 ≤ to }
-    requires to_high { to ≤ 4 }
+    requires to_high { to ≤ N }
     requires from_low { 1 ≤ from }
-    requires from_high { from ≤ 4 }
-    ensures { (i : ℕ) → i < 9720 → slice_index bytes.new i ≡ (if is_payload 4 to i then slice_index source.now (i - to + from) else slice_index bytes.old i) }
+    requires from_high { from ≤ N }
+    requires row { r < 9 }
+    ensures { HasWritten N (270 * r) (270 * r + 270) (is_payload N to) (λ i. slice_index source.now (i - to + from)) bytes.old bytes.new }
 {
-    for r in 0..9 {
-        let at = r * 1080 + 35;
-        for c in 0..261 {
-            let i = at + c * 4;
-            bytes[i + to] = source[i + from];
-        }
+    for column in 270 * r + 9..270 * r + 270 {
+        let i = byte_of::<N>(column) - 1;
+        bytes[i + to] = source[i + from];
     }
 }
 
-fn fill4(bytes: &mut [u8], au: usize)
-    requires size { length bytes.old ≡ 9720 }
+// The payload of an AU-4 becomes ones, in row r.
+#[inline(always)]
+fn fill_row<const N: usize>(bytes: &mut [u8], au: usize, r: usize)
+    requires rate { (N ≡ 4) ⊎ (N ≡ 16) }
+    requires size { length bytes.old ≡ 2430 * N }
     requires low { 1 ≤ au }
-    requires high { au ≤ 4 }
-    ensures { (i : ℕ) → i < 9720 → slice_index bytes.new i ≡ (if is_payload 4 au i then 0xFF else slice_index bytes.old i) }
+    requires high { au ≤ N }
+    requires row { r < 9 }
+    ensures { HasWritten N (270 * r) (270 * r + 270) (is_payload N au) (λ i. 0xFF) bytes.old bytes.new }
 {
-    for r in 0..9 {
-        let at = r * 1080 + 35 + au;
-        for c in 0..261 {
-            bytes[at + c * 4] = 0xFF;
-        }
+    for column in 270 * r + 9..270 * r + 270 {
+        let i = byte_of::<N>(column) - 1;
+        bytes[i + au] = 0xFF;
     }
 }
 
-fn point4(bytes: &mut [u8], au: usize, pointers: &[u8])
-    requires size { length bytes.old ≡ 9720 }
+// In all rows. In the callers' code N is a constant.
+#[inline(always)]
+fn copy_rows<const N: usize>(bytes: &mut [u8], to: usize, source: &[u8], from: usize)
+    requires rate { (N ≡ 4) ⊎ (N ≡ 16) }
+    requires size { length bytes.old ≡ 2430 * N }
+    requires source_size { length source.now ≡ 2430 * N }
+    requires to_low { 1 ≤ to }
+    requires to_high { to ≤ N }
+    requires from_low { 1 ≤ from }
+    requires from_high { from ≤ N }
+    ensures { HasWritten N 0 2430 (is_payload N to) (λ i. slice_index source.now (i - to + from)) bytes.old bytes.new }
+{
+    for r in 0..9 {
+        copy_row::<N>(bytes, to, source, from, r);
+    }
+}
+
+#[inline(always)]
+fn fill_rows<const N: usize>(bytes: &mut [u8], au: usize)
+    requires rate { (N ≡ 4) ⊎ (N ≡ 16) }
+    requires size { length bytes.old ≡ 2430 * N }
+    requires low { 1 ≤ au }
+    requires high { au ≤ N }
+    ensures { HasWritten N 0 2430 (is_payload N au) (λ i. 0xFF) bytes.old bytes.new }
+{
+    for r in 0..9 {
+        fill_row::<N>(bytes, au, r);
+    }
+}
+
+// The pointer bytes of an AU-4.
+#[inline(always)]
+fn put_pointer<const N: usize>(bytes: &mut [u8], au: usize, pointers: &[u8])
+    requires rate { (N ≡ 4) ⊎ (N ≡ 16) }
+    requires size { length bytes.old ≡ 2430 * N }
     requires pointers { length pointers.now ≡ 9 }
     requires low { 1 ≤ au }
-    requires high { au ≤ 4 }
-    ensures { (i : ℕ) → i < 9720 → slice_index bytes.new i ≡ (if is_pointer 4 au i then slice_index pointers.now (i % 1080 / 4) else slice_index bytes.old i) }
+    requires high { au ≤ N }
+    ensures { HasWritten N 0 2430 (is_pointer N au) (λ i. slice_index pointers.now (i % (270 * N) / N)) bytes.old bytes.new }
 {
     for p in 0..9 {
-        bytes[3239 + p * 4 + au] = pointers[p];
-    }
-}
-
-// The payload of an AU-4 of another frame becomes that of one of this frame.
-fn copy16(bytes: &mut [u8], to: usize, source: &[u8], from: usize)
-    requires size { length bytes.old ≡ 38880 }
-    requires source_size { length source.now ≡ 38880 }
-    requires to_low { 1 ≤ to }
-    requires to_high { to ≤ 16 }
-    requires from_low { 1 ≤ from }
-    requires from_high { from ≤ 16 }
-    ensures { (i : ℕ) → i < 38880 → slice_index bytes.new i ≡ (if is_payload 16 to i then slice_index source.now (i - to + from) else slice_index bytes.old i) }
-{
-    for r in 0..9 {
-        let at = r * 4320 + 143;
-        for c in 0..261 {
-            let i = at + c * 16;
-            bytes[i + to] = source[i + from];
-        }
-    }
-}
-
-fn fill16(bytes: &mut [u8], au: usize)
-    requires size { length bytes.old ≡ 38880 }
-    requires low { 1 ≤ au }
-    requires high { au ≤ 16 }
-    ensures { (i : ℕ) → i < 38880 → slice_index bytes.new i ≡ (if is_payload 16 au i then 0xFF else slice_index bytes.old i) }
-{
-    for r in 0..9 {
-        let at = r * 4320 + 143 + au;
-        for c in 0..261 {
-            bytes[at + c * 16] = 0xFF;
-        }
-    }
-}
-
-fn point16(bytes: &mut [u8], au: usize, pointers: &[u8])
-    requires size { length bytes.old ≡ 38880 }
-    requires pointers { length pointers.now ≡ 9 }
-    requires low { 1 ≤ au }
-    requires high { au ≤ 16 }
-    ensures { (i : ℕ) → i < 38880 → slice_index bytes.new i ≡ (if is_pointer 16 au i then slice_index pointers.now (i % 4320 / 16) else slice_index bytes.old i) }
-{
-    for p in 0..9 {
-        bytes[12959 + p * 16 + au] = pointers[p];
+        let i = byte_of::<N>(810 + p) - 1;
+        bytes[i + au] = pointers[p];
     }
 }
 
@@ -108,8 +100,8 @@ fn copy(rate: Rate, bytes: &mut [u8], to: usize, source: &[u8], from: usize)
     ensures { bytes.new ≡ with_payload (n_of rate) to (payload_of (n_of rate) from source.now) bytes.old }
 {
     match rate {
-        Rate::Four => copy4(bytes, to, source, from),
-        Rate::Sixteen => copy16(bytes, to, source, from),
+        Rate::Four => copy_rows::<4>(bytes, to, source, from),
+        Rate::Sixteen => copy_rows::<16>(bytes, to, source, from),
     }
 }
 
@@ -120,8 +112,8 @@ fn fill(rate: Rate, bytes: &mut [u8], au: usize)
     ensures { bytes.new ≡ with_payload (n_of rate) au (replicate 2349 0xFF) bytes.old }
 {
     match rate {
-        Rate::Four => fill4(bytes, au),
-        Rate::Sixteen => fill16(bytes, au),
+        Rate::Four => fill_rows::<4>(bytes, au),
+        Rate::Sixteen => fill_rows::<16>(bytes, au),
     }
 }
 
@@ -133,21 +125,9 @@ fn point(rate: Rate, bytes: &mut [u8], au: usize, pointers: &[u8])
     ensures { bytes.new ≡ with_pointers (n_of rate) au pointers.now bytes.old }
 {
     match rate {
-        Rate::Four => point4(bytes, au, pointers),
-        Rate::Sixteen => point16(bytes, au, pointers),
+        Rate::Four => put_pointer::<4>(bytes, au, pointers),
+        Rate::Sixteen => put_pointer::<16>(bytes, au, pointers),
     }
-}
-
-#[tactic(auto, using(crate::proofs::Moves::pointed_at))]
-fn pointer_byte(rate: Rate, bytes: &[u8], au: usize, index: usize) -> u8
-    requires size { length bytes.now ≡ size_of rate }
-    requires low { 1 ≤ au }
-    requires high { au ≤ n_of rate }
-    requires index { index < 9 }
-    ensures { result ≡ slice_index (pointers_of (n_of rate) au bytes.now) index }
-{
-    let n = rate.n();
-    bytes[810 * n + (index * n + au - 1)]
 }
 
 impl FrameBuf {
@@ -177,21 +157,6 @@ impl FrameBuf {
         ensures { self.new ≡ record self.old { bytes = with_pointers (n_of self.old.rate) au pointers.now self.old.bytes } }
     {
         point(self.rate, self.bytes.as_mut_slice(), au as usize, pointers);
-    }
-
-    /// A pointer byte of an AU-4, by its index 0 to 8.
-    pub fn pointer(&self, au: u16, index: u16) -> u8
-        requires first { 1 ≤ au }
-        requires last { au ≤ n_of self.now.rate }
-        requires index { index < 9 }
-        ensures { result ≡ slice_index (pointers_of (n_of self.now.rate) au self.now.bytes) index }
-    {
-        pointer_byte(
-            self.rate,
-            self.bytes.as_slice(),
-            au as usize,
-            index as usize,
-        )
     }
 
     /// All bytes of an AU-4 become ones, as AU-AIS.

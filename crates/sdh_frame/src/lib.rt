@@ -19,6 +19,7 @@ pub use laws::{
     payload_places_have_one_index, pointer_places_have_one_index, writing_all_aus_keeps_overhead,
     writing_an_au_keeps_the_rest, writing_one_list_writes_the_au,
 };
+use places::index_in;
 pub use places::{au_place, place_of, pointer_place};
 pub use sdh_terms::Rate;
 use std::alloc::{AllocError, Global};
@@ -78,19 +79,6 @@ impl fmt::Debug for FrameBuf {
     fn fmt<W: fmt::Write>(&self, f: &mut fmt::Formatter<W>) -> fmt::Result {
         write!(f, "FrameBuf({:?}, {} bytes)", self.rate, self.bytes.len())
     }
-}
-
-// The index of a place among the bytes of a frame.
-fn index_in(rate: Rate, place: Place) -> usize
-    requires row { 1 ≤ place.row }
-    requires rows { place.row ≤ 9 }
-    requires column { 1 ≤ place.column }
-    requires columns { place.column ≤ 270 * n_of rate }
-    ensures index { result ≡ index_of (n_of rate) place }
-    ensures within { result < size_of rate }
-{
-    let width = 270 * rate.n();
-    (place.row as usize - 1) * width + (place.column as usize - 1)
 }
 
 impl FrameBuf {

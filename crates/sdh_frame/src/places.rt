@@ -1,7 +1,8 @@
-//! The places of fields.
-ghost use Rattle.std.specs.Prelude.{◌≡◌, ◌*◌, ◌<◌, ◌≤◌};
+//! The places of fields, and the indexes of places among the bytes of a frame.
+ghost use Rattle.std.specs.Prelude.{◌≡◌, ◌+◌, ◌*◌, ◌<◌, ◌≤◌, ◌⊎◌};
+ghost use Rattle.sdh_frame.specs.Sizes.{size_of};
 ghost use Rattle.sdh_terms.specs.Rates.{n_of};
-ghost use Rattle.sdh_frame.specs.Fields.{field_at, payload_place, place_of_pointer};
+ghost use Rattle.sdh_frame.specs.Fields.{index_of, field_at, payload_place, place_of_pointer};
 
 use crate::{Field, Place, Rate};
 
@@ -59,4 +60,53 @@ pub fn pointer_place(rate: Rate, au: u16, index: u16) -> Place
         row: 4,
         column: index * n + au,
     }
+}
+
+// The index of a place among the bytes of a frame.
+pub(crate) fn index_in(rate: Rate, place: Place) -> usize
+    requires row { 1 ≤ place.row }
+    requires rows { place.row ≤ 9 }
+    requires column { 1 ≤ place.column }
+    requires columns { place.column ≤ 270 * n_of rate }
+    ensures index { result ≡ index_of (n_of rate) place }
+    ensures within { result < size_of rate }
+{
+    let width = 270 * rate.n();
+    (place.row as usize - 1) * width + (place.column as usize - 1)
+}
+
+// The index of a payload byte of an AU-4.
+pub(crate) fn payload_index(rate: Rate, au: u16, index: u16) -> usize
+    requires first { 1 ≤ au }
+    requires last { au ≤ n_of rate }
+    requires index { index < 2349 }
+    ensures place { result ≡ index_of (n_of rate) (payload_place (n_of rate) au index) }
+    ensures within { result < size_of rate }
+{
+    let place = au_place(rate, au, index);
+    index_in(rate, place)
+}
+
+// The index of a pointer byte.
+pub(crate) fn pointer_index(rate: Rate, au: u16, index: u16) -> usize
+    requires first { 1 ≤ au }
+    requires last { au ≤ n_of rate }
+    requires index { index < 9 }
+    ensures place { result ≡ index_of (n_of rate) (place_of_pointer (n_of rate) au index) }
+    ensures within { result < size_of rate }
+{
+    let place = pointer_place(rate, au, index);
+    index_in(rate, place)
+}
+
+// The first byte of a column, counted from 0 through all rows.
+#[inline(always)]
+pub(crate) fn byte_of<const N: usize>(column: usize) -> usize
+    requires rate { (N ≡ 4) ⊎ (N ≡ 16) }
+    requires few { column < 2430 }
+    ensures place { result ≡ N * column }
+    ensures some { column ≤ result }
+    ensures within { result + N ≤ 2430 * N }
+{
+    N * column
 }

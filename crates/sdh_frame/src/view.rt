@@ -3,10 +3,10 @@ ghost use Rattle.std.specs.Prelude.{◌≡◌, ◌+◌, ◌*◌, ◌-◌, ◌<�
 ghost use Rattle.std.specs.Borrow.{sem};
 ghost use Rattle.sdh_frame.specs.Sizes.{size_of};
 ghost use Rattle.sdh_terms.specs.Rates.{n_of};
-ghost use Rattle.sdh_frame.specs.Fields.{index_of, payload_place, place_of_pointer};
 ghost use Rattle.sdh_frame.specs.Lending.{LendsRow};
 ghost use Rattle.sdh_frame.specs.Aus.{payload_of, pointers_of, with_payload, with_pointers, with_au, ones};
 
+use crate::places::{payload_index, pointer_index};
 use crate::{FrameBuf, Rate};
 
 /// An AU-4 of a frame, to be read.
@@ -27,38 +27,6 @@ pub struct AuViewMut<'a> {
     ghost last: { au ≤ n_of frame.now.rate },
 }
 
-// The index of a payload byte among the bytes of its frame.
-fn payload_index(rate: Rate, au: u16, index: u16) -> usize
-    requires first { 1 ≤ au }
-    requires last { au ≤ n_of rate }
-    requires index { index < 2349 }
-    ensures place { result ≡ index_of (n_of rate) (payload_place (n_of rate) au index) }
-    ensures within { result < size_of rate }
-{
-    let j = index as usize;
-    let au = au as usize;
-    match rate {
-        Rate::Four => j / 261 * 1080 + (35 + (j % 261 * 4 + au)),
-        Rate::Sixteen => j / 261 * 4320 + (143 + (j % 261 * 16 + au)),
-    }
-}
-
-// The index of a pointer byte.
-fn pointer_index(rate: Rate, au: u16, index: u16) -> usize
-    requires first { 1 ≤ au }
-    requires last { au ≤ n_of rate }
-    requires index { index < 9 }
-    ensures place { result ≡ index_of (n_of rate) (place_of_pointer (n_of rate) au index) }
-    ensures within { result < size_of rate }
-{
-    let p = index as usize;
-    let au = au as usize;
-    match rate {
-        Rate::Four => 3239 + (p * 4 + au),
-        Rate::Sixteen => 12959 + (p * 16 + au),
-    }
-}
-
 #[tactic(auto, using(crate::proofs::Single::read_payload))]
 fn payload_byte(rate: Rate, bytes: &[u8], au: u16, index: u16) -> u8
     requires size { length bytes.now ≡ size_of rate }
@@ -68,6 +36,17 @@ fn payload_byte(rate: Rate, bytes: &[u8], au: u16, index: u16) -> u8
     ensures { result ≡ slice_index (payload_of (n_of rate) au bytes.now) index }
 {
     bytes[payload_index(rate, au, index)]
+}
+
+#[tactic(auto, using(crate::proofs::Single::read_pointer))]
+fn pointer_byte(rate: Rate, bytes: &[u8], au: u16, index: u16) -> u8
+    requires size { length bytes.now ≡ size_of rate }
+    requires first { 1 ≤ au }
+    requires last { au ≤ n_of rate }
+    requires index { index < 9 }
+    ensures { result ≡ slice_index (pointers_of (n_of rate) au bytes.now) index }
+{
+    bytes[pointer_index(rate, au, index)]
 }
 
 fn put_payload_byte(rate: Rate, bytes: &mut [u8], au: u16, index: u16, value: u8)
@@ -91,6 +70,16 @@ fn put_pointer_byte(rate: Rate, bytes: &mut [u8], au: u16, index: u16, value: u8
 }
 
 impl FrameBuf {
+    /// A pointer byte of an AU-4, by its index 0 to 8.
+    pub fn pointer(&self, au: u16, index: u16) -> u8
+        requires first { 1 ≤ au }
+        requires last { au ≤ n_of self.now.rate }
+        requires index { index < 9 }
+        ensures { result ≡ slice_index (pointers_of (n_of self.now.rate) au self.now.bytes) index }
+    {
+        pointer_byte(self.rate, self.bytes.as_slice(), au, index)
+    }
+
     fn payload_at(&self, au: u16, index: u16) -> u8
         requires first { 1 ≤ au }
         requires last { au ≤ n_of self.now.rate }

@@ -1,0 +1,18 @@
+use Rattle.std.proofs.Common.{◌≡◌, ℕ, ◌+◌, ◌*◌, ◌-◌, ◌<◌, ◌≤◌, get_or, subst, arith}
+use Rattle.sdh_frame.specs.Aus.{is_payload}
+use Rattle.sdh_frame.specs.Columns.{HasWritten}
+use Rattle.sdh_frame.proofs.ByColumns.{none_written, then_written}
+use Rattle.sdh_frame.proofs.au.fill_rows.Goals as goal
+
+pub loop-r-init : goal.loop-r-init
+loop-r-init g c = none_written g.row.N (is_payload g.row.N c.args.au) (λ i. 0xFF) 0 (270 * 0) c.args.bytes.now (λ i low high. absurd (omega arith))
+
+pub loop-r-preserved : goal.loop-r-preserved
+loop-r-preserved g c =
+    let r = c.loop-r.r in
+    then_written g.row.N (is_payload g.row.N c.args.au) (λ i. 0xFF) 0 (270 * r) (270 * r + 270) (270 * (r + 1)) c.args.bytes.now c.loop-r.bytes c.fill_row.new.bytes (omega arith) (omega arith) (omega arith) c.loop-r.invariant c.fill_row.ensures
+
+pub returns : goal.returns
+returns g c =
+    let end : 270 * c.loop-r.r ≡ 2430 = omega arith in
+    subst (λ m. HasWritten g.row.N 0 m (is_payload g.row.N c.args.au) (λ i. 0xFF) c.args.bytes.now c.loop-r.bytes) end c.loop-r.invariant
