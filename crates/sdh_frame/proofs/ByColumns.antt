@@ -75,14 +75,14 @@ module _ (n : ℕ) (is_meant : ℕ → Bool) (value : ℕ → ℕ) where
   pub none_written : (from to : ℕ) (old : List ℕ) → ((i : ℕ) → from ≤ i / n → i / n < to → is_meant i ≡ false) → HasWritten n from to is_meant value old old
   none_written from to old none = record { inside = λ i low high. (let f = none i low high in rw f refl); before = λ i h. refl; behind = λ i h. refl }
 
-  pub then_written : (a b e to : ℕ) (old mid new : List ℕ) → a ≤ b → b ≤ e → e ≡ to → HasWritten n a b is_meant value old mid → HasWritten n b e is_meant value mid new → HasWritten n a to is_meant value old new
-  then_written a b e to old mid new front back is first then = record {
+  pub further_written : (a b e to : ℕ) (old mid new : List ℕ) → a ≤ b → b ≤ e → e ≡ to → HasWritten n a b is_meant value old mid → HasWritten n b e is_meant value mid new → HasWritten n a to is_meant value old new
+  further_written a b e to old mid new front back is first further = record {
     inside = λ i low high. elim (cases_lt (i / n) b) [
-      | inl h ↦ then.before i h ∙ first.inside i low h
-      | inr h ↦ then.inside i h (omega arith) ∙ ap (λ (x : ℕ). if is_meant i then value i else x) (first.behind i h)
+      | inl h ↦ further.before i h ∙ first.inside i low h
+      | inr h ↦ further.inside i h (omega arith) ∙ ap (λ (x : ℕ). if is_meant i then value i else x) (first.behind i h)
     ];
-    before = λ i h. then.before i (omega arith) ∙ first.before i h;
-    behind = λ i h. then.behind i (omega arith) ∙ first.behind i (omega arith);
+    before = λ i h. further.before i (omega arith) ∙ first.before i h;
+    behind = λ i h. further.behind i (omega arith) ∙ first.behind i (omega arith);
   }
 
   -- the byte of an AU-4 in one column

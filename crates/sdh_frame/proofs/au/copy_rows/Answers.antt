@@ -1,7 +1,7 @@
 use Rattle.std.proofs.Common.{◌≡◌, ℕ, ◌+◌, ◌*◌, ◌-◌, ◌<◌, ◌≤◌, get_or, subst, arith}
 use Rattle.sdh_frame.specs.Aus.{is_payload}
 use Rattle.sdh_frame.specs.Columns.{HasWritten}
-use Rattle.sdh_frame.proofs.ByColumns.{none_written, then_written}
+use Rattle.sdh_frame.proofs.ByColumns.{none_written, further_written}
 use Rattle.sdh_frame.proofs.au.copy_rows.Goals as goal
 
 pub loop-r-init : goal.loop-r-init
@@ -10,7 +10,7 @@ loop-r-init g c = none_written g.row.N (is_payload g.row.N c.args.to) (λ i. get
 pub loop-r-preserved : goal.loop-r-preserved
 loop-r-preserved g c =
     let r = c.loop-r.r in
-    then_written g.row.N (is_payload g.row.N c.args.to) (λ i. get_or c.args.source.now (i - c.args.to + c.args.from) 0) 0 (270 * r) (270 * r + 270) (270 * (r + 1)) c.args.bytes.now c.loop-r.bytes c.copy_row.new.bytes (omega arith) (omega arith) (omega arith) c.loop-r.invariant c.copy_row.ensures
+    further_written g.row.N (is_payload g.row.N c.args.to) (λ i. get_or c.args.source.now (i - c.args.to + c.args.from) 0) 0 (270 * r) (270 * r + 270) (270 * (r + 1)) c.args.bytes.now c.loop-r.bytes c.copy_row.new.bytes (omega arith) (omega arith) (omega arith) c.loop-r.invariant c.copy_row.ensures
 
 pub returns : goal.returns
 returns g c =

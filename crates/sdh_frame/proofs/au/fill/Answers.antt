@@ -13,4 +13,4 @@ returns-in-Four c =
 pub returns-in-Sixteen : goal.returns-in-Sixteen
 returns-in-Sixteen c =
     let n : n_of c.args.rate ≡ 16 = ap n_of c.in-Sixteen.is in
-    rw c.in-Sixteen.is (filled Sixteen c.args.au c.args.bytes.now c.fill_rows.new.bytes (omega arith) (omega arith) (omega arith) (λ i lt. c.fill_rows.ensures.inside i (omega arith) (column_small 16 i (inr refl) lt)))
+    rw c.in-Sixteen.is (filled Sixteen c.args.au c.args.bytes.now c.fill_rows-in-Sixteen.new.bytes (omega arith) (omega arith) (omega arith) (λ i lt. c.fill_rows-in-Sixteen.ensures.inside i (omega arith) (column_small 16 i (inr refl) lt)))

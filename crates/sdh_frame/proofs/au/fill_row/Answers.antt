@@ -1,7 +1,7 @@
 use Rattle.std.proofs.Common.{◌≡◌, ℕ, ◌+◌, ◌*◌, ◌-◌, ◌<◌, ◌≤◌, length, get_or, set, refl, ap, subst, arith}
 use Rattle.sdh_frame.specs.Aus.{is_payload}
 use Rattle.sdh_frame.specs.Columns.{HasWritten}
-use Rattle.sdh_frame.proofs.ByColumns.{head_is_none, body_is, none_written, then_written, one_written}
+use Rattle.sdh_frame.proofs.ByColumns.{head_is_none, body_is, none_written, further_written, one_written}
 use Rattle.sdh_frame.proofs.au.fill_row.Goals as goal
 
 pub loop-column-init : goal.loop-column-init
@@ -16,12 +16,12 @@ loop-column-preserved g c =
     let r = c.args.r in
     let column = c.loop-column.column in
     let mid = c.loop-column.bytes in
-    let w : ℕ = c.byte_of.result - 1 + c.args.au in
+    let w : ℕ = c.byte_of-i.result - 1 + c.args.au in
     let low : 270 * r + 9 ≤ column = omega arith in
     let high : column < 270 * r + 270 = omega arith in
-    let place : w + 1 ≡ n * column + c.args.au = omega (arith, c.byte_of.ensures.place, c.byte_of.ensures.some) in
-    let inside : w < length mid = omega (arith, c.byte_of.ensures.within, c.byte_of.ensures.some, c.requires.high) in
-    then_written n (is_payload n c.args.au) (λ i. 0xFF) (270 * r) column (column + 1) (column + 1) c.args.bytes.now mid (set mid w (0xFF)) (omega arith) (omega arith) refl c.loop-column.invariant
+    let place : w + 1 ≡ n * column + c.args.au = omega (arith, c.byte_of-i.ensures.place, c.byte_of-i.ensures.some) in
+    let inside : w < length mid = omega (arith, c.byte_of-i.ensures.within, c.byte_of-i.ensures.some, c.requires.high) in
+    further_written n (is_payload n c.args.au) (λ i. 0xFF) (270 * r) column (column + 1) (column + 1) c.args.bytes.now mid (set mid w (0xFF)) (omega arith) (omega arith) refl c.loop-column.invariant
     (one_written n (is_payload n c.args.au) (λ i. 0xFF) column c.args.au w (0xFF) mid c.requires.rate c.requires.low c.requires.high (λ i e. body_is n c.args.au r column i c.requires.rate low high e) place inside refl)
 
 pub returns : goal.returns

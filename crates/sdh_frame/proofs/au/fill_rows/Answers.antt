@@ -1,7 +1,7 @@
 use Rattle.std.proofs.Common.{◌≡◌, ℕ, ◌+◌, ◌*◌, ◌-◌, ◌<◌, ◌≤◌, get_or, subst, arith}
 use Rattle.sdh_frame.specs.Aus.{is_payload}
 use Rattle.sdh_frame.specs.Columns.{HasWritten}
-use Rattle.sdh_frame.proofs.ByColumns.{none_written, then_written}
+use Rattle.sdh_frame.proofs.ByColumns.{none_written, further_written}
 use Rattle.sdh_frame.proofs.au.fill_rows.Goals as goal
 
 pub loop-r-init : goal.loop-r-init
@@ -10,7 +10,7 @@ loop-r-init g c = none_written g.row.N (is_payload g.row.N c.args.au) (λ i. 0xF
 pub loop-r-preserved : goal.loop-r-preserved
 loop-r-preserved g c =
     let r = c.loop-r.r in
-    then_written g.row.N (is_payload g.row.N c.args.au) (λ i. 0xFF) 0 (270 * r) (270 * r + 270) (270 * (r + 1)) c.args.bytes.now c.loop-r.bytes c.fill_row.new.bytes (omega arith) (omega arith) (omega arith) c.loop-r.invariant c.fill_row.ensures
+    further_written g.row.N (is_payload g.row.N c.args.au) (λ i. 0xFF) 0 (270 * r) (270 * r + 270) (270 * (r + 1)) c.args.bytes.now c.loop-r.bytes c.fill_row.new.bytes (omega arith) (omega arith) (omega arith) c.loop-r.invariant c.fill_row.ensures
 
 pub returns : goal.returns
 returns g c =

@@ -13,4 +13,4 @@ returns-in-Four c =
 pub returns-in-Sixteen : goal.returns-in-Sixteen
 returns-in-Sixteen c =
     let n : n_of c.args.rate ≡ 16 = ap n_of c.in-Sixteen.is in
-    rw c.in-Sixteen.is (pointed Sixteen c.args.au c.args.bytes.now c.put_pointer.new.bytes (omega arith) (omega arith) (omega arith) c.args.pointers.now (λ i lt. c.put_pointer.ensures.inside i (omega arith) (column_small 16 i (inr refl) lt)))
+    rw c.in-Sixteen.is (pointed Sixteen c.args.au c.args.bytes.now c.put_pointer-in-Sixteen.new.bytes (omega arith) (omega arith) (omega arith) c.args.pointers.now (λ i lt. c.put_pointer-in-Sixteen.ensures.inside i (omega arith) (column_small 16 i (inr refl) lt)))
