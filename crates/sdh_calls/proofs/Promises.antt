@@ -20,7 +20,8 @@ use Rattle.sdh_calls.specs.Outcome.{IsRunOutcome, OfListing, OfBytes, MayEnd}
 use Rattle.sdh_calls.specs.Headline.{Shows, EndsAs, Settles}
 
 -- with the status of a script that came to its end goes the whole text
-whole : (may : Status → List ℕ → Type 0) (how : Status) (old new : Option (List ℕ)) → HasRun how → Writes may how old new → (text : List ℕ) × may how text × Appends old new text
+whole : (may : Status → List ℕ → Type 0) (how : Status) (old new : Option (List ℕ)) → HasRun how → Writes may how old new
+    → (text : List ℕ) × may how text × Appends old new text
 whole may status.Ok old new h x = x
 whole may (status.Unsettled k) old new h x = x
 whole may status.PlantFault old new h x = x
@@ -41,29 +42,36 @@ module _ {A L T : Type 0} (program : Program A L T) (ask : A) (f left : Fibres) 
     pub listing_is : program.listing_of ask plan ≡ Some listing
     pub outcome : IsRunOutcome program listing plan f how text left
 
-  of_listing : (listing : Option L) (how : Status) (text : List ℕ) (plan : Planned) → program.listing_of ask plan ≡ listing → HasRun how → OfListing program listing plan f how text left → Ran plan how text
+  of_listing : (listing : Option L) (how : Status) (text : List ℕ) (plan : Planned) → program.listing_of ask plan ≡ listing → HasRun how
+      → OfListing program listing plan f how text left → Ran plan how text
   of_listing None how text plan is h x = absurd (subst HasRun x.0 h)
   of_listing (Some listing) how text plan is h x = record { listing = listing; listing_is = is; outcome = x }
 
   -- the outcome is that of the run of this plan
-  ran_with : (bytes : List ℕ) (how : Status) (text : List ℕ) (plan : Planned) → HasRun how → TellsPlan bytes plan → OfBytes program ask bytes f how text left → Ran plan how text
+  ran_with : (bytes : List ℕ) (how : Status) (text : List ℕ) (plan : Planned) → HasRun how → TellsPlan bytes plan
+      → OfBytes program ask bytes f how text left → Ran plan how text
   ran_with bytes how text plan h is (inl none) = no_run bytes how _ none.0 h
-  ran_with bytes how text plan h is (inr x) = subst (λ p. Ran p how text) (one_plan bytes x.0 plan x.1 is) (of_listing (program.listing_of ask x.0) how text x.0 refl h x.2)
+  ran_with bytes how text plan h is (inr x) =
+      subst (λ p. Ran p how text) (one_plan bytes x.0 plan x.1 is) (of_listing (program.listing_of ask x.0) how text x.0 refl h x.2)
 
   -- what is so of each run is shown
-  pub shows : (P : Planned → List T → Status → Type 0) (asked : Option A) (reads calls : Counts) (source : Option (List ℕ)) (how : Status) (old new : Option (List ℕ))
+  pub shows : (P : Planned → List T → Status → Type 0) (asked : Option A) (reads calls : Counts) (source : Option (List ℕ)) (how : Status)
+      (old new : Option (List ℕ))
       → asked ≡ Some ask → ((plan : Planned) (told : List T) → program.IsRunOf plan f told how left → P plan told how)
-      → IfSome (told_if (is_some asked) source) (λ bytes. Writes (λ how text. MayEnd program asked bytes f reads calls how text left) how old new)
+      → IfSome (told_if (is_some asked) source) (λ bytes. Writes
+      (λ how text. MayEnd program asked bytes f reads calls how text left) how old new)
       → IfSome source (λ bytes. Shows program ask P bytes how old new)
   shows P asked reads calls source how old new is so outcome =
       told_all source _ _ (λ bytes x plan tells h.
       let w = whole (λ how text. MayEnd program (Some ask) bytes f reads calls how text left) how old new h x in
       let r = ran_with bytes how w.0 plan h tells w.1.0 in
       (r.listing, r.outcome.told, r.listing_is, subst (Appends old new) r.outcome.text_is w.2, so plan r.outcome.told r.outcome.came))
-      (subst (λ a. IfSome (told_if (is_some a) source) (λ bytes. Writes (λ how text. MayEnd program a bytes f reads calls how text left) how old new)) is outcome)
+      (subst (λ a. IfSome (told_if (is_some a) source) (λ bytes. Writes
+      (λ how text. MayEnd program a bytes f reads calls how text left) how old new)) is outcome)
 
   -- so no call tells of an unsettled step
-  pub settles : (bytes : List ℕ) (how : Status) (old new : Option (List ℕ)) → Shows program ask (SettlesLarge T) bytes how old new → Settles bytes how
+  pub settles : (bytes : List ℕ) (how : Status) (old new : Option (List ℕ)) → Shows program ask (SettlesLarge T) bytes how old new
+      → Settles bytes how
   settles bytes how old new x plan tells large k e = (x plan tells (subst HasRun (sym e) tt)).4 large k e
 
   pub ends_as : (Known : Planned → Type 0) (ending : Planned → Status) (bytes : List ℕ) (how : Status) (old new : Option (List ℕ))

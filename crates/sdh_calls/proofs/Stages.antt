@@ -15,7 +15,8 @@ use Rattle.sdh_calls.specs.Headline.{MayGo, MayBeDone}
 
 module _ {A L T : Type 0} (program : Program A L T) where
   -- how it ends, whatever is listed
-  listing_ends : (listing : Option L) (plan : Planned) (f left : Fibres) (how : Status) (text : List ℕ) → OfListing program listing plan f how text left → Ends how
+  listing_ends : (listing : Option L) (plan : Planned) (f left : Fibres) (how : Status) (text : List ℕ)
+      → OfListing program listing plan f how text left → Ends how
   listing_ends None plan f left how text x = inr x.0
   listing_ends (Some listing) plan f left how text x = inl (program.ends plan f left x.told how x.came)
 
@@ -29,16 +30,19 @@ module _ {A L T : Type 0} (program : Program A L T) (ask : A) where
   -- ---- with the bytes of a source
 
   -- the plan that was read is the one with which all is given
-  pub read_may_go : (left : Option (List ℕ)) (plan : Planned) (f : Fibres) → IfSome left (λ bytes. TellsPlan bytes plan) → MayBeDone program ask left f → MayGo program ask plan f
+  pub read_may_go : (left : Option (List ℕ)) (plan : Planned) (f : Fibres) → IfSome left (λ bytes. TellsPlan bytes plan)
+      → MayBeDone program ask left f → MayGo program ask plan f
   read_may_go None plan f is x = absurd x
   read_may_go (Some bytes) plan f is x = subst (λ p. MayGo program ask p f) (one_plan bytes x.0 plan x.1 is) x.2
 
   -- ---- with the words
 
   module _ (a : Option A) (is : a ≡ Some ask) where
-    pub asked_outcome : (left : Option (List ℕ)) (f after : Fibres) (how : Status) (text : List ℕ) → IfSome left (λ bytes. OfBytes program ask bytes f how text after)
+    pub asked_outcome : (left : Option (List ℕ)) (f after : Fibres) (how : Status) (text : List ℕ)
+        → IfSome left (λ bytes. OfBytes program ask bytes f how text after)
         → IfSome (told_if (is_some a) left) (λ bytes. IsOutcome program a bytes f how text after)
-    asked_outcome left f after how text x = subst (λ b. IfSome (told_if (is_some b) left) (λ bytes. IsOutcome program b bytes f how text after)) (sym is) x
+    asked_outcome left f after how text x =
+        subst (λ b. IfSome (told_if (is_some b) left) (λ bytes. IsOutcome program b bytes f how text after)) (sym is) x
 
     pub no_usage : (how : Status) → how ≢ status.Usage → (how ≡ status.Usage) ↔ (a ≡ None)
     no_usage how other = (λ e. absurd (other e), λ none. absurd (grind arith))

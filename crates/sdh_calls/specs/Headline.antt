@@ -14,13 +14,16 @@ use Rattle.sdh_calls.specs.Programs.{Program}
 
 -- What was written is what is listed of what is told of settle steps, and the last line; and what is told, and how it ended, is
 -- what `P` says of the plan.
-abbrev pub Shows : {A L T : Type 0} → Program A L T → A → (Planned → List T → Status → Type 0) → List ℕ → Status → Option (List ℕ) → Option (List ℕ) → Type 0
+abbrev pub Shows : {A L T : Type 0} → Program A L T → A → (Planned → List T → Status → Type 0) → List ℕ → Status → Option (List ℕ)
+    → Option (List ℕ) → Type 0
 Shows {L = L} {T = T} program ask P bytes how old new = (plan : Planned) → TellsPlan bytes plan → HasRun how
-    → (listing : L) × (told : List T) × (program.listing_of ask plan ≡ Some listing) × Appends old new (program.text_of listing told ++ last_line how) × P plan told how
+    → (listing : L) × (told : List T) × (program.listing_of ask plan ≡ Some listing)
+    × Appends old new (program.text_of listing told ++ last_line how) × P plan told how
 
 -- where so much is known of the plan it ended as told, or a plant's call failed
 abbrev pub EndsAs : (Planned → Type 0) → (Planned → Status) → List ℕ → Status → Type 0
-EndsAs Known ending bytes how = (plan : Planned) → TellsPlan bytes plan → HasRun how → Known plan → (how ≡ ending plan) ⊎ (how ≡ status.PlantFault)
+EndsAs Known ending bytes how =
+    (plan : Planned) → TellsPlan bytes plan → HasRun how → Known plan → (how ≡ ending plan) ⊎ (how ≡ status.PlantFault)
 
 -- with so large a limit no settle step is unsettled
 abbrev pub Settles : List ℕ → Status → Type 0

@@ -15,7 +15,8 @@ use Rattle.sdh_calls.specs.Programs.{Program}
 -- ---- with a plan
 
 -- A plan was run over new fibres: the text is what is listed of what is told of its settle steps, and the last line.
-pub record IsRunOutcome {A L T : Type 0} (program : Program A L T) (listing : L) (plan : Planned) (f : Fibres) (how : Status) (text : List ℕ) (left : Fibres) : Type 0 where
+pub record IsRunOutcome {A L T : Type 0} (program : Program A L T) (listing : L) (plan : Planned) (f : Fibres) (how : Status)
+    (text : List ℕ) (left : Fibres) : Type 0 where
   pub told : List T
   pub text_is : text ≡ program.text_of listing told ++ last_line how
   pub came : program.IsRunOf plan f told how left
@@ -34,7 +35,8 @@ OfPlan program ask plan f how text left = OfListing program (program.listing_of 
 -- there is no plan, the last line is all of the text, and the fibres are left alone; or what is asked comes to this with the plan
 abbrev pub OfBytes : {A L T : Type 0} → Program A L T → A → List ℕ → Fibres → Status → List ℕ → Fibres → Type 0
 OfBytes program ask bytes f how text left =
-    (HasNoPlan bytes how × Says (last_line how) text f left) ⊎ ((plan : Planned) × TellsPlan bytes plan × OfPlan program ask plan f how text left)
+    (HasNoPlan bytes how × Says (last_line how) text f left)
+    ⊎ ((plan : Planned) × TellsPlan bytes plan × OfPlan program ask plan f how text left)
 
 -- ---- with the words
 

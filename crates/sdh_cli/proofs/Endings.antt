@@ -12,10 +12,12 @@ use Rattle.sdh_script.specs.Plans.{adm_account}
 use Rattle.sdh_cli.specs.Words.{Ask, Check, listing_of}
 use Rattle.sdh_cli.specs.Outcome.{IsRunOutcome, OfListing, OfPlan}
 
-pub run_ends : (plan : Planned) (listing : Listing) (f left : Fibres) (how : Status) (text : List ℕ) → IsRunOutcome plan listing f how text left → HasRun how
+pub run_ends : (plan : Planned) (listing : Listing) (f left : Fibres) (how : Status) (text : List ℕ)
+    → IsRunOutcome plan listing f how text left → HasRun how
 run_ends plan listing f left how text x = has_run how (ends_of adm_account plan f left how x.reports x.came)
 
-listing_ends : (listing : Option Listing) (plan : Planned) (f left : Fibres) (how : Status) (text : List ℕ) → OfListing listing plan f how text left → Ends how
+listing_ends : (listing : Option Listing) (plan : Planned) (f left : Fibres) (how : Status) (text : List ℕ)
+    → OfListing listing plan f how text left → Ends how
 listing_ends None plan f left how text x = inr x.0
 listing_ends (Some listing) plan f left how text x = inl (run_ends plan listing f left how text x)
 

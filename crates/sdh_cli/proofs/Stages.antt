@@ -16,7 +16,8 @@ use Rattle.sdh_cli.specs.Headline.{MayGo, MayBeDone}
 
 -- ---- a run
 
-pub run_outcome : (plan : Planned) (listing : Listing) (f left : Fibres) (run text : List ℕ) (now how : Status) → how ≡ now → text ≡ run ++ last_line how → Tells plan listing f run now left → IsRunOutcome plan listing f how text left
+pub run_outcome : (plan : Planned) (listing : Listing) (f left : Fibres) (run text : List ℕ) (now how : Status) → how ≡ now
+    → text ≡ run ++ last_line how → Tells plan listing f run now left → IsRunOutcome plan listing f how text left
 run_outcome plan listing f left run text now how is text_is x = record {
   reports = x.reports;
   text_is = text_is ∙ ap (λ l. l ++ last_line how) x.text_is;
@@ -26,7 +27,8 @@ run_outcome plan listing f left run text now how is text_is x = record {
 -- ---- with a plan that is run
 
 module _ (plan : Planned) (listing : Listing) (f : Fibres) where
-  pub run_of_plan : (ask : Ask) (how : Status) (text : List ℕ) (left : Fibres) → listing_of ask plan ≡ Some listing → IsRunOutcome plan listing f how text left → OfPlan ask plan f how text left
+  pub run_of_plan : (ask : Ask) (how : Status) (text : List ℕ) (left : Fibres) → listing_of ask plan ≡ Some listing
+      → IsRunOutcome plan listing f how text left → OfPlan ask plan f how text left
   run_of_plan Run how text left e x = subst (λ o. OfListing o plan f how text left) (sym e) x
   run_of_plan Check how text left e x = absurd (grind arith)
   run_of_plan (Drop name end) how text left e x = subst (λ o. OfListing o plan f how text left) (sym e) x
@@ -47,7 +49,8 @@ module _ (plan : Planned) (listing : Listing) (f : Fibres) where
 -- ---- with the bytes of a source
 
 -- the plan that was read is the one that a run needs
-pub read_may_go : (ask : Ask) (left : Option (List ℕ)) (plan : Planned) (f : Fibres) → ¬ (LeavesSource (Some ask)) → IfSome left (λ bytes. TellsPlan bytes plan) → MayBeDone (Some ask) left f → MayGo ask plan f
+pub read_may_go : (ask : Ask) (left : Option (List ℕ)) (plan : Planned) (f : Fibres) → ¬ (LeavesSource (Some ask))
+    → IfSome left (λ bytes. TellsPlan bytes plan) → MayBeDone (Some ask) left f → MayGo ask plan f
 read_may_go ask None plan f reads is x = absurd x
 read_may_go Run (Some bytes) plan f reads is x = subst (λ p. MayGo Run p f) (one_plan bytes x.0 plan x.1 is) x.2
 read_may_go Check (Some bytes) plan f reads is x = tt
@@ -56,7 +59,8 @@ read_may_go (Big number) (Some bytes) plan f reads is x = absurd (reads tt)
 
 -- ---- with the words
 
-asked_outcome : (ask : Ask) (left : Option (List ℕ)) (f after : Fibres) (how : Status) (text : List ℕ) → ¬ (LeavesSource (Some ask)) → IfSome left (λ bytes. OfBytes ask bytes f how text after)
+asked_outcome : (ask : Ask) (left : Option (List ℕ)) (f after : Fibres) (how : Status) (text : List ℕ) → ¬ (LeavesSource (Some ask))
+    → IfSome left (λ bytes. OfBytes ask bytes f how text after)
     → IfSome (told (Some ask) left) (λ bytes. IsOutcome (Some ask) bytes f how text after)
 asked_outcome Run left f after how text reads x = x
 asked_outcome Check left f after how text reads x = x
@@ -64,8 +68,11 @@ asked_outcome (Drop name end) left f after how text reads x = x
 asked_outcome (Big number) left f after how text reads x = absurd (reads tt)
 
 module _ (a : Option Ask) (ask : Ask) (is : a ≡ Some ask) where
-  pub read_outcome : (left : Option (List ℕ)) (f after : Fibres) (how : Status) (text : List ℕ) → ¬ (LeavesSource (Some ask)) → IfSome left (λ bytes. OfBytes ask bytes f how text after) → IfSome (told a left) (λ bytes. IsOutcome a bytes f how text after)
-  read_outcome left f after how text reads x = subst (λ b. IfSome (told b left) (λ bytes. IsOutcome b bytes f how text after)) (sym is) (asked_outcome ask left f after how text reads x)
+  pub read_outcome : (left : Option (List ℕ)) (f after : Fibres) (how : Status) (text : List ℕ) → ¬ (LeavesSource (Some ask))
+      → IfSome left (λ bytes. OfBytes ask bytes f how text after) → IfSome (told a left) (λ bytes. IsOutcome a bytes f how text after)
+  read_outcome left f after how text reads x =
+      subst (λ b. IfSome (told b left) (λ bytes. IsOutcome b bytes f how text after)) (sym is)
+      (asked_outcome ask left f after how text reads x)
 
   pub no_usage : (how : Status) → how ≢ status.Usage → (how ≡ status.Usage) ↔ (a ≡ None)
   no_usage how other = (λ e. absurd (other e), λ none. absurd (grind arith))

@@ -45,7 +45,8 @@ OfPlan ask plan f how text left = OfListing (listing_of ask plan) plan f how tex
 
 -- what is asked comes to this with these bytes
 abbrev pub OfBytes : Ask → List ℕ → Fibres → Status → List ℕ → Fibres → Type 0
-OfBytes ask bytes f how text left = (HasNoPlan bytes how × Says (last_line how) text f left) ⊎ ((plan : Planned) × TellsPlan bytes plan × OfPlan ask plan f how text left)
+OfBytes ask bytes f how text left =
+    (HasNoPlan bytes how × Says (last_line how) text f left) ⊎ ((plan : Planned) × TellsPlan bytes plan × OfPlan ask plan f how text left)
 
 -- ---- with the words
 

@@ -76,5 +76,6 @@ HasRead (Some ask) left = IsAtEnd left
 abbrev pub listing_of : Ask → Planned → Option Listing
 listing_of Run plan = Some listing.Reports
 listing_of Check plan = None
-listing_of (Drop name end) plan = option_map (λ circuit. listing.Port (record { circuit = circuit; end = end })) (at_port (provisioning_of plan) name)
+listing_of (Drop name end) plan =
+    option_map (λ circuit. listing.Port (record { circuit = circuit; end = end })) (at_port (provisioning_of plan) name)
 listing_of (Big number) plan = Some listing.Counts

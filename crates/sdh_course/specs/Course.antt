@@ -45,42 +45,52 @@ IsLeftOff limit changes end ss = ⊥
 abbrev pub WentThrough : ℕ → ℕ → List (List Change) → List Report → Status → List Stretch → Type 0
 WentThrough limit ran [] reports end ss = ss ≡ []
 WentThrough limit ran (changes ∷ later) [] end ss = IsLeftOff limit changes end ss
-WentThrough limit ran (changes ∷ later) (r ∷ reports) end ss = (rest : List Stretch) × (ss ≡ stretch changes (r.round + 1 - ran) ∷ rest) × WentThrough limit (r.round + 1) later reports end rest
+WentThrough limit ran (changes ∷ later) (r ∷ reports) end ss =
+    (rest : List Stretch) × (ss ≡ stretch changes (r.round + 1 - ran) ∷ rest) × WentThrough limit (r.round + 1) later reports end rest
 
 -- all that was sent is what the rounds of these stretches sent; or a fault broke the round behind them off
 abbrev pub HasSent : World → List Stretch → Status → Fibres → Type 0
-HasSent w ss end left = (left.sent ≡ (after_stretches ss w).fibres.sent) ⊎ ((end ≡ status.PlantFault) × IsBrokenOff (after_stretches ss w) left)
+HasSent w ss end left =
+    (left.sent ≡ (after_stretches ss w).fibres.sent) ⊎ ((end ≡ status.PlantFault) × IsBrokenOff (after_stretches ss w) left)
 
 -- ---- whose bytes come
 
 -- In each round before a controller is held no port meets a stranger: it delivers AIS, or ones, or what its circuit's other port put
 -- into its AU-4 in one round before.
 abbrev pub NoneEverMeetsAStranger : World → Ring → List Stretch → Type 0
-NoneEverMeetsAStranger w ring ss = (free later : List Stretch) → ss ≡ free ++ later → NoneHolds free → (t : ℕ) → t < rounds_in free → NoneMeetsAStranger (clocks_by ring.circuits free) (round (world_in free w t)).ring
+NoneEverMeetsAStranger w ring ss =
+    (free later : List Stretch) → ss ≡ free ++ later → NoneHolds free → (t : ℕ) → t < rounds_in free
+    → NoneMeetsAStranger (clocks_by ring.circuits free) (round (world_in free w t)).ring
 
 -- Behind a held controller too, from so many rounds on: those are counted from the changes before the settle step at which one was held
 -- last, at most 100 turns long. In a ring of n it takes n + 1 rounds more for each of n spans.
 abbrev pub NoneMeetsAStrangerForLong : World → Ring → List Stretch → Type 0
-NoneMeetsAStrangerForLong w ring ss = (earlier : List Stretch) (last : Stretch) (free later : List Stretch) → ss ≡ (earlier ++ last ∷ free) ++ later → NoneHolds free
+NoneMeetsAStrangerForLong w ring ss =
+    (earlier : List Stretch) (last : Stretch) (free later : List Stretch) → ss ≡ (earlier ++ last ∷ free) ++ later → NoneHolds free
     → (t : ℕ) → 100 + ring.nodes * (ring.nodes + 1) ≤ t → t < last.rounds + rounds_in free
-    → (let now = earlier ++ last ∷ free in NoneMeetsAStranger (clocks_by ring.circuits now) (round (world_in now w (rounds_in earlier + t))).ring)
+    → (let now = earlier ++ last ∷ free in NoneMeetsAStranger (clocks_by ring.circuits now)
+    (round (world_in now w (rounds_in earlier + t))).ring)
 
 -- ---- how soon they come
 
 -- the ring after these stretches shows every port with what it is owed, as a report would
 abbrev pub ShowsWhatIsOwed : World → Ring → List Stretch → Type 0
-ShowsWhatIsOwed w ring ss = (let r = report_of 0 (after_stretches ss w).ring in IsOwed ring.nodes (requests_by ring ss r.round) (happened ss) ring.circuits r)
+ShowsWhatIsOwed w ring ss =
+    (let r = report_of 0 (after_stretches ss w).ring in IsOwed ring.nodes (requests_by ring ss r.round) (happened ss) ring.circuits r)
 
 -- From the round of number 12n + 102 after the changes before a settle step on, counted from 1, each port has what it is owed, in
 -- each round of the step, and whether it is settled or not.
 abbrev pub AllIsOwedSoon : World → Ring → List Stretch → Type 0
-AllIsOwedSoon w ring ss = (earlier later : List Stretch) (last : Stretch) → ss ≡ earlier ++ last ∷ later → (k : ℕ) → 12 * ring.nodes + 102 ≤ k → k ≤ last.rounds → ShowsWhatIsOwed w ring (earlier ++ stretch last.changes k ∷ [])
+AllIsOwedSoon w ring ss =
+    (earlier later : List Stretch) (last : Stretch) → ss ≡ earlier ++ last ∷ later → (k : ℕ) → 12 * ring.nodes + 102 ≤ k → k ≤ last.rounds
+    → ShowsWhatIsOwed w ring (earlier ++ stretch last.changes k ∷ [])
 
 -- ---- the course
 
 -- what is told of each round of a script from a new ring over new honest fibres, which gave these reports, ended so, and left these
 -- fibres
-pub record HasCourse (w : World) (ring : Ring) (limit : ℕ) (steps : List Step) (reports : List Report) (end : Status) (left : Fibres) : Type 0 where
+pub record HasCourse (w : World) (ring : Ring) (limit : ℕ) (steps : List Step) (reports : List Report) (end : Status)
+    (left : Fibres) : Type 0 where
   pub stretches : List Stretch
   pub through : WentThrough limit 0 (scenes [] steps) reports end stretches
   pub sent : HasSent w stretches end left
@@ -89,7 +99,9 @@ pub record HasCourse (w : World) (ring : Ring) (limit : ℕ) (steps : List Step)
   pub soon : AllIsOwedSoon w ring stretches
 
 abbrev pub CoursesAreTold : Type 0
-CoursesAreTold = (s : Settings) (ids : List ℕ) (circuits : Provisioning) (f : Fibres) → MayStart s ids f → HasCircuits (layout_in (new_ring s ids circuits))
+CoursesAreTold =
+    (s : Settings) (ids : List ℕ) (circuits : Provisioning) (f : Fibres) → MayStart s ids f
+    → HasCircuits (layout_in (new_ring s ids circuits))
     → (limit : ℕ) (past : Past) (steps : List Step) → AreSteps s.rate (length ids) (length circuits.circuits) past steps
     → (reports : List Report) (end : Status) (left : World) → Runs limit 0 steps (new_world s ids circuits f) reports end left
     → HasCourse (new_world s ids circuits f) (ring_by s (length ids) circuits.circuits) limit steps reports end left.fibres

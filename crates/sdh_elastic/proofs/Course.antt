@@ -1,5 +1,6 @@
 -- What a store keeps is enough of its history: a turn by what is kept is the next turn of the history.
-use Rattle.std.proofs.Common.{◌≡◌, ℕ, ◌+◌, ◌-◌, ◌≤◌, Bool, true, false, List, [], ◌∷◌, ◌++◌, length, take, drop, refl, ap, sym, ◌∙◌, inl, inr, arith}
+use Rattle.std.proofs.Common.{◌≡◌, ℕ, ◌+◌, ◌-◌, ◌≤◌, Bool, true, false, List, [], ◌∷◌, ◌++◌, length, take, drop, refl, ap, sym, ◌∙◌, inl}
+use Rattle.std.proofs.Common.{inr, arith}
 use Rattle.std.specs.Prelude.{◌&&◌, sum}
 use Rattle.std.proofs.lemmas.Bool.{cases_Bool}
 use Rattle.std.proofs.lemmas.List.{length-append, length-drop, drop-append-le, drop-drop}
@@ -9,8 +10,10 @@ use Rattle.sdh_elastic.specs.declared.stage.Stage.{Stage}
 use Rattle.sdh_elastic.specs.declared.lengths.Lengths.{Lengths}
 use Rattle.sdh_elastic.specs.Turns.{given, moves, next_action, is_held, value_after, word_for}
 use Rattle.sdh_elastic.specs.Lengths.{is_steady, is_last_steady, last_lengths, with_length, keeps_steady}
-use Rattle.sdh_elastic.specs.History.{actions, fill, lasts, lengths, taken_in, count_given, held, last_action, last_given, value_of, last_word}
-use Rattle.sdh_elastic.specs.Store.{Store, empty, stage_of, action_in, stage_after, action_at, fill_after, given_at, after_turn, store_of, CameBy, GoesOn}
+use Rattle.sdh_elastic.specs.History.{actions, fill, lasts, lengths, taken_in, count_given, held, last_action, last_given, value_of}
+use Rattle.sdh_elastic.specs.History.{last_word}
+use Rattle.sdh_elastic.specs.Store.{Store, empty, stage_of, action_in, stage_after, action_at, fill_after, given_at, after_turn, store_of}
+use Rattle.sdh_elastic.specs.Store.{CameBy, GoesOn}
 use Rattle.sdh_elastic.proofs.Near.{held_bounds}
 
 -- ---- stages
@@ -70,7 +73,9 @@ swapped a b = omega arith
 
 pub length-taken_in : (past : List (List ℕ)) → length (taken_in past) ≡ sum (lengths past)
 length-taken_in [] = refl
-length-taken_in (x ∷ past) = length-append (taken_in past) x ∙ ap (λ (n : ℕ). n + length x) (length-taken_in past) ∙ swapped (sum (lengths past)) (length x) ∙ sym (sum_by-cons (λ (n : ℕ). n) (length x) (lengths past))
+length-taken_in (x ∷ past) =
+    length-append (taken_in past) x ∙ ap (λ (n : ℕ). n + length x) (length-taken_in past) ∙ swapped (sum (lengths past)) (length x)
+    ∙ sym (sum_by-cons (λ (n : ℕ). n) (length x) (lengths past))
 
 pub both : (x y : Bool) → (x && y) ≡ true → (x ≡ true) × (y ≡ true)
 both true y h = (refl, h)
@@ -96,34 +101,43 @@ fill_sum : (S G n g : ℕ) → G ≤ S → n + S - (g + G) ≡ S - G + n - g
 fill_sum S G n g h = omega arith
 
 -- the fill after a turn that takes in n bytes
-pub fill_step : (x : List ℕ) (past : List (List ℕ)) → lasts (lengths past) ≡ true → fill (lengths (x ∷ past)) ≡ fill (lengths past) + length x - given (last_action (x ∷ past))
+pub fill_step : (x : List ℕ) (past : List (List ℕ)) → lasts (lengths past) ≡ true
+    → fill (lengths (x ∷ past)) ≡ fill (lengths past) + length x - given (last_action (x ∷ past))
 fill_step x past h =
     ap (λ (n : ℕ). n - count_given (x ∷ past)) (sum_by-cons (λ (n : ℕ). n) (length x) (lengths past))
     ∙ ap (λ (n : ℕ). length x + sum (lengths past) - n) (count_after x past)
-    ∙ fill_sum (sum (lengths past)) (count_given past) (length x) (given (last_action (x ∷ past))) (omega (arith, enough past h, length-taken_in past))
+    ∙ fill_sum (sum (lengths past)) (count_given past) (length x) (given (last_action (x ∷ past)))
+    (omega (arith, enough past h, length-taken_in past))
 
 -- ---- a turn
 
 -- what the next turn does
 pub action_of_turn : (first : ℕ) (x : List ℕ) (past : List (List ℕ)) → action_at (store_of first past) ≡ last_action (x ∷ past)
 unfolding store_of
-action_of_turn first x past = ap (action_in (stage_of (actions (lengths past)))) (length-held past) ∙ same_action (actions (lengths past)) (fill (lengths past))
+action_of_turn first x past =
+    ap (action_in (stage_of (actions (lengths past)))) (length-held past) ∙ same_action (actions (lengths past)) (fill (lengths past))
 
 -- the bytes held and one more chunk
-pub held_and : (x : List ℕ) (past : List (List ℕ)) → lasts (lengths past) ≡ true → held past ++ x ≡ drop (count_given past) (taken_in past ++ x)
+pub held_and : (x : List ℕ) (past : List (List ℕ)) → lasts (lengths past) ≡ true
+    → held past ++ x ≡ drop (count_given past) (taken_in past ++ x)
 held_and x past h = sym (drop-append-le (count_given past) (taken_in past) x (enough past h))
 
-same_fields : (h h' : List ℕ) (st st' : Stage) (v v' w w' : ℕ) (ls ls' : Lengths) (b b' : Bool) → h ≡ h' → st ≡ st' → v ≡ v' → w ≡ w' → ls ≡ ls' → b ≡ b'
-    → ◌≡◌ {A = Store} (record { held = h; stage = st; value = v; word = w; lengths = ls; steady = b }) (record { held = h'; stage = st'; value = v'; word = w'; lengths = ls'; steady = b' })
+same_fields : (h h' : List ℕ) (st st' : Stage) (v v' w w' : ℕ) (ls ls' : Lengths) (b b' : Bool) → h ≡ h' → st ≡ st' → v ≡ v' → w ≡ w'
+    → ls ≡ ls' → b ≡ b'
+    → ◌≡◌ {A = Store} (record { held = h; stage = st; value = v; word = w; lengths = ls; steady = b })
+    (record { held = h'; stage = st'; value = v'; word = w'; lengths = ls'; steady = b' })
 same_fields h h' st st' v v' w w' ls ls' b b' e1 e2 e3 e4 e5 e6 = cc
 
-pub store_after : (first : ℕ) (x : List ℕ) (past : List (List ℕ)) → lasts (lengths past) ≡ true → after_turn (store_of first past) x ≡ store_of first (x ∷ past)
+pub store_after : (first : ℕ) (x : List ℕ) (past : List (List ℕ)) → lasts (lengths past) ≡ true
+    → after_turn (store_of first past) x ≡ store_of first (x ∷ past)
 unfolding store_of after_turn actions
 store_after first x past h =
     let a : Action = action_at (store_of first past) in
     let is : a ≡ last_action (x ∷ past) = action_of_turn first x past in
     let bytes : drop (given a) (held past ++ x) ≡ held (x ∷ past) =
-    ap (drop (given a)) (held_and x past h) ∙ drop-drop (given a) (count_given past) (taken_in past ++ x) ∙ ap (λ (n : ℕ). drop n (taken_in past ++ x)) (swapped (count_given past) (given a) ∙ ap (λ (b : Action). given b + count_given past) is ∙ sym (count_after x past)) in
+    ap (drop (given a)) (held_and x past h) ∙ drop-drop (given a) (count_given past) (taken_in past ++ x)
+    ∙ ap (λ (n : ℕ). drop n (taken_in past ++ x)) (swapped (count_given past) (given a)
+    ∙ ap (λ (b : Action). given b + count_given past) is ∙ sym (count_after x past)) in
     same_fields _ _ _ _ _ _ _ _ _ _ _ _ bytes
     (ap (stage_after (stage_of (actions (lengths past)))) is ∙ sym (next_stage (actions (lengths past)) (fill (lengths past))))
     (ap (λ (b : Action). value_after b (value_of first (actions (lengths past)))) is)
@@ -132,22 +146,26 @@ store_after first x past h =
     (ap (λ (b : Bool). is_steady (lengths past) && b) (same_steady (length x) (lengths past)))
 
 -- the fill after it
-pub same_fill : (first : ℕ) (x : List ℕ) (past : List (List ℕ)) → lasts (lengths past) ≡ true → fill_after (store_of first past) (length x) ≡ fill (lengths (x ∷ past))
+pub same_fill : (first : ℕ) (x : List ℕ) (past : List (List ℕ)) → lasts (lengths past) ≡ true
+    → fill_after (store_of first past) (length x) ≡ fill (lengths (x ∷ past))
 unfolding store_of
 same_fill first x past h =
     ap (λ (n : ℕ). n + length x - given (action_at (store_of first past))) (length-held past)
     ∙ ap (λ (b : Action). fill (lengths past) + length x - given b) (action_of_turn first x past) ∙ sym (fill_step x past h)
 
 -- the bytes that it gives
-pub same_given : (first : ℕ) (x : List ℕ) (past : List (List ℕ)) → lasts (lengths past) ≡ true → given_at (store_of first past) x ≡ last_given (x ∷ past)
+pub same_given : (first : ℕ) (x : List ℕ) (past : List (List ℕ)) → lasts (lengths past) ≡ true
+    → given_at (store_of first past) x ≡ last_given (x ∷ past)
 unfolding store_of
 same_given first x past h =
-    ap (λ (b : Action). take (given b) (held past ++ x)) (action_of_turn first x past) ∙ ap (take (given (last_action (x ∷ past)))) (held_and x past h)
+    ap (λ (b : Action). take (given b) (held past ++ x)) (action_of_turn first x past)
+    ∙ ap (take (given (last_action (x ∷ past)))) (held_and x past h)
 
 pub and_true : (b c : Bool) → b ≡ true → c ≡ true → (b && c) ≡ true
 and_true b c p q = rw (p, q) refl
 
-goes_on_from : (first : ℕ) (x : List ℕ) (past : List (List ℕ)) → lasts (lengths past) ≡ true → is_held (fill_after (store_of first past) (length x)) ≡ true
+goes_on_from : (first : ℕ) (x : List ℕ) (past : List (List ℕ)) → lasts (lengths past) ≡ true
+    → is_held (fill_after (store_of first past) (length x)) ≡ true
     → GoesOn first past x (given_at (store_of first past) x) (action_at (store_of first past)) (after_turn (store_of first past) x)
 goes_on_from first x past h fits = record {
   store = record {
@@ -163,11 +181,15 @@ pub goes_on : (s : Store) (x : List ℕ) (first : ℕ) (past : List (List ℕ)) 
 goes_on s x first past fits came = rw came.kept (goes_on_from first x past came.lasts (rw came.kept at fits))
 
 -- a steady history keeps its store steady
-pub steady_now : (s : Store) (n first : ℕ) (past : List (List ℕ)) → CameBy first past s → is_steady (n ∷ lengths past) ≡ true → (s.steady ≡ true) × (keeps_steady n s.lengths ≡ true)
+pub steady_now : (s : Store) (n first : ℕ) (past : List (List ℕ)) → CameBy first past s → is_steady (n ∷ lengths past) ≡ true
+    → (s.steady ≡ true) × (keeps_steady n s.lengths ≡ true)
 unfolding store_of
 steady_now s n first past came h =
-    let parts = both (is_steady (lengths past)) (is_last_steady (n ∷ lengths past)) h in
-    (ap (λ (t : Store). t.steady) came.kept ∙ parts.0, ap (λ (t : Store). keeps_steady n t.lengths) came.kept ∙ same_steady n (lengths past) ∙ parts.1)
+    let parts = both (is_steady (lengths past)) (is_last_steady (n ∷ lengths past)) h in (
+      ap (λ (t : Store). t.steady) came.kept ∙ parts.0,
+      ap (λ (t : Store). keeps_steady n t.lengths) came.kept ∙ same_steady n (lengths past)
+          ∙ parts.1,
+    )
 
 -- a new store has taken nothing in
 pub new_store : (first : ℕ) → CameBy first [] (empty first)
@@ -176,7 +198,8 @@ new_store first = record { lasts = refl; kept = refl }
 
 -- ---- what a store tells of its history
 
-pub word_of_history : (s : Store) (first : ℕ) (past : List (List ℕ)) → CameBy first past s → s.word ≡ last_word first (actions (lengths past))
+pub word_of_history : (s : Store) (first : ℕ) (past : List (List ℕ)) → CameBy first past s
+    → s.word ≡ last_word first (actions (lengths past))
 unfolding store_of
 word_of_history s first past came = ap (λ (t : Store). t.word) came.kept
 
@@ -193,7 +216,8 @@ not_both true c h = h
 not_both false c h = refl
 
 -- a drift of a store is one of its history
-pub drift_of_history : (s : Store) (x : List ℕ) (first : ℕ) (past : List (List ℕ)) → CameBy first past s → is_held (fill_after s (length x)) ≡ false → lasts (lengths (x ∷ past)) ≡ false
+pub drift_of_history : (s : Store) (x : List ℕ) (first : ℕ) (past : List (List ℕ)) → CameBy first past s
+    → is_held (fill_after s (length x)) ≡ false → lasts (lengths (x ∷ past)) ≡ false
 drift_of_history s x first past came h =
     let same = same_fill first x past came.lasts in
     let here : is_held (fill_after (store_of first past) (length x)) ≡ false = rw came.kept at h in

@@ -14,7 +14,8 @@ taken_of_both n xs ys =
           take-append-le n xs ys (omega arith) ∙ sym (append-nil (take n xs)) ∙ ap (λ k. take n xs ++ take k ys) (sym z)
       | inr more ↦
           let s : length xs + (n - length xs) ≡ n = omega arith in
-          ap (λ k. take k (xs ++ ys)) (sym s) ∙ take-append-add xs ys (n - length xs) ∙ ap (λ l. l ++ take (n - length xs) ys) (sym (take_all n xs (omega arith)))
+          ap (λ k. take k (xs ++ ys)) (sym s) ∙ take-append-add xs ys (n - length xs)
+          ∙ ap (λ l. l ++ take (n - length xs) ys) (sym (take_all n xs (omega arith)))
     ]
 
 pub dropped_of_both : (n : ℕ) (xs ys : List ℕ) → drop n (xs ++ ys) ≡ drop n xs ++ drop (n - length xs) ys
@@ -25,7 +26,8 @@ dropped_of_both n xs ys =
           drop-append-le n xs ys (omega arith) ∙ ap (λ k. drop n xs ++ drop k ys) (sym z)
       | inr more ↦
           let s : length xs + (n - length xs) ≡ n = omega arith in
-          ap (λ k. drop k (xs ++ ys)) (sym s) ∙ drop-append-add xs ys (n - length xs) ∙ ap (λ l. l ++ drop (n - length xs) ys) (sym (drop_of_length-le xs (omega arith)))
+          ap (λ k. drop k (xs ++ ys)) (sym s) ∙ drop-append-add xs ys (n - length xs)
+          ∙ ap (λ l. l ++ drop (n - length xs) ys) (sym (drop_of_length-le xs (omega arith)))
     ]
 
 -- a run that begins in the first part

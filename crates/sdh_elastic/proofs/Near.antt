@@ -16,7 +16,8 @@ use Rattle.sdh_elastic.specs.Store.{Store, action_in, action_at, fill_after, aft
 
 -- what a turn that may justify does, by cases on the fill
 pub record Justifies (fill : ℕ) : Type 0 where
-  pub cases : ((2352 ≤ fill) × (justified fill ≡ action.Down)) ⊎ (((fill ≤ 2346) × (justified fill ≡ action.Up)) ⊎ ((2346 < fill) × (fill < 2352) × (justified fill ≡ action.Normal)))
+  pub cases : ((2352 ≤ fill) × (justified fill ≡ action.Down))
+      ⊎ (((fill ≤ 2346) × (justified fill ≡ action.Up)) ⊎ ((2346 < fill) × (fill < 2352) × (justified fill ≡ action.Normal)))
 
 pub justifies : (fill : ℕ) → Justifies fill
 justifies fill =
@@ -123,10 +124,12 @@ left_over : (k : ℕ) (xs ys : List ℕ) → length (drop k (xs ++ ys)) ≡ leng
 left_over k xs ys = omega (arith, length-drop k (xs ++ ys), length-append xs ys)
 
 -- a turn keeps a store bounded
-pub bounded_after : (s : Store) (input : List ℕ) → IsBounded s → IsChunk (length input) → is_held (fill_after s (length input)) ≡ true → IsBounded (after_turn s input)
+pub bounded_after : (s : Store) (input : List ℕ) → IsBounded s → IsChunk (length input) → is_held (fill_after s (length input)) ≡ true
+    → IsBounded (after_turn s input)
 unfolding after_turn
 bounded_after s input b chunk held =
-    let len : length (drop (given (action_at s)) (s.held ++ input)) ≡ fill_after s (length input) = left_over (given (action_at s)) s.held input in
+    let len : length (drop (given (action_at s)) (s.held ++ input)) ≡ fill_after s (length input) =
+    left_over (given (action_at s)) s.held input in
     record {
       at = rw len (at_after s.stage s.lengths (length s.held) (length input) b.at held);
       chunks = chunks_after s.lengths (length input) b.chunks chunk;
@@ -137,5 +140,6 @@ bounded_after s input b chunk held =
     }
 
 -- a steady turn isn't a drift
-pub no_drift : (s : Store) (n : ℕ) → IsBounded s → IsChunk n → s.steady ≡ true → keeps_steady n s.lengths ≡ true → (2340 ≤ fill_after s n) × (fill_after s n ≤ 2358)
+pub no_drift : (s : Store) (n : ℕ) → IsBounded s → IsChunk n → s.steady ≡ true → keeps_steady n s.lengths ≡ true
+    → (2340 ≤ fill_after s n) × (fill_after s n ≤ 2358)
 no_drift s n b chunk steady four = held_after s.stage s.lengths (length s.held) n b.at (b.near steady) b.chunks chunk four

@@ -6,16 +6,20 @@ use Rattle.sdh_pointer.specs.declared.reading.Action.{Action}
 use Rattle.sdh_pointer.specs.Reading.{action_on, after_word}
 use Rattle.sdh_elastic.specs.Turns.{given, next_action, is_held, value_after, word_for, IsChunk}
 use Rattle.sdh_elastic.specs.Lengths.{is_steady, is_last_steady}
-use Rattle.sdh_elastic.specs.History.{actions, fill, lasts, lengths, taken_in, count_given, held, last_action, last_given, given_in_all, value_of, last_word, heard}
+use Rattle.sdh_elastic.specs.History.{actions, fill, lasts, lengths, taken_in, count_given, held, last_action, last_given, given_in_all}
+use Rattle.sdh_elastic.specs.History.{value_of, last_word, heard}
 use Rattle.sdh_elastic.specs.Store.{Store, empty, stage_of, stage_after, fill_after, store_of, reading_in, IsBounded}
 use Rattle.sdh_elastic.proofs.Near.{bounded_after, no_drift, is_held_by, small_value}
-use Rattle.sdh_elastic.proofs.Course.{both, count_after, held_and, store_after, same_fill, same_action, next_stage, steady_now, new_store, swapped, and_true}
+use Rattle.sdh_elastic.proofs.Course.{both, count_after, held_and, store_after, same_fill, same_action, next_stage, steady_now, new_store}
+use Rattle.sdh_elastic.proofs.Course.{swapped, and_true}
 use Rattle.sdh_elastic.proofs.Heard.{turn_is_heard}
 
 -- ---- bytes
 
 cut : (g G : ℕ) (xs : List ℕ) → take g (drop G xs) ++ drop (g + G) xs ≡ drop G xs
-cut g G xs = ap (λ (l : List ℕ). take g (drop G xs) ++ l) (ap (λ (n : ℕ). drop n xs) (swapped g G) ∙ sym (drop-drop g G xs)) ∙ take-append-drop g (drop G xs)
+cut g G xs =
+    ap (λ (l : List ℕ). take g (drop G xs) ++ l) (ap (λ (n : ℕ). drop n xs) (swapped g G) ∙ sym (drop-drop g G xs))
+    ∙ take-append-drop g (drop G xs)
 
 pub given_is_a_front : (past : List (List ℕ)) → lasts (lengths past) ≡ true → given_in_all past ++ held past ≡ taken_in past
 unfolding actions
@@ -43,18 +47,22 @@ record IsGood (past : List (List ℕ)) : Type 0 where
 good : (past : List (List ℕ)) → All (λ (chunk : List ℕ). IsChunk (length chunk)) past → is_steady (lengths past) ≡ true → IsGood past
 good [] all h = record { lasts = refl; bounded = rw (sym (new_store 0).kept) (empty_is_bounded 0 (omega arith)) }
 good (x ∷ past) all h =
-    let before = good past (λ k d less. all (suc k) d (omega arith)) (both (is_steady (lengths past)) (is_last_steady (lengths (x ∷ past))) h).0 in
+    let before =
+    good past (λ k d less. all (suc k) d (omega arith)) (both (is_steady (lengths past)) (is_last_steady (lengths (x ∷ past))) h).0 in
     let s : Store = store_of 0 past in
     let chunk : IsChunk (length x) = all 0 x (omega arith) in
     let now = steady_now s (length x) 0 past (record { lasts = before.lasts; kept = refl }) h in
     let bounds = no_drift s (length x) before.bounded chunk now.0 now.1 in
     let fits = is_held_by (fill_after s (length x)) bounds.0 bounds.1 in
     record {
-      lasts = and_true (lasts (lengths past)) (is_held (fill (lengths (x ∷ past)))) before.lasts (sym (ap is_held (same_fill 0 x past before.lasts)) ∙ fits);
+      lasts =
+          and_true (lasts (lengths past)) (is_held (fill (lengths (x ∷ past)))) before.lasts
+          (sym (ap is_held (same_fill 0 x past before.lasts)) ∙ fits);
       bounded = subst IsBounded (store_after 0 x past before.lasts) (bounded_after s x before.bounded chunk fits);
     }
 
-pub steady_runs_last : (past : List (List ℕ)) → All (λ (chunk : List ℕ). IsChunk (length chunk)) past → is_steady (lengths past) ≡ true → lasts (lengths past) ≡ true
+pub steady_runs_last : (past : List (List ℕ)) → All (λ (chunk : List ℕ). IsChunk (length chunk)) past → is_steady (lengths past) ≡ true
+    → lasts (lengths past) ≡ true
 steady_runs_last past all h = (good past all h).lasts
 
 -- ---- words
@@ -64,7 +72,8 @@ small_of first [] h = h
 small_of first (a ∷ acts) h = small_value a (value_of first acts) (small_of first acts h)
 
 -- an interpreter that has read all words is where the store's stage and value tell
-pub heard_so_far : (first : ℕ) (ls : List ℕ) → first ≤ 782 → heard first (actions ls) ≡ reading_in (stage_of (actions ls)) (value_of first (actions ls))
+pub heard_so_far : (first : ℕ) (ls : List ℕ) → first ≤ 782 → heard first (actions ls)
+    ≡ reading_in (stage_of (actions ls)) (value_of first (actions ls))
 unfolding actions reading_in
 heard_so_far first [] h = refl
 heard_so_far first (n ∷ ls) h =

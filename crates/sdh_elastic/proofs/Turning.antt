@@ -14,7 +14,8 @@ pub record IsTurn (s : Store) (input : List ℕ) (a : Action) (out : List ℕ) (
   pub store : new ≡ after_turn s input
 
 pub made : (s : Store) (input : List ℕ) (a : Action) (k : ℕ) (out h : List ℕ) (st : Stage) (v w : ℕ) (ls : Lengths) (b : Bool)
-    → a ≡ action_at s → k ≡ given a → out ≡ take k (s.held ++ input) → h ≡ drop k (s.held ++ input) → st ≡ stage_after s.stage a → v ≡ value_after a s.value → w ≡ word_for a s.value
+    → a ≡ action_at s → k ≡ given a → out ≡ take k (s.held ++ input) → h ≡ drop k (s.held ++ input) → st ≡ stage_after s.stage a
+    → v ≡ value_after a s.value → w ≡ word_for a s.value
     → ls ≡ with_length (length input) s.lengths → b ≡ (s.steady && keeps_steady (length input) s.lengths)
     → IsTurn s input a out (record { held = h; stage = st; value = v; word = w; lengths = ls; steady = b })
 unfolding after_turn

@@ -12,7 +12,9 @@ GivenIsAFront = (past : List (List ℕ)) → lasts (lengths past) ≡ true → g
 
 -- no turn of a steady run is a drift
 abbrev pub SteadyRunsLast : Type 0
-SteadyRunsLast = (past : List (List ℕ)) → All (λ (chunk : List ℕ). IsChunk (length chunk)) past → is_steady (lengths past) ≡ true → lasts (lengths past) ≡ true
+SteadyRunsLast =
+    (past : List (List ℕ)) → All (λ (chunk : List ℕ). IsChunk (length chunk)) past → is_steady (lengths past) ≡ true
+    → lasts (lengths past) ≡ true
 
 -- an interpreter that has read the words of all turns so far answers the next word by what its turn does
 abbrev pub WordsTellActions : Type 0

@@ -7,7 +7,8 @@ use Rattle.sdh_promise.specs.Changes.{Change, Stretch, rounds_in}
 use Rattle.sdh_promise.specs.Happened.{happened}
 use Rattle.sdh_promise.specs.Owed.{Ring, requests_by, IsLast, IsOwed, AreOwed}
 use Rattle.sdh_foretold.specs.Resting.{requests_after}
-use Rattle.sdh_foretold.specs.Laws.{AreLong, changes_in, RequestsRest, IsForetold, AreForetold, ReportsAreForetold, IsLastForetold, LastReportsAreForetold}
+use Rattle.sdh_foretold.specs.Laws.{AreLong, changes_in, RequestsRest, IsForetold, AreForetold, ReportsAreForetold, IsLastForetold}
+use Rattle.sdh_foretold.specs.Laws.{LastReportsAreForetold}
 
 -- ---- one stretch more
 
@@ -30,7 +31,8 @@ stretch_of earlier changes r = record { changes = changes; rounds = r.round + 1 
 -- ---- a script, report by report
 
 module _ (ring : Ring) (limit : ℕ) (least : 1 ≤ ring.threshold) (some : 1 ≤ ring.nodes) (rest : RequestsRest) where
-  module _ (earlier : List Stretch) (changes : List Change) (r : Report) (long : AreLong earlier) (is : IsLast ring.nodes limit (rounds_in earlier) r.round) where
+  module _ (earlier : List Stretch) (changes : List Change) (r : Report) (long : AreLong earlier)
+      (is : IsLast ring.nodes limit (rounds_in earlier) r.round) where
     abbrev now : List Stretch
     now = earlier ++ stretch_of earlier changes r ∷ []
 
@@ -40,17 +42,26 @@ module _ (ring : Ring) (limit : ℕ) (least : 1 ≤ ring.threshold) (some : 1 �
     rounds_now : rounds_in now ≡ r.round + 1
     rounds_now = omega (arith, rounds_last earlier (stretch_of earlier changes r), is.window)
 
-    foretold : IsOwed ring.nodes (requests_by ring now r.round) (happened now) ring.circuits r → IsForetold ring (changes_in earlier ++ changes ∷ []) r
+    foretold : IsOwed ring.nodes (requests_by ring now r.round) (happened now) ring.circuits r
+        → IsForetold ring (changes_in earlier ++ changes ∷ []) r
     foretold owed =
         let come : changes_in now ≡ changes_in earlier ++ changes ∷ [] = changes_last earlier (stretch_of earlier changes r) in
-        let same : requests_by ring now r.round ≡ requests_after ring (changes_in earlier ++ changes ∷ []) = rest ring now r.round least long_now rounds_now ∙ ap (requests_after ring) come in
-        record { stretches = now; changes = come; rounds = rounds_now; shows = subst (λ q. IsOwed ring.nodes q (happened now) ring.circuits r) same owed }
+        let same : requests_by ring now r.round ≡ requests_after ring (changes_in earlier ++ changes ∷ []) =
+        rest ring now r.round least long_now rounds_now ∙ ap (requests_after ring) come in
+        record {
+          stretches = now;
+          changes = come;
+          rounds = rounds_now;
+          shows = subst (λ q. IsOwed ring.nodes q (happened now) ring.circuits r) same owed;
+        }
 
-  each : (earlier : List Stretch) (before : ℕ) (scenes : List (List Change)) (reports : List Report) (end : Status) → AreLong earlier → AreOwed ring limit earlier before scenes reports end → AreForetold ring (changes_in earlier) scenes reports
+  each : (earlier : List Stretch) (before : ℕ) (scenes : List (List Change)) (reports : List Report) (end : Status) → AreLong earlier
+      → AreOwed ring limit earlier before scenes reports end → AreForetold ring (changes_in earlier) scenes reports
   each earlier before [] reports end long owed = owed.0
   each earlier before (changes ∷ later) [] end long owed = tt
   each earlier before (changes ∷ later) (r ∷ reports) end long owed =
-      let come : changes_in (now earlier changes r long owed.1) ≡ changes_in earlier ++ changes ∷ [] = changes_last earlier (stretch_of earlier changes r) in (
+      let come : changes_in (now earlier changes r long owed.1) ≡ changes_in earlier ++ changes ∷ [] =
+      changes_last earlier (stretch_of earlier changes r) in (
         foretold earlier changes r long owed.1 owed.2,
         subst (λ past. AreForetold ring past later reports) come
             (each (now earlier changes r long owed.1) (before + 1) later reports end (long_now earlier changes r long owed.1) owed.3),
@@ -60,8 +71,10 @@ module _ (ring : Ring) (limit : ℕ) (least : 1 ≤ ring.threshold) (some : 1 �
 
 module _ (ring : Ring) (limit : ℕ) where
   -- the last one, behind a scene that is there
-  last_of : (earlier : List Stretch) (before : ℕ) (past : List (List Change)) (changes : List Change) (later : List (List Change)) (reports : List Report)
-      → AreOwed ring limit earlier before (changes ∷ later) reports status.Ok → AreForetold ring past (changes ∷ later) reports → IsLastForetold ring (past ++ changes ∷ later) reports
+  last_of : (earlier : List Stretch) (before : ℕ) (past : List (List Change)) (changes : List Change) (later : List (List Change))
+      (reports : List Report)
+      → AreOwed ring limit earlier before (changes ∷ later) reports status.Ok → AreForetold ring past (changes ∷ later) reports
+      → IsLastForetold ring (past ++ changes ∷ later) reports
   last_of earlier before past changes later [] owed told = absurd (never owed)
     where
       never : AreOwed ring limit earlier before (changes ∷ later) [] status.Ok → ⊥
@@ -70,8 +83,10 @@ module _ (ring : Ring) (limit : ℕ) where
   last_of earlier before past changes [] (r ∷ reports) owed told =
       record { before = []; last = r; are = ap (λ rs. r ∷ rs) told.1; shows = told.0 }
   last_of earlier before past changes (more ∷ later) (r ∷ reports) owed told =
-      let rest_of = last_of (earlier ++ stretch_of earlier changes r ∷ []) (before + 1) (past ++ changes ∷ []) more later reports owed.3 told.1 in
-      let whole : (past ++ changes ∷ []) ++ more ∷ later ≡ past ++ changes ∷ more ∷ later = append_assoc past (changes ∷ []) (more ∷ later) in
+      let rest_of =
+      last_of (earlier ++ stretch_of earlier changes r ∷ []) (before + 1) (past ++ changes ∷ []) more later reports owed.3 told.1 in
+      let whole : (past ++ changes ∷ []) ++ more ∷ later ≡ past ++ changes ∷ more ∷ later =
+      append_assoc past (changes ∷ []) (more ∷ later) in
       record {
         before = r ∷ rest_of.before;
         last = rest_of.last;
@@ -84,4 +99,5 @@ reports_foretold rest ring limit scenes reports end least some owed = each ring 
 
 pub last_foretold : ReportsAreForetold → LastReportsAreForetold
 last_foretold law ring limit [] reports least some there owed = absurd (there refl)
-last_foretold law ring limit (changes ∷ later) reports least some there owed = last_of ring limit [] 0 [] changes later reports owed (law ring limit (changes ∷ later) reports status.Ok least some owed)
+last_foretold law ring limit (changes ∷ later) reports least some there owed =
+    last_of ring limit [] 0 [] changes later reports owed (law ring limit (changes ∷ later) reports status.Ok least some owed)

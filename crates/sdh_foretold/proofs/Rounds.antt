@@ -36,13 +36,16 @@ module _ (threshold : ℕ) (least : 1 ≤ threshold) (g : SideHistory) where
   abbrev shows : Bool → ℕ → Bool
   shows cut degraded = not cut && nat_le threshold degraded
 
-  shown_next : (t : ℕ) → 1 ≤ t → (a b : Holding) → Same t a → Same (suc t) b → defect_at threshold g (suc t) ≡ shown (is_cut b.condition) (shows (is_cut a.condition) (degraded_by a.condition))
+  shown_next : (t : ℕ) → 1 ≤ t → (a b : Holding) → Same t a → Same (suc t) b
+      → defect_at threshold g (suc t) ≡ shown (is_cut b.condition) (shows (is_cut a.condition) (degraded_by a.condition))
   unfolding defect_at
   shown_next t some a b x y =
       let two : nat_le 2 (suc t) ≡ true = grind (arith, nat_tests) in
       let less : suc t - 1 ≡ t = omega arith in
-      ap (λ u. if g.is_cut (suc t) then defect.Sf else if nat_le 2 (suc t) && (not (g.is_cut u) && nat_le threshold (g.degraded u)) then defect.Sd else defect.None) less
-      ∙ ap (λ c. if c then defect.Sf else if nat_le 2 (suc t) && (not (g.is_cut t) && nat_le threshold (g.degraded t)) then defect.Sd else defect.None) y.cut
+      ap (λ u. if g.is_cut (suc t) then defect.Sf else if nat_le 2 (suc t) && (not (g.is_cut u) && nat_le threshold (g.degraded u))
+      then defect.Sd else defect.None) less
+      ∙ ap (λ c. if c then defect.Sf else if nat_le 2 (suc t) && (not (g.is_cut t) && nat_le threshold (g.degraded t))
+      then defect.Sd else defect.None) y.cut
       ∙ ap (λ c. shown (is_cut b.condition) (c && (not (g.is_cut t) && nat_le threshold (g.degraded t)))) two
       ∙ ap (λ c. shown (is_cut b.condition) (not c && nat_le threshold (g.degraded t))) x.cut
       ∙ ap (λ k. shown (is_cut b.condition) (not (is_cut a.condition) && nat_le threshold k)) x.degraded
@@ -57,9 +60,12 @@ module _ (threshold : ℕ) (least : 1 ≤ threshold) (g : SideHistory) where
   abbrev ends : Defect → Defect → Bool
   ends a b = not (request.is_clear a) && request.is_clear b
 
-  last_next : (t : ℕ) (a b : Defect) → defect_at threshold g t ≡ a → defect_at threshold g (suc t) ≡ b → last_end threshold g (suc t) ≡ (if ends a b then Some (suc t) else last_end threshold g t)
+  last_next : (t : ℕ) (a b : Defect) → defect_at threshold g t ≡ a → defect_at threshold g (suc t) ≡ b
+      → last_end threshold g (suc t) ≡ (if ends a b then Some (suc t) else last_end threshold g t)
   unfolding last_end ends_at
-  last_next t a b x y = ap (λ c. if ends c (defect_at threshold g (suc t)) then Some (suc t) else last_end threshold g t) x ∙ ap (λ c. if ends a c then Some (suc t) else last_end threshold g t) y
+  last_next t a b x y =
+      ap (λ c. if ends c (defect_at threshold g (suc t)) then Some (suc t) else last_end threshold g t) x
+      ∙ ap (λ c. if ends a c then Some (suc t) else last_end threshold g t) y
 
   never_twice : (a : Defect) → ends a a ≡ false
   never_twice defect.None = refl
@@ -69,8 +75,11 @@ module _ (threshold : ℕ) (least : 1 ≤ threshold) (g : SideHistory) where
   -- a round more with the same holding
   pub stays : (t : ℕ) (r : Resting) → At t r → Same (suc t) r.holding → At (suc t) r
   stays t r x y =
-      let now : defect_at threshold g (suc t) ≡ r.defect = shown_next t (let l = x.late in omega arith) r.holding r.holding x.same y ∙ shown_twice r.holding.condition ∙ sym x.is in
-      let last : last_end threshold g (suc t) ≡ last_end threshold g t = last_next t r.defect r.defect x.defect now ∙ ap (λ b. if b then Some (suc t) else last_end threshold g t) (never_twice r.defect) in
+      let now : defect_at threshold g (suc t) ≡ r.defect =
+      shown_next t (let l = x.late in omega arith) r.holding r.holding x.same y ∙ shown_twice r.holding.condition ∙ sym x.is in
+      let last : last_end threshold g (suc t) ≡ last_end threshold g t =
+      last_next t r.defect r.defect x.defect now ∙ ap (λ b. if b then Some (suc t) else last_end threshold g t)
+      (never_twice r.defect) in
       record {
         late = let l = x.late in omega arith;
         same = y;
@@ -95,7 +104,8 @@ module _ (threshold : ℕ) (least : 1 ≤ threshold) (g : SideHistory) where
   not_cut Cut e = absurd (grind arith)
   not_cut (Degraded k) e = refl
 
-  left_shown : (was : Condition) → (if shows (is_cut was) (degraded_by was) then defect.Sd else defect.None) ≡ leftover (defect_of threshold was)
+  left_shown : (was : Condition) → (if shows (is_cut was) (degraded_by was) then defect.Sd else defect.None)
+      ≡ leftover (defect_of threshold was)
   left_shown Clear = let no : nat_le threshold 0 ≡ false = grind (arith, nat_tests) in ap (λ b. if b then defect.Sd else defect.None) no
   left_shown Cut = refl
   left_shown (Degraded k) = by (nat_le threshold k)
@@ -104,35 +114,42 @@ module _ (threshold : ℕ) (least : 1 ≤ threshold) (g : SideHistory) where
       by true = refl
       by false = refl
 
-  by_defect : (d : Defect) (u v m : ℕ) (old kept : Option ℕ) → (request.is_clear d ≡ true → option_map g.moment old ≡ kept) → g.moment u ≡ m → g.moment v ≡ m
-      → option_map g.moment (if ends (leftover d) defect.None then Some v else if ends d (leftover d) then Some u else old) ≡ (if ends d defect.None then Some m else kept)
+  by_defect : (d : Defect) (u v m : ℕ) (old kept : Option ℕ) → (request.is_clear d ≡ true → option_map g.moment old ≡ kept) → g.moment u ≡ m
+      → g.moment v ≡ m
+      → option_map g.moment (if ends (leftover d) defect.None then Some v else if ends d (leftover d) then Some u else old)
+      ≡ (if ends d defect.None then Some m else kept)
   by_defect defect.None u v m old kept before at_u at_v = before refl
   by_defect defect.Sd u v m old kept before at_u at_v = ap (λ x. Some x) at_v
   by_defect defect.Sf u v m old kept before at_u at_v = ap (λ x. Some x) at_u
 
   -- two rounds more, in which something else may hold: where no defect is there then, the last one ended in one of them
-  since : (was : Condition) (now : Condition) (u v : ℕ) (m : ℕ) (old kept : Option ℕ) → (request.is_clear (defect_of threshold was) ≡ true → option_map g.moment old ≡ kept) → g.moment u ≡ m → g.moment v ≡ m
+  since : (was : Condition) (now : Condition) (u v : ℕ) (m : ℕ) (old kept : Option ℕ)
+      → (request.is_clear (defect_of threshold was) ≡ true → option_map g.moment old ≡ kept) → g.moment u ≡ m → g.moment v ≡ m
       → request.is_clear (defect_of threshold now) ≡ true
-      → (let d0 = defect_of threshold was in let d1 = shown (is_cut now) (shows (is_cut was) (degraded_by was)) in let d2 = defect_of threshold now in
+      → (let d0 = defect_of threshold was in let d1 = shown (is_cut now)
+      (shows (is_cut was) (degraded_by was)) in let d2 = defect_of threshold now in
       option_map g.moment (if ends d1 d2 then Some v else if ends d0 d1 then Some u else old) ≡ (if ends d0 d2 then Some m else kept))
   since was now u v m old kept before at_u at_v clear =
       let d0 = defect_of threshold was in
       let d2 = defect_of threshold now in
-      let one : shown (is_cut now) (shows (is_cut was) (degraded_by was)) ≡ leftover d0 = ap (λ b. shown b (shows (is_cut was) (degraded_by was))) (not_cut now clear) ∙ left_shown was in
+      let one : shown (is_cut now) (shows (is_cut was) (degraded_by was)) ≡ leftover d0 =
+      ap (λ b. shown b (shows (is_cut was) (degraded_by was))) (not_cut now clear) ∙ left_shown was in
       let two : d2 ≡ defect.None = clear_none d2 clear in
       ap (λ x. option_map g.moment (if ends x d2 then Some v else if ends d0 x then Some u else old)) one
       ∙ ap (λ x. option_map g.moment (if ends (leftover d0) x then Some v else if ends d0 (leftover d0) then Some u else old)) two
       ∙ by_defect d0 u v m old kept before at_u at_v
       ∙ ap (λ x. if ends d0 x then Some m else kept) (sym two)
 
-  pub enters : (t : ℕ) (r : Resting) (h : Holding) → At t r → Same (suc t) h → Same (suc (suc t)) h → At (suc (suc t)) (at_rest threshold h r)
+  pub enters : (t : ℕ) (r : Resting) (h : Holding) → At t r → Same (suc t) h → Same (suc (suc t)) h
+      → At (suc (suc t)) (at_rest threshold h r)
   enters t r h x y z =
       let d0 = defect_of threshold r.holding.condition in
       let d1 = shown (is_cut h.condition) (shows (is_cut r.holding.condition) (degraded_by r.holding.condition)) in
       let d2 = defect_of threshold h.condition in
       let one : defect_at threshold g (suc t) ≡ d1 = shown_next t (let l = x.late in omega arith) r.holding h x.same y in
       let two : defect_at threshold g (suc (suc t)) ≡ d2 = shown_next (suc t) (omega arith) h h y z ∙ shown_twice h.condition in
-      let last : last_end threshold g (suc (suc t)) ≡ (if ends d1 d2 then Some (suc (suc t)) else if ends d0 d1 then Some (suc t) else last_end threshold g t) =
+      let last : last_end threshold g (suc (suc t)) ≡ (if ends d1 d2 then Some (suc (suc t)) else if ends d0 d1
+      then Some (suc t) else last_end threshold g t) =
       last_next (suc t) d1 d2 one two ∙ ap (λ o. if ends d1 d2 then Some (suc (suc t)) else o) (last_next t d0 d1 (x.defect ∙ x.is) one) in
       record {
         late = let l = x.late in omega arith;
@@ -141,7 +158,8 @@ module _ (threshold : ℕ) (least : 1 ≤ threshold) (g : SideHistory) where
         defect = two;
         ended = λ clear.
             ap (option_map g.moment) last
-            ∙ since r.holding.condition h.condition (suc t) (suc (suc t)) h.moment (last_end threshold g t) r.ended (λ b. x.ended (ap (λ c. request.is_clear c) x.is ∙ b)) y.moment z.moment clear
+            ∙ since r.holding.condition h.condition (suc t) (suc (suc t)) h.moment (last_end threshold g t) r.ended
+            (λ b. x.ended (ap (λ c. request.is_clear c) x.is ∙ b)) y.moment z.moment clear
             ∙ ap (λ c. if ends c d2 then Some h.moment else r.ended) (sym x.is);
       }
 
@@ -153,12 +171,14 @@ module _ (threshold : ℕ) (least : 1 ≤ threshold) (g : SideHistory) where
       let none : nat_le 2 1 ≡ false = grind (arith, nat_tests) in
       let zero_is : defect_at threshold g 0 ≡ defect.None = refl in
       let one : defect_at threshold g 1 ≡ shown (is_cut h.condition) false =
-      ap (λ c. if c then defect.Sf else if nat_le 2 1 && (not (g.is_cut 0) && nat_le threshold (g.degraded 0)) then defect.Sd else defect.None) y.cut
+      ap (λ c. if c then defect.Sf else if nat_le 2 1 && (not (g.is_cut 0) && nat_le threshold (g.degraded 0))
+      then defect.Sd else defect.None) y.cut
       ∙ ap (λ c. shown (is_cut h.condition) (c && (not (g.is_cut 0) && nat_le threshold (g.degraded 0)))) none in
       let two : defect_at threshold g 2 ≡ d2 = shown_next 1 (omega arith) h h y z ∙ shown_twice h.condition in
       let last : last_end threshold g 2 ≡ None =
       last_next 1 (shown (is_cut h.condition) false) d2 one two
-      ∙ ap (λ o. if ends (shown (is_cut h.condition) false) d2 then Some 2 else o) (last_next 0 defect.None (shown (is_cut h.condition) false) zero_is one)
+      ∙ ap (λ o. if ends (shown (is_cut h.condition) false) d2 then Some 2 else o)
+      (last_next 0 defect.None (shown (is_cut h.condition) false) zero_is one)
       ∙ ap (λ b. if b then Some 2 else None) (no_end h.condition) in
       record {
         late = omega arith;
@@ -183,7 +203,8 @@ module _ (threshold : ℕ) (least : 1 ≤ threshold) (g : SideHistory) where
       subst (λ u. At u r) there (stays (t + k) r before (subst (λ u. Same u r.holding) next (each k (omega arith))))
 
   -- a side that is not clear doesn't wait
-  asked : (c : Command) (d : Defect) (wait now : ℕ) (one two : Option ℕ) → (request.is_clear d ≡ true → one ≡ two) → request.highest c d (request.waits wait d now one) ≡ request.highest c d (request.waits wait d now two)
+  asked : (c : Command) (d : Defect) (wait now : ℕ) (one two : Option ℕ) → (request.is_clear d ≡ true → one ≡ two)
+      → request.highest c d (request.waits wait d now one) ≡ request.highest c d (request.waits wait d now two)
   asked c defect.None wait now one two same = ap (λ o. request.highest c defect.None (request.waits wait defect.None now o)) (same refl)
   asked c defect.Sd wait now one two same = refl
   asked c defect.Sf wait now one two same = refl

@@ -19,7 +19,9 @@ changes_in ss = map (λ s. s.changes) ss
 
 -- In the last round of such stretches the requests are what their changes come to, however many rounds each has.
 abbrev pub RequestsRest : Type 0
-RequestsRest = (ring : Ring) (ss : List Stretch) (t : ℕ) → 1 ≤ ring.threshold → AreLong ss → rounds_in ss ≡ t + 1 → requests_by ring ss t ≡ requests_after ring (changes_in ss)
+RequestsRest =
+    (ring : Ring) (ss : List Stretch) (t : ℕ) → 1 ≤ ring.threshold → AreLong ss → rounds_in ss ≡ t + 1
+    → requests_by ring ss t ≡ requests_after ring (changes_in ss)
 
 -- The report shows what is owed under the requests that these changes come to, a settle step behind each list of them. How many
 -- rounds the steps had counts for nothing but how far the customers have come.
@@ -33,7 +35,8 @@ pub record IsForetold (ring : Ring) (past : List (List Change)) (r : Report) : T
 abbrev pub AreForetold : Ring → List (List Change) → List (List Change) → List Report → Type 0
 AreForetold ring past [] reports = reports ≡ []
 AreForetold ring past (changes ∷ later) [] = Unit {0}
-AreForetold ring past (changes ∷ later) (r ∷ reports) = IsForetold ring (past ++ changes ∷ []) r × AreForetold ring (past ++ changes ∷ []) later reports
+AreForetold ring past (changes ∷ later) (r ∷ reports) =
+    IsForetold ring (past ++ changes ∷ []) r × AreForetold ring (past ++ changes ∷ []) later reports
 
 -- each report of every script that owes what the promise says is foretold
 abbrev pub ReportsAreForetold : Type 0
@@ -50,4 +53,5 @@ pub record IsLastForetold (ring : Ring) (scenes : List (List Change)) (reports :
 -- and so is the last one of a script that was run to its end
 abbrev pub LastReportsAreForetold : Type 0
 LastReportsAreForetold = (ring : Ring) (limit : ℕ) (scenes : List (List Change)) (reports : List Report)
-    → 1 ≤ ring.threshold → 1 ≤ ring.nodes → scenes ≢ [] → AreOwed ring limit [] 0 scenes reports status.Ok → IsLastForetold ring scenes reports
+    → 1 ≤ ring.threshold → 1 ≤ ring.nodes → scenes ≢ [] → AreOwed ring limit [] 0 scenes reports status.Ok
+    → IsLastForetold ring scenes reports

@@ -34,7 +34,12 @@ defect_of threshold (Degraded k) = if nat_le threshold k then defect.Sd else def
 abbrev pub at_rest : ℕ → Holding → Resting → Resting
 at_rest threshold h r =
     (let now = defect_of threshold h.condition in
-    record { holding = h; defect = now; ended = if not (request.is_clear r.defect) && request.is_clear now then Some h.moment else r.ended })
+    record {
+      holding = h;
+      defect = now;
+      ended = if not (request.is_clear r.defect) && request.is_clear now
+          then Some h.moment else r.ended;
+    })
 
 -- side d of position p in a ring of n after these changes and a settle step
 abbrev pub rest_after : ℕ → ℕ → ℕ → Side → List Change → Resting → Resting

@@ -35,8 +35,11 @@ out_same a b e =
 pub compared_same : (a b : Compared) → same_compared a b ≡ true → a ≡ b
 unfolding same_compared
 compared_same a b e =
-    let five = and_parts (same_in a.west b.west && same_in a.east b.east && same_state a.state b.state && same_out a.west_out b.west_out) (same_out a.east_out b.east_out) e in
-    let four = and_parts (same_in a.west b.west && same_in a.east b.east && same_state a.state b.state) (same_out a.west_out b.west_out) five.0 in
+    let five =
+    and_parts (same_in a.west b.west && same_in a.east b.east && same_state a.state b.state && same_out a.west_out b.west_out)
+    (same_out a.east_out b.east_out) e in
+    let four =
+    and_parts (same_in a.west b.west && same_in a.east b.east && same_state a.state b.state) (same_out a.west_out b.west_out) five.0 in
     let three = and_parts (same_in a.west b.west && same_in a.east b.east) (same_state a.state b.state) four.0 in
     let two = and_parts (same_in a.west b.west) (same_in a.east b.east) three.0 in
     let west = in_same a.west b.west two.0 in
@@ -51,15 +54,20 @@ not_true true e = cc
 not_true false e = refl
 
 -- a calm round isn't the node's first one, is no held turn, and leaves all that is compared
-pub calm_leaves : (now : ℕ) (n : Node) → (node_round now n).0.calm ≡ true → (1 ≤ n.rounds) × (is_held n ≡ false) × (compared (node_round now n).0 ≡ compared n)
+pub calm_leaves : (now : ℕ) (n : Node) → (node_round now n).0.calm ≡ true
+    → (1 ≤ n.rounds) × (is_held n ≡ false) × (compared (node_round now n).0 ≡ compared n)
 unfolding node_round with_calm
 calm_leaves now n e =
     let both = and_parts (may_be_calm n) (same_compared (compared (after_crossing (crossing now n) n)) (compared n)) e in
-    let may = and_parts (nat_le 1 n.rounds) (not (is_held n)) both.0 in
-    (leb-true 1 n.rounds may.0, not_true (is_held n) may.1, compared_same (compared (after_crossing (crossing now n) n)) (compared n) both.1)
+    let may = and_parts (nat_le 1 n.rounds) (not (is_held n)) both.0 in (
+      leb-true 1 n.rounds may.0,
+      not_true (is_held n) may.1,
+      compared_same (compared (after_crossing (crossing now n) n)) (compared n) both.1,
+    )
 
 -- and a later round that isn't held and leaves all of it is calm
-pub unchanged_is_calm : (now : ℕ) (n : Node) → 1 ≤ n.rounds → is_held n ≡ false → compared (node_round now n).0 ≡ compared n → (node_round now n).0.calm ≡ true
+pub unchanged_is_calm : (now : ℕ) (n : Node) → 1 ≤ n.rounds → is_held n ≡ false → compared (node_round now n).0 ≡ compared n
+    → (node_round now n).0.calm ≡ true
 unfolding node_round with_calm
 unchanged_is_calm now n ran free same =
     let some : nat_le 1 n.rounds ≡ true = le-leb 1 n.rounds ran in

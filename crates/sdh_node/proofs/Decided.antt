@@ -17,7 +17,8 @@ scene_is : (now : ℕ) (n : Node) → scene_in (node_round now n).0 ≡ scene_of
 unfolding node_round with_calm after_crossing crossing after_decision scene_of scene_in
 scene_is now n = refl
 
-pub state_is : (now : ℕ) (n : Node) → (node_round now n).0.state ≡ (if is_held n then n.state else state_after (scene_in (node_round now n).0))
+pub state_is : (now : ℕ) (n : Node) → (node_round now n).0.state
+    ≡ (if is_held n then n.state else state_after (scene_in (node_round now n).0))
 unfolding node_round with_calm after_crossing crossing after_decision scene_of scene_in
 state_is now n = refl
 
@@ -33,9 +34,12 @@ word_turned now n East = refl
 by_turn : (b : Bool) (s t : Scene) (d : Side) (k : K) → s ≡ t → (if b then k else word s d) ≡ (if b then k else word t d)
 by_turn b s t d k same = ap (λ x. if b then k else word x d) same
 
-pub word_is : (now : ℕ) (n : Node) (d : Side) → word_of d (node_round now n).0 ≡ (if is_held n then word_of d n else word (scene_in (node_round now n).0) d)
+pub word_is : (now : ℕ) (n : Node) (d : Side) → word_of d (node_round now n).0
+    ≡ (if is_held n then word_of d n else word (scene_in (node_round now n).0) d)
 unfolding next_word
-word_is now n d = word_turned now n d ∙ by_turn (is_held n) (scene_of (crossing now n)) (scene_in (node_round now n).0) d (word_of d n) (sym (scene_is now n))
+word_is now n d =
+    word_turned now n d ∙ by_turn (is_held n) (scene_of (crossing now n)) (scene_in (node_round now n).0) d (word_of d n)
+    (sym (scene_is now n))
 
 pub turns_left : (now : ℕ) (n : Node) → (node_round now n).0.held ≡ n.held - 1
 unfolding node_round with_calm after_crossing

@@ -9,7 +9,8 @@ use Rattle.sdh_terminal.specs.Tributaries.{Tributary, is_port, port_of, HasPort,
 use Rattle.sdh_node.specs.Crossing.{Cross, after_decision, delivered_to, all_delivered}
 use Rattle.sdh_node.specs.Node.{Node, crossing, ports_after, after_crossing, with_calm, node_round, GoesOn}
 
-one_more : (id : PortId) (u t : Tributary) (us ts : List Tributary) → u.port ≡ t.port → (b : Bool) → is_port id t ≡ b → (IsSome (find (is_port id) ts) → IsSome (find (is_port id) us))
+one_more : (id : PortId) (u t : Tributary) (us ts : List Tributary) → u.port ≡ t.port → (b : Bool) → is_port id t ≡ b
+    → (IsSome (find (is_port id) ts) → IsSome (find (is_port id) us))
     → IsSome (find (is_port id) (t ∷ ts)) → IsSome (find (is_port id) (u ∷ us))
 one_more id u t us ts same true e rest h =
     let here : is_port id u ≡ true = ap (λ (p : PortId). (p.circuit == id.circuit) && same_end p.end id.end) same ∙ e in
@@ -18,9 +19,11 @@ one_more id u t us ts same false e rest h =
     let here : is_port id u ≡ false = ap (λ (p : PortId). (p.circuit == id.circuit) && same_end p.end id.end) same ∙ e in
     rw here (rest (rw e at h))
 
-has_mapped : (id : PortId) (f : ℕ → Tributary → Tributary) (i : ℕ) (ts : List Tributary) → ((k : ℕ) (t : Tributary) → (f k t).port ≡ t.port) → IsSome (find (is_port id) ts) → IsSome (find (is_port id) (map_from f i ts))
+has_mapped : (id : PortId) (f : ℕ → Tributary → Tributary) (i : ℕ) (ts : List Tributary) → ((k : ℕ) (t : Tributary) → (f k t).port ≡ t.port)
+    → IsSome (find (is_port id) ts) → IsSome (find (is_port id) (map_from f i ts))
 has_mapped id f i [] same h = h
-has_mapped id f i (t ∷ ts) same h = one_more id (f i t) t (map_from f (i + 1) ts) ts (same i t) (is_port id t) refl (has_mapped id f (i + 1) ts same) h
+has_mapped id f i (t ∷ ts) same h =
+    one_more id (f i t) t (map_from f (i + 1) ts) ts (same i t) (is_port id t) refl (has_mapped id f (i + 1) ts same) h
 
 delivered_has : (x : Cross) (id : PortId) (ports : List Tributary) → HasPort ports id → HasPort (all_delivered x ports) id
 unfolding all_delivered port_of

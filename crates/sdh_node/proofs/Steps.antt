@@ -17,7 +17,8 @@ failed-is defect.None h = cc
 failed-is defect.Sd h = cc
 failed-is defect.Sf h = refl
 
-module _ (r : Receiving) (is : IsReceiving r) (code : Code) (fails : Bool) (heard : Option K) (c : code ≡ r.request) (f : fails ≡ is_failed r.local.defect) (h : heard ≡ hears r.brought) where
+module _ (r : Receiving) (is : IsReceiving r) (code : Code) (fails : Bool) (heard : Option K) (c : code ≡ r.request)
+    (f : fails ≡ is_failed r.local.defect) (h : heard ≡ hears r.brought) where
   never : code ≢ Rr
   never e = is.never_rr (sym c ∙ e)
 
@@ -27,12 +28,19 @@ module _ (r : Receiving) (is : IsReceiving r) (code : Code) (fails : Bool) (hear
   silent : fails ≡ true → heard ≡ None
   silent e = h ∙ is.silent (failed-is _ (sym f ∙ e))
 
-pub may_step : (ids : List ℕ) (at : ℕ) (w e : Receiving) (wr er : Code) (wf ef : Bool) (wh eh : Option K) → at < length ids → IsReceiving w → IsReceiving e
-    → wr ≡ w.request → er ≡ e.request → wf ≡ is_failed w.local.defect → ef ≡ is_failed e.local.defect → wh ≡ hears w.brought → eh ≡ hears e.brought
+pub may_step : (ids : List ℕ) (at : ℕ) (w e : Receiving) (wr er : Code) (wf ef : Bool) (wh eh : Option K) → at < length ids → IsReceiving w
+    → IsReceiving e
+    → wr ≡ w.request → er ≡ e.request → wf ≡ is_failed w.local.defect → ef ≡ is_failed e.local.defect → wh ≡ hears w.brought
+    → eh ≡ hears e.brought
     → MayStep (scene ids at (record { west = wr; east = er; west_fails = wf; east_fails = ef }) (record { west = wh; east = eh }))
 may_step ids at w e wr er wf ef wh eh inside iw ie a b c d f g = record {
   inside = inside;
-  needs = record { west = never w iw wr wf wh a c f; east = never e ie er ef eh b d g; west_fails = failing w iw wr wf wh a c f; east_fails = failing e ie er ef eh b d g };
+  needs = record {
+    west = never w iw wr wf wh a c f;
+    east = never e ie er ef eh b d g;
+    west_fails = failing w iw wr wf wh a c f;
+    east_fails = failing e ie er ef eh b d g;
+  };
   west_silent = silent w iw wr wf wh a c f;
   east_silent = silent e ie er ef eh b d g;
 }

@@ -14,7 +14,8 @@ use Rattle.sdh_terminal.specs.Tributaries.{Tributary, added_by, added_last, all_
 use Rattle.sdh_node.specs.Crossing.{Cross, after_intakes, scene_of, after_decision, next_word, dropped_to, all_delivered, input_at}
 use Rattle.sdh_terminal.specs.Sending.{Sending, with_word, frame_from, after_sending}
 use Rattle.sdh_terminal.proofs.Ports.{holds-adds}
-use Rattle.sdh_node.specs.Node.{Node, crossing, ports_after, with_next_word, after_crossing, frames_of, compared, compared_in, may_be_calm, with_calm, node_round}
+use Rattle.sdh_node.specs.Node.{Node, crossing, ports_after, with_next_word, after_crossing, frames_of, compared, compared_in, may_be_calm}
+use Rattle.sdh_node.specs.Node.{with_calm, node_round}
 
 -- the node that holds these
 abbrev pub node_of : Settings → ℕ → ℕ → Cross → List Tributary → Sending → Sending → Bool → Node
@@ -42,7 +43,8 @@ module _ (now : ℕ) (s : Settings) (rounds turns : ℕ) (x0 : Cross) (ports : L
   abbrev held : Bool
   held = nat_le 1 turns
 
-  module _ (tk x : Cross) (ds fs : List Tributary) (take : tk ≡ after_intakes s.threshold now x0) (decide : x ≡ after_decision held tk) (deliver : ds ≡ all_delivered x ports) (feed : fs ≡ all_fed ds) where
+  module _ (tk x : Cross) (ds fs : List Tributary) (take : tk ≡ after_intakes s.threshold now x0) (decide : x ≡ after_decision held tk)
+      (deliver : ds ≡ all_delivered x ports) (feed : fs ≡ all_fed ds) where
     cross_is : x ≡ crossing now n
     unfolding crossing after_intakes
     cross_is = decide ∙ ap (after_decision held) take
@@ -56,24 +58,29 @@ module _ (now : ℕ) (s : Settings) (rounds turns : ℕ) (x0 : Cross) (ports : L
     added_is qs same = ap added_last (same ∙ ports_is) ∙ holds-adds (dropped_to (crossing now n)) ports
 
     -- what a side that sends says
-    said_is : (side : Side) (k : K) (o said : Sending) → k ≡ next_word held tk side o.word → said ≡ with_word k o → said ≡ with_next_word held (crossing now n) side o
+    said_is : (side : Side) (k : K) (o said : Sending) → k ≡ next_word held tk side o.word → said ≡ with_word k o
+        → said ≡ with_next_word held (crossing now n) side o
     unfolding crossing after_intakes after_decision next_word scene_of
     said_is side k o said word_is say = say ∙ ap (λ w. with_word w o) (word_is ∙ ap (λ y. next_word held y side o.word) take)
 
     -- and sends
-    sent_is : (side : Side) (k : K) (o said after : Sending) (qs : List Tributary) → k ≡ next_word held tk side o.word → said ≡ with_word k o → qs ≡ fs → after ≡ after_sending (input_at x (added_last qs) side) said
+    sent_is : (side : Side) (k : K) (o said after : Sending) (qs : List Tributary) → k ≡ next_word held tk side o.word
+        → said ≡ with_word k o → qs ≡ fs → after ≡ after_sending (input_at x (added_last qs) side) said
         → after ≡ after_sending (input_at (crossing now n) (added_by ports) side) (with_next_word held (crossing now n) side o)
     sent_is side k o said after qs word_is say same send =
         let p = said_is side k o said word_is say in
         send ∙ λ i. after_sending (input_at (cross_is i) (added_is qs same i) side) (p i)
 
-    frame_is : (side : Side) (k : K) (o said : Sending) (qs : List Tributary) (frame : Frame) → k ≡ next_word held tk side o.word → said ≡ with_word k o → qs ≡ fs → frame ≡ frame_from (input_at x (added_last qs) side) said
+    frame_is : (side : Side) (k : K) (o said : Sending) (qs : List Tributary) (frame : Frame) → k ≡ next_word held tk side o.word
+        → said ≡ with_word k o → qs ≡ fs → frame ≡ frame_from (input_at x (added_last qs) side) said
         → frame ≡ frame_from (input_at (crossing now n) (added_by ports) side) (with_next_word held (crossing now n) side o)
     frame_is side k o said qs frame word_is say same send =
         let p = said_is side k o said word_is say in
         send ∙ λ i. frame_from (input_at (cross_is i) (added_is qs same i) side) (p i)
 
-    module _ (ww we : K) (ws es wa ea : Sending) (wq eq : List Tributary) (west_word : ww ≡ next_word held tk West wo.word) (east_word : we ≡ next_word held tk East eo.word) (west_say : ws ≡ with_word ww wo) (east_say : es ≡ with_word we eo) (west_ports : wq ≡ fs) (east_ports : eq ≡ fs) where
+    module _ (ww we : K) (ws es wa ea : Sending) (wq eq : List Tributary) (west_word : ww ≡ next_word held tk West wo.word)
+        (east_word : we ≡ next_word held tk East eo.word) (west_say : ws ≡ with_word ww wo) (east_say : es ≡ with_word we eo)
+        (west_ports : wq ≡ fs) (east_ports : eq ≡ fs) where
       pub west_frame_is : (frame : Frame) → frame ≡ frame_from (input_at x (added_last wq) West) ws → frame ≡ (node_round now n).1.west
       unfolding node_round frames_of
       west_frame_is frame send = frame_is West ww wo ws wq frame west_word west_say west_ports send
@@ -82,19 +89,25 @@ module _ (now : ℕ) (s : Settings) (rounds turns : ℕ) (x0 : Cross) (ports : L
       unfolding node_round frames_of
       east_frame_is frame send = frame_is East we eo es eq frame east_word east_say east_ports send
 
-      module _ (west_send : wa ≡ after_sending (input_at x (added_last wq) West) ws) (east_send : ea ≡ after_sending (input_at x (added_last eq) East) es) where
+      module _ (west_send : wa ≡ after_sending (input_at x (added_last wq) West) ws)
+          (east_send : ea ≡ after_sending (input_at x (added_last eq) East) es) where
         -- what the calls tell is what is compared over the whole round
         pub calm_is : (ran taken kept wsaid wmade esaid emade : Bool) → ran ≡ (nat_le 1 rounds && not held)
-            → taken ≡ (same_in (compared_in tk.west) (compared_in x0.west) && same_in (compared_in tk.east) (compared_in x0.east)) → kept ≡ same_state x.state tk.state
-            → wsaid ≡ same_word ws.word wo.word → wmade ≡ same_generators wa.generators ws.generators → esaid ≡ same_word es.word eo.word → emade ≡ same_generators ea.generators es.generators
-            → (ran && (taken && kept && (wsaid && wmade) && (esaid && emade))) ≡ (may_be_calm n && same_compared (compared (after_crossing (crossing now n) n)) (compared n))
+            → taken ≡ (same_in (compared_in tk.west) (compared_in x0.west) && same_in (compared_in tk.east) (compared_in x0.east))
+            → kept ≡ same_state x.state tk.state
+            → wsaid ≡ same_word ws.word wo.word → wmade ≡ same_generators wa.generators ws.generators → esaid ≡ same_word es.word eo.word
+            → emade ≡ same_generators ea.generators es.generators
+            → (ran && (taken && kept && (wsaid && wmade) && (esaid && emade)))
+            ≡ (may_be_calm n && same_compared (compared (after_crossing (crossing now n) n)) (compared n))
         unfolding same_compared after_crossing crossing after_intakes after_decision after_sending
         calm_is ran taken kept wsaid wmade esaid emade r t k wsa wma esa ema =
             let wp = said_is West ww wo ws west_word west_say in
             let ep = said_is East we eo es east_word east_say in
             let ws_ = sent_is West ww wo ws wa wq west_word west_say west_ports west_send in
             let es_ = sent_is East we eo es ea eq east_word east_say east_ports east_send in
-            let taken_is = t ∙ (λ i. same_in (compared_in (take i).west) (compared_in x0.west) && same_in (compared_in (take i).east) (compared_in x0.east)) in
+            let taken_is =
+            t ∙ (λ i. same_in (compared_in (take i).west) (compared_in x0.west)
+            && same_in (compared_in (take i).east) (compared_in x0.east)) in
             let kept_is = k ∙ (λ i. same_state (cross_is i).state (take i).state) in
             let wsaid_is = wsa ∙ (λ i. same_word (wp i).word wo.word) in
             let esaid_is = esa ∙ (λ i. same_word (ep i).word eo.word) in
@@ -102,7 +115,8 @@ module _ (now : ℕ) (s : Settings) (rounds turns : ℕ) (x0 : Cross) (ports : L
             let emade_is = ema ∙ (λ i. same_generators (es_ i).generators (ep i).generators) in
             λ i. r i && (taken_is i && kept_is i && (wsaid_is i && wmade_is i) && (esaid_is i && emade_is i))
 
-        pub node_is : (calm : Bool) → calm ≡ (may_be_calm n && same_compared (compared (after_crossing (crossing now n) n)) (compared n)) → node_of s (rounds + 1) (turns - 1) x fs wa ea calm ≡ (node_round now n).0
+        pub node_is : (calm : Bool) → calm ≡ (may_be_calm n && same_compared (compared (after_crossing (crossing now n) n)) (compared n))
+            → node_of s (rounds + 1) (turns - 1) x fs wa ea calm ≡ (node_round now n).0
         unfolding node_round with_calm after_crossing crossing after_decision
         node_is calm told =
             let west = sent_is West ww wo ws wa wq west_word west_say west_ports west_send in

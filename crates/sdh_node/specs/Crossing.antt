@@ -71,7 +71,12 @@ is_failed defect.Sf = true
 
 -- what the node needs and hears
 abbrev pub needs_of : Cross → Needs
-needs_of x = record { west = x.west.request; east = x.east.request; west_fails = is_failed x.west.local.defect; east_fails = is_failed x.east.local.defect }
+needs_of x = record {
+  west = x.west.request;
+  east = x.east.request;
+  west_fails = is_failed x.west.local.defect;
+  east_fails = is_failed x.east.local.defect;
+}
 
 abbrev pub heard_of : Cross → Heard
 heard_of x = record { west = hears x.west.brought; east = hears x.east.brought }
@@ -113,7 +118,11 @@ feeder_of x m origin.Ais = feeder.Ais
 
 -- both sides in the round
 abbrev pub lines_of : Cross → Lines
-lines_of x = record { rate = x.west.section.rate; west = record { readings = x.west.readings; intake = x.west_in }; east = record { readings = x.east.readings; intake = x.east_in } }
+lines_of x = record {
+  rate = x.west.section.rate;
+  west = record { readings = x.west.readings; intake = x.west_in };
+  east = record { readings = x.east.readings; intake = x.east_in };
+}
 
 -- what feeds AU-4 number au that leaves on a side, and what is dropped of slot m from a side
 unfoldable pub leads : Cross → Side → ℕ → Feeder

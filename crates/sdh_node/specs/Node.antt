@@ -172,7 +172,13 @@ abbrev pub compared_out : Sending → ComparedOut
 compared_out s = record { word = s.word; generators = s.generators }
 
 abbrev pub compared : Node → Compared
-compared n = record { west = compared_in n.west; east = compared_in n.east; state = n.state; west_out = compared_out n.west_out; east_out = compared_out n.east_out }
+compared n = record {
+  west = compared_in n.west;
+  east = compared_in n.east;
+  state = n.state;
+  west_out = compared_out n.west_out;
+  east_out = compared_out n.east_out;
+}
 
 -- a round ran before, and this turn isn't held
 abbrev pub may_be_calm : Node → Bool
@@ -225,7 +231,12 @@ sent_of n = record { west = n.west_out.word; east = n.east_out.word }
 
 -- what a node needed and heard in its last round
 abbrev pub needed : Node → Needs
-needed n = record { west = n.west.request; east = n.east.request; west_fails = is_failed n.west.local.defect; east_fails = is_failed n.east.local.defect }
+needed n = record {
+  west = n.west.request;
+  east = n.east.request;
+  west_fails = is_failed n.west.local.defect;
+  east_fails = is_failed n.east.local.defect;
+}
 
 abbrev pub heard_by : Node → Heard
 heard_by n = record { west = hears n.west.brought; east = hears n.east.brought }

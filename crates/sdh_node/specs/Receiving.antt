@@ -1,6 +1,7 @@
 -- One side of a node that receives: what the section overhead of a frame says, the defect, the word heard, the local
 -- request, and what the pointer interpreters make of the AU-4s.
-use Rattle.std.specs.Prelude.{◌≡◌, ◌≢◌, ℕ, ◌+◌, ◌*◌, ◌%◌, ◌≤◌, Bool, ◌==◌, nat_le, if◌then◌else◌, Option, Some, None, IfSome, List, length, map, slice_index, replicate}
+use Rattle.std.specs.Prelude.{◌≡◌, ◌≢◌, ℕ, ◌+◌, ◌*◌, ◌%◌, ◌≤◌, Bool, ◌==◌, nat_le, if◌then◌else◌, Option, Some, None, IfSome, List, length}
+use Rattle.std.specs.Prelude.{map, slice_index, replicate}
 use Rattle.std.specs.Option.{is_some}
 use Rattle.sdh_basics.specs.Indexed.{map_from}
 use Rattle.sdh_terms.specs.declared.Rate.{Rate}
@@ -76,7 +77,11 @@ after_overhead threshold now r = record r {
 
 -- the side after it took what arrived, and after its interpreters read
 unfoldable pub after_intake : ℕ → ℕ → Receiving → Receiving
-after_intake threshold now r = record (after_overhead threshold now r) { readings = readings_by (is_some r.arrived) (n_of r.section.rate) (reception threshold r).bytes r.readings }
+after_intake threshold now r =
+    record (after_overhead threshold now r) {
+      readings = readings_by (is_some r.arrived) (n_of r.section.rate)
+          (reception threshold r).bytes r.readings;
+    }
 
 -- ---- between rounds
 

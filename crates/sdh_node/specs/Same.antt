@@ -37,4 +37,6 @@ same_out a b = same_word a.word b.word && same_generators a.generators b.generat
 
 -- all of it is the same
 unfoldable pub same_compared : Compared → Compared → Bool
-same_compared a b = same_in a.west b.west && same_in a.east b.east && same_state a.state b.state && same_out a.west_out b.west_out && same_out a.east_out b.east_out
+same_compared a b =
+    same_in a.west b.west && same_in a.east b.east && same_state a.state b.state && same_out a.west_out b.west_out
+    && same_out a.east_out b.east_out

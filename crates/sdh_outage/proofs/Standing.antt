@@ -1,5 +1,6 @@
 -- Bytes that stand in others.
-use Rattle.std.proofs.Common.{◌≡◌, ℕ, ◌+◌, ◌-◌, ◌<◌, ◌≤◌, Bool, true, false, List, ◌++◌, length, get_or, take, drop, bytes_eq, refl, sym, ap, ◌∙◌, arith}
+use Rattle.std.proofs.Common.{◌≡◌, ℕ, ◌+◌, ◌-◌, ◌<◌, ◌≤◌, Bool, true, false, List, ◌++◌, length, get_or, take, drop, bytes_eq, refl, sym}
+use Rattle.std.proofs.Common.{ap, ◌∙◌, arith}
 use Rattle.std.specs.Prelude.{Option, Some, None, is_some}
 use Rattle.std.specs.List.{range_with_len}
 use Rattle.std.proofs.lemmas.Bool.{false_from_ne_true}
@@ -24,7 +25,9 @@ module _ (bytes others : List ℕ) where
   places = range_with_len 0 (length others + 1)
 
   occurs_same : (k : ℕ) → OccursAt others bytes k → bytes ≡ take (length bytes) (drop k others)
-  occurs_same k at = ext_get_or 0 bytes (take (length bytes) (drop k others)) (sym (length-part k (length bytes) others at.fits)) (λ i h. sym (get_or-part k (length bytes) others i h ∙ at.reads i h))
+  occurs_same k at =
+      ext_get_or 0 bytes (take (length bytes) (drop k others)) (sym (length-part k (length bytes) others at.fits))
+      (λ i h. sym (get_or-part k (length bytes) others i h ∙ at.reads i h))
 
   same_occurs : (k : ℕ) → k ≤ length others → bytes ≡ take (length bytes) (drop k others) → OccursAt others bytes k
   same_occurs k inside same = record {
@@ -39,7 +42,8 @@ module _ (bytes others : List ℕ) where
   unfolding is_part
   part_at k at =
       let below : k < length others + 1 = omega (arith, at.fits) in
-      list_any_at stands places k 0 (omega (arith, length-range_with_len 0 (length others + 1))) (ap stands (place_at k 0 below) ∙ (bytes_eq-Decides bytes (take (length bytes) (drop k others))).1 (occurs_same k at))
+      list_any_at stands places k 0 (omega (arith, length-range_with_len 0 (length others + 1)))
+      (ap stands (place_at k 0 below) ∙ (bytes_eq-Decides bytes (take (length bytes) (drop k others))).1 (occurs_same k at))
 
   no_part : Nowhere (OccursAt others bytes) 0 (length others + 1) → is_part bytes others ≡ false
   unfolding is_part
@@ -48,7 +52,8 @@ module _ (bytes others : List ℕ) where
       (λ k d h. (
       let below : k < length others + 1 = omega (arith, length-range_with_len 0 (length others + 1)) in
       ap stands (place_at k d below)
-      ∙ false_from_ne_true (stands k) (λ t. nowhere k (omega arith) below (same_occurs k (omega arith) ((bytes_eq-Decides bytes (take (length bytes) (drop k others))).0 t)))))
+      ∙ false_from_ne_true (stands k) (λ t. nowhere k (omega arith) below
+      (same_occurs k (omega arith) ((bytes_eq-Decides bytes (take (length bytes) (drop k others))).0 t)))))
 
   -- what a search answers
   pub part_found : (r : Option ℕ) → FindsNeedle others bytes 0 r → is_some r ≡ is_part bytes others
@@ -71,10 +76,12 @@ part_between front bytes back =
       reads = λ i h. (
           let inside : length front + i < length here = omega (arith, length-append front bytes) in
           let at : length front + i - length front ≡ i = omega arith in
-          get_or_append_left here back 0 (length front + i) inside ∙ get_or-append_right front bytes (length front) (length front + i) 0 refl (omega arith) ∙ ap (λ j. get_or bytes j 0) at);
+          get_or_append_left here back 0 (length front + i) inside
+          ∙ get_or-append_right front bytes (length front) (length front + i) 0 refl (omega arith) ∙ ap (λ j. get_or bytes j 0) at);
     })
 
-pub stands_in_stream : (port : Customer) (p n q m : ℕ) → p ≤ q → q + m ≤ p + n → OccursAt (stream_from port p n) (stream_from port q m) (q - p)
+pub stands_in_stream : (port : Customer) (p n q m : ℕ) → p ≤ q → q + m ≤ p + n
+    → OccursAt (stream_from port p n) (stream_from port q m) (q - p)
 stands_in_stream port p n q m after inside = record {
   fits = omega (arith, length-stream_from port p n, length-stream_from port q m);
   reads = λ i h. (
@@ -84,4 +91,5 @@ stands_in_stream port p n q m after inside = record {
 }
 
 pub part_of_stream : (port : Customer) (p n q m : ℕ) → p ≤ q → q + m ≤ p + n → is_part (stream_from port q m) (stream_from port p n) ≡ true
-part_of_stream port p n q m after inside = part_at (stream_from port q m) (stream_from port p n) (q - p) (stands_in_stream port p n q m after inside)
+part_of_stream port p n q m after inside =
+    part_at (stream_from port q m) (stream_from port p n) (q - p) (stands_in_stream port p n q m after inside)

@@ -24,23 +24,27 @@ stream_from-zero port p = cells-zero _
 pub drop-stream : (port : Customer) (p k n : ℕ) → drop k (stream_from port p (k + n)) ≡ stream_from port (p + k) n
 drop-stream port p k n =
     let front = stream_from port p k in
-    ap (drop k) (stream_from-append port p k n) ∙ ap (λ i. drop i (front ++ stream_from port (p + k) n)) (sym (length-stream_from port p k)) ∙ drop-append_seam front (stream_from port (p + k) n)
+    ap (drop k) (stream_from-append port p k n) ∙ ap (λ i. drop i (front ++ stream_from port (p + k) n)) (sym (length-stream_from port p k))
+    ∙ drop-append_seam front (stream_from port (p + k) n)
 
 -- its first bytes
-pub front-stream : (port : Customer) (p n : ℕ) (front rest : List ℕ) → front ++ rest ≡ stream_from port p n → front ≡ stream_from port p (length front)
+pub front-stream : (port : Customer) (p n : ℕ) (front rest : List ℕ) → front ++ rest ≡ stream_from port p n
+    → front ≡ stream_from port p (length front)
 front-stream port p n front rest e =
     let k = length front in
     let fits : k + (n - k) ≡ n = omega (arith, ap length e, length-append front rest, length-stream_from port p n) in
     let first = stream_from port p k in
     let behind = stream_from port (p + k) (n - k) in
-    sym (take-append_seam front rest) ∙ ap (take k) (e ∙ ap (stream_from port p) (sym fits) ∙ stream_from-append port p k (n - k)) ∙ ap (λ i. take i (first ++ behind)) (sym (length-stream_from port p k)) ∙ take-append_seam first behind
+    sym (take-append_seam front rest) ∙ ap (take k) (e ∙ ap (stream_from port p) (sym fits) ∙ stream_from-append port p k (n - k))
+    ∙ ap (λ i. take i (first ++ behind)) (sym (length-stream_from port p k)) ∙ take-append_seam first behind
 
 pub length-near : (port : Customer) (round : ℕ) → length (near port round) ≡ 2349 * 78
 unfolding near
 length-near port round = length-stream_from port (near_from round) (2349 * 78)
 
 -- what stands at a place among the bytes that are near
-pub near_at : (port : Customer) (round k : ℕ) (bytes : List ℕ) → OccursAt (near port round) bytes k → bytes ≡ stream_from port (near_from round + k) (length bytes)
+pub near_at : (port : Customer) (round k : ℕ) (bytes : List ℕ) → OccursAt (near port round) bytes k
+    → bytes ≡ stream_from port (near_from round + k) (length bytes)
 unfolding near
 near_at port round k bytes at =
     let s = near_from round in
@@ -48,7 +52,8 @@ near_at port round k bytes at =
     ext_get_or 0 bytes (stream_from port (s + k) n) (sym (length-stream_from port (s + k) n))
     (λ i h. (
     let inside : k + i < 2349 * 78 = omega (arith, at.fits, length-stream_from port s (2349 * 78)) in
-    sym (at.reads i h) ∙ get_or-stream_from port s (2349 * 78) (k + i) 0 inside ∙ ap (stream_byte port) (let e : s + (k + i) ≡ s + k + i = omega arith in e) ∙ sym (get_or-stream_from port (s + k) n i 0 h)))
+    sym (at.reads i h) ∙ get_or-stream_from port s (2349 * 78) (k + i) 0 inside
+    ∙ ap (stream_byte port) (let e : s + (k + i) ≡ s + k + i = omega arith in e) ∙ sym (get_or-stream_from port (s + k) n i 0 h)))
 
 -- ---- a window
 
@@ -64,7 +69,8 @@ pub window_long : (feed : Fed) (round from : ℕ) (bytes : List ℕ) → IsWindo
 window_long feed round from bytes w = ap length w.bytes_are ∙ length-stream_from feed.port (near_from round - from) (from + 2349 * 78)
 
 -- without these
-pub window_dropped : (feed : Fed) (round from : ℕ) (bytes rest : List ℕ) → rest ≡ drop from bytes → IsWindow feed round from bytes → IsWindow feed round 0 rest
+pub window_dropped : (feed : Fed) (round from : ℕ) (bytes rest : List ℕ) → rest ≡ drop from bytes → IsWindow feed round from bytes
+    → IsWindow feed round 0 rest
 window_dropped feed round from bytes rest e w = record {
   still = w.still;
   rounds_are = w.rounds_are;
@@ -81,7 +87,8 @@ window_dropped feed round from bytes rest e w = record {
         ap (drop from) w.bytes_are ∙ drop-stream feed.port (s - from) from (2349 * 78) ∙ ap₂ (stream_from feed.port) at n
 
 -- a chunk later
-pub window_next : (feed next : Fed) (round from : ℕ) (bytes chunk : List ℕ) → 71 ≤ round → next ≡ next_feed feed → chunk ≡ stream_from feed.port feed.clock.sent 2349
+pub window_next : (feed next : Fed) (round from : ℕ) (bytes chunk : List ℕ) → 71 ≤ round → next ≡ next_feed feed
+    → chunk ≡ stream_from feed.port feed.clock.sent 2349
     → IsWindow feed round from bytes → IsWindow next (round + 1) (from + 2349) (bytes ++ chunk)
 window_next feed next round from bytes chunk late n e w =
     let tick = plain_tick feed.clock w.still in
@@ -97,11 +104,15 @@ window_next feed next round from bytes chunk late n e w =
       rounds_are = omega (arith, ap (λ (f : Fed). f.clock.rounds) n, rounds_more feed.clock, w.rounds_are);
       sent_is = omega (arith, ap (λ (f : Fed). f.clock.sent) n, tick.2, w.sent_is);
       before = omega (arith, w.before);
-      bytes_are = ap₂ (λ a b. a ++ b) w.bytes_are (e ∙ ap (λ i. stream_from feed.port i 2349) begins) ∙ sym (stream_from-append feed.port p k 2349) ∙ ap₂ (stream_from feed.port) first count ∙ ap (λ c. stream_from c (near_from (round + 1) - (from + 2349)) (from + 2349 + 2349 * 78)) (sym port);
+      bytes_are =
+          ap₂ (λ a b. a ++ b) w.bytes_are (e ∙ ap (λ i. stream_from feed.port i 2349) begins) ∙ sym (stream_from-append feed.port p k 2349)
+          ∙ ap₂ (stream_from feed.port) first count ∙ ap
+          (λ c. stream_from c (near_from (round + 1) - (from + 2349)) (from + 2349 + 2349 * 78)) (sym port);
     }
 
 -- in the first rounds it stays where it is
-pub window_stays : (feed : Fed) (round from : ℕ) (bytes : List ℕ) → round < 71 → IsWindow feed round from bytes → IsWindow feed (round + 1) from bytes
+pub window_stays : (feed : Fed) (round from : ℕ) (bytes : List ℕ) → round < 71 → IsWindow feed round from bytes
+    → IsWindow feed (round + 1) from bytes
 window_stays feed round from bytes early w =
     let same : near_from round ≡ near_from (round + 1) = omega arith in
     record {
@@ -130,7 +141,8 @@ filled_none port feed n = record {
   bytes_are = sym (stream_from-zero port 0);
 }
 
-pub filled_more : (port : Customer) (feed next : Fed) (i : ℕ) (bytes chunk : List ℕ) → next ≡ next_feed feed → chunk ≡ stream_from feed.port feed.clock.sent 2349
+pub filled_more : (port : Customer) (feed next : Fed) (i : ℕ) (bytes chunk : List ℕ) → next ≡ next_feed feed
+    → chunk ≡ stream_from feed.port feed.clock.sent 2349
     → IsFilled port feed i bytes → IsFilled port next (i + 1) (bytes ++ chunk)
 filled_more port feed next i bytes chunk n e f =
     let tick = plain_tick feed.clock f.still in
@@ -141,7 +153,9 @@ filled_more port feed next i bytes chunk n e f =
       still = ap (λ (x : Fed). waiting x.clock) n ∙ tick.0;
       rounds_are = omega (arith, ap (λ (x : Fed). x.clock.rounds) n, rounds_more feed.clock, f.rounds_are);
       sent_is = omega (arith, ap (λ (x : Fed). x.clock.sent) n, tick.2, f.sent_is);
-      bytes_are = ap₂ (λ a b. a ++ b) f.bytes_are (e ∙ ap₂ (λ c p. stream_from c p 2349) f.port_is begins) ∙ sym (stream_from-append port 0 (2349 * i) 2349) ∙ ap (stream_from port 0) count;
+      bytes_are =
+          ap₂ (λ a b. a ++ b) f.bytes_are (e ∙ ap₂ (λ c p. stream_from c p 2349) f.port_is begins)
+          ∙ sym (stream_from-append port 0 (2349 * i) 2349) ∙ ap (stream_from port 0) count;
     }
 
 pub filled_all : (port : Customer) (feed : Fed) (bytes : List ℕ) → IsFilled port feed 78 bytes → IsWindow feed 0 0 bytes

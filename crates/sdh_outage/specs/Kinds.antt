@@ -37,4 +37,5 @@ last_heard before (now ∷ earlier) = now
 -- what the rounds were from round `first` on
 abbrev pub kinds_of : Customer → ℕ → Delivered → List Delivered → List Kind
 kinds_of port first before [] = []
-kinds_of port first before (now ∷ earlier) = kind_of port (first + length earlier) (last_heard before earlier) now ∷ kinds_of port first before earlier
+kinds_of port first before (now ∷ earlier) =
+    kind_of port (first + length earlier) (last_heard before earlier) now ∷ kinds_of port first before earlier

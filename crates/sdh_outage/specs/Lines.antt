@@ -29,11 +29,14 @@ stretch_text (Some s) = codes " from " ++ decimal s.from ++ codes " to " ++ deci
 
 -- how many rounds there were of each kind that isn't in order
 abbrev pub counts_text : Outage → List ℕ
-counts_text o = codes " ais " ++ decimal o.ais ++ codes " ones " ++ decimal o.ones ++ codes " jump " ++ decimal o.jump ++ codes " strange " ++ decimal o.strange
+counts_text o =
+    codes " ais " ++ decimal o.ais ++ codes " ones " ++ decimal o.ones ++ codes " jump " ++ decimal o.jump ++ codes " strange "
+    ++ decimal o.strange
 
 -- the port at that end of the circuit of that name had this outage
 abbrev pub outage_line : List ℕ → End → Outage → List ℕ
-outage_line name end o = port_named name end ++ codes " out " ++ rounds_text (out o) ++ stretch_text o.stretch ++ counts_text o ++ codes "\n"
+outage_line name end o =
+    port_named name end ++ codes " out " ++ rounds_text (out o) ++ stretch_text o.stretch ++ counts_text o ++ codes "\n"
 
 -- ---- the changes of one port
 

@@ -39,4 +39,5 @@ asked (word ∷ name ∷ letter ∷ more ∷ others) = None
 -- what is listed of a plan; the port that is asked for is none where the plan has no circuit of its name
 abbrev pub listing_of : Ask → Planned → Option Listing
 listing_of Run plan = Some listing.Ports
-listing_of (Trace name end) plan = option_map (λ circuit. listing.Trace (record { circuit = circuit; end = end })) (at_port (provisioning_of plan) name)
+listing_of (Trace name end) plan =
+    option_map (λ circuit. listing.Trace (record { circuit = circuit; end = end })) (at_port (provisioning_of plan) name)

@@ -18,7 +18,8 @@ use Rattle.sdh_outage_script.specs.Outages.{delivered_at, kinds_in, outage_in, p
 use Rattle.sdh_outage_script.specs.Scripts.{outage_walk}
 
 -- courses that are the same so far
-kinds_same : (far : Customer) (port : PortId) (k : ℕ) (at bt : ℕ → World) → ((j : ℕ) → j ≤ k → at j ≡ bt j) → kinds_in far port k at ≡ kinds_in far port k bt
+kinds_same : (far : Customer) (port : PortId) (k : ℕ) (at bt : ℕ → World) → ((j : ℕ) → j ≤ k → at j ≡ bt j)
+    → kinds_in far port k at ≡ kinds_in far port k bt
 kinds_same far port zero at bt same = refl
 kinds_same far port (suc k) at bt same =
     let before = same k (omega arith) in
@@ -26,13 +27,15 @@ kinds_same far port (suc k) at bt same =
     let rest = kinds_same far port k at bt (λ j h. same j (omega arith)) in
     λ i. kind_of far ((now i).ring.rounds - 1) (delivered_at (before i).ring port) (delivered_at (now i).ring port) ∷ rest i
 
-outage_same : (far : Customer) (port : PortId) (k : ℕ) (at bt : ℕ → World) → ((j : ℕ) → j ≤ k → at j ≡ bt j) → outage_in far port k at ≡ outage_in far port k bt
+outage_same : (far : Customer) (port : PortId) (k : ℕ) (at bt : ℕ → World) → ((j : ℕ) → j ≤ k → at j ≡ bt j)
+    → outage_in far port k at ≡ outage_in far port k bt
 outage_same far port k at bt same =
     let first = same 0 (omega arith) in
     let kinds = kinds_same far port k at bt same in
     λ i. outage_of (first i).ring.rounds (kinds i)
 
-ports_same : (k : ℕ) (at bt : ℕ → World) → ((j : ℕ) → j ≤ k → at j ≡ bt j) → (index : ℕ) (cs : List Provisioned) → ports_out k at index cs ≡ ports_out k bt index cs
+ports_same : (k : ℕ) (at bt : ℕ → World) → ((j : ℕ) → j ≤ k → at j ≡ bt j) → (index : ℕ) (cs : List Provisioned)
+    → ports_out k at index cs ≡ ports_out k bt index cs
 ports_same k at bt same index [] = refl
 ports_same k at bt same index (c ∷ cs) =
     let a = outage_same c.b (port_id index A) k at bt same in
@@ -40,7 +43,8 @@ ports_same k at bt same index (c ∷ cs) =
     let rest = ports_same k at bt same (index + 1) cs in
     λ i. record { name = c.name; end = A; outage = a i } ∷ record { name = c.name; end = B; outage = b i } ∷ rest i
 
-trace_same : (k : ℕ) (at bt : ℕ → World) → ((j : ℕ) → j ≤ k → at j ≡ bt j) → (index : ℕ) (c : Provisioned) (e : End) → trace_at k at index c e ≡ trace_at k bt index c e
+trace_same : (k : ℕ) (at bt : ℕ → World) → ((j : ℕ) → j ≤ k → at j ≡ bt j) → (index : ℕ) (c : Provisioned) (e : End)
+    → trace_at k at index c e ≡ trace_at k bt index c e
 trace_same k at bt same index c e =
     let far = customer_at c (other_end e) in
     let first = same 0 (omega arith) in
@@ -48,14 +52,20 @@ trace_same k at bt same index c e =
     let out = outage_same far (port_id index e) k at bt same in
     λ i. record { changes = changes_of (first i).ring.rounds (kinds i); out = record { name = c.name; end = e; outage = out i } }
 
-traces_same : (k : ℕ) (at bt : ℕ → World) → ((j : ℕ) → j ≤ k → at j ≡ bt j) → (cs : List Provisioned) (port : PortId) → trace_in k at cs port ≡ trace_in k bt cs port
-traces_same k at bt same cs port = λ i. option_map (λ (c : Provisioned). trace_same k at bt same port.circuit c port.end i) (slice_get cs port.circuit)
+traces_same : (k : ℕ) (at bt : ℕ → World) → ((j : ℕ) → j ≤ k → at j ≡ bt j) → (cs : List Provisioned) (port : PortId)
+    → trace_in k at cs port ≡ trace_in k bt cs port
+traces_same k at bt same cs port =
+    λ i. option_map (λ (c : Provisioned). trace_same k at bt same port.circuit c port.end i) (slice_get cs port.circuit)
 
 looks : (number k : ℕ) (at bt : ℕ → World) → ((j : ℕ) → j ≤ k + 0 → at j ≡ bt j) → outaged_in number at k ≡ outaged_in number bt k
 looks number k at bt same =
     let last = same k (omega arith) in
-    let ports = ports_same k at bt (λ j h. same j (omega arith)) 0 (at k).ring.circuits.circuits ∙ ap (λ (v : World). ports_out k bt 0 v.ring.circuits.circuits) last in
-    let traces = λ (port : PortId). traces_same k at bt (λ j h. same j (omega arith)) (at k).ring.circuits.circuits port ∙ ap (λ (v : World). trace_in k bt v.ring.circuits.circuits port) last in
+    let ports =
+    ports_same k at bt (λ j h. same j (omega arith)) 0 (at k).ring.circuits.circuits
+    ∙ ap (λ (v : World). ports_out k bt 0 v.ring.circuits.circuits) last in
+    let traces =
+    λ (port : PortId). traces_same k at bt (λ j h. same j (omega arith)) (at k).ring.circuits.circuits port
+    ∙ ap (λ (v : World). trace_in k bt v.ring.circuits.circuits port) last in
     λ i. record { number = number; round = (last i).ring.rounds - 1; ports = ports i; trace = λ port. traces port i }
 
 pub keeps_rounds : KeepsRounds outage_walk

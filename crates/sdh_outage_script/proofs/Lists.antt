@@ -4,11 +4,13 @@ use Rattle.std.specs.Prelude.{slice_get}
 use Rattle.std.proofs.lemmas.Option.{same_Some}
 
 -- what holds of all elements, of which there are i, and of a new one behind them
-pub all_pushed : {X : Type 0} (P : ℕ → X → Type 0) (xs : List X) (i : ℕ) (y : X) → length xs ≡ i → P i y → ((j : ℕ) (x : X) → slice_get xs j ≡ Some x → P j x)
+pub all_pushed : {X : Type 0} (P : ℕ → X → Type 0) (xs : List X) (i : ℕ) (y : X) → length xs ≡ i → P i y
+    → ((j : ℕ) (x : X) → slice_get xs j ≡ Some x → P j x)
     → (j : ℕ) (x : X) → slice_get (xs ++ y ∷ []) j ≡ Some x → P j x
 all_pushed P [] zero y long here before zero x get = subst (P zero) (same_Some y x get) here
 all_pushed P [] zero y long here before (suc j) x get = absurd (cc)
 all_pushed P [] (suc i) y long here before j x get = absurd (omega arith)
 all_pushed P (z ∷ xs) zero y long here before j x get = absurd (omega arith)
 all_pushed P (z ∷ xs) (suc i) y long here before zero x get = before zero x get
-all_pushed P (z ∷ xs) (suc i) y long here before (suc j) x get = all_pushed (λ k. P (suc k)) xs i y (omega arith) here (λ k v there. before (suc k) v there) j x get
+all_pushed P (z ∷ xs) (suc i) y long here before (suc j) x get =
+    all_pushed (λ k. P (suc k)) xs i y (omega arith) here (λ k v there. before (suc k) v there) j x get

@@ -20,11 +20,13 @@ use Rattle.sdh_outage_script.proofs.Known.{keeps_rounds}
 -- ---- all that is told
 
 -- it settles as a script does that reports the ring
-pub tells : ScriptsSettle → (plan : Planned) (listing : Listing) (f left : Fibres) (text : List ℕ) (end : Status) → IsPlanned plan → (f.honest ≡ true → IsHonest f)
+pub tells : ScriptsSettle → (plan : Planned) (listing : Listing) (f left : Fibres) (text : List ℕ) (end : Status) → IsPlanned plan
+    → (f.honest ≡ true → IsHonest f)
     → Came outage_walk plan.limit (listed listing) plan.steps (world_of plan f) f text end left → Tells plan listing f text end left
 tells settles plan listing f left text end fits honest x =
     tells_all outage_account plan f left end (listed listing) text keeps_rounds adm_new fits (λ h reports came. tt)
     (λ h large told last ran. (
     let shown = reported outage_walk refl report_of plan.limit 0 plan.steps (world_of plan f) told end last ran in
-    settles plan.settings plan.nodes (provisioning_of plan) f (may_start plan f fits (honest h)) (circuits_fit plan fits) plan.limit start plan.steps fits.steps_fit large shown.0 end last shown.1))
+    settles plan.settings plan.nodes (provisioning_of plan) f (may_start plan f fits (honest h))
+    (circuits_fit plan fits) plan.limit start plan.steps fits.steps_fit large shown.0 end last shown.1))
     x

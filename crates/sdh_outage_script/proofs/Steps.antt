@@ -42,7 +42,9 @@ module _ (w left : World) (limit : ℕ) (items : List Both) (x : Hears (λ at k.
 
   -- its rounds are numbered one after the other
   numbered : (j : ℕ) → j ≤ ran → (at j).ring.rounds ≡ (at 0).ring.rounds + j
-  numbered j low = ap (λ (r : HeldRing). r.rounds) (held_run adm (take j x.settles.rounds) w) ∙ ap (λ n. w.ring.rounds + n) (length-take-le j x.settles.rounds low)
+  numbered j low =
+      ap (λ (r : HeldRing). r.rounds) (held_run adm (take j x.settles.rounds) w)
+      ∙ ap (λ n. w.ring.rounds + n) (length-take-le j x.settles.rounds low)
 
   -- it left the last world of its course
   left_at : left ≡ at ran
@@ -52,26 +54,49 @@ module _ (w left : World) (limit : ℕ) (items : List Both) (x : Hears (λ at k.
   many_then = x.kept.many ∙ ap (λ (v : World). length v.ring.circuits.circuits) (sym left_at)
 
   -- what is told of it
-  pub told_is : (number : ℕ) → (let told : Outaged = record { number = number; round = left.ring.rounds - 1; ports = shown left.ring.circuits.circuits items; trace = trace_in ran at (at ran).ring.circuits.circuits } in told ≡ outaged_in number at ran)
+  pub told_is : (number : ℕ) → (let told : Outaged = record {
+    number = number;
+    round = left.ring.rounds - 1;
+    ports = shown left.ring.circuits.circuits items;
+    trace =
+        trace_in ran at (at ran).ring.circuits.circuits;
+  } in told ≡ outaged_in number at ran)
   told_is number =
-      ap (λ (v : World). record { number = number; round = v.ring.rounds - 1; ports = shown v.ring.circuits.circuits items; trace = trace_in ran at (at ran).ring.circuits.circuits }) left_at
-      ∙ ap (λ ports. record { number = number; round = (at ran).ring.rounds - 1; ports = ports; trace = trace_in ran at (at ran).ring.circuits.circuits }) (shown_is at ran items numbered x.kept)
+      ap (λ (v : World). record {
+        number = number;
+        round = v.ring.rounds - 1;
+        ports = shown v.ring.circuits.circuits items;
+        trace = trace_in ran at (at ran).ring.circuits.circuits;
+      }) left_at
+      ∙ ap (λ ports. record {
+        number = number;
+        round = (at ran).ring.rounds - 1;
+        ports = ports;
+        trace = trace_in ran at (at ran).ring.circuits.circuits;
+      }) (shown_is at ran items numbered x.kept)
 
   -- and what is written of that
-  pub listed_is : (listing : Listing) (number : ℕ) → shown_text listing number (left.ring.rounds - 1) left.ring.circuits.circuits items ≡ listed listing (outaged_in number at ran)
+  pub listed_is : (listing : Listing) (number : ℕ) → shown_text listing number (left.ring.rounds - 1) left.ring.circuits.circuits items
+      ≡ listed listing (outaged_in number at ran)
   listed_is listing.Ports number = ap (listed listing.Ports) (told_is number)
   listed_is (listing.Trace port) number =
-      ap (λ (v : World). settle_line number (v.ring.rounds - 1) ++ port_text (slice_get v.ring.circuits.circuits port.circuit) (slice_get items port.circuit) port.end) left_at
+      ap (λ (v : World). settle_line number (v.ring.rounds - 1)
+      ++ port_text (slice_get v.ring.circuits.circuits port.circuit) (slice_get items port.circuit) port.end) left_at
       ∙ ap (λ l. settle_line number ((at ran).ring.rounds - 1) ++ l) (trace_is at ran items numbered x.kept port)
 
   -- and the script goes on
-  pub heard_next : (before : ℕ) (now : List Both) → limit ≤ 65536 → BeginsAtAMultiple left.ring → ((port : PortId) → waiting_at left.ring port ≡ 0) → IsPrepared w.ring.settings.rate (length w.ring.ids) left.fibres
-      → (later : List Step) → MayRun before (step.Settle ∷ later) w.ring now w.fibres → MayRun (before + 1) later left.ring items left.fibres
+  pub heard_next : (before : ℕ) (now : List Both) → limit ≤ 65536 → BeginsAtAMultiple left.ring
+      → ((port : PortId) → waiting_at left.ring port ≡ 0) → IsPrepared w.ring.settings.rate (length w.ring.ids) left.fibres
+      → (later : List Step) → MayRun before (step.Settle ∷ later) w.ring now w.fibres
+      → MayRun (before + 1) later left.ring items left.fibres
   heard_next before now few begins none prepared later may =
       let most = x.settles.settles.within in
       record {
-        ring_may = next_by 65536 before ran w left (settled_held w left limit x.settles) (omega arith) begins none prepared later may.ring_may;
-        ready = subst (λ (v : World). AreReady v.ring.circuits.circuits v.ring.rounds items) (sym left_at) (ready_then at ran items x.kept (numbered ran (omega arith)));
+        ring_may =
+            next_by 65536 before ran w left (settled_held w left limit x.settles) (omega arith) begins none prepared later may.ring_may;
+        ready =
+            subst (λ (v : World). AreReady v.ring.circuits.circuits v.ring.rounds items) (sym left_at)
+            (ready_then at ran items x.kept (numbered ran (omega arith)));
       }
 
 -- ---- any other step

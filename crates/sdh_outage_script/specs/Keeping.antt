@@ -12,18 +12,23 @@ use Rattle.sdh_outage_script.specs.Outages.{delivered_at}
 use Rattle.sdh_outage_script.specs.Ports.{delivered_in, heard_in, AreListening}
 use Rattle.sdh_outage_script.specs.declared.ports.Both.{Both}
 
-delivered_same : (port : PortId) (k : ℕ) (at bt : ℕ → World) → ((j : ℕ) → j ≤ k → at j ≡ bt j) → delivered_in port k at ≡ delivered_in port k bt
+delivered_same : (port : PortId) (k : ℕ) (at bt : ℕ → World) → ((j : ℕ) → j ≤ k → at j ≡ bt j)
+    → delivered_in port k at ≡ delivered_in port k bt
 delivered_same port zero at bt same = refl
-delivered_same port (suc k) at bt same = ap₂ (λ (v : World) l. delivered_at v.ring port ∷ l) (same (suc k) (le_refl (suc k))) (delivered_same port k at bt (λ j low. same j (le_step low)))
+delivered_same port (suc k) at bt same =
+    ap₂ (λ (v : World) l. delivered_at v.ring port ∷ l) (same (suc k) (le_refl (suc k)))
+    (delivered_same port k at bt (λ j low. same j (le_step low)))
 
-heard_same : (far : Customer) (port : PortId) (k : ℕ) (at bt : ℕ → World) → ((j : ℕ) → j ≤ k → at j ≡ bt j) → heard_in far port k at ≡ heard_in far port k bt
+heard_same : (far : Customer) (port : PortId) (k : ℕ) (at bt : ℕ → World) → ((j : ℕ) → j ≤ k → at j ≡ bt j)
+    → heard_in far port k at ≡ heard_in far port k bt
 heard_same far port k at bt same =
     let first = same 0 zero-le in
     let past = delivered_same port k at bt same in
     λ i. heard far (first i).ring.rounds (delivered_at (first i).ring port) (past i)
 
 -- courses that are the same so far
-pub listening_same : (at bt : ℕ → World) (k : ℕ) (items : List Both) → ((j : ℕ) → j ≤ k → at j ≡ bt j) → AreListening at k items → AreListening bt k items
+pub listening_same : (at bt : ℕ → World) (k : ℕ) (items : List Both) → ((j : ℕ) → j ≤ k → at j ≡ bt j) → AreListening at k items
+    → AreListening bt k items
 listening_same at bt k items same x =
     let last = same k (le_refl k) in
     record {

@@ -26,7 +26,9 @@ delivered_at r port = (outlet_at r port).delivered
 -- the customer at its far end, by the number of each round, and by what the port delivered in the round before and in it.
 abbrev pub kinds_in : Customer → PortId → ℕ → (ℕ → World) → List Kind
 kinds_in far port zero at = []
-kinds_in far port (suc k) at = kind_of far ((at (suc k)).ring.rounds - 1) (delivered_at (at k).ring port) (delivered_at (at (suc k)).ring port) ∷ kinds_in far port k at
+kinds_in far port (suc k) at =
+    kind_of far ((at (suc k)).ring.rounds - 1) (delivered_at (at k).ring port) (delivered_at (at (suc k)).ring port)
+    ∷ kinds_in far port k at
 
 -- its outage in these rounds, of which the first has the number of the rounds before it
 abbrev pub outage_in : Customer → PortId → ℕ → (ℕ → World) → Outage

@@ -51,7 +51,8 @@ pub record IsListening (k : ℕ) (at : ℕ → World) (c : Provisioned) (index :
 pub record AreListening (at : ℕ → World) (k : ℕ) (items : List Both) : Type 0 where
   pub few : (at 0).ring.rounds ≤ 2 ^ 31
   pub many : length items ≡ length (at k).ring.circuits.circuits
-  pub each : (i : ℕ) (c : Provisioned) (both : Both) → slice_get (at k).ring.circuits.circuits i ≡ Some c → slice_get items i ≡ Some both → IsListening k at c i both
+  pub each : (i : ℕ) (c : Provisioned) (both : Both) → slice_get (at k).ring.circuits.circuits i ≡ Some c → slice_get items i ≡ Some both
+      → IsListening k at c i both
 
 -- ---- what listeners do
 
@@ -70,7 +71,9 @@ pub record HaveBegun (r : HeldRing) (index : ℕ) (before after : Both) : Type 0
 
 -- one more round was heard, in which this was delivered
 abbrev pub HearsOne : Delivered → Heard → Heard → Type 0
-HearsOne now before after = (far : Customer) (first : ℕ) (last : Delivered) (past : List Delivered) → before ≡ heard far first last past → after ≡ heard far first last (now ∷ past)
+HearsOne now before after =
+    (far : Customer) (first : ℕ) (last : Delivered) (past : List Delivered) → before ≡ heard far first last past
+    → after ≡ heard far first last (now ∷ past)
 
 -- the listeners of the circuit of this number heard what its ports delivered
 pub record Looked (r : HeldRing) (index : ℕ) (before after : Both) : Type 0 where
@@ -81,13 +84,15 @@ pub record Looked (r : HeldRing) (index : ℕ) (before after : Both) : Type 0 wh
 
 -- the outages that the listeners on both ports of a circuit counted
 abbrev pub both_shown : Provisioned → Both → List PortOutage
-both_shown c both = record { name = c.name; end = A; outage = both.a.outage } ∷ record { name = c.name; end = B; outage = both.b.outage } ∷ []
+both_shown c both = record { name = c.name; end = A; outage = both.a.outage } ∷ record { name = c.name; end = B; outage = both.b.outage }
+    ∷ []
 
 -- those of all circuits
 abbrev pub shown : List Provisioned → List Both → List PortOutage
 shown [] items = []
 shown (c ∷ cs) [] = []
-shown (c ∷ cs) (both ∷ items) = record { name = c.name; end = A; outage = both.a.outage } ∷ record { name = c.name; end = B; outage = both.b.outage } ∷ shown cs items
+shown (c ∷ cs) (both ∷ items) = record { name = c.name; end = A; outage = both.a.outage }
+    ∷ record { name = c.name; end = B; outage = both.b.outage } ∷ shown cs items
 
 -- ---- what one of them shows
 
@@ -98,7 +103,8 @@ listener_at both B = both.b
 
 -- the lines of the port at that end of the circuit of this name
 abbrev pub heard_text : List ℕ → End → Heard → List ℕ
-heard_text name end h = changes_text h.trace.changes (h.trace.count - 64) ++ told_line (record { name = name; end = end; outage = h.outage })
+heard_text name end h =
+    changes_text h.trace.changes (h.trace.count - 64) ++ told_line (record { name = name; end = end; outage = h.outage })
 
 -- those of a port, where there are its circuit and its listeners
 abbrev pub port_text : Option Provisioned → Option Both → End → List ℕ
@@ -108,4 +114,5 @@ port_text c both end = []
 -- the lines of the settle step of this number, which ended with that round
 abbrev pub shown_text : Listing → ℕ → ℕ → List Provisioned → List Both → List ℕ
 shown_text listing.Ports number round cs items = step_text number round (shown cs items)
-shown_text (listing.Trace port) number round cs items = settle_line number round ++ port_text (slice_get cs port.circuit) (slice_get items port.circuit) port.end
+shown_text (listing.Trace port) number round cs items =
+    settle_line number round ++ port_text (slice_get cs port.circuit) (slice_get items port.circuit) port.end

@@ -33,7 +33,8 @@ use Rattle.sdh_owed.specs.Reports.{port_told, ports_from, report_of}
 -- ---- clocks and what happened
 
 -- what a clock sends that goes by its history is what the history sends
-sends_told : (customer : Customer) (history : List Happening) → customer.offset ≤ 782 → plainly customer (clock_by customer.offset history) ≡ sends_by customer history
+sends_told : (customer : Customer) (history : List Happening) → customer.offset ≤ 782
+    → plainly customer (clock_by customer.offset history) ≡ sends_by customer history
 sends_told customer history small =
     let by : GoesBy customer.offset history (clock_by customer.offset history) = clocks_go_by_history customer.offset history small in
     let value = ap magnitude by.value_is in
@@ -44,29 +45,38 @@ abbrev other_of : ℕ → End → PortId
 other_of index e = record { circuit = index; end = other_end e }
 
 -- its offset is that of its customer
-offset_is : (circuits : List Provisioned) (index : ℕ) (c : Provisioned) (e : End) → slice_get circuits index ≡ Some c → offset_of circuits (other_of index e) ≡ (customer_at c (other_end e)).offset
+offset_is : (circuits : List Provisioned) (index : ℕ) (c : Provisioned) (e : End) → slice_get circuits index ≡ Some c
+    → offset_of circuits (other_of index e) ≡ (customer_at c (other_end e)).offset
 offset_is circuits index c e get = ap (λ o. option_map_or (λ (d : Provisioned). (customer_at d (other_end e)).offset) o 0) get
 
 -- a port is owed by the clocks of a run what it is owed by what happened
-pub due_told : (n : ℕ) (applied : ℕ → Bool) (circuits : List Provisioned) (ss : List Stretch) (index : ℕ) (c : Provisioned) (e : End) (t : ℕ) → slice_get circuits index ≡ Some c → (customer_at c (other_end e)).offset ≤ 782
-    → due_by_clocks n applied c e (clocks_by circuits ss (other_of index e)) t ≡ due n applied c (λ k. sends_by (customer_at c (other_end e)) (happened ss (other_of index e) k)) t
+pub due_told : (n : ℕ) (applied : ℕ → Bool) (circuits : List Provisioned) (ss : List Stretch) (index : ℕ) (c : Provisioned) (e : End)
+    (t : ℕ) → slice_get circuits index ≡ Some c → (customer_at c (other_end e)).offset ≤ 782
+    → due_by_clocks n applied c e (clocks_by circuits ss (other_of index e)) t
+    ≡ due n applied c (λ k. sends_by (customer_at c (other_end e)) (happened ss (other_of index e) k)) t
 due_told n applied circuits ss index c e t get small =
     let customer = customer_at c (other_end e) in
-    let same : (k : ℕ) → plainly customer (clocks_by circuits ss (other_of index e) k) ≡ sends_by customer (happened ss (other_of index e) k) = λ k. (
+    let same : (k : ℕ) → plainly customer (clocks_by circuits ss (other_of index e) k)
+    ≡ sends_by customer (happened ss (other_of index e) k) = λ k. (
     let h = happened ss (other_of index e) k in
-    ap (plainly customer) (clocks_tell circuits ss (other_of index e) k ∙ ap (λ o. clock_by o h) (offset_is circuits index c e get)) ∙ sends_told customer h small) in
+    ap (plainly customer) (clocks_tell circuits ss (other_of index e) k ∙ ap (λ o. clock_by o h) (offset_is circuits index c e get))
+    ∙ sends_told customer h small) in
     λ i. due n applied c (λ k. same k i) t
 
 -- ---- reports
 
 -- the ports of the circuits from a place on, in a ring of n
 pub ports_are : (r : HeldRing) (n : ℕ) (applied : ℕ → Bool) (before : PortId → ℕ → List Happening) (t index : ℕ) (cs : List Provisioned)
-    → ((k : ℕ) (c : Provisioned) → slice_get cs k ≡ Some c → (e : End) → outlet_at r (record { circuit = index + k; end = e }) ≡ due n applied c (λ j. sends_by (customer_at c (other_end e)) (before (record { circuit = index + k; end = other_end e }) j)) t)
+    → ((k : ℕ) (c : Provisioned) → slice_get cs k ≡ Some c → (e : End)
+    → outlet_at r (record { circuit = index + k; end = e })
+    ≡ due n applied c (λ j. sends_by (customer_at c (other_end e)) (before (record { circuit = index + k; end = other_end e }) j)) t)
     → ports_from r index cs ≡ owed_ports n applied before t index cs
 ports_are r n applied before t index [] h = refl
 ports_are r n applied before t index (c ∷ cs) h =
     let line = λ (e : End) (o : Outlet). let x : PortLine = record { name = c.name; end = e; outlet = o } in x in
-    let Shows = λ (d : Provisioned) (e : End) (i : ℕ). outlet_at r (record { circuit = i; end = e }) ≡ due n applied d (λ j. sends_by (customer_at d (other_end e)) (before (record { circuit = i; end = other_end e }) j)) t in
+    let Shows =
+    λ (d : Provisioned) (e : End) (i : ℕ). outlet_at r (record { circuit = i; end = e })
+    ≡ due n applied d (λ j. sends_by (customer_at d (other_end e)) (before (record { circuit = i; end = other_end e }) j)) t in
     let here : index + 0 ≡ index = omega arith in
     let one = λ (e : End). ap (line e) (subst (Shows c e) here (h 0 c refl e)) in
     let first = λ (x : PortLine). x ∷ port_told r index c B ∷ ports_from r (index + 1) cs in
@@ -77,7 +87,8 @@ ports_are r n applied before t index (c ∷ cs) h =
     subst (Shows d e) next (h (suc k) d get e))))
 
 -- the report of a ring that is restored by the clocks of a run shows what is owed by what happened
-pub owed_now : (ss : List Stretch) (w : World) (number : ℕ) (requests : List ℕ) → HasCircuits (layout_of w) → IsRestored (clocks_by w.ring.circuits.circuits ss) w requests
+pub owed_now : (ss : List Stretch) (w : World) (number : ℕ) (requests : List ℕ) → HasCircuits (layout_of w)
+    → IsRestored (clocks_by w.ring.circuits.circuits ss) w requests
     → IsOwed (length w.ring.ids) requests (happened ss) w.ring.circuits.circuits (report_of number w.ring)
 unfolding report_of
 owed_now ss w number requests form h =
@@ -85,5 +96,8 @@ owed_now ss w number requests form h =
     let cs = w.ring.circuits.circuits in
     ports_are w.ring n (is_applied requests) (happened ss) (w.ring.rounds - 1) 0 cs (λ k c get e. (
     let same : k ≡ 0 + k = omega arith in
-    subst (λ i. outlet_at w.ring (record { circuit = i; end = e }) ≡ due n (is_applied requests) c (λ j. sends_by (customer_at c (other_end e)) (happened ss (other_of i e) j)) (w.ring.rounds - 1)) same
-    (h.ports k c get e ∙ due_told n (is_applied requests) cs ss k c e (w.ring.rounds - 1) get (offset_small cs form.offsets k c get (other_end e)))))
+    subst (λ i. outlet_at w.ring (record { circuit = i; end = e })
+    ≡ due n (is_applied requests) c (λ j. sends_by (customer_at c (other_end e)) (happened ss (other_of i e) j))
+    (w.ring.rounds - 1)) same
+    (h.ports k c get e ∙ due_told n (is_applied requests) cs ss k c e (w.ring.rounds - 1) get
+    (offset_small cs form.offsets k c get (other_end e)))))

@@ -1,5 +1,6 @@
 -- What has happened in a script so far, and what is true of the world then.
-use Rattle.std.proofs.Common.{◌≡◌, ◌⊎◌, ℕ, ◌+◌, ◌-◌, ◌<◌, ◌≤◌, Bool, true, false, List, [], ◌∷◌, ◌++◌, length, Option, Some, None, refl, ap, sym, ◌∙◌, subst, arith, inl, inr}
+use Rattle.std.proofs.Common.{◌≡◌, ◌⊎◌, ℕ, ◌+◌, ◌-◌, ◌<◌, ◌≤◌, Bool, true, false, List, [], ◌∷◌, ◌++◌, length, Option, Some, None, refl, ap}
+use Rattle.std.proofs.Common.{sym, ◌∙◌, subst, arith, inl, inr}
 use Rattle.std.specs.Prelude.{◌%◌, if◌then◌else◌, option_and_then}
 use Rattle.std.specs.Option.{option_map_or}
 use Rattle.std.proofs.lemmas.Bool.{cases_lt}
@@ -58,7 +59,8 @@ rounds_last : (ss : List Stretch) (s : Stretch) → rounds_in (ss ++ s ∷ []) �
 rounds_last [] s = omega arith
 rounds_last (t ∷ ss) s = let r = rounds_last ss s in omega arith
 
-happens_last : (ss : List Stretch) (s : Stretch) (w : World) → MayHappen w ss → AreChangesOf (after_stretches ss w) s.changes → MayHappen w (ss ++ s ∷ [])
+happens_last : (ss : List Stretch) (s : Stretch) (w : World) → MayHappen w ss → AreChangesOf (after_stretches ss w) s.changes
+    → MayHappen w (ss ++ s ∷ [])
 happens_last [] s w may last = (last, tt)
 happens_last (r ∷ ss) s w may last = (may.0, happens_last ss s (after_stretch r w) may.1 last)
 
@@ -70,14 +72,17 @@ unfolding clock_at
 none_at r none port =
     let p = place_of_port r port in
     elim (cases_lt p (length r.nodes)) [
-      | inl low ↦ ap (λ o. waiting_by o) (slice_get-get_or r.nodes p nowhere low) ∙ by_port (node_at r.nodes p).ports (none p low) (port_of port (node_at r.nodes p).ports) refl
+      | inl low ↦ ap (λ o. waiting_by o) (slice_get-get_or r.nodes p nowhere low)
+          ∙ by_port (node_at r.nodes p).ports (none p low) (port_of port (node_at r.nodes p).ports) refl
       | inr past ↦ ap (λ o. waiting_by o) (slice_get_past r.nodes p (omega arith))
     ]
   where
     waiting_by : Option Node → ℕ
-    waiting_by o = waiting (option_map_or (λ (t : Tributary). t.feed.clock) (option_and_then (λ (n : Node). port_of port n.ports) o) (new_clock 0))
+    waiting_by o =
+        waiting (option_map_or (λ (t : Tributary). t.feed.clock) (option_and_then (λ (n : Node). port_of port n.ports) o) (new_clock 0))
 
-    by_port : (ts : List Tributary) → NoneWait ts → (o : Option Tributary) → port_of port ts ≡ o → waiting (option_map_or (λ (t : Tributary). t.feed.clock) o (new_clock 0)) ≡ 0
+    by_port : (ts : List Tributary) → NoneWait ts → (o : Option Tributary) → port_of port ts ≡ o
+        → waiting (option_map_or (λ (t : Tributary). t.feed.clock) o (new_clock 0)) ≡ 0
     by_port ts all None is = refl
     by_port ts all (Some t) is = (found_has (λ (u : Tributary). waiting u.feed.clock ≡ 0) port ts t all is).0
 
@@ -93,7 +98,8 @@ abbrev pub WaitAtMost : World → (PortId → ℕ) → Type 0
 WaitAtMost w slips = (port : PortId) → waiting_at w.ring port ≤ slips port
 
 -- slips that wait at a clock and the count of those that a port was given, behind slips of some port
-slips_grow : (port other : PortId) (turn : Turn) (count : ℕ) (slips : PortId → ℕ) (c : Clock) → waiting c ≤ slips port → waiting (if same_port port other then waits turn count c else c) ≤ with_slips other count slips port
+slips_grow : (port other : PortId) (turn : Turn) (count : ℕ) (slips : PortId → ℕ) (c : Clock) → waiting c ≤ slips port
+    → waiting (if same_port port other then waits turn count c else c) ≤ with_slips other count slips port
 slips_grow port other turn count slips c few = by (same_port port other)
   where
     by : (b : Bool) → waiting (if b then waits turn count c else c) ≤ (if b then slips port + count else slips port)
@@ -101,15 +107,18 @@ slips_grow port other turn count slips c few = by (same_port port other)
     by false = few
 
 -- after a change that gives no port slips
-few_same : (c : Change) (w : World) (slips : PortId → ℕ) → ((port : PortId) → clock_after port c (clock_at w.ring port) ≡ clock_at w.ring port) → WaitAtMost w slips → WaitAtMost (changed c w) slips
+few_same : (c : Change) (w : World) (slips : PortId → ℕ) → ((port : PortId)
+    → clock_after port c (clock_at w.ring port) ≡ clock_at w.ring port) → WaitAtMost w slips → WaitAtMost (changed c w) slips
 few_same c w slips same few port = omega (arith, waits_changed c w port, ap (λ (x : Clock). waiting x) (same port), few port)
 
 -- after any step but a settle step
-pub few_after : (this : Step) (past : Past) (w : World) → is_settle this ≡ false → WaitAtMost w past.slips → WaitAtMost (after_step this w) (after past this).slips
+pub few_after : (this : Step) (past : Past) (w : World) → is_settle this ≡ false → WaitAtMost w past.slips
+    → WaitAtMost (after_step this w) (after past this).slips
 few_after (step.Fibre e) past w other few = few_same (change.Fibre e.at.0 e.side e.condition) w past.slips (λ port. refl) few
 few_after (step.Order p d c) past w other few = few_same (change.Order p.0 d c) w past.slips (λ port. refl) few
 few_after (step.Hold p turns) past w other few = few_same (change.Hold p.0 turns) w past.slips (λ port. refl) few
-few_after (step.Slip port turn count) past w other few = λ q. omega (arith, waits_changed (change.Slip port turn count) w q, slips_grow q port turn count past.slips (clock_at w.ring q) (few q))
+few_after (step.Slip port turn count) past w other few =
+    λ q. omega (arith, waits_changed (change.Slip port turn count) w q, slips_grow q port turn count past.slips (clock_at w.ring q) (few q))
 few_after (step.Moment m) past w other few = few_same (change.Now m.0) w past.slips (λ port. refl) few
 few_after step.Settle past w other few = absurd (true_false other)
 
@@ -147,7 +156,9 @@ module _ (s : Settings) (ids : List ℕ) (circuits : Provisioning) (f : Fibres) 
 
   module _ (past : Past) (earlier : List Stretch) (changes : List Change) (w : World) (h : Stands past earlier changes w) where
     pub whole : IsWhole w
-    whole = subst IsWhole (sym h.is) (whole_all changes (after_stretches earlier from) h.since (whole_stretches earlier from h.happened (new_worlds_are_whole s ids circuits f may.ids_ok may.honest)))
+    whole =
+        subst IsWhole (sym h.is) (whole_all changes (after_stretches earlier from) h.since
+        (whole_stretches earlier from h.happened (new_worlds_are_whole s ids circuits f may.ids_ok may.honest)))
 
     pub layout_is : layout_of w ≡ l
     layout_is = ap layout_of h.is ∙ layout_all changes (after_stretches earlier from) ∙ layout_stretches earlier from
@@ -171,11 +182,14 @@ module _ (s : Settings) (ids : List ℕ) (circuits : Provisioning) (f : Fibres) 
     fits step.Settle fit = tt
 
     -- after any step but a settle step
-    pub changed_then : (this : Step) → is_settle this ≡ false → plan.Fits s.rate (length ids) (length circuits.circuits) past this → Stands (after past this) earlier (changes ++ changes_of this) (after_step this w)
+    pub changed_then : (this : Step) → is_settle this ≡ false → plan.Fits s.rate (length ids) (length circuits.circuits) past this
+        → Stands (after past this) earlier (changes ++ changes_of this) (after_step this w)
     changed_then this other fit = record {
       is = ap (after_step this) h.is ∙ sym (changed_more changes (changes_of this) (after_stretches earlier from));
       happened = h.happened;
-      since = changes_more changes (changes_of this) (after_stretches earlier from) h.since (subst (λ v. AreChangesOf v (changes_of this)) h.is (fits this fit));
+      since =
+          changes_more changes (changes_of this) (after_stretches earlier from) h.since
+          (subst (λ v. AreChangesOf v (changes_of this)) h.is (fits this fit));
       begins = subst (λ n. (n ≡ 0) ⊎ ((n - 1) % 128 ≡ 0)) (let e = (left_all (changes_of this) w).rounds in omega arith) h.begins;
       few = few_after this past w other h.few;
     }
@@ -207,7 +221,8 @@ module _ (s : Settings) (ids : List ℕ) (circuits : Provisioning) (f : Fibres) 
         let count : k ≡ last.rounds = omega (arith, grown, long.1, ran) in
         let now = earlier ++ last ∷ [] in
         let happens : MayHappen from now = happens_last earlier last from h.happened h.since in
-        let there : mid ≡ after_stretches now from = known.2 ∙ ap (λ j. run j w) count ∙ ap (run last.rounds) h.is ∙ sym (after_last earlier last from) in
+        let there : mid ≡ after_stretches now from =
+        known.2 ∙ ap (λ j. run j w) count ∙ ap (run last.rounds) h.is ∙ sym (after_last earlier last from) in
         let held : length (run k w).ring.ids ≡ length ids = ap (λ (x : List ℕ). length x) (left_run k w).ids ∙ size in
         record {
           last = record {
@@ -223,7 +238,9 @@ module _ (s : Settings) (ids : List ℕ) (circuits : Provisioning) (f : Fibres) 
             happened = happens;
             since = tt;
             begins = long.0;
-            few = λ port. (let none : waiting_at mid.ring port ≡ 0 = ap (λ (x : World). waiting_at x.ring port) known.2 ∙ none_at (run k w).ring (none_wait w whole k (omega (arith, grown, long.1))) port in omega arith);
+            few =
+                λ port. (let none : waiting_at mid.ring port ≡ 0 = ap (λ (x : World). waiting_at x.ring port) known.2
+                ∙ none_at (run k w).ring (none_wait w whole k (omega (arith, grown, long.1))) port in omega arith);
           };
         }
 
@@ -233,4 +250,10 @@ module _ (s : Settings) (ids : List ℕ) (circuits : Provisioning) (f : Fibres) 
 
   -- before anything has happened
   pub stands_new : (past : Past) → Stands past [] [] from
-  stands_new past = record { is = refl; happened = tt; since = tt; begins = inl refl; few = λ port. omega (arith, waits_new s ids circuits port) }
+  stands_new past = record {
+    is = refl;
+    happened = tt;
+    since = tt;
+    begins = inl refl;
+    few = λ port. omega (arith, waits_new s ids circuits port);
+  }

@@ -21,7 +21,9 @@ AllSettle (s ∷ later) = ⊥
 abbrev pub AreHealthy : ℕ → List Provisioned → ℕ → List Report → Type 0
 AreHealthy n circuits before [] = Unit {0}
 AreHealthy n circuits before (r ∷ reports) =
-    (r.number ≡ before + 1) × (r.round ≡ 128 * (before + 1)) × (r.ports ≡ owed_ports n nothing_applied (happened []) (128 * (before + 1)) 0 circuits) × AreHealthy n circuits (before + 1) reports
+    (r.number ≡ before + 1) × (r.round ≡ 128 * (before + 1))
+    × (r.ports ≡ owed_ports n nothing_applied (happened []) (128 * (before + 1)) 0 circuits)
+    × AreHealthy n circuits (before + 1) reports
 
 -- With a limit of at least 129 each step has its report; with a smaller one the first step is unsettled. A fault may end it before.
 pub record IsHealthy (limit n : ℕ) (circuits : List Provisioned) (steps : List Step) (reports : List Report) (end : Status) : Type 0 where

@@ -28,17 +28,22 @@ ring_by s n circuits = record { nodes = n; threshold = s.threshold; wait = s.wai
 -- from a new ring over new honest fibres, each report shows what is owed under the requests of the script's history
 abbrev pub ReportsAreOwed : Type 0
 ReportsAreOwed = (s : Settings) (ids : List ℕ) (circuits : Provisioning) (f : Fibres) → (let l = layout_in (new_ring s ids circuits) in
-    MayStart s ids f → HasCircuits l → (limit : ℕ) (past : Past) (steps : List Step) → AreSteps s.rate (length ids) (length circuits.circuits) past steps
-    → (reports : List Report) (end : Status) (left : World) → Runs limit 0 steps (new_world s ids circuits f) reports end left → AreOwed (ring_by s (length ids) circuits.circuits) limit [] 0 (scenes [] steps) reports end)
+    MayStart s ids f → HasCircuits l → (limit : ℕ) (past : Past) (steps : List Step)
+    → AreSteps s.rate (length ids) (length circuits.circuits) past steps
+    → (reports : List Report) (end : Status) (left : World) → Runs limit 0 steps (new_world s ids circuits f) reports end left
+    → AreOwed (ring_by s (length ids) circuits.circuits) limit [] 0 (scenes [] steps) reports end)
 
 -- from there no settle step with so large a limit is unsettled
 abbrev pub ScriptsSettle : Type 0
 ScriptsSettle = (s : Settings) (ids : List ℕ) (circuits : Provisioning) (f : Fibres) → (let l = layout_in (new_ring s ids circuits) in
-    MayStart s ids f → HasCircuits l → (limit : ℕ) (past : Past) (steps : List Step) → AreSteps s.rate (length ids) (length circuits.circuits) past steps → enough_for (length ids) ≤ limit
-    → (reports : List Report) (end : Status) (left : World) → Runs limit 0 steps (new_world s ids circuits f) reports end left → IsSettled end)
+    MayStart s ids f → HasCircuits l → (limit : ℕ) (past : Past) (steps : List Step)
+    → AreSteps s.rate (length ids) (length circuits.circuits) past steps → enough_for (length ids) ≤ limit
+    → (reports : List Report) (end : Status) (left : World) → Runs limit 0 steps (new_world s ids circuits f) reports end left
+    → IsSettled end)
 
 -- and a script of settle steps alone shows a healthy ring
 abbrev pub HealthyScripts : Type 0
 HealthyScripts = (s : Settings) (ids : List ℕ) (circuits : Provisioning) (f : Fibres) → (let l = layout_in (new_ring s ids circuits) in
     MayStart s ids f → HasCircuits l → (limit : ℕ) (steps : List Step) → AllSettle steps → 1 ≤ length steps
-    → (reports : List Report) (end : Status) (left : World) → Runs limit 0 steps (new_world s ids circuits f) reports end left → IsHealthy limit (length ids) circuits.circuits steps reports end)
+    → (reports : List Report) (end : Status) (left : World) → Runs limit 0 steps (new_world s ids circuits f) reports end left
+    → IsHealthy limit (length ids) circuits.circuits steps reports end)

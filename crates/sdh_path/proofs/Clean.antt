@@ -1,5 +1,6 @@
 -- What a port sends shows no fault.
-use Rattle.std.proofs.Common.{◌≡◌, ℕ, zero, suc, ◌+◌, ◌-◌, ◌*◌, ◌/◌, ◌%◌, ◌<◌, ◌≤◌, Bool, true, false, List, [], ◌++◌, length, get_or, take, drop, refl, sym, ap, ap₂, ◌∙◌, arith, inl, inr}
+use Rattle.std.proofs.Common.{◌≡◌, ℕ, zero, suc, ◌+◌, ◌-◌, ◌*◌, ◌/◌, ◌%◌, ◌<◌, ◌≤◌, Bool, true, false, List, [], ◌++◌, length, get_or, take}
+use Rattle.std.proofs.Common.{drop, refl, sym, ap, ap₂, ◌∙◌, arith, inl, inr}
 use Rattle.std.specs.Prelude.{◌==◌, nat_lt, if◌then◌else◌}
 use Rattle.std.proofs.lemmas.Bool.{cases_lt, eq-eqb, lt-ltb, le-ltb, ne_eqb}
 use Rattle.std.proofs.lemmas.List.{length-drop, get_or-drop}
@@ -16,7 +17,8 @@ use Rattle.sdh_payload.specs.Stream.{padded, phase_of, start_of, vc4_byte, vc4_f
 use Rattle.sdh_payload.proofs.Chunks.{length-stream_from, get_or-stream_from, stream_from-append}
 use Rattle.sdh_payload.proofs.Containers.{container_byte-at, vc4_byte-overhead, b3_of-more}
 use Rattle.sdh_path.specs.declared.watch.TraceWord.TheVariants as word
-use Rattle.sdh_path.specs.Report.{vc4_in, vcs_in, b3_violations_at, b3_violations, label_violations, j1_bytes, is_rotation, trace_word, report_on}
+use Rattle.sdh_path.specs.Report.{vc4_in, vcs_in, b3_violations_at, b3_violations, label_violations, j1_bytes, is_rotation, trace_word}
+use Rattle.sdh_path.specs.Report.{report_on}
 use Rattle.sdh_path.proofs.Tracing.{rotated_is, is_rotation_by}
 use Rattle.sdh_path.specs.History.{bytes_of, value_of}
 use Rattle.sdh_path.specs.Laws.{clean_report, BeginsAt, FeedsAreClean, chunks_from, ChunksAreClean, ClocksAreInStep}
@@ -39,7 +41,8 @@ module _ (port : Customer) (p n value : ℕ) (some : 1 ≤ n) (small : value ≤
   at_first : p + start_of port.offset + phase_of value ≡ 2349 * first
   at_first = omega (arith, begins)
 
-  byte_at : (i k : ℕ) → k < 2349 → s + 2349 * i + k < 2349 * n → get_or x (s + 2349 * i + k) 0 ≡ vc4_byte port (b3_of port (first + i)) (first + i) k
+  byte_at : (i k : ℕ) → k < 2349 → s + 2349 * i + k < 2349 * n
+      → get_or x (s + 2349 * i + k) 0 ≡ vc4_byte port (b3_of port (first + i)) (first + i) k
   unfolding stream_byte
   byte_at i k h inside =
       let e : p + (s + 2349 * i + k) + start_of port.offset ≡ 2349 * (first + i) + k = omega (arith, at_first) in
@@ -51,23 +54,27 @@ module _ (port : Customer) (p n value : ℕ) (some : 1 ≤ n) (small : value ≤
   vc4_is : (i : ℕ) → s + 2349 * (i + 1) ≤ 2349 * n → vc4_in x s i ≡ vc4_front port (b3_of port (first + i)) (first + i) 2349
   unfolding vc4_in
   vc4_is i fits =
-      sym (cells-from (vc4_byte port (b3_of port (first + i)) (first + i)) 2349 0 (take 2349 (drop (s + 2349 * i) x)) (length-part (s + 2349 * i) 2349 x (omega (arith, long)))
+      sym (cells-from (vc4_byte port (b3_of port (first + i)) (first + i)) 2349 0 (take 2349 (drop (s + 2349 * i) x))
+      (length-part (s + 2349 * i) 2349 x (omega (arith, long)))
       (λ k h. sym (get_or-part (s + 2349 * i) 2349 x k h ∙ byte_at i k h (omega arith))))
 
   -- its bytes B3 and C2
   b3_byte : (i : ℕ) → s + 2349 * (i + 1) ≤ 2349 * n → get_or (vc4_in x s i) 261 0 ≡ b3_of port (first + i)
   b3_byte i fits =
-      ap (λ l. get_or l 261 0) (vc4_is i fits) ∙ get_or-cells (vc4_byte port (b3_of port (first + i)) (first + i)) 2349 261 0 (omega arith) ∙ vc4_byte-overhead port (b3_of port (first + i)) (first + i) 261 refl
+      ap (λ l. get_or l 261 0) (vc4_is i fits) ∙ get_or-cells (vc4_byte port (b3_of port (first + i)) (first + i)) 2349 261 0 (omega arith)
+      ∙ vc4_byte-overhead port (b3_of port (first + i)) (first + i) 261 refl
 
   label_byte : (i : ℕ) → s + 2349 * (i + 1) ≤ 2349 * n → get_or (vc4_in x s i) 522 0 ≡ 1
   label_byte i fits =
-      ap (λ l. get_or l 522 0) (vc4_is i fits) ∙ get_or-cells (vc4_byte port (b3_of port (first + i)) (first + i)) 2349 522 0 (omega arith) ∙ vc4_byte-overhead port (b3_of port (first + i)) (first + i) 522 refl
+      ap (λ l. get_or l 522 0) (vc4_is i fits) ∙ get_or-cells (vc4_byte port (b3_of port (first + i)) (first + i)) 2349 522 0 (omega arith)
+      ∙ vc4_byte-overhead port (b3_of port (first + i)) (first + i) 522 refl
 
   shown_none : (i : ℕ) → s + 2349 * (i + 1) ≤ 2349 * n → b3_violations_at x s i ≡ 0
   shown_none zero fits = refl
   shown_none (suc i) fits =
       let one : first + suc i ≡ first + i + 1 = omega arith in
-      ap₂ differing_bits (b3_byte (suc i) fits ∙ ap (b3_of port) one) (ap bip8 (vc4_is i (omega arith)) ∙ sym (b3_of-more port (first + i))) ∙ differing_bits-same (b3_of port (first + i + 1))
+      ap₂ differing_bits (b3_byte (suc i) fits ∙ ap (b3_of port) one) (ap bip8 (vc4_is i (omega arith)) ∙ sym (b3_of-more port (first + i)))
+      ∙ differing_bits-same (b3_of port (first + i + 1))
 
   b3_none : (k : ℕ) → s + 2349 * k ≤ 2349 * n → b3_violations x s k ≡ 0
   unfolding b3_violations
@@ -104,21 +111,24 @@ module _ (port : Customer) (p n value : ℕ) (some : 1 ≤ n) (small : value ≤
 
   length-traces : length (j1_bytes x s) ≡ n
   unfolding j1_bytes
-  length-traces = length-cells (λ i. get_or x (s + 2349 * i) 0) ((length x + 2348 - s) / 2349) ∙ (let l = long in let h = inside in omega arith)
+  length-traces =
+      length-cells (λ i. get_or x (s + 2349 * i) 0) ((length x + 2348 - s) / 2349) ∙ (let l = long in let h = inside in omega arith)
 
   trace_at : (i : ℕ) → i < n → get_or (j1_bytes x s) i 0 ≡ get_or (padded port.trace) ((first + i) % 64) 0
   unfolding j1_bytes
   trace_at i h =
       let none : s + 2349 * i ≡ s + 2349 * i + 0 = omega arith in
       get_or-cells (λ j. get_or x (s + 2349 * j) 0) ((length x + 2348 - s) / 2349) i 0 (let l = long in let k = inside in omega arith)
-      ∙ ap (λ j. get_or x j 0) none ∙ byte_at i 0 (omega arith) (let k = inside in omega arith) ∙ vc4_byte-overhead port (b3_of port (first + i)) (first + i) 0 refl
+      ∙ ap (λ j. get_or x j 0) none ∙ byte_at i 0 (omega arith) (let k = inside in omega arith)
+      ∙ vc4_byte-overhead port (b3_of port (first + i)) (first + i) 0 refl
 
   word_is : trace_word (padded port.trace) (j1_bytes x s) ≡ (if nat_lt n 64 then word.Short else word.Ok)
   word_is = elim (cases_lt n 64) [
     | inl few ↦ (
         let t : nat_lt (length (j1_bytes x s)) 64 ≡ true = lt-ltb _ 64 (let l = length-traces in omega arith) in
         let u : nat_lt n 64 ≡ true = lt-ltb n 64 few in
-        ap (λ (b : Bool). if b then word.Short else if is_rotation (drop (length (j1_bytes x s) - 64) (j1_bytes x s)) (padded port.trace) then word.Ok else word.Mismatch) t
+        ap (λ (b : Bool). if b then word.Short else if is_rotation (drop (length (j1_bytes x s) - 64) (j1_bytes x s)) (padded port.trace)
+        then word.Ok else word.Mismatch) t
         ∙ sym (ap (λ (b : Bool). if b then word.Short else word.Ok) u))
     | inr many ↦ (
         let t : nat_lt (length (j1_bytes x s)) 64 ≡ false = le-ltb _ 64 (let l = length-traces in omega arith) in
@@ -130,14 +140,17 @@ module _ (port : Customer) (p n value : ℕ) (some : 1 ≤ n) (small : value ≤
         let l = length-traces in
         let place : (first + (from + i)) % 64 ≡ (r + i) % 64 = omega arith in
         get_or-drop from (j1_bytes x s) i 0 ∙ trace_at (from + i) (omega arith) ∙ ap (λ j. get_or (padded port.trace) j 0) place) in
-        let found = is_rotation_by (padded port.trace) last r (omega arith) (rotated_is (padded port.trace) last r (length-drop from (j1_bytes x s) ∙ (let l = length-traces in omega arith)) each) in
+        let found =
+        is_rotation_by (padded port.trace) last r (omega arith)
+        (rotated_is (padded port.trace) last r (length-drop from (j1_bytes x s) ∙ (let l = length-traces in omega arith)) each) in
         ap (λ (b : Bool). if b then word.Short else if is_rotation last (padded port.trace) then word.Ok else word.Mismatch) t
         ∙ ap (λ (b : Bool). if b then word.Ok else word.Mismatch) found
         ∙ sym (ap (λ (b : Bool). if b then word.Short else word.Ok) u))
   ]
 
   clean : report_on port.trace x value ≡ clean_report n value
-  clean = λ i. record { vcs = vcs_are i; b3 = b3_none (vcs_in x s) vcs_fit i; label = labels_none (vcs_in x s) vcs_fit i; trace = word_is i }
+  clean =
+      λ i. record { vcs = vcs_are i; b3 = b3_none (vcs_in x s) vcs_fit i; label = labels_none (vcs_in x s) vcs_fit i; trace = word_is i }
 
 pub feeds_are_clean : FeedsAreClean
 feeds_are_clean port p n value some small begins = clean port p n value some small begins
@@ -150,7 +163,8 @@ none_sent port p = sym (cells-zero _)
 
 bytes_given : (port : Customer) (p value k : ℕ) → bytes_of (chunks_from port p value k) ≡ stream_from port p (2349 * k)
 bytes_given port p value zero = none_sent port p
-bytes_given port p value (suc zero) = ap₂ (stream_from port) (let e : p + 2349 * 0 ≡ p = omega arith in e) (let e : 2349 ≡ 2349 * suc zero = omega arith in e)
+bytes_given port p value (suc zero) =
+    ap₂ (stream_from port) (let e : p + 2349 * 0 ≡ p = omega arith in e) (let e : 2349 ≡ 2349 * suc zero = omega arith in e)
 bytes_given port p value (suc (suc k)) =
     let chunk = stream_from port (p + 2349 * suc k) 2349 in
     let same : (value == value) ≡ true = eq-eqb value value refl in
@@ -164,16 +178,19 @@ value_given port p value zero some = absurd (omega arith)
 value_given port p value (suc k) some = refl
 
 pub chunks_are_clean : ChunksAreClean
-chunks_are_clean port p n value some small begins = ap₂ (report_on port.trace) (bytes_given port p value n) (value_given port p value n some) ∙ clean port p n value some small begins
+chunks_are_clean port p n value some small begins =
+    ap₂ (report_on port.trace) (bytes_given port p value n) (value_given port p value n some) ∙ clean port p n value some small begins
 
 -- ---- clocks
 
-in_step_after : (offset : ℕ) (f : ChunkForm) (c : Clock) → BeginsAt offset c.sent c.value → BeginsAt offset (after_form f c).sent (after_form f c).value
+in_step_after : (offset : ℕ) (f : ChunkForm) (c : Clock) → BeginsAt offset c.sent c.value
+    → BeginsAt offset (after_form f c).sent (after_form f c).value
 in_step_after offset Plain c is = omega (arith, is)
 in_step_after offset Short c is = omega (arith, is)
 in_step_after offset Long c is = omega (arith, is)
 
-in_step_told : (offset : ℕ) (turn : Turn) (count : ℕ) (c : Clock) → BeginsAt offset c.sent c.value → BeginsAt offset (waits turn count c).sent (waits turn count c).value
+in_step_told : (offset : ℕ) (turn : Turn) (count : ℕ) (c : Clock) → BeginsAt offset c.sent c.value
+    → BeginsAt offset (waits turn count c).sent (waits turn count c).value
 in_step_told offset Up count c is = is
 in_step_told offset Down count c is = is
 

@@ -1,5 +1,6 @@
 -- What is kept of a run of bytes, as pieces come behind it.
-use Rattle.std.proofs.Common.{◌≡◌, ℕ, zero, suc, ◌+◌, ◌-◌, ◌*◌, ◌<◌, ◌≤◌, List, [], ◌++◌, length, get_or, take, drop, refl, sym, ap, ap₂, ◌∙◌, arith, bit_xor}
+use Rattle.std.proofs.Common.{◌≡◌, ℕ, zero, suc, ◌+◌, ◌-◌, ◌*◌, ◌<◌, ◌≤◌, List, [], ◌++◌, length, get_or, take, drop, refl, sym, ap, ap₂}
+use Rattle.std.proofs.Common.{◌∙◌, arith, bit_xor}
 use Rattle.std.specs.Prelude.{◌==◌, if◌then◌else◌}
 use Rattle.std.proofs.lemmas.List.{length-append, length-drop, drop-drop, drop_all, drop-append-le, take-append-le, take_all}
 use Rattle.sdh_basics.specs.Parity.{bip8}
@@ -14,11 +15,13 @@ use Rattle.sdh_path.specs.Kept.{IsTallyOf}
 vc4_front : (x more : List ℕ) (i : ℕ) → 2349 * (i + 1) ≤ length x → vc4_in (x ++ more) 0 i ≡ vc4_in x 0 i
 unfolding vc4_in
 vc4_front x more i h =
-    ap (take 2349) (drop-append-le (0 + 2349 * i) x more (omega arith)) ∙ take-append-le 2349 (drop (0 + 2349 * i) x) more (omega (arith, length-drop (0 + 2349 * i) x))
+    ap (take 2349) (drop-append-le (0 + 2349 * i) x more (omega arith))
+    ∙ take-append-le 2349 (drop (0 + 2349 * i) x) more (omega (arith, length-drop (0 + 2349 * i) x))
 
 shown_front : (x more : List ℕ) (i : ℕ) → 2349 * (i + 1) ≤ length x → b3_violations_at (x ++ more) 0 i ≡ b3_violations_at x 0 i
 shown_front x more zero h = refl
-shown_front x more (suc i) h = ap₂ (λ a b. differing_bits (get_or a 261 0) (bip8 b)) (vc4_front x more (suc i) h) (vc4_front x more i (omega arith))
+shown_front x more (suc i) h =
+    ap₂ (λ a b. differing_bits (get_or a 261 0) (bip8 b)) (vc4_front x more (suc i) h) (vc4_front x more i (omega arith))
 
 b3_front : (x more : List ℕ) (k : ℕ) → 2349 * k ≤ length x → b3_violations (x ++ more) 0 k ≡ b3_violations x 0 k
 unfolding b3_violations
@@ -28,7 +31,9 @@ b3_front x more (suc i) h = ap₂ (λ a b. a + b) (b3_front x more i (omega arit
 labels_front : (x more : List ℕ) (k : ℕ) → 2349 * k ≤ length x → label_violations (x ++ more) 0 k ≡ label_violations x 0 k
 unfolding label_violations
 labels_front x more zero h = refl
-labels_front x more (suc i) h = ap₂ (λ a (v : List ℕ). a + (if get_or v 522 0 == 1 then 0 else 1)) (labels_front x more i (omega arith)) (vc4_front x more i (omega arith))
+labels_front x more (suc i) h =
+    ap₂ (λ a (v : List ℕ). a + (if get_or v 522 0 == 1 then 0 else 1)) (labels_front x more i (omega arith))
+    (vc4_front x more i (omega arith))
 
 vc4_from : (x : List ℕ) (s i : ℕ) → vc4_in (drop s x) 0 i ≡ vc4_in x s i
 unfolding vc4_in
@@ -65,18 +70,31 @@ counts_none = record {
 
 -- ---- a piece more
 
-pub counts_more : (run piece : List ℕ) (t : Tally) (parity b3_byte label_byte : ℕ) → IsTallyOf run t → t.index + length piece ≤ 2349 → parity ≡ bit_xor t.parity (bip8 piece)
+pub counts_more : (run piece : List ℕ) (t : Tally) (parity b3_byte label_byte : ℕ) → IsTallyOf run t → t.index + length piece ≤ 2349
+    → parity ≡ bit_xor t.parity (bip8 piece)
     → b3_byte ≡ get_or (drop (2349 * t.vcs) run ++ piece) 261 0 → label_byte ≡ get_or (drop (2349 * t.vcs) run ++ piece) 522 0
-    → IsTallyOf (run ++ piece) (record { vcs = t.vcs; b3 = t.b3; label = t.label; due = t.due; index = t.index + length piece; parity = parity; b3_byte = b3_byte; label_byte = label_byte })
+    → IsTallyOf (run ++ piece) (record {
+      vcs = t.vcs;
+      b3 = t.b3;
+      label = t.label;
+      due = t.due;
+      index = t.index + length piece;
+      parity = parity;
+      b3_byte = b3_byte;
+      label_byte = label_byte;
+    })
 counts_more run piece t parity b3_byte label_byte was fits parity_now b3_now label_now =
-    let behind : drop (2349 * t.vcs) (run ++ piece) ≡ drop (2349 * t.vcs) run ++ piece = drop-append-le (2349 * t.vcs) run piece (omega (arith, was.long)) in
+    let behind : drop (2349 * t.vcs) (run ++ piece) ≡ drop (2349 * t.vcs) run ++ piece =
+    drop-append-le (2349 * t.vcs) run piece (omega (arith, was.long)) in
     record {
       long = length-append run piece ∙ (let l = was.long in omega arith);
       within = fits;
       b3_is = was.b3_is ∙ sym (b3_front run piece t.vcs (omega (arith, was.long)));
       label_is = was.label_is ∙ sym (labels_front run piece t.vcs (omega (arith, was.long)));
       due_is = λ some. was.due_is some ∙ ap bip8 (sym (vc4_front run piece (t.vcs - 1) (omega (arith, was.long))));
-      parity_is = parity_now ∙ ap (λ p. bit_xor p (bip8 piece)) was.parity_is ∙ sym (bip8-append (drop (2349 * t.vcs) run) piece) ∙ ap bip8 (sym behind);
+      parity_is =
+          parity_now ∙ ap (λ p. bit_xor p (bip8 piece)) was.parity_is ∙ sym (bip8-append (drop (2349 * t.vcs) run) piece)
+          ∙ ap bip8 (sym behind);
       b3_byte_is = b3_now ∙ ap (λ l. get_or l 261 0) (sym behind);
       label_byte_is = label_now ∙ ap (λ l. get_or l 522 0) (sym behind);
     }
@@ -92,9 +110,12 @@ module _ (run : List ℕ) (t : Tally) (is : IsTallyOf run t) (whole : t.index �
 
   now : vc4_in run 0 t.vcs ≡ drop (2349 * t.vcs) run
   unfolding vc4_in
-  now = let len = behind_long run t is in ap (λ k. take 2349 (drop k run)) {x = 0 + 2349 * t.vcs} {y = 2349 * t.vcs} (omega arith) ∙ take_all 2349 (drop (2349 * t.vcs) run) (omega arith)
+  now = let len =
+      behind_long run t is in ap (λ k. take 2349 (drop k run)) {x = 0 + 2349 * t.vcs} {y = 2349 * t.vcs} (omega arith)
+      ∙ take_all 2349 (drop (2349 * t.vcs) run) (omega arith)
 
-  shown_now : (shown : ℕ) → (t.vcs ≡ 0 → shown ≡ 0) → (0 < t.vcs → shown ≡ differing_bits t.b3_byte t.due) → shown ≡ b3_violations_at run 0 t.vcs
+  shown_now : (shown : ℕ) → (t.vcs ≡ 0 → shown ≡ 0) → (0 < t.vcs → shown ≡ differing_bits t.b3_byte t.due)
+      → shown ≡ b3_violations_at run 0 t.vcs
   shown_now shown first later = by t.vcs refl
     where
       by : (k : ℕ) → t.vcs ≡ k → shown ≡ b3_violations_at run 0 k
@@ -105,8 +126,18 @@ module _ (run : List ℕ) (t : Tally) (is : IsTallyOf run t) (whole : t.index �
           (is.b3_byte_is ∙ ap (λ l. get_or l 261 0) (sym now) ∙ ap (λ k. get_or (vc4_in run 0 k) 261 0) e)
           (is.due_is (omega arith) ∙ ap (λ k. bip8 (vc4_in run 0 k)) back)
 
-  pub counts_closed : (shown label : ℕ) → (t.vcs ≡ 0 → shown ≡ 0) → (0 < t.vcs → shown ≡ differing_bits t.b3_byte t.due) → label ≡ (if t.label_byte == 1 then 0 else 1)
-      → IsTallyOf run (record { vcs = t.vcs + 1; b3 = t.b3 + shown; label = t.label + label; due = t.parity; index = 0; parity = 0; b3_byte = 0; label_byte = 0 })
+  pub counts_closed : (shown label : ℕ) → (t.vcs ≡ 0 → shown ≡ 0) → (0 < t.vcs → shown ≡ differing_bits t.b3_byte t.due)
+      → label ≡ (if t.label_byte == 1 then 0 else 1)
+      → IsTallyOf run (record {
+        vcs = t.vcs + 1;
+        b3 = t.b3 + shown;
+        label = t.label + label;
+        due = t.parity;
+        index = 0;
+        parity = 0;
+        b3_byte = 0;
+        label_byte = 0;
+      })
   unfolding b3_violations label_violations
   counts_closed shown label first later label_is =
       let none : drop (2349 * (t.vcs + 1)) run ≡ [] = drop_all (2349 * (t.vcs + 1)) run (omega (arith, is.long)) in
@@ -116,7 +147,9 @@ module _ (run : List ℕ) (t : Tally) (is : IsTallyOf run t) (whole : t.index �
         long = omega (arith, is.long);
         within = omega arith;
         b3_is = ap₂ (λ a b. a + b) is.b3_is (shown_now shown first later) ∙ ap (b3_violations run 0) (sym one);
-        label_is = ap₂ (λ a b. a + b) is.label_is (label_is ∙ ap (λ (b : ℕ). if b == 1 then 0 else 1) (is.label_byte_is ∙ ap (λ l. get_or l 522 0) (sym now))) ∙ ap (label_violations run 0) (sym one);
+        label_is =
+            ap₂ (λ a b. a + b) is.label_is (label_is ∙ ap (λ (b : ℕ). if b == 1 then 0 else 1)
+            (is.label_byte_is ∙ ap (λ l. get_or l 522 0) (sym now))) ∙ ap (label_violations run 0) (sym one);
         due_is = λ some. is.parity_is ∙ ap bip8 (sym now) ∙ ap (λ k. bip8 (vc4_in run 0 k)) (sym back);
         parity_is = sym (ap bip8 none ∙ bip8-nil);
         b3_byte_is = sym (ap (λ l. get_or l 261 0) none);

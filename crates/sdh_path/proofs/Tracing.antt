@@ -11,10 +11,12 @@ use Rattle.sdh_path.specs.Report.{rotated, is_rotation}
 
 pub length-padded : (trace : List ℕ) → length trace ≤ 64 → length (padded trace) ≡ 64
 unfolding padded
-length-padded trace few = length-append trace (replicate (64 - length trace) 0x20) ∙ (let r = length-replicate {A = ℕ} (64 - length trace) 0x20 in omega arith)
+length-padded trace few =
+    length-append trace (replicate (64 - length trace) 0x20) ∙ (let r = length-replicate {A = ℕ} (64 - length trace) 0x20 in omega arith)
 
 -- 64 bytes that are those of a trace from byte r on
-pub rotated_is : (trace bytes : List ℕ) (r : ℕ) → length bytes ≡ 64 → ((i : ℕ) → i < 64 → get_or bytes i 0 ≡ get_or trace ((r + i) % 64) 0) → bytes ≡ rotated r trace
+pub rotated_is : (trace bytes : List ℕ) (r : ℕ) → length bytes ≡ 64 → ((i : ℕ) → i < 64 → get_or bytes i 0 ≡ get_or trace ((r + i) % 64) 0)
+    → bytes ≡ rotated r trace
 rotated_is trace bytes r long each = sym (cells-from (λ i. get_or trace ((r + i) % 64) 0) 64 0 bytes long (λ k h. sym (each k h)))
 
 pub is_rotation_by : (trace bytes : List ℕ) (r : ℕ) → r < 64 → bytes ≡ rotated r trace → is_rotation bytes trace ≡ true
@@ -22,4 +24,5 @@ unfolding is_rotation
 is_rotation_by trace bytes r inside same =
     let all : length (range_with_len 0 64) ≡ 64 = length-range_with_len 0 64 in
     let here = get_or-range_with_len 0 64 r 0 inside in
-    list_any_at (λ k. bytes_eq bytes (rotated k trace)) (range_with_len 0 64) r 0 (omega arith) ((bytes_eq-Decides _ _).1 (same ∙ ap (λ k. rotated k trace) (sym (here ∙ (let e : 0 + r ≡ r = omega arith in e)))))
+    list_any_at (λ k. bytes_eq bytes (rotated k trace)) (range_with_len 0 64) r 0 (omega arith)
+    ((bytes_eq-Decides _ _).1 (same ∙ ap (λ k. rotated k trace) (sym (here ∙ (let e : 0 + r ≡ r = omega arith in e)))))

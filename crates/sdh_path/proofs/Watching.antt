@@ -1,8 +1,10 @@
 -- What a watch keeps is what it was given, and its report is that of all of it.
-use Rattle.std.proofs.Common.{◌≡◌, ◌≢◌, ℕ, zero, suc, ◌+◌, ◌-◌, ◌*◌, ◌/◌, ◌%◌, ◌<◌, ◌≤◌, Bool, true, false, List, [], ◌∷◌, ◌++◌, length, get_or, set, drop, refl, sym, ap, ap₂, ◌∙◌, subst, arith, inl, inr}
+use Rattle.std.proofs.Common.{◌≡◌, ◌≢◌, ℕ, zero, suc, ◌+◌, ◌-◌, ◌*◌, ◌/◌, ◌%◌, ◌<◌, ◌≤◌, Bool, true, false, List, [], ◌∷◌, ◌++◌, length}
+use Rattle.std.proofs.Common.{get_or, set, drop, refl, sym, ap, ap₂, ◌∙◌, subst, arith, inl, inr}
 use Rattle.std.specs.Prelude.{nat_lt, if◌then◌else◌}
 use Rattle.std.proofs.lemmas.Bool.{cases_lt, eqb-true, lt-ltb, le-ltb}
-use Rattle.std.proofs.lemmas.List.{length-append, length-drop, drop-append-le, get_or-drop, get_or_append_left, get_or-append_right, get_or-set_other, get_or-set_same}
+use Rattle.std.proofs.lemmas.List.{length-append, length-drop, drop-append-le, get_or-drop, get_or_append_left, get_or-append_right}
+use Rattle.std.proofs.lemmas.List.{get_or-set_other, get_or-set_same}
 use Rattle.sdh_basics.proofs.CellsLaws.{length-cells, get_or-cells, cells-from}
 use Rattle.sdh_payload.specs.Stream.{padded, phase_of}
 use Rattle.sdh_path.specs.declared.watch.TraceWord.{TraceWord}
@@ -52,7 +54,8 @@ pub record Takes (bytes : List ℕ) (value : ℕ) (g : Bool) (k new : Kept) : Ty
   pub more : g ≡ true → (run : List ℕ) → IsTallyOf run k.tally → IsTallyOf (run ++ bytes) new.tally
   pub last : new.last ≡ set k.last ((if g then k.chunks else 0) % 64) (get_or bytes (phase_of value) 0)
 
-module _ (trace : List ℕ) (past : List Given) (bytes : List ℕ) (value : ℕ) (k new : Kept) (was : CameBy trace past k) (whole : length bytes ≡ 2349) (places : length k.last ≡ 64) where
+module _ (trace : List ℕ) (past : List Given) (bytes : List ℕ) (value : ℕ) (k new : Kept) (was : CameBy trace past k)
+    (whole : length bytes ≡ 2349) (places : length k.last ≡ 64) where
   abbrev s : ℕ
   s = phase_of value
 
@@ -90,8 +93,13 @@ module _ (trace : List ℕ) (past : List Given) (bytes : List ℕ) (value : ℕ)
         trace_is = t.trace ∙ was.trace_is;
         value_is = t.value_is;
         chunks_are = t.chunks ∙ ap (λ c. c + 1) was.chunks_are ∙ sym n;
-        long = ap length b ∙ length-append (bytes_of past) bytes ∙ (let e : length (bytes_of past) + length bytes ≡ 2349 * (count_of past + 1) = omega arith in e) ∙ sym (ap (λ c. 2349 * c) n);
-        counts = subst (λ l. IsTallyOf l new.tally) (sym seam ∙ sym (ap (drop s) b)) (t.more refl (drop s (bytes_of past)) (subst (λ v. IsTallyOf (drop v (bytes_of past)) k.tally) start was.counts));
+        long =
+            ap length b ∙ length-append (bytes_of past) bytes
+            ∙ (let e : length (bytes_of past) + length bytes ≡ 2349 * (count_of past + 1) = omega arith in e)
+            ∙ sym (ap (λ c. 2349 * c) n);
+        counts =
+            subst (λ l. IsTallyOf l new.tally) (sym seam ∙ sym (ap (drop s) b))
+            (t.more refl (drop s (bytes_of past)) (subst (λ v. IsTallyOf (drop v (bytes_of past)) k.tally) start was.counts));
         last_are = λ i h r. (
             let byte = get_or bytes s 0 in
             ap (λ l. get_or l (i % 64) 0) t.last ∙ ap (λ c. get_or (set k.last (c % 64) byte) (i % 64) 0) was.chunks_are
@@ -141,17 +149,22 @@ module _ (trace : List ℕ) (past : List Given) (k : Kept) (came : CameBy trace 
   -- as many bytes J1 as chunks
   length-traces : length (j1_bytes x first) ≡ count_of past
   unfolding j1_bytes
-  length-traces = length-cells (λ i. get_or x (first + 2349 * i) 0) ((length x + 2348 - first) / 2349) ∙ (let l = came.long in let h = phase_inside (value_of past) in omega arith)
+  length-traces =
+      length-cells (λ i. get_or x (first + 2349 * i) 0) ((length x + 2348 - first) / 2349)
+      ∙ (let l = came.long in let h = phase_inside (value_of past) in omega arith)
 
   traces_at : (i : ℕ) → i < count_of past → get_or (j1_bytes x first) i 0 ≡ get_or x (first + 2349 * i) 0
   unfolding j1_bytes
-  traces_at i h = get_or-cells (λ j. get_or x (first + 2349 * j) 0) ((length x + 2348 - first) / 2349) i 0 (let l = came.long in let p = phase_inside (value_of past) in omega arith)
+  traces_at i h =
+      get_or-cells (λ j. get_or x (first + 2349 * j) 0) ((length x + 2348 - first) / 2349) i 0
+      (let l = came.long in let p = phase_inside (value_of past) in omega arith)
 
   pub short_trace : k.chunks < 64 → Short ≡ (report_of trace past).trace
   short_trace few =
       let n = length-traces in
       let t : nat_lt (length (j1_bytes x first)) 64 ≡ true = lt-ltb _ 64 (let c = came.chunks_are in omega arith) in
-      sym (ap (λ (b : Bool). if b then Short else if is_rotation (drop (length (j1_bytes x first) - 64) (j1_bytes x first)) (padded trace) then Ok else Mismatch) t)
+      sym (ap (λ (b : Bool). if b then Short else if is_rotation (drop (length (j1_bytes x first) - 64) (j1_bytes x first)) (padded trace)
+      then Ok else Mismatch) t)
 
   -- the last 64 of them in their order
   last_are : 64 ≤ k.chunks → rotated (k.chunks % 64) k.last ≡ drop (length (j1_bytes x first) - 64) (j1_bytes x first)
@@ -159,22 +172,27 @@ module _ (trace : List ℕ) (past : List Given) (k : Kept) (came : CameBy trace 
       let n = length-traces in
       let c = came.chunks_are in
       let from = length (j1_bytes x first) - 64 in
-      cells-from _ 64 0 (drop from (j1_bytes x first)) (length-drop from (j1_bytes x first) ∙ (let e : length (j1_bytes x first) - from ≡ 64 = omega arith in e))
+      cells-from _ 64 0 (drop from (j1_bytes x first)) (length-drop from (j1_bytes x first)
+      ∙ (let e : length (j1_bytes x first) - from ≡ 64 = omega arith in e))
       (λ i h. (
       let j = from + i in
       let place : (k.chunks % 64 + i) % 64 ≡ j % 64 = omega arith in
-      ap (λ p. get_or k.last p 0) place ∙ came.last_are j (omega arith) (omega arith) ∙ sym (traces_at j (omega arith)) ∙ sym (get_or-drop from (j1_bytes x first) i 0)))
+      ap (λ p. get_or k.last p 0) place ∙ came.last_are j (omega arith) (omega arith) ∙ sym (traces_at j (omega arith))
+      ∙ sym (get_or-drop from (j1_bytes x first) i 0)))
 
-  pub long_trace : (all : List ℕ) (b : Bool) → 64 ≤ k.chunks → all ≡ rotated (k.chunks % 64) k.last → b ≡ is_rotation all k.trace → (if b then Ok else Mismatch) ≡ (report_of trace past).trace
+  pub long_trace : (all : List ℕ) (b : Bool) → 64 ≤ k.chunks → all ≡ rotated (k.chunks % 64) k.last → b ≡ is_rotation all k.trace
+      → (if b then Ok else Mismatch) ≡ (report_of trace past).trace
   long_trace all b many is found =
       let n = length-traces in
       let t : nat_lt (length (j1_bytes x first)) 64 ≡ false = le-ltb _ 64 (let c = came.chunks_are in omega arith) in
       let r : b ≡ is_rotation (drop (length (j1_bytes x first) - 64) (j1_bytes x first)) (padded trace) =
       found ∙ ap₂ is_rotation (is ∙ last_are many) came.trace_is in
       ap (λ (y : Bool). if y then Ok else Mismatch) r
-      ∙ sym (ap (λ (y : Bool). if y then Short else if is_rotation (drop (length (j1_bytes x first) - 64) (j1_bytes x first)) (padded trace) then Ok else Mismatch) t)
+      ∙ sym (ap (λ (y : Bool). if y then Short else if is_rotation (drop (length (j1_bytes x first) - 64) (j1_bytes x first)) (padded trace)
+      then Ok else Mismatch) t)
 
-pub report_is : (trace : List ℕ) (past : List Given) (k : Kept) (word : TraceWord) → CameBy trace past k → k.tally.index < 2349 → word ≡ (report_of trace past).trace
+pub report_is : (trace : List ℕ) (past : List Given) (k : Kept) (word : TraceWord) → CameBy trace past k → k.tally.index < 2349
+    → word ≡ (report_of trace past).trace
     → (record { vcs = k.tally.vcs; b3 = k.tally.b3; label = k.tally.label; trace = word }) ≡ report_of trace past
 report_is trace past k word came inside said = λ i. record {
   vcs = vcs_are trace past k came inside i;

@@ -57,4 +57,5 @@ pub record CameBy (trace : List ℕ) (past : List Given) (k : Kept) : Type 0 whe
   pub chunks_are : k.chunks ≡ count_of past
   pub long : length (bytes_of past) ≡ 2349 * count_of past
   pub counts : IsTallyOf (drop (phase_of (value_of past)) (bytes_of past)) k.tally
-  pub last_are : (i : ℕ) → i < count_of past → count_of past ≤ i + 64 → slice_index k.last (i % 64) ≡ slice_index (bytes_of past) (phase_of (value_of past) + 2349 * i)
+  pub last_are : (i : ℕ) → i < count_of past → count_of past ≤ i + 64
+      → slice_index k.last (i % 64) ≡ slice_index (bytes_of past) (phase_of (value_of past) + 2349 * i)

@@ -24,7 +24,9 @@ BeginsAt offset p value = (p + start_of offset + phase_of value) % 2349 ≡ 0
 
 -- so many chunks of a port's stream, one after the other, show no fault to a watch that expects the port's trace
 abbrev pub FeedsAreClean : Type 0
-FeedsAreClean = (port : Customer) (p n value : ℕ) → 1 ≤ n → value ≤ 782 → BeginsAt port.offset p value → report_on port.trace (stream_from port p (2349 * n)) value ≡ clean_report n value
+FeedsAreClean =
+    (port : Customer) (p n value : ℕ) → 1 ≤ n → value ≤ 782 → BeginsAt port.offset p value
+    → report_on port.trace (stream_from port p (2349 * n)) value ≡ clean_report n value
 
 -- so many chunks of a stream from byte p on, each with this pointer value, the latest first
 abbrev pub chunks_from : Customer → ℕ → ℕ → ℕ → List Given
@@ -33,10 +35,13 @@ chunks_from port p value (suc k) = Chunk (stream_from port (p + 2349 * k) 2349) 
 
 -- so do watches that were given nothing but these since they began anew
 abbrev pub ChunksAreClean : Type 0
-ChunksAreClean = (port : Customer) (p n value : ℕ) → 1 ≤ n → value ≤ 782 → BeginsAt port.offset p value → report_of port.trace (chunks_from port p value n) ≡ clean_report n value
+ChunksAreClean =
+    (port : Customer) (p n value : ℕ) → 1 ≤ n → value ≤ 782 → BeginsAt port.offset p value
+    → report_of port.trace (chunks_from port p value n) ≡ clean_report n value
 
 -- the byte to which a clock has come is in step with its pointer value, however it slips
 pub record ClocksAreInStep : Type 0 where
   pub first : (offset : ℕ) → offset ≤ 782 → BeginsAt offset (new_clock offset).sent (new_clock offset).value
-  pub told : (offset : ℕ) (turn : Turn) (count : ℕ) (c : Clock) → BeginsAt offset c.sent c.value → BeginsAt offset (waits turn count c).sent (waits turn count c).value
+  pub told : (offset : ℕ) (turn : Turn) (count : ℕ) (c : Clock) → BeginsAt offset c.sent c.value
+      → BeginsAt offset (waits turn count c).sent (waits turn count c).value
   pub went : (offset : ℕ) (c : Clock) → BeginsAt offset c.sent c.value → BeginsAt offset (ticked c).sent (ticked c).value

@@ -1,6 +1,7 @@
 -- What a watch reports of the chunks that it was given: the VC-4s in them, by the first three bytes of the path overhead, J1, B3 and C2
 -- (ITU-T G.707 clause 9.3). The words and the numbers are this project's own.
-use Rattle.std.specs.Prelude.{ℕ, zero, suc, ◌+◌, ◌-◌, ◌*◌, ◌/◌, ◌%◌, Bool, ◌==◌, nat_lt, if◌then◌else◌, List, length, take, drop, slice_index, bytes_eq}
+use Rattle.std.specs.Prelude.{ℕ, zero, suc, ◌+◌, ◌-◌, ◌*◌, ◌/◌, ◌%◌, Bool, ◌==◌, nat_lt, if◌then◌else◌, List, length, take, drop}
+use Rattle.std.specs.Prelude.{slice_index, bytes_eq}
 use Rattle.std.specs.List.{list_any, range_with_len}
 use Rattle.sdh_basics.specs.Parity.{bip8}
 use Rattle.sdh_basics.specs.Cells.{cells}

@@ -40,5 +40,6 @@ reports_remember ring limit one two later r s reports end k m e f some x =
     let second : s.round + 1 - rounds_in (stretch_of one (r.round + 1 - 0) ∷ []) ≡ m = omega (arith, behind, f) in (
       subst (λ i. shows ring r (stretch_of one i ∷ [])) first x.2,
       subst (λ i. shows ring s (stretch_of one k ∷ stretch_of two i ∷ [])) second
-          (subst (λ i. shows ring s (stretch_of one i ∷ stretch_of two (s.round + 1 - rounds_in (stretch_of one (r.round + 1 - 0) ∷ [])) ∷ [])) first x.3.2),
+          (subst (λ i. shows ring s (stretch_of one i ∷ stretch_of two (s.round + 1 - rounds_in (stretch_of one (r.round + 1 - 0) ∷ []))
+          ∷ [])) first x.3.2),
     )

@@ -25,7 +25,8 @@ went_by (suc k) history = went ∷ went_by k history
 abbrev pub happened_in : PortId → List Stretch → List Happening → ℕ → List Happening
 happened_in port [] history t = went_by t history
 happened_in port (s ∷ ss) history t =
-    if nat_lt t s.rounds then went_by t (told_by_all port s.changes history) else happened_in port ss (went_by s.rounds (told_by_all port s.changes history)) (t - s.rounds)
+    if nat_lt t s.rounds then went_by t (told_by_all port s.changes history)
+    else happened_in port ss (went_by s.rounds (told_by_all port s.changes history)) (t - s.rounds)
 
 -- from a new ring on
 abbrev pub happened : List Stretch → PortId → ℕ → List Happening

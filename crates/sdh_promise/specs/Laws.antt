@@ -21,16 +21,20 @@ use Rattle.sdh_promise.specs.Owed.{Ring, requests_by, owed_port, IsOwed, AreOwed
 -- within the limit, at a multiple of 128 and not in round 0
 abbrev pub GoOn : ℕ → ℕ → List Report → Type 0
 GoOn limit ran [] = Unit {0}
-GoOn limit ran (r ∷ reports) = (ran ≤ r.round) × (1 ≤ r.round) × (r.round + 1 ≤ ran + limit) × (r.round % 128 ≡ 0) × GoOn limit (r.round + 1) reports
+GoOn limit ran (r ∷ reports) =
+    (ran ≤ r.round) × (1 ≤ r.round) × (r.round + 1 ≤ ran + limit) × (r.round % 128 ≡ 0) × GoOn limit (r.round + 1) reports
 
 -- and so do those of reports that are owed, in a ring of two nodes or more
 abbrev pub ReportsGoOn : Type 0
-ReportsGoOn = (ring : Ring) (limit : ℕ) (earlier : List Stretch) (before : ℕ) (later : List (List Change)) (reports : List Report) (end : Status)
+ReportsGoOn =
+    (ring : Ring) (limit : ℕ) (earlier : List Stretch) (before : ℕ) (later : List (List Change)) (reports : List Report) (end : Status)
     → 2 ≤ ring.nodes → AreOwed ring limit earlier before later reports end → GoOn limit (rounds_in earlier) reports
 
 -- The first two reports speak of all that happened before them: after a stretch of one's changes they show what is owed.
 abbrev pub ReportsRemember : Type 0
-ReportsRemember = (ring : Ring) (limit : ℕ) (one two : List Change) (later : List (List Change)) (r s : Report) (reports : List Report) (end : Status) (k m : ℕ)
+ReportsRemember =
+    (ring : Ring) (limit : ℕ) (one two : List Change) (later : List (List Change)) (r s : Report) (reports : List Report) (end : Status)
+    (k m : ℕ)
     → r.round + 1 ≡ k → s.round + 1 ≡ k + m → 2 ≤ ring.nodes → AreOwed ring limit [] 0 (one ∷ two ∷ later) (r ∷ s ∷ reports) end
     → (let first : Stretch = record { changes = one; rounds = k } in let second : Stretch = record { changes = two; rounds = m } in
     IsOwed ring.nodes (requests_by ring (first ∷ []) r.round) (happened (first ∷ [])) ring.circuits r
@@ -38,13 +42,18 @@ ReportsRemember = (ring : Ring) (limit : ℕ) (one two : List Change) (later : L
 
 -- a side is told of the fibre that ends at it
 abbrev pub SidesAreTold : Type 0
-SidesAreTold = (n p q : ℕ) (d e : Side) (c : Condition) (h : Holding) → fibre q e ≡ fibre_to n p d → (holding_after n p d (Fibre q e c) h).condition ≡ c
+SidesAreTold =
+    (n p q : ℕ) (d e : Side) (c : Condition) (h : Holding) → fibre q e ≡ fibre_to n p d
+    → (holding_after n p d (Fibre q e c) h).condition ≡ c
 
 -- a port is told of its own slips alone
 abbrev pub PortsAreTold : Type 0
-PortsAreTold = (port other : PortId) (turn : Turn) (count : ℕ) (history : List Happening) → same_port port other ≡ false → told_by port (Slip other turn count) history ≡ history
+PortsAreTold =
+    (port other : PortId) (turn : Turn) (count : ℕ) (history : List Happening) → same_port port other ≡ false
+    → told_by port (Slip other turn count) history ≡ history
 
 -- a port is owed what the other end's customer sends, by what happened there
 abbrev pub OwedByTheOther : Type 0
 OwedByTheOther = (n t index : ℕ) (before : PortId → ℕ → List Happening) (c : Provisioned) (e : End)
-    → (owed_port n (λ s. false) before t index c e).outlet ≡ due n (λ s. false) c (λ k. sends_by (customer_at c (other_end e)) (before (record { circuit = index; end = other_end e }) k)) t
+    → (owed_port n (λ s. false) before t index c e).outlet ≡ due n (λ s. false) c
+    (λ k. sends_by (customer_at c (other_end e)) (before (record { circuit = index; end = other_end e }) k)) t

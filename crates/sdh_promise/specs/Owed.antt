@@ -36,12 +36,18 @@ requests_by r stretches t = span_requests r.nodes (asked_in r.threshold r.wait r
 -- this had happened at each port before each round: the other end's customer sends by what happened there.
 abbrev pub owed_port : ℕ → (ℕ → Bool) → (PortId → ℕ → List Happening) → ℕ → ℕ → Provisioned → End → PortLine
 owed_port n applied before t index c e =
-    record { name = c.name; end = e; outlet = due n applied c (λ k. sends_by (customer_at c (other_end e)) (before (record { circuit = index; end = other_end e }) k)) t }
+    record {
+      name = c.name;
+      end = e;
+      outlet = due n applied c
+          (λ k. sends_by (customer_at c (other_end e)) (before (record { circuit = index; end = other_end e }) k)) t;
+    }
 
 -- what all ports of these circuits are owed, which are counted from `index`, in their order, a before b
 abbrev pub owed_ports : ℕ → (ℕ → Bool) → (PortId → ℕ → List Happening) → ℕ → ℕ → List Provisioned → List PortLine
 owed_ports n applied before t index [] = []
-owed_ports n applied before t index (c ∷ cs) = owed_port n applied before t index c A ∷ owed_port n applied before t index c B ∷ owed_ports n applied before t (index + 1) cs
+owed_ports n applied before t index (c ∷ cs) =
+    owed_port n applied before t index c A ∷ owed_port n applied before t index c B ∷ owed_ports n applied before t (index + 1) cs
 
 -- the report shows each port of these circuits with what it is owed in a ring of n under these requests of spans, by what happened
 abbrev pub IsOwed : ℕ → List ℕ → (PortId → ℕ → List Happening) → List Provisioned → Report → Type 0
@@ -62,4 +68,6 @@ AreOwed ring limit earlier before [] reports end = (reports ≡ []) × ((end ≡
 AreOwed ring limit earlier before (changes ∷ later) [] end = (end ≡ status.Unsettled (before + 1)) ⊎ (end ≡ status.PlantFault)
 AreOwed ring limit earlier before (changes ∷ later) (r ∷ reports) end =
     (let now = earlier ++ record { changes = changes; rounds = r.round + 1 - rounds_in earlier } ∷ [] in
-    (r.number ≡ before + 1) × IsLast ring.nodes limit (rounds_in earlier) r.round × IsOwed ring.nodes (requests_by ring now r.round) (happened now) ring.circuits r × AreOwed ring limit now (before + 1) later reports end)
+    (r.number ≡ before + 1) × IsLast ring.nodes limit (rounds_in earlier) r.round
+    × IsOwed ring.nodes (requests_by ring now r.round) (happened now) ring.circuits r
+    × AreOwed ring limit now (before + 1) later reports end)

@@ -8,7 +8,12 @@ use Rattle.sdh_promise.specs.Owed.{Ring, AreOwed}
 
 -- the ring of a plan, as far as reports owe by it
 abbrev pub ring_of : Planned → Ring
-ring_of plan = record { nodes = length plan.nodes; threshold = plan.settings.threshold; wait = plan.settings.wait; circuits = plan.circuits }
+ring_of plan = record {
+  nodes = length plan.nodes;
+  threshold = plan.settings.threshold;
+  wait = plan.settings.wait;
+  circuits = plan.circuits;
+}
 
 -- each report shows for every port what it is owed
 abbrev pub OwesAll : Planned → List Report → Status → Type 0

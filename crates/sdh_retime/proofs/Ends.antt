@@ -9,23 +9,30 @@ use Rattle.sdh_retime.specs.Outcome.{Runs, IsDone, IsDrift}
 use Rattle.sdh_retime.proofs.Cut.{next_chunk, next_offset, length-chunks}
 
 -- the bytes that are cut off are the chunk
-pub cut_off : (digits bytes : List ℕ) (k at size : ℕ) → at ≡ offset_at digits k → size ≡ size_at digits k → take (at + size - at) (drop at bytes) ≡ chunk_at digits bytes k
+pub cut_off : (digits bytes : List ℕ) (k at size : ℕ) → at ≡ offset_at digits k → size ≡ size_at digits k
+    → take (at + size - at) (drop at bytes) ≡ chunk_at digits bytes k
 cut_off digits bytes k at size is long =
     let n : at + size - at ≡ size = omega arith in
     ap (λ (m : ℕ). take m (drop at bytes)) (n ∙ long) ∙ ap (λ (m : ℕ). take (size_at digits k) (drop m bytes)) is
 
-pub offset_then : (digits : List ℕ) (k at size : ℕ) → at ≡ offset_at digits k → size ≡ size_at digits k → at + size ≡ offset_at digits (k + 1)
-offset_then digits k at size is long = ap (λ (m : ℕ). m + size) is ∙ ap (λ (m : ℕ). offset_at digits k + m) long ∙ sym (next_offset digits k) ∙ ap (offset_at digits) (sym (add-one k))
+pub offset_then : (digits : List ℕ) (k at size : ℕ) → at ≡ offset_at digits k → size ≡ size_at digits k
+    → at + size ≡ offset_at digits (k + 1)
+offset_then digits k at size is long =
+    ap (λ (m : ℕ). m + size) is ∙ ap (λ (m : ℕ). offset_at digits k + m) long ∙ sym (next_offset digits k)
+    ∙ ap (offset_at digits) (sym (add-one k))
 
 -- ---- one more turn
 
 pub came_then : (digits bytes x : List ℕ) (k : ℕ) (s new : Store) → x ≡ chunk_at digits bytes k → CameBy 0 (chunks digits bytes k) s
     → ((past : List (List ℕ)) → CameBy 0 past s → CameBy 0 (x ∷ past) new) → CameBy 0 (chunks digits bytes (k + 1)) new
 came_then digits bytes x k s new is came goes =
-    subst (λ past. CameBy 0 past new) (ap (λ (y : List ℕ). y ∷ chunks digits bytes k) is ∙ sym (next_chunk digits bytes k) ∙ ap (chunks digits bytes) (sym (add-one k))) (goes (chunks digits bytes k) came)
+    subst (λ past. CameBy 0 past new) (ap (λ (y : List ℕ). y ∷ chunks digits bytes k) is ∙ sym (next_chunk digits bytes k)
+    ∙ ap (chunks digits bytes) (sym (add-one k))) (goes (chunks digits bytes k) came)
 
-pub lines_then : (digits bytes x : List ℕ) (k : ℕ) (s : Store) (w new : List ℕ) → x ≡ chunk_at digits bytes k → CameBy 0 (chunks digits bytes k) s → w ≡ lines_of (chunks digits bytes k)
-    → ((past : List (List ℕ)) → CameBy 0 past s → k + 1 ≡ length past + 1 → new ≡ w ++ last_lines (x ∷ past)) → new ≡ lines_of (chunks digits bytes (k + 1))
+pub lines_then : (digits bytes x : List ℕ) (k : ℕ) (s : Store) (w new : List ℕ) → x ≡ chunk_at digits bytes k
+    → CameBy 0 (chunks digits bytes k) s → w ≡ lines_of (chunks digits bytes k)
+    → ((past : List (List ℕ)) → CameBy 0 past s → k + 1 ≡ length past + 1 → new ≡ w ++ last_lines (x ∷ past))
+    → new ≡ lines_of (chunks digits bytes (k + 1))
 lines_then digits bytes x k s w new is came was goes =
     let number : k + 1 ≡ length (chunks digits bytes k) + 1 = ap (λ (n : ℕ). n + 1) (sym (length-chunks digits bytes k)) in
     goes (chunks digits bytes k) came number
@@ -35,24 +42,35 @@ lines_then digits bytes x k s w new is came was goes =
 
 -- ---- the ends
 
-runs : (digits bytes : List ℕ) (k at : ℕ) (s : Store) → at ≡ offset_at digits k → at ≤ length bytes → CameBy 0 (chunks digits bytes k) s → Runs digits bytes k
+runs : (digits bytes : List ℕ) (k at : ℕ) (s : Store) → at ≡ offset_at digits k → at ≤ length bytes → CameBy 0 (chunks digits bytes k) s
+    → Runs digits bytes k
 runs digits bytes k at s is within came = record { there = rw (sym is) within; lasts = came.lasts }
 
-pub done : (digits bytes : List ℕ) (k at size : ℕ) (s : Store) (w new : Written) → at ≡ offset_at digits k → size ≡ size_at digits k → at ≤ length bytes → CameBy 0 (chunks digits bytes k) s
-    → w.bytes ≡ lines_of (chunks digits bytes k) → length bytes - at < size → new ≡ with_part w (left_line (length bytes - at)) → IsDone digits bytes k new.bytes
+pub done : (digits bytes : List ℕ) (k at size : ℕ) (s : Store) (w new : Written) → at ≡ offset_at digits k → size ≡ size_at digits k
+    → at ≤ length bytes → CameBy 0 (chunks digits bytes k) s
+    → w.bytes ≡ lines_of (chunks digits bytes k) → length bytes - at < size → new ≡ with_part w (left_line (length bytes - at))
+    → IsDone digits bytes k new.bytes
 done digits bytes k at size s w new is long within came was short end = record {
   runs = runs digits bytes k at s is within came;
   short = omega (arith, next_offset digits k);
-  written = ap (λ (t : Written). t.bytes) end ∙ ap (λ (l : List ℕ). l ++ left_line (length bytes - at)) was ∙ ap (λ (m : ℕ). lines_of (chunks digits bytes k) ++ left_line (length bytes - m)) is;
+  written =
+      ap (λ (t : Written). t.bytes) end ∙ ap (λ (l : List ℕ). l ++ left_line (length bytes - at)) was
+      ∙ ap (λ (m : ℕ). lines_of (chunks digits bytes k) ++ left_line (length bytes - m)) is;
 }
 
-pub drifted : (digits bytes x : List ℕ) (k at size : ℕ) (s : Store) (w v new : Written) → at ≡ offset_at digits k → size ≡ size_at digits k → at ≤ length bytes → CameBy 0 (chunks digits bytes k) s
+pub drifted : (digits bytes x : List ℕ) (k at size : ℕ) (s : Store) (w v new : Written) → at ≡ offset_at digits k → size ≡ size_at digits k
+    → at ≤ length bytes → CameBy 0 (chunks digits bytes k) s
     → w.bytes ≡ lines_of (chunks digits bytes k) → size ≤ length bytes - at → x ≡ chunk_at digits bytes k
-    → ((past : List (List ℕ)) → CameBy 0 past s → lasts (lengths (x ∷ past)) ≡ false) → v ≡ w → new ≡ with_part v (drift_line (k + 1)) → IsDrift digits bytes k (k + 1) new.bytes
+    → ((past : List (List ℕ)) → CameBy 0 past s → lasts (lengths (x ∷ past)) ≡ false) → v ≡ w → new ≡ with_part v (drift_line (k + 1))
+    → IsDrift digits bytes k (k + 1) new.bytes
 drifted digits bytes x k at size s w v new is long within came was there cut drift kept end = record {
   runs = runs digits bytes k at s is within came;
   there = omega (arith, next_offset digits k);
   number = add-one k;
-  drifts = ap (λ past. lasts (lengths past)) (next_chunk digits bytes k ∙ ap (λ (y : List ℕ). y ∷ chunks digits bytes k) (sym cut)) ∙ drift (chunks digits bytes k) came;
-  written = ap (λ (t : Written). t.bytes) end ∙ ap (λ (t : Written). t.bytes ++ drift_line (k + 1)) kept ∙ ap (λ (l : List ℕ). l ++ drift_line (k + 1)) was ∙ ap (λ (n : ℕ). lines_of (chunks digits bytes k) ++ drift_line n) (add-one k);
+  drifts =
+      ap (λ past. lasts (lengths past)) (next_chunk digits bytes k ∙ ap (λ (y : List ℕ). y ∷ chunks digits bytes k) (sym cut))
+      ∙ drift (chunks digits bytes k) came;
+  written =
+      ap (λ (t : Written). t.bytes) end ∙ ap (λ (t : Written). t.bytes ++ drift_line (k + 1)) kept
+      ∙ ap (λ (l : List ℕ). l ++ drift_line (k + 1)) was ∙ ap (λ (n : ℕ). lines_of (chunks digits bytes k) ++ drift_line n) (add-one k);
 }

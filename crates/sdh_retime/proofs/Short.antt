@@ -48,10 +48,12 @@ given_line_short Up bytes h = given_short bytes h
 given_line_short Down bytes h = given_short bytes h
 
 pub left_line_short : (n : ℕ) → n < 2 ^ 64 → length (left_line n) ≤ 96
-left_line_short n h = omega (arith, length-append (codes "left " ++ decimal n) (codes "\n"), length-append (codes "left ") (decimal n), short n h)
+left_line_short n h =
+    omega (arith, length-append (codes "left " ++ decimal n) (codes "\n"), length-append (codes "left ") (decimal n), short n h)
 
 pub drift_line_short : (n : ℕ) → n < 2 ^ 64 → length (drift_line n) ≤ 96
-drift_line_short n h = omega (arith, length-append (codes "drift " ++ decimal n) (codes "\n"), length-append (codes "drift ") (decimal n), short n h)
+drift_line_short n h =
+    omega (arith, length-append (codes "drift " ++ decimal n) (codes "\n"), length-append (codes "drift ") (decimal n), short n h)
 
 -- every turn but the first gives bytes
 pub given_line_other : (a : Action) (bytes : List ℕ) → (a ≡ Ais → ⊥) → given_line a bytes ≡ hex_of bytes ++ codes "\n"
@@ -62,4 +64,5 @@ given_line_other Up bytes h = refl
 given_line_other Down bytes h = refl
 
 pub length-given_line_other : (a : Action) (bytes : List ℕ) → (a ≡ Ais → ⊥) → length (given_line a bytes) ≡ 2 * length bytes + 1
-length-given_line_other a bytes h = ap length (given_line_other a bytes h) ∙ length-append (hex_of bytes) (codes "\n") ∙ ap (λ (n : ℕ). n + 1) (length-hex_of bytes)
+length-given_line_other a bytes h =
+    ap length (given_line_other a bytes h) ∙ length-append (hex_of bytes) (codes "\n") ∙ ap (λ (n : ℕ). n + 1) (length-hex_of bytes)

@@ -14,13 +14,16 @@ unfolding reading_in
 first_reading i s first is new = is ∙ ap reading_of (sym new)
 
 -- it reads what the turn did
-pub read_action : (i : Interpreter) (s new : Store) (w : ℕ) (b a : Action) → i.reading ≡ reading_of s → w ≡ new.word → b ≡ action_on i.reading w → action_on (reading_of s) new.word ≡ a → b ≡ a
+pub read_action : (i : Interpreter) (s new : Store) (w : ℕ) (b a : Action) → i.reading ≡ reading_of s → w ≡ new.word
+    → b ≡ action_on i.reading w → action_on (reading_of s) new.word ≡ a → b ≡ a
 read_action i s new w b a at word is told = is ∙ ap (λ r. action_on r w) at ∙ ap (action_on (reading_of s)) word ∙ told
 
 -- and goes on with the store
-pub next_reading : (i j : Interpreter) (s new : Store) (w : ℕ) → i.reading ≡ reading_of s → w ≡ new.word → j ≡ after_step i w → after_word (reading_of s) new.word ≡ reading_of new → j.reading ≡ reading_of new
+pub next_reading : (i j : Interpreter) (s new : Store) (w : ℕ) → i.reading ≡ reading_of s → w ≡ new.word → j ≡ after_step i w
+    → after_word (reading_of s) new.word ≡ reading_of new → j.reading ≡ reading_of new
 unfolding after_step
-next_reading i j s new w at word is goes = ap (λ (k : Interpreter). k.reading) is ∙ ap (λ r. after_word r w) at ∙ ap (after_word (reading_of s)) word ∙ goes
+next_reading i j s new w at word is goes =
+    ap (λ (k : Interpreter). k.reading) is ∙ ap (λ r. after_word r w) at ∙ ap (after_word (reading_of s)) word ∙ goes
 
 -- what a line takes of the room
 pub room_after : (w new : Written) (line : List ℕ) → new ≡ with_part w line → new.room ≡ w.room - length line
@@ -38,4 +41,5 @@ lines_after w v new number a f out x past first second n is held given =
     ∙ ap (λ (k : ℕ). w.bytes ++ (turn_line k a f ++ given_line a out)) count
     ∙ ap (λ (b : Action). w.bytes ++ (turn_line (length (x ∷ past)) b f ++ given_line b out)) is
     ∙ ap (λ (k : ℕ). w.bytes ++ (turn_line (length (x ∷ past)) (last_action (x ∷ past)) k ++ given_line (last_action (x ∷ past)) out)) held
-    ∙ ap (λ (l : List ℕ). w.bytes ++ (turn_line (length (x ∷ past)) (last_action (x ∷ past)) (fill (lengths (x ∷ past))) ++ given_line (last_action (x ∷ past)) l)) given
+    ∙ ap (λ (l : List ℕ). w.bytes ++ (turn_line (length (x ∷ past)) (last_action (x ∷ past)) (fill (lengths (x ∷ past)))
+    ++ given_line (last_action (x ∷ past)) l)) given

@@ -1,5 +1,6 @@
 -- A drift comes only where four chunks in a row aren't steady.
-use Rattle.std.proofs.Common.{◌≡◌, ℕ, zero, suc, ◌+◌, ◌<◌, ◌≤◌, ◌⊎◌, inl, inr, Bool, true, false, List, [], ◌∷◌, length, refl, ap, sym, ◌∙◌, arith}
+use Rattle.std.proofs.Common.{◌≡◌, ℕ, zero, suc, ◌+◌, ◌<◌, ◌≤◌, ◌⊎◌, inl, inr, Bool, true, false, List, [], ◌∷◌, length, refl, ap, sym, ◌∙◌}
+use Rattle.std.proofs.Common.{arith}
 use Rattle.std.specs.Prelude.{◌&&◌, ◌%◌}
 use Rattle.std.specs.List.{All}
 use Rattle.std.proofs.lemmas.Bool.{cases_Bool, cases_lt, le-leb}
@@ -24,7 +25,8 @@ size_is_chunk digits k d =
     let digit = d.each (k % length digits) 48 less in
     (omega arith, omega (arith, digit.0, digit.1))
 
-length-chunk : (digits bytes : List ℕ) (k : ℕ) → offset_at digits (suc k) ≤ length bytes → length (chunk_at digits bytes k) ≡ size_at digits k
+length-chunk : (digits bytes : List ℕ) (k : ℕ) → offset_at digits (suc k) ≤ length bytes
+    → length (chunk_at digits bytes k) ≡ size_at digits k
 length-chunk digits bytes k h = length-part (offset_at digits k) (size_at digits k) bytes (omega (arith, next_offset digits k))
 
 before : (digits bytes : List ℕ) (k : ℕ) → offset_at digits (suc k) ≤ length bytes → offset_at digits k ≤ length bytes
@@ -34,17 +36,21 @@ lengths-chunks : (digits bytes : List ℕ) (k : ℕ) → offset_at digits k ≤ 
 unfolding chunks sizes
 lengths-chunks digits bytes zero h = refl
 lengths-chunks digits bytes (suc k) h =
-    ap (λ (n : ℕ). n ∷ lengths (chunks digits bytes k)) (length-chunk digits bytes k h) ∙ ap (λ (l : List ℕ). size_at digits k ∷ l) (lengths-chunks digits bytes k (before digits bytes k h))
+    ap (λ (n : ℕ). n ∷ lengths (chunks digits bytes k)) (length-chunk digits bytes k h)
+    ∙ ap (λ (l : List ℕ). size_at digits k ∷ l) (lengths-chunks digits bytes k (before digits bytes k h))
 
-all_cons : (chunk : List ℕ) (past : List (List ℕ)) → IsChunk (length chunk) → All (λ (c : List ℕ). IsChunk (length c)) past → All (λ (c : List ℕ). IsChunk (length c)) (chunk ∷ past)
+all_cons : (chunk : List ℕ) (past : List (List ℕ)) → IsChunk (length chunk) → All (λ (c : List ℕ). IsChunk (length c)) past
+    → All (λ (c : List ℕ). IsChunk (length c)) (chunk ∷ past)
 all_cons chunk past here rest zero d less = here
 all_cons chunk past here rest (suc j) d less = rest j d (omega arith)
 
-all_chunks : (digits bytes : List ℕ) (k : ℕ) → IsDigits digits → offset_at digits k ≤ length bytes → All (λ (chunk : List ℕ). IsChunk (length chunk)) (chunks digits bytes k)
+all_chunks : (digits bytes : List ℕ) (k : ℕ) → IsDigits digits → offset_at digits k ≤ length bytes
+    → All (λ (chunk : List ℕ). IsChunk (length chunk)) (chunks digits bytes k)
 unfolding chunks
 all_chunks digits bytes zero d h = λ j x less. absurd (omega arith)
 all_chunks digits bytes (suc k) d h =
-    all_cons (chunk_at digits bytes k) (chunks digits bytes k) (rw (length-chunk digits bytes k h) (size_is_chunk digits k d)) (all_chunks digits bytes k d (before digits bytes k h))
+    all_cons (chunk_at digits bytes k) (chunks digits bytes k) (rw (length-chunk digits bytes k h) (size_is_chunk digits k d))
+    (all_chunks digits bytes k d (before digits bytes k h))
 
 both_true : {x y : Bool} → x ≡ true → y ≡ true → (x && y) ≡ true
 both_true p q = rw (p, q) refl
@@ -55,7 +61,8 @@ out_of_four a b c d h =
       | inl less ↦ inl less
       | inr some ↦ elim (cases_lt 9399 (a + b + c + d)) [
         | inl more ↦ inr more
-        | inr few ↦ let four : are_four a b c d ≡ true = both_true (le-leb 9393 (a + b + c + d) some) (le-leb (a + b + c + d) 9399 few) in absurd (cc)
+        | inr few ↦ let four : are_four a b c d ≡ true =
+            both_true (le-leb 9393 (a + b + c + d) some) (le-leb (a + b + c + d) 9399 few) in absurd (cc)
       ]
     ]
 
@@ -92,7 +99,8 @@ unfolding sizes
 find_unsteady digits zero h = absurd (cc)
 find_unsteady digits (suc k) h =
     elim (cases_Bool (is_steady (sizes digits k))) [
-      | inl steady ↦ last_unsteady digits k (steady_but (is_steady (sizes digits k)) (is_last_steady (size_at digits k ∷ sizes digits k)) steady h)
+      | inl steady ↦ last_unsteady digits k (steady_but (is_steady (sizes digits k))
+          (is_last_steady (size_at digits k ∷ sizes digits k)) steady h)
       | inr not_steady ↦
           let found = find_unsteady digits k not_steady in
           record { first = found.first; within = omega (arith, found.within); sum = found.sum; is = found.is; far = found.far }
@@ -101,7 +109,8 @@ find_unsteady digits (suc k) h =
 differ : (b : Bool) → b ≡ true → b ≡ false → ⊥
 differ b p q = cc
 
-pub drifts_are_unsteady : (digits bytes : List ℕ) (k turn : ℕ) (text : List ℕ) → IsDigits digits → IsDrift digits bytes k turn text → UnsteadyBy digits turn
+pub drifts_are_unsteady : (digits bytes : List ℕ) (k turn : ℕ) (text : List ℕ) → IsDigits digits → IsDrift digits bytes k turn text
+    → UnsteadyBy digits turn
 drifts_are_unsteady digits bytes k turn text d drift =
     let all = all_chunks digits bytes (suc k) d drift.there in
     let same = lengths-chunks digits bytes (suc k) drift.there in

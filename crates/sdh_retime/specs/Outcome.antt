@@ -57,7 +57,8 @@ IsOutcome words bytes status.Usage text = (¬ AreDigits words) × (text ≡ own_
 IsOutcome words bytes status.ReadFault text = AreDigits words × (text ≡ own_line (codes "read fault"))
 IsOutcome words bytes status.TooLong text = AreDigits words × (1048576 < length bytes) × (text ≡ own_line (codes "too long"))
 IsOutcome words bytes status.Ok text = (digits : List ℕ) × IsRead words bytes digits × IsRunOutcome digits bytes status.Ok text
-IsOutcome words bytes (status.Drift turn) text = (digits : List ℕ) × IsRead words bytes digits × IsRunOutcome digits bytes (status.Drift turn) text
+IsOutcome words bytes (status.Drift turn) text =
+    (digits : List ℕ) × IsRead words bytes digits × IsRunOutcome digits bytes (status.Drift turn) text
 IsOutcome words bytes status.WriteFault text = ⊥
 IsOutcome words bytes status.Memory text = ⊥
 
@@ -79,7 +80,8 @@ pub record Answers (words : List (List ℕ)) (bytes : List ℕ) (number : ℕ) (
 
 -- what had come of the source when there was this to tell
 abbrev pub CameTo : Bool → ℕ → ℕ → Option (List ℕ) → Option (List ℕ) → Status → Type 0
-CameTo exact before after left now how = CameOfSource exact (record { before = before; after = after }) left now (how ≡ status.ReadFault) (how ≡ status.TooLong)
+CameTo exact before after left now how =
+    CameOfSource exact (record { before = before; after = after }) left now (how ≡ status.ReadFault) (how ≡ status.TooLong)
 
 -- the source was read to its end and the run came to an end
 abbrev pub HasRun : Status → Type 0
@@ -101,4 +103,5 @@ AreUnsteady words = (digits : List ℕ) × (words ≡ digits ∷ []) × ((turn :
 
 -- a run of digits ends with a drift only where four chunks in a row, up to its turn, aren't steady
 abbrev pub DriftsAreUnsteady : Type 0
-DriftsAreUnsteady = (digits bytes : List ℕ) (k turn : ℕ) (text : List ℕ) → IsDigits digits → IsDrift digits bytes k turn text → UnsteadyBy digits turn
+DriftsAreUnsteady =
+    (digits bytes : List ℕ) (k turn : ℕ) (text : List ℕ) → IsDigits digits → IsDrift digits bytes k turn text → UnsteadyBy digits turn

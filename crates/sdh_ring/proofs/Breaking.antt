@@ -1,5 +1,6 @@
 -- The clocks of ports after a fault.
-use Rattle.std.proofs.Common.{◌≡◌, ℕ, zero, suc, ◌+◌, ◌-◌, ◌/◌, ◌<◌, ◌≤◌, Bool, true, false, List, [], ◌∷◌, length, map, Option, Some, None, refl, ap, sym, subst, ◌∙◌, arith, inl, inr}
+use Rattle.std.proofs.Common.{◌≡◌, ℕ, zero, suc, ◌+◌, ◌-◌, ◌/◌, ◌<◌, ◌≤◌, Bool, true, false, List, [], ◌∷◌, length, map, Option, Some, None}
+use Rattle.std.proofs.Common.{refl, ap, sym, subst, ◌∙◌, arith, inl, inr}
 use Rattle.std.specs.Prelude.{nat_lt, if◌then◌else◌, IsSome, slice_get, option_and_then, option_map}
 use Rattle.std.specs.Option.{option_map_or}
 use Rattle.std.proofs.lemmas.Bool.{cases_lt}
@@ -58,7 +59,8 @@ found_among id ns p = by (slice_get ns p) ∙ sym (ap (option_and_then (port_of 
 
 -- where no port has changed
 found_same : (id : PortId) (ns ms : List Node) (p : ℕ) → map ports_of ms ≡ map ports_of ns → port_at id ns p ≡ port_at id ms p
-found_same id ns ms p same = found_among id ns p ∙ ap (λ l. option_and_then (port_of id) (slice_get l p)) (sym same) ∙ sym (found_among id ms p)
+found_same id ns ms p same =
+    found_among id ns p ∙ ap (λ l. option_and_then (port_of id) (slice_get l p)) (sym same) ∙ sym (found_among id ms p)
 
 -- its clock has gone on by a round at one of the first k
 abbrev Goes : PortId → ℕ → List Node → List Node → ℕ → Type 0
@@ -66,8 +68,10 @@ Goes id k ns ms p = Follows (ticks (if nat_lt p k then 0 + 1 else 0)) (port_at i
 
 less_suc : (p k : ℕ) → nat_lt (suc p) (suc k) ≡ nat_lt p k
 less_suc p k = elim (cases_lt p k) [
-  | inl low ↦ (let a : nat_lt (suc p) (suc k) ≡ true = grind (arith, nat_tests) in let b : nat_lt p k ≡ true = grind (arith, nat_tests) in a ∙ sym b)
-  | inr high ↦ (let a : nat_lt (suc p) (suc k) ≡ false = grind (arith, nat_tests) in let b : nat_lt p k ≡ false = grind (arith, nat_tests) in a ∙ sym b)
+  | inl low ↦ (let a : nat_lt (suc p) (suc k) ≡ true = grind (arith, nat_tests) in let b : nat_lt p k ≡ true = grind (arith, nat_tests) in a
+      ∙ sym b)
+  | inr high ↦ (let a : nat_lt (suc p) (suc k) ≡ false = grind (arith, nat_tests) in let b : nat_lt p k
+      ≡ false = grind (arith, nat_tests) in a ∙ sym b)
 ]
 
 goes_none : (id : PortId) (ns : List Node) (p : ℕ) → Goes id 0 ns ns p
@@ -83,15 +87,20 @@ goes_first id now (suc k) (n ∷ ns) (suc p) = let e : nat_lt (suc p) (suc k) �
 
 -- ---- a round
 
-went_on : (r : HeldRing) (ns : List Node) (b : Bool) (k : ℕ) → length ns ≡ length r.nodes → ((id : PortId) (p : ℕ) → Goes id k r.nodes ns p) → ClocksWentOn 0 k r (record r { nodes = ns; broken = b })
+went_on : (r : HeldRing) (ns : List Node) (b : Bool) (k : ℕ) → length ns ≡ length r.nodes → ((id : PortId) (p : ℕ) → Goes id k r.nodes ns p)
+    → ClocksWentOn 0 k r (record r { nodes = ns; broken = b })
 unfolding clock_at place_of_port
 went_on r ns b k size goes = λ port there.
     let p = place_of_port r port in
-    let place : place_of_port (record r { nodes = ns; broken = b }) port ≡ p = ap (λ n. option_map_or (λ (c : Provisioned). (end_of c port.end).0) (slice_get r.circuits.circuits port.circuit) n) size in
-    subst (λ q. IsSome (port_at port ns q) × (clock_of (port_at port ns q) ≡ ticks (if nat_lt p k then 0 + 1 else 0) (clock_at r port))) (sym place) (goes port p there)
+    let place : place_of_port (record r { nodes = ns; broken = b }) port ≡ p =
+    ap (λ n. option_map_or (λ (c : Provisioned). (end_of c port.end).0) (slice_get r.circuits.circuits port.circuit) n) size in
+    subst (λ q. IsSome (port_at port ns q) × (clock_of (port_at port ns q) ≡ ticks (if nat_lt p k then 0 + 1 else 0) (clock_at r port)))
+    (sym place) (goes port p there)
 
 -- a fault while nodes received
-pub breaks_hearing : (r : HeldRing) (f h : Fibres) (ns : List Node) → length r.nodes ≡ length r.ids → 2 ≤ length r.ids → length ns ≡ length r.nodes → map ports_of ns ≡ map ports_of r.nodes → SomeReceive adm (receivers_in r.rounds (length r.nodes)) f h r.nodes ns
+pub breaks_hearing : (r : HeldRing) (f h : Fibres) (ns : List Node) → length r.nodes ≡ length r.ids → 2 ≤ length r.ids
+    → length ns ≡ length r.nodes → map ports_of ns ≡ map ports_of r.nodes
+    → SomeReceive adm (receivers_in r.rounds (length r.nodes)) f h r.nodes ns
     → BreaksRound (world r f) (world (record r { nodes = ns; broken = true }) h)
 unfolding rings.off_hearing
 breaks_hearing r f h ns size enough kept same some =
@@ -104,11 +113,13 @@ breaks_hearing r f h ns size enough kept same some =
       off = off;
       ring = refl;
       clocks = subst (λ b. ClocksWentOn 0 (if b then 0 else 0 / 2 + 1) r (record r { nodes = ns; broken = true })) (sym e)
-          (went_on r ns true 0 kept (λ id p. subst (λ o. Follows (ticks (if nat_lt p 0 then 0 + 1 else 0)) (port_at id r.nodes p) o) (found_same id r.nodes ns p same) (goes_none id r.nodes p)));
+          (went_on r ns true 0 kept (λ id p. subst (λ o. Follows (ticks (if nat_lt p 0 then 0 + 1 else 0)) (port_at id r.nodes p) o)
+          (found_same id r.nodes ns p same) (goes_none id r.nodes p)));
     }
 
 -- and while they sent
-pub breaks_sending : (r : HeldRing) (f g h : Fibres) (ns new : List Node) → length r.nodes ≡ length r.ids → length new ≡ length r.nodes → map ports_of ns ≡ map ports_of r.nodes → FirstReceive adm (receivers_in r.rounds (length r.nodes)) f g r.nodes ns
+pub breaks_sending : (r : HeldRing) (f g h : Fibres) (ns new : List Node) → length r.nodes ≡ length r.ids → length new ≡ length r.nodes
+    → map ports_of ns ≡ map ports_of r.nodes → FirstReceive adm (receivers_in r.rounds (length r.nodes)) f g r.nodes ns
     → SendsSome adm r.moment ns new g h → BreaksRound (world r f) (world (record r { nodes = new; broken = true }) h)
 unfolding rings.off_sending
 breaks_sending r f g h ns new size kept same hears some =
@@ -119,7 +130,8 @@ breaks_sending r f g h ns new size kept same hears some =
       ring = refl;
       clocks = subst (λ b. ClocksWentOn 0 (if b then 0 else k) r (record r { nodes = new; broken = true })) (sym e)
           (went_on r new true k kept (λ id p. subst (λ ms. Goes id k r.nodes ms p) (sym some.nodes)
-          (subst (λ o. Follows (ticks (if nat_lt p k then 0 + 1 else 0)) o (port_at id (first_after adm r.moment k ns) p)) (sym (found_same id r.nodes ns p same)) (goes_first id r.moment k ns p))));
+          (subst (λ o. Follows (ticks (if nat_lt p k then 0 + 1 else 0)) o (port_at id (first_after adm r.moment k ns) p))
+          (sym (found_same id r.nodes ns p same)) (goes_first id r.moment k ns p))));
     }
 
 -- ---- a step
@@ -129,21 +141,27 @@ unfolding ticks
 ticks_more true t c = ap (λ n. ticks n c) (let e : suc t ≡ t + 1 = omega arith in e)
 ticks_more false t c = refl
 
-place_run : (rounds : List (List Arrival)) (w : World) (port : PortId) → place_of_port (run_with rounds w).ring port ≡ place_of_port w.ring port
+place_run : (rounds : List (List Arrival)) (w : World) (port : PortId)
+    → place_of_port (run_with rounds w).ring port ≡ place_of_port w.ring port
 unfolding place_of_port
 place_run rounds w port =
-    ap (λ (r : HeldRing). option_map_or (λ (c : Provisioned). (end_of c port.end).0) (slice_get r.circuits.circuits port.circuit) (length (run_with rounds w).ring.nodes)) (held_run adm rounds w)
-    ∙ ap (λ n. option_map_or (λ (c : Provisioned). (end_of c port.end).0) (slice_get w.ring.circuits.circuits port.circuit) n) (runs_keep adm rounds w).0.size
+    ap (λ (r : HeldRing). option_map_or (λ (c : Provisioned). (end_of c port.end).0) (slice_get r.circuits.circuits port.circuit)
+    (length (run_with rounds w).ring.nodes)) (held_run adm rounds w)
+    ∙ ap (λ n. option_map_or (λ (c : Provisioned). (end_of c port.end).0) (slice_get w.ring.circuits.circuits port.circuit) n)
+    (runs_keep adm rounds w).0.size
 
 -- after whole rounds
-pub went_by : (rounds : List (List Arrival)) (w left : World) (port : PortId) → left ≡ run_with rounds w → HasPortIn w.ring port → clock_at left.ring port ≡ clocks_from w port left.ring.rounds
+pub went_by : (rounds : List (List Arrival)) (w left : World) (port : PortId) → left ≡ run_with rounds w → HasPortIn w.ring port
+    → clock_at left.ring port ≡ clocks_from w port left.ring.rounds
 went_by rounds w left port is there =
-    let ran : left.ring.rounds ≡ w.ring.rounds + length rounds = ap (λ (x : World). x.ring.rounds) is ∙ ap (λ (r : HeldRing). r.rounds) (held_run adm rounds w) in
+    let ran : left.ring.rounds ≡ w.ring.rounds + length rounds =
+    ap (λ (x : World). x.ring.rounds) is ∙ ap (λ (r : HeldRing). r.rounds) (held_run adm rounds w) in
     ap (λ (x : World). clock_at x.ring port) is ∙ (goes_rounds port rounds w there).1
     ∙ ap (λ n. ticks n (clock_at w.ring port)) (let e : length rounds ≡ left.ring.rounds - w.ring.rounds = omega arith in e)
 
 -- and after one more that a fault broke off
-pub breaks_after : (rounds : List (List Arrival)) (w left : World) (limit : ℕ) → ArriveIn rounds w → length rounds < limit → NeverSettles (course_with rounds w) (length rounds) → BreaksRound (run_with rounds w) left → BreaksStep w limit left
+pub breaks_after : (rounds : List (List Arrival)) (w left : World) (limit : ℕ) → ArriveIn rounds w → length rounds < limit
+    → NeverSettles (course_with rounds w) (length rounds) → BreaksRound (run_with rounds w) left → BreaksStep w limit left
 breaks_after rounds w left limit arrive within never broke = record {
   step = record { rounds = rounds; arrive = arrive; within = within; never = never; off = broke.off };
   ring = broke.ring ∙ ap (λ (r : HeldRing). record r { nodes = left.ring.nodes; broken = true }) (held_run adm rounds w);
@@ -152,7 +170,8 @@ breaks_after rounds w left limit arrive within never broke = record {
       let last = broke.clocks port whole.0 in (
         last.0,
         last.1
-            ∙ ap (λ p. ticks (if nat_lt p (had_round broke.off) then 0 + 1 else 0) (clock_at (run_with rounds w).ring port)) (place_run rounds w port)
+            ∙ ap (λ p. ticks (if nat_lt p (had_round broke.off) then 0 + 1 else 0) (clock_at (run_with rounds w).ring port))
+            (place_run rounds w port)
             ∙ ap (ticks (if nat_lt (place_of_port w.ring port) (had_round broke.off) then 0 + 1 else 0)) whole.1
             ∙ ticks_more (nat_lt (place_of_port w.ring port) (had_round broke.off)) (length rounds) (clock_at w.ring port),
       ));

@@ -21,7 +21,8 @@ pub record HasLooked (heard : (ℕ → World) → ℕ → Type 0) (w now : World
 
 -- ---- one round more
 
-module _ (w now after : World) (k calm n : ℕ) (on : GoesOn adm w now k calm) (is : IsRound now after) (counted : n ≡ (if is_calm after.ring.nodes then calm + 1 else 0)) where
+module _ (w now after : World) (k calm n : ℕ) (on : GoesOn adm w now k calm) (is : IsRound now after)
+    (counted : n ≡ (if is_calm after.ring.nodes then calm + 1 else 0)) where
   abbrev more : Went adm w after (k + 1) n
   more = went_more adm w now after k calm n on is counted
 
@@ -46,27 +47,40 @@ module _ (w now after : World) (k calm n : ℕ) (on : GoesOn adm w now k calm) (
   }
 
   -- one who looks at the ring then keeps what is to be kept
-  looked_with : (before later : (ℕ → World) → ℕ → Type 0) → k < 65536 → ((at bt : ℕ → World) → ((j : ℕ) → j ≤ k → at j ≡ bt j) → before at k → before bt k)
-      → ((at : ℕ → World) → RanOne at k after.ring → before at k → later at (suc k)) → before (course_with on.went.rounds w) k → HasLooked later w after (k + 1) n
+  looked_with : (before later : (ℕ → World) → ℕ → Type 0) → k < 65536
+      → ((at bt : ℕ → World) → ((j : ℕ) → j ≤ k → at j ≡ bt j) → before at k → before bt k)
+      → ((at : ℕ → World) → RanOne at k after.ring → before at k → later at (suc k)) → before (course_with on.went.rounds w) k
+      → HasLooked later w after (k + 1) n
   looked_with before later few same look kept = record {
     went = more;
-    kept = subst (later at) (let one : suc k ≡ k + 1 = omega arith in one) (look at (ran_one few) (same (course_with on.went.rounds w) at so_far kept));
+    kept =
+        subst (later at) (let one : suc k ≡ k + 1 = omega arith in one)
+        (look at (ran_one few) (same (course_with on.went.rounds w) at so_far kept));
   }
 
-pub looked_more : (before later : (ℕ → World) → ℕ → Type 0) (w now after : World) (k calm n : ℕ) → k < 65536 → ((at bt : ℕ → World) → ((j : ℕ) → j ≤ k → at j ≡ bt j) → before at k → before bt k)
-    → ((at : ℕ → World) → RanOne at k after.ring → before at k → later at (suc k)) → Observes before w now k calm → IsRound now after → n ≡ (if is_calm after.ring.nodes then calm + 1 else 0) → HasLooked later w after (k + 1) n
-looked_more before later w now after k calm n few same look x is counted = looked_with w now after k calm n x.on is counted before later few same look x.kept
+pub looked_more : (before later : (ℕ → World) → ℕ → Type 0) (w now after : World) (k calm n : ℕ) → k < 65536
+    → ((at bt : ℕ → World) → ((j : ℕ) → j ≤ k → at j ≡ bt j) → before at k → before bt k)
+    → ((at : ℕ → World) → RanOne at k after.ring → before at k → later at (suc k)) → Observes before w now k calm → IsRound now after
+    → n ≡ (if is_calm after.ring.nodes then calm + 1 else 0) → HasLooked later w after (k + 1) n
+looked_more before later w now after k calm n few same look x is counted =
+    looked_with w now after k calm n x.on is counted before later few same look x.kept
 
 -- before it looks
-pub one_more : (heard : (ℕ → World) → ℕ → Type 0) (w now after : World) (k calm : ℕ) → k < 65536 → ((at bt : ℕ → World) → ((j : ℕ) → j ≤ k → at j ≡ bt j) → heard at k → heard bt k)
+pub one_more : (heard : (ℕ → World) → ℕ → Type 0) (w now after : World) (k calm : ℕ) → k < 65536
+    → ((at bt : ℕ → World) → ((j : ℕ) → j ≤ k → at j ≡ bt j) → heard at k → heard bt k)
     → Observes heard w now k calm → IsRound now after → (at : ℕ → World) × (j : ℕ) × RanOne at j after.ring × heard at j
 one_more heard w now after k calm few same x is =
-    let n = if is_calm after.ring.nodes then calm + 1 else 0 in
-    (at w now after k calm n x.on is refl, k, ran_one w now after k calm n x.on is refl few, same (course_with x.on.went.rounds w) (at w now after k calm n x.on is refl) (so_far w now after k calm n x.on is refl) x.kept)
+    let n = if is_calm after.ring.nodes then calm + 1 else 0 in (
+      at w now after k calm n x.on is refl,
+      k,
+      ran_one w now after k calm n x.on is refl few,
+      same (course_with x.on.went.rounds w) (at w now after k calm n x.on is refl) (so_far w now after k calm n x.on is refl) x.kept,
+    )
 
 -- ---- begin and end
 
-pub observes_none : (heard : (ℕ → World) → ℕ → Type 0) (w : World) → 1 ≤ length w.ring.ids → ((at : ℕ → World) → at 0 ≡ w → heard at 0) → Observes heard w w 0 0
+pub observes_none : (heard : (ℕ → World) → ℕ → Type 0) (w : World) → 1 ≤ length w.ring.ids → ((at : ℕ → World) → at 0 ≡ w → heard at 0)
+    → Observes heard w w 0 0
 observes_none heard w some ready = let on = goes_none adm w some in record { on = on; kept = ready (course_with on.went.rounds w) refl }
 
 -- it ended a window
@@ -79,6 +93,7 @@ hears heard w now k calm x limit within test = record {
 }
 
 -- it didn't
-pub observes_on : (heard : (ℕ → World) → ℕ → Type 0) (w now : World) (k calm : ℕ) → HasLooked heard w now (k + 1) calm → ((3 * length now.ring.ids ≤ calm) × ((now.ring.rounds - 1) % 128 ≡ 0) → ⊥) → Observes heard w now (k + 1) calm
+pub observes_on : (heard : (ℕ → World) → ℕ → Type 0) (w now : World) (k calm : ℕ) → HasLooked heard w now (k + 1) calm
+    → ((3 * length now.ring.ids ≤ calm) × ((now.ring.rounds - 1) % 128 ≡ 0) → ⊥) → Observes heard w now (k + 1) calm
 unfolding goes_on
 observes_on heard w now k calm x fails = record { on = goes_on adm w now k calm x.went fails; kept = x.kept }

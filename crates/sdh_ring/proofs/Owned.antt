@@ -22,7 +22,8 @@ use Rattle.sdh_circuits.proofs.Rings.{end_inside}
 use Rattle.sdh_terminal.proofs.Found.{has_own}
 
 -- what the port delivered is read at that node
-pub outlet_is : (r : HeldRing) (id : PortId) (c : Provisioned) (n : Node) → slice_get r.circuits.circuits id.circuit ≡ Some c → slice_get r.nodes (end_of c id.end).0 ≡ Some n → outlet_at r id ≡ outlet_of id n.ports
+pub outlet_is : (r : HeldRing) (id : PortId) (c : Provisioned) (n : Node) → slice_get r.circuits.circuits id.circuit ≡ Some c
+    → slice_get r.nodes (end_of c id.end).0 ≡ Some n → outlet_at r id ≡ outlet_of id n.ports
 unfolding outlet_at
 outlet_is r id c n circuit node =
     ap (λ o. option_map_or (λ x. option_map_or (λ m. outlet_of id m.ports) (slice_get r.nodes (end_of x id.end).0) silent) o silent) circuit
@@ -30,7 +31,8 @@ outlet_is r id c n circuit node =
 
 -- ---- the port of a circuit in the ring
 
-place_at : (r : HeldRing) (id : PortId) (c : Provisioned) → slice_get r.circuits.circuits id.circuit ≡ Some c → place_of_port r id ≡ (end_of c id.end).0
+place_at : (r : HeldRing) (id : PortId) (c : Provisioned) → slice_get r.circuits.circuits id.circuit ≡ Some c
+    → place_of_port r id ≡ (end_of c id.end).0
 unfolding place_of_port
 place_at r id c is = ap (λ o. option_map_or (λ (c : Provisioned). (end_of c id.end).0) o (length r.nodes)) is
 
@@ -41,7 +43,8 @@ pub record IsOwned (r : HeldRing) (id : PortId) (p : ℕ) : Type 0 where
   pub there : slice_get r.nodes p ≡ Some (node_at r.nodes p)
   pub has : HasPort (node_at r.nodes p).ports id
 
-pub owned_at : (r : HeldRing) → IsRing r → (id : PortId) (c : Provisioned) → slice_get r.circuits.circuits id.circuit ≡ Some c → IsOwned r id (end_of c id.end).0
+pub owned_at : (r : HeldRing) → IsRing r → (id : PortId) (c : Provisioned) → slice_get r.circuits.circuits id.circuit ≡ Some c
+    → IsOwned r id (end_of c id.end).0
 owned_at r h id c is =
     let cs = r.circuits.circuits in
     let p = (end_of c id.end).0 in
@@ -53,11 +56,16 @@ owned_at r h id c is =
       place = sym (place_at r id c is);
       inside = inside;
       there = slice_get-get_or r.nodes p nowhere inside;
-      has = has_fixed id (node_at r.nodes p) (new_node r.settings r.ids cs (position_of p)) (node_is r.settings r.ids cs (length r.ids) r.nodes p nowhere h.nodes low) (new_has r.settings r.ids cs p id (has_own cs c id below read));
+      has =
+          has_fixed id (node_at r.nodes p) (new_node r.settings r.ids cs (position_of p))
+          (node_is r.settings r.ids cs (length r.ids) r.nodes p nowhere h.nodes low)
+          (new_has r.settings r.ids cs p id (has_own cs c id below read));
     }
 
-pub owned_from : (r s : HeldRing) (id : PortId) (c : Provisioned) (at : Pos) → IsRing r → r ≡ s → slice_get r.circuits.circuits id.circuit ≡ Some c → at ≡ end_of c id.end → IsOwned s id at.0
-owned_from r s id c at h same is there = subst (λ (x : HeldRing). IsOwned x id at.0) same (subst (λ (p : Pos). IsOwned r id p.0) (sym there) (owned_at r h id c is))
+pub owned_from : (r s : HeldRing) (id : PortId) (c : Provisioned) (at : Pos) → IsRing r → r ≡ s
+    → slice_get r.circuits.circuits id.circuit ≡ Some c → at ≡ end_of c id.end → IsOwned s id at.0
+owned_from r s id c at h same is there =
+    subst (λ (x : HeldRing). IsOwned x id at.0) same (subst (λ (p : Pos). IsOwned r id p.0) (sym there) (owned_at r h id c is))
 
 module _ (r : HeldRing) (id : PortId) (p : ℕ) (o : IsOwned r id p) where
   abbrev ports : List Tributary
@@ -80,7 +88,9 @@ module _ (r : HeldRing) (id : PortId) (p : ℕ) (o : IsOwned r id p) where
 
 -- ---- the clocks of a ring that goes on
 
-rested_in : (r : HeldRing) (id : PortId) (o : Option Node) → ((n : Node) → o ≡ Some n → All (λ (t : Tributary). IsRested t.feed.clock) n.ports) → IsSome (option_and_then (λ (n : Node). port_of id n.ports) o)
+rested_in : (r : HeldRing) (id : PortId) (o : Option Node) →
+    ((n : Node) → o ≡ Some n → All (λ (t : Tributary). IsRested t.feed.clock) n.ports)
+    → IsSome (option_and_then (λ (n : Node). port_of id n.ports) o)
     → IsRested (clock_of (option_and_then (λ (n : Node). port_of id n.ports) o))
 rested_in r id None all there = absurd (cc)
 rested_in r id (Some n) all there = by (port_of id n.ports) refl there
@@ -93,4 +103,6 @@ pub rested_there : (r : HeldRing) → IsRing r → r.broken ≡ false → (id : 
 unfolding clock_at
 rested_there r h whole id there =
     rested_in r id (slice_get r.nodes (place_of_port r id))
-    (λ n at. subst (λ (m : Node). All (λ (t : Tributary). IsRested t.feed.clock) m.ports) (get_or_from_slice_get r.nodes (place_of_port r id) n n at) (h.going whole (place_of_port r id) n (slice_get_within r.nodes (place_of_port r id) n at)).clocks) there
+    (λ n at. subst (λ (m : Node). All (λ (t : Tributary). IsRested t.feed.clock) m.ports)
+    (get_or_from_slice_get r.nodes (place_of_port r id) n n at)
+    (h.going whole (place_of_port r id) n (slice_get_within r.nodes (place_of_port r id) n at)).clocks) there

@@ -18,24 +18,37 @@ use Rattle.sdh_rounds.proofs.Rings.{heard_keep, some_keep, all_keep, first_keep}
 pub count_of : (r : HeldRing) → IsRing r → length r.nodes ≡ length r.ids
 count_of r h = length-fixed r.settings r.ids r.circuits.circuits (length r.ids) r.nodes h.nodes
 
-pub ring_with : (r : HeldRing) (ns : List Node) (m rounds : ℕ) (broken : Bool) → IsRing r → map fixed ns ≡ map fixed r.nodes → m ≤ 1000000000 → (broken ≡ false → All (IsOn rounds m) ns)
+pub ring_with : (r : HeldRing) (ns : List Node) (m rounds : ℕ) (broken : Bool) → IsRing r → map fixed ns ≡ map fixed r.nodes
+    → m ≤ 1000000000 → (broken ≡ false → All (IsOn rounds m) ns)
     → IsRing (record r { nodes = ns; moment = m; rounds = rounds; broken = broken })
-ring_with r ns m rounds broken h same small going = record { ids = h.ids; circuits = h.circuits; slots = h.slots; kept = h.kept; moment = small; nodes = same ∙ h.nodes; going = going }
+ring_with r ns m rounds broken h same small going = record {
+  ids = h.ids;
+  circuits = h.circuits;
+  slots = h.slots;
+  kept = h.kept;
+  moment = small;
+  nodes = same ∙ h.nodes;
+  going = going;
+}
 
 pub true_is_not_false : {P : Type 0} → true ≡ false → P
 true_is_not_false e = cc
 
-pub may_receive : (r : HeldRing) (ns : List Node) → IsRing r → map fixed ns ≡ map fixed r.nodes → All (λ n. n.settings.rate ≡ r.settings.rate) ns
-may_receive r ns h same = λ p d lt. ap (λ (x : Settings). x.rate) (all_settings r.settings r.ids r.circuits.circuits (length r.ids) ns (same ∙ h.nodes) p d lt)
+pub may_receive : (r : HeldRing) (ns : List Node) → IsRing r → map fixed ns ≡ map fixed r.nodes
+    → All (λ n. n.settings.rate ≡ r.settings.rate) ns
+may_receive r ns h same =
+    λ p d lt. ap (λ (x : Settings). x.rate) (all_settings r.settings r.ids r.circuits.circuits (length r.ids) ns (same ∙ h.nodes) p d lt)
 
-pub may_send : (r : HeldRing) (ns : List Node) → IsRing r → map fixed ns ≡ map fixed r.nodes → All (IsOn r.rounds r.moment) ns → r.rounds < 2 ^ 32 → All (MayRun r.moment) ns
+pub may_send : (r : HeldRing) (ns : List Node) → IsRing r → map fixed ns ≡ map fixed r.nodes → All (IsOn r.rounds r.moment) ns
+    → r.rounds < 2 ^ 32 → All (MayRun r.moment) ns
 may_send r ns h same on few = λ p d lt. record {
   early = (on p d lt).early;
   within = h.moment;
   few = let e = (on p d lt).rounds_are in omega arith;
 }
 
-pub on_hears : (k : ℕ) (f g : Fibres) (old new : List Node) (rounds m : ℕ) → FirstReceive adm k f g old new → All (IsOn rounds m) old → All (IsOn rounds m) new
+pub on_hears : (k : ℕ) (f g : Fibres) (old new : List Node) (rounds m : ℕ) → FirstReceive adm k f g old new → All (IsOn rounds m) old
+    → All (IsOn rounds m) new
 on_hears k f g old new rounds m h on = subst (All (IsOn rounds m)) (sym h.nodes) (all_on_heard h.arrivals rounds m old on)
 
 pub on_sends : (rounds m : ℕ) (old new : List Node) → new ≡ map (node_after m) old → All (IsOn rounds m) old → All (IsOn (rounds + 1) m) new
@@ -57,5 +70,7 @@ off_fixed now old new f g h = ap (map fixed) h.nodes ∙ first_keep adm fixed no
 
 -- ---- the fibres of a ring
 
-pub prepared_nodes : (r : HeldRing) (rate : Rate) (ns : List Node) (f : Fibres) → IsRing r → rate ≡ r.settings.rate → length ns ≡ length r.nodes → IsPrepared r.settings.rate (length r.ids) f → IsPrepared rate (length ns) f
-prepared_nodes r rate ns f h same size p = subst (λ x. IsPrepared x (length ns) f) (sym same) (subst (λ n. IsPrepared r.settings.rate n f) (sym (size ∙ count_of r h)) p)
+pub prepared_nodes : (r : HeldRing) (rate : Rate) (ns : List Node) (f : Fibres) → IsRing r → rate ≡ r.settings.rate
+    → length ns ≡ length r.nodes → IsPrepared r.settings.rate (length r.ids) f → IsPrepared rate (length ns) f
+prepared_nodes r rate ns f h same size p =
+    subst (λ x. IsPrepared x (length ns) f) (sym same) (subst (λ n. IsPrepared r.settings.rate n f) (sym (size ∙ count_of r h)) p)

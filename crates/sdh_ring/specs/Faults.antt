@@ -11,7 +11,9 @@ use Rattle.sdh_world.specs.Quiet.{BreaksOff}
 
 -- each port is still there, and its clock has gone on by t rounds, at the first k positions by one more
 abbrev pub ClocksWentOn : ℕ → ℕ → HeldRing → HeldRing → Type 0
-ClocksWentOn t k old new = (port : PortId) → HasPortIn old port → HasPortIn new port × (clock_at new port ≡ ticks (if nat_lt (place_of_port old port) k then t + 1 else t) (clock_at old port))
+ClocksWentOn t k old new =
+    (port : PortId) → HasPortIn old port → HasPortIn new port
+    × (clock_at new port ≡ ticks (if nat_lt (place_of_port old port) k then t + 1 else t) (clock_at old port))
 
 -- how many nodes had their round in one that was broken off: none where a receive failed, so that not all arrivals were taken; and
 -- else those whose frames were sent on both sides, and the one of which a send failed

@@ -1,5 +1,6 @@
 -- The number of rounds of a step, as the first that ends a window.
-use Rattle.std.proofs.Common.{◌≡◌, ℕ, zero, suc, ◌+◌, ◌*◌, ◌-◌, ◌%◌, ◌<◌, ◌≤◌, Bool, true, false, length, Option, Some, None, refl, ap, sym, subst, arith, inl, inr}
+use Rattle.std.proofs.Common.{◌≡◌, ℕ, zero, suc, ◌+◌, ◌*◌, ◌-◌, ◌%◌, ◌<◌, ◌≤◌, Bool, true, false, length, Option, Some, None, refl, ap, sym}
+use Rattle.std.proofs.Common.{subst, arith, inl, inr}
 use Rattle.std.specs.Prelude.{nat_le, ◌==◌, ◌&&◌, cond, find}
 use Rattle.std.specs.List.{list_all, range_with_len}
 use Rattle.std.proofs.lemmas.Bool.{cases_lt, cases_eq}
@@ -28,7 +29,9 @@ right_true false b e = absurd (none e)
 -- all of m numbers from a on pass a test
 all_pass : (p : ℕ → Bool) (a m : ℕ) → ((i : ℕ) → a ≤ i → i < a + m → p i ≡ true) → list_all p (range_with_len a m) ≡ true
 all_pass p a zero h = refl
-all_pass p a (suc m) h = both_true (p a) (list_all p (range_with_len (a + 1) m)) (h a (omega arith) (omega arith)) (all_pass p (a + 1) m (λ i low high. h i (omega arith) (omega arith)))
+all_pass p a (suc m) h =
+    both_true (p a) (list_all p (range_with_len (a + 1) m)) (h a (omega arith) (omega arith))
+    (all_pass p (a + 1) m (λ i low high. h i (omega arith) (omega arith)))
 
 one_passes : (p : ℕ → Bool) (a m i : ℕ) → list_all p (range_with_len a m) ≡ true → a ≤ i → i < a + m → p i ≡ true
 one_passes p a zero i e low high = absurd (omega arith)
@@ -46,7 +49,8 @@ module _ {N : Type 0} (st : Station N) where
       let place = e.place in
       let calm = λ (i : ℕ). is_calm st (at (k - i)).ring.nodes in
       both_true (nat_le n k) (list_all calm (range_with_len 0 n) && (((at k).ring.rounds - 1) % 128 == 0)) (grind (arith, nat_tests))
-      (both_true (list_all calm (range_with_len 0 n)) (((at k).ring.rounds - 1) % 128 == 0) (all_pass calm 0 n (λ i low high. e.calm (k - i) (omega arith) (omega arith))) (grind (arith, nat_tests)))
+      (both_true (list_all calm (range_with_len 0 n)) (((at k).ring.rounds - 1) % 128 == 0)
+      (all_pass calm 0 n (λ i low high. e.calm (k - i) (omega arith) (omega arith))) (grind (arith, nat_tests)))
 
   pub window_from_computed : (at : ℕ → World N) (k : ℕ) → ends_window st at k ≡ true → EndsWindow st at k
   unfolding ends_window
@@ -111,7 +115,8 @@ module _ {N : Type 0} (st : Station N) where
 
   pub says : (w : World N) (limit : ℕ) → Says (course st w) limit (settles_in st w limit)
   unfolding settles_in
-  says w limit = says_by (course st w) limit (find (ends_window st (course st w)) (range_with_len 0 (limit + 1))) (finds (course st w) 0 (limit + 1))
+  says w limit =
+      says_by (course st w) limit (find (ends_window st (course st w)) (range_with_len 0 (limit + 1))) (finds (course st w) 0 (limit + 1))
 
   pub settles_if : (w : World N) (limit k : ℕ) → settles_in st w limit ≡ Some k → SettlesAt st (course st w) limit k
   settles_if w limit k e = subst (λ o. Says (course st w) limit o) e (says w limit)

@@ -7,11 +7,13 @@ pub on_err : {T E P : Type 0} (r : Result T E) → P → OnErr r P
 on_err (Ok x) h = tt
 on_err (Err e) h = h
 
-placed : {N : Type 0} (change : N → N) (i : ℕ) (ns : List N) (x : N) → i < length ns → x ≡ get_or ns i x → set ns i (change x) ≡ at_place i change ns
+placed : {N : Type 0} (change : N → N) (i : ℕ) (ns : List N) (x : N) → i < length ns → x ≡ get_or ns i x
+    → set ns i (change x) ≡ at_place i change ns
 placed change i [] x h read = absurd (omega arith)
 placed change zero (n ∷ ns) x h read = ap (λ z. change z ∷ ns) read
 placed change (suc i) (n ∷ ns) x h read = ap (λ zs. n ∷ zs) (placed change i ns x (omega arith) read)
 
 -- the node x at i was changed
-pub placed_at : {N : Type 0} (change : N → N) (i : ℕ) (ns : List N) (x y : N) → i < length ns → x ≡ get_or ns i x → y ≡ change x → set ns i y ≡ at_place i change ns
+pub placed_at : {N : Type 0} (change : N → N) (i : ℕ) (ns : List N) (x y : N) → i < length ns → x ≡ get_or ns i x → y ≡ change x
+    → set ns i y ≡ at_place i change ns
 placed_at change i ns x y h read is = ap (set ns i) is ∙ placed change i ns x h read

@@ -1,5 +1,6 @@
 -- Runs, round by round.
-use Rattle.std.proofs.Common.{◌≡◌, ◌≢◌, ℕ, zero, suc, ◌+◌, ◌*◌, ◌≤◌, List, [], ◌∷◌, ◌++◌, length, drop, Option, Some, None, refl, ap, sym, ◌∙◌, arith, inl, inr}
+use Rattle.std.proofs.Common.{◌≡◌, ◌≢◌, ℕ, zero, suc, ◌+◌, ◌*◌, ◌≤◌, List, [], ◌∷◌, ◌++◌, length, drop, Option, Some, None, refl, ap, sym}
+use Rattle.std.proofs.Common.{◌∙◌, arith, inl, inr}
 use Rattle.std.specs.Prelude.{option_map}
 use Rattle.std.proofs.lemmas.List.{take-append-le, take_all, length-map}
 use Rattle.sdh_terms.specs.declared.Rate.{Rate}
@@ -7,7 +8,8 @@ use Rattle.sdh_plant.specs.Fibres.{Arrival, Fibres, IsPrepared}
 use Rattle.sdh_plant.specs.Arrivals.{Knows}
 use Rattle.sdh_rounds.specs.Stations.{Station}
 use Rattle.sdh_rounds.specs.Held.{HeldRing, World}
-use Rattle.sdh_rounds.specs.Rounds.{receivers, arrivals_of, arrivals_from, all_with_arrivals, frames_of, nodes_with, frames_with, after_given, sent_all, round_with, round}
+use Rattle.sdh_rounds.specs.Rounds.{receivers, arrivals_of, arrivals_from, all_with_arrivals, frames_of, nodes_with, frames_with}
+use Rattle.sdh_rounds.specs.Rounds.{after_given, sent_all, round_with, round}
 use Rattle.sdh_rounds.specs.Runs.{Arrive, run, run_with, ArriveIn, course_with, course}
 use Rattle.sdh_rounds.specs.Quiet.{NeverSettles, SettlesAt, Settles, Unsettles}
 use Rattle.sdh_rounds.proofs.Arrived.{told_stays}
@@ -39,7 +41,8 @@ module _ {N : Type 0} (st : Station N) where
   honest_round xs w = refl
 
   -- a round changes the nodes of a ring, and counts
-  pub held_round : (xs : List Arrival) (w : World N) → (round_with st xs w).ring ≡ record w.ring { nodes = (round_with st xs w).ring.nodes; rounds = w.ring.rounds + 1 }
+  pub held_round : (xs : List Arrival) (w : World N) → (round_with st xs w).ring
+      ≡ record w.ring { nodes = (round_with st xs w).ring.nodes; rounds = w.ring.rounds + 1 }
   unfolding round_with
   held_round xs w = refl
 
@@ -57,14 +60,17 @@ module _ {N : Type 0} (st : Station N) where
   unfolding round_with
   count_round xs w = length-map (nodes_with st xs w) (st.after w.ring.moment) ∙ length-heard xs w.ring.nodes
 
-  pub prepared_round : (rate : Rate) (xs : List Arrival) (w : World N) → IsPrepared rate (length w.ring.nodes) w.fibres → IsPrepared rate (length w.ring.nodes) (round_with st xs w).fibres
+  pub prepared_round : (rate : Rate) (xs : List Arrival) (w : World N) → IsPrepared rate (length w.ring.nodes) w.fibres
+      → IsPrepared rate (length w.ring.nodes) (round_with st xs w).fibres
   unfolding round_with sent_all after_given
   prepared_round rate xs w h = record {
     nodes = h.nodes;
     rate = h.rate;
     conditions = h.conditions;
     each = h.each;
-    carried = length-map (frames_with st xs w) Some ∙ length-frames w.ring.moment (nodes_with st xs w) ∙ ap (λ n. 2 * n) (length-heard xs w.ring.nodes);
+    carried =
+        length-map (frames_with st xs w) Some ∙ length-frames w.ring.moment (nodes_with st xs w)
+        ∙ ap (λ n. 2 * n) (length-heard xs w.ring.nodes);
     enough = h.enough;
     few = h.few;
   }
@@ -73,27 +79,34 @@ module _ {N : Type 0} (st : Station N) where
 
   -- ---- rounds one after the other
 
-  pub run_with_more : (rounds : List (List Arrival)) (xs : List Arrival) (w : World N) → run_with st (rounds ++ xs ∷ []) w ≡ round_with st xs (run_with st rounds w)
+  pub run_with_more : (rounds : List (List Arrival)) (xs : List Arrival) (w : World N)
+      → run_with st (rounds ++ xs ∷ []) w ≡ round_with st xs (run_with st rounds w)
   run_with_more [] xs w = refl
   run_with_more (bs ∷ rounds) xs w = run_with_more rounds xs (round_with st bs w)
 
-  pub arrive_more : (rounds : List (List Arrival)) (xs : List Arrival) (w : World N) → ArriveIn st rounds w → Arrive (run_with st rounds w) xs → ArriveIn st (rounds ++ xs ∷ []) w
+  pub arrive_more : (rounds : List (List Arrival)) (xs : List Arrival) (w : World N) → ArriveIn st rounds w
+      → Arrive (run_with st rounds w) xs → ArriveIn st (rounds ++ xs ∷ []) w
   arrive_more [] xs w h a = (a, tt)
   arrive_more (bs ∷ rounds) xs w h a = (h.0, arrive_more rounds xs (round_with st bs w) h.1 a)
 
   -- a course that goes on
-  pub course_more : (rounds : List (List Arrival)) (xs : List Arrival) (w : World N) (j : ℕ) → j ≤ length rounds → course_with st rounds w j ≡ course_with st (rounds ++ xs ∷ []) w j
+  pub course_more : (rounds : List (List Arrival)) (xs : List Arrival) (w : World N) (j : ℕ) → j ≤ length rounds
+      → course_with st rounds w j ≡ course_with st (rounds ++ xs ∷ []) w j
   course_more rounds xs w j h = ap (λ rs. run_with st rs w) (sym (take-append-le j rounds (xs ∷ []) h))
 
   pub course_whole : (rounds : List (List Arrival)) (w : World N) → run_with st rounds w ≡ course_with st rounds w (length rounds)
   course_whole rounds w = ap (λ rs. run_with st rs w) (sym (take_all (length rounds) rounds (omega arith)))
 
   -- what all runs keep
-  pub held_run : (rounds : List (List Arrival)) (w : World N) → (run_with st rounds w).ring ≡ record w.ring { nodes = (run_with st rounds w).ring.nodes; rounds = w.ring.rounds + length rounds }
+  pub held_run : (rounds : List (List Arrival)) (w : World N)
+      → (run_with st rounds w).ring ≡ record w.ring { nodes = (run_with st rounds w).ring.nodes; rounds = w.ring.rounds + length rounds }
   held_run [] w = ap (λ n. record w.ring { rounds = n }) (omega arith)
   held_run (xs ∷ rounds) w =
       held_run rounds (round_with st xs w)
-      ∙ ap (λ (r : HeldRing N). record r { nodes = (run_with st rounds (round_with st xs w)).ring.nodes; rounds = r.rounds + length rounds }) (held_round xs w)
+      ∙ ap (λ (r : HeldRing N). record r {
+        nodes = (run_with st rounds (round_with st xs w)).ring.nodes;
+        rounds = r.rounds + length rounds;
+      }) (held_round xs w)
       ∙ ap (λ n. record w.ring { nodes = (run_with st rounds (round_with st xs w)).ring.nodes; rounds = n }) (omega arith)
 
   pub conditions_run : (rounds : List (List Arrival)) (w : World N) → (run_with st rounds w).fibres.conditions ≡ w.fibres.conditions
@@ -119,7 +132,8 @@ module _ {N : Type 0} (st : Station N) where
   unfolding run
   run_zero w = refl
 
-  pub known_course : (rounds : List (List Arrival)) (w : World N) (j : ℕ) → Knows w.fibres → ArriveIn st rounds w → j ≤ length rounds → course_with st rounds w j ≡ course st w j
+  pub known_course : (rounds : List (List Arrival)) (w : World N) (j : ℕ) → Knows w.fibres → ArriveIn st rounds w → j ≤ length rounds
+      → course_with st rounds w j ≡ course st w j
   unfolding round
   known_course rounds w zero k h low = sym (run_zero w)
   known_course [] w (suc j) k h low = absurd (omega arith)
@@ -129,19 +143,23 @@ module _ {N : Type 0} (st : Station N) where
       ∙ ap (λ bs. run st j (round_with st bs w)) is
       ∙ sym (run_first j w)
 
-  pub known_settles : (w : World N) (limit : ℕ) (left : World N) → Knows w.fibres → Settles st w limit left → (k : ℕ) × SettlesAt st (course st w) limit k × (left ≡ run st k w)
+  pub known_settles : (w : World N) (limit : ℕ) (left : World N) → Knows w.fibres → Settles st w limit left
+      → (k : ℕ) × SettlesAt st (course st w) limit k × (left ≡ run st k w)
   known_settles w limit left k s =
       let same = λ (j : ℕ) (h : j ≤ length s.rounds). known_course s.rounds w j k s.arrive h in (
         length s.rounds,
         record {
           within = s.settles.within;
           window = window_same st (course_with st s.rounds w) (course st w) (length s.rounds) same s.settles.window;
-          first = λ j low e. s.settles.first j low (window_same st (course st w) (course_with st s.rounds w) j (λ i small. sym (same i (omega arith))) e);
+          first =
+              λ j low e. s.settles.first j low (window_same st (course st w) (course_with st s.rounds w) j
+              (λ i small. sym (same i (omega arith))) e);
         },
         s.left_is ∙ course_whole s.rounds w ∙ same (length s.rounds) (omega arith),
       )
 
-  pub known_unsettles : (w : World N) (limit : ℕ) (left : World N) → Knows w.fibres → Unsettles st w limit left → NeverSettles st (course st w) limit × (left ≡ run st limit w)
+  pub known_unsettles : (w : World N) (limit : ℕ) (left : World N) → Knows w.fibres → Unsettles st w limit left
+      → NeverSettles st (course st w) limit × (left ≡ run st limit w)
   known_unsettles w limit left k s =
       let same = λ (j : ℕ) (h : j ≤ length s.rounds). known_course s.rounds w j k s.arrive h in (
         never_same st (course_with st s.rounds w) (course st w) limit (λ j h. same j (omega (arith, s.all))) s.never,

@@ -1,5 +1,6 @@
 -- A count of calm rounds against the windows of a course.
-use Rattle.std.proofs.Common.{◌≡◌, ℕ, ◌+◌, ◌-◌, ◌*◌, ◌%◌, ◌<◌, ◌≤◌, suc, zero, Bool, true, false, length, refl, ap, sym, ◌∙◌, subst, add-one, arith, inl, inr, ◌⊎◌}
+use Rattle.std.proofs.Common.{◌≡◌, ℕ, ◌+◌, ◌-◌, ◌*◌, ◌%◌, ◌<◌, ◌≤◌, suc, zero, Bool, true, false, length, refl, ap, sym, ◌∙◌, subst}
+use Rattle.std.proofs.Common.{add-one, arith, inl, inr, ◌⊎◌}
 use Rattle.std.specs.Prelude.{if◌then◌else◌}
 use Rattle.std.proofs.lemmas.Bool.{cases_lt}
 use Rattle.sdh_rounds.specs.Stations.{Station}
@@ -16,11 +17,13 @@ streak s at (suc k) = if is_calm s (at (suc k)).ring.nodes then streak s at k + 
 
 module _ {N : Type 0} (st : Station N) where
   -- either a round is calm and the count grows, or it is not and the count is 0
-  streak_cases : (at : ℕ → World N) (k : ℕ) → (IsCalm st at (suc k) × (streak st at (suc k) ≡ streak st at k + 1)) ⊎ ((is_calm st (at (suc k)).ring.nodes ≡ false) × (streak st at (suc k) ≡ 0))
+  streak_cases : (at : ℕ → World N) (k : ℕ) → (IsCalm st at (suc k) × (streak st at (suc k) ≡ streak st at k + 1))
+      ⊎ ((is_calm st (at (suc k)).ring.nodes ≡ false) × (streak st at (suc k) ≡ 0))
   unfolding streak
   streak_cases at k = by_test (is_calm st (at (suc k)).ring.nodes) (streak st at k) refl
     where
-      by_test : (b : Bool) (n : ℕ) → is_calm st (at (suc k)).ring.nodes ≡ b → ((b ≡ true) × ((if b then n + 1 else 0) ≡ n + 1)) ⊎ ((b ≡ false) × ((if b then n + 1 else 0) ≡ 0))
+      by_test : (b : Bool) (n : ℕ) → is_calm st (at (suc k)).ring.nodes ≡ b
+          → ((b ≡ true) × ((if b then n + 1 else 0) ≡ n + 1)) ⊎ ((b ≡ false) × ((if b then n + 1 else 0) ≡ 0))
       by_test true n e = inl (refl, refl)
       by_test false n e = inr (refl, refl)
 
@@ -47,7 +50,8 @@ module _ {N : Type 0} (st : Station N) where
   unfolding streak
   streak_complete at zero m c = c.within
   streak_complete at (suc k) m c = elim (streak_cases at k) [
-    | inl t ↦ (let ih : m - 1 ≤ streak st at k = streak_complete at k (m - 1) (record { within = omega (arith, c.within); each = λ j a b. c.each j (omega arith) (omega arith) }) in omega (arith, t.1))
+    | inl t ↦ (let ih : m - 1 ≤ streak st at k = streak_complete at k (m - 1)
+        (record { within = omega (arith, c.within); each = λ j a b. c.each j (omega arith) (omega arith) }) in omega (arith, t.1))
     | inr f ↦ elim (cases_lt 0 m) [
       | inl some ↦ absurd (true_false (is_calm st (at (suc k)).ring.nodes) (c.each (suc k) (omega arith) (omega arith)) f.0)
       | inr none ↦ omega arith
@@ -55,8 +59,10 @@ module _ {N : Type 0} (st : Station N) where
   ]
 
   -- the count and the number of the round tell of a window
-  pub window_if : (at : ℕ → World N) (k : ℕ) → 3 * length (at k).ring.ids ≤ streak st at k → ((at k).ring.rounds - 1) % 128 ≡ 0 → EndsWindow st at k
-  window_if at k long place = let c = streak_sound at k (3 * length (at k).ring.ids) long in record { long = c.within; calm = c.each; place = place }
+  pub window_if : (at : ℕ → World N) (k : ℕ) → 3 * length (at k).ring.ids ≤ streak st at k → ((at k).ring.rounds - 1) % 128 ≡ 0
+      → EndsWindow st at k
+  window_if at k long place = let c =
+      streak_sound at k (3 * length (at k).ring.ids) long in record { long = c.within; calm = c.each; place = place }
 
   pub window_only : (at : ℕ → World N) (k : ℕ) → EndsWindow st at k → 3 * length (at k).ring.ids ≤ streak st at k
   window_only at k e = streak_complete at k (3 * length (at k).ring.ids) (record { within = e.long; each = e.calm })
@@ -71,9 +77,11 @@ module _ {N : Type 0} (st : Station N) where
   unfolding streak
   streak_none at = refl
 
-  pub streak_more : (at : ℕ → World N) (k : ℕ) → streak st at (k + 1) ≡ (if is_calm st (at (k + 1)).ring.nodes then streak st at k + 1 else 0)
+  pub streak_more : (at : ℕ → World N) (k : ℕ) → streak st at (k + 1)
+      ≡ (if is_calm st (at (k + 1)).ring.nodes then streak st at k + 1 else 0)
   unfolding streak
-  streak_more at k = ap (λ n. streak st at n) (add-one k) ∙ ap (λ n. if is_calm st (at n).ring.nodes then streak st at k + 1 else 0) (sym (add-one k))
+  streak_more at k =
+      ap (λ n. streak st at n) (add-one k) ∙ ap (λ n. if is_calm st (at n).ring.nodes then streak st at k + 1 else 0) (sym (add-one k))
 
   -- ---- courses that are the same up to a round
 

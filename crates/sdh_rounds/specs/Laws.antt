@@ -29,7 +29,8 @@ abbrev pub Appends : Fibres → List (List ℕ) → Fibres → Type 0
 Appends f frames g = g.sent ≡ option_map (λ sent. sent ++ frames) f.sent
 
 abbrev pub RoundsKeep : {N : Type 0} → Station N → Type 0
-RoundsKeep {N} s = (w after : World N) → (r : IsRound s w after) → Keeps w after 1 × Appends w.fibres (frames_with s r.arrivals w) after.fibres
+RoundsKeep {N} s =
+    (w after : World N) → (r : IsRound s w after) → Keeps w after 1 × Appends w.fibres (frames_with s r.arrivals w) after.fibres
 
 -- a round that was broken off
 pub record FaultsKeep {N : Type 0} (s : Station N) : Type 0 where
@@ -50,7 +51,9 @@ frames_in s [] w = []
 frames_in s (arrivals ∷ later) w = frames_with s arrivals w ++ frames_in s later (round_with s arrivals w)
 
 abbrev pub RunsKeep : {N : Type 0} → Station N → Type 0
-RunsKeep {N} s = (rounds : List (List Arrival)) (w : World N) → Keeps w (run_with s rounds w) (length rounds) × Appends w.fibres (frames_in s rounds w) (run_with s rounds w).fibres
+RunsKeep {N} s =
+    (rounds : List (List Arrival)) (w : World N) → Keeps w (run_with s rounds w) (length rounds)
+    × Appends w.fibres (frames_in s rounds w) (run_with s rounds w).fibres
 
 -- a step that ended ran at least one round, and the number of the last is a multiple of 128 and not 0
 pub record EndsAtAMultiple {N : Type 0} (r left : HeldRing N) (limit : ℕ) : Type 0 where
@@ -60,16 +63,21 @@ pub record EndsAtAMultiple {N : Type 0} (r left : HeldRing N) (limit : ℕ) : Ty
   pub later : 128 < left.rounds
 
 abbrev pub SettledNumbers : {N : Type 0} → Station N → Type 0
-SettledNumbers {N} s = (w left : World N) (limit : ℕ) → 1 ≤ length w.ring.ids → Settles s w limit left → EndsAtAMultiple w.ring left.ring limit
+SettledNumbers {N} s =
+    (w left : World N) (limit : ℕ) → 1 ≤ length w.ring.ids → Settles s w limit left → EndsAtAMultiple w.ring left.ring limit
 
 -- where a fault broke it off, frames were appended of all whole rounds and of the one that was broken off
 abbrev pub BrokenStepsSend : {N : Type 0} → Station N → Type 0
-BrokenStepsSend {N} s = (w : World N) (limit : ℕ) (g : Fibres) → (b : BreaksOff s w limit g) → Appends w.fibres (frames_in s b.rounds w ++ take b.off.out (frames_with s b.off.arrivals (run_with s b.rounds w))) g
+BrokenStepsSend {N} s =
+    (w : World N) (limit : ℕ) (g : Fibres) → (b : BreaksOff s w limit g)
+    → Appends w.fibres (frames_in s b.rounds w ++ take b.off.out (frames_with s b.off.arrivals (run_with s b.rounds w))) g
 
 -- where arrivals are known a step is determined
 pub record KnownSteps {N : Type 0} (s : Station N) : Type 0 where
-  pub settled : (w left : World N) (limit : ℕ) → Knows w.fibres → Settles s w limit left → (k : ℕ) × SettlesAt s (course s w) limit k × (left ≡ run s k w)
-  pub unsettled : (w left : World N) (limit : ℕ) → Knows w.fibres → Unsettles s w limit left → NeverSettles s (course s w) limit × (left ≡ run s limit w)
+  pub settled : (w left : World N) (limit : ℕ) → Knows w.fibres → Settles s w limit left
+      → (k : ℕ) × SettlesAt s (course s w) limit k × (left ≡ run s k w)
+  pub unsettled : (w left : World N) (limit : ℕ) → Knows w.fibres → Unsettles s w limit left
+      → NeverSettles s (course s w) limit × (left ≡ run s limit w)
 
 -- and its number of rounds can be computed
 pub record StepsAreComputed {N : Type 0} (s : Station N) : Type 0 where

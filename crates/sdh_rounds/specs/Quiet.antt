@@ -37,7 +37,8 @@ NeverSettles s at limit = (j : ℕ) → j ≤ limit → EndsWindow s at j → �
 -- whether a quiet window ends with the k-th round
 unfoldable pub ends_window : {N : Type 0} → Station N → (ℕ → World N) → ℕ → Bool
 ends_window s at k =
-    nat_le (3 * length (at k).ring.ids) k && (list_all (λ i. is_calm s (at (k - i)).ring.nodes) (range_with_len 0 (3 * length (at k).ring.ids)) && (((at k).ring.rounds - 1) % 128 == 0))
+    nat_le (3 * length (at k).ring.ids) k && (list_all (λ i. is_calm s (at (k - i)).ring.nodes)
+    (range_with_len 0 (3 * length (at k).ring.ids)) && (((at k).ring.rounds - 1) % 128 == 0))
 
 -- in how many rounds a step from w ends, where arrivals are known: the first number within the limit that ends a window
 unfoldable pub settles_in : {N : Type 0} → Station N → World N → ℕ → Option ℕ

@@ -1,5 +1,6 @@
 -- A round of a ring over its fibres, with all nodes at once.
-use Rattle.std.specs.Prelude.{ℕ, zero, suc, ◌+◌, ◌==◌, if◌then◌else◌, Some, None, List, [], ◌∷◌, ◌++◌, length, map, drop, slice_index_or, option_map}
+use Rattle.std.specs.Prelude.{ℕ, zero, suc, ◌+◌, ◌==◌, if◌then◌else◌, Some, None, List, [], ◌∷◌, ◌++◌, length, map, drop, slice_index_or}
+use Rattle.std.specs.Prelude.{option_map}
 use Rattle.std.specs.List.{flat_map}
 use Rattle.std.specs.Option.{option_map_or}
 use Rattle.sdh_ringmap.specs.declared.Side.{Side}
@@ -67,7 +68,8 @@ sent_all frames f = record f { carried = map Some frames; sent = option_map (λ 
 
 -- the fibres after these frames were sent on the first of them
 unfoldable pub sent_some : List (List ℕ) → Fibres → Fibres
-sent_some frames f = record f { carried = map Some frames ++ drop (length frames) f.carried; sent = option_map (λ sent. sent ++ frames) f.sent }
+sent_some frames f =
+    record f { carried = map Some frames ++ drop (length frames) f.carried; sent = option_map (λ sent. sent ++ frames) f.sent }
 
 -- ---- the round
 

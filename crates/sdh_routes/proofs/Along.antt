@@ -1,5 +1,6 @@
 -- The walk of a joined circuit's port leads along the route.
-use Rattle.std.proofs.Common.{◌≡◌, ℕ, ◌+◌, ◌-◌, ◌*◌, ◌<◌, suc, zero, Bool, true, false, Some, List, [], ◌∷◌, ◌++◌, refl, ap, sym, ◌∙◌, arith, inl, inr, ◌⊎◌, append_assoc, length, length-append, ap₂}
+use Rattle.std.proofs.Common.{◌≡◌, ℕ, ◌+◌, ◌-◌, ◌*◌, ◌<◌, suc, zero, Bool, true, false, Some, List, [], ◌∷◌, ◌++◌, refl, ap, sym, ◌∙◌}
+use Rattle.std.proofs.Common.{arith, inl, inr, ◌⊎◌, append_assoc, length, length-append, ap₂}
 use Rattle.std.specs.Prelude.{slice_get, ◌||◌, reverse}
 use Rattle.std.proofs.lemmas.List.{reverse-append, reverse-reverse, length-reverse}
 use Rattle.std.proofs.lemmas.Bool.{cases_Bool, cond-true, cond-false}
@@ -12,7 +13,8 @@ use Rattle.sdh_ringmap.specs.declared.Side.TheVariants.{East, West}
 use Rattle.sdh_routes.proofs.Crossing.{crossed-around, crossed-straight, down, up}
 use Rattle.sdh_ringmap.proofs.Going.{going-round, mirror-way}
 use Rattle.sdh_routes.proofs.Lengths.{around-hops, clear-is, straight-hops}
-use Rattle.sdh_routes.proofs.Routes.{east-place, is_free, joined-is, same_length, seen_east, seen_west, struck_east, struck_west, west-place, end, f, l, some, clear, opposite_clear, other_free, last, short}
+use Rattle.sdh_routes.proofs.Routes.{east-place, is_free, joined-is, same_length, seen_east, seen_west, struck_east, struck_west}
+use Rattle.sdh_routes.proofs.Routes.{west-place, end, f, l, some, clear, opposite_clear, other_free, last, short}
 use Rattle.sdh_routes.proofs.States.{Resting}
 use Rattle.sdh_routes.proofs.Views.{AreOnRing, arc_length}
 use Rattle.sdh_routes.specs.Law.{IsAlongRoute}
@@ -25,7 +27,9 @@ module _ (n : ℕ) (applied : ℕ → Bool) (c : Provisioned) where
 
   one_more : (i k : ℕ) → spans i (suc k) ≡ spans i k ++ (arc_span n (arc_of n c) (i + k) ∷ [])
   one_more i zero = ap (λ j. arc_span n (arc_of n c) j ∷ []) (omega arith)
-  one_more i (suc k) = ap (λ l. arc_span n (arc_of n c) i ∷ l) (one_more (suc i) k ∙ ap (λ j. spans (suc i) k ++ (arc_span n (arc_of n c) j ∷ [])) (omega arith))
+  one_more i (suc k) =
+      ap (λ l. arc_span n (arc_of n c) i ∷ l) (one_more (suc i) k
+      ∙ ap (λ j. spans (suc i) k ++ (arc_span n (arc_of n c) j ∷ [])) (omega arith))
 
   turned : (i k : ℕ) → reverse (spans i (suc k)) ≡ arc_span n (arc_of n c) (i + k) ∷ reverse (spans i k)
   turned i k = ap reverse (one_more i k) ∙ reverse-append (spans i k) (arc_span n (arc_of n c) (i + k) ∷ [])
@@ -36,12 +40,14 @@ module _ (n : ℕ) (applied : ℕ → Bool) (c : Provisioned) where
 
 joined_lists : (a b c : List ℕ) → reverse (a ++ (reverse b ++ c)) ≡ reverse c ++ (b ++ reverse a)
 joined_lists a b c =
-    reverse-append a (reverse b ++ c) ∙ ap (λ x. x ++ reverse a) (reverse-append (reverse b) c ∙ ap (λ x. reverse c ++ x) (reverse-reverse b)) ∙ append_assoc (reverse c) b (reverse a)
+    reverse-append a (reverse b ++ c) ∙ ap (λ x. x ++ reverse a)
+    (reverse-append (reverse b) c ∙ ap (λ x. reverse c ++ x) (reverse-reverse b)) ∙ append_assoc (reverse c) b (reverse a)
 
 same_three : (a b c x y z : List ℕ) → a ≡ x → b ≡ y → c ≡ z → (a ++ (b ++ c)) ≡ (x ++ (y ++ z))
 same_three a b c x y z e h g = ap₂ ◌++◌ e (ap₂ ◌++◌ h g)
 
-module _ (n : ℕ) (r : Resting n) (cs : List Provisioned) (ring : AreOnRing n cs) (index : ℕ) (c : Provisioned) (is : slice_get cs index ≡ Some c) where
+module _ (n : ℕ) (r : Resting n) (cs : List Provisioned) (ring : AreOnRing n cs) (index : ℕ) (c : Provisioned)
+    (is : slice_get cs index ≡ Some c) where
   abbrev len : ℕ
   len = arc_length n c
 
@@ -71,7 +77,8 @@ module _ (n : ℕ) (r : Resting n) (cs : List Provisioned) (ring : AreOnRing n c
   west_near i j e = mirror-way n positive East base i j len e ∙ east_way j
 
   west_far : (i j : ℕ) → i + suc j ≡ len + n → way n West stop i ≡ arc_span n (arc_of n c) j
-  west_far i j e = ap (λ q. way n West q i) (sym (going-round n positive East base len)) ∙ mirror-way n positive East base i j (len + n) e ∙ east_way j
+  west_far i j e =
+      ap (λ q. way n West q i) (sym (going-round n positive East base len)) ∙ mirror-way n positive East base i j (len + n) e ∙ east_way j
 
   up-east : (i k : ℕ) → up n East base i k ≡ part i k
   up-east i zero = refl
@@ -127,7 +134,8 @@ module _ (n : ℕ) (r : Resting n) (cs : List Provisioned) (ring : AreOnRing n c
       let y = length-reverse round ∙ span_count n r.applied c (last_applied + 1) (n + first_place - (last_applied + 1)) in
       let z = span_count n r.applied c (last_applied + 1) (len - (last_applied + 1)) in
       let s = short n r cs ring index c is in
-      ap length (switched_route t) ∙ length-append out (reverse round ++ home) ∙ ap (λ k. length out + k) (length-append (reverse round) home) ∙ omega arith ∙ sym (switched_hops t)
+      ap length (switched_route t) ∙ length-append out (reverse round ++ home)
+      ∙ ap (λ k. length out + k) (length-append (reverse round) home) ∙ omega arith ∙ sym (switched_hops t)
 
   abbrev walked : End → ℕ → List ℕ
   walked e k = crossed n r.state cs c.slot.0 k (delivery n r.state cs c e)
@@ -135,43 +143,59 @@ module _ (n : ℕ) (r : Resting n) (cs : List Provisioned) (ring : AreOnRing n c
   straight_a : is_free_arc ≡ true → walked A len ≡ part 0 len
   straight_a t =
       let free = is_free n r cs ring index c is t in
-      crossed-straight n r cs positive West stop index c B A (seen_west n r cs ring index c is) (λ j g. west-place n r cs ring index c is j (len - suc j) (omega arith) ∙ free (len - suc j) (omega arith))
+      crossed-straight n r cs positive West stop index c B A (seen_west n r cs ring index c is)
+      (λ j g. west-place n r cs ring index c is j (len - suc j) (omega arith) ∙ free (len - suc j) (omega arith))
       ∙ down-west len 0 0 (omega arith)
 
   straight_b : is_free_arc ≡ true → walked B len ≡ reverse (part 0 len)
   straight_b t =
       let free = is_free n r cs ring index c is t in
-      crossed-straight n r cs positive East base index c A B (seen_east n r cs ring index c is) (λ j g. east-place n r cs ring index c is j ∙ free j g)
+      crossed-straight n r cs positive East base index c A B (seen_east n r cs ring index c is)
+      (λ j g. east-place n r cs ring index c is j ∙ free j g)
       ∙ down-east 0 len
 
   one_on : suc last_applied ≡ last_applied + 1
   one_on = omega arith
 
-  around_b : is_free_arc ≡ false → is_free_rest ≡ true → walked B ((2 * first_place + n + len) - 2 * (last_applied + 1)) ≡ reverse home ++ (round ++ reverse out)
+  around_b : is_free_arc ≡ false → is_free_rest ≡ true → walked B ((2 * first_place + n + len) - 2 * (last_applied + 1))
+      ≡ reverse home ++ (round ++ reverse out)
   around_b t o =
       let u = suc last_applied in
-      crossed-around n r cs positive East base index c A B (seen_east n r cs ring index c is) first_place last_applied (struck_east n r cs ring index c is t o)
-      ∙ same_three (down n East base u (len - u)) (up n East base u (n + first_place - u)) (down n East base 0 first_place) (reverse home) round (reverse out)
-      (down-east u (len - u) ∙ ap (λ i. reverse (part i (len - i))) one_on) (up-east u (n + first_place - u) ∙ ap (λ i. part i (n + first_place - i)) one_on) (down-east 0 first_place)
+      crossed-around n r cs positive East base index c A B (seen_east n r cs ring index c is) first_place last_applied
+      (struck_east n r cs ring index c is t o)
+      ∙ same_three (down n East base u (len - u)) (up n East base u (n + first_place - u)) (down n East base 0 first_place)
+      (reverse home) round (reverse out)
+      (down-east u (len - u) ∙ ap (λ i. reverse (part i (len - i))) one_on)
+      (up-east u (n + first_place - u) ∙ ap (λ i. part i (n + first_place - i)) one_on) (down-east 0 first_place)
 
-  around_a : is_free_arc ≡ false → is_free_rest ≡ true → walked A ((2 * first_place + n + len) - 2 * (last_applied + 1)) ≡ out ++ (reverse round ++ home)
+  around_a : is_free_arc ≡ false → is_free_rest ≡ true → walked A ((2 * first_place + n + len) - 2 * (last_applied + 1))
+      ≡ out ++ (reverse round ++ home)
   around_a t o =
-      let a = (last n r cs ring index c is t).from in let b = (last n r cs ring index c is t).below in let s = short n r cs ring index c is in
+      let a = (last n r cs ring index c is t).from in let b = (last n r cs ring index c is t).below in let s =
+      short n r cs ring index c is in
       let f' = len - suc last_applied in let l' = len - suc first_place in
       ap (walked A) (sym (same_length n r cs ring index c is t))
-      ∙ crossed-around n r cs positive West stop index c B A (seen_west n r cs ring index c is) f' l' (struck_west n r cs ring index c is t o)
-      ∙ same_three (down n West stop (suc l') (len - suc l')) (up n West stop (suc l') (n + f' - suc l')) (down n West stop 0 f') out (reverse round) home
+      ∙ crossed-around n r cs positive West stop index c B A (seen_west n r cs ring index c is) f' l'
+      (struck_west n r cs ring index c is t o)
+      ∙ same_three (down n West stop (suc l') (len - suc l')) (up n West stop (suc l') (n + f' - suc l')) (down n West stop 0 f') out
+      (reverse round) home
       (down-west (len - suc l') (suc l') 0 (omega arith) ∙ ap (part 0) {x = len - suc l'} {y = first_place} (omega arith))
-      (up-west (n + f' - suc l') (suc l') (suc last_applied) (omega arith) ∙ ap (λ k. reverse (part (suc last_applied) k)) {x = n + f' - suc l'} {y = n + first_place - suc last_applied} (omega arith) ∙ ap (λ i. reverse (part i (n + first_place - i))) one_on)
+      (up-west (n + f' - suc l') (suc l') (suc last_applied) (omega arith)
+      ∙ ap (λ k. reverse (part (suc last_applied) k)) {x = n + f' - suc l'} {y = n + first_place - suc last_applied} (omega arith)
+      ∙ ap (λ i. reverse (part i (n + first_place - i))) one_on)
       (down-west f' 0 (suc last_applied) (omega arith) ∙ ap (λ i. part i (len - i)) one_on)
 
-  from_a : (is_free_arc ≡ true) ⊎ (is_free_arc ≡ false) → (is_free_arc || is_free_rest) ≡ true → walked A (hops n r.applied (arc_of n c)) ≡ route n r.applied (arc_of n c)
+  from_a : (is_free_arc ≡ true) ⊎ (is_free_arc ≡ false) → (is_free_arc || is_free_rest) ≡ true
+      → walked A (hops n r.applied (arc_of n c)) ≡ route n r.applied (arc_of n c)
   from_a (inl t) j = ap (walked A) (straight_hops t) ∙ straight_a t ∙ sym (straight_route t)
   from_a (inr t) j = ap (walked A) (switched_hops t) ∙ around_a t (other_free n r cs ring index c is j t) ∙ sym (switched_route t)
 
-  from_b : (is_free_arc ≡ true) ⊎ (is_free_arc ≡ false) → (is_free_arc || is_free_rest) ≡ true → walked B (hops n r.applied (arc_of n c)) ≡ reverse (route n r.applied (arc_of n c))
+  from_b : (is_free_arc ≡ true) ⊎ (is_free_arc ≡ false) → (is_free_arc || is_free_rest) ≡ true
+      → walked B (hops n r.applied (arc_of n c)) ≡ reverse (route n r.applied (arc_of n c))
   from_b (inl t) j = ap (walked B) (straight_hops t) ∙ straight_b t ∙ ap reverse (sym (straight_route t))
-  from_b (inr t) j = ap (walked B) (switched_hops t) ∙ around_b t (other_free n r cs ring index c is j t) ∙ sym (joined_lists out round home) ∙ ap reverse (sym (switched_route t))
+  from_b (inr t) j =
+      ap (walked B) (switched_hops t) ∙ around_b t (other_free n r cs ring index c is j t) ∙ sym (joined_lists out round home)
+      ∙ ap reverse (sym (switched_route t))
 
   pub along-route : IsAlongRoute n r.applied r.state cs c
   along-route = record {

@@ -26,7 +26,8 @@ module _ (rs : List ℕ) (cs : List Provisioned) (p : ℕ) where
   if_carried true o h = h
   if_carried false o h = tt
 
-  if_own : (a b : Bool) (i : ℕ) (o : Origin) → IsFree n (is_applied rs) p o → IsFree n (is_applied rs) p (if a then port i A else (if b then port i B else o))
+  if_own : (a b : Bool) (i : ℕ) (o : Origin) → IsFree n (is_applied rs) p o
+      → IsFree n (is_applied rs) p (if a then port i A else (if b then port i B else o))
   if_own true b i o h = tt
   if_own false true i o h = tt
   if_own false false i o h = h
@@ -36,7 +37,8 @@ module _ (rs : List ℕ) (cs : List Provisioned) (p : ℕ) where
   sent_free (Some r) o h = if_own (r.from.0 == p) (r.to.0 == p) r.circuit o h
 
   module _ (m : ℕ) (f g : Option Pos) where
-    stands_free : (w e t : Bool) (d : Side) → is_applied rs (span_at n p West) ≡ w → is_applied rs (span_at n p East) ≡ e → IsFree n (is_applied rs) p (stands_in n cs p (settled_by w e t f g) d m)
+    stands_free : (w e t : Bool) (d : Side) → is_applied rs (span_at n p West) ≡ w → is_applied rs (span_at n p East) ≡ e
+        → IsFree n (is_applied rs) p (stands_in n cs p (settled_by w e t f g) d m)
     unfolding stands_for
     stands_free true true t d hw he = tt
     stands_free true false t West hw he = if_carried (carries_in n cs p West m f) (Protection East) he
@@ -48,7 +50,8 @@ module _ (rs : List ℕ) (cs : List Provisioned) (p : ℕ) where
     stands_free false false false West hw he = hw
     stands_free false false false East hw he = he
 
-    working_free : (w e t : Bool) (d : Side) → is_applied rs (span_at n p West) ≡ w → is_applied rs (span_at n p East) ≡ e → IsFree n (is_applied rs) p (working_in n cs p (settled_by w e t f g) d m)
+    working_free : (w e t : Bool) (d : Side) → is_applied rs (span_at n p West) ≡ w → is_applied rs (span_at n p East) ≡ e
+        → IsFree n (is_applied rs) p (working_in n cs p (settled_by w e t f g) d m)
     unfolding leaves_working
     working_free true true t d hw he = tt
     working_free true false t d hw he = sent_free (circuits_at n cs p m d) _ (stands_free true false t (opposite d) hw he)
@@ -56,7 +59,8 @@ module _ (rs : List ℕ) (cs : List Provisioned) (p : ℕ) where
     working_free false false true d hw he = sent_free (circuits_at n cs p m d) _ (stands_free false false true (opposite d) hw he)
     working_free false false false d hw he = sent_free (circuits_at n cs p m d) _ (stands_free false false false (opposite d) hw he)
 
-    protection_free : (w e t : Bool) (d : Side) → is_applied rs (span_at n p West) ≡ w → is_applied rs (span_at n p East) ≡ e → IsFree n (is_applied rs) p (protection_in n cs p (settled_by w e t f g) d m)
+    protection_free : (w e t : Bool) (d : Side) → is_applied rs (span_at n p West) ≡ w → is_applied rs (span_at n p East) ≡ e
+        → IsFree n (is_applied rs) p (protection_in n cs p (settled_by w e t f g) d m)
     unfolding leaves_protection
     protection_free true true t d hw he = tt
     protection_free true false t West hw he = tt

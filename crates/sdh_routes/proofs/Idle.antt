@@ -44,7 +44,8 @@ at_ease n some = record {
 
 module _ (n : ℕ) (some : 0 < n) (cs : List Provisioned) (ring : AreOnRing n cs) where
   -- from a place of a circuit's arc
-  on_way : (d : Side) (p index : ℕ) (c : Provisioned) (near distant : End) (seen : Seen n cs index c d p near distant) (x : ℕ) → x < arc_length n c
+  on_way : (d : Side) (p index : ℕ) (c : Provisioned) (near distant : End) (seen : Seen n cs index c d p near distant) (x : ℕ)
+      → x < arc_length n c
       → Ends n all_idle cs c.slot.0 (n - 1) (stand (going n d p x) (working_in n cs (going n d p x) Idle d c.slot.0))
   on_way d p index c near distant seen x h =
       let r = at_ease n some in
@@ -58,8 +59,15 @@ module _ (n : ℕ) (some : 0 < n) (cs : List Provisioned) (ring : AreOnRing n cs
       }
 
   module _ (d : Side) (q m : ℕ) (inside : q < n) where
-    by_circuit : (o : Option Row) → circuit_from n (span_at n q d) m 0 cs ≡ o → Ends n all_idle cs m (n - 1) (stand q (working_in n cs q Idle d m))
-    by_circuit None e = record { spans = 0; last = stand q Ais; within = omega arith; over = tt; leads = ap (stand q) (leaves-unused n cs q Idle d m e) }
+    by_circuit : (o : Option Row) → circuit_from n (span_at n q d) m 0 cs ≡ o
+        → Ends n all_idle cs m (n - 1) (stand q (working_in n cs q Idle d m))
+    by_circuit None e = record {
+      spans = 0;
+      last = stand q Ais;
+      within = omega arith;
+      over = tt;
+      leads = ap (stand q) (leaves-unused n cs q Idle d m e);
+    }
     by_circuit (Some e) h =
         let found = found-gives n (span_at n q d) m 0 cs e h in
         let both = and_parts (found.circuit.slot.0 == m) (holds n found.circuit (span_at n q d)) found.on in

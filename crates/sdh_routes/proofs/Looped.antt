@@ -18,10 +18,12 @@ use Rattle.sdh_routes.specs.Walks.{port_at}
 use Rattle.sdh_squelch.proofs.LookUps.{entry}
 use Rattle.sdh_squelch.specs.Table.{circuit_from}
 
-module _ (n : ℕ) (cs : List Provisioned) (some : 0 < n) (d : Side) (p : ℕ) (index : ℕ) (c : Provisioned) (near distant : End) (seen : Seen n cs index c d p near distant) where
+module _ (n : ℕ) (cs : List Provisioned) (some : 0 < n) (d : Side) (p : ℕ) (index : ℕ) (c : Provisioned) (near distant : End)
+    (seen : Seen n cs index c d p near distant) where
   -- the node is at step x of the arc; f is the other end of its chain, k steps behind it
   module _ (x f k : ℕ) (inside : x < arc_length n c) (f_inside : f < n) (k_few : k < n) (chain : going n d f k ≡ going n d p x)
-      (both : (is_in_chain n d (going n d p x) f (port_at c A) && is_in_chain n d (going n d p x) f (port_at c B)) ≡ true) (p_inside : p < n) where
+      (both : (is_in_chain n d (going n d p x) f (port_at c A) && is_in_chain n d (going n d p x) f (port_at c B)) ≡ true)
+      (p_inside : p < n) where
     at : IsReached n d p f
     at = reached n some d p f p_inside f_inside
 
@@ -39,10 +41,13 @@ module _ (n : ℕ) (cs : List Provisioned) (some : 0 < n) (d : Side) (p : ℕ) (
     passed_if : (i : ℕ) → passes n d f (going n d p x) (going n d p (j + i)) ≡ true → i < n → i ≤ k
     passed_if i t h =
         leb-true i k (sym (passes-at n some d p j k i k_few h)
-        ∙ ap (λ q. passes n d q (going n d p (j + k)) (going n d p (j + i))) at.there ∙ ap (λ q. passes n d f q (going n d p (j + i))) same ∙ t)
+        ∙ ap (λ q. passes n d q (going n d p (j + k)) (going n d p (j + i))) at.there ∙ ap (λ q. passes n d f q (going n d p (j + i))) same
+        ∙ t)
 
     passed_last : passes n d f (going n d p x) (going n d p (arc_length n c)) ≡ true
-    passed_last = (and_parts (passes n d f (going n d p x) (going n d p 0)) (passes n d f (going n d p x) (going n d p (arc_length n c))) both_passed).1
+    passed_last =
+        (and_parts (passes n d f (going n d p x) (going n d p 0))
+        (passes n d f (going n d p x) (going n d p (arc_length n c))) both_passed).1
 
     -- the chain's other end is on the arc, so many steps along it, beyond the node
     pub record IsBeyond : Type 0 where
@@ -53,12 +58,15 @@ module _ (n : ℕ) (cs : List Provisioned) (some : 0 < n) (d : Side) (p : ℕ) (
       pub within : step ≤ arc_length n c
 
     last_after : j ≤ arc_length n c → arc_length n c - j ≤ k
-    last_after h = let short = seen.short in passed_if (arc_length n c - j) (ap (λ i. passes n d f (going n d p x) (going n d p i)) (omega arith) ∙ passed_last) (omega arith)
+    last_after h = let short =
+        seen.short in passed_if (arc_length n c - j) (ap (λ i. passes n d f (going n d p x) (going n d p i)) (omega arith) ∙ passed_last)
+        (omega arith)
 
     last_before : arc_length n c < j → arc_length n c + n - j ≤ k
     last_before h =
         let few = at.few in
-        passed_if (arc_length n c + n - j) (ap (passes n d f (going n d p x)) (ap (going n d p) (omega arith) ∙ going-round n some d p (arc_length n c)) ∙ passed_last) (omega arith)
+        passed_if (arc_length n c + n - j) (ap (passes n d f (going n d p x))
+        (ap (going n d p) (omega arith) ∙ going-round n some d p (arc_length n c)) ∙ passed_last) (omega arith)
 
     within_by : j + k ≡ x + n → (arc_length n c < j) ⊎ (j ≤ arc_length n c) → IsBeyond
     within_by e (inl past) = let t = last_before past in absurd (omega arith)
@@ -72,7 +80,9 @@ module _ (n : ℕ) (cs : List Provisioned) (some : 0 < n) (d : Side) (p : ℕ) (
         absurd (omega arith)
     by_round (inr high) =
         let short = seen.short in let few = at.few in
-        let e = going-once n some d p (j + k - n) x (omega arith) (omega arith) (sym (going-round n some d p (j + k - n)) ∙ ap (going n d p) (omega arith) ∙ same) in
+        let e =
+        going-once n some d p (j + k - n) x (omega arith) (omega arith)
+        (sym (going-round n some d p (j + k - n)) ∙ ap (going n d p) (omega arith) ∙ same) in
         within_by (omega arith) (cases_lt (arc_length n c) j)
 
     pub beyond : IsBeyond
@@ -83,5 +93,6 @@ module _ (n : ℕ) (cs : List Provisioned) (some : 0 < n) (d : Side) (p : ℕ) (
     comes-back =
         let b = beyond in let a = b.after in let w = b.within in
         let last : suc (b.step - 1) ≡ b.step = omega arith in
-        ap (λ s. circuit_from n s c.slot.0 0 cs) (ap (λ q. span_at n q (opposite d)) (sym b.there ∙ ap (going n d p) (sym last)) ∙ way-behind n some d p (b.step - 1))
+        ap (λ s. circuit_from n s c.slot.0 0 cs) (ap (λ q. span_at n q (opposite d)) (sym b.there ∙ ap (going n d p) (sym last))
+        ∙ way-behind n some d p (b.step - 1))
         ∙ seen.on_arc (b.step - 1) (omega arith)

@@ -1,7 +1,9 @@
 -- No closed loop: each AU-4 of a settled ring is led back to a port or to AIS.
-use Rattle.std.proofs.Common.{◌≡◌, ℕ, ◌+◌, ◌-◌, ◌*◌, ◌<◌, ◌≤◌, suc, Bool, true, false, Option, Some, None, List, refl, ap, sym, ◌∙◌, subst, arith, inl, inr, ap₂}
+use Rattle.std.proofs.Common.{◌≡◌, ℕ, ◌+◌, ◌-◌, ◌*◌, ◌<◌, ◌≤◌, suc, Bool, true, false, Option, Some, None, List, refl, ap, sym, ◌∙◌, subst}
+use Rattle.std.proofs.Common.{arith, inl, inr, ap₂}
 use Rattle.std.specs.Prelude.{◌&&◌, ◌==◌, not}
-use Rattle.std.proofs.lemmas.Bool.{cases_lt, cases_eq, cases_Bool, and_parts, and_right, eqb-true, lt-leb, not-false, not-true, both_ways, not_from_false}
+use Rattle.std.proofs.lemmas.Bool.{cases_lt, cases_eq, cases_Bool, and_parts, and_right, eqb-true, lt-leb, not-false, not-true, both_ways}
+use Rattle.std.proofs.lemmas.Bool.{not_from_false}
 use Rattle.sdh_bridge.specs.declared.Origin.{Origin}
 use Rattle.sdh_bridge.specs.declared.Origin.TheVariants.{Add, Ais, Protection, Working}
 use Rattle.sdh_circuits.specs.Provisioned.{Provisioned}
@@ -22,7 +24,8 @@ use Rattle.sdh_routes.proofs.Between.{passes-at}
 use Rattle.sdh_routes.proofs.Marks.{IsFirst, IsLast, first-is, last-is, last-place}
 use Rattle.sdh_ringmap.proofs.Clear.{none_of-at, none_of-met}
 use Rattle.sdh_routes.proofs.OnArcs.{near_at, near_end, on-arc, seen-on}
-use Rattle.sdh_routes.proofs.Passing.{away-leaves, blocked-leaves, bridged-leaves, carries-by, idle-leaves, is_open, isolated-leaves, isolated-stands, leaves-own_or_none, leaves-unused, settled-open, switched-stands, unused-carries}
+use Rattle.sdh_routes.proofs.Passing.{away-leaves, blocked-leaves, bridged-leaves, carries-by, idle-leaves, is_open, isolated-leaves}
+use Rattle.sdh_routes.proofs.Passing.{isolated-stands, leaves-own_or_none, leaves-unused, settled-open, switched-stands, unused-carries}
 use Rattle.sdh_routes.proofs.Seen.{Seen}
 use Rattle.sdh_routes.proofs.Segments.{along, bridge, chain_passes, home, leads-on, over_free, own, past, sending, taking, through}
 use Rattle.sdh_routes.proofs.Sights.{found-gives}
@@ -45,10 +48,22 @@ pass_is (state.SwitchEast f) e = cc
 module _ (n : ℕ) (r : Resting n) (cs : List Provisioned) (ring : AreOnRing n cs) where
   module _ (some : 0 < n) where
     ends_at : (m : ℕ) → (b : ℕ) (x y : Stand) → x ≡ y → IsOver y.origin → Ends n r.state cs m b x
-    ends_at m b x y e o = record { spans = 0; last = x; within = omega arith; over = subst (λ (s : Stand). IsOver s.origin) (sym e) o; leads = refl }
+    ends_at m b x y e o = record {
+      spans = 0;
+      last = x;
+      within = omega arith;
+      over = subst (λ (s : Stand). IsOver s.origin) (sym e) o;
+      leads = refl;
+    }
 
     ends_from : (m : ℕ) → (b j : ℕ) (x y : Stand) → Leads n r.state cs m j x y → Ends n r.state cs m b y → Ends n r.state cs m (j + b) x
-    ends_from m b j x y w e = record { spans = j + e.spans; last = e.last; within = let a = e.within in omega arith; over = e.over; leads = leads-on n r cs m j e.spans x y e.last w e.leads }
+    ends_from m b j x y w e = record {
+      spans = j + e.spans;
+      last = e.last;
+      within = let a = e.within in omega arith;
+      over = e.over;
+      leads = leads-on n r cs m j e.spans x y e.last w e.leads;
+    }
 
     wider : (m : ℕ) → (a b : ℕ) (x : Stand) → a ≤ b → Ends n r.state cs m a x → Ends n r.state cs m b x
     wider m a b x h e = record { spans = e.spans; last = e.last; within = let w = e.within in omega arith; over = e.over; leads = e.leads }
@@ -60,7 +75,8 @@ module _ (n : ℕ) (r : Resting n) (cs : List Provisioned) (ring : AreOnRing n c
       abbrev hit : ℕ → Bool
       hit i = on n r some d p i
 
-      home_end : (x : ℕ) (y : Side) → x < (arc_length n c) → ((j : ℕ) → j < x → hit j ≡ false) → is_open (r.state (going n d p x)) y ≡ true → Ends n r.state cs c.slot.0 n (sending n r cs some d p c.slot.0 (going n d p x))
+      home_end : (x : ℕ) (y : Side) → x < (arc_length n c) → ((j : ℕ) → j < x → hit j ≡ false) → is_open (r.state (going n d p x)) y ≡ true
+          → Ends n r.state cs c.slot.0 n (sending n r cs some d p c.slot.0 (going n d p x))
       home_end x y h free o = record {
         spans = x;
         last = own n r cs some d p index c near distant seen;
@@ -70,15 +86,18 @@ module _ (n : ℕ) (r : Resting n) (cs : List Provisioned) (ring : AreOnRing n c
       }
 
       -- the circuit's far end is beyond the chain
-      beyond : (l k x : ℕ) → (arc_length n c) ≤ l → k < n → x < (arc_length n c) → suc l + k ≡ x + n → carries_in n cs (going n d p x) d c.slot.0 (far_at (going n d p (suc l))) ≡ false
+      beyond : (l k x : ℕ) → (arc_length n c) ≤ l → k < n → x < (arc_length n c) → suc l + k ≡ x + n
+          → carries_in n cs (going n d p x) d c.slot.0 (far_at (going n d p (suc l))) ≡ false
       beyond l k x hl hk hx e =
           let q = going n d p x in let f = going n d p (suc l) in
           let test : ℕ → Bool = λ y. passes n d f q y in
           let here : q ≡ going n d p (suc l + k) = sym (going-round n some d p x) ∙ ap (going n d p) (sym e) in
-          let out : going n d p (arc_length n c) ≡ going n d p (suc l + ((arc_length n c) + n - suc l)) = sym (going-round n some d p (arc_length n c)) ∙ ap (going n d p) (omega arith) in
+          let out : going n d p (arc_length n c) ≡ going n d p (suc l + ((arc_length n c) + n - suc l)) =
+          sym (going-round n some d p (arc_length n c)) ∙ ap (going n d p) (omega arith) in
           let missed : test (going n d p (arc_length n c)) ≡ false =
           ap test out ∙ ap (λ y. passes n d f y (going n d p (suc l + ((arc_length n c) + n - suc l)))) here
-          ∙ passes-at n some d p (suc l) k ((arc_length n c) + n - suc l) hk (omega arith) ∙ lt-leb ((arc_length n c) + n - suc l) k (omega arith) in
+          ∙ passes-at n some d p (suc l) k ((arc_length n c) + n - suc l) hk (omega arith)
+          ∙ lt-leb ((arc_length n c) + n - suc l) k (omega arith) in
           carries-by n cs q d c.slot.0 f ∙ ap (λ o. carried n q o d f) (seen.on_arc x hx)
           ∙ ap₂ ◌&&◌ (chain_passes n d q f (port_at c A)) (chain_passes n d q f (port_at c B))
           ∙ seen.both test ∙ and_right (test (going n d p 0)) (test (going n d p (arc_length n c))) missed
@@ -112,31 +131,40 @@ module _ (n : ℕ) (r : Resting n) (cs : List Provisioned) (ring : AreOnRing n c
         bridging : r.state (going n d p x) ≡ Switch d (far_at (going n d p (suc l)))
         bridging =
             ap r.state (sym (going-round n some d p x) ∙ ap (going n d p) (sym whole))
-            ∙ state-ahead n r some d p l k k_some k_few last.holds (λ j a b. last.after j a (let w = whole in omega arith)) (ap hit whole ∙ ap r.applied (ap (λ q. span_at n q d) (going-round n some d p x)) ∙ ahead)
+            ∙ state-ahead n r some d p l k k_some k_few last.holds (λ j a b. last.after j a (let w = whole in omega arith))
+            (ap hit whole ∙ ap r.applied (ap (λ q. span_at n q d) (going-round n some d p x)) ∙ ahead)
 
-        silent_bridge : carries_in n cs (going n d p x) d c.slot.0 (far_at (going n d p (suc l))) ≡ false → Ends n r.state cs c.slot.0 n (bridge n r cs some d p c.slot.0 (going n d p x))
+        silent_bridge : carries_in n cs (going n d p x) d c.slot.0 (far_at (going n d p (suc l))) ≡ false
+            → Ends n r.state cs c.slot.0 n (bridge n r cs some d p c.slot.0 (going n d p x))
         silent_bridge e =
             let q = going n d p x in
             ends_at c.slot.0 n (bridge n r cs some d p c.slot.0 q) (stand q Ais)
-            (ap (stand q) (ap (λ st. protection_in n cs q st (opposite d) c.slot.0) bridging ∙ blocked-leaves n cs q d c.slot.0 (far_at (going n d p (suc l))) e)) tt
+            (ap (stand q) (ap (λ st. protection_in n cs q st (opposite d) c.slot.0) bridging
+            ∙ blocked-leaves n cs q d c.slot.0 (far_at (going n d p (suc l))) e)) tt
 
-        carried_bridge : l < (arc_length n c) → carries_in n cs (going n d p x) d c.slot.0 (far_at (going n d p (suc l))) ≡ true → Ends n r.state cs c.slot.0 n (bridge n r cs some d p c.slot.0 (going n d p x))
+        carried_bridge : l < (arc_length n c) → carries_in n cs (going n d p x) d c.slot.0 (far_at (going n d p (suc l))) ≡ true
+            → Ends n r.state cs c.slot.0 n (bridge n r cs some d p c.slot.0 (going n d p x))
         carried_bridge low e =
             let q = going n d p x in let s = seen.short in
             moved c.slot.0 n (bridge n r cs some d p c.slot.0 q) (sending n r cs some d p c.slot.0 q)
-            (ap (stand q) (ap (λ st. protection_in n cs q st (opposite d) c.slot.0) bridging ∙ bridged-leaves n cs q d c.slot.0 (far_at (going n d p (suc l))) e ∙ ap (λ st. working_in n cs q st d c.slot.0) (sym bridging)))
+            (ap (stand q) (ap (λ st. protection_in n cs q st (opposite d) c.slot.0) bridging
+            ∙ bridged-leaves n cs q d c.slot.0 (far_at (going n d p (suc l))) e
+            ∙ ap (λ st. working_in n cs q st d c.slot.0) (sym bridging)))
             (home_end x (opposite d) inside
-            (λ j h. sym (ap r.applied (ap (λ z. span_at n z d) (going-round n some d p j))) ∙ last.after (j + n) (omega arith) (omega arith))
+            (λ j h. sym (ap r.applied (ap (λ z. span_at n z d) (going-round n some d p j)))
+            ∙ last.after (j + n) (omega arith) (omega arith))
             (ap (λ st. is_open st (opposite d)) bridging ∙ isnt_side d (far_at (going n d p (suc l)))))
 
         pub bridge_end : Ends n r.state cs c.slot.0 n (bridge n r cs some d p c.slot.0 (going n d p x))
         bridge_end = elim (cases_lt l (arc_length n c)) [
-          | inl low ↦ elim (cases_Bool (carries_in n cs (going n d p x) d c.slot.0 (far_at (going n d p (suc l))))) [ inl t ↦ carried_bridge low t | inr t ↦ silent_bridge t ]
+          | inl low ↦ elim (cases_Bool (carries_in n cs (going n d p x) d c.slot.0
+              (far_at (going n d p (suc l))))) [ inl t ↦ carried_bridge low t | inr t ↦ silent_bridge t ]
           | inr high ↦ silent_bridge (beyond l k x high k_few inside round)
         ]
 
     -- the same for any node whose span on d is applied, and whose other is free
-    module _ (d : Side) (p q m : ℕ) (inside : q < n) (ahead : r.applied (span_at n q d) ≡ true) (behind : r.applied (span_at n q (opposite d)) ≡ false) where
+    module _ (d : Side) (p q m : ℕ) (inside : q < n) (ahead : r.applied (span_at n q d) ≡ true)
+        (behind : r.applied (span_at n q (opposite d)) ≡ false) where
       switching : r.state q ≡ Switch d (r.far (opposite d) q)
       switching = state-by n r d q true false ahead behind
 
@@ -153,8 +181,10 @@ module _ (n : ℕ) (r : Resting n) (cs : List Provisioned) (ring : AreOnRing n c
           let b = near_at n c d in
           let seen = seen-on n cs ring found.place c found.is d in
           let slot : m ≡ c.slot.0 = sym (eqb-true c.slot.0 m both.0) in
-          let before : going n d b (suc (at.step + (n - 1))) ≡ q = ap (going n d b) (omega arith) ∙ going-round n some d b at.step ∙ sym at.there in
-          subst (λ k. Ends n r.state cs k n (bridge n r cs some d p m q)) (sym slot) (moved c.slot.0 n (bridge n r cs some d p m q) (bridge n r cs some d b c.slot.0 (going n d b at.step))
+          let before : going n d b (suc (at.step + (n - 1))) ≡ q =
+          ap (going n d b) (omega arith) ∙ going-round n some d b at.step ∙ sym at.there in
+          subst (λ k. Ends n r.state cs k n (bridge n r cs some d p m q)) (sym slot)
+          (moved c.slot.0 n (bridge n r cs some d p m q) (bridge n r cs some d b c.slot.0 (going n d b at.step))
           (ap (λ k. bridge n r cs some d p k q) slot ∙ ap (bridge n r cs some d p c.slot.0) at.there)
           (bridge_end d b found.place c (near_end d) (other_end (near_end d)) seen at.step at.few
           (ap (λ z. r.applied (span_at n z d)) (sym at.there) ∙ ahead)
@@ -165,16 +195,20 @@ module _ (n : ℕ) (r : Resting n) (cs : List Provisioned) (ring : AreOnRing n c
 
     -- a node that doesn't pass through ends the protection ring
     module _ (d : Side) (p q m : ℕ) (inside : q < n) (stopped : is_pass (r.state q) ≡ false) where
-      at_state : (st : NodeState) → r.state q ≡ st → protection_in n cs q st (opposite d) m ≡ Ais → Ends n r.state cs m n (bridge n r cs some d p m q)
-      at_state st e h = ends_at m n (bridge n r cs some d p m q) (stand q Ais) (ap (stand q) (ap (λ s. protection_in n cs q s (opposite d) m) e ∙ h)) tt
+      at_state : (st : NodeState) → r.state q ≡ st → protection_in n cs q st (opposite d) m ≡ Ais
+          → Ends n r.state cs m n (bridge n r cs some d p m q)
+      at_state st e h =
+          ends_at m n (bridge n r cs some d p m q) (stand q Ais) (ap (stand q) (ap (λ s. protection_in n cs q s (opposite d) m) e ∙ h)) tt
 
       isnt_pass : r.state q ≡ PassThrough → ⊥
       isnt_pass e = let t = ap is_pass e in cc
 
-      by_tests : (a b : Bool) → r.applied (span_at n q d) ≡ a → r.applied (span_at n q (opposite d)) ≡ b → Ends n r.state cs m n (bridge n r cs some d p m q)
+      by_tests : (a b : Bool) → r.applied (span_at n q d) ≡ a → r.applied (span_at n q (opposite d)) ≡ b
+          → Ends n r.state cs m n (bridge n r cs some d p m q)
       by_tests true true e h = at_state Isolated (state-by n r d q true true e h) (isolated-leaves n cs q (opposite d) m)
       by_tests true false e h = switch_end d p q m inside e h
-      by_tests false true e h = let f = (r.far d q) in at_state (Switch (opposite d) f) (state-by n r d q false true e h) (away-leaves n cs q (opposite d) m f)
+      by_tests false true e h = let f =
+          (r.far d q) in at_state (Switch (opposite d) f) (state-by n r d q false true e h) (away-leaves n cs q (opposite d) m f)
       by_tests false false e h = elim (r.either q) [
         | inl passes ↦ absurd (isnt_pass (state-by n r d q false false e h ∙ passes))
         | inr idle ↦ at_state Idle (state-by n r d q false false e h ∙ idle) (idle-leaves n cs q (opposite d) m)
@@ -189,7 +223,9 @@ module _ (n : ℕ) (r : Resting n) (cs : List Provisioned) (ring : AreOnRing n c
       stop j = not (is_pass (r.state (going n d p (suc j))))
 
       some_stop : none_of stop 0 n ≡ false
-      some_stop = let s = stops n r some d p inside in none_of-met stop 0 n s.steps (omega arith) (let f = s.few in omega arith) (not_from_false (is_pass (r.state (going n d p (suc s.steps)))) s.there)
+      some_stop = let s =
+          stops n r some d p inside in none_of-met stop 0 n s.steps (omega arith) (let f = s.few in omega arith)
+          (not_from_false (is_pass (r.state (going n d p (suc s.steps)))) s.there)
 
       abbrev far : ℕ
       far = places_before stop 0 n
@@ -200,11 +236,14 @@ module _ (n : ℕ) (r : Resting n) (cs : List Provisioned) (ring : AreOnRing n c
       pub protection_end : Ends n r.state cs m (2 * n) (stand p (Protection d))
       protection_end =
           let few : suc far ≤ n = let b = first.below in omega arith in
-          let here : stand p (Protection d) ≡ stand (going n d p 0) (Protection d) = ap (λ q. stand q (Protection d)) (sym (going-none n some d p inside)) in
+          let here : stand p (Protection d) ≡ stand (going n d p 0) (Protection d) =
+          ap (λ q. stand q (Protection d)) (sym (going-none n some d p inside)) in
           let way_there = past n r cs some d p m far 0 (λ j h g.
           let back : suc (j - 1) ≡ j = omega arith in
-          ap (λ x. r.state (going n d p x)) (sym back) ∙ pass_is (r.state (going n d p (suc (j - 1)))) (not-false (is_pass (r.state (going n d p (suc (j - 1))))) (first.before (j - 1) (omega arith) (omega arith)))) in
-          let stopped : is_pass (r.state (going n d p (suc (0 + far)))) ≡ false = not-true (is_pass (r.state (going n d p (suc (0 + far))))) first.holds in
+          ap (λ x. r.state (going n d p x)) (sym back) ∙ pass_is (r.state (going n d p (suc (j - 1))))
+          (not-false (is_pass (r.state (going n d p (suc (j - 1))))) (first.before (j - 1) (omega arith) (omega arith)))) in
+          let stopped : is_pass (r.state (going n d p (suc (0 + far)))) ≡ false =
+          not-true (is_pass (r.state (going n d p (suc (0 + far))))) first.holds in
           moved m (2 * n) (stand p (Protection d)) (stand (going n d p 0) (Protection d)) here
           (wider m (suc far + n) (2 * n) (stand (going n d p 0) (Protection d)) (omega arith)
           (ends_from m n (suc far) (stand (going n d p 0) (Protection d)) (bridge n r cs some d p m (going n d p (suc (0 + far)))) way_there
@@ -226,15 +265,22 @@ module _ (n : ℕ) (r : Resting n) (cs : List Provisioned) (ring : AreOnRing n c
         by_state : (st : NodeState) → r.state node ≡ st → taken ≡ stand node (stands_in n cs node st (opposite d) c.slot.0)
         by_state st e = ap (λ s. stand node (stands_in n cs node s (opposite d) c.slot.0)) e
 
-        by_carry : (f : Option Pos) (b : Bool) → r.state node ≡ Switch (opposite d) f → carries_in n cs node (opposite d) c.slot.0 f ≡ b → Ends n r.state cs c.slot.0 (2 * n) taken
+        by_carry : (f : Option Pos) (b : Bool) → r.state node ≡ Switch (opposite d) f → carries_in n cs node (opposite d) c.slot.0 f ≡ b
+            → Ends n r.state cs c.slot.0 (2 * n) taken
         by_carry f true e h =
             moved c.slot.0 (2 * n) taken (stand node (Protection d))
-            (by_state (Switch (opposite d) f) e ∙ ap (stand node) (switched-stands n cs node (opposite d) c.slot.0 f true h ∙ ap (λ x. Protection x) (opposite_twice d)))
+            (by_state (Switch (opposite d) f) e ∙ ap (stand node)
+            (switched-stands n cs node (opposite d) c.slot.0 f true h ∙ ap (λ x. Protection x) (opposite_twice d)))
             (protection_end d node c.slot.0 (going-inside n some d p (suc i)))
-        by_carry f false e h = ends_at c.slot.0 (2 * n) taken (stand node Ais) (by_state (Switch (opposite d) f) e ∙ ap (stand node) (switched-stands n cs node (opposite d) c.slot.0 f false h)) tt
+        by_carry f false e h =
+            ends_at c.slot.0 (2 * n) taken (stand node Ais)
+            (by_state (Switch (opposite d) f) e ∙ ap (stand node) (switched-stands n cs node (opposite d) c.slot.0 f false h)) tt
 
         by_ahead : (b : Bool) → struck (suc i) ≡ b → Ends n r.state cs c.slot.0 (2 * n) taken
-        by_ahead true e = ends_at c.slot.0 (2 * n) taken (stand node Ais) (by_state Isolated (state-at n r some d p i true true e yet) ∙ ap (stand node) (isolated-stands n cs node (opposite d) c.slot.0)) tt
+        by_ahead true e =
+            ends_at c.slot.0 (2 * n) taken (stand node Ais)
+            (by_state Isolated (state-at n r some d p i true true e yet)
+            ∙ ap (stand node) (isolated-stands n cs node (opposite d) c.slot.0)) tt
         by_ahead false e =
             let f = (r.far d node) in
             by_carry f (carries_in n cs node (opposite d) c.slot.0 f) (state-at n r some d p i false true e yet) refl
@@ -254,8 +300,12 @@ module _ (n : ℕ) (r : Resting n) (cs : List Provisioned) (ring : AreOnRing n c
             let over = free (x - 1) (omega arith) in
             let short = seen.short in
             let z = own n r cs some d p index c near distant seen in
-            let way_home = home n r cs some d p index c near distant seen (x - 1) d (omega arith) (λ j h. free j (omega arith)) (settled-open n r d (going n d p (x - 1)) over) in
-            let all : Leads n r.state cs c.slot.0 x place z = subst (λ k. Leads n r.state cs c.slot.0 k (taking n r cs some d p c.slot.0 (going n d p k)) z) before (over_free n r cs some d p c.slot.0 (x - 1) (x - 1) z over way_home) in
+            let way_home =
+            home n r cs some d p index c near distant seen (x - 1) d (omega arith) (λ j h. free j (omega arith))
+            (settled-open n r d (going n d p (x - 1)) over) in
+            let all : Leads n r.state cs c.slot.0 x place z =
+            subst (λ k. Leads n r.state cs c.slot.0 k (taking n r cs some d p c.slot.0 (going n d p k)) z) before
+            (over_free n r cs some d p c.slot.0 (x - 1) (x - 1) z over way_home) in
             record { spans = x; last = z; within = omega arith; over = tt; leads = all }
 
         struck_end : none_of struck 0 x ≡ false → Ends n r.state cs c.slot.0 (3 * n) place
@@ -264,14 +314,18 @@ module _ (n : ℕ) (r : Resting n) (cs : List Provisioned) (ring : AreOnRing n c
             let i = last_place struck x in
             let e = after_end i l.holds in
             let short = seen.short in let low = l.below in
-            let all = along n r cs some d p index c near distant seen (x - suc i) (suc i) e.spans e.last (omega arith) (omega arith) (λ j a b. l.after j a (omega arith)) e.leads in
+            let all =
+            along n r cs some d p index c near distant seen (x - suc i) (suc i) e.spans e.last (omega arith) (omega arith)
+            (λ j a b. l.after j a (omega arith)) e.leads in
             let here : suc i + (x - suc i) ≡ x = omega arith in
             record {
               spans = (x - suc i) + e.spans;
               last = e.last;
               within = let w = e.within in omega arith;
               over = e.over;
-              leads = subst (λ k. Leads n r.state cs c.slot.0 ((x - suc i) + e.spans) (taking n r cs some d p c.slot.0 (going n d p k)) e.last) here all;
+              leads =
+                  subst (λ k. Leads n r.state cs c.slot.0 ((x - suc i) + e.spans)
+                  (taking n r cs some d p c.slot.0 (going n d p k)) e.last) here all;
             }
 
         pub inner_end : Ends n r.state cs c.slot.0 (3 * n) place
@@ -285,15 +339,21 @@ module _ (n : ℕ) (r : Resting n) (cs : List Provisioned) (ring : AreOnRing n c
             | inr own ↦ ends_at c.slot.0 (3 * n) (sending n r cs some d p c.slot.0 q) (stand q (port index near)) (ap (stand q) own) tt
           ]
 
-      pub sending_at : (x : ℕ) → x < (arc_length n c) → Ends n r.state cs c.slot.0 (3 * n) (sending n r cs some d p c.slot.0 (going n d p x))
+      pub sending_at : (x : ℕ) → x < (arc_length n c) → Ends n r.state cs c.slot.0 (3 * n)
+          (sending n r cs some d p c.slot.0 (going n d p x))
       sending_at x h = elim (cases_eq 0 x) [
-        | inl start ↦ moved c.slot.0 (3 * n) (sending n r cs some d p c.slot.0 (going n d p x)) (sending n r cs some d p c.slot.0 (going n d p 0)) (ap (λ i. sending n r cs some d p c.slot.0 (going n d p i)) (sym start)) first_end
-        | inr inner ↦ moved c.slot.0 (3 * n) (sending n r cs some d p c.slot.0 (going n d p x)) (taking n r cs some d p c.slot.0 (going n d p x)) (through n r cs some d p index c near distant seen x (omega arith) h) (inner_end x (omega arith) h)
+        | inl start ↦ moved c.slot.0 (3 * n) (sending n r cs some d p c.slot.0 (going n d p x))
+            (sending n r cs some d p c.slot.0 (going n d p 0))
+            (ap (λ i. sending n r cs some d p c.slot.0 (going n d p i)) (sym start)) first_end
+        | inr inner ↦ moved c.slot.0 (3 * n) (sending n r cs some d p c.slot.0 (going n d p x))
+            (taking n r cs some d p c.slot.0 (going n d p x)) (through n r cs some d p index c near distant seen x (omega arith) h)
+            (inner_end x (omega arith) h)
       ]
 
     module _ (d : Side) (p q m : ℕ) (inside : q < n) where
       sending_by : (o : Option Row) → circuit_from n (span_at n q d) m 0 cs ≡ o → Ends n r.state cs m (3 * n) (sending n r cs some d p m q)
-      sending_by None e = ends_at m (3 * n) (sending n r cs some d p m q) (stand q Ais) (ap (stand q) (leaves-unused n cs q (r.state q) d m e)) tt
+      sending_by None e =
+          ends_at m (3 * n) (sending n r cs some d p m q) (stand q Ais) (ap (stand q) (leaves-unused n cs q (r.state q) d m e)) tt
       sending_by (Some e) h =
           let found = found-gives n (span_at n q d) m 0 cs e h in
           let both = and_parts (found.circuit.slot.0 == m) (holds n found.circuit (span_at n q d)) found.on in
@@ -301,7 +361,8 @@ module _ (n : ℕ) (r : Resting n) (cs : List Provisioned) (ring : AreOnRing n c
           let at = on-arc n cs ring some c d q (ring.inside found.place c found.is).0 inside both.1 in
           let b = near_at n c d in
           let slot : m ≡ c.slot.0 = sym (eqb-true c.slot.0 m both.0) in
-          subst (λ k. Ends n r.state cs k (3 * n) (sending n r cs some d p m q)) (sym slot) (moved c.slot.0 (3 * n) (sending n r cs some d p m q) (sending n r cs some d b c.slot.0 (going n d b at.step))
+          subst (λ k. Ends n r.state cs k (3 * n) (sending n r cs some d p m q)) (sym slot)
+          (moved c.slot.0 (3 * n) (sending n r cs some d p m q) (sending n r cs some d b c.slot.0 (going n d b at.step))
           (ap (λ k. sending n r cs some d p k q) slot ∙ ap (sending n r cs some d p c.slot.0) at.there)
           (sending_at d b found.place c (near_end d) (other_end (near_end d)) (seen-on n cs ring found.place c found.is d) at.step at.few))
 

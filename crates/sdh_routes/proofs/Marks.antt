@@ -12,8 +12,15 @@ pub record IsFirst (p : ℕ → Bool) (a k f : ℕ) : Type 0 where
   pub holds : p f ≡ true
   pub before : (j : ℕ) → a ≤ j → j < f → p j ≡ false
 
-first_by : (p : ℕ → Bool) (a k : ℕ) (b : Bool) → p a ≡ b → (b ≡ false → IsFirst p (suc a) k (suc a + places_before p (suc a) k)) → IsFirst p a (suc k) (a + (if b then 0 else suc (places_before p (suc a) k)))
-first_by p a k true e rest = record { from = omega arith; below = omega arith; holds = ap p (omega arith) ∙ e; before = λ j h g. absurd (omega arith) }
+first_by : (p : ℕ → Bool) (a k : ℕ) (b : Bool) → p a ≡ b → (b ≡ false → IsFirst p (suc a) k (suc a + places_before p (suc a) k))
+    → IsFirst p a (suc k) (a + (if b then 0 else suc (places_before p (suc a) k)))
+first_by p a k true e rest = record {
+  from = omega arith;
+  below = omega arith;
+  holds = ap p (omega arith)
+      ∙ e;
+  before = λ j h g. absurd (omega arith);
+}
 first_by p a k false e rest =
     let r = rest refl in
     let same : suc a + places_before p (suc a) k ≡ a + suc (places_before p (suc a) k) = omega arith in
@@ -26,10 +33,11 @@ first_by p a k false e rest =
 
 pub first-is : (p : ℕ → Bool) (a k : ℕ) → none_of p a k ≡ false → IsFirst p a k (a + places_before p a k)
 first-is p a zero e = absurd (true≢false e)
-first-is p a (suc k) e = first_by p a k (p a) refl (λ none. first-is p (suc a) k (rest (and_cases (not (p a)) (none_of p (suc a) k) e) none)) where
-  rest : (not (p a) ≡ false) ⊎ (none_of p (suc a) k ≡ false) → p a ≡ false → none_of p (suc a) k ≡ false
-  rest (inl t) none = absurd (both_ways (p a) none (not-false (p a) t))
-  rest (inr t) none = t
+first-is p a (suc k) e =
+    first_by p a k (p a) refl (λ none. first-is p (suc a) k (rest (and_cases (not (p a)) (none_of p (suc a) k) e) none)) where
+      rest : (not (p a) ≡ false) ⊎ (none_of p (suc a) k ≡ false) → p a ≡ false → none_of p (suc a) k ≡ false
+      rest (inl t) none = absurd (both_ways (p a) none (not-false (p a) t))
+      rest (inr t) none = t
 
 -- the last place below k
 pub record IsLast (p : ℕ → Bool) (f k l : ℕ) : Type 0 where
@@ -38,7 +46,8 @@ pub record IsLast (p : ℕ → Bool) (f k l : ℕ) : Type 0 where
   pub holds : p l ≡ true
   pub after : (j : ℕ) → l < j → j < k → p j ≡ false
 
-last_by : (p : ℕ → Bool) (f k : ℕ) (b : Bool) → p k ≡ b → f < suc k → p f ≡ true → (f < k → IsLast p f k (last_place p k)) → IsLast p f (suc k) (if b then k else last_place p k)
+last_by : (p : ℕ → Bool) (f k : ℕ) (b : Bool) → p k ≡ b → f < suc k → p f ≡ true → (f < k → IsLast p f k (last_place p k))
+    → IsLast p f (suc k) (if b then k else last_place p k)
 last_by p f k true e h hit rest = record { from = omega arith; below = omega arith; holds = e; after = λ j g i. absurd (omega arith) }
 last_by p f k false e h hit rest =
     let r = rest (elim (cases_eq f k) [ inl same ↦ absurd (both_ways (p k) e (ap p (sym same) ∙ hit)) | inr other ↦ omega arith ]) in

@@ -40,8 +40,10 @@ pub record IsFarther (n : ℕ) (cs : List Provisioned) (d : Side) (q m f : ℕ) 
   pub after : step < last
   pub within : last ≤ arc_length n circuit
 
-module _ (n : ℕ) (cs : List Provisioned) (ring : AreOnRing n cs) (some : 0 < n) (d : Side) (q : ℕ) (m : ℕ) (f : Pos) (inside : q < n) (f_inside : f.0 < n) where
-  by_entry : (o : Option Row) → circuit_from n (span_at n q d) m 0 cs ≡ o → carried n q o d f.0 ≡ true → IsFarther n cs d q m f.0 × (circuit_from n (span_at n f.0 (opposite d)) m 0 cs ≡ o)
+module _ (n : ℕ) (cs : List Provisioned) (ring : AreOnRing n cs) (some : 0 < n) (d : Side) (q : ℕ) (m : ℕ) (f : Pos) (inside : q < n)
+    (f_inside : f.0 < n) where
+  by_entry : (o : Option Row) → circuit_from n (span_at n q d) m 0 cs ≡ o → carried n q o d f.0 ≡ true
+      → IsFarther n cs d q m f.0 × (circuit_from n (span_at n f.0 (opposite d)) m 0 cs ≡ o)
   by_entry None e t = absurd (false≢true t)
   by_entry (Some e) h t =
       let found = found-gives n (span_at n q d) m 0 cs e h in
@@ -53,13 +55,18 @@ module _ (n : ℕ) (cs : List Provisioned) (ring : AreOnRing n cs) (some : 0 < n
       let here : going n d b at.step ≡ q = sym at.there in
       let slot : c.slot.0 ≡ m = eqb-true c.slot.0 m both.0 in
       let seen = seen-on n cs ring found.place c found.is d in
-      let in_both : (is_in_chain n d (going n d b at.step) f.0 (port_at c A) && is_in_chain n d (going n d b at.step) f.0 (port_at c B)) ≡ true =
-      ap (λ x. is_in_chain n d x f.0 (port_at c A) && is_in_chain n d x f.0 (port_at c B)) here ∙ ap (λ (x : Row). carried n q (Some x) d f.0) (sym found.row) ∙ t in
+      let in_both : (is_in_chain n d (going n d b at.step) f.0 (port_at c A) && is_in_chain n d (going n d b at.step) f.0 (port_at c B))
+      ≡ true =
+      ap (λ x. is_in_chain n d x f.0 (port_at c A) && is_in_chain n d x f.0 (port_at c B)) here
+      ∙ ap (λ (x : Row). carried n q (Some x) d f.0) (sym found.row) ∙ t in
       let base = base_inside n some c d (ring.inside found.place c found.is).0 in
-      let far : IsBeyond n cs some d b found.place c (near_end d) (other_end (near_end d)) seen at.step f.0 back.steps at.few f_inside back.few (back.there ∙ at.there) in_both base =
-      beyond n cs some d b found.place c (near_end d) (other_end (near_end d)) seen at.step f.0 back.steps at.few f_inside back.few (back.there ∙ at.there) in_both base in
+      let far : IsBeyond n cs some d b found.place c (near_end d)
+      (other_end (near_end d)) seen at.step f.0 back.steps at.few f_inside back.few (back.there ∙ at.there) in_both base =
+      beyond n cs some d b found.place c (near_end d) (other_end (near_end d)) seen at.step f.0 back.steps at.few f_inside back.few
+      (back.there ∙ at.there) in_both base in
       let returned : circuit_from n (span_at n f.0 (opposite d)) c.slot.0 0 cs ≡ Some (entry found.place c) =
-      comes-back n cs some d b found.place c (near_end d) (other_end (near_end d)) seen at.step f.0 back.steps at.few f_inside back.few (back.there ∙ at.there) in_both base in
+      comes-back n cs some d b found.place c (near_end d) (other_end (near_end d)) seen at.step f.0 back.steps at.few f_inside back.few
+      (back.there ∙ at.there) in_both base in
       let row : e ≡ entry found.place c = found.row ∙ ap (λ k. entry k c) {x = 0 + found.place} (omega arith) in (
         record {
           index = found.place;
@@ -78,7 +85,8 @@ module _ (n : ℕ) (cs : List Provisioned) (ring : AreOnRing n cs) (some : 0 < n
       )
 
   -- at the far end's outward span the same circuit is met
-  pub meets-own : carries_in n cs q d m (Some f) ≡ true → circuit_from n (span_at n f.0 (opposite d)) m 0 cs ≡ circuit_from n (span_at n q d) m 0 cs
+  pub meets-own : carries_in n cs q d m (Some f) ≡ true → circuit_from n (span_at n f.0 (opposite d)) m 0 cs
+      ≡ circuit_from n (span_at n q d) m 0 cs
   meets-own t = (by_entry (circuit_from n (span_at n q d) m 0 cs) refl (sym (carries-by n cs q d m f.0) ∙ t)).1
 
   -- and the far end is farther along its arc

@@ -31,7 +31,8 @@ module _ (n : ℕ) (cs : List Provisioned) (ring : AreOnRing n cs) where
   unfolding arc_length
   near c s t = held_near n s (arc_of n c) t
 
-  pub seen-on : (index : ℕ) (c : Provisioned) → slice_get cs index ≡ Some c → (d : Side) → Seen n cs index c d (near_at n c d) (near_end d) (other_end (near_end d))
+  pub seen-on : (index : ℕ) (c : Provisioned) → slice_get cs index ≡ Some c → (d : Side)
+      → Seen n cs index c d (near_at n c d) (near_end d) (other_end (near_end d))
   seen-on index c is East = seen-east n cs ring index c is
   seen-on index c is West = seen-west n cs ring index c is
 
@@ -51,6 +52,8 @@ module _ (n : ℕ) (cs : List Provisioned) (ring : AreOnRing n cs) where
         record {
           step = (arc_length n c) - suc j;
           few = omega arith;
-          there = sym (neighbour_back n q West hq) ∙ ap (λ x. neighbour n x East) (sym (going-to n some c.from.0 s hc (omega arith))) ∙ going-next n some East c.from.0 j
+          there =
+              sym (neighbour_back n q West hq) ∙ ap (λ x. neighbour n x East) (sym (going-to n some c.from.0 s hc (omega arith)))
+              ∙ going-next n some East c.from.0 j
               ∙ sym (mirror n some East c.from.0 ((arc_length n c) - suc j) (suc j) (arc_length n c) (omega arith));
         }

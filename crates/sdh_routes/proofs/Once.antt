@@ -37,7 +37,8 @@ over_or_on (Protection d) a b = a
 
 module _ (n : ℕ) (state : ℕ → NodeState) (cs : List Provisioned) where
   -- a walk has one end, and one length
-  pub once : (m j k : ℕ) (x y z : Stand) → Leads n state cs m j x y → Leads n state cs m k x z → IsOver y.origin → IsOver z.origin → (j ≡ k) × (y ≡ z)
+  pub once : (m j k : ℕ) (x y z : Stand) → Leads n state cs m j x y → Leads n state cs m k x z → IsOver y.origin → IsOver z.origin
+      → (j ≡ k) × (y ≡ z)
   once m zero zero x y z a b u v = (refl, sym a ∙ b)
   once m zero (suc k) x y z a b u v = absurd (over_or_on x.origin (subst (λ (s : Stand). IsOver s.origin) (sym a) u) b.0)
   once m (suc j) zero x y z a b u v = absurd (over_or_on x.origin (subst (λ (s : Stand). IsOver s.origin) (sym b) v) a.0)
@@ -51,7 +52,9 @@ module _ (n : ℕ) (r : Resting n) (cs : List Provisioned) where
       let law = routes n r cs ring index c is e in
       elim (cases_Bool (is_joined n r.applied (arc_of n c))) [
         | inl yes_joined ↦ (
-            let t = once n r.state cs c.slot.0 k (hops n r.applied (arc_of n c)) (delivery n r.state cs c e) (stand (q) (port i x)) (stand (port_at c (other_end e)) (port index (other_end e))) w (law.joined yes_joined) tt tt in
+            let t =
+            once n r.state cs c.slot.0 k (hops n r.applied (arc_of n c)) (delivery n r.state cs c e) (stand (q) (port i x))
+            (stand (port_at c (other_end e)) (port index (other_end e))) w (law.joined yes_joined) tt tt in
             same_add (ap (λ (s : Stand). s.origin) t.1))
         | inr parted ↦ (
             let s = law.parted parted in

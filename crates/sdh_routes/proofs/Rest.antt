@@ -1,5 +1,6 @@
 -- The settled states of a ring are nodes at rest.
-use Rattle.std.proofs.Common.{◌≡◌, ◌⊎◌, inl, inr, ℕ, suc, ◌-◌, ◌<◌, List, [], ◌∷◌, length, Bool, true, false, Option, Some, None, refl, ap, ◌∙◌, arith}
+use Rattle.std.proofs.Common.{◌≡◌, ◌⊎◌, inl, inr, ℕ, suc, ◌-◌, ◌<◌, List, [], ◌∷◌, length, Bool, true, false, Option, Some, None, refl, ap}
+use Rattle.std.proofs.Common.{◌∙◌, arith}
 use Rattle.std.specs.Prelude.{◌&&◌, ◌||◌, ◌==◌, nat_le, nat_lt, if◌then◌else◌, option_map, slice_index}
 use Rattle.std.specs.List.{find, list_any}
 use Rattle.std.proofs.lemmas.Bool.{cases_Bool, or_cases, eq-eqb, le-ltb}
@@ -26,11 +27,14 @@ applied_by false b c false h r e g = cc
 
 applies-top : (rs : List ℕ) (r : ℕ) → applies rs r ≡ true → applies rs (highest rs) ≡ true
 unfolding applies
-applies-top rs r e = applied_by (nat_le 11 (highest rs)) (nat_le 11 r) (nat_le 11 (highest rs)) (nat_lt 0 (highest rs) && has_one_leader rs) (highest rs) r e refl
+applies-top rs r e =
+    applied_by (nat_le 11 (highest rs)) (nat_le 11 r) (nat_le 11 (highest rs)) (nat_lt 0 (highest rs) && has_one_leader rs)
+    (highest rs) r e refl
 
 any_top : (rs xs : List ℕ) → list_any (applies rs) xs ≡ true → applies rs (highest rs) ≡ true
 any_top rs [] e = cc
-any_top rs (x ∷ xs) e = elim (or_cases (applies rs x) (list_any (applies rs) xs) e) [ inl here ↦ applies-top rs x here | inr there ↦ any_top rs xs there ]
+any_top rs (x ∷ xs) e = elim (or_cases (applies rs x) (list_any
+    (applies rs) xs) e) [ inl here ↦ applies-top rs x here | inr there ↦ any_top rs xs there ]
 
 module _ (rs : List ℕ) (some : 0 < length rs) where
   abbrev n : ℕ
@@ -48,10 +52,12 @@ module _ (rs : List ℕ) (some : 0 < length rs) where
       → find (λ x. applied (span_at n x d)) (next_positions n d q (n - 1)) ≡ Some (going n d q k)
   searched d q k some_way few free hit =
       let last : suc (k - 1) ≡ k = omega arith in
-      first_position n d q (n - 1) (k - 1) (λ x. applied (span_at n x d)) (omega arith) (λ j h. free (suc j) (omega arith)) (ap (λ x. applied (way n d q x)) last ∙ hit)
+      first_position n d q (n - 1) (k - 1) (λ x. applied (span_at n x d)) (omega arith) (λ j h. free (suc j) (omega arith))
+      (ap (λ x. applied (way n d q x)) last ∙ hit)
       ∙ ap (λ x. Some (going n d q x)) last
 
-  pub far_first : (d : Side) (q k : ℕ) → q < n → 0 < k → k < n → ((j : ℕ) → j < k → applied (way n d q j) ≡ false) → applied (way n d q k) ≡ true → far d q ≡ far_at (going n d q k)
+  pub far_first : (d : Side) (q k : ℕ) → q < n → 0 < k → k < n → ((j : ℕ) → j < k → applied (way n d q j) ≡ false)
+      → applied (way n d q k) ≡ true → far d q ≡ far_at (going n d q k)
   unfolding far_end
   far_first West q k inside some_way few free hit = ap (option_map position_of) (searched West q k some_way few free hit)
   far_first East q k inside some_way few free hit = ap (option_map position_of) (searched East q k some_way few free hit)
@@ -76,7 +82,8 @@ module _ (rs : List ℕ) (some : 0 < length rs) where
   west_by false false true f g = refl
   west_by false false false f g = refl
 
-  pub by_sides : (d : Side) (q : ℕ) → settled rs q ≡ side_state d (applied (span_at n q d)) (applied (span_at n q (opposite d))) (far d q) (far (opposite d) q) (rest q)
+  pub by_sides : (d : Side) (q : ℕ) → settled rs q ≡ side_state d (applied (span_at n q d)) (applied (span_at n q (opposite d))) (far d q)
+      (far (opposite d) q) (rest q)
   unfolding settled
   by_sides East q = east_by (applied (span_at n q West)) (applied (span_at n q East)) (serves q) (far_end rs q West) (far_end rs q East)
   by_sides West q = west_by (applied (span_at n q West)) (applied (span_at n q East)) (serves q) (far_end rs q West) (far_end rs q East)
@@ -108,13 +115,15 @@ module _ (rs : List ℕ) (some : 0 < length rs) where
 
   -- a node at a span with the highest request isn't outranked
   is_low : (d : Side) (q : ℕ) → span_at n q d ≡ top.place
-      → (nat_lt (slice_index rs (span_at n q West)) (highest rs) ≡ false) ⊎ (nat_lt (slice_index rs (span_at n q East)) (highest rs) ≡ false)
+      → (nat_lt (slice_index rs (span_at n q West)) (highest rs) ≡ false)
+      ⊎ (nat_lt (slice_index rs (span_at n q East)) (highest rs) ≡ false)
   is_low West q e = inl (le-ltb _ _ (let t = ap (slice_index rs) e ∙ top.top in omega arith))
   is_low East q e = inr (le-ltb _ _ (let t = ap (slice_index rs) e ∙ top.top in omega arith))
 
   not_served : (d : Side) (q : ℕ) → span_at n q d ≡ top.place → is_any_applied rs ≡ false → serves q ≡ false
   not_served d q e none =
-      low (is_any_applied rs) (nat_lt 0 (highest rs)) (nat_lt (slice_index rs (span_at n q West)) (highest rs)) (nat_lt (slice_index rs (span_at n q East)) (highest rs)) none (is_low d q e)
+      low (is_any_applied rs) (nat_lt 0 (highest rs)) (nat_lt (slice_index rs (span_at n q West)) (highest rs))
+      (nat_lt (slice_index rs (span_at n q East)) (highest rs)) none (is_low d q e)
 
   on_top : (d : Side) (q : ℕ) → span_at n q d ≡ top.place → is_any_applied rs ≡ true → applied (span_at n q d) ≡ true
   on_top d q e any = ap (λ s. applies rs (slice_index rs s)) e ∙ ap (applies rs) top.top ∙ any_top rs rs any

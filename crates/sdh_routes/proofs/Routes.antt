@@ -1,5 +1,6 @@
 -- The routes law: each port of a joined circuit gets its own circuit's other port, every other port AIS.
-use Rattle.std.proofs.Common.{◌≡◌, ℕ, ◌+◌, ◌-◌, ◌*◌, ◌<◌, suc, Bool, true, false, Some, List, refl, ap, sym, ◌∙◌, subst, arith, inl, inr, ◌⊎◌}
+use Rattle.std.proofs.Common.{◌≡◌, ℕ, ◌+◌, ◌-◌, ◌*◌, ◌<◌, suc, Bool, true, false, Some, List, refl, ap, sym, ◌∙◌, subst, arith, inl, inr}
+use Rattle.std.proofs.Common.{◌⊎◌}
 use Rattle.std.specs.Prelude.{slice_get, ◌||◌}
 use Rattle.std.proofs.lemmas.Bool.{cases_Bool, cases_lt, or_parts, or_cases, both_ways}
 use Rattle.sdh_circuits.specs.Provisioned.{Provisioned, arc_of}
@@ -23,7 +24,8 @@ use Rattle.sdh_routes.specs.Law.{IsRouted, IsSilent}
 use Rattle.sdh_ringmap.specs.Steps.{going, way}
 use Rattle.sdh_routes.specs.Walks.{Leads, delivery, port, port_at, stand}
 
-module _ (n : ℕ) (r : Resting n) (cs : List Provisioned) (ring : AreOnRing n cs) (index : ℕ) (c : Provisioned) (is : slice_get cs index ≡ Some c) where
+module _ (n : ℕ) (r : Resting n) (cs : List Provisioned) (ring : AreOnRing n cs) (index : ℕ) (c : Provisioned)
+    (is : slice_get cs index ≡ Some c) where
   -- whether the span at a place of the arc is applied
   abbrev pub place : ℕ → Bool
   place = at_place n r.applied (arc_of n c)
@@ -61,7 +63,9 @@ module _ (n : ℕ) (r : Resting n) (cs : List Provisioned) (ring : AreOnRing n c
 
   at_b : stand (going n West end 0) (port index B) ≡ stand (port_at c B) (port index B)
   unfolding going
-  at_b = ap (λ q. stand q (port index B)) (going-none n some West end (going-inside n some East c.from.0 (arc_length n c)) ∙ sym (arc-end n cs ring index c is))
+  at_b =
+      ap (λ q. stand q (port index B)) (going-none n some West end (going-inside n some East c.from.0 (arc_length n c))
+      ∙ sym (arc-end n cs ring index c is))
 
   abbrev pub f : ℕ
   f = places_before place 0 (arc_length n c)
@@ -97,40 +101,54 @@ module _ (n : ℕ) (r : Resting n) (cs : List Provisioned) (ring : AreOnRing n c
     ];
   }
 
-  pub struck_west : clear ≡ false → opposite_clear ≡ true → Struck n r cs some West end index c B A seen_west ((arc_length n c) - suc l) ((arc_length n c) - suc f)
+  pub struck_west : clear ≡ false → opposite_clear ≡ true → Struck n r cs some West end index c B A seen_west ((arc_length n c) - suc l)
+      ((arc_length n c) - suc f)
   struck_west e o =
       let a = (last e).from in let b = (last e).below in let s = short in
       record {
         ordered = omega arith;
         inside = omega arith;
-        before = λ j h. west-place j ((arc_length n c) - suc j) (omega arith) ∙ (last e).after ((arc_length n c) - suc j) (omega arith) (omega arith);
+        before =
+            λ j h. west-place j ((arc_length n c) - suc j) (omega arith)
+            ∙ (last e).after ((arc_length n c) - suc j) (omega arith) (omega arith);
         first = west-place ((arc_length n c) - suc l) l (omega arith) ∙ (last e).holds;
         last = west-place ((arc_length n c) - suc f) f (omega arith) ∙ (first e).holds;
         after = λ j h g. elim (cases_lt j (arc_length n c)) [
-          | inl low ↦ west-place j ((arc_length n c) - suc j) (omega arith) ∙ (first e).before ((arc_length n c) - suc j) (omega arith) (omega arith)
-          | inr high ↦ west-far j ((arc_length n c) + n - suc j) (omega arith) ∙ none_of-at place (arc_length n c) (n - (arc_length n c)) o ((arc_length n c) + n - suc j) (omega arith) (omega arith)
+          | inl low ↦ west-place j ((arc_length n c) - suc j) (omega arith)
+              ∙ (first e).before ((arc_length n c) - suc j) (omega arith) (omega arith)
+          | inr high ↦ west-far j ((arc_length n c) + n - suc j) (omega arith)
+              ∙ none_of-at place (arc_length n c) (n - (arc_length n c)) o ((arc_length n c) + n - suc j) (omega arith) (omega arith)
         ];
       }
 
-  pub same_length : clear ≡ false → (2 * ((arc_length n c) - suc l) + n + (arc_length n c)) - 2 * (((arc_length n c) - suc f) + 1) ≡ (2 * f + n + (arc_length n c)) - 2 * (l + 1)
+  pub same_length : clear ≡ false → (2 * ((arc_length n c) - suc l) + n + (arc_length n c)) - 2 * (((arc_length n c) - suc f) + 1)
+      ≡ (2 * f + n + (arc_length n c)) - 2 * (l + 1)
   same_length e = let a = (last e).from in let b = (last e).below in omega arith
 
-  to_a : (k : ℕ) → Leads n r.state cs c.slot.0 k (delivery n r.state cs c B) (stand (going n East c.from.0 0) (port index A)) → Leads n r.state cs c.slot.0 k (delivery n r.state cs c B) (stand (port_at c A) (port index A))
+  to_a : (k : ℕ) → Leads n r.state cs c.slot.0 k (delivery n r.state cs c B) (stand (going n East c.from.0 0) (port index A))
+      → Leads n r.state cs c.slot.0 k (delivery n r.state cs c B) (stand (port_at c A) (port index A))
   to_a k w = subst (λ z. Leads n r.state cs c.slot.0 k (delivery n r.state cs c B) z) at_a w
 
-  to_b : (k : ℕ) → Leads n r.state cs c.slot.0 k (delivery n r.state cs c A) (stand (going n West end 0) (port index B)) → Leads n r.state cs c.slot.0 k (delivery n r.state cs c A) (stand (port_at c B) (port index B))
+  to_b : (k : ℕ) → Leads n r.state cs c.slot.0 k (delivery n r.state cs c A) (stand (going n West end 0) (port index B))
+      → Leads n r.state cs c.slot.0 k (delivery n r.state cs c A) (stand (port_at c B) (port index B))
   to_b k w = subst (λ z. Leads n r.state cs c.slot.0 k (delivery n r.state cs c A) z) at_b w
 
-  straight : clear ≡ true → (e : End) → Leads n r.state cs c.slot.0 (arc_length n c) (delivery n r.state cs c e) (stand (port_at c (other_end e)) (port index (other_end e)))
-  straight h A = to_b (arc_length n c) (unswitched n r cs some West end index c B A seen_west (λ j g. west-place j ((arc_length n c) - suc j) (omega arith) ∙ is_free h ((arc_length n c) - suc j) (omega arith)))
+  straight : clear ≡ true → (e : End) → Leads n r.state cs c.slot.0 (arc_length n c) (delivery n r.state cs c e)
+      (stand (port_at c (other_end e)) (port index (other_end e)))
+  straight h A =
+      to_b (arc_length n c) (unswitched n r cs some West end index c B A seen_west
+      (λ j g. west-place j ((arc_length n c) - suc j) (omega arith) ∙ is_free h ((arc_length n c) - suc j) (omega arith)))
   straight h B = to_a (arc_length n c) (unswitched n r cs some East c.from.0 index c A B seen_east (λ j g. east-place j ∙ is_free h j g))
 
-  around : clear ≡ false → opposite_clear ≡ true → (e : End) → Leads n r.state cs c.slot.0 ((2 * f + n + (arc_length n c)) - 2 * (l + 1)) (delivery n r.state cs c e) (stand (port_at c (other_end e)) (port index (other_end e)))
+  around : clear ≡ false → opposite_clear ≡ true → (e : End)
+      → Leads n r.state cs c.slot.0 ((2 * f + n + (arc_length n c)) - 2 * (l + 1)) (delivery n r.state cs c e)
+      (stand (port_at c (other_end e)) (port index (other_end e)))
   around h o A =
       subst (λ k. Leads n r.state cs c.slot.0 k (delivery n r.state cs c A) (stand (port_at c B) (port index B))) (same_length h)
       (to_b ((2 * ((arc_length n c) - suc l) + n + (arc_length n c)) - 2 * (((arc_length n c) - suc f) + 1))
       (switched n r cs some West end index c B A seen_west ((arc_length n c) - suc l) ((arc_length n c) - suc f) (struck_west h o)))
-  around h o B = to_a ((2 * f + n + (arc_length n c)) - 2 * (l + 1)) (switched n r cs some East c.from.0 index c A B seen_east f l (struck_east h o))
+  around h o B =
+      to_a ((2 * f + n + (arc_length n c)) - 2 * (l + 1)) (switched n r cs some East c.from.0 index c A B seen_east f l (struck_east h o))
 
   -- the first applied place of the opposite arc, and the last
   abbrev g : ℕ
@@ -158,9 +176,11 @@ module _ (n : ℕ) (r : Resting n) (cs : List Provisioned) (ring : AreOnRing n c
     ];
   }
 
-  parted_west : clear ≡ false → opposite_clear ≡ false → Parted n r cs some West end index c B A seen_west ((arc_length n c) - suc f) ((arc_length n c) + n - suc h)
+  parted_west : clear ≡ false → opposite_clear ≡ false → Parted n r cs some West end index c B A seen_west ((arc_length n c) - suc f)
+      ((arc_length n c) + n - suc h)
   parted_west e o =
-      let a = (first e).below in let b = (last_opposite o).below in let d = (last_opposite o).from in let i = (first_opposite o).from in let s = short in
+      let a = (first e).below in let b = (last_opposite o).below in let d = (last_opposite o).from in let i =
+      (first_opposite o).from in let s = short in
       record {
         inside = omega arith;
         outside = omega arith;
@@ -168,8 +188,10 @@ module _ (n : ℕ) (r : Resting n) (cs : List Provisioned) (ring : AreOnRing n c
         last = west-place ((arc_length n c) - suc f) f (omega arith) ∙ (first e).holds;
         next = west-far ((arc_length n c) + n - suc h) h (omega arith) ∙ (last_opposite o).holds;
         between = λ j u v. elim (cases_lt j (arc_length n c)) [
-          | inl low ↦ west-place j ((arc_length n c) - suc j) (omega arith) ∙ (first e).before ((arc_length n c) - suc j) (omega arith) (omega arith)
-          | inr high ↦ west-far j ((arc_length n c) + n - suc j) (omega arith) ∙ (last_opposite o).after ((arc_length n c) + n - suc j) (omega arith) (omega arith)
+          | inl low ↦ west-place j ((arc_length n c) - suc j) (omega arith)
+              ∙ (first e).before ((arc_length n c) - suc j) (omega arith) (omega arith)
+          | inr high ↦ west-far j ((arc_length n c) + n - suc j) (omega arith)
+              ∙ (last_opposite o).after ((arc_length n c) + n - suc j) (omega arith) (omega arith)
         ];
       }
 
@@ -192,11 +214,14 @@ module _ (n : ℕ) (r : Resting n) (cs : List Provisioned) (ring : AreOnRing n c
   other_free j t = elim (or_cases clear opposite_clear j) [ inl free ↦ absurd (both_ways clear t free) | inr other ↦ other ]
 
   by_arcs : (e : End) → (clear ≡ true) ⊎ (clear ≡ false) → (clear || opposite_clear) ≡ true
-      → Leads n r.state cs c.slot.0 (hops n r.applied (arc_of n c)) (delivery n r.state cs c e) (stand (port_at c (other_end e)) (port index (other_end e)))
+      → Leads n r.state cs c.slot.0 (hops n r.applied (arc_of n c)) (delivery n r.state cs c e)
+      (stand (port_at c (other_end e)) (port index (other_end e)))
   by_arcs e (inl t) j =
-      subst (λ k. Leads n r.state cs c.slot.0 k (delivery n r.state cs c e) (stand (port_at c (other_end e)) (port index (other_end e)))) (sym (straight-hops n r.applied c (clear-is n r.applied c ∙ t))) (straight t e)
+      subst (λ k. Leads n r.state cs c.slot.0 k (delivery n r.state cs c e) (stand (port_at c (other_end e)) (port index (other_end e))))
+      (sym (straight-hops n r.applied c (clear-is n r.applied c ∙ t))) (straight t e)
   by_arcs e (inr t) j =
-      subst (λ k. Leads n r.state cs c.slot.0 k (delivery n r.state cs c e) (stand (port_at c (other_end e)) (port index (other_end e)))) (sym (around-hops n r.applied c (clear-is n r.applied c ∙ t))) (around t (other_free j t) e)
+      subst (λ k. Leads n r.state cs c.slot.0 k (delivery n r.state cs c e) (stand (port_at c (other_end e)) (port index (other_end e))))
+      (sym (around-hops n r.applied c (clear-is n r.applied c ∙ t))) (around t (other_free j t) e)
 
   -- the ends are joined where the places of one of the two arcs are free
   pub joined-is : is_joined n r.applied (arc_of n c) ≡ (clear || opposite_clear)

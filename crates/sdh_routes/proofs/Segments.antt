@@ -36,7 +36,8 @@ chain_ahead n West p f q = lt_next (eastwards n f q) (eastwards n f p)
 
 module _ (n : ℕ) (r : Resting n) (cs : List Provisioned) where
   pub leads-on : (m j k : ℕ) (x y z : Stand) → Leads n r.state cs m j x y → Leads n r.state cs m k y z → Leads n r.state cs m (j + k) x z
-  leads-on m zero k x y z a b = subst (λ i. Leads n r.state cs m i x z) {x = k} (omega arith) (subst (λ s. Leads n r.state cs m k s z) (sym a) b)
+  leads-on m zero k x y z a b =
+      subst (λ i. Leads n r.state cs m i x z) {x = k} (omega arith) (subst (λ s. Leads n r.state cs m k s z) (sym a) b)
   leads-on m (suc j) k x y z a b = subst (λ i. Leads n r.state cs m i x z) {x = suc (j + k)} (omega arith) (a.0, leads-on m j k _ y z a.1 b)
 
   module _ (some : 0 < n) (d : Side) (p : ℕ) where
@@ -63,10 +64,12 @@ module _ (n : ℕ) (r : Resting n) (cs : List Provisioned) where
     taking m q = stand q (stands_in n cs q (r.state q) (opposite d) m)
 
     -- a node that passes through
-    pub passed-on : (m i : ℕ) → r.state (going n d p (suc i)) ≡ PassThrough → bridge m (neighbour n (going n d p i) d) ≡ stand (going n d p (suc i)) (Protection d)
+    pub passed-on : (m i : ℕ) → r.state (going n d p (suc i)) ≡ PassThrough
+        → bridge m (neighbour n (going n d p i) d) ≡ stand (going n d p (suc i)) (Protection d)
     passed-on m i here =
         ap (bridge m) (going-next n some d p i)
-        ∙ ap (stand (going n d p (suc i))) (ap (λ st. protection_in n cs (going n d p (suc i)) st (opposite d) m) here ∙ passed-leaves n cs (going n d p (suc i)) d m)
+        ∙ ap (stand (going n d p (suc i))) (ap (λ st. protection_in n cs (going n d p (suc i)) st (opposite d) m) here
+        ∙ passed-leaves n cs (going n d p (suc i)) d m)
 
     -- a protection slot is followed ahead past nodes that pass through
     pub past : (m k i : ℕ) → ((j : ℕ) → i < j → j ≤ i + k → r.state (going n d p j) ≡ PassThrough)
@@ -74,16 +77,22 @@ module _ (n : ℕ) (r : Resting n) (cs : List Provisioned) where
     past m zero i through = (tt, ap (bridge m) (going-next n some d p i ∙ ap (going n d p) (omega arith)))
     past m (suc k) i through =
         let rest : Leads n r.state cs m (suc k) (stand (going n d p (suc i)) (Protection d)) (bridge m (going n d p (suc (i + suc k)))) =
-        subst (λ j. Leads n r.state cs m (suc k) (stand (going n d p (suc i)) (Protection d)) (bridge m (going n d p (suc j)))) {x = suc i + k} (omega arith)
-        (past m k (suc i) (λ j h g. through j (omega arith) (omega arith))) in
-        (tt, subst (λ s. Leads n r.state cs m (suc k) s (bridge m (going n d p (suc (i + suc k))))) (sym (passed-on m i (through (suc i) (omega arith) (omega arith)))) rest)
+        subst (λ j. Leads n r.state cs m (suc k) (stand (going n d p (suc i)) (Protection d))
+        (bridge m (going n d p (suc j)))) {x = suc i + k} (omega arith)
+        (past m k (suc i) (λ j h g. through j (omega arith) (omega arith))) in (
+          tt,
+          subst (λ s. Leads n r.state cs m (suc k) s (bridge m (going n d p (suc (i + suc k)))))
+              (sym (passed-on m i (through (suc i) (omega arith) (omega arith)))) rest,
+        )
 
     -- whether the nodes between free spans pass through
-    pub between : (k i : ℕ) → IsAnyApplied n r → ((j : ℕ) → i ≤ j → j ≤ i + k → IsFree j) → (j : ℕ) → i < j → j ≤ i + k → r.state (going n d p j) ≡ PassThrough
+    pub between : (k i : ℕ) → IsAnyApplied n r → ((j : ℕ) → i ≤ j → j ≤ i + k → IsFree j) → (j : ℕ) → i < j → j ≤ i + k
+        → r.state (going n d p j) ≡ PassThrough
     between k i any free j h g =
         let before : suc (j - 1) ≡ j = omega arith in
         ap (λ x. r.state (going n d p x)) (sym before)
-        ∙ state-between n r some d p (j - 1) any (ap (on n r some d p) before ∙ free j (omega arith) g) (free (j - 1) (omega arith) (omega arith))
+        ∙ state-between n r some d p (j - 1) any (ap (on n r some d p) before ∙ free j (omega arith) g)
+        (free (j - 1) (omega arith) (omega arith))
 
     -- such are the nodes between free spans, where some span is applied
     pub passing : (m k i : ℕ) → IsAnyApplied n r → ((j : ℕ) → i ≤ j → j ≤ i + k → IsFree j)
@@ -94,7 +103,8 @@ module _ (n : ℕ) (r : Resting n) (cs : List Provisioned) where
     pub arrives : (m i : ℕ) → IsFree i → taking m (going n d p (suc i)) ≡ stand (going n d p (suc i)) (Working (opposite d))
     arrives m i free =
         let q = going n d p (suc i) in
-        ap (stand q) (open-stands n cs q (r.state q) (opposite d) m (settled-open n r (opposite d) q (ap r.applied (way-behind n some d p i) ∙ free)))
+        ap (stand q) (open-stands n cs q (r.state q) (opposite d) m
+        (settled-open n r (opposite d) q (ap r.applied (way-behind n some d p i) ∙ free)))
 
     -- and it was sent by the node behind
     pub sent-behind : (m i : ℕ) → back_from n r.state cs m (going n d p (suc i)) (Working (opposite d)) ≡ sending m (going n d p i)
@@ -103,21 +113,28 @@ module _ (n : ℕ) (r : Resting n) (cs : List Provisioned) where
         ∙ ap (λ e. stand (going n d p i) (working_in n cs (going n d p i) (r.state (going n d p i)) e m)) (opposite_twice d)
 
     -- a working slot from behind, over a free span
-    pub over_free : (m i k : ℕ) (z : Stand) → IsFree i → Leads n r.state cs m k (sending m (going n d p i)) z → Leads n r.state cs m (suc k) (taking m (going n d p (suc i))) z
+    pub over_free : (m i k : ℕ) (z : Stand) → IsFree i → Leads n r.state cs m k (sending m (going n d p i)) z
+        → Leads n r.state cs m (suc k) (taking m (going n d p (suc i))) z
     over_free m i k z free rest =
-        subst (λ s. Leads n r.state cs m (suc k) s z) (sym (arrives m i free)) (tt, subst (λ s. Leads n r.state cs m k s z) (sym (sent-behind m i)) rest)
+        subst (λ s. Leads n r.state cs m (suc k) s z) (sym (arrives m i free))
+        (tt, subst (λ s. Leads n r.state cs m k s z) (sym (sent-behind m i)) rest)
 
     module _ (index : ℕ) (c : Provisioned) (near distant : End) (seen : Seen n cs index c d p near distant) where
       -- between its ends a circuit goes through
       pub through : (i : ℕ) → 0 < i → i < (arc_length n c) → sending c.slot.0 (going n d p i) ≡ taking c.slot.0 (going n d p i)
-      through i h g = ap (stand (going n d p i)) (leaves-on n cs (going n d p i) (r.state (going n d p i)) index c d c.slot.0 (seen.on_arc i g) (seen.passes_by i h g))
+      through i h g =
+          ap (stand (going n d p i)) (leaves-on n cs (going n d p i) (r.state (going n d p i)) index c d c.slot.0 (seen.on_arc i g)
+          (seen.passes_by i h g))
 
       abbrev pub own : Stand
       own = stand (going n d p 0) (port index near)
 
       -- over free spans back to the circuit's end
-      pub home : (k : ℕ) (y : Side) → k < (arc_length n c) → ((j : ℕ) → j < k → IsFree j) → is_open (r.state (going n d p k)) y ≡ true → Leads n r.state cs c.slot.0 k (sending c.slot.0 (going n d p k)) own
-      home zero y h free o = ap (stand (going n d p 0)) (leaves-own n cs (going n d p 0) (r.state (going n d p 0)) index c near y d c.slot.0 (seen.on_arc 0 h) o seen.starts)
+      pub home : (k : ℕ) (y : Side) → k < (arc_length n c) → ((j : ℕ) → j < k → IsFree j) → is_open (r.state (going n d p k)) y ≡ true
+          → Leads n r.state cs c.slot.0 k (sending c.slot.0 (going n d p k)) own
+      home zero y h free o =
+          ap (stand (going n d p 0)) (leaves-own n cs (going n d p 0) (r.state (going n d p 0)) index c near y d c.slot.0
+          (seen.on_arc 0 h) o seen.starts)
       home (suc k) y h free o =
           subst (λ s. Leads n r.state cs c.slot.0 (suc k) s own) (sym (through (suc k) (omega arith) h))
           (over_free c.slot.0 k k own (free k (omega arith))
@@ -125,14 +142,17 @@ module _ (n : ℕ) (r : Resting n) (cs : List Provisioned) where
 
       -- over free spans of the arc back to an inner position
       pub along : (k i j : ℕ) (z : Stand) → 0 < i → i + k ≤ (arc_length n c) → ((x : ℕ) → i ≤ x → x < i + k → IsFree x)
-          → Leads n r.state cs c.slot.0 j (taking c.slot.0 (going n d p i)) z → Leads n r.state cs c.slot.0 (k + j) (taking c.slot.0 (going n d p (i + k))) z
+          → Leads n r.state cs c.slot.0 j (taking c.slot.0 (going n d p i)) z
+          → Leads n r.state cs c.slot.0 (k + j) (taking c.slot.0 (going n d p (i + k))) z
       along zero i j z h g free rest =
           subst (λ x. Leads n r.state cs c.slot.0 x (taking c.slot.0 (going n d p (i + 0))) z) {x = j} (omega arith)
           (subst (λ x. Leads n r.state cs c.slot.0 j (taking c.slot.0 (going n d p x)) z) {x = i} (omega arith) rest)
       along (suc k) i j z h g free rest =
           let inner = along k i j z h (omega arith) (λ x a b. free x a (omega arith)) rest in
-          let sent : Leads n r.state cs c.slot.0 (k + j) (sending c.slot.0 (going n d p (i + k))) z = subst (λ s. Leads n r.state cs c.slot.0 (k + j) s z) (sym (through (i + k) (omega arith) (omega arith))) inner in
-          let all : Leads n r.state cs c.slot.0 (suc (k + j)) (taking c.slot.0 (going n d p (suc (i + k)))) z = over_free c.slot.0 (i + k) (k + j) z (free (i + k) (omega arith) (omega arith)) sent in
+          let sent : Leads n r.state cs c.slot.0 (k + j) (sending c.slot.0 (going n d p (i + k))) z =
+          subst (λ s. Leads n r.state cs c.slot.0 (k + j) s z) (sym (through (i + k) (omega arith) (omega arith))) inner in
+          let all : Leads n r.state cs c.slot.0 (suc (k + j)) (taking c.slot.0 (going n d p (suc (i + k)))) z =
+          over_free c.slot.0 (i + k) (k + j) z (free (i + k) (omega arith) (omega arith)) sent in
           subst (λ x. Leads n r.state cs c.slot.0 x (taking c.slot.0 (going n d p (i + suc k))) z) {x = suc (k + j)} (omega arith)
           (subst (λ x. Leads n r.state cs c.slot.0 (suc (k + j)) (taking c.slot.0 (going n d p x)) z) {x = suc (i + k)} (omega arith) all)
 
@@ -140,10 +160,12 @@ module _ (n : ℕ) (r : Resting n) (cs : List Provisioned) where
       pub delivered : delivery n r.state cs c distant ≡ taking c.slot.0 (going n d p (arc_length n c))
       unfolding delivery
       delivered = ap (λ q. stand q (stands_in n cs q (r.state q) (inward distant) c.slot.0)) seen.distant_at
-          ∙ ap (λ s. stand (going n d p (arc_length n c)) (stands_in n cs (going n d p (arc_length n c)) (r.state (going n d p (arc_length n c))) s c.slot.0)) seen.distant_faces
+          ∙ ap (λ s. stand (going n d p (arc_length n c)) (stands_in n cs (going n d p (arc_length n c))
+          (r.state (going n d p (arc_length n c))) s c.slot.0)) seen.distant_faces
 
       -- the arc is free
-      pub unswitched : ((j : ℕ) → j < (arc_length n c) → IsFree j) → Leads n r.state cs c.slot.0 (arc_length n c) (delivery n r.state cs c distant) own
+      pub unswitched : ((j : ℕ) → j < (arc_length n c) → IsFree j)
+          → Leads n r.state cs c.slot.0 (arc_length n c) (delivery n r.state cs c distant) own
       unswitched free =
           let last = (arc_length n c) - 1 in
           let long = seen.long in
@@ -151,4 +173,5 @@ module _ (n : ℕ) (r : Resting n) (cs : List Provisioned) where
           let way_home = home last d (omega arith) (λ j h. free j (omega arith)) (settled-open n r d (going n d p last) at_last) in
           let one : suc last ≡ (arc_length n c) = omega arith in
           subst (λ s. Leads n r.state cs c.slot.0 (arc_length n c) s own) (sym delivered)
-          (subst (λ x. Leads n r.state cs c.slot.0 x (taking c.slot.0 (going n d p x)) own) one (over_free c.slot.0 last last own at_last way_home))
+          (subst (λ x. Leads n r.state cs c.slot.0 x (taking c.slot.0 (going n d p x)) own) one
+          (over_free c.slot.0 last last own at_last way_home))

@@ -1,5 +1,6 @@
 -- Each circuit of a ring, seen from its ends.
-use Rattle.std.proofs.Common.{◌≡◌, ℕ, ◌+◌, ◌-◌, ◌<◌, suc, Bool, true, false, Option, Some, None, List, [], ◌∷◌, refl, ap, sym, ◌∙◌, arith, inl, inr, get_or}
+use Rattle.std.proofs.Common.{◌≡◌, ℕ, ◌+◌, ◌-◌, ◌<◌, suc, Bool, true, false, Option, Some, None, List, [], ◌∷◌, refl, ap, sym, ◌∙◌, arith}
+use Rattle.std.proofs.Common.{inl, inr, get_or}
 use Rattle.std.specs.Prelude.{◌&&◌, ◌==◌, if◌then◌else◌, slice_get}
 use Rattle.std.proofs.lemmas.Bool.{and_parts, and_from, eq-eqb, eqb-true, ne_eqb, false_from_ne_true, cases_eq, cond-true, cond-false}
 use Rattle.std.proofs.Math.Nat.{mod-lt}
@@ -29,7 +30,8 @@ pub record IsFound (n s m i : ℕ) (cs : List Provisioned) (e : Row) : Type 0 wh
   pub on : is_on n s m circuit ≡ true
 
 found_by : (n s m i : ℕ) (x : Provisioned) (cs : List Provisioned) (e : Row) (b : Bool) → is_on n s m x ≡ b
-    → (if b then Some (entry i x) else circuit_from n s m (i + 1) cs) ≡ Some e → (circuit_from n s m (i + 1) cs ≡ Some e → IsFound n s m (i + 1) cs e) → IsFound n s m i (x ∷ cs) e
+    → (if b then Some (entry i x) else circuit_from n s m (i + 1) cs) ≡ Some e
+    → (circuit_from n s m (i + 1) cs ≡ Some e → IsFound n s m (i + 1) cs e) → IsFound n s m i (x ∷ cs) e
 found_by n s m i x cs e true t h rest =
     let same : e ≡ entry i x = cc in
     record { place = 0; circuit = x; row = same ∙ ap (λ k. entry k x) (omega arith); is = refl; on = t }
@@ -75,7 +77,8 @@ module _ (n : ℕ) (cs : List Provisioned) (ring : AreOnRing n cs) (index : ℕ)
 
   holds-at : (i : ℕ) → i < (arc_length n c) → holds n c (east i) ≡ true
   unfolding arc_length east
-  holds-at i h = span_holds n (east i) (arc_of n c) (going-inside n some East c.from.0 i) (let e = steps i (omega (arith, arc-short)) in omega arith)
+  holds-at i h =
+      span_holds n (east i) (arc_of n c) (going-inside n some East c.from.0 i) (let e = steps i (omega (arith, arc-short)) in omega arith)
 
   on_span : (i : ℕ) → i < (arc_length n c) → circuit_from n (east i) c.slot.0 0 cs ≡ Some (entry index c)
   unfolding east
@@ -85,7 +88,9 @@ module _ (n : ℕ) (cs : List Provisioned) (ring : AreOnRing n cs) (index : ℕ)
       (λ k before. false_from_ne_true (is_on n (east i) c.slot.0 (get_or cs k c)) (λ t.
       let x = get_or cs k c in
       let both = and_parts (x.slot.0 == c.slot.0) (holds n x (east i)) t in
-      let same = ring.apart index k (east i) c x is (slice_get-get_or cs k c (omega arith)) (holds-at i h) both.1 (same_slot c.slot x.slot (sym (eqb-true x.slot.0 c.slot.0 both.0))) in
+      let same =
+      ring.apart index k (east i) c x is (slice_get-get_or cs k c (omega arith)) (holds-at i h) both.1
+      (same_slot c.slot x.slot (sym (eqb-true x.slot.0 c.slot.0 both.0))) in
       omega arith))
       ∙ ap (λ k. Some (entry k c)) (omega arith)
 
@@ -104,15 +109,23 @@ module _ (n : ℕ) (cs : List Provisioned) (ring : AreOnRing n cs) (index : ℕ)
   arc-end = last
 
   pub arc-long : 0 < (arc_length n c)
-  arc-long = elim (cases_eq 0 (arc_length n c)) [ inl none ↦ absurd (ring.two index c is (sym start ∙ ap east none ∙ sym last)) | inr more ↦ omega arith ]
+  arc-long = elim (cases_eq 0 (arc_length n c)) [
+    | inl none ↦ absurd
+        (ring.two index c is (sym start ∙ ap east none ∙ sym last))
+    | inr more ↦ omega arith
+  ]
 
   end-last : end_at c (east (arc_length n c)) ≡ Some B
-  end-last = cond-false (c.from.0 == east (arc_length n c)) _ _ (not_first (arc_length n c) arc-long arc-short) ∙ cond-true (port_at c B == east (arc_length n c)) _ _ (eq-eqb (port_at c B) (east (arc_length n c)) last)
+  end-last =
+      cond-false (c.from.0 == east (arc_length n c)) _ _ (not_first (arc_length n c) arc-long arc-short)
+      ∙ cond-true (port_at c B == east (arc_length n c)) _ _ (eq-eqb (port_at c B) (east (arc_length n c)) last)
 
   end-none : (i : ℕ) → 0 < i → i < (arc_length n c) → end_at c (east i) ≡ None
   end-none i h g =
       cond-false (c.from.0 == east i) _ _ (not_first i h (omega (arith, arc-short)))
-      ∙ cond-false (port_at c B == east i) _ _ (ne_eqb (port_at c B) (east i) (λ e. let z : (arc_length n c) ≡ i = apart (arc_length n c) i arc-short (omega (arith, arc-short)) (sym last ∙ e) in absurd (omega arith)))
+      ∙ cond-false (port_at c B == east i) _ _ (ne_eqb (port_at c B) (east i)
+      (λ e. let z : (arc_length n c) ≡ i = apart (arc_length n c) i arc-short (omega (arith, arc-short)) (sym last ∙ e) in absurd
+      (omega arith)))
 
   pub seen-east : Seen n cs index c East c.from.0 A B
   unfolding east
@@ -140,10 +153,15 @@ module _ (n : ℕ) (cs : List Provisioned) (ring : AreOnRing n cs) (index : ℕ)
   seen-west = record {
     long = arc-long;
     short = arc-short;
-    on_arc = λ i h. ap (λ s. circuit_from n s c.slot.0 0 cs) (west_way i ((arc_length n c) - suc i) (omega arith)) ∙ on_span ((arc_length n c) - suc i) (omega arith);
+    on_arc =
+        λ i h. ap (λ s. circuit_from n s c.slot.0 0 cs) (west_way i ((arc_length n c) - suc i) (omega arith))
+        ∙ on_span ((arc_length n c) - suc i) (omega arith);
     starts = ap (end_at c) (west 0 (arc_length n c) (omega arith)) ∙ end-last;
-    passes_by = λ i h g. ap (end_at c) (west i ((arc_length n c) - i) (omega arith)) ∙ end-none ((arc_length n c) - i) (omega arith) (omega arith);
-    both = λ f. and_comm (f (port_at c A)) (f (port_at c B)) ∙ ap (λ q. f q && f (port_at c A)) (last ∙ sym (west 0 (arc_length n c) (omega arith)))
+    passes_by =
+        λ i h g. ap (end_at c) (west i ((arc_length n c) - i) (omega arith)) ∙ end-none ((arc_length n c) - i) (omega arith) (omega arith);
+    both =
+        λ f. and_comm (f (port_at c A)) (f (port_at c B)) ∙ ap (λ q. f q && f (port_at c A))
+        (last ∙ sym (west 0 (arc_length n c) (omega arith)))
         ∙ ap (λ q. f (going n West (east (arc_length n c)) 0) && f q) (sym start ∙ sym (west (arc_length n c) 0 (omega arith)));
     distant_at = sym start ∙ sym (west (arc_length n c) 0 (omega arith));
     distant_faces = refl;

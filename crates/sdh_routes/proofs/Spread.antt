@@ -13,13 +13,16 @@ use Rattle.sdh_routes.proofs.Views.{AreOnRing, on-ring}
 use Rattle.sdh_routes.specs.Rounds.{Spreads}
 use Rattle.sdh_routes.specs.Walks.{IsOver, Leads, Stand, back_from, stand}
 
-module _ (n : ℕ) (r : Resting n) (cs : List Provisioned) (m : ℕ) (steady : ℕ → ℕ → Origin → Type 0) (first w : ℕ) (s : Spreads n r.state cs m steady first w) where
+module _ (n : ℕ) (r : Resting n) (cs : List Provisioned) (m : ℕ) (steady : ℕ → ℕ → Origin → Type 0) (first w : ℕ)
+    (s : Spreads n r.state cs m steady first w) where
   along_walk : (k : ℕ) (x y : Stand) → x.at < n → Leads n r.state cs m k x y → IsOver y.origin → steady (first + w * k) x.at x.origin
   along_walk zero x y i l o =
-      s.later first (first + w * 0) x.at x.origin (omega arith) (subst (λ (z : Stand). steady first z.at z.origin) (sym l) (s.starts y.at y.origin (subst (λ (z : Stand). z.at < n) l i) o))
+      s.later first (first + w * 0) x.at x.origin (omega arith)
+      (subst (λ (z : Stand). steady first z.at z.origin) (sym l) (s.starts y.at y.origin (subst (λ (z : Stand). z.at < n) l i) o))
   along_walk (suc k) x y i l o =
       let b = back_from n r.state cs m x.at x.origin in
-      s.later (first + w * k + w) (first + w * suc k) x.at x.origin (omega arith) (s.over_span (first + w * k) x.at x.origin i l.0 (omega arith) (along_walk k b y (back-inside n r cs m x.at x.origin i) l.1 o))
+      s.later (first + w * k + w) (first + w * suc k) x.at x.origin (omega arith)
+      (s.over_span (first + w * k) x.at x.origin i l.0 (omega arith) (along_walk k b y (back-inside n r cs m x.at x.origin i) l.1 o))
 
   times : (a b : ℕ) → a ≤ b → w * a ≤ w * b
   times a b h = grind arith

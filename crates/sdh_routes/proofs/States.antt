@@ -16,10 +16,12 @@ pub record Resting (n : ℕ) : Type 0 where
   pub state : ℕ → NodeState
   -- the first position, on a side of one, whose next span there is applied
   pub far : Side → ℕ → Option Pos
-  pub far_first : (d : Side) (q k : ℕ) → q < n → 0 < k → k < n → ((j : ℕ) → j < k → applied (way n d q j) ≡ false) → applied (way n d q k) ≡ true → far d q ≡ far_at (going n d q k)
+  pub far_first : (d : Side) (q k : ℕ) → q < n → 0 < k → k < n → ((j : ℕ) → j < k → applied (way n d q j) ≡ false)
+      → applied (way n d q k) ≡ true → far d q ≡ far_at (going n d q k)
   -- the state of a node whose spans are both free
   pub rest : ℕ → NodeState
-  pub by_sides : (d : Side) (q : ℕ) → state q ≡ side_state d (applied (span_at n q d)) (applied (span_at n q (opposite d))) (far d q) (far (opposite d) q) (rest q)
+  pub by_sides : (d : Side) (q : ℕ) → state q ≡ side_state d (applied (span_at n q d)) (applied (span_at n q (opposite d))) (far d q)
+      (far (opposite d) q) (rest q)
   pub passing : (q s : ℕ) → s < n → applied s ≡ true → rest q ≡ PassThrough
   pub either : (q : ℕ) → (rest q ≡ PassThrough) ⊎ (rest q ≡ Idle)
   -- a span whose two nodes don't pass through
@@ -35,7 +37,8 @@ pub record IsAnyApplied (n : ℕ) (r : Resting n) : Type 0 where
 
 module _ (n : ℕ) (r : Resting n) where
   -- the state of q by its spans, where it is known whether they are applied
-  pub state-by : (d : Side) (q : ℕ) (a b : Bool) → r.applied (span_at n q d) ≡ a → r.applied (span_at n q (opposite d)) ≡ b → r.state q ≡ side_state d a b (r.far d q) (r.far (opposite d) q) (r.rest q)
+  pub state-by : (d : Side) (q : ℕ) (a b : Bool) → r.applied (span_at n q d) ≡ a → r.applied (span_at n q (opposite d)) ≡ b
+      → r.state q ≡ side_state d a b (r.far d q) (r.far (opposite d) q) (r.rest q)
   state-by d q a b e h = r.by_sides d q ∙ ap₂ (λ a b. side_state d a b (r.far d q) (r.far (opposite d) q) (r.rest q)) e h
 
   module _ (some : 0 < n) (d : Side) (p : ℕ) where
@@ -50,17 +53,20 @@ module _ (n : ℕ) (r : Resting n) where
     way_from i j = ap (λ q. span_at n q d) (going-add n some d p i j)
 
     -- the first applied span ahead
-    pub far-ahead : (k i : ℕ) → 0 < k → k < n → ((j : ℕ) → j < k → on (i + j) ≡ false) → on (i + k) ≡ true → r.far d (going n d p i) ≡ far_at (going n d p (i + k))
+    pub far-ahead : (k i : ℕ) → 0 < k → k < n → ((j : ℕ) → j < k → on (i + j) ≡ false) → on (i + k) ≡ true
+        → r.far d (going n d p i) ≡ far_at (going n d p (i + k))
     far-ahead k i some_way h free hit =
         r.far_first d (going n d p i) k (going-inside n some d p i) some_way h
         (λ j g. ap r.applied (way_from i j) ∙ free j g) (ap r.applied (way_from i k) ∙ hit)
         ∙ ap far_at (going-add n some d p i k)
 
     -- the first applied span behind
-    pub far-behind : (k i : ℕ) → 0 < k → k < n → ((j : ℕ) → i < j → j ≤ i + k → on j ≡ false) → on i ≡ true → r.far (opposite d) (going n d p (suc (i + k))) ≡ far_at (going n d p (suc i))
+    pub far-behind : (k i : ℕ) → 0 < k → k < n → ((j : ℕ) → i < j → j ≤ i + k → on j ≡ false) → on i ≡ true
+        → r.far (opposite d) (going n d p (suc (i + k))) ≡ far_at (going n d p (suc i))
     far-behind k i some_way h free hit =
         r.far_first (opposite d) (going n d p (suc (i + k))) k (going-inside n some d p (suc (i + k))) some_way h
-        (λ j g. ap r.applied (mirror-way n some d p j (i + k - j) (suc (i + k)) (omega arith)) ∙ free (i + k - j) (omega arith) (omega arith))
+        (λ j g. ap r.applied (mirror-way n some d p j (i + k - j) (suc (i + k)) (omega arith))
+        ∙ free (i + k - j) (omega arith) (omega arith))
         (ap r.applied (mirror-way n some d p k i (suc (i + k)) (omega arith)) ∙ hit)
         ∙ ap far_at (mirror n some d p k (suc i) (suc (i + k)) (omega arith))
 
@@ -73,12 +79,14 @@ module _ (n : ℕ) (r : Resting n) where
     state-isolated i e h = state-at i true true e h
 
     -- the span behind is applied, k spans ahead are free, and the next is applied
-    pub state-behind : (i k : ℕ) → 0 < k → k < n → on i ≡ true → ((j : ℕ) → j < k → on (suc i + j) ≡ false) → on (suc i + k) ≡ true → r.state (going n d p (suc i)) ≡ Switch (opposite d) (far_at (going n d p (suc i + k)))
+    pub state-behind : (i k : ℕ) → 0 < k → k < n → on i ≡ true → ((j : ℕ) → j < k → on (suc i + j) ≡ false) → on (suc i + k) ≡ true
+        → r.state (going n d p (suc i)) ≡ Switch (opposite d) (far_at (going n d p (suc i + k)))
     state-behind i k hk hn e free hit =
         state-at i false true (ap on (omega arith) ∙ free 0 hk) e ∙ ap (Switch (opposite d)) (far-ahead k (suc i) hk hn free hit)
 
     -- the span ahead is applied, k spans behind are free, and the one before them is applied
-    pub state-ahead : (i k : ℕ) → 0 < k → k < n → on i ≡ true → ((j : ℕ) → i < j → j ≤ i + k → on j ≡ false) → on (suc (i + k)) ≡ true → r.state (going n d p (suc (i + k))) ≡ Switch d (far_at (going n d p (suc i)))
+    pub state-ahead : (i k : ℕ) → 0 < k → k < n → on i ≡ true → ((j : ℕ) → i < j → j ≤ i + k → on j ≡ false) → on (suc (i + k)) ≡ true
+        → r.state (going n d p (suc (i + k))) ≡ Switch d (far_at (going n d p (suc i)))
     state-ahead i k hk hn e free hit =
         state-at (i + k) true false hit (free (i + k) (omega arith) (omega arith)) ∙ ap (Switch d) (far-behind k i hk hn free e)
 

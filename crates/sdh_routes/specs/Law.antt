@@ -20,9 +20,11 @@ abbrev pub IsSilent : ℕ → (ℕ → NodeState) → List Provisioned → ℕ �
 IsSilent n state cs m x = (k : ℕ) × (q : ℕ) × (k < n) × Leads n state cs m k x (stand q Ais)
 
 -- a port of a joined circuit gets what the circuit's other port sends, over so many spans; every other port gets AIS
-pub record IsRouted (n : ℕ) (applied : ℕ → Bool) (state : ℕ → NodeState) (cs : List Provisioned) (index : ℕ) (c : Provisioned) (e : End) : Type 0 where
+pub record IsRouted (n : ℕ) (applied : ℕ → Bool) (state : ℕ → NodeState) (cs : List Provisioned) (index : ℕ) (c : Provisioned)
+    (e : End) : Type 0 where
   pub joined : is_joined n applied (arc_of n c) ≡ true
-      → Leads n state cs c.slot.0 (hops n applied (arc_of n c)) (delivery n state cs c e) (stand (port_at c (other_end e)) (port index (other_end e)))
+      → Leads n state cs c.slot.0 (hops n applied (arc_of n c)) (delivery n state cs c e)
+      (stand (port_at c (other_end e)) (port index (other_end e)))
   pub parted : is_joined n applied (arc_of n c) ≡ false → IsSilent n state cs c.slot.0 (delivery n state cs c e)
 
 -- the walk of a joined circuit's port leads over the spans of the route, from port B in the opposite order
@@ -59,7 +61,8 @@ IsFree n applied p (Working d) = applied (span_at n p d) ≡ false
 IsFree n applied p (Protection d) = applied (span_at n p d) ≡ false
 
 -- no connection of the node at p in slot m leads over an applied span
-pub record ConnectsFree (n : ℕ) (applied : ℕ → Bool) (state : ℕ → NodeState) (cs : List Provisioned) (p : ℕ) (d : Side) (m : ℕ) : Type 0 where
+pub record ConnectsFree (n : ℕ) (applied : ℕ → Bool) (state : ℕ → NodeState) (cs : List Provisioned) (p : ℕ) (d : Side)
+    (m : ℕ) : Type 0 where
   pub stands : IsFree n applied p (stands_in n cs p (state p) d m)
   pub working : IsFree n applied p (working_in n cs p (state p) d m)
   pub protection : IsFree n applied p (protection_in n cs p (state p) d m)

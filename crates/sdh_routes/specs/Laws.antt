@@ -23,7 +23,8 @@ use Rattle.sdh_routes.specs.Rounds.{Spreads}
 -- AIS over fewer spans than the ring has
 abbrev pub EachPortIsRouted : Type 0
 EachPortIsRouted = (rs : List ℕ) (slots : ℕ) (cs : List Provisioned) → AreCircuits (length rs) slots cs
-    → (index : ℕ) (c : Provisioned) → slice_get cs index ≡ Some c → (e : End) → IsRouted (length rs) (is_applied rs) (settled rs) cs index c e
+    → (index : ℕ) (c : Provisioned) → slice_get cs index ≡ Some c → (e : End)
+    → IsRouted (length rs) (is_applied rs) (settled rs) cs index c e
 
 -- the spans over which a port of a joined circuit is led are those of the route, in order; for port B in the opposite order
 abbrev pub EachWalkFollowsTheRoute : Type 0
@@ -34,7 +35,8 @@ EachWalkFollowsTheRoute = (rs : List ℕ) (slots : ℕ) (cs : List Provisioned) 
 abbrev pub NoPortMeetsAStranger : Type 0
 NoPortMeetsAStranger = (rs : List ℕ) (slots : ℕ) (cs : List Provisioned) → AreCircuits (length rs) slots cs
     → (index : ℕ) (c : Provisioned) → slice_get cs index ≡ Some c → (e : End) (k q i : ℕ) (x : End)
-    → Leads (length rs) (settled rs) cs c.slot.0 k (delivery (length rs) (settled rs) cs c e) (stand q (port i x)) → (i ≡ index) × (x ≡ other_end e)
+    → Leads (length rs) (settled rs) cs c.slot.0 k (delivery (length rs) (settled rs) cs c e) (stand q (port i x))
+    → (i ≡ index) × (x ≡ other_end e)
 
 -- a walk has one end and one length, whatever the states of the nodes
 abbrev pub EachWalkHasOneEnd : Type 0
@@ -69,7 +71,8 @@ RoutesAreShort = (rs : List ℕ) (slots : ℕ) (cs : List Provisioned) → AreCi
 
 -- what a node delivers or sends on comes over no applied span, so that no walk from there goes over one
 abbrev pub NoWayCrossesAnAppliedSpan : Type 0
-NoWayCrossesAnAppliedSpan = (rs : List ℕ) (cs : List Provisioned) (p : ℕ) (d : Side) (m : ℕ) → ConnectsFree (length rs) (is_applied rs) (settled rs) cs p d m
+NoWayCrossesAnAppliedSpan =
+    (rs : List ℕ) (cs : List Provisioned) (p : ℕ) (d : Side) (m : ℕ) → ConnectsFree (length rs) (is_applied rs) (settled rs) cs p d m
 
 -- what takes w rounds a span to become steady is steady everywhere after w (3n + 1) rounds
 abbrev pub SteadinessSpreads : Type 0

@@ -18,7 +18,14 @@ no_customer = record { text = []; trace = []; offset = 0 }
 
 -- a circuit in slot 1
 abbrev pub circuit : ℕ → ℕ → Provisioned
-circuit from to = record { name = []; from = position_of from; to = position_of to; slot = record { 0 = 1 }; a = no_customer; b = no_customer }
+circuit from to = record {
+  name = [];
+  from = position_of from;
+  to = position_of to;
+  slot = record { 0 = 1 };
+  a = no_customer;
+  b = no_customer;
+}
 
 -- where a walk stands after k spans
 abbrev pub after : ℕ → List ℕ → List Provisioned → ℕ → Stand → Stand

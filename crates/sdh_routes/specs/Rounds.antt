@@ -7,7 +7,8 @@ use Rattle.sdh_routes.specs.Walks.{IsArrival, IsOver, back_from}
 
 -- `steady t p o`: from round t on what the origin o brings at p is steady. What ports send is steady from round `first`
 -- on, and over a span it takes w rounds more
-pub record Spreads (n : ℕ) (state : ℕ → NodeState) (cs : List Provisioned) (m : ℕ) (steady : ℕ → ℕ → Origin → Type 0) (first w : ℕ) : Type 0 where
+pub record Spreads (n : ℕ) (state : ℕ → NodeState) (cs : List Provisioned) (m : ℕ) (steady : ℕ → ℕ → Origin → Type 0)
+    (first w : ℕ) : Type 0 where
   pub starts : (p : ℕ) (o : Origin) → p < n → IsOver o → steady first p o
   pub later : (t u p : ℕ) (o : Origin) → t ≤ u → steady t p o → steady u p o
   pub over_span : (t p : ℕ) (o : Origin) → p < n → IsArrival o → first ≤ t

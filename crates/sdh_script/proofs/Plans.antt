@@ -46,21 +46,31 @@ circuits_fit plan fits = circuits_are (provisioning_of plan) plan.nodes fits.cir
 
 module _ (plan : Planned) (f left : Fibres) (reports : List Report) (end : Status) (fits : IsPlanned plan) (honest : IsHonest f) where
   owed_comes : ReportsAreOwed → Comes adm_account plan f reports end left → OwesAll plan reports end
-  owed_comes law (inl x) = subst (λ rs. OwesAll plan rs end) (sym x.1) (owed_none (ring_of plan) plan.limit [] 0 (scenes [] plan.steps) end x.0)
-  owed_comes law (inr x) = law plan.settings plan.nodes (provisioning_of plan) f (may_start plan f fits honest) (circuits_fit plan fits) plan.limit start plan.steps fits.steps_fit reports end x.0 x.2
+  owed_comes law (inl x) =
+      subst (λ rs. OwesAll plan rs end) (sym x.1) (owed_none (ring_of plan) plan.limit [] 0 (scenes [] plan.steps) end x.0)
+  owed_comes law (inr x) =
+      law plan.settings plan.nodes (provisioning_of plan) f (may_start plan f fits honest)
+      (circuits_fit plan fits) plan.limit start plan.steps fits.steps_fit reports end x.0 x.2
 
   healthy_comes : HealthyScripts → Comes adm_account plan f reports end left → AllSettle plan.steps → ShowsHealth plan reports end
-  healthy_comes law (inl x) all = subst (λ rs. ShowsHealth plan rs end) (sym x.1) (record { show = tt; enough = λ high. inr x.0; short = λ low. (refl, inr x.0) })
-  healthy_comes law (inr x) all = law plan.settings plan.nodes (provisioning_of plan) f (may_start plan f fits honest) (circuits_fit plan fits) plan.limit plan.steps all fits.steps_from_1 reports end x.0 x.2
+  healthy_comes law (inl x) all =
+      subst (λ rs. ShowsHealth plan rs end) (sym x.1) (record { show = tt; enough = λ high. inr x.0; short = λ low. (refl, inr x.0) })
+  healthy_comes law (inr x) all =
+      law plan.settings plan.nodes (provisioning_of plan) f (may_start plan f fits honest)
+      (circuits_fit plan fits) plan.limit plan.steps all fits.steps_from_1 reports end x.0 x.2
 
   course_comes : CoursesAreTold → Comes adm_account plan f reports end left → RunsWell plan f reports end left
-  course_comes law (inl x) = none_ran (world_of plan f) (ring_of plan) plan.limit plan.steps reports end left x.1 x.0 (ap (λ (g : Fibres). g.sent) x.2)
+  course_comes law (inl x) =
+      none_ran (world_of plan f) (ring_of plan) plan.limit plan.steps reports end left x.1 x.0 (ap (λ (g : Fibres). g.sent) x.2)
   course_comes law (inr x) =
-      subst (RunsWell plan f reports end) x.1 (law plan.settings plan.nodes (provisioning_of plan) f (may_start plan f fits honest) (circuits_fit plan fits) plan.limit start plan.steps fits.steps_fit reports end x.0 x.2)
+      subst (RunsWell plan f reports end) x.1 (law plan.settings plan.nodes (provisioning_of plan) f (may_start plan f fits honest)
+      (circuits_fit plan fits) plan.limit start plan.steps fits.steps_fit reports end x.0 x.2)
 
 -- ---- all that is told
 
-pub tells : ReportsAreOwed → ScriptsSettle → HealthyScripts → CoursesAreTold → (plan : Planned) (listing : Listing) (f left : Fibres) (text : List ℕ) (end : Status) → IsPlanned plan → (f.honest ≡ true → IsHonest f)
+pub tells : ReportsAreOwed → ScriptsSettle → HealthyScripts → CoursesAreTold
+    → (plan : Planned) (listing : Listing) (f left : Fibres) (text : List ℕ) (end : Status) → IsPlanned plan
+    → (f.honest ≡ true → IsHonest f)
     → Came adm_walk plan.limit (listed listing) plan.steps (world_of plan f) f text end left → Tells plan listing f text end left
 tells owed settles healthy courses plan listing f left text end fits honest x =
     tells_all adm_account plan f left end (listed listing) text keeps_rounds adm_new fits
@@ -69,5 +79,6 @@ tells owed settles healthy courses plan listing f left text end fits honest x =
       healthy = λ all. healthy_comes plan f left reports end fits (honest h) healthy came all;
       course = course_comes plan f left reports end fits (honest h) courses came;
     })
-    (λ h large reports last ran. settles plan.settings plan.nodes (provisioning_of plan) f (may_start plan f fits (honest h)) (circuits_fit plan fits) plan.limit start plan.steps fits.steps_fit large reports end last ran)
+    (λ h large reports last ran. settles plan.settings plan.nodes (provisioning_of plan) f (may_start plan f fits (honest h))
+    (circuits_fit plan fits) plan.limit start plan.steps fits.steps_fit large reports end last ran)
     x

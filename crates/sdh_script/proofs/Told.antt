@@ -20,7 +20,8 @@ use Rattle.sdh_owed.specs.Reports.{told_at, port_told, ports_from, ports_told}
 pub nodes_none : (r : HeldRing) → flat_map node_line (cells (told_at r) 0) ≡ []
 nodes_none r = ap (flat_map node_line) (cells-zero (told_at r))
 
-pub nodes_more : (r : HeldRing) (i : ℕ) → flat_map node_line (cells (told_at r) (i + 1)) ≡ flat_map node_line (cells (told_at r) i) ++ node_line (told_at r i)
+pub nodes_more : (r : HeldRing) (i : ℕ) → flat_map node_line (cells (told_at r) (i + 1))
+    ≡ flat_map node_line (cells (told_at r) i) ++ node_line (told_at r i)
 nodes_more r i =
     ap (flat_map node_line) (cells-more (told_at r) i)
     ∙ flat_map-append node_line (cells (told_at r) i) (told_at r i ∷ [])
@@ -39,11 +40,14 @@ there_is (c ∷ cs) zero lt = (c, refl)
 there_is (c ∷ cs) (suc i) lt = there_is cs i (omega arith)
 
 pub chunks_more : (r : HeldRing) (cs : List Provisioned) (i : ℕ) → i < length cs
-    → chunks_in (ports_from r 0 (take (i + 1) cs)) ≡ chunks_in (ports_from r 0 (take i cs)) + (chunks_of (outlet_at r (record { circuit = i; end = A })).delivered + chunks_of (outlet_at r (record { circuit = i; end = B })).delivered)
+    → chunks_in (ports_from r 0 (take (i + 1) cs)) ≡ chunks_in (ports_from r 0 (take i cs)) +
+    (chunks_of (outlet_at r (record { circuit = i; end = A })).delivered + chunks_of
+    (outlet_at r (record { circuit = i; end = B })).delivered)
 chunks_more r cs i lt =
     let here = there_is cs i lt in
     let c = here.0 in
-    ap chunks_in (ports_next (port_told r) cs i c lt here.1) ∙ chunks-append (ports_from r 0 (take i cs)) (port_told r i c A ∷ port_told r i c B ∷ []) ∙ omega arith
+    ap chunks_in (ports_next (port_told r) cs i c lt here.1)
+    ∙ chunks-append (ports_from r 0 (take i cs)) (port_told r i c A ∷ port_told r i c B ∷ []) ∙ omega arith
 
 one_each : (d : Delivered) → chunks_of d + silences_of d ≡ 1
 one_each Ais = refl
@@ -61,15 +65,20 @@ the_others r = counts_all (ports_told r) ∙ length-ports (port_told r) 0 r.circ
 
 port_place : (r : HeldRing) (index : ℕ) (cs : List Provisioned) (i : ℕ) (e : End) (d : PortLine) → i < length cs
     → (slice_index_or (ports_from r index cs) (2 * i + place_of_end e) d).outlet ≡ outlet_at r (record { circuit = index + i; end = e })
-port_place r index (c ∷ cs) zero A d lt = ap (λ k. outlet_at r (record { circuit = k; end = A })) (let e : index ≡ index + 0 = omega arith in e)
-port_place r index (c ∷ cs) zero B d lt = ap (λ k. outlet_at r (record { circuit = k; end = B })) (let e : index ≡ index + 0 = omega arith in e)
+port_place r index (c ∷ cs) zero A d lt =
+    ap (λ k. outlet_at r (record { circuit = k; end = A })) (let e : index ≡ index + 0 = omega arith in e)
+port_place r index (c ∷ cs) zero B d lt =
+    ap (λ k. outlet_at r (record { circuit = k; end = B })) (let e : index ≡ index + 0 = omega arith in e)
 port_place r index (c ∷ cs) (suc i) e d lt =
     let ports = ports_from r index (c ∷ cs) in
     let there : 2 * suc i + place_of_end e ≡ suc (suc (2 * i + place_of_end e)) = omega arith in
-    ap (λ k. (slice_index_or ports k d).outlet) there ∙ port_place r (index + 1) cs i e d (omega arith) ∙ ap (λ k. outlet_at r (record { circuit = k; end = e })) (omega arith)
+    ap (λ k. (slice_index_or ports k d).outlet) there ∙ port_place r (index + 1) cs i e d (omega arith)
+    ∙ ap (λ k. outlet_at r (record { circuit = k; end = e })) (omega arith)
 port_place r index [] i e d lt = absurd (omega arith)
 
-pub delivered_is : (r : HeldRing) (port : PortId) → port.circuit < length r.circuits.circuits → delivered_in (ports_told r) port ≡ (outlet_at r port).delivered
+pub delivered_is : (r : HeldRing) (port : PortId) → port.circuit < length r.circuits.circuits
+    → delivered_in (ports_told r) port ≡ (outlet_at r port).delivered
 delivered_is r port lt =
     let same : 0 + port.circuit ≡ port.circuit = omega arith in
-    ap (λ o. o.delivered) (port_place r 0 r.circuits.circuits port.circuit port.end _ lt) ∙ ap (λ k. (outlet_at r (record { circuit = k; end = port.end })).delivered) same
+    ap (λ o. o.delivered) (port_place r 0 r.circuits.circuits port.circuit port.end _ lt)
+    ∙ ap (λ k. (outlet_at r (record { circuit = k; end = port.end })).delivered) same

@@ -5,13 +5,15 @@ use Rattle.std.proofs.Math.ListN.{set}
 use Rattle.std.proofs.lemmas.Option.{same_Some}
 
 -- what holds of the first i elements and of a new one holds of the first i + 1
-pub set_upto : {X : Type 0} (P : ℕ → X → Type 0) (xs : List X) (i : ℕ) (y : X) → i < length xs → P i y → ((j : ℕ) (x : X) → j < i → slice_get xs j ≡ Some x → P j x)
+pub set_upto : {X : Type 0} (P : ℕ → X → Type 0) (xs : List X) (i : ℕ) (y : X) → i < length xs → P i y
+    → ((j : ℕ) (x : X) → j < i → slice_get xs j ≡ Some x → P j x)
     → (j : ℕ) (x : X) → j < i + 1 → slice_get (set xs i y) j ≡ Some x → P j x
 set_upto P [] i y lt here before j x lj get = absurd (omega arith)
 set_upto P (z ∷ xs) zero y lt here before zero x lj get = subst (P zero) (same_Some y x get) here
 set_upto P (z ∷ xs) zero y lt here before (suc j) x lj get = absurd (omega arith)
 set_upto P (z ∷ xs) (suc i) y lt here before zero x lj get = before zero x (omega arith) get
-set_upto P (z ∷ xs) (suc i) y lt here before (suc j) x lj get = set_upto (λ k. P (suc k)) xs i y (omega arith) here (λ k v lk there. before (suc k) v (omega arith) there) j x (omega arith) get
+set_upto P (z ∷ xs) (suc i) y lt here before (suc j) x lj get =
+    set_upto (λ k. P (suc k)) xs i y (omega arith) here (λ k v lk there. before (suc k) v (omega arith) there) j x (omega arith) get
 
 -- those behind it stay
 pub set_behind : {X : Type 0} (xs : List X) (i : ℕ) (y : X) (j : ℕ) → i < j → slice_get (set xs i y) j ≡ slice_get xs j

@@ -16,7 +16,8 @@ use Rattle.sdh_scripts.proofs.Known.{none_sent, known_scripts}
 use Rattle.sdh_scripts.proofs.Frames.{none_appended}
 
 -- a step that was refused ended the script by a fault
-pub refused_ends : {N T : Type 0} (s : Step) (w : World N) (reports : List T) (end : Status) (left : World N) → Refuses s w reports end left → Stops status.PlantFault reports end
+pub refused_ends : {N T : Type 0} (s : Step) (w : World N) (reports : List T) (end : Status) (left : World N) → Refuses s w reports end left
+    → Stops status.PlantFault reports end
 refused_ends (step.Fibre e) w reports end left x = x.1
 refused_ends s w reports end left x = absurd x
 
@@ -35,9 +36,11 @@ abbrev pub EndsIn : Status → Type 0
 EndsIn end = (end ≡ status.Ok) ⊎ (((k : ℕ) × (end ≡ status.Unsettled k)) ⊎ (end ≡ status.PlantFault))
 
 module _ {N T : Type 0} (walk : Walk N T) where
-  ends_in : (limit before : ℕ) (steps : List Step) (w : World N) (reports : List T) (end : Status) (left : World N) → Runs walk limit before steps w reports end left → EndsIn end
+  ends_in : (limit before : ℕ) (steps : List Step) (w : World N) (reports : List T) (end : Status) (left : World N)
+      → Runs walk limit before steps w reports end left → EndsIn end
   ends_in limit before [] w reports end left x = inl x.1.1
-  ends_in limit before (step.Settle ∷ later) w reports end left (inl (told, next, rest, ended, is, x)) = ends_in limit (before + 1) later next rest end left x
+  ends_in limit before (step.Settle ∷ later) w reports end left (inl (told, next, rest, ended, is, x)) =
+      ends_in limit (before + 1) later next rest end left x
   ends_in limit before (step.Settle ∷ later) w reports end left (inr (inl x)) = inr (inl (before + 1, x.1.1))
   ends_in limit before (step.Settle ∷ later) w reports end left (inr (inr x)) = inr (inr x.1.1)
   ends_in limit before (this ∷ later) w reports end left x =
@@ -46,27 +49,33 @@ module _ {N T : Type 0} (walk : Walk N T) where
         | inr refused ↦ inr (inr (refused_ends this w reports end left refused).1)
       ]
 
-  pub comes_ends : (limit : ℕ) (steps : List Step) (w : World N) (f left : Fibres) (reports : List T) (end : Status) → Comes walk limit steps w f reports end left → EndsIn end
+  pub comes_ends : (limit : ℕ) (steps : List Step) (w : World N) (f left : Fibres) (reports : List T) (end : Status)
+      → Comes walk limit steps w f reports end left → EndsIn end
   comes_ends limit steps w f left reports end (inl x) = inr (inr x.0)
   comes_ends limit steps w f left reports end (inr x) = ends_in limit 0 steps w reports end x.0 x.2
 
   -- one that settles, and that no fault broke off, is done
-  pub settled_done : (limit : ℕ) (steps : List Step) (w : World N) (f left : Fibres) (reports : List T) (end : Status) → Comes walk limit steps w f reports end left → IsSettled end → (end ≡ status.PlantFault → ⊥) → end ≡ status.Ok
+  pub settled_done : (limit : ℕ) (steps : List Step) (w : World N) (f left : Fibres) (reports : List T) (end : Status)
+      → Comes walk limit steps w f reports end left → IsSettled end → (end ≡ status.PlantFault → ⊥) → end ≡ status.Ok
   settled_done limit steps w f left reports end x settled fine = elim (comes_ends limit steps w f left reports end x) [
     | inl done ↦ done
     | inr (inl at) ↦ absurd (settled at.0 at.1)
     | inr (inr fault) ↦ absurd (fine fault)
   ]
 
-  pub known_done : (r : Ran N T) (n : ℕ) (f left : Fibres) (reports : List T) (end : Status) → ComesKnown walk r n f reports end left → r.ending ≡ status.Ok → (end ≡ status.PlantFault → ⊥) → end ≡ status.Ok
+  pub known_done : (r : Ran N T) (n : ℕ) (f left : Fibres) (reports : List T) (end : Status) → ComesKnown walk r n f reports end left
+      → r.ending ≡ status.Ok → (end ≡ status.PlantFault → ⊥) → end ≡ status.Ok
   known_done r n f left reports end (inl x) done fine = x.end_is ∙ done
   known_done r n f left reports end (inr x) done fine = absurd (fine x.0)
 
   -- where the arrivals are known, from a world in which no round has run and over fibres that tell what was sent as those did that
   -- weren't prepared
-  module _ (law : KeepsRounds walk) (limit : ℕ) (steps : List Step) (w : World N) (f : Fibres) (new : w.ring.rounds ≡ 0) (sent : w.fibres.sent ≡ f.sent) (some : 1 ≤ length w.ring.ids) (size : length w.ring.nodes ≡ length w.ring.ids) where
+  module _ (law : KeepsRounds walk) (limit : ℕ) (steps : List Step) (w : World N) (f : Fibres) (new : w.ring.rounds ≡ 0)
+      (sent : w.fibres.sent ≡ f.sent) (some : 1 ≤ length w.ring.ids) (size : length w.ring.nodes ≡ length w.ring.ids) where
     came : (left : Fibres) (reports : List T) (end : Status) (last : World N) → last.fibres ≡ left
-        → IsRan (script walk limit 0 steps w) reports end last ⊎ ((end ≡ status.PlantFault) × IsCutShort walk (script walk limit 0 steps w) (length w.ring.ids) (2 * length w.ring.ids * w.ring.rounds) w reports last)
+        → IsRan (script walk limit 0 steps w) reports end last
+        ⊎ ((end ≡ status.PlantFault) × IsCutShort walk (script walk limit 0 steps w) (length w.ring.ids)
+        (2 * length w.ring.ids * w.ring.rounds) w reports last)
         → ComesKnown walk (script walk limit 0 steps w) (length w.ring.ids) f reports end left
     came left reports end last is (inl r) = inl (record {
       reports_are = r.reports_are;
@@ -86,9 +95,12 @@ module _ {N T : Type 0} (walk : Walk N T) where
           },
         )
 
-    pub known_comes : (left : Fibres) (reports : List T) (end : Status) → Comes walk limit steps w f reports end left → Knows w.fibres → ComesKnown walk (script walk limit 0 steps w) (length w.ring.ids) f reports end left
+    pub known_comes : (left : Fibres) (reports : List T) (end : Status) → Comes walk limit steps w f reports end left → Knows w.fibres
+        → ComesKnown walk (script walk limit 0 steps w) (length w.ring.ids) f reports end left
     known_comes left reports end (inl x) knows =
         let n = length w.ring.ids in
-        let none : sent_by walk n 0 (script walk limit 0 steps w).reports ≡ [] = none_sent walk law limit 0 n 0 steps w some (omega (arith, some, ap (λ t. 2 * n * (t + 1)) new)) in
+        let none : sent_by walk n 0 (script walk limit 0 steps w).reports ≡ [] =
+        none_sent walk law limit 0 n 0 steps w some (omega (arith, some, ap (λ t. 2 * n * (t + 1)) new)) in
         inr (x.0, record { count = 0; frames = ap (λ (g : Fibres). g.sent) x.2 ∙ none_appended f.sent; reports_are = x.1 ∙ sym none })
-    known_comes left reports end (inr x) knows = came left reports end x.0 x.1 (known_scripts walk law limit 0 steps w reports end x.0 knows some size x.2)
+    known_comes left reports end (inr x) knows =
+        came left reports end x.0 x.1 (known_scripts walk law limit 0 steps w reports end x.0 knows some size x.2)

@@ -25,14 +25,18 @@ use Rattle.sdh_scripts.proofs.Outcomes.{EndsIn, comes_ends, known_comes, settled
 -- ---- what a run over new fibres came to
 
 -- no fibres were made
-pub came_none : {N T : Type 0} (walk : Walk N T) (limit : ℕ) (text_of : T → List ℕ) (steps : List Step) (w : World N) (f left : Fibres) (text : List ℕ) → text ≡ [] → left ≡ f → Came walk limit text_of steps w f text status.PlantFault left
+pub came_none : {N T : Type 0} (walk : Walk N T) (limit : ℕ) (text_of : T → List ℕ) (steps : List Step) (w : World N) (f left : Fibres)
+    (text : List ℕ) → text ≡ [] → left ≡ f → Came walk limit text_of steps w f text status.PlantFault left
 came_none walk limit text_of steps w f left text empty same = record { reports = []; text_is = empty; ran = inl (refl, refl, same) }
 
 -- the script ran over those that were prepared for the ring
-pub came_ran : {N T : Type 0} (walk : Walk N T) (limit : ℕ) (text_of : T → List ℕ) (steps : List Step) (r : HeldRing N) (rate : Rate) (n : ℕ) (f made : Fibres) (last : World N) (old new : List ℕ) (end : Status)
-    → rate ≡ r.settings.rate → n ≡ length r.ids → made ≡ prepared rate n f → old ≡ [] → Lists walk limit text_of steps (world r made) old new end last → Came walk limit text_of steps (with_fibres r f) f new end last.fibres
+pub came_ran : {N T : Type 0} (walk : Walk N T) (limit : ℕ) (text_of : T → List ℕ) (steps : List Step) (r : HeldRing N) (rate : Rate)
+    (n : ℕ) (f made : Fibres) (last : World N) (old new : List ℕ) (end : Status)
+    → rate ≡ r.settings.rate → n ≡ length r.ids → made ≡ prepared rate n f → old ≡ []
+    → Lists walk limit text_of steps (world r made) old new end last → Came walk limit text_of steps (with_fibres r f) f new end last.fibres
 came_ran walk limit text_of steps r rate n f made last old new end rates nodes is empty x =
-    let laid : made ≡ prepared r.settings.rate (length r.ids) f = is ∙ ap (λ (a : Rate). prepared a n f) rates ∙ ap (λ (k : ℕ). prepared r.settings.rate k f) nodes in
+    let laid : made ≡ prepared r.settings.rate (length r.ids) f =
+    is ∙ ap (λ (a : Rate). prepared a n f) rates ∙ ap (λ (k : ℕ). prepared r.settings.rate k f) nodes in
     record {
       reports = x.reports;
       text_is = x.text ∙ ap (λ (t : List ℕ). t ++ flat_map text_of x.reports) empty;
@@ -49,14 +53,18 @@ pub record IsNew {N : Type 0} (new_ring : Planned → HeldRing N) : Type 0 where
   pub rounds : (plan : Planned) → (new_ring plan).rounds ≡ 0
 
 -- what holds of its ring, its steps and fibres that are prepared for it
-pub as_planned : {N : Type 0} (Holds : List Step → HeldRing N → Fibres → Type 0) (plan : Planned) (new r : HeldRing N) (rate : Rate) (n : ℕ) (steps : List Step) (f : Fibres) → r ≡ new → rate ≡ plan.settings.rate → n ≡ length plan.nodes → steps ≡ plan.steps
+pub as_planned : {N : Type 0} (Holds : List Step → HeldRing N → Fibres → Type 0) (plan : Planned) (new r : HeldRing N) (rate : Rate) (n : ℕ)
+    (steps : List Step) (f : Fibres) → r ≡ new → rate ≡ plan.settings.rate → n ≡ length plan.nodes → steps ≡ plan.steps
     → Holds plan.steps new (prepared plan.settings.rate (length plan.nodes) f) → Holds steps r (prepared rate n f)
-as_planned {N} Holds plan new r rate n steps f ring rates size same x = subst (λ (t : List Step × HeldRing N × Rate × ℕ). Holds t.0 t.1 (prepared t.2 t.3 f)) (sym (λ i. (same i, ring i, rates i, size i))) x
+as_planned {N} Holds plan new r rate n steps f ring rates size same x =
+    subst (λ (t : List Step × HeldRing N × Rate × ℕ). Holds t.0 t.1 (prepared t.2 t.3 f)) (sym (λ i. (same i, ring i, rates i, size i))) x
 
 module _ {N T R : Type 0} (ring : R → HeldRing N) (t : Account N T) (plan : Planned) (run : NewRun R) (is : IsOf ring t plan run) where
   -- it may begin
-  pub may_begin : (room : R → ℕ) (MayRun : ℕ → List Step → R → Fibres → Type 0) → IsPlanned plan → IsNew t.new_ring → run.rate ≡ plan.settings.rate → run.nodes ≡ length plan.nodes
-      → ((f : Fibres) → MayRun 0 run.steps.items run.runner (prepared run.rate run.nodes f)) → HasRoom (room run.runner) 0 run.text.room → run.text.bytes ≡ [] → MayBegin ring room MayRun run
+  pub may_begin : (room : R → ℕ) (MayRun : ℕ → List Step → R → Fibres → Type 0) → IsPlanned plan → IsNew t.new_ring
+      → run.rate ≡ plan.settings.rate → run.nodes ≡ length plan.nodes
+      → ((f : Fibres) → MayRun 0 run.steps.items run.runner (prepared run.rate run.nodes f)) → HasRoom (room run.runner) 0 run.text.room
+      → run.text.bytes ≡ [] → MayBegin ring room MayRun run
   may_begin room MayRun form new rates size may has_room empty =
       let least = form.nodes_fit.enough in
       let most = form.nodes_fit.few in
@@ -76,7 +84,8 @@ module _ {N T R : Type 0} (ring : R → HeldRing N) (t : Account N T) (plan : Pl
 
   -- what it came to is what the plan's script comes to
   pub came_of : (text_of : T → List ℕ) (f left : Fibres) (text : List ℕ) (end : Status)
-      → Came t.walk run.limit text_of run.steps.items (with_fibres (ring run.runner) f) f text end left → Came t.walk plan.limit text_of plan.steps (world_of t plan f) f text end left
+      → Came t.walk run.limit text_of run.steps.items (with_fibres (ring run.runner) f) f text end left
+      → Came t.walk plan.limit text_of plan.steps (world_of t plan f) f text end left
   came_of text_of f left text end x =
       subst (λ (r : HeldRing N). Came t.walk plan.limit text_of plan.steps (with_fibres r f) f text end left) is.ring_is
       (subst (λ (k : ℕ). Came t.walk k text_of plan.steps (with_fibres (ring run.runner) f) f text end left) is.limit_is
@@ -85,22 +94,26 @@ module _ {N T R : Type 0} (ring : R → HeldRing N) (t : Account N T) (plan : Pl
 -- ---- all that is told
 
 module _ {N T : Type 0} (t : Account N T) (plan : Planned) (f left : Fibres) (end : Status) where
-  known_then : KeepsRounds t.walk → IsNew t.new_ring → IsPlanned plan → (reports : List T) → Comes t plan f reports end left → Knows (world_of t plan f).fibres → ComesKnown t plan f reports end left
+  known_then : KeepsRounds t.walk → IsNew t.new_ring → IsPlanned plan → (reports : List T) → Comes t plan f reports end left
+      → Knows (world_of t plan f).fibres → ComesKnown t plan f reports end left
   known_then law new fits reports x knows =
       let least = fits.nodes_fit.enough in
       let size : length (t.new_ring plan).ids ≡ length plan.nodes = ap (λ (l : List ℕ). length l) (new.ids plan) in
       let some : 1 ≤ length (t.new_ring plan).ids = omega (arith, size, least) in
       subst (λ (n : ℕ). outcomes.ComesKnown t.walk (ran_of t plan f) n f reports end left) size
-      (known_comes t.walk law plan.limit plan.steps (world_of t plan f) f (new.rounds plan) refl some (new.nodes plan ∙ sym size) left reports end x knows)
+      (known_comes t.walk law plan.limit plan.steps (world_of t plan f) f (new.rounds plan) refl some
+      (new.nodes plan ∙ sym size) left reports end x knows)
 
   -- whatever came over any plant settles, where what the script gave does
-  settles_then : ((reports : List T) (last : World N) → Runs t.walk plan.limit 0 plan.steps (world_of t plan f) reports end last → IsSettled end) → (reports : List T) → Comes t plan f reports end left → IsSettled end
+  settles_then : ((reports : List T) (last : World N) → Runs t.walk plan.limit 0 plan.steps (world_of t plan f) reports end last
+      → IsSettled end) → (reports : List T) → Comes t plan f reports end left → IsSettled end
   settles_then law reports (inl x) = settled_by end status.PlantFault x.0 fault_settles
   settles_then law reports (inr x) = law reports x.0 x.2
 
   pub tells_all : (text_of : T → List ℕ) (text : List ℕ) → KeepsRounds t.walk → IsNew t.new_ring → IsPlanned plan
       → (f.honest ≡ true → (reports : List T) → Comes t plan f reports end left → t.Owes plan f reports end left)
-      → (f.honest ≡ true → enough_for (length plan.nodes) ≤ plan.limit → (reports : List T) (last : World N) → Runs t.walk plan.limit 0 plan.steps (world_of t plan f) reports end last → IsSettled end)
+      → (f.honest ≡ true → enough_for (length plan.nodes) ≤ plan.limit → (reports : List T) (last : World N)
+      → Runs t.walk plan.limit 0 plan.steps (world_of t plan f) reports end last → IsSettled end)
       → Came t.walk plan.limit text_of plan.steps (world_of t plan f) f text end left → Tells t text_of plan f text end left
   tells_all text_of text law new fits owes settled x = record {
     reports = x.reports;
@@ -118,6 +131,8 @@ module _ {N T : Type 0} (t : Account N T) (plan : Planned) (f left : Fibres) (en
   ends_of reports x = comes_ends t.walk plan.limit plan.steps (world_of t plan f) f left reports end x.ran
 
   -- one that settles, and that no fault broke off, is done
-  pub done_of : (reports : List T) → IsRunOf t plan f reports end left → MaySettle t plan f → (end ≡ status.PlantFault → ⊥) → end ≡ status.Ok
+  pub done_of : (reports : List T) → IsRunOf t plan f reports end left → MaySettle t plan f → (end ≡ status.PlantFault → ⊥)
+      → end ≡ status.Ok
   done_of reports x (inl may) fine = known_done t.walk (ran_of t plan f) (length plan.nodes) f left reports end (x.known may.0) may.1 fine
-  done_of reports x (inr may) fine = settled_done t.walk plan.limit plan.steps (world_of t plan f) f left reports end x.ran (x.settles may.0 may.1) fine
+  done_of reports x (inr may) fine =
+      settled_done t.walk plan.limit plan.steps (world_of t plan f) f left reports end x.ran (x.settles may.0 may.1) fine

@@ -33,7 +33,8 @@ module _ {L : Type 0} (tells : ℕ → Provisioned → End → L) where
 
   -- their lines
   pub ports_more : (line : L → List ℕ) (cs : List Provisioned) (i : ℕ) (c : Provisioned) → i < length cs → slice_get cs i ≡ Some c
-      → flat_map line (of_ports tells 0 (take (i + 1) cs)) ≡ flat_map line (of_ports tells 0 (take i cs)) ++ (line (tells i c A) ++ line (tells i c B))
+      → flat_map line (of_ports tells 0 (take (i + 1) cs)) ≡ flat_map line (of_ports tells 0 (take i cs))
+      ++ (line (tells i c A) ++ line (tells i c B))
   ports_more line cs i c lt get =
       let a = line (tells i c A) in
       let b = line (tells i c B) in
@@ -42,11 +43,13 @@ module _ {L : Type 0} (tells : ℕ → Provisioned → End → L) where
       ∙ ap (λ l. flat_map line (of_ports tells 0 (take i cs)) ++ (a ++ l)) (append-nil b)
 
 -- where every port of these circuits, which are counted from i, delivers the same
-pub lines_same : (gives owes : ℕ → Provisioned → End → Outlet) (i : ℕ) (cs : List Provisioned) → ((k : ℕ) (c : Provisioned) → slice_get cs k ≡ Some c → (e : End) → gives (i + k) c e ≡ owes (i + k) c e)
+pub lines_same : (gives owes : ℕ → Provisioned → End → Outlet) (i : ℕ) (cs : List Provisioned)
+    → ((k : ℕ) (c : Provisioned) → slice_get cs k ≡ Some c → (e : End) → gives (i + k) c e ≡ owes (i + k) c e)
     → lines_from gives i cs ≡ lines_from owes i cs
 lines_same gives owes i [] same = refl
 lines_same gives owes i (c ∷ cs) same =
     let at : i + 0 ≡ i = omega arith in
     let here = λ (e : End). ap (λ j. gives j c e) (sym at) ∙ same 0 c refl e ∙ ap (λ j. owes j c e) at in
     λ t. record { name = c.name; end = A; outlet = here A t } ∷ record { name = c.name; end = B; outlet = here B t }
-    ∷ lines_same gives owes (i + 1) cs (λ k d get e. (let next : i + suc k ≡ i + 1 + k = omega arith in ap (λ j. gives j d e) (sym next) ∙ same (suc k) d get e ∙ ap (λ j. owes j d e) next)) t
+    ∷ lines_same gives owes (i + 1) cs (λ k d get e. (let next : i + suc k ≡ i + 1 + k = omega arith in ap (λ j. gives j d e) (sym next)
+    ∙ same (suc k) d get e ∙ ap (λ j. owes j d e) next)) t

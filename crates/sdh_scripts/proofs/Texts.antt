@@ -1,5 +1,6 @@
 -- What a run of steps writes, step by step.
-use Rattle.std.proofs.Common.{◌≡◌, ◌<◌, ℕ, zero, suc, ◌+◌, ◌-◌, ◌*◌, ◌≤◌, List, [], ◌∷◌, ◌++◌, length, drop, get_or, refl, ap, sym, ◌∙◌, subst, inl, arith, append-nil, append_assoc, drop-cons, add-one}
+use Rattle.std.proofs.Common.{◌≡◌, ◌<◌, ℕ, zero, suc, ◌+◌, ◌-◌, ◌*◌, ◌≤◌, List, [], ◌∷◌, ◌++◌, length, drop, get_or, refl, ap, sym, ◌∙◌}
+use Rattle.std.proofs.Common.{subst, inl, arith, append-nil, append_assoc, drop-cons, add-one}
 use Rattle.std.specs.List.{flat_map}
 use Rattle.std.proofs.lemmas.Grind.{flat_map-append}
 use Rattle.sdh_rounds.specs.Held.{World}
@@ -39,15 +40,22 @@ module _ {N T : Type 0} (walk : Walk N T) (limit : ℕ) (text_of : T → List �
   }
 
   pub went_more : (steps middle later : List Step) (number now : ℕ) (w mid left : World N) (old text new : List ℕ)
-      → Went walk limit text_of 0 steps w old text number middle mid → Went walk limit text_of number middle mid text new now later left → Went walk limit text_of 0 steps w old new now later left
+      → Went walk limit text_of 0 steps w old text number middle mid → Went walk limit text_of number middle mid text new now later left
+      → Went walk limit text_of 0 steps w old new now later left
   went_more steps middle later number now w mid left old text new x y = record {
     reports = x.reports ++ y.reports;
-    text = y.text ∙ ap (λ l. l ++ flat_map text_of y.reports) x.text ∙ append_assoc old (flat_map text_of x.reports) (flat_map text_of y.reports) ∙ ap (λ l. old ++ l) (sym (flat_map-append text_of x.reports y.reports));
-    goes = λ rest end last z. subst (λ rs. Runs walk limit 0 steps w rs end last) (sym (append_assoc x.reports y.reports rest)) (x.goes (y.reports ++ rest) end last (y.goes rest end last z));
+    text =
+        y.text ∙ ap (λ l. l ++ flat_map text_of y.reports) x.text
+        ∙ append_assoc old (flat_map text_of x.reports) (flat_map text_of y.reports)
+        ∙ ap (λ l. old ++ l) (sym (flat_map-append text_of x.reports y.reports));
+    goes =
+        λ rest end last z. subst (λ rs. Runs walk limit 0 steps w rs end last) (sym (append_assoc x.reports y.reports rest))
+        (x.goes (y.reports ++ rest) end last (y.goes rest end last z));
   }
 
   -- nothing is left
-  pub went_all : (i : ℕ) (steps : List Step) (number : ℕ) (w left : World N) (old new : List ℕ) → drop i steps ≡ [] → Went walk limit text_of 0 steps w old new number (drop i steps) left
+  pub went_all : (i : ℕ) (steps : List Step) (number : ℕ) (w left : World N) (old new : List ℕ) → drop i steps ≡ []
+      → Went walk limit text_of 0 steps w old new number (drop i steps) left
       → Lists walk limit text_of steps w old new status.Ok left
   went_all i steps number w left old new none x = record {
     reports = x.reports ++ [];
@@ -56,8 +64,10 @@ module _ {N T : Type 0} (walk : Walk N T) (limit : ℕ) (text_of : T → List �
   }
 
   -- a step ends the script
-  pub went_stop : (i : ℕ) (steps : List Step) (s : Step) (number : ℕ) (w mid left : World N) (old new : List ℕ) (how : Status) → drop i steps ≡ s ∷ drop (i + 1) steps
-      → Went walk limit text_of 0 steps w old new number (drop i steps) mid → StopsAt walk limit number s mid how left → Lists walk limit text_of steps w old new how left
+  pub went_stop : (i : ℕ) (steps : List Step) (s : Step) (number : ℕ) (w mid left : World N) (old new : List ℕ) (how : Status)
+      → drop i steps ≡ s ∷ drop (i + 1) steps
+      → Went walk limit text_of 0 steps w old new number (drop i steps) mid → StopsAt walk limit number s mid how left
+      → Lists walk limit text_of steps w old new how left
   went_stop i steps s number w mid left old new how is x stops = record {
     reports = x.reports ++ [];
     text = x.text ∙ ap (λ rs. old ++ flat_map text_of rs) (sym (append-nil x.reports));

@@ -19,9 +19,11 @@ pub record DoesNoRound {N : Type 0} (does : Step → World N → World N) : Type
 pub record KeepsRounds {N T : Type 0} (walk : Walk N T) : Type 0 where
   pub other : DoesNoRound walk.does
   pub last : (number : ℕ) (at : ℕ → World N) (k : ℕ) → walk.last (walk.tells number at k) ≡ (at k).ring.rounds - 1
-  pub looks : (number k : ℕ) (at bt : ℕ → World N) → ((j : ℕ) → j ≤ k + walk.behind → at j ≡ bt j) → walk.tells number at k ≡ walk.tells number bt k
+  pub looks : (number k : ℕ) (at bt : ℕ → World N) → ((j : ℕ) → j ≤ k + walk.behind → at j ≡ bt j)
+      → walk.tells number at k ≡ walk.tells number bt k
 
 -- where arrivals are known, what comes of a script is determined, and after a fault it is the front of that
 abbrev pub KnownScripts : {N T : Type 0} → Walk N T → Type 0
 KnownScripts {N} {T} walk = (limit before : ℕ) (steps : List Step) (w : World N) (reports : List T) (end : Status) (left : World N)
-    → Knows w.fibres → 1 ≤ length w.ring.ids → length w.ring.nodes ≡ length w.ring.ids → Runs walk limit before steps w reports end left → ComesTo walk limit before steps w reports end left
+    → Knows w.fibres → 1 ≤ length w.ring.ids → length w.ring.nodes ≡ length w.ring.ids → Runs walk limit before steps w reports end left
+    → ComesTo walk limit before steps w reports end left

@@ -11,7 +11,8 @@ use Rattle.sdh_scripts.specs.declared.run.NewRun.{NewRun}
 
 -- the rate and the number of nodes are those of its ring, its steps may be run over fibres that are prepared for these, and nothing is
 -- written yet
-pub record MayBegin {N R : Type 0} (ring : R → HeldRing N) (room : R → ℕ) (MayRun : ℕ → List Step → R → Fibres → Type 0) (run : NewRun R) : Type 0 where
+pub record MayBegin {N R : Type 0} (ring : R → HeldRing N) (room : R → ℕ) (MayRun : ℕ → List Step → R → Fibres → Type 0)
+    (run : NewRun R) : Type 0 where
   pub rate : run.rate ≡ (ring run.runner).settings.rate
   pub nodes : run.nodes ≡ length (ring run.runner).ids
   pub enough : 2 ≤ run.nodes

@@ -19,10 +19,12 @@ with_fibres r f = world r (prepared r.settings.rate (length r.ids) f)
 -- fibres that were prepared.
 abbrev pub Comes : {N T : Type 0} → Walk N T → ℕ → List Step → World N → Fibres → List T → Status → Fibres → Type 0
 Comes {N} walk limit steps w f reports end left =
-    ((end ≡ status.PlantFault) × (reports ≡ []) × (left ≡ f)) ⊎ ((last : World N) × (last.fibres ≡ left) × Runs walk limit 0 steps w reports end last)
+    ((end ≡ status.PlantFault) × (reports ≡ []) × (left ≡ f))
+    ⊎ ((last : World N) × (last.fibres ≡ left) × Runs walk limit 0 steps w reports end last)
 
 -- the text is what is written of each report of what came, over any plant
-pub record Came {N T : Type 0} (walk : Walk N T) (limit : ℕ) (text_of : T → List ℕ) (steps : List Step) (w : World N) (f : Fibres) (text : List ℕ) (end : Status) (left : Fibres) : Type 0 where
+pub record Came {N T : Type 0} (walk : Walk N T) (limit : ℕ) (text_of : T → List ℕ) (steps : List Step) (w : World N) (f : Fibres)
+    (text : List ℕ) (end : Status) (left : Fibres) : Type 0 where
   pub reports : List T
   pub text_is : text ≡ flat_map text_of reports
   pub ran : Comes walk limit steps w f reports end left

@@ -41,18 +41,22 @@ ComesKnown t plan f reports end left = outcomes.ComesKnown t.walk (ran_of t plan
 -- a script that settles: where the arrivals are known each settle step has a quiet window within the limit; or the fibres are honest and
 -- the limit is large
 abbrev pub MaySettle : {N T : Type 0} → Account N T → Planned → Fibres → Type 0
-MaySettle t plan f = (Knows (world_of t plan f).fibres × ((ran_of t plan f).ending ≡ status.Ok)) ⊎ ((f.honest ≡ true) × (enough_for (length plan.nodes) ≤ plan.limit))
+MaySettle t plan f =
+    (Knows (world_of t plan f).fibres × ((ran_of t plan f).ending ≡ status.Ok))
+    ⊎ ((f.honest ≡ true) × (enough_for (length plan.nodes) ≤ plan.limit))
 
 -- One list of reports, told in each way: what ran over every plant, what it comes to where the arrivals are known, and over honest
 -- fibres what is owed, and that no settle step with so large a limit is unsettled.
-pub record IsRunOf {N T : Type 0} (t : Account N T) (plan : Planned) (f : Fibres) (reports : List T) (end : Status) (left : Fibres) : Type 0 where
+pub record IsRunOf {N T : Type 0} (t : Account N T) (plan : Planned) (f : Fibres) (reports : List T) (end : Status)
+    (left : Fibres) : Type 0 where
   pub ran : Comes t plan f reports end left
   pub known : Knows (world_of t plan f).fibres → ComesKnown t plan f reports end left
   pub owed : f.honest ≡ true → t.Owes plan f reports end left
   pub settles : f.honest ≡ true → enough_for (length plan.nodes) ≤ plan.limit → IsSettled end
 
 -- the text is what is written of each report of a run
-pub record Tells {N T : Type 0} (t : Account N T) (text_of : T → List ℕ) (plan : Planned) (f : Fibres) (text : List ℕ) (end : Status) (left : Fibres) : Type 0 where
+pub record Tells {N T : Type 0} (t : Account N T) (text_of : T → List ℕ) (plan : Planned) (f : Fibres) (text : List ℕ) (end : Status)
+    (left : Fibres) : Type 0 where
   pub reports : List T
   pub text_is : text ≡ flat_map text_of reports
   pub came : IsRunOf t plan f reports end left

@@ -16,7 +16,8 @@ Refused (step.Fibre e) f g = g ≡ f
 Refused s f g = ⊥
 
 -- a settle step ended, and what is written of it was appended to the text
-pub record Wrote {N T : Type 0} (walk : Walk N T) (limit number : ℕ) (text_of : T → List ℕ) (w left : World N) (old new : List ℕ) : Type 0 where
+pub record Wrote {N T : Type 0} (walk : Walk N T) (limit number : ℕ) (text_of : T → List ℕ) (w left : World N)
+    (old new : List ℕ) : Type 0 where
   pub told : T
   pub ended : Ended walk limit number w told left
   pub text : new ≡ old ++ text_of told

@@ -55,10 +55,12 @@ Refuses s w reports end left = ⊥
 abbrev pub Runs : {N T : Type 0} → Walk N T → ℕ → ℕ → List Step → World N → List T → Status → World N → Type 0
 Runs walk limit before [] w reports end left = (left ≡ w) × Stops status.Ok reports end
 Runs {N} {T} walk limit before (step.Settle ∷ later) w reports end left =
-    ((told : T) × (next : World N) × (rest : List T) × Ended walk limit (before + 1) w told next × (reports ≡ told ∷ rest) × Runs walk limit (before + 1) later next rest end left)
+    ((told : T) × (next : World N) × (rest : List T) × Ended walk limit (before + 1) w told next × (reports ≡ told ∷ rest)
+    × Runs walk limit (before + 1) later next rest end left)
     ⊎ ((Unsettles walk.station w limit left × Stops (status.Unsettled (before + 1)) reports end)
     ⊎ (Breaks walk limit w left.fibres × Stops status.PlantFault reports end))
-Runs walk limit before (s ∷ later) w reports end left = Runs walk limit before later (walk.does s w) reports end left ⊎ Refuses s w reports end left
+Runs walk limit before (s ∷ later) w reports end left =
+    Runs walk limit before later (walk.does s w) reports end left ⊎ Refuses s w reports end left
 
 -- ---- where arrivals are known
 
@@ -75,7 +77,12 @@ ran_none w = record { reports = []; ending = status.Ok; left = w; frames = [] }
 -- settle step `number` is unsettled
 abbrev pub ran_unsettled : {N T : Type 0} → Walk N T → ℕ → ℕ → World N → Ran N T
 ran_unsettled walk limit number w =
-    record { reports = []; ending = status.Unsettled number; left = run walk.station limit w; frames = frames_in walk.station (arrivals_in walk.station limit w) w }
+    record {
+      reports = [];
+      ending = status.Unsettled number;
+      left = run walk.station limit w;
+      frames = frames_in walk.station (arrivals_in walk.station limit w) w;
+    }
 
 -- it ends in k rounds, those behind it are run, and the script goes on
 abbrev pub ran_settled : {N T : Type 0} → Walk N T → ℕ → ℕ → World N → Ran N T → Ran N T
@@ -88,7 +95,8 @@ ran_settled walk k number w later = record later {
 abbrev pub script : {N T : Type 0} → Walk N T → ℕ → ℕ → List Step → World N → Ran N T
 script walk limit before [] w = ran_none w
 script walk limit before (step.Settle ∷ later) w =
-    option_map_or (λ k. ran_settled walk k (before + 1) w (script walk limit (before + 1) later (run walk.station (k + walk.behind) w))) (settles_in walk.station w limit) (ran_unsettled walk limit (before + 1) w)
+    option_map_or (λ k. ran_settled walk k (before + 1) w (script walk limit (before + 1) later (run walk.station (k + walk.behind) w)))
+    (settles_in walk.station w limit) (ran_unsettled walk limit (before + 1) w)
 script walk limit before (s ∷ later) w = script walk limit before later (walk.does s w)
 
 -- so it ended
@@ -101,11 +109,13 @@ pub record IsRan {N T : Type 0} (r : Ran N T) (reports : List T) (end : Status) 
 -- a ring of n sends 2 n in a round
 abbrev pub sent_by : {N T : Type 0} → Walk N T → ℕ → ℕ → List T → List T
 sent_by walk n frames [] = []
-sent_by walk n frames (r ∷ reports) = if nat_le (2 * n * (walk.last r + 1 + walk.behind)) frames then r ∷ sent_by walk n frames reports else sent_by walk n frames reports
+sent_by walk n frames (r ∷ reports) =
+    if nat_le (2 * n * (walk.last r + 1 + walk.behind)) frames then r ∷ sent_by walk n frames reports else sent_by walk n frames reports
 
 -- A fault broke it off when so many of its frames were sent, after `before` that had been sent in rounds before: its reports are
 -- those of the settle steps of which all frames were sent, and all of the rounds behind them.
-pub record IsCutShort {N T : Type 0} (walk : Walk N T) (r : Ran N T) (n before : ℕ) (w : World N) (reports : List T) (left : World N) : Type 0 where
+pub record IsCutShort {N T : Type 0} (walk : Walk N T) (r : Ran N T) (n before : ℕ) (w : World N) (reports : List T)
+    (left : World N) : Type 0 where
   pub count : ℕ
   pub frames : Appends w.fibres (take count r.frames) left.fibres
   pub reports_are : reports ≡ sent_by walk n (before + count) r.reports
@@ -114,4 +124,5 @@ pub record IsCutShort {N T : Type 0} (walk : Walk N T) (r : Ran N T) (n before :
 abbrev pub ComesTo : {N T : Type 0} → Walk N T → ℕ → ℕ → List Step → World N → List T → Status → World N → Type 0
 ComesTo walk limit before steps w reports end left =
     IsRan (script walk limit before steps w) reports end left
-    ⊎ ((end ≡ status.PlantFault) × IsCutShort walk (script walk limit before steps w) (length w.ring.ids) (2 * length w.ring.ids * w.ring.rounds) w reports left)
+    ⊎ ((end ≡ status.PlantFault) × IsCutShort walk (script walk limit before steps w) (length w.ring.ids)
+    (2 * length w.ring.ids * w.ring.rounds) w reports left)

@@ -21,4 +21,10 @@ pub record Walk (N T : Type 0) : Type 0 where
 
 -- one that runs no round behind a settle step, and reports the ring that the step left
 abbrev pub reporting : {N : Type 0} → Station N → (Step → World N → World N) → (ℕ → HeldRing N → Report) → Walk N Report
-reporting station does report = record { station = station; does = does; behind = 0; tells = λ number at k. report number (at k).ring; last = λ (r : Report). r.round }
+reporting station does report = record {
+  station = station;
+  does = does;
+  behind = 0;
+  tells = λ number at k. report number (at k).ring;
+  last = λ (r : Report). r.round;
+}

@@ -1,7 +1,8 @@
 -- The two ends of a span at the level agree on it: the end with the larger local request says so on the span in each
 -- round, and the other end hears it, three rounds later at the latest. So from round n + 4 on both know the span's
 -- request, answer on it with a constant short word and tell the other way round of it with a constant long word.
-use Rattle.std.proofs.Common.{◌≡◌, ℕ, ◌+◌, ◌-◌, ◌<◌, ◌≤◌, suc, Bool, true, false, Some, None, length, refl, ap, sym, subst, ◌∙◌, arith, inl, inr}
+use Rattle.std.proofs.Common.{◌≡◌, ℕ, ◌+◌, ◌-◌, ◌<◌, ◌≤◌, suc, Bool, true, false, Some, None, length, refl, ap, sym, subst, ◌∙◌, arith, inl}
+use Rattle.std.proofs.Common.{inr}
 use Rattle.std.specs.Prelude.{nat_le, nat_lt, not, ◌&&◌, if◌then◌else◌, slice_index}
 use Rattle.std.proofs.lemmas.Bool.{and_right, cases_lt, cond-true, cond-false, le-leb, lt-leb, lt-ltb, le-ltb}
 use Rattle.sdh_kbytes.specs.declared.K.{K}
@@ -92,11 +93,14 @@ module _ (run : Run) (R : IsRun run) where
         record {
           strong = subst (λ (x : Code). c ≤ code_number x) (sym no) g;
           top = stronger_is (at t p) d ∙ larger_left (local (at t p) d) (short (at t p) d) (omega arith) ∙ lo ∙ sym no;
-          answer = cond-true (nat_le (code_number (short (at t p) d)) (code_number (local (at t p) d))) (local (at t p) d) Rr (le-leb _ _ (omega arith)) ∙ lo ∙ sym (cond-false (outdone p d) Rr (code p d) o);
+          answer =
+              cond-true (nat_le (code_number (short (at t p) d)) (code_number (local (at t p) d))) (local (at t p) d) Rr
+              (le-leb _ _ (omega arith)) ∙ lo ∙ sym (cond-false (outdone p d) Rr (code p d) o);
         }
 
     -- by its neighbour's request
-    by_other : (t p : ℕ) (d : Side) → c ≤ asks (nx p d) (opposite d) → asks p d < asks (nx p d) (opposite d) → outdone p d ≡ true → short (at t p) d ≡ code (nx p d) (opposite d) → Knows t p d
+    by_other : (t p : ℕ) (d : Side) → c ≤ asks (nx p d) (opposite d) → asks p d < asks (nx p d) (opposite d) → outdone p d ≡ true
+        → short (at t p) d ≡ code (nx p d) (opposite d) → Knows t p d
     by_other t p d g l o is =
         let lo = ap code_number (local_is run R t p d) in
         let sh = ap code_number is in
@@ -104,7 +108,9 @@ module _ (run : Run) (R : IsRun run) where
         record {
           strong = subst (λ (x : Code). c ≤ code_number x) (sym yes) g;
           top = stronger_is (at t p) d ∙ larger_right (local (at t p) d) (short (at t p) d) (omega arith) ∙ is ∙ sym yes;
-          answer = cond-false (nat_le (code_number (short (at t p) d)) (code_number (local (at t p) d))) (local (at t p) d) Rr (lt-leb _ _ (omega arith)) ∙ sym (cond-true (outdone p d) Rr (code p d) o);
+          answer =
+              cond-false (nat_le (code_number (short (at t p) d)) (code_number (local (at t p) d))) (local (at t p) d) Rr
+              (lt-leb _ _ (omega arith)) ∙ sym (cond-true (outdone p d) Rr (code p d) o);
         }
 
     -- the word on the span itself
@@ -122,24 +128,30 @@ module _ (run : Run) (R : IsRun run) where
     first_end t p d l h g m = by_local t p d g (not_outdone p d m) (let s = short_le run R t p d l h in omega arith)
 
     -- and the other end where it hears of it
-    by_heard : (t p : ℕ) (d : Side) (w : K) → p < n → c ≤ asks (nx p d) (opposite d) → asks p d < asks (nx p d) (opposite d) → fails_on (run.need p) d ≡ false
+    by_heard : (t p : ℕ) (d : Side) (w : K) → p < n → c ≤ asks (nx p d) (opposite d) → asks p d < asks (nx p d) (opposite d)
+        → fails_on (run.need p) d ≡ false
         → word_on (at t p) d ≡ Some w → bare w ≡ plain (nx p d) (opposite d) (code (nx p d) (opposite d)) Short → Knows t p d
     by_heard t p d w h g m e o is =
         let low = level.low in
         let w_code : w.code ≡ code (nx p d) (opposite d) = ap (λ (k : K). k.code) is in
         let w_num = ap code_number w_code in
-        let said : short (at t p) d ≡ w.code = short_of (at t p) d w o (ap (λ (k : K). k.path) is) (ap (λ (k : K). k.to) is ∙ ap id (neighbour_back n p d h)) (ap (λ (k : K). k.from) is) (omega arith) in
-        let known : outdone p d ≡ true = ap (λ b. not b && nat_lt (asks p d) (asks (nx p d) (opposite d))) e ∙ lt-ltb (asks p d) (asks (nx p d) (opposite d)) m in
+        let said : short (at t p) d ≡ w.code =
+        short_of (at t p) d w o (ap (λ (k : K). k.path) is) (ap (λ (k : K). k.to) is ∙ ap id (neighbour_back n p d h))
+        (ap (λ (k : K). k.from) is) (omega arith) in
+        let known : outdone p d ≡ true =
+        ap (λ b. not b && nat_lt (asks p d) (asks (nx p d) (opposite d))) e ∙ lt-ltb (asks p d) (asks (nx p d) (opposite d)) m in
         by_other t p d g m known (said ∙ w_code)
 
     -- the stronger end says it in each round
-    first_said : (t q : ℕ) (o : Side) → n < t → q < n → c ≤ asks q o → asks (nx q o) (opposite o) ≤ asks q o → bare (word_at t q o) ≡ plain q o (code q o) Short
+    first_said : (t q : ℕ) (o : Side) → n < t → q < n → c ≤ asks q o → asks (nx q o) (opposite o) ≤ asks q o
+        → bare (word_at t q o) ≡ plain q o (code q o) Short
     first_said t q o l h g m =
         let no : answer_code q o ≡ code q o = cond-false (outdone q o) Rr (code q o) (not_outdone q o m) in
         known_word t q o l h (first_end t q o (omega arith) h g m) ∙ ap (λ x. plain q o x Short) no
 
     -- three rounds later
-    second_by : (t p : ℕ) (d : Side) → n < t → p < n → c ≤ asks (nx p d) (opposite d) → asks p d < asks (nx p d) (opposite d) → (b : Bool) → fails_on (run.need p) d ≡ b → Knows (suc (suc (suc t))) p d
+    second_by : (t p : ℕ) (d : Side) → n < t → p < n → c ≤ asks (nx p d) (opposite d) → asks p d < asks (nx p d) (opposite d) → (b : Bool)
+        → fails_on (run.need p) d ≡ b → Knows (suc (suc (suc t))) p d
     second_by t p d l h g m true e =
         let f = failing run.need p d (R.sound p h) e in
         let high = level.high in
@@ -152,7 +164,8 @@ module _ (run : Run) (R : IsRun run) where
         let b = next_below run R p d in
         let less : asks (nx q o) (opposite o) ≤ asks q o = let x = asks_back run R p d h in omega arith in
         let hears = unbare (word_on (at (suc (suc (suc t))) p) d) (plain q o (code q o) Short)
-        (R.future t p d (plain q o (code q o) Short) h e (first_said t q o l b g less) (first_said (suc t) q o (omega arith) b g less) (first_said (suc (suc t)) q o (omega arith) b g less)) in
+        (R.future t p d (plain q o (code q o) Short) h e (first_said t q o l b g less) (first_said (suc t) q o (omega arith) b g less)
+        (first_said (suc (suc t)) q o (omega arith) b g less)) in
         by_heard (suc (suc (suc t))) p d hears.0 h g m e hears.1 hears.2
 
     pub knows : (t p : ℕ) (d : Side) → n + 4 ≤ t → p < n → c ≤ asked p d → Knows t p d
@@ -166,7 +179,8 @@ module _ (run : Run) (R : IsRun run) where
     pub short_said : (t p : ℕ) (d : Side) → n + 4 ≤ t → p < n → c ≤ asked p d → bare (word_at t p d) ≡ plain p d (answer_code p d) Short
     short_said t p d l h g = known_word t p d (omega arith) h (knows t p d l h g)
 
-    pub long_said : (t p : ℕ) (e : Side) → n + 4 ≤ t → p < n → asked p (opposite e) < c → c ≤ asked p e → bare (away t p e) ≡ plain p e (top_code p e) Long
+    pub long_said : (t p : ℕ) (e : Side) → n + 4 ≤ t → p < n → asked p (opposite e) < c → c ≤ asked p e
+        → bare (away t p e) ≡ plain p e (top_code p e) Long
     long_said t p e l h a g =
         let k = knows t p e l h g in
         let top = ap code_number k.top in

@@ -1,7 +1,8 @@
 -- Long words traced backward: one that is heard k nodes from its source was sent by that source k rounds before. So
 -- once the words from before the run have gone, which n rounds are enough for, no long word weighs more than the
 -- highest request of all spans.
-use Rattle.std.proofs.Common.{◌≡◌, ℕ, ◌+◌, ◌-◌, ◌<◌, ◌≤◌, suc, zero, Option, Some, None, length, refl, ap, sym, subst, ◌∙◌, arith, inl, inr, ◌⊎◌}
+use Rattle.std.proofs.Common.{◌≡◌, ℕ, ◌+◌, ◌-◌, ◌<◌, ◌≤◌, suc, zero, Option, Some, None, length, refl, ap, sym, subst, ◌∙◌, arith, inl, inr}
+use Rattle.std.proofs.Common.{◌⊎◌}
 use Rattle.std.specs.Prelude.{slice_index}
 use Rattle.sdh_kbytes.specs.declared.K.{K}
 use Rattle.sdh_terms.specs.Requests.{code_number}
@@ -60,29 +61,39 @@ module _ (run : Run) (R : IsRun run) where
   own_long_code t q d w p f (a_relay c) = absurd ((relayed_heard (at t q) d w c).foreign f)
 
   module _ (c : ℕ) (requests : (p : ℕ) (d : Side) → p < n → request run R p d ≤ c) where
-    traced : (k t p : ℕ) (e : Side) → p < n → k < n → (away (later k (suc t)) p e).from ≡ id (going n e p k) → (away (later k (suc t)) p e).path ≡ Long → code_number (away (later k (suc t)) p e).code ≤ c
+    traced : (k t p : ℕ) (e : Side) → p < n → k < n → (away (later k (suc t)) p e).from ≡ id (going n e p k)
+        → (away (later k (suc t)) p e).path ≡ Long → code_number (away (later k (suc t)) p e).code ≤ c
     traced zero t p e h few f l =
-        let own = ap code_number (own_long_code (suc t) p (opposite e) (away (suc t) p e) l (f ∙ ap id (going-none n (some_nodes run R) e p h)) (kind (at (suc t) p) (opposite e))) in
+        let own =
+        ap code_number (own_long_code (suc t) p (opposite e) (away (suc t) p e) l (f ∙ ap id (going-none n (some_nodes run R) e p h))
+        (kind (at (suc t) p) (opposite e))) in
         let w = weight_le run R (suc t) p (opposite (opposite e)) (omega arith) h in
         let q = requests p (opposite (opposite e)) h in
         omega arith
     traced (suc k) t p e h few f l = elim (step (later k (suc t)) p e h) [
-      | inl own ↦ absurd (id_apart run R (going n e p (suc k)) p (going-inside n (some_nodes run R) e p (suc k)) h (going-apart n (some_nodes run R) e p (suc k) h (omega arith) few) (sym f ∙ own))
+      | inl own ↦ absurd (id_apart run R (going n e p (suc k)) p (going-inside n (some_nodes run R) e p (suc k)) h
+          (going-apart n (some_nodes run R) e p (suc k) h (omega arith) few) (sym f ∙ own))
       | inr same ↦ (
-          let x = traced k t (nx p e) e (next_below run R p e) (omega arith) (ap (λ (k : K). k.from) (sym same) ∙ f ∙ ap id (sym (going-first n (some_nodes run R) e p k))) (ap (λ (k : K). k.path) (sym same) ∙ l) in
+          let x =
+          traced k t (nx p e) e (next_below run R p e) (omega arith)
+          (ap (λ (k : K). k.from) (sym same) ∙ f ∙ ap id (sym (going-first n (some_nodes run R) e p k)))
+          (ap (λ (k : K). k.path) (sym same) ∙ l) in
           let y = ap (λ (k : K). code_number k.code) same in
           omega arith)
     ]
 
-    long_by : (t p : ℕ) (e : Side) (q : ℕ) → n ≤ t → p < n → (away t p e).path ≡ Long → (away t p e).from ≡ id q → IsReached n e p q → code_number (away t p e).code ≤ c
+    long_by : (t p : ℕ) (e : Side) (q : ℕ) → n ≤ t → p < n → (away t p e).path ≡ Long → (away t p e).from ≡ id q → IsReached n e p q
+        → code_number (away t p e).code ≤ c
     long_by t p e q g h l f way =
         let k = way.steps in
         let few = way.few in
         let when : later k (suc (t - 1 - k)) ≡ t = later_is k (suc (t - 1 - k)) ∙ omega arith in
-        let from : (away (later k (suc (t - 1 - k))) p e).from ≡ id (going n e p k) = ap (λ u. (away u p e).from) when ∙ f ∙ ap id (sym way.there) in
+        let from : (away (later k (suc (t - 1 - k))) p e).from ≡ id (going n e p k) =
+        ap (λ u. (away u p e).from) when ∙ f ∙ ap id (sym way.there) in
         subst (λ u. code_number (away u p e).code ≤ c) when (traced k (t - 1 - k) p e h few from (ap (λ u. (away u p e).path) when ∙ l))
 
-    long_member : (t p : ℕ) (e : Side) → n ≤ t → p < n → (away t p e).path ≡ Long → IsMember run.ids (away t p e).from → code_number (away t p e).code ≤ c
+    long_member : (t p : ℕ) (e : Side) → n ≤ t → p < n → (away t p e).path ≡ Long → IsMember run.ids (away t p e).from
+        → code_number (away t p e).code ≤ c
     long_member t p e g h l m = long_by t p e m.0 g h l (sym m.2) (reached n (some_nodes run R) e p m.0 h m.1)
 
     long_le : (t p : ℕ) (e : Side) → n ≤ t → p < n → (away t p e).path ≡ Long → code_number (away t p e).code ≤ c

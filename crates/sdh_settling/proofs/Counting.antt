@@ -17,7 +17,8 @@ module _ {X : Type 0} (p : X → Bool) where
   abbrev Passes : List X → X → Type 0
   Passes xs d = (j : ℕ) × (j < length xs) × (p (get_or xs j d) ≡ true)
 
-  count_some_by : (x : X) (xs : List X) (d : X) (b : Bool) → p x ≡ b → count_by p (x ∷ xs) ≢ 0 → (count_by p xs ≢ 0 → Passes xs d) → Passes (x ∷ xs) d
+  count_some_by : (x : X) (xs : List X) (d : X) (b : Bool) → p x ≡ b → count_by p (x ∷ xs) ≢ 0 → (count_by p xs ≢ 0 → Passes xs d)
+      → Passes (x ∷ xs) d
   count_some_by x xs d true e h more = (zero, omega arith, e)
   count_some_by x xs d false e h more =
       let c = count-cons x xs false e in
@@ -29,11 +30,14 @@ module _ {X : Type 0} (p : X → Bool) where
   count_some (x ∷ xs) d h = count_some_by x xs d (p x) refl h (λ g. count_some xs d g)
 
   -- where one passes, two that pass are the same
-  pub count_one : (xs : List X) (i j : ℕ) (d : X) → count_by p xs ≡ 1 → i < length xs → j < length xs → p (get_or xs i d) ≡ true → p (get_or xs j d) ≡ true → i ≡ j
+  pub count_one : (xs : List X) (i j : ℕ) (d : X) → count_by p xs ≡ 1 → i < length xs → j < length xs → p (get_or xs i d) ≡ true
+      → p (get_or xs j d) ≡ true → i ≡ j
   count_one [] i j d c h g e f = absurd (omega arith)
   count_one (x ∷ xs) zero zero d c h g e f = refl
-  count_one (x ∷ xs) zero (suc j) d c h g e f = let y = count-cons x xs true e in let z = count_at xs j d (omega arith) f in absurd (omega arith)
-  count_one (x ∷ xs) (suc i) zero d c h g e f = let y = count-cons x xs true f in let z = count_at xs i d (omega arith) e in absurd (omega arith)
+  count_one (x ∷ xs) zero (suc j) d c h g e f = let y = count-cons x xs true e in let z =
+      count_at xs j d (omega arith) f in absurd (omega arith)
+  count_one (x ∷ xs) (suc i) zero d c h g e f = let y = count-cons x xs true f in let z =
+      count_at xs i d (omega arith) e in absurd (omega arith)
   count_one (x ∷ xs) (suc i) (suc j) d c h g e f =
       let y = count-cons x xs (p x) refl in
       let z = count_at xs i d (omega arith) e in
@@ -42,7 +46,8 @@ module _ {X : Type 0} (p : X → Bool) where
   abbrev pub Another : List X → ℕ → X → Type 0
   Another xs i d = (j : ℕ) × (j < length xs) × (j ≢ i) × (p (get_or xs j d) ≡ true)
 
-  count_more_by : (x : X) (xs : List X) (i : ℕ) (d : X) (b : Bool) → p x ≡ b → count_by p (x ∷ xs) ≢ 1 → (count_by p xs ≢ 1 → Another xs i d) → Another (x ∷ xs) (suc i) d
+  count_more_by : (x : X) (xs : List X) (i : ℕ) (d : X) (b : Bool) → p x ≡ b → count_by p (x ∷ xs) ≢ 1
+      → (count_by p xs ≢ 1 → Another xs i d) → Another (x ∷ xs) (suc i) d
   count_more_by x xs i d true e h more = (zero, omega arith, λ z. omega arith, e)
   count_more_by x xs i d false e h more =
       let c = count-cons x xs false e in

@@ -8,13 +8,15 @@ use Rattle.sdh_ringmap.specs.Steps.{going}
 use Rattle.sdh_ringmap.specs.declared.Side.{Side}
 use Rattle.sdh_settling.specs.Settled.{next_positions}
 
-pub first_position : (n : ℕ) (d : Side) (p m k : ℕ) (test : ℕ → Bool) → k < m → ((j : ℕ) → j < k → test (going n d p (suc j)) ≡ false) → test (going n d p (suc k)) ≡ true
+pub first_position : (n : ℕ) (d : Side) (p m k : ℕ) (test : ℕ → Bool) → k < m → ((j : ℕ) → j < k → test (going n d p (suc j)) ≡ false)
+    → test (going n d p (suc k)) ≡ true
     → find test (next_positions n d p m) ≡ Some (going n d p (suc k))
 first_position n d p m k test h near there =
     let next : List ℕ = next_positions n d p m in
     let long = length-map-range_with_len (going n d p) 1 m in
     let at = λ (j : ℕ) (less : j < m). get_or-map-range_with_len (going n d p) 1 m j (suc j) 0 less (omega arith) in
     find_at test next
-    ∙ ap (slice_get next) (position_or_len_is test next k 0 (omega arith) (λ j less. ap test (at j (omega arith)) ∙ near j less) (λ less. ap test (at k h) ∙ there))
+    ∙ ap (slice_get next) (position_or_len_is test next k 0 (omega arith) (λ j less. ap test (at j (omega arith)) ∙ near j less)
+    (λ less. ap test (at k h) ∙ there))
     ∙ slice_get-get_or next k 0 (omega arith)
     ∙ ap (λ q. Some q) (at k h)

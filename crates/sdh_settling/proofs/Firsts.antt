@@ -45,7 +45,8 @@ module _ (run : Run) (R : IsRun run) (c : ℕ) (level : IsLevel run R c) where
   HasFirst m p e = (k : ℕ) × (suc k ≤ m) × First p e (suc k)
 
   first_is : (k m p : ℕ) (e : Side) → p < n → asked p e < c → k ≤ m → First p e k → HasFirst m p e
-  first_is zero m p e h l few first = let t = subst (λ i. c ≤ asked i e) (going-none n (some_nodes run R) e p h) first.there in absurd (omega arith)
+  first_is zero m p e h l few first = let t =
+      subst (λ i. c ≤ asked i e) (going-none n (some_nodes run R) e p h) first.there in absurd (omega arith)
   first_is (suc k) m p e h l few first = (k, few, first)
 
   first_by : (m p : ℕ) (e : Side) → p < n → asked p e < c → c ≤ asked (going n e p m) e → Search (suc m) p e → HasFirst m p e
@@ -70,5 +71,7 @@ module _ (run : Run) (R : IsRun run) (c : ℕ) (level : IsLevel run R c) where
   pub first_any : (p : ℕ) (e : Side) (z : ℕ) (d : Side) → p < n → z < n → asked p e < c → c ≤ asked z d → HasFirstNear p e
   first_any p West z West h g l f = first_at p West z h g l f
   first_any p East z East h g l f = first_at p East z h g l f
-  first_any p West z East h g l f = first_at p West (nx z East) h (next_below run R z East) l (let b = request_back run R z East g in omega arith)
-  first_any p East z West h g l f = first_at p East (nx z West) h (next_below run R z West) l (let b = request_back run R z West g in omega arith)
+  first_any p West z East h g l f =
+      first_at p West (nx z East) h (next_below run R z East) l (let b = request_back run R z East g in omega arith)
+  first_any p East z West h g l f =
+      first_at p East (nx z West) h (next_below run R z West) l (let b = request_back run R z West g in omega arith)

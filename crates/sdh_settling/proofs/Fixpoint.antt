@@ -1,6 +1,7 @@
 -- The fixpoint law and convergence, for runs and for rings of signals: the promised laws, from the chain and from the fact that
 -- the rounds of a ring of signals are a run.
-use Rattle.std.proofs.Common.{◌≡◌, ℕ, Bool, true, false, zero, suc, ◌+◌, ◌*◌, ◌<◌, ◌≤◌, List, [], length, get_or, ap, sym, ◌∙◌, arith, ◌⊎◌, inl, inr}
+use Rattle.std.proofs.Common.{◌≡◌, ℕ, Bool, true, false, zero, suc, ◌+◌, ◌*◌, ◌<◌, ◌≤◌, List, [], length, get_or, ap, sym, ◌∙◌, arith, ◌⊎◌}
+use Rattle.std.proofs.Common.{inl, inr}
 use Rattle.std.specs.Prelude.{if◌then◌else◌, All}
 use Rattle.std.proofs.lemmas.Bool.{cases_lt}
 use Rattle.std.proofs.lemmas.List.{get_or_past}
@@ -13,7 +14,8 @@ use Rattle.sdh_nodestate.specs.Rules.{word, state_after, sent_after}
 use Rattle.sdh_restoration.specs.Applied.{span_requests}
 use Rattle.sdh_settling.specs.Settled.{settled, settled_states}
 use Rattle.sdh_settling.proofs.Lists.{map_from-same}
-use Rattle.sdh_settling.specs.Signals.{Signals, request_on, is_held, state_in, words_in, scene_at, round, free_round, rounds, MayGo, no_needs, requests_in}
+use Rattle.sdh_settling.specs.Signals.{Signals, request_on, is_held, state_in, words_in, scene_at, round, free_round, rounds, MayGo}
+use Rattle.sdh_settling.specs.Signals.{no_needs, requests_in}
 use Rattle.sdh_settling.specs.Runs.{Run, at_round, run_requests}
 use Rattle.sdh_settling.specs.Laws.{RunsSettle, WordsStay, StillRingsAreSettled, FreeRounds, RingsSettle}
 use Rattle.sdh_settling.proofs.Spans.{size, spans}
@@ -67,7 +69,9 @@ module _ (needs : List Needs) (s : Signals) (may : MayGo needs s) where
   -- after 5n + 8 rounds
   pub words_after : (t : ℕ) → 5 * n + 7 ≤ t → (ring (suc (suc t))).words ≡ (ring (suc t)).words
   unfolding round
-  words_after t late = map_from-same (λ p x. if is_held [] p then words_in (ring (suc t)) p else sent_after (scene_at (ring (suc t)) p x)) (λ p x. if is_held [] p then words_in (ring t) p else sent_after (scene_at (ring t) p x)) needs no_needs (λ k h.
+  words_after t late =
+      map_from-same (λ p x. if is_held [] p then words_in (ring (suc t)) p else sent_after (scene_at (ring (suc t)) p x))
+      (λ p x. if is_held [] p then words_in (ring t) p else sent_after (scene_at (ring t) p x)) needs no_needs (λ k h.
       let size = may.size in
       let few : k < n = omega arith in
       ap sent_after (scene_is needs s may (suc t) k) ∙ sent_same t k late few ∙ ap sent_after (sym (scene_is needs s may t k)))
@@ -91,17 +95,27 @@ pub free_rounds : FreeRounds
 unfolding round
 free_rounds needs held s none =
     ap (λ x. record { ids = s.ids; states = x; words = (round needs held s).words; filters = (round needs held s).filters; running = true })
-    (map_from-same (λ p x. if is_held held p then state_in s p else state_after (scene_at s p x)) (λ p x. if is_held [] p then state_in s p else state_after (scene_at s p x)) needs no_needs
+    (map_from-same (λ p x. if is_held held p then state_in s p else state_after (scene_at s p x))
+    (λ p x. if is_held [] p then state_in s p else state_after (scene_at s p x)) needs no_needs
     (λ k h. ap (λ b. if b then state_in s k else state_after (scene_at s k (get_or needs k no_needs))) (not_held held none k)))
-    ∙ ap (λ x. record { ids = s.ids; states = (free_round needs s).states; words = x; filters = (round needs held s).filters; running = true })
-    (map_from-same (λ p x. if is_held held p then words_in s p else sent_after (scene_at s p x)) (λ p x. if is_held [] p then words_in s p else sent_after (scene_at s p x)) needs no_needs
+    ∙ ap (λ x. record {
+      ids = s.ids;
+      states = (free_round needs s).states;
+      words = x;
+      filters = (round needs held s).filters;
+      running = true;
+    })
+    (map_from-same (λ p x. if is_held held p then words_in s p else sent_after (scene_at s p x))
+    (λ p x. if is_held [] p then words_in s p else sent_after (scene_at s p x)) needs no_needs
     (λ k h. ap (λ b. if b then words_in s k else sent_after (scene_at s k (get_or needs k no_needs))) (not_held held none k)))
 
-settled_from : (needs : List Needs) (s : Signals) → MayGo needs s → (t : ℕ) → 4 * length s.ids + 8 ≤ t → (rounds needs t s).states ≡ settled_states (requests_in needs)
+settled_from : (needs : List Needs) (s : Signals) → MayGo needs s → (t : ℕ) → 4 * length s.ids + 8 ≤ t
+    → (rounds needs t s).states ≡ settled_states (requests_in needs)
 settled_from needs s may zero h = absurd (omega arith)
 settled_from needs s may (suc t) h = settled_after needs s may t (omega arith)
 
-words_from : (needs : List Needs) (s : Signals) → MayGo needs s → (t : ℕ) → 5 * length s.ids + 8 ≤ t → (rounds needs (suc t) s).words ≡ (rounds needs t s).words
+words_from : (needs : List Needs) (s : Signals) → MayGo needs s → (t : ℕ) → 5 * length s.ids + 8 ≤ t
+    → (rounds needs (suc t) s).words ≡ (rounds needs t s).words
 words_from needs s may zero h = absurd (omega arith)
 words_from needs s may (suc t) h = words_after needs s may t (omega arith)
 

@@ -10,7 +10,8 @@ use Rattle.sdh_ringmap.specs.Places.{opposite}
 use Rattle.sdh_ringmap.specs.declared.Side.{Side}
 use Rattle.sdh_ringmap.specs.declared.Side.TheVariants.{West, East}
 use Rattle.sdh_ringmap.specs.declared.Pos.{Pos}
-use Rattle.sdh_nodestate.specs.Rules.{Scene, own_id, local, fails, weight, weight_of, relayed, chosen, word, word_by, rest_word, Choice, own_short, own_long, relay, rest, mark_by, mark_on, switched, far}
+use Rattle.sdh_nodestate.specs.Rules.{Scene, own_id, local, fails, weight, weight_of, relayed, chosen, word, word_by, rest_word, Choice}
+use Rattle.sdh_nodestate.specs.Rules.{own_short, own_long, relay, rest, mark_by, mark_on, switched, far}
 use Rattle.sdh_nodestate.specs.Conditions.{MayNeed}
 use Rattle.sdh_settling.proofs.Sources.{relayed_heard}
 use Rattle.sdh_settling.proofs.OneNode.{weight_is, choose_short_top, word_short}
@@ -46,7 +47,8 @@ failing_told s d may e =
     let w = word_short s d (first_choice s d (asks_much s d may e)) in
     record { own = ap (λ (k : K). k.from) w; failing = ap (λ (k : K). k.mark) w ∙ mark_failing s d e }
 
-relay_clear : (s : Scene) (d : Side) (o : Option K) → fails s d ≡ false → relayed s d ≡ o → (option_map_or (λ k. k) o (rest_word s d)).from ≡ own_id s → (option_map_or (λ k. k) o (rest_word s d)).mark ≢ mark.Rdi
+relay_clear : (s : Scene) (d : Side) (o : Option K) → fails s d ≡ false → relayed s d ≡ o
+    → (option_map_or (λ k. k) o (rest_word s d)).from ≡ own_id s → (option_map_or (λ k. k) o (rest_word s d)).mark ≢ mark.Rdi
 relay_clear s d None e r f = mark_clear s d e
 relay_clear s d (Some k) e r f = absurd ((relayed_heard s d k r).foreign f)
 
@@ -60,12 +62,18 @@ clear_untold : (s : Scene) (d : Side) → fails s d ≡ false → TellsFailure (
 unfolding word
 clear_untold s d e t = choice_clear s d (chosen s d) e t.own t.failing
 
-told_by : (r s : Scene) (d : Side) (b c : Bool) → MayNeed r.needs → MayNeed s.needs → own_id r ≡ own_id s → word r d ≡ word s d → fails r d ≡ b → fails s d ≡ c → b ≡ c
+told_by : (r s : Scene) (d : Side) (b c : Bool) → MayNeed r.needs → MayNeed s.needs → own_id r ≡ own_id s → word r d ≡ word s d
+    → fails r d ≡ b → fails s d ≡ c → b ≡ c
 told_by r s d true true may_r may_s id w e f = refl
 told_by r s d false false may_r may_s id w e f = refl
-told_by r s d true false may_r may_s id w e f = absurd (clear_untold s d f (subst (λ k. TellsFailure (own_id s) k) w (subst (λ i. TellsFailure i (word r d)) id (failing_told r d may_r e))))
-told_by r s d false true may_r may_s id w e f = absurd (clear_untold r d e (subst (λ k. TellsFailure (own_id r) k) (sym w) (subst (λ i. TellsFailure i (word s d)) (sym id) (failing_told s d may_s f))))
+told_by r s d true false may_r may_s id w e f =
+    absurd (clear_untold s d f (subst (λ k. TellsFailure (own_id s) k) w
+    (subst (λ i. TellsFailure i (word r d)) id (failing_told r d may_r e))))
+told_by r s d false true may_r may_s id w e f =
+    absurd (clear_untold r d e (subst (λ k. TellsFailure (own_id r) k) (sym w)
+    (subst (λ i. TellsFailure i (word s d)) (sym id) (failing_told s d may_s f))))
 
 -- so a node that sends the same word on a side in two rounds fails there in both or in none
-pub same_failing : (r s : Scene) (d : Side) → MayNeed r.needs → MayNeed s.needs → own_id r ≡ own_id s → word r d ≡ word s d → fails r d ≡ fails s d
+pub same_failing : (r s : Scene) (d : Side) → MayNeed r.needs → MayNeed s.needs → own_id r ≡ own_id s → word r d ≡ word s d
+    → fails r d ≡ fails s d
 same_failing r s d may_r may_s id w = told_by r s d (fails r d) (fails s d) may_r may_s id w refl refl

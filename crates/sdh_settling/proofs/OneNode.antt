@@ -1,10 +1,12 @@
 -- The rules of one node, case by case: which short and long words it hears, which word it sends, which side it switches. The
 -- proofs on runs go by these laws, and look at the rules themselves no more.
-use Rattle.std.proofs.Common.{◌≡◌, ◌≢◌, ℕ, ◌<◌, ◌≤◌, max, Bool, true, false, Option, Some, None, [], ◌∷◌, refl, ap, sym, ◌∙◌, arith, inl, inr, ◌⊎◌}
+use Rattle.std.proofs.Common.{◌≡◌, ◌≢◌, ℕ, ◌<◌, ◌≤◌, max, Bool, true, false, Option, Some, None, [], ◌∷◌, refl, ap, sym, ◌∙◌, arith, inl}
+use Rattle.std.proofs.Common.{inr, ◌⊎◌}
 use Rattle.std.specs.Prelude.{◌==◌, ◌||◌, not, ◌&&◌, nat_le, nat_lt, if◌then◌else◌}
 use Rattle.std.specs.Option.{option_map_or}
 use Rattle.std.specs.List.{list_all}
-use Rattle.std.proofs.lemmas.Bool.{and_parts, and_left, and_right, or_parts, or_from, not-true, eq-eqb, ne_eqb, eqb-false, ltb-true, ltb-false, leb-true, lt-ltb, le-ltb, le-leb, lt-leb}
+use Rattle.std.proofs.lemmas.Bool.{and_parts, and_left, and_right, or_parts, or_from, not-true, eq-eqb, ne_eqb, eqb-false, ltb-true}
+use Rattle.std.proofs.lemmas.Bool.{ltb-false, leb-true, lt-ltb, le-ltb, le-leb, lt-leb}
 use Rattle.std.proofs.lemmas.Bool.Decides.{nat_tests}
 use Rattle.sdh_kbytes.specs.declared.K.{K}
 use Rattle.sdh_terms.specs.declared.Code.{Code}
@@ -15,15 +17,19 @@ use Rattle.sdh_terms.specs.Requests.{code_number}
 use Rattle.sdh_ringmap.specs.Places.{opposite, found_at}
 use Rattle.sdh_ringmap.specs.declared.Side.{Side}
 use Rattle.sdh_ringmap.specs.declared.Side.TheVariants.{West, East}
-use Rattle.sdh_nodestate.specs.Rules.{Scene, own_id, id_on, local, word_on, short, is_from_neighbour, weight, stronger, long, long_word, relayed, word, word_by, own_word, rest_word, chosen, choose, is_short, Choice, own_short, own_long, relay, rest, switches, is_below, is_about, is_side, far}
+use Rattle.sdh_nodestate.specs.Rules.{Scene, own_id, id_on, local, word_on, short, is_from_neighbour, weight, stronger, long, long_word}
+use Rattle.sdh_nodestate.specs.Rules.{relayed, word, word_by, own_word, rest_word, chosen, choose, is_short, Choice, own_short, own_long}
+use Rattle.sdh_nodestate.specs.Rules.{relay, rest, switches, is_below, is_about, is_side, far}
 
-larger_by : (t : Bool) (a b : Code) → (t ≡ true → code_number a < code_number b) → (t ≡ false → code_number b ≤ code_number a) → code_number (if t then b else a) ≡ max (code_number a) (code_number b)
+larger_by : (t : Bool) (a b : Code) → (t ≡ true → code_number a < code_number b) → (t ≡ false → code_number b ≤ code_number a)
+    → code_number (if t then b else a) ≡ max (code_number a) (code_number b)
 larger_by true a b y n = let h = y refl in omega arith
 larger_by false a b y n = let h = n refl in omega arith
 
 pub weight_is : (s : Scene) (d : Side) → weight s d ≡ max (code_number (local s d)) (code_number (short s d))
 unfolding stronger
-weight_is s d = larger_by (nat_lt (code_number (local s d)) (code_number (short s d))) (local s d) (short s d) (ltb-true _ _) (ltb-false _ _)
+weight_is s d =
+    larger_by (nat_lt (code_number (local s d)) (code_number (short s d))) (local s d) (short s d) (ltb-true _ _) (ltb-false _ _)
 
 pub below_eleven : (c : Code) → code_number c < 11 → code_number c ≤ 8
 below_eleven Nr h = omega arith
@@ -66,7 +72,8 @@ pub record IsShortHeard (o : Option K) (c : Code) (k : K) : Type 0 where
   pub code : c ≡ k.code
   pub strong : 5 ≤ code_number k.code
 
-short_test : (s : Scene) (d : Side) (k : K) (t : Bool) → is_from_neighbour s d k ≡ t → (code_number (if t then k.code else Nr) ≡ 0) ⊎ IsShortHeard (Some k) (if t then k.code else Nr) k
+short_test : (s : Scene) (d : Side) (k : K) (t : Bool) → is_from_neighbour s d k ≡ t
+    → (code_number (if t then k.code else Nr) ≡ 0) ⊎ IsShortHeard (Some k) (if t then k.code else Nr) k
 short_test s d k false e = inl refl
 short_test s d k true e =
     let f = first_of_four (is_short k.path) (k.to == own_id s) (k.from == id_on s d) (nat_le 5 (code_number k.code)) e in
@@ -79,15 +86,18 @@ with_word : (o : Option K) (c : Code) (k : K) → (code_number c ≡ 0) ⊎ IsSh
 with_word o c k (inl z) = inl z
 with_word o c k (inr h) = inr (k, h)
 
-short_option : (s : Scene) (d : Side) (o : Option K) → MayBeShort o (option_map_or (λ k. if is_from_neighbour s d k then k.code else Nr) o Nr)
+short_option : (s : Scene) (d : Side) (o : Option K) → MayBeShort o
+    (option_map_or (λ k. if is_from_neighbour s d k then k.code else Nr) o Nr)
 short_option s d None = inl refl
-short_option s d (Some k) = with_word (Some k) (if is_from_neighbour s d k then k.code else Nr) k (short_test s d k (is_from_neighbour s d k) refl)
+short_option s d (Some k) =
+    with_word (Some k) (if is_from_neighbour s d k then k.code else Nr) k (short_test s d k (is_from_neighbour s d k) refl)
 
 pub short_from : (s : Scene) (d : Side) → MayBeShort (word_on s d) (short s d)
 unfolding short
 short_from s d = short_option s d (word_on s d)
 
-pub short_of : (s : Scene) (d : Side) (k : K) → word_on s d ≡ Some k → k.path ≡ Short → k.to ≡ own_id s → k.from ≡ id_on s d → 5 ≤ code_number k.code → short s d ≡ k.code
+pub short_of : (s : Scene) (d : Side) (k : K) → word_on s d ≡ Some k → k.path ≡ Short → k.to ≡ own_id s → k.from ≡ id_on s d
+    → 5 ≤ code_number k.code → short s d ≡ k.code
 unfolding short
 short_of s d k e p t f c =
     let test : is_from_neighbour s d k ≡ true = four _ _ _ _ (ap is_short p) (eq-eqb _ _ t) (eq-eqb _ _ f) (le-leb _ _ c) in
@@ -115,7 +125,13 @@ long_option None k e = cc
 long_option (Some w) k e =
     let t = if_some (not (is_short w.path) && nat_le 5 (code_number w.code)) w k e in
     let b = and_parts (not (is_short w.path)) (nat_le 5 (code_number w.code)) t.0 in
-    record { heard = ap Some t.1; is = refl; path = ap (λ (x : K). x.path) (sym t.1) ∙ is_long_of w.path (not-true (is_short w.path) b.0); strong = rw t.1 at (leb-true 5 (code_number w.code) b.1) }
+    record {
+      heard = ap Some t.1;
+      is = refl;
+      path = ap (λ (x : K). x.path) (sym t.1)
+          ∙ is_long_of w.path (not-true (is_short w.path) b.0);
+      strong = rw t.1 at (leb-true 5 (code_number w.code) b.1);
+    }
 
 pub long_from : (s : Scene) (d : Side) (k : K) → long s d ≡ Some k → IsLongHeard (word_on s d) (Some k) k
 unfolding long
@@ -144,7 +160,8 @@ pub record IsRelay (s : Scene) (d : Side) (k : K) : Type 0 where
   pub for_others : k.to ≢ own_id s
   pub foreign : k.from ≢ own_id s
 
-relayed_option : (s : Scene) (d : Side) (o : Option K) (k : K) → long s (opposite d) ≡ o → option_map_or (λ w. if (w.to == own_id s) || (w.from == own_id s) then None else Some w) o None ≡ Some k → IsRelay s d k
+relayed_option : (s : Scene) (d : Side) (o : Option K) (k : K) → long s (opposite d) ≡ o
+    → option_map_or (λ w. if (w.to == own_id s) || (w.from == own_id s) then None else Some w) o None ≡ Some k → IsRelay s d k
 relayed_option s d None k l e = cc
 relayed_option s d (Some w) k l e =
     let t = if_not_some ((w.to == own_id s) || (w.from == own_id s)) w k e in
@@ -161,7 +178,9 @@ relayed_from s d k e = relayed_option s d (long s (opposite d)) k refl e
 
 pub far_of : (s : Scene) (d : Side) (k : K) → long s (opposite d) ≡ Some k → k.from ≢ own_id s → far s d ≡ found_at s.ids k.from
 unfolding far
-far_of s d k e f = ap (λ o. option_map_or (λ k. if k.from == own_id s then None else found_at s.ids k.from) o None) e ∙ ap (λ b. if b then None else found_at s.ids k.from) (ne_eqb _ _ f)
+far_of s d k e f =
+    ap (λ o. option_map_or (λ k. if k.from == own_id s then None else found_at s.ids k.from) o None) e
+    ∙ ap (λ b. if b then None else found_at s.ids k.from) (ne_eqb _ _ f)
 
 -- words that are sent
 
@@ -186,7 +205,8 @@ pub data Kind (s : Scene) (d : Side) (w : K) : Type 0 where
   a_long : w.path ≡ Long → w.code ≡ stronger s (opposite d) → Kind s d w
   a_relay : relayed s d ≡ Some w → Kind s d w
 
-short_kind : (s : Scene) (d : Side) (t : Bool) → (code_number (if t then local s d else Rr) ≤ 1) ⊎ ((if t then local s d else Rr) ≡ local s d)
+short_kind : (s : Scene) (d : Side) (t : Bool) → (code_number (if t then local s d else Rr) ≤ 1)
+    ⊎ ((if t then local s d else Rr) ≡ local s d)
 short_kind s d true = inr refl
 short_kind s d false = inl (omega arith)
 
@@ -243,35 +263,52 @@ pub switch_lighter : (s : Scene) (d : Side) → weight s d < 11 → weight s d �
 unfolding switches
 switch_lighter s d h l =
     or_from (nat_le 11 (weight s d)) _ (lt-leb 11 (weight s d) h)
-    (third (nat_le 5 (weight s d)) (nat_le (weight s d) 8) (nat_lt (weight s (opposite d)) (weight s d)) (list_all (is_below s d) (West ∷ East ∷ [])) (le-ltb _ _ l))
+    (third (nat_le 5 (weight s d)) (nat_le (weight s d) 8) (nat_lt (weight s (opposite d)) (weight s d))
+    (list_all (is_below s d) (West ∷ East ∷ [])) (le-ltb _ _ l))
 
 below_false : (s : Scene) (d x : Side) → is_below s d x ≡ false → list_all (is_below s d) (West ∷ East ∷ []) ≡ false
 below_false s d West e = and_left (is_below s d West) (is_below s d East && true) e
 below_false s d East e = and_right (is_below s d West) (is_below s d East && true) (and_left (is_below s d East) true e)
 
 -- nor one below 11 beside a long word that isn't about it and isn't lighter
-pub switch_blocked : (s : Scene) (d x : Side) (k : K) → weight s d < 11 → long s x ≡ Some k → is_about s d x k ≡ false → weight s d ≤ code_number k.code → switches s d ≡ false
+pub switch_blocked : (s : Scene) (d x : Side) (k : K) → weight s d < 11 → long s x ≡ Some k → is_about s d x k ≡ false
+    → weight s d ≤ code_number k.code → switches s d ≡ false
 unfolding switches
 switch_blocked s d x k h e f l =
-    let b : is_below s d x ≡ false = ap (λ o. option_map_or (λ k. is_about s d x k || nat_lt (code_number k.code) (weight s d)) o true) e ∙ or_from (is_about s d x k) (nat_lt (code_number k.code) (weight s d)) f (le-ltb _ _ l) in
+    let b : is_below s d x ≡ false =
+    ap (λ o. option_map_or (λ k. is_about s d x k || nat_lt (code_number k.code) (weight s d)) o true) e
+    ∙ or_from (is_about s d x k) (nat_lt (code_number k.code) (weight s d)) f (le-ltb _ _ l) in
     or_from (nat_le 11 (weight s d)) _ (lt-leb 11 (weight s d) h)
-    (fourth (nat_le 5 (weight s d)) (nat_le (weight s d) 8) (nat_lt (weight s (opposite d)) (weight s d)) (list_all (is_below s d) (West ∷ East ∷ [])) (below_false s d x b))
+    (fourth (nat_le 5 (weight s d)) (nat_le (weight s d) 8) (nat_lt (weight s (opposite d)) (weight s d))
+    (list_all (is_below s d) (West ∷ East ∷ [])) (below_false s d x b))
 
 pub below_none : (s : Scene) (d x : Side) → long s x ≡ None → is_below s d x ≡ true
 below_none s d x e = ap (λ o. option_map_or (λ k. is_about s d x k || nat_lt (code_number k.code) (weight s d)) o true) e
 
 pub below_about : (s : Scene) (d x : Side) (k : K) → long s x ≡ Some k → is_about s d x k ≡ true → is_below s d x ≡ true
-below_about s d x k e a = ap (λ o. option_map_or (λ k. is_about s d x k || nat_lt (code_number k.code) (weight s d)) o true) e ∙ ap (λ b. b || nat_lt (code_number k.code) (weight s d)) a
+below_about s d x k e a =
+    ap (λ o. option_map_or (λ k. is_about s d x k || nat_lt (code_number k.code) (weight s d)) o true) e
+    ∙ ap (λ b. b || nat_lt (code_number k.code) (weight s d)) a
 
 -- a side from 5 to 8 is switched where the other is lighter and no word stands against it
-pub switch_alone : (s : Scene) (d : Side) → 5 ≤ weight s d → weight s d ≤ 8 → weight s (opposite d) < weight s d → is_below s d West ≡ true → is_below s d East ≡ true → switches s d ≡ true
+pub switch_alone : (s : Scene) (d : Side) → 5 ≤ weight s d → weight s d ≤ 8 → weight s (opposite d) < weight s d → is_below s d West ≡ true
+    → is_below s d East ≡ true → switches s d ≡ true
 unfolding switches
 switch_alone s d a b l w e =
-    rw (lt-leb 11 (weight s d) (omega arith), le-leb 5 (weight s d) a, le-leb (weight s d) 8 b, lt-ltb (weight s (opposite d)) (weight s d) l, w, e)
+    rw (
+      lt-leb 11 (weight s d) (omega arith),
+      le-leb 5 (weight s d) a,
+      le-leb (weight s d) 8 b,
+      lt-ltb (weight s (opposite d)) (weight s d) l,
+      w,
+      e,
+    )
 
 pub not_about_to : (s : Scene) (d x : Side) (k : K) → k.to ≢ own_id s → is_about s d x k ≡ false
 unfolding is_about
-not_about_to s d x k h = and_left (is_side x (opposite d) && (k.to == own_id s)) (k.from == id_on s d) (and_right (is_side x (opposite d)) (k.to == own_id s) (ne_eqb _ _ h))
+not_about_to s d x k h =
+    and_left (is_side x (opposite d) && (k.to == own_id s)) (k.from == id_on s d)
+    (and_right (is_side x (opposite d)) (k.to == own_id s) (ne_eqb _ _ h))
 
 pub about_of : (s : Scene) (d : Side) (k : K) → k.to ≡ own_id s → k.from ≡ id_on s d → is_about s d (opposite d) k ≡ true
 unfolding is_about

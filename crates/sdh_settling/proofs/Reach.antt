@@ -1,6 +1,7 @@
 -- Forward: the first end of a span at the level that is met on the way round is heard. Its constant long word is
 -- heard by the next node from some round on, and with each further node that relays it three rounds later.
-use Rattle.std.proofs.Common.{◌≡◌, ◌≢◌, ℕ, ◌+◌, ◌-◌, ◌*◌, ◌<◌, ◌≤◌, suc, zero, Bool, true, false, Some, length, refl, ap, sym, subst, ◌∙◌, arith}
+use Rattle.std.proofs.Common.{◌≡◌, ◌≢◌, ℕ, ◌+◌, ◌-◌, ◌*◌, ◌<◌, ◌≤◌, suc, zero, Bool, true, false, Some, length, refl, ap, sym, subst, ◌∙◌}
+use Rattle.std.proofs.Common.{arith}
 use Rattle.std.specs.Prelude.{option_map, slice_index}
 use Rattle.sdh_kbytes.specs.declared.K.{K}
 use Rattle.sdh_terms.specs.declared.Code.{Code}
@@ -74,7 +75,8 @@ module _ (run : Run) (R : IsRun run) where
     clear p d h l false e = e
 
     -- a word of code c or more that isn't from or for a node with no span at the level is sent on
-    sent_on : (v q : ℕ) (e : Side) (w says : K) → n + 4 ≤ v → q < n → asked q e < c → asked q (opposite e) < c → word_on (at v q) e ≡ Some w → bare w ≡ says → says.path ≡ Long → c ≤ code_number says.code → says.to ≢ id q → says.from ≢ id q → bare (away v q e) ≡ says
+    sent_on : (v q : ℕ) (e : Side) (w says : K) → n + 4 ≤ v → q < n → asked q e < c → asked q (opposite e) < c → word_on (at v q) e ≡ Some w
+        → bare w ≡ says → says.path ≡ Long → c ≤ code_number says.code → says.to ≢ id q → says.from ≢ id q → bare (away v q e) ≡ says
     sent_on v q e w says l h less other o is path strong to from =
         let low = level.low in
         let num = ap (λ (k : K). code_number k.code) is in
@@ -82,10 +84,13 @@ module _ (run : Run) (R : IsRun run) where
         let w_from = ap (λ (k : K). k.from) is in
         let a = weight_le run R v q e (omega arith) h in
         let b = weight_le run R v q (opposite e) (omega arith) h in
-        ap bare (passes run R c level v q e w (omega arith) (omega arith) (long_of (at v q) e w o (ap (λ (k : K). k.path) is ∙ path) (omega arith)) (omega arith) (λ i. to (sym w_to ∙ i)) (λ i. from (sym w_from ∙ i))) ∙ is
+        ap bare (passes run R c level v q e w (omega arith) (omega arith)
+        (long_of (at v q) e w o (ap (λ (k : K). k.path) is ∙ path) (omega arith)) (omega arith) (λ i. to (sym w_to ∙ i))
+        (λ i. from (sym w_from ∙ i))) ∙ is
 
     -- forward: its long word is heard
-    pub reach : (k t p : ℕ) (e : Side) → p < n → suc k < n → IsFirst p e (suc k) → n + 7 + 3 * k ≤ t → option_map bare (word_on (at t p) e) ≡ Some (plain (going n e p (suc k)) e (top_code (going n e p (suc k)) e) Long)
+    pub reach : (k t p : ℕ) (e : Side) → p < n → suc k < n → IsFirst p e (suc k) → n + 7 + 3 * k ≤ t
+        → option_map bare (word_on (at t p) e) ≡ Some (plain (going n e p (suc k)) e (top_code (going n e p (suc k)) e) Long)
     reach zero t p e h few first l =
         let q = nx p e in
         let b = next_below run R p e in
@@ -98,7 +103,9 @@ module _ (run : Run) (R : IsRun run) where
         subst (Hears t p e) one
         (subst (λ v. Hears v p e q) when
         (R.future u p e (plain q e (top_code q e) Long) h (clear p e h less (fails_on (run.need p) e) refl)
-        (long_said run R c level u q e (omega arith) b (omega arith) there) (long_said run R c level (suc u) q e (omega arith) b (omega arith) there) (long_said run R c level (suc (suc u)) q e (omega arith) b (omega arith) there)))
+        (long_said run R c level u q e (omega arith) b (omega arith) there)
+        (long_said run R c level (suc u) q e (omega arith) b (omega arith) there)
+        (long_said run R c level (suc (suc u)) q e (omega arith) b (omega arith) there)))
     reach (suc k) t p e h few first l =
         let q = nx p e in
         let x = going n e q (suc k) in
@@ -110,7 +117,10 @@ module _ (run : Run) (R : IsRun run) where
         let across = request_back run R p e h in
         let inside = going-inside n (some_nodes run R) e q (suc k) in
         let says = plain x e (top_code x e) Long in
-        let to : id (nx x e) ≢ id q = id_apart run R (nx x e) q (next_below run R x e) b (λ i. going-apart n (some_nodes run R) e q (suc (suc k)) b (omega arith) few (sym (going-next n (some_nodes run R) e q (suc k)) ∙ i)) in
+        let to : id (nx x e) ≢ id q =
+        id_apart run R (nx x e) q (next_below run R x e) b
+        (λ i. going-apart n (some_nodes run R) e q (suc (suc k)) b (omega arith) few
+        (sym (going-next n (some_nodes run R) e q (suc k)) ∙ i)) in
         let from : id x ≢ id q = id_apart run R x q inside b (going-apart n (some_nodes run R) e q (suc k) b (omega arith) (omega arith)) in
         let strong = (knows run R c level t x e (omega arith) inside there).strong in
         let low = level.low in
@@ -121,4 +131,5 @@ module _ (run : Run) (R : IsRun run) where
         let when : suc (suc (suc u)) ≡ t = omega arith in
         subst (Hears t p e) (going-first n (some_nodes run R) e p (suc k))
         (subst (λ v. Hears v p e x) when
-        (R.future u p e says h (clear p e h less (fails_on (run.need p) e) refl) (relays u (omega arith)) (relays (suc u) (omega arith)) (relays (suc (suc u)) (omega arith))))
+        (R.future u p e says h (clear p e h less (fails_on (run.need p) e) refl) (relays u (omega arith)) (relays (suc u) (omega arith))
+        (relays (suc (suc u)) (omega arith))))

@@ -11,8 +11,11 @@ highest_ge (r ∷ rs) (suc i) h = let x = highest_ge rs i (omega arith) in omega
 
 pub applies_top : (rs : List ℕ) (r : ℕ) → 11 ≤ highest rs → applies rs r ≡ nat_le 11 r
 unfolding applies
-applies_top rs r h = ap (λ b. if b then nat_le 11 r else (nat_lt 0 (highest rs) && has_one_leader rs) && (r == highest rs)) (le-leb 11 (highest rs) h)
+applies_top rs r h =
+    ap (λ b. if b then nat_le 11 r else (nat_lt 0 (highest rs) && has_one_leader rs) && (r == highest rs)) (le-leb 11 (highest rs) h)
 
-pub applies_low : (rs : List ℕ) (r : ℕ) → highest rs < 11 → applies rs r ≡ ((nat_lt 0 (highest rs) && has_one_leader rs) && (r == highest rs))
+pub applies_low : (rs : List ℕ) (r : ℕ) → highest rs < 11 → applies rs r
+    ≡ ((nat_lt 0 (highest rs) && has_one_leader rs) && (r == highest rs))
 unfolding applies
-applies_low rs r h = ap (λ b. if b then nat_le 11 r else (nat_lt 0 (highest rs) && has_one_leader rs) && (r == highest rs)) (lt-leb 11 (highest rs) h)
+applies_low rs r h =
+    ap (λ b. if b then nat_le 11 r else (nat_lt 0 (highest rs) && has_one_leader rs) && (r == highest rs)) (lt-leb 11 (highest rs) h)

@@ -1,6 +1,7 @@
 -- The rounds of a ring of signals whose needs stay the same and in which no node is held are a run: a word is heard in the round in
 -- which it comes in, where it is the third in a row, and it comes in one round after it was sent.
-use Rattle.std.proofs.Common.{◌≡◌, ℕ, zero, suc, ◌<◌, Bool, true, false, Option, Some, None, List, [], length, get_or, refl, ap, sym, subst, ◌∙◌, arith, inl, inr}
+use Rattle.std.proofs.Common.{◌≡◌, ℕ, zero, suc, ◌<◌, Bool, true, false, Option, Some, None, List, [], length, get_or, refl, ap, sym, subst}
+use Rattle.std.proofs.Common.{◌∙◌, arith, inl, inr}
 use Rattle.std.specs.Prelude.{slice_get, slice_index, option_map, if◌then◌else◌, ◌&&◌, All}
 use Rattle.std.proofs.lemmas.Bool.{eq-eqb}
 use Rattle.std.proofs.lemmas.List.Elements.{All-get_or}
@@ -21,7 +22,8 @@ use Rattle.sdh_nodestate.specs.Rules.{Scene, scene, own_id, word, word_on, sent_
 use Rattle.sdh_nodestate.specs.Conditions.{MayNeed}
 use Rattle.sdh_nodestate.specs.Words.{IsMember, IsSourced}
 use Rattle.sdh_nodestate.proofs.Filtering.{heard_last}
-use Rattle.sdh_settling.specs.Signals.{Signals, Filters, no_filters, fails_on, sent_on, incoming, on_their_way, filters_after, heard_through, is_held, words_in, unsaid, scene_at, round, rounds, MayGo, no_needs}
+use Rattle.sdh_settling.specs.Signals.{Signals, Filters, no_filters, fails_on, sent_on, incoming, on_their_way, filters_after}
+use Rattle.sdh_settling.specs.Signals.{heard_through, is_held, words_in, unsaid, scene_at, round, rounds, MayGo, no_needs}
 use Rattle.sdh_settling.specs.Runs.{Run, at_round, sent_here, bare, IsRun}
 use Rattle.sdh_ringmap.proofs.Sides.{neighbour_below}
 use Rattle.sdh_settling.proofs.OneNode.{if_not_some}
@@ -42,12 +44,14 @@ brought_on f West = f.west
 brought_on f East = f.east
 
 pub brought_after : (s : Signals) (p : ℕ) (x : Needs) (d : Side)
-    → brought_on (filters_after s p x) d ≡ with_brought (incoming (on_their_way s) (length s.ids) p x d) (brought_on (get_or s.filters p no_filters) d)
+    → brought_on (filters_after s p x) d ≡ with_brought (incoming (on_their_way s) (length s.ids) p x d)
+    (brought_on (get_or s.filters p no_filters) d)
 unfolding filters_after
 brought_after s p x West = refl
 brought_after s p x East = refl
 
-heard_on : (ids : List ℕ) (p : ℕ) (x : Needs) (f : Filters) (d : Side) → word_on (scene ids p x (heard_through f)) d ≡ hears (brought_on f d)
+heard_on : (ids : List ℕ) (p : ℕ) (x : Needs) (f : Filters) (d : Side)
+    → word_on (scene ids p x (heard_through f)) d ≡ hears (brought_on f d)
 heard_on ids p x f West = refl
 heard_on ids p x f East = refl
 
@@ -79,10 +83,12 @@ way_sourced s sourced = by_running s.running
     by_running false = λ k d h. absurd (omega arith)
 
 module _ (s : Signals) (sourced : All (IsSourced s.ids) s.words) where
-  came : (b : Bool) (o : Option Sent) (d : Side) (k : K) → ((w : Sent) → o ≡ Some w → IsSourced s.ids w) → (if b then None else option_map (λ w. sent_on w d) o) ≡ Some k → IsMember s.ids k.from
+  came : (b : Bool) (o : Option Sent) (d : Side) (k : K) → ((w : Sent) → o ≡ Some w → IsSourced s.ids w)
+      → (if b then None else option_map (λ w. sent_on w d) o) ≡ Some k → IsMember s.ids k.from
   came true o d k h e = cc
   came false None d k h e = cc
-  came false (Some w) d k h e = let is : sent_on w d ≡ k = cc in subst (λ (x : K). IsMember s.ids x.from) is (sourced_on s.ids w d (h w refl))
+  came false (Some w) d k h e = let is : sent_on w d ≡ k =
+      cc in subst (λ (x : K). IsMember s.ids x.from) is (sourced_on s.ids w d (h w refl))
 
   at_place : (q : ℕ) (w : Sent) → slice_get (on_their_way s) q ≡ Some w → IsSourced s.ids w
   at_place q w e =
@@ -95,30 +101,38 @@ module _ (s : Signals) (sourced : All (IsSourced s.ids) s.words) where
       let q = neighbour (length s.ids) p d in
       let f = filters_after s p x in
       let last = heard_last (brought_on f d) k (sym (heard_on s.ids p x f d) ∙ e) in
-      came (fails_on x d) (slice_get (on_their_way s) q) (opposite d) k (at_place q) (sym (ap (λ (b : Brought). b.last) (brought_after s p x d)) ∙ last)
+      came (fails_on x d) (slice_get (on_their_way s) q) (opposite d) k (at_place q)
+      (sym (ap (λ (b : Brought). b.last) (brought_after s p x d)) ∙ last)
 
   own_is : (p : ℕ) (x : Needs) → own_id (scene_at s p x) ≡ slice_index s.ids p
   unfolding scene_at
   own_is p x = refl
 
-  by_kind : (p : ℕ) (x : Needs) (d : Side) → p < length s.ids → IsOwnOrRelayed (scene_at s p x) d (word (scene_at s p x) d) → IsMember s.ids (word (scene_at s p x) d).from
+  by_kind : (p : ℕ) (x : Needs) (d : Side) → p < length s.ids → IsOwnOrRelayed (scene_at s p x) d (word (scene_at s p x) d)
+      → IsMember s.ids (word (scene_at s p x) d).from
   by_kind p x d h (inl own) = (p, h, sym (own ∙ own_is p x))
   by_kind p x d h (inr r) = heard_sourced p x (opposite d) (word (scene_at s p x) d) r.heard
 
   pub words_sourced : (p : ℕ) (x : Needs) → p < length s.ids → IsSourced s.ids (sent_after (scene_at s p x))
-  words_sourced p x h = record { west = by_kind p x West h (word_source (scene_at s p x) West); east = by_kind p x East h (word_source (scene_at s p x) East) }
+  words_sourced p x h = record {
+    west = by_kind p x West h (word_source (scene_at s p x) West);
+    east = by_kind p x East h (word_source (scene_at s p x) East);
+  }
 
-  by_hold : (b : Bool) (p : ℕ) (x : Needs) → length s.words ≡ length s.ids → p < length s.ids → IsSourced s.ids (if b then words_in s p else sent_after (scene_at s p x))
+  by_hold : (b : Bool) (p : ℕ) (x : Needs) → length s.words ≡ length s.ids → p < length s.ids
+      → IsSourced s.ids (if b then words_in s p else sent_after (scene_at s p x))
   by_hold true p x said h = All-get_or (IsSourced s.ids) s.words p (record { west = unsaid; east = unsaid }) (omega arith) sourced
   by_hold false p x said h = words_sourced p x h
 
 -- a round keeps that
-pub round_sourced : (needs : List Needs) (held : List Bool) (s : Signals) → length needs ≡ length s.ids → length s.words ≡ length s.ids → All (IsSourced s.ids) s.words → All (IsSourced s.ids) (round needs held s).words
+pub round_sourced : (needs : List Needs) (held : List Bool) (s : Signals) → length needs ≡ length s.ids → length s.words ≡ length s.ids
+    → All (IsSourced s.ids) s.words → All (IsSourced s.ids) (round needs held s).words
 unfolding round
 round_sourced needs held s size said sourced = λ k d h.
     let f = λ (p : ℕ) (x : Needs). if is_held held p then words_in s p else sent_after (scene_at s p x) in
     let l = length-map_from f 0 needs in
-    subst (IsSourced s.ids) (sym (get_or-placed f needs k no_needs d (omega arith))) (by_hold s sourced (is_held held k) k (get_or needs k no_needs) said (omega arith))
+    subst (IsSourced s.ids) (sym (get_or-placed f needs k no_needs d (omega arith)))
+    (by_hold s sourced (is_held held k) k (get_or needs k no_needs) said (omega arith))
 
 -- and each node has its words after it
 pub round_said : (needs : List Needs) (held : List Bool) (s : Signals) → length (round needs held s).words ≡ length needs
@@ -130,7 +144,8 @@ unfolding round
 round_ids needs held s = refl
 
 -- the filters of a position after a round
-pub filters_in : (needs : List Needs) (held : List Bool) (s : Signals) (p : ℕ) → p < length needs → get_or (round needs held s).filters p no_filters ≡ filters_after s p (get_or needs p no_needs)
+pub filters_in : (needs : List Needs) (held : List Bool) (s : Signals) (p : ℕ) → p < length needs
+    → get_or (round needs held s).filters p no_filters ≡ filters_after s p (get_or needs p no_needs)
 unfolding round
 filters_in needs held s p h = get_or-placed (λ p x. filters_after s p x) needs p no_needs no_filters h
 
@@ -146,7 +161,11 @@ module _ (needs : List Needs) (s : Signals) (may : MayGo needs s) where
 
   -- the run
   abbrev pub run_of : Run
-  run_of = record { ids = s.ids; need = λ p. get_or needs p no_needs; heard = λ t p. heard_through (filters_after (rounds needs t s) p (get_or needs p no_needs)) }
+  run_of = record {
+    ids = s.ids;
+    need = λ p. get_or needs p no_needs;
+    heard = λ t p. heard_through (filters_after (rounds needs t s) p (get_or needs p no_needs));
+  }
 
   abbrev at : ℕ → ℕ → Scene
   at t p = at_round run_of t p
@@ -165,7 +184,8 @@ module _ (needs : List Needs) (s : Signals) (may : MayGo needs s) where
   sourced (suc t) =
       let same = ap length (sym (ids_is t)) in
       subst (λ ids. All (IsSourced ids) (ring (suc t)).words) (ids_is t)
-      (round_sourced needs [] (ring t) (may.size ∙ same) (length_is t ∙ same) (subst (λ ids. All (IsSourced ids) (ring t).words) (sym (ids_is t)) (sourced t)))
+      (round_sourced needs [] (ring t) (may.size ∙ same) (length_is t ∙ same)
+      (subst (λ ids. All (IsSourced ids) (ring t).words) (sym (ids_is t)) (sourced t)))
 
   pub scene_is : (t p : ℕ) → scene_at (ring t) p (need p) ≡ at t p
   unfolding scene_at
@@ -193,7 +213,8 @@ module _ (needs : List Needs) (s : Signals) (may : MayGo needs s) where
   unfolding round
   comes t p d =
       ap (λ ids. incoming (ring (suc t)).words (length ids) p (need p) d) (ids_is t)
-      ∙ ap (λ o. if fails_on (need p) d then None else option_map (λ w. sent_on w (opposite d)) o) (words_are t (neighbour n p d) (next_below p d))
+      ∙ ap (λ o. if fails_on (need p) d then None else option_map (λ w. sent_on w (opposite d)) o)
+      (words_are t (neighbour n p d) (next_below p d))
       ∙ ap (λ w. if fails_on (need p) d then None else Some w) (sent_is (at t (neighbour n p d)) (opposite d))
 
   -- what the last three rounds brought
@@ -231,7 +252,8 @@ module _ (needs : List Needs) (s : Signals) (may : MayGo needs s) where
 
   -- the last three rounds' words, where the side doesn't fail
   brings_three : (t p : ℕ) (d : Side) → p < n → fails_on (need p) d ≡ false
-      → hears (brings (suc (suc (suc t))) p d) ≡ heard_of (Some (sent_here run_of (suc (suc t)) p d)) (Some (sent_here run_of (suc t) p d)) (Some (sent_here run_of t p d))
+      → hears (brings (suc (suc (suc t))) p d) ≡ heard_of (Some (sent_here run_of (suc (suc t)) p d)) (Some (sent_here run_of (suc t) p d))
+      (Some (sent_here run_of t p d))
   brings_three t p d h e =
       ap hears (brings_next (suc (suc t)) p d h)
       ∙ ap (λ b. hears (with_brought (coming (suc (suc (suc t))) p d) b)) (brings_next (suc t) p d h)
@@ -253,7 +275,8 @@ module _ (needs : List Needs) (s : Signals) (may : MayGo needs s) where
       subst (λ (w : K). IsMember s.ids w.from) (sent_is (at t p) d)
       (sourced_on s.ids (sent_after (at t p)) d
       (subst (IsSourced s.ids) (get_or_from_slice_get (ring (suc t)).words p (sent_after (at t p)) (sent_after (at t p)) (words_are t p h))
-      (All-get_or (IsSourced s.ids) (ring (suc t)).words p (sent_after (at t p)) (let l = length_is (suc t) in omega arith) (sourced (suc t)))))
+      (All-get_or (IsSourced s.ids) (ring (suc t)).words p (sent_after (at t p)) (let l = length_is (suc t) in omega arith)
+      (sourced (suc t)))))
 
   pub is_run : IsRun run_of
   is_run = record {

@@ -17,10 +17,12 @@ use Rattle.sdh_nodestate.specs.Conditions.{MayNeed}
 use Rattle.sdh_settling.specs.Signals.{request_on, fails_on}
 use Rattle.sdh_settling.specs.Runs.{Run, at_round, IsRun}
 use Rattle.sdh_ringmap.proofs.Sides.{neighbour_back, neighbour_below, opposite_twice}
-use Rattle.sdh_settling.proofs.OneNode.{at_least_five, weight_is, IsShortHeard, short_from, long_from, relayed_from, Kind, a_short, a_long, a_relay, kind}
+use Rattle.sdh_settling.proofs.OneNode.{at_least_five, weight_is, IsShortHeard, short_from, long_from, relayed_from, Kind, a_short, a_long}
+use Rattle.sdh_settling.proofs.OneNode.{a_relay, kind}
 
 -- what a round may need, side by side
-pub failing : (need : ℕ → Needs) (p : ℕ) (d : Side) → MayNeed (need p) → fails_on (need p) d ≡ true → 11 ≤ code_number (request_on (need p) d)
+pub failing : (need : ℕ → Needs) (p : ℕ) (d : Side) → MayNeed (need p) → fails_on (need p) d ≡ true
+    → 11 ≤ code_number (request_on (need p) d)
 failing need p West may e = may.west_fails e
 failing need p East may e = may.east_fails e
 
@@ -89,11 +91,15 @@ module _ (run : Run) (R : IsRun run) where
   short_kind_le t q e k p s (a_long q1 c) = cc
   short_kind_le t q e k p s (a_relay c) = let f = long_from (at t q) (opposite e) k (relayed_from (at t q) e k c).is_long in cc (p, f.path)
 
-  short_le_by : (t p : ℕ) (d : Side) → p < n → (code_number (short (at (suc t) p) d) ≡ 0) ⊎ ((k : K) × IsShortHeard (word_on (at (suc t) p) d) (short (at (suc t) p) d) k) → code_number (short (at (suc t) p) d) ≤ asks (next p d) (opposite d)
+  short_le_by : (t p : ℕ) (d : Side) → p < n → (code_number (short (at (suc t) p) d) ≡ 0)
+      ⊎ ((k : K) × IsShortHeard (word_on (at (suc t) p) d) (short (at (suc t) p) d) k)
+      → code_number (short (at (suc t) p) d) ≤ asks (next p d) (opposite d)
   short_le_by t p d h (inl z) = omega arith
   short_le_by t p d h (inr (k, f)) =
       let w = R.past t p d k h f.heard in
-      let l = short_kind_le t (next p d) (opposite d) k f.path f.strong (subst (λ x. Kind (at t (next p d)) (opposite d) x) (sym w) (kind (at t (next p d)) (opposite d))) in
+      let l =
+      short_kind_le t (next p d) (opposite d) k f.path f.strong
+      (subst (λ x. Kind (at t (next p d)) (opposite d) x) (sym w) (kind (at t (next p d)) (opposite d))) in
       let c = ap code_number f.code in
       omega arith
 
@@ -116,6 +122,7 @@ module _ (run : Run) (R : IsRun run) where
       let a = code p d in
       let b = code q (opposite d) in
       elim (cases_lt (code_number a) (code_number b)) [
-        | inl less ↦ (let x = at_least_five b (not_reverse run.need q (opposite d) (R.sound q (next_below p d))) (omega arith) in omega arith)
+        | inl less ↦ (let x = at_least_five b (not_reverse run.need q (opposite d) (R.sound q (next_below p d)))
+            (omega arith) in omega arith)
         | inr more ↦ (let x = at_least_five a (not_reverse run.need p d (R.sound p h)) (omega arith) in omega arith)
       ]

@@ -5,7 +5,8 @@ use Rattle.std.specs.Option.{option_map_or}
 use Rattle.sdh_kbytes.specs.declared.K.{K}
 use Rattle.sdh_ringmap.specs.Places.{opposite}
 use Rattle.sdh_ringmap.specs.declared.Side.{Side}
-use Rattle.sdh_nodestate.specs.Rules.{Scene, own_id, word_on, relayed, word, word_by, rest_word, chosen, Choice, own_short, own_long, relay, rest}
+use Rattle.sdh_nodestate.specs.Rules.{Scene, own_id, word_on, relayed, word, word_by, rest_word, chosen, Choice, own_short, own_long, relay}
+use Rattle.sdh_nodestate.specs.Rules.{rest}
 use Rattle.sdh_ringmap.proofs.Sides.{opposite_twice}
 use Rattle.sdh_settling.proofs.OneNode.{long_from, relayed_from}
 

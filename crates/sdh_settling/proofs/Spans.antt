@@ -18,14 +18,21 @@ module _ (run : Run) (R : IsRun run) where
 
   pub size : length (run_requests run) ≡ length run.ids
   unfolding span_requests
-  size = length-cells (λ s. max (code_number (request_on (run.need s) East)) (code_number (request_on (run.need (neighbour size_of s East)) West))) size_of
+  size =
+      length-cells (λ s. max (code_number (request_on (run.need s) East))
+      (code_number (request_on (run.need (neighbour size_of s East)) West))) size_of
 
   -- the span on side d of p has the larger of the requests of its two ends
   pub spans : (p : ℕ) (d : Side) → p < length run.ids → slice_index (run_requests run) (span_at (length run.ids) p d) ≡ request run R p d
   unfolding span_requests
-  spans p East h = get_or-cells (λ s. max (code_number (request_on (run.need s) East)) (code_number (request_on (run.need (neighbour size_of s East)) West))) size_of p 0 h
+  spans p East h =
+      get_or-cells (λ s. max (code_number (request_on (run.need s) East))
+      (code_number (request_on (run.need (neighbour size_of s East)) West))) size_of p 0 h
   spans p West h =
       let q = neighbour size_of p West in
       let e = ap (λ i. code_number (request_on (run.need i) West)) (neighbour_back size_of p West h) in
-      let is = get_or-cells (λ s. max (code_number (request_on (run.need s) East)) (code_number (request_on (run.need (neighbour size_of s East)) West))) size_of q 0 (neighbour_below size_of p West (omega arith)) in
+      let is =
+      get_or-cells (λ s. max (code_number (request_on (run.need s) East))
+      (code_number (request_on (run.need (neighbour size_of s East)) West))) size_of q 0
+      (neighbour_below size_of p West (omega arith)) in
       omega arith

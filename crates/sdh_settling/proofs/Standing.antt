@@ -13,13 +13,18 @@ use Rattle.sdh_settling.specs.Settled.{far_end, next_positions, settled, settled
 -- the settled state where the number of spans is named
 
 abbrev pub far_n : List ℕ → ℕ → ℕ → Side → Option Pos
-far_n rs n p d = option_map (λ q. record { 0 = q }) (find (λ q. is_applied rs (span_at n q (opposite d))) (next_positions n (opposite d) p (n - 1)))
+far_n rs n p d =
+    option_map (λ q. record { 0 = q }) (find (λ q. is_applied rs (span_at n q (opposite d))) (next_positions n (opposite d) p (n - 1)))
 
 abbrev pub outranked_n : List ℕ → ℕ → ℕ → Bool
-outranked_n rs n p = nat_lt 0 (highest rs) && (nat_lt (slice_index rs (span_at n p West)) (highest rs) && nat_lt (slice_index rs (span_at n p East)) (highest rs))
+outranked_n rs n p =
+    nat_lt 0 (highest rs) && (nat_lt (slice_index rs (span_at n p West)) (highest rs)
+    && nat_lt (slice_index rs (span_at n p East)) (highest rs))
 
 abbrev pub settled_n : List ℕ → ℕ → ℕ → NodeState
-settled_n rs n p = settled_by (is_applied rs (span_at n p West)) (is_applied rs (span_at n p East)) (is_any_applied rs || outranked_n rs n p) (far_n rs n p West) (far_n rs n p East)
+settled_n rs n p =
+    settled_by (is_applied rs (span_at n p West)) (is_applied rs (span_at n p East)) (is_any_applied rs || outranked_n rs n p)
+    (far_n rs n p West) (far_n rs n p East)
 
 pub settled_is : (rs : List ℕ) (n p : ℕ) → length rs ≡ n → settled rs p ≡ settled_n rs n p
 unfolding settled far_end

@@ -14,7 +14,8 @@ use Rattle.sdh_nodestate.specs.declared.Sent.{Sent}
 use Rattle.sdh_nodestate.specs.Conditions.{MayNeed}
 use Rattle.sdh_nodestate.specs.Filtering.{Brought, with_brought}
 use Rattle.sdh_nodestate.specs.Rules.{scene, own_id, fails, word, state_after, sent_after}
-use Rattle.sdh_settling.specs.Signals.{Signals, Filters, fails_on, sent_on, incoming, on_their_way, filters_after, heard_through, is_held, state_in, words_in, unsaid, scene_at, round, free_round, rounds, MayGo, no_needs}
+use Rattle.sdh_settling.specs.Signals.{Signals, Filters, fails_on, sent_on, incoming, on_their_way, filters_after, heard_through, is_held}
+use Rattle.sdh_settling.specs.Signals.{state_in, words_in, unsaid, scene_at, round, free_round, rounds, MayGo, no_needs}
 use Rattle.sdh_settling.specs.Laws.{ChangesNoWord}
 use Rattle.sdh_settling.proofs.Lists.{map_from-same}
 use Rattle.sdh_settling.proofs.Marks.{same_failing}
@@ -46,7 +47,8 @@ module _ (needs : List Needs) (s : Signals) (c : ChangesNoWord needs s) where
   unfolding round
   sent_now p h =
       let size = c.may.size in
-      sym (get_or-placed (λ p x. if is_held [] p then words_in s p else sent_after (scene_at s p x)) needs p no_needs (record { west = unsaid; east = unsaid }) (omega arith))
+      sym (get_or-placed (λ p x. if is_held [] p then words_in s p else sent_after (scene_at s p x)) needs p no_needs
+      (record { west = unsaid; east = unsaid }) (omega arith))
       ∙ ap (λ (ws : List Sent). get_or ws p (record { west = unsaid; east = unsaid })) c.words
 
   -- each node sends the word that it sent before
@@ -70,7 +72,8 @@ unfolding scene_at
 needs_is s p x = refl
 
 -- two such rounds with the same words
-module _ (a b : List Needs) (r s : Signals) (ca : ChangesNoWord a r) (cb : ChangesNoWord b s) (ids : r.ids ≡ s.ids) (words : r.words ≡ s.words) where
+module _ (a b : List Needs) (r s : Signals) (ca : ChangesNoWord a r) (cb : ChangesNoWord b s) (ids : r.ids ≡ s.ids)
+    (words : r.words ≡ s.words) where
   same_fails : (p : ℕ) (d : Side) → p < length r.ids → fails_on (need_in a p) d ≡ fails_on (need_in b p) d
   same_fails p d h =
       let x = need_in a p in
@@ -80,12 +83,14 @@ module _ (a b : List Needs) (r s : Signals) (ca : ChangesNoWord a r) (cb : Chang
       ∙ same_failing (scene_at r p x) (scene_at s p y) d
       (subst MayNeed (sym (needs_is r p x)) (may_need a r ca p h)) (subst MayNeed (sym (needs_is s p y)) (may_need b s cb p few))
       (id_is r s p x y ids)
-      (word_now a r ca p d h ∙ ap (λ (ws : List Sent). sent_on (get_or ws p (record { west = unsaid; east = unsaid })) d) words ∙ sym (word_now b s cb p d few))
+      (word_now a r ca p d h ∙ ap (λ (ws : List Sent). sent_on (get_or ws p (record { west = unsaid; east = unsaid })) d) words
+      ∙ sym (word_now b s cb p d few))
       ∙ fails_is s p y d
 
   same_came : (p : ℕ) (d : Side) → p < length r.ids → came a r p d ≡ came b s p d
   same_came p d h =
-      ap (λ t. if t then None else option_map (λ w. sent_on w (opposite d)) (slice_get (on_their_way r) (neighbour (length r.ids) p d))) (same_fails p d h)
+      ap (λ t. if t then None else option_map (λ w. sent_on w (opposite d)) (slice_get (on_their_way r) (neighbour (length r.ids) p d)))
+      (same_fails p d h)
       ∙ ap (λ (ws : List Sent). incoming ws (length r.ids) p (need_in b p) d) (way_is a r ca ∙ words ∙ sym (way_is b s cb))
       ∙ ap (λ (is : List ℕ). incoming (on_their_way s) (length is) p (need_in b p) d) ids
 
@@ -93,7 +98,8 @@ both_sides : (f g : Filters) → ((d : Side) → brought_on f d ≡ brought_on g
 both_sides f g h = ap (λ w. record { west = w; east = f.east }) (h West) ∙ ap (λ e. record { west = g.west; east = e }) (h East)
 
 module _ (first second third : List Needs) (s : Signals)
-    (c1 : ChangesNoWord first s) (c2 : ChangesNoWord second (free_round first s)) (c3 : ChangesNoWord third (free_round second (free_round first s))) where
+    (c1 : ChangesNoWord first s) (c2 : ChangesNoWord second (free_round first s))
+    (c3 : ChangesNoWord third (free_round second (free_round first s))) where
   abbrev s1 : Signals
   s1 = free_round first s
 
@@ -117,7 +123,9 @@ module _ (first second third : List Needs) (s : Signals)
   same_second p d h = same_came second third s1 s2 c2 c3 (sym ids2) (sym c2.words) p d (subst (λ (is : List ℕ). p < length is) ids2 h)
 
   same_first : (p : ℕ) (d : Side) → p < length s2.ids → came first s p d ≡ came third s2 p d
-  same_first p d h = same_came first third s s2 c1 c3 (sym (ids2 ∙ ids1)) (sym (c2.words ∙ c1.words)) p d (subst (λ (is : List ℕ). p < length is) (ids2 ∙ ids1) h)
+  same_first p d h =
+      same_came first third s s2 c1 c3 (sym (ids2 ∙ ids1)) (sym (c2.words ∙ c1.words)) p d
+      (subst (λ (is : List ℕ). p < length is) (ids2 ∙ ids1) h)
 
   same_fourth : (p : ℕ) (d : Side) → came third s3 p d ≡ came third s2 p d
   unfolding round
@@ -148,7 +156,8 @@ module _ (first second third : List Needs) (s : Signals)
       ∙ ap (λ x. record { last = o; second = o; third = x }) (same_first p d h)
 
   -- and stay so
-  filled_on : (p : ℕ) (d : Side) → p < length s2.ids → brought_on (filters_after s3 p (need_in third p)) d ≡ brought_on (filters_after s2 p (need_in third p)) d
+  filled_on : (p : ℕ) (d : Side) → p < length s2.ids → brought_on (filters_after s3 p (need_in third p)) d
+      ≡ brought_on (filters_after s2 p (need_in third p)) d
   filled_on p d h =
       brought_after s3 p (need_in third p) d
       ∙ ap (λ f. with_brought (came third s3 p d) (brought_on f d)) (filters_in third [] s2 p (few3 p h))
@@ -170,21 +179,34 @@ module _ (first second third : List Needs) (s : Signals)
 
   states_stay : (free_round third s3).states ≡ s3.states
   unfolding round
-  states_stay = map_from-same (λ p x. if is_held [] p then state_in s3 p else state_after (scene_at s3 p x)) (λ p x. if is_held [] p then state_in s2 p else state_after (scene_at s2 p x)) third no_needs (λ k h. ap state_after (same_scene k (inside k h)))
+  states_stay =
+      map_from-same (λ p x. if is_held [] p then state_in s3 p else state_after (scene_at s3 p x))
+      (λ p x. if is_held [] p then state_in s2 p else state_after (scene_at s2 p x)) third no_needs
+      (λ k h. ap state_after (same_scene k (inside k h)))
 
   words_stay : (free_round third s3).words ≡ s3.words
   unfolding round
-  words_stay = map_from-same (λ p x. if is_held [] p then words_in s3 p else sent_after (scene_at s3 p x)) (λ p x. if is_held [] p then words_in s2 p else sent_after (scene_at s2 p x)) third no_needs (λ k h. ap sent_after (same_scene k (inside k h)))
+  words_stay =
+      map_from-same (λ p x. if is_held [] p then words_in s3 p else sent_after (scene_at s3 p x))
+      (λ p x. if is_held [] p then words_in s2 p else sent_after (scene_at s2 p x)) third no_needs
+      (λ k h. ap sent_after (same_scene k (inside k h)))
 
   filters_stay : (free_round third s3).filters ≡ s3.filters
   unfolding round
-  filters_stay = map_from-same (λ p x. filters_after s3 p x) (λ p x. filters_after s2 p x) third no_needs (λ k h. same_filters k (inside k h))
+  filters_stay =
+      map_from-same (λ p x. filters_after s3 p x) (λ p x. filters_after s2 p x) third no_needs (λ k h. same_filters k (inside k h))
 
   -- one more round changes nothing
   pub stays : free_round third s3 ≡ s3
   unfolding round
   stays =
-      ap (λ x. record { ids = s2.ids; states = x; words = (free_round third s3).words; filters = (free_round third s3).filters; running = true }) states_stay
+      ap (λ x. record {
+        ids = s2.ids;
+        states = x;
+        words = (free_round third s3).words;
+        filters = (free_round third s3).filters;
+        running = true;
+      }) states_stay
       ∙ ap (λ x. record { ids = s2.ids; states = s3.states; words = x; filters = (free_round third s3).filters; running = true }) words_stay
       ∙ ap (λ x. record { ids = s2.ids; states = s3.states; words = s3.words; filters = x; running = true }) filters_stay
 

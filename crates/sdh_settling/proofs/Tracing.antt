@@ -1,6 +1,7 @@
 -- Relayed words traced to the node that sends them. No node relays a word of its own, each word has a source in the
 -- ring, and in a still ring what a node heard is what its neighbour sends now: so the way back ends at the source.
-use Rattle.std.proofs.Common.{◌≡◌, ◌≢◌, ℕ, zero, suc, ◌<◌, ◌≤◌, Bool, true, false, Option, Some, None, length, refl, ap, sym, subst, ◌∙◌, arith, inl, inr, ◌⊎◌}
+use Rattle.std.proofs.Common.{◌≡◌, ◌≢◌, ℕ, zero, suc, ◌<◌, ◌≤◌, Bool, true, false, Option, Some, None, length, refl, ap, sym, subst, ◌∙◌}
+use Rattle.std.proofs.Common.{arith, inl, inr, ◌⊎◌}
 use Rattle.std.specs.Prelude.{slice_index, ◌==◌, ◌&&◌, nat_le, if◌then◌else◌}
 use Rattle.std.proofs.lemmas.Bool.{le-leb}
 use Rattle.sdh_kbytes.specs.declared.K.{K}
@@ -9,7 +10,8 @@ use Rattle.sdh_ringmap.specs.declared.Side.{Side}
 use Rattle.sdh_ringmap.specs.declared.Side.TheVariants.{West, East}
 use Rattle.sdh_ringmap.specs.declared.Pos.{Pos}
 use Rattle.sdh_nodestate.specs.declared.NodeState.TheVariants as state
-use Rattle.sdh_nodestate.specs.Rules.{Scene, word_on, relayed, weight, weight_of, Choice, own_short, own_long, relay, rest, choose, chosen, word, word_by, switches, far, is_relay, state_by, state_after}
+use Rattle.sdh_nodestate.specs.Rules.{Scene, word_on, relayed, weight, weight_of, Choice, own_short, own_long, relay, rest, choose, chosen}
+use Rattle.sdh_nodestate.specs.Rules.{word, word_by, switches, far, is_relay, state_by, state_after}
 use Rattle.sdh_settling.specs.Runs.{Run, at_round, IsRun}
 use Rattle.sdh_ringmap.specs.Steps.{going}
 use Rattle.sdh_settling.specs.Laws.{IsStillAfter, Relays, passed, LeadsBack, HasOneNotPassing, RelayedWordsLeadBack, NotAllPassThrough}
@@ -19,7 +21,8 @@ use Rattle.sdh_settling.proofs.Runs.{some_nodes, next_below}
 use Rattle.sdh_settling.proofs.OneNode.{word_relay}
 
 -- where there is no word to relay, none is relayed
-by_weights : (a b c d e : Bool) → e ≡ true → (if a then own_short else if b then own_long else if c then rest else if d then own_short else if e then own_long else relay) ≢ relay
+by_weights : (a b c d e : Bool) → e ≡ true → (if a then own_short else if b then own_long else if c then rest else if d
+    then own_short else if e then own_long else relay) ≢ relay
 by_weights true b c d e h = λ f. cc
 by_weights false true c d e h = λ f. cc
 by_weights false false true d e h = λ f. cc
@@ -28,12 +31,15 @@ by_weights false false false false true h = λ f. cc
 by_weights false false false false false h = cc
 
 no_relay : (s l : ℕ) → choose s l 0 ≢ relay
-no_relay s l = by_weights (nat_le 11 s) (nat_le 11 l) ((s == 0) && (l == 0) && (0 == 0)) (nat_le l s && nat_le 0 s) (nat_le 0 l) (le-leb 0 l (omega arith))
+no_relay s l =
+    by_weights (nat_le 11 s) (nat_le 11 l) ((s == 0) && (l == 0) && (0 == 0)) (nat_le l s && nat_le 0 s) (nat_le 0 l)
+    (le-leb 0 l (omega arith))
 
 -- a node that relays has a word to relay
 relays_some_by : (s : Scene) (d : Side) (o : Option K) → relayed s d ≡ o → chosen s d ≡ relay → (k : K) × (relayed s d ≡ Some k)
 unfolding chosen
-relays_some_by s d None e f = absurd (no_relay (weight s d) (weight s (opposite d)) (ap (λ o. choose (weight s d) (weight s (opposite d)) (weight_of o)) (sym e) ∙ f))
+relays_some_by s d None e f =
+    absurd (no_relay (weight s d) (weight s (opposite d)) (ap (λ o. choose (weight s d) (weight s (opposite d)) (weight_of o)) (sym e) ∙ f))
 relays_some_by s d (Some k) e f = (k, e)
 
 -- a word that isn't relayed is the node's own
@@ -105,11 +111,13 @@ module _ (run : Run) (R : IsRun run) (t : ℕ) (still : IsStillAfter run t) wher
     own = f ∙ ap (slice_index run.ids) (sym (none p d inside));
   }
 
-  further_between : (m p : ℕ) (d : Side) (b : Back m (nx p d) d) → p < n → Relays run (suc t) p d → (j : ℕ) → j < suc b.steps → Relays run (suc t) (going n d p j) d
+  further_between : (m p : ℕ) (d : Side) (b : Back m (nx p d) d) → p < n → Relays run (suc t) p d → (j : ℕ) → j < suc b.steps
+      → Relays run (suc t) (going n d p j) d
   further_between m p d b inside e zero h = subst (λ q. Relays run (suc t) q d) (sym (none p d inside)) e
   further_between m p d b inside e (suc j) h = subst (λ q. Relays run (suc t) q d) (more p d j) (b.between j (omega arith))
 
-  further_same : (m p : ℕ) (d : Side) (b : Back m (nx p d) d) → p < n → away p d ≡ away (nx p d) d → (j : ℕ) → j ≤ suc b.steps → away (going n d p j) d ≡ away p d
+  further_same : (m p : ℕ) (d : Side) (b : Back m (nx p d) d) → p < n → away p d ≡ away (nx p d) d → (j : ℕ) → j ≤ suc b.steps
+      → away (going n d p j) d ≡ away p d
   further_same m p d b inside e zero h = ap (λ q. away q d) (none p d inside)
   further_same m p d b inside e (suc j) h = ap (λ q. away q d) (sym (more p d j)) ∙ b.same j (omega arith) ∙ sym e
 
@@ -122,15 +130,20 @@ module _ (run : Run) (R : IsRun run) (t : ℕ) (still : IsStillAfter run t) wher
     own = ap (λ (w : K). w.from) e ∙ b.own ∙ ap (slice_index run.ids) (more p d b.steps);
   }
 
-  trace_by : (m p : ℕ) (d : Side) → p < n → (away p d).from ≡ slice_index run.ids (going n d p m) → (chosen (at_round run (suc t) p) (opposite d) ≡ relay) ⊎ (chosen (at_round run (suc t) p) (opposite d) ≢ relay) → Back m p d
+  trace_by : (m p : ℕ) (d : Side) → p < n → (away p d).from ≡ slice_index run.ids (going n d p m)
+      → (chosen (at_round run (suc t) p) (opposite d) ≡ relay) ⊎ (chosen (at_round run (suc t) p) (opposite d) ≢ relay) → Back m p d
   trace_by m p d h f (inr other) = at_source m p d h (own_word_from (at_round run (suc t) p) (opposite d) other)
   trace_by zero p d h f (inl e) = at_source zero p d h (f ∙ ap (slice_index run.ids) (none p d h))
   trace_by (suc m) p d h f (inl e) =
       let is = from_next p d h e in
-      further m p d h e is (trace_by m (nx p d) d (next_below run R p d) (ap (λ (w : K). w.from) (sym is) ∙ f ∙ ap (slice_index run.ids) (sym (more p d m))) (relays_or_not (chosen (at_round run (suc t) (nx p d)) (opposite d))))
+      further m p d h e is (trace_by m (nx p d) d (next_below run R p d)
+      (ap (λ (w : K). w.from) (sym is) ∙ f ∙ ap (slice_index run.ids) (sym (more p d m)))
+      (relays_or_not (chosen (at_round run (suc t) (nx p d)) (opposite d))))
 
   traced : (p : ℕ) (d : Side) → p < n → (x : ℕ) → (away p d).from ≡ slice_index run.ids x → (walk : IsReached n d p x) → Back walk.steps p d
-  traced p d h x f walk = trace_by walk.steps p d h (f ∙ ap (slice_index run.ids) (sym walk.there)) (relays_or_not (chosen (at_round run (suc t) p) (opposite d)))
+  traced p d h x f walk =
+      trace_by walk.steps p d h (f ∙ ap (slice_index run.ids) (sym walk.there))
+      (relays_or_not (chosen (at_round run (suc t) p) (opposite d)))
 
   leads_by : (m p : ℕ) (d : Side) → p < n → m < n → Relays run (suc t) p d → Back m p d → LeadsBack run (suc t) p d
   leads_by m p d inside few e b = record {
@@ -143,7 +156,9 @@ module _ (run : Run) (R : IsRun run) (t : ℕ) (still : IsStillAfter run t) wher
   }
     where
       some_by : (k : ℕ) → b.steps ≡ k → 0 < b.steps
-      some_by zero z = absurd ((relays_foreign (at_round run (suc t) p) d e).foreign (b.own ∙ ap (λ k. slice_index run.ids (going n d p k)) z ∙ ap (slice_index run.ids) (none p d inside)))
+      some_by zero z =
+          absurd ((relays_foreign (at_round run (suc t) p) d e).foreign
+          (b.own ∙ ap (λ k. slice_index run.ids (going n d p k)) z ∙ ap (slice_index run.ids) (none p d inside)))
       some_by (suc k) z = omega arith
 
   pub leads_back : (p : ℕ) (d : Side) → p < n → Relays run (suc t) p d → LeadsBack run (suc t) p d
@@ -171,10 +186,15 @@ module _ (run : Run) (R : IsRun run) (t : ℕ) (still : IsStillAfter run t) wher
   unfolding state_after
   passes_west p e =
       let s = at_round run (suc t) p in
-      relay_of (chosen s West) (passes_by (switches s West) (switches s East) (is_relay (chosen s West)) (is_relay (chosen s East)) (far s West) (far s East) e)
+      relay_of (chosen s West) (passes_by (switches s West) (switches s East) (is_relay (chosen s West)) (is_relay (chosen s East))
+      (far s West) (far s East) e)
 
   not_passing_by : (c : Choice) → chosen (at_round run (suc t) 0) West ≡ c → (c ≡ relay) ⊎ (c ≢ relay) → HasOneNotPassing run (suc t)
-  not_passing_by c is (inr other) = record { at = 0; inside = (let e = R.ids_ok.enough in omega arith); differs = λ e. other (sym is ∙ passes_west 0 e) }
+  not_passing_by c is (inr other) = record {
+    at = 0;
+    inside = (let e = R.ids_ok.enough in omega arith);
+    differs = λ e. other (sym is ∙ passes_west 0 e);
+  }
   not_passing_by c is (inl e) =
       let first : 0 < n = let many = R.ids_ok.enough in omega arith in
       let b = leads_back 0 East first (is ∙ e) in

@@ -14,11 +14,15 @@ use Rattle.sdh_ringmap.specs.Steps.{going}
 -- The fixpoint law, for runs: from round 4n + 7 on each node of a run is in the settled state of its position, with its
 -- far end, under the requests of the spans.
 abbrev pub RunsSettle : Type 0
-RunsSettle = (run : Run) → IsRun run → (t p : ℕ) → 4 * length run.ids + 7 ≤ t → p < length run.ids → state_after (at_round run t p) ≡ settled (run_requests run) p
+RunsSettle =
+    (run : Run) → IsRun run → (t p : ℕ) → 4 * length run.ids + 7 ≤ t → p < length run.ids
+    → state_after (at_round run t p) ≡ settled (run_requests run) p
 
 -- And from round 5n + 7 on no node of a run sends another word than in the round before.
 abbrev pub WordsStay : Type 0
-WordsStay = (run : Run) → IsRun run → (t p : ℕ) (d : Side) → 5 * length run.ids + 7 ≤ t → p < length run.ids → word (at_round run (suc t) p) d ≡ word (at_round run t p) d
+WordsStay =
+    (run : Run) → IsRun run → (t p : ℕ) (d : Side) → 5 * length run.ids + 7 ≤ t → p < length run.ids
+    → word (at_round run (suc t) p) d ≡ word (at_round run t p) d
 
 -- a round in which no node is held, which isn't the first one, and which changes no word
 pub record ChangesNoWord (needs : List Needs) (s : Signals) : Type 0 where
@@ -29,7 +33,9 @@ pub record ChangesNoWord (needs : List Needs) (s : Signals) : Type 0 where
 -- The fixpoint law, for a ring of signals: after three such rounds, one after the other, each node is in the settled state of its
 -- position, with its far end, under the requests of the needs in the last one.
 abbrev pub StillRingsAreSettled : Type 0
-StillRingsAreSettled = (first second third : List Needs) (s : Signals) → ChangesNoWord first s → ChangesNoWord second (free_round first s) → ChangesNoWord third (free_round second (free_round first s))
+StillRingsAreSettled =
+    (first second third : List Needs) (s : Signals) → ChangesNoWord first s → ChangesNoWord second (free_round first s)
+    → ChangesNoWord third (free_round second (free_round first s))
     → (free_round third (free_round second (free_round first s))).states ≡ settled_states (requests_in third)
 
 -- a round that holds no node is the same however that is told
@@ -69,7 +75,9 @@ pub record LeadsBack (run : Run) (t p : ℕ) (d : Side) : Type 0 where
 
 -- A still ring relays no word that nobody sends: each relayed word leads back to a node that sends it now.
 abbrev pub RelayedWordsLeadBack : Type 0
-RelayedWordsLeadBack = (run : Run) → IsRun run → (t : ℕ) → IsStillAfter run t → (p : ℕ) (d : Side) → p < length run.ids → Relays run (suc t) p d → LeadsBack run (suc t) p d
+RelayedWordsLeadBack =
+    (run : Run) → IsRun run → (t : ℕ) → IsStillAfter run t → (p : ℕ) (d : Side) → p < length run.ids → Relays run (suc t) p d
+    → LeadsBack run (suc t) p d
 
 -- a node that doesn't pass through in round t
 pub record HasOneNotPassing (run : Run) (t : ℕ) : Type 0 where

@@ -1,7 +1,8 @@
 -- A ring of signals: nodes that send each other words, one on each side in each round, without frames. All nodes take what comes
 -- in first, and then all send. A word comes in one round after it was sent, and counts where three rounds in a row brought it. The
 -- controller of a node may miss a round: the node is held.
-use Rattle.std.specs.Prelude.{ℕ, zero, suc, ◌≡◌, Bool, true, false, if◌then◌else◌, Option, None, option_map, List, [], length, slice_get, get_or, All}
+use Rattle.std.specs.Prelude.{ℕ, zero, suc, ◌≡◌, Bool, true, false, if◌then◌else◌, Option, None, option_map, List, [], length, slice_get}
+use Rattle.std.specs.Prelude.{get_or, All}
 use Rattle.sdh_basics.specs.Indexed.{map_from}
 use Rattle.sdh_ringmap.specs.Ids.{AreIds}
 use Rattle.sdh_ringmap.specs.Places.{opposite, neighbour}

@@ -34,4 +34,7 @@ pub no_long : (how : Status) → Ends how → how ≢ status.TooLong
 no_long how h = it_isnt how status.TooLong h (λ x. x) (λ e. grind arith)
 
 pub is_shown : (how : Status) → Ends how → (how ≢ status.Usage) × IsShown how
-is_shown how h = (it_isnt how status.Usage h (λ x. x) (λ e. grind arith), (it_isnt how status.WriteFault h (λ x. x) (λ e. grind arith), it_isnt how status.Memory h (λ x. x) (λ e. grind arith)))
+is_shown how h = (
+  it_isnt how status.Usage h (λ x. x) (λ e. grind arith),
+  (it_isnt how status.WriteFault h (λ x. x) (λ e. grind arith), it_isnt how status.Memory h (λ x. x) (λ e. grind arith)),
+)

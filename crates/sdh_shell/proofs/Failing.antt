@@ -21,15 +21,18 @@ abbrev pub HasNotFailed : Bool → Counts → Type 0
 HasNotFailed exact counts = exact ≡ true → counts.after ≡ counts.before
 
 -- no read failed, and what is told is none of these faults
-pub came_of_none : (exact : Bool) (reads : Counts) (left now : Option (List ℕ)) {ReadFault TooLong : Type 0} → HasNotFailed exact reads → (ReadFault → ⊥) → (TooLong → ⊥) → CameOfSource exact reads left now ReadFault TooLong
+pub came_of_none : (exact : Bool) (reads : Counts) (left now : Option (List ℕ)) {ReadFault TooLong : Type 0} → HasNotFailed exact reads
+    → (ReadFault → ⊥) → (TooLong → ⊥) → CameOfSource exact reads left now ReadFault TooLong
 came_of_none exact reads left now same no_read no_long = record {
   counted = counted_none exact reads.before reads.after no_read same;
   too_long = λ long. absurd (no_long long);
 }
 
-module _ (source_exact plant_exact : Bool) (reads calls : Counts) (left now : Option (List ℕ)) (same : HasNotFailed source_exact reads × HasNotFailed plant_exact calls) where
+module _ (source_exact plant_exact : Bool) (reads calls : Counts) (left now : Option (List ℕ))
+    (same : HasNotFailed source_exact reads × HasNotFailed plant_exact calls) where
   -- no call of a plant failed either
-  pub came_to_none : {ReadFault PlantFault TooLong : Type 0} → (ReadFault → ⊥) → (PlantFault → ⊥) → (TooLong → ⊥) → CameToFaults source_exact plant_exact reads calls left now ReadFault PlantFault TooLong
+  pub came_to_none : {ReadFault PlantFault TooLong : Type 0} → (ReadFault → ⊥) → (PlantFault → ⊥) → (TooLong → ⊥)
+      → CameToFaults source_exact plant_exact reads calls left now ReadFault PlantFault TooLong
   came_to_none no_read no_call no_long = record {
     source = came_of_none source_exact reads left now same.0 no_read no_long;
     plant = counted_none plant_exact calls.before calls.after no_call same.1;

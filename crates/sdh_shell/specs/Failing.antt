@@ -27,7 +27,8 @@ pub record CameOfSource (exact : Bool) (reads : Counts) (left now : Option (List
   pub too_long : TooLong → TakesCount left now 1048577
 
 -- And of a plant: where its count is exact, one call of it failed with a plant fault, and none without it.
-pub record CameToFaults (source_exact plant_exact : Bool) (reads calls : Counts) (left now : Option (List ℕ)) (ReadFault PlantFault TooLong : Type 0) : Type 0 where
+pub record CameToFaults (source_exact plant_exact : Bool) (reads calls : Counts) (left now : Option (List ℕ))
+    (ReadFault PlantFault TooLong : Type 0) : Type 0 where
   pub source : CameOfSource source_exact reads left now ReadFault TooLong
   pub plant : IsCounted plant_exact PlantFault calls.before calls.after
 

@@ -21,7 +21,8 @@ abbrev pub HasNoPlan : List ℕ → Status → Type 0
 HasNoPlan bytes status.ReadFault = Unit {0}
 HasNoPlan bytes status.TooLong = 1048576 < length bytes
 HasNoPlan bytes status.NotToml = IsShort bytes × IsNoDocument bytes
-HasNoPlan bytes (status.BadPlan number place) = IsShort bytes × ((reason : Reason) × IsWhy bytes (error.BadPlan reason place) × (number ≡ reason_number reason))
+HasNoPlan bytes (status.BadPlan number place) =
+    IsShort bytes × ((reason : Reason) × IsWhy bytes (error.BadPlan reason place) × (number ≡ reason_number reason))
 HasNoPlan bytes status.Ok = ⊥
 HasNoPlan bytes status.Usage = ⊥
 HasNoPlan bytes status.WriteFault = ⊥

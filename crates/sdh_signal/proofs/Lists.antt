@@ -1,5 +1,6 @@
 -- Lists that are compared place by place.
-use Rattle.std.proofs.Common.{◌≡◌, ◌↔◌, ℕ, ◌+◌, ◌<◌, Bool, true, false, IsTrue, List, [], ◌∷◌, ◌++◌, length, take, drop, set, get_or, refl, ap, sym, ◌∙◌, arith}
+use Rattle.std.proofs.Common.{◌≡◌, ◌↔◌, ℕ, ◌+◌, ◌<◌, Bool, true, false, IsTrue, List, [], ◌∷◌, ◌++◌, length, take, drop, set, get_or, refl}
+use Rattle.std.proofs.Common.{ap, sym, ◌∙◌, arith}
 use Rattle.std.specs.Prelude.{◌&&◌}
 use Rattle.std.proofs.lemmas.List.{take_more, take_more_set, length-take-le, get_or_default}
 use Rattle.sdh_basics.proofs.Indexing.{still_at}
@@ -25,7 +26,8 @@ and_parts false b e = cc
 
 -- A loop puts y in place i of a list, where x stood. It knows whether y is x (b), and whether all places before are as they
 -- were (a): then it knows it of all places up to i.
-pub same_more : {X : Type 0} (now old : List X) (i : ℕ) (x y : X) (a b : Bool) → i < length now → i < length old → drop i now ≡ drop i old → x ≡ get_or now i x
+pub same_more : {X : Type 0} (now old : List X) (i : ℕ) (x y : X) (a b : Bool) → i < length now → i < length old → drop i now ≡ drop i old
+    → x ≡ get_or now i x
     → (IsTrue a ↔ (take i now ≡ take i old)) → (IsTrue b ↔ (y ≡ x)) → IsTrue (a && b) ↔ (take (i + 1) (set now i y) ≡ take (i + 1) old)
 same_more now old i x y a b hn ho rest is before here =
     let was : x ≡ get_or old i x = is ∙ still_at now old i x rest in
@@ -41,5 +43,6 @@ same_more now old i x y a b hn ho rest is before here =
     )
 
 -- a loop reads x in place i of a list that it hasn't changed there
-pub was_at : {X : Type 0} (now old : List X) (i : ℕ) (x d : X) → i < length old → drop i now ≡ drop i old → x ≡ get_or now i x → get_or old i d ≡ x
+pub was_at : {X : Type 0} (now old : List X) (i : ℕ) (x d : X) → i < length old → drop i now ≡ drop i old → x ≡ get_or now i x
+    → get_or old i d ≡ x
 was_at now old i x d h rest is = get_or_default old i d x h ∙ sym (still_at now old i x rest) ∙ sym is

@@ -1,5 +1,6 @@
 -- One round, from the lists that it was made of, and the rounds before that left the words as they were.
-use Rattle.std.proofs.Common.{◌≡◌, ℕ, zero, suc, ◌+◌, ◌-◌, ◌^◌, ◌<◌, ◌≤◌, min, Bool, true, false, IsTrue, List, [], length, get_or, refl, ap, sym, subst, ◌∙◌, arith, ◌⊎◌, inl, inr}
+use Rattle.std.proofs.Common.{◌≡◌, ℕ, zero, suc, ◌+◌, ◌-◌, ◌^◌, ◌<◌, ◌≤◌, min, Bool, true, false, IsTrue, List, [], length, get_or, refl}
+use Rattle.std.proofs.Common.{ap, sym, subst, ◌∙◌, arith, ◌⊎◌, inl, inr}
 use Rattle.std.specs.Prelude.{All, nat_lt, if◌then◌else◌}
 use Rattle.std.proofs.lemmas.Bool.{cases_lt, lt-ltb}
 use Rattle.sdh_basics.specs.Cells.{cells}
@@ -12,7 +13,8 @@ use Rattle.sdh_nodestate.specs.Conditions.{MayNeed}
 use Rattle.sdh_nodestate.specs.Words.{first_words, IsSourced}
 use Rattle.sdh_nodestate.specs.Rules.{state_after, sent_after}
 use Rattle.sdh_settling.specs.Settled.{settled_states}
-use Rattle.sdh_settling.specs.Signals.{Signals, Filters, no_filters, no_needs, filters_after, is_held, state_in, words_in, scene_at, round, free_round, MayGo, requests_in}
+use Rattle.sdh_settling.specs.Signals.{Signals, Filters, no_filters, no_needs, filters_after, is_held, state_in, words_in, scene_at, round}
+use Rattle.sdh_settling.specs.Signals.{free_round, MayGo, requests_in}
 use Rattle.sdh_settling.specs.Laws.{ChangesNoWord}
 use Rattle.sdh_settling.proofs.Lists.{map_from-same}
 use Rattle.sdh_settling.proofs.Rounds.{filters_in}
@@ -26,9 +28,11 @@ pub ran : (rounds later : ℕ) → later ≡ min (rounds + 1) (2 ^ 64 - 1) → n
 ran rounds later e = lt-ltb 0 later (omega arith)
 
 -- what a round made of the lists of a ring
-pub record Made (ids : List ℕ) (needs : List Needs) (held : List Bool) (states : List NodeState) (words : List Sent) (filters : List Filters) (rounds : ℕ)
+pub record Made (ids : List ℕ) (needs : List Needs) (held : List Bool) (states : List NodeState) (words : List Sent)
+    (filters : List Filters) (rounds : ℕ)
     (now_states : List NodeState) (now_words : List Sent) (now_filters : List Filters) (later : ℕ) : Type 0 where
-  pub filters_are : now_filters ≡ map_from (λ p x. filters_with (if nat_lt 0 rounds then words else []) (length ids) p x (get_or filters p no_filters)) 0 needs
+  pub filters_are : now_filters ≡ map_from (λ p x. filters_with (if nat_lt 0 rounds then words else []) (length ids) p x
+      (get_or filters p no_filters)) 0 needs
   pub states_are : now_states ≡ map_from (next_state ids now_filters held states) 0 needs
   pub words_are : now_words ≡ map_from (next_sent ids now_filters held words) 0 needs
   pub count : later ≡ min (rounds + 1) (2 ^ 64 - 1)
@@ -38,7 +42,8 @@ pub made_by : {ids : List ℕ} {needs : List Needs} {held : List Bool} {states :
     {now_states : List NodeState} {now_words : List Sent} {now_filters : List Filters} {later : ℕ}
     → way ≡ (if nat_lt 0 rounds then words else []) → through ≡ now_filters
     → now_filters ≡ map_from (λ p x. filters_with way (length ids) p x (get_or filters p no_filters)) 0 needs
-    → now_states ≡ map_from (next_state ids through held states) 0 needs → now_words ≡ map_from (next_sent ids through held words) 0 needs → later ≡ min (rounds + 1) (2 ^ 64 - 1)
+    → now_states ≡ map_from (next_state ids through held states) 0 needs → now_words ≡ map_from (next_sent ids through held words) 0 needs
+    → later ≡ min (rounds + 1) (2 ^ 64 - 1)
     → Made ids needs held states words filters rounds now_states now_words now_filters later
 made_by {ids} {needs} {held} {states} {words} {way} {filters} {through} found read fs ss ws count = record {
   filters_are = fs ∙ ap (λ out. map_from (λ p x. filters_with out (length ids) p x (get_or filters p no_filters)) 0 needs) found;
@@ -68,37 +73,66 @@ module _ {ids : List ℕ} {needs : List Needs} {held : List Bool} {states : List
   unfolding round scene_at
   new_states =
       made.states_are
-      ∙ map_from-same (next_state ids now_filters held states) (λ p x. if is_held held p then state_in old p else state_after (scene_at old p x)) needs no_needs
-      (λ k h. ap (λ f. if is_held held k then state_in old k else state_after (scene_through ids k (get_or needs k no_needs) f)) (filters_at k h))
+      ∙ map_from-same (next_state ids now_filters held states)
+      (λ p x. if is_held held p then state_in old p else state_after (scene_at old p x)) needs no_needs
+      (λ k h. ap (λ f. if is_held held k then state_in old k else state_after (scene_through ids k (get_or needs k no_needs) f))
+      (filters_at k h))
 
   new_words : now_words ≡ (round needs held old).words
   unfolding round scene_at
   new_words =
       made.words_are
-      ∙ map_from-same (next_sent ids now_filters held words) (λ p x. if is_held held p then words_in old p else sent_after (scene_at old p x)) needs no_needs
-      (λ k h. ap (λ f. if is_held held k then words_in old k else sent_after (scene_through ids k (get_or needs k no_needs) f)) (filters_at k h))
+      ∙ map_from-same (next_sent ids now_filters held words)
+      (λ p x. if is_held held p then words_in old p else sent_after (scene_at old p x)) needs no_needs
+      (λ k h. ap (λ f. if is_held held k then words_in old k else sent_after (scene_through ids k (get_or needs k no_needs) f))
+      (filters_at k h))
 
   -- it is a round
   pub is_round : now ≡ round needs held old
   unfolding round
   is_round =
       ap (λ ss. record { ids = ids; states = ss; words = now_words; filters = now_filters; running = nat_lt 0 later }) new_states
-      ∙ ap (λ ws. record { ids = ids; states = (round needs held old).states; words = ws; filters = now_filters; running = nat_lt 0 later }) new_words
-      ∙ ap (λ fs. record { ids = ids; states = (round needs held old).states; words = (round needs held old).words; filters = fs; running = nat_lt 0 later }) new_filters
-      ∙ ap (λ b. record { ids = ids; states = (round needs held old).states; words = (round needs held old).words; filters = (round needs held old).filters; running = b }) (ran rounds later made.count)
+      ∙ ap (λ ws. record {
+        ids = ids;
+        states = (round needs held old).states;
+        words = ws;
+        filters = now_filters;
+        running = nat_lt 0 later;
+      }) new_words
+      ∙ ap (λ fs. record {
+        ids = ids;
+        states = (round needs held old).states;
+        words = (round needs held old).words;
+        filters = fs;
+        running = nat_lt 0 later;
+      }) new_filters
+      ∙ ap (λ b. record {
+        ids = ids;
+        states = (round needs held old).states;
+        words = (round needs held old).words;
+        filters = (round needs held old).filters;
+        running = b;
+      }) (ran rounds later made.count)
 
   -- and one that leaves the words as they were, where no node is held and they are the same
   pub words_left : (0 < rounds) × NoneHeld held × (now_words ≡ words) → LeavesWords held old (round needs held old)
-  words_left (some, free, same) = record { later = lt-ltb 0 rounds some; free = free; words = ap (λ (s : Signals). s.words) (sym is_round) ∙ same }
+  words_left (some, free, same) = record {
+    later = lt-ltb 0 rounds some;
+    free = free;
+    words = ap (λ (s : Signals). s.words) (sym is_round)
+        ∙ same;
+  }
 
 -- the words of new nodes have their sources in the ring
 pub first_sourced : (ids : List ℕ) (words : List Sent) → words ≡ cells (first_words ids) (length ids) → All (IsSourced ids) words
 first_sourced ids words is = λ k d h.
     let few : k < length ids = omega (arith, ap length is, length-cells (first_words ids) (length ids)) in
-    subst (IsSourced ids) (sym (ap (λ (ws : List Sent). get_or ws k d) is ∙ get_or-cells (first_words ids) (length ids) k d few)) (record { west = (k, few, refl); east = (k, few, refl) })
+    subst (IsSourced ids) (sym (ap (λ (ws : List Sent). get_or ws k d) is ∙ get_or-cells (first_words ids) (length ids) k d few))
+    (record { west = (k, few, refl); east = (k, few, refl) })
 
 -- what a ring keeps is enough for a round
-pub may_go : {s : Signals} {rounds unchanged : ℕ} (needs : List Needs) → IsRing s rounds unchanged → length needs ≡ length s.ids → All MayNeed needs → MayGo needs s
+pub may_go : {s : Signals} {rounds unchanged : ℕ} (needs : List Needs) → IsRing s rounds unchanged → length needs ≡ length s.ids
+    → All MayNeed needs → MayGo needs s
 may_go needs ring size sound = record { ids_ok = ring.ids_ok; size = size; sound = sound; said = ring.words_len; sourced = ring.sourced }
 
 -- the rounds before
@@ -110,12 +144,18 @@ fewer (suc k) s (before, needs, c, is, w) = (before, needs, c, is, fewer k befor
 module _ (needs : List Needs) (held : List Bool) (s : Signals) (may : MayGo needs s) where
   -- a round that leaves the words is one without held nodes that changes none
   leaves : LeavesWords held s (round needs held s) → ChangesNoWord needs s
-  leaves l = record { running = l.later; may = may; words = ap (λ (r : Signals). r.words) (sym (free_rounds needs held s l.free)) ∙ l.words }
+  leaves l = record {
+    running = l.later;
+    may = may;
+    words = ap (λ (r : Signals). r.words) (sym (free_rounds needs held s l.free))
+        ∙ l.words;
+  }
 
   one_more : (k : ℕ) → LeavesWords held s (round needs held s) → WereUnchanged k s → WereUnchanged (suc k) (round needs held s)
   one_more k l w = (s, needs, leaves l, free_rounds needs held s l.free, w)
 
-  up_to_three : (u : ℕ) → u ≤ 3 → (u < 3) ⊎ (3 ≤ u) → LeavesWords held s (round needs held s) → WereUnchanged u s → WereUnchanged (min (u + 1) 3) (round needs held s)
+  up_to_three : (u : ℕ) → u ≤ 3 → (u < 3) ⊎ (3 ≤ u) → LeavesWords held s (round needs held s) → WereUnchanged u s
+      → WereUnchanged (min (u + 1) 3) (round needs held s)
   up_to_three u few (inl below) l w =
       let e : suc u ≡ min (u + 1) 3 = omega arith in
       subst (λ k. WereUnchanged k (round needs held s)) e (one_more u l w)
@@ -124,19 +164,23 @@ module _ (needs : List Needs) (held : List Bool) (s : Signals) (may : MayGo need
       let is : u ≡ 3 = omega arith in
       subst (λ k. WereUnchanged k (round needs held s)) e (one_more 2 l (fewer 2 s (subst (λ k. WereUnchanged k s) is w)))
 
-  pub were_unchanged : (goes_on : Bool) (u : ℕ) → u ≤ 3 → (IsTrue goes_on → LeavesWords held s (round needs held s)) → WereUnchanged u s → WereUnchanged (if goes_on then min (u + 1) 3 else 0) (round needs held s)
+  pub were_unchanged : (goes_on : Bool) (u : ℕ) → u ≤ 3 → (IsTrue goes_on → LeavesWords held s (round needs held s)) → WereUnchanged u s
+      → WereUnchanged (if goes_on then min (u + 1) 3 else 0) (round needs held s)
   were_unchanged true u few l w = up_to_three u few (cases_lt u 3) (l refl) w
   were_unchanged false u few l w = tt
 
-  settled_by : WereUnchanged 2 s → LeavesWords held s (round needs held s) → (round needs held s).states ≡ settled_states (requests_in needs)
+  settled_by : WereUnchanged 2 s → LeavesWords held s (round needs held s)
+      → (round needs held s).states ≡ settled_states (requests_in needs)
   settled_by (b, second, c2, is2, (a, first, c1, is1, w)) l =
       let third = leaves l in
       ap (λ (r : Signals). r.states) (free_rounds needs held s l.free)
       ∙ ap (λ (r : Signals). (free_round needs r).states) (is2 ∙ ap (free_round second) is1)
-      ∙ still_rings_are_settled first second needs a c1 (subst (λ r. ChangesNoWord second r) is1 c2) (subst (λ r. ChangesNoWord needs r) (is2 ∙ ap (free_round second) is1) third)
+      ∙ still_rings_are_settled first second needs a c1 (subst (λ r. ChangesNoWord second r) is1 c2)
+      (subst (λ r. ChangesNoWord needs r) (is2 ∙ ap (free_round second) is1) third)
 
   -- the law
-  pub is_settled : (goes_on : Bool) (u : ℕ) → u ≤ 3 → (IsTrue goes_on → LeavesWords held s (round needs held s)) → WereUnchanged u s → (if goes_on then min (u + 1) 3 else 0) ≡ 3
+  pub is_settled : (goes_on : Bool) (u : ℕ) → u ≤ 3 → (IsTrue goes_on → LeavesWords held s (round needs held s)) → WereUnchanged u s
+      → (if goes_on then min (u + 1) 3 else 0) ≡ 3
       → (round needs held s).states ≡ settled_states (requests_in needs)
   is_settled true u few l w three = settled_by (two u few (cases_lt u 3) w three) (l refl)
     where
@@ -149,12 +193,14 @@ module _ (needs : List Needs) (held : List Bool) (s : Signals) (may : MayGo need
   counted_few true u = omega arith
   counted_few false u = omega arith
 
-  counted_ran : (goes_on : Bool) (u rounds later : ℕ) → (IsTrue goes_on → 0 < rounds) → u ≤ rounds - 1 → later ≡ min (rounds + 1) (2 ^ 64 - 1) → (if goes_on then min (u + 1) 3 else 0) ≤ later - 1
+  counted_ran : (goes_on : Bool) (u rounds later : ℕ) → (IsTrue goes_on → 0 < rounds) → u ≤ rounds - 1
+      → later ≡ min (rounds + 1) (2 ^ 64 - 1) → (if goes_on then min (u + 1) 3 else 0) ≤ later - 1
   counted_ran true u rounds later some h count = let g = some refl in omega arith
   counted_ran false u rounds later some h count = omega arith
 
   -- what a ring keeps, it keeps in a round
-  pub ring_after : (goes_on : Bool) (u rounds later : ℕ) → IsRing s rounds u → later ≡ min (rounds + 1) (2 ^ 64 - 1) → (IsTrue goes_on → 0 < rounds) → (IsTrue goes_on → LeavesWords held s (round needs held s))
+  pub ring_after : (goes_on : Bool) (u rounds later : ℕ) → IsRing s rounds u → later ≡ min (rounds + 1) (2 ^ 64 - 1)
+      → (IsTrue goes_on → 0 < rounds) → (IsTrue goes_on → LeavesWords held s (round needs held s))
       → IsRing (round needs held s) later (if goes_on then min (u + 1) 3 else 0)
   unfolding round
   ring_after goes_on u rounds later ring count some leave =

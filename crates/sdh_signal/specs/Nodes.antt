@@ -11,17 +11,23 @@ use Rattle.sdh_settling.specs.Signals.{Filters, no_filters, incoming, heard_thro
 
 -- what the last three rounds brought to position p of a ring of n, after one more round, where these words are on their way
 abbrev pub filters_with : List Sent → ℕ → ℕ → Needs → Filters → Filters
-filters_with words n p x f = record { west = with_brought (incoming words n p x West) f.west; east = with_brought (incoming words n p x East) f.east }
+filters_with words n p x f = record {
+  west = with_brought (incoming words n p x West) f.west;
+  east = with_brought (incoming words n p x East) f.east;
+}
 
 -- the node at position p, which hears through these filters
 abbrev pub scene_through : List ℕ → ℕ → Needs → Filters → Scene
 scene_through ids p x f = scene ids p x (heard_through f)
 
 abbrev pub next_state : List ℕ → List Filters → List Bool → List NodeState → ℕ → Needs → NodeState
-next_state ids filters held states p x = if is_held held p then get_or states p (Idle tt) else state_after (scene_through ids p x (get_or filters p no_filters))
+next_state ids filters held states p x =
+    if is_held held p then get_or states p (Idle tt) else state_after (scene_through ids p x (get_or filters p no_filters))
 
 abbrev pub next_sent : List ℕ → List Filters → List Bool → List Sent → ℕ → Needs → Sent
-next_sent ids filters held words p x = if is_held held p then get_or words p (record { west = unsaid; east = unsaid }) else sent_after (scene_through ids p x (get_or filters p no_filters))
+next_sent ids filters held words p x =
+    if is_held held p then get_or words p (record { west = unsaid; east = unsaid })
+    else sent_after (scene_through ids p x (get_or filters p no_filters))
 
 -- the round brought nothing on a failing side
 pub record IsSilent (x : Needs) (f : Filters) : Type 0 where

@@ -24,7 +24,13 @@ ring_of ids states words filters rounds = record { ids = ids; states = states; w
 
 -- a ring in which no round has run: all nodes are idle, have the words of new nodes, and nothing was brought to them
 abbrev pub new_ring : List ℕ → Signalling
-new_ring ids = record { ring = ring_of ids (cells (λ p. Idle tt) (length ids)) (cells (first_words ids) (length ids)) (cells (λ p. no_filters) (length ids)) 0; rounds = 0; unchanged = 0; steady = false }
+new_ring ids = record {
+  ring = ring_of ids (cells (λ p. Idle tt) (length ids)) (cells (first_words ids) (length ids))
+      (cells (λ p. no_filters) (length ids)) 0;
+  rounds = 0;
+  unchanged = 0;
+  steady = false;
+}
 
 -- no node is held
 abbrev pub NoneHeld : List Bool → Type 0
@@ -45,7 +51,8 @@ pub record IsStill (s : Signalling) : Type 0 where
 -- each of the last rounds, so many, came after another one, held no node and changed no word
 abbrev pub WereUnchanged : ℕ → Signals → Type 0
 WereUnchanged zero now = ⊤
-WereUnchanged (suc k) now = (before : Signals) × (needs : List Needs) × ChangesNoWord needs before × (now ≡ free_round needs before) × WereUnchanged k before
+WereUnchanged (suc k) now =
+    (before : Signals) × (needs : List Needs) × ChangesNoWord needs before × (now ≡ free_round needs before) × WereUnchanged k before
 
 -- What a ring keeps: the identifiers are those of a ring, each position has a state, words and filters, and each word that was sent has
 -- its source in the ring. So many rounds, less than all, left the words as they were.

@@ -21,25 +21,37 @@ pub record AreSame (a b : PathNode) : Type 0 where
 
 unchanged_same : (a b : PathNode) → unchanged a b ≡ true → AreSame a b
 unchanged_same a b e =
-    let first = and_parts (same_readings a.west.readings b.west.readings && same_readings a.east.readings b.east.readings) (same_generators a.west_out.generators b.west_out.generators && same_generators a.east_out.generators b.east_out.generators) e in
+    let first =
+    and_parts (same_readings a.west.readings b.west.readings && same_readings a.east.readings b.east.readings)
+    (same_generators a.west_out.generators b.west_out.generators
+    && same_generators a.east_out.generators b.east_out.generators) e in
     let reads = and_parts (same_readings a.west.readings b.west.readings) (same_readings a.east.readings b.east.readings) first.0 in
-    let sends = and_parts (same_generators a.west_out.generators b.west_out.generators) (same_generators a.east_out.generators b.east_out.generators) first.1 in
+    let sends =
+    and_parts (same_generators a.west_out.generators b.west_out.generators)
+    (same_generators a.east_out.generators b.east_out.generators) first.1 in
     record { readings = read reads.0 reads.1; generators = send sends.0 sends.1 }
   where
-    read : same_readings a.west.readings b.west.readings ≡ true → same_readings a.east.readings b.east.readings ≡ true → (d : Side) → (inlet_on d a).readings ≡ (inlet_on d b).readings
+    read : same_readings a.west.readings b.west.readings ≡ true → same_readings a.east.readings b.east.readings ≡ true → (d : Side)
+        → (inlet_on d a).readings ≡ (inlet_on d b).readings
     read west east West = readings_same a.west.readings b.west.readings west
     read west east East = readings_same a.east.readings b.east.readings east
 
-    send : same_generators a.west_out.generators b.west_out.generators ≡ true → same_generators a.east_out.generators b.east_out.generators ≡ true → (d : Side) → (sending_on d a).generators ≡ (sending_on d b).generators
+    send : same_generators a.west_out.generators b.west_out.generators ≡ true
+        → same_generators a.east_out.generators b.east_out.generators ≡ true → (d : Side)
+        → (sending_on d a).generators ≡ (sending_on d b).generators
     send west east West = generators_same a.west_out.generators b.west_out.generators west
     send west east East = generators_same a.east_out.generators b.east_out.generators east
 
 same_unchanged : (a b : PathNode) → AreSame a b → unchanged a b ≡ true
 same_unchanged a b is =
-    let west : same_readings a.west.readings b.west.readings ≡ true = ap (λ xs. same_readings xs b.west.readings) (is.readings West) ∙ same-readings b.west.readings in
-    let east : same_readings a.east.readings b.east.readings ≡ true = ap (λ xs. same_readings xs b.east.readings) (is.readings East) ∙ same-readings b.east.readings in
-    let west_out : same_generators a.west_out.generators b.west_out.generators ≡ true = ap (λ xs. same_generators xs b.west_out.generators) (is.generators West) ∙ generators_itself b.west_out.generators in
-    let east_out : same_generators a.east_out.generators b.east_out.generators ≡ true = ap (λ xs. same_generators xs b.east_out.generators) (is.generators East) ∙ generators_itself b.east_out.generators in
+    let west : same_readings a.west.readings b.west.readings ≡ true =
+    ap (λ xs. same_readings xs b.west.readings) (is.readings West) ∙ same-readings b.west.readings in
+    let east : same_readings a.east.readings b.east.readings ≡ true =
+    ap (λ xs. same_readings xs b.east.readings) (is.readings East) ∙ same-readings b.east.readings in
+    let west_out : same_generators a.west_out.generators b.west_out.generators ≡ true =
+    ap (λ xs. same_generators xs b.west_out.generators) (is.generators West) ∙ generators_itself b.west_out.generators in
+    let east_out : same_generators a.east_out.generators b.east_out.generators ≡ true =
+    ap (λ xs. same_generators xs b.east_out.generators) (is.generators East) ∙ generators_itself b.east_out.generators in
     rw (west, east, west_out, east_out) refl
 
 -- a calm round isn't the node's first one
@@ -118,7 +130,8 @@ module _ (w : World) (whole : IsWhole w) where
     pub same_there : (p : ℕ) → p < length w.ring.nodes → AreSame (node_at after p) (node_at w.ring.nodes p)
     same_there p h = subst (λ n. AreSame n (node_at w.ring.nodes p)) (sym (nodes_after w whole.placed p h)) (before_same p (leaves p h).1)
 
-  pub calm_where_same : 0 < w.ring.rounds → ((p : ℕ) → p < length w.ring.nodes → AreSame (node_at after p) (node_at w.ring.nodes p)) → is_calm after ≡ true
+  pub calm_where_same : 0 < w.ring.rounds → ((p : ℕ) → p < length w.ring.nodes → AreSame (node_at after p) (node_at w.ring.nodes p))
+      → is_calm after ≡ true
   calm_where_same ran same = list_all-from_AllPass (λ (n : PathNode). n.calm) after (λ p x h.
       (let low : p < length w.ring.nodes = omega (arith, length-after w) in
       let next = nodes_after w whole.placed p low in

@@ -1,5 +1,6 @@
 -- From any path ring that is paired with its fibres: all rounds are calm from some round on, and so a quiet window comes.
-use Rattle.std.proofs.Common.{◌≡◌, ◌≢◌, ℕ, zero, suc, ◌+◌, ◌-◌, ◌*◌, ◌%◌, ◌<◌, ◌≤◌, Bool, true, List, [], ◌∷◌, length, get_or, Option, Some, None, refl, ap, sym, ◌∙◌, subst, arith, inl, inr, ◌⊎◌}
+use Rattle.std.proofs.Common.{◌≡◌, ◌≢◌, ℕ, zero, suc, ◌+◌, ◌-◌, ◌*◌, ◌%◌, ◌<◌, ◌≤◌, Bool, true, List, [], ◌∷◌, length, get_or, Option, Some}
+use Rattle.std.proofs.Common.{None, refl, ap, sym, ◌∙◌, subst, arith, inl, inr, ◌⊎◌}
 use Rattle.std.specs.Prelude.{slice_get}
 use Rattle.std.proofs.lemmas.Bool.{cases_eq}
 use Rattle.std.proofs.lemmas.List.{ext_get_or}
@@ -81,25 +82,32 @@ module _ (w : World) (whole : IsWhole w) where
   -- a generator goes on by what goes into its AU-4
   generator_goes : (p : ℕ) (d : Side) (i : ℕ) → p < length w.ring.nodes → i < n → GoesBy (went w p d (i + 1)) (sending_in w p d i)
   unfolding any_run.run
-  generator_goes p d i inside few j = generator_step (run j w) (whole_run w j whole) p d (omega (arith, nodes_there j)) i (omega (arith, rate_there j))
+  generator_goes p d i inside few j =
+      generator_step (run j w) (whole_run w j whole) p d (omega (arith, nodes_there j)) i (omega (arith, rate_there j))
 
   -- an interpreter goes on by the word that was sent behind the span one round before
-  interpreter_goes : (p : ℕ) (d : Side) (i : ℕ) → p < length w.ring.nodes → i < n → TakesBehind (cut_in w p d) (went w (neighbour size p d) (opposite d) (i + 1)) (sending_in w (neighbour size p d) (opposite d) i) (reading_in w p d i) (came w p d (i + 1))
+  interpreter_goes : (p : ℕ) (d : Side) (i : ℕ) → p < length w.ring.nodes → i < n
+      → TakesBehind (cut_in w p d) (went w (neighbour size p d) (opposite d) (i + 1)) (sending_in w (neighbour size p d) (opposite d) i)
+      (reading_in w p d i) (came w p d (i + 1))
   unfolding any_run.run
   interpreter_goes p d i inside few j =
       let u = run j w in
       let e = opposite d in
-      let Takes = λ (b : Bool) (q : ℕ). TakesWord (reading_in w p d i (suc j)) (reading_in w p d i (suc (suc j))) (came w p d (i + 1) (suc j)) (word_behind b (word_sent (sending_in w q e i j) (went w q e (i + 1) j).action (went w q e (i + 1) j).value)) in
+      let Takes =
+      λ (b : Bool) (q : ℕ). TakesWord (reading_in w p d i (suc j)) (reading_in w p d i (suc (suc j))) (came w p d (i + 1) (suc j))
+      (word_behind b (word_sent (sending_in w q e i j) (went w q e (i + 1) j).action (went w q e (i + 1) j).value)) in
       let took = interpreter_step u (whole_run w j whole) p d (omega (arith, nodes_there j)) i (omega (arith, rate_there j)) in
       subst (λ b. Takes b (neighbour size p d)) (cut_there (suc j) p d)
       (subst (λ ids. Takes (cut_in (run (suc j) w) p d) (neighbour (length ids) p d)) (left_run j w).ids took)
 
   -- what comes to rest behind a span
-  pub span_rests : (p : ℕ) (d : Side) (i k : ℕ) → p < length w.ring.nodes → i < n → IsConstant (went w (neighbour size p d) (opposite d) (i + 1)) k → RestsBehind (reading_in w p d i) (came w p d (i + 1)) k
+  pub span_rests : (p : ℕ) (d : Side) (i k : ℕ) → p < length w.ring.nodes → i < n
+      → IsConstant (went w (neighbour size p d) (opposite d) (i + 1)) k → RestsBehind (reading_in w p d i) (came w p d (i + 1)) k
   span_rests p d i k inside few c =
       let q = neighbour size p d in
       let e = opposite d in
-      spans_are_steady (cut_in w p d) (went w q e (i + 1)) (came w p d (i + 1)) (sending_in w q e i) (reading_in w p d i) k (generator_goes q e i (neighbour_inside w whole p d) few) (interpreter_goes p d i inside few) c
+      spans_are_steady (cut_in w p d) (went w q e (i + 1)) (came w p d (i + 1)) (sending_in w q e i) (reading_in w p d i) k
+      (generator_goes q e i (neighbour_inside w whole p d) few) (interpreter_goes p d i inside few) c
 
 -- ---- slots
 
@@ -120,7 +128,8 @@ slot_cases (x ∷ cs) m = elim (cases_eq x.slot.0 m) [
   ]
 ]
   where
-    missing : x.slot.0 ≢ m → ((j : ℕ) (d : Provisioned) → slice_get cs j ≡ Some d → d.slot.0 ≢ m) → (j : ℕ) (d : Provisioned) → slice_get (x ∷ cs) j ≡ Some d → d.slot.0 ≢ m
+    missing : x.slot.0 ≢ m → ((j : ℕ) (d : Provisioned) → slice_get cs j ≡ Some d → d.slot.0 ≢ m) → (j : ℕ) (d : Provisioned)
+        → slice_get (x ∷ cs) j ≡ Some d → d.slot.0 ≢ m
     missing other none zero d is = let same : x ≡ d = cc in λ e. other (ap (λ (c : Provisioned). c.slot.0) same ∙ e)
     missing other none (suc j) d is = none j d is
 
@@ -141,7 +150,8 @@ module _ (w : World) (whole : IsWhole w) (form : HasCircuits w.ring) where
   same_alone j = subst (λ p. AreAlone p.circuits) (sym (left_run j w).circuits) form.alone
 
   -- an AU-4 without a circuit is AIS
-  none_constant : (q m : ℕ) (d : Side) → q < size w whole → 1 ≤ m → m ≤ n w whole → ((j : ℕ) (x : Provisioned) → slice_get cs j ≡ Some x → x.slot.0 ≢ m) → IsConstant (went w q d m) 0
+  none_constant : (q m : ℕ) (d : Side) → q < size w whole → 1 ≤ m → m ≤ n w whole
+      → ((j : ℕ) (x : Provisioned) → slice_get cs j ≡ Some x → x.slot.0 ≢ m) → IsConstant (went w q d m) 0
   none_constant q m d h low high none = record {
     does = action.Ais;
     value = 0;
@@ -151,10 +161,14 @@ module _ (w : World) (whole : IsWhole w) (form : HasCircuits w.ring) where
   }
     where
       sends : (j : ℕ) → sent_at (run j w) q d m ≡ no_input
-      sends j = sends_none (run j w) (whole_run w j whole) q m (let e = nodes_there w whole j in let i = inside_of q h in omega arith) low (let e = rate_there w whole j in omega arith) d
-          (use_none (run j w).ring.circuits.circuits q m (subst (λ p. (i : ℕ) (x : Provisioned) → slice_get p.circuits i ≡ Some x → x.slot.0 ≢ m) (sym (left_run j w).circuits) none))
+      sends j =
+          sends_none (run j w) (whole_run w j whole) q m (let e = nodes_there w whole j in let i = inside_of q h in omega arith) low
+          (let e = rate_there w whole j in omega arith) d
+          (use_none (run j w).ring.circuits.circuits q m (subst
+          (λ p. (i : ℕ) (x : Provisioned) → slice_get p.circuits i ≡ Some x → x.slot.0 ≢ m) (sym (left_run j w).circuits) none))
 
-  module _ (index : ℕ) (c : Provisioned) (get : slice_get cs index ≡ Some c) (ring : IsInRing (size w whole) c) (low : 1 ≤ c.slot.0) (high : c.slot.0 ≤ n w whole) (small : (e : End) → (customer_at c e).offset ≤ 782) where
+  module _ (index : ℕ) (c : Provisioned) (get : slice_get cs index ≡ Some c) (ring : IsInRing (size w whole) c) (low : 1 ≤ c.slot.0)
+      (high : c.slot.0 ≤ n w whole) (small : (e : End) → (customer_at c e).offset ≤ 782) where
     abbrev m : ℕ
     m = c.slot.0
 
@@ -174,39 +188,52 @@ module _ (w : World) (whole : IsWhole w) (form : HasCircuits w.ring) where
         there : (j : ℕ) → (end_of c e).0 < length (run j w).ring.nodes
         there j = let x = nodes_there w whole j in let i = inside_of ((end_of c e).0) h in omega arith
 
-        sends : (j : ℕ) → sent_at (run j w) ((end_of c e).0) d m ≡ added_by (node_at (run j w).ring.nodes ((end_of c e).0)).ports (port_id index e)
-        sends j = sends_ended (run j w) (whole_run w j whole) ((end_of c e).0) m (there j) low (let x = rate_there w whole j in omega arith) d (port_id index e)
-            (use_is (run j w).ring.circuits.circuits (same_alone j) ((end_of c e).0) index c (same_circuits j index c get) ∙ use_ended index c e ring.two_ends)
+        sends : (j : ℕ) → sent_at (run j w) ((end_of c e).0) d m
+            ≡ added_by (node_at (run j w).ring.nodes ((end_of c e).0)).ports (port_id index e)
+        sends j =
+            sends_ended (run j w) (whole_run w j whole) ((end_of c e).0) m (there j) low (let x = rate_there w whole j in omega arith) d
+            (port_id index e)
+            (use_is (run j w).ring.circuits.circuits (same_alone j) ((end_of c e).0) index c (same_circuits j index c get)
+            ∙ use_ended index c e ring.two_ends)
 
-        brings : (j : ℕ) → Brings (added_by (node_at (run j w).ring.nodes ((end_of c e).0)).ports (port_id index e)) (sends_in (customer_at c e) (run j w).ring.rounds)
+        brings : (j : ℕ) → Brings (added_by (node_at (run j w).ring.nodes ((end_of c e).0)).ports (port_id index e))
+            (sends_in (customer_at c e) (run j w).ring.rounds)
         brings j = port_sends (run j w) (whole_run w j whole) index c e (same_circuits j index c get) (there j)
 
     -- s spans from the node where the circuit starts
-    way_constant : (s q : ℕ) (d : Side) → q < size w whole → going (size w whole) d q s ≡ c.from.0 → IsConstant (went w q (opposite d) m) (9 * s)
+    way_constant : (s q : ℕ) (d : Side) → q < size w whole → going (size w whole) d q s ≡ c.from.0
+        → IsConstant (went w q (opposite d) m) (9 * s)
     way_constant zero q d h leads =
         let here : q ≡ c.from.0 = sym (going-none (size w whole) some d q h) ∙ leads in
         subst (λ y. IsConstant (went w y (opposite d) m) 0) (sym here) (end_constant A (opposite d) ring.from_inside)
     way_constant (suc s) q d h leads = elim (cases_eq q c.from.0) [
-      | inl start ↦ constant_later (went w q (opposite d) m) 0 (9 * suc s) (omega arith) (subst (λ y. IsConstant (went w y (opposite d) m) 0) (sym start) (end_constant A (opposite d) ring.from_inside))
+      | inl start ↦ constant_later (went w q (opposite d) m) 0 (9 * suc s) (omega arith)
+          (subst (λ y. IsConstant (went w y (opposite d) m) 0) (sym start) (end_constant A (opposite d) ring.from_inside))
       | inr a ↦ elim (cases_eq q c.to.0) [
-        | inl stop ↦ constant_later (went w q (opposite d) m) 0 (9 * suc s) (omega arith) (subst (λ y. IsConstant (went w y (opposite d) m) 0) (sym stop) (end_constant B (opposite d) ring.to_inside))
-        | inr b ↦ passed_constant s q d h a b (way_constant s (neighbour (size w whole) q d) d (neighbour_below (size w whole) q d some) (going-first (size w whole) some d q s ∙ leads))
+        | inl stop ↦ constant_later (went w q (opposite d) m) 0 (9 * suc s) (omega arith)
+            (subst (λ y. IsConstant (went w y (opposite d) m) 0) (sym stop) (end_constant B (opposite d) ring.to_inside))
+        | inr b ↦ passed_constant s q d h a b (way_constant s (neighbour (size w whole) q d) d (neighbour_below (size w whole) q d some)
+            (going-first (size w whole) some d q s ∙ leads))
       ]
     ]
       where
-        passed_constant : (s q : ℕ) (d : Side) → q < size w whole → q ≢ c.from.0 → q ≢ c.to.0 → IsConstant (went w (neighbour (size w whole) q d) (opposite d) m) (9 * s) → IsConstant (went w q (opposite d) m) (9 * suc s)
+        passed_constant : (s q : ℕ) (d : Side) → q < size w whole → q ≢ c.from.0 → q ≢ c.to.0
+            → IsConstant (went w (neighbour (size w whole) q d) (opposite d) m) (9 * s) → IsConstant (went w q (opposite d) m) (9 * suc s)
         passed_constant s q d h a b earlier =
             constant_later (went w q (opposite d) m) (9 * s + 9) (9 * suc s) (omega arith)
             (constant_as (came w q d m) (went w q (opposite d) m) (9 * s + 9)
-            (λ j. sends_passed (run j w) (whole_run w j whole) q m (let x = nodes_there w whole j in let i = inside_of q h in omega arith) low (let x = rate_there w whole j in omega arith) d
+            (λ j. sends_passed (run j w) (whole_run w j whole) q m
+            (let x = nodes_there w whole j in let i = inside_of q h in omega arith) low (let x = rate_there w whole j in omega arith) d
             (use_is (run j w).ring.circuits.circuits (same_alone j) q index c (same_circuits j index c get) ∙ use_passed q index c a b))
             (subst (λ k. IsConstant (came w q d k) (9 * s + 9)) at_m
-            ((span_rests w whole q d (m - 1) (9 * s) (inside_of q h) (omega arith) (subst (λ k. IsConstant (went w (neighbour (size w whole) q d) (opposite d) k) (9 * s)) (sym at_m) earlier)).comes)))
+            ((span_rests w whole q d (m - 1) (9 * s) (inside_of q h) (omega arith)
+            (subst (λ k. IsConstant (went w (neighbour (size w whole) q d) (opposite d) k) (9 * s)) (sym at_m) earlier)).comes)))
 
     circuit_constant : (q : ℕ) (d : Side) → q < size w whole → IsConstant (went w q (opposite d) m) (9 * size w whole)
     circuit_constant q d h =
         let r : IsReached (size w whole) d q c.from.0 = reached (size w whole) some d q c.from.0 h ring.from_inside in
-        constant_later (went w q (opposite d) m) (9 * r.steps) (9 * size w whole) (let f = r.few in omega arith) (way_constant r.steps q d h r.there)
+        constant_later (went w q (opposite d) m) (9 * r.steps) (9 * size w whole) (let f = r.few in omega arith)
+        (way_constant r.steps q d h r.there)
 
   -- what goes into each AU-4
   sent_constant : (q : ℕ) (d : Side) (m : ℕ) → q < size w whole → 1 ≤ m → m ≤ n w whole → IsConstant (went w q d m) (9 * size w whole)
@@ -223,43 +250,59 @@ module _ (w : World) (whole : IsWhole w) (form : HasCircuits w.ring) where
           let ring : IsInRing (size w whole) c = subst (IsInRing (size w whole)) is (form.are.in_ring s.index c within) in
           subst (λ k. IsConstant (went w q d k) (9 * size w whole)) s.slot
           (subst (λ e. IsConstant (went w q e c.slot.0) (9 * size w whole)) (other_side d)
-          (circuit_constant s.index c s.get ring (let e = s.slot in omega arith) (let e = s.slot in omega arith) (λ e. offset_small cs form.are.offsets s.index c s.get e) q (opposite d) h))
+          (circuit_constant s.index c s.get ring (let e = s.slot in omega arith) (let e = s.slot in omega arith)
+          (λ e. offset_small cs form.are.offsets s.index c s.get e) q (opposite d) h))
 
   -- ---- no pointer moves
 
   abbrev limit : ℕ
   limit = 9 * size w whole + 9
 
-  generators_rest : (j q : ℕ) (d : Side) → limit ≤ j → q < size w whole → (sending_on d (node_at (run (suc j) w).ring.nodes q)).generators ≡ (sending_on d (node_at (run j w).ring.nodes q)).generators
+  generators_rest : (j q : ℕ) (d : Side) → limit ≤ j → q < size w whole
+      → (sending_on d (node_at (run (suc j) w).ring.nodes q)).generators ≡ (sending_on d (node_at (run j w).ring.nodes q)).generators
   generators_rest j q d late h =
-      let many = λ (k : ℕ). ((whole_run w k whole).placed.places q (let e = nodes_there w whole k in let i = inside_of q h in omega arith)).senders d in
+      let many =
+      λ (k : ℕ). ((whole_run w k whole).placed.places q
+      (let e = nodes_there w whole k in let i = inside_of q h in omega arith)).senders d in
       let len = λ (k : ℕ). (many k).generators ∙ rate_there w whole k in
-      ext_get_or None (sending_on d (node_at (run (suc j) w).ring.nodes q)).generators (sending_on d (node_at (run j w).ring.nodes q)).generators (len (suc j) ∙ sym (len j)) (λ i lt. (
+      ext_get_or None (sending_on d (node_at (run (suc j) w).ring.nodes q)).generators
+      (sending_on d (node_at (run j w).ring.nodes q)).generators (len (suc j) ∙ sym (len j)) (λ i lt. (
       let few : i < n w whole = (let e = len (suc j) in omega arith) in
       let c = sent_constant q d (i + 1) h (omega arith) (omega arith) in
       let goes = generator_goes w whole q d i (inside_of q h) few in
-      let rests = λ (k : ℕ) (soon : 9 * size w whole + 1 ≤ k). spans.generators_rest (went w q d (i + 1)) (sending_in w q d i) (9 * size w whole) goes c k soon in
+      let rests =
+      λ (k : ℕ) (soon : 9 * size w whole + 1 ≤ k). spans.generators_rest (went w q d (i + 1)) (sending_in w q d i)
+      (9 * size w whole) goes c k soon in
       rests (suc j) (omega arith) ∙ sym (rests j (omega arith))))
 
-  readings_rest : (j p : ℕ) (d : Side) → limit ≤ j → p < size w whole → (inlet_on d (node_at (run (suc j) w).ring.nodes p)).readings ≡ (inlet_on d (node_at (run j w).ring.nodes p)).readings
+  readings_rest : (j p : ℕ) (d : Side) → limit ≤ j → p < size w whole
+      → (inlet_on d (node_at (run (suc j) w).ring.nodes p)).readings ≡ (inlet_on d (node_at (run j w).ring.nodes p)).readings
   readings_rest j p d late h =
-      let many = λ (k : ℕ). ((whole_run w k whole).placed.places p (let e = nodes_there w whole k in let i = inside_of p h in omega arith)).inlets d in
+      let many =
+      λ (k : ℕ). ((whole_run w k whole).placed.places p
+      (let e = nodes_there w whole k in let i = inside_of p h in omega arith)).inlets d in
       let len = λ (k : ℕ). (many k).readings ∙ rate_there w whole k in
-      ext_get_or start (inlet_on d (node_at (run (suc j) w).ring.nodes p)).readings (inlet_on d (node_at (run j w).ring.nodes p)).readings (len (suc j) ∙ sym (len j)) (λ i lt. (
+      ext_get_or start (inlet_on d (node_at (run (suc j) w).ring.nodes p)).readings (inlet_on d (node_at (run j w).ring.nodes p)).readings
+      (len (suc j) ∙ sym (len j)) (λ i lt. (
       let few : i < n w whole = (let e = len (suc j) in omega arith) in
-      (span_rests w whole p d i (9 * size w whole) (inside_of p h) few (sent_constant (neighbour (size w whole) p d) (opposite d) (i + 1) (neighbour_below (size w whole) p d some) (omega arith) (omega arith))).stays j (omega arith)))
+      (span_rests w whole p d i (9 * size w whole) (inside_of p h) few
+      (sent_constant (neighbour (size w whole) p d) (opposite d) (i + 1) (neighbour_below (size w whole) p d some) (omega arith)
+      (omega arith))).stays j (omega arith)))
 
-  same_next : (j : ℕ) → limit ≤ j → (p : ℕ) → p < length (run j w).ring.nodes → AreSame (node_at (run (suc j) w).ring.nodes p) (node_at (run j w).ring.nodes p)
+  same_next : (j : ℕ) → limit ≤ j → (p : ℕ) → p < length (run j w).ring.nodes
+      → AreSame (node_at (run (suc j) w).ring.nodes p) (node_at (run j w).ring.nodes p)
   same_next j late p h =
       let low : p < size w whole = (let e = nodes_there w whole j in let z = whole.placed.size in omega arith) in
       record { readings = λ d. readings_rest j p d late low; generators = λ d. generators_rest j p d late low }
 
   pub gets_calm : (j : ℕ) → limit < j → is_calm (run j w).ring.nodes ≡ true
   unfolding any_run.run
-  gets_calm j late = subst (λ k. is_calm (run k w).ring.nodes ≡ true) (let e : suc (j - 1) ≡ j = omega arith in e) (calm_next (j - 1) (omega arith))
+  gets_calm j late =
+      subst (λ k. is_calm (run k w).ring.nodes ≡ true) (let e : suc (j - 1) ≡ j = omega arith in e) (calm_next (j - 1) (omega arith))
     where
       calm_next : (i : ℕ) → limit ≤ i → is_calm (run (suc i) w).ring.nodes ≡ true
-      calm_next i enough = calm_where_same (run i w) (whole_run w i whole) (let r = (left_run i w).rounds in omega arith) (same_next i enough)
+      calm_next i enough =
+          calm_where_same (run i w) (whole_run w i whole) (let r = (left_run i w).rounds in omega arith) (same_next i enough)
 
 pub rounds_get_calm : RoundsGetCalm
 rounds_get_calm w whole form j late = gets_calm w whole form j (omega arith)
@@ -276,7 +319,8 @@ pub record WindowBy (w : World) (most : ℕ) : Type 0 where
   pub soon : ends ≤ most
   pub window : EndsWindow (course w) ends
 
-calm_ends : (w : World) (first : ℕ) → ((j : ℕ) → first ≤ j → is_calm (run j w).ring.nodes ≡ true) → WindowBy w (first + 3 * length w.ring.ids + 128)
+calm_ends : (w : World) (first : ℕ) → ((j : ℕ) → first ≤ j → is_calm (run j w).ring.nodes ≡ true)
+    → WindowBy w (first + 3 * length w.ring.ids + 128)
 calm_ends w first calm =
     let a = first + 3 * length w.ring.ids in
     let s = w.ring.rounds + a + 126 in
@@ -285,7 +329,8 @@ calm_ends w first calm =
     let left = left_run k w in
     let size : length (run k w).ring.ids ≡ length w.ring.ids = ap length left.ids in
     let number : (run k w).ring.rounds ≡ w.ring.rounds + k = left.rounds in
-    let place : ((run k w).ring.rounds - 1) % 128 ≡ 0 = (let e : (run k w).ring.rounds - 1 ≡ s - s % 128 = omega arith in let z = at_place s in omega arith) in
+    let place : ((run k w).ring.rounds - 1) % 128 ≡ 0 =
+    (let e : (run k w).ring.rounds - 1 ≡ s - s % 128 = omega arith in let z = at_place s in omega arith) in
     record {
       ends = k;
       soon = omega arith;

@@ -46,11 +46,13 @@ pub new_none : (s : Settings) (ids : List ℕ) (cs : List Provisioned) → [] �
 unfolding new_nodes
 new_none s ids cs = sym (cells-zero _)
 
-pub new_more : (s : Settings) (ids : List ℕ) (cs : List Provisioned) (k : ℕ) → new_nodes s ids cs (k + 1) ≡ new_nodes s ids cs k ++ new_node s ids cs (position_of k) ∷ []
+pub new_more : (s : Settings) (ids : List ℕ) (cs : List Provisioned) (k : ℕ)
+    → new_nodes s ids cs (k + 1) ≡ new_nodes s ids cs k ++ new_node s ids cs (position_of k) ∷ []
 unfolding new_nodes
 new_more s ids cs k = cells-more _ k
 
-pub length-fixed : (s : Settings) (ids : List ℕ) (cs : List Provisioned) (n : ℕ) (ns : List PathNode) → map fixed ns ≡ map fixed (new_nodes s ids cs n) → length ns ≡ n
+pub length-fixed : (s : Settings) (ids : List ℕ) (cs : List Provisioned) (n : ℕ) (ns : List PathNode)
+    → map fixed ns ≡ map fixed (new_nodes s ids cs n) → length ns ≡ n
 length-fixed s ids cs n ns same = length_fixed (new_nodes s ids cs n) ns same ∙ length-new s ids cs n
 
 get-map : {X Y : Type 0} (f : X → Y) (xs : List X) (i : ℕ) (d : X) → get_or (map f xs) i (f d) ≡ f (get_or xs i d)
@@ -59,9 +61,11 @@ get-map f (x ∷ xs) zero d = refl
 get-map f (x ∷ xs) (suc i) d = get-map f xs i d
 
 -- is what the new node there is
-pub node_is : (s : Settings) (ids : List ℕ) (cs : List Provisioned) (n : ℕ) (ns : List PathNode) (p : ℕ) (d : PathNode) → map fixed ns ≡ map fixed (new_nodes s ids cs n) → p < n → fixed (get_or ns p d) ≡ fixed (new_node s ids cs (position_of p))
+pub node_is : (s : Settings) (ids : List ℕ) (cs : List Provisioned) (n : ℕ) (ns : List PathNode) (p : ℕ) (d : PathNode)
+    → map fixed ns ≡ map fixed (new_nodes s ids cs n) → p < n → fixed (get_or ns p d) ≡ fixed (new_node s ids cs (position_of p))
 node_is s ids cs n ns p d same low =
-    sym (get-map fixed ns p d) ∙ ap (λ fs. get_or fs p (fixed d)) same ∙ get-map fixed (new_nodes s ids cs n) p d ∙ ap fixed (new_at s ids cs n p d low)
+    sym (get-map fixed ns p d) ∙ ap (λ fs. get_or fs p (fixed d)) same ∙ get-map fixed (new_nodes s ids cs n) p d
+    ∙ ap fixed (new_at s ids cs n p d low)
 
 rate_fixed : (m n : PathNode) → fixed m ≡ fixed n → m.west.section.rate ≡ n.west.section.rate
 unfolding fixed
@@ -71,8 +75,11 @@ new_rate : (s : Settings) (ids : List ℕ) (cs : List Provisioned) (p : ℕ) →
 unfolding new_node
 new_rate s ids cs p = refl
 
-pub all_rates : (s : Settings) (ids : List ℕ) (cs : List Provisioned) (n : ℕ) (ns : List PathNode) → map fixed ns ≡ map fixed (new_nodes s ids cs n) → All (λ (n : PathNode). n.west.section.rate ≡ s.rate) ns
-all_rates s ids cs n ns same = λ p d lt. rate_fixed (get_or ns p d) (new_node s ids cs (position_of p)) (node_is s ids cs n ns p d same (omega (arith, length-fixed s ids cs n ns same))) ∙ new_rate s ids cs p
+pub all_rates : (s : Settings) (ids : List ℕ) (cs : List Provisioned) (n : ℕ) (ns : List PathNode)
+    → map fixed ns ≡ map fixed (new_nodes s ids cs n) → All (λ (n : PathNode). n.west.section.rate ≡ s.rate) ns
+all_rates s ids cs n ns same =
+    λ p d lt. rate_fixed (get_or ns p d) (new_node s ids cs (position_of p))
+    (node_is s ids cs n ns p d same (omega (arith, length-fixed s ids cs n ns same))) ∙ new_rate s ids cs p
 
 -- ---- rounds
 
@@ -85,17 +92,21 @@ all_run_heard [] r ns all i d lt = all i d lt
 all_run_heard (west ∷ []) r ns all i d lt = all i d lt
 all_run_heard (west ∷ east ∷ later) r [] all i d lt = all i d lt
 all_run_heard (west ∷ east ∷ later) r (n ∷ ns) all zero d lt = run_both r west east n (all 0 d (omega arith))
-all_run_heard (west ∷ east ∷ later) r (n ∷ ns) all (suc i) d lt = all_run_heard later r ns (λ j e low. all (suc j) e (omega arith)) i d (omega arith)
+all_run_heard (west ∷ east ∷ later) r (n ∷ ns) all (suc i) d lt =
+    all_run_heard later r ns (λ j e low. all (suc j) e (omega arith)) i d (omega arith)
 
 pub all_run_next : (r : ℕ) (ns : List PathNode) → HaveRun r ns → HaveRun (r + 1) (map node_after ns)
-all_run_next r ns all = All-map (λ (n : PathNode). n.rounds ≡ r + 1) node_after ns (λ i d lt. rounds_after (get_or ns i d) ∙ ap (λ k. k + 1) (all i d lt))
+all_run_next r ns all =
+    All-map (λ (n : PathNode). n.rounds ≡ r + 1) node_after ns (λ i d lt. rounds_after (get_or ns i d) ∙ ap (λ k. k + 1) (all i d lt))
 
 new_run : (s : Settings) (ids : List ℕ) (cs : List Provisioned) (p : ℕ) → (new_node s ids cs (position_of p)).rounds ≡ 0
 unfolding new_node
 new_run s ids cs p = refl
 
 pub all_new : (s : Settings) (ids : List ℕ) (cs : List Provisioned) (n : ℕ) → HaveRun 0 (new_nodes s ids cs n)
-all_new s ids cs n = λ p d lt. (let low : p < n = omega (arith, length-new s ids cs n) in ap (λ (x : PathNode). x.rounds) (new_at s ids cs n p d low) ∙ new_run s ids cs p)
+all_new s ids cs n =
+    λ p d lt. (let low : p < n = omega (arith, length-new s ids cs n) in ap (λ (x : PathNode). x.rounds) (new_at s ids cs n p d low)
+    ∙ new_run s ids cs p)
 
 -- ---- ports
 
@@ -112,15 +123,18 @@ pub has_fixed : (id : PortId) (m n : PathNode) → fixed m ≡ fixed n → HasPo
 unfolding fixed
 has_fixed id m n same h =
     let ports : map fixed_port m.ports ≡ map fixed_port n.ports = ap (λ (f : Fixed). f.ports) same in
-    let found : option_map fixed_port (port_of id n.ports) ≡ option_map fixed_port (port_of id m.ports) = sym (fixed_found id n.ports) ∙ ap (find (names id)) (sym ports) ∙ fixed_found id m.ports in
+    let found : option_map fixed_port (port_of id n.ports) ≡ option_map fixed_port (port_of id m.ports) =
+    sym (fixed_found id n.ports) ∙ ap (find (names id)) (sym ports) ∙ fixed_found id m.ports in
     some_before fixed_port (port_of id m.ports) (subst IsSome found (some_mapped fixed_port (port_of id n.ports) h))
 
-pub new_has : (s : Settings) (ids : List ℕ) (cs : List Provisioned) (p : ℕ) (id : PortId) → HasPort (tributaries_at (position_of p) cs) id → HasPort (new_node s ids cs (position_of p)).ports id
+pub new_has : (s : Settings) (ids : List ℕ) (cs : List Provisioned) (p : ℕ) (id : PortId) → HasPort (tributaries_at (position_of p) cs) id
+    → HasPort (new_node s ids cs (position_of p)).ports id
 unfolding new_node
 new_has s ids cs p id h = h
 
 -- what the port delivered is read at that node
-pub outlet_is : (r : HeldPath) (id : PortId) (c : Provisioned) (n : PathNode) → slice_get r.circuits.circuits id.circuit ≡ Some c → slice_get r.nodes (end_of c id.end).0 ≡ Some n → outlet_at r id ≡ outlet_of id n.ports
+pub outlet_is : (r : HeldPath) (id : PortId) (c : Provisioned) (n : PathNode) → slice_get r.circuits.circuits id.circuit ≡ Some c
+    → slice_get r.nodes (end_of c id.end).0 ≡ Some n → outlet_at r id ≡ outlet_of id n.ports
 unfolding outlet_at
 outlet_is r id c n circuit node =
     ap (λ o. option_map_or (λ x. option_map_or (λ m. outlet_of id m.ports) (slice_get r.nodes (end_of x id.end).0) silent) o silent) circuit

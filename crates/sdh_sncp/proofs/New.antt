@@ -1,5 +1,6 @@
 -- A new path ring over prepared fibres, and what happens to whole rings.
-use Rattle.std.proofs.Common.{◌≡◌, ℕ, ◌*◌, ◌<◌, List, length, get_or, replicate, Option, Some, None, refl, ap, sym, ◌∙◌, subst, arith, inl, inr}
+use Rattle.std.proofs.Common.{◌≡◌, ℕ, ◌*◌, ◌<◌, List, length, get_or, replicate, Option, Some, None, refl, ap, sym, ◌∙◌, subst, arith, inl}
+use Rattle.std.proofs.Common.{inr}
 use Rattle.std.specs.Prelude.{All, slice_get}
 use Rattle.std.specs.Option.{option_map_or}
 use Rattle.std.proofs.lemmas.Option.{get_or_from_slice_get, slice_get_within}
@@ -51,7 +52,11 @@ module _ (s : Settings) (ids : List ℕ) (circuits : Provisioning) (p : ℕ) whe
   new_between : IsBetween 0 one
   unfolding new_node tributaries_at
   new_between = record {
-    run = record { ran = refl; clocks = new_ports (λ (t : Tributary). IsUnslipped 0 t.feed) (λ i e d m c. record { ups = refl; downs = refl; sent = refl; value = refl }) (position_of p) 0 circuits.circuits };
+    run = record {
+      ran = refl;
+      clocks = new_ports (λ (t : Tributary). IsUnslipped 0 t.feed)
+          (λ i e d m c. record { ups = refl; downs = refl; sent = refl; value = refl }) (position_of p) 0 circuits.circuits;
+    };
     fresh = fresh;
   }
     where
@@ -69,14 +74,17 @@ pub length-new : (s : Settings) (ids : List ℕ) (cs : List Provisioned) (k : �
 unfolding new_nodes
 length-new s ids cs k = length-cells _ k
 
-pub new_at : (s : Settings) (ids : List ℕ) (cs : List Provisioned) (n k : ℕ) (d : PathNode) → k < n → get_or (new_nodes s ids cs n) k d ≡ new_node s ids cs (position_of k)
+pub new_at : (s : Settings) (ids : List ℕ) (cs : List Provisioned) (n k : ℕ) (d : PathNode) → k < n
+    → get_or (new_nodes s ids cs n) k d ≡ new_node s ids cs (position_of k)
 unfolding new_nodes
 new_at s ids cs n k d h = get_or-cells _ n k d h
 
 -- what holds of each new node holds at each position
-each_new : (P : ℕ → PathNode → Type 0) (s : Settings) (ids : List ℕ) (cs : List Provisioned) → ((p : ℕ) → p < length ids → P p (new_node s ids cs (position_of p))) → AtEach P (new_nodes s ids cs (length ids))
+each_new : (P : ℕ → PathNode → Type 0) (s : Settings) (ids : List ℕ) (cs : List Provisioned)
+    → ((p : ℕ) → p < length ids → P p (new_node s ids cs (position_of p))) → AtEach P (new_nodes s ids cs (length ids))
 each_new P s ids cs each p h =
-    let low : p < length ids = omega (arith, length-new s ids cs (length ids)) in subst (P p) (sym (new_at s ids cs (length ids) p nowhere low)) (each p low)
+    let low : p < length ids =
+    omega (arith, length-new s ids cs (length ids)) in subst (P p) (sym (new_at s ids cs (length ids) p nowhere low)) (each p low)
 
 pub new_worlds_are_whole : NewWorldsAreWhole
 new_worlds_are_whole s ids circuits f is honest = record {
@@ -102,24 +110,31 @@ found_silent id ts all = by (port_of id ts) refl
     by None e = refl
     by (Some t) e = (found_has (λ (t : Tributary). t.outlet ≡ silent) id ts t all e).0
 
-node_silent : (s : Settings) (ids : List ℕ) (cs : List Provisioned) (p : ℕ) (id : PortId) → outlet_of id (new_node s ids cs (position_of p)).ports ≡ silent
+node_silent : (s : Settings) (ids : List ℕ) (cs : List Provisioned) (p : ℕ) (id : PortId)
+    → outlet_of id (new_node s ids cs (position_of p)).ports ≡ silent
 unfolding new_node tributaries_at
-node_silent s ids cs p id = found_silent id (ends_from (position_of p) 0 cs) (new_ports (λ (t : Tributary). t.outlet ≡ silent) (λ i e d m c. refl) (position_of p) 0 cs)
+node_silent s ids cs p id =
+    found_silent id (ends_from (position_of p) 0 cs) (new_ports (λ (t : Tributary). t.outlet ≡ silent) (λ i e d m c. refl)
+    (position_of p) 0 cs)
 
-place_silent : (s : Settings) (ids : List ℕ) (cs : List Provisioned) (n p : ℕ) (id : PortId) → option_map_or (λ (x : PathNode). outlet_of id x.ports) (slice_get (new_nodes s ids cs n) p) silent ≡ silent
+place_silent : (s : Settings) (ids : List ℕ) (cs : List Provisioned) (n p : ℕ) (id : PortId)
+    → option_map_or (λ (x : PathNode). outlet_of id x.ports) (slice_get (new_nodes s ids cs n) p) silent ≡ silent
 place_silent s ids cs n p id = by (slice_get (new_nodes s ids cs n) p) refl
   where
-    by : (o : Option PathNode) → slice_get (new_nodes s ids cs n) p ≡ o → option_map_or (λ (x : PathNode). outlet_of id x.ports) o silent ≡ silent
+    by : (o : Option PathNode) → slice_get (new_nodes s ids cs n) p ≡ o
+        → option_map_or (λ (x : PathNode). outlet_of id x.ports) o silent ≡ silent
     by None e = refl
     by (Some x) e =
         let low : p < n = omega (arith, slice_get_within (new_nodes s ids cs n) p x e, length-new s ids cs n) in
-        ap (λ (y : PathNode). outlet_of id y.ports) (sym (get_or_from_slice_get (new_nodes s ids cs n) p x x e) ∙ new_at s ids cs n p x low) ∙ node_silent s ids cs p id
+        ap (λ (y : PathNode). outlet_of id y.ports) (sym (get_or_from_slice_get (new_nodes s ids cs n) p x x e) ∙ new_at s ids cs n p x low)
+        ∙ node_silent s ids cs p id
 
 pub new_rings_are_silent : NewRingsAreSilent
 unfolding outlet_at
 new_rings_are_silent s ids circuits port = by (slice_get circuits.circuits port.circuit)
   where
-    by : (o : Option Provisioned) → option_map_or (λ (c : Provisioned). option_map_or (λ (n : PathNode). outlet_of port n.ports) (slice_get (new_nodes s ids circuits.circuits (length ids)) (end_of c port.end).0) silent) o silent ≡ silent
+    by : (o : Option Provisioned) → option_map_or (λ (c : Provisioned). option_map_or (λ (n : PathNode). outlet_of port n.ports)
+        (slice_get (new_nodes s ids circuits.circuits (length ids)) (end_of c port.end).0) silent) o silent ≡ silent
     by None = refl
     by (Some c) = place_silent s ids circuits.circuits (length ids) (end_of c port.end).0 port
 

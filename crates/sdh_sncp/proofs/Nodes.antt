@@ -1,5 +1,6 @@
 -- The nodes of a path ring, one by one, and what stays of them whatever arrives.
-use Rattle.std.proofs.Common.{◌≡◌, ℕ, zero, suc, ◌+◌, ◌<◌, Bool, true, false, List, [], ◌∷◌, length, map, Option, Some, None, refl, ap, sym, subst, ◌∙◌, arith}
+use Rattle.std.proofs.Common.{◌≡◌, ℕ, zero, suc, ◌+◌, ◌<◌, Bool, true, false, List, [], ◌∷◌, length, map, Option, Some, None, refl, ap, sym}
+use Rattle.std.proofs.Common.{subst, ◌∙◌, arith}
 use Rattle.std.specs.Prelude.{All, ◌==◌, if◌then◌else◌}
 use Rattle.std.proofs.lemmas.Bool.{ne_eqb}
 use Rattle.std.proofs.lemmas.List.{get_or-map}
@@ -26,9 +27,11 @@ use Rattle.sdh_spans.specs.Sides.{IsInletAt, IsSenderAt, SendsSo}
 use Rattle.sdh_spans.specs.Spans.{line_after}
 use Rattle.sdh_spans.proofs.Finding.{inlets_stay}
 use Rattle.sdh_spans.proofs.Sends.{sides_send_so}
-use Rattle.sdh_sncp.specs.Node.{PathNode, PathCross, lines_of, input_at, crossing, ports_after, dropped_to, after_crossing, with_calm, frames_of, node_round, inlet_on, sending_on}
+use Rattle.sdh_sncp.specs.Node.{PathNode, PathCross, lines_of, input_at, crossing, ports_after, dropped_to, after_crossing, with_calm}
+use Rattle.sdh_sncp.specs.Node.{frames_of, node_round, inlet_on, sending_on}
 use Rattle.sdh_sncp.specs.Stations.{path_node}
-use Rattle.sdh_sncp.specs.Ring.{nowhere, node_at, AtEach, World, with_arrivals, all_with_arrivals, node_after, sent_on, arrivals_of, nodes_with, round_with, round}
+use Rattle.sdh_sncp.specs.Ring.{nowhere, node_at, AtEach, World, with_arrivals, all_with_arrivals, node_after, sent_on, arrivals_of}
+use Rattle.sdh_sncp.specs.Ring.{nodes_with, round_with, round}
 use Rattle.sdh_terminal.specs.Fixed.{fixed_port}
 use Rattle.sdh_sncp.specs.Laws.{HasPlace, IsUnslipped, HasRun, IsBetween, IsPlaced}
 use Rattle.sdh_terminal.proofs.Found.{ports_mapped}
@@ -38,17 +41,21 @@ use Rattle.sdh_terminal.proofs.Found.{ports_mapped}
 node_map : (f : PathNode → PathNode) (ns : List PathNode) (p : ℕ) → p < length ns → node_at (map f ns) p ≡ f (node_at ns p)
 node_map f ns p h = get_or-map f ns p nowhere nowhere h
 
-each_map : (P Q : ℕ → PathNode → Type 0) (f : PathNode → PathNode) → ((p : ℕ) (n : PathNode) → P p n → Q p (f n)) → (ns : List PathNode) → AtEach P ns → AtEach Q (map f ns)
+each_map : (P Q : ℕ → PathNode → Type 0) (f : PathNode → PathNode) → ((p : ℕ) (n : PathNode) → P p n → Q p (f n)) → (ns : List PathNode)
+    → AtEach P ns → AtEach Q (map f ns)
 each_map P Q f to [] each p h = absurd (omega arith)
 each_map P Q f to (n ∷ ns) each zero h = to 0 n (each 0 (omega arith))
-each_map P Q f to (n ∷ ns) each (suc p) h = each_map (λ q. P (suc q)) (λ q. Q (suc q)) f (λ q. to (suc q)) ns (λ q low. each (suc q) (omega arith)) p (omega arith)
+each_map P Q f to (n ∷ ns) each (suc p) h =
+    each_map (λ q. P (suc q)) (λ q. Q (suc q)) f (λ q. to (suc q)) ns (λ q low. each (suc q) (omega arith)) p (omega arith)
 
-each_heard : (P : ℕ → PathNode → Type 0) → ((p : ℕ) (a b : Arrival) (n : PathNode) → P p n → P p (with_arrivals a b n)) → (xs : List Arrival) (ns : List PathNode) → AtEach P ns → AtEach P (all_with_arrivals xs ns)
+each_heard : (P : ℕ → PathNode → Type 0) → ((p : ℕ) (a b : Arrival) (n : PathNode) → P p n → P p (with_arrivals a b n))
+    → (xs : List Arrival) (ns : List PathNode) → AtEach P ns → AtEach P (all_with_arrivals xs ns)
 each_heard P keep [] ns each p h = each p h
 each_heard P keep (a ∷ []) ns each p h = each p h
 each_heard P keep (a ∷ b ∷ later) [] each p h = absurd (omega arith)
 each_heard P keep (a ∷ b ∷ later) (n ∷ ns) each zero h = keep 0 a b n (each 0 (omega arith))
-each_heard P keep (a ∷ b ∷ later) (n ∷ ns) each (suc p) h = each_heard (λ q. P (suc q)) (λ q. keep (suc q)) later ns (λ q low. each (suc q) (omega arith)) p (omega arith)
+each_heard P keep (a ∷ b ∷ later) (n ∷ ns) each (suc p) h =
+    each_heard (λ q. P (suc q)) (λ q. keep (suc q)) later ns (λ q low. each (suc q) (omega arith)) p (omega arith)
 
 -- ---- one node in its round
 
@@ -100,12 +107,14 @@ module _ (n : PathNode) where
 
 -- ---- its sides between rounds
 
-inlet_met : (at : Rate) (d : Side) (a b : Arrival) (n : PathNode) → IsInletAt at (inlet_on d n) → IsInletAt at (inlet_on d (with_arrivals a b n))
+inlet_met : (at : Rate) (d : Side) (a b : Arrival) (n : PathNode) → IsInletAt at (inlet_on d n)
+    → IsInletAt at (inlet_on d (with_arrivals a b n))
 unfolding any_round.with_arrivals
 inlet_met at West a b n is = record { rate = is.rate; readings = is.readings }
 inlet_met at East a b n is = record { rate = is.rate; readings = is.readings }
 
-sender_met : (at : Rate) (d : Side) (a b : Arrival) (n : PathNode) → IsSenderAt at (sending_on d n) → IsSenderAt at (sending_on d (with_arrivals a b n))
+sender_met : (at : Rate) (d : Side) (a b : Arrival) (n : PathNode) → IsSenderAt at (sending_on d n)
+    → IsSenderAt at (sending_on d (with_arrivals a b n))
 unfolding any_round.with_arrivals
 sender_met at West a b n is = is
 sender_met at East a b n is = is
@@ -114,24 +123,30 @@ sender_met at East a b n is = is
 
 ports_kept : (x : PathCross) (ports : List Tributary) → map fixed_port (ports_after x ports) ≡ map fixed_port ports
 unfolding ports_after all_fed
-ports_kept x ports = ports_mapped (λ i t. fed t) 0 (map_from (λ i t. delivered_with (dropped_to x) t) 0 ports) (λ k t. refl) ∙ ports_mapped (λ i t. delivered_with (dropped_to x) t) 0 ports (λ k t. refl)
+ports_kept x ports =
+    ports_mapped (λ i t. fed t) 0 (map_from (λ i t. delivered_with (dropped_to x) t) 0 ports) (λ k t. refl)
+    ∙ ports_mapped (λ i t. delivered_with (dropped_to x) t) 0 ports (λ k t. refl)
 
 pub fixed_ports_after : (n : PathNode) → map fixed_port (node_after n).ports ≡ map fixed_port n.ports
 unfolding node_round with_calm after_crossing
 fixed_ports_after n = ports_kept (crossing n) n.ports
 
 -- what holds of each port's feed, by what the round makes of it
-feeds_after : (P Q : Fed → Type 0) → ((f : Fed) → P f → Q (next_feed f)) → (x : PathCross) (i j : ℕ) (ts : List Tributary) → All (λ (t : Tributary). P t.feed) ts
+feeds_after : (P Q : Fed → Type 0) → ((f : Fed) → P f → Q (next_feed f)) → (x : PathCross) (i j : ℕ) (ts : List Tributary)
+    → All (λ (t : Tributary). P t.feed) ts
     → All (λ (t : Tributary). Q t.feed) (map_from (λ i t. fed t) i (map_from (λ i t. delivered_with (dropped_to x) t) j ts))
 feeds_after P Q to x i j [] all m d lt = absurd (omega arith)
 feeds_after P Q to x i j (t ∷ ts) all zero d lt = to t.feed (all 0 d (omega arith))
-feeds_after P Q to x i j (t ∷ ts) all (suc m) d lt = feeds_after P Q to x (i + 1) (j + 1) ts (λ a e low. all (suc a) e (omega arith)) m d (omega arith)
+feeds_after P Q to x i j (t ∷ ts) all (suc m) d lt =
+    feeds_after P Q to x (i + 1) (j + 1) ts (λ a e low. all (suc a) e (omega arith)) m d (omega arith)
 
-feeds_next : (P Q : Fed → Type 0) → ((f : Fed) → P f → Q (next_feed f)) → (n : PathNode) → All (λ (t : Tributary). P t.feed) n.ports → All (λ (t : Tributary). Q t.feed) (node_after n).ports
+feeds_next : (P Q : Fed → Type 0) → ((f : Fed) → P f → Q (next_feed f)) → (n : PathNode) → All (λ (t : Tributary). P t.feed) n.ports
+    → All (λ (t : Tributary). Q t.feed) (node_after n).ports
 unfolding node_round with_calm after_crossing ports_after all_fed
 feeds_next P Q to n all = feeds_after P Q to (crossing n) 0 0 n.ports all
 
-plain_after : (rounds : ℕ) (feed : Fed) (form : ChunkForm) → form ≡ Plain → IsUnslipped rounds feed → IsUnslipped (rounds + 1) (record feed { clock = after_form form feed.clock })
+plain_after : (rounds : ℕ) (feed : Fed) (form : ChunkForm) → form ≡ Plain → IsUnslipped rounds feed
+    → IsUnslipped (rounds + 1) (record feed { clock = after_form form feed.clock })
 plain_after rounds feed form e is =
     subst (λ f. IsUnslipped (rounds + 1) (record feed { clock = after_form f feed.clock })) (sym e)
     (record { ups = is.ups; downs = is.downs; sent = (let s = is.sent in omega arith); value = is.value })
@@ -164,7 +179,9 @@ module _ (w : World) where
   place_next p n is = record {
     uses = uses_after n ∙ is.uses;
     ports = fixed_ports_after n ∙ is.ports;
-    inlets = λ d. subst (IsInletAt w.ring.settings.rate) (sym (inlet_after n d)) (inlets_stay w.ring.settings.rate n.threshold (inlet_on d n) (is.inlets d));
+    inlets =
+        λ d. subst (IsInletAt w.ring.settings.rate) (sym (inlet_after n d))
+        (inlets_stay w.ring.settings.rate n.threshold (inlet_on d n) (is.inlets d));
     senders = λ d. sender_after n w.ring.settings.rate d (is.senders d);
     words = λ d. word_after n d ∙ is.words d;
   }
@@ -194,9 +211,13 @@ module _ (w : World) where
       record {
         ids = placed.ids;
         size = count_round path_node xs w ∙ placed.size;
-        places = λ p h. (let is = each_map (HasPlace w.ring) (HasPlace w.ring) node_after place_next (nodes_with xs w) (each_heard (HasPlace w.ring) place_met xs ns placed.places) p h in
+        places =
+            λ p h. (let is = each_map (HasPlace w.ring) (HasPlace w.ring) node_after place_next (nodes_with xs w)
+            (each_heard (HasPlace w.ring) place_met xs ns placed.places) p h in
             record { uses = is.uses; ports = is.ports; inlets = is.inlets; senders = is.senders; words = is.words });
-        between = each_map (λ p n. HasRun t n) (λ p n. IsBetween (t + 1) n) node_after (between_next t) (nodes_with xs w) (each_heard (λ p n. HasRun t n) (run_met t) xs ns (λ p h. (placed.between p h).run));
+        between =
+            each_map (λ p n. HasRun t n) (λ p n. IsBetween (t + 1) n) node_after (between_next t) (nodes_with xs w)
+            (each_heard (λ p n. HasRun t n) (run_met t) xs ns (λ p h. (placed.between p h).run));
       }
 
 -- ---- what is told to a node
@@ -212,7 +233,8 @@ told_both a b n = record n { west = record n.west { arrived = a }; east = record
 abbrev pub informed : World → ℕ → PathNode
 informed w p = told_both (told_to w p West) (told_to w p East) (node_at w.ring.nodes p)
 
-pub informed_on : (w : World) (p : ℕ) (d : Side) → inlet_on d (informed w p) ≡ record (inlet_on d (node_at w.ring.nodes p)) { arrived = told_to w p d }
+pub informed_on : (w : World) (p : ℕ) (d : Side) → inlet_on d (informed w p)
+    ≡ record (inlet_on d (node_at w.ring.nodes p)) { arrived = told_to w p d }
 informed_on w p West = refl
 informed_on w p East = refl
 
@@ -220,14 +242,18 @@ pub informed_out : (w : World) (p : ℕ) (d : Side) → sending_on d (informed w
 informed_out w p West = refl
 informed_out w p East = refl
 
-heard_at : (f : Fibres) (q k : ℕ) (ns : List PathNode) (p : ℕ) → p < k → p < length ns → node_at (all_with_arrivals (arrivals_from f q k) ns) p ≡ told_both (Some (arrival_at f (q + p) West)) (Some (arrival_at f (q + p) East)) (node_at ns p)
+heard_at : (f : Fibres) (q k : ℕ) (ns : List PathNode) (p : ℕ) → p < k → p < length ns
+    → node_at (all_with_arrivals (arrivals_from f q k) ns) p
+    ≡ told_both (Some (arrival_at f (q + p) West)) (Some (arrival_at f (q + p) East)) (node_at ns p)
 unfolding any_round.with_arrivals
 heard_at f q zero ns p h low = absurd (omega arith)
 heard_at f q (suc k) [] p h low = absurd (omega arith)
-heard_at f q (suc k) (n ∷ ns) zero h low = ap (λ i. told_both (Some (arrival_at f i West)) (Some (arrival_at f i East)) n) (let e : q ≡ q + 0 = omega arith in e)
+heard_at f q (suc k) (n ∷ ns) zero h low =
+    ap (λ i. told_both (Some (arrival_at f i West)) (Some (arrival_at f i East)) n) (let e : q ≡ q + 0 = omega arith in e)
 heard_at f q (suc k) (n ∷ ns) (suc p) h low =
     heard_at f (q + 1) k ns p (omega arith) (omega arith)
-    ∙ ap (λ i. told_both (Some (arrival_at f i West)) (Some (arrival_at f i East)) (node_at ns p)) (let e : q + 1 + p ≡ q + suc p = omega arith in e)
+    ∙ ap (λ i. told_both (Some (arrival_at f i West)) (Some (arrival_at f i East)) (node_at ns p))
+    (let e : q + 1 + p ≡ q + suc p = omega arith in e)
 
 told_none : (n : PathNode) → n.west.arrived ≡ None → n.east.arrived ≡ None → n ≡ told_both None None n
 told_none n west east = ap (λ a. told_both a n.east.arrived n) west ∙ ap (λ b. told_both None b n) east
@@ -238,11 +264,13 @@ module _ (w : World) (placed : IsPlaced w) where
   listening_at p h = by_test (w.ring.rounds == 0)
     where
       by_test : (b : Bool) → node_at (all_with_arrivals (arrivals_from w.fibres 0 (if b then 0 else length w.ring.ids)) w.ring.nodes) p
-          ≡ told_both (if b then None else Some (arrival_at w.fibres p West)) (if b then None else Some (arrival_at w.fibres p East)) (node_at w.ring.nodes p)
+          ≡ told_both (if b then None else Some (arrival_at w.fibres p West)) (if b then None else Some (arrival_at w.fibres p East))
+          (node_at w.ring.nodes p)
       by_test true = let is = placed.between p h in told_none (node_at w.ring.nodes p) (is.fresh West) (is.fresh East)
       by_test false =
           heard_at w.fibres 0 (length w.ring.ids) w.ring.nodes p (let e = placed.size in omega arith) h
-          ∙ ap (λ i. told_both (Some (arrival_at w.fibres i West)) (Some (arrival_at w.fibres i East)) (node_at w.ring.nodes p)) (let e : 0 + p ≡ p = omega arith in e)
+          ∙ ap (λ i. told_both (Some (arrival_at w.fibres i West)) (Some (arrival_at w.fibres i East)) (node_at w.ring.nodes p))
+          (let e : 0 + p ≡ p = omega arith in e)
 
   pub nodes_after : (p : ℕ) → p < length w.ring.nodes → node_at (round w).ring.nodes p ≡ node_after (informed w p)
   unfolding any_round.round any_round.round_with

@@ -1,5 +1,6 @@
 -- A round of a path ring whose nodes are in their places and whose fibres carry what they sent.
-use Rattle.std.proofs.Common.{◌≡◌, ℕ, zero, suc, ◌+◌, ◌*◌, ◌<◌, List, [], ◌∷◌, length, get_or, map, Some, None, refl, ap, sym, subst, ◌∙◌, arith, inl, inr}
+use Rattle.std.proofs.Common.{◌≡◌, ℕ, zero, suc, ◌+◌, ◌*◌, ◌<◌, List, [], ◌∷◌, length, get_or, map, Some, None, refl, ap, sym, subst, ◌∙◌}
+use Rattle.std.proofs.Common.{arith, inl, inr}
 use Rattle.std.proofs.lemmas.Bool.{cases_lt}
 use Rattle.std.proofs.lemmas.List.{get_or_past}
 use Rattle.sdh_terms.specs.declared.Rate.{Rate}
@@ -29,7 +30,8 @@ use Rattle.sdh_sncp.specs.Node.{PathNode, lines_of, crossing, inlet_on, sending_
 use Rattle.sdh_sncp.specs.Stations.{path_node}
 use Rattle.sdh_sncp.specs.Ring.{HeldPath, node_at, World, sent_on, frames_of, nodes_with, arrivals_of, round, run}
 use Rattle.sdh_sncp.specs.Laws.{IsPaired, IsWhole, condition_to}
-use Rattle.sdh_sncp.proofs.Nodes.{placed_round, told_to, told_later, informed, informed_on, informed_out, listening_at, nodes_after, length-after, inlet_after, line_taken, frame_is, node_sends}
+use Rattle.sdh_sncp.proofs.Nodes.{placed_round, told_to, told_later, informed, informed_on, informed_out, listening_at, nodes_after}
+use Rattle.sdh_sncp.proofs.Nodes.{length-after, inlet_after, line_taken, frame_is, node_sends}
 
 module _ (w : World) (whole : IsWhole w) where
   abbrev size : ℕ
@@ -53,7 +55,8 @@ module _ (w : World) (whole : IsWhole w) where
 
   pub neighbour_inside : (p : ℕ) (d : Side) → neighbour size p d < length w.ring.nodes
   neighbour_inside p d =
-      let below : neighbour size p d < size = neighbour_below size p d (let e = whole.placed.ids.enough in omega arith) in let e = whole.placed.size in omega arith
+      let below : neighbour size p d < size = neighbour_below size p d (let e = whole.placed.ids.enough in omega arith) in let e =
+      whole.placed.size in omega arith
 
   -- ---- what arrives
 
@@ -66,7 +69,8 @@ module _ (w : World) (whole : IsWhole w) where
         | inr past ↦ subst (IsConditionAt rate) (sym (get_or_past cs i Clear past)) tt
       ]
 
-  pub arrival_is : (p : ℕ) (d : Side) → arrival_at w.fibres p d ≡ through (n_of rate) (condition_to w p d) (carried_on w.fibres (fibre_to size p d))
+  pub arrival_is : (p : ℕ) (d : Side) → arrival_at w.fibres p d
+      ≡ through (n_of rate) (condition_to w p d) (carried_on w.fibres (fibre_to size p d))
   arrival_is p d =
       let f = w.fibres in
       (honest_rounds path_node).arrives f p d whole.paired.honest
@@ -86,7 +90,8 @@ module _ (w : World) (whole : IsWhole w) where
   abbrev pub threshold_at : ℕ → ℕ
   threshold_at p = (informed w p).threshold
 
-  pub told_side : (p : ℕ) (d : Side) (some : 0 < t) → p < length w.ring.nodes → IsTold rate (condition_to w p d) (word_to p d) (sent_to p d some).line (inlet_at p d)
+  pub told_side : (p : ℕ) (d : Side) (some : 0 < t) → p < length w.ring.nodes
+      → IsTold rate (condition_to w p d) (word_to p d) (sent_to p d some).line (inlet_at p d)
   told_side p d some h =
       let sent = sent_to p d some in
       record {
@@ -99,7 +104,9 @@ module _ (w : World) (whole : IsWhole w) where
 
   -- what the round leaves of it
   pub side_is : (p : ℕ) (d : Side) → p < length w.ring.nodes → new_on p d ≡ after_taking (threshold_at p) (inlet_at p d)
-  side_is p d h = ap (inlet_on d) (nodes_after w whole.placed p h) ∙ inlet_after (informed w p) d ∙ ap (after_taking (threshold_at p)) (informed_on w p d)
+  side_is p d h =
+      ap (inlet_on d) (nodes_after w whole.placed p h) ∙ inlet_after (informed w p) d
+      ∙ ap (after_taking (threshold_at p)) (informed_on w p d)
 
   -- and in the cross-connect of the round
   pub line_is : (p : ℕ) (d : Side) → line_on (lines_of (crossing (informed w p))) d ≡ line_after (threshold_at p) (inlet_at p d)
@@ -107,7 +114,8 @@ module _ (w : World) (whole : IsWhole w) where
 
   -- ---- what the fibres carry after the round
 
-  frame_there : (ns : List PathNode) (p : ℕ) (d : Side) → p < length ns → get_or (map Some (frames_of w.ring.moment ns)) (fibre p d) None ≡ Some (sent_on d (node_at ns p))
+  frame_there : (ns : List PathNode) (p : ℕ) (d : Side) → p < length ns
+      → get_or (map Some (frames_of w.ring.moment ns)) (fibre p d) None ≡ Some (sent_on d (node_at ns p))
   frame_there [] p d h = absurd (omega arith)
   frame_there (n ∷ ns) zero West h = refl
   frame_there (n ∷ ns) zero East h = refl
@@ -118,7 +126,8 @@ module _ (w : World) (whole : IsWhole w) where
       let i : 2 * suc p + 1 ≡ suc (suc (2 * p + 1)) = omega arith in
       ap (λ k. get_or (map Some (frames_of w.ring.moment (n ∷ ns))) k None) i ∙ frame_there ns p East (omega arith)
 
-  pub carried_after : (p : ℕ) (d : Side) → p < length w.ring.nodes → carried_on (round w).fibres (fibre p d) ≡ Some (sent_on d (informed w p))
+  pub carried_after : (p : ℕ) (d : Side) → p < length w.ring.nodes
+      → carried_on (round w).fibres (fibre p d) ≡ Some (sent_on d (informed w p))
   unfolding any_round.round any_round.round_with sent_all
   carried_after p d h =
       frame_there (nodes_with (arrivals_of w) w) p d (let e = length-heard path_node (arrivals_of w) w.ring.nodes in omega arith)
@@ -134,13 +143,15 @@ module _ (w : World) (whole : IsWhole w) where
   frame_says : (p : ℕ) (d : Side) → p < length w.ring.nodes → Says rate (first_word w.ring.ids p d) (sent_on d (informed w p))
   frame_says p d h =
       subst (λ k. Says rate k (sent_on d (informed w p))) (word_is p d h)
-      (subst (Says rate (sending_on d (informed w p)).word) (sym (frame_is (informed w p) d)) (node_sends (informed w p) rate d (sends_at p d h)).says)
+      (subst (Says rate (sending_on d (informed w p)).word) (sym (frame_is (informed w p) d))
+      (node_sends (informed w p) rate d (sends_at p d h)).says)
 
   prepared_after : IsPrepared rate size (round w).fibres
   unfolding any_round.round
   prepared_after =
       let c = whole.placed.size in
-      subst (λ n. IsPrepared rate n (round w).fibres) c (prepared_round path_node rate (arrivals_of w) w (subst (λ n. IsPrepared rate n w.fibres) (sym c) whole.paired.prepared))
+      subst (λ n. IsPrepared rate n (round w).fibres) c (prepared_round path_node rate (arrivals_of w) w
+      (subst (λ n. IsPrepared rate n w.fibres) (sym c) whole.paired.prepared))
 
   honest_after : IsHonest (round w).fibres
   unfolding any_round.round

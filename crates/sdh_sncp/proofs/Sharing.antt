@@ -1,5 +1,6 @@
 -- The first circuits that share a slot.
-use Rattle.std.proofs.Common.{◌≡◌, ℕ, zero, suc, ◌+◌, ◌<◌, ◌≤◌, Bool, true, false, cond, List, [], ◌∷◌, length, Option, Some, None, inl, inr, refl, ap, sym, arith, eqb-true, eq-eqb, ◌∙◌}
+use Rattle.std.proofs.Common.{◌≡◌, ℕ, zero, suc, ◌+◌, ◌<◌, ◌≤◌, Bool, true, false, cond, List, [], ◌∷◌, length, Option, Some, None, inl}
+use Rattle.std.proofs.Common.{inr, refl, ap, sym, arith, eqb-true, eq-eqb, ◌∙◌}
 use Rattle.std.specs.Prelude.{find, slice_get}
 use Rattle.std.specs.List.{range_with_len}
 use Rattle.std.specs.Option.{is_some, option_map_or}
@@ -17,8 +18,10 @@ pub record IsFirst (p : ℕ → Bool) (a n i : ℕ) : Type 0 where
   pub marked : p i ≡ true
   pub least : (k : ℕ) → a ≤ k → k < i → p k ≡ false
 
-first_step : (p : ℕ → Bool) (a n i : ℕ) (b : Bool) → p a ≡ b → (rest : Option ℕ) → (rest ≡ Some i → IsFirst p (a + 1) n i) → cond b (Some a) rest ≡ Some i → IsFirst p a (suc n) i
-first_step p a n i true e rest later is = let same : a ≡ i = cc in record { from = omega arith; below = omega arith; marked = ap p (sym same) ∙ e; least = λ k low high. absurd (omega arith) }
+first_step : (p : ℕ → Bool) (a n i : ℕ) (b : Bool) → p a ≡ b → (rest : Option ℕ) → (rest ≡ Some i → IsFirst p (a + 1) n i)
+    → cond b (Some a) rest ≡ Some i → IsFirst p a (suc n) i
+first_step p a n i true e rest later is = let same : a ≡ i =
+    cc in record { from = omega arith; below = omega arith; marked = ap p (sym same) ∙ e; least = λ k low high. absurd (omega arith) }
 first_step p a n i false e rest later is =
     let l = later is in
     record {
@@ -35,7 +38,8 @@ pub first_marked : (p : ℕ → Bool) (a n i : ℕ) → find p (range_with_len a
 first_marked p a zero i e = absurd (cc)
 first_marked p a (suc n) i e = first_step p a n i (p a) refl (find p (range_with_len (a + 1) n)) (first_marked p (a + 1) n i) e
 
-none_step : (p : ℕ → Bool) (a n k : ℕ) (b : Bool) → p a ≡ b → (rest : Option ℕ) → (rest ≡ None → a + 1 ≤ k → k < a + 1 + n → p k ≡ false) → cond b (Some a) rest ≡ None → a ≤ k → k < a + suc n → p k ≡ false
+none_step : (p : ℕ → Bool) (a n k : ℕ) (b : Bool) → p a ≡ b → (rest : Option ℕ) → (rest ≡ None → a + 1 ≤ k → k < a + 1 + n → p k ≡ false)
+    → cond b (Some a) rest ≡ None → a ≤ k → k < a + suc n → p k ≡ false
 none_step p a n k true e rest later is low high = absurd (cc)
 none_step p a n k false e rest later is low high = elim (cases_lt a k) [
   | inl more ↦ later is (omega arith) (omega arith)
@@ -44,7 +48,8 @@ none_step p a n k false e rest later is low high = elim (cases_lt a k) [
 
 pub none_marked : (p : ℕ → Bool) (a n k : ℕ) → find p (range_with_len a n) ≡ None → a ≤ k → k < a + n → p k ≡ false
 none_marked p a zero k e low high = absurd (omega arith)
-none_marked p a (suc n) k e low high = none_step p a n k (p a) refl (find p (range_with_len (a + 1) n)) (λ rest more less. none_marked p (a + 1) n k rest more less) e low high
+none_marked p a (suc n) k e low high =
+    none_step p a n k (p a) refl (find p (range_with_len (a + 1) n)) (λ rest more less. none_marked p (a + 1) n k rest more less) e low high
 
 -- ---- circuits
 
@@ -54,11 +59,20 @@ slot_is cs i c get = ap (λ o. option_map_or (λ (c : Provisioned). c.slot.0) o 
 
 share_if : (cs : List Provisioned) (i j : ℕ) → Share cs i j → share cs j i ≡ true
 unfolding share
-share_if cs i j s = eq-eqb (slot_at cs i) (slot_at cs j) (slot_is cs i s.first s.first_is ∙ s.slot ∙ sym (slot_is cs j s.second s.second_is))
+share_if cs i j s =
+    eq-eqb (slot_at cs i) (slot_at cs j) (slot_is cs i s.first s.first_is ∙ s.slot ∙ sym (slot_is cs j s.second s.second_is))
 
-shares : (cs : List Provisioned) (i j : ℕ) (c d : Provisioned) → slice_get cs i ≡ Some c → slice_get cs j ≡ Some d → share cs j i ≡ true → Share cs i j
+shares : (cs : List Provisioned) (i j : ℕ) (c d : Provisioned) → slice_get cs i ≡ Some c → slice_get cs j ≡ Some d → share cs j i ≡ true
+    → Share cs i j
 unfolding share
-shares cs i j c d ic jd e = record { first = c; second = d; first_is = ic; second_is = jd; slot = sym (slot_is cs i c ic) ∙ eqb-true (slot_at cs i) (slot_at cs j) e ∙ slot_is cs j d jd }
+shares cs i j c d ic jd e = record {
+  first = c;
+  second = d;
+  first_is = ic;
+  second_is = jd;
+  slot = sym (slot_is cs i c ic)
+      ∙ eqb-true (slot_at cs i) (slot_at cs j) e ∙ slot_is cs j d jd;
+}
 
 -- none before number j shares its slot
 none_before : (cs : List Provisioned) (j : ℕ) → has_before cs j ≡ false → first_before cs j ≡ None
@@ -76,7 +90,8 @@ none_shares cs j e k less s =
     let yes = share_if cs k j s in
     cc
 
-pub are_first : (cs : List Provisioned) (i j : ℕ) (c d : Provisioned) → find (has_before cs) (range_with_len 0 (length cs)) ≡ Some j → first_before cs j ≡ Some i → slice_get cs i ≡ Some c → slice_get cs j ≡ Some d → AreFirstToShare cs i j
+pub are_first : (cs : List Provisioned) (i j : ℕ) (c d : Provisioned) → find (has_before cs) (range_with_len 0 (length cs)) ≡ Some j
+    → first_before cs j ≡ Some i → slice_get cs i ≡ Some c → slice_get cs j ≡ Some d → AreFirstToShare cs i j
 unfolding first_before
 are_first cs i j c d second first ic jd =
     let s = first_marked (has_before cs) 0 (length cs) j second in
@@ -93,9 +108,13 @@ are_first cs i j c d second first ic jd =
 
 pub are_alone : (cs : List Provisioned) → find (has_before cs) (range_with_len 0 (length cs)) ≡ None → AreAlone cs
 are_alone cs none i j c d ic jd same = elim (cases_lt i j) [
-  | inl less ↦ absurd (none_shares cs j (none_marked (has_before cs) 0 (length cs) j none (omega arith) (let h = slice_get_within cs j d jd in omega arith)) i less (record { first = c; second = d; first_is = ic; second_is = jd; slot = same }))
+  | inl less ↦ absurd (none_shares cs j (none_marked (has_before cs) 0 (length cs) j none (omega arith)
+      (let h = slice_get_within cs j d jd in omega arith)) i less
+      (record { first = c; second = d; first_is = ic; second_is = jd; slot = same }))
   | inr most ↦ elim (cases_lt j i) [
-    | inl less ↦ absurd (none_shares cs i (none_marked (has_before cs) 0 (length cs) i none (omega arith) (let h = slice_get_within cs i c ic in omega arith)) j less (record { first = d; second = c; first_is = jd; second_is = ic; slot = sym same }))
+    | inl less ↦ absurd (none_shares cs i (none_marked (has_before cs) 0 (length cs) i none (omega arith)
+        (let h = slice_get_within cs i c ic in omega arith)) j less
+        (record { first = d; second = c; first_is = jd; second_is = ic; slot = sym same }))
     | inr least ↦ omega arith
   ]
 ]

@@ -23,8 +23,10 @@ use Rattle.sdh_spans.proofs.Spans.{spans_take_words, spans_bring, cut_spans_brin
 use Rattle.sdh_sncp.specs.Node.{PathNode, PathCross, lines_of, leads, crossing, inlet_on, sending_on}
 use Rattle.sdh_sncp.specs.Ring.{node_at, World, round, is_calm}
 use Rattle.sdh_sncp.specs.Laws.{IsWhole, condition_to, cut_in}
-use Rattle.sdh_sncp.proofs.Nodes.{puts, informed, informed_out, told_later, nodes_after, length-after, one_more, frame_is, sending_after, node_sends}
-use Rattle.sdh_sncp.proofs.Rounds.{neighbour_inside, may_at, arrival_is, inlet_at, threshold_at, told_side, side_is, line_is, carried_after, sends_at, word_is, whole_round}
+use Rattle.sdh_sncp.proofs.Nodes.{puts, informed, informed_out, told_later, nodes_after, length-after, one_more, frame_is, sending_after}
+use Rattle.sdh_sncp.proofs.Nodes.{node_sends}
+use Rattle.sdh_sncp.proofs.Rounds.{neighbour_inside, may_at, arrival_is, inlet_at, threshold_at, told_side, side_is, line_is, carried_after}
+use Rattle.sdh_sncp.proofs.Rounds.{sends_at, word_is, whole_round}
 use Rattle.sdh_sncp.proofs.Calm.{same_there}
 
 -- ---- in the round that begins with this world
@@ -51,7 +53,9 @@ module _ (w : World) (whole : IsWhole w) (q : ℕ) (d : Side) (h : q < length w.
   state_is k = ap (λ (s : Sending). get_or s.generators k None) (informed_out w q d)
 
   -- a generator goes on by what goes into its AU-4
-  pub generator_step : (k : ℕ) → k + 1 ≤ n_of w.ring.settings.rate → get_or (sending_on d (node_at (round w).ring.nodes q)).generators k None ≡ next_sending (state_at w q d k) (sent_at w q d (k + 1)).action (sent_at w q d (k + 1)).value
+  pub generator_step : (k : ℕ) → k + 1 ≤ n_of w.ring.settings.rate
+      → get_or (sending_on d (node_at (round w).ring.nodes q)).generators k None
+      ≡ next_sending (state_at w q d k) (sent_at w q d (k + 1)).action (sent_at w q d (k + 1)).value
   generator_step k high =
       ap (λ (m : PathNode). get_or (sending_on d m).generators k None) (nodes_after w whole.placed q h)
       ∙ ap (λ (s : Sending). get_or s.generators k None) (sending_after (informed w q) d)
@@ -108,7 +112,9 @@ module _ (w : World) (whole : IsWhole w) (p : ℕ) (d : Side) (lt : p < length w
     no_ais = no_ais;
     full = fed_full (lines_of (crossing_at w q)) (node_at w.ring.nodes q).ports (leads (crossing_at w q) e);
     inlet = (told_side v next p d ran pn).inlet;
-    told = told_later v p d ran ∙ ap Some (arrival_is v next p d ∙ ap (through (n_of rate) c) (carried_after w whole q e qn ∙ ap Some (frame_is (informed w q) e)));
+    told =
+        told_later v p d ran ∙ ap Some (arrival_is v next p d
+        ∙ ap (through (n_of rate) c) (carried_after w whole q e qn ∙ ap Some (frame_is (informed w q) e)));
   }
 
   left : (inlet_on d (node_at (round v).ring.nodes p)).readings ≡ (after_taking threshold old).readings
@@ -116,21 +122,29 @@ module _ (w : World) (whole : IsWhole w) (p : ℕ) (d : Side) (lt : p < length w
 
   module _ (k : ℕ) (high : k + 1 ≤ n_of w.ring.settings.rate) where
     -- the interpreter behind a span takes the word that the generator before it sent in the round before
-    pub interpreter_step : TakesWord (get_or (inlet_on d (node_at v.ring.nodes p)).readings k start) (get_or (inlet_on d (node_at (round v).ring.nodes p)).readings k start) (came_at v p d (k + 1))
+    pub interpreter_step : TakesWord (get_or (inlet_on d (node_at v.ring.nodes p)).readings k start)
+        (get_or (inlet_on d (node_at (round v).ring.nodes p)).readings k start) (came_at v p d (k + 1))
         (word_behind (cut_in v p d) (word_sent (state_at w q e k) (sent_at w q e (k + 1)).action (sent_at w q e (k + 1)).value))
     interpreter_step =
-        let took = spans_take_words rate c (puts (informed w q) e) sender old threshold (lines_of (crossing_at v p)) d k is_span (line_is v next p d) high in
+        let took =
+        spans_take_words rate c (puts (informed w q) e) sender old threshold (lines_of (crossing_at v p)) d k is_span
+        (line_is v next p d) high in
         let new = sym (ap (λ rs. get_or rs k start) left) in
-        subst (λ s. TakesWord (get_or (inlet_on d (node_at v.ring.nodes p)).readings k start) (get_or (inlet_on d (node_at (round v).ring.nodes p)).readings k start) (came_at v p d (k + 1)) (word_behind (is_cut c) (word_sent s (sent_at w q e (k + 1)).action (sent_at w q e (k + 1)).value)))
+        subst (λ s. TakesWord (get_or (inlet_on d (node_at v.ring.nodes p)).readings k start)
+        (get_or (inlet_on d (node_at (round v).ring.nodes p)).readings k start) (came_at v p d (k + 1))
+        (word_behind (is_cut c) (word_sent s (sent_at w q e (k + 1)).action (sent_at w q e (k + 1)).value)))
         (state_is w whole q e qn k)
-        (subst (λ r. TakesWord (get_or (inlet_on d (node_at v.ring.nodes p)).readings k start) r (came_at v p d (k + 1)) (word_behind (is_cut c) (word_sent (get_or sender.generators k None) (sent_at w q e (k + 1)).action (sent_at w q e (k + 1)).value))) new took)
+        (subst (λ r. TakesWord (get_or (inlet_on d (node_at v.ring.nodes p)).readings k start) r (came_at v p d (k + 1))
+        (word_behind (is_cut c) (word_sent (get_or sender.generators k None) (sent_at w q e (k + 1)).action
+        (sent_at w q e (k + 1)).value))) new took)
 
     -- in calm rounds
     module _ (calm0 : is_calm v.ring.nodes ≡ true) (calm1 : is_calm (round v).ring.nodes ≡ true) where
       still : (after_taking threshold old).readings ≡ old.readings
       still = sym left ∙ (same_there v next calm1 p pn).readings d
 
-      kept : get_or sender.generators k None ≡ next_sending (get_or sender.generators k None) (sent_at w q e (k + 1)).action (sent_at w q e (k + 1)).value
+      kept : get_or sender.generators k None ≡ next_sending (get_or sender.generators k None) (sent_at w q e (k + 1)).action
+          (sent_at w q e (k + 1)).value
       kept =
           state_is w whole q e qn k
           ∙ sym (ap (λ l. get_or l k None) ((same_there w whole calm0 q qn).generators e))
@@ -138,13 +152,18 @@ module _ (w : World) (whole : IsWhole w) (p : ℕ) (d : Side) (lt : p < length w
           ∙ ap (λ s. next_sending s (sent_at w q e (k + 1)).action (sent_at w q e (k + 1)).value) (sym (state_is w whole q e qn k))
 
       -- over a fibre that isn't cut an AU-4 brings what the neighbour sent in the round before
-      pub span_brings : cut_in v p d ≡ false → (b : Outlet) → HasValue b → Brings (sent_at w q e (k + 1)) b → Brings (came_at v p d (k + 1)) b
-      span_brings clear b small is = spans_bring rate c (puts (informed w q) e) sender old threshold (lines_of (crossing_at v p)) d k is_span (line_is v next p d) high clear still kept b small is
+      pub span_brings : cut_in v p d ≡ false → (b : Outlet) → HasValue b → Brings (sent_at w q e (k + 1)) b
+          → Brings (came_at v p d (k + 1)) b
+      span_brings clear b small is =
+          spans_bring rate c (puts (informed w q) e) sender old threshold (lines_of (crossing_at v p)) d k is_span
+          (line_is v next p d) high clear still kept b small is
 
 -- and behind a cut one AIS comes
-module _ (v : World) (whole : IsWhole v) (ran : 0 < v.ring.rounds) (p : ℕ) (d : Side) (h : p < length v.ring.nodes) (k : ℕ) (high : k + 1 ≤ n_of v.ring.settings.rate) where
+module _ (v : World) (whole : IsWhole v) (ran : 0 < v.ring.rounds) (p : ℕ) (d : Side) (h : p < length v.ring.nodes) (k : ℕ)
+    (high : k + 1 ≤ n_of v.ring.settings.rate) where
   pub span_silent : is_calm (round v).ring.nodes ≡ true → cut_in v p d ≡ true → Brings (came_at v p d (k + 1)) silent
   span_silent calm cut =
       let left = ap (λ (i : Inlet). i.readings) (side_is v whole p d h) in
-      cut_spans_bring_ais v.ring.settings.rate (condition_to v p d) _ _ (inlet_at v whole p d) (threshold_at v whole p) (lines_of (crossing_at v p)) d k (told_side v whole p d ran h) (line_is v whole p d) high cut
+      cut_spans_bring_ais v.ring.settings.rate (condition_to v p d) _ _ (inlet_at v whole p d) (threshold_at v whole p)
+      (lines_of (crossing_at v p)) d k (told_side v whole p d ran h) (line_is v whole p d) high cut
       (sym left ∙ (same_there v whole calm p h).readings d)

@@ -10,7 +10,8 @@ use Rattle.sdh_terminal.specs.Lines.{all_fed_by}
 use Rattle.sdh_terminal.specs.Tributaries.{Tributary, added_by, added_last, all_fed, all_delivered_with}
 use Rattle.sdh_terminal.specs.Sending.{Sending, frame_from, after_sending}
 use Rattle.sdh_terminal.proofs.Ports.{holds-adds}
-use Rattle.sdh_sncp.specs.Node.{PathCross, PathNode, after_taken, lines_of, leads, crossing, dropped_to, input_at, ports_after, unchanged, after_crossing, frames_of, with_calm, node_round, GoesOn}
+use Rattle.sdh_sncp.specs.Node.{PathCross, PathNode, after_taken, lines_of, leads, crossing, dropped_to, input_at, ports_after, unchanged}
+use Rattle.sdh_sncp.specs.Node.{after_crossing, frames_of, with_calm, node_round, GoesOn}
 
 -- the node that holds these
 abbrev pub node_of : ℕ → ℕ → PathCross → List Tributary → Sending → Sending → Bool → PathNode
@@ -31,7 +32,8 @@ module _ (threshold rounds : ℕ) (x0 : PathCross) (ports : List Tributary) (wo 
   abbrev n : PathNode
   n = node_of threshold rounds x0 ports wo eo was
 
-  module _ (x : PathCross) (ds fs : List Tributary) (take : x ≡ after_taken threshold x0) (deliver : ds ≡ all_delivered_with (dropped_to x) ports) (feed : fs ≡ all_fed ds) where
+  module _ (x : PathCross) (ds fs : List Tributary) (take : x ≡ after_taken threshold x0)
+      (deliver : ds ≡ all_delivered_with (dropped_to x) ports) (feed : fs ≡ all_fed ds) where
     cross_is : x ≡ crossing n
     unfolding crossing after_taken
     cross_is = take
@@ -44,21 +46,26 @@ module _ (threshold rounds : ℕ) (x0 : PathCross) (ports : List Tributary) (wo 
     unfolding ports_after
     added_is = ap added_last ports_is ∙ holds-adds (dropped_to (crossing n)) ports
 
-    sent_is : (side : Side) (o after : Sending) → after ≡ after_sending (all_fed_by (lines_of x) (added_last fs) (leads x side)) o → after ≡ after_sending (input_at (crossing n) ports side) o
+    sent_is : (side : Side) (o after : Sending) → after ≡ after_sending (all_fed_by (lines_of x) (added_last fs) (leads x side)) o
+        → after ≡ after_sending (input_at (crossing n) ports side) o
     sent_is side o after send = send ∙ λ i. after_sending (all_fed_by (lines_of (cross_is i)) (added_is i) (leads (cross_is i) side)) o
 
-    frame_is : (side : Side) (o : Sending) (frame : Frame) → frame ≡ frame_from (all_fed_by (lines_of x) (added_last fs) (leads x side)) o → frame ≡ frame_from (input_at (crossing n) ports side) o
+    frame_is : (side : Side) (o : Sending) (frame : Frame) → frame ≡ frame_from (all_fed_by (lines_of x) (added_last fs) (leads x side)) o
+        → frame ≡ frame_from (input_at (crossing n) ports side) o
     frame_is side o frame send = send ∙ λ i. frame_from (all_fed_by (lines_of (cross_is i)) (added_is i) (leads (cross_is i) side)) o
 
-    pub west_frame_is : (frame : Frame) → frame ≡ frame_from (all_fed_by (lines_of x) (added_last fs) (leads x West)) wo → frame ≡ (node_round n).1.west
+    pub west_frame_is : (frame : Frame) → frame ≡ frame_from (all_fed_by (lines_of x) (added_last fs) (leads x West)) wo
+        → frame ≡ (node_round n).1.west
     unfolding node_round frames_of
     west_frame_is frame send = frame_is West wo frame send
 
-    pub east_frame_is : (frame : Frame) → frame ≡ frame_from (all_fed_by (lines_of x) (added_last fs) (leads x East)) eo → frame ≡ (node_round n).1.east
+    pub east_frame_is : (frame : Frame) → frame ≡ frame_from (all_fed_by (lines_of x) (added_last fs) (leads x East)) eo
+        → frame ≡ (node_round n).1.east
     unfolding node_round frames_of
     east_frame_is frame send = frame_is East eo frame send
 
-    module _ (wa ea : Sending) (west_send : wa ≡ after_sending (all_fed_by (lines_of x) (added_last fs) (leads x West)) wo) (east_send : ea ≡ after_sending (all_fed_by (lines_of x) (added_last fs) (leads x East)) eo) where
+    module _ (wa ea : Sending) (west_send : wa ≡ after_sending (all_fed_by (lines_of x) (added_last fs) (leads x West)) wo)
+        (east_send : ea ≡ after_sending (all_fed_by (lines_of x) (added_last fs) (leads x East)) eo) where
       -- what the calls tell is what is compared over the whole round
       pub calm_is : (ran taken west_made east_made : Bool) → ran ≡ nat_le 1 rounds
           → taken ≡ (same_readings x.west.readings x0.west.readings && same_readings x.east.readings x0.east.readings)
@@ -66,14 +73,19 @@ module _ (threshold rounds : ℕ) (x0 : PathCross) (ports : List Tributary) (wo 
           → (ran && (taken && (west_made && east_made))) ≡ (nat_le 1 rounds && unchanged (after_crossing (crossing n) n) n)
       unfolding after_crossing
       calm_is ran taken west_made east_made r t w e =
-          let taken_is = t ∙ (λ i. same_readings (cross_is i).west.readings x0.west.readings && same_readings (cross_is i).east.readings x0.east.readings) in
+          let taken_is =
+          t ∙ (λ i. same_readings (cross_is i).west.readings x0.west.readings
+          && same_readings (cross_is i).east.readings x0.east.readings) in
           let west_is = w ∙ (λ i. same_generators (sent_is West wo wa west_send i).generators wo.generators) in
           let east_is = e ∙ (λ i. same_generators (sent_is East eo ea east_send i).generators eo.generators) in
           λ i. r i && (taken_is i && (west_is i && east_is i))
 
-      pub node_is : (calm : Bool) → calm ≡ (nat_le 1 rounds && unchanged (after_crossing (crossing n) n) n) → node_of threshold (rounds + 1) x fs wa ea calm ≡ (node_round n).0
+      pub node_is : (calm : Bool) → calm ≡ (nat_le 1 rounds && unchanged (after_crossing (crossing n) n) n)
+          → node_of threshold (rounds + 1) x fs wa ea calm ≡ (node_round n).0
       unfolding node_round with_calm after_crossing crossing
-      node_is calm told = λ i. node_of threshold (rounds + 1) (cross_is i) (ports_is i) (sent_is West wo wa west_send i) (sent_is East eo ea east_send i) (told i)
+      node_is calm told =
+          λ i. node_of threshold (rounds + 1) (cross_is i) (ports_is i) (sent_is West wo wa west_send i) (sent_is East eo ea east_send i)
+          (told i)
 
 pub round_goes_on : (n : PathNode) → GoesOn n (node_round n).0
 unfolding node_round with_calm after_crossing crossing after_taking

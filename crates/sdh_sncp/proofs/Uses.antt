@@ -1,5 +1,6 @@
 -- What a node does with the slot of a circuit, and what goes into its AU-4s.
-use Rattle.std.proofs.Common.{◌≡◌, ◌≢◌, ℕ, zero, suc, ◌+◌, ◌-◌, ◌*◌, ◌<◌, ◌≤◌, true, false, List, [], ◌∷◌, length, get_or, Some, refl, ap, sym, ◌∙◌, subst, arith}
+use Rattle.std.proofs.Common.{◌≡◌, ◌≢◌, ℕ, zero, suc, ◌+◌, ◌-◌, ◌*◌, ◌<◌, ◌≤◌, true, false, List, [], ◌∷◌, length, get_or, Some, refl, ap}
+use Rattle.std.proofs.Common.{sym, ◌∙◌, subst, arith}
 use Rattle.std.specs.Prelude.{slice_get, ◌==◌}
 use Rattle.std.specs.Option.{option_map_or}
 use Rattle.std.proofs.lemmas.Bool.{eq-eqb, ne_eqb}
@@ -34,26 +35,36 @@ use Rattle.sdh_sncp.proofs.Spans.{crossing_at, sent_at, came_at}
 
 -- ---- the use of a slot
 
-first_use : (at : ℕ) (cs : List Provisioned) (i index : ℕ) (c : Provisioned) → slice_get cs index ≡ Some c → ((j : ℕ) (d : Provisioned) → j < index → slice_get cs j ≡ Some d → d.slot.0 ≢ c.slot.0) → use_from at c.slot.0 i cs ≡ use_by at (i + index) c
+first_use : (at : ℕ) (cs : List Provisioned) (i index : ℕ) (c : Provisioned) → slice_get cs index ≡ Some c
+    → ((j : ℕ) (d : Provisioned) → j < index → slice_get cs j ≡ Some d → d.slot.0 ≢ c.slot.0)
+    → use_from at c.slot.0 i cs ≡ use_by at (i + index) c
 first_use at [] i index c get before = absurd (cc)
 first_use at (x ∷ cs) i zero c get before =
     let same : x ≡ c = cc in
     let here : (c.slot.0 == c.slot.0) ≡ true = eq-eqb c.slot.0 c.slot.0 refl in
-    ap (λ (y : Provisioned). use_from at c.slot.0 i (y ∷ cs)) same ∙ rw here (ap (λ k. use_by at k c) (let e : i ≡ i + 0 = omega arith in e))
+    ap (λ (y : Provisioned). use_from at c.slot.0 i (y ∷ cs)) same
+    ∙ rw here (ap (λ k. use_by at k c) (let e : i ≡ i + 0 = omega arith in e))
 first_use at (x ∷ cs) i (suc index) c get before =
     let other : (x.slot.0 == c.slot.0) ≡ false = ne_eqb x.slot.0 c.slot.0 (before 0 x (omega arith) refl) in
-    rw other (first_use at cs (i + 1) index c get (λ j d low is. before (suc j) d (omega arith) is) ∙ ap (λ k. use_by at k c) (let e : i + 1 + index ≡ i + suc index = omega arith in e))
+    rw other (first_use at cs (i + 1) index c get (λ j d low is. before (suc j) d (omega arith) is)
+    ∙ ap (λ k. use_by at k c) (let e : i + 1 + index ≡ i + suc index = omega arith in e))
 
-none_use : (at m i : ℕ) (cs : List Provisioned) → ((j : ℕ) (d : Provisioned) → slice_get cs j ≡ Some d → d.slot.0 ≢ m) → use_from at m i cs ≡ Unused
+none_use : (at m i : ℕ) (cs : List Provisioned) → ((j : ℕ) (d : Provisioned) → slice_get cs j ≡ Some d → d.slot.0 ≢ m)
+    → use_from at m i cs ≡ Unused
 none_use at m i [] none = refl
-none_use at m i (x ∷ cs) none = let other : (x.slot.0 == m) ≡ false = ne_eqb x.slot.0 m (none 0 x refl) in rw other (none_use at m (i + 1) cs (λ j d is. none (suc j) d is))
+none_use at m i (x ∷ cs) none = let other : (x.slot.0 == m) ≡ false =
+    ne_eqb x.slot.0 m (none 0 x refl) in rw other (none_use at m (i + 1) cs (λ j d is. none (suc j) d is))
 
 -- the slot of a circuit is used for it alone
-pub use_is : (cs : List Provisioned) → AreAlone cs → (at index : ℕ) (c : Provisioned) → slice_get cs index ≡ Some c → use_of cs at c.slot.0 ≡ use_by at index c
+pub use_is : (cs : List Provisioned) → AreAlone cs → (at index : ℕ) (c : Provisioned) → slice_get cs index ≡ Some c
+    → use_of cs at c.slot.0 ≡ use_by at index c
 unfolding use_of
-use_is cs alone at index c get = first_use at cs 0 index c get (λ j d low is e. (let same = alone j index d c is get e in omega arith)) ∙ ap (λ k. use_by at k c) (let e : 0 + index ≡ index = omega arith in e)
+use_is cs alone at index c get =
+    first_use at cs 0 index c get (λ j d low is e. (let same = alone j index d c is get e in omega arith))
+    ∙ ap (λ k. use_by at k c) (let e : 0 + index ≡ index = omega arith in e)
 
-pub use_none : (cs : List Provisioned) (at m : ℕ) → ((j : ℕ) (d : Provisioned) → slice_get cs j ≡ Some d → d.slot.0 ≢ m) → use_of cs at m ≡ Unused
+pub use_none : (cs : List Provisioned) (at m : ℕ) → ((j : ℕ) (d : Provisioned) → slice_get cs j ≡ Some d → d.slot.0 ≢ m)
+    → use_of cs at m ≡ Unused
 unfolding use_of
 use_none cs at m none = none_use at m 0 cs none
 
@@ -88,13 +99,16 @@ module _ (w : World) (whole : IsWhole w) (q m : ℕ) (h : q < length w.ring.node
   twice West = refl
   twice East = refl
 
-  pub sends_by : (u : Use) (d : Side) → use_of w.ring.circuits.circuits q m ≡ u → sent_at w q d m ≡ fed_by (lines_of (crossing_at w q)) (added_by (node_at w.ring.nodes q).ports) (fed_for u d m)
-  sends_by u d is = ap (fed_by (lines_of (crossing_at w q)) (added_by (node_at w.ring.nodes q).ports)) (lead_is d ∙ ap (λ u. fed_for u d m) is)
+  pub sends_by : (u : Use) (d : Side) → use_of w.ring.circuits.circuits q m ≡ u
+      → sent_at w q d m ≡ fed_by (lines_of (crossing_at w q)) (added_by (node_at w.ring.nodes q).ports) (fed_for u d m)
+  sends_by u d is =
+      ap (fed_by (lines_of (crossing_at w q)) (added_by (node_at w.ring.nodes q).ports)) (lead_is d ∙ ap (λ u. fed_for u d m) is)
 
   pub sends_passed : (d : Side) → use_of w.ring.circuits.circuits q m ≡ Passed → sent_at w q (opposite d) m ≡ came_at w q d m
   sends_passed d is = sends_by Passed (opposite d) is ∙ ap (λ e. came_at w q e m) (twice d)
 
-  pub sends_ended : (d : Side) (id : PortId) → use_of w.ring.circuits.circuits q m ≡ Ended id → sent_at w q d m ≡ added_by (node_at w.ring.nodes q).ports id
+  pub sends_ended : (d : Side) (id : PortId) → use_of w.ring.circuits.circuits q m ≡ Ended id
+      → sent_at w q d m ≡ added_by (node_at w.ring.nodes q).ports id
   sends_ended d id is = sends_by (Ended id) d is
 
   pub sends_none : (d : Side) → use_of w.ring.circuits.circuits q m ≡ Unused → sent_at w q d m ≡ no_input
@@ -102,19 +116,30 @@ module _ (w : World) (whole : IsWhole w) (q m : ℕ) (h : q < length w.ring.node
 
 -- ---- what a port sends
 
-sends_it : (t : Tributary) (sender : Customer) (rounds : ℕ) → t.feed.port ≡ sender → IsUnslipped rounds t.feed → Brings (input_by (sent_in t.feed)) (due.sends_in sender rounds)
+sends_it : (t : Tributary) (sender : Customer) (rounds : ℕ) → t.feed.port ≡ sender → IsUnslipped rounds t.feed
+    → Brings (input_by (sent_in t.feed)) (due.sends_in sender rounds)
 sends_it t sender rounds from is =
     let value : t.feed.clock.value ≡ sender.offset = is.value ∙ ap (λ (s : Customer). s.offset) from in
-    let bytes : stream_from t.feed.port t.feed.clock.sent 2349 ≡ stream_from sender (2349 * rounds) 2349 = ap (λ p. stream_from t.feed.port p 2349) is.sent ∙ ap (λ s. stream_from s (2349 * rounds) 2349) from in
-    subst (λ o. Brings (input_by (sent_in t.feed)) o) (λ i. delivering (value i) (bytes i)) (ports_bring t.feed (unslipped_plain rounds t.feed is))
+    let bytes : stream_from t.feed.port t.feed.clock.sent 2349 ≡ stream_from sender (2349 * rounds) 2349 =
+    ap (λ p. stream_from t.feed.port p 2349) is.sent ∙ ap (λ s. stream_from s (2349 * rounds) 2349) from in
+    subst (λ o. Brings (input_by (sent_in t.feed)) o) (λ i. delivering (value i) (bytes i))
+    (ports_bring t.feed (unslipped_plain rounds t.feed is))
 
-module _ (w : World) (whole : IsWhole w) (index : ℕ) (c : Provisioned) (e : End) (get : slice_get w.ring.circuits.circuits index ≡ Some c) (h : (end_of c e).0 < length w.ring.nodes) where
+module _ (w : World) (whole : IsWhole w) (index : ℕ) (c : Provisioned) (e : End) (get : slice_get w.ring.circuits.circuits index ≡ Some c)
+    (h : (end_of c e).0 < length w.ring.nodes) where
   pub found : IsPortOf c e (port_of (port_id index e) (node_at w.ring.nodes ((end_of c e).0)).ports)
-  found = port-found w.ring.circuits.circuits (node_at w.ring.nodes ((end_of c e).0)).ports index c e get (whole.placed.places ((end_of c e).0) h).ports
+  found =
+      port-found w.ring.circuits.circuits (node_at w.ring.nodes ((end_of c e).0)).ports index c e get
+      (whole.placed.places ((end_of c e).0) h).ports
 
   -- the port sends in the round what its customer sends in it
-  pub port_sends : Brings (added_by (node_at w.ring.nodes ((end_of c e).0)).ports (port_id index e)) (due.sends_in (customer_at c e) w.ring.rounds)
+  pub port_sends : Brings (added_by (node_at w.ring.nodes ((end_of c e).0)).ports (port_id index e))
+      (due.sends_in (customer_at c e) w.ring.rounds)
   port_sends =
       let t = found.it in
-      let clocks = (found_has (λ (t : Tributary). IsUnslipped w.ring.rounds t.feed) (port_id index e) (node_at w.ring.nodes ((end_of c e).0)).ports t (whole.placed.between ((end_of c e).0) h).run.clocks found.is).0 in
-      subst (λ i. Brings i (due.sends_in (customer_at c e) w.ring.rounds)) (sym (ap (λ o. option_map_or (λ (t : Tributary). input_by (sent_in t.feed)) o no_input) found.is)) (sends_it t (customer_at c e) w.ring.rounds found.sender clocks)
+      let clocks =
+      (found_has (λ (t : Tributary). IsUnslipped w.ring.rounds t.feed) (port_id index e) (node_at w.ring.nodes ((end_of c e).0)).ports t
+      (whole.placed.between ((end_of c e).0) h).run.clocks found.is).0 in
+      subst (λ i. Brings i (due.sends_in (customer_at c e) w.ring.rounds))
+      (sym (ap (λ o. option_map_or (λ (t : Tributary). input_by (sent_in t.feed)) o no_input) found.is))
+      (sends_it t (customer_at c e) w.ring.rounds found.sender clocks)

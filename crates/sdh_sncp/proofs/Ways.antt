@@ -1,5 +1,6 @@
 -- What comes along a way in calm rounds: what the circuit's other port sent, or AIS where a fibre of the way is cut.
-use Rattle.std.proofs.Common.{◌≡◌, ◌≢◌, ℕ, zero, suc, ◌+◌, ◌-◌, ◌<◌, ◌≤◌, Bool, true, false, length, get_or, Some, refl, ap, sym, ◌∙◌, subst, arith, inl, inr}
+use Rattle.std.proofs.Common.{◌≡◌, ◌≢◌, ℕ, zero, suc, ◌+◌, ◌-◌, ◌<◌, ◌≤◌, Bool, true, false, length, get_or, Some, refl, ap, sym, ◌∙◌}
+use Rattle.std.proofs.Common.{subst, arith, inl, inr}
 use Rattle.std.specs.Prelude.{slice_get, if◌then◌else◌}
 use Rattle.std.proofs.lemmas.Bool.{cases_Bool, cases_lt}
 use Rattle.sdh_terms.specs.Rates.{n_of}
@@ -37,12 +38,15 @@ pub other_side : (d : Side) → opposite (opposite d) ≡ d
 other_side West = refl
 other_side East = refl
 
-pub both_arcs : (n from to : ℕ) → from < n → to < n → from ≢ to → (eastwards n from to + eastwards n to from ≡ n) × (1 ≤ eastwards n from to) × (1 ≤ eastwards n to from)
+pub both_arcs : (n from to : ℕ) → from < n → to < n → from ≢ to
+    → (eastwards n from to + eastwards n to from ≡ n) × (1 ≤ eastwards n from to) × (1 ≤ eastwards n to from)
 both_arcs n from to hf ht apart = elim (cases_lt from to) [
-  | inl less ↦ (let a = eastwards_on n from to (omega arith) ht in let b = eastwards_round n to from less ht in (omega arith, omega arith, omega arith))
+  | inl less ↦ (let a = eastwards_on n from to (omega arith) ht in let b = eastwards_round n to from less ht in
+      (omega arith, omega arith, omega arith))
   | inr more ↦ (
       let strict : to < from = by_apart more in
-      let a = eastwards_round n from to strict hf in let b = eastwards_on n to from (omega arith) hf in (omega arith, omega arith, omega arith))
+      let a = eastwards_round n from to strict hf in let b =
+      eastwards_on n to from (omega arith) hf in (omega arith, omega arith, omega arith))
 ]
   where
     by_apart : to ≤ from → to < from
@@ -53,22 +57,27 @@ both_arcs n from to hf ht apart = elim (cases_lt from to) [
 
 westwards : (n : ℕ) → 0 < n → (p q : ℕ) → p < n → q < n → going n West p (eastwards n q p) ≡ q
 westwards n some p q hp hq =
-    ap (λ b. going n West b (eastwards n q p)) (sym (going-to n some q p hq hp)) ∙ mirror n some East q (eastwards n q p) 0 (eastwards n q p) (omega arith) ∙ going-none n some East q hq
+    ap (λ b. going n West b (eastwards n q p)) (sym (going-to n some q p hq hp))
+    ∙ mirror n some East q (eastwards n q p) 0 (eastwards n q p) (omega arith) ∙ going-none n some East q hq
 
 -- the main way leads to the other end, and so does the spare one
-pub main_leads : (n : ℕ) → 0 < n → (c : Provisioned) → c.from.0 < n → c.to.0 < n → (e : End) → going n (inward e) ((end_of c e).0) (main_spans n c) ≡ (end_of c (other_end e)).0
+pub main_leads : (n : ℕ) → 0 < n → (c : Provisioned) → c.from.0 < n → c.to.0 < n → (e : End)
+    → going n (inward e) ((end_of c e).0) (main_spans n c) ≡ (end_of c (other_end e)).0
 main_leads n some c hf ht A = going-to n some c.from.0 c.to.0 hf ht
 main_leads n some c hf ht B = westwards n some c.to.0 c.from.0 ht hf
 
-pub spare_leads : (n : ℕ) → 0 < n → (c : Provisioned) → c.from.0 < n → c.to.0 < n → c.from.0 ≢ c.to.0 → (e : End) → going n (opposite (inward e)) ((end_of c e).0) (spare_spans n c) ≡ (end_of c (other_end e)).0
+pub spare_leads : (n : ℕ) → 0 < n → (c : Provisioned) → c.from.0 < n → c.to.0 < n → c.from.0 ≢ c.to.0 → (e : End)
+    → going n (opposite (inward e)) ((end_of c e).0) (spare_spans n c) ≡ (end_of c (other_end e)).0
 spare_leads n some c hf ht apart A =
     let both = both_arcs n c.from.0 c.to.0 hf ht apart in
     let arc = both.0 in
-    ap (going n West c.from.0) (let e : n - eastwards n c.from.0 c.to.0 ≡ eastwards n c.to.0 c.from.0 = omega arith in e) ∙ westwards n some c.from.0 c.to.0 hf ht
+    ap (going n West c.from.0) (let e : n - eastwards n c.from.0 c.to.0 ≡ eastwards n c.to.0 c.from.0 = omega arith in e)
+    ∙ westwards n some c.from.0 c.to.0 hf ht
 spare_leads n some c hf ht apart B =
     let both = both_arcs n c.from.0 c.to.0 hf ht apart in
     let arc = both.0 in
-    ap (going n East c.to.0) (let e : n - eastwards n c.from.0 c.to.0 ≡ eastwards n c.to.0 c.from.0 = omega arith in e) ∙ going-to n some c.to.0 c.from.0 ht hf
+    ap (going n East c.to.0) (let e : n - eastwards n c.from.0 c.to.0 ≡ eastwards n c.to.0 c.from.0 = omega arith in e)
+    ∙ going-to n some c.to.0 c.from.0 ht hf
 
 -- ---- along a way
 
@@ -82,8 +91,11 @@ either_value : (b : Bool) (s : Customer) (t : ℕ) → IsSmallCustomer s → Has
 either_value true s t small = small
 either_value false s t small = refl
 
-module _ (w : World) (whole : IsWhole w) (alone : AreAlone w.ring.circuits.circuits) (index : ℕ) (c : Provisioned) (get : slice_get w.ring.circuits.circuits index ≡ Some c)
-    (low : 1 ≤ c.slot.0) (high : c.slot.0 ≤ n_of w.ring.settings.rate) (apart : c.from.0 ≢ c.to.0) (inside : (e : End) → (end_of c e).0 < length w.ring.ids) (e : End) (small : IsSmallCustomer (customer_at c (other_end e))) (d : Side) where
+module _ (w : World) (whole : IsWhole w) (alone : AreAlone w.ring.circuits.circuits) (index : ℕ) (c : Provisioned)
+    (get : slice_get w.ring.circuits.circuits index ≡ Some c)
+    (low : 1 ≤ c.slot.0) (high : c.slot.0 ≤ n_of w.ring.settings.rate) (apart : c.from.0 ≢ c.to.0)
+    (inside : (e : End) → (end_of c e).0 < length w.ring.ids) (e : End) (small : IsSmallCustomer (customer_at c (other_end e)))
+    (d : Side) where
   abbrev size : ℕ
   size = length w.ring.ids
 
@@ -135,12 +147,15 @@ module _ (w : World) (whole : IsWhole w) (alone : AreAlone w.ring.circuits.circu
 
     -- a node between the ends passes on, and the other end's port sends
     passes : (q : ℕ) → q < size → q ≢ c.from.0 → q ≢ c.to.0 → sent_at u q (opposite d) m ≡ came_at u q d m
-    passes q h a b = sends_passed u there q m (let e = nodes_there in omega arith) low high_there d (use_is u.ring.circuits.circuits same_alone q index c same_circuits ∙ use_passed q index c a b)
+    passes q h a b =
+        sends_passed u there q m (let e = nodes_there in omega arith) low high_there d
+        (use_is u.ring.circuits.circuits same_alone q index c same_circuits ∙ use_passed q index c a b)
 
     far_sends : Brings (sent_at u far (opposite d) m) (sends_in sender u.ring.rounds)
     far_sends =
         subst (λ x. Brings x (sends_in sender u.ring.rounds))
-        (sym (sends_ended u there far m (ends_there (other_end e)) low high_there (opposite d) (port_id index (other_end e)) (use_is u.ring.circuits.circuits same_alone far index c same_circuits ∙ use_ended index c (other_end e) apart)))
+        (sym (sends_ended u there far m (ends_there (other_end e)) low high_there (opposite d) (port_id index (other_end e))
+        (use_is u.ring.circuits.circuits same_alone far index c same_circuits ∙ use_ended index c (other_end e) apart)))
         (port_sends u there index c (other_end e) same_circuits (ends_there (other_end e)))
 
   abbrev back : ℕ
@@ -163,21 +178,26 @@ module _ (w : World) (whole : IsWhole w) (alone : AreAlone w.ring.circuits.circu
   Calm s i = (j : ℕ) → suc i ≤ j + s → j ≤ suc i → is_calm (run j w).ring.nodes ≡ true
 
   -- behind a cut fibre AIS comes
-  behind_cut : (i p : ℕ) → 0 < i → p < size → is_calm (run (suc i) w).ring.nodes ≡ true → cut p d ≡ true → Brings (came_at (run i w) p d m) silent
+  behind_cut : (i p : ℕ) → 0 < i → p < size → is_calm (run (suc i) w).ring.nodes ≡ true → cut p d ≡ true
+      → Brings (came_at (run i w) p d m) silent
   unfolding any_run.run
   behind_cut i p ran h calm is =
       subst (λ a. Brings (came_at (run i w) p d a) silent) at_m
-      (span_silent (run i w) (there i) (let r = (left i).rounds in omega arith) p d (let e = nodes_there i in omega arith) back (let h = high_there i in omega arith) calm (cut_same i p d ∙ is))
+      (span_silent (run i w) (there i) (let r = (left i).rounds in omega arith) p d (let e = nodes_there i in omega arith) back
+      (let h = high_there i in omega arith) calm (cut_same i p d ∙ is))
 
   -- over any other what the neighbour sent comes
-  over_span : (i p : ℕ) (b : Outlet) → p < size → is_calm (run (suc i) w).ring.nodes ≡ true → is_calm (run (suc (suc i)) w).ring.nodes ≡ true → cut p d ≡ false → HasValue b
+  over_span : (i p : ℕ) (b : Outlet) → p < size → is_calm (run (suc i) w).ring.nodes ≡ true
+      → is_calm (run (suc (suc i)) w).ring.nodes ≡ true → cut p d ≡ false → HasValue b
       → Brings (sent_at (run i w) (neighbour size p d) (opposite d) m) b → Brings (came_at (run (suc i) w) p d m) b
   unfolding any_run.run
   over_span i p b h calm0 calm1 is value sent =
       let q = neighbour size p d in
       subst (λ a. Brings (came_at (run (suc i) w) p d a) b) at_m
-      (span_brings (run i w) (there i) p d (let e = nodes_there i in omega arith) back (let h = high_there i in omega arith) calm0 calm1 (cut_same (suc i) p d ∙ is) b value
-      (subst (λ ids. Brings (sent_at (run i w) (neighbour (length ids) p d) (opposite d) (back + 1)) b) (sym (left i).ids) (subst (λ a. Brings (sent_at (run i w) q (opposite d) a) b) (sym at_m) sent)))
+      (span_brings (run i w) (there i) p d (let e = nodes_there i in omega arith) back (let h = high_there i in omega arith) calm0 calm1
+      (cut_same (suc i) p d ∙ is) b value
+      (subst (λ ids. Brings (sent_at (run i w) (neighbour (length ids) p d) (opposite d) (back + 1)) b) (sym (left i).ids)
+      (subst (λ a. Brings (sent_at (run i w) q (opposite d) a) b) (sym at_m) sent)))
 
   -- what comes after i rounds, s spans from the other end, where the port's own node is x spans ahead
   abbrev Comes : ℕ → Type 0
@@ -185,7 +205,8 @@ module _ (w : World) (whole : IsWhole w) (alone : AreAlone w.ring.circuits.circu
       → Brings (came_at (run i w) p d m) (either (way_clear size cut p d s) (sends_in sender ((run i w).ring.rounds - s)))
 
   -- what the node s spans from the other end sends on
-  module _ (i p x s : ℕ) (earlier : Comes i) (h : p < size) (leads : going size d p (suc s) ≡ far) (ends : going size d p x ≡ near) (less : suc s < x) (most : x ≤ size) (few : s ≤ i) (calm : Calm (suc s) (suc i)) where
+  module _ (i p x s : ℕ) (earlier : Comes i) (h : p < size) (leads : going size d p (suc s) ≡ far) (ends : going size d p x ≡ near)
+      (less : suc s < x) (most : x ≤ size) (few : s ≤ i) (calm : Calm (suc s) (suc i)) where
     abbrev q : ℕ
     q = neighbour size p d
 
@@ -195,32 +216,44 @@ module _ (w : World) (whole : IsWhole w) (alone : AreAlone w.ring.circuits.circu
     ends_on : going size d q (x - 1) ≡ near
     ends_on = going-first size some d p (x - 1) ∙ ap (going size d p) (let e : suc (x - 1) ≡ x = omega arith in e) ∙ ends
 
-    last_sends : s ≡ 0 → Brings (sent_at (run i w) q (opposite d) m) (either (way_clear size cut q d s) (sends_in sender ((run i w).ring.rounds - s)))
+    last_sends : s ≡ 0 → Brings (sent_at (run i w) q (opposite d) m)
+        (either (way_clear size cut q d s) (sends_in sender ((run i w).ring.rounds - s)))
     last_sends none =
-        let here : q ≡ far = sym (going-none size some d q q_inside) ∙ going-first size some d p 0 ∙ ap (λ k. going size d p (suc k)) (sym none) ∙ leads in
-        subst (λ k. Brings (sent_at (run i w) q (opposite d) m) (either (way_clear size cut q d k) (sends_in sender ((run i w).ring.rounds - k)))) (sym none)
-        (subst (λ k. Brings (sent_at (run i w) q (opposite d) m) (sends_in sender k)) (let e : (run i w).ring.rounds ≡ (run i w).ring.rounds - 0 = omega arith in e)
+        let here : q ≡ far =
+        sym (going-none size some d q q_inside) ∙ going-first size some d p 0 ∙ ap (λ k. going size d p (suc k)) (sym none) ∙ leads in
+        subst (λ k. Brings (sent_at (run i w) q (opposite d) m)
+        (either (way_clear size cut q d k) (sends_in sender ((run i w).ring.rounds - k)))) (sym none)
+        (subst (λ k. Brings (sent_at (run i w) q (opposite d) m) (sends_in sender k))
+        (let e : (run i w).ring.rounds ≡ (run i w).ring.rounds - 0 = omega arith in e)
         (subst (λ y. Brings (sent_at (run i w) y (opposite d) m) (sends_in sender ((run i w).ring.rounds))) (sym here) (far_sends i)))
 
-    passed_on : 1 ≤ s → Brings (sent_at (run i w) q (opposite d) m) (either (way_clear size cut q d s) (sends_in sender ((run i w).ring.rounds - s)))
+    passed_on : 1 ≤ s → Brings (sent_at (run i w) q (opposite d) m)
+        (either (way_clear size cut q d s) (sends_in sender ((run i w).ring.rounds - s)))
     passed_on more =
         let to : going size d q s ≡ far = going-first size some d p s ∙ leads in
         let not_far : q ≢ far = λ z. going-apart size some d q s q_inside (omega arith) (omega arith) (to ∙ sym z) in
         let not_near : q ≢ near = λ z. going-apart size some d q (x - 1) q_inside (omega arith) (omega arith) (ends_on ∙ sym z) in
         let is = neither q not_far not_near in
-        subst (λ y. Brings y (either (way_clear size cut q d s) (sends_in sender ((run i w).ring.rounds - s)))) (sym (passes i q q_inside is.0 is.1))
+        subst (λ y. Brings y (either (way_clear size cut q d s) (sends_in sender ((run i w).ring.rounds - s))))
+        (sym (passes i q q_inside is.0 is.1))
         (earlier s q (x - 1) more few q_inside to ends_on (omega arith) (omega arith) (λ j low late. calm j (omega arith) (omega arith)))
 
-    neighbour_sends : Brings (sent_at (run i w) q (opposite d) m) (either (way_clear size cut q d s) (sends_in sender ((run i w).ring.rounds - s)))
+    neighbour_sends : Brings (sent_at (run i w) q (opposite d) m)
+        (either (way_clear size cut q d s) (sends_in sender ((run i w).ring.rounds - s)))
     neighbour_sends = elim (cases_lt 0 s) [ inl more ↦ passed_on more | inr none ↦ last_sends (omega arith) ]
 
-    comes_one : Brings (came_at (run (suc i) w) p d m) (either (way_clear size cut p d (suc s)) (sends_in sender ((run (suc i) w).ring.rounds - suc s)))
+    comes_one : Brings (came_at (run (suc i) w) p d m) (either (way_clear size cut p d (suc s))
+        (sends_in sender ((run (suc i) w).ring.rounds - suc s)))
     comes_one = elim (cases_Bool (cut p d)) [
-      | inl is ↦ subst (λ b. Brings (came_at (run (suc i) w) p d m) (either (if b then false else way_clear size cut q d s) (sends_in sender ((run (suc i) w).ring.rounds - suc s)))) (sym is)
+      | inl is ↦ subst (λ b. Brings (came_at (run (suc i) w) p d m)
+          (either (if b then false else way_clear size cut q d s) (sends_in sender ((run (suc i) w).ring.rounds - suc s)))) (sym is)
           (behind_cut (suc i) p (omega arith) h (calm (suc (suc i)) (omega arith) (omega arith)) is)
-      | inr is ↦ subst (λ b. Brings (came_at (run (suc i) w) p d m) (either (if b then false else way_clear size cut q d s) (sends_in sender ((run (suc i) w).ring.rounds - suc s)))) (sym is)
+      | inr is ↦ subst (λ b. Brings (came_at (run (suc i) w) p d m)
+          (either (if b then false else way_clear size cut q d s) (sends_in sender ((run (suc i) w).ring.rounds - suc s)))) (sym is)
           (subst (λ k. Brings (came_at (run (suc i) w) p d m) (either (way_clear size cut q d s) (sends_in sender k))) time
-          (over_span i p (either (way_clear size cut q d s) (sends_in sender ((run i w).ring.rounds - s))) h (calm (suc i) (omega arith) (omega arith)) (calm (suc (suc i)) (omega arith) (omega arith)) is (either_value (way_clear size cut q d s) sender ((run i w).ring.rounds - s) small) neighbour_sends))
+          (over_span i p (either (way_clear size cut q d s) (sends_in sender ((run i w).ring.rounds - s))) h
+          (calm (suc i) (omega arith) (omega arith)) (calm (suc (suc i)) (omega arith) (omega arith)) is
+          (either_value (way_clear size cut q d s) sender ((run i w).ring.rounds - s) small) neighbour_sends))
     ]
       where
         time : (run i w).ring.rounds - s ≡ (run (suc i) w).ring.rounds - suc s
@@ -229,4 +262,5 @@ module _ (w : World) (whole : IsWhole w) (alone : AreAlone w.ring.circuits.circu
   pub comes_along : (i : ℕ) → Comes i
   comes_along zero s p x some_spans few h leads ends less most calm = absurd (omega arith)
   comes_along (suc i) zero p x some_spans few h leads ends less most calm = absurd (omega arith)
-  comes_along (suc i) (suc s) p x some_spans few h leads ends less most calm = comes_one i p x s (comes_along i) h leads ends less most (omega arith) calm
+  comes_along (suc i) (suc s) p x some_spans few h leads ends less most calm =
+      comes_one i p x s (comes_along i) h leads ends less most (omega arith) calm

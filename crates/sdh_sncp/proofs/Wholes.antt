@@ -8,7 +8,8 @@ use Rattle.sdh_sncp.specs.Laws.{IsWhole}
 use Rattle.sdh_sncp.proofs.Rounds.{whole_round, whole_run}
 
 pub whole_after : (w after : World) → IsRound w after → IsWhole w → IsWhole after
-whole_after w after is whole = subst IsWhole (sym (known_rounds_are path_node w after (inl whole.paired.honest.honest) is).0) (whole_round w whole)
+whole_after w after is whole =
+    subst IsWhole (sym (known_rounds_are path_node w after (inl whole.paired.honest.honest) is).0) (whole_round w whole)
 
 pub whole_settled : (w left : World) (limit : ℕ) → Settles w limit left → IsWhole w → IsWhole left
 whole_settled w left limit s whole =
@@ -16,4 +17,5 @@ whole_settled w left limit s whole =
     subst IsWhole (sym k.2) (whole_run w k.0 whole)
 
 pub whole_unsettled : (w left : World) (limit : ℕ) → Unsettles w limit left → IsWhole w → IsWhole left
-whole_unsettled w left limit s whole = subst IsWhole (sym (known_unsettles path_node w limit left (inl whole.paired.honest.honest) s).1) (whole_run w limit whole)
+whole_unsettled w left limit s whole =
+    subst IsWhole (sym (known_unsettles path_node w limit left (inl whole.paired.honest.honest) s).1) (whole_run w limit whole)

@@ -31,4 +31,5 @@ sends_in customer t = delivering customer.offset (stream_from customer (2349 * t
 unfoldable pub due_path : ℕ → (ℕ → Side → Bool) → Provisioned → End → ℕ → Outlet
 due_path n cut c e t =
     if way_clear n cut (end_of c e).0 (inward e) (main_spans n c) then sends_in (customer_at c (other_end e)) (t - main_spans n c) else
-    if way_clear n cut (end_of c e).0 (opposite (inward e)) (spare_spans n c) then sends_in (customer_at c (other_end e)) (t - spare_spans n c) else silent
+    if way_clear n cut (end_of c e).0 (opposite (inward e)) (spare_spans n c)
+    then sends_in (customer_at c (other_end e)) (t - spare_spans n c) else silent

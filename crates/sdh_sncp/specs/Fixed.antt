@@ -23,7 +23,8 @@ fixed n = record { threshold = n.threshold; rate = n.west.section.rate; uses = n
 
 -- no two circuits share a slot
 abbrev pub AreAlone : List Provisioned → Type 0
-AreAlone circuits = (i j : ℕ) (c d : Provisioned) → slice_get circuits i ≡ Some c → slice_get circuits j ≡ Some d → c.slot.0 ≡ d.slot.0 → i ≡ j
+AreAlone circuits =
+    (i j : ℕ) (c d : Provisioned) → slice_get circuits i ≡ Some c → slice_get circuits j ≡ Some d → c.slot.0 ≡ d.slot.0 → i ≡ j
 
 abbrev pub HaveRun : ℕ → List PathNode → Type 0
 HaveRun rounds ns = All (λ (n : PathNode). n.rounds ≡ rounds) ns

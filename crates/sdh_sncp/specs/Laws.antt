@@ -1,5 +1,6 @@
 -- A path ring and its fibres that are paired, and the laws of such rings.
-use Rattle.std.specs.Prelude.{ℕ, ◌≡◌, ◌<◌, ◌≤◌, ◌+◌, ◌-◌, ◌*◌, ◌/◌, Bool, true, Some, None, List, length, map, All, slice_get, slice_index_or, not}
+use Rattle.std.specs.Prelude.{ℕ, ◌≡◌, ◌<◌, ◌≤◌, ◌+◌, ◌-◌, ◌*◌, ◌/◌, Bool, true, Some, None, List, length, map, All, slice_get}
+use Rattle.std.specs.Prelude.{slice_index_or, not}
 use Rattle.std.specs.Option.{is_some}
 use Rattle.sdh_pointer.specs.declared.reading.Action.TheVariants as action
 use Rattle.sdh_pointer.specs.Reading.{start, is_norm}
@@ -28,7 +29,8 @@ use Rattle.sdh_spans.specs.Frames.{AreCarried}
 use Rattle.sdh_spans.specs.Sides.{IsInletAt, IsSenderAt}
 use Rattle.sdh_sncp.specs.Slots.{uses_at}
 use Rattle.sdh_sncp.specs.Node.{PathNode, inlet_on, sending_on}
-use Rattle.sdh_sncp.specs.Ring.{HeldPath, new_ring, outlet_at, AtEach, World, world, round, run, course, is_calm, EndsWindow, Settles, Unsettles}
+use Rattle.sdh_sncp.specs.Ring.{HeldPath, new_ring, outlet_at, AtEach, World, world, round, run, course, is_calm, EndsWindow, Settles}
+use Rattle.sdh_sncp.specs.Ring.{Unsettles}
 use Rattle.sdh_terminal.specs.Fixed.{fixed_port}
 use Rattle.sdh_sncp.specs.Fixed.{AreAlone}
 use Rattle.sdh_sncp.specs.Due.{due_path}
@@ -72,7 +74,8 @@ pub record IsPlaced (w : World) : Type 0 where
 pub record IsPaired (w : World) : Type 0 where
   pub honest : IsHonest w.fibres
   pub prepared : IsPrepared w.ring.settings.rate (length w.ring.ids) w.fibres
-  pub carried : (p : ℕ) → p < length w.ring.nodes → AreCarried w.ring.settings.rate w.fibres w.ring.rounds p (λ d. first_word w.ring.ids p d)
+  pub carried : (p : ℕ) → p < length w.ring.nodes → AreCarried w.ring.settings.rate w.fibres w.ring.rounds p
+      (λ d. first_word w.ring.ids p d)
 
 -- a ring whose nodes are in their places, and whose fibres carry what they sent
 pub record IsWhole (w : World) : Type 0 where
@@ -82,16 +85,20 @@ pub record IsWhole (w : World) : Type 0 where
 -- ---- what stays
 
 abbrev pub NewWorldsAreWhole : Type 0
-NewWorldsAreWhole = (s : Settings) (ids : List ℕ) (circuits : Provisioning) (f : Fibres) → AreIds ids → IsHonest f → IsWhole (world (new_ring s ids circuits) (prepared s.rate (length ids) f))
+NewWorldsAreWhole =
+    (s : Settings) (ids : List ℕ) (circuits : Provisioning) (f : Fibres) → AreIds ids → IsHonest f
+    → IsWhole (world (new_ring s ids circuits) (prepared s.rate (length ids) f))
 
 -- before the first round every port delivers AIS
 abbrev pub NewRingsAreSilent : Type 0
-NewRingsAreSilent = (s : Settings) (ids : List ℕ) (circuits : Provisioning) (port : PortId) → outlet_at (new_ring s ids circuits) port ≡ silent
+NewRingsAreSilent =
+    (s : Settings) (ids : List ℕ) (circuits : Provisioning) (port : PortId) → outlet_at (new_ring s ids circuits) port ≡ silent
 
 pub record StayWhole : Type 0 where
   pub round : (w : World) → IsWhole w → IsWhole (round w)
   pub rounds : (w : World) (k : ℕ) → IsWhole w → IsWhole (run k w)
-  pub apply : (w : World) (p : ℕ) (d : Side) (c : Condition) → IsConditionAt w.ring.settings.rate c → IsWhole w → IsWhole (record w { fibres = after_apply w.fibres p d c })
+  pub apply : (w : World) (p : ℕ) (d : Side) (c : Condition) → IsConditionAt w.ring.settings.rate c → IsWhole w
+      → IsWhole (record w { fibres = after_apply w.fibres p d c })
 
 -- ---- what is owed
 
@@ -123,15 +130,18 @@ StepsDeliver = (w left : World) (limit : ℕ) → HasCircuits w.ring → Settles
 
 -- all rounds are calm from number 9 n + 20 of a step on
 abbrev pub RoundsGetCalm : Type 0
-RoundsGetCalm = (w : World) → IsWhole w → HasCircuits w.ring → (j : ℕ) → 9 * length w.ring.ids + 20 ≤ j → is_calm (run j w).ring.nodes ≡ true
+RoundsGetCalm =
+    (w : World) → IsWhole w → HasCircuits w.ring → (j : ℕ) → 9 * length w.ring.ids + 20 ≤ j → is_calm (run j w).ring.nodes ≡ true
 
 -- so with so large a limit no step is unsettled
 abbrev pub StepsAnswer : Type 0
-StepsAnswer = (w left : World) (limit : ℕ) → HasCircuits w.ring → IsWhole w → enough_for (length w.ring.ids) ≤ limit → Unsettles w limit left → ⊥
+StepsAnswer =
+    (w left : World) (limit : ℕ) → HasCircuits w.ring → IsWhole w → enough_for (length w.ring.ids) ≤ limit → Unsettles w limit left → ⊥
 
 -- ---- what a port takes
 
 -- where a side was told of an arrival, an AU-4 comes with a pointer exactly where its interpreter's mode is Norm then
 abbrev pub ComesIsNorm : Type 0
 ComesIsNorm = (threshold : ℕ) (i : Inlet) (m : ℕ) → IsInlet i → is_some i.arrived ≡ true → 1 ≤ m → m ≤ n_of i.section.rate
-    → not (is_ais_action (slice_index_or (taken_in threshold i).actions (m - 1) action.Ais)) ≡ is_norm (slice_index_or (after_taking threshold i).readings (m - 1) start).mode
+    → not (is_ais_action (slice_index_or (taken_in threshold i).actions (m - 1) action.Ais))
+    ≡ is_norm (slice_index_or (after_taking threshold i).readings (m - 1) start).mode

@@ -53,7 +53,13 @@ pub record PathNode : Type 0 where
 -- ---- a new node
 
 abbrev pub new_cross : Rate → List Provisioned → Pos → PathCross
-new_cross rate circuits at = record { uses = uses_at circuits at.0 (n_of rate); west = new_inlet rate; east = new_inlet rate; west_in = new_intake rate; east_in = new_intake rate }
+new_cross rate circuits at = record {
+  uses = uses_at circuits at.0 (n_of rate);
+  west = new_inlet rate;
+  east = new_inlet rate;
+  west_in = new_intake rate;
+  east_in = new_intake rate;
+}
 
 -- it says on both sides what a node says that asks for nothing
 unfoldable pub new_node : Settings → List ℕ → List Provisioned → Pos → PathNode
@@ -91,7 +97,11 @@ after_taken threshold x = record x {
 }
 
 abbrev pub lines_of : PathCross → Lines
-lines_of x = record { rate = x.west.section.rate; west = record { readings = x.west.readings; intake = x.west_in }; east = record { readings = x.east.readings; intake = x.east_in } }
+lines_of x = record {
+  rate = x.west.section.rate;
+  west = record { readings = x.west.readings; intake = x.west_in };
+  east = record { readings = x.east.readings; intake = x.east_in };
+}
 
 -- what feeds AU-4 number au that leaves on a side: a port at the node sends on both sides, and what comes in is passed on
 abbrev pub fed_for : Use → Side → ℕ → Feeder

@@ -42,7 +42,8 @@ ends_own (ending.Shared how) h = by how h
     by status.PlantFault h = tt
     by how h = absurd h
 
-pub ends_cause : (reads calls : Counts) (how : Ending) → Ends how → (how ≡ ending.Shared status.PlantFault → HaveFailed calls) → HasCause reads calls how
+pub ends_cause : (reads calls : Counts) (how : Ending) → Ends how → (how ≡ ending.Shared status.PlantFault → HaveFailed calls)
+    → HasCause reads calls how
 ends_cause reads calls ending.Usage h failed = tt
 ends_cause reads calls (ending.NoSuchStep step) h failed = tt
 ends_cause reads calls (ending.SameSlot first second) h failed = tt

@@ -34,8 +34,10 @@ pub record IsRunOutcome (plan : Planned) (f : Fibres) (how : Status) (text : Lis
 -- slot are named; or none do, and it was run.
 abbrev pub OfPlan : Planned → Fibres → Ending → List ℕ → Fibres → Type 0
 OfPlan plan f ending.Usage text left = ⊥
-OfPlan plan f (ending.NoSuchStep step) text left = (first_strange plan.steps ≡ Some step) × Says (line_of (ending.NoSuchStep step)) text f left
-OfPlan plan f (ending.SameSlot first second) text left = AreKnown plan.steps × AreFirstToShare plan.circuits first second × Says (line_of (ending.SameSlot first second)) text f left
+OfPlan plan f (ending.NoSuchStep step) text left =
+    (first_strange plan.steps ≡ Some step) × Says (line_of (ending.NoSuchStep step)) text f left
+OfPlan plan f (ending.SameSlot first second) text left =
+    AreKnown plan.steps × AreFirstToShare plan.circuits first second × Says (line_of (ending.SameSlot first second)) text f left
 OfPlan plan f (ending.Shared how) text left = AreKnown plan.steps × AreAlone plan.circuits × IsRunOutcome plan f how text left
 
 -- ---- with the bytes of a source
@@ -72,7 +74,8 @@ HasCause reads calls how = Unit {0}
 -- what had come of source and plant when there was this to tell
 abbrev pub CameTo : Bool → Bool → Counts → Counts → Option (List ℕ) → Option (List ℕ) → Ending → Type 0
 CameTo source_exact plant_exact source plant left now how =
-    CameToFaults source_exact plant_exact source plant left now (how ≡ ending.Shared status.ReadFault) (how ≡ ending.Shared status.PlantFault) (how ≡ ending.Shared status.TooLong)
+    CameToFaults source_exact plant_exact source plant left now (how ≡ ending.Shared status.ReadFault)
+    (how ≡ ending.Shared status.PlantFault) (how ≡ ending.Shared status.TooLong)
 
 -- with what text an ending goes
 abbrev pub telling_of : Ending → Telling
@@ -84,7 +87,8 @@ abbrev pub MayEnd : List (List ℕ) → List ℕ → Fibres → Counts → Count
 MayEnd words bytes f reads calls how text left = IsOutcome words bytes f how text left × HasCause reads calls how
 
 -- what was written when this number was answered
-pub record Answers (words : List (List ℕ)) (bytes : List ℕ) (f left : Fibres) (reads calls : Counts) (number : ℕ) (old new : Option (List ℕ)) : Type 0 where
+pub record Answers (words : List (List ℕ)) (bytes : List ℕ) (f left : Fibres) (reads calls : Counts) (number : ℕ)
+    (old new : Option (List ℕ)) : Type 0 where
   pub ending : Ending
   pub numbered : number ≡ number_of ending
   pub writes : WritesAs (telling_of ending) (λ how text. MayEnd words bytes f reads calls how text left) ending old new

@@ -1,5 +1,6 @@
 -- The fibres' conditions by the changes that a script tells.
-use Rattle.std.proofs.Common.{◌≡◌, ℕ, ◌+◌, ◌*◌, ◌-◌, ◌%◌, ◌<◌, Bool, true, false, List, [], ◌∷◌, ◌++◌, length, set, get_or, replicate, refl, ap, sym, ◌∙◌, arith, inl, inr}
+use Rattle.std.proofs.Common.{◌≡◌, ℕ, ◌+◌, ◌*◌, ◌-◌, ◌%◌, ◌<◌, Bool, true, false, List, [], ◌∷◌, ◌++◌, length, set, get_or, replicate, refl}
+use Rattle.std.proofs.Common.{ap, sym, ◌∙◌, arith, inl, inr}
 use Rattle.std.specs.Prelude.{◌==◌, if◌then◌else◌, slice_index_or}
 use Rattle.std.proofs.lemmas.Bool.{cases_eq}
 use Rattle.std.proofs.lemmas.Bool.Decides.{nat_tests}
@@ -19,14 +20,17 @@ ends_inside n p East some = let h : (p + 1) % n < n = mod-lt (p + 1) some in ome
 
 -- ---- one change
 
-by_test : (b : Bool) (c : Condition) (h : Holding) → (if b then record h { condition = c } else h).condition ≡ (if b then c else h.condition)
+by_test : (b : Bool) (c : Condition) (h : Holding) → (if b then record h { condition = c } else h).condition
+    ≡ (if b then c else h.condition)
 by_test true c h = refl
 by_test false c h = refl
 
-set_at : (i j : ℕ) (c : Condition) (cs : List Condition) → j < length cs → get_or (set cs i c) j Clear ≡ (if i == j then c else get_or cs j Clear)
+set_at : (i j : ℕ) (c : Condition) (cs : List Condition) → j < length cs
+    → get_or (set cs i c) j Clear ≡ (if i == j then c else get_or cs j Clear)
 set_at i j c cs low = elim (cases_eq i j) [
   | inl s ↦ (let test : (i == j) ≡ true = grind (arith, nat_tests) in
-      ap (λ k. get_or (set cs i c) k Clear) (sym s) ∙ get_or-set_same cs i c Clear (omega (arith, s)) ∙ ap (λ (b : Bool). if b then c else get_or cs j Clear) (sym test))
+      ap (λ k. get_or (set cs i c) k Clear) (sym s) ∙ get_or-set_same cs i c Clear (omega (arith, s))
+      ∙ ap (λ (b : Bool). if b then c else get_or cs j Clear) (sym test))
   | inr n ↦ (let test : (i == j) ≡ false = grind (arith, nat_tests) in
       get_or-set_other cs i j c Clear (λ s. n (sym s)) ∙ ap (λ (b : Bool). if b then c else get_or cs j Clear) (sym test))
 ]
@@ -37,11 +41,13 @@ pub record AreTold (n : ℕ) (changes : List Change) (conditions : List Conditio
   pub each : (p : ℕ) (d : Side) → slice_index_or conditions (fibre_to n p d) Clear ≡ (all_holding n p d changes new_holding).condition
 
 -- what holds after one more change
-held_more : (n p : ℕ) (d : Side) (xs ys : List Change) (h : Holding) → all_holding n p d (xs ++ ys) h ≡ all_holding n p d ys (all_holding n p d xs h)
+held_more : (n p : ℕ) (d : Side) (xs ys : List Change) (h : Holding)
+    → all_holding n p d (xs ++ ys) h ≡ all_holding n p d ys (all_holding n p d xs h)
 held_more n p d [] ys h = refl
 held_more n p d (x ∷ xs) ys h = held_more n p d xs ys (holding_after n p d x h)
 
-pub told_more : (n q : ℕ) (e : Side) (c : Condition) (changes : List Change) (conditions : List Condition) → 0 < n → length (set conditions (fibre q e) c) ≡ length conditions → AreTold n changes conditions
+pub told_more : (n q : ℕ) (e : Side) (c : Condition) (changes : List Change) (conditions : List Condition) → 0 < n
+    → length (set conditions (fibre q e) c) ≡ length conditions → AreTold n changes conditions
     → AreTold n (changes ++ Fibre q e c ∷ []) (set conditions (fibre q e) c)
 told_more n q e c changes conditions some same told = record {
   size = same ∙ told.size;

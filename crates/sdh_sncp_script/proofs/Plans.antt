@@ -75,21 +75,32 @@ path_new = record {
 
 -- ---- over honest fibres
 
-module _ (plan : Planned) (f left : Fibres) (reports : List Report) (end : Status) (form : IsPlanned plan) (known : AreKnown plan.steps) (alone : AreAlone plan.circuits) where
+module _ (plan : Planned) (f left : Fibres) (reports : List Report) (end : Status) (form : IsPlanned plan) (known : AreKnown plan.steps)
+    (alone : AreAlone plan.circuits) where
   circuits_fit : HasCircuits (new_ring plan.settings plan.nodes (provisioning_of plan))
-  circuits_fit = record { are = circuits_are (provisioning_of plan) plan.nodes form.circuits_fit (circuits_keep_the_ring plan); alone = alone }
+  circuits_fit = record {
+    are = circuits_are (provisioning_of plan) plan.nodes form.circuits_fit (circuits_keep_the_ring plan);
+    alone = alone;
+  }
 
   owed_then : ReportsAreDue → IsHonest f → Comes path_account plan f reports end left → OwesAll plan reports end
-  owed_then law honest (inl x) = subst (λ rs. OwesAll plan rs end) (sym x.1) (due_none (length plan.nodes) plan.circuits plan.limit [] 0 0 (scenes [] plan.steps) end x.0)
+  owed_then law honest (inl x) =
+      subst (λ rs. OwesAll plan rs end) (sym x.1) (due_none (length plan.nodes) plan.circuits plan.limit [] 0 0
+      (scenes [] plan.steps) end x.0)
   owed_then law honest (inr x) =
-      law plan.settings plan.nodes (provisioning_of plan) f plan.limit plan.steps reports end x.0 form.nodes_fit honest circuits_fit (fits plan.settings.rate (length plan.nodes) (length plan.circuits) plan.steps known form.steps_fit) x.2
+      law plan.settings plan.nodes (provisioning_of plan) f plan.limit plan.steps reports end x.0 form.nodes_fit honest circuits_fit
+      (fits plan.settings.rate (length plan.nodes) (length plan.circuits) plan.steps known form.steps_fit) x.2
 
 -- ---- all that is told
 
-pub tells : ReportsAreDue → PathScriptsSettle → (plan : Planned) (f left : Fibres) (text : List ℕ) (end : Status) → IsPlanned plan → AreKnown plan.steps → AreAlone plan.circuits → (f.honest ≡ true → IsHonest f)
+pub tells : ReportsAreDue → PathScriptsSettle → (plan : Planned) (f left : Fibres) (text : List ℕ) (end : Status) → IsPlanned plan
+    → AreKnown plan.steps → AreAlone plan.circuits → (f.honest ≡ true → IsHonest f)
     → Came path_walk plan.limit report_text plan.steps (world_of plan f) f text end left → Tells plan f text end left
 tells owed settles plan f left text end form known alone honest x =
-    tells_all path_account plan f left end report_text text keeps_rounds path_new form (λ h reports came. owed_then plan f left reports end form known alone owed (honest h) came)
-    (λ h large reports last ran. settles plan.settings plan.nodes (provisioning_of plan) f plan.limit plan.steps reports end last form.nodes_fit (honest h) (circuits_fit plan f left reports end form known alone)
+    tells_all path_account plan f left end report_text text keeps_rounds path_new form
+    (λ h reports came. owed_then plan f left reports end form known alone owed (honest h) came)
+    (λ h large reports last ran. settles plan.settings plan.nodes
+    (provisioning_of plan) f plan.limit plan.steps reports end last form.nodes_fit (honest h)
+    (circuits_fit plan f left reports end form known alone)
     (fits plan.settings.rate (length plan.nodes) (length plan.circuits) plan.steps known form.steps_fit) large ran)
     x

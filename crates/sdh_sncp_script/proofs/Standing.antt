@@ -34,7 +34,8 @@ pub record Stands (at : Rate) (named : List ℕ) (provisioned : Provisioning) (c
   pub rounds : w.ring.rounds ≡ ran
 
 -- before anything has happened
-pub stands_new : (s : Settings) (ids : List ℕ) (circuits : Provisioning) (f : Fibres) → AreIds ids → IsHonest f → HasCircuits (new_ring s ids circuits)
+pub stands_new : (s : Settings) (ids : List ℕ) (circuits : Provisioning) (f : Fibres) → AreIds ids → IsHonest f
+    → HasCircuits (new_ring s ids circuits)
     → Stands s.rate ids circuits [] 0 (world (new_ring s ids circuits) (prepared s.rate (length ids) f))
 stands_new s ids circuits f are honest form = record {
   whole = new_worlds_are_whole s ids circuits f are honest;
@@ -46,19 +47,24 @@ stands_new s ids circuits f are honest form = record {
   rounds = refl;
 }
 
-module _ (rate : Rate) (ids : List ℕ) (circuits : Provisioning) (changes : List Change) (ran : ℕ) (w : World) (h : Stands rate ids circuits changes ran w) where
+module _ (rate : Rate) (ids : List ℕ) (circuits : Provisioning) (changes : List Change) (ran : ℕ) (w : World)
+    (h : Stands rate ids circuits changes ran w) where
   some : 2 ≤ length ids
   some = let e = h.whole.placed.ids.enough in omega (arith, ap (λ (l : List ℕ). length l) h.ids)
 
   -- a fibre came into a condition
-  pub fibre_then : (e : FibreEvent) → IsConditionAt rate e.condition → Stands rate ids circuits (changes ++ Fibre e.at.0 e.side e.condition ∷ []) ran (record w { fibres = after_apply w.fibres e.at.0 e.side e.condition })
+  pub fibre_then : (e : FibreEvent) → IsConditionAt rate e.condition
+      → Stands rate ids circuits (changes ++ Fibre e.at.0 e.side e.condition ∷ []) ran
+      (record w { fibres = after_apply w.fibres e.at.0 e.side e.condition })
   fibre_then e may = record {
     whole = stay_whole.apply w e.at.0 e.side e.condition (subst (λ r. IsConditionAt r e.condition) (sym h.rate) may) h.whole;
     rate = h.rate;
     ids = h.ids;
     circuits = h.circuits;
     form = h.form;
-    told = told_more (length ids) e.at.0 e.side e.condition changes w.fibres.conditions (let s = some in omega arith) (length-set w.fibres.conditions (fibre e.at.0 e.side) e.condition) h.told;
+    told =
+        told_more (length ids) e.at.0 e.side e.condition changes w.fibres.conditions (let s = some in omega arith)
+        (length-set w.fibres.conditions (fibre e.at.0 e.side) e.condition) h.told;
     rounds = h.rounds;
   }
 
@@ -82,7 +88,8 @@ module _ (rate : Rate) (ids : List ℕ) (circuits : Provisioning) (changes : Lis
       let left : IsLeft w mid k = subst (λ v. IsLeft w v k) (sym known.2) (left_run k w) in
       let long = known.1.window.long in
       let within = known.1.within in
-      let size : length (run k w).ring.ids ≡ length ids = ap (λ (l : List ℕ). length l) (left_run k w).ids ∙ ap (λ (l : List ℕ). length l) h.ids in
+      let size : length (run k w).ring.ids ≡ length ids =
+      ap (λ (l : List ℕ). length l) (left_run k w).ids ∙ ap (λ (l : List ℕ). length l) h.ids in
       let grown : mid.ring.rounds ≡ ran + k = omega (arith, left.rounds, h.rounds) in
       let enough = some in
       let one : mid.ring.rounds - 1 + 1 ≡ mid.ring.rounds = omega (arith, grown, long, size, enough) in

@@ -20,12 +20,17 @@ use Rattle.sdh_sncp_script.specs.Promise.{AreDue}
 
 -- from a new ring over new honest fibres, each report shows what is owed
 abbrev pub ReportsAreDue : Type 0
-ReportsAreDue = (s : Settings) (ids : List ℕ) (circuits : Provisioning) (f : Fibres) (limit : ℕ) (steps : List Step) (reports : List Report) (end : Status) (left : World)
+ReportsAreDue =
+    (s : Settings) (ids : List ℕ) (circuits : Provisioning) (f : Fibres) (limit : ℕ) (steps : List Step) (reports : List Report)
+    (end : Status) (left : World)
     → AreIds ids → IsHonest f → HasCircuits (new_ring s ids circuits) → MayDo s.rate (length ids) 0 steps
-    → Runs path_walk limit 0 steps (world (new_ring s ids circuits) (prepared s.rate (length ids) f)) reports end left → AreDue (length ids) circuits.circuits limit [] 0 0 (scenes [] steps) reports end
+    → Runs path_walk limit 0 steps (world (new_ring s ids circuits) (prepared s.rate (length ids) f)) reports end left
+    → AreDue (length ids) circuits.circuits limit [] 0 0 (scenes [] steps) reports end
 
 -- from there no settle step with so large a limit is unsettled
 abbrev pub PathScriptsSettle : Type 0
-PathScriptsSettle = (s : Settings) (ids : List ℕ) (circuits : Provisioning) (f : Fibres) (limit : ℕ) (steps : List Step) (reports : List Report) (end : Status) (left : World)
+PathScriptsSettle =
+    (s : Settings) (ids : List ℕ) (circuits : Provisioning) (f : Fibres) (limit : ℕ) (steps : List Step) (reports : List Report)
+    (end : Status) (left : World)
     → AreIds ids → IsHonest f → HasCircuits (new_ring s ids circuits) → MayDo s.rate (length ids) 0 steps → enough_for (length ids) ≤ limit
     → Runs path_walk limit 0 steps (world (new_ring s ids circuits) (prepared s.rate (length ids) f)) reports end left → IsSettled end

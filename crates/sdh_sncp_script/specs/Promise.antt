@@ -28,7 +28,8 @@ abbrev pub AreDue : ℕ → List Provisioned → ℕ → List Change → ℕ →
 AreDue n circuits limit earlier ran before [] reports end = (reports ≡ []) × ((end ≡ status.Ok) ⊎ (end ≡ status.PlantFault))
 AreDue n circuits limit earlier ran before (changes ∷ later) [] end = (end ≡ status.Unsettled (before + 1)) ⊎ (end ≡ status.PlantFault)
 AreDue n circuits limit earlier ran before (changes ∷ later) (r ∷ reports) end =
-    (r.number ≡ before + 1) × (r.nodes ≡ []) × IsLast n limit ran r.round × (r.ports ≡ due_ports n (cut_after n (earlier ++ changes)) r.round circuits)
+    (r.number ≡ before + 1) × (r.nodes ≡ []) × IsLast n limit ran r.round
+    × (r.ports ≡ due_ports n (cut_after n (earlier ++ changes)) r.round circuits)
     × AreDue n circuits limit (earlier ++ changes) (r.round + 1) (before + 1) later reports end
 
 -- each report of a plan shows for every port what it is owed

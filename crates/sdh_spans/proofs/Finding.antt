@@ -19,7 +19,8 @@ use Rattle.sdh_pointer.specs.declared.reading.Reading.{Reading}
 use Rattle.sdh_terms.specs.declared.Condition.{Condition}
 use Rattle.sdh_terms.specs.Fibres.{is_cut, degraded_by}
 use Rattle.sdh_plant.specs.Arrivals.{through}
-use Rattle.sdh_terminal.specs.Receiving.{Inlet, Reception, failure, framed_reception, frame_reception, reception_of, after_frame, readings_by, actions_by, found, taken_in, after_taking}
+use Rattle.sdh_terminal.specs.Receiving.{Inlet, Reception, failure, framed_reception, frame_reception, reception_of, after_frame}
+use Rattle.sdh_terminal.specs.Receiving.{readings_by, actions_by, found, taken_in, after_taking}
 use Rattle.sdh_spans.specs.Frames.{Says, CarriesWord, shown_by}
 use Rattle.sdh_spans.specs.Sides.{IsTold, FindsSo}
 use Rattle.sdh_spans.specs.Laws.{InletsStay, UntoldSidesFindNothing, SidesFindSo}
@@ -35,19 +36,22 @@ record FindsWord (clear : List ℕ) (threshold b2 : ℕ) (k : K) (last : Option 
   pub word_is : f.word ≡ decoded (first_byte k) (second_byte k)
   pub last_is : f.last ≡ last
 
-found_at : (rate : Rate) (threshold : ℕ) (clear : List ℕ) (last : Option Parities) (k : K) (b2 : ℕ) → k.mark ≢ mark.MsAis → FindsWord clear threshold b2 k last (framed_reception rate threshold clear last (first_byte k) (second_byte k) b2)
+found_at : (rate : Rate) (threshold : ℕ) (clear : List ℕ) (last : Option Parities) (k : K) (b2 : ℕ) → k.mark ≢ mark.MsAis
+    → FindsWord clear threshold b2 k last (framed_reception rate threshold clear last (first_byte k) (second_byte k) b2)
 found_at rate threshold clear last k b2 other =
     let e : (second_byte k % 8 == 7) ≡ false = says_no_ais k other in
     rw e (record { bytes_are = refl; defect_is = refl; word_is = refl; last_is = refl })
 
 found_word : (rate : Rate) (threshold : ℕ) (k : K) (line : List ℕ) (last : Option Parities) → Says rate k line → k.mark ≢ mark.MsAis
-    → FindsWord (scrambled (9 * n_of rate) line) threshold (b2_violations (n_of rate) last (scrambled (9 * n_of rate) line)) k (Some (parities_of (n_of rate) (scrambled (9 * n_of rate) line) line)) (reception_of (Some (Some line)) rate threshold last)
+    → FindsWord (scrambled (9 * n_of rate) line) threshold (b2_violations (n_of rate) last (scrambled (9 * n_of rate) line)) k
+    (Some (parities_of (n_of rate) (scrambled (9 * n_of rate) line) line)) (reception_of (Some (Some line)) rate threshold last)
 found_word rate threshold k line last says other =
     let n = n_of rate in
     let clear = scrambled (9 * n) line in
     let kept = Some (parities_of n clear line) in
     let b2 = b2_violations n last clear in
-    let is : reception_of (Some (Some line)) rate threshold last ≡ framed_reception rate threshold clear kept (first_byte k) (second_byte k) b2 =
+    let is : reception_of (Some (Some line)) rate threshold last
+    ≡ framed_reception rate threshold clear kept (first_byte k) (second_byte k) b2 =
     ap (λ c. frame_reception rate threshold c (kept_after n line) (received_in n last line)) (opened_says rate k line says)
     ∙ ap (λ p. frame_reception rate threshold clear p (received_in n last line)) (kept_says rate k line says)
     ∙ ap (frame_reception rate threshold clear kept) (received_says rate k last line says) in
@@ -67,13 +71,18 @@ length-readings false n bytes rs = refl
 
 pub inlets_stay : InletsStay
 unfolding after_taking
-inlets_stay at threshold i is = record { rate = is.rate; readings = length-readings (is_some i.arrived) (n_of i.section.rate) (found threshold i).bytes i.readings ∙ is.readings }
+inlets_stay at threshold i is = record {
+  rate = is.rate;
+  readings = length-readings (is_some i.arrived) (n_of i.section.rate)
+      (found threshold i).bytes i.readings ∙ is.readings;
+}
 
 -- one that was told nothing
 pub untold_sides_find_nothing : UntoldSidesFindNothing
 unfolding taken_in after_taking
 untold_sides_find_nothing threshold i none =
-    let is : found threshold i ≡ reception_of None i.section.rate threshold i.section.last = ap (λ a. reception_of a i.section.rate threshold i.section.last) none in
+    let is : found threshold i ≡ reception_of None i.section.rate threshold i.section.last =
+    ap (λ a. reception_of a i.section.rate threshold i.section.last) none in
     record {
       defect = ap (λ (f : Reception). f.defect) is;
       word = ap (λ (f : Reception). f.word) is;
@@ -104,9 +113,11 @@ module _ (at : Rate) (c : Condition) (k : K) (line : List ℕ) (threshold : ℕ)
     abbrev out : List ℕ
     out = comes.line
 
-    clear_found : FindsWord (scrambled (9 * n) out) threshold (b2_violations n last (scrambled (9 * n) out)) k (Some (parities_of n (scrambled (9 * n) out) out)) (found threshold i)
+    clear_found : FindsWord (scrambled (9 * n) out) threshold (b2_violations n last (scrambled (9 * n) out)) k
+        (Some (parities_of n (scrambled (9 * n) out) out)) (found threshold i)
     clear_found =
-        subst (FindsWord (scrambled (9 * n) out) threshold (b2_violations n last (scrambled (9 * n) out)) k (Some (parities_of n (scrambled (9 * n) out) out)))
+        subst (FindsWord (scrambled (9 * n) out) threshold (b2_violations n last (scrambled (9 * n) out)) k
+        (Some (parities_of n (scrambled (9 * n) out) out)))
         (sym (told_is ∙ ap (λ a. reception_of (Some a) at threshold last) comes.there))
         (found_word at threshold k out last comes.says is.no_ais)
 
@@ -120,25 +131,35 @@ module _ (at : Rate) (c : Condition) (k : K) (line : List ℕ) (threshold : ℕ)
     | inr clear ↦ behind_clear clear ∙ sym (ap (λ (t : Bool). if t then a else b) clear)
   ]
 
-  shows_next : (next : List ℕ) → b2_in n (scrambled (9 * n) next) ≡ section_parity n (scrambled (9 * n) line) → b2_violations n (found threshold i).last (scrambled (9 * n) next) ≡ shown_by c
+  shows_next : (next : List ℕ) → b2_in n (scrambled (9 * n) next) ≡ section_parity n (scrambled (9 * n) line)
+      → b2_violations n (found threshold i).last (scrambled (9 * n) next) ≡ shown_by c
   unfolding parities_of
   shows_next next same =
       by_cut (b2_violations n (found threshold i).last (scrambled (9 * n) next)) 0 (degraded_by c)
       (λ cut. ap (λ (f : Reception). b2_violations n f.last (scrambled (9 * n) next)) (cut_found cut))
-      (λ clear. ap (λ l. b2_violations n l (scrambled (9 * n) next)) (clear_found clear).last_is ∙ ap (violations_of (section_parity n (scrambled (9 * n) (out clear)))) same
+      (λ clear. ap (λ l. b2_violations n l (scrambled (9 * n) next)) (clear_found clear).last_is
+      ∙ ap (violations_of (section_parity n (scrambled (9 * n) (out clear)))) same
       ∙ shows_through at c line (out clear) is.says.size is.may (comes clear).there)
 
   finds_so : FindsSo at c k line threshold i
   unfolding taken_in after_taking
   finds_so = record {
-    defect = by_cut (found threshold i).defect defect.Sf (if nat_le threshold (b2_violations n last (scrambled (9 * n) line)) then defect.Sd else defect.None)
-        (λ cut. ap (λ (f : Reception). f.defect) (cut_found cut)) (λ clear. (clear_found clear).defect_is ∙ ap (λ b. if nat_le threshold b then defect.Sd else defect.None) (same_b2 clear));
-    word = by_cut (found threshold i).word None (decoded (first_byte k) (second_byte k)) (λ cut. ap (λ (f : Reception). f.word) (cut_found cut)) (λ clear. (clear_found clear).word_is);
+    defect =
+        by_cut (found threshold i).defect defect.Sf (if nat_le threshold (b2_violations n last (scrambled (9 * n) line))
+        then defect.Sd else defect.None)
+        (λ cut. ap (λ (f : Reception). f.defect) (cut_found cut))
+        (λ clear. (clear_found clear).defect_is ∙ ap (λ b. if nat_le threshold b then defect.Sd else defect.None) (same_b2 clear));
+    word =
+        by_cut (found threshold i).word None (decoded (first_byte k) (second_byte k))
+        (λ cut. ap (λ (f : Reception). f.word) (cut_found cut)) (λ clear. (clear_found clear).word_is);
     rate = is.inlet.rate;
     ones = λ cut. ap (λ (f : Reception). f.bytes) (cut_found cut);
-    aus = λ clear au low high. ap (au_of n au) (clear_found clear).bytes_are ∙ aus_through at c line (out clear) is.says.size is.may (comes clear).there au low high;
+    aus =
+        λ clear au low high. ap (au_of n au) (clear_found clear).bytes_are
+        ∙ aus_through at c line (out clear) is.says.size is.may (comes clear).there au low high;
     acts = (let a = is.told in let r = is.inlet.rate in λ t. actions_by (is_some (a t)) (n_of (r t)) (found threshold i).bytes i.readings);
-    reads = (let a = is.told in let r = is.inlet.rate in λ t. readings_by (is_some (a t)) (n_of (r t)) (found threshold i).bytes i.readings);
+    reads =
+        (let a = is.told in let r = is.inlet.rate in λ t. readings_by (is_some (a t)) (n_of (r t)) (found threshold i).bytes i.readings);
     shows = shows_next;
   }
 

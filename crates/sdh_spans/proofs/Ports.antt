@@ -15,7 +15,8 @@ use Rattle.sdh_terminal.specs.Tributaries.{sent_by, input_by}
 use Rattle.sdh_spans.specs.Brought.{BringsWith, IsValueOf, Brings, plainly}
 use Rattle.sdh_spans.specs.Laws.{PortsDeliver, PortsBring}
 
-outlet_with : (i : Input) (v : ℕ) (b : Delivered) → IsValueOf v b → BringsWith i v b → delivered_from i ≡ record { delivered = b; value = v }
+outlet_with : (i : Input) (v : ℕ) (b : Delivered) → IsValueOf v b → BringsWith i v b
+    → delivered_from i ≡ record { delivered = b; value = v }
 unfolding delivered_from
 outlet_with i v delivered.Ais has is = ap (λ a. delivered_by a i) is ∙ λ t. record { delivered = delivered.Ais; value = sym has t }
 outlet_with i v (delivered.Chunk payload) has is =
@@ -25,9 +26,11 @@ outlet_with i v (delivered.Chunk payload) has is =
 pub ports_deliver : PortsDeliver
 ports_deliver i b has is = outlet_with i b.value b.delivered has is
 
-brings_plain : (sender : Customer) (c : Clock) (f : ChunkForm) → f ≡ Plain → Brings (input_by (sent_by (record { port = sender; clock = after_form f c }))) (plainly sender c)
+brings_plain : (sender : Customer) (c : Clock) (f : ChunkForm) → f ≡ Plain
+    → Brings (input_by (sent_by (record { port = sender; clock = after_form f c }))) (plainly sender c)
 unfolding sent_by
-brings_plain sender c f is = let back : c.sent + 2349 - 2349 ≡ c.sent = omega arith in rw is (refl, refl, ap (λ p. stream_from sender p 2349) back)
+brings_plain sender c f is = let back : c.sent + 2349 - 2349 ≡ c.sent =
+    omega arith in rw is (refl, refl, ap (λ p. stream_from sender p 2349) back)
 
 pub ports_bring : PortsBring
 unfolding ticked

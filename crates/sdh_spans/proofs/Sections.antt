@@ -17,7 +17,9 @@ use Rattle.sdh_spans.specs.Sides.{IsSenderAt}
 use Rattle.sdh_spans.proofs.Frames.{length-filled, line_says, parities_are}
 
 -- the bytes B2 of a sent frame are the parity that the side kept, or zeros
-line_b2 : (input : ℕ → Input) (x : Sending) → AreParities (n_of x.section.rate) x.section.last → b2_in (n_of x.section.rate) (scrambled (9 * n_of x.section.rate) (line_frame_from input x)) ≡ (placed_after (n_of x.section.rate) x.section.last).b2
+line_b2 : (input : ℕ → Input) (x : Sending) → AreParities (n_of x.section.rate) x.section.last
+    → b2_in (n_of x.section.rate) (scrambled (9 * n_of x.section.rate) (line_frame_from input x))
+    ≡ (placed_after (n_of x.section.rate) x.section.last).b2
 unfolding line_frame_from clear_frame
 line_b2 input x are =
     let rate = x.section.rate in
@@ -27,7 +29,8 @@ line_b2 input x are =
     ∙ b2-there rate a (filled input x) (length-filled input x) (placed-length n x.section.last are)
 
 -- what the side keeps are the parities of that frame
-line_last : (input : ℕ → Input) (x : Sending) → (after_sending input x).section.last ≡ Some (parities_of (n_of x.section.rate) (scrambled (9 * n_of x.section.rate) (line_frame_from input x)) (line_frame_from input x))
+line_last : (input : ℕ → Input) (x : Sending) → (after_sending input x).section.last
+    ≡ Some (parities_of (n_of x.section.rate) (scrambled (9 * n_of x.section.rate) (line_frame_from input x)) (line_frame_from input x))
 unfolding after_sending line_frame_from clear_frame_from
 line_last input x =
     let n = n_of x.section.rate in
@@ -42,15 +45,22 @@ module _ (at : Rate) (input : ℕ → Input) (x : Sending) (is : IsSenderAt at x
   frame_says = subst (λ r. Says r x.word (line_frame_from input x)) is.rate (line_says input x are)
 
   pub frame_b2 : b2_in (n_of at) (scrambled (9 * n_of at) (line_frame_from input x)) ≡ (placed_after (n_of at) x.section.last).b2
-  frame_b2 = subst (λ r. b2_in (n_of r) (scrambled (9 * n_of r) (line_frame_from input x)) ≡ (placed_after (n_of r) x.section.last).b2) is.rate (line_b2 input x are)
+  frame_b2 =
+      subst (λ r. b2_in (n_of r) (scrambled (9 * n_of r) (line_frame_from input x)) ≡ (placed_after (n_of r) x.section.last).b2) is.rate
+      (line_b2 input x are)
 
-  pub frame_keeps : (after_sending input x).section.last ≡ Some (parities_of (n_of at) (scrambled (9 * n_of at) (line_frame_from input x)) (line_frame_from input x))
-  frame_keeps = subst (λ r. (after_sending input x).section.last ≡ Some (parities_of (n_of r) (scrambled (9 * n_of r) (line_frame_from input x)) (line_frame_from input x))) is.rate (line_last input x)
+  pub frame_keeps : (after_sending input x).section.last ≡ Some
+      (parities_of (n_of at) (scrambled (9 * n_of at) (line_frame_from input x)) (line_frame_from input x))
+  frame_keeps =
+      subst (λ r. (after_sending input x).section.last ≡ Some
+      (parities_of (n_of r) (scrambled (9 * n_of r) (line_frame_from input x)) (line_frame_from input x))) is.rate (line_last input x)
 
   pub sender_stays : IsSenderAt at (after_sending input x)
   unfolding after_sending after_inputs
   sender_stays = record {
     rate = is.rate;
     generators = length-map_from _ 0 x.generators ∙ is.generators;
-    parities = subst (λ r. AreParities (n_of r) (after_sending input x).section.last) is.rate (parities_are (n_of x.section.rate) (clear_frame_from input x) (line_frame_from input x));
+    parities =
+        subst (λ r. AreParities (n_of r) (after_sending input x).section.last) is.rate
+        (parities_are (n_of x.section.rate) (clear_frame_from input x) (line_frame_from input x));
   }

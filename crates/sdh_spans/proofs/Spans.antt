@@ -1,5 +1,6 @@
 -- One span: what was sent into an AU-4 comes out of it one round later.
-use Rattle.std.proofs.Common.{◌≡◌, ℕ, ◌+◌, ◌*◌, ◌<◌, ◌≤◌, true, false, List, length, get_or, Option, None, ap, sym, ◌∙◌, subst, arith, inl, inr}
+use Rattle.std.proofs.Common.{◌≡◌, ℕ, ◌+◌, ◌*◌, ◌<◌, ◌≤◌, true, false, List, length, get_or, Option, None, ap, sym, ◌∙◌, subst, arith, inl}
+use Rattle.std.proofs.Common.{inr}
 use Rattle.std.proofs.lemmas.Bool.{cases_Bool}
 use Rattle.sdh_terms.specs.declared.Rate.{Rate}
 use Rattle.sdh_terms.specs.Rates.{n_of}
@@ -27,7 +28,8 @@ use Rattle.sdh_spans.proofs.Reading.{TookIn, reading_there, side_reads, side_bri
 
 -- ---- a side that was told what came
 
-module _ (at : Rate) (c : Condition) (w : K) (line : List ℕ) (i : Inlet) (threshold : ℕ) (l : Lines) (d : Side) (k : ℕ) (is : IsTold at c w line i) (there : line_on l d ≡ line_after threshold i) (high : k + 1 ≤ n_of at) where
+module _ (at : Rate) (c : Condition) (w : K) (line : List ℕ) (i : Inlet) (threshold : ℕ) (l : Lines) (d : Side) (k : ℕ)
+    (is : IsTold at c w line i) (there : line_on l d ≡ line_after threshold i) (high : k + 1 ≤ n_of at) where
   abbrev n : ℕ
   n = n_of at
 
@@ -58,12 +60,20 @@ module _ (at : Rate) (c : Condition) (w : K) (line : List ℕ) (i : Inlet) (thre
   ones_taken cut = ap (λ bytes. pointer_word_at n bytes (k + 1)) (bytes_are ∙ finds.ones cut) ∙ word_of_ones at (k + 1) (omega arith) high
 
   -- its interpreter takes the word that it reads
-  takes_read : TakesWord (get_or i.readings k start) (get_or (after_taking threshold i).readings k start) (received l d (k + 1)) (pointer_word_at n taken (k + 1))
+  takes_read : TakesWord (get_or i.readings k start) (get_or (after_taking threshold i).readings k start) (received l d (k + 1))
+      (pointer_word_at n taken (k + 1))
   takes_read =
       let read = side_reads at l d i.readings took_in k few in
-      let next : get_or (after_taking threshold i).readings k start ≡ after_word (get_or i.readings k start) (pointer_word_at n taken (k + 1)) =
-      ap (λ (y : Line). get_or y.readings k start) (sym there) ∙ ap (λ rs. get_or rs k start) took_in.left ∙ reading_there n taken i.readings k few in
-      record { reading = next; action = ap (λ (y : Input). y.action) read; value = ap (λ (y : Input). y.value) read ∙ ap (λ (r : Reading). r.value) (sym next) }
+      let next : get_or (after_taking threshold i).readings k start
+      ≡ after_word (get_or i.readings k start) (pointer_word_at n taken (k + 1)) =
+      ap (λ (y : Line). get_or y.readings k start) (sym there) ∙ ap (λ rs. get_or rs k start) took_in.left
+      ∙ reading_there n taken i.readings k few in
+      record {
+        reading = next;
+        action = ap (λ (y : Input). y.action) read;
+        value = ap (λ (y : Input). y.value) read
+            ∙ ap (λ (r : Reading). r.value) (sym next);
+      }
 
   -- where the interpreters don't move
   module _ (still : (after_taking threshold i).readings ≡ i.readings) where
@@ -81,7 +91,8 @@ cut_spans_bring_ais at c w line i threshold l d k is there high cut still = sile
 
 -- ---- a span
 
-module _ (at : Rate) (c : Condition) (input : ℕ → Input) (x : Sending) (i : Inlet) (threshold : ℕ) (l : Lines) (d : Side) (k : ℕ) (is : IsSpan at c input x i) (there : line_on l d ≡ line_after threshold i) (high : k + 1 ≤ n_of at) where
+module _ (at : Rate) (c : Condition) (input : ℕ → Input) (x : Sending) (i : Inlet) (threshold : ℕ) (l : Lines) (d : Side) (k : ℕ)
+    (is : IsSpan at c input x i) (there : line_on l d ≡ line_after threshold i) (high : k + 1 ≤ n_of at) where
   sends : SendsSo at input x
   sends = sides_send_so at input x is.sender
 
@@ -106,15 +117,19 @@ module _ (at : Rate) (c : Condition) (input : ℕ → Input) (x : Sending) (i : 
   word_taken : pointer_word_at (n_of at) bytes (k + 1) ≡ word_behind (is_cut c) word
   word_taken = elim (cases_Bool (is_cut c)) [
     | inl cut ↦ ones_taken at c x.word line_sent i threshold l d k is_told there high cut ∙ sym (ap (λ b. word_behind b word) cut)
-    | inr clear ↦ ap (λ (a : Au). pointer_word a.pointers) (au_comes clear) ∙ word_in_au state (input (k + 1)) ∙ sym (ap (λ b. word_behind b word) clear)
+    | inr clear ↦ ap (λ (a : Au). pointer_word a.pointers) (au_comes clear) ∙ word_in_au state (input (k + 1))
+        ∙ sym (ap (λ b. word_behind b word) clear)
   ]
 
-  takes_word : TakesWord (get_or i.readings k start) (get_or (after_taking threshold i).readings k start) (received l d (k + 1)) (word_behind (is_cut c) word)
+  takes_word : TakesWord (get_or i.readings k start) (get_or (after_taking threshold i).readings k start) (received l d (k + 1))
+      (word_behind (is_cut c) word)
   takes_word =
       subst (TakesWord (get_or i.readings k start) (get_or (after_taking threshold i).readings k start) (received l d (k + 1))) word_taken
       (takes_read at c x.word line_sent i threshold l d k is_told there high)
 
-  brings : is_cut c ≡ false → (after_taking threshold i).readings ≡ i.readings → state ≡ next_sending state (input (k + 1)).action (input (k + 1)).value → (b : Outlet) → HasValue b → Brings (input (k + 1)) b → Brings (received l d (k + 1)) b
+  brings : is_cut c ≡ false → (after_taking threshold i).readings ≡ i.readings
+      → state ≡ next_sending state (input (k + 1)).action (input (k + 1)).value → (b : Outlet) → HasValue b → Brings (input (k + 1)) b
+      → Brings (received l d (k + 1)) b
   brings clear still kept b small is_sent =
       brings_taken at c x.word line_sent i threshold l d k is_told there high still b small
       (subst (λ a. Carries a b) (sym (au_comes clear)) (carried_by state (input (k + 1)) b kept is_sent))
@@ -123,4 +138,5 @@ pub spans_take_words : SpansTakeWords
 spans_take_words at c input x i threshold l d k is there high = takes_word at c input x i threshold l d k is there high
 
 pub spans_bring : SpansBring
-spans_bring at c input x i threshold l d k is there high clear still kept b small is_sent = brings at c input x i threshold l d k is there high clear still kept b small is_sent
+spans_bring at c input x i threshold l d k is there high clear still kept b small is_sent =
+    brings at c input x i threshold l d k is there high clear still kept b small is_sent

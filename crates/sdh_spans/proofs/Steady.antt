@@ -24,7 +24,13 @@ constant_as f g k same c = record {
 }
 
 pub constant_later : (f : ℕ → Input) (k l : ℕ) → k ≤ l → IsConstant f k → IsConstant f l
-constant_later f k l late c = record { does = c.does; value = c.value; sound = c.sound; does_is = λ j h. c.does_is j (omega arith); value_is = λ j h. c.value_is j (omega arith) }
+constant_later f k l late c = record {
+  does = c.does;
+  value = c.value;
+  sound = c.sound;
+  does_is = λ j h. c.does_is j (omega arith);
+  value_is = λ j h. c.value_is j (omega arith);
+}
 
 -- ---- a generator
 
@@ -34,19 +40,22 @@ module _ (went : ℕ → Input) (sending : ℕ → Option ℕ) (k : ℕ) (goes :
       let m = j - 1 in
       let now : suc m ≡ j = omega arith in
       ap sending (sym now) ∙ goes m
-      ∙ ap₂ (λ a v. next_sending (sending m) a v) (c.does_is m (omega arith)) (c.value_is m (omega arith)) ∙ (inputs_last (sending m) c.does c.value c.sound).state
+      ∙ ap₂ (λ a v. next_sending (sending m) a v) (c.does_is m (omega arith)) (c.value_is m (omega arith))
+      ∙ (inputs_last (sending m) c.does c.value c.sound).state
 
   word_rests : (j : ℕ) → k + 1 ≤ j → word_sent (sending j) (went j).action (went j).value ≡ word_of (lasting_form c.does) c.value
   word_rests j h =
       ap (λ s. word_sent s (went j).action (went j).value) (sending_rests j h)
-      ∙ ap₂ (λ a v. word_sent (lasting_state c.does c.value) a v) (c.does_is j (omega arith)) (c.value_is j (omega arith)) ∙ (inputs_last (sending j) c.does c.value c.sound).word
+      ∙ ap₂ (λ a v. word_sent (lasting_state c.does c.value) a v) (c.does_is j (omega arith)) (c.value_is j (omega arith))
+      ∙ (inputs_last (sending j) c.does c.value c.sound).word
 
 pub generators_rest : GeneratorsRest
 generators_rest went sending k goes c j h = sending_rests went sending k goes c j h
 
 -- ---- the interpreter behind the fibre
 
-module _ (cut : Bool) (went came : ℕ → Input) (sending : ℕ → Option ℕ) (reading : ℕ → Reading) (k : ℕ) (goes : GoesBy went sending) (behind : TakesBehind cut went sending reading came) (c : IsConstant went k) where
+module _ (cut : Bool) (went came : ℕ → Input) (sending : ℕ → Option ℕ) (reading : ℕ → Reading) (k : ℕ) (goes : GoesBy went sending)
+    (behind : TakesBehind cut went sending reading came) (c : IsConstant went k) where
   abbrev word : ℕ
   word = word_behind cut (word_of (lasting_form c.does) c.value)
 
@@ -55,11 +64,14 @@ module _ (cut : Bool) (went came : ℕ → Input) (sending : ℕ → Option ℕ)
       let j = m - 1 in
       let now : suc j ≡ m = omega arith in
       subst (λ l. TakesWord (reading l) (reading (suc l)) (came l) word) now
-      (subst (λ u. TakesWord (reading (suc j)) (reading (suc (suc j))) (came (suc j)) (word_behind cut u)) (word_rests went sending k goes c j (omega arith)) (behind j))
+      (subst (λ u. TakesWord (reading (suc j)) (reading (suc (suc j))) (came (suc j)) (word_behind cut u))
+      (word_rests went sending k goes c j (omega arith)) (behind j))
 
   reads_on : (n t : ℕ) → k + 2 ≤ t → after_rounds n word (reading t) ≡ reading (t + n)
   reads_on zero t h = ap reading {x = t} {y = t + zero} (omega arith)
-  reads_on (suc n) t h = ap (after_rounds n word) (sym (takes t h).reading) ∙ reads_on n (suc t) (omega arith) ∙ ap reading {x = suc t + n} {y = t + suc n} (omega arith)
+  reads_on (suc n) t h =
+      ap (after_rounds n word) (sym (takes t h).reading) ∙ reads_on n (suc t) (omega arith)
+      ∙ ap reading {x = suc t + n} {y = t + suc n} (omega arith)
 
   by_cut : (b : Bool) (r : Reading) → ComesToRest (word_behind b (word_of (lasting_form c.does) c.value)) r
   unfolding word_of
@@ -70,7 +82,9 @@ module _ (cut : Bool) (went came : ℕ → Input) (sending : ℕ → Option ℕ)
   rests = by_cut cut (reading (k + 2))
 
   there : (j : ℕ) → k + 9 ≤ j → reading j ≡ rests.last
-  there j h = ap reading {x = j} {y = k + 2 + (j - (k + 2))} (omega arith) ∙ sym (reads_on (j - (k + 2)) (k + 2) (omega arith)) ∙ rests.there (j - (k + 2)) (omega arith)
+  there j h =
+      ap reading {x = j} {y = k + 2 + (j - (k + 2))} (omega arith) ∙ sym (reads_on (j - (k + 2)) (k + 2) (omega arith))
+      ∙ rests.there (j - (k + 2)) (omega arith)
 
   rests_behind : RestsBehind reading came k
   rests_behind = record {

@@ -31,7 +31,8 @@ use Rattle.sdh_spans.specs.Spans.{IsSpan, line_after, TakesWord, word_behind, Is
 
 -- a frame says the same word behind every fibre that isn't cut, and behind one that is nothing comes
 pub record FramesComeThrough : Type 0 where
-  pub word : (at : Rate) (k : K) (c : Condition) (a : Arrival) → is_cut c ≡ false → CarriesWord at k a → CarriesWord at k (through (n_of at) c a)
+  pub word : (at : Rate) (k : K) (c : Condition) (a : Arrival) → is_cut c ≡ false → CarriesWord at k a
+      → CarriesWord at k (through (n_of at) c a)
   pub dark : (n : ℕ) (c : Condition) (a : Arrival) → is_cut c ≡ true → through n c a ≡ None
 
 -- ---- sides
@@ -47,7 +48,8 @@ abbrev pub UntoldSidesFindNothing : Type 0
 UntoldSidesFindNothing = (threshold : ℕ) (i : Inlet) → i.arrived ≡ None → FindsNothing threshold i
 
 abbrev pub SidesFindSo : Type 0
-SidesFindSo = (at : Rate) (c : Condition) (k : K) (line : List ℕ) (threshold : ℕ) (i : Inlet) → IsTold at c k line i → FindsSo at c k line threshold i
+SidesFindSo =
+    (at : Rate) (c : Condition) (k : K) (line : List ℕ) (threshold : ℕ) (i : Inlet) → IsTold at c k line i → FindsSo at c k line threshold i
 
 -- ---- ports
 
@@ -63,25 +65,35 @@ PortsBring = (feed : Fed) → next_form feed.clock ≡ Plain → Brings (input_b
 
 -- the interpreter of each AU-4 takes the word that the generator of the AU-4 sent, or ones where the fibre is cut
 abbrev pub SpansTakeWords : Type 0
-SpansTakeWords = (at : Rate) (c : Condition) (input : ℕ → Input) (x : Sending) (i : Inlet) (threshold : ℕ) (l : Lines) (d : Side) (k : ℕ) → IsSpan at c input x i → line_on l d ≡ line_after threshold i → k + 1 ≤ n_of at
-    → TakesWord (slice_index_or i.readings k start) (slice_index_or (after_taking threshold i).readings k start) (received l d (k + 1)) (word_behind (is_cut c) (word_sent (slice_index_or x.generators k None) (input (k + 1)).action (input (k + 1)).value))
+SpansTakeWords =
+    (at : Rate) (c : Condition) (input : ℕ → Input) (x : Sending) (i : Inlet) (threshold : ℕ) (l : Lines) (d : Side) (k : ℕ)
+    → IsSpan at c input x i → line_on l d ≡ line_after threshold i → k + 1 ≤ n_of at
+    → TakesWord (slice_index_or i.readings k start) (slice_index_or (after_taking threshold i).readings k start) (received l d (k + 1))
+    (word_behind (is_cut c) (word_sent (slice_index_or x.generators k None) (input (k + 1)).action (input (k + 1)).value))
 
 -- where the fibre isn't cut, and neither its generator nor the interpreters move, an AU-4 comes as it went in
 abbrev pub SpansBring : Type 0
-SpansBring = (at : Rate) (c : Condition) (input : ℕ → Input) (x : Sending) (i : Inlet) (threshold : ℕ) (l : Lines) (d : Side) (k : ℕ) → IsSpan at c input x i → line_on l d ≡ line_after threshold i → k + 1 ≤ n_of at
-    → is_cut c ≡ false → (after_taking threshold i).readings ≡ i.readings → slice_index_or x.generators k None ≡ next_sending (slice_index_or x.generators k None) (input (k + 1)).action (input (k + 1)).value
+SpansBring =
+    (at : Rate) (c : Condition) (input : ℕ → Input) (x : Sending) (i : Inlet) (threshold : ℕ) (l : Lines) (d : Side) (k : ℕ)
+    → IsSpan at c input x i → line_on l d ≡ line_after threshold i → k + 1 ≤ n_of at
+    → is_cut c ≡ false → (after_taking threshold i).readings ≡ i.readings
+    → slice_index_or x.generators k None ≡ next_sending (slice_index_or x.generators k None) (input (k + 1)).action (input (k + 1)).value
     → (b : Outlet) → HasValue b → Brings (input (k + 1)) b → Brings (received l d (k + 1)) b
 
 -- and where the fibre is cut AIS comes, whatever was sent
 abbrev pub CutSpansBringAis : Type 0
-CutSpansBringAis = (at : Rate) (c : Condition) (w : K) (line : List ℕ) (i : Inlet) (threshold : ℕ) (l : Lines) (d : Side) (k : ℕ) → IsTold at c w line i → line_on l d ≡ line_after threshold i → k + 1 ≤ n_of at
+CutSpansBringAis =
+    (at : Rate) (c : Condition) (w : K) (line : List ℕ) (i : Inlet) (threshold : ℕ) (l : Lines) (d : Side) (k : ℕ) → IsTold at c w line i
+    → line_on l d ≡ line_after threshold i → k + 1 ≤ n_of at
     → is_cut c ≡ true → (after_taking threshold i).readings ≡ i.readings → Brings (received l d (k + 1)) silent
 
 -- ---- one span in many rounds
 
 -- what goes into an AU-4 with one action and one value from round k on leaves its generator in one state
 abbrev pub GeneratorsRest : Type 0
-GeneratorsRest = (went : ℕ → Input) (sending : ℕ → Option ℕ) (k : ℕ) → GoesBy went sending → (c : IsConstant went k) → (j : ℕ) → k + 1 ≤ j → sending j ≡ lasting_state c.does c.value
+GeneratorsRest =
+    (went : ℕ → Input) (sending : ℕ → Option ℕ) (k : ℕ) → GoesBy went sending → (c : IsConstant went k) → (j : ℕ) → k + 1 ≤ j
+    → sending j ≡ lasting_state c.does c.value
 
 -- and nine rounds later the interpreter behind the fibre isn't moved any more, and what comes has one action and one value,
 -- whatever both kept before
@@ -90,4 +102,6 @@ pub record RestsBehind (reading : ℕ → Reading) (came : ℕ → Input) (k : �
   pub comes : IsConstant came (k + 9)
 
 abbrev pub SpansAreSteady : Type 0
-SpansAreSteady = (cut : Bool) (went came : ℕ → Input) (sending : ℕ → Option ℕ) (reading : ℕ → Reading) (k : ℕ) → GoesBy went sending → TakesBehind cut went sending reading came → IsConstant went k → RestsBehind reading came k
+SpansAreSteady =
+    (cut : Bool) (went came : ℕ → Input) (sending : ℕ → Option ℕ) (reading : ℕ → Reading) (k : ℕ) → GoesBy went sending
+    → TakesBehind cut went sending reading came → IsConstant went k → RestsBehind reading came k

@@ -1,5 +1,6 @@
 -- What a side sends in a round, and what a side makes of what comes through a fibre.
-use Rattle.std.specs.Prelude.{ℕ, ◌≡◌, ◌≢◌, ◌+◌, ◌*◌, ◌≤◌, true, false, nat_le, if◌then◌else◌, Some, None, List, length, replicate, slice_index_or}
+use Rattle.std.specs.Prelude.{ℕ, ◌≡◌, ◌≢◌, ◌+◌, ◌*◌, ◌≤◌, true, false, nat_le, if◌then◌else◌, Some, None, List, length, replicate}
+use Rattle.std.specs.Prelude.{slice_index_or}
 use Rattle.sdh_terms.specs.declared.Rate.{Rate}
 use Rattle.sdh_frame.specs.Sizes.{size_of}
 use Rattle.sdh_terms.specs.Rates.{n_of}
@@ -46,9 +47,12 @@ AreFull input = (au : ℕ) → length (input au).au.payload ≡ 2349
 pub record SendsSo (at : Rate) (input : ℕ → Input) (x : Sending) : Type 0 where
   pub says : Says at x.word (line_frame_from input x)
   pub b2 : b2_in (n_of at) (scrambled (9 * n_of at) (line_frame_from input x)) ≡ (placed_after (n_of at) x.section.last).b2
-  pub keeps : (after_sending input x).section.last ≡ Some (parities_of (n_of at) (scrambled (9 * n_of at) (line_frame_from input x)) (line_frame_from input x))
-  pub aus : AreFull input → (k : ℕ) → k + 1 ≤ n_of at → au_of (n_of at) (k + 1) (scrambled (9 * n_of at) (line_frame_from input x)) ≡ au_sent (slice_index_or x.generators k None) (input (k + 1))
-  pub goes : (k : ℕ) → k + 1 ≤ n_of at → slice_index_or (after_sending input x).generators k None ≡ next_sending (slice_index_or x.generators k None) (input (k + 1)).action (input (k + 1)).value
+  pub keeps : (after_sending input x).section.last ≡ Some (parities_of (n_of at) (scrambled (9 * n_of at) (line_frame_from input x))
+      (line_frame_from input x))
+  pub aus : AreFull input → (k : ℕ) → k + 1 ≤ n_of at → au_of (n_of at) (k + 1) (scrambled (9 * n_of at) (line_frame_from input x))
+      ≡ au_sent (slice_index_or x.generators k None) (input (k + 1))
+  pub goes : (k : ℕ) → k + 1 ≤ n_of at → slice_index_or (after_sending input x).generators k None
+      ≡ next_sending (slice_index_or x.generators k None) (input (k + 1)).action (input (k + 1)).value
   -- so it is a side that sends
   pub stays : IsSenderAt at (after_sending input x)
 
@@ -74,11 +78,13 @@ pub record IsTold (at : Rate) (c : Condition) (k : K) (line : List ℕ) (i : Inl
 -- What the side finds, takes in and keeps: it fails exactly where the fibre is cut, and then its frame counts as ones. Else the word
 -- comes, the side is degraded by what B2 of the frame shows it, and each AU-4 comes as it was sent.
 pub record FindsSo (at : Rate) (c : Condition) (k : K) (line : List ℕ) (threshold : ℕ) (i : Inlet) : Type 0 where
-  pub defect : (found threshold i).defect ≡ (if is_cut c then defect.Sf else if nat_le threshold (b2_violations (n_of at) i.section.last (scrambled (9 * n_of at) line)) then defect.Sd else defect.None)
+  pub defect : (found threshold i).defect ≡ (if is_cut c then defect.Sf
+      else if nat_le threshold (b2_violations (n_of at) i.section.last (scrambled (9 * n_of at) line)) then defect.Sd else defect.None)
   pub word : (found threshold i).word ≡ (if is_cut c then None else decoded (first_byte k) (second_byte k))
   pub rate : (taken_in threshold i).frame.rate ≡ at
   pub ones : is_cut c ≡ true → (taken_in threshold i).frame.bytes ≡ replicate (size_of at) 0xFF
-  pub aus : is_cut c ≡ false → (au : ℕ) → 1 ≤ au → au ≤ n_of at → au_of (n_of at) au (taken_in threshold i).frame.bytes ≡ au_of (n_of at) au (scrambled (9 * n_of at) line)
+  pub aus : is_cut c ≡ false → (au : ℕ) → 1 ≤ au → au ≤ n_of at
+      → au_of (n_of at) au (taken_in threshold i).frame.bytes ≡ au_of (n_of at) au (scrambled (9 * n_of at) line)
   pub acts : (taken_in threshold i).actions ≡ actions_in (n_of at) (taken_in threshold i).frame.bytes i.readings
   pub reads : (after_taking threshold i).readings ≡ after_frame (n_of at) (taken_in threshold i).frame.bytes i.readings
   -- a next frame with the parity of this one shows what the fibre did to this one

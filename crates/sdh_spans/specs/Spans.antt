@@ -59,4 +59,6 @@ GoesBy went sending = (j : ℕ) → sending (suc j) ≡ next_sending (sending j)
 
 -- and the interpreter behind the fibre by the word that was sent one round before
 abbrev pub TakesBehind : Bool → (ℕ → Input) → (ℕ → Option ℕ) → (ℕ → Reading) → (ℕ → Input) → Type 0
-TakesBehind cut went sending reading came = (j : ℕ) → TakesWord (reading (suc j)) (reading (suc (suc j))) (came (suc j)) (word_behind cut (word_sent (sending j) (went j).action (went j).value))
+TakesBehind cut went sending reading came =
+    (j : ℕ) → TakesWord (reading (suc j)) (reading (suc (suc j))) (came (suc j))
+    (word_behind cut (word_sent (sending j) (went j).action (went j).value))

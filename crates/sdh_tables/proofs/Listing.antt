@@ -1,5 +1,6 @@
 -- The circuit that a squelch table names in a slot is the one that is there, and lines number by number.
-use Rattle.std.proofs.Common.{map, ◌≡◌, ℕ, suc, ◌+◌, ◌<◌, List, [], ◌∷◌, ◌++◌, length, Bool, true, false, cond, Option, Some, None, refl, ap, sym, ◌∙◌, arith, append-nil, option_map}
+use Rattle.std.proofs.Common.{map, ◌≡◌, ℕ, suc, ◌+◌, ◌<◌, List, [], ◌∷◌, ◌++◌, length, Bool, true, false, cond, Option, Some, None, refl}
+use Rattle.std.proofs.Common.{ap, sym, ◌∙◌, arith, append-nil, option_map}
 use Rattle.std.specs.Prelude.{slice_get, slice_index}
 use Rattle.std.specs.List.{find, flat_map, range_with_len}
 use Rattle.std.specs.Option.{option_map_or}
@@ -73,7 +74,8 @@ module _ (n s m : ℕ) where
         → (later ≡ None → find (is_on n s m) cs ≡ None) → find (is_on n s m) (x ∷ cs) ≡ None
     none_by true on e more = let first = cond-true (is_on n s m x) (Some (entry i x)) later on in cc
     none_by false off e more =
-        cond-false (is_on n s m x) (Some x) (find (is_on n s m) cs) off ∙ more (sym (cond-false (is_on n s m x) (Some (entry i x)) later off) ∙ e)
+        cond-false (is_on n s m x) (Some x) (find (is_on n s m) cs) off
+        ∙ more (sym (cond-false (is_on n s m x) (Some (entry i x)) later off) ∙ e)
 
   names : (i : ℕ) (cs : List Provisioned) (r : Row) → circuit_from n s m i cs ≡ Some r → Names n s m i cs r
   names i [] r e = cc
@@ -93,7 +95,8 @@ record IsThere (n s m : ℕ) (cs : List Provisioned) (j : ℕ) (ends : Pos × Po
   to_is : ends.1 ≡ circuit.to
 
 module _ (n s m : ℕ) (cs : List Provisioned) (j : ℕ) (ends : Pos × Pos) where
-  by_row : (o : Option Row) → circuit_on n cs s m ≡ o → Some j ≡ option_map (λ r. r.circuit) o → Some ends ≡ option_map (λ r. (r.from, r.to)) o → IsThere n s m cs j ends
+  by_row : (o : Option Row) → circuit_on n cs s m ≡ o → Some j ≡ option_map (λ r. r.circuit) o
+      → Some ends ≡ option_map (λ r. (r.from, r.to)) o → IsThere n s m cs j ends
   by_row None e number both = cc
   by_row (Some r) e number both =
       let x = names n s m 0 cs r e in
@@ -120,15 +123,19 @@ module _ (nodes : List ℕ) (cs : List Provisioned) (p : ℕ) (d : Side) (m : �
   line_none : None ≡ option_map (λ r. r.circuit) there → slot_line nodes cs p d m ≡ []
   unfolding slot_line
   line_none none =
-      ap (λ o. option_map_or (line_of nodes p d m) o []) (none_from (length nodes) (span_at (length nodes) p d) m 0 cs (empty_by there refl none))
+      ap (λ o. option_map_or (line_of nodes p d m) o []) (none_from (length nodes) (span_at (length nodes) p d) m 0 cs
+      (empty_by there refl none))
 
   -- the line of the circuit that is there
-  line_some : (j : ℕ) (c : Provisioned) (ends : Pos × Pos) → IsThere (length nodes) (span_at (length nodes) p d) m cs j ends → slice_get cs j ≡ Some c
-      → slot_line nodes cs p d m ≡ table_line (slice_index nodes p) d (record { 0 = m }) c.name (slice_index nodes ends.0.0) (slice_index nodes ends.1.0)
+  line_some : (j : ℕ) (c : Provisioned) (ends : Pos × Pos) → IsThere (length nodes) (span_at (length nodes) p d) m cs j ends
+      → slice_get cs j ≡ Some c
+      → slot_line nodes cs p d m ≡ table_line (slice_index nodes p) d (record { 0 = m }) c.name (slice_index nodes ends.0.0)
+      (slice_index nodes ends.1.0)
   unfolding slot_line
   line_some j c ends is get =
       let same : is.circuit ≡ c = (let x = is.there in cc) in
-      let line : Provisioned → Pos → Pos → List ℕ = λ x from to. table_line (slice_index nodes p) d (record { 0 = m }) x.name (slice_index nodes from.0) (slice_index nodes to.0) in
+      let line : Provisioned → Pos → Pos → List ℕ =
+      λ x from to. table_line (slice_index nodes p) d (record { 0 = m }) x.name (slice_index nodes from.0) (slice_index nodes to.0) in
       ap (λ o. option_map_or (line_of nodes p d m) o []) is.found
       ∙ ap (λ from. line is.circuit from is.circuit.to) (sym is.from_is)
       ∙ ap (λ to. line is.circuit ends.0 to) (sym is.to_is)
@@ -146,7 +153,8 @@ module _ (plan : Planned) (at : Pos) (t : SquelchTable) (same : t ≡ table_of p
   pub no_line : None ≡ option_map (λ r. r.circuit) (row_in t) → slot_line plan.nodes plan.circuits at.0 d m ≡ []
   no_line none = line_none plan.nodes plan.circuits at.0 d m (none ∙ ap (λ x. option_map (λ (r : Row). r.circuit) (row_in x)) same)
 
-  module _ (j : ℕ) (ends : Pos × Pos) (number : Some j ≡ option_map (λ r. r.circuit) (row_in t)) (both : Some ends ≡ option_map (λ r. (r.from, r.to)) (row_in t)) where
+  module _ (j : ℕ) (ends : Pos × Pos) (number : Some j ≡ option_map (λ r. r.circuit) (row_in t))
+      (both : Some ends ≡ option_map (λ r. (r.from, r.to)) (row_in t)) where
     is_there : IsThere n (span_at n at.0 d) m plan.circuits j ends
     is_there =
         by_row n (span_at n at.0 d) m plan.circuits j ends (circuit_on n plan.circuits (span_at n at.0 d) m) refl
@@ -160,11 +168,13 @@ module _ (plan : Planned) (at : Pos) (t : SquelchTable) (same : t ≡ table_of p
     -- and both its ends are positions of the ring
     pub ends_inside : IsProvisioning (provisioning_of plan) → (ends.0.0 < n) × (ends.1.0 < n)
     ends_inside form =
-        row-ends (provisioning_of plan) plan.nodes (circuits_keep_the_ring plan) form j is_there.circuit ends.0 ends.1 is_there.there is_there.from_is is_there.to_is
+        row-ends (provisioning_of plan) plan.nodes
+        (circuits_keep_the_ring plan) form j is_there.circuit ends.0 ends.1 is_there.there is_there.from_is is_there.to_is
 
     -- and it has the line
     pub its_line : (c : Provisioned) → slice_get plan.circuits j ≡ Some c
-        → slot_line plan.nodes plan.circuits at.0 d m ≡ table_line (slice_index plan.nodes at.0) d (record { 0 = m }) c.name (slice_index plan.nodes ends.0.0) (slice_index plan.nodes ends.1.0)
+        → slot_line plan.nodes plan.circuits at.0 d m ≡ table_line (slice_index plan.nodes at.0) d (record { 0 = m }) c.name
+        (slice_index plan.nodes ends.0.0) (slice_index plan.nodes ends.1.0)
     its_line c get = line_some plan.nodes plan.circuits at.0 d m j c ends is_there get
 
 module _ (f : ℕ → List ℕ) (a : ℕ) where

@@ -1,5 +1,6 @@
 -- The ports of circuits at a node: each is found by its name, and what it is is fixed.
-use Rattle.std.proofs.Common.{◌≡◌, ◌≢◌, ℕ, zero, suc, ◌+◌, ◌<◌, ◌≤◌, Bool, true, false, eqb, List, [], ◌∷◌, ◌++◌, length, get_or, map, Option, Some, None, refl, ap, sym, ◌∙◌, subst, arith, inl, inr}
+use Rattle.std.proofs.Common.{◌≡◌, ◌≢◌, ℕ, zero, suc, ◌+◌, ◌<◌, ◌≤◌, Bool, true, false, eqb, List, [], ◌∷◌, ◌++◌, length, get_or, map}
+use Rattle.std.proofs.Common.{Option, Some, None, refl, ap, sym, ◌∙◌, subst, arith, inl, inr}
 use Rattle.std.specs.Prelude.{◌==◌, ◌&&◌, if◌then◌else◌, find, option_map, slice_get, IsSome, All}
 use Rattle.std.specs.Option.{option_map_or}
 use Rattle.std.proofs.lemmas.Bool.{eq-eqb, ne_eqb, cond_both}
@@ -25,29 +26,35 @@ use Rattle.sdh_terminal.specs.Fixed.{FixedPort, fixed_port}
 pub find_head : (id : PortId) (t : Tributary) (ts : List Tributary) → is_port id t ≡ true → find (is_port id) (t ∷ ts) ≡ Some t
 find_head id t ts e = rw e refl
 
-pub find_tail : (id : PortId) (t : Tributary) (ts : List Tributary) → is_port id t ≡ false → find (is_port id) (t ∷ ts) ≡ find (is_port id) ts
+pub find_tail : (id : PortId) (t : Tributary) (ts : List Tributary) → is_port id t ≡ false
+    → find (is_port id) (t ∷ ts) ≡ find (is_port id) ts
 find_tail id t ts e = rw e refl
 
 -- it has the name, and what is true of all ports
-pub found_has : (P : Tributary → Type 0) (id : PortId) (ts : List Tributary) (t : Tributary) → All P ts → port_of id ts ≡ Some t → P t × (is_port id t ≡ true)
+pub found_has : (P : Tributary → Type 0) (id : PortId) (ts : List Tributary) (t : Tributary) → All P ts → port_of id ts ≡ Some t
+    → P t × (is_port id t ≡ true)
 unfolding port_of
 found_has P id [] t all is = absurd (cc)
 found_has P id (u ∷ ts) t all is = by (is_port id u) refl (λ rest. found_has P id ts t (λ k d lt. all (suc k) d (omega arith)) rest)
   where
     by : (b : Bool) → is_port id u ≡ b → (find (is_port id) ts ≡ Some t → P t × (is_port id t ≡ true)) → P t × (is_port id t ≡ true)
-    by true e later = let same : u ≡ t = (let k = sym (find_head id u ts e) ∙ is in cc) in subst (λ x. P x × (is_port id x ≡ true)) same (all 0 u (omega arith), e)
+    by true e later = let same : u ≡ t =
+        (let k = sym (find_head id u ts e) ∙ is in cc) in subst (λ x. P x × (is_port id x ≡ true)) same (all 0 u (omega arith), e)
     by false e later = later (sym (find_tail id u ts e) ∙ is)
 
 -- the same, among what a change made of all
-pub found_one : (P : Tributary → Type 0) (id : PortId) (f : ℕ → Tributary → Tributary) (i : ℕ) (ts : List Tributary) (t : Tributary) → ((k : ℕ) (u : Tributary) → P (f k u)) → find (is_port id) (map_from f i ts) ≡ Some t → P t
+pub found_one : (P : Tributary → Type 0) (id : PortId) (f : ℕ → Tributary → Tributary) (i : ℕ) (ts : List Tributary) (t : Tributary)
+    → ((k : ℕ) (u : Tributary) → P (f k u)) → find (is_port id) (map_from f i ts) ≡ Some t → P t
 found_one P id f i [] t each is = absurd (cc)
 found_one P id f i (u ∷ ts) t each is = by (is_port id (f i u)) refl (λ rest. found_one P id f (i + 1) ts t each rest)
   where
     by : (b : Bool) → is_port id (f i u) ≡ b → (find (is_port id) (map_from f (i + 1) ts) ≡ Some t → P t) → P t
-    by true e later = let same : f i u ≡ t = (let k = sym (find_head id (f i u) (map_from f (i + 1) ts) e) ∙ is in cc) in subst P same (each i u)
+    by true e later = let same : f i u ≡ t =
+        (let k = sym (find_head id (f i u) (map_from f (i + 1) ts) e) ∙ is in cc) in subst P same (each i u)
     by false e later = later (sym (find_tail id (f i u) (map_from f (i + 1) ts) e) ∙ is)
 
-pub twice : (f g : ℕ → Tributary → Tributary) (i : ℕ) (ts : List Tributary) → map_from f i (map_from g i ts) ≡ map_from (λ k t. f k (g k t)) i ts
+pub twice : (f g : ℕ → Tributary → Tributary) (i : ℕ) (ts : List Tributary)
+    → map_from f i (map_from g i ts) ≡ map_from (λ k t. f k (g k t)) i ts
 twice f g i [] = refl
 twice f g i (t ∷ ts) = ap (λ us. f i (g i t) ∷ us) (twice f g (i + 1) ts)
 
@@ -91,17 +98,23 @@ second_of_two id false false x y rest e hx hy = absurd (cc)
 other_end_fails : (i : ℕ) (c : Provisioned) → is_port (port_id i B) (port_new i c A) ≡ false
 other_end_fails i c = let t : eqb i i ≡ true = eq-eqb i i refl in rw t refl
 
-here : (at : Pos) (i : ℕ) (c : Provisioned) (cs : List Provisioned) (e : End) → (end_of c e).0 ≡ at.0 → find (is_port (port_id i e)) (ends_from at i (c ∷ cs)) ≡ Some (port_new i c e)
+here : (at : Pos) (i : ℕ) (c : Provisioned) (cs : List Provisioned) (e : End) → (end_of c e).0 ≡ at.0
+    → find (is_port (port_id i e)) (ends_from at i (c ∷ cs)) ≡ Some (port_new i c e)
 here at i c cs A is =
-    first_of_two (port_id i A) (c.from.0 == at.0) (c.to.0 == at.0) (port_new i c A) (port_new i c B) (ends_from at (i + 1) cs) (eq-eqb c.from.0 at.0 is) (itself i A c)
+    first_of_two (port_id i A) (c.from.0 == at.0) (c.to.0 == at.0) (port_new i c A) (port_new i c B) (ends_from at (i + 1) cs)
+    (eq-eqb c.from.0 at.0 is) (itself i A c)
 here at i c cs B is =
-    second_of_two (port_id i B) (c.from.0 == at.0) (c.to.0 == at.0) (port_new i c A) (port_new i c B) (ends_from at (i + 1) cs) (eq-eqb c.to.0 at.0 is) (other_end_fails i c) (itself i B c)
+    second_of_two (port_id i B) (c.from.0 == at.0) (c.to.0 == at.0) (port_new i c A) (port_new i c B) (ends_from at (i + 1) cs)
+    (eq-eqb c.to.0 at.0 is) (other_end_fails i c) (itself i B c)
 
-there : (at : Pos) (i j : ℕ) (c : Provisioned) (cs : List Provisioned) (e : End) → i ≢ j → find (is_port (port_id j e)) (ends_from at i (c ∷ cs)) ≡ find (is_port (port_id j e)) (ends_from at (i + 1) cs)
+there : (at : Pos) (i j : ℕ) (c : Provisioned) (cs : List Provisioned) (e : End) → i ≢ j
+    → find (is_port (port_id j e)) (ends_from at i (c ∷ cs)) ≡ find (is_port (port_id j e)) (ends_from at (i + 1) cs)
 there at i j c cs e apart =
-    skipped (port_id j e) (c.from.0 == at.0) (c.to.0 == at.0) (port_new i c A) (port_new i c B) (ends_from at (i + 1) cs) (other_number i j e A c apart) (other_number i j e B c apart)
+    skipped (port_id j e) (c.from.0 == at.0) (c.to.0 == at.0) (port_new i c A) (port_new i c B) (ends_from at (i + 1) cs)
+    (other_number i j e A c apart) (other_number i j e B c apart)
 
-among : (at : Pos) (cs : List Provisioned) (i j : ℕ) (c : Provisioned) (e : End) → slice_get cs j ≡ Some c → (end_of c e).0 ≡ at.0 → find (is_port (port_id (i + j) e)) (ends_from at i cs) ≡ Some (port_new (i + j) c e)
+among : (at : Pos) (cs : List Provisioned) (i j : ℕ) (c : Provisioned) (e : End) → slice_get cs j ≡ Some c → (end_of c e).0 ≡ at.0
+    → find (is_port (port_id (i + j) e)) (ends_from at i cs) ≡ Some (port_new (i + j) c e)
 among at [] i j c e get is = absurd (cc)
 among at (x ∷ cs) i zero c e get is =
     let same : x ≡ c = cc in
@@ -124,7 +137,8 @@ find_through : {X Y : Type 0} (p : Y → Bool) (f : X → Y) (xs : List X) → f
 find_through p f [] = refl
 find_through p f (x ∷ xs) = by (p (f x)) refl (find_through p f xs)
   where
-    by : (b : Bool) → p (f x) ≡ b → find p (map f xs) ≡ option_map f (find (λ x. p (f x)) xs) → find p (f x ∷ map f xs) ≡ option_map f (find (λ x. p (f x)) (x ∷ xs))
+    by : (b : Bool) → p (f x) ≡ b → find p (map f xs) ≡ option_map f (find (λ x. p (f x)) xs)
+        → find p (f x ∷ map f xs) ≡ option_map f (find (λ x. p (f x)) (x ∷ xs))
     by true e rest = rw e refl
     by false e rest = rw e rest
 
@@ -144,7 +158,8 @@ pub record IsPortOf (c : Provisioned) (e : End) (found : Option Tributary) : Typ
   pub slot : it.slot ≡ c.slot
   pub sender : it.feed.port ≡ customer_at c e
 
-from_fixed : (index : ℕ) (c : Provisioned) (e : End) (found : Option Tributary) → option_map fixed_port found ≡ Some (fixed_port (port_new index c e)) → IsPortOf c e found
+from_fixed : (index : ℕ) (c : Provisioned) (e : End) (found : Option Tributary)
+    → option_map fixed_port found ≡ Some (fixed_port (port_new index c e)) → IsPortOf c e found
 from_fixed index c e None is = absurd (cc)
 from_fixed index c e (Some t) is =
     let same : fixed_port t ≡ fixed_port (port_new index c e) = cc in
@@ -156,7 +171,8 @@ from_fixed index c e (Some t) is =
       sender = ap (λ (x : FixedPort). x.customer) same;
     }
 
-pub port-found : (cs : List Provisioned) (ports : List Tributary) (index : ℕ) (c : Provisioned) (e : End) → slice_get cs index ≡ Some c → map fixed_port ports ≡ map fixed_port (tributaries_at (position_of ((end_of c e).0)) cs)
+pub port-found : (cs : List Provisioned) (ports : List Tributary) (index : ℕ) (c : Provisioned) (e : End) → slice_get cs index ≡ Some c
+    → map fixed_port ports ≡ map fixed_port (tributaries_at (position_of ((end_of c e).0)) cs)
     → IsPortOf c e (port_of (port_id index e) ports)
 unfolding port_of tributaries_at
 port-found cs ports index c e get same =
@@ -171,12 +187,15 @@ port-found cs ports index c e get same =
 
 -- ---- what stays fixed, and what holds of new ports
 
-pub ports_mapped : (f : ℕ → Tributary → Tributary) (i : ℕ) (ts : List Tributary) → ((k : ℕ) (t : Tributary) → fixed_port (f k t) ≡ fixed_port t) → map fixed_port (map_from f i ts) ≡ map fixed_port ts
+pub ports_mapped : (f : ℕ → Tributary → Tributary) (i : ℕ) (ts : List Tributary)
+    → ((k : ℕ) (t : Tributary) → fixed_port (f k t) ≡ fixed_port t) → map fixed_port (map_from f i ts) ≡ map fixed_port ts
 ports_mapped f i [] same = refl
-ports_mapped f i (t ∷ ts) same = ap (λ p. p ∷ map fixed_port (map_from f (i + 1) ts)) (same i t) ∙ ap (λ ps. fixed_port t ∷ ps) (ports_mapped f (i + 1) ts same)
+ports_mapped f i (t ∷ ts) same =
+    ap (λ p. p ∷ map fixed_port (map_from f (i + 1) ts)) (same i t) ∙ ap (λ ps. fixed_port t ∷ ps) (ports_mapped f (i + 1) ts same)
 
 -- of new ports
-pub new_ports : (P : Tributary → Type 0) → ((i : ℕ) (e : End) (d : Side) (s : Slot) (c : Customer) → P (new_tributary i e d s c)) → (at : Pos) (i : ℕ) (cs : List Provisioned) → All P (ends_from at i cs)
+pub new_ports : (P : Tributary → Type 0) → ((i : ℕ) (e : End) (d : Side) (s : Slot) (c : Customer) → P (new_tributary i e d s c))
+    → (at : Pos) (i : ℕ) (cs : List Provisioned) → All P (ends_from at i cs)
 new_ports P each at i [] = All-nil P
 new_ports P each at i (c ∷ cs) =
     let a = new_tributary i A East c.slot c.a in
@@ -209,7 +228,8 @@ found-right p (x ∷ xs) ys h = go (p x) refl (found-right p xs ys h)
     go false e rest = rw e rest
 
 -- the port of a circuit is at its end
-own_here : (at : Pos) (k n : ℕ) (c : Provisioned) (e : End) → k ≡ n → (end_of c e).0 ≡ at.0 → IsSome (find (is_port (record { circuit = n; end = e })) (ends_at at k c))
+own_here : (at : Pos) (k n : ℕ) (c : Provisioned) (e : End) → k ≡ n → (end_of c e).0 ≡ at.0
+    → IsSome (find (is_port (record { circuit = n; end = e })) (ends_at at k c))
 own_here at k n c A same there =
     let t : (c.from.0 == at.0) ≡ true = grind (arith, nat_tests) in
     let u : (k == n) ≡ true = grind (arith, nat_tests) in
@@ -217,10 +237,12 @@ own_here at k n c A same there =
 own_here at k n c B same there =
     let t : (c.to.0 == at.0) ≡ true = grind (arith, nat_tests) in
     let u : (k == n) ≡ true = grind (arith, nat_tests) in
-    found-right (is_port (record { circuit = n; end = B })) (if c.from.0 == at.0 then new_tributary k A East c.slot c.a ∷ [] else []) (if c.to.0 == at.0 then new_tributary k B West c.slot c.b ∷ [] else [])
+    found-right (is_port (record { circuit = n; end = B })) (if c.from.0 == at.0 then new_tributary k A East c.slot c.a ∷ [] else [])
+    (if c.to.0 == at.0 then new_tributary k B West c.slot c.b ∷ [] else [])
     (rw t (rw u refl))
 
-own_from : (at : Pos) (k i n : ℕ) (cs : List Provisioned) (c : Provisioned) (e : End) → i < length cs → get_or cs i c ≡ c → k + i ≡ n → (end_of c e).0 ≡ at.0 → IsSome (find (is_port (record { circuit = n; end = e })) (ends_from at k cs))
+own_from : (at : Pos) (k i n : ℕ) (cs : List Provisioned) (c : Provisioned) (e : End) → i < length cs → get_or cs i c ≡ c → k + i ≡ n
+    → (end_of c e).0 ≡ at.0 → IsSome (find (is_port (record { circuit = n; end = e })) (ends_from at k cs))
 own_from at k i n [] c e h read same there = absurd (omega arith)
 own_from at k zero n (x ∷ cs) c e h read same there =
     found-left (is_port (record { circuit = n; end = e })) (ends_at at k x) (ends_from at (k + 1) cs)
@@ -230,6 +252,7 @@ own_from at k (suc i) n (x ∷ cs) c e h read same there =
     (own_from at (k + 1) i n cs c e (omega arith) read (omega arith) there)
 
 -- each port of a circuit is among the ports at its position
-pub has_own : (cs : List Provisioned) (c : Provisioned) (id : PortId) → id.circuit < length cs → get_or cs id.circuit c ≡ c → HasPort (tributaries_at (position_of (end_of c id.end).0) cs) id
+pub has_own : (cs : List Provisioned) (c : Provisioned) (id : PortId) → id.circuit < length cs → get_or cs id.circuit c ≡ c
+    → HasPort (tributaries_at (position_of (end_of c id.end).0) cs) id
 unfolding tributaries_at port_of
 has_own cs c id h read = own_from (position_of (end_of c id.end).0) 0 id.circuit id.circuit cs c id.end h read (omega arith) refl

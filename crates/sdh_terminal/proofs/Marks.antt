@@ -13,11 +13,13 @@ use Rattle.sdh_terminal.specs.Passing.{Input, states_of, after_inputs}
 
 -- ---- lists
 
-pub map-map_from : {X Y Z : Type 0} (g : Y → Z) (f : ℕ → X → Y) (i : ℕ) (xs : List X) → map g (map_from f i xs) ≡ map_from (λ k x. g (f k x)) i xs
+pub map-map_from : {X Y Z : Type 0} (g : Y → Z) (f : ℕ → X → Y) (i : ℕ) (xs : List X)
+    → map g (map_from f i xs) ≡ map_from (λ k x. g (f k x)) i xs
 map-map_from g f i [] = refl
 map-map_from g f i (x ∷ xs) = ap (λ r. g (f i x) ∷ r) (map-map_from g f (i + 1) xs)
 
-pub map_from-map : {X Y Z : Type 0} (f : ℕ → Y → Z) (g : X → Y) (i : ℕ) (xs : List X) → map_from f i (map g xs) ≡ map_from (λ k x. f k (g x)) i xs
+pub map_from-map : {X Y Z : Type 0} (f : ℕ → Y → Z) (g : X → Y) (i : ℕ) (xs : List X)
+    → map_from f i (map g xs) ≡ map_from (λ k x. f k (g x)) i xs
 map_from-map f g i [] = refl
 map_from-map f g i (x ∷ xs) = ap (λ r. f i (g x) ∷ r) (map_from-map f g (i + 1) xs)
 
@@ -33,7 +35,8 @@ module _ (w : ℕ → ℕ) where
   abbrev stepped : ℕ → List Interpreter → List Interpreter
   stepped i xs = map_from (λ k (x : Interpreter). after_step x (w k)) i xs
 
-  pub unmoved-interpreters : (i : ℕ) (xs : List Interpreter) → not (list_any (λ (x : Interpreter). x.moved) (stepped i xs)) ≡ same_readings (readings_of (stepped i xs)) (readings_of xs)
+  pub unmoved-interpreters : (i : ℕ) (xs : List Interpreter)
+      → not (list_any (λ (x : Interpreter). x.moved) (stepped i xs)) ≡ same_readings (readings_of (stepped i xs)) (readings_of xs)
   unfolding after_step
   unmoved-interpreters i [] = refl
   unmoved-interpreters i (x ∷ xs) =
@@ -42,7 +45,9 @@ module _ (w : ℕ → ℕ) where
 
   pub readings-stepped : (xs : List Interpreter) → readings_of (stepped 0 xs) ≡ map_from (λ k r. after_word r (w k)) 0 (readings_of xs)
   unfolding after_step
-  readings-stepped xs = map-map_from (λ (x : Interpreter). x.reading) (λ k (x : Interpreter). after_step x (w k)) 0 xs ∙ sym (map_from-map (λ k r. after_word r (w k)) (λ (x : Interpreter). x.reading) 0 xs)
+  readings-stepped xs =
+      map-map_from (λ (x : Interpreter). x.reading) (λ k (x : Interpreter). after_step x (w k)) 0 xs
+      ∙ sym (map_from-map (λ k r. after_word r (w k)) (λ (x : Interpreter). x.reading) 0 xs)
 
 -- ---- generators
 
@@ -50,7 +55,8 @@ module _ (input : ℕ → Input) where
   abbrev sent : ℕ → List Generator → List Generator
   sent i xs = map_from (λ k (g : Generator). after_action g (input (k + 1)).action (input (k + 1)).value) i xs
 
-  pub unmoved-generators : (i : ℕ) (xs : List Generator) → not (list_any (λ (x : Generator). x.moved) (sent i xs)) ≡ same_generators (states_of (sent i xs)) (states_of xs)
+  pub unmoved-generators : (i : ℕ) (xs : List Generator) → not (list_any (λ (x : Generator). x.moved) (sent i xs))
+      ≡ same_generators (states_of (sent i xs)) (states_of xs)
   unfolding after_action
   unmoved-generators i [] = refl
   unmoved-generators i (x ∷ xs) =

@@ -1,5 +1,6 @@
 -- The places of ports stay the same, and are those of the ring's circuits.
-use Rattle.std.proofs.Common.{◌≡◌, ℕ, suc, ◌+◌, ◌*◌, ◌/◌, ◌%◌, ◌<◌, ◌≤◌, Bool, false, nat_lt, None, Option, List, [], ◌∷◌, length, get_or, inl, inr, refl, ap, sym, ◌∙◌, arith}
+use Rattle.std.proofs.Common.{◌≡◌, ℕ, suc, ◌+◌, ◌*◌, ◌/◌, ◌%◌, ◌<◌, ◌≤◌, Bool, false, nat_lt, None, Option, List, [], ◌∷◌, length, get_or}
+use Rattle.std.proofs.Common.{inl, inr, refl, ap, sym, ◌∙◌, arith}
 use Rattle.std.specs.Prelude.{◌==◌, if◌then◌else◌, All}
 use Rattle.std.specs.List.{position, position_or_len}
 use Rattle.std.proofs.lemmas.Bool.{cases_lt, cond_both, ne_eqb}
@@ -15,23 +16,27 @@ use Rattle.sdh_circuits.specs.Provisioned.{Provisioned}
 use Rattle.sdh_circuits.specs.declared.End.{End}
 use Rattle.sdh_circuits.specs.declared.End.TheVariants.{A, B}
 use Rattle.sdh_circuits.specs.declared.PortId.{PortId}
-use Rattle.sdh_terminal.specs.Tributaries.{Tributary, new_tributary, ends_at, ends_from, tributaries_at, is_port, fed, all_fed, delivered_with, all_delivered_with}
+use Rattle.sdh_terminal.specs.Tributaries.{Tributary, new_tributary, ends_at, ends_from, tributaries_at, is_port, fed, all_fed}
+use Rattle.sdh_terminal.specs.Tributaries.{delivered_with, all_delivered_with}
 use Rattle.sdh_terminal.specs.Passing.{Input}
 use Rattle.sdh_terminal.specs.Places.{number_at, number_of, port_numbered, ArePlaces}
 
-first-mapped : (p : Tributary → Bool) (f : ℕ → Tributary → Tributary) → ((k : ℕ) (t : Tributary) → p (f k t) ≡ p t) → (i : ℕ) (ts : List Tributary) → position_or_len p (map_from f i ts) ≡ position_or_len p ts
+first-mapped : (p : Tributary → Bool) (f : ℕ → Tributary → Tributary) → ((k : ℕ) (t : Tributary) → p (f k t) ≡ p t)
+    → (i : ℕ) (ts : List Tributary) → position_or_len p (map_from f i ts) ≡ position_or_len p ts
 first-mapped p f same i [] = refl
 first-mapped p f same i (t ∷ ts) = rw (same i t, first-mapped p f same (i + 1) ts) refl
 
 -- a change that leaves the names leaves the places
-place-mapped : (p : Tributary → Bool) (f : ℕ → Tributary → Tributary) → ((k : ℕ) (t : Tributary) → p (f k t) ≡ p t) → (ts : List Tributary) → position p (map_from f 0 ts) ≡ position p ts
+place-mapped : (p : Tributary → Bool) (f : ℕ → Tributary → Tributary) → ((k : ℕ) (t : Tributary) → p (f k t) ≡ p t) → (ts : List Tributary)
+    → position p (map_from f 0 ts) ≡ position p ts
 place-mapped p f same ts = rw (first-mapped p f same 0 ts, length-map_from f 0 ts) refl
 
 pub fed_stay : (places : List (Option ℕ)) (ports : List Tributary) → ArePlaces places ports → ArePlaces places (all_fed ports)
 unfolding all_fed
 fed_stay places ports are = λ id. are id ∙ sym (place-mapped (is_port id) (λ i t. fed t) (λ k t. refl) ports)
 
-pub delivered_stay : (x : Tributary → Input) (places : List (Option ℕ)) (ports : List Tributary) → ArePlaces places ports → ArePlaces places (all_delivered_with x ports)
+pub delivered_stay : (x : Tributary → Input) (places : List (Option ℕ)) (ports : List Tributary) → ArePlaces places ports
+    → ArePlaces places (all_delivered_with x ports)
 delivered_stay x places ports are = λ id. are id ∙ sym (place-mapped (is_port id) (λ i t. delivered_with x t) (λ k t. refl) ports)
 
 -- ---- the places of a new node's ports
@@ -51,7 +56,8 @@ numbered-back id = go id.circuit id.end
 
 first-none : (p : Tributary → Bool) (ts : List Tributary) → All (λ t. p t ≡ false) ts → position_or_len p ts ≡ length ts
 first-none p [] all = refl
-first-none p (t ∷ ts) all = let here : p t ≡ false = all 0 t (omega arith) in let rest = first-none p ts (λ k d lt. all (suc k) d (omega arith)) in rw here (omega (arith, rest))
+first-none p (t ∷ ts) all = let here : p t ≡ false = all 0 t (omega arith) in let rest =
+    first-none p ts (λ k d lt. all (suc k) d (omega arith)) in rw here (omega (arith, rest))
 
 none-there : (p : Tributary → Bool) (ts : List Tributary) → All (λ t. p t ≡ false) ts → position p ts ≡ None
 none-there p ts all =
@@ -75,15 +81,19 @@ below at i (c ∷ cs) =
 other : (id : PortId) (t : Tributary) → t.port.circuit < id.circuit → is_port id t ≡ false
 other id t h = let apart : (t.port.circuit == id.circuit) ≡ false = ne_eqb t.port.circuit id.circuit (λ e. omega arith) in rw apart refl
 
-beyond : (at : Pos) (circuits : List Provisioned) (id : PortId) → length circuits ≤ id.circuit → position (is_port id) (tributaries_at at circuits) ≡ None
+beyond : (at : Pos) (circuits : List Provisioned) (id : PortId) → length circuits ≤ id.circuit
+    → position (is_port id) (tributaries_at at circuits) ≡ None
 unfolding tributaries_at
-beyond at circuits id h = none-there (is_port id) (ends_from at 0 circuits) (λ k d lt. other id (get_or (ends_from at 0 circuits) k d) (omega (arith, below at 0 circuits k d lt)))
+beyond at circuits id h =
+    none-there (is_port id) (ends_from at 0 circuits) (λ k d lt. other id (get_or (ends_from at 0 circuits) k d)
+    (omega (arith, below at 0 circuits k d lt)))
 
 few : (e : End) → number_at e ≤ 1
 few A = omega arith
 few B = omega arith
 
-pub new_places : (at : Pos) (circuits : List Provisioned) (ports : List Tributary) (places : List (Option ℕ)) → ports ≡ tributaries_at at circuits
+pub new_places : (at : Pos) (circuits : List Provisioned) (ports : List Tributary) (places : List (Option ℕ))
+    → ports ≡ tributaries_at at circuits
     → places ≡ cells (λ k. position (is_port (port_numbered k)) ports) (2 * length circuits) → ArePlaces places ports
 new_places at circuits ports places is made = λ id.
     (let f : ℕ → Option ℕ = λ k. position (is_port (port_numbered k)) ports in

@@ -1,5 +1,6 @@
 -- Ports at a node.
-use Rattle.std.proofs.Common.{◌≡◌, ℕ, zero, suc, ◌+◌, ◌<◌, ◌≤◌, Bool, true, false, cond, nat_lt, Some, None, List, [], ◌∷◌, ◌++◌, length, take, drop, get_or, inl, inr, refl, ap, sym, subst, ◌∙◌, arith, append_assoc}
+use Rattle.std.proofs.Common.{◌≡◌, ℕ, zero, suc, ◌+◌, ◌<◌, ◌≤◌, Bool, true, false, cond, nat_lt, Some, None, List, [], ◌∷◌, ◌++◌, length}
+use Rattle.std.proofs.Common.{take, drop, get_or, inl, inr, refl, ap, sym, subst, ◌∙◌, arith, append_assoc}
 use Rattle.std.specs.Prelude.{◌^◌, ◌==◌, if◌then◌else◌, All, find, slice_get}
 use Rattle.std.specs.List.{position, position_or_len}
 use Rattle.std.proofs.lemmas.Bool.{cases_lt, cond_both}
@@ -34,7 +35,9 @@ use Rattle.sdh_circuits.specs.Provisioning.{Provisioning, IsProvisioning, IsInSl
 use Rattle.sdh_pointer.specs.declared.word.Form.{Form}
 use Rattle.std.specs.Option.{option_map_or}
 use Rattle.sdh_terminal.specs.Passing.{Input, h3_of, au_with, au_for, no_input}
-use Rattle.sdh_terminal.specs.Tributaries.{Tributary, new_tributary, ends_at, ends_from, tributaries_at, is_port, port_of, sent_in, input_by, added_by, own_input, added_last, action_of, last_sent, sent_by, fed, all_fed, delivered_with, all_delivered_with, IsTributary, IsFed}
+use Rattle.sdh_terminal.specs.Tributaries.{Tributary, new_tributary, ends_at, ends_from, tributaries_at, is_port, port_of, sent_in}
+use Rattle.sdh_terminal.specs.Tributaries.{input_by, added_by, own_input, added_last, action_of, last_sent, sent_by, fed, all_fed}
+use Rattle.sdh_terminal.specs.Tributaries.{delivered_with, all_delivered_with, IsTributary, IsFed}
 
 -- ---- the search for a port
 
@@ -71,9 +74,11 @@ find-first p (x ∷ xs) (suc i) d lt hit before =
     let head : p x ≡ false = before 0 (omega arith) in
     rw head (find-first p xs i d (omega arith) hit (λ k low. before (suc k) (omega arith)))
 
-pub port_found : (id : PortId) (ports : List Tributary) (i : ℕ) (x : Tributary) → position (is_port id) ports ≡ Some i → x ≡ get_or ports i x → port_of id ports ≡ Some x
+pub port_found : (id : PortId) (ports : List Tributary) (i : ℕ) (x : Tributary) → position (is_port id) ports ≡ Some i
+    → x ≡ get_or ports i x → port_of id ports ≡ Some x
 unfolding port_of
-port_found id ports i x place read = let h = position-Some (is_port id) ports i x place in find-first (is_port id) ports i x h.0 h.1 h.2 ∙ ap Some (sym read)
+port_found id ports i x place read = let h =
+    position-Some (is_port id) ports i x place in find-first (is_port id) ports i x h.0 h.1 h.2 ∙ ap Some (sym read)
 
 pub port_missing : (id : PortId) (ports : List Tributary) → position (is_port id) ports ≡ None → port_of id ports ≡ None
 unfolding port_of
@@ -86,28 +91,36 @@ place_within id (t ∷ ts) i e = (position-Some (is_port id) (t ∷ ts) i t e).0
 -- ---- what ports send
 
 -- a port is found in a list of changed ports, where the change is none of its name
-found-mapped : {Y : Type 0} (p : Tributary → Bool) (f : ℕ → Tributary → Tributary) (g h : Tributary → Y) (d : Y) → ((k : ℕ) (t : Tributary) → p (f k t) ≡ p t) → ((k : ℕ) (t : Tributary) → g (f k t) ≡ h t)
+found-mapped : {Y : Type 0} (p : Tributary → Bool) (f : ℕ → Tributary → Tributary) (g h : Tributary → Y) (d : Y)
+    → ((k : ℕ) (t : Tributary) → p (f k t) ≡ p t) → ((k : ℕ) (t : Tributary) → g (f k t) ≡ h t)
     → (i : ℕ) (ts : List Tributary) → option_map_or g (find p (map_from f i ts)) d ≡ option_map_or h (find p ts) d
 found-mapped p f g h d same is i [] = refl
 found-mapped p f g h d same is i (t ∷ ts) = go (p t) refl (found-mapped p f g h d same is (i + 1) ts)
   where
-    go : (b : Bool) → p t ≡ b → option_map_or g (find p (map_from f (i + 1) ts)) d ≡ option_map_or h (find p ts) d → option_map_or g (find p (map_from f i (t ∷ ts))) d ≡ option_map_or h (find p (t ∷ ts)) d
+    go : (b : Bool) → p t ≡ b → option_map_or g (find p (map_from f (i + 1) ts)) d ≡ option_map_or h (find p ts) d
+        → option_map_or g (find p (map_from f i (t ∷ ts))) d ≡ option_map_or h (find p (t ∷ ts)) d
     go true e rest = let here : p (f i t) ≡ true = same i t ∙ e in rw (here, e) (is i t)
     go false e rest = let here : p (f i t) ≡ false = same i t ∙ e in rw (here, e) rest
 
-holds_id : (x : Tributary → Input) (ports : List Tributary) (id : PortId) → added_last (all_fed (all_delivered_with x ports)) id ≡ added_by ports id
+holds_id : (x : Tributary → Input) (ports : List Tributary) (id : PortId)
+    → added_last (all_fed (all_delivered_with x ports)) id ≡ added_by ports id
 unfolding all_fed port_of
 holds_id x ports id =
-    found-mapped (is_port id) (λ i t. fed t) own_input (λ t. input_by (sent_in t.feed)) no_input (λ k t. refl) (λ k t. refl) 0 (map_from (λ i t. delivered_with x t) 0 ports)
-    ∙ found-mapped (is_port id) (λ i t. delivered_with x t) (λ t. input_by (sent_in t.feed)) (λ t. input_by (sent_in t.feed)) no_input (λ k t. refl) (λ k t. refl) 0 ports
+    found-mapped (is_port id) (λ i t. fed t) own_input (λ t. input_by (sent_in t.feed)) no_input (λ k t. refl) (λ k t. refl) 0
+    (map_from (λ i t. delivered_with x t) 0 ports)
+    ∙ found-mapped (is_port id) (λ i t. delivered_with x t) (λ t. input_by (sent_in t.feed)) (λ t. input_by (sent_in t.feed)) no_input
+    (λ k t. refl) (λ k t. refl) 0 ports
 
 -- the clock of a port goes on
 pub clock-next : (x : Tributary → Input) (id : PortId) (ports : List Tributary)
-    → option_map_or (λ (t : Tributary). Some t.feed.clock) (port_of id (all_fed (all_delivered_with x ports))) None ≡ option_map_or (λ (t : Tributary). Some (ticked t.feed.clock)) (port_of id ports) None
+    → option_map_or (λ (t : Tributary). Some t.feed.clock) (port_of id (all_fed (all_delivered_with x ports))) None
+    ≡ option_map_or (λ (t : Tributary). Some (ticked t.feed.clock)) (port_of id ports) None
 unfolding all_fed port_of
 clock-next x id ports =
-    found-mapped (is_port id) (λ i t. fed t) (λ (t : Tributary). Some t.feed.clock) (λ (t : Tributary). Some (ticked t.feed.clock)) None (λ k t. refl) (λ k t. refl) 0 (map_from (λ i t. delivered_with x t) 0 ports)
-    ∙ found-mapped (is_port id) (λ i t. delivered_with x t) (λ (t : Tributary). Some (ticked t.feed.clock)) (λ (t : Tributary). Some (ticked t.feed.clock)) None (λ k t. refl) (λ k t. refl) 0 ports
+    found-mapped (is_port id) (λ i t. fed t) (λ (t : Tributary). Some t.feed.clock) (λ (t : Tributary). Some (ticked t.feed.clock)) None
+    (λ k t. refl) (λ k t. refl) 0 (map_from (λ i t. delivered_with x t) 0 ports)
+    ∙ found-mapped (is_port id) (λ i t. delivered_with x t) (λ (t : Tributary). Some (ticked t.feed.clock))
+    (λ (t : Tributary). Some (ticked t.feed.clock)) None (λ k t. refl) (λ k t. refl) 0 ports
 
 -- ports that have taken the chunk of the round hold what they add in it
 abbrev pub Adds : List Tributary → List Tributary → Type 0
@@ -123,7 +136,8 @@ sent_from Plain c = omega arith
 sent_from Short c = omega arith
 sent_from Long c = omega arith
 
-pub fed_kept : (old : Fed) (form : ChunkForm) (bytes payload h3 : List ℕ) → form ≡ next_form old.clock → bytes ≡ stream_from old.port old.clock.sent (taken_len form)
+pub fed_kept : (old : Fed) (form : ChunkForm) (bytes payload h3 : List ℕ) → form ≡ next_form old.clock
+    → bytes ≡ stream_from old.port old.clock.sent (taken_len form)
     → payload ≡ laid form bytes → h3 ≡ laid_h3 form bytes → length payload ≡ 2349 → IsFed (next_feed old) payload h3
 unfolding sent_by ticked
 fed_kept old form bytes payload h3 is are lay three full =
@@ -134,7 +148,8 @@ fed_kept old form bytes payload h3 is are lay three full =
     record { full = full; payload_is = lay ∙ sym (λ j. laid (f j) (sent j)); h3_is = three ∙ sym (λ j. laid_h3 (f j) (sent j)) }
 
 -- slips that wait change nothing of it
-pub slipped_kept : (feed : Fed) (turn : Turn) (count : ℕ) (payload h3 : List ℕ) → IsFed feed payload h3 → IsFed (record feed { clock = waits turn count feed.clock }) payload h3
+pub slipped_kept : (feed : Fed) (turn : Turn) (count : ℕ) (payload h3 : List ℕ) → IsFed feed payload h3
+    → IsFed (record feed { clock = waits turn count feed.clock }) payload h3
 unfolding sent_by
 slipped_kept feed Up count payload h3 h = record { full = h.full; payload_is = h.payload_is; h3_is = h.h3_is }
 slipped_kept feed Down count payload h3 h = record { full = h.full; payload_is = h.payload_is; h3_is = h.h3_is }
@@ -152,7 +167,8 @@ three_bytes Long bytes len = length-take-le 3 (drop 783 bytes) (omega (arith, le
 
 pub own_three : (feed : Fed) → length (sent_by feed).h3 ≡ 3
 unfolding sent_by
-own_three feed = three_bytes feed.clock.form (last_sent feed) (length-stream_from feed.port (last_from feed.clock) (taken_len feed.clock.form))
+own_three feed =
+    three_bytes feed.clock.form (last_sent feed) (length-stream_from feed.port (last_from feed.clock) (taken_len feed.clock.form))
 
 pub own_h3 : (h3 : List ℕ) → length h3 ≡ 3 → h3 ≡ h3_of (0 ∷ 0 ∷ 0 ∷ 0 ∷ 0 ∷ 0 ∷ h3)
 own_h3 [] len = absurd (omega (arith, len))
@@ -163,32 +179,51 @@ own_h3 (a ∷ b ∷ c ∷ d ∷ more) len = absurd (omega (arith, len))
 
 -- ---- what is true of each port
 
-placed_all : (P Q : Tributary → Type 0) (f : ℕ → Tributary → Tributary) (xs : List Tributary) → ((k : ℕ) (x : Tributary) → P x → Q (f k x)) → All P xs → All Q (map_from f 0 xs)
-placed_all P Q f xs h all = λ k d lt. (let below : k < length xs = omega (arith, length-map_from f 0 xs) in subst Q (sym (get_or-placed f xs k d d below)) (h k (get_or xs k d) (all k d below)))
+placed_all : (P Q : Tributary → Type 0) (f : ℕ → Tributary → Tributary) (xs : List Tributary) → ((k : ℕ) (x : Tributary) → P x → Q (f k x))
+    → All P xs → All Q (map_from f 0 xs)
+placed_all P Q f xs h all =
+    λ k d lt. (let below : k < length xs = omega (arith, length-map_from f 0 xs) in subst Q (sym (get_or-placed f xs k d d below))
+    (h k (get_or xs k d) (all k d below)))
 
-pub in_slots : (slots rounds : ℕ) (ports : List Tributary) → All (IsTributary slots rounds) ports → All (λ t. (1 ≤ t.slot.0) × (t.slot.0 ≤ slots)) ports
+pub in_slots : (slots rounds : ℕ) (ports : List Tributary) → All (IsTributary slots rounds) ports
+    → All (λ t. (1 ≤ t.slot.0) × (t.slot.0 ≤ slots)) ports
 in_slots slots rounds ports all = λ k d lt. ((all k d lt).first, (all k d lt).last)
 
-pub few_rounds : (slots rounds : ℕ) (ports : List Tributary) → rounds < 2 ^ 32 → All (IsTributary slots rounds) ports → All (λ t. t.feed.clock.rounds < 2 ^ 32) ports
+pub few_rounds : (slots rounds : ℕ) (ports : List Tributary) → rounds < 2 ^ 32 → All (IsTributary slots rounds) ports
+    → All (λ t. t.feed.clock.rounds < 2 ^ 32) ports
 few_rounds slots rounds ports few all = λ k d lt. omega (arith, (all k d lt).clock.rounds_are)
 
-pub delivered_are : (x : Tributary → Input) (slots rounds : ℕ) (ports : List Tributary) → All (IsTributary slots rounds) ports → All (IsTributary slots rounds) (all_delivered_with x ports)
-delivered_are x slots rounds ports all = placed_all (IsTributary slots rounds) (IsTributary slots rounds) (λ i t. delivered_with x t) ports (λ k t h. record { first = h.first; last = h.last; offset = h.offset; clock = h.clock; few = h.few }) all
+pub delivered_are : (x : Tributary → Input) (slots rounds : ℕ) (ports : List Tributary) → All (IsTributary slots rounds) ports
+    → All (IsTributary slots rounds) (all_delivered_with x ports)
+delivered_are x slots rounds ports all =
+    placed_all (IsTributary slots rounds) (IsTributary slots rounds) (λ i t. delivered_with x t) ports
+    (λ k t h. record { first = h.first; last = h.last; offset = h.offset; clock = h.clock; few = h.few }) all
 
-pub fed_are : (slots rounds : ℕ) (ports : List Tributary) → All (IsTributary slots rounds) ports → All (IsTributary slots (rounds + 1)) (all_fed ports)
+pub fed_are : (slots rounds : ℕ) (ports : List Tributary) → All (IsTributary slots rounds) ports
+    → All (IsTributary slots (rounds + 1)) (all_fed ports)
 unfolding all_fed
-fed_are slots rounds ports all = placed_all (IsTributary slots rounds) (IsTributary slots (rounds + 1)) (λ i t. fed t) ports (λ k t h. record { first = h.first; last = h.last; offset = h.offset; clock = next_clock _ _ t.feed.clock h.clock; few = next_few t.feed.clock 16 h.few }) all
+fed_are slots rounds ports all =
+    placed_all (IsTributary slots rounds) (IsTributary slots (rounds + 1)) (λ i t. fed t) ports
+    (λ k t h. record {
+      first = h.first;
+      last = h.last;
+      offset = h.offset;
+      clock = next_clock _ _ t.feed.clock h.clock;
+      few = next_few t.feed.clock 16 h.few;
+    }) all
 
 -- ---- the ports of a ring's circuits at a position
 
-ends-append : (at : Pos) (i : ℕ) (xs ys : List Provisioned) → ends_from at i (xs ++ ys) ≡ ends_from at i xs ++ ends_from at (i + length xs) ys
+ends-append : (at : Pos) (i : ℕ) (xs ys : List Provisioned)
+    → ends_from at i (xs ++ ys) ≡ ends_from at i xs ++ ends_from at (i + length xs) ys
 ends-append at i [] ys = ap (λ k. ends_from at k ys) (omega arith)
 ends-append at i (x ∷ xs) ys =
     ap (λ r. ends_at at i x ++ r) (ends-append at (i + 1) xs ys ∙ ap (λ k. ends_from at (i + 1) xs ++ ends_from at k ys) (omega arith))
     ∙ sym (append_assoc (ends_at at i x) (ends_from at (i + 1) xs) (ends_from at (i + length (x ∷ xs)) ys))
 
 -- the ports of one circuit more
-pub ends_more : (at : Pos) (circuits : List Provisioned) (i : ℕ) (c : Provisioned) → slice_get circuits i ≡ Some c → i < length circuits → ends_from at 0 (take (i + 1) circuits) ≡ ends_from at 0 (take i circuits) ++ ends_at at i c
+pub ends_more : (at : Pos) (circuits : List Provisioned) (i : ℕ) (c : Provisioned) → slice_get circuits i ≡ Some c → i < length circuits
+    → ends_from at 0 (take (i + 1) circuits) ≡ ends_from at 0 (take i circuits) ++ ends_at at i c
 ends_more at circuits i c read h =
     let len : 0 + length (take i circuits) ≡ i = omega (arith, length-take-le i circuits) in
     let there : get_or circuits i c ≡ c = get_or_from_slice_get circuits i c c read in
@@ -197,11 +232,19 @@ ends_more at circuits i c read h =
     ∙ ap (λ x. ends_from at 0 (take i circuits) ++ (ends_at at i x ++ [])) there
     ∙ ap (λ r. ends_from at 0 (take i circuits) ++ r) (append-nil (ends_at at i c))
 
-new_is : (slots i : ℕ) (e : End) (d : Side) (m : Slot) (p : Customer) → 1 ≤ m.0 → m.0 ≤ slots → p.offset ≤ 782 → IsTributary slots 0 (new_tributary i e d m p)
+new_is : (slots i : ℕ) (e : End) (d : Side) (m : Slot) (p : Customer) → 1 ≤ m.0 → m.0 ≤ slots → p.offset ≤ 782
+    → IsTributary slots 0 (new_tributary i e d m p)
 new_is slots i e d m p low high small =
-    record { first = low; last = high; offset = small; clock = record { rounds_are = refl; rest_few = omega arith; value_small = λ h. h }; few = omega arith }
+    record {
+      first = low;
+      last = high;
+      offset = small;
+      clock = record { rounds_are = refl; rest_few = omega arith; value_small = λ h. h };
+      few = omega arith;
+    }
 
-ends_are : (slots : ℕ) (at : Pos) (i : ℕ) (circuits : List Provisioned) → All (IsInSlots slots) circuits → All HasOffsets circuits → All (IsTributary slots 0) (ends_from at i circuits)
+ends_are : (slots : ℕ) (at : Pos) (i : ℕ) (circuits : List Provisioned) → All (IsInSlots slots) circuits → All HasOffsets circuits
+    → All (IsTributary slots 0) (ends_from at i circuits)
 ends_are slots at i [] all offsets = All-nil (IsTributary slots 0)
 ends_are slots at i (c ∷ cs) all offsets =
     let p = IsTributary slots 0 in
@@ -211,8 +254,10 @@ ends_are slots at i (c ∷ cs) all offsets =
     let b = new_tributary i B West c.slot c.b in
     All-append p (ends_at at i c) (ends_from at (i + 1) cs)
     (All-append p (if c.from.0 == at.0 then a ∷ [] else []) (if c.to.0 == at.0 then b ∷ [] else [])
-    (cond_both (c.from.0 == at.0) (a ∷ []) [] (All p) (λ _. All-cons p a [] (new_is slots i A East c.slot c.a here.from_1 here.small small.a) (All-nil p)) (λ _. All-nil p))
-    (cond_both (c.to.0 == at.0) (b ∷ []) [] (All p) (λ _. All-cons p b [] (new_is slots i B West c.slot c.b here.from_1 here.small small.b) (All-nil p)) (λ _. All-nil p)))
+    (cond_both (c.from.0 == at.0) (a ∷ []) [] (All p) (λ _. All-cons p a []
+    (new_is slots i A East c.slot c.a here.from_1 here.small small.a) (All-nil p)) (λ _. All-nil p))
+    (cond_both (c.to.0 == at.0) (b ∷ []) [] (All p) (λ _. All-cons p b [] (new_is slots i B West c.slot c.b here.from_1 here.small small.b)
+    (All-nil p)) (λ _. All-nil p)))
     (ends_are slots at (i + 1) cs (λ k d lt. all (suc k) d (omega arith)) (λ k d lt. offsets (suc k) d (omega arith)))
 
 pub tributaries_are : (at : Pos) (p : Provisioning) → IsProvisioning p → All (IsTributary p.slots 0) (tributaries_at at p.circuits)

@@ -1,6 +1,7 @@
 -- One side of a node that receives, as far as frames and pointers go: what the section overhead of a frame says, and what
 -- the pointer interpreters make of the AU-4s.
-use Rattle.std.specs.Prelude.{◌≡◌, ℕ, ◌+◌, ◌*◌, ◌%◌, Bool, ◌==◌, nat_le, if◌then◌else◌, Option, Some, None, List, length, map, slice_index, replicate}
+use Rattle.std.specs.Prelude.{◌≡◌, ℕ, ◌+◌, ◌*◌, ◌%◌, Bool, ◌==◌, nat_le, if◌then◌else◌, Option, Some, None, List, length, map, slice_index}
+use Rattle.std.specs.Prelude.{replicate}
 use Rattle.std.specs.Option.{is_some}
 use Rattle.sdh_basics.specs.Indexed.{map_from}
 use Rattle.sdh_terms.specs.declared.Rate.{Rate}
@@ -71,7 +72,8 @@ frame_reception rate threshold clear last (Framed k1 k2 b1 b2) = framed_receptio
 abbrev pub reception_of : Option Arrival → Rate → ℕ → Option Parities → Reception
 reception_of None rate threshold last = record { defect = defect.None; word = None; bytes = all_ones rate; last = None }
 reception_of (Some None) rate threshold last = failure rate None
-reception_of (Some (Some bytes)) rate threshold last = frame_reception rate threshold (opened (n_of rate) bytes) (kept_after (n_of rate) bytes) (received_in (n_of rate) last bytes)
+reception_of (Some (Some bytes)) rate threshold last =
+    frame_reception rate threshold (opened (n_of rate) bytes) (kept_after (n_of rate) bytes) (received_in (n_of rate) last bytes)
 
 -- ---- the interpreters
 

@@ -38,7 +38,13 @@ pub record Tributary : Type 0 where
 
 -- a port that hasn't sent or delivered anything
 abbrev pub new_tributary : ℕ → End → Side → Slot → Customer → Tributary
-new_tributary circuit end side slot customer = record { port = record { circuit = circuit; end = end }; side = side; slot = slot; feed = new_feed customer; outlet = silent }
+new_tributary circuit end side slot customer = record {
+  port = record { circuit = circuit; end = end };
+  side = side;
+  slot = slot;
+  feed = new_feed customer;
+  outlet = silent;
+}
 
 -- the ports of circuit number i at a position: where its arc starts port A, on the east side, and where it ends port B, on the west side
 abbrev pub ends_at : Pos → ℕ → Provisioned → List Tributary

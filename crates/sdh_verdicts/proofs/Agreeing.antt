@@ -1,5 +1,6 @@
 -- The verdicts of a case, and the last report of the longer script.
-use Rattle.std.proofs.Common.{◌≡◌, ◌≢◌, ℕ, ◌-◌, ◌≤◌, Bool, true, false, List, [], ◌∷◌, ◌++◌, length, refl, sym, ap, ◌∙◌, arith, append_assoc}
+use Rattle.std.proofs.Common.{◌≡◌, ◌≢◌, ℕ, ◌-◌, ◌≤◌, Bool, true, false, List, [], ◌∷◌, ◌++◌, length, refl, sym, ap, ◌∙◌, arith}
+use Rattle.std.proofs.Common.{append_assoc}
 use Rattle.std.specs.Prelude.{◌||◌, if◌then◌else◌}
 use Rattle.sdh_ringmap.specs.Arcs.{is_clear, is_joined, opposite_arc}
 use Rattle.sdh_circuits.specs.declared.End.{End}
@@ -24,7 +25,8 @@ use Rattle.sdh_verdicts.proofs.Rests.{some_scene}
 pub verdicts_agree : LastReportsAreForetold → VerdictsAgree
 verdicts_agree law plan case limit reports fits owed =
     let steps = case_steps (length plan.nodes) plan.settings.threshold case in
-    let parts : longer_steps plan case ≡ (plan.steps ++ steps) ++ step.Settle ∷ [] = sym (append_assoc plan.steps steps (step.Settle ∷ [])) in
+    let parts : longer_steps plan case ≡ (plan.steps ++ steps) ++ step.Settle ∷ [] =
+    sym (append_assoc plan.steps steps (step.Settle ∷ [])) in
     let enough : 1 ≤ length plan.nodes = omega (arith, fits.nodes_fit.enough) in
     law (ring_of plan) limit (scenes_with plan case) reports fits.threshold_from_1 enough
     (λ none. some_scene [] (plan.steps ++ steps) (ap (scenes []) (sym parts) ∙ none)) owed
@@ -69,4 +71,7 @@ module _ (n : ℕ) (applied : ℕ → Bool) (before : PortId → ℕ → List Ha
   kept_is is = kept_by (is_clear n applied (arc_of n c)) (is_clear n applied (opposite_arc n (arc_of n c))) is
 
 pub verdicts_are_shown : VerdictsAreShown
-verdicts_are_shown n applied before t index c e = record { lost = lost_is n applied before t index c e; kept = kept_is n applied before t index c e }
+verdicts_are_shown n applied before t index c e = record {
+  lost = lost_is n applied before t index c e;
+  kept = kept_is n applied before t index c e;
+}

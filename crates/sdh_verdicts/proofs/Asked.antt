@@ -1,5 +1,6 @@
 -- What a side asks for in a case.
-use Rattle.std.proofs.Common.{◌≡◌, ℕ, ◌+◌, ◌*◌, ◌/◌, ◌%◌, ◌<◌, List, [], ◌∷◌, ◌++◌, length, get_or, sym, ap, ◌∙◌, arith, eq-eqb, append_assoc}
+use Rattle.std.proofs.Common.{◌≡◌, ℕ, ◌+◌, ◌*◌, ◌/◌, ◌%◌, ◌<◌, List, [], ◌∷◌, ◌++◌, length, get_or, sym, ap, ◌∙◌, arith, eq-eqb}
+use Rattle.std.proofs.Common.{append_assoc}
 use Rattle.std.specs.Prelude.{if◌then◌else◌, ◌==◌}
 use Rattle.std.proofs.lemmas.List.{get_or-map, length-map}
 use Rattle.sdh_basics.proofs.CellsLaws.{get_or-cells, length-cells}
@@ -32,12 +33,15 @@ fibre_low n p West h = omega arith
 fibre_low n p East h = omega arith
 
 -- what the side of a place was
-pub kept_at : (plan : Planned) (s : Sides) (p i : ℕ) (d : Side) (r : Resting) → AreSidesOf plan s → p < length plan.nodes → i ≡ fibre p d → r ≡ get_or s.rests.items i r
+pub kept_at : (plan : Planned) (s : Sides) (p i : ℕ) (d : Side) (r : Resting) → AreSidesOf plan s → p < length plan.nodes → i ≡ fibre p d
+    → r ≡ get_or s.rests.items i r
     → resting_of r ≡ walk.rests plan.settings.threshold (length plan.nodes) p d plan.steps model.fresh
 kept_at plan s p i d r are low at is =
     let n = length plan.nodes in
     let inside : i < 2 * n = omega (arith, at, fibre_low n p d low) in
-    let long : length s.rests.items ≡ 2 * n = sym (length-map s.rests.items resting_of) ∙ ap (λ (l : List model.Resting). length l) are.rests ∙ length-cells (numbered plan) (2 * n) in
+    let long : length s.rests.items ≡ 2 * n =
+    sym (length-map s.rests.items resting_of) ∙ ap (λ (l : List model.Resting). length l) are.rests
+    ∙ length-cells (numbered plan) (2 * n) in
     ap resting_of is
     ∙ sym (get_or-map resting_of s.rests.items i r (resting_of r) (omega (arith, long, inside)))
     ∙ ap (λ l. get_or l i (resting_of r)) are.rests
@@ -48,7 +52,9 @@ kept_at plan s p i d r are low at is =
 
 -- what it asks for
 pub asks_is : (plan : Planned) (case : List Failure) (p : ℕ) (d : Side)
-    → asks_with plan case p d ≡ model.asks plan.settings.wait (walk.settled plan.settings.threshold (walk.rests plan.settings.threshold (length plan.nodes) p d (case_steps (length plan.nodes) plan.settings.threshold case)
+    → asks_with plan case p d ≡ model.asks plan.settings.wait
+    (walk.settled plan.settings.threshold (walk.rests plan.settings.threshold (length plan.nodes) p d
+    (case_steps (length plan.nodes) plan.settings.threshold case)
     (walk.rests plan.settings.threshold (length plan.nodes) p d plan.steps model.fresh)))
 asks_is plan case p d =
     let t = plan.settings.threshold in

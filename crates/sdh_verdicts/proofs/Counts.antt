@@ -1,5 +1,6 @@
 -- Whether an arc is clear of applied spans, by counts of them.
-use Rattle.std.proofs.Common.{◌≡◌, ℕ, zero, suc, ◌+◌, ◌-◌, ◌*◌, ◌%◌, ◌<◌, ◌≤◌, Bool, true, false, nat_eq, refl, sym, ap, ◌∙◌, subst, arith, eq-eqb}
+use Rattle.std.proofs.Common.{◌≡◌, ℕ, zero, suc, ◌+◌, ◌-◌, ◌*◌, ◌%◌, ◌<◌, ◌≤◌, Bool, true, false, nat_eq, refl, sym, ap, ◌∙◌, subst, arith}
+use Rattle.std.proofs.Common.{eq-eqb}
 use Rattle.std.specs.Prelude.{if◌then◌else◌, not, ◌&&◌, ◌||◌}
 use Rattle.std.proofs.Math.Nat.{add-mod_left}
 use Rattle.std.proofs.lemmas.Bool.{eqb-true, false_from_ne_true}
@@ -50,16 +51,19 @@ none_by p i (suc k) = by (p i) refl (none_by p (suc i) k)
     place : suc i + k ≡ i + suc k
     place = omega arith
 
-    by : (b : Bool) → p i ≡ b → none_of p (suc i) k ≡ nat_eq (counted p (suc i + k)) (counted p (suc i)) → none_of p i (suc k) ≡ nat_eq (counted p (i + suc k)) (counted p i)
+    by : (b : Bool) → p i ≡ b → none_of p (suc i) k ≡ nat_eq (counted p (suc i + k)) (counted p (suc i))
+        → none_of p i (suc k) ≡ nat_eq (counted p (i + suc k)) (counted p i)
     by true e next =
         let more : counted p (suc i) ≤ counted p (i + suc k) = subst (λ x. counted p (suc i) ≤ counted p x) place (grows p (suc i) k) in
         let here : counted p (suc i) ≡ counted p i + 1 = first_is p i true e in
-        let apart : nat_eq (counted p (i + suc k)) (counted p i) ≡ false = not_equal (counted p (i + suc k)) (counted p i) (λ same. omega (arith, more, here, same)) in
+        let apart : nat_eq (counted p (i + suc k)) (counted p i) ≡ false =
+        not_equal (counted p (i + suc k)) (counted p i) (λ same. omega (arith, more, here, same)) in
         ap (λ c. not c && none_of p (suc i) k) e ∙ sym apart
     by false e next =
         let sum : counted p i + 0 ≡ counted p i = omega arith in
         let here : counted p (suc i) ≡ counted p i = first_is p i false e ∙ sum in
-        ap (λ c. not c && none_of p (suc i) k) e ∙ next ∙ ap (λ x. nat_eq (counted p x) (counted p (suc i))) place ∙ ap (nat_eq (counted p (i + suc k))) here
+        ap (λ c. not c && none_of p (suc i) k) e ∙ next ∙ ap (λ x. nat_eq (counted p x) (counted p (suc i))) place
+        ∙ ap (nat_eq (counted p (i + suc k))) here
 
 module _ (n : ℕ) (applied : ℕ → Bool) (arc : Arc) where
   abbrev round_it : ℕ → Bool
@@ -82,9 +86,11 @@ module _ (n : ℕ) (applied : ℕ → Bool) (arc : Arc) where
 
   pub clear_by : is_clear n applied arc ≡ nat_eq (counted round_it (arc.start + arc.spans) - counted round_it arc.start) 0
   unfolding is_clear
-  clear_by = let place : 0 + arc.spans ≡ arc.spans = omega arith in none_by along 0 arc.spans ∙ ap (λ x. nat_eq (counted along x) 0) place ∙ ap (λ x. nat_eq x 0) inside_is
+  clear_by = let place : 0 + arc.spans ≡ arc.spans =
+      omega arith in none_by along 0 arc.spans ∙ ap (λ x. nat_eq (counted along x) 0) place ∙ ap (λ x. nat_eq x 0) inside_is
 
-  pub opposite_by : arc.spans ≤ n → is_clear n applied (opposite_arc n arc) ≡ nat_eq (counted round_it n) (counted round_it (arc.start + arc.spans) - counted round_it arc.start)
+  pub opposite_by : arc.spans ≤ n → is_clear n applied (opposite_arc n arc)
+      ≡ nat_eq (counted round_it n) (counted round_it (arc.start + arc.spans) - counted round_it arc.start)
   opposite_by within =
       let place : arc.spans + (n - arc.spans) ≡ n = omega arith in
       is_clear-opposite n applied arc ∙ none_by along arc.spans (n - arc.spans)
@@ -109,21 +115,27 @@ byte_low true = omega arith
 byte_low false = omega arith
 
 -- the next count, kept in a list
-pub count_fits : (p : ℕ → Bool) (before : List ℕ) (i byte : ℕ) (b : Bool) → ((j : ℕ) → j ≤ i → get_or before j 0 ≡ counted p j) → i < 32 → byte ≡ bool_byte b → get_or before i 0 + byte < 256
+pub count_fits : (p : ℕ → Bool) (before : List ℕ) (i byte : ℕ) (b : Bool) → ((j : ℕ) → j ≤ i → get_or before j 0 ≡ counted p j) → i < 32
+    → byte ≡ bool_byte b → get_or before i 0 + byte < 256
 count_fits p before i byte b are low is = omega (arith, are i (omega arith), counted_low p i, is, byte_low b, low)
 
-pub count_next : (p : ℕ → Bool) (before : List ℕ) (i byte : ℕ) (b : Bool) → ((j : ℕ) → j ≤ i → get_or before j 0 ≡ counted p j) → i + 1 < length before → byte ≡ bool_byte b → b ≡ p i
+pub count_next : (p : ℕ → Bool) (before : List ℕ) (i byte : ℕ) (b : Bool) → ((j : ℕ) → j ≤ i → get_or before j 0 ≡ counted p j)
+    → i + 1 < length before → byte ≡ bool_byte b → b ≡ p i
     → (j : ℕ) → j ≤ i + 1 → get_or (set before (i + 1) (get_or before i 0 + byte)) j 0 ≡ counted p j
 count_next p before i byte b are inside is holds j low = elim (cases_eq j (i + 1)) [
   | inl here ↦ (let next : suc i ≡ i + 1 = omega arith in
-      ap (λ x. get_or (set before (i + 1) (get_or before i 0 + byte)) x 0) here ∙ get_or-set_same before (i + 1) (get_or before i 0 + byte) 0 inside
-      ∙ ap (λ x. x + byte) (are i (omega arith)) ∙ ap (λ x. counted p i + x) (is ∙ byte_is b ∙ ap one holds) ∙ ap (counted p) next ∙ ap (counted p) (sym here))
+      ap (λ x. get_or (set before (i + 1) (get_or before i 0 + byte)) x 0) here
+      ∙ get_or-set_same before (i + 1) (get_or before i 0 + byte) 0 inside
+      ∙ ap (λ x. x + byte) (are i (omega arith)) ∙ ap (λ x. counted p i + x) (is ∙ byte_is b ∙ ap one holds) ∙ ap (counted p) next
+      ∙ ap (counted p) (sym here))
   | inr other ↦ get_or-set_other before (i + 1) j (get_or before i 0 + byte) 0 other ∙ are j (omega arith)
 ]
 
 -- a list that has the counts, and the places where an arc starts and ends
-module _ (n : ℕ) (p : ℕ → Bool) (c : Provisioned) (before : List ℕ) (counts : (i : ℕ) → i ≤ 2 * n → get_or before i 0 ≡ counted (λ j. p (j % n)) i)
-    (first spans : ℕ) (first_at : first ≡ (arc_of n c).start) (spans_at : spans ≡ (arc_of n c).spans) (from : first < n) (within : spans < n) where
+module _ (n : ℕ) (p : ℕ → Bool) (c : Provisioned) (before : List ℕ)
+    (counts : (i : ℕ) → i ≤ 2 * n → get_or before i 0 ≡ counted (λ j. p (j % n)) i)
+    (first spans : ℕ) (first_at : first ≡ (arc_of n c).start) (spans_at : spans ≡ (arc_of n c).spans) (from : first < n)
+    (within : spans < n) where
   abbrev inside : ℕ
   inside = get_or before (first + spans) 0 - get_or before first 0
 
@@ -135,15 +147,20 @@ module _ (n : ℕ) (p : ℕ → Bool) (c : Provisioned) (before : List ℕ) (cou
 
   inside_at : counted round_p ((arc_of n c).start + (arc_of n c).spans) - counted round_p (arc_of n c).start ≡ inside
   inside_at =
-      let high : counted round_p ((arc_of n c).start + (arc_of n c).spans) ≡ get_or before (first + spans) 0 = ap (λ x. counted round_p (x + (arc_of n c).spans)) (sym first_at) ∙ ap (λ x. counted round_p (first + x)) (sym spans_at) ∙ sym (counts (first + spans) (omega arith)) in
-      let low : counted round_p (arc_of n c).start ≡ get_or before first 0 = ap (counted round_p) (sym first_at) ∙ sym (counts first (omega arith)) in
+      let high : counted round_p ((arc_of n c).start + (arc_of n c).spans) ≡ get_or before (first + spans) 0 =
+      ap (λ x. counted round_p (x + (arc_of n c).spans)) (sym first_at) ∙ ap (λ x. counted round_p (first + x)) (sym spans_at)
+      ∙ sym (counts (first + spans) (omega arith)) in
+      let low : counted round_p (arc_of n c).start ≡ get_or before first 0 =
+      ap (counted round_p) (sym first_at) ∙ sym (counts first (omega arith)) in
       ap (λ x. x - counted round_p (arc_of n c).start) high ∙ ap (λ x. get_or before (first + spans) 0 - x) low
 
   clear_is : is_clear n p (arc_of n c) ≡ nat_eq inside 0
   clear_is = clear_by n p (arc_of n c) ∙ ap (λ x. nat_eq x 0) inside_at
 
   opposite_is : is_clear n p (opposite_arc n (arc_of n c)) ≡ nat_eq (get_or before n 0) inside
-  opposite_is = opposite_by n p (arc_of n c) (omega (arith, spans_at)) ∙ ap (nat_eq (counted round_p n)) inside_at ∙ ap (λ x. nat_eq x inside) (sym (counts n (omega arith)))
+  opposite_is =
+      opposite_by n p (arc_of n c) (omega (arith, spans_at)) ∙ ap (nat_eq (counted round_p n)) inside_at
+      ∙ ap (λ x. nat_eq x inside) (sym (counts n (omega arith)))
 
   abbrev by_tests : Bool → Bool → Verdict
   by_tests own other = if own then Kept else if own || other then Over else Lost
@@ -156,7 +173,11 @@ module _ (n : ℕ) (p : ℕ → Bool) (c : Provisioned) (before : List ℕ) (cou
   kept_is e = sym (verdict_is ∙ ap (λ b. by_tests b (nat_eq (get_or before n 0) inside)) (eq-eqb inside 0 e))
 
   pub over_is : (inside ≡ 0 → ⊥) → inside ≡ get_or before n 0 → Over ≡ verdict_under n p c
-  over_is some e = sym (verdict_is ∙ ap (λ b. by_tests b (nat_eq (get_or before n 0) inside)) (not_equal inside 0 some) ∙ ap (by_tests false) (eq-eqb (get_or before n 0) inside (sym e)))
+  over_is some e =
+      sym (verdict_is ∙ ap (λ b. by_tests b (nat_eq (get_or before n 0) inside)) (not_equal inside 0 some)
+      ∙ ap (by_tests false) (eq-eqb (get_or before n 0) inside (sym e)))
 
   pub lost_is : (inside ≡ 0 → ⊥) → (inside ≡ get_or before n 0 → ⊥) → Lost ≡ verdict_under n p c
-  lost_is some less = sym (verdict_is ∙ ap (λ b. by_tests b (nat_eq (get_or before n 0) inside)) (not_equal inside 0 some) ∙ ap (by_tests false) (not_equal (get_or before n 0) inside (λ e. less (sym e))))
+  lost_is some less =
+      sym (verdict_is ∙ ap (λ b. by_tests b (nat_eq (get_or before n 0) inside)) (not_equal inside 0 some)
+      ∙ ap (by_tests false) (not_equal (get_or before n 0) inside (λ e. less (sym e))))

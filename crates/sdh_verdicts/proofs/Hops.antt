@@ -26,7 +26,8 @@ module _ (p q : ℕ → Bool) (same : (i : ℕ) → p i ≡ q i) where
 
   before_same : (i k : ℕ) → places_before p i k ≡ places_before q i k
   before_same i zero = refl
-  before_same i (suc k) = ap (λ b. if b then 0 else suc (places_before p (suc i) k)) (same i) ∙ ap (λ x. if q i then 0 else suc x) (before_same (suc i) k)
+  before_same i (suc k) =
+      ap (λ b. if b then 0 else suc (places_before p (suc i) k)) (same i) ∙ ap (λ x. if q i then 0 else suc x) (before_same (suc i) k)
 
   last_same : (k : ℕ) → last_place p k ≡ last_place q k
   last_same zero = refl
@@ -38,11 +39,14 @@ unfolding hops is_clear
 hops_same n p q arc some same =
     let at : (i : ℕ) → p (arc_span n arc i) ≡ q (arc_span n arc i) = λ i. same (arc_span n arc i) (mod-lt (arc.start + i) some) in
     let by : ℕ → ℕ → Bool → ℕ = λ f l clear. (if clear then arc.spans else (2 * f + n + arc.spans) - 2 * (l + 1)) in
-    ap (λ f. by f (last_applied n p arc) (none_of (at_place n p arc) 0 arc.spans)) (before_same (at_place n p arc) (at_place n q arc) at 0 arc.spans)
-    ∙ ap (λ l. by (first_applied n q arc) l (none_of (at_place n p arc) 0 arc.spans)) (last_same (at_place n p arc) (at_place n q arc) at arc.spans)
+    ap (λ f. by f (last_applied n p arc) (none_of (at_place n p arc) 0 arc.spans))
+    (before_same (at_place n p arc) (at_place n q arc) at 0 arc.spans)
+    ∙ ap (λ l. by (first_applied n q arc) l (none_of (at_place n p arc) 0 arc.spans))
+    (last_same (at_place n p arc) (at_place n q arc) at arc.spans)
     ∙ ap (by (first_applied n q arc) (last_applied n q arc)) (none_same (at_place n p arc) (at_place n q arc) at 0 arc.spans)
 
 -- it is that of a circuit that is kept, or goes round
-pub hops_are : (n : ℕ) (p : ℕ → Bool) (c : Provisioned) (v : Verdict) (k : ℕ) → (v ≡ Kept) ⊎ (v ≡ Over) → v ≡ verdict_under n p c → k ≡ hops n p (arc_of n c) → k ≡ hops_under n p c
+pub hops_are : (n : ℕ) (p : ℕ → Bool) (c : Provisioned) (v : Verdict) (k : ℕ) → (v ≡ Kept) ⊎ (v ≡ Over) → v ≡ verdict_under n p c
+    → k ≡ hops n p (arc_of n c) → k ≡ hops_under n p c
 hops_are n p c v k (inl kept) is way = way ∙ ap (λ w. hops_where w n p c) (sym kept ∙ is)
 hops_are n p c v k (inr over) is way = way ∙ ap (λ w. hops_where w n p c) (sym over ∙ is)

@@ -1,5 +1,6 @@
 -- A side after some steps, step by step.
-use Rattle.std.proofs.Common.{◌≡◌, ℕ, ◌+◌, ◌<◌, List, [], ◌∷◌, ◌++◌, length, take, get_or, Option, Some, None, inl, inr, refl, sym, ap, ◌∙◌, arith, append_assoc}
+use Rattle.std.proofs.Common.{◌≡◌, ℕ, ◌+◌, ◌<◌, List, [], ◌∷◌, ◌++◌, length, take, get_or, Option, Some, None, inl, inr, refl, sym, ap, ◌∙◌}
+use Rattle.std.proofs.Common.{arith, append_assoc}
 use Rattle.std.specs.Prelude.{slice_get}
 use Rattle.std.proofs.lemmas.Bool.{cases_lt}
 use Rattle.std.proofs.lemmas.List.{take_more, take_all}
@@ -19,22 +20,29 @@ some_same : (s t : Step) → ◌≡◌ {A = Option Step} (Some s) (Some t) → s
 some_same s t e = grind arith
 
 module _ (threshold n p : ℕ) (d : Side) where
-  pub rests_more : (xs ys : List Step) (r : Resting) → rests threshold n p d (xs ++ ys) r ≡ rests threshold n p d ys (rests threshold n p d xs r)
+  pub rests_more : (xs ys : List Step) (r : Resting) → rests threshold n p d (xs ++ ys) r
+      ≡ rests threshold n p d ys (rests threshold n p d xs r)
   rests_more [] ys r = refl
   rests_more (x ∷ xs) ys r = rests_more xs ys (rest_after threshold n p d x r)
 
   -- one step more of a list, by its number
-  pub rests_next : (steps : List Step) (i : ℕ) (s : Step) (r : Resting) → i < length steps → rests threshold n p d (take (i + 1) steps) r ≡ rest_after threshold n p d (get_or steps i s) (rests threshold n p d (take i steps) r)
-  rests_next steps i s r low = ap (λ l. rests threshold n p d l r) (take_more steps i s low) ∙ rests_more (take i steps) (get_or steps i s ∷ []) r
+  pub rests_next : (steps : List Step) (i : ℕ) (s : Step) (r : Resting) → i < length steps
+      → rests threshold n p d (take (i + 1) steps) r ≡ rest_after threshold n p d (get_or steps i s)
+      (rests threshold n p d (take i steps) r)
+  rests_next steps i s r low =
+      ap (λ l. rests threshold n p d l r) (take_more steps i s low) ∙ rests_more (take i steps) (get_or steps i s ∷ []) r
 
   -- one step more, where there is one
-  pub rests_some : (steps : List Step) (i : ℕ) (s : Step) (r : Resting) → slice_get steps i ≡ Some s → rests threshold n p d (take (i + 1) steps) r ≡ rest_after threshold n p d s (rests threshold n p d (take i steps) r)
+  pub rests_some : (steps : List Step) (i : ℕ) (s : Step) (r : Resting) → slice_get steps i ≡ Some s
+      → rests threshold n p d (take (i + 1) steps) r ≡ rest_after threshold n p d s (rests threshold n p d (take i steps) r)
   rests_some steps i s r e = elim (cases_lt i (length steps)) [
-    | inl low ↦ rests_next steps i s r low ∙ ap (λ t. rest_after threshold n p d t (rests threshold n p d (take i steps) r)) (some_same (get_or steps i s) s (sym (slice_get-get_or steps i s low) ∙ e))
+    | inl low ↦ rests_next steps i s r low ∙ ap (λ t. rest_after threshold n p d t (rests threshold n p d (take i steps) r))
+        (some_same (get_or steps i s) s (sym (slice_get-get_or steps i s low) ∙ e))
     | inr past ↦ (let none = slice_get_past steps i past in absurd (grind (arith, none, e)))
   ]
 
-  pub rests_none : (steps : List Step) (i : ℕ) (s : Step) (r : Resting) → slice_get steps i ≡ None → rests threshold n p d (take (i + 1) steps) r ≡ rests threshold n p d (take i steps) r
+  pub rests_none : (steps : List Step) (i : ℕ) (s : Step) (r : Resting) → slice_get steps i ≡ None
+      → rests threshold n p d (take (i + 1) steps) r ≡ rests threshold n p d (take i steps) r
   rests_none steps i s r e = elim (cases_lt i (length steps)) [
     | inl low ↦ (let some = slice_get-get_or steps i s low in absurd (grind (arith, some, e)))
     | inr past ↦ ap (λ l. rests threshold n p d l r) (take_all (i + 1) steps (omega arith) ∙ sym (take_all i steps past))
@@ -42,11 +50,14 @@ module _ (threshold n p : ℕ) (d : Side) where
 
   pub case_more : (xs ys : List Failure) → case_steps n threshold (xs ++ ys) ≡ case_steps n threshold xs ++ case_steps n threshold ys
   case_more [] ys = refl
-  case_more (x ∷ xs) ys = ap (λ l. steps_of n threshold x ++ l) (case_more xs ys) ∙ sym (append_assoc (steps_of n threshold x) (case_steps n threshold xs) (case_steps n threshold ys))
+  case_more (x ∷ xs) ys =
+      ap (λ l. steps_of n threshold x ++ l) (case_more xs ys)
+      ∙ sym (append_assoc (steps_of n threshold x) (case_steps n threshold xs) (case_steps n threshold ys))
 
   -- one failure more of a case, by its number
   pub case_next : (case : List Failure) (i : ℕ) (f : Failure) (r : Resting) → i < length case
-      → rests threshold n p d (case_steps n threshold (take (i + 1) case)) r ≡ rests threshold n p d (steps_of n threshold (get_or case i f)) (rests threshold n p d (case_steps n threshold (take i case)) r)
+      → rests threshold n p d (case_steps n threshold (take (i + 1) case)) r
+      ≡ rests threshold n p d (steps_of n threshold (get_or case i f)) (rests threshold n p d (case_steps n threshold (take i case)) r)
   case_next case i f r low =
       let one = get_or case i f in
       ap (λ l. rests threshold n p d (case_steps n threshold l) r) (take_more case i f low)
@@ -76,19 +87,27 @@ module _ (threshold n p : ℕ) (d : Side) where
 
   -- one change more
   change : (changes others : List Change) (steps : List Step) (r : Resting) → Goal (changes ++ others) steps r
-      → rests threshold n p d (steps ++ end) (held others (held changes r)) ≡ rest_in threshold n p d (scenes (changes ++ others) (steps ++ end)) r
+      → rests threshold n p d (steps ++ end) (held others (held changes r))
+      ≡ rest_in threshold n p d (scenes (changes ++ others) (steps ++ end)) r
   change changes others steps r h = ap (rests threshold n p d (steps ++ end)) (held_more changes others r) ∙ h
 
   by_scenes : (changes : List Change) (steps : List Step) (r : Resting) → Goal changes steps r
   by_scenes changes [] r = refl
   by_scenes changes (step.Settle ∷ later) r = by_scenes [] later (rest.rest_after threshold n p d changes r)
-  by_scenes changes (step.Fibre e ∷ later) r = change changes (changes_of (step.Fibre e)) later r (by_scenes (changes ++ changes_of (step.Fibre e)) later r)
-  by_scenes changes (step.Order q e c ∷ later) r = change changes (changes_of (step.Order q e c)) later r (by_scenes (changes ++ changes_of (step.Order q e c)) later r)
-  by_scenes changes (step.Moment m ∷ later) r = change changes (changes_of (step.Moment m)) later r (by_scenes (changes ++ changes_of (step.Moment m)) later r)
-  by_scenes changes (step.Hold q turns ∷ later) r = change changes (changes_of (step.Hold q turns)) later r (by_scenes (changes ++ changes_of (step.Hold q turns)) later r)
-  by_scenes changes (step.Slip port turn count ∷ later) r = change changes (changes_of (step.Slip port turn count)) later r (by_scenes (changes ++ changes_of (step.Slip port turn count)) later r)
+  by_scenes changes (step.Fibre e ∷ later) r =
+      change changes (changes_of (step.Fibre e)) later r (by_scenes (changes ++ changes_of (step.Fibre e)) later r)
+  by_scenes changes (step.Order q e c ∷ later) r =
+      change changes (changes_of (step.Order q e c)) later r (by_scenes (changes ++ changes_of (step.Order q e c)) later r)
+  by_scenes changes (step.Moment m ∷ later) r =
+      change changes (changes_of (step.Moment m)) later r (by_scenes (changes ++ changes_of (step.Moment m)) later r)
+  by_scenes changes (step.Hold q turns ∷ later) r =
+      change changes (changes_of (step.Hold q turns)) later r (by_scenes (changes ++ changes_of (step.Hold q turns)) later r)
+  by_scenes changes (step.Slip port turn count ∷ later) r =
+      change changes (changes_of (step.Slip port turn count)) later r
+      (by_scenes (changes ++ changes_of (step.Slip port turn count)) later r)
 
-  pub rests_is : (steps : List Step) → rest_in threshold n p d (scenes [] (steps ++ end)) rest.fresh ≡ rests threshold n p d (steps ++ end) rest.fresh
+  pub rests_is : (steps : List Step) → rest_in threshold n p d (scenes [] (steps ++ end)) rest.fresh
+      ≡ rests threshold n p d (steps ++ end) rest.fresh
   rests_is steps = sym (by_scenes [] steps rest.fresh)
 
 -- a script that ends with a settle step has one

@@ -33,7 +33,9 @@ abbrev pub steps_of : ℕ → ℕ → Failure → List Step
 steps_of n threshold (Degraded at side) = fibre_step (condition.Degraded threshold) at side ∷ []
 steps_of n threshold (Cut at side) = fibre_step condition.Cut at side ∷ []
 steps_of n threshold (Span at) = fibre_step condition.Cut at East ∷ fibre_step condition.Cut (next n at East) West ∷ []
-steps_of n threshold (Node at) = fibre_step condition.Cut at East ∷ fibre_step condition.Cut (next n at East) West ∷ fibre_step condition.Cut (next n at West) East ∷ fibre_step condition.Cut at West ∷ []
+steps_of n threshold (Node at) =
+    fibre_step condition.Cut at East ∷ fibre_step condition.Cut (next n at East) West ∷ fibre_step condition.Cut (next n at West) East
+    ∷ fibre_step condition.Cut at West ∷ []
 steps_of n threshold (Manual at side) = step.Order at side command.Manual ∷ []
 steps_of n threshold (Forced at side) = step.Order at side command.Forced ∷ []
 

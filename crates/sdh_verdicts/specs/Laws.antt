@@ -29,10 +29,13 @@ VerdictsAgree = (plan : Planned) (case : List Failure) (limit : ℕ) (reports : 
     → OwesAll (longer_plan plan case limit) reports status.Ok → IsLastForetold (ring_of plan) (scenes_with plan case) reports
 
 -- What a port is owed there is AIS where its circuit is lost, and else what the other end's customer sent `hops` rounds before.
-pub record IsShownSo (n : ℕ) (applied : ℕ → Bool) (before : PortId → ℕ → List Happening) (t index : ℕ) (c : Provisioned) (e : End) : Type 0 where
+pub record IsShownSo (n : ℕ) (applied : ℕ → Bool) (before : PortId → ℕ → List Happening) (t index : ℕ) (c : Provisioned)
+    (e : End) : Type 0 where
   pub lost : verdict_under n applied c ≡ Lost → (owed_port n applied before t index c e).outlet ≡ silent
   pub kept : verdict_under n applied c ≢ Lost → (owed_port n applied before t index c e).outlet ≡
       sends_by (customer_at c (other_end e)) (before (record { circuit = index; end = other_end e }) (t - hops n applied (arc_of n c)))
 
 abbrev pub VerdictsAreShown : Type 0
-VerdictsAreShown = (n : ℕ) (applied : ℕ → Bool) (before : PortId → ℕ → List Happening) (t index : ℕ) (c : Provisioned) (e : End) → IsShownSo n applied before t index c e
+VerdictsAreShown =
+    (n : ℕ) (applied : ℕ → Bool) (before : PortId → ℕ → List Happening) (t index : ℕ) (c : Provisioned) (e : End)
+    → IsShownSo n applied before t index c e

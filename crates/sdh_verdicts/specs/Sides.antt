@@ -10,7 +10,11 @@ use Rattle.sdh_verdicts.specs.declared.resting.Resting.{Resting}
 
 -- what the program keeps of a side
 abbrev pub resting_of : Resting → rest.Resting
-resting_of r = record { holding = record { condition = r.condition; command = r.command; moment = r.moment.0 }; defect = r.defect; ended = option_map (λ m. m.0) r.ended }
+resting_of r = record {
+  holding = record { condition = r.condition; command = r.command; moment = r.moment.0 };
+  defect = r.defect;
+  ended = option_map (λ m. m.0) r.ended;
+}
 
 -- the ring comes to rest with what holds now
 abbrev pub settled : ℕ → rest.Resting → rest.Resting

@@ -1,5 +1,6 @@
 -- What becomes of each circuit where these fail behind a plan's script.
-use Rattle.std.specs.Prelude.{ℕ, ◌≡◌, ◌+◌, ◌*◌, ◌/◌, ◌%◌, ◌<◌, ◌≤◌, zero, suc, Bool, true, false, if◌then◌else◌, List, [], ◌∷◌, ◌++◌, length, slice_index, map, take}
+use Rattle.std.specs.Prelude.{ℕ, ◌≡◌, ◌+◌, ◌*◌, ◌/◌, ◌%◌, ◌<◌, ◌≤◌, zero, suc, Bool, true, false, if◌then◌else◌, List, [], ◌∷◌, ◌++◌}
+use Rattle.std.specs.Prelude.{length, slice_index, map, take}
 use Rattle.sdh_basics.specs.Cells.{cells}
 use Rattle.sdh_ringmap.specs.declared.Side.{Side}
 use Rattle.sdh_ringmap.specs.declared.Side.TheVariants.{West, East}
@@ -86,7 +87,8 @@ mends plan (Forced at side) = false
 
 -- what a side asks for behind the longer script
 abbrev pub asks_with : Planned → List Failure → ℕ → Side → Code
-asks_with plan case p d = rest.asks plan.settings.wait (rest.rest_in plan.settings.threshold (length plan.nodes) p d (scenes_with plan case) rest.fresh)
+asks_with plan case p d =
+    rest.asks plan.settings.wait (rest.rest_in plan.settings.threshold (length plan.nodes) p d (scenes_with plan case) rest.fresh)
 
 -- what both sides of a node ask for
 abbrev pub asked_at : Planned → List Failure → ℕ → LocalRequests

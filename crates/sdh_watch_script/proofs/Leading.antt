@@ -33,26 +33,36 @@ use Rattle.sdh_watch_script.specs.Ports.{AreWatching, AreFew, Looked, Shown}
 -- ---- the ring
 
 pub held_one : (w left : World) → IsRound w left → left.ring ≡ record w.ring { nodes = left.ring.nodes; rounds = w.ring.rounds + 1 }
-held_one w left is = subst (λ (v : World). v.ring ≡ record w.ring { nodes = v.ring.nodes; rounds = w.ring.rounds + 1 }) (sym is.after_is) (held_round adm is.arrivals w)
+held_one w left is =
+    subst (λ (v : World). v.ring ≡ record w.ring { nodes = v.ring.nodes; rounds = w.ring.rounds + 1 }) (sym is.after_is)
+    (held_round adm is.arrivals w)
 
 -- behind one round more
-pub held_more : (w mid left : World) (k : ℕ) → mid.ring ≡ record w.ring { nodes = mid.ring.nodes; rounds = w.ring.rounds + k } → IsRound mid left → left.ring ≡ record w.ring { nodes = left.ring.nodes; rounds = w.ring.rounds + (k + 1) }
+pub held_more : (w mid left : World) (k : ℕ) → mid.ring ≡ record w.ring { nodes = mid.ring.nodes; rounds = w.ring.rounds + k }
+    → IsRound mid left → left.ring ≡ record w.ring { nodes = left.ring.nodes; rounds = w.ring.rounds + (k + 1) }
 held_more w mid left k held is =
     held_one mid left is
     ∙ ap (λ (r : HeldRing). record r { nodes = left.ring.nodes; rounds = r.rounds + 1 }) held
     ∙ ap (λ n. record w.ring { nodes = left.ring.nodes; rounds = n }) (omega arith)
 
-pub held_lead : (k : ℕ) (w left : World) (heard : PortId → List Given) → Lead k w left heard → left.ring ≡ record w.ring { nodes = left.ring.nodes; rounds = w.ring.rounds + k }
-held_lead zero w left heard lead = subst (λ (v : World). v.ring ≡ record w.ring { nodes = v.ring.nodes; rounds = w.ring.rounds + 0 }) (sym lead.0) (held_none w.ring)
+pub held_lead : (k : ℕ) (w left : World) (heard : PortId → List Given) → Lead k w left heard
+    → left.ring ≡ record w.ring { nodes = left.ring.nodes; rounds = w.ring.rounds + k }
+held_lead zero w left heard lead =
+    subst (λ (v : World). v.ring ≡ record w.ring { nodes = v.ring.nodes; rounds = w.ring.rounds + 0 }) (sym lead.0) (held_none w.ring)
 held_lead (suc k) w left heard (mid, before, lead, is, more) =
-    held_more w mid left k (held_lead k w mid before lead) is ∙ ap (λ n. record w.ring { nodes = left.ring.nodes; rounds = n }) (omega arith)
+    held_more w mid left k (held_lead k w mid before lead) is
+    ∙ ap (λ n. record w.ring { nodes = left.ring.nodes; rounds = n }) (omega arith)
 
 -- ---- slips: these are as in `sdh_world`, whose names aren't public
 
-was_at : (id : PortId) (ns ms : List Node) (p : ℕ) → map fixed ms ≡ map fixed ns → IsSome (option_and_then (λ n. port_of id n.ports) (slice_get ms p)) → IsSome (option_and_then (λ n. port_of id n.ports) (slice_get ns p))
-was_at id ns ms p same there = by (slice_get ns p) (slice_get ms p) (sym (slice_get-map fixed ms p) ∙ ap (λ l. slice_get l p) same ∙ slice_get-map fixed ns p) there
+was_at : (id : PortId) (ns ms : List Node) (p : ℕ) → map fixed ms ≡ map fixed ns
+    → IsSome (option_and_then (λ n. port_of id n.ports) (slice_get ms p))
+    → IsSome (option_and_then (λ n. port_of id n.ports) (slice_get ns p))
+was_at id ns ms p same there =
+    by (slice_get ns p) (slice_get ms p) (sym (slice_get-map fixed ms p) ∙ ap (λ l. slice_get l p) same ∙ slice_get-map fixed ns p) there
   where
-    by : (a b : Option Node) → option_map fixed b ≡ option_map fixed a → IsSome (option_and_then (λ n. port_of id n.ports) b) → IsSome (option_and_then (λ n. port_of id n.ports) a)
+    by : (a b : Option Node) → option_map fixed b ≡ option_map fixed a → IsSome (option_and_then (λ n. port_of id n.ports) b)
+        → IsSome (option_and_then (λ n. port_of id n.ports) a)
     by a None e h = absurd (cc)
     by None (Some m) e h = absurd (cc)
     by (Some n) (Some m) e h = has_fixed id n m (sym (same_Some (fixed m) (fixed n) e)) h
@@ -65,8 +75,10 @@ was_there : (id : PortId) (r s : HeldRing) → IsLike r s → HasPortIn s id →
 unfolding place_of_port
 was_there id r s like there =
     let size : length s.nodes ≡ length r.nodes = sym (length-map s.nodes fixed) ∙ ap length like.nodes ∙ length-map r.nodes fixed in
-    let place : place_of_port s id ≡ place_of_port r id = λ i. option_map_or (λ (c : Provisioned). (end_of c id.end).0) (slice_get (like.circuits i).circuits id.circuit) (size i) in
-    was_at id r.nodes s.nodes (place_of_port r id) like.nodes (subst (λ p. IsSome (option_and_then (λ (n : Node). port_of id n.ports) (slice_get s.nodes p))) place there)
+    let place : place_of_port s id ≡ place_of_port r id =
+    λ i. option_map_or (λ (c : Provisioned). (end_of c id.end).0) (slice_get (like.circuits i).circuits id.circuit) (size i) in
+    was_at id r.nodes s.nodes (place_of_port r id) like.nodes
+    (subst (λ p. IsSome (option_and_then (λ (n : Node). port_of id n.ports) (slice_get s.nodes p))) place there)
 
 like_round : (xs : List Arrival) (w : World) → IsLike w.ring (round_with xs w).ring
 unfolding any_round.round_with
@@ -87,9 +99,11 @@ none_round xs w id none = by_found (round_with xs w).ring id (λ k. waiting k �
     omega (arith, ap (λ (k : Clock). waiting k) next, few)))
 
 -- where no slip waits, none waits behind more rounds
-pub none_lead : (k : ℕ) (w left : World) (heard : PortId → List Given) → Lead k w left heard → (id : PortId) → waiting_at w.ring id ≡ 0 → waiting_at left.ring id ≡ 0
+pub none_lead : (k : ℕ) (w left : World) (heard : PortId → List Given) → Lead k w left heard → (id : PortId) → waiting_at w.ring id ≡ 0
+    → waiting_at left.ring id ≡ 0
 none_lead zero w left heard lead id none = ap (λ (v : World). waiting_at v.ring id) lead.0 ∙ none
-none_lead (suc k) w left heard (mid, before, lead, is, more) id none = ap (λ (v : World). waiting_at v.ring id) is.after_is ∙ none_round is.arrivals mid id (none_lead k w mid before lead id none)
+none_lead (suc k) w left heard (mid, before, lead, is, more) id none =
+    ap (λ (v : World). waiting_at v.ring id) is.after_is ∙ none_round is.arrivals mid id (none_lead k w mid before lead id none)
 
 -- ---- the watches
 
@@ -98,7 +112,8 @@ shown_none w watches are = record { heard = λ port. []; rounds = (refl, λ port
 
 -- after one round more, in which each watch looked
 pub shown_more : (k : ℕ) (w mid left : World) (old new : List Both) → Shown k w mid old → IsRound mid left → length new ≡ length old
-    → ((i : ℕ) (before after : Both) → slice_get old i ≡ Some before → slice_get new i ≡ Some after → Looked left.ring i before after) → Shown (k + 1) w left new
+    → ((i : ℕ) (before after : Both) → slice_get old i ≡ Some before → slice_get new i ≡ Some after → Looked left.ring i before after)
+    → Shown (k + 1) w left new
 shown_more k w mid left old new shown is many each =
     let heard = λ (port : PortId). given_at left.ring port ∷ shown.heard port in
     let lead : Lead (suc k) w left heard = (mid, shown.heard, shown.rounds, is, λ port. refl) in
@@ -112,12 +127,16 @@ shown_more k w mid left old new shown is many each =
             let was = some_at old i (let h = slice_get_within new i after at in omega (arith, many)) in
             let looked = each i was.0 after was.1 at in
             let before = shown.watching.each i c was.0 there was.1 in
-            record { at_a = looked.a c.b.trace (shown.heard (port_id i A)) before.at_a; at_b = looked.b c.a.trace (shown.heard (port_id i B)) before.at_b });
+            record {
+              at_a = looked.a c.b.trace (shown.heard (port_id i A)) before.at_a;
+              at_b = looked.b c.a.trace (shown.heard (port_id i B)) before.at_b;
+            });
       };
     }
 
 pub few_more : (r : HeldRing) (k : ℕ) (old new : List Both) → AreFew k old → length new ≡ length old
-    → ((i : ℕ) (before after : Both) → slice_get old i ≡ Some before → slice_get new i ≡ Some after → Looked r i before after) → AreFew (k + 1) new
+    → ((i : ℕ) (before after : Both) → slice_get old i ≡ Some before → slice_get new i ≡ Some after → Looked r i before after)
+    → AreFew (k + 1) new
 few_more r k old new few many each i after at =
     let was = some_at old i (let h = slice_get_within new i after at in omega (arith, many)) in
     let looked = each i was.0 after was.1 at in

@@ -20,7 +20,8 @@ pub record IsWatching (c : Provisioned) (index : ℕ) (heard : PortId → List G
 -- so have those of all circuits
 pub record AreWatching (circuits : List Provisioned) (heard : PortId → List Given) (watches : List Both) : Type 0 where
   pub many : length watches ≡ length circuits
-  pub each : (i : ℕ) (c : Provisioned) (both : Both) → slice_get circuits i ≡ Some c → slice_get watches i ≡ Some both → IsWatching c i heard both
+  pub each : (i : ℕ) (c : Provisioned) (both : Both) → slice_get circuits i ≡ Some c → slice_get watches i ≡ Some both
+      → IsWatching c i heard both
 
 -- ---- what the watches do
 

@@ -1,5 +1,6 @@
 -- What 128 rounds of a ring at rest show to its watches.
-use Rattle.std.proofs.Common.{◌≡◌, ℕ, zero, suc, ◌+◌, ◌-◌, ◌*◌, ◌≤◌, Bool, true, false, Some, List, ◌∷◌, length, refl, ap, ap₂, sym, ◌∙◌, subst, arith, inl, inr}
+use Rattle.std.proofs.Common.{◌≡◌, ℕ, zero, suc, ◌+◌, ◌-◌, ◌*◌, ◌≤◌, Bool, true, false, Some, List, ◌∷◌, length, refl, ap, ap₂, sym, ◌∙◌}
+use Rattle.std.proofs.Common.{subst, arith, inl, inr}
 use Rattle.std.specs.Prelude.{◌==◌, if◌then◌else◌, slice_get}
 use Rattle.std.proofs.lemmas.Bool.{cases_Bool, eq-eqb}
 use Rattle.sdh_circuits.specs.declared.End.{End}
@@ -56,17 +57,22 @@ one_more clocks w mid left k at is =
       rests = stays.rests;
       rounds = ap (λ (v : World). v.ring.rounds) there ∙ rounds_more mid ∙ (let r = at.rounds in omega arith);
       layout = ap layout_of there ∙ layout_round mid ∙ at.layout;
-      requests = ap requests_of there ∙ (calm_rounds_are_still mid at.rests.whole (calm_of mid left there stays.calm)).requests ∙ at.requests;
+      requests =
+          ap requests_of there ∙ (calm_rounds_are_still mid at.rests.whole (calm_of mid left there stays.calm)).requests ∙ at.requests;
     }
   where
     calm_of : (mid left : World) → left ≡ round mid → is_calm left.ring.nodes ≡ true → is_calm (round mid).ring.nodes ≡ true
     calm_of mid left there calm = ap (λ (v : World). is_calm v.ring.nodes) (sym there) ∙ calm
 
-at_lead : (clocks : PortId → ℕ → Clock) (w : World) → IsAtRest clocks w → (k : ℕ) (left : World) (heard : PortId → List Given) → Lead k w left heard → At clocks w k left
-at_lead clocks w rests zero left heard lead = subst (At clocks w zero) (sym lead.0) (record { rests = rests; rounds = omega arith; layout = refl; requests = refl })
-at_lead clocks w rests (suc k) left heard (mid, before, lead, is, more) = one_more clocks w mid left k (at_lead clocks w rests k mid before lead) is
+at_lead : (clocks : PortId → ℕ → Clock) (w : World) → IsAtRest clocks w → (k : ℕ) (left : World) (heard : PortId → List Given)
+    → Lead k w left heard → At clocks w k left
+at_lead clocks w rests zero left heard lead =
+    subst (At clocks w zero) (sym lead.0) (record { rests = rests; rounds = omega arith; layout = refl; requests = refl })
+at_lead clocks w rests (suc k) left heard (mid, before, lead, is, more) =
+    one_more clocks w mid left k (at_lead clocks w rests k mid before lead) is
 
-module _ (clocks : PortId → ℕ → Clock) (w : World) (form : HasCircuits (layout_of w)) (rests : IsAtRest clocks w) (index : ℕ) (c : Provisioned) (get : slice_get w.ring.circuits.circuits index ≡ Some c) (e : End) where
+module _ (clocks : PortId → ℕ → Clock) (w : World) (form : HasCircuits (layout_of w)) (rests : IsAtRest clocks w) (index : ℕ)
+    (c : Provisioned) (get : slice_get w.ring.circuits.circuits index ≡ Some c) (e : End) where
   abbrev n : ℕ
   n = length w.ring.ids
 
@@ -89,7 +95,8 @@ module _ (clocks : PortId → ℕ → Clock) (w : World) (form : HasCircuits (la
   few = few_hops n applied c (short n applied (slots_of (layout_of w)) w.ring.circuits.circuits form index c get)
 
   -- after each round but the first the port has delivered what it is owed
-  delivered_at : (k : ℕ) (left : World) (heard : PortId → List Given) → Lead (suc k) w left heard → outlet_at left.ring id ≡ due_by_clocks n applied c e clock (w.ring.rounds + k)
+  delivered_at : (k : ℕ) (left : World) (heard : PortId → List Given) → Lead (suc k) w left heard
+      → outlet_at left.ring id ≡ due_by_clocks n applied c e clock (w.ring.rounds + k)
   delivered_at k left heard (mid, before, lead, is, more) =
       let at = at_lead clocks w rests k mid before lead in
       let now = one_more clocks w mid left k at is in
@@ -103,13 +110,17 @@ module _ (clocks : PortId → ℕ → Clock) (w : World) (form : HasCircuits (la
 
   due_parted : (t : ℕ) → is_joined n applied (arc_of n c) ≡ false → due_by_clocks n applied c e clock t ≡ silent
   unfolding due
-  due_parted t parted = ap (λ (b : Bool). if b then delivering (clock (t - h)).value (stream_from sender (clock (t - h)).sent 2349) else silent) parted
+  due_parted t parted =
+      ap (λ (b : Bool). if b then delivering (clock (t - h)).value (stream_from sender (clock (t - h)).sent 2349) else silent) parted
 
-  due_joined : (t : ℕ) → is_joined n applied (arc_of n c) ≡ true → due_by_clocks n applied c e clock t ≡ delivering (clock (t - h)).value (stream_from sender (clock (t - h)).sent 2349)
+  due_joined : (t : ℕ) → is_joined n applied (arc_of n c) ≡ true
+      → due_by_clocks n applied c e clock t ≡ delivering (clock (t - h)).value (stream_from sender (clock (t - h)).sent 2349)
   unfolding due
-  due_joined t joined = ap (λ (b : Bool). if b then delivering (clock (t - h)).value (stream_from sender (clock (t - h)).sent 2349) else silent) joined
+  due_joined t joined =
+      ap (λ (b : Bool). if b then delivering (clock (t - h)).value (stream_from sender (clock (t - h)).sent 2349) else silent) joined
 
-  module _ (late : 2 * n ≤ w.ring.rounds) (plainly : GoesPlainly clock sender.offset (w.ring.rounds - 2 * n)) (joined : is_joined n applied (arc_of n c) ≡ true) where
+  module _ (late : 2 * n ≤ w.ring.rounds) (plainly : GoesPlainly clock sender.offset (w.ring.rounds - 2 * n))
+      (joined : is_joined n applied (arc_of n c) ≡ true) where
     abbrev first : ℕ
     first = w.ring.rounds - 2 * n
 
@@ -125,7 +136,9 @@ module _ (clocks : PortId → ℕ → Clock) (w : World) (form : HasCircuits (la
         let t = w.ring.rounds + k - h in
         let back : t ≡ first + (2 * n - h + k) = omega (arith, few, late) in
         let v : (clock t).value ≡ value = ap (λ j. (clock j).value) back ∙ plainly.value (2 * n - h + k) in
-        let s : (clock t).sent ≡ p + 2349 * k = ap (λ j. (clock j).sent) back ∙ plainly.sent (2 * n - h + k) ∙ (let m : (clock first).sent + 2349 * (2 * n - h + k) ≡ p + 2349 * k = omega arith in m) in
+        let s : (clock t).sent ≡ p + 2349 * k =
+        ap (λ j. (clock j).sent) back ∙ plainly.sent (2 * n - h + k)
+        ∙ (let m : (clock first).sent + 2349 * (2 * n - h + k) ≡ p + 2349 * k = omega arith in m) in
         due_joined (w.ring.rounds + k) joined ∙ ap₂ (λ a b. delivering a (stream_from sender b 2349)) v s
 
     given_now : (q : ℕ) → given_as value (delivered.Chunk (stream_from sender q 2349)) ≡ Chunk (stream_from sender q 2349) value
@@ -137,36 +150,56 @@ module _ (clocks : PortId → ℕ → Clock) (w : World) (form : HasCircuits (la
     heard_at zero left heard lead = lead.1 id
     heard_at (suc k) left heard (mid, before, lead, is, more) =
         more id
-        ∙ ap₂ (λ (o : Outlet) l. given_as o.value o.delivered ∷ l) (delivered_at k left heard (mid, before, lead, is, more) ∙ due_now k) (heard_at k mid before lead)
+        ∙ ap₂ (λ (o : Outlet) l. given_as o.value o.delivered ∷ l) (delivered_at k left heard (mid, before, lead, is, more) ∙ due_now k)
+        (heard_at k mid before lead)
         ∙ ap (λ g. g ∷ chunks_from sender p value k) (given_now (p + 2349 * k))
 
-    shows_joined : (left : World) (heard : PortId → List Given) → Lead 128 w left heard → port_watched left.ring heard index c e ≡ clean_watch c.name e (due_by_clocks n applied c e clock (w.ring.rounds + 127))
+    shows_joined : (left : World) (heard : PortId → List Given) → Lead 128 w left heard
+        → port_watched left.ring heard index c e ≡ clean_watch c.name e (due_by_clocks n applied c e clock (w.ring.rounds + 127))
     shows_joined left heard lead =
         let out = delivered_at 127 left heard lead ∙ due_now 127 in
         let report : report_of sender.trace (heard id) ≡ clean_report 128 value =
-        ap (report_of sender.trace) (heard_at 128 left heard lead) ∙ chunks_are_clean sender p 128 value (omega arith) plainly.small (let b = plainly.in_step in omega arith) in
-        ap₂ (λ (o : Outlet) r. (let x : WatchLine = record { name = c.name; end = e; shows = shown o.delivered r } in x)) out report ∙ sym (ap (clean_watch c.name e) (due_now 127))
+        ap (report_of sender.trace) (heard_at 128 left heard lead)
+        ∙ chunks_are_clean sender p 128 value (omega arith) plainly.small (let b = plainly.in_step in omega arith) in
+        ap₂ (λ (o : Outlet) r. (let x : WatchLine = record { name = c.name; end = e; shows = shown o.delivered r } in x)) out report
+        ∙ sym (ap (clean_watch c.name e) (due_now 127))
 
-  shows_parted : (left : World) (heard : PortId → List Given) → Lead 128 w left heard → is_joined n applied (arc_of n c) ≡ false → port_watched left.ring heard index c e ≡ clean_watch c.name e (due_by_clocks n applied c e clock (w.ring.rounds + 127))
+  shows_parted : (left : World) (heard : PortId → List Given) → Lead 128 w left heard → is_joined n applied (arc_of n c) ≡ false
+      → port_watched left.ring heard index c e ≡ clean_watch c.name e (due_by_clocks n applied c e clock (w.ring.rounds + 127))
   shows_parted left heard lead parted =
       let out = delivered_at 127 left heard lead ∙ due_parted (w.ring.rounds + 127) parted in
-      ap (λ (o : Outlet). (let x : WatchLine = record { name = c.name; end = e; shows = shown o.delivered (report_of sender.trace (heard id)) } in x)) out ∙ sym (ap (clean_watch c.name e) (due_parted (w.ring.rounds + 127) parted))
+      ap (λ (o : Outlet). (let x : WatchLine = record {
+        name = c.name;
+        end = e;
+        shows =
+            shown o.delivered (report_of sender.trace (heard id));
+      } in x)) out
+      ∙ sym (ap (clean_watch c.name e) (due_parted (w.ring.rounds + 127) parted))
 
-pub rest_shows : (clocks : PortId → ℕ → Clock) (w left : World) (heard : PortId → List Given) → HasCircuits (layout_of w) → IsAtRest clocks w → Lead 128 w left heard
+pub rest_shows : (clocks : PortId → ℕ → Clock) (w left : World) (heard : PortId → List Given) → HasCircuits (layout_of w)
+    → IsAtRest clocks w → Lead 128 w left heard
     → (index : ℕ) (c : Provisioned) → slice_get w.ring.circuits.circuits index ≡ Some c → (e : End) → 2 * length w.ring.ids ≤ w.ring.rounds
-    → GoesPlainly (clocks (record { circuit = index; end = other_end e })) (customer_at c (other_end e)).offset (w.ring.rounds - 2 * length w.ring.ids)
-    → port_watched left.ring heard index c e ≡ clean_watch c.name e (due_by_clocks (length w.ring.ids) (is_applied (requests_of left)) c e (clocks (record { circuit = index; end = other_end e })) (left.ring.rounds - 1))
+    → GoesPlainly (clocks (record { circuit = index; end = other_end e })) (customer_at c (other_end e)).offset
+    (w.ring.rounds - 2 * length w.ring.ids)
+    → port_watched left.ring heard index c e ≡ clean_watch c.name e
+    (due_by_clocks (length w.ring.ids) (is_applied (requests_of left)) c e (clocks (record { circuit = index; end = other_end e }))
+    (left.ring.rounds - 1))
 rest_shows clocks w left heard form rests lead index c get e late plainly =
     let at = at_lead clocks w rests 128 left heard lead in
     let n = length w.ring.ids in
     let clock = clocks (record { circuit = index; end = other_end e }) in
     let last : left.ring.rounds - 1 ≡ w.ring.rounds + 127 = omega (arith, at.rounds) in
-    let same : due_by_clocks n (is_applied (requests_of left)) c e clock (left.ring.rounds - 1) ≡ due_by_clocks n (is_applied (requests_of w)) c e clock (w.ring.rounds + 127) = ap₂ (λ rs t. due_by_clocks n (is_applied rs) c e clock t) at.requests last in
+    let same : due_by_clocks n (is_applied (requests_of left)) c e clock (left.ring.rounds - 1)
+    ≡ due_by_clocks n (is_applied (requests_of w)) c e clock (w.ring.rounds + 127) =
+    ap₂ (λ rs t. due_by_clocks n (is_applied rs) c e clock t) at.requests last in
     elim (cases_Bool (is_joined n (is_applied (requests_of w)) (arc_of n c))) [
-      | inl joined ↦ shows_joined clocks w form rests index c get e late plainly joined left heard lead ∙ sym (ap (clean_watch c.name e) same)
+      | inl joined ↦ shows_joined clocks w form rests index c get e late plainly joined left heard lead
+          ∙ sym (ap (clean_watch c.name e) same)
       | inr parted ↦ shows_parted clocks w form rests index c get e left heard lead parted ∙ sym (ap (clean_watch c.name e) same)
     ]
 
 -- in the last of these rounds each port has delivered what it is owed
-pub last_due : (clocks : PortId → ℕ → Clock) (w left : World) (heard : PortId → List Given) (k : ℕ) → IsAtRest clocks w → Lead (suc k) w left heard → DeliversWhatIsDue clocks left (requests_of left)
-last_due clocks w left heard k rests (mid, before, lead, is, more) = (rest_goes_on mid left is clocks (at_lead clocks w rests k mid before lead).rests).due
+pub last_due : (clocks : PortId → ℕ → Clock) (w left : World) (heard : PortId → List Given) (k : ℕ) → IsAtRest clocks w
+    → Lead (suc k) w left heard → DeliversWhatIsDue clocks left (requests_of left)
+last_due clocks w left heard k rests (mid, before, lead, is, more) =
+    (rest_goes_on mid left is clocks (at_lead clocks w rests k mid before lead).rests).due

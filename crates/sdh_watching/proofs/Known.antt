@@ -10,7 +10,8 @@ use Rattle.sdh_watching.specs.Scripts.{watch_walk}
 -- courses that are the same so far
 pub heard_same : (k : ℕ) (at bt : ℕ → World) (port : PortId) → ((j : ℕ) → j ≤ k → at j ≡ bt j) → heard_in k at port ≡ heard_in k bt port
 heard_same zero at bt port same = refl
-heard_same (suc k) at bt port same = ap₂ (λ (v : World) l. given_at v.ring port ∷ l) (same (suc k) (omega arith)) (heard_same k at bt port (λ j h. same j (omega arith)))
+heard_same (suc k) at bt port same =
+    ap₂ (λ (v : World) l. given_at v.ring port ∷ l) (same (suc k) (omega arith)) (heard_same k at bt port (λ j h. same j (omega arith)))
 
 looks : (number k : ℕ) (at bt : ℕ → World) → ((j : ℕ) → j ≤ k + 128 → at j ≡ bt j) → watched_in number at k ≡ watched_in number bt k
 looks number k at bt same =

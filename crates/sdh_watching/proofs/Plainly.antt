@@ -68,16 +68,21 @@ step_changed : (offset : ℕ) (port : PortId) (xs : List Change) (c : Clock) →
 step_changed offset port [] c is = is
 step_changed offset port (x ∷ xs) c is = step_changed offset port xs (clock_after port x c) (step_after offset port x c is)
 
-pub step_in : (offset : ℕ) (port : PortId) (ss : List Stretch) (c : Clock) (t : ℕ) → IsInStep offset c → IsInStep offset (clock_in port ss c t)
+pub step_in : (offset : ℕ) (port : PortId) (ss : List Stretch) (c : Clock) (t : ℕ) → IsInStep offset c
+    → IsInStep offset (clock_in port ss c t)
 step_in offset port [] c t is = step_ticks offset t c is
-step_in offset port (s ∷ ss) c t is = by (nat_lt t s.rounds) (step_in offset port ss (ticks s.rounds (clock_changed port s.changes c)) (t - s.rounds) (step_ticks offset s.rounds (clock_changed port s.changes c) (step_changed offset port s.changes c is)))
+step_in offset port (s ∷ ss) c t is =
+    by (nat_lt t s.rounds) (step_in offset port ss (ticks s.rounds (clock_changed port s.changes c)) (t - s.rounds)
+    (step_ticks offset s.rounds (clock_changed port s.changes c) (step_changed offset port s.changes c is)))
   where
     by : (b : Bool) → IsInStep offset (clock_in port ss (ticks s.rounds (clock_changed port s.changes c)) (t - s.rounds))
-        → IsInStep offset (if b then ticks t (clock_changed port s.changes c) else clock_in port ss (ticks s.rounds (clock_changed port s.changes c)) (t - s.rounds))
+        → IsInStep offset (if b then ticks t (clock_changed port s.changes c)
+        else clock_in port ss (ticks s.rounds (clock_changed port s.changes c)) (t - s.rounds))
     by true later = step_ticks offset t (clock_changed port s.changes c) (step_changed offset port s.changes c is)
     by false later = later
 
-pub step_first : (offset : ℕ) (port : PortId) (ss : List Stretch) (t : ℕ) → offset ≤ 782 → IsInStep offset (clock_in port ss (new_clock offset) t)
+pub step_first : (offset : ℕ) (port : PortId) (ss : List Stretch) (t : ℕ) → offset ≤ 782
+    → IsInStep offset (clock_in port ss (new_clock offset) t)
 step_first offset port ss t small = step_in offset port ss (new_clock offset) t (step_new offset small)
 
 -- ---- from where none waits
@@ -88,15 +93,19 @@ ticks_more zero j c = ap (λ m. ticks m c) (let e : zero + j ≡ j = omega arith
 ticks_more (suc i) j c = ap (λ m. ticks m c) (let e : suc i + j ≡ suc (i + j) = omega arith in e) ∙ ap ticked (ticks_more i j c)
 
 -- the clock of a port from a world on, from j rounds later on, where none waits then
-pub plainly : (w : World) (port : PortId) (offset j : ℕ) → IsInStep offset (clock_at w.ring port) → waiting (ticks j (clock_at w.ring port)) ≡ 0 → GoesPlainly (clocks_from w port) offset (w.ring.rounds + j)
+pub plainly : (w : World) (port : PortId) (offset j : ℕ) → IsInStep offset (clock_at w.ring port)
+    → waiting (ticks j (clock_at w.ring port)) ≡ 0 → GoesPlainly (clocks_from w port) offset (w.ring.rounds + j)
 plainly w port offset j is none =
     let c = clock_at w.ring port in
     let there = step_ticks offset j c is in
-    let first : clocks_from w port (w.ring.rounds + j) ≡ ticks j c = ap (λ m. ticks m c) (let e : w.ring.rounds + j - w.ring.rounds ≡ j = omega arith in e) in
-    let later = λ (k : ℕ). ap (λ m. ticks m c) (let e : w.ring.rounds + j + k - w.ring.rounds ≡ k + j = omega arith in e) ∙ ticks_more k j c in
+    let first : clocks_from w port (w.ring.rounds + j) ≡ ticks j c =
+    ap (λ m. ticks m c) (let e : w.ring.rounds + j - w.ring.rounds ≡ j = omega arith in e) in
+    let later =
+    λ (k : ℕ). ap (λ m. ticks m c) (let e : w.ring.rounds + j + k - w.ring.rounds ≡ k + j = omega arith in e) ∙ ticks_more k j c in
     record {
       value = λ k. ap (λ (x : Clock). x.value) (later k) ∙ (goes_on (ticks j c) k none).value ∙ sym (ap (λ (x : Clock). x.value) first);
-      sent = λ k. ap (λ (x : Clock). x.sent) (later k) ∙ (goes_on (ticks j c) k none).sent ∙ sym (ap (λ (x : Clock). x.sent + 2349 * k) first);
+      sent =
+          λ k. ap (λ (x : Clock). x.sent) (later k) ∙ (goes_on (ticks j c) k none).sent ∙ sym (ap (λ (x : Clock). x.sent + 2349 * k) first);
       small = subst (λ (x : Clock). x.value ≤ 782) (sym first) there.small;
       in_step = subst (λ (x : Clock). BeginsAt offset x.sent x.value) (sym first) there.step;
     }

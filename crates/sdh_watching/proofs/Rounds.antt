@@ -19,15 +19,22 @@ use Rattle.sdh_watching.proofs.Known.{heard_same}
 
 -- ---- from a course to rounds one after the other
 
-round_at : (rounds : List (List Arrival)) (w : World) (j : ℕ) → ArriveIn rounds w → j < length rounds → IsRound (course_with rounds w j) (course_with rounds w (suc j))
+round_at : (rounds : List (List Arrival)) (w : World) (j : ℕ) → ArriveIn rounds w → j < length rounds
+    → IsRound (course_with rounds w j) (course_with rounds w (suc j))
 round_at [] w j arrive low = absurd (omega arith)
 round_at (xs ∷ later) w zero arrive low = record { arrivals = xs; arrive = arrive.0; after_is = refl }
 round_at (xs ∷ later) w (suc j) arrive low = round_at later (round_with xs w) j arrive.1 (omega arith)
 
-lead_to : (rounds : List (List Arrival)) (w : World) (j : ℕ) → ArriveIn rounds w → j ≤ length rounds → Lead j w (course_with rounds w j) (heard_in j (course_with rounds w))
+lead_to : (rounds : List (List Arrival)) (w : World) (j : ℕ) → ArriveIn rounds w → j ≤ length rounds
+    → Lead j w (course_with rounds w j) (heard_in j (course_with rounds w))
 lead_to rounds w zero arrive low = (refl, λ port. refl)
-lead_to rounds w (suc j) arrive low =
-    (course_with rounds w j, heard_in j (course_with rounds w), lead_to rounds w j arrive (omega arith), round_at rounds w j arrive (omega arith), λ port. refl)
+lead_to rounds w (suc j) arrive low = (
+  course_with rounds w j,
+  heard_in j (course_with rounds w),
+  lead_to rounds w j arrive (omega arith),
+  round_at rounds w j arrive (omega arith),
+  λ port. refl,
+)
 
 -- ---- and back
 
@@ -55,24 +62,30 @@ led_by (suc k) w left heard (mid, before, lead, is, more) =
       left_is = here;
       heard_is = λ port. more port
           ∙ ap₂ (λ (v : World) l. given_at v.ring port ∷ l) last
-          (led.heard_is port ∙ heard_same k (course_with old w) (course_with all w) port (λ j h. course_more adm old is.arrivals w j (omega (arith, h, c))));
+          (led.heard_is port ∙ heard_same k (course_with old w) (course_with all w) port
+          (λ j h. course_more adm old is.arrivals w j (omega (arith, h, c))));
     }
 
 -- ---- a course behind another
 
-behind_at : (xs ys : List (List Arrival)) (w mid : World) (j : ℕ) → mid ≡ run_with xs w → course_with (xs ++ ys) w (length xs + j) ≡ course_with ys mid j
+behind_at : (xs ys : List (List Arrival)) (w mid : World) (j : ℕ) → mid ≡ run_with xs w
+    → course_with (xs ++ ys) w (length xs + j) ≡ course_with ys mid j
 behind_at xs ys w mid j is = ap (λ rs. run_with rs w) (take_past xs ys j) ∙ run_on adm xs (take j ys) w ∙ ap (run_with (take j ys)) (sym is)
 
 -- what is told of a settle step is what its rounds and those behind it show
 told_at : (number limit : ℕ) (w mid : World) (s : Settles w limit mid) (behind : List (List Arrival)) → length behind ≡ 128
-    → watched_in number (course_with (s.rounds ++ behind) w) (length s.rounds) ≡ watched number mid.ring (run_with behind mid).ring (heard_in 128 (course_with behind mid))
+    → watched_in number (course_with (s.rounds ++ behind) w) (length s.rounds)
+    ≡ watched number mid.ring (run_with behind mid).ring (heard_in 128 (course_with behind mid))
 told_at number limit w mid s behind count =
     let k = length s.rounds in
     let at = course_with (s.rounds ++ behind) w in
     let none : k + 0 ≡ k = omega arith in
     let first : at k ≡ mid = ap at (sym none) ∙ behind_at s.rounds behind w mid 0 s.left_is in
-    let last : at (k + 128) ≡ run_with behind mid = behind_at s.rounds behind w mid 128 s.left_is ∙ ap (course_with behind mid) (sym count) ∙ sym (course_whole adm behind mid) in
-    let heard = λ (port : PortId). heard_same 128 (λ j. at (k + j)) (course_with behind mid) port (λ j h. behind_at s.rounds behind w mid j s.left_is) in
+    let last : at (k + 128) ≡ run_with behind mid =
+    behind_at s.rounds behind w mid 128 s.left_is ∙ ap (course_with behind mid) (sym count) ∙ sym (course_whole adm behind mid) in
+    let heard =
+    λ (port : PortId). heard_same 128 (λ j. at (k + j)) (course_with behind mid) port
+    (λ j h. behind_at s.rounds behind w mid j s.left_is) in
     λ i. watched number (first i).ring (last i).ring (λ port. heard port i)
 
 -- ---- a settle step, and the rounds that are watched behind it
@@ -85,7 +98,8 @@ pub record IsWatched (limit number : ℕ) (w : World) (told : Watched) (left : W
   pub rounds : Lead 128 mid left heard
   pub told_is : told ≡ watched number mid.ring left.ring heard
 
-pub watched_by : (limit number : ℕ) (w : World) (told : Watched) (left : World) → Ended watch_walk limit number w told left → IsWatched limit number w told left
+pub watched_by : (limit number : ℕ) (w : World) (told : Watched) (left : World) → Ended watch_walk limit number w told left
+    → IsWatched limit number w told left
 watched_by limit number w told left e =
     let behind = e.behind in
     let last : left ≡ course_with behind e.mid 128 = e.left_is ∙ course_whole adm behind e.mid ∙ ap (course_with behind e.mid) e.count in
@@ -93,11 +107,16 @@ watched_by limit number w told left e =
       mid = e.mid;
       heard = heard_in 128 (course_with behind e.mid);
       settles = e.settles;
-      rounds = subst (λ v. Lead 128 e.mid v (heard_in 128 (course_with behind e.mid))) (sym last) (lead_to behind e.mid 128 e.arrive (let c = e.count in omega arith));
-      told_is = e.told_is ∙ told_at number limit w e.mid e.settles behind e.count ∙ ap (λ (v : World). watched number e.mid.ring v.ring (heard_in 128 (course_with behind e.mid))) (sym e.left_is);
+      rounds =
+          subst (λ v. Lead 128 e.mid v (heard_in 128 (course_with behind e.mid))) (sym last)
+          (lead_to behind e.mid 128 e.arrive (let c = e.count in omega arith));
+      told_is =
+          e.told_is ∙ told_at number limit w e.mid e.settles behind e.count
+          ∙ ap (λ (v : World). watched number e.mid.ring v.ring (heard_in 128 (course_with behind e.mid))) (sym e.left_is);
     }
 
-pub ended_with : (limit number : ℕ) (w mid left : World) (heard : PortId → List Given) → Settles w limit mid → Lead 128 mid left heard → Ended watch_walk limit number w (watched number mid.ring left.ring heard) left
+pub ended_with : (limit number : ℕ) (w mid left : World) (heard : PortId → List Given) → Settles w limit mid → Lead 128 mid left heard
+    → Ended watch_walk limit number w (watched number mid.ring left.ring heard) left
 ended_with limit number w mid left heard s lead =
     let led = led_by 128 mid left heard lead in
     record {
@@ -107,10 +126,13 @@ ended_with limit number w mid left heard s lead =
       arrive = led.arrive;
       count = led.count;
       left_is = led.left_is;
-      told_is = (λ i. watched number mid.ring (led.left_is i).ring (λ port. led.heard_is port i)) ∙ sym (told_at number limit w mid s led.rounds led.count);
+      told_is =
+          (λ i. watched number mid.ring (led.left_is i).ring (λ port. led.heard_is port i))
+          ∙ sym (told_at number limit w mid s led.rounds led.count);
     }
 
-pub breaks_with : (limit : ℕ) (w mid : World) (left : Fibres) → Settles w limit mid → BreaksAmong 128 mid left → BreaksBehind watch_walk limit w left
+pub breaks_with : (limit : ℕ) (w mid : World) (left : Fibres) → Settles w limit mid → BreaksAmong 128 mid left
+    → BreaksBehind watch_walk limit w left
 breaks_with limit w mid left s b =
     let led = led_by b.ran mid b.last b.heard b.rounds in
     record {

@@ -24,11 +24,15 @@ use Rattle.sdh_watching.specs.Owed.{AreClean}
 -- circuits and the script
 abbrev pub WatchesAreClean : Type 0
 WatchesAreClean = (s : Settings) (ids : List ℕ) (circuits : Provisioning) (f : Fibres) → (let l = layout_in (new_ring s ids circuits) in
-    MayStart s ids f → HasCircuits l → (limit : ℕ) (past : Past) (steps : List Step) → AreSteps s.rate (length ids) (length circuits.circuits) past steps
-    → (reports : List Watched) (end : Status) (left : World) → Watches limit 0 steps (new_world s ids circuits f) reports end left → AreClean (ring_by s (length ids) circuits.circuits) limit [] 0 (scenes [] steps) reports end)
+    MayStart s ids f → HasCircuits l → (limit : ℕ) (past : Past) (steps : List Step)
+    → AreSteps s.rate (length ids) (length circuits.circuits) past steps
+    → (reports : List Watched) (end : Status) (left : World) → Watches limit 0 steps (new_world s ids circuits f) reports end left
+    → AreClean (ring_by s (length ids) circuits.circuits) limit [] 0 (scenes [] steps) reports end)
 
 -- from there no settle step with so large a limit is unsettled
 abbrev pub ScriptsSettle : Type 0
 ScriptsSettle = (s : Settings) (ids : List ℕ) (circuits : Provisioning) (f : Fibres) → (let l = layout_in (new_ring s ids circuits) in
-    MayStart s ids f → HasCircuits l → (limit : ℕ) (past : Past) (steps : List Step) → AreSteps s.rate (length ids) (length circuits.circuits) past steps → enough_for (length ids) ≤ limit
-    → (reports : List Watched) (end : Status) (left : World) → Watches limit 0 steps (new_world s ids circuits f) reports end left → IsSettled end)
+    MayStart s ids f → HasCircuits l → (limit : ℕ) (past : Past) (steps : List Step)
+    → AreSteps s.rate (length ids) (length circuits.circuits) past steps → enough_for (length ids) ≤ limit
+    → (reports : List Watched) (end : Status) (left : World) → Watches limit 0 steps (new_world s ids circuits f) reports end left
+    → IsSettled end)

@@ -29,4 +29,5 @@ AreClean ring limit earlier before (changes ∷ later) [] end = (end ≡ status.
 AreClean ring limit earlier before (changes ∷ later) (r ∷ reports) end =
     (let t = r.round + 128 in let now = earlier ++ record { changes = changes; rounds = t + 1 - rounds_in earlier } ∷ [] in
     (r.number ≡ before + 1) × IsLast ring.nodes limit (rounds_in earlier) r.round
-    × (r.watches ≡ map owed_watch (owed_ports ring.nodes (is_applied (requests_by ring now t)) (happened now) t 0 ring.circuits)) × AreClean ring limit now (before + 1) later reports end)
+    × (r.watches ≡ map owed_watch (owed_ports ring.nodes (is_applied (requests_by ring now t)) (happened now) t 0 ring.circuits))
+    × AreClean ring limit now (before + 1) later reports end)

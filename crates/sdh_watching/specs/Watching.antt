@@ -31,7 +31,8 @@ given_at r port = given_as (outlet_at r port).value (outlet_at r port).delivered
 abbrev pub Lead : ℕ → World → World → (PortId → List Given) → Type 0
 Lead zero w left heard = (left ≡ w) × ((port : PortId) → heard port ≡ [])
 Lead (suc k) w left heard =
-    (mid : World) × (before : PortId → List Given) × Lead k w mid before × IsRound mid left × ((port : PortId) → heard port ≡ given_at left.ring port ∷ before port)
+    (mid : World) × (before : PortId → List Given) × Lead k w mid before × IsRound mid left
+    × ((port : PortId) → heard port ≡ given_at left.ring port ∷ before port)
 
 -- what is given in the first rounds of a course, which gives the world after each number of rounds
 abbrev pub heard_in : ℕ → (ℕ → World) → PortId → List Given
@@ -53,7 +54,12 @@ pub record BreaksAmong (k : ℕ) (w : World) (left : Fibres) : Type 0 where
 -- that of the circuit's other port
 abbrev pub port_watched : HeldRing → (PortId → List Given) → ℕ → Provisioned → End → WatchLine
 port_watched r heard index c e = (let port : PortId = record { circuit = index; end = e } in
-    record { name = c.name; end = e; shows = shown (outlet_at r port).delivered (report_of (customer_at c (other_end e)).trace (heard port)) })
+    record {
+      name = c.name;
+      end = e;
+      shows = shown (outlet_at r port).delivered
+          (report_of (customer_at c (other_end e)).trace (heard port));
+    })
 
 -- those of these circuits, which are counted from `index`
 abbrev pub ports_watched : HeldRing → (PortId → List Given) → ℕ → List Provisioned → List WatchLine
@@ -61,7 +67,11 @@ ports_watched r heard = of_ports (port_watched r heard)
 
 -- of settle step `number`, which ended with the first of these rings, and the rounds to the second
 abbrev pub watched : ℕ → HeldRing → HeldRing → (PortId → List Given) → Watched
-watched number mid left heard = record { number = number; round = mid.rounds - 1; watches = ports_watched left heard 0 left.circuits.circuits }
+watched number mid left heard = record {
+  number = number;
+  round = mid.rounds - 1;
+  watches = ports_watched left heard 0 left.circuits.circuits;
+}
 
 -- of settle step `number`, which ended with the k-th round of a course, and the 128 rounds behind it
 abbrev pub watched_in : ℕ → (ℕ → World) → ℕ → Watched

@@ -13,8 +13,11 @@ module _ (plan : Planned) (ask : Ask) where
   more k zero = let same : k ≡ k + zero = omega arith in ([], append-nil (lines_below plan ask k) ∙ ap (lines_below plan ask) same)
   more k (suc j) =
       let before = more k j in
-      let next : suc (k + j) ≡ k + suc j = omega arith in
-      (before.0 ++ line_at plan ask (k + j), sym (append_assoc (lines_below plan ask k) before.0 (line_at plan ask (k + j))) ∙ ap (λ l. l ++ line_at plan ask (k + j)) before.1 ∙ ap (lines_below plan ask) next)
+      let next : suc (k + j) ≡ k + suc j = omega arith in (
+        before.0 ++ line_at plan ask (k + j),
+        sym (append_assoc (lines_below plan ask k) before.0 (line_at plan ask (k + j)))
+            ∙ ap (λ l. l ++ line_at plan ask (k + j)) before.1 ∙ ap (lines_below plan ask) next,
+      )
 
   pub rest_of : (k m : ℕ) → k ≤ m → (rest : List ℕ) × (lines_below plan ask k ++ rest ≡ lines_below plan ask m)
   rest_of k m within =

@@ -23,7 +23,11 @@ module _ (n d e f : ℕ) where
   one_is some is = sym (ap (λ b. by b (nat_eq e 0) (nat_eq d 0)) (isnt f some) ∙ ap (λ b. by false b (nat_eq d 0)) (eq-eqb e 0 is))
 
   pub two_are : (f ≡ 0 → ⊥) → (e ≡ 0 → ⊥) → d ≡ 0 → one e ∷ one f ∷ [] ≡ failures_of n d e f
-  two_are some both is = sym (ap (λ b. by b (nat_eq e 0) (nat_eq d 0)) (isnt f some) ∙ ap (λ b. by false b (nat_eq d 0)) (isnt e both) ∙ ap (by false false) (eq-eqb d 0 is))
+  two_are some both is =
+      sym (ap (λ b. by b (nat_eq e 0) (nat_eq d 0)) (isnt f some) ∙ ap (λ b. by false b (nat_eq d 0)) (isnt e both)
+      ∙ ap (by false false) (eq-eqb d 0 is))
 
   pub three_are : (f ≡ 0 → ⊥) → (e ≡ 0 → ⊥) → (d ≡ 0 → ⊥) → one d ∷ one e ∷ one f ∷ [] ≡ failures_of n d e f
-  three_are some both all = sym (ap (λ b. by b (nat_eq e 0) (nat_eq d 0)) (isnt f some) ∙ ap (λ b. by false b (nat_eq d 0)) (isnt e both) ∙ ap (by false false) (isnt d all))
+  three_are some both all =
+      sym (ap (λ b. by b (nat_eq e 0) (nat_eq d 0)) (isnt f some) ∙ ap (λ b. by false b (nat_eq d 0)) (isnt e both)
+      ∙ ap (by false false) (isnt d all))

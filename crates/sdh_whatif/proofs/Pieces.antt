@@ -1,5 +1,6 @@
 -- A text that is written piece by piece.
-use Rattle.std.proofs.Common.{◌≡◌, ℕ, ◌+◌, ◌<◌, ◌≤◌, Bool, List, [], ◌++◌, length, take, Option, Result, Ok, Err, IsErr, OnOk, OnErr, refl, sym, ap, ◌∙◌, subst, arith}
+use Rattle.std.proofs.Common.{◌≡◌, ℕ, ◌+◌, ◌<◌, ◌≤◌, Bool, List, [], ◌++◌, length, take, Option, Result, Ok, Err, IsErr, OnOk, OnErr, refl}
+use Rattle.std.proofs.Common.{sym, ap, ◌∙◌, subst, arith}
 use Rattle.std.specs.Io.KnownBytes.{Appends}
 use Rattle.std.proofs.KnownBytes.{Appends-nil, Appends-trans}
 use Rattle.std.proofs.Math.Seq.{take-append-le, take-append-add}
@@ -26,7 +27,8 @@ module _ {T E : Type 0} (exact : Bool) where
   }
 
   -- a piece, and the next one
-  pub after : (a b c : Option (List ℕ)) (x y z : ℕ) (s t : List ℕ) (ok : T) (r : Result T E) → Wrote {T = T} {E = E} exact a b x y s (Ok ok) → Wrote exact b c y z t r → Wrote exact a c x z (s ++ t) r
+  pub after : (a b c : Option (List ℕ)) (x y z : ℕ) (s t : List ℕ) (ok : T) (r : Result T E) → Wrote {T = T} {E = E} exact a b x y s (Ok ok)
+      → Wrote exact b c y z t r → Wrote exact a c x z (s ++ t) r
   after a b c x y z s t ok (Ok next) f g = record {
     ok = Appends-trans a b c s t f.ok g.ok;
     front = tt;
@@ -39,7 +41,11 @@ module _ {T E : Type 0} (exact : Bool) where
       let front : take (length s + n) (s ++ t) ≡ s ++ take n t = take-append-add s t n in
       record {
         ok = tt;
-        front = (length s + n, omega (arith, g.front.1, length-append s t), subst (Appends a c) (sym front) (Appends-trans a b c s (take n t) f.ok g.front.2));
+        front = (
+          length s + n,
+          omega (arith, g.front.1, length-append s t),
+          subst (Appends a c) (sym front) (Appends-trans a b c s (take n t) f.ok g.front.2),
+        );
         fault = rose x y z f.later g.fault;
         later = omega (arith, f.later, g.later);
         counted = record {
@@ -49,7 +55,8 @@ module _ {T E : Type 0} (exact : Bool) where
       }
 
   -- a piece that wasn't written is the end
-  pub stopped : (a b : Option (List ℕ)) (x y : ℕ) (s t : List ℕ) (e : E) → Wrote {T = T} {E = E} exact a b x y s (Err e) → Wrote {T = T} {E = E} exact a b x y (s ++ t) (Err e)
+  pub stopped : (a b : Option (List ℕ)) (x y : ℕ) (s t : List ℕ) (e : E) → Wrote {T = T} {E = E} exact a b x y s (Err e)
+      → Wrote {T = T} {E = E} exact a b x y (s ++ t) (Err e)
   stopped a b x y s t e f =
       let n = f.front.0 in
       let low : n < length s = f.front.1 in
@@ -63,10 +70,12 @@ module _ {T E : Type 0} (exact : Bool) where
       }
 
 -- the same text
-pub as_text : {T E : Type 0} (exact : Bool) (a b : Option (List ℕ)) (x y : ℕ) (s t : List ℕ) (r : Result T E) → s ≡ t → Wrote {T = T} {E = E} exact a b x y s r → Wrote {T = T} {E = E} exact a b x y t r
+pub as_text : {T E : Type 0} (exact : Bool) (a b : Option (List ℕ)) (x y : ℕ) (s t : List ℕ) (r : Result T E) → s ≡ t
+    → Wrote {T = T} {E = E} exact a b x y s r → Wrote {T = T} {E = E} exact a b x y t r
 as_text {T = T} {E = E} exact a b x y s t r same w = subst (λ l. Wrote {T = T} {E = E} exact a b x y l r) same w
 
 -- a piece that was written whole, or not
-pub of_text : {T E : Type 0} (exact : Bool) (a b : Option (List ℕ)) (x y : ℕ) (s : List ℕ) (r : Result T E) → OnOk r (Appends a b s) → OnErr r (Rose x y) → OnErr r (AppendsFewer a b s) → x ≤ y → IsCounted exact (IsErr r) x y
+pub of_text : {T E : Type 0} (exact : Bool) (a b : Option (List ℕ)) (x y : ℕ) (s : List ℕ) (r : Result T E) → OnOk r (Appends a b s)
+    → OnErr r (Rose x y) → OnErr r (AppendsFewer a b s) → x ≤ y → IsCounted exact (IsErr r) x y
     → Wrote {T = T} {E = E} exact a b x y s r
 of_text exact a b x y s r ok fault front later counted = record { ok = ok; front = front; fault = fault; later = later; counted = counted }

@@ -12,4 +12,5 @@ digits_16 n h = length-decimal-le 5 n (omega arith) (omega arith) (omega arith)
 
 -- a line with a short part more
 pub grown : (old new part : List ℕ) (k : ℕ) → new ≡ old ++ part → length part ≤ k → length new ≤ length old + k
-grown old new part k is short = let l : length new ≡ length old + length part = ap (λ (x : List ℕ). length x) is ∙ length-append old part in omega (arith, l, short)
+grown old new part k is short = let l : length new ≡ length old + length part =
+    ap (λ (x : List ℕ). length x) is ∙ length-append old part in omega (arith, l, short)

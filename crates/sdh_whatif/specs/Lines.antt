@@ -71,7 +71,8 @@ number_text number = codes "," ++ decimal number
 abbrev pub line_text : Planned → List Failure → List ℕ
 line_text plan case =
     case_text plan case ++ number_text (count_of plan case Kept) ++ number_text (count_of plan case Over)
-    ++ number_text (count_of plan case Lost) ++ number_text (longest_of plan case) ++ flat_map (lost_text plan case) plan.circuits ++ codes "\n"
+    ++ number_text (count_of plan case Lost) ++ number_text (longest_of plan case) ++ flat_map (lost_text plan case) plan.circuits
+    ++ codes "\n"
 
 -- of a number with these digits, where it stands for a case that is told
 abbrev pub digits_text : Planned → ℕ → ℕ → ℕ → List ℕ

@@ -16,7 +16,9 @@ refusal how = last_line how
 
 -- there is no plan, or its table is told
 abbrev pub OfBytes : Ask → List ℕ → Status → List ℕ → Type 0
-OfBytes ask bytes how text = (HasNoPlan bytes how × (text ≡ refusal how)) ⊎ ((plan : Planned) × TellsPlan bytes plan × (how ≡ status.Ok) × (text ≡ table_text plan ask))
+OfBytes ask bytes how text =
+    (HasNoPlan bytes how × (text ≡ refusal how)) ⊎ ((plan : Planned) × TellsPlan bytes plan × (how ≡ status.Ok)
+    × (text ≡ table_text plan ask))
 
 -- What is asked for comes to this status, with this text, where the source had these bytes left. Nothing comes to a write fault or to want
 -- of memory: they may stand in place of an outcome.

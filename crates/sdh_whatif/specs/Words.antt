@@ -9,7 +9,9 @@ use Rattle.sdh_whatif.specs.declared.ask.Depth.TheVariants.{Single, Double, Trip
 
 -- how many failures at most are taken together
 abbrev pub depth_named : List ℕ → Option Depth
-depth_named word = if bytes_eq word (codes "single") then Some Single else if bytes_eq word (codes "double") then Some Double else if bytes_eq word (codes "triple") then Some Triple else None
+depth_named word =
+    if bytes_eq word (codes "single") then Some Single else if bytes_eq word (codes "double")
+    then Some Double else if bytes_eq word (codes "triple") then Some Triple else None
 
 abbrev pub ask_of : Depth → ℕ → ℕ → Ask
 ask_of depth part parts = record { depth = depth; part = part; parts = parts }
@@ -17,7 +19,8 @@ ask_of depth part parts = record { depth = depth; part = part; parts = parts }
 -- a word, and which part of how many, counted from 1
 abbrev pub part_of : List ℕ → List ℕ → List ℕ → Option Ask
 part_of word part parts =
-    option_and_then (λ depth. option_and_then (λ n. option_map (λ k. ask_of depth k n) (numeral_in 1 n part)) (numeral_in 1 (2 ^ 32 - 1) parts)) (depth_named word)
+    option_and_then (λ depth. option_and_then (λ n. option_map (λ k. ask_of depth k n) (numeral_in 1 n part))
+    (numeral_in 1 (2 ^ 32 - 1) parts)) (depth_named word)
 
 -- what the words ask for: a word alone is for the whole of it
 abbrev pub asked : List (List ℕ) → Option Ask

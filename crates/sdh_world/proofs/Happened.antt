@@ -24,7 +24,8 @@ module _ (offset : ℕ) (port : PortId) where
       ]
   after_change (Now t) h = refl
 
-  after_changes : (cs : List Change) (h : List Happening) → clock_changed port cs (clock_by offset h) ≡ clock_by offset (told_by_all port cs h)
+  after_changes : (cs : List Change) (h : List Happening) → clock_changed port cs (clock_by offset h)
+      ≡ clock_by offset (told_by_all port cs h)
   after_changes [] h = refl
   after_changes (c ∷ cs) h = ap (clock_changed port cs) (after_change c h) ∙ after_changes cs (told_by port c h)
 
@@ -33,13 +34,16 @@ module _ (offset : ℕ) (port : PortId) where
   after_rounds zero h = refl
   after_rounds (suc k) h = ap ticked (after_rounds k h)
 
-  told_in : (ss : List Stretch) (h : List Happening) (t : ℕ) → clock_in port ss (clock_by offset h) t ≡ clock_by offset (happened_in port ss h t)
+  told_in : (ss : List Stretch) (h : List Happening) (t : ℕ)
+      → clock_in port ss (clock_by offset h) t ≡ clock_by offset (happened_in port ss h t)
   told_in [] h t = after_rounds t h
   told_in (s ∷ ss) h t =
       let c = after_changes s.changes h in
       elim (cases_Bool (nat_lt t s.rounds)) [
         | inl e ↦ rw e (ap (ticks t) c ∙ after_rounds t (told_by_all port s.changes h))
-        | inr e ↦ rw e (ap (λ x. clock_in port ss (ticks s.rounds x) (t - s.rounds)) c ∙ ap (λ x. clock_in port ss x (t - s.rounds)) (after_rounds s.rounds (told_by_all port s.changes h)) ∙ told_in ss (went_by s.rounds (told_by_all port s.changes h)) (t - s.rounds))
+        | inr e ↦ rw e (ap (λ x. clock_in port ss (ticks s.rounds x) (t - s.rounds)) c
+            ∙ ap (λ x. clock_in port ss x (t - s.rounds)) (after_rounds s.rounds (told_by_all port s.changes h))
+            ∙ told_in ss (went_by s.rounds (told_by_all port s.changes h)) (t - s.rounds))
       ]
 
 pub clocks_tell : ClocksTellWhatHappened

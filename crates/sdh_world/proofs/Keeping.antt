@@ -1,5 +1,6 @@
 -- What calls keep of a node, and of all nodes of a ring.
-use Rattle.std.proofs.Common.{◌≡◌, ℕ, zero, suc, ◌+◌, ◌<◌, ◌≤◌, Bool, true, false, List, [], ◌∷◌, ◌++◌, length, get_or, map, refl, ap, sym, subst, ◌∙◌, arith}
+use Rattle.std.proofs.Common.{◌≡◌, ℕ, zero, suc, ◌+◌, ◌<◌, ◌≤◌, Bool, true, false, List, [], ◌∷◌, ◌++◌, length, get_or, map, refl, ap, sym}
+use Rattle.std.proofs.Common.{subst, ◌∙◌, arith}
 use Rattle.std.specs.Prelude.{All, IsSome, Some, find, slice_get, ◌==◌, ◌&&◌, if◌then◌else◌}
 use Rattle.std.proofs.lemmas.List.{length-map}
 use Rattle.std.proofs.lemmas.List.Elements.{All-map}
@@ -22,7 +23,8 @@ use Rattle.sdh_request.specs.declared.settings.Settings.{Settings}
 use Rattle.sdh_node.specs.Receiving.{after_intake, after_overhead, commanded_by}
 use Rattle.sdh_terminal.specs.Tributaries.{Tributary, is_port, port_of, HasPort, slipped, with_slips, fed, all_fed, tributaries_at}
 use Rattle.sdh_node.specs.Crossing.{Cross, after_decision, delivered_to, all_delivered}
-use Rattle.sdh_node.specs.Node.{Node, new_node, at_receiving, held_for, slips_at, crossing, ports_after, after_crossing, with_calm, node_round}
+use Rattle.sdh_node.specs.Node.{Node, new_node, at_receiving, held_for, slips_at, crossing, ports_after, after_crossing, with_calm}
+use Rattle.sdh_node.specs.Node.{node_round}
 use Rattle.sdh_node.proofs.Rounds.{round_goes_on}
 use Rattle.sdh_world.specs.Held.{new_nodes, at_place}
 use Rattle.sdh_world.specs.Rounds.{with_arrival, with_arrivals, all_with_arrivals, node_after}
@@ -50,18 +52,22 @@ fixed_commanded East c n = refl
 
 ports_kept : (x : Cross) (ports : List Tributary) → map fixed_port (ports_after x ports) ≡ map fixed_port ports
 unfolding ports_after all_fed all_delivered
-ports_kept x ports = ports_mapped (λ i t. fed t) 0 (map_from (λ i t. delivered_to x t) 0 ports) (λ k t. refl) ∙ ports_mapped (λ i t. delivered_to x t) 0 ports (λ k t. refl)
+ports_kept x ports =
+    ports_mapped (λ i t. fed t) 0 (map_from (λ i t. delivered_to x t) 0 ports) (λ k t. refl)
+    ∙ ports_mapped (λ i t. delivered_to x t) 0 ports (λ k t. refl)
 
 port_slipped : (turn : Turn) (count : ℕ) (t : Tributary) → fixed_port (slipped turn count t) ≡ fixed_port t
 port_slipped Up count t = refl
 port_slipped Down count t = refl
 
-ports_slipped : (id : PortId) (turn : Turn) (count : ℕ) (ts : List Tributary) → map fixed_port (with_slips id turn count ts) ≡ map fixed_port ts
+ports_slipped : (id : PortId) (turn : Turn) (count : ℕ) (ts : List Tributary)
+    → map fixed_port (with_slips id turn count ts) ≡ map fixed_port ts
 unfolding with_slips
 ports_slipped id turn count [] = refl
 ports_slipped id turn count (t ∷ ts) = go (is_port id t) (ports_slipped id turn count ts)
   where
-    go : (b : Bool) → map fixed_port (with_slips id turn count ts) ≡ map fixed_port ts → map fixed_port (if b then slipped turn count t ∷ ts else t ∷ with_slips id turn count ts) ≡ map fixed_port (t ∷ ts)
+    go : (b : Bool) → map fixed_port (with_slips id turn count ts) ≡ map fixed_port ts
+        → map fixed_port (if b then slipped turn count t ∷ ts else t ∷ with_slips id turn count ts) ≡ map fixed_port (t ∷ ts)
     go true rest = ap (λ p. p ∷ map fixed_port ts) (port_slipped turn count t)
     go false rest = ap (λ ps. fixed_port t ∷ ps) rest
 
@@ -79,37 +85,45 @@ pub all_heard : (xs : List Arrival) (ns : List Node) → map fixed (all_with_arr
 all_heard [] ns = refl
 all_heard (west ∷ []) ns = refl
 all_heard (west ∷ east ∷ later) [] = refl
-all_heard (west ∷ east ∷ later) (n ∷ ns) = ap (λ f. f ∷ map fixed (all_with_arrivals later ns)) (fixed_met west east n) ∙ ap (λ fs. fixed n ∷ fs) (all_heard later ns)
+all_heard (west ∷ east ∷ later) (n ∷ ns) =
+    ap (λ f. f ∷ map fixed (all_with_arrivals later ns)) (fixed_met west east n) ∙ ap (λ fs. fixed n ∷ fs) (all_heard later ns)
 
 pub all_next : (now : ℕ) (ns : List Node) → map fixed (map (node_after now) ns) ≡ map fixed ns
 all_next now [] = refl
 all_next now (n ∷ ns) = ap (λ f. f ∷ map fixed (map (node_after now) ns)) (fixed_next now n) ∙ ap (λ fs. fixed n ∷ fs) (all_next now ns)
 
 -- what a change of one node leaves of it stays of all
-pub all_placed : {Y : Type 0} (f : Node → Y) (change : Node → Node) → ((n : Node) → f (change n) ≡ f n) → (i : ℕ) (ns : List Node) → map f (at_place i change ns) ≡ map f ns
+pub all_placed : {Y : Type 0} (f : Node → Y) (change : Node → Node) → ((n : Node) → f (change n) ≡ f n) → (i : ℕ) (ns : List Node)
+    → map f (at_place i change ns) ≡ map f ns
 all_placed f change same i [] = refl
 all_placed f change same zero (n ∷ ns) = ap (λ y. y ∷ map f ns) (same n)
 all_placed f change same (suc i) (n ∷ ns) = ap (λ ys. f n ∷ ys) (all_placed f change same i ns)
 
-pub all_commanded : (i : ℕ) (side : Side) (c : Command) (ns : List Node) → map fixed (at_place i (at_receiving side (commanded_by c)) ns) ≡ map fixed ns
+pub all_commanded : (i : ℕ) (side : Side) (c : Command) (ns : List Node)
+    → map fixed (at_place i (at_receiving side (commanded_by c)) ns) ≡ map fixed ns
 all_commanded i side c ns = all_placed fixed (at_receiving side (commanded_by c)) (fixed_commanded side c) i ns
 
 pub all_held : (i turns : ℕ) (ns : List Node) → map fixed (at_place i (held_for turns) ns) ≡ map fixed ns
 unfolding fixed
 all_held i turns ns = all_placed fixed (held_for turns) (λ n. refl) i ns
 
-pub all_slipped : (i : ℕ) (id : PortId) (turn : Turn) (count : ℕ) (ns : List Node) → map fixed (at_place i (slips_at id turn count) ns) ≡ map fixed ns
+pub all_slipped : (i : ℕ) (id : PortId) (turn : Turn) (count : ℕ) (ns : List Node)
+    → map fixed (at_place i (slips_at id turn count) ns) ≡ map fixed ns
 all_slipped i id turn count ns = all_placed fixed (slips_at id turn count) (fixed_slipped id turn count) i ns
 
 -- ---- the feeds of ports
 
 -- what holds of each port's feed, by what the round makes of it
-feeds_after : (P Q : Fed → Type 0) → ((f : Fed) → P f → Q (next_feed f)) → (x : Cross) (i j : ℕ) (ts : List Tributary) → All (λ (t : Tributary). P t.feed) ts → All (λ (t : Tributary). Q t.feed) (map_from (λ i t. fed t) i (map_from (λ i t. delivered_to x t) j ts))
+feeds_after : (P Q : Fed → Type 0) → ((f : Fed) → P f → Q (next_feed f)) → (x : Cross) (i j : ℕ) (ts : List Tributary)
+    → All (λ (t : Tributary). P t.feed) ts → All (λ (t : Tributary). Q t.feed)
+    (map_from (λ i t. fed t) i (map_from (λ i t. delivered_to x t) j ts))
 feeds_after P Q to x i j [] all m d lt = absurd (omega arith)
 feeds_after P Q to x i j (t ∷ ts) all zero d lt = to t.feed (all 0 d (omega arith))
-feeds_after P Q to x i j (t ∷ ts) all (suc m) d lt = feeds_after P Q to x (i + 1) (j + 1) ts (λ a e low. all (suc a) e (omega arith)) m d (omega arith)
+feeds_after P Q to x i j (t ∷ ts) all (suc m) d lt =
+    feeds_after P Q to x (i + 1) (j + 1) ts (λ a e low. all (suc a) e (omega arith)) m d (omega arith)
 
-pub feeds_next : (P Q : Fed → Type 0) → ((f : Fed) → P f → Q (next_feed f)) → (now : ℕ) (n : Node) → All (λ (t : Tributary). P t.feed) n.ports → All (λ (t : Tributary). Q t.feed) (node_after now n).ports
+pub feeds_next : (P Q : Fed → Type 0) → ((f : Fed) → P f → Q (next_feed f)) → (now : ℕ) (n : Node)
+    → All (λ (t : Tributary). P t.feed) n.ports → All (λ (t : Tributary). Q t.feed) (node_after now n).ports
 unfolding node_round with_calm after_crossing ports_after all_fed all_delivered
 feeds_next P Q to now n all = feeds_after P Q to (crossing now n) 0 0 n.ports all
 
@@ -144,7 +158,8 @@ all_on_heard [] r m ns all i d lt = all i d lt
 all_on_heard (west ∷ []) r m ns all i d lt = all i d lt
 all_on_heard (west ∷ east ∷ later) r m [] all i d lt = all i d lt
 all_on_heard (west ∷ east ∷ later) r m (n ∷ ns) all zero d lt = on_met west east r m n (all 0 d (omega arith))
-all_on_heard (west ∷ east ∷ later) r m (n ∷ ns) all (suc i) d lt = all_on_heard later r m ns (λ j e low. all (suc j) e (omega arith)) i d (omega arith)
+all_on_heard (west ∷ east ∷ later) r m (n ∷ ns) all (suc i) d lt =
+    all_on_heard later r m ns (λ j e low. all (suc j) e (omega arith)) i d (omega arith)
 
 pub all_on_next : (r m : ℕ) (ns : List Node) → All (IsOn r m) ns → All (IsOn (r + 1) m) (map (node_after m) ns)
 all_on_next r m ns all = All-map (IsOn (r + 1) m) (node_after m) ns (λ i d lt. on_next r m (get_or ns i d) (all i d lt))
@@ -153,18 +168,23 @@ on_commanded : (side : Side) (c : Command) (r m : ℕ) (n : Node) → IsOn r m n
 on_commanded West c r m n h = record { rounds_are = h.rounds_are; early = h.early; clocks = h.clocks }
 on_commanded East c r m n h = record { rounds_are = h.rounds_are; early = h.early; clocks = h.clocks }
 
-pub all_at_place : (P : Node → Type 0) (change : Node → Node) (p : ℕ) (ns : List Node) → ((n : Node) → slice_get ns p ≡ Some n → P n → P (change n)) → All P ns → All P (at_place p change ns)
+pub all_at_place : (P : Node → Type 0) (change : Node → Node) (p : ℕ) (ns : List Node)
+    → ((n : Node) → slice_get ns p ≡ Some n → P n → P (change n)) → All P ns → All P (at_place p change ns)
 all_at_place P change p [] keep all i d lt = all i d lt
 all_at_place P change zero (n ∷ ns) keep all zero d lt = keep n refl (all 0 d (omega arith))
 all_at_place P change zero (n ∷ ns) keep all (suc i) d lt = all (suc i) d lt
 all_at_place P change (suc p) (n ∷ ns) keep all zero d lt = all zero d (omega arith)
-all_at_place P change (suc p) (n ∷ ns) keep all (suc i) d lt = all_at_place P change p ns keep (λ j e low. all (suc j) e (omega arith)) i d (omega arith)
+all_at_place P change (suc p) (n ∷ ns) keep all (suc i) d lt =
+    all_at_place P change p ns keep (λ j e low. all (suc j) e (omega arith)) i d (omega arith)
 
-pub all_on_commanded : (p : ℕ) (side : Side) (c : Command) (r m : ℕ) (ns : List Node) → All (IsOn r m) ns → All (IsOn r m) (at_place p (at_receiving side (commanded_by c)) ns)
-all_on_commanded p side c r m ns all = all_at_place (IsOn r m) (at_receiving side (commanded_by c)) p ns (λ n at h. on_commanded side c r m n h) all
+pub all_on_commanded : (p : ℕ) (side : Side) (c : Command) (r m : ℕ) (ns : List Node) → All (IsOn r m) ns
+    → All (IsOn r m) (at_place p (at_receiving side (commanded_by c)) ns)
+all_on_commanded p side c r m ns all =
+    all_at_place (IsOn r m) (at_receiving side (commanded_by c)) p ns (λ n at h. on_commanded side c r m n h) all
 
 pub all_on_held : (p turns r m : ℕ) (ns : List Node) → All (IsOn r m) ns → All (IsOn r m) (at_place p (held_for turns) ns)
-all_on_held p turns r m ns all = all_at_place (IsOn r m) (held_for turns) p ns (λ n at h. record { rounds_are = h.rounds_are; early = h.early; clocks = h.clocks }) all
+all_on_held p turns r m ns all =
+    all_at_place (IsOn r m) (held_for turns) p ns (λ n at h. record { rounds_are = h.rounds_are; early = h.early; clocks = h.clocks }) all
 
 -- ---- a new ring
 
@@ -172,7 +192,8 @@ pub new_none : (s : Settings) (ids : List ℕ) (cs : List Provisioned) → [] �
 unfolding new_nodes
 new_none s ids cs = sym (cells-zero _)
 
-pub new_more : (s : Settings) (ids : List ℕ) (cs : List Provisioned) (k : ℕ) → new_nodes s ids cs (k + 1) ≡ new_nodes s ids cs k ++ new_node s ids cs (position_of k) ∷ []
+pub new_more : (s : Settings) (ids : List ℕ) (cs : List Provisioned) (k : ℕ)
+    → new_nodes s ids cs (k + 1) ≡ new_nodes s ids cs k ++ new_node s ids cs (position_of k) ∷ []
 unfolding new_nodes
 new_more s ids cs k = cells-more _ k
 
@@ -180,7 +201,8 @@ pub length-new : (s : Settings) (ids : List ℕ) (cs : List Provisioned) (k : �
 unfolding new_nodes
 length-new s ids cs k = length-cells _ k
 
-pub new_at : (s : Settings) (ids : List ℕ) (cs : List Provisioned) (n k : ℕ) (d : Node) → k < n → get_or (new_nodes s ids cs n) k d ≡ new_node s ids cs (position_of k)
+pub new_at : (s : Settings) (ids : List ℕ) (cs : List Provisioned) (n k : ℕ) (d : Node) → k < n
+    → get_or (new_nodes s ids cs n) k d ≡ new_node s ids cs (position_of k)
 unfolding new_nodes
 new_at s ids cs n k d h = get_or-cells _ n k d h
 
@@ -189,11 +211,15 @@ unfolding new_node tributaries_at
 new_on s ids cs p = record {
   rounds_are = refl;
   early = omega arith;
-  clocks = new_ports (λ (t : Tributary). IsRested t.feed.clock) (λ i e d m c. record { few = omega arith; rest_few = omega arith }) (position_of p) 0 cs;
+  clocks =
+      new_ports (λ (t : Tributary). IsRested t.feed.clock) (λ i e d m c. record { few = omega arith; rest_few = omega arith })
+      (position_of p) 0 cs;
 }
 
 pub all_new : (s : Settings) (ids : List ℕ) (cs : List Provisioned) (n : ℕ) → All (IsOn 0 0) (new_nodes s ids cs n)
-all_new s ids cs n = λ p d lt. (let low : p < n = omega (arith, length-new s ids cs n) in subst (IsOn 0 0) (sym (new_at s ids cs n p d low)) (new_on s ids cs p))
+all_new s ids cs n =
+    λ p d lt. (let low : p < n = omega (arith, length-new s ids cs n) in subst (IsOn 0 0) (sym (new_at s ids cs n p d low))
+    (new_on s ids cs p))
 
 -- ---- the node at a position
 
@@ -202,13 +228,17 @@ get-map f [] i d = refl
 get-map f (x ∷ xs) zero d = refl
 get-map f (x ∷ xs) (suc i) d = get-map f xs i d
 
-pub length-fixed : (s : Settings) (ids : List ℕ) (cs : List Provisioned) (n : ℕ) (ns : List Node) → map fixed ns ≡ map fixed (new_nodes s ids cs n) → length ns ≡ n
-length-fixed s ids cs n ns same = sym (length-map ns fixed) ∙ ap length same ∙ length-map (new_nodes s ids cs n) fixed ∙ length-new s ids cs n
+pub length-fixed : (s : Settings) (ids : List ℕ) (cs : List Provisioned) (n : ℕ) (ns : List Node)
+    → map fixed ns ≡ map fixed (new_nodes s ids cs n) → length ns ≡ n
+length-fixed s ids cs n ns same =
+    sym (length-map ns fixed) ∙ ap length same ∙ length-map (new_nodes s ids cs n) fixed ∙ length-new s ids cs n
 
 -- is what the new node there is
-pub node_is : (s : Settings) (ids : List ℕ) (cs : List Provisioned) (n : ℕ) (ns : List Node) (p : ℕ) (d : Node) → map fixed ns ≡ map fixed (new_nodes s ids cs n) → p < n → fixed (get_or ns p d) ≡ fixed (new_node s ids cs (position_of p))
+pub node_is : (s : Settings) (ids : List ℕ) (cs : List Provisioned) (n : ℕ) (ns : List Node) (p : ℕ) (d : Node)
+    → map fixed ns ≡ map fixed (new_nodes s ids cs n) → p < n → fixed (get_or ns p d) ≡ fixed (new_node s ids cs (position_of p))
 node_is s ids cs n ns p d same low =
-    sym (get-map fixed ns p d) ∙ ap (λ fs. get_or fs p (fixed d)) same ∙ get-map fixed (new_nodes s ids cs n) p d ∙ ap fixed (new_at s ids cs n p d low)
+    sym (get-map fixed ns p d) ∙ ap (λ fs. get_or fs p (fixed d)) same ∙ get-map fixed (new_nodes s ids cs n) p d
+    ∙ ap fixed (new_at s ids cs n p d low)
 
 pub settings_fixed : (m n : Node) → fixed m ≡ fixed n → m.settings ≡ n.settings
 unfolding fixed
@@ -218,8 +248,11 @@ new_settings : (s : Settings) (ids : List ℕ) (cs : List Provisioned) (p : ℕ)
 unfolding new_node
 new_settings s ids cs p = refl
 
-pub all_settings : (s : Settings) (ids : List ℕ) (cs : List Provisioned) (n : ℕ) (ns : List Node) → map fixed ns ≡ map fixed (new_nodes s ids cs n) → All (λ n. n.settings ≡ s) ns
-all_settings s ids cs n ns same = λ p d lt. settings_fixed (get_or ns p d) (new_node s ids cs (position_of p)) (node_is s ids cs n ns p d same (omega (arith, length-fixed s ids cs n ns same))) ∙ new_settings s ids cs p
+pub all_settings : (s : Settings) (ids : List ℕ) (cs : List Provisioned) (n : ℕ) (ns : List Node)
+    → map fixed ns ≡ map fixed (new_nodes s ids cs n) → All (λ n. n.settings ≡ s) ns
+all_settings s ids cs n ns same =
+    λ p d lt. settings_fixed (get_or ns p d) (new_node s ids cs (position_of p))
+    (node_is s ids cs n ns p d same (omega (arith, length-fixed s ids cs n ns same))) ∙ new_settings s ids cs p
 
 -- ---- its ports
 
@@ -231,7 +264,8 @@ unfolding names
 named id [] h = h
 named id (t ∷ ts) h = go (is_port id t) refl (named id ts)
   where
-    go : (b : Bool) → is_port id t ≡ b → (IsSome (find (is_port id) ts) → IsSome (find (names id) (map fixed_port ts))) → IsSome (find (names id) (map fixed_port (t ∷ ts)))
+    go : (b : Bool) → is_port id t ≡ b → (IsSome (find (is_port id) ts) → IsSome (find (names id) (map fixed_port ts)))
+        → IsSome (find (names id) (map fixed_port (t ∷ ts)))
     go true e rest = rw e refl
     go false e rest = let later : IsSome (find (is_port id) ts) = rw e at h in rw e (rest later)
 
@@ -240,7 +274,8 @@ unfolding names
 has_named id [] h = h
 has_named id (t ∷ ts) h = go (is_port id t) refl (has_named id ts)
   where
-    go : (b : Bool) → is_port id t ≡ b → (IsSome (find (names id) (map fixed_port ts)) → IsSome (find (is_port id) ts)) → IsSome (find (is_port id) (t ∷ ts))
+    go : (b : Bool) → is_port id t ≡ b → (IsSome (find (names id) (map fixed_port ts)) → IsSome (find (is_port id) ts))
+        → IsSome (find (is_port id) (t ∷ ts))
     go true e rest = rw e refl
     go false e rest = let later : IsSome (find (names id) (map fixed_port ts)) = rw e at h in rw e (rest later)
 
@@ -248,6 +283,7 @@ pub has_fixed : (id : PortId) (m n : Node) → fixed m ≡ fixed n → HasPort n
 unfolding fixed port_of
 has_fixed id m n same h = has_named id m.ports (subst (λ (f : Fixed). IsSome (find (names id) f.ports)) (sym same) (named id n.ports h))
 
-pub new_has : (s : Settings) (ids : List ℕ) (cs : List Provisioned) (p : ℕ) (id : PortId) → HasPort (tributaries_at (position_of p) cs) id → HasPort (new_node s ids cs (position_of p)).ports id
+pub new_has : (s : Settings) (ids : List ℕ) (cs : List Provisioned) (p : ℕ) (id : PortId) → HasPort (tributaries_at (position_of p) cs) id
+    → HasPort (new_node s ids cs (position_of p)).ports id
 unfolding new_node
 new_has s ids cs p id h = h

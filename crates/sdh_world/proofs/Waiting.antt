@@ -25,10 +25,14 @@ use Rattle.sdh_rounds.specs.Rounds as any_round
 
 -- ---- a port that is there was there before
 
-was_at : (id : PortId) (ns ms : List Node) (p : ℕ) → map fixed ms ≡ map fixed ns → IsSome (option_and_then (λ n. port_of id n.ports) (slice_get ms p)) → IsSome (option_and_then (λ n. port_of id n.ports) (slice_get ns p))
-was_at id ns ms p same there = by (slice_get ns p) (slice_get ms p) (sym (slice_get-map fixed ms p) ∙ ap (λ l. slice_get l p) same ∙ slice_get-map fixed ns p) there
+was_at : (id : PortId) (ns ms : List Node) (p : ℕ) → map fixed ms ≡ map fixed ns
+    → IsSome (option_and_then (λ n. port_of id n.ports) (slice_get ms p))
+    → IsSome (option_and_then (λ n. port_of id n.ports) (slice_get ns p))
+was_at id ns ms p same there =
+    by (slice_get ns p) (slice_get ms p) (sym (slice_get-map fixed ms p) ∙ ap (λ l. slice_get l p) same ∙ slice_get-map fixed ns p) there
   where
-    by : (a b : Option Node) → option_map fixed b ≡ option_map fixed a → IsSome (option_and_then (λ n. port_of id n.ports) b) → IsSome (option_and_then (λ n. port_of id n.ports) a)
+    by : (a b : Option Node) → option_map fixed b ≡ option_map fixed a → IsSome (option_and_then (λ n. port_of id n.ports) b)
+        → IsSome (option_and_then (λ n. port_of id n.ports) a)
     by a None e h = absurd (cc)
     by None (Some m) e h = absurd (cc)
     by (Some n) (Some m) e h = has_fixed id n m (sym (same_Some (fixed m) (fixed n) e)) h
@@ -42,15 +46,20 @@ was_there : (id : PortId) (r s : HeldRing) → IsLike r s → HasPortIn s id →
 unfolding place_of_port
 was_there id r s like there =
     let size : length s.nodes ≡ length r.nodes = sym (length-map s.nodes fixed) ∙ ap length like.nodes ∙ length-map r.nodes fixed in
-    let place : place_of_port s id ≡ place_of_port r id = λ i. option_map_or (λ (c : Provisioned). (end_of c id.end).0) (slice_get (like.circuits i).circuits id.circuit) (size i) in
-    was_at id r.nodes s.nodes (place_of_port r id) like.nodes (subst (λ p. IsSome (option_and_then (λ (n : Node). port_of id n.ports) (slice_get s.nodes p))) place there)
+    let place : place_of_port s id ≡ place_of_port r id =
+    λ i. option_map_or (λ (c : Provisioned). (end_of c id.end).0) (slice_get (like.circuits i).circuits id.circuit) (size i) in
+    was_at id r.nodes s.nodes (place_of_port r id) like.nodes
+    (subst (λ p. IsSome (option_and_then (λ (n : Node). port_of id n.ports) (slice_get s.nodes p))) place there)
 
 like_changed : (c : Change) (w : World) → IsLike w.ring (changed c w).ring
 unfolding changed
 like_changed (Fibre p d condition) w = record { circuits = refl; nodes = refl }
 like_changed (Order p d c) w = record { circuits = refl; nodes = all_commanded p d c w.ring.nodes }
 like_changed (Hold p turns) w = record { circuits = refl; nodes = all_held p turns w.ring.nodes }
-like_changed (Slip port turn count) w = record { circuits = refl; nodes = all_slipped (place_of_port w.ring port) port turn count w.ring.nodes }
+like_changed (Slip port turn count) w = record {
+  circuits = refl;
+  nodes = all_slipped (place_of_port w.ring port) port turn count w.ring.nodes;
+}
 like_changed (Now t) w = record { circuits = refl; nodes = refl }
 
 like_run : (rounds : List (List Arrival)) (w : World) → IsLike w.ring (run_with rounds w).ring
@@ -72,18 +81,24 @@ by_found r id P none some = by (port_in r id) refl
     by (Some t) e = some (subst (λ o. IsSome o) (sym e) refl)
 
 -- what a change makes of a clock bounds the slips that wait after it
-pub waits_changed : (c : Change) (w : World) (id : PortId) → waiting_at (changed c w).ring id ≤ waiting (clock_after id c (clock_at w.ring id))
-waits_changed c w id = by_found (changed c w).ring id (λ k. waiting k ≤ waiting (clock_after id c (clock_at w.ring id))) (omega arith) (λ there. (
+pub waits_changed : (c : Change) (w : World) (id : PortId) → waiting_at (changed c w).ring id
+    ≤ waiting (clock_after id c (clock_at w.ring id))
+waits_changed c w id =
+    by_found (changed c w).ring id (λ k. waiting k ≤ waiting (clock_after id c (clock_at w.ring id))) (omega arith) (λ there. (
     let goes = goes_changed id c w (was_there id w.ring (changed c w).ring (like_changed c w) there) in
     omega (arith, ap (λ (k : Clock). waiting k) goes.1)))
 
 -- in a new ring none waits
 pub waits_new : (s : Settings) (ids : List ℕ) (circuits : Provisioning) (id : PortId) → waiting_at (new_ring s ids circuits) id ≡ 0
 unfolding first_clock
-waits_new s ids circuits id = by_found (new_ring s ids circuits) id (λ k. waiting k ≡ 0) refl (λ there. ap (λ (k : Clock). waiting k) (clocks_go_on.new s ids circuits id there))
+waits_new s ids circuits id =
+    by_found (new_ring s ids circuits) id (λ k. waiting k ≡ 0) refl
+    (λ there. ap (λ (k : Clock). waiting k) (clocks_go_on.new s ids circuits id there))
 
 -- 68 rounds use up 16 slips
-pub waits_run_out : (rounds : List (List Arrival)) (w : World) (id : PortId) → (HasPortIn w.ring id → ((clock_at w.ring id).rest ≤ 4) × (waiting_at w.ring id ≤ 16)) → 68 ≤ length rounds → waiting_at (run_with rounds w).ring id ≡ 0
+pub waits_run_out : (rounds : List (List Arrival)) (w : World) (id : PortId)
+    → (HasPortIn w.ring id → ((clock_at w.ring id).rest ≤ 4) × (waiting_at w.ring id ≤ 16)) → 68 ≤ length rounds
+    → waiting_at (run_with rounds w).ring id ≡ 0
 waits_run_out rounds w id few long = by_found (run_with rounds w).ring id (λ k. waiting k ≡ 0) refl (λ there. (
     let was = was_there id w.ring (run_with rounds w).ring (like_run rounds w) there in
     let h = few was in

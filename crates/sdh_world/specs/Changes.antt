@@ -14,9 +14,11 @@ use Rattle.sdh_plant.specs.Fibres.{Fibres}
 -- what a change does
 unfoldable pub changed : Change → World → World
 changed (Fibre p d condition) w = record w { fibres = after_apply w.fibres p d condition }
-changed (Order p d command) w = record w { ring = record w.ring { nodes = at_place p (at_receiving d (commanded_by command)) w.ring.nodes } }
+changed (Order p d command) w =
+    record w { ring = record w.ring { nodes = at_place p (at_receiving d (commanded_by command)) w.ring.nodes } }
 changed (Hold p turns) w = record w { ring = record w.ring { nodes = at_place p (held_for turns) w.ring.nodes } }
-changed (Slip port turn count) w = record w { ring = record w.ring { nodes = at_place (place_of_port w.ring port) (slips_at port turn count) w.ring.nodes } }
+changed (Slip port turn count) w =
+    record w { ring = record w.ring { nodes = at_place (place_of_port w.ring port) (slips_at port turn count) w.ring.nodes } }
 changed (Now t) w = record w { ring = record w.ring { moment = t } }
 
 abbrev pub all_changed : List Change → World → World

@@ -55,7 +55,8 @@ clock_changed port (x ∷ xs) c = clock_changed port xs (clock_after port x c)
 abbrev pub clock_in : PortId → List Stretch → Clock → ℕ → Clock
 clock_in port [] c t = ticks t c
 clock_in port (s ∷ ss) c t =
-    if nat_lt t s.rounds then ticks t (clock_changed port s.changes c) else clock_in port ss (ticks s.rounds (clock_changed port s.changes c)) (t - s.rounds)
+    if nat_lt t s.rounds then ticks t (clock_changed port s.changes c)
+    else clock_in port ss (ticks s.rounds (clock_changed port s.changes c)) (t - s.rounds)
 
 -- from a new ring with these circuits
 abbrev pub clocks_by : List Provisioned → List Stretch → PortId → ℕ → Clock

@@ -34,11 +34,16 @@ ChangesKeepHonest = (w : World) (c : Change) → IsHonest w.fibres → IsHonest 
 
 -- what the calls do is a change
 pub record CallsChange : Type 0 where
-  pub command : (r : HeldRing) (f : Fibres) (p : ℕ) (d : Side) (c : Command) → world (record r { nodes = at_place p (at_receiving d (commanded_by c)) r.nodes }) f ≡ changed (Order p d c) (world r f)
-  pub hold : (r : HeldRing) (f : Fibres) (p turns : ℕ) → world (record r { nodes = at_place p (held_for turns) r.nodes }) f ≡ changed (Hold p turns) (world r f)
-  pub slip : (r : HeldRing) (f : Fibres) (port : PortId) (turn : Turn) (count : ℕ) → world (record r { nodes = at_place (place_of_port r port) (slips_at port turn count) r.nodes }) f ≡ changed (Slip port turn count) (world r f)
+  pub command : (r : HeldRing) (f : Fibres) (p : ℕ) (d : Side) (c : Command)
+      → world (record r { nodes = at_place p (at_receiving d (commanded_by c)) r.nodes }) f ≡ changed (Order p d c) (world r f)
+  pub hold : (r : HeldRing) (f : Fibres) (p turns : ℕ) → world (record r { nodes = at_place p (held_for turns) r.nodes }) f
+      ≡ changed (Hold p turns) (world r f)
+  pub slip : (r : HeldRing) (f : Fibres) (port : PortId) (turn : Turn) (count : ℕ)
+      → world (record r { nodes = at_place (place_of_port r port) (slips_at port turn count) r.nodes }) f
+      ≡ changed (Slip port turn count) (world r f)
   pub moment : (r : HeldRing) (f : Fibres) (t : ℕ) → world (record r { moment = t }) f ≡ changed (Now t) (world r f)
-  pub apply : (r : HeldRing) (f : Fibres) (p : ℕ) (d : Side) (c : Condition) → world r (after_apply f p d c) ≡ changed (Fibre p d c) (world r f)
+  pub apply : (r : HeldRing) (f : Fibres) (p : ℕ) (d : Side) (c : Condition)
+      → world r (after_apply f p d c) ≡ changed (Fibre p d c) (world r f)
 
 -- a condition that a change gives a fibre is one of the rate, a controller misses at most 100 turns, and at most 16 slips wait at a
 -- port then
@@ -61,15 +66,21 @@ MayHappen w (s ∷ ss) = AreChangesOf w s.changes × MayHappen (after_stretch s 
 
 -- such changes leave prepared fibres prepared
 abbrev pub ChangesKeepPrepared : Type 0
-ChangesKeepPrepared = (n : ℕ) (w : World) (c : Change) → IsChangeOf w c → IsPrepared w.ring.settings.rate n w.fibres → IsPrepared w.ring.settings.rate n (changed c w).fibres
+ChangesKeepPrepared =
+    (n : ℕ) (w : World) (c : Change) → IsChangeOf w c → IsPrepared w.ring.settings.rate n w.fibres
+    → IsPrepared w.ring.settings.rate n (changed c w).fibres
 
 -- in a new ring over new fibres nothing holds
 abbrev pub NewHolds : Type 0
-NewHolds = (s : Settings) (ids : List ℕ) (circuits : Provisioning) (rate : Rate) (f : Fibres) (p : ℕ) (d : Side) → p < length ids → holding_of (length ids) p d (world (new_ring s ids circuits) (prepared rate (length ids) f)) ≡ new_holding
+NewHolds =
+    (s : Settings) (ids : List ℕ) (circuits : Provisioning) (rate : Rate) (f : Fibres) (p : ℕ) (d : Side) → p < length ids
+    → holding_of (length ids) p d (world (new_ring s ids circuits) (prepared rate (length ids) f)) ≡ new_holding
 
 -- what holds when round t of some stretches begins is what their history tells
 abbrev pub HistoriesHold : Type 0
-HistoriesHold = (n p : ℕ) (d : Side) (ss : List Stretch) (w : World) (t : ℕ) → Fits n w → p < n → holding_of n p d (world_in ss w t) ≡ holding_in n p d ss (holding_of n p d w) t
+HistoriesHold =
+    (n p : ℕ) (d : Side) (ss : List Stretch) (w : World) (t : ℕ) → Fits n w → p < n
+    → holding_of n p d (world_in ss w t) ≡ holding_in n p d ss (holding_of n p d w) t
 
 -- ---- clocks
 
@@ -77,14 +88,22 @@ HistoriesHold = (n p : ℕ) (d : Side) (ss : List Stretch) (w : World) (t : ℕ)
 -- changed between rounds by slips of its own alone; so it is that of its history before each round of some stretches, and behind the
 -- last one.
 pub record ClocksGoOn : Type 0 where
-  pub new : (s : Settings) (ids : List ℕ) (circuits : Provisioning) (port : PortId) → HasPortIn (new_ring s ids circuits) port → clock_at (new_ring s ids circuits) port ≡ first_clock circuits.circuits port
-  pub round : (arrivals : List Arrival) (w : World) (port : PortId) → HasPortIn w.ring port → HasPortIn (round_with arrivals w).ring port × (clock_at (round_with arrivals w).ring port ≡ ticked (clock_at w.ring port))
-  pub change : (c : Change) (w : World) (port : PortId) → HasPortIn w.ring port → HasPortIn (changed c w).ring port × (clock_at (changed c w).ring port ≡ clock_after port c (clock_at w.ring port))
-  pub history : (ss : List Stretch) (w : World) (port : PortId) (t : ℕ) → HasPortIn w.ring port → t < rounds_in ss → clock_at (world_in ss w t).ring port ≡ clock_in port ss (clock_at w.ring port) t
-  pub behind : (ss : List Stretch) (w : World) (port : PortId) → HasPortIn w.ring port → clock_at (after_stretches ss w).ring port ≡ clock_in port ss (clock_at w.ring port) (rounds_in ss)
+  pub new : (s : Settings) (ids : List ℕ) (circuits : Provisioning) (port : PortId) → HasPortIn (new_ring s ids circuits) port
+      → clock_at (new_ring s ids circuits) port ≡ first_clock circuits.circuits port
+  pub round : (arrivals : List Arrival) (w : World) (port : PortId) → HasPortIn w.ring port
+      → HasPortIn (round_with arrivals w).ring port × (clock_at (round_with arrivals w).ring port ≡ ticked (clock_at w.ring port))
+  pub change : (c : Change) (w : World) (port : PortId) → HasPortIn w.ring port
+      → HasPortIn (changed c w).ring port × (clock_at (changed c w).ring port ≡ clock_after port c (clock_at w.ring port))
+  pub history : (ss : List Stretch) (w : World) (port : PortId) (t : ℕ) → HasPortIn w.ring port → t < rounds_in ss
+      → clock_at (world_in ss w t).ring port ≡ clock_in port ss (clock_at w.ring port) t
+  pub behind : (ss : List Stretch) (w : World) (port : PortId) → HasPortIn w.ring port
+      → clock_at (after_stretches ss w).ring port ≡ clock_in port ss (clock_at w.ring port) (rounds_in ss)
   -- 68 rounds use up 16 slips: four at the start, and four with each
-  pub run_out : (rounds : List (List Arrival)) (w : World) (port : PortId) → HasPortIn w.ring port → (clock_at w.ring port).rest ≤ 4 → waiting_at w.ring port ≤ 16 → 68 ≤ length rounds → waiting_at (run_with rounds w).ring port ≡ 0
+  pub run_out : (rounds : List (List Arrival)) (w : World) (port : PortId) → HasPortIn w.ring port → (clock_at w.ring port).rest ≤ 4
+      → waiting_at w.ring port ≤ 16 → 68 ≤ length rounds → waiting_at (run_with rounds w).ring port ≡ 0
 
 -- the clock by a history of stretches is that of what happened at the port, which goes by the rule of `sdh_payload`
 abbrev pub ClocksTellWhatHappened : Type 0
-ClocksTellWhatHappened = (circuits : List Provisioned) (ss : List Stretch) (port : PortId) (t : ℕ) → clocks_by circuits ss port t ≡ clock_by (offset_of circuits port) (happened ss port t)
+ClocksTellWhatHappened =
+    (circuits : List Provisioned) (ss : List Stretch) (port : PortId) (t : ℕ)
+    → clocks_by circuits ss port t ≡ clock_by (offset_of circuits port) (happened ss port t)

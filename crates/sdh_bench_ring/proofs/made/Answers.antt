@@ -6,4 +6,6 @@ pub returns-clause-prepared : goal.returns-clause-prepared
 returns-clause-prepared g c =
     let n = c.len-nodes.result in
     let ring = c.in_ok-try_new.field-0 in
-    prepared_for c.args.settings.rate ring.settings.rate n _ (g.P.Plant.fibres c.args.plant.now) (g.P.Plant.fibres c.prepare.new.self) (omega (arith, c.len-nodes.ensures.len, c.len-nodes.ensures.enough)) (omega (arith, c.len-nodes.ensures.len, c.len-nodes.ensures.few)) (search rules) (search rules) (search rules)
+    prepared_for c.args.settings.rate ring.settings.rate n _ (g.P.Plant.fibres c.args.plant.now) (g.P.Plant.fibres c.prepare.new.self)
+    (omega (arith, c.len-nodes.ensures.len, c.len-nodes.ensures.enough))
+    (omega (arith, c.len-nodes.ensures.len, c.len-nodes.ensures.few)) (search rules) (search rules) (search rules)

@@ -39,7 +39,8 @@ failed_asks command.Manual defect.Sf w e = omega arith
 side_asks : (k : local.LocalKept) → is_failed k.defect ≡ true → 11 ≤ code_number (kept_request k)
 side_asks k e = failed_asks k.command k.defect (waits k.wait k.defect k.moment k.ended) e
 
-pub node_asks : (w : World) (whole : IsWhole w) (p : ℕ) (d : Side) → p < length w.ring.nodes → is_failed (receiving_on d (node_at (round w).ring.nodes p)).local.defect ≡ true
+pub node_asks : (w : World) (whole : IsWhole w) (p : ℕ) (d : Side) → p < length w.ring.nodes
+    → is_failed (receiving_on d (node_at (round w).ring.nodes p)).local.defect ≡ true
     → 11 ≤ code_number (receiving_on d (node_at (round w).ring.nodes p)).request
 node_asks w whole p d lt e =
     let r = receiving_on d (node_at (round w).ring.nodes p) in
@@ -48,14 +49,16 @@ node_asks w whole p d lt e =
 -- ---- its span
 
 -- the request of a node's side, among those of needs
-asked_here : (v : World) (n p : ℕ) (d : Side) → length v.ring.nodes ≡ n → p < n → 11 ≤ code_number (receiving_on d (node_at v.ring.nodes p)).request → is_applied (requests_of v) (span_at n p d) ≡ true
+asked_here : (v : World) (n p : ℕ) (d : Side) → length v.ring.nodes ≡ n → p < n
+    → 11 ≤ code_number (receiving_on d (node_at v.ring.nodes p)).request → is_applied (requests_of v) (span_at n p d) ≡ true
 unfolding needs_in
 asked_here v n p d size lt asks =
     let many : length (map needed v.ring.nodes) ≡ n = length-map v.ring.nodes needed ∙ size in
     let low : p < length v.ring.nodes = omega arith in
     let local : ℕ → Side → Code = λ p d. request_on (get_or (map needed v.ring.nodes) p no_needs) d in
     subst (λ m. is_applied (requests_of v) (span_at m p d) ≡ true) many
-    (asked_is_applied (length (map needed v.ring.nodes)) local p d (omega arith) (subst (λ c. 11 ≤ code_number c) (sym (needs_at v.ring.nodes p d low)) asks))
+    (asked_is_applied (length (map needed v.ring.nodes)) local p d (omega arith)
+    (subst (λ c. 11 ≤ code_number c) (sym (needs_at v.ring.nodes p d low)) asks))
 
 pub length-requests_of : (v : World) (n : ℕ) → length v.ring.nodes ≡ n → length (requests_of v) ≡ n
 unfolding needs_in

@@ -46,7 +46,8 @@ lasts Short v = refl
 lasts Long v = refl
 
 -- a port leads its generator to the pointer value after the round
-leads_to : (s : Option ℕ) (t : Tributary) → next_sending s (input_by (sent_in t.feed)).action (input_by (sent_in t.feed)).value ≡ Some (ticked t.feed.clock).value
+leads_to : (s : Option ℕ) (t : Tributary) → next_sending s (input_by (sent_in t.feed)).action (input_by (sent_in t.feed)).value
+    ≡ Some (ticked t.feed.clock).value
 unfolding sent_by
 leads_to s t = let c = ticked t.feed.clock in next_by_action s (action_of c.form) c.value ∙ lasts c.form c.value
 
@@ -74,8 +75,10 @@ abbrev brings_port : Option Tributary → Input
 brings_port o = option_map_or (λ (t : Tributary). input_by (sent_in t.feed)) o no_input
 
 -- where it fills an AU-4 in two rounds, the second of them calm
-module _ (v : World) (whole : IsWhole v) (q : ℕ) (d : Side) (au m : ℕ) (id : PortId) (h : q < length v.ring.nodes) (low : 1 ≤ au) (high : au ≤ n_of v.ring.settings.rate)
-    (first : sent_at v q d au ≡ value_at v q m (Add id)) (second : sent_at (round v) q d au ≡ value_at (round v) q m (Add id)) (calm : is_calm (round (round v)).ring.nodes ≡ true) where
+module _ (v : World) (whole : IsWhole v) (q : ℕ) (d : Side) (au m : ℕ) (id : PortId) (h : q < length v.ring.nodes) (low : 1 ≤ au)
+    (high : au ≤ n_of v.ring.settings.rate)
+    (first : sent_at v q d au ≡ value_at v q m (Add id)) (second : sent_at (round v) q d au ≡ value_at (round v) q m (Add id))
+    (calm : is_calm (round (round v)).ring.nodes ≡ true) where
   abbrev k : ℕ
   k = au - 1
 
@@ -96,26 +99,40 @@ module _ (v : World) (whole : IsWhole v) (q : ℕ) (d : Side) (au m : ℕ) (id :
   state_of w = get_or (sending_on d (node_at w.ring.nodes q)).generators k None
 
   first_step : state_of u ≡ next_sending (state_of v) (brings_port (port_there v q id)).action (brings_port (port_there v q id)).value
-  first_step = generator_step v whole q d h k (omega arith) ∙ ap (λ a. next_sending (state_of v) (sent_at v q d a).action (sent_at v q d a).value) back ∙ ap (λ (i : Input). next_sending (state_of v) i.action i.value) first
+  first_step =
+      generator_step v whole q d h k (omega arith) ∙ ap (λ a. next_sending (state_of v) (sent_at v q d a).action
+      (sent_at v q d a).value) back ∙ ap (λ (i : Input). next_sending (state_of v) i.action i.value) first
 
-  second_step : state_of (round u) ≡ next_sending (state_of u) (brings_port (port_there u q id)).action (brings_port (port_there u q id)).value
-  second_step = generator_step u (whole_round v whole) q d inside k (omega (arith, same_rate)) ∙ ap (λ a. next_sending (state_of u) (sent_at u q d a).action (sent_at u q d a).value) back ∙ ap (λ (i : Input). next_sending (state_of u) i.action i.value) second
+  second_step : state_of (round u) ≡ next_sending (state_of u) (brings_port (port_there u q id)).action
+      (brings_port (port_there u q id)).value
+  second_step =
+      generator_step u (whole_round v whole) q d inside k (omega (arith, same_rate))
+      ∙ ap (λ a. next_sending (state_of u) (sent_at u q d a).action (sent_at u q d a).value) back
+      ∙ ap (λ (i : Input). next_sending (state_of u) i.action i.value) second
 
   stays : state_of (round u) ≡ state_of u
-  stays = ap (λ l. get_or l k None) (generators_on d (node_at (round u).ring.nodes q) (node_at u.ring.nodes q) (same_there u (whole_round v whole) calm q inside))
+  stays =
+      ap (λ l. get_or l k None) (generators_on d (node_at (round u).ring.nodes q) (node_at u.ring.nodes q)
+      (same_there u (whole_round v whole) calm q inside))
 
   follows : Follows ticked (port_there v q id) (port_there u q id)
-  follows = subst (λ (y : Node). Follows ticked (port_there v q id) (port_of id y.ports)) (sym (nodes_after v whole.placed q h)) (node_next id v.ring.moment (informed v q))
+  follows =
+      subst (λ (y : Node). Follows ticked (port_there v q id) (port_of id y.ports)) (sym (nodes_after v whole.placed q h))
+      (node_next id v.ring.moment (informed v q))
 
   by_found : (a b : Option Tributary) → port_there v q id ≡ a → port_there u q id ≡ b → Follows ticked a b → next_form (clock_of b) ≡ Plain
   by_found a None ea eb goes = refl
   by_found None (Some t) ea eb goes =
-      let was : state_of u ≡ None = first_step ∙ ap (λ o. next_sending (state_of v) (brings_port o).action (brings_port o).value) ea ∙ ends_silent (state_of v) in
-      let is : state_of (round u) ≡ Some (ticked t.feed.clock).value = second_step ∙ ap (λ o. next_sending (state_of u) (brings_port o).action (brings_port o).value) eb ∙ leads_to (state_of u) t in
+      let was : state_of u ≡ None =
+      first_step ∙ ap (λ o. next_sending (state_of v) (brings_port o).action (brings_port o).value) ea ∙ ends_silent (state_of v) in
+      let is : state_of (round u) ≡ Some (ticked t.feed.clock).value =
+      second_step ∙ ap (λ o. next_sending (state_of u) (brings_port o).action (brings_port o).value) eb ∙ leads_to (state_of u) t in
       absurd (apart (ticked t.feed.clock).value (sym was ∙ sym stays ∙ is))
   by_found (Some s) (Some t) ea eb goes =
-      let was : state_of u ≡ Some (ticked s.feed.clock).value = first_step ∙ ap (λ o. next_sending (state_of v) (brings_port o).action (brings_port o).value) ea ∙ leads_to (state_of v) s in
-      let is : state_of (round u) ≡ Some (ticked t.feed.clock).value = second_step ∙ ap (λ o. next_sending (state_of u) (brings_port o).action (brings_port o).value) eb ∙ leads_to (state_of u) t in
+      let was : state_of u ≡ Some (ticked s.feed.clock).value =
+      first_step ∙ ap (λ o. next_sending (state_of v) (brings_port o).action (brings_port o).value) ea ∙ leads_to (state_of v) s in
+      let is : state_of (round u) ≡ Some (ticked t.feed.clock).value =
+      second_step ∙ ap (λ o. next_sending (state_of u) (brings_port o).action (brings_port o).value) eb ∙ leads_to (state_of u) t in
       let on : t.feed.clock ≡ ticked s.feed.clock = (goes refl).1 in
       let same : (ticked t.feed.clock).value ≡ (ticked s.feed.clock).value = same_some _ _ (sym is ∙ stays ∙ was) in
       plain_by_value t.feed.clock (same ∙ ap (λ (c : Clock). c.value) (sym on))

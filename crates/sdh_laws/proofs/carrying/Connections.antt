@@ -36,7 +36,8 @@ pub record IsOf (s : Settings) (ids : List ℕ) (cs : List Provisioned) (p : ℕ
   pub circuits_are : n.circuits ≡ cs
   pub ports_are : map fixed_port n.ports ≡ map fixed_port (tributaries_at (position_of p) cs)
 
-of_fixed : (s : Settings) (ids : List ℕ) (cs : List Provisioned) (p : ℕ) (n : Node) → fixed n ≡ fixed (new_node s ids cs (position_of p)) → IsOf s ids cs p n
+of_fixed : (s : Settings) (ids : List ℕ) (cs : List Provisioned) (p : ℕ) (n : Node) → fixed n ≡ fixed (new_node s ids cs (position_of p))
+    → IsOf s ids cs p n
 unfolding fixed new_node
 of_fixed s ids cs p n same = record {
   ids_are = ap (λ (f : Fixed). f.ids) same;
@@ -45,12 +46,14 @@ of_fixed s ids cs p n same = record {
   ports_are = ap (λ (f : Fixed). f.ports) same;
 }
 
-pub node_of : (w : World) → IsWhole w → (p : ℕ) → p < length w.ring.nodes → IsOf w.ring.settings w.ring.ids w.ring.circuits.circuits p (node_at w.ring.nodes p)
+pub node_of : (w : World) → IsWhole w → (p : ℕ) → p < length w.ring.nodes
+    → IsOf w.ring.settings w.ring.ids w.ring.circuits.circuits p (node_at w.ring.nodes p)
 node_of w whole p h =
     let s = w.ring.settings in
     let ids = w.ring.ids in
     let cs = w.ring.circuits.circuits in
-    of_fixed s ids cs p (node_at w.ring.nodes p) (node_is s ids cs (length ids) w.ring.nodes p nowhere whole.placed.nodes (omega (arith, count w whole.placed)))
+    of_fixed s ids cs p (node_at w.ring.nodes p) (node_is s ids cs (length ids) w.ring.nodes p nowhere whole.placed.nodes
+    (omega (arith, count w whole.placed)))
 
 -- ---- its cross-connect in a round
 
@@ -97,18 +100,25 @@ module _ (w : World) (whole : IsWhole w) (p : ℕ) (h : p < length w.ring.nodes)
   half_is = ap half_of turned_is ∙ keeps.rate ∙ ap (λ r. n_of r / 2) ((whole.placed.sides p h).receives West).rate
 
   pub state_in_turn : x.state ≡ (node_at (round w).ring.nodes p).state
-  state_in_turn = ap (λ (x : Cross). x.state) turned_is ∙ state_turned w.ring.moment (informed w p) ∙ ap (λ (y : Node). y.state) (sym (nodes_after w whole.placed p h))
+  state_in_turn =
+      ap (λ (x : Cross). x.state) turned_is ∙ state_turned w.ring.moment (informed w p)
+      ∙ ap (λ (y : Node). y.state) (sym (nodes_after w whole.placed p h))
 
   -- in a state
   module _ (m : ℕ) (d : Side) (st : NodeState) (state : x.state ≡ st) where
     working_is : leaves_working (length x.ids) x.at (circuit_in x m) x.state d ≡ working_in n cs p st d m
-    working_is = λ i. leaves_working (length (ids_are i)) (place_is i) (circuits_at (length (ids_are i)) (circuits_are i) (place_is i).0 m) (state i) d
+    working_is =
+        λ i. leaves_working (length (ids_are i)) (place_is i) (circuits_at (length (ids_are i)) (circuits_are i) (place_is i).0 m)
+        (state i) d
 
     protection_is : leaves_protection (length x.ids) x.at (circuit_in x m) x.state d ≡ protection_in n cs p st d m
-    protection_is = λ i. leaves_protection (length (ids_are i)) (place_is i) (circuits_at (length (ids_are i)) (circuits_are i) (place_is i).0 m) (state i) d
+    protection_is =
+        λ i. leaves_protection (length (ids_are i)) (place_is i) (circuits_at (length (ids_are i)) (circuits_are i) (place_is i).0 m)
+        (state i) d
 
     stands_is : stands_for (length x.ids) x.at (circuit_in x m) x.state d ≡ stands_in n cs p st d m
-    stands_is = λ i. stands_for (length (ids_are i)) (place_is i) (circuits_at (length (ids_are i)) (circuits_are i) (place_is i).0 m) (state i) d
+    stands_is =
+        λ i. stands_for (length (ids_are i)) (place_is i) (circuits_at (length (ids_are i)) (circuits_are i) (place_is i).0 m) (state i) d
 
     -- what feeds working slot m
     pub working_leads : m ≤ half_of x → leads x d m ≡ feeder_of x m (working_in n cs p st d m)
@@ -166,7 +176,8 @@ module _ (v : World) (whole : IsWhole v) where
   pub sends_protection : SendsProtection (layout_of v) v
   sends_protection q m d st lt low state =
       let h = inside q lt in
-      ap (λ k. sent_at v q d (k + m)) (sym (half_is v whole q h)) ∙ ap (fed_at v q) (protection_leads v whole q h m d st (state_in_turn v whole q h ∙ state) low)
+      ap (λ k. sent_at v q d (k + m)) (sym (half_is v whole q h))
+      ∙ ap (fed_at v q) (protection_leads v whole q h m d st (state_in_turn v whole q h ∙ state) low)
 
   pub brings_protection : BringsProtection (layout_of v) v
   brings_protection p m d lt = ap (λ k. received (lines_at v p) d (k + m)) (half_is v whole p (inside p lt))

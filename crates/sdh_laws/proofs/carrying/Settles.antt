@@ -1,5 +1,6 @@
 -- The quiet window that ends a step, and what ports have delivered after it.
-use Rattle.std.proofs.Common.{◌≡◌, ℕ, suc, ◌+◌, ◌-◌, ◌*◌, ◌<◌, ◌≤◌, Bool, true, Some, List, [], ◌∷◌, ◌++◌, length, refl, ap, sym, ◌∙◌, subst, arith, inl, inr}
+use Rattle.std.proofs.Common.{◌≡◌, ℕ, suc, ◌+◌, ◌-◌, ◌*◌, ◌<◌, ◌≤◌, Bool, true, Some, List, [], ◌∷◌, ◌++◌, length, refl, ap, sym, ◌∙◌}
+use Rattle.std.proofs.Common.{subst, arith, inl, inr}
 use Rattle.std.specs.Prelude.{slice_get, slice_index_or, ◌/◌, if◌then◌else◌}
 use Rattle.std.specs.Option.{option_map_or}
 use Rattle.std.proofs.lemmas.List.{get_or-map}
@@ -46,7 +47,8 @@ use Rattle.sdh_laws.proofs.hearing.Changes.{whole_run, new_worlds_are_whole}
 use Rattle.sdh_laws.proofs.hearing.Requests.{whole_last, requests_last, after_last}
 use Rattle.sdh_laws.proofs.hearing.Signalling.{requests_stay, windows_are_settled}
 use Rattle.sdh_laws.specs.Carrying.Windows.{Layout, layout_of, size_of, HasCircuits, requests_of, AreSettled, FailOnApplied, IsQuiet}
-use Rattle.sdh_laws.specs.Carrying.Laws.{due_by_clocks, DeliversWhatIsDue, IsRestored, SettledRingsAreRestored, SettledRingsRestore, RingsHaveCircuits}
+use Rattle.sdh_laws.specs.Carrying.Laws.{due_by_clocks, DeliversWhatIsDue, IsRestored, SettledRingsAreRestored, SettledRingsRestore}
+use Rattle.sdh_laws.specs.Carrying.Laws.{RingsHaveCircuits}
 use Rattle.sdh_laws.proofs.carrying.Applied.{failures_applied, length-requests_of}
 use Rattle.sdh_laws.proofs.carrying.Owed.{quiet_delivers, port_is_there}
 use Rattle.sdh_terminal.proofs.Found.{port_id}
@@ -58,7 +60,8 @@ use Rattle.sdh_circuits.proofs.Rings.{circuits_are}
 
 -- ---- one position
 
-pub each_settled : (v : World) (n : ℕ) (rs : List ℕ) → length v.ring.nodes ≡ n → length rs ≡ n → (signals_of v).states ≡ settled_states rs → AreSettled n rs v
+pub each_settled : (v : World) (n : ℕ) (rs : List ℕ) → length v.ring.nodes ≡ n → length rs ≡ n → (signals_of v).states ≡ settled_states rs
+    → AreSettled n rs v
 unfolding signals_of
 each_settled v n rs size spans same p lt =
     sym (get_or-map (λ n. n.state) v.ring.nodes p nowhere nowhere.state (omega arith))
@@ -89,16 +92,21 @@ module _ (law : StillRingsAreSettled) (w : World) (whole : IsWhole w) (k : ℕ) 
       sym (requests_stay w j (k - j) whole (λ i after until. calm_at i (omega arith) (omega arith))) ∙ ap (λ i. requests_of (run i w)) rest
 
   settled_at : (j : ℕ) → k < j + 3 * n → j ≤ k → AreSettled n rs (run j w)
-  settled_at j low high = each_settled (run j w) n rs (nodes_after_all j) (length-requests_of (run k w) n (nodes_after_all k)) (windows_are_settled law w k j whole ends low high)
+  settled_at j low high =
+      each_settled (run j w) n rs (nodes_after_all j) (length-requests_of (run k w) n (nodes_after_all k))
+      (windows_are_settled law w k j whole ends low high)
 
   failing_after : (j : ℕ) → FailOnApplied n (requests_of (run (suc j) w)) (run (suc j) w)
   unfolding any_run.run
-  failing_after j = subst (λ (l : Layout). FailOnApplied (size_of l) (requests_of (round (run j w))) (round (run j w))) (layout_run w j) (failures_applied (run j w) (whole_run w j whole))
+  failing_after j =
+      subst (λ (l : Layout). FailOnApplied (size_of l) (requests_of (round (run j w))) (round (run j w))) (layout_run w j)
+      (failures_applied (run j w) (whole_run w j whole))
 
   failing_at : (j : ℕ) → 1 ≤ j → k < j + 3 * n → j ≤ k → FailOnApplied n rs (run j w)
   failing_at j some low high =
       let one : suc (j - 1) ≡ j = omega arith in
-      subst (λ qs. FailOnApplied n qs (run j w)) (requests_same j low high) (subst (λ i. FailOnApplied n (requests_of (run i w)) (run i w)) one (failing_after (j - 1)))
+      subst (λ qs. FailOnApplied n qs (run j w)) (requests_same j low high)
+      (subst (λ i. FailOnApplied n (requests_of (run i w)) (run i w)) one (failing_after (j - 1)))
 
   quiet : IsQuiet n rs w (k + 1 - 3 * n) k
   quiet = record {
@@ -137,23 +145,29 @@ layout_all (c ∷ cs) w = layout_all cs (changed c w) ∙ layout_changed c w
 
 pub layout_stretches : (ss : List Stretch) (w : World) → layout_of (after_stretches ss w) ≡ layout_of w
 layout_stretches [] w = refl
-layout_stretches (s ∷ ss) w = layout_stretches ss (after_stretch s w) ∙ layout_run (all_changed s.changes w) s.rounds ∙ layout_all s.changes w
+layout_stretches (s ∷ ss) w =
+    layout_stretches ss (after_stretch s w) ∙ layout_run (all_changed s.changes w) s.rounds ∙ layout_all s.changes w
 
 -- the world in which a round of the last of some stretches begins
 world_last : (earlier : List Stretch) (last : Stretch) (w : World) (t : ℕ) → rounds_in earlier ≤ t → t < rounds_in earlier + last.rounds
     → world_in (earlier ++ last ∷ []) w t ≡ run (t - rounds_in earlier) (all_changed last.changes (after_stretches earlier w))
-world_last [] last w t low high = world_low last [] w t (omega arith) ∙ ap (λ k. run k (all_changed last.changes w)) (let none : t ≡ t - 0 = omega arith in none)
+world_last [] last w t low high =
+    world_low last [] w t (omega arith) ∙ ap (λ k. run k (all_changed last.changes w)) (let none : t ≡ t - 0 = omega arith in none)
 world_last (s ∷ ss) last w t low high =
     let left : t - s.rounds - rounds_in ss ≡ t - (s.rounds + rounds_in ss) = omega arith in
     world_high s (ss ++ last ∷ []) w t (omega arith) ∙ world_last ss last (after_stretch s w) (t - s.rounds) (omega arith) (omega arith)
     ∙ ap (λ k. run k (all_changed last.changes (after_stretches (s ∷ ss) w))) left
 
 -- what is owed is owed by one clock alone
-pub due_by : (n : ℕ) (applied : ℕ → Bool) (c : Provisioned) (e : End) (f g : ℕ → Clock) (t : ℕ) → f (t - hops n applied (arc_of n c)) ≡ g (t - hops n applied (arc_of n c)) → due_by_clocks n applied c e f t ≡ due_by_clocks n applied c e g t
+pub due_by : (n : ℕ) (applied : ℕ → Bool) (c : Provisioned) (e : End) (f g : ℕ → Clock) (t : ℕ)
+    → f (t - hops n applied (arc_of n c)) ≡ g (t - hops n applied (arc_of n c))
+    → due_by_clocks n applied c e f t ≡ due_by_clocks n applied c e g t
 unfolding due
-due_by n applied c e f g t same = ap (λ (k : Clock). if is_joined n applied (arc_of n c) then plainly (customer_at c (other_end e)) k else silent) same
+due_by n applied c e f g t same =
+    ap (λ (k : Clock). if is_joined n applied (arc_of n c) then plainly (customer_at c (other_end e)) k else silent) same
 
-module _ (s : Settings) (ids : List ℕ) (circuits : Provisioning) (f : Fibres) (earlier : List Stretch) (last : Stretch) (t : ℕ) (may : MayStart s ids f) (happen : MayHappen (new_world s ids circuits f) (earlier ++ last ∷ []))
+module _ (s : Settings) (ids : List ℕ) (circuits : Provisioning) (f : Fibres) (earlier : List Stretch) (last : Stretch) (t : ℕ)
+    (may : MayStart s ids f) (happen : MayHappen (new_world s ids circuits f) (earlier ++ last ∷ []))
     (form : AreCircuits (length ids) (n_of s.rate / 2) circuits.circuits) (many : rounds_in (earlier ++ last ∷ []) ≡ t + 1) where
   abbrev pub begun : World
   begun = new_world s ids circuits f
@@ -177,7 +191,8 @@ module _ (s : Settings) (ids : List ℕ) (circuits : Provisioning) (f : Fibres) 
   layout_v = layout_all last.changes (after_stretches earlier begun) ∙ layout_stretches earlier begun
 
   rounds_v : v.ring.rounds ≡ rounds_in earlier
-  rounds_v = let a = (left_all last.changes (after_stretches earlier begun)).rounds in let b = (left_stretches earlier begun).rounds in omega arith
+  rounds_v = let a = (left_all last.changes (after_stretches earlier begun)).rounds in let b =
+      (left_stretches earlier begun).rounds in omega arith
 
   rounds_u : u.ring.rounds ≡ rounds_in earlier + last.rounds
   rounds_u = omega (arith, (left_run last.rounds v).rounds, rounds_v)
@@ -188,7 +203,8 @@ module _ (s : Settings) (ids : List ℕ) (circuits : Provisioning) (f : Fibres) 
       omega (arith, ap (λ (y : World). y.ring.rounds) (after_last earlier last begun), (left_stretches ss begun).rounds, none)
 
   -- the clock of a port, from the last of them on and by the history of all
-  module _ (id : PortId) (there : HasPortIn begun.ring id) (there_v : HasPortIn v.ring id) (k : ℕ) (low : rounds_in earlier ≤ k) (high : k < rounds_in earlier + last.rounds) where
+  module _ (id : PortId) (there : HasPortIn begun.ring id) (there_v : HasPortIn v.ring id) (k : ℕ) (low : rounds_in earlier ≤ k)
+      (high : k < rounds_in earlier + last.rounds) where
     clock_same : clocks_from v id k ≡ clocks_by circuits.circuits ss id k
     clock_same =
         ap (λ r. ticks (k - r) (clock_at v.ring id)) rounds_v
@@ -209,9 +225,12 @@ module _ (s : Settings) (ids : List ℕ) (circuits : Provisioning) (f : Fibres) 
         let far = other_end e in
         let id = port_id index far in
         let k = u.ring.rounds - 1 - hops n applied (arc_of n c) in
-        let here : slice_get v.ring.circuits.circuits index ≡ Some c = ap (λ (l : Layout). slice_get l.circuits index) (sym (layout_run v last.rounds)) ∙ get in
+        let here : slice_get v.ring.circuits.circuits index ≡ Some c =
+        ap (λ (l : Layout). slice_get l.circuits index) (sym (layout_run v last.rounds)) ∙ get in
         let first : slice_get circuits.circuits index ≡ Some c = ap (λ (l : Layout). slice_get l.circuits index) (sym layout_v) ∙ here in
-        let form_u : AreCircuits n (n_of s.rate / 2) circuits.circuits = subst (λ (l : Layout). AreCircuits (size_of l) (n_of s.rate / 2) circuits.circuits) (sym (layout_run v last.rounds ∙ layout_v)) form in
+        let form_u : AreCircuits n (n_of s.rate / 2) circuits.circuits =
+        subst (λ (l : Layout). AreCircuits (size_of l) (n_of s.rate / 2) circuits.circuits)
+        (sym (layout_run v last.rounds ∙ layout_v)) form in
         let few = few_hops n applied c (short n applied (n_of s.rate / 2) circuits.circuits form_u index c first) in
         let size : n ≡ length ids = ap size_of (layout_run v last.rounds ∙ layout_v) in
         let inside = end_inside (length ids) (n_of s.rate / 2) circuits.circuits form index c first far in
@@ -219,18 +238,24 @@ module _ (s : Settings) (ids : List ℕ) (circuits : Provisioning) (f : Fibres) 
         let there = port_is_there begun whole_w index c far first inside in
         let there_v = port_is_there v whole_v index c far here (subst (λ (l : Layout). port_at c far < size_of l) (sym layout_v) inside) in
         restored.ports index c get e
-        ∙ due_by n applied c e (clocks_from v id) (clocks_by circuits.circuits ss id) (u.ring.rounds - 1) (clock_same id there there_v k (omega (arith, rounds_u, few, long, may.ids_ok.enough)) (omega (arith, rounds_u, few, long, may.ids_ok.enough)))
+        ∙ due_by n applied c e (clocks_from v id) (clocks_by circuits.circuits ss id) (u.ring.rounds - 1)
+        (clock_same id there there_v k (omega (arith, rounds_u, few, long, may.ids_ok.enough))
+        (omega (arith, rounds_u, few, long, may.ids_ok.enough)))
 
     pub restored_by_history : IsRestored (clocks_by circuits.circuits ss) (after_stretches ss begun) qs
-    restored_by_history = subst (λ y. IsRestored (clocks_by circuits.circuits ss) y qs) (sym (after_last earlier last begun)) (record { states = restored.states; ports = delivers })
+    restored_by_history =
+        subst (λ y. IsRestored (clocks_by circuits.circuits ss) y qs) (sym (after_last earlier last begun))
+        (record { states = restored.states; ports = delivers })
 
 pub stretches_restore : StillRingsAreSettled → SettledRingsRestore
 stretches_restore law s ids circuits f earlier last t may happen form ends many =
     let whole = whole_v s ids circuits f earlier last t may happen form many in
     let circuits_v = subst HasCircuits (sym (layout_v s ids circuits f earlier last t may happen form many)) form in
-    restored_by_history s ids circuits f earlier last t may happen form many ends.long (window_restores law (v s ids circuits f earlier last t may happen form many) whole last.rounds ends circuits_v)
+    restored_by_history s ids circuits f earlier last t may happen form many ends.long
+    (window_restores law (v s ids circuits f earlier last t may happen form many) whole last.rounds ends circuits_v)
 
 -- ---- the circuits of a ring
 
 pub rings_circuits : RingsHaveCircuits
-rings_circuits r is = subst (λ s. AreCircuits (length r.ids) s r.circuits.circuits) is.slots (circuits_are r.circuits r.ids is.circuits is.kept)
+rings_circuits r is =
+    subst (λ s. AreCircuits (length r.ids) s r.circuits.circuits) is.slots (circuits_are r.circuits r.ids is.circuits is.kept)

@@ -1,5 +1,6 @@
 -- The spans of a ring: what its nodes send and take, and what was sent into an AU-4 comes out of it one round later.
-use Rattle.std.proofs.Common.{◌≡◌, ◌≢◌, ℕ, ◌+◌, ◌-◌, ◌*◌, ◌<◌, ◌≤◌, true, false, List, length, get_or, Option, Some, None, ap, sym, ◌∙◌, subst, arith, inl, inr}
+use Rattle.std.proofs.Common.{◌≡◌, ◌≢◌, ℕ, ◌+◌, ◌-◌, ◌*◌, ◌<◌, ◌≤◌, true, false, List, length, get_or, Option, Some, None, ap, sym, ◌∙◌}
+use Rattle.std.proofs.Common.{subst, arith, inl, inr}
 use Rattle.std.proofs.lemmas.Bool.{cases_Bool}
 use Rattle.sdh_terms.specs.declared.Rate.{Rate}
 use Rattle.sdh_terms.specs.Rates.{n_of}
@@ -37,7 +38,8 @@ use Rattle.sdh_laws.specs.Hearing.Signalling.{lines_at}
 use Rattle.sdh_laws.specs.Hearing.Laws.{IsWhole}
 use Rattle.sdh_laws.proofs.hearing.OneNode.{puts, said_on, frame_is, sending_after, said_is, said_sender, node_sends}
 use Rattle.sdh_laws.proofs.hearing.Nodes.{told_later, informed, informed_out, count, listening_at, nodes_after, length-after, one_more}
-use Rattle.sdh_laws.proofs.hearing.Rounds.{same_line, reads, side_finds, may_at, arrival_is, told_side, inlet_at, line_is, took_is, carried_after, sends_at, neighbour_inside, whole_round, clear_where_it_works}
+use Rattle.sdh_laws.proofs.hearing.Rounds.{same_line, reads, side_finds, may_at, arrival_is, told_side, inlet_at, line_is, took_is}
+use Rattle.sdh_laws.proofs.hearing.Rounds.{carried_after, sends_at, neighbour_inside, whole_round, clear_where_it_works}
 use Rattle.sdh_laws.proofs.hearing.Signalling.{same_there}
 use Rattle.sdh_laws.specs.Carrying.Windows.{sent_at}
 use Rattle.sdh_laws.specs.Carrying.Laws.{ASpanCarries}
@@ -73,28 +75,35 @@ module _ (w : World) (whole : IsWhole w) (q : ℕ) (d : Side) (h : q < length w.
   state_at k = get_or (sending_on d (node_at w.ring.nodes q)).generators k None
 
   fed_is : (au : ℕ) → fed au ≡ sent_at w q d au
-  fed_is au = sym (ap (λ m. input_at (crossing w.ring.moment m) (added_by (node_at w.ring.nodes q).ports) d au) (listening_at w whole.placed q h))
+  fed_is au =
+      sym (ap (λ m. input_at (crossing w.ring.moment m) (added_by (node_at w.ring.nodes q).ports) d au) (listening_at w whole.placed q h))
 
   state_is : (k : ℕ) → get_or said.generators k None ≡ state_at k
   state_is k = ap (λ (s : Sending). get_or s.generators k None) (informed_out w q d)
 
-  state_after : (k : ℕ) → get_or (sending_on d (node_at (round w).ring.nodes q)).generators k None ≡ get_or (after_sending fed said).generators k None
+  state_after : (k : ℕ) → get_or (sending_on d (node_at (round w).ring.nodes q)).generators k None
+      ≡ get_or (after_sending fed said).generators k None
   state_after k =
       ap (λ (m : Node). get_or (sending_on d m).generators k None) (nodes_after w whole.placed q h)
       ∙ ap (λ (s : Sending). get_or s.generators k None) (sending_after w.ring.moment sender d)
 
   -- a generator goes on by what goes into its AU-4
-  pub generator_step : (k : ℕ) → k + 1 ≤ n_of rate → get_or (sending_on d (node_at (round w).ring.nodes q)).generators k None ≡ next_sending (state_at k) (sent_at w q d (k + 1)).action (sent_at w q d (k + 1)).value
+  pub generator_step : (k : ℕ) → k + 1 ≤ n_of rate → get_or (sending_on d (node_at (round w).ring.nodes q)).generators k None
+      ≡ next_sending (state_at k) (sent_at w q d (k + 1)).action (sent_at w q d (k + 1)).value
   generator_step k high =
       let s = state_is k in
       let i = fed_is (k + 1) in
-      state_after k ∙ (node_sends rate w.ring.moment sender d (sends_at w whole q d h)).goes k high ∙ λ t. next_sending (s t) (i t).action (i t).value
+      state_after k ∙ (node_sends rate w.ring.moment sender d (sends_at w whole q d h)).goes k high
+      ∙ λ t. next_sending (s t) (i t).action (i t).value
 
   -- and its AU-4 in the frame that leaves is what the generator makes of that
-  pub au_left : (line : List ℕ) → carried_on (round w).fibres (fibre q d) ≡ Some line → (k : ℕ) → k + 1 ≤ n_of rate → au_of (n_of rate) (k + 1) (scrambled (9 * n_of rate) line) ≡ au_sent (state_at k) (sent_at w q d (k + 1))
+  pub au_left : (line : List ℕ) → carried_on (round w).fibres (fibre q d) ≡ Some line → (k : ℕ) → k + 1 ≤ n_of rate
+      → au_of (n_of rate) (k + 1) (scrambled (9 * n_of rate) line) ≡ au_sent (state_at k) (sent_at w q d (k + 1))
   au_left line there k high =
-      let full = fed_full (lines_of (crossing w.ring.moment sender)) (node_at w.ring.nodes q).ports (leads (crossing w.ring.moment sender) d) in
-      let same : line ≡ line_frame_from fed said = same_line line _ _ there (carried_after w whole q d h) ∙ frame_is w.ring.moment sender d in
+      let full =
+      fed_full (lines_of (crossing w.ring.moment sender)) (node_at w.ring.nodes q).ports (leads (crossing w.ring.moment sender) d) in
+      let same : line ≡ line_frame_from fed said =
+      same_line line _ _ there (carried_after w whole q d h) ∙ frame_is w.ring.moment sender d in
       let s = state_is k in
       let i = fed_is (k + 1) in
       ap (λ l. au_of (n_of rate) (k + 1) (scrambled (9 * n_of rate) l)) same
@@ -120,16 +129,27 @@ module _ (w : World) (whole : IsWhole w) (ran : 0 < w.ring.rounds) (p : ℕ) (d 
       record {
         rate_is = ap (λ (l : Line). l.intake.frame.rate) (line_is w whole p d h) ∙ finds.rate;
         acts = (reads w whole p d h).acts ran;
-        left = subst (λ (l : Line). l.readings ≡ after_frame (n_of w.ring.settings.rate) l.intake.frame.bytes old_readings) (sym (line_is w whole p d h)) finds.reads;
+        left =
+            subst (λ (l : Line). l.readings ≡ after_frame (n_of w.ring.settings.rate) l.intake.frame.bytes old_readings)
+            (sym (line_is w whole p d h)) finds.reads;
       }
 
   -- each interpreter takes the word in its AU-4
-  pub takes_read : (k : ℕ) → k + 1 ≤ n_of w.ring.settings.rate → TakesWord (get_or old_readings k start) (get_or new_readings k start) (received (lines_at w p) d (k + 1)) (pointer_word_at (n_of w.ring.settings.rate) taken_at (k + 1))
+  pub takes_read : (k : ℕ) → k + 1 ≤ n_of w.ring.settings.rate
+      → TakesWord (get_or old_readings k start) (get_or new_readings k start) (received (lines_at w p) d (k + 1))
+      (pointer_word_at (n_of w.ring.settings.rate) taken_at (k + 1))
   takes_read k high =
       let few : k < length old_readings = omega (arith, ((whole.placed.sides p h).receives d).readings) in
       let is = side_reads w.ring.settings.rate (lines_at w p) d old_readings took_in k few in
-      let next = ap (λ l. get_or l k start) ((reads w whole p d h).reads ran) ∙ reading_there (n_of w.ring.settings.rate) taken_at old_readings k few in
-      record { reading = next; action = ap (λ (i : Input). i.action) is; value = ap (λ (i : Input). i.value) is ∙ ap (λ (r : Reading). r.value) (sym next) }
+      let next =
+      ap (λ l. get_or l k start) ((reads w whole p d h).reads ran)
+      ∙ reading_there (n_of w.ring.settings.rate) taken_at old_readings k few in
+      record {
+        reading = next;
+        action = ap (λ (i : Input). i.action) is;
+        value = ap (λ (i : Input). i.value) is
+            ∙ ap (λ (r : Reading). r.value) (sym next);
+      }
 
 -- ---- one span: the side of a neighbour that sends in the round that begins with w, and the side that takes what comes in the next
 
@@ -175,9 +195,14 @@ module _ (w : World) (whole : IsWhole w) (p : ℕ) (d : Side) (lt : p < length w
     may = may_at v next p d;
     sender = said_sender (rate w whole q e qn) w.ring.moment (sender w whole q e qn) e (sends_at w whole q e qn);
     no_ais = no_ais;
-    full = fed_full (lines_of (crossing w.ring.moment (sender w whole q e qn))) (node_at w.ring.nodes q).ports (leads (crossing w.ring.moment (sender w whole q e qn)) e);
+    full =
+        fed_full (lines_of (crossing w.ring.moment (sender w whole q e qn))) (node_at w.ring.nodes q).ports
+        (leads (crossing w.ring.moment (sender w whole q e qn)) e);
     inlet = (told_side v next p d ran pn).inlet;
-    told = told_later v p d ran ∙ ap Some (arrival_is v next p d ∙ ap (through (n_of (rate w whole q e qn)) c) (carried_after w whole q e qn ∙ ap Some (frame_is w.ring.moment (sender w whole q e qn) e)));
+    told =
+        told_later v p d ran ∙ ap Some (arrival_is v next p d
+        ∙ ap (through (n_of (rate w whole q e qn)) c) (carried_after w whole q e qn
+        ∙ ap Some (frame_is w.ring.moment (sender w whole q e qn) e)));
   }
 
   left : (receiving_on d (node_at (round v).ring.nodes p)).readings ≡ (after_taking v.ring.settings.threshold old).readings
@@ -185,25 +210,36 @@ module _ (w : World) (whole : IsWhole w) (p : ℕ) (d : Side) (lt : p < length w
 
   module _ (k : ℕ) (high : k + 1 ≤ n_of w.ring.settings.rate) where
     -- the interpreter behind a span takes the word that the generator before it sent in the round before
-    pub interpreter_step : TakesWord (get_or (receiving_on d (node_at v.ring.nodes p)).readings k start) (get_or (receiving_on d (node_at (round v).ring.nodes p)).readings k start) (received (lines_at v p) d (k + 1))
-        (word_behind (is_cut c) (word_sent (get_or (sending_on e (node_at w.ring.nodes q)).generators k None) (sent_at w q e (k + 1)).action (sent_at w q e (k + 1)).value))
+    pub interpreter_step : TakesWord (get_or (receiving_on d (node_at v.ring.nodes p)).readings k start)
+        (get_or (receiving_on d (node_at (round v).ring.nodes p)).readings k start) (received (lines_at v p) d (k + 1))
+        (word_behind (is_cut c) (word_sent (get_or (sending_on e (node_at w.ring.nodes q)).generators k None) (sent_at w q e (k + 1)).action
+        (sent_at w q e (k + 1)).value))
     unfolding any_round.round any_round.round_with
     interpreter_step =
-        let took = spans_take_words (rate w whole q e qn) c (fed w whole q e qn) (said w whole q e qn) old threshold (lines_at v p) d k is_span (line_is v next p d pn) high in
+        let took =
+        spans_take_words (rate w whole q e qn) c (fed w whole q e qn) (said w whole q e qn) old threshold (lines_at v p) d k is_span
+        (line_is v next p d pn) high in
         let new = sym (ap (λ rs. get_or rs k start) left) in
         let s = state_is w whole q e qn k in
         let i = fed_is w whole q e qn (k + 1) in
-        subst (λ word. TakesWord (get_or (receiving_on d (node_at v.ring.nodes p)).readings k start) (get_or (receiving_on d (node_at (round v).ring.nodes p)).readings k start) (received (lines_at v p) d (k + 1)) (word_behind (is_cut c) word))
+        subst (λ word. TakesWord (get_or (receiving_on d (node_at v.ring.nodes p)).readings k start)
+        (get_or (receiving_on d (node_at (round v).ring.nodes p)).readings k start) (received (lines_at v p) d (k + 1))
+        (word_behind (is_cut c) word))
         (λ t. word_sent (s t) (i t).action (i t).value)
-        (subst (λ r. TakesWord (get_or (receiving_on d (node_at v.ring.nodes p)).readings k start) r (received (lines_at v p) d (k + 1)) (word_behind (is_cut c) (word_sent (get_or (said w whole q e qn).generators k None) (fed w whole q e qn (k + 1)).action (fed w whole q e qn (k + 1)).value))) new took)
+        (subst (λ r. TakesWord (get_or (receiving_on d (node_at v.ring.nodes p)).readings k start) r (received (lines_at v p) d (k + 1))
+        (word_behind (is_cut c) (word_sent (get_or (said w whole q e qn).generators k None) (fed w whole q e qn (k + 1)).action
+        (fed w whole q e qn (k + 1)).value))) new took)
 
     -- and where its fibre isn't cut, what comes is the AU-4 that the generator sent
-    pub au_step : is_cut c ≡ false → (received (lines_at v p) d (k + 1)).au ≡ au_sent (get_or (sending_on e (node_at w.ring.nodes q)).generators k None) (sent_at w q e (k + 1))
+    pub au_step : is_cut c ≡ false → (received (lines_at v p) d (k + 1)).au
+        ≡ au_sent (get_or (sending_on e (node_at w.ring.nodes q)).generators k None) (sent_at w q e (k + 1))
     unfolding any_round.round any_round.round_with
     au_step clear =
         let there = carried_after w whole q e qn in
-        let few : k < length (receiving_on d (node_at v.ring.nodes p)).readings = omega (arith, ((next.placed.sides p pn).receives d).readings) in
-        ap (λ (i : Input). i.au) (side_reads v.ring.settings.rate (lines_at v p) d (receiving_on d (node_at v.ring.nodes p)).readings (took_in v next ran p d pn) k few)
+        let few : k < length (receiving_on d (node_at v.ring.nodes p)).readings =
+        omega (arith, ((next.placed.sides p pn).receives d).readings) in
+        ap (λ (i : Input). i.au) (side_reads v.ring.settings.rate (lines_at v p) d (receiving_on d (node_at v.ring.nodes p)).readings
+        (took_in v next ran p d pn) k few)
         ∙ (reads v next p d pn).aus ran clear _ there (k + 1) (omega arith) high
         ∙ au_left w whole q e qn _ there k high
 
@@ -212,17 +248,22 @@ module _ (w : World) (whole : IsWhole w) (p : ℕ) (d : Side) (lt : p < length w
       still : (after_taking v.ring.settings.threshold old).readings ≡ old.readings
       still = sym left ∙ readings_on d (node_at (round v).ring.nodes p) (node_at v.ring.nodes p) (same_there v next calm1 p pn)
 
-      kept : get_or (said w whole q e qn).generators k None ≡ next_sending (get_or (said w whole q e qn).generators k None) (fed w whole q e qn (k + 1)).action (fed w whole q e qn (k + 1)).value
+      kept : get_or (said w whole q e qn).generators k None
+          ≡ next_sending (get_or (said w whole q e qn).generators k None) (fed w whole q e qn (k + 1)).action
+          (fed w whole q e qn (k + 1)).value
       kept =
           state_is w whole q e qn k
-          ∙ sym (ap (λ l. get_or l k None) (generators_on e (node_at v.ring.nodes q) (node_at w.ring.nodes q) (same_there w whole calm0 q qn)))
+          ∙ sym (ap (λ l. get_or l k None) (generators_on e (node_at v.ring.nodes q) (node_at w.ring.nodes q)
+          (same_there w whole calm0 q qn)))
           ∙ state_after w whole q e qn k
           ∙ (node_sends (rate w whole q e qn) w.ring.moment (sender w whole q e qn) e (sends_at w whole q e qn)).goes k high
 
-      span_carries : is_failed (receiving_on d (node_at (round v).ring.nodes p)).local.defect ≡ false → (b : Outlet) → HasValue b → Brings (sent_at w q e (k + 1)) b → Brings (received (lines_at v p) d (k + 1)) b
+      span_carries : is_failed (receiving_on d (node_at (round v).ring.nodes p)).local.defect ≡ false → (b : Outlet) → HasValue b
+          → Brings (sent_at w q e (k + 1)) b → Brings (received (lines_at v p) d (k + 1)) b
       unfolding any_round.round any_round.round_with
       span_carries works b small is =
-          spans_bring (rate w whole q e qn) c (fed w whole q e qn) (said w whole q e qn) old threshold (lines_at v p) d k is_span (line_is v next p d pn) high (clear_where_it_works v next p d ran pn works) still kept b small
+          spans_bring (rate w whole q e qn) c (fed w whole q e qn) (said w whole q e qn) old threshold (lines_at v p) d k is_span
+          (line_is v next p d pn) high (clear_where_it_works v next p d ran pn works) still kept b small
           (subst (λ i. Brings i b) (sym (fed_is w whole q e qn (k + 1))) is)
 
 pub span : ASpanCarries
@@ -231,4 +272,5 @@ span w whole calm0 calm1 p d au b lt low high small works is =
     let k = au - 1 in
     let back : k + 1 ≡ au = omega arith in
     subst (λ a. Brings (received (lines_at (round w) p) d a) b) back
-    (span_carries w whole p d (omega (arith, count w whole.placed)) k (omega arith) calm0 calm1 works b small (subst (λ a. Brings (sent_at w q (opposite d) a) b) (sym back) is))
+    (span_carries w whole p d (omega (arith, count w whole.placed)) k (omega arith) calm0 calm1 works b small
+    (subst (λ a. Brings (sent_at w q (opposite d) a) b) (sym back) is))

@@ -26,7 +26,8 @@ use Rattle.sdh_laws.proofs.hearing.Changes.{whole_run}
 use Rattle.sdh_routes.proofs.Ways.{IsKeptOver}
 use Rattle.sdh_spans.specs.Brought.{Brings, HasValue}
 use Rattle.sdh_laws.specs.Carrying.Windows.{Layout, layout_of, size_of, slots_of, value_at, sent_at, AreSettled, FailOnApplied, IsQuiet}
-use Rattle.sdh_laws.proofs.carrying.Connections.{BringsProtection, SendsWorking, SendsProtection, sends_working, sends_protection, brings_protection}
+use Rattle.sdh_laws.proofs.carrying.Connections.{BringsProtection, SendsWorking, SendsProtection, sends_working, sends_protection}
+use Rattle.sdh_laws.proofs.carrying.Connections.{brings_protection}
 use Rattle.sdh_laws.proofs.carrying.Spans.{span}
 use Rattle.sdh_laws.proofs.carrying.Clocks.{form_there, goes_plain}
 use Rattle.sdh_circuits.specs.declared.PortId.{PortId}
@@ -36,7 +37,8 @@ use Rattle.sdh_rounds.specs.Rounds as any_round
 use Rattle.sdh_rounds.specs.Runs as any_run
 
 -- on a span that isn't applied no side failed
-works_on_free : (n : ℕ) (rs : List ℕ) (w : World) → FailOnApplied n rs w → (p : ℕ) (d : Side) → p < n → is_applied rs (span_at n p d) ≡ false → is_failed (receiving_on d (node_at w.ring.nodes p)).local.defect ≡ false
+works_on_free : (n : ℕ) (rs : List ℕ) (w : World) → FailOnApplied n rs w → (p : ℕ) (d : Side) → p < n
+    → is_applied rs (span_at n p d) ≡ false → is_failed (receiving_on d (node_at w.ring.nodes p)).local.defect ≡ false
 works_on_free n rs w failing p d lt free = elim (cases_Bool (is_failed (receiving_on d (node_at w.ring.nodes p)).local.defect)) [
   | inl t ↦ absurd (let e = failing p d lt t in cc)
   | inr f ↦ f
@@ -55,15 +57,19 @@ layout_run w (suc k) = layout_round (run k w) ∙ layout_run w k
 abbrev pub Over : Layout → World → List ℕ → ℕ → Outlet → Type 0
 Over l v rs m b = AreSettled (size_of l) rs (round v) → FailOnApplied (size_of l) rs (round (round v)) → m ≤ slots_of l
     → (p : ℕ) (o : Origin) → p < size_of l → IsArrival o → IsFree (size_of l) (is_applied rs) p o
-    → (let z = back_from (size_of l) (settled rs) l.circuits m p o in Brings (value_at v z.at m z.origin) b → Brings (value_at (round v) p m o) b)
+    → (let z = back_from (size_of l) (settled rs) l.circuits m p o in Brings (value_at v z.at m z.origin) b
+    → Brings (value_at (round v) p m o) b)
 
-module _ (v : World) (whole : IsWhole v) (calm0 : is_calm (round v).ring.nodes ≡ true) (calm1 : is_calm (round (round v)).ring.nodes ≡ true) (rs : List ℕ) (m : ℕ) (low : 1 ≤ m) (b : Outlet) (small : HasValue b) where
+module _ (v : World) (whole : IsWhole v) (calm0 : is_calm (round v).ring.nodes ≡ true) (calm1 : is_calm (round (round v)).ring.nodes ≡ true)
+    (rs : List ℕ) (m : ℕ) (low : 1 ≤ m) (b : Outlet) (small : HasValue b) where
   abbrev n : ℕ
   n = length v.ring.ids
 
-  over : (d : Side) (p au : ℕ) → FailOnApplied n rs (round (round v)) → p < n → 1 ≤ au → au ≤ n_of v.ring.settings.rate → is_applied rs (span_at n p d) ≡ false
+  over : (d : Side) (p au : ℕ) → FailOnApplied n rs (round (round v)) → p < n → 1 ≤ au → au ≤ n_of v.ring.settings.rate
+      → is_applied rs (span_at n p d) ≡ false
       → Brings (sent_at v (neighbour n p d) (opposite d) au) b → Brings (received (lines_at (round v) p) d au) b
-  over d p au failing lt some few free = span v whole calm0 calm1 p d au b lt some few small (works_on_free n rs (round (round v)) failing p d lt free)
+  over d p au failing lt some few free =
+      span v whole calm0 calm1 p d au b lt some few small (works_on_free n rs (round (round v)) failing p d lt free)
 
   pub one_span : Over (layout_of v) v rs m b
   one_span states failing few p Ais lt a f is = absurd a
@@ -71,19 +77,24 @@ module _ (v : World) (whole : IsWhole v) (calm0 : is_calm (round v).ring.nodes �
   one_span states failing few p (Working d) lt a f is =
       let q = neighbour n p d in
       let below : q < n = omega (arith, count v whole.placed, neighbour_inside v whole p d) in
-      over d p m failing lt low (omega arith) f (subst (λ i. Brings i b) (sym (sends_working v whole q m (opposite d) (settled rs q) below few (states q below))) is)
+      over d p m failing lt low (omega arith) f (subst (λ i. Brings i b)
+      (sym (sends_working v whole q m (opposite d) (settled rs q) below few (states q below))) is)
   one_span states failing few p (Protection d) lt a f is =
       let q = neighbour n p d in
       let below : q < n = omega (arith, count v whole.placed, neighbour_inside v whole p d) in
       let comes : value_at (round v) p m (Protection d) ≡ received (lines_at (round v) p) d (slots_of (layout_of v) + m) =
       subst (λ l. BringsProtection l (round v)) (layout_round v) (brings_protection (round v) (whole_round v whole)) p m d lt in
       subst (λ i. Brings i b) (sym comes)
-      (over d p (slots_of (layout_of v) + m) failing lt (omega arith) (omega arith) f (subst (λ i. Brings i b) (sym (sends_protection v whole q m (opposite d) (settled rs q) below low (states q below))) is))
+      (over d p (slots_of (layout_of v) + m) failing lt (omega arith) (omega arith) f
+      (subst (λ i. Brings i b) (sym (sends_protection v whole q m (opposite d) (settled rs q) below low (states q below))) is))
 
 -- a port from which what comes over a span was sent justifies nothing in a round between two in settled states, the second of them calm
 abbrev GoesPlain : Layout → World → List ℕ → ℕ → Type 0
-GoesPlain l v rs m = AreSettled (size_of l) rs (round v) → AreSettled (size_of l) rs (round (round v)) → m ≤ slots_of l → (p : ℕ) (o : Origin) → p < size_of l → IsArrival o
-    → (let z = back_from (size_of l) (settled rs) l.circuits m p o in (id : PortId) → z.origin ≡ Add id → form_there (round v) z.at id ≡ Plain)
+GoesPlain l v rs m =
+    AreSettled (size_of l) rs (round v) → AreSettled (size_of l) rs (round (round v)) → m ≤ slots_of l → (p : ℕ) (o : Origin)
+    → p < size_of l → IsArrival o
+    → (let z = back_from (size_of l) (settled rs) l.circuits m p o in (id : PortId) → z.origin ≡ Add id
+    → form_there (round v) z.at id ≡ Plain)
 
 module _ (v : World) (whole : IsWhole v) (calm : is_calm (round (round v)).ring.nodes ≡ true) (rs : List ℕ) (m : ℕ) (low : 1 ≤ m) where
   abbrev l : Layout
@@ -99,7 +110,8 @@ module _ (v : World) (whole : IsWhole v) (calm : is_calm (round (round v)).ring.
       let q = neighbour (size_of l) p d in
       let o = opposite d in
       let inside = below p d in
-      let later : SendsWorking l (round v) = subst (λ x. SendsWorking x (round v)) (layout_round v) (sends_working (round v) (whole_round v whole)) in
+      let later : SendsWorking l (round v) =
+      subst (λ x. SendsWorking x (round v)) (layout_round v) (sends_working (round v) (whole_round v whole)) in
       goes_plain v whole q o m m id (omega (arith, count v whole.placed, inside)) low (omega (arith, few))
       (sends_working v whole q m o (settled rs q) inside few (now q inside) ∙ ap (value_at v q m) e)
       (later q m o (settled rs q) inside few (next q inside) ∙ ap (value_at (round v) q m) e) calm
@@ -107,13 +119,15 @@ module _ (v : World) (whole : IsWhole v) (calm : is_calm (round (round v)).ring.
       let q = neighbour (size_of l) p d in
       let o = opposite d in
       let inside = below p d in
-      let later : SendsProtection l (round v) = subst (λ x. SendsProtection x (round v)) (layout_round v) (sends_protection (round v) (whole_round v whole)) in
+      let later : SendsProtection l (round v) =
+      subst (λ x. SendsProtection x (round v)) (layout_round v) (sends_protection (round v) (whole_round v whole)) in
       goes_plain v whole q o (slots_of l + m) m id (omega (arith, count v whole.placed, inside)) (omega (arith, low)) (omega (arith, few))
       (sends_protection v whole q m o (settled rs q) inside low (now q inside) ∙ ap (value_at v q m) e)
       (later q m o (settled rs q) inside low (next q inside) ∙ ap (value_at (round v) q m) e) calm
 
 -- over the spans of a quiet ring; round t begins after t rounds
-module _ (w : World) (whole : IsWhole w) (rs : List ℕ) (first last : ℕ) (quiet : IsQuiet (length w.ring.ids) rs w (suc first) (suc last)) (m : ℕ) (low : 1 ≤ m) (few : m ≤ slots_of (layout_of w)) (b : Outlet) (small : HasValue b) where
+module _ (w : World) (whole : IsWhole w) (rs : List ℕ) (first last : ℕ) (quiet : IsQuiet (length w.ring.ids) rs w (suc first) (suc last))
+    (m : ℕ) (low : 1 ≤ m) (few : m ≤ slots_of (layout_of w)) (b : Outlet) (small : HasValue b) where
   abbrev pub brings_in : ℕ → ℕ → Origin → Type 0
   brings_in t p o = Brings (value_at (run t w) p m o) b
 
@@ -121,13 +135,17 @@ module _ (w : World) (whole : IsWhole w) (rs : List ℕ) (first last : ℕ) (qui
   unfolding any_run.run
   over_at t early late =
       subst (λ (l : Layout). Over l (run t w) rs m b) (layout_run w t)
-      (one_span (run t w) (whole_run w t whole) (quiet.calm (suc t) early (omega arith)) (quiet.calm (suc (suc t)) (omega arith) late) rs m low b small)
+      (one_span (run t w) (whole_run w t whole) (quiet.calm (suc t) early (omega arith))
+      (quiet.calm (suc (suc t)) (omega arith) late) rs m low b small)
 
-  kept_at : (t p : ℕ) (o : Origin) → p < length w.ring.ids → IsArrival o → IsFree (length w.ring.ids) (is_applied rs) p o → first ≤ t → t < last
-      → (let z = back_from (length w.ring.ids) (settled rs) w.ring.circuits.circuits m p o in brings_in t z.at z.origin → brings_in (suc t) p o)
+  kept_at : (t p : ℕ) (o : Origin) → p < length w.ring.ids → IsArrival o → IsFree (length w.ring.ids) (is_applied rs) p o → first ≤ t
+      → t < last
+      → (let z = back_from (length w.ring.ids) (settled rs) w.ring.circuits.circuits m p o in brings_in t z.at z.origin
+      → brings_in (suc t) p o)
   unfolding any_run.run
   kept_at t p o lt a f early late =
-      over_at t (omega arith) (omega arith) (quiet.settled_are (suc t) (omega arith) (omega arith)) (quiet.failing (suc (suc t)) (omega arith) (omega arith)) few p o lt a f
+      over_at t (omega arith) (omega arith) (quiet.settled_are (suc t) (omega arith) (omega arith))
+      (quiet.failing (suc (suc t)) (omega arith) (omega arith)) few p o lt a f
 
   pub kept_over : IsKeptOver (length w.ring.ids) (is_applied rs) (settled rs) w.ring.circuits.circuits m brings_in first last
   kept_over t p o lt a f early late is =
@@ -142,7 +160,8 @@ module _ (w : World) (whole : IsWhole w) (rs : List ℕ) (first last : ℕ) (qui
   comes_in t p (Protection d) = brings_in t p (Protection d)
   comes_in t p Ais = brings_in t p Ais
 
-  pub from_comes : (t q : ℕ) (o : Origin) → ((id : PortId) → o ≡ Add id → form_there (run t w) q id ≡ Plain) → comes_in t q o → brings_in t q o
+  pub from_comes : (t q : ℕ) (o : Origin) → ((id : PortId) → o ≡ Add id → form_there (run t w) q id ≡ Plain) → comes_in t q o
+      → brings_in t q o
   from_comes t q (Add id) plain is = is (plain id refl)
   from_comes t q (Working d) plain is = is
   from_comes t q (Protection d) plain is = is
@@ -156,21 +175,27 @@ module _ (w : World) (whole : IsWhole w) (rs : List ℕ) (first last : ℕ) (qui
 
   -- a port that fills a working or a protection AU-4 in round t + 1, in settled states, does so in the round before
   plain_at : (t : ℕ) → first ≤ t → suc t < last → (p : ℕ) (o : Origin) → p < length w.ring.ids → IsArrival o
-      → (let z = back_from (length w.ring.ids) (settled rs) w.ring.circuits.circuits m p o in (id : PortId) → z.origin ≡ Add id → form_there (run (suc t) w) z.at id ≡ Plain)
+      → (let z = back_from (length w.ring.ids) (settled rs) w.ring.circuits.circuits m p o in (id : PortId) → z.origin ≡ Add id
+      → form_there (run (suc t) w) z.at id ≡ Plain)
   unfolding any_run.run
   plain_at t early late =
-      subst (λ x. GoesPlain x (run t w) rs m) (layout_run w t) (one_port (run t w) (whole_run w t whole) (quiet.calm (suc (suc t)) (omega arith) (omega arith)) rs m low)
+      subst (λ x. GoesPlain x (run t w) rs m) (layout_run w t)
+      (one_port (run t w) (whole_run w t whole) (quiet.calm (suc (suc t)) (omega arith) (omega arith)) rs m low)
       (quiet.settled_are (suc t) (omega arith) (omega arith)) (quiet.settled_are (suc (suc t)) (omega arith) (omega arith)) few
 
-  kept_later : (t p : ℕ) (o : Origin) → p < length w.ring.ids → IsArrival o → IsFree (length w.ring.ids) (is_applied rs) p o → first ≤ t → suc t < last
-      → (let z = back_from (length w.ring.ids) (settled rs) w.ring.circuits.circuits m p o in comes_in (suc t) z.at z.origin → comes_in (suc (suc t)) p o)
+  kept_later : (t p : ℕ) (o : Origin) → p < length w.ring.ids → IsArrival o → IsFree (length w.ring.ids) (is_applied rs) p o → first ≤ t
+      → suc t < last
+      → (let z = back_from (length w.ring.ids) (settled rs) w.ring.circuits.circuits m p o in comes_in (suc t) z.at z.origin
+      → comes_in (suc (suc t)) p o)
   kept_later t p o lt a f early late is =
       let z = back_from (length w.ring.ids) (settled rs) w.ring.circuits.circuits m p o in
-      to_comes (suc (suc t)) p o a (kept_at (suc t) p o lt a f (omega arith) late (from_comes (suc t) z.at z.origin (plain_at t early late p o lt a) is))
+      to_comes (suc (suc t)) p o a (kept_at (suc t) p o lt a f (omega arith) late
+      (from_comes (suc t) z.at z.origin (plain_at t early late p o lt a) is))
 
   pub comes_over : IsKeptOver (length w.ring.ids) (is_applied rs) (settled rs) w.ring.circuits.circuits m comes_in (suc first) last
   comes_over t p o lt a f early late is =
       let one : suc (t - 1) ≡ t = omega arith in
       let same : suc (suc (t - 1)) ≡ t + 1 = omega arith in
       let z = back_from (length w.ring.ids) (settled rs) w.ring.circuits.circuits m p o in
-      subst (λ s. comes_in s p o) same (kept_later (t - 1) p o lt a f (omega arith) (omega arith) (subst (λ s. comes_in s z.at z.origin) (sym one) is))
+      subst (λ s. comes_in s p o) same (kept_later (t - 1) p o lt a f (omega arith) (omega arith)
+      (subst (λ s. comes_in s z.at z.origin) (sym one) is))

@@ -40,5 +40,8 @@ compared_by a b is =
       east_out = record { word = east_word i; generators = east_generators i };
     }
 
-pub calm_round : (u : World) → IsWhole u → 0 < u.ring.rounds → AtEach (λ p n. is_held n ≡ false) u.ring.nodes → ((p : ℕ) → p < length u.ring.nodes → AreSame (node_at (round u).ring.nodes p) (node_at u.ring.nodes p)) → is_calm (round u).ring.nodes ≡ true
-calm_round u whole ran free same = calm_where_same u whole ran free (λ p h. compared_by (node_at (round u).ring.nodes p) (node_at u.ring.nodes p) (same p h))
+pub calm_round : (u : World) → IsWhole u → 0 < u.ring.rounds → AtEach (λ p n. is_held n ≡ false) u.ring.nodes
+    → ((p : ℕ) → p < length u.ring.nodes → AreSame (node_at (round u).ring.nodes p) (node_at u.ring.nodes p))
+    → is_calm (round u).ring.nodes ≡ true
+calm_round u whole ran free same =
+    calm_where_same u whole ran free (λ p h. compared_by (node_at (round u).ring.nodes p) (node_at u.ring.nodes p) (same p h))

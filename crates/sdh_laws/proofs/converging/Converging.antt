@@ -1,5 +1,6 @@
 -- From any ring that is paired with its fibres: all rounds are calm from some round on.
-use Rattle.std.proofs.Common.{◌≡◌, ℕ, zero, suc, ◌+◌, ◌-◌, ◌*◌, ◌<◌, ◌≤◌, Bool, List, length, map, get_or, Option, Some, None, ap, sym, ◌∙◌, subst, arith, inl, inr}
+use Rattle.std.proofs.Common.{◌≡◌, ℕ, zero, suc, ◌+◌, ◌-◌, ◌*◌, ◌<◌, ◌≤◌, Bool, List, length, map, get_or, Option, Some, None, ap, sym, ◌∙◌}
+use Rattle.std.proofs.Common.{subst, arith, inl, inr}
 use Rattle.std.specs.Prelude.{if◌then◌else◌}
 use Rattle.std.proofs.lemmas.Bool.{cases_Bool}
 use Rattle.std.proofs.lemmas.List.{get_or-map}
@@ -45,8 +46,10 @@ use Rattle.sdh_node.specs.Stations.{adm}
 use Rattle.sdh_rounds.specs.Runs as any_run
 
 -- what lists that are the same when mapped have at a place
-same_at : {Y : Type 0} (f : Node → Y) (xs ys : List Node) (p : ℕ) → p < length xs → p < length ys → map f xs ≡ map f ys → f (node_at xs p) ≡ f (node_at ys p)
-same_at f xs ys p hx hy e = sym (get_or-map f xs p nowhere (f nowhere) hx) ∙ ap (λ l. get_or l p (f nowhere)) e ∙ get_or-map f ys p nowhere (f nowhere) hy
+same_at : {Y : Type 0} (f : Node → Y) (xs ys : List Node) (p : ℕ) → p < length xs → p < length ys → map f xs ≡ map f ys
+    → f (node_at xs p) ≡ f (node_at ys p)
+same_at f xs ys p hx hy e =
+    sym (get_or-map f xs p nowhere (f nowhere) hx) ∙ ap (λ l. get_or l p (f nowhere)) e ∙ get_or-map f ys p nowhere (f nowhere) hy
 
 -- ---- what comes
 
@@ -54,7 +57,8 @@ same_at f xs ys p hx hy e = sym (get_or-map f xs p nowhere (f nowhere) hx) ∙ a
 abbrev come_behind : Condition → K → Option K
 come_behind c k = if is_cut c then None else Some k
 
-came_after : (u : World) → IsWhole u → (p : ℕ) (d : Side) → p < length u.ring.nodes → 0 < u.ring.rounds → (receiving_on d (node_at (round u).ring.nodes p)).brought.last ≡ come_behind (condition_to u p d) (word_to u p d)
+came_after : (u : World) → IsWhole u → (p : ℕ) (d : Side) → p < length u.ring.nodes → 0 < u.ring.rounds
+    → (receiving_on d (node_at (round u).ring.nodes p)).brought.last ≡ come_behind (condition_to u p d) (word_to u p d)
 came_after u whole p d inside started =
     let b = brings u whole p d inside in
     elim (cases_Bool (is_cut (condition_to u p d))) [
@@ -79,14 +83,17 @@ module _ (w : World) (whole : IsWhole w) (form : HasCircuits (layout_of w)) (sti
 
   requests_at : (k : ℕ) → requests_of (run (103 + k) w) ≡ rs
   requests_at zero = ap (λ j. requests_of (run j w)) {x = 103 + zero} {y = 103} (omega arith)
-  requests_at (suc k) = ap (λ j. requests_of (run j w)) {x = 103 + suc k} {y = suc (103 + k)} (omega arith) ∙ ap requests_in (still.needs (103 + k) (omega arith)) ∙ requests_at k
+  requests_at (suc k) =
+      ap (λ j. requests_of (run j w)) {x = 103 + suc k} {y = suc (103 + k)} (omega arith)
+      ∙ ap requests_in (still.needs (103 + k) (omega arith)) ∙ requests_at k
 
   requests_from : (k : ℕ) → 103 ≤ k → requests_of (run k w) ≡ rs
   requests_from k late = ap (λ j. requests_of (run j w)) {x = k} {y = 103 + (k - 103)} (omega arith) ∙ requests_at (k - 103)
 
   settled_from : (k : ℕ) → 4 * n + 110 ≤ k → AreSettled n rs (run k w)
   settled_from k late =
-      each_settled (run k w) n rs (nodes_run k) (length-requests_of (run 103 w) n (nodes_run 103)) (still.states k late ∙ ap settled_states (requests_from k (omega arith)))
+      each_settled (run k w) n rs (nodes_run k) (length-requests_of (run 103 w) n (nodes_run 103))
+      (still.states k late ∙ ap settled_states (requests_from k (omega arith)))
 
   -- ---- pointers
 
@@ -97,7 +104,9 @@ module _ (w : World) (whole : IsWhole w) (form : HasCircuits (layout_of w)) (sti
   at_rest = record {
     spans = length-requests_of (run 103 w) n (nodes_run 103) ∙ ap length (sym (left_run base w).ids);
     unslipped = still.slips base (omega arith);
-    settled_are = λ k some. subst (λ ids. AreSettled (length ids) rs (run k (run base w))) (sym (left_run base w).ids) (subst (AreSettled n rs) (sym (run_more w base k)) (settled_from (k + base) (omega arith)));
+    settled_are =
+        λ k some. subst (λ ids. AreSettled (length ids) rs (run k (run base w))) (sym (left_run base w).ids)
+        (subst (AreSettled n rs) (sym (run_more w base k)) (settled_from (k + base) (omega arith)));
   }
 
   still_at : (j : ℕ) → 31 * n + 127 ≤ j → HasStillPointers w j
@@ -105,14 +114,18 @@ module _ (w : World) (whole : IsWhole w) (form : HasCircuits (layout_of w)) (sti
       let i = j - base in
       let there : i + base ≡ j = omega arith in
       let size : length (run base w).ring.ids ≡ n = ap length (left_run base w).ids in
-      let s = pointers_rest (run base w) rs (whole_run w base whole) (subst HasCircuits (sym (layout_run w base)) form) at_rest i (omega arith) in
+      let s =
+      pointers_rest (run base w) rs (whole_run w base whole) (subst HasCircuits (sym (layout_run w base)) form) at_rest i
+      (omega arith) in
       let now : run i (run base w) ≡ run j w = run_more w base i ∙ ap (λ k. run k w) there in
       let next : run (suc i) (run base w) ≡ run (suc j) w = one_run (run base w) i ∙ ap round now ∙ sym (one_run w j) in
       record {
         generators = λ p d h. (let low = inside_run base p h in
-            λ t. (sym (ap (λ v. (sending_on d (node_at v.ring.nodes p)).generators) next) ∙ s.generators p d low ∙ ap (λ v. (sending_on d (node_at v.ring.nodes p)).generators) now) t);
+            λ t. (sym (ap (λ v. (sending_on d (node_at v.ring.nodes p)).generators) next) ∙ s.generators p d low
+            ∙ ap (λ v. (sending_on d (node_at v.ring.nodes p)).generators) now) t);
         readings = λ p d h. (let low = inside_run base p h in
-            λ t. (sym (ap (λ v. (receiving_on d (node_at v.ring.nodes p)).readings) next) ∙ s.readings p d low ∙ ap (λ v. (receiving_on d (node_at v.ring.nodes p)).readings) now) t);
+            λ t. (sym (ap (λ v. (receiving_on d (node_at v.ring.nodes p)).readings) next) ∙ s.readings p d low
+            ∙ ap (λ v. (receiving_on d (node_at v.ring.nodes p)).readings) now) t);
       }
 
   -- ---- words
@@ -121,17 +134,21 @@ module _ (w : World) (whole : IsWhole w) (form : HasCircuits (layout_of w)) (sti
   word_by v West s e = ap (λ (z : Sent). z.west) e
   word_by v East s e = ap (λ (z : Sent). z.east) e
 
-  word_stays : (k p : ℕ) (d : Side) → 5 * n + 110 ≤ k → p < length w.ring.nodes → word_of d (node_at (run (suc k) w).ring.nodes p) ≡ word_of d (node_at (run k w).ring.nodes p)
+  word_stays : (k p : ℕ) (d : Side) → 5 * n + 110 ≤ k → p < length w.ring.nodes
+      → word_of d (node_at (run (suc k) w).ring.nodes p) ≡ word_of d (node_at (run k w).ring.nodes p)
   unfolding signals_of
   word_stays k p d late h =
       word_by (node_at (run (suc k) w).ring.nodes p) d (node_at (run k w).ring.nodes p)
       (same_at sent_of (run (suc k) w).ring.nodes (run k w).ring.nodes p (inside_run (suc k) p h) (inside_run k p h)
       (still.words k late))
 
-  request_stays : (k p : ℕ) (d : Side) → 103 ≤ k → p < length w.ring.nodes → (receiving_on d (node_at (run (suc k) w).ring.nodes p)).request ≡ (receiving_on d (node_at (run k w).ring.nodes p)).request
+  request_stays : (k p : ℕ) (d : Side) → 103 ≤ k → p < length w.ring.nodes
+      → (receiving_on d (node_at (run (suc k) w).ring.nodes p)).request ≡ (receiving_on d (node_at (run k w).ring.nodes p)).request
   unfolding needs_in
   request_stays k p d late h =
-      sym (needs_at (run (suc k) w).ring.nodes p d (inside_run (suc k) p h)) ∙ ap (λ (l : List Needs). request_on (get_or l p no_needs) d) (still.needs k late) ∙ needs_at (run k w).ring.nodes p d (inside_run k p h)
+      sym (needs_at (run (suc k) w).ring.nodes p d (inside_run (suc k) p h))
+      ∙ ap (λ (l : List Needs). request_on (get_or l p no_needs) d) (still.needs k late)
+      ∙ needs_at (run k w).ring.nodes p d (inside_run k p h)
 
   -- ---- what is heard
 
@@ -139,16 +156,19 @@ module _ (w : World) (whole : IsWhole w) (form : HasCircuits (layout_of w)) (sti
   word_to_in k p d = ap (λ ids. word_of (opposite d) (node_at (run k w).ring.nodes (neighbour (length ids) p d))) (left_run k w).ids
 
   word_to_stays : (k p : ℕ) (d : Side) → 5 * n + 110 ≤ k → word_to (run (suc k) w) p d ≡ word_to (run k w) p d
-  word_to_stays k p d late = word_to_in (suc k) p d ∙ word_stays k (neighbour n p d) (opposite d) late (neighbour_inside w whole p d) ∙ sym (word_to_in k p d)
+  word_to_stays k p d late =
+      word_to_in (suc k) p d ∙ word_stays k (neighbour n p d) (opposite d) late (neighbour_inside w whole p d) ∙ sym (word_to_in k p d)
 
   -- what a side keeps after k rounds
   abbrev kept : ℕ → ℕ → Side → Brought
   kept k p d = (receiving_on d (node_at (run k w).ring.nodes p)).brought
 
-  came_in : (k p : ℕ) (d : Side) → 1 ≤ k → p < length w.ring.nodes → (kept (suc k) p d).last ≡ come_behind (condition_to w p d) (word_to (run k w) p d)
+  came_in : (k p : ℕ) (d : Side) → 1 ≤ k → p < length w.ring.nodes
+      → (kept (suc k) p d).last ≡ come_behind (condition_to w p d) (word_to (run k w) p d)
   unfolding any_run.run
   came_in k p d some h =
-      came_after (run k w) (whole_run w k whole) p d (inside_run k p h) (let r = (left_run k w).rounds in omega arith) ∙ ap (λ c. come_behind c (word_to (run k w) p d)) (condition_run w k p d)
+      came_after (run k w) (whole_run w k whole) p d (inside_run k p h) (let r = (left_run k w).rounds in omega arith)
+      ∙ ap (λ c. come_behind c (word_to (run k w) p d)) (condition_run w k p d)
 
   earlier_in : (k p : ℕ) (d : Side) → p < length w.ring.nodes → kept (suc k) p d ≡ with_brought (kept (suc k) p d).last (kept k p d)
   unfolding any_run.run
@@ -192,7 +212,8 @@ module _ (w : World) (whole : IsWhole w) (form : HasCircuits (layout_of w)) (sti
 
   -- ---- so rounds are calm
 
-  same_from : (k : ℕ) → 31 * n + 127 ≤ k → (p : ℕ) → p < length w.ring.nodes → AreSame (node_at (run (suc k) w).ring.nodes p) (node_at (run k w).ring.nodes p)
+  same_from : (k : ℕ) → 31 * n + 127 ≤ k → (p : ℕ) → p < length w.ring.nodes
+      → AreSame (node_at (run (suc k) w).ring.nodes p) (node_at (run k w).ring.nodes p)
   same_from k late p h =
       let s = still_at k late in
       let enough = whole.placed.ids.enough in
@@ -208,7 +229,9 @@ module _ (w : World) (whole : IsWhole w) (form : HasCircuits (layout_of w)) (sti
 
   calm_after : (k : ℕ) → 31 * n + 127 ≤ k → IsCalm (course w) (suc k)
   unfolding any_run.run
-  calm_after k late = calm_round (run k w) (whole_run w k whole) (let r = (left_run k w).rounds in omega arith) (still.free k (omega arith)) (λ p h. same_from k late p (omega (arith, length_run w k)))
+  calm_after k late =
+      calm_round (run k w) (whole_run w k whole) (let r = (left_run k w).rounds in omega arith) (still.free k (omega arith))
+      (λ p h. same_from k late p (omega (arith, length_run w k)))
 
   calm_from : (j : ℕ) → 31 * n + 128 ≤ j → IsCalm (course w) j
   calm_from j late = let now : suc (j - 1) ≡ j = omega arith in subst (IsCalm (course w)) now (calm_after (j - 1) (omega arith))

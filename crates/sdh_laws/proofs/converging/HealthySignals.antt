@@ -1,5 +1,6 @@
 -- A healthy ring's requests, states and words.
-use Rattle.std.proofs.Common.{◌≡◌, ◌≢◌, ℕ, zero, suc, ◌-◌, ◌*◌, ◌<◌, ◌≤◌, Bool, true, false, List, [], ◌∷◌, length, get_or, replicate, Option, Some, None, refl, ap, sym, ◌∙◌, subst, arith, inl, inr}
+use Rattle.std.proofs.Common.{◌≡◌, ◌≢◌, ℕ, zero, suc, ◌-◌, ◌*◌, ◌<◌, ◌≤◌, Bool, true, false, List, [], ◌∷◌, length, get_or, replicate}
+use Rattle.std.proofs.Common.{Option, Some, None, refl, ap, sym, ◌∙◌, subst, arith, inl, inr}
 use Rattle.std.specs.Prelude.{nat_lt, nat_le, if◌then◌else◌, slice_index}
 use Rattle.std.proofs.lemmas.Bool.{cases_lt}
 use Rattle.std.proofs.lemmas.List.{get_or-replicate, length-replicate, get_or_past}
@@ -97,7 +98,8 @@ module _ (s : Settings) (ids : List ℕ) (circuits : Provisioning) (f : Fibres) 
   -- no slip waits
   pub new_unslipped : IsUnslipped begin
   unfolding new_node any_run.run
-  new_unslipped p h = subst (λ (n : Node). NoneWait n.ports) (sym (new_is p (omega (arith, size)))) (new_none (position_of p) circuits.circuits)
+  new_unslipped p h =
+      subst (λ (n : Node). NoneWait n.ports) (sym (new_is p (omega (arith, size)))) (new_none (position_of p) circuits.circuits)
 
   pub clear_begin : (p : ℕ) (d : Side) → condition_to begin p d ≡ Clear
   clear_begin p d = all_clear (2 * length ids) (fibre_to (length ids) p d)
@@ -111,7 +113,8 @@ module _ (s : Settings) (ids : List ℕ) (circuits : Provisioning) (f : Fibres) 
   request_none k p d h =
       let ss : List Stretch = only_rounds (suc k) ∷ [] in
       let happen : MayHappen begin ss = (tt, tt) in
-      (requests_are s ids circuits f ss may happen).last p d k h (omega arith) ∙ side.asks_nothing s.threshold may.least s.wait (side_history (length ids) p d ss) (uneventful (length ids) p d (suc k)) k
+      (requests_are s ids circuits f ss may happen).last p d k h (omega arith)
+      ∙ side.asks_nothing s.threshold may.least s.wait (side_history (length ids) p d ss) (uneventful (length ids) p d (suc k)) k
 
   -- ---- each node
 
@@ -127,7 +130,11 @@ module _ (s : Settings) (ids : List ℕ) (circuits : Provisioning) (f : Fibres) 
 
   healthy_new : (p : ℕ) → p < length ids → IsHealthy p 0
   unfolding new_node
-  healthy_new p h = record { turns = ap (λ (n : Node). n.held) (new_is p h); state_idle = ap (λ (n : Node). n.state) (new_is p h); word_first = λ d. ap (word_of d) (new_is p h) ∙ word_new d }
+  healthy_new p h = record {
+    turns = ap (λ (n : Node). n.held) (new_is p h);
+    state_idle = ap (λ (n : Node). n.state) (new_is p h);
+    word_first = λ d. ap (word_of d) (new_is p h) ∙ word_new d;
+  }
     where
       word_new : (d : Side) → word_of d (new_node s ids circuits.circuits (position_of p)) ≡ first_word ids p d
       word_new West = refl
@@ -236,7 +243,8 @@ module _ (s : Settings) (ids : List ℕ) (circuits : Provisioning) (f : Fibres) 
 
     state_next : new.state ≡ state.Idle tt
     state_next =
-        subst (λ (n : Node). n.state ≡ (if is_held (node_at u.ring.nodes p) then (node_at u.ring.nodes p).state else state_after (scene_in n))) (sym new_next) (state_is u.ring.moment (informed u p))
+        subst (λ (n : Node). n.state ≡ (if is_held (node_at u.ring.nodes p)
+        then (node_at u.ring.nodes p).state else state_after (scene_in n))) (sym new_next) (state_is u.ring.moment (informed u p))
         ∙ ap (λ (b : Bool). if b then (node_at u.ring.nodes p).state else state_after (scene_in new)) free
         ∙ idle (scene_in new) needs_scene quiet_scene
 
@@ -245,15 +253,23 @@ module _ (s : Settings) (ids : List ℕ) (circuits : Provisioning) (f : Fibres) 
         let is = is_at (run (suc k) begin) (whole_run begin (suc k) begin_whole).placed p (omega (arith, size, length_run begin (suc k))) in
         let ids_are : new.ids ≡ ids = is.ids_are ∙ (left_run (suc k) begin).ids in
         let to : id_on (scene_in new) d ≡ slice_index ids (neighbour count p d) =
-        id_is new d ∙ ap (λ i. slice_index i (neighbour (length i) new.at.0 d)) ids_are ∙ ap (λ a. slice_index ids (neighbour count a d)) is.at in
-        let from : own_id (scene_in new) ≡ slice_index ids p = own_is new ∙ ap (λ i. slice_index i new.at.0) ids_are ∙ ap (λ a. slice_index ids a) is.at in
-        subst (λ (n : Node). word_of d n ≡ (if is_held (node_at u.ring.nodes p) then word_of d (informed u p) else word (scene_in n) d)) (sym new_next) (word_is u.ring.moment (informed u p) d)
+        id_is new d ∙ ap (λ i. slice_index i (neighbour (length i) new.at.0 d)) ids_are
+        ∙ ap (λ a. slice_index ids (neighbour count a d)) is.at in
+        let from : own_id (scene_in new) ≡ slice_index ids p =
+        own_is new ∙ ap (λ i. slice_index i new.at.0) ids_are ∙ ap (λ a. slice_index ids a) is.at in
+        subst (λ (n : Node). word_of d n ≡ (if is_held (node_at u.ring.nodes p) then word_of d (informed u p) else word (scene_in n) d))
+        (sym new_next) (word_is u.ring.moment (informed u p) d)
         ∙ ap (λ (b : Bool). if b then word_of d (informed u p) else word (scene_in new) d) free
         ∙ asks_nothing (scene_in new) needs_scene quiet_scene d
         ∙ (λ i. record { code = Nr; to = to i; from = from i; path = Short; mark = mark.Idle })
 
     healthy_next : IsHealthy p (suc k)
-    healthy_next = record { turns = ap (λ (n : Node). n.held) new_next ∙ turns_left u.ring.moment (informed u p) ∙ ap (λ t. t - 1) (before p h).turns; state_idle = state_next; word_first = word_next }
+    healthy_next = record {
+      turns = ap (λ (n : Node). n.held) new_next ∙ turns_left u.ring.moment (informed u p)
+          ∙ ap (λ t. t - 1) (before p h).turns;
+      state_idle = state_next;
+      word_first = word_next;
+    }
 
   pub healthy : (k p : ℕ) → p < count → IsHealthy p k
   healthy zero p h = healthy_new p h
@@ -264,7 +280,8 @@ module _ (s : Settings) (ids : List ℕ) (circuits : Provisioning) (f : Fibres) 
   free_in k p h = ap (nat_le 1) (healthy k p (omega (arith, size, length_run begin k))).turns
 
   -- from round 1 on the neighbour's word comes, and from round 3 on it is heard
-  comes_first : (k p : ℕ) (d : Side) → p < count → 1 ≤ k → (kept (suc k) p d).last ≡ Some (first_word ids (neighbour count p d) (opposite d))
+  comes_first : (k p : ℕ) (d : Side) → p < count → 1 ≤ k → (kept (suc k) p d).last
+      ≡ Some (first_word ids (neighbour count p d) (opposite d))
   comes_first k p d h some = last_next k (λ q. healthy k q) p h d some
 
   second_is : (k p : ℕ) (d : Side) → p < count → (kept (suc k) p d).second ≡ (kept k p d).last
@@ -276,7 +293,8 @@ module _ (s : Settings) (ids : List ℕ) (circuits : Provisioning) (f : Fibres) 
   agree_with_itself : (k : K) → heard_of (Some k) (Some k) (Some k) ≡ Some k
   agree_with_itself k = rw (agrees_itself k) refl
 
-  pub heard_first : (k p : ℕ) (d : Side) → p < count → 3 ≤ k → hears (receiving_on d (node_at (run (suc k) begin).ring.nodes p)).brought ≡ Some (first_word ids (neighbour count p d) (opposite d))
+  pub heard_first : (k p : ℕ) (d : Side) → p < count → 3 ≤ k
+      → hears (receiving_on d (node_at (run (suc k) begin).ring.nodes p)).brought ≡ Some (first_word ids (neighbour count p d) (opposite d))
   heard_first k p d h some =
       let said = first_word ids (neighbour count p d) (opposite d) in
       let j = k - 1 in
@@ -285,5 +303,7 @@ module _ (s : Settings) (ids : List ℕ) (circuits : Provisioning) (f : Fibres) 
       let at_i : suc i ≡ j = omega arith in
       let last = comes_first k p d h (omega arith) in
       let second = second_is k p d h ∙ ap (λ m. (kept m p d).last) (sym at_j) ∙ comes_first j p d h (omega arith) in
-      let third = third_is k p d h ∙ ap (λ m. (kept m p d).second) (sym at_j) ∙ second_is j p d h ∙ ap (λ m. (kept m p d).last) (sym at_i) ∙ comes_first i p d h (omega arith) in
+      let third =
+      third_is k p d h ∙ ap (λ m. (kept m p d).second) (sym at_j) ∙ second_is j p d h ∙ ap (λ m. (kept m p d).last) (sym at_i)
+      ∙ comes_first i p d h (omega arith) in
       (λ t. heard_of (last t) (second t) (third t)) ∙ agree_with_itself said

@@ -13,7 +13,9 @@ use Rattle.sdh_ringmap.specs.declared.Side.TheVariants.{West, East}
 use Rattle.sdh_ringmap.specs.Places.{opposite}
 use Rattle.sdh_nodestate.specs.declared.Needs.{Needs}
 use Rattle.sdh_nodestate.specs.declared.NodeState.TheVariants as state
-use Rattle.sdh_nodestate.specs.Rules.{Scene, word_on, local, is_from_neighbour, short, long, long_word, stronger, weight, relayed, weight_of, chosen, choose, rest, switches, switched, mark_on, fails, word, word_by, state_after, own_id, id_on, one_side}
+use Rattle.sdh_nodestate.specs.Rules.{Scene, word_on, local, is_from_neighbour, short, long, long_word, stronger, weight, relayed}
+use Rattle.sdh_nodestate.specs.Rules.{weight_of, chosen, choose, rest, switches, switched, mark_on, fails, word, word_by, state_after}
+use Rattle.sdh_nodestate.specs.Rules.{own_id, id_on, one_side}
 use Rattle.sdh_settling.specs.Signals.{no_needs}
 
 -- a word that asks for nothing, or none
@@ -56,11 +58,14 @@ module _ (s : Scene) (needs : s.needs ≡ no_needs) (quiet : (d : Side) → IsQu
 
   no_relay : (d : Side) → relayed s d ≡ None
   unfolding relayed
-  no_relay d = ap (λ o. option_map_or (λ k. if (k.to == own_id s) || (k.from == own_id s) then None else Some k) o None) (no_long (opposite d))
+  no_relay d =
+      ap (λ o. option_map_or (λ k. if (k.to == own_id s) || (k.from == own_id s) then None else Some k) o None) (no_long (opposite d))
 
   rests : (d : Side) → chosen s d ≡ rest
   unfolding chosen
-  rests d = ap (λ w. choose w (weight s (opposite d)) (weight_of (relayed s d))) (no_weight d) ∙ ap₂ (λ l o. choose 0 l (weight_of o)) (no_weight (opposite d)) (no_relay d)
+  rests d =
+      ap (λ w. choose w (weight s (opposite d)) (weight_of (relayed s d))) (no_weight d)
+      ∙ ap₂ (λ l o. choose 0 l (weight_of o)) (no_weight (opposite d)) (no_relay d)
 
   never_switches : (d : Side) → switches s d ≡ false
   unfolding switches
@@ -81,4 +86,5 @@ module _ (s : Scene) (needs : s.needs ≡ no_needs) (quiet : (d : Side) → IsQu
   -- and asks for nothing
   pub asks_nothing : (d : Side) → word s d ≡ record { code = Nr; to = id_on s d; from = own_id s; path = Short; mark = mark.Idle }
   unfolding word
-  asks_nothing d = ap (word_by s d) (rests d) ∙ ap (λ m. record { code = Nr; to = id_on s d; from = own_id s; path = Short; mark = m }) (marked d)
+  asks_nothing d =
+      ap (word_by s d) (rests d) ∙ ap (λ m. record { code = Nr; to = id_on s d; from = own_id s; path = Short; mark = m }) (marked d)

@@ -1,5 +1,6 @@
 -- What ports send, and what is where a walk is over.
-use Rattle.std.proofs.Common.{◌≡◌, ℕ, zero, suc, ◌+◌, ◌<◌, ◌≤◌, Bool, true, false, List, [], ◌∷◌, length, map, Option, Some, None, refl, ap, sym, ◌∙◌, subst, arith}
+use Rattle.std.proofs.Common.{◌≡◌, ℕ, zero, suc, ◌+◌, ◌<◌, ◌≤◌, Bool, true, false, List, [], ◌∷◌, length, map, Option, Some, None, refl, ap}
+use Rattle.std.proofs.Common.{sym, ◌∙◌, subst, arith}
 use Rattle.std.specs.Prelude.{if◌then◌else◌, ◌==◌, All, IfSome, option_map}
 use Rattle.std.specs.Option.{option_map_or}
 use Rattle.std.proofs.lemmas.List.Elements.{All-nil, All-cons, All-append}
@@ -20,7 +21,8 @@ use Rattle.sdh_pointer.specs.Spreading.{IsSmall}
 use Rattle.sdh_pointer.specs.Laws.{IsSound}
 use Rattle.sdh_routes.specs.Walks.{IsOver}
 use Rattle.sdh_terminal.specs.Passing.{Input, no_input}
-use Rattle.sdh_terminal.specs.Tributaries.{Tributary, action_of, port_of, sent_by, sent_in, input_by, added_by, ends_at, ends_from, new_tributary, tributaries_at}
+use Rattle.sdh_terminal.specs.Tributaries.{Tributary, action_of, port_of, sent_by, sent_in, input_by, added_by, ends_at, ends_from}
+use Rattle.sdh_terminal.specs.Tributaries.{new_tributary, tributaries_at}
 use Rattle.sdh_node.specs.Node.{Node, crossing, ports_after, after_crossing, with_calm, node_round}
 use Rattle.sdh_terminal.proofs.Ports.{clock-next}
 use Rattle.sdh_node.specs.Crossing.{dropped_to, all_delivered}
@@ -67,19 +69,22 @@ clock_there w q id = option_map_or (λ (t : Tributary). Some t.feed.clock) (port
 abbrev pub value_there : World → ℕ → PortId → Option ℕ
 value_there w q id = option_map (λ (c : Clock). c.value) (clock_there w q id)
 
-pub clock_next : (w : World) → IsWhole w → (q : ℕ) (id : PortId) → q < length w.ring.nodes → clock_there (round w) q id ≡ option_map ticked (clock_there w q id)
+pub clock_next : (w : World) → IsWhole w → (q : ℕ) (id : PortId) → q < length w.ring.nodes
+    → clock_there (round w) q id ≡ option_map ticked (clock_there w q id)
 unfolding node_round with_calm after_crossing ports_after all_delivered
 clock_next w whole q id h =
     ap (λ (y : Node). option_map_or (λ (t : Tributary). Some t.feed.clock) (port_of id y.ports) None) (nodes_after w whole.placed q h)
     ∙ clock-next (dropped_to (crossing w.ring.moment (informed w q))) id (node_at w.ring.nodes q).ports
     ∙ mapped (port_of id (node_at w.ring.nodes q).ports)
   where
-    mapped : (o : Option Tributary) → option_map_or (λ (t : Tributary). Some (ticked t.feed.clock)) o None ≡ option_map ticked (option_map_or (λ (t : Tributary). Some t.feed.clock) o None)
+    mapped : (o : Option Tributary) → option_map_or (λ (t : Tributary). Some (ticked t.feed.clock)) o None
+        ≡ option_map ticked (option_map_or (λ (t : Tributary). Some t.feed.clock) o None)
     mapped None = refl
     mapped (Some t) = refl
 
 -- after j rounds
-clock_later : (w : World) → IsWhole w → (q : ℕ) (id : PortId) → q < length w.ring.nodes → (j : ℕ) → clock_there (run j w) q id ≡ option_map (ticks j) (clock_there w q id)
+clock_later : (w : World) → IsWhole w → (q : ℕ) (id : PortId) → q < length w.ring.nodes → (j : ℕ)
+    → clock_there (run j w) q id ≡ option_map (ticks j) (clock_there w q id)
 unfolding any_run.run ticks
 clock_later w whole q id h zero = same (clock_there w q id)
   where
@@ -87,7 +92,8 @@ clock_later w whole q id h zero = same (clock_there w q id)
     same None = refl
     same (Some c) = refl
 clock_later w whole q id h (suc j) =
-    clock_next (run j w) (whole_run w j whole) q id (omega (arith, length_run w j)) ∙ ap (option_map ticked) (clock_later w whole q id h j) ∙ twice (clock_there w q id)
+    clock_next (run j w) (whole_run w j whole) q id (omega (arith, length_run w j)) ∙ ap (option_map ticked) (clock_later w whole q id h j)
+    ∙ twice (clock_there w q id)
   where
     twice : (o : Option Clock) → option_map ticked (option_map (ticks j) o) ≡ option_map (λ c. ticked (ticks j c)) o
     twice None = refl
@@ -96,13 +102,20 @@ clock_later w whole q id h (suc j) =
 -- where none of its slips waits it sends its value for ever
 sends_value : (t : Tributary) → waiting t.feed.clock ≡ 0 → IsSent (input_by (sent_in t.feed)) (Some t.feed.clock.value)
 unfolding sent_by
-sends_value t none = record { does = ap action_of (form_ticked t.feed.clock ∙ goes_plain t.feed.clock none); value = (plain_tick t.feed.clock none).1 }
+sends_value t none = record {
+  does = ap action_of (form_ticked t.feed.clock ∙ goes_plain t.feed.clock none);
+  value = (plain_tick t.feed.clock none).1;
+}
 
-added_sends : (ts : List Tributary) (id : PortId) (o : Option Clock) → All (λ (t : Tributary). waiting t.feed.clock ≡ 0) ts → option_map_or (λ (t : Tributary). Some t.feed.clock) (port_of id ts) None ≡ o → IsSent (added_by ts id) (option_map (λ (c : Clock). c.value) o)
-added_sends ts id o none is = subst (λ x. IsSent (added_by ts id) (option_map (λ (c : Clock). c.value) x)) is (by_found (port_of id ts) refl)
+added_sends : (ts : List Tributary) (id : PortId) (o : Option Clock) → All (λ (t : Tributary). waiting t.feed.clock ≡ 0) ts
+    → option_map_or (λ (t : Tributary). Some t.feed.clock) (port_of id ts) None ≡ o
+    → IsSent (added_by ts id) (option_map (λ (c : Clock). c.value) o)
+added_sends ts id o none is =
+    subst (λ x. IsSent (added_by ts id) (option_map (λ (c : Clock). c.value) x)) is (by_found (port_of id ts) refl)
   where
     by_found : (x : Option Tributary) → port_of id ts ≡ x
-        → IsSent (option_map_or (λ t. input_by (sent_in t.feed)) x no_input) (option_map (λ (c : Clock). c.value) (option_map_or (λ (t : Tributary). Some t.feed.clock) x None))
+        → IsSent (option_map_or (λ t. input_by (sent_in t.feed)) x no_input)
+        (option_map (λ (c : Clock). c.value) (option_map_or (λ (t : Tributary). Some t.feed.clock) x None))
     by_found None e = record { does = refl; value = refl }
     by_found (Some t) e = sends_value t (found_has (λ (t : Tributary). waiting t.feed.clock ≡ 0) id ts t none e).0
 
@@ -110,12 +123,14 @@ added_sends ts id o none is = subst (λ x. IsSent (added_by ts id) (option_map (
 none_there : (w : World) (q : ℕ) (id : PortId) → NoneWait (node_at w.ring.nodes q).ports → IfSome (clock_there w q id) (λ c. waiting c ≡ 0)
 none_there w q id none = by_found (port_of id (node_at w.ring.nodes q).ports) refl
   where
-    by_found : (o : Option Tributary) → port_of id (node_at w.ring.nodes q).ports ≡ o → IfSome (option_map_or (λ (t : Tributary). Some t.feed.clock) o None) (λ c. waiting c ≡ 0)
+    by_found : (o : Option Tributary) → port_of id (node_at w.ring.nodes q).ports ≡ o
+        → IfSome (option_map_or (λ (t : Tributary). Some t.feed.clock) o None) (λ c. waiting c ≡ 0)
     by_found None e = tt
     by_found (Some t) e = (found_has (λ (t : Tributary). waiting t.feed.clock ≡ 0) id (node_at w.ring.nodes q).ports t none e).0
 
 -- its value is that of the first round, where none waits there
-value_stays : (o : Option Clock) (j : ℕ) → IfSome o (λ c. waiting c ≡ 0) → option_map (λ (c : Clock). c.value) (option_map (ticks j) o) ≡ option_map (λ (c : Clock). c.value) o
+value_stays : (o : Option Clock) (j : ℕ) → IfSome o (λ c. waiting c ≡ 0)
+    → option_map (λ (c : Clock). c.value) (option_map (ticks j) o) ≡ option_map (λ (c : Clock). c.value) o
 value_stays None j none = refl
 value_stays (Some c) j none = ap Some (goes_on c j none).value
 
@@ -142,7 +157,8 @@ ends_small at i (c ∷ cs) all =
     let a = new_tributary i A East c.slot c.a in
     let b = new_tributary i B West c.slot c.b in
     All-append HasSmall (ends_at at i c) (ends_from at (i + 1) cs)
-    (All-append HasSmall (if c.from.0 == at.0 then a ∷ [] else []) (if c.to.0 == at.0 then b ∷ [] else []) (end_small (c.from.0 == at.0) a here.a) (end_small (c.to.0 == at.0) b here.b))
+    (All-append HasSmall (if c.from.0 == at.0 then a ∷ [] else []) (if c.to.0 == at.0 then b ∷ [] else [])
+    (end_small (c.from.0 == at.0) a here.a) (end_small (c.to.0 == at.0) b here.b))
     (ends_small at (i + 1) cs (λ k d h. all (suc k) d (omega arith)))
 
 -- what is fixed of a port tells its offset
@@ -152,23 +168,29 @@ fixed_small (t ∷ ts) [] same all = absurd (cc)
 fixed_small (t ∷ ts) (u ∷ us) same all =
     let head : fixed_port t ≡ fixed_port u = cc in
     let rest : map fixed_port ts ≡ map fixed_port us = cc in
-    All-cons HasSmall t ts (subst (λ (f : FixedPort). f.customer.offset ≤ 782) (sym head) (all 0 u (omega arith))) (fixed_small ts us rest (λ k d h. all (suc k) d (omega arith)))
+    All-cons HasSmall t ts (subst (λ (f : FixedPort). f.customer.offset ≤ 782) (sym head) (all 0 u (omega arith)))
+    (fixed_small ts us rest (λ k d h. all (suc k) d (omega arith)))
 
-pub ports_small : (w : World) → IsWhole w → All HasOffsets w.ring.circuits.circuits → (q : ℕ) → q < length w.ring.nodes → All HasSmall (node_at w.ring.nodes q).ports
+pub ports_small : (w : World) → IsWhole w → All HasOffsets w.ring.circuits.circuits → (q : ℕ) → q < length w.ring.nodes
+    → All HasSmall (node_at w.ring.nodes q).ports
 unfolding tributaries_at
 ports_small w whole all q h =
-    fixed_small (node_at w.ring.nodes q).ports (tributaries_at (position_of q) w.ring.circuits.circuits) (node_of w whole q h).ports_are (ends_small (position_of q) 0 w.ring.circuits.circuits all)
+    fixed_small (node_at w.ring.nodes q).ports (tributaries_at (position_of q) w.ring.circuits.circuits) (node_of w whole q h).ports_are
+    (ends_small (position_of q) 0 w.ring.circuits.circuits all)
 
-pub source_small : (w : World) → IsWhole w → All HasOffsets w.ring.circuits.circuits → (q : ℕ) (o : Origin) → q < length w.ring.nodes → IsSmall (source_at w q o)
+pub source_small : (w : World) → IsWhole w → All HasOffsets w.ring.circuits.circuits → (q : ℕ) (o : Origin) → q < length w.ring.nodes
+    → IsSmall (source_at w q o)
 source_small w whole all q Ais h = tt
 source_small w whole all q (Working d) h = tt
 source_small w whole all q (Protection d) h = tt
 source_small w whole all q (Add id) h = by_found (port_of id (node_at w.ring.nodes q).ports) refl
   where
-    by_found : (o : Option Tributary) → port_of id (node_at w.ring.nodes q).ports ≡ o → IsSmall (option_map (λ (c : Clock). c.value) (option_map_or (λ (t : Tributary). Some t.feed.clock) o None))
+    by_found : (o : Option Tributary) → port_of id (node_at w.ring.nodes q).ports ≡ o
+        → IsSmall (option_map (λ (c : Clock). c.value) (option_map_or (λ (t : Tributary). Some t.feed.clock) o None))
     by_found None e = tt
     by_found (Some t) e =
-        (found_has (λ (t : Tributary). IsClock t.feed.port.offset w.ring.rounds t.feed.clock) id (node_at w.ring.nodes q).ports t (whole.placed.between q h).gone e).0.value_small
+        (found_has (λ (t : Tributary). IsClock t.feed.port.offset w.ring.rounds t.feed.clock) id (node_at w.ring.nodes q).ports t
+        (whole.placed.between q h).gone e).0.value_small
         (found_has HasSmall id (node_at w.ring.nodes q).ports t (ports_small w whole all q h) e).0
 
 -- it is brought in each round from this world on, where no slip waits in it
@@ -181,5 +203,8 @@ sources_send w whole unslipped j q m (Working d) lt over = absurd over
 sources_send w whole unslipped j q m (Protection d) lt over = absurd over
 sources_send w whole unslipped j q m (Add id) lt over =
     let h : q < length w.ring.nodes = omega (arith, count w whole.placed) in
-    subst (IsSent (added_by (node_at (run j w).ring.nodes q).ports id)) (ap (option_map (λ (c : Clock). c.value)) (clock_later w whole q id h j) ∙ value_stays (clock_there w q id) j (none_there w q id (unslipped q h)))
-    (added_sends (node_at (run j w).ring.nodes q).ports id (clock_there (run j w) q id) (none_waits_later w whole unslipped j q (omega (arith, length_run w j))) refl)
+    subst (IsSent (added_by (node_at (run j w).ring.nodes q).ports id))
+    (ap (option_map (λ (c : Clock). c.value)) (clock_later w whole q id h j)
+    ∙ value_stays (clock_there w q id) j (none_there w q id (unslipped q h)))
+    (added_sends (node_at (run j w).ring.nodes q).ports id (clock_there (run j w) q id)
+    (none_waits_later w whole unslipped j q (omega (arith, length_run w j))) refl)

@@ -51,7 +51,9 @@ only (suc i) c e = cc
 circuits_are : AreCircuits 3 2 (c1 ∷ [])
 unfolding is_name
 circuits_are = record {
-  in_ring = All-cons (IsInRing 3) c1 [] (record { from_inside = omega arith; to_inside = omega arith; two_ends = λ e. omega arith }) (All-nil (IsInRing 3));
+  in_ring =
+      All-cons (IsInRing 3) c1 [] (record { from_inside = omega arith; to_inside = omega arith; two_ends = λ e. omega arith })
+      (All-nil (IsInRing 3));
   in_slots = All-cons (IsInSlots 2) c1 [] (record { from_1 = omega arith; small = omega arith }) (All-nil (IsInSlots 2));
   offsets = All-cons HasOffsets c1 [] (record { a = omega arith; b = omega arith }) (All-nil HasOffsets);
   named = All-cons (λ c. is_name c.name ≡ true) c1 [] refl (All-nil (λ c. is_name c.name ≡ true));
@@ -71,7 +73,8 @@ may_happen : (f : Fibres) → IsHonest f → MayHappen (new_world settings three
 may_happen f honest =
     let w = new_world settings three one_circuit f in
     let first : Stretch = record { changes = Slip (port_id 0 A) Up 3 ∷ Fibre 0 East Cut ∷ Fibre 1 West Cut ∷ []; rounds = 129 } in
-    let degraded : IsConditionAt (after_stretch first w).ring.settings.rate (Degraded 3) = subst (λ (s : Settings). IsConditionAt s.rate (Degraded 3)) (sym (left_stretch first w).settings) (omega arith, omega arith) in
+    let degraded : IsConditionAt (after_stretch first w).ring.settings.rate (Degraded 3) =
+    subst (λ (s : Settings). IsConditionAt s.rate (Degraded 3)) (sym (left_stretch first w).settings) (omega arith, omega arith) in
     ((omega (arith, waits_none f honest), (tt, (tt, tt))), ((degraded, (tt, (tt, tt))), tt))
 
 pub a_ring_occurs : RingsSettle → ARingOccurs

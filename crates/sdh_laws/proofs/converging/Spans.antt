@@ -56,22 +56,27 @@ module _ (w : World) (whole : IsWhole w) where
   interpreter_goes p d i j inside few =
       let u = run j w in
       let took = interpreter_step u (whole_run w j whole) p d (omega (arith, length_run w j)) i (omega (arith, rate_run w j)) in
-      subst (λ c. Takes w p d i (suc j) (word_behind (is_cut c) (word_in w (neighbour (length w.ring.ids) p d) (opposite d) i j))) (condition_run w (suc j) p d)
-      (subst (λ ids. Takes w p d i (suc j) (word_behind (is_cut (condition_to (run (suc j) w) p d)) (word_in w (neighbour (length ids) p d) (opposite d) i j))) (left_run j w).ids took)
+      subst (λ c. Takes w p d i (suc j) (word_behind (is_cut c) (word_in w (neighbour (length w.ring.ids) p d) (opposite d) i j)))
+      (condition_run w (suc j) p d)
+      (subst (λ ids. Takes w p d i (suc j) (word_behind (is_cut (condition_to (run (suc j) w) p d))
+      (word_in w (neighbour (length ids) p d) (opposite d) i j))) (left_run j w).ids took)
 
   -- a generator that gets one action and one value from round k on
-  module _ (p : ℕ) (d : Side) (i k : ℕ) (inside : p < length w.ring.nodes) (few : i < n_of w.ring.settings.rate) (c : IsConstant (went w p d (i + 1)) k) where
+  module _ (p : ℕ) (d : Side) (i k : ℕ) (inside : p < length w.ring.nodes) (few : i < n_of w.ring.settings.rate)
+      (c : IsConstant (went w p d (i + 1)) k) where
     pub sending_rests : (j : ℕ) → k + 1 ≤ j → sending_in w p d i j ≡ lasting_state c.does c.value
     sending_rests j h = generators_rest (went w p d (i + 1)) (sending_in w p d i) k (λ m. generator_goes p d i m inside few) c j h
 
   -- and the interpreter behind the span
-  module _ (p : ℕ) (d : Side) (i k : ℕ) (inside : p < length w.ring.nodes) (few : i < n_of w.ring.settings.rate) (c : IsConstant (went w (neighbour (length w.ring.ids) p d) (opposite d) (i + 1)) k) where
+  module _ (p : ℕ) (d : Side) (i k : ℕ) (inside : p < length w.ring.nodes) (few : i < n_of w.ring.settings.rate)
+      (c : IsConstant (went w (neighbour (length w.ring.ids) p d) (opposite d) (i + 1)) k) where
     abbrev q : ℕ
     q = neighbour (length w.ring.ids) p d
 
     rests : RestsBehind (reading_in w p d i) (came w p d (i + 1)) k
     rests =
-        spans_are_steady (is_cut (condition_to w p d)) (went w q (opposite d) (i + 1)) (came w p d (i + 1)) (sending_in w q (opposite d) i) (reading_in w p d i) k
+        spans_are_steady (is_cut (condition_to w p d)) (went w q (opposite d) (i + 1)) (came w p d (i + 1)) (sending_in w q (opposite d) i)
+        (reading_in w p d i) k
         (λ j. generator_goes q (opposite d) i j (neighbour_inside w whole p d) few) (λ j. interpreter_goes p d i j inside few) c
 
     -- it isn't moved any more
@@ -86,4 +91,5 @@ a_span_is_steady w whole p d au k inside low high c =
     let i = au - 1 in
     let back : i + 1 ≡ au = omega arith in
     subst (λ a. IsConstant (came w p d a) (k + 9)) back
-    (span_constant w whole p d i k (omega (arith, count w whole.placed)) (omega arith) (subst (λ a. IsConstant (went w (neighbour (length w.ring.ids) p d) (opposite d) a) k) (sym back) c))
+    (span_constant w whole p d i k (omega (arith, count w whole.placed)) (omega arith)
+    (subst (λ a. IsConstant (went w (neighbour (length w.ring.ids) p d) (opposite d) a) k) (sym back) c))

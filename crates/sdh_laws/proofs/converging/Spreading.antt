@@ -26,7 +26,8 @@ use Rattle.sdh_laws.specs.Hearing.Laws.{IsWhole}
 use Rattle.sdh_laws.proofs.hearing.Changes.{whole_run}
 use Rattle.sdh_laws.proofs.hearing.Nodes.{count}
 use Rattle.sdh_laws.specs.Carrying.Windows.{layout_of, slots_of, HasCircuits}
-use Rattle.sdh_laws.proofs.carrying.Connections.{SendsWorking, SendsProtection, BringsProtection, sends_working, sends_protection, brings_protection}
+use Rattle.sdh_laws.proofs.carrying.Connections.{SendsWorking, SendsProtection, BringsProtection, sends_working, sends_protection}
+use Rattle.sdh_laws.proofs.carrying.Connections.{brings_protection}
 use Rattle.sdh_laws.proofs.carrying.Ways.{layout_run}
 use Rattle.sdh_spans.specs.Spans.{IsConstant}
 use Rattle.sdh_spans.proofs.Steady.{constant_as, constant_later}
@@ -54,16 +55,20 @@ module _ (w : World) (whole : IsWhole w) where
   abbrev half : ℕ
   half = slots_of (layout_of w)
 
-  pub working_goes : (q m j : ℕ) (e : Side) (st : NodeState) → q < n → m ≤ half → (node_at (run (suc j) w).ring.nodes q).state ≡ st → went w q e m j ≡ brought w q m (working_in n cs q st e m) j
+  pub working_goes : (q m j : ℕ) (e : Side) (st : NodeState) → q < n → m ≤ half → (node_at (run (suc j) w).ring.nodes q).state ≡ st
+      → went w q e m j ≡ brought w q m (working_in n cs q st e m) j
   unfolding any_run.run
   working_goes q m j e st = subst (λ l. SendsWorking l (run j w)) (layout_run w j) (sends_working (run j w) (whole_run w j whole)) q m e st
 
-  pub protection_goes : (q m j : ℕ) (e : Side) (st : NodeState) → q < n → 1 ≤ m → (node_at (run (suc j) w).ring.nodes q).state ≡ st → went w q e (half + m) j ≡ brought w q m (protection_in n cs q st e m) j
+  pub protection_goes : (q m j : ℕ) (e : Side) (st : NodeState) → q < n → 1 ≤ m → (node_at (run (suc j) w).ring.nodes q).state ≡ st
+      → went w q e (half + m) j ≡ brought w q m (protection_in n cs q st e m) j
   unfolding any_run.run
-  protection_goes q m j e st = subst (λ l. SendsProtection l (run j w)) (layout_run w j) (sends_protection (run j w) (whole_run w j whole)) q m e st
+  protection_goes q m j e st =
+      subst (λ l. SendsProtection l (run j w)) (layout_run w j) (sends_protection (run j w) (whole_run w j whole)) q m e st
 
   pub protection_comes : (p m j : ℕ) (d : Side) → p < n → brought w p m (Protection d) j ≡ came w p d (half + m) j
-  protection_comes p m j d = subst (λ l. BringsProtection l (run j w)) (layout_run w j) (brings_protection (run j w) (whole_run w j whole)) p m d
+  protection_comes p m j d =
+      subst (λ l. BringsProtection l (run j w)) (layout_run w j) (brings_protection (run j w) (whole_run w j whole)) p m d
 
   pub inside_of : (p : ℕ) → p < n → p < length w.ring.nodes
   inside_of p h = omega (arith, count w whole.placed)
@@ -71,10 +76,12 @@ module _ (w : World) (whole : IsWhole w) where
   pub beside : (p : ℕ) (d : Side) → neighbour n p d < n
   beside p d = neighbour_below n p d (let e = whole.placed.ids.enough in omega arith)
 
-  pub generators_many : (k p : ℕ) (d : Side) → p < length w.ring.nodes → length (sending_on d (node_at (run k w).ring.nodes p)).generators ≡ n_of w.ring.settings.rate
+  pub generators_many : (k p : ℕ) (d : Side) → p < length w.ring.nodes
+      → length (sending_on d (node_at (run k w).ring.nodes p)).generators ≡ n_of w.ring.settings.rate
   generators_many k p d h = (((whole_run w k whole).placed.sides p (omega (arith, length_run w k))).sends d).generators ∙ rate_run w k
 
-  pub readings_many : (k p : ℕ) (d : Side) → p < length w.ring.nodes → length (receiving_on d (node_at (run k w).ring.nodes p)).readings ≡ n_of w.ring.settings.rate
+  pub readings_many : (k p : ℕ) (d : Side) → p < length w.ring.nodes
+      → length (receiving_on d (node_at (run k w).ring.nodes p)).readings ≡ n_of w.ring.settings.rate
   readings_many k p d h = (((whole_run w k whole).placed.sides p (omega (arith, length_run w k))).receives d).readings ∙ rate_run w k
 
 -- ---- in settled states
@@ -92,14 +99,17 @@ module _ (w : World) (whole : IsWhole w) (form : HasCircuits (layout_of w)) (rs 
       }
 
   module _ (m : ℕ) (low : 1 ≤ m) (high : m ≤ half w whole) where
-    went_working : (q j : ℕ) (e : Side) → q < n w whole → went w q e m j ≡ brought w q m (working_in (n w whole) (cs w whole) q (settled rs q) e m) j
+    went_working : (q j : ℕ) (e : Side) → q < n w whole → went w q e m j
+        ≡ brought w q m (working_in (n w whole) (cs w whole) q (settled rs q) e m) j
     went_working q j e h = working_goes w whole q m j e (settled rs q) h high (rest.settled_are (suc j) (omega arith) q h)
 
-    went_protection : (q j : ℕ) (e : Side) → q < n w whole → went w q e (half w whole + m) j ≡ brought w q m (protection_in (n w whole) (cs w whole) q (settled rs q) e m) j
+    went_protection : (q j : ℕ) (e : Side) → q < n w whole → went w q e (half w whole + m) j
+        ≡ brought w q m (protection_in (n w whole) (cs w whole) q (settled rs q) e m) j
     went_protection q j e h = protection_goes w whole q m j e (settled rs q) h low (rest.settled_are (suc j) (omega arith) q h)
 
     over_span : (t p : ℕ) (o : Origin) → p < n w whole → IsArrival o
-        → (let b = back_from (n w whole) (settled rs) (cs w whole) m p o in IsConstant (brought w b.at m b.origin) t → IsConstant (brought w p m o) (t + 9))
+        → (let b = back_from (n w whole) (settled rs) (cs w whole) m p o in IsConstant (brought w b.at m b.origin) t
+        → IsConstant (brought w p m o) (t + 9))
     over_span t p Ais h arrives c = absurd arrives
     over_span t p (Add id) h arrives c = absurd arrives
     over_span t p (Working d) h arrives c =
@@ -123,8 +133,10 @@ module _ (w : World) (whole : IsWhole w) (form : HasCircuits (layout_of w)) (rs 
     all_constant p o h =
         let same = rest.spans in
         constant_later (brought w p m o) (0 + 9 * (3 * length rs + 1)) (27 * n w whole + 9) (omega arith)
-        (steadiness_spreads rs (half w whole) (cs w whole) (subst (λ k. AreCircuits k (half w whole) (cs w whole)) (sym same) form) m (λ t p o. IsConstant (brought w p m o) t) 0 9
-        (subst (λ k. Spreads k (settled rs) (cs w whole) m (λ t p o. IsConstant (brought w p m o) t) 0 9) (sym same) spreads) p o (omega arith))
+        (steadiness_spreads rs (half w whole) (cs w whole) (subst (λ k. AreCircuits k (half w whole) (cs w whole)) (sym same) form) m
+        (λ t p o. IsConstant (brought w p m o) t) 0 9
+        (subst (λ k. Spreads k (settled rs) (cs w whole) m (λ t p o. IsConstant (brought w p m o) t) 0 9) (sym same) spreads) p o
+        (omega arith))
 
     all_working : (q : ℕ) (e : Side) → q < n w whole → IsConstant (went w q e m) (27 * n w whole + 9)
     all_working q e h =
@@ -134,7 +146,8 @@ module _ (w : World) (whole : IsWhole w) (form : HasCircuits (layout_of w)) (rs 
     all_protection : (q : ℕ) (e : Side) → q < n w whole → IsConstant (went w q e (half w whole + m)) (27 * n w whole + 9)
     all_protection q e h =
         let o = protection_in (n w whole) (cs w whole) q (settled rs q) e m in
-        constant_as (brought w q m o) (went w q e (half w whole + m)) (27 * n w whole + 9) (λ j. went_protection q j e h) (all_constant q o h)
+        constant_as (brought w q m o) (went w q e (half w whole + m)) (27 * n w whole + 9) (λ j. went_protection q j e h)
+        (all_constant q o h)
 
   -- each AU-4
   all_went : (q i : ℕ) (e : Side) → q < n w whole → i < n_of w.ring.settings.rate → IsConstant (went w q e (i + 1)) (27 * n w whole + 9)
@@ -143,7 +156,8 @@ module _ (w : World) (whole : IsWhole w) (form : HasCircuits (layout_of w)) (rs 
     | inl high ↦ (
         let m = i + 1 - half w whole in
         let at : half w whole + m ≡ i + 1 = omega arith in
-        subst (λ au. IsConstant (went w q e au) (27 * n w whole + 9)) at (all_protection m (omega arith) (omega (arith, two_halves w.ring.settings.rate)) q e h))
+        subst (λ au. IsConstant (went w q e au) (27 * n w whole + 9)) at
+        (all_protection m (omega arith) (omega (arith, two_halves w.ring.settings.rate)) q e h))
   ]
 
   pub still_pointers : (j : ℕ) → 27 * n w whole + 18 ≤ j → HasStillPointers w j
@@ -151,10 +165,12 @@ module _ (w : World) (whole : IsWhole w) (form : HasCircuits (layout_of w)) (rs 
     generators = λ p d h. ext_get_or None _ _ (generators_many w whole (suc j) p d h ∙ sym (generators_many w whole j p d h)) (λ i small.
         (let c = all_went p i d (omega (arith, count w whole.placed)) (omega (arith, generators_many w whole (suc j) p d h)) in
         let few : i < n_of w.ring.settings.rate = omega (arith, generators_many w whole (suc j) p d h) in
-        sending_rests w whole p d i (27 * n w whole + 9) h few c (suc j) (omega arith) ∙ sym (sending_rests w whole p d i (27 * n w whole + 9) h few c j (omega arith))));
+        sending_rests w whole p d i (27 * n w whole + 9) h few c (suc j) (omega arith)
+        ∙ sym (sending_rests w whole p d i (27 * n w whole + 9) h few c j (omega arith))));
     readings = λ p d h. ext_get_or start _ _ (readings_many w whole (suc j) p d h ∙ sym (readings_many w whole j p d h)) (λ i small.
         (let few : i < n_of w.ring.settings.rate = omega (arith, readings_many w whole (suc j) p d h) in
-        reading_rests w whole p d i (27 * n w whole + 9) h few (all_went (neighbour (n w whole) p d) i (opposite d) (beside w whole p d) few) j (omega arith)));
+        reading_rests w whole p d i (27 * n w whole + 9) h few
+        (all_went (neighbour (n w whole) p d) i (opposite d) (beside w whole p d) few) j (omega arith)));
   }
 
 pub pointers_rest : PointersRest

@@ -12,4 +12,5 @@ use Rattle.sdh_laws.proofs.converging.Converging.{rings_converge}
 pub stretches_converge : RingsSettle → StretchesConverge
 stretches_converge law s ids circuits f ss may happen form =
     let w = new_world s ids circuits f in
-    rings_converge law (after_stretches ss w) (whole_stretches ss w happen (new_worlds_are_whole s ids circuits f may.ids_ok may.honest)) (subst HasCircuits (sym (layout_stretches ss w)) form)
+    rings_converge law (after_stretches ss w) (whole_stretches ss w happen (new_worlds_are_whole s ids circuits f may.ids_ok may.honest))
+    (subst HasCircuits (sym (layout_stretches ss w)) form)

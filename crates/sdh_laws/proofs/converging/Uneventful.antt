@@ -24,7 +24,8 @@ module _ (threshold : ℕ) (some : 1 ≤ threshold) (wait : ℕ) (h : SideHistor
   shows_none : (t : ℕ) → shows_degraded threshold h t ≡ false
   shows_none t =
       let e : nat_le threshold 0 ≡ false = lt-leb threshold 0 some in
-      ap₂ (λ c k. nat_le 2 t && (not c && nat_le threshold k)) (is.cut (t - 1)) (is.degraded (t - 1)) ∙ ap (λ b. nat_le 2 t && b) e ∙ never (nat_le 2 t)
+      ap₂ (λ c k. nat_le 2 t && (not c && nat_le threshold k)) (is.cut (t - 1)) (is.degraded (t - 1)) ∙ ap (λ b. nat_le 2 t && b) e
+      ∙ never (nat_le 2 t)
     where
       never : (b : Bool) → (b && false) ≡ false
       never true = refl
@@ -49,6 +50,8 @@ module _ (threshold : ℕ) (some : 1 ≤ threshold) (wait : ℕ) (h : SideHistor
   pub asks_nothing : (t : ℕ) → local_request threshold wait h t ≡ Nr
   unfolding local_request
   asks_nothing t =
-      ap₂ (λ c d. request.highest c d (request.waits wait d (h.moment t) (option_map h.moment (last_end threshold h t)))) (is.command t) (no_defect t)
-      ∙ ap (λ o. request.highest command.Clear defect.None (request.waits wait defect.None (h.moment t) (option_map h.moment o))) (never_ended t)
+      ap₂ (λ c d. request.highest c d (request.waits wait d (h.moment t) (option_map h.moment (last_end threshold h t)))) (is.command t)
+      (no_defect t)
+      ∙ ap (λ o. request.highest command.Clear defect.None (request.waits wait defect.None (h.moment t) (option_map h.moment o)))
+      (never_ended t)
       ∙ ap (request.highest command.Clear defect.None) (none_waits wait (h.moment t)) ∙ highest_nothing

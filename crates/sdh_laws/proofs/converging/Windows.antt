@@ -21,7 +21,8 @@ calm_ends_windows w first calm =
     let left = left_run k w in
     let size : length (run k w).ring.ids ≡ length w.ring.ids = ap length left.ids in
     let number : (run k w).ring.rounds ≡ w.ring.rounds + k = left.rounds in
-    let place : ((run k w).ring.rounds - 1) % 128 ≡ 0 = (let e : (run k w).ring.rounds - 1 ≡ s - s % 128 = omega arith in let z = at_place s in omega arith) in
+    let place : ((run k w).ring.rounds - 1) % 128 ≡ 0 =
+    (let e : (run k w).ring.rounds - 1 ≡ s - s % 128 = omega arith in let z = at_place s in omega arith) in
     record {
       ends = k;
       soon = omega arith;

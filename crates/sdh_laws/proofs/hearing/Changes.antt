@@ -1,5 +1,6 @@
 -- A new ring over prepared fibres, and what happens between two rounds.
-use Rattle.std.proofs.Common.{◌≡◌, ◌≢◌, ℕ, zero, suc, ◌*◌, ◌<◌, ◌≤◌, List, [], ◌∷◌, length, get_or, replicate, map, Some, None, refl, ap, sym, subst, ◌∙◌, arith, inl, inr}
+use Rattle.std.proofs.Common.{◌≡◌, ◌≢◌, ℕ, zero, suc, ◌*◌, ◌<◌, ◌≤◌, List, [], ◌∷◌, length, get_or, replicate, map, Some, None, refl, ap}
+use Rattle.std.proofs.Common.{sym, subst, ◌∙◌, arith, inl, inr}
 use Rattle.std.specs.Prelude.{slice_get}
 use Rattle.std.proofs.lemmas.Bool.{cases_lt}
 use Rattle.std.proofs.lemmas.List.{length-replicate, get_or-replicate, get_or_past}
@@ -114,11 +115,14 @@ none_at m i = elim (cases_lt i m) [
 ]
 
 -- what holds of each new node holds at each position
-pub each_new : (P : ℕ → Node → Type 0) (s : Settings) (ids : List ℕ) (cs : List Provisioned) → ((p : ℕ) → p < length ids → P p (new_node s ids cs (position_of p))) → AtEach P (new_nodes s ids cs (length ids))
+pub each_new : (P : ℕ → Node → Type 0) (s : Settings) (ids : List ℕ) (cs : List Provisioned)
+    → ((p : ℕ) → p < length ids → P p (new_node s ids cs (position_of p))) → AtEach P (new_nodes s ids cs (length ids))
 each_new P s ids cs each p h =
-    let low : p < length ids = omega (arith, length-new s ids cs (length ids)) in subst (P p) (sym (new_at s ids cs (length ids) p nowhere low)) (each p low)
+    let low : p < length ids =
+    omega (arith, length-new s ids cs (length ids)) in subst (P p) (sym (new_at s ids cs (length ids) p nowhere low)) (each p low)
 
-pub new_is_placed : (s : Settings) (ids : List ℕ) (circuits : Provisioning) (f : Fibres) → AreIds ids → IsPlaced (world (new_ring s ids circuits) f)
+pub new_is_placed : (s : Settings) (ids : List ℕ) (circuits : Provisioning) (f : Fibres) → AreIds ids
+    → IsPlaced (world (new_ring s ids circuits) f)
 new_is_placed s ids circuits f is = record {
   ids = is;
   nodes = refl;
@@ -148,56 +152,73 @@ new_worlds_are_whole s ids circuits f is honest =
 -- ---- a command
 
 -- what a change of one node keeps of it stays of all
-pub each_at_place : (P : ℕ → Node → Type 0) (f : Node → Node) → ((q : ℕ) (n : Node) → P q n → P q (f n)) → (p : ℕ) (ns : List Node) → AtEach P ns → AtEach P (at_place p f ns)
+pub each_at_place : (P : ℕ → Node → Type 0) (f : Node → Node) → ((q : ℕ) (n : Node) → P q n → P q (f n)) → (p : ℕ) (ns : List Node)
+    → AtEach P ns → AtEach P (at_place p f ns)
 each_at_place P f keep p [] each q h = absurd (omega arith)
 each_at_place P f keep zero (n ∷ ns) each zero h = keep 0 n (each 0 (omega arith))
 each_at_place P f keep zero (n ∷ ns) each (suc q) h = each (suc q) (omega arith)
 each_at_place P f keep (suc p) (n ∷ ns) each zero h = each 0 (omega arith)
-each_at_place P f keep (suc p) (n ∷ ns) each (suc q) h = each_at_place (λ k. P (suc k)) f (λ k. keep (suc k)) p ns (λ k low. each (suc k) (omega arith)) q (omega arith)
+each_at_place P f keep (suc p) (n ∷ ns) each (suc q) h =
+    each_at_place (λ k. P (suc k)) f (λ k. keep (suc k)) p ns (λ k low. each (suc k) (omega arith)) q (omega arith)
 
 -- and what the node that is changed gets of it
-each_changed : (P : ℕ → Node → Type 0) (f : Node → Node) (p : ℕ) (ns : List Node) → ((n : Node) → slice_get ns p ≡ Some n → P p n → P p (f n)) → AtEach P ns → AtEach P (at_place p f ns)
+each_changed : (P : ℕ → Node → Type 0) (f : Node → Node) (p : ℕ) (ns : List Node)
+    → ((n : Node) → slice_get ns p ≡ Some n → P p n → P p (f n)) → AtEach P ns → AtEach P (at_place p f ns)
 each_changed P f p [] keep each q h = absurd (omega arith)
 each_changed P f zero (n ∷ ns) keep each zero h = keep n refl (each 0 (omega arith))
 each_changed P f zero (n ∷ ns) keep each (suc q) h = each (suc q) (omega arith)
 each_changed P f (suc p) (n ∷ ns) keep each zero h = each 0 (omega arith)
-each_changed P f (suc p) (n ∷ ns) keep each (suc q) h = each_changed (λ k. P (suc k)) f p ns keep (λ k low. each (suc k) (omega arith)) q (omega arith)
+each_changed P f (suc p) (n ∷ ns) keep each (suc q) h =
+    each_changed (λ k. P (suc k)) f p ns keep (λ k low. each (suc k) (omega arith)) q (omega arith)
 
 -- it leaves the sides that send
 pub sending_commanded : (d e : Side) (c : Command) (n : Node) → sending_on e (at_receiving d (commanded_by c) n) ≡ sending_on e n
 sending_commanded d West c n = refl
 sending_commanded d East c n = refl
 
-receiver_commanded : (at : Rate) (c : Command) (d e : Side) (n : Node) → IsInletAt at (inlet_of (receiving_on e n)) → IsInletAt at (inlet_of (receiving_on e (at_receiving d (commanded_by c) n)))
+receiver_commanded : (at : Rate) (c : Command) (d e : Side) (n : Node) → IsInletAt at (inlet_of (receiving_on e n))
+    → IsInletAt at (inlet_of (receiving_on e (at_receiving d (commanded_by c) n)))
 receiver_commanded at c West West n h = record { rate = h.rate; readings = h.readings }
 receiver_commanded at c West East n h = h
 receiver_commanded at c East West n h = h
 receiver_commanded at c East East n h = record { rate = h.rate; readings = h.readings }
 
-arrived_commanded : (d e : Side) (c : Command) (n : Node) → (receiving_on e (at_receiving d (commanded_by c) n)).arrived ≡ (receiving_on e n).arrived
+arrived_commanded : (d e : Side) (c : Command) (n : Node) → (receiving_on e (at_receiving d (commanded_by c) n)).arrived
+    ≡ (receiving_on e n).arrived
 arrived_commanded West West c n = refl
 arrived_commanded West East c n = refl
 arrived_commanded East West c n = refl
 arrived_commanded East East c n = refl
 
 sides_commanded : (s : Settings) (d : Side) (c : Command) (n : Node) → HasSides s n → HasSides s (at_receiving d (commanded_by c) n)
-sides_commanded s d c n h = record { receives = λ e. receiver_commanded s.rate c d e n (h.receives e); sends = λ e. subst (IsSenderAt s.rate) (sym (sending_commanded d e c n)) (h.sends e) }
+sides_commanded s d c n h = record {
+  receives = λ e. receiver_commanded s.rate c d e n (h.receives e);
+  sends = λ e. subst (IsSenderAt s.rate) (sym (sending_commanded d e c n)) (h.sends e);
+}
 
-between_commanded : (rounds : ℕ) (d : Side) (c : Command) (n : Node) → IsBetween rounds n → IsBetween rounds (at_receiving d (commanded_by c) n)
+between_commanded : (rounds : ℕ) (d : Side) (c : Command) (n : Node) → IsBetween rounds n
+    → IsBetween rounds (at_receiving d (commanded_by c) n)
 between_commanded rounds d c n h = record { ran = h.ran; gone = h.gone; fresh = λ e. arrived_commanded d e c n ∙ h.fresh e }
 
 -- what holds of a word still holds
-word_commanded : (P : K → Type 0) (d e : Side) (c : Command) (n : Node) → P (word_of e n) → P (word_of e (at_receiving d (commanded_by c) n))
+word_commanded : (P : K → Type 0) (d e : Side) (c : Command) (n : Node) → P (word_of e n)
+    → P (word_of e (at_receiving d (commanded_by c) n))
 word_commanded P d e c n h = subst (λ x. P x.word) (sym (sending_commanded d e c n)) h
 
 -- the fibres that leave a node carry its words
 abbrev CarriedFrom : World → ℕ → Node → Type 0
 CarriedFrom w p n = AreCarried w.ring.settings.rate w.fibres w.ring.rounds p (λ d. word_of d n)
 
-carried_commanded : (w : World) (d : Side) (c : Command) (p : ℕ) (n : Node) → CarriedFrom w p n → CarriedFrom w p (at_receiving d (commanded_by c) n)
-carried_commanded w d c p n h = record { dark = h.dark; frames = λ e some. word_commanded (λ k. CarriesWord w.ring.settings.rate k (carried_on w.fibres (fibre p e))) d e c n (h.frames e some) }
+carried_commanded : (w : World) (d : Side) (c : Command) (p : ℕ) (n : Node) → CarriedFrom w p n
+    → CarriedFrom w p (at_receiving d (commanded_by c) n)
+carried_commanded w d c p n h = record {
+  dark = h.dark;
+  frames = λ e some. word_commanded
+      (λ k. CarriesWord w.ring.settings.rate k (carried_on w.fibres (fibre p e))) d e c n (h.frames e some);
+}
 
-kept_commanded : (ids : List ℕ) (d e : Side) (c : Command) (n : Node) → KeepsSourced ids (receiving_on e n).brought → KeepsSourced ids (receiving_on e (at_receiving d (commanded_by c) n)).brought
+kept_commanded : (ids : List ℕ) (d e : Side) (c : Command) (n : Node) → KeepsSourced ids (receiving_on e n).brought
+    → KeepsSourced ids (receiving_on e (at_receiving d (commanded_by c) n)).brought
 kept_commanded ids West West c n h = h
 kept_commanded ids West East c n h = h
 kept_commanded ids East West c n h = h
@@ -242,7 +263,10 @@ with_node p f w = record w { ring = record w.ring { nodes = at_place p f w.ring.
 
 module _ (f : Node → Node) (leaves : LeavesSides f) where
   sides_left : (s : Settings) (n : Node) → HasSides s n → HasSides s (f n)
-  sides_left s n h = record { receives = λ e. subst (λ r. IsInletAt s.rate (inlet_of r)) (sym (leaves.receiving e n)) (h.receives e); sends = λ e. subst (IsSenderAt s.rate) (sym (leaves.sending e n)) (h.sends e) }
+  sides_left s n h = record {
+    receives = λ e. subst (λ r. IsInletAt s.rate (inlet_of r)) (sym (leaves.receiving e n)) (h.receives e);
+    sends = λ e. subst (IsSenderAt s.rate) (sym (leaves.sending e n)) (h.sends e);
+  }
 
   fresh_left : (rounds : ℕ) (n : Node) → IsBetween rounds n → (e : Side) → (receiving_on e (f n)).arrived ≡ None
   fresh_left rounds n h e = ap (λ (r : Receiving). r.arrived) (leaves.receiving e n) ∙ h.fresh e
@@ -252,12 +276,18 @@ module _ (f : Node → Node) (leaves : LeavesSides f) where
   word_left P e n h = subst (λ x. P x.word) (sym (leaves.sending e n)) h
 
   carried_left : (w : World) (p : ℕ) (n : Node) → CarriedFrom w p n → CarriedFrom w p (f n)
-  carried_left w p n h = record { dark = h.dark; frames = λ e some. word_left (λ k. CarriesWord w.ring.settings.rate k (carried_on w.fibres (fibre p e))) e n (h.frames e some) }
+  carried_left w p n h = record {
+    dark = h.dark;
+    frames = λ e some. word_left
+        (λ k. CarriesWord w.ring.settings.rate k (carried_on w.fibres (fibre p e))) e n (h.frames e some);
+  }
 
-  kept_left : (ids : List ℕ) (e : Side) (n : Node) → KeepsSourced ids (receiving_on e n).brought → KeepsSourced ids (receiving_on e (f n)).brought
+  kept_left : (ids : List ℕ) (e : Side) (n : Node) → KeepsSourced ids (receiving_on e n).brought
+      → KeepsSourced ids (receiving_on e (f n)).brought
   kept_left ids e n h = subst (λ (r : Receiving). KeepsSourced ids r.brought) (sym (leaves.receiving e n)) h
 
-  placed_left : (p : ℕ) (w : World) → map fixed (at_place p f w.ring.nodes) ≡ map fixed w.ring.nodes → ((n : Node) → IsBetween w.ring.rounds n → IsBetween w.ring.rounds (f n)) → IsPlaced w → IsPlaced (with_node p f w)
+  placed_left : (p : ℕ) (w : World) → map fixed (at_place p f w.ring.nodes) ≡ map fixed w.ring.nodes
+      → ((n : Node) → IsBetween w.ring.rounds n → IsBetween w.ring.rounds (f n)) → IsPlaced w → IsPlaced (with_node p f w)
   placed_left p w same between is = record {
     ids = is.ids;
     nodes = same ∙ is.nodes;
@@ -265,15 +295,20 @@ module _ (f : Node → Node) (leaves : LeavesSides f) where
     between = each_at_place (λ q n. IsBetween w.ring.rounds n) f (λ q n h. between n h) p w.ring.nodes is.between;
   }
 
-  paired_left : (p : ℕ) (w : World) → AtEach (λ q n. n.held ≤ 100) (at_place p f w.ring.nodes) → AtEach (λ q n. FewWait n.ports) (at_place p f w.ring.nodes) → IsPaired w → IsPaired (with_node p f w)
+  paired_left : (p : ℕ) (w : World) → AtEach (λ q n. n.held ≤ 100) (at_place p f w.ring.nodes)
+      → AtEach (λ q n. FewWait n.ports) (at_place p f w.ring.nodes) → IsPaired w → IsPaired (with_node p f w)
   paired_left p w held slips was =
       let ns = w.ring.nodes in
       record {
         honest = was.honest;
         prepared = was.prepared;
         carried = each_at_place (CarriedFrom w) f (λ q n h. carried_left w q n h) p ns was.carried;
-        sourced = each_at_place (λ q n. IsSourcedIn w.ring.ids n) f (λ q n h e. word_left (λ k. IsMember w.ring.ids k.from) e n (h e)) p ns was.sourced;
-        kept = each_at_place (λ q n. (e : Side) → KeepsSourced w.ring.ids (receiving_on e n).brought) f (λ q n h e. kept_left w.ring.ids e n (h e)) p ns was.kept;
+        sourced =
+            each_at_place (λ q n. IsSourcedIn w.ring.ids n) f
+            (λ q n h e. word_left (λ k. IsMember w.ring.ids k.from) e n (h e)) p ns was.sourced;
+        kept =
+            each_at_place (λ q n. (e : Side) → KeepsSourced w.ring.ids (receiving_on e n).brought) f
+            (λ q n h e. kept_left w.ring.ids e n (h e)) p ns was.kept;
         spelled = each_at_place (λ q n. IsSpelled n) f (λ q n h e. word_left IsSpellable e n (h e)) p ns was.spelled;
         never_ais = each_at_place (λ q n. NeverAis n) f (λ q n h e. word_left (λ k. k.mark ≢ mark.MsAis) e n (h e)) p ns was.never_ais;
         held = held;
@@ -288,16 +323,26 @@ placed_changed (Fibre p d condition) w is = is
 placed_changed (Order p d c) w is = record {
   ids = is.ids;
   nodes = all_commanded p d c w.ring.nodes ∙ is.nodes;
-  sides = each_at_place (λ q n. HasSides w.ring.settings n) (at_receiving d (commanded_by c)) (λ q n h. sides_commanded w.ring.settings d c n h) p w.ring.nodes is.sides;
-  between = each_at_place (λ q n. IsBetween w.ring.rounds n) (at_receiving d (commanded_by c)) (λ q n h. between_commanded w.ring.rounds d c n h) p w.ring.nodes is.between;
+  sides =
+      each_at_place (λ q n. HasSides w.ring.settings n) (at_receiving d (commanded_by c))
+      (λ q n h. sides_commanded w.ring.settings d c n h) p w.ring.nodes is.sides;
+  between =
+      each_at_place (λ q n. IsBetween w.ring.rounds n) (at_receiving d (commanded_by c))
+      (λ q n h. between_commanded w.ring.rounds d c n h) p w.ring.nodes is.between;
 }
 placed_changed (Hold p turns) w is =
-    placed_left (held_for turns) (held_leaves turns) p w (all_held p turns w.ring.nodes) (λ n h. record { ran = h.ran; gone = h.gone; fresh = fresh_left (held_for turns) (held_leaves turns) w.ring.rounds n h }) is
+    placed_left (held_for turns) (held_leaves turns) p w (all_held p turns w.ring.nodes)
+    (λ n h. record { ran = h.ran; gone = h.gone; fresh = fresh_left (held_for turns) (held_leaves turns) w.ring.rounds n h }) is
 placed_changed (Slip id turn count) w is =
     let f = slips_at id turn count in
     let leaves = slips_leave id turn count in
     let p = place_of_port w.ring id in
-    placed_left f leaves p w (all_slipped p id turn count w.ring.nodes) (λ n h. record { ran = h.ran; gone = gone_slipped w.ring.rounds id turn count n.ports h.gone; fresh = fresh_left f leaves w.ring.rounds n h }) is
+    placed_left f leaves p w (all_slipped p id turn count w.ring.nodes)
+    (λ n h. record {
+      ran = h.ran;
+      gone = gone_slipped w.ring.rounds id turn count n.ports h.gone;
+      fresh = fresh_left f leaves w.ring.rounds n h;
+    }) is
 placed_changed (Now t) w is = record { ids = is.ids; nodes = is.nodes; sides = is.sides; between = is.between }
 
 pub stay_placed : StayPlaced
@@ -329,10 +374,16 @@ whole_changed (Order p d c) w may whole =
         honest = was.honest;
         prepared = was.prepared;
         carried = each_at_place (CarriedFrom w) change (λ q n h. carried_commanded w d c q n h) p ns was.carried;
-        sourced = each_at_place (λ q n. IsSourcedIn w.ring.ids n) change (λ q n h e. word_commanded (λ k. IsMember w.ring.ids k.from) d e c n (h e)) p ns was.sourced;
-        kept = each_at_place (λ q n. (e : Side) → KeepsSourced w.ring.ids (receiving_on e n).brought) change (λ q n h e. kept_commanded w.ring.ids d e c n (h e)) p ns was.kept;
+        sourced =
+            each_at_place (λ q n. IsSourcedIn w.ring.ids n) change
+            (λ q n h e. word_commanded (λ k. IsMember w.ring.ids k.from) d e c n (h e)) p ns was.sourced;
+        kept =
+            each_at_place (λ q n. (e : Side) → KeepsSourced w.ring.ids (receiving_on e n).brought) change
+            (λ q n h e. kept_commanded w.ring.ids d e c n (h e)) p ns was.kept;
         spelled = each_at_place (λ q n. IsSpelled n) change (λ q n h e. word_commanded IsSpellable d e c n (h e)) p ns was.spelled;
-        never_ais = each_at_place (λ q n. NeverAis n) change (λ q n h e. word_commanded (λ k. k.mark ≢ mark.MsAis) d e c n (h e)) p ns was.never_ais;
+        never_ais =
+            each_at_place (λ q n. NeverAis n) change (λ q n h e. word_commanded (λ k. k.mark ≢ mark.MsAis) d e c n
+            (h e)) p ns was.never_ais;
         held = each_at_place (λ q n. n.held ≤ 100) change (λ q n h. let same = held_commanded d c n in omega arith) p ns was.held;
         slips = each_at_place (λ q n. FewWait n.ports) change (λ q n h. h) p ns was.slips;
       };
@@ -342,7 +393,9 @@ whole_changed (Hold p turns) w may whole =
     let ns = w.ring.nodes in
     record {
       placed = placed_changed (Hold p turns) w whole.placed;
-      paired = paired_left f (held_leaves turns) p w (each_at_place (λ q n. n.held ≤ 100) f (λ q n h. may) p ns whole.paired.held) (each_at_place (λ q n. FewWait n.ports) f (λ q n h. h) p ns whole.paired.slips) whole.paired;
+      paired =
+          paired_left f (held_leaves turns) p w (each_at_place (λ q n. n.held ≤ 100) f (λ q n h. may) p ns whole.paired.held)
+          (each_at_place (λ q n. FewWait n.ports) f (λ q n h. h) p ns whole.paired.slips) whole.paired;
     }
 whole_changed (Slip id turn count) w may whole =
     let f = slips_at id turn count in
@@ -351,11 +404,23 @@ whole_changed (Slip id turn count) w may whole =
     record {
       placed = placed_changed (Slip id turn count) w whole.placed;
       paired = paired_left f (slips_leave id turn count) p w (each_at_place (λ q n. n.held ≤ 100) f (λ q n h. h) p ns whole.paired.held)
-          (each_changed (λ q n. FewWait n.ports) f p ns (λ n at few. few_slipped w.ring id turn count n may at few) whole.paired.slips) whole.paired;
+          (each_changed (λ q n. FewWait n.ports) f p ns
+          (λ n at few. few_slipped w.ring id turn count n may at few) whole.paired.slips) whole.paired;
     }
 whole_changed (Now t) w may whole = record {
   placed = placed_changed (Now t) w whole.placed;
-  paired = (let was = whole.paired in record { honest = was.honest; prepared = was.prepared; carried = was.carried; sourced = was.sourced; kept = was.kept; spelled = was.spelled; never_ais = was.never_ais; held = was.held; slips = was.slips });
+  paired =
+      (let was = whole.paired in record {
+        honest = was.honest;
+        prepared = was.prepared;
+        carried = was.carried;
+        sourced = was.sourced;
+        kept = was.kept;
+        spelled = was.spelled;
+        never_ais = was.never_ais;
+        held = was.held;
+        slips = was.slips;
+      });
 }
 
 pub whole_all : (cs : List Change) (w : World) → AreChangesOf w cs → IsWhole w → IsWhole (all_changed cs w)

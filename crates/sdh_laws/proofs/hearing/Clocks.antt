@@ -25,7 +25,9 @@ use Rattle.sdh_laws.proofs.hearing.Nodes.{feeds_round}
 
 pub new_gone : (at : Pos) (cs : List Provisioned) → HaveGone 0 (tributaries_at at cs)
 unfolding tributaries_at
-new_gone at cs = new_ports (λ (t : Tributary). IsClock t.feed.port.offset 0 t.feed.clock) (λ i e d s c. record { rounds_are = refl; rest_few = omega arith; value_small = λ h. h }) at 0 cs
+new_gone at cs =
+    new_ports (λ (t : Tributary). IsClock t.feed.port.offset 0 t.feed.clock)
+    (λ i e d s c. record { rounds_are = refl; rest_few = omega arith; value_small = λ h. h }) at 0 cs
 
 pub new_none : (at : Pos) (cs : List Provisioned) → NoneWait (tributaries_at at cs)
 unfolding tributaries_at
@@ -36,7 +38,8 @@ new_few at cs i d lt = omega (arith, new_none at cs i d lt)
 
 -- ---- after a round
 
-pub few_round : (w : World) → IsPlaced w → AtEach (λ p n. FewWait n.ports) w.ring.nodes → AtEach (λ p n. FewWait n.ports) (round w).ring.nodes
+pub few_round : (w : World) → IsPlaced w → AtEach (λ p n. FewWait n.ports) w.ring.nodes
+    → AtEach (λ p n. FewWait n.ports) (round w).ring.nodes
 few_round w placed each = feeds_round (λ f. waiting f.clock ≤ 16) (λ f. waiting f.clock ≤ 16) (λ f h. next_few f.clock 16 h) w placed each
 
 -- a clock after so many rounds in which nothing else happens, from one at which at most 16 slips waited
@@ -55,7 +58,12 @@ AllTicked k w = AtEach (λ p n. All (λ (t : Tributary). HasTicked k t.feed) n.p
 
 pub ticked_first : (w : World) → IsPlaced w → AtEach (λ p n. FewWait n.ports) w.ring.nodes → AllTicked 0 w
 unfolding ticks
-ticked_first w placed each p h k d lt = record { from = _; rest_few = ((placed.between p h).gone k d lt).rest_few; few = each p h k d lt; is = refl }
+ticked_first w placed each p h k d lt = record {
+  from = _;
+  rest_few = ((placed.between p h).gone k d lt).rest_few;
+  few = each p h k d lt;
+  is = refl;
+}
 
 pub ticked_round : (k : ℕ) (w : World) → IsPlaced w → AllTicked k w → AllTicked (suc k) (round w)
 ticked_round k w placed each = feeds_round (HasTicked k) (HasTicked (suc k)) (next_ticked k) w placed each
@@ -70,9 +78,14 @@ gone_waits : (turn : Turn) (count offset rounds : ℕ) (c : Clock) → IsClock o
 gone_waits Up count offset rounds c h = record { rounds_are = h.rounds_are; rest_few = h.rest_few; value_small = h.value_small }
 gone_waits Down count offset rounds c h = record { rounds_are = h.rounds_are; rest_few = h.rest_few; value_small = h.value_small }
 
-pub gone_slipped : (rounds : ℕ) (id : PortId) (turn : Turn) (count : ℕ) (ts : List Tributary) → HaveGone rounds ts → HaveGone rounds (with_slips id turn count ts)
-gone_slipped rounds id turn count ts gone = slips_keep (λ (t : Tributary). IsClock t.feed.port.offset rounds t.feed.clock) id turn count ts (λ t found h. gone_waits turn count t.feed.port.offset rounds t.feed.clock h) gone
+pub gone_slipped : (rounds : ℕ) (id : PortId) (turn : Turn) (count : ℕ) (ts : List Tributary) → HaveGone rounds ts
+    → HaveGone rounds (with_slips id turn count ts)
+gone_slipped rounds id turn count ts gone =
+    slips_keep (λ (t : Tributary). IsClock t.feed.port.offset rounds t.feed.clock) id turn count ts
+    (λ t found h. gone_waits turn count t.feed.port.offset rounds t.feed.clock h) gone
 
-pub few_slipped : (r : HeldRing) (id : PortId) (turn : Turn) (count : ℕ) (n : Node) → waiting_at r id + count ≤ 16 → slice_get r.nodes (place_of_port r id) ≡ Some n → FewWait n.ports → FewWait (with_slips id turn count n.ports)
+pub few_slipped : (r : HeldRing) (id : PortId) (turn : Turn) (count : ℕ) (n : Node) → waiting_at r id + count ≤ 16
+    → slice_get r.nodes (place_of_port r id) ≡ Some n → FewWait n.ports → FewWait (with_slips id turn count n.ports)
 few_slipped r id turn count n most node few =
-    slips_keep (λ (t : Tributary). waiting t.feed.clock ≤ 16) id turn count n.ports (λ t found h. few_waits turn count t.feed.clock (omega (arith, most, waiting_found r id n t node found))) few
+    slips_keep (λ (t : Tributary). waiting t.feed.clock ≤ 16) id turn count n.ports
+    (λ t found h. few_waits turn count t.feed.clock (omega (arith, most, waiting_found r id n t node found))) few

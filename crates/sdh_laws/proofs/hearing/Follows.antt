@@ -36,7 +36,9 @@ use Rattle.sdh_rounds.specs.Rounds as any_round
 
 -- the sides that send keep the parities of what they sent
 abbrev pub Keeps : World → Type 0
-Keeps w = (d : Side) → AtEach (λ p n. KeepsParities w.ring.settings.rate w.ring.rounds (carried_on w.fibres (fibre p d)) (sending_on d n).section.last) w.ring.nodes
+Keeps w =
+    (d : Side) → AtEach (λ p n. KeepsParities w.ring.settings.rate w.ring.rounds (carried_on w.fibres (fibre p d))
+    (sending_on d n).section.last) w.ring.nodes
 
 pub keeps_one : (w : World) → IsWhole w → Keeps (round w)
 unfolding any_round.round any_round.round_with
@@ -71,11 +73,13 @@ pub record Follows (s : Settings) (ids : List ℕ) (hist : ℕ → Side → Side
   pub whole : IsWhole w
   pub keeps : Keeps w
   pub sides : (d : Side) → AtEach (λ p n. FollowsSide w.ring.settings (hist p d) w.ring.rounds (receiving_on d n)) w.ring.nodes
-  pub shows : (d : Side) → AtEach (λ p n. ShowsSo w.ring.settings.rate (shown (hist p d) w.ring.rounds) w.ring.rounds (carried_on w.fibres (fibre_to (length w.ring.ids) p d)) (receiving_on d n).section.last) w.ring.nodes
+  pub shows : (d : Side) → AtEach (λ p n. ShowsSo w.ring.settings.rate (shown (hist p d) w.ring.rounds) w.ring.rounds
+      (carried_on w.fibres (fibre_to (length w.ring.ids) p d)) (receiving_on d n).section.last) w.ring.nodes
 
 -- ---- a round
 
-module _ (given : Settings) (ids : List ℕ) (hist : ℕ → Side → SideHistory) (w : World) (follows : Follows given ids hist w) (tells : Tells hist w) where
+module _ (given : Settings) (ids : List ℕ) (hist : ℕ → Side → SideHistory) (w : World) (follows : Follows given ids hist w)
+    (tells : Tells hist w) where
   abbrev size : ℕ
   size = length w.ring.ids
 
@@ -125,9 +129,11 @@ module _ (given : Settings) (ids : List ℕ) (hist : ℕ → Side → SideHistor
 
     defect_now : 1 ≤ s.threshold → new_defect.defect ≡ defect_at s.threshold hi t
     defect_now least = elim (cases_lt 0 t) [
-      | inr none ↦ (let z : t ≡ 0 = omega arith in (nothing_found w whole p d z).defect ∙ sym (ap (defect_at s.threshold hi) z ∙ first_defect s.threshold hi))
+      | inr none ↦ (let z : t ≡ 0 = omega arith in (nothing_found w whole p d z).defect
+          ∙ sym (ap (defect_at s.threshold hi) z ∙ first_defect s.threshold hi))
       | inl some ↦ (let e : suc (t - 1) ≡ t = omega arith in elim (cases_Bool (is_cut c)) [
-        | inl cut ↦ defect_cut w whole p d some h cut ∙ sym (ap (defect_at s.threshold hi) (sym e) ∙ cut_defect s.threshold hi (t - 1) (ap hi.is_cut e ∙ cut_now ∙ cut))
+        | inl cut ↦ defect_cut w whole p d some h cut ∙ sym
+            (ap (defect_at s.threshold hi) (sym e) ∙ cut_defect s.threshold hi (t - 1) (ap hi.is_cut e ∙ cut_now ∙ cut))
         | inr clear ↦
             defect_shown w whole p d h some clear (shown hi t) (follows.shows d p h)
             ∙ ap (λ b. if nat_le s.threshold b then defect.Sd else defect.None) (ap (shown hi) (sym e))
@@ -147,7 +153,10 @@ module _ (given : Settings) (ids : List ℕ) (hist : ℕ → Side → SideHistor
         let k = keeps_more s.threshold s.wait hi t r.local was w.ring.moment new_defect.defect def moment_now command_now in
         let q = request_more s.threshold s.wait hi t r.local was w.ring.moment new_defect.defect def moment_now command_now in
         record {
-          keeps = subst (KeepsHistory s.threshold s.wait hi (t + 1)) (sym took.local) (subst (λ m. KeepsHistory s.threshold s.wait hi m (local_after w.ring.moment new_defect.defect r.local)) (let e : suc t ≡ t + 1 = omega arith in e) k);
+          keeps =
+              subst (KeepsHistory s.threshold s.wait hi (t + 1)) (sym took.local)
+              (subst (λ m. KeepsHistory s.threshold s.wait hi m (local_after w.ring.moment new_defect.defect r.local))
+              (let e : suc t ≡ t + 1 = omega arith in e) k);
           request = λ u e. (let same : t ≡ u = omega arith in took.request ∙ q ∙ ap (local_request s.threshold s.wait hi) same);
         }
 
@@ -171,8 +180,10 @@ module _ (given : Settings) (ids : List ℕ) (hist : ℕ → Side → SideHistor
 
     shows_after : ShowsSo rate (shown hi (t + 1)) (t + 1) (carried_on (round w).fibres (fibre_to size p d)) after.section.last
     shows_after l more there = elim (cases_lt 0 t) [
-      | inr none ↦ (let z : t ≡ 0 = omega arith in shows_first w whole p d h z l more there ∙ sym (ap (shown hi) (let one : t + 1 ≡ 1 = omega arith in one)))
-      | inl some ↦ shows_later w whole p d h some (follows.keeps (opposite d) (neighbour size p d) (neighbour_inside w whole p d)) l more there ∙ shown_more some
+      | inr none ↦ (let z : t ≡ 0 = omega arith in shows_first w whole p d h z l more there
+          ∙ sym (ap (shown hi) (let one : t + 1 ≡ 1 = omega arith in one)))
+      | inl some ↦ shows_later w whole p d h some (follows.keeps (opposite d) (neighbour size p d)
+          (neighbour_inside w whole p d)) l more there ∙ shown_more some
     ]
 
   -- a round more

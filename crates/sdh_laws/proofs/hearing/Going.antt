@@ -17,6 +17,8 @@ whole_rounds_go_as_signals w after whole r =
 
 pub steps_stay_whole : StepsStayWhole
 steps_stay_whole = record {
-  settled = λ w left limit whole settles. let k = (known_steps adm).settled w left limit (inl whole.paired.honest.honest) settles in subst IsWhole (sym k.2) (whole_run w k.0 whole);
-  unsettled = λ w left limit whole never. let k = (known_steps adm).unsettled w left limit (inl whole.paired.honest.honest) never in subst IsWhole (sym k.1) (whole_run w limit whole);
+  settled = λ w left limit whole settles. let k =
+      (known_steps adm).settled w left limit (inl whole.paired.honest.honest) settles in subst IsWhole (sym k.2) (whole_run w k.0 whole);
+  unsettled = λ w left limit whole never. let k =
+      (known_steps adm).unsettled w left limit (inl whole.paired.honest.honest) never in subst IsWhole (sym k.1) (whole_run w limit whole);
 }

@@ -27,7 +27,9 @@ use Rattle.sdh_laws.proofs.hearing.Stretches.{requests_are}
 use Rattle.sdh_world.specs.Held.{node_at}
 
 -- requests of spans by those of sides
-pub requests_by : (v : World) (n : ℕ) → length v.ring.nodes ≡ n → (g : ℕ → Side → Code) → ((p : ℕ) (d : Side) → p < n → (receiving_on d (node_at v.ring.nodes p)).request ≡ g p d) → requests_in (needs_in v) ≡ span_requests n g
+pub requests_by : (v : World) (n : ℕ) → length v.ring.nodes ≡ n → (g : ℕ → Side → Code)
+    → ((p : ℕ) (d : Side) → p < n → (receiving_on d (node_at v.ring.nodes p)).request ≡ g p d)
+    → requests_in (needs_in v) ≡ span_requests n g
 unfolding needs_in
 requests_by v n size g each =
     ap (λ m. span_requests m (λ p d. request_on (get_or (map needed v.ring.nodes) p no_needs) d)) (length-map v.ring.nodes needed ∙ size)
@@ -55,7 +57,8 @@ after_last (r ∷ ss) s w = after_last ss s (after_stretch r w)
 
 -- ---- the last of some stretches
 
-module _ (s : Settings) (ids : List ℕ) (circuits : Provisioning) (f : Fibres) (earlier : List Stretch) (last : Stretch) (may : MayStart s ids f) (happen : MayHappen (new_world s ids circuits f) (earlier ++ last ∷ [])) where
+module _ (s : Settings) (ids : List ℕ) (circuits : Provisioning) (f : Fibres) (earlier : List Stretch) (last : Stretch)
+    (may : MayStart s ids f) (happen : MayHappen (new_world s ids circuits f) (earlier ++ last ∷ [])) where
   abbrev w : World
   w = new_world s ids circuits f
 
@@ -77,11 +80,14 @@ module _ (s : Settings) (ids : List ℕ) (circuits : Provisioning) (f : Fibres) 
   ids_last = (left_all last.changes (after_stretches earlier w)).ids ∙ (left_stretches earlier w).ids
 
   -- the requests of its last round are those of the histories
-  pub requests_last : (t : ℕ) → rounds_in ss ≡ t + 1 → requests_in (needs_in u) ≡ span_requests (length ids) (asked_in s.threshold s.wait (length ids) ss t)
+  pub requests_last : (t : ℕ) → rounds_in ss ≡ t + 1 → requests_in (needs_in u)
+      ≡ span_requests (length ids) (asked_in s.threshold s.wait (length ids) ss t)
   requests_last t many =
-      let all : length u.ring.nodes ≡ length ids = count u (whole_run v last.rounds whole_last).placed ∙ ap length (left_run last.rounds v).ids ∙ ap length ids_last in
+      let all : length u.ring.nodes ≡ length ids =
+      count u (whole_run v last.rounds whole_last).placed ∙ ap length (left_run last.rounds v).ids ∙ ap length ids_last in
       requests_by u (length ids) all (asked_in s.threshold s.wait (length ids) ss t)
-      (λ p d lt. ap (λ (y : World). (receiving_on d (node_at y.ring.nodes p)).request) (sym (after_last earlier last w)) ∙ (requests_are s ids circuits f ss may happen).last p d t lt many)
+      (λ p d lt. ap (λ (y : World). (receiving_on d (node_at y.ring.nodes p)).request) (sym (after_last earlier last w))
+      ∙ (requests_are s ids circuits f ss may happen).last p d t lt many)
 
 pub stretches_settle : StillRingsAreSettled → StretchesSettle
 stretches_settle law s ids circuits f earlier last j t may happen ends low high many =

@@ -15,7 +15,8 @@ use Rattle.sdh_request.specs.declared.Defect.TheVariants as defect
 use Rattle.sdh_request.specs.Kept as local
 use Rattle.sdh_overhead.specs.Sections.{b2_violations}
 use Rattle.sdh_parity.specs.Scrambling.{scrambled}
-use Rattle.std.proofs.Common.{◌≡◌, ◌≢◌, ℕ, zero, suc, ◌+◌, ◌-◌, ◌*◌, ◌<◌, ◌≤◌, Bool, true, false, List, [], ◌∷◌, length, get_or, map, replicate, Some, None, refl, ap, sym, subst, ◌∙◌, arith, inl, inr}
+use Rattle.std.proofs.Common.{◌≡◌, ◌≢◌, ℕ, zero, suc, ◌+◌, ◌-◌, ◌*◌, ◌<◌, ◌≤◌, Bool, true, false, List, [], ◌∷◌, length, get_or, map}
+use Rattle.std.proofs.Common.{replicate, Some, None, refl, ap, sym, subst, ◌∙◌, arith, inl, inr}
 use Rattle.std.proofs.lemmas.List.{get_or_past}
 use Rattle.std.specs.Prelude.{nat_le, if◌then◌else◌}
 use Rattle.std.proofs.lemmas.Bool.{cases_lt, cases_Bool}
@@ -50,10 +51,12 @@ use Rattle.sdh_laws.specs.Hearing.Paired.{IsSourcedWord, KeepsSourced, FewWait, 
 use Rattle.sdh_laws.specs.Hearing.Signalling.{word_to, lines_at, Brings, Reads}
 use Rattle.sdh_laws.specs.Hearing.Laws.{IsWhole, SidesBring, SidesRead, NoneSaysAis}
 use Rattle.sdh_node.proofs.Decided.{scene_in, word_is, turns_left}
-use Rattle.sdh_laws.proofs.hearing.OneNode.{told_inlet, Took, side_took, receiving_after, line_taken, word_has, own_no_ais, own_spellable, own_member, frame_on, frame_says, spelled, node_same}
+use Rattle.sdh_laws.proofs.hearing.OneNode.{told_inlet, Took, side_took, receiving_after, line_taken, word_has, own_no_ais, own_spellable}
+use Rattle.sdh_laws.proofs.hearing.OneNode.{own_member, frame_on, frame_says, spelled, node_same}
 use Rattle.sdh_world.specs.Held.{AtEach, node_at}
 use Rattle.sdh_laws.proofs.hearing.Clocks.{few_round}
-use Rattle.sdh_laws.proofs.hearing.Nodes.{told_to, told_first, told_later, informed, informed_on, informed_out, count, listening_at, nodes_after, length-after, placed_round, is_at}
+use Rattle.sdh_laws.proofs.hearing.Nodes.{told_to, told_first, told_later, informed, informed_on, informed_out, count, listening_at}
+use Rattle.sdh_laws.proofs.hearing.Nodes.{nodes_after, length-after, placed_round, is_at}
 use Rattle.sdh_world.specs.Sides.{condition_to}
 use Rattle.sdh_node.specs.Stations.{adm}
 use Rattle.sdh_rounds.specs.Rounds as any_round
@@ -82,7 +85,8 @@ module _ (w : World) (whole : IsWhole w) where
 
   pub neighbour_inside : (p : ℕ) (d : Side) → neighbour size p d < length w.ring.nodes
   neighbour_inside p d =
-      let below : neighbour size p d < size = neighbour_below size p d (let e = whole.placed.ids.enough in omega arith) in omega (arith, count w whole.placed)
+      let below : neighbour size p d < size =
+      neighbour_below size p d (let e = whole.placed.ids.enough in omega arith) in omega (arith, count w whole.placed)
 
   -- ---- what arrives
 
@@ -95,7 +99,8 @@ module _ (w : World) (whole : IsWhole w) where
         | inr past ↦ subst (IsConditionAt rate) (sym (get_or_past cs i Clear past)) tt
       ]
 
-  pub arrival_is : (p : ℕ) (d : Side) → arrival_at w.fibres p d ≡ through (n_of rate) (condition_to w p d) (carried_on w.fibres (fibre_to size p d))
+  pub arrival_is : (p : ℕ) (d : Side) → arrival_at w.fibres p d
+      ≡ through (n_of rate) (condition_to w p d) (carried_on w.fibres (fibre_to size p d))
   arrival_is p d =
       let f = w.fibres in
       (honest_rounds adm).arrives f p d whole.paired.honest
@@ -109,14 +114,17 @@ module _ (w : World) (whole : IsWhole w) where
   pub arrival_cut : (p : ℕ) (d : Side) → is_cut (condition_to w p d) ≡ true → arrival_at w.fibres p d ≡ None
   arrival_cut p d cut = arrival_is p d ∙ cut_is_dark (n_of rate) (condition_to w p d) _ cut
 
-  pub arrival_word : (p : ℕ) (d : Side) → 0 < t → is_cut (condition_to w p d) ≡ false → CarriesWord rate (word_to w p d) (arrival_at w.fibres p d)
+  pub arrival_word : (p : ℕ) (d : Side) → 0 < t → is_cut (condition_to w p d) ≡ false
+      → CarriesWord rate (word_to w p d) (arrival_at w.fibres p d)
   arrival_word p d some clear =
       subst (CarriesWord rate (word_to w p d)) (sym (arrival_is p d))
       (comes_through rate (word_to w p d) (condition_to w p d) _ clear (sent_to p d some))
 
-  pub word_goes : (p : ℕ) (d : Side) (some : 0 < t) (clear : is_cut (condition_to w p d) ≡ false) (line : List ℕ) → carried_on w.fibres (fibre_to size p d) ≡ Some line
+  pub word_goes : (p : ℕ) (d : Side) (some : 0 < t) (clear : is_cut (condition_to w p d) ≡ false) (line : List ℕ)
+      → carried_on w.fibres (fibre_to size p d) ≡ Some line
       → through (n_of rate) (condition_to w p d) (Some line) ≡ Some (arrival_word p d some clear).line
-  word_goes p d some clear line there = sym (ap (through (n_of rate) (condition_to w p d)) there) ∙ sym (arrival_is p d) ∙ (arrival_word p d some clear).there
+  word_goes p d some clear line there =
+      sym (ap (through (n_of rate) (condition_to w p d)) there) ∙ sym (arrival_is p d) ∙ (arrival_word p d some clear).there
 
   word_spells : (p : ℕ) (d : Side) → IsSpellable (word_to w p d)
   word_spells p d = whole.paired.spelled (neighbour size p d) (neighbour_inside p d) (opposite d)
@@ -138,7 +146,8 @@ module _ (w : World) (whole : IsWhole w) where
   nothing_found p d e = untold_sides_find_nothing s.threshold (inlet_at p d) (told_first w p d e)
 
   -- and later
-  pub told_side : (p : ℕ) (d : Side) (some : 0 < t) → p < length w.ring.nodes → IsTold rate (condition_to w p d) (word_to w p d) (sent_to p d some).line (inlet_at p d)
+  pub told_side : (p : ℕ) (d : Side) (some : 0 < t) → p < length w.ring.nodes
+      → IsTold rate (condition_to w p d) (word_to w p d) (sent_to p d some).line (inlet_at p d)
   told_side p d some h =
       let sent = sent_to p d some in
       record {
@@ -149,8 +158,10 @@ module _ (w : World) (whole : IsWhole w) where
         told = told_later w p d some ∙ ap Some (arrival_is p d ∙ ap (through (n_of rate) (condition_to w p d)) sent.there);
       }
 
-  pub side_finds : (p : ℕ) (d : Side) (some : 0 < t) → p < length w.ring.nodes → FindsSo rate (condition_to w p d) (word_to w p d) (sent_to p d some).line s.threshold (inlet_at p d)
-  side_finds p d some h = sides_find_so rate (condition_to w p d) (word_to w p d) (sent_to p d some).line s.threshold (inlet_at p d) (told_side p d some h)
+  pub side_finds : (p : ℕ) (d : Side) (some : 0 < t) → p < length w.ring.nodes
+      → FindsSo rate (condition_to w p d) (word_to w p d) (sent_to p d some).line s.threshold (inlet_at p d)
+  side_finds p d some h =
+      sides_find_so rate (condition_to w p d) (word_to w p d) (sent_to p d some).line s.threshold (inlet_at p d) (told_side p d some h)
 
   -- ---- the round of a side
 
@@ -163,18 +174,22 @@ module _ (w : World) (whole : IsWhole w) where
   threshold_at : (p : ℕ) → p < length w.ring.nodes → (informed_at p).settings.threshold ≡ s.threshold
   threshold_at p h = ap (λ (y : Settings). y.threshold) (is_at w whole.placed p h).settings
 
-  side_is : (p : ℕ) (d : Side) → p < length w.ring.nodes → new_on p d ≡ node.after_intake s.threshold w.ring.moment (record (old_on p d) { arrived = told_to w p d })
+  side_is : (p : ℕ) (d : Side) → p < length w.ring.nodes → new_on p d
+      ≡ node.after_intake s.threshold w.ring.moment (record (old_on p d) { arrived = told_to w p d })
   side_is p d h =
       ap (receiving_on d) (nodes_after w whole.placed p h) ∙ receiving_after w.ring.moment (informed_at p) d
       ∙ ap (λ k. node.after_intake k w.ring.moment (receiving_on d (informed_at p))) (threshold_at p h)
       ∙ ap (node.after_intake s.threshold w.ring.moment) (informed_on w p d)
 
   pub took_is : (p : ℕ) (d : Side) → p < length w.ring.nodes → Took w.ring.moment s.threshold (inlet_at p d) (old_on p d) (new_on p d)
-  took_is p d h = subst (Took w.ring.moment s.threshold (inlet_at p d) (old_on p d)) (sym (side_is p d h)) (side_took w.ring.moment s.threshold (told_to w p d) (old_on p d))
+  took_is p d h =
+      subst (Took w.ring.moment s.threshold (inlet_at p d) (old_on p d)) (sym (side_is p d h))
+      (side_took w.ring.moment s.threshold (told_to w p d) (old_on p d))
 
   pub line_is : (p : ℕ) (d : Side) → p < length w.ring.nodes → line_on (lines_at w p) d ≡ line_after s.threshold (inlet_at p d)
   line_is p d h =
-      ap (λ n. line_on (lines_of (crossing w.ring.moment n)) d) (listening_at w whole.placed p h) ∙ line_taken w.ring.moment (informed_at p) d
+      ap (λ n. line_on (lines_of (crossing w.ring.moment n)) d) (listening_at w whole.placed p h)
+      ∙ line_taken w.ring.moment (informed_at p) d
       ∙ ap (λ k. line_after k (inlet_of (receiving_on d (informed_at p)))) (threshold_at p h)
       ∙ ap (λ r. line_after s.threshold (inlet_of r)) (informed_on w p d)
 
@@ -193,11 +208,13 @@ module _ (w : World) (whole : IsWhole w) where
   not_sf false f = cc
 
   -- the defect, by the fibre's condition
-  pub defect_cut : (p : ℕ) (d : Side) (some : 0 < t) → p < length w.ring.nodes → is_cut (condition_to w p d) ≡ true → (made p d).defect ≡ defect.Sf
+  pub defect_cut : (p : ℕ) (d : Side) (some : 0 < t) → p < length w.ring.nodes → is_cut (condition_to w p d) ≡ true
+      → (made p d).defect ≡ defect.Sf
   defect_cut p d some h cut = (side_finds p d some h).defect ∙ if_cut (is_cut (condition_to w p d)) _ _ cut
 
   pub defect_clear : (p : ℕ) (d : Side) (some : 0 < t) → p < length w.ring.nodes → is_cut (condition_to w p d) ≡ false
-      → (made p d).defect ≡ (if nat_le s.threshold (b2_violations (n_of rate) (old_on p d).section.last (scrambled (9 * n_of rate) (sent_to p d some).line)) then defect.Sd else defect.None)
+      → (made p d).defect ≡ (if nat_le s.threshold (b2_violations (n_of rate) (old_on p d).section.last
+      (scrambled (9 * n_of rate) (sent_to p d some).line)) then defect.Sd else defect.None)
   defect_clear p d some h clear = (side_finds p d some h).defect ∙ if_clear (is_cut (condition_to w p d)) _ _ clear
 
   pub brings : (p : ℕ) (d : Side) → p < length w.ring.nodes → Brings w p d (old_on p d) (new_on p d)
@@ -211,12 +228,15 @@ module _ (w : World) (whole : IsWhole w) where
         fails = λ some cut. def ∙ defect_cut p d some h cut;
         silent = λ some cut. came ∙ (side_finds p d some h).word ∙ if_cut (is_cut (condition_to w p d)) _ _ cut;
         works = λ some clear e. not_sf _ (sym (def ∙ defect_clear p d some h clear) ∙ e);
-        comes = λ some clear. came ∙ (side_finds p d some h).word ∙ if_clear (is_cut (condition_to w p d)) _ _ clear ∙ spelled (word_to w p d) (word_spells p d);
+        comes =
+            λ some clear. came ∙ (side_finds p d some h).word ∙ if_clear (is_cut (condition_to w p d)) _ _ clear
+            ∙ spelled (word_to w p d) (word_spells p d);
         earlier = took.brought ∙ ap (λ k. with_brought k (old_on p d).brought) (sym came);
       }
 
   -- a side that works is behind a fibre that isn't cut
-  pub clear_where_it_works : (p : ℕ) (d : Side) → 0 < t → p < length w.ring.nodes → is_failed (new_on p d).local.defect ≡ false → is_cut (condition_to w p d) ≡ false
+  pub clear_where_it_works : (p : ℕ) (d : Side) → 0 < t → p < length w.ring.nodes → is_failed (new_on p d).local.defect ≡ false
+      → is_cut (condition_to w p d) ≡ false
   clear_where_it_works p d some h works = elim (cases_Bool (is_cut (condition_to w p d))) [
     | inl cut ↦ absurd (let x = ap is_failed ((brings p d h).fails some cut) in cc)
     | inr clear ↦ clear
@@ -226,7 +246,8 @@ module _ (w : World) (whole : IsWhole w) where
 
   pub reads : (p : ℕ) (d : Side) → p < length w.ring.nodes → Reads w p d (old_on p d) (new_on p d) (line_on (lines_at w p) d).intake
   reads p d h =
-      let left : (new_on p d).readings ≡ (after_taking s.threshold (inlet_at p d)).readings = ap (λ (i : Inlet). i.readings) (took_is p d h).inlet in
+      let left : (new_on p d).readings ≡ (after_taking s.threshold (inlet_at p d)).readings =
+      ap (λ (i : Inlet). i.readings) (took_is p d h).inlet in
       subst (λ (l : Line). Reads w p d (old_on p d) (new_on p d) l.intake) (sym (line_is p d h)) (record {
         idle = λ e. left ∙ (nothing_found p d e).reads;
         none = λ e. (nothing_found p d e).acts ∙ ap (λ r. replicate (n_of r) action.Ais) ((whole.placed.sides p h).receives d).rate;
@@ -234,7 +255,8 @@ module _ (w : World) (whole : IsWhole w) where
         acts = λ some. (side_finds p d some h).acts;
         ones = λ some cut. (side_finds p d some h).ones cut;
         aus = λ some clear line there au low high. (let sent = sent_to p d some in
-            (side_finds p d some h).aus clear au low high ∙ ap (λ l. au_of (n_of rate) au (scrambled (9 * n_of rate) l)) (same_line sent.line line _ sent.there there));
+            (side_finds p d some h).aus clear au low high ∙ ap (λ l. au_of (n_of rate) au (scrambled (9 * n_of rate) l))
+            (same_line sent.line line _ sent.there there));
       })
 
   -- ---- the words that are sent
@@ -269,24 +291,28 @@ module _ (w : World) (whole : IsWhole w) where
   scene_place p h = ap (λ a. a.0) (node_same w.ring.moment (informed_at p)).at ∙ (is_at w whole.placed p h).at
 
   -- the word by the rules
-  by_rules : (P : K → Type 0) (p : ℕ) → p < length w.ring.nodes → ((s : Scene) (d to : Side) (code : Code) (path : Path) → s.ids ≡ w.ring.ids → s.at ≡ p → P (own_word s d code to path))
+  by_rules : (P : K → Type 0) (p : ℕ) → p < length w.ring.nodes
+      → ((s : Scene) (d to : Side) (code : Code) (path : Path) → s.ids ≡ w.ring.ids → s.at ≡ p → P (own_word s d code to path))
       → ((d : Side) → P (word_to w p d)) → (d : Side) → P (word (scene_in (next_node p)) d)
   by_rules P p h own heard d =
       let s = scene_in (next_node p) in
       word_has P s (λ d to code path. own s d to code path (scene_ids p h) (scene_place p h)) (λ d k e. (
-      let b : Brings w p d (old_on p d) (receiving_on d (next_node p)) = subst (λ n. Brings w p d (old_on p d) (receiving_on d n)) (nodes_after w whole.placed p h) (brings p d h) in
+      let b : Brings w p d (old_on p d) (receiving_on d (next_node p)) =
+      subst (λ n. Brings w p d (old_on p d) (receiving_on d n)) (nodes_after w whole.placed p h) (brings p d h) in
       let last = heard_last (receiving_on d (next_node p)).brought k (sym (word_on_is (next_node p) d) ∙ e) in
       subst P (came_is p d (old_on p d) (receiving_on d (next_node p)) k b last) (heard d))) d
 
   -- what holds of each own word, of each word that was sent to the node, and of its own words before, holds of its words
-  pub words_have : (P : K → Type 0) (p : ℕ) → p < length w.ring.nodes → ((s : Scene) (d to : Side) (code : Code) (path : Path) → s.ids ≡ w.ring.ids → s.at ≡ p → P (own_word s d code to path))
+  pub words_have : (P : K → Type 0) (p : ℕ) → p < length w.ring.nodes
+      → ((s : Scene) (d to : Side) (code : Code) (path : Path) → s.ids ≡ w.ring.ids → s.at ≡ p → P (own_word s d code to path))
       → ((d : Side) → P (word_to w p d)) → ((d : Side) → P (word_of d (node_at w.ring.nodes p))) → (d : Side) → P (word_of d (next_node p))
   words_have P p h own heard old d =
       let is = word_is w.ring.moment (informed_at p) d in
       let before = word_of d (informed_at p) in
       let ruled = word (scene_in (next_node p)) d in
       elim (cases_Bool (is_held (node_at w.ring.nodes p))) [
-        | inl held ↦ subst P (sym (is ∙ ap (λ (b : Bool). if b then before else ruled) held ∙ ap (λ (x : Sending). x.word) (informed_out w p d))) (old d)
+        | inl held ↦ subst P (sym (is ∙ ap (λ (b : Bool). if b then before else ruled) held
+            ∙ ap (λ (x : Sending). x.word) (informed_out w p d))) (old d)
         | inr free ↦ subst P (sym (is ∙ ap (λ (b : Bool). if b then before else ruled) free)) (by_rules P p h own heard d)
       ]
 
@@ -294,16 +320,21 @@ module _ (w : World) (whole : IsWhole w) where
   inside_of s p h ids at = let e : length s.ids ≡ length w.ring.ids = ap length ids in omega (arith, count w whole.placed)
 
   pub spells_after : (p : ℕ) → p < length w.ring.nodes → (d : Side) → IsSpellable (word_of d (next_node p))
-  spells_after p h = words_have IsSpellable p h (λ s d to code path ids at. own_spellable s d to code path (subst AreIds (sym ids) whole.placed.ids) (inside_of s p h ids at)) (word_spells p) (whole.paired.spelled p h)
+  spells_after p h =
+      words_have IsSpellable p h (λ s d to code path ids at. own_spellable s d to code path (subst AreIds (sym ids) whole.placed.ids)
+      (inside_of s p h ids at)) (word_spells p) (whole.paired.spelled p h)
 
   pub sourced_after : (p : ℕ) → p < length w.ring.nodes → (d : Side) → IsMember w.ring.ids (word_of d (next_node p)).from
   sourced_after p h = words_have (λ k. IsMember w.ring.ids k.from) p h
-      (λ s d to code path ids at. subst (λ i. IsMember i (own_word s d code to path).from) ids (own_member s d to code path (inside_of s p h ids at)))
+      (λ s d to code path ids at. subst (λ i. IsMember i (own_word s d code to path).from) ids
+      (own_member s d to code path (inside_of s p h ids at)))
       (λ d. whole.paired.sourced (neighbour size p d) (neighbour_inside p d) (opposite d))
       (whole.paired.sourced p h)
 
   never_ais_after : (p : ℕ) → p < length w.ring.nodes → (d : Side) → (word_of d (next_node p)).mark ≢ mark.MsAis
-  never_ais_after p h = words_have (λ k. k.mark ≢ mark.MsAis) p h (λ s d to code path ids at. own_no_ais s d to code path) (word_no_ais p) (whole.paired.never_ais p h)
+  never_ais_after p h =
+      words_have (λ k. k.mark ≢ mark.MsAis) p h (λ s d to code path ids at. own_no_ais s d to code path) (word_no_ais p)
+      (whole.paired.never_ais p h)
 
   -- ---- what is kept, and the turns that are left
 
@@ -322,17 +353,20 @@ module _ (w : World) (whole : IsWhole w) where
   kept_after : (p : ℕ) (d : Side) → p < length w.ring.nodes → KeepsSourced w.ring.ids (new_on p d).brought
   kept_after p d h =
       let was = whole.paired.kept p h d in
-      subst (KeepsSourced w.ring.ids) (sym (brings p d h).earlier) (record { last = sourced_word p d h; second = was.last; third = was.second })
+      subst (KeepsSourced w.ring.ids) (sym (brings p d h).earlier)
+      (record { last = sourced_word p d h; second = was.last; third = was.second })
 
   held_after : (p : ℕ) → p < length w.ring.nodes → (node_at (round w).ring.nodes p).held ≤ 100
   held_after p h =
       let was = whole.paired.held p h in
-      let now : (node_at (round w).ring.nodes p).held ≡ (node_at w.ring.nodes p).held - 1 = ap (λ (n : Node). n.held) (nodes_after w whole.placed p h) ∙ turns_left w.ring.moment (informed_at p) in
+      let now : (node_at (round w).ring.nodes p).held ≡ (node_at w.ring.nodes p).held - 1 =
+      ap (λ (n : Node). n.held) (nodes_after w whole.placed p h) ∙ turns_left w.ring.moment (informed_at p) in
       omega arith
 
   -- ---- the world after the round
 
-  frame_there : (ns : List Node) (p : ℕ) (d : Side) → p < length ns → get_or (map Some (frames_of w.ring.moment ns)) (fibre p d) None ≡ Some (frame_on d w.ring.moment (node_at ns p))
+  frame_there : (ns : List Node) (p : ℕ) (d : Side) → p < length ns
+      → get_or (map Some (frames_of w.ring.moment ns)) (fibre p d) None ≡ Some (frame_on d w.ring.moment (node_at ns p))
   frame_there [] p d h = absurd (omega arith)
   frame_there (n ∷ ns) zero West h = refl
   frame_there (n ∷ ns) zero East h = refl
@@ -343,7 +377,8 @@ module _ (w : World) (whole : IsWhole w) where
       let i : 2 * suc p + 1 ≡ suc (suc (2 * p + 1)) = omega arith in
       ap (λ k. get_or (map Some (frames_of w.ring.moment (n ∷ ns))) k None) i ∙ frame_there ns p East (omega arith)
 
-  pub carried_after : (p : ℕ) (d : Side) → p < length w.ring.nodes → carried_on (round w).fibres (fibre p d) ≡ Some (frame_on d w.ring.moment (informed_at p))
+  pub carried_after : (p : ℕ) (d : Side) → p < length w.ring.nodes
+      → carried_on (round w).fibres (fibre p d) ≡ Some (frame_on d w.ring.moment (informed_at p))
   unfolding any_round.round any_round.round_with sent_all
   carried_after p d h =
       frame_there (nodes_with (arrivals_of w) w) p d (let e = length-heard adm (arrivals_of w) w.ring.nodes in omega arith)
@@ -353,7 +388,8 @@ module _ (w : World) (whole : IsWhole w) where
   unfolding any_round.round
   prepared_after =
       let c = count w whole.placed in
-      subst (λ n. IsPrepared rate n (round_with (arrivals_of w) w).fibres) c (prepared_round adm rate (arrivals_of w) w (subst (λ n. IsPrepared rate n w.fibres) (sym c) whole.paired.prepared))
+      subst (λ n. IsPrepared rate n (round_with (arrivals_of w) w).fibres) c
+      (prepared_round adm rate (arrivals_of w) w (subst (λ n. IsPrepared rate n w.fibres) (sym c) whole.paired.prepared))
 
   honest_after : IsHonest (round w).fibres
   unfolding any_round.round
@@ -365,7 +401,8 @@ module _ (w : World) (whole : IsWhole w) where
   pub sends_at : (p : ℕ) (d : Side) → p < length w.ring.nodes → IsSenderAt rate (sending_on d (informed_at p))
   sends_at p d h = subst (IsSenderAt rate) (sym (informed_out w p d)) ((whole.placed.sides p h).sends d)
 
-  frame_after : (p : ℕ) (d : Side) → p < length w.ring.nodes → Says rate (word_of d (node_at (round w).ring.nodes p)) (frame_on d w.ring.moment (informed_at p))
+  frame_after : (p : ℕ) (d : Side) → p < length w.ring.nodes
+      → Says rate (word_of d (node_at (round w).ring.nodes p)) (frame_on d w.ring.moment (informed_at p))
   frame_after p d h =
       subst (λ n. Says rate (word_of d n) (frame_on d w.ring.moment (informed_at p))) (sym (nodes_after w whole.placed p h))
       (frame_says w.ring.moment (informed_at p) rate d (sends_at p d h))
@@ -380,11 +417,18 @@ module _ (w : World) (whole : IsWhole w) where
     prepared = prepared_after;
     carried = λ p h. (let low = low_of p h in record {
       dark = λ d e. absurd (omega arith);
-      frames = λ d some. record { line = frame_on d w.ring.moment (informed_at p); there = carried_after p d low; says = frame_after p d low };
+      frames =
+          λ d some. record { line = frame_on d w.ring.moment (informed_at p); there = carried_after p d low; says = frame_after p d low };
     });
-    sourced = λ p h d. (let low = low_of p h in subst (λ n. IsMember w.ring.ids (word_of d n).from) (sym (nodes_after w whole.placed p low)) (sourced_after p low d));
-    spelled = λ p h d. (let low = low_of p h in subst (λ n. IsSpellable (word_of d n)) (sym (nodes_after w whole.placed p low)) (spells_after p low d));
-    never_ais = λ p h d. (let low = low_of p h in subst (λ n. (word_of d n).mark ≢ mark.MsAis) (sym (nodes_after w whole.placed p low)) (never_ais_after p low d));
+    sourced =
+        λ p h d. (let low = low_of p h in subst (λ n. IsMember w.ring.ids (word_of d n).from) (sym (nodes_after w whole.placed p low))
+        (sourced_after p low d));
+    spelled =
+        λ p h d. (let low = low_of p h in subst (λ n. IsSpellable (word_of d n)) (sym (nodes_after w whole.placed p low))
+        (spells_after p low d));
+    never_ais =
+        λ p h d. (let low = low_of p h in subst (λ n. (word_of d n).mark ≢ mark.MsAis) (sym (nodes_after w whole.placed p low))
+        (never_ais_after p low d));
     kept = λ p h d. kept_after p d (low_of p h);
     held = λ p h. held_after p (low_of p h);
     slips = slips_after;

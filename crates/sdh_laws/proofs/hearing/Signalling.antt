@@ -20,10 +20,12 @@ use Rattle.sdh_nodestate.specs.Filtering.{Brought, with_brought}
 use Rattle.sdh_restoration.specs.Applied.{span_requests}
 use Rattle.sdh_settling.specs.Settled.{settled_states}
 use Rattle.sdh_settling.specs.Signals as signal
-use Rattle.sdh_settling.specs.Signals.{Filters, no_filters, Signals, fails_on, sent_on, on_their_way, incoming, filters_after, heard_through, scene_at, state_in, words_in, free_round, MayGo, requests_in, request_on, no_needs}
+use Rattle.sdh_settling.specs.Signals.{Filters, no_filters, Signals, fails_on, sent_on, on_their_way, incoming, filters_after}
+use Rattle.sdh_settling.specs.Signals.{heard_through, scene_at, state_in, words_in, free_round, MayGo, requests_in, request_on, no_needs}
 use Rattle.sdh_settling.specs.Laws.{ChangesNoWord, StillRingsAreSettled}
 use Rattle.sdh_settling.proofs.Fixpoint.{free_rounds}
-use Rattle.std.proofs.Common.{◌≡◌, ◌≢◌, ℕ, zero, suc, ◌+◌, ◌-◌, ◌<◌, ◌≤◌, Bool, true, false, List, [], ◌∷◌, length, get_or, map, Some, None, refl, ap, sym, subst, ◌∙◌, arith, inl, inr}
+use Rattle.std.proofs.Common.{◌≡◌, ◌≢◌, ℕ, zero, suc, ◌+◌, ◌-◌, ◌<◌, ◌≤◌, Bool, true, false, List, [], ◌∷◌, length, get_or, map, Some, None}
+use Rattle.std.proofs.Common.{refl, ap, sym, subst, ◌∙◌, arith, inl, inr}
 use Rattle.std.specs.Prelude.{nat_le, max, if◌then◌else◌, option_map, slice_get, All}
 use Rattle.std.proofs.lemmas.Bool.{cases_lt, le-leb, cases_Bool, both_ways}
 use Rattle.std.proofs.lemmas.List.Folds.{list_all_at}
@@ -42,7 +44,8 @@ use Rattle.sdh_laws.specs.Hearing.Placed.{IsPlaced}
 use Rattle.sdh_terms.specs.Fibres.{is_cut}
 use Rattle.sdh_world.specs.Sides.{condition_to}
 use Rattle.sdh_laws.specs.Hearing.Signalling.{filters_of, signals_of, needs_in, held_in}
-use Rattle.sdh_laws.specs.Hearing.Laws.{IsWhole, RoundsAreSignalRounds, IsStill, CalmRoundsAreStill, ThreeCalmRoundsAreSettled, WindowsAreSettled, IsSettled, StepsSettle}
+use Rattle.sdh_laws.specs.Hearing.Laws.{IsWhole, RoundsAreSignalRounds, IsStill, CalmRoundsAreStill, ThreeCalmRoundsAreSettled}
+use Rattle.sdh_laws.specs.Hearing.Laws.{WindowsAreSettled, IsSettled, StepsSettle}
 use Rattle.sdh_node.proofs.Decided.{scene_in, state_is, word_is}
 use Rattle.sdh_node.proofs.Calm.{calm_leaves, unchanged_is_calm}
 use Rattle.sdh_laws.proofs.hearing.OneNode.{may_need}
@@ -57,18 +60,22 @@ use Rattle.sdh_rounds.specs.Runs as any_run
 
 -- ---- lists
 
-mapped_from : {Y : Type 0} (f : Node → Y) (h : ℕ → Needs → Y) (g : Node → Needs) (i : ℕ) (ns : List Node) → ((k : ℕ) → k < length ns → f (node_at ns k) ≡ h (i + k) (g (node_at ns k))) → map f ns ≡ map_from h i (map g ns)
+mapped_from : {Y : Type 0} (f : Node → Y) (h : ℕ → Needs → Y) (g : Node → Needs) (i : ℕ) (ns : List Node)
+    → ((k : ℕ) → k < length ns → f (node_at ns k) ≡ h (i + k) (g (node_at ns k))) → map f ns ≡ map_from h i (map g ns)
 mapped_from f h g i [] same = refl
 mapped_from f h g i (n ∷ ns) same =
     ap (λ y. y ∷ map f ns) (same 0 (omega arith) ∙ ap (λ k. h k (g n)) (let e : i + 0 ≡ i = omega arith in e))
-    ∙ ap (λ l. h i (g n) ∷ l) (mapped_from f h g (i + 1) ns (λ k lt. same (suc k) (omega arith) ∙ ap (λ j. h j (g (node_at ns k))) (let e : i + suc k ≡ i + 1 + k = omega arith in e)))
+    ∙ ap (λ l. h i (g n) ∷ l) (mapped_from f h g (i + 1) ns
+    (λ k lt. same (suc k) (omega arith) ∙ ap (λ j. h j (g (node_at ns k))) (let e : i + suc k ≡ i + 1 + k = omega arith in e)))
 
-pub mapped_same : {Y : Type 0} (f : Node → Y) (xs ys : List Node) → length xs ≡ length ys → ((k : ℕ) → k < length xs → f (node_at xs k) ≡ f (node_at ys k)) → map f xs ≡ map f ys
+pub mapped_same : {Y : Type 0} (f : Node → Y) (xs ys : List Node) → length xs ≡ length ys
+    → ((k : ℕ) → k < length xs → f (node_at xs k) ≡ f (node_at ys k)) → map f xs ≡ map f ys
 mapped_same f [] [] len same = refl
 mapped_same f [] (y ∷ ys) len same = absurd (omega arith)
 mapped_same f (x ∷ xs) [] len same = absurd (omega arith)
 mapped_same f (x ∷ xs) (y ∷ ys) len same =
-    ap (λ z. z ∷ map f xs) (same 0 (omega arith)) ∙ ap (λ l. f y ∷ l) (mapped_same f xs ys (omega arith) (λ k lt. same (suc k) (omega arith)))
+    ap (λ z. z ∷ map f xs) (same 0 (omega arith)) ∙ ap (λ l. f y ∷ l)
+    (mapped_same f xs ys (omega arith) (λ k lt. same (suc k) (omega arith)))
 
 -- requests of spans by those of positions of the ring
 pub spans_same : (n : ℕ) (f g : ℕ → Side → Code) → ((p : ℕ) (d : Side) → p < n → f p d ≡ g p d) → span_requests n f ≡ span_requests n g
@@ -79,12 +86,15 @@ spans_same n f g same = cells-same _ _ n 0 (λ s lt.
     ∙ ap (λ c. max (code_number (g s East)) (code_number c)) (same (neighbour n s East) West below)))
 
 -- the requests of needs
-pub needs_at : (ns : List Node) (p : ℕ) (d : Side) → p < length ns → request_on (get_or (map needed ns) p no_needs) d ≡ (receiving_on d (node_at ns p)).request
+pub needs_at : (ns : List Node) (p : ℕ) (d : Side) → p < length ns
+    → request_on (get_or (map needed ns) p no_needs) d ≡ (receiving_on d (node_at ns p)).request
 needs_at ns p West h = ap (λ (y : Needs). y.west) (get_or-map needed ns p nowhere no_needs h)
 needs_at ns p East h = ap (λ (y : Needs). y.east) (get_or-map needed ns p nowhere no_needs h)
 
-same_signals : (a b : Signals) → a.ids ≡ b.ids → a.states ≡ b.states → a.words ≡ b.words → a.filters ≡ b.filters → a.running ≡ b.running → a ≡ b
-same_signals a b ids states words filters running = λ i. record { ids = ids i; states = states i; words = words i; filters = filters i; running = running i }
+same_signals : (a b : Signals) → a.ids ≡ b.ids → a.states ≡ b.states → a.words ≡ b.words → a.filters ≡ b.filters → a.running ≡ b.running
+    → a ≡ b
+same_signals a b ids states words filters running =
+    λ i. record { ids = ids i; states = states i; words = words i; filters = filters i; running = running i }
 
 same_filters : (a b : Filters) → a.west ≡ b.west → a.east ≡ b.east → a ≡ b
 same_filters a b west east = λ i. record { west = west i; east = east i }
@@ -142,7 +152,8 @@ module _ (w : World) (whole : IsWhole w) where
   nothing_in false q e = refl
 
   -- what came to a node is what comes in of the words before
-  came_incoming : (p : ℕ) (d : Side) → p < length after → (receiving_on d (after_at p)).brought.last ≡ incoming coming size p (needed (after_at p)) d
+  came_incoming : (p : ℕ) (d : Side) → p < length after → (receiving_on d (after_at p)).brought.last
+      ≡ incoming coming size p (needed (after_at p)) d
   came_incoming p d h =
       let low = old_inside p h in
       let n = after_at p in
@@ -155,8 +166,11 @@ module _ (w : World) (whole : IsWhole w) where
         | inr none ↦ (let e : t ≡ 0 = omega arith in b.nothing e ∙ nothing_in fails q (opposite d) ∙ ap (In fails) (sym (none_coming e)))
         | inl some ↦ elim (cases_Bool (is_cut (condition_to w p d))) [
           | inl cut ↦ b.silent some cut ∙ sym (ap (λ f. In f coming) (fails_on_is n d ∙ is_sf r.local.defect (b.fails some cut)))
-          | inr clear ↦ b.comes some clear ∙ sym (ap (λ f. In f coming) (fails_on_is n d ∙ no_sf r.local.defect (b.works some clear)) ∙ ap (In false) (all_coming some)
-              ∙ ap (option_map (λ s. sent_on s (opposite d))) (slice_get-map sent_of w.ring.nodes q ∙ ap (option_map sent_of) (slice_get-get_or w.ring.nodes q nowhere (neighbour_inside w whole p d)))
+          | inr clear ↦ b.comes some clear ∙ sym (ap (λ f. In f coming) (fails_on_is n d ∙ no_sf r.local.defect (b.works some clear))
+              ∙ ap (In false) (all_coming some)
+              ∙ ap (option_map (λ s. sent_on s (opposite d)))
+              (slice_get-map sent_of w.ring.nodes q ∙ ap (option_map sent_of)
+              (slice_get-get_or w.ring.nodes q nowhere (neighbour_inside w whole p d)))
               ∙ ap Some (sent_on_is (node_at w.ring.nodes q) (opposite d)))
         ]
       ]
@@ -173,8 +187,10 @@ module _ (w : World) (whole : IsWhole w) where
       low : p < length w.ring.nodes
       low = old_inside p h
 
-      side : (d : Side) (on : Filters → Brought) → (receiving_on d (after_at p)).brought ≡ on (filters_of (after_at p)) → (receiving_on d (node_at w.ring.nodes p)).brought ≡ on (filters_of (node_at w.ring.nodes p))
-          → on (filters_of (after_at p)) ≡ with_brought (incoming coming size p (needed (after_at p)) d) (on (get_or before.filters p no_filters))
+      side : (d : Side) (on : Filters → Brought) → (receiving_on d (after_at p)).brought ≡ on (filters_of (after_at p))
+          → (receiving_on d (node_at w.ring.nodes p)).brought ≡ on (filters_of (node_at w.ring.nodes p))
+          → on (filters_of (after_at p)) ≡ with_brought (incoming coming size p (needed (after_at p)) d)
+          (on (get_or before.filters p no_filters))
       side d on now was =
           sym now ∙ (brings w whole p d low).earlier
           ∙ ap (λ k. with_brought k (receiving_on d (node_at w.ring.nodes p)).brought) (came_incoming p d h)
@@ -226,17 +242,22 @@ module _ (w : World) (whole : IsWhole w) where
   state_same p h =
       let low = old_inside p h in
       let here = held_at p low in
-      subst (λ (n : Node). n.state ≡ (if is_held (node_at w.ring.nodes p) then (node_at w.ring.nodes p).state else state_after (scene_in n))) (sym (nodes_after w whole.placed p low)) (state_is w.ring.moment (informed w p))
+      subst (λ (n : Node). n.state ≡ (if is_held (node_at w.ring.nodes p)
+      then (node_at w.ring.nodes p).state else state_after (scene_in n))) (sym (nodes_after w whole.placed p low))
+      (state_is w.ring.moment (informed w p))
       ∙ λ i. if here i then old_state p low i else state_after (scene_same p h i)
 
-  word_same : (p : ℕ) (d : Side) → p < length after → word_of d (after_at p) ≡ (if is_held (node_at w.ring.nodes p) then word_of d (node_at w.ring.nodes p) else word (scene_at before p (needed (after_at p))) d)
+  word_same : (p : ℕ) (d : Side) → p < length after → word_of d (after_at p)
+      ≡ (if is_held (node_at w.ring.nodes p) then word_of d (node_at w.ring.nodes p) else word (scene_at before p (needed (after_at p))) d)
   word_same p d h =
       let low = old_inside p h in
       let b = is_held (node_at w.ring.nodes p) in
-      subst (λ (n : Node). word_of d n ≡ (if b then word_of d (informed w p) else word (scene_in n) d)) (sym (nodes_after w whole.placed p low)) (word_is w.ring.moment (informed w p) d)
+      subst (λ (n : Node). word_of d n ≡ (if b then word_of d (informed w p) else word (scene_in n) d))
+      (sym (nodes_after w whole.placed p low)) (word_is w.ring.moment (informed w p) d)
       ∙ λ i. if b then (informed_out w p d i).word else word (scene_same p h i) d
 
-  by_turn : (b : Bool) (x y : Sent) → (record { west = if b then x.west else y.west; east = if b then x.east else y.east }) ≡ (if b then x else y)
+  by_turn : (b : Bool) (x y : Sent) → (record { west = if b then x.west else y.west; east = if b then x.east else y.east })
+      ≡ (if b then x else y)
   by_turn true x y = refl
   by_turn false x y = refl
 
@@ -258,8 +279,10 @@ module _ (w : World) (whole : IsWhole w) where
   unfolding signals_of
   goes_running = le-leb 1 (round w).ring.rounds (let e = one_more w in omega arith)
 
-  from_zero : {Y : Type 0} (f : Node → Y) (h : ℕ → Needs → Y) → ((p : ℕ) → p < length after → f (after_at p) ≡ h p (needed (after_at p))) → map f after ≡ map_from h 0 (map needed after)
-  from_zero f h same = mapped_from f h needed 0 after (λ p low. same p low ∙ ap (λ k. h k (needed (after_at p))) (let e : p ≡ 0 + p = omega arith in e))
+  from_zero : {Y : Type 0} (f : Node → Y) (h : ℕ → Needs → Y) → ((p : ℕ) → p < length after → f (after_at p) ≡ h p (needed (after_at p)))
+      → map f after ≡ map_from h 0 (map needed after)
+  from_zero f h same =
+      mapped_from f h needed 0 after (λ p low. same p low ∙ ap (λ k. h k (needed (after_at p))) (let e : p ≡ 0 + p = omega arith in e))
 
   pub goes_on : signals_of (round w) ≡ signal.round (needs_in (round w)) (held_in w) (signals_of w)
   unfolding signals_of needs_in signal.round
@@ -269,17 +292,26 @@ module _ (w : World) (whole : IsWhole w) where
       (from_zero filters_of (λ p x. filters_after before p x) filters_same)
       goes_running
 
-  pub request_is : (p : ℕ) (d : Side) → p < length after → (receiving_on d (after_at p)).request ≡ kept_request (receiving_on d (after_at p)).local
+  pub request_is : (p : ℕ) (d : Side) → p < length after → (receiving_on d (after_at p)).request
+      ≡ kept_request (receiving_on d (after_at p)).local
   request_is p d h = let took = took_is w whole p d (old_inside p h) in took.request ∙ ap kept_request (sym took.local)
 
   needs_sound : (p : ℕ) → p < length after → MayNeed (needed (after_at p))
   needs_sound p h =
       let c = (after_at p) in
-      subst MayNeed (λ i. record { west = sym (request_is p West h) i; east = sym (request_is p East h) i; west_fails = is_failed c.west.local.defect; east_fails = is_failed c.east.local.defect }) (may_need c.west.local c.east.local)
+      subst MayNeed (λ i. record {
+        west = sym (request_is p West h) i;
+        east = sym (request_is p East h) i;
+        west_fails = is_failed c.west.local.defect;
+        east_fails = is_failed c.east.local.defect;
+      }) (may_need c.west.local c.east.local)
 
   sourced_words : All (IsSourced w.ring.ids) before.words
   unfolding signals_of
-  sourced_words = All-map (IsSourced w.ring.ids) sent_of w.ring.nodes (λ p x h. (let is = whole.paired.sourced p h in subst (λ n. IsSourced w.ring.ids (sent_of n)) (sym (at_any w.ring.nodes p x h)) (record { west = is West; east = is East })))
+  sourced_words =
+      All-map (IsSourced w.ring.ids) sent_of w.ring.nodes (λ p x h.
+      (let is = whole.paired.sourced p h in subst (λ n. IsSourced w.ring.ids (sent_of n)) (sym (at_any w.ring.nodes p x h))
+      (record { west = is West; east = is East })))
 
   pub may_go : MayGo (needs_in (round w)) (signals_of w)
   unfolding signals_of needs_in
@@ -294,7 +326,9 @@ module _ (w : World) (whole : IsWhole w) where
   -- where no node is held, the round is one that holds none
   pub goes_free : AtEach (λ p n. is_held n ≡ false) w.ring.nodes → signals_of (round w) ≡ free_round (needs_in (round w)) (signals_of w)
   unfolding held_in
-  goes_free free = goes_on ∙ free_rounds (needs_in (round w)) (held_in w) (signals_of w) (All-map (λ b. b ≡ false) is_held w.ring.nodes (λ p x h. ap is_held (at_any w.ring.nodes p x h) ∙ free p h))
+  goes_free free =
+      goes_on ∙ free_rounds (needs_in (round w)) (held_in w) (signals_of w)
+      (All-map (λ b. b ≡ false) is_held w.ring.nodes (λ p x h. ap is_held (at_any w.ring.nodes p x h) ∙ free p h))
 
   -- ---- calm
 
@@ -305,7 +339,8 @@ module _ (w : World) (whole : IsWhole w) where
       | inr other ↦ absurd (both_ways (is_calm after) (list_all_at (λ (n : Node). n.calm) after p nowhere h other) calm)
     ]
 
-    leaves : (p : ℕ) → p < length w.ring.nodes → (1 ≤ (informed w p).rounds) × (is_held (informed w p) ≡ false) × (compared (node_after w.ring.moment (informed w p)) ≡ compared (informed w p))
+    leaves : (p : ℕ) → p < length w.ring.nodes → (1 ≤ (informed w p).rounds) × (is_held (informed w p) ≡ false)
+        × (compared (node_after w.ring.moment (informed w p)) ≡ compared (informed w p))
     leaves p h =
         let high : p < length after = omega (arith, length-after w) in
         calm_leaves w.ring.moment (informed w p) (ap (λ (n : Node). n.calm) (sym (nodes_after w whole.placed p h)) ∙ node_calm p high)
@@ -326,13 +361,18 @@ module _ (w : World) (whole : IsWhole w) where
 
     words_still : (signals_of (round w)).words ≡ before.words
     unfolding signals_of
-    words_still = mapped_same sent_of after w.ring.nodes (length-after w) (λ p h. ap (λ (c : Compared). record { west = c.west_out.word; east = c.east_out.word }) (same_there p (old_inside p h)))
+    words_still =
+        mapped_same sent_of after w.ring.nodes (length-after w)
+        (λ p h. ap (λ (c : Compared). record { west = c.west_out.word; east = c.east_out.word }) (same_there p (old_inside p h)))
 
     states_still : (signals_of (round w)).states ≡ before.states
     unfolding signals_of
-    states_still = mapped_same (λ (n : Node). n.state) after w.ring.nodes (length-after w) (λ p h. ap (λ (c : Compared). c.state) (same_there p (old_inside p h)))
+    states_still =
+        mapped_same (λ (n : Node). n.state) after w.ring.nodes (length-after w)
+        (λ p h. ap (λ (c : Compared). c.state) (same_there p (old_inside p h)))
 
-    request_still : (p : ℕ) (d : Side) → p < length w.ring.nodes → (receiving_on d (after_at p)).request ≡ (receiving_on d (node_at w.ring.nodes p)).request
+    request_still : (p : ℕ) (d : Side) → p < length w.ring.nodes
+        → (receiving_on d (after_at p)).request ≡ (receiving_on d (node_at w.ring.nodes p)).request
     request_still p West h = ap (λ (c : Compared). c.west.request) (same_there p h)
     request_still p East h = ap (λ (c : Compared). c.east.request) (same_there p h)
 
@@ -340,15 +380,24 @@ module _ (w : World) (whole : IsWhole w) where
     unfolding needs_in
     requests_still =
         let ns = w.ring.nodes in
-        let len : length (map needed after) ≡ length (map needed ns) = length-map after needed ∙ length-after w ∙ sym (length-map ns needed) in
+        let len : length (map needed after) ≡ length (map needed ns) =
+        length-map after needed ∙ length-after w ∙ sym (length-map ns needed) in
         ap (λ n. span_requests n (λ p d. request_on (get_or (map needed after) p no_needs) d)) len
-        ∙ spans_same (length (map needed ns)) (λ p d. request_on (get_or (map needed after) p no_needs) d) (λ p d. request_on (get_or (map needed ns) p no_needs) d)
+        ∙ spans_same (length (map needed ns)) (λ p d. request_on (get_or (map needed after) p no_needs) d)
+        (λ p d. request_on (get_or (map needed ns) p no_needs) d)
         (λ p d lt. (let low : p < length ns = omega (arith, length-map ns needed) in
         let high : p < length after = omega (arith, length-after w) in
         needs_at after p d high ∙ request_still p d low ∙ sym (needs_at ns p d low)))
 
     pub is_still : IsStill w
-    is_still = record { later = ran_before; free = free_there; same = same_there; words = words_still; states = states_still; requests = requests_still }
+    is_still = record {
+      later = ran_before;
+      free = free_there;
+      same = same_there;
+      words = words_still;
+      states = states_still;
+      requests = requests_still;
+    }
 
     runs : (signals_of w).running ≡ true
     unfolding signals_of
@@ -363,12 +412,14 @@ module _ (w : World) (whole : IsWhole w) where
     }
 
   -- a later round that holds no node and leaves all that is compared at each is calm
-  pub calm_where_same : 0 < t → AtEach (λ p n. is_held n ≡ false) w.ring.nodes → ((p : ℕ) → p < length w.ring.nodes → compared (after_at p) ≡ compared (node_at w.ring.nodes p)) → is_calm after ≡ true
+  pub calm_where_same : 0 < t → AtEach (λ p n. is_held n ≡ false) w.ring.nodes
+      → ((p : ℕ) → p < length w.ring.nodes → compared (after_at p) ≡ compared (node_at w.ring.nodes p)) → is_calm after ≡ true
   calm_where_same ran free same = list_all-from_AllPass (λ (n : Node). n.calm) after (λ p x h.
       (let low = old_inside p h in
       let next = nodes_after w whole.placed p low in
       ap (λ (n : Node). n.calm) (at_any after p x h ∙ next)
-      ∙ unchanged_is_calm w.ring.moment (informed w p) (let r = (whole.placed.between p low).ran in omega arith) (free p low) (ap compared (sym next) ∙ same p low)))
+      ∙ unchanged_is_calm w.ring.moment (informed w p) (let r = (whole.placed.between p low).ran in omega arith) (free p low)
+      (ap compared (sym next) ∙ same p low)))
 
 pub rounds_are_signal_rounds : RoundsAreSignalRounds
 rounds_are_signal_rounds w whole = record { may_go = may_go w whole; goes = goes_on w whole }
@@ -394,7 +445,8 @@ run_still : (w : World) (k : ℕ) → IsWhole w → IsCalm (course w) (suc k) �
 run_still w k whole calm = is_still (run k w) (whole_run w k whole) (calm_next w k calm)
 
 -- what calm rounds leave stays from a round to the m-th after it, where those are calm
-stays : {Y : Type 0} (f : World → Y) → ((v : World) → IsStill v → f (round v) ≡ f v) → (w : World) (j m : ℕ) → IsWhole w → ((i : ℕ) → j < i → i ≤ j + m → IsCalm (course w) i) → f (run (j + m) w) ≡ f (run j w)
+stays : {Y : Type 0} (f : World → Y) → ((v : World) → IsStill v → f (round v) ≡ f v) → (w : World) (j m : ℕ) → IsWhole w
+    → ((i : ℕ) → j < i → i ≤ j + m → IsCalm (course w) i) → f (run (j + m) w) ≡ f (run j w)
 stays f same w j zero whole calm = ap (λ k. f (run k w)) (let e : j + zero ≡ j = omega arith in e)
 stays f same w j (suc m) whole calm =
     let last : j + suc m ≡ suc (j + m) = omega arith in
@@ -404,19 +456,27 @@ stays f same w j (suc m) whole calm =
     ∙ same (run (j + m) w) (run_still w (j + m) whole c)
     ∙ stays f same w j m whole (λ i low high. calm i low (omega arith))
 
-pub requests_stay : (w : World) (j m : ℕ) → IsWhole w → ((i : ℕ) → j < i → i ≤ j + m → IsCalm (course w) i) → requests_in (needs_in (run (j + m) w)) ≡ requests_in (needs_in (run j w))
+pub requests_stay : (w : World) (j m : ℕ) → IsWhole w → ((i : ℕ) → j < i → i ≤ j + m → IsCalm (course w) i)
+    → requests_in (needs_in (run (j + m) w)) ≡ requests_in (needs_in (run j w))
 requests_stay w j m whole calm = stays (λ v. requests_in (needs_in v)) (λ v still. still.requests) w j m whole calm
 
-states_stay : (w : World) (j m : ℕ) → IsWhole w → ((i : ℕ) → j < i → i ≤ j + m → IsCalm (course w) i) → (signals_of (run (j + m) w)).states ≡ (signals_of (run j w)).states
+states_stay : (w : World) (j m : ℕ) → IsWhole w → ((i : ℕ) → j < i → i ≤ j + m → IsCalm (course w) i)
+    → (signals_of (run (j + m) w)).states ≡ (signals_of (run j w)).states
 states_stay w j m whole calm = stays (λ v. (signals_of v).states) (λ v still. still.states) w j m whole calm
 
 -- after the k-th round and two more, where all three are calm
-settled_after : StillRingsAreSettled → (w : World) (k : ℕ) → IsWhole w → IsCalm (course w) (suc k) → IsCalm (course w) (suc (suc k)) → IsCalm (course w) (suc (suc (suc k)))
+settled_after : StillRingsAreSettled → (w : World) (k : ℕ) → IsWhole w → IsCalm (course w) (suc k) → IsCalm (course w) (suc (suc k))
+    → IsCalm (course w) (suc (suc (suc k)))
     → (signals_of (run (suc (suc (suc k))) w)).states ≡ settled_states (requests_in (needs_in (run (suc (suc (suc k))) w)))
 settled_after law w k whole one two three =
     let at = λ (j : ℕ). run j w in
-    let goes = λ (j : ℕ) (c : IsCalm (course w) (suc j)). ap signals_of (one_run w j) ∙ goes_free (at j) (whole_run w j whole) (run_still w j whole c).free ∙ ap (λ v. free_round (needs_in v) (signals_of (at j))) (sym (one_run w j)) in
-    let none = λ (j : ℕ) (c : IsCalm (course w) (suc j)). subst (λ v. ChangesNoWord (needs_in v) (signals_of (at j))) (sym (one_run w j)) (changes_none (at j) (whole_run w j whole) (calm_next w j c)) in
+    let goes =
+    λ (j : ℕ) (c : IsCalm (course w) (suc j)). ap signals_of (one_run w j)
+    ∙ goes_free (at j) (whole_run w j whole) (run_still w j whole c).free
+    ∙ ap (λ v. free_round (needs_in v) (signals_of (at j))) (sym (one_run w j)) in
+    let none =
+    λ (j : ℕ) (c : IsCalm (course w) (suc j)). subst (λ v. ChangesNoWord (needs_in v) (signals_of (at j))) (sym (one_run w j))
+    (changes_none (at j) (whole_run w j whole) (calm_next w j c)) in
     let needs = λ (j : ℕ). needs_in (at j) in
     let first = goes k one in
     let second = goes (suc k) two ∙ ap (free_round (needs (suc (suc k)))) first in
@@ -437,7 +497,9 @@ windows_are_settled law w k j whole ends low high =
     let i : ℕ = k - 3 in
     let last : suc (suc (suc i)) ≡ k = omega arith in
     let rest : j + (k - j) ≡ k = omega arith in
-    let settled = settled_after law w i whole (ends.calm (suc i) (omega arith) (omega arith)) (ends.calm (suc (suc i)) (omega arith) (omega arith)) (ends.calm (suc (suc (suc i))) (omega arith) (omega arith)) in
+    let settled =
+    settled_after law w i whole (ends.calm (suc i) (omega arith) (omega arith)) (ends.calm (suc (suc i)) (omega arith) (omega arith))
+    (ends.calm (suc (suc (suc i))) (omega arith) (omega arith)) in
     sym (states_stay w j (k - j) whole (λ m after until. ends.calm m (omega arith) (omega arith)))
     ∙ ap (λ m. (signals_of (run m w)).states) (rest ∙ sym last)
     ∙ settled

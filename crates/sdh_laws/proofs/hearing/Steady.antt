@@ -16,7 +16,8 @@ use Rattle.sdh_settling.specs.Laws.{RingsSettle, Settles}
 use Rattle.sdh_terms.specs.declared.Condition.{Condition}
 use Rattle.sdh_terms.specs.Fibres.{fibre_to, is_cut}
 use Rattle.sdh_plant.specs.Arrivals.{carried_on}
-use Rattle.std.proofs.Common.{◌≡◌, ℕ, zero, suc, ◌+◌, ◌-◌, ◌<◌, ◌≤◌, Bool, false, List, length, Some, refl, ap, sym, subst, ◌∙◌, arith, inl, inr}
+use Rattle.std.proofs.Common.{◌≡◌, ℕ, zero, suc, ◌+◌, ◌-◌, ◌<◌, ◌≤◌, Bool, false, List, length, Some, refl, ap, sym, subst, ◌∙◌, arith, inl}
+use Rattle.std.proofs.Common.{inr}
 use Rattle.std.specs.Prelude.{nat_le, if◌then◌else◌}
 use Rattle.std.proofs.lemmas.Bool.{cases_Bool}
 use Rattle.std.proofs.lemmas.Bool.Decides.{nat_tests}
@@ -72,14 +73,16 @@ one_less : (w : World) → IsWhole w → (turns : ℕ) → AllHeldFor turns w �
 one_less w whole turns all p h =
     let low : p < length w.ring.nodes = omega (arith, length-after w) in
     let was = all p low in
-    let now : (node_at (round w).ring.nodes p).held ≡ (node_at w.ring.nodes p).held - 1 = ap (λ (n : Node). n.held) (nodes_after w whole.placed p low) ∙ turns_left w.ring.moment (informed w p) in
+    let now : (node_at (round w).ring.nodes p).held ≡ (node_at w.ring.nodes p).held - 1 =
+    ap (λ (n : Node). n.held) (nodes_after w whole.placed p low) ∙ turns_left w.ring.moment (informed w p) in
     omega arith
 
 held_after : (w : World) → IsWhole w → (turns : ℕ) → AllHeldFor turns w → (k : ℕ) → AllHeldFor (turns - k) (run k w)
 unfolding any_run.run
 held_after w whole turns all zero = subst (λ j. AllHeldFor j w) (let e : turns ≡ turns - zero = omega arith in e) all
 held_after w whole turns all (suc k) =
-    subst (λ j. AllHeldFor j (run (suc k) w)) (let e : turns - k - 1 ≡ turns - suc k = omega arith in e) (one_less (run k w) (whole_run w k whole) (turns - k) (held_after w whole turns all k))
+    subst (λ j. AllHeldFor j (run (suc k) w)) (let e : turns - k - 1 ≡ turns - suc k = omega arith in e)
+    (one_less (run k w) (whole_run w k whole) (turns - k) (held_after w whole turns all k))
 
 is_free : (n : Node) → n.held ≤ 0 → is_held n ≡ false
 is_free n none = ap (nat_le 1) (let e : n.held ≡ 0 = omega arith in e)
@@ -88,14 +91,16 @@ pub held_none : (h : ℕ) → nat_le 1 h ≡ false → h ≡ 0
 held_none h e = grind (arith, nat_tests)
 
 pub free_at : (w : World) → IsWhole w → (k : ℕ) → 100 ≤ k → AllFree (run k w)
-free_at w whole k late p h = let left = held_after w whole 100 whole.paired.held k p h in is_free (node_at (run k w).ring.nodes p) (omega arith)
+free_at w whole k late p h = let left =
+    held_after w whole 100 whole.paired.held k p h in is_free (node_at (run k w).ring.nodes p) (omega arith)
 
 -- no node that isn't held now is held later
 none_held : (w : World) → AllFree w → AllHeldFor 0 w
 none_held w free q inside = let none = held_none (node_at w.ring.nodes q).held (free q inside) in omega arith
 
 pub free_stays : (w : World) → IsWhole w → AllFree w → (k : ℕ) → AllFree (run k w)
-free_stays w whole free k p h = let left = held_after w whole 0 (none_held w free) k p h in is_free (node_at (run k w).ring.nodes p) (omega arith)
+free_stays w whole free k p h = let left =
+    held_after w whole 0 (none_held w free) k p h in is_free (node_at (run k w).ring.nodes p) (omega arith)
 
 -- nor in the next round
 pub free_next : (w : World) → IsWhole w → AllFree w → AllFree (round w)
@@ -113,10 +118,13 @@ pub none_wait : (w : World) → IsWhole w → (k : ℕ) → 68 ≤ k → AtEach 
 none_wait w whole k late p h = ticked_out k (node_at (run k w).ring.nodes p).ports late (all_ticked w whole k p h)
 
 -- and none comes where none waits
-pub none_waits_later : (w : World) → IsWhole w → AtEach (λ p n. NoneWait n.ports) w.ring.nodes → (k : ℕ) → AtEach (λ p n. NoneWait n.ports) (run k w).ring.nodes
+pub none_waits_later : (w : World) → IsWhole w → AtEach (λ p n. NoneWait n.ports) w.ring.nodes → (k : ℕ)
+    → AtEach (λ p n. NoneWait n.ports) (run k w).ring.nodes
 unfolding any_run.run
 none_waits_later w whole none zero = none
-none_waits_later w whole none (suc k) = feeds_round (λ f. waiting f.clock ≡ 0) (λ f. waiting f.clock ≡ 0) (λ f rests. (plain_tick f.clock rests).0) (run k w) (whole_run w k whole).placed (none_waits_later w whole none k)
+none_waits_later w whole none (suc k) =
+    feeds_round (λ f. waiting f.clock ≡ 0) (λ f. waiting f.clock ≡ 0) (λ f rests. (plain_tick f.clock rests).0) (run k w)
+    (whole_run w k whole).placed (none_waits_later w whole none k)
 
 -- ---- rings whose frames show what their fibres do
 
@@ -124,7 +132,8 @@ pub record IsSteady (w : World) : Type 0 where
   pub whole : IsWhole w
   pub some : 0 < w.ring.rounds
   pub keeps : Keeps w
-  pub shows : (d : Side) → AtEach (λ p n. ShowsSo w.ring.settings.rate (shown_by (condition_to w p d)) w.ring.rounds (carried_on w.fibres (fibre_to (length w.ring.ids) p d)) (receiving_on d n).section.last) w.ring.nodes
+  pub shows : (d : Side) → AtEach (λ p n. ShowsSo w.ring.settings.rate (shown_by (condition_to w p d)) w.ring.rounds
+      (carried_on w.fibres (fibre_to (length w.ring.ids) p d)) (receiving_on d n).section.last) w.ring.nodes
 
 -- from the second round on
 steady_second : (w : World) → IsWhole w → 0 < w.ring.rounds → Keeps w → IsSteady (round w)
@@ -134,7 +143,9 @@ steady_second w whole some keeps = record {
   some = omega arith;
   keeps = keeps_one w whole;
   shows = λ d p h. (let low : p < length w.ring.nodes = (let len = length-after w in omega arith) in
-      subst (λ c. ShowsSo w.ring.settings.rate (shown_by c) (w.ring.rounds + 1) (carried_on (round w).fibres (fibre_to (length w.ring.ids) p d)) (receiving_on d (node_at (round w).ring.nodes p)).section.last) (sym (condition_kept w p d))
+      subst (λ c. ShowsSo w.ring.settings.rate (shown_by c) (w.ring.rounds + 1)
+      (carried_on (round w).fibres (fibre_to (length w.ring.ids) p d)) (receiving_on d (node_at (round w).ring.nodes p)).section.last)
+      (sym (condition_kept w p d))
       (shows_later w whole p d low some (keeps (opposite d) (neighbour (length w.ring.ids) p d) (neighbour_inside w whole p d))));
 }
 
@@ -162,7 +173,8 @@ no_end defect.Sf = refl
 -- what is kept stays where the defect and the moment do
 asked_same : (now : ℕ) (d : Defect) (k : local.LocalKept) → k.defect ≡ d → k.moment ≡ now → local_after now d k ≡ k
 asked_same now d k same present =
-    let ended : (if ends k.defect d then Some now else k.ended) ≡ k.ended = ap (λ (y : Defect). if ends y d then Some now else k.ended) same ∙ ap (λ (b : Bool). if b then Some now else k.ended) (no_end d) in
+    let ended : (if ends k.defect d then Some now else k.ended) ≡ k.ended =
+    ap (λ (y : Defect). if ends y d then Some now else k.ended) same ∙ ap (λ (b : Bool). if b then Some now else k.ended) (no_end d) in
     λ i. record { wait = k.wait; command = k.command; defect = sym same i; moment = sym present i; ended = ended i }
 
 module _ (w : World) (is : IsSteady w) (p : ℕ) (d : Side) (h : p < length w.ring.nodes) where
@@ -174,14 +186,19 @@ module _ (w : World) (is : IsSteady w) (p : ℕ) (d : Side) (h : p < length w.ri
 
   defect_made : (made w is.whole p d).defect ≡ defect_on th c
   defect_made = elim (cases_Bool (is_cut c)) [
-    | inl cut ↦ defect_cut w is.whole p d is.some h cut ∙ sym (ap (λ (b : Bool). if b then defect.Sf else if nat_le th (shown_by c) then defect.Sd else defect.None) cut)
-    | inr clear ↦ defect_shown w is.whole p d h is.some clear (shown_by c) (is.shows d p h) ∙ sym (ap (λ (b : Bool). if b then defect.Sf else if nat_le th (shown_by c) then defect.Sd else defect.None) clear)
+    | inl cut ↦ defect_cut w is.whole p d is.some h cut ∙ sym
+        (ap (λ (b : Bool). if b then defect.Sf else if nat_le th (shown_by c) then defect.Sd else defect.None) cut)
+    | inr clear ↦ defect_shown w is.whole p d h is.some clear (shown_by c) (is.shows d p h)
+        ∙ sym (ap (λ (b : Bool). if b then defect.Sf else if nat_le th (shown_by c) then defect.Sd else defect.None) clear)
   ]
 
-  local_made : (receiving_on d (node_at (round w).ring.nodes p)).local ≡ local_after w.ring.moment (defect_on th c) (receiving_on d (node_at w.ring.nodes p)).local
-  local_made = (took_is w is.whole p d h).local ∙ ap (λ y. local_after w.ring.moment y (receiving_on d (node_at w.ring.nodes p)).local) defect_made
+  local_made : (receiving_on d (node_at (round w).ring.nodes p)).local
+      ≡ local_after w.ring.moment (defect_on th c) (receiving_on d (node_at w.ring.nodes p)).local
+  local_made =
+      (took_is w is.whole p d h).local ∙ ap (λ y. local_after w.ring.moment y (receiving_on d (node_at w.ring.nodes p)).local) defect_made
 
-  request_made : (receiving_on d (node_at (round w).ring.nodes p)).request ≡ kept_request (receiving_on d (node_at (round w).ring.nodes p)).local
+  request_made : (receiving_on d (node_at (round w).ring.nodes p)).request
+      ≡ kept_request (receiving_on d (node_at (round w).ring.nodes p)).local
   request_made = let took = took_is w is.whole p d h in took.request ∙ ap kept_request (sym took.local)
 
 -- after one round more it stays
@@ -203,8 +220,10 @@ module _ (w : World) (is : IsSteady w) (p : ℕ) (d : Side) (h : p < length w.ri
       let made_now = local_made w is p d h in
       local_made next steady_next p d inside
       ∙ ap (λ m. local_after m (defect_on next.ring.settings.threshold (condition_to next p d)) kept) (moment_kept w)
-      ∙ ap (λ y. local_after w.ring.moment y kept) (ap (λ s. defect_on s.threshold (condition_to next p d)) (settings_kept w) ∙ ap (defect_on w.ring.settings.threshold) (condition_kept w p d))
-      ∙ asked_same w.ring.moment (defect_on w.ring.settings.threshold (condition_to w p d)) kept (ap (λ (k : local.LocalKept). k.defect) made_now) (ap (λ (k : local.LocalKept). k.moment) made_now)
+      ∙ ap (λ y. local_after w.ring.moment y kept) (ap (λ s. defect_on s.threshold (condition_to next p d)) (settings_kept w)
+      ∙ ap (defect_on w.ring.settings.threshold) (condition_kept w p d))
+      ∙ asked_same w.ring.moment (defect_on w.ring.settings.threshold (condition_to w p d)) kept
+      (ap (λ (k : local.LocalKept). k.defect) made_now) (ap (λ (k : local.LocalKept). k.moment) made_now)
 
   request_stays : (receiving_on d (node_at (round next).ring.nodes p)).request ≡ (receiving_on d (node_at next.ring.nodes p)).request
   request_stays = request_made next steady_next p d inside ∙ ap kept_request local_stays ∙ sym (request_made w is p d h)
@@ -219,7 +238,8 @@ unfolding needs_in
 needs_stay w is = mapped_same needed (round (round w)).ring.nodes (round w).ring.nodes (length-after (round w)) (λ p h.
     (let low : p < length w.ring.nodes = omega (arith, length-after w, length-after (round w)) in
     same_needs _ _ (request_stays w is p West low) (request_stays w is p East low)
-    (ap (λ (k : local.LocalKept). is_failed k.defect) (local_stays w is p West low)) (ap (λ (k : local.LocalKept). is_failed k.defect) (local_stays w is p East low))))
+    (ap (λ (k : local.LocalKept). is_failed k.defect) (local_stays w is p West low))
+    (ap (λ (k : local.LocalKept). is_failed k.defect) (local_stays w is p East low))))
 
 -- ---- runs
 
@@ -236,7 +256,8 @@ module _ (w : World) (whole : IsWhole w) (f : ℕ) (free : (k : ℕ) → f ≤ k
     where
       two : after (f + 2 + zero) ≡ round (round (after f))
       two = step_at (f + 2 + zero) (suc f) (omega arith) ∙ ap round (step_at (suc f) f refl)
-  steady_at (suc k) = subst IsSteady (sym (step_at (f + 2 + suc k) (f + 2 + k) (omega arith))) (steady_more (after (f + 2 + k)) (steady_at k))
+  steady_at (suc k) =
+      subst IsSteady (sym (step_at (f + 2 + suc k) (f + 2 + k) (omega arith))) (steady_more (after (f + 2 + k)) (steady_at k))
 
   needs_from : (k : ℕ) → f + 3 ≤ k → needs_in (after (suc k)) ≡ needs_in (after k)
   needs_from k late =
@@ -249,7 +270,9 @@ module _ (w : World) (whole : IsWhole w) (f : ℕ) (free : (k : ℕ) → f ≤ k
 
   needs_at : (j : ℕ) → needs_in (after (f + 3 + j)) ≡ needs
   needs_at zero = ap (λ k. needs_in (after k)) (let e : f + 3 + zero ≡ f + 3 = omega arith in e)
-  needs_at (suc j) = ap (λ k. needs_in (after k)) (let e : f + 3 + suc j ≡ suc (f + 3 + j) = omega arith in e) ∙ needs_from (f + 3 + j) (omega arith) ∙ needs_at j
+  needs_at (suc j) =
+      ap (λ k. needs_in (after k)) (let e : f + 3 + suc j ≡ suc (f + 3 + j) = omega arith in e) ∙ needs_from (f + 3 + j) (omega arith)
+      ∙ needs_at j
 
   abbrev begin : Signals
   begin = signals_of (after (f + 2))
@@ -270,7 +293,9 @@ module _ (w : World) (whole : IsWhole w) (f : ℕ) (free : (k : ℕ) → f ≤ k
   begin_ids = (left_run (f + 2) w).ids
 
   settles : RingsSettle → Settles needs begin
-  settles law = law needs begin (subst (λ v. signal.MayGo (needs_in v) begin) (sym (step_at (f + 3) (f + 2) (omega arith))) (may_go (after (f + 2)) (whole_run w (f + 2) whole)))
+  settles law =
+      law needs begin (subst (λ v. signal.MayGo (needs_in v) begin) (sym (step_at (f + 3) (f + 2) (omega arith)))
+      (may_go (after (f + 2)) (whole_run w (f + 2) whole)))
 
   pub still_from : RingsSettle → StillFrom w f
   still_from law = record {

@@ -22,17 +22,20 @@ use Rattle.sdh_spans.specs.Frames.{shown_by}
 use Rattle.sdh_laws.specs.Hearing.Laws.{IsWhole}
 use Rattle.sdh_laws.proofs.hearing.OneNode.{frame_on, frame_is, sending_after, node_sends}
 use Rattle.sdh_laws.proofs.hearing.Nodes.{informed, informed_out, nodes_after}
-use Rattle.sdh_laws.proofs.hearing.Rounds.{same_line, neighbour_inside, sent_to, inlet_at, made, nothing_found, side_finds, defect_clear, took_is, sends_at, carried_after}
+use Rattle.sdh_laws.proofs.hearing.Rounds.{same_line, neighbour_inside, sent_to, inlet_at, made, nothing_found, side_finds, defect_clear}
+use Rattle.sdh_laws.proofs.hearing.Rounds.{took_is, sends_at, carried_after}
 use Rattle.sdh_world.specs.Held.{node_at}
 use Rattle.sdh_world.specs.Sides.{condition_to}
 
 -- the sending section keeps the parities of the frame on its fibre
 abbrev pub KeepsParities : Rate → ℕ → Arrival → Option Parities → Type 0
-KeepsParities rate rounds a last = (line : List ℕ) → 0 < rounds → a ≡ Some line → last ≡ Some (parities_of (n_of rate) (scrambled (9 * n_of rate) line) line)
+KeepsParities rate rounds a last =
+    (line : List ℕ) → 0 < rounds → a ≡ Some line → last ≡ Some (parities_of (n_of rate) (scrambled (9 * n_of rate) line) line)
 
 -- the frame on a fibre shows so many violations to a section that receives
 abbrev pub ShowsSo : Rate → ℕ → ℕ → Arrival → Option Parities → Type 0
-ShowsSo rate shown rounds a last = (line : List ℕ) → 0 < rounds → a ≡ Some line → b2_violations (n_of rate) last (scrambled (9 * n_of rate) line) ≡ shown
+ShowsSo rate shown rounds a last =
+    (line : List ℕ) → 0 < rounds → a ≡ Some line → b2_violations (n_of rate) last (scrambled (9 * n_of rate) line) ≡ shown
 
 module _ (w : World) (whole : IsWhole w) (p : ℕ) (d : Side) (h : p < length w.ring.nodes) where
   abbrev s : Settings
@@ -61,11 +64,13 @@ module _ (w : World) (whole : IsWhole w) (p : ℕ) (d : Side) (h : p < length w.
   r = receiving_on d (node_at w.ring.nodes p)
 
   -- the defect on a fibre that isn't cut, by what the frame on it shows
-  pub defect_shown : (some : 0 < t) → is_cut c ≡ false → (shown : ℕ) → ShowsSo rate shown t (carried_on w.fibres (fibre q (opposite d))) r.section.last
+  pub defect_shown : (some : 0 < t) → is_cut c ≡ false → (shown : ℕ)
+      → ShowsSo rate shown t (carried_on w.fibres (fibre q (opposite d))) r.section.last
       → (made w whole p d).defect ≡ (if nat_le s.threshold shown then defect.Sd else defect.None)
   defect_shown some clear shown shows =
       let sent = sent_to w whole p d some in
-      defect_clear w whole p d some h clear ∙ ap (λ b. if nat_le s.threshold b then defect.Sd else defect.None) (shows sent.line some sent.there)
+      defect_clear w whole p d some h clear ∙ ap (λ b. if nat_le s.threshold b then defect.Sd else defect.None)
+      (shows sent.line some sent.there)
 
   -- ---- after the round
 
@@ -88,11 +93,13 @@ module _ (w : World) (whole : IsWhole w) (p : ℕ) (d : Side) (h : p < length w.
       ∙ (node_sends rate w.ring.moment sender (opposite d) (sends_at w whole q (opposite d) beside)).b2
       ∙ ap (λ y. (placed_after n y.section.last).b2) (informed_out w q (opposite d))
 
-  violated : b2_violations n after.section.last (scrambled (9 * n) sent) ≡ b2_violations n (after_taking s.threshold (inlet_at w whole p d)).section.last (scrambled (9 * n) sent)
+  violated : b2_violations n after.section.last (scrambled (9 * n) sent)
+      ≡ b2_violations n (after_taking s.threshold (inlet_at w whole p d)).section.last (scrambled (9 * n) sent)
   violated = ap (λ (i : Inlet). b2_violations n i.section.last (scrambled (9 * n) sent)) (took_is w whole p d h).inlet
 
   -- where the side that sends kept the parities of the frame before
-  violated_later : (some : 0 < t) → KeepsParities rate t (carried_on w.fibres (fibre q (opposite d))) (sending_on (opposite d) (node_at w.ring.nodes q)).section.last
+  violated_later : (some : 0 < t) → KeepsParities rate t (carried_on w.fibres (fibre q (opposite d)))
+      (sending_on (opposite d) (node_at w.ring.nodes q)).section.last
       → b2_violations n after.section.last (scrambled (9 * n) sent) ≡ shown_by c
   unfolding parities_of
   violated_later some kept =
@@ -105,13 +112,15 @@ module _ (w : World) (whole : IsWhole w) (p : ℕ) (d : Side) (h : p < length w.
       ap (λ y. b2_violations n after.section.last (scrambled (9 * n) y)) (sym (same_line sent l _ sent_is there))
       ∙ violated ∙ ap (λ k. b2_violations n k (scrambled (9 * n) sent)) (nothing_found w whole p d z).last
 
-  pub shows_later : 0 < t → KeepsParities rate t (carried_on w.fibres (fibre q (opposite d))) (sending_on (opposite d) (node_at w.ring.nodes q)).section.last
+  pub shows_later : 0 < t → KeepsParities rate t (carried_on w.fibres (fibre q (opposite d)))
+      (sending_on (opposite d) (node_at w.ring.nodes q)).section.last
       → ShowsSo rate (shown_by c) (t + 1) (carried_on (round w).fibres (fibre q (opposite d))) after.section.last
   shows_later some kept l more there =
       ap (λ y. b2_violations n after.section.last (scrambled (9 * n) y)) (sym (same_line sent l _ sent_is there)) ∙ violated_later some kept
 
   -- what the side that sends keeps
-  pub keeps_after : KeepsParities rate (t + 1) (carried_on (round w).fibres (fibre p d)) (sending_on d (node_at (round w).ring.nodes p)).section.last
+  pub keeps_after : KeepsParities rate (t + 1) (carried_on (round w).fibres (fibre p d))
+      (sending_on d (node_at (round w).ring.nodes p)).section.last
   keeps_after l more there =
       let mine = frame_on d w.ring.moment (informed w p) in
       ap (λ m. (sending_on d m).section.last) (nodes_after w whole.placed p h)

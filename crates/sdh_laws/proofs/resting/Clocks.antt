@@ -1,5 +1,6 @@
 -- The clock of a port, by its name and position, and what the port adds.
-use Rattle.std.proofs.Common.{◌≡◌, ℕ, zero, suc, ◌+◌, ◌-◌, ◌<◌, ◌≤◌, Bool, true, false, nat_le, List, [], ◌∷◌, length, map, Option, Some, None, refl, ap, sym, ◌∙◌, subst, arith}
+use Rattle.std.proofs.Common.{◌≡◌, ℕ, zero, suc, ◌+◌, ◌-◌, ◌<◌, ◌≤◌, Bool, true, false, nat_le, List, [], ◌∷◌, length, map, Option, Some}
+use Rattle.std.proofs.Common.{None, refl, ap, sym, ◌∙◌, subst, arith}
 use Rattle.std.specs.Prelude.{if◌then◌else◌, ◌==◌, All, option_map}
 use Rattle.std.specs.Option.{option_map_or}
 use Rattle.std.proofs.lemmas.Bool.Decides.{nat_tests}
@@ -44,7 +45,8 @@ plain_after c plain = (ap (λ f. (after_form f c).rest) plain, ap (λ f. (after_
 none_waits : (c : Clock) → c.rest ≡ 0 → next_form c ≡ Plain → waiting c ≡ 0
 none_waits c may plain = go (nat_le 1 c.rest) (nat_le 1 c.ups) (nat_le 1 c.downs) refl refl refl plain
   where
-    go : (rest ups downs : Bool) → nat_le 1 c.rest ≡ rest → nat_le 1 c.ups ≡ ups → nat_le 1 c.downs ≡ downs → (if rest then Plain else if ups then Short else if downs then Long else Plain) ≡ Plain → waiting c ≡ 0
+    go : (rest ups downs : Bool) → nat_le 1 c.rest ≡ rest → nat_le 1 c.ups ≡ ups → nat_le 1 c.downs ≡ downs
+        → (if rest then Plain else if ups then Short else if downs then Long else Plain) ≡ Plain → waiting c ≡ 0
     go true ups downs r u d p = let some : 1 ≤ c.rest = grind (arith, nat_tests) in absurd (omega (arith, some, may))
     go false true downs r u d p = absurd (cc)
     go false false true r u d p = absurd (cc)
@@ -81,7 +83,8 @@ form_by v q id c e = ap next_form (by_clock (port_of id (node_at v.ring.nodes q)
 abbrev AddsBy : Input → Clock → Type 0
 AddsBy i c = (i.action ≡ action_of (next_form c)) × (i.value ≡ (ticked c).value)
 
-adds : (o : Option Tributary) (c : Clock) → option_map_or (λ (t : Tributary). Some t.feed.clock) o None ≡ Some c → AddsBy (option_map_or (λ (t : Tributary). input_by (sent_in t.feed)) o no_input) c
+adds : (o : Option Tributary) (c : Clock) → option_map_or (λ (t : Tributary). Some t.feed.clock) o None ≡ Some c
+    → AddsBy (option_map_or (λ (t : Tributary). input_by (sent_in t.feed)) o no_input) c
 unfolding sent_by
 adds None c e = absurd (cc)
 adds (Some t) c e =
@@ -91,7 +94,8 @@ adds (Some t) c e =
 pub added_so : (v : World) (q m : ℕ) (id : PortId) (c : Clock) → clock_there v q id ≡ Some c → AddsBy (value_at v q m (Add id)) c
 added_so v q m id c e = adds (port_of id (node_at v.ring.nodes q).ports) c e
 
-adds_none : (o : Option Tributary) → option_map_or (λ (t : Tributary). Some t.feed.clock) o None ≡ None → option_map_or (λ (t : Tributary). input_by (sent_in t.feed)) o no_input ≡ no_input
+adds_none : (o : Option Tributary) → option_map_or (λ (t : Tributary). Some t.feed.clock) o None ≡ None
+    → option_map_or (λ (t : Tributary). input_by (sent_in t.feed)) o no_input ≡ no_input
 adds_none None e = refl
 adds_none (Some t) e = absurd (cc)
 
@@ -100,13 +104,17 @@ none_added v q m id e = adds_none (port_of id (node_at v.ring.nodes q).ports) e
 
 -- ---- its value and its rest
 
-pub clock_bounds : (w : World) → IsWhole w → All HasOffsets w.ring.circuits.circuits → (q : ℕ) (id : PortId) (c : Clock) → q < length w.ring.nodes → clock_there w q id ≡ Some c → (c.value ≤ 782) × (c.rest ≤ 4)
+pub clock_bounds : (w : World) → IsWhole w → All HasOffsets w.ring.circuits.circuits → (q : ℕ) (id : PortId) (c : Clock)
+    → q < length w.ring.nodes → clock_there w q id ≡ Some c → (c.value ≤ 782) × (c.rest ≤ 4)
 clock_bounds w whole all q id c h e = by_found (port_of id (node_at w.ring.nodes q).ports) refl e
   where
-    by_found : (o : Option Tributary) → port_of id (node_at w.ring.nodes q).ports ≡ o → option_map_or (λ (t : Tributary). Some t.feed.clock) o None ≡ Some c → (c.value ≤ 782) × (c.rest ≤ 4)
+    by_found : (o : Option Tributary) → port_of id (node_at w.ring.nodes q).ports ≡ o
+        → option_map_or (λ (t : Tributary). Some t.feed.clock) o None ≡ Some c → (c.value ≤ 782) × (c.rest ≤ 4)
     by_found None found e = absurd (cc)
     by_found (Some t) found e =
         let same : t.feed.clock ≡ c = cc in
-        let is = (found_has (λ (t : Tributary). IsClock t.feed.port.offset w.ring.rounds t.feed.clock) id (node_at w.ring.nodes q).ports t (whole.placed.between q h).gone found).0 in
+        let is =
+        (found_has (λ (t : Tributary). IsClock t.feed.port.offset w.ring.rounds t.feed.clock) id (node_at w.ring.nodes q).ports t
+        (whole.placed.between q h).gone found).0 in
         let small = (found_has HasSmall id (node_at w.ring.nodes q).ports t (ports_small w whole all q h) found).0 in
         subst (λ (k : Clock). (k.value ≤ 782) × (k.rest ≤ 4)) same (is.value_small small, is.rest_few)

@@ -1,5 +1,6 @@
 -- Interpreters and generators that calm rounds don't move.
-use Rattle.std.proofs.Common.{◌≡◌, ℕ, zero, suc, ◌+◌, ◌≤◌, Bool, true, false, Option, Some, None, refl, ap, ap₂, sym, ◌∙◌, subst, arith, inl, inr, ◌⊎◌}
+use Rattle.std.proofs.Common.{◌≡◌, ℕ, zero, suc, ◌+◌, ◌≤◌, Bool, true, false, Option, Some, None, refl, ap, ap₂, sym, ◌∙◌, subst, arith}
+use Rattle.std.proofs.Common.{inl, inr, ◌⊎◌}
 use Rattle.std.specs.Prelude.{nat_le, not, if◌then◌else◌}
 use Rattle.sdh_pointer.specs.declared.reading.Reading.{Reading}
 use Rattle.sdh_pointer.specs.declared.reading.Mode.TheVariants as mode
@@ -9,7 +10,8 @@ use Rattle.sdh_pointer.specs.declared.reading.Action.{Action}
 use Rattle.sdh_pointer.specs.declared.reading.Action.TheVariants as action
 use Rattle.sdh_pointer.specs.declared.word.Form.TheVariants as form
 use Rattle.sdh_pointer.specs.Words.{is_normal, value_in, word_of}
-use Rattle.sdh_pointer.specs.Reading.{Interpreter, is_norm, event_of, after_in, action_in, after_word, action_on, row_of, reading_table, settled, with_bad, later}
+use Rattle.sdh_pointer.specs.Reading.{Interpreter, is_norm, event_of, after_in, action_in, after_word, action_on, row_of, reading_table}
+use Rattle.sdh_pointer.specs.Reading.{settled, with_bad, later}
 use Rattle.sdh_pointer.specs.Laws.{is_ais_action}
 use Rattle.sdh_pointer.specs.Sending.{word_sent, next_sending}
 use Rattle.sdh_pointer.proofs.Bounds.{answer_tells_mode}
@@ -74,17 +76,22 @@ not_norm : (b : Bool) → true ≡ not b → b ≡ false
 not_norm true e = cc
 not_norm false e = refl
 
-norm_bad : (r : Reading) → after_in mode.Norm event.Bad r ≡ (if nat_le 8 (r.bad + 1) then settled mode.Lop r.value 0 else with_bad r (later r.since))
+norm_bad : (r : Reading) → after_in mode.Norm event.Bad r ≡
+    (if nat_le 8 (r.bad + 1) then settled mode.Lop r.value 0 else with_bad r (later r.since))
 unfolding after_in row_of reading_table
 norm_bad r = refl
 
 -- of all events only a word of its value doesn't move it
-kept_event : (v : ℕ) (e : Event) → after_in mode.Norm e (settled mode.Norm v 3) ≡ settled mode.Norm v 3 → action_in mode.Norm e (settled mode.Norm v 3) ≡ action.Normal
+kept_event : (v : ℕ) (e : Event) → after_in mode.Norm e (settled mode.Norm v 3) ≡ settled mode.Norm v 3
+    → action_in mode.Norm e (settled mode.Norm v 3) ≡ action.Normal
 kept_event v event.Same h = norm_same_action (settled mode.Norm v 3)
-kept_event v (event.Ndf x) h = absurd (let s : 0 ≡ 3 = ap (λ (r : Reading). r.since) (sym (norm_ndf (settled mode.Norm v 3) x) ∙ h) in omega arith)
+kept_event v (event.Ndf x) h =
+    absurd (let s : 0 ≡ 3 = ap (λ (r : Reading). r.since) (sym (norm_ndf (settled mode.Norm v 3) x) ∙ h) in omega arith)
 kept_event v event.Up h = absurd (let s : 0 ≡ 3 = ap (λ (r : Reading). r.since) (sym (norm_up (settled mode.Norm v 3)) ∙ h) in omega arith)
-kept_event v event.Down h = absurd (let s : 0 ≡ 3 = ap (λ (r : Reading). r.since) (sym (norm_down (settled mode.Norm v 3)) ∙ h) in omega arith)
-kept_event v (event.New x) h = absurd (let s : 1 ≡ 0 = ap (λ (r : Reading). r.news) (sym (norm_new (settled mode.Norm v 3) x) ∙ h) in omega arith)
+kept_event v event.Down h =
+    absurd (let s : 0 ≡ 3 = ap (λ (r : Reading). r.since) (sym (norm_down (settled mode.Norm v 3)) ∙ h) in omega arith)
+kept_event v (event.New x) h =
+    absurd (let s : 1 ≡ 0 = ap (λ (r : Reading). r.news) (sym (norm_new (settled mode.Norm v 3) x) ∙ h) in omega arith)
 kept_event v event.Ais h = absurd (let s : 1 ≡ 0 = ap (λ (r : Reading). r.ais) (sym (norm_ais (settled mode.Norm v 3)) ∙ h) in omega arith)
 kept_event v event.Bad h = absurd (let s : 1 ≡ 0 = ap (λ (r : Reading). r.bad) (sym (norm_bad (settled mode.Norm v 3)) ∙ h) in omega arith)
 
@@ -105,7 +112,8 @@ good_behind r w (inl ones) still =
     let i : Interpreter = record { reading = r; moved = false } in
     let kept : after_word r 65535 ≡ r = ap (after_word r) (sym ones) ∙ still in
     let ais = unmoved_is_ais i (kept_is_unmoved i 65535 kept) in
-    inr (not_norm (is_norm r.mode) (sym (ap is_ais_action ais) ∙ answer_tells_mode r 65535 ∙ ap (λ (x : Reading). not (is_norm x.mode)) kept))
+    inr (not_norm (is_norm r.mode) (sym (ap is_ais_action ais) ∙ answer_tells_mode r 65535
+    ∙ ap (λ (x : Reading). not (is_norm x.mode)) kept))
 good_behind r w (inr (v, small, is)) still =
     let i : Interpreter = record { reading = r; moved = false } in
     let value : value_in w ≡ v = ap value_in is ∙ normal_value v small in

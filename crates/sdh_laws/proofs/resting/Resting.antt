@@ -1,5 +1,6 @@
 -- What a quiet window leaves is at rest, and rounds leave it so.
-use Rattle.std.proofs.Common.{◌≡◌, ℕ, zero, suc, ◌+◌, ◌-◌, ◌*◌, ◌<◌, ◌≤◌, Bool, false, List, length, refl, ap, sym, ◌∙◌, subst, arith, inl, inr}
+use Rattle.std.proofs.Common.{◌≡◌, ℕ, zero, suc, ◌+◌, ◌-◌, ◌*◌, ◌<◌, ◌≤◌, Bool, false, List, length, refl, ap, sym, ◌∙◌, subst, arith, inl}
+use Rattle.std.proofs.Common.{inr}
 use Rattle.std.specs.Prelude.{true, nat_le}
 use Rattle.std.proofs.lemmas.Bool.{cases_lt}
 use Rattle.sdh_payload.specs.Clock.{Clock}
@@ -39,7 +40,8 @@ calm_goes_on law w whole form six j late = calm_later law w whole form 0 (λ i l
 
 -- ---- where all rounds from one on are calm
 
-module _ (law : StillRingsAreSettled) (w : World) (whole : IsWhole w) (form : HasCircuits (layout_of w)) (a : ℕ) (calm : (j : ℕ) → a < j → IsCalm (course w) j) where
+module _ (law : StillRingsAreSettled) (w : World) (whole : IsWhole w) (form : HasCircuits (layout_of w)) (a : ℕ)
+    (calm : (j : ℕ) → a < j → IsCalm (course w) j) where
   abbrev n : ℕ
   n = length w.ring.ids
 
@@ -57,7 +59,8 @@ module _ (law : StillRingsAreSettled) (w : World) (whole : IsWhole w) (form : Ha
   states_third : (i : ℕ) → (signals_of (run (3 + (i + a)) w)).states ≡ settled_states (requests_of (run (3 + (i + a)) w))
   states_third i =
       subst (λ v. (signals_of v).states ≡ settled_states (requests_of v)) (run_more w (i + a) 3)
-      (three_calm_rounds_are_settled law (run (i + a) w) (whole_run w (i + a) whole) (there 1 (omega arith)) (there 2 (omega arith)) (there 3 (omega arith)))
+      (three_calm_rounds_are_settled law (run (i + a) w) (whole_run w (i + a) whole) (there 1 (omega arith)) (there 2 (omega arith))
+      (there 3 (omega arith)))
     where
       there : (j : ℕ) → 1 ≤ j → IsCalm (course (run (i + a) w)) j
       there j some = ap (λ (v : World). is_calm v.ring.nodes) (run_more w (i + a) j) ∙ calm (j + (i + a)) (omega arith)
@@ -65,7 +68,9 @@ module _ (law : StillRingsAreSettled) (w : World) (whole : IsWhole w) (form : Ha
   states_back : (k : ℕ) → (signals_of (run (k + a) w)).states ≡ (signals_of (run a w)).states
   unfolding any_run.run
   states_back zero = ap (λ j. (signals_of (run j w)).states) (let e : zero + a ≡ a = omega arith in e)
-  states_back (suc k) = ap (λ j. (signals_of (run j w)).states) (let e : suc k + a ≡ suc (k + a) = omega arith in e) ∙ (still_at (k + a) (omega arith)).states ∙ states_back k
+  states_back (suc k) =
+      ap (λ j. (signals_of (run j w)).states) (let e : suc k + a ≡ suc (k + a) = omega arith in e) ∙ (still_at (k + a) (omega arith)).states
+      ∙ states_back k
 
   requests_one : (j k : ℕ) → a ≤ j → requests_of (run (j + k) w) ≡ requests_of (run j w)
   requests_one j k late = requests_stay w j k whole (λ i low high. calm i (omega arith))
@@ -74,34 +79,44 @@ module _ (law : StillRingsAreSettled) (w : World) (whole : IsWhole w) (form : Ha
   requests_at j k hj hk =
       let x : a + (j - a) ≡ j = omega arith in
       let y : a + (k - a) ≡ k = omega arith in
-      ap (λ i. requests_of (run i w)) (sym x) ∙ requests_one a (j - a) (omega arith) ∙ sym (requests_one a (k - a) (omega arith)) ∙ ap (λ i. requests_of (run i w)) y
+      ap (λ i. requests_of (run i w)) (sym x) ∙ requests_one a (j - a) (omega arith) ∙ sym (requests_one a (k - a) (omega arith))
+      ∙ ap (λ i. requests_of (run i w)) y
 
   states_at : (j k : ℕ) → a ≤ j → a ≤ k → (signals_of (run j w)).states ≡ settled_states (requests_of (run k w))
   states_at j k hj hk =
       let x : j - a + a ≡ j = omega arith in
       let y : 3 + (0 + a) ≡ 3 + a = omega arith in
-      ap (λ i. (signals_of (run i w)).states) (sym x) ∙ states_back (j - a) ∙ sym (states_back 3) ∙ ap (λ i. (signals_of (run i w)).states) (sym y) ∙ states_third 0 ∙ ap settled_states (requests_at (3 + (0 + a)) k (omega arith) hk)
+      ap (λ i. (signals_of (run i w)).states) (sym x) ∙ states_back (j - a) ∙ sym (states_back 3)
+      ∙ ap (λ i. (signals_of (run i w)).states) (sym y) ∙ states_third 0
+      ∙ ap settled_states (requests_at (3 + (0 + a)) k (omega arith) hk)
 
   failing_after : (j : ℕ) → FailOnApplied n (requests_of (run (suc j) w)) (run (suc j) w)
   unfolding any_run.run
-  failing_after j = subst (λ (l : Layout). FailOnApplied (size_of l) (requests_of (round (run j w))) (round (run j w))) (layout_run w j) (failures_applied (run j w) (whole_run w j whole))
+  failing_after j =
+      subst (λ (l : Layout). FailOnApplied (size_of l) (requests_of (round (run j w))) (round (run j w))) (layout_run w j)
+      (failures_applied (run j w) (whole_run w j whole))
 
   failing_at : (j k : ℕ) → 1 ≤ j → a ≤ j → a ≤ k → FailOnApplied n (requests_of (run k w)) (run j w)
   failing_at j k some hj hk =
       let one : suc (j - 1) ≡ j = omega arith in
-      subst (λ qs. FailOnApplied n qs (run j w)) (requests_at j k hj hk) (subst (λ i. FailOnApplied n (requests_of (run i w)) (run i w)) one (failing_after (j - 1)))
+      subst (λ qs. FailOnApplied n qs (run j w)) (requests_at j k hj hk)
+      (subst (λ i. FailOnApplied n (requests_of (run i w)) (run i w)) one (failing_after (j - 1)))
 
   quiet : (first last : ℕ) → 1 ≤ first → a < first → first ≤ last → IsQuiet n (requests_of (run last w)) w first last
   quiet first last some early long = record {
     spans = length-requests_of (run last w) n (nodes_run last);
     calm = λ j low high. calm j (omega arith);
-    settled_are = λ j low high. each_settled (run j w) n (requests_of (run last w)) (nodes_run j) (length-requests_of (run last w) n (nodes_run last)) (states_at j last (omega arith) (omega arith));
+    settled_are =
+        λ j low high. each_settled (run j w) n (requests_of (run last w)) (nodes_run j) (length-requests_of (run last w) n (nodes_run last))
+        (states_at j last (omega arith) (omega arith));
     failing = λ j low high. failing_at j last (omega arith) (omega arith) (omega arith);
   }
 
   -- each port delivers what it is owed 2n rounds later
   delivers : (last : ℕ) → a + 1 + 2 * n ≤ last → DeliversWhatIsDue (clocks_from w) (run last w) (requests_of (run last w))
-  delivers last long = quiet_delivers w whole form (requests_of (run last w)) (a + 1) last (quiet (a + 1) last (omega arith) (omega arith) (omega arith)) (omega arith) long
+  delivers last long =
+      quiet_delivers w whole form (requests_of (run last w)) (a + 1) last (quiet (a + 1) last (omega arith) (omega arith) (omega arith))
+      (omega arith) long
 
   free_there : (j : ℕ) → a ≤ j → AtEach (λ p m. m.held ≡ 0) (run j w).ring.nodes
   free_there j late p h = held_none (node_at (run j w).ring.nodes p).held ((still_at j late).free p h)
@@ -111,12 +126,14 @@ module _ (law : StillRingsAreSettled) (w : World) (whole : IsWhole w) (form : Ha
     whole = whole_run w k whole;
     free = free_there k (omega arith);
     calm = λ i some. ap (λ (v : World). is_calm v.ring.nodes) (run_more w k i) ∙ calm (i + k) (omega arith);
-    due = λ i some. subst (λ v. DeliversWhatIsDue (clocks_from w) v (requests_of v)) (sym (run_more w k i)) (delivers (i + k) (omega arith));
+    due =
+        λ i some. subst (λ v. DeliversWhatIsDue (clocks_from w) v (requests_of v)) (sym (run_more w k i)) (delivers (i + k) (omega arith));
   }
 
 -- ---- a quiet window
 
-pub window_rests : StillRingsAreSettled → (w : World) → IsWhole w → HasCircuits (layout_of w) → (k : ℕ) → EndsWindow (course w) k → IsAtRest (clocks_from w) (run k w)
+pub window_rests : StillRingsAreSettled → (w : World) → IsWhole w → HasCircuits (layout_of w) → (k : ℕ) → EndsWindow (course w) k
+    → IsAtRest (clocks_from w) (run k w)
 window_rests law w whole form k ends =
     let size = ap size_of (layout_run w k) in
     let enough = whole.placed.ids.enough in
@@ -147,7 +164,9 @@ stays clocks w rests = record {
   due = rests.due 1 (omega arith);
   rests = record {
     whole = whole_round w rests.whole;
-    free = λ p h. held_none (node_at (round w).ring.nodes p).held (free_next w rests.whole (λ q i. free_by (node_at w.ring.nodes q) (rests.free q i)) p h);
+    free =
+        λ p h. held_none (node_at (round w).ring.nodes p).held
+        (free_next w rests.whole (λ q i. free_by (node_at w.ring.nodes q) (rests.free q i)) p h);
     calm = λ k some. ap (λ (v : World). is_calm v.ring.nodes) (next_run w k) ∙ rests.calm (suc k) (omega arith);
     due = λ k some. subst (λ v. DeliversWhatIsDue clocks v (requests_of v)) (sym (next_run w k)) (rests.due (suc k) (omega arith));
   };

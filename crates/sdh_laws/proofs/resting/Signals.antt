@@ -1,5 +1,6 @@
 -- The signalling of a ring after six calm rounds: the seventh leaves needs, filters, states and words as they are.
-use Rattle.std.proofs.Common.{◌≡◌, ℕ, zero, suc, ◌+◌, ◌-◌, ◌<◌, ◌≤◌, Bool, true, false, List, length, map, get_or, Option, Some, None, refl, ap, ap₂, sym, ◌∙◌, subst, arith, inl, inr}
+use Rattle.std.proofs.Common.{◌≡◌, ℕ, zero, suc, ◌+◌, ◌-◌, ◌<◌, ◌≤◌, Bool, true, false, List, length, map, get_or, Option, Some, None, refl}
+use Rattle.std.proofs.Common.{ap, ap₂, sym, ◌∙◌, subst, arith, inl, inr}
 use Rattle.std.specs.Prelude.{◌||◌, if◌then◌else◌, nat_le}
 use Rattle.std.proofs.lemmas.Bool.{cases_Bool, cases_lt, le-leb}
 use Rattle.std.proofs.lemmas.List.{get_or-map}
@@ -42,14 +43,17 @@ words_on : (d : Side) (a b : Node) → compared a ≡ compared b → word_of d a
 words_on West a b e = ap (λ (c : Compared). c.west_out.word) e
 words_on East a b e = ap (λ (c : Compared). c.east_out.word) e
 
-same_at : {Y : Type 0} (f : Node → Y) (xs ys : List Node) (p : ℕ) → p < length xs → p < length ys → map f xs ≡ map f ys → f (node_at xs p) ≡ f (node_at ys p)
-same_at f xs ys p hx hy e = sym (get_or-map f xs p nowhere (f nowhere) hx) ∙ ap (λ l. get_or l p (f nowhere)) e ∙ get_or-map f ys p nowhere (f nowhere) hy
+same_at : {Y : Type 0} (f : Node → Y) (xs ys : List Node) (p : ℕ) → p < length xs → p < length ys → map f xs ≡ map f ys
+    → f (node_at xs p) ≡ f (node_at ys p)
+same_at f xs ys p hx hy e =
+    sym (get_or-map f xs p nowhere (f nowhere) hx) ∙ ap (λ l. get_or l p (f nowhere)) e ∙ get_or-map f ys p nowhere (f nowhere) hy
 
 -- the word behind a fibre, if it comes
 abbrev come_behind : Condition → K → Option K
 come_behind c k = if is_cut c then None else Some k
 
-came_after : (u : World) → IsWhole u → (p : ℕ) (d : Side) → p < length u.ring.nodes → 0 < u.ring.rounds → (receiving_on d (node_at (round u).ring.nodes p)).brought.last ≡ come_behind (condition_to u p d) (word_to u p d)
+came_after : (u : World) → IsWhole u → (p : ℕ) (d : Side) → p < length u.ring.nodes → 0 < u.ring.rounds
+    → (receiving_on d (node_at (round u).ring.nodes p)).brought.last ≡ come_behind (condition_to u p d) (word_to u p d)
 came_after u whole p d inside started =
     let b = brings u whole p d inside in
     elim (cases_Bool (is_cut (condition_to u p d))) [
@@ -61,8 +65,10 @@ word_by : (v : Node) (d : Side) (s : Node) → sent_of v ≡ sent_of s → word_
 word_by v West s e = ap (λ (z : Sent). z.west) e
 word_by v East s e = ap (λ (z : Sent). z.east) e
 
-same_signals : (a b : Signals) → a.ids ≡ b.ids → a.states ≡ b.states → a.words ≡ b.words → a.filters ≡ b.filters → a.running ≡ b.running → a ≡ b
-same_signals a b ids states words filters running = λ i. record { ids = ids i; states = states i; words = words i; filters = filters i; running = running i }
+same_signals : (a b : Signals) → a.ids ≡ b.ids → a.states ≡ b.states → a.words ≡ b.words → a.filters ≡ b.filters → a.running ≡ b.running
+    → a ≡ b
+same_signals a b ids states words filters running =
+    λ i. record { ids = ids i; states = states i; words = words i; filters = filters i; running = running i }
 
 same_brought : (a b : Brought) → a.last ≡ b.last → a.second ≡ b.second → a.third ≡ b.third → a ≡ b
 same_brought a b last second third = λ i. record { last = last i; second = second i; third = third i }
@@ -108,36 +114,44 @@ module _ (law : StillRingsAreSettled) (w : World) (whole : IsWhole w) (calm : (j
   steady_at : (j : ℕ) → IsSteady (run (2 + j) w)
   unfolding any_run.run
   steady_at zero = subst (λ i. IsSteady (run i w)) (let e : 2 ≡ 2 + zero = omega arith in e) steady_first
-  steady_at (suc j) = subst (λ i. IsSteady (run i w)) (let e : suc (2 + j) ≡ 2 + suc j = omega arith in e) (steady_more (run (2 + j) w) (steady_at j))
+  steady_at (suc j) =
+      subst (λ i. IsSteady (run i w)) (let e : suc (2 + j) ≡ 2 + suc j = omega arith in e) (steady_more (run (2 + j) w) (steady_at j))
 
   needs_last : needs_in (run 7 w) ≡ needs_in (run 6 w)
   unfolding any_run.run
   needs_last = needs_stay (run 5 w) (subst (λ i. IsSteady (run i w)) (let e : 2 + 3 ≡ 5 = refl in e) (steady_at 3))
 
-  pub request_stays : (p : ℕ) (d : Side) → p < length w.ring.nodes → (receiving_on d (node_at (run 7 w).ring.nodes p)).request ≡ (receiving_on d (node_at (run 6 w).ring.nodes p)).request
+  pub request_stays : (p : ℕ) (d : Side) → p < length w.ring.nodes
+      → (receiving_on d (node_at (run 7 w).ring.nodes p)).request ≡ (receiving_on d (node_at (run 6 w).ring.nodes p)).request
   unfolding needs_in
   request_stays p d h =
-      sym (needs_at (run 7 w).ring.nodes p d (inside_run 7 p h)) ∙ ap (λ (l : List Needs). request_on (get_or l p no_needs) d) needs_last ∙ needs_at (run 6 w).ring.nodes p d (inside_run 6 p h)
+      sym (needs_at (run 7 w).ring.nodes p d (inside_run 7 p h)) ∙ ap (λ (l : List Needs). request_on (get_or l p no_needs) d) needs_last
+      ∙ needs_at (run 6 w).ring.nodes p d (inside_run 6 p h)
 
   -- ---- words, and what comes of them
 
-  word_stays : (k p : ℕ) (d : Side) → k < 6 → p < length w.ring.nodes → word_of d (node_at (run (suc k) w).ring.nodes p) ≡ word_of d (node_at (run k w).ring.nodes p)
+  word_stays : (k p : ℕ) (d : Side) → k < 6 → p < length w.ring.nodes
+      → word_of d (node_at (run (suc k) w).ring.nodes p) ≡ word_of d (node_at (run k w).ring.nodes p)
   unfolding any_run.run
-  word_stays k p d low h = words_on d (node_at (round (run k w)).ring.nodes p) (node_at (run k w).ring.nodes p) ((still_at k low).same p (inside_run k p h))
+  word_stays k p d low h =
+      words_on d (node_at (round (run k w)).ring.nodes p) (node_at (run k w).ring.nodes p) ((still_at k low).same p (inside_run k p h))
 
   word_to_in : (k p : ℕ) (d : Side) → word_to (run k w) p d ≡ word_of (opposite d) (node_at (run k w).ring.nodes (neighbour n p d))
   word_to_in k p d = ap (λ ids. word_of (opposite d) (node_at (run k w).ring.nodes (neighbour (length ids) p d))) (left_run k w).ids
 
   word_to_stays : (k p : ℕ) (d : Side) → k < 6 → word_to (run (suc k) w) p d ≡ word_to (run k w) p d
-  word_to_stays k p d low = word_to_in (suc k) p d ∙ word_stays k (neighbour n p d) (opposite d) low (neighbour_inside w whole p d) ∙ sym (word_to_in k p d)
+  word_to_stays k p d low =
+      word_to_in (suc k) p d ∙ word_stays k (neighbour n p d) (opposite d) low (neighbour_inside w whole p d) ∙ sym (word_to_in k p d)
 
   abbrev kept : ℕ → ℕ → Side → Brought
   kept k p d = (receiving_on d (node_at (run k w).ring.nodes p)).brought
 
-  came_in : (k p : ℕ) (d : Side) → p < length w.ring.nodes → (kept (suc k) p d).last ≡ come_behind (condition_to w p d) (word_to (run k w) p d)
+  came_in : (k p : ℕ) (d : Side) → p < length w.ring.nodes → (kept (suc k) p d).last
+      ≡ come_behind (condition_to w p d) (word_to (run k w) p d)
   unfolding any_run.run
   came_in k p d h =
-      came_after (run k w) (whole_run w k whole) p d (inside_run k p h) (started k) ∙ ap (λ c. come_behind c (word_to (run k w) p d)) (condition_run w k p d)
+      came_after (run k w) (whole_run w k whole) p d (inside_run k p h) (started k)
+      ∙ ap (λ c. come_behind c (word_to (run k w) p d)) (condition_run w k p d)
 
   earlier_in : (k p : ℕ) (d : Side) → p < length w.ring.nodes → kept (suc k) p d ≡ with_brought (kept (suc k) p d).last (kept k p d)
   unfolding any_run.run
@@ -147,25 +161,34 @@ module _ (law : StillRingsAreSettled) (w : World) (whole : IsWhole w) (calm : (j
   last_stays : (k p : ℕ) (d : Side) → k < 6 → p < length w.ring.nodes → (kept (suc (suc k)) p d).last ≡ (kept (suc k) p d).last
   last_stays k p d low h = came_in (suc k) p d h ∙ ap (come_behind (condition_to w p d)) (word_to_stays k p d low) ∙ sym (came_in k p d h)
 
-  second_stays : (k p : ℕ) (d : Side) → k < 6 → p < length w.ring.nodes → (kept (suc (suc (suc k))) p d).second ≡ (kept (suc (suc k)) p d).second
+  second_stays : (k p : ℕ) (d : Side) → k < 6 → p < length w.ring.nodes
+      → (kept (suc (suc (suc k))) p d).second ≡ (kept (suc (suc k)) p d).second
   second_stays k p d low h =
-      ap (λ (b : Brought). b.second) (earlier_in (suc (suc k)) p d h) ∙ last_stays k p d low h ∙ sym (ap (λ (b : Brought). b.second) (earlier_in (suc k) p d h))
+      ap (λ (b : Brought). b.second) (earlier_in (suc (suc k)) p d h) ∙ last_stays k p d low h
+      ∙ sym (ap (λ (b : Brought). b.second) (earlier_in (suc k) p d h))
 
-  third_stays : (k p : ℕ) (d : Side) → k < 6 → p < length w.ring.nodes → (kept (suc (suc (suc (suc k)))) p d).third ≡ (kept (suc (suc (suc k))) p d).third
+  third_stays : (k p : ℕ) (d : Side) → k < 6 → p < length w.ring.nodes
+      → (kept (suc (suc (suc (suc k)))) p d).third ≡ (kept (suc (suc (suc k))) p d).third
   third_stays k p d low h =
-      ap (λ (b : Brought). b.third) (earlier_in (suc (suc (suc k))) p d h) ∙ second_stays k p d low h ∙ sym (ap (λ (b : Brought). b.third) (earlier_in (suc (suc k)) p d h))
+      ap (λ (b : Brought). b.third) (earlier_in (suc (suc (suc k))) p d h) ∙ second_stays k p d low h
+      ∙ sym (ap (λ (b : Brought). b.third) (earlier_in (suc (suc k)) p d h))
 
   -- what was kept after round 5 is kept after rounds 6 and 7
   kept_stays : (k p : ℕ) (d : Side) → k < 4 → p < length w.ring.nodes → kept (suc (suc (suc (suc k)))) p d ≡ kept (suc (suc (suc k))) p d
-  kept_stays k p d low h = same_brought _ _ (last_stays (suc (suc k)) p d (omega arith) h) (second_stays (suc k) p d (omega arith) h) (third_stays k p d (omega arith) h)
+  kept_stays k p d low h =
+      same_brought _ _ (last_stays (suc (suc k)) p d (omega arith) h) (second_stays (suc k) p d (omega arith) h)
+      (third_stays k p d (omega arith) h)
 
   pub heard_stays : (p : ℕ) (d : Side) → p < length w.ring.nodes → hears (kept 7 p d) ≡ hears (kept 6 p d)
   heard_stays p d h = ap hears (kept_stays 3 p d (omega arith) h)
 
   -- ---- so the ring of signals stands still
 
-  filters_same : (p : ℕ) → p < length w.ring.nodes → filters_of (node_at (run 6 w).ring.nodes p) ≡ filters_of (node_at (run 5 w).ring.nodes p)
-  filters_same p h = (let west = kept_stays 2 p West (omega arith) h in let east = kept_stays 2 p East (omega arith) h in λ i. record { west = west i; east = east i })
+  filters_same : (p : ℕ) → p < length w.ring.nodes → filters_of (node_at (run 6 w).ring.nodes p)
+      ≡ filters_of (node_at (run 5 w).ring.nodes p)
+  filters_same p h =
+      (let west = kept_stays 2 p West (omega arith) h in let east = kept_stays 2 p East
+      (omega arith) h in λ i. record { west = west i; east = east i })
 
   ids_same : (signals_of (run 6 w)).ids ≡ (signals_of (run 5 w)).ids
   unfolding signals_of
@@ -181,7 +204,9 @@ module _ (law : StillRingsAreSettled) (w : World) (whole : IsWhole w) (calm : (j
 
   all_filters_same : (signals_of (run 6 w)).filters ≡ (signals_of (run 5 w)).filters
   unfolding signals_of
-  all_filters_same = mapped_same filters_of (run 6 w).ring.nodes (run 5 w).ring.nodes (nodes_run 6 ∙ sym (nodes_run 5)) (λ p h. filters_same p (omega (arith, length_run w 6)))
+  all_filters_same =
+      mapped_same filters_of (run 6 w).ring.nodes (run 5 w).ring.nodes (nodes_run 6 ∙ sym (nodes_run 5))
+      (λ p h. filters_same p (omega (arith, length_run w 6)))
 
   running_same : (signals_of (run 6 w)).running ≡ (signals_of (run 5 w)).running
   unfolding signals_of
@@ -197,11 +222,13 @@ module _ (law : StillRingsAreSettled) (w : World) (whole : IsWhole w) (calm : (j
   signals_last : signals_of (run 7 w) ≡ signals_of (run 6 w)
   signals_last = next_signals 6 (omega arith) ∙ ap₂ free_round needs_last signals_same ∙ sym (next_signals 5 (omega arith))
 
-  pub word_last : (p : ℕ) (d : Side) → p < length w.ring.nodes → word_of d (node_at (run 7 w).ring.nodes p) ≡ word_of d (node_at (run 6 w).ring.nodes p)
+  pub word_last : (p : ℕ) (d : Side) → p < length w.ring.nodes
+      → word_of d (node_at (run 7 w).ring.nodes p) ≡ word_of d (node_at (run 6 w).ring.nodes p)
   unfolding signals_of
   word_last p d h =
       word_by (node_at (run 7 w).ring.nodes p) d (node_at (run 6 w).ring.nodes p)
-      (same_at sent_of (run 7 w).ring.nodes (run 6 w).ring.nodes p (inside_run 7 p h) (inside_run 6 p h) (ap (λ (s : Signals). s.words) signals_last))
+      (same_at sent_of (run 7 w).ring.nodes (run 6 w).ring.nodes p (inside_run 7 p h) (inside_run 6 p h)
+      (ap (λ (s : Signals). s.words) signals_last))
 
   -- ---- states
 
@@ -211,16 +238,20 @@ module _ (law : StillRingsAreSettled) (w : World) (whole : IsWhole w) (calm : (j
   states_first (suc j) h = (still_at j (omega arith)).states ∙ states_first j (omega arith)
 
   states_third : (signals_of (run 3 w)).states ≡ settled_states (requests_of (run 3 w))
-  states_third = three_calm_rounds_are_settled law w whole (calm 1 (omega arith) (omega arith)) (calm 2 (omega arith) (omega arith)) (calm 3 (omega arith) (omega arith))
+  states_third =
+      three_calm_rounds_are_settled law w whole (calm 1 (omega arith) (omega arith)) (calm 2 (omega arith) (omega arith))
+      (calm 3 (omega arith) (omega arith))
 
   states_at : (j : ℕ) → j ≤ 7 → (signals_of (run j w)).states ≡ settled_states (requests_of (run 3 w))
   states_at j h = elim (cases_lt j 7) [
     | inl low ↦ states_first j (omega arith) ∙ sym (states_first 3 (omega arith)) ∙ states_third
-    | inr high ↦ ap (λ i. (signals_of (run i w)).states) (let e : j ≡ 7 = omega arith in e) ∙ ap (λ (s : Signals). s.states) signals_last ∙ states_first 6 (omega arith) ∙ sym (states_first 3 (omega arith)) ∙ states_third
+    | inr high ↦ ap (λ i. (signals_of (run i w)).states) (let e : j ≡ 7 = omega arith in e) ∙ ap (λ (s : Signals). s.states) signals_last
+        ∙ states_first 6 (omega arith) ∙ sym (states_first 3 (omega arith)) ∙ states_third
   ]
 
   pub settled_at : (j : ℕ) → j ≤ 7 → AreSettled n (requests_of (run 3 w)) (run j w)
-  settled_at j h = each_settled (run j w) n (requests_of (run 3 w)) (nodes_run j) (length-requests_of (run 3 w) n (nodes_run 3)) (states_at j h)
+  settled_at j h =
+      each_settled (run j w) n (requests_of (run 3 w)) (nodes_run j) (length-requests_of (run 3 w) n (nodes_run 3)) (states_at j h)
 
   pub spans_are : length (requests_of (run 3 w)) ≡ n
   spans_are = length-requests_of (run 3 w) n (nodes_run 3)

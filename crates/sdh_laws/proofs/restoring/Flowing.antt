@@ -1,5 +1,6 @@
 -- What bytes and AIS do behind a span, whatever its generator and its interpreter kept.
-use Rattle.std.proofs.Common.{◌≡◌, ◌≢◌, ℕ, zero, suc, ◌+◌, ◌-◌, ◌*◌, ◌<◌, ◌≤◌, inl, inr, ◌⊎◌, Bool, true, false, List, length, get_or, Option, Some, None, refl, ap, ap₂, sym, ◌∙◌, subst, arith}
+use Rattle.std.proofs.Common.{◌≡◌, ◌≢◌, ℕ, zero, suc, ◌+◌, ◌-◌, ◌*◌, ◌<◌, ◌≤◌, inl, inr, ◌⊎◌, Bool, true, false, List, length, get_or}
+use Rattle.std.proofs.Common.{Option, Some, None, refl, ap, ap₂, sym, ◌∙◌, subst, arith}
 use Rattle.std.specs.Prelude.{not}
 use Rattle.std.proofs.lemmas.Bool.{cases_lt}
 use Rattle.sdh_terms.specs.Rates.{n_of}
@@ -80,7 +81,8 @@ ones_behind : (b : Bool) → word_behind b 65535 ≡ 65535
 ones_behind true = refl
 ones_behind false = refl
 
-module _ (w : World) (whole : IsWhole w) (p : ℕ) (d : Side) (i : ℕ) (inside : p < length w.ring.nodes) (few : i < n_of w.ring.settings.rate) where
+module _ (w : World) (whole : IsWhole w) (p : ℕ) (d : Side) (i : ℕ) (inside : p < length w.ring.nodes)
+    (few : i < n_of w.ring.settings.rate) where
   abbrev q : ℕ
   q = neighbour (length w.ring.ids) p d
 
@@ -113,7 +115,9 @@ module _ (w : World) (whole : IsWhole w) (p : ℕ) (d : Side) (i : ℕ) (inside 
   module _ (word t : ℕ) (takes : (m : ℕ) → t ≤ m → Takes w p d i m word) where
     reads_on : (n m : ℕ) → t ≤ m → after_rounds n word (reading m) ≡ reading (m + n)
     reads_on zero m h = ap reading {x = m} {y = m + zero} (omega arith)
-    reads_on (suc n) m h = ap (after_rounds n word) (sym (takes m h).reading) ∙ reads_on n (suc m) (omega arith) ∙ ap reading {x = suc m + n} {y = m + suc n} (omega arith)
+    reads_on (suc n) m h =
+        ap (after_rounds n word) (sym (takes m h).reading) ∙ reads_on n (suc m) (omega arith)
+        ∙ ap reading {x = suc m + n} {y = m + suc n} (omega arith)
 
   -- ---- bytes
 
@@ -125,7 +129,8 @@ module _ (w : World) (whole : IsWhole w) (p : ℕ) (d : Side) (i : ℕ) (inside 
     sending_rests j h =
         let m = j - 1 in
         let now : suc m ≡ j = omega arith in
-        ap (sending_in w q e i) (sym now) ∙ generator_goes w whole q e i m q_inside few ∙ next_by_action (sending_in w q e i m) (sent m).action (sent m).value
+        ap (sending_in w q e i) (sym now) ∙ generator_goes w whole q e i m q_inside few
+        ∙ next_by_action (sending_in w q e i m) (sent m).action (sent m).value
         ∙ state_of (sent m).action (sent m).value (f.taken m (omega arith)) ∙ ap Some (f.value m (omega arith))
 
     word_rests : (j : ℕ) → t + 1 ≤ j → word_in w q e i j ≡ word
@@ -135,7 +140,8 @@ module _ (w : World) (whole : IsWhole w) (p : ℕ) (d : Side) (i : ℕ) (inside 
 
     takes : (m : ℕ) → t + 2 ≤ m → Takes w p d i m word
     takes m h =
-        subst (Takes w p d i m) (ap (λ b. word_behind b (word_in w q e i (m - 1))) kept ∙ word_rests (m - 1) (omega arith)) (taking m (omega arith))
+        subst (Takes w p d i m) (ap (λ b. word_behind b (word_in w q e i (m - 1))) kept ∙ word_rests (m - 1) (omega arith))
+        (taking m (omega arith))
 
     abbrev At_of : Reading → Type 0
     At_of r = IsAt word v (normal_word v small) (normal_value v small) r
@@ -147,7 +153,8 @@ module _ (w : World) (whole : IsWhole w) (p : ℕ) (d : Side) (i : ℕ) (inside 
     at_from u late here zero = let same : u ≡ u + zero = omega arith in subst At same here
     at_from u late here (suc k) =
         let next : suc (u + k) ≡ u + suc k = omega arith in
-        subst At next (subst At_of (sym (takes (u + k) (omega arith)).reading) (keeps word v (normal_word v small) (normal_value v small) (reading (u + k)) (at_from u late here k)))
+        subst At next (subst At_of (sym (takes (u + k) (omega arith)).reading)
+        (keeps word v (normal_word v small) (normal_value v small) (reading (u + k)) (at_from u late here k)))
 
     at_later : (u : ℕ) → t + 2 ≤ u → At u → (j : ℕ) → u ≤ j → At j
     at_later u late here j h = let same : u + (j - u) ≡ j = omega arith in subst At same (at_from u late here (j - u))
@@ -155,7 +162,8 @@ module _ (w : World) (whole : IsWhole w) (p : ℕ) (d : Side) (i : ℕ) (inside 
     -- the AU-4 that comes is what its generator sent in the round before
     abbrev Steps : ℕ → World → Type 0
     Steps size u = is_cut (condition_to (round u) p d) ≡ false
-        → (received (lines_at (round u) p) d (i + 1)).au ≡ au_sent (get_or (sending_on e (node_at u.ring.nodes (neighbour size p d))).generators i None) (sent_at u (neighbour size p d) e (i + 1))
+        → (received (lines_at (round u) p) d (i + 1)).au ≡ au_sent
+        (get_or (sending_on e (node_at u.ring.nodes (neighbour size p d))).generators i None) (sent_at u (neighbour size p d) e (i + 1))
 
     step : (m : ℕ) → Steps (length (run m w).ring.ids) (run m w)
     step m = au_step (run m w) (whole_run w m whole) p d (omega (arith, length_run w m)) i (omega (arith, rate_run w m))
@@ -163,7 +171,8 @@ module _ (w : World) (whole : IsWhole w) (p : ℕ) (d : Side) (i : ℕ) (inside 
     one_payload : (m : ℕ) → t + 1 ≤ m → (comes (suc m)).au.payload ≡ bytes m
     unfolding any_run.run
     one_payload m h =
-        ap (λ (a : Au). a.payload) (subst (λ ids. Steps (length ids) (run m w)) (left_run m w).ids (step m) (ap is_cut (condition_run w (suc m) p d) ∙ kept))
+        ap (λ (a : Au). a.payload) (subst (λ ids. Steps (length ids) (run m w)) (left_run m w).ids (step m)
+        (ap is_cut (condition_run w (suc m) p d) ∙ kept))
         ∙ payload_sent (sending_in w q e i m) (sent m) (f.taken m (omega arith)) ∙ f.payload m (omega arith)
 
     payload_comes : (j : ℕ) → t + 2 ≤ j → (comes j).au.payload ≡ bytes (j - 1)
@@ -173,17 +182,22 @@ module _ (w : World) (whole : IsWhole w) (p : ℕ) (d : Side) (i : ℕ) (inside 
         ap (λ l. (comes l).au.payload) (sym now) ∙ one_payload m (omega arith)
 
     -- where the interpreter is there after round u
-    from_round : (u : ℕ) → t + 1 ≤ u → is_ais_action (comes u).action ≡ false → (comes u).value ≡ v → At (suc u) → Flows comes u v (λ j. bytes (j - 1))
+    from_round : (u : ℕ) → t + 1 ≤ u → is_ais_action (comes u).action ≡ false → (comes u).value ≡ v → At (suc u)
+        → Flows comes u v (λ j. bytes (j - 1))
     from_round u late first worth here = record {
       taken = λ j h. elim (cases_lt u j) [
-        | inl more ↦ ap is_ais_action ((takes j (omega arith)).action ∙ answers_there word v (normal_word v small) (normal_value v small) (reading j) (at_later (suc u) (omega arith) here j (omega arith)))
+        | inl more ↦ ap is_ais_action ((takes j (omega arith)).action
+            ∙ answers_there word v (normal_word v small) (normal_value v small) (reading j)
+            (at_later (suc u) (omega arith) here j (omega arith)))
         | inr less ↦ (let same : j ≡ u = omega arith in ap (λ l. is_ais_action (comes l).action) same ∙ first)
       ];
       value = λ j h. elim (cases_lt u j) [
         | inl more ↦ (takes j (omega arith)).value ∙ (at_later (suc u) (omega arith) here (suc j) (omega arith)).1
         | inr less ↦ (let same : j ≡ u = omega arith in ap (λ l. (comes l).value) same ∙ worth)
       ];
-      plain = λ j h. (takes j (omega arith)).action ∙ answers_there word v (normal_word v small) (normal_value v small) (reading j) (at_later (suc u) (omega arith) here j (omega arith));
+      plain =
+          λ j h. (takes j (omega arith)).action ∙ answers_there word v (normal_word v small) (normal_value v small) (reading j)
+          (at_later (suc u) (omega arith) here j (omega arith));
       payload = λ j h. payload_comes j (omega arith);
     }
 
@@ -191,7 +205,8 @@ module _ (w : World) (whole : IsWhole w) (p : ℕ) (d : Side) (i : ℕ) (inside 
     by_normal : (u : ℕ) → t + 2 ≤ u → At (suc u) → Flows comes u v (λ j. bytes (j - 1))
     by_normal u late here =
         from_round u (omega arith)
-        (ap is_ais_action (takes u late).action ∙ answered word v (normal_word v small) (normal_value v small) (reading u) (subst At_of (takes u late).reading here))
+        (ap is_ais_action (takes u late).action ∙ answered word v (normal_word v small) (normal_value v small) (reading u)
+        (subst At_of (takes u late).reading here))
         ((takes u late).value ∙ here.1) here
 
     -- after round m with the action New
@@ -209,9 +224,11 @@ module _ (w : World) (whole : IsWhole w) (p : ℕ) (d : Side) (i : ℕ) (inside 
         )
 
     -- four rounds later, or seven, where the first action is New
-    pub flows_on : (Flows comes (t + 4) v (λ j. bytes (j - 1))) ⊎ ((u : ℕ) × (u < t + 8) × Flows comes u v (λ j. bytes (j - 1)) × ((comes u).action ≡ action.New))
+    pub flows_on : (Flows comes (t + 4) v (λ j. bytes (j - 1)))
+        ⊎ ((u : ℕ) × (u < t + 8) × Flows comes u v (λ j. bytes (j - 1)) × ((comes u).action ≡ action.New))
     flows_on = elim (lands word v (normal_word v small) (normal_value v small) small (reading (t + 2))) [
-      | inl at ↦ inl (by_normal (t + 4) (omega arith) (subst At_of (reads_on word (t + 2) takes 3 (t + 2) (omega arith) ∙ ap reading {x = t + 2 + 3} {y = suc (t + 4)} (omega arith)) at))
+      | inl at ↦ inl (by_normal (t + 4) (omega arith) (subst At_of
+          (reads_on word (t + 2) takes 3 (t + 2) (omega arith) ∙ ap reading {x = t + 2 + 3} {y = suc (t + 4)} (omega arith)) at))
       | inr n ↦ inr (let found = new_at 6 (t + 2) (omega arith) n in (found.0, (let few = found.1 in omega arith), found.2, found.3))
     ]
 
@@ -227,28 +244,34 @@ module _ (w : World) (whole : IsWhole w) (p : ℕ) (d : Side) (i : ℕ) (inside 
       first_takes : Takes w p d i (t + 1) enabled
       first_takes =
           let before : t + 1 - 1 ≡ t = omega arith in
-          subst (Takes w p d i (t + 1)) (ap (λ b. word_behind b (word_in w q e i (t + 1 - 1))) kept ∙ ap (word_in w q e i) before ∙ first_word) (taking (t + 1) (omega arith))
+          subst (Takes w p d i (t + 1)) (ap (λ b. word_behind b (word_in w q e i (t + 1 - 1))) kept ∙ ap (word_in w q e i) before
+          ∙ first_word) (taking (t + 1) (omega arith))
 
       value_is : value_in enabled ≡ v
       value_is = enabled_value v small
 
-      at_once : (reading (t + 1)).mode ≢ mode.Lop → (u : ℕ) × (u < t + 5) × Flows comes u v (λ j. bytes (j - 1)) × ((comes u).action ≡ action.New)
+      at_once : (reading (t + 1)).mode ≢ mode.Lop → (u : ℕ) × (u < t + 5) × Flows comes u v (λ j. bytes (j - 1))
+          × ((comes u).action ≡ action.New)
       at_once other =
           let take = enabled_taken (reading (t + 1)) enabled (enabled_word v small) (omega (arith, value_is)) other in
           let after = first_takes.reading ∙ take.0 in
           let acts : (comes (t + 1)).action ≡ action.New = first_takes.action ∙ take.1 in (
             t + 1,
             omega arith,
-            from_round (t + 1) (omega arith) (ap is_ais_action acts) (first_takes.value ∙ ap (λ (r : Reading). r.value) after ∙ value_is) (ap (λ (r : Reading). r.mode) after, ap (λ (r : Reading). r.value) after ∙ value_is),
+            from_round (t + 1) (omega arith) (ap is_ais_action acts) (first_takes.value ∙ ap (λ (r : Reading). r.value) after ∙ value_is)
+                (ap (λ (r : Reading). r.mode) after, ap (λ (r : Reading). r.value) after ∙ value_is),
             acts,
           )
 
-      by_mode : (m : Mode) → (reading (t + 1)).mode ≡ m → (u : ℕ) × (u < t + 5) × Flows comes u v (λ j. bytes (j - 1)) × ((comes u).action ≡ action.New)
+      by_mode : (m : Mode) → (reading (t + 1)).mode ≡ m → (u : ℕ) × (u < t + 5) × Flows comes u v (λ j. bytes (j - 1))
+          × ((comes u).action ≡ action.New)
       by_mode mode.Lop is =
           let left = first_takes.reading ∙ enabled_left (reading (t + 1)) enabled (enabled_word v small) (omega (arith, value_is)) is in
           let now : suc (t + 1) ≡ t + 2 = omega arith in
           let out : (reading (t + 2)).mode ≡ mode.Lop = ap (λ j. (reading j).mode) (sym now) ∙ ap (λ (r : Reading). r.mode) left in
-          let found = new_at 3 (t + 2) (omega arith) (outside word v (normal_word v small) (normal_value v small) small mode.Lop (reading (t + 2)) out refl) in
+          let found =
+          new_at 3 (t + 2) (omega arith) (outside word v (normal_word v small) (normal_value v small) small mode.Lop
+          (reading (t + 2)) out refl) in
           (found.0, (let few = found.1 in omega arith), found.2, found.3)
       by_mode mode.Norm is = at_once (λ o. (let e = sym is ∙ o in cc))
       by_mode mode.Ais is = at_once (λ o. (let e = sym is ∙ o in cc))
@@ -258,10 +281,12 @@ module _ (w : World) (whole : IsWhole w) (p : ℕ) (d : Side) (i : ℕ) (inside 
 
   -- ---- behind one span more
 
-  pub flows_behind : (spans v : ℕ) (bytes : ℕ → List ℕ) → v ≤ 782 → cut ≡ false → FlowsBehind sent spans v bytes → FlowsBehind comes (spans + 1) v (λ j. bytes (j - 1))
+  pub flows_behind : (spans v : ℕ) (bytes : ℕ → List ℕ) → v ≤ 782 → cut ≡ false → FlowsBehind sent spans v bytes
+      → FlowsBehind comes (spans + 1) v (λ j. bytes (j - 1))
   flows_behind spans v bytes small kept f = by f.soon
     where
-      by : (f.first ≤ 4 * spans) ⊎ ((f.first ≤ 4 * spans + 3) × ((sent f.first).action ≡ action.New)) → FlowsBehind comes (spans + 1) v (λ j. bytes (j - 1))
+      by : (f.first ≤ 4 * spans) ⊎ ((f.first ≤ 4 * spans + 3) × ((sent f.first).action ≡ action.New))
+          → FlowsBehind comes (spans + 1) v (λ j. bytes (j - 1))
       by (inl early) = elim (flows_on f.first v bytes small kept f.flows) [
         | inl g ↦ record { first = f.first + 4; flows = g; soon = inl (omega arith) }
         | inr n ↦ (let few = n.1 in record { first = n.0; flows = n.2; soon = inr (omega arith, n.3) })
@@ -278,16 +303,19 @@ module _ (w : World) (whole : IsWhole w) (p : ℕ) (d : Side) (i : ℕ) (inside 
     silent_takes : (m : ℕ) → t + 1 ≤ m → Takes w p d i m 65535
     silent_takes m h =
         subst (Takes w p d i m)
-        (ap (word_behind cut) (ap (λ a. word_sent (sending_in w q e i (m - 1)) a (sent (m - 1)).value) (s (m - 1) (omega arith)) ∙ ones_sent (sending_in w q e i (m - 1)) (sent (m - 1)).value) ∙ ones_behind cut)
+        (ap (word_behind cut) (ap (λ a. word_sent (sending_in w q e i (m - 1)) a (sent (m - 1)).value) (s (m - 1) (omega arith))
+        ∙ ones_sent (sending_in w q e i (m - 1)) (sent (m - 1)).value) ∙ ones_behind cut)
         (taking m (omega arith))
 
     out_of_norm : (j : ℕ) → t + 4 ≤ j → is_norm (reading j).mode ≡ false
     out_of_norm j h =
         ap (λ l. is_norm (reading l).mode) {x = j} {y = t + 1 + (j - (t + 1))} (omega arith)
-        ∙ ap (λ (r : Reading). is_norm r.mode) (sym (reads_on 65535 (t + 1) silent_takes (j - (t + 1)) (t + 1) (omega arith)) ∙ ais_settles (reading (t + 1)) (j - (t + 1)) (omega arith))
+        ∙ ap (λ (r : Reading). is_norm r.mode) (sym (reads_on 65535 (t + 1) silent_takes (j - (t + 1)) (t + 1) (omega arith))
+        ∙ ais_settles (reading (t + 1)) (j - (t + 1)) (omega arith))
 
     pub silent_on : IsSilent comes (t + 3)
     silent_on j h =
         (silent_takes j (omega arith)).action
         ∙ is_ais (action_on (reading j) 65535)
-        (answer_tells_mode (reading j) 65535 ∙ ap (λ (r : Reading). not (is_norm r.mode)) (sym (silent_takes j (omega arith)).reading) ∙ ap not (out_of_norm (suc j) (omega arith)))
+        (answer_tells_mode (reading j) 65535 ∙ ap (λ (r : Reading). not (is_norm r.mode)) (sym (silent_takes j (omega arith)).reading)
+        ∙ ap not (out_of_norm (suc j) (omega arith)))

@@ -10,17 +10,20 @@ use Rattle.sdh_pointer.specs.declared.reading.Event.{Event}
 use Rattle.sdh_pointer.specs.declared.reading.Event.TheVariants as event
 use Rattle.sdh_pointer.specs.declared.reading.Action.TheVariants as action
 use Rattle.sdh_pointer.specs.Words.{is_normal, is_enabled, value_in, one_up, one_down}
-use Rattle.sdh_pointer.specs.Reading.{normal_event, is_norm, goes_up, goes_down, after_in, action_in, after_word, action_on, settled, with_new, news_with, later, row_of, reading_table}
+use Rattle.sdh_pointer.specs.Reading.{normal_event, is_norm, goes_up, goes_down, after_in, action_in, after_word, action_on, settled}
+use Rattle.sdh_pointer.specs.Reading.{with_new, news_with, later, row_of, reading_table}
 use Rattle.sdh_pointer.specs.Repeated.{after_rounds}
 use Rattle.sdh_pointer.specs.Laws.{is_ais_action}
 use Rattle.sdh_pointer.proofs.Bounds.{answer_tells_mode}
 use Rattle.sdh_pointer.proofs.Forms.{of_normal_word, of_enabled_word, new_outside, new_early, new_neither, up_event, down_event}
-use Rattle.sdh_pointer.proofs.Rows.{norm_up, norm_down, norm_new, norm_ndf, ais_new, ais_ndf, lop_new, lop_ndf, norm_ndf_action, ais_ndf_action}
+use Rattle.sdh_pointer.proofs.Rows.{norm_up, norm_down, norm_new, norm_ndf, ais_new, ais_ndf, lop_new, lop_ndf, norm_ndf_action}
+use Rattle.sdh_pointer.proofs.Rows.{ais_ndf_action}
 use Rattle.sdh_pointer.proofs.Settling.{by_event, action_by_event, in_parts, same, same_action}
 
 -- ---- the actions of new values
 
-norm_new_action : (r : Reading) (v : ℕ) → action_in mode.Norm (event.New v) r ≡ (if nat_le 3 (news_with r v) then action.New else action.Normal)
+norm_new_action : (r : Reading) (v : ℕ) → action_in mode.Norm (event.New v) r
+    ≡ (if nat_le 3 (news_with r v) then action.New else action.Normal)
 unfolding action_in row_of reading_table
 norm_new_action r v = refl
 
@@ -35,17 +38,30 @@ lop_new_action r v = refl
 -- ---- one enabled word
 
 -- out of Lop an enabled word is taken at once
-pub enabled_taken : (r : Reading) (w : ℕ) → is_enabled w ≡ true → value_in w ≤ 782 → r.mode ≢ mode.Lop → (after_word r w ≡ settled mode.Norm (value_in w) 0) × (action_on r w ≡ action.New)
+pub enabled_taken : (r : Reading) (w : ℕ) → is_enabled w ≡ true → value_in w ≤ 782 → r.mode ≢ mode.Lop
+    → (after_word r w ≡ settled mode.Norm (value_in w) 0) × (action_on r w ≡ action.New)
 enabled_taken r w enabled small other = by r.mode refl
   where
     by : (m : Mode) → r.mode ≡ m → (after_word r w ≡ settled mode.Norm (value_in w) 0) × (action_on r w ≡ action.New)
-    by mode.Norm is = (by_event r w mode.Norm (event.Ndf (value_in w)) is (of_enabled_word r w enabled small) ∙ norm_ndf r (value_in w), action_by_event r w mode.Norm (event.Ndf (value_in w)) is (of_enabled_word r w enabled small) ∙ norm_ndf_action r (value_in w))
-    by mode.Ais is = (by_event r w mode.Ais (event.Ndf (value_in w)) is (of_enabled_word r w enabled small) ∙ ais_ndf r (value_in w), action_by_event r w mode.Ais (event.Ndf (value_in w)) is (of_enabled_word r w enabled small) ∙ ais_ndf_action r (value_in w))
+    by mode.Norm is = (
+      by_event r w mode.Norm (event.Ndf (value_in w)) is (of_enabled_word r w enabled small)
+          ∙ norm_ndf r (value_in w),
+      action_by_event r w mode.Norm (event.Ndf (value_in w)) is (of_enabled_word r w enabled small)
+          ∙ norm_ndf_action r (value_in w),
+    )
+    by mode.Ais is = (
+      by_event r w mode.Ais (event.Ndf (value_in w)) is (of_enabled_word r w enabled small)
+          ∙ ais_ndf r (value_in w),
+      action_by_event r w mode.Ais (event.Ndf (value_in w)) is (of_enabled_word r w enabled small)
+          ∙ ais_ndf_action r (value_in w),
+    )
     by mode.Lop is = absurd (other is)
 
 -- in Lop it isn't
-pub enabled_left : (r : Reading) (w : ℕ) → is_enabled w ≡ true → value_in w ≤ 782 → r.mode ≡ mode.Lop → after_word r w ≡ settled mode.Lop r.value 0
-enabled_left r w enabled small is = by_event r w mode.Lop (event.Ndf (value_in w)) is (of_enabled_word r w enabled small) ∙ lop_ndf r (value_in w)
+pub enabled_left : (r : Reading) (w : ℕ) → is_enabled w ≡ true → value_in w ≤ 782 → r.mode ≡ mode.Lop
+    → after_word r w ≡ settled mode.Lop r.value 0
+enabled_left r w enabled small is =
+    by_event r w mode.Lop (event.Ndf (value_in w)) is (of_enabled_word r w enabled small) ∙ lop_ndf r (value_in w)
 
 -- ---- one normal word for ever
 
@@ -108,7 +124,12 @@ module _ (w v : ℕ) (normal : is_normal w ≡ true) (carries : value_in w ≡ v
   longer a b x y r h g (inr n) = inr (wider b y r g n)
 
   now_new : (r : Reading) (since : ℕ) → after_word r w ≡ settled mode.Norm v since → action_on r w ≡ action.New → ByNew 1 r
-  now_new r since e new = record { before = 0; few = omega arith; new = new; at = (ap (λ (x : Reading). x.mode) e, ap (λ (x : Reading). x.value) e) }
+  now_new r since e new = record {
+    before = 0;
+    few = omega arith;
+    new = new;
+    at = (ap (λ (x : Reading). x.mode) e, ap (λ (x : Reading). x.value) e);
+  }
 
   module _ (small : v ≤ 782) where
     news_more : (r : Reading) → r.candidate ≡ v → 0 < r.news → news_with r v ≡ r.news + 1
@@ -125,15 +146,19 @@ module _ (w v : ℕ) (normal : is_normal w ≡ true) (carries : value_in w ≡ v
     out_third mode.Norm r is out third = absurd (cc)
     out_third mode.Ais r is out third =
         let new = new_outside r v (ap is_norm is) small in
-        now_new r 0 (reads mode.Ais r (event.New v) is new ∙ ais_new r v ∙ (let e = le-leb _ _ third in rw e refl)) (acts mode.Ais r (event.New v) is new ∙ ais_new_action r v ∙ (let e = le-leb _ _ third in rw e refl))
+        now_new r 0 (reads mode.Ais r (event.New v) is new ∙ ais_new r v ∙ (let e = le-leb _ _ third in rw e refl))
+        (acts mode.Ais r (event.New v) is new ∙ ais_new_action r v ∙ (let e = le-leb _ _ third in rw e refl))
     out_third mode.Lop r is out third =
         let new = new_outside r v (ap is_norm is) small in
-        now_new r 0 (reads mode.Lop r (event.New v) is new ∙ lop_new r v ∙ (let e = le-leb _ _ third in rw e refl)) (acts mode.Lop r (event.New v) is new ∙ lop_new_action r v ∙ (let e = le-leb _ _ third in rw e refl))
+        now_new r 0 (reads mode.Lop r (event.New v) is new ∙ lop_new r v ∙ (let e = le-leb _ _ third in rw e refl))
+        (acts mode.Lop r (event.New v) is new ∙ lop_new_action r v ∙ (let e = le-leb _ _ third in rw e refl))
 
     out_counted : (m : Mode) (r : Reading) → r.mode ≡ m → is_norm m ≡ false → news_with r v < 3 → after_word r w ≡ with_new r v 0
     out_counted mode.Norm r is out less = absurd (cc)
-    out_counted mode.Ais r is out less = reads mode.Ais r (event.New v) is (new_outside r v (ap is_norm is) small) ∙ ais_new r v ∙ (let e = lt-leb _ _ less in rw e refl)
-    out_counted mode.Lop r is out less = reads mode.Lop r (event.New v) is (new_outside r v (ap is_norm is) small) ∙ lop_new r v ∙ (let e = lt-leb _ _ less in rw e refl)
+    out_counted mode.Ais r is out less =
+        reads mode.Ais r (event.New v) is (new_outside r v (ap is_norm is) small) ∙ ais_new r v ∙ (let e = lt-leb _ _ less in rw e refl)
+    out_counted mode.Lop r is out less =
+        reads mode.Lop r (event.New v) is (new_outside r v (ap is_norm is) small) ∙ lop_new r v ∙ (let e = lt-leb _ _ less in rw e refl)
 
     out_two : (m : Mode) (r : Reading) → r.mode ≡ m → is_norm m ≡ false → r.candidate ≡ v → 2 ≤ r.news → ByNew 1 r
     out_two m r is out at two = out_third m r is out (let more = news_more r at (omega arith) in omega arith)
@@ -150,33 +175,41 @@ module _ (w v : ℕ) (normal : is_normal w ≡ true) (carries : value_in w ≡ v
           | inl less ↦ (let next = out_counted m r is out less in
               elim (cases_lt (news_with r v) 2) [
                 | inr two ↦ wider 2 3 r (omega arith) (step_new 1 r (with_new r v 0) next (out_two m (with_new r v 0) is out refl two))
-                | inl other ↦ step_new 2 r (with_new r v 0) next (out_one m (with_new r v 0) is out refl (let some = some_news r in omega arith))
+                | inl other ↦ step_new 2 r (with_new r v 0) next
+                    (out_one m (with_new r v 0) is out refl (let some = some_news r in omega arith))
               ])
         ]
 
     -- in Norm: a new value
     in_third : (r : Reading) → r.mode ≡ mode.Norm → normal_event r v ≡ event.New v → 3 ≤ news_with r v → ByNew 1 r
     in_third r is new third =
-        now_new r (later r.since) (reads mode.Norm r (event.New v) is new ∙ norm_new r v ∙ (let e = le-leb _ _ third in rw e refl)) (acts mode.Norm r (event.New v) is new ∙ norm_new_action r v ∙ (let e = le-leb _ _ third in rw e refl))
+        now_new r (later r.since) (reads mode.Norm r (event.New v) is new ∙ norm_new r v ∙ (let e = le-leb _ _ third in rw e refl))
+        (acts mode.Norm r (event.New v) is new ∙ norm_new_action r v ∙ (let e = le-leb _ _ third in rw e refl))
 
-    in_counted : (r : Reading) → r.mode ≡ mode.Norm → normal_event r v ≡ event.New v → news_with r v < 3 → after_word r w ≡ with_new r v (later r.since)
+    in_counted : (r : Reading) → r.mode ≡ mode.Norm → normal_event r v ≡ event.New v → news_with r v < 3
+        → after_word r w ≡ with_new r v (later r.since)
     in_counted r is new less = reads mode.Norm r (event.New v) is new ∙ norm_new r v ∙ (let e = lt-leb _ _ less in rw e refl)
 
     -- a round that counts a new value of which nothing else is known
-    before_new : (b : ℕ) (r : Reading) → r.mode ≡ mode.Norm → r.value ≢ v → r.since < 3 → ((s : Reading) → s.mode ≡ mode.Norm → s.value ≢ v → s.since ≡ later r.since → s.candidate ≡ v → s.news ≡ news_with r v → ByNew b s) → ByNew (suc b) r
+    before_new : (b : ℕ) (r : Reading) → r.mode ≡ mode.Norm → r.value ≢ v → r.since < 3
+        → ((s : Reading) → s.mode ≡ mode.Norm → s.value ≢ v → s.since ≡ later r.since → s.candidate ≡ v → s.news ≡ news_with r v
+        → ByNew b s) → ByNew (suc b) r
     before_new b r norm other early next =
         let new = new_early r v norm other early small in
         elim (cases_lt (news_with r v) 3) [
           | inr third ↦ wider 1 (suc b) r (omega arith) (in_third r norm new third)
-          | inl less ↦ step_new b r (with_new r v (later r.since)) (in_counted r norm new less) (next (with_new r v (later r.since)) norm other refl refl refl)
+          | inl less ↦ step_new b r (with_new r v (later r.since)) (in_counted r norm new less)
+              (next (with_new r v (later r.since)) norm other refl refl refl)
         ]
 
-    before : (a b : ℕ) (r : Reading) → r.mode ≡ mode.Norm → r.value ≢ v → r.since < 3 → ((s : Reading) → s.mode ≡ mode.Norm → s.value ≢ v → s.since ≡ later r.since → Lands a b s) → Lands (suc a) (suc b) r
+    before : (a b : ℕ) (r : Reading) → r.mode ≡ mode.Norm → r.value ≢ v → r.since < 3
+        → ((s : Reading) → s.mode ≡ mode.Norm → s.value ≢ v → s.since ≡ later r.since → Lands a b s) → Lands (suc a) (suc b) r
     before a b r norm other early next =
         let new = new_early r v norm other early small in
         elim (cases_lt (news_with r v) 3) [
           | inr third ↦ inr (wider 1 (suc b) r (omega arith) (in_third r norm new third))
-          | inl less ↦ step a b r (with_new r v (later r.since)) (in_counted r norm new less) (next (with_new r v (later r.since)) norm other refl)
+          | inl less ↦ step a b r (with_new r v (later r.since)) (in_counted r norm new less)
+              (next (with_new r v (later r.since)) norm other refl)
         ]
 
     none_then : (r : Reading) → r.mode ≡ mode.Norm → r.value ≢ v → r.since < 3 → r.candidate ≡ v → 2 ≤ r.news → ByNew 1 r
@@ -196,13 +229,17 @@ module _ (w v : ℕ) (normal : is_normal w ≡ true) (carries : value_in w ≡ v
     taken u = elim (cases_eq u v) [ inl e ↦ inl (refl, e) | inr other ↦ inr (since_none (settled mode.Norm u 0) refl other refl) ]
 
     -- since 3, and the word justifies nothing
-    late_new : (r : Reading) → r.mode ≡ mode.Norm → r.value ≢ v → goes_up v r.value ≡ false → goes_down v r.value ≡ false → normal_event r v ≡ event.New v
+    late_new : (r : Reading) → r.mode ≡ mode.Norm → r.value ≢ v → goes_up v r.value ≡ false → goes_down v r.value ≡ false
+        → normal_event r v ≡ event.New v
     late_new r norm other up down = new_neither r v norm other up down small
 
-    late_two : (r : Reading) → r.mode ≡ mode.Norm → r.value ≢ v → goes_up v r.value ≡ false → goes_down v r.value ≡ false → r.candidate ≡ v → 2 ≤ r.news → ByNew 1 r
-    late_two r norm other up down at two = in_third r norm (late_new r norm other up down) (let more = news_more r at (omega arith) in omega arith)
+    late_two : (r : Reading) → r.mode ≡ mode.Norm → r.value ≢ v → goes_up v r.value ≡ false → goes_down v r.value ≡ false → r.candidate ≡ v
+        → 2 ≤ r.news → ByNew 1 r
+    late_two r norm other up down at two =
+        in_third r norm (late_new r norm other up down) (let more = news_more r at (omega arith) in omega arith)
 
-    late_one : (r : Reading) → r.mode ≡ mode.Norm → r.value ≢ v → goes_up v r.value ≡ false → goes_down v r.value ≡ false → r.candidate ≡ v → r.news ≡ 1 → ByNew 2 r
+    late_one : (r : Reading) → r.mode ≡ mode.Norm → r.value ≢ v → goes_up v r.value ≡ false → goes_down v r.value ≡ false → r.candidate ≡ v
+        → r.news ≡ 1 → ByNew 2 r
     late_one r norm other up down at one =
         let more = news_more r at (omega arith) in
         step_new 1 r (with_new r v (later r.since)) (in_counted r norm (late_new r norm other up down) (omega arith))
@@ -215,16 +252,20 @@ module _ (w v : ℕ) (normal : is_normal w ≡ true) (carries : value_in w ≡ v
           | inr third ↦ wider 1 3 r (omega arith) (in_third r norm new third)
           | inl less ↦ (let next = in_counted r norm new less in
               elim (cases_lt (news_with r v) 2) [
-                | inr two ↦ wider 2 3 r (omega arith) (step_new 1 r (with_new r v (later r.since)) next (late_two (with_new r v (later r.since)) norm other up down refl two))
-                | inl two ↦ step_new 2 r (with_new r v (later r.since)) next (late_one (with_new r v (later r.since)) norm other up down refl (let some = some_news r in omega arith))
+                | inr two ↦ wider 2 3 r (omega arith) (step_new 1 r (with_new r v (later r.since)) next
+                    (late_two (with_new r v (later r.since)) norm other up down refl two))
+                | inl two ↦ step_new 2 r (with_new r v (later r.since)) next
+                    (late_one (with_new r v (later r.since)) norm other up down refl (let some = some_news r in omega arith))
               ])
         ]
 
     after_up : (r : Reading) → r.mode ≡ mode.Norm → normal_event r v ≡ event.Up → Lands 1 4 r
-    after_up r norm is = step 0 3 r (settled mode.Norm (one_up r.value) 0) (reads mode.Norm r event.Up norm is ∙ norm_up r) (taken (one_up r.value))
+    after_up r norm is =
+        step 0 3 r (settled mode.Norm (one_up r.value) 0) (reads mode.Norm r event.Up norm is ∙ norm_up r) (taken (one_up r.value))
 
     after_down : (r : Reading) → r.mode ≡ mode.Norm → normal_event r v ≡ event.Down → Lands 1 4 r
-    after_down r norm is = step 0 3 r (settled mode.Norm (one_down r.value) 0) (reads mode.Norm r event.Down norm is ∙ norm_down r) (taken (one_down r.value))
+    after_down r norm is =
+        step 0 3 r (settled mode.Norm (one_down r.value) 0) (reads mode.Norm r event.Down norm is ∙ norm_down r) (taken (one_down r.value))
 
     since_three : (r : Reading) → r.mode ≡ mode.Norm → r.value ≢ v → 3 ≤ r.since → Lands 1 4 r
     since_three r norm other full =

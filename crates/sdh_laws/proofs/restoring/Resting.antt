@@ -1,5 +1,6 @@
 -- A ring in settled states, in which no slip waits and no controller misses a turn: what its ports deliver, and from which round on.
-use Rattle.std.proofs.Common.{◌≡◌, ℕ, suc, ◌+◌, ◌-◌, ◌*◌, ◌<◌, ◌≤◌, Bool, true, false, Some, List, length, refl, ap, sym, ◌∙◌, subst, arith, inl, inr}
+use Rattle.std.proofs.Common.{◌≡◌, ℕ, suc, ◌+◌, ◌-◌, ◌*◌, ◌<◌, ◌≤◌, Bool, true, false, Some, List, length, refl, ap, sym, ◌∙◌, subst, arith}
+use Rattle.std.proofs.Common.{inl, inr}
 use Rattle.std.specs.Prelude.{slice_get, if◌then◌else◌}
 use Rattle.std.proofs.lemmas.Bool.{cases_Bool}
 use Rattle.sdh_terms.specs.Rates.{n_of}
@@ -42,7 +43,8 @@ use Rattle.sdh_laws.proofs.hearing.Steady.{none_waits_later}
 use Rattle.sdh_spans.specs.Brought.{Brings, HasValue}
 use Rattle.sdh_laws.specs.Carrying.Windows.{Layout, layout_of, size_of, slots_of, HasCircuits, value_at}
 use Rattle.sdh_spans.specs.Brought.{plainly}
-use Rattle.sdh_laws.proofs.carrying.Owed.{Arrives, port_sends, port_small, port_is_there, none_here, plain_here, arrives, offset_small, slot_inside}
+use Rattle.sdh_laws.proofs.carrying.Owed.{Arrives, port_sends, port_small, port_is_there, none_here, plain_here, arrives, offset_small}
+use Rattle.sdh_laws.proofs.carrying.Owed.{slot_inside}
 use Rattle.sdh_terminal.proofs.Found.{port_id}
 use Rattle.sdh_laws.proofs.carrying.Ways.{layout_run}
 use Rattle.sdh_laws.specs.Converging.Steady.{went, came, brought}
@@ -56,7 +58,8 @@ use Rattle.sdh_rounds.specs.Runs as any_run
 
 -- ---- the same in other words
 
-flows_as : (f g : ℕ → Input) (spans v : ℕ) (x y : ℕ → List ℕ) → ((j : ℕ) → g j ≡ f j) → ((j : ℕ) → x j ≡ y j) → FlowsBehind f spans v x → FlowsBehind g spans v y
+flows_as : (f g : ℕ → Input) (spans v : ℕ) (x y : ℕ → List ℕ) → ((j : ℕ) → g j ≡ f j) → ((j : ℕ) → x j ≡ y j) → FlowsBehind f spans v x
+    → FlowsBehind g spans v y
 flows_as f g spans v x y same also is = record {
   first = is.first;
   flows = record {
@@ -73,9 +76,12 @@ silent_as f g t same is j h = ap (λ (i : Input). i.action) (same j) ∙ is j h
 
 -- no fibre is cut on a span that isn't applied
 abbrev pub AreUncut : World → List ℕ → Type 0
-AreUncut w rs = (p : ℕ) (d : Side) → p < length w.ring.ids → is_applied rs (span_at (length w.ring.ids) p d) ≡ false → is_cut (condition_to w p d) ≡ false
+AreUncut w rs =
+    (p : ℕ) (d : Side) → p < length w.ring.ids → is_applied rs (span_at (length w.ring.ids) p d) ≡ false
+    → is_cut (condition_to w p d) ≡ false
 
-module _ (w : World) (whole : IsWhole w) (form : HasCircuits (layout_of w)) (rs : List ℕ) (rest : StaysSettled w rs) (uncut : AreUncut w rs) where
+module _ (w : World) (whole : IsWhole w) (form : HasCircuits (layout_of w)) (rs : List ℕ) (rest : StaysSettled w rs)
+    (uncut : AreUncut w rs) where
   abbrev n : ℕ
   n = length w.ring.ids
 
@@ -96,20 +102,24 @@ module _ (w : World) (whole : IsWhole w) (form : HasCircuits (layout_of w)) (rs 
 
   -- ---- one span
 
-  span_flows : (p : ℕ) (d : Side) (au s v : ℕ) (bytes : ℕ → List ℕ) → p < n → 1 ≤ au → au ≤ n_of w.ring.settings.rate → v ≤ 782 → applied (span_at n p d) ≡ false
+  span_flows : (p : ℕ) (d : Side) (au s v : ℕ) (bytes : ℕ → List ℕ) → p < n → 1 ≤ au → au ≤ n_of w.ring.settings.rate → v ≤ 782
+      → applied (span_at n p d) ≡ false
       → FlowsBehind (went w (neighbour n p d) (opposite d) au) s v bytes → FlowsBehind (came w p d au) (s + 1) v (λ j. bytes (j - 1))
   span_flows p d au s v bytes h low high small free f =
       let i = au - 1 in
       let back : i + 1 ≡ au = omega arith in
       subst (λ a. FlowsBehind (came w p d a) (s + 1) v (λ j. bytes (j - 1))) back
-      (flows_behind w whole p d i (inside_of p h) (omega arith) s v bytes small (uncut p d h free) (subst (λ a. FlowsBehind (went w (neighbour n p d) (opposite d) a) s v bytes) (sym back) f))
+      (flows_behind w whole p d i (inside_of p h) (omega arith) s v bytes small (uncut p d h free)
+      (subst (λ a. FlowsBehind (went w (neighbour n p d) (opposite d) a) s v bytes) (sym back) f))
 
-  span_silent : (p : ℕ) (d : Side) (au t : ℕ) → p < n → 1 ≤ au → au ≤ n_of w.ring.settings.rate → IsSilent (went w (neighbour n p d) (opposite d) au) t → IsSilent (came w p d au) (t + 3)
+  span_silent : (p : ℕ) (d : Side) (au t : ℕ) → p < n → 1 ≤ au → au ≤ n_of w.ring.settings.rate
+      → IsSilent (went w (neighbour n p d) (opposite d) au) t → IsSilent (came w p d au) (t + 3)
   span_silent p d au t h low high s =
       let i = au - 1 in
       let back : i + 1 ≡ au = omega arith in
       subst (λ a. IsSilent (came w p d a) (t + 3)) back
-      (silent_on w whole p d i (inside_of p h) (omega arith) t (subst (λ a. IsSilent (went w (neighbour n p d) (opposite d) a) t) (sym back) s))
+      (silent_on w whole p d i (inside_of p h) (omega arith) t
+      (subst (λ a. IsSilent (went w (neighbour n p d) (opposite d) a) t) (sym back) s))
 
   module _ (m : ℕ) (low : 1 ≤ m) (high : m ≤ half) where
     went_working : (q j : ℕ) (e : Side) → q < n → went w q e m j ≡ brought w q m (working_in n cs q (settled rs q) e m) j
@@ -119,7 +129,8 @@ module _ (w : World) (whole : IsWhole w) (form : HasCircuits (layout_of w)) (rs 
     went_protection q j e h = protection_goes w whole q m j e (settled rs q) h low (rest.settled_are (suc j) (omega arith) q h)
 
     over_free : (s v : ℕ) (bytes : ℕ → List ℕ) → v ≤ 782 → (p : ℕ) (o : Origin) → p < n → IsArrival o → routes.IsFree n applied p o
-        → (let b = back_from n (settled rs) cs m p o in FlowsBehind (brought w b.at m b.origin) s v bytes → FlowsBehind (brought w p m o) (s + 1) v (λ j. bytes (j - 1)))
+        → (let b = back_from n (settled rs) cs m p o in FlowsBehind (brought w b.at m b.origin) s v bytes
+        → FlowsBehind (brought w p m o) (s + 1) v (λ j. bytes (j - 1)))
     over_free s v bytes small p Ais h arrives f c = absurd arrives
     over_free s v bytes small p (Add id) h arrives f c = absurd arrives
     over_free s v bytes small p (Working d) h arrives f c =
@@ -128,16 +139,19 @@ module _ (w : World) (whole : IsWhole w) (form : HasCircuits (layout_of w)) (rs 
         (flows_as _ (went w q (opposite d) m) s v bytes bytes (λ j. went_working q j (opposite d) (beside p d)) (λ j. refl) c)
     over_free s v bytes small p (Protection d) h arrives f c =
         let q = neighbour n p d in
-        flows_as (came w p d (half + m)) (brought w p m (Protection d)) (s + 1) v (λ j. bytes (j - 1)) (λ j. bytes (j - 1)) (λ j. protection_comes w whole p m j d h) (λ j. refl)
+        flows_as (came w p d (half + m)) (brought w p m (Protection d)) (s + 1) v (λ j. bytes (j - 1)) (λ j. bytes (j - 1))
+        (λ j. protection_comes w whole p m j d h) (λ j. refl)
         (span_flows p d (half + m) s v bytes h (omega arith) (omega (arith, two_halves w.ring.settings.rate)) small f
         (flows_as _ (went w q (opposite d) (half + m)) s v bytes bytes (λ j. went_protection q j (opposite d) (beside p d)) (λ j. refl) c))
 
-    over_silent : (t p : ℕ) (o : Origin) → p < n → IsArrival o → (let b = back_from n (settled rs) cs m p o in IsSilent (brought w b.at m b.origin) t → IsSilent (brought w p m o) (t + 3))
+    over_silent : (t p : ℕ) (o : Origin) → p < n → IsArrival o
+        → (let b = back_from n (settled rs) cs m p o in IsSilent (brought w b.at m b.origin) t → IsSilent (brought w p m o) (t + 3))
     over_silent t p Ais h arrives c = absurd arrives
     over_silent t p (Add id) h arrives c = absurd arrives
     over_silent t p (Working d) h arrives c =
         let q = neighbour n p d in
-        span_silent p d m t h low (omega (arith, two_halves w.ring.settings.rate)) (silent_as _ (went w q (opposite d) m) t (λ j. went_working q j (opposite d) (beside p d)) c)
+        span_silent p d m t h low (omega (arith, two_halves w.ring.settings.rate))
+        (silent_as _ (went w q (opposite d) m) t (λ j. went_working q j (opposite d) (beside p d)) c)
     over_silent t p (Protection d) h arrives c =
         let q = neighbour n p d in
         silent_as (came w p d (half + m)) (brought w p m (Protection d)) (t + 3) (λ j. protection_comes w whole p m j d h)
@@ -154,7 +168,8 @@ module _ (w : World) (whole : IsWhole w) (form : HasCircuits (layout_of w)) (rs 
 
     bytes_kept : (b : ℕ → List ℕ) (v last : ℕ) → v ≤ 782 → IsKeptOver n applied (settled rs) cs m (Bytes b v) 0 last
     bytes_kept b v last small t p o lt a f early late is =
-        flows_as (brought w p m o) (brought w p m o) (t + 1) v (λ j. b (j - 1 - t)) (λ j. b (j - (t + 1))) (λ j. refl) (λ j. let same : j - 1 - t ≡ j - (t + 1) = omega arith in ap b same)
+        flows_as (brought w p m o) (brought w p m o) (t + 1) v (λ j. b (j - 1 - t)) (λ j. b (j - (t + 1))) (λ j. refl)
+        (λ j. let same : j - 1 - t ≡ j - (t + 1) = omega arith in ap b same)
         (over_free t v (λ j. b (j - t)) small p o lt a f is)
 
     silence_kept : (last : ℕ) → IsKeptOver n applied (settled rs) cs m Silence 0 last
@@ -195,7 +210,8 @@ module _ (w : World) (whole : IsWhole w) (form : HasCircuits (layout_of w)) (rs 
 
     unslipped : (i : ℕ) → waiting (clock i) ≡ 0
     unslipped i =
-        none_here (run i w) (whole_run w i whole) index c far (there i) (here i) (none_waits_later w whole rest.unslipped i (port_at c far) (omega (arith, inside far, count w whole.placed, length_run w i)))
+        none_here (run i w) (whole_run w i whole) index c far (there i) (here i)
+        (none_waits_later w whole rest.unslipped i (port_at c far) (omega (arith, inside far, count w whole.placed, length_run w i)))
       where
         there : (i : ℕ) → slice_get (run i w).ring.circuits.circuits index ≡ Some c
         there i = ap (λ (l : Layout). slice_get l.circuits index) (layout_run w i) ∙ get
@@ -205,16 +221,19 @@ module _ (w : World) (whole : IsWhole w) (form : HasCircuits (layout_of w)) (rs 
 
     plain : (i : ℕ) → Brings (value_at (run i w) (port_at c far) c.slot.0 (port index far)) (plainly (customer_at c far) (clock i))
     plain i =
-        let there : slice_get (run i w).ring.circuits.circuits index ≡ Some c = ap (λ (l : Layout). slice_get l.circuits index) (layout_run w i) ∙ get in
+        let there : slice_get (run i w).ring.circuits.circuits index ≡ Some c =
+        ap (λ (l : Layout). slice_get l.circuits index) (layout_run w i) ∙ get in
         let same : length (run i w).ring.ids ≡ n = ap size_of (layout_run w i) in
         let here : port_at c far < length (run i w).ring.ids = omega (arith, inside far) in
         port_sends (run i w) (whole_run w i whole) c.slot.0 index c far there here
-        (plain_here (run i w) (whole_run w i whole) index c far there here (none_waits_later w whole rest.unslipped i (port_at c far) (omega (arith, inside far, count w whole.placed, length_run w i))))
+        (plain_here (run i w) (whole_run w i whole) index c far there here
+        (none_waits_later w whole rest.unslipped i (port_at c far) (omega (arith, inside far, count w whole.placed, length_run w i))))
 
     keeps_value : (i : ℕ) → (clock i).value ≡ v
     unfolding any_run.run
     keeps_value i =
-        ap (λ (k : Clock). k.value) (goes_run id i w (port_is_there w whole index c far get (inside far))).1 ∙ (goes_on (clock 0) i (unslipped 0)).value
+        ap (λ (k : Clock). k.value) (goes_run id i w (port_is_there w whole index c far get (inside far))).1
+        ∙ (goes_on (clock 0) i (unslipped 0)).value
 
     small : v ≤ 782
     unfolding any_run.run
@@ -233,14 +252,17 @@ module _ (w : World) (whole : IsWhole w) (form : HasCircuits (layout_of w)) (rs 
     }
 
     -- what the port delivers in round j
-    delivered_so : (j : ℕ) (b : Outlet) → HasValue b → (let x = delivery n (settled rs) cs c e in Brings (value_at (run j w) x.at c.slot.0 x.origin) b) → outlet_at (run (suc j) w).ring (port_id index e) ≡ b
+    delivered_so : (j : ℕ) (b : Outlet) → HasValue b → (let x = delivery n (settled rs) cs c e in Brings
+        (value_at (run j w) x.at c.slot.0 x.origin) b) → outlet_at (run (suc j) w).ring (port_id index e) ≡ b
     unfolding any_run.run
     delivered_so j b has is =
-        subst (λ l. Arrives l (run j w) rs b) (layout_run w j) (arrives (run j w) (whole_run w j whole) rs b) index c e get (inside e) (rest.settled_are (suc j) (omega arith)) has is
+        subst (λ l. Arrives l (run j w) rs b) (layout_run w j) (arrives (run j w) (whole_run w j whole) rs b) index c e get (inside e)
+        (rest.settled_are (suc j) (omega arith)) has is
 
     abbrev Joined : ℕ → Type 0
     Joined k = is_joined k applied (arc_of k c) ≡ true
-        → (let x = delivery k (settled rs) cs c e in Bytes c.slot.0 slot_is.from_1 slot_is.small bytes v (hops k applied (arc_of k c)) x.at x.origin)
+        → (let x = delivery k (settled rs) cs c e in Bytes c.slot.0 slot_is.from_1 slot_is.small bytes v
+        (hops k applied (arc_of k c)) x.at x.origin)
 
     abbrev Parted : ℕ → Type 0
     Parted k = is_joined k applied (arc_of k c) ≡ false
@@ -248,31 +270,41 @@ module _ (w : World) (whole : IsWhole w) (form : HasCircuits (layout_of w)) (rs 
 
     joined_so : Joined n
     joined_so = subst Joined rest.spans (λ j.
-        joined_walk rs half cs form_rs index c get e (Bytes c.slot.0 slot_is.from_1 slot_is.small bytes v) (hops (length rs) applied (arc_of (length rs) c))
-        (subst (λ k. IsKeptOver k applied (settled rs) cs c.slot.0 (Bytes c.slot.0 slot_is.from_1 slot_is.small bytes v) 0 (hops (length rs) applied (arc_of (length rs) c))) (sym rest.spans) (bytes_kept c.slot.0 slot_is.from_1 slot_is.small bytes v (hops (length rs) applied (arc_of (length rs) c)) small))
+        joined_walk rs half cs form_rs index c get e (Bytes c.slot.0 slot_is.from_1 slot_is.small bytes v)
+        (hops (length rs) applied (arc_of (length rs) c))
+        (subst (λ k. IsKeptOver k applied (settled rs) cs c.slot.0 (Bytes c.slot.0 slot_is.from_1 slot_is.small bytes v) 0
+        (hops (length rs) applied (arc_of (length rs) c))) (sym rest.spans)
+        (bytes_kept c.slot.0 slot_is.from_1 slot_is.small bytes v (hops (length rs) applied (arc_of (length rs) c)) small))
         j (omega arith) sends)
 
     parted_so : Parted n
     parted_so = subst Parted rest.spans (λ j.
         parted_walk rs half cs form_rs index c get e (Silence c.slot.0 slot_is.from_1 slot_is.small) (length rs)
-        (subst (λ k. IsKeptOver k applied (settled rs) cs c.slot.0 (Silence c.slot.0 slot_is.from_1 slot_is.small) 0 (length rs)) (sym rest.spans) (silence_kept c.slot.0 slot_is.from_1 slot_is.small (length rs)))
+        (subst (λ k. IsKeptOver k applied (settled rs) cs c.slot.0 (Silence c.slot.0 slot_is.from_1 slot_is.small) 0 (length rs))
+        (sym rest.spans) (silence_kept c.slot.0 slot_is.from_1 slot_is.small (length rs)))
         j (omega arith) (λ q i l. refl))
 
     -- by any account of the clock at the other end
     module _ (clocks : ℕ → Clock) (tells : (i : ℕ) → clock i ≡ clocks (w.ring.rounds + i)) where
-      pub joined_delivers : (j : ℕ) → 4 * h + 4 ≤ j → is_joined n applied (arc_of n c) ≡ true → outlet_at (run (suc j) w).ring (port_id index e) ≡ due_by_clocks n applied c e clocks (w.ring.rounds + j)
+      pub joined_delivers : (j : ℕ) → 4 * h + 4 ≤ j → is_joined n applied (arc_of n c) ≡ true
+          → outlet_at (run (suc j) w).ring (port_id index e) ≡ due_by_clocks n applied c e clocks (w.ring.rounds + j)
       unfolding due
       joined_delivers j late joined =
           let behind = joined_so joined in
           let f = behind.flows in
-          let begun : behind.first + 1 ≤ j = elim behind.soon [ inl early ↦ omega arith | inr by_new ↦ (let few = by_new.0 in omega arith) ] in
+          let begun : behind.first + 1 ≤ j = elim behind.soon [
+            | inl early ↦ omega arith
+            | inr by_new ↦
+                (let few = by_new.0 in omega arith)
+          ] in
           let number : w.ring.rounds + (j - h) ≡ w.ring.rounds + j - h = omega arith in
           delivered_so j (delivering v (bytes (j - h))) small (f.plain j begun, f.value j (omega arith), f.payload j begun)
           ∙ ap (λ x. delivering x (bytes (j - h))) (sym (keeps_value (j - h)))
           ∙ ap (plainly (customer_at c far)) (tells (j - h) ∙ ap clocks number)
           ∙ ap (λ t. if t then plainly (customer_at c far) (clocks (w.ring.rounds + j - h)) else silent) (sym joined)
 
-      pub parted_delivers : (j : ℕ) → 3 * n ≤ j + 3 → is_joined n applied (arc_of n c) ≡ false → outlet_at (run (suc j) w).ring (port_id index e) ≡ due_by_clocks n applied c e clocks (w.ring.rounds + j)
+      pub parted_delivers : (j : ℕ) → 3 * n ≤ j + 3 → is_joined n applied (arc_of n c) ≡ false
+          → outlet_at (run (suc j) w).ring (port_id index e) ≡ due_by_clocks n applied c e clocks (w.ring.rounds + j)
       unfolding due
       parted_delivers j late parted =
           let s = parted_so parted in
@@ -290,7 +322,8 @@ module _ (w : World) (whole : IsWhole w) (form : HasCircuits (layout_of w)) (rs 
             | inr t ↦ (let a = s.around t in omega arith)
           ]
 
-      pub port_delivers : (j : ℕ) → 8 * n ≤ j + 8 → outlet_at (run (suc j) w).ring (port_id index e) ≡ due_by_clocks n applied c e clocks (w.ring.rounds + j)
+      pub port_delivers : (j : ℕ) → 8 * n ≤ j + 8 → outlet_at (run (suc j) w).ring (port_id index e)
+          ≡ due_by_clocks n applied c e clocks (w.ring.rounds + j)
       port_delivers j late =
           let few = few_hops in
           let two = whole.placed.ids.enough in

@@ -1,5 +1,6 @@
 -- A ring to which nothing happens but rounds is restored soon.
-use Rattle.std.proofs.Common.{◌≡◌, ℕ, zero, suc, ◌+◌, ◌-◌, ◌*◌, ◌<◌, ◌≤◌, Bool, true, false, Some, List, length, refl, ap, sym, ◌∙◌, subst, arith, inl, inr}
+use Rattle.std.proofs.Common.{◌≡◌, ℕ, zero, suc, ◌+◌, ◌-◌, ◌*◌, ◌<◌, ◌≤◌, Bool, true, false, Some, List, length, refl, ap, sym, ◌∙◌, subst}
+use Rattle.std.proofs.Common.{arith, inl, inr}
 use Rattle.std.specs.Prelude.{slice_get, ◌||◌}
 use Rattle.std.proofs.lemmas.Bool.{cases_Bool, cases_lt}
 use Rattle.sdh_ringmap.specs.Places.{span_at}
@@ -41,12 +42,14 @@ use Rattle.sdh_laws.proofs.hearing.Rounds.{clear_where_it_works}
 use Rattle.sdh_laws.proofs.carrying.Ways.{layout_run}
 use Rattle.sdh_laws.specs.Converging.Steady.{StaysSettled}
 use Rattle.sdh_laws.proofs.converging.Runs.{length_run, run_more}
-use Rattle.sdh_laws.specs.Restoring.Laws.{NoneHeld, ArePortsOwedFrom, PortsAreOwedSoon, UnslippedPortsAreOwedSoon, RingsAreRestoredSoon, FreeRingsAreRestoredSoon, UnslippedRingsAreRestoredSoon, UnsettledRingsAreRestored}
+use Rattle.sdh_laws.specs.Restoring.Laws.{NoneHeld, ArePortsOwedFrom, PortsAreOwedSoon, UnslippedPortsAreOwedSoon, RingsAreRestoredSoon}
+use Rattle.sdh_laws.specs.Restoring.Laws.{FreeRingsAreRestoredSoon, UnslippedRingsAreRestoredSoon, UnsettledRingsAreRestored}
 use Rattle.sdh_laws.proofs.restoring.Resting.{AreUncut, port_delivers, joined_delivers, parted_delivers}
 use Rattle.sdh_rounds.specs.Runs as any_run
 
 -- where no controller misses a turn from round f on, and no slip waits from round `base` on
-module _ (law : RingsSettle) (w : World) (whole : IsWhole w) (form : HasCircuits (layout_of w)) (f base : ℕ) (free : (k : ℕ) → f ≤ k → AtEach (λ p n. is_held n ≡ false) (run k w).ring.nodes) (late : 4 * length w.ring.ids + f + 9 ≤ base)
+module _ (law : RingsSettle) (w : World) (whole : IsWhole w) (form : HasCircuits (layout_of w)) (f base : ℕ)
+    (free : (k : ℕ) → f ≤ k → AtEach (λ p n. is_held n ≡ false) (run k w).ring.nodes) (late : 4 * length w.ring.ids + f + 9 ≤ base)
     (slips : AtEach (λ p n. NoneWait n.ports) (run base w).ring.nodes) where
   abbrev n : ℕ
   n = length w.ring.ids
@@ -65,7 +68,8 @@ module _ (law : RingsSettle) (w : World) (whole : IsWhole w) (form : HasCircuits
 
   requests_at : (k : ℕ) → requests_of (run (f + 3 + k) w) ≡ rs
   requests_at zero = let e : f + 3 + zero ≡ f + 3 = omega arith in ap (λ j. requests_of (run j w)) e
-  requests_at (suc k) = let e : f + 3 + suc k ≡ suc (f + 3 + k) = omega arith in ap (λ j. requests_of (run j w)) e ∙ ap requests_in (still.needs (f + 3 + k) (omega arith)) ∙ requests_at k
+  requests_at (suc k) = let e : f + 3 + suc k ≡ suc (f + 3 + k) =
+      omega arith in ap (λ j. requests_of (run j w)) e ∙ ap requests_in (still.needs (f + 3 + k) (omega arith)) ∙ requests_at k
 
   requests_from : (k : ℕ) → f + 3 ≤ k → requests_of (run k w) ≡ rs
   requests_from k h = let e : k ≡ f + 3 + (k - (f + 3)) = omega arith in ap (λ j. requests_of (run j w)) e ∙ requests_at (k - (f + 3))
@@ -85,7 +89,9 @@ module _ (law : RingsSettle) (w : World) (whole : IsWhole w) (form : HasCircuits
   ids_u = ap size_of (layout_run w base)
 
   settled_u : (k : ℕ) → 1 ≤ k → AreSettled n rs (run k u)
-  settled_u k some = subst (AreSettled n rs) (sym (run_more w base k)) (each_settled (run (k + base) w) n rs (nodes_run (k + base)) spans_are (states_from (k + base) (omega (arith, late))))
+  settled_u k some =
+      subst (AreSettled n rs) (sym (run_more w base k)) (each_settled (run (k + base) w) n rs (nodes_run (k + base)) spans_are
+      (states_from (k + base) (omega (arith, late))))
 
   at_rest : StaysSettled u rs
   at_rest = record {
@@ -96,9 +102,12 @@ module _ (law : RingsSettle) (w : World) (whole : IsWhole w) (form : HasCircuits
 
   fails : FailOnApplied (length u.ring.ids) rs (round u)
   unfolding any_run.run
-  fails = subst (λ qs. FailOnApplied (length u.ring.ids) qs (round u)) (requests_from (suc base) (omega (arith, late))) (failures_applied u whole_u)
+  fails =
+      subst (λ qs. FailOnApplied (length u.ring.ids) qs (round u)) (requests_from (suc base) (omega (arith, late)))
+      (failures_applied u whole_u)
 
-  works : (p : ℕ) (d : Side) → p < length u.ring.ids → is_applied rs (span_at (length u.ring.ids) p d) ≡ false → is_failed (receiving_on d (node_at (round u).ring.nodes p)).local.defect ≡ false
+  works : (p : ℕ) (d : Side) → p < length u.ring.ids → is_applied rs (span_at (length u.ring.ids) p d) ≡ false
+      → is_failed (receiving_on d (node_at (round u).ring.nodes p)).local.defect ≡ false
   works p d h clear = elim (cases_Bool (is_failed (receiving_on d (node_at (round u).ring.nodes p)).local.defect)) [
     | inl t ↦ absurd (let e = fails p d h t in cc)
     | inr x ↦ x
@@ -106,7 +115,8 @@ module _ (law : RingsSettle) (w : World) (whole : IsWhole w) (form : HasCircuits
 
   uncut : AreUncut u rs
   uncut p d h clear =
-      clear_where_it_works u whole_u p d (let r = (left_run base w).rounds in omega (arith, late)) (omega (arith, h, count u whole_u.placed)) (works p d h clear)
+      clear_where_it_works u whole_u p d (let r = (left_run base w).rounds in omega (arith, late))
+      (omega (arith, h, count u whole_u.placed)) (works p d h clear)
 
   -- ---- its ports
 
@@ -115,21 +125,26 @@ module _ (law : RingsSettle) (w : World) (whole : IsWhole w) (form : HasCircuits
     get_u = ap (λ (l : Layout). slice_get l.circuits index) (layout_run w base) ∙ get
 
     -- the clock at the other end, as it goes from w on
-    tells : (i : ℕ) → clock_at (run i u).ring (port_id index (other_end e)) ≡ clocks_from w (port_id index (other_end e)) (u.ring.rounds + i)
+    tells : (i : ℕ) → clock_at (run i u).ring (port_id index (other_end e))
+        ≡ clocks_from w (port_id index (other_end e)) (u.ring.rounds + i)
     tells i =
         let id = port_id index (other_end e) in
         let r : u.ring.rounds ≡ w.ring.rounds + base = (let a = (left_run base w).rounds in omega arith) in
         let number : i + base ≡ u.ring.rounds + i - w.ring.rounds = omega arith in
         ap (λ (v : World). clock_at v.ring id) (run_more w base i)
-        ∙ (goes_run id (i + base) w (port_is_there w whole index c (other_end e) get (end_inside n (slots_of (layout_of w)) w.ring.circuits.circuits form index c get (other_end e)))).1
+        ∙ (goes_run id (i + base) w (port_is_there w whole index c (other_end e) get
+        (end_inside n (slots_of (layout_of w)) w.ring.circuits.circuits form index c get (other_end e)))).1
         ∙ ap (λ t. ticks t (clock_at w.ring id)) number
 
-    delivers_by : (j : ℕ) → outlet_at (run (suc j) u).ring (port_id index e) ≡ due_by_clocks (length u.ring.ids) (is_applied rs) c e (clocks_from w (port_id index (other_end e))) (u.ring.rounds + j) → DeliversItsDue (clocks_from w) (run (suc j) u) rs c index e
+    delivers_by : (j : ℕ) → outlet_at (run (suc j) u).ring (port_id index e)
+        ≡ due_by_clocks (length u.ring.ids) (is_applied rs) c e (clocks_from w (port_id index (other_end e))) (u.ring.rounds + j)
+        → DeliversItsDue (clocks_from w) (run (suc j) u) rs c index e
     delivers_by j so =
         let number : u.ring.rounds + j ≡ (run (suc j) u).ring.rounds - 1 = (let r = (left_run (suc j) u).rounds in omega arith) in
         so
         ∙ ap (due_by_clocks (length u.ring.ids) (is_applied rs) c e (clocks_from w (port_id index (other_end e)))) number
-        ∙ ap (λ (l : Layout). due_by_clocks (size_of l) (is_applied rs) c e (clocks_from w (port_id index (other_end e))) ((run (suc j) u).ring.rounds - 1)) (sym (layout_run u (suc j)))
+        ∙ ap (λ (l : Layout). due_by_clocks (size_of l) (is_applied rs) c e (clocks_from w (port_id index (other_end e)))
+        ((run (suc j) u).ring.rounds - 1)) (sym (layout_run u (suc j)))
 
     abbrev form_u : HasCircuits (layout_of u)
     form_u = subst HasCircuits (sym (layout_run w base)) form
@@ -138,23 +153,34 @@ module _ (law : RingsSettle) (w : World) (whole : IsWhole w) (form : HasCircuits
     clocks = clocks_from w (port_id index (other_end e))
 
     delivers : (j : ℕ) → 8 * n ≤ j + 8 → DeliversItsDue (clocks_from w) (run (suc j) u) rs c index e
-    delivers j enough = delivers_by j (port_delivers u whole_u form_u rs at_rest uncut index c get_u e clocks tells j (omega (arith, ids_u, enough)))
+    delivers j enough =
+        delivers_by j (port_delivers u whole_u form_u rs at_rest uncut index c get_u e clocks tells j (omega (arith, ids_u, enough)))
 
     -- by what it is owed
     abbrev Joined : ℕ → ℕ → Type 0
-    Joined j size = is_joined size (is_applied rs) (arc_of size c) ≡ true → 4 * hops size (is_applied rs) (arc_of size c) + 4 ≤ j → DeliversItsDue (clocks_from w) (run (suc j) u) rs c index e
+    Joined j size =
+        is_joined size (is_applied rs) (arc_of size c) ≡ true → 4 * hops size (is_applied rs) (arc_of size c) + 4 ≤ j
+        → DeliversItsDue (clocks_from w) (run (suc j) u) rs c index e
 
     joined_at : (j : ℕ) → Joined j n
-    joined_at j = subst (Joined j) ids_u (λ joined enough. delivers_by j (joined_delivers u whole_u form_u rs at_rest uncut index c get_u e clocks tells j enough joined))
+    joined_at j =
+        subst (Joined j) ids_u (λ joined enough. delivers_by j
+        (joined_delivers u whole_u form_u rs at_rest uncut index c get_u e clocks tells j enough joined))
 
     abbrev Parted : ℕ → ℕ → Type 0
-    Parted j size = is_joined size (is_applied rs) (arc_of size c) ≡ false → 3 * size ≤ j + 3 → DeliversItsDue (clocks_from w) (run (suc j) u) rs c index e
+    Parted j size =
+        is_joined size (is_applied rs) (arc_of size c) ≡ false → 3 * size ≤ j + 3
+        → DeliversItsDue (clocks_from w) (run (suc j) u) rs c index e
 
     parted_at : (j : ℕ) → Parted j n
-    parted_at j = subst (Parted j) ids_u (λ parted enough. delivers_by j (parted_delivers u whole_u form_u rs at_rest uncut index c get_u e clocks tells j enough parted))
+    parted_at j =
+        subst (Parted j) ids_u (λ parted enough. delivers_by j
+        (parted_delivers u whole_u form_u rs at_rest uncut index c get_u e clocks tells j enough parted))
 
     abbrev JoinedBy : ℕ → List ℕ → Type 0
-    JoinedBy k qs = is_joined n (is_applied qs) (arc_of n c) ≡ true → base + 4 * hops n (is_applied qs) (arc_of n c) + 5 ≤ k → DeliversItsDue (clocks_from w) (run k w) qs c index e
+    JoinedBy k qs =
+        is_joined n (is_applied qs) (arc_of n c) ≡ true → base + 4 * hops n (is_applied qs) (arc_of n c) + 5 ≤ k
+        → DeliversItsDue (clocks_from w) (run k w) qs c index e
 
     joined_so : (k : ℕ) → JoinedBy k rs
     joined_so k joined enough =
@@ -167,7 +193,8 @@ module _ (law : RingsSettle) (w : World) (whole : IsWhole w) (form : HasCircuits
     joined_owed k joined enough = subst (JoinedBy k) (sym (requests_from k (omega (arith, late, enough)))) (joined_so k) joined enough
 
     abbrev PartedBy : ℕ → List ℕ → Type 0
-    PartedBy k qs = is_joined n (is_applied qs) (arc_of n c) ≡ false → base + 3 * n ≤ k + 2 → DeliversItsDue (clocks_from w) (run k w) qs c index e
+    PartedBy k qs =
+        is_joined n (is_applied qs) (arc_of n c) ≡ false → base + 3 * n ≤ k + 2 → DeliversItsDue (clocks_from w) (run k w) qs c index e
 
     parted_so : (k : ℕ) → PartedBy k rs
     parted_so k parted enough =
@@ -178,7 +205,8 @@ module _ (law : RingsSettle) (w : World) (whole : IsWhole w) (form : HasCircuits
         subst (λ v. DeliversItsDue (clocks_from w) v rs c index e) there (parted_at j parted (omega (arith, enough, two)))
 
     pub parted_owed : (k : ℕ) → PartedBy k (requests_of (run k w))
-    parted_owed k parted enough = let two = whole.placed.ids.enough in subst (PartedBy k) (sym (requests_from k (omega (arith, late, enough, two)))) (parted_so k) parted enough
+    parted_owed k parted enough = let two =
+        whole.placed.ids.enough in subst (PartedBy k) (sym (requests_from k (omega (arith, late, enough, two)))) (parted_so k) parted enough
 
   pub owed_from : ArePortsOwedFrom w base
   owed_from = record { joined = λ k index c get e. joined_owed index c get e k; parted = λ k index c get e. parted_owed index c get e k }
@@ -186,7 +214,9 @@ module _ (law : RingsSettle) (w : World) (whole : IsWhole w) (form : HasCircuits
   restored_at : (j : ℕ) → 8 * n ≤ j + 8 → IsRestored (clocks_from w) (run (suc j) u) rs
   restored_at j enough = record {
     states = ap (λ v. (signals_of v).states) (run_more w base (suc j)) ∙ states_from (suc j + base) (omega (arith, late));
-    ports = λ index c get e. delivers index c (ap (λ (l : Layout). slice_get l.circuits index) (sym (layout_run w base) ∙ sym (layout_run u (suc j))) ∙ get) e j enough;
+    ports =
+        λ index c get e. delivers index c (ap (λ (l : Layout). slice_get l.circuits index)
+        (sym (layout_run w base) ∙ sym (layout_run u (suc j))) ∙ get) e j enough;
   }
 
   pub restored : (k : ℕ) → 8 * n + base ≤ k + 7 → base + 1 ≤ k → IsRestored (clocks_from w) (run k w) (requests_of (run k w))
@@ -200,12 +230,14 @@ module _ (law : RingsSettle) (w : World) (whole : IsWhole w) (form : HasCircuits
 pub rings_are_restored_soon : RingsSettle → RingsAreRestoredSoon
 rings_are_restored_soon law w whole form k enough =
     let two = whole.placed.ids.enough in
-    restored law w whole form 100 (4 * length w.ring.ids + 109) (free_at w whole) (omega arith) (none_wait w whole (4 * length w.ring.ids + 109) (omega arith)) k (omega arith) (omega arith)
+    restored law w whole form 100 (4 * length w.ring.ids + 109) (free_at w whole) (omega arith)
+    (none_wait w whole (4 * length w.ring.ids + 109) (omega arith)) k (omega arith) (omega arith)
 
 pub unslipped_rings_are_restored_soon : RingsSettle → UnslippedRingsAreRestoredSoon
 unslipped_rings_are_restored_soon law w whole form free none k enough =
     let two = whole.placed.ids.enough in
-    restored law w whole form 0 (4 * length w.ring.ids + 9) (λ k h. free_stays w whole free k) (omega arith) (none_waits_later w whole none (4 * length w.ring.ids + 9)) k (omega arith) (omega arith)
+    restored law w whole form 0 (4 * length w.ring.ids + 9) (λ k h. free_stays w whole free k) (omega arith)
+    (none_waits_later w whole none (4 * length w.ring.ids + 9)) k (omega arith) (omega arith)
 
 -- where slips wait they are gone by round 68
 pub free_rings_are_restored_soon : RingsSettle → FreeRingsAreRestoredSoon
@@ -213,20 +245,26 @@ free_rings_are_restored_soon law w whole form free k enough slips =
     let two = whole.placed.ids.enough in
     let base = 4 * length w.ring.ids + 9 in
     elim (cases_lt base 68) [
-      | inl less ↦ restored law w whole form 0 68 (λ k h. free_stays w whole free k) (omega arith) (none_wait w whole 68 (omega arith)) k (omega arith) (omega arith)
-      | inr more ↦ restored law w whole form 0 base (λ k h. free_stays w whole free k) (omega arith) (none_wait w whole base more) k (omega arith) (omega arith)
+      | inl less ↦ restored law w whole form 0 68 (λ k h. free_stays w whole free k) (omega arith) (none_wait w whole 68 (omega arith)) k
+          (omega arith) (omega arith)
+      | inr more ↦ restored law w whole form 0 base (λ k h. free_stays w whole free k) (omega arith) (none_wait w whole base more) k
+          (omega arith) (omega arith)
     ]
 
 pub ports_are_owed_soon : RingsSettle → PortsAreOwedSoon
 ports_are_owed_soon law w whole form =
-    owed_from law w whole form 100 (4 * length w.ring.ids + 109) (free_at w whole) (omega arith) (none_wait w whole (4 * length w.ring.ids + 109) (omega arith))
+    owed_from law w whole form 100 (4 * length w.ring.ids + 109) (free_at w whole) (omega arith)
+    (none_wait w whole (4 * length w.ring.ids + 109) (omega arith))
 
 pub unslipped_ports_are_owed_soon : RingsSettle → UnslippedPortsAreOwedSoon
 unslipped_ports_are_owed_soon law w whole form free none =
-    owed_from law w whole form 0 (4 * length w.ring.ids + 9) (λ k h. free_stays w whole free k) (omega arith) (none_waits_later w whole none (4 * length w.ring.ids + 9))
+    owed_from law w whole form 0 (4 * length w.ring.ids + 9) (λ k h. free_stays w whole free k) (omega arith)
+    (none_waits_later w whole none (4 * length w.ring.ids + 9))
 
 -- ---- settle steps
 
 pub unsettled_rings_are_restored : RingsSettle → UnsettledRingsAreRestored
 unsettled_rings_are_restored law w left limit form unsettles whole enough =
-    subst (λ v. IsRestored (clocks_from w) v (requests_of v)) (sym (known_unsettles adm w limit left (inl whole.paired.honest.honest) unsettles).1) (rings_are_restored_soon law w whole form limit enough)
+    subst (λ v. IsRestored (clocks_from w) v (requests_of v))
+    (sym (known_unsettles adm w limit left (inl whole.paired.honest.honest) unsettles).1)
+    (rings_are_restored_soon law w whole form limit enough)

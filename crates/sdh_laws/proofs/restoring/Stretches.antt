@@ -13,6 +13,7 @@ stretches_are_restored_soon law s ids circuits f earlier last t may happen form 
     let whole = whole_v s ids circuits f earlier last t may happen form many in
     let layout = layout_v s ids circuits f earlier last t may happen form many in
     let same : length begun.ring.ids ≡ length ids = ap size_of layout in
-    let left : length (u s ids circuits f earlier last t may happen form many).ring.ids ≡ length ids = ap size_of (layout_run begun last.rounds) ∙ same in
+    let left : length (u s ids circuits f earlier last t may happen form many).ring.ids ≡ length ids =
+    ap size_of (layout_run begun last.rounds) ∙ same in
     restored_by_history s ids circuits f earlier last t may happen form many (omega (arith, left, long))
     (rings_are_restored_soon law begun whole (subst HasCircuits (sym layout) form) last.rounds (omega (arith, same, long)))

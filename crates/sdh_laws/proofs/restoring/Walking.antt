@@ -18,7 +18,8 @@ use Rattle.sdh_routes.specs.Law.{IsFree, ConnectsFree}
 use Rattle.sdh_routes.proofs.Free.{connects_free}
 use Rattle.sdh_routes.proofs.Ways.{IsKeptOver, along, routed, end_inside}
 
-module _ (rs : List ℕ) (slots : ℕ) (cs : List Provisioned) (form : AreCircuits (length rs) slots cs) (index : ℕ) (c : Provisioned) (get : slice_get cs index ≡ Some c) (e : End) where
+module _ (rs : List ℕ) (slots : ℕ) (cs : List Provisioned) (form : AreCircuits (length rs) slots cs) (index : ℕ) (c : Provisioned)
+    (get : slice_get cs index ≡ Some c) (e : End) where
   abbrev n : ℕ
   n = length rs
 
@@ -44,15 +45,19 @@ module _ (rs : List ℕ) (slots : ℕ) (cs : List Provisioned) (form : AreCircui
 
   module _ (P : ℕ → ℕ → Origin → Type 0) (last : ℕ) (kept : IsKeptOver n applied (settled rs) cs m P 0 last) where
     -- a port of a joined circuit, from the other port
-    pub joined_walk : is_joined n applied (arc_of n c) ≡ true → hops n applied (arc_of n c) ≤ last → P 0 (port_at c (other_end e)) (port index (other_end e)) → P (hops n applied (arc_of n c)) start.at start.origin
+    pub joined_walk : is_joined n applied (arc_of n c) ≡ true → hops n applied (arc_of n c) ≤ last
+        → P 0 (port_at c (other_end e)) (port index (other_end e)) → P (hops n applied (arc_of n c)) start.at start.origin
     joined_walk j few is =
         let h = hops n applied (arc_of n c) in
         let same : 0 + h ≡ h = omega arith in
         subst (λ s. P s start.at start.origin) same
-        (along n applied (settled rs) cs m connects P 0 last kept h 0 start (stand (port_at c (other_end e)) (port index (other_end e))) start_inside start_free (omega arith) (omega arith) ((routed rs slots cs form index c get e).joined j) is)
+        (along n applied (settled rs) cs m connects P 0 last kept h 0 start
+        (stand (port_at c (other_end e)) (port index (other_end e))) start_inside start_free (omega arith) (omega arith)
+        ((routed rs slots cs form index c get e).joined j) is)
 
     -- every other port, from AIS
-    pub parted_walk : is_joined n applied (arc_of n c) ≡ false → n ≤ last → ((q : ℕ) → P 0 q Ais) → (k : ℕ) × (k < n) × P k start.at start.origin
+    pub parted_walk : is_joined n applied (arc_of n c) ≡ false → n ≤ last → ((q : ℕ) → P 0 q Ais)
+        → (k : ℕ) × (k < n) × P k start.at start.origin
     parted_walk j few silent =
         let s = (routed rs slots cs form index c get e).parted j in
         let less : s.0 < n = s.2 in
@@ -60,5 +65,6 @@ module _ (rs : List ℕ) (slots : ℕ) (cs : List Provisioned) (form : AreCircui
           s.0,
           less,
           subst (λ r. P r start.at start.origin) same
-              (along n applied (settled rs) cs m connects P 0 last kept s.0 0 start (stand s.1 Ais) start_inside start_free (omega arith) (omega arith) s.3 (silent s.1)),
+              (along n applied (settled rs) cs m connects P 0 last kept s.0 0 start (stand s.1 Ais) start_inside start_free (omega arith)
+              (omega arith) s.3 (silent s.1)),
         )

@@ -1,5 +1,6 @@
 -- A circuit on whose arc nothing is asked: what its port sends comes over its spans one by one, from round 0 on.
-use Rattle.std.proofs.Common.{◌≡◌, ◌≢◌, ℕ, zero, suc, ◌+◌, ◌-◌, ◌*◌, ◌<◌, ◌≤◌, Bool, true, false, List, length, get_or, Option, Some, None, refl, ap, ap₂, sym, ◌∙◌, subst, arith, inl, inr}
+use Rattle.std.proofs.Common.{◌≡◌, ◌≢◌, ℕ, zero, suc, ◌+◌, ◌-◌, ◌*◌, ◌<◌, ◌≤◌, Bool, true, false, List, length, get_or, Option, Some, None}
+use Rattle.std.proofs.Common.{refl, ap, ap₂, sym, ◌∙◌, subst, arith, inl, inr}
 use Rattle.std.specs.Prelude.{◌==◌, if◌then◌else◌, slice_get}
 use Rattle.std.proofs.lemmas.Bool.{cases_lt, and_parts}
 use Rattle.sdh_terms.specs.declared.Rate.{Rate}
@@ -61,7 +62,8 @@ use Rattle.sdh_routes.proofs.Sights.{found-gives}
 use Rattle.sdh_routes.proofs.OnArcs.{near_at, near_end, seen-on}
 use Rattle.sdh_routes.proofs.Passing.{is_open, open-stands, leaves-on, leaves-own}
 use Rattle.sdh_laws.proofs.strangers.Asking.{Harmless, stays_open, word_harmless}
-use Rattle.sdh_laws.proofs.strangers.Slipping.{IsSource, value_in_round, does, state, said, Follows, spreads, does_before, down_back, down_form, not_ais}
+use Rattle.sdh_laws.proofs.strangers.Slipping.{IsSource, value_in_round, does, state, said, Follows, spreads, does_before, down_back}
+use Rattle.sdh_laws.proofs.strangers.Slipping.{down_form, not_ais}
 use Rattle.sdh_laws.proofs.strangers.Arrivals.{span_across, lost, silent_first, au_received, heard_came}
 
 -- ---- the spans of an arc
@@ -72,7 +74,8 @@ same_row i j c b e = let r : entry i c ≡ entry j b = cc in ap (λ (x : Row). x
 same_some : (b c : Provisioned) → Some b ≡ Some c → b ≡ c
 same_some b c e = cc
 
-held_by : (n s m i : ℕ) (cs : List Provisioned) (c : Provisioned) → slice_get cs i ≡ Some c → circuit_from n s m 0 cs ≡ Some (entry i c) → holds n c s ≡ true
+held_by : (n s m i : ℕ) (cs : List Provisioned) (c : Provisioned) → slice_get cs i ≡ Some c → circuit_from n s m 0 cs ≡ Some (entry i c)
+    → holds n c s ≡ true
 held_by n s m i cs c get e =
     let f = found-gives n s m 0 cs (entry i c) e in
     let place : i ≡ 0 + f.place = same_row i (0 + f.place) c f.circuit (ap Some f.row) in
@@ -96,7 +99,8 @@ payload_sent s i h = payload_for i.action (form_sent s i.action i.value) (word_s
 h3_by : (x : Action) (f : Form) (w : ℕ) (a : Au) → x ≡ action.Down → f ≡ form.Down → h3_of (au_for x f w a).pointers ≡ h3_of a.pointers
 h3_by x f w a e g = ap₂ (λ y h. h3_of (au_for y h w a).pointers) e g
 
-h3_kept : (s : Option ℕ) (i : Input) → i.action ≡ action.Down → form_sent s i.action i.value ≡ form.Down → h3_of (au_sent s i).pointers ≡ h3_of i.au.pointers
+h3_kept : (s : Option ℕ) (i : Input) → i.action ≡ action.Down → form_sent s i.action i.value ≡ form.Down
+    → h3_of (au_sent s i).pointers ≡ h3_of i.au.pointers
 unfolding au_sent
 h3_kept s i e g = h3_by i.action (form_sent s i.action i.value) (word_sent s i.action i.value) i.au e g
 
@@ -121,8 +125,10 @@ module _ (i : ℕ) (c : Provisioned) (d : Side) (clock : ℕ → Clock) (source 
 
   -- a node of a ring of n after t rounds
   pub record IsTuned (n t p : ℕ) (y : Node) : Type 0 where
-    pub sends : (k : ℕ) → k < arc_length n c → p ≡ going n d (near_at n c d) k → get_or (sending_on d y).generators (m - 1) None ≡ state clock source k t
-    pub reads : (k : ℕ) → k < arc_length n c → p ≡ going n d (near_at n c d) (suc k) → Follows clock source (k + 1) t (get_or (receiving_on (opposite d) y).readings (m - 1) start)
+    pub sends : (k : ℕ) → k < arc_length n c → p ≡ going n d (near_at n c d) k
+        → get_or (sending_on d y).generators (m - 1) None ≡ state clock source k t
+    pub reads : (k : ℕ) → k < arc_length n c → p ≡ going n d (near_at n c d) (suc k)
+        → Follows clock source (k + 1) t (get_or (receiving_on (opposite d) y).readings (m - 1) start)
     pub words : (e : Side) → holds n c (span_at n p e) ≡ true → Harmless (word_of e y)
     pub open_sides : (e : Side) → holds n c (span_at n p e) ≡ true → is_open y.state e ≡ true
 
@@ -138,15 +144,19 @@ module _ (i : ℕ) (c : Provisioned) (d : Side) (clock : ℕ → Clock) (source 
     pub ring : AreOnRing (length w.ring.ids) w.ring.circuits.circuits
     pub slot : IsInSlots (slots_of (layout_of w)) c
     pub tuned : AtEach (IsTuned (length w.ring.ids) w.ring.rounds) w.ring.nodes
-    pub frames : (k r : ℕ) (line : List ℕ) → k < arc_length (length w.ring.ids) c → w.ring.rounds ≡ r + 1 → carried_on w.fibres (fibre (going (length w.ring.ids) d (near_at (length w.ring.ids) c d) k) d) ≡ Some line
+    pub frames : (k r : ℕ) (line : List ℕ) → k < arc_length (length w.ring.ids) c → w.ring.rounds ≡ r + 1
+        → carried_on w.fibres (fibre (going (length w.ring.ids) d (near_at (length w.ring.ids) c d) k) d) ≡ Some line
         → IsOnWay (length w.ring.ids) r k (au_of (n_of w.ring.settings.rate) m (scrambled (9 * n_of w.ring.settings.rate) line))
 
   -- nothing is asked on either end of a span of the arc in the round that begins with w
   abbrev pub AsksNothing : World → Type 0
-  AsksNothing w = (p : ℕ) (e : Side) → p < length w.ring.ids → holds (length w.ring.ids) c (span_at (length w.ring.ids) p e) ≡ true → (receiving_on e (node_at (round w).ring.nodes p)).request ≡ Nr
+  AsksNothing w =
+      (p : ℕ) (e : Side) → p < length w.ring.ids → holds (length w.ring.ids) c (span_at (length w.ring.ids) p e) ≡ true
+      → (receiving_on e (node_at (round w).ring.nodes p)).request ≡ Nr
 
   module _ (w : World) (u : IsUndisturbed w) (asks : AsksNothing w)
-      (own : HasCome 0 w.ring.rounds (value_at w (going (length w.ring.ids) d (near_at (length w.ring.ids) c d) 0) m (port i (near_end d)))) where
+      (own : HasCome 0 w.ring.rounds (value_at w (going (length w.ring.ids) d (near_at (length w.ring.ids) c d) 0) m
+      (port i (near_end d)))) where
     abbrev n : ℕ
     n = length w.ring.ids
 
@@ -253,7 +263,8 @@ module _ (i : ℕ) (c : Provisioned) (d : Side) (clock : ℕ → Clock) (source 
     back_is = omega arith
 
     -- the frame that comes to step k + 1 in a later round
-    on_way : (k r : ℕ) → k < many → t ≡ r + 1 → IsOnWay n r k (au_of (n_of rate) m (line_on (lines_at w (at (suc k))) (opposite d)).intake.frame.bytes)
+    on_way : (k r : ℕ) → k < many → t ≡ r + 1 → IsOnWay n r k
+        (au_of (n_of rate) m (line_on (lines_at w (at (suc k))) (opposite d)).intake.frame.bytes)
     on_way k r h ran =
         let p = at (suc k) in
         let e = opposite d in
@@ -264,12 +275,16 @@ module _ (i : ℕ) (c : Provisioned) (d : Side) (clock : ℕ → Clock) (source 
         let kept = kept_here p e (there (suc k)) (held_behind k h) later in
         let carried = (whole.paired.carried q (neighbour_inside w whole p e)).frames (opposite e) later in
         let line = carried.line in
-        let here : carried_on w.fibres (fibre (at k) d) ≡ Some line = ap₂ (λ x y. carried_on w.fibres (fibre x y)) (sym from) (sym side) ∙ carried.there in
-        subst (IsOnWay n r k) (sym ((reads w whole p e (there (suc k))).aus later kept line carried.there m au_low au_high)) (u.frames k r line h ran here)
+        let here : carried_on w.fibres (fibre (at k) d) ≡ Some line =
+        ap₂ (λ x y. carried_on w.fibres (fibre x y)) (sym from) (sym side) ∙ carried.there in
+        subst (IsOnWay n r k) (sym ((reads w whole p e (there (suc k))).aus later kept line carried.there m au_low au_high))
+        (u.frames k r line h ran here)
 
     came_first : (k : ℕ) → t ≡ 0 → HasCome (k + 1) t (received (lines_at w (at (suc k))) (opposite d) m)
     came_first k e = record {
-      acts = silent_first w whole (at (suc k)) (there (suc k)) (opposite d) m au_low au_high e ∙ sym (does_before clock source (k + 1) t (omega arith));
+      acts =
+          silent_first w whole (at (suc k)) (there (suc k)) (opposite d) m au_low au_high e
+          ∙ sym (does_before clock source (k + 1) t (omega arith));
       value = λ late. absurd (omega arith);
       payload = λ late. absurd (omega arith);
       h3 = λ late. absurd (omega arith);
@@ -285,7 +300,9 @@ module _ (i : ℕ) (c : Provisioned) (d : Side) (clock : ℕ → Clock) (source 
       abbrev side : Side
       side = opposite d
 
-      takes : TakesWord (get_or (receiving_on side (node_at w.ring.nodes here)).readings (m - 1) start) (get_or (receiving_on side (node_at (round w).ring.nodes here)).readings (m - 1) start) (received (lines_at w here) side (m - 1 + 1))
+      takes : TakesWord (get_or (receiving_on side (node_at w.ring.nodes here)).readings (m - 1) start)
+          (get_or (receiving_on side (node_at (round w).ring.nodes here)).readings (m - 1) start)
+          (received (lines_at w here) side (m - 1 + 1))
           (pointer_word_at (n_of rate) (line_on (lines_at w here) side).intake.frame.bytes (m - 1 + 1))
       takes = takes_read w whole later here side (there (suc k)) (m - 1) (omega (arith, au_high, au_low))
 
@@ -298,19 +315,30 @@ module _ (i : ℕ) (c : Provisioned) (d : Side) (clock : ℕ → Clock) (source 
       old_follows : Follows clock source (k + 1) (r + 1) old
       old_follows = subst (λ x. Follows clock source (k + 1) x old) ran ((u.tuned here (there (suc k))).reads k h refl)
 
-      new_follows : Follows clock source (k + 1) (r + 2) (get_or (receiving_on side (node_at (round w).ring.nodes here)).readings (m - 1) start)
-      new_follows = subst (Follows clock source (k + 1) (r + 2)) (sym (takes.reading ∙ ap (after_word old) word_taken)) ((spreads clock source k r).reading old old_follows)
+      new_follows : Follows clock source (k + 1) (r + 2) (get_or (receiving_on side (node_at (round w).ring.nodes here)).readings
+          (m - 1) start)
+      new_follows =
+          subst (Follows clock source (k + 1) (r + 2)) (sym (takes.reading ∙ ap (after_word old) word_taken))
+          ((spreads clock source k r).reading old old_follows)
 
       acts_later : (received (lines_at w here) side m).action ≡ does clock source (k + 1) t
-      acts_later = ap (λ a. (received (lines_at w here) side a).action) (sym back_is) ∙ takes.action ∙ ap (action_on old) word_taken ∙ (spreads clock source k r).action old old_follows ∙ ap (does clock source (k + 1)) (sym ran)
+      acts_later =
+          ap (λ a. (received (lines_at w here) side a).action) (sym back_is) ∙ takes.action ∙ ap (action_on old) word_taken
+          ∙ (spreads clock source k r).action old old_follows ∙ ap (does clock source (k + 1)) (sym ran)
 
       came_later : HasCome (k + 1) t (received (lines_at w here) side m)
       came_later = record {
         acts = acts_later;
-        value = λ late. ap (λ a. (received (lines_at w here) side a).value) (sym back_is) ∙ takes.value ∙ new_follows.value_is (omega arith) ∙ ap (value_in_round clock source) {x = r + 2 - 1 - (k + 1)} {y = t - (k + 1)} (omega arith);
-        payload = λ late. ap (λ (a : Au). a.payload) (au_received w whole here (there (suc k)) side m later) ∙ (on_way k r h ran).payload (omega arith) ∙ ap (λ x. (sent x).payload) {x = r - k} {y = t - (k + 1)} (omega arith);
+        value =
+            λ late. ap (λ a. (received (lines_at w here) side a).value) (sym back_is) ∙ takes.value ∙ new_follows.value_is (omega arith)
+            ∙ ap (value_in_round clock source) {x = r + 2 - 1 - (k + 1)} {y = t - (k + 1)} (omega arith);
+        payload =
+            λ late. ap (λ (a : Au). a.payload) (au_received w whole here (there (suc k)) side m later)
+            ∙ (on_way k r h ran).payload (omega arith) ∙ ap (λ x. (sent x).payload) {x = r - k} {y = t - (k + 1)} (omega arith);
         h3 = λ late down. ap (λ (a : Au). h3_of a.pointers) (au_received w whole here (there (suc k)) side m later)
-            ∙ (on_way k r h ran).h3 (omega arith) (down_back clock source k r (ap (does clock source (k + 1)) (sym ran) ∙ sym acts_later ∙ down)) ∙ ap (λ x. h3_of (sent x).pointers) {x = r - k} {y = t - (k + 1)} (omega arith);
+            ∙ (on_way k r h ran).h3 (omega arith) (down_back clock source k r
+            (ap (does clock source (k + 1)) (sym ran) ∙ sym acts_later ∙ down)) ∙ ap (λ x. h3_of (sent x).pointers) {x = r - k} {y =
+            t - (k + 1)} (omega arith);
       }
 
     came : (k : ℕ) → k < many → HasCome (k + 1) t (received (lines_at w (at (suc k))) (opposite d) m)
@@ -319,17 +347,22 @@ module _ (i : ℕ) (c : Provisioned) (d : Side) (clock : ℕ → Clock) (source 
       | inl some ↦ came_later k (t - 1) h (omega arith)
     ]
 
-    reading_next : (k : ℕ) → k < many → Follows clock source (k + 1) (t + 1) (get_or (receiving_on (opposite d) (node_at (round w).ring.nodes (at (suc k)))).readings (m - 1) start)
+    reading_next : (k : ℕ) → k < many → Follows clock source (k + 1) (t + 1)
+        (get_or (receiving_on (opposite d) (node_at (round w).ring.nodes (at (suc k)))).readings (m - 1) start)
     reading_next k h = elim (cases_lt 0 t) [
       | inr none ↦ (
           let zero_rounds : t ≡ 0 = omega arith in
           record {
-            before = λ z. ap (λ l. get_or l (m - 1) start) ((reads w whole (at (suc k)) (opposite d) (there (suc k))).idle zero_rounds) ∙ ((u.tuned (at (suc k)) (there (suc k))).reads k h refl).before (omega arith);
+            before =
+                λ z. ap (λ l. get_or l (m - 1) start) ((reads w whole (at (suc k)) (opposite d) (there (suc k))).idle zero_rounds)
+                ∙ ((u.tuned (at (suc k)) (there (suc k))).reads k h refl).before (omega arith);
             mode_is = λ z. absurd (omega arith);
             value_is = λ z. absurd (omega arith);
             since_is = λ z. absurd (omega arith);
           })
-      | inl some ↦ subst (λ x. Follows clock source (k + 1) x (get_or (receiving_on (opposite d) (node_at (round w).ring.nodes (at (suc k)))).readings (m - 1) start)) {x = t - 1 + 2} {y = t + 1} (omega arith) (new_follows k (t - 1) h (omega arith))
+      | inl some ↦ subst (λ x. Follows clock source (k + 1) x
+          (get_or (receiving_on (opposite d) (node_at (round w).ring.nodes (at (suc k)))).readings (m - 1) start)) {x = t - 1 + 2} {y =
+          t + 1} (omega arith) (new_follows k (t - 1) h (omega arith))
     ]
 
     -- ---- what goes
@@ -342,7 +375,8 @@ module _ (i : ℕ) (c : Provisioned) (d : Side) (clock : ℕ → Clock) (source 
 
     goes : (k : ℕ) → k < many → HasCome k t (sent_at w (at k) d m)
     goes zero h =
-        let o = leaves-own n cs (at 0) (st 0) i c (near_end d) d d m (ahead 0 h) (open_here (at 0) d (there 0) (held_ahead 0 h)) seen.starts in
+        let o =
+        leaves-own n cs (at 0) (st 0) i c (near_end d) d d m (ahead 0 h) (open_here (at 0) d (there 0) (held_ahead 0 h)) seen.starts in
         subst (HasCome 0 t) (sym (sends_working w whole (at 0) m d (st 0) (inside 0) small_slot refl ∙ ap (value_at w (at 0) m) o)) own
     goes (suc k) h =
         let p = at (suc k) in
@@ -354,25 +388,30 @@ module _ (i : ℕ) (c : Provisioned) (d : Side) (clock : ℕ → Clock) (source 
     goes_at : (k : ℕ) → k < many → HasCome k t (sent_at w (at k) d (m - 1 + 1))
     goes_at k h = subst (λ a. HasCome k t (sent_at w (at k) d a)) (sym back_is) (goes k h)
 
-    sending_next : (k : ℕ) → k < many → get_or (sending_on d (node_at (round w).ring.nodes (at k))).generators (m - 1) None ≡ state clock source k (t + 1)
+    sending_next : (k : ℕ) → k < many → get_or (sending_on d (node_at (round w).ring.nodes (at k))).generators (m - 1) None
+        ≡ state clock source k (t + 1)
     sending_next k h =
         let g = goes_at k h in
         generator_step w whole (at k) d (there k) (m - 1) (omega (arith, au_high, au_low))
         ∙ ap₂ (λ s a. next_sending s a (sent_at w (at k) d (m - 1 + 1)).value) ((u.tuned (at k) (there k)).sends k h refl) g.acts
         ∙ (spreads clock source k t).sending (sent_at w (at k) d (m - 1 + 1)).value g.value
 
-    frame_next : (k : ℕ) (line : List ℕ) → k < many → carried_on (round w).fibres (fibre (at k) d) ≡ Some line → IsOnWay n t k (au_of (n_of rate) m (scrambled (9 * n_of rate) line))
+    frame_next : (k : ℕ) (line : List ℕ) → k < many → carried_on (round w).fibres (fibre (at k) d) ≡ Some line
+        → IsOnWay n t k (au_of (n_of rate) m (scrambled (9 * n_of rate) line))
     frame_next k line h there_line =
         let g = goes_at k h in
         let x = sent_at w (at k) d (m - 1 + 1) in
         let gen = state_at w whole (at k) d (there k) (m - 1) in
         let now : gen ≡ state clock source k t = (u.tuned (at k) (there k)).sends k h refl in
         let au : au_of (n_of rate) m (scrambled (9 * n_of rate) line) ≡ au_sent gen x =
-        ap (λ a. au_of (n_of rate) a (scrambled (9 * n_of rate) line)) (sym back_is) ∙ au_left w whole (at k) d (there k) line there_line (m - 1) (omega (arith, au_high, au_low)) in
+        ap (λ a. au_of (n_of rate) a (scrambled (9 * n_of rate) line)) (sym back_is)
+        ∙ au_left w whole (at k) d (there k) line there_line (m - 1) (omega (arith, au_high, au_low)) in
         subst (IsOnWay n t k) (sym au) (record {
           word = word_in_au gen x ∙ ap₂ (λ s a. word_sent s a x.value) now g.acts ∙ (spreads clock source k t).word x.value g.value;
           payload = λ late. payload_sent gen x (λ z. not_ais clock source k t late (sym g.acts ∙ z)) ∙ g.payload late;
-          h3 = λ late down. h3_kept gen x (g.acts ∙ down) (ap₂ (λ s a. form_sent s a x.value) now g.acts ∙ down_form clock source k t x.value down (g.value late)) ∙ g.h3 late (g.acts ∙ down);
+          h3 =
+              λ late down. h3_kept gen x (g.acts ∙ down) (ap₂ (λ s a. form_sent s a x.value) now g.acts
+              ∙ down_form clock source k t x.value down (g.value late)) ∙ g.h3 late (g.acts ∙ down);
         })
 
     -- ---- what the port at the other end is given
@@ -384,9 +423,11 @@ module _ (i : ℕ) (c : Provisioned) (d : Side) (clock : ℕ → Clock) (source 
         let one : suc last ≡ many = omega arith in
         let more : last + 1 ≡ many = omega arith in
         let o : stands_in n cs (at (suc last)) (st (suc last)) (opposite d) m ≡ Working (opposite d) =
-        open-stands n cs (at (suc last)) (st (suc last)) (opposite d) m (open_here (at (suc last)) (opposite d) (there (suc last)) (held_behind last (omega arith))) in
+        open-stands n cs (at (suc last)) (st (suc last)) (opposite d) m
+        (open_here (at (suc last)) (opposite d) (there (suc last)) (held_behind last (omega arith))) in
         subst (λ k. HasCome many t (value_at w (at k) m (stands_in n cs (at k) (st k) (opposite d) m))) one
-        (subst (HasCome many t) (sym (ap (value_at w (at (suc last)) m) o)) (subst (λ j. HasCome j t (received (lines_at w (at (suc last))) (opposite d) m)) more (came last (omega arith))))
+        (subst (HasCome many t) (sym (ap (value_at w (at (suc last)) m) o))
+        (subst (λ j. HasCome j t (received (lines_at w (at (suc last))) (opposite d) m)) more (came last (omega arith))))
 
     -- ---- after the round
 
@@ -398,8 +439,11 @@ module _ (i : ℕ) (c : Provisioned) (d : Side) (clock : ℕ → Clock) (source 
       ring = u.ring;
       slot = u.slot;
       tuned = λ p h. record {
-        sends = λ k few is. ap (λ q. get_or (sending_on d (node_at (round w).ring.nodes q)).generators (m - 1) None) is ∙ sending_next k few;
-        reads = λ k few is. subst (λ q. Follows clock source (k + 1) (t + 1) (get_or (receiving_on (opposite d) (node_at (round w).ring.nodes q)).readings (m - 1) start)) (sym is) (reading_next k few);
+        sends =
+            λ k few is. ap (λ q. get_or (sending_on d (node_at (round w).ring.nodes q)).generators (m - 1) None) is ∙ sending_next k few;
+        reads =
+            λ k few is. subst (λ q. Follows clock source (k + 1) (t + 1)
+            (get_or (receiving_on (opposite d) (node_at (round w).ring.nodes q)).readings (m - 1) start)) (sym is) (reading_next k few);
         words = λ e held. word_here p e (omega (arith, length-after w)) held;
         open_sides = λ e held. open_here p e (omega (arith, length-after w)) held;
       };

@@ -1,5 +1,6 @@
 -- What comes to a node in a round: AIS and ones where nothing comes, and the word of the frame that the AU-4s are in.
-use Rattle.std.proofs.Common.{◌≡◌, ℕ, ◌-◌, ◌<◌, ◌≤◌, Bool, true, false, List, length, get_or, replicate, Some, None, refl, ap, sym, ◌∙◌, arith, inl, inr}
+use Rattle.std.proofs.Common.{◌≡◌, ℕ, ◌-◌, ◌<◌, ◌≤◌, Bool, true, false, List, length, get_or, replicate, Some, None, refl, ap, sym, ◌∙◌}
+use Rattle.std.proofs.Common.{arith, inl, inr}
 use Rattle.std.specs.Prelude.{slice_index}
 use Rattle.std.proofs.lemmas.Bool.{cases_Bool, cases_lt}
 use Rattle.std.proofs.lemmas.List.{get_or-replicate, length-replicate}
@@ -41,13 +42,17 @@ module _ (rate : Rate) (au : ℕ) (low : 1 ≤ au) (high : au ≤ n_of rate) whe
   abbrev bytes : List ℕ
   bytes = replicate (size_of rate) 255
 
-  pointer_ones : (j : ℕ) → j < 9 → slice_index bytes (index_of (n_of rate) (place_of_pointer (n_of rate) au j)) ≡ get_or (replicate 9 255) j 0
+  pointer_ones : (j : ℕ) → j < 9 → slice_index bytes (index_of (n_of rate) (place_of_pointer (n_of rate) au j))
+      ≡ get_or (replicate 9 255) j 0
   pointer_ones j h =
-      get_or-replicate (size_of rate) (index_of (n_of rate) (place_of_pointer (n_of rate) au j)) 255 0 (let at = pointer_in rate au j low high h in at.within) ∙ sym (get_or-replicate 9 j 255 0 h)
+      get_or-replicate (size_of rate) (index_of (n_of rate) (place_of_pointer (n_of rate) au j)) 255 0
+      (let at = pointer_in rate au j low high h in at.within) ∙ sym (get_or-replicate 9 j 255 0 h)
 
-  payload_ones : (j : ℕ) → j < 2349 → slice_index bytes (index_of (n_of rate) (payload_place (n_of rate) au j)) ≡ get_or (replicate 2349 255) j 0
+  payload_ones : (j : ℕ) → j < 2349 → slice_index bytes (index_of (n_of rate) (payload_place (n_of rate) au j))
+      ≡ get_or (replicate 2349 255) j 0
   payload_ones j h =
-      get_or-replicate (size_of rate) (index_of (n_of rate) (payload_place (n_of rate) au j)) 255 0 (let at = payload_in rate au j low high h in at.within) ∙ sym (get_or-replicate 2349 j 255 0 h)
+      get_or-replicate (size_of rate) (index_of (n_of rate) (payload_place (n_of rate) au j)) 255 0
+      (let at = payload_in rate au j low high h in at.within) ∙ sym (get_or-replicate 2349 j 255 0 h)
 
   pointers_are : pointers_of (n_of rate) au bytes ≡ replicate 9 255
   unfolding pointers_of
@@ -68,16 +73,21 @@ module _ (w : World) (whole : IsWhole w) (p : ℕ) (h : p < length w.ring.nodes)
   abbrev pub lost : Side → Bool
   lost d = is_cut (condition_to w p d)
 
-  pub silent_first : (d : Side) (au : ℕ) → 1 ≤ au → au ≤ n_of w.ring.settings.rate → w.ring.rounds ≡ 0 → (received (lines_at w p) d au).action ≡ action.Ais
+  pub silent_first : (d : Side) (au : ℕ) → 1 ≤ au → au ≤ n_of w.ring.settings.rate → w.ring.rounds ≡ 0
+      → (received (lines_at w p) d au).action ≡ action.Ais
   silent_first d au low high e =
-      ap (λ xs. get_or xs (au - 1) action.Ais) ((reads w whole p d h).none e) ∙ get_or-replicate (n_of w.ring.settings.rate) (au - 1) action.Ais action.Ais (omega arith)
+      ap (λ xs. get_or xs (au - 1) action.Ais) ((reads w whole p d h).none e)
+      ∙ get_or-replicate (n_of w.ring.settings.rate) (au - 1) action.Ais action.Ais (omega arith)
 
-  pub au_received : (d : Side) (au : ℕ) → 0 < w.ring.rounds → (received (lines_at w p) d au).au ≡ au_of (n_of w.ring.settings.rate) au (line_on (lines_at w p) d).intake.frame.bytes
+  pub au_received : (d : Side) (au : ℕ) → 0 < w.ring.rounds
+      → (received (lines_at w p) d au).au ≡ au_of (n_of w.ring.settings.rate) au (line_on (lines_at w p) d).intake.frame.bytes
   au_received d au ran = ap (λ r. au_of (n_of r) au (line_on (lines_at w p) d).intake.frame.bytes) (took_in w whole ran p d h).rate_is
 
-  pub ones_received : (d : Side) (au : ℕ) → 1 ≤ au → au ≤ n_of w.ring.settings.rate → 0 < w.ring.rounds → lost d ≡ true → (received (lines_at w p) d au).au ≡ ones
+  pub ones_received : (d : Side) (au : ℕ) → 1 ≤ au → au ≤ n_of w.ring.settings.rate → 0 < w.ring.rounds → lost d ≡ true
+      → (received (lines_at w p) d au).au ≡ ones
   ones_received d au low high ran cut =
-      au_received d au ran ∙ ap (au_of (n_of w.ring.settings.rate) au) ((reads w whole p d h).ones ran cut) ∙ au_of_ones w.ring.settings.rate au low high
+      au_received d au ran ∙ ap (au_of (n_of w.ring.settings.rate) au) ((reads w whole p d h).ones ran cut)
+      ∙ au_of_ones w.ring.settings.rate au low high
 
   no_word : (k : K) → None ≡ Some k → ⊥
   no_word k z = cc
@@ -90,12 +100,15 @@ module _ (w : World) (whole : IsWhole w) (p : ℕ) (h : p < length w.ring.nodes)
   pub heard_came : (d : Side) (k : K) → word_on (scene_in (next_node w whole p)) d ≡ Some k → IsWordOf d k
   heard_came d k e =
       let next = next_node w whole p in
-      let last : (receiving_on d next).brought.last ≡ Some k = heard_last (receiving_on d next).brought k (sym (word_on_is w whole next d) ∙ e) in
-      let came : (receiving_on d (node_at (round w).ring.nodes p)).brought.last ≡ Some k = ap (λ y. (receiving_on d y).brought.last) (nodes_after w whole.placed p h) ∙ last in
+      let last : (receiving_on d next).brought.last ≡ Some k =
+      heard_last (receiving_on d next).brought k (sym (word_on_is w whole next d) ∙ e) in
+      let came : (receiving_on d (node_at (round w).ring.nodes p)).brought.last ≡ Some k =
+      ap (λ y. (receiving_on d y).brought.last) (nodes_after w whole.placed p h) ∙ last in
       let b = brings w whole p d h in
       record { clear = clear_by b came; is = came_is w whole p d _ _ k b came }
     where
-      clear_by : Brings w p d (receiving_on d (node_at w.ring.nodes p)) (receiving_on d (node_at (round w).ring.nodes p)) → (receiving_on d (node_at (round w).ring.nodes p)).brought.last ≡ Some k → lost d ≡ false
+      clear_by : Brings w p d (receiving_on d (node_at w.ring.nodes p)) (receiving_on d (node_at (round w).ring.nodes p))
+          → (receiving_on d (node_at (round w).ring.nodes p)).brought.last ≡ Some k → lost d ≡ false
       clear_by b came = elim (cases_lt 0 w.ring.rounds) [
         | inr none ↦ absurd (no_word k (sym (b.nothing (omega arith)) ∙ came))
         | inl ran ↦ elim (cases_Bool (lost d)) [

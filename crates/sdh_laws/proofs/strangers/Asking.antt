@@ -11,7 +11,8 @@ use Rattle.sdh_ringmap.specs.declared.Side.{Side}
 use Rattle.sdh_ringmap.specs.declared.Side.TheVariants.{West, East}
 use Rattle.sdh_nodestate.specs.Rules.{Scene, local, word_on, short, far, chosen, is_relay, word, switches, state_by, state_after}
 use Rattle.sdh_routes.proofs.Passing.{is_open}
-use Rattle.sdh_settling.proofs.OneNode.{IsShortHeard, Kind, a_short, a_long, a_relay, kind, long_from, relayed_from, short_from, weight_is, switch_none}
+use Rattle.sdh_settling.proofs.OneNode.{IsShortHeard, Kind, a_short, a_long, a_relay, kind, long_from, relayed_from, short_from, weight_is}
+use Rattle.sdh_settling.proofs.OneNode.{switch_none}
 
 -- a word that is no request of a neighbour over the span between
 abbrev pub Harmless : K → Type 0
@@ -56,8 +57,12 @@ module _ (s : Scene) (e : Side) (none : local s e ≡ Nr) (heard : (k : K) → w
 
 open_by : (s : Scene) (e : Side) → switches s e ≡ false → is_open (state_after s) e ≡ true
 unfolding state_after
-open_by s West h = ap (λ a. is_open (state_by a (switches s East) (is_relay (chosen s West)) (is_relay (chosen s East)) (far s West) (far s East)) West) h ∙ open_west (switches s East) (is_relay (chosen s West)) (is_relay (chosen s East)) (far s West) (far s East)
-open_by s East h = ap (λ b. is_open (state_by (switches s West) b (is_relay (chosen s West)) (is_relay (chosen s East)) (far s West) (far s East)) East) h ∙ open_east (switches s West) (is_relay (chosen s West)) (is_relay (chosen s East)) (far s West) (far s East)
+open_by s West h =
+    ap (λ a. is_open (state_by a (switches s East) (is_relay (chosen s West)) (is_relay (chosen s East)) (far s West) (far s East)) West) h
+    ∙ open_west (switches s East) (is_relay (chosen s West)) (is_relay (chosen s East)) (far s West) (far s East)
+open_by s East h =
+    ap (λ b. is_open (state_by (switches s West) b (is_relay (chosen s West)) (is_relay (chosen s East)) (far s West) (far s East)) East) h
+    ∙ open_east (switches s West) (is_relay (chosen s West)) (is_relay (chosen s East)) (far s West) (far s East)
 
 -- a side without a request isn't switched
 pub stays_open : (s : Scene) (e : Side) → local s e ≡ Nr → ((k : K) → word_on s e ≡ Some k → Harmless k) → is_open (state_after s) e ≡ true

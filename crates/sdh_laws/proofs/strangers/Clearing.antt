@@ -30,7 +30,8 @@ use Rattle.sdh_laws.specs.Strangers.Vouched.{HoldsAtMost, IsVouched}
 use Rattle.sdh_laws.specs.Strangers.Laws.{HoldsNone, NoneHolds}
 use Rattle.sdh_laws.proofs.strangers.Lags.{steps_few, start_of, place_on, working_lag, protection_lag, AreLags}
 use Rattle.sdh_laws.proofs.strangers.Worlds.{Vouches, vouched_round}
-use Rattle.sdh_laws.proofs.strangers.Vouched.{carried_holds, holds_more, vouches_changed, held_changed, vouched_by, none_held, held_after, adds_own}
+use Rattle.sdh_laws.proofs.strangers.Vouched.{carried_holds, holds_more, vouches_changed, held_changed, vouched_by, none_held, held_after}
+use Rattle.sdh_laws.proofs.strangers.Vouched.{adds_own}
 use Rattle.sdh_laws.proofs.strangers.Keeping.{kept_in}
 
 -- ---- every lag is over after n (n + 1) rounds
@@ -62,8 +63,16 @@ module _ (clocks : PortId → ℕ → Clock) where
 
   cleared_lags : (cs : List Provisioned) (t s : ℕ) → AreLags (Cleared cs t s) (Cleared cs (t + 1) (s + 1))
   cleared_lags cs t s = record {
-    was = λ i. record { blank = λ q h. (carried_holds cs clocks t).blank q; passes = λ q f w a x h. (carried_holds cs clocks t).passes q f w a (x h) };
-    own = λ i. record { blank = λ q h. (carried_holds cs clocks (t + 1)).blank q; passes = λ q f w a x h. (carried_holds cs clocks (t + 1)).passes q f w a (x h) };
+    was =
+        λ i. record {
+          blank = λ q h. (carried_holds cs clocks t).blank q;
+          passes = λ q f w a x h. (carried_holds cs clocks t).passes q f w a (x h);
+        };
+    own =
+        λ i. record {
+          blank = λ q h. (carried_holds cs clocks (t + 1)).blank q;
+          passes = λ q f w a x h. (carried_holds cs clocks (t + 1)).passes q f w a (x h);
+        };
     later = λ i j q a less x h. holds_more cs clocks t q a (x (omega arith));
     longer = λ i j q a less x h. x (omega arith);
   }
@@ -73,7 +82,10 @@ module _ (clocks : PortId → ℕ → Clock) where
 
   -- whatever it carries
   clears_none : (w : World) → Clears w 0
-  clears_none w = record { working = λ p h m d line there low high over. absurd (omega arith); protection = λ p h m d line there low high over. absurd (omega arith) }
+  clears_none w = record {
+    working = λ p h m d line there low high over. absurd (omega arith);
+    protection = λ p h m d line there low high over. absurd (omega arith);
+  }
 
   module _ (most : ℕ) where
     -- so many rounds ago no controller was to miss more turns than these
@@ -110,7 +122,8 @@ module _ (clocks : PortId → ℕ → Clock) where
       clears = vouches_changed (Cleared w.ring.circuits.circuits w.ring.rounds (j - most)) (Now t) w k.clears;
     }
 
-    clears_then : (j : ℕ) (w : World) → HasCircuits (layout_of w) → IsClearing j w → AreClocksOf clocks w.ring → Clears (round w) (j + 1 - most)
+    clears_then : (j : ℕ) (w : World) → HasCircuits (layout_of w) → IsClearing j w → AreClocksOf clocks w.ring
+        → Clears (round w) (j + 1 - most)
     unfolding any_round.round any_round.round_with
     clears_then j w form k tells = elim (cases_lt j most) [
       | inl early ↦ subst (Clears (round w)) (let e : 0 ≡ j + 1 - most = omega arith in e) (clears_none (round w))
@@ -120,22 +133,29 @@ module _ (clocks : PortId → ℕ → Clock) where
           let s = j - most in
           let free : AtEach (λ p n. n.held ≤ 0) w.ring.nodes = λ p h. (let few = k.held p h in omega arith) in
           let goes : Vouches (Cleared cs (t + 1) (s + 1)) (round w) =
-          vouched_round (Cleared cs t s) (Cleared cs (t + 1) (s + 1)) (cleared_lags cs t s) w k.whole (on-ring (length w.ring.ids) (slots_of (layout_of w)) cs form) (none_held w free) k.clears
+          vouched_round (Cleared cs t s) (Cleared cs (t + 1) (s + 1)) (cleared_lags cs t s) w k.whole
+          (on-ring (length w.ring.ids) (slots_of (layout_of w)) cs form) (none_held w free) k.clears
           (λ j i c e get over. adds_own clocks w k.whole form tells i c e get) in
           subst (λ i. Vouches (Cleared cs (t + 1) i) (round w)) (let e : s + 1 ≡ j + 1 - most = omega arith in e) goes)
     ]
 
-    clearing_then : (j : ℕ) (w : World) → HasCircuits (layout_of w) → IsClearing j w → AreClocksOf clocks w.ring → IsClearing (j + 1) (round w)
+    clearing_then : (j : ℕ) (w : World) → HasCircuits (layout_of w) → IsClearing j w → AreClocksOf clocks w.ring
+        → IsClearing (j + 1) (round w)
     clearing_then j w form k tells = record {
       whole = whole_round w k.whole;
       held = λ p h. (let few = held_after w k.whole (most - j) k.held p h in omega arith);
       clears = clears_then j w form k tells;
     }
 
-    pub clearing_in : (ss : List Stretch) (w : World) (t : ℕ) → IsWhole w → HasCircuits (layout_of w) → AtEach (λ p n. n.held ≤ most) w.ring.nodes → MayHappen w ss → NoneHolds ss
+    pub clearing_in : (ss : List Stretch) (w : World) (t : ℕ) → IsWhole w → HasCircuits (layout_of w)
+        → AtEach (λ p n. n.held ≤ most) w.ring.nodes → MayHappen w ss → NoneHolds ss
         → ((j : ℕ) → j < rounds_in ss → AreClocksOf clocks (world_in ss w j).ring) → t ≤ rounds_in ss → IsClearing (0 + t) (world_in ss w t)
     clearing_in ss w t whole form held may none tells few =
-        let begins : IsClearing 0 w = record { whole = whole; held = λ p h. (let h = held p h in omega arith); clears = subst (Clears w) (let e : 0 ≡ 0 - most = omega arith in e) (clears_none w) } in
+        let begins : IsClearing 0 w = record {
+          whole = whole;
+          held = λ p h. (let h = held p h in omega arith);
+          clears = subst (Clears w) (let e : 0 ≡ 0 - most = omega arith in e) (clears_none w);
+        } in
         kept_in clocks IsClearing clearing_changed clearing_then ss 0 w t form begins may none tells few
 
     -- and then the ring is vouched for
@@ -145,6 +165,10 @@ module _ (clocks : PortId → ℕ → Clock) where
         let enough = k.whole.placed.ids.enough in
         let some : 0 < n = omega arith in
         vouched_by clocks w k.whole (λ p h. (let few = k.held p h in omega arith)) (record {
-          working = λ p h m d line there low high. k.clears.working p h m d line there low high (over_then _ (n * (n + 1)) j most (working_over n some d _ p) long);
-          protection = λ p h m d line there low high. k.clears.protection p h m d line there low high (over_then _ (n * (n + 1)) j most (protection_over n some (opposite d) _ _ p) long);
+          working =
+              λ p h m d line there low high. k.clears.working p h m d line there low high
+              (over_then _ (n * (n + 1)) j most (working_over n some d _ p) long);
+          protection =
+              λ p h m d line there low high. k.clears.protection p h m d line there low high
+              (over_then _ (n * (n + 1)) j most (protection_over n some (opposite d) _ _ p) long);
         })

@@ -21,7 +21,8 @@ pub layout_in : (rest : List Stretch) (w : World) (t : ℕ) → layout_of (world
 layout_in [] w t = refl
 layout_in (x ∷ rest) w t = elim (cases_lt t x.rounds) [
   | inl low ↦ ap layout_of (world_low x rest w t low) ∙ layout_run (all_changed x.changes w) t ∙ layout_all x.changes w
-  | inr high ↦ ap layout_of (world_high x rest w t high) ∙ layout_in rest (after_stretch x w) (t - x.rounds) ∙ layout_run (all_changed x.changes w) x.rounds ∙ layout_all x.changes w
+  | inr high ↦ ap layout_of (world_high x rest w t high) ∙ layout_in rest (after_stretch x w) (t - x.rounds)
+      ∙ layout_run (all_changed x.changes w) x.rounds ∙ layout_all x.changes w
 ]
 
 -- ---- what is so after so many rounds, over changes that hold no controller and rounds that these are the clocks of
@@ -33,27 +34,34 @@ module _ (clocks : PortId → ℕ → Clock) (Kept : ℕ → World → Type 0)
   kept_all [] j w may none k = k
   kept_all (c ∷ xs) j w may none k = kept_all xs j (changed c w) may.1 none.1 (change j c w may.0 none.0 k)
 
-  pub kept_run : (many j : ℕ) (w : World) → HasCircuits (layout_of w) → Kept j w → ((i : ℕ) → i < many → AreClocksOf clocks (run i w).ring) → Kept (j + many) (run many w)
+  pub kept_run : (many j : ℕ) (w : World) → HasCircuits (layout_of w) → Kept j w → ((i : ℕ) → i < many → AreClocksOf clocks (run i w).ring)
+      → Kept (j + many) (run many w)
   unfolding any_run.run
   kept_run zero j w form k tells = subst (λ i. Kept i w) (let e : j ≡ j + 0 = omega arith in e) k
   kept_run (suc many) j w form k tells =
       subst (λ i. Kept i (round (run many w))) (let e : j + many + 1 ≡ j + suc many = omega arith in e)
-      (next (j + many) (run many w) (subst HasCircuits (sym (layout_run w many)) form) (kept_run many j w form k (λ i h. tells i (omega arith))) (tells many (omega arith)))
+      (next (j + many) (run many w) (subst HasCircuits (sym (layout_run w many)) form)
+      (kept_run many j w form k (λ i h. tells i (omega arith))) (tells many (omega arith)))
 
-  pub kept_in : (rest : List Stretch) (j : ℕ) (w : World) (t : ℕ) → HasCircuits (layout_of w) → Kept j w → MayHappen w rest → NoneHolds rest → ((i : ℕ) → i < rounds_in rest → AreClocksOf clocks (world_in rest w i).ring) → t ≤ rounds_in rest
+  pub kept_in : (rest : List Stretch) (j : ℕ) (w : World) (t : ℕ) → HasCircuits (layout_of w) → Kept j w → MayHappen w rest → NoneHolds rest
+      → ((i : ℕ) → i < rounds_in rest → AreClocksOf clocks (world_in rest w i).ring) → t ≤ rounds_in rest
       → Kept (j + t) (world_in rest w t)
   kept_in [] j w t form k may none tells h = subst (λ i. Kept i w) (let e : j ≡ j + t = omega arith in e) k
   kept_in (x ∷ rest) j w t form k may none tells h =
       let v = all_changed x.changes w in
       let begin : Kept j v = kept_all x.changes j w may.0 none.0 k in
       let form_v : HasCircuits (layout_of v) = subst HasCircuits (sym (layout_all x.changes w)) form in
-      let within : (i : ℕ) → i < x.rounds → AreClocksOf clocks (run i v).ring = λ i low. subst (λ (u : World). AreClocksOf clocks u.ring) (world_low x rest w i low) (tells i (omega arith)) in
+      let within : (i : ℕ) → i < x.rounds → AreClocksOf clocks (run i v).ring =
+      λ i low. subst (λ (u : World). AreClocksOf clocks u.ring) (world_low x rest w i low) (tells i (omega arith)) in
       elim (cases_lt t x.rounds) [
         | inl low ↦ subst (Kept (j + t)) (sym (world_low x rest w t low)) (kept_run t j v form_v begin (λ i less. within i (omega arith)))
         | inr high ↦ subst (Kept (j + t)) (sym (world_high x rest w t high))
-            (subst (λ i. Kept i (world_in rest (after_stretch x w) (t - x.rounds))) (let e : j + x.rounds + (t - x.rounds) ≡ j + t = omega arith in e)
-            (kept_in rest (j + x.rounds) (after_stretch x w) (t - x.rounds) (subst HasCircuits (sym (layout_run v x.rounds)) form_v) (kept_run x.rounds j v form_v begin within) may.1 none.1
-            (λ i low. subst (λ (u : World). AreClocksOf clocks u.ring) (world_later x rest w i) (tells (x.rounds + i) (omega arith))) (omega arith)))
+            (subst (λ i. Kept i (world_in rest (after_stretch x w) (t - x.rounds)))
+            (let e : j + x.rounds + (t - x.rounds) ≡ j + t = omega arith in e)
+            (kept_in rest (j + x.rounds) (after_stretch x w) (t - x.rounds) (subst HasCircuits (sym (layout_run v x.rounds)) form_v)
+            (kept_run x.rounds j v form_v begin within) may.1 none.1
+            (λ i low. subst (λ (u : World). AreClocksOf clocks u.ring) (world_later x rest w i) (tells (x.rounds + i) (omega arith)))
+            (omega arith)))
       ]
 
 -- ---- stretches one behind the other
@@ -62,12 +70,16 @@ pub rounds_together : (earlier later : List Stretch) → rounds_in (earlier ++ l
 rounds_together [] later = omega arith
 rounds_together (s ∷ earlier) later = (let more = rounds_together earlier later in omega arith)
 
-pub happens_in_parts : (earlier later : List Stretch) (w : World) → MayHappen w (earlier ++ later) → MayHappen w earlier × MayHappen (after_stretches earlier w) later
+pub happens_in_parts : (earlier later : List Stretch) (w : World) → MayHappen w (earlier ++ later)
+    → MayHappen w earlier × MayHappen (after_stretches earlier w) later
 happens_in_parts [] later w may = (tt, may)
-happens_in_parts (s ∷ earlier) later w may = (let parts = happens_in_parts earlier later (after_stretch s w) may.1 in ((may.0, parts.0), parts.1))
+happens_in_parts (s ∷ earlier) later w may =
+    (let parts = happens_in_parts earlier later (after_stretch s w) may.1 in ((may.0, parts.0), parts.1))
 
-pub world_behind : (earlier later : List Stretch) (w : World) (t : ℕ) → world_in (earlier ++ later) w (rounds_in earlier + t) ≡ world_in later (after_stretches earlier w) t
+pub world_behind : (earlier later : List Stretch) (w : World) (t : ℕ)
+    → world_in (earlier ++ later) w (rounds_in earlier + t) ≡ world_in later (after_stretches earlier w) t
 world_behind [] later w t = ap (world_in later w) (let e : 0 + t ≡ t = omega arith in e)
 world_behind (s ∷ earlier) later w t =
-    ap (world_in (s ∷ earlier ++ later) w) (let e : s.rounds + rounds_in earlier + t ≡ s.rounds + (rounds_in earlier + t) = omega arith in e)
+    ap (world_in (s ∷ earlier ++ later) w) (let e : s.rounds + rounds_in earlier + t
+    ≡ s.rounds + (rounds_in earlier + t) = omega arith in e)
     ∙ world_later s (earlier ++ later) w (rounds_in earlier + t) ∙ world_behind earlier later (after_stretch s w) t

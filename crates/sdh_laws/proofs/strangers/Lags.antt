@@ -34,16 +34,21 @@ module _ (n : ℕ) (some : 0 < n) where
   pub steps_going : (d : Side) (p k : ℕ) → p < n → k < n → steps n d p (going n d p k) ≡ k
   steps_going East p k h few =
       let z : 0 + k ≡ k = omega arith in
-      ap (λ q. eastwards n q (going n East p k)) (sym (going-none n some East p h)) ∙ ap (λ j. eastwards n (going n East p 0) (going n East p j)) (sym z) ∙ far_east n some p 0 k few
+      ap (λ q. eastwards n q (going n East p k)) (sym (going-none n some East p h))
+      ∙ ap (λ j. eastwards n (going n East p 0) (going n East p j)) (sym z) ∙ far_east n some p 0 k few
   steps_going West p k h few =
       let z : 0 + k ≡ k = omega arith in
-      ap (λ q. eastwards n (going n West p k) q) (sym (going-none n some West p h)) ∙ ap (λ j. eastwards n (going n West p j) (going n West p 0)) (sym z) ∙ far_west n some p 0 k few
+      ap (λ q. eastwards n (going n West p k) q) (sym (going-none n some West p h))
+      ∙ ap (λ j. eastwards n (going n West p j) (going n West p 0)) (sym z) ∙ far_west n some p 0 k few
 
-  next_by : (d : Side) (p q k : ℕ) → p < n → p ≢ q → going n d p k ≡ q → k < n → steps n d p q ≡ steps n d p (neighbour n q (opposite d)) + 1
+  next_by : (d : Side) (p q k : ℕ) → p < n → p ≢ q → going n d p k ≡ q → k < n
+      → steps n d p q ≡ steps n d p (neighbour n q (opposite d)) + 1
   next_by d p q zero h other at few = absurd (other (sym (going-none n some d p h) ∙ at))
   next_by d p q (suc j) h other at few =
       let here : steps n d p q ≡ suc j = ap (steps n d p) (sym at) ∙ steps_going d p (suc j) h few in
-      let before : steps n d p (neighbour n q (opposite d)) ≡ j = ap (λ x. steps n d p (neighbour n x (opposite d))) (sym at) ∙ ap (steps n d p) (going-back n some d p j) ∙ steps_going d p j h (omega arith) in
+      let before : steps n d p (neighbour n q (opposite d)) ≡ j =
+      ap (λ x. steps n d p (neighbour n x (opposite d))) (sym at) ∙ ap (steps n d p) (going-back n some d p j)
+      ∙ steps_going d p j h (omega arith) in
       omega arith
 
   -- a position is a step farther than the one before it

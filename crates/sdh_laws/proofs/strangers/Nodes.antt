@@ -1,5 +1,6 @@
 -- What a node sends and delivers, where what comes in is fine.
-use Rattle.std.proofs.Common.{◌≡◌, ℕ, zero, suc, ◌+◌, ◌-◌, ◌*◌, ◌<◌, ◌≤◌, Bool, true, false, List, length, Option, Some, None, refl, ap, sym, ◌∙◌, subst, arith, inl, inr, ◌⊎◌}
+use Rattle.std.proofs.Common.{◌≡◌, ℕ, zero, suc, ◌+◌, ◌-◌, ◌*◌, ◌<◌, ◌≤◌, Bool, true, false, List, length, Option, Some, None, refl, ap}
+use Rattle.std.proofs.Common.{sym, ◌∙◌, subst, arith, inl, inr, ◌⊎◌}
 use Rattle.std.specs.Prelude.{◌≢◌, if◌then◌else◌, slice_index, slice_get}
 use Rattle.std.specs.Option.{option_and_then}
 use Rattle.std.proofs.lemmas.Bool.{cases_Bool, and_parts, eqb-true}
@@ -39,12 +40,14 @@ use Rattle.sdh_routes.proofs.Seen.{Seen}
 use Rattle.sdh_routes.proofs.Sights.{found-gives, arc-end}
 use Rattle.sdh_routes.proofs.OnArcs.{near_at, near_end, on-arc, seen-on}
 use Rattle.sdh_routes.proofs.Meets.{meets-own, meets-farther}
-use Rattle.sdh_routes.proofs.Passing.{is_open, open-stands, leaves-on, leaves-own_or_none, leaves-unused, isolated-stands, isolated-leaves, idle-leaves, switched-stands, bridged-leaves, blocked-leaves, away-leaves, passed-leaves}
+use Rattle.sdh_routes.proofs.Passing.{is_open, open-stands, leaves-on, leaves-own_or_none, leaves-unused, isolated-stands, isolated-leaves}
+use Rattle.sdh_routes.proofs.Passing.{idle-leaves, switched-stands, bridged-leaves, blocked-leaves, away-leaves, passed-leaves}
 use Rattle.sdh_laws.specs.Strangers.Owners.{port_named}
 use Rattle.sdh_laws.specs.Strangers.Vouched.{sender, told_of, spoken_of}
 use Rattle.sdh_laws.specs.Strangers.Vouched.{streams_to}
 use Rattle.sdh_laws.proofs.strangers.Content.{Fine}
-use Rattle.sdh_laws.proofs.strangers.Lags.{steps, steps_few, steps_going, steps_next, start_of, place_on, working_lag, protection_lag, source_in, spoken_lag, lag_less, AreLags}
+use Rattle.sdh_laws.proofs.strangers.Lags.{steps, steps_few, steps_going, steps_next, start_of, place_on, working_lag, protection_lag}
+use Rattle.sdh_laws.proofs.strangers.Lags.{source_in, spoken_lag, lag_less, AreLags}
 use Rattle.sdh_settling.proofs.Ends.{found}
 use Rattle.sdh_settling.proofs.OneNode.{word_long, relayed_from}
 use Rattle.sdh_laws.proofs.strangers.Rules.{switched_one, passes_relays, relays, switched_says_long, long_word_is, heard_is_long, far_from}
@@ -55,7 +58,8 @@ near_is_sender : (d : Side) → near_end d ≡ sender d
 near_is_sender East = refl
 near_is_sender West = refl
 
-ends_by : (a b : Bool) (x y p : ℕ) (e : End) → ((a ≡ true) → x ≡ p) → ((b ≡ true) → y ≡ p) → (if a then Some A else (if b then Some B else None)) ≡ Some e → (e ≡ A × x ≡ p) ⊎ (e ≡ B × y ≡ p)
+ends_by : (a b : Bool) (x y p : ℕ) (e : End) → ((a ≡ true) → x ≡ p) → ((b ≡ true) → y ≡ p)
+    → (if a then Some A else (if b then Some B else None)) ≡ Some e → (e ≡ A × x ≡ p) ⊎ (e ≡ B × y ≡ p)
 ends_by true b x y p e f g h = inl (sym (let z : A ≡ e = cc in z), f refl)
 ends_by false true x y p e f g h = inr (sym (let z : B ≡ e = cc in z), g refl)
 ends_by false false x y p e f g h = cc
@@ -70,12 +74,15 @@ ends_there c p e h = elim (ends_by (c.from.0 == p) (c.to.0 == p) c.from.0 c.to.0
 -- where a circuit is on the span of a side: it ends here, and its port sends there, or it is on the other span too
 pub data Meets (n : ℕ) (cs : List Provisioned) (p m : ℕ) (d : Side) : Type 0 where
   nothing : circuits_at n cs p m d ≡ None → Meets n cs p m d
-  ends : (i : ℕ) (c : Provisioned) → circuits_at n cs p m d ≡ Some (entry i c) → end_at c p ≡ Some (sender d) → slice_get cs i ≡ Some c → port_at c (sender d) ≡ p → Meets n cs p m d
-  goes_on : (i : ℕ) (c : Provisioned) → circuits_at n cs p m d ≡ Some (entry i c) → end_at c p ≡ None → circuits_at n cs p m (opposite d) ≡ Some (entry i c)
+  ends : (i : ℕ) (c : Provisioned) → circuits_at n cs p m d ≡ Some (entry i c) → end_at c p ≡ Some (sender d) → slice_get cs i ≡ Some c
+      → port_at c (sender d) ≡ p → Meets n cs p m d
+  goes_on : (i : ℕ) (c : Provisioned) → circuits_at n cs p m d ≡ Some (entry i c) → end_at c p ≡ None
+      → circuits_at n cs p m (opposite d) ≡ Some (entry i c)
       → place_on n d (Some (entry i c)) p ≡ place_on n d (Some (entry i c)) (neighbour n p (opposite d)) + 1 → Meets n cs p m d
 
 -- where a circuit's stream to a side starts, and where the one to the other side does
-starts_near : (n : ℕ) (cs : List Provisioned) (ring : AreOnRing n cs) (i : ℕ) (c : Provisioned) → slice_get cs i ≡ Some c → (d : Side) → start_of d (entry i c) ≡ near_at n c d
+starts_near : (n : ℕ) (cs : List Provisioned) (ring : AreOnRing n cs) (i : ℕ) (c : Provisioned) → slice_get cs i ≡ Some c → (d : Side)
+    → start_of d (entry i c) ≡ near_at n c d
 starts_near n cs ring i c get East = refl
 starts_near n cs ring i c get West = arc-end n cs ring i c get
 
@@ -83,7 +90,8 @@ starts_distant : (i : ℕ) (c : Provisioned) (d : Side) → start_of (opposite d
 starts_distant i c East = refl
 starts_distant i c West = refl
 
-near_inside : (n : ℕ) (cs : List Provisioned) (ring : AreOnRing n cs) (i : ℕ) (c : Provisioned) → slice_get cs i ≡ Some c → (d : Side) → near_at n c d < n
+near_inside : (n : ℕ) (cs : List Provisioned) (ring : AreOnRing n cs) (i : ℕ) (c : Provisioned) → slice_get cs i ≡ Some c → (d : Side)
+    → near_at n c d < n
 near_inside n cs ring i c get East = (ring.inside i c get).0
 near_inside n cs ring i c get West = (let h = (ring.inside i c get).0 in going-inside n (omega arith) East c.from.0 (arc_length n c))
 
@@ -91,15 +99,18 @@ module _ (n : ℕ) (cs : List Provisioned) (ring : AreOnRing n cs) (p m : ℕ) (
   some : 0 < n
   some = omega (arith, inside)
 
-  farther_on : (i : ℕ) (c : Provisioned) → slice_get cs i ≡ Some c → (d : Side) (q j : ℕ) → suc j < n → q ≡ going n d (near_at n c d) (suc j)
+  farther_on : (i : ℕ) (c : Provisioned) → slice_get cs i ≡ Some c → (d : Side) (q j : ℕ) → suc j < n
+      → q ≡ going n d (near_at n c d) (suc j)
       → place_on n d (Some (entry i c)) q ≡ place_on n d (Some (entry i c)) (neighbour n q (opposite d)) + 1
   farther_on i c get d q j few at =
       let b = near_at n c d in
       let low = near_inside n cs ring i c get d in
       let start : start_of d (entry i c) ≡ b = starts_near n cs ring i c get d in
-      let here : steps n d (start_of d (entry i c)) q ≡ suc j = (λ k. steps n d (start k) (at k)) ∙ steps_going n some d b (suc j) low few in
+      let here : steps n d (start_of d (entry i c)) q ≡ suc j =
+      (λ k. steps n d (start k) (at k)) ∙ steps_going n some d b (suc j) low few in
       let before : steps n d (start_of d (entry i c)) (neighbour n q (opposite d)) ≡ j =
-      (λ k. steps n d (start k) (neighbour n (at k) (opposite d))) ∙ ap (steps n d b) (going-back n some d b j) ∙ steps_going n some d b j low (omega arith) in
+      (λ k. steps n d (start k) (neighbour n (at k) (opposite d))) ∙ ap (steps n d b) (going-back n some d b j)
+      ∙ steps_going n some d b j low (omega arith) in
       omega arith
 
   met_by : (d : Side) (o : Option Row) → circuits_at n cs p m d ≡ o → Meets n cs p m d
@@ -116,7 +127,8 @@ module _ (n : ℕ) (cs : List Provisioned) (ring : AreOnRing n cs) (p m : ℕ) (
       let here : circuits_at n cs p m d ≡ Some (entry i c) = e ∙ ap Some row in
       by_step i c f.is seen slot here at.step at.few at.there
     where
-      by_step : (i : ℕ) (c : Provisioned) → slice_get cs i ≡ Some c → Seen n cs i c d (near_at n c d) (near_end d) (other_end (near_end d)) → c.slot.0 ≡ m → circuits_at n cs p m d ≡ Some (entry i c)
+      by_step : (i : ℕ) (c : Provisioned) → slice_get cs i ≡ Some c → Seen n cs i c d (near_at n c d) (near_end d) (other_end (near_end d))
+          → c.slot.0 ≡ m → circuits_at n cs p m d ≡ Some (entry i c)
           → (k : ℕ) → k < arc_length n c → p ≡ going n d (near_at n c d) k → Meets n cs p m d
       by_step i c get seen slot here zero few at =
           let e = ap (end_at c) at ∙ seen.starts ∙ ap Some (near_is_sender d) in
@@ -140,10 +152,13 @@ unfolding may_carry
 no_far n cs p West m = refl
 no_far n cs p East m = refl
 
-module _ (Was Own : ℕ → Option PortId → Au → Type 0) (lags : AreLags Was Own) (ids : List ℕ) (cs : List Provisioned) (are : AreIds ids) (ring : AreOnRing (length ids) cs)
+module _ (Was Own : ℕ → Option PortId → Au → Type 0) (lags : AreLags Was Own) (ids : List ℕ) (cs : List Provisioned) (are : AreIds ids)
+    (ring : AreOnRing (length ids) cs)
     (s : Scene) (same : s.ids ≡ ids) (p : ℕ) (at : s.at ≡ p) (inside : p < length ids) (m : ℕ) (value : Origin → Input)
-    (working_in_fine : (d : Side) → Fine (Was (working_lag (length ids) (opposite d) (circuits_at (length ids) cs p m d) (neighbour (length ids) p d))) (circuits_at (length ids) cs p m d) (opposite d) (value (Working d)))
-    (protection_in_fine : (d : Side) (k : K) → long s d ≡ Some k → Fine (Was (spoken_lag ids cs m d k (neighbour (length ids) p d))) (spoken_of ids cs m d k) d (value (Protection d)))
+    (working_in_fine : (d : Side) → Fine (Was (working_lag (length ids) (opposite d) (circuits_at (length ids) cs p m d)
+    (neighbour (length ids) p d))) (circuits_at (length ids) cs p m d) (opposite d) (value (Working d)))
+    (protection_in_fine : (d : Side) (k : K) → long s d ≡ Some k
+    → Fine (Was (spoken_lag ids cs m d k (neighbour (length ids) p d))) (spoken_of ids cs m d k) d (value (Protection d)))
     (sourced : (d : Side) (k : K) → long s d ≡ Some k → IsMember ids k.from)
     (silence : (value Ais).action ≡ action.Ais) where
   abbrev n : ℕ
@@ -177,14 +192,17 @@ module _ (Was Own : ℕ → Option PortId → Au → Type 0) (lags : AreLags Was
   longer i j less o d x (inr h) = inr (lags.longer i j (streams_to d o) x.au less h)
 
   heard_source : (d : Side) (k : K) (f : Pos) → long s d ≡ Some k → found_at s.ids k.from ≡ Some f → source_in ids k ≡ Some f
-  heard_source d k f h at = ap (option_and_then (λ (k : K). found_at ids k.from)) (heard_is_long s d k h) ∙ ap (λ i. found_at i k.from) (sym same) ∙ at
+  heard_source d k f h at =
+      ap (option_and_then (λ (k : K). found_at ids k.from)) (heard_is_long s d k h) ∙ ap (λ i. found_at i k.from) (sym same) ∙ at
 
   -- the circuit of which the word speaks that is heard away from a switched side
-  heard_speaks : (d : Side) (k : K) (f : Pos) → long s d ≡ Some k → found_at s.ids k.from ≡ Some f → spoken_of ids cs m d k ≡ circuits_at n cs f.0 m d
+  heard_speaks : (d : Side) (k : K) (f : Pos) → long s d ≡ Some k → found_at s.ids k.from ≡ Some f
+      → spoken_of ids cs m d k ≡ circuits_at n cs f.0 m d
   heard_speaks d k f h at = ap (told_of ids cs m d) (heard_source d k f h at)
 
   -- the far end is nearer to the circuit's port than the neighbour over the switched span
-  nearer : (d : Side) (f : Pos) → f.0 < n → carries_in n cs p d m (Some f) ≡ true → place_on n (opposite d) (on d) f.0 ≤ place_on n (opposite d) (on d) (neighbour n p d)
+  nearer : (d : Side) (f : Pos) → f.0 < n → carries_in n cs p d m (Some f) ≡ true
+      → place_on n (opposite d) (on d) f.0 ≤ place_on n (opposite d) (on d) (neighbour n p d)
   nearer d f low t =
       let far = meets-farther n cs ring peopled d p m f inside low t in
       let c = far.circuit in
@@ -208,7 +226,8 @@ module _ (Was Own : ℕ → Option PortId → Au → Type 0) (lags : AreLags Was
       omega arith
 
   -- what comes on protection in place of the working arrival from a switched side
-  in_place : (d : Side) (f : Option Pos) → state_after s ≡ Switch d f → carries_in n cs p d m f ≡ true → Fine (Own (arrival_lag d)) (on d) (opposite d) (value (Protection (opposite d)))
+  in_place : (d : Side) (f : Option Pos) → state_after s ≡ Switch d f → carries_in n cs p d m f ≡ true
+      → Fine (Own (arrival_lag d)) (on d) (opposite d) (value (Protection (opposite d)))
   in_place d None h t = absurd (no (sym (no_far n cs p d m) ∙ t))
     where
       no : false ≡ true → ⊥
@@ -217,29 +236,37 @@ module _ (Was Own : ℕ → Option PortId → Au → Type 0) (lags : AreLags Was
       let is = far_from s d f (sym (switched_one s d (Some f) h).end) in
       let low : f.0 < n = subst (λ i. f.0 < length i) same is.inside in
       let e = opposite d in
-      let circuit : spoken_of ids cs m e is.k ≡ on d = heard_speaks e is.k f is.heard is.found ∙ meets-own n cs ring peopled d p m f inside low t in
+      let circuit : spoken_of ids cs m e is.k ≡ on d =
+      heard_speaks e is.k f is.heard is.found ∙ meets-own n cs ring peopled d p m f inside low t in
       let lag : spoken_lag ids cs m e is.k (neighbour n p e) ≡ protection_lag n e (on d) (Some f) (neighbour n p e) =
       (λ j. protection_lag n e (circuit j) (heard_source e is.k f is.heard is.found j) (neighbour n p e)) in
       let less : protection_lag n e (on d) (Some f) (neighbour n p e) < arrival_lag d =
-      lag_less n (place_on n e (on d) f.0) (place_on n e (on d) (neighbour n p d)) (steps n (opposite e) f.0 (neighbour n p e)) (nearer d f low t) (steps_few n peopled (opposite e) f.0 (neighbour n p e)) in
+      lag_less n (place_on n e (on d) f.0) (place_on n e (on d) (neighbour n p d)) (steps n (opposite e) f.0 (neighbour n p e))
+      (nearer d f low t) (steps_few n peopled (opposite e) f.0 (neighbour n p e)) in
       sooner (protection_lag n e (on d) (Some f) (neighbour n p e)) (arrival_lag d) less (on d) e (value (Protection e))
       (subst (λ i. Fine (Was i) (on d) e (value (Protection e))) lag
-      (subst (λ o. Fine (Was (spoken_lag ids cs m e is.k (neighbour n p e))) o e (value (Protection e))) circuit (protection_in_fine e is.k is.heard)))
+      (subst (λ o. Fine (Was (spoken_lag ids cs m e is.k (neighbour n p e))) o e (value (Protection e))) circuit
+      (protection_in_fine e is.k is.heard)))
 
-  switched_fine : (d : Side) (f : Option Pos) → state_after s ≡ Switch d f → Fine (Own (arrival_lag d)) (on d) (opposite d) (value (stands_in n cs p (Switch d f) d m))
+  switched_fine : (d : Side) (f : Option Pos) → state_after s ≡ Switch d f
+      → Fine (Own (arrival_lag d)) (on d) (opposite d) (value (stands_in n cs p (Switch d f) d m))
   switched_fine d f h = elim (cases_Bool (carries_in n cs p d m f)) [
     | inl t ↦ by_origin _ (on d) (opposite d) _ (Protection (opposite d)) (switched-stands n cs p d m f true t) (in_place d f h t)
     | inr t ↦ by_origin _ (on d) (opposite d) _ Ais (switched-stands n cs p d m f false t) (silent_is_fine _ (on d) (opposite d))
   ]
 
-  open_fine : (x : NodeState) (d : Side) → is_open x d ≡ true → Fine (Own (arrival_lag d)) (on d) (opposite d) (value (stands_in n cs p x d m))
+  open_fine : (x : NodeState) (d : Side) → is_open x d ≡ true
+      → Fine (Own (arrival_lag d)) (on d) (opposite d) (value (stands_in n cs p x d m))
   open_fine x d o =
       let a = place_on n (opposite d) (on d) (neighbour n p d) in
       let less : a * (n + 1) < (a + 1) * (n + 1) = (let h = lag_less n a a 0 (omega arith) peopled in omega arith) in
-      by_origin _ (on d) (opposite d) _ (Working d) (open-stands n cs p x d m o) (sooner (a * (n + 1)) (arrival_lag d) less (on d) (opposite d) (value (Working d)) (working_in_fine d))
+      by_origin _ (on d) (opposite d) _ (Working d) (open-stands n cs p x d m o)
+      (sooner (a * (n + 1)) (arrival_lag d) less (on d) (opposite d) (value (Working d)) (working_in_fine d))
 
-  stands_by : (x : NodeState) → state_after s ≡ x → (d : Side) → Fine (Own (arrival_lag d)) (on d) (opposite d) (value (stands_in n cs p x d m))
-  stands_by (state.Isolated i) h d = by_origin _ (on d) (opposite d) _ Ais (isolated-stands n cs p d m) (silent_is_fine _ (on d) (opposite d))
+  stands_by : (x : NodeState) → state_after s ≡ x → (d : Side)
+      → Fine (Own (arrival_lag d)) (on d) (opposite d) (value (stands_in n cs p x d m))
+  stands_by (state.Isolated i) h d =
+      by_origin _ (on d) (opposite d) _ Ais (isolated-stands n cs p d m) (silent_is_fine _ (on d) (opposite d))
   stands_by (state.SwitchWest f) h West = switched_fine West f h
   stands_by (state.SwitchWest f) h East = open_fine (state.SwitchWest f) East refl
   stands_by (state.SwitchEast f) h West = open_fine (state.SwitchEast f) West refl
@@ -253,7 +280,8 @@ module _ (Was Own : ℕ → Option PortId → Au → Type 0) (lags : AreLags Was
 
   -- ---- what is sent
 
-  module _ (added_own : (j i : ℕ) (c : Provisioned) (e : End) → slice_get cs i ≡ Some c → port_at c e ≡ p → Own j (Some (port_named i e)) (value (port i e)).au) where
+  module _ (added_own : (j i : ℕ) (c : Provisioned) (e : End) → slice_get cs i ≡ Some c → port_at c e ≡ p
+      → Own j (Some (port_named i e)) (value (port i e)).au) where
     abbrev leaving_lag : Side → ℕ
     leaving_lag d = working_lag n d (on d) p
 
@@ -261,17 +289,21 @@ module _ (Was Own : ℕ → Option PortId → Au → Type 0) (lags : AreLags Was
     working_by d (nothing e) = by_origin _ (on d) d _ Ais (leaves-unused n cs p st d m e) (silent_is_fine _ (on d) d)
     working_by d (ends i c e h get there) = elim (leaves-own_or_none n cs p st i c (sender d) d m e h) [
       | inl none ↦ by_origin _ (on d) d _ Ais none (silent_is_fine _ (on d) d)
-      | inr own ↦ by_origin _ (on d) d _ (port i (sender d)) own (subst (λ o. Fine (Own (leaving_lag d)) o d (value (port i (sender d)))) (sym e) (inr (added_own (leaving_lag d) i c (sender d) get there)))
+      | inr own ↦ by_origin _ (on d) d _ (port i (sender d)) own
+          (subst (λ o. Fine (Own (leaving_lag d)) o d (value (port i (sender d)))) (sym e)
+          (inr (added_own (leaving_lag d) i c (sender d) get there)))
     ]
     working_by d (goes_on i c e h other next) =
         let x = stands_in n cs p st (opposite d) m in
         let back : opposite (opposite d) ≡ d = opposite_twice d in
         let lag : arrival_lag (opposite d) ≡ leaving_lag d =
-        (λ k. (place_on n (back k) (other k) (neighbour n p (opposite d)) + 1) * (n + 1)) ∙ ap (λ j. j * (n + 1)) (sym next) ∙ ap (λ o. place_on n d o p * (n + 1)) (sym e) in
+        (λ k. (place_on n (back k) (other k) (neighbour n p (opposite d)) + 1) * (n + 1)) ∙ ap (λ j. j * (n + 1)) (sym next)
+        ∙ ap (λ o. place_on n d o p * (n + 1)) (sym e) in
         by_origin _ (on d) d _ x (leaves-on n cs p st i c d m e h)
         (subst (λ j. Fine (Own j) (on d) d (value x)) lag
         (subst (λ y. Fine (Own (arrival_lag (opposite d))) (on d) y (value x)) back
-        (subst (λ o. Fine (Own (arrival_lag (opposite d))) o (opposite (opposite d)) (value x)) (other ∙ sym e) (stands_fine (opposite d)))))
+        (subst (λ o. Fine (Own (arrival_lag (opposite d))) o (opposite (opposite d)) (value x)) (other ∙ sym e)
+        (stands_fine (opposite d)))))
 
     -- what leaves in the working slot
     pub working_fine : (d : Side) → Fine (Own (leaving_lag d)) (on d) d (value (working_in n cs p st d m))
@@ -299,11 +331,13 @@ module _ (Was Own : ℕ → Option PortId → Au → Type 0) (lags : AreLags Was
     own_speaks e f h = ap (told_of ids cs m e) (own_source e f h)
 
     bridged_fine : (e : Side) (f : Option Pos) → state_after s ≡ Switch e f
-        → Fine (Own (spoken_lag ids cs m e (word s (opposite e)) p)) (spoken_of ids cs m e (word s (opposite e))) e (value (protection_in n cs p (Switch e f) (opposite e) m))
+        → Fine (Own (spoken_lag ids cs m e (word s (opposite e)) p)) (spoken_of ids cs m e (word s (opposite e))) e
+        (value (protection_in n cs p (Switch e f) (opposite e) m))
     bridged_fine e f h = elim (cases_Bool (carries_in n cs p e m f)) [
       | inl t ↦ (
           let x = working_in n cs p (Switch e f) e m in
-          let lag : protection_lag n e (on e) (Some (position_of p)) p ≡ spoken_lag ids cs m e (word s (opposite e)) p = sym (λ k. protection_lag n e (own_speaks e f h k) (own_source e f h k) p) in
+          let lag : protection_lag n e (on e) (Some (position_of p)) p ≡ spoken_lag ids cs m e (word s (opposite e)) p =
+          sym (λ k. protection_lag n e (own_speaks e f h k) (own_source e f h k) p) in
           let more : leaving_lag e ≤ protection_lag n e (on e) (Some (position_of p)) p = omega arith in
           by_origin _ _ e _ x (bridged-leaves n cs p e m f t)
           (subst (λ o. Fine (Own (spoken_lag ids cs m e (word s (opposite e)) p)) o e (value x)) (sym (own_speaks e f h))
@@ -314,7 +348,8 @@ module _ (Was Own : ℕ → Option PortId → Au → Type 0) (lags : AreLags Was
     ]
 
     -- a relayed word has come a span farther from its source
-    relayed_lag : (d : Side) (k : K) → relayed s d ≡ Some k → spoken_lag ids cs m (opposite d) k p ≡ spoken_lag ids cs m (opposite d) k (neighbour n p (opposite d)) + 1
+    relayed_lag : (d : Side) (k : K) → relayed s d ≡ Some k
+        → spoken_lag ids cs m (opposite d) k p ≡ spoken_lag ids cs m (opposite d) k (neighbour n p (opposite d)) + 1
     relayed_lag d k r =
         let is = relayed_from s d k r in
         let e = opposite d in
@@ -322,26 +357,34 @@ module _ (Was Own : ℕ → Option PortId → Au → Type 0) (lags : AreLags Was
         let member = sourced e k is.is_long in
         let g = member.0 in
         let from : found_at ids k.from ≡ Some (position_of g) = ap (found_at ids) (sym member.2) ∙ found ids g are member.1 in
-        let source : source_in ids k ≡ Some (position_of g) = ap (option_and_then (λ (k : K). found_at ids k.from)) (heard_is_long s e k is.is_long) ∙ from in
+        let source : source_in ids k ≡ Some (position_of g) =
+        ap (option_and_then (λ (k : K). found_at ids k.from)) (heard_is_long s e k is.is_long) ∙ from in
         let own : own_id s ≡ slice_index ids p = λ i. slice_index (same i) (at i) in
         let other : g ≢ p = λ z. is.foreign (sym member.2 ∙ ap (slice_index ids) z ∙ sym own) in
         let next : steps n (opposite e) g p ≡ steps n (opposite e) g (neighbour n p e) + 1 =
         subst (λ y. steps n y g p ≡ steps n y g (neighbour n p e) + 1) (sym back) (steps_next n peopled d g p member.1 inside other) in
         ap (λ o. protection_lag n e (spoken_of ids cs m e k) o p) source
-        ∙ (let z : protection_lag n e (spoken_of ids cs m e k) (Some (position_of g)) p ≡ protection_lag n e (spoken_of ids cs m e k) (Some (position_of g)) (neighbour n p e) + 1 = omega arith in z)
+        ∙ (let z : protection_lag n e (spoken_of ids cs m e k) (Some (position_of g)) p
+        ≡ protection_lag n e (spoken_of ids cs m e k) (Some (position_of g)) (neighbour n p e) + 1 = omega arith in z)
         ∙ ap (λ o. protection_lag n e (spoken_of ids cs m e k) o (neighbour n p e) + 1) (sym source)
 
-    passed_fine : (d : Side) → state_after s ≡ state.PassThrough tt → Fine (Own (beside_lag d)) (spoken_of ids cs m (opposite d) (word s d)) (opposite d) (value (protection_in n cs p (state.PassThrough tt) d m))
+    passed_fine : (d : Side) → state_after s ≡ state.PassThrough tt
+        → Fine (Own (beside_lag d)) (spoken_of ids cs m (opposite d) (word s d)) (opposite d)
+        (value (protection_in n cs p (state.PassThrough tt) d m))
     passed_fine d h =
         let r = relays s d (passes_relays s d h) in
         let e = opposite d in
-        let from : protection_in n cs p (state.PassThrough tt) d m ≡ Protection e = ap (λ x. protection_in n cs p (state.PassThrough tt) x m) (sym (opposite_twice d)) ∙ passed-leaves n cs p e m in
-        let less : spoken_lag ids cs m e r.k (neighbour n p e) < spoken_lag ids cs m e r.k p = (let lag = relayed_lag d r.k r.relayed_is in omega arith) in
+        let from : protection_in n cs p (state.PassThrough tt) d m ≡ Protection e =
+        ap (λ x. protection_in n cs p (state.PassThrough tt) x m) (sym (opposite_twice d)) ∙ passed-leaves n cs p e m in
+        let less : spoken_lag ids cs m e r.k (neighbour n p e) < spoken_lag ids cs m e r.k p =
+        (let lag = relayed_lag d r.k r.relayed_is in omega arith) in
         by_origin _ _ e _ (Protection e) from
         (subst (λ k. Fine (Own (spoken_lag ids cs m e k p)) (spoken_of ids cs m e k) e (value (Protection e))) (sym r.says)
-        (sooner (spoken_lag ids cs m e r.k (neighbour n p e)) (spoken_lag ids cs m e r.k p) less (spoken_of ids cs m e r.k) e (value (Protection e)) (protection_in_fine e r.k r.heard)))
+        (sooner (spoken_lag ids cs m e r.k (neighbour n p e)) (spoken_lag ids cs m e r.k p) less (spoken_of ids cs m e r.k) e
+        (value (Protection e)) (protection_in_fine e r.k r.heard)))
 
-    protection_by : (x : NodeState) → state_after s ≡ x → (d : Side) → Fine (Own (beside_lag d)) (spoken_of ids cs m (opposite d) (word s d)) (opposite d) (value (protection_in n cs p x d m))
+    protection_by : (x : NodeState) → state_after s ≡ x → (d : Side)
+        → Fine (Own (beside_lag d)) (spoken_of ids cs m (opposite d) (word s d)) (opposite d) (value (protection_in n cs p x d m))
     protection_by (state.Isolated i) h d = by_origin _ _ (opposite d) _ Ais (isolated-leaves n cs p d m) (silent_is_fine _ _ (opposite d))
     protection_by (state.Idle i) h d = by_origin _ _ (opposite d) _ Ais (idle-leaves n cs p d m) (silent_is_fine _ _ (opposite d))
     protection_by (state.PassThrough i) h d = passed_fine d h
@@ -351,7 +394,8 @@ module _ (Was Own : ℕ → Option PortId → Au → Type 0) (lags : AreLags Was
     protection_by (state.SwitchEast f) h East = by_origin _ _ West _ Ais (away-leaves n cs p East m f) (silent_is_fine _ _ West)
 
     -- what leaves in the protection slot, beside the word that is sent
-    pub protection_fine : (d : Side) → Fine (Own (beside_lag d)) (spoken_of ids cs m (opposite d) (word s d)) (opposite d) (value (protection_in n cs p st d m))
+    pub protection_fine : (d : Side) → Fine (Own (beside_lag d)) (spoken_of ids cs m (opposite d) (word s d)) (opposite d)
+        (value (protection_in n cs p st d m))
     protection_fine d = protection_by st refl d
 
 -- ---- a port
@@ -362,7 +406,8 @@ module _ (n : ℕ) (cs : List Provisioned) (ring : AreOnRing n cs) (i : ℕ) (c 
 
   starts_at : (e : End) → port_at c e ≡ going n (inward e) (near_at n c (inward e)) 0
   starts_at A = sym (going-none n plenty East c.from.0 (ring.inside i c get).0)
-  starts_at B = arc-end n cs ring i c get ∙ sym (going-none n plenty West (near_at n c West) (going-inside n plenty East c.from.0 (arc_length n c)))
+  starts_at B =
+      arc-end n cs ring i c get ∙ sym (going-none n plenty West (near_at n c West) (going-inside n plenty East c.from.0 (arc_length n c)))
 
   -- at its port a circuit is on the span of the port's side
   pub at_port : (e : End) → circuits_at n cs (port_at c e) c.slot.0 (inward e) ≡ Some (entry i c)

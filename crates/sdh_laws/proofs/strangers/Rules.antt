@@ -1,5 +1,6 @@
 -- What the rules say of the node that switches one side, of its long word and of its far end.
-use Rattle.std.proofs.Common.{◌≡◌, ℕ, ◌<◌, ◌≤◌, Bool, true, false, List, [], ◌∷◌, length, Option, Some, None, refl, ap, sym, ◌∙◌, subst, arith, inl, inr, ◌⊎◌}
+use Rattle.std.proofs.Common.{◌≡◌, ℕ, ◌<◌, ◌≤◌, Bool, true, false, List, [], ◌∷◌, length, Option, Some, None, refl, ap, sym, ◌∙◌, subst}
+use Rattle.std.proofs.Common.{arith, inl, inr, ◌⊎◌}
 use Rattle.std.specs.Prelude.{◌==◌, ◌||◌, ◌&&◌, nat_le, nat_lt, if◌then◌else◌, option_map, position}
 use Rattle.std.specs.Option.{option_map_or}
 use Rattle.std.specs.List.{list_all}
@@ -14,7 +15,8 @@ use Rattle.sdh_ringmap.specs.declared.Side.{Side}
 use Rattle.sdh_ringmap.specs.declared.Side.TheVariants.{West, East}
 use Rattle.sdh_ringmap.proofs.Sides.{opposite_twice}
 use Rattle.sdh_nodestate.specs.declared.NodeState.TheVariants as state
-use Rattle.sdh_nodestate.specs.Rules.{Scene, own_id, weight, weight_of, long, long_word, relayed, far, chosen, Choice, own_short, own_long, relay, rest, is_relay, word, switches, is_below, is_about, state_by, state_after}
+use Rattle.sdh_nodestate.specs.Rules.{Scene, own_id, weight, weight_of, long, long_word, relayed, far, chosen, Choice, own_short, own_long}
+use Rattle.sdh_nodestate.specs.Rules.{relay, rest, is_relay, word, switches, is_below, is_about, state_by, state_after}
 use Rattle.sdh_nodestate.specs.Urgency.{weight_on}
 use Rattle.sdh_nodestate.proofs.Urgency.{first_words_are_sent}
 use Rattle.sdh_settling.proofs.OneNode.{switch_top, relayed_from, long_from, word_relay, choose_long_top, choose_long}
@@ -58,10 +60,12 @@ pass_by false false false false w e h = cc
 pub switched_one : (s : Scene) (d : Side) (f : Option Pos) → state_after s ≡ Switch d f → SwitchesOne s d f
 unfolding state_after
 switched_one s West f h =
-    let is = west_by (switches s West) (switches s East) (is_relay (chosen s West)) (is_relay (chosen s East)) (far s West) (far s East) f h in
+    let is =
+    west_by (switches s West) (switches s East) (is_relay (chosen s West)) (is_relay (chosen s East)) (far s West) (far s East) f h in
     record { this = is.0; other = is.1; end = is.2 }
 switched_one s East f h =
-    let is = east_by (switches s West) (switches s East) (is_relay (chosen s West)) (is_relay (chosen s East)) (far s West) (far s East) f h in
+    let is =
+    east_by (switches s West) (switches s East) (is_relay (chosen s West)) (is_relay (chosen s East)) (far s West) (far s East) f h in
     record { this = is.1; other = is.0; end = is.2 }
 
 relay_by : (c : Choice) → is_relay c ≡ true → c ≡ relay
@@ -72,8 +76,12 @@ relay_by rest h = cc
 
 pub passes_relays : (s : Scene) (d : Side) → state_after s ≡ state.PassThrough tt → chosen s d ≡ relay
 unfolding state_after
-passes_relays s West h = relay_by (chosen s West) (pass_by (switches s West) (switches s East) (is_relay (chosen s West)) (is_relay (chosen s East)) (far s West) (far s East) h).0
-passes_relays s East h = relay_by (chosen s East) (pass_by (switches s West) (switches s East) (is_relay (chosen s West)) (is_relay (chosen s East)) (far s West) (far s East) h).1
+passes_relays s West h =
+    relay_by (chosen s West) (pass_by (switches s West) (switches s East) (is_relay (chosen s West)) (is_relay (chosen s East)) (far s West)
+    (far s East) h).0
+passes_relays s East h =
+    relay_by (chosen s East) (pass_by (switches s West) (switches s East) (is_relay (chosen s West)) (is_relay (chosen s East)) (far s West)
+    (far s East) h).1
 
 -- ---- a relayed word is the long word heard on the other side
 
@@ -128,8 +136,10 @@ not_about s East k = refl
 
 lighter : (s : Scene) (d : Side) (k : K) → long s d ≡ Some k → is_below s d d ≡ true → code_number k.code < weight s d
 lighter s d k h b =
-    let asks : (is_about s d d k || nat_lt (code_number k.code) (weight s d)) ≡ true = sym (ap (λ o. option_map_or (λ k. is_about s d d k || nat_lt (code_number k.code) (weight s d)) o true) h) ∙ b in
-    ltb-true (code_number k.code) (weight s d) (or_right (is_about s d d k) (nat_lt (code_number k.code) (weight s d)) asks (not_about s d k))
+    let asks : (is_about s d d k || nat_lt (code_number k.code) (weight s d)) ≡ true =
+    sym (ap (λ o. option_map_or (λ k. is_about s d d k || nat_lt (code_number k.code) (weight s d)) o true) h) ∙ b in
+    ltb-true (code_number k.code) (weight s d) (or_right (is_about s d d k) (nat_lt (code_number k.code) (weight s d)) asks
+    (not_about s d k))
 
 -- what is relayed away from the switched side was heard on it
 relay_lighter : (s : Scene) (e : Side) → is_below s e e ≡ true → weight_of (relayed s (opposite e)) ≤ weight s e
@@ -156,16 +166,24 @@ switched_says_long s e on off =
       | inl less ↦ less
       | inr high ↦ absurd (no (sym (switch_top s d high) ∙ off))
     ] in
-    elim (switch_cases (nat_le 11 (weight s e)) (nat_le 5 (weight s e)) (nat_le (weight s e) 8) (nat_lt (weight s d) (weight s e)) (list_all (is_below s e) (West ∷ East ∷ [])) on) [
+    elim (switch_cases (nat_le 11 (weight s e)) (nat_le 5 (weight s e)) (nat_le (weight s e) 8) (nat_lt (weight s d) (weight s e))
+    (list_all (is_below s e) (West ∷ East ∷ [])) on) [
       | inl top ↦ (
           let high = leb-true 11 (weight s e) top in
-          record { chosen_is = choose_long_top (weight s d) (weight s (opposite d)) (weight_of (relayed s d)) low (omega arith); strong = omega arith })
+          record {
+            chosen_is = choose_long_top (weight s d) (weight s (opposite d)) (weight_of (relayed s d)) low (omega arith);
+            strong = omega arith;
+          })
       | inr alone ↦ (
           let five = leb-true 5 (weight s e) alone.0 in
           let eight = leb-true (weight s e) 8 alone.1 in
           let less = ltb-true (weight s d) (weight s e) alone.2 in
           let relay_is = relay_lighter s e (below_each s e e alone.3) in
-          record { chosen_is = choose_long (weight s d) (weight s (opposite d)) (weight_of (relayed s d)) (omega arith) (omega arith) (omega arith); strong = five })
+          record {
+            chosen_is = choose_long (weight s d) (weight s (opposite d)) (weight_of (relayed s d)) (omega arith) (omega arith)
+                (omega arith);
+            strong = five;
+          })
     ]
   where
     no : true ≡ false → ⊥
@@ -186,11 +204,14 @@ pub record IsFar (s : Scene) (d : Side) (f : Pos) : Type 0 where
   pub found : found_at s.ids k.from ≡ Some f
   pub inside : f.0 < length s.ids
 
-found_inside : (ids : List ℕ) (id : ℕ) (f : Pos) (o : Option ℕ) → position (λ x. x == id) ids ≡ o → option_map (λ p. record { 0 = p }) o ≡ Some f → f.0 < length ids
+found_inside : (ids : List ℕ) (id : ℕ) (f : Pos) (o : Option ℕ) → position (λ x. x == id) ids ≡ o
+    → option_map (λ p. record { 0 = p }) o ≡ Some f → f.0 < length ids
 found_inside ids id f None e h = cc
 found_inside ids id f (Some i) e h =
     let is = position-Some (λ x. x == id) ids i 0 e in
-    let same : i ≡ f.0 = (let z : ◌≡◌ {A = Option Pos} (Some (record { 0 = i })) (Some f) = h in ap (λ (o : Option Pos). option_map_or (λ (p : Pos). p.0) o 0) z) in
+    let same : i ≡ f.0 =
+    (let z : ◌≡◌ {A = Option Pos} (Some (record { 0 = i })) (Some f) = h in ap
+    (λ (o : Option Pos). option_map_or (λ (p : Pos). p.0) o 0) z) in
     subst (λ x. x < length ids) same is.0
 
 far_by : (b : Bool) (o : Option Pos) (f : Pos) → (if b then None else o) ≡ Some f → o ≡ Some f
@@ -201,7 +222,8 @@ pub far_from : (s : Scene) (d : Side) (f : Pos) → far s d ≡ Some f → IsFar
 unfolding far
 far_from s d f h = by (long s (opposite d)) refl h
   where
-    by : (o : Option K) → long s (opposite d) ≡ o → option_map_or (λ k. if k.from == own_id s then None else found_at s.ids k.from) o None ≡ Some f → IsFar s d f
+    by : (o : Option K) → long s (opposite d) ≡ o → option_map_or (λ k. if k.from == own_id s then None else found_at s.ids k.from) o None
+        ≡ Some f → IsFar s d f
     by None e h = cc
     by (Some k) e h =
         let at = far_by (k.from == own_id s) (found_at s.ids k.from) f h in

@@ -1,5 +1,6 @@
 -- The laws over rounds that any plant ran, over settle steps, and over stretches from a new ring on.
-use Rattle.std.proofs.Common.{◌≡◌, ℕ, zero, suc, ◌+◌, ◌-◌, ◌*◌, ◌<◌, ◌≤◌, List, [], ◌∷◌, ◌++◌, length, Some, refl, ap, sym, ◌∙◌, subst, arith, inl}
+use Rattle.std.proofs.Common.{◌≡◌, ℕ, zero, suc, ◌+◌, ◌-◌, ◌*◌, ◌<◌, ◌≤◌, List, [], ◌∷◌, ◌++◌, length, Some, refl, ap, sym, ◌∙◌, subst}
+use Rattle.std.proofs.Common.{arith, inl}
 use Rattle.std.specs.Prelude.{◌/◌, slice_get}
 use Rattle.sdh_terms.specs.Rates.{n_of}
 use Rattle.sdh_ringmap.specs.Ids.{AreIds}
@@ -32,7 +33,9 @@ use Rattle.sdh_laws.proofs.carrying.Owed.{port_is_there}
 use Rattle.sdh_routes.proofs.Ways.{end_inside}
 use Rattle.sdh_laws.specs.Strangers.Owners.{port_named, NoneMeetsAStranger, AreClocksOf, AreClocksBetween}
 use Rattle.sdh_laws.specs.Strangers.Vouched.{IsVouched}
-use Rattle.sdh_laws.specs.Strangers.Laws.{NoneHolds, KeepsStrangersOutInAll, VouchedRingsStay, RoundsKeepStrangersOut, StepsKeepStrangersOut, NoPortEverMeetsAStranger, RingsComeToBeVouchedFor, NoPortMeetsAStrangerForLong}
+use Rattle.sdh_laws.specs.Strangers.Laws.{NoneHolds, KeepsStrangersOutInAll, VouchedRingsStay, RoundsKeepStrangersOut}
+use Rattle.sdh_laws.specs.Strangers.Laws.{StepsKeepStrangersOut, NoPortEverMeetsAStranger, RingsComeToBeVouchedFor}
+use Rattle.sdh_laws.specs.Strangers.Laws.{NoPortMeetsAStrangerForLong}
 use Rattle.sdh_laws.proofs.strangers.Vouched.{vouched_changed, vouched_new, vouched_after, none_meets}
 use Rattle.sdh_laws.proofs.strangers.Keeping.{layout_in, kept_run, kept_in, rounds_together, happens_in_parts, world_behind}
 use Rattle.sdh_laws.proofs.strangers.Clearing.{clearing_in, cleared}
@@ -46,34 +49,44 @@ vouched_rings_stay = record {
 pub rounds_keep_strangers_out : RoundsKeepStrangersOut
 rounds_keep_strangers_out w after form r clocks k tells =
     let is : after ≡ round w = (known_rounds_are adm w after (inl k.whole.paired.honest.honest) r).0 in
-    subst (λ (v : World). IsVouched clocks v × NoneMeetsAStranger clocks v.ring) (sym is) (vouched_after clocks w form k tells, none_meets clocks w form k)
+    subst (λ (v : World). IsVouched clocks v × NoneMeetsAStranger clocks v.ring) (sym is)
+    (vouched_after clocks w form k tells, none_meets clocks w form k)
 
 -- ---- stretches
 
 module _ (clocks : PortId → ℕ → Clock) where
-  runs_vouched : (j : ℕ) (w : World) → HasCircuits (layout_of w) → IsVouched clocks w → ((i : ℕ) → i < j → AreClocksOf clocks (run i w).ring) → IsVouched clocks (run j w)
+  runs_vouched : (j : ℕ) (w : World) → HasCircuits (layout_of w) → IsVouched clocks w
+      → ((i : ℕ) → i < j → AreClocksOf clocks (run i w).ring) → IsVouched clocks (run j w)
   runs_vouched j w form k tells =
-      kept_run clocks (λ i v. IsVouched clocks v) (λ i c v may none x. vouched_changed clocks c v may none x) (λ i v f x told. vouched_after clocks v f x told) j 0 w form k tells
+      kept_run clocks (λ i v. IsVouched clocks v) (λ i c v may none x. vouched_changed clocks c v may none x)
+      (λ i v f x told. vouched_after clocks v f x told) j 0 w form k tells
 
-  vouched_in : (rest : List Stretch) (w : World) (t : ℕ) → HasCircuits (layout_of w) → IsVouched clocks w → MayHappen w rest → NoneHolds rest → ((j : ℕ) → j < rounds_in rest → AreClocksOf clocks (world_in rest w j).ring) → t ≤ rounds_in rest
+  vouched_in : (rest : List Stretch) (w : World) (t : ℕ) → HasCircuits (layout_of w) → IsVouched clocks w → MayHappen w rest
+      → NoneHolds rest → ((j : ℕ) → j < rounds_in rest → AreClocksOf clocks (world_in rest w j).ring) → t ≤ rounds_in rest
       → IsVouched clocks (world_in rest w t)
   vouched_in rest w t form k may none tells h =
-      kept_in clocks (λ i v. IsVouched clocks v) (λ i c v may none x. vouched_changed clocks c v may none x) (λ i v f x told. vouched_after clocks v f x told) rest 0 w t form k may none tells h
+      kept_in clocks (λ i v. IsVouched clocks v) (λ i c v may none x. vouched_changed clocks c v may none x)
+      (λ i v f x told. vouched_after clocks v f x told) rest 0 w t form k may none tells h
 
 -- ---- rounds alone
 
-module _ (w : World) (form : HasCircuits (layout_of w)) (many : ℕ) (clocks : PortId → ℕ → Clock) (k : IsVouched clocks w) (told : AreClocksBetween clocks w (run many w)) where
+module _ (w : World) (form : HasCircuits (layout_of w)) (many : ℕ) (clocks : PortId → ℕ → Clock) (k : IsVouched clocks w)
+    (told : AreClocksBetween clocks w (run many w)) where
   form_run : (j : ℕ) → HasCircuits (layout_of (run j w))
   form_run j = subst HasCircuits (sym (layout_run w j)) form
 
   tells_run : (j : ℕ) → j < many → AreClocksOf clocks (run j w).ring
   tells_run j few i c there e =
       let q = port_named i e in
-      let get : slice_get w.ring.circuits.circuits i ≡ Some c = ap (λ (l : Layout). slice_get l.circuits i) (sym (layout_run w j)) ∙ there in
-      let has : HasPortIn w.ring q = port_is_there w k.whole i c e get (end_inside (length w.ring.ids) (slots_of (layout_of w)) w.ring.circuits.circuits form i c get e) in
+      let get : slice_get w.ring.circuits.circuits i ≡ Some c =
+      ap (λ (l : Layout). slice_get l.circuits i) (sym (layout_run w j)) ∙ there in
+      let has : HasPortIn w.ring q =
+      port_is_there w k.whole i c e get (end_inside (length w.ring.ids)
+      (slots_of (layout_of w)) w.ring.circuits.circuits form i c get e) in
       let number : j ≡ w.ring.rounds + j - w.ring.rounds = omega arith in
       let before : w.ring.rounds + j < (run many w).ring.rounds = omega (arith, (left_run many w).rounds) in
-      (goes_run q j w has).1 ∙ ap (λ t. ticks t (clock_at w.ring q)) number ∙ told i c get e (w.ring.rounds + j) (omega arith) before ∙ ap (clocks q) (sym (left_run j w).rounds)
+      (goes_run q j w has).1 ∙ ap (λ t. ticks t (clock_at w.ring q)) number ∙ told i c get e (w.ring.rounds + j) (omega arith) before
+      ∙ ap (clocks q) (sym (left_run j w).rounds)
 
   vouched_run : (j : ℕ) → j ≤ many → IsVouched clocks (run j w)
   vouched_run j few = runs_vouched clocks j w form k (λ i h. tells_run i (omega arith))
@@ -92,22 +105,30 @@ run_keeps w form many clocks k told = (vouched_run w form many clocks k told man
 
 pub steps_keep_strangers_out : StepsKeepStrangersOut
 steps_keep_strangers_out = record {
-  settled = λ w left limit form settles clocks k. (let n = (known_steps adm).settled w left limit (inl k.whole.paired.honest.honest) settles in
-      subst (λ (v : World). AreClocksBetween clocks w v → IsVouched clocks v × ((j : ℕ) → 1 ≤ j → w.ring.rounds + j ≤ v.ring.rounds → NoneMeetsAStranger clocks (run j w).ring)) (sym n.2) (run_keeps w form n.0 clocks k));
-  unsettled = λ w left limit form never clocks k. (let n = (known_steps adm).unsettled w left limit (inl k.whole.paired.honest.honest) never in
-      subst (λ (v : World). AreClocksBetween clocks w v → IsVouched clocks v × ((j : ℕ) → 1 ≤ j → w.ring.rounds + j ≤ v.ring.rounds → NoneMeetsAStranger clocks (run j w).ring)) (sym n.1) (run_keeps w form limit clocks k));
+  settled =
+      λ w left limit form settles clocks k. (let n = (known_steps adm).settled w left limit (inl k.whole.paired.honest.honest) settles in
+      subst (λ (v : World). AreClocksBetween clocks w v → IsVouched clocks v
+      × ((j : ℕ) → 1 ≤ j → w.ring.rounds + j ≤ v.ring.rounds → NoneMeetsAStranger clocks (run j w).ring)) (sym n.2)
+      (run_keeps w form n.0 clocks k));
+  unsettled =
+      λ w left limit form never clocks k. (let n = (known_steps adm).unsettled w left limit (inl k.whole.paired.honest.honest) never in
+      subst (λ (v : World). AreClocksBetween clocks w v → IsVouched clocks v
+      × ((j : ℕ) → 1 ≤ j → w.ring.rounds + j ≤ v.ring.rounds → NoneMeetsAStranger clocks (run j w).ring)) (sym n.1)
+      (run_keeps w form limit clocks k));
 }
 
 -- ---- from every whole ring on
 
 -- from any ring in its place, whatever it carried, once no controller was held for long enough
 pub rings_come_to_be_vouched_for : RingsComeToBeVouchedFor
-rings_come_to_be_vouched_for most w ss clocks whole form held may none tells t long few = cleared clocks most (world_in ss w t) (0 + t) (clearing_in clocks most ss w t whole form held may none tells few)
+rings_come_to_be_vouched_for most w ss clocks whole form held may none tells t long few =
+    cleared clocks most (world_in ss w t) (0 + t) (clearing_in clocks most ss w t whole form held may none tells few)
     (subst (λ (n : ℕ). most + n * (n + 1) ≤ 0 + t) (ap (λ ids. length ids) (sym (left_in ss w t few).ids)) (omega arith))
 
 -- ---- from a new ring on
 
-module _ (s : Settings) (ids : List ℕ) (circuits : Provisioning) (f : Fibres) (ss : List Stretch) (are : AreIds ids) (honest : IsHonest f) (ring : AreCircuits (length ids) (n_of s.rate / 2) circuits.circuits) where
+module _ (s : Settings) (ids : List ℕ) (circuits : Provisioning) (f : Fibres) (ss : List Stretch) (are : AreIds ids) (honest : IsHonest f)
+    (ring : AreCircuits (length ids) (n_of s.rate / 2) circuits.circuits) where
   abbrev w : World
   w = new_world s ids circuits f
 
@@ -139,7 +160,8 @@ module _ (s : Settings) (ids : List ℕ) (circuits : Provisioning) (f : Fibres) 
   no_stranger happen none t h = none_met t h (vouched_in clocks ss w t ring begins happen none tells (omega arith))
 
   -- behind stretches in which controllers may be held
-  module _ (earlier : List Stretch) (last : Stretch) (free : List Stretch) (is : ss ≡ earlier ++ last ∷ free) (happen : MayHappen w ss) (none : NoneHolds free) where
+  module _ (earlier : List Stretch) (last : Stretch) (free : List Stretch) (is : ss ≡ earlier ++ last ∷ free) (happen : MayHappen w ss)
+      (none : NoneHolds free) where
     abbrev u : World
     u = after_stretches earlier w
 
@@ -162,17 +184,22 @@ module _ (s : Settings) (ids : List ℕ) (circuits : Provisioning) (f : Fibres) 
     whole_then : IsWhole v
     whole_then = whole_all last.changes u parted.1.0 (whole_stretches earlier w parted.0 begins.whole)
 
-    pub no_stranger_behind : (t : ℕ) → 100 + length ids * (length ids + 1) ≤ t → t < rounds_in since → NoneMeetsAStranger clocks (round (world_in ss w (rounds_in earlier + t))).ring
+    pub no_stranger_behind : (t : ℕ) → 100 + length ids * (length ids + 1) ≤ t → t < rounds_in since
+        → NoneMeetsAStranger clocks (round (world_in ss w (rounds_in earlier + t))).ring
     no_stranger_behind t long low =
         let same : v.ring.ids ≡ ids = (left_all last.changes u).ids ∙ (left_stretches earlier w).ids in
-        let told : (j : ℕ) → j < rounds_in since → AreClocksOf clocks (world_in since v j).ring = λ j h. subst (λ (x : World). AreClocksOf clocks x.ring) (there j) (tells (rounds_in earlier + j) (omega (arith, many))) in
+        let told : (j : ℕ) → j < rounds_in since → AreClocksOf clocks (world_in since v j).ring =
+        λ j h. subst (λ (x : World). AreClocksOf clocks x.ring) (there j) (tells (rounds_in earlier + j) (omega (arith, many))) in
         let form : HasCircuits (layout_of v) = subst HasCircuits (sym (layout_all last.changes u ∙ layout_stretches earlier w)) ring in
         none_met (rounds_in earlier + t) (omega (arith, many))
         (subst (IsVouched clocks) (sym (there t))
-        (rings_come_to_be_vouched_for 100 v since clocks whole_then form whole_then.paired.held (tt, parted.1.1) (tt, none) told t (subst (λ (xs : List ℕ). 100 + length xs * (length xs + 1) ≤ t) (sym same) long) (omega arith)))
+        (rings_come_to_be_vouched_for 100 v since clocks whole_then form whole_then.paired.held (tt, parted.1.1) (tt, none) told t
+        (subst (λ (xs : List ℕ). 100 + length xs * (length xs + 1) ≤ t) (sym same) long) (omega arith)))
 
 pub no_port_ever_meets_a_stranger : NoPortEverMeetsAStranger
-no_port_ever_meets_a_stranger s ids circuits f ss are honest happen none ring t h = no_stranger s ids circuits f ss are honest ring happen none t h
+no_port_ever_meets_a_stranger s ids circuits f ss are honest happen none ring t h =
+    no_stranger s ids circuits f ss are honest ring happen none t h
 
 pub no_port_meets_a_stranger_for_long : NoPortMeetsAStrangerForLong
-no_port_meets_a_stranger_for_long s ids circuits f earlier last free are honest happen none ring t long low = no_stranger_behind s ids circuits f (earlier ++ last ∷ free) are honest ring earlier last free refl happen none t long low
+no_port_meets_a_stranger_for_long s ids circuits f earlier last free are honest happen none ring t long low =
+    no_stranger_behind s ids circuits f (earlier ++ last ∷ free) are honest ring earlier last free refl happen none t long low

@@ -1,5 +1,6 @@
 -- What a port sends by a clock that may slip, from span to span: interpreters and generators follow it.
-use Rattle.std.proofs.Common.{◌≡◌, ◌≢◌, ℕ, ◌+◌, ◌-◌, ◌<◌, ◌≤◌, Bool, true, false, Option, Some, None, refl, ap, ap₂, sym, ◌∙◌, subst, arith, inl, inr}
+use Rattle.std.proofs.Common.{◌≡◌, ◌≢◌, ℕ, ◌+◌, ◌-◌, ◌<◌, ◌≤◌, Bool, true, false, Option, Some, None, refl, ap, ap₂, sym, ◌∙◌, subst, arith}
+use Rattle.std.proofs.Common.{inl, inr}
 use Rattle.std.specs.Prelude.{◌==◌, ◌&&◌, if◌then◌else◌, nat_le, nat_lt, min}
 use Rattle.std.proofs.lemmas.Bool.{cases_lt, cases_eq, cond-true, cond-false, lt-ltb, le-ltb, le-leb, leb-false, ne_eqb, and_right}
 use Rattle.sdh_payload.specs.declared.chunk.ChunkForm.{ChunkForm}
@@ -55,13 +56,15 @@ unfolding word_of
 ais_word s v = (ais_sent s v).word
 
 -- what a clock does next goes on from its value
-goes_on_by : (c : Clock) (f : ChunkForm) (r : Reading) → next_form c ≡ f → 3 ≤ r.since + c.rest → GoesOn (Some c.value) (action_of f) (after_form f c).value r
+goes_on_by : (c : Clock) (f : ChunkForm) (r : Reading) → next_form c ≡ f → 3 ≤ r.since + c.rest
+    → GoesOn (Some c.value) (action_of f) (after_form f c).value r
 goes_on_by c Plain r e h = refl
 goes_on_by c Short r e h = (refl, (let z = rest_none c Short e (λ z. cc) in omega arith))
 goes_on_by c Long r e h = (refl, (let z = rest_none c Long e (λ z. cc) in omega arith))
 
 -- an interpreter counts rounds without a slip as the clock does
-counts_by : (c : Clock) (f : ChunkForm) (r : Reading) → c.value ≤ 782 → next_form c ≡ f → r.mode ≡ mode.Norm → r.value ≡ c.value → 3 ≤ r.since + c.rest
+counts_by : (c : Clock) (f : ChunkForm) (r : Reading) → c.value ≤ 782 → next_form c ≡ f → r.mode ≡ mode.Norm → r.value ≡ c.value
+    → 3 ≤ r.since + c.rest
     → 3 ≤ (after_word r (word_sent (Some c.value) (action_of f) (after_form f c).value)).since + (after_form f c).rest
 unfolding after_step
 counts_by c Plain r small e m is h =
@@ -71,7 +74,8 @@ counts_by c Plain r small e m is h =
     let steady = steady_is_normal i w (normal_word g small) m (is ∙ sym (normal_value g small)) in
     let since : (after_word r w).since ≡ min 3 (r.since + 1) = ap (λ (x : Reading). x.since) steady.next in
     let sent : word_sent (Some g) action.Normal g ≡ w = (normal_sent g g refl).word in
-    let now : (after_word r (word_sent (Some g) action.Normal g)).since ≡ min 3 (r.since + 1) = ap (λ x. (after_word r x).since) sent ∙ since in
+    let now : (after_word r (word_sent (Some g) action.Normal g)).since ≡ min 3 (r.since + 1) =
+    ap (λ x. (after_word r x).since) sent ∙ since in
     omega arith
 counts_by c Short r small e m is h = omega arith
 counts_by c Long r small e m is h = omega arith
@@ -113,7 +117,9 @@ module _ (clock : ℕ → Clock) (source : IsSource clock) where
   first_plain = plain_first (clock 0) (let f = source.first in omega arith)
 
   does_first : (k : ℕ) → does k k ≡ action_over (Some (V 0)) k k
-  does_first k = ap (λ f. if nat_lt k k then action.Ais else if nat_le 1 k && (k == k) then action.New else action_of f) (ap form_in {x = k - k} {y = 0} (omega arith) ∙ first_plain)
+  does_first k =
+      ap (λ f. if nat_lt k k then action.Ais else if nat_le 1 k && (k == k) then action.New else action_of f)
+      (ap form_in {x = k - k} {y = 0} (omega arith) ∙ first_plain)
 
   does_after : (k t : ℕ) → k < t → does k t ≡ action_of (form_in (t - k))
   does_after k t h =
@@ -146,7 +152,9 @@ module _ (clock : ℕ → Clock) (source : IsSource clock) where
       record {
         sending = λ u is. ap₂ (λ s a. next_sending s a u) none ais ∙ (ais_sent None u).next ∙ sym (state_before k (t + 1) (omega arith));
         word = λ u is. silent u ∙ sym (silent (V (t - k)));
-        action = λ r is. ap₂ action_on (is.before (omega arith)) (silent (V (t - k))) ∙ spread.action ∙ sym (does_before (k + 1) (t + 1) (omega arith));
+        action =
+            λ r is. ap₂ action_on (is.before (omega arith)) (silent (V (t - k))) ∙ spread.action
+            ∙ sym (does_before (k + 1) (t + 1) (omega arith));
         reading = λ r is. record {
           before = λ z. ap₂ after_word (is.before (omega arith)) (silent (V (t - k))) ∙ spread.reading;
           mode_is = λ z. absurd (omega arith);
@@ -163,14 +171,20 @@ module _ (clock : ℕ → Clock) (source : IsSource clock) where
       let none : state k k ≡ sending_over (Some v) k k = state_before k k (omega arith) ∙ sym (sending_start (Some v) k k (omega arith)) in
       let acts = does_first k in
       let zero_back : V (k - k) ≡ v = ap V {x = k - k} {y = 0} (omega arith) in
-      let said_is : said k k ≡ word_over (Some v) k k = ap₂ (λ s a. word_sent s a (V (k - k))) none acts ∙ spread.word (V (k - k)) (λ z. zero_back) in
-      let start_is : (r : Reading) → Follows (k + 1) (k + 1) r → r ≡ reading_over (Some v) (k + 1) (k + 1) = λ r is. is.before (omega arith) ∙ sym (reading_start (Some v) (k + 1) (k + 1) (omega arith)) in
+      let said_is : said k k ≡ word_over (Some v) k k =
+      ap₂ (λ s a. word_sent s a (V (k - k))) none acts ∙ spread.word (V (k - k)) (λ z. zero_back) in
+      let start_is : (r : Reading) → Follows (k + 1) (k + 1) r → r ≡ reading_over (Some v) (k + 1) (k + 1) =
+      λ r is. is.before (omega arith) ∙ sym (reading_start (Some v) (k + 1) (k + 1) (omega arith)) in
       let next : (r : Reading) → Follows (k + 1) (k + 1) r → after_word r (said k k) ≡ settled mode.Norm v (min 3 (k + 2 - (k + 1 + 1))) =
       λ r is. ap₂ after_word (start_is r is) said_is ∙ spread.reading ∙ reading_after v (k + 1) (k + 2) (omega arith) in
-      let rest_is : (clock 1).rest ≡ 3 = source.rest 0 ∙ ap (λ f. (after_form f (clock 0)).rest) first_plain ∙ (let f = source.first in omega arith) in
-      let later_rest : (clock (k + 2 - (k + 1))).rest ≡ 3 = ap (λ j. (clock j).rest) {x = k + 2 - (k + 1)} {y = 1} (omega arith) ∙ rest_is in
+      let rest_is : (clock 1).rest ≡ 3 =
+      source.rest 0 ∙ ap (λ f. (after_form f (clock 0)).rest) first_plain ∙ (let f = source.first in omega arith) in
+      let later_rest : (clock (k + 2 - (k + 1))).rest ≡ 3 =
+      ap (λ j. (clock j).rest) {x = k + 2 - (k + 1)} {y = 1} (omega arith) ∙ rest_is in
       record {
-        sending = λ u is. ap₂ (λ s a. next_sending s a u) none acts ∙ spread.sending u (λ z. is (omega arith) ∙ zero_back) ∙ ap (λ x. if nat_lt k (k + 1) then Some x else None) (ap V {x = 0} {y = k + 1 - 1 - k} (omega arith));
+        sending =
+            λ u is. ap₂ (λ s a. next_sending s a u) none acts ∙ spread.sending u (λ z. is (omega arith) ∙ zero_back)
+            ∙ ap (λ x. if nat_lt k (k + 1) then Some x else None) (ap V {x = 0} {y = k + 1 - 1 - k} (omega arith));
         word = λ u is. ap (word_sent (state k k) (does k k)) (is (omega arith));
         action = λ r is. ap₂ action_on (start_is r is) said_is ∙ spread.action ∙ sym (does_first (k + 1));
         reading = λ r is. record {
@@ -201,7 +215,9 @@ module _ (clock : ℕ → Clock) (source : IsSource clock) where
     said_now = ap₂ (λ s a. word_sent s a (V j)) state_now (does_after k t h)
 
     next_now : (u : ℕ) → u ≡ V j → next_sending (state k t) (does k t) u ≡ Some (V j)
-    next_now u is = ap (next_sending (state k t) (does k t)) is ∙ ap₂ (λ s a. next_sending s a (V j)) state_now (does_after k t h) ∙ next_by_action (Some g) (action_of (form_in j)) (V j) ∙ lasts (form_in j) (V j)
+    next_now u is =
+        ap (next_sending (state k t) (does k t)) is ∙ ap₂ (λ s a. next_sending s a (V j)) state_now (does_after k t h)
+        ∙ next_by_action (Some g) (action_of (form_in j)) (V j) ∙ lasts (form_in j) (V j)
 
     module _ (r : Reading) (is : Follows (k + 1) (t + 1) r) where
       in_mode : r.mode ≡ mode.Norm
@@ -219,24 +235,36 @@ module _ (clock : ℕ → Clock) (source : IsSource clock) where
 
       counts : 3 ≤ (after_word r (said k t)).since + (ticked c).rest
       unfolding ticked
-      counts = subst (λ x. 3 ≤ (after_word r x).since + (after_form (next_form c) c).rest) (sym said_now) (counts_by c (form_in j) r (source.small j) refl in_mode in_value in_since)
+      counts =
+          subst (λ x. 3 ≤ (after_word r x).since + (after_form (next_form c) c).rest) (sym said_now)
+          (counts_by c (form_in j) r (source.small j) refl in_mode in_value in_since)
 
       read_is : (action_on r (said k t) ≡ action_of (form_in j)) × IsInStep (Some (V j)) (after_word r (said k t))
       read_is =
           let read = reads_what_is_sent (Some g) (action_of (form_in j)) (V j) r (small_value j) (in_mode, in_value, source.small j) goes in
-          let next : next_sending (Some g) (action_of (form_in j)) (V j) ≡ Some (V j) = next_by_action (Some g) (action_of (form_in j)) (V j) ∙ lasts (form_in j) (V j) in
-          (ap (action_on r) said_now ∙ read.answer, subst (λ x. IsInStep (Some (V j)) (after_word r x)) (sym said_now) (subst (λ s. IsInStep s (after_word r (word_sent (Some g) (action_of (form_in j)) (V j)))) next read.in_step))
+          let next : next_sending (Some g) (action_of (form_in j)) (V j) ≡ Some (V j) =
+          next_by_action (Some g) (action_of (form_in j)) (V j) ∙ lasts (form_in j) (V j) in (
+            ap (action_on r) said_now ∙ read.answer,
+            subst (λ x. IsInStep (Some (V j)) (after_word r x)) (sym said_now)
+                (subst (λ s. IsInStep s (after_word r (word_sent (Some g) (action_of (form_in j)) (V j)))) next read.in_step),
+          )
 
     late : Steps k t
     late = record {
-      sending = λ u is. next_now u (is (omega arith)) ∙ sym (state_after k (t + 1) (omega arith) ∙ ap (λ x. Some (V x)) {x = t + 1 - 1 - k} {y = j} (omega arith));
+      sending =
+          λ u is. next_now u (is (omega arith)) ∙ sym (state_after k (t + 1) (omega arith)
+          ∙ ap (λ x. Some (V x)) {x = t + 1 - 1 - k} {y = j} (omega arith));
       word = λ u is. ap (word_sent (state k t) (does k t)) (is (omega arith));
-      action = λ r is. (read_is r is).0 ∙ sym (does_after (k + 1) (t + 1) (omega arith) ∙ ap (λ x. action_of (form_in x)) {x = t + 1 - (k + 1)} {y = j} (omega arith));
+      action =
+          λ r is. (read_is r is).0 ∙ sym (does_after (k + 1) (t + 1) (omega arith)
+          ∙ ap (λ x. action_of (form_in x)) {x = t + 1 - (k + 1)} {y = j} (omega arith));
       reading = λ r is. record {
         before = λ z. absurd (omega arith);
         mode_is = λ z. (read_is r is).1.0;
         value_is = λ z. (read_is r is).1.1 ∙ ap V {x = j} {y = t + 2 - 1 - (k + 1)} (omega arith);
-        since_is = λ z. subst (λ x. 3 ≤ (after_word r (said k t)).since + x) (sym (ap (λ x. (clock x).rest) {x = t + 2 - (k + 1)} {y = j + 1} (omega arith) ∙ source.rest j)) (counts r is);
+        since_is =
+            λ z. subst (λ x. 3 ≤ (after_word r (said k t)).since + x)
+            (sym (ap (λ x. (clock x).rest) {x = t + 2 - (k + 1)} {y = j + 1} (omega arith) ∙ source.rest j)) (counts r is);
       };
     }
 
@@ -263,7 +291,8 @@ module _ (clock : ℕ → Clock) (source : IsSource clock) where
   normal_not_down z = cc
 
   -- by whether it is new
-  first_by : (k : ℕ) (b : Bool) → (if nat_lt k k then action.Ais else if b then action.New else action.Normal) ≡ (if b then action.New else action.Normal)
+  first_by : (k : ℕ) (b : Bool) → (if nat_lt k k then action.Ais else if b then action.New else action.Normal)
+      ≡ (if b then action.New else action.Normal)
   first_by k b = cond-false (nat_lt k k) action.Ais _ (le-ltb k k (omega arith))
 
   no_down : (b : Bool) → (if b then action.New else action.Normal) ≡ action.Down → ⊥
@@ -292,7 +321,8 @@ module _ (clock : ℕ → Clock) (source : IsSource clock) where
   pub down_back : (k t : ℕ) → does (k + 1) (t + 1) ≡ action.Down → does k t ≡ action.Down
   down_back k t e =
       let after = down_late (k + 1) (t + 1) e in
-      does_after k t (omega arith) ∙ ap (λ x. action_of (form_in x)) {x = t - k} {y = t + 1 - (k + 1)} (omega arith) ∙ sym (does_after (k + 1) (t + 1) after) ∙ e
+      does_after k t (omega arith) ∙ ap (λ x. action_of (form_in x)) {x = t - k} {y = t + 1 - (k + 1)} (omega arith)
+      ∙ sym (does_after (k + 1) (t + 1) after) ∙ e
 
   pub down_form : (k t u : ℕ) → does k t ≡ action.Down → u ≡ V (t - k) → form_sent (state k t) (does k t) u ≡ form.Down
   unfolding ticked
@@ -319,7 +349,8 @@ module _ (clock : ℕ → Clock) (source : IsSource clock) where
 
   pub chunk_is : (k t : ℕ) → k ≤ t → chunk_form (does k t) ≡ form_in (t - k)
   chunk_is k t h = elim (cases_eq t k) [
-    | inl now ↦ subst (λ x. chunk_form (does k x) ≡ form_in (x - k)) (sym now) (chunk_first k ∙ sym first_plain ∙ ap form_in {x = 0} {y = k - k} (omega arith))
+    | inl now ↦ subst (λ x. chunk_form (does k x) ≡ form_in (x - k)) (sym now)
+        (chunk_first k ∙ sym first_plain ∙ ap form_in {x = 0} {y = k - k} (omega arith))
     | inr other ↦ ap chunk_form (does_after k t (omega arith)) ∙ chunk_by (form_in (t - k))
   ]
 
@@ -329,12 +360,15 @@ module _ (clock : ℕ → Clock) (source : IsSource clock) where
 
   pub not_ais : (k t : ℕ) → k ≤ t → does k t ≢ action.Ais
   not_ais k t h e = elim (cases_eq t k) [
-    | inl now ↦ no_ais (nat_le 1 k && (k == k)) (sym (first_by k (nat_le 1 k && (k == k))) ∙ sym (does_first k) ∙ subst (λ x. does k x ≡ action.Ais) now e)
+    | inl now ↦ no_ais (nat_le 1 k && (k == k)) (sym (first_by k (nat_le 1 k && (k == k))) ∙ sym (does_first k)
+        ∙ subst (λ x. does k x ≡ action.Ais) now e)
     | inr other ↦ never_ais (form_in (t - k)) (sym (does_after k t (omega arith)) ∙ e)
   ]
 
   pub does_zero : (t : ℕ) → does 0 t ≡ action_of (form_in t)
-  does_zero t = cond-false (nat_lt t 0) action.Ais (action_of (form_in (t - 0))) (le-ltb t 0 (omega arith)) ∙ ap (λ x. action_of (form_in x)) {x = t - 0} {y = t} (omega arith)
+  does_zero t =
+      cond-false (nat_lt t 0) action.Ais (action_of (form_in (t - 0))) (le-ltb t 0 (omega arith))
+      ∙ ap (λ x. action_of (form_in x)) {x = t - 0} {y = t} (omega arith)
 
   pub long_down : (k t : ℕ) → k ≤ t → form_in (t - k) ≡ Long → does k t ≡ action.Down
   long_down k t h e = elim (cases_eq t k) [

@@ -1,5 +1,6 @@
 -- A circuit on whose arc nothing is asked, from a new ring on: its ports deliver straight over the arc.
-use Rattle.std.proofs.Common.{◌≡◌, ◌≢◌, ℕ, zero, suc, ◌+◌, ◌-◌, ◌<◌, ◌≤◌, Bool, true, false, List, [], ◌∷◌, length, get_or, replicate, Some, None, refl, ap, ap₂, sym, ◌∙◌, subst, arith, inl, inr}
+use Rattle.std.proofs.Common.{◌≡◌, ◌≢◌, ℕ, zero, suc, ◌+◌, ◌-◌, ◌<◌, ◌≤◌, Bool, true, false, List, [], ◌∷◌, length, get_or, replicate, Some}
+use Rattle.std.proofs.Common.{None, refl, ap, ap₂, sym, ◌∙◌, subst, arith, inl, inr}
 use Rattle.std.specs.Prelude.{◌/◌, if◌then◌else◌, slice_get, nat_lt, drop}
 use Rattle.std.specs.Option.{option_map_or}
 use Rattle.std.proofs.lemmas.Bool.{cases_lt, lt-ltb, le-ltb, cond-true, cond-false}
@@ -59,7 +60,8 @@ use Rattle.sdh_world.proofs.Clocks.{clocks_go_on}
 use Rattle.sdh_laws.specs.Hearing.Laws.{IsWhole, MayStart}
 use Rattle.sdh_laws.proofs.hearing.Nodes.{count, length-after}
 use Rattle.sdh_laws.proofs.hearing.Rounds.{whole_round}
-use Rattle.sdh_laws.proofs.hearing.Changes.{each_new, each_at_place, new_worlds_are_whole, sending_commanded, held_leaves, slips_leave, with_node, whole_changed}
+use Rattle.sdh_laws.proofs.hearing.Changes.{each_new, each_at_place, new_worlds_are_whole, sending_commanded, held_leaves, slips_leave}
+use Rattle.sdh_laws.proofs.hearing.Changes.{with_node, whole_changed}
 use Rattle.sdh_laws.proofs.hearing.Staying.{left_in, world_low, world_high, world_later}
 use Rattle.sdh_laws.proofs.hearing.Stretches.{requests_are_the_historys}
 use Rattle.sdh_laws.specs.Carrying.Windows.{value_at}
@@ -74,7 +76,8 @@ use Rattle.sdh_routes.proofs.Sights.{arc-end}
 use Rattle.sdh_routes.proofs.OnArcs.{near_at, near_end, seen-on}
 use Rattle.sdh_laws.specs.Strangers.Owners.{port_named}
 use Rattle.sdh_laws.specs.Strangers.Undisturbed.{NoneAsks, straight, UndisturbedPortsDeliver}
-use Rattle.sdh_laws.proofs.strangers.Slipping.{IsSource, value_in_round, state, Follows, does_before, state_before, does_zero, long_down, chunk_is, not_ais}
+use Rattle.sdh_laws.proofs.strangers.Slipping.{IsSource, value_in_round, state, Follows, does_before, state_before, does_zero, long_down}
+use Rattle.sdh_laws.proofs.strangers.Slipping.{chunk_is, not_ais}
 use Rattle.sdh_laws.proofs.strangers.Arc.{sent, HasCome, IsTuned, IsUndisturbed, AsksNothing, undisturbed_round, arrives}
 
 -- ---- a clock by its history
@@ -100,12 +103,14 @@ module _ (q : PortId) where
   change_alike (Fibre p d condition) c = record { rest = refl; value = refl }
   change_alike (Order p d command) c = record { rest = refl; value = refl }
   change_alike (Hold p turns) c = record { rest = refl; value = refl }
-  change_alike (Slip other turn count) c = if_alike (same_port q other) c (waits turn count c) c (waits_alike turn count c) (record { rest = refl; value = refl })
+  change_alike (Slip other turn count) c =
+      if_alike (same_port q other) c (waits turn count c) c (waits_alike turn count c) (record { rest = refl; value = refl })
   change_alike (Now t) c = record { rest = refl; value = refl }
 
   changes_alike : (xs : List Change) (c : Clock) → IsAlike c (clock_changed q xs c)
   changes_alike [] c = record { rest = refl; value = refl }
-  changes_alike (x ∷ xs) c = alike_on c (clock_after q x c) (clock_changed q xs (clock_after q x c)) (change_alike x c) (changes_alike xs (clock_after q x c))
+  changes_alike (x ∷ xs) c =
+      alike_on c (clock_after q x c) (clock_changed q xs (clock_after q x c)) (change_alike x c) (changes_alike xs (clock_after q x c))
 
   no_ticks : (c : Clock) → ticks 0 c ≡ c
   unfolding ticks
@@ -115,10 +120,12 @@ module _ (q : PortId) where
   unfolding ticks
   one_tick k c = ap (λ j. ticks j c) {x = k + 1} {y = suc k} (omega arith)
 
-  clock_low : (s : Stretch) (ss : List Stretch) (c : Clock) (t : ℕ) → t < s.rounds → clock_in q (s ∷ ss) c t ≡ ticks t (clock_changed q s.changes c)
+  clock_low : (s : Stretch) (ss : List Stretch) (c : Clock) (t : ℕ) → t < s.rounds
+      → clock_in q (s ∷ ss) c t ≡ ticks t (clock_changed q s.changes c)
   clock_low s ss c t h = cond-true (nat_lt t s.rounds) _ _ (lt-ltb t s.rounds h)
 
-  clock_high : (s : Stretch) (ss : List Stretch) (c : Clock) (t : ℕ) → s.rounds ≤ t → clock_in q (s ∷ ss) c t ≡ clock_in q ss (ticks s.rounds (clock_changed q s.changes c)) (t - s.rounds)
+  clock_high : (s : Stretch) (ss : List Stretch) (c : Clock) (t : ℕ) → s.rounds ≤ t
+      → clock_in q (s ∷ ss) c t ≡ clock_in q ss (ticks s.rounds (clock_changed q s.changes c)) (t - s.rounds)
   clock_high s ss c t h = cond-false (nat_lt t s.rounds) _ _ (le-ltb t s.rounds h)
 
   begins_alike : (ss : List Stretch) (c : Clock) → IsAlike c (clock_in q ss c 0)
@@ -128,7 +135,9 @@ module _ (q : PortId) where
     | inr none ↦ (
         let a = clock_changed q s.changes c in
         let zero_rounds : s.rounds ≡ 0 = omega arith in
-        let same : clock_in q (s ∷ ss) c 0 ≡ clock_in q ss a 0 = clock_high s ss c 0 none ∙ ap₂ (λ x y. clock_in q ss x y) (ap (λ k. ticks k a) zero_rounds ∙ no_ticks a) (let z : 0 - s.rounds ≡ 0 = omega arith in z) in
+        let same : clock_in q (s ∷ ss) c 0 ≡ clock_in q ss a 0 =
+        clock_high s ss c 0 none ∙ ap₂ (λ x y. clock_in q ss x y) (ap (λ k. ticks k a) zero_rounds ∙ no_ticks a)
+        (let z : 0 - s.rounds ≡ 0 = omega arith in z) in
         subst (IsAlike c) (sym same) (alike_on c a (clock_in q ss a 0) (changes_alike s.changes c) (begins_alike ss a)))
   ]
 
@@ -137,18 +146,24 @@ module _ (q : PortId) where
   goes_alike (s ∷ ss) c t =
       let a = clock_changed q s.changes c in
       elim (cases_lt t s.rounds) [
-        | inl low ↦ subst (λ x. IsAlike (ticked x) (clock_in q (s ∷ ss) c (t + 1))) (sym (clock_low s ss c t low)) (elim (cases_lt (t + 1) s.rounds) [
-          | inl more ↦ subst (IsAlike (ticked (ticks t a))) (sym (clock_low s ss c (t + 1) more ∙ one_tick t a)) (record { rest = refl; value = refl })
-          | inr last ↦ (
-              let now : s.rounds ≡ t + 1 = omega arith in
-              let there : ticks s.rounds a ≡ ticked (ticks t a) = ap (λ k. ticks k a) now ∙ one_tick t a in
-              let same : clock_in q (s ∷ ss) c (t + 1) ≡ clock_in q ss (ticked (ticks t a)) 0 = clock_high s ss c (t + 1) last ∙ ap₂ (λ x y. clock_in q ss x y) there (let z : t + 1 - s.rounds ≡ 0 = omega arith in z) in
-              subst (IsAlike (ticked (ticks t a))) (sym same) (begins_alike ss (ticked (ticks t a))))
-        ])
+        | inl low ↦ subst (λ x. IsAlike (ticked x) (clock_in q (s ∷ ss) c (t + 1))) (sym (clock_low s ss c t low))
+            (elim (cases_lt (t + 1) s.rounds) [
+              | inl more ↦ subst (IsAlike (ticked (ticks t a))) (sym (clock_low s ss c (t + 1) more ∙ one_tick t a))
+                  (record { rest = refl; value = refl })
+              | inr last ↦ (
+                  let now : s.rounds ≡ t + 1 = omega arith in
+                  let there : ticks s.rounds a ≡ ticked (ticks t a) = ap (λ k. ticks k a) now ∙ one_tick t a in
+                  let same : clock_in q (s ∷ ss) c (t + 1) ≡ clock_in q ss (ticked (ticks t a)) 0 =
+                  clock_high s ss c (t + 1) last ∙ ap₂ (λ x y. clock_in q ss x y) there (let z : t + 1 - s.rounds ≡ 0 = omega arith in z) in
+                  subst (IsAlike (ticked (ticks t a))) (sym same) (begins_alike ss (ticked (ticks t a))))
+            ])
         | inr high ↦ (
             let b = ticks s.rounds a in
-            let later : clock_in q (s ∷ ss) c (t + 1) ≡ clock_in q ss b (t - s.rounds + 1) = clock_high s ss c (t + 1) (omega arith) ∙ ap (clock_in q ss b) {x = t + 1 - s.rounds} {y = t - s.rounds + 1} (omega arith) in
-            subst (λ x. IsAlike (ticked x) (clock_in q (s ∷ ss) c (t + 1))) (sym (clock_high s ss c t high)) (subst (IsAlike (ticked (clock_in q ss b (t - s.rounds)))) (sym later) (goes_alike ss b (t - s.rounds))))
+            let later : clock_in q (s ∷ ss) c (t + 1) ≡ clock_in q ss b (t - s.rounds + 1) =
+            clock_high s ss c (t + 1) (omega arith) ∙ ap (clock_in q ss b) {x = t + 1 - s.rounds} {y = t - s.rounds + 1}
+            (omega arith) in
+            subst (λ x. IsAlike (ticked x) (clock_in q (s ∷ ss) c (t + 1))) (sym (clock_high s ss c t high))
+            (subst (IsAlike (ticked (clock_in q ss b (t - s.rounds)))) (sym later) (goes_alike ss b (t - s.rounds))))
       ]
 
   small_by : (f : ChunkForm) (c : Clock) → c.value ≤ 782 → (after_form f c).value ≤ 782
@@ -168,7 +183,12 @@ module _ (q : PortId) where
         (subst (λ x. x ≤ 782) (sym (goes_alike ss c r).value) (small_ticked (clock_in q ss c r) (small_in r)))
 
     source_in : IsSource (λ r. clock_in q ss c r)
-    source_in = record { first = (begins_alike ss c).rest ∙ first; small = small_in; value = λ r. (goes_alike ss c r).value; rest = λ r. (goes_alike ss c r).rest }
+    source_in = record {
+      first = (begins_alike ss c).rest ∙ first;
+      small = small_in;
+      value = λ r. (goes_alike ss c r).value;
+      rest = λ r. (goes_alike ss c r).rest;
+    }
 
 -- ---- what is laid is taken
 
@@ -182,17 +202,21 @@ three (a ∷ b ∷ c ∷ e ∷ l) h = absurd (omega arith)
 long_h3 : (l : List ℕ) → length l ≡ 2352 → length (laid_h3 Long l) ≡ 3
 long_h3 l h = length-take-le 3 (drop 783 l) (omega (arith, length-drop 783 l))
 
-taken_by : (f : ChunkForm) (b payload h3 : List ℕ) → length b ≡ taken_len f → payload ≡ laid f b → (f ≡ Long → h3 ≡ laid_h3 f b) → taken f payload h3 ≡ b
+taken_by : (f : ChunkForm) (b payload h3 : List ℕ) → length b ≡ taken_len f → payload ≡ laid f b → (f ≡ Long → h3 ≡ laid_h3 f b)
+    → taken f payload h3 ≡ b
 taken_by Plain b payload h3 len e g = e
 taken_by Short b payload h3 len e g = ap (λ p. taken Short p h3) e ∙ what_is_laid_is_taken Short b len
 taken_by Long b payload h3 len e g = ap₂ (λ p h. taken Long p h) e (g refl) ∙ what_is_laid_is_taken Long b len
 
-laid_by : (p : Customer) (c : Clock) (f : ChunkForm) → (let k = after_form f c in laid k.form (stream_from p (last_from k) (taken_len k.form))) ≡ laid f (stream_from p c.sent (taken_len f))
+laid_by : (p : Customer) (c : Clock) (f : ChunkForm) → (let k = after_form f c in laid k.form
+    (stream_from p (last_from k) (taken_len k.form))) ≡ laid f (stream_from p c.sent (taken_len f))
 laid_by p c Plain = ap (λ x. stream_from p x 2349) {x = c.sent + 2349 - 2349} {y = c.sent} (omega arith)
 laid_by p c Short = ap (λ x. laid Short (stream_from p x 2346)) {x = c.sent + 2346 - 2346} {y = c.sent} (omega arith)
 laid_by p c Long = ap (λ x. laid Long (stream_from p x 2352)) {x = c.sent + 2352 - 2352} {y = c.sent} (omega arith)
 
-h3_by : (p : Customer) (c : Clock) (f : ChunkForm) → f ≡ Long → (let k = after_form f c in let l = laid_h3 k.form (stream_from p (last_from k) (taken_len k.form)) in get_or l 0 0 ∷ get_or l 1 0 ∷ get_or l 2 0 ∷ []) ≡ laid_h3 f (stream_from p c.sent (taken_len f))
+h3_by : (p : Customer) (c : Clock) (f : ChunkForm) → f ≡ Long
+    → (let k = after_form f c in let l = laid_h3 k.form (stream_from p (last_from k) (taken_len k.form)) in get_or l 0 0 ∷ get_or l 1 0
+    ∷ get_or l 2 0 ∷ []) ≡ laid_h3 f (stream_from p c.sent (taken_len f))
 h3_by p c Plain e = absurd (apart e)
   where
     apart : Plain ≡ Long → ⊥
@@ -202,14 +226,17 @@ h3_by p c Short e = absurd (apart e)
     apart : Short ≡ Long → ⊥
     apart z = cc
 h3_by p c Long e =
-    ap (λ x. let l = laid_h3 Long (stream_from p x 2352) in get_or l 0 0 ∷ get_or l 1 0 ∷ get_or l 2 0 ∷ []) {x = c.sent + 2352 - 2352} {y = c.sent} (omega arith)
+    ap (λ x. let l = laid_h3 Long (stream_from p x 2352) in get_or l 0 0 ∷ get_or l 1 0 ∷ get_or l 2 0
+    ∷ []) {x = c.sent + 2352 - 2352} {y = c.sent} (omega arith)
     ∙ three (laid_h3 Long (stream_from p c.sent 2352)) (long_h3 (stream_from p c.sent 2352) (length-stream_from p c.sent 2352))
 
-sent_payload : (p : Customer) (c : Clock) → (sent_in (record { port = p; clock = c })).payload ≡ laid (next_form c) (stream_from p c.sent (taken_len (next_form c)))
+sent_payload : (p : Customer) (c : Clock) → (sent_in (record { port = p; clock = c })).payload
+    ≡ laid (next_form c) (stream_from p c.sent (taken_len (next_form c)))
 unfolding sent_by ticked
 sent_payload p c = laid_by p c (next_form c)
 
-sent_h3 : (p : Customer) (c : Clock) → next_form c ≡ Long → h3_of (input_by (sent_in (record { port = p; clock = c }))).au.pointers ≡ laid_h3 (next_form c) (stream_from p c.sent (taken_len (next_form c)))
+sent_h3 : (p : Customer) (c : Clock) → next_form c ≡ Long → h3_of (input_by (sent_in (record { port = p; clock = c }))).au.pointers
+    ≡ laid_h3 (next_form c) (stream_from p c.sent (taken_len (next_form c)))
 unfolding sent_by ticked
 sent_h3 p c e = h3_by p c (next_form c) e
 
@@ -237,16 +264,20 @@ module _ (i : ℕ) (c : Provisioned) (d : Side) (clock : ℕ → Clock) (source 
   abbrev Tuned : World → ℕ → Node → Type 0
   Tuned w = IsTuned i c d clock source (length w.ring.ids) w.ring.rounds
 
-  tuned_left : (f : Node → Node) → ((e : Side) (y : Node) → (receiving_on e (f y)).readings ≡ (receiving_on e y).readings) → ((e : Side) (y : Node) → sending_on e (f y) ≡ sending_on e y) → ((y : Node) → (f y).state ≡ y.state)
+  tuned_left : (f : Node → Node) → ((e : Side) (y : Node) → (receiving_on e (f y)).readings ≡ (receiving_on e y).readings)
+      → ((e : Side) (y : Node) → sending_on e (f y) ≡ sending_on e y) → ((y : Node) → (f y).state ≡ y.state)
       → (w : World) (q : ℕ) (y : Node) → Tuned w q y → Tuned w q (f y)
   tuned_left f readings sendings states w q y h = record {
     sends = λ k few is. ap (λ x. get_or x.generators (c.slot.0 - 1) None) (sendings d y) ∙ h.sends k few is;
-    reads = λ k few is. subst (λ l. Follows clock source (k + 1) w.ring.rounds (get_or l (c.slot.0 - 1) start)) (sym (readings (opposite d) y)) (h.reads k few is);
+    reads =
+        λ k few is. subst (λ l. Follows clock source (k + 1) w.ring.rounds (get_or l (c.slot.0 - 1) start)) (sym (readings (opposite d) y))
+        (h.reads k few is);
     words = λ e held. subst (λ x. x.word.path ≡ Short → code_number x.word.code < 5) (sym (sendings e y)) (h.words e held);
     open_sides = λ e held. ap (λ z. is_open z e) (states y) ∙ h.open_sides e held;
   }
 
-  with_change : (f : Node → Node) → ((e : Side) (y : Node) → (receiving_on e (f y)).readings ≡ (receiving_on e y).readings) → ((e : Side) (y : Node) → sending_on e (f y) ≡ sending_on e y) → ((y : Node) → (f y).state ≡ y.state)
+  with_change : (f : Node → Node) → ((e : Side) (y : Node) → (receiving_on e (f y)).readings ≡ (receiving_on e y).readings)
+      → ((e : Side) (y : Node) → sending_on e (f y) ≡ sending_on e y) → ((y : Node) → (f y).state ≡ y.state)
       → (p : ℕ) (w : World) → IsWhole (with_node p f w) → U w → U (with_node p f w)
   with_change f readings sendings states p w whole u = record {
     whole = whole;
@@ -257,7 +288,8 @@ module _ (i : ℕ) (c : Provisioned) (d : Side) (clock : ℕ → Clock) (source 
     frames = u.frames;
   }
 
-  readings_commanded : (d e : Side) (x : Command) (y : Node) → (receiving_on e (at_receiving d (commanded_by x) y)).readings ≡ (receiving_on e y).readings
+  readings_commanded : (d e : Side) (x : Command) (y : Node)
+      → (receiving_on e (at_receiving d (commanded_by x) y)).readings ≡ (receiving_on e y).readings
   readings_commanded West West x y = refl
   readings_commanded West East x y = refl
   readings_commanded East West x y = refl
@@ -265,15 +297,32 @@ module _ (i : ℕ) (c : Provisioned) (d : Side) (clock : ℕ → Clock) (source 
 
   changed_u : (x : Change) (w : World) → IsChangeOf w x → U w → U (changed x w)
   unfolding changed
-  changed_u (Fibre p e condition) w may u = record { whole = whole_changed (Fibre p e condition) w may u.whole; get = u.get; ring = u.ring; slot = u.slot; tuned = u.tuned; frames = u.frames }
+  changed_u (Fibre p e condition) w may u = record {
+    whole = whole_changed (Fibre p e condition) w may u.whole;
+    get = u.get;
+    ring = u.ring;
+    slot = u.slot;
+    tuned = u.tuned;
+    frames = u.frames;
+  }
   changed_u (Order p e x) w may u =
-      with_change (at_receiving e (commanded_by x)) (λ g y. readings_commanded e g x y) (λ g y. sending_commanded e g x y) (λ y. refl) p w (whole_changed (Order p e x) w may u.whole) u
+      with_change (at_receiving e (commanded_by x)) (λ g y. readings_commanded e g x y) (λ g y. sending_commanded e g x y) (λ y. refl) p w
+      (whole_changed (Order p e x) w may u.whole) u
   changed_u (Hold p turns) w may u =
-      with_change (held_for turns) (λ g y. ap (λ (r : Receiving). r.readings) ((held_leaves turns).receiving g y)) (λ g y. (held_leaves turns).sending g y) (λ y. refl) p w (whole_changed (Hold p turns) w may u.whole) u
+      with_change (held_for turns) (λ g y. ap (λ (r : Receiving). r.readings) ((held_leaves turns).receiving g y))
+      (λ g y. (held_leaves turns).sending g y) (λ y. refl) p w (whole_changed (Hold p turns) w may u.whole) u
   changed_u (Slip id turn count) w may u =
-      with_change (slips_at id turn count) (λ g y. ap (λ (r : Receiving). r.readings) ((slips_leave id turn count).receiving g y)) (λ g y. (slips_leave id turn count).sending g y) (λ y. refl) (place_of_port w.ring id) w
+      with_change (slips_at id turn count) (λ g y. ap (λ (r : Receiving). r.readings) ((slips_leave id turn count).receiving g y))
+      (λ g y. (slips_leave id turn count).sending g y) (λ y. refl) (place_of_port w.ring id) w
       (whole_changed (Slip id turn count) w may u.whole) u
-  changed_u (Now t) w may u = record { whole = whole_changed (Now t) w may u.whole; get = u.get; ring = u.ring; slot = u.slot; tuned = u.tuned; frames = u.frames }
+  changed_u (Now t) w may u = record {
+    whole = whole_changed (Now t) w may u.whole;
+    get = u.get;
+    ring = u.ring;
+    slot = u.slot;
+    tuned = u.tuned;
+    frames = u.frames;
+  }
 
   all_u : (xs : List Change) (w : World) → AreChangesOf w xs → U w → U (all_changed xs w)
   all_u [] w may u = u
@@ -294,7 +343,9 @@ module _ (i : ℕ) (c : Provisioned) (d : Side) (clock : ℕ → Clock) (source 
 
     starts : (d : Side) → port_at c (near_end d) ≡ going n d (near_at n c d) 0
     starts East = sym (going-none n plenty East c.from.0 (u.ring.inside i c u.get).0)
-    starts West = arc-end n w.ring.circuits.circuits u.ring i c u.get ∙ sym (going-none n plenty West (near_at n c West) (going-inside n plenty East c.from.0 (arc_length n c)))
+    starts West =
+        arc-end n w.ring.circuits.circuits u.ring i c u.get
+        ∙ sym (going-none n plenty West (near_at n c West) (going-inside n plenty East c.from.0 (arc_length n c)))
 
     end_low : (e : End) → port_at c e < n
     end_low A = (u.ring.inside i c u.get).0
@@ -308,7 +359,8 @@ module _ (i : ℕ) (c : Provisioned) (d : Side) (clock : ℕ → Clock) (source 
         let f = found w u.whole i c x u.get lt in
         let now : f.it.feed.clock ≡ clock t = sym (clock_is w u.whole i c x u.get lt) ∙ tells.times in
         let is : value_at w (port_at c x) c.slot.0 (port i x) ≡ input_by (sent_in (record { port = customer_at c x; clock = clock t })) =
-        ap (λ o. option_map_or (λ (y : Tributary). input_by (sent_in y.feed)) o no_input) f.is ∙ λ j. input_by (sent_in (record { port = f.sender j; clock = now j })) in
+        ap (λ o. option_map_or (λ (y : Tributary). input_by (sent_in y.feed)) o no_input) f.is
+        ∙ λ j. input_by (sent_in (record { port = f.sender j; clock = now j })) in
         let back : t ≡ t - 0 = omega arith in
         subst (λ p. HasCome i c d clock source 0 t (value_at w p c.slot.0 (port i x))) (starts d) (record {
           acts = ap (λ (y : Input). y.action) is ∙ sent_action (customer_at c x) (clock t) ∙ sym (does_zero clock source t);
@@ -330,16 +382,19 @@ module _ (i : ℕ) (c : Provisioned) (d : Side) (clock : ℕ → Clock) (source 
         let b = stream_from p (clock r).sent (taken_len f) in
         let form : chunk_form x.action ≡ f = ap chunk_form h.acts ∙ chunk_is clock source k t late in
         let bytes : taken f x.au.payload (h3_of x.au.pointers) ≡ b =
-        taken_by f b x.au.payload (h3_of x.au.pointers) (length-stream_from p (clock r).sent (taken_len f)) (h.payload late ∙ sent_payload p (clock r))
+        taken_by f b x.au.payload (h3_of x.au.pointers) (length-stream_from p (clock r).sent (taken_len f))
+        (h.payload late ∙ sent_payload p (clock r))
         (λ long. h.h3 late (h.acts ∙ long_down clock source k t late long) ∙ sent_h3 p (clock r) long) in
         not_silent x.action x (λ z. not_ais clock source k t late (sym h.acts ∙ z))
         ∙ ap (λ g. delivering x.value (taken g x.au.payload (h3_of x.au.pointers))) form
         ∙ λ j. delivering (h.value late j) (bytes j)
 
-    delivers_by : (k t : ℕ) (x : Input) → HasCome i c d clock source k t x → delivered_from x ≡ (if nat_lt t k then silent else owed (t - k))
+    delivers_by : (k t : ℕ) (x : Input) → HasCome i c d clock source k t x
+        → delivered_from x ≡ (if nat_lt t k then silent else owed (t - k))
     unfolding delivered_from
     delivers_by k t x h = elim (cases_lt t k) [
-      | inl early ↦ ap (λ b. delivered_by b x) (h.acts ∙ does_before clock source k t early) ∙ sym (cond-true (nat_lt t k) silent (owed (t - k)) (lt-ltb t k early))
+      | inl early ↦ ap (λ b. delivered_by b x) (h.acts ∙ does_before clock source k t early)
+          ∙ sym (cond-true (nat_lt t k) silent (owed (t - k)) (lt-ltb t k early))
       | inr late ↦ delivered_late x k t h late ∙ sym (cond-false (nat_lt t k) silent (owed (t - k)) (le-ltb t k late))
     ]
 
@@ -351,7 +406,8 @@ module _ (i : ℕ) (c : Provisioned) (d : Side) (clock : ℕ → Clock) (source 
     e = other_end (near_end d)
 
     -- the port at the other end
-    delivers : outlet_at (round w).ring (port_named i e) ≡ (if nat_lt w.ring.rounds (arc_length n c) then silent else owed (w.ring.rounds - arc_length n c))
+    delivers : outlet_at (round w).ring (port_named i e) ≡ (if nat_lt w.ring.rounds (arc_length n c)
+        then silent else owed (w.ring.rounds - arc_length n c))
     delivers =
         let next = round w in
         let hn = whole_round w u.whole in
@@ -360,7 +416,8 @@ module _ (i : ℕ) (c : Provisioned) (d : Side) (clock : ℕ → Clock) (source 
         let h : p < length w.ring.nodes = omega (arith, count w u.whole.placed, end_low e) in
         let hp : p < length next.ring.nodes = omega (arith, length-after w) in
         let st = (node_at next.ring.nodes p).state in
-        let t = port-found next.ring.circuits.circuits (node_at next.ring.nodes p).ports i c e still_there (node_of next hn p hp).ports_are in
+        let t =
+        port-found next.ring.circuits.circuits (node_at next.ring.nodes p).ports i c e still_there (node_of next hn p hp).ports_are in
         let seen = seen-on n xs u.ring i c u.get d in
         let many = arc_length n c in
         let place : going n d (near_at n c d) many ≡ p = sym seen.distant_at in
@@ -369,8 +426,10 @@ module _ (i : ℕ) (c : Provisioned) (d : Side) (clock : ℕ → Clock) (source 
         outlet_there next hn i c e still_there hp ∙ ap (λ o. option_map_or (λ (t : Tributary). t.outlet) o silent) t.is
         ∙ found_arrives w u.whole i c e h st (state_in_turn w u.whole p h) t in
         let come : HasCome i c d clock source many w.ring.rounds input =
-        subst (λ y. HasCome i c d clock source many w.ring.rounds (value_at w p c.slot.0 (stands_in n xs p st y c.slot.0))) (sym seen.distant_faces)
-        (subst (λ q. HasCome i c d clock source many w.ring.rounds (value_at w q c.slot.0 (stands_in n xs q (node_at next.ring.nodes q).state (opposite d) c.slot.0))) place
+        subst (λ y. HasCome i c d clock source many w.ring.rounds (value_at w p c.slot.0 (stands_in n xs p st y c.slot.0)))
+        (sym seen.distant_faces)
+        (subst (λ q. HasCome i c d clock source many w.ring.rounds
+        (value_at w q c.slot.0 (stands_in n xs q (node_at next.ring.nodes q).state (opposite d) c.slot.0))) place
         (arrives i c d clock source w u tells.asks own)) in
         out ∙ delivers_by many w.ring.rounds input come
 
@@ -384,11 +443,13 @@ module _ (i : ℕ) (c : Provisioned) (d : Side) (clock : ℕ → Clock) (source 
   run_u zero w u tells = u
   run_u (suc j) w u tells = next_u (run j w) (run_u j w u (λ k h. tells k (omega arith))) (tells j (omega arith))
 
-  in_u : (rest : List Stretch) (w : World) (t : ℕ) → U w → MayHappen w rest → ((j : ℕ) → j < rounds_in rest → Tells (world_in rest w j)) → t ≤ rounds_in rest → U (world_in rest w t)
+  in_u : (rest : List Stretch) (w : World) (t : ℕ) → U w → MayHappen w rest → ((j : ℕ) → j < rounds_in rest → Tells (world_in rest w j))
+      → t ≤ rounds_in rest → U (world_in rest w t)
   in_u [] w t u may tells h = u
   in_u (x ∷ rest) w t u may tells h =
       let begin : U (all_changed x.changes w) = all_u x.changes w may.0 u in
-      let within : (j : ℕ) → j < x.rounds → Tells (run j (all_changed x.changes w)) = λ j low. subst Tells (world_low x rest w j low) (tells j (omega arith)) in
+      let within : (j : ℕ) → j < x.rounds → Tells (run j (all_changed x.changes w)) =
+      λ j low. subst Tells (world_low x rest w j low) (tells j (omega arith)) in
       elim (cases_lt t x.rounds) [
         | inl low ↦ subst U (sym (world_low x rest w t low)) (run_u t (all_changed x.changes w) begin (λ j less. within j (omega arith)))
         | inr high ↦ subst U (sym (world_high x rest w t high))
@@ -404,8 +465,10 @@ same_all m i a = elim (cases_lt i m) [
   | inr past ↦ get_or_past (replicate m a) i a (omega (arith, length-replicate m a))
 ]
 
-module _ (s : Settings) (ids : List ℕ) (circuits : Provisioning) (f : Fibres) (ss : List Stretch) (start_is : MayStart s ids f) (happen : MayHappen (new_world s ids circuits f) ss)
-    (form : AreCircuits (length ids) (n_of s.rate / 2) circuits.circuits) (i : ℕ) (c : Provisioned) (get : slice_get circuits.circuits i ≡ Some c) (d : Side) (asks : NoneAsks s (length ids) ss c) where
+module _ (s : Settings) (ids : List ℕ) (circuits : Provisioning) (f : Fibres) (ss : List Stretch) (start_is : MayStart s ids f)
+    (happen : MayHappen (new_world s ids circuits f) ss)
+    (form : AreCircuits (length ids) (n_of s.rate / 2) circuits.circuits) (i : ℕ) (c : Provisioned)
+    (get : slice_get circuits.circuits i ≡ Some c) (d : Side) (asks : NoneAsks s (length ids) ss c) where
   abbrev w : World
   w = new_world s ids circuits f
 
@@ -464,20 +527,33 @@ module _ (s : Settings) (ids : List ℕ) (circuits : Provisioning) (f : Fibres) 
   -- a new node
   tuned_new : (p : ℕ) → IsTuned i c d clock source size 0 p (new_node s ids cs (position_of p))
   unfolding new_node
-  tuned_new p = record { sends = λ k few is. sends_new d k; reads = λ k few is. reads_new (opposite d) k; words = λ e held. words_new e; open_sides = λ e held. refl }
+  tuned_new p = record {
+    sends = λ k few is. sends_new d k;
+    reads = λ k few is. reads_new (opposite d) k;
+    words = λ e held. words_new e;
+    open_sides = λ e held. refl;
+  }
     where
-      sends_new : (e : Side) (k : ℕ) → get_or (sending_on e (new_node s ids cs (position_of p))).generators (c.slot.0 - 1) None ≡ state clock source k 0
+      sends_new : (e : Side) (k : ℕ) → get_or (sending_on e (new_node s ids cs (position_of p))).generators (c.slot.0 - 1) None
+          ≡ state clock source k 0
       sends_new West k = same_all (n_of s.rate) (c.slot.0 - 1) None ∙ sym (state_before clock source k 0 (omega arith))
       sends_new East k = same_all (n_of s.rate) (c.slot.0 - 1) None ∙ sym (state_before clock source k 0 (omega arith))
 
       start_follows : (k : ℕ) (r : Reading) → r ≡ start → Follows clock source (k + 1) 0 r
-      start_follows k r is = record { before = λ z. is; mode_is = λ z. absurd (omega arith); value_is = λ z. absurd (omega arith); since_is = λ z. absurd (omega arith) }
+      start_follows k r is = record {
+        before = λ z. is;
+        mode_is = λ z. absurd (omega arith);
+        value_is = λ z. absurd (omega arith);
+        since_is = λ z. absurd (omega arith);
+      }
 
-      reads_new : (e : Side) (k : ℕ) → Follows clock source (k + 1) 0 (get_or (receiving_on e (new_node s ids cs (position_of p))).readings (c.slot.0 - 1) start)
+      reads_new : (e : Side) (k : ℕ) → Follows clock source (k + 1) 0
+          (get_or (receiving_on e (new_node s ids cs (position_of p))).readings (c.slot.0 - 1) start)
       reads_new West k = start_follows k _ (same_all (n_of s.rate) (c.slot.0 - 1) start)
       reads_new East k = start_follows k _ (same_all (n_of s.rate) (c.slot.0 - 1) start)
 
-      words_new : (e : Side) → (word_of e (new_node s ids cs (position_of p))).path ≡ Short → code_number (word_of e (new_node s ids cs (position_of p))).code < 5
+      words_new : (e : Side) → (word_of e (new_node s ids cs (position_of p))).path ≡ Short
+          → code_number (word_of e (new_node s ids cs (position_of p))).code < 5
       words_new West = λ z. omega arith
       words_new East = λ z. omega arith
 
@@ -505,7 +581,9 @@ module _ (s : Settings) (ids : List ℕ) (circuits : Provisioning) (f : Fibres) 
       let same = (left_in ss w t (omega arith)).ids in
       let is = clock_then t h in
       record {
-        asks = subst (λ (l : List ℕ). (p : ℕ) (e : Side) → p < length l → holds (length l) c (span_at (length l) p e) ≡ true → (receiving_on e (node_at (round x).ring.nodes p)).request ≡ Nr) (sym same)
+        asks =
+            subst (λ (l : List ℕ). (p : ℕ) (e : Side) → p < length l → holds (length l) c (span_at (length l) p e) ≡ true
+            → (receiving_on e (node_at (round x).ring.nodes p)).request ≡ Nr) (sym same)
             (λ p e low held. (requests_are_the_historys s ids circuits f ss start_is happen).each p e t low h ∙ asks t p e h low held);
         times = is ∙ ap clock (sym (ran_at t (omega arith)));
       }
@@ -514,9 +592,11 @@ module _ (s : Settings) (ids : List ℕ) (circuits : Provisioning) (f : Fibres) 
   good_at t h = in_u i c d clock source ss w t good_new happen tells h
 
   abbrev owed_then : ℕ → Outlet
-  owed_then r = delivering (ticked (clock r)).value (stream_from (customer_at c (near_end d)) (clock r).sent (taken_len (next_form (clock r))))
+  owed_then r =
+      delivering (ticked (clock r)).value (stream_from (customer_at c (near_end d)) (clock r).sent (taken_len (next_form (clock r))))
 
-  pub far_delivers : (t : ℕ) → t < rounds_in ss → outlet_at (round (world_in ss w t)).ring (port_named i far) ≡ (if nat_lt t (arc_length size c) then silent else owed_then (t - arc_length size c))
+  pub far_delivers : (t : ℕ) → t < rounds_in ss → outlet_at (round (world_in ss w t)).ring (port_named i far)
+      ≡ (if nat_lt t (arc_length size c) then silent else owed_then (t - arc_length size c))
   far_delivers t h =
       let x = world_in ss w t in
       let same = (left_in ss w t (omega arith)).ids in
@@ -524,12 +604,15 @@ module _ (s : Settings) (ids : List ℕ) (circuits : Provisioning) (f : Fibres) 
       delivers i c d clock source x (good_at t (omega arith)) (tells t h)
       ∙ ap₂ (λ r l. if nat_lt r (arc_length (length l) c) then silent else owed_then (r - arc_length (length l) c)) ran same
 
-by_end : (s : Settings) (ids : List ℕ) (circuits : Provisioning) (f : Fibres) (ss : List Stretch) → MayStart s ids f → MayHappen (new_world s ids circuits f) ss → AreCircuits (length ids) (n_of s.rate / 2) circuits.circuits
+by_end : (s : Settings) (ids : List ℕ) (circuits : Provisioning) (f : Fibres) (ss : List Stretch) → MayStart s ids f
+    → MayHappen (new_world s ids circuits f) ss → AreCircuits (length ids) (n_of s.rate / 2) circuits.circuits
     → (i : ℕ) (c : Provisioned) → slice_get circuits.circuits i ≡ Some c → NoneAsks s (length ids) ss c → (t : ℕ) → t < rounds_in ss
-    → (e : End) → outlet_at (round (world_in ss (new_world s ids circuits f) t)).ring (port_named i e) ≡ straight (length ids) circuits.circuits ss i c e t
+    → (e : End) → outlet_at (round (world_in ss (new_world s ids circuits f) t)).ring (port_named i e)
+    ≡ straight (length ids) circuits.circuits ss i c e t
 unfolding arc_length
 by_end s ids circuits f ss may happen form i c get asks t h A = far_delivers s ids circuits f ss may happen form i c get West asks t h
 by_end s ids circuits f ss may happen form i c get asks t h B = far_delivers s ids circuits f ss may happen form i c get East asks t h
 
 pub undisturbed_ports_deliver : UndisturbedPortsDeliver
-undisturbed_ports_deliver s ids circuits f ss may happen form i c get e asks t h = by_end s ids circuits f ss may happen form i c get asks t h e
+undisturbed_ports_deliver s ids circuits f ss may happen form i c get e asks t h =
+    by_end s ids circuits f ss may happen form i c get asks t h e

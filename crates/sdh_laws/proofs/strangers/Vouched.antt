@@ -1,5 +1,6 @@
 -- Rings stay vouched for, over changes and rounds, and no port meets a stranger in a round of one.
-use Rattle.std.proofs.Common.{◌≡◌, ℕ, ◌+◌, ◌-◌, ◌<◌, ◌≤◌, false, List, length, Option, Some, None, refl, ap, sym, ◌∙◌, subst, arith, inl, inr, ◌⊎◌}
+use Rattle.std.proofs.Common.{◌≡◌, ℕ, ◌+◌, ◌-◌, ◌<◌, ◌≤◌, false, List, length, Option, Some, None, refl, ap, sym, ◌∙◌, subst, arith, inl}
+use Rattle.std.proofs.Common.{inr, ◌⊎◌}
 use Rattle.std.specs.Prelude.{slice_get, nat_le}
 use Rattle.std.specs.Option.{option_map_or}
 use Rattle.sdh_frame.specs.Aus.{Au, ones}
@@ -39,7 +40,8 @@ use Rattle.sdh_rounds.specs.Rounds as any_round
 use Rattle.sdh_laws.specs.Hearing.Laws.{IsWhole}
 use Rattle.sdh_laws.proofs.hearing.Nodes.{informed, count, nodes_after, length-after}
 use Rattle.sdh_laws.proofs.hearing.Rounds.{whole_round}
-use Rattle.sdh_laws.proofs.hearing.Changes.{each_new, each_at_place, new_worlds_are_whole, sending_commanded, LeavesSides, held_leaves, slips_leave, with_node, whole_changed}
+use Rattle.sdh_laws.proofs.hearing.Changes.{each_new, each_at_place, new_worlds_are_whole, sending_commanded, LeavesSides, held_leaves}
+use Rattle.sdh_laws.proofs.hearing.Changes.{slips_leave, with_node, whole_changed}
 use Rattle.sdh_laws.specs.Carrying.Windows.{layout_of, slots_of, HasCircuits, value_at}
 use Rattle.sdh_terminal.proofs.Found.{port-found}
 use Rattle.sdh_laws.proofs.carrying.Connections.{node_of, state_in_turn}
@@ -48,7 +50,8 @@ use Rattle.sdh_routes.specs.Walks.{port_at, stands_in}
 use Rattle.sdh_circuits.specs.Ends.{inward}
 use Rattle.sdh_routes.proofs.Views.{AreOnRing, on-ring}
 use Rattle.sdh_routes.proofs.Ways.{end_inside}
-use Rattle.sdh_laws.specs.Strangers.Owners.{port_named, other_port, put_by, HasBytesOf, Holds, nobodys, customers, MeetsNoStranger, ais_comes, bytes_come, NoneMeetsAStranger, AreClocksOf}
+use Rattle.sdh_laws.specs.Strangers.Owners.{port_named, other_port, put_by, HasBytesOf, Holds, nobodys, customers, MeetsNoStranger}
+use Rattle.sdh_laws.specs.Strangers.Owners.{ais_comes, bytes_come, NoneMeetsAStranger, AreClocksOf}
 use Rattle.sdh_laws.specs.Strangers.Vouched.{streams_to, spoken_of, HoldsAtMost, au_in, IsVouched}
 use Rattle.sdh_laws.specs.Strangers.Laws.{HoldsNone}
 use Rattle.sdh_laws.proofs.strangers.Content.{IsCarried, Bears, Fine}
@@ -73,10 +76,12 @@ module _ (cs : List Provisioned) (clocks : PortId → ℕ → Clock) where
   blank_holds t None = own_bytes ones ones refl
   blank_holds t (Some q) = nobodys (own_bytes ones ones refl)
 
-  passed_holds : (t : ℕ) (q : Option PortId) (f : Form) (w : ℕ) (a : Au) → HoldsAtMost cs clocks t q a → HoldsAtMost cs clocks t q (au_with f w a)
+  passed_holds : (t : ℕ) (q : Option PortId) (f : Form) (w : ℕ) (a : Au) → HoldsAtMost cs clocks t q a
+      → HoldsAtMost cs clocks t q (au_with f w a)
   passed_holds t None f w a h = bytes_with f w ones a h
   passed_holds t (Some q) f w a (nobodys h) = nobodys (bytes_with f w ones a h)
-  passed_holds t (Some q) f w a (customers c r get low h) = customers c r get low (bytes_with f w (put_by (customer_at c q.end) (clocks q r)) a h)
+  passed_holds t (Some q) f w a (customers c r get low h) =
+      customers c r get low (bytes_with f w (put_by (customer_at c q.end) (clocks q r)) a h)
 
   pub carried_holds : (t : ℕ) → IsCarried (HoldsAtMost cs clocks t)
   carried_holds t = record { blank = blank_holds t; passes = passed_holds t }
@@ -90,11 +95,13 @@ module _ (cs : List Provisioned) (clocks : PortId → ℕ → Clock) where
 
 module _ (Own : ℕ → Option PortId → Au → Type 0) where
   -- a change of one node that leaves its words
-  vouches_node : (f : Node → Node) → ((d : Side) (n : Node) → word_of d (f n) ≡ word_of d n) → (p : ℕ) (w : World) → Vouches Own w → Vouches Own (with_node p f w)
+  vouches_node : (f : Node → Node) → ((d : Side) (n : Node) → word_of d (f n) ≡ word_of d n) → (p : ℕ) (w : World) → Vouches Own w
+      → Vouches Own (with_node p f w)
   vouches_node f leaves p w k = record {
     working = each_at_place (WorksOn Own w) f (λ q n x. x) p w.ring.nodes k.working;
     protection = each_at_place (SpeaksOf Own w) f (λ q n x m d line there low high.
-        subst (λ j. Bears (Own (spoken_lag w.ring.ids w.ring.circuits.circuits m (opposite d) j q)) (spoken_of w.ring.ids w.ring.circuits.circuits m (opposite d) j) (opposite d) (au_in w (slots_of (layout_of w) + m) line))
+        subst (λ j. Bears (Own (spoken_lag w.ring.ids w.ring.circuits.circuits m (opposite d) j q))
+        (spoken_of w.ring.ids w.ring.circuits.circuits m (opposite d) j) (opposite d) (au_in w (slots_of (layout_of w) + m) line))
         (sym (leaves d n)) (x m d line there low high)) p w.ring.nodes k.protection;
   }
 
@@ -110,16 +117,21 @@ module _ (Own : ℕ → Option PortId → Au → Type 0) where
   vouches_changed (Fibre p d condition) w k = record { working = k.working; protection = k.protection }
   vouches_changed (Order p d c) w k = vouches_node (at_receiving d (commanded_by c)) (λ e n. word_commanded d e c n) p w k
   vouches_changed (Hold p turns) w k = vouches_node (held_for turns) (word_left (held_for turns) (held_leaves turns)) p w k
-  vouches_changed (Slip id turn count) w k = vouches_node (slips_at id turn count) (word_left (slips_at id turn count) (slips_leave id turn count)) (place_of_port w.ring id) w k
+  vouches_changed (Slip id turn count) w k =
+      vouches_node (slips_at id turn count) (word_left (slips_at id turn count) (slips_leave id turn count)) (place_of_port w.ring id) w k
   vouches_changed (Now t) w k = record { working = k.working; protection = k.protection }
 
 -- a change that holds no controller leaves each node as few turns to miss
-pub held_changed : (most : ℕ) (c : Change) (w : World) → HoldsNone c → AtEach (λ p n. n.held ≤ most) w.ring.nodes → AtEach (λ p n. n.held ≤ most) (changed c w).ring.nodes
+pub held_changed : (most : ℕ) (c : Change) (w : World) → HoldsNone c → AtEach (λ p n. n.held ≤ most) w.ring.nodes
+    → AtEach (λ p n. n.held ≤ most) (changed c w).ring.nodes
 unfolding changed
 held_changed most (Fibre p d condition) w none k = k
-held_changed most (Order p d c) w none k = each_at_place (λ q n. n.held ≤ most) (at_receiving d (commanded_by c)) (λ q n h. h) p w.ring.nodes k
-held_changed most (Hold p turns) w none k = each_at_place (λ q n. n.held ≤ most) (held_for turns) (λ q n h. omega (arith, none)) p w.ring.nodes k
-held_changed most (Slip id turn count) w none k = each_at_place (λ q n. n.held ≤ most) (slips_at id turn count) (λ q n h. h) (place_of_port w.ring id) w.ring.nodes k
+held_changed most (Order p d c) w none k =
+    each_at_place (λ q n. n.held ≤ most) (at_receiving d (commanded_by c)) (λ q n h. h) p w.ring.nodes k
+held_changed most (Hold p turns) w none k =
+    each_at_place (λ q n. n.held ≤ most) (held_for turns) (λ q n h. omega (arith, none)) p w.ring.nodes k
+held_changed most (Slip id turn count) w none k =
+    each_at_place (λ q n. n.held ≤ most) (slips_at id turn count) (λ q n h. h) (place_of_port w.ring id) w.ring.nodes k
 held_changed most (Now t) w none k = k
 
 module _ (clocks : PortId → ℕ → Clock) where
@@ -128,7 +140,10 @@ module _ (clocks : PortId → ℕ → Clock) where
   Anyhow w i = HoldsAtMost w.ring.circuits.circuits clocks w.ring.rounds
 
   pub vouches_of : (w : World) → IsVouched clocks w → Vouches (Anyhow w) w
-  vouches_of w k = record { working = λ p h m d line there low high. k.working p m d line h there low high; protection = λ p h m d line there low high. k.protection p m d line h there low high }
+  vouches_of w k = record {
+    working = λ p h m d line there low high. k.working p m d line h there low high;
+    protection = λ p h m d line there low high. k.protection p m d line h there low high;
+  }
 
   pub vouched_by : (w : World) → IsWhole w → AtEach (λ p n. n.held ≤ 0) w.ring.nodes → Vouches (Anyhow w) w → IsVouched clocks w
   vouched_by w whole free k = record {
@@ -144,15 +159,20 @@ module _ (clocks : PortId → ℕ → Clock) where
   pub vouched_changed : (c : Change) (w : World) → IsChangeOf w c → HoldsNone c → IsVouched clocks w → IsVouched clocks (changed c w)
   unfolding changed
   vouched_changed (Fibre p d condition) w may none k =
-      vouched_by (changed (Fibre p d condition) w) (whole_changed (Fibre p d condition) w may k.whole) (held_changed 0 (Fibre p d condition) w none (free_of w k)) (vouches_changed (Anyhow w) (Fibre p d condition) w (vouches_of w k))
+      vouched_by (changed (Fibre p d condition) w) (whole_changed (Fibre p d condition) w may k.whole)
+      (held_changed 0 (Fibre p d condition) w none (free_of w k)) (vouches_changed (Anyhow w) (Fibre p d condition) w (vouches_of w k))
   vouched_changed (Order p d c) w may none k =
-      vouched_by (changed (Order p d c) w) (whole_changed (Order p d c) w may k.whole) (held_changed 0 (Order p d c) w none (free_of w k)) (vouches_changed (Anyhow w) (Order p d c) w (vouches_of w k))
+      vouched_by (changed (Order p d c) w) (whole_changed (Order p d c) w may k.whole) (held_changed 0 (Order p d c) w none (free_of w k))
+      (vouches_changed (Anyhow w) (Order p d c) w (vouches_of w k))
   vouched_changed (Hold p turns) w may none k =
-      vouched_by (changed (Hold p turns) w) (whole_changed (Hold p turns) w may k.whole) (held_changed 0 (Hold p turns) w none (free_of w k)) (vouches_changed (Anyhow w) (Hold p turns) w (vouches_of w k))
+      vouched_by (changed (Hold p turns) w) (whole_changed (Hold p turns) w may k.whole)
+      (held_changed 0 (Hold p turns) w none (free_of w k)) (vouches_changed (Anyhow w) (Hold p turns) w (vouches_of w k))
   vouched_changed (Slip id turn count) w may none k =
-      vouched_by (changed (Slip id turn count) w) (whole_changed (Slip id turn count) w may k.whole) (held_changed 0 (Slip id turn count) w none (free_of w k)) (vouches_changed (Anyhow w) (Slip id turn count) w (vouches_of w k))
+      vouched_by (changed (Slip id turn count) w) (whole_changed (Slip id turn count) w may k.whole)
+      (held_changed 0 (Slip id turn count) w none (free_of w k)) (vouches_changed (Anyhow w) (Slip id turn count) w (vouches_of w k))
   vouched_changed (Now t) w may none k =
-      vouched_by (changed (Now t) w) (whole_changed (Now t) w may k.whole) (held_changed 0 (Now t) w none (free_of w k)) (vouches_changed (Anyhow w) (Now t) w (vouches_of w k))
+      vouched_by (changed (Now t) w) (whole_changed (Now t) w may k.whole) (held_changed 0 (Now t) w none (free_of w k))
+      (vouches_changed (Anyhow w) (Now t) w (vouches_of w k))
 
   -- ---- a new ring
 
@@ -164,7 +184,8 @@ module _ (clocks : PortId → ℕ → Clock) where
     new_whole : IsWhole (new_world s ids circuits f)
     new_whole = new_worlds_are_whole s ids circuits f are honest
 
-    nothing_sent : (line : List ℕ) (p : ℕ) (d : Side) → p < length (new_world s ids circuits f).ring.nodes → carried_on (new_world s ids circuits f).fibres (fibre p d) ≡ Some line → ⊥
+    nothing_sent : (line : List ℕ) (p : ℕ) (d : Side) → p < length (new_world s ids circuits f).ring.nodes
+        → carried_on (new_world s ids circuits f).fibres (fibre p d) ≡ Some line → ⊥
     nothing_sent line p d h there = no (sym ((new_whole.paired.carried p h).dark d refl) ∙ there)
       where
         no : None ≡ Some line → ⊥
@@ -184,23 +205,28 @@ pub none_held : (w : World) → AtEach (λ p n. n.held ≤ 0) w.ring.nodes → A
 none_held w k p h = (let few = k p h in ap (λ x. nat_le 1 x) (let z : (node_at w.ring.nodes p).held ≡ 0 = omega arith in z))
 
 -- a round takes each node one of the turns that it misses
-pub held_after : (w : World) → IsWhole w → (most : ℕ) → AtEach (λ p n. n.held ≤ most) w.ring.nodes → AtEach (λ p n. n.held ≤ most - 1) (round w).ring.nodes
+pub held_after : (w : World) → IsWhole w → (most : ℕ) → AtEach (λ p n. n.held ≤ most) w.ring.nodes
+    → AtEach (λ p n. n.held ≤ most - 1) (round w).ring.nodes
 unfolding any_round.round any_round.round_with
 held_after w whole most k p h =
     let low : p < length w.ring.nodes = omega (arith, length-after w) in
-    let left : (node_at (round w).ring.nodes p).held ≡ (node_at w.ring.nodes p).held - 1 = ap (λ (n : Node). n.held) (nodes_after w whole.placed p low) ∙ turns_left w.ring.moment (informed w p) in
+    let left : (node_at (round w).ring.nodes p).held ≡ (node_at w.ring.nodes p).held - 1 =
+    ap (λ (n : Node). n.held) (nodes_after w whole.placed p low) ∙ turns_left w.ring.moment (informed w p) in
     let few = k p low in
     omega arith
 
 -- what a port adds to its AU-4 is its own
-pub adds_own : (clocks : PortId → ℕ → Clock) (w : World) → IsWhole w → HasCircuits (layout_of w) → AreClocksOf clocks w.ring → (i : ℕ) (c : Provisioned) (e : End) → slice_get w.ring.circuits.circuits i ≡ Some c
-    → Holds w.ring.circuits.circuits clocks (w.ring.rounds + 1) (port_named i e) (added_by (node_at w.ring.nodes (port_at c e)).ports (port_named i e)).au
+pub adds_own : (clocks : PortId → ℕ → Clock) (w : World) → IsWhole w → HasCircuits (layout_of w) → AreClocksOf clocks w.ring
+    → (i : ℕ) (c : Provisioned) (e : End) → slice_get w.ring.circuits.circuits i ≡ Some c
+    → Holds w.ring.circuits.circuits clocks (w.ring.rounds + 1) (port_named i e)
+    (added_by (node_at w.ring.nodes (port_at c e)).ports (port_named i e)).au
 adds_own clocks w whole form_is tells i c e get =
     let inside = end_inside (length w.ring.ids) (slots_of (layout_of w)) w.ring.circuits.circuits form_is i c get e in
     let t = w.ring.rounds in
     let f = found w whole i c e get inside in
     let clock : f.it.feed.clock ≡ clocks (port_named i e) t = sym (clock_is w whole i c e get inside) ∙ tells i c get e in
-    let added : (added_by (node_at w.ring.nodes (port_at c e)).ports (port_named i e)).au ≡ put_by (customer_at c e) (clocks (port_named i e) t) =
+    let added : (added_by (node_at w.ring.nodes (port_at c e)).ports (port_named i e)).au
+    ≡ put_by (customer_at c e) (clocks (port_named i e) t) =
     ap (λ o. (option_map_or (λ (t : Tributary). input_by (sent_in t.feed)) o no_input).au) f.is
     ∙ λ j. (input_by (sent_in (record { port = f.sender j; clock = clock j }))).au in
     customers c t get (omega arith) (own_bytes (put_by (customer_at c e) (clocks (port_named i e) t)) _ added)
@@ -231,14 +257,26 @@ module _ (clocks : PortId → ℕ → Clock) (w : World) (form_is : HasCircuits 
   now = vouches_of clocks w k
 
   lags_now : AreLags (λ i. Own t) (λ i. Own t)
-  lags_now = record { was = λ i. carried_holds cs clocks t; own = λ i. carried_holds cs clocks t; later = λ i j q a less x. x; longer = λ i j q a less x. x }
+  lags_now = record {
+    was = λ i. carried_holds cs clocks t;
+    own = λ i. carried_holds cs clocks t;
+    later = λ i j q a less x. x;
+    longer = λ i j q a less x. x;
+  }
 
   lags_more : AreLags (λ i. Own t) (λ i. Own (t + 1))
-  lags_more = record { was = λ i. carried_holds cs clocks t; own = λ i. carried_holds cs clocks (t + 1); later = λ i j q a less x. holds_more cs clocks t q a x; longer = λ i j q a less x. x }
+  lags_more = record {
+    was = λ i. carried_holds cs clocks t;
+    own = λ i. carried_holds cs clocks (t + 1);
+    later = λ i j q a less x. holds_more cs clocks t q a x;
+    longer = λ i j q a less x. x;
+  }
 
   module _ (tells : AreClocksOf clocks w.ring) where
     goes : Vouches (λ i. Own (t + 1)) (round w)
-    goes = vouched_round (λ i. Own t) (λ i. Own (t + 1)) lags_more w k.whole ring_is free_is now (λ j i c e get. adds_own clocks w k.whole form_is tells i c e get)
+    goes =
+        vouched_round (λ i. Own t) (λ i. Own (t + 1)) lags_more w k.whole ring_is free_is now
+        (λ j i c e get. adds_own clocks w k.whole form_is tells i c e get)
 
     pub vouched_after : IsVouched clocks (round w)
     unfolding any_round.round any_round.round_with
@@ -255,7 +293,8 @@ module _ (clocks : PortId → ℕ → Clock) (w : World) (form_is : HasCircuits 
   unfolding any_round.round any_round.round_with
   still_there i c get = get
 
-  meets_by : (q : PortId) (a : Action) (x : Input) (o : Outlet) → o ≡ delivered_by a x → (a ≡ action.Ais) ⊎ Holds cs clocks t (other_port q) x.au → MeetsNoStranger cs clocks t q o
+  meets_by : (q : PortId) (a : Action) (x : Input) (o : Outlet) → o ≡ delivered_by a x
+      → (a ≡ action.Ais) ⊎ Holds cs clocks t (other_port q) x.au → MeetsNoStranger cs clocks t q o
   meets_by q action.Ais x o is own = ais_comes is
   meets_by q action.Normal x o is (inl z) = cc
   meets_by q action.Normal x o is (inr own) = bytes_come x.value (chunk_form x.action) x.au is own
@@ -266,15 +305,18 @@ module _ (clocks : PortId → ℕ → Clock) (w : World) (form_is : HasCircuits 
   meets_by q action.Down x o is (inl z) = cc
   meets_by q action.Down x o is (inr own) = bytes_come x.value (chunk_form x.action) x.au is own
 
-  meets : (q : PortId) (x : Input) (o : Outlet) → o ≡ delivered_from x → (x.action ≡ action.Ais) ⊎ Holds cs clocks t (other_port q) x.au → MeetsNoStranger cs clocks t q o
+  meets : (q : PortId) (x : Input) (o : Outlet) → o ≡ delivered_from x → (x.action ≡ action.Ais) ⊎ Holds cs clocks t (other_port q) x.au
+      → MeetsNoStranger cs clocks t q o
   unfolding delivered_from
   meets q x o is own = meets_by q x.action x o is own
 
-  own_of : (i : ℕ) (c : Provisioned) (e : End) (x : Input) → Fine (Own t) (Some (entry i c)) (opposite (inward e)) x → (x.action ≡ action.Ais) ⊎ Holds cs clocks t (other_port (port_named i e)) x.au
+  own_of : (i : ℕ) (c : Provisioned) (e : End) (x : Input) → Fine (Own t) (Some (entry i c)) (opposite (inward e)) x
+      → (x.action ≡ action.Ais) ⊎ Holds cs clocks t (other_port (port_named i e)) x.au
   own_of i c e x (inl ais) = inl ais
   own_of i c e x (inr is) = inr (subst (λ y. Holds cs clocks t (port_named i y) x.au) (sent_to e) is)
 
-  delivers : (i : ℕ) (c : Provisioned) → slice_get (round w).ring.circuits.circuits i ≡ Some c → (e : End) → MeetsNoStranger cs clocks t (port_named i e) (outlet_at (round w).ring (port_named i e))
+  delivers : (i : ℕ) (c : Provisioned) → slice_get (round w).ring.circuits.circuits i ≡ Some c → (e : End)
+      → MeetsNoStranger cs clocks t (port_named i e) (outlet_at (round w).ring (port_named i e))
   delivers i c there e =
       let get = still_there i c there in
       let u = round w in
@@ -293,7 +335,8 @@ module _ (clocks : PortId → ℕ → Clock) (w : World) (form_is : HasCircuits 
       ∙ found_arrives w k.whole i c e h st (state_in_turn w k.whole p h) found_at in
       let fine : Fine (Own t) (circuits_at size cs p m (inward e)) (opposite (inward e)) input =
       delivers_fine (λ i. Own t) (λ i. Own t) lags_now w k.whole p h now m slot.from_1 slot.small ring_is (free_is p h) (inward e) in
-      let own : Fine (Own t) (Some (entry i c)) (opposite (inward e)) input = subst (λ o. Fine (Own t) o (opposite (inward e)) input) (at_port size cs ring_is i c get e) fine in
+      let own : Fine (Own t) (Some (entry i c)) (opposite (inward e)) input =
+      subst (λ o. Fine (Own t) o (opposite (inward e)) input) (at_port size cs ring_is i c get e) fine in
       meets (port_named i e) input _ out (own_of i c e input own)
 
   pub none_meets : NoneMeetsAStranger clocks (round w).ring

@@ -1,5 +1,6 @@
 -- A round of a whole world: what its frames hold is what the words in them speak of.
-use Rattle.std.proofs.Common.{◌≡◌, ℕ, ◌+◌, ◌-◌, ◌*◌, ◌<◌, ◌≤◌, Bool, false, List, length, Option, Some, refl, ap, sym, ◌∙◌, subst, arith, inl, inr}
+use Rattle.std.proofs.Common.{◌≡◌, ℕ, ◌+◌, ◌-◌, ◌*◌, ◌<◌, ◌≤◌, Bool, false, List, length, Option, Some, refl, ap, sym, ◌∙◌, subst, arith}
+use Rattle.std.proofs.Common.{inl, inr}
 use Rattle.std.specs.Prelude.{if◌then◌else◌, slice_get}
 use Rattle.std.proofs.lemmas.Bool.{cases_Bool, cases_lt}
 use Rattle.sdh_terms.specs.declared.Rate.{Rate}
@@ -50,11 +51,13 @@ use Rattle.sdh_laws.proofs.strangers.Nodes.{stands_fine, working_fine, protectio
 module _ (Own : ℕ → Option PortId → Au → Type 0) where
   abbrev pub WorksOn : World → ℕ → Node → Type 0
   WorksOn w p node = (m : ℕ) (d : Side) (line : List ℕ) → carried_on w.fibres (fibre p d) ≡ Some line → 1 ≤ m → m ≤ slots_of (layout_of w)
-      → (let o = circuits_at (length w.ring.ids) w.ring.circuits.circuits p m d in Bears (Own (working_lag (length w.ring.ids) d o p)) o d (au_in w m line))
+      → (let o = circuits_at (length w.ring.ids) w.ring.circuits.circuits p m d in Bears (Own (working_lag (length w.ring.ids) d o p)) o d
+      (au_in w m line))
 
   abbrev pub SpeaksOf : World → ℕ → Node → Type 0
   SpeaksOf w p node = (m : ℕ) (d : Side) (line : List ℕ) → carried_on w.fibres (fibre p d) ≡ Some line → 1 ≤ m → m ≤ slots_of (layout_of w)
-      → Bears (Own (spoken_lag w.ring.ids w.ring.circuits.circuits m (opposite d) (word_of d node) p)) (spoken_of w.ring.ids w.ring.circuits.circuits m (opposite d) (word_of d node)) (opposite d)
+      → Bears (Own (spoken_lag w.ring.ids w.ring.circuits.circuits m (opposite d) (word_of d node) p))
+      (spoken_of w.ring.ids w.ring.circuits.circuits m (opposite d) (word_of d node)) (opposite d)
       (au_in w (slots_of (layout_of w) + m) line)
 
   pub record Vouches (w : World) : Type 0 where
@@ -87,15 +90,18 @@ module _ (Was Own : ℕ → Option PortId → Au → Type 0) (lags : AreLags Was
     back d = neighbour n p d
 
     received_fine : (i : ℕ) (o : Option OnSpan) (y d : Side) (au : ℕ) → 1 ≤ au → au ≤ n_of rate
-        → ((line : List ℕ) → lost w whole p h d ≡ false → carried_on w.fibres (fibre (back d) (opposite d)) ≡ Some line → Bears (Was i) o y (au_in w au line))
+        → ((line : List ℕ) → lost w whole p h d ≡ false → carried_on w.fibres (fibre (back d) (opposite d)) ≡ Some line
+        → Bears (Was i) o y (au_in w au line))
         → Fine (Was i) o y (received l d au)
     received_fine i o y d au low high sent = elim (cases_lt 0 w.ring.rounds) [
       | inr none ↦ inl (silent_first w whole p h d au low high (omega arith))
       | inl ran ↦ elim (cases_Bool (lost w whole p h d)) [
-        | inl cut ↦ inr (subst (Bears (Was i) o y) (sym (ones_received w whole p h d au low high ran cut)) ((lags.was i).blank (streams_to y o)))
+        | inl cut ↦ inr (subst (Bears (Was i) o y) (sym (ones_received w whole p h d au low high ran cut))
+            ((lags.was i).blank (streams_to y o)))
         | inr kept ↦ (
             let c = (whole.paired.carried (back d) (neighbour_inside w whole p d)).frames (opposite d) ran in
-            inr (subst (Bears (Was i) o y) (sym (au_received w whole p h d au ran ∙ (reads w whole p d h).aus ran kept c.line c.there au low high)) (sent c.line kept c.there)))
+            inr (subst (Bears (Was i) o y) (sym (au_received w whole p h d au ran
+            ∙ (reads w whole p d h).aus ran kept c.line c.there au low high)) (sent c.line kept c.there)))
       ]
     ]
 
@@ -110,23 +116,31 @@ module _ (Was Own : ℕ → Option PortId → Au → Type 0) (lags : AreLags Was
       inside : p < n
       inside = omega (arith, count w whole.placed)
 
-      working_comes : (d : Side) → Fine (Was (working_lag n (opposite d) (circuits_at n cs p m d) (back d))) (circuits_at n cs p m d) (opposite d) (value_at w p m (Working d))
-      working_comes d = received_fine (working_lag n (opposite d) (circuits_at n cs p m d) (back d)) (circuits_at n cs p m d) (opposite d) d m low (omega arith) (λ line kept there.
-          subst (λ o. Bears (Was (working_lag n (opposite d) o (back d))) o (opposite d) (au_in w m line)) (ap (λ z. circuit_on n cs z m) (span_across n p d inside))
+      working_comes : (d : Side) → Fine (Was (working_lag n (opposite d) (circuits_at n cs p m d) (back d))) (circuits_at n cs p m d)
+          (opposite d) (value_at w p m (Working d))
+      working_comes d =
+          received_fine (working_lag n (opposite d) (circuits_at n cs p m d) (back d)) (circuits_at n cs p m d) (opposite d) d m low
+          (omega arith) (λ line kept there.
+          subst (λ o. Bears (Was (working_lag n (opposite d) o (back d))) o (opposite d) (au_in w m line))
+          (ap (λ z. circuit_on n cs z m) (span_across n p d inside))
           (vouched.working (back d) (neighbour_inside w whole p d) m (opposite d) line there low high))
 
-      protection_comes : (d : Side) (k : K) → long s d ≡ Some k → Fine (Was (spoken_lag ids cs m d k (back d))) (spoken_of ids cs m d k) d (value_at w p m (Protection d))
+      protection_comes : (d : Side) (k : K) → long s d ≡ Some k
+          → Fine (Was (spoken_lag ids cs m d k (back d))) (spoken_of ids cs m d k) d (value_at w p m (Protection d))
       protection_comes d k e =
           let came = heard_came w whole p h d k (long_from s d k e).heard in
           subst (Fine (Was (spoken_lag ids cs m d k (back d))) (spoken_of ids cs m d k) d) (sym (brings_protection w whole p m d inside))
-          (received_fine (spoken_lag ids cs m d k (back d)) (spoken_of ids cs m d k) d d (slots + m) (omega arith) (omega arith) (λ line kept there.
+          (received_fine (spoken_lag ids cs m d k (back d)) (spoken_of ids cs m d k) d d (slots + m) (omega arith) (omega arith)
+          (λ line kept there.
           subst (λ j. Bears (Was (spoken_lag ids cs m d j (back d))) (spoken_of ids cs m d j) d (au_in w (slots + m) line)) came.is
-          (subst (λ y. Bears (Was (spoken_lag ids cs m y (word_to w p d) (back d))) (spoken_of ids cs m y (word_to w p d)) y (au_in w (slots + m) line)) (opposite_twice d)
+          (subst (λ y. Bears (Was (spoken_lag ids cs m y (word_to w p d) (back d))) (spoken_of ids cs m y (word_to w p d)) y
+          (au_in w (slots + m) line)) (opposite_twice d)
           (vouched.protection (back d) (neighbour_inside w whole p d) m (opposite d) line there low high))))
 
       sourced_words : (d : Side) (k : K) → long s d ≡ Some k → IsMember ids k.from
       sourced_words d k e =
-          subst (λ (j : K). IsMember ids j.from) (heard_came w whole p h d k (long_from s d k e).heard).is (whole.paired.sourced (back d) (neighbour_inside w whole p d) (opposite d))
+          subst (λ (j : K). IsMember ids j.from) (heard_came w whole p h d k (long_from s d k e).heard).is
+          (whole.paired.sourced (back d) (neighbour_inside w whole p d) (opposite d))
 
       silence : (value_at w p m Ais).action ≡ action.Ais
       silence = refl
@@ -138,59 +152,82 @@ module _ (Was Own : ℕ → Option PortId → Au → Type 0) (lags : AreLags Was
         st = (node_at (round w).ring.nodes p).state
 
         state_now : st ≡ state_after s
-        state_now = ap (λ (y : Node). y.state) (nodes_after w whole.placed p h) ∙ state_is w.ring.moment (informed w p) ∙ ap (λ (b : Bool). if b then (informed w p).state else state_after s) free
+        state_now =
+            ap (λ (y : Node). y.state) (nodes_after w whole.placed p h) ∙ state_is w.ring.moment (informed w p)
+            ∙ ap (λ (b : Bool). if b then (informed w p).state else state_after s) free
 
         word_now : (d : Side) → word_of d (node_at (round w).ring.nodes p) ≡ word s d
-        word_now d = ap (word_of d) (nodes_after w whole.placed p h) ∙ word_is w.ring.moment (informed w p) d ∙ ap (λ (b : Bool). if b then word_of d (informed w p) else word s d) free
+        word_now d =
+            ap (word_of d) (nodes_after w whole.placed p h) ∙ word_is w.ring.moment (informed w p) d
+            ∙ ap (λ (b : Bool). if b then word_of d (informed w p) else word s d) free
 
-        pub delivers_fine : (d : Side) → Fine (Own ((place_on n (opposite d) (circuits_at n cs p m d) (back d) + 1) * (n + 1))) (circuits_at n cs p m d) (opposite d) (value_at w p m (stands_in n cs p st d m))
+        pub delivers_fine : (d : Side) → Fine (Own ((place_on n (opposite d) (circuits_at n cs p m d) (back d) + 1) * (n + 1)))
+            (circuits_at n cs p m d) (opposite d) (value_at w p m (stands_in n cs p st d m))
         delivers_fine d =
-            subst (λ y. Fine (Own ((place_on n (opposite d) (circuits_at n cs p m d) (back d) + 1) * (n + 1))) (circuits_at n cs p m d) (opposite d) (value_at w p m (stands_in n cs p y d m))) (sym state_now)
-            (stands_fine Was Own lags ids cs whole.placed.ids ring s (scene_ids w whole p h) p (scene_place w whole p h) inside m (value_at w p m) working_comes protection_comes sourced_words silence d)
+            subst (λ y. Fine (Own ((place_on n (opposite d) (circuits_at n cs p m d) (back d) + 1) * (n + 1))) (circuits_at n cs p m d)
+            (opposite d) (value_at w p m (stands_in n cs p y d m))) (sym state_now)
+            (stands_fine Was Own lags ids cs whole.placed.ids ring s (scene_ids w whole p h) p (scene_place w whole p h) inside m
+            (value_at w p m) working_comes protection_comes sourced_words silence d)
 
-        module _ (added : (j i : ℕ) (c : Provisioned) (e : End) → slice_get cs i ≡ Some c → port_at c e ≡ p → Own j (Some (port_named i e)) (value_at w p m (port i e)).au) where
-          pub working_goes : (d : Side) → Fine (Own (working_lag n d (circuits_at n cs p m d) p)) (circuits_at n cs p m d) d (sent_at w p d m)
+        module _ (added : (j i : ℕ) (c : Provisioned) (e : End) → slice_get cs i ≡ Some c → port_at c e ≡ p
+            → Own j (Some (port_named i e)) (value_at w p m (port i e)).au) where
+          pub working_goes : (d : Side) → Fine (Own (working_lag n d (circuits_at n cs p m d) p)) (circuits_at n cs p m d) d
+              (sent_at w p d m)
           working_goes d =
-              subst (Fine (Own (working_lag n d (circuits_at n cs p m d) p)) (circuits_at n cs p m d) d) (sym (sends_working w whole p m d (state_after s) inside high state_now))
-              (working_fine Was Own lags ids cs whole.placed.ids ring s (scene_ids w whole p h) p (scene_place w whole p h) inside m (value_at w p m) working_comes protection_comes sourced_words silence added d)
+              subst (Fine (Own (working_lag n d (circuits_at n cs p m d) p)) (circuits_at n cs p m d) d)
+              (sym (sends_working w whole p m d (state_after s) inside high state_now))
+              (working_fine Was Own lags ids cs whole.placed.ids ring s (scene_ids w whole p h) p (scene_place w whole p h) inside m
+              (value_at w p m) working_comes protection_comes sourced_words silence added d)
 
           abbrev Said : Side → K → Type 0
-          Said d k = Fine (Own (spoken_lag ids cs m (opposite d) k p)) (spoken_of ids cs m (opposite d) k) (opposite d) (sent_at w p d (slots + m))
+          Said d k =
+              Fine (Own (spoken_lag ids cs m (opposite d) k p)) (spoken_of ids cs m (opposite d) k) (opposite d) (sent_at w p d (slots + m))
 
           pub protection_goes : (d : Side) → Said d (word_of d (node_at (round w).ring.nodes p))
           protection_goes d =
               subst (Said d) (sym (word_now d))
-              (subst (Fine (Own (spoken_lag ids cs m (opposite d) (word s d) p)) (spoken_of ids cs m (opposite d) (word s d)) (opposite d)) (sym (sends_protection w whole p m d (state_after s) inside low state_now))
-              (protection_fine Was Own lags ids cs whole.placed.ids ring s (scene_ids w whole p h) p (scene_place w whole p h) inside m (value_at w p m) working_comes protection_comes sourced_words silence added d))
+              (subst (Fine (Own (spoken_lag ids cs m (opposite d) (word s d) p)) (spoken_of ids cs m (opposite d) (word s d)) (opposite d))
+              (sym (sends_protection w whole p m d (state_after s) inside low state_now))
+              (protection_fine Was Own lags ids cs whole.placed.ids ring s (scene_ids w whole p h) p (scene_place w whole p h) inside m
+              (value_at w p m) working_comes protection_comes sourced_words silence added d))
 
   -- ---- the round
 
   -- the ports add what is their own
   abbrev pub AddOwn : World → Type 0
-  AddOwn w = (j i : ℕ) (c : Provisioned) (e : End) → slice_get w.ring.circuits.circuits i ≡ Some c → Own j (Some (port_named i e)) (added_by (node_at w.ring.nodes (port_at c e)).ports (port_named i e)).au
+  AddOwn w =
+      (j i : ℕ) (c : Provisioned) (e : End) → slice_get w.ring.circuits.circuits i ≡ Some c
+      → Own j (Some (port_named i e)) (added_by (node_at w.ring.nodes (port_at c e)).ports (port_named i e)).au
 
-  module _ (w : World) (whole : IsWhole w) (ring : AreOnRing (length w.ring.ids) w.ring.circuits.circuits) (free : AtEach (λ p n. is_held n ≡ false) w.ring.nodes) (vouched : Vouches Was w) (add : AddOwn w) where
+  module _ (w : World) (whole : IsWhole w) (ring : AreOnRing (length w.ring.ids) w.ring.circuits.circuits)
+      (free : AtEach (λ p n. is_held n ≡ false) w.ring.nodes) (vouched : Vouches Was w) (add : AddOwn w) where
     abbrev size : ℕ
     size = n_of w.ring.settings.rate
 
-    added_at : (p m j i : ℕ) (c : Provisioned) (e : End) → slice_get w.ring.circuits.circuits i ≡ Some c → port_at c e ≡ p → Own j (Some (port_named i e)) (value_at w p m (port i e)).au
-    added_at p m j i c e get at = subst (λ q. Own j (Some (port_named i e)) (added_by (node_at w.ring.nodes q).ports (port_named i e)).au) at (add j i c e get)
+    added_at : (p m j i : ℕ) (c : Provisioned) (e : End) → slice_get w.ring.circuits.circuits i ≡ Some c → port_at c e ≡ p
+        → Own j (Some (port_named i e)) (value_at w p m (port i e)).au
+    added_at p m j i c e get at =
+        subst (λ q. Own j (Some (port_named i e)) (added_by (node_at w.ring.nodes q).ports (port_named i e)).au) at (add j i c e get)
 
     -- an AU-4 of a frame that was sent
-    sent_bears : (i : ℕ) (o : Option OnSpan) (y : Side) (p au : ℕ) (d : Side) (line : List ℕ) → p < length w.ring.nodes → 1 ≤ au → au ≤ size → carried_on (round w).fibres (fibre p d) ≡ Some line
+    sent_bears : (i : ℕ) (o : Option OnSpan) (y : Side) (p au : ℕ) (d : Side) (line : List ℕ) → p < length w.ring.nodes → 1 ≤ au → au ≤ size
+        → carried_on (round w).fibres (fibre p d) ≡ Some line
         → Fine (Own i) o y (sent_at w p d au) → Bears (Own i) o y (au_in w au line)
     sent_bears i o y p au d line h low high there fine =
         let k = au - 1 in
         let back : k + 1 ≡ au = omega arith in
         subst (λ a. Bears (Own i) o y (au_in w a line)) back
         (subst (Bears (Own i) o y) (sym (au_left w whole p d h line there k (omega arith)))
-        (bears_sent (Own i) (lags.own i) o y (state_at w whole p d h k) (sent_at w p d (k + 1)) (subst (λ a. Fine (Own i) o y (sent_at w p d a)) (sym back) fine)))
+        (bears_sent (Own i) (lags.own i) o y (state_at w whole p d h k) (sent_at w p d (k + 1))
+        (subst (λ a. Fine (Own i) o y (sent_at w p d a)) (sym back) fine)))
 
     pub vouched_round : Vouches Own (round w)
     unfolding any_round.round any_round.round_with
     vouched_round = record {
       working = λ p h m d line there low high. (let ph : p < length w.ring.nodes = omega (arith, length-after w) in
-          sent_bears _ _ d p m d line ph low (omega arith) there (working_goes w whole p ph vouched m low high ring (free p ph) (added_at p m) d));
+          sent_bears _ _ d p m d line ph low (omega arith) there
+          (working_goes w whole p ph vouched m low high ring (free p ph) (added_at p m) d));
       protection = λ p h m d line there low high. (let ph : p < length w.ring.nodes = omega (arith, length-after w) in
-          sent_bears _ _ (opposite d) p (slots_of (layout_of w) + m) d line ph (omega arith) (omega arith) there (protection_goes w whole p ph vouched m low high ring (free p ph) (added_at p m) d));
+          sent_bears _ _ (opposite d) p (slots_of (layout_of w) + m) d line ph (omega arith) (omega arith) there
+          (protection_goes w whole p ph vouched m low high ring (free p ph) (added_at p m) d));
     }

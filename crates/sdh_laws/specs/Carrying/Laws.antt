@@ -52,16 +52,19 @@ due_by_clocks n applied c e clocks t = due n applied c (λ k. plainly (customer_
 -- clocks before each round
 abbrev pub DeliversItsDue : (PortId → ℕ → Clock) → World → List ℕ → Provisioned → ℕ → End → Type 0
 DeliversItsDue clocks w rs c index e =
-    outlet_at w.ring (record { circuit = index; end = e }) ≡ due_by_clocks (length w.ring.ids) (is_applied rs) c e (clocks (record { circuit = index; end = other_end e })) (w.ring.rounds - 1)
+    outlet_at w.ring (record { circuit = index; end = e }) ≡ due_by_clocks (length w.ring.ids) (is_applied rs) c e
+    (clocks (record { circuit = index; end = other_end e })) (w.ring.rounds - 1)
 
 -- each port has
 abbrev pub DeliversWhatIsDue : (PortId → ℕ → Clock) → World → List ℕ → Type 0
-DeliversWhatIsDue clocks w rs = (index : ℕ) (c : Provisioned) → slice_get w.ring.circuits.circuits index ≡ Some c → (e : End) → DeliversItsDue clocks w rs c index e
+DeliversWhatIsDue clocks w rs =
+    (index : ℕ) (c : Provisioned) → slice_get w.ring.circuits.circuits index ≡ Some c → (e : End) → DeliversItsDue clocks w rs c index e
 
 -- after 2n quiet rounds each port delivers what it is owed
 abbrev pub QuietRingsDeliverWhatIsDue : Type 0
 QuietRingsDeliverWhatIsDue = (w : World) → IsWhole w → HasCircuits (layout_of w)
-    → (rs : List ℕ) (first last : ℕ) → IsQuiet (length w.ring.ids) rs w first last → 1 ≤ first → first + 2 * length w.ring.ids ≤ last → DeliversWhatIsDue (clocks_from w) (run last w) rs
+    → (rs : List ℕ) (first last : ℕ) → IsQuiet (length w.ring.ids) rs w first last → 1 ≤ first → first + 2 * length w.ring.ids ≤ last
+    → DeliversWhatIsDue (clocks_from w) (run last w) rs
 
 -- each node is in the settled state of these requests of spans, and each port has delivered what it is owed under them
 pub record IsRestored (clocks : PortId → ℕ → Clock) (w : World) (rs : List ℕ) : Type 0 where
@@ -79,10 +82,14 @@ SettledRingsAreRestored = (w left : World) (limit : ℕ) → HasCircuits (layout
 -- where a quiet window ends with the last of some stretches, the ring is restored under the requests of the histories in its
 -- last round
 abbrev pub SettledRingsRestore : Type 0
-SettledRingsRestore = (s : Settings) (ids : List ℕ) (circuits : Provisioning) (f : Fibres) (earlier : List Stretch) (last : Stretch) (t : ℕ) → MayStart s ids f → MayHappen (new_world s ids circuits f) (earlier ++ last ∷ [])
+SettledRingsRestore =
+    (s : Settings) (ids : List ℕ) (circuits : Provisioning) (f : Fibres) (earlier : List Stretch) (last : Stretch) (t : ℕ)
+    → MayStart s ids f → MayHappen (new_world s ids circuits f) (earlier ++ last ∷ [])
     → AreCircuits (length ids) (n_of s.rate / 2) circuits.circuits
-    → EndsWindow (course (all_changed last.changes (after_stretches earlier (new_world s ids circuits f)))) last.rounds → rounds_in (earlier ++ last ∷ []) ≡ t + 1
-    → IsRestored (clocks_by circuits.circuits (earlier ++ last ∷ [])) (after_stretches (earlier ++ last ∷ []) (new_world s ids circuits f)) (span_requests (length ids) (asked_in s.threshold s.wait (length ids) (earlier ++ last ∷ []) t))
+    → EndsWindow (course (all_changed last.changes (after_stretches earlier (new_world s ids circuits f)))) last.rounds
+    → rounds_in (earlier ++ last ∷ []) ≡ t + 1
+    → IsRestored (clocks_by circuits.circuits (earlier ++ last ∷ [])) (after_stretches (earlier ++ last ∷ []) (new_world s ids circuits f))
+    (span_requests (length ids) (asked_in s.threshold s.wait (length ids) (earlier ++ last ∷ []) t))
 
 -- ---- where circuits come from
 

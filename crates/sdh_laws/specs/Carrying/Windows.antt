@@ -71,7 +71,9 @@ AreSettled n rs w = (p : ℕ) → p < n → (node_at w.ring.nodes p).state ≡ s
 
 -- a side that failed in it is on an applied span
 abbrev pub FailOnApplied : ℕ → List ℕ → World → Type 0
-FailOnApplied n rs w = (p : ℕ) (d : Side) → p < n → is_failed (receiving_on d (node_at w.ring.nodes p)).local.defect ≡ true → is_applied rs (span_at n p d) ≡ true
+FailOnApplied n rs w =
+    (p : ℕ) (d : Side) → p < n → is_failed (receiving_on d (node_at w.ring.nodes p)).local.defect ≡ true
+    → is_applied rs (span_at n p d) ≡ true
 
 -- the rounds from the first-th to the last-th from w are calm, in these settled states
 pub record IsQuiet (n : ℕ) (rs : List ℕ) (w : World) (first last : ℕ) : Type 0 where

@@ -21,7 +21,9 @@ use Rattle.sdh_laws.specs.Carrying.Windows.{layout_of, HasCircuits, requests_of}
 -- Each round from number n + 4 on is calm. Rounds are numbered from 0, and counted from 1 here: an interpreter h spans from a
 -- port enters Norm in round number h, counts three rounds more, and isn't moved from round number h + 4 on.
 abbrev pub HealthyRoundsAreCalm : Type 0
-HealthyRoundsAreCalm = (s : Settings) (ids : List ℕ) (circuits : Provisioning) (f : Fibres) → MayStart s ids f → HasCircuits (layout_of (new_world s ids circuits f))
+HealthyRoundsAreCalm =
+    (s : Settings) (ids : List ℕ) (circuits : Provisioning) (f : Fibres) → MayStart s ids f
+    → HasCircuits (layout_of (new_world s ids circuits f))
     → (k : ℕ) → length ids + 5 ≤ k → IsCalm (course (new_world s ids circuits f)) k
 
 -- the rounds of so many settle steps, one after the other
@@ -39,7 +41,9 @@ pub record HealthySteps (w : World) : Type 0 where
   pub number : (steps : ℕ) → 1 ≤ steps → (after_stretches (healthy_steps steps) w).ring.rounds ≡ 128 * steps + 1
 
 abbrev pub HealthyStepsSettle : Type 0
-HealthyStepsSettle = (s : Settings) (ids : List ℕ) (circuits : Provisioning) (f : Fibres) → MayStart s ids f → HasCircuits (layout_of (new_world s ids circuits f)) → HealthySteps (new_world s ids circuits f)
+HealthyStepsSettle =
+    (s : Settings) (ids : List ℕ) (circuits : Provisioning) (f : Fibres) → MayStart s ids f
+    → HasCircuits (layout_of (new_world s ids circuits f)) → HealthySteps (new_world s ids circuits f)
 
 -- after each round no span is applied
 abbrev pub HealthyRingsApplyNothing : Type 0
@@ -48,6 +52,10 @@ HealthyRingsApplyNothing = (s : Settings) (ids : List ℕ) (circuits : Provision
 
 -- after each settle step each port has delivered what it is owed where nothing is applied, in the step's last round
 abbrev pub HealthyStepsDeliver : Type 0
-HealthyStepsDeliver = (s : Settings) (ids : List ℕ) (circuits : Provisioning) (f : Fibres) → MayStart s ids f → HasCircuits (layout_of (new_world s ids circuits f))
+HealthyStepsDeliver =
+    (s : Settings) (ids : List ℕ) (circuits : Provisioning) (f : Fibres) → MayStart s ids f
+    → HasCircuits (layout_of (new_world s ids circuits f))
     → (steps index : ℕ) (c : Provisioned) → 1 ≤ steps → slice_get circuits.circuits index ≡ Some c → (e : End)
-    → outlet_at (after_stretches (healthy_steps steps) (new_world s ids circuits f)).ring (record { circuit = index; end = e }) ≡ due_by_clocks (length ids) (λ span. false) c e (clocks_by circuits.circuits [] (record { circuit = index; end = other_end e })) (128 * steps)
+    → outlet_at (after_stretches (healthy_steps steps) (new_world s ids circuits f)).ring (record { circuit = index; end = e })
+    ≡ due_by_clocks (length ids) (λ span. false) c e (clocks_by circuits.circuits [] (record { circuit = index; end = other_end e }))
+    (128 * steps)

@@ -27,7 +27,9 @@ ASpanIsSteady = (w : World) → IsWhole w → (p : ℕ) (d : Side) (au k : ℕ) 
 -- Where the nodes stay in settled states, no pointer moves after 27n + 18 rounds: nine for each span of the longest walk, and
 -- for one span more.
 abbrev pub PointersRest : Type 0
-PointersRest = (w : World) (rs : List ℕ) → IsWhole w → HasCircuits (layout_of w) → StaysSettled w rs → (j : ℕ) → 27 * length w.ring.ids + 18 ≤ j → HasStillPointers w j
+PointersRest =
+    (w : World) (rs : List ℕ) → IsWhole w → HasCircuits (layout_of w) → StaysSettled w rs → (j : ℕ) → 27 * length w.ring.ids + 18 ≤ j
+    → HasStillPointers w j
 
 -- a window ends with this round, which is at most so late
 pub record WindowBy (w : World) (most : ℕ) : Type 0 where
@@ -66,5 +68,7 @@ StepsAnswer = (w left : World) (limit : ℕ) → HasCircuits (layout_of w) → A
 
 -- after any stretches of changes and rounds, from a new ring over new honest fibres on
 abbrev pub StretchesConverge : Type 0
-StretchesConverge = (s : Settings) (ids : List ℕ) (circuits : Provisioning) (f : Fibres) (ss : List Stretch) → MayStart s ids f → MayHappen (new_world s ids circuits f) ss → HasCircuits (layout_of (new_world s ids circuits f))
+StretchesConverge =
+    (s : Settings) (ids : List ℕ) (circuits : Provisioning) (f : Fibres) (ss : List Stretch) → MayStart s ids f
+    → MayHappen (new_world s ids circuits f) ss → HasCircuits (layout_of (new_world s ids circuits f))
     → Converges (after_stretches ss (new_world s ids circuits f))

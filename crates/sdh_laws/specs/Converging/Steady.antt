@@ -37,5 +37,7 @@ pub record StaysSettled (w : World) (rs : List ℕ) : Type 0 where
 
 -- round j left all generators and interpreters as they were
 pub record HasStillPointers (w : World) (j : ℕ) : Type 0 where
-  pub generators : (p : ℕ) (d : Side) → p < length w.ring.nodes → (sending_on d (node_at (run (suc j) w).ring.nodes p)).generators ≡ (sending_on d (node_at (run j w).ring.nodes p)).generators
-  pub readings : (p : ℕ) (d : Side) → p < length w.ring.nodes → (receiving_on d (node_at (run (suc j) w).ring.nodes p)).readings ≡ (receiving_on d (node_at (run j w).ring.nodes p)).readings
+  pub generators : (p : ℕ) (d : Side) → p < length w.ring.nodes
+      → (sending_on d (node_at (run (suc j) w).ring.nodes p)).generators ≡ (sending_on d (node_at (run j w).ring.nodes p)).generators
+  pub readings : (p : ℕ) (d : Side) → p < length w.ring.nodes
+      → (receiving_on d (node_at (run (suc j) w).ring.nodes p)).readings ≡ (receiving_on d (node_at (run j w).ring.nodes p)).readings

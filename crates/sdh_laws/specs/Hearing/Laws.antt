@@ -45,7 +45,8 @@ pub record IsWhole (w : World) : Type 0 where
 
 -- is one, where the plant is honest
 abbrev pub NewWorldsAreWhole : Type 0
-NewWorldsAreWhole = (s : Settings) (ids : List ℕ) (circuits : Provisioning) (f : Fibres) → AreIds ids → IsHonest f → IsWhole (new_world s ids circuits f)
+NewWorldsAreWhole =
+    (s : Settings) (ids : List ℕ) (circuits : Provisioning) (f : Fibres) → AreIds ids → IsHonest f → IsWhole (new_world s ids circuits f)
 
 -- rounds, and what may happen between them, keep that
 pub record StayWhole : Type 0 where
@@ -57,22 +58,29 @@ pub record StayWhole : Type 0 where
 
 -- what each side of each node brings
 abbrev pub SidesBring : Type 0
-SidesBring = (w : World) (p : ℕ) (d : Side) → IsWhole w → p < length w.ring.nodes → Brings w p d (receiving_on d (node_at w.ring.nodes p)) (receiving_on d (node_at (round w).ring.nodes p))
+SidesBring =
+    (w : World) (p : ℕ) (d : Side) → IsWhole w → p < length w.ring.nodes
+    → Brings w p d (receiving_on d (node_at w.ring.nodes p)) (receiving_on d (node_at (round w).ring.nodes p))
 
 -- what the interpreters on each side of each node read
 abbrev pub SidesRead : Type 0
 SidesRead = (w : World) (p : ℕ) (d : Side) → IsWhole w → p < length w.ring.nodes
-    → Reads w p d (receiving_on d (node_at w.ring.nodes p)) (receiving_on d (node_at (round w).ring.nodes p)) (line_on (lines_at w p) d).intake
+    → Reads w p d (receiving_on d (node_at w.ring.nodes p)) (receiving_on d (node_at (round w).ring.nodes p))
+    (line_on (lines_at w p) d).intake
 
 -- From the second frame on the violations of B2 that a side counts in a round are those that its fibre's condition made in the
 -- round before, when the frame before came; whatever parities the ring began with, and whatever changed between the rounds.
 abbrev pub ViolationsAreOfTheRoundBefore : Type 0
-ViolationsAreOfTheRoundBefore = (w : World) (first second : List Change) (p : ℕ) (d : Side) → IsWhole w → AreChangesOf (round w) first → AreChangesOf (round (all_changed first (round w))) second → p < length w.ring.nodes
-    → CountsViolations (all_changed second (round (all_changed first (round w)))) p d (shown_by (condition_to (all_changed first (round w)) p d))
+ViolationsAreOfTheRoundBefore =
+    (w : World) (first second : List Change) (p : ℕ) (d : Side) → IsWhole w → AreChangesOf (round w) first
+    → AreChangesOf (round (all_changed first (round w))) second → p < length w.ring.nodes
+    → CountsViolations (all_changed second (round (all_changed first (round w)))) p d
+    (shown_by (condition_to (all_changed first (round w)) p d))
 
 -- no node says that nothing comes
 abbrev pub NoneSaysAis : Type 0
-NoneSaysAis = (w : World) (p : ℕ) (d : Side) → IsWhole w → p < length w.ring.nodes → (word_of d (node_at (round w).ring.nodes p)).mark ≢ mark.MsAis
+NoneSaysAis =
+    (w : World) (p : ℕ) (d : Side) → IsWhole w → p < length w.ring.nodes → (word_of d (node_at (round w).ring.nodes p)).mark ≢ mark.MsAis
 
 -- the rounds of a ring with frames are rounds of a ring of signals, with what its nodes need, in which the same nodes are held
 pub record IsSignalRound (w : World) : Type 0 where
@@ -114,11 +122,15 @@ CalmRoundsAreStill = (w : World) → IsWhole w → is_calm (round w).ring.nodes 
 
 -- after three calm rounds, one after the other, each node is in the settled state of its position, under the requests of the last one
 abbrev pub ThreeCalmRoundsAreSettled : Type 0
-ThreeCalmRoundsAreSettled = (w : World) → IsWhole w → IsCalm (course w) 1 → IsCalm (course w) 2 → IsCalm (course w) 3 → (signals_of (run 3 w)).states ≡ settled_states (requests_in (needs_in (run 3 w)))
+ThreeCalmRoundsAreSettled =
+    (w : World) → IsWhole w → IsCalm (course w) 1 → IsCalm (course w) 2 → IsCalm (course w) 3
+    → (signals_of (run 3 w)).states ≡ settled_states (requests_in (needs_in (run 3 w)))
 
 -- in each round of a quiet window all nodes are in the settled states, under the requests of its last round
 abbrev pub WindowsAreSettled : Type 0
-WindowsAreSettled = (w : World) (k j : ℕ) → IsWhole w → EndsWindow (course w) k → k < j + 3 * length w.ring.ids → j ≤ k → (signals_of (run j w)).states ≡ settled_states (requests_in (needs_in (run k w)))
+WindowsAreSettled =
+    (w : World) (k j : ℕ) → IsWhole w → EndsWindow (course w) k → k < j + 3 * length w.ring.ids → j ≤ k
+    → (signals_of (run j w)).states ≡ settled_states (requests_in (needs_in (run k w)))
 
 -- what a step leaves that ended with a window
 pub record IsSettled (w : World) : Type 0 where
@@ -138,18 +150,26 @@ pub record MayStart (s : Settings) (ids : List ℕ) (f : Fibres) : Type 0 where
 
 -- the requests of all sides are those of their histories: in each round of the stretches, and after the last one
 pub record AreTheHistorys (s : Settings) (n : ℕ) (ss : List Stretch) (w : World) : Type 0 where
-  pub each : (p : ℕ) (d : Side) (t : ℕ) → p < n → t < rounds_in ss → (receiving_on d (node_at (round (world_in ss w t)).ring.nodes p)).request ≡ asked_in s.threshold s.wait n ss t p d
-  pub last : (p : ℕ) (d : Side) (t : ℕ) → p < n → rounds_in ss ≡ t + 1 → (receiving_on d (node_at (after_stretches ss w).ring.nodes p)).request ≡ asked_in s.threshold s.wait n ss t p d
+  pub each : (p : ℕ) (d : Side) (t : ℕ) → p < n → t < rounds_in ss
+      → (receiving_on d (node_at (round (world_in ss w t)).ring.nodes p)).request ≡ asked_in s.threshold s.wait n ss t p d
+  pub last : (p : ℕ) (d : Side) (t : ℕ) → p < n → rounds_in ss ≡ t + 1
+      → (receiving_on d (node_at (after_stretches ss w).ring.nodes p)).request ≡ asked_in s.threshold s.wait n ss t p d
 
 abbrev pub RequestsAreTheHistorys : Type 0
-RequestsAreTheHistorys = (s : Settings) (ids : List ℕ) (circuits : Provisioning) (f : Fibres) (ss : List Stretch) → MayStart s ids f → MayHappen (new_world s ids circuits f) ss → AreTheHistorys s (length ids) ss (new_world s ids circuits f)
+RequestsAreTheHistorys =
+    (s : Settings) (ids : List ℕ) (circuits : Provisioning) (f : Fibres) (ss : List Stretch) → MayStart s ids f
+    → MayHappen (new_world s ids circuits f) ss → AreTheHistorys s (length ids) ss (new_world s ids circuits f)
 
 -- where a quiet window ends with the last of some stretches, all nodes are in the settled states in each of its rounds, under the
 -- requests of the histories in its last one
 abbrev pub StretchesSettle : Type 0
-StretchesSettle = (s : Settings) (ids : List ℕ) (circuits : Provisioning) (f : Fibres) (earlier : List Stretch) (last : Stretch) (j t : ℕ) → MayStart s ids f → MayHappen (new_world s ids circuits f) (earlier ++ last ∷ [])
-    → EndsWindow (course (all_changed last.changes (after_stretches earlier (new_world s ids circuits f)))) last.rounds → last.rounds < j + 3 * length ids → j ≤ last.rounds → rounds_in (earlier ++ last ∷ []) ≡ t + 1
-    → (signals_of (run j (all_changed last.changes (after_stretches earlier (new_world s ids circuits f))))).states ≡ settled_states (span_requests (length ids) (asked_in s.threshold s.wait (length ids) (earlier ++ last ∷ []) t))
+StretchesSettle =
+    (s : Settings) (ids : List ℕ) (circuits : Provisioning) (f : Fibres) (earlier : List Stretch) (last : Stretch) (j t : ℕ)
+    → MayStart s ids f → MayHappen (new_world s ids circuits f) (earlier ++ last ∷ [])
+    → EndsWindow (course (all_changed last.changes (after_stretches earlier (new_world s ids circuits f)))) last.rounds
+    → last.rounds < j + 3 * length ids → j ≤ last.rounds → rounds_in (earlier ++ last ∷ []) ≡ t + 1
+    → (signals_of (run j (all_changed last.changes (after_stretches earlier (new_world s ids circuits f))))).states
+    ≡ settled_states (span_requests (length ids) (asked_in s.threshold s.wait (length ids) (earlier ++ last ∷ []) t))
 
 -- ---- where nothing but rounds happens
 
@@ -161,11 +181,13 @@ NoneWait ports = All (λ (t : Tributary). waiting t.feed.clock ≡ 0) ports
 -- their words stay
 pub record StillFrom (w : World) (f : ℕ) : Type 0 where
   pub needs : (k : ℕ) → f + 3 ≤ k → needs_in (run (suc k) w) ≡ needs_in (run k w)
-  pub states : (k : ℕ) → 4 * length w.ring.ids + f + 10 ≤ k → (signals_of (run k w)).states ≡ settled_states (requests_in (needs_in (run k w)))
+  pub states : (k : ℕ) → 4 * length w.ring.ids + f + 10 ≤ k
+      → (signals_of (run k w)).states ≡ settled_states (requests_in (needs_in (run k w)))
   pub words : (k : ℕ) → 5 * length w.ring.ids + f + 10 ≤ k → (signals_of (run (suc k) w)).words ≡ (signals_of (run k w)).words
 
 abbrev pub FreeRunsGetStill : Type 0
-FreeRunsGetStill = (w : World) → IsWhole w → (f : ℕ) → ((k : ℕ) → f ≤ k → AtEach (λ p n. is_held n ≡ false) (run k w).ring.nodes) → StillFrom w f
+FreeRunsGetStill =
+    (w : World) → IsWhole w → (f : ℕ) → ((k : ℕ) → f ≤ k → AtEach (λ p n. is_held n ≡ false) (run k w).ring.nodes) → StillFrom w f
 
 -- no node is held from round 100 on, and no slip waits; what the nodes need stays from the third round after that on, and so their states settle, and
 -- their words stay

@@ -14,7 +14,9 @@ use Rattle.sdh_laws.specs.Resting.Rest.{IsAtRest, StaysAtRest}
 -- rounds happens. How far an AU-4 is carried doesn't matter: calm rounds leave each interpreter and each generator as it is, so that
 -- what is known of one of them is known of it in all of them.
 abbrev pub CalmGoesOn : Type 0
-CalmGoesOn = (w : World) → IsWhole w → HasCircuits (layout_of w) → ((j : ℕ) → 1 ≤ j → j ≤ 6 → IsCalm (course w) j) → (j : ℕ) → 1 ≤ j → IsCalm (course w) j
+CalmGoesOn =
+    (w : World) → IsWhole w → HasCircuits (layout_of w) → ((j : ℕ) → 1 ≤ j → j ≤ 6 → IsCalm (course w) j) → (j : ℕ) → 1 ≤ j
+    → IsCalm (course w) j
 
 -- what is left of a whole world by rounds alone is at rest, by the clocks that the ports had
 abbrev pub LeavesAtRest : World → World → Type 0

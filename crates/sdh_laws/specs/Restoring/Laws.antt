@@ -34,14 +34,20 @@ NoneHeld w = AtEach (λ p n. is_held n ≡ false) w.ring.nodes
 -- their ports, and whichever fibres are cut or degraded. That is 294 in a ring of 16, so less than 400 rounds, in which 400 frames
 -- of 125 microseconds cross each span.
 abbrev pub RingsAreRestoredSoon : Type 0
-RingsAreRestoredSoon = (w : World) → IsWhole w → HasCircuits (layout_of w) → (k : ℕ) → 12 * length w.ring.ids + 102 ≤ k → IsRestored (clocks_from w) (run k w) (requests_of (run k w))
+RingsAreRestoredSoon =
+    (w : World) → IsWhole w → HasCircuits (layout_of w) → (k : ℕ) → 12 * length w.ring.ids + 102 ≤ k
+    → IsRestored (clocks_from w) (run k w) (requests_of (run k w))
 
 -- Where no controller misses a turn, from number 12n + 2 on, which is 194 in a ring of 16; where slips wait, from 8n + 61 on too.
 abbrev pub FreeRingsAreRestoredSoon : Type 0
-FreeRingsAreRestoredSoon = (w : World) → IsWhole w → HasCircuits (layout_of w) → NoneHeld w → (k : ℕ) → 12 * length w.ring.ids + 2 ≤ k → 8 * length w.ring.ids + 61 ≤ k → IsRestored (clocks_from w) (run k w) (requests_of (run k w))
+FreeRingsAreRestoredSoon =
+    (w : World) → IsWhole w → HasCircuits (layout_of w) → NoneHeld w → (k : ℕ) → 12 * length w.ring.ids + 2 ≤ k
+    → 8 * length w.ring.ids + 61 ≤ k → IsRestored (clocks_from w) (run k w) (requests_of (run k w))
 
 abbrev pub UnslippedRingsAreRestoredSoon : Type 0
-UnslippedRingsAreRestoredSoon = (w : World) → IsWhole w → HasCircuits (layout_of w) → NoneHeld w → IsUnslipped w → (k : ℕ) → 12 * length w.ring.ids + 2 ≤ k → IsRestored (clocks_from w) (run k w) (requests_of (run k w))
+UnslippedRingsAreRestoredSoon =
+    (w : World) → IsWhole w → HasCircuits (layout_of w) → NoneHeld w → IsUnslipped w → (k : ℕ) → 12 * length w.ring.ids + 2 ≤ k
+    → IsRestored (clocks_from w) (run k w) (requests_of (run k w))
 
 -- ---- each port by its own number
 
@@ -50,7 +56,8 @@ UnslippedRingsAreRestoredSoon = (w : World) → IsWhole w → HasCircuits (layou
 pub record ArePortsOwedFrom (w : World) (base : ℕ) : Type 0 where
   pub joined : (k index : ℕ) (c : Provisioned) → slice_get w.ring.circuits.circuits index ≡ Some c → (e : End)
       → (let n = length w.ring.ids in let rs = requests_of (run k w) in
-      is_joined n (is_applied rs) (arc_of n c) ≡ true → base + 4 * hops n (is_applied rs) (arc_of n c) + 5 ≤ k → DeliversItsDue (clocks_from w) (run k w) rs c index e)
+      is_joined n (is_applied rs) (arc_of n c) ≡ true → base + 4 * hops n (is_applied rs) (arc_of n c) + 5 ≤ k
+      → DeliversItsDue (clocks_from w) (run k w) rs c index e)
   pub parted : (k index : ℕ) (c : Provisioned) → slice_get w.ring.circuits.circuits index ≡ Some c → (e : End)
       → (let n = length w.ring.ids in let rs = requests_of (run k w) in
       is_joined n (is_applied rs) (arc_of n c) ≡ false → base + 3 * n ≤ k + 2 → DeliversItsDue (clocks_from w) (run k w) rs c index e)
@@ -60,7 +67,8 @@ PortsAreOwedSoon = (w : World) → IsWhole w → HasCircuits (layout_of w) → A
 
 -- where no controller is held and no slip waits: over h hops from number 4n + 4h + 14 on, and AIS from number 7n + 7 on
 abbrev pub UnslippedPortsAreOwedSoon : Type 0
-UnslippedPortsAreOwedSoon = (w : World) → IsWhole w → HasCircuits (layout_of w) → NoneHeld w → IsUnslipped w → ArePortsOwedFrom w (4 * length w.ring.ids + 9)
+UnslippedPortsAreOwedSoon =
+    (w : World) → IsWhole w → HasCircuits (layout_of w) → NoneHeld w → IsUnslipped w → ArePortsOwedFrom w (4 * length w.ring.ids + 9)
 
 -- ---- a settle step
 
@@ -76,6 +84,10 @@ UnsettledRingsAreRestored = (w left : World) (limit : ℕ) → HasCircuits (layo
 -- Where the last of some stretches has at least 12n + 102 rounds, the ring is restored under the requests of the histories in its last round, and what
 -- is owed goes by the history of clocks.
 abbrev pub StretchesAreRestoredSoon : Type 0
-StretchesAreRestoredSoon = (s : Settings) (ids : List ℕ) (circuits : Provisioning) (f : Fibres) (earlier : List Stretch) (last : Stretch) (t : ℕ) → MayStart s ids f → MayHappen (new_world s ids circuits f) (earlier ++ last ∷ [])
-    → AreCircuits (length ids) (n_of s.rate / 2) circuits.circuits → 12 * length ids + 102 ≤ last.rounds → rounds_in (earlier ++ last ∷ []) ≡ t + 1
-    → IsRestored (clocks_by circuits.circuits (earlier ++ last ∷ [])) (after_stretches (earlier ++ last ∷ []) (new_world s ids circuits f)) (span_requests (length ids) (asked_in s.threshold s.wait (length ids) (earlier ++ last ∷ []) t))
+StretchesAreRestoredSoon =
+    (s : Settings) (ids : List ℕ) (circuits : Provisioning) (f : Fibres) (earlier : List Stretch) (last : Stretch) (t : ℕ)
+    → MayStart s ids f → MayHappen (new_world s ids circuits f) (earlier ++ last ∷ [])
+    → AreCircuits (length ids) (n_of s.rate / 2) circuits.circuits → 12 * length ids + 102 ≤ last.rounds
+    → rounds_in (earlier ++ last ∷ []) ≡ t + 1
+    → IsRestored (clocks_by circuits.circuits (earlier ++ last ∷ [])) (after_stretches (earlier ++ last ∷ []) (new_world s ids circuits f))
+    (span_requests (length ids) (asked_in s.threshold s.wait (length ids) (earlier ++ last ∷ []) t))

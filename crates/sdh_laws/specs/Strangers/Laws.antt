@@ -45,7 +45,9 @@ NoneHolds (s ∷ ss) = HoldNone s.changes × NoneHolds ss
 -- what a round makes of a ring: where it is vouched for it stays so, and no port meets a stranger in the round; these are the
 -- ports' clocks before each round
 abbrev pub KeepsStrangersOut : World → World → Type 0
-KeepsStrangersOut w after = (clocks : PortId → ℕ → Clock) → IsVouched clocks w → AreClocksOf clocks w.ring → IsVouched clocks after × NoneMeetsAStranger clocks after.ring
+KeepsStrangersOut w after =
+    (clocks : PortId → ℕ → Clock) → IsVouched clocks w → AreClocksOf clocks w.ring
+    → IsVouched clocks after × NoneMeetsAStranger clocks after.ring
 
 -- what several rounds, and nothing else, make of it: no port meets a stranger in any of them
 abbrev pub KeepsStrangersOutInAll : World → World → Type 0
@@ -54,8 +56,10 @@ KeepsStrangersOutInAll w left = (clocks : PortId → ℕ → Clock) → IsVouche
 
 -- a new ring over honest fibres is vouched for, and every change keeps that but for one that holds a controller
 pub record VouchedRingsStay : Type 0 where
-  pub new : (s : Settings) (ids : List ℕ) (circuits : Provisioning) (f : Fibres) (clocks : PortId → ℕ → Clock) → AreIds ids → IsHonest f → IsVouched clocks (new_world s ids circuits f)
-  pub change : (c : Change) (w : World) (clocks : PortId → ℕ → Clock) → IsChangeOf w c → HoldsNone c → IsVouched clocks w → IsVouched clocks (changed c w)
+  pub new : (s : Settings) (ids : List ℕ) (circuits : Provisioning) (f : Fibres) (clocks : PortId → ℕ → Clock) → AreIds ids → IsHonest f
+      → IsVouched clocks (new_world s ids circuits f)
+  pub change : (c : Change) (w : World) (clocks : PortId → ℕ → Clock) → IsChangeOf w c → HoldsNone c → IsVouched clocks w
+      → IsVouched clocks (changed c w)
 
 -- so does every round, whichever plant ran it
 abbrev pub RoundsKeepStrangersOut : Type 0
@@ -70,23 +74,32 @@ pub record StepsKeepStrangersOut : Type 0 where
 
 -- in each round of the stretches, whatever happens between them, but for held controllers
 abbrev pub NoPortEverMeetsAStranger : Type 0
-NoPortEverMeetsAStranger = (s : Settings) (ids : List ℕ) (circuits : Provisioning) (f : Fibres) (ss : List Stretch) → AreIds ids → IsHonest f → MayHappen (new_world s ids circuits f) ss → NoneHolds ss
+NoPortEverMeetsAStranger =
+    (s : Settings) (ids : List ℕ) (circuits : Provisioning) (f : Fibres) (ss : List Stretch) → AreIds ids → IsHonest f
+    → MayHappen (new_world s ids circuits f) ss → NoneHolds ss
     → AreCircuits (length ids) (n_of s.rate / 2) circuits.circuits
-    → (t : ℕ) → t < rounds_in ss → NoneMeetsAStranger (clocks_by circuits.circuits ss) (round (world_in ss (new_world s ids circuits f) t)).ring
+    → (t : ℕ) → t < rounds_in ss → NoneMeetsAStranger (clocks_by circuits.circuits ss)
+    (round (world_in ss (new_world s ids circuits f) t)).ring
 
 -- ---- from every whole ring on
 
 -- Whatever a ring carries, and whatever happens but for held controllers: it is vouched for once none misses its turns any more, which
 -- takes `most` rounds, and n + 1 rounds more for each of the up to n spans of an arc.
 abbrev pub RingsComeToBeVouchedFor : Type 0
-RingsComeToBeVouchedFor = (most : ℕ) (w : World) (ss : List Stretch) (clocks : PortId → ℕ → Clock) → IsWhole w → HasCircuits (layout_of w) → AtEach (λ p n. n.held ≤ most) w.ring.nodes → MayHappen w ss → NoneHolds ss
+RingsComeToBeVouchedFor =
+    (most : ℕ) (w : World) (ss : List Stretch) (clocks : PortId → ℕ → Clock) → IsWhole w → HasCircuits (layout_of w)
+    → AtEach (λ p n. n.held ≤ most) w.ring.nodes → MayHappen w ss → NoneHolds ss
     → ((j : ℕ) → j < rounds_in ss → AreClocksOf clocks (world_in ss w j).ring)
     → (t : ℕ) → most + length w.ring.ids * (length w.ring.ids + 1) ≤ t → t ≤ rounds_in ss → IsVouched clocks (world_in ss w t)
 
 -- In each round that comes so long behind the changes at which a controller was last held, which misses at most 100 turns: those of the
 -- stretch `last`.
 abbrev pub NoPortMeetsAStrangerForLong : Type 0
-NoPortMeetsAStrangerForLong = (s : Settings) (ids : List ℕ) (circuits : Provisioning) (f : Fibres) (earlier : List Stretch) (last : Stretch) (free : List Stretch) → AreIds ids → IsHonest f
-    → MayHappen (new_world s ids circuits f) (earlier ++ last ∷ free) → NoneHolds free → AreCircuits (length ids) (n_of s.rate / 2) circuits.circuits
+NoPortMeetsAStrangerForLong =
+    (s : Settings) (ids : List ℕ) (circuits : Provisioning) (f : Fibres) (earlier : List Stretch) (last : Stretch) (free : List Stretch)
+    → AreIds ids → IsHonest f
+    → MayHappen (new_world s ids circuits f) (earlier ++ last ∷ free) → NoneHolds free
+    → AreCircuits (length ids) (n_of s.rate / 2) circuits.circuits
     → (t : ℕ) → 100 + length ids * (length ids + 1) ≤ t → t < last.rounds + rounds_in free
-    → NoneMeetsAStranger (clocks_by circuits.circuits (earlier ++ last ∷ free)) (round (world_in (earlier ++ last ∷ free) (new_world s ids circuits f) (rounds_in earlier + t))).ring
+    → NoneMeetsAStranger (clocks_by circuits.circuits (earlier ++ last ∷ free))
+    (round (world_in (earlier ++ last ∷ free) (new_world s ids circuits f) (rounds_in earlier + t))).ring

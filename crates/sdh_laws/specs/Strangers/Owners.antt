@@ -37,13 +37,15 @@ pub record HasBytesOf (from a : Au) : Type 0 where
 -- these are the ports' clocks before each round.
 pub data Holds (circuits : List Provisioned) (clocks : PortId → ℕ → Clock) (t : ℕ) (port : PortId) (a : Au) : Type 0 where
   nobodys : HasBytesOf ones a → Holds circuits clocks t port a
-  customers : (c : Provisioned) (r : ℕ) → slice_get circuits port.circuit ≡ Some c → r < t → HasBytesOf (put_by (customer_at c port.end) (clocks port r)) a → Holds circuits clocks t port a
+  customers : (c : Provisioned) (r : ℕ) → slice_get circuits port.circuit ≡ Some c → r < t
+      → HasBytesOf (put_by (customer_at c port.end) (clocks port r)) a → Holds circuits clocks t port a
 
 -- In round t a port delivers AIS, or a chunk, with whatever pointer value, taken from an AU-4 that holds ones or what its
 -- circuit's other port put into its AU-4 in one round before.
 pub data MeetsNoStranger (circuits : List Provisioned) (clocks : PortId → ℕ → Clock) (t : ℕ) (port : PortId) (o : Outlet) : Type 0 where
   ais_comes : o ≡ silent → MeetsNoStranger circuits clocks t port o
-  bytes_come : (value : ℕ) (form : ChunkForm) (a : Au) → o ≡ delivering value (taken form a.payload (h3_of a.pointers)) → Holds circuits clocks t (other_port port) a → MeetsNoStranger circuits clocks t port o
+  bytes_come : (value : ℕ) (form : ChunkForm) (a : Au) → o ≡ delivering value (taken form a.payload (h3_of a.pointers))
+      → Holds circuits clocks t (other_port port) a → MeetsNoStranger circuits clocks t port o
 
 -- so does each port of a ring in the last round
 abbrev pub NoneMeetsAStranger : (PortId → ℕ → Clock) → HeldRing → Type 0
@@ -52,9 +54,13 @@ NoneMeetsAStranger clocks r = (index : ℕ) (c : Provisioned) → slice_get r.ci
 
 -- these are the clocks of a ring's ports before its next round
 abbrev pub AreClocksOf : (PortId → ℕ → Clock) → HeldRing → Type 0
-AreClocksOf clocks r = (index : ℕ) (c : Provisioned) → slice_get r.circuits.circuits index ≡ Some c → (e : End) → clock_at r (port_named index e) ≡ clocks (port_named index e) r.rounds
+AreClocksOf clocks r =
+    (index : ℕ) (c : Provisioned) → slice_get r.circuits.circuits index ≡ Some c → (e : End)
+    → clock_at r (port_named index e) ≡ clocks (port_named index e) r.rounds
 
 -- and these before each round from one world to another, where nothing but rounds happens between them
 abbrev pub AreClocksBetween : (PortId → ℕ → Clock) → World → World → Type 0
-AreClocksBetween clocks w left = (index : ℕ) (c : Provisioned) → slice_get w.ring.circuits.circuits index ≡ Some c → (e : End) (t : ℕ) → w.ring.rounds ≤ t → t < left.ring.rounds
+AreClocksBetween clocks w left =
+    (index : ℕ) (c : Provisioned) → slice_get w.ring.circuits.circuits index ≡ Some c → (e : End) (t : ℕ) → w.ring.rounds ≤ t
+    → t < left.ring.rounds
     → clocks_from w (port_named index e) t ≡ clocks (port_named index e) t

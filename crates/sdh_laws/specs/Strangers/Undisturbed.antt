@@ -30,7 +30,9 @@ use Rattle.sdh_laws.specs.Strangers.Owners.{port_named}
 
 -- in none of the rounds anything is asked on either end of a span of the circuit's arc, by what happened there
 abbrev pub NoneAsks : Settings → ℕ → List Stretch → Provisioned → Type 0
-NoneAsks s n ss c = (r p : ℕ) (d : Side) → r < rounds_in ss → p < n → holds_span n (arc_of n c) (span_at n p d) ≡ true → asked_in s.threshold s.wait n ss r p d ≡ Nr
+NoneAsks s n ss c =
+    (r p : ℕ) (d : Side) → r < rounds_in ss → p < n → holds_span n (arc_of n c) (span_at n p d) ≡ true
+    → asked_in s.threshold s.wait n ss r p d ≡ Nr
 
 -- AIS until the first bytes have come over all spans of the arc; then those that the other port sent as many rounds before: 2349, or
 -- three fewer or more where its clock slipped in that round, with the pointer value that the clock had after it
@@ -39,10 +41,14 @@ straight n circuits ss i c e t =
     let far = other_end e in
     let spans = (arc_of n c).spans in
     let clock = clocks_by circuits ss (port_named i far) (t - spans) in
-    if nat_lt t spans then silent else delivering (ticked clock).value (stream_from (customer_at c far) clock.sent (taken_len (next_form clock)))
+    if nat_lt t spans then silent else delivering (ticked clock).value
+    (stream_from (customer_at c far) clock.sent (taken_len (next_form clock)))
 
 abbrev pub UndisturbedPortsDeliver : Type 0
-UndisturbedPortsDeliver = (s : Settings) (ids : List ℕ) (circuits : Provisioning) (f : Fibres) (ss : List Stretch) → MayStart s ids f → MayHappen (new_world s ids circuits f) ss
+UndisturbedPortsDeliver =
+    (s : Settings) (ids : List ℕ) (circuits : Provisioning) (f : Fibres) (ss : List Stretch) → MayStart s ids f
+    → MayHappen (new_world s ids circuits f) ss
     → AreCircuits (length ids) (n_of s.rate / 2) circuits.circuits
     → (i : ℕ) (c : Provisioned) → slice_get circuits.circuits i ≡ Some c → (e : End) → NoneAsks s (length ids) ss c
-    → (t : ℕ) → t < rounds_in ss → outlet_at (round (world_in ss (new_world s ids circuits f) t)).ring (port_named i e) ≡ straight (length ids) circuits.circuits ss i c e t
+    → (t : ℕ) → t < rounds_in ss → outlet_at (round (world_in ss (new_world s ids circuits f) t)).ring (port_named i e)
+    ≡ straight (length ids) circuits.circuits ss i c e t

@@ -62,7 +62,12 @@ au_in w au line = au_of (n_of w.ring.settings.rate) au (scrambled (9 * n_of w.ri
 pub record IsVouched (clocks : PortId → ℕ → Clock) (w : World) : Type 0 where
   pub whole : IsWhole w
   pub free : AtEach (λ p n. n.held ≡ 0) w.ring.nodes
-  pub working : (p m : ℕ) (d : Side) (line : List ℕ) → p < length w.ring.nodes → carried_on w.fibres (fibre p d) ≡ Some line → 1 ≤ m → m ≤ slots_of (layout_of w)
-      → HoldsAtMost w.ring.circuits.circuits clocks w.ring.rounds (streams_to d (circuits_at (length w.ring.ids) w.ring.circuits.circuits p m d)) (au_in w m line)
-  pub protection : (p m : ℕ) (d : Side) (line : List ℕ) → p < length w.ring.nodes → carried_on w.fibres (fibre p d) ≡ Some line → 1 ≤ m → m ≤ slots_of (layout_of w)
-      → HoldsAtMost w.ring.circuits.circuits clocks w.ring.rounds (streams_to (opposite d) (spoken_of w.ring.ids w.ring.circuits.circuits m (opposite d) (word_of d (node_at w.ring.nodes p)))) (au_in w (slots_of (layout_of w) + m) line)
+  pub working : (p m : ℕ) (d : Side) (line : List ℕ) → p < length w.ring.nodes → carried_on w.fibres (fibre p d) ≡ Some line → 1 ≤ m
+      → m ≤ slots_of (layout_of w)
+      → HoldsAtMost w.ring.circuits.circuits clocks w.ring.rounds
+      (streams_to d (circuits_at (length w.ring.ids) w.ring.circuits.circuits p m d)) (au_in w m line)
+  pub protection : (p m : ℕ) (d : Side) (line : List ℕ) → p < length w.ring.nodes → carried_on w.fibres (fibre p d) ≡ Some line → 1 ≤ m
+      → m ≤ slots_of (layout_of w)
+      → HoldsAtMost w.ring.circuits.circuits clocks w.ring.rounds
+      (streams_to (opposite d) (spoken_of w.ring.ids w.ring.circuits.circuits m (opposite d) (word_of d (node_at w.ring.nodes p))))
+      (au_in w (slots_of (layout_of w) + m) line)

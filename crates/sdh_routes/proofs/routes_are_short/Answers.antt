@@ -8,4 +8,5 @@ use Rattle.sdh_routes.proofs.routes_are_short.Goals as goal
 pub returns : goal.returns
 returns c = λ rs slots cs form index circuit is.
     let ring = on-ring (length rs) slots cs form in
-    is-short (length rs) (λ s. is_applied rs s) circuit (arc-long (length rs) cs ring index circuit is) (arc-short (length rs) cs ring index circuit is)
+    is-short (length rs) (λ s. is_applied rs s) circuit (arc-long (length rs) cs ring index circuit is)
+    (arc-short (length rs) cs ring index circuit is)

@@ -25,8 +25,11 @@ returns-in-Ok-write_text-clause-outcome g c =
     let old = g.W.Sink.written c.args.sink.now in
     let new = g.W.Sink.written c.write_text.new.sink in
     let written = subst (Appends old new) c.bytes.ensures c.in-Ok-write_text.ensures.ok in
-    let is = λ (bytes : List ℕ) (how : Status) (text : List ℕ). IsOutcome g.M.RunsPlans.program a bytes (means c.args.plant.now) how text (means c.report_on.new.plant) in
-    told_whole (told_if (is_some a) (g.R.Source.left c.args.source.now)) is reads calls report.status report.text.bytes old new c.in-Ok.ensures.cause c.in-Ok.ensures.outcome c.in-Ok.ensures.own written
+    let is =
+    λ (bytes : List ℕ) (how : Status) (text : List ℕ). IsOutcome g.M.RunsPlans.program a bytes (means c.args.plant.now) how text
+    (means c.report_on.new.plant) in
+    told_whole (told_if (is_some a)
+    (g.R.Source.left c.args.source.now)) is reads calls report.status report.text.bytes old new c.in-Ok.ensures.cause c.in-Ok.ensures.outcome c.in-Ok.ensures.own written
 
 pub returns-clause-outcome : goal.returns-clause-outcome
 returns-clause-outcome g c =
@@ -38,5 +41,8 @@ returns-clause-outcome g c =
     let old = g.W.Sink.written c.args.sink.now in
     let new = g.W.Sink.written c.write_text.new.sink in
     let fewer = subst (AppendsFewer old new) c.bytes.ensures c.in-Err.ensures.front in
-    let is = λ (bytes : List ℕ) (how : Status) (text : List ℕ). IsOutcome g.M.RunsPlans.program a bytes (means c.args.plant.now) how text (means c.report_on.new.plant) in
-    told_front (told_if (is_some a) (g.R.Source.left c.args.source.now)) is reads calls report.status report.text.bytes old new c.in-Ok.ensures.cause c.in-Ok.ensures.outcome fewer
+    let is =
+    λ (bytes : List ℕ) (how : Status) (text : List ℕ). IsOutcome g.M.RunsPlans.program a bytes (means c.args.plant.now) how text
+    (means c.report_on.new.plant) in
+    told_front (told_if (is_some a)
+    (g.R.Source.left c.args.source.now)) is reads calls report.status report.text.bytes old new c.in-Ok.ensures.cause c.in-Ok.ensures.outcome fewer

@@ -12,7 +12,8 @@ returns-in-Some-clause-outcome g c =
     let ask = m.ask_of c.in-Some.asked in
     let a = m.program.asked (words_of c.args.words.now) in
     let is : a ≡ Some ask = sym c.asked.ensures ∙ ap (option_map m.ask_of) c.in-Some.is in
-    IfOk-weaker c.read_report.result _ _ (λ report x. asked_outcome m.program ask a is (g.R.Source.left c.args.source.now) (means c.args.plant.now) (means c.read_report.new.plant) report.status report.text.bytes x)
+    IfOk-weaker c.read_report.result _ _ (λ report x. asked_outcome m.program ask a is (g.R.Source.left c.args.source.now)
+    (means c.args.plant.now) (means c.read_report.new.plant) report.status report.text.bytes x)
     c.read_report.ensures.outcome
 
 pub returns-in-Some-clause-usage : goal.returns-in-Some-clause-usage
@@ -29,7 +30,8 @@ returns-in-Some-clause-read g c =
     let ask = m.ask_of c.in-Some.asked in
     let a = m.program.asked (words_of c.args.words.now) in
     let is : a ≡ Some ask = sym c.asked.ensures ∙ ap (option_map m.ask_of) c.in-Some.is in
-    IfOk-weaker c.read_report.result _ _ (λ report read done. asked_read m.program ask a is (g.R.Source.left c.read_report.new.source) (read done)) c.read_report.ensures.read
+    IfOk-weaker c.read_report.result _ _ (λ report read done. asked_read m.program ask a is (g.R.Source.left c.read_report.new.source)
+    (read done)) c.read_report.ensures.read
 
 pub returns-in-Some-clause-complete : goal.returns-in-Some-clause-complete
 returns-in-Some-clause-complete g c =
@@ -38,4 +40,6 @@ returns-in-Some-clause-complete g c =
     let ask = m.ask_of c.in-Some.asked in
     let a = m.program.asked (words_of c.args.words.now) in
     let is : a ≡ Some ask = sym c.asked.ensures ∙ ap (option_map m.ask_of) c.in-Some.is in
-    IfOk-weaker c.read_report.result _ _ (λ report done other same may. done (asked_done m.program ask a is other (g.R.Source.left c.args.source.now) (means c.args.plant.now) same may)) c.read_report.ensures.complete
+    IfOk-weaker c.read_report.result _ _ (λ report done other same may. done
+    (asked_done m.program ask a is other (g.R.Source.left c.args.source.now)
+    (means c.args.plant.now) same may)) c.read_report.ensures.complete

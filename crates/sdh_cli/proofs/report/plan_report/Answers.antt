@@ -13,12 +13,16 @@ returns-in-Some g c =
     let f = means c.args.plant.now in
     let is : listing_of ask plan ≡ Some listing = sym c.listing_of.ensures.listing ∙ c.in-Some.is in
     record {
-      outcome = IfOk-weaker c.run_report.result _ _ (λ report x. run_of_plan plan listing f ask report.status report.text.bytes (means c.run_report.new.plant) is x) c.run_report.ensures.outcome;
+      outcome =
+          IfOk-weaker c.run_report.result _ _ (λ report x. run_of_plan plan listing f ask report.status report.text.bytes
+          (means c.run_report.new.plant) is x) c.run_report.ensures.outcome;
       alone = run_makes_fibres plan listing f ask _ is;
       failed = c.run_report.ensures.failed;
       calls = c.run_report.ensures.calls;
       without = c.run_report.ensures.without;
-      complete = IfOk-weaker c.run_report.result _ _ (λ report done go fine. done (run_may_go plan listing f ask is go) fine) c.run_report.ensures.complete;
+      complete =
+          IfOk-weaker c.run_report.result _ _ (λ report done go fine. done
+          (run_may_go plan listing f ask is go) fine) c.run_report.ensures.complete;
       later = c.run_report.ensures.later;
       unsent = c.run_report.ensures.unsent;
     }

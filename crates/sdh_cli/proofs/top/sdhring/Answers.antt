@@ -20,7 +20,8 @@ returns-in-Ok-write_text-clause-owed g c =
     let old = g.W.Sink.written c.args.sink.now in
     let new = g.W.Sink.written c.write_text.new.sink in
     let written = subst (Appends old new) c.bytes.ensures c.in-Ok-write_text.ensures.ok in
-    promises.told_owed a (means c.args.plant.now) (means c.report_on.new.plant) report.status report.text.bytes old new written (told a (g.R.Source.left c.args.source.now)) c.in-Ok.ensures.outcome
+    promises.told_owed a (means c.args.plant.now) (means c.report_on.new.plant) report.status report.text.bytes old new written
+    (told a (g.R.Source.left c.args.source.now)) c.in-Ok.ensures.outcome
 
 pub returns-in-Ok-write_text-clause-rounds : goal.returns-in-Ok-write_text-clause-rounds
 returns-in-Ok-write_text-clause-rounds g c =
@@ -30,7 +31,8 @@ returns-in-Ok-write_text-clause-rounds g c =
     let old = g.W.Sink.written c.args.sink.now in
     let new = g.W.Sink.written c.write_text.new.sink in
     let written = subst (Appends old new) c.bytes.ensures c.in-Ok-write_text.ensures.ok in
-    promises.told_rounds a (means c.args.plant.now) (means c.report_on.new.plant) report.status report.text.bytes old new written (told a (g.R.Source.left c.args.source.now)) c.in-Ok.ensures.outcome
+    promises.told_rounds a (means c.args.plant.now) (means c.report_on.new.plant) report.status report.text.bytes old new written
+    (told a (g.R.Source.left c.args.source.now)) c.in-Ok.ensures.outcome
 
 pub returns-in-Ok-write_text-clause-healthy : goal.returns-in-Ok-write_text-clause-healthy
 returns-in-Ok-write_text-clause-healthy g c =
@@ -40,7 +42,8 @@ returns-in-Ok-write_text-clause-healthy g c =
     let old = g.W.Sink.written c.args.sink.now in
     let new = g.W.Sink.written c.write_text.new.sink in
     let written = subst (Appends old new) c.bytes.ensures c.in-Ok-write_text.ensures.ok in
-    promises.told_healthy a (means c.args.plant.now) (means c.report_on.new.plant) report.status report.text.bytes old new written (told a (g.R.Source.left c.args.source.now)) c.in-Ok.ensures.outcome
+    promises.told_healthy a (means c.args.plant.now) (means c.report_on.new.plant) report.status report.text.bytes old new written
+    (told a (g.R.Source.left c.args.source.now)) c.in-Ok.ensures.outcome
 
 pub returns-in-Ok-write_text-clause-unsettled : goal.returns-in-Ok-write_text-clause-unsettled
 returns-in-Ok-write_text-clause-unsettled g c =
@@ -50,7 +53,8 @@ returns-in-Ok-write_text-clause-unsettled g c =
     let old = g.W.Sink.written c.args.sink.now in
     let new = g.W.Sink.written c.write_text.new.sink in
     let written = subst (Appends old new) c.bytes.ensures c.in-Ok-write_text.ensures.ok in
-    promises.told_unsettled a (means c.args.plant.now) (means c.report_on.new.plant) report.status report.text.bytes old new written (told a (g.R.Source.left c.args.source.now)) c.in-Ok.ensures.outcome
+    promises.told_unsettled a (means c.args.plant.now) (means c.report_on.new.plant) report.status report.text.bytes old new written
+    (told a (g.R.Source.left c.args.source.now)) c.in-Ok.ensures.outcome
 
 pub returns-in_default-clause-came : goal.returns-in_default-clause-came
 returns-in_default-clause-came g c = (status.Memory, inl refl, came_without _ _ _ _ _ _ c.in_default.ensures.without)
@@ -65,7 +69,9 @@ returns-in-Ok-write_text-clause-outcome g c =
     let old = g.W.Sink.written c.args.sink.now in
     let new = g.W.Sink.written c.write_text.new.sink in
     let written = subst (Appends old new) c.bytes.ensures c.in-Ok-write_text.ensures.ok in
-    let is = λ (bytes : List ℕ) (how : Status) (text : List ℕ). IsOutcome a bytes (means c.args.plant.now) how text (means c.report_on.new.plant) in
+    let is =
+    λ (bytes : List ℕ) (how : Status) (text : List ℕ). IsOutcome a bytes (means c.args.plant.now) how text
+    (means c.report_on.new.plant) in
     told_whole (told a (g.R.Source.left c.args.source.now)) is reads calls report.status report.text.bytes old new c.in-Ok.ensures.cause c.in-Ok.ensures.outcome c.in-Ok.ensures.own written
 
 pub returns-clause-outcome : goal.returns-clause-outcome
@@ -78,5 +84,7 @@ returns-clause-outcome g c =
     let old = g.W.Sink.written c.args.sink.now in
     let new = g.W.Sink.written c.write_text.new.sink in
     let fewer = subst (AppendsFewer old new) c.bytes.ensures c.in-Err.ensures.front in
-    let is = λ (bytes : List ℕ) (how : Status) (text : List ℕ). IsOutcome a bytes (means c.args.plant.now) how text (means c.report_on.new.plant) in
+    let is =
+    λ (bytes : List ℕ) (how : Status) (text : List ℕ). IsOutcome a bytes (means c.args.plant.now) how text
+    (means c.report_on.new.plant) in
     told_front (told a (g.R.Source.left c.args.source.now)) is reads calls report.status report.text.bytes old new c.in-Ok.ensures.cause c.in-Ok.ensures.outcome fewer

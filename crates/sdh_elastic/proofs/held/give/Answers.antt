@@ -13,14 +13,18 @@ loop-i-preserved c =
       room = e.room;
       run =
           ap (λ l. l ++ take c.give_part.result.1 (drop c.give_part.result.0 rest)) e.given
-          ∙ ap (λ k. (c.loop-i.out ++ take c.loop-i.left (drop c.loop-i.skip c.chunk_at.result.now)) ++ take k (drop c.give_part.result.0 rest)) e.left
-          ∙ ap (λ k. (c.loop-i.out ++ take c.loop-i.left (drop c.loop-i.skip c.chunk_at.result.now)) ++ take (c.loop-i.left - (length c.chunk_at.result.now - c.loop-i.skip)) (drop k rest)) e.skip
+          ∙ ap (λ k. (c.loop-i.out ++ take c.loop-i.left (drop c.loop-i.skip c.chunk_at.result.now))
+          ++ take k (drop c.give_part.result.0 rest)) e.left
+          ∙ ap (λ k. (c.loop-i.out ++ take c.loop-i.left (drop c.loop-i.skip c.chunk_at.result.now))
+          ++ take (c.loop-i.left - (length c.chunk_at.result.now - c.loop-i.skip)) (drop k rest)) e.skip
           ∙ next_run c.args.chunks.now.items c.loop-i.i c.loop-i.skip c.loop-i.left c.loop-i.out c.chunk_at.result.now within c.chunk_at.ensures.bytes
           ∙ c.loop-i.invariant.run;
     }
 
 pub returns-after-loop-i : goal.returns-after-loop-i
-returns-after-loop-i c = sym (no_more c.args.chunks.now.items c.loop-i.i c.loop-i.skip c.loop-i.left c.loop-i.out (omega (arith, c.loop-i-test.false, c.len-i-end.ensures.len))) ∙ c.loop-i.invariant.run
+returns-after-loop-i c =
+    sym (no_more c.args.chunks.now.items c.loop-i.i c.loop-i.skip c.loop-i.left c.loop-i.out
+    (omega (arith, c.loop-i-test.false, c.len-i-end.ensures.len))) ∙ c.loop-i.invariant.run
 
 pub returns-then-left-eq0 : goal.returns-then-left-eq0
 returns-then-left-eq0 c =

@@ -10,4 +10,5 @@ returns c =
     let whole = decimal (c.args.rounds / 8) in
     let rest = three_digits (c.args.rounds % 8 * 125) in
     let first = c.put.ensures ∙ ap (λ (w : Written). with_part w (codes ".")) c.put_number.ensures ∙ two_parts t whole (codes ".") in
-    c.put_three.ensures ∙ ap (λ (w : Written). with_part w rest) first ∙ two_parts t (whole ++ codes ".") rest ∙ ap (with_part t) (ms_is c.args.rounds)
+    c.put_three.ensures ∙ ap (λ (w : Written). with_part w rest) first ∙ two_parts t (whole ++ codes ".") rest
+    ∙ ap (with_part t) (ms_is c.args.rounds)

@@ -5,5 +5,6 @@ pub returns-clause-outcome : goal.returns-clause-outcome
 returns-clause-outcome g c =
     let means = g.P.Plant.fibres in
     let run = c.in_ok-run.run' in
-    run_outcome c.args.plan c.args.listing (means c.args.plant.now) (means c.run_plan.new.plant) run.text.bytes c.ended.result.text.bytes run.status c.ended.result.status c.ended.ensures.status
+    run_outcome c.args.plan c.args.listing (means c.args.plant.now)
+    (means c.run_plan.new.plant) run.text.bytes c.ended.result.text.bytes run.status c.ended.result.status c.ended.ensures.status
     c.ended.ensures.text c.in_ok-run.ensures.came

@@ -18,8 +18,10 @@ returns-clause-settles g c = λ ask is honest. (
     let calls : Counts = record { before = g.P.Plant.faults c.args.plant.now; after = g.P.Plant.faults c.call.new.plant } in
     let old = g.W.Sink.written c.args.sink.now in
     let new = g.W.Sink.written c.call.new.sink in
-    told_all (g.R.Source.left c.args.source.now) _ _ (λ bytes x. settles listening ask (means c.args.plant.now) (means c.call.new.plant) bytes c.call.result old new x)
-    (shows listening ask (means c.args.plant.now) (means c.call.new.plant) (SettlesLarge Outaged) (asked (words_of c.args.words.now)) reads calls (g.R.Source.left c.args.source.now)
+    told_all (g.R.Source.left c.args.source.now) _ _ (λ bytes x. settles listening ask (means c.args.plant.now)
+    (means c.call.new.plant) bytes c.call.result old new x)
+    (shows listening ask (means c.args.plant.now) (means c.call.new.plant) (SettlesLarge Outaged)
+    (asked (words_of c.args.words.now)) reads calls (g.R.Source.left c.args.source.now)
     c.call.result old new is (λ plan told came. came.settles honest) c.call.ensures.outcome))
 
 pub returns-clause-unsettled : goal.returns-clause-unsettled
@@ -31,6 +33,9 @@ returns-clause-unsettled g c = λ ask is. (
     let old = g.W.Sink.written c.args.sink.now in
     let new = g.W.Sink.written c.call.new.sink in
     told_all (g.R.Source.left c.args.source.now) _ _
-    (λ bytes x. ends_as listening ask f (means c.call.new.plant) (λ plan. Knows (world_of plan f).fibres) (λ plan. (ran_of plan f).ending) bytes c.call.result old new x)
-    (shows listening ask f (means c.call.new.plant) (EndsKnown Outaged (λ plan. Knows (world_of plan f).fibres) (λ plan. (ran_of plan f).ending)) (asked (words_of c.args.words.now)) reads calls (g.R.Source.left c.args.source.now)
-    c.call.result old new is (λ plan told came knows. elim (came.known knows) [ inl done ↦ inl done.end_is | inr cut ↦ inr cut.0 ]) c.call.ensures.outcome))
+    (λ bytes x. ends_as listening ask f (means c.call.new.plant) (λ plan. Knows (world_of plan f).fibres)
+    (λ plan. (ran_of plan f).ending) bytes c.call.result old new x)
+    (shows listening ask f (means c.call.new.plant) (EndsKnown Outaged (λ plan. Knows (world_of plan f).fibres)
+    (λ plan. (ran_of plan f).ending)) (asked (words_of c.args.words.now)) reads calls (g.R.Source.left c.args.source.now)
+    c.call.result old new is
+    (λ plan told came knows. elim (came.known knows) [ inl done ↦ inl done.end_is | inr cut ↦ inr cut.0 ]) c.call.ensures.outcome))

@@ -15,9 +15,13 @@ loop-change-preserved c =
     let none : Change = record { round = 0; kind = kind.Ais } in
     let one = get_or xs i none in
     let before = flat_map change_line (take i xs) in
-    let next = ap (flat_map change_line) (take_more xs i none c.loop-change-test.true) ∙ flat_map-append change_line (take i xs) (one ∷ []) ∙ ap (λ l. before ++ l) (append-nil (change_line one)) in
+    let next =
+    ap (flat_map change_line) (take_more xs i none c.loop-change-test.true) ∙ flat_map-append change_line (take i xs) (one ∷ [])
+    ∙ ap (λ l. before ++ l) (append-nil (change_line one)) in
     record {
-      bytes = c.put_change.ensures.bytes ∙ ap (λ l. l ++ change_line one) c.loop-change.invariant.bytes ∙ append_assoc start before (change_line one) ∙ ap (λ l. start ++ l) (sym next);
+      bytes =
+          c.put_change.ensures.bytes ∙ ap (λ l. l ++ change_line one) c.loop-change.invariant.bytes
+          ∙ append_assoc start before (change_line one) ∙ ap (λ l. start ++ l) (sym next);
       room = omega (arith, c.put_change.ensures.room, c.loop-change.invariant.room);
     }
 

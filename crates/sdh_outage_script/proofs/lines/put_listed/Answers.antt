@@ -13,6 +13,7 @@ returns-clause-bytes c =
     let end = c.args.port.end in
     let named = c.get.result.now in
     let both = c.index.result.now in
-    let at : slice_get items i ≡ Some both = slice_get_read items _ i both refl (omega (arith, c.requires.many, c.requires.port)) c.index.ensures in
+    let at : slice_get items i ≡ Some both =
+    slice_get_read items _ i both refl (omega (arith, c.requires.many, c.requires.port)) c.index.ensures in
     let is = ap₂ (λ (x : Option Provisioned) (y : Option Both). port_text x y end) c.get.ensures at in
     c.put_heard.ensures.bytes ∙ ap (λ l. c.args.text.now.bytes ++ l) (ap (heard_text named.name end) c.at.ensures ∙ sym is)

@@ -28,10 +28,12 @@ loop-i-preserved c =
     record {
       bytes =
           c.put_both.ensures.bytes ∙ ap (λ l. l ++ lines) inv.bytes ∙ append_assoc c.args.text.now.bytes (flat_map told_line before) lines
-          ∙ ap (λ l. c.args.text.now.bytes ++ l) (sym (flat_map-append told_line before (both_shown named both)) ∙ ap (flat_map told_line) (sym more));
+          ∙ ap (λ l. c.args.text.now.bytes ++ l) (sym (flat_map-append told_line before (both_shown named both))
+          ∙ ap (flat_map told_line) (sym more));
       room = omega (arith, c.put_both.ensures.room, inv.room);
       said =
-          c.put_both.ensures.summary ∙ ap (λ s. with_outage (with_outage s both.a.outage) both.b.outage) inv.said ∙ said_more before named both
+          c.put_both.ensures.summary ∙ ap (λ s. with_outage (with_outage s both.a.outage) both.b.outage) inv.said
+          ∙ said_more before named both
           ∙ ap (λ ports. summary_of (map (λ (p : PortOutage). p.outage) ports)) (sym more);
       few = omega (arith, c.put_both.ensures.few, inv.few);
     }
@@ -43,7 +45,9 @@ returns-clause-bytes c =
     let i = c.loop-i.i in
     let inv = c.loop-i.invariant in
     let start = c.args.text.now.bytes in
-    let all : shown (take i cs) (take i items) ≡ shown cs items = ap₂ shown (take_all i cs (omega (arith, c.loop-i-test.false, c.len-i-end.ensures.len))) (take_all i items (omega (arith, c.loop-i-test.false, c.len-i-end.ensures.len, c.requires.many))) in
+    let all : shown (take i cs) (take i items) ≡ shown cs items =
+    ap₂ shown (take_all i cs (omega (arith, c.loop-i-test.false, c.len-i-end.ensures.len)))
+    (take_all i items (omega (arith, c.loop-i-test.false, c.len-i-end.ensures.len, c.requires.many))) in
     let ports = shown (take i cs) (take i items) in
     c.put_summary.ensures.bytes ∙ ap₂ (λ l s. l ++ summary_line s) inv.bytes inv.said
     ∙ append_assoc start (flat_map told_line ports) (summary_line (summary_of (map (λ (p : PortOutage). p.outage) ports)))

@@ -12,9 +12,12 @@ pub look_both-requires-clause-few : goal.look_both-requires-clause-few
 look_both-requires-clause-few c =
     let i = c.loop-i.i in
     let x = c.index_mut.result.now in
-    let size : length c.circuits.result.now.circuits ≡ length c.args.ring.now.circuits.circuits = ap (λ (p : Provisioning). length p.circuits) c.circuits.ensures in
-    let lt : i < length c.loop-i.items.items = omega (arith, c.loop-i-test.true, c.len-i-end.ensures.len, size, c.loop-i.invariant.len, c.requires.many) in
-    let was : slice_get c.args.items.now.items i ≡ Some x = sym (c.loop-i.invariant.rest i (omega arith)) ∙ slice_get_read c.loop-i.items.items _ i x refl lt c.index_mut.ensures.value in
+    let size : length c.circuits.result.now.circuits ≡ length c.args.ring.now.circuits.circuits =
+    ap (λ (p : Provisioning). length p.circuits) c.circuits.ensures in
+    let lt : i < length c.loop-i.items.items =
+    omega (arith, c.loop-i-test.true, c.len-i-end.ensures.len, size, c.loop-i.invariant.len, c.requires.many) in
+    let was : slice_get c.args.items.now.items i ≡ Some x =
+    sym (c.loop-i.invariant.rest i (omega arith)) ∙ slice_get_read c.loop-i.items.items _ i x refl lt c.index_mut.ensures.value in
     let h = c.requires.few i x was in
     (omega (arith, h.0), omega (arith, h.1))
 
@@ -27,7 +30,8 @@ loop-i-preserved c =
     let inv = c.loop-i.invariant in
     let x = c.index_mut.result.now in
     let y = c.look_both.new.both in
-    let size : length c.circuits.result.now.circuits ≡ length r.circuits.circuits = ap (λ (p : Provisioning). length p.circuits) c.circuits.ensures in
+    let size : length c.circuits.result.now.circuits ≡ length r.circuits.circuits =
+    ap (λ (p : Provisioning). length p.circuits) c.circuits.ensures in
     let lt : i < length ws = omega (arith, c.loop-i-test.true, c.len-i-end.ensures.len, size, inv.len, c.requires.many) in
     let was : slice_get old i ≡ Some x = sym (inv.rest i (omega arith)) ∙ slice_get_read ws _ i x refl lt c.index_mut.ensures.value in
     record {
@@ -39,5 +43,8 @@ loop-i-preserved c =
 
 pub returns-clause-each : goal.returns-clause-each
 returns-clause-each c =
-    let size : length c.circuits.result.now.circuits ≡ length c.args.ring.now.circuits.circuits = ap (λ (p : Provisioning). length p.circuits) c.circuits.ensures in
-    λ i before after was at. c.loop-i.invariant.each i after (let h = slice_get_within c.loop-i.items.items i after at in omega (arith, h, size, c.loop-i-test.false, c.len-i-end.ensures.len, c.loop-i.invariant.len, c.requires.many)) at before was
+    let size : length c.circuits.result.now.circuits ≡ length c.args.ring.now.circuits.circuits =
+    ap (λ (p : Provisioning). length p.circuits) c.circuits.ensures in
+    λ i before after was at. c.loop-i.invariant.each i after
+    (let h = slice_get_within c.loop-i.items.items i after at in omega
+    (arith, h, size, c.loop-i-test.false, c.len-i-end.ensures.len, c.loop-i.invariant.len, c.requires.many)) at before was

@@ -8,5 +8,6 @@ use Rattle.sdh_outage_script.proofs.ports.new_listeners.Given as goal
 abbrev pub invariant-loop-i : goal.invariant-loop-i
 invariant-loop-i l = record {
   len : length l.items.items ≡ l.i;
-  each : (j : ℕ) (both : Both) → slice_get l.items.items j ≡ Some both → (c : Provisioned) → slice_get l.circuits.circuits j ≡ Some c → IsReady c 0 both;
+  each : (j : ℕ) (both : Both) → slice_get l.items.items j ≡ Some both → (c : Provisioned) → slice_get l.circuits.circuits j ≡ Some c
+      → IsReady c 0 both;
 }

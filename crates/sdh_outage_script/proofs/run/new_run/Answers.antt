@@ -13,7 +13,9 @@ use Rattle.sdh_outage_script.proofs.run.new_run.Goals as goal
 
 pub returns-clause-is_of : goal.returns-clause-is_of
 returns-clause-is_of c = record {
-  ring_is = c.in_ok-ring.ensures.ring ∙ (λ i. new_ring (c.settings-settings.ensures.settings i) (c.into_parts-map.ensures.ring i) (c.into_parts-map.ensures.circuits i));
+  ring_is =
+      c.in_ok-ring.ensures.ring ∙ (λ i. new_ring (c.settings-settings.ensures.settings i) (c.into_parts-map.ensures.ring i)
+      (c.into_parts-map.ensures.circuits i));
   limit_is = c.limit-limit.ensures.limit;
   steps_are = c.into_parts-map.ensures.steps;
 }
@@ -26,10 +28,13 @@ returns-clause-may c =
     let size = c.len-nodes.ensures.len ∙ ap length c.map.ensures in
     let circuits = ap (λ (r : HeldRing). r.circuits) is.ring_is in
     let rounds = ap (λ (r : HeldRing). r.rounds) is.ring_is in
-    let each = c.lines_room.ensures.room ∙ ap (λ (p : Provisioning). lines_room c.args.listing (length p.circuits)) (c.circuits.ensures ∙ sym circuits) in
+    let each =
+    c.lines_room.ensures.room ∙ ap (λ (p : Provisioning). lines_room c.args.listing (length p.circuits))
+    (c.circuits.ensures ∙ sym circuits) in
     let listing = subst (λ (p : Provisioning). MayList (length p.circuits) c.args.listing) (sym circuits) c.requires.listing in
     let ready = subst (λ n. AreReady c.in_ok-ring.ring.circuits.circuits n c.in_ok-items.items.items) (sym rounds)
-    (subst (λ (p : Provisioning). AreReady p.circuits 0 c.in_ok-items.items.items) (c.circuits-2.ensures ∙ sym circuits) c.in_ok-items.ensures) in
+    (subst (λ (p : Provisioning). AreReady p.circuits 0 c.in_ok-items.items.items)
+    (c.circuits-2.ensures ∙ sym circuits) c.in_ok-items.ensures) in
     may_begin _ outage_account c.args.plan _ is _ _ form adm_new rate size (λ f. (
       listing,
       record { ring_may = may_new 65536 c.args.plan c.in_ok-ring.ring _ _ _ f form is.ring_is rate size is.steps_are; ready = ready },

@@ -9,4 +9,5 @@ returns c =
     let trace = c.args.trace.now in
     let all = c.loop-i.invariant in
     ext_get_or 0 _ (padded trace) (all.enough ∙ sym (length-padded trace c.requires))
-    (λ k h. let place : k % 64 ≡ k = omega (arith, all.enough) in all.same k (omega (arith, all.enough)) ∙ ap (λ j. get_or (padded trace) j 0) place)
+    (λ k h. let place : k % 64 ≡ k = omega (arith, all.enough) in all.same k (omega (arith, all.enough))
+    ∙ ap (λ j. get_or (padded trace) j 0) place)

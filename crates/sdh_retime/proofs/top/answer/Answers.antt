@@ -15,7 +15,8 @@ returns-in-Ok-write_text-clause-outcome g c =
     let old = g.W.Sink.written c.args.sink.now in
     let new = g.W.Sink.written c.write_text.new.sink in
     let written = subst (λ (text : List ℕ). Appends old new text) c.bytes.ensures c.in-Ok-write_text.ensures.ok in
-    told_all (g.R.Source.left c.args.source.now) (λ (bytes : List ℕ). IsOutcome words bytes r.status r.text.bytes) (λ (bytes : List ℕ). Writes words bytes r.status old new)
+    told_all (g.R.Source.left c.args.source.now) (λ (bytes : List ℕ). IsOutcome words bytes r.status r.text.bytes)
+    (λ (bytes : List ℕ). Writes words bytes r.status old new)
     (λ bytes h. whole words bytes r.status r.text.bytes old new h written) c.in-Ok.ensures.outcome
 
 pub returns-clause-outcome : goal.returns-clause-outcome
@@ -25,7 +26,8 @@ returns-clause-outcome g c =
     let old = g.W.Sink.written c.args.sink.now in
     let new = g.W.Sink.written c.write_text.new.sink in
     let written = subst (λ (text : List ℕ). AppendsFewer old new text) c.bytes.ensures c.in-Err.ensures.front in
-    told_all (g.R.Source.left c.args.source.now) (λ (bytes : List ℕ). IsOutcome words bytes r.status r.text.bytes) (λ (bytes : List ℕ). Writes words bytes status.WriteFault old new)
+    told_all (g.R.Source.left c.args.source.now) (λ (bytes : List ℕ). IsOutcome words bytes r.status r.text.bytes)
+    (λ (bytes : List ℕ). Writes words bytes status.WriteFault old new)
     (λ bytes h. (r.status, r.text.bytes, h, written)) c.in-Ok.ensures.outcome
 
 pub returns-in_default-clause-came : goal.returns-in_default-clause-came

@@ -6,5 +6,6 @@ use Rattle.sdh_retime.proofs.top.retime.Goals as goal
 
 pub returns-clause-outcome : goal.returns-clause-outcome
 returns-clause-outcome g c =
-    told_all (g.R.Source.left c.args.source.now) (λ (bytes : List ℕ). Writes (words_of c.args.words.now) bytes c.answer.result (g.W.Sink.written c.args.sink.now) (g.W.Sink.written c.answer.new.sink)) _
+    told_all (g.R.Source.left c.args.source.now) (λ (bytes : List ℕ). Writes (words_of c.args.words.now) bytes c.answer.result
+    (g.W.Sink.written c.args.sink.now) (g.W.Sink.written c.answer.new.sink)) _
     (λ bytes h. record { status = c.answer.result; numbered = c.number.ensures; writes = h }) c.answer.ensures.outcome

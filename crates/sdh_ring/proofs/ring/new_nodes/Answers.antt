@@ -11,4 +11,5 @@ loop-i-init c = c.in_ok-nodes.ensures.items ∙ new_none c.args.settings c.args.
 pub loop-i-preserved : goal.loop-i-preserved
 loop-i-preserved c =
     let new = new_node c.args.settings c.args.map.now c.args.circuits.now.circuits (position_of c.loop-i.i) in
-    c.in_ok-push.ensures.items ∙ ap (λ x. c.loop-i.nodes.items ++ x ∷ []) c.in_ok-try_new.ensures ∙ ap (λ xs. xs ++ new ∷ []) c.loop-i.invariant ∙ sym (new_more _ _ _ c.loop-i.i)
+    c.in_ok-push.ensures.items ∙ ap (λ x. c.loop-i.nodes.items ++ x ∷ []) c.in_ok-try_new.ensures
+    ∙ ap (λ xs. xs ++ new ∷ []) c.loop-i.invariant ∙ sym (new_more _ _ _ c.loop-i.i)

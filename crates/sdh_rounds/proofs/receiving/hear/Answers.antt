@@ -7,4 +7,5 @@ pub returns-then-rounds-eq0-clause-ok : goal.returns-then-rounds-eq0-clause-ok
 returns-then-rounds-eq0-clause-ok g c =
     let f = g.P.Plant.fibres c.args.plant.now in
     let ns = c.args.nodes.now.items in
-    subst (λ k. FirstReceive g.S.Station.kind k f f ns ns) (sym (none_hears c.args.rounds (length ns) c.if-rounds-eq0.true)) (hears_none g.S.Station.kind f ns)
+    subst (λ k. FirstReceive g.S.Station.kind k f f ns ns) (sym (none_hears c.args.rounds (length ns) c.if-rounds-eq0.true))
+    (hears_none g.S.Station.kind f ns)

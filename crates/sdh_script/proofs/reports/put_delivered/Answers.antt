@@ -14,4 +14,5 @@ returns-clause-bytes c =
     ∙ ap (λ d. c.args.text.now.bytes ++ drop_lines d) (c.port.ensures ∙ sym (delivered_is c.args.ring.now c.args.port c.requires.inside))
 
 pub returns-clause-room : goal.returns-clause-room
-returns-clause-room c = omega (arith, c.requires.room, ap (λ (w : Written). w.room) c.drop_lines.ensures, short-drop_lines c.port.result.now)
+returns-clause-room c =
+    omega (arith, c.requires.room, ap (λ (w : Written). w.room) c.drop_lines.ensures, short-drop_lines c.port.result.now)

@@ -16,9 +16,11 @@ loop-i-preserved c =
     let named = c.get.result.now in
     let before = flat_map told_line (ports_from r 0 (take i cs)) in
     let lines = told_line (port_told r i named A) ++ told_line (port_told r i named B) in
-    let size : length c.circuits-circuits.result.now.circuits ≡ length cs = ap (λ (p : Provisioning). length p.circuits) c.circuits-circuits.ensures in
+    let size : length c.circuits-circuits.result.now.circuits ≡ length cs =
+    ap (λ (p : Provisioning). length p.circuits) c.circuits-circuits.ensures in
     let lt : i < length cs = omega (arith, c.loop-i-test.true, c.len-i-end.ensures.len, size) in
-    let get : slice_get cs i ≡ Some named = subst (λ (p : Provisioning). slice_get p.circuits i ≡ Some named) c.circuits-circuits.ensures c.get.ensures in
+    let get : slice_get cs i ≡ Some named =
+    subst (λ (p : Provisioning). slice_get p.circuits i ≡ Some named) c.circuits-circuits.ensures c.get.ensures in
     record {
       bytes = c.put_circuit.ensures.bytes
           ∙ ap (λ l. l ++ lines) c.loop-i.invariant.bytes

@@ -16,8 +16,10 @@ returns-clause-came g c =
     on_ok c.start.result _ _
     (λ run came. tells c.reports_are_owed.ensures c.scripts_settle.ensures c.healthy_scripts.ensures c.courses_are_told.ensures c.args.plan c.args.listing f left run.text.bytes run.status c.steps.ensures.form
     (λ (honest : f.honest ≡ true). record { honest = honest; tells_none = g.met.P.Plant.honest_tells_none c.args.plant.now honest })
-    (subst (λ l. Came adm_walk c.args.plan.limit (listed l) c.args.plan.steps (world_of c.args.plan f) f run.text.bytes run.status left) c.in_ok-run.ensures.listing
-    (came_of _ adm_account c.args.plan c.in_ok-run.run c.in_ok-run.ensures.is_of (listed c.in_ok-run.run.runner.listing) f left run.text.bytes run.status came)))
+    (subst (λ l. Came adm_walk c.args.plan.limit (listed l) c.args.plan.steps
+    (world_of c.args.plan f) f run.text.bytes run.status left) c.in_ok-run.ensures.listing
+    (came_of _ adm_account c.args.plan c.in_ok-run.run c.in_ok-run.ensures.is_of
+    (listed c.in_ok-run.run.runner.listing) f left run.text.bytes run.status came)))
     c.start.ensures.came
 
 pub returns-clause-complete : goal.returns-clause-complete
@@ -26,5 +28,6 @@ returns-clause-complete g c =
     let f = means c.args.plant.now in
     let left = means c.start.new.plant in
     on_two c.start.result (λ run. Tells c.args.plan c.args.listing f run.text.bytes run.status left) _ _
-    (λ run told failed may fine. done_of adm_account c.args.plan f left run.status told.reports told.came may (λ fault. fine (failed fault)))
+    (λ run told failed may fine. done_of adm_account c.args.plan f left run.status told.reports told.came may
+    (λ fault. fine (failed fault)))
     (returns-clause-came g c) c.start.ensures.failed

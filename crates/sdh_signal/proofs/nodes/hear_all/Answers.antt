@@ -17,7 +17,10 @@ loop-i-preserved c =
     let inv = c.loop-i.invariant in
     record {
       len = simp length-set (omega arith);
-      filters = place_more (λ p x. filters_with words n p x (get_or old p no_filters)) c.args.needs.now now i no_needs _ (omega arith) (omega arith)
-          (c.take.ensures ∙ ap (filters_with words n i (get_or c.args.needs.now i no_needs)) (sym (was_at now old i _ no_filters (omega arith) inv.rest c.index_mut.ensures.value))) inv.filters;
+      filters =
+          place_more (λ p x. filters_with words n p x (get_or old p no_filters)) c.args.needs.now now i no_needs _ (omega arith)
+          (omega arith)
+          (c.take.ensures ∙ ap (filters_with words n i (get_or c.args.needs.now i no_needs))
+          (sym (was_at now old i _ no_filters (omega arith) inv.rest c.index_mut.ensures.value))) inv.filters;
       rest = rest_more now old i c.take.new.self inv.rest;
     }

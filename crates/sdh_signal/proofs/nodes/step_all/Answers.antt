@@ -16,8 +16,10 @@ turn_at-stays-requires c =
     let i = c.loop-i.i in
     let filters = c.args.filters.now in
     let needs = c.args.needs.now in
-    may_step c.args.map.now i (get_or needs i no_needs) c.index-filters-i.result (omega arith) (All-get_or MayNeed needs i no_needs (omega arith) c.requires.may)
-    (heard_silent (get_or needs i no_needs) _ _ (was_at filters filters i _ no_filters (omega arith) refl c.index-filters-i.is) (c.requires.silent i (omega arith)))
+    may_step c.args.map.now i (get_or needs i no_needs) c.index-filters-i.result (omega arith)
+    (All-get_or MayNeed needs i no_needs (omega arith) c.requires.may)
+    (heard_silent (get_or needs i no_needs) _ _ (was_at filters filters i _ no_filters (omega arith) refl c.index-filters-i.is)
+    (c.requires.silent i (omega arith)))
 
 pub loop-i-preserved : goal.loop-i-preserved
 loop-i-preserved c =
@@ -31,17 +33,26 @@ loop-i-preserved c =
     let x = get_or needs i no_needs in
     let inv = c.loop-i.invariant in
     let filter = was_at filters filters i _ no_filters (omega arith) refl c.index-filters-i.is in
-    let state = was_at c.loop-i.states.items states i c.index_mut.result.now (Idle tt) (omega arith) inv.states_rest c.index_mut.ensures.value in
-    let words = was_at c.loop-i.sent.items sent i c.index_mut-in-loop-i.result.now (record { west = unsaid; east = unsaid }) (omega arith) inv.sent_rest c.index_mut-in-loop-i.ensures.value in
+    let state =
+    was_at c.loop-i.states.items states i c.index_mut.result.now (Idle tt) (omega arith) inv.states_rest c.index_mut.ensures.value in
+    let words =
+    was_at c.loop-i.sent.items sent i c.index_mut-in-loop-i.result.now (record { west = unsaid; east = unsaid })
+    (omega arith) inv.sent_rest c.index_mut-in-loop-i.ensures.value in
     record {
       states_len = simp length-set (omega arith);
       sent_len = simp length-set (omega arith);
       states = place_more (next_state map filters held states) needs c.loop-i.states.items i no_needs _ (omega arith) (omega arith)
-          (turned (get_or held i false) (λ f. state_after (scene_through map i x f)) _ _ _ _ _ state filter c.turn_at-stays.ensures.state) inv.states;
+          (turned (get_or held i false)
+          (λ f. state_after (scene_through map i x f)) _ _ _ _ _ state filter c.turn_at-stays.ensures.state) inv.states;
       sent = place_more (next_sent map filters held sent) needs c.loop-i.sent.items i no_needs _ (omega arith) (omega arith)
-          (turned (get_or held i false) (λ f. sent_after (scene_through map i x f)) _ _ _ _ _ words filter c.turn_at-stays.ensures.sent) inv.sent;
+          (turned (get_or held i false)
+          (λ f. sent_after (scene_through map i x f)) _ _ _ _ _ words filter c.turn_at-stays.ensures.sent) inv.sent;
       states_rest = rest_more c.loop-i.states.items states i c.turn_at-stays.new.state inv.states_rest;
       sent_rest = rest_more c.loop-i.sent.items sent i c.turn_at-stays.new.sent inv.sent_rest;
-      same_states = same_more c.loop-i.states.items states i _ c.turn_at-stays.new.state c.loop-i.all.states c.turn_at-stays.result.states (omega arith) (omega arith) inv.states_rest c.index_mut.ensures.value inv.same_states c.turn_at-stays.ensures.states;
-      same_words = same_more c.loop-i.sent.items sent i _ c.turn_at-stays.new.sent c.loop-i.all.words c.turn_at-stays.result.words (omega arith) (omega arith) inv.sent_rest c.index_mut-in-loop-i.ensures.value inv.same_words c.turn_at-stays.ensures.words;
+      same_states =
+          same_more c.loop-i.states.items states i _ c.turn_at-stays.new.state c.loop-i.all.states c.turn_at-stays.result.states
+          (omega arith) (omega arith) inv.states_rest c.index_mut.ensures.value inv.same_states c.turn_at-stays.ensures.states;
+      same_words =
+          same_more c.loop-i.sent.items sent i _ c.turn_at-stays.new.sent c.loop-i.all.words c.turn_at-stays.result.words (omega arith)
+          (omega arith) inv.sent_rest c.index_mut-in-loop-i.ensures.value inv.same_words c.turn_at-stays.ensures.words;
     }

@@ -8,9 +8,12 @@ pub returns-then-slot : goal.returns-then-slot
 unfolding use_of
 returns-then-slot c =
     c.use_by.ensures
-    ∙ sym (c.loop-i.invariant ∙ use_here c.args.at.0 c.args.slot c.loop-i.i c.args.circuits.now.circuits c.get-circuit.result.now c.get-circuit.ensures (ap (λ (s : Slot). s.0) (sym c.slot.ensures) ∙ c.if-slot.true))
+    ∙ sym (c.loop-i.invariant
+    ∙ use_here c.args.at.0 c.args.slot c.loop-i.i c.args.circuits.now.circuits c.get-circuit.result.now c.get-circuit.ensures
+    (ap (λ (s : Slot). s.0) (sym c.slot.ensures) ∙ c.if-slot.true))
 
 pub loop-i-preserved : goal.loop-i-preserved
 loop-i-preserved c =
     c.loop-i.invariant
-    ∙ use_later c.args.at.0 c.args.slot c.loop-i.i c.args.circuits.now.circuits c.get-circuit.result.now c.get-circuit.ensures (λ e. c.if-slot.false (ap (λ (s : Slot). s.0) c.slot.ensures ∙ e))
+    ∙ use_later c.args.at.0 c.args.slot c.loop-i.i c.args.circuits.now.circuits c.get-circuit.result.now c.get-circuit.ensures
+    (λ e. c.if-slot.false (ap (λ (s : Slot). s.0) c.slot.ensures ∙ e))

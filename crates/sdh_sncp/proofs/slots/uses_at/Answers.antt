@@ -12,4 +12,5 @@ pub loop-k-preserved : goal.loop-k-preserved
 loop-k-preserved c =
     let f : ℕ → Use = λ k. use_of c.args.circuits.now.circuits c.args.at.0 (k + 1) in
     let k = c.loop-k.k in
-    c.in_ok-push.ensures.items ∙ ap (λ us. us ++ c.use_of.result ∷ []) c.loop-k.invariant ∙ ap (λ x. cells f k ++ x ∷ []) c.use_of.ensures ∙ sym (cells-more f k)
+    c.in_ok-push.ensures.items ∙ ap (λ us. us ++ c.use_of.result ∷ []) c.loop-k.invariant ∙ ap (λ x. cells f k ++ x ∷ []) c.use_of.ensures
+    ∙ sym (cells-more f k)

@@ -5,4 +5,5 @@ use Rattle.sdh_sncp_cli.proofs.ending.put_no_such_step.Goals as goal
 
 pub returns : goal.returns
 returns c =
-    three_parts c.args.text.now c.put.new.self c.put_number.new.self c.put-2.new.self (codes "no such step ") (decimal c.args.step) (codes "\n") c.put.ensures (c.put_number.ensures ∙ ap (λ k. with_part c.put.new.self (decimal k)) c.from.ensures) c.put-2.ensures
+    three_parts c.args.text.now c.put.new.self c.put_number.new.self c.put-2.new.self (codes "no such step ") (decimal c.args.step)
+    (codes "\n") c.put.ensures (c.put_number.ensures ∙ ap (λ k. with_part c.put.new.self (decimal k)) c.from.ensures) c.put-2.ensures

@@ -22,9 +22,13 @@ returns-in-Ok-write_text-clause-outcome g c =
     let old = g.W.Sink.written c.args.sink.now in
     let new = g.W.Sink.written c.write_text.new.sink in
     let written = subst (λ (text : List ℕ). Appends old new text) c.bytes.ensures c.in-Ok-write_text.ensures.ok in
-    let may = λ (bytes : List ℕ) (how : Ending) (text : List ℕ). MayEnd words bytes (means c.args.plant.now) reads calls how text (means c.report_on.new.plant) in
-    told_all (told words (g.R.Source.left c.args.source.now)) _ (λ (bytes : List ℕ). WritesAs (telling_of r.ending) (may bytes) r.ending old new)
-    (λ bytes x. whole (may bytes) r.ending r.text.bytes old new c.in-Ok.ensures.own.1 (x, c.in-Ok.ensures.cause) written) c.in-Ok.ensures.outcome
+    let may =
+    λ (bytes : List ℕ) (how : Ending) (text : List ℕ). MayEnd words bytes (means c.args.plant.now) reads calls how text
+    (means c.report_on.new.plant) in
+    told_all (told words (g.R.Source.left c.args.source.now)) _
+    (λ (bytes : List ℕ). WritesAs (telling_of r.ending) (may bytes) r.ending old new)
+    (λ bytes x. whole (may bytes) r.ending r.text.bytes old new c.in-Ok.ensures.own.1
+    (x, c.in-Ok.ensures.cause) written) c.in-Ok.ensures.outcome
 
 pub returns-clause-outcome : goal.returns-clause-outcome
 returns-clause-outcome g c =
@@ -36,8 +40,11 @@ returns-clause-outcome g c =
     let old = g.W.Sink.written c.args.sink.now in
     let new = g.W.Sink.written c.write_text.new.sink in
     let fewer = subst (λ (text : List ℕ). AppendsFewer old new text) c.bytes.ensures c.in-Err.ensures.front in
-    let may = λ (bytes : List ℕ) (how : Ending) (text : List ℕ). MayEnd words bytes (means c.args.plant.now) reads calls how text (means c.report_on.new.plant) in
-    told_all (told words (g.R.Source.left c.args.source.now)) _ (λ (bytes : List ℕ). WritesAs (telling_of (ending.Shared status.WriteFault)) (may bytes) (ending.Shared status.WriteFault) old new)
+    let may =
+    λ (bytes : List ℕ) (how : Ending) (text : List ℕ). MayEnd words bytes (means c.args.plant.now) reads calls how text
+    (means c.report_on.new.plant) in
+    told_all (told words (g.R.Source.left c.args.source.now)) _
+    (λ (bytes : List ℕ). WritesAs (telling_of (ending.Shared status.WriteFault)) (may bytes) (ending.Shared status.WriteFault) old new)
     (λ bytes x. (r.ending, r.text.bytes, (x, c.in-Ok.ensures.cause), fewer)) c.in-Ok.ensures.outcome
 
 pub returns-in_default-clause-came : goal.returns-in_default-clause-came

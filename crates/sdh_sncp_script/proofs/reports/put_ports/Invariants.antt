@@ -7,6 +7,7 @@ use Rattle.sdh_sncp_script.proofs.reports.put_ports.Given as goal
 
 abbrev pub invariant-loop-i : goal.invariant-loop-i
 invariant-loop-i l = record {
-  bytes : l.text.bytes ≡ l.initial.text.bytes ++ flat_map told_line (lines_from (delivered_at l.ring) 0 (take l.i l.ring.circuits.circuits));
+  bytes : l.text.bytes ≡ l.initial.text.bytes ++ flat_map told_line
+      (lines_from (delivered_at l.ring) 0 (take l.i l.ring.circuits.circuits));
   room : l.initial.text.room ≤ l.text.room + 192 * l.i;
 }

@@ -20,7 +20,8 @@ pub returns-clause-complete : goal.returns-clause-complete
 returns-clause-complete g c may fine =
     let means = g.P.Plant.fibres in
     let told = returns-clause-came g c in
-    done_of path_account c.args.plan (means c.args.plant.now) (means c.start.new.plant) c.in_ok-run.run.status told.reports told.came may (λ fault. fine (c.in_ok-run.ensures.failed fault))
+    done_of path_account c.args.plan (means c.args.plant.now) (means c.start.new.plant) c.in_ok-run.run.status told.reports told.came may
+    (λ fault. fine (c.in_ok-run.ensures.failed fault))
 
 pub returns-in-Err-clause-same_slot : goal.returns-in-Err-clause-same_slot
 returns-in-Err-clause-same_slot g c first second e = c.new_run.ensures.same_slot first second (err_as _ _ _ c.in-Err.is e)

@@ -20,8 +20,12 @@ loop-k-preserved c =
     let read = c.index_mut-interp.ensures.value in
     let word = c.word_at-word.ensures in
     record {
-      read = step_more (λ k (i : Interpreter). after_step i (w (k + 1))) old now i x _ (omega arith) (omega arith) inv.rest read (c.step.ensures.next ∙ ap (after_step x) word) inv.read;
-      acts = made_more (λ k (i : Interpreter). action_on i.reading (w (k + 1))) old now c.loop-k.actions.items i x _ (omega arith) (omega arith) inv.rest read (c.step.ensures.action ∙ ap (action_on x.reading) word) inv.acts;
+      read =
+          step_more (λ k (i : Interpreter). after_step i (w (k + 1))) old now i x _ (omega arith) (omega arith) inv.rest read
+          (c.step.ensures.next ∙ ap (after_step x) word) inv.read;
+      acts =
+          made_more (λ k (i : Interpreter). action_on i.reading (w (k + 1))) old now c.loop-k.actions.items i x _ (omega arith)
+          (omega arith) inv.rest read (c.step.ensures.action ∙ ap (action_on x.reading) word) inv.acts;
       rest = rest_more now old i _ inv.rest;
       interps_len = search rules;
       actions_len = search rules;
@@ -31,7 +35,8 @@ pub returns-clause-readings : goal.returns-clause-readings
 unfolding after_frame
 returns-clause-readings c =
     let w = pointer_word_at (n_of c.args.frame.now.rate) c.args.frame.now.bytes in
-    ap readings_of (place_all _ _ _ c.loop-k.k (omega arith) (omega arith) c.loop-k.invariant.read) ∙ readings-stepped (λ k. w (k + 1)) c.args.interps.now.items
+    ap readings_of (place_all _ _ _ c.loop-k.k (omega arith) (omega arith) c.loop-k.invariant.read)
+    ∙ readings-stepped (λ k. w (k + 1)) c.args.interps.now.items
 
 pub returns-clause-actions : goal.returns-clause-actions
 unfolding actions_in

@@ -23,8 +23,11 @@ returns-clause-payload g c = λ own.
     let r : Input = received x side au in
     let f = form_sent s r.action r.value in
     let w = word_sent s r.action r.value in
-    let rate : n ≡ n_of (line_on x side).intake.frame.rate = ap n_of (sym c.intake.ensures.rate ∙ ap (λ (i : Intake). i.frame.rate) c.intake.ensures.intake) in
-    let there : au_of n au (bytes_on side west east) ≡ r.au = ap (au_of n au) (bytes_there x side) ∙ ap (λ m. au_of m au (line_on x side).intake.frame.bytes) rate in
+    let rate : n ≡ n_of (line_on x side).intake.frame.rate =
+    ap n_of (sym c.intake.ensures.rate ∙ ap (λ (i : Intake). i.frame.rate) c.intake.ensures.intake) in
+    let there : au_of n au (bytes_on side west east) ≡ r.au =
+    ap (au_of n au) (bytes_there x side) ∙ ap (λ m. au_of m au (line_on x side).intake.frame.bytes) rate in
     c.source_for.ensures.payload n w f west east own
-    ∙ ap (λ a. (au_for a f w (au_of n au (bytes_on side west east))).payload) (c.action-action.ensures ∙ ap (λ (i : Intake). slice_index_or i.actions (au - 1) Ais) c.intake.ensures.intake)
+    ∙ ap (λ a. (au_for a f w (au_of n au (bytes_on side west east))).payload)
+    (c.action-action.ensures ∙ ap (λ (i : Intake). slice_index_or i.actions (au - 1) Ais) c.intake.ensures.intake)
     ∙ ap (λ (z : Au). (au_for r.action f w z).payload) there

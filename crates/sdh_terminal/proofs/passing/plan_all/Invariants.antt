@@ -14,7 +14,8 @@ invariant-loop-k g l =
     let input = all_fed_by lines (added_last l.ports) (g.X.Matrix.leads l.cross l.side) in
     let old = l.initial.generators.items in
     record {
-      sent : take l.k l.generators.items ≡ map_from (λ k (g : Generator). after_action g (input (k + 1)).action (input (k + 1)).value) 0 (take l.k old);
+      sent : take l.k l.generators.items ≡ map_from (λ k (g : Generator). after_action g (input (k + 1)).action (input (k + 1)).value) 0
+          (take l.k old);
       rest : drop l.k l.generators.items ≡ drop l.k old;
       planned : ArePlanned lines l.own input (states_of old) l.sources l.pointers l.k;
       len : length l.generators.items ≡ length old;

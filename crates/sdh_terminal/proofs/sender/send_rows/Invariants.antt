@@ -11,6 +11,8 @@ invariant-loop-row l =
       some : 1 ≤ l.row;
       west_rate : l.west_out.rate ≡ l.fn.west_out.rate;
       east_rate : l.east_out.rate ≡ l.fn.east_out.rate;
-      west : BuiltTo l.fn.west_section l.west.k1 l.west.k2 (put_together n l.first.bytes l.second.bytes l.west.own l.west.choice.sources l.west.pointers.now l.fn.west_out.bytes) l.fn.west_out.bytes l.row l.west_section l.west_out.bytes;
-      east : BuiltTo l.fn.east_section l.east.k1 l.east.k2 (put_together m l.first.bytes l.second.bytes l.east.own l.east.choice.sources l.east.pointers.now l.fn.east_out.bytes) l.fn.east_out.bytes l.row l.east_section l.east_out.bytes;
+      west : BuiltTo l.fn.west_section l.west.k1 l.west.k2
+          (put_together n l.first.bytes l.second.bytes l.west.own l.west.choice.sources l.west.pointers.now l.fn.west_out.bytes) l.fn.west_out.bytes l.row l.west_section l.west_out.bytes;
+      east : BuiltTo l.fn.east_section l.east.k1 l.east.k2
+          (put_together m l.first.bytes l.second.bytes l.east.own l.east.choice.sources l.east.pointers.now l.fn.east_out.bytes) l.fn.east_out.bytes l.row l.east_section l.east_out.bytes;
     }

@@ -15,4 +15,5 @@ loop-k-preserved c =
     let f : ℕ → Option ℕ = λ k. position (is_port (port_numbered k)) ports in
     let k = c.loop-k.k in
     let item : c.place_of.result ≡ f k = c.place_of.ensures.place ∙ ap (λ id. position (is_port id) ports) c.port_numbered.ensures in
-    c.in_ok-push.ensures.items ∙ ap (λ ps. ps ++ c.place_of.result ∷ []) c.loop-k.invariant ∙ ap (λ x. cells f k ++ x ∷ []) item ∙ sym (cells-more f k)
+    c.in_ok-push.ensures.items ∙ ap (λ ps. ps ++ c.place_of.result ∷ []) c.loop-k.invariant ∙ ap (λ x. cells f k ++ x ∷ []) item
+    ∙ sym (cells-more f k)

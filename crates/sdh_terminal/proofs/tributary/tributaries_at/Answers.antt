@@ -16,4 +16,6 @@ unfolding tributaries_at
 returns-clause-ports c = c.loop-i.invariant ∙ ap (ends_from c.args.at 0) (take_all c.loop-i.i c.args.circuits.now.circuits (omega arith))
 
 pub returns-clause-slots : goal.returns-clause-slots
-returns-clause-slots c = subst (All (IsTributary c.args.circuits.now.slots 0)) (sym (returns-clause-ports c)) (tributaries_are c.args.at c.args.circuits.now c.len-i-end.ensures.form)
+returns-clause-slots c =
+    subst (All (IsTributary c.args.circuits.now.slots 0)) (sym (returns-clause-ports c))
+    (tributaries_are c.args.at c.args.circuits.now c.len-i-end.ensures.form)

@@ -7,6 +7,7 @@ use Rattle.sdh_verdicts.proofs.judging.count.Given as goal
 
 abbrev pub invariant-loop-i : goal.invariant-loop-i
 invariant-loop-i l = record {
-  before : (j : ℕ) → j ≤ l.i → slice_index l.before j ≡ counted (λ k. is_applied (map code_number l.fn.requests) (k % length l.fn.requests)) j;
+  before : (j : ℕ) → j ≤ l.i → slice_index l.before j ≡ counted
+      (λ k. is_applied (map code_number l.fn.requests) (k % length l.fn.requests)) j;
   long : length l.before ≡ 33;
 }

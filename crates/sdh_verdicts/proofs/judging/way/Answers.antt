@@ -10,5 +10,8 @@ returns-in-Kept c = λ p are. (
     let n = length c.args.map.now in
     let k = c.args.circuit.now in
     let q = is_among (take c.args.applied.now.many c.args.applied.now.spans) in
-    let way : c.hops.result ≡ hops n q (arc_of n k) = c.hops.ensures ∙ ap (λ x. hops n q (arc_between n x.0 c.to.result.0)) c.from.ensures ∙ ap (λ x. hops n q (arc_between n k.from.0 x.0)) c.to.ensures in
-    hops_are n p k c.judge.result c.hops.result c.in-Kept.is (c.judge.ensures p are) (way ∙ hops_same n q p (arc_of n k) are.some are.among))
+    let way : c.hops.result ≡ hops n q (arc_of n k) =
+    c.hops.ensures ∙ ap (λ x. hops n q (arc_between n x.0 c.to.result.0)) c.from.ensures
+    ∙ ap (λ x. hops n q (arc_between n k.from.0 x.0)) c.to.ensures in
+    hops_are n p k c.judge.result c.hops.result c.in-Kept.is (c.judge.ensures p are)
+    (way ∙ hops_same n q p (arc_of n k) are.some are.among))

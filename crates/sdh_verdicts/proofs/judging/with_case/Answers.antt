@@ -15,4 +15,5 @@ loop-failure-preserved c =
     let d = c.args.place.side in
     let i = c.loop-failure.failure-index in
     let some = Degraded (record { 0 = 0 }) West in
-    c.with_failure-rest.ensures ∙ ap (rests t n p d (steps_of n t (get_or c.args.case.now i some))) c.loop-failure.invariant ∙ sym (case_next t n p d c.args.case.now i some (resting_of c.args.from) c.loop-failure-test.true)
+    c.with_failure-rest.ensures ∙ ap (rests t n p d (steps_of n t (get_or c.args.case.now i some))) c.loop-failure.invariant
+    ∙ sym (case_next t n p d c.args.case.now i some (resting_of c.args.from) c.loop-failure-test.true)

@@ -16,6 +16,8 @@ loop-i-preserved c =
     let steps = steps_of n t c.args.failure in
     let from = resting_of c.args.from in
     elim c.match-step_of.branch [
-      | in-Some w ↦ ap (λ x. resting_of x) w.rest-is ∙ w.rest_after-rest.ensures ∙ ap (rest_after t n p d w.in-Some.step) c.loop-i.invariant ∙ sym (rests_some t n p d steps c.loop-i.i w.in-Some.step from (sym c.step_of.ensures ∙ w.in-Some.is))
-      | in_default w ↦ ap (λ x. resting_of x) w.rest-is ∙ c.loop-i.invariant ∙ sym (rests_none t n p d steps c.loop-i.i Settle from (sym c.step_of.ensures ∙ w.in_default.is))
+      | in-Some w ↦ ap (λ x. resting_of x) w.rest-is ∙ w.rest_after-rest.ensures ∙ ap (rest_after t n p d w.in-Some.step) c.loop-i.invariant
+          ∙ sym (rests_some t n p d steps c.loop-i.i w.in-Some.step from (sym c.step_of.ensures ∙ w.in-Some.is))
+      | in_default w ↦ ap (λ x. resting_of x) w.rest-is ∙ c.loop-i.invariant
+          ∙ sym (rests_none t n p d steps c.loop-i.i Settle from (sym c.step_of.ensures ∙ w.in_default.is))
     ]

@@ -10,7 +10,11 @@ pub returns : goal.returns
 returns c = λ case circuit are is. (
     let plan = c.args.plan.now in
     let p = is_applied (requests_with plan case) in
-    let here : AreApplied (length c.map.result.now) p c.args.applied.now = subst (λ (l : List ℕ). AreApplied (length l) p c.args.applied.now) (sym c.map.ensures) are in
-    let got : slice_get plan.circuits c.args.number ≡ Some c.get.result.now = subst (λ (v : Provisioning). slice_get v.circuits c.args.number ≡ Some c.get.result.now) c.circuits-circuits.ensures c.get.ensures in
+    let here : AreApplied (length c.map.result.now) p c.args.applied.now =
+    subst (λ (l : List ℕ). AreApplied (length l) p c.args.applied.now) (sym c.map.ensures) are in
+    let got : slice_get plan.circuits c.args.number ≡ Some c.get.result.now =
+    subst (λ (v : Provisioning). slice_get v.circuits c.args.number
+    ≡ Some c.get.result.now) c.circuits-circuits.ensures c.get.ensures in
     let one : c.get.result.now ≡ circuit = some_same c.get.result.now circuit (sym got ∙ is) in
-    c.judge.ensures p here ∙ ap (λ (l : List ℕ). verdict_under (length l) p c.get.result.now) c.map.ensures ∙ ap (verdict_under (length plan.nodes) p) one)
+    c.judge.ensures p here ∙ ap (λ (l : List ℕ). verdict_under (length l) p c.get.result.now) c.map.ensures
+    ∙ ap (verdict_under (length plan.nodes) p) one)

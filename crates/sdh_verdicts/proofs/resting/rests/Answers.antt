@@ -12,5 +12,7 @@ loop-step-preserved c =
     let n = length c.args.map.now in
     let i = c.loop-step.step-index in
     let steps = c.args.steps.now in
-    let next = rests_next c.args.threshold n c.args.place.at.0 c.args.place.side steps i (Fibre (record { at = record { 0 = 0 }; side = West; condition = Clear })) (resting_of c.args.from) c.loop-step-test.true in
+    let next =
+    rests_next c.args.threshold n c.args.place.at.0 c.args.place.side steps i
+    (Fibre (record { at = record { 0 = 0 }; side = West; condition = Clear })) (resting_of c.args.from) c.loop-step-test.true in
     c.rest_after-rest.ensures ∙ ap (rest_after c.args.threshold n c.args.place.at.0 c.args.place.side _) c.loop-step.invariant ∙ sym next

@@ -18,8 +18,11 @@ loop-i-preserved c =
     record {
       len = simp length-set (omega arith);
       new = set_upto (λ j both. (x : Provisioned) → slice_get cs j ≡ Some x → IsWatching x j (λ port. []) both) ws i made lt
-          (λ x there. subst (λ y. IsWatching y i (λ port. []) made) (same_Some _ _ (sym c.get.ensures ∙ there)) (c.both_for.ensures.new i)) inv.new;
-      few = set_upto (λ j both. (both.a.chunks ≤ 0) × (both.b.chunks ≤ 0)) ws i made lt (let h = c.both_for.ensures.few in (omega (arith, h.0), omega (arith, h.1))) inv.few;
+          (λ x there. subst (λ y. IsWatching y i (λ port. []) made) (same_Some _ _ (sym c.get.ensures ∙ there))
+          (c.both_for.ensures.new i)) inv.new;
+      few =
+          set_upto (λ j both. (both.a.chunks ≤ 0) × (both.b.chunks ≤ 0)) ws i made lt
+          (let h = c.both_for.ensures.few in (omega (arith, h.0), omega (arith, h.1))) inv.few;
     }
 
 pub returns-clause-new : goal.returns-clause-new
@@ -31,4 +34,5 @@ returns-clause-new c =
     }
 
 pub returns-clause-few : goal.returns-clause-few
-returns-clause-few c = λ j both at. c.loop-i.invariant.few j both (let h = slice_get_within c.loop-i.watches.items j both at in omega arith) at
+returns-clause-few c =
+    λ j both at. c.loop-i.invariant.few j both (let h = slice_get_within c.loop-i.watches.items j both at in omega arith) at

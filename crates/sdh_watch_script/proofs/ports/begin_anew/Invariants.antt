@@ -8,6 +8,7 @@ use Rattle.sdh_watch_script.proofs.ports.begin_anew.Given as goal
 abbrev pub invariant-loop-i : goal.invariant-loop-i
 invariant-loop-i l = record {
   len : length l.watches.items ≡ length l.circuits.circuits;
-  new : (j : ℕ) (both : Both) → j < l.i → slice_get l.watches.items j ≡ Some both → (c : Provisioned) → slice_get l.circuits.circuits j ≡ Some c → IsWatching c j (λ port. []) both;
+  new : (j : ℕ) (both : Both) → j < l.i → slice_get l.watches.items j ≡ Some both → (c : Provisioned)
+      → slice_get l.circuits.circuits j ≡ Some c → IsWatching c j (λ port. []) both;
   few : (j : ℕ) (both : Both) → j < l.i → slice_get l.watches.items j ≡ Some both → (both.a.chunks ≤ 0) × (both.b.chunks ≤ 0);
 }

@@ -11,7 +11,12 @@ use Rattle.sdh_watch_script.proofs.ports.put_watch.Goals as goal
 pub watch_line-requires : goal.watch_line-requires
 watch_line-requires c =
     let r = c.report-report.result in
-    omega (arith, c.requires.room, short-watch_line c.name.result.now c.args.end c.port.result.now r c.name.ensures.short (omega arith) (omega arith) (omega arith))
+    omega (
+      arith,
+      c.requires.room,
+      short-watch_line c.name.result.now c.args.end c.port.result.now r c.name.ensures.short (omega arith)
+          (omega arith) (omega arith),
+    )
 
 pub returns-clause-bytes : goal.returns-clause-bytes
 returns-clause-bytes c = λ heard came. (
@@ -25,5 +30,6 @@ returns-clause-bytes c = λ heard came. (
 pub returns-clause-room : goal.returns-clause-room
 returns-clause-room c =
     let r = c.report-report.result in
-    let short = short-watch_line c.name.result.now c.args.end c.port.result.now r c.name.ensures.short (omega arith) (omega arith) (omega arith) in
+    let short =
+    short-watch_line c.name.result.now c.args.end c.port.result.now r c.name.ensures.short (omega arith) (omega arith) (omega arith) in
     omega (arith, c.requires.room, ap (λ (w : Written). w.room) c.watch_line.ensures, short)

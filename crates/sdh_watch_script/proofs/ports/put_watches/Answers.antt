@@ -15,11 +15,14 @@ loop-i-preserved c =
     let cs = r.circuits.circuits in
     let i = c.loop-i.i in
     let named = c.get.result.now in
-    let size : length c.circuits-circuits.result.now.circuits ≡ length cs = ap (λ (p : Provisioning). length p.circuits) c.circuits-circuits.ensures in
+    let size : length c.circuits-circuits.result.now.circuits ≡ length cs =
+    ap (λ (p : Provisioning). length p.circuits) c.circuits-circuits.ensures in
     let lt : i < length cs = omega (arith, c.loop-i-test.true, c.len-i-end.ensures.len, size) in
-    let get : slice_get cs i ≡ Some named = subst (λ (p : Provisioning). slice_get p.circuits i ≡ Some named) c.circuits-circuits.ensures c.get.ensures in
+    let get : slice_get cs i ≡ Some named =
+    subst (λ (p : Provisioning). slice_get p.circuits i ≡ Some named) c.circuits-circuits.ensures c.get.ensures in
     let both = c.index.result.now in
-    let at : slice_get c.args.watches.now.items i ≡ Some both = slice_get_read c.args.watches.now.items _ i both refl (omega (arith, lt, c.requires.many)) c.index.ensures in
+    let at : slice_get c.args.watches.now.items i ≡ Some both =
+    slice_get_read c.args.watches.now.items _ i both refl (omega (arith, lt, c.requires.many)) c.index.ensures in
     record {
       bytes = λ heard are. (
           let before = flat_map told_line (ports_watched r heard 0 (take i cs)) in

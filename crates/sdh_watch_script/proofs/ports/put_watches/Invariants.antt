@@ -9,6 +9,7 @@ use Rattle.sdh_watch_script.proofs.ports.put_watches.Given as goal
 
 abbrev pub invariant-loop-i : goal.invariant-loop-i
 invariant-loop-i l = record {
-  bytes : (heard : PortId → List Given) → AreWatching l.ring.circuits.circuits heard l.watches.items → l.text.bytes ≡ l.initial.text.bytes ++ flat_map told_line (ports_watched l.ring heard 0 (take l.i l.ring.circuits.circuits));
+  bytes : (heard : PortId → List Given) → AreWatching l.ring.circuits.circuits heard l.watches.items
+      → l.text.bytes ≡ l.initial.text.bytes ++ flat_map told_line (ports_watched l.ring heard 0 (take l.i l.ring.circuits.circuits));
   room : l.initial.text.room ≤ l.text.room + 192 * l.i;
 }

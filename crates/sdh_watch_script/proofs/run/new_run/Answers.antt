@@ -12,7 +12,9 @@ use Rattle.sdh_watch_script.proofs.run.new_run.Goals as goal
 
 pub returns-clause-is_of : goal.returns-clause-is_of
 returns-clause-is_of c = record {
-  ring_is = c.in_ok-ring.ensures.ring ∙ (λ i. new_ring (c.settings-settings.ensures.settings i) (c.into_parts-map.ensures.ring i) (c.into_parts-map.ensures.circuits i));
+  ring_is =
+      c.in_ok-ring.ensures.ring ∙ (λ i. new_ring (c.settings-settings.ensures.settings i) (c.into_parts-map.ensures.ring i)
+      (c.into_parts-map.ensures.circuits i));
   limit_is = c.limit-limit.ensures.limit;
   steps_are = c.into_parts-map.ensures.steps;
 }
@@ -26,5 +28,6 @@ returns-clause-may c =
     let circuits = ap (λ (r : HeldRing). r.circuits) is.ring_is in
     let each = c.lines_room.ensures.room ∙ ap (λ (p : Provisioning). lines_room (length p.circuits)) (c.circuits.ensures ∙ sym circuits) in
     let many = c.in_ok-watches.ensures ∙ ap (λ (p : Provisioning). length p.circuits) (c.circuits-2.ensures ∙ sym circuits) in
-    may_begin _ watch_account c.args.plan _ is _ _ form adm_new rate size (λ f. record { ring_may = may_new 65664 c.args.plan c.in_ok-ring.ring _ _ _ f form is.ring_is rate size is.steps_are; many = many })
+    may_begin _ watch_account c.args.plan _ is _ _ form adm_new rate size
+    (λ f. record { ring_may = may_new 65664 c.args.plan c.in_ok-ring.ring _ _ _ f form is.ring_is rate size is.steps_are; many = many })
     (subst (λ k. HasRoom k 0 c.in_ok-text.text.room) each c.in_ok-text.ensures.room) c.in_ok-text.ensures.empty

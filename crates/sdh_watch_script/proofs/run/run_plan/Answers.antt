@@ -23,5 +23,6 @@ returns-clause-complete g c =
     let f = means c.args.plant.now in
     let left = means c.start.new.plant in
     on_two c.start.result (λ run. Tells c.args.plan f run.text.bytes run.status left) _ _
-    (λ run told failed may fine. done_of watch_account c.args.plan f left run.status told.reports told.came may (λ fault. fine (failed fault)))
+    (λ run told failed may fine. done_of watch_account c.args.plan f left run.status told.reports told.came may
+    (λ fault. fine (failed fault)))
     (returns-clause-came g c) c.start.ensures.failed

@@ -9,5 +9,6 @@ use Rattle.sdh_whatif.proofs.counting.count_of.Given as goal
 abbrev pub invariant-loop-i : goal.invariant-loop-i
 invariant-loop-i l = record {
   low : l.count ≤ l.i;
-  counts : (case : List Failure) → AreApplied (length l.fn.plan.nodes) (is_applied (requests_with l.fn.plan case)) l.fn.applied → l.count ≡ count_by (λ c. same_verdict l.fn.verdict (verdict_of l.fn.plan case c)) (take l.i l.fn.plan.circuits);
+  counts : (case : List Failure) → AreApplied (length l.fn.plan.nodes) (is_applied (requests_with l.fn.plan case)) l.fn.applied
+      → l.count ≡ count_by (λ c. same_verdict l.fn.verdict (verdict_of l.fn.plan case c)) (take l.i l.fn.plan.circuits);
 }

@@ -10,7 +10,8 @@ pub loop-i-preserved : goal.loop-i-preserved
 loop-i-preserved c = λ case are. (
     let plan = c.args.plan.now in
     let i = c.loop-i.i in
-    let size : c.len-i-end.result ≡ length plan.circuits = c.len-i-end.ensures.len ∙ ap (λ (x : Provisioning). length x.circuits) c.circuits.ensures in
+    let size : c.len-i-end.result ≡ length plan.circuits =
+    c.len-i-end.ensures.len ∙ ap (λ (x : Provisioning). length x.circuits) c.circuits.ensures in
     let low : i < length plan.circuits = omega (arith, size, c.loop-i-test.true) in
     let here = there plan.circuits i low in
     highest_step (hops_of plan case) plan.circuits i here.0 c.told_hops.result c.loop-i.longest c.max-longest.result low

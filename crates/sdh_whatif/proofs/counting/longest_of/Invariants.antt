@@ -6,4 +6,5 @@ use Rattle.sdh_whatif.proofs.counting.longest_of.Given as goal
 
 abbrev pub invariant-loop-i : goal.invariant-loop-i
 invariant-loop-i l =
-    (case : List Failure) → AreApplied (length l.fn.plan.nodes) (is_applied (requests_with l.fn.plan case)) l.fn.applied → l.longest ≡ highest (map (hops_of l.fn.plan case) (take l.i l.fn.plan.circuits))
+    (case : List Failure) → AreApplied (length l.fn.plan.nodes) (is_applied (requests_with l.fn.plan case)) l.fn.applied
+    → l.longest ≡ highest (map (hops_of l.fn.plan case) (take l.i l.fn.plan.circuits))

@@ -31,12 +31,16 @@ returns c =
     let plan = c.args.plan.now in
     let case = c.args.case.now in
     let are = c.applied-applied.ensures plan c.requires.sides in
-    let steps : steps_text c.map.result.now (case_steps (length c.map.result.now) c.settings.result.threshold case) ≡ steps_text plan.nodes (case_steps (length plan.nodes) plan.settings.threshold case) =
+    let steps : steps_text c.map.result.now (case_steps (length c.map.result.now) c.settings.result.threshold case)
+    ≡ steps_text plan.nodes (case_steps (length plan.nodes) plan.settings.threshold case) =
     ap (λ (l : List ℕ). steps_text l (case_steps (length l) c.settings.result.threshold case)) c.map.ensures
     ∙ ap (λ (s : Settings). steps_text plan.nodes (case_steps (length plan.nodes) s.threshold case)) c.settings.ensures.settings in
-    all_joined (steps_text plan.nodes (case_steps (length plan.nodes) plan.settings.threshold case)) (codes "settle") (number_text (count_of plan case Kept)) (number_text (count_of plan case Over)) (number_text (count_of plan case Lost)) (number_text (longest_of plan case))
+    all_joined (steps_text plan.nodes (case_steps (length plan.nodes) plan.settings.threshold case)) (codes "settle")
+    (number_text (count_of plan case Kept)) (number_text (count_of plan case Over)) (number_text (count_of plan case Lost))
+    (number_text (longest_of plan case))
     (flat_map (lost_text plan case) plan.circuits) (codes "\n")
-    (c.put_case.ensures.text ∙ ap (λ l. l ++ steps_text c.map.result.now (case_steps (length c.map.result.now) c.settings.result.threshold case)) c.requires.empty ∙ steps)
+    (c.put_case.ensures.text ∙ ap (λ l. l ++ steps_text c.map.result.now
+    (case_steps (length c.map.result.now) c.settings.result.threshold case)) c.requires.empty ∙ steps)
     c.put.ensures
     (c.put_count.ensures.text ∙ ap (λ k. c.put.new.self ++ number_text k) (c.count_of.ensures case are))
     (c.put_count-2.ensures.text ∙ ap (λ k. c.put_count.new.line ++ number_text k) (c.count_of-2.ensures case are))

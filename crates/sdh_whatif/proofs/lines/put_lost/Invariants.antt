@@ -9,5 +9,6 @@ use Rattle.sdh_whatif.proofs.lines.put_lost.Given as goal
 abbrev pub invariant-loop-i : goal.invariant-loop-i
 invariant-loop-i l = record {
   short : length l.line ≤ length l.fn.line + 17 * l.i;
-  text : (case : List Failure) → AreApplied (length l.fn.plan.nodes) (is_applied (requests_with l.fn.plan case)) l.fn.applied → l.line ≡ l.fn.line ++ flat_map (lost_text l.fn.plan case) (take l.i l.fn.plan.circuits);
+  text : (case : List Failure) → AreApplied (length l.fn.plan.nodes) (is_applied (requests_with l.fn.plan case)) l.fn.applied
+      → l.line ≡ l.fn.line ++ flat_map (lost_text l.fn.plan case) (take l.i l.fn.plan.circuits);
 }

@@ -24,8 +24,11 @@ returns-clause-is c =
     let number = c.args.number in
     let t = c.args.tally in
     let size : c.len.result ≡ length plan.nodes = c.len.ensures.len ∙ ap (λ (l : List ℕ). length l) c.map.ensures in
-    let failure : c.failure_at-failure.result ≡ failure_at (length plan.nodes) number = c.failure_at-failure.ensures.is ∙ ap (λ n. failure_at n number) size in
+    let failure : c.failure_at-failure.result ≡ failure_at (length plan.nodes) number =
+    c.failure_at-failure.ensures.is ∙ ap (λ n. failure_at n number) size in
     let lost : c.count_of.result ≡ lost_by plan number =
-    c.count_of.ensures (c.failure_at-failure.result ∷ []) (c.applied-applied.ensures plan c.requires.sides) ∙ ap (λ (f : Failure). count_of plan (f ∷ []) Lost) failure in
-    let told : mends plan (failure_at (length plan.nodes) number) ≡ false = ap (mends plan) (sym failure) ∙ sym (c.mends.ensures plan c.requires.sides) ∙ c.if-mends.false in
+    c.count_of.ensures (c.failure_at-failure.result ∷ []) (c.applied-applied.ensures plan c.requires.sides)
+    ∙ ap (λ (f : Failure). count_of plan (f ∷ []) Lost) failure in
+    let told : mends plan (failure_at (length plan.nodes) number) ≡ false =
+    ap (mends plan) (sym failure) ∙ sym (c.mends.ensures plan c.requires.sides) ∙ c.if-mends.false in
     c.with_case.ensures ∙ ap (λ k. with_case k t) lost ∙ ap (λ b. if b then t else with_case (lost_by plan number) t) (sym told)

@@ -6,4 +6,5 @@ use Rattle.sdh_whatif.proofs.table.write_cases.Given as goal
 
 abbrev pub invariant-loop-number : goal.invariant-loop-number
 invariant-loop-number g l =
-    Wrote {T = Unit {0}} {E = WriteFault} g.W.Sink.exact (g.W.Sink.written l.initial.sink) (g.W.Sink.written l.sink) (g.W.Sink.faults l.initial.sink) (g.W.Sink.faults l.sink) (lines_below l.fn.plan l.fn.ask l.number) (Ok tt)
+    Wrote {T = Unit {0}} {E = WriteFault} g.W.Sink.exact (g.W.Sink.written l.initial.sink) (g.W.Sink.written l.sink)
+    (g.W.Sink.faults l.initial.sink) (g.W.Sink.faults l.sink) (lines_below l.fn.plan l.fn.ask l.number) (Ok tt)

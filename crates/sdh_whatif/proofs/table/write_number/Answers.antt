@@ -15,8 +15,11 @@ returns-then-are_told g c =
     let k = c.args.number in
     let n = length plan.nodes in
     let size : c.len-n.result ≡ n = c.len-n.ensures.len ∙ ap (λ (l : List ℕ). length l) c.map.ensures in
-    let told : are_told plan (first n k) (second n k) (third n k) ≡ true = ap (λ m. are_told plan (first m k) (second m k) (third m k)) (sym size) ∙ sym (c.are_told.ensures plan c.requires.sides) ∙ c.if-are_told.true in
-    as_text _ _ _ _ _ _ _ _ (ap (λ m. line_text plan (failures_of n (first m k) (second m k) (third m k))) size ∙ ap (λ b. if b then line_text plan (failures_of n (first n k) (second n k) (third n k)) else []) (sym told)) c.write_told.ensures
+    let told : are_told plan (first n k) (second n k) (third n k) ≡ true =
+    ap (λ m. are_told plan (first m k) (second m k) (third m k)) (sym size) ∙ sym (c.are_told.ensures plan c.requires.sides)
+    ∙ c.if-are_told.true in
+    as_text _ _ _ _ _ _ _ _ (ap (λ m. line_text plan (failures_of n (first m k) (second m k) (third m k))) size
+    ∙ ap (λ b. if b then line_text plan (failures_of n (first n k) (second n k) (third n k)) else []) (sym told)) c.write_told.ensures
 
 pub returns-else-are_told : goal.returns-else-are_told
 returns-else-are_told g c =
@@ -24,5 +27,8 @@ returns-else-are_told g c =
     let k = c.args.number in
     let n = length plan.nodes in
     let size : c.len-n.result ≡ n = c.len-n.ensures.len ∙ ap (λ (l : List ℕ). length l) c.map.ensures in
-    let told : are_told plan (first n k) (second n k) (third n k) ≡ false = ap (λ m. are_told plan (first m k) (second m k) (third m k)) (sym size) ∙ sym (c.are_told.ensures plan c.requires.sides) ∙ c.if-are_told.false in
-    as_text _ _ _ _ _ _ _ _ (ap (λ b. if b then line_text plan (failures_of n (first n k) (second n k) (third n k)) else []) (sym told)) (nothing _ _ _ _)
+    let told : are_told plan (first n k) (second n k) (third n k) ≡ false =
+    ap (λ m. are_told plan (first m k) (second m k) (third m k)) (sym size) ∙ sym (c.are_told.ensures plan c.requires.sides)
+    ∙ c.if-are_told.false in
+    as_text _ _ _ _ _ _ _ _ (ap (λ b. if b then line_text plan (failures_of n (first n k) (second n k) (third n k)) else []) (sym told))
+    (nothing _ _ _ _)

@@ -10,7 +10,8 @@ returns-in-Err g c =
     let last = last_lines c.args.plan.now in
     let e = c.in-Err.ensures in
     stopped _ _ _ _ _ (head_line ++ lines) last c.in-Err.fault
-    (stopped _ _ _ _ _ head_line lines c.in-Err.fault (of_text _ _ _ _ _ head_line (Err c.in-Err.fault) e.ok e.fault e.front e.later e.counted))
+    (stopped _ _ _ _ _ head_line lines c.in-Err.fault (of_text _ _ _ _ _ head_line
+    (Err c.in-Err.fault) e.ok e.fault e.front e.later e.counted))
 
 pub returns-in-Err-write_cases : goal.returns-in-Err-write_cases
 returns-in-Err-write_cases g c =
@@ -18,7 +19,8 @@ returns-in-Err-write_cases g c =
     let last = last_lines c.args.plan.now in
     let e = c.in_default.ensures in
     stopped _ _ _ _ _ (head_line ++ lines) last c.in-Err-write_cases.fault
-    (after _ _ _ _ _ _ _ head_line lines tt (Err c.in-Err-write_cases.fault) (of_text _ _ _ _ _ head_line (Ok tt) e.ok e.fault e.front e.later e.counted) c.in-Err-write_cases.ensures)
+    (after _ _ _ _ _ _ _ head_line lines tt (Err c.in-Err-write_cases.fault)
+    (of_text _ _ _ _ _ head_line (Ok tt) e.ok e.fault e.front e.later e.counted) c.in-Err-write_cases.ensures)
 
 pub returns : goal.returns
 returns g c =
@@ -26,5 +28,6 @@ returns g c =
     let last = last_lines c.args.plan.now in
     let e = c.in_default.ensures in
     after _ _ _ _ _ _ _ (head_line ++ lines) last tt c.write_last.result
-    (after _ _ _ _ _ _ _ head_line lines tt (Ok tt) (of_text _ _ _ _ _ head_line (Ok tt) e.ok e.fault e.front e.later e.counted) c.in_default-write_cases.ensures)
+    (after _ _ _ _ _ _ _ head_line lines tt (Ok tt) (of_text _ _ _ _ _ head_line
+    (Ok tt) e.ok e.fault e.front e.later e.counted) c.in_default-write_cases.ensures)
     c.write_last.ensures

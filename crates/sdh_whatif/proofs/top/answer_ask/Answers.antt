@@ -13,7 +13,8 @@ returns-in-Ok-clause-outcome g c =
     ok_two c.tell.result _ _ _ (λ x is wrote. (
       text,
       (
-        told_all (g.R.Source.left c.args.source.now) _ (λ (bytes : List ℕ). OfBytes ask bytes x.status text) (λ bytes tells. inr (plan, tells, is, refl)) c.in-Ok.ensures.plan,
+        told_all (g.R.Source.left c.args.source.now) _ (λ (bytes : List ℕ). OfBytes ask bytes x.status text)
+            (λ bytes tells. inr (plan, tells, is, refl)) c.in-Ok.ensures.plan,
         wrote,
       ),
     ))

@@ -16,4 +16,6 @@ returns-clause-prepared g c =
     let size : n ≡ length ring.ids = search rules in
     subst (λ r. IsPrepared r (length ring.ids) now) rate
     (subst (λ k. IsPrepared Four k now) size
-    (subst (IsPrepared Four n) (sym laid) (stay_prepared.prepared Four n f (omega (arith, c.len-nodes.ensures.len, c.len-nodes.ensures.enough)) (omega (arith, c.len-nodes.ensures.len, c.len-nodes.ensures.few)))))
+    (subst (IsPrepared Four n) (sym laid) (stay_prepared.prepared Four n f
+    (omega (arith, c.len-nodes.ensures.len, c.len-nodes.ensures.enough))
+    (omega (arith, c.len-nodes.ensures.len, c.len-nodes.ensures.few)))))

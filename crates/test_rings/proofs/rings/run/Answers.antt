@@ -11,6 +11,10 @@ turns-preserved g c =
     let now = c.turns.ring in
     let held = c.turns.invariant.held in
     record {
-      held = held_more from now (world c.round.new.self (g.P.Plant.fibres c.round.new.plant)) (world now (g.P.Plant.fibres c.turns.plant)) c.turns._turn held refl c.in_ok-round.ensures.ok;
-      prepared = subst (λ (r : HeldRing). IsPrepared r.settings.rate (length r.ids) (g.P.Plant.fibres c.round.new.plant)) held c.in_ok-round.ensures.prepared;
+      held =
+          held_more from now (world c.round.new.self (g.P.Plant.fibres c.round.new.plant))
+          (world now (g.P.Plant.fibres c.turns.plant)) c.turns._turn held refl c.in_ok-round.ensures.ok;
+      prepared =
+          subst (λ (r : HeldRing). IsPrepared r.settings.rate (length r.ids)
+          (g.P.Plant.fibres c.round.new.plant)) held c.in_ok-round.ensures.prepared;
     }

@@ -18,7 +18,8 @@ returns-in-Ok-clause-prepared g c =
     let w = world c.args.ring.now (g.P.Plant.fibres c.args.plant.now) in
     let held = ap (λ (v : World). v.ring) s.left_is ∙ held_run adm s.rounds w in
     let whole : c.settle.new.self.broken ≡ false = ap (λ (r : HeldRing). r.broken) held ∙ c.requires.whole in
-    subst (λ (r : HeldRing). IsPrepared r.settings.rate (length r.ids) (g.P.Plant.fibres c.settle.new.plant)) (sym held) (c.in-Ok.ensures.prepared whole)
+    subst (λ (r : HeldRing). IsPrepared r.settings.rate (length r.ids) (g.P.Plant.fibres c.settle.new.plant)) (sym held)
+    (c.in-Ok.ensures.prepared whole)
 
 pub returns-in-Ok-clause-moment : goal.returns-in-Ok-clause-moment
 returns-in-Ok-clause-moment g c =

@@ -11,7 +11,8 @@ use Rattle.sdh_elastic.proofs.Course.{goes_on, steady_now, drift_of_history}
 use Rattle.sdh_elastic.proofs.Heard.{turn_is_heard}
 use Rattle.sdh_elastic.proofs.Turning.{IsTurn, made}
 use Rattle.sdh_elastic.proofs.store.Elastic.turn.Goals as goal
-use Rattle.sdh_elastic.proofs.store.Elastic.turn.Goals.{then-fill-lt-LEAST-via-then-fill-lt-LEAST, then-fill-lt-LEAST-via-else-fill-lt-LEAST+then-fill-gt-MOST}
+use Rattle.sdh_elastic.proofs.store.Elastic.turn.Goals.{then-fill-lt-LEAST-via-then-fill-lt-LEAST}
+use Rattle.sdh_elastic.proofs.store.Elastic.turn.Goals.{then-fill-lt-LEAST-via-else-fill-lt-LEAST+then-fill-gt-MOST}
 
 pub exchange-requires : goal.exchange-requires
 exchange-requires c =
@@ -22,7 +23,8 @@ acts : (c : goal.After-self-1) → c.action-action.result ≡ action_at (the_vie
 acts c = c.action-action.ensures ∙ ap (action_in c.self.inside.course.stage) c.len.ensures
 
 turned : (c : goal.After-self-1)
-    → IsTurn (the_view c.self.inside) c.args.input.now c.action-action.result c.exchange.new.out (the_view (record { held = c.exchange.new.self; course = c.after-self-inside.result }))
+    → IsTurn (the_view c.self.inside) c.args.input.now c.action-action.result c.exchange.new.out
+    (the_view (record { held = c.exchange.new.self; course = c.after-self-inside.result }))
 turned c =
     let r = c.after-self-inside.result in
     let e = c.after-self-inside.ensures in
@@ -35,7 +37,8 @@ fits c =
     let s : Store = the_view c.self.inside in
     let n = length c.args.input.now in
     let same : c.saturating_sub-fill.result ≡ fill_after s n =
-    c.saturating_sub-fill.ensures ∙ ap (λ (k : ℕ). c.len-2.result + n - k) (c.given.ensures.count ∙ ap given (acts c)) ∙ ap (λ (f : ℕ). f + n - given (action_at s)) c.len-2.ensures in
+    c.saturating_sub-fill.ensures ∙ ap (λ (k : ℕ). c.len-2.result + n - k) (c.given.ensures.count ∙ ap given (acts c))
+    ∙ ap (λ (f : ℕ). f + n - given (action_at s)) c.len-2.ensures in
     is_held_by (fill_after s n) (omega (arith, same)) (omega (arith, same))
 
 pub returns-clause-ok : goal.returns-clause-ok
@@ -61,18 +64,22 @@ returns-clause-heard c =
     let value = e.value ∙ ap (λ (b : Action). value_after b i.value) (acts c) in
     rw (← c.self.view_is) (
       ap (action_on (reading_in i.stage i.value)) word ∙ turn.action ∙ sym (acts c),
-      ap (after_word (reading_in i.stage i.value)) word ∙ turn.next ∙ ap (λ (v : ℕ). reading_in (stage_after i.stage (action_at (the_view c.self.inside))) v) (sym value) ∙ ap (λ st. reading_in st c.after-self-inside.result.value) (sym stage),
+      ap (after_word (reading_in i.stage i.value)) word ∙ turn.next
+          ∙ ap (λ (v : ℕ). reading_in (stage_after i.stage (action_at (the_view c.self.inside))) v) (sym value)
+          ∙ ap (λ st. reading_in st c.after-self-inside.result.value) (sym stage),
     )
 
 -- what it would have done, and the fill after that
 would_act : (c : goal.Joined-then-fill-lt-LEAST) → c.action-action.result ≡ action_at (the_view c.self.inside)
 would_act c = c.action-action.ensures ∙ ap (action_in c.self.inside.course.stage) c.len.ensures
 
-would_be : (c : goal.Joined-then-fill-lt-LEAST) → c.saturating_sub-fill.result ≡ fill_after (the_view c.self.inside) (length c.args.input.now)
+would_be : (c : goal.Joined-then-fill-lt-LEAST) → c.saturating_sub-fill.result
+    ≡ fill_after (the_view c.self.inside) (length c.args.input.now)
 would_be c =
     let s : Store = the_view c.self.inside in
     let n = length c.args.input.now in
-    c.saturating_sub-fill.ensures ∙ ap (λ (k : ℕ). c.len-2.result + n - k) (c.given.ensures.count ∙ ap given (would_act c)) ∙ ap (λ (f : ℕ). f + n - given (action_at s)) c.len-2.ensures
+    c.saturating_sub-fill.ensures ∙ ap (λ (k : ℕ). c.len-2.result + n - k) (c.given.ensures.count ∙ ap given (would_act c))
+    ∙ ap (λ (f : ℕ). f + n - given (action_at s)) c.len-2.ensures
 
 pub returns-then-fill-lt-LEAST-clause-steady_run : goal.returns-then-fill-lt-LEAST-clause-steady_run
 returns-then-fill-lt-LEAST-clause-steady_run c = λ first past came h.
@@ -104,6 +111,7 @@ returns-then-fill-lt-LEAST-clause-history_err c = λ first past came.
     let not_held : is_held (fill_after s n) ≡ false =
     elim c.then-fill-lt-LEAST.branch [
       | then-fill-lt-LEAST-via-then-fill-lt-LEAST w ↦ not_held_below (fill_after s n) (omega (arith, would_be c, w.if-fill-lt-LEAST.true))
-      | then-fill-lt-LEAST-via-else-fill-lt-LEAST+then-fill-gt-MOST w ↦ not_held_above (fill_after s n) (omega (arith, would_be c, w.if-fill-gt-MOST.true))
+      | then-fill-lt-LEAST-via-else-fill-lt-LEAST+then-fill-gt-MOST w ↦ not_held_above (fill_after s n)
+          (omega (arith, would_be c, w.if-fill-gt-MOST.true))
     ] in
     drift_of_history s c.args.input.now first past (rw (← c.self.view_is) at came) not_held

@@ -31,12 +31,17 @@ invariant_of-self c =
     let east = c.decide-decided.ensures.east_in in
     record {
       west_rate = ap (λ (r : Receiving). r.section.rate) west ∙ c.take-taken.ensures.rate ∙ inv.west_rate;
-      west_out_rate = c.send_both-west_made.ensures.rates.0 ∙ ap (λ (s : Sending). s.section.rate) c.say-west_said.ensures.sender ∙ inv.west_out_rate;
-      east_out_rate = c.send_both-west_made.ensures.rates.1 ∙ ap (λ (s : Sending). s.section.rate) c.say-east_said.ensures.sender ∙ inv.east_out_rate;
-      moments = ap (λ (r : Receiving). r.local.moment) east ∙ c.take-taken.ensures.east ∙ sym c.take-taken.ensures.west ∙ sym (ap (λ (r : Receiving). r.local.moment) west);
+      west_out_rate =
+          c.send_both-west_made.ensures.rates.0 ∙ ap (λ (s : Sending). s.section.rate) c.say-west_said.ensures.sender ∙ inv.west_out_rate;
+      east_out_rate =
+          c.send_both-west_made.ensures.rates.1 ∙ ap (λ (s : Sending). s.section.rate) c.say-east_said.ensures.sender ∙ inv.east_out_rate;
+      moments =
+          ap (λ (r : Receiving). r.local.moment) east ∙ c.take-taken.ensures.east ∙ sym c.take-taken.ensures.west
+          ∙ sym (ap (λ (r : Receiving). r.local.moment) west);
       held = (let was = inv.held in let now = c.one_less-self-inside.ensures in omega arith);
       ports = subst (All (IsTributary slots (i.rounds + 1))) (sym c.feed.ensures)
-          (fed_are slots i.rounds _ (subst (All (IsTributary slots i.rounds)) (sym c.deliver.ensures) (delivered_are (dropped_to c.decide-decided.new.self) slots i.rounds i.ports inv.ports)));
+          (fed_are slots i.rounds _ (subst (All (IsTributary slots i.rounds)) (sym c.deliver.ensures)
+          (delivered_are (dropped_to c.decide-decided.new.self) slots i.rounds i.ports inv.ports)));
     }
 
 pub returns-clause-west : goal.returns-clause-west
@@ -87,7 +92,8 @@ returns-clause-node c =
     c.send_both-west_made.ensures.west c.send_both-west_made.ensures.east
     c.may_be_calm-counts.result c.take-taken.result c.decide-decided.result.1 c.say-west_said.result c.send_both-west_made.result.0 c.say-east_said.result c.send_both-west_made.result.1
     counted c.take-taken.ensures.same c.decide-decided.ensures.same c.say-west_said.ensures.same c.send_both-west_made.ensures.west_same c.say-east_said.ensures.same c.send_both-west_made.ensures.east_same in
-    (λ j. node_of i.settings (i.rounds + 1) (c.one_less-self-inside.ensures j) c.decide-decided.new.self c.feed.new.self c.send_both-west_made.new.west c.send_both-west_made.new.east c.is_calm-calm.result)
+    (λ j. node_of i.settings (i.rounds + 1)
+    (c.one_less-self-inside.ensures j) c.decide-decided.new.self c.feed.new.self c.send_both-west_made.new.west c.send_both-west_made.new.east c.is_calm-calm.result)
     ∙ node_is c.args.now.0 i.settings i.rounds i.held i.cross i.ports i.west_out i.east_out i.calm
     c.take-taken.new.self c.decide-decided.new.self c.deliver.new.ports c.feed.new.self c.take-taken.ensures.cross decided c.deliver.ensures c.feed.ensures
     c.decide-decided.result.0.west c.decide-decided.result.0.east c.say-west_said.new.self c.say-east_said.new.self c.send_both-west_made.new.west c.send_both-west_made.new.east c.feed.new.self c.feed.new.self
@@ -97,4 +103,5 @@ returns-clause-node c =
     ∙ ap (λ (n : Node). (node_round c.args.now.0 n).0) c.self.view_is
 
 pub returns-clause-goes_on : goal.returns-clause-goes_on
-returns-clause-goes_on c = subst (GoesOn c.args.now.0 c.args.self.now) (sym (returns-clause-node c)) (round_goes_on c.args.now.0 c.args.self.now)
+returns-clause-goes_on c =
+    subst (GoesOn c.args.now.0 c.args.self.now) (sym (returns-clause-node c)) (round_goes_on c.args.now.0 c.args.self.now)

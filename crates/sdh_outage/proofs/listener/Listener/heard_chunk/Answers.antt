@@ -17,16 +17,22 @@ returns-in_default-find-clause-kind c =
     let chunk = c.args.chunk.now in
     let w = c.self.inside.window in
     let some : are_ones chunk ≡ false = sym c.are_ones.ensures ∙ c.if-are_ones.false in
-    let none : is_part chunk (near w.port w.round) ≡ false = ap (is_part chunk) (sym c.near-near.ensures.bytes) ∙ sym (part_found chunk c.near-near.result.now c.find.result c.find.ensures) ∙ ap is_some c.in_default-find.is in
-    is_strange w.port w.round c.self.inside.last chunk some none ∙ ap (λ (h : Heard). kind_of h.port h.round h.last (Chunk chunk)) c.self.view_is
+    let none : is_part chunk (near w.port w.round) ≡ false =
+    ap (is_part chunk) (sym c.near-near.ensures.bytes) ∙ sym (part_found chunk c.near-near.result.now c.find.result c.find.ensures)
+    ∙ ap is_some c.in_default-find.is in
+    is_strange w.port w.round c.self.inside.last chunk some none
+    ∙ ap (λ (h : Heard). kind_of h.port h.round h.last (Chunk chunk)) c.self.view_is
 
 pub returns-clause-kind : goal.returns-clause-kind
 returns-clause-kind c =
     let chunk = c.args.chunk.now in
     let w = c.self.inside.window in
     let some : are_ones chunk ≡ false = sym c.are_ones.ensures ∙ c.if-are_ones.false in
-    let part : is_part chunk (near w.port w.round) ≡ true = ap (is_part chunk) (sym c.near-near.ensures.bytes) ∙ sym (part_found chunk c.near-near.result.now c.find.result c.find.ensures) ∙ ap is_some c.in-Some-find.is in
-    let jump : jumps (near w.port w.round) c.self.inside.last chunk ≡ c.jumps.result = ap (λ l. jumps l c.self.inside.last chunk) (sym c.near-near.ensures.bytes) ∙ sym c.jumps.ensures.answer in
+    let part : is_part chunk (near w.port w.round) ≡ true =
+    ap (is_part chunk) (sym c.near-near.ensures.bytes) ∙ sym (part_found chunk c.near-near.result.now c.find.result c.find.ensures)
+    ∙ ap is_some c.in-Some-find.is in
+    let jump : jumps (near w.port w.round) c.self.inside.last chunk ≡ c.jumps.result =
+    ap (λ l. jumps l c.self.inside.last chunk) (sym c.near-near.ensures.bytes) ∙ sym c.jumps.ensures.answer in
     let outside = ap (λ (h : Heard). kind_of h.port h.round h.last (Chunk chunk)) c.self.view_is in
     elim c.if-jumps.branch [
       | then-jumps v ↦ v.kind-is ∙ is_known w.port w.round c.self.inside.last chunk some true part (jump ∙ v.if-jumps.true) ∙ outside
@@ -40,4 +46,5 @@ returns-clause-place c =
     let k = c.in-Some-find.index in
     let n = length chunk in
     let at = subst (λ l. OccursAt l chunk k) c.near-near.ensures.bytes c.in-Some-find.ensures.1 in
-    near_at w.port w.round k chunk at ∙ ap (λ s. stream_from w.port (s + k) n) (sym c.start.ensures.start) ∙ ap (λ (h : Heard). stream_from h.port (c.start.result + k) n) c.self.view_is
+    near_at w.port w.round k chunk at ∙ ap (λ s. stream_from w.port (s + k) n) (sym c.start.ensures.start)
+    ∙ ap (λ (h : Heard). stream_from h.port (c.start.result + k) n) c.self.view_is

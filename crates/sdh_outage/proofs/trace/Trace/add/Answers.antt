@@ -15,6 +15,8 @@ returns-clause-history c = λ first past number is. (
     let last = ap (λ (t : Traced). is_change t.last now) c.self.view_is in
     let found = traces old c.args.round now first past number is in
     elim c.if-is_change.branch [
-      | then-is_change w ↦ after ∙ ap kept (w.self-is ∙ w.put.ensures) ∙ ap (λ b. with_kind old b change) (sym w.if-is_change.true ∙ c.is_change.ensures ∙ last) ∙ found
-      | else-is_change w ↦ after ∙ ap kept w.self-is ∙ ap (λ b. with_kind old b change) (sym w.if-is_change.false ∙ c.is_change.ensures ∙ last) ∙ found
+      | then-is_change w ↦ after ∙ ap kept (w.self-is ∙ w.put.ensures)
+          ∙ ap (λ b. with_kind old b change) (sym w.if-is_change.true ∙ c.is_change.ensures ∙ last) ∙ found
+      | else-is_change w ↦ after ∙ ap kept w.self-is ∙ ap (λ b. with_kind old b change)
+          (sym w.if-is_change.false ∙ c.is_change.ensures ∙ last) ∙ found
     ])

@@ -17,7 +17,9 @@ returns c =
     let many = ap (λ (l : List Change). length l) items in
     elim c.if-len.branch [
       | then-len w ↦ (
-          let kept = w.push.ensures.items ∙ when_ok w.push.result w.unwrap.result (c.self.inside.changes.items ++ change ∷ []) c.self.inside.changes.items w.unwrap.ensures in
+          let kept =
+          w.push.ensures.items ∙ when_ok w.push.result w.unwrap.result
+          (c.self.inside.changes.items ++ change ∷ []) c.self.inside.changes.items w.unwrap.ensures in
           let whole = sym (kept_whole 64 old.changes change (omega (arith, many, w.if-len.true, c.len.ensures))) in
           let is = w.self-inside-is in
           let changes = (λ i. (is i).changes.items) ∙ kept ∙ ap (λ l. l ++ change ∷ []) items ∙ whole in
@@ -25,7 +27,9 @@ returns c =
           let after = (λ i. (is i).last) ∙ last in
           λ i. record { changes = changes i; count = counted i; last = after i })
       | else-len w ↦ (
-          let full = sym (kept_full 64 old.changes (change ∷ []) (omega (arith, many, c.self.invariant.0, c.len.ensures)) (omega (arith, many, w.if-len.false, c.len.ensures))) in
+          let full =
+          sym (kept_full 64 old.changes (change ∷ []) (omega (arith, many, c.self.invariant.0, c.len.ensures))
+          (omega (arith, many, w.if-len.false, c.len.ensures))) in
           let is = w.self-inside-is in
           let changes = (λ i. (is i).changes.items) ∙ items ∙ full in
           let counted = (λ i. (is i).count + 1) ∙ ap (λ n. n + 1) count in

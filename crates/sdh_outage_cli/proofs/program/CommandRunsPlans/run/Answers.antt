@@ -13,7 +13,9 @@ returns-in-Some g c =
     let f = means c.args.plant.now in
     let is : listing_of ask plan ≡ Some listing = sym c.listing_of.ensures.listing ∙ c.in-Some.is in
     record {
-      outcome = IfOk-weaker c.run_report.result _ _ (λ report x. run_of_plan plan listing f (means c.run_report.new.plant) ask report.status report.text.bytes is x) c.run_report.ensures.outcome;
+      outcome =
+          IfOk-weaker c.run_report.result _ _ (λ report x. run_of_plan plan listing f
+          (means c.run_report.new.plant) ask report.status report.text.bytes is x) c.run_report.ensures.outcome;
       failed = c.run_report.ensures.failed;
       calls = c.run_report.ensures.calls;
       without = c.run_report.ensures.without;

@@ -12,5 +12,6 @@ returns-clause-bytes c =
     let copied : take n c.copy_front-count.new.to ≡ take n (take (length bytes - at) (drop at bytes)) = search rules in
     let split = left-split bytes c.copy_front-count.new.to at n copied in
     let whole : take (length bytes - at) (drop at bytes) ≡ drop at bytes = take_all _ _ (omega (arith, length-drop {A = ℕ})) in
-    let end : n ≡ 0 → 0 < length c.copy_front-count.new.to → length bytes ≤ at + n = λ none some. omega (arith, length-drop at bytes, ap length whole, c.copy_front-count.ensures.count, c.deref-2.ensures.len) in
+    let end : n ≡ 0 → 0 < length c.copy_front-count.new.to → length bytes ≤ at + n =
+    λ none some. omega (arith, length-drop at bytes, ap length whole, c.copy_front-count.ensures.count, c.deref-2.ensures.len) in
     (ap (λ (s : HeldSource). s.left) (sym c.self.view_is) ∙ split, λ none some. drop_all (at + n) bytes (end none some))

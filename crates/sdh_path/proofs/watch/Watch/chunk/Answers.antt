@@ -16,11 +16,13 @@ returns-clause-history c = λ trace past came.
       | then-goes_on w ↦ w.before-is ∙ sym (ap (λ (b : Bool). if b then k.chunks else 0) w.if-goes_on.true)
       | else-goes_on w ↦ w.before-is ∙ sym (ap (λ (b : Bool). if b then k.chunks else 0) w.if-goes_on.false)
     ] in
-    came_chunk trace past bytes c.args.value k _ (rw (← c.self.view_is) at came) c.requires.bytes c.self.invariant.last_whole g (c.goes_on-goes_on.ensures.history trace past came) (record {
+    came_chunk trace past bytes c.args.value k _ (rw (← c.self.view_is) at came) c.requires.bytes c.self.invariant.last_whole g
+    (c.goes_on-goes_on.ensures.history trace past came) (record {
       trace = refl;
       value_is = refl;
       chunks = ap (λ n. n + 1) before;
-      anew = λ e. subst (λ (s : ℕ). IsTallyOf (drop s bytes) c.tally_with-self-inside.result) start (c.tally_with-self-inside.ensures.anew e);
+      anew =
+          λ e. subst (λ (s : ℕ). IsTallyOf (drop s bytes) c.tally_with-self-inside.result) start (c.tally_with-self-inside.ensures.anew e);
       more = λ e run is. c.tally_with-self-inside.ensures.more e run is;
       last = ap₂ (λ (n s : ℕ). set c.self.inside.last (n % 64) (get_or bytes s 0)) before start;
     })

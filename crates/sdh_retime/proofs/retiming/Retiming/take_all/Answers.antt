@@ -33,7 +33,8 @@ loop-at-preserved c =
       whole = omega (arith, before.whole, c.size_at-size.ensures.chunk.0);
       came = came_then digits bytes _ c.loop-at.taken c.loop-at.self.store c.turn.new.self.store chunk before.came turn.came;
       reads = turn.reads;
-      lines = lines_then digits bytes _ c.loop-at.taken c.loop-at.self.store c.loop-at.text.bytes c.turn.new.text.bytes chunk before.came before.lines turn.lines;
+      lines =
+          lines_then digits bytes _ c.loop-at.taken c.loop-at.self.store c.loop-at.text.bytes c.turn.new.text.bytes chunk before.came before.lines turn.lines;
       room = omega (arith, before.room, turn.room);
     }
 
@@ -43,7 +44,8 @@ put_left-requires c = omega (arith, left_line_short (length c.args.bytes.now - c
 pub put_drift-requires : goal.put_drift-requires
 put_drift-requires c =
     let same = ap (λ (t : Written). t.room) c.in-Err.ensures.err in
-    let some : c.loop-at.taken + 1 ≤ length c.args.bytes.now / 2346 = omega (arith, c.loop-at.invariant.whole, c.if-bytes-at.false, c.size_at-size.ensures.chunk.0, c.loop-at.invariant.within) in
+    let some : c.loop-at.taken + 1 ≤ length c.args.bytes.now / 2346 =
+    omega (arith, c.loop-at.invariant.whole, c.if-bytes-at.false, c.size_at-size.ensures.chunk.0, c.loop-at.invariant.within) in
     omega (arith, same, some, c.loop-at.invariant.room, drift_line_short (c.loop-at.taken + 1) (omega (arith, some, c.requires.few)))
 
 pub returns-then-bytes-at : goal.returns-then-bytes-at

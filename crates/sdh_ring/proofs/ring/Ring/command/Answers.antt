@@ -23,23 +23,45 @@ invariant_of-self c =
       west = inv.west;
       east = inv.east;
       ring = ring_with _ new inside.present.0 inside.rounds inside.broken inv.ring same inv.ring.moment
-          (λ whole. subst (All (IsOn inside.rounds inside.present.0)) (sym is) (all_on_commanded c.args.at.0 c.args.side c.args.command inside.rounds inside.present.0 old (inv.ring.going whole)));
+          (λ whole. subst (All (IsOn inside.rounds inside.present.0)) (sym is)
+          (all_on_commanded c.args.at.0 c.args.side c.args.command inside.rounds inside.present.0 old (inv.ring.going whole)));
     }
 
 pub command_at-requires : goal.command_at-requires
 command_at-requires c =
-    let low : c.args.at.0 < length c.self.inside.map = subst (λ (r : HeldRing). c.args.at.0 < length r.ids) (sym c.self.view_is) c.requires in
+    let low : c.args.at.0 < length c.self.inside.map =
+    subst (λ (r : HeldRing). c.args.at.0 < length r.ids) (sym c.self.view_is) c.requires in
     let size = count_of _ c.self.invariant.ring in
     omega arith
 
 pub returns-clause-whole : goal.returns-clause-whole
 returns-clause-whole c = λ f whole.
     let inside = c.self.inside in
-    let was = whole_commanded c.stay_whole.ensures _ f c.args.at.0 c.args.side c.args.command (subst (λ (r : HeldRing). IsWhole (world r f)) (sym c.self.view_is) whole) in
-    subst (λ ns. IsWhole (world (record { settings = inside.settings; ids = inside.map; circuits = inside.circuits; nodes = ns; moment = inside.present.0; rounds = inside.rounds; broken = inside.broken }) f)) (sym c.command_at.ensures) was
+    let was =
+    whole_commanded c.stay_whole.ensures _ f c.args.at.0 c.args.side c.args.command
+    (subst (λ (r : HeldRing). IsWhole (world r f)) (sym c.self.view_is) whole) in
+    subst (λ ns. IsWhole (world (record {
+      settings = inside.settings;
+      ids = inside.map;
+      circuits = inside.circuits;
+      nodes = ns;
+      moment = inside.present.0;
+      rounds = inside.rounds;
+      broken = inside.broken;
+    }) f)) (sym c.command_at.ensures) was
 
 pub returns-clause-vouched : goal.returns-clause-vouched
 returns-clause-vouched c = λ f clocks is.
     let inside = c.self.inside in
-    let was = vouched_commanded c.vouched_rings_stay.ensures _ f clocks (subst (λ (r : HeldRing). IsVouched clocks (world r f)) (sym c.self.view_is) is) c.args.at.0 c.args.side c.args.command in
-    subst (λ ns. IsVouched clocks (world (record { settings = inside.settings; ids = inside.map; circuits = inside.circuits; nodes = ns; moment = inside.present.0; rounds = inside.rounds; broken = inside.broken }) f)) (sym c.command_at.ensures) was
+    let was =
+    vouched_commanded c.vouched_rings_stay.ensures _ f clocks
+    (subst (λ (r : HeldRing). IsVouched clocks (world r f)) (sym c.self.view_is) is) c.args.at.0 c.args.side c.args.command in
+    subst (λ ns. IsVouched clocks (world (record {
+      settings = inside.settings;
+      ids = inside.map;
+      circuits = inside.circuits;
+      nodes = ns;
+      moment = inside.present.0;
+      rounds = inside.rounds;
+      broken = inside.broken;
+    }) f)) (sym c.command_at.ensures) was

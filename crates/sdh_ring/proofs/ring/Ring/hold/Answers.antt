@@ -22,17 +22,29 @@ invariant_of-self c =
       west = inv.west;
       east = inv.east;
       ring = ring_with _ new inside.present.0 inside.rounds inside.broken inv.ring same inv.ring.moment
-          (λ whole. subst (All (IsOn inside.rounds inside.present.0)) (sym is) (all_on_held c.args.at.0 c.args.turns inside.rounds inside.present.0 old (inv.ring.going whole)));
+          (λ whole. subst (All (IsOn inside.rounds inside.present.0)) (sym is)
+          (all_on_held c.args.at.0 c.args.turns inside.rounds inside.present.0 old (inv.ring.going whole)));
     }
 
 pub hold_at-requires-clause-at : goal.hold_at-requires-clause-at
 hold_at-requires-clause-at c =
-    let low : c.args.at.0 < length c.self.inside.map = subst (λ (r : HeldRing). c.args.at.0 < length r.ids) (sym c.self.view_is) c.requires.at in
+    let low : c.args.at.0 < length c.self.inside.map =
+    subst (λ (r : HeldRing). c.args.at.0 < length r.ids) (sym c.self.view_is) c.requires.at in
     let size = count_of _ c.self.invariant.ring in
     omega arith
 
 pub returns-clause-whole : goal.returns-clause-whole
 returns-clause-whole c = λ f whole.
     let inside = c.self.inside in
-    let was = whole_held c.stay_whole.ensures _ f c.args.at.0 c.args.turns c.requires.few (subst (λ (r : HeldRing). IsWhole (world r f)) (sym c.self.view_is) whole) in
-    subst (λ ns. IsWhole (world (record { settings = inside.settings; ids = inside.map; circuits = inside.circuits; nodes = ns; moment = inside.present.0; rounds = inside.rounds; broken = inside.broken }) f)) (sym c.hold_at.ensures) was
+    let was =
+    whole_held c.stay_whole.ensures _ f c.args.at.0 c.args.turns c.requires.few
+    (subst (λ (r : HeldRing). IsWhole (world r f)) (sym c.self.view_is) whole) in
+    subst (λ ns. IsWhole (world (record {
+      settings = inside.settings;
+      ids = inside.map;
+      circuits = inside.circuits;
+      nodes = ns;
+      moment = inside.present.0;
+      rounds = inside.rounds;
+      broken = inside.broken;
+    }) f)) (sym c.hold_at.ensures) was

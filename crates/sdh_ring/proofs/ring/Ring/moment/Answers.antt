@@ -7,7 +7,10 @@ use Rattle.sdh_ring.proofs.Whole.{whole_later, vouched_later}
 use Rattle.sdh_ring.proofs.ring.Ring.moment.Goals as goal
 
 pub returns-clause-whole : goal.returns-clause-whole
-returns-clause-whole c = λ f whole. whole_later c.stay_whole.ensures _ f c.args.now.0 (subst (λ (r : HeldRing). IsWhole (world r f)) (sym c.self.view_is) whole)
+returns-clause-whole c =
+    λ f whole. whole_later c.stay_whole.ensures _ f c.args.now.0 (subst (λ (r : HeldRing). IsWhole (world r f)) (sym c.self.view_is) whole)
 
 pub returns-clause-vouched : goal.returns-clause-vouched
-returns-clause-vouched c = λ f clocks is. vouched_later c.vouched_rings_stay.ensures _ f clocks (subst (λ (r : HeldRing). IsVouched clocks (world r f)) (sym c.self.view_is) is) c.args.now.0
+returns-clause-vouched c =
+    λ f clocks is. vouched_later c.vouched_rings_stay.ensures _ f clocks
+    (subst (λ (r : HeldRing). IsVouched clocks (world r f)) (sym c.self.view_is) is) c.args.now.0

@@ -11,4 +11,6 @@ pub returns-clause-port : goal.returns-clause-port
 returns-clause-port c = (owned_from _ _ c.args.port _ _ c.self.invariant.ring c.self.view_is c.get.ensures c.end_of-at.ensures).has
 
 pub returns-clause-waiting : goal.returns-clause-waiting
-returns-clause-waiting c = waits_there c.args.self.now c.args.port _ (owned_from _ _ c.args.port _ _ c.self.invariant.ring c.self.view_is c.get.ensures c.end_of-at.ensures)
+returns-clause-waiting c =
+    waits_there c.args.self.now c.args.port _
+    (owned_from _ _ c.args.port _ _ c.self.invariant.ring c.self.view_is c.get.ensures c.end_of-at.ensures)

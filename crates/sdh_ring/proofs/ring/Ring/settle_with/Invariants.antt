@@ -8,7 +8,8 @@ abbrev pub invariant-rounds : goal.invariant-rounds
 invariant-rounds g l =
     let means = g.P.Plant.fibres in
     record {
-      observes : Observes (λ at k. g.O.Observer.Heard at k l.observer) (world l.fn.self (means l.fn.plant)) (world l.self (means l.plant)) l._turn l.calm;
+      observes : Observes (λ at k. g.O.Observer.Heard at k l.observer) (world l.fn.self (means l.fn.plant))
+          (world l.self (means l.plant)) l._turn l.calm;
       held : l.self ≡ record l.fn.self { nodes = l.self.nodes; rounds = l.fn.self.rounds + l._turn };
       prepared : IsPrepared l.fn.self.settings.rate (length l.fn.self.ids) (means l.plant);
       small : l.calm ≤ l._turn;

@@ -17,7 +17,8 @@ returns-clause-next g c number later may =
     let w = world c.args.self.now.ring (means c.args.plant.now) in
     let left = world c.change.new.ring (means c.change.new.plant) in
     let is = c.in_ok-change.ensures.ok in (
-      subst (λ (p : Provisioning). MayList (length p.circuits) c.args.self.now.listing) (sym (changed_circuits c.args.step w left is)) may.0,
+      subst (λ (p : Provisioning). MayList (length p.circuits) c.args.self.now.listing)
+          (sym (changed_circuits c.args.step w left is)) may.0,
       changed_next 65536 number c.args.step w left c.requires.other is later may.1,
     )
 
@@ -27,4 +28,5 @@ returns-clause-same_room g c =
     let w = world c.args.self.now.ring (means c.args.plant.now) in
     let left = world c.change.new.ring (means c.change.new.plant) in
     let is = c.in_ok-change.ensures.ok in
-    ap₂ (λ (p : Provisioning) ids. report_room c.args.self.now.listing (length ids) (length p.circuits)) (changed_circuits c.args.step w left is) (changed_ids c.args.step w left is)
+    ap₂ (λ (p : Provisioning) ids. report_room c.args.self.now.listing (length ids) (length p.circuits))
+    (changed_circuits c.args.step w left is) (changed_ids c.args.step w left is)

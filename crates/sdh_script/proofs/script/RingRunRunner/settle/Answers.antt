@@ -16,11 +16,14 @@ put_report-requires-clause-whole g c = settled_whole _ _ c.args.limit c.in_ok-se
 
 pub put_report-requires-clause-listing : goal.put_report-requires-clause-listing
 put_report-requires-clause-listing g c =
-    subst (λ (r : HeldRing). MayList (length r.circuits.circuits) c.args.self.now.listing) (sym (settled_held _ _ c.args.limit c.in_ok-settle.ensures.outcome)) c.requires.may.1.0
+    subst (λ (r : HeldRing). MayList (length r.circuits.circuits) c.args.self.now.listing)
+    (sym (settled_held _ _ c.args.limit c.in_ok-settle.ensures.outcome)) c.requires.may.1.0
 
 pub put_report-requires-clause-room : goal.put_report-requires-clause-room
 put_report-requires-clause-room g c =
-    let same = ap (λ (x : HeldRing). report_room c.args.self.now.listing (length x.ids) (length x.circuits.circuits)) (settled_held _ _ c.args.limit c.in_ok-settle.ensures.outcome) in
+    let same =
+    ap (λ (x : HeldRing). report_room c.args.self.now.listing (length x.ids) (length x.circuits.circuits))
+    (settled_held _ _ c.args.limit c.in_ok-settle.ensures.outcome) in
     omega (arith, same, c.requires.room)
 
 pub returns-clause-ok : goal.returns-clause-ok
@@ -41,13 +44,18 @@ returns-clause-next g c later may =
     let none = λ (port : PortId). c.in_ok-settle.ensures.slips port (omega (arith, long.1)) in
     let most = s.settles.within in (
       subst (λ (r : HeldRing). MayList (length r.circuits.circuits) c.args.self.now.listing) (sym held) may.0,
-      next_by 65536 c.args.number (length s.rounds) w left held (omega (arith, most, c.requires.few)) long.0 none (c.in_ok-settle.ensures.prepared (settled_whole w left c.args.limit s may.1.whole)) later may.1,
+      next_by 65536 c.args.number (length s.rounds) w left held (omega (arith, most, c.requires.few)) long.0 none
+          (c.in_ok-settle.ensures.prepared (settled_whole w left c.args.limit s may.1.whole)) later may.1,
     )
 
 pub returns-clause-room : goal.returns-clause-room
 returns-clause-room g c =
-    let same = ap (λ (x : HeldRing). report_room c.args.self.now.listing (length x.ids) (length x.circuits.circuits)) (settled_held _ _ c.args.limit c.in_ok-settle.ensures.outcome) in
+    let same =
+    ap (λ (x : HeldRing). report_room c.args.self.now.listing (length x.ids) (length x.circuits.circuits))
+    (settled_held _ _ c.args.limit c.in_ok-settle.ensures.outcome) in
     omega (arith, same, c.put_report.ensures.room)
 
 pub returns-clause-same_room : goal.returns-clause-same_room
-returns-clause-same_room g c = ap (λ (x : HeldRing). report_room c.args.self.now.listing (length x.ids) (length x.circuits.circuits)) (settled_held _ _ c.args.limit c.in_ok-settle.ensures.outcome)
+returns-clause-same_room g c =
+    ap (λ (x : HeldRing). report_room c.args.self.now.listing (length x.ids) (length x.circuits.circuits))
+    (settled_held _ _ c.args.limit c.in_ok-settle.ensures.outcome)

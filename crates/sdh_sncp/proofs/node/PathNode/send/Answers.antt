@@ -31,7 +31,8 @@ invariant_of-self c =
       east_out_rate = c.send_both-west_made.ensures.rates.1 ∙ inv.east_out_rate ∙ sym rate;
       ports = subst (λ r. All (IsTributary (n_of r / 2) (i.rounds + 1)) c.feed.new.self) (sym rate)
           (subst (All (IsTributary slots (i.rounds + 1))) (sym c.feed.ensures)
-          (fed_are slots i.rounds _ (subst (All (IsTributary slots i.rounds)) (sym c.deliver.ensures) (delivered_are (dropped_to c.take-taken.new.self) slots i.rounds i.ports inv.ports))));
+          (fed_are slots i.rounds _ (subst (All (IsTributary slots i.rounds)) (sym c.deliver.ensures)
+          (delivered_are (dropped_to c.take-taken.new.self) slots i.rounds i.ports inv.ports))));
     }
 
 pub returns-clause-west : goal.returns-clause-west

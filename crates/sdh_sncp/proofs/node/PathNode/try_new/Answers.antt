@@ -13,5 +13,7 @@ invariant_of-result c =
     record {
       west_out_rate = ap (λ (s : Sending). s.section.rate) c.in_ok-try_new-2.ensures ∙ sym rate;
       east_out_rate = ap (λ (s : Sending). s.section.rate) c.in_ok-try_new-3.ensures ∙ sym rate;
-      ports = subst (λ slots. All (IsTributary slots 0) c.in_ok-try_new.field-0) (c.requires.slots ∙ ap (λ r. n_of r / 2) (sym rate)) c.in_ok-try_new.ensures.slots;
+      ports =
+          subst (λ slots. All (IsTributary slots 0) c.in_ok-try_new.field-0)
+          (c.requires.slots ∙ ap (λ r. n_of r / 2) (sym rate)) c.in_ok-try_new.ensures.slots;
     }

@@ -20,11 +20,16 @@ returns-clause-port c =
     let circuit = c.get.result.now in
     let p = (end_of circuit id.end).0 in
     let node = c.index.result.now in
-    let below : id.circuit < length cs = subst (λ (r : HeldPath). id.circuit < length r.circuits.circuits) (sym c.self.view_is) c.requires in
+    let below : id.circuit < length cs =
+    subst (λ (r : HeldPath). id.circuit < length r.circuits.circuits) (sym c.self.view_is) c.requires in
     let read : get_or cs id.circuit circuit ≡ circuit = get_or_from_slice_get cs id.circuit circuit circuit c.get.ensures in
     let inside = end_inside c.self.inside.circuits c.self.inside.map id.circuit circuit id.end inv.circuits inv.kept below read in
-    let found : node ≡ get_or c.self.inside.nodes.items (end_of circuit id.end).0 node = c.index.ensures ∙ ap (λ p. get_or c.self.inside.nodes.items p.0 node) c.end_of-at.ensures in
-    subst (λ (n : PathNode). HasPort n.ports id) (sym found) (has_fixed id (get_or c.self.inside.nodes.items p node) (new_node settings c.self.inside.map cs (position_of p)) (node_is settings c.self.inside.map cs (length c.self.inside.map) c.self.inside.nodes.items p node inv.nodes inside) (new_has settings c.self.inside.map cs p id (has_own cs circuit id below read)))
+    let found : node ≡ get_or c.self.inside.nodes.items (end_of circuit id.end).0 node =
+    c.index.ensures ∙ ap (λ p. get_or c.self.inside.nodes.items p.0 node) c.end_of-at.ensures in
+    subst (λ (n : PathNode). HasPort n.ports id) (sym found)
+    (has_fixed id (get_or c.self.inside.nodes.items p node) (new_node settings c.self.inside.map cs (position_of p))
+    (node_is settings c.self.inside.map cs (length c.self.inside.map) c.self.inside.nodes.items p node inv.nodes inside)
+    (new_has settings c.self.inside.map cs p id (has_own cs circuit id below read)))
 
 pub returns-clause-outlet : goal.returns-clause-outlet
 returns-clause-outlet c =
@@ -33,13 +38,16 @@ returns-clause-outlet c =
     let id = c.args.port in
     let circuit = c.get.result.now in
     let node = c.index.result.now in
-    let below : id.circuit < length cs = subst (λ (r : HeldPath). id.circuit < length r.circuits.circuits) (sym c.self.view_is) c.requires in
+    let below : id.circuit < length cs =
+    subst (λ (r : HeldPath). id.circuit < length r.circuits.circuits) (sym c.self.view_is) c.requires in
     let read : get_or cs id.circuit circuit ≡ circuit = get_or_from_slice_get cs id.circuit circuit circuit c.get.ensures in
     let inside = end_inside c.self.inside.circuits c.self.inside.map id.circuit circuit id.end inv.circuits inv.kept below read in
     let count = count_of _ inv in
-    let found : node ≡ get_or c.self.inside.nodes.items (end_of circuit id.end).0 node = c.index.ensures ∙ ap (λ p. get_or c.self.inside.nodes.items p.0 node) c.end_of-at.ensures in
+    let found : node ≡ get_or c.self.inside.nodes.items (end_of circuit id.end).0 node =
+    c.index.ensures ∙ ap (λ p. get_or c.self.inside.nodes.items p.0 node) c.end_of-at.ensures in
     subst (λ (r : HeldPath). outlet_at r id ≡ outlet_of id node.ports) c.self.view_is
-    (outlet_is _ id circuit node c.get.ensures (slice_get_read c.self.inside.nodes.items (length c.self.inside.nodes.items) (end_of circuit id.end).0 node refl (omega (arith, inside, count)) found))
+    (outlet_is _ id circuit node c.get.ensures (slice_get_read c.self.inside.nodes.items (length c.self.inside.nodes.items)
+    (end_of circuit id.end).0 node refl (omega (arith, inside, count)) found))
 
 pub index-requires : goal.index-requires
 index-requires c =
@@ -47,7 +55,8 @@ index-requires c =
     let cs = c.self.inside.circuits.circuits in
     let id = c.args.port in
     let circuit = c.get.result.now in
-    let below : id.circuit < length cs = subst (λ (r : HeldPath). id.circuit < length r.circuits.circuits) (sym c.self.view_is) c.requires in
+    let below : id.circuit < length cs =
+    subst (λ (r : HeldPath). id.circuit < length r.circuits.circuits) (sym c.self.view_is) c.requires in
     let read : get_or cs id.circuit circuit ≡ circuit = get_or_from_slice_get cs id.circuit circuit circuit c.get.ensures in
     let inside = end_inside c.self.inside.circuits c.self.inside.map id.circuit circuit id.end inv.circuits inv.kept below read in
     let size = count_of _ inv in

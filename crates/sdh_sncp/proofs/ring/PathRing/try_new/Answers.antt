@@ -11,4 +11,6 @@ returns-clause-whole c = λ f honest.
     (c.new_worlds_are_whole.ensures c.args.settings c.args.map c.args.circuits f c.len.ensures.ids honest)
 
 pub returns-clause-silent : goal.returns-clause-silent
-returns-clause-silent c = λ port. subst (λ (r : HeldPath). outlet_at r port ≡ silent) (sym c.of_nodes.ensures) (c.new_rings_are_silent.ensures c.args.settings c.args.map c.args.circuits port)
+returns-clause-silent c =
+    λ port. subst (λ (r : HeldPath). outlet_at r port ≡ silent) (sym c.of_nodes.ensures)
+    (c.new_rings_are_silent.ensures c.args.settings c.args.map c.args.circuits port)

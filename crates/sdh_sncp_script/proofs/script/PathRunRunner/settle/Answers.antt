@@ -23,7 +23,8 @@ returns-clause-next g c =
     let w = world c.args.self.now.ring (means c.args.plant.now) in
     let left = world c.settle.new.self (means c.settle.new.plant) in
     let s = c.in_ok-settle.ensures.outcome in
-    settled_next c.args.limit c.args.number w left c.requires.few s (c.in_ok-settle.ensures.prepared (settled_whole w left c.args.limit s c.requires.may.1.whole))
+    settled_next c.args.limit c.args.number w left c.requires.few s
+    (c.in_ok-settle.ensures.prepared (settled_whole w left c.args.limit s c.requires.may.1.whole))
 
 pub returns-clause-room : goal.returns-clause-room
 returns-clause-room g c = omega (arith, settled_room _ _ c.args.limit c.in_ok-settle.ensures.outcome, c.put_report.ensures.room)

@@ -22,15 +22,25 @@ loop-p-preserved c =
     record {
       long = length-set c.loop-p.local p (both west east) ∙ c.loop-p.invariant.long;
       each = λ plan are. set_next (λ (x : LocalRequests). x) (asked_at plan case) c.loop-p.local p (both west east) no_requests
-          (omega (arith, c.loop-p-test.true, c.len-n.ensures.len, c.len-n.ensures.few, c.loop-p.invariant.long)) (c.loop-p.invariant.each plan are)
-          (ap (λ w. both w east) (c.request.ensures plan are) ∙ ap (both (asks_with plan case p West)) (c.request-in-loop-p.ensures plan are));
+          (omega (arith, c.loop-p-test.true, c.len-n.ensures.len, c.len-n.ensures.few, c.loop-p.invariant.long))
+          (c.loop-p.invariant.each plan are)
+          (ap (λ w. both w east) (c.request.ensures plan are)
+          ∙ ap (both (asks_with plan case p West)) (c.request-in-loop-p.ensures plan are));
     }
 
 pub loop-s-preserved : goal.loop-s-preserved
 loop-s-preserved c = record {
   long = length-set c.loop-s.requests c.loop-s.s c.span_request.result ∙ c.loop-s.invariant.long;
-  each = set_next code_number (slice_index (requests_of (take c.len-n.result c.loop-p.local))) c.loop-s.requests c.loop-s.s c.span_request.result Nr
-      (omega (arith, c.loop-s-test.true, c.len-n.ensures.len, c.len-n.ensures.few, c.loop-s.invariant.long)) c.loop-s.invariant.each c.span_request.ensures;
+  each =
+      set_next code_number
+      (slice_index (requests_of (take c.len-n.result c.loop-p.local))) c.loop-s.requests c.loop-s.s c.span_request.result Nr
+      (omega (
+        arith,
+        c.loop-s-test.true,
+        c.len-n.ensures.len,
+        c.len-n.ensures.few,
+        c.loop-s.invariant.long,
+      )) c.loop-s.invariant.each c.span_request.ensures;
 }
 
 pub returns : goal.returns
@@ -43,7 +53,9 @@ returns c = λ plan are. (
     let few : n ≤ length codes = omega (arith, c.len-n.ensures.len, c.len-n.ensures.few, c.loop-s.invariant.long) in
     let within : n ≤ length local = omega (arith, c.len-n.ensures.len, c.len-n.ensures.few, c.loop-p.invariant.long) in
     let codes_told = codes_are n codes local few within (λ k low. c.loop-s.invariant.each k (omega (arith, low, c.loop-s-test.false))) in
-    let told = requests_are plan case n local same within (λ q low. c.loop-p.invariant.each plan are q (omega (arith, low, c.loop-p-test.false))) in
+    let told =
+    requests_are plan case n local same within (λ q low. c.loop-p.invariant.each plan are q
+    (omega (arith, low, c.loop-p-test.false))) in
     let size : length (take n codes) ≡ length plan.nodes = length-take-le n codes few ∙ same in
     subst (λ rs. AreApplied (length plan.nodes) (is_applied rs) c.count.result) (codes_told ∙ told)
     (subst (λ m. AreApplied m (is_applied (map code_number (take n codes))) c.count.result) size c.count.ensures))

@@ -21,7 +21,8 @@ loop-number-preserved c =
     let at = c.place_at.result in
     let value : resting_of c.rests.result ≡ f k =
     c.rests.ensures
-    ∙ ap (λ t. walk.rests t (length c.map-map.result.now) at.at.0 at.side steps model.fresh) (ap (λ s. s.threshold) c.settings-settings.ensures.settings)
+    ∙ ap (λ t. walk.rests t (length c.map-map.result.now) at.at.0 at.side steps model.fresh)
+    (ap (λ s. s.threshold) c.settings-settings.ensures.settings)
     ∙ ap (λ (l : List ℕ). walk.rests plan.settings.threshold (length l) at.at.0 at.side steps model.fresh) c.map-map.ensures
     ∙ ap (λ p. walk.rests plan.settings.threshold (length plan.nodes) p at.side steps model.fresh) c.place_at.ensures.at
     ∙ ap (λ d. walk.rests plan.settings.threshold (length plan.nodes) (k / 2) d steps model.fresh) c.place_at.ensures.side
