@@ -18,7 +18,8 @@ unfolding from_bits
 bit_at-from_bits b zero j small h = absurd (omega arith)
 bit_at-from_bits b (suc n) zero small h = bit_at_lowest (b 0 + 2 * from_bits (λ k. b (suc k)) n) ∙ low _ _ (small 0)
 bit_at-from_bits b (suc n) (suc j) small h =
-    bit_at-suc (b 0 + 2 * from_bits (λ k. b (suc k)) n) j ∙ ap (λ m. bit_at m j) (high _ _ (small 0)) ∙ bit_at-from_bits (λ k. b (suc k)) n j (λ k. small (suc k)) (omega arith)
+    bit_at-suc (b 0 + 2 * from_bits (λ k. b (suc k)) n) j ∙ ap (λ m. bit_at m j) (high _ _ (small 0))
+    ∙ bit_at-from_bits (λ k. b (suc k)) n j (λ k. small (suc k)) (omega arith)
 
 pub from_bits-lt : (b : ℕ → ℕ) (n : ℕ) → ((k : ℕ) → b k < 2) → from_bits b n < 2 ^ n
 unfolding from_bits
@@ -56,4 +57,5 @@ pub bip8-append : (xs ys : List ℕ) → bip8 (xs ++ ys) ≡ bit_xor (bip8 xs) (
 bip8-append xs ys =
     same_from_bits_below 8 _ _ (bip8-lt _) (xor_lt 8 _ _ (bip8-lt xs) (bip8-lt ys))
     (λ j lt. bit_at-bip8 (xs ++ ys) j lt ∙ ap (λ n. n % 2) (sum_by-append (λ y. bit_at y j) xs ys) ∙ mod_sums (ones_at j xs) (ones_at j ys)
-    ∙ ap (λ n. (n + ones_at j ys % 2) % 2) (sym (bit_at-bip8 xs j lt)) ∙ ap (λ n. (bit_at (bip8 xs) j + n) % 2) (sym (bit_at-bip8 ys j lt)) ∙ sym (bit_at_xor (bip8 xs) (bip8 ys) j))
+    ∙ ap (λ n. (n + ones_at j ys % 2) % 2) (sym (bit_at-bip8 xs j lt)) ∙ ap (λ n. (bit_at (bip8 xs) j + n) % 2) (sym (bit_at-bip8 ys j lt))
+    ∙ sym (bit_at_xor (bip8 xs) (bip8 ys) j))

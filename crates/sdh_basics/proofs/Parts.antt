@@ -23,5 +23,6 @@ put_below a n s part k h r = search (rules, places)
 pub put_in : (a n : ℕ) (s part : List ℕ) (k : ℕ) → k < length part → a ≤ length s → get_or (put_mid a n s part) (a + k) 0 ≡ get_or part k 0
 put_in a n s part k h r = search (rules, places)
 
-pub put_above : (a n : ℕ) (s part : List ℕ) (k : ℕ) → a + n ≤ k → length part ≡ n → a ≤ length s → get_or (put_mid a n s part) k 0 ≡ get_or s k 0
+pub put_above : (a n : ℕ) (s part : List ℕ) (k : ℕ) → a + n ≤ k → length part ≡ n → a ≤ length s
+    → get_or (put_mid a n s part) k 0 ≡ get_or s k 0
 put_above a n s part k h e r = search (rules, places)

@@ -1,5 +1,6 @@
 -- A circuit that passes all checks keeps the circuits apart.
-use Rattle.std.proofs.Common.{◌≡◌, ℕ, zero, suc, ◌<◌, ◌≤◌, List, [], ◌∷◌, ◌++◌, length, get_or, Bool, true, false, not, nat_le, Option, Some, None, refl, sym, ap, ◌∙◌, subst, arith, ◌⊎◌, inl, inr}
+use Rattle.std.proofs.Common.{◌≡◌, ℕ, zero, suc, ◌<◌, ◌≤◌, List, [], ◌∷◌, ◌++◌, length, get_or, Bool, true, false, not, nat_le, Option}
+use Rattle.std.proofs.Common.{Some, None, refl, sym, ap, ◌∙◌, subst, arith, ◌⊎◌, inl, inr}
 use Rattle.std.specs.Prelude.{ℤ, pos, negsuc, IfSome, slice_get}
 use Rattle.std.specs.List.{list_any}
 use Rattle.std.specs.Str.{bytes_eq}
@@ -15,7 +16,8 @@ use Rattle.sdh_circuits.specs.Provisioning.{Provisioning, IsProvisioning, AreCir
 use Rattle.sdh_circuits.specs.Checks.{Wish, do_share, is_within, has_slot, has_offsets, is_free_name, circuit_of, with_circuit}
 use Rattle.sdh_circuits.proofs.Shares.{shared}
 
-pushed : {X : Type 0} (xs : List X) (x y : X) (i : ℕ) → slice_get (xs ++ x ∷ []) i ≡ Some y → (slice_get xs i ≡ Some y) ⊎ ((i ≡ length xs) × (x ≡ y))
+pushed : {X : Type 0} (xs : List X) (x y : X) (i : ℕ) → slice_get (xs ++ x ∷ []) i ≡ Some y
+    → (slice_get xs i ≡ Some y) ⊎ ((i ≡ length xs) × (x ≡ y))
 pushed [] x y zero e = inr (refl, cc)
 pushed [] x y (suc i) e = cc
 pushed (z ∷ zs) x y zero e = inl e
@@ -36,7 +38,8 @@ none_at p xs x i none e marked =
     cc
 
 -- two places with a mark that no two elements share
-two_places : {X : Type 0} (R : X → X → Type 0) (xs : List X) (x : X) → ((i j : ℕ) (c d : X) → slice_get xs i ≡ Some c → slice_get xs j ≡ Some d → R c d → i ≡ j)
+two_places : {X : Type 0} (R : X → X → Type 0) (xs : List X) (x : X)
+    → ((i j : ℕ) (c d : X) → slice_get xs i ≡ Some c → slice_get xs j ≡ Some d → R c d → i ≡ j)
     → ((j : ℕ) (d : X) → slice_get xs j ≡ Some d → R x d → ⊥) → ((j : ℕ) (d : X) → slice_get xs j ≡ Some d → R d x → ⊥)
     → (i j : ℕ) (c d : X) → slice_get (xs ++ x ∷ []) i ≡ Some c → slice_get (xs ++ x ∷ []) j ≡ Some d → R c d → i ≡ j
 two_places {X} R xs x old left right i j c d e f r =
@@ -52,8 +55,10 @@ two_places {X} R xs x old left right i j c d e f r =
     ]
 
 -- a circuit on a span where no kept one is in its slot, with a name of its own
-pub one_more : (n slots : ℕ) (circuits : List Provisioned) (c : Provisioned) → AreCircuits n slots circuits → IsInRing n c → IsInSlots slots c → HasOffsets c → is_name c.name ≡ true
-    → list_any (λ d. bytes_eq d.name c.name) circuits ≡ false → list_any (do_share n c) circuits ≡ false → AreCircuits n slots (circuits ++ c ∷ [])
+pub one_more : (n slots : ℕ) (circuits : List Provisioned) (c : Provisioned) → AreCircuits n slots circuits → IsInRing n c
+    → IsInSlots slots c → HasOffsets c → is_name c.name ≡ true
+    → list_any (λ d. bytes_eq d.name c.name) circuits ≡ false → list_any (do_share n c) circuits ≡ false
+    → AreCircuits n slots (circuits ++ c ∷ [])
 one_more n slots circuits c are ring slot small form name room = record {
   in_ring = All-push (IsInRing n) circuits c are.in_ring ring;
   in_slots = All-push (IsInSlots slots) circuits c are.in_slots slot;
@@ -62,14 +67,17 @@ one_more n slots circuits c are ring slot small form name room = record {
   named_apart = two_places (λ a b. a.name ≡ b.name) circuits c are.named_apart
       (λ j d e same. none_at (λ k. bytes_eq k.name c.name) circuits d j name e ((bytes_eq-Decides d.name c.name).1 (sym same)))
       (λ j d e same. none_at (λ k. bytes_eq k.name c.name) circuits d j name e ((bytes_eq-Decides d.name c.name).1 same));
-  apart = λ i j s a b e f p q same. two_places (λ x y. (holds_span n (arc_of n x) s ≡ true) × (holds_span n (arc_of n y) s ≡ true) × (x.slot ≡ y.slot)) circuits c
+  apart =
+      λ i j s a b e f p q same. two_places (λ x y. (holds_span n (arc_of n x) s ≡ true) × (holds_span n (arc_of n y) s ≡ true)
+      × (x.slot ≡ y.slot)) circuits c
       (λ i j x y e f r. are.apart i j s x y e f r.0 r.1 r.2)
       (λ j d e r. none_at (do_share n c) circuits d j room e (shared n c d s r.0 r.1 r.2))
       (λ j d e r. none_at (do_share n c) circuits d j room e (shared n c d s r.1 r.0 (sym r.2)))
       i j a b e f (p, q, same);
 }
 
-ring_of_map : (ring : Option (List ℕ)) (slots : ℕ) (circuits : List Provisioned) (ids : List ℕ) → IsProvisioning (record { slots = slots; ring = ring; circuits = circuits })
+ring_of_map : (ring : Option (List ℕ)) (slots : ℕ) (circuits : List Provisioned) (ids : List ℕ)
+    → IsProvisioning (record { slots = slots; ring = ring; circuits = circuits })
     → IfSome ring (λ kept. kept ≡ ids) → AreCircuits (length ids) slots circuits
 ring_of_map None slots circuits ids is same =
     let P : List Provisioned → Type 0 = λ cs. AreCircuits (length ids) slots cs in
@@ -85,9 +93,11 @@ ring_of_map (Some kept) slots circuits ids is same =
     let P : ℕ → Type 0 = λ n. AreCircuits n slots circuits in subst P (ap length same) is.circuits
 
 -- the circuit map with one circuit more
-pub with_one_more : (p : Provisioning) (ids : List ℕ) (c : Provisioned) → IsProvisioning p → IfSome p.ring (λ kept. kept ≡ ids) → length ids ≤ 16
+pub with_one_more : (p : Provisioning) (ids : List ℕ) (c : Provisioned) → IsProvisioning p → IfSome p.ring (λ kept. kept ≡ ids)
+    → length ids ≤ 16
     → IsInRing (length ids) c → IsInSlots p.slots c → HasOffsets c → is_name c.name ≡ true
-    → list_any (λ d. bytes_eq d.name c.name) p.circuits ≡ false → list_any (do_share (length ids) c) p.circuits ≡ false → IsProvisioning (with_circuit p ids c)
+    → list_any (λ d. bytes_eq d.name c.name) p.circuits ≡ false → list_any (do_share (length ids) c) p.circuits ≡ false
+    → IsProvisioning (with_circuit p ids c)
 with_one_more p ids c is same few ring slot small form name room = record {
   rate = is.rate;
   ring_small = few;
@@ -104,8 +114,10 @@ in_offsets (pos n) e = leb-true n 782 (and_parts (nat_le 0 n) (nat_le n 782) e).
 in_offsets (negsuc n) e = cc
 
 -- the circuit map with the circuit that is asked for, where its slot, its name and its spans are free
-pub fits : (p : Provisioning) (ids : List ℕ) (wish : Wish) (c : Provisioned) → IsProvisioning p → IfSome p.ring (λ kept. kept ≡ ids) → length ids ≤ 16 → IsInRing (length ids) c
-    → c ≡ circuit_of ids wish → has_slot p.slots wish ≡ true → has_offsets wish ≡ true → is_free_name p.circuits wish.name ≡ true → list_any (do_share (length ids) c) p.circuits ≡ false
+pub fits : (p : Provisioning) (ids : List ℕ) (wish : Wish) (c : Provisioned) → IsProvisioning p → IfSome p.ring (λ kept. kept ≡ ids)
+    → length ids ≤ 16 → IsInRing (length ids) c
+    → c ≡ circuit_of ids wish → has_slot p.slots wish ≡ true → has_offsets wish ≡ true → is_free_name p.circuits wish.name ≡ true
+    → list_any (do_share (length ids) c) p.circuits ≡ false
     → IsProvisioning (with_circuit p ids c)
 fits p ids wish c is same few ring made slot pointers free room =
     let name = and_parts (is_name wish.name) (not (list_any (λ d. bytes_eq d.name wish.name) p.circuits)) free in

@@ -22,7 +22,8 @@ pub same_slot : (s t : Slot) → s.0 ≡ t.0 → s ≡ t
 same_slot s t e = let at : ℕ → Slot = λ k. record { 0 = k } in ap at e
 
 -- circuits with one first span and one slot are one circuit
-one_start : (n slots : ℕ) (circuits : List Provisioned) → AreCircuits n slots circuits → (i j : ℕ) (d : Provisioned) → i < length circuits → j < length circuits
+one_start : (n slots : ℕ) (circuits : List Provisioned) → AreCircuits n slots circuits → (i j : ℕ) (d : Provisioned) → i < length circuits
+    → j < length circuits
     → (get_or circuits i d).from.0 ≡ (get_or circuits j d).from.0 → (get_or circuits i d).slot.0 ≡ (get_or circuits j d).slot.0 → i ≡ j
 one_start n slots circuits are i j d hi hj from slot =
     let a = get_or circuits i d in
@@ -30,11 +31,14 @@ one_start n slots circuits are i j d hi hj from slot =
     let ra = are.in_ring i d hi in
     let rb = are.in_ring j d hj in
     let held : holds_span n (arc_of n a) a.from.0 ≡ true = holds_start n a.from.0 a.to.0 ra.from_inside ra.to_inside ra.two_ends in
-    let also : holds_span n (arc_of n b) a.from.0 ≡ true = ap (holds_span n (arc_of n b)) from ∙ holds_start n b.from.0 b.to.0 rb.from_inside rb.to_inside rb.two_ends in
-    are.apart i j a.from.0 a b (slice_get-get_or circuits i d hi) (slice_get-get_or circuits j d hj) held also (same_slot a.slot b.slot slot)
+    let also : holds_span n (arc_of n b) a.from.0 ≡ true =
+    ap (holds_span n (arc_of n b)) from ∙ holds_start n b.from.0 b.to.0 rb.from_inside rb.to_inside rb.two_ends in
+    are.apart i j a.from.0 a b (slice_get-get_or circuits i d hi) (slice_get-get_or circuits j d hj) held also
+    (same_slot a.slot b.slot slot)
 
 -- circuits with one key are one circuit
-key_apart : (n slots : ℕ) (circuits : List Provisioned) → AreCircuits n slots circuits → n ≤ 16 → (i j : ℕ) (d : Provisioned) → i < length circuits → j < length circuits
+key_apart : (n slots : ℕ) (circuits : List Provisioned) → AreCircuits n slots circuits → n ≤ 16 → (i j : ℕ) (d : Provisioned)
+    → i < length circuits → j < length circuits
     → key (get_or circuits i d) ≡ key (get_or circuits j d) → i ≡ j
 unfolding key
 key_apart n slots circuits are few i j d hi hj e =
@@ -44,7 +48,8 @@ key_apart n slots circuits are few i j d hi hj e =
     let sb = are.in_slots j d hj in
     one_start n slots circuits are i j d hi hj (omega arith) (omega arith)
 
-key_small : (n slots : ℕ) (circuits : List Provisioned) → AreCircuits n slots circuits → n ≤ 16 → slots ≤ 8 → (i : ℕ) (d : Provisioned) → i < length circuits → key (get_or circuits i d) < 128
+key_small : (n slots : ℕ) (circuits : List Provisioned) → AreCircuits n slots circuits → n ≤ 16 → slots ≤ 8 → (i : ℕ) (d : Provisioned)
+    → i < length circuits → key (get_or circuits i d) < 128
 unfolding key
 key_small n slots circuits are few half i d hi =
     let ra = are.in_ring i d hi in
@@ -54,7 +59,8 @@ key_small n slots circuits are few half i d hi =
 keys : List Provisioned → List ℕ
 keys circuits = map key circuits
 
-keys_at : (circuits : List Provisioned) (i e : ℕ) (d : Provisioned) → i < length circuits → get_or (keys circuits) i e ≡ key (get_or circuits i d)
+keys_at : (circuits : List Provisioned) (i e : ℕ) (d : Provisioned) → i < length circuits
+    → get_or (keys circuits) i e ≡ key (get_or circuits i d)
 unfolding keys
 keys_at circuits i e d h = get_or-map key circuits i d e h
 
@@ -62,7 +68,8 @@ length-keys : (circuits : List Provisioned) → length (keys circuits) ≡ lengt
 unfolding keys
 length-keys circuits = simp length-map
 
-keys_small : (n slots : ℕ) (circuits : List Provisioned) → AreCircuits n slots circuits → n ≤ 16 → slots ≤ 8 → (d : Provisioned) (q : ℕ) → list_any (eqb q) (keys circuits) ≡ true → q < 128
+keys_small : (n slots : ℕ) (circuits : List Provisioned) → AreCircuits n slots circuits → n ≤ 16 → slots ≤ 8 → (d : Provisioned) (q : ℕ)
+    → list_any (eqb q) (keys circuits) ≡ true → q < 128
 keys_small n slots circuits are few half d q e =
     let found = Any-from_list_any (eqb q) (keys circuits) e in
     let k = found.0 in
@@ -86,4 +93,5 @@ few_below n slots (c ∷ cs) are few half =
     omega (arith, length-keys all, length-le_from_distinct_below (keys all) 128 distinct below)
 
 pub few_circuits : (p : Provisioning) → IsProvisioning p → length p.circuits ≤ 128
-few_circuits p is = few_below (size_of p) p.slots p.circuits is.circuits is.ring_small (elim is.rate [ inl e ↦ omega arith | inr e ↦ omega arith ])
+few_circuits p is =
+    few_below (size_of p) p.slots p.circuits is.circuits is.ring_small (elim is.rate [ inl e ↦ omega arith | inr e ↦ omega arith ])

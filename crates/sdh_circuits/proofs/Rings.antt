@@ -37,8 +37,10 @@ empty_has_none : {P : Type 0} (cs : List Provisioned) (i : ℕ) → cs ≡ [] �
 empty_has_none cs i none h = let len : length cs ≡ 0 = ap length none in absurd (omega arith)
 
 -- each is at a position of the ring
-pub end_inside : (p : Provisioning) (ids : List ℕ) (i : ℕ) (c : Provisioned) (e : End) → IsProvisioning p → KeepsRing p ids → i < length p.circuits → get_or p.circuits i c ≡ c → (end_of c e).0 < length ids
+pub end_inside : (p : Provisioning) (ids : List ℕ) (i : ℕ) (c : Provisioned) (e : End) → IsProvisioning p → KeepsRing p ids
+    → i < length p.circuits → get_or p.circuits i c ≡ c → (end_of c e).0 < length ids
 end_inside p ids i c e form (inl none) h read = empty_has_none p.circuits i none h
 end_inside p ids i c e form (inr kept) h read =
     let size : option_map_or length p.ring 0 ≡ length ids = ap (λ r. option_map_or length r 0) kept in
-    subst (λ n. (end_of c e).0 < n) size (end_within (option_map_or length p.ring 0) c e (subst (IsInRing (option_map_or length p.ring 0)) read (form.circuits.in_ring i c h)))
+    subst (λ n. (end_of c e).0 < n) size (end_within (option_map_or length p.ring 0) c e
+    (subst (IsInRing (option_map_or length p.ring 0)) read (form.circuits.in_ring i c h)))

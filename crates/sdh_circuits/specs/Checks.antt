@@ -1,6 +1,7 @@
 -- What is asked for a circuit, the checks in their order, and the circuit that is then added. The rules are
 -- this project's own.
-use Rattle.std.specs.Prelude.{ℕ, ℤ, pos, negsuc, Bool, false, ◌&&◌, not, ◌==◌, nat_le, if◌then◌else◌, List, [], ◌∷◌, ◌++◌, length, Option, Some, None}
+use Rattle.std.specs.Prelude.{ℕ, ℤ, pos, negsuc, Bool, false, ◌&&◌, not, ◌==◌, nat_le, if◌then◌else◌, List, [], ◌∷◌, ◌++◌, length, Option}
+use Rattle.std.specs.Prelude.{Some, None}
 use Rattle.std.specs.List.{list_any, range_with_len}
 use Rattle.std.specs.Option.{is_some, unwrap_or}
 use Rattle.std.specs.Ordering.{int_eq}
@@ -55,7 +56,8 @@ node_of ids number = if is_id number then found_at ids (magnitude number) else N
 
 -- two circuits of a ring of n share a span and a slot
 unfoldable pub do_share : ℕ → Provisioned → Provisioned → Bool
-do_share n c d = c.slot.0 == d.slot.0 && list_any (λ span. holds_span n (arc_of n c) span && holds_span n (arc_of n d) span) (range_with_len 0 n)
+do_share n c d =
+    c.slot.0 == d.slot.0 && list_any (λ span. holds_span n (arc_of n c) span && holds_span n (arc_of n d) span) (range_with_len 0 n)
 
 -- the position of a node that is in the ring
 abbrev pub place_of : List ℕ → ℤ → Pos

@@ -1,5 +1,6 @@
 -- One byte of an AU-4, read and written.
-use Rattle.std.proofs.Common.{◌≡◌, ◌≢◌, ℕ, ◌+◌, ◌*◌, ◌-◌, ◌/◌, ◌%◌, ◌<◌, ◌≤◌, Bool, true, false, eqb, leb, ltb, List, length, get_or, set, refl, ap, sym, ◌∙◌, arith, inl, inr}
+use Rattle.std.proofs.Common.{◌≡◌, ◌≢◌, ℕ, ◌+◌, ◌*◌, ◌-◌, ◌/◌, ◌%◌, ◌<◌, ◌≤◌, Bool, true, false, eqb, leb, ltb, List, length, get_or, set}
+use Rattle.std.proofs.Common.{refl, ap, sym, ◌∙◌, arith, inl, inr}
 use Rattle.std.specs.Prelude.{◌&&◌}
 use Rattle.std.proofs.lemmas.Bool.{cases_Bool, cases_eq, and_parts, eqb-true, leb-true, ltb-true, eq-eqb, le-leb, lt-ltb}
 use Rattle.std.proofs.lemmas.List.{length-set, get_or-set_same, get_or-set_other}
@@ -38,8 +39,10 @@ both true false p q = q
 both false b p q = p
 
 -- where a byte of a pointer stands
-pointer_source : (rate : Rate) (au i : ℕ) → 1 ≤ au → i < size_of rate → i % n_of rate + 1 ≡ au → i / (270 * n_of rate) ≡ 3 → i % (270 * n_of rate) < 9 * n_of rate
-    → (index_of (n_of rate) (place_of_pointer (n_of rate) au (i % (270 * n_of rate) / n_of rate)) ≡ i) × (i % (270 * n_of rate) / n_of rate < 9)
+pointer_source : (rate : Rate) (au i : ℕ) → 1 ≤ au → i < size_of rate → i % n_of rate + 1 ≡ au → i / (270 * n_of rate) ≡ 3
+    → i % (270 * n_of rate) < 9 * n_of rate
+    → (index_of (n_of rate) (place_of_pointer (n_of rate) au (i % (270 * n_of rate) / n_of rate)) ≡ i)
+    × (i % (270 * n_of rate) / n_of rate < 9)
 pointer_source Four au i low h lane row col = (omega arith, omega arith)
 pointer_source Sixteen au i low h lane row col = (omega arith, omega arith)
 
@@ -48,7 +51,8 @@ back Four au i high col = omega arith
 back Sixteen au i high col = omega arith
 
 module _ (rate : Rate) (au j v : ℕ) (s : List ℕ) (whole : length s ≡ size_of rate) (low : 1 ≤ au) (high : au ≤ n_of rate) where
-  pub set_payload : j < 2349 → set s (index_of (n_of rate) (payload_place (n_of rate) au j)) v ≡ with_payload (n_of rate) au (set (payload_of (n_of rate) au s) j v) s
+  pub set_payload : j < 2349 → set s (index_of (n_of rate) (payload_place (n_of rate) au j)) v
+      ≡ with_payload (n_of rate) au (set (payload_of (n_of rate) au s) j v) s
   set_payload few =
       let n = n_of rate in
       let at = index_of n (payload_place n au j) in
@@ -65,20 +69,26 @@ module _ (rate : Rate) (au j v : ℕ) (s : List ℕ) (whole : length s ≡ size_
             elim (cases_eq q j) [
               | inl same ↦ (
                   let here : at ≡ i = ap (λ k. index_of n (payload_place n au k)) (sym same) ∙ is in
-                  rw t (ap (λ k. get_or (set s at v) k 0) (sym here) ∙ get_or-set_same s at v 0 (omega (arith, there.within, whole)) ∙ sym (ap (λ k. get_or (set p j v) k 0) same ∙ get_or-set_same p j v 0 (omega (arith, long_payload n au s)))))
+                  rw t (ap (λ k. get_or (set s at v) k 0) (sym here) ∙ get_or-set_same s at v 0 (omega (arith, there.within, whole))
+                  ∙ sym (ap (λ k. get_or (set p j v) k 0) same ∙ get_or-set_same p j v 0 (omega (arith, long_payload n au s)))))
               | inr other ↦ (
-                  let away : i ≢ at = λ e. other (ap (λ k. 261 * (k / (270 * n)) + (k % (270 * n) - 9 * n) / n) e ∙ index_back there.row there.back) in
-                  rw t (get_or-set_other s at i v 0 away ∙ ap (λ k. get_or s k 0) (sym is) ∙ read_payload n au q s from.1 ∙ sym (get_or-set_other p j q v 0 other)))
+                  let away : i ≢ at =
+                  λ e. other (ap (λ k. 261 * (k / (270 * n)) + (k % (270 * n) - 9 * n) / n) e ∙ index_back there.row there.back) in
+                  rw t (get_or-set_other s at i v 0 away ∙ ap (λ k. get_or s k 0) (sym is) ∙ read_payload n au q s from.1
+                  ∙ sym (get_or-set_other p j q v 0 other)))
             ])
         | inr f ↦ (
-            let away : i ≢ at = λ e. absurd (let yes : true ≡ false = sym (both _ _ (eq-eqb _ _ there.number) (le-leb _ _ there.behind)) ∙ ap (is_payload n au) (sym e) ∙ f in cc) in
+            let away : i ≢ at =
+            λ e. absurd (let yes : true ≡ false = sym (both _ _ (eq-eqb _ _ there.number) (le-leb _ _ there.behind))
+            ∙ ap (is_payload n au) (sym e) ∙ f in cc) in
             rw f (get_or-set_other s at i v 0 away))
       ]))
     where
       index_back : {x y : ℕ} → x ≡ j / 261 → y ≡ j % 261 → 261 * x + y ≡ j
       index_back e f = omega arith
 
-  pub set_pointer : j < 9 → set s (index_of (n_of rate) (place_of_pointer (n_of rate) au j)) v ≡ with_pointers (n_of rate) au (set (pointers_of (n_of rate) au s) j v) s
+  pub set_pointer : j < 9 → set s (index_of (n_of rate) (place_of_pointer (n_of rate) au j)) v
+      ≡ with_pointers (n_of rate) au (set (pointers_of (n_of rate) au s) j v) s
   set_pointer few =
       let n = n_of rate in
       let at = index_of n (place_of_pointer n au j) in
@@ -94,13 +104,17 @@ module _ (rate : Rate) (au j v : ℕ) (s : List ℕ) (whole : length s ≡ size_
             elim (cases_eq q j) [
               | inl same ↦ (
                   let here : at ≡ i = ap (λ k. index_of n (place_of_pointer n au k)) (sym same) ∙ from.0 in
-                  rw t (ap (λ k. get_or (set s at v) k 0) (sym here) ∙ get_or-set_same s at v 0 (omega (arith, there.within, whole)) ∙ sym (ap (λ k. get_or (set p j v) k 0) same ∙ get_or-set_same p j v 0 (omega (arith, long_pointers n au s)))))
+                  rw t (ap (λ k. get_or (set s at v) k 0) (sym here) ∙ get_or-set_same s at v 0 (omega (arith, there.within, whole))
+                  ∙ sym (ap (λ k. get_or (set p j v) k 0) same ∙ get_or-set_same p j v 0 (omega (arith, long_pointers n au s)))))
               | inr other ↦ (
                   let away : i ≢ at = λ e. other (ap (λ k. k % (270 * n) / n) e ∙ there.back) in
-                  rw t (get_or-set_other s at i v 0 away ∙ ap (λ k. get_or s k 0) (sym from.0) ∙ read_pointer n au q s from.1 ∙ sym (get_or-set_other p j q v 0 other)))
+                  rw t (get_or-set_other s at i v 0 away ∙ ap (λ k. get_or s k 0) (sym from.0) ∙ read_pointer n au q s from.1
+                  ∙ sym (get_or-set_other p j q v 0 other)))
             ])
         | inr f ↦ (
-            let away : i ≢ at = λ e. absurd (let yes : true ≡ false = sym (both _ _ (both _ _ (eq-eqb _ _ there.number) (eq-eqb _ _ there.row)) (lt-ltb _ _ there.before)) ∙ ap (is_pointer n au) (sym e) ∙ f in cc) in
+            let away : i ≢ at =
+            λ e. absurd (let yes : true ≡ false = sym (both _ _ (both _ _ (eq-eqb _ _ there.number) (eq-eqb _ _ there.row))
+            (lt-ltb _ _ there.before)) ∙ ap (is_pointer n au) (sym e) ∙ f in cc) in
             rw f (get_or-set_other s at i v 0 away))
       ]))
 
@@ -138,7 +152,8 @@ pub one_list : WritingOneList
 unfolding with_au
 one_list = record {
   payload = λ rate au p bytes whole low high.
-      sym (ap (λ ps. with_pointers (n_of rate) au ps (with_payload (n_of rate) au p bytes)) (sym (pointers-with_payload rate bytes whole au au p low high))
+      sym (ap (λ ps. with_pointers (n_of rate) au ps (with_payload (n_of rate) au p bytes))
+      (sym (pointers-with_payload rate bytes whole au au p low high))
       ∙ pointers_again rate au 0 0 (with_payload (n_of rate) au p bytes) (length-with_payload rate bytes whole au p) low high);
   pointers = λ rate au ps bytes whole low high. sym (ap (with_pointers (n_of rate) au ps) (payload_again rate au 0 0 bytes whole low high));
 }

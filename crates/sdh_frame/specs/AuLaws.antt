@@ -19,19 +19,24 @@ pub record IsAu (is : Au) : Type 0 where
 pub record IsWritten (rate : Rate) (au : ℕ) (is : Au) (bytes : List ℕ) : Type 0 where
   pub size : length (with_au (n_of rate) au is bytes) ≡ size_of rate
   pub found : au_of (n_of rate) au (with_au (n_of rate) au is bytes) ≡ is
-  pub others : (other : ℕ) → 1 ≤ other → other ≤ n_of rate → other ≢ au → au_of (n_of rate) other (with_au (n_of rate) au is bytes) ≡ au_of (n_of rate) other bytes
+  pub others : (other : ℕ) → 1 ≤ other → other ≤ n_of rate → other ≢ au
+      → au_of (n_of rate) other (with_au (n_of rate) au is bytes) ≡ au_of (n_of rate) other bytes
   pub kept : (place : Place) → IsInFrame rate place → field_of rate place ≢ Payload au → ((p : ℕ) → field_of rate place ≢ Pointer au p)
       → slice_index (with_au (n_of rate) au is bytes) (index_of (n_of rate) place) ≡ slice_index bytes (index_of (n_of rate) place)
 
 abbrev pub WritingKeeps : Type 0
-WritingKeeps = (rate : Rate) (au : ℕ) (is : Au) (bytes : List ℕ) → length bytes ≡ size_of rate → 1 ≤ au → au ≤ n_of rate → IsAu is → IsWritten rate au is bytes
+WritingKeeps =
+    (rate : Rate) (au : ℕ) (is : Au) (bytes : List ℕ) → length bytes ≡ size_of rate → 1 ≤ au → au ≤ n_of rate → IsAu is
+    → IsWritten rate au is bytes
 
 -- writing one list of an AU-4 is writing the AU-4 with its other list as it stands there
 pub record WritingOneList : Type 0 where
   pub payload : (rate : Rate) (au : ℕ) (payload bytes : List ℕ) → length bytes ≡ size_of rate → 1 ≤ au → au ≤ n_of rate
-      → with_payload (n_of rate) au payload bytes ≡ with_au (n_of rate) au (record { pointers = pointers_of (n_of rate) au bytes; payload = payload }) bytes
+      → with_payload (n_of rate) au payload bytes ≡ with_au (n_of rate) au
+      (record { pointers = pointers_of (n_of rate) au bytes; payload = payload }) bytes
   pub pointers : (rate : Rate) (au : ℕ) (pointers bytes : List ℕ) → length bytes ≡ size_of rate → 1 ≤ au → au ≤ n_of rate
-      → with_pointers (n_of rate) au pointers bytes ≡ with_au (n_of rate) au (record { pointers = pointers; payload = payload_of (n_of rate) au bytes }) bytes
+      → with_pointers (n_of rate) au pointers bytes ≡ with_au (n_of rate) au
+      (record { pointers = pointers; payload = payload_of (n_of rate) au bytes }) bytes
 
 -- the field is no byte of an AU-4
 pub record IsOverhead (rate : Rate) (place : Place) : Type 0 where
@@ -45,13 +50,18 @@ IsAuByte rate place = ((au : ℕ) × (field_of rate place ≡ Payload au)) ⊎ (
 -- of a frame into which these AU-4s were written one after the other, from number 1 on: each is found, and overhead stays
 pub record AreWritten (rate : Rate) (aus : List Au) (bytes : List ℕ) : Type 0 where
   pub size : length (with_aus (n_of rate) 1 aus bytes) ≡ size_of rate
-  pub found : (j : ℕ) (none : Au) → j < length aus → j < n_of rate → IsAu (slice_index_or aus j none) → au_of (n_of rate) (1 + j) (with_aus (n_of rate) 1 aus bytes) ≡ slice_index_or aus j none
-  pub kept : (place : Place) → IsInFrame rate place → IsOverhead rate place → slice_index (with_aus (n_of rate) 1 aus bytes) (index_of (n_of rate) place) ≡ slice_index bytes (index_of (n_of rate) place)
+  pub found : (j : ℕ) (none : Au) → j < length aus → j < n_of rate → IsAu (slice_index_or aus j none)
+      → au_of (n_of rate) (1 + j) (with_aus (n_of rate) 1 aus bytes) ≡ slice_index_or aus j none
+  pub kept : (place : Place) → IsInFrame rate place → IsOverhead rate place
+      → slice_index (with_aus (n_of rate) 1 aus bytes) (index_of (n_of rate) place) ≡ slice_index bytes (index_of (n_of rate) place)
 
 abbrev pub WritingAllKeeps : Type 0
 WritingAllKeeps = (rate : Rate) (aus : List Au) (bytes : List ℕ) → length bytes ≡ size_of rate → AreWritten rate aus bytes
 
 -- once all AU-4s are written, no byte of them depends on what stood in the frame before
 abbrev pub WritingAllCovers : Type 0
-WritingAllCovers = (rate : Rate) (aus : List Au) (bytes other : List ℕ) (place : Place) → length bytes ≡ size_of rate → length other ≡ size_of rate → length aus ≡ n_of rate → IsInFrame rate place → IsAuByte rate place
-    → slice_index (with_aus (n_of rate) 1 aus bytes) (index_of (n_of rate) place) ≡ slice_index (with_aus (n_of rate) 1 aus other) (index_of (n_of rate) place)
+WritingAllCovers =
+    (rate : Rate) (aus : List Au) (bytes other : List ℕ) (place : Place) → length bytes ≡ size_of rate → length other ≡ size_of rate
+    → length aus ≡ n_of rate → IsInFrame rate place → IsAuByte rate place
+    → slice_index (with_aus (n_of rate) 1 aus bytes) (index_of (n_of rate) place)
+    ≡ slice_index (with_aus (n_of rate) 1 aus other) (index_of (n_of rate) place)

@@ -35,7 +35,8 @@ pub record HasPayloadIndex (rate : Rate) (place : Place) (au : ℕ) : Type 0 whe
   pub only : (k : ℕ) → k < 2349 → payload_place (n_of rate) au k ≡ place → k ≡ j
 
 abbrev pub PayloadIndexes : Type 0
-PayloadIndexes = (rate : Rate) (place : Place) (au : ℕ) → IsInFrame rate place → field_of rate place ≡ Payload au → HasPayloadIndex rate place au
+PayloadIndexes =
+    (rate : Rate) (place : Place) (au : ℕ) → IsInFrame rate place → field_of rate place ≡ Payload au → HasPayloadIndex rate place au
 
 -- the place of pointer byte p of an AU-4 is in the frame, and its field is that byte
 pub record IsPointerPlace (rate : Rate) (au p : ℕ) : Type 0 where
@@ -54,4 +55,5 @@ pub record HasPointerIndex (rate : Rate) (place : Place) (au p : ℕ) : Type 0 w
   pub only : (q : ℕ) → q < 9 → place_of_pointer (n_of rate) au q ≡ place → q ≡ p
 
 abbrev pub PointerIndexes : Type 0
-PointerIndexes = (rate : Rate) (place : Place) (au p : ℕ) → IsInFrame rate place → field_of rate place ≡ Pointer au p → HasPointerIndex rate place au p
+PointerIndexes =
+    (rate : Rate) (place : Place) (au p : ℕ) → IsInFrame rate place → field_of rate place ≡ Pointer au p → HasPointerIndex rate place au p

@@ -34,13 +34,15 @@ module _ (v : List (List ℕ)) (t a : ℕ) (xs : List ℕ) (small : a < 2) (are 
         | inl low ↦ (
             let row : t ≡ t + j / 4 = omega arith in
             let lane : 4 * ((2 * j + a) / 2) + (2 + (2 * j + a) % 2) ≡ 4 * (j % 4) + (2 + a) = omega arith in
-            are.first (2 * j + a) (omega arith) ∙ ap (λ m. cell v m (4 * ((2 * j + a) / 2) + (2 + (2 * j + a) % 2))) row ∙ ap (cell v (t + j / 4)) lane)
+            are.first (2 * j + a) (omega arith) ∙ ap (λ m. cell v m (4 * ((2 * j + a) / 2) + (2 + (2 * j + a) % 2))) row
+            ∙ ap (cell v (t + j / 4)) lane)
         | inr high ↦ (
             let i : ℕ = 2 * j + a - 8 in
             let e : 2 * j + a ≡ 8 + i = omega arith in
             let row : t + 1 ≡ t + j / 4 = omega arith in
             let lane : 4 * (i / 2) + (2 + i % 2) ≡ 4 * (j % 4) + (2 + a) = omega arith in
-            ap (λ m. get_or xs m 0) e ∙ are.second i (omega arith) ∙ ap (λ m. cell v m (4 * (i / 2) + (2 + i % 2))) row ∙ ap (cell v (t + j / 4)) lane)
+            ap (λ m. get_or xs m 0) e ∙ are.second i (omega arith) ∙ ap (λ m. cell v m (4 * (i / 2) + (2 + i % 2))) row
+            ∙ ap (cell v (t + j / 4)) lane)
       ]
 
 module _ (v : List (List ℕ)) (a : ℕ) (xs ys : List ℕ) (small : a < 2) (low : ArePairs v 0 xs) (high : ArePairs v 2 ys) where
@@ -50,22 +52,27 @@ module _ (v : List (List ℕ)) (a : ℕ) (xs ys : List ℕ) (small : a < 2) (low
       ∙ elim (cases_lt j 8) [
         | inl front ↦ (
             let e : 0 + j / 4 ≡ j / 4 = omega arith in
-            get_or_append_left xs ys 0 (2 * j + a) (omega (arith, low.long)) ∙ in_pairs v 0 a xs small low j front ∙ ap (λ m. cell v m (4 * (j % 4) + (2 + a))) e)
+            get_or_append_left xs ys 0 (2 * j + a) (omega (arith, low.long)) ∙ in_pairs v 0 a xs small low j front
+            ∙ ap (λ m. cell v m (4 * (j % 4) + (2 + a))) e)
         | inr back ↦ (
             let i : ℕ = j - 8 in
             let e : 2 * j + a - 16 ≡ 2 * i + a = omega arith in
             let row : 2 + i / 4 ≡ j / 4 = omega arith in
             let lane : 4 * (i % 4) + (2 + a) ≡ 4 * (j % 4) + (2 + a) = omega arith in
-            get_or-append_right xs ys 16 (2 * j + a) 0 low.long (omega arith) ∙ ap (λ m. get_or ys m 0) e ∙ in_pairs v 2 a ys small high i (omega arith)
+            get_or-append_right xs ys 16 (2 * j + a) 0 low.long (omega arith) ∙ ap (λ m. get_or ys m 0) e
+            ∙ in_pairs v 2 a ys small high i (omega arith)
             ∙ ap (λ m. cell v m (4 * (i % 4) + (2 + a))) row ∙ ap (cell v (j / 4)) lane)
       ]
 
 -- both rows
-pub in_both : (v : List (List ℕ)) (xs ys : List ℕ) → ArePairs v 0 xs → ArePairs v 2 ys → (a j : ℕ) → a < 2 → j < 16 → cell (every_second 0 xs ys ∷ every_second 1 xs ys ∷ []) a j ≡ cell v (j / 4) (4 * (j % 4) + (2 + a))
+pub in_both : (v : List (List ℕ)) (xs ys : List ℕ) → ArePairs v 0 xs → ArePairs v 2 ys → (a j : ℕ) → a < 2 → j < 16
+    → cell (every_second 0 xs ys ∷ every_second 1 xs ys ∷ []) a j ≡ cell v (j / 4) (4 * (j % 4) + (2 + a))
 in_both v xs ys low high a j small h =
     elim (cases_eq a 0) [
-      | inl e ↦ ap (λ m. cell (every_second 0 xs ys ∷ every_second 1 xs ys ∷ []) m j) e ∙ in_row v 0 xs ys (omega arith) low high j h ∙ ap (λ m. cell v (j / 4) (4 * (j % 4) + (2 + m))) (sym e)
+      | inl e ↦ ap (λ m. cell (every_second 0 xs ys ∷ every_second 1 xs ys ∷ []) m j) e ∙ in_row v 0 xs ys (omega arith) low high j h
+          ∙ ap (λ m. cell v (j / 4) (4 * (j % 4) + (2 + m))) (sym e)
       | inr other ↦ (
           let e : a ≡ 1 = omega arith in
-          ap (λ m. cell (every_second 0 xs ys ∷ every_second 1 xs ys ∷ []) m j) e ∙ in_row v 1 xs ys (omega arith) low high j h ∙ ap (λ m. cell v (j / 4) (4 * (j % 4) + (2 + m))) (sym e))
+          ap (λ m. cell (every_second 0 xs ys ∷ every_second 1 xs ys ∷ []) m j) e ∙ in_row v 1 xs ys (omega arith) low high j h
+          ∙ ap (λ m. cell v (j / 4) (4 * (j % 4) + (2 + m))) (sym e))
     ]

@@ -1,5 +1,6 @@
 -- Stretches of a frame that a pass has gone over, one after the other.
-use Rattle.std.proofs.Common.{◌≡◌, ◌≢◌, ℕ, ◌+◌, ◌*◌, ◌-◌, ◌/◌, ◌%◌, ◌<◌, ◌≤◌, ◌⊎◌, inl, inr, true, false, eqb, leb, List, length, get_or, refl, ap, sym, ◌∙◌, subst, arith}
+use Rattle.std.proofs.Common.{◌≡◌, ◌≢◌, ℕ, ◌+◌, ◌*◌, ◌-◌, ◌/◌, ◌%◌, ◌<◌, ◌≤◌, ◌⊎◌, inl, inr, true, false, eqb, leb, List, length, get_or}
+use Rattle.std.proofs.Common.{refl, ap, sym, ◌∙◌, subst, arith}
 use Rattle.std.specs.Prelude.{if◌then◌else◌}
 use Rattle.std.proofs.lemmas.Bool.{cases_lt, eq-eqb, ne_eqb, le-leb, lt-leb}
 use Rattle.std.proofs.lemmas.Nat.{mul-le}
@@ -63,7 +64,8 @@ sixteen_columns : (n q : ℕ) → (n ≡ 4) ⊎ (n ≡ 16) → n * q + 16 * n �
 sixteen_columns n q rate = by_rate (λ m. m * q + 16 * m ≡ m * (q + 16)) n rate (omega arith) (omega arith)
 
 pub columns_fit : (n q at : ℕ) → (n ≡ 4) ⊎ (n ≡ 16) → at ≡ n * q → q + 16 ≤ 2430 → at + 16 * n ≤ 2430 * n
-columns_fit n q at rate = by_rate (λ m. at ≡ m * q → q + 16 ≤ 2430 → at + 16 * m ≤ 2430 * m) n rate (λ e h. omega arith) (λ e h. omega arith)
+columns_fit n q at rate =
+    by_rate (λ m. at ≡ m * q → q + 16 ≤ 2430 → at + 16 * m ≤ 2430 * m) n rate (λ e h. omega arith) (λ e h. omega arith)
 
 -- a whole column
 pub whole_at : (n q at : ℕ) → at ≡ n * q → at % n ≡ 0
@@ -71,7 +73,8 @@ whole_at n q at e = ap (λ m. m % n) e ∙ mul-mod_right n q
 
 -- columns that are at least four apart
 pub some_between : (n q to from end : ℕ) → (n ≡ 4) ⊎ (n ≡ 16) → from ≡ n * q → end ≡ n * to → q + 4 ≤ to → from + 16 ≤ end
-some_between n q to from end rate = by_rate (λ m. from ≡ m * q → end ≡ m * to → q + 4 ≤ to → from + 16 ≤ end) n rate (λ a b h. omega arith) (λ a b h. omega arith)
+some_between n q to from end rate =
+    by_rate (λ m. from ≡ m * q → end ≡ m * to → q + 4 ≤ to → from + 16 ≤ end) n rate (λ a b h. omega arith) (λ a b h. omega arith)
 
 pub within_frame : (n q at : ℕ) → (n ≡ 4) ⊎ (n ≡ 16) → at ≡ n * q → q ≤ 2430 → at ≤ 2430 * n
 within_frame n q at rate = by_rate (λ m. at ≡ m * q → q ≤ 2430 → at ≤ 2430 * m) n rate (λ e h. omega arith) (λ e h. omega arith)
@@ -83,7 +86,8 @@ module _ (n : ℕ) (pass : Pass n) where
   none_passed from to old e = record { before = λ i h. refl; inside = λ i low high. absurd (omega arith); behind = λ i h. refl }
 
   -- from a to m, and then from b to e
-  pub then_passed : (a b m e to : ℕ) (old mid new : List ℕ) → a ≤ b → b ≤ m → m ≤ e → e ≡ to → HasPassed n pass a m old mid → HasPassed n pass b e mid new → HasPassed n pass a to old new
+  pub then_passed : (a b m e to : ℕ) (old mid new : List ℕ) → a ≤ b → b ≤ m → m ≤ e → e ≡ to → HasPassed n pass a m old mid
+      → HasPassed n pass b e mid new → HasPassed n pass a to old new
   then_passed a b m e to old mid new front meet back is first second = record {
     before = λ i h. second.before i (omega arith) ∙ first.before i h;
     inside = λ i low high. elim (cases_lt i b) [
@@ -93,12 +97,15 @@ module _ (n : ℕ) (pass : Pass n) where
     behind = λ i h. second.behind i (omega arith) ∙ first.behind i (omega arith);
   }
 
-  pub columns_then : (a b m e to : ℕ) (old mid new : List ℕ) → a ≤ b → b ≤ m → m ≤ e → e ≡ to → HasPassed n pass (n * a) (n * m) old mid → HasPassed n pass (n * b) (n * e) mid new → HasPassed n pass (n * a) (n * to) old new
+  pub columns_then : (a b m e to : ℕ) (old mid new : List ℕ) → a ≤ b → b ≤ m → m ≤ e → e ≡ to → HasPassed n pass (n * a) (n * m) old mid
+      → HasPassed n pass (n * b) (n * e) mid new → HasPassed n pass (n * a) (n * to) old new
   columns_then a b m e to old mid new front meet back is =
-      then_passed (n * a) (n * b) (n * m) (n * e) (n * to) old mid new (scaled n a b front) (scaled n b m meet) (scaled n m e back) (ap (λ q. n * q) is)
+      then_passed (n * a) (n * b) (n * m) (n * e) (n * to) old mid new (scaled n a b front) (scaled n b m meet) (scaled n m e back)
+      (ap (λ q. n * q) is)
 
   -- a vector
-  pub vector_passed : (at : ℕ) (old new all : List ℕ) → ((i : ℕ) → i < at → get_or new i 0 ≡ get_or old i 0) → ((k : ℕ) → k < 16 → get_or new (at + k) 0 ≡ get_or all k 0) → ((i : ℕ) → at + 16 ≤ i → get_or new i 0 ≡ get_or old i 0)
+  pub vector_passed : (at : ℕ) (old new all : List ℕ) → ((i : ℕ) → i < at → get_or new i 0 ≡ get_or old i 0)
+      → ((k : ℕ) → k < 16 → get_or new (at + k) 0 ≡ get_or all k 0) → ((i : ℕ) → at + 16 ≤ i → get_or new i 0 ≡ get_or old i 0)
       → ((j : ℕ) → j < 16 → get_or all j 0 ≡ byte_at n pass (at + j)) → HasPassed n pass at (at + 16) old new
   vector_passed at old new all front put back each = record {
     before = front;
@@ -110,14 +117,16 @@ module _ (n : ℕ) (pass : Pass n) where
     behind = back;
   }
 
-  pub block_passed : (q at to : ℕ) (old new : List ℕ) → (n ≡ 4) ⊎ (n ≡ 16) → at ≡ n * q → q + 16 ≡ to → HasPassed n pass at (at + 16 * n) old new → HasPassed n pass (n * q) (n * to) old new
+  pub block_passed : (q at to : ℕ) (old new : List ℕ) → (n ≡ 4) ⊎ (n ≡ 16) → at ≡ n * q → q + 16 ≡ to
+      → HasPassed n pass at (at + 16 * n) old new → HasPassed n pass (n * q) (n * to) old new
   block_passed q at to old new rate here back done =
       let end : at + 16 * n ≡ n * to = ap (λ m. m + 16 * n) here ∙ sixteen_columns n q rate ∙ ap (λ m. n * m) back in
       subst (λ m. HasPassed n pass m (n * to) old new) here (subst (λ m. HasPassed n pass at m old new) end done)
 
   -- ---- a row, and the pointers
 
-  module _ (r : ℕ) (old mid : List ℕ) (rate : (n ≡ 4) ⊎ (n ≡ 16)) (done : HasPassed n pass (n * (270 * r + 9)) (n * (270 * r + 270)) old mid) where
+  module _ (r : ℕ) (old mid : List ℕ) (rate : (n ≡ 4) ⊎ (n ≡ 16))
+      (done : HasPassed n pass (n * (270 * r + 9)) (n * (270 * r + 270)) old mid) where
     pub row-here : r ≢ 3 → (i : ℕ) → i / (270 * n) ≡ r → get_or mid i 0 ≡ (if is_au_byte n i then byte_at n pass i else get_or old i 0)
     row-here plain i at =
         let is = in_row n r i rate at in
@@ -142,17 +151,23 @@ module _ (n : ℕ) (pass : Pass n) where
                 let a : leb (9 * n) (i % (270 * n)) ≡ false = lt-leb _ _ before in
                 let b : eqb (i / (270 * n)) 3 ≡ true = eq-eqb _ _ (at ∙ three) in
                 rw (a, b) (pointers.inside i (places.low before) (places.high before)))
-            | inr behind ↦ (let a : leb (9 * n) (i % (270 * n)) ≡ true = le-leb _ _ behind in rw a (pointers.behind i (places.behind behind) ∙ done.inside i (is.body behind) is.within))
+            | inr behind ↦ (let a : leb (9 * n) (i % (270 * n))
+                ≡ true = le-leb _ _ behind in rw a (pointers.behind i (places.behind behind) ∙ done.inside i (is.body behind) is.within))
           ]
 
       pub pointers-others : (i : ℕ) → i / (270 * n) ≢ r → get_or new i 0 ≡ get_or old i 0
       pointers-others i away =
-          elim (no_pointers n i rate (λ e. away (e ∙ sym three))) [ inl h ↦ pointers.before i h ∙ row-others i away | inr h ↦ pointers.behind i h ∙ row-others i away ]
+          elim (no_pointers n i rate (λ e. away (e ∙ sym three))) [
+            | inl h ↦ pointers.before i h
+                ∙ row-others i away
+            | inr h ↦ pointers.behind i h ∙ row-others i away
+          ]
 
 -- ---- vectors of sixteen columns of row r, from payload column q on
 
 module _ (own columns : List (List ℕ)) (r q upto : ℕ) (row : r < 9) (few : q ≤ 245) where
-  pub columns-four : IsTable 4 columns → ((k j : ℕ) → k < 4 → j < 16 → j % 4 < upto → cell columns k j ≡ cell own (j % 4) (261 * r + q + (4 * k + j / 4)))
+  pub columns-four : IsTable 4 columns → ((k j : ℕ) → k < 4 → j < 16 → j % 4 < upto
+      → cell columns k j ≡ cell own (j % 4) (261 * r + q + (4 * k + j / 4)))
       → AreColumns 4 upto own (4 * (270 * r + (9 + q))) columns
   columns-four table each = record {
     rows = table.rows;
@@ -165,7 +180,8 @@ module _ (own columns : List (List ℕ)) (r q upto : ℕ) (row : r < 9) (few : q
         each k j small h low ∙ sym (own_byte-at 4 own i (j % 4) (261 * r + q + (4 * k + j / 4)) behind lane column));
   }
 
-  pub columns-sixteen : IsTable 16 columns → ((k a : ℕ) → k < 16 → a < upto → cell columns k a ≡ cell own a (261 * r + q + k)) → AreColumns 16 upto own (16 * (270 * r + (9 + q))) columns
+  pub columns-sixteen : IsTable 16 columns → ((k a : ℕ) → k < 16 → a < upto → cell columns k a ≡ cell own a (261 * r + q + k))
+      → AreColumns 16 upto own (16 * (270 * r + (9 + q))) columns
   columns-sixteen table each = record {
     rows = table.rows;
     lanes = table.lanes;

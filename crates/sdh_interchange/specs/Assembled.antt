@@ -17,7 +17,8 @@ payload_from n first second own Ones = replicate 2349 0xFF
 
 -- the AU-4s with the payloads of these sources and these pointer bytes
 unfoldable pub assembled : ℕ → List ℕ → List ℕ → List (List ℕ) → List Source → List (List ℕ) → List Au
-assembled n first second own sources pointers = map_from (λ k s. record { pointers = slice_index_or pointers k []; payload = payload_from n first second own s }) 0 sources
+assembled n first second own sources pointers =
+    map_from (λ k s. record { pointers = slice_index_or pointers k []; payload = payload_from n first second own s }) 0 sources
 
 -- where the AU-4s of a frame come from, in the order of their numbers
 pub record Origins : Type 0 where

@@ -1,5 +1,6 @@
 -- A frame whose AU-4s come from two other frames or from payloads of a node's own ports, or are ones.
-use Rattle.std.specs.Prelude.{true, false, ℕ, ◌≡◌, ◌+◌, ◌*◌, ◌-◌, ◌/◌, ◌%◌, ◌==◌, ◌||◌, ◌<◌, ◌≤◌, Bool, nat_le, if◌then◌else◌, List, [], map, length, slice_index, slice_index_or, replicate}
+use Rattle.std.specs.Prelude.{true, false, ℕ, ◌≡◌, ◌+◌, ◌*◌, ◌-◌, ◌/◌, ◌%◌, ◌==◌, ◌||◌, ◌<◌, ◌≤◌, Bool, nat_le, if◌then◌else◌, List, []}
+use Rattle.std.specs.Prelude.{map, length, slice_index, slice_index_or, replicate}
 use Rattle.sdh_interchange.specs.declared.choose.Source.{Source}
 use Rattle.sdh_interchange.specs.declared.choose.Source.TheVariants.{First, Second, Own, Ones}
 use Rattle.sdh_frame.specs.Aus.{Au, au_of, with_aus, ones}
@@ -35,7 +36,9 @@ pub record AreSources (n : ℕ) (sources : List Source) : Type 0 where
 
 -- byte i of a frame with these payloads, whose pointer bytes are zeros
 unfoldable pub own_byte : ℕ → List (List ℕ) → ℕ → ℕ
-own_byte n own i = if nat_le (9 * n) (i % (270 * n)) then slice_index (slice_index_or own (i % n) []) (261 * (i / (270 * n)) + (i % (270 * n) - 9 * n) / n) else 0
+own_byte n own i =
+    if nat_le (9 * n) (i % (270 * n)) then slice_index (slice_index_or own (i % n) []) (261 * (i / (270 * n)) + (i % (270 * n) - 9 * n) / n)
+    else 0
 
 -- byte i of an AU-4 from a source
 abbrev pub picked : ℕ → Source → List ℕ → List ℕ → List (List ℕ) → ℕ → ℕ

@@ -18,7 +18,8 @@ pub record AreLanes (n : ℕ) (sources : List Source) (lanes : Lanes) : Type 0 w
   pub second_long : length lanes.second ≡ 16
   pub own_long : length lanes.own ≡ 16
   pub more_long : length lanes.more ≡ 16
-  pub each : (j : ℕ) → j < 16 → IsLane n (slice_index_or sources (j % n) Ones) j (slice_index lanes.first j) (slice_index lanes.second j) (slice_index lanes.own j) (slice_index lanes.more j)
+  pub each : (j : ℕ) → j < 16 → IsLane n (slice_index_or sources (j % n) Ones) j (slice_index lanes.first j) (slice_index lanes.second j)
+      (slice_index lanes.own j) (slice_index lanes.more j)
   pub few : (2 * lanes.upto ≡ n) ⊎ (lanes.upto ≡ n)
   pub below : (j : ℕ) → j < 16 → 1 ≤ slice_index lanes.own j → j % n < lanes.upto
 

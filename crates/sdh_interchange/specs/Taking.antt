@@ -1,5 +1,6 @@
 -- Payloads that are kept once they have been taken out of a frame.
-use Rattle.std.specs.Prelude.{◌≡◌, ◌+◌, ◌*◌, ◌-◌, ◌/◌, ◌<◌, ◌≤◌, ◌⊎◌, ℕ, Bool, true, false, List, [], length, replicate, slice_index, slice_index_or}
+use Rattle.std.specs.Prelude.{◌≡◌, ◌+◌, ◌*◌, ◌-◌, ◌/◌, ◌<◌, ◌≤◌, ◌⊎◌, ℕ, Bool, true, false, List, [], length, replicate, slice_index}
+use Rattle.std.specs.Prelude.{slice_index_or}
 use Rattle.sdh_frame.specs.Sizes.{Frame}
 use Rattle.sdh_terms.specs.Rates.{n_of}
 use Rattle.sdh_frame.specs.Fields.{index_of, payload_place}
@@ -22,7 +23,8 @@ pub record KeepsOthers (from count : ℕ) (old new : List (List ℕ)) : Type 0 w
 -- the bytes of half of the payloads from one on, up to another, have been taken out of a frame of N AU-4s, and none before
 pub record HasTaken (n base from to : ℕ) (bytes : List ℕ) (old new : List (List ℕ)) : Type 0 where
   pub before : (a j : ℕ) → a < n / 2 → j < from → cell new (base + a) j ≡ cell old (base + a) j
-  pub inside : (a j : ℕ) → a < n / 2 → from ≤ j → j < to → cell new (base + a) j ≡ slice_index bytes (index_of n (payload_place n (base + a + 1) j))
+  pub inside : (a j : ℕ) → a < n / 2 → from ≤ j → j < to → cell new (base + a) j
+      ≡ slice_index bytes (index_of n (payload_place n (base + a + 1) j))
   pub keeps : KeepsOthers base (n / 2) old new
 
 -- ---- what has been taken
@@ -45,4 +47,5 @@ has held au = slice_index_or held.here (au - 1) false
 -- what stands here is this frame's
 pub record IsOf (frame : Frame) (held : Held) : Type 0 where
   pub rate : 2 * held.half ≡ n_of frame.rate
-  pub each : (au : ℕ) → 1 ≤ au → au ≤ 2 * held.half → has held au ≡ true → slice_index_or held.payloads (au - 1) [] ≡ payload_of (n_of frame.rate) au frame.bytes
+  pub each : (au : ℕ) → 1 ≤ au → au ≤ 2 * held.half → has held au ≡ true
+      → slice_index_or held.payloads (au - 1) [] ≡ payload_of (n_of frame.rate) au frame.bytes

@@ -44,7 +44,13 @@ same_is a b e =
 pub is_same : (a : K) → same_word a a ≡ true
 unfolding same_word
 is_same a =
-    rw (eq-eqb (code_number a.code) _ refl, eq-eqb a.to _ refl, eq-eqb a.from _ refl, eq-eqb (path_number a.path) _ refl, eq-eqb (mark_number a.mark) _ refl) refl
+    rw (
+      eq-eqb (code_number a.code) _ refl,
+      eq-eqb a.to _ refl,
+      eq-eqb a.from _ refl,
+      eq-eqb (path_number a.path) _ refl,
+      eq-eqb (mark_number a.mark) _ refl,
+    ) refl
 
 -- a word agrees with itself
 pub agrees_itself : (a : K) → agrees a a ≡ true

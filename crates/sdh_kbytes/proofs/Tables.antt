@@ -100,7 +100,8 @@ mark_at-other : (n : ℕ) → mark_at n ≡ None → (m : Mark) → mark_number 
 mark_at-other n none m e = let found : mark_at n ≡ Some m = rw (← e) (mark_at-number m) in cc
 
 -- where both looks find something, there is a word
-one_missing : {X Y Z : Type 0} (f : X → Y → Z) (o : Option X) (p : Option Y) → option_and_then (λ x. option_and_then (λ y. Some (f x y)) p) o ≡ None → (o ≡ None) ⊎ (p ≡ None)
+one_missing : {X Y Z : Type 0} (f : X → Y → Z) (o : Option X) (p : Option Y)
+    → option_and_then (λ x. option_and_then (λ y. Some (f x y)) p) o ≡ None → (o ≡ None) ⊎ (p ≡ None)
 one_missing f None p h = inl refl
 one_missing f (Some x) None h = inr refl
 one_missing f (Some x) (Some y) h = absurd cc

@@ -2,7 +2,8 @@
 -- places them in the multiplex section overhead). K1 is a code of four bits and a destination of four bits; K2 is a
 -- source of four bits, one bit for the path and three bits for the mark. The tables of codes and marks are this
 -- project's own, after ITU-T G.841.
-use Rattle.std.specs.Prelude.{ℕ, ◌≡◌, ◌≢◌, ◌+◌, ◌*◌, ◌/◌, ◌%◌, ◌≤◌, ◌⊎◌, Option, Some, option_and_then, List, [], ◌∷◌, find, ◌==◌, if◌then◌else◌}
+use Rattle.std.specs.Prelude.{ℕ, ◌≡◌, ◌≢◌, ◌+◌, ◌*◌, ◌/◌, ◌%◌, ◌≤◌, ◌⊎◌, Option, Some, option_and_then, List, [], ◌∷◌, find, ◌==◌}
+use Rattle.std.specs.Prelude.{if◌then◌else◌}
 use Rattle.sdh_terms.specs.declared.Code.{Code}
 use Rattle.sdh_terms.specs.Requests.{code_number}
 use Rattle.sdh_terms.specs.declared.Code.TheVariants.{Nr, Rr, Wtr, Ms, Sd, Sf, Fs}

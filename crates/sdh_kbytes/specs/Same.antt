@@ -10,7 +10,9 @@ same_code a b = code_number a == code_number b
 
 -- all parts of two words are the same
 unfoldable pub same_word : K → K → Bool
-same_word a b = same_code a.code b.code && (a.to == b.to) && (a.from == b.from) && (path_number a.path == path_number b.path) && (mark_number a.mark == mark_number b.mark)
+same_word a b =
+    same_code a.code b.code && (a.to == b.to) && (a.from == b.from) && (path_number a.path == path_number b.path)
+    && (mark_number a.mark == mark_number b.mark)
 
 -- two words agree: they are the same but for their marks
 unfoldable pub agrees : K → K → Bool

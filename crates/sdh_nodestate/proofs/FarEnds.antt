@@ -11,7 +11,8 @@ use Rattle.sdh_nodestate.specs.Words.{IsMember}
 pub own_member : (ids : List ℕ) (at id : ℕ) → id ≡ slice_index ids at → at < length ids → IsMember ids id
 own_member ids at id e h = (at, h, sym e)
 
-by_place : (ids : List ℕ) (at id : ℕ) → id ≢ slice_index ids at → (o : Option ℕ) → position (λ x. x == id) ids ≡ o → IsElsewhere (length ids) at (option_map (λ p. record { 0 = p }) o)
+by_place : (ids : List ℕ) (at id : ℕ) → id ≢ slice_index ids at → (o : Option ℕ) → position (λ x. x == id) ids ≡ o
+    → IsElsewhere (length ids) at (option_map (λ p. record { 0 = p }) o)
 by_place ids at id other None e = tt
 by_place ids at id other (Some i) e =
     let found = position-Some (λ x. x == id) ids i 0 e in

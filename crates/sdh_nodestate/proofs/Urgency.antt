@@ -20,7 +20,12 @@ module _ (w : Choice → ℕ) (none : w rest ≡ 0) where
   r = w relay
 
   short_first : 0 < s → IsAsUrgent s l → IsAsUrgent s r → IsFirst w own_short
-  short_first some over_long over_relay = record { there = λ _. some; nothing = λ e. absurd (cc); urgent = all; before = λ _ _ _. omega arith }
+  short_first some over_long over_relay = record {
+    there = λ _. some;
+    nothing = λ e. absurd (cc);
+    urgent = all;
+    before = λ _ _ _. omega arith;
+  }
     where
       all : (other : Choice) → IsAsUrgent s (w other)
       all own_short = inr (omega arith)
@@ -45,7 +50,12 @@ module _ (w : Choice → ℕ) (none : w rest ≡ 0) where
       first rest _ _ = omega arith
 
   relay_first : s < 11 → l < 11 → s < r → l < r → IsFirst w relay
-  relay_first low_short low_long over_short over_long = record { there = λ _. omega arith; nothing = λ e. absurd (cc); urgent = all; before = first }
+  relay_first low_short low_long over_short over_long = record {
+    there = λ _. omega arith;
+    nothing = λ e. absurd (cc);
+    urgent = all;
+    before = first;
+  }
     where
       all : (other : Choice) → IsAsUrgent r (w other)
       all own_short = inr (omega arith)
@@ -62,7 +72,12 @@ module _ (w : Choice → ℕ) (none : w rest ≡ 0) where
       first rest _ _ = omega arith
 
   rest_first : s ≡ 0 → l ≡ 0 → r ≡ 0 → IsFirst w rest
-  rest_first no_short no_long no_relay = record { there = λ other. absurd (other refl); nothing = λ _. all; urgent = λ other. inr (omega (arith, all other)); before = λ other some _. absurd (omega (arith, all other)) }
+  rest_first no_short no_long no_relay = record {
+    there = λ other. absurd (other refl);
+    nothing = λ _. all;
+    urgent = λ other. inr (omega (arith, all other));
+    before = λ other some _. absurd (omega (arith, all other));
+  }
     where
       all : (other : Choice) → w other ≡ 0
       all own_short = no_short
@@ -85,7 +100,8 @@ module _ (w : Choice → ℕ) (none : w rest ≡ 0) where
   lower low_short low_long (inl less) false e = let over = leb-false r l e in relay_first low_short low_long (omega arith) over
   lower low_short low_long (inr less) false e = relay_first low_short low_long less (leb-false r l e)
 
-  greatest : s < 11 → l < 11 → (0 < s) ⊎ (0 < l) ⊎ (0 < r) → (b : Bool) → (nat_le l s && nat_le r s) ≡ b → IsFirst w (if b then own_short else if nat_le r l then own_long else relay)
+  greatest : s < 11 → l < 11 → (0 < s) ⊎ (0 < l) ⊎ (0 < r) → (b : Bool) → (nat_le l s && nat_le r s) ≡ b
+      → IsFirst w (if b then own_short else if nat_le r l then own_long else relay)
   greatest low_short low_long some false e = lower low_short low_long (below _ _ refl refl e) _ refl
   greatest low_short low_long some true e =
       let both = and_parts (nat_le l s) (nat_le r s) e in
@@ -105,11 +121,13 @@ module _ (w : Choice → ℕ) (none : w rest ≡ 0) where
   any low_short low_long true false c e f g = greatest low_short low_long (inr (inl (not_0 l f))) _ refl
   any low_short low_long true true false e f g = greatest low_short low_long (inr (inr (not_0 r g))) _ refl
 
-  by_long : s < 11 → (b : Bool) → nat_le 11 l ≡ b → IsFirst w (if b then own_long else if (s == 0) && (l == 0) && (r == 0) then rest else by_weight)
+  by_long : s < 11 → (b : Bool) → nat_le 11 l ≡ b → IsFirst w
+      (if b then own_long else if (s == 0) && (l == 0) && (r == 0) then rest else by_weight)
   by_long low true e = let high = leb-true 11 l e in long_first (omega arith) low (omega arith) (inl high)
   by_long low false e = any low (leb-false 11 l e) _ _ _ refl refl refl
 
-  by_short : (b : Bool) → nat_le 11 s ≡ b → IsFirst w (if b then own_short else if nat_le 11 l then own_long else if (s == 0) && (l == 0) && (r == 0) then rest else by_weight)
+  by_short : (b : Bool) → nat_le 11 s ≡ b → IsFirst w (if b then own_short else if nat_le 11 l
+      then own_long else if (s == 0) && (l == 0) && (r == 0) then rest else by_weight)
   by_short true e = let high = leb-true 11 s e in short_first (omega arith) (inl high) (inl high)
   by_short false e = by_long (leb-false 11 s e) _ refl
 

@@ -1,7 +1,8 @@
 -- What a node does and sends in one round. The rules are this project's profile of ITU-T G.841 clause 7.2 (MS shared
 -- protection rings); they stand here in the order in which they build on each other. d is a side of the node, and its
 -- opposite the other side. No state of an earlier round occurs in them.
-use Rattle.std.specs.Prelude.{ℕ, Bool, true, false, ◌&&◌, ◌||◌, not, nat_lt, nat_le, ◌==◌, if◌then◌else◌, Option, Some, None, option_map, List, [], ◌∷◌, length, slice_index}
+use Rattle.std.specs.Prelude.{ℕ, Bool, true, false, ◌&&◌, ◌||◌, not, nat_lt, nat_le, ◌==◌, if◌then◌else◌, Option, Some, None, option_map}
+use Rattle.std.specs.Prelude.{List, [], ◌∷◌, length, slice_index}
 use Rattle.std.specs.List.{list_all}
 use Rattle.std.specs.Option.{option_map_or}
 use Rattle.sdh_terms.specs.Requests.{code_number}

@@ -13,7 +13,13 @@ use Rattle.sdh_nodestate.specs.declared.Sent.{Sent}
 
 -- the word of a new node at that position to its neighbour on a side: it asks for nothing
 abbrev pub first_word : List ℕ → ℕ → Side → K
-first_word ids p d = record { code = Nr; to = slice_index ids (neighbour (length ids) p d); from = slice_index ids p; path = Short; mark = mark.Idle }
+first_word ids p d = record {
+  code = Nr;
+  to = slice_index ids (neighbour (length ids) p d);
+  from = slice_index ids p;
+  path = Short;
+  mark = mark.Idle;
+}
 
 -- both words of a new node
 abbrev pub first_words : List ℕ → ℕ → Sent

@@ -1,5 +1,6 @@
 -- The overhead of a frame row by row.
-use Rattle.std.proofs.Common.{◌≡◌, ◌≢◌, ℕ, ◌+◌, ◌*◌, ◌-◌, ◌/◌, ◌%◌, ◌<◌, ◌≤◌, true, false, eqb, leb, ltb, List, get_or, refl, ap, sym, ◌∙◌, arith, inl, inr}
+use Rattle.std.proofs.Common.{◌≡◌, ◌≢◌, ℕ, ◌+◌, ◌*◌, ◌-◌, ◌/◌, ◌%◌, ◌<◌, ◌≤◌, true, false, eqb, leb, ltb, List, get_or, refl, ap, sym, ◌∙◌}
+use Rattle.std.proofs.Common.{arith, inl, inr}
 use Rattle.std.proofs.lemmas.Bool.{cases_lt, cases_eq, ne_eqb, eq-eqb, le-leb, lt-leb, le-ltb}
 use Rattle.std.proofs.lemmas.Nat.{div-mul-add, mod-mul-add}
 use Rattle.sdh_frame.specs.declared.Field as field
@@ -13,7 +14,8 @@ use Rattle.sdh_overhead.specs.Overhead.{Added, written, byte_at}
 module _ (n c : ℕ) (h : c < 9 * n) where
   pub field-a1 : c < 3 * n → field_at n 1 (c + 1) ≡ A1
   unfolding field_at
-  field-a1 lt = let e : ltb (9 * n) (c + 1) ≡ false = le-ltb _ _ (omega arith) in let f : leb (c + 1) (3 * n) ≡ true = le-leb _ _ (omega arith) in rw (e, f) refl
+  field-a1 lt = let e : ltb (9 * n) (c + 1) ≡ false = le-ltb _ _ (omega arith) in let f : leb (c + 1) (3 * n) ≡ true =
+      le-leb _ _ (omega arith) in rw (e, f) refl
 
   pub field-a2 : 3 * n ≤ c → c < 6 * n → field_at n 1 (c + 1) ≡ A2
   unfolding field_at
@@ -52,7 +54,8 @@ module _ (n c : ℕ) (h : c < 9 * n) where
 
   pub field-b2 : c < 3 * n → field_at n 5 (c + 1) ≡ B2 (c + 1 - 1)
   unfolding field_at
-  field-b2 lt = let e : ltb (9 * n) (c + 1) ≡ false = le-ltb _ _ (omega arith) in let f : leb (c + 1) (3 * n) ≡ true = le-leb _ _ (omega arith) in rw (e, f) refl
+  field-b2 lt = let e : ltb (9 * n) (c + 1) ≡ false = le-ltb _ _ (omega arith) in let f : leb (c + 1) (3 * n) ≡ true =
+      le-leb _ _ (omega arith) in rw (e, f) refl
 
   pub field-k1 : c ≡ 3 * n → field_at n 5 (c + 1) ≡ K1
   unfolding field_at
@@ -90,10 +93,12 @@ module _ (n c : ℕ) (h : c < 9 * n) where
 
 module _ (a : Added) (n : ℕ) (some : 1 ≤ n) (old new : List ℕ) where
   -- a byte of this field
-  is : (row c : ℕ) (f : field.Field) (x : ℕ) → field_at n row (c + 1) ≡ f → get_or new c 0 ≡ written a f x → get_or new c 0 ≡ written a (field_at n row (c + 1)) x
+  is : (row c : ℕ) (f : field.Field) (x : ℕ) → field_at n row (c + 1) ≡ f → get_or new c 0 ≡ written a f x
+      → get_or new c 0 ≡ written a (field_at n row (c + 1)) x
   is row c f x e there = there ∙ sym (ap (λ (g : field.Field). written a g x) e)
 
-  pub row-first : ((c : ℕ) → c < 3 * n → get_or new c 0 ≡ 0xF6) → ((c : ℕ) → 3 * n ≤ c → c < 6 * n → get_or new c 0 ≡ 0x28) → get_or new (6 * n) 0 ≡ 1 → ((c : ℕ) → 6 * n < c → c < 9 * n → get_or new c 0 ≡ 0xAA)
+  pub row-first : ((c : ℕ) → c < 3 * n → get_or new c 0 ≡ 0xF6) → ((c : ℕ) → 3 * n ≤ c → c < 6 * n → get_or new c 0 ≡ 0x28)
+      → get_or new (6 * n) 0 ≡ 1 → ((c : ℕ) → 6 * n < c → c < 9 * n → get_or new c 0 ≡ 0xAA)
       → (c : ℕ) → c < 9 * n → get_or new c 0 ≡ written a (field_at n 1 (c + 1)) (get_or old c 0)
   row-first a1 a2 j0 fixed c h =
       elim (cases_lt c (3 * n)) [
@@ -107,7 +112,8 @@ module _ (a : Added) (n : ℕ) (some : 1 ≤ n) (old new : List ℕ) where
         ]
       ]
 
-  pub row-second : get_or new 0 0 ≡ a.b1 → ((c : ℕ) → 0 < c → c < 9 * n → get_or new c 0 ≡ 0) → (c : ℕ) → c < 9 * n → get_or new c 0 ≡ written a (field_at n 2 (c + 1)) (get_or old c 0)
+  pub row-second : get_or new 0 0 ≡ a.b1 → ((c : ℕ) → 0 < c → c < 9 * n → get_or new c 0 ≡ 0) → (c : ℕ) → c < 9 * n
+      → get_or new c 0 ≡ written a (field_at n 2 (c + 1)) (get_or old c 0)
   row-second b1 zeros c h =
       elim (cases_eq c 0) [
         | inl at ↦ is 2 c B1 _ (field-b1 n c h at) (ap (λ i. get_or new i 0) at ∙ b1)
@@ -135,10 +141,12 @@ module _ (a : Added) (n : ℕ) (some : 1 ≤ n) (old new : List ℕ) where
       same : (c : ℕ) → c ≡ c + 1 - 1
       same c = omega arith
 
-  pub row-pointers : ((c : ℕ) → c < 9 * n → get_or new c 0 ≡ get_or old c 0) → (c : ℕ) → c < 9 * n → get_or new c 0 ≡ written a (field_at n 4 (c + 1)) (get_or old c 0)
+  pub row-pointers : ((c : ℕ) → c < 9 * n → get_or new c 0 ≡ get_or old c 0) → (c : ℕ) → c < 9 * n
+      → get_or new c 0 ≡ written a (field_at n 4 (c + 1)) (get_or old c 0)
   row-pointers kept c h = is 4 c (Pointer ((c + 1 - 1) % n + 1) ((c + 1 - 1) / n)) _ (field-pointer n (c + 1) (omega arith)) (kept c h)
 
-  pub row-other : (row : ℕ) → row ≢ 1 → row ≢ 2 → row ≢ 4 → row ≢ 5 → ((c : ℕ) → c < 9 * n → get_or new c 0 ≡ 0) → (c : ℕ) → c < 9 * n → get_or new c 0 ≡ written a (field_at n row (c + 1)) (get_or old c 0)
+  pub row-other : (row : ℕ) → row ≢ 1 → row ≢ 2 → row ≢ 4 → row ≢ 5 → ((c : ℕ) → c < 9 * n → get_or new c 0 ≡ 0) → (c : ℕ) → c < 9 * n
+      → get_or new c 0 ≡ written a (field_at n row (c + 1)) (get_or old c 0)
   row-other row r1 r2 r4 r5 zeros c h = is row c Unused _ (field-unused n c h row r1 r2 r4 r5) (zeros c h)
 
 -- ---- the whole frame
@@ -148,10 +156,12 @@ byte_at-payload n a i x h = ap (λ (f : field.Field). written a f x) (field-payl
 
 pub byte_at-pointer : (n : ℕ) (a : Added) (i x : ℕ) → i / (270 * n) ≡ 3 → i % (270 * n) < 9 * n → byte_at n a i x ≡ x
 byte_at-pointer n a i x row h =
-    ap (λ q. written a (field_at n (q + 1) (i % (270 * n) + 1)) x) row ∙ ap (λ (f : field.Field). written a f x) (field-pointer n (i % (270 * n) + 1) (omega arith))
+    ap (λ q. written a (field_at n (q + 1) (i % (270 * n) + 1)) x) row
+    ∙ ap (λ (f : field.Field). written a f x) (field-pointer n (i % (270 * n) + 1) (omega arith))
 
 -- byte c of row r, counted from 0
-pub byte_at-row : (n : ℕ) (a : Added) (r c i x : ℕ) → c < 270 * n → r * (270 * n) + c ≡ i → byte_at n a i x ≡ written a (field_at n (r + 1) (c + 1)) x
+pub byte_at-row : (n : ℕ) (a : Added) (r c i x : ℕ) → c < 270 * n → r * (270 * n) + c ≡ i
+    → byte_at n a i x ≡ written a (field_at n (r + 1) (c + 1)) x
 byte_at-row n a r c i x h e =
     let row : i / (270 * n) ≡ r = ap (λ k. k / (270 * n)) (sym e) ∙ div-mul-add r (270 * n) c h in
     let column : i % (270 * n) ≡ c = ap (λ k. k % (270 * n)) (sym e) ∙ mod-mul-add r (270 * n) c h in

@@ -9,7 +9,8 @@ use Rattle.sdh_frame.specs.Fields.{index_of}
 use Rattle.sdh_frame.specs.Aus.{au_of}
 use Rattle.sdh_frame.specs.PlaceLaws.{IsInFrame, field_of}
 use Rattle.sdh_overhead.specs.declared.Received.TheVariants.{Framed}
-use Rattle.sdh_overhead.specs.Sections.{Parities, clear_frame, line_frame, parities_of, received_in, kept_after, opened, is_framed, byte_in, b2_in}
+use Rattle.sdh_overhead.specs.Sections.{Parities, clear_frame, line_frame, parities_of, received_in, kept_after, opened, is_framed, byte_in}
+use Rattle.sdh_overhead.specs.Sections.{b2_in}
 
 -- the parities are none, or have a byte B1 and 3 N bytes B2
 abbrev pub AreParities : ℕ → Option Parities → Type 0
@@ -20,9 +21,11 @@ AreParities n (Some last) = length last.b2 ≡ 3 * n
 -- back, no bit is in violation, both hold the same parities, and every AU-4 is as it was
 pub record ComesBack (rate : Rate) (sending receiving : Option Parities) (k1 k2 : ℕ) (bytes : List ℕ) : Type 0 where
   pub framed : received_in (n_of rate) receiving (line_frame (n_of rate) sending k1 k2 bytes) ≡ Framed k1 k2 0 0
-  pub parities : kept_after (n_of rate) (line_frame (n_of rate) sending k1 k2 bytes) ≡ Some (parities_of (n_of rate) (clear_frame (n_of rate) sending k1 k2 bytes) (line_frame (n_of rate) sending k1 k2 bytes))
+  pub parities : kept_after (n_of rate) (line_frame (n_of rate) sending k1 k2 bytes)
+      ≡ Some (parities_of (n_of rate) (clear_frame (n_of rate) sending k1 k2 bytes) (line_frame (n_of rate) sending k1 k2 bytes))
   pub frame : opened (n_of rate) (line_frame (n_of rate) sending k1 k2 bytes) ≡ clear_frame (n_of rate) sending k1 k2 bytes
-  pub aus : (au : ℕ) → 1 ≤ au → au ≤ n_of rate → au_of (n_of rate) au (clear_frame (n_of rate) sending k1 k2 bytes) ≡ au_of (n_of rate) au bytes
+  pub aus : (au : ℕ) → 1 ≤ au → au ≤ n_of rate → au_of (n_of rate) au (clear_frame (n_of rate) sending k1 k2 bytes)
+      ≡ au_of (n_of rate) au bytes
 
 -- the byte at a place
 abbrev pub byte_of : Rate → List ℕ → Place → ℕ
@@ -37,9 +40,12 @@ pub record HasFraming (rate : Rate) (bytes : List ℕ) : Type 0 where
 pub record LooksAtFields (rate : Rate) (bytes : List ℕ) : Type 0 where
   pub framing : (is_framed (n_of rate) bytes ≡ true) ↔ HasFraming rate bytes
   pub b1 : (place : Place) → IsInFrame rate place → field_of rate place ≡ B1 → byte_of rate bytes place ≡ byte_in (n_of rate) bytes 2 1
-  pub b2 : (place : Place) (i : ℕ) → IsInFrame rate place → field_of rate place ≡ B2 i → byte_of rate bytes place ≡ slice_index (b2_in (n_of rate) bytes) i
-  pub k1 : (place : Place) → IsInFrame rate place → field_of rate place ≡ K1 → byte_of rate bytes place ≡ byte_in (n_of rate) bytes 5 (3 * n_of rate + 1)
-  pub k2 : (place : Place) → IsInFrame rate place → field_of rate place ≡ K2 → byte_of rate bytes place ≡ byte_in (n_of rate) bytes 5 (6 * n_of rate + 1)
+  pub b2 : (place : Place) (i : ℕ) → IsInFrame rate place → field_of rate place ≡ B2 i
+      → byte_of rate bytes place ≡ slice_index (b2_in (n_of rate) bytes) i
+  pub k1 : (place : Place) → IsInFrame rate place → field_of rate place ≡ K1
+      → byte_of rate bytes place ≡ byte_in (n_of rate) bytes 5 (3 * n_of rate + 1)
+  pub k2 : (place : Place) → IsInFrame rate place → field_of rate place ≡ K2
+      → byte_of rate bytes place ≡ byte_in (n_of rate) bytes 5 (6 * n_of rate + 1)
 
 -- at either rate
 abbrev pub FieldsAreFound : Type 0

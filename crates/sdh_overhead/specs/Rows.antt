@@ -7,7 +7,8 @@ use Rattle.sdh_parity.specs.Parity.{section_bytes}
 use Rattle.sdh_parity.specs.Scrambling.{scrambled}
 use Rattle.sdh_parity.specs.Pieces.{Position, Running, scrambled_from, after_bytes}
 use Rattle.sdh_overhead.specs.Overhead.{byte_at}
-use Rattle.sdh_overhead.specs.Sections.{Parities, UnderWay, SectionKept, holding, added_after, parities_of, is_framed, byte_in, b1_violations, b2_violations}
+use Rattle.sdh_overhead.specs.Sections.{Parities, UnderWay, SectionKept, holding, added_after, parities_of, is_framed, byte_in}
+use Rattle.sdh_overhead.specs.Sections.{b1_violations, b2_violations}
 
 -- the bytes of a sent frame from its byte i on, without scrambling and on the line
 unfoldable pub clear_row : ℕ → Option Parities → ℕ → ℕ → ℕ → List ℕ → List ℕ

@@ -1,5 +1,6 @@
 -- A section: what it sends, what it finds in a received frame, and the parities that it keeps (ITU-T G.707 clause 9.2).
-use Rattle.std.specs.Prelude.{ℕ, ◌≡◌, ◌+◌, ◌*◌, ◌==◌, ◌&&◌, Bool, true, false, Option, Some, None, List, take, slice_range, slice_index, replicate, if◌then◌else◌}
+use Rattle.std.specs.Prelude.{ℕ, ◌≡◌, ◌+◌, ◌*◌, ◌==◌, ◌&&◌, Bool, true, false, Option, Some, None, List, take, slice_range, slice_index}
+use Rattle.std.specs.Prelude.{replicate, if◌then◌else◌}
 use Rattle.std.specs.List.{list_all}
 use Rattle.sdh_basics.specs.Parity.{bip8}
 use Rattle.sdh_terms.specs.declared.Rate.{Rate}
@@ -85,7 +86,8 @@ b2_violations n (Some last) clear = violations_of last.b2 (b2_in n clear)
 
 -- what a framed frame says, without scrambling
 unfoldable pub found_in : ℕ → Option Parities → List ℕ → Received
-found_in n last clear = Framed (byte_in n clear 5 (3 * n + 1)) (byte_in n clear 5 (6 * n + 1)) (b1_violations n last clear) (b2_violations n last clear)
+found_in n last clear =
+    Framed (byte_in n clear 5 (3 * n + 1)) (byte_in n clear 5 (6 * n + 1)) (b1_violations n last clear) (b2_violations n last clear)
 
 -- what a frame on the line says
 unfoldable pub received_in : ℕ → Option Parities → List ℕ → Received

@@ -1,5 +1,6 @@
 -- Pieces of a frame.
-use Rattle.std.proofs.Common.{◌≡◌, ℕ, ◌+◌, ◌-◌, ◌*◌, ◌/◌, ◌%◌, ◌<◌, ◌≤◌, ◌⊎◌, List, ◌++◌, length, get_or, take, drop, refl, ap, sym, ◌∙◌, arith, inl, inr, bit_xor}
+use Rattle.std.proofs.Common.{◌≡◌, ℕ, ◌+◌, ◌-◌, ◌*◌, ◌/◌, ◌%◌, ◌<◌, ◌≤◌, ◌⊎◌, List, ◌++◌, length, get_or, take, drop, refl, ap, sym, ◌∙◌}
+use Rattle.std.proofs.Common.{arith, inl, inr, bit_xor}
 use Rattle.std.proofs.lemmas.Bool.{cases_lt}
 use Rattle.std.proofs.lemmas.List.{ext_get_or, get_or_append_left, get_or-append_right}
 use Rattle.std.proofs.lemmas.Grind.{common_steps}
@@ -20,18 +21,22 @@ pub length-from : (clear i : ℕ) (bytes : List ℕ) → length (scrambled_from 
 unfolding scrambled_from
 length-from clear i bytes = length-map_from (scrambled_byte clear) i bytes
 
-pub get_or-from : (clear i : ℕ) (bytes : List ℕ) (k : ℕ) → k < length bytes → get_or (scrambled_from clear i bytes) k 0 ≡ scrambled_byte clear (i + k) (get_or bytes k 0)
+pub get_or-from : (clear i : ℕ) (bytes : List ℕ) (k : ℕ) → k < length bytes
+    → get_or (scrambled_from clear i bytes) k 0 ≡ scrambled_byte clear (i + k) (get_or bytes k 0)
 unfolding scrambled_from
 get_or-from clear i bytes k h = get_or-map_from (scrambled_byte clear) i bytes k 0 0 h
 
 -- a piece that is clear
 pub clear-piece : (clear at : ℕ) (bytes : List ℕ) → at + length bytes ≤ clear → bytes ≡ scrambled_from clear at bytes
 clear-piece clear at bytes h =
-    ext_get_or 0 bytes (scrambled_from clear at bytes) (sym (length-from clear at bytes)) (λ i lt. sym (get_or-from clear at bytes i lt ∙ byte-clear clear (at + i) _ (omega arith)))
+    ext_get_or 0 bytes (scrambled_from clear at bytes) (sym (length-from clear at bytes))
+    (λ i lt. sym (get_or-from clear at bytes i lt ∙ byte-clear clear (at + i) _ (omega arith)))
 
 -- a piece to which the sequence was added from a place on
-pub added-piece : (clear at skip : ℕ) (old part : List ℕ) → skip ≤ length old → (skip ≡ 0) ⊎ (at + skip ≡ clear) → clear ≤ at + skip → length part ≡ length (take (length old - skip) (drop skip old))
-    → ((k : ℕ) → k < length (take (length old - skip) (drop skip old)) → get_or part k 0 ≡ bit_xor (get_or (take (length old - skip) (drop skip old)) k 0) (scrambling_byte (at + skip - clear + k)))
+pub added-piece : (clear at skip : ℕ) (old part : List ℕ) → skip ≤ length old → (skip ≡ 0) ⊎ (at + skip ≡ clear) → clear ≤ at + skip
+    → length part ≡ length (take (length old - skip) (drop skip old))
+    → ((k : ℕ) → k < length (take (length old - skip) (drop skip old))
+    → get_or part k 0 ≡ bit_xor (get_or (take (length old - skip) (drop skip old)) k 0) (scrambling_byte (at + skip - clear + k)))
     → put_mid skip (length old - skip) old part ≡ scrambled_from clear at old
 added-piece clear at skip old part room start past len each =
     let n : ℕ = length old - skip in
@@ -40,7 +45,8 @@ added-piece clear at skip old part room start past len each =
     ext_get_or 0 (put_mid skip n old part) (scrambled_from clear at old) (all ∙ sym (length-from clear at old)) (λ i lt.
     (let h : i < length old = omega arith in
     elim (cases_lt i skip) [
-      | inl below ↦ put_below skip n old part i below room ∙ sym (get_or-from clear at old i h ∙ byte-clear clear (at + i) _ (before below start))
+      | inl below ↦ put_below skip n old part i below room ∙ sym
+          (get_or-from clear at old i h ∙ byte-clear clear (at + i) _ (before below start))
       | inr above ↦
           let j : ℕ = i - skip in
           let e : skip + j ≡ i = omega arith in
@@ -62,7 +68,8 @@ added-piece clear at skip old part room start past len each =
     before h (inr e) = omega arith
 
 -- the sequence from a place on, up to the next whole 1016 bytes and from there
-pub two-parts : (p first : ℕ) (old head rest : List ℕ) → (first ≡ length old) ⊎ (first ≡ 1016 - p % 1016) → first ≤ length old → length head ≡ first
+pub two-parts : (p first : ℕ) (old head rest : List ℕ) → (first ≡ length old) ⊎ (first ≡ 1016 - p % 1016) → first ≤ length old
+    → length head ≡ first
     → ((k : ℕ) → k < first → get_or head k 0 ≡ bit_xor (get_or old k 0) (scrambling_byte (p % 1016 + k)))
     → ((k : ℕ) → k < length old - first → get_or rest k 0 ≡ bit_xor (get_or old (first + k) 0) (scrambling_byte k))
     → (k : ℕ) → k < length old → get_or (head ++ rest) k 0 ≡ bit_xor (get_or old k 0) (scrambling_byte (p + k))
@@ -70,20 +77,25 @@ two-parts p first old head rest which room len each later k h =
     elim (cases_lt k first) [
       | inl below ↦ (
           let e : p / 1016 * 1016 + (p % 1016 + k) ≡ p + k = omega arith in
-          get_or_append_left head rest 0 k (omega arith) ∙ each k below ∙ ap (bit_xor (get_or old k 0)) (sym (byte-repeats (p / 1016) (p % 1016 + k)) ∙ ap scrambling_byte e))
+          get_or_append_left head rest 0 k (omega arith) ∙ each k below
+          ∙ ap (bit_xor (get_or old k 0)) (sym (byte-repeats (p / 1016) (p % 1016 + k)) ∙ ap scrambling_byte e))
       | inr above ↦ (
           let j : ℕ = k - first in
           let whole : first ≡ 1016 - p % 1016 = elim which [ inl e ↦ absurd (omega arith) | inr e ↦ e ] in
           let e : (p / 1016 + 1) * 1016 + j ≡ p + k = omega arith in
           let f : first + j ≡ k = omega arith in
-          get_or-append_right head rest first k 0 len above ∙ later j (omega arith) ∙ ap (λ m. bit_xor (get_or old m 0) (scrambling_byte j)) f
+          get_or-append_right head rest first k 0 len above ∙ later j (omega arith)
+          ∙ ap (λ m. bit_xor (get_or old m 0) (scrambling_byte j)) f
           ∙ ap (bit_xor (get_or old k 0)) (sym (byte-repeats (p / 1016 + 1) j) ∙ ap scrambling_byte e))
     ]
 
 -- a piece behind the clear bytes to which the sequence was added
-pub passed-piece : (clear off : ℕ) (old new : List ℕ) → clear ≤ off → length new ≡ length old → ((i : ℕ) → i < length old → get_or new i 0 ≡ bit_xor (get_or old i 0) (scrambling_byte (off - clear + i))) → new ≡ scrambled_from clear off old
+pub passed-piece : (clear off : ℕ) (old new : List ℕ) → clear ≤ off → length new ≡ length old
+    → ((i : ℕ) → i < length old → get_or new i 0 ≡ bit_xor (get_or old i 0) (scrambling_byte (off - clear + i)))
+    → new ≡ scrambled_from clear off old
 passed-piece clear off old new behind len each =
     ext_get_or 0 new (scrambled_from clear off old) (len ∙ sym (length-from clear off old)) (λ i lt.
     (let h : i < length old = omega arith in
     let e : off - clear + i ≡ off + i - clear = omega arith in
-    each i h ∙ ap (λ k. bit_xor (get_or old i 0) (scrambling_byte k)) e ∙ sym (get_or-from clear off old i h ∙ byte-added clear (off + i) _ (omega arith))))
+    each i h ∙ ap (λ k. bit_xor (get_or old i 0) (scrambling_byte k)) e
+    ∙ sym (get_or-from clear off old i h ∙ byte-added clear (off + i) _ (omega arith))))

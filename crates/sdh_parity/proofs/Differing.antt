@@ -1,5 +1,6 @@
 -- The ones of an exclusive or are the bits that differ.
-use Rattle.std.proofs.Common.{◌≡◌, ℕ, zero, suc, ◌+◌, ◌*◌, ◌/◌, ◌%◌, ◌^◌, ◌<◌, ◌≤◌, Bool, true, false, cond, eqb, List, [], ◌∷◌, ◌++◌, length, take, get_or, refl, sym, ap, ◌∙◌, arith, bit_xor}
+use Rattle.std.proofs.Common.{◌≡◌, ℕ, zero, suc, ◌+◌, ◌*◌, ◌/◌, ◌%◌, ◌^◌, ◌<◌, ◌≤◌, Bool, true, false, cond, eqb, List, [], ◌∷◌, ◌++◌}
+use Rattle.std.proofs.Common.{length, take, get_or, refl, sym, ap, ◌∙◌, arith, bit_xor}
 use Rattle.std.specs.Prelude.{◌==◌, not}
 use Rattle.std.specs.Int.{bit_at}
 use Rattle.std.specs.Int.RustNames.{count_ones}
@@ -39,7 +40,8 @@ ones_of_byte n h =
     let none : count_ones (n / 256) ≡ 0 = ap count_ones (omega arith) ∙ ones_of_zero in
     summed _ _ _ _ _ _ _ _ _ _ _ _ _ _ _ _ _ _ whole h0 h1 h2 h3 h4 h5 h6 h7 none
   where
-    summed : (c c0 c1 c2 c3 c4 c5 c6 c7 c8 b0 b1 b2 b3 b4 b5 b6 b7 : ℕ) → c ≡ c0 → c0 ≡ c1 + b0 → c1 ≡ c2 + b1 → c2 ≡ c3 + b2 → c3 ≡ c4 + b3 → c4 ≡ c5 + b4 → c5 ≡ c6 + b5 → c6 ≡ c7 + b6 → c7 ≡ c8 + b7 → c8 ≡ 0
+    summed : (c c0 c1 c2 c3 c4 c5 c6 c7 c8 b0 b1 b2 b3 b4 b5 b6 b7 : ℕ) → c ≡ c0 → c0 ≡ c1 + b0 → c1 ≡ c2 + b1 → c2 ≡ c3 + b2 → c3 ≡ c4 + b3
+        → c4 ≡ c5 + b4 → c5 ≡ c6 + b5 → c6 ≡ c7 + b6 → c7 ≡ c8 + b7 → c8 ≡ 0
         → c ≡ b0 + (b1 + (b2 + (b3 + (b4 + (b5 + (b6 + b7))))))
     summed c c0 c1 c2 c3 c4 c5 c6 c7 c8 b0 b1 b2 b3 b4 b5 b6 b7 e e0 e1 e2 e3 e4 e5 e6 e7 z = omega arith
 
@@ -68,15 +70,19 @@ bit_of_xor x y j = one_bit (bit_at x j) (bit_at y j) (omega arith) (omega arith)
 pub ones_of_xor : (x y : ℕ) → x < 2 ^ 8 → y < 2 ^ 8 → (count_ones (bit_xor x y) ≡ differing_bits x y) × (differing_bits x y ≤ 8)
 unfolding differing_bits
 ones_of_xor x y hx hy = (
-  ones_of_byte (bit_xor x y) (xor_lt 8 x y hx hy) ∙ eight _ _ _ _ _ _ _ _ _ _ _ _ _ _ _ _ (bit_of_xor x y 0) (bit_of_xor x y 1) (bit_of_xor x y 2) (bit_of_xor x y 3) (bit_of_xor x y 4) (bit_of_xor x y 5) (bit_of_xor x y 6) (bit_of_xor x y 7),
-  few _ _ _ _ _ _ _ _ (differs-le _ _) (differs-le _ _) (differs-le _ _) (differs-le _ _) (differs-le _ _) (differs-le _ _) (differs-le _ _) (differs-le _ _),
+  ones_of_byte (bit_xor x y) (xor_lt 8 x y hx hy) ∙ eight _ _ _ _ _ _ _ _ _ _ _ _ _ _ _ _ (bit_of_xor x y 0) (bit_of_xor x y 1)
+      (bit_of_xor x y 2) (bit_of_xor x y 3) (bit_of_xor x y 4) (bit_of_xor x y 5) (bit_of_xor x y 6) (bit_of_xor x y 7),
+  few _ _ _ _ _ _ _ _ (differs-le _ _) (differs-le _ _) (differs-le _ _) (differs-le _ _) (differs-le _ _) (differs-le _ _) (differs-le _ _)
+      (differs-le _ _),
 )
   where
-    eight : (d0 d1 d2 d3 d4 d5 d6 d7 b0 b1 b2 b3 b4 b5 b6 b7 : ℕ) → d0 ≡ b0 → d1 ≡ b1 → d2 ≡ b2 → d3 ≡ b3 → d4 ≡ b4 → d5 ≡ b5 → d6 ≡ b6 → d7 ≡ b7
+    eight : (d0 d1 d2 d3 d4 d5 d6 d7 b0 b1 b2 b3 b4 b5 b6 b7 : ℕ) → d0 ≡ b0 → d1 ≡ b1 → d2 ≡ b2 → d3 ≡ b3 → d4 ≡ b4 → d5 ≡ b5 → d6 ≡ b6
+        → d7 ≡ b7
         → b0 + (b1 + (b2 + (b3 + (b4 + (b5 + (b6 + b7)))))) ≡ 0 + d0 + d1 + d2 + d3 + d4 + d5 + d6 + d7
     eight d0 d1 d2 d3 d4 d5 d6 d7 b0 b1 b2 b3 b4 b5 b6 b7 e0 e1 e2 e3 e4 e5 e6 e7 = omega arith
 
-    few : (d0 d1 d2 d3 d4 d5 d6 d7 : ℕ) → d0 ≤ 1 → d1 ≤ 1 → d2 ≤ 1 → d3 ≤ 1 → d4 ≤ 1 → d5 ≤ 1 → d6 ≤ 1 → d7 ≤ 1 → 0 + d0 + d1 + d2 + d3 + d4 + d5 + d6 + d7 ≤ 8
+    few : (d0 d1 d2 d3 d4 d5 d6 d7 : ℕ) → d0 ≤ 1 → d1 ≤ 1 → d2 ≤ 1 → d3 ≤ 1 → d4 ≤ 1 → d5 ≤ 1 → d6 ≤ 1 → d7 ≤ 1
+        → 0 + d0 + d1 + d2 + d3 + d4 + d5 + d6 + d7 ≤ 8
     few d0 d1 d2 d3 d4 d5 d6 d7 h0 h1 h2 h3 h4 h5 h6 h7 = omega arith
 
 bit-same : (b : ℕ) → differs b b ≡ 0
@@ -95,14 +101,18 @@ violations_of-same [] = refl
 violations_of-same (x ∷ xs) = ap (λ d. d + violations_of xs xs) (differing_bits-same x) ∙ ap (λ v. 0 + v) (violations_of-same xs)
 
 -- one byte at the end
-pub violations_of-push : (xs ys : List ℕ) (x y : ℕ) → length xs ≡ length ys → violations_of (xs ++ x ∷ []) (ys ++ y ∷ []) ≡ violations_of xs ys + differing_bits x y
+pub violations_of-push : (xs ys : List ℕ) (x y : ℕ) → length xs ≡ length ys
+    → violations_of (xs ++ x ∷ []) (ys ++ y ∷ []) ≡ violations_of xs ys + differing_bits x y
 violations_of-push [] [] x y e = omega arith
 violations_of-push [] (b ∷ ys) x y e = absurd (omega arith)
 violations_of-push (a ∷ xs) [] x y e = absurd (omega arith)
 violations_of-push (a ∷ xs) (b ∷ ys) x y e = let ih = violations_of-push xs ys x y (omega arith) in omega arith
 
 -- one byte more
-pub violations_of-more : (xs ys : List ℕ) (i : ℕ) → length xs ≡ length ys → i < length xs → violations_of (take (i + 1) xs) (take (i + 1) ys) ≡ violations_of (take i xs) (take i ys) + differing_bits (get_or xs i 0) (get_or ys i 0)
+pub violations_of-more : (xs ys : List ℕ) (i : ℕ) → length xs ≡ length ys → i < length xs
+    → violations_of (take (i + 1) xs) (take (i + 1) ys) ≡ violations_of (take i xs) (take i ys) + differing_bits (get_or xs i 0)
+    (get_or ys i 0)
 violations_of-more xs ys i e h =
-    ap (λ zs. violations_of zs (take (i + 1) ys)) (take_more xs i 0 h) ∙ ap (violations_of (take i xs ++ get_or xs i 0 ∷ [])) (take_more ys i 0 (omega arith))
+    ap (λ zs. violations_of zs (take (i + 1) ys)) (take_more xs i 0 h)
+    ∙ ap (violations_of (take i xs ++ get_or xs i 0 ∷ [])) (take_more ys i 0 (omega arith))
     ∙ violations_of-push (take i xs) (take i ys) _ _ (omega (arith, length-take-le i xs, length-take-le i ys))

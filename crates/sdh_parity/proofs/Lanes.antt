@@ -1,5 +1,6 @@
 -- The parities of lanes by strides, part by part.
-use Rattle.std.proofs.Common.{◌≡◌, ℕ, zero, suc, ◌+◌, ◌*◌, ◌-◌, ◌%◌, ◌^◌, ◌<◌, ◌≤◌, Bool, true, false, List, [], ◌∷◌, ◌++◌, length, take, drop, get_or, refl, ap, sym, ◌∙◌, arith, bit_xor, inl, inr}
+use Rattle.std.proofs.Common.{◌≡◌, ℕ, zero, suc, ◌+◌, ◌*◌, ◌-◌, ◌%◌, ◌^◌, ◌<◌, ◌≤◌, Bool, true, false, List, [], ◌∷◌, ◌++◌, length, take}
+use Rattle.std.proofs.Common.{drop, get_or, refl, ap, sym, ◌∙◌, arith, bit_xor, inl, inr}
 use Rattle.std.specs.Prelude.{◌==◌, if◌then◌else◌}
 use Rattle.std.specs.Simd.Lanes.{zip2, chunk}
 use Rattle.std.proofs.Math.Nat.{mod-eq_of_lt, mul-add-mod_self_right}
@@ -21,7 +22,8 @@ pushed_in false x xs ys = refl
 pub lane_from-append : (m i k : ℕ) (xs ys : List ℕ) → lane_from m i k (xs ++ ys) ≡ lane_from m i k xs ++ lane_from m i (k + length xs) ys
 lane_from-append m i k [] ys = ap (λ n. lane_from m i n ys) (omega arith)
 lane_from-append m i k (x ∷ xs) ys =
-    ap (λ zs. if (k % m) == i then x ∷ zs else zs) (lane_from-append m i (k + 1) xs ys ∙ ap (λ n. lane_from m i (k + 1) xs ++ lane_from m i n ys) (omega arith))
+    ap (λ zs. if (k % m) == i then x ∷ zs else zs) (lane_from-append m i (k + 1) xs ys
+    ∙ ap (λ n. lane_from m i (k + 1) xs ++ lane_from m i n ys) (omega arith))
     ∙ pushed_in ((k % m) == i) x (lane_from m i (k + 1) xs) (lane_from m i (k + suc (length xs)) ys)
 
 -- counting from a whole number of rows is counting from 0
@@ -34,7 +36,8 @@ lane_from-rows m i c k (y ∷ ys) =
 
 pub lane-append : (m i c : ℕ) (xs ys : List ℕ) → length xs ≡ c * m → lane m i (xs ++ ys) ≡ lane m i xs ++ lane m i ys
 lane-append m i c xs ys e =
-    lane_from-append m i 0 xs ys ∙ ap (λ n. lane_from m i 0 xs ++ lane_from m i n ys) (omega arith) ∙ ap (λ zs. lane_from m i 0 xs ++ zs) (lane_from-rows m i c 0 ys)
+    lane_from-append m i 0 xs ys ∙ ap (λ n. lane_from m i 0 xs ++ lane_from m i n ys) (omega arith)
+    ∙ ap (λ zs. lane_from m i 0 xs ++ zs) (lane_from-rows m i c 0 ys)
 
 -- in one row no byte of the lane is left after it
 row_after : (m i k : ℕ) (ys : List ℕ) → i < k → k + length ys ≤ m → lane_from m i k ys ≡ []
@@ -81,7 +84,8 @@ lane-row : (m i : ℕ) (ys : List ℕ) → i < m → length ys ≡ m → lane m 
 lane-row m i ys h e = row_before m i 0 ys (omega arith) (omega arith) (omega arith) ∙ ap (λ j. get_or ys j 0 ∷ []) (omega arith)
 
 pub lane-rows : (m i : ℕ) (xs : List ℕ) (c : ℕ) → i < m → c * m ≤ length xs → lane m i (take (c * m) xs) ≡ every i m c xs
-lane-rows m i xs zero h room = let none : zero * m ≡ 0 = omega arith in ap (λ n. lane m i (take n xs)) none ∙ sym (cells-zero (λ r. get_or xs (i + r * m) 0))
+lane-rows m i xs zero h room = let none : zero * m ≡ 0 =
+    omega arith in ap (λ n. lane m i (take n xs)) none ∙ sym (cells-zero (λ r. get_or xs (i + r * m) 0))
 lane-rows m i xs (suc c) h room =
     let size : suc c * m ≡ c * m + m = omega arith in
     let row : List ℕ = take m (drop (c * m) xs) in
@@ -91,7 +95,8 @@ lane-rows m i xs (suc c) h room =
     ap (λ n. lane m i (take n xs)) size ∙ ap (lane m i) (take-add (c * m) m xs)
     ∙ lane-append m i c (take (c * m) xs) row (length-take-le (c * m) xs (omega arith))
     ∙ ap (λ zs. zs ++ lane m i row) (lane-rows m i xs c h (omega arith))
-    ∙ ap (λ zs. every i m c xs ++ zs) (lane-row m i row h long ∙ ap (λ z. z ∷ []) (get_or-take m (drop (c * m) xs) i 0 h ∙ get_or-drop (c * m) xs i 0 ∙ ap (λ n. get_or xs n 0) spot))
+    ∙ ap (λ zs. every i m c xs ++ zs) (lane-row m i row h long
+    ∙ ap (λ z. z ∷ []) (get_or-take m (drop (c * m) xs) i 0 h ∙ get_or-drop (c * m) xs i 0 ∙ ap (λ n. get_or xs n 0) spot))
     ∙ sym (cells-more (λ r. get_or xs (i + r * m) 0) c) ∙ ap (λ n. every i m n xs) last
   where
     length_part : (xs : List ℕ) (a n : ℕ) → a + n ≤ length xs → length (take n (drop a xs)) ≡ n

@@ -26,7 +26,9 @@ added old s part a n b at room len each done rest k h =
           let at_j : b * 1016 + j ≡ k = omega arith in
           let key : scrambling_byte j ≡ scrambling_byte k = sym (byte-repeats b j) ∙ ap scrambling_byte at_j in
           let was : get_or (take n (drop a s)) j 0 ≡ get_or old k 0 = get_or-part a n s j jn ∙ (ap (λ i. get_or s i 0) e ∙ rest k ge) in
-          ap (λ i. get_or (put_mid a n s part) i 0) (sym e) ∙ (put_in a n s part j jp r ∙ (each j jm ∙ (ap (λ x. bit_xor x (scrambling_byte j)) was ∙ ap (λ y. bit_xor (get_or old k 0) y) key)))
+          ap (λ i. get_or (put_mid a n s part) i 0) (sym e)
+          ∙ (put_in a n s part j jp r ∙ (each j jm ∙ (ap (λ x. bit_xor x (scrambling_byte j)) was
+          ∙ ap (λ y. bit_xor (get_or old k 0) y) key)))
     ]
 
 pub left : (old s part : List ℕ) (a n : ℕ) → a + n ≤ length s → length part ≡ n →

@@ -35,7 +35,8 @@ bit-rule i = ap scrambling_bit (omega arith) ∙ bit-more i ∙ ap (λ j. (scram
 number : ℕ → ℕ → ℕ → ℕ → ℕ → ℕ → ℕ → ℕ
 number b0 b1 b2 b3 b4 b5 b6 = 64 * b0 + (32 * b1 + (16 * b2 + (8 * b3 + (4 * b4 + (2 * b5 + b6)))))
 
-next-number : (b0 b1 b2 b3 b4 b5 b6 b7 : ℕ) → b0 < 2 → b1 < 2 → b2 < 2 → b3 < 2 → b4 < 2 → b5 < 2 → b6 < 2 → b7 ≡ (b1 + b0) % 2 → next (number b0 b1 b2 b3 b4 b5 b6) ≡ number b1 b2 b3 b4 b5 b6 b7
+next-number : (b0 b1 b2 b3 b4 b5 b6 b7 : ℕ) → b0 < 2 → b1 < 2 → b2 < 2 → b3 < 2 → b4 < 2 → b5 < 2 → b6 < 2 → b7 ≡ (b1 + b0) % 2
+    → next (number b0 b1 b2 b3 b4 b5 b6) ≡ number b1 b2 b3 b4 b5 b6 b7
 unfolding number
 next-number b0 b1 b2 b3 b4 b5 b6 b7 h0 h1 h2 h3 h4 h5 h6 e =
     let top : number b0 b1 b2 b3 b4 b5 b6 / 64 ≡ b0 = omega arith in
@@ -45,18 +46,24 @@ next-number b0 b1 b2 b3 b4 b5 b6 b7 h0 h1 h2 h3 h4 h5 h6 e =
     omega arith
 
 bits_from : ℕ → ℕ
-bits_from i = number (scrambling_bit i) (scrambling_bit (i + 1)) (scrambling_bit (i + 2)) (scrambling_bit (i + 3)) (scrambling_bit (i + 4)) (scrambling_bit (i + 5)) (scrambling_bit (i + 6))
+bits_from i =
+    number (scrambling_bit i) (scrambling_bit (i + 1)) (scrambling_bit (i + 2)) (scrambling_bit (i + 3)) (scrambling_bit (i + 4))
+    (scrambling_bit (i + 5)) (scrambling_bit (i + 6))
 
 bits_from-more : (i : ℕ) → next (bits_from i) ≡ bits_from (suc i)
 unfolding bits_from
 bits_from-more i =
-    next-number _ _ _ _ _ _ _ (scrambling_bit (i + 7)) (bit-lt i) (bit-lt (i + 1)) (bit-lt (i + 2)) (bit-lt (i + 3)) (bit-lt (i + 4)) (bit-lt (i + 5)) (bit-lt (i + 6)) (bit-rule i)
-    ∙ moved _ _ _ _ _ _ _ _ _ _ _ _ _ _ (at (i + 1) (suc i) (omega arith)) (at (i + 2) (suc i + 1) (omega arith)) (at (i + 3) (suc i + 2) (omega arith)) (at (i + 4) (suc i + 3) (omega arith)) (at (i + 5) (suc i + 4) (omega arith)) (at (i + 6) (suc i + 5) (omega arith)) (at (i + 7) (suc i + 6) (omega arith))
+    next-number _ _ _ _ _ _ _ (scrambling_bit (i + 7)) (bit-lt i) (bit-lt (i + 1)) (bit-lt (i + 2)) (bit-lt (i + 3)) (bit-lt (i + 4))
+    (bit-lt (i + 5)) (bit-lt (i + 6)) (bit-rule i)
+    ∙ moved _ _ _ _ _ _ _ _ _ _ _ _ _ _ (at (i + 1) (suc i) (omega arith)) (at (i + 2) (suc i + 1) (omega arith))
+    (at (i + 3) (suc i + 2) (omega arith)) (at (i + 4) (suc i + 3) (omega arith)) (at (i + 5) (suc i + 4) (omega arith))
+    (at (i + 6) (suc i + 5) (omega arith)) (at (i + 7) (suc i + 6) (omega arith))
   where
     at : (j k : ℕ) → j ≡ k → scrambling_bit j ≡ scrambling_bit k
     at j k e = ap scrambling_bit e
 
-    moved : (a0 a1 a2 a3 a4 a5 a6 b0 b1 b2 b3 b4 b5 b6 : ℕ) → a0 ≡ b0 → a1 ≡ b1 → a2 ≡ b2 → a3 ≡ b3 → a4 ≡ b4 → a5 ≡ b5 → a6 ≡ b6 → number a0 a1 a2 a3 a4 a5 a6 ≡ number b0 b1 b2 b3 b4 b5 b6
+    moved : (a0 a1 a2 a3 a4 a5 a6 b0 b1 b2 b3 b4 b5 b6 : ℕ) → a0 ≡ b0 → a1 ≡ b1 → a2 ≡ b2 → a3 ≡ b3 → a4 ≡ b4 → a5 ≡ b5 → a6 ≡ b6
+        → number a0 a1 a2 a3 a4 a5 a6 ≡ number b0 b1 b2 b3 b4 b5 b6
     moved a0 a1 a2 a3 a4 a5 a6 b0 b1 b2 b3 b4 b5 b6 e0 e1 e2 e3 e4 e5 e6 = cc
 
 register-bits : (i : ℕ) → register i ≡ bits_from i
@@ -65,7 +72,9 @@ register-bits zero = refl
 register-bits (suc i) = ap next (register-bits i) ∙ bits_from-more i
 
 abbrev number_at : ℕ → ℕ
-number_at i = 64 * scrambling_bit i + (32 * scrambling_bit (i + 1) + (16 * scrambling_bit (i + 2) + (8 * scrambling_bit (i + 3) + (4 * scrambling_bit (i + 4) + (2 * scrambling_bit (i + 5) + scrambling_bit (i + 6))))))
+number_at i =
+    64 * scrambling_bit i + (32 * scrambling_bit (i + 1) + (16 * scrambling_bit (i + 2) +
+    (8 * scrambling_bit (i + 3) + (4 * scrambling_bit (i + 4) + (2 * scrambling_bit (i + 5) + scrambling_bit (i + 6))))))
 
 register-number : (i : ℕ) → register i ≡ number_at i
 unfolding bits_from number

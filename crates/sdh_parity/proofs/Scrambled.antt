@@ -1,5 +1,6 @@
 -- A scrambled frame, byte by byte.
-use Rattle.std.proofs.Common.{◌≡◌, ℕ, zero, suc, ◌+◌, ◌-◌, ◌<◌, ◌≤◌, true, false, ltb, List, [], ◌∷◌, length, get_or, take, drop, refl, ap, sym, ◌∙◌, arith, inl, inr, bit_xor}
+use Rattle.std.proofs.Common.{◌≡◌, ℕ, zero, suc, ◌+◌, ◌-◌, ◌<◌, ◌≤◌, true, false, ltb, List, [], ◌∷◌, length, get_or, take, drop, refl, ap}
+use Rattle.std.proofs.Common.{sym, ◌∙◌, arith, inl, inr, bit_xor}
 use Rattle.std.specs.Int.Bits.{xor_assoc, xor_self, xor_zero_r}
 use Rattle.std.proofs.lemmas.Bool.{cases_lt, lt-ltb, le-ltb}
 use Rattle.std.proofs.lemmas.List.{ext_get_or}
@@ -15,7 +16,8 @@ pub length-scrambled : (clear : ℕ) (bytes : List ℕ) → length (scrambled cl
 unfolding scrambled
 length-scrambled clear bytes = length-map_from (scrambled_byte clear) 0 bytes
 
-pub get_or-scrambled : (clear : ℕ) (bytes : List ℕ) (i : ℕ) → i < length bytes → get_or (scrambled clear bytes) i 0 ≡ scrambled_byte clear i (get_or bytes i 0)
+pub get_or-scrambled : (clear : ℕ) (bytes : List ℕ) (i : ℕ) → i < length bytes
+    → get_or (scrambled clear bytes) i 0 ≡ scrambled_byte clear i (get_or bytes i 0)
 unfolding scrambled
 get_or-scrambled clear bytes i h = get_or-placed (scrambled_byte clear) bytes i 0 0 h
 
@@ -34,20 +36,25 @@ byte-twice : (clear i x : ℕ) → scrambled_byte clear i (scrambled_byte clear 
 byte-twice clear i x =
     elim (cases_lt i clear) [
       | inl h ↦ byte-clear clear i _ h ∙ byte-clear clear i x h
-      | inr h ↦ byte-added clear i _ h ∙ ap (λ y. bit_xor y (scrambling_byte (i - clear))) (byte-added clear i x h) ∙ xor-twice x (scrambling_byte (i - clear))
+      | inr h ↦ byte-added clear i _ h ∙ ap (λ y. bit_xor y (scrambling_byte (i - clear))) (byte-added clear i x h)
+          ∙ xor-twice x (scrambling_byte (i - clear))
     ]
 
 pub scrambled-twice : ScramblingIsUndone
 scrambled-twice clear bytes =
-    ext_get_or 0 (scrambled clear (scrambled clear bytes)) bytes (length-scrambled clear (scrambled clear bytes) ∙ length-scrambled clear bytes) (λ i lt.
+    ext_get_or 0 (scrambled clear (scrambled clear bytes)) bytes
+    (length-scrambled clear (scrambled clear bytes) ∙ length-scrambled clear bytes) (λ i lt.
     (let h : i < length (scrambled clear bytes) = omega (arith, length-scrambled clear (scrambled clear bytes)) in
     let g : i < length bytes = omega (arith, length-scrambled clear bytes) in
-    get_or-scrambled clear (scrambled clear bytes) i h ∙ ap (scrambled_byte clear i) (get_or-scrambled clear bytes i g) ∙ byte-twice clear i (get_or bytes i 0)))
+    get_or-scrambled clear (scrambled clear bytes) i h ∙ ap (scrambled_byte clear i) (get_or-scrambled clear bytes i g)
+    ∙ byte-twice clear i (get_or bytes i 0)))
 
 take-kept : (f : ℕ → ℕ → ℕ) (n i : ℕ) (xs : List ℕ) → ((k x : ℕ) → k < i + n → f k x ≡ x) → take n (map_from f i xs) ≡ take n xs
 take-kept f zero i xs same = refl
 take-kept f (suc n) i [] same = refl
-take-kept f (suc n) i (x ∷ xs) same = ap (λ y. y ∷ take n (map_from f (i + 1) xs)) (same i x (omega arith)) ∙ ap (λ ys. x ∷ ys) (take-kept f n (i + 1) xs (λ k y h. same k y (omega arith)))
+take-kept f (suc n) i (x ∷ xs) same =
+    ap (λ y. y ∷ take n (map_from f (i + 1) xs)) (same i x (omega arith))
+    ∙ ap (λ ys. x ∷ ys) (take-kept f n (i + 1) xs (λ k y h. same k y (omega arith)))
 
 pub take-scrambled : ScramblingLeavesClear
 unfolding scrambled
@@ -55,7 +62,8 @@ take-scrambled clear bytes = take-kept (scrambled_byte clear) clear 0 bytes (λ 
 
 -- the sequence was added to all but the first bytes
 pub whole : (clear : ℕ) (old part : List ℕ) → clear ≤ length old → length part ≡ length (take (length old - clear) (drop clear old))
-    → ((k : ℕ) → k < length (take (length old - clear) (drop clear old)) → get_or part k 0 ≡ bit_xor (get_or (take (length old - clear) (drop clear old)) k 0) (scrambling_byte k))
+    → ((k : ℕ) → k < length (take (length old - clear) (drop clear old))
+    → get_or part k 0 ≡ bit_xor (get_or (take (length old - clear) (drop clear old)) k 0) (scrambling_byte k))
     → put_mid clear (length old - clear) old part ≡ scrambled clear old
 whole clear old part room len each =
     let n : ℕ = length old - clear in

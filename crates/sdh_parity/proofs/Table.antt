@@ -24,8 +24,10 @@ byte-repeat : (k : ℕ) → scrambling_byte (k + 1016) ≡ scrambling_byte k
 byte-repeat k =
     let e : 8 * (k + 1016) ≡ 8 * k + 8128 = omega arith in
     let f : 8 * (k + 1016) + 1 ≡ 8 * k + 1 + 8128 = omega arith in
-    byte-register (k + 1016) ∙ ap (λ i. register i * 2 + register (8 * (k + 1016) + 1) % 2) e ∙ ap (λ r. r * 2 + register (8 * (k + 1016) + 1) % 2) (register-repeat (8 * k))
-    ∙ ap (λ i. register (8 * k) * 2 + register i % 2) f ∙ ap (λ r. register (8 * k) * 2 + r % 2) (register-repeat (8 * k + 1)) ∙ sym (byte-register k)
+    byte-register (k + 1016) ∙ ap (λ i. register i * 2 + register (8 * (k + 1016) + 1) % 2) e
+    ∙ ap (λ r. r * 2 + register (8 * (k + 1016) + 1) % 2) (register-repeat (8 * k))
+    ∙ ap (λ i. register (8 * k) * 2 + register i % 2) f ∙ ap (λ r. register (8 * k) * 2 + r % 2) (register-repeat (8 * k + 1))
+    ∙ sym (byte-register k)
 
 pub byte-repeats : (b k : ℕ) → scrambling_byte (b * 1016 + k) ≡ scrambling_byte k
 byte-repeats zero k = let e : 0 * 1016 + k ≡ k = omega arith in ap scrambling_byte e

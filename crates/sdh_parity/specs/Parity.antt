@@ -18,7 +18,9 @@ bip_lanes m bytes = cells (λ i. bip8 (lane m i bytes)) m
 
 -- the bytes of a frame that the section parity is over, row by row: all but the first 9 N columns of the first three rows
 unfoldable pub section_bytes : ℕ → List ℕ → List ℕ
-section_bytes n bytes = slice_range bytes (9 * n) (270 * n) ++ slice_range bytes (279 * n) (540 * n) ++ slice_range bytes (549 * n) (810 * n) ++ drop (810 * n) bytes
+section_bytes n bytes =
+    slice_range bytes (9 * n) (270 * n) ++ slice_range bytes (279 * n) (540 * n) ++ slice_range bytes (549 * n) (810 * n)
+    ++ drop (810 * n) bytes
 
 -- BIP-24N of those bytes
 unfoldable pub section_parity : ℕ → List ℕ → List ℕ

@@ -17,7 +17,8 @@ pub record Position : Type 0 where
 -- however a frame is cut, its pieces make what the whole makes
 pub record InPieces : Type 0 where
   pub whole : (clear : ℕ) (bytes : List ℕ) → scrambled_from clear 0 bytes ≡ scrambled clear bytes
-  pub cut : (clear i : ℕ) (xs ys : List ℕ) → scrambled_from clear i (xs ++ ys) ≡ scrambled_from clear i xs ++ scrambled_from clear (i + length xs) ys
+  pub cut : (clear i : ℕ) (xs ys : List ℕ) → scrambled_from clear i (xs ++ ys)
+      ≡ scrambled_from clear i xs ++ scrambled_from clear (i + length xs) ys
 
 -- BIP-24N of the bytes that have gone by: its 3 N bytes, and the number of the one that the next byte belongs to
 pub record Running : Type 0 where

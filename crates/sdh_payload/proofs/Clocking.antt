@@ -9,9 +9,21 @@ use Rattle.sdh_payload.specs.Clock.{Clock, IsClock, waiting, next_form, after_fo
 -- ---- a round
 
 clock_after : (offset rounds : ℕ) (f : ChunkForm) (c : Clock) → IsClock offset rounds c → IsClock offset (rounds + 1) (after_form f c)
-clock_after offset rounds Plain c h = record { rounds_are = omega (arith, h.rounds_are); rest_few = omega (arith, h.rest_few); value_small = h.value_small }
-clock_after offset rounds Short c h = record { rounds_are = omega (arith, h.rounds_are); rest_few = omega arith; value_small = λ small. omega arith }
-clock_after offset rounds Long c h = record { rounds_are = omega (arith, h.rounds_are); rest_few = omega arith; value_small = λ small. omega arith }
+clock_after offset rounds Plain c h = record {
+  rounds_are = omega (arith, h.rounds_are);
+  rest_few = omega (arith, h.rest_few);
+  value_small = h.value_small;
+}
+clock_after offset rounds Short c h = record {
+  rounds_are = omega (arith, h.rounds_are);
+  rest_few = omega arith;
+  value_small = λ small. omega arith;
+}
+clock_after offset rounds Long c h = record {
+  rounds_are = omega (arith, h.rounds_are);
+  rest_few = omega arith;
+  value_small = λ small. omega arith;
+}
 
 pub next_clock : (offset rounds : ℕ) (c : Clock) → IsClock offset rounds c → IsClock offset (rounds + 1) (ticked c)
 unfolding ticked
@@ -42,7 +54,8 @@ form_ticked c = form_after (next_form c) c
 abbrev left_in : Clock → ℕ
 left_in c = c.rest + 4 * waiting c
 
-runs_down : (c : Clock) (rest ups downs : Bool) → nat_le 1 c.rest ≡ rest → nat_le 1 c.ups ≡ ups → nat_le 1 c.downs ≡ downs → left_in (after_form (if rest then Plain else if ups then Short else if downs then Long else Plain) c) ≤ left_in c - 1
+runs_down : (c : Clock) (rest ups downs : Bool) → nat_le 1 c.rest ≡ rest → nat_le 1 c.ups ≡ ups → nat_le 1 c.downs ≡ downs
+    → left_in (after_form (if rest then Plain else if ups then Short else if downs then Long else Plain) c) ≤ left_in c - 1
 runs_down c true ups downs r u d = let some : 1 ≤ c.rest = grind (arith, nat_tests) in omega (arith, some)
 runs_down c false true downs r u d =
     let none : c.rest ≡ 0 = grind (arith, nat_tests) in
@@ -62,7 +75,13 @@ runs_down c false false false r u d =
 ticks_down : (c : Clock) (k : ℕ) → left_in (ticks k c) ≤ left_in c - k
 unfolding ticks ticked
 ticks_down c zero = omega arith
-ticks_down c (suc k) = (let now = ticks k c in omega (arith, ticks_down c k, runs_down now (nat_le 1 now.rest) (nat_le 1 now.ups) (nat_le 1 now.downs) refl refl refl))
+ticks_down c (suc k) =
+    (let now = ticks k c in omega (
+      arith,
+      ticks_down c k,
+      runs_down now (nat_le 1 now.rest) (nat_le 1 now.ups)
+          (nat_le 1 now.downs) refl refl refl,
+    ))
 
 -- 68 rounds use up 16 slips
 pub slips_run_out : (c : Clock) (k : ℕ) → c.rest ≤ 4 → waiting c ≤ 16 → 68 ≤ k → waiting (ticks k c) ≡ 0
@@ -73,7 +92,8 @@ slips_run_out c k rest few long = omega (arith, ticks_down c k)
 pub goes_plain : (c : Clock) → waiting c ≡ 0 → next_form c ≡ Plain
 goes_plain c none = go (nat_le 1 c.rest) (nat_le 1 c.ups) (nat_le 1 c.downs) refl refl refl
   where
-    go : (rest ups downs : Bool) → nat_le 1 c.rest ≡ rest → nat_le 1 c.ups ≡ ups → nat_le 1 c.downs ≡ downs → (if rest then Plain else if ups then Short else if downs then Long else Plain) ≡ Plain
+    go : (rest ups downs : Bool) → nat_le 1 c.rest ≡ rest → nat_le 1 c.ups ≡ ups → nat_le 1 c.downs ≡ downs
+        → (if rest then Plain else if ups then Short else if downs then Long else Plain) ≡ Plain
     go true ups downs r u d = refl
     go false true downs r u d = let some : 1 ≤ c.ups = grind (arith, nat_tests) in absurd (omega (arith, none, some))
     go false false true r u d = let some : 1 ≤ c.downs = grind (arith, nat_tests) in absurd (omega (arith, none, some))
@@ -85,7 +105,8 @@ pub record GoesPlain (c : Clock) (k : ℕ) : Type 0 where
   pub value : (ticks k c).value ≡ c.value
   pub sent : (ticks k c).sent ≡ c.sent + 2349 * k
 
-after_plain : (f : ChunkForm) (c : Clock) → f ≡ Plain → waiting c ≡ 0 → (waiting (after_form f c) ≡ 0) × ((after_form f c).value ≡ c.value) × ((after_form f c).sent ≡ c.sent + 2349)
+after_plain : (f : ChunkForm) (c : Clock) → f ≡ Plain → waiting c ≡ 0
+    → (waiting (after_form f c) ≡ 0) × ((after_form f c).value ≡ c.value) × ((after_form f c).sent ≡ c.sent + 2349)
 after_plain f c e none = rw e (none, refl, refl)
 
 pub plain_tick : (c : Clock) → waiting c ≡ 0 → (waiting (ticked c) ≡ 0) × ((ticked c).value ≡ c.value) × ((ticked c).sent ≡ c.sent + 2349)

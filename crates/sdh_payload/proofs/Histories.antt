@@ -1,5 +1,6 @@
 -- What a clock keeps of its history is enough.
-use Rattle.std.proofs.Common.{◌≡◌, ℕ, suc, ◌+◌, ◌-◌, ◌*◌, ◌%◌, ◌≤◌, ◌<◌, pos, ◌+ℤ◌, ◌-ℤ◌, Bool, true, false, not, ◌&&◌, cond, nat_le, if◌then◌else◌, List, [], ◌∷◌, length, count_by, refl, sym, ap, subst, ◌∙◌, arith}
+use Rattle.std.proofs.Common.{◌≡◌, ℕ, suc, ◌+◌, ◌-◌, ◌*◌, ◌%◌, ◌≤◌, ◌<◌, pos, ◌+ℤ◌, ◌-ℤ◌, Bool, true, false, not, ◌&&◌, cond, nat_le}
+use Rattle.std.proofs.Common.{if◌then◌else◌, List, [], ◌∷◌, length, count_by, refl, sym, ap, subst, ◌∙◌, arith}
 use Rattle.std.proofs.lemmas.Bool.{le-leb, lt-leb, and_right}
 use Rattle.std.proofs.lemmas.Bool.Decides.{nat_tests}
 use Rattle.std.proofs.lemmas.Int.{int_rem_euclid_is, ints}
@@ -9,7 +10,8 @@ use Rattle.sdh_payload.specs.declared.chunk.ChunkForm.TheVariants.{Plain, Short,
 use Rattle.sdh_payload.specs.declared.clock.Turn.TheVariants.{Up, Down}
 use Rattle.sdh_payload.specs.Chunk.{taken_len}
 use Rattle.sdh_payload.specs.Clock.{Clock, next_form, after_form, ticked}
-use Rattle.sdh_payload.specs.History.{Happening, told, went, is_up, is_down, may_justify, ups_left, downs_left, form_then, ups_told, downs_told, forms, last_form, first_byte}
+use Rattle.sdh_payload.specs.History.{Happening, told, went, is_up, is_down, may_justify, ups_left, downs_left, form_then, ups_told}
+use Rattle.sdh_payload.specs.History.{downs_told, forms, last_form, first_byte}
 use Rattle.sdh_payload.specs.Stream.{stream_from}
 use Rattle.sdh_payload.specs.Laws.{clock_by, ClocksGoByHistory, RoundsFollowEachOther}
 use Rattle.sdh_payload.proofs.Chunks.{ticked_sent}
@@ -53,7 +55,8 @@ rests (Plain ∷ Plain ∷ Plain ∷ []) = refl
 rests (Plain ∷ Plain ∷ Plain ∷ f ∷ before) =
     let none : rest_after (f ∷ before) - 1 - 1 - 1 < 1 = omega (arith, rest_fewer f before) in
     let some : 4 ≤ suc (suc (suc (suc (length before)))) = omega arith in
-    lt-leb 1 (rest_after (f ∷ before) - 1 - 1 - 1) none ∙ sym (ap (λ t. not (t && true)) (le-leb 4 (suc (suc (suc (suc (length before))))) some))
+    lt-leb 1 (rest_after (f ∷ before) - 1 - 1 - 1) none ∙ sym
+    (ap (λ t. not (t && true)) (le-leb 4 (suc (suc (suc (suc (length before))))) some))
 
 -- ---- how often a port justified
 
@@ -86,7 +89,8 @@ record Keeps (offset ups downs : ℕ) (before : List ChunkForm) (c : Clock) : Ty
 up_waits : (c : Clock) → Short ≡ next_form c → 1 ≤ c.ups
 up_waits c e = go (nat_le 1 c.rest) (nat_le 1 c.ups) (nat_le 1 c.downs) refl e
   where
-    go : (rest ups downs : Bool) → nat_le 1 c.ups ≡ ups → Short ≡ (if rest then Plain else if ups then Short else if downs then Long else Plain) → 1 ≤ c.ups
+    go : (rest ups downs : Bool) → nat_le 1 c.ups ≡ ups → Short
+        ≡ (if rest then Plain else if ups then Short else if downs then Long else Plain) → 1 ≤ c.ups
     go true ups downs u e = absurd (cc)
     go false true downs u e = grind (arith, nat_tests)
     go false false true u e = absurd (cc)
@@ -95,13 +99,15 @@ up_waits c e = go (nat_le 1 c.rest) (nat_le 1 c.ups) (nat_le 1 c.downs) refl e
 down_waits : (c : Clock) → Long ≡ next_form c → 1 ≤ c.downs
 down_waits c e = go (nat_le 1 c.rest) (nat_le 1 c.ups) (nat_le 1 c.downs) refl e
   where
-    go : (rest ups downs : Bool) → nat_le 1 c.downs ≡ downs → Long ≡ (if rest then Plain else if ups then Short else if downs then Long else Plain) → 1 ≤ c.downs
+    go : (rest ups downs : Bool) → nat_le 1 c.downs ≡ downs
+        → Long ≡ (if rest then Plain else if ups then Short else if downs then Long else Plain) → 1 ≤ c.downs
     go true ups downs d e = absurd (cc)
     go false true downs d e = absurd (cc)
     go false false true d e = grind (arith, nat_tests)
     go false false false d e = absurd (cc)
 
-keeps_after : (offset ups downs : ℕ) (before : List ChunkForm) (c : Clock) (f : ChunkForm) → f ≡ next_form c → Keeps offset ups downs before c → Keeps offset ups downs (f ∷ before) (after_form f c)
+keeps_after : (offset ups downs : ℕ) (before : List ChunkForm) (c : Clock) (f : ChunkForm) → f ≡ next_form c
+    → Keeps offset ups downs before c → Keeps offset ups downs (f ∷ before) (after_form f c)
 keeps_after offset ups downs before c Plain e k =
     let u = count-cons is_up Plain before in
     let d = count-cons is_down Plain before in
@@ -140,33 +146,63 @@ keeps_after offset ups downs before c Long e k =
     }
 
 same_form : (rest may : Bool) (ups ups' downs downs' : ℕ) → rest ≡ may → ups ≡ ups' → downs ≡ downs'
-    → (if rest then Plain else if nat_le 1 ups then Short else if nat_le 1 downs then Long else Plain) ≡ (if may then Plain else if nat_le 1 ups' then Short else if nat_le 1 downs' then Long else Plain)
+    → (if rest then Plain else if nat_le 1 ups then Short else if nat_le 1 downs then Long else Plain)
+    ≡ (if may then Plain else if nat_le 1 ups' then Short else if nat_le 1 downs' then Long else Plain)
 same_form rest may ups ups' downs downs' r u d = cc
 
 -- so it sends what the rule says
-form_is : (offset ups downs : ℕ) (before : List ChunkForm) (c : Clock) → Keeps offset ups downs before c → next_form c ≡ form_then before ups downs
+form_is : (offset ups downs : ℕ) (before : List ChunkForm) (c : Clock) → Keeps offset ups downs before c
+    → next_form c ≡ form_then before ups downs
 form_is offset ups downs before c k =
-    same_form (nat_le 1 c.rest) (not (may_justify before)) c.ups (ups_left ups before) c.downs (downs_left downs before) (ap (nat_le 1) k.rests ∙ rests before) (omega (arith, k.ups_left)) (omega (arith, k.downs_left))
+    same_form (nat_le 1 c.rest) (not (may_justify before)) c.ups (ups_left ups before) c.downs (downs_left downs before)
+    (ap (nat_le 1) k.rests ∙ rests before) (omega (arith, k.ups_left)) (omega (arith, k.downs_left))
 
 -- ---- the laws
 
-kept : (offset : ℕ) (history : List Happening) → Keeps offset (ups_told history) (downs_told history) (forms history) (clock_by offset history)
+kept : (offset : ℕ) (history : List Happening) → Keeps offset (ups_told history) (downs_told history) (forms history)
+    (clock_by offset history)
 unfolding ticked
-kept offset [] = record { rounds_are = refl; ups_left = refl; downs_left = refl; rests = refl; sent_is = refl; value_is = λ small. omega arith; last = refl }
+kept offset [] = record {
+  rounds_are = refl;
+  ups_left = refl;
+  downs_left = refl;
+  rests = refl;
+  sent_is = refl;
+  value_is = λ small. omega arith;
+  last = refl;
+}
 kept offset (told Up count ∷ history) =
     let k = kept offset history in
-    record { rounds_are = k.rounds_are; ups_left = omega (arith, k.ups_left); downs_left = k.downs_left; rests = k.rests; sent_is = k.sent_is; value_is = k.value_is; last = k.last }
+    record {
+      rounds_are = k.rounds_are;
+      ups_left = omega (arith, k.ups_left);
+      downs_left = k.downs_left;
+      rests = k.rests;
+      sent_is = k.sent_is;
+      value_is = k.value_is;
+      last = k.last;
+    }
 kept offset (told Down count ∷ history) =
     let k = kept offset history in
-    record { rounds_are = k.rounds_are; ups_left = k.ups_left; downs_left = omega (arith, k.downs_left); rests = k.rests; sent_is = k.sent_is; value_is = k.value_is; last = k.last }
+    record {
+      rounds_are = k.rounds_are;
+      ups_left = k.ups_left;
+      downs_left = omega (arith, k.downs_left);
+      rests = k.rests;
+      sent_is = k.sent_is;
+      value_is = k.value_is;
+      last = k.last;
+    }
 kept offset (went ∷ history) =
     let c = clock_by offset history in
     let k = kept offset history in
     let next = keeps_after offset (ups_told history) (downs_told history) (forms history) c (next_form c) refl k in
-    subst (λ f. Keeps offset (ups_told history) (downs_told history) (f ∷ forms history) (after_form (next_form c) c)) (form_is offset (ups_told history) (downs_told history) (forms history) c k) next
+    subst (λ f. Keeps offset (ups_told history) (downs_told history) (f ∷ forms history) (after_form (next_form c) c))
+    (form_is offset (ups_told history) (downs_told history) (forms history) c k) next
 
 -- the byte with which the next round begins
-begins_at : (sent ups downs rounds : ℕ) → sent + 3 * ups ≡ 2349 * rounds + 3 * downs → ups + downs ≤ rounds → sent ≡ 2349 * rounds - 3 * ups + 3 * downs
+begins_at : (sent ups downs rounds : ℕ) → sent + 3 * ups ≡ 2349 * rounds + 3 * downs → ups + downs ≤ rounds
+    → sent ≡ 2349 * rounds - 3 * ups + 3 * downs
 begins_at sent ups downs rounds e few = omega (arith, e, few)
 
 -- steps down are steps up, modulo 783
@@ -187,14 +223,17 @@ clocks_go_by_history offset history small =
       last = k.last;
       next = form_is offset (ups_told history) (downs_told history) before c k;
       begins = begins_at c.sent ups downs (length before) k.sent_is (counts_few before);
-      value_is = ap pos (k.value_is small) ∙ sym (int_rem_euclid_is (pos offset +ℤ pos ups -ℤ pos downs) (pos 783) 783 downs (offset + ups + 782 * downs) (omega arith) refl (steps_up offset ups downs));
+      value_is =
+          ap pos (k.value_is small) ∙ sym (int_rem_euclid_is (pos offset +ℤ pos ups -ℤ pos downs) (pos 783) 783 downs
+          (offset + ups + 782 * downs) (omega arith) refl (steps_up offset ups downs));
     }
 
 -- where the next round begins, at any offset
 next_begins : (offset : ℕ) (history : List Happening) → (clock_by offset history).sent ≡ first_byte history
 next_begins offset history =
     let before = forms history in
-    begins_at (clock_by offset history).sent (count_by is_up before) (count_by is_down before) (length before) (kept offset history).sent_is (counts_few before)
+    begins_at (clock_by offset history).sent (count_by is_up before) (count_by is_down before) (length before) (kept offset history).sent_is
+    (counts_few before)
 
 pub rounds_follow_each_other : RoundsFollowEachOther
 rounds_follow_each_other port history =

@@ -20,14 +20,18 @@ written_whole room bytes e =
     ∙ sym (ap (take (length bytes)) (append-nil bytes)) ∙ take-append_seam bytes []
 
 -- the bytes behind, then those in front, then others; and the whole turned back
-pub turned : (front back behind : ℕ) (xs mid ys : List ℕ) → front ≤ back → behind ≡ length (drop back xs) → ys ≡ take (behind + front) (drop back xs ++ take back xs) ++ mid
+pub turned : (front back behind : ℕ) (xs mid ys : List ℕ) → front ≤ back → behind ≡ length (drop back xs)
+    → ys ≡ take (behind + front) (drop back xs ++ take back xs) ++ mid
     → drop behind ys ++ take behind ys ≡ around front mid back xs
 unfolding around
 turned front back behind xs mid ys h len is =
     let b = drop back xs in
     let cut : take (behind + front) (b ++ take back xs) ≡ b ++ take front xs =
-    ap (λ n. take (n + front) (b ++ take back xs)) len ∙ take-append-add b (take back xs) front ∙ ap (λ r. b ++ r) (take-take front back xs h) in
+    ap (λ n. take (n + front) (b ++ take back xs)) len ∙ take-append-add b (take back xs) front
+    ∙ ap (λ r. b ++ r) (take-take front back xs h) in
     let all : ys ≡ b ++ (take front xs ++ mid) = is ∙ ap (λ r. r ++ mid) cut ∙ append_assoc b (take front xs) mid in
-    let tail : drop behind ys ≡ take front xs ++ mid = ap (drop behind) all ∙ ap (λ n. drop n (b ++ (take front xs ++ mid))) len ∙ drop-append_seam b (take front xs ++ mid) in
-    let head : take behind ys ≡ b = ap (take behind) all ∙ ap (λ n. take n (b ++ (take front xs ++ mid))) len ∙ take-append_seam b (take front xs ++ mid) in
+    let tail : drop behind ys ≡ take front xs ++ mid =
+    ap (drop behind) all ∙ ap (λ n. drop n (b ++ (take front xs ++ mid))) len ∙ drop-append_seam b (take front xs ++ mid) in
+    let head : take behind ys ≡ b =
+    ap (take behind) all ∙ ap (λ n. take n (b ++ (take front xs ++ mid))) len ∙ take-append_seam b (take front xs ++ mid) in
     ap (λ r. r ++ take behind ys) tail ∙ ap (λ r. (take front xs ++ mid) ++ r) head

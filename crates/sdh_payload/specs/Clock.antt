@@ -56,8 +56,10 @@ next_form c =
 -- after a round in which it sent this; 782 steps forward are one step back
 abbrev pub after_form : ChunkForm → Clock → Clock
 after_form Plain c = record c { rounds = c.rounds + 1; rest = c.rest - 1; sent = c.sent + 2349; form = Plain }
-after_form Short c = record c { rounds = c.rounds + 1; ups = c.ups - 1; rest = 3; sent = c.sent + 2346; value = (c.value + 1) % 783; form = Short }
-after_form Long c = record c { rounds = c.rounds + 1; downs = c.downs - 1; rest = 3; sent = c.sent + 2352; value = (c.value + 782) % 783; form = Long }
+after_form Short c =
+    record c { rounds = c.rounds + 1; ups = c.ups - 1; rest = 3; sent = c.sent + 2346; value = (c.value + 1) % 783; form = Short }
+after_form Long c =
+    record c { rounds = c.rounds + 1; downs = c.downs - 1; rest = 3; sent = c.sent + 2352; value = (c.value + 782) % 783; form = Long }
 
 -- after the next round
 unfoldable pub ticked : Clock → Clock

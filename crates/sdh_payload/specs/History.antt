@@ -2,7 +2,8 @@
 -- a history just what it needs; that every clock goes by its history is the law `clocks_go_by_history`. That a clock slips when it is
 -- told to, and in which round its port makes that good by a justification of the AU-4 pointer (ITU-T G.707 clause 8.1), is this
 -- project's own.
-use Rattle.std.specs.Prelude.{ℕ, ◌+◌, ◌-◌, ◌*◌, ℤ, pos, ◌+ℤ◌, ◌-ℤ◌, Bool, true, false, not, ◌&&◌, nat_le, if◌then◌else◌, List, [], ◌∷◌, length, take, count_by}
+use Rattle.std.specs.Prelude.{ℕ, ◌+◌, ◌-◌, ◌*◌, ℤ, pos, ◌+ℤ◌, ◌-ℤ◌, Bool, true, false, not, ◌&&◌, nat_le, if◌then◌else◌, List, [], ◌∷◌}
+use Rattle.std.specs.Prelude.{length, take, count_by}
 use Rattle.std.specs.List.{list_all}
 use Rattle.std.specs.Int.{int_rem_euclid}
 use Rattle.sdh_payload.specs.declared.chunk.ChunkForm.{ChunkForm}

@@ -1,6 +1,7 @@
 -- The customer's stream: VC-4s one after the other (path overhead and container: ITU-T G.707 clause 9.3). That they are
 -- numbered from 0, and that a text fills them, is this project's own.
-use Rattle.std.specs.Prelude.{ℕ, zero, suc, ◌+◌, ◌-◌, ◌*◌, ◌/◌, ◌%◌, List, [], ◌∷◌, ◌++◌, length, replicate, ◌==◌, if◌then◌else◌, slice_index}
+use Rattle.std.specs.Prelude.{ℕ, zero, suc, ◌+◌, ◌-◌, ◌*◌, ◌/◌, ◌%◌, List, [], ◌∷◌, ◌++◌, length, replicate, ◌==◌, if◌then◌else◌}
+use Rattle.std.specs.Prelude.{slice_index}
 use Rattle.sdh_basics.specs.Parity.{bip8}
 use Rattle.sdh_basics.specs.Cells.{cells}
 use Rattle.sdh_payload.specs.Customer.{Customer}
@@ -22,7 +23,8 @@ text_place v row column = 2340 * v + 260 * row + column - 1
 -- the byte of a row and a column of VC-4 number v, where b3 is its B3
 abbrev pub byte_at : Customer → ℕ → ℕ → ℕ → ℕ → ℕ
 byte_at port b3 v row column =
-    if column == 0 then slice_index (path_overhead port.trace b3 v) row else slice_index port.text (text_place v row column % length port.text)
+    if column == 0 then slice_index (path_overhead port.trace b3 v) row
+    else slice_index port.text (text_place v row column % length port.text)
 
 -- byte i of VC-4 number v: nine rows of 261 columns, row by row
 unfoldable pub vc4_byte : Customer → ℕ → ℕ → ℕ → ℕ

@@ -1,5 +1,7 @@
 -- A text cut at its first space.
-use Rattle.std.proofs.Common.{◌≡◌, ℕ, zero, suc, ◌+◌, ◌-◌, ◌<◌, ◌≤◌, List, [], ◌∷◌, ◌++◌, map, length, take, drop, Bool, true, false, ◌==◌, ◌||◌, not, nat_lt, cond, Option, Some, None, position, ap, sym, subst, ◌∙◌, arith, refl, append_assoc, length-append}
+use Rattle.std.proofs.Common.{◌≡◌, ℕ, zero, suc, ◌+◌, ◌-◌, ◌<◌, ◌≤◌, List, [], ◌∷◌, ◌++◌, map, length, take, drop, Bool, true, false, ◌==◌}
+use Rattle.std.proofs.Common.{◌||◌, not, nat_lt, cond, Option, Some, None, position, ap, sym, subst, ◌∙◌, arith, refl, append_assoc}
+use Rattle.std.proofs.Common.{length-append}
 use Rattle.std.specs.Option.{option_map_or}
 use Rattle.std.specs.List.{position_or_len, slice_split, onto_first, list_any}
 use Rattle.std.proofs.lemmas.List.{take_rest, map-append}
@@ -28,7 +30,8 @@ missing : (b : Bool) (n : ℕ) → cond b (Some n) None ≡ None → b ≡ false
 missing true n e = cc
 missing false n e = refl
 
-pub cut_at : (text : List ℕ) (i : ℕ) → position (λ byte. byte == 32) text ≡ Some i → words text ≡ take i text ∷ words (take (length text - (i + 1)) (drop (i + 1) text))
+pub cut_at : (text : List ℕ) (i : ℕ) → position (λ byte. byte == 32) text ≡ Some i
+    → words text ≡ take i text ∷ words (take (length text - (i + 1)) (drop (i + 1) text))
 cut_at text i e =
     let parts : (nat_lt (position_or_len is_space text) (length text) ≡ true) × (position_or_len is_space text ≡ i) = found _ _ _ e in
     let within : position_or_len is_space text < length text = ltb-true _ _ parts.0 in
@@ -50,11 +53,13 @@ module _ {X : Type 0} (f : X → List ℕ) where
     pub firsts : take k all ≡ map f xs ++ take (k - length xs) (left rest)
     pub empties : list_any is_empty all ≡ list_any is_empty (left rest)
 
-  one_less : (all : List (List ℕ)) (w : X) (now rest : Option X) → left now ≡ f w ∷ left rest → is_empty (f w) ≡ false → list_any is_empty all ≡ list_any is_empty (left now) → list_any is_empty all ≡ list_any is_empty (left rest)
+  one_less : (all : List (List ℕ)) (w : X) (now rest : Option X) → left now ≡ f w ∷ left rest → is_empty (f w) ≡ false
+      → list_any is_empty all ≡ list_any is_empty (left now) → list_any is_empty all ≡ list_any is_empty (left rest)
   one_less all w now rest is full e = e ∙ ap (λ l. list_any is_empty l) is ∙ ap (λ b. b || list_any is_empty (left rest)) full
 
   -- the next word is kept
-  said_more : (k : ℕ) (all : List (List ℕ)) (xs : List X) (w : X) (now rest : Option X) → length xs < k → left now ≡ f w ∷ left rest → is_empty (f w) ≡ false
+  said_more : (k : ℕ) (all : List (List ℕ)) (xs : List X) (w : X) (now rest : Option X) → length xs < k → left now ≡ f w ∷ left rest
+      → is_empty (f w) ≡ false
       → Said k all xs now → Said k all (xs ++ w ∷ []) rest
   said_more k all xs w now rest room is full before =
       let less : k - length xs ≡ suc (k - length (xs ++ w ∷ [])) = omega (arith, length-append xs (w ∷ [])) in
@@ -67,12 +72,15 @@ module _ {X : Type 0} (f : X → List ℕ) where
         empties = one_less all w now rest is full before.empties;
       }
 
-  pub said_push : (k : ℕ) (all : List (List ℕ)) (xs ys : List X) (w : X) (now rest : Option X) → Said k all xs now → ys ≡ xs ++ w ∷ [] → length xs < k → left now ≡ f w ∷ left rest → is_empty (f w) ≡ false
+  pub said_push : (k : ℕ) (all : List (List ℕ)) (xs ys : List X) (w : X) (now rest : Option X) → Said k all xs now → ys ≡ xs ++ w ∷ []
+      → length xs < k → left now ≡ f w ∷ left rest → is_empty (f w) ≡ false
       → Said k all ys rest
-  said_push k all xs ys w now rest before e room is full = subst (λ (zs : List X). Said k all zs rest) (sym e) (said_more k all xs w now rest room is full before)
+  said_push k all xs ys w now rest before e room is full =
+      subst (λ (zs : List X). Said k all zs rest) (sym e) (said_more k all xs w now rest room is full before)
 
   -- enough words are kept
-  pub said_full : (k : ℕ) (all : List (List ℕ)) (xs : List X) (w : X) (now rest : Option X) → Said k all xs now → k ≤ length xs → left now ≡ f w ∷ left rest → is_empty (f w) ≡ false
+  pub said_full : (k : ℕ) (all : List (List ℕ)) (xs : List X) (w : X) (now rest : Option X) → Said k all xs now → k ≤ length xs
+      → left now ≡ f w ∷ left rest → is_empty (f w) ≡ false
       → Said k all xs rest
   said_full k all xs w now rest before room is full =
       let none : k - length xs ≡ 0 = omega arith in

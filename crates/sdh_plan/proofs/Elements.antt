@@ -28,11 +28,13 @@ all_texts_view vs = list_all-map is_text view vs
 pub all_tables_view : (vs : List Value) → list_all is_table (map view vs) ≡ list_all (λ v. is_table (view v)) vs
 all_tables_view vs = list_all-map is_table view vs
 
-keys_view : (p : List ℕ → Bool) (es : List Entry) → list_all p (keys_of (members_view es)) ≡ list_all (λ k. p (string_bytes k)) (names_of es)
+keys_view : (p : List ℕ → Bool) (es : List Entry) → list_all p (keys_of (members_view es))
+    ≡ list_all (λ k. p (string_bytes k)) (names_of es)
 keys_view p [] = refl
 keys_view p (e ∷ es) = ap (λ b. p (string_bytes e.0) && b) (keys_view p es)
 
-pub all_keys_view : (p : List ℕ → Bool) (m : BTreeMap (String Global) Value) → list_all p (keys_of (members_view m.entries)) ≡ list_all (λ k. p (string_bytes k)) (keys m)
+pub all_keys_view : (p : List ℕ → Bool) (m : BTreeMap (String Global) Value)
+    → list_all p (keys_of (members_view m.entries)) ≡ list_all (λ k. p (string_bytes k)) (keys m)
 all_keys_view p m = keys_view p m.entries
 
 pub integers_view : (vs : List Value) → map (λ v. integer_of (view v)) vs ≡ map integer_of (map view vs)

@@ -12,7 +12,8 @@ use Rattle.std.proofs.lemmas.List.Sums.{sum_by-cons}
 
 module _ (rate : Rate) (size circuits : ℕ) where
   -- at most 64 steps run rounds
-  pub settles_few : (past : Past) (steps : List Step) → past.settles ≤ 64 → AreSteps rate size circuits past steps → (after_all past steps).settles ≤ 64
+  pub settles_few : (past : Past) (steps : List Step) → past.settles ≤ 64 → AreSteps rate size circuits past steps
+      → (after_all past steps).settles ≤ 64
   settles_few past [] few h = few
   settles_few past (s ∷ later) few h = settles_few (after past s) later h.0.few_settles h.1
 
@@ -28,15 +29,22 @@ one_step past step.Settle = refl
 pub settles_counted : (past : Past) (steps : List Step) → (after_all past steps).settles ≡ past.settles + count_by is_settle steps
 settles_counted past [] = omega arith
 settles_counted past (s ∷ later) =
-    let more : (after_all (after past s) later).settles ≡ (after past s).settles + count_by is_settle later = settles_counted (after past s) later in
-    let first : count_by is_settle (s ∷ later) ≡ cond (is_settle s) 1 0 + count_by is_settle later = sum_by-cons (λ t. cond (is_settle t) 1 0) s later in
+    let more : (after_all (after past s) later).settles ≡ (after past s).settles + count_by is_settle later =
+    settles_counted (after past s) later in
+    let first : count_by is_settle (s ∷ later) ≡ cond (is_settle s) 1 0 + count_by is_settle later =
+    sum_by-cons (λ t. cond (is_settle t) 1 0) s later in
     let here : (after past s).settles ≡ past.settles + cond (is_settle s) 1 0 = one_step past s in
     omega (arith, more, here, first)
 
 -- at most 64 steps of a plan run rounds
 pub few_settles : (plan : Planned) → IsPlanned plan → count_by is_settle plan.steps ≤ 64
 few_settles plan fits =
-    omega (arith, settles_counted start plan.steps, settles_few plan.settings.rate (length plan.nodes) (length plan.circuits) start plan.steps (omega arith) fits.steps_fit)
+    omega (
+      arith,
+      settles_counted start plan.steps,
+      settles_few plan.settings.rate (length plan.nodes)
+          (length plan.circuits) start plan.steps (omega arith) fits.steps_fit,
+    )
 
 -- a plan without circuits keeps no ring, and any other its own
 pub circuits_keep_the_ring : (plan : Planned) → (plan.circuits ≡ []) ⊎ ((provisioning_of plan).ring ≡ Some plan.nodes)

@@ -1,5 +1,6 @@
 -- Six words are enough to tell a step.
-use Rattle.std.proofs.Common.{◌≡◌, ℕ, zero, suc, ◌-◌, ◌<◌, ◌≤◌, List, [], ◌∷◌, length, map, take, drop, get_or, Bool, true, false, ◌==◌, ◌||◌, cond, Option, Some, None, is_none, Result, Err, ap, sym, ◌∙◌, arith, refl}
+use Rattle.std.proofs.Common.{◌≡◌, ℕ, zero, suc, ◌-◌, ◌<◌, ◌≤◌, List, [], ◌∷◌, length, map, take, drop, get_or, Bool, true, false, ◌==◌}
+use Rattle.std.proofs.Common.{◌||◌, cond, Option, Some, None, is_none, Result, Err, ap, sym, ◌∙◌, arith, refl}
 use Rattle.std.specs.List.{list_any}
 use Rattle.std.proofs.lemmas.Bool.Decides.{nat_tests}
 use Rattle.std.proofs.lemmas.List.{take_rest}
@@ -34,7 +35,8 @@ few_parts n circuits verb.Settle = omega arith
 few_parts n circuits verb.Hold = omega arith
 few_parts n circuits verb.Slip = omega arith
 
-pub mismatch : (nodes : List ℕ) (parts : List Part) (others : List (List ℕ)) → length parts < length others → first_fault (part_faults nodes parts others) ≡ Some reason.StepForm
+pub mismatch : (nodes : List ℕ) (parts : List Part) (others : List (List ℕ)) → length parts < length others
+    → first_fault (part_faults nodes parts others) ≡ Some reason.StepForm
 unfolding part_faults
 mismatch nodes parts others h = let apart : (length others == length parts) ≡ false = grind (arith, nat_tests) in rw apart refl
 
@@ -43,7 +45,8 @@ abbrev too_many : Option Verb → Reason
 too_many None = reason.StepWord
 too_many (Some v) = reason.StepForm
 
-long : (n : ℕ) (nodes : List ℕ) (circuits : List Provisioned) (o : Option Verb) (others : List (List ℕ)) → 5 ≤ length others → first_fault (verb_faults n nodes circuits o others) ≡ Some (too_many o)
+long : (n : ℕ) (nodes : List ℕ) (circuits : List Provisioned) (o : Option Verb) (others : List (List ℕ)) → 5 ≤ length others
+    → first_fault (verb_faults n nodes circuits o others) ≡ Some (too_many o)
 long n nodes circuits None others h = refl
 long n nodes circuits (Some v) others h = mismatch nodes (parts_of n circuits v) others (omega (arith, few_parts n circuits v))
 
@@ -51,13 +54,17 @@ long n nodes circuits (Some v) others h = mismatch nodes (parts_of n circuits v)
 abbrev pub told : ℕ → List ℕ → List Provisioned → List (List ℕ) → Result Step Reason
 told n nodes circuits ws = unless (first_fault (form_faults n nodes circuits ws)) (form_step n nodes circuits ws)
 
-told_long : (n : ℕ) (nodes : List ℕ) (circuits : List Provisioned) (first : List ℕ) (others : List (List ℕ)) → list_any is_empty (first ∷ others) ≡ false → 5 ≤ length others → told n nodes circuits (first ∷ others) ≡ Err (too_many (verb_of first))
+told_long : (n : ℕ) (nodes : List ℕ) (circuits : List Provisioned) (first : List ℕ) (others : List (List ℕ))
+    → list_any is_empty (first ∷ others) ≡ false → 5 ≤ length others
+    → told n nodes circuits (first ∷ others) ≡ Err (too_many (verb_of first))
 unfolding form_faults
 told_long n nodes circuits first others whole h =
-    ap (λ b. unless (cond b (Some reason.StepForm) (first_fault (verb_faults n nodes circuits (verb_of first) others))) (form_step n nodes circuits (first ∷ others))) whole
+    ap (λ b. unless (cond b (Some reason.StepForm) (first_fault (verb_faults n nodes circuits (verb_of first) others)))
+    (form_step n nodes circuits (first ∷ others))) whole
     ∙ ap (λ r. unless r (form_step n nodes circuits (first ∷ others))) (long n nodes circuits (verb_of first) others h)
 
-told_six : (n : ℕ) (nodes : List ℕ) (circuits : List Provisioned) (ws : List (List ℕ)) → list_any is_empty ws ≡ false → told n nodes circuits ws ≡ told n nodes circuits (take 6 ws)
+told_six : (n : ℕ) (nodes : List ℕ) (circuits : List Provisioned) (ws : List (List ℕ)) → list_any is_empty ws ≡ false
+    → told n nodes circuits ws ≡ told n nodes circuits (take 6 ws)
 told_six n nodes circuits [] h = refl
 told_six n nodes circuits (a ∷ []) h = refl
 told_six n nodes circuits (a ∷ (b ∷ [])) h = refl
@@ -66,40 +73,53 @@ told_six n nodes circuits (a ∷ (b ∷ (c ∷ (d ∷ [])))) h = refl
 told_six n nodes circuits (a ∷ (b ∷ (c ∷ (d ∷ (e ∷ []))))) h = refl
 told_six n nodes circuits (a ∷ (b ∷ (c ∷ (d ∷ (e ∷ (f ∷ ws)))))) h =
     told_long n nodes circuits a (b ∷ (c ∷ (d ∷ (e ∷ (f ∷ ws))))) h (omega arith)
-    ∙ sym (told_long n nodes circuits a (b ∷ (c ∷ (d ∷ (e ∷ (f ∷ []))))) (any_take 6 (a ∷ (b ∷ (c ∷ (d ∷ (e ∷ (f ∷ ws)))))) h) (omega arith))
+    ∙ sym (told_long n nodes circuits a (b ∷ (c ∷ (d ∷ (e ∷ (f ∷ []))))) (any_take 6 (a ∷ (b ∷ (c ∷ (d ∷ (e ∷ (f ∷ ws)))))) h)
+    (omega arith))
 
 -- where no word is empty, the first six tell the step
 pub kept_whole : (ws ks : List (List ℕ)) → ks ≡ take 6 ws → list_any is_empty ws ≡ false → list_any is_empty ks ≡ false
 kept_whole ws ks e h = ap (λ l. list_any is_empty l) e ∙ any_take 6 ws h
 
-pub told_kept : (n : ℕ) (nodes : List ℕ) (circuits : List Provisioned) (ws ks : List (List ℕ)) → ks ≡ take 6 ws → list_any is_empty ws ≡ false → told n nodes circuits ks ≡ told n nodes circuits ws
+pub told_kept : (n : ℕ) (nodes : List ℕ) (circuits : List Provisioned) (ws ks : List (List ℕ)) → ks ≡ take 6 ws
+    → list_any is_empty ws ≡ false → told n nodes circuits ks ≡ told n nodes circuits ws
 told_kept n nodes circuits ws ks e h = ap (told n nodes circuits) e ∙ sym (told_six n nodes circuits ws h)
 
-pub told_empty : (n : ℕ) (nodes : List ℕ) (circuits : List Provisioned) (ws : List (List ℕ)) → list_any is_empty ws ≡ true → told n nodes circuits ws ≡ Err reason.StepForm
+pub told_empty : (n : ℕ) (nodes : List ℕ) (circuits : List Provisioned) (ws : List (List ℕ)) → list_any is_empty ws ≡ true
+    → told n nodes circuits ws ≡ Err reason.StepForm
 unfolding form_faults
 told_empty n nodes circuits [] h = cc
-told_empty n nodes circuits (first ∷ others) h = ap (λ b. unless (cond b (Some reason.StepForm) (first_fault (verb_faults n nodes circuits (verb_of first) others))) (form_step n nodes circuits (first ∷ others))) h
+told_empty n nodes circuits (first ∷ others) h =
+    ap (λ b. unless (cond b (Some reason.StepForm) (first_fault (verb_faults n nodes circuits (verb_of first) others)))
+    (form_step n nodes circuits (first ∷ others))) h
 
-told_first : (n : ℕ) (nodes : List ℕ) (circuits : List Provisioned) (first : List ℕ) (others : List (List ℕ)) → list_any is_empty (first ∷ others) ≡ false
-    → told n nodes circuits (first ∷ others) ≡ unless (first_fault (verb_faults n nodes circuits (verb_of first) others)) (told_step n nodes circuits (verb_of first) others)
+told_first : (n : ℕ) (nodes : List ℕ) (circuits : List Provisioned) (first : List ℕ) (others : List (List ℕ))
+    → list_any is_empty (first ∷ others) ≡ false
+    → told n nodes circuits (first ∷ others) ≡ unless (first_fault (verb_faults n nodes circuits (verb_of first) others))
+    (told_step n nodes circuits (verb_of first) others)
 unfolding form_faults form_step
 told_first n nodes circuits first others h =
-    ap (λ b. unless (cond b (Some reason.StepForm) (first_fault (verb_faults n nodes circuits (verb_of first) others))) (told_step n nodes circuits (verb_of first) others)) h
+    ap (λ b. unless (cond b (Some reason.StepForm) (first_fault (verb_faults n nodes circuits (verb_of first) others)))
+    (told_step n nodes circuits (verb_of first) others)) h
 
 -- where no word is empty, the first word and those behind it tell the step
-pub told_whole : {X : Type 0} (f : X → List ℕ) (n : ℕ) (nodes : List ℕ) (circuits : List Provisioned) (xs : List X) (d : X) (r : Result Step Reason) → 1 ≤ length xs
-    → r ≡ unless (first_fault (verb_faults n nodes circuits (verb_of (f (get_or xs 0 d))) (map f (take (length xs - 1) (drop 1 xs))))) (told_step n nodes circuits (verb_of (f (get_or xs 0 d))) (map f (take (length xs - 1) (drop 1 xs))))
+pub told_whole : {X : Type 0} (f : X → List ℕ) (n : ℕ) (nodes : List ℕ) (circuits : List Provisioned) (xs : List X) (d : X)
+    (r : Result Step Reason) → 1 ≤ length xs
+    → r ≡ unless (first_fault (verb_faults n nodes circuits (verb_of (f (get_or xs 0 d))) (map f (take (length xs - 1) (drop 1 xs)))))
+    (told_step n nodes circuits (verb_of (f (get_or xs 0 d))) (map f (take (length xs - 1) (drop 1 xs))))
     → list_any is_empty (map f xs) ≡ false → r ≡ told n nodes circuits (map f xs)
 told_whole f n nodes circuits [] d r some e whole = absurd (omega arith)
 told_whole f n nodes circuits (x ∷ xs) d r some e whole =
-    e ∙ ap (λ l. unless (first_fault (verb_faults n nodes circuits (verb_of (f x)) (map f l))) (told_step n nodes circuits (verb_of (f x)) (map f l))) (take_rest (x ∷ xs) 1)
+    e ∙ ap (λ l. unless (first_fault (verb_faults n nodes circuits (verb_of (f x)) (map f l)))
+    (told_step n nodes circuits (verb_of (f x)) (map f l))) (take_rest (x ∷ xs) 1)
     ∙ sym (told_first n nodes circuits (f x) (map f xs) whole)
 
 -- the first check of a node and a side that fails, where they are the first two words
 module _ {X : Type 0} (f : X → List ℕ) (nodes : List ℕ) (d : X) (why : Reason) where
   -- a check of the two words fails, and no check before it
   abbrev pub Fails : List X → Type 0
-  Fails xs = first_fault ((reason.StepNode, is_none (node_at nodes (f (get_or xs 0 d)))) ∷ ((reason.StepSide, is_none (side_at (f (get_or xs 1 d)))) ∷ [])) ≡ Some why
+  Fails xs =
+      first_fault ((reason.StepNode, is_none (node_at nodes (f (get_or xs 0 d))))
+      ∷ ((reason.StepSide, is_none (side_at (f (get_or xs 1 d)))) ∷ [])) ≡ Some why
 
   two : (x y : Bool) → cond x (Some reason.StepNode) (cond y (Some reason.StepSide) None) ≡ Some why
       → cond (x || (false || false)) (Some reason.StepNode) (cond (y || false) (Some reason.StepSide) None) ≡ Some why
@@ -107,7 +127,8 @@ module _ {X : Type 0} (f : X → List ℕ) (nodes : List ℕ) (d : X) (why : Rea
   two false true e = e
   two false false e = cc
 
-  pub two_fail : (xs : List X) (s : Step) → 2 ≤ length xs → length xs < 3 → Fails xs → Err why ≡ unless (first_fault (part_faults nodes (node ∷ side ∷ []) (map f xs))) s
+  pub two_fail : (xs : List X) (s : Step) → 2 ≤ length xs → length xs < 3 → Fails xs
+      → Err why ≡ unless (first_fault (part_faults nodes (node ∷ side ∷ []) (map f xs))) s
   unfolding part_faults
   two_fail [] s h k e = absurd (omega arith)
   two_fail (a ∷ []) s h k e = absurd (omega arith)
@@ -115,12 +136,14 @@ module _ {X : Type 0} (f : X → List ℕ) (nodes : List ℕ) (d : X) (why : Rea
   two_fail (a ∷ (b ∷ (c ∷ xs))) s h k e = absurd (omega arith)
 
   three : (x y z : Bool) → cond x (Some reason.StepNode) (cond y (Some reason.StepSide) None) ≡ Some why
-      → cond (x || (false || (false || false))) (Some reason.StepNode) (cond (y || (false || false)) (Some reason.StepSide) (cond (z || false) (Some reason.StepNumber) None)) ≡ Some why
+      → cond (x || (false || (false || false))) (Some reason.StepNode)
+      (cond (y || (false || false)) (Some reason.StepSide) (cond (z || false) (Some reason.StepNumber) None)) ≡ Some why
   three true y z e = e
   three false true z e = e
   three false false z e = cc
 
-  pub three_fail : (low high : ℕ) (xs : List X) (s : Step) → 3 ≤ length xs → length xs < 4 → Fails xs → Err why ≡ unless (first_fault (part_faults nodes (node ∷ side ∷ number low high ∷ []) (map f xs))) s
+  pub three_fail : (low high : ℕ) (xs : List X) (s : Step) → 3 ≤ length xs → length xs < 4 → Fails xs
+      → Err why ≡ unless (first_fault (part_faults nodes (node ∷ side ∷ number low high ∷ []) (map f xs))) s
   unfolding part_faults
   three_fail low high [] s h k e = absurd (omega arith)
   three_fail low high (a ∷ []) s h k e = absurd (omega arith)

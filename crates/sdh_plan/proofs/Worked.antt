@@ -20,7 +20,8 @@ first_of_0 = refl
 
 -- one circuit is on each span in each of both slots
 abbrev covers : ℕ → Bool
-covers number = list_all (λ slot. list_all (λ span. length (filter (is_on 16 span slot) (big_circuits number)) == 1) (range_with_len 0 16)) (1 ∷ 2 ∷ [])
+covers number =
+    list_all (λ slot. list_all (λ span. length (filter (is_on 16 span slot) (big_circuits number)) == 1) (range_with_len 0 16)) (1 ∷ 2 ∷ [])
 
 covered : list_all covers (0 ∷ 1 ∷ 4294967295 ∷ []) ≡ true
 unfolding next holds_span slot_circuits behind_slot

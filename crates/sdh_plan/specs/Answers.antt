@@ -17,4 +17,5 @@ IsPlanOf bytes plan = (ms : Members) × IsDocument bytes ms × (answer (checks m
 abbrev pub IsWhy : List ℕ → PlanError → Type 0
 IsWhy bytes error.Memory = Unit {0}
 IsWhy bytes error.NotToml = IsNoDocument bytes
-IsWhy bytes (error.BadPlan reason place) = (ms : Members) × IsDocument bytes ms × (answer (checks ms) ≡ Some (record { reason = reason; place = place }))
+IsWhy bytes (error.BadPlan reason place) =
+    (ms : Members) × IsDocument bytes ms × (answer (checks ms) ≡ Some (record { reason = reason; place = place }))

@@ -2,7 +2,8 @@
 use Rattle.std.specs.Prelude.{ℕ, ◌+◌, ℤ, pos, List, [], ◌∷◌, ◌++◌, not, Option, Some, None, is_none, unwrap_or, codes}
 use Rattle.std.specs.Option.{option_map_or}
 use Rattle.toml.specs.Data.{Data, Members, no_members, get_member, as_str, as_integer, as_table}
-use Rattle.sdh_circuits.specs.Checks.{Wish, has_slot, has_ends, has_two_ends, has_offsets, has_texts, has_traces, is_free_name, has_room, circuit_of}
+use Rattle.sdh_circuits.specs.Checks.{Wish, has_slot, has_ends, has_two_ends, has_offsets, has_texts, has_traces, is_free_name, has_room}
+use Rattle.sdh_circuits.specs.Checks.{circuit_of}
 use Rattle.sdh_circuits.specs.Provisioned.{Provisioned}
 use Rattle.sdh_circuits.specs.Provisioning.{Provisioning}
 use Rattle.sdh_plan.specs.Check.{Check, Fault, at_place}
@@ -36,7 +37,18 @@ wish_in ms = do
   trace_b ← text_or name (codes "trace_b") ms
   offset_a ← integer_or_0 (codes "offset_a") ms
   offset_b ← integer_or_0 (codes "offset_b") ms
-  Some (record { name = name; from = from; to = to; slot = slot; offset_a = offset_a; offset_b = offset_b; text_a = text_a; text_b = text_b; trace_a = trace_a; trace_b = trace_b })
+  Some (record {
+    name = name;
+    from = from;
+    to = to;
+    slot = slot;
+    offset_a = offset_a;
+    offset_b = offset_b;
+    text_a = text_a;
+    text_b = text_b;
+    trace_a = trace_a;
+    trace_b = trace_b;
+  })
 
 -- the members of a table; none where it is no table
 abbrev pub members_of : Data → Members
@@ -44,7 +56,18 @@ members_of d = unwrap_or (as_table d) no_members
 
 -- nothing is asked for
 abbrev pub no_wish : Wish
-no_wish = record { name = []; from = pos 0; to = pos 0; slot = pos 0; offset_a = pos 0; offset_b = pos 0; text_a = []; text_b = []; trace_a = []; trace_b = [] }
+no_wish = record {
+  name = [];
+  from = pos 0;
+  to = pos 0;
+  slot = pos 0;
+  offset_a = pos 0;
+  offset_b = pos 0;
+  text_a = [];
+  text_b = [];
+  trace_a = [];
+  trace_b = [];
+}
 
 -- what a table asks for where it passes the checks
 abbrev pub wish_of_table : Members → Wish
@@ -77,7 +100,9 @@ circuit_faults slots nodes before ms =
 -- the checks of the circuits from this place on, one after the other
 abbrev pub circuits_checks : ℕ → List ℕ → List Provisioned → ℕ → List Data → List Check
 circuits_checks slots nodes before place [] = []
-circuits_checks slots nodes before place (d ∷ ds) = at_place place (circuit_faults slots nodes before (members_of d)) ++ circuits_checks slots nodes (before ++ circuit_in nodes (members_of d) ∷ []) (place + 1) ds
+circuits_checks slots nodes before place (d ∷ ds) =
+    at_place place (circuit_faults slots nodes before (members_of d))
+    ++ circuits_checks slots nodes (before ++ circuit_in nodes (members_of d) ∷ []) (place + 1) ds
 
 -- the ring that a circuit map keeps: that of its first circuit
 abbrev pub kept_ring : List ℕ → List Provisioned → Option (List ℕ)

@@ -41,4 +41,6 @@ wish_with slot at spans name text_a text_b offset_a offset_b = record {
 
 -- so that it is laid with the offsets that are drawn
 abbrev pub wish_laid : ℕ → ℕ → ℕ → ℕ → ℕ → Wish
-wish_laid slot number at spans x = wish_with slot at spans (name_in slot number) (name_in slot number ++ codes "a") (name_in slot number ++ codes "b") (drawn x % 783) (drawn (next x) % 783)
+wish_laid slot number at spans x =
+    wish_with slot at spans (name_in slot number) (name_in slot number ++ codes "a") (name_in slot number ++ codes "b") (drawn x % 783)
+    (drawn (next x) % 783)

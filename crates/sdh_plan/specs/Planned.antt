@@ -24,7 +24,13 @@ pub record Planned : Type 0 where
 
 -- the plan of these settings, nodes, circuits and steps
 abbrev pub planned : Settings → ℕ → List ℕ → Provisioning → List Step → Planned
-planned settings limit nodes provisioning steps = record { settings = settings; limit = limit; nodes = nodes; circuits = provisioning.circuits; steps = steps }
+planned settings limit nodes provisioning steps = record {
+  settings = settings;
+  limit = limit;
+  nodes = nodes;
+  circuits = provisioning.circuits;
+  steps = steps;
+}
 
 -- the plan's circuit map: half of N are working slots, and the ring that is kept is the plan's
 abbrev pub provisioning_of : Planned → Provisioning

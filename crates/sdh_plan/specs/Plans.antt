@@ -1,6 +1,7 @@
 -- All checks of a document in their order, and the plan that its keys and words give. The keys, ranges, reasons and
 -- their order are this project's own.
-use Rattle.std.specs.Prelude.{ℕ, ◌+◌, ◌*◌, ◌/◌, ℤ, List, [], ◌∷◌, ◌++◌, map, length, Bool, ◌==◌, ◌&&◌, not, nat_le, if◌then◌else◌, Option, Some, None, is_some, is_none, unwrap_or, codes}
+use Rattle.std.specs.Prelude.{ℕ, ◌+◌, ◌*◌, ◌/◌, ℤ, List, [], ◌∷◌, ◌++◌, map, length, Bool, ◌==◌, ◌&&◌, not, nat_le, if◌then◌else◌, Option}
+use Rattle.std.specs.Prelude.{Some, None, is_some, is_none, unwrap_or, codes}
 use Rattle.std.specs.Option.{option_map_or}
 use Rattle.toml.specs.Data.{Data, Members, get_member}
 use Rattle.sdh_terms.specs.declared.Rate.{Rate}
@@ -10,7 +11,8 @@ use Rattle.sdh_ringmap.specs.Numbering.{is_ring_size, first_unfit, first_repeat,
 use Rattle.sdh_circuits.specs.Provisioned.{Provisioned}
 use Rattle.sdh_plan.specs.declared.step.Step.{Step}
 use Rattle.sdh_plan.specs.Check.{Check}
-use Rattle.sdh_plan.specs.Document.{◌>>=◌, has_only, number_at, elements_in, is_array_of, is_integer, is_text, is_table, integer_of, text_of}
+use Rattle.sdh_plan.specs.Document.{◌>>=◌, has_only, number_at, elements_in, is_array_of, is_integer, is_text, is_table, integer_of}
+use Rattle.sdh_plan.specs.Document.{text_of}
 use Rattle.sdh_plan.specs.Circuits.{members_of, circuit_in, circuits_checks}
 use Rattle.sdh_plan.specs.Steps.{step_of, steps_checks, start, ends_settled}
 use Rattle.sdh_plan.specs.Planned.{Planned}
@@ -100,7 +102,8 @@ last_check steps = record { reason = reason.LastStep; place = length steps; fail
 
 -- the checks of the texts of a script, in a ring of these nodes and circuits at STM-n
 abbrev pub texts_checks : ℕ → List ℕ → List Provisioned → List Data → List Check
-texts_checks n nodes circuits ds = steps_checks n nodes circuits start 1 ds ++ last_check (map (λ d. step_of n nodes circuits (text_of d)) ds) ∷ []
+texts_checks n nodes circuits ds =
+    steps_checks n nodes circuits start 1 ds ++ last_check (map (λ d. step_of n nodes circuits (text_of d)) ds) ∷ []
 
 -- a script has 1 to 1,000 steps
 abbrev pub is_script_length : ℕ → Bool
@@ -115,7 +118,9 @@ script_checks n nodes circuits ms =
 
 -- all checks of a document, in their order
 unfoldable pub checks : Members → List Check
-checks ms = ring_checks ms ++ (settings_checks (n_in ms) ms ++ (provision_checks (n_in ms) (nodes_in ms) ms ++ script_checks (n_in ms) (nodes_in ms) (circuits_in (nodes_in ms) ms) ms))
+checks ms =
+    ring_checks ms ++ (settings_checks (n_in ms) ms ++ (provision_checks (n_in ms) (nodes_in ms) ms
+    ++ script_checks (n_in ms) (nodes_in ms) (circuits_in (nodes_in ms) ms) ms))
 
 -- the plan that the keys and words give
 unfoldable pub plan_of : Members → Planned

@@ -1,5 +1,6 @@
 -- The steps of a script: their forms, their checks and what each does. All this is this project's own.
-use Rattle.std.specs.Prelude.{ℕ, ◌+◌, ◌-◌, ◌*◌, Bool, true, false, ◌==◌, ◌&&◌, ◌||◌, not, nat_le, nat_lt, if◌then◌else◌, List, [], ◌∷◌, ◌++◌, length, codes, Option, Some, None, is_none, unwrap_or, slice_index_or, slice_get, position}
+use Rattle.std.specs.Prelude.{ℕ, ◌+◌, ◌-◌, ◌*◌, Bool, true, false, ◌==◌, ◌&&◌, ◌||◌, not, nat_le, nat_lt, if◌then◌else◌, List, [], ◌∷◌}
+use Rattle.std.specs.Prelude.{◌++◌, length, codes, Option, Some, None, is_none, unwrap_or, slice_index_or, slice_get, position}
 use Rattle.std.specs.List.{list_any}
 use Rattle.std.specs.Str.{bytes_eq}
 use Rattle.std.specs.Option.{option_and_then, option_map_or}
@@ -115,7 +116,10 @@ abbrev pub side_of : List (List ℕ) → Side
 side_of others = unwrap_or (side_at (word_at others 1)) West
 
 abbrev pub port_named : List Provisioned → List (List ℕ) → PortId
-port_named circuits others = record { circuit = unwrap_or (circuit_named circuits (word_at others 0)) 0; end = unwrap_or (end_at (word_at others 1)) A }
+port_named circuits others = record {
+  circuit = unwrap_or (circuit_named circuits (word_at others 0)) 0;
+  end = unwrap_or (end_at (word_at others 1)) A;
+}
 
 abbrev pub turn_of : List (List ℕ) → Turn
 turn_of others = unwrap_or (turn_at (word_at others 2)) Up
@@ -147,7 +151,8 @@ verb_step n nodes circuits verb.Slip others = step.Slip (port_named circuits oth
 -- the checks of a step's words
 unfoldable pub form_faults : ℕ → List ℕ → List Provisioned → List (List ℕ) → List Fault
 form_faults n nodes circuits [] = (reason.StepForm, true) ∷ []
-form_faults n nodes circuits (first ∷ others) = (reason.StepForm, list_any is_empty (first ∷ others)) ∷ verb_faults n nodes circuits (verb_of first) others
+form_faults n nodes circuits (first ∷ others) =
+    (reason.StepForm, list_any is_empty (first ∷ others)) ∷ verb_faults n nodes circuits (verb_of first) others
 
 -- the step that a first word gives with those behind it; any step where it isn't listed
 abbrev pub told_step : ℕ → List ℕ → List Provisioned → Option Verb → List (List ℕ) → Step
@@ -232,4 +237,6 @@ step_faults n nodes circuits past text = form_faults n nodes circuits (words tex
 -- the checks of the steps from this place on, one after the other
 abbrev pub steps_checks : ℕ → List ℕ → List Provisioned → Past → ℕ → List Data → List Check
 steps_checks n nodes circuits past place [] = []
-steps_checks n nodes circuits past place (d ∷ ds) = at_place place (step_faults n nodes circuits past (text_of d)) ++ steps_checks n nodes circuits (after past (step_of n nodes circuits (text_of d))) (place + 1) ds
+steps_checks n nodes circuits past place (d ∷ ds) =
+    at_place place (step_faults n nodes circuits past (text_of d))
+    ++ steps_checks n nodes circuits (after past (step_of n nodes circuits (text_of d))) (place + 1) ds

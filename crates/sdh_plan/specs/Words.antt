@@ -1,5 +1,6 @@
 -- The words of a step, and the numbers among them. Their form is this project's own.
-use Rattle.std.specs.Prelude.{ℕ, ◌+◌, ◌-◌, ◌*◌, Bool, true, false, ◌==◌, ◌&&◌, not, nat_le, if◌then◌else◌, List, [], ◌∷◌, length, Option, Some, None}
+use Rattle.std.specs.Prelude.{ℕ, ◌+◌, ◌-◌, ◌*◌, Bool, true, false, ◌==◌, ◌&&◌, not, nat_le, if◌then◌else◌, List, [], ◌∷◌, length, Option}
+use Rattle.std.specs.Prelude.{Some, None}
 use Rattle.std.specs.List.{list_all, slice_split}
 
 -- what stands between single spaces
@@ -31,4 +32,5 @@ decimal_from n (d ∷ ds) = decimal_from (10 * n + (d - 48)) ds
 
 -- the number that a word is, where it is one from low to high
 unfoldable pub numeral_in : ℕ → ℕ → List ℕ → Option ℕ
-numeral_in low high word = if is_number word && nat_le low (decimal_from 0 word) && nat_le (decimal_from 0 word) high then Some (decimal_from 0 word) else None
+numeral_in low high word =
+    if is_number word && nat_le low (decimal_from 0 word) && nat_le (decimal_from 0 word) high then Some (decimal_from 0 word) else None

@@ -1,5 +1,6 @@
 -- A frame behind a degraded fibre, byte by byte.
-use Rattle.std.proofs.Common.{◌≡◌, ℕ, ◌+◌, ◌*◌, ◌/◌, ◌%◌, ◌<◌, ◌≤◌, Bool, true, false, List, [], ◌∷◌, length, get_or, refl, ap, sym, ◌∙◌, arith, inl, inr}
+use Rattle.std.proofs.Common.{◌≡◌, ℕ, ◌+◌, ◌*◌, ◌/◌, ◌%◌, ◌<◌, ◌≤◌, Bool, true, false, List, [], ◌∷◌, length, get_or, refl, ap, sym, ◌∙◌}
+use Rattle.std.proofs.Common.{arith, inl, inr}
 use Rattle.std.specs.Prelude.{slice_index, bit_xor, if◌then◌else◌}
 use Rattle.std.specs.Int.Bits.{xor_assoc, xor_self, xor_zero_r}
 use Rattle.std.proofs.lemmas.Bool.{cases_lt}
@@ -12,7 +13,8 @@ use Rattle.sdh_terms.specs.declared.Rate.TheVariants.{Four, Sixteen}
 use Rattle.sdh_terms.specs.Rates.{n_of}
 use Rattle.sdh_plant.specs.Arrivals.{is_inverted, degraded_byte, degraded}
 
-pub byte_inside : (rate : Rate) (k i x : ℕ) → k ≤ 3 * n_of rate → 1350 * n_of rate ≤ i → i < 1350 * n_of rate + k → degraded_byte (n_of rate) k i x ≡ bit_xor x 0x80
+pub byte_inside : (rate : Rate) (k i x : ℕ) → k ≤ 3 * n_of rate → 1350 * n_of rate ≤ i → i < 1350 * n_of rate + k
+    → degraded_byte (n_of rate) k i x ≡ bit_xor x 0x80
 unfolding degraded_byte
 byte_inside Four k i x few low high = grind (arith, nat_tests)
 byte_inside Sixteen k i x few low high = grind (arith, nat_tests)
@@ -35,7 +37,8 @@ pub degraded-from : (rate : Rate) (k : ℕ) (old new : List ℕ) → k ≤ 3 * n
     → new ≡ degraded (n_of rate) k old
 unfolding degraded
 degraded-from rate k old new few len before inside behind =
-    let is : (i : ℕ) → i < length old → get_or (degraded (n_of rate) k old) i 0 ≡ degraded_byte (n_of rate) k i (get_or old i 0) = λ i lt. get_or-placed (degraded_byte (n_of rate) k) old i 0 0 lt in
+    let is : (i : ℕ) → i < length old → get_or (degraded (n_of rate) k old) i 0 ≡ degraded_byte (n_of rate) k i (get_or old i 0) =
+    λ i lt. get_or-placed (degraded_byte (n_of rate) k) old i 0 0 lt in
     ext_get_or 0 new (degraded (n_of rate) k old) (len ∙ sym (length-map_from (degraded_byte (n_of rate) k) 0 old)) (λ i lt. (
     let inside_old : i < length old = omega (arith, len) in
     elim (cases_lt i (1350 * n_of rate)) [
@@ -56,7 +59,8 @@ byte_twice n k i x = inverted_twice (is_inverted k (i / (270 * n) + 1) (i % (270
 
 placed_twice : (f : ℕ → ℕ → ℕ) → ((i x : ℕ) → f i (f i x) ≡ x) → (i : ℕ) (xs : List ℕ) → map_from f i (map_from f i xs) ≡ xs
 placed_twice f back i [] = refl
-placed_twice f back i (x ∷ xs) = ap (λ y. y ∷ map_from f (i + 1) (map_from f (i + 1) xs)) (back i x) ∙ ap (λ l. x ∷ l) (placed_twice f back (i + 1) xs)
+placed_twice f back i (x ∷ xs) =
+    ap (λ y. y ∷ map_from f (i + 1) (map_from f (i + 1) xs)) (back i x) ∙ ap (λ l. x ∷ l) (placed_twice f back (i + 1) xs)
 
 -- the same bits inverted again give back what was sent
 pub degraded_twice : (n k : ℕ) (bytes : List ℕ) → degraded n k (degraded n k bytes) ≡ bytes

@@ -1,5 +1,6 @@
 -- The told arrivals that are left once there are fibres.
-use Rattle.std.proofs.Common.{◌≡◌, ℕ, ◌-◌, ◌==◌, Bool, true, false, List, [], length, map, take, take_all, drop, length-drop, refl, ap, sym, ◌∙◌, arith}
+use Rattle.std.proofs.Common.{◌≡◌, ℕ, ◌-◌, ◌==◌, Bool, true, false, List, [], length, map, take, take_all, drop, length-drop, refl, ap, sym}
+use Rattle.std.proofs.Common.{◌∙◌, arith}
 use Rattle.std.proofs.lemmas.Bool.Decides.{nat_tests}
 use Rattle.std.proofs.lemmas.List.Folds.{list_all-map}
 use Rattle.std.specs.Prelude.{if◌then◌else◌}
@@ -14,7 +15,9 @@ use Rattle.sdh_plant.specs.InMemory.{HeldFibres, HeldTold, laid, told_of}
 use Rattle.sdh_plant.specs.Kept.{arrival_of}
 
 -- what was found of those that are left
-pub all_left : (rate : Rate) (xs : List Told) (next : ℕ) (b : Bool) → b ≡ list_all (λ told. is_at rate (arrival_of told)) (take (length xs - next) (drop next xs)) → list_all (is_at rate) (map arrival_of (drop next xs)) ≡ b
+pub all_left : (rate : Rate) (xs : List Told) (next : ℕ) (b : Bool)
+    → b ≡ list_all (λ told. is_at rate (arrival_of told)) (take (length xs - next) (drop next xs))
+    → list_all (is_at rate) (map arrival_of (drop next xs)) ≡ b
 all_left rate xs next b found =
     let rest : take (length xs - next) (drop next xs) ≡ drop next xs = take_all _ _ (omega (arith, length-drop {A = Told})) in
     list_all-map (is_at rate) arrival_of (drop next xs) ∙ ap (list_all (λ told. is_at rate (arrival_of told))) (sym rest) ∙ sym found
@@ -26,10 +29,12 @@ pub told_at-none : (rate : Rate) (told : List Arrival) → list_all (is_at rate)
 told_at-none rate told some = sym (ap (λ (b : Bool). if b then told else []) some)
 
 -- the plant after prepare
-pub told_of-prepared : (rate : Rate) (n : ℕ) (old : HeldTold) (fibres : HeldFibres) (told : List Arrival) → fibres ≡ laid rate n → told ≡ told_at rate old.told
+pub told_of-prepared : (rate : Rate) (n : ℕ) (old : HeldTold) (fibres : HeldFibres) (told : List Arrival) → fibres ≡ laid rate n
+    → told ≡ told_at rate old.told
     → told_of (record { fibres = fibres; told = told }) ≡ prepared rate n (told_of old)
 told_of-prepared rate n old fibres told are left =
-    ap (λ (h : HeldFibres). told_of (record { fibres = h; told = told })) are ∙ ap (λ (l : List Arrival). told_of (record { fibres = laid rate n; told = l })) left
+    ap (λ (h : HeldFibres). told_of (record { fibres = h; told = told })) are
+    ∙ ap (λ (l : List Arrival). told_of (record { fibres = laid rate n; told = l })) left
 
 -- frames of one size have one rate
 pub rate_of_size : (one other : Rate) (n : ℕ) → n ≡ size_of one → (n == size_of other) ≡ true → one ≡ other

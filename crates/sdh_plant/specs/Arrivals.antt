@@ -1,5 +1,6 @@
 -- What comes out of the fibres.
-use Rattle.std.specs.Prelude.{ℕ, ◌≡◌, ◌≢◌, ◌⊎◌, ◌+◌, ◌*◌, ◌/◌, ◌%◌, ◌==◌, ◌&&◌, Bool, true, nat_le, if◌then◌else◌, bit_xor, Option, Some, None, List, [], ◌∷◌, slice_index_or, option_map}
+use Rattle.std.specs.Prelude.{ℕ, ◌≡◌, ◌≢◌, ◌⊎◌, ◌+◌, ◌*◌, ◌/◌, ◌%◌, ◌==◌, ◌&&◌, Bool, true, nat_le, if◌then◌else◌, bit_xor, Option, Some}
+use Rattle.std.specs.Prelude.{None, List, [], ◌∷◌, slice_index_or, option_map}
 use Rattle.std.specs.Option.{option_map_or}
 use Rattle.sdh_basics.specs.Indexed.{map_from}
 use Rattle.sdh_terms.specs.Rates.{n_of}

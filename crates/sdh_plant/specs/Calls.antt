@@ -1,5 +1,6 @@
 -- The fibres after each call that was answered with Ok. A call that wasn't leaves them as they were.
-use Rattle.std.specs.Prelude.{ℕ, ◌≡◌, ◌⊎◌, ◌*◌, ◌==◌, Bool, true, if◌then◌else◌, Some, None, List, [], ◌∷◌, ◌++◌, length, drop, replicate, slice_set, option_map}
+use Rattle.std.specs.Prelude.{ℕ, ◌≡◌, ◌⊎◌, ◌*◌, ◌==◌, Bool, true, if◌then◌else◌, Some, None, List, [], ◌∷◌, ◌++◌, length, drop, replicate}
+use Rattle.std.specs.Prelude.{slice_set, option_map}
 use Rattle.std.specs.List.{list_all}
 use Rattle.std.specs.Option.{option_map_or}
 use Rattle.sdh_terms.specs.declared.Rate.{Rate}
@@ -20,7 +21,14 @@ told_at rate told = if list_all (is_at rate) told then told else []
 
 -- two fibres for each of n spans, each clear and without a frame
 abbrev pub prepared : Rate → ℕ → Fibres → Fibres
-prepared rate n f = record f { nodes = n; rate = rate; conditions = replicate (2 * n) Clear; carried = replicate (2 * n) None; told = option_map (told_at rate) f.told }
+prepared rate n f =
+    record f {
+      nodes = n;
+      rate = rate;
+      conditions = replicate (2 * n) Clear;
+      carried = replicate (2 * n) None;
+      told = option_map (told_at rate) f.told;
+    }
 
 -- the fibre that leaves position p on that side is in this condition
 abbrev pub after_apply : Fibres → ℕ → Side → Condition → Fibres
@@ -28,7 +36,8 @@ after_apply f p d condition = record f { conditions = slice_set f.conditions (fi
 
 -- it carries this frame
 abbrev pub after_send : Fibres → ℕ → Side → List ℕ → Fibres
-after_send f p d bytes = record f { carried = slice_set f.carried (fibre p d) (Some bytes); sent = option_map (λ sent. sent ++ bytes ∷ []) f.sent }
+after_send f p d bytes =
+    record f { carried = slice_set f.carried (fibre p d) (Some bytes); sent = option_map (λ sent. sent ++ bytes ∷ []) f.sent }
 
 -- what comes back for a frame that was sent in exchange, over a fibre that carried this before: the frame itself, or that which
 -- the fibre carried, and where it carried none one of zeros

@@ -17,7 +17,15 @@ pub record HeldFibres : Type 0 where
   pub carried : List Arrival
 
 abbrev pub fibres_of : HeldFibres → Fibres
-fibres_of h = record { nodes = h.nodes; rate = h.rate; conditions = h.conditions; carried = h.carried; told = None; sent = None; honest = true }
+fibres_of h = record {
+  nodes = h.nodes;
+  rate = h.rate;
+  conditions = h.conditions;
+  carried = h.carried;
+  told = None;
+  sent = None;
+  honest = true;
+}
 
 -- two fibres for each of n spans, each clear and without a frame
 abbrev pub laid : Rate → ℕ → HeldFibres

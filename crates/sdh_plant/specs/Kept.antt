@@ -1,5 +1,6 @@
 -- What the plants in memory keep, and what it means.
-use Rattle.std.specs.Prelude.{ℕ, ◌≡◌, ◌*◌, ◌<◌, ◌≤◌, true, false, Option, Some, None, List, [], All, length, map, drop, replicate, if◌then◌else◌}
+use Rattle.std.specs.Prelude.{ℕ, ◌≡◌, ◌*◌, ◌<◌, ◌≤◌, true, false, Option, Some, None, List, [], All, length, map, drop, replicate}
+use Rattle.std.specs.Prelude.{if◌then◌else◌}
 use Rattle.std.specs.List.{list_all}
 use Rattle.std.specs.Global.{Vec}
 use Rattle.sdh_terms.specs.declared.Rate.{Rate}

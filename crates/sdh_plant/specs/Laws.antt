@@ -23,8 +23,10 @@ NewIsDark = (rate : Rate) (n : ℕ) (f : Fibres) (p : ℕ) (d : Side) → f.told
 -- prepare gives fibres for its rate and number of positions, and the other calls keep them
 pub record StayPrepared : Type 0 where
   pub prepared : (rate : Rate) (n : ℕ) (f : Fibres) → 2 ≤ n → n ≤ 16 → IsPrepared rate n (prepared rate n f)
-  pub apply : (rate : Rate) (n : ℕ) (f : Fibres) (p : ℕ) (d : Side) (condition : Condition) → IsConditionAt rate condition → IsPrepared rate n f → IsPrepared rate n (after_apply f p d condition)
-  pub send : (rate : Rate) (n : ℕ) (f : Fibres) (p : ℕ) (d : Side) (bytes : List ℕ) → IsPrepared rate n f → IsPrepared rate n (after_send f p d bytes)
+  pub apply : (rate : Rate) (n : ℕ) (f : Fibres) (p : ℕ) (d : Side) (condition : Condition) → IsConditionAt rate condition
+      → IsPrepared rate n f → IsPrepared rate n (after_apply f p d condition)
+  pub send : (rate : Rate) (n : ℕ) (f : Fibres) (p : ℕ) (d : Side) (bytes : List ℕ) → IsPrepared rate n f
+      → IsPrepared rate n (after_send f p d bytes)
   pub receive : (rate : Rate) (n : ℕ) (f : Fibres) → IsPrepared rate n f → IsPrepared rate n (after_receive f)
 
 -- honest fibres stay so, and their arrivals are known: what was sent, as the fibre's condition lets it through

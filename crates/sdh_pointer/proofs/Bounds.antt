@@ -8,7 +8,9 @@ use Rattle.sdh_pointer.specs.declared.reading.Mode.TheVariants as mode
 use Rattle.sdh_pointer.specs.declared.reading.Event.{Event}
 use Rattle.sdh_pointer.specs.declared.reading.Event.TheVariants as event
 use Rattle.sdh_pointer.specs.Words.{is_normal, is_enabled, value_in, one_up, one_down}
-use Rattle.sdh_pointer.specs.Reading.{start, is_norm, goes_up, goes_down, normal_event, event_of, value_of, after_in, action_in, after_event, action_of, after_word, action_on, row_of, reading_table, settled, with_ais, with_bad, with_new, news_with, later, IsBounded}
+use Rattle.sdh_pointer.specs.Reading.{start, is_norm, goes_up, goes_down, normal_event, event_of, value_of, after_in, action_in}
+use Rattle.sdh_pointer.specs.Reading.{after_event, action_of, after_word, action_on, row_of, reading_table, settled, with_ais, with_bad}
+use Rattle.sdh_pointer.specs.Reading.{with_new, news_with, later, IsBounded}
 use Rattle.sdh_pointer.specs.Laws.{is_ais_action}
 use Rattle.sdh_pointer.proofs.Rows.{can_come, comes}
 
@@ -115,7 +117,8 @@ bounded_in mode.Norm event.Bad r h b = elim (cases_lt (r.bad + 1) 8) [
   | inl less ↦ (let e = lt-leb _ _ less in rw e (bounded_bad r (later r.since) b less (omega arith)))
   | inr third ↦ (let e = le-leb _ _ third in rw e (bounded_settled mode.Lop r.value 0 b.value (omega arith)))
 ]
-bounded_in mode.Ais event.Ais r h b = let e : leb 1 (r.ais + 1) ≡ true = le-leb _ _ (omega arith) in rw e (bounded_settled mode.Ais r.value 0 b.value (omega arith))
+bounded_in mode.Ais event.Ais r h b = let e : leb 1 (r.ais + 1) ≡ true =
+    le-leb _ _ (omega arith) in rw e (bounded_settled mode.Ais r.value 0 b.value (omega arith))
 bounded_in mode.Ais (event.Ndf v) r h b = bounded_settled mode.Norm v 0 h (omega arith)
 bounded_in mode.Ais (event.New v) r h b = elim (cases_lt (news_with r v) 3) [
   | inl less ↦ (let e = lt-leb _ _ less in rw e (bounded_new r v 0 b h less (omega arith)))
@@ -134,7 +137,8 @@ bounded_in mode.Lop (event.New v) r h b = elim (cases_lt (news_with r v) 3) [
   | inr third ↦ (let e = le-leb _ _ third in rw e (bounded_settled mode.Norm v 0 h (omega arith)))
 ]
 bounded_in mode.Lop (event.Ndf v) r h b = bounded_settled mode.Lop r.value 0 b.value (omega arith)
-bounded_in mode.Lop event.Bad r h b = let e : leb 1 (r.bad + 1) ≡ true = le-leb _ _ (omega arith) in rw e (bounded_settled mode.Lop r.value 0 b.value (omega arith))
+bounded_in mode.Lop event.Bad r h b = let e : leb 1 (r.bad + 1) ≡ true =
+    le-leb _ _ (omega arith) in rw e (bounded_settled mode.Lop r.value 0 b.value (omega arith))
 bounded_in mode.Ais event.Same r h b = b
 bounded_in mode.Ais event.Up r h b = b
 bounded_in mode.Ais event.Down r h b = b
@@ -148,7 +152,8 @@ bounds_are_kept = (bounded_settled mode.Ais 0 0 (omega arith) (omega arith), λ 
 
 -- ---- the answer tells the mode
 
-tells_in : (m : Mode) (e : Event) (r : Reading) → r.mode ≡ m → can_come m e ≡ true → is_ais_action (action_in m e r) ≡ not (is_norm (after_in m e r).mode)
+tells_in : (m : Mode) (e : Event) (r : Reading) → r.mode ≡ m → can_come m e ≡ true
+    → is_ais_action (action_in m e r) ≡ not (is_norm (after_in m e r).mode)
 unfolding after_in action_in row_of reading_table
 tells_in mode.Norm event.Same r is h = refl
 tells_in mode.Norm (event.Ndf v) r is h = refl

@@ -130,10 +130,12 @@ unfolding differing
 d_self v = omega (arith, self_none v 0, self_none v 2, self_none v 4, self_none v 6, self_none v 8)
 
 up_differs : (v : ℕ) → bit_xor v 682 ≢ v
-up_differs v = λ e. (let h : differing i_bits (bit_xor v 682) v ≡ 0 = ap (λ x. differing i_bits x v) e ∙ i_self v in absurd (omega (arith, i_all v)))
+up_differs v =
+    λ e. (let h : differing i_bits (bit_xor v 682) v ≡ 0 = ap (λ x. differing i_bits x v) e ∙ i_self v in absurd (omega (arith, i_all v)))
 
 down_differs : (v : ℕ) → bit_xor v 341 ≢ v
-down_differs v = λ e. (let h : differing d_bits (bit_xor v 341) v ≡ 0 = ap (λ x. differing d_bits x v) e ∙ d_self v in absurd (omega (arith, d_all v)))
+down_differs v =
+    λ e. (let h : differing d_bits (bit_xor v 341) v ≡ 0 = ap (λ x. differing d_bits x v) e ∙ d_self v in absurd (omega (arith, d_all v)))
 
 -- ---- events of normal words
 
@@ -156,21 +158,24 @@ new_early r v norm other early h =
     rw (norm, ne, before, e) refl
 
 -- and where it justifies nothing
-pub new_neither : (r : Reading) (v : ℕ) → r.mode ≡ mode.Norm → r.value ≢ v → goes_up v r.value ≡ false → goes_down v r.value ≡ false → v ≤ 782 → normal_event r v ≡ event.New v
+pub new_neither : (r : Reading) (v : ℕ) → r.mode ≡ mode.Norm → r.value ≢ v → goes_up v r.value ≡ false → goes_down v r.value ≡ false
+    → v ≤ 782 → normal_event r v ≡ event.New v
 unfolding normal_event
 new_neither r v norm other up down h =
     let e : leb v 782 ≡ true = le-leb _ _ h in
     let ne : eqb v r.value ≡ false = ne_eqb _ _ (λ q. other (sym q)) in
     elim (cases_Bool (leb 3 r.since)) [ inl t ↦ rw (norm, ne, t, up, down, e) refl | inr f ↦ rw (norm, ne, f, e) refl ]
 
-pub up_event : (r : Reading) (v : ℕ) → r.mode ≡ mode.Norm → r.value ≢ v → 3 ≤ r.since → goes_up v r.value ≡ true → normal_event r v ≡ event.Up
+pub up_event : (r : Reading) (v : ℕ) → r.mode ≡ mode.Norm → r.value ≢ v → 3 ≤ r.since → goes_up v r.value ≡ true
+    → normal_event r v ≡ event.Up
 unfolding normal_event
 up_event r v norm other full up =
     let ne : eqb v r.value ≡ false = ne_eqb _ _ (λ q. other (sym q)) in
     let late : leb 3 r.since ≡ true = le-leb _ _ full in
     rw (norm, ne, late, up) refl
 
-pub down_event : (r : Reading) (v : ℕ) → r.mode ≡ mode.Norm → r.value ≢ v → 3 ≤ r.since → goes_up v r.value ≡ false → goes_down v r.value ≡ true → normal_event r v ≡ event.Down
+pub down_event : (r : Reading) (v : ℕ) → r.mode ≡ mode.Norm → r.value ≢ v → 3 ≤ r.since → goes_up v r.value ≡ false
+    → goes_down v r.value ≡ true → normal_event r v ≡ event.Down
 unfolding normal_event
 down_event r v norm other full up down =
     let ne : eqb v r.value ≡ false = ne_eqb _ _ (λ q. other (sym q)) in

@@ -12,7 +12,9 @@ use Rattle.sdh_pointer.specs.declared.reading.Action.{Action}
 use Rattle.sdh_pointer.specs.declared.reading.Action.TheVariants as action
 use Rattle.sdh_pointer.specs.declared.word.Form.TheVariants as form
 use Rattle.sdh_pointer.specs.Words.{is_normal, is_enabled, value_in, one_up, one_down}
-use Rattle.sdh_pointer.specs.Reading.{is_norm, goes_up, goes_down, normal_event, event_of, after_in, action_in, after_event, action_of, after_word, action_on, row_of, is_row_of, reading_table, after_row, action_row, settled, with_ais, with_bad, with_new, news_with, later, is_same, is_up, is_down}
+use Rattle.sdh_pointer.specs.Reading.{is_norm, goes_up, goes_down, normal_event, event_of, after_in, action_in, after_event, action_of}
+use Rattle.sdh_pointer.specs.Reading.{after_word, action_on, row_of, is_row_of, reading_table, after_row, action_row, settled, with_ais}
+use Rattle.sdh_pointer.specs.Reading.{with_bad, with_new, news_with, later, is_same, is_up, is_down}
 use Rattle.sdh_pointer.specs.Reading as reading
 use Rattle.sdh_pointer.specs.Sending as sending
 use Rattle.sdh_pointer.specs.Sending.{sending_table, form_sent, value_sent, word_sent, next_sending}
@@ -36,11 +38,13 @@ pub norm_down : (r : Reading) → after_in mode.Norm event.Down r ≡ settled mo
 unfolding after_in row_of reading_table
 norm_down r = refl
 
-pub norm_new : (r : Reading) (v : ℕ) → after_in mode.Norm (event.New v) r ≡ (if nat_le 3 (news_with r v) then settled mode.Norm v (later r.since) else with_new r v (later r.since))
+pub norm_new : (r : Reading) (v : ℕ) → after_in mode.Norm (event.New v) r
+    ≡ (if nat_le 3 (news_with r v) then settled mode.Norm v (later r.since) else with_new r v (later r.since))
 unfolding after_in row_of reading_table
 norm_new r v = refl
 
-pub norm_ais : (r : Reading) → after_in mode.Norm event.Ais r ≡ (if nat_le 3 (r.ais + 1) then settled mode.Ais r.value 0 else with_ais r (later r.since))
+pub norm_ais : (r : Reading) → after_in mode.Norm event.Ais r
+    ≡ (if nat_le 3 (r.ais + 1) then settled mode.Ais r.value 0 else with_ais r (later r.since))
 unfolding after_in row_of reading_table
 norm_ais r = refl
 
@@ -54,7 +58,8 @@ pub ais_ndf : (r : Reading) (v : ℕ) → after_in mode.Ais (event.Ndf v) r ≡ 
 unfolding after_in row_of reading_table
 ais_ndf r v = refl
 
-pub ais_new : (r : Reading) (v : ℕ) → after_in mode.Ais (event.New v) r ≡ (if nat_le 3 (news_with r v) then settled mode.Norm v 0 else with_new r v 0)
+pub ais_new : (r : Reading) (v : ℕ) → after_in mode.Ais (event.New v) r
+    ≡ (if nat_le 3 (news_with r v) then settled mode.Norm v 0 else with_new r v 0)
 unfolding after_in row_of reading_table
 ais_new r v = refl
 
@@ -66,7 +71,8 @@ pub lop_ndf : (r : Reading) (v : ℕ) → after_in mode.Lop (event.Ndf v) r ≡ 
 unfolding after_in row_of reading_table
 lop_ndf r v = refl
 
-pub lop_new : (r : Reading) (v : ℕ) → after_in mode.Lop (event.New v) r ≡ (if nat_le 3 (news_with r v) then settled mode.Norm v 0 else with_new r v 0)
+pub lop_new : (r : Reading) (v : ℕ) → after_in mode.Lop (event.New v) r
+    ≡ (if nat_le 3 (news_with r v) then settled mode.Norm v 0 else with_new r v 0)
 unfolding after_in row_of reading_table
 lop_new r v = refl
 
@@ -180,14 +186,44 @@ each_input_has_one_row None action.Normal v = record { row = _; only = refl; wor
 each_input_has_one_row None action.Up v = record { row = _; only = refl; word = refl; next = refl }
 each_input_has_one_row None action.Down v = record { row = _; only = refl; word = refl; next = refl }
 each_input_has_one_row (Some g) action.Normal v = elim (cases_Bool (eqb v g)) [
-  | inl t ↦ record { row = sending.row sending.is_kept form.Normal sending.of_state sending.sends; only = rw t refl; word = rw t refl; next = rw t refl }
-  | inr f ↦ record { row = sending.row sending.is_other form.Enabled sending.of_input sending.sends; only = rw f refl; word = rw f refl; next = rw f refl }
+  | inl t ↦ record {
+    row = sending.row sending.is_kept form.Normal sending.of_state sending.sends;
+    only = rw t refl;
+    word = rw t refl;
+    next = rw t refl;
+  }
+  | inr f ↦ record {
+    row = sending.row sending.is_other form.Enabled sending.of_input sending.sends;
+    only = rw f refl;
+    word = rw f refl;
+    next = rw f refl;
+  }
 ]
 each_input_has_one_row (Some g) action.Up v = elim (cases_Bool (eqb v (one_up g))) [
-  | inl t ↦ record { row = sending.row sending.is_raised form.Up sending.of_state sending.sends; only = rw t refl; word = rw t refl; next = rw t refl }
-  | inr f ↦ record { row = sending.row sending.is_other form.Enabled sending.of_input sending.sends; only = rw f refl; word = rw f refl; next = rw f refl }
+  | inl t ↦ record {
+    row = sending.row sending.is_raised form.Up sending.of_state sending.sends;
+    only = rw t refl;
+    word = rw t refl;
+    next = rw t refl;
+  }
+  | inr f ↦ record {
+    row = sending.row sending.is_other form.Enabled sending.of_input sending.sends;
+    only = rw f refl;
+    word = rw f refl;
+    next = rw f refl;
+  }
 ]
 each_input_has_one_row (Some g) action.Down v = elim (cases_Bool (eqb v (one_down g))) [
-  | inl t ↦ record { row = sending.row sending.is_lowered form.Down sending.of_state sending.sends; only = rw t refl; word = rw t refl; next = rw t refl }
-  | inr f ↦ record { row = sending.row sending.is_other form.Enabled sending.of_input sending.sends; only = rw f refl; word = rw f refl; next = rw f refl }
+  | inl t ↦ record {
+    row = sending.row sending.is_lowered form.Down sending.of_state sending.sends;
+    only = rw t refl;
+    word = rw t refl;
+    next = rw t refl;
+  }
+  | inr f ↦ record {
+    row = sending.row sending.is_other form.Enabled sending.of_input sending.sends;
+    only = rw f refl;
+    word = rw f refl;
+    next = rw f refl;
+  }
 ]

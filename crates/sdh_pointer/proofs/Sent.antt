@@ -6,7 +6,8 @@ use Rattle.sdh_pointer.specs.declared.word.Form.TheVariants as form
 use Rattle.sdh_pointer.specs.declared.reading.Action.{Action}
 use Rattle.sdh_pointer.specs.declared.reading.Action.TheVariants as action
 use Rattle.sdh_pointer.specs.Words.{word_of, one_up, one_down}
-use Rattle.sdh_pointer.specs.Sending.{Generator, sending_table, row_of, after_action, form_sent, value_sent, word_sent, next_sending, same_sending}
+use Rattle.sdh_pointer.specs.Sending.{Generator, sending_table, row_of, after_action, form_sent, value_sent, word_sent, next_sending}
+use Rattle.sdh_pointer.specs.Sending.{same_sending}
 use Rattle.sdh_pointer.specs.Repeated.{after_inputs}
 use Rattle.sdh_pointer.specs.Laws.{lasting_form, lasting_state}
 
@@ -69,7 +70,11 @@ next_by_action None action.Up v = (first_sent action.Up v (λ e. cc)).next
 next_by_action None action.Down v = (first_sent action.Down v (λ e. cc)).next
 next_by_action (Some g) action.Normal v = elim (cases_eq v g) [ inl is ↦ (normal_sent g v is).next | inr is ↦ (other_sent g v is).next ]
 next_by_action (Some g) action.Up v = elim (cases_eq v (one_up g)) [ inl is ↦ (up_sent g v is).next | inr is ↦ (not_up_sent g v is).next ]
-next_by_action (Some g) action.Down v = elim (cases_eq v (one_down g)) [ inl is ↦ (down_sent g v is).next | inr is ↦ (not_down_sent g v is).next ]
+next_by_action (Some g) action.Down v = elim (cases_eq v (one_down g)) [
+  | inl is ↦ (down_sent g v is).next
+  | inr is ↦
+      (not_down_sent g v is).next
+]
 
 -- ---- one input for ever
 

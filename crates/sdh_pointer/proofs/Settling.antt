@@ -9,11 +9,14 @@ use Rattle.sdh_pointer.specs.declared.reading.Event.{Event}
 use Rattle.sdh_pointer.specs.declared.reading.Event.TheVariants as event
 use Rattle.sdh_pointer.specs.declared.reading.Action.TheVariants as action
 use Rattle.sdh_pointer.specs.Words.{is_normal, is_enabled, value_in, one_up, one_down}
-use Rattle.sdh_pointer.specs.Reading.{normal_event, event_of, is_norm, goes_up, goes_down, after_in, action_in, after_event, after_word, action_on, action_of, settled, with_new, with_ais, news_with, later}
+use Rattle.sdh_pointer.specs.Reading.{normal_event, event_of, is_norm, goes_up, goes_down, after_in, action_in, after_event, after_word}
+use Rattle.sdh_pointer.specs.Reading.{action_on, action_of, settled, with_new, with_ais, news_with, later}
 use Rattle.sdh_pointer.specs.Repeated.{after_rounds}
 use Rattle.sdh_pointer.specs.Laws.{enabled_end}
-use Rattle.sdh_pointer.proofs.Forms.{of_normal_word, of_enabled_word, of_ones, same_event, new_outside, new_early, new_neither, up_event, down_event}
-use Rattle.sdh_pointer.proofs.Rows.{norm_same, norm_ndf, norm_up, norm_down, norm_new, norm_ais, ais_ais, ais_ndf, ais_new, lop_ais, lop_ndf, lop_new, norm_same_action}
+use Rattle.sdh_pointer.proofs.Forms.{of_normal_word, of_enabled_word, of_ones, same_event, new_outside, new_early, new_neither, up_event}
+use Rattle.sdh_pointer.proofs.Forms.{down_event}
+use Rattle.sdh_pointer.proofs.Rows.{norm_same, norm_ndf, norm_up, norm_down, norm_new, norm_ais, ais_ais, ais_ndf, ais_new, lop_ais}
+use Rattle.sdh_pointer.proofs.Rows.{lop_ndf, lop_new, norm_same_action}
 
 -- a step by the event of the word
 pub by_event : (r : Reading) (w : ℕ) (m : Mode) (e : Event) → r.mode ≡ m → event_of r w ≡ e → after_word r w ≡ after_in m e r
@@ -50,11 +53,13 @@ module _ (w v : ℕ) (normal : is_normal w ≡ true) (carries : value_in w ≡ v
 
   -- a value that is v
   pub same : (r : Reading) → r.mode ≡ mode.Norm → r.value ≡ v → after_word r w ≡ settled mode.Norm v (later r.since)
-  same r norm at = reads mode.Norm r event.Same norm (same_event r v norm at) ∙ norm_same r ∙ ap (λ x. settled mode.Norm x (later r.since)) at
+  same r norm at =
+      reads mode.Norm r event.Same norm (same_event r v norm at) ∙ norm_same r ∙ ap (λ x. settled mode.Norm x (later r.since)) at
 
   pub same_action : (r : Reading) → r.mode ≡ mode.Norm → r.value ≡ v → action_on r w ≡ action.Normal
   same_action r norm at =
-      action_by_event r w mode.Norm event.Same norm (of_normal_word r w normal ∙ ap (normal_event r) carries ∙ same_event r v norm at) ∙ norm_same_action r
+      action_by_event r w mode.Norm event.Same norm (of_normal_word r w normal ∙ ap (normal_event r) carries ∙ same_event r v norm at)
+      ∙ norm_same_action r
 
   pub stays : after_word (settled mode.Norm v 3) w ≡ settled mode.Norm v 3
   stays = same (settled mode.Norm v 3) refl refl
@@ -94,17 +99,22 @@ module _ (w v : ℕ) (normal : is_normal w ≡ true) (carries : value_in w ≡ v
     -- a new value out of mode Norm
     out_third : (m : Mode) (r : Reading) → r.mode ≡ m → is_norm m ≡ false → 3 ≤ news_with r v → after_word r w ≡ settled mode.Norm v 0
     out_third mode.Norm r is out third = absurd (cc)
-    out_third mode.Ais r is out third = reads mode.Ais r (event.New v) is (new_outside r v (ap is_norm is) small) ∙ ais_new r v ∙ (let e = le-leb _ _ third in rw e refl)
-    out_third mode.Lop r is out third = reads mode.Lop r (event.New v) is (new_outside r v (ap is_norm is) small) ∙ lop_new r v ∙ (let e = le-leb _ _ third in rw e refl)
+    out_third mode.Ais r is out third =
+        reads mode.Ais r (event.New v) is (new_outside r v (ap is_norm is) small) ∙ ais_new r v ∙ (let e = le-leb _ _ third in rw e refl)
+    out_third mode.Lop r is out third =
+        reads mode.Lop r (event.New v) is (new_outside r v (ap is_norm is) small) ∙ lop_new r v ∙ (let e = le-leb _ _ third in rw e refl)
 
     out_counted : (m : Mode) (r : Reading) → r.mode ≡ m → is_norm m ≡ false → news_with r v < 3 → after_word r w ≡ with_new r v 0
     out_counted mode.Norm r is out less = absurd (cc)
-    out_counted mode.Ais r is out less = reads mode.Ais r (event.New v) is (new_outside r v (ap is_norm is) small) ∙ ais_new r v ∙ (let e = lt-leb _ _ less in rw e refl)
-    out_counted mode.Lop r is out less = reads mode.Lop r (event.New v) is (new_outside r v (ap is_norm is) small) ∙ lop_new r v ∙ (let e = lt-leb _ _ less in rw e refl)
+    out_counted mode.Ais r is out less =
+        reads mode.Ais r (event.New v) is (new_outside r v (ap is_norm is) small) ∙ ais_new r v ∙ (let e = lt-leb _ _ less in rw e refl)
+    out_counted mode.Lop r is out less =
+        reads mode.Lop r (event.New v) is (new_outside r v (ap is_norm is) small) ∙ lop_new r v ∙ (let e = lt-leb _ _ less in rw e refl)
 
     out_two : (m : Mode) (r : Reading) → r.mode ≡ m → is_norm m ≡ false → r.candidate ≡ v → 2 ≤ r.news → Within 4 r
     out_two m r is out at two =
-        step 3 r (settled mode.Norm v 0) (out_third m r is out (let more = news_more r at (omega arith) in omega arith)) (at_value (settled mode.Norm v 0) refl refl)
+        step 3 r (settled mode.Norm v 0) (out_third m r is out (let more = news_more r at (omega arith) in omega arith))
+        (at_value (settled mode.Norm v 0) refl refl)
 
     out_one : (m : Mode) (r : Reading) → r.mode ≡ m → is_norm m ≡ false → r.candidate ≡ v → r.news ≡ 1 → Within 5 r
     out_one m r is out at one =
@@ -114,19 +124,23 @@ module _ (w v : ℕ) (normal : is_normal w ≡ true) (carries : value_in w ≡ v
     outside : (m : Mode) (r : Reading) → r.mode ≡ m → is_norm m ≡ false → Within 6 r
     outside m r is out =
         elim (cases_lt (news_with r v) 3) [
-          | inr third ↦ longer 4 6 r (omega arith) (step 3 r (settled mode.Norm v 0) (out_third m r is out third) (at_value (settled mode.Norm v 0) refl refl))
+          | inr third ↦ longer 4 6 r (omega arith) (step 3 r (settled mode.Norm v 0) (out_third m r is out third)
+              (at_value (settled mode.Norm v 0) refl refl))
           | inl less ↦ (let next = out_counted m r is out less in
               elim (cases_lt (news_with r v) 2) [
                 | inr two ↦ longer 5 6 r (omega arith) (step 4 r (with_new r v 0) next (out_two m (with_new r v 0) is out refl two))
-                | inl other ↦ step 5 r (with_new r v 0) next (out_one m (with_new r v 0) is out refl (let some = some_news r in omega arith))
+                | inl other ↦ step 5 r (with_new r v 0) next
+                    (out_one m (with_new r v 0) is out refl (let some = some_news r in omega arith))
               ])
         ]
 
     -- a new value in mode Norm
-    in_third : (r : Reading) → r.mode ≡ mode.Norm → normal_event r v ≡ event.New v → 3 ≤ news_with r v → after_word r w ≡ settled mode.Norm v (later r.since)
+    in_third : (r : Reading) → r.mode ≡ mode.Norm → normal_event r v ≡ event.New v → 3 ≤ news_with r v
+        → after_word r w ≡ settled mode.Norm v (later r.since)
     in_third r is new third = reads mode.Norm r (event.New v) is new ∙ norm_new r v ∙ (let e = le-leb _ _ third in rw e refl)
 
-    in_counted : (r : Reading) → r.mode ≡ mode.Norm → normal_event r v ≡ event.New v → news_with r v < 3 → after_word r w ≡ with_new r v (later r.since)
+    in_counted : (r : Reading) → r.mode ≡ mode.Norm → normal_event r v ≡ event.New v → news_with r v < 3
+        → after_word r w ≡ with_new r v (later r.since)
     in_counted r is new less = reads mode.Norm r (event.New v) is new ∙ norm_new r v ∙ (let e = lt-leb _ _ less in rw e refl)
 
     module _ (u : ℕ) (other : u ≢ v) where
@@ -136,30 +150,39 @@ module _ (w v : ℕ) (normal : is_normal w ≡ true) (carries : value_in w ≡ v
       -- another value, of which nothing is known but that it was just taken
       fresh : Within 3 (settled mode.Norm u 0)
       fresh =
-          step 2 (settled mode.Norm u 0) (counted 1 1) (in_counted (settled mode.Norm u 0) refl (new_early (settled mode.Norm u 0) v refl other (omega arith) small) (omega arith))
-          (step 1 (counted 1 1) (counted 2 2) (in_counted (counted 1 1) refl (new_early (counted 1 1) v refl other (omega arith) small) (omega (arith, news_more (counted 1 1) refl (omega arith))) ∙ ap (λ n. counted n 2) (news_more (counted 1 1) refl (omega arith)))
-          (step 0 (counted 2 2) (settled mode.Norm v 3) (in_third (counted 2 2) refl (new_early (counted 2 2) v refl other (omega arith) small) (omega (arith, news_more (counted 2 2) refl (omega arith)))) refl))
+          step 2 (settled mode.Norm u 0) (counted 1 1) (in_counted (settled mode.Norm u 0) refl
+          (new_early (settled mode.Norm u 0) v refl other (omega arith) small) (omega arith))
+          (step 1 (counted 1 1) (counted 2 2) (in_counted (counted 1 1) refl (new_early (counted 1 1) v refl other (omega arith) small)
+          (omega (arith, news_more (counted 1 1) refl (omega arith)))
+          ∙ ap (λ n. counted n 2) (news_more (counted 1 1) refl (omega arith)))
+          (step 0 (counted 2 2) (settled mode.Norm v 3) (in_third (counted 2 2) refl
+          (new_early (counted 2 2) v refl other (omega arith) small) (omega (arith, news_more (counted 2 2) refl (omega arith)))) refl))
 
     -- any value that was just taken
     taken : (u : ℕ) → Within 3 (settled mode.Norm u 0)
     taken u = elim (cases_eq u v) [ inl e ↦ at_value (settled mode.Norm u 0) refl e | inr other ↦ fresh u other ]
 
     -- since 3, and the word justifies nothing
-    late_new : (r : Reading) → r.mode ≡ mode.Norm → r.value ≢ v → goes_up v r.value ≡ false → goes_down v r.value ≡ false → normal_event r v ≡ event.New v
+    late_new : (r : Reading) → r.mode ≡ mode.Norm → r.value ≢ v → goes_up v r.value ≡ false → goes_down v r.value ≡ false
+        → normal_event r v ≡ event.New v
     late_new r norm other up down = new_neither r v norm other up down small
 
-    late_two : (r : Reading) → r.mode ≡ mode.Norm → r.value ≢ v → 3 ≤ r.since → goes_up v r.value ≡ false → goes_down v r.value ≡ false → r.candidate ≡ v → 2 ≤ r.news → Within 1 r
+    late_two : (r : Reading) → r.mode ≡ mode.Norm → r.value ≢ v → 3 ≤ r.since → goes_up v r.value ≡ false → goes_down v r.value ≡ false
+        → r.candidate ≡ v → 2 ≤ r.news → Within 1 r
     late_two r norm other full up down at two =
         let end : later r.since ≡ 3 = omega arith in
-        in_third r norm (late_new r norm other up down) (let more = news_more r at (omega arith) in omega arith) ∙ ap (settled mode.Norm v) end
+        in_third r norm (late_new r norm other up down) (let more = news_more r at (omega arith) in omega arith)
+        ∙ ap (settled mode.Norm v) end
 
-    late_one : (r : Reading) → r.mode ≡ mode.Norm → r.value ≢ v → 3 ≤ r.since → goes_up v r.value ≡ false → goes_down v r.value ≡ false → r.candidate ≡ v → r.news ≡ 1 → Within 2 r
+    late_one : (r : Reading) → r.mode ≡ mode.Norm → r.value ≢ v → 3 ≤ r.since → goes_up v r.value ≡ false → goes_down v r.value ≡ false
+        → r.candidate ≡ v → r.news ≡ 1 → Within 2 r
     late_one r norm other full up down at one =
         let more = news_more r at (omega arith) in
         step 1 r (with_new r v (later r.since)) (in_counted r norm (late_new r norm other up down) (omega arith))
         (late_two (with_new r v (later r.since)) norm other (omega arith) up down refl (omega arith))
 
-    late : (r : Reading) → r.mode ≡ mode.Norm → r.value ≢ v → 3 ≤ r.since → goes_up v r.value ≡ false → goes_down v r.value ≡ false → Within 3 r
+    late : (r : Reading) → r.mode ≡ mode.Norm → r.value ≢ v → 3 ≤ r.since → goes_up v r.value ≡ false → goes_down v r.value ≡ false
+        → Within 3 r
     late r norm other full up down =
         let new = late_new r norm other up down in
         let end : later r.since ≡ 3 = omega arith in let end_le : 3 ≤ later r.since = omega arith in
@@ -167,16 +190,20 @@ module _ (w v : ℕ) (normal : is_normal w ≡ true) (carries : value_in w ≡ v
           | inr third ↦ longer 1 3 r (omega arith) (in_third r norm new third ∙ ap (settled mode.Norm v) end)
           | inl less ↦ (let next = in_counted r norm new less in
               elim (cases_lt (news_with r v) 2) [
-                | inr two ↦ longer 2 3 r (omega arith) (step 1 r (with_new r v (later r.since)) next (late_two (with_new r v (later r.since)) norm other end_le up down refl two))
-                | inl two ↦ step 2 r (with_new r v (later r.since)) next (late_one (with_new r v (later r.since)) norm other end_le up down refl (let some = some_news r in omega arith))
+                | inr two ↦ longer 2 3 r (omega arith) (step 1 r (with_new r v (later r.since)) next
+                    (late_two (with_new r v (later r.since)) norm other end_le up down refl two))
+                | inl two ↦ step 2 r (with_new r v (later r.since)) next
+                    (late_one (with_new r v (later r.since)) norm other end_le up down refl (let some = some_news r in omega arith))
               ])
         ]
 
     after_up : (r : Reading) → r.mode ≡ mode.Norm → normal_event r v ≡ event.Up → Within 4 r
-    after_up r norm is = step 3 r (settled mode.Norm (one_up r.value) 0) (reads mode.Norm r event.Up norm is ∙ norm_up r) (taken (one_up r.value))
+    after_up r norm is =
+        step 3 r (settled mode.Norm (one_up r.value) 0) (reads mode.Norm r event.Up norm is ∙ norm_up r) (taken (one_up r.value))
 
     after_down : (r : Reading) → r.mode ≡ mode.Norm → normal_event r v ≡ event.Down → Within 4 r
-    after_down r norm is = step 3 r (settled mode.Norm (one_down r.value) 0) (reads mode.Norm r event.Down norm is ∙ norm_down r) (taken (one_down r.value))
+    after_down r norm is =
+        step 3 r (settled mode.Norm (one_down r.value) 0) (reads mode.Norm r event.Down norm is ∙ norm_down r) (taken (one_down r.value))
 
     since_three : (r : Reading) → r.mode ≡ mode.Norm → r.value ≢ v → 3 ≤ r.since → Within 4 r
     since_three r norm other full =
@@ -194,8 +221,10 @@ module _ (w v : ℕ) (normal : is_normal w ≡ true) (carries : value_in w ≡ v
     before k r long norm other early next =
         let new = new_early r v norm other early small in
         elim (cases_lt (news_with r v) 3) [
-          | inr third ↦ step k r (settled mode.Norm v (later r.since)) (in_third r norm new third) (longer 3 k (settled mode.Norm v (later r.since)) long (at_value (settled mode.Norm v (later r.since)) refl refl))
-          | inl less ↦ step k r (with_new r v (later r.since)) (in_counted r norm new less) (next (with_new r v (later r.since)) norm other refl)
+          | inr third ↦ step k r (settled mode.Norm v (later r.since)) (in_third r norm new third)
+              (longer 3 k (settled mode.Norm v (later r.since)) long (at_value (settled mode.Norm v (later r.since)) refl refl))
+          | inl less ↦ step k r (with_new r v (later r.since)) (in_counted r norm new less)
+              (next (with_new r v (later r.since)) norm other refl)
         ]
 
     since_two : (r : Reading) → r.mode ≡ mode.Norm → r.value ≢ v → r.since ≡ 2 → Within 5 r
@@ -233,7 +262,8 @@ module _ (w v : ℕ) (normal : is_normal w ≡ true) (carries : value_in w ≡ v
     pub settles : (r : Reading) (k : ℕ) → 7 ≤ k → after_rounds k w r ≡ settled mode.Norm v 3
     settles r k h = longer 7 k r h (by_mode r.mode r refl)
 
-pub normal_word_settles : (r : Reading) (w k : ℕ) → is_normal w ≡ true → value_in w ≤ 782 → 7 ≤ k → after_rounds k w r ≡ settled mode.Norm (value_in w) 3
+pub normal_word_settles : (r : Reading) (w k : ℕ) → is_normal w ≡ true → value_in w ≤ 782 → 7 ≤ k
+    → after_rounds k w r ≡ settled mode.Norm (value_in w) 3
 normal_word_settles r w k normal small h = settles w (value_in w) normal refl small r k h
 
 -- ---- one enabled word for ever
@@ -252,7 +282,8 @@ module _ (w : ℕ) (enabled : is_enabled w ≡ true) (small : value_in w ≤ 782
   ends mode.Ais x = once mode.Norm (enabled_end mode.Ais x (value_in w)) refl
   ends mode.Lop x = once mode.Lop (enabled_end mode.Lop x (value_in w)) refl
 
-pub enabled_word_settles : (r : Reading) (w k : ℕ) → is_enabled w ≡ true → value_in w ≤ 782 → 1 ≤ k → after_rounds k w r ≡ enabled_end r.mode r.value (value_in w)
+pub enabled_word_settles : (r : Reading) (w k : ℕ) → is_enabled w ≡ true → value_in w ≤ 782 → 1 ≤ k
+    → after_rounds k w r ≡ enabled_end r.mode r.value (value_in w)
 enabled_word_settles r w k enabled small h =
     from_then 1 k w r (enabled_end r.mode r.value (value_in w)) h (once w enabled small r.mode r refl) (ends w enabled small r.mode r.value)
 
@@ -266,13 +297,17 @@ ais_stays x = reads_ones mode.Ais (settled mode.Ais x 0) refl ∙ ais_ais (settl
 
 -- out of mode Ais the third such word leads to it
 ais_third : (m : Mode) (r : Reading) → r.mode ≡ m → m ≢ mode.Ais → 2 ≤ r.ais → after_word r 65535 ≡ settled mode.Ais r.value 0
-ais_third mode.Norm r is other two = reads_ones mode.Norm r is ∙ norm_ais r ∙ (let e : leb 3 (r.ais + 1) ≡ true = le-leb _ _ (omega arith) in rw e refl)
-ais_third mode.Lop r is other two = reads_ones mode.Lop r is ∙ lop_ais r ∙ (let e : leb 3 (r.ais + 1) ≡ true = le-leb _ _ (omega arith) in rw e refl)
+ais_third mode.Norm r is other two =
+    reads_ones mode.Norm r is ∙ norm_ais r ∙ (let e : leb 3 (r.ais + 1) ≡ true = le-leb _ _ (omega arith) in rw e refl)
+ais_third mode.Lop r is other two =
+    reads_ones mode.Lop r is ∙ lop_ais r ∙ (let e : leb 3 (r.ais + 1) ≡ true = le-leb _ _ (omega arith) in rw e refl)
 ais_third mode.Ais r is other two = absurd (other refl)
 
 ais_counted : (m : Mode) (r : Reading) → r.mode ≡ m → m ≢ mode.Ais → r.ais < 2 → (s : ℕ) × (after_word r 65535 ≡ with_ais r s)
-ais_counted mode.Norm r is other less = (later r.since, reads_ones mode.Norm r is ∙ norm_ais r ∙ (let e : leb 3 (r.ais + 1) ≡ false = lt-leb _ _ (omega arith) in rw e refl))
-ais_counted mode.Lop r is other less = (0, reads_ones mode.Lop r is ∙ lop_ais r ∙ (let e : leb 3 (r.ais + 1) ≡ false = lt-leb _ _ (omega arith) in rw e refl))
+ais_counted mode.Norm r is other less =
+    (later r.since, reads_ones mode.Norm r is ∙ norm_ais r ∙ (let e : leb 3 (r.ais + 1) ≡ false = lt-leb _ _ (omega arith) in rw e refl))
+ais_counted mode.Lop r is other less =
+    (0, reads_ones mode.Lop r is ∙ lop_ais r ∙ (let e : leb 3 (r.ais + 1) ≡ false = lt-leb _ _ (omega arith) in rw e refl))
 ais_counted mode.Ais r is other less = absurd (other refl)
 
 abbrev IsAisIn : ℕ → Reading → Type 0
@@ -281,7 +316,8 @@ IsAisIn k r = after_rounds k 65535 r ≡ settled mode.Ais r.value 0
 ais_longer : (n k : ℕ) (r : Reading) → n ≤ k → IsAisIn n r → IsAisIn k r
 ais_longer n k r h there = from_then n k 65535 r (settled mode.Ais r.value 0) h there (ais_stays r.value)
 
-counted_then : (k : ℕ) (m : Mode) (r : Reading) → r.mode ≡ m → m ≢ mode.Ais → r.ais < 2 → ((s : ℕ) → IsAisIn k (with_ais r s)) → IsAisIn (suc k) r
+counted_then : (k : ℕ) (m : Mode) (r : Reading) → r.mode ≡ m → m ≢ mode.Ais → r.ais < 2 → ((s : ℕ) → IsAisIn k (with_ais r s))
+    → IsAisIn (suc k) r
 counted_then k m r is other less next = let p = ais_counted m r is other less in ap (after_rounds k 65535) p.1 ∙ next p.0
 
 out_of_ais : (m : Mode) (r : Reading) → r.mode ≡ m → m ≢ mode.Ais → IsAisIn 3 r
@@ -289,8 +325,10 @@ out_of_ais m r is other =
     elim (cases_lt r.ais 2) [
       | inr two ↦ ais_longer 1 3 r (omega arith) (ais_third m r is other two)
       | inl less ↦ elim (cases_lt r.ais 1) [
-        | inr one ↦ ais_longer 2 3 r (omega arith) (counted_then 1 m r is other less (λ s. ais_third m (with_ais r s) is other (omega arith)))
-        | inl none ↦ counted_then 2 m r is other less (λ s. counted_then 1 m (with_ais r s) is other (omega arith) (λ t. ais_third m (with_ais (with_ais r s) t) is other (omega arith)))
+        | inr one ↦ ais_longer 2 3 r (omega arith) (counted_then 1 m r is other less
+            (λ s. ais_third m (with_ais r s) is other (omega arith)))
+        | inl none ↦ counted_then 2 m r is other less (λ s. counted_then 1 m (with_ais r s) is other (omega arith)
+            (λ t. ais_third m (with_ais (with_ais r s) t) is other (omega arith)))
       ]
     ]
 

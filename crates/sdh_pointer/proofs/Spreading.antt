@@ -1,5 +1,6 @@
 -- A source followed from span to span.
-use Rattle.std.proofs.Common.{◌≡◌, ◌≢◌, ℕ, zero, suc, ◌+◌, ◌-◌, ◌<◌, ◌≤◌, Bool, true, false, Option, Some, None, refl, ap, ap₂, sym, ◌∙◌, arith, inl, inr}
+use Rattle.std.proofs.Common.{◌≡◌, ◌≢◌, ℕ, zero, suc, ◌+◌, ◌-◌, ◌<◌, ◌≤◌, Bool, true, false, Option, Some, None, refl, ap, ap₂, sym, ◌∙◌}
+use Rattle.std.proofs.Common.{arith, inl, inr}
 use Rattle.std.specs.Prelude.{◌&&◌, nat_le, min, if◌then◌else◌}
 use Rattle.std.proofs.lemmas.Bool.{cases_lt, cases_eq, le-leb, lt-ltb, le-ltb, eq-eqb, ne_eqb}
 use Rattle.sdh_pointer.specs.declared.reading.Reading.{Reading}
@@ -73,12 +74,14 @@ reading_after v h t late = let e = lt-ltb h t late in rw e refl
 module _ (v h t u : ℕ) (value : h ≤ t → u ≡ v) where
   next_is : next_sending (sending_over (Some v) h t) (action_over (Some v) h t) u ≡ sending_over (Some v) h (t + 1)
   next_is = elim (cases_lt t h) [
-    | inl early ↦ ap (λ a. next_sending (sending_over (Some v) h t) a u) (action_before v h t early) ∙ (ais_sent (sending_over (Some v) h t) u).next ∙ sym (sending_before v h (t + 1) (omega arith))
+    | inl early ↦ ap (λ a. next_sending (sending_over (Some v) h t) a u) (action_before v h t early)
+        ∙ (ais_sent (sending_over (Some v) h t) u).next ∙ sym (sending_before v h (t + 1) (omega arith))
     | inr there ↦ elim (cases_eq t h) [
       | inl now ↦ ap (λ s. next_sending s (action_over (Some v) h t) u) (sending_before v h t (omega arith))
           ∙ (first_sent (action_over (Some v) h t) u (λ e. action_there v h (ap (action_over (Some v) h) (sym now) ∙ e))).next
           ∙ ap Some (value there) ∙ sym (sending_after v h (t + 1) (omega arith))
-      | inr other ↦ ap₂ (λ s a. next_sending s a u) (sending_after v h t (omega arith)) (action_after v h t (omega arith)) ∙ (normal_sent v u (value there)).next
+      | inr other ↦ ap₂ (λ s a. next_sending s a u) (sending_after v h t (omega arith)) (action_after v h t (omega arith))
+          ∙ (normal_sent v u (value there)).next
           ∙ ap Some (value there) ∙ sym (sending_after v h (t + 1) (omega arith))
     ]
   ]
@@ -86,12 +89,14 @@ module _ (v h t u : ℕ) (value : h ≤ t → u ≡ v) where
   word_is : word_sent (sending_over (Some v) h t) (action_over (Some v) h t) u ≡ word_over (Some v) h t
   unfolding word_of
   word_is = elim (cases_lt t h) [
-    | inl early ↦ ap (λ a. word_sent (sending_over (Some v) h t) a u) (action_before v h t early) ∙ (ais_sent (sending_over (Some v) h t) u).word ∙ sym (word_before v h t early)
+    | inl early ↦ ap (λ a. word_sent (sending_over (Some v) h t) a u) (action_before v h t early)
+        ∙ (ais_sent (sending_over (Some v) h t) u).word ∙ sym (word_before v h t early)
     | inr there ↦ elim (cases_eq t h) [
       | inl now ↦ ap (λ s. word_sent s (action_over (Some v) h t) u) (sending_before v h t (omega arith))
           ∙ (first_sent (action_over (Some v) h t) u (λ e. action_there v h (ap (action_over (Some v) h) (sym now) ∙ e))).word
           ∙ ap (word_of form.Enabled) (value there) ∙ sym (word_first v h t now)
-      | inr other ↦ ap₂ (λ s a. word_sent s a u) (sending_after v h t (omega arith)) (action_after v h t (omega arith)) ∙ (normal_sent v u (value there)).word
+      | inr other ↦ ap₂ (λ s a. word_sent s a u) (sending_after v h t (omega arith)) (action_after v h t (omega arith))
+          ∙ (normal_sent v u (value there)).word
           ∙ sym (word_after v h t (omega arith))
     ]
   ]
@@ -107,11 +112,13 @@ start_answer = action_by_event start 65535 mode.Ais event.Ais refl (of_ones star
 module _ (v : ℕ) (small : v ≤ 782) where
   enters : after_word start (word_of form.Enabled v) ≡ settled mode.Norm v 0
   enters =
-      enabled_word_settles start (word_of form.Enabled v) 1 (enabled_word v small) (let e = enabled_value v small in omega arith) (omega arith)
+      enabled_word_settles start (word_of form.Enabled v) 1 (enabled_word v small) (let e = enabled_value v small in omega arith)
+      (omega arith)
       ∙ ap (λ u. settled mode.Norm u 0) (enabled_value v small)
 
   enters_new : action_on start (word_of form.Enabled v) ≡ action.New
-  enters_new = action_by_event start (word_of form.Enabled v) mode.Ais (event.Ndf v) refl (of_enabled start v small) ∙ ais_ndf_action start v
+  enters_new =
+      action_by_event start (word_of form.Enabled v) mode.Ais (event.Ndf v) refl (of_enabled start v small) ∙ ais_ndf_action start v
 
   counts : (s : ℕ) → after_word (settled mode.Norm v s) (word_of form.Normal v) ≡ settled mode.Norm v (later s)
   counts s = same (word_of form.Normal v) v (normal_word v small) (normal_value v small) (settled mode.Norm v s) refl refl
@@ -128,30 +135,47 @@ module _ (v : ℕ) (small : v ≤ 782) where
 
     reading_is : after_word (reading_over (Some v) far now) (word_over (Some v) h t) ≡ reading_over (Some v) far (t + 2)
     reading_is = elim (cases_lt t h) [
-      | inl early ↦ ap₂ after_word (reading_before v far now (omega arith)) (word_before v h t early) ∙ start_ais ∙ sym (reading_before v far (t + 2) (omega arith))
+      | inl early ↦ ap₂ after_word (reading_before v far now (omega arith)) (word_before v h t early) ∙ start_ais
+          ∙ sym (reading_before v far (t + 2) (omega arith))
       | inr there ↦ elim (cases_eq t h) [
         | inl is ↦ ap₂ after_word (reading_before v far now (omega arith)) (word_first v h t is) ∙ enters
-            ∙ ap (settled mode.Norm v) {x = 0} {y = min 3 (t + 2 - (far + 1))} (omega arith) ∙ sym (reading_after v far (t + 2) (omega arith))
-        | inr other ↦ ap₂ after_word (reading_after v far now (omega arith)) (word_after v h t (omega arith)) ∙ counts (min 3 (now - (far + 1)))
-            ∙ ap (settled mode.Norm v) {x = later (min 3 (now - (far + 1)))} {y = min 3 (t + 2 - (far + 1))} (omega arith) ∙ sym (reading_after v far (t + 2) (omega arith))
+            ∙ ap (settled mode.Norm v) {x = 0} {y = min 3 (t + 2 - (far + 1))} (omega arith)
+            ∙ sym (reading_after v far (t + 2) (omega arith))
+        | inr other ↦ ap₂ after_word (reading_after v far now (omega arith)) (word_after v h t (omega arith))
+            ∙ counts (min 3 (now - (far + 1)))
+            ∙ ap (settled mode.Norm v) {x = later (min 3 (now - (far + 1)))} {y = min 3 (t + 2 - (far + 1))} (omega arith)
+            ∙ sym (reading_after v far (t + 2) (omega arith))
       ]
     ]
 
     action_is : action_on (reading_over (Some v) far now) (word_over (Some v) h t) ≡ action_over (Some v) far now
     action_is = elim (cases_lt t h) [
-      | inl early ↦ ap₂ action_on (reading_before v far now (omega arith)) (word_before v h t early) ∙ start_answer ∙ sym (action_before v far now (omega arith))
+      | inl early ↦ ap₂ action_on (reading_before v far now (omega arith)) (word_before v h t early) ∙ start_answer
+          ∙ sym (action_before v far now (omega arith))
       | inr there ↦ elim (cases_eq t h) [
         | inl is ↦ ap₂ action_on (reading_before v far now (omega arith)) (word_first v h t is) ∙ enters_new
-            ∙ sym (action_first v h) ∙ ap₂ (action_over (Some v)) (let e : suc h ≡ far = omega arith in e) (let e : suc h ≡ now = omega arith in e)
-        | inr other ↦ ap₂ action_on (reading_after v far now (omega arith)) (word_after v h t (omega arith)) ∙ counts_normal (min 3 (now - (far + 1)))
+            ∙ sym (action_first v h) ∙ ap₂ (action_over (Some v)) (let e : suc h ≡ far = omega arith in e)
+            (let e : suc h ≡ now = omega arith in e)
+        | inr other ↦ ap₂ action_on (reading_after v far now (omega arith)) (word_after v h t (omega arith))
+            ∙ counts_normal (min 3 (now - (far + 1)))
             ∙ sym (action_after v far now (omega arith))
       ]
     ]
 
 pub values_spread : ValuesSpread
 unfolding word_of
-values_spread None h t small = record { sending = λ u is. (ais_sent None u).next; word = λ u is. (ais_sent None u).word; reading = start_ais; action = start_answer }
-values_spread (Some v) h t small = record { sending = λ u is. next_is v h t u is; word = λ u is. word_is v h t u is; reading = reading_is v small h t; action = action_is v small h t }
+values_spread None h t small = record {
+  sending = λ u is. (ais_sent None u).next;
+  word = λ u is. (ais_sent None u).word;
+  reading = start_ais;
+  action = start_answer;
+}
+values_spread (Some v) h t small = record {
+  sending = λ u is. next_is v h t u is;
+  word = λ u is. word_is v h t u is;
+  reading = reading_is v small h t;
+  action = action_is v small h t;
+}
 
 -- ---- what is told before the first round and in the end
 
@@ -174,7 +198,8 @@ reading_value v h t late = ap (λ (r : Reading). r.value) (reading_after v h t l
 pub reading_stays : (o : Option ℕ) (h t : ℕ) → h + 4 ≤ t → reading_over o h (t + 1) ≡ reading_over o h t
 reading_stays None h t late = refl
 reading_stays (Some v) h t late =
-    reading_after v h (t + 1) (omega arith) ∙ ap (settled mode.Norm v) {x = min 3 (t + 1 - (h + 1))} {y = min 3 (t - (h + 1))} (omega arith) ∙ sym (reading_after v h t (omega arith))
+    reading_after v h (t + 1) (omega arith) ∙ ap (settled mode.Norm v) {x = min 3 (t + 1 - (h + 1))} {y = min 3 (t - (h + 1))} (omega arith)
+    ∙ sym (reading_after v h t (omega arith))
 
 pub sending_stays : (o : Option ℕ) (h t : ℕ) → h < t → sending_over o h (t + 1) ≡ sending_over o h t
 sending_stays None h t late = refl

@@ -11,7 +11,8 @@ use Rattle.sdh_pointer.specs.declared.word.Form.{Form}
 use Rattle.sdh_pointer.specs.declared.word.Form.TheVariants as form
 use Rattle.sdh_pointer.specs.Words.{is_normal, is_enabled, value_in, word_of, one_up, one_down}
 use Rattle.sdh_pointer.specs.Reading as reading
-use Rattle.sdh_pointer.specs.Reading.{Interpreter, IsBounded, start, is_norm, event_of, after_word, action_on, after_step, settled, later, is_row_of, reading_table, after_row, action_row}
+use Rattle.sdh_pointer.specs.Reading.{Interpreter, IsBounded, start, is_norm, event_of, after_word, action_on, after_step, settled, later}
+use Rattle.sdh_pointer.specs.Reading.{is_row_of, reading_table, after_row, action_row}
 use Rattle.sdh_pointer.specs.Sending as sending
 use Rattle.sdh_pointer.specs.Sending.{Generator, sending_table, after_action, word_sent, next_sending}
 use Rattle.sdh_pointer.specs.Repeated.{after_rounds, after_inputs}

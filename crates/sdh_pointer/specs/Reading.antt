@@ -219,7 +219,8 @@ row_of m e = find (is_row_of m e) reading_table
 
 -- what is kept after an event by a row, and the action
 abbrev pub after_row : Row → Reading → Event → Reading
-after_row row r e = if nat_le row.needed (in_a_row r e) then settled row.next (row.value r e) (row.since r) else counted r e (since_in row.mode r.since)
+after_row row r e =
+    if nat_le row.needed (in_a_row r e) then settled row.next (row.value r e) (row.since r) else counted r e (since_in row.mode r.since)
 
 abbrev pub action_row : Row → Reading → Event → Action
 action_row row r e = if nat_le row.needed (in_a_row r e) then row.action else action_while row.mode
@@ -248,7 +249,9 @@ action_on r w = action_of r (event_of r w)
 
 -- whether the mode, the value, the counts, the candidate and `since` are the same
 unfoldable pub same_reading : Reading → Reading → Bool
-same_reading a b = same_mode a.mode b.mode && (a.value == b.value) && (a.ais == b.ais) && (a.bad == b.bad) && (a.candidate == b.candidate) && (a.news == b.news) && (a.since == b.since)
+same_reading a b =
+    same_mode a.mode b.mode && (a.value == b.value) && (a.ais == b.ais) && (a.bad == b.bad) && (a.candidate == b.candidate)
+    && (a.news == b.news) && (a.since == b.since)
 
 -- an interpreter: what it keeps, and whether the last step changed it
 pub record Interpreter : Type 0 where

@@ -97,4 +97,8 @@ pub record Generator : Type 0 where
   pub moved : Bool
 
 unfoldable pub after_action : Generator → Action → ℕ → Generator
-after_action g a v = record { sending = next_sending g.sending a v; word = word_sent g.sending a v; moved = not (same_sending (next_sending g.sending a v) g.sending) }
+after_action g a v = record {
+  sending = next_sending g.sending a v;
+  word = word_sent g.sending a v;
+  moved = not (same_sending (next_sending g.sending a v) g.sending);
+}

@@ -9,14 +9,25 @@ use Rattle.sdh_report.specs.Written.{Written}
 
 -- texts with the same bytes and room are the same
 pub same_text : (w : Written) (bytes : List ℕ) (room : ℕ) → w.bytes ≡ bytes → w.room ≡ room → w ≡ record { bytes = bytes; room = room }
-same_text w bytes room e f = ap (λ (l : List ℕ). let x : Written = record { bytes = l; room = w.room } in x) e ∙ ap (λ (k : ℕ). let x : Written = record { bytes = bytes; room = k } in x) f
+same_text w bytes room e f =
+    ap (λ (l : List ℕ). let x : Written = record { bytes = l; room = w.room } in x) e
+    ∙ ap (λ (k : ℕ). let x : Written = record { bytes = bytes; room = k } in x) f
 
 pub length-chunk_line : (name : List ℕ) (end : End) (value : ℕ) (chunk : List ℕ)
-    → length (chunk_line name end value chunk) ≡ length (port_named name end) + 6 + length (decimal value) + 1 + 2 * length (take 16 chunk) + 1
+    → length (chunk_line name end value chunk) ≡ length (port_named name end) + 6 + length (decimal value) + 1 + 2 * length
+    (take 16 chunk) + 1
 length-chunk_line name end value chunk =
     let p = port_named name end in
     let v = decimal value in
     let h = hex_of (take 16 chunk) in
     let norm = codes " norm " in
     let space = codes " " in
-    omega (arith, length-append (p ++ norm ++ v ++ space ++ h) (codes "\n"), length-append (p ++ norm ++ v ++ space) h, length-append (p ++ norm ++ v) space, length-append (p ++ norm) v, length-append p norm, length-hex_of (take 16 chunk))
+    omega (
+      arith,
+      length-append (p ++ norm ++ v ++ space ++ h) (codes "\n"),
+      length-append (p ++ norm ++ v ++ space) h,
+      length-append (p ++ norm ++ v) space,
+      length-append (p ++ norm) v,
+      length-append p norm,
+      length-hex_of (take 16 chunk),
+    )

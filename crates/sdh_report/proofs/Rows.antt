@@ -1,5 +1,6 @@
 -- Rows of a chunk, and their lines.
-use Rattle.std.proofs.Common.{◌≡◌, ℕ, zero, suc, ◌+◌, ◌-◌, ◌*◌, ◌<◌, ◌≤◌, ◌==◌, false, min, List, [], ◌∷◌, ◌++◌, length, take, codes, ap, sym, ◌∙◌, arith, append-nil, inl, inr}
+use Rattle.std.proofs.Common.{◌≡◌, ℕ, zero, suc, ◌+◌, ◌-◌, ◌*◌, ◌<◌, ◌≤◌, ◌==◌, false, min, List, [], ◌∷◌, ◌++◌, length, take, codes, ap}
+use Rattle.std.proofs.Common.{sym, ◌∙◌, arith, append-nil, inl, inr}
 use Rattle.std.specs.List.{flat_map}
 use Rattle.std.proofs.lemmas.Bool.{cases_lt}
 use Rattle.std.proofs.lemmas.List.{take_all, length-append}
@@ -41,8 +42,10 @@ rows_below chunk i (suc k) =
     omega (arith, rows_below chunk i k, more, ap (λ j. length (chunk_rows chunk j)) e)
 
 -- each of the nine rows and those before it are no longer than all
-pub rows_room : (chunk : List ℕ) (i : ℕ) → i < 9 → length (chunk_rows chunk i) + length (row_line (row chunk i)) ≤ length (chunk_rows chunk 9)
+pub rows_room : (chunk : List ℕ) (i : ℕ) → i < 9 → length (chunk_rows chunk i) + length (row_line (row chunk i))
+    ≤ length (chunk_rows chunk 9)
 rows_room chunk i h =
-    let more : length (chunk_rows chunk (i + 1)) ≡ length (chunk_rows chunk i) + length (row_line (row chunk i)) = ap (λ (l : List ℕ). length l) (rows_more chunk i) ∙ length-append (chunk_rows chunk i) (row_line (row chunk i)) in
+    let more : length (chunk_rows chunk (i + 1)) ≡ length (chunk_rows chunk i) + length (row_line (row chunk i)) =
+    ap (λ (l : List ℕ). length l) (rows_more chunk i) ∙ length-append (chunk_rows chunk i) (row_line (row chunk i)) in
     let e : i + 1 + (8 - i) ≡ 9 = omega arith in
     omega (arith, more, rows_below chunk (i + 1) (8 - i), ap (λ j. length (chunk_rows chunk j)) e)

@@ -17,7 +17,8 @@ use Rattle.sdh_report.specs.declared.node_line.NodeLine.{NodeLine}
 use Rattle.sdh_report.specs.declared.text.TheConstants.{LINE_MAX, CHUNK_MAX}
 use Rattle.sdh_report.specs.declared.status.Status.{Status}
 use Rattle.sdh_report.specs.declared.status.Status.TheVariants as status
-use Rattle.sdh_report.specs.Lines.{step_ended, settle_line, state_text, word_text, node_line, end_letter, port_named, port_line, row, row_line, chunk_rows, drop_lines, side_text, table_place, table_ends, table_line, count_line}
+use Rattle.sdh_report.specs.Lines.{step_ended, settle_line, state_text, word_text, node_line, end_letter, port_named, port_line, row}
+use Rattle.sdh_report.specs.Lines.{row_line, chunk_rows, drop_lines, side_text, table_place, table_ends, table_line, count_line}
 use Rattle.sdh_report.specs.Statuses.{last_line}
 use Rattle.sdh_report.proofs.Parts.{length-chunk_line}
 use Rattle.sdh_report.proofs.Rows.{rows_more, rows_none}
@@ -39,10 +40,18 @@ short-step_ended : (number round : ℕ) → number < 2 ^ 32 → round < 2 ^ 64 �
 short-step_ended number round hn hr =
     let a = codes "settle " in
     let b = codes " round " in
-    omega (arith, length-append (a ++ decimal number ++ b) (decimal round), length-append (a ++ decimal number) b, length-append a (decimal number), digits_32 number hn, digits_64 round hr)
+    omega (
+      arith,
+      length-append (a ++ decimal number ++ b) (decimal round),
+      length-append (a ++ decimal number) b,
+      length-append a (decimal number),
+      digits_32 number hn,
+      digits_64 round hr,
+    )
 
 pub short-settle_line : (number round : ℕ) → number < 2 ^ 32 → round < 2 ^ 64 → length (settle_line number round) ≤ LINE_MAX
-short-settle_line number round hn hr = omega (arith, length-append (step_ended number round) (codes "\n"), short-step_ended number round hn hr)
+short-settle_line number round hn hr =
+    omega (arith, length-append (step_ended number round) (codes "\n"), short-step_ended number round hn hr)
 
 short-state_text : (s : StateWord) → length (state_text s) ≤ 11
 short-state_text word.Idle = omega arith
@@ -81,9 +90,16 @@ length-end_letter B = omega arith
 length-port_named : (name : List ℕ) (end : End) → length (port_named name end) ≡ 7 + length name
 length-port_named name end =
     let a = codes "port " in
-    omega (arith, length-append (a ++ name ++ codes " ") (end_letter end), length-append (a ++ name) (codes " "), length-append a name, length-end_letter end)
+    omega (
+      arith,
+      length-append (a ++ name ++ codes " ") (end_letter end),
+      length-append (a ++ name) (codes " "),
+      length-append a name,
+      length-end_letter end,
+    )
 
-pub short-port_line : (name : List ℕ) (end : End) (delivered : Delivered) (value : ℕ) → length name ≤ 16 → value < 2 ^ 16 → length (port_line name end delivered value) ≤ LINE_MAX
+pub short-port_line : (name : List ℕ) (end : End) (delivered : Delivered) (value : ℕ) → length name ≤ 16 → value < 2 ^ 16
+    → length (port_line name end delivered value) ≤ LINE_MAX
 short-port_line name end Ais value hn hv = omega (arith, length-append (port_named name end) (codes " ais\n"), length-port_named name end)
 short-port_line name end (Chunk chunk) value hn hv =
     omega (arith, length-chunk_line name end value chunk, length-port_named name end, length-take 16 chunk, digits_16 value hv)
@@ -95,7 +111,8 @@ short-row_line (b ∷ bytes) h = omega (arith, length-append (hex_of (b ∷ byte
 short-rows : (chunk : List ℕ) (n : ℕ) → length (chunk_rows chunk n) ≤ 523 * n
 short-rows chunk zero = omega (arith, ap (λ (l : List ℕ). length l) (rows_none chunk))
 short-rows chunk (suc n) =
-    let more : length (chunk_rows chunk (n + 1)) ≡ length (chunk_rows chunk n) + length (row_line (row chunk n)) = ap (λ (l : List ℕ). length l) (rows_more chunk n) ∙ length-append (chunk_rows chunk n) (row_line (row chunk n)) in
+    let more : length (chunk_rows chunk (n + 1)) ≡ length (chunk_rows chunk n) + length (row_line (row chunk n)) =
+    ap (λ (l : List ℕ). length l) (rows_more chunk n) ∙ length-append (chunk_rows chunk n) (row_line (row chunk n)) in
     let e : suc n ≡ n + 1 = omega arith in
     let few : length (row chunk n) ≤ 261 = omega (arith, length-take 261 (drop (261 * n) chunk)) in
     omega (arith, short-rows chunk n, more, short-row_line (row chunk n) few, ap (λ j. length (chunk_rows chunk j)) e)
@@ -108,7 +125,8 @@ short-side_text : (d : Side) → length (side_text d) ≤ 4
 short-side_text West = omega arith
 short-side_text East = omega arith
 
-pub short-table_line : (id : ℕ) (d : Side) (slot : Slot) (name : List ℕ) (from to : ℕ) → id < 2 ^ 8 → slot.0 < 2 ^ 8 → length name ≤ 16 → from < 2 ^ 8 → to < 2 ^ 8 → length (table_line id d slot name from to) ≤ LINE_MAX
+pub short-table_line : (id : ℕ) (d : Side) (slot : Slot) (name : List ℕ) (from to : ℕ) → id < 2 ^ 8 → slot.0 < 2 ^ 8 → length name ≤ 16
+    → from < 2 ^ 8 → to < 2 ^ 8 → length (table_line id d slot name from to) ≤ LINE_MAX
 short-table_line id d slot name from to hid hslot hname hfrom hto =
     let a = codes "node " ++ decimal id in
     let b = a ++ codes " " in
@@ -139,14 +157,26 @@ short-table_line id d slot name from to hid hslot hname hfrom hto =
       digits_8 to hto,
     )
 
-pub short-count_line : (number round norm ais : ℕ) → number < 2 ^ 32 → round < 2 ^ 64 → norm < 2 ^ 32 → ais < 2 ^ 32 → length (count_line number round norm ais) ≤ LINE_MAX
+pub short-count_line : (number round norm ais : ℕ) → number < 2 ^ 32 → round < 2 ^ 64 → norm < 2 ^ 32 → ais < 2 ^ 32
+    → length (count_line number round norm ais) ≤ LINE_MAX
 short-count_line number round norm ais hn hr hc ha =
     let a = step_ended number round in
     let b = a ++ codes " norm " in
     let c = b ++ decimal norm in
     let d = c ++ codes " ais " in
     let e = d ++ decimal ais in
-    omega (arith, length-append e (codes "\n"), length-append d (decimal ais), length-append c (codes " ais "), length-append b (decimal norm), length-append a (codes " norm "), short-step_ended number round hn hr, digits_32 norm hc, digits_32 ais ha)
+    omega (
+      arith,
+      length-append e (codes "\n"),
+      length-append d (decimal ais),
+      length-append c (codes " ais "),
+      length-append b (decimal norm),
+      length-append a
+          (codes " norm "),
+      short-step_ended number round hn hr,
+      digits_32 norm hc,
+      digits_32 ais ha,
+    )
 
 -- the numbers of a status, as they are held
 abbrev pub HasRoom : Status → Type 0
@@ -164,7 +194,15 @@ short-last_line (status.BadPlan reason place) h =
     let a = codes "bad plan " ++ decimal reason in
     let b = a ++ codes " at " in
     let c = b ++ decimal place in
-    omega (arith, length-append c (codes "\n"), length-append b (decimal place), length-append a (codes " at "), length-append (codes "bad plan ") (decimal reason), digits_8 reason h.0, digits_32 place h.1)
+    omega (
+      arith,
+      length-append c (codes "\n"),
+      length-append b (decimal place),
+      length-append a (codes " at "),
+      length-append (codes "bad plan ") (decimal reason),
+      digits_8 reason h.0,
+      digits_32 place h.1,
+    )
 short-last_line (status.Unsettled k) h =
     let a = codes "unsettled " ++ decimal k in
     omega (arith, length-append a (codes "\n"), length-append (codes "unsettled ") (decimal k), digits_32 k h)

@@ -43,7 +43,9 @@ word_text w = hex_of (w.first ∷ []) ++ codes " " ++ hex_of (w.second ∷ [])
 
 -- its identifier, its state, and the words that it sent last
 abbrev pub node_line : NodeLine → List ℕ
-node_line l = codes "node " ++ decimal l.id ++ codes " " ++ state_text l.state ++ codes " west " ++ word_text l.west ++ codes " east " ++ word_text l.east ++ codes "\n"
+node_line l =
+    codes "node " ++ decimal l.id ++ codes " " ++ state_text l.state ++ codes " west " ++ word_text l.west ++ codes " east "
+    ++ word_text l.east ++ codes "\n"
 
 -- ---- a port
 
@@ -58,7 +60,8 @@ port_named name end = codes "port " ++ name ++ codes " " ++ end_letter end
 
 -- the port delivers a chunk that came with this pointer value: its first 16 bytes in hexadecimal
 abbrev pub chunk_line : List ℕ → End → ℕ → List ℕ → List ℕ
-chunk_line name end value chunk = port_named name end ++ codes " norm " ++ decimal value ++ codes " " ++ hex_of (take 16 chunk) ++ codes "\n"
+chunk_line name end value chunk =
+    port_named name end ++ codes " norm " ++ decimal value ++ codes " " ++ hex_of (take 16 chunk) ++ codes "\n"
 
 -- the port delivers AIS
 abbrev pub ais_line : List ℕ → End → List ℕ

@@ -9,9 +9,11 @@ after-kept_of wait (commanded c) history = refl
 after-kept_of wait (reached t) history = refl
 
 -- what is kept goes on with the history
-pub after_history : (k : LocalKept) (x : Happening) (wait : ℕ) (history : List Happening) → k ≡ kept_of wait history → after x k ≡ kept_of wait (x ∷ history)
+pub after_history : (k : LocalKept) (x : Happening) (wait : ℕ) (history : List Happening) → k ≡ kept_of wait history
+    → after x k ≡ kept_of wait (x ∷ history)
 after_history k x wait history h = rw h (after-kept_of wait x history)
 
 -- the request by what is kept is that of the history
-pub request_after : (k : LocalKept) (wait : ℕ) (history : List Happening) → k ≡ kept_of wait history → kept_request k ≡ request_of wait history
+pub request_after : (k : LocalKept) (wait : ℕ) (history : List Happening) → k ≡ kept_of wait history
+    → kept_request k ≡ request_of wait history
 request_after k wait history h = rw h refl

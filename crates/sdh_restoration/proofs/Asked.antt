@@ -24,7 +24,8 @@ high_applies rs s h high =
     rw (top, here) refl
 
 module _ (n : ℕ) (local : ℕ → Side → Code) where
-  pub span_request : (s : ℕ) → s < n → get_or (span_requests n local) s 0 ≡ max (code_number (local s East)) (code_number (local (neighbour n s East) West))
+  pub span_request : (s : ℕ) → s < n → get_or (span_requests n local) s 0
+      ≡ max (code_number (local s East)) (code_number (local (neighbour n s East) West))
   unfolding span_requests
   span_request s h = get_or-cells _ n s 0 h
 
@@ -32,8 +33,10 @@ module _ (n : ℕ) (local : ℕ → Side → Code) where
   unfolding span_requests
   length-requests = length-cells _ n
 
-  pub asked_is_applied : (p : ℕ) (d : Side) → p < n → 11 ≤ code_number (local p d) → is_applied (span_requests n local) (span_at n p d) ≡ true
-  asked_is_applied p East h high = high_applies (span_requests n local) p (omega (arith, length-requests)) (let r = span_request p h in omega arith)
+  pub asked_is_applied : (p : ℕ) (d : Side) → p < n → 11 ≤ code_number (local p d)
+      → is_applied (span_requests n local) (span_at n p d) ≡ true
+  asked_is_applied p East h high =
+      high_applies (span_requests n local) p (omega (arith, length-requests)) (let r = span_request p h in omega arith)
   asked_is_applied p West h high =
       let s = neighbour n p West in
       let below : s < n = neighbour_below n p West (omega arith) in

@@ -3,18 +3,21 @@ use Rattle.std.proofs.Common.{◌≡◌, ℕ, zero, suc, ◌+◌, ◌-◌, ◌<�
 use Rattle.std.specs.Prelude.{if◌then◌else◌}
 use Rattle.sdh_restoration.specs.History.{SideHistory, ends_at, last_end}
 
-step : (threshold : ℕ) (h : SideHistory) (u : ℕ) (b : Bool) → ends_at threshold h (suc u) ≡ b → last_end threshold h (suc u) ≡ (if b then Some (suc u) else last_end threshold h u)
+step : (threshold : ℕ) (h : SideHistory) (u : ℕ) (b : Bool) → ends_at threshold h (suc u) ≡ b
+    → last_end threshold h (suc u) ≡ (if b then Some (suc u) else last_end threshold h u)
 unfolding last_end
 step threshold h u b e = ap (λ x. if x then Some (suc u) else last_end threshold h u) e
 
 -- a round before which no round ends: round u, where one round less is u - 1
-pub last_end-here : (threshold : ℕ) (h : SideHistory) (u : ℕ) → 0 < u → ends_at threshold h (u - 1 + 1) ≡ true → last_end threshold h u ≡ Some (u - 1 + 1)
+pub last_end-here : (threshold : ℕ) (h : SideHistory) (u : ℕ) → 0 < u → ends_at threshold h (u - 1 + 1) ≡ true
+    → last_end threshold h u ≡ Some (u - 1 + 1)
 last_end-here threshold h zero some e = absurd (omega arith)
 last_end-here threshold h (suc u) some e =
     let same : suc u - 1 + 1 ≡ suc u = omega arith in
     step threshold h u true (ap (ends_at threshold h) (sym same) ∙ e) ∙ ap Some (sym same)
 
-pub last_end-before : (threshold : ℕ) (h : SideHistory) (u : ℕ) → 0 < u → ends_at threshold h (u - 1 + 1) ≡ false → last_end threshold h u ≡ last_end threshold h (u - 1)
+pub last_end-before : (threshold : ℕ) (h : SideHistory) (u : ℕ) → 0 < u → ends_at threshold h (u - 1 + 1) ≡ false
+    → last_end threshold h u ≡ last_end threshold h (u - 1)
 last_end-before threshold h zero some e = absurd (omega arith)
 last_end-before threshold h (suc u) some e =
     let same : suc u - 1 + 1 ≡ suc u = omega arith in

@@ -25,7 +25,8 @@ shows_degraded threshold h t = nat_le 2 t && (not (h.is_cut (t - 1)) && nat_le t
 -- in round 0 there is none
 unfoldable pub defect_at : ℕ → SideHistory → ℕ → Defect
 defect_at threshold h zero = defect.None
-defect_at threshold h (suc t) = if h.is_cut (suc t) then defect.Sf else if shows_degraded threshold h (suc t) then defect.Sd else defect.None
+defect_at threshold h (suc t) =
+    if h.is_cut (suc t) then defect.Sf else if shows_degraded threshold h (suc t) then defect.Sd else defect.None
 
 -- in round t a defect of the round before is there no longer
 unfoldable pub ends_at : ℕ → SideHistory → ℕ → Bool

@@ -60,7 +60,8 @@ eastwards_some n from to hf ht ne = elim (cases_lt to from) [
 ]
 
 -- either way of going round
-eastwards_cases : (n from to : ℕ) → from < n → to < n → ((from ≤ to) × (eastwards n from to ≡ to - from)) ⊎ ((to < from) × (eastwards n from to ≡ to + (n - from)))
+eastwards_cases : (n from to : ℕ) → from < n → to < n → ((from ≤ to) × (eastwards n from to ≡ to - from))
+    ⊎ ((to < from) × (eastwards n from to ≡ to + (n - from)))
 eastwards_cases n from to hf ht = elim (cases_lt to from) [
   | inl lt ↦ inr (lt, eastwards_round n from to lt hf)
   | inr le ↦ inl (le, eastwards_on n from to le ht)
@@ -83,7 +84,8 @@ eastwards-place n start i hs hi = elim (cases_lt (start + i) n) [
 ]
 
 -- of two positions the one from which fewer spans lead to a third is on the way from the other
-pub on_the_way : (n a b s : ℕ) → a < n → b < n → s < n → eastwards n b s ≤ eastwards n a s → eastwards n a b + eastwards n b s ≡ eastwards n a s
+pub on_the_way : (n a b s : ℕ) → a < n → b < n → s < n → eastwards n b s ≤ eastwards n a s
+    → eastwards n a b + eastwards n b s ≡ eastwards n a s
 on_the_way n a b s ha hb hs le =
     elim (eastwards_cases n a b ha hb) [
       | inl p ↦ elim (eastwards_cases n b s hb hs) [
@@ -111,10 +113,12 @@ held_near n s arc h = grind arith
 
 -- an arc between two positions holds the span where it starts
 pub holds_start : (n from to : ℕ) → from < n → to < n → from ≢ to → holds_span n (arc_between n from to) from ≡ true
-holds_start n from to hf ht ne = holds n from (arc_between n from to) hf (omega (arith, eastwards_self n from hf, eastwards_some n from to hf ht ne))
+holds_start n from to hf ht ne =
+    holds n from (arc_between n from to) hf (omega (arith, eastwards_self n from hf, eastwards_some n from to hf ht ne))
 
 -- where two arcs hold one span, one of them holds the span where the other starts
-pub one_holds_start : (n a b c d s : ℕ) → a < n → c < n → holds_span n (arc_between n a b) s ≡ true → holds_span n (arc_between n c d) s ≡ true
+pub one_holds_start : (n a b c d s : ℕ) → a < n → c < n → holds_span n (arc_between n a b) s ≡ true
+    → holds_span n (arc_between n c d) s ≡ true
     → (holds_span n (arc_between n a b) c ≡ true) ⊎ (holds_span n (arc_between n c d) a ≡ true)
 one_holds_start n a b c d s ha hc h k =
     let hs = held_inside n s (arc_between n a b) h in

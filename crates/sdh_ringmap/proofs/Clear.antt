@@ -1,5 +1,6 @@
 -- An arc that holds none of some spans, by the spans and by the arc's places.
-use Rattle.std.proofs.Common.{◌≡◌, ℕ, zero, suc, ◌+◌, ◌-◌, ◌%◌, ◌<◌, ◌≤◌, Bool, true, false, List, [], ◌∷◌, inl, inr, refl, ap, ◌∙◌, sym, arith, eq-eqb}
+use Rattle.std.proofs.Common.{◌≡◌, ℕ, zero, suc, ◌+◌, ◌-◌, ◌%◌, ◌<◌, ◌≤◌, Bool, true, false, List, [], ◌∷◌, inl, inr, refl, ap, ◌∙◌, sym}
+use Rattle.std.proofs.Common.{arith, eq-eqb}
 use Rattle.std.specs.Prelude.{not, ◌&&◌, ◌||◌, ◌==◌}
 use Rattle.std.specs.List.{list_any}
 use Rattle.std.proofs.Math.Nat.{mod-add-mod, mod-lt}
@@ -38,7 +39,8 @@ none_of-same p q i j (suc k) same =
     ap (λ b. not b && none_of p (suc i) k) here ∙ ap (λ b. not (q j) && b) rest
 
 -- the places of the opposite arc are those after the arc's
-pub is_clear-opposite : (n : ℕ) (applied : ℕ → Bool) (arc : Arc) → is_clear n applied (opposite_arc n arc) ≡ none_of (λ i. applied (arc_span n arc i)) arc.spans (n - arc.spans)
+pub is_clear-opposite : (n : ℕ) (applied : ℕ → Bool) (arc : Arc)
+    → is_clear n applied (opposite_arc n arc) ≡ none_of (λ i. applied (arc_span n arc i)) arc.spans (n - arc.spans)
 unfolding is_clear
 is_clear-opposite n applied arc =
     none_of-same (λ i. applied (arc_span n (opposite_arc n arc) i)) (λ i. applied (arc_span n arc i)) 0 arc.spans (n - arc.spans)
@@ -53,7 +55,8 @@ both_none false false x y = refl
 
 pub none_of-or : (p q : ℕ → Bool) (i k : ℕ) → none_of (λ j. p j || q j) i k ≡ (none_of p i k && none_of q i k)
 none_of-or p q i zero = refl
-none_of-or p q i (suc k) = ap (λ x. not (p i || q i) && x) (none_of-or p q (suc i) k) ∙ both_none (p i) (q i) (none_of p (suc i) k) (none_of q (suc i) k)
+none_of-or p q i (suc k) =
+    ap (λ x. not (p i || q i) && x) (none_of-or p q (suc i) k) ∙ both_none (p i) (q i) (none_of p (suc i) k) (none_of q (suc i) k)
 
 neither : (a b : Bool) → (not a && not b) ≡ not (a || b)
 neither true b = refl

@@ -1,5 +1,6 @@
 -- Lists of numbers that pass both searches are identifiers.
-use Rattle.std.proofs.Common.{◌≡◌, ◌≢◌, ℕ, zero, suc, ◌+◌, ◌<◌, ◌≤◌, List, length, map, take, get_or, Bool, true, false, not, cond, nat_lt, Option, None, Some, refl, sym, ap, ◌∙◌, arith, ltb-false}
+use Rattle.std.proofs.Common.{◌≡◌, ◌≢◌, ℕ, zero, suc, ◌+◌, ◌<◌, ◌≤◌, List, length, map, take, get_or, Bool, true, false, not, cond, nat_lt}
+use Rattle.std.proofs.Common.{Option, None, Some, refl, sym, ap, ◌∙◌, arith, ltb-false}
 use Rattle.std.specs.Prelude.{ℤ, pos, negsuc, slice_index}
 use Rattle.std.proofs.Math.Bool.{not-not}
 use Rattle.std.specs.Ordering.{int_eq}
@@ -24,7 +25,8 @@ unmarked_rest false x o e = e
 pub unmarked : (p : ℕ → Bool) (a n k : ℕ) → find p (range_with_len a n) ≡ None → k < n → p (a + k) ≡ false
 unmarked p a zero k e h = absurd (omega arith)
 unmarked p a (suc n) zero e h = ap p (omega arith) ∙ unmarked_first (p a) a (find p (range_with_len (a + 1) n)) e
-unmarked p a (suc n) (suc k) e h = ap p (omega arith) ∙ unmarked p (a + 1) n k (unmarked_rest (p a) a (find p (range_with_len (a + 1) n)) e) (omega arith)
+unmarked p a (suc n) (suc k) e h =
+    ap p (omega arith) ∙ unmarked p (a + 1) n k (unmarked_rest (p a) a (find p (range_with_len (a + 1) n)) e) (omega arith)
 
 -- each number is an identifier where no other is found
 pub fit : (ids : List ℤ) (k : ℕ) (d : ℤ) → first_unfit ids ≡ None → k < length ids → is_id (get_or ids k d) ≡ true
@@ -49,24 +51,29 @@ pub apart : (ids : List ℤ) (i j : ℕ) (d : ℤ) → first_repeat ids ≡ None
 apart ids i j d e lt h same =
     let none : stood_before ids j ≡ false = ap (stood_before ids) (omega arith) ∙ unmarked (stood_before ids) 0 (length ids) j e h in
     let here : int_eq (get_or (take j ids) i d) (get_or ids j (pos 0)) ≡ true =
-    (Decides-int_eq (get_or (take j ids) i d) (get_or ids j (pos 0))).1 (get_or-take j ids i d lt ∙ same ∙ get_or_default ids j d (pos 0) h) in
-    let found : stood_before ids j ≡ true = list_any_at (λ y. int_eq y (get_or ids j (pos 0))) (take j ids) i d (omega (arith, length-take-le j ids)) here in
+    (Decides-int_eq (get_or (take j ids) i d) (get_or ids j (pos 0))).1
+    (get_or-take j ids i d lt ∙ same ∙ get_or_default ids j d (pos 0) h) in
+    let found : stood_before ids j ≡ true =
+    list_any_at (λ y. int_eq y (get_or ids j (pos 0))) (take j ids) i d (omega (arith, length-take-le j ids)) here in
     let no : false ≡ true = sym none ∙ found in
     cc
 
 -- of two places with one number neither is the earlier
-one_place : (ids : List ℤ) (i j : ℕ) → first_repeat ids ≡ None → i < length ids → j < length ids → get_or ids i (pos 0) ≡ get_or ids j (pos 0) → i ≡ j
+one_place : (ids : List ℤ) (i j : ℕ) → first_repeat ids ≡ None → i < length ids → j < length ids
+    → get_or ids i (pos 0) ≡ get_or ids j (pos 0) → i ≡ j
 one_place ids i j e hi hj same =
     let up : i < j → ⊥ = λ lt. apart ids i j (pos 0) e lt hj same in
     let down : j < i → ⊥ = λ lt. apart ids j i (pos 0) e lt hi (sym same) in
     omega (arith, up, down)
 
-pub are_ids : (ids : List ℤ) → 2 ≤ length ids → length ids ≤ 16 → first_unfit ids ≡ None → first_repeat ids ≡ None → AreIds (map magnitude ids)
+pub are_ids : (ids : List ℤ) → 2 ≤ length ids → length ids ≤ 16 → first_unfit ids ≡ None → first_repeat ids ≡ None
+    → AreIds (map magnitude ids)
 are_ids ids two many unfit repeats =
     let len : length (map magnitude ids) ≡ length ids = simp length-map in
     let at : (i : ℕ) → i < length (map magnitude ids) → slice_index (map magnitude ids) i ≡ magnitude (get_or ids i (pos 0)) =
     λ i h. get_or-map magnitude ids i (pos 0) 0 (omega arith) in
-    let fits : (i : ℕ) → i < length (map magnitude ids) → is_id (get_or ids i (pos 0)) ≡ true = λ i h. fit ids i (pos 0) unfit (omega arith) in
+    let fits : (i : ℕ) → i < length (map magnitude ids) → is_id (get_or ids i (pos 0)) ≡ true =
+    λ i h. fit ids i (pos 0) unfit (omega arith) in
     record {
       few = omega arith;
       enough = omega arith;

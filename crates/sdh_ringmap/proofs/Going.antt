@@ -80,13 +80,15 @@ module _ (n : ℕ) (some : 0 < n) where
   pub going-add : (d : Side) (p i j : ℕ) → going n d (going n d p i) j ≡ going n d p (i + j)
   going-add d p i zero = going-none d (going n d p i) (going-inside d p i) ∙ ap (going n d p) (omega arith)
   going-add d p i (suc j) =
-      sym (going-next d (going n d p i) j) ∙ ap (λ q. neighbour n q d) (going-add d p i j) ∙ going-next d p (i + j) ∙ ap (going n d p) (omega arith)
+      sym (going-next d (going n d p i) j) ∙ ap (λ q. neighbour n q d) (going-add d p i j) ∙ going-next d p (i + j)
+      ∙ ap (going n d p) (omega arith)
 
   -- the same positions, from the last one back
   pub mirror : (d : Side) (p i j m : ℕ) → i + j ≡ m → going n (opposite d) (going n d p m) i ≡ going n d p j
   mirror d p zero j m e = going-none (opposite d) (going n d p m) (going-inside d p m) ∙ ap (going n d p) (omega arith)
   mirror d p (suc i) j m e =
-      sym (going-next (opposite d) (going n d p m) i) ∙ ap (λ q. neighbour n q (opposite d)) (mirror d p i (suc j) m (omega arith)) ∙ going-back d p j
+      sym (going-next (opposite d) (going n d p m) i) ∙ ap (λ q. neighbour n q (opposite d)) (mirror d p i (suc j) m (omega arith))
+      ∙ going-back d p j
 
   pub mirror-way : (d : Side) (p i j m : ℕ) → i + suc j ≡ m → way n (opposite d) (going n d p m) i ≡ way n d p j
   mirror-way d p i j m e = ap (λ q. span_at n q (opposite d)) (mirror d p i (suc j) m e) ∙ way-behind d p j
@@ -104,11 +106,15 @@ module _ (n : ℕ) (some : 0 < n) where
   far_east p i k h = ap (eastwards n (going n East p i)) (east_of p i k) ∙ eastwards-place n (going n East p i) k (going-inside East p i) h
 
   pub far_west : (p i k : ℕ) → k < n → eastwards n (going n West p (i + k)) (going n West p i) ≡ k
-  far_west p i k h = ap (eastwards n (going n West p (i + k))) (west_of p i k) ∙ eastwards-place n (going n West p (i + k)) k (going-inside West p (i + k)) h
+  far_west p i k h =
+      ap (eastwards n (going n West p (i + k))) (west_of p i k)
+      ∙ eastwards-place n (going n West p (i + k)) k (going-inside West p (i + k)) h
 
   same_by : (d : Side) (p i k : ℕ) → k < n → going n d p i ≡ going n d p (i + k) → k ≡ 0
-  same_by East p i k h e = sym (far_east p i k h) ∙ ap (eastwards n (going n East p i)) (sym e ∙ ap (going n East p) (omega arith)) ∙ far_east p i 0 some
-  same_by West p i k h e = sym (far_west p i k h) ∙ ap (λ q. eastwards n q (going n West p i)) (sym e ∙ ap (going n West p) (omega arith)) ∙ far_west p i 0 some
+  same_by East p i k h e =
+      sym (far_east p i k h) ∙ ap (eastwards n (going n East p i)) (sym e ∙ ap (going n East p) (omega arith)) ∙ far_east p i 0 some
+  same_by West p i k h e =
+      sym (far_west p i k h) ∙ ap (λ q. eastwards n q (going n West p i)) (sym e ∙ ap (going n West p) (omega arith)) ∙ far_west p i 0 some
 
   -- fewer than n steps lead to each position once, and so away from p
   pub going-once : (d : Side) (p i j : ℕ) → i < n → j < n → going n d p i ≡ going n d p j → i ≡ j
@@ -131,7 +137,9 @@ module _ (n : ℕ) (some : 0 < n) where
   reached West p q hp hq = record {
     steps = eastwards n q p;
     few = mod-lt (p + (n - q)) some;
-    there = ap (λ b. going n West b (eastwards n q p)) (sym (going-to q p hq hp)) ∙ mirror East q (eastwards n q p) 0 (eastwards n q p) (omega arith) ∙ going-none East q hq;
+    there =
+        ap (λ b. going n West b (eastwards n q p)) (sym (going-to q p hq hp))
+        ∙ mirror East q (eastwards n q p) 0 (eastwards n q p) (omega arith) ∙ going-none East q hq;
   }
 
   pub met : (d : Side) (p s : ℕ) → p < n → s < n → IsMet n d p s

@@ -1,5 +1,6 @@
 -- Which lists of numbers are the identifiers of a ring, and what is said of one that isn't.
-use Rattle.std.specs.Prelude.{ℕ, ℤ, pos, negsuc, ◌+◌, List, length, slice_index_or, map, take, Bool, false, not, ◌&&◌, nat_le, if◌then◌else◌, Option, Result, Ok, Err}
+use Rattle.std.specs.Prelude.{ℕ, ℤ, pos, negsuc, ◌+◌, List, length, slice_index_or, map, take, Bool, false, not, ◌&&◌, nat_le}
+use Rattle.std.specs.Prelude.{if◌then◌else◌, Option, Result, Ok, Err}
 use Rattle.std.specs.Option.{option_map_or}
 use Rattle.std.specs.List.{list_any, find, position, range_with_len}
 use Rattle.std.specs.Ordering.{int_eq}

@@ -1,5 +1,6 @@
 -- Looking up the circuit on a span and slot.
-use Rattle.std.proofs.Common.{◌≡◌, ℕ, zero, suc, ◌+◌, ◌<◌, List, [], ◌∷◌, ◌++◌, length, append_assoc, append-nil, subst, get_or, Bool, true, false, cond, Option, Some, None, refl, ap, sym, ◌∙◌, inl, inr, arith}
+use Rattle.std.proofs.Common.{◌≡◌, ℕ, zero, suc, ◌+◌, ◌<◌, List, [], ◌∷◌, ◌++◌, length, append_assoc, append-nil, subst, get_or, Bool, true}
+use Rattle.std.proofs.Common.{false, cond, Option, Some, None, refl, ap, sym, ◌∙◌, inl, inr, arith}
 use Rattle.std.specs.Prelude.{slice_get, position}
 use Rattle.std.specs.List.{All, position_from}
 use Rattle.std.proofs.lemmas.Bool.{cond-true, cond-false}
@@ -27,7 +28,8 @@ pub first-at : (n s m i j : ℕ) (cs : List Provisioned) (c d : Provisioned) →
 first-at n s m i j [] c d e h none = cc
 first-at n s m i zero (x ∷ cs) c d e h none =
     let same : x ≡ c = cc in
-    cond-true (is_on n s m x) (Some (entry i x)) (circuit_from n s m (i + 1) cs) (ap (is_on n s m) same ∙ h) ∙ ap (λ (y : Provisioned). Some (entry i y)) same ∙ ap (λ k. Some (entry k c)) (omega arith)
+    cond-true (is_on n s m x) (Some (entry i x)) (circuit_from n s m (i + 1) cs) (ap (is_on n s m) same ∙ h)
+    ∙ ap (λ (y : Provisioned). Some (entry i y)) same ∙ ap (λ k. Some (entry k c)) (omega arith)
 first-at n s m i (suc j) (x ∷ cs) c d e h none =
     cond-false (is_on n s m x) (Some (entry i x)) (circuit_from n s m (i + 1) cs) (none 0 (omega arith))
     ∙ first-at n s m (i + 1) j cs c d e h (λ k g. none (suc k) (omega arith))
@@ -43,10 +45,12 @@ none_from n s m i k (x ∷ cs) e =
     let t = none_by (is_on n s m x) k (position_from (is_on n s m) (k + 1) cs) e in
     cond-false (is_on n s m x) (Some (entry i x)) (circuit_from n s m (i + 1) cs) t.0 ∙ none_from n s m (i + 1) (k + 1) cs t.1
 
-found_by : (n s m j : ℕ) (cs : List Provisioned) (c : Provisioned) → position (is_on n s m) cs ≡ Some j → slice_get cs j ≡ Some c → circuit_on n cs s m ≡ Some (entry j c)
+found_by : (n s m j : ℕ) (cs : List Provisioned) (c : Provisioned) → position (is_on n s m) cs ≡ Some j → slice_get cs j ≡ Some c
+    → circuit_on n cs s m ≡ Some (entry j c)
 found_by n s m j cs c e h =
     let p = position-Some (is_on n s m) cs j c e in
-    first-at n s m 0 j cs c c h (ap (is_on n s m) (sym (get_or_from_slice_get cs j c c h)) ∙ p.1) p.2 ∙ ap (λ k. Some (entry k c)) (omega arith)
+    first-at n s m 0 j cs c c h (ap (is_on n s m) (sym (get_or_from_slice_get cs j c c h)) ∙ p.1) p.2
+    ∙ ap (λ k. Some (entry k c)) (omega arith)
 
 module _ (p : Provisioning) (ids : List ℕ) (kept : KeepsRing p ids) where
   size : p.circuits ≡ [] → (s m : ℕ) → circuit_on (length ids) p.circuits s m ≡ circuit_on (size_of p) p.circuits s m
@@ -62,25 +66,32 @@ module _ (p : Provisioning) (ids : List ℕ) (kept : KeepsRing p ids) where
   ]
 
   -- what a circuit map finds is what the table says
-  pub row-found : (s m j : ℕ) (c : Provisioned) → on_span p s m ≡ Some j → slice_get p.circuits j ≡ Some c → circuit_on (length ids) p.circuits s m ≡ Some (entry j c)
+  pub row-found : (s m j : ℕ) (c : Provisioned) → on_span p s m ≡ Some j → slice_get p.circuits j ≡ Some c
+      → circuit_on (length ids) p.circuits s m ≡ Some (entry j c)
   row-found s m j c e h = same_size s m ∙ found_by (size_of p) s m j p.circuits c e h
 
-  pub row-read : (s m j : ℕ) (c : Provisioned) (from to : Pos) → Some j ≡ on_span p s m → slice_get p.circuits j ≡ Some c → from ≡ c.from → to ≡ c.to
+  pub row-read : (s m j : ℕ) (c : Provisioned) (from to : Pos) → Some j ≡ on_span p s m → slice_get p.circuits j ≡ Some c → from ≡ c.from
+      → to ≡ c.to
       → Some (record { circuit = j; from = from; to = to }) ≡ circuit_on (length ids) p.circuits s m
   row-read s m j c from to e h f t =
-      ap (λ x. let r : Row = record { circuit = j; from = x; to = to } in Some r) f ∙ ap (λ x. let r : Row = record { circuit = j; from = c.from; to = x } in Some r) t
+      ap (λ x. let r : Row = record { circuit = j; from = x; to = to } in Some r) f
+      ∙ ap (λ x. let r : Row = record { circuit = j; from = c.from; to = x } in Some r) t
       ∙ sym (row-found s m j c (sym e) h)
 
   pub row-none : (s m : ℕ) → on_span p s m ≡ None → circuit_on (length ids) p.circuits s m ≡ None
-  row-none s m e = same_size s m ∙ none_from (size_of p) s m 0 0 p.circuits (sym (position_from-zero (is_on (size_of p) s m) p.circuits) ∙ e)
+  row-none s m e =
+      same_size s m ∙ none_from (size_of p) s m 0 0 p.circuits (sym (position_from-zero (is_on (size_of p) s m) p.circuits) ∙ e)
 
   -- both ends of a circuit are in the ring
-  pub row-ends : IsProvisioning p → (j : ℕ) (c : Provisioned) (from to : Pos) → slice_get p.circuits j ≡ Some c → from ≡ c.from → to ≡ c.to → (from.0 < length ids) × (to.0 < length ids)
+  pub row-ends : IsProvisioning p → (j : ℕ) (c : Provisioned) (from to : Pos) → slice_get p.circuits j ≡ Some c → from ≡ c.from → to ≡ c.to
+      → (from.0 < length ids) × (to.0 < length ids)
   row-ends form j c from to h is_from is_to = elim kept [
     | inl none ↦ absurd (nothing (ap (λ cs. slice_get cs j) (sym none) ∙ h))
     | inr ring ↦ (
         let e : size_of p ≡ length ids = sized ring in
-        let inside : IsInRing (size_of p) c = subst (IsInRing (size_of p)) (get_or_from_slice_get p.circuits j c c h) (form.circuits.in_ring j c (slice_get_within p.circuits j c h)) in
+        let inside : IsInRing (size_of p) c =
+        subst (IsInRing (size_of p)) (get_or_from_slice_get p.circuits j c c h)
+        (form.circuits.in_ring j c (slice_get_within p.circuits j c h)) in
         let f = inside.from_inside in let t = inside.to_inside in
         let a : from.0 ≡ c.from.0 = ap (λ (x : Pos). x.0) is_from in let b : to.0 ≡ c.to.0 = ap (λ (x : Pos). x.0) is_to in
         (omega arith, omega arith))
@@ -93,9 +104,11 @@ module _ (f : ℕ → Option Row) (old : List (Option Row)) where
   pub rows-none : old ≡ old ++ cells f 0
   rows-none = sym (ap (λ l. old ++ l) (cells-zero f) ∙ append-nil old)
 
-  pub rows-more : (now : List (Option Row)) (i : ℕ) (x : Option Row) → now ≡ old ++ cells f i → x ≡ f i → now ++ x ∷ [] ≡ old ++ cells f (i + 1)
+  pub rows-more : (now : List (Option Row)) (i : ℕ) (x : Option Row) → now ≡ old ++ cells f i → x ≡ f i
+      → now ++ x ∷ [] ≡ old ++ cells f (i + 1)
   rows-more now i x e h =
-      ap (λ l. l ++ x ∷ []) e ∙ append_assoc old (cells f i) (x ∷ []) ∙ ap (λ y. old ++ (cells f i ++ y ∷ [])) h ∙ ap (λ l. old ++ l) (sym (cells-more f i))
+      ap (λ l. l ++ x ∷ []) e ∙ append_assoc old (cells f i) (x ∷ []) ∙ ap (λ y. old ++ (cells f i ++ y ∷ [])) h
+      ∙ ap (λ l. old ++ l) (sym (cells-more f i))
 
 one_end : (n : ℕ) (x : Option Row) → HasEnds n x → All (HasEnds n) (x ∷ [])
 one_end n x h zero d lt = h

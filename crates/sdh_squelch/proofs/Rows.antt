@@ -36,13 +36,15 @@ module _ (n : ℕ) (circuits : List Provisioned) (p : ℕ) where
 
   -- the rows of the west side, then those of the east side
   pub all-rows : (west east : ℕ) (r0 r1 r2 : List (Option Row)) → r0 ≡ [] → west ≡ span_at n p West → east ≡ span_at n p East
-      → r1 ≡ r0 ++ cells (λ i. circuit_on n circuits west (i + 1)) 8 → r2 ≡ r1 ++ cells (λ i. circuit_on n circuits east (i + 1)) 8 → r2 ≡ all
+      → r1 ≡ r0 ++ cells (λ i. circuit_on n circuits west (i + 1)) 8 → r2 ≡ r1 ++ cells (λ i. circuit_on n circuits east (i + 1)) 8
+      → r2 ≡ all
   all-rows west east r0 r1 r2 none w e first second =
       let f : ℕ → ℕ → Option Row = λ s i. circuit_on n circuits s (i + 1) in
       second ∙ ap (λ l. l ++ cells (f east) 8) (first ∙ ap (λ l. l ++ cells (f west) 8) none)
       ∙ ap (λ s. cells (f s) 8 ++ cells (f east) 8) w ∙ ap (λ s. cells (on West) 8 ++ cells (f s) 8) e
 
 -- the rows that a table keeps are the circuits at its position
-pub kept-are : (t : SquelchTable) (rows : List (Option Row)) (m : ℕ) → rows ≡ rows_of t → 1 ≤ m → m ≤ 8 → row_at rows m ≡ circuits_at (length t.ring) t.circuits t.at.0 m
+pub kept-are : (t : SquelchTable) (rows : List (Option Row)) (m : ℕ) → rows ≡ rows_of t → 1 ≤ m → m ≤ 8
+    → row_at rows m ≡ circuits_at (length t.ring) t.circuits t.at.0 m
 unfolding rows_of
 kept-are t rows m e low high = ap (λ r. row_at r m) e ∙ rows-are (length t.ring) t.circuits t.at.0 m low high

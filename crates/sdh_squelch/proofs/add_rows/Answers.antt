@@ -16,7 +16,8 @@ loop-i-preserved c = λ ids kept.
     let before = c.loop-i.invariant ids kept in
     let added = c.in_ok-push.ensures.items in (
       added ∙ rows-more f c.args.rows.now.items c.loop-i.rows.items c.loop-i.i c.row_on.result before.0 (c.row_on.ensures.row ids kept),
-      λ ends. subst (All (HasEnds (length ids))) (sym added) (ends-more (length ids) c.loop-i.rows.items c.row_on.result (before.1 ends) (c.row_on.ensures.ends ids kept)),
+      λ ends. subst (All (HasEnds (length ids))) (sym added)
+          (ends-more (length ids) c.loop-i.rows.items c.row_on.result (before.1 ends) (c.row_on.ensures.ends ids kept)),
     )
 
 pub returns-clause-rows : goal.returns-clause-rows

@@ -8,7 +8,8 @@ pub loop-column-init : goal.loop-column-init
 loop-column-init g c =
     let n = g.row.N in
     let r = c.args.r in
-    none_written n (is_payload n c.args.to) (λ i. get_or c.args.source.now (i - c.args.to + c.args.from) 0) (270 * r) (270 * r + 9) c.args.bytes.now (λ i low high. head_is_none n c.args.to r i c.requires.rate low high)
+    none_written n (is_payload n c.args.to) (λ i. get_or c.args.source.now (i - c.args.to + c.args.from) 0) (270 * r)
+    (270 * r + 9) c.args.bytes.now (λ i low high. head_is_none n c.args.to r i c.requires.rate low high)
 
 pub loop-column-preserved : goal.loop-column-preserved
 loop-column-preserved g c =
@@ -22,10 +23,15 @@ loop-column-preserved g c =
     let place : w + 1 ≡ n * column + c.args.to = omega (arith, c.byte_of-i.ensures.place, c.byte_of-i.ensures.some) in
     let inside : w < length mid = omega (arith, c.byte_of-i.ensures.within, c.byte_of-i.ensures.some, c.requires.to_high) in
     let same : c.byte_of-i.result - 1 + c.args.from ≡ w - c.args.to + c.args.from = omega arith in
-    further_written n (is_payload n c.args.to) (λ i. get_or c.args.source.now (i - c.args.to + c.args.from) 0) (270 * r) column (column + 1) (column + 1) c.args.bytes.now mid (set mid w (get_or c.args.source.now (c.byte_of-i.result - 1 + c.args.from) 0)) (omega arith) (omega arith) refl c.loop-column.invariant
-    (one_written n (is_payload n c.args.to) (λ i. get_or c.args.source.now (i - c.args.to + c.args.from) 0) column c.args.to w (get_or c.args.source.now (c.byte_of-i.result - 1 + c.args.from) 0) mid c.requires.rate c.requires.to_low c.requires.to_high (λ i e. body_is n c.args.to r column i c.requires.rate low high e) place inside (ap (λ k. get_or c.args.source.now k 0) same))
+    further_written n (is_payload n c.args.to) (λ i. get_or c.args.source.now (i - c.args.to + c.args.from) 0) (270 * r) column (column + 1)
+    (column + 1) c.args.bytes.now mid (set mid w (get_or c.args.source.now (c.byte_of-i.result - 1 + c.args.from) 0)) (omega arith)
+    (omega arith) refl c.loop-column.invariant
+    (one_written n (is_payload n c.args.to) (λ i. get_or c.args.source.now (i - c.args.to + c.args.from) 0) column c.args.to w
+    (get_or c.args.source.now (c.byte_of-i.result - 1 + c.args.from) 0) mid c.requires.rate c.requires.to_low c.requires.to_high
+    (λ i e. body_is n c.args.to r column i c.requires.rate low high e) place inside (ap (λ k. get_or c.args.source.now k 0) same))
 
 pub returns : goal.returns
 returns g c =
     let end : c.loop-column.column ≡ 270 * c.args.r + 270 = omega arith in
-    subst (λ m. HasWritten g.row.N (270 * c.args.r) m (is_payload g.row.N c.args.to) (λ i. get_or c.args.source.now (i - c.args.to + c.args.from) 0) c.args.bytes.now c.loop-column.bytes) end c.loop-column.invariant
+    subst (λ m. HasWritten g.row.N (270 * c.args.r) m (is_payload g.row.N c.args.to)
+    (λ i. get_or c.args.source.now (i - c.args.to + c.args.from) 0) c.args.bytes.now c.loop-column.bytes) end c.loop-column.invariant

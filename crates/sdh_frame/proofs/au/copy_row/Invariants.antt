@@ -4,4 +4,5 @@ use Rattle.sdh_frame.specs.Columns.{HasWritten}
 use Rattle.sdh_frame.proofs.au.copy_row.Given as goal
 
 abbrev pub invariant-loop-column : goal.invariant-loop-column
-invariant-loop-column g l = HasWritten g.row.N (270 * l.r) l.column (is_payload g.row.N l.to) (λ i. slice_index l.source (i - l.to + l.from)) l.fn.bytes l.bytes
+invariant-loop-column g l =
+    HasWritten g.row.N (270 * l.r) l.column (is_payload g.row.N l.to) (λ i. slice_index l.source (i - l.to + l.from)) l.fn.bytes l.bytes

@@ -8,9 +8,11 @@ use Rattle.sdh_frame.proofs.au.fill.Goals as goal
 pub returns-in-Four : goal.returns-in-Four
 returns-in-Four c =
     let n : n_of c.args.rate ≡ 4 = ap n_of c.in-Four.is in
-    rw c.in-Four.is (filled Four c.args.au c.args.bytes.now c.fill_rows.new.bytes (omega arith) (omega arith) (omega arith) (λ i lt. c.fill_rows.ensures.inside i (omega arith) (column_small 4 i (inl refl) lt)))
+    rw c.in-Four.is (filled Four c.args.au c.args.bytes.now c.fill_rows.new.bytes (omega arith) (omega arith) (omega arith)
+    (λ i lt. c.fill_rows.ensures.inside i (omega arith) (column_small 4 i (inl refl) lt)))
 
 pub returns-in-Sixteen : goal.returns-in-Sixteen
 returns-in-Sixteen c =
     let n : n_of c.args.rate ≡ 16 = ap n_of c.in-Sixteen.is in
-    rw c.in-Sixteen.is (filled Sixteen c.args.au c.args.bytes.now c.fill_rows-in-Sixteen.new.bytes (omega arith) (omega arith) (omega arith) (λ i lt. c.fill_rows-in-Sixteen.ensures.inside i (omega arith) (column_small 16 i (inr refl) lt)))
+    rw c.in-Sixteen.is (filled Sixteen c.args.au c.args.bytes.now c.fill_rows-in-Sixteen.new.bytes (omega arith) (omega arith) (omega arith)
+    (λ i lt. c.fill_rows-in-Sixteen.ensures.inside i (omega arith) (column_small 16 i (inr refl) lt)))

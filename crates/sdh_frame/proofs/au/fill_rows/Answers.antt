@@ -5,12 +5,15 @@ use Rattle.sdh_frame.proofs.ByColumns.{none_written, further_written}
 use Rattle.sdh_frame.proofs.au.fill_rows.Goals as goal
 
 pub loop-r-init : goal.loop-r-init
-loop-r-init g c = none_written g.row.N (is_payload g.row.N c.args.au) (λ i. 0xFF) 0 (270 * 0) c.args.bytes.now (λ i low high. absurd (omega arith))
+loop-r-init g c =
+    none_written g.row.N (is_payload g.row.N c.args.au) (λ i. 0xFF) 0 (270 * 0) c.args.bytes.now (λ i low high. absurd (omega arith))
 
 pub loop-r-preserved : goal.loop-r-preserved
 loop-r-preserved g c =
     let r = c.loop-r.r in
-    further_written g.row.N (is_payload g.row.N c.args.au) (λ i. 0xFF) 0 (270 * r) (270 * r + 270) (270 * (r + 1)) c.args.bytes.now c.loop-r.bytes c.fill_row.new.bytes (omega arith) (omega arith) (omega arith) c.loop-r.invariant c.fill_row.ensures
+    further_written g.row.N (is_payload g.row.N c.args.au) (λ i. 0xFF) 0 (270 * r) (270 * r + 270)
+    (270 * (r + 1)) c.args.bytes.now c.loop-r.bytes c.fill_row.new.bytes (omega arith) (omega arith)
+    (omega arith) c.loop-r.invariant c.fill_row.ensures
 
 pub returns : goal.returns
 returns g c =

@@ -4,4 +4,6 @@ use Rattle.sdh_frame.specs.Columns.{HasWritten}
 use Rattle.sdh_frame.proofs.au.put_pointer.Given as goal
 
 abbrev pub invariant-loop-p : goal.invariant-loop-p
-invariant-loop-p g l = HasWritten g.row.N 0 (810 + l.p) (is_pointer g.row.N l.au) (λ i. slice_index l.pointers (i % (270 * g.row.N) / g.row.N)) l.fn.bytes l.bytes
+invariant-loop-p g l =
+    HasWritten g.row.N 0 (810 + l.p) (is_pointer g.row.N l.au)
+    (λ i. slice_index l.pointers (i % (270 * g.row.N) / g.row.N)) l.fn.bytes l.bytes

@@ -4,4 +4,5 @@ use Rattle.sdh_frame.proofs.view.put_payload_byte.Goals as goal
 
 pub returns : goal.returns
 returns c =
-    ap (λ k. set c.args.bytes.now k c.args.value) c.payload_index.ensures.place ∙ set_payload c.args.rate c.args.au c.args.index c.args.value c.args.bytes.now c.requires.size c.requires.first c.requires.last c.requires.index
+    ap (λ k. set c.args.bytes.now k c.args.value) c.payload_index.ensures.place
+    ∙ set_payload c.args.rate c.args.au c.args.index c.args.value c.args.bytes.now c.requires.size c.requires.first c.requires.last c.requires.index

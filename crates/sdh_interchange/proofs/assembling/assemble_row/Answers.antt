@@ -22,10 +22,15 @@ returns-else-row-eq4-clause-row c =
     let same : length new ≡ length old = c.choose_row.auto.bytes ∙ ap length c.bytes_mut.ensures.bytes in
     let many : length sources ≡ n_of rate = c.choose_row.ensures.many ∙ ap n_of c.requires.choice in
     let here : HereAt rate r sources first second own old new
-    = same-here c.args.choice.now.rate rate r sources c.bytes-first.result.now first c.bytes-second.result.now second own c.bytes_mut.result.now old new c.requires.choice c.bytes-first.ensures.bytes c.bytes-second.ensures.bytes c.bytes_mut.ensures.bytes c.choose_row.ensures.here in
-    let others : OthersAt rate r old new = subst (λ m. OthersAt m r old new) c.requires.choice (subst (λ l. OthersAt c.args.choice.now.rate r l new) c.bytes_mut.ensures.bytes c.choose_row.ensures.others) in
-    subst (HasRow (n_of rate) c.args.row (with_aus (n_of rate) 1 (assembled (n_of rate) first second own sources ps) old) old) (sym (lent old new same))
-    (row-chosen c.args.row c.requires.first_row c.requires.last_row rate sources first second own ps old new whole (same ∙ whole) many here others (λ four. absurd (omega arith)))
+    =
+    same-here c.args.choice.now.rate rate r sources c.bytes-first.result.now first c.bytes-second.result.now second own c.bytes_mut.result.now old new c.requires.choice c.bytes-first.ensures.bytes c.bytes-second.ensures.bytes c.bytes_mut.ensures.bytes c.choose_row.ensures.here in
+    let others : OthersAt rate r old new =
+    subst (λ m. OthersAt m r old new) c.requires.choice
+    (subst (λ l. OthersAt c.args.choice.now.rate r l new) c.bytes_mut.ensures.bytes c.choose_row.ensures.others) in
+    subst (HasRow (n_of rate) c.args.row (with_aus (n_of rate) 1 (assembled (n_of rate) first second own sources ps) old) old)
+    (sym (lent old new same))
+    (row-chosen c.args.row c.requires.first_row c.requires.last_row rate sources first second own ps old new whole
+    (same ∙ whole) many here others (λ four. absurd (omega arith)))
 
 pub returns-then-row-eq4-clause-row : goal.returns-then-row-eq4-clause-row
 returns-then-row-eq4-clause-row c =
@@ -42,7 +47,12 @@ returns-then-row-eq4-clause-row c =
     let same : length new ≡ length old = c.choose_row.auto.bytes ∙ ap length c.bytes_mut.ensures.bytes in
     let many : length sources ≡ n_of rate = c.choose_row.ensures.many ∙ ap n_of c.requires.choice in
     let here : HereAt rate r sources first second own old new
-    = same-here c.args.choice.now.rate rate r sources c.bytes-first.result.now first c.bytes-second.result.now second own c.bytes_mut.result.now old new c.requires.choice c.bytes-first.ensures.bytes c.bytes-second.ensures.bytes c.bytes_mut.ensures.bytes c.choose_row.ensures.here in
-    let others : OthersAt rate r old new = subst (λ m. OthersAt m r old new) c.requires.choice (subst (λ l. OthersAt c.args.choice.now.rate r l new) c.bytes_mut.ensures.bytes c.choose_row.ensures.others) in
-    row-pointed c.args.row c.requires.first_row c.requires.last_row rate sources first second own ps old new whole (same ∙ whole) many here others c.point_all.new.frame.bytes c.point_all.ensures.long (omega arith)
-    (λ i inside. c.point_all.ensures.pointed i inside ∙ ap (λ (l : List ℕ). pointer_byte (n_of rate) (i % n_of rate + 1) (get_or ps (i % n_of rate) []) i (get_or l i 0)) (lent old new same))
+    =
+    same-here c.args.choice.now.rate rate r sources c.bytes-first.result.now first c.bytes-second.result.now second own c.bytes_mut.result.now old new c.requires.choice c.bytes-first.ensures.bytes c.bytes-second.ensures.bytes c.bytes_mut.ensures.bytes c.choose_row.ensures.here in
+    let others : OthersAt rate r old new =
+    subst (λ m. OthersAt m r old new) c.requires.choice
+    (subst (λ l. OthersAt c.args.choice.now.rate r l new) c.bytes_mut.ensures.bytes c.choose_row.ensures.others) in
+    row-pointed c.args.row c.requires.first_row c.requires.last_row rate sources first second own ps old new whole
+    (same ∙ whole) many here others c.point_all.new.frame.bytes c.point_all.ensures.long (omega arith)
+    (λ i inside. c.point_all.ensures.pointed i inside ∙ ap (λ (l : List ℕ). pointer_byte (n_of rate) (i % n_of rate + 1)
+    (get_or ps (i % n_of rate) []) i (get_or l i 0)) (lent old new same))

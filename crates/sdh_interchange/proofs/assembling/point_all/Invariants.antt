@@ -8,5 +8,6 @@ abbrev pub invariant-loop-k : goal.invariant-loop-k
 invariant-loop-k l = record {
   rate : l.frame.rate ≡ l.initial.frame.rate;
   long : length l.frame.bytes ≡ size_of l.initial.frame.rate;
-  done : (i : ℕ) → i < size_of l.initial.frame.rate → slice_index l.frame.bytes i ≡ pointed (n_of l.initial.frame.rate) l.pointers l.k i (slice_index l.initial.frame.bytes i);
+  done : (i : ℕ) → i < size_of l.initial.frame.rate → slice_index l.frame.bytes i
+      ≡ pointed (n_of l.initial.frame.rate) l.pointers l.k i (slice_index l.initial.frame.bytes i);
 }

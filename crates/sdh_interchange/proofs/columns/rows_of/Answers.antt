@@ -10,6 +10,8 @@ loop-a-preserved g c =
     let small : a < g.row.A = omega arith in
     record {
       rows = put-rows g.row.A c.loop-a.rows own v a c.args.from c.loop-a.invariant.rows small c.sixteen.ensures.long c.sixteen.ensures.each;
-      lanes = put-lanes g.row.A c.loop-a.rows own v a c.args.from c.loop-a.invariant.rows small c.sixteen.ensures.long c.sixteen.ensures.each c.loop-a.invariant.lanes;
-      done = put-done g.row.A c.loop-a.rows own v a c.args.from c.loop-a.invariant.rows small c.sixteen.ensures.long c.sixteen.ensures.each c.loop-a.invariant.done;
+      lanes =
+          put-lanes g.row.A c.loop-a.rows own v a c.args.from c.loop-a.invariant.rows small c.sixteen.ensures.long c.sixteen.ensures.each c.loop-a.invariant.lanes;
+      done =
+          put-done g.row.A c.loop-a.rows own v a c.args.from c.loop-a.invariant.rows small c.sixteen.ensures.long c.sixteen.ensures.each c.loop-a.invariant.done;
     }

@@ -9,5 +9,6 @@ invariant-loop-j g l = record {
   second_long : length l.second ≡ 16;
   own_long : length l.own ≡ 16;
   more_long : length l.more ≡ 16;
-  done : (j : ℕ) → j < l.j → IsLane g.row.N (slice_index_or l.sources (j % g.row.N) Ones) j (slice_index l.first j) (slice_index l.second j) (slice_index l.own j) (slice_index l.more j);
+  done : (j : ℕ) → j < l.j → IsLane g.row.N (slice_index_or l.sources (j % g.row.N) Ones) j (slice_index l.first j) (slice_index l.second j)
+      (slice_index l.own j) (slice_index l.more j);
 }

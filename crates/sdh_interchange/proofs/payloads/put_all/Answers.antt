@@ -29,13 +29,19 @@ loop-a-preserved c =
     let out = c.put_in.new.out in
     let small_a : la < length payloads = omega arith in
     record {
-      keeps = keeps_more base (length payloads) (base + la) 1 c.args.out.now was out (omega arith) (omega arith) c.loop-a.invariant.keeps c.put_in.ensures.keeps;
+      keeps =
+          keeps_more base (length payloads) (base + la) 1 c.args.out.now was out (omega arith)
+          (omega arith) c.loop-a.invariant.keeps c.put_in.ensures.keeps;
       before = λ a i ha hi. elim (cases_eq a la) [
-        | inl e ↦ (let same : base + a ≡ base + la = omega arith in ap (λ m. cell out m i) same ∙ c.put_in.ensures.before i hi ∙ ap (λ m. cell was m i) (sym same) ∙ c.loop-a.invariant.before a i ha hi)
-        | inr d ↦ (cell_kept (base + la) 1 was out (base + a) i (elim (cases_lt a la) [ inl below ↦ inl (omega arith) | inr above ↦ inr (omega arith) ]) c.put_in.ensures.keeps ∙ c.loop-a.invariant.before a i ha hi)
+        | inl e ↦ (let same : base + a ≡ base + la = omega arith in ap (λ m. cell out m i) same ∙ c.put_in.ensures.before i hi
+            ∙ ap (λ m. cell was m i) (sym same) ∙ c.loop-a.invariant.before a i ha hi)
+        | inr d ↦ (cell_kept (base + la) 1 was out (base + a) i
+            (elim (cases_lt a la) [ inl below ↦ inl (omega arith) | inr above ↦ inr (omega arith) ]) c.put_in.ensures.keeps
+            ∙ c.loop-a.invariant.before a i ha hi)
       ];
       inside = λ a k ha small_k. elim (cases_lt a la) [
-        | inl below ↦ (cell_kept (base + la) 1 was out (base + a) (c.args.at + k) (inl (omega arith)) c.put_in.ensures.keeps ∙ c.loop-a.invariant.inside a k below small_k)
+        | inl below ↦ (cell_kept (base + la) 1 was out (base + a) (c.args.at + k) (inl (omega arith)) c.put_in.ensures.keeps
+            ∙ c.loop-a.invariant.inside a k below small_k)
         | inr here ↦ (
             let same : base + a ≡ base + la = omega arith in
             let turn : la ≡ a = omega arith in

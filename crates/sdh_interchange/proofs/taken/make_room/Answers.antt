@@ -11,8 +11,12 @@ loop-a-preserved c =
     record {
       many = length-set cells at new ∙ c.loop-a.invariant.many;
       inside = λ a h. elim (cases_eq a c.loop-a.a) [
-        | inl e ↦ (ap (λ m. length (get_or (set cells at new) (c.args.from + m) [])) e ∙ ap length (get_or-set_same cells at new [] (omega (arith, c.loop-a.invariant.many, c.requires))) ∙ c.make_room.ensures.count)
-        | inr d ↦ (ap length (get_or-set_other cells at (c.args.from + a) new [] (λ e. d (omega arith))) ∙ c.loop-a.invariant.inside a (omega arith))
+        | inl e ↦ (ap (λ m. length (get_or (set cells at new) (c.args.from + m) [])) e
+            ∙ ap length (get_or-set_same cells at new [] (omega (arith, c.loop-a.invariant.many, c.requires))) ∙ c.make_room.ensures.count)
+        | inr d ↦ (ap length (get_or-set_other cells at (c.args.from + a) new [] (λ e. d (omega arith)))
+            ∙ c.loop-a.invariant.inside a (omega arith))
       ];
-      others = λ a away. get_or-set_other cells at a new [] (λ e. elim away [ inl below ↦ omega arith | inr above ↦ omega arith ]) ∙ c.loop-a.invariant.others a away;
+      others =
+          λ a away. get_or-set_other cells at a new [] (λ e. elim away [ inl below ↦ omega arith | inr above ↦ omega arith ])
+          ∙ c.loop-a.invariant.others a away;
     }

@@ -10,8 +10,11 @@ loop-a-preserved c =
     record {
       many = length-set here at true ∙ c.loop-a.invariant.many;
       inside = λ a h. elim (cases_eq a c.loop-a.a) [
-        | inl e ↦ (ap (λ m. get_or (set here at true) (c.args.from + m) false) e ∙ get_or-set_same here at true false (omega (arith, c.loop-a.invariant.many, c.requires)))
+        | inl e ↦ (ap (λ m. get_or (set here at true) (c.args.from + m) false) e
+            ∙ get_or-set_same here at true false (omega (arith, c.loop-a.invariant.many, c.requires)))
         | inr d ↦ (get_or-set_other here at (c.args.from + a) true false (λ e. d (omega arith)) ∙ c.loop-a.invariant.inside a (omega arith))
       ];
-      others = λ a away. get_or-set_other here at a true false (λ e. elim away [ inl below ↦ omega arith | inr above ↦ omega arith ]) ∙ c.loop-a.invariant.others a away;
+      others =
+          λ a away. get_or-set_other here at a true false (λ e. elim away [ inl below ↦ omega arith | inr above ↦ omega arith ])
+          ∙ c.loop-a.invariant.others a away;
     }

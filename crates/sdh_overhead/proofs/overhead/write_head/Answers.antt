@@ -13,8 +13,10 @@ returns-in-2 c =
     let added : Added = record { k1 = c.args.k1; k2 = c.args.k2; b1 = c.args.b1; b2 = c.args.b2.now } in
     let filled = c.fill_part.new.bytes in
     let long : 0 < length filled = omega arith in
-    rw c.in-2.is (row-second added c.args.n c.requires.some c.args.head.now (set filled 0 c.args.b1) (get_or-set_same filled 0 c.args.b1 0 long)
-    (λ i some h. (let other : i ≢ 0 = λ e. omega arith in get_or-set_other filled 0 i c.args.b1 0 other ∙ c.fill_part.ensures.inside i (omega arith) h)))
+    rw c.in-2.is (row-second added c.args.n c.requires.some c.args.head.now (set filled 0 c.args.b1)
+    (get_or-set_same filled 0 c.args.b1 0 long)
+    (λ i some h. (let other : i ≢ 0 = λ e. omega arith in get_or-set_other filled 0 i c.args.b1 0 other
+    ∙ c.fill_part.ensures.inside i (omega arith) h)))
 
 pub returns-in-4 : goal.returns-in-4
 returns-in-4 c =
@@ -34,4 +36,5 @@ returns-in_default c =
     let r2 : c.args.row ≢ 2 = λ e. omega arith in
     let r4 : c.args.row ≢ 4 = λ e. omega arith in
     let r5 : c.args.row ≢ 5 = λ e. omega arith in
-    row-other added c.args.n c.requires.some c.args.head.now c.fill_part-in_default.new.bytes c.args.row r1 r2 r4 r5 (λ i h. c.fill_part-in_default.ensures.inside i (omega arith) h)
+    row-other added c.args.n c.requires.some c.args.head.now c.fill_part-in_default.new.bytes c.args.row r1 r2 r4 r5
+    (λ i h. c.fill_part-in_default.ensures.inside i (omega arith) h)

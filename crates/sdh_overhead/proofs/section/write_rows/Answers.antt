@@ -20,14 +20,17 @@ loop-row-preserved c =
     let many : k ≡ 270 * n_of first.rate = omega arith in
     let room : a + k ≤ length c.loop-row.bytes = omega (arith, at, row-within first row (omega arith), c.loop-row.invariant.long) in
     sent-next first c.loop-row.section c.write_row.new.section c.args.k1 c.args.k2 row a k c.args.bytes.now c.loop-row.bytes c.write_row.new.bytes c.requires.bytes (omega arith) (omega arith) at many c.loop-row.invariant
-    (c.write_row.auto.bytes ∙ length-part a k c.loop-row.bytes room) c.write_row.ensures.bytes c.write_row.ensures.section c.write_row.ensures.rate c.write_row.ensures.next c.write_row.ensures.way
+    (c.write_row.auto.bytes
+    ∙ length-part a k c.loop-row.bytes room) c.write_row.ensures.bytes c.write_row.ensures.section c.write_row.ensures.rate c.write_row.ensures.next c.write_row.ensures.way
 
 pub returns-clause-bytes : goal.returns-clause-bytes
 returns-clause-bytes c =
     let row : c.loop-row.row ≡ 10 = omega arith in
-    all-sent c.args.section.now c.loop-row.section c.args.k1 c.args.k2 c.args.bytes.now c.loop-row.bytes c.requires.bytes (subst (λ (r : ℕ). SentTo c.args.section.now c.args.k1 c.args.k2 c.args.bytes.now r c.loop-row.section c.loop-row.bytes) row c.loop-row.invariant)
+    all-sent c.args.section.now c.loop-row.section c.args.k1 c.args.k2 c.args.bytes.now c.loop-row.bytes c.requires.bytes
+    (subst (λ (r : ℕ). SentTo c.args.section.now c.args.k1 c.args.k2 c.args.bytes.now r c.loop-row.section c.loop-row.bytes) row c.loop-row.invariant)
 
 pub returns-clause-section : goal.returns-clause-section
 returns-clause-section c =
     let row : c.loop-row.row ≡ 10 = omega arith in
-    all-kept c.args.section.now c.loop-row.section c.args.k1 c.args.k2 c.args.bytes.now c.loop-row.bytes c.requires.bytes (subst (λ (r : ℕ). SentTo c.args.section.now c.args.k1 c.args.k2 c.args.bytes.now r c.loop-row.section c.loop-row.bytes) row c.loop-row.invariant)
+    all-kept c.args.section.now c.loop-row.section c.args.k1 c.args.k2 c.args.bytes.now c.loop-row.bytes c.requires.bytes
+    (subst (λ (r : ℕ). SentTo c.args.section.now c.args.k1 c.args.k2 c.args.bytes.now r c.loop-row.section c.loop-row.bytes) row c.loop-row.invariant)

@@ -9,7 +9,12 @@ pub loop-i-init : goal.loop-i-init
 loop-i-init c = record {
   small = c.requires.next;
   long = c.requires.sums;
-  each = λ before at has. (at ∙ ap (λ l. length l % c.args.width) (sym (append-nil before)), λ j h. has j h ∙ ap (λ l. bip8 (lane_of c.args.width j l)) (sym (append-nil before)));
+  each =
+      λ before at has. (
+        at ∙ ap (λ l. length l % c.args.width) (sym (append-nil before)),
+        λ j h. has j h
+            ∙ ap (λ l. bip8 (lane_of c.args.width j l)) (sym (append-nil before)),
+      );
 }
 
 pub loop-i-preserved : goal.loop-i-preserved
@@ -26,9 +31,11 @@ loop-i-preserved c =
       long = length-set sums lane _ ∙ c.loop-i.invariant.long;
       each = λ before at has.
           let so = c.loop-i.invariant.each before at has in
-          let more : (before ++ take i bytes) ++ x ∷ [] ≡ before ++ take (i + 1) bytes = append_assoc before (take i bytes) (x ∷ []) ∙ ap (λ l. before ++ l) (sym (take_more bytes i 0 (omega arith))) in (
+          let more : (before ++ take i bytes) ++ x ∷ [] ≡ before ++ take (i + 1) bytes =
+          append_assoc before (take i bytes) (x ∷ []) ∙ ap (λ l. before ++ l) (sym (take_more bytes i 0 (omega arith))) in (
             c.after-lane.ensures.next ∙ next-lane-is w lane (before ++ take i bytes) x so.0 ∙ ap (λ l. length l % w) more,
-            λ j h. one-byte w lane x (before ++ take i bytes) sums c.loop-i.invariant.small (omega (arith, c.loop-i.invariant.long)) byte so.0 so.1 j h ∙ ap (λ l. bip8 (lane_of w j l)) more,
+            λ j h. one-byte w lane x (before ++ take i bytes) sums c.loop-i.invariant.small
+                (omega (arith, c.loop-i.invariant.long)) byte so.0 so.1 j h ∙ ap (λ l. bip8 (lane_of w j l)) more,
           );
     }
 

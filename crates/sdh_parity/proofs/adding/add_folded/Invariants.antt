@@ -4,6 +4,8 @@ use Rattle.sdh_parity.proofs.adding.add_folded.Given as goal
 abbrev pub invariant-loop-i : goal.invariant-loop-i
 invariant-loop-i l = record {
   long : length l.sums ≡ 48;
-  done : (k : ℕ) → k < l.i → slice_index l.sums k ≡ bit_xor (slice_index l.fn.sums k) (bit_xor (bit_xor (bit_xor (slice_index l.lanes k) (slice_index l.lanes (12 + k))) (slice_index l.lanes (24 + k))) (slice_index l.lanes (36 + k)));
+  done : (k : ℕ) → k < l.i → slice_index l.sums k ≡ bit_xor (slice_index l.fn.sums k)
+      (bit_xor (bit_xor (bit_xor (slice_index l.lanes k) (slice_index l.lanes (12 + k))) (slice_index l.lanes (24 + k)))
+      (slice_index l.lanes (36 + k)));
   rest : (k : ℕ) → l.i ≤ k → slice_index l.sums k ≡ slice_index l.fn.sums k;
 }

@@ -7,10 +7,12 @@ pub returns-then-n-eq4 : goal.returns-then-n-eq4
 returns-then-n-eq4 c = λ before bytes at has lanes small.
     let w : 12 ≡ 3 * c.args.n = omega arith in
     subst (λ (m : ℕ). HasLanes m (before ++ bytes) c.add_folded.new.sums) w
-    (folded-in before bytes c.args.sums.now c.add_folded.new.sums c.args.lanes.now (at ∙ ap (λ m. length before % m) (sym w)) (subst (λ (m : ℕ). HasLanes m before c.args.sums.now) (sym w) has) lanes small c.add_folded.ensures)
+    (folded-in before bytes c.args.sums.now c.add_folded.new.sums c.args.lanes.now (at ∙ ap (λ m. length before % m) (sym w))
+    (subst (λ (m : ℕ). HasLanes m before c.args.sums.now) (sym w) has) lanes small c.add_folded.ensures)
 
 pub returns-else-n-eq4 : goal.returns-else-n-eq4
 returns-else-n-eq4 c = λ before bytes at has lanes small.
     let w : 48 ≡ 3 * c.args.n = omega arith in
     subst (λ (m : ℕ). HasLanes m (before ++ bytes) c.add_to.new.sums) w
-    (lanes-in before bytes c.args.sums.now c.add_to.new.sums c.args.lanes.now (at ∙ ap (λ m. length before % m) (sym w)) (subst (λ (m : ℕ). HasLanes m before c.args.sums.now) (sym w) has) lanes c.add_to.ensures.front)
+    (lanes-in before bytes c.args.sums.now c.add_to.new.sums c.args.lanes.now (at ∙ ap (λ m. length before % m) (sym w))
+    (subst (λ (m : ℕ). HasLanes m before c.args.sums.now) (sym w) has) lanes c.add_to.ensures.front)

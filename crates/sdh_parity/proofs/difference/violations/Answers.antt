@@ -9,7 +9,9 @@ whole xs ys i hx hy = ap (λ zs. violations_of zs (take i ys)) (take_all i xs hx
 
 pub loop-i-preserved : goal.loop-i-preserved
 loop-i-preserved c = record {
-  counted = (let more = violations_of-more c.args.left.now c.args.right.now c.loop-i.i c.requires.same_length (omega arith) in omega (arith, c.differing_bits-count.ensures.bits));
+  counted =
+      (let more = violations_of-more c.args.left.now c.args.right.now c.loop-i.i c.requires.same_length (omega arith) in omega
+      (arith, c.differing_bits-count.ensures.bits));
   few = omega (arith, c.differing_bits-count.ensures.few);
 }
 

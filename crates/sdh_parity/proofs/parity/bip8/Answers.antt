@@ -12,7 +12,8 @@ loop-byte-preserved c =
     let bytes = c.args.bytes.now in
     let i = c.loop-byte.byte-index in
     ap (λ p. bit_xor p (get_or bytes i 0)) c.loop-byte.invariant
-    ∙ sym (bip8-push (take i bytes) (get_or bytes i 0) (omega (arith, c.type_inv.bytes i))) ∙ ap bip8 (sym (take_more bytes i 0 (omega arith)))
+    ∙ sym (bip8-push (take i bytes) (get_or bytes i 0) (omega (arith, c.type_inv.bytes i)))
+    ∙ ap bip8 (sym (take_more bytes i 0 (omega arith)))
 
 pub returns : goal.returns
 returns c = c.loop-byte.invariant ∙ ap bip8 (take_all _ _ (omega arith))

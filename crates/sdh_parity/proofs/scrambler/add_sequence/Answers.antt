@@ -10,8 +10,10 @@ loop-b-preserved c =
     let room : a + n ≤ length c.loop-b.bytes = omega arith in
     let len : length c.add_part.new.part ≡ n = c.add_part.auto.part ∙ length-part a n c.loop-b.bytes room in
     record {
-      done = λ k h. let lt : k < a + n = omega arith in added c.args.bytes.now c.loop-b.bytes c.add_part.new.part a n c.loop-b.b refl room len c.add_part.ensures c.loop-b.invariant.done c.loop-b.invariant.rest k lt;
-      rest = λ k h. let ge : a + n ≤ k = omega arith in left c.args.bytes.now c.loop-b.bytes c.add_part.new.part a n room len c.loop-b.invariant.rest k ge;
+      done = λ k h. let lt : k < a + n =
+          omega arith in added c.args.bytes.now c.loop-b.bytes c.add_part.new.part a n c.loop-b.b refl room len c.add_part.ensures c.loop-b.invariant.done c.loop-b.invariant.rest k lt;
+      rest = λ k h. let ge : a + n ≤ k =
+          omega arith in left c.args.bytes.now c.loop-b.bytes c.add_part.new.part a n room len c.loop-b.invariant.rest k ge;
     }
 
 pub returns : goal.returns

@@ -9,7 +9,8 @@ returns-clause-first c = λ j h.
     let a = c.args.a in
     let b = c.args.b in
     let e : j ≡ 0 + j = omega arith in
-    get_or-put_chunk_below 32 (put_chunk 16 (put_chunk 0 none a) b) c.args.c j 0 (omega arith) ∙ get_or-put_chunk_below 16 (put_chunk 0 none a) b j 0 h
+    get_or-put_chunk_below 32 (put_chunk 16 (put_chunk 0 none a) b) c.args.c j 0 (omega arith)
+    ∙ get_or-put_chunk_below 16 (put_chunk 0 none a) b j 0 h
     ∙ ap (λ k. get_or (put_chunk 0 none a) k 0) e ∙ get_or-put_chunk_at 0 none a j 0 (omega arith) (omega arith)
 
 pub returns-clause-second : goal.returns-clause-second
@@ -18,7 +19,8 @@ returns-clause-second c = λ j h.
     let a = c.args.a in
     let b = c.args.b in
     let long = length-put_chunk 0 none a in
-    get_or-put_chunk_below 32 (put_chunk 16 (put_chunk 0 none a) b) c.args.c (16 + j) 0 (omega arith) ∙ get_or-put_chunk_at 16 (put_chunk 0 none a) b j 0 (omega arith) (omega (arith, long))
+    get_or-put_chunk_below 32 (put_chunk 16 (put_chunk 0 none a) b) c.args.c (16 + j) 0 (omega arith)
+    ∙ get_or-put_chunk_at 16 (put_chunk 0 none a) b j 0 (omega arith) (omega (arith, long))
 
 pub returns-clause-third : goal.returns-clause-third
 returns-clause-third c = λ j h.

@@ -23,10 +23,12 @@ pub loop-r-preserved : goal.loop-r-preserved
 loop-r-preserved c =
     record {
       key = omega (arith, c.loop-r.invariant.key, c.after_row-k.ensures);
-      done = more-done c.args.bytes.now c.loop-r.bytes c.step-a.new.bytes c.step-b.new.bytes c.step-c.new.bytes c.args.at c.loop-r.r c.loop-r.k c.loop-r.invariant.key c.loop-r.invariant.done c.loop-r.invariant.rest
+      done =
+          more-done c.args.bytes.now c.loop-r.bytes c.step-a.new.bytes c.step-b.new.bytes c.step-c.new.bytes c.args.at c.loop-r.r c.loop-r.k c.loop-r.invariant.key c.loop-r.invariant.done c.loop-r.invariant.rest
           c.step-a.ensures.below c.step-a.ensures.inside c.step-a.ensures.above c.step-b.ensures.below c.step-b.ensures.inside c.step-b.ensures.above c.step-c.ensures.below c.step-c.ensures.inside c.step-c.ensures.above
           (λ m. omega (arith, c.type_inv.bytes m));
-      rest = more-rest c.args.bytes.now c.loop-r.bytes c.step-a.new.bytes c.step-b.new.bytes c.step-c.new.bytes c.args.at c.loop-r.r c.loop-r.k c.loop-r.invariant.key c.loop-r.invariant.done c.loop-r.invariant.rest
+      rest =
+          more-rest c.args.bytes.now c.loop-r.bytes c.step-a.new.bytes c.step-b.new.bytes c.step-c.new.bytes c.args.at c.loop-r.r c.loop-r.k c.loop-r.invariant.key c.loop-r.invariant.done c.loop-r.invariant.rest
           c.step-a.ensures.below c.step-a.ensures.inside c.step-a.ensures.above c.step-b.ensures.below c.step-b.ensures.inside c.step-b.ensures.above c.step-c.ensures.below c.step-c.ensures.inside c.step-c.ensures.above
           (λ m. omega (arith, c.type_inv.bytes m));
       la = c.step-a.ensures.long;
@@ -35,21 +37,24 @@ loop-r-preserved c =
       a = λ j h.
           sum-clear c.args.bytes.now c.loop-r.bytes c.step-a.new.bytes c.step-b.new.bytes c.step-c.new.bytes c.args.at c.loop-r.r c.loop-r.k c.loop-r.invariant.key c.loop-r.invariant.done c.loop-r.invariant.rest
           c.step-a.ensures.below c.step-a.ensures.inside c.step-a.ensures.above c.step-b.ensures.below c.step-b.ensures.inside c.step-b.ensures.above c.step-c.ensures.below c.step-c.ensures.inside c.step-c.ensures.above
-          (λ m. omega (arith, c.type_inv.bytes m)) c.args.clear_after j _ _ _ (omega arith) (c.loop-r.invariant.a j h) (c.step-a.ensures.sum j h)
+          (λ m. omega (arith, c.type_inv.bytes m)) c.args.clear_after j _ _ _ (omega arith) (c.loop-r.invariant.a j h)
+          (c.step-a.ensures.sum j h)
           (clear1 c.args.bytes.now c.loop-r.bytes c.step-a.new.bytes c.step-b.new.bytes c.step-c.new.bytes c.args.at c.loop-r.r c.loop-r.k c.loop-r.invariant.key c.loop-r.invariant.done c.loop-r.invariant.rest
           c.step-a.ensures.below c.step-a.ensures.inside c.step-a.ensures.above c.step-b.ensures.below c.step-b.ensures.inside c.step-b.ensures.above c.step-c.ensures.below c.step-c.ensures.inside c.step-c.ensures.above
           (λ m. omega (arith, c.type_inv.bytes m)) c.args.clear_after j h);
       b = λ j h.
           sum-clear c.args.bytes.now c.loop-r.bytes c.step-a.new.bytes c.step-b.new.bytes c.step-c.new.bytes c.args.at c.loop-r.r c.loop-r.k c.loop-r.invariant.key c.loop-r.invariant.done c.loop-r.invariant.rest
           c.step-a.ensures.below c.step-a.ensures.inside c.step-a.ensures.above c.step-b.ensures.below c.step-b.ensures.inside c.step-b.ensures.above c.step-c.ensures.below c.step-c.ensures.inside c.step-c.ensures.above
-          (λ m. omega (arith, c.type_inv.bytes m)) c.args.clear_after (16 + j) _ _ _ (omega arith) (c.loop-r.invariant.b j h) (c.step-b.ensures.sum j h)
+          (λ m. omega (arith, c.type_inv.bytes m)) c.args.clear_after (16 + j) _ _ _ (omega arith) (c.loop-r.invariant.b j h)
+          (c.step-b.ensures.sum j h)
           (clear2 c.args.bytes.now c.loop-r.bytes c.step-a.new.bytes c.step-b.new.bytes c.step-c.new.bytes c.args.at c.loop-r.r c.loop-r.k c.loop-r.invariant.key c.loop-r.invariant.done c.loop-r.invariant.rest
           c.step-a.ensures.below c.step-a.ensures.inside c.step-a.ensures.above c.step-b.ensures.below c.step-b.ensures.inside c.step-b.ensures.above c.step-c.ensures.below c.step-c.ensures.inside c.step-c.ensures.above
           (λ m. omega (arith, c.type_inv.bytes m)) c.args.clear_after j h);
       c = λ j h.
           sum-clear c.args.bytes.now c.loop-r.bytes c.step-a.new.bytes c.step-b.new.bytes c.step-c.new.bytes c.args.at c.loop-r.r c.loop-r.k c.loop-r.invariant.key c.loop-r.invariant.done c.loop-r.invariant.rest
           c.step-a.ensures.below c.step-a.ensures.inside c.step-a.ensures.above c.step-b.ensures.below c.step-b.ensures.inside c.step-b.ensures.above c.step-c.ensures.below c.step-c.ensures.inside c.step-c.ensures.above
-          (λ m. omega (arith, c.type_inv.bytes m)) c.args.clear_after (32 + j) _ _ _ (omega arith) (c.loop-r.invariant.c j h) (c.step-c.ensures.sum j h)
+          (λ m. omega (arith, c.type_inv.bytes m)) c.args.clear_after (32 + j) _ _ _ (omega arith) (c.loop-r.invariant.c j h)
+          (c.step-c.ensures.sum j h)
           (clear3 c.args.bytes.now c.loop-r.bytes c.step-a.new.bytes c.step-b.new.bytes c.step-c.new.bytes c.args.at c.loop-r.r c.loop-r.k c.loop-r.invariant.key c.loop-r.invariant.done c.loop-r.invariant.rest
           c.step-a.ensures.below c.step-a.ensures.inside c.step-a.ensures.above c.step-b.ensures.below c.step-b.ensures.inside c.step-b.ensures.above c.step-c.ensures.below c.step-c.ensures.inside c.step-c.ensures.above
           (λ m. omega (arith, c.type_inv.bytes m)) c.args.clear_after j h);

@@ -18,7 +18,8 @@ loop-r-init c = record {
 pub loop-r-preserved : goal.loop-r-preserved
 loop-r-preserved c = record {
   key = omega (arith, c.loop-r.invariant.key, c.after_row-k.ensures);
-  done = opened-done c.args.from.now c.loop-r.to c.open_step-a.new.to c.open_step-b.new.to c.open_step-c.new.to c.args.at c.loop-r.r c.loop-r.k c.loop-r.invariant.key c.loop-r.invariant.done
+  done =
+      opened-done c.args.from.now c.loop-r.to c.open_step-a.new.to c.open_step-b.new.to c.open_step-c.new.to c.args.at c.loop-r.r c.loop-r.k c.loop-r.invariant.key c.loop-r.invariant.done
       c.open_step-a.ensures.below c.open_step-a.ensures.inside c.open_step-b.ensures.below c.open_step-b.ensures.inside c.open_step-c.ensures.below c.open_step-c.ensures.inside (λ m. omega (arith, c.type_inv.to m));
   la = c.open_step-a.ensures.long;
   lb = c.open_step-b.ensures.long;

@@ -9,7 +9,8 @@ returns-clause-below c = λ m h. get_or-put_chunk_below c.args.i c.args.to.now _
 
 pub returns-clause-inside : goal.returns-clause-inside
 returns-clause-inside c = λ j h.
-    get_or-put_chunk_at c.args.i c.args.to.now _ j 0 (omega (arith, c.keyed-new.ensures.len)) (omega (arith, c.keyed-new.ensures.len)) ∙ c.keyed-new.ensures.each j h
+    get_or-put_chunk_at c.args.i c.args.to.now _ j 0 (omega (arith, c.keyed-new.ensures.len)) (omega (arith, c.keyed-new.ensures.len))
+    ∙ c.keyed-new.ensures.each j h
     ∙ ap (λ z. bit_xor z (scrambling_byte (c.args.k + j))) (get_or-chunk c.args.i 16 c.args.from.now j 0 h)
 
 pub returns-clause-long : goal.returns-clause-long
@@ -18,4 +19,5 @@ returns-clause-long c = added_long c.args.sum c.keyed-new.result c.requires.sum 
 pub returns-clause-sum : goal.returns-clause-sum
 returns-clause-sum c = λ j h.
     added_at c.args.sum c.keyed-new.result j c.requires.sum c.keyed-new.ensures.len h
-    ∙ ap (bit_xor (get_or c.args.sum j 0)) (sym (get_or-put_chunk_at c.args.i c.args.to.now _ j 0 (omega (arith, c.keyed-new.ensures.len)) (omega (arith, c.keyed-new.ensures.len))))
+    ∙ ap (bit_xor (get_or c.args.sum j 0)) (sym (get_or-put_chunk_at c.args.i c.args.to.now _ j 0 (omega (arith, c.keyed-new.ensures.len))
+    (omega (arith, c.keyed-new.ensures.len))))

@@ -36,7 +36,8 @@ returns-clause-lanes c =
     let rows : ℕ = length c.args.bytes.now / 48 in
     clear-lanes c.args.clear_after c.args.bytes.now split.result.0.now split.result.1.now c.mix-sums.new.bytes c.pass_rest.new.bytes c.join.new.all c.pass_rest.new.lanes rows split.ensures.value split.ensures.front_len
     (omega (arith, split.ensures.back_len)) c.mix-sums.auto.bytes c.pass_rest.auto.bytes (small_old c) (small_new c)
-    (in-thirds c.join.new.all c.mix-sums.result.a c.mix-sums.result.b c.mix-sums.result.c (if c.args.clear_after then c.mix-sums.new.bytes else split.result.0.now) rows
+    (in-thirds c.join.new.all c.mix-sums.result.a c.mix-sums.result.b c.mix-sums.result.c
+    (if c.args.clear_after then c.mix-sums.new.bytes else split.result.0.now) rows
     c.join.ensures.first c.join.ensures.second c.join.ensures.third c.mix-sums.ensures.a c.mix-sums.ensures.b c.mix-sums.ensures.c)
     c.pass_rest.ensures.lanes c.pass_rest.ensures.rest
 
@@ -44,6 +45,14 @@ pub returns-clause-line : goal.returns-clause-line
 returns-clause-line c =
     let split = c.split_at_mut-whole in
     let long : length (c.mix-sums.new.bytes ++ c.pass_rest.new.bytes) ≡ length c.args.bytes.now =
-    omega (arith, length-append c.mix-sums.new.bytes c.pass_rest.new.bytes, c.mix-sums.auto.bytes, c.pass_rest.auto.bytes, split.ensures.front_len, split.ensures.back_len) in
-    parity-of-line c.args.clear_after c.args.bytes.now (c.mix-sums.new.bytes ++ c.pass_rest.new.bytes) c.pass_rest.new.lanes c.args.at _ _ long (each c) (small_old c) (small_new c)
+    omega (
+      arith,
+      length-append c.mix-sums.new.bytes c.pass_rest.new.bytes,
+      c.mix-sums.auto.bytes,
+      c.pass_rest.auto.bytes,
+      split.ensures.front_len,
+      split.ensures.back_len,
+    ) in
+    parity-of-line c.args.clear_after c.args.bytes.now (c.mix-sums.new.bytes
+    ++ c.pass_rest.new.bytes) c.pass_rest.new.lanes c.args.at _ _ long (each c) (small_old c) (small_new c)
     (omega (arith, c.pass_rest.auto.lanes, c.join.auto.all)) (returns-clause-lanes c) c.bip8.ensures c.sequence_parity.ensures

@@ -8,14 +8,16 @@ use Rattle.sdh_parity.proofs.through.step.Goals as goal
 use Rattle.sdh_parity.proofs.through.step.Goals.{then-clear_after, else-clear_after}
 
 -- a vector of the bytes, and the one that is put in its place
-module _ (bytes new : List ℕ) (i k : ℕ) (room : i + 16 ≤ length bytes) (long : length new ≡ 16) (each : (j : ℕ) → j < 16 → get_or new j 0 ≡ bit_xor (get_or (chunk i 16 bytes) j 0) (scrambling_byte (k + j))) where
+module _ (bytes new : List ℕ) (i k : ℕ) (room : i + 16 ≤ length bytes) (long : length new ≡ 16)
+    (each : (j : ℕ) → j < 16 → get_or new j 0 ≡ bit_xor (get_or (chunk i 16 bytes) j 0) (scrambling_byte (k + j))) where
   old_at : (j : ℕ) → j < 16 → get_or (chunk i 16 bytes) j 0 ≡ get_or bytes (i + j) 0
   old_at j h = get_or-chunk i 16 bytes j 0 h
 
   new_at : (j : ℕ) → j < 16 → get_or new j 0 ≡ bit_xor (get_or bytes (i + j) 0) (scrambling_byte (k + j))
   new_at j h = each j h ∙ ap (λ z. bit_xor z (scrambling_byte (k + j))) (old_at j h)
 
-  clear_at : (after : Bool) (j : ℕ) → j < 16 → get_or (if after then new else chunk i 16 bytes) j 0 ≡ get_or (if after then put_chunk i bytes new else bytes) (i + j) 0
+  clear_at : (after : Bool) (j : ℕ) → j < 16 → get_or (if after then new else chunk i 16 bytes) j 0
+      ≡ get_or (if after then put_chunk i bytes new else bytes) (i + j) 0
   clear_at true j h = sym (get_or-put_chunk_at i bytes new j 0 (omega arith) (omega arith))
   clear_at false j h = old_at j h
 
@@ -24,7 +26,8 @@ returns-clause-below c = λ m h. get_or-put_chunk_below c.args.i c.args.bytes.no
 
 pub returns-clause-inside : goal.returns-clause-inside
 returns-clause-inside c = λ j h.
-    get_or-put_chunk_at c.args.i c.args.bytes.now _ j 0 (omega (arith, c.keyed-new.ensures.len)) (omega (arith, c.keyed-new.ensures.len)) ∙ new_at c.args.bytes.now c.keyed-new.result c.args.i c.args.k (omega arith) c.keyed-new.ensures.len c.keyed-new.ensures.each j h
+    get_or-put_chunk_at c.args.i c.args.bytes.now _ j 0 (omega (arith, c.keyed-new.ensures.len)) (omega (arith, c.keyed-new.ensures.len))
+    ∙ new_at c.args.bytes.now c.keyed-new.result c.args.i c.args.k (omega arith) c.keyed-new.ensures.len c.keyed-new.ensures.each j h
 
 pub returns-clause-above : goal.returns-clause-above
 returns-clause-above c = λ m h. get_or-put_chunk_above c.args.i c.args.bytes.now _ m 0 (omega (arith, c.keyed-new.ensures.len))
@@ -42,4 +45,5 @@ returns-clause-sum c = λ j h.
       | else-clear_after w ↦ w.result-is ∙ sym (ap (λ b. if b then new else old) w.if-clear_after.false)
     ] in
     added_at c.args.sum c.if-clear_after.result j c.requires.sum c.if-clear_after.auto.result.0 h
-    ∙ ap (bit_xor (get_or c.args.sum j 0)) (ap (λ l. get_or l j 0) is ∙ clear_at c.args.bytes.now new c.args.i c.args.k (omega arith) c.keyed-new.ensures.len c.keyed-new.ensures.each c.args.clear_after j h)
+    ∙ ap (bit_xor (get_or c.args.sum j 0)) (ap (λ l. get_or l j 0) is
+    ∙ clear_at c.args.bytes.now new c.args.i c.args.k (omega arith) c.keyed-new.ensures.len c.keyed-new.ensures.each c.args.clear_after j h)

@@ -12,12 +12,17 @@ add_stretch-requires-clause-passes c =
 
 pub loop-left-preserved : goal.loop-left-preserved
 loop-left-preserved c = record {
-  filling = filling_next c.args.slot c.args.draws.now c.args.circuits.now.circuits c.loop-left.circuits c.add_stretch.new.circuits _ c.args.ring.now c.spans_drawn-spans.result c.spans_drawn-spans.new.draws c.add_stretch.new.draws
+  filling =
+      filling_next c.args.slot c.args.draws.now c.args.circuits.now.circuits c.loop-left.circuits c.add_stretch.new.circuits _ c.args.ring.now c.spans_drawn-spans.result c.spans_drawn-spans.new.draws c.add_stretch.new.draws
       c.requires.slot_from_1 c.loop-left-test.true c.loop-left.invariant.filling c.requires.ring c.spans_drawn-spans.ensures.spans c.spans_drawn-spans.ensures.draws c.add_stretch.ensures.draws c.in_ok-add_stretch.ensures.added;
 }
 
 pub returns-clause-circuits : goal.returns-clause-circuits
-returns-clause-circuits c = filled_circuits c.args.slot c.args.draws.now c.args.circuits.now.circuits c.loop-left.circuits _ (omega (arith, c.loop-left-test.false)) c.loop-left.invariant.filling
+returns-clause-circuits c =
+    filled_circuits c.args.slot c.args.draws.now c.args.circuits.now.circuits c.loop-left.circuits _
+    (omega (arith, c.loop-left-test.false)) c.loop-left.invariant.filling
 
 pub returns-clause-draws : goal.returns-clause-draws
-returns-clause-draws c = filled_state c.args.slot c.args.draws.now c.args.circuits.now.circuits c.loop-left.circuits _ (omega (arith, c.loop-left-test.false)) c.loop-left.invariant.filling
+returns-clause-draws c =
+    filled_state c.args.slot c.args.draws.now c.args.circuits.now.circuits c.loop-left.circuits _
+    (omega (arith, c.loop-left-test.false)) c.loop-left.invariant.filling

@@ -18,5 +18,6 @@ returns-in-Err-clause-refused c =
     let known : has_only circuit_keys ms ≡ true = search (rules, all_keys_view) in
     let asks : wish_in ms ≡ Some wish = search rules in
     subst (λ (o : Option Reason). IsRefused (refusal_at c.args.place o) c.refused_at.result)
-    (sym (asked_first c.args.circuits.now.slots c.args.ring.now c.args.circuits.now.circuits ms wish known asks ∙ refused_for _ c.args.circuits.now c.args.ring.now wish c.in-Err.why c.in-Err.ensures.refused c.in-Err.ensures.memory))
+    (sym (asked_first c.args.circuits.now.slots c.args.ring.now c.args.circuits.now.circuits ms wish known asks
+    ∙ refused_for _ c.args.circuits.now c.args.ring.now wish c.in-Err.why c.in-Err.ensures.refused c.in-Err.ensures.memory))
     c.refused_at.ensures

@@ -6,8 +6,11 @@ use Rattle.sdh_plan.proofs.form.step_of.Goals as goal
 
 pub returns-in-Some : goal.returns-in-Some
 returns-in-Some c =
-    c.step_in.ensures ∙ ap (λ ws. told (n_of c.args.rate) c.args.ring.now c.args.circuits.now.circuits (map (λ word. word.now) ws)) c.deref.ensures.0
-    ∙ told_kept (n_of c.args.rate) c.args.ring.now c.args.circuits.now.circuits (words c.args.text.now) _ c.in-Some.ensures.words c.in-Some.ensures.whole
+    c.step_in.ensures ∙ ap (λ ws. told (n_of c.args.rate) c.args.ring.now c.args.circuits.now.circuits
+    (map (λ word. word.now) ws)) c.deref.ensures.0
+    ∙ told_kept (n_of c.args.rate) c.args.ring.now c.args.circuits.now.circuits
+    (words c.args.text.now) _ c.in-Some.ensures.words c.in-Some.ensures.whole
 
 pub returns-in-None : goal.returns-in-None
-returns-in-None c = sym (told_empty (n_of c.args.rate) c.args.ring.now c.args.circuits.now.circuits (words c.args.text.now) c.in-None.ensures.empty)
+returns-in-None c =
+    sym (told_empty (n_of c.args.rate) c.args.ring.now c.args.circuits.now.circuits (words c.args.text.now) c.in-None.ensures.empty)

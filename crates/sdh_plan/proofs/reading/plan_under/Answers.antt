@@ -16,42 +16,53 @@ unfolding checks
 returns-in_err-rate-clause-refused c =
     let p = err_from_is_err_and c.from_residual.result c.from_residual.ensures.1 in
     let ms : Members = table_view c.args.table.now in
-    rw (p.1, p.2) (refused_before (ring_checks ms) (settings_checks (n_in ms) ms ++ (provision_checks (n_in ms) (nodes_in ms) ms ++ script_checks (n_in ms) (nodes_in ms) (circuits_in (nodes_in ms) ms) ms)) c.in_err-rate.field-0.0 c.in_err-rate.ensures.refused)
+    rw (p.1, p.2) (refused_before (ring_checks ms) (settings_checks (n_in ms) ms
+    ++ (provision_checks (n_in ms) (nodes_in ms) ms ++ script_checks (n_in ms) (nodes_in ms)
+    (circuits_in (nodes_in ms) ms) ms)) c.in_err-rate.field-0.0 c.in_err-rate.ensures.refused)
 
 pub returns-in_err-settings-clause-refused : goal.returns-in_err-settings-clause-refused
 returns-in_err-settings-clause-refused c =
     let p = err_from_is_err_and c.from_residual-in_err-settings.result c.from_residual-in_err-settings.ensures.1 in
-    rw (p.1, p.2) (settings_refuse (table_view c.args.table.now) c.in_ok-rate.rate c.in_ok-rate.ring (record { rate_is = c.in_ok-rate.ensures.rate; nodes_are = c.in_ok-rate.ensures.ring })
+    rw (p.1, p.2) (settings_refuse (table_view c.args.table.now) c.in_ok-rate.rate c.in_ok-rate.ring
+    (record { rate_is = c.in_ok-rate.ensures.rate; nodes_are = c.in_ok-rate.ensures.ring })
     c.in_err-settings.field-0.0 c.in_ok-rate.ensures.passed c.in_err-settings.ensures.refused)
 
 pub returns-in_err-circuits-clause-refused : goal.returns-in_err-circuits-clause-refused
 returns-in_err-circuits-clause-refused c =
     let p = err_from_is_err_and c.from_residual-in_err-circuits.result c.from_residual-in_err-circuits.ensures.1 in
-    rw (p.1, p.2) (circuits_refuse (table_view c.args.table.now) c.in_ok-rate.rate c.in_ok-rate.ring (record { rate_is = c.in_ok-rate.ensures.rate; nodes_are = c.in_ok-rate.ensures.ring })
+    rw (p.1, p.2) (circuits_refuse (table_view c.args.table.now) c.in_ok-rate.rate c.in_ok-rate.ring
+    (record { rate_is = c.in_ok-rate.ensures.rate; nodes_are = c.in_ok-rate.ensures.ring })
     c.in_err-circuits.field-0.0 c.in_ok-rate.ensures.passed c.in_ok-settings.ensures.passed c.in_err-circuits.ensures.refused)
 
 pub returns-in_err-steps-clause-refused : goal.returns-in_err-steps-clause-refused
 returns-in_err-steps-clause-refused c =
     let p = err_from_is_err_and c.from_residual-in_err-steps.result c.from_residual-in_err-steps.ensures.1 in
-    rw (p.1, p.2) (script_refuses (table_view c.args.table.now) c.in_ok-rate.rate c.in_ok-rate.ring (record { rate_is = c.in_ok-rate.ensures.rate; nodes_are = c.in_ok-rate.ensures.ring })
-    c.in_err-steps.field-0.0 c.in_ok-circuits.circuits.circuits (ap (λ p. p.circuits) c.in_ok-circuits.ensures.circuits) c.in_ok-rate.ensures.passed c.in_ok-settings.ensures.passed c.in_ok-circuits.ensures.passed c.in_err-steps.ensures.refused)
+    rw (p.1, p.2) (script_refuses (table_view c.args.table.now) c.in_ok-rate.rate c.in_ok-rate.ring
+    (record { rate_is = c.in_ok-rate.ensures.rate; nodes_are = c.in_ok-rate.ensures.ring })
+    c.in_err-steps.field-0.0 c.in_ok-circuits.circuits.circuits
+    (ap (λ p. p.circuits) c.in_ok-circuits.ensures.circuits) c.in_ok-rate.ensures.passed c.in_ok-settings.ensures.passed c.in_ok-circuits.ensures.passed c.in_err-steps.ensures.refused)
 
 pub returns-clause-passed : goal.returns-clause-passed
 returns-clause-passed c =
-    all_pass (table_view c.args.table.now) c.in_ok-rate.rate c.in_ok-rate.ring (record { rate_is = c.in_ok-rate.ensures.rate; nodes_are = c.in_ok-rate.ensures.ring })
-    c.in_ok-circuits.circuits.circuits (ap (λ p. p.circuits) c.in_ok-circuits.ensures.circuits) c.in_ok-rate.ensures.passed c.in_ok-settings.ensures.passed c.in_ok-circuits.ensures.passed c.in_ok-steps.ensures.passed
+    all_pass (table_view c.args.table.now) c.in_ok-rate.rate c.in_ok-rate.ring
+    (record { rate_is = c.in_ok-rate.ensures.rate; nodes_are = c.in_ok-rate.ensures.ring })
+    c.in_ok-circuits.circuits.circuits
+    (ap (λ p. p.circuits) c.in_ok-circuits.ensures.circuits) c.in_ok-rate.ensures.passed c.in_ok-settings.ensures.passed c.in_ok-circuits.ensures.passed c.in_ok-steps.ensures.passed
 
 pub returns-clause-plan : goal.returns-clause-plan
 returns-clause-plan c =
-    plan_is (table_view c.args.table.now) c.in_ok-rate.rate c.in_ok-rate.ring (record { rate_is = c.in_ok-rate.ensures.rate; nodes_are = c.in_ok-rate.ensures.ring })
+    plan_is (table_view c.args.table.now) c.in_ok-rate.rate c.in_ok-rate.ring
+    (record { rate_is = c.in_ok-rate.ensures.rate; nodes_are = c.in_ok-rate.ensures.ring })
     c.in_ok-settings.settings c.in_ok-settings.limit c.in_ok-circuits.circuits c.in_ok-steps.steps.items
     c.in_ok-settings.ensures.rate c.in_ok-settings.ensures.threshold c.in_ok-settings.ensures.wait c.in_ok-settings.ensures.limit
     c.in_ok-circuits.ensures.circuits c.in_ok-steps.ensures.steps
 
 pub invariant_of-result : goal.invariant_of-result
 invariant_of-result c =
-    let fits : AreSteps c.in_ok-settings.settings.rate (length c.in_ok-rate.ring) (length c.in_ok-circuits.circuits.circuits) start c.in_ok-steps.steps.items × (ends_settled c.in_ok-steps.steps.items ≡ true) =
-    script_fits (table_view c.args.table.now) c.in_ok-settings.settings.rate c.in_ok-rate.ring c.in_ok-circuits.circuits.circuits (n_of c.in_ok-rate.rate) c.in_ok-steps.steps.items
+    let fits : AreSteps c.in_ok-settings.settings.rate (length c.in_ok-rate.ring)
+    (length c.in_ok-circuits.circuits.circuits) start c.in_ok-steps.steps.items × (ends_settled c.in_ok-steps.steps.items ≡ true) =
+    script_fits (table_view c.args.table.now) c.in_ok-settings.settings.rate c.in_ok-rate.ring c.in_ok-circuits.circuits.circuits
+    (n_of c.in_ok-rate.rate) c.in_ok-steps.steps.items
     (ap n_of (sym c.in_ok-settings.ensures.rate)) c.in_ok-steps.ensures.passed c.in_ok-steps.ensures.steps in (
       record {
         threshold_from_1 = c.in_ok-settings.ensures.threshold_from_1;

@@ -6,4 +6,6 @@ use Rattle.sdh_plan.proofs.Elements.{integers_view}
 use Rattle.sdh_plan.proofs.ring.integers_of.Goals as goal
 
 pub returns : goal.returns
-returns c = c.loop-value.invariant.made ∙ ap (map (λ v. integer_of (view v))) (take_all c.loop-value.value-index c.args.values.now c.loop-value-test.false) ∙ integers_view c.args.values.now
+returns c =
+    c.loop-value.invariant.made ∙ ap (map (λ v. integer_of (view v)))
+    (take_all c.loop-value.value-index c.args.values.now c.loop-value-test.false) ∙ integers_view c.args.values.now

@@ -1,4 +1,5 @@
-use Rattle.sdh_report.proofs.Short.{short-settle_line, short-node_line, short-port_line, short-drop_lines, short-table_line, short-count_line}
+use Rattle.sdh_report.proofs.Short.{short-settle_line, short-node_line, short-port_line, short-drop_lines, short-table_line}
+use Rattle.sdh_report.proofs.Short.{short-count_line}
 use Rattle.sdh_report.proofs.laws.lines_are_short.Goals as goal
 
 pub returns : goal.returns

@@ -9,7 +9,8 @@ as_bytes-requires-clause-fit c = λ k d h. fit c.args.ids.now k d (sym c.in_defa
 pub invariant_of-result : goal.invariant_of-result
 invariant_of-result c =
     let P : List ℕ → Type 0 = λ xs. AreIds xs in
-    subst P (sym c.as_bytes.ensures) (are_ids c.args.ids.now (omega arith) (omega arith) (sym c.in_default.ensures.index) (sym c.in_default-first_repeat.ensures.index))
+    subst P (sym c.as_bytes.ensures) (are_ids c.args.ids.now (omega arith) (omega arith) (sym c.in_default.ensures.index)
+    (sym c.in_default-first_repeat.ensures.index))
 
 pub returns-clause-ids : goal.returns-clause-ids
 returns-clause-ids c = ap (map pos) c.as_bytes.ensures ∙ same_numbers c.args.ids.now (sym c.in_default.ensures.index)

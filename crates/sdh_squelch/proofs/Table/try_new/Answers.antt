@@ -10,8 +10,10 @@ pub invariant_of-result : goal.invariant_of-result
 unfolding rows_of
 invariant_of-result c =
     let ids = c.args.map.now in let n = length ids in let circuits = c.args.circuits.now.circuits in let p = c.args.at.0 in
-    let made = all-rows n circuits p c.span.result.0 c.span-2.result.0 c.in_ok-rows.rows.items c.add_rows.new.rows.items c.add_rows-2.new.rows.items
-    c.in_ok-rows.ensures.items c.span.ensures.place c.span-2.ensures.place (c.in_ok-add_rows.ensures.rows ids c.requires.kept) (c.in_ok-add_rows-2.ensures.rows ids c.requires.kept) in
+    let made =
+    all-rows n circuits p c.span.result.0 c.span-2.result.0 c.in_ok-rows.rows.items c.add_rows.new.rows.items c.add_rows-2.new.rows.items
+    c.in_ok-rows.ensures.items c.span.ensures.place c.span-2.ensures.place (c.in_ok-add_rows.ensures.rows ids c.requires.kept)
+    (c.in_ok-add_rows-2.ensures.rows ids c.requires.kept) in
     let none : All (HasEnds n) c.in_ok-rows.rows.items = subst (All (HasEnds n)) (sym c.in_ok-rows.ensures.items) (All-nil (HasEnds n)) in
     let ends = c.in_ok-add_rows-2.ensures.ends ids c.requires.kept (c.in_ok-add_rows.ensures.ends ids c.requires.kept none) in
     let ring = sym c.copy.ensures in

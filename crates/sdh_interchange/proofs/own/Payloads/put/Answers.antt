@@ -12,7 +12,9 @@ invariant_of-self c =
     record {
       many = ap length is ∙ length-set old k new ∙ c.self.invariant.many;
       each = λ a h. ap (λ l. length (get_or l a [])) is ∙ elim (cases_eq a k) [
-        | inl e ↦ (ap (λ m. length (get_or (set old k new) m [])) e ∙ ap length (get_or-set_same old k new [] (omega (arith, c.self.invariant.many, c.requires.last, c.requires.first))) ∙ c.requires.payload)
+        | inl e ↦ (ap (λ m. length (get_or (set old k new) m [])) e
+            ∙ ap length (get_or-set_same old k new [] (omega (arith, c.self.invariant.many, c.requires.last, c.requires.first)))
+            ∙ c.requires.payload)
         | inr d ↦ (ap length (get_or-set_other old k a new [] d) ∙ c.self.invariant.each a h)
       ];
     }

@@ -12,8 +12,33 @@ plain-requires g c =
     let n = g.row.N in
     let rate = c.requires.pass.rate in
     let from = c.byte_of-from.ensures.place in
-    let to = c.byte_of-to.ensures.place in
-    (omega arith, (c.requires.pass, (inl refl, (c.requires.size, (whole_at n 810 c.byte_of-from.result from, (whole_at n 819 c.byte_of-to.result to, (some_between n 810 819 c.byte_of-from.result c.byte_of-to.result rate from to (omega arith), (omega (arith, within_frame n 819 c.byte_of-to.result rate to (omega arith), c.requires.size), (λ i low high. plain_pointer n (get_or pass.sources.now (i % n) Ones) pass.inputs.now.own.now i rate (subst (λ m. m ≤ i) from low) (subst (λ m. i < m) to high) (c.requires.pass.sources.each (i % n) (in_rate n i rate)))))))))))
+    let to = c.byte_of-to.ensures.place in (
+      omega arith,
+      (
+        c.requires.pass,
+        (
+          inl refl,
+          (
+            c.requires.size,
+            (
+              whole_at n 810 c.byte_of-from.result from,
+              (
+                whole_at n 819 c.byte_of-to.result to,
+                (
+                  some_between n 810 819 c.byte_of-from.result c.byte_of-to.result rate from to (omega arith),
+                  (
+                    omega (arith, within_frame n 819 c.byte_of-to.result rate to (omega arith), c.requires.size),
+                    (λ i low high. plain_pointer n (get_or pass.sources.now (i % n) Ones) pass.inputs.now.own.now i rate
+                        (subst (λ m. m ≤ i) from low) (subst (λ m. i < m) to high)
+                        (c.requires.pass.sources.each (i % n) (in_rate n i rate))),
+                  ),
+                ),
+              ),
+            ),
+          ),
+        ),
+      ),
+    )
 
 pub returns : goal.returns
 returns g c =

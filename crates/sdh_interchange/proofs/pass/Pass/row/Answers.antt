@@ -15,8 +15,35 @@ plain-requires g c =
     let rate = c.requires.pass.rate in
     let from = c.byte_of-from.ensures.place in
     let to = c.byte_of-to.ensures.place in
-    let none : list_any is_own pass.sources.now ≡ false = sym c.requires.pass.owned ∙ c.if-self.false in
-    (omega arith, (c.requires.pass, (c.requires.reads, (c.requires.size, (whole_at n (270 * r + 9) c.byte_of-from.result from, (whole_at n (270 * r + 270) c.byte_of-to.result to, (some_between n (270 * r + 9) (270 * r + 270) c.byte_of-from.result c.byte_of-to.result rate from to (omega arith), (omega (arith, within_frame n (270 * r + 270) c.byte_of-to.result rate to (omega arith), c.requires.size), (λ i low high. (let few : i % n < length pass.sources.now = omega (arith, in_rate n i rate, c.requires.pass.sources.many) in plain_without n pass.sources.now pass.inputs.now.own.now i none few))))))))))
+    let none : list_any is_own pass.sources.now ≡ false = sym c.requires.pass.owned ∙ c.if-self.false in (
+      omega arith,
+      (
+        c.requires.pass,
+        (
+          c.requires.reads,
+          (
+            c.requires.size,
+            (
+              whole_at n (270 * r + 9) c.byte_of-from.result from,
+              (
+                whole_at n (270 * r + 270) c.byte_of-to.result to,
+                (
+                  some_between n (270 * r + 9) (270 * r + 270) c.byte_of-from.result c.byte_of-to.result rate from to (omega arith),
+                  (
+                    omega (arith, within_frame n (270 * r + 270) c.byte_of-to.result rate to (omega arith), c.requires.size),
+                    (λ i low high. (let few : i % n < length pass.sources.now = omega (
+                      arith,
+                      in_rate n i rate,
+                      c.requires.pass.sources.many,
+                    ) in plain_without n pass.sources.now pass.inputs.now.own.now i none few)),
+                  ),
+                ),
+              ),
+            ),
+          ),
+        ),
+      ),
+    )
 
 pub returns-else-self : goal.returns-else-self
 returns-else-self g c =

@@ -6,15 +6,22 @@ use Rattle.sdh_overhead.proofs.landed.LandedLanding.land.Goals as goal
 pub invariant_of-self : goal.invariant_of-self
 invariant_of-self c = record {
   wide = search rules;
-  size = ap length (lent-whole c.self.inside.frame.bytes c.open_frame-rows.new.to (c.open_frame-rows.auto.to ∙ ap length c.bytes_mut.ensures.bytes)) ∙ c.open_frame-rows.auto.to ∙ ap length c.bytes_mut.ensures.bytes ∙ c.self.invariant.size;
+  size =
+      ap length (lent-whole c.self.inside.frame.bytes c.open_frame-rows.new.to
+      (c.open_frame-rows.auto.to ∙ ap length c.bytes_mut.ensures.bytes)) ∙ c.open_frame-rows.auto.to
+      ∙ ap length c.bytes_mut.ensures.bytes ∙ c.self.invariant.size;
   summed =
       lands-summed (n_of c.self.inside.frame.rate) c.n-n.result c.value-self-inside.result c.open_frame-rows.result.line c.parity_of_rows-self-inside.result c.self.inside.frame.bytes c.open_frame-rows.new.to c.bytes.result.now c.open_frame-rows.result.clear
-      (c.n-n.ensures ∙ ap n_of c.rate.ensures.rate) c.open_frame-rows.ensures.bytes (c.open_frame-rows.auto.to ∙ ap length c.bytes_mut.ensures.bytes) c.value-self-inside.ensures c.open_frame-rows.ensures.line c.parity_of_rows-self-inside.ensures c.open_frame-rows.ensures.clear;
+      (c.n-n.ensures ∙ ap n_of c.rate.ensures.rate) c.open_frame-rows.ensures.bytes
+      (c.open_frame-rows.auto.to
+      ∙ ap length c.bytes_mut.ensures.bytes) c.value-self-inside.ensures c.open_frame-rows.ensures.line c.parity_of_rows-self-inside.ensures c.open_frame-rows.ensures.clear;
 }
 
 pub returns-clause-landed : goal.returns-clause-landed
 returns-clause-landed c =
     ap Some
     (lands (n_of c.self.inside.frame.rate) c.n-n.result c.value-self-inside.result c.open_frame-rows.result.line c.parity_of_rows-self-inside.result c.self.inside.frame.bytes c.open_frame-rows.new.to c.bytes.result.now c.open_frame-rows.result.clear
-    (c.n-n.ensures ∙ ap n_of c.rate.ensures.rate) c.open_frame-rows.ensures.bytes (c.open_frame-rows.auto.to ∙ ap length c.bytes_mut.ensures.bytes) c.value-self-inside.ensures c.open_frame-rows.ensures.line c.parity_of_rows-self-inside.ensures c.open_frame-rows.ensures.clear
+    (c.n-n.ensures ∙ ap n_of c.rate.ensures.rate) c.open_frame-rows.ensures.bytes
+    (c.open_frame-rows.auto.to
+    ∙ ap length c.bytes_mut.ensures.bytes) c.value-self-inside.ensures c.open_frame-rows.ensures.line c.parity_of_rows-self-inside.ensures c.open_frame-rows.ensures.clear
     ∙ c.bytes.ensures.bytes)

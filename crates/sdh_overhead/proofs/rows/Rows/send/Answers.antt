@@ -22,16 +22,20 @@ returns-clause-place c =
     let rest = c.split_at_mut-head.result.1.now in
     let at : ℕ = (c.args.row - 1) * (270 * n) in
     let mid = c.apply.ensures.at ∙ ap (λ (p : Position). record p { at = p.at + length head }) c.requires.place in
-    let wide : length head + length rest ≡ 270 * n = omega (arith, c.split_at_mut-head.ensures.front_len, c.split_at_mut-head.ensures.back_len, c.requires.bytes) in
-    let end : at + length head + length rest ≡ c.args.row * (270 * n) = sum-up at (length head) (length rest) (270 * n) wide ∙ row-end c.args.row (270 * n) c.requires.first in
+    let wide : length head + length rest ≡ 270 * n =
+    omega (arith, c.split_at_mut-head.ensures.front_len, c.split_at_mut-head.ensures.back_len, c.requires.bytes) in
+    let end : at + length head + length rest ≡ c.args.row * (270 * n) =
+    sum-up at (length head) (length rest) (270 * n) wide ∙ row-end c.args.row (270 * n) c.requires.first in
     c.send_piece.ensures.at ∙ ap (λ (p : Position). record p { at = p.at + length rest }) mid ∙ (λ i. record { clear = 9 * n; at = end i })
 
 pub returns-clause-line : goal.returns-clause-line
 returns-clause-line c = λ before e.
-    c.send_piece.ensures.line (before ++ c.apply.new.bytes) (c.add.ensures before e) ∙ ap bip8 (append_assoc before c.apply.new.bytes c.send_piece.new.bytes)
+    c.send_piece.ensures.line (before ++ c.apply.new.bytes) (c.add.ensures before e)
+    ∙ ap bip8 (append_assoc before c.apply.new.bytes c.send_piece.new.bytes)
 
 pub returns-clause-clear : goal.returns-clause-clear
 returns-clause-clear c = λ before e.
     let rest = c.split_at_mut-head.result.1.now in
-    c.send_piece.ensures.clear before (e ∙ ap (λ m. after_bytes m before) (sym c.requires.rate)) ∙ ap (λ m. after_bytes m (before ++ rest)) c.requires.rate
+    c.send_piece.ensures.clear before (e ∙ ap (λ m. after_bytes m before) (sym c.requires.rate))
+    ∙ ap (λ m. after_bytes m (before ++ rest)) c.requires.rate
     ∙ ap (λ l. after_bytes c.args.n (before ++ l)) (c.split_at_mut-head.ensures.back ∙ ap (λ k. drop k c.args.bytes.now) c.head_len.ensures)

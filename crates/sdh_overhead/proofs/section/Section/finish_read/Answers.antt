@@ -11,25 +11,54 @@ pub returns-then-not-self-clause-read : goal.returns-then-not-self-clause-read
 returns-then-not-self-clause-read c = λ line are.
     let s = c.self.inside in
     let r = s.rows in
-    let u : UnderWay = record { rows = r.passed; line = r.line; clear = r.clear; written = r.written; framed = r.framed; k1 = r.k1; k2 = r.k2; b1 = r.b1; b2 = r.b2 } in
+    let u : UnderWay = record {
+      rows = r.passed;
+      line = r.line;
+      clear = r.clear;
+      written = r.written;
+      framed = r.framed;
+      k1 = r.k1;
+      k2 = r.k2;
+      b1 = r.b1;
+      b2 = r.b2;
+    } in
     let was = subst (λ (k : SectionKept). AreRead (n_of k.rate) k.last line k.under_way) (sym c.self.view_is) are in
     let nine : u.rows + 1 ≡ 10 = sym (rows-next u) ∙ ap (λ (k : SectionKept). next_of k.under_way) c.self.view_is ∙ c.requires in
     let read = some-read (n_of s.rate) (last_of (n_of s.rate) s.known s.b1 s.b2) line u (omega arith) was in
-    let is : is_framed (n_of c.args.self.now.rate) line ≡ false = sym (ap (λ (k : SectionKept). is_framed (n_of k.rate) line) c.self.view_is) ∙ sym read.framed ∙ c.if-not-self.true in
-    let kept = kept-unframed (n_of c.args.self.now.rate) line is in
-    (is-unframed (n_of c.args.self.now.rate) c.args.self.now.last line is, c.forget.ensures ∙ (λ i. record { rate = c.args.self.now.rate; last = kept i; under_way = None }))
+    let is : is_framed (n_of c.args.self.now.rate) line ≡ false =
+    sym (ap (λ (k : SectionKept). is_framed (n_of k.rate) line) c.self.view_is) ∙ sym read.framed ∙ c.if-not-self.true in
+    let kept = kept-unframed (n_of c.args.self.now.rate) line is in (
+      is-unframed (n_of c.args.self.now.rate) c.args.self.now.last line is,
+      c.forget.ensures
+          ∙ (λ i. record { rate = c.args.self.now.rate; last = kept i; under_way = None }),
+    )
 
 pub returns-clause-read : goal.returns-clause-read
 returns-clause-read c = λ line are.
     let s = c.self.inside in
     let r = s.rows in
     let n = n_of c.args.self.now.rate in
-    let u : UnderWay = record { rows = r.passed; line = r.line; clear = r.clear; written = r.written; framed = r.framed; k1 = r.k1; k2 = r.k2; b1 = r.b1; b2 = r.b2 } in
+    let u : UnderWay = record {
+      rows = r.passed;
+      line = r.line;
+      clear = r.clear;
+      written = r.written;
+      framed = r.framed;
+      k1 = r.k1;
+      k2 = r.k2;
+      b1 = r.b1;
+      b2 = r.b2;
+    } in
     let was = subst (λ (k : SectionKept). AreRead (n_of k.rate) k.last line k.under_way) (sym c.self.view_is) are in
     let nine : u.rows + 1 ≡ 10 = sym (rows-next u) ∙ ap (λ (k : SectionKept). next_of k.under_way) c.self.view_is ∙ c.requires in
     let read = some-read (n_of s.rate) (last_of (n_of s.rate) s.known s.b1 s.b2) line u (omega arith) was in
     let here : is_framed (n_of s.rate) line ≡ true = sym read.framed ∙ c.if-not-self.false in
     let is : is_framed n line ≡ true = sym (ap (λ (k : SectionKept). is_framed (n_of k.rate) line) c.self.view_is) ∙ here in
-    let passed = subst (λ (k : SectionKept). ArePassed (n_of k.rate) (scrambled (9 * n_of k.rate) line) line k.under_way) c.self.view_is (passed-framed (n_of s.rate) (last_of (n_of s.rate) s.known s.b1 s.b2) line u nine was here) in
-    let kept = kept-framed n line is in
-    (c.found-received.ensures line are is, c.end.ensures.last (scrambled (9 * n) line) line passed ∙ (λ i. record { rate = c.args.self.now.rate; last = kept i; under_way = None }))
+    let passed =
+    subst (λ (k : SectionKept). ArePassed (n_of k.rate) (scrambled (9 * n_of k.rate) line) line k.under_way) c.self.view_is
+    (passed-framed (n_of s.rate) (last_of (n_of s.rate) s.known s.b1 s.b2) line u nine was here) in
+    let kept = kept-framed n line is in (
+      c.found-received.ensures line are is,
+      c.end.ensures.last (scrambled (9 * n) line) line passed
+          ∙ (λ i. record { rate = c.args.self.now.rate; last = kept i; under_way = None }),
+    )

@@ -10,8 +10,19 @@ pub returns : goal.returns
 returns c = λ line are framed.
     let s = c.self.inside in
     let r = s.rows in
-    let u : UnderWay = record { rows = r.passed; line = r.line; clear = r.clear; written = r.written; framed = r.framed; k1 = r.k1; k2 = r.k2; b1 = r.b1; b2 = r.b2 } in
+    let u : UnderWay = record {
+      rows = r.passed;
+      line = r.line;
+      clear = r.clear;
+      written = r.written;
+      framed = r.framed;
+      k1 = r.k1;
+      k2 = r.k2;
+      b1 = r.b1;
+      b2 = r.b2;
+    } in
     let was = subst (λ (k : SectionKept). AreRead (n_of k.rate) k.last line k.under_way) (sym c.self.view_is) are in
     let nine : u.rows + 1 ≡ 10 = sym (rows-next u) ∙ ap (λ (k : SectionKept). next_of k.under_way) c.self.view_is ∙ c.requires in
     let is : is_framed (n_of s.rate) line ≡ true = ap (λ (k : SectionKept). is_framed (n_of k.rate) line) c.self.view_is ∙ framed in
-    found-is (n_of s.rate) (last_of (n_of s.rate) s.known s.b1 s.b2) line u nine was is ∙ ap (λ (k : SectionKept). received_in (n_of k.rate) k.last line) c.self.view_is
+    found-is (n_of s.rate) (last_of (n_of s.rate) s.known s.b1 s.b2) line u nine was is
+    ∙ ap (λ (k : SectionKept). received_in (n_of k.rate) k.last line) c.self.view_is

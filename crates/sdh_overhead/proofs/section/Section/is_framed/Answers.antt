@@ -10,8 +10,20 @@ pub returns : goal.returns
 returns c = λ line are.
     let s = c.self.inside in
     let r = s.rows in
-    let u : UnderWay = record { rows = r.passed; line = r.line; clear = r.clear; written = r.written; framed = r.framed; k1 = r.k1; k2 = r.k2; b1 = r.b1; b2 = r.b2 } in
+    let u : UnderWay = record {
+      rows = r.passed;
+      line = r.line;
+      clear = r.clear;
+      written = r.written;
+      framed = r.framed;
+      k1 = r.k1;
+      k2 = r.k2;
+      b1 = r.b1;
+      b2 = r.b2;
+    } in
     let n = n_of s.rate in
     let was = subst (λ (k : SectionKept). AreRead (n_of k.rate) k.last line k.under_way) (sym c.self.view_is) are in
-    let next : c.args.row ≡ u.rows + 1 = c.requires.next ∙ sym (ap (λ (k : SectionKept). next_of k.under_way) c.self.view_is) ∙ rows-next u in
-    still-framed n (last_of n s.known s.b1 s.b2) line c.args.bytes.now u (omega arith) was ∙ ap (λ (k : SectionKept). is_framed (n_of k.rate) (line ++ c.args.bytes.now)) c.self.view_is
+    let next : c.args.row ≡ u.rows + 1 =
+    c.requires.next ∙ sym (ap (λ (k : SectionKept). next_of k.under_way) c.self.view_is) ∙ rows-next u in
+    still-framed n (last_of n s.known s.b1 s.b2) line c.args.bytes.now u (omega arith) was
+    ∙ ap (λ (k : SectionKept). is_framed (n_of k.rate) (line ++ c.args.bytes.now)) c.self.view_is

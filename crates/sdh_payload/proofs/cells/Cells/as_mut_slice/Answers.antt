@@ -8,6 +8,10 @@ returns c =
     let items = c.self.inside.bytes.items in
     let same : c.as_mut_slice.result.now ≡ items = c.as_mut_slice.ensures.value in
     let many : c.self.inside.bytes.len ≡ length items = sym c.as_mut_slice.ensures.len ∙ ap length same in (
-      (refl, λ w. ap (λ n. take n (w ++ drop (length w) items)) many ∙ ap (λ room. take (length room) (w ++ drop (length w) room)) (sym same)),
+      (
+        refl,
+        λ w. ap (λ n. take n (w ++ drop (length w) items)) many
+            ∙ ap (λ room. take (length room) (w ++ drop (length w) room)) (sym same),
+      ),
       record { lends = tt; bytes = same ∙ c.self.view_is },
     )

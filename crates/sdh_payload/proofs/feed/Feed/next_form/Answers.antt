@@ -15,16 +15,23 @@ fill-requires-clause-few c =
 
 pub returns-clause-chunk : goal.returns-clause-chunk
 returns-clause-chunk c =
-    c.fill.ensures.bytes ∙ stream_from-containers c.self.inside.walk.port c.self.inside.clock.sent c.self.inside.walk.at c.taken_len.result c.self.invariant.at_is
-    ∙ ap (stream_from c.self.inside.walk.port c.self.inside.clock.sent) c.taken_len.ensures.len ∙ ap (λ (f : Fed). stream_from f.port f.clock.sent (taken_len c.tick-form.result)) c.self.view_is
+    c.fill.ensures.bytes
+    ∙ stream_from-containers c.self.inside.walk.port c.self.inside.clock.sent c.self.inside.walk.at c.taken_len.result c.self.invariant.at_is
+    ∙ ap (stream_from c.self.inside.walk.port c.self.inside.clock.sent) c.taken_len.ensures.len
+    ∙ ap (λ (f : Fed). stream_from f.port f.clock.sent (taken_len c.tick-form.result)) c.self.view_is
 
 pub returns-clause-count : goal.returns-clause-count
-returns-clause-count c = ap length c.fill.ensures.bytes ∙ length-containers_from c.self.inside.walk.port c.self.inside.walk.at c.taken_len.result ∙ c.taken_len.ensures.len
+returns-clause-count c =
+    ap length c.fill.ensures.bytes ∙ length-containers_from c.self.inside.walk.port c.self.inside.walk.at c.taken_len.result
+    ∙ c.taken_len.ensures.len
 
 pub invariant_of-self : goal.invariant_of-self
 invariant_of-self c =
     let at : c.fill.new.self.at ≡ c.self.inside.walk.at + c.taken_len.result = ap (λ (w : Walked). w.at) c.fill.ensures.next in
-    let port : start_of c.fill.new.self.port.offset ≡ start_of c.self.inside.walk.port.offset = ap (λ (w : Walked). start_of w.port.offset) c.fill.ensures.next in
-    let sent : c.tick-form.new.self.sent ≡ c.self.inside.clock.sent + taken_len (next_form c.self.inside.clock) = ap (λ (k : Clock). k.sent) c.tick-form.ensures.clock ∙ ticked_sent c.self.inside.clock in
-    let len : c.taken_len.result ≡ taken_len (next_form c.self.inside.clock) = c.taken_len.ensures.len ∙ ap taken_len c.tick-form.ensures.form in
+    let port : start_of c.fill.new.self.port.offset ≡ start_of c.self.inside.walk.port.offset =
+    ap (λ (w : Walked). start_of w.port.offset) c.fill.ensures.next in
+    let sent : c.tick-form.new.self.sent ≡ c.self.inside.clock.sent + taken_len (next_form c.self.inside.clock) =
+    ap (λ (k : Clock). k.sent) c.tick-form.ensures.clock ∙ ticked_sent c.self.inside.clock in
+    let len : c.taken_len.result ≡ taken_len (next_form c.self.inside.clock) =
+    c.taken_len.ensures.len ∙ ap taken_len c.tick-form.ensures.form in
     record { at_is = omega (arith, at, port, sent, len, c.self.invariant.at_is) }

@@ -15,7 +15,8 @@ loop-at-init c =
 
 pub put_row-requires : goal.put_row-requires
 put_row-requires c =
-    let line : length (row_line c.row_of.result.now) ≡ length (row_line (row c.args.chunk.now c.loop-at.at)) = ap (λ l. length (row_line l)) c.row_of.ensures in
+    let line : length (row_line c.row_of.result.now) ≡ length (row_line (row c.args.chunk.now c.loop-at.at)) =
+    ap (λ l. length (row_line l)) c.row_of.ensures in
     omega (arith, c.requires, c.loop-at.invariant.room, line, rows_room c.args.chunk.now c.loop-at.at (omega arith))
 
 pub loop-at-preserved : goal.loop-at-preserved
@@ -26,9 +27,21 @@ loop-at-preserved c =
     let line = row_line (row chunk i) in
     let is : row_line c.row_of.result.now ≡ line = ap row_line c.row_of.ensures in
     let size : length (row_line c.row_of.result.now) ≡ length line = ap (λ l. length l) is in
-    let more : length (chunk_rows chunk (i + 1)) ≡ length (chunk_rows chunk i) + length line = ap (λ l. length l) (rows_more chunk i) ∙ length-append (chunk_rows chunk i) line in
+    let more : length (chunk_rows chunk (i + 1)) ≡ length (chunk_rows chunk i) + length line =
+    ap (λ l. length l) (rows_more chunk i) ∙ length-append (chunk_rows chunk i) line in
     record {
-      bytes = ap (λ (w : Written). w.bytes) c.put_row.ensures ∙ ap (λ l. c.loop-at.self.bytes ++ l) is ∙ ap (λ l. l ++ line) c.loop-at.invariant.bytes ∙ append_assoc old.bytes (chunk_rows chunk i) line
+      bytes =
+          ap (λ (w : Written). w.bytes) c.put_row.ensures ∙ ap (λ l. c.loop-at.self.bytes ++ l) is
+          ∙ ap (λ l. l ++ line) c.loop-at.invariant.bytes ∙ append_assoc old.bytes (chunk_rows chunk i) line
           ∙ ap (λ l. old.bytes ++ l) (sym (rows_more chunk i));
-      room = omega (arith, ap (λ (w : Written). w.room) c.put_row.ensures, size, more, c.requires, c.loop-at.invariant.room, rows_room chunk i (omega arith));
+      room =
+          omega (
+            arith,
+            ap (λ (w : Written). w.room) c.put_row.ensures,
+            size,
+            more,
+            c.requires,
+            c.loop-at.invariant.room,
+            rows_room chunk i (omega arith),
+          );
     }
