@@ -90,8 +90,7 @@ pub fn run_plan<P: Plant>(
     ensures unsent { OnErr result (P.fibres plant.new ≡ P.fibres plant.old) }
 {
     sdh_owed::scripts_settle();
-    // Reading it gives the proof what is true of every plan.
-    let _steps = plan.steps();
+    prove!(plan.steps().len() <= 1000);
     let run = new_run(alloc, plan, listing)?;
     start(alloc, plant, run)
 }

@@ -60,8 +60,7 @@ pub fn run_plan<P: Plant>(alloc: Global, plan: Plan, plant: &mut P) -> Result<Ru
 {
     sdh_watching::watches_are_clean();
     sdh_watching::scripts_settle();
-    // Reading it gives the proof what is true of every plan.
-    let _steps = plan.steps();
+    prove!(plan.steps().len() <= 1000);
     let run = new_run(alloc, plan)?;
     start(alloc, plant, run)
 }

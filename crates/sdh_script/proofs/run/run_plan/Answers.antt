@@ -18,8 +18,8 @@ returns-clause-came g c =
     (λ (honest : f.honest ≡ true). record { honest = honest; tells_none = g.met.P.Plant.honest_tells_none c.args.plant.now honest })
     (subst (λ l. Came adm_walk c.args.plan.limit (listed l) c.args.plan.steps
     (world_of c.args.plan f) f run.text.bytes run.status left) c.in_ok-run.ensures.listing
-    (came_of _ adm_account c.args.plan c.in_ok-run.run c.in_ok-run.ensures.is_of
-    (listed c.in_ok-run.run.runner.listing) f left run.text.bytes run.status came)))
+    (came_of _ adm_account c.args.plan c.in_ok-run.run' c.in_ok-run.ensures.is_of
+    (listed c.in_ok-run.run'.runner.listing) f left run.text.bytes run.status came)))
     c.start.ensures.came
 
 pub returns-clause-complete : goal.returns-clause-complete

@@ -12,9 +12,9 @@ returns-clause-came g c =
     let f = means c.args.plant.now in
     let left = means c.start.new.plant in
     on_ok c.start.result _ _
-    (λ run came. tells c.watches_are_clean.ensures c.scripts_settle.ensures c.args.plan f left run.text.bytes run.status c.steps-steps.ensures.form
+    (λ run came. tells c.watches_are_clean.ensures c.scripts_settle.ensures c.args.plan f left run.text.bytes run.status c.steps.ensures.form
     (λ (honest : f.honest ≡ true). record { honest = honest; tells_none = g.met.P.Plant.honest_tells_none c.args.plant.now honest })
-    (came_of _ watch_account c.args.plan c.in_ok-run.run c.in_ok-run.ensures.is_of watched_text f left run.text.bytes run.status came))
+    (came_of _ watch_account c.args.plan c.in_ok-run.run' c.in_ok-run.ensures.is_of watched_text f left run.text.bytes run.status came))
     c.start.ensures.came
 
 pub returns-clause-complete : goal.returns-clause-complete
