@@ -1,11 +1,9 @@
 -- The payloads of half of the AU-4s, taken out of a frame piece by piece.
-use Rattle.std.proofs.Common.{◌≡◌, ℕ, ◌+◌, ◌*◌, ◌-◌, ◌/◌, ◌%◌, ◌<◌, ◌≤◌, ◌⊎◌, inl, inr, List, length, get_or, refl, ap, sym, subst, ◌∙◌}
-use Rattle.std.proofs.Common.{arith}
+use Rattle.std.proofs.Common.{◌≡◌, ℕ, ◌+◌, ◌*◌, ◌-◌, ◌/◌, ◌%◌, ◌<◌, ◌≤◌, inl, inr, List, length, get_or, refl, ap, subst, ◌∙◌, arith}
 use Rattle.std.proofs.lemmas.Bool.{cases_lt}
 use Rattle.sdh_frame.specs.Fields.{index_of, payload_place}
 use Rattle.sdh_interchange.specs.Tables.{cell}
 use Rattle.sdh_interchange.specs.Taking.{HaveRoom, KeepsOthers, HasTaken}
-use Rattle.sdh_interchange.proofs.ByBytes.{by_rate}
 use Rattle.sdh_interchange.proofs.Holding.{keeps_none, keeps_more, room_kept}
 
 -- ---- one piece after the other

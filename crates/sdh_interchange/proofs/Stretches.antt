@@ -1,12 +1,12 @@
 -- Stretches of a frame that a pass has gone over, one after the other.
-use Rattle.std.proofs.Common.{◌≡◌, ◌≢◌, ℕ, ◌+◌, ◌*◌, ◌-◌, ◌/◌, ◌%◌, ◌<◌, ◌≤◌, ◌⊎◌, inl, inr, true, false, eqb, leb, List, length, get_or}
-use Rattle.std.proofs.Common.{refl, ap, sym, ◌∙◌, subst, arith}
+use Rattle.std.proofs.Common.{◌≡◌, ◌≢◌, ℕ, ◌+◌, ◌*◌, ◌-◌, ◌/◌, ◌%◌, ◌<◌, ◌≤◌, ◌⊎◌, inl, inr, true, false, eqb, leb, List, get_or, refl, ap}
+use Rattle.std.proofs.Common.{sym, ◌∙◌, subst, arith}
 use Rattle.std.specs.Prelude.{if◌then◌else◌}
 use Rattle.std.proofs.lemmas.Bool.{cases_lt, eq-eqb, ne_eqb, le-leb, lt-leb}
 use Rattle.std.proofs.lemmas.Nat.{mul-le}
 use Rattle.std.proofs.Math.Nat.{mul-mod_right}
 use Rattle.sdh_interchange.specs.declared.pass.Pass.{Pass}
-use Rattle.sdh_interchange.specs.Choosing.{is_au_byte, own_byte}
+use Rattle.sdh_interchange.specs.Choosing.{is_au_byte}
 use Rattle.sdh_interchange.specs.Passes.{byte_at, HasPassed, AreColumns}
 use Rattle.sdh_interchange.specs.Tables.{cell, IsTable}
 use Rattle.sdh_interchange.proofs.ByBytes.{by_rate, own_byte-at}

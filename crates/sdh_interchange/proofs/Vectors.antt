@@ -5,10 +5,9 @@ use Rattle.std.specs.List.{list_any}
 use Rattle.std.specs.Int.Bits.{or_zero_l, or_zero_r, or_add_and}
 use Rattle.std.proofs.lemmas.Grind.{and_numeral}
 use lib.Bits.{and_zero_r}
-use Rattle.std.specs.Simd.Lanes.{zip2, chunk, put_chunk, Each1}
+use Rattle.std.specs.Simd.Lanes.{zip2, chunk, Each1}
 use Rattle.std.proofs.lemmas.Simd.{swz_l, SwzOk, SwzOk-from_Each1, Each1-from_get_or, Each1-get_or, below_from_Fits, length-swz_l}
-use Rattle.std.proofs.lemmas.Simd.{get_or-swz_l, get_or-swz_l_below, length-zip2, get_or-zip2, get_or-chunk, get_or-put_chunk_at}
-use Rattle.std.proofs.lemmas.Simd.{get_or-put_chunk_above}
+use Rattle.std.proofs.lemmas.Simd.{get_or-swz_l, get_or-swz_l_below, length-zip2, get_or-zip2, get_or-chunk}
 use lib.Dec.{lt→ltb}
 use mathlib.Core.Bool.{cond}
 use mir.Val.{zeroes, Fits}

@@ -1,5 +1,5 @@
 -- What is true of every plan, for those who run it: its circuits are of its ring, and each step can be done where it stands.
-use Rattle.std.proofs.Common.{◌≡◌, ℕ, ◌+◌, ◌<◌, ◌≤◌, List, [], ◌∷◌, ◌++◌, length, cond, count_by, refl, arith, ◌⊎◌, inl, inr, Some}
+use Rattle.std.proofs.Common.{◌≡◌, ℕ, ◌+◌, ◌≤◌, List, [], ◌∷◌, length, cond, count_by, refl, arith, ◌⊎◌, inl, inr, Some}
 use Rattle.sdh_terms.specs.declared.Rate.{Rate}
 use Rattle.sdh_plan.specs.declared.step.Step.{Step}
 use Rattle.sdh_plan.specs.declared.step.Step.TheVariants as step

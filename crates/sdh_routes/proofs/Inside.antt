@@ -3,7 +3,6 @@ use Rattle.std.proofs.Common.{ℕ, ◌<◌, List, arith}
 use Rattle.sdh_bridge.specs.declared.Origin.{Origin}
 use Rattle.sdh_bridge.specs.declared.Origin.TheVariants.{Add, Ais, Protection, Working}
 use Rattle.sdh_circuits.specs.Provisioned.{Provisioned}
-use Rattle.sdh_circuits.specs.declared.End.TheVariants.{A}
 use Rattle.sdh_ringmap.proofs.Sides.{neighbour_below}
 use Rattle.sdh_routes.proofs.States.{Resting}
 use Rattle.sdh_routes.specs.Walks.{back_from}

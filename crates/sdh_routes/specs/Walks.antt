@@ -4,10 +4,8 @@ use Rattle.std.specs.Prelude.{ℕ, zero, suc, ◌≡◌, Bool, Option, List, [],
 use Rattle.sdh_ringmap.specs.Places.{opposite, neighbour, span_at, position_of}
 use Rattle.sdh_ringmap.specs.declared.Pos.{Pos}
 use Rattle.sdh_ringmap.specs.declared.Side.{Side}
-use Rattle.sdh_ringmap.specs.declared.Side.TheVariants.{West, East}
 use Rattle.sdh_circuits.specs.Provisioned.{Provisioned, end_of}
 use Rattle.sdh_circuits.specs.declared.End.{End}
-use Rattle.sdh_circuits.specs.declared.End.TheVariants.{A, B}
 use Rattle.sdh_squelch.specs.Table.{circuits_at}
 use Rattle.sdh_nodestate.specs.declared.NodeState.{NodeState}
 use Rattle.sdh_bridge.specs.Connections.{may_carry, stands_for, leaves_working, leaves_protection}

@@ -1,4 +1,4 @@
-use Rattle.std.proofs.Common.{◌≡◌, ℕ, ◌+◌, ◌*◌, ◌-◌, ◌/◌, ◌<◌, ◌≤◌, length, get_or, inl, inr, ap, sym, ◌∙◌, subst, arith}
+use Rattle.std.proofs.Common.{◌≡◌, ℕ, ◌+◌, ◌*◌, ◌-◌, ◌≤◌, get_or, inl, inr, ap, sym, ◌∙◌, subst, arith}
 use Rattle.sdh_interchange.specs.Taking.{HasTaken}
 use Rattle.sdh_interchange.proofs.Halves.{half-four, half-sixteen}
 use Rattle.sdh_interchange.proofs.payloads.take_block.Goals as goal

@@ -1,4 +1,4 @@
-use Rattle.std.proofs.Common.{◌≡◌, ℕ, ◌*◌, ◌/◌, inl, inr, subst, sym, arith}
+use Rattle.std.proofs.Common.{◌≡◌, ◌/◌, inl, inr, subst, sym, arith}
 use Rattle.sdh_interchange.specs.Taking.{HaveRoom, HasTaken}
 use Rattle.sdh_interchange.proofs.payloads.take_half.Goals as goal
 

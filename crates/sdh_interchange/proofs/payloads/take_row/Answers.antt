@@ -1,4 +1,4 @@
-use Rattle.std.proofs.Common.{◌≡◌, ℕ, ◌+◌, ◌*◌, ◌≤◌, arith}
+use Rattle.std.proofs.Common.{ℕ, ◌+◌, ◌*◌, arith}
 use Rattle.sdh_interchange.proofs.Halves.{none_taken_yet, then_taken, room_left}
 use Rattle.sdh_interchange.proofs.payloads.take_row.Goals as goal
 

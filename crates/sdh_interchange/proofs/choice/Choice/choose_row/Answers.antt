@@ -1,5 +1,4 @@
 use Rattle.std.proofs.Common.{◌≡◌, ap, sym, ◌∙◌, subst}
-use Rattle.sdh_terms.specs.declared.Rate.{Rate}
 use Rattle.sdh_terms.specs.declared.Rate.TheVariants.{Four, Sixteen}
 use Rattle.sdh_terms.specs.Rates.{n_of}
 use Rattle.sdh_interchange.specs.Assembled.{Origins}

@@ -1,6 +1,4 @@
-use Rattle.std.proofs.Common.{◌≡◌, ◌*◌, ℕ, length, ap, sym, ◌∙◌, subst, inl, inr}
-use Rattle.sdh_terms.specs.declared.Rate.{Rate}
-use Rattle.sdh_terms.specs.declared.Rate.TheVariants.{Four, Sixteen}
+use Rattle.std.proofs.Common.{◌≡◌, ◌*◌, ap, ◌∙◌, subst}
 use Rattle.sdh_terms.specs.Rates.{n_of}
 use Rattle.sdh_interchange.specs.Assembled.{Origins}
 use Rattle.sdh_interchange.specs.Choosing.{AreSources}

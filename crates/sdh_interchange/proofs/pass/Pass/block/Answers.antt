@@ -1,4 +1,4 @@
-use Rattle.std.proofs.Common.{◌≡◌, ℕ, ◌+◌, ◌*◌, ◌≤◌, length, inl, inr, sym, subst, arith}
+use Rattle.std.proofs.Common.{◌≡◌, ◌+◌, ◌*◌, inl, inr, sym, subst, arith}
 use Rattle.sdh_interchange.specs.Passes.{AreColumns}
 use Rattle.sdh_interchange.proofs.Stretches.{whole_at, columns_fit, block_passed, columns-four, columns-sixteen}
 use Rattle.sdh_interchange.proofs.pass.Pass.block.Goals as goal

@@ -1,4 +1,4 @@
-use Rattle.std.proofs.Common.{◌≡◌, ℕ, ◌+◌, ◌*◌, ◌≤◌, ap, arith}
+use Rattle.std.proofs.Common.{◌≡◌, ◌+◌, ◌*◌, ap, arith}
 use Rattle.sdh_interchange.proofs.Stretches.{none_passed, columns_then}
 use Rattle.sdh_interchange.proofs.pass.Pass.blocks.Goals as goal
 

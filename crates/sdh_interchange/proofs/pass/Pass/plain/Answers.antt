@@ -1,4 +1,4 @@
-use Rattle.std.proofs.Common.{◌≡◌, ℕ, ◌+◌, ◌*◌, ◌-◌, ◌%◌, ◌<◌, ◌≤◌, [], ap, ◌∙◌, arith}
+use Rattle.std.proofs.Common.{◌≡◌, ℕ, ◌+◌, ◌*◌, ◌-◌, ◌%◌, [], ap, ◌∙◌, arith}
 use Rattle.sdh_interchange.proofs.Vectors.{plain_extra}
 use Rattle.sdh_interchange.proofs.Stretches.{none_passed, then_passed, whole_on, whole_back}
 use Rattle.sdh_interchange.proofs.pass.Pass.plain.Goals as goal

@@ -1,4 +1,4 @@
-use Rattle.std.proofs.Common.{◌≡◌, ℕ, ◌+◌, ◌*◌, ◌%◌, ◌<◌, ◌≤◌, get_or, inl, refl, subst, arith}
+use Rattle.std.proofs.Common.{◌*◌, ◌%◌, ◌<◌, ◌≤◌, get_or, inl, refl, subst, arith}
 use Rattle.sdh_interchange.specs.declared.choose.Source.TheVariants.{Ones}
 use Rattle.sdh_interchange.specs.Passes.{HasPassed}
 use Rattle.sdh_interchange.proofs.ByBytes.{plain_pointer}

@@ -1,4 +1,4 @@
-use Rattle.std.proofs.Common.{ℕ, ◌+◌, ◌*◌, ◌<◌, ◌≤◌, arith}
+use Rattle.std.proofs.Common.{◌+◌, ◌*◌, ◌<◌, arith}
 use Rattle.sdh_interchange.proofs.Stretches.{none_passed, then_passed, whole_on}
 use Rattle.sdh_interchange.proofs.pass.Pass.put.Goals as goal
 

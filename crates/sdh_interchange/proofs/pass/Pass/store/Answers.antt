@@ -1,4 +1,4 @@
-use Rattle.std.proofs.Common.{◌≡◌, ℕ, ◌+◌, ◌%◌, ◌<◌, get_or, length, inl, inr, false, sym, ◌∙◌, subst, arith}
+use Rattle.std.proofs.Common.{◌≡◌, ◌+◌, ◌%◌, ◌<◌, get_or, length, inl, inr, false, sym, ◌∙◌, subst, arith}
 use Rattle.sdh_interchange.specs.declared.choose.Source.TheVariants.{Ones}
 use Rattle.sdh_interchange.specs.Lanes.{IsExtra}
 use Rattle.sdh_interchange.proofs.Sorts.{extra_without}
