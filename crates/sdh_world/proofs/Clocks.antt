@@ -30,7 +30,7 @@ use Rattle.sdh_node.specs.Node.{Node, new_node, at_receiving, held_for, slips_at
 use Rattle.sdh_node.specs.Node.{node_round}
 use Rattle.sdh_node.specs.Receiving.{commanded_by}
 use Rattle.sdh_world.specs.Held.{HeldRing, new_nodes, new_ring, at_place, place_of_port}
-use Rattle.sdh_world.specs.Rounds.{World, with_arrivals, all_with_arrivals, node_after, nodes_with, round_with, round, arrivals_of}
+use Rattle.sdh_world.specs.Rounds.{World, with_arrivals, all_with_arrivals, node_after, nodes_with, round_with, arrivals_of}
 use Rattle.sdh_world.specs.Runs.{run, run_with}
 use Rattle.sdh_promise.specs.Changes.{Change, Fibre, Order, Hold, Slip, Now, Stretch, rounds_in}
 use Rattle.sdh_world.specs.Changes.{changed, all_changed, after_stretch, after_stretches}

@@ -25,7 +25,7 @@ use Rattle.sdh_request.specs.declared.settings.Settings.{Settings}
 use Rattle.sdh_world.specs.Held.{at_place, place_of_port, new_nodes}
 use Rattle.sdh_world.specs.Laws.{NewHolds, HistoriesHold, CallsChange}
 use Rattle.sdh_world.proofs.Keeping.{new_at, length-new, all_placed}
-use Rattle.sdh_world.specs.Rounds.{World, with_arrival, with_arrivals, all_with_arrivals, node_after, nodes_with, round_with, round}
+use Rattle.sdh_world.specs.Rounds.{World, with_arrival, with_arrivals, all_with_arrivals, node_after, nodes_with, round_with}
 use Rattle.sdh_world.specs.Rounds.{arrivals_of}
 use Rattle.sdh_world.specs.Runs.{run}
 use Rattle.sdh_promise.specs.Changes.{Change, Fibre, Order, Hold, Slip, Now, Stretch}

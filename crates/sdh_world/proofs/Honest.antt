@@ -1,9 +1,6 @@
 -- Honest fibres, and prepared ones, over changes.
-use Rattle.std.proofs.Common.{◌≡◌, ℕ}
-use Rattle.sdh_plant.specs.Fibres.{IsHonest}
 use Rattle.sdh_plant.proofs.Calling as plant
-use Rattle.sdh_world.specs.Rounds.{World}
-use Rattle.sdh_promise.specs.Changes.{Change, Fibre, Order, Hold, Slip, Now}
+use Rattle.sdh_promise.specs.Changes.{Fibre, Order, Hold, Slip, Now}
 use Rattle.sdh_world.specs.Changes.{changed}
 use Rattle.sdh_world.specs.Laws.{ChangesKeepHonest, ChangesKeepPrepared}
 

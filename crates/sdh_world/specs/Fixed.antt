@@ -3,12 +3,8 @@ use Rattle.std.specs.Prelude.{ℕ, ◌≡◌, ◌≤◌, ◌/◌, false, List, l
 use Rattle.sdh_terms.specs.Rates.{n_of}
 use Rattle.sdh_ringmap.specs.Ids.{AreIds}
 use Rattle.sdh_ringmap.specs.declared.Pos.{Pos}
-use Rattle.sdh_ringmap.specs.declared.Side.{Side}
-use Rattle.sdh_circuits.specs.declared.Slot.{Slot}
-use Rattle.sdh_circuits.specs.declared.PortId.{PortId}
 use Rattle.sdh_circuits.specs.Provisioned.{Provisioned}
 use Rattle.sdh_circuits.specs.Provisioning.{IsProvisioning}
-use Rattle.sdh_payload.specs.Customer.{Customer}
 use Rattle.sdh_payload.specs.Clock.{Clock, waiting}
 use Rattle.sdh_circuits.specs.Kept.{KeepsRing}
 use Rattle.sdh_request.specs.declared.settings.Settings.{Settings}

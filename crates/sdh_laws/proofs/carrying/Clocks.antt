@@ -15,7 +15,7 @@ use Rattle.sdh_terminal.specs.Passing.{Input, no_input}
 use Rattle.sdh_terminal.specs.Tributaries.{Tributary, action_of, sent_by, sent_in, input_by, port_of}
 use Rattle.sdh_node.specs.Node.{Node, sending_on}
 use Rattle.sdh_world.specs.Held.{node_at}
-use Rattle.sdh_world.specs.Rounds.{World, round, round_with}
+use Rattle.sdh_world.specs.Rounds.{World, round}
 use Rattle.sdh_world.specs.Quiet.{is_calm}
 use Rattle.sdh_world.proofs.Clocks.{clock_of, Follows, node_next}
 use Rattle.sdh_laws.specs.Hearing.Laws.{IsWhole}

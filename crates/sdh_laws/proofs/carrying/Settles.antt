@@ -1,15 +1,11 @@
 -- The quiet window that ends a step, and what ports have delivered after it.
-use Rattle.std.proofs.Common.{◌≡◌, ℕ, suc, ◌+◌, ◌-◌, ◌*◌, ◌<◌, ◌≤◌, Bool, true, Some, List, [], ◌∷◌, ◌++◌, length, refl, ap, sym, ◌∙◌}
-use Rattle.std.proofs.Common.{subst, arith, inl, inr}
+use Rattle.std.proofs.Common.{◌≡◌, ℕ, suc, ◌+◌, ◌-◌, ◌*◌, ◌<◌, ◌≤◌, Bool, Some, List, [], ◌∷◌, ◌++◌, length, refl, ap, sym, ◌∙◌}
+use Rattle.std.proofs.Common.{subst, arith, inl}
 use Rattle.std.specs.Prelude.{slice_get, slice_index_or, ◌/◌, if◌then◌else◌}
-use Rattle.std.specs.Option.{option_map_or}
 use Rattle.std.proofs.lemmas.List.{get_or-map}
-use Rattle.std.proofs.lemmas.List.Elements.{All-nil}
 use Rattle.sdh_basics.proofs.CellsLaws.{get_or-cells}
-use Rattle.sdh_circuits.specs.Naming.{is_name}
 use Rattle.sdh_circuits.specs.Provisioned.{Provisioned, arc_of, customer_at}
-use Rattle.sdh_circuits.specs.Provisioning.{Provisioning, AreCircuits, HasOffsets, IsProvisioning, IsInRing, IsInSlots}
-use Rattle.sdh_circuits.specs.Kept.{KeepsRing}
+use Rattle.sdh_circuits.specs.Provisioning.{Provisioning, AreCircuits}
 use Rattle.sdh_nodestate.specs.declared.NodeState.{NodeState}
 use Rattle.sdh_restoration.specs.Applied.{span_requests, is_applied}
 use Rattle.sdh_settling.specs.Settled.{settled, settled_states}

@@ -1,7 +1,6 @@
 -- The spans of a ring: what its nodes send and take, and what was sent into an AU-4 comes out of it one round later.
 use Rattle.std.proofs.Common.{◌≡◌, ◌≢◌, ℕ, ◌+◌, ◌-◌, ◌*◌, ◌<◌, ◌≤◌, true, false, List, length, get_or, Option, Some, None, ap, sym, ◌∙◌}
-use Rattle.std.proofs.Common.{subst, arith, inl, inr}
-use Rattle.std.proofs.lemmas.Bool.{cases_Bool}
+use Rattle.std.proofs.Common.{subst, arith}
 use Rattle.sdh_terms.specs.declared.Rate.{Rate}
 use Rattle.sdh_terms.specs.Rates.{n_of}
 use Rattle.sdh_ringmap.specs.Places.{opposite, neighbour}
@@ -31,7 +30,7 @@ use Rattle.sdh_node.specs.Same.{Compared}
 use Rattle.sdh_node.specs.Crossing.{lines_of, leads, input_at, is_failed}
 use Rattle.sdh_node.specs.Node.{Node, receiving_on, sending_on, crossing, word_of, compared}
 use Rattle.sdh_world.specs.Held.{node_at}
-use Rattle.sdh_world.specs.Rounds.{World, round, round_with}
+use Rattle.sdh_world.specs.Rounds.{World, round}
 use Rattle.sdh_world.specs.Quiet.{is_calm}
 use Rattle.sdh_world.specs.Sides.{condition_to}
 use Rattle.sdh_laws.specs.Hearing.Signalling.{lines_at}

@@ -15,7 +15,7 @@ use Rattle.sdh_routes.specs.Law.{IsFree}
 use Rattle.sdh_terminal.specs.Lines.{received}
 use Rattle.sdh_node.specs.Crossing.{is_failed}
 use Rattle.sdh_node.specs.Node.{receiving_on}
-use Rattle.sdh_world.specs.Rounds.{World, round, round_with}
+use Rattle.sdh_world.specs.Rounds.{World, round}
 use Rattle.sdh_world.specs.Runs.{run}
 use Rattle.sdh_world.specs.Quiet.{is_calm}
 use Rattle.sdh_laws.specs.Hearing.Signalling.{lines_at}

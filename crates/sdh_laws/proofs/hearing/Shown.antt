@@ -13,7 +13,7 @@ use Rattle.sdh_plant.specs.Arrivals.{carried_on}
 use Rattle.sdh_node.specs.Receiving.{Receiving, commanded_by}
 use Rattle.sdh_node.specs.Node.{Node, receiving_on, sending_on, at_receiving, held_for, slips_at}
 use Rattle.sdh_world.specs.Held.{node_at, AtEach, place_of_port}
-use Rattle.sdh_world.specs.Rounds.{World, round, round_with}
+use Rattle.sdh_world.specs.Rounds.{World, round}
 use Rattle.sdh_promise.specs.Changes.{Change, Fibre, Order, Hold, Slip, Now}
 use Rattle.sdh_world.specs.Changes.{changed, all_changed}
 use Rattle.sdh_world.specs.Sides.{condition_to}

@@ -36,7 +36,7 @@ use Rattle.std.proofs.lemmas.Option.{slice_get-get_or, slice_get-map}
 use Rattle.sdh_node.specs.Same.{Compared}
 use Rattle.sdh_node.specs.Crossing.{is_failed}
 use Rattle.sdh_node.specs.Node.{Node, receiving_on, is_held, compared, sent_of, needed, heard_by, word_of}
-use Rattle.sdh_world.specs.Rounds.{World, round, round_with, node_after}
+use Rattle.sdh_world.specs.Rounds.{World, round, node_after}
 use Rattle.sdh_world.specs.Runs.{run, course}
 use Rattle.sdh_world.specs.Quiet.{is_calm, IsCalm}
 use Rattle.sdh_rounds.proofs.Runs.{known_settles}

@@ -24,7 +24,7 @@ use Rattle.std.proofs.lemmas.Bool.Decides.{nat_tests}
 use Rattle.sdh_node.specs.Receiving.{local_after}
 use Rattle.sdh_node.specs.Crossing.{is_failed}
 use Rattle.sdh_node.specs.Node.{Node, receiving_on, is_held, needed}
-use Rattle.sdh_world.specs.Rounds.{World, round, round_with, arrivals_of}
+use Rattle.sdh_world.specs.Rounds.{World, round, arrivals_of}
 use Rattle.sdh_world.specs.Runs.{run}
 use Rattle.sdh_laws.specs.Hearing.Signalling.{signals_of, needs_in}
 use Rattle.sdh_spans.specs.Frames.{shown_by}

@@ -1,7 +1,7 @@
 -- Six calm rounds are followed by a calm one: what goes into each AU-4 stays, and so do all interpreters and generators.
-use Rattle.std.proofs.Common.{◌≡◌, ℕ, zero, suc, ◌+◌, ◌-◌, ◌*◌, ◌<◌, ◌≤◌, Bool, true, false, List, length, get_or, Option, Some, None, refl}
+use Rattle.std.proofs.Common.{◌≡◌, ℕ, zero, suc, ◌+◌, ◌-◌, ◌<◌, ◌≤◌, Bool, true, false, List, length, get_or, Option, Some, None, refl}
 use Rattle.std.proofs.Common.{ap, ap₂, sym, ◌∙◌, subst, arith, inl, inr}
-use Rattle.std.specs.Prelude.{◌/◌, option_map, All}
+use Rattle.std.specs.Prelude.{option_map, All}
 use Rattle.std.proofs.lemmas.Bool.{cases_lt}
 use Rattle.std.proofs.lemmas.List.{ext_get_or}
 use Rattle.sdh_terms.specs.Rates.{n_of}
@@ -12,7 +12,7 @@ use Rattle.sdh_circuits.specs.declared.PortId.{PortId}
 use Rattle.sdh_circuits.specs.Provisioned.{Provisioned}
 use Rattle.sdh_circuits.specs.Provisioning.{AreCircuits, HasOffsets}
 use Rattle.sdh_payload.specs.declared.chunk.ChunkForm.TheVariants.{Plain}
-use Rattle.sdh_payload.specs.Clock.{Clock, waiting, next_form, ticked, ticks}
+use Rattle.sdh_payload.specs.Clock.{Clock, next_form, ticked, ticks}
 use Rattle.sdh_payload.proofs.Clocking.{goes_plain, plain_tick}
 use Rattle.sdh_bridge.specs.declared.Origin.{Origin}
 use Rattle.sdh_bridge.specs.declared.Origin.TheVariants.{Add, Working, Protection, Ais}
@@ -24,14 +24,13 @@ use Rattle.sdh_routes.specs.Rounds.{Spreads}
 use Rattle.sdh_routes.proofs.Spread.{steadiness_spreads}
 use Rattle.sdh_pointer.specs.declared.reading.Reading.{Reading}
 use Rattle.sdh_pointer.specs.declared.reading.Action.{Action}
-use Rattle.sdh_pointer.specs.declared.reading.Action.TheVariants as action
 use Rattle.sdh_pointer.specs.Reading.{start, after_word, action_on}
-use Rattle.sdh_pointer.specs.Sending.{word_sent, next_sending}
+use Rattle.sdh_pointer.specs.Sending.{next_sending}
 use Rattle.sdh_terms.specs.Fibres.{is_cut}
 use Rattle.sdh_terminal.specs.Passing.{Input}
 use Rattle.sdh_terminal.specs.Tributaries.{action_of}
 use Rattle.sdh_node.specs.Same.{Compared}
-use Rattle.sdh_node.specs.Node.{Node, receiving_on, sending_on, is_held, compared}
+use Rattle.sdh_node.specs.Node.{Node, receiving_on, is_held, compared}
 use Rattle.sdh_world.specs.Held.{node_at, AtEach}
 use Rattle.sdh_world.specs.Rounds.{World, round}
 use Rattle.sdh_world.specs.Runs.{run, course}
@@ -40,15 +39,14 @@ use Rattle.sdh_world.specs.Sides.{condition_to}
 use Rattle.sdh_laws.specs.Hearing.Laws.{IsWhole}
 use Rattle.sdh_laws.proofs.hearing.Changes.{whole_run}
 use Rattle.sdh_laws.proofs.hearing.Nodes.{count}
-use Rattle.sdh_laws.proofs.hearing.Rounds.{neighbour_inside}
-use Rattle.sdh_laws.specs.Carrying.Windows.{Layout, layout_of, slots_of, HasCircuits, AreSettled, requests_of, value_at, sent_at}
+use Rattle.sdh_laws.specs.Carrying.Windows.{Layout, layout_of, slots_of, HasCircuits, AreSettled, requests_of}
 use Rattle.sdh_laws.proofs.carrying.Clocks.{form_there, goes_plain as port_goes_plain}
 use Rattle.sdh_laws.proofs.carrying.Spans.{generators_on}
 use Rattle.sdh_spans.specs.Spans.{word_behind}
 use Rattle.sdh_laws.proofs.carrying.Ways.{layout_run}
 use Rattle.sdh_laws.specs.Converging.Steady.{went, came, brought}
 use Rattle.sdh_laws.proofs.converging.Calming.{AreSame, calm_round}
-use Rattle.sdh_laws.proofs.converging.Runs.{length_run, rate_run, condition_run, run_more}
+use Rattle.sdh_laws.proofs.converging.Runs.{length_run, rate_run, run_more}
 use Rattle.sdh_laws.proofs.converging.Spans.{sending_in, reading_in, word_in, Takes, generator_goes, interpreter_goes}
 use Rattle.sdh_laws.proofs.converging.Spreading.{two_halves, working_goes, protection_goes, protection_comes, inside_of, beside}
 use Rattle.sdh_laws.proofs.converging.Spreading.{generators_many, readings_many}

@@ -1,37 +1,24 @@
 -- The clock of a port, by its name and position, and what the port adds.
-use Rattle.std.proofs.Common.{◌≡◌, ℕ, zero, suc, ◌+◌, ◌-◌, ◌<◌, ◌≤◌, Bool, true, false, nat_le, List, [], ◌∷◌, length, map, Option, Some}
-use Rattle.std.proofs.Common.{None, refl, ap, sym, ◌∙◌, subst, arith}
-use Rattle.std.specs.Prelude.{if◌then◌else◌, ◌==◌, All, option_map}
+use Rattle.std.proofs.Common.{◌≡◌, ℕ, ◌-◌, ◌<◌, ◌≤◌, Bool, true, false, nat_le, length, Option, Some}
+use Rattle.std.proofs.Common.{None, refl, ap, ◌∙◌, subst, arith}
+use Rattle.std.specs.Prelude.{if◌then◌else◌, All}
 use Rattle.std.specs.Option.{option_map_or}
 use Rattle.std.proofs.lemmas.Bool.Decides.{nat_tests}
-use Rattle.std.proofs.lemmas.List.Elements.{All-nil, All-cons, All-append}
-use Rattle.sdh_ringmap.specs.declared.Pos.{Pos}
-use Rattle.sdh_ringmap.specs.declared.Side.TheVariants.{West, East}
-use Rattle.sdh_ringmap.specs.Places.{position_of}
 use Rattle.sdh_circuits.specs.declared.PortId.{PortId}
-use Rattle.sdh_circuits.specs.declared.End.TheVariants.{A, B}
-use Rattle.sdh_circuits.specs.Provisioned.{Provisioned}
 use Rattle.sdh_circuits.specs.Provisioning.{HasOffsets}
-use Rattle.sdh_payload.specs.declared.chunk.ChunkForm.{ChunkForm}
 use Rattle.sdh_payload.specs.declared.chunk.ChunkForm.TheVariants.{Plain, Short, Long}
-use Rattle.sdh_payload.specs.Clock.{Clock, new_clock, IsClock, waiting, next_form, after_form, ticked, ticks}
+use Rattle.sdh_payload.specs.Clock.{Clock, IsClock, waiting, next_form, after_form, ticked, ticks}
 use Rattle.sdh_payload.proofs.Clocking.{form_ticked}
 use Rattle.sdh_bridge.specs.declared.Origin.TheVariants.{Add}
-use Rattle.sdh_pointer.specs.declared.reading.Action.TheVariants as action
 use Rattle.sdh_terminal.specs.Passing.{Input, no_input}
-use Rattle.sdh_terminal.specs.Tributaries.{Tributary, port_of, sent_in, input_by, ends_from, new_tributary, tributaries_at}
-use Rattle.sdh_terminal.specs.Tributaries.{action_of, sent_by, ends_at}
-use Rattle.sdh_node.specs.Node.{Node, crossing, ports_after, after_crossing, with_calm, node_round}
-use Rattle.sdh_terminal.proofs.Ports.{clock-next}
-use Rattle.sdh_terminal.specs.Fixed.{FixedPort, fixed_port}
+use Rattle.sdh_terminal.specs.Tributaries.{Tributary, port_of, sent_in, input_by}
+use Rattle.sdh_terminal.specs.Tributaries.{action_of, sent_by}
 use Rattle.sdh_world.specs.Held.{node_at}
-use Rattle.sdh_world.specs.Rounds.{World, round}
+use Rattle.sdh_world.specs.Rounds.{World}
 use Rattle.sdh_terminal.proofs.Found.{found_has}
 use Rattle.sdh_world.proofs.Clocks.{clock_of}
 use Rattle.sdh_laws.specs.Hearing.Laws.{IsWhole}
-use Rattle.sdh_laws.proofs.hearing.Nodes.{informed, nodes_after}
 use Rattle.sdh_laws.specs.Carrying.Windows.{value_at}
-use Rattle.sdh_laws.proofs.carrying.Connections.{node_of}
 use Rattle.sdh_laws.proofs.carrying.Clocks.{form_there}
 use Rattle.sdh_laws.proofs.converging.Ports.{clock_there, HasSmall, ports_small}
 

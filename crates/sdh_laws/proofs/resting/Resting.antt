@@ -1,8 +1,6 @@
 -- What a quiet window leaves is at rest, and rounds leave it so.
-use Rattle.std.proofs.Common.{◌≡◌, ℕ, zero, suc, ◌+◌, ◌-◌, ◌*◌, ◌<◌, ◌≤◌, Bool, false, List, length, refl, ap, sym, ◌∙◌, subst, arith, inl}
-use Rattle.std.proofs.Common.{inr}
+use Rattle.std.proofs.Common.{◌≡◌, ℕ, zero, suc, ◌+◌, ◌-◌, ◌*◌, ◌<◌, ◌≤◌, false, length, refl, ap, sym, ◌∙◌, subst, arith, inl}
 use Rattle.std.specs.Prelude.{true, nat_le}
-use Rattle.std.proofs.lemmas.Bool.{cases_lt}
 use Rattle.sdh_payload.specs.Clock.{Clock}
 use Rattle.sdh_circuits.specs.declared.PortId.{PortId}
 use Rattle.sdh_settling.specs.Settled.{settled_states}
@@ -21,7 +19,7 @@ use Rattle.sdh_laws.proofs.hearing.Changes.{whole_run}
 use Rattle.sdh_laws.proofs.hearing.Nodes.{count}
 use Rattle.sdh_laws.proofs.hearing.Rounds.{whole_round}
 use Rattle.sdh_laws.proofs.hearing.Signalling.{calm_rounds_are_still, three_calm_rounds_are_settled, requests_stay}
-use Rattle.sdh_laws.specs.Carrying.Windows.{Layout, layout_of, size_of, HasCircuits, requests_of, AreSettled, FailOnApplied, IsQuiet}
+use Rattle.sdh_laws.specs.Carrying.Windows.{Layout, layout_of, size_of, HasCircuits, requests_of, FailOnApplied, IsQuiet}
 use Rattle.sdh_laws.specs.Carrying.Laws.{DeliversWhatIsDue}
 use Rattle.sdh_laws.proofs.carrying.Applied.{failures_applied, length-requests_of}
 use Rattle.sdh_laws.proofs.carrying.Owed.{quiet_delivers}

@@ -1,7 +1,7 @@
 -- The signalling of a ring after six calm rounds: the seventh leaves needs, filters, states and words as they are.
-use Rattle.std.proofs.Common.{◌≡◌, ℕ, zero, suc, ◌+◌, ◌-◌, ◌<◌, ◌≤◌, Bool, true, false, List, length, map, get_or, Option, Some, None, refl}
+use Rattle.std.proofs.Common.{◌≡◌, ℕ, zero, suc, ◌+◌, ◌<◌, ◌≤◌, Bool, true, List, length, map, get_or, Option, Some, None, refl}
 use Rattle.std.proofs.Common.{ap, ap₂, sym, ◌∙◌, subst, arith, inl, inr}
-use Rattle.std.specs.Prelude.{◌||◌, if◌then◌else◌, nat_le}
+use Rattle.std.specs.Prelude.{if◌then◌else◌}
 use Rattle.std.proofs.lemmas.Bool.{cases_Bool, cases_lt, le-leb}
 use Rattle.std.proofs.lemmas.List.{get_or-map}
 use Rattle.sdh_ringmap.specs.declared.Side.{Side}
@@ -10,14 +10,14 @@ use Rattle.sdh_ringmap.specs.Places.{neighbour, opposite}
 use Rattle.sdh_kbytes.specs.declared.K.{K}
 use Rattle.sdh_nodestate.specs.declared.Needs.{Needs}
 use Rattle.sdh_nodestate.specs.declared.Sent.{Sent}
-use Rattle.sdh_nodestate.specs.Filtering.{Brought, with_brought, hears, heard_of}
+use Rattle.sdh_nodestate.specs.Filtering.{Brought, with_brought, hears}
 use Rattle.sdh_settling.specs.Settled.{settled_states}
-use Rattle.sdh_settling.specs.Signals.{Signals, Filters, free_round, request_on, no_needs}
+use Rattle.sdh_settling.specs.Signals.{Signals, free_round, request_on, no_needs}
 use Rattle.sdh_settling.specs.Laws.{StillRingsAreSettled}
 use Rattle.sdh_terms.specs.declared.Condition.{Condition}
 use Rattle.sdh_terms.specs.Fibres.{is_cut}
 use Rattle.sdh_node.specs.Same.{Compared}
-use Rattle.sdh_node.specs.Node.{Node, receiving_on, sending_on, compared, sent_of, word_of}
+use Rattle.sdh_node.specs.Node.{Node, receiving_on, compared, sent_of, word_of}
 use Rattle.sdh_world.specs.Held.{nowhere, node_at}
 use Rattle.sdh_world.specs.Rounds.{World, round}
 use Rattle.sdh_world.specs.Runs.{run, course}

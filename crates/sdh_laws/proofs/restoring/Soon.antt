@@ -1,7 +1,7 @@
 -- A ring to which nothing happens but rounds is restored soon.
-use Rattle.std.proofs.Common.{◌≡◌, ℕ, zero, suc, ◌+◌, ◌-◌, ◌*◌, ◌<◌, ◌≤◌, Bool, true, false, Some, List, length, refl, ap, sym, ◌∙◌, subst}
+use Rattle.std.proofs.Common.{◌≡◌, ℕ, zero, suc, ◌+◌, ◌-◌, ◌*◌, ◌<◌, ◌≤◌, true, false, Some, List, length, ap, sym, ◌∙◌, subst}
 use Rattle.std.proofs.Common.{arith, inl, inr}
-use Rattle.std.specs.Prelude.{slice_get, ◌||◌}
+use Rattle.std.specs.Prelude.{slice_get}
 use Rattle.std.proofs.lemmas.Bool.{cases_Bool, cases_lt}
 use Rattle.sdh_ringmap.specs.Places.{span_at}
 use Rattle.sdh_ringmap.specs.declared.Side.{Side}
@@ -42,7 +42,7 @@ use Rattle.sdh_laws.proofs.hearing.Rounds.{clear_where_it_works}
 use Rattle.sdh_laws.proofs.carrying.Ways.{layout_run}
 use Rattle.sdh_laws.specs.Converging.Steady.{StaysSettled}
 use Rattle.sdh_laws.proofs.converging.Runs.{length_run, run_more}
-use Rattle.sdh_laws.specs.Restoring.Laws.{NoneHeld, ArePortsOwedFrom, PortsAreOwedSoon, UnslippedPortsAreOwedSoon, RingsAreRestoredSoon}
+use Rattle.sdh_laws.specs.Restoring.Laws.{ArePortsOwedFrom, PortsAreOwedSoon, UnslippedPortsAreOwedSoon, RingsAreRestoredSoon}
 use Rattle.sdh_laws.specs.Restoring.Laws.{FreeRingsAreRestoredSoon, UnslippedRingsAreRestoredSoon, UnsettledRingsAreRestored}
 use Rattle.sdh_laws.proofs.restoring.Resting.{AreUncut, port_delivers, joined_delivers, parted_delivers}
 use Rattle.sdh_rounds.specs.Runs as any_run

@@ -1,6 +1,6 @@
 -- A ring comes to be vouched for, whatever it carried: once no controller misses a turn, each AU-4 holds nothing but what its port has put
 -- in since as soon as its lag is over.
-use Rattle.std.proofs.Common.{◌≡◌, ℕ, ◌+◌, ◌-◌, ◌*◌, ◌<◌, ◌≤◌, List, length, Option, Some, None, refl, ap, sym, ◌∙◌, subst, arith, inl, inr}
+use Rattle.std.proofs.Common.{◌≡◌, ℕ, ◌+◌, ◌-◌, ◌*◌, ◌<◌, ◌≤◌, List, length, Option, Some, None, subst, arith, inl, inr}
 use Rattle.std.proofs.lemmas.Bool.{cases_lt}
 use Rattle.std.proofs.lemmas.Nat.{row_fits}
 use Rattle.sdh_frame.specs.Aus.{Au}

@@ -1,6 +1,6 @@
 -- How many rounds it takes at most until an AU-4 holds nothing but what its port has put in since: a span of an arc takes n + 1 rounds
 -- at most, one where traffic goes straight on, and up to n + 1 where it goes round the ring.
-use Rattle.std.proofs.Common.{◌≡◌, ℕ, zero, suc, ◌+◌, ◌-◌, ◌*◌, ◌<◌, ◌≤◌, Option, Some, None, refl, ap, sym, ◌∙◌, subst, arith, mod-lt}
+use Rattle.std.proofs.Common.{◌≡◌, ℕ, zero, suc, ◌+◌, ◌-◌, ◌*◌, ◌<◌, ◌≤◌, Option, Some, None, ap, sym, ◌∙◌, arith, mod-lt}
 use Rattle.std.specs.Prelude.{◌≢◌, List, length}
 use Rattle.std.specs.Option.{option_and_then}
 use Rattle.std.proofs.lemmas.Nat.{mul-le, row_fits}
@@ -11,7 +11,6 @@ use Rattle.sdh_ringmap.specs.Steps.{going}
 use Rattle.sdh_ringmap.specs.declared.Pos.{Pos}
 use Rattle.sdh_ringmap.specs.declared.Side.{Side}
 use Rattle.sdh_ringmap.specs.declared.Side.TheVariants.{West, East}
-use Rattle.sdh_ringmap.proofs.Sides.{opposite_twice}
 use Rattle.sdh_ringmap.proofs.Going.{reached, going-none, going-back, far_east, far_west}
 use Rattle.sdh_circuits.specs.Provisioned.{Provisioned}
 use Rattle.sdh_circuits.specs.declared.PortId.{PortId}

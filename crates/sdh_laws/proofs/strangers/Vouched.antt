@@ -30,7 +30,7 @@ use Rattle.sdh_terminal.specs.Tributaries.{Tributary, sent_in, input_by, added_b
 use Rattle.sdh_node.specs.Receiving.{commanded_by}
 use Rattle.sdh_node.specs.Node.{Node, new_node, at_receiving, held_for, slips_at, is_held, word_of}
 use Rattle.sdh_node.proofs.Decided.{turns_left}
-use Rattle.sdh_world.specs.Held.{node_at, AtEach, outlet_at, at_place, place_of_port}
+use Rattle.sdh_world.specs.Held.{node_at, AtEach, outlet_at, place_of_port}
 use Rattle.sdh_world.specs.Rounds.{World, round}
 use Rattle.sdh_promise.specs.Changes.{Change}
 use Rattle.sdh_promise.specs.Changes.{Fibre, Order, Hold, Slip, Now}
@@ -52,7 +52,7 @@ use Rattle.sdh_routes.proofs.Views.{AreOnRing, on-ring}
 use Rattle.sdh_routes.proofs.Ways.{end_inside}
 use Rattle.sdh_laws.specs.Strangers.Owners.{port_named, other_port, put_by, HasBytesOf, Holds, nobodys, customers, MeetsNoStranger}
 use Rattle.sdh_laws.specs.Strangers.Owners.{ais_comes, bytes_come, NoneMeetsAStranger, AreClocksOf}
-use Rattle.sdh_laws.specs.Strangers.Vouched.{streams_to, spoken_of, HoldsAtMost, au_in, IsVouched}
+use Rattle.sdh_laws.specs.Strangers.Vouched.{spoken_of, HoldsAtMost, au_in, IsVouched}
 use Rattle.sdh_laws.specs.Strangers.Laws.{HoldsNone}
 use Rattle.sdh_laws.proofs.strangers.Content.{IsCarried, Bears, Fine}
 use Rattle.sdh_laws.proofs.strangers.Lags.{spoken_lag, AreLags}

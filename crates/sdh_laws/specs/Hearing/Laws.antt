@@ -1,6 +1,5 @@
 -- The laws of a ring with frames. They are promised by the functions of this crate, which have no work to do.
 use Rattle.std.specs.Prelude.{ℕ, suc, ◌≡◌, ◌≢◌, ◌<◌, ◌≤◌, ◌+◌, ◌*◌, true, false, length, List, [], ◌∷◌, ◌++◌, All}
-use Rattle.sdh_terms.specs.declared.Code.{Code}
 use Rattle.sdh_kbytes.specs.declared.Mark.TheVariants as mark
 use Rattle.sdh_ringmap.specs.Ids.{AreIds}
 use Rattle.sdh_ringmap.specs.declared.Side.{Side}
@@ -22,7 +21,6 @@ use Rattle.sdh_world.specs.Laws.{IsChangeOf, AreChangesOf, MayHappen}
 use Rattle.sdh_payload.specs.Clock.{waiting}
 use Rattle.sdh_terminal.specs.Lines.{line_on}
 use Rattle.sdh_terminal.specs.Tributaries.{Tributary}
-use Rattle.sdh_promise.specs.Sides.{side_history}
 use Rattle.sdh_world.specs.Sides.{condition_to, world_in}
 use Rattle.sdh_spans.specs.Frames.{shown_by}
 use Rattle.sdh_promise.specs.Owed.{asked_in}

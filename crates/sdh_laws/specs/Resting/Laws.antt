@@ -1,5 +1,5 @@
 -- The laws of rest after a quiet window. They are promised by the functions of this crate, which have no work to do.
-use Rattle.std.specs.Prelude.{ℕ, ◌≡◌, ◌≤◌}
+use Rattle.std.specs.Prelude.{ℕ, ◌≤◌}
 use Rattle.sdh_payload.specs.Clock.{Clock}
 use Rattle.sdh_circuits.specs.declared.PortId.{PortId}
 use Rattle.sdh_world.specs.Rounds.{World}
