@@ -51,7 +51,10 @@ impl<'a> RunsPlans<'a> for Command<'a> {
 
     ghost ask_of = { what_is_asked };
 
-    fn usage() -> &'static [u8] {
+    fn usage() -> &'static [u8]
+        ensures line { result.now ≡ listening.usage }
+        ensures short { length result.now ≤ 95 }
+    {
         b"usage: sdhoutage run, trace NAME END"
     }
 
