@@ -1,10 +1,10 @@
 -- Bytes that stand in others.
-use Rattle.std.proofs.Common.{◌≡◌, ℕ, ◌+◌, ◌-◌, ◌<◌, ◌≤◌, Bool, true, false, List, ◌++◌, length, get_or, take, drop, bytes_eq, refl, sym}
+use Rattle.std.proofs.Common.{◌≡◌, ℕ, ◌+◌, ◌-◌, ◌<◌, ◌≤◌, Bool, true, false, List, length, get_or, take, drop, bytes_eq, sym}
 use Rattle.std.proofs.Common.{ap, ◌∙◌, arith}
 use Rattle.std.specs.Prelude.{Option, Some, None, is_some}
 use Rattle.std.specs.List.{range_with_len}
 use Rattle.std.proofs.lemmas.Bool.{false_from_ne_true}
-use Rattle.std.proofs.lemmas.List.{ext_get_or, length-append, length-take, length-drop, get_or_append_left, get_or-append_right}
+use Rattle.std.proofs.lemmas.List.{ext_get_or, length-take, length-drop}
 use Rattle.std.proofs.lemmas.List.FromFn.{length-range_with_len, get_or-range_with_len}
 use Rattle.std.proofs.lemmas.List.Folds.{list_any_at, list_any_none}
 use Rattle.std.proofs.lemmas.Slice.Eq.{bytes_eq-Decides}
@@ -60,25 +60,7 @@ module _ (bytes others : List ℕ) where
   part_found None nowhere = sym (no_part nowhere)
   part_found (Some k) found = sym (part_at k found.1)
 
-  pub none_found : FindsNeedle others bytes 0 None → is_part bytes others ≡ false
-  none_found nowhere = no_part nowhere
-
-  pub one_found : (k : ℕ) → FindsNeedle others bytes 0 (Some k) → is_part bytes others ≡ true
-  one_found k found = part_at k found.1
-
 -- ---- between others, and in a stream
-
-pub part_between : (front bytes back : List ℕ) → is_part bytes (front ++ bytes ++ back) ≡ true
-part_between front bytes back =
-    let here = front ++ bytes in
-    part_at bytes (here ++ back) (length front) (record {
-      fits = omega (arith, length-append here back, length-append front bytes);
-      reads = λ i h. (
-          let inside : length front + i < length here = omega (arith, length-append front bytes) in
-          let at : length front + i - length front ≡ i = omega arith in
-          get_or_append_left here back 0 (length front + i) inside
-          ∙ get_or-append_right front bytes (length front) (length front + i) 0 refl (omega arith) ∙ ap (λ j. get_or bytes j 0) at);
-    })
 
 pub stands_in_stream : (port : Customer) (p n q m : ℕ) → p ≤ q → q + m ≤ p + n
     → OccursAt (stream_from port p n) (stream_from port q m) (q - p)

@@ -65,9 +65,6 @@ near_is feed round from bytes w =
     let at : s - from + from ≡ s = omega (arith, w.before) in
     ap (drop from) w.bytes_are ∙ drop-stream feed.port (s - from) from (2349 * 78) ∙ ap (λ p. stream_from feed.port p (2349 * 78)) at
 
-pub window_long : (feed : Fed) (round from : ℕ) (bytes : List ℕ) → IsWindow feed round from bytes → length bytes ≡ from + 2349 * 78
-window_long feed round from bytes w = ap length w.bytes_are ∙ length-stream_from feed.port (near_from round - from) (from + 2349 * 78)
-
 -- without these
 pub window_dropped : (feed : Fed) (round from : ℕ) (bytes rest : List ℕ) → rest ≡ drop from bytes → IsWindow feed round from bytes
     → IsWindow feed round 0 rest
@@ -110,19 +107,6 @@ window_next feed next round from bytes chunk late n e w =
           (λ c. stream_from c (near_from (round + 1) - (from + 2349)) (from + 2349 + 2349 * 78)) (sym port);
     }
 
--- in the first rounds it stays where it is
-pub window_stays : (feed : Fed) (round from : ℕ) (bytes : List ℕ) → round < 71 → IsWindow feed round from bytes
-    → IsWindow feed (round + 1) from bytes
-window_stays feed round from bytes early w =
-    let same : near_from round ≡ near_from (round + 1) = omega arith in
-    record {
-      still = w.still;
-      rounds_are = omega (arith, w.rounds_are);
-      sent_is = omega (arith, w.sent_is);
-      before = omega (arith, w.before);
-      bytes_are = w.bytes_are ∙ ap (λ s. stream_from feed.port (s - from) (from + 2349 * 78)) same;
-    }
-
 -- ---- as it is filled, chunk by chunk
 
 pub record IsFilled (port : Customer) (feed : Fed) (i : ℕ) (bytes : List ℕ) : Type 0 where
@@ -157,15 +141,6 @@ filled_more port feed next i bytes chunk n e f =
           ap₂ (λ a b. a ++ b) f.bytes_are (e ∙ ap₂ (λ c p. stream_from c p 2349) f.port_is begins)
           ∙ sym (stream_from-append port 0 (2349 * i) 2349) ∙ ap (stream_from port 0) count;
     }
-
-pub filled_all : (port : Customer) (feed : Fed) (bytes : List ℕ) → IsFilled port feed 78 bytes → IsWindow feed 0 0 bytes
-filled_all port feed bytes f = record {
-  still = f.still;
-  rounds_are = omega (arith, f.rounds_are);
-  sent_is = omega (arith, f.sent_is);
-  before = omega arith;
-  bytes_are = f.bytes_are ∙ ap₂ (λ c n. stream_from c 0 n) (sym f.port_is) (let e : 2349 * 78 ≡ 0 + 2349 * 78 = omega arith in e);
-}
 
 -- what holds where a call that can fail didn't
 pub when_ok : {T E X : Type 0} (r : Result T E) (u : T) (a b : X) → r ≡ Ok u → (if is_ok r then a else b) ≡ a

@@ -1,10 +1,9 @@
-use Rattle.std.proofs.Common.{◌≡◌, ℕ, ◌+◌, List, ◌∷◌, length, sym, ap, ap₂, ◌∙◌}
-use Rattle.sdh_outage.specs.declared.kind.Kind.{Kind}
+use Rattle.std.proofs.Common.{◌≡◌, ◌+◌, ◌∷◌, ap, ap₂, ◌∙◌}
 use Rattle.sdh_outage.specs.Kinds.{kind_of}
 use Rattle.sdh_outage.specs.Kept.{Nearby, Heard}
 use Rattle.sdh_outage.specs.Outages.{with_round}
 use Rattle.sdh_outage.specs.Changes.{traced}
-use Rattle.sdh_outage.proofs.Hearing.{after, hears, trace_after}
+use Rattle.sdh_outage.proofs.Hearing.{hears, trace_after}
 use Rattle.sdh_outage.proofs.listener.Listener.hear.Goals as goal
 
 pub returns-clause-history : goal.returns-clause-history
