@@ -60,15 +60,15 @@ do_share n c d =
     c.slot.0 == d.slot.0 && list_any (λ span. holds_span n (arc_of n c) span && holds_span n (arc_of n d) span) (range_with_len 0 n)
 
 -- the position of a node that is in the ring
-abbrev pub place_of : List ℕ → ℤ → Pos
-place_of ids number = unwrap_or (node_of ids number) (record { 0 = 0 })
+abbrev pub position_of_node : List ℕ → ℤ → Pos
+position_of_node ids number = unwrap_or (node_of ids number) (record { 0 = 0 })
 
 -- the circuit that is asked for, in the ring of these identifiers
 abbrev pub circuit_of : List ℕ → Wish → Provisioned
 circuit_of ids wish = record {
   name = wish.name;
-  from = place_of ids wish.from;
-  to = place_of ids wish.to;
+  from = position_of_node ids wish.from;
+  to = position_of_node ids wish.to;
   slot = record { 0 = magnitude wish.slot };
   a = record { text = wish.text_a; trace = wish.trace_a; offset = magnitude wish.offset_a };
   b = record { text = wish.text_b; trace = wish.trace_b; offset = magnitude wish.offset_b };

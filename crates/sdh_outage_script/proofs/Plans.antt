@@ -2,7 +2,7 @@
 use Rattle.std.proofs.Common.{◌≡◌, true, ℕ, List, refl}
 use Rattle.sdh_plant.specs.Fibres.{Fibres, IsHonest}
 use Rattle.sdh_plan.specs.Planned.{Planned, IsPlanned, provisioning_of}
-use Rattle.sdh_plan.specs.Steps.{start}
+use Rattle.sdh_plan.specs.Steps.{new_past}
 use Rattle.sdh_report.specs.declared.status.Status.{Status}
 use Rattle.sdh_scripts.specs.Outcomes.{Came}
 use Rattle.sdh_scripts.proofs.Plans.{tells_all}
@@ -28,5 +28,5 @@ tells settles plan listing f left text end fits honest x =
     (λ h large told last ran. (
     let shown = reported outage_walk refl report_of plan.limit 0 plan.steps (world_of plan f) told end last ran in
     settles plan.settings plan.nodes (provisioning_of plan) f (may_start plan f fits (honest h))
-    (circuits_fit plan fits) plan.limit start plan.steps fits.steps_fit large shown.0 end last shown.1))
+    (circuits_fit plan fits) plan.limit new_past plan.steps fits.steps_fit large shown.0 end last shown.1))
     x

@@ -39,7 +39,7 @@ use Rattle.sdh_laws.specs.Carrying.Windows.{Layout, layout_in, layout_of, size_o
 use Rattle.sdh_laws.proofs.carrying.Settles.{layout_all, layout_stretches}
 use Rattle.sdh_plan.specs.declared.step.Step.{Step}
 use Rattle.sdh_plan.specs.declared.step.Step.TheVariants as step
-use Rattle.sdh_plan.specs.Steps.{Past, after, with_slips, is_settle}
+use Rattle.sdh_plan.specs.Steps.{Past, after, more_slips, is_settle}
 use Rattle.sdh_plan.specs.Scripts as plan
 use Rattle.sdh_promise.specs.Owed.{IsLast}
 use Rattle.sdh_owed.specs.Steps.{after_step}
@@ -99,7 +99,7 @@ WaitAtMost w slips = (port : PortId) → waiting_at w.ring port ≤ slips port
 
 -- slips that wait at a clock and the count of those that a port was given, behind slips of some port
 slips_grow : (port other : PortId) (turn : Turn) (count : ℕ) (slips : PortId → ℕ) (c : Clock) → waiting c ≤ slips port
-    → waiting (if same_port port other then waits turn count c else c) ≤ with_slips other count slips port
+    → waiting (if same_port port other then waits turn count c else c) ≤ more_slips other count slips port
 slips_grow port other turn count slips c few = by (same_port port other)
   where
     by : (b : Bool) → waiting (if b then waits turn count c else c) ≤ (if b then slips port + count else slips port)

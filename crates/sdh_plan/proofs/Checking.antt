@@ -4,7 +4,7 @@ use Rattle.sdh_plan.specs.declared.error.PlanError.{PlanError}
 use Rattle.sdh_plan.specs.declared.error.PlanError.TheVariants as error
 use Rattle.sdh_plan.specs.declared.reason.Reason.{Reason}
 use Rattle.sdh_plan.specs.Refusals.{IsRefused}
-use Rattle.sdh_plan.specs.Check.{Check, Refusal, Fault, answer, at_place, first_fault, unless}
+use Rattle.sdh_plan.specs.Check.{Check, Refusal, Fault, answer, checks_at_place, first_fault, unless}
 
 pub passes : {X : Type 0} (r : Option Reason) (x y : X) → Ok y ≡ unless r x → (r ≡ None) × (y ≡ x)
 passes None x y e = (refl, cc)
@@ -60,24 +60,24 @@ both_pass faults more x y f made e h =
 
 -- the checks of one place, and those behind them
 pub place_passes : (place : ℕ) (faults : List Fault) (more : List Check) → first_fault faults ≡ None
-    → answer (at_place place faults ++ more) ≡ answer more
+    → answer (checks_at_place place faults ++ more) ≡ answer more
 place_passes place [] more e = refl
 place_passes place (fault ∷ later) more e = passed fault.1 (place_passes place later more) e
   where
-    passed : (b : Bool) → (first_fault later ≡ None → answer (at_place place later ++ more) ≡ answer more)
+    passed : (b : Bool) → (first_fault later ≡ None → answer (checks_at_place place later ++ more) ≡ answer more)
         → cond b (Some fault.0) (first_fault later) ≡ None
-        → cond b (Some (record { reason = fault.0; place = place })) (answer (at_place place later ++ more)) ≡ answer more
+        → cond b (Some (record { reason = fault.0; place = place })) (answer (checks_at_place place later ++ more)) ≡ answer more
     passed true rest h = cc
     passed false rest h = rest h
 
 pub place_fails : (place : ℕ) (faults : List Fault) (more : List Check) (reason : Reason) → first_fault faults ≡ Some reason
-    → answer (at_place place faults ++ more) ≡ Some (record { reason = reason; place = place })
+    → answer (checks_at_place place faults ++ more) ≡ Some (record { reason = reason; place = place })
 place_fails place [] more reason e = cc
 place_fails place (fault ∷ later) more reason e = failed fault.1 (place_fails place later more reason) e
   where
-    failed : (b : Bool) → (first_fault later ≡ Some reason → answer (at_place place later ++ more)
+    failed : (b : Bool) → (first_fault later ≡ Some reason → answer (checks_at_place place later ++ more)
         ≡ Some (record { reason = reason; place = place })) → cond b (Some fault.0) (first_fault later) ≡ Some reason
-        → cond b (Some (record { reason = fault.0; place = place })) (answer (at_place place later ++ more))
+        → cond b (Some (record { reason = fault.0; place = place })) (answer (checks_at_place place later ++ more))
         ≡ Some (record { reason = reason; place = place })
     failed true rest h = let same : fault.0 ≡ reason = cc in ap (λ r. Some (record { reason = r; place = place })) same
     failed false rest h = rest h

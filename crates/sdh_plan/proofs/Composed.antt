@@ -10,7 +10,7 @@ use Rattle.sdh_plan.specs.declared.step.Step.{Step}
 use Rattle.sdh_plan.specs.declared.error.PlanError.{PlanError}
 use Rattle.sdh_plan.specs.Check.{Check, answer}
 use Rattle.sdh_plan.specs.Refusals.{IsRefused}
-use Rattle.sdh_plan.specs.Document.{elements_in, text_of}
+use Rattle.sdh_plan.specs.Document.{elements_in, string_of}
 use Rattle.sdh_plan.specs.Circuits.{provisioned}
 use Rattle.sdh_plan.specs.Steps.{step_of}
 use Rattle.sdh_plan.specs.Planned.{Planned, planned}
@@ -108,7 +108,7 @@ module _ (ms : Members) (rate : Rate) (nodes : List ℕ) (told : Told ms rate no
   pub plan_is : (settings : Settings) (limit : ℕ) (circuits : Provisioning) (steps : List Step) → settings.rate ≡ rate
       → threshold_at (n_of rate) ms ≡ Some settings.threshold → wait_at ms ≡ Some settings.wait → limit_at ms ≡ Some limit
       → circuits ≡ provisioned (n_of rate / 2) nodes (circuits_in nodes ms)
-      → steps ≡ map (λ d. step_of (n_of rate) nodes circuits.circuits (text_of d)) (elements_in (codes "script") ms)
+      → steps ≡ map (λ d. step_of (n_of rate) nodes circuits.circuits (string_of d)) (elements_in (codes "script") ms)
       → planned settings limit nodes circuits steps ≡ plan_of ms
   unfolding plan_of
   plan_is settings limit circuits steps r t w l cs ss =
@@ -120,10 +120,10 @@ module _ (ms : Members) (rate : Rate) (nodes : List ℕ) (told : Told ms rate no
       let limit_same : limit ≡ unwrap_or (limit_at ms) 0 = ap (λ o. unwrap_or o 0) (sym l) in
       let circuits_same : circuits.circuits ≡ circuits_in (nodes_in ms) ms =
       ap (λ p. p.circuits) cs ∙ ap (λ ids. circuits_in ids ms) told.nodes_are in
-      let steps_same : steps ≡ map (λ d. step_of (n_in ms) (nodes_in ms) (circuits_in (nodes_in ms) ms) (text_of d))
+      let steps_same : steps ≡ map (λ d. step_of (n_in ms) (nodes_in ms) (circuits_in (nodes_in ms) ms) (string_of d))
       (elements_in (codes "script") ms) =
-      ss ∙ ap (λ l. map (λ d. step_of (n_of rate) nodes l (text_of d)) (elements_in (codes "script") ms)) (ap (λ p. p.circuits) cs)
-      ∙ ap (λ k. map (λ d. step_of k nodes (circuits_in nodes ms) (text_of d)) (elements_in (codes "script") ms)) n_same
-      ∙ ap (λ ids. map (λ d. step_of (n_in ms) ids (circuits_in ids ms) (text_of d))
+      ss ∙ ap (λ l. map (λ d. step_of (n_of rate) nodes l (string_of d)) (elements_in (codes "script") ms)) (ap (λ p. p.circuits) cs)
+      ∙ ap (λ k. map (λ d. step_of k nodes (circuits_in nodes ms) (string_of d)) (elements_in (codes "script") ms)) n_same
+      ∙ ap (λ ids. map (λ d. step_of (n_in ms) ids (circuits_in ids ms) (string_of d))
       (elements_in (codes "script") ms)) told.nodes_are in
       made settings limit nodes circuits.circuits steps _ _ _ _ _ _ _ rate_same threshold_same wait_same limit_same told.nodes_are circuits_same steps_same

@@ -10,7 +10,7 @@ use Rattle.std.specs.BTreeMap.{BTreeMap, keys}
 use Rattle.std.specs.Map.{keys_of as names_of}
 use Rattle.std.specs.declared.alloc.Global.{Global}
 use Rattle.toml.proofs.Views.{Entry}
-use Rattle.sdh_plan.specs.Document.{elements, keys_of, is_integer, integer_of, is_text, is_table}
+use Rattle.sdh_plan.specs.Document.{elements, keys_of, is_integer, integer_of, is_string, is_table}
 
 pub elements_of-list : (ds : List Data) → elements (items_of ds) ≡ ds
 elements_of-list [] = refl
@@ -22,8 +22,8 @@ elements_view vs = elements_of-list (map view vs)
 pub all_integers_view : (vs : List Value) → list_all is_integer (map view vs) ≡ list_all (λ v. is_integer (view v)) vs
 all_integers_view vs = list_all-map is_integer view vs
 
-pub all_texts_view : (vs : List Value) → list_all is_text (map view vs) ≡ list_all (λ v. is_text (view v)) vs
-all_texts_view vs = list_all-map is_text view vs
+pub all_texts_view : (vs : List Value) → list_all is_string (map view vs) ≡ list_all (λ v. is_string (view v)) vs
+all_texts_view vs = list_all-map is_string view vs
 
 pub all_tables_view : (vs : List Value) → list_all is_table (map view vs) ≡ list_all (λ v. is_table (view v)) vs
 all_tables_view vs = list_all-map is_table view vs

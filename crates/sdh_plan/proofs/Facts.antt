@@ -17,14 +17,15 @@ use Rattle.sdh_plan.specs.declared.step.Step.TheVariants as step
 use Rattle.sdh_plan.specs.declared.reason.Reason.{Reason}
 use Rattle.sdh_plan.specs.declared.reason.Reason.TheVariants as reason
 use Rattle.sdh_plan.specs.Verbs as verb
-use Rattle.sdh_plan.specs.Check.{Check, Refusal, Fault, answer, at_place, first_fault}
-use Rattle.sdh_plan.specs.Document.{text_of, elements_in, is_array_of, is_text}
+use Rattle.sdh_plan.specs.Check.{Check, Refusal, Fault, answer, checks_at_place, first_fault}
+use Rattle.sdh_plan.specs.Document.{string_of, elements_in, is_array_of, is_string}
 use Rattle.sdh_plan.specs.Plans.{whole, last_check, texts_checks, is_script_length, script_checks}
 use Rattle.sdh_plan.specs.Words.{words, numeral_in, is_number, decimal_from}
 use Rattle.sdh_plan.specs.Verbs.{Verb, verb_of, Part, node, side, number, parts_of}
-use Rattle.sdh_plan.specs.Steps.{Past, node_at, side_at, part_faults, place_of, number_of, word_at, verb_faults, verb_step, form_faults}
-use Rattle.sdh_plan.specs.Steps.{form_step, step_of, step_faults, steps_checks, circuit_named, end_at, turn_at, port_named, past_faults}
-use Rattle.sdh_plan.specs.Steps.{after, start, ends_settled}
+use Rattle.sdh_plan.specs.Steps.{Past, node_identified, side_at, part_faults, position_in_words, number_in_word, word_at, verb_faults}
+use Rattle.sdh_plan.specs.Steps.{verb_step, form_faults}
+use Rattle.sdh_plan.specs.Steps.{form_step, step_of, step_faults, steps_checks, circuit_named, end_at, turn_at, port_in_words, past_faults}
+use Rattle.sdh_plan.specs.Steps.{after, new_past, ends_settled}
 use Rattle.sdh_plan.specs.Scripts.{IsStepIn, HasRoom, AreSteps}
 use Rattle.sdh_plan.proofs.Forms.{mismatch}
 
@@ -42,13 +43,13 @@ both_none (fault ∷ later) more e = joined fault.1 (both_none later more) e
     joined true rest h = cc
     joined false rest h = rest h
 
-place_none : (place : ℕ) (faults : List Fault) (more : List Check) → answer (at_place place faults ++ more) ≡ None
+place_none : (place : ℕ) (faults : List Fault) (more : List Check) → answer (checks_at_place place faults ++ more) ≡ None
     → (first_fault faults ≡ None) × (answer more ≡ None)
 place_none place [] more e = (refl, e)
 place_none place (fault ∷ later) more e = joined fault.1 (place_none place later more) e
   where
-    joined : (b : Bool) → (answer (at_place place later ++ more) ≡ None → (first_fault later ≡ None) × (answer more ≡ None))
-        → cond b (Some (record { reason = fault.0; place = place })) (answer (at_place place later ++ more)) ≡ None
+    joined : (b : Bool) → (answer (checks_at_place place later ++ more) ≡ None → (first_fault later ≡ None) × (answer more ≡ None))
+        → cond b (Some (record { reason = fault.0; place = place })) (answer (checks_at_place place later ++ more)) ≡ None
         → (cond b (Some fault.0) (first_fault later) ≡ None) × (answer more ≡ None)
     joined true rest h = cc
     joined false rest h = rest h
@@ -64,8 +65,8 @@ node_within nodes None p e = cc
 node_within nodes (Some id) p e =
     found_within nodes (position (λ x. x == id) nodes) p e (λ i h. (position-Some (λ x. x == id) nodes i 0 h).0)
 
-in_ring : (nodes word : List ℕ) (p : Pos) → node_at nodes word ≡ Some p → p.0 < length nodes
-unfolding node_at
+in_ring : (nodes word : List ℕ) (p : Pos) → node_identified nodes word ≡ Some p → p.0 < length nodes
+unfolding node_identified
 in_ring nodes word p e = node_within nodes (numeral_in 0 15 word) p e
 
 number_within : (low high : ℕ) (word : List ℕ) (k : ℕ) → numeral_in low high word ≡ Some k → (low ≤ k) × (k ≤ high)
@@ -77,9 +78,9 @@ number_within low high word k e = within (is_number word) (decimal_from 0 word) 
 
 -- a word that is to be a node's, and isn't refused
 node_there : (nodes word : List ℕ) (rest : Bool) (r : Option Reason)
-    → cond (is_none (node_at nodes word) || rest) (Some reason.StepNode) r ≡ None
-    → (unwrap_or (node_at nodes word) (record { 0 = 0 })).0 < length nodes
-node_there nodes word rest r e = named (node_at nodes word) (in_ring nodes word) e
+    → cond (is_none (node_identified nodes word) || rest) (Some reason.StepNode) r ≡ None
+    → (unwrap_or (node_identified nodes word) (record { 0 = 0 })).0 < length nodes
+node_there nodes word rest r e = named (node_identified nodes word) (in_ring nodes word) e
   where
     named : (o : Option Pos) → ((p : Pos) → o ≡ Some p → p.0 < length nodes) → cond (is_none o || rest) (Some reason.StepNode) r ≡ None
         → (unwrap_or o (record { 0 = 0 })).0 < length nodes
@@ -102,7 +103,7 @@ too_many_none nodes parts others h e = let wrong : ◌≡◌ {A = Option Reason}
     sym (mismatch nodes parts others h) ∙ e in cc
 
 place_within : (nodes : List ℕ) (others : List (List ℕ)) → first_fault (part_faults nodes (node ∷ side ∷ []) others) ≡ None
-    → (place_of nodes others).0 < length nodes
+    → (position_in_words nodes others).0 < length nodes
 unfolding part_faults
 place_within nodes [] e = cc
 place_within nodes (a ∷ []) e = cc
@@ -111,7 +112,8 @@ place_within nodes (a ∷ (b ∷ (c ∷ ws))) e = absurd (too_many_none nodes (n
 
 degree_within : (high : ℕ) (nodes : List ℕ) (others : List (List ℕ))
     → first_fault (part_faults nodes (node ∷ side ∷ number 1 high ∷ []) others) ≡ None
-    → ((place_of nodes others).0 < length nodes) × (1 ≤ number_of 1 high (word_at others 2)) × (number_of 1 high (word_at others 2) ≤ high)
+    → ((position_in_words nodes others).0 < length nodes) × (1 ≤ number_in_word 1 high (word_at others 2))
+    × (number_in_word 1 high (word_at others 2) ≤ high)
 unfolding part_faults
 degree_within high nodes [] e = cc
 degree_within high nodes (a ∷ []) e = cc
@@ -120,7 +122,7 @@ degree_within high nodes (a ∷ (b ∷ (c ∷ []))) e =
     let bounds : (1 ≤ unwrap_or (numeral_in 1 high c) 0) × (unwrap_or (numeral_in 1 high c) 0 ≤ high) =
     number_there 1 high c false None (later_none (is_none (side_at b) || (false || false)) reason.StepSide
     (cond (is_none (numeral_in 1 high c) || false) (Some reason.StepNumber) None)
-    (later_none (is_none (node_at nodes a) || (false || (false || false))) reason.StepNode
+    (later_none (is_none (node_identified nodes a) || (false || (false || false))) reason.StepNode
     (cond (is_none (side_at b) || (false || false)) (Some reason.StepSide)
     (cond (is_none (numeral_in 1 high c) || false) (Some reason.StepNumber) None)) e)) in
     (node_there nodes a _ _ e, bounds.0, bounds.1)
@@ -128,20 +130,21 @@ degree_within high nodes (a ∷ (b ∷ (c ∷ (d ∷ ws)))) e =
     absurd (too_many_none nodes (node ∷ side ∷ number 1 high ∷ []) (a ∷ (b ∷ (c ∷ (d ∷ ws)))) (omega arith) e)
 
 moment_within : (high : ℕ) (nodes : List ℕ) (others : List (List ℕ)) → first_fault (part_faults nodes (number 0 high ∷ []) others) ≡ None
-    → number_of 0 high (word_at others 0) ≤ high
+    → number_in_word 0 high (word_at others 0) ≤ high
 unfolding part_faults
 moment_within high nodes [] e = cc
 moment_within high nodes (a ∷ []) e = (number_there 0 high a _ _ e).1
 moment_within high nodes (a ∷ (b ∷ ws)) e = absurd (too_many_none nodes (number 0 high ∷ []) (a ∷ (b ∷ ws)) (omega arith) e)
 
 hold_within : (nodes : List ℕ) (others : List (List ℕ)) → first_fault (part_faults nodes (node ∷ number 1 100 ∷ []) others) ≡ None
-    → ((place_of nodes others).0 < length nodes) × (1 ≤ number_of 1 100 (word_at others 1)) × (number_of 1 100 (word_at others 1) ≤ 100)
+    → ((position_in_words nodes others).0 < length nodes) × (1 ≤ number_in_word 1 100 (word_at others 1))
+    × (number_in_word 1 100 (word_at others 1) ≤ 100)
 unfolding part_faults
 hold_within nodes [] e = cc
 hold_within nodes (a ∷ []) e = cc
 hold_within nodes (a ∷ (b ∷ [])) e =
     let bounds : (1 ≤ unwrap_or (numeral_in 1 100 b) 0) × (unwrap_or (numeral_in 1 100 b) 0 ≤ 100) =
-    number_there 1 100 b false None (later_none (is_none (node_at nodes a) || (false || false)) reason.StepNode
+    number_there 1 100 b false None (later_none (is_none (node_identified nodes a) || (false || false)) reason.StepNode
     (cond (is_none (numeral_in 1 100 b) || false) (Some reason.StepNumber) None) e) in
     (node_there nodes a _ _ e, bounds.0, bounds.1)
 hold_within nodes (a ∷ (b ∷ (c ∷ ws))) e = absurd (too_many_none nodes (node ∷ number 1 100 ∷ []) (a ∷ (b ∷ (c ∷ ws))) (omega arith) e)
@@ -166,8 +169,8 @@ circuit_there circuits word rest r e = named (circuit_named circuits word) (circ
 
 slip_within : (nodes : List ℕ) (circuits : List Provisioned) (others : List (List ℕ))
     → first_fault (part_faults nodes (verb.circuit circuits ∷ verb.end ∷ verb.turn ∷ number 1 16 ∷ []) others) ≡ None
-    → ((port_named circuits others).circuit < length circuits) × (1 ≤ number_of 1 16 (word_at others 3))
-    × (number_of 1 16 (word_at others 3) ≤ 16)
+    → ((port_in_words circuits others).circuit < length circuits) × (1 ≤ number_in_word 1 16 (word_at others 3))
+    × (number_in_word 1 16 (word_at others 3) ≤ 16)
 unfolding part_faults
 slip_within nodes circuits [] e = cc
 slip_within nodes circuits (a ∷ []) e = cc
@@ -190,8 +193,8 @@ verb_within : (rate : Rate) (nodes : List ℕ) (circuits : List Provisioned) (v 
 verb_within rate nodes circuits verb.Cut others e = (place_within nodes others e, tt)
 verb_within rate nodes circuits verb.Mend others e = (place_within nodes others e, tt)
 verb_within rate nodes circuits verb.Degrade others e =
-    let bounds : ((place_of nodes others).0 < length nodes) × (1 ≤ number_of 1 (3 * n_of rate) (word_at others 2))
-    × (number_of 1 (3 * n_of rate) (word_at others 2) ≤ 3 * n_of rate) = degree_within (3 * n_of rate) nodes others e in
+    let bounds : ((position_in_words nodes others).0 < length nodes) × (1 ≤ number_in_word 1 (3 * n_of rate) (word_at others 2))
+    × (number_in_word 1 (3 * n_of rate) (word_at others 2) ≤ 3 * n_of rate) = degree_within (3 * n_of rate) nodes others e in
     (bounds.0, (bounds.1, bounds.2))
 verb_within rate nodes circuits verb.Forced others e = place_within nodes others e
 verb_within rate nodes circuits verb.Manual others e = place_within nodes others e
@@ -231,20 +234,20 @@ past_within past step.Settle h e = record { forward = omega arith; few_settles =
 
 pub steps_within : (rate : Rate) (nodes : List ℕ) (circuits : List Provisioned) (past : Past) (place : ℕ) (ds : List Data)
     → past.settles ≤ 64 → answer (steps_checks (n_of rate) nodes circuits past place ds) ≡ None
-    → AreSteps rate (length nodes) (length circuits) past (map (λ d. step_of (n_of rate) nodes circuits (text_of d)) ds)
+    → AreSteps rate (length nodes) (length circuits) past (map (λ d. step_of (n_of rate) nodes circuits (string_of d)) ds)
 steps_within rate nodes circuits past place [] h e = tt
 steps_within rate nodes circuits past place (d ∷ ds) h e =
-    let s : Step = step_of (n_of rate) nodes circuits (text_of d) in
-    let parts : (first_fault (step_faults (n_of rate) nodes circuits past (text_of d)) ≡ None)
+    let s : Step = step_of (n_of rate) nodes circuits (string_of d) in
+    let parts : (first_fault (step_faults (n_of rate) nodes circuits past (string_of d)) ≡ None)
     × (answer (steps_checks (n_of rate) nodes circuits (after past s) (place + 1) ds) ≡ None) =
-    place_none place (step_faults (n_of rate) nodes circuits past (text_of d))
+    place_none place (step_faults (n_of rate) nodes circuits past (string_of d))
     (steps_checks (n_of rate) nodes circuits (after past s) (place + 1) ds) e in
-    let form : (first_fault (form_faults (n_of rate) nodes circuits (words (text_of d))) ≡ None)
+    let form : (first_fault (form_faults (n_of rate) nodes circuits (words (string_of d))) ≡ None)
     × (first_fault (past_faults past s) ≡ None) =
-    both_none (form_faults (n_of rate) nodes circuits (words (text_of d))) (past_faults past s) parts.0 in
+    both_none (form_faults (n_of rate) nodes circuits (words (string_of d))) (past_faults past s) parts.0 in
     let leads : Leads past s = past_within past s h form.1 in (
       record {
-        in_ring = form_within rate nodes circuits (words (text_of d)) form.0;
+        in_ring = form_within rate nodes circuits (words (string_of d)) form.0;
         forward = leads.forward;
         few_settles = leads.few_settles;
         few_slips =
@@ -274,24 +277,26 @@ turned false e = cc
 
 pub script_fits : (ms : Members) (rate : Rate) (nodes : List ℕ) (circuits : List Provisioned) (n : ℕ) (steps : List Step) → n ≡ n_of rate
     → answer (script_checks n nodes circuits ms) ≡ None
-    → steps ≡ map (λ d. step_of n nodes circuits (text_of d)) (elements_in (codes "script") ms)
-    → AreSteps rate (length nodes) (length circuits) start steps × (ends_settled steps ≡ true)
+    → steps ≡ map (λ d. step_of n nodes circuits (string_of d)) (elements_in (codes "script") ms)
+    → AreSteps rate (length nodes) (length circuits) new_past steps × (ends_settled steps ≡ true)
 unfolding script_checks
 script_fits ms rate nodes circuits n steps h e made =
     let ds : List Data = elements_in (codes "script") ms in
-    let first : (not (is_array_of is_text (codes "script") ms) ≡ false)
+    let first : (not (is_array_of is_string (codes "script") ms) ≡ false)
     × (answer (whole reason.ScriptLength (not (is_script_length (length ds))) ∷ texts_checks n nodes circuits ds) ≡ None) =
     check_none _ _ _ e in
     let second : (not (is_script_length (length ds)) ≡ false) × (answer (texts_checks n nodes circuits ds) ≡ None) =
     check_none _ _ _ first.1 in
-    let parts : (answer (steps_checks n nodes circuits start 1 ds) ≡ None)
-    × (answer (last_check (map (λ d. step_of n nodes circuits (text_of d)) ds) ∷ []) ≡ None) =
-    answers_none (steps_checks n nodes circuits start 1 ds)
-    (last_check (map (λ d. step_of n nodes circuits (text_of d)) ds) ∷ []) second.1 in
-    let last : not (ends_settled (map (λ d. step_of n nodes circuits (text_of d)) ds)) ≡ false = (check_none _ _ None parts.1).0 in
-    let fit : AreSteps rate (length nodes) (length circuits) start (map (λ d. step_of (n_of rate) nodes circuits (text_of d)) ds) =
-    steps_within rate nodes circuits start 1 ds (omega arith)
-    (ap (λ k. answer (steps_checks k nodes circuits start 1 ds)) (sym h) ∙ parts.0) in
-    let same : steps ≡ map (λ d. step_of (n_of rate) nodes circuits (text_of d)) ds =
-    made ∙ ap (λ k. map (λ d. step_of k nodes circuits (text_of d)) ds) h in
-    (subst (λ (l : List Step). AreSteps rate (length nodes) (length circuits) start l) (sym same) fit, ap ends_settled made ∙ turned _ last)
+    let parts : (answer (steps_checks n nodes circuits new_past 1 ds) ≡ None)
+    × (answer (last_check (map (λ d. step_of n nodes circuits (string_of d)) ds) ∷ []) ≡ None) =
+    answers_none (steps_checks n nodes circuits new_past 1 ds)
+    (last_check (map (λ d. step_of n nodes circuits (string_of d)) ds) ∷ []) second.1 in
+    let last : not (ends_settled (map (λ d. step_of n nodes circuits (string_of d)) ds)) ≡ false = (check_none _ _ None parts.1).0 in
+    let fit : AreSteps rate (length nodes) (length circuits) new_past (map (λ d. step_of (n_of rate) nodes circuits (string_of d)) ds) =
+    steps_within rate nodes circuits new_past 1 ds (omega arith)
+    (ap (λ k. answer (steps_checks k nodes circuits new_past 1 ds)) (sym h) ∙ parts.0) in
+    let same : steps ≡ map (λ d. step_of (n_of rate) nodes circuits (string_of d)) ds =
+    made ∙ ap (λ k. map (λ d. step_of k nodes circuits (string_of d)) ds) h in (
+      subst (λ (l : List Step). AreSteps rate (length nodes) (length circuits) new_past l) (sym same) fit,
+      ap ends_settled made ∙ turned _ last,
+    )

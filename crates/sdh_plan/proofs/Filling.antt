@@ -11,7 +11,7 @@ use Rattle.sdh_circuits.specs.Provisioned.{Provisioned}
 use Rattle.sdh_circuits.specs.Provisioning.{Provisioning}
 use Rattle.sdh_circuits.specs.Checks.{with_circuit, refusal}
 use Rattle.sdh_plan.specs.Circuits.{provisioned}
-use Rattle.sdh_plan.specs.Big.{Laying, drawn, next, spans_of, end_of, with_next, laid, next_circuit, slot_begun, circuits_from}
+use Rattle.sdh_plan.specs.Big.{Laying, drawn, next, spans_of, laying_end, with_next, laid_circuit, next_circuit, slot_begun, circuits_from}
 use Rattle.sdh_plan.specs.Big.{state_behind, slot_circuits, behind_slot, big_nodes, big_circuits, big_script, big_settings, big_planned}
 use Rattle.sdh_plan.specs.declared.step.Step.{Step}
 use Rattle.sdh_plan.specs.Planned.{Planned, planned}
@@ -55,7 +55,7 @@ laid_still slot l d is some was = let spans = spans_some l some in record {
 laid_now : (slot : ℕ) (l : Laying) → 1 ≤ slot → IsLaying l → 0 < l.left → IsLaid slot (with_next l) (next_circuit slot l)
 laid_now slot l low is some =
     let spans = spans_some l some in
-    let long : eastwards 16 l.at (end_of l) ≡ spans_of l = eastwards-place 16 l.at (spans_of l) is.at_inside (omega (arith, spans.2)) in
+    let long : eastwards 16 l.at (laying_end l) ≡ spans_of l = eastwards-place 16 l.at (spans_of l) is.at_inside (omega (arith, spans.2)) in
     record {
       number = l.number;
       named = refl;
@@ -65,7 +65,8 @@ laid_now slot l low is some =
       slot_small = omega arith;
       by_number = λ same. omega arith;
       apart = λ same s on. let h =
-          held l.at (end_of l) s on in behind l.at (spans_of l) l.left s is.at_inside h.0 spans.1 is.left_few (omega (arith, h.1, long));
+          held l.at (laying_end l) s on in behind l.at (spans_of l) l.left s is.at_inside h.0 spans.1 is.left_few
+          (omega (arith, h.1, long));
     }
 
 -- so far the slot has the circuits before this one, and the rest will be laid
@@ -153,15 +154,15 @@ filling_passes slot x before p l ids spans state low high some f e g h =
 pub filling_next : (slot x : ℕ) (before : List Provisioned) (p q : Provisioning) (l : Laying) (ids : List ℕ) (spans state after : ℕ)
     → 1 ≤ slot → 0 < l.left → Filling slot x before p l
     → ids ≡ big_nodes → spans ≡ spans_of l → state ≡ next l.state → after ≡ next (next state)
-    → q ≡ with_circuit p ids (laid slot l.number l.at spans state)
+    → q ≡ with_circuit p ids (laid_circuit slot l.number l.at spans state)
     → Filling slot x before q (record { number = l.number + 1; at = (l.at + spans) % 16; left = l.left - spans; state = after })
 filling_next slot x before p q l ids spans state after low some f e g h i made =
     let to : ℕ → ℕ → Laying = λ k y. record { number = l.number + 1; at = (l.at + k) % 16; left = l.left - k; state = y } in
     let there : to spans after ≡ with_next l = ap (λ k. to k after) g ∙ ap (to (spans_of l)) (i ∙ ap (λ y. next (next y)) h) in
     let more_is : q ≡ with_more slot l p =
-    made ∙ ap (λ ns. with_circuit p ns (laid slot l.number l.at spans state)) e
-    ∙ ap (λ k. with_circuit p big_nodes (laid slot l.number l.at k state)) g
-    ∙ ap (λ y. with_circuit p big_nodes (laid slot l.number l.at (spans_of l) y)) h in
+    made ∙ ap (λ ns. with_circuit p ns (laid_circuit slot l.number l.at spans state)) e
+    ∙ ap (λ k. with_circuit p big_nodes (laid_circuit slot l.number l.at k state)) g
+    ∙ ap (λ y. with_circuit p big_nodes (laid_circuit slot l.number l.at (spans_of l) y)) h in
     subst (λ (r : Provisioning). Filling slot x before r (to spans after)) (sym more_is)
     (subst (Filling slot x before (with_more slot l p)) (sym there) (more slot x before p l low some f.most f f.enough f.rest f.state))
 

@@ -3,7 +3,7 @@ use Rattle.std.proofs.Common.{◌≡◌, ℕ, ◌+◌, ◌≤◌, List, [], ◌�
 use Rattle.sdh_terms.specs.declared.Rate.{Rate}
 use Rattle.sdh_plan.specs.declared.step.Step.{Step}
 use Rattle.sdh_plan.specs.declared.step.Step.TheVariants as step
-use Rattle.sdh_plan.specs.Steps.{Past, after, is_settle, start}
+use Rattle.sdh_plan.specs.Steps.{Past, after, is_settle, new_past}
 use Rattle.sdh_circuits.specs.Provisioned.{Provisioned}
 use Rattle.sdh_plan.specs.Circuits.{kept_ring}
 use Rattle.sdh_plan.specs.Planned.{Planned, IsPlanned, provisioning_of}
@@ -41,9 +41,9 @@ pub few_settles : (plan : Planned) → IsPlanned plan → count_by is_settle pla
 few_settles plan fits =
     omega (
       arith,
-      settles_counted start plan.steps,
+      settles_counted new_past plan.steps,
       settles_few plan.settings.rate (length plan.nodes)
-          (length plan.circuits) start plan.steps (omega arith) fits.steps_fit,
+          (length plan.circuits) new_past plan.steps (omega arith) fits.steps_fit,
     )
 
 -- a plan without circuits keeps no ring, and any other its own

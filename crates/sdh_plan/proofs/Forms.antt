@@ -12,7 +12,7 @@ use Rattle.sdh_plan.specs.Verbs as verb
 use Rattle.sdh_plan.specs.Check.{first_fault, unless}
 use Rattle.sdh_plan.specs.Words.{is_empty, numeral_in}
 use Rattle.sdh_plan.specs.Verbs.{Verb, verb_of, Part, node, side, number, parts_of}
-use Rattle.sdh_plan.specs.Steps.{node_at, side_at, part_faults, verb_faults, told_step, form_faults, form_step}
+use Rattle.sdh_plan.specs.Steps.{node_identified, side_at, part_faults, verb_faults, told_step, form_faults, form_step}
 
 any_take : (k : ℕ) (ws : List (List ℕ)) → list_any is_empty ws ≡ false → list_any is_empty (take k ws) ≡ false
 any_take zero ws h = refl
@@ -118,7 +118,7 @@ module _ {X : Type 0} (f : X → List ℕ) (nodes : List ℕ) (d : X) (why : Rea
   -- a check of the two words fails, and no check before it
   abbrev pub Fails : List X → Type 0
   Fails xs =
-      first_fault ((reason.StepNode, is_none (node_at nodes (f (get_or xs 0 d))))
+      first_fault ((reason.StepNode, is_none (node_identified nodes (f (get_or xs 0 d))))
       ∷ ((reason.StepSide, is_none (side_at (f (get_or xs 1 d)))) ∷ [])) ≡ Some why
 
   two : (x y : Bool) → cond x (Some reason.StepNode) (cond y (Some reason.StepSide) None) ≡ Some why
@@ -132,7 +132,7 @@ module _ {X : Type 0} (f : X → List ℕ) (nodes : List ℕ) (d : X) (why : Rea
   unfolding part_faults
   two_fail [] s h k e = absurd (omega arith)
   two_fail (a ∷ []) s h k e = absurd (omega arith)
-  two_fail (a ∷ (b ∷ [])) s h k e = sym (ap (λ r. unless r s) (two (is_none (node_at nodes (f a))) (is_none (side_at (f b))) e))
+  two_fail (a ∷ (b ∷ [])) s h k e = sym (ap (λ r. unless r s) (two (is_none (node_identified nodes (f a))) (is_none (side_at (f b))) e))
   two_fail (a ∷ (b ∷ (c ∷ xs))) s h k e = absurd (omega arith)
 
   three : (x y z : Bool) → cond x (Some reason.StepNode) (cond y (Some reason.StepSide) None) ≡ Some why
@@ -149,5 +149,6 @@ module _ {X : Type 0} (f : X → List ℕ) (nodes : List ℕ) (d : X) (why : Rea
   three_fail low high (a ∷ []) s h k e = absurd (omega arith)
   three_fail low high (a ∷ (b ∷ [])) s h k e = absurd (omega arith)
   three_fail low high (a ∷ (b ∷ (c ∷ []))) s h k e =
-      sym (ap (λ r. unless r s) (three (is_none (node_at nodes (f a))) (is_none (side_at (f b))) (is_none (numeral_in low high (f c))) e))
+      sym (ap (λ r. unless r s) (three (is_none (node_identified nodes (f a))) (is_none (side_at (f b)))
+      (is_none (numeral_in low high (f c))) e))
   three_fail low high (a ∷ (b ∷ (c ∷ (g ∷ xs)))) s h k e = absurd (omega arith)

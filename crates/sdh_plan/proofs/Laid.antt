@@ -20,12 +20,12 @@ use Rattle.sdh_ringmap.proofs.Around.{eastwards-place, eastwards_self}
 use Rattle.sdh_circuits.specs.Provisioned.{Provisioned, arc_of}
 use Rattle.sdh_circuits.specs.Provisioning.{Provisioning}
 use Rattle.sdh_circuits.specs.Naming.{is_name}
-use Rattle.sdh_circuits.specs.Checks.{Wish, circuit_of, do_share, is_within, node_of, place_of, checks, refusal, with_circuit}
+use Rattle.sdh_circuits.specs.Checks.{Wish, circuit_of, do_share, is_within, node_of, position_of_node, checks, refusal, with_circuit}
 use Rattle.sdh_circuits.specs.declared.AddError.{AddError}
 use Rattle.sdh_circuits.specs.declared.AddError.TheVariants as refused
 use Rattle.sdh_payload.specs.Customer.{is_text}
 use Rattle.sdh_plan.specs.Words.{decimal_from}
-use Rattle.sdh_plan.specs.Big.{Laying, drawn, next, spans_of, end_of, name_in, laid, next_circuit, big_nodes}
+use Rattle.sdh_plan.specs.Big.{Laying, drawn, next, spans_of, laying_end, name_in, laid_circuit, next_circuit, big_nodes}
 use Rattle.sdh_plan.specs.Laid.{IsLaying, IsLaid, wish_with, wish_laid}
 
 no_longer : (b c : Bool) → (b ≡ false → c ≡ false) → c ≡ true → b ≡ true
@@ -110,15 +110,15 @@ found_node : (k : ℕ) → k < 16 → node_of big_nodes (pos k) ≡ Some (positi
 found_node k h = let small : nat_le k 15 ≡ true =
     le-leb k 15 (omega arith) in ap (λ b. cond b (found_at big_nodes k) None) small ∙ found k h
 
-placed : (k : ℕ) → k < 16 → place_of big_nodes (pos k) ≡ position_of k
+placed : (k : ℕ) → k < 16 → position_of_node big_nodes (pos k) ≡ position_of k
 placed k h = ap (λ o. unwrap_or o (record { 0 = 0 })) (found_node k h)
 
 -- what is asked for gives the circuit
 pub asked_gives : (slot number at spans x : ℕ) → at < 16 → circuit_of big_nodes (wish_laid slot number at spans x)
-    ≡ laid slot number at spans x
+    ≡ laid_circuit slot number at spans x
 asked_gives slot number at spans x h =
-    let make : Pos → Pos → Provisioned = λ from to. record (laid slot number at spans x) { from = from; to = to } in
-    ap (λ from. make from (place_of big_nodes (pos ((at + spans) % 16)))) (placed at h)
+    let make : Pos → Pos → Provisioned = λ from to. record (laid_circuit slot number at spans x) { from = from; to = to } in
+    ap (λ from. make from (position_of_node big_nodes (pos ((at + spans) % 16)))) (placed at h)
     ∙ ap (make (position_of at)) (placed ((at + spans) % 16) (mod-lt (at + spans) (omega arith)))
 
 -- spans that the next circuit has
@@ -144,7 +144,7 @@ unshared : (slot : ℕ) (l : Laying) (d : Provisioned) → IsLaying l → 0 < l.
 unfolding do_share
 unshared slot l d is some was =
     let spans = spans_some l some in
-    let long : eastwards 16 l.at (end_of l) ≡ spans_of l = eastwards-place 16 l.at (spans_of l) is.at_inside (omega (arith, spans.2)) in
+    let long : eastwards 16 l.at (laying_end l) ≡ spans_of l = eastwards-place 16 l.at (spans_of l) is.at_inside (omega (arith, spans.2)) in
     not_both (slot == d.slot.0) _ (λ same any.
     let none =
     list_any_none (λ span. holds_span 16 (arc_of 16 (next_circuit slot l)) span && holds_span 16 (arc_of 16 d) span)
@@ -152,7 +152,7 @@ unshared slot l d is some was =
     (λ k s h. not_both (holds_span 16 (arc_of 16 (next_circuit slot l)) (get_or (range_with_len 0 16) k s))
     (holds_span 16 (arc_of 16 d) (get_or (range_with_len 0 16) k s))
     (λ mine theirs.
-    let on = held l.at (end_of l) (get_or (range_with_len 0 16) k s) mine in
+    let on = held l.at (laying_end l) (get_or (range_with_len 0 16) k s) mine in
     let away = was.apart (sym (eqb-true slot d.slot.0 same)) (get_or (range_with_len 0 16) k s) theirs in
     omega (arith, on.1, away, long, spans.1))) in
     let e : false ≡ true = sym none ∙ any in
@@ -191,13 +191,13 @@ offset_within x = let small : x % 783 < 783 =
     mod-lt x (omega arith) in both (nat_le 0 (x % 783)) (nat_le (x % 783) 782) (le-leb 0 (x % 783) (omega arith))
     (le-leb (x % 783) 782 (omega arith))
 
-two_ends : (l : Laying) → IsLaying l → 0 < l.left → not (int_eq (pos l.at) (pos (end_of l))) ≡ true
+two_ends : (l : Laying) → IsLaying l → 0 < l.left → not (int_eq (pos l.at) (pos (laying_end l))) ≡ true
 two_ends l is some =
     let spans = spans_some l some in
-    let long : eastwards 16 l.at (end_of l) ≡ spans_of l = eastwards-place 16 l.at (spans_of l) is.at_inside (omega (arith, spans.2)) in
-    differ (int_eq (pos l.at) (pos (end_of l))) (λ e.
-    let same : eastwards 16 l.at l.at ≡ eastwards 16 l.at (end_of l) =
-    ap (eastwards 16 l.at) (one_place ((Decides-int_eq (pos l.at) (pos (end_of l))).0 e)) in
+    let long : eastwards 16 l.at (laying_end l) ≡ spans_of l = eastwards-place 16 l.at (spans_of l) is.at_inside (omega (arith, spans.2)) in
+    differ (int_eq (pos l.at) (pos (laying_end l))) (λ e.
+    let same : eastwards 16 l.at l.at ≡ eastwards 16 l.at (laying_end l) =
+    ap (eastwards 16 l.at) (one_place ((Decides-int_eq (pos l.at) (pos (laying_end l))).0 e)) in
     omega (arith, same, long, eastwards_self 16 l.at is.at_inside, spans.0))
 
 pub not_refused : (slot : ℕ) (l : Laying) (p : Provisioning) → p.slots ≡ 2 → 1 ≤ slot → slot ≤ 2 → IsLaying l → 0 < l.left
@@ -219,7 +219,7 @@ not_refused slot l p two low high is some were =
     (λ k d h. unshared slot l (get_or p.circuits k d) is some (were k d h)) in
     passes _ _ _ (both (nat_le 1 slot) (nat_le slot p.slots) (le-leb 1 slot low) (le-leb slot p.slots (omega (arith, two))))
     (passes _ _ _ (both _ _ (ap is_some (found_node l.at is.at_inside))
-    (ap is_some (found_node (end_of l) (mod-lt (l.at + spans_of l) (omega arith)))))
+    (ap is_some (found_node (laying_end l) (mod-lt (l.at + spans_of l) (omega arith)))))
     (passes _ _ _ (two_ends l is some)
     (passes _ _ _ (both _ _ (offset_within (drawn (next l.state))) (offset_within (drawn (next (next l.state)))))
     (passes _ _ _ (both _ _ c.0 c.1)
@@ -248,7 +248,7 @@ wish_same slot number at spans x y name text_a text_b offset_a offset_b a b c d 
 -- so that the circuit is laid where it is added
 pub added_laid : {E : Type 0} (r : Result (Unit {0}) E) (p q : Provisioning) (ids : List ℕ) (wish : Wish) (slot number at spans x : ℕ)
     → ids ≡ big_nodes → at < 16 → wish ≡ wish_laid slot number at spans x
-    → OnOk r (q ≡ with_circuit p ids (circuit_of ids wish)) → OnOk r (q ≡ with_circuit p ids (laid slot number at spans x))
+    → OnOk r (q ≡ with_circuit p ids (circuit_of ids wish)) → OnOk r (q ≡ with_circuit p ids (laid_circuit slot number at spans x))
 added_laid (Err e) p q ids wish slot number at spans x there h is added = tt
 added_laid (Ok u) p q ids wish slot number at spans x there h is added =
     added ∙ ap (λ w. with_circuit p ids (circuit_of ids w)) is

@@ -12,7 +12,7 @@ use Rattle.sdh_plan.specs.declared.error.PlanError.TheVariants as error
 use Rattle.sdh_plan.specs.declared.reason.Reason.{Reason}
 use Rattle.sdh_plan.specs.Check.{Refusal, answer, first_fault}
 use Rattle.sdh_plan.specs.Refusals.{IsRefused, refusal_at}
-use Rattle.sdh_plan.specs.Circuits.{circuit_in, circuit_faults, circuits_checks, members_of, kept_ring, provisioned}
+use Rattle.sdh_plan.specs.Circuits.{circuit_of_table, circuit_faults, circuits_checks, members_of, kept_ring, provisioned}
 use Rattle.sdh_plan.proofs.Checking.{place_passes, place_fails}
 
 pub keeps : (nodes : List ℕ) (circuits : List Provisioned) (c : Provisioned) → Some nodes ≡ kept_ring nodes (circuits ++ c ∷ [])
@@ -21,7 +21,7 @@ keeps nodes (d ∷ circuits) c = refl
 
 module _ (slots : ℕ) (nodes : List ℕ) (values : List Value) where
   abbrev circuit_at : Value → Provisioned
-  circuit_at v = circuit_in nodes (members_of (view v))
+  circuit_at v = circuit_of_table nodes (members_of (view v))
 
   abbrev made : ℕ → List Provisioned
   made i = map circuit_at (take i values)
@@ -90,11 +90,11 @@ module _ (slots : ℕ) (nodes : List ℕ) (values : List Value) where
       (subst (λ (k : ℕ). IsRefused (refusal_at k (first_fault
       (circuit_faults p.slots nodes p.circuits (members_of (view v))))) why) at refused)
 
-  maps : (vs : List Value) → map circuit_at vs ≡ map (λ d. circuit_in nodes (members_of d)) (map view vs)
+  maps : (vs : List Value) → map circuit_at vs ≡ map (λ d. circuit_of_table nodes (members_of d)) (map view vs)
   maps [] = refl
   maps (v ∷ vs) = ap (λ l. circuit_at v ∷ l) (maps vs)
 
   pub added_circuits : (p : Provisioning) (i : ℕ) → Added p i → length values ≤ i
-      → p ≡ provisioned slots nodes (map (λ d. circuit_in nodes (members_of d)) (map view values))
+      → p ≡ provisioned slots nodes (map (λ d. circuit_of_table nodes (members_of d)) (map view values))
   added_circuits p i before h =
       before.circuits_made ∙ ap (provisioned slots nodes) (ap (map circuit_at) (take_all i values h) ∙ maps values)

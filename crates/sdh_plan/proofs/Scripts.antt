@@ -10,9 +10,9 @@ use Rattle.sdh_plan.specs.declared.error.PlanError.TheVariants as error
 use Rattle.sdh_plan.specs.declared.step.Step.{Step}
 use Rattle.sdh_plan.specs.declared.reason.Reason.{Reason}
 use Rattle.sdh_plan.specs.declared.reason.Reason.TheVariants as reason
-use Rattle.sdh_plan.specs.Document.{text_of}
+use Rattle.sdh_plan.specs.Document.{string_of}
 use Rattle.sdh_plan.specs.Check.{answer, first_fault, unless}
-use Rattle.sdh_plan.specs.Steps.{Past, step_of, step_faults, steps_checks, start, after, ends_settled}
+use Rattle.sdh_plan.specs.Steps.{Past, step_of, step_faults, steps_checks, new_past, after, ends_settled}
 use Rattle.sdh_plan.specs.Plans.{texts_checks, last_check}
 use Rattle.sdh_plan.proofs.Checking.{answer_behind, passes, refuses, place_passes, place_fails}
 
@@ -30,14 +30,14 @@ placed_reason (Err r) place why Q h is = (r, refl, is r h)
 
 module _ (n : ℕ) (nodes : List ℕ) (circuits : List Provisioned) (values : List Value) where
   abbrev text_in : Value → List ℕ
-  text_in v = text_of (view v)
+  text_in v = string_of (view v)
 
   abbrev step_in : Value → Step
   step_in v = step_of n nodes circuits (text_in v)
 
   -- the checks before the i-th value pass, and the steps that they give are these
   pub record Read (past : Past) (steps : List Step) (i : ℕ) : Type 0 where
-    pub checks : answer (steps_checks n nodes circuits start 1 (map view values))
+    pub checks : answer (steps_checks n nodes circuits new_past 1 (map view values))
         ≡ answer (steps_checks n nodes circuits past (i + 1) (map view (drop i values)))
     pub made : steps ≡ map step_in (take i values)
 
@@ -70,7 +70,7 @@ module _ (n : ℕ) (nodes : List ℕ) (circuits : List Provisioned) (values : Li
 
   pub read_fails : (past : Past) (steps : List Step) (i : ℕ) (v : Value) (text : List ℕ) (why : Reason) → Read past steps i
       → i < length values → v ≡ get_or values i v → text ≡ text_in v
-      → Tells past text (Err why) → answer (steps_checks n nodes circuits start 1 (map view values))
+      → Tells past text (Err why) → answer (steps_checks n nodes circuits new_past 1 (map view values))
       ≡ Some (record { reason = why; place = i + 1 })
   read_fails past steps i v text why before h e is told =
       before.checks ∙ here past i v h e ∙ place_fails (i + 1) (step_faults n nodes circuits past (text_in v))
@@ -78,40 +78,40 @@ module _ (n : ℕ) (nodes : List ℕ) (circuits : List Provisioned) (values : Li
       (refuses _ _ _ (subst (λ (t : List ℕ). Tells past t (Err why)) is told))
 
   pub read_all : (past : Past) (steps : List Step) (i : ℕ) → Read past steps i → length values ≤ i
-      → answer (steps_checks n nodes circuits start 1 (map view values)) ≡ None
+      → answer (steps_checks n nodes circuits new_past 1 (map view values)) ≡ None
   read_all past steps i before h =
       before.checks ∙ ap (λ l. answer (steps_checks n nodes circuits past (i + 1) (map view l))) (drop_all i values h)
 
-  maps : (vs : List Value) → map step_in vs ≡ map (λ d. step_of n nodes circuits (text_of d)) (map view vs)
+  maps : (vs : List Value) → map step_in vs ≡ map (λ d. step_of n nodes circuits (string_of d)) (map view vs)
   maps [] = refl
   maps (v ∷ vs) = ap (λ l. step_in v ∷ l) (maps vs)
 
   pub read_steps : (past : Past) (steps : List Step) (i : ℕ) → Read past steps i → length values ≤ i
-      → steps ≡ map (λ d. step_of n nodes circuits (text_of d)) (map view values)
+      → steps ≡ map (λ d. step_of n nodes circuits (string_of d)) (map view values)
   read_steps past steps i before h = before.made ∙ ap (map step_in) (take_all i values h) ∙ maps values
 
-  pub counted : (steps : List Step) → steps ≡ map (λ d. step_of n nodes circuits (text_of d)) (map view values)
+  pub counted : (steps : List Step) → steps ≡ map (λ d. step_of n nodes circuits (string_of d)) (map view values)
       → length steps ≡ length values
-  counted steps e = ap length e ∙ length-map (map view values) (λ d. step_of n nodes circuits (text_of d)) ∙ length-map values view
+  counted steps e = ap length e ∙ length-map (map view values) (λ d. step_of n nodes circuits (string_of d)) ∙ length-map values view
 
-  last_checked : (steps : List Step) → answer (steps_checks n nodes circuits start 1 (map view values)) ≡ None
-      → steps ≡ map (λ d. step_of n nodes circuits (text_of d)) (map view values)
+  last_checked : (steps : List Step) → answer (steps_checks n nodes circuits new_past 1 (map view values)) ≡ None
+      → steps ≡ map (λ d. step_of n nodes circuits (string_of d)) (map view values)
       → answer (texts_checks n nodes circuits (map view values)) ≡ answer (last_check steps ∷ [])
   last_checked steps passed e =
-      answer_behind (steps_checks n nodes circuits start 1 (map view values))
-      (last_check (map (λ d. step_of n nodes circuits (text_of d)) (map view values)) ∷ []) passed
+      answer_behind (steps_checks n nodes circuits new_past 1 (map view values))
+      (last_check (map (λ d. step_of n nodes circuits (string_of d)) (map view values)) ∷ []) passed
       ∙ ap (λ l. answer (last_check l ∷ [])) (sym e)
 
-  pub last_fails : (steps : List Step) → answer (steps_checks n nodes circuits start 1 (map view values)) ≡ None
-      → steps ≡ map (λ d. step_of n nodes circuits (text_of d)) (map view values) → ends_settled steps ≡ false
+  pub last_fails : (steps : List Step) → answer (steps_checks n nodes circuits new_past 1 (map view values)) ≡ None
+      → steps ≡ map (λ d. step_of n nodes circuits (string_of d)) (map view values) → ends_settled steps ≡ false
       → answer (texts_checks n nodes circuits (map view values)) ≡ Some (record { reason = reason.LastStep; place = length values })
   last_fails steps passed e fails =
       last_checked steps passed e
       ∙ ap (λ b. cond (not b) (Some (record { reason = reason.LastStep; place = length steps })) None) fails
       ∙ ap (λ k. Some (record { reason = reason.LastStep; place = k })) (counted steps e)
 
-  pub last_passes : (steps : List Step) → answer (steps_checks n nodes circuits start 1 (map view values)) ≡ None
-      → steps ≡ map (λ d. step_of n nodes circuits (text_of d)) (map view values) → ends_settled steps ≡ true
+  pub last_passes : (steps : List Step) → answer (steps_checks n nodes circuits new_past 1 (map view values)) ≡ None
+      → steps ≡ map (λ d. step_of n nodes circuits (string_of d)) (map view values) → ends_settled steps ≡ true
       → answer (texts_checks n nodes circuits (map view values)) ≡ None
   last_passes steps passed e settled =
       last_checked steps passed e ∙ ap (λ b. cond (not b) (Some (record { reason = reason.LastStep; place = length steps })) None) settled

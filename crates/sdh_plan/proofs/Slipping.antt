@@ -14,7 +14,7 @@ use Rattle.sdh_circuits.specs.declared.End.{End}
 use Rattle.sdh_circuits.specs.declared.End.TheVariants.{A, B}
 use Rattle.sdh_circuits.specs.Provisioned.{Provisioned, same_end}
 use Rattle.sdh_plan.specs.declared.slips.Slips.{Slips}
-use Rattle.sdh_plan.specs.Steps.{circuit_named, with_slips}
+use Rattle.sdh_plan.specs.Steps.{circuit_named, more_slips}
 use Rattle.sdh_plan.specs.Counted.{counts_at, slips_in}
 
 module _ {X : Type 0} (p : X → Bool) where
@@ -104,11 +104,11 @@ one_more xs c k more h = by (k == c) refl
 -- the count of a port grows, and the others stay
 slips_more : (s t : Slips) (port : PortId) (more : ℕ) → port.circuit < length (counts_at s port.end)
     → counts_at t port.end ≡ set (counts_at s port.end) port.circuit (slips_in s port + more)
-    → ((e : End) → same_end e port.end ≡ false → counts_at t e ≡ counts_at s e) → slips_in t ≡ with_slips port more (slips_in s)
+    → ((e : End) → same_end e port.end ≡ false → counts_at t e ≡ counts_at s e) → slips_in t ≡ more_slips port more (slips_in s)
 unfolding slips_in
 slips_more s t port more few here others = fun_ext (λ other. by other (same_end other.end port.end) refl)
   where
-    by : (other : PortId) (b : Bool) → same_end other.end port.end ≡ b → slips_in t other ≡ with_slips port more (slips_in s) other
+    by : (other : PortId) (b : Bool) → same_end other.end port.end ≡ b → slips_in t other ≡ more_slips port more (slips_in s) other
     by other true e =
         let same : other.end ≡ port.end = same_end_is other.end port.end e in
         ap (λ d. get_or (counts_at t d) other.circuit 0) same ∙ ap (λ xs. get_or xs other.circuit 0) here
@@ -125,7 +125,7 @@ slips_more s t port more few here others = fun_ext (λ other. by other (same_end
 -- the same of the port at an end
 pub slips_more_at : (s t : Slips) (port : PortId) (more : ℕ) (end : End) → port.end ≡ end → port.circuit < length (counts_at s end)
     → counts_at t end ≡ set (counts_at s end) port.circuit (slips_in s port + more)
-    → ((d : End) → same_end d end ≡ false → counts_at t d ≡ counts_at s d) → slips_in t ≡ with_slips port more (slips_in s)
+    → ((d : End) → same_end d end ≡ false → counts_at t d ≡ counts_at s d) → slips_in t ≡ more_slips port more (slips_in s)
 slips_more_at s t port more end e few is others =
     slips_more s t port more (subst (λ (d : End). port.circuit < length (counts_at s d)) (sym e) few)
     (subst (λ (d : End). counts_at t d ≡ set (counts_at s d) port.circuit (slips_in s port + more)) (sym e) is)

@@ -42,12 +42,12 @@ abbrev pub spans_of : Laying → ℕ
 spans_of l = min (1 + drawn l.state % 5) l.left
 
 -- it ends there
-abbrev pub end_of : Laying → ℕ
-end_of l = (l.at + spans_of l) % 16
+abbrev pub laying_end : Laying → ℕ
+laying_end l = (l.at + spans_of l) % 16
 
 -- three draws are behind it: its number of spans, and the offset at each end
 abbrev pub with_next : Laying → Laying
-with_next l = record { number = l.number + 1; at = end_of l; left = l.left - spans_of l; state = next (next (next l.state)) }
+with_next l = record { number = l.number + 1; at = laying_end l; left = l.left - spans_of l; state = next (next (next l.state)) }
 
 -- a circuit's name in a slot
 abbrev pub name_in : ℕ → ℕ → List ℕ
@@ -58,8 +58,8 @@ abbrev pub customer_of : List ℕ → List ℕ → ℕ → Customer
 customer_of name letter offset = record { text = name ++ letter; trace = name; offset = offset }
 
 -- the circuit of this number over so many spans from a position on, with the offsets that are drawn from a state on
-abbrev pub laid : ℕ → ℕ → ℕ → ℕ → ℕ → Provisioned
-laid slot number at spans x = record {
+abbrev pub laid_circuit : ℕ → ℕ → ℕ → ℕ → ℕ → Provisioned
+laid_circuit slot number at spans x = record {
   name = name_in slot number;
   from = position_of at;
   to = position_of ((at + spans) % 16);
@@ -70,7 +70,7 @@ laid slot number at spans x = record {
 
 -- the next circuit
 abbrev pub next_circuit : ℕ → Laying → Provisioned
-next_circuit slot l = laid slot l.number l.at (spans_of l) (next l.state)
+next_circuit slot l = laid_circuit slot l.number l.at (spans_of l) (next l.state)
 
 -- the next circuits of a slot, so many at most
 abbrev pub circuits_from : ℕ → ℕ → Laying → List Provisioned

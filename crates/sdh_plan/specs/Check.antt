@@ -23,8 +23,8 @@ abbrev pub Fault : Type 0
 Fault = Reason × Bool
 
 -- the checks of the circuit or step at this place
-abbrev pub at_place : ℕ → List Fault → List Check
-at_place place faults = map (λ fault. record { reason = fault.0; place = place; fails = fault.1 }) faults
+abbrev pub checks_at_place : ℕ → List Fault → List Check
+checks_at_place place faults = map (λ fault. record { reason = fault.0; place = place; fails = fault.1 }) faults
 
 -- the reason of the first that fails, if one does
 abbrev pub first_fault : List Fault → Option Reason

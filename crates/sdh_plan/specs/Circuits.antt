@@ -6,7 +6,7 @@ use Rattle.sdh_circuits.specs.Checks.{Wish, has_slot, has_ends, has_two_ends, ha
 use Rattle.sdh_circuits.specs.Checks.{circuit_of}
 use Rattle.sdh_circuits.specs.Provisioned.{Provisioned}
 use Rattle.sdh_circuits.specs.Provisioning.{Provisioning}
-use Rattle.sdh_plan.specs.Check.{Check, Fault, at_place}
+use Rattle.sdh_plan.specs.Check.{Check, Fault, checks_at_place}
 use Rattle.sdh_plan.specs.Document.{◌>>=◌, integer_at, text_at, has_only}
 use Rattle.sdh_plan.specs.declared.reason.Reason.TheVariants as reason
 
@@ -74,8 +74,8 @@ abbrev pub wish_of_table : Members → Wish
 wish_of_table ms = unwrap_or (wish_in ms) no_wish
 
 -- the circuit that a table asks for
-abbrev pub circuit_in : List ℕ → Members → Provisioned
-circuit_in nodes ms = circuit_of nodes (wish_of_table ms)
+abbrev pub circuit_of_table : List ℕ → Members → Provisioned
+circuit_of_table nodes ms = circuit_of nodes (wish_of_table ms)
 
 -- the checks of what is asked for, behind circuits that were asked for before
 unfoldable pub wish_faults : ℕ → List ℕ → List Provisioned → Wish → List Fault
@@ -101,8 +101,8 @@ circuit_faults slots nodes before ms =
 abbrev pub circuits_checks : ℕ → List ℕ → List Provisioned → ℕ → List Data → List Check
 circuits_checks slots nodes before place [] = []
 circuits_checks slots nodes before place (d ∷ ds) =
-    at_place place (circuit_faults slots nodes before (members_of d))
-    ++ circuits_checks slots nodes (before ++ circuit_in nodes (members_of d) ∷ []) (place + 1) ds
+    checks_at_place place (circuit_faults slots nodes before (members_of d))
+    ++ circuits_checks slots nodes (before ++ circuit_of_table nodes (members_of d) ∷ []) (place + 1) ds
 
 -- the ring that a circuit map keeps: that of its first circuit
 abbrev pub kept_ring : List ℕ → List Provisioned → Option (List ℕ)

@@ -66,12 +66,12 @@ elements_in key ms = unwrap_or (elements_at key ms) []
 abbrev pub is_array_of : (Data → Bool) → List ℕ → Members → Bool
 is_array_of test key ms = option_map_or (list_all test) (elements_at key ms) false
 
--- it is an integer, a text, a table
+-- it is an integer, a string, a table
 abbrev pub is_integer : Data → Bool
 is_integer d = is_some (as_integer d)
 
-abbrev pub is_text : Data → Bool
-is_text d = is_some (as_str d)
+abbrev pub is_string : Data → Bool
+is_string d = is_some (as_str d)
 
 abbrev pub is_table : Data → Bool
 is_table d = is_some (as_table d)
@@ -80,6 +80,6 @@ is_table d = is_some (as_table d)
 abbrev pub integer_of : Data → ℤ
 integer_of d = unwrap_or (as_integer d) (pos 0)
 
--- the bytes of a text; no bytes where it is none
-abbrev pub text_of : Data → List ℕ
-text_of d = unwrap_or (as_str d) []
+-- the bytes of a string; no bytes where it is none
+abbrev pub string_of : Data → List ℕ
+string_of d = unwrap_or (as_str d) []

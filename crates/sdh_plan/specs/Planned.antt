@@ -7,7 +7,7 @@ use Rattle.sdh_circuits.specs.Provisioning.{Provisioning, IsProvisioning}
 use Rattle.sdh_plan.specs.Circuits.{provisioned}
 use Rattle.sdh_circuits.specs.Provisioned.{Provisioned}
 use Rattle.sdh_plan.specs.declared.step.Step.{Step}
-use Rattle.sdh_plan.specs.Steps.{start, ends_settled}
+use Rattle.sdh_plan.specs.Steps.{new_past, ends_settled}
 use Rattle.sdh_plan.specs.Scripts.{AreSteps}
 
 pub record Planned : Type 0 where
@@ -47,5 +47,5 @@ pub record IsPlanned (plan : Planned) : Type 0 where
   pub circuits_fit : IsProvisioning (provisioning_of plan)
   pub steps_from_1 : 1 ≤ length plan.steps
   pub steps_few : length plan.steps ≤ 1000
-  pub steps_fit : AreSteps plan.settings.rate (length plan.nodes) (length plan.circuits) start plan.steps
+  pub steps_fit : AreSteps plan.settings.rate (length plan.nodes) (length plan.circuits) new_past plan.steps
   pub last_settles : ends_settled plan.steps ≡ true

@@ -11,10 +11,10 @@ use Rattle.sdh_ringmap.specs.Numbering.{is_ring_size, first_unfit, first_repeat,
 use Rattle.sdh_circuits.specs.Provisioned.{Provisioned}
 use Rattle.sdh_plan.specs.declared.step.Step.{Step}
 use Rattle.sdh_plan.specs.Check.{Check}
-use Rattle.sdh_plan.specs.Document.{◌>>=◌, has_only, number_at, elements_in, is_array_of, is_integer, is_text, is_table, integer_of}
-use Rattle.sdh_plan.specs.Document.{text_of}
-use Rattle.sdh_plan.specs.Circuits.{members_of, circuit_in, circuits_checks}
-use Rattle.sdh_plan.specs.Steps.{step_of, steps_checks, start, ends_settled}
+use Rattle.sdh_plan.specs.Document.{◌>>=◌, has_only, number_at, elements_in, is_array_of, is_integer, is_string, is_table, integer_of}
+use Rattle.sdh_plan.specs.Document.{string_of}
+use Rattle.sdh_plan.specs.Circuits.{members_of, circuit_of_table, circuits_checks}
+use Rattle.sdh_plan.specs.Steps.{step_of, steps_checks, new_past, ends_settled}
 use Rattle.sdh_plan.specs.Planned.{Planned}
 use Rattle.sdh_plan.specs.declared.reason.Reason.{Reason}
 use Rattle.sdh_plan.specs.declared.reason.Reason.TheVariants as reason
@@ -53,10 +53,10 @@ limit_at ms = number_at (codes "limit") 1 65536 ms
 
 -- the circuits that tables ask for, in a ring of these nodes
 abbrev pub circuits_in : List ℕ → Members → List Provisioned
-circuits_in nodes ms = map (λ d. circuit_in nodes (members_of d)) (elements_in (codes "circuit") ms)
+circuits_in nodes ms = map (λ d. circuit_of_table nodes (members_of d)) (elements_in (codes "circuit") ms)
 
 abbrev pub steps_in : Members → List Step
-steps_in ms = map (λ d. step_of (n_in ms) (nodes_in ms) (circuits_in (nodes_in ms) ms) (text_of d)) (elements_in (codes "script") ms)
+steps_in ms = map (λ d. step_of (n_in ms) (nodes_in ms) (circuits_in (nodes_in ms) ms) (string_of d)) (elements_in (codes "script") ms)
 
 -- a check of the document
 abbrev pub whole : Reason → Bool → Check
@@ -103,7 +103,7 @@ last_check steps = record { reason = reason.LastStep; place = length steps; fail
 -- the checks of the texts of a script, in a ring of these nodes and circuits at STM-n
 abbrev pub texts_checks : ℕ → List ℕ → List Provisioned → List Data → List Check
 texts_checks n nodes circuits ds =
-    steps_checks n nodes circuits start 1 ds ++ last_check (map (λ d. step_of n nodes circuits (text_of d)) ds) ∷ []
+    steps_checks n nodes circuits new_past 1 ds ++ last_check (map (λ d. step_of n nodes circuits (string_of d)) ds) ∷ []
 
 -- a script has 1 to 1,000 steps
 abbrev pub is_script_length : ℕ → Bool
@@ -112,7 +112,7 @@ is_script_length k = nat_le 1 k && nat_le k 1000
 -- the checks of the script, in a ring of these nodes and circuits at STM-n
 unfoldable pub script_checks : ℕ → List ℕ → List Provisioned → Members → List Check
 script_checks n nodes circuits ms =
-    whole reason.Script (not (is_array_of is_text (codes "script") ms))
+    whole reason.Script (not (is_array_of is_string (codes "script") ms))
     ∷ whole reason.ScriptLength (not (is_script_length (length (elements_in (codes "script") ms))))
     ∷ texts_checks n nodes circuits (elements_in (codes "script") ms)
 

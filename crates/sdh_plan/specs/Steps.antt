@@ -23,14 +23,14 @@ use Rattle.sdh_plan.specs.declared.step.Step.TheVariants as step
 use Rattle.sdh_plan.specs.Verbs.{Verb, verb_of, Part, node, side, number, parts_of}
 use Rattle.sdh_plan.specs.Verbs as verb
 use Rattle.toml.specs.Data.{Data}
-use Rattle.sdh_plan.specs.Document.{text_of}
-use Rattle.sdh_plan.specs.Check.{Fault, Check, at_place}
+use Rattle.sdh_plan.specs.Document.{string_of}
+use Rattle.sdh_plan.specs.Check.{Fault, Check, checks_at_place}
 use Rattle.sdh_plan.specs.Words.{words, is_empty, numeral_in}
 use Rattle.sdh_plan.specs.declared.reason.Reason.TheVariants as reason
 
 -- the position of the node whose identifier the word is
-unfoldable pub node_at : List ℕ → List ℕ → Option Pos
-node_at nodes word = option_and_then (found_at nodes) (numeral_in 0 15 word)
+unfoldable pub node_identified : List ℕ → List ℕ → Option Pos
+node_identified nodes word = option_and_then (found_at nodes) (numeral_in 0 15 word)
 
 -- the side that the word names
 abbrev pub side_at : List ℕ → Option Side
@@ -50,7 +50,7 @@ turn_at word = if bytes_eq word (codes "up") then Some Up else if bytes_eq word 
 
 -- the word is to be a node of the ring and is none
 abbrev pub no_node : List ℕ → Part → List ℕ → Bool
-no_node nodes node word = is_none (node_at nodes word)
+no_node nodes node word = is_none (node_identified nodes word)
 no_node nodes side word = false
 no_node nodes (number low high) word = false
 no_node nodes (verb.circuit circuits) word = false
@@ -109,44 +109,45 @@ abbrev pub word_at : List (List ℕ) → ℕ → List ℕ
 word_at others i = slice_index_or others i []
 
 -- what the words stand for where they pass the checks
-abbrev pub place_of : List ℕ → List (List ℕ) → Pos
-place_of nodes others = unwrap_or (node_at nodes (word_at others 0)) (record { 0 = 0 })
+abbrev pub position_in_words : List ℕ → List (List ℕ) → Pos
+position_in_words nodes others = unwrap_or (node_identified nodes (word_at others 0)) (record { 0 = 0 })
 
-abbrev pub side_of : List (List ℕ) → Side
-side_of others = unwrap_or (side_at (word_at others 1)) West
+abbrev pub side_in_words : List (List ℕ) → Side
+side_in_words others = unwrap_or (side_at (word_at others 1)) West
 
-abbrev pub port_named : List Provisioned → List (List ℕ) → PortId
-port_named circuits others = record {
+abbrev pub port_in_words : List Provisioned → List (List ℕ) → PortId
+port_in_words circuits others = record {
   circuit = unwrap_or (circuit_named circuits (word_at others 0)) 0;
   end = unwrap_or (end_at (word_at others 1)) A;
 }
 
-abbrev pub turn_of : List (List ℕ) → Turn
-turn_of others = unwrap_or (turn_at (word_at others 2)) Up
+abbrev pub turn_in_words : List (List ℕ) → Turn
+turn_in_words others = unwrap_or (turn_at (word_at others 2)) Up
 
-abbrev pub number_of : ℕ → ℕ → List ℕ → ℕ
-number_of low high word = unwrap_or (numeral_in low high word) 0
+abbrev pub number_in_word : ℕ → ℕ → List ℕ → ℕ
+number_in_word low high word = unwrap_or (numeral_in low high word) 0
 
 -- the fibre that leaves the node on the side comes into the condition
 abbrev pub fibre_step : List ℕ → List (List ℕ) → Condition → Step
-fibre_step nodes others c = step.Fibre (record { at = place_of nodes others; side = side_of others; condition = c })
+fibre_step nodes others c = step.Fibre (record { at = position_in_words nodes others; side = side_in_words others; condition = c })
 
 -- the side of the node gets the command
 abbrev pub order_step : List ℕ → List (List ℕ) → Command → Step
-order_step nodes others c = step.Order (place_of nodes others) (side_of others) c
+order_step nodes others c = step.Order (position_in_words nodes others) (side_in_words others) c
 
 -- the step that the words behind the first give
 abbrev pub verb_step : ℕ → List ℕ → List Provisioned → Verb → List (List ℕ) → Step
 verb_step n nodes circuits verb.Cut others = fibre_step nodes others condition.Cut
 verb_step n nodes circuits verb.Mend others = fibre_step nodes others condition.Clear
-verb_step n nodes circuits verb.Degrade others = fibre_step nodes others (condition.Degraded (number_of 1 (3 * n) (word_at others 2)))
+verb_step n nodes circuits verb.Degrade others = fibre_step nodes others (condition.Degraded (number_in_word 1 (3 * n) (word_at others 2)))
 verb_step n nodes circuits verb.Forced others = order_step nodes others command.Forced
 verb_step n nodes circuits verb.Manual others = order_step nodes others command.Manual
 verb_step n nodes circuits verb.Clear others = order_step nodes others command.Clear
-verb_step n nodes circuits verb.Moment others = step.Moment (record { 0 = number_of 0 1000000000 (word_at others 0) })
+verb_step n nodes circuits verb.Moment others = step.Moment (record { 0 = number_in_word 0 1000000000 (word_at others 0) })
 verb_step n nodes circuits verb.Settle others = step.Settle
-verb_step n nodes circuits verb.Hold others = step.Hold (place_of nodes others) (number_of 1 100 (word_at others 1))
-verb_step n nodes circuits verb.Slip others = step.Slip (port_named circuits others) (turn_of others) (number_of 1 16 (word_at others 3))
+verb_step n nodes circuits verb.Hold others = step.Hold (position_in_words nodes others) (number_in_word 1 100 (word_at others 1))
+verb_step n nodes circuits verb.Slip others =
+    step.Slip (port_in_words circuits others) (turn_in_words others) (number_in_word 1 16 (word_at others 3))
 
 -- the checks of a step's words
 unfoldable pub form_faults : ℕ → List ℕ → List Provisioned → List (List ℕ) → List Fault
@@ -175,19 +176,19 @@ pub record Past : Type 0 where
   pub slips : PortId → ℕ
 
 -- nothing has happened yet, and the present moment is 0
-abbrev pub start : Past
-start = record { moment = 0; settles = 0; slips = λ port. 0 }
+abbrev pub new_past : Past
+new_past = record { moment = 0; settles = 0; slips = λ port. 0 }
 
 -- with so many more slips of a port
-abbrev pub with_slips : PortId → ℕ → (PortId → ℕ) → PortId → ℕ
-with_slips port count slips other = if same_port other port then slips other + count else slips other
+abbrev pub more_slips : PortId → ℕ → (PortId → ℕ) → PortId → ℕ
+more_slips port count slips other = if same_port other port then slips other + count else slips other
 
 -- what the script has led to behind the step
 abbrev pub after : Past → Step → Past
 after past (step.Fibre event) = past
 after past (step.Order at on c) = past
 after past (step.Hold at turns) = past
-after past (step.Slip port turn count) = record past { slips = with_slips port count past.slips }
+after past (step.Slip port turn count) = record past { slips = more_slips port count past.slips }
 after past (step.Moment m) = record past { moment = m.0 }
 after past step.Settle = record past { settles = past.settles + 1; slips = λ port. 0 }
 
@@ -238,5 +239,5 @@ step_faults n nodes circuits past text = form_faults n nodes circuits (words tex
 abbrev pub steps_checks : ℕ → List ℕ → List Provisioned → Past → ℕ → List Data → List Check
 steps_checks n nodes circuits past place [] = []
 steps_checks n nodes circuits past place (d ∷ ds) =
-    at_place place (step_faults n nodes circuits past (text_of d))
-    ++ steps_checks n nodes circuits (after past (step_of n nodes circuits (text_of d))) (place + 1) ds
+    checks_at_place place (step_faults n nodes circuits past (string_of d))
+    ++ steps_checks n nodes circuits (after past (step_of n nodes circuits (string_of d))) (place + 1) ds

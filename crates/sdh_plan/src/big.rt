@@ -1,7 +1,7 @@
 //! The large plan of a number.
 ghost use Rattle.std.specs.Prelude.{◌≡◌, ◌+◌, ◌%◌, ◌<◌, [], ◌∷◌, ◌++◌, min, ◌≤◌, None, All, string_bytes, IfOk, IfSome, OnOk};
 ghost use Rattle.sdh_circuits.specs.Checks.{wish_of, circuit_of, refusal, with_circuit};
-ghost use Rattle.sdh_plan.specs.Big.{next, drawn, name_in, laid, slot_begun, slot_circuits, behind_slot, big_circuits, fibre_comes, span_comes, big_steps, big_script, big_nodes, big_planned};
+ghost use Rattle.sdh_plan.specs.Big.{next, drawn, name_in, laid_circuit, slot_begun, slot_circuits, behind_slot, big_circuits, fibre_comes, span_comes, big_steps, big_script, big_nodes, big_planned};
 ghost use Rattle.sdh_plan.specs.Laid.{IsLaid, wish_with, wish_laid};
 ghost use Rattle.sdh_plan.specs.Circuits.{provisioned};
 
@@ -110,7 +110,7 @@ fn add_stretch(
     requires at { stretch.at < 16 }
     requires spans { stretch.spans < 16 }
     requires passes { refusal circuits.old ring.now (wish_laid stretch.slot stretch.number stretch.at stretch.spans draws.old) ≡ None }
-    ensures added { OnOk result (circuits.new ≡ with_circuit circuits.old ring.now (laid stretch.slot stretch.number stretch.at stretch.spans draws.old)) }
+    ensures added { OnOk result (circuits.new ≡ with_circuit circuits.old ring.now (laid_circuit stretch.slot stretch.number stretch.at stretch.spans draws.old)) }
     ensures draws { draws.new ≡ next (next draws.old) }
 {
     let offset_a = draws.draw() % 783;

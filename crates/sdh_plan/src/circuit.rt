@@ -9,7 +9,7 @@ ghost use Rattle.sdh_plan.specs.Plans.{circuits_in, provision_checks};
 ghost use Rattle.sdh_circuits.specs.Checks.{wish_of, with_circuit};
 ghost use Rattle.sdh_plan.specs.Check.{answer, first_fault};
 ghost use Rattle.sdh_plan.specs.Document.{is_among, has_only, is_table, elements, elements_in};
-ghost use Rattle.sdh_plan.specs.Circuits.{circuit_keys, wish_in, text_or, integer_or_0, circuit_in, circuit_faults, circuits_checks, members_of, provisioned};
+ghost use Rattle.sdh_plan.specs.Circuits.{circuit_keys, wish_in, text_or, integer_or_0, circuit_of_table, circuit_faults, circuits_checks, members_of, provisioned};
 ghost use Rattle.sdh_plan.specs.Refusals.{IsRefused, refusal_at, reason_of};
 
 use crate::document::{integer_under, is_text, text_under, value_under};
@@ -116,7 +116,7 @@ fn add_table(
     place: u32,
 ) -> Result<(), PlanError>
     requires { IfSome circuits.old.ring (λ kept. kept ≡ ring.now) }
-    ensures added { OnOk result (circuits.new ≡ with_circuit circuits.old ring.now (circuit_in ring.now (table_view table.now))) }
+    ensures added { OnOk result (circuits.new ≡ with_circuit circuits.old ring.now (circuit_of_table ring.now (table_view table.now))) }
     ensures passed { OnOk result (first_fault (circuit_faults circuits.old.slots ring.now circuits.old.circuits (table_view table.now)) ≡ None) }
     ensures refused { IfErr result (IsRefused (refusal_at place (first_fault (circuit_faults circuits.old.slots ring.now circuits.old.circuits (table_view table.now))))) }
 {
@@ -147,7 +147,7 @@ fn add_circuit(
     place: u32,
 ) -> Result<(), PlanError>
     requires { IfSome circuits.old.ring (λ kept. kept ≡ ring.now) }
-    ensures added { OnOk result (circuits.new ≡ with_circuit circuits.old ring.now (circuit_in ring.now (members_of (view value.now)))) }
+    ensures added { OnOk result (circuits.new ≡ with_circuit circuits.old ring.now (circuit_of_table ring.now (members_of (view value.now)))) }
     ensures passed { OnOk result (first_fault (circuit_faults circuits.old.slots ring.now circuits.old.circuits (members_of (view value.now))) ≡ None) }
     ensures refused { IfErr result (IsRefused (refusal_at place (first_fault (circuit_faults circuits.old.slots ring.now circuits.old.circuits (members_of (view value.now)))))) }
 {
@@ -174,7 +174,7 @@ pub fn circuits_of(
     rate: Rate,
     values: &[Value],
 ) -> Result<CircuitMap, PlanError>
-    ensures circuits { IfOk result (λ circuits. circuits ≡ provisioned (n_of rate / 2) ring.now (map (λ d. circuit_in ring.now (members_of d)) (map view values.now))) }
+    ensures circuits { IfOk result (λ circuits. circuits ≡ provisioned (n_of rate / 2) ring.now (map (λ d. circuit_of_table ring.now (members_of d)) (map view values.now))) }
     ensures passed { OnOk result (answer (circuits_checks (n_of rate / 2) ring.now [] 1 (map view values.now)) ≡ None) }
     ensures refused { IfErr result (IsRefused (answer (circuits_checks (n_of rate / 2) ring.now [] 1 (map view values.now)))) }
 {

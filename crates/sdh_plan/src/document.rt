@@ -4,7 +4,7 @@ ghost use Rattle.std.specs.BTreeMap.{keys};
 ghost use Rattle.std.specs.Str.{bytes_eq};
 ghost use Rattle.toml.specs.Data.{get_member};
 ghost use Rattle.toml.specs.View.{view, table_view};
-ghost use Rattle.sdh_plan.specs.Document.{IsDocument, IsNoDocument, text_of, number_in, integer_at, number_at, text_at, elements_at};
+ghost use Rattle.sdh_plan.specs.Document.{IsDocument, IsNoDocument, string_of, number_in, integer_at, number_at, text_at, elements_at};
 
 use std::alloc::Global;
 use thiserror::Error;
@@ -101,7 +101,7 @@ pub fn array_under<'a>(table: &'a Table, key: &str) -> Option<&'a Array>
 
 /// The text that the value is; an empty one where it is none.
 pub fn text_of(value: &Value) -> &str
-    ensures { result.now ≡ text_of (view value.now) }
+    ensures { result.now ≡ string_of (view value.now) }
 {
     match value.as_str() {
         Some(text) => text,

@@ -4,7 +4,7 @@ ghost use Rattle.std.specs.List.{list_any};
 ghost use Rattle.sdh_terms.specs.Rates.{n_of};
 ghost use Rattle.sdh_plan.specs.Check.{first_fault, unless};
 ghost use Rattle.sdh_plan.specs.Verbs.{verb_of, node, side, number, circuit, end, turn};
-ghost use Rattle.sdh_plan.specs.Steps.{node_at, side_at, circuit_named, end_at, turn_at, part_faults, verb_faults, place_of, port_named, turn_of, fibre_step, order_step, number_of, word_at, told_step, form_faults, form_step};
+ghost use Rattle.sdh_plan.specs.Steps.{node_identified, side_at, circuit_named, end_at, turn_at, part_faults, verb_faults, position_in_words, port_in_words, turn_in_words, fibre_step, order_step, number_in_word, word_at, told_step, form_faults, form_step};
 ghost use Rattle.sdh_plan.specs.Words.{words, is_empty};
 
 use crate::reason::Reason;
@@ -17,9 +17,9 @@ use sdh_ringmap::{Pos, RingMap, Side};
 use sdh_terms::{Condition, FibreEvent, Rate};
 
 // The position of the node whose identifier the word is.
-#[tactic(auto, unfolding(crate::specs::Steps::node_at))]
+#[tactic(auto, unfolding(crate::specs::Steps::node_identified))]
 fn node_at(ring: &RingMap, word: &[u8]) -> Option<Pos>
-    ensures { result ≡ node_at ring.now word.now }
+    ensures { result ≡ node_identified ring.now word.now }
 {
     match numeral_in(word, 0, 15) {
         Some(id) => ring.find(id as u8),
@@ -81,8 +81,8 @@ fn turn_at(word: &[u8]) -> Option<Turn>
 
 // The position of the node and the side that the words name, or the reason of the first check that fails.
 fn node_and_side(ring: &RingMap, node: &[u8], side: &[u8]) -> Result<(Pos, Side), Reason>
-    ensures both { IfOk result (λ both. (node_at ring.now node.now ≡ Some both.0) × (side_at side.now ≡ Some both.1)) }
-    ensures reason { IfErr result (λ reason. first_fault ((Reason.StepNode, is_none (node_at ring.now node.now)) ∷ (Reason.StepSide, is_none (side_at side.now)) ∷ []) ≡ Some reason) }
+    ensures both { IfOk result (λ both. (node_identified ring.now node.now ≡ Some both.0) × (side_at side.now ≡ Some both.1)) }
+    ensures reason { IfErr result (λ reason. first_fault ((Reason.StepNode, is_none (node_identified ring.now node.now)) ∷ (Reason.StepSide, is_none (side_at side.now)) ∷ []) ≡ Some reason) }
 {
     let Some(at) = node_at(ring, node) else {
         return Err(Reason::StepNode);
@@ -112,7 +112,7 @@ fn fibre(ring: &RingMap, others: &[&[u8]], condition: Condition) -> Result<Step,
 // The fibre that the words name is degraded, at most by 3N.
 #[tactic(auto, unfolding(crate::specs::Steps::part_faults))]
 fn degrade(ring: &RingMap, rate: Rate, others: &[&[u8]]) -> Result<Step, Reason>
-    ensures { result ≡ unless (first_fault (part_faults ring.now (node ∷ side ∷ number 1 (3 * n_of rate) ∷ []) (map (λ word. word.now) others.now))) (fibre_step ring.now (map (λ word. word.now) others.now) (Condition.Degraded (number_of 1 (3 * n_of rate) (word_at (map (λ word. word.now) others.now) 2)))) }
+    ensures { result ≡ unless (first_fault (part_faults ring.now (node ∷ side ∷ number 1 (3 * n_of rate) ∷ []) (map (λ word. word.now) others.now))) (fibre_step ring.now (map (λ word. word.now) others.now) (Condition.Degraded (number_in_word 1 (3 * n_of rate) (word_at (map (λ word. word.now) others.now) 2)))) }
 {
     let [node, side, number] = others else {
         return Err(Reason::StepForm);
@@ -143,7 +143,7 @@ fn order(ring: &RingMap, others: &[&[u8]], command: Command) -> Result<Step, Rea
 // The present moment is the one that the word tells.
 #[tactic(auto, unfolding(crate::specs::Steps::part_faults))]
 fn moment(ring: &RingMap, others: &[&[u8]]) -> Result<Step, Reason>
-    ensures { result ≡ unless (first_fault (part_faults ring.now (number 0 1000000000 ∷ []) (map (λ word. word.now) others.now))) (Step.Moment (record { 0 = number_of 0 1000000000 (word_at (map (λ word. word.now) others.now) 0) })) }
+    ensures { result ≡ unless (first_fault (part_faults ring.now (number 0 1000000000 ∷ []) (map (λ word. word.now) others.now))) (Step.Moment (record { 0 = number_in_word 0 1000000000 (word_at (map (λ word. word.now) others.now) 0) })) }
 {
     let [number] = others else {
         return Err(Reason::StepForm);
@@ -157,7 +157,7 @@ fn moment(ring: &RingMap, others: &[&[u8]]) -> Result<Step, Reason>
 // The controller of the node misses so many of the next rounds.
 #[tactic(auto, unfolding(crate::specs::Steps::part_faults))]
 fn hold(ring: &RingMap, others: &[&[u8]]) -> Result<Step, Reason>
-    ensures { result ≡ unless (first_fault (part_faults ring.now (node ∷ number 1 100 ∷ []) (map (λ word. word.now) others.now))) (Step.Hold (place_of ring.now (map (λ word. word.now) others.now)) (number_of 1 100 (word_at (map (λ word. word.now) others.now) 1))) }
+    ensures { result ≡ unless (first_fault (part_faults ring.now (node ∷ number 1 100 ∷ []) (map (λ word. word.now) others.now))) (Step.Hold (position_in_words ring.now (map (λ word. word.now) others.now)) (number_in_word 1 100 (word_at (map (λ word. word.now) others.now) 1))) }
 {
     let [node, turns] = others else {
         return Err(Reason::StepForm);
@@ -174,7 +174,7 @@ fn hold(ring: &RingMap, others: &[&[u8]]) -> Result<Step, Reason>
 // The clock of the port that the words name slips so many times more.
 #[tactic(auto, unfolding(crate::specs::Steps::part_faults))]
 fn slip(ring: &RingMap, circuits: &CircuitMap, others: &[&[u8]]) -> Result<Step, Reason>
-    ensures { result ≡ unless (first_fault (part_faults ring.now (circuit circuits.now.circuits ∷ end ∷ turn ∷ number 1 16 ∷ []) (map (λ word. word.now) others.now))) (Step.Slip (port_named circuits.now.circuits (map (λ word. word.now) others.now)) (turn_of (map (λ word. word.now) others.now)) (number_of 1 16 (word_at (map (λ word. word.now) others.now) 3))) }
+    ensures { result ≡ unless (first_fault (part_faults ring.now (circuit circuits.now.circuits ∷ end ∷ turn ∷ number 1 16 ∷ []) (map (λ word. word.now) others.now))) (Step.Slip (port_in_words circuits.now.circuits (map (λ word. word.now) others.now)) (turn_in_words (map (λ word. word.now) others.now)) (number_in_word 1 16 (word_at (map (λ word. word.now) others.now) 3))) }
 {
     let [name, end, turn, count] = others else {
         return Err(Reason::StepForm);

@@ -1,7 +1,7 @@
 //! What a script has led to.
 ghost use Rattle.std.specs.Prelude.{◌≡◌, OnOk};
 ghost use Rattle.sdh_plan.specs.Check.{first_fault, unless};
-ghost use Rattle.sdh_plan.specs.Steps.{past_faults, start, after};
+ghost use Rattle.sdh_plan.specs.Steps.{past_faults, new_past, after};
 ghost use Rattle.sdh_plan.specs.Counted.{past_in};
 
 use crate::reason::Reason;
@@ -19,7 +19,7 @@ pub struct Past {
 impl Past {
     /// Nothing has happened yet.
     pub fn start() -> Past
-        ensures { past_in result ≡ start }
+        ensures { past_in result ≡ new_past }
     {
         Past {
             moment: 0,

@@ -6,8 +6,8 @@ ghost use Rattle.sdh_terms.specs.Rates.{n_of};
 ghost use Rattle.sdh_plan.specs.Check.{first_fault, unless, answer};
 ghost use Rattle.sdh_plan.specs.Words.{words};
 ghost use Rattle.sdh_plan.specs.Counted.{past_in};
-ghost use Rattle.sdh_plan.specs.Steps.{step_faults, step_of, steps_checks, start, after, ends_settled};
-ghost use Rattle.sdh_plan.specs.Document.{is_text, text_of, elements_in};
+ghost use Rattle.sdh_plan.specs.Steps.{step_faults, step_of, steps_checks, new_past, after, ends_settled};
+ghost use Rattle.sdh_plan.specs.Document.{is_string, string_of, elements_in};
 ghost use Rattle.sdh_plan.specs.Refusals.{IsRefused};
 ghost use Rattle.sdh_plan.specs.Plans.{texts_checks, script_checks};
 
@@ -48,9 +48,9 @@ pub fn steps_of(
     values: &[Value],
 ) -> Result<Vec<Step>, PlanError>
     requires { length values.now ≤ 1000 }
-    ensures steps { IfOk result (λ steps. steps.items ≡ map (λ d. step_of (n_of rate) ring.now circuits.now.circuits (text_of d)) (map view values.now)) }
-    ensures passed { OnOk result (answer (steps_checks (n_of rate) ring.now circuits.now.circuits start 1 (map view values.now)) ≡ None) }
-    ensures refused { IfErr result (IsRefused (answer (steps_checks (n_of rate) ring.now circuits.now.circuits start 1 (map view values.now)))) }
+    ensures steps { IfOk result (λ steps. steps.items ≡ map (λ d. step_of (n_of rate) ring.now circuits.now.circuits (string_of d)) (map view values.now)) }
+    ensures passed { OnOk result (answer (steps_checks (n_of rate) ring.now circuits.now.circuits new_past 1 (map view values.now)) ≡ None) }
+    ensures refused { IfErr result (IsRefused (answer (steps_checks (n_of rate) ring.now circuits.now.circuits new_past 1 (map view values.now)))) }
 {
     let mut steps = Vec::new(alloc);
     let mut past = Past::start();
@@ -66,7 +66,7 @@ pub fn steps_of(
 
 // Whether each value is a text.
 fn each_text(values: &[Value]) -> bool
-    ensures { result ≡ list_all (λ value. is_text (view value)) values.now }
+    ensures { result ≡ list_all (λ value. is_string (view value)) values.now }
 {
     values.iter().all(|value| value.as_str().is_some())
 }
@@ -74,7 +74,7 @@ fn each_text(values: &[Value]) -> bool
 // Whether all elements of an array are texts.
 #[tactic(auto, using(crate::proofs::Elements::all_texts_view))]
 fn all_texts(values: &[Value]) -> bool
-    ensures { result ≡ list_all is_text (map view values.now) }
+    ensures { result ≡ list_all is_string (map view values.now) }
 {
     each_text(values)
 }
@@ -99,7 +99,7 @@ fn settled_steps(
     values: &[Value],
 ) -> Result<Vec<Step>, PlanError>
     requires { length values.now ≤ 1000 }
-    ensures steps { IfOk result (λ steps. steps.items ≡ map (λ d. step_of (n_of rate) ring.now circuits.now.circuits (text_of d)) (map view values.now)) }
+    ensures steps { IfOk result (λ steps. steps.items ≡ map (λ d. step_of (n_of rate) ring.now circuits.now.circuits (string_of d)) (map view values.now)) }
     ensures count { IfOk result (λ steps. length steps.items ≡ length values.now) }
     ensures passed { OnOk result (answer (texts_checks (n_of rate) ring.now circuits.now.circuits (map view values.now)) ≡ None) }
     ensures refused { IfErr result (IsRefused (answer (texts_checks (n_of rate) ring.now circuits.now.circuits (map view values.now)))) }
@@ -123,7 +123,7 @@ pub fn script_under(
     circuits: &CircuitMap,
     rate: Rate,
 ) -> Result<Vec<Step>, PlanError>
-    ensures steps { IfOk result (λ steps. steps.items ≡ map (λ d. step_of (n_of rate) ring.now circuits.now.circuits (text_of d)) (elements_in (codes "script") (table_view table.now))) }
+    ensures steps { IfOk result (λ steps. steps.items ≡ map (λ d. step_of (n_of rate) ring.now circuits.now.circuits (string_of d)) (elements_in (codes "script") (table_view table.now))) }
     ensures count { IfOk result (λ steps. (1 ≤ length steps.items) × (length steps.items ≤ 1000)) }
     ensures passed { OnOk result (answer (script_checks (n_of rate) ring.now circuits.now.circuits (table_view table.now)) ≡ None) }
     ensures refused { IfErr result (IsRefused (answer (script_checks (n_of rate) ring.now circuits.now.circuits (table_view table.now)))) }

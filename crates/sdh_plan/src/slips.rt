@@ -1,6 +1,6 @@
 //! Counts of slips.
 ghost use Rattle.std.specs.Prelude.{◌≡◌, ◌+◌, ◌≤◌};
-ghost use Rattle.sdh_plan.specs.Steps.{with_slips};
+ghost use Rattle.sdh_plan.specs.Steps.{more_slips};
 ghost use Rattle.sdh_plan.specs.Counted.{slips_in};
 
 use sdh_circuits::{End, PortId};
@@ -37,7 +37,7 @@ impl Slips {
     /// Gives the port so many more.
     pub fn add(&mut self, port: PortId, more: u8)
         requires { slips_in self.old port + more ≤ 255 }
-        ensures { slips_in self.new ≡ with_slips port more (slips_in self.old) }
+        ensures { slips_in self.new ≡ more_slips port more (slips_in self.old) }
     {
         let sum = self.count(port) + more;
         match port.end {

@@ -17,7 +17,7 @@ use Rattle.sdh_terms.specs.declared.Condition.TheVariants.{Clear, Cut, Degraded}
 use Rattle.sdh_plant.specs.Fibres.{Arrival, Fibres}
 use Rattle.sdh_terms.specs.Fibres.{IsConditionAt, fibre, fibre_to}
 use Rattle.sdh_plant.specs.Arrivals.{arrival, honest_arrival, next_told, through, condition_of}
-use Rattle.sdh_plant.specs.Calls.{told_at, prepared, after_send}
+use Rattle.sdh_plant.specs.Calls.{told_at_rate, prepared, after_send}
 use Rattle.sdh_plant.specs.Laws.{SentComes, NewIsDark, StayPrepared, StayHonest}
 
 once_round : (n k : ℕ) → k < n → (n + k) % n ≡ k
@@ -84,7 +84,7 @@ none_at m i = elim (cases_lt i m) [
 
 pub new_is_dark : NewIsDark
 new_is_dark rate n f p d none =
-    untold (prepared rate n f) p d (ap (option_map (told_at rate)) none)
+    untold (prepared rate n f) p d (ap (option_map (told_at_rate rate)) none)
     ∙ ap (through (n_of rate) (condition_of (prepared rate n f) (fibre_to n p d))) (none_at (2 * n) (fibre_to n p d))
     ∙ through-none (n_of rate) (condition_of (prepared rate n f) (fibre_to n p d))
 
@@ -137,7 +137,7 @@ stay_prepared = record {
 
 pub stay_honest : StayHonest
 stay_honest = record {
-  prepared = λ rate n f is. record { honest = is.honest; tells_none = ap (option_map (told_at rate)) is.tells_none };
+  prepared = λ rate n f is. record { honest = is.honest; tells_none = ap (option_map (told_at_rate rate)) is.tells_none };
   apply = λ f p d condition is. record { honest = is.honest; tells_none = is.tells_none };
   send = λ f p d bytes is. record { honest = is.honest; tells_none = is.tells_none };
   receive = λ f is. record { honest = is.honest; tells_none = ap (option_map (drop 1)) is.tells_none };

@@ -10,8 +10,8 @@ use Rattle.sdh_terms.specs.declared.Rate.TheVariants.{Four, Sixteen}
 use Rattle.sdh_frame.specs.Sizes.{size_of}
 use Rattle.sdh_plant.specs.declared.told_plant.Told.{Told}
 use Rattle.sdh_plant.specs.Fibres.{Arrival}
-use Rattle.sdh_plant.specs.Calls.{is_at, told_at, prepared}
-use Rattle.sdh_plant.specs.InMemory.{HeldFibres, HeldTold, laid, told_of}
+use Rattle.sdh_plant.specs.Calls.{is_at, told_at_rate, prepared}
+use Rattle.sdh_plant.specs.InMemory.{HeldFibres, HeldTold, clear_fibres, told_of}
 use Rattle.sdh_plant.specs.Kept.{arrival_of}
 
 -- what was found of those that are left
@@ -22,19 +22,19 @@ all_left rate xs next b found =
     let rest : take (length xs - next) (drop next xs) ≡ drop next xs = take_all _ _ (omega (arith, length-drop {A = Told})) in
     list_all-map (is_at rate) arrival_of (drop next xs) ∙ ap (list_all (λ told. is_at rate (arrival_of told))) (sym rest) ∙ sym found
 
-pub told_at-all : (rate : Rate) (told : List Arrival) → list_all (is_at rate) told ≡ true → told ≡ told_at rate told
+pub told_at-all : (rate : Rate) (told : List Arrival) → list_all (is_at rate) told ≡ true → told ≡ told_at_rate rate told
 told_at-all rate told all = sym (ap (λ (b : Bool). if b then told else []) all)
 
-pub told_at-none : (rate : Rate) (told : List Arrival) → list_all (is_at rate) told ≡ false → [] ≡ told_at rate told
+pub told_at-none : (rate : Rate) (told : List Arrival) → list_all (is_at rate) told ≡ false → [] ≡ told_at_rate rate told
 told_at-none rate told some = sym (ap (λ (b : Bool). if b then told else []) some)
 
 -- the plant after prepare
-pub told_of-prepared : (rate : Rate) (n : ℕ) (old : HeldTold) (fibres : HeldFibres) (told : List Arrival) → fibres ≡ laid rate n
-    → told ≡ told_at rate old.told
+pub told_of-prepared : (rate : Rate) (n : ℕ) (old : HeldTold) (fibres : HeldFibres) (told : List Arrival) → fibres ≡ clear_fibres rate n
+    → told ≡ told_at_rate rate old.told
     → told_of (record { fibres = fibres; told = told }) ≡ prepared rate n (told_of old)
 told_of-prepared rate n old fibres told are left =
     ap (λ (h : HeldFibres). told_of (record { fibres = h; told = told })) are
-    ∙ ap (λ (l : List Arrival). told_of (record { fibres = laid rate n; told = l })) left
+    ∙ ap (λ (l : List Arrival). told_of (record { fibres = clear_fibres rate n; told = l })) left
 
 -- frames of one size have one rate
 pub rate_of_size : (one other : Rate) (n : ℕ) → n ≡ size_of one → (n == size_of other) ≡ true → one ≡ other

@@ -16,8 +16,8 @@ abbrev pub is_at : Rate → Arrival → Bool
 is_at rate a = option_map_or (λ bytes. length bytes == size_of rate) a true
 
 -- the told arrivals that are left for this rate: all of them, or none where one is a frame of another rate
-abbrev pub told_at : Rate → List Arrival → List Arrival
-told_at rate told = if list_all (is_at rate) told then told else []
+abbrev pub told_at_rate : Rate → List Arrival → List Arrival
+told_at_rate rate told = if list_all (is_at rate) told then told else []
 
 -- two fibres for each of n spans, each clear and without a frame
 abbrev pub prepared : Rate → ℕ → Fibres → Fibres
@@ -27,7 +27,7 @@ prepared rate n f =
       rate = rate;
       conditions = replicate (2 * n) Clear;
       carried = replicate (2 * n) None;
-      told = option_map (told_at rate) f.told;
+      told = option_map (told_at_rate rate) f.told;
     }
 
 -- the fibre that leaves position p on that side is in this condition

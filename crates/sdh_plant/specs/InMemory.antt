@@ -28,8 +28,8 @@ fibres_of h = record {
 }
 
 -- two fibres for each of n spans, each clear and without a frame
-abbrev pub laid : Rate → ℕ → HeldFibres
-laid rate n = record { nodes = n; rate = rate; conditions = replicate (2 * n) Clear; carried = replicate (2 * n) None }
+abbrev pub clear_fibres : Rate → ℕ → HeldFibres
+clear_fibres rate n = record { nodes = n; rate = rate; conditions = replicate (2 * n) Clear; carried = replicate (2 * n) None }
 
 -- fibres with the list of frames that were sent, and room for so many in all
 pub record HeldRecording : Type 0 where

@@ -6,7 +6,7 @@ ghost use Rattle.sdh_plant.specs.Fibres.{HasNoFibres};
 ghost use Rattle.sdh_terms.specs.Fibres.{IsConditionAt, fibre};
 ghost use Rattle.sdh_plant.specs.Arrivals.{Knows, arrival, arrived_in, carried_on};
 ghost use Rattle.sdh_plant.specs.Calls.{prepared, after_apply, after_send, after_receive, IsExchanged};
-ghost use Rattle.sdh_plant.specs.InMemory.{fibres_of, laid, made, IsFailing, called, refused};
+ghost use Rattle.sdh_plant.specs.InMemory.{fibres_of, clear_fibres, made, IsFailing, called, refused};
 
 use crate::fibre_plant::FibrePlant;
 use crate::plant::{Arrived, Failed, Plant, PrepareError};
@@ -58,7 +58,7 @@ fn is_among(failing: &[(PlantCall, u32)], call: PlantCall, number: u64) -> bool
 impl FailingPlant {
     /// A plant without fibres, of which these calls fail, each kind counted from 1.
     pub fn new(alloc: Global, calls: &[(PlantCall, u32)]) -> Result<FailingPlant, AllocError>
-        ensures { IfOk result (λ plant. plant ≡ record { fibres = laid plant.fibres.rate 0; failing = calls.now; calls = record { prepares = 0; applies = 0; sends = 0; receives = 0 }; faults = 0 }) }
+        ensures { IfOk result (λ plant. plant ≡ record { fibres = clear_fibres plant.fibres.rate 0; failing = calls.now; calls = record { prepares = 0; applies = 0; sends = 0; receives = 0 }; faults = 0 }) }
     {
         Ok(FailingPlant {
             plant: FibrePlant::new(),
@@ -142,7 +142,7 @@ impl Plant for FailingPlant {
         ensures later { self.old.faults ≤ self.new.faults }
 
         ensures fails { IsErrOf result PrepareError.Failed ↔ IsFailing Prepare self.old }
-        ensures new { OnOk result (self.new ≡ record (called Prepare self.old) { fibres = laid rate nodes }) }
+        ensures new { OnOk result (self.new ≡ record (called Prepare self.old) { fibres = clear_fibres rate nodes }) }
         ensures without { IsErrOf result PrepareError.Memory → self.new ≡ called Prepare self.old }
         ensures refused { IsErrOf result PrepareError.Failed → self.new ≡ refused Prepare self.old }
     {

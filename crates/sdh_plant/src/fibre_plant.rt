@@ -7,7 +7,7 @@ ghost use Rattle.sdh_plant.specs.Fibres.{HasNoFibres};
 ghost use Rattle.sdh_terms.specs.Fibres.{IsConditionAt, fibre, fibre_to};
 ghost use Rattle.sdh_plant.specs.Arrivals.{Knows, arrival, arrived_in, through, carried_on, honest_arrival};
 ghost use Rattle.sdh_plant.specs.Calls.{prepared, after_apply, after_send, after_receive, carried_or_zeros, IsExchanged};
-ghost use Rattle.sdh_plant.specs.InMemory.{fibres_of, laid};
+ghost use Rattle.sdh_plant.specs.InMemory.{fibres_of, clear_fibres};
 ghost use Rattle.sdh_plant.specs.Kept.{IsFibre, carried_by, conditions, carried};
 
 use crate::frames::land_degraded;
@@ -156,14 +156,14 @@ fn deliver_from<L: Landing>(fibres: &mut [Fibre], at: usize, into: &mut L) -> Ar
 impl FibrePlant {
     /// A plant without fibres. It takes no memory.
     pub fn new() -> FibrePlant
-        ensures { result ≡ laid result.rate 0 }
+        ensures { result ≡ clear_fibres result.rate 0 }
     {
         FibrePlant::without_fibres(Rate::Four)
     }
 
     // A plant without fibres.
     pub(crate) fn without_fibres(rate: Rate) -> FibrePlant
-        ensures { result ≡ laid rate 0 }
+        ensures { result ≡ clear_fibres rate 0 }
     {
         FibrePlant {
             nodes: 0,
@@ -175,7 +175,7 @@ impl FibrePlant {
     // Takes the memory of all fibres.
     pub(crate) fn lay(&mut self, alloc: Global, rate: Rate, nodes: usize) -> Result<(), AllocError>
         requires { nodes ≤ 16 }
-        ensures ok { OnOk result (self.new ≡ laid rate nodes) }
+        ensures ok { OnOk result (self.new ≡ clear_fibres rate nodes) }
         ensures err { OnErr result (self.new ≡ self.old) }
     {
         self.fibres = Some(new_fibres(alloc, rate, 2 * nodes)?);

@@ -5,7 +5,7 @@ ghost use Rattle.sdh_plant.specs.Fibres.{HasNoFibres};
 ghost use Rattle.sdh_terms.specs.Fibres.{IsConditionAt, fibre};
 ghost use Rattle.sdh_plant.specs.Arrivals.{Knows, arrival, arrived_in, carried_on};
 ghost use Rattle.sdh_plant.specs.Calls.{prepared, after_apply, after_send, after_receive, IsExchanged};
-ghost use Rattle.sdh_plant.specs.InMemory.{laid, recorded_of};
+ghost use Rattle.sdh_plant.specs.InMemory.{clear_fibres, recorded_of};
 
 use crate::fibre_plant::FibrePlant;
 use crate::plant::{Arrived, Failed, Plant, PrepareError};
@@ -62,7 +62,7 @@ fn keep(frames: &mut [FrameBuf], at: usize, frame: &FrameBuf)
 impl RecordingPlant {
     /// A plant without fibres that will have room for so many frames sent. It takes no memory.
     pub fn new(room: usize) -> RecordingPlant
-        ensures { result ≡ record { fibres = laid result.fibres.rate 0; sent = []; room = room; faults = 0 } }
+        ensures { result ≡ record { fibres = clear_fibres result.fibres.rate 0; sent = []; room = room; faults = 0 } }
     {
         RecordingPlant {
             plant: FibrePlant::new(),
@@ -116,7 +116,7 @@ impl Plant for RecordingPlant {
         ensures later { self.old.faults ≤ self.new.faults }
 
         ensures never_fails { IsOkUnless result PrepareError.Memory }
-        ensures new { OnOk result (self.new ≡ record self.old { fibres = laid rate nodes }) }
+        ensures new { OnOk result (self.new ≡ record self.old { fibres = clear_fibres rate nodes }) }
         ensures kept { OnErr result (self.new ≡ self.old) }
     {
         let frames = new_frames(alloc, rate, self.room)?;

@@ -8,7 +8,7 @@ ghost use Rattle.sdh_plant.specs.Fibres.{HasNoFibres};
 ghost use Rattle.sdh_terms.specs.Fibres.{IsConditionAt, fibre};
 ghost use Rattle.sdh_plant.specs.Arrivals.{Knows, arrival, arrived_in, carried_on, next_told};
 ghost use Rattle.sdh_plant.specs.Calls.{is_at, prepared, after_apply, after_send, after_receive, IsExchanged};
-ghost use Rattle.sdh_plant.specs.InMemory.{laid, told_of};
+ghost use Rattle.sdh_plant.specs.InMemory.{clear_fibres, told_of};
 ghost use Rattle.sdh_plant.specs.Kept.{arrival_of, IsToldAt};
 
 use crate::fibre_plant::FibrePlant;
@@ -88,7 +88,7 @@ impl ToldPlant {
     /// A plant without fibres that will give these arrivals, where it is prepared for the rate of their frames. It takes no memory.
     pub fn new(rate: Rate, arrivals: Vec<Told>) -> ToldPlant
         requires { All (IsToldAt rate) arrivals.items }
-        ensures { result ≡ record { fibres = laid rate 0; told = map arrival_of arrivals.items } }
+        ensures { result ≡ record { fibres = clear_fibres rate 0; told = map arrival_of arrivals.items } }
     {
         ToldPlant {
             plant: FibrePlant::without_fibres(rate),

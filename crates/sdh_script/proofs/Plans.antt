@@ -5,7 +5,7 @@ use Rattle.sdh_world.proofs.Keeping.{length-new}
 use Rattle.sdh_laws.specs.Carrying.Windows.{layout_in, HasCircuits}
 use Rattle.sdh_circuits.proofs.Rings.{circuits_are}
 use Rattle.sdh_plan.specs.Planned.{Planned, IsPlanned, provisioning_of}
-use Rattle.sdh_plan.specs.Steps.{start}
+use Rattle.sdh_plan.specs.Steps.{new_past}
 use Rattle.sdh_plan.proofs.Following.{circuits_keep_the_ring}
 use Rattle.sdh_report.specs.Reports.{Report, listed}
 use Rattle.sdh_report.specs.declared.listing.Listing.{Listing}
@@ -50,7 +50,7 @@ module _ (plan : Planned) (f left : Fibres) (reports : List Report) (end : Statu
       subst (λ rs. OwesAll plan rs end) (sym x.1) (owed_none (ring_of plan) plan.limit [] 0 (scenes [] plan.steps) end x.0)
   owed_comes law (inr x) =
       law plan.settings plan.nodes (provisioning_of plan) f (may_start plan f fits honest)
-      (circuits_fit plan fits) plan.limit start plan.steps fits.steps_fit reports end x.0 x.2
+      (circuits_fit plan fits) plan.limit new_past plan.steps fits.steps_fit reports end x.0 x.2
 
   healthy_comes : HealthyScripts → Comes adm_account plan f reports end left → AllSettle plan.steps → ShowsHealth plan reports end
   healthy_comes law (inl x) all =
@@ -64,7 +64,7 @@ module _ (plan : Planned) (f left : Fibres) (reports : List Report) (end : Statu
       none_ran (world_of plan f) (ring_of plan) plan.limit plan.steps reports end left x.1 x.0 (ap (λ (g : Fibres). g.sent) x.2)
   course_comes law (inr x) =
       subst (RunsWell plan f reports end) x.1 (law plan.settings plan.nodes (provisioning_of plan) f (may_start plan f fits honest)
-      (circuits_fit plan fits) plan.limit start plan.steps fits.steps_fit reports end x.0 x.2)
+      (circuits_fit plan fits) plan.limit new_past plan.steps fits.steps_fit reports end x.0 x.2)
 
 -- ---- all that is told
 
@@ -80,5 +80,5 @@ tells owed settles healthy courses plan listing f left text end fits honest x =
       course = course_comes plan f left reports end fits (honest h) courses came;
     })
     (λ h large reports last ran. settles plan.settings plan.nodes (provisioning_of plan) f (may_start plan f fits (honest h))
-    (circuits_fit plan fits) plan.limit start plan.steps fits.steps_fit large reports end last ran)
+    (circuits_fit plan fits) plan.limit new_past plan.steps fits.steps_fit large reports end last ran)
     x

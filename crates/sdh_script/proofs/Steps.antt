@@ -21,7 +21,7 @@ use Rattle.sdh_rounds.proofs.Runs.{held_run}
 use Rattle.sdh_plan.specs.declared.step.Step.{Step}
 use Rattle.sdh_plan.specs.declared.step.Step.TheVariants as step
 use Rattle.sdh_plan.specs.Planned.{Planned, IsPlanned, provisioning_of}
-use Rattle.sdh_plan.specs.Steps.{Past, start, after, is_settle}
+use Rattle.sdh_plan.specs.Steps.{Past, new_past, after, is_settle}
 use Rattle.sdh_plan.specs.Scripts.{HasRoom, AreSteps}
 use Rattle.sdh_scripts.proofs.Plans.{as_planned}
 use Rattle.sdh_owed.specs.Steps.{after_step}
@@ -81,9 +81,9 @@ steps_less rate n circuits (s ∷ later) a b less each =
 
 -- those of a plan can be done in a new ring
 fits_new : (s : Settings) (ids : List ℕ) (circuits : Provisioning) (rate : Rate) (n k : ℕ) (steps : List Step)
-    → AreSteps rate n k start steps → AreSteps rate n k (past_of 0 (new_ring s ids circuits)) steps
+    → AreSteps rate n k new_past steps → AreSteps rate n k (past_of 0 (new_ring s ids circuits)) steps
 fits_new s ids circuits rate n k steps fit =
-    steps_less rate n k steps (past_of 0 (new_ring s ids circuits)) start
+    steps_less rate n k steps (past_of 0 (new_ring s ids circuits)) new_past
     (record { moment = refl; settles = le_refl 0; slips = λ port. omega (arith, waits_new s ids circuits port) }) fit
 
 -- they may be run over the ring that is made of it, and fibres that were just prepared for it

@@ -6,7 +6,7 @@ use Rattle.std.proofs.lemmas.Bool.Decides.{nat_tests}
 use Rattle.sdh_terms.specs.declared.Rate.{Rate}
 use Rattle.sdh_plan.specs.declared.step.Step.{Step}
 use Rattle.sdh_plan.specs.declared.step.Step.TheVariants as step
-use Rattle.sdh_plan.specs.Steps.{Past, after, start}
+use Rattle.sdh_plan.specs.Steps.{Past, after, new_past}
 use Rattle.sdh_plan.specs.Scripts.{AreSteps}
 use Rattle.sdh_sncp_script.specs.Steps.{is_strange, first_strange, AreKnown, MayDo}
 
@@ -33,6 +33,6 @@ may_do rate size circuits (step.Moment m ∷ later) past none fit = absurd (omeg
 may_do rate size circuits (step.Hold p turns ∷ later) past none fit = absurd (omega (arith, none))
 may_do rate size circuits (step.Slip port turn count ∷ later) past none fit = absurd (omega (arith, none))
 
-pub fits : (rate : Rate) (size circuits : ℕ) (steps : List Step) → AreKnown steps → AreSteps rate size circuits start steps
+pub fits : (rate : Rate) (size circuits : ℕ) (steps : List Step) → AreKnown steps → AreSteps rate size circuits new_past steps
     → MayDo rate size 0 steps
-fits rate size circuits steps none fit = may_do rate size circuits steps start (none_here steps none) fit
+fits rate size circuits steps none fit = may_do rate size circuits steps new_past (none_here steps none) fit

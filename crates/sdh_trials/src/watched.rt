@@ -6,7 +6,7 @@ ghost use Rattle.sdh_plant.specs.Fibres.{HasNoFibres};
 ghost use Rattle.sdh_terms.specs.Fibres.{IsConditionAt};
 ghost use Rattle.sdh_plant.specs.Arrivals.{Knows, arrival, arrived_in};
 ghost use Rattle.sdh_plant.specs.Calls.{prepared, after_apply, after_send, after_receive};
-ghost use Rattle.sdh_plant.specs.InMemory.{laid, told_of};
+ghost use Rattle.sdh_plant.specs.InMemory.{clear_fibres, told_of};
 ghost use Rattle.sdh_plant.specs.Kept.{arrival_of, IsToldAt};
 
 use sdh_frame::{FrameBuf, Landing};
@@ -35,7 +35,7 @@ impl Watched {
     /// A plant without fibres that will give these arrivals.
     pub fn new(alloc: Global, rate: Rate, arrivals: Vec<Told>) -> Watched
         requires { All (IsToldAt rate) arrivals.items }
-        ensures { result ≡ record { fibres = laid rate 0; told = map arrival_of arrivals.items } }
+        ensures { result ≡ record { fibres = clear_fibres rate 0; told = map arrival_of arrivals.items } }
     {
         Watched {
             plant: ToldPlant::new(rate, arrivals),

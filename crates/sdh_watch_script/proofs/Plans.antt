@@ -2,7 +2,7 @@
 use Rattle.std.proofs.Common.{◌≡◌, true, ℕ, List, [], sym, subst, inl, inr}
 use Rattle.sdh_plant.specs.Fibres.{Fibres, IsHonest}
 use Rattle.sdh_plan.specs.Planned.{Planned, IsPlanned, provisioning_of}
-use Rattle.sdh_plan.specs.Steps.{start}
+use Rattle.sdh_plan.specs.Steps.{new_past}
 use Rattle.sdh_report.specs.declared.status.Status.{Status}
 use Rattle.sdh_promise.specs.Changes.{scenes}
 use Rattle.sdh_promise.specs.Plans.{ring_of}
@@ -27,7 +27,7 @@ module _ (plan : Planned) (f left : Fibres) (reports : List Watched) (end : Stat
       subst (λ rs. ShowsClean plan rs end) (sym x.1) (clean_none (ring_of plan) plan.limit [] 0 (scenes [] plan.steps) end x.0)
   owed_comes law (inr x) =
       law plan.settings plan.nodes (provisioning_of plan) f (may_start plan f fits honest)
-      (circuits_fit plan fits) plan.limit start plan.steps fits.steps_fit reports end x.0 x.2
+      (circuits_fit plan fits) plan.limit new_past plan.steps fits.steps_fit reports end x.0 x.2
 
 -- ---- all that is told
 
@@ -38,5 +38,5 @@ tells owed settles plan f left text end fits honest x =
     tells_all watch_account plan f left end watched_text text keeps_rounds adm_new fits
     (λ h reports came. owed_comes plan f left reports end fits (honest h) owed came)
     (λ h large reports last ran. settles plan.settings plan.nodes (provisioning_of plan) f (may_start plan f fits (honest h))
-    (circuits_fit plan fits) plan.limit start plan.steps fits.steps_fit large reports end last ran)
+    (circuits_fit plan fits) plan.limit new_past plan.steps fits.steps_fit large reports end last ran)
     x

@@ -5,7 +5,7 @@ use Rattle.toml.specs.View.{table_view}
 use Rattle.sdh_terms.specs.Rates.{n_of}
 use Rattle.sdh_plan.specs.Plans.{ring_checks, settings_checks, provision_checks, script_checks, n_in, nodes_in, circuits_in, checks}
 use Rattle.sdh_plan.proofs.Checking.{refused_before}
-use Rattle.sdh_plan.specs.Steps.{start, ends_settled}
+use Rattle.sdh_plan.specs.Steps.{new_past, ends_settled}
 use Rattle.sdh_plan.specs.Scripts.{AreSteps}
 use Rattle.sdh_plan.proofs.Facts.{script_fits}
 use Rattle.sdh_plan.proofs.Composed.{keeps_ring, settings_refuse, circuits_refuse, script_refuses, all_pass, plan_is}
@@ -60,7 +60,7 @@ returns-clause-plan c =
 pub invariant_of-result : goal.invariant_of-result
 invariant_of-result c =
     let fits : AreSteps c.in_ok-settings.settings.rate (length c.in_ok-rate.ring)
-    (length c.in_ok-circuits.circuits.circuits) start c.in_ok-steps.steps.items × (ends_settled c.in_ok-steps.steps.items ≡ true) =
+    (length c.in_ok-circuits.circuits.circuits) new_past c.in_ok-steps.steps.items × (ends_settled c.in_ok-steps.steps.items ≡ true) =
     script_fits (table_view c.args.table.now) c.in_ok-settings.settings.rate c.in_ok-rate.ring c.in_ok-circuits.circuits.circuits
     (n_of c.in_ok-rate.rate) c.in_ok-steps.steps.items
     (ap n_of (sym c.in_ok-settings.ensures.rate)) c.in_ok-steps.ensures.passed c.in_ok-steps.ensures.steps in (

@@ -1,7 +1,7 @@
 use Rattle.std.proofs.Common.{◌≡◌, true, false, [], map, drop, ap, sym, ◌∙◌, arith, rules}
 use Rattle.std.specs.List.{list_all}
 use Rattle.std.proofs.lemmas.List.{drop_all}
-use Rattle.sdh_plant.specs.Calls.{is_at, told_at}
+use Rattle.sdh_plant.specs.Calls.{is_at, told_at_rate}
 use Rattle.sdh_plant.specs.InMemory.{HeldTold}
 use Rattle.sdh_plant.specs.Kept.{arrival_of}
 use Rattle.sdh_plant.proofs.Telling.{all_left, told_at-all, told_at-none, told_of-prepared}
@@ -33,4 +33,4 @@ returns-else-not-are_told_at-clause-ok c =
     all_left c.args.rate items c.self.inside.next true (search rules) in
     told_of-prepared c.args.rate c.args.nodes c.args.self.now c.lay.new.self
     (map arrival_of (drop c.self.inside.next items)) c.in_ok-lay.ensures.ok
-    (told_at-all c.args.rate (map arrival_of (drop c.self.inside.next items)) all ∙ ap (told_at c.args.rate) (sym told))
+    (told_at-all c.args.rate (map arrival_of (drop c.self.inside.next items)) all ∙ ap (told_at_rate c.args.rate) (sym told))
