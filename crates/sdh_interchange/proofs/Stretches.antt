@@ -7,7 +7,7 @@ use Rattle.std.proofs.lemmas.Nat.{mul-le}
 use Rattle.std.proofs.Math.Nat.{mul-mod_right}
 use Rattle.sdh_interchange.specs.declared.pass.Pass.{Pass}
 use Rattle.sdh_interchange.specs.Choosing.{is_au_byte}
-use Rattle.sdh_interchange.specs.Passes.{byte_at, HasPassed, AreColumns}
+use Rattle.sdh_interchange.specs.Passes.{byte_by_source, HasPassed, AreColumns}
 use Rattle.sdh_interchange.specs.Tables.{cell, IsTable}
 use Rattle.sdh_interchange.proofs.ByBytes.{by_rate, own_byte-at}
 
@@ -106,14 +106,14 @@ module _ (n : ℕ) (pass : Pass n) where
   -- a vector
   pub vector_passed : (at : ℕ) (old new all : List ℕ) → ((i : ℕ) → i < at → get_or new i 0 ≡ get_or old i 0)
       → ((k : ℕ) → k < 16 → get_or new (at + k) 0 ≡ get_or all k 0) → ((i : ℕ) → at + 16 ≤ i → get_or new i 0 ≡ get_or old i 0)
-      → ((j : ℕ) → j < 16 → get_or all j 0 ≡ byte_at n pass (at + j)) → HasPassed n pass at (at + 16) old new
+      → ((j : ℕ) → j < 16 → get_or all j 0 ≡ byte_by_source n pass (at + j)) → HasPassed n pass at (at + 16) old new
   vector_passed at old new all front put back each = record {
     before = front;
     inside = λ i low high. (
         let k : ℕ = i - at in
         let e : at + k ≡ i = omega arith in
         let h : k < 16 = omega arith in
-        ap (λ m. get_or new m 0) (sym e) ∙ put k h ∙ each k h ∙ ap (byte_at n pass) e);
+        ap (λ m. get_or new m 0) (sym e) ∙ put k h ∙ each k h ∙ ap (byte_by_source n pass) e);
     behind = back;
   }
 
@@ -127,7 +127,8 @@ module _ (n : ℕ) (pass : Pass n) where
 
   module _ (r : ℕ) (old mid : List ℕ) (rate : (n ≡ 4) ⊎ (n ≡ 16))
       (done : HasPassed n pass (n * (270 * r + 9)) (n * (270 * r + 270)) old mid) where
-    pub row-here : r ≢ 3 → (i : ℕ) → i / (270 * n) ≡ r → get_or mid i 0 ≡ (if is_au_byte n i then byte_at n pass i else get_or old i 0)
+    pub row-here : r ≢ 3 → (i : ℕ) → i / (270 * n) ≡ r
+        → get_or mid i 0 ≡ (if is_au_byte n i then byte_by_source n pass i else get_or old i 0)
     row-here plain i at =
         let is = in_row n r i rate at in
         elim (cases_lt (i % (270 * n)) (9 * n)) [
@@ -142,7 +143,8 @@ module _ (n : ℕ) (pass : Pass n) where
     row-others i away = elim (out_of_row n r i rate away) [ inl h ↦ done.before i h | inr h ↦ done.behind i h ]
 
     module _ (new : List ℕ) (three : r ≡ 3) (pointers : HasPassed n pass (n * 810) (n * 819) mid new) where
-      pub pointers-here : (i : ℕ) → i / (270 * n) ≡ r → get_or new i 0 ≡ (if is_au_byte n i then byte_at n pass i else get_or old i 0)
+      pub pointers-here : (i : ℕ) → i / (270 * n) ≡ r
+          → get_or new i 0 ≡ (if is_au_byte n i then byte_by_source n pass i else get_or old i 0)
       pointers-here i at =
           let is = in_row n r i rate at in
           let places = by_pointers n i rate (at ∙ three) in

@@ -17,13 +17,13 @@ pub record IsPass (n : ℕ) (pass : Pass n) : Type 0 where
   pub owned : pass.owned ≡ list_any is_own pass.sources.now
 
 -- byte i of a frame, by its source
-abbrev pub byte_at : (n : ℕ) → Pass n → ℕ → ℕ
-byte_at n pass i = picked_at n pass.sources.now pass.inputs.now.first.now pass.inputs.now.second.now pass.inputs.now.own.now i
+abbrev pub byte_by_source : (n : ℕ) → Pass n → ℕ → ℕ
+byte_by_source n pass i = picked_at n pass.sources.now pass.inputs.now.first.now pass.inputs.now.second.now pass.inputs.now.own.now i
 
 -- the bytes from a place on, up to another, are by their sources, and all others stay
 pub record HasPassed (n : ℕ) (pass : Pass n) (from to : ℕ) (old new : List ℕ) : Type 0 where
   pub before : (i : ℕ) → i < from → slice_index new i ≡ slice_index old i
-  pub inside : (i : ℕ) → from ≤ i → i < to → slice_index new i ≡ byte_at n pass i
+  pub inside : (i : ℕ) → from ≤ i → i < to → slice_index new i ≡ byte_by_source n pass i
   pub behind : (i : ℕ) → to ≤ i → slice_index new i ≡ slice_index old i
 
 -- N vectors for the bytes from a place on, whose lanes hold the bytes of the first `upto` payloads

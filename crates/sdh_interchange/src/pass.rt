@@ -4,7 +4,7 @@ ghost use Rattle.sdh_interchange.specs.declared.choose.Source.{Source};
 ghost use Rattle.sdh_interchange.specs.declared.choose.Source.TheVariants.{Ones};
 ghost use Rattle.sdh_interchange.specs.Choosing.{own_byte, is_au_byte};
 ghost use Rattle.sdh_interchange.specs.Lanes.{AreLanes, AreExtra, ArePicked, IsPlain};
-ghost use Rattle.sdh_interchange.specs.Passes.{IsPass, byte_at, HasPassed, AreColumns};
+ghost use Rattle.sdh_interchange.specs.Passes.{IsPass, byte_by_source, HasPassed, AreColumns};
 
 use crate::choose::Source;
 use crate::columns::{byte_of, columns4, columns16};
@@ -204,7 +204,7 @@ impl<'a, const N: usize> Pass<'a, N> {
         requires pass { IsPass N self.now }
         requires size { length bytes.old ≡ 2430 * N }
         requires row { r < 9 }
-        ensures here { (i : ℕ) → i < 2430 * N → i / (270 * N) ≡ r → slice_index bytes.new i ≡ (if is_au_byte N i then byte_at N self.now i else slice_index bytes.old i) }
+        ensures here { (i : ℕ) → i < 2430 * N → i / (270 * N) ≡ r → slice_index bytes.new i ≡ (if is_au_byte N i then byte_by_source N self.now i else slice_index bytes.old i) }
         ensures others { (i : ℕ) → i / (270 * N) ≢ r → slice_index bytes.new i ≡ slice_index bytes.old i }
     {
         self.any_row(bytes, r);

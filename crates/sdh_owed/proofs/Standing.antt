@@ -10,7 +10,7 @@ use Rattle.sdh_circuits.specs.Provisioned.{same_port}
 use Rattle.sdh_circuits.specs.Provisioning.{Provisioning}
 use Rattle.sdh_payload.specs.declared.clock.Turn.{Turn}
 use Rattle.sdh_payload.specs.declared.clock.Turn.TheVariants.{Up, Down}
-use Rattle.sdh_payload.specs.Clock.{Clock, new_clock, waiting, waits}
+use Rattle.sdh_payload.specs.Clock.{Clock, new_clock, waiting, with_waiting}
 use Rattle.sdh_plant.specs.Fibres.{Fibres}
 use Rattle.sdh_terms.specs.Fibres.{IsConditionAt}
 use Rattle.sdh_request.specs.declared.settings.Settings.{Settings}
@@ -86,7 +86,7 @@ none_at r none port =
     by_port ts all None is = refl
     by_port ts all (Some t) is = (found_has (λ (u : Tributary). waiting u.feed.clock ≡ 0) port ts t all is).0
 
-pub waiting_waits : (turn : Turn) (count : ℕ) (c : Clock) → waiting (waits turn count c) ≡ waiting c + count
+pub waiting_waits : (turn : Turn) (count : ℕ) (c : Clock) → waiting (with_waiting turn count c) ≡ waiting c + count
 waiting_waits Up count c = omega arith
 waiting_waits Down count c = omega arith
 
@@ -99,10 +99,10 @@ WaitAtMost w slips = (port : PortId) → waiting_at w.ring port ≤ slips port
 
 -- slips that wait at a clock and the count of those that a port was given, behind slips of some port
 slips_grow : (port other : PortId) (turn : Turn) (count : ℕ) (slips : PortId → ℕ) (c : Clock) → waiting c ≤ slips port
-    → waiting (if same_port port other then waits turn count c else c) ≤ more_slips other count slips port
+    → waiting (if same_port port other then with_waiting turn count c else c) ≤ more_slips other count slips port
 slips_grow port other turn count slips c few = by (same_port port other)
   where
-    by : (b : Bool) → waiting (if b then waits turn count c else c) ≤ (if b then slips port + count else slips port)
+    by : (b : Bool) → waiting (if b then with_waiting turn count c else c) ≤ (if b then slips port + count else slips port)
     by true = omega (arith, waiting_waits turn count c, few)
     by false = few
 

@@ -12,7 +12,7 @@ use Rattle.sdh_payload.specs.declared.chunk.ChunkForm.TheVariants.{Plain, Short,
 use Rattle.sdh_payload.specs.declared.clock.Turn.{Turn}
 use Rattle.sdh_payload.specs.declared.clock.Turn.TheVariants.{Up, Down}
 use Rattle.sdh_payload.specs.Customer.{Customer}
-use Rattle.sdh_payload.specs.Clock.{Clock, waits, next_form, after_form, ticked}
+use Rattle.sdh_payload.specs.Clock.{Clock, with_waiting, next_form, after_form, ticked}
 use Rattle.sdh_payload.specs.Stream.{padded, phase_of, start_of, vc4_byte, vc4_front, b3_of, container_byte, stream_byte, stream_from}
 use Rattle.sdh_payload.proofs.Chunks.{length-stream_from, get_or-stream_from, stream_from-append}
 use Rattle.sdh_payload.proofs.Containers.{container_byte-at, vc4_byte-overhead, b3_of-more}
@@ -190,7 +190,7 @@ in_step_after offset Short c is = omega (arith, is)
 in_step_after offset Long c is = omega (arith, is)
 
 in_step_told : (offset : ℕ) (turn : Turn) (count : ℕ) (c : Clock) → BeginsAt offset c.sent c.value
-    → BeginsAt offset (waits turn count c).sent (waits turn count c).value
+    → BeginsAt offset (with_waiting turn count c).sent (with_waiting turn count c).value
 in_step_told offset Up count c is = is
 in_step_told offset Down count c is = is
 

@@ -2,7 +2,7 @@
 use Rattle.std.specs.Prelude.{◌≡◌, ℕ, ◌+◌, ◌-◌, ◌*◌, ◌%◌, ◌≤◌, ◌==◌, nat_lt, if◌then◌else◌, zero, suc, List, [], ◌∷◌}
 use Rattle.sdh_payload.specs.declared.clock.Turn.{Turn}
 use Rattle.sdh_payload.specs.Customer.{Customer}
-use Rattle.sdh_payload.specs.Clock.{Clock, new_clock, waits, ticked}
+use Rattle.sdh_payload.specs.Clock.{Clock, new_clock, with_waiting, ticked}
 use Rattle.sdh_payload.specs.Stream.{phase_of, start_of, stream_from}
 use Rattle.sdh_path.specs.declared.watch.PathReport.{PathReport}
 use Rattle.sdh_path.specs.declared.watch.TraceWord.TheVariants.{Ok, Short}
@@ -43,5 +43,5 @@ ChunksAreClean =
 pub record ClocksAreInStep : Type 0 where
   pub first : (offset : ℕ) → offset ≤ 782 → BeginsAt offset (new_clock offset).sent (new_clock offset).value
   pub told : (offset : ℕ) (turn : Turn) (count : ℕ) (c : Clock) → BeginsAt offset c.sent c.value
-      → BeginsAt offset (waits turn count c).sent (waits turn count c).value
+      → BeginsAt offset (with_waiting turn count c).sent (with_waiting turn count c).value
   pub went : (offset : ℕ) (c : Clock) → BeginsAt offset c.sent c.value → BeginsAt offset (ticked c).sent (ticked c).value

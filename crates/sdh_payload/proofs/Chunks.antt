@@ -7,7 +7,7 @@ use Rattle.sdh_basics.specs.Cells.{cells}
 use Rattle.sdh_basics.proofs.CellsLaws.{cells-zero, cells-append, cells-same, length-cells, get_or-cells}
 use Rattle.sdh_payload.specs.declared.chunk.ChunkForm.{ChunkForm}
 use Rattle.sdh_payload.specs.declared.chunk.ChunkForm.TheVariants.{Plain, Short, Long}
-use Rattle.sdh_payload.specs.Chunk.{taken_len, laid, around}
+use Rattle.sdh_payload.specs.Chunk.{taken_len, laid_payload, around}
 use Rattle.sdh_payload.specs.Customer.{Customer}
 use Rattle.sdh_payload.specs.Clock.{Clock, next_form, after_form, ticked, ticks}
 use Rattle.sdh_payload.specs.Stream.{padded, phase_of, b3_of, container_byte, stream_byte, stream_from}
@@ -125,10 +125,10 @@ length-around front middle back xs fits =
     ∙ ap (λ k. front + k) (length-append middle (drop back xs) ∙ ap (λ k. length middle + k) (length-drop back xs))
 
 -- it fills a payload
-pub length-laid : (form : ChunkForm) (bytes : List ℕ) → length bytes ≡ taken_len form → length (laid form bytes) ≡ 2349
-length-laid Plain bytes len = len
-length-laid Short bytes len = length-around 783 (0 ∷ 0 ∷ 0 ∷ []) 783 bytes (omega (arith, len)) ∙ omega (arith, len)
-length-laid Long bytes len = length-around 783 [] 786 bytes (omega (arith, len)) ∙ omega (arith, len)
+pub length-laid_payload : (form : ChunkForm) (bytes : List ℕ) → length bytes ≡ taken_len form → length (laid_payload form bytes) ≡ 2349
+length-laid_payload Plain bytes len = len
+length-laid_payload Short bytes len = length-around 783 (0 ∷ 0 ∷ 0 ∷ []) 783 bytes (omega (arith, len)) ∙ omega (arith, len)
+length-laid_payload Long bytes len = length-around 783 [] 786 bytes (omega (arith, len)) ∙ omega (arith, len)
 
 -- the first byte of a VC-4 is J1
 begins : (port : Customer) (v : ℕ) → container_byte port (2349 * v) ≡ get_or (padded port.trace) (v % 64) 0

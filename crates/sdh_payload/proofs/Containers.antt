@@ -8,7 +8,7 @@ use Rattle.sdh_basics.specs.Cells.{cells}
 use Rattle.sdh_basics.proofs.CellsLaws.{cells-zero, cells-more, cells-append, cells-same, length-cells}
 use Rattle.sdh_basics.proofs.ParityLaws.{bip8-push, bip8-append}
 use Rattle.sdh_payload.specs.Customer.{Customer}
-use Rattle.sdh_payload.specs.Stream.{padded, path_overhead, text_place, byte_at, vc4_byte, vc4_front, b3_of, container_byte, start_of}
+use Rattle.sdh_payload.specs.Stream.{padded, path_overhead, text_place, vc4_byte_at, vc4_byte, vc4_front, b3_of, container_byte, start_of}
 use Rattle.sdh_payload.specs.Stream.{stream_byte, stream_from}
 use Rattle.sdh_payload.specs.Walk.{text_before, containers_from, repeated_from}
 
@@ -26,10 +26,10 @@ padded_behind trace i h within =
 pub vc4_byte-overhead : (port : Customer) (b3 v i : ℕ) → i % 261 ≡ 0
     → vc4_byte port b3 v i ≡ get_or (path_overhead port.trace b3 v) (i / 261) 0
 unfolding vc4_byte
-vc4_byte-overhead port b3 v i h = ap (byte_at port b3 v (i / 261)) h
+vc4_byte-overhead port b3 v i h = ap (vc4_byte_at port b3 v (i / 261)) h
 
 text_at : (port : Customer) (b3 v row column : ℕ) → 0 < column
-    → byte_at port b3 v row column ≡ get_or port.text (text_place v row column % length port.text) 0
+    → vc4_byte_at port b3 v row column ≡ get_or port.text (text_place v row column % length port.text) 0
 text_at port b3 v row column h = grind arith
 
 -- a byte of another column
@@ -39,7 +39,7 @@ unfolding vc4_byte
 vc4_byte-text port b3 v row column some below =
     let r : (261 * row + column) / 261 ≡ row = omega arith in
     let c : (261 * row + column) % 261 ≡ column = omega arith in
-    ap (λ i. byte_at port b3 v i ((261 * row + column) % 261)) r ∙ ap (byte_at port b3 v row) c ∙ text_at port b3 v row column some
+    ap (λ i. vc4_byte_at port b3 v i ((261 * row + column) % 261)) r ∙ ap (vc4_byte_at port b3 v row) c ∙ text_at port b3 v row column some
 
 -- the text bytes of a row, from a column on
 pub text_run : (port : Customer) (b3 v i n : ℕ) → 0 < i % 261 → i % 261 + n ≤ 261

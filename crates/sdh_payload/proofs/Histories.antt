@@ -10,8 +10,8 @@ use Rattle.sdh_payload.specs.declared.chunk.ChunkForm.TheVariants.{Plain, Short,
 use Rattle.sdh_payload.specs.declared.clock.Turn.TheVariants.{Up, Down}
 use Rattle.sdh_payload.specs.Chunk.{taken_len}
 use Rattle.sdh_payload.specs.Clock.{Clock, next_form, after_form, ticked}
-use Rattle.sdh_payload.specs.History.{Happening, told, went, is_up, is_down, may_justify, ups_left, downs_left, form_then, ups_told}
-use Rattle.sdh_payload.specs.History.{downs_told, forms, last_form, first_byte}
+use Rattle.sdh_payload.specs.History.{Happening, told, went, justifies_up, justifies_down, may_justify, ups_left, downs_left, form_then}
+use Rattle.sdh_payload.specs.History.{ups_told, downs_told, forms, last_form, first_byte_now}
 use Rattle.sdh_payload.specs.Stream.{stream_from}
 use Rattle.sdh_payload.specs.Laws.{clock_by, ClocksGoByHistory, RoundsFollowEachOther}
 use Rattle.sdh_payload.proofs.Chunks.{ticked_sent}
@@ -63,26 +63,27 @@ rests (Plain ∷ Plain ∷ Plain ∷ f ∷ before) =
 count-cons : (p : ChunkForm → Bool) (f : ChunkForm) (before : List ChunkForm) → count_by p (f ∷ before) ≡ cond (p f) 1 0 + count_by p before
 count-cons p f before = sum_by-cons (λ g. cond (p g) 1 0) f before
 
-both_once : (f : ChunkForm) → cond (is_up f) 1 0 + cond (is_down f) 1 0 ≤ 1
+both_once : (f : ChunkForm) → cond (justifies_up f) 1 0 + cond (justifies_down f) 1 0 ≤ 1
 both_once Plain = omega arith
 both_once Short = omega arith
 both_once Long = omega arith
 
 -- at most once in each round
-counts_few : (before : List ChunkForm) → count_by is_up before + count_by is_down before ≤ length before
+counts_few : (before : List ChunkForm) → count_by justifies_up before + count_by justifies_down before ≤ length before
 counts_few [] = omega arith
-counts_few (f ∷ before) = omega (arith, both_once f, counts_few before, count-cons is_up f before, count-cons is_down f before)
+counts_few (f ∷ before) =
+    omega (arith, both_once f, counts_few before, count-cons justifies_up f before, count-cons justifies_down f before)
 
 -- ---- what a clock keeps
 
 -- of a port with this offset that was told of so many ups and downs, after rounds in which this was sent
 record Keeps (offset ups downs : ℕ) (before : List ChunkForm) (c : Clock) : Type 0 where
   rounds_are : c.rounds ≡ length before
-  ups_left : c.ups + count_by is_up before ≡ ups
-  downs_left : c.downs + count_by is_down before ≡ downs
+  ups_left : c.ups + count_by justifies_up before ≡ ups
+  downs_left : c.downs + count_by justifies_down before ≡ downs
   rests : c.rest ≡ rest_after before
-  sent_is : c.sent + 3 * count_by is_up before ≡ 2349 * length before + 3 * count_by is_down before
-  value_is : offset ≤ 782 → c.value ≡ (offset + count_by is_up before + 782 * count_by is_down before) % 783
+  sent_is : c.sent + 3 * count_by justifies_up before ≡ 2349 * length before + 3 * count_by justifies_down before
+  value_is : offset ≤ 782 → c.value ≡ (offset + count_by justifies_up before + 782 * count_by justifies_down before) % 783
   last : c.form ≡ last_form before
 
 -- a justification uses up a slip that waits
@@ -109,8 +110,8 @@ down_waits c e = go (nat_le 1 c.rest) (nat_le 1 c.ups) (nat_le 1 c.downs) refl e
 keeps_after : (offset ups downs : ℕ) (before : List ChunkForm) (c : Clock) (f : ChunkForm) → f ≡ next_form c
     → Keeps offset ups downs before c → Keeps offset ups downs (f ∷ before) (after_form f c)
 keeps_after offset ups downs before c Plain e k =
-    let u = count-cons is_up Plain before in
-    let d = count-cons is_down Plain before in
+    let u = count-cons justifies_up Plain before in
+    let d = count-cons justifies_down Plain before in
     record {
       rounds_are = omega (arith, k.rounds_are);
       ups_left = omega (arith, u, k.ups_left);
@@ -121,8 +122,8 @@ keeps_after offset ups downs before c Plain e k =
       last = refl;
     }
 keeps_after offset ups downs before c Short e k =
-    let u = count-cons is_up Short before in
-    let d = count-cons is_down Short before in
+    let u = count-cons justifies_up Short before in
+    let d = count-cons justifies_down Short before in
     record {
       rounds_are = omega (arith, k.rounds_are);
       ups_left = omega (arith, u, k.ups_left, up_waits c e);
@@ -133,8 +134,8 @@ keeps_after offset ups downs before c Short e k =
       last = refl;
     }
 keeps_after offset ups downs before c Long e k =
-    let u = count-cons is_up Long before in
-    let d = count-cons is_down Long before in
+    let u = count-cons justifies_up Long before in
+    let d = count-cons justifies_down Long before in
     record {
       rounds_are = omega (arith, k.rounds_are);
       ups_left = omega (arith, u, k.ups_left);
@@ -214,8 +215,8 @@ clocks_go_by_history offset history small =
     let c = clock_by offset history in
     let k = kept offset history in
     let before = forms history in
-    let ups = count_by is_up before in
-    let downs = count_by is_down before in
+    let ups = count_by justifies_up before in
+    let downs = count_by justifies_down before in
     record {
       rounds_are = k.rounds_are;
       ups_wait = omega (arith, k.ups_left);
@@ -229,10 +230,11 @@ clocks_go_by_history offset history small =
     }
 
 -- where the next round begins, at any offset
-next_begins : (offset : ℕ) (history : List Happening) → (clock_by offset history).sent ≡ first_byte history
+next_begins : (offset : ℕ) (history : List Happening) → (clock_by offset history).sent ≡ first_byte_now history
 next_begins offset history =
     let before = forms history in
-    begins_at (clock_by offset history).sent (count_by is_up before) (count_by is_down before) (length before) (kept offset history).sent_is
+    begins_at (clock_by offset history).sent (count_by justifies_up before) (count_by justifies_down before) (length before)
+    (kept offset history).sent_is
     (counts_few before)
 
 pub rounds_follow_each_other : RoundsFollowEachOther
@@ -240,5 +242,6 @@ rounds_follow_each_other port history =
     let c = clock_by port.offset history in
     let now = next_begins port.offset history in
     let later = next_begins port.offset (went ∷ history) in
-    let bytes : taken_len (next_form c) ≡ first_byte (went ∷ history) - first_byte history = omega (arith, now, later, ticked_sent c) in
-    ap (λ p. stream_from port p (taken_len (next_form c))) now ∙ ap (stream_from port (first_byte history)) bytes
+    let bytes : taken_len (next_form c) ≡ first_byte_now (went ∷ history) - first_byte_now history =
+    omega (arith, now, later, ticked_sent c) in
+    ap (λ p. stream_from port p (taken_len (next_form c))) now ∙ ap (stream_from port (first_byte_now history)) bytes

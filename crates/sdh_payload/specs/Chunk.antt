@@ -22,10 +22,10 @@ taken_len Long = 2352
 
 -- the payload of an AU-4 in which a port sends these bytes: at a positive justification with three zeros before index 783, and at a
 -- negative one without the three bytes from there on
-abbrev pub laid : ChunkForm → List ℕ → List ℕ
-laid Plain bytes = bytes
-laid Short bytes = around 783 (0 ∷ 0 ∷ 0 ∷ []) 783 bytes
-laid Long bytes = around 783 [] 786 bytes
+abbrev pub laid_payload : ChunkForm → List ℕ → List ℕ
+laid_payload Plain bytes = bytes
+laid_payload Short bytes = around 783 (0 ∷ 0 ∷ 0 ∷ []) 783 bytes
+laid_payload Long bytes = around 783 [] 786 bytes
 
 -- and its H3 bytes, which carry those at a negative justification
 abbrev pub laid_h3 : ChunkForm → List ℕ → List ℕ

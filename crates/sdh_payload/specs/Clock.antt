@@ -40,9 +40,9 @@ abbrev pub waiting : Clock → ℕ
 waiting c = c.ups + c.downs
 
 -- with so many more
-abbrev pub waits : Turn → ℕ → Clock → Clock
-waits Up count c = record c { ups = c.ups + count }
-waits Down count c = record c { downs = c.downs + count }
+abbrev pub with_waiting : Turn → ℕ → Clock → Clock
+with_waiting Up count c = record c { ups = c.ups + count }
+with_waiting Down count c = record c { downs = c.downs + count }
 
 -- ---- a round
 

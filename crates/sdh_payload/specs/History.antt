@@ -21,16 +21,16 @@ pub data Happening : Type 0 where
 -- ---- a round, by what was sent in the rounds before it, the latest first
 
 -- a port that justifies upwards sends three bytes fewer
-abbrev pub is_up : ChunkForm → Bool
-is_up Plain = false
-is_up Short = true
-is_up Long = false
+abbrev pub justifies_up : ChunkForm → Bool
+justifies_up Plain = false
+justifies_up Short = true
+justifies_up Long = false
 
 -- one that justifies downwards sends three bytes more
-abbrev pub is_down : ChunkForm → Bool
-is_down Plain = false
-is_down Short = false
-is_down Long = true
+abbrev pub justifies_down : ChunkForm → Bool
+justifies_down Plain = false
+justifies_down Short = false
+justifies_down Long = true
 
 -- it does neither
 abbrev pub is_plain : ChunkForm → Bool
@@ -44,10 +44,10 @@ may_justify before = nat_le 4 (length before) && list_all is_plain (take 3 befor
 
 -- of so many ups or downs that it was told of, those that wait: each justification used up one
 abbrev pub ups_left : ℕ → List ChunkForm → ℕ
-ups_left all before = all - count_by is_up before
+ups_left all before = all - count_by justifies_up before
 
 abbrev pub downs_left : ℕ → List ChunkForm → ℕ
-downs_left all before = all - count_by is_down before
+downs_left all before = all - count_by justifies_down before
 
 -- what it sends, where it was told of so many ups and downs: it justifies where it may and one waits, and ups come before downs
 abbrev pub form_then : List ChunkForm → ℕ → ℕ → ChunkForm
@@ -83,10 +83,10 @@ rounds history = length (forms history)
 
 -- in how many of them it justified upwards, and in how many downwards
 abbrev pub ups : List Happening → ℕ
-ups history = count_by is_up (forms history)
+ups history = count_by justifies_up (forms history)
 
 abbrev pub downs : List Happening → ℕ
-downs history = count_by is_down (forms history)
+downs history = count_by justifies_down (forms history)
 
 -- what it sent in the last one, and `Plain` before the first
 abbrev pub last_form : List ChunkForm → ChunkForm
@@ -107,8 +107,8 @@ abbrev pub form_now : List Happening → ChunkForm
 form_now history = form_then (forms history) (ups_told history) (downs_told history)
 
 -- the byte of the stream with which it begins: 2349 for each round before it, less three for each up and plus three for each down
-abbrev pub first_byte : List Happening → ℕ
-first_byte history = 2349 * rounds history - 3 * ups history + 3 * downs history
+abbrev pub first_byte_now : List Happening → ℕ
+first_byte_now history = 2349 * rounds history - 3 * ups history + 3 * downs history
 
 -- the pointer value before it: the port's offset plus the ups less the downs, modulo 783
 abbrev pub value_now : ℕ → List Happening → ℤ

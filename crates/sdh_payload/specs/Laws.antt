@@ -1,10 +1,10 @@
 -- What holds of every customer's stream.
 use Rattle.std.specs.Prelude.{◌≡◌, ℕ, zero, suc, ◌+◌, ◌-◌, ◌%◌, ◌≤◌, pos, List, [], ◌∷◌, ◌++◌, ◌==◌, if◌then◌else◌, length, slice_index}
 use Rattle.sdh_payload.specs.declared.chunk.ChunkForm.{ChunkForm}
-use Rattle.sdh_payload.specs.Chunk.{taken, taken_len, laid, laid_h3}
+use Rattle.sdh_payload.specs.Chunk.{taken, taken_len, laid_payload, laid_h3}
 use Rattle.sdh_payload.specs.Customer.{Customer}
-use Rattle.sdh_payload.specs.Clock.{Clock, new_clock, waits, next_form, ticked, ticks}
-use Rattle.sdh_payload.specs.History.{Happening, told, went, rounds, forms, last_form, ups_waiting, downs_waiting, form_now, first_byte}
+use Rattle.sdh_payload.specs.Clock.{Clock, new_clock, with_waiting, next_form, ticked, ticks}
+use Rattle.sdh_payload.specs.History.{Happening, told, went, rounds, forms, last_form, ups_waiting, downs_waiting, form_now, first_byte_now}
 use Rattle.sdh_payload.specs.History.{value_now}
 use Rattle.sdh_payload.specs.Stream.{padded, phase_of, stream_from, chunk_of}
 
@@ -21,7 +21,7 @@ ChunksAreTheStream =
 -- what is laid out in an AU-4 is what is taken from it
 abbrev pub WhatIsLaidIsTaken : Type 0
 WhatIsLaidIsTaken =
-    (form : ChunkForm) (bytes : List ℕ) → length bytes ≡ taken_len form → taken form (laid form bytes) (laid_h3 form bytes) ≡ bytes
+    (form : ChunkForm) (bytes : List ℕ) → length bytes ≡ taken_len form → taken form (laid_payload form bytes) (laid_h3 form bytes) ≡ bytes
 
 -- the VC-4 that begins in chunk j: the next one, unless the stream begins with a whole one
 abbrev pub begun_in : Customer → ℕ → ℕ
@@ -39,7 +39,7 @@ BeginsAtTheOffset =
 -- `next`
 abbrev pub clock_by : ℕ → List Happening → Clock
 clock_by offset [] = new_clock offset
-clock_by offset (told turn count ∷ earlier) = waits turn count (clock_by offset earlier)
+clock_by offset (told turn count ∷ earlier) = with_waiting turn count (clock_by offset earlier)
 clock_by offset (went ∷ earlier) = ticked (clock_by offset earlier)
 
 -- a clock tells what its history does: how many rounds went by, the slips that wait, what was sent in the last round and is sent in
@@ -50,7 +50,7 @@ pub record GoesBy (offset : ℕ) (history : List Happening) (c : Clock) : Type 0
   pub downs_wait : c.downs ≡ downs_waiting history
   pub last : c.form ≡ last_form (forms history)
   pub next : next_form c ≡ form_now history
-  pub begins : c.sent ≡ first_byte history
+  pub begins : c.sent ≡ first_byte_now history
   pub value_is : pos c.value ≡ value_now offset history
 
 -- every clock goes by its history
@@ -62,4 +62,4 @@ abbrev pub RoundsFollowEachOther : Type 0
 RoundsFollowEachOther =
     (port : Customer) (history : List Happening) →
     (let c = clock_by port.offset history in stream_from port c.sent (taken_len (next_form c))
-    ≡ stream_from port (first_byte history) (first_byte (went ∷ history) - first_byte history))
+    ≡ stream_from port (first_byte_now history) (first_byte_now (went ∷ history) - first_byte_now history))

@@ -21,14 +21,14 @@ abbrev pub text_place : ℕ → ℕ → ℕ → ℕ
 text_place v row column = 2340 * v + 260 * row + column - 1
 
 -- the byte of a row and a column of VC-4 number v, where b3 is its B3
-abbrev pub byte_at : Customer → ℕ → ℕ → ℕ → ℕ → ℕ
-byte_at port b3 v row column =
+abbrev pub vc4_byte_at : Customer → ℕ → ℕ → ℕ → ℕ → ℕ
+vc4_byte_at port b3 v row column =
     if column == 0 then slice_index (path_overhead port.trace b3 v) row
     else slice_index port.text (text_place v row column % length port.text)
 
 -- byte i of VC-4 number v: nine rows of 261 columns, row by row
 unfoldable pub vc4_byte : Customer → ℕ → ℕ → ℕ → ℕ
-vc4_byte port b3 v i = byte_at port b3 v (i / 261) (i % 261)
+vc4_byte port b3 v i = vc4_byte_at port b3 v (i / 261) (i % 261)
 
 -- the first n bytes of VC-4 number v
 abbrev pub vc4_front : Customer → ℕ → ℕ → ℕ → List ℕ

@@ -1,6 +1,6 @@
 //! What a port takes from an AU-4 that arrived, and how it fills one of its own.
 ghost use Rattle.std.specs.Prelude.{◌≡◌, length};
-ghost use Rattle.sdh_payload.specs.Chunk.{taken, taken_len, laid, laid_h3};
+ghost use Rattle.sdh_payload.specs.Chunk.{taken, taken_len, laid_payload, laid_h3};
 
 use crate::cells::Cells;
 
@@ -47,7 +47,7 @@ pub fn take_chunk_in_place(h3: &[u8], form: ChunkForm, out: &mut Cells)
 /// at the stuffing place of a positive justification are zeros, and so is H3 but at a negative one. It takes no memory.
 pub fn lay_chunk_in_place(form: ChunkForm, out: &mut Cells) -> [u8; 3]
     requires { length out.old ≡ taken_len form }
-    ensures payload { out.new ≡ laid form out.old }
+    ensures payload { out.new ≡ laid_payload form out.old }
     ensures h3 { result ≡ laid_h3 form out.old }
     ensures full { length out.new ≡ 2349 }
 {

@@ -1,6 +1,6 @@
 //! Clocks of customers.
 ghost use Rattle.std.specs.Prelude.{◌≡◌, ◌+◌, ◌*◌, ◌^◌, ◌<◌, ◌≤◌};
-ghost use Rattle.sdh_payload.specs.Clock.{new_clock, waiting, waits, next_form, ticked};
+ghost use Rattle.sdh_payload.specs.Clock.{new_clock, waiting, with_waiting, next_form, ticked};
 
 use crate::chunk::ChunkForm;
 use std::marker::Model;
@@ -108,7 +108,7 @@ impl Clock {
     /// So many more slips wait.
     pub fn wait(&mut self, turn: Turn, count: u8)
         requires { waiting self.old + count ≤ 16 }
-        ensures { self.new ≡ waits turn count self.old }
+        ensures { self.new ≡ with_waiting turn count self.old }
     {
         match turn {
             Turn::Up => self.ups += count,

@@ -1,7 +1,7 @@
 //! What a customer sends, round by round.
 ghost use Rattle.std.specs.Prelude.{◌≡◌, ◌+◌, ◌^◌, ◌<◌, ◌≤◌, length};
 ghost use Rattle.sdh_payload.specs.Chunk.{taken_len};
-ghost use Rattle.sdh_payload.specs.Clock.{waiting, waits, next_form};
+ghost use Rattle.sdh_payload.specs.Clock.{waiting, with_waiting, next_form};
 ghost use Rattle.sdh_payload.specs.Feed.{new_feed, next_feed};
 ghost use Rattle.sdh_payload.specs.Stream.{stream_from};
 
@@ -70,7 +70,7 @@ impl Feed {
     /// So many more slips wait.
     pub fn wait(&mut self, turn: Turn, count: u8)
         requires { waiting self.old.clock + count ≤ 16 }
-        ensures { self.new ≡ record self.old { clock = waits turn count self.old.clock } }
+        ensures { self.new ≡ record self.old { clock = with_waiting turn count self.old.clock } }
     {
         self.clock.wait(turn, count);
     }

@@ -8,15 +8,15 @@ use Rattle.sdh_pointer.specs.declared.reading.Mode.TheVariants as mode
 use Rattle.sdh_pointer.specs.declared.reading.Event.{Event}
 use Rattle.sdh_pointer.specs.declared.reading.Event.TheVariants as event
 use Rattle.sdh_pointer.specs.Words.{is_normal, is_enabled, value_in, one_up, one_down}
-use Rattle.sdh_pointer.specs.Reading.{start, is_norm, goes_up, goes_down, normal_event, event_of, value_of, after_in, action_in}
-use Rattle.sdh_pointer.specs.Reading.{after_event, action_of, after_word, action_on, row_of, reading_table, settled, with_ais, with_bad}
-use Rattle.sdh_pointer.specs.Reading.{with_new, news_with, later, IsBounded}
+use Rattle.sdh_pointer.specs.Reading.{start, is_norm, goes_up, goes_down, normal_event, event_of, event_value, after_in, action_in}
+use Rattle.sdh_pointer.specs.Reading.{after_event, action_on_event, after_word, action_on, reading_row_of, reading_table, settled, with_ais}
+use Rattle.sdh_pointer.specs.Reading.{with_bad, with_new, news_with, later, IsBounded}
 use Rattle.sdh_pointer.specs.Laws.{is_ais_action}
 use Rattle.sdh_pointer.proofs.Rows.{can_come, comes}
 
 -- ---- the value that an event brings
 
-normal_fits : (r : Reading) (v : ℕ) → value_of (normal_event r v) ≤ 782
+normal_fits : (r : Reading) (v : ℕ) → event_value (normal_event r v) ≤ 782
 unfolding normal_event
 normal_fits r v =
     elim (cases_Bool (is_norm r.mode && eqb v r.value)) [
@@ -33,7 +33,7 @@ normal_fits r v =
       ]
     ]
 
-fits : (r : Reading) (w : ℕ) → value_of (event_of r w) ≤ 782
+fits : (r : Reading) (w : ℕ) → event_value (event_of r w) ≤ 782
 unfolding event_of
 fits r w =
     elim (cases_Bool (eqb w 65535)) [
@@ -99,8 +99,8 @@ bounded_new r v s h small less k = record {
   since = k;
 }
 
-bounded_in : (m : Mode) (e : Event) (r : Reading) → value_of e ≤ 782 → IsBounded r → IsBounded (after_in m e r)
-unfolding after_in row_of reading_table
+bounded_in : (m : Mode) (e : Event) (r : Reading) → event_value e ≤ 782 → IsBounded r → IsBounded (after_in m e r)
+unfolding after_in reading_row_of reading_table
 bounded_in mode.Norm event.Same r h b = bounded_settled mode.Norm r.value (later r.since) b.value (omega arith)
 bounded_in mode.Norm (event.Ndf v) r h b = bounded_settled mode.Norm v 0 h (omega arith)
 bounded_in mode.Norm event.Up r h b = bounded_settled mode.Norm (one_up r.value) 0 (omega arith) (omega arith)
@@ -154,7 +154,7 @@ bounds_are_kept = (bounded_settled mode.Ais 0 0 (omega arith) (omega arith), λ 
 
 tells_in : (m : Mode) (e : Event) (r : Reading) → r.mode ≡ m → can_come m e ≡ true
     → is_ais_action (action_in m e r) ≡ not (is_norm (after_in m e r).mode)
-unfolding after_in action_in row_of reading_table
+unfolding after_in action_in reading_row_of reading_table
 tells_in mode.Norm event.Same r is h = refl
 tells_in mode.Norm (event.Ndf v) r is h = refl
 tells_in mode.Norm event.Up r is h = refl
@@ -178,5 +178,5 @@ tells_in mode.Lop event.Up r is h = absurd (cc)
 tells_in mode.Lop event.Down r is h = absurd (cc)
 
 pub answer_tells_mode : (r : Reading) (w : ℕ) → is_ais_action (action_on r w) ≡ not (is_norm (after_word r w).mode)
-unfolding after_word action_on after_event action_of
+unfolding after_word action_on after_event action_on_event
 answer_tells_mode r w = tells_in r.mode (event_of r w) r refl (comes r w)

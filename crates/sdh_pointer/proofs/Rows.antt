@@ -12,9 +12,9 @@ use Rattle.sdh_pointer.specs.declared.reading.Action.{Action}
 use Rattle.sdh_pointer.specs.declared.reading.Action.TheVariants as action
 use Rattle.sdh_pointer.specs.declared.word.Form.TheVariants as form
 use Rattle.sdh_pointer.specs.Words.{is_normal, is_enabled, value_in, one_up, one_down}
-use Rattle.sdh_pointer.specs.Reading.{is_norm, goes_up, goes_down, normal_event, event_of, after_in, action_in, after_event, action_of}
-use Rattle.sdh_pointer.specs.Reading.{after_word, action_on, row_of, is_row_of, reading_table, after_row, action_row, settled, with_ais}
-use Rattle.sdh_pointer.specs.Reading.{with_bad, with_new, news_with, later, is_same, is_up, is_down}
+use Rattle.sdh_pointer.specs.Reading.{is_norm, goes_up, goes_down, normal_event, event_of, after_in, action_in, after_event}
+use Rattle.sdh_pointer.specs.Reading.{action_on_event, after_word, action_on, reading_row_of, is_row_of, reading_table, after_row}
+use Rattle.sdh_pointer.specs.Reading.{action_row, settled, with_ais, with_bad, with_new, news_with, later, is_same, is_up, is_down}
 use Rattle.sdh_pointer.specs.Reading as reading
 use Rattle.sdh_pointer.specs.Sending as sending
 use Rattle.sdh_pointer.specs.Sending.{sending_table, form_sent, value_sent, word_sent, next_sending}
@@ -23,83 +23,83 @@ use Rattle.sdh_pointer.specs.Laws.{HasRow, HasSendingRow}
 -- ---- the rows of mode Norm
 
 pub norm_same : (r : Reading) → after_in mode.Norm event.Same r ≡ settled mode.Norm r.value (later r.since)
-unfolding after_in row_of reading_table
+unfolding after_in reading_row_of reading_table
 norm_same r = refl
 
 pub norm_ndf : (r : Reading) (v : ℕ) → after_in mode.Norm (event.Ndf v) r ≡ settled mode.Norm v 0
-unfolding after_in row_of reading_table
+unfolding after_in reading_row_of reading_table
 norm_ndf r v = refl
 
 pub norm_up : (r : Reading) → after_in mode.Norm event.Up r ≡ settled mode.Norm (one_up r.value) 0
-unfolding after_in row_of reading_table
+unfolding after_in reading_row_of reading_table
 norm_up r = refl
 
 pub norm_down : (r : Reading) → after_in mode.Norm event.Down r ≡ settled mode.Norm (one_down r.value) 0
-unfolding after_in row_of reading_table
+unfolding after_in reading_row_of reading_table
 norm_down r = refl
 
 pub norm_new : (r : Reading) (v : ℕ) → after_in mode.Norm (event.New v) r
     ≡ (if nat_le 3 (news_with r v) then settled mode.Norm v (later r.since) else with_new r v (later r.since))
-unfolding after_in row_of reading_table
+unfolding after_in reading_row_of reading_table
 norm_new r v = refl
 
 pub norm_ais : (r : Reading) → after_in mode.Norm event.Ais r
     ≡ (if nat_le 3 (r.ais + 1) then settled mode.Ais r.value 0 else with_ais r (later r.since))
-unfolding after_in row_of reading_table
+unfolding after_in reading_row_of reading_table
 norm_ais r = refl
 
 -- ---- those of modes Ais and Lop
 
 pub ais_ais : (r : Reading) → after_in mode.Ais event.Ais r ≡ settled mode.Ais r.value 0
-unfolding after_in row_of reading_table
+unfolding after_in reading_row_of reading_table
 ais_ais r = let one : leb 1 (r.ais + 1) ≡ true = le-leb _ _ (omega arith) in rw one refl
 
 pub ais_ndf : (r : Reading) (v : ℕ) → after_in mode.Ais (event.Ndf v) r ≡ settled mode.Norm v 0
-unfolding after_in row_of reading_table
+unfolding after_in reading_row_of reading_table
 ais_ndf r v = refl
 
 pub ais_new : (r : Reading) (v : ℕ) → after_in mode.Ais (event.New v) r
     ≡ (if nat_le 3 (news_with r v) then settled mode.Norm v 0 else with_new r v 0)
-unfolding after_in row_of reading_table
+unfolding after_in reading_row_of reading_table
 ais_new r v = refl
 
 pub lop_ais : (r : Reading) → after_in mode.Lop event.Ais r ≡ (if nat_le 3 (r.ais + 1) then settled mode.Ais r.value 0 else with_ais r 0)
-unfolding after_in row_of reading_table
+unfolding after_in reading_row_of reading_table
 lop_ais r = refl
 
 pub lop_ndf : (r : Reading) (v : ℕ) → after_in mode.Lop (event.Ndf v) r ≡ settled mode.Lop r.value 0
-unfolding after_in row_of reading_table
+unfolding after_in reading_row_of reading_table
 lop_ndf r v = refl
 
 pub lop_new : (r : Reading) (v : ℕ) → after_in mode.Lop (event.New v) r
     ≡ (if nat_le 3 (news_with r v) then settled mode.Norm v 0 else with_new r v 0)
-unfolding after_in row_of reading_table
+unfolding after_in reading_row_of reading_table
 lop_new r v = refl
 
 -- ---- actions
 
 pub norm_same_action : (r : Reading) → action_in mode.Norm event.Same r ≡ action.Normal
-unfolding action_in row_of reading_table
+unfolding action_in reading_row_of reading_table
 norm_same_action r = refl
 
 pub norm_ndf_action : (r : Reading) (v : ℕ) → action_in mode.Norm (event.Ndf v) r ≡ action.New
-unfolding action_in row_of reading_table
+unfolding action_in reading_row_of reading_table
 norm_ndf_action r v = refl
 
 pub norm_up_action : (r : Reading) → action_in mode.Norm event.Up r ≡ action.Up
-unfolding action_in row_of reading_table
+unfolding action_in reading_row_of reading_table
 norm_up_action r = refl
 
 pub norm_down_action : (r : Reading) → action_in mode.Norm event.Down r ≡ action.Down
-unfolding action_in row_of reading_table
+unfolding action_in reading_row_of reading_table
 norm_down_action r = refl
 
 pub ais_ais_action : (r : Reading) → action_in mode.Ais event.Ais r ≡ action.Ais
-unfolding action_in row_of reading_table
+unfolding action_in reading_row_of reading_table
 ais_ais_action r = let one : leb 1 (r.ais + 1) ≡ true = le-leb _ _ (omega arith) in rw one refl
 
 pub ais_ndf_action : (r : Reading) (v : ℕ) → action_in mode.Ais (event.Ndf v) r ≡ action.New
-unfolding action_in row_of reading_table
+unfolding action_in reading_row_of reading_table
 ais_ndf_action r v = refl
 
 -- ---- each word has one row
@@ -110,13 +110,13 @@ can_come m e = is_norm m || not (is_same e || is_up e || is_down e)
 
 -- what a row is to a mode, an event and a state
 record IsRow (m : Mode) (e : Event) (r : Reading) : Type 0 where
-  row : reading.Row
+  row : reading.ReadingRow
   only : filter (is_row_of m e) reading_table ≡ row ∷ []
   next : after_in m e r ≡ after_row row r e
   action : action_in m e r ≡ action_row row r e
 
 one_row : (m : Mode) (e : Event) (r : Reading) → can_come m e ≡ true → IsRow m e r
-unfolding after_in action_in row_of reading_table
+unfolding after_in action_in reading_row_of reading_table
 one_row mode.Norm event.Same r h = record { row = _; only = refl; next = refl; action = refl }
 one_row mode.Norm (event.Ndf v) r h = record { row = _; only = refl; next = refl; action = refl }
 one_row mode.Norm event.Up r h = record { row = _; only = refl; next = refl; action = refl }
@@ -169,7 +169,7 @@ comes r w =
     ]
 
 pub each_word_has_one_row : (r : Reading) (w : ℕ) → HasRow r w
-unfolding after_word action_on after_event action_of
+unfolding after_word action_on after_event action_on_event
 each_word_has_one_row r w =
     let h = one_row r.mode (event_of r w) r (comes r w) in
     record { row = h.row; only = h.only; next = h.next; answer = h.action }
@@ -177,7 +177,7 @@ each_word_has_one_row r w =
 -- ---- each input has one row
 
 pub each_input_has_one_row : (s : Option ℕ) (a : Action) (v : ℕ) → HasSendingRow s a v
-unfolding word_sent form_sent value_sent next_sending sending.row_of sending_table
+unfolding word_sent form_sent value_sent next_sending sending.sending_row_of sending_table
 each_input_has_one_row None action.Ais v = record { row = _; only = refl; word = refl; next = refl }
 each_input_has_one_row (Some g) action.Ais v = record { row = _; only = refl; word = refl; next = refl }
 each_input_has_one_row None action.New v = record { row = _; only = refl; word = refl; next = refl }
@@ -187,13 +187,13 @@ each_input_has_one_row None action.Up v = record { row = _; only = refl; word = 
 each_input_has_one_row None action.Down v = record { row = _; only = refl; word = refl; next = refl }
 each_input_has_one_row (Some g) action.Normal v = elim (cases_Bool (eqb v g)) [
   | inl t ↦ record {
-    row = sending.row sending.is_kept form.Normal sending.of_state sending.sends;
+    row = sending.sending_row sending.is_kept form.Normal sending.of_state sending.sends;
     only = rw t refl;
     word = rw t refl;
     next = rw t refl;
   }
   | inr f ↦ record {
-    row = sending.row sending.is_other form.Enabled sending.of_input sending.sends;
+    row = sending.sending_row sending.is_other form.Enabled sending.of_input sending.sends;
     only = rw f refl;
     word = rw f refl;
     next = rw f refl;
@@ -201,13 +201,13 @@ each_input_has_one_row (Some g) action.Normal v = elim (cases_Bool (eqb v g)) [
 ]
 each_input_has_one_row (Some g) action.Up v = elim (cases_Bool (eqb v (one_up g))) [
   | inl t ↦ record {
-    row = sending.row sending.is_raised form.Up sending.of_state sending.sends;
+    row = sending.sending_row sending.is_raised form.Up sending.of_state sending.sends;
     only = rw t refl;
     word = rw t refl;
     next = rw t refl;
   }
   | inr f ↦ record {
-    row = sending.row sending.is_other form.Enabled sending.of_input sending.sends;
+    row = sending.sending_row sending.is_other form.Enabled sending.of_input sending.sends;
     only = rw f refl;
     word = rw f refl;
     next = rw f refl;
@@ -215,13 +215,13 @@ each_input_has_one_row (Some g) action.Up v = elim (cases_Bool (eqb v (one_up g)
 ]
 each_input_has_one_row (Some g) action.Down v = elim (cases_Bool (eqb v (one_down g))) [
   | inl t ↦ record {
-    row = sending.row sending.is_lowered form.Down sending.of_state sending.sends;
+    row = sending.sending_row sending.is_lowered form.Down sending.of_state sending.sends;
     only = rw t refl;
     word = rw t refl;
     next = rw t refl;
   }
   | inr f ↦ record {
-    row = sending.row sending.is_other form.Enabled sending.of_input sending.sends;
+    row = sending.sending_row sending.is_other form.Enabled sending.of_input sending.sends;
     only = rw f refl;
     word = rw f refl;
     next = rw f refl;

@@ -6,8 +6,8 @@ use Rattle.sdh_pointer.specs.declared.word.Form.TheVariants as form
 use Rattle.sdh_pointer.specs.declared.reading.Action.{Action}
 use Rattle.sdh_pointer.specs.declared.reading.Action.TheVariants as action
 use Rattle.sdh_pointer.specs.Words.{word_of, one_up, one_down}
-use Rattle.sdh_pointer.specs.Sending.{Generator, sending_table, row_of, after_action, form_sent, value_sent, word_sent, next_sending}
-use Rattle.sdh_pointer.specs.Sending.{same_sending}
+use Rattle.sdh_pointer.specs.Sending.{Generator, sending_table, sending_row_of, after_action, form_sent, value_sent, word_sent}
+use Rattle.sdh_pointer.specs.Sending.{next_sending, same_sending}
 use Rattle.sdh_pointer.specs.Repeated.{after_inputs}
 use Rattle.sdh_pointer.specs.Laws.{lasting_form, lasting_state}
 
@@ -18,17 +18,17 @@ pub record IsSent (s : Option ℕ) (a : Action) (v : ℕ) (f : Form) (x : ℕ) (
   pub next : next_sending s a v ≡ n
 
 pub ais_sent : (s : Option ℕ) (v : ℕ) → IsSent s action.Ais v form.Ais v None
-unfolding word_sent form_sent value_sent next_sending row_of sending_table
+unfolding word_sent form_sent value_sent next_sending sending_row_of sending_table
 ais_sent s v = record { form = refl; word = refl; next = refl }
 
 pub new_sent : (s : Option ℕ) (v : ℕ) → IsSent s action.New v form.Enabled v (Some v)
-unfolding word_sent form_sent value_sent next_sending row_of sending_table
+unfolding word_sent form_sent value_sent next_sending sending_row_of sending_table
 new_sent None v = record { form = refl; word = refl; next = refl }
 new_sent (Some g) v = record { form = refl; word = refl; next = refl }
 
 -- any input but Ais, in Ais
 pub first_sent : (a : Action) (v : ℕ) → a ≢ action.Ais → IsSent None a v form.Enabled v (Some v)
-unfolding word_sent form_sent value_sent next_sending row_of sending_table
+unfolding word_sent form_sent value_sent next_sending sending_row_of sending_table
 first_sent action.Normal v h = record { form = refl; word = refl; next = refl }
 first_sent action.New v h = record { form = refl; word = refl; next = refl }
 first_sent action.Up v h = record { form = refl; word = refl; next = refl }
@@ -36,28 +36,28 @@ first_sent action.Down v h = record { form = refl; word = refl; next = refl }
 first_sent action.Ais v h = absurd (h refl)
 
 pub normal_sent : (g v : ℕ) → v ≡ g → IsSent (Some g) action.Normal v form.Normal g (Some v)
-unfolding word_sent form_sent value_sent next_sending row_of sending_table
+unfolding word_sent form_sent value_sent next_sending sending_row_of sending_table
 normal_sent g v is = let e : eqb v g ≡ true = eq-eqb _ _ is in record { form = rw e refl; word = rw e refl; next = rw e refl }
 
 pub up_sent : (g v : ℕ) → v ≡ one_up g → IsSent (Some g) action.Up v form.Up g (Some v)
-unfolding word_sent form_sent value_sent next_sending row_of sending_table
+unfolding word_sent form_sent value_sent next_sending sending_row_of sending_table
 up_sent g v is = let e : eqb v (one_up g) ≡ true = eq-eqb _ _ is in record { form = rw e refl; word = rw e refl; next = rw e refl }
 
 pub down_sent : (g v : ℕ) → v ≡ one_down g → IsSent (Some g) action.Down v form.Down g (Some v)
-unfolding word_sent form_sent value_sent next_sending row_of sending_table
+unfolding word_sent form_sent value_sent next_sending sending_row_of sending_table
 down_sent g v is = let e : eqb v (one_down g) ≡ true = eq-eqb _ _ is in record { form = rw e refl; word = rw e refl; next = rw e refl }
 
 -- values that don't follow the one that is sent
 pub other_sent : (g v : ℕ) → v ≢ g → IsSent (Some g) action.Normal v form.Enabled v (Some v)
-unfolding word_sent form_sent value_sent next_sending row_of sending_table
+unfolding word_sent form_sent value_sent next_sending sending_row_of sending_table
 other_sent g v is = let e : eqb v g ≡ false = ne_eqb _ _ is in record { form = rw e refl; word = rw e refl; next = rw e refl }
 
 pub not_up_sent : (g v : ℕ) → v ≢ one_up g → IsSent (Some g) action.Up v form.Enabled v (Some v)
-unfolding word_sent form_sent value_sent next_sending row_of sending_table
+unfolding word_sent form_sent value_sent next_sending sending_row_of sending_table
 not_up_sent g v is = let e : eqb v (one_up g) ≡ false = ne_eqb _ _ is in record { form = rw e refl; word = rw e refl; next = rw e refl }
 
 pub not_down_sent : (g v : ℕ) → v ≢ one_down g → IsSent (Some g) action.Down v form.Enabled v (Some v)
-unfolding word_sent form_sent value_sent next_sending row_of sending_table
+unfolding word_sent form_sent value_sent next_sending sending_row_of sending_table
 not_down_sent g v is = let e : eqb v (one_down g) ≡ false = ne_eqb _ _ is in record { form = rw e refl; word = rw e refl; next = rw e refl }
 
 -- ---- the next state is that of the input, whatever the state was

@@ -10,7 +10,7 @@ use Rattle.sdh_pointer.specs.declared.reading.Event.TheVariants as event
 use Rattle.sdh_pointer.specs.declared.reading.Action.TheVariants as action
 use Rattle.sdh_pointer.specs.Words.{is_normal, is_enabled, value_in, one_up, one_down}
 use Rattle.sdh_pointer.specs.Reading.{normal_event, event_of, is_norm, goes_up, goes_down, after_in, action_in, after_event, after_word}
-use Rattle.sdh_pointer.specs.Reading.{action_on, action_of, settled, with_new, with_ais, news_with, later}
+use Rattle.sdh_pointer.specs.Reading.{action_on, action_on_event, settled, with_new, with_ais, news_with, later}
 use Rattle.sdh_pointer.specs.Repeated.{after_rounds}
 use Rattle.sdh_pointer.specs.Laws.{enabled_end}
 use Rattle.sdh_pointer.proofs.Forms.{of_normal_word, of_enabled_word, of_ones, same_event, new_outside, new_early, new_neither, up_event}
@@ -24,7 +24,7 @@ unfolding after_word after_event
 by_event r w m e norm is = ap (λ x. after_in r.mode x r) is ∙ ap (λ x. after_in x e r) norm
 
 pub action_by_event : (r : Reading) (w : ℕ) (m : Mode) (e : Event) → r.mode ≡ m → event_of r w ≡ e → action_on r w ≡ action_in m e r
-unfolding action_on action_of
+unfolding action_on action_on_event
 action_by_event r w m e norm is = ap (λ x. action_in r.mode x r) is ∙ ap (λ x. action_in x e r) norm
 
 -- a state that a word keeps is kept for ever

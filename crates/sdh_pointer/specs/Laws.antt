@@ -22,7 +22,7 @@ use Rattle.sdh_pointer.specs.Spreading.{IsSmall, IsValueOver, action_over, word_
 
 -- exactly one row of the interpreter's table is that of a word in a state, and the step is by that row
 pub record HasRow (r : Reading) (w : ℕ) : Type 0 where
-  pub row : reading.Row
+  pub row : reading.ReadingRow
   pub only : filter (is_row_of r.mode (event_of r w)) reading_table ≡ row ∷ []
   pub next : after_word r w ≡ after_row row r (event_of r w)
   pub answer : action_on r w ≡ action_row row r (event_of r w)
@@ -32,8 +32,8 @@ EachWordHasOneRow = (r : Reading) (w : ℕ) → HasRow r w
 
 -- exactly one row of the generator's table is that of an input in a state, and the step is by that row
 pub record HasSendingRow (s : Option ℕ) (a : Action) (v : ℕ) : Type 0 where
-  pub row : sending.Row
-  pub only : filter (λ (row : sending.Row). row.input s a v) sending_table ≡ row ∷ []
+  pub row : sending.SendingRow
+  pub only : filter (λ (row : sending.SendingRow). row.input s a v) sending_table ≡ row ∷ []
   pub word : word_sent s a v ≡ word_of row.form (row.value s v)
   pub next : next_sending s a v ≡ row.next v
 

@@ -44,14 +44,14 @@ event_of r w =
     if is_normal w then normal_event r (value_in w) else event.Bad
 
 -- the value that an event brings
-abbrev pub value_of : Event → ℕ
-value_of (event.Ndf v) = v
-value_of (event.New v) = v
-value_of event.Ais = 0
-value_of event.Bad = 0
-value_of event.Same = 0
-value_of event.Up = 0
-value_of event.Down = 0
+abbrev pub event_value : Event → ℕ
+event_value (event.Ndf v) = v
+event_value (event.New v) = v
+event_value event.Ais = 0
+event_value event.Bad = 0
+event_value event.Same = 0
+event_value event.Up = 0
+event_value event.Down = 0
 
 -- ---- counts
 
@@ -118,7 +118,7 @@ action_while mode.Lop = action.Ais
 
 -- A row: in this mode, so many events of this kind in a row lead to the next mode with this value and this `since`,
 -- and have this action. Fewer are counted.
-pub record Row : Type 0 where
+pub record ReadingRow : Type 0 where
   pub mode : Mode
   pub event : Event → Bool
   pub needed : ℕ
@@ -127,8 +127,8 @@ pub record Row : Type 0 where
   pub since : Reading → ℕ
   pub action : Action
 
-abbrev pub row : Mode → (Event → Bool) → ℕ → Mode → (Reading → Event → ℕ) → (Reading → ℕ) → Action → Row
-row m e count next v s a = record { mode = m; event = e; needed = count; next = next; value = v; since = s; action = a }
+abbrev pub reading_row : Mode → (Event → Bool) → ℕ → Mode → (Reading → Event → ℕ) → (Reading → ℕ) → Action → ReadingRow
+reading_row m e count next v s a = record { mode = m; event = e; needed = count; next = next; value = v; since = s; action = a }
 
 -- the kinds of events
 abbrev pub is_same : Event → Bool
@@ -164,7 +164,7 @@ abbrev pub kept : Reading → Event → ℕ
 kept r e = r.value
 
 abbrev pub brought : Reading → Event → ℕ
-brought r e = value_of e
+brought r e = event_value e
 
 abbrev pub raised : Reading → Event → ℕ
 raised r e = one_up r.value
@@ -180,23 +180,23 @@ abbrev pub anew : Reading → ℕ
 anew r = 0
 
 -- the rows. Same, Up and Down come in Norm alone.
-unfoldable pub reading_table : List Row
+unfoldable pub reading_table : List ReadingRow
 reading_table =
-    row mode.Norm is_same 1 mode.Norm kept grows action.Normal
-    ∷ row mode.Norm is_ndf 1 mode.Norm brought anew action.New
-    ∷ row mode.Norm is_up 1 mode.Norm raised anew action.Up
-    ∷ row mode.Norm is_down 1 mode.Norm lowered anew action.Down
-    ∷ row mode.Norm is_new 3 mode.Norm brought grows action.New
-    ∷ row mode.Norm is_ais 3 mode.Ais kept anew action.Ais
-    ∷ row mode.Norm is_bad 8 mode.Lop kept anew action.Ais
-    ∷ row mode.Ais is_ais 1 mode.Ais kept anew action.Ais
-    ∷ row mode.Ais is_ndf 1 mode.Norm brought anew action.New
-    ∷ row mode.Ais is_new 3 mode.Norm brought anew action.New
-    ∷ row mode.Ais is_bad 8 mode.Lop kept anew action.Ais
-    ∷ row mode.Lop is_ais 3 mode.Ais kept anew action.Ais
-    ∷ row mode.Lop is_new 3 mode.Norm brought anew action.New
-    ∷ row mode.Lop is_ndf 1 mode.Lop kept anew action.Ais
-    ∷ row mode.Lop is_bad 1 mode.Lop kept anew action.Ais
+    reading_row mode.Norm is_same 1 mode.Norm kept grows action.Normal
+    ∷ reading_row mode.Norm is_ndf 1 mode.Norm brought anew action.New
+    ∷ reading_row mode.Norm is_up 1 mode.Norm raised anew action.Up
+    ∷ reading_row mode.Norm is_down 1 mode.Norm lowered anew action.Down
+    ∷ reading_row mode.Norm is_new 3 mode.Norm brought grows action.New
+    ∷ reading_row mode.Norm is_ais 3 mode.Ais kept anew action.Ais
+    ∷ reading_row mode.Norm is_bad 8 mode.Lop kept anew action.Ais
+    ∷ reading_row mode.Ais is_ais 1 mode.Ais kept anew action.Ais
+    ∷ reading_row mode.Ais is_ndf 1 mode.Norm brought anew action.New
+    ∷ reading_row mode.Ais is_new 3 mode.Norm brought anew action.New
+    ∷ reading_row mode.Ais is_bad 8 mode.Lop kept anew action.Ais
+    ∷ reading_row mode.Lop is_ais 3 mode.Ais kept anew action.Ais
+    ∷ reading_row mode.Lop is_new 3 mode.Norm brought anew action.New
+    ∷ reading_row mode.Lop is_ndf 1 mode.Lop kept anew action.Ais
+    ∷ reading_row mode.Lop is_bad 1 mode.Lop kept anew action.Ais
     ∷ []
 
 abbrev pub same_mode : Mode → Mode → Bool
@@ -211,41 +211,41 @@ same_mode mode.Lop mode.Ais = false
 same_mode mode.Lop mode.Lop = true
 
 -- whether a row is the one of a mode and an event
-abbrev pub is_row_of : Mode → Event → Row → Bool
+abbrev pub is_row_of : Mode → Event → ReadingRow → Bool
 is_row_of m e row = same_mode row.mode m && row.event e
 
-unfoldable pub row_of : Mode → Event → Option Row
-row_of m e = find (is_row_of m e) reading_table
+unfoldable pub reading_row_of : Mode → Event → Option ReadingRow
+reading_row_of m e = find (is_row_of m e) reading_table
 
 -- what is kept after an event by a row, and the action
-abbrev pub after_row : Row → Reading → Event → Reading
+abbrev pub after_row : ReadingRow → Reading → Event → Reading
 after_row row r e =
     if nat_le row.needed (in_a_row r e) then settled row.next (row.value r e) (row.since r) else counted r e (since_in row.mode r.since)
 
-abbrev pub action_row : Row → Reading → Event → Action
+abbrev pub action_row : ReadingRow → Reading → Event → Action
 action_row row r e = if nat_le row.needed (in_a_row r e) then row.action else action_while row.mode
 
 -- ---- a step
 
 -- what is kept after an event in a mode, and the action
 unfoldable pub after_in : Mode → Event → Reading → Reading
-after_in m e r = option_map_or (λ row. after_row row r e) (row_of m e) r
+after_in m e r = option_map_or (λ row. after_row row r e) (reading_row_of m e) r
 
 unfoldable pub action_in : Mode → Event → Reading → Action
-action_in m e r = option_map_or (λ row. action_row row r e) (row_of m e) action.Ais
+action_in m e r = option_map_or (λ row. action_row row r e) (reading_row_of m e) action.Ais
 
 unfoldable pub after_event : Reading → Event → Reading
 after_event r e = after_in r.mode e r
 
-unfoldable pub action_of : Reading → Event → Action
-action_of r e = action_in r.mode e r
+unfoldable pub action_on_event : Reading → Event → Action
+action_on_event r e = action_in r.mode e r
 
 -- the same of a word
 unfoldable pub after_word : Reading → ℕ → Reading
 after_word r w = after_event r (event_of r w)
 
 unfoldable pub action_on : Reading → ℕ → Action
-action_on r w = action_of r (event_of r w)
+action_on r w = action_on_event r (event_of r w)
 
 -- whether the mode, the value, the counts, the candidate and `since` are the same
 unfoldable pub same_reading : Reading → Reading → Bool

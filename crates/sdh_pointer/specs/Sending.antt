@@ -11,9 +11,9 @@ use Rattle.sdh_pointer.specs.Words.{word_of, one_up, one_down}
 
 -- the states and inputs of the rows: AIS in any state; in Norm(g) Normal with g, Up with the value after g, Down with
 -- the value before g; and any other
-abbrev pub is_ais : Option ℕ → Action → ℕ → Bool
-is_ais s action.Ais v = true
-is_ais s _ v = false
+abbrev pub is_ais_input : Option ℕ → Action → ℕ → Bool
+is_ais_input s action.Ais v = true
+is_ais_input s _ v = false
 
 abbrev pub is_kept : Option ℕ → Action → ℕ → Bool
 is_kept (Some g) action.Normal v = v == g
@@ -28,7 +28,7 @@ is_lowered (Some g) action.Down v = v == one_down g
 is_lowered _ _ v = false
 
 abbrev pub is_other : Option ℕ → Action → ℕ → Bool
-is_other s a v = not (is_ais s a v || is_kept s a v || is_raised s a v || is_lowered s a v)
+is_other s a v = not (is_ais_input s a v || is_kept s a v || is_raised s a v || is_lowered s a v)
 
 -- the value that a word carries: that of the state, or that of the input
 abbrev pub of_state : Option ℕ → ℕ → ℕ
@@ -38,51 +38,51 @@ abbrev pub of_input : Option ℕ → ℕ → ℕ
 of_input s v = v
 
 -- the next state
-abbrev pub silent : ℕ → Option ℕ
-silent v = None
+abbrev pub ais_state : ℕ → Option ℕ
+ais_state v = None
 
 abbrev pub sends : ℕ → Option ℕ
 sends v = Some v
 
 -- A row: for these states and inputs, the form of the word with the value that it carries, and the next state.
-pub record Row : Type 0 where
+pub record SendingRow : Type 0 where
   pub input : Option ℕ → Action → ℕ → Bool
   pub form : Form
   pub value : Option ℕ → ℕ → ℕ
   pub next : ℕ → Option ℕ
 
-abbrev pub row : (Option ℕ → Action → ℕ → Bool) → Form → (Option ℕ → ℕ → ℕ) → (ℕ → Option ℕ) → Row
-row i f v n = record { input = i; form = f; value = v; next = n }
+abbrev pub sending_row : (Option ℕ → Action → ℕ → Bool) → Form → (Option ℕ → ℕ → ℕ) → (ℕ → Option ℕ) → SendingRow
+sending_row i f v n = record { input = i; form = f; value = v; next = n }
 
-unfoldable pub sending_table : List Row
+unfoldable pub sending_table : List SendingRow
 sending_table =
-    row is_ais form.Ais of_input silent
-    ∷ row is_kept form.Normal of_state sends
-    ∷ row is_raised form.Up of_state sends
-    ∷ row is_lowered form.Down of_state sends
-    ∷ row is_other form.Enabled of_input sends
+    sending_row is_ais_input form.Ais of_input ais_state
+    ∷ sending_row is_kept form.Normal of_state sends
+    ∷ sending_row is_raised form.Up of_state sends
+    ∷ sending_row is_lowered form.Down of_state sends
+    ∷ sending_row is_other form.Enabled of_input sends
     ∷ []
 
 -- the row of a state and an input
-unfoldable pub row_of : Option ℕ → Action → ℕ → Option Row
-row_of s a v = find (λ row. row.input s a v) sending_table
+unfoldable pub sending_row_of : Option ℕ → Action → ℕ → Option SendingRow
+sending_row_of s a v = find (λ row. row.input s a v) sending_table
 
 -- ---- a step
 
 -- the form of the word that is sent
 unfoldable pub form_sent : Option ℕ → Action → ℕ → Form
-form_sent s a v = option_map_or (λ row. row.form) (row_of s a v) form.Ais
+form_sent s a v = option_map_or (λ row. row.form) (sending_row_of s a v) form.Ais
 
 -- the value that it carries
 unfoldable pub value_sent : Option ℕ → Action → ℕ → ℕ
-value_sent s a v = option_map_or (λ row. row.value s v) (row_of s a v) v
+value_sent s a v = option_map_or (λ row. row.value s v) (sending_row_of s a v) v
 
 unfoldable pub word_sent : Option ℕ → Action → ℕ → ℕ
 word_sent s a v = word_of (form_sent s a v) (value_sent s a v)
 
 -- the next state
 unfoldable pub next_sending : Option ℕ → Action → ℕ → Option ℕ
-next_sending s a v = option_map_or (λ row. row.next v) (row_of s a v) None
+next_sending s a v = option_map_or (λ row. row.next v) (sending_row_of s a v) None
 
 abbrev pub same_sending : Option ℕ → Option ℕ → Bool
 same_sending None None = true

@@ -30,7 +30,7 @@ impl Model for Gen {
 
 // The form of the word that is sent in a state for an input, and the value that it carries: that of the state where it
 // is justified.
-#[tactic(auto, unfolding(crate::specs::Sending::form_sent, crate::specs::Sending::value_sent, crate::specs::Sending::row_of, crate::specs::Sending::sending_table))]
+#[tactic(auto, unfolding(crate::specs::Sending::form_sent, crate::specs::Sending::value_sent, crate::specs::Sending::sending_row_of, crate::specs::Sending::sending_table))]
 fn parts_sent(sending: Option<u16>, action: Action, value: u16) -> (Form, u16)
     requires kept { option_map_or (λ g. g) sending 0 ≤ 782 }
     requires small { value ≤ 782 }

@@ -1,7 +1,7 @@
 //! What a pointer interpreter keeps, and how a word changes it.
 ghost use Rattle.std.specs.Prelude.{◌≡◌, ◌≤◌};
 ghost use Rattle.sdh_pointer.specs.Words.{one_up, one_down};
-ghost use Rattle.sdh_pointer.specs.Reading.{IsBounded, value_of, later, settled, with_ais, with_bad, with_new, news_with, goes_up, goes_down, normal_event, event_of, after_in, action_in, after_event, action_of, same_mode, same_reading};
+ghost use Rattle.sdh_pointer.specs.Reading.{IsBounded, event_value, later, settled, with_ais, with_bad, with_new, news_with, goes_up, goes_down, normal_event, event_of, after_in, action_in, after_event, action_on_event, same_mode, same_reading};
 ghost use Rattle.sdh_pointer.specs.declared.reading.Mode.TheVariants as mode;
 ghost use Rattle.sdh_pointer.specs.declared.reading.Event.TheVariants as event;
 
@@ -173,7 +173,7 @@ fn goes_down(value: u16, kept: u16) -> bool
 #[tactic(auto, unfolding(crate::specs::Reading::normal_event))]
 fn normal_event(reading: &Reading, value: u16) -> Event
     ensures event { result ≡ normal_event reading.now value }
-    ensures fits { value_of result ≤ 782 }
+    ensures fits { event_value result ≤ 782 }
 {
     let norm = matches!(reading.mode, Mode::Norm);
     if norm && value == reading.value {
@@ -196,7 +196,7 @@ fn normal_event(reading: &Reading, value: u16) -> Event
 #[tactic(auto, unfolding(crate::specs::Reading::event_of))]
 pub fn event_of(reading: &Reading, word: Word) -> Event
     ensures event { result ≡ event_of reading.now word.0 }
-    ensures fits { value_of result ≤ 782 }
+    ensures fits { event_value result ≤ 782 }
 {
     let value = word.0 % VALUE_END;
     if word.0 == 0xFFFF {
@@ -215,10 +215,10 @@ pub fn event_of(reading: &Reading, word: Word) -> Event
 }
 
 // The rows of mode Norm.
-#[tactic(auto, unfolding(crate::specs::Reading::after_in, crate::specs::Reading::action_in, crate::specs::Reading::row_of, crate::specs::Reading::reading_table))]
+#[tactic(auto, unfolding(crate::specs::Reading::after_in, crate::specs::Reading::action_in, crate::specs::Reading::reading_row_of, crate::specs::Reading::reading_table))]
 fn step_in_norm(reading: Reading, event: Event) -> (Reading, Action)
     requires bounded { IsBounded reading }
-    requires fits { value_of event ≤ 782 }
+    requires fits { event_value event ≤ 782 }
     ensures next { result.0 ≡ after_in mode.Norm event reading }
     ensures action { result.1 ≡ action_in mode.Norm event reading }
     ensures bounded { IsBounded result.0 }
@@ -246,7 +246,7 @@ fn step_in_norm(reading: Reading, event: Event) -> (Reading, Action)
 }
 
 // A new value out of mode Norm: the third equal one is taken.
-#[tactic(auto, unfolding(crate::specs::Reading::after_in, crate::specs::Reading::action_in, crate::specs::Reading::row_of, crate::specs::Reading::reading_table))]
+#[tactic(auto, unfolding(crate::specs::Reading::after_in, crate::specs::Reading::action_in, crate::specs::Reading::reading_row_of, crate::specs::Reading::reading_table))]
 fn step_at_new(reading: Reading, value: u16) -> (Reading, Action)
     requires bounded { IsBounded reading }
     requires fits { value ≤ 782 }
@@ -265,10 +265,10 @@ fn step_at_new(reading: Reading, value: u16) -> (Reading, Action)
 }
 
 // The rows of mode Ais.
-#[tactic(auto, unfolding(crate::specs::Reading::after_in, crate::specs::Reading::action_in, crate::specs::Reading::row_of, crate::specs::Reading::reading_table))]
+#[tactic(auto, unfolding(crate::specs::Reading::after_in, crate::specs::Reading::action_in, crate::specs::Reading::reading_row_of, crate::specs::Reading::reading_table))]
 fn step_in_ais(reading: Reading, event: Event) -> (Reading, Action)
     requires bounded { IsBounded reading }
-    requires fits { value_of event ≤ 782 }
+    requires fits { event_value event ≤ 782 }
     ensures next { result.0 ≡ after_in mode.Ais event reading }
     ensures action { result.1 ≡ action_in mode.Ais event reading }
     ensures bounded { IsBounded result.0 }
@@ -285,10 +285,10 @@ fn step_in_ais(reading: Reading, event: Event) -> (Reading, Action)
 }
 
 // The rows of mode Lop.
-#[tactic(auto, unfolding(crate::specs::Reading::after_in, crate::specs::Reading::action_in, crate::specs::Reading::row_of, crate::specs::Reading::reading_table))]
+#[tactic(auto, unfolding(crate::specs::Reading::after_in, crate::specs::Reading::action_in, crate::specs::Reading::reading_row_of, crate::specs::Reading::reading_table))]
 fn step_in_lop(reading: Reading, event: Event) -> (Reading, Action)
     requires bounded { IsBounded reading }
-    requires fits { value_of event ≤ 782 }
+    requires fits { event_value event ≤ 782 }
     ensures next { result.0 ≡ after_in mode.Lop event reading }
     ensures action { result.1 ≡ action_in mode.Lop event reading }
     ensures bounded { IsBounded result.0 }
@@ -304,12 +304,12 @@ fn step_in_lop(reading: Reading, event: Event) -> (Reading, Action)
 }
 
 // What is kept after an event, and the action.
-#[tactic(auto, unfolding(crate::specs::Reading::after_event, crate::specs::Reading::action_of))]
+#[tactic(auto, unfolding(crate::specs::Reading::after_event, crate::specs::Reading::action_on_event))]
 pub fn step_at(reading: Reading, event: Event) -> (Reading, Action)
     requires bounded { IsBounded reading }
-    requires fits { value_of event ≤ 782 }
+    requires fits { event_value event ≤ 782 }
     ensures next { result.0 ≡ after_event reading event }
-    ensures action { result.1 ≡ action_of reading event }
+    ensures action { result.1 ≡ action_on_event reading event }
     ensures bounded { IsBounded result.0 }
 {
     match reading.mode {

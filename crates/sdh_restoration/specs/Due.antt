@@ -3,7 +3,7 @@ use Rattle.std.specs.Prelude.{ℕ, ◌-◌, Bool, false, if◌then◌else◌, Li
 use Rattle.sdh_ringmap.specs.Numbering.{magnitude}
 use Rattle.sdh_ringmap.specs.Arcs.{is_joined}
 use Rattle.sdh_payload.specs.Customer.{Customer}
-use Rattle.sdh_payload.specs.History.{Happening, first_byte, value_now}
+use Rattle.sdh_payload.specs.History.{Happening, first_byte_now, value_now}
 use Rattle.sdh_payload.specs.Outlet.{Outlet, silent, delivering}
 use Rattle.sdh_payload.specs.Stream.{stream_from}
 use Rattle.sdh_circuits.specs.Provisioned.{Provisioned, arc_of}
@@ -16,7 +16,7 @@ nothing_applied s = false
 -- what a customer sends in the next round, after all that happened at its port: 2349 bytes from the one with which the round begins,
 -- with the pointer value before it
 abbrev pub sends_by : Customer → List Happening → Outlet
-sends_by customer history = delivering (magnitude (value_now customer.offset history)) (stream_from customer (first_byte history) 2349)
+sends_by customer history = delivering (magnitude (value_now customer.offset history)) (stream_from customer (first_byte_now history) 2349)
 
 -- What a port of a circuit is owed in round t, in a ring of n in which these spans are applied, where the circuit's other customer sends
 -- so in each round: where the circuit's ends are joined, what that one sent `hops` rounds before; AIS where they are not.

@@ -19,7 +19,7 @@ use Rattle.sdh_plant.specs.Fibres.{Arrival}
 use Rattle.sdh_terms.specs.Fibres.{fibre}
 use Rattle.sdh_plant.proofs.Calling.{stay_prepared, stay_honest}
 use Rattle.sdh_request.specs.declared.settings.Settings.{Settings}
-use Rattle.sdh_terminal.specs.Tributaries.{Tributary, ends_from, tributaries_at, port_of, outlet_of}
+use Rattle.sdh_terminal.specs.Tributaries.{Tributary, tributaries_from, tributaries_at, port_of, outlet_of}
 use Rattle.sdh_spans.specs.Sides.{IsInletAt, IsSenderAt}
 use Rattle.sdh_sncp.specs.Node.{PathNode, new_node, inlet_on, sending_on}
 use Rattle.sdh_sncp.specs.Ring.{new_nodes, new_ring, nowhere, AtEach, outlet_at}
@@ -114,7 +114,7 @@ node_silent : (s : Settings) (ids : List ℕ) (cs : List Provisioned) (p : ℕ) 
     → outlet_of id (new_node s ids cs (position_of p)).ports ≡ silent
 unfolding new_node tributaries_at
 node_silent s ids cs p id =
-    found_silent id (ends_from (position_of p) 0 cs) (new_ports (λ (t : Tributary). t.outlet ≡ silent) (λ i e d m c. refl)
+    found_silent id (tributaries_from (position_of p) 0 cs) (new_ports (λ (t : Tributary). t.outlet ≡ silent) (λ i e d m c. refl)
     (position_of p) 0 cs)
 
 place_silent : (s : Settings) (ids : List ℕ) (cs : List Provisioned) (n p : ℕ) (id : PortId)

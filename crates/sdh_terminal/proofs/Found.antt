@@ -18,7 +18,8 @@ use Rattle.sdh_circuits.specs.declared.Slot.{Slot}
 use Rattle.sdh_circuits.specs.Ends.{inward}
 use Rattle.sdh_circuits.specs.Provisioned.{Provisioned, customer_at, end_of, same_port}
 use Rattle.sdh_payload.specs.Customer.{Customer}
-use Rattle.sdh_terminal.specs.Tributaries.{Tributary, new_tributary, ends_at, ends_from, tributaries_at, is_port, port_of, HasPort}
+use Rattle.sdh_terminal.specs.Tributaries.{Tributary, new_tributary, tributaries_of, tributaries_from, tributaries_at, is_port, port_of}
+use Rattle.sdh_terminal.specs.Tributaries.{HasPort}
 use Rattle.sdh_terminal.specs.Fixed.{FixedPort, fixed_port}
 
 -- ---- the port that is found
@@ -99,34 +100,34 @@ other_end_fails : (i : ℕ) (c : Provisioned) → is_port (port_id i B) (port_ne
 other_end_fails i c = let t : eqb i i ≡ true = eq-eqb i i refl in rw t refl
 
 here : (at : Pos) (i : ℕ) (c : Provisioned) (cs : List Provisioned) (e : End) → (end_of c e).0 ≡ at.0
-    → find (is_port (port_id i e)) (ends_from at i (c ∷ cs)) ≡ Some (port_new i c e)
+    → find (is_port (port_id i e)) (tributaries_from at i (c ∷ cs)) ≡ Some (port_new i c e)
 here at i c cs A is =
-    first_of_two (port_id i A) (c.from.0 == at.0) (c.to.0 == at.0) (port_new i c A) (port_new i c B) (ends_from at (i + 1) cs)
+    first_of_two (port_id i A) (c.from.0 == at.0) (c.to.0 == at.0) (port_new i c A) (port_new i c B) (tributaries_from at (i + 1) cs)
     (eq-eqb c.from.0 at.0 is) (itself i A c)
 here at i c cs B is =
-    second_of_two (port_id i B) (c.from.0 == at.0) (c.to.0 == at.0) (port_new i c A) (port_new i c B) (ends_from at (i + 1) cs)
+    second_of_two (port_id i B) (c.from.0 == at.0) (c.to.0 == at.0) (port_new i c A) (port_new i c B) (tributaries_from at (i + 1) cs)
     (eq-eqb c.to.0 at.0 is) (other_end_fails i c) (itself i B c)
 
 there : (at : Pos) (i j : ℕ) (c : Provisioned) (cs : List Provisioned) (e : End) → i ≢ j
-    → find (is_port (port_id j e)) (ends_from at i (c ∷ cs)) ≡ find (is_port (port_id j e)) (ends_from at (i + 1) cs)
+    → find (is_port (port_id j e)) (tributaries_from at i (c ∷ cs)) ≡ find (is_port (port_id j e)) (tributaries_from at (i + 1) cs)
 there at i j c cs e apart =
-    skipped (port_id j e) (c.from.0 == at.0) (c.to.0 == at.0) (port_new i c A) (port_new i c B) (ends_from at (i + 1) cs)
+    skipped (port_id j e) (c.from.0 == at.0) (c.to.0 == at.0) (port_new i c A) (port_new i c B) (tributaries_from at (i + 1) cs)
     (other_number i j e A c apart) (other_number i j e B c apart)
 
 among : (at : Pos) (cs : List Provisioned) (i j : ℕ) (c : Provisioned) (e : End) → slice_get cs j ≡ Some c → (end_of c e).0 ≡ at.0
-    → find (is_port (port_id (i + j) e)) (ends_from at i cs) ≡ Some (port_new (i + j) c e)
+    → find (is_port (port_id (i + j) e)) (tributaries_from at i cs) ≡ Some (port_new (i + j) c e)
 among at [] i j c e get is = absurd (cc)
 among at (x ∷ cs) i zero c e get is =
     let same : x ≡ c = cc in
     let none : i + 0 ≡ i = omega arith in
-    ap (λ k. find (is_port (port_id k e)) (ends_from at i (x ∷ cs))) none
-    ∙ ap (λ y. find (is_port (port_id i e)) (ends_from at i (y ∷ cs))) same
+    ap (λ k. find (is_port (port_id k e)) (tributaries_from at i (x ∷ cs))) none
+    ∙ ap (λ y. find (is_port (port_id i e)) (tributaries_from at i (y ∷ cs))) same
     ∙ here at i c cs e is
     ∙ ap (λ k. Some (port_new k c e)) (sym none)
 among at (x ∷ cs) i (suc j) c e get is =
     let next : i + suc j ≡ (i + 1) + j = omega arith in
     there at i (i + suc j) x cs e (λ q. omega arith)
-    ∙ ap (λ k. find (is_port (port_id k e)) (ends_from at (i + 1) cs)) next
+    ∙ ap (λ k. find (is_port (port_id k e)) (tributaries_from at (i + 1) cs)) next
     ∙ among at cs (i + 1) j c e get is
     ∙ ap (λ k. Some (port_new k c e)) (sym next)
 
@@ -195,12 +196,12 @@ ports_mapped f i (t ∷ ts) same =
 
 -- of new ports
 pub new_ports : (P : Tributary → Type 0) → ((i : ℕ) (e : End) (d : Side) (s : Slot) (c : Customer) → P (new_tributary i e d s c))
-    → (at : Pos) (i : ℕ) (cs : List Provisioned) → All P (ends_from at i cs)
+    → (at : Pos) (i : ℕ) (cs : List Provisioned) → All P (tributaries_from at i cs)
 new_ports P each at i [] = All-nil P
 new_ports P each at i (c ∷ cs) =
     let a = new_tributary i A East c.slot c.a in
     let b = new_tributary i B West c.slot c.b in
-    All-append P (ends_at at i c) (ends_from at (i + 1) cs)
+    All-append P (tributaries_of at i c) (tributaries_from at (i + 1) cs)
     (All-append P (if c.from.0 == at.0 then a ∷ [] else []) (if c.to.0 == at.0 then b ∷ [] else [])
     (cond_both (c.from.0 == at.0) (a ∷ []) [] (All P) (λ _. All-cons P a [] (each i A East c.slot c.a) (All-nil P)) (λ _. All-nil P))
     (cond_both (c.to.0 == at.0) (b ∷ []) [] (All P) (λ _. All-cons P b [] (each i B West c.slot c.b) (All-nil P)) (λ _. All-nil P)))
@@ -229,7 +230,7 @@ found-right p (x ∷ xs) ys h = go (p x) refl (found-right p xs ys h)
 
 -- the port of a circuit is at its end
 own_here : (at : Pos) (k n : ℕ) (c : Provisioned) (e : End) → k ≡ n → (end_of c e).0 ≡ at.0
-    → IsSome (find (is_port (record { circuit = n; end = e })) (ends_at at k c))
+    → IsSome (find (is_port (record { circuit = n; end = e })) (tributaries_of at k c))
 own_here at k n c A same there =
     let t : (c.from.0 == at.0) ≡ true = grind (arith, nat_tests) in
     let u : (k == n) ≡ true = grind (arith, nat_tests) in
@@ -242,13 +243,13 @@ own_here at k n c B same there =
     (rw t (rw u refl))
 
 own_from : (at : Pos) (k i n : ℕ) (cs : List Provisioned) (c : Provisioned) (e : End) → i < length cs → get_or cs i c ≡ c → k + i ≡ n
-    → (end_of c e).0 ≡ at.0 → IsSome (find (is_port (record { circuit = n; end = e })) (ends_from at k cs))
+    → (end_of c e).0 ≡ at.0 → IsSome (find (is_port (record { circuit = n; end = e })) (tributaries_from at k cs))
 own_from at k i n [] c e h read same there = absurd (omega arith)
 own_from at k zero n (x ∷ cs) c e h read same there =
-    found-left (is_port (record { circuit = n; end = e })) (ends_at at k x) (ends_from at (k + 1) cs)
+    found-left (is_port (record { circuit = n; end = e })) (tributaries_of at k x) (tributaries_from at (k + 1) cs)
     (own_here at k n x e (omega arith) (ap (λ y. (end_of y e).0) read ∙ there))
 own_from at k (suc i) n (x ∷ cs) c e h read same there =
-    found-right (is_port (record { circuit = n; end = e })) (ends_at at k x) (ends_from at (k + 1) cs)
+    found-right (is_port (record { circuit = n; end = e })) (tributaries_of at k x) (tributaries_from at (k + 1) cs)
     (own_from at (k + 1) i n cs c e (omega arith) read (omega arith) there)
 
 -- each port of a circuit is among the ports at its position

@@ -16,8 +16,8 @@ use Rattle.sdh_circuits.specs.Provisioned.{Provisioned}
 use Rattle.sdh_circuits.specs.declared.End.{End}
 use Rattle.sdh_circuits.specs.declared.End.TheVariants.{A, B}
 use Rattle.sdh_circuits.specs.declared.PortId.{PortId}
-use Rattle.sdh_terminal.specs.Tributaries.{Tributary, new_tributary, ends_at, ends_from, tributaries_at, is_port, fed, all_fed}
-use Rattle.sdh_terminal.specs.Tributaries.{delivered_with, all_delivered_with}
+use Rattle.sdh_terminal.specs.Tributaries.{Tributary, new_tributary, tributaries_of, tributaries_from, tributaries_at, is_port, fed}
+use Rattle.sdh_terminal.specs.Tributaries.{all_fed, delivered_with, all_delivered_with}
 use Rattle.sdh_terminal.specs.Passing.{Input}
 use Rattle.sdh_terminal.specs.Places.{number_at, number_of, port_numbered, ArePlaces}
 
@@ -66,13 +66,13 @@ none-there p ts all =
     rw (n, t) refl
 
 -- the circuit of each port is one of the ring's
-below : (at : Pos) (i : ℕ) (circuits : List Provisioned) → All (λ t. t.port.circuit < i + length circuits) (ends_from at i circuits)
+below : (at : Pos) (i : ℕ) (circuits : List Provisioned) → All (λ t. t.port.circuit < i + length circuits) (tributaries_from at i circuits)
 below at i [] = All-nil (λ t. t.port.circuit < i + 0)
 below at i (c ∷ cs) =
     let p : Tributary → Type 0 = λ t. t.port.circuit < i + length (c ∷ cs) in
     let a = new_tributary i A East c.slot c.a in
     let b = new_tributary i B West c.slot c.b in
-    All-append p (ends_at at i c) (ends_from at (i + 1) cs)
+    All-append p (tributaries_of at i c) (tributaries_from at (i + 1) cs)
     (All-append p (if c.from.0 == at.0 then a ∷ [] else []) (if c.to.0 == at.0 then b ∷ [] else [])
     (cond_both (c.from.0 == at.0) (a ∷ []) [] (All p) (λ _. All-cons p a [] (omega arith) (All-nil p)) (λ _. All-nil p))
     (cond_both (c.to.0 == at.0) (b ∷ []) [] (All p) (λ _. All-cons p b [] (omega arith) (All-nil p)) (λ _. All-nil p)))
@@ -85,7 +85,7 @@ beyond : (at : Pos) (circuits : List Provisioned) (id : PortId) → length circu
     → position (is_port id) (tributaries_at at circuits) ≡ None
 unfolding tributaries_at
 beyond at circuits id h =
-    none-there (is_port id) (ends_from at 0 circuits) (λ k d lt. other id (get_or (ends_from at 0 circuits) k d)
+    none-there (is_port id) (tributaries_from at 0 circuits) (λ k d lt. other id (get_or (tributaries_from at 0 circuits) k d)
     (omega (arith, below at 0 circuits k d lt)))
 
 few : (e : End) → number_at e ≤ 1

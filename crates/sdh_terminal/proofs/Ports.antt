@@ -16,8 +16,8 @@ use Rattle.sdh_payload.specs.declared.chunk.ChunkForm.{ChunkForm}
 use Rattle.sdh_payload.specs.declared.chunk.ChunkForm.TheVariants.{Plain, Short, Long}
 use Rattle.sdh_payload.specs.declared.clock.Turn.{Turn}
 use Rattle.sdh_payload.specs.declared.clock.Turn.TheVariants.{Up, Down}
-use Rattle.sdh_payload.specs.Chunk.{taken_len, laid, laid_h3}
-use Rattle.sdh_payload.specs.Clock.{Clock, waits, next_form, after_form, ticked, last_from}
+use Rattle.sdh_payload.specs.Chunk.{taken_len, laid_payload, laid_h3}
+use Rattle.sdh_payload.specs.Clock.{Clock, with_waiting, next_form, after_form, ticked, last_from}
 use Rattle.sdh_payload.specs.Feed.{Fed, next_feed}
 use Rattle.sdh_payload.specs.Stream.{stream_from}
 use Rattle.sdh_payload.proofs.Chunks.{length-stream_from}
@@ -35,8 +35,8 @@ use Rattle.sdh_circuits.specs.Provisioning.{Provisioning, IsProvisioning, IsInSl
 use Rattle.sdh_pointer.specs.declared.word.Form.{Form}
 use Rattle.std.specs.Option.{option_map_or}
 use Rattle.sdh_terminal.specs.Passing.{Input, h3_of, au_with, au_for, no_input}
-use Rattle.sdh_terminal.specs.Tributaries.{Tributary, new_tributary, ends_at, ends_from, tributaries_at, is_port, port_of, sent_in}
-use Rattle.sdh_terminal.specs.Tributaries.{input_by, added_by, own_input, added_last, action_of, last_sent, sent_by, fed, all_fed}
+use Rattle.sdh_terminal.specs.Tributaries.{Tributary, new_tributary, tributaries_of, tributaries_from, tributaries_at, is_port, port_of}
+use Rattle.sdh_terminal.specs.Tributaries.{sent_in, input_by, added_by, own_input, added_last, action_of, last_sent, sent_by, fed, all_fed}
 use Rattle.sdh_terminal.specs.Tributaries.{delivered_with, all_delivered_with, IsTributary, IsFed}
 
 -- ---- the search for a port
@@ -138,18 +138,18 @@ sent_from Long c = omega arith
 
 pub fed_kept : (old : Fed) (form : ChunkForm) (bytes payload h3 : List ℕ) → form ≡ next_form old.clock
     → bytes ≡ stream_from old.port old.clock.sent (taken_len form)
-    → payload ≡ laid form bytes → h3 ≡ laid_h3 form bytes → length payload ≡ 2349 → IsFed (next_feed old) payload h3
+    → payload ≡ laid_payload form bytes → h3 ≡ laid_h3 form bytes → length payload ≡ 2349 → IsFed (next_feed old) payload h3
 unfolding sent_by ticked
 fed_kept old form bytes payload h3 is are lay three full =
     let c = old.clock in
     let f : (after_form (next_form c) c).form ≡ form = form_after (next_form c) c ∙ sym is in
     let from : last_from (after_form (next_form c) c) ≡ c.sent = sent_from (next_form c) c in
     let sent : last_sent (next_feed old) ≡ bytes = (λ j. stream_from old.port (from j) (taken_len (f j))) ∙ sym are in
-    record { full = full; payload_is = lay ∙ sym (λ j. laid (f j) (sent j)); h3_is = three ∙ sym (λ j. laid_h3 (f j) (sent j)) }
+    record { full = full; payload_is = lay ∙ sym (λ j. laid_payload (f j) (sent j)); h3_is = three ∙ sym (λ j. laid_h3 (f j) (sent j)) }
 
 -- slips that wait change nothing of it
 pub slipped_kept : (feed : Fed) (turn : Turn) (count : ℕ) (payload h3 : List ℕ) → IsFed feed payload h3
-    → IsFed (record feed { clock = waits turn count feed.clock }) payload h3
+    → IsFed (record feed { clock = with_waiting turn count feed.clock }) payload h3
 unfolding sent_by
 slipped_kept feed Up count payload h3 h = record { full = h.full; payload_is = h.payload_is; h3_is = h.h3_is }
 slipped_kept feed Down count payload h3 h = record { full = h.full; payload_is = h.payload_is; h3_is = h.h3_is }
@@ -215,22 +215,23 @@ fed_are slots rounds ports all =
 -- ---- the ports of a ring's circuits at a position
 
 ends-append : (at : Pos) (i : ℕ) (xs ys : List Provisioned)
-    → ends_from at i (xs ++ ys) ≡ ends_from at i xs ++ ends_from at (i + length xs) ys
-ends-append at i [] ys = ap (λ k. ends_from at k ys) (omega arith)
+    → tributaries_from at i (xs ++ ys) ≡ tributaries_from at i xs ++ tributaries_from at (i + length xs) ys
+ends-append at i [] ys = ap (λ k. tributaries_from at k ys) (omega arith)
 ends-append at i (x ∷ xs) ys =
-    ap (λ r. ends_at at i x ++ r) (ends-append at (i + 1) xs ys ∙ ap (λ k. ends_from at (i + 1) xs ++ ends_from at k ys) (omega arith))
-    ∙ sym (append_assoc (ends_at at i x) (ends_from at (i + 1) xs) (ends_from at (i + length (x ∷ xs)) ys))
+    ap (λ r. tributaries_of at i x ++ r) (ends-append at (i + 1) xs ys
+    ∙ ap (λ k. tributaries_from at (i + 1) xs ++ tributaries_from at k ys) (omega arith))
+    ∙ sym (append_assoc (tributaries_of at i x) (tributaries_from at (i + 1) xs) (tributaries_from at (i + length (x ∷ xs)) ys))
 
 -- the ports of one circuit more
 pub ends_more : (at : Pos) (circuits : List Provisioned) (i : ℕ) (c : Provisioned) → slice_get circuits i ≡ Some c → i < length circuits
-    → ends_from at 0 (take (i + 1) circuits) ≡ ends_from at 0 (take i circuits) ++ ends_at at i c
+    → tributaries_from at 0 (take (i + 1) circuits) ≡ tributaries_from at 0 (take i circuits) ++ tributaries_of at i c
 ends_more at circuits i c read h =
     let len : 0 + length (take i circuits) ≡ i = omega (arith, length-take-le i circuits) in
     let there : get_or circuits i c ≡ c = get_or_from_slice_get circuits i c c read in
-    ap (ends_from at 0) (take_more circuits i c h) ∙ ends-append at 0 (take i circuits) (get_or circuits i c ∷ [])
-    ∙ ap (λ k. ends_from at 0 (take i circuits) ++ ends_from at k (get_or circuits i c ∷ [])) len
-    ∙ ap (λ x. ends_from at 0 (take i circuits) ++ (ends_at at i x ++ [])) there
-    ∙ ap (λ r. ends_from at 0 (take i circuits) ++ r) (append-nil (ends_at at i c))
+    ap (tributaries_from at 0) (take_more circuits i c h) ∙ ends-append at 0 (take i circuits) (get_or circuits i c ∷ [])
+    ∙ ap (λ k. tributaries_from at 0 (take i circuits) ++ tributaries_from at k (get_or circuits i c ∷ [])) len
+    ∙ ap (λ x. tributaries_from at 0 (take i circuits) ++ (tributaries_of at i x ++ [])) there
+    ∙ ap (λ r. tributaries_from at 0 (take i circuits) ++ r) (append-nil (tributaries_of at i c))
 
 new_is : (slots i : ℕ) (e : End) (d : Side) (m : Slot) (p : Customer) → 1 ≤ m.0 → m.0 ≤ slots → p.offset ≤ 782
     → IsTributary slots 0 (new_tributary i e d m p)
@@ -244,7 +245,7 @@ new_is slots i e d m p low high small =
     }
 
 ends_are : (slots : ℕ) (at : Pos) (i : ℕ) (circuits : List Provisioned) → All (IsInSlots slots) circuits → All HasOffsets circuits
-    → All (IsTributary slots 0) (ends_from at i circuits)
+    → All (IsTributary slots 0) (tributaries_from at i circuits)
 ends_are slots at i [] all offsets = All-nil (IsTributary slots 0)
 ends_are slots at i (c ∷ cs) all offsets =
     let p = IsTributary slots 0 in
@@ -252,7 +253,7 @@ ends_are slots at i (c ∷ cs) all offsets =
     let small : HasOffsets c = offsets 0 c (omega arith) in
     let a = new_tributary i A East c.slot c.a in
     let b = new_tributary i B West c.slot c.b in
-    All-append p (ends_at at i c) (ends_from at (i + 1) cs)
+    All-append p (tributaries_of at i c) (tributaries_from at (i + 1) cs)
     (All-append p (if c.from.0 == at.0 then a ∷ [] else []) (if c.to.0 == at.0 then b ∷ [] else [])
     (cond_both (c.from.0 == at.0) (a ∷ []) [] (All p) (λ _. All-cons p a []
     (new_is slots i A East c.slot c.a here.from_1 here.small small.a) (All-nil p)) (λ _. All-nil p))

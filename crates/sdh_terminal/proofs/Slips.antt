@@ -9,7 +9,7 @@ use Rattle.std.proofs.lemmas.List.Elements.{All-nil, All-cons}
 use Rattle.std.proofs.lemmas.List.Quantifiers.{position-Some}
 use Rattle.sdh_payload.specs.declared.clock.Turn.{Turn}
 use Rattle.sdh_payload.specs.declared.clock.Turn.TheVariants.{Up, Down}
-use Rattle.sdh_payload.specs.Clock.{Clock, IsClock, waiting, waits}
+use Rattle.sdh_payload.specs.Clock.{Clock, IsClock, waiting, with_waiting}
 use Rattle.sdh_circuits.specs.declared.End.{End}
 use Rattle.sdh_circuits.specs.declared.End.TheVariants.{A, B}
 use Rattle.sdh_circuits.specs.declared.PortId.{PortId}
@@ -124,11 +124,11 @@ unslipped other id turn count apart (Some t) = rw apart refl
 -- ---- what is true of each
 
 clock_waits : (offset rounds : ℕ) (turn : Turn) (count : ℕ) (c : Clock) → IsClock offset rounds c
-    → IsClock offset rounds (waits turn count c)
+    → IsClock offset rounds (with_waiting turn count c)
 clock_waits offset rounds Up count c h = record { rounds_are = h.rounds_are; rest_few = h.rest_few; value_small = h.value_small }
 clock_waits offset rounds Down count c h = record { rounds_are = h.rounds_are; rest_few = h.rest_few; value_small = h.value_small }
 
-pub waiting_more : (turn : Turn) (count : ℕ) (c : Clock) → waiting (waits turn count c) ≡ waiting c + count
+pub waiting_more : (turn : Turn) (count : ℕ) (c : Clock) → waiting (with_waiting turn count c) ≡ waiting c + count
 waiting_more Up count c = omega arith
 waiting_more Down count c = omega arith
 

@@ -15,9 +15,9 @@ use Rattle.sdh_payload.specs.Feed.{Fed, new_feed, next_feed}
 use Rattle.sdh_payload.specs.Stream.{stream_from}
 use Rattle.sdh_payload.specs.declared.chunk.ChunkForm.{ChunkForm}
 use Rattle.sdh_payload.specs.declared.chunk.ChunkForm.TheVariants.{Plain, Short, Long}
-use Rattle.sdh_payload.specs.Chunk.{taken_len, laid, laid_h3}
+use Rattle.sdh_payload.specs.Chunk.{taken_len, laid_payload, laid_h3}
 use Rattle.sdh_payload.specs.declared.clock.Turn.{Turn}
-use Rattle.sdh_payload.specs.Clock.{IsClock, waiting, waits, last_from}
+use Rattle.sdh_payload.specs.Clock.{IsClock, waiting, with_waiting, last_from}
 use Rattle.sdh_pointer.specs.declared.reading.Action.{Action}
 use Rattle.sdh_pointer.specs.declared.reading.Action.TheVariants as action
 use Rattle.sdh_terminal.specs.Passing.{Input, no_input}
@@ -47,18 +47,18 @@ new_tributary circuit end side slot customer = record {
 }
 
 -- the ports of circuit number i at a position: where its arc starts port A, on the east side, and where it ends port B, on the west side
-abbrev pub ends_at : Pos → ℕ → Provisioned → List Tributary
-ends_at at i c =
+abbrev pub tributaries_of : Pos → ℕ → Provisioned → List Tributary
+tributaries_of at i c =
     (if c.from.0 == at.0 then new_tributary i A East c.slot c.a ∷ [] else [])
     ++ (if c.to.0 == at.0 then new_tributary i B West c.slot c.b ∷ [] else [])
 
 -- those of circuits that are numbered from i on
-abbrev pub ends_from : Pos → ℕ → List Provisioned → List Tributary
-ends_from at i [] = []
-ends_from at i (c ∷ cs) = ends_at at i c ++ ends_from at (i + 1) cs
+abbrev pub tributaries_from : Pos → ℕ → List Provisioned → List Tributary
+tributaries_from at i [] = []
+tributaries_from at i (c ∷ cs) = tributaries_of at i c ++ tributaries_from at (i + 1) cs
 
 unfoldable pub tributaries_at : Pos → List Provisioned → List Tributary
-tributaries_at at circuits = ends_from at 0 circuits
+tributaries_at at circuits = tributaries_from at 0 circuits
 
 -- ---- a port among them
 
@@ -85,7 +85,7 @@ waiting_of id ports = option_map_or (λ t. waiting t.feed.clock) (port_of id por
 
 -- so many more slips wait at a port
 abbrev pub slipped : Turn → ℕ → Tributary → Tributary
-slipped turn count t = record t { feed = record t.feed { clock = waits turn count t.feed.clock } }
+slipped turn count t = record t { feed = record t.feed { clock = with_waiting turn count t.feed.clock } }
 
 -- at the port with this name
 unfoldable pub with_slips : PortId → Turn → ℕ → List Tributary → List Tributary
@@ -95,7 +95,7 @@ with_slips id turn count (t ∷ ports) = if is_port id t then slipped turn count
 -- ---- what it sends
 
 -- the payload of its AU-4 and its H3 bytes, what the pointer generator is asked for, and the pointer value after it
-pub record Added : Type 0 where
+pub record AddedPayload : Type 0 where
   pub payload : List ℕ
   pub h3 : List ℕ
   pub action : Action
@@ -112,20 +112,20 @@ abbrev pub last_sent : Fed → List ℕ
 last_sent feed = stream_from feed.port (last_from feed.clock) (taken_len feed.clock.form)
 
 -- in the round that leaves its feed like this
-unfoldable pub sent_by : Fed → Added
+unfoldable pub sent_by : Fed → AddedPayload
 sent_by feed = record {
-  payload = laid feed.clock.form (last_sent feed);
+  payload = laid_payload feed.clock.form (last_sent feed);
   h3 = laid_h3 feed.clock.form (last_sent feed);
   action = action_of feed.clock.form;
   value = feed.clock.value;
 }
 
 -- in the round that finds its feed like this
-abbrev pub sent_in : Fed → Added
+abbrev pub sent_in : Fed → AddedPayload
 sent_in feed = sent_by (next_feed feed)
 
 -- what goes into its AU-4
-abbrev pub input_by : Added → Input
+abbrev pub input_by : AddedPayload → Input
 input_by a = record { action = a.action; value = a.value; au = record { pointers = 0 ∷ 0 ∷ 0 ∷ 0 ∷ 0 ∷ 0 ∷ a.h3; payload = a.payload } }
 
 -- what the port of this name adds, of ports as a round finds them

@@ -4,7 +4,7 @@ ghost use Rattle.sdh_circuits.specs.Provisioned.{customer_at};
 ghost use Rattle.sdh_interchange.specs.Taking.{IsOf};
 ghost use Rattle.sdh_payload.specs.Stream.{stream_from};
 ghost use Rattle.sdh_payload.specs.Clock.{waiting};
-ghost use Rattle.sdh_terminal.specs.Tributaries.{new_tributary, ends_at, tributaries_at, is_port, sent_by, action_of, slipped, fed, all_fed, delivered_with, all_delivered_with, IsTributary};
+ghost use Rattle.sdh_terminal.specs.Tributaries.{new_tributary, tributaries_of, tributaries_at, is_port, sent_by, action_of, slipped, fed, all_fed, delivered_with, all_delivered_with, IsTributary};
 ghost use Rattle.sdh_terms.specs.Rates.{n_of};
 ghost use Rattle.sdh_terminal.specs.Lines.{dropped_by};
 
@@ -237,7 +237,7 @@ fn add_ends(
     number: u8,
     circuit: &Circuit,
 ) -> Result<(), AllocError>
-    ensures { OnOk result (ports.new.items ≡ ports.old.items ++ ends_at at number circuit.now) }
+    ensures { OnOk result (ports.new.items ≡ ports.old.items ++ tributaries_of at number circuit.now) }
 {
     let start = PortId {
         circuit: number,

@@ -7,7 +7,7 @@ use Rattle.sdh_payload.specs.declared.clock.Turn.{Turn}
 use Rattle.sdh_payload.specs.declared.clock.Turn.TheVariants.{Up, Down}
 use Rattle.sdh_payload.specs.declared.chunk.ChunkForm.{ChunkForm}
 use Rattle.sdh_payload.specs.declared.chunk.ChunkForm.TheVariants.{Plain, Short, Long}
-use Rattle.sdh_payload.specs.Clock.{Clock, new_clock, waiting, waits, next_form, after_form, ticked, ticks}
+use Rattle.sdh_payload.specs.Clock.{Clock, new_clock, waiting, with_waiting, next_form, after_form, ticked, ticks}
 use Rattle.sdh_payload.proofs.Clocking.{goes_on}
 use Rattle.sdh_promise.specs.Changes as change
 use Rattle.sdh_promise.specs.Changes.{Change, Stretch}
@@ -33,7 +33,7 @@ pub record IsInStep (offset : ℕ) (c : Clock) : Type 0 where
 step_new : (offset : ℕ) → offset ≤ 782 → IsInStep offset (new_clock offset)
 step_new offset small = record { small = small; step = clocks_are_in_step.first offset small }
 
-step_waits : (offset : ℕ) (turn : Turn) (count : ℕ) (c : Clock) → IsInStep offset c → IsInStep offset (waits turn count c)
+step_waits : (offset : ℕ) (turn : Turn) (count : ℕ) (c : Clock) → IsInStep offset c → IsInStep offset (with_waiting turn count c)
 step_waits offset Up count c is = record { small = is.small; step = clocks_are_in_step.told offset Up count c is.step }
 step_waits offset Down count c is = record { small = is.small; step = clocks_are_in_step.told offset Down count c is.step }
 
@@ -59,7 +59,7 @@ step_after offset port (change.Order q e command) c is = is
 step_after offset port (change.Hold q turns) c is = is
 step_after offset port (change.Slip other turn count) c is = by (same_port port other)
   where
-    by : (b : Bool) → IsInStep offset (if b then waits turn count c else c)
+    by : (b : Bool) → IsInStep offset (if b then with_waiting turn count c else c)
     by true = step_waits offset turn count c is
     by false = is
 step_after offset port (change.Now t) c is = is

@@ -19,12 +19,12 @@ use Rattle.sdh_circuits.specs.Provisioned.{Provisioned, end_of, customer_at, sam
 use Rattle.sdh_circuits.specs.Provisioning.{Provisioning}
 use Rattle.sdh_payload.specs.declared.clock.Turn.{Turn}
 use Rattle.sdh_payload.specs.declared.clock.Turn.TheVariants.{Up, Down}
-use Rattle.sdh_payload.specs.Clock.{Clock, new_clock, waiting, waits, ticked, ticks}
+use Rattle.sdh_payload.specs.Clock.{Clock, new_clock, waiting, with_waiting, ticked, ticks}
 use Rattle.sdh_payload.proofs.Clocking.{slips_run_out}
 use Rattle.sdh_plant.specs.Fibres.{Arrival}
 use Rattle.sdh_request.specs.declared.settings.Settings.{Settings}
-use Rattle.sdh_terminal.specs.Tributaries.{Tributary, new_tributary, ends_at, ends_from, tributaries_at, is_port, port_of, slipped}
-use Rattle.sdh_terminal.specs.Tributaries.{with_slips, fed, all_fed}
+use Rattle.sdh_terminal.specs.Tributaries.{Tributary, new_tributary, tributaries_of, tributaries_from, tributaries_at, is_port, port_of}
+use Rattle.sdh_terminal.specs.Tributaries.{slipped, with_slips, fed, all_fed}
 use Rattle.sdh_node.specs.Crossing.{Cross, delivered_to, all_delivered}
 use Rattle.sdh_node.specs.Node.{Node, new_node, at_receiving, held_for, slips_at, crossing, ports_after, after_crossing, with_calm}
 use Rattle.sdh_node.specs.Node.{node_round}
@@ -112,13 +112,14 @@ node_met id west east n = follows_same (port_of id n.ports)
 
 -- its own slips
 ports_slipped : (id : PortId) (turn : Turn) (count : ℕ) (ts : List Tributary)
-    → Follows (waits turn count) (port_of id ts) (port_of id (with_slips id turn count ts))
+    → Follows (with_waiting turn count) (port_of id ts) (port_of id (with_slips id turn count ts))
 unfolding port_of with_slips
 ports_slipped id turn count [] = λ there. absurd (cc)
 ports_slipped id turn count (t ∷ ts) = by (is_port id t) refl (ports_slipped id turn count ts)
   where
-    by : (b : Bool) → is_port id t ≡ b → Follows (waits turn count) (find (is_port id) ts) (find (is_port id) (with_slips id turn count ts))
-        → Follows (waits turn count) (find (is_port id) (t ∷ ts))
+    by : (b : Bool) → is_port id t ≡ b → Follows (with_waiting turn count) (find (is_port id) ts)
+        (find (is_port id) (with_slips id turn count ts))
+        → Follows (with_waiting turn count) (find (is_port id) (t ∷ ts))
         (find (is_port id) (if b then slipped turn count t ∷ ts else t ∷ with_slips id turn count ts))
     by true e rest = rw e (λ there. (refl, refl))
     by false e rest = rw e rest
@@ -167,7 +168,7 @@ slips_keep P id turn count (t ∷ ts) keep all = by (is_port id t) refl (slips_k
     by true e later = All-cons P (slipped turn count t) ts (keep t (find_head id t ts e) here) rest
     by false e later = All-cons P t (with_slips id turn count ts) here (later (λ u found. keep u (find_tail id t ts e ∙ found)) rest)
 
-pub few_waits : (turn : Turn) (count : ℕ) (c : Clock) → waiting c + count ≤ 16 → waiting (waits turn count c) ≤ 16
+pub few_waits : (turn : Turn) (count : ℕ) (c : Clock) → waiting c + count ≤ 16 → waiting (with_waiting turn count c) ≤ 16
 few_waits Up count c h = omega (arith, h)
 few_waits Down count c h = omega (arith, h)
 
@@ -214,7 +215,7 @@ waiting_found r id n t node port =
     (new_clock 0))) node
     ∙ ap (λ o. waiting (option_map_or (λ (u : Tributary). u.feed.clock) o (new_clock 0))) port
 
-rest_waits : (turn : Turn) (count : ℕ) (c : Clock) → (waits turn count c).rest ≡ c.rest
+rest_waits : (turn : Turn) (count : ℕ) (c : Clock) → (with_waiting turn count c).rest ≡ c.rest
 rest_waits Up count c = refl
 rest_waits Down count c = refl
 
@@ -271,11 +272,11 @@ place_placed id change q r =
     (length-placed change q r.nodes)
 
 goes_slipped : (id other : PortId) (turn : Turn) (count : ℕ) (w : World) (b : Bool) → same_port id other ≡ b
-    → Goes id (λ c. if b then waits turn count c else c) w (changed (Slip other turn count) w)
+    → Goes id (λ c. if b then with_waiting turn count c else c) w (changed (Slip other turn count) w)
 unfolding changed
 goes_slipped id other turn count w true e =
     let v = record w { ring = record w.ring { nodes = at_place (place_of_port w.ring other) (slips_at other turn count) w.ring.nodes } } in
-    let f = waits turn count in
+    let f = with_waiting turn count in
     let p = place_of_port w.ring id in
     goes_at id f w v (place_placed id (slips_at other turn count) (place_of_port w.ring other) w.ring)
     (subst (λ o. Follows f (port_at id w.ring.nodes p) (port_at id
@@ -386,14 +387,14 @@ unfolding first_clock
 first_new all i c e side here = ap (λ o. new_clock (option_map_or (λ (x : Provisioned). (customer_at x e).offset) o 0)) (sym here)
 
 first_ends : (at : Pos) (i : ℕ) (all circuits : List Provisioned) → ((j : ℕ) → slice_get all (i + j) ≡ slice_get circuits j)
-    → All (IsFirst all) (ends_from at i circuits)
+    → All (IsFirst all) (tributaries_from at i circuits)
 first_ends at i all [] same = All-nil (IsFirst all)
 first_ends at i all (c ∷ cs) same =
     let p = IsFirst all in
     let here : slice_get all i ≡ Some c = ap (slice_get all) (let e : i ≡ i + 0 = omega arith in e) ∙ same 0 in
     let a = new_tributary i A East c.slot c.a in
     let b = new_tributary i B West c.slot c.b in
-    All-append p (ends_at at i c) (ends_from at (i + 1) cs)
+    All-append p (tributaries_of at i c) (tributaries_from at (i + 1) cs)
     (All-append p (if c.from.0 == at.0 then a ∷ [] else []) (if c.to.0 == at.0 then b ∷ [] else [])
     (cond_both (c.from.0 == at.0) (a ∷ []) [] (All p) (λ _. All-cons p a [] (first_new all i c A East here) (All-nil p)) (λ _. All-nil p))
     (cond_both (c.to.0 == at.0) (b ∷ []) [] (All p) (λ _. All-cons p b [] (first_new all i c B West here) (All-nil p)) (λ _. All-nil p)))
@@ -409,7 +410,7 @@ first_at : (s : Settings) (ids : List ℕ) (circuits : List Provisioned) (id : P
     → port_of id (new_node s ids circuits (position_of p)).ports ≡ o → IsSome o → clock_of o ≡ first_clock circuits id
 unfolding new_node tributaries_at
 first_at s ids circuits id p o is there =
-    first_of circuits id (ends_from (position_of p) 0 circuits) o
+    first_of circuits id (tributaries_from (position_of p) 0 circuits) o
     (first_ends (position_of p) 0 circuits circuits (λ j. ap (slice_get circuits) (let e : 0 + j ≡ j = omega arith in e))) is there
 
 first_found : (s : Settings) (ids : List ℕ) (circuits : List Provisioned) (id : PortId) (p : ℕ)

@@ -2,7 +2,7 @@
 -- happened at its port is the law `clocks_tell_what_happened`.
 use Rattle.std.specs.Prelude.{ℕ, ◌-◌, nat_lt, if◌then◌else◌, Option, IsSome, List, [], ◌∷◌, slice_get}
 use Rattle.std.specs.Option.{option_map_or, option_and_then}
-use Rattle.sdh_payload.specs.Clock.{Clock, new_clock, waiting, waits, ticks}
+use Rattle.sdh_payload.specs.Clock.{Clock, new_clock, waiting, with_waiting, ticks}
 use Rattle.sdh_circuits.specs.declared.PortId.{PortId}
 use Rattle.sdh_circuits.specs.Provisioned.{Provisioned, customer_at, same_port}
 use Rattle.sdh_terminal.specs.Tributaries.{Tributary, port_of}
@@ -44,7 +44,7 @@ clocks_from w port t = ticks (t - w.ring.rounds) (clock_at w.ring port)
 
 -- after a change
 abbrev pub clock_after : PortId → Change → Clock → Clock
-clock_after port (Slip other turn count) c = if same_port port other then waits turn count c else c
+clock_after port (Slip other turn count) c = if same_port port other then with_waiting turn count c else c
 clock_after port change c = c
 
 abbrev pub clock_changed : PortId → List Change → Clock → Clock

@@ -21,8 +21,8 @@ use Rattle.sdh_pointer.specs.Spreading.{IsSmall}
 use Rattle.sdh_pointer.specs.Laws.{IsSound}
 use Rattle.sdh_routes.specs.Walks.{IsOver}
 use Rattle.sdh_terminal.specs.Passing.{Input, no_input}
-use Rattle.sdh_terminal.specs.Tributaries.{Tributary, action_of, port_of, sent_by, sent_in, input_by, added_by, ends_at, ends_from}
-use Rattle.sdh_terminal.specs.Tributaries.{new_tributary, tributaries_at}
+use Rattle.sdh_terminal.specs.Tributaries.{Tributary, action_of, port_of, sent_by, sent_in, input_by, added_by, tributaries_of}
+use Rattle.sdh_terminal.specs.Tributaries.{tributaries_from, new_tributary, tributaries_at}
 use Rattle.sdh_node.specs.Node.{Node, crossing, ports_after, after_crossing, with_calm, node_round}
 use Rattle.sdh_terminal.proofs.Ports.{clock-next}
 use Rattle.sdh_node.specs.Crossing.{dropped_to, all_delivered}
@@ -150,13 +150,13 @@ end_small : (b : Bool) (t : Tributary) → HasSmall t → All HasSmall (if b the
 end_small true t h = All-cons HasSmall t [] h (All-nil HasSmall)
 end_small false t h = All-nil HasSmall
 
-ends_small : (at : Pos) (i : ℕ) (cs : List Provisioned) → All HasOffsets cs → All HasSmall (ends_from at i cs)
+ends_small : (at : Pos) (i : ℕ) (cs : List Provisioned) → All HasOffsets cs → All HasSmall (tributaries_from at i cs)
 ends_small at i [] all = All-nil HasSmall
 ends_small at i (c ∷ cs) all =
     let here : HasOffsets c = all 0 c (omega arith) in
     let a = new_tributary i A East c.slot c.a in
     let b = new_tributary i B West c.slot c.b in
-    All-append HasSmall (ends_at at i c) (ends_from at (i + 1) cs)
+    All-append HasSmall (tributaries_of at i c) (tributaries_from at (i + 1) cs)
     (All-append HasSmall (if c.from.0 == at.0 then a ∷ [] else []) (if c.to.0 == at.0 then b ∷ [] else [])
     (end_small (c.from.0 == at.0) a here.a) (end_small (c.to.0 == at.0) b here.b))
     (ends_small at (i + 1) cs (λ k d h. all (suc k) d (omega arith)))

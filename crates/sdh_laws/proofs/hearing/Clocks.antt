@@ -7,7 +7,7 @@ use Rattle.sdh_circuits.specs.Provisioned.{Provisioned}
 use Rattle.sdh_payload.specs.Feed.{Fed, next_feed}
 use Rattle.sdh_payload.specs.declared.clock.Turn.{Turn}
 use Rattle.sdh_payload.specs.declared.clock.Turn.TheVariants.{Up, Down}
-use Rattle.sdh_payload.specs.Clock.{Clock, IsClock, waiting, waits, ticked, ticks}
+use Rattle.sdh_payload.specs.Clock.{Clock, IsClock, waiting, with_waiting, ticked, ticks}
 use Rattle.sdh_payload.proofs.Clocking.{next_few, slips_run_out}
 use Rattle.sdh_terminal.specs.Tributaries.{Tributary, tributaries_at, with_slips}
 use Rattle.sdh_node.specs.Node.{Node}
@@ -74,7 +74,8 @@ ticked_out k ports late all i d lt = let h = all i d lt in ap (λ (c : Clock). w
 
 -- ---- after slips
 
-gone_waits : (turn : Turn) (count offset rounds : ℕ) (c : Clock) → IsClock offset rounds c → IsClock offset rounds (waits turn count c)
+gone_waits : (turn : Turn) (count offset rounds : ℕ) (c : Clock) → IsClock offset rounds c
+    → IsClock offset rounds (with_waiting turn count c)
 gone_waits Up count offset rounds c h = record { rounds_are = h.rounds_are; rest_few = h.rest_few; value_small = h.value_small }
 gone_waits Down count offset rounds c h = record { rounds_are = h.rounds_are; rest_few = h.rest_few; value_small = h.value_small }
 

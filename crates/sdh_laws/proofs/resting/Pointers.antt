@@ -1,6 +1,5 @@
 -- Interpreters and generators that calm rounds don't move.
-use Rattle.std.proofs.Common.{◌≡◌, ℕ, ◌+◌, ◌≤◌, Bool, true, false, Option, Some, None, refl, ap, ap₂, sym, ◌∙◌, subst, arith}
-use Rattle.std.proofs.Common.{inl, inr, ◌⊎◌}
+use Rattle.std.proofs.Common.{◌≡◌, ℕ, ◌+◌, ◌≤◌, Bool, true, false, Option, Some, None, refl, ap, ap₂, sym, ◌∙◌, subst, arith, inl, inr, ◌⊎◌}
 use Rattle.std.specs.Prelude.{nat_le, not, if◌then◌else◌}
 use Rattle.sdh_pointer.specs.declared.reading.Reading.{Reading}
 use Rattle.sdh_pointer.specs.declared.reading.Mode.TheVariants as mode
@@ -10,8 +9,8 @@ use Rattle.sdh_pointer.specs.declared.reading.Action.{Action}
 use Rattle.sdh_pointer.specs.declared.reading.Action.TheVariants as action
 use Rattle.sdh_pointer.specs.declared.word.Form.TheVariants as form
 use Rattle.sdh_pointer.specs.Words.{is_normal, value_in, word_of}
-use Rattle.sdh_pointer.specs.Reading.{Interpreter, is_norm, event_of, after_in, action_in, after_word, action_on, row_of, reading_table}
-use Rattle.sdh_pointer.specs.Reading.{settled, with_bad, later}
+use Rattle.sdh_pointer.specs.Reading.{Interpreter, is_norm, event_of, after_in, action_in, after_word, action_on, reading_row_of}
+use Rattle.sdh_pointer.specs.Reading.{reading_table, settled, with_bad, later}
 use Rattle.sdh_pointer.specs.Laws.{is_ais_action}
 use Rattle.sdh_pointer.specs.Sending.{word_sent, next_sending}
 use Rattle.sdh_pointer.proofs.Bounds.{answer_tells_mode}
@@ -78,7 +77,7 @@ not_norm false e = refl
 
 norm_bad : (r : Reading) → after_in mode.Norm event.Bad r ≡
     (if nat_le 8 (r.bad + 1) then settled mode.Lop r.value 0 else with_bad r (later r.since))
-unfolding after_in row_of reading_table
+unfolding after_in reading_row_of reading_table
 norm_bad r = refl
 
 -- of all events only a word of its value doesn't move it

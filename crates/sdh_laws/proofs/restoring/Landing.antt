@@ -11,7 +11,7 @@ use Rattle.sdh_pointer.specs.declared.reading.Event.TheVariants as event
 use Rattle.sdh_pointer.specs.declared.reading.Action.TheVariants as action
 use Rattle.sdh_pointer.specs.Words.{is_normal, is_enabled, value_in, one_up, one_down}
 use Rattle.sdh_pointer.specs.Reading.{normal_event, is_norm, goes_up, goes_down, after_in, action_in, after_word, action_on, settled}
-use Rattle.sdh_pointer.specs.Reading.{with_new, news_with, later, row_of, reading_table}
+use Rattle.sdh_pointer.specs.Reading.{with_new, news_with, later, reading_row_of, reading_table}
 use Rattle.sdh_pointer.specs.Repeated.{after_rounds}
 use Rattle.sdh_pointer.specs.Laws.{is_ais_action}
 use Rattle.sdh_pointer.proofs.Bounds.{answer_tells_mode}
@@ -24,15 +24,15 @@ use Rattle.sdh_pointer.proofs.Settling.{by_event, action_by_event, in_parts, sam
 
 norm_new_action : (r : Reading) (v : ℕ) → action_in mode.Norm (event.New v) r
     ≡ (if nat_le 3 (news_with r v) then action.New else action.Normal)
-unfolding action_in row_of reading_table
+unfolding action_in reading_row_of reading_table
 norm_new_action r v = refl
 
 ais_new_action : (r : Reading) (v : ℕ) → action_in mode.Ais (event.New v) r ≡ (if nat_le 3 (news_with r v) then action.New else action.Ais)
-unfolding action_in row_of reading_table
+unfolding action_in reading_row_of reading_table
 ais_new_action r v = refl
 
 lop_new_action : (r : Reading) (v : ℕ) → action_in mode.Lop (event.New v) r ≡ (if nat_le 3 (news_with r v) then action.New else action.Ais)
-unfolding action_in row_of reading_table
+unfolding action_in reading_row_of reading_table
 lop_new_action r v = refl
 
 -- ---- one enabled word

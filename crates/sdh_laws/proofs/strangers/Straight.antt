@@ -27,10 +27,10 @@ use Rattle.sdh_pointer.specs.declared.reading.Action.{Action}
 use Rattle.sdh_payload.specs.declared.clock.Turn.{Turn}
 use Rattle.sdh_payload.specs.declared.clock.Turn.TheVariants.{Up, Down}
 use Rattle.sdh_payload.specs.Customer.{Customer}
-use Rattle.sdh_payload.specs.Chunk.{taken, taken_len, laid, laid_h3}
+use Rattle.sdh_payload.specs.Chunk.{taken, taken_len, laid_payload, laid_h3}
 use Rattle.sdh_payload.proofs.Chunks.{length-stream_from, what_is_laid_is_taken}
 use Rattle.sdh_pointer.specs.declared.reading.Reading.{Reading}
-use Rattle.sdh_payload.specs.Clock.{Clock, waits, after_form, ticked, ticks, next_form, last_from}
+use Rattle.sdh_payload.specs.Clock.{Clock, with_waiting, after_form, ticked, ticks, next_form, last_from}
 use Rattle.sdh_payload.specs.Outlet.{Outlet, silent, delivering}
 use Rattle.sdh_payload.specs.Stream.{stream_from}
 use Rattle.sdh_payload.proofs.Clocking.{form_ticked}
@@ -91,7 +91,7 @@ module _ (q : PortId) where
   alike_on : (a b c : Clock) → IsAlike a b → IsAlike b c → IsAlike a c
   alike_on a b c x y = record { rest = y.rest ∙ x.rest; value = y.value ∙ x.value }
 
-  waits_alike : (turn : Turn) (count : ℕ) (c : Clock) → IsAlike c (waits turn count c)
+  waits_alike : (turn : Turn) (count : ℕ) (c : Clock) → IsAlike c (with_waiting turn count c)
   waits_alike Up k c = record { rest = refl; value = refl }
   waits_alike Down k c = record { rest = refl; value = refl }
 
@@ -104,7 +104,7 @@ module _ (q : PortId) where
   change_alike (Order p d command) c = record { rest = refl; value = refl }
   change_alike (Hold p turns) c = record { rest = refl; value = refl }
   change_alike (Slip other turn count) c =
-      if_alike (same_port q other) c (waits turn count c) c (waits_alike turn count c) (record { rest = refl; value = refl })
+      if_alike (same_port q other) c (with_waiting turn count c) c (waits_alike turn count c) (record { rest = refl; value = refl })
   change_alike (Now t) c = record { rest = refl; value = refl }
 
   changes_alike : (xs : List Change) (c : Clock) → IsAlike c (clock_changed q xs c)
@@ -202,17 +202,17 @@ three (a ∷ b ∷ c ∷ e ∷ l) h = absurd (omega arith)
 long_h3 : (l : List ℕ) → length l ≡ 2352 → length (laid_h3 Long l) ≡ 3
 long_h3 l h = length-take-le 3 (drop 783 l) (omega (arith, length-drop 783 l))
 
-taken_by : (f : ChunkForm) (b payload h3 : List ℕ) → length b ≡ taken_len f → payload ≡ laid f b → (f ≡ Long → h3 ≡ laid_h3 f b)
+taken_by : (f : ChunkForm) (b payload h3 : List ℕ) → length b ≡ taken_len f → payload ≡ laid_payload f b → (f ≡ Long → h3 ≡ laid_h3 f b)
     → taken f payload h3 ≡ b
 taken_by Plain b payload h3 len e g = e
 taken_by Short b payload h3 len e g = ap (λ p. taken Short p h3) e ∙ what_is_laid_is_taken Short b len
 taken_by Long b payload h3 len e g = ap₂ (λ p h. taken Long p h) e (g refl) ∙ what_is_laid_is_taken Long b len
 
-laid_by : (p : Customer) (c : Clock) (f : ChunkForm) → (let k = after_form f c in laid k.form
-    (stream_from p (last_from k) (taken_len k.form))) ≡ laid f (stream_from p c.sent (taken_len f))
+laid_by : (p : Customer) (c : Clock) (f : ChunkForm) → (let k = after_form f c in laid_payload k.form
+    (stream_from p (last_from k) (taken_len k.form))) ≡ laid_payload f (stream_from p c.sent (taken_len f))
 laid_by p c Plain = ap (λ x. stream_from p x 2349) {x = c.sent + 2349 - 2349} {y = c.sent} (omega arith)
-laid_by p c Short = ap (λ x. laid Short (stream_from p x 2346)) {x = c.sent + 2346 - 2346} {y = c.sent} (omega arith)
-laid_by p c Long = ap (λ x. laid Long (stream_from p x 2352)) {x = c.sent + 2352 - 2352} {y = c.sent} (omega arith)
+laid_by p c Short = ap (λ x. laid_payload Short (stream_from p x 2346)) {x = c.sent + 2346 - 2346} {y = c.sent} (omega arith)
+laid_by p c Long = ap (λ x. laid_payload Long (stream_from p x 2352)) {x = c.sent + 2352 - 2352} {y = c.sent} (omega arith)
 
 h3_by : (p : Customer) (c : Clock) (f : ChunkForm) → f ≡ Long
     → (let k = after_form f c in let l = laid_h3 k.form (stream_from p (last_from k) (taken_len k.form)) in get_or l 0 0 ∷ get_or l 1 0
@@ -231,7 +231,7 @@ h3_by p c Long e =
     ∙ three (laid_h3 Long (stream_from p c.sent 2352)) (long_h3 (stream_from p c.sent 2352) (length-stream_from p c.sent 2352))
 
 sent_payload : (p : Customer) (c : Clock) → (sent_in (record { port = p; clock = c })).payload
-    ≡ laid (next_form c) (stream_from p c.sent (taken_len (next_form c)))
+    ≡ laid_payload (next_form c) (stream_from p c.sent (taken_len (next_form c)))
 unfolding sent_by ticked
 sent_payload p c = laid_by p c (next_form c)
 
