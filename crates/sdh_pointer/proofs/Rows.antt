@@ -15,8 +15,8 @@ use Rattle.sdh_pointer.specs.Words.{is_normal, is_enabled, value_in, one_up, one
 use Rattle.sdh_pointer.specs.Reading.{is_norm, goes_up, goes_down, normal_event, event_of, after_in, action_in, after_event}
 use Rattle.sdh_pointer.specs.Reading.{action_on_event, after_word, action_on, reading_row_of, is_row_of, reading_table, after_row}
 use Rattle.sdh_pointer.specs.Reading.{action_row, settled, with_ais, with_bad, with_new, news_with, later, is_same, is_up, is_down}
-use Rattle.sdh_pointer.specs.Reading as reading
-use Rattle.sdh_pointer.specs.Sending as sending
+use Rattle.sdh_pointer.specs.Reading.{ReadingRow}
+use Rattle.sdh_pointer.specs.Sending.{is_kept, is_raised, is_lowered, is_other, of_state, of_input, sends, sending_row, sending_row_of}
 use Rattle.sdh_pointer.specs.Sending.{sending_table, form_sent, value_sent, word_sent, next_sending}
 use Rattle.sdh_pointer.specs.Laws.{HasRow, HasSendingRow}
 
@@ -110,7 +110,7 @@ can_come m e = is_norm m || not (is_same e || is_up e || is_down e)
 
 -- what a row is to a mode, an event and a state
 record IsRow (m : Mode) (e : Event) (r : Reading) : Type 0 where
-  row : reading.ReadingRow
+  row : ReadingRow
   only : filter (is_row_of m e) reading_table ≡ row ∷ []
   next : after_in m e r ≡ after_row row r e
   action : action_in m e r ≡ action_row row r e
@@ -177,7 +177,7 @@ each_word_has_one_row r w =
 -- ---- each input has one row
 
 pub each_input_has_one_row : (s : Option ℕ) (a : Action) (v : ℕ) → HasSendingRow s a v
-unfolding word_sent form_sent value_sent next_sending sending.sending_row_of sending_table
+unfolding word_sent form_sent value_sent next_sending sending_row_of sending_table
 each_input_has_one_row None action.Ais v = record { row = _; only = refl; word = refl; next = refl }
 each_input_has_one_row (Some g) action.Ais v = record { row = _; only = refl; word = refl; next = refl }
 each_input_has_one_row None action.New v = record { row = _; only = refl; word = refl; next = refl }
@@ -187,13 +187,13 @@ each_input_has_one_row None action.Up v = record { row = _; only = refl; word = 
 each_input_has_one_row None action.Down v = record { row = _; only = refl; word = refl; next = refl }
 each_input_has_one_row (Some g) action.Normal v = elim (cases_Bool (eqb v g)) [
   | inl t ↦ record {
-    row = sending.sending_row sending.is_kept form.Normal sending.of_state sending.sends;
+    row = sending_row is_kept form.Normal of_state sends;
     only = rw t refl;
     word = rw t refl;
     next = rw t refl;
   }
   | inr f ↦ record {
-    row = sending.sending_row sending.is_other form.Enabled sending.of_input sending.sends;
+    row = sending_row is_other form.Enabled of_input sends;
     only = rw f refl;
     word = rw f refl;
     next = rw f refl;
@@ -201,13 +201,13 @@ each_input_has_one_row (Some g) action.Normal v = elim (cases_Bool (eqb v g)) [
 ]
 each_input_has_one_row (Some g) action.Up v = elim (cases_Bool (eqb v (one_up g))) [
   | inl t ↦ record {
-    row = sending.sending_row sending.is_raised form.Up sending.of_state sending.sends;
+    row = sending_row is_raised form.Up of_state sends;
     only = rw t refl;
     word = rw t refl;
     next = rw t refl;
   }
   | inr f ↦ record {
-    row = sending.sending_row sending.is_other form.Enabled sending.of_input sending.sends;
+    row = sending_row is_other form.Enabled of_input sends;
     only = rw f refl;
     word = rw f refl;
     next = rw f refl;
@@ -215,13 +215,13 @@ each_input_has_one_row (Some g) action.Up v = elim (cases_Bool (eqb v (one_up g)
 ]
 each_input_has_one_row (Some g) action.Down v = elim (cases_Bool (eqb v (one_down g))) [
   | inl t ↦ record {
-    row = sending.sending_row sending.is_lowered form.Down sending.of_state sending.sends;
+    row = sending_row is_lowered form.Down of_state sends;
     only = rw t refl;
     word = rw t refl;
     next = rw t refl;
   }
   | inr f ↦ record {
-    row = sending.sending_row sending.is_other form.Enabled sending.of_input sending.sends;
+    row = sending_row is_other form.Enabled of_input sends;
     only = rw f refl;
     word = rw f refl;
     next = rw f refl;

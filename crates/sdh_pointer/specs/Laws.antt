@@ -10,11 +10,9 @@ use Rattle.sdh_pointer.specs.declared.reading.Action.TheVariants as action
 use Rattle.sdh_pointer.specs.declared.word.Form.{Form}
 use Rattle.sdh_pointer.specs.declared.word.Form.TheVariants as form
 use Rattle.sdh_pointer.specs.Words.{is_normal, is_enabled, value_in, word_of, one_up, one_down}
-use Rattle.sdh_pointer.specs.Reading as reading
-use Rattle.sdh_pointer.specs.Reading.{Interpreter, IsBounded, start, is_norm, event_of, after_word, action_on, after_step, settled, later}
-use Rattle.sdh_pointer.specs.Reading.{is_row_of, reading_table, after_row, action_row}
-use Rattle.sdh_pointer.specs.Sending as sending
-use Rattle.sdh_pointer.specs.Sending.{Generator, sending_table, after_action, word_sent, next_sending}
+use Rattle.sdh_pointer.specs.Reading.{ReadingRow, Interpreter, IsBounded, start, is_norm, event_of, after_word, action_on, after_step}
+use Rattle.sdh_pointer.specs.Reading.{settled, later, is_row_of, reading_table, after_row, action_row}
+use Rattle.sdh_pointer.specs.Sending.{SendingRow, Generator, sending_table, after_action, word_sent, next_sending}
 use Rattle.sdh_pointer.specs.Repeated.{after_rounds, after_inputs}
 use Rattle.sdh_pointer.specs.Spreading.{IsSmall, IsValueOver, action_over, word_over, sending_over, reading_over}
 
@@ -22,7 +20,7 @@ use Rattle.sdh_pointer.specs.Spreading.{IsSmall, IsValueOver, action_over, word_
 
 -- exactly one row of the interpreter's table is that of a word in a state, and the step is by that row
 pub record HasRow (r : Reading) (w : ℕ) : Type 0 where
-  pub row : reading.ReadingRow
+  pub row : ReadingRow
   pub only : filter (is_row_of r.mode (event_of r w)) reading_table ≡ row ∷ []
   pub next : after_word r w ≡ after_row row r (event_of r w)
   pub answer : action_on r w ≡ action_row row r (event_of r w)
@@ -32,8 +30,8 @@ EachWordHasOneRow = (r : Reading) (w : ℕ) → HasRow r w
 
 -- exactly one row of the generator's table is that of an input in a state, and the step is by that row
 pub record HasSendingRow (s : Option ℕ) (a : Action) (v : ℕ) : Type 0 where
-  pub row : sending.SendingRow
-  pub only : filter (λ (row : sending.SendingRow). row.input s a v) sending_table ≡ row ∷ []
+  pub row : SendingRow
+  pub only : filter (λ (row : SendingRow). row.input s a v) sending_table ≡ row ∷ []
   pub word : word_sent s a v ≡ word_of row.form (row.value s v)
   pub next : next_sending s a v ≡ row.next v
 
