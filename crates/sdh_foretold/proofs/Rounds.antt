@@ -5,7 +5,7 @@ use Rattle.std.proofs.lemmas.Bool.Decides.{nat_tests}
 use Rattle.sdh_request.specs.declared.Command.{Command}
 use Rattle.sdh_request.specs.declared.Defect.{Defect}
 use Rattle.sdh_request.specs.declared.Defect.TheVariants as defect
-use Rattle.sdh_request.specs.Requests as request
+use Rattle.sdh_request.specs.Requests.{is_defect_free, waits, highest_code}
 use Rattle.sdh_terms.specs.declared.Condition.{Condition}
 use Rattle.sdh_terms.specs.declared.Condition.TheVariants.{Clear, Cut, Degraded}
 use Rattle.sdh_terms.specs.Fibres.{is_cut, degraded_by}
@@ -27,7 +27,7 @@ module _ (threshold : ℕ) (least : 1 ≤ threshold) (g : SideHistory) where
     pub same : Same t r.holding
     pub is : r.defect ≡ defect_of threshold r.holding.condition
     pub defect : defect_at threshold g t ≡ r.defect
-    pub ended : request.is_clear r.defect ≡ true → option_map g.moment (last_end threshold g t) ≡ r.ended
+    pub ended : is_defect_free r.defect ≡ true → option_map g.moment (last_end threshold g t) ≡ r.ended
 
   -- the defect in a round, by what the fibre was in it and before it
   abbrev shown : Bool → Bool → Defect
@@ -58,7 +58,7 @@ module _ (threshold : ℕ) (least : 1 ≤ threshold) (g : SideHistory) where
 
   -- whether a defect ends, by those of two rounds
   abbrev ends : Defect → Defect → Bool
-  ends a b = not (request.is_clear a) && request.is_clear b
+  ends a b = not (is_defect_free a) && is_defect_free b
 
   last_next : (t : ℕ) (a b : Defect) → defect_at threshold g t ≡ a → defect_at threshold g (suc t) ≡ b
       → last_end threshold g (suc t) ≡ (if ends a b then Some (suc t) else last_end threshold g t)
@@ -94,12 +94,12 @@ module _ (threshold : ℕ) (least : 1 ≤ threshold) (g : SideHistory) where
   leftover defect.Sd = defect.Sd
   leftover defect.Sf = defect.None
 
-  clear_none : (d : Defect) → request.is_clear d ≡ true → d ≡ defect.None
+  clear_none : (d : Defect) → is_defect_free d ≡ true → d ≡ defect.None
   clear_none defect.None e = refl
   clear_none defect.Sd e = absurd (grind arith)
   clear_none defect.Sf e = absurd (grind arith)
 
-  not_cut : (now : Condition) → request.is_clear (defect_of threshold now) ≡ true → is_cut now ≡ false
+  not_cut : (now : Condition) → is_defect_free (defect_of threshold now) ≡ true → is_cut now ≡ false
   not_cut Clear e = refl
   not_cut Cut e = absurd (grind arith)
   not_cut (Degraded k) e = refl
@@ -114,7 +114,7 @@ module _ (threshold : ℕ) (least : 1 ≤ threshold) (g : SideHistory) where
       by true = refl
       by false = refl
 
-  by_defect : (d : Defect) (u v m : ℕ) (old kept : Option ℕ) → (request.is_clear d ≡ true → option_map g.moment old ≡ kept) → g.moment u ≡ m
+  by_defect : (d : Defect) (u v m : ℕ) (old kept : Option ℕ) → (is_defect_free d ≡ true → option_map g.moment old ≡ kept) → g.moment u ≡ m
       → g.moment v ≡ m
       → option_map g.moment (if ends (leftover d) defect.None then Some v else if ends d (leftover d) then Some u else old)
       ≡ (if ends d defect.None then Some m else kept)
@@ -124,8 +124,8 @@ module _ (threshold : ℕ) (least : 1 ≤ threshold) (g : SideHistory) where
 
   -- two rounds more, in which something else may hold: where no defect is there then, the last one ended in one of them
   since : (was : Condition) (now : Condition) (u v : ℕ) (m : ℕ) (old kept : Option ℕ)
-      → (request.is_clear (defect_of threshold was) ≡ true → option_map g.moment old ≡ kept) → g.moment u ≡ m → g.moment v ≡ m
-      → request.is_clear (defect_of threshold now) ≡ true
+      → (is_defect_free (defect_of threshold was) ≡ true → option_map g.moment old ≡ kept) → g.moment u ≡ m → g.moment v ≡ m
+      → is_defect_free (defect_of threshold now) ≡ true
       → (let d0 = defect_of threshold was in let d1 = shown (is_cut now)
       (shows (is_cut was) (degraded_by was)) in let d2 = defect_of threshold now in
       option_map g.moment (if ends d1 d2 then Some v else if ends d0 d1 then Some u else old) ≡ (if ends d0 d2 then Some m else kept))
@@ -159,7 +159,7 @@ module _ (threshold : ℕ) (least : 1 ≤ threshold) (g : SideHistory) where
         ended = λ clear.
             ap (option_map g.moment) last
             ∙ since r.holding.condition h.condition (suc t) (suc (suc t)) h.moment (last_end threshold g t) r.ended
-            (λ b. x.ended (ap (λ c. request.is_clear c) x.is ∙ b)) y.moment z.moment clear
+            (λ b. x.ended (ap (λ c. is_defect_free c) x.is ∙ b)) y.moment z.moment clear
             ∙ ap (λ c. if ends c d2 then Some h.moment else r.ended) (sym x.is);
       }
 
@@ -203,9 +203,9 @@ module _ (threshold : ℕ) (least : 1 ≤ threshold) (g : SideHistory) where
       subst (λ u. At u r) there (stays (t + k) r before (subst (λ u. Same u r.holding) next (each k (omega arith))))
 
   -- a side that is not clear doesn't wait
-  asked : (c : Command) (d : Defect) (wait now : ℕ) (one two : Option ℕ) → (request.is_clear d ≡ true → one ≡ two)
-      → request.highest c d (request.waits wait d now one) ≡ request.highest c d (request.waits wait d now two)
-  asked c defect.None wait now one two same = ap (λ o. request.highest c defect.None (request.waits wait defect.None now o)) (same refl)
+  asked : (c : Command) (d : Defect) (wait now : ℕ) (one two : Option ℕ) → (is_defect_free d ≡ true → one ≡ two)
+      → highest_code c d (waits wait d now one) ≡ highest_code c d (waits wait d now two)
+  asked c defect.None wait now one two same = ap (λ o. highest_code c defect.None (waits wait defect.None now o)) (same refl)
   asked c defect.Sd wait now one two same = refl
   asked c defect.Sf wait now one two same = refl
 
@@ -214,7 +214,7 @@ module _ (threshold : ℕ) (least : 1 ≤ threshold) (g : SideHistory) where
   unfolding local_request
   request_is wait t r x =
       let old = option_map g.moment (last_end threshold g t) in
-      ap (λ c. request.highest c (defect_at threshold g t) (request.waits wait (defect_at threshold g t) (g.moment t) old)) x.same.command
-      ∙ ap (λ d. request.highest r.holding.command d (request.waits wait d (g.moment t) old)) x.defect
-      ∙ ap (λ m. request.highest r.holding.command r.defect (request.waits wait r.defect m old)) x.same.moment
+      ap (λ c. highest_code c (defect_at threshold g t) (waits wait (defect_at threshold g t) (g.moment t) old)) x.same.command
+      ∙ ap (λ d. highest_code r.holding.command d (waits wait d (g.moment t) old)) x.defect
+      ∙ ap (λ m. highest_code r.holding.command r.defect (waits wait r.defect m old)) x.same.moment
       ∙ asked r.holding.command r.defect wait r.holding.moment old r.ended x.ended

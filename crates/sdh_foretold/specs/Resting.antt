@@ -7,7 +7,7 @@ use Rattle.sdh_terms.specs.declared.Condition.{Condition}
 use Rattle.sdh_terms.specs.declared.Condition.TheVariants.{Clear, Cut, Degraded}
 use Rattle.sdh_request.specs.declared.Defect.{Defect}
 use Rattle.sdh_request.specs.declared.Defect.TheVariants as defect
-use Rattle.sdh_request.specs.Requests as request
+use Rattle.sdh_request.specs.Requests.{is_defect_free, waits, highest_code}
 use Rattle.sdh_restoration.specs.Applied.{span_requests}
 use Rattle.sdh_promise.specs.Changes.{Change}
 use Rattle.sdh_promise.specs.Sides.{Holding, new_holding, all_holding}
@@ -37,7 +37,7 @@ at_rest threshold h r =
     record {
       holding = h;
       defect = now;
-      ended = if not (request.is_clear r.defect) && request.is_clear now
+      ended = if not (is_defect_free r.defect) && is_defect_free now
           then Some h.moment else r.ended;
     })
 
@@ -52,7 +52,7 @@ rest_in threshold n p d (changes ∷ later) r = rest_in threshold n p d later (r
 
 -- what a side asks for at a settle step that left it so
 abbrev pub asks : ℕ → Resting → Code
-asks wait r = request.highest r.holding.command r.defect (request.waits wait r.defect r.holding.moment r.ended)
+asks wait r = highest_code r.holding.command r.defect (waits wait r.defect r.holding.moment r.ended)
 
 -- the requests of all spans of a new ring over new fibres, after the changes before each of some settle steps
 abbrev pub requests_after : Ring → List (List Change) → List ℕ

@@ -24,7 +24,7 @@ use Rattle.sdh_request.specs.declared.Defect.TheVariants as defect
 use Rattle.sdh_request.specs.declared.Command.{Command}
 use Rattle.sdh_request.specs.History.{seen, reached, commanded}
 use Rattle.sdh_request.specs.Kept as local
-use Rattle.sdh_request.specs.Kept.{after, kept_request}
+use Rattle.sdh_request.specs.Kept.{after_happening, kept_request}
 use Rattle.sdh_kbytes.specs.KBytes.{IsSpellable}
 use Rattle.sdh_nodestate.specs.Filtering.{Brought, with_brought, hears}
 use Rattle.sdh_pointer.specs.declared.reading.Reading.{Reading}
@@ -55,7 +55,7 @@ reception threshold r = reception_of r.arrived r.section.rate threshold r.sectio
 
 -- what is kept for it after the moment and the defect of a round
 abbrev pub local_after : ℕ → Defect → local.LocalKept → local.LocalKept
-local_after now d k = after (seen d) (after (reached now) k)
+local_after now d k = after_happening (seen d) (after_happening (reached now) k)
 
 -- ---- a round
 
@@ -87,7 +87,7 @@ after_intake threshold now r =
 
 -- a command of one side
 abbrev pub commanded_by : Command → Receiving → Receiving
-commanded_by c r = record r { local = after (commanded c) r.local }
+commanded_by c r = record r { local = after_happening (commanded c) r.local }
 
 -- on one side, in place of what arrived there since the last round
 abbrev pub arrived_on : Arrival → Receiving → Receiving

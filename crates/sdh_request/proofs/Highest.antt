@@ -6,10 +6,10 @@ use Rattle.sdh_request.specs.declared.Defect.{Defect}
 use Rattle.sdh_request.specs.declared.Defect.TheVariants.{None, Sd, Sf}
 use Rattle.sdh_request.specs.declared.Command.{Command}
 use Rattle.sdh_request.specs.declared.Command.TheVariants.{Clear, Forced, Manual}
-use Rattle.sdh_request.specs.Requests.{highest}
+use Rattle.sdh_request.specs.Requests.{highest_code}
 
 -- a reverse request is no local request
-pub never_rr : (c : Command) (d : Defect) (w : Bool) → highest c d w ≢ Rr
+pub never_rr : (c : Command) (d : Defect) (w : Bool) → highest_code c d w ≢ Rr
 never_rr Forced None w e = cc
 never_rr Forced Sd w e = cc
 never_rr Forced Sf w e = cc
@@ -22,7 +22,7 @@ never_rr Clear None true e = cc
 never_rr Clear None false e = cc
 
 -- a side that fails asks for a switch that no neighbour's lower request holds up
-pub at_least_sf : (c : Command) (w : Bool) → 11 ≤ code_number (highest c Sf w)
+pub at_least_sf : (c : Command) (w : Bool) → 11 ≤ code_number (highest_code c Sf w)
 at_least_sf Forced w = omega arith
 at_least_sf Manual w = omega arith
 at_least_sf Clear w = omega arith

@@ -10,30 +10,30 @@ use Rattle.sdh_request.specs.declared.Command.{Command}
 use Rattle.sdh_request.specs.declared.Command.TheVariants as command
 
 -- no defect is there
-abbrev pub is_clear : Defect → Bool
-is_clear defect.None = true
-is_clear defect.Sd = false
-is_clear defect.Sf = false
+abbrev pub is_defect_free : Defect → Bool
+is_defect_free defect.None = true
+is_defect_free defect.Sd = false
+is_defect_free defect.Sf = false
 
 -- the side waits to restore: no defect is there, and the present moment is before the end of the last defect
 -- and the waiting time after it
 abbrev pub waits : ℕ → Defect → ℕ → Option ℕ → Bool
-waits wait d now ended = is_clear d && option_map_or (λ t. nat_lt now (t + wait)) ended false
+waits wait d now ended = is_defect_free d && option_map_or (λ t. nat_lt now (t + wait)) ended false
 
 -- the code applies, by the command, the defect and whether the side waits
-abbrev pub applies : Command → Defect → Bool → Code → Bool
-applies command.Forced d w Fs = true
-applies c defect.Sf w Sf = true
-applies c defect.Sd w Sd = true
-applies command.Manual d w Ms = true
-applies c d w Wtr = w
-applies c d w Nr = true
-applies c d w _ = false
+abbrev pub code_applies : Command → Defect → Bool → Code → Bool
+code_applies command.Forced d w Fs = true
+code_applies c defect.Sf w Sf = true
+code_applies c defect.Sd w Sd = true
+code_applies command.Manual d w Ms = true
+code_applies c d w Wtr = w
+code_applies c d w Nr = true
+code_applies c d w _ = false
 
 -- the codes that may apply, from the highest down
 abbrev pub from_the_highest : List Code
 from_the_highest = Fs ∷ Sf ∷ Sd ∷ Ms ∷ Wtr ∷ Nr ∷ []
 
 -- the highest code that applies
-abbrev pub highest : Command → Defect → Bool → Code
-highest c d w = option_map_or (λ code. code) (find (applies c d w) from_the_highest) Nr
+abbrev pub highest_code : Command → Defect → Bool → Code
+highest_code c d w = option_map_or (λ code. code) (find (code_applies c d w) from_the_highest) Nr

@@ -66,8 +66,8 @@ impl Model for Local {
 }
 
 impl Local {
-    ghost use Rattle.sdh_request.specs.History.{Happening, seen, commanded, reached, request_of};
-    ghost use Rattle.sdh_request.specs.Kept.{kept_of, after, Adds, kept_request};
+    ghost use Rattle.sdh_request.specs.History.{LocalHappening, seen, commanded, reached, request_of};
+    ghost use Rattle.sdh_request.specs.Kept.{kept_of, after_happening, Adds, kept_request};
     ghost use Rattle.sdh_request.specs.Requests.{waits};
 
     /// A side without a command and a defect, at moment 0. `wait` is how long it waits to restore after a defect.
@@ -86,7 +86,7 @@ impl Local {
     /// Gives a command, which replaces the one before.
     #[tactic(auto, using(crate::proofs::Keeping::after_history))]
     pub fn command(&mut self, command: Command)
-        ensures kept { self.new ≡ after (commanded command) self.old }
+        ensures kept { self.new ≡ after_happening (commanded command) self.old }
         ensures history { Adds (commanded command) self.old self.new }
     {
         self.command = command;
@@ -97,7 +97,7 @@ impl Local {
     pub fn at_moment(&mut self, now: Moment)
         requires later { self.old.moment ≤ now.0 }
         requires within { now.0 ≤ 1000000000 }
-        ensures kept { self.new ≡ after (reached now.0) self.old }
+        ensures kept { self.new ≡ after_happening (reached now.0) self.old }
         ensures history { Adds (reached now.0) self.old self.new }
     {
         self.moment = now;
@@ -106,7 +106,7 @@ impl Local {
     /// Looks at the side. A defect that the last look saw and this one doesn't has ended at the present moment.
     #[tactic(auto, using(crate::proofs::Keeping::after_history))]
     pub fn see(&mut self, defect: Defect)
-        ensures kept { self.new ≡ after (seen defect) self.old }
+        ensures kept { self.new ≡ after_happening (seen defect) self.old }
         ensures same { defect ≡ self.old.defect → self.new ≡ self.old }
         ensures history { Adds (seen defect) self.old self.new }
     {
@@ -136,7 +136,7 @@ impl Local {
     #[tactic(auto, using(crate::proofs::Keeping::request_after, crate::proofs::Highest::never_rr, crate::proofs::Highest::at_least_sf))]
     pub fn request(&self) -> Code
         ensures kept { result ≡ kept_request self.now }
-        ensures history { (wait : ℕ) (all : List Happening) → self.now ≡ kept_of wait all → result ≡ request_of wait all }
+        ensures history { (wait : ℕ) (all : List LocalHappening) → self.now ≡ kept_of wait all → result ≡ request_of wait all }
         ensures never_rr { result ≢ Code.Rr }
         ensures failing { self.now.defect ≡ Defect.Sf → 11 ≤ code_number result }
     {

@@ -6,7 +6,7 @@ use Rattle.sdh_ringmap.specs.declared.Side.{Side}
 use Rattle.sdh_request.specs.declared.Defect.{Defect}
 use Rattle.sdh_request.specs.declared.Defect.TheVariants as defect
 use Rattle.sdh_request.specs.declared.Command.{Command}
-use Rattle.sdh_request.specs.Requests as request
+use Rattle.sdh_request.specs.Requests.{is_defect_free, waits, highest_code}
 
 -- what happened on one side, by rounds: whether the fibre that comes in is cut, how many bits of a frame its
 -- degradation inverts (0 where it isn't degraded), which command holds, and which moment it is
@@ -31,7 +31,7 @@ defect_at threshold h (suc t) =
 -- in round t a defect of the round before is there no longer
 unfoldable pub ends_at : ℕ → SideHistory → ℕ → Bool
 ends_at threshold h zero = false
-ends_at threshold h (suc t) = not (request.is_clear (defect_at threshold h t)) && request.is_clear (defect_at threshold h (suc t))
+ends_at threshold h (suc t) = not (is_defect_free (defect_at threshold h t)) && is_defect_free (defect_at threshold h (suc t))
 
 -- the last round up to t in which a defect ended, if one has
 unfoldable pub last_end : ℕ → SideHistory → ℕ → Option ℕ
@@ -42,8 +42,8 @@ last_end threshold h (suc t) = if ends_at threshold h (suc t) then Some (suc t) 
 -- fewer than `wait` moments have gone by since the round in which its last defect ended
 unfoldable pub local_request : ℕ → ℕ → SideHistory → ℕ → Code
 local_request threshold wait h t =
-    request.highest (h.command t) (defect_at threshold h t)
-    (request.waits wait (defect_at threshold h t) (h.moment t) (option_map h.moment (last_end threshold h t)))
+    highest_code (h.command t) (defect_at threshold h t)
+    (waits wait (defect_at threshold h t) (h.moment t) (option_map h.moment (last_end threshold h t)))
 
 -- what each side of each position asks for
 abbrev pub Asking : Type 0

@@ -15,16 +15,16 @@ last_place p (suc k) = if p k then k else last_place p k
 
 module _ (n : ℕ) (applied : ℕ → Bool) (arc : Arc) where
   -- the span at place i of the arc is applied
-  abbrev pub at_place : ℕ → Bool
-  at_place i = applied (arc_span n arc i)
+  abbrev pub applied_at_place : ℕ → Bool
+  applied_at_place i = applied (arc_span n arc i)
 
   -- the place of the arc's first applied span, counted from 0
   abbrev pub first_applied : ℕ
-  first_applied = places_before at_place 0 arc.spans
+  first_applied = places_before applied_at_place 0 arc.spans
 
   -- the place of its last applied span
   abbrev pub last_applied : ℕ
-  last_applied = last_place at_place arc.spans
+  last_applied = last_place applied_at_place arc.spans
 
   -- the number of spans of the route between the ends of the arc, where they are joined: those of the arc; or
   -- along the arc to the first applied span, at place f, back the other way round to the far side of the

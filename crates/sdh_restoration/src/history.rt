@@ -1,6 +1,6 @@
 //! The local request of one side, from the history of its fibre.
 ghost use Rattle.std.specs.Prelude.{◌≡◌, ◌-◌, ◌+◌, ◌<◌, ◌≤◌, ℕ, length, option_map, slice_index_or, IfSome};
-ghost use Rattle.sdh_request.specs.Requests.{is_clear, waits, highest};
+ghost use Rattle.sdh_request.specs.Requests.{is_defect_free, waits, highest_code};
 ghost use Rattle.sdh_restoration.specs.History.{defect_at, ends_at, last_end, local_request};
 ghost use Rattle.sdh_restoration.specs.Rounds.{history_of, still_round};
 
@@ -39,7 +39,7 @@ fn defect_in(threshold: u16, rounds: &[SideRound], t: usize) -> Defect
 
 // Whether the defect in a round is none.
 fn is_clear(defect: Defect) -> bool
-    ensures { result ≡ is_clear defect }
+    ensures { result ≡ is_defect_free defect }
 {
     match defect {
         Defect::None => true,

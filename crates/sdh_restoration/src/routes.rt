@@ -2,7 +2,7 @@
 ghost use Rattle.std.specs.Prelude.{◌≡◌, ◌≢◌, ◌+◌, ◌*◌, ◌<◌, ◌≤◌, ℕ, List, [], ◌++◌, true, false, length, map};
 ghost use Rattle.sdh_ringmap.specs.Places.{eastwards};
 ghost use Rattle.sdh_ringmap.specs.Arcs.{Arc, arc_between, arc_span, is_among, is_clear, none_of};
-ghost use Rattle.sdh_restoration.specs.Routes.{at_place, first_applied, last_applied, hops};
+ghost use Rattle.sdh_restoration.specs.Routes.{applied_at_place, first_applied, last_applied, hops};
 
 use sdh_ringmap::{Pos, RingMap, Side, Span};
 
@@ -27,7 +27,7 @@ fn span_at_place(map: &RingMap, ends: Ends, place: u8) -> Span
 fn is_applied_at(map: &RingMap, ends: Ends, place: u8, applied: &[Span]) -> bool
     requires from { ends.from.0 < length map.now }
     requires place { place < length map.now }
-    ensures { result ≡ at_place (length map.now) (is_among applied.now) (arc_between (length map.now) ends.from.0 ends.to.0) place }
+    ensures { result ≡ applied_at_place (length map.now) (is_among applied.now) (arc_between (length map.now) ends.from.0 ends.to.0) place }
 {
     let span = span_at_place(map, ends, place);
     applied.iter().any(|other| other.0 == span.0)
@@ -37,7 +37,7 @@ fn is_applied_at(map: &RingMap, ends: Ends, place: u8, applied: &[Span]) -> bool
 fn is_free(map: &RingMap, ends: Ends, first: u8, count: u8, applied: &[Span]) -> bool
     requires from { ends.from.0 < length map.now }
     requires places { first + count ≤ length map.now }
-    ensures { result ≡ none_of (at_place (length map.now) (is_among applied.now) (arc_between (length map.now) ends.from.0 ends.to.0)) first count }
+    ensures { result ≡ none_of (applied_at_place (length map.now) (is_among applied.now) (arc_between (length map.now) ends.from.0 ends.to.0)) first count }
 {
     let n = map.len() as u8;
     for place in first..n.min(first + count) {

@@ -2,7 +2,7 @@
 use Rattle.std.proofs.Common.{◌≡◌, ℕ, ◌+◌, ◌-◌, ◌*◌, ◌<◌, ◌≤◌, Bool, true, false, refl, sym, ◌∙◌, arith, inl, inr, ◌⊎◌}
 use Rattle.std.proofs.lemmas.Bool.{cases_Bool, cond-true, cond-false}
 use Rattle.sdh_circuits.specs.Provisioned.{Provisioned, arc_of}
-use Rattle.sdh_restoration.specs.Routes.{at_place, hops, last_place, places_before}
+use Rattle.sdh_restoration.specs.Routes.{applied_at_place, hops, last_place, places_before}
 use Rattle.sdh_ringmap.specs.Arcs.{is_clear, none_of}
 use Rattle.sdh_routes.proofs.Marks.{IsFirst, IsLast, first-place, last-place}
 use Rattle.sdh_routes.proofs.Views.{arc_length}
@@ -10,7 +10,7 @@ use Rattle.sdh_routes.specs.Law.{IsShort}
 
 module _ (n : ℕ) (applied : ℕ → Bool) (c : Provisioned) where
   abbrev place : ℕ → Bool
-  place = at_place n applied (arc_of n c)
+  place = applied_at_place n applied (arc_of n c)
 
   abbrev f : ℕ
   f = places_before place 0 (arc_length n c)

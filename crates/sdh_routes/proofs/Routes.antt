@@ -7,7 +7,7 @@ use Rattle.sdh_circuits.specs.Provisioned.{Provisioned, arc_of}
 use Rattle.sdh_circuits.specs.declared.End.{End}
 use Rattle.sdh_circuits.specs.declared.End.TheVariants.{A, B}
 use Rattle.sdh_circuits.specs.Ends.{other_end}
-use Rattle.sdh_restoration.specs.Routes.{at_place, hops, last_place, places_before}
+use Rattle.sdh_restoration.specs.Routes.{applied_at_place, hops, last_place, places_before}
 use Rattle.sdh_ringmap.specs.Arcs.{is_clear, is_joined, none_of}
 use Rattle.sdh_ringmap.specs.declared.Side.TheVariants.{East, West}
 use Rattle.sdh_ringmap.proofs.Going.{going-inside, going-none, going-round, mirror-way}
@@ -28,7 +28,7 @@ module _ (n : ℕ) (r : Resting n) (cs : List Provisioned) (ring : AreOnRing n c
     (is : slice_get cs index ≡ Some c) where
   -- whether the span at a place of the arc is applied
   abbrev pub place : ℕ → Bool
-  place = at_place n r.applied (arc_of n c)
+  place = applied_at_place n r.applied (arc_of n c)
 
   pub some : 0 < n
   some = let inside = ring.inside index c is in omega arith

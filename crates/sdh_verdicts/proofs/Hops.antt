@@ -8,7 +8,7 @@ use Rattle.sdh_circuits.specs.Provisioned.{Provisioned, arc_of}
 use Rattle.sdh_verdicts.specs.declared.judging.Verdict.{Verdict}
 use Rattle.sdh_verdicts.specs.declared.judging.Verdict.TheVariants.{Kept, Over}
 use Rattle.sdh_verdicts.specs.Verdicts.{verdict_under, hops_where, hops_under}
-use Rattle.sdh_restoration.specs.Routes.{at_place, places_before, last_place, first_applied, last_applied, hops}
+use Rattle.sdh_restoration.specs.Routes.{applied_at_place, places_before, last_place, first_applied, last_applied, hops}
 
 -- ---- a list
 
@@ -39,11 +39,12 @@ unfolding hops is_clear
 hops_same n p q arc some same =
     let at : (i : ℕ) → p (arc_span n arc i) ≡ q (arc_span n arc i) = λ i. same (arc_span n arc i) (mod-lt (arc.start + i) some) in
     let by : ℕ → ℕ → Bool → ℕ = λ f l clear. (if clear then arc.spans else (2 * f + n + arc.spans) - 2 * (l + 1)) in
-    ap (λ f. by f (last_applied n p arc) (none_of (at_place n p arc) 0 arc.spans))
-    (before_same (at_place n p arc) (at_place n q arc) at 0 arc.spans)
-    ∙ ap (λ l. by (first_applied n q arc) l (none_of (at_place n p arc) 0 arc.spans))
-    (last_same (at_place n p arc) (at_place n q arc) at arc.spans)
-    ∙ ap (by (first_applied n q arc) (last_applied n q arc)) (none_same (at_place n p arc) (at_place n q arc) at 0 arc.spans)
+    ap (λ f. by f (last_applied n p arc) (none_of (applied_at_place n p arc) 0 arc.spans))
+    (before_same (applied_at_place n p arc) (applied_at_place n q arc) at 0 arc.spans)
+    ∙ ap (λ l. by (first_applied n q arc) l (none_of (applied_at_place n p arc) 0 arc.spans))
+    (last_same (applied_at_place n p arc) (applied_at_place n q arc) at arc.spans)
+    ∙ ap (by (first_applied n q arc) (last_applied n q arc))
+    (none_same (applied_at_place n p arc) (applied_at_place n q arc) at 0 arc.spans)
 
 -- it is that of a circuit that is kept, or goes round
 pub hops_are : (n : ℕ) (p : ℕ → Bool) (c : Provisioned) (v : Verdict) (k : ℕ) → (v ≡ Kept) ⊎ (v ≡ Over) → v ≡ verdict_under n p c

@@ -96,7 +96,7 @@ pub fn is_forced(command: Command) -> bool
 
 // Whether there is none.
 fn is_clear(defect: Defect) -> bool
-    ensures { result ≡ request.is_clear defect }
+    ensures { result ≡ request.is_defect_free defect }
 {
     match defect {
         Defect::None => true,

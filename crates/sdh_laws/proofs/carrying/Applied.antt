@@ -10,7 +10,7 @@ use Rattle.sdh_request.specs.declared.Defect.TheVariants as defect
 use Rattle.sdh_request.specs.declared.Command.{Command}
 use Rattle.sdh_request.specs.declared.Command.TheVariants as command
 use Rattle.sdh_request.specs.Requests.{waits}
-use Rattle.sdh_request.specs.Requests as request
+use Rattle.sdh_request.specs.Requests.{highest_code}
 use Rattle.sdh_restoration.specs.Applied.{is_applied}
 use Rattle.sdh_restoration.proofs.Asked.{length-requests, asked_is_applied}
 use Rattle.sdh_request.specs.Kept as local
@@ -29,7 +29,7 @@ use Rattle.sdh_world.specs.Held.{node_at}
 
 -- ---- the request of a side that fails
 
-failed_asks : (c : Command) (d : Defect) (w : Bool) → is_failed d ≡ true → 11 ≤ code_number (request.highest c d w)
+failed_asks : (c : Command) (d : Defect) (w : Bool) → is_failed d ≡ true → 11 ≤ code_number (highest_code c d w)
 failed_asks c defect.None w e = absurd (cc)
 failed_asks c defect.Sd w e = absurd (cc)
 failed_asks command.Forced defect.Sf w e = omega arith

@@ -5,7 +5,7 @@ use Rattle.std.proofs.lemmas.Bool.{lt-leb}
 use Rattle.sdh_terms.specs.declared.Code.TheVariants.{Nr}
 use Rattle.sdh_request.specs.declared.Defect.TheVariants as defect
 use Rattle.sdh_request.specs.declared.Command.TheVariants as command
-use Rattle.sdh_request.specs.Requests as request
+use Rattle.sdh_request.specs.Requests.{is_defect_free, waits, highest_code}
 use Rattle.sdh_restoration.specs.History.{SideHistory, shows_degraded, defect_at, ends_at, last_end, local_request}
 
 -- in each round the fibre is clear and no command holds
@@ -14,10 +14,10 @@ pub record IsUneventful (h : SideHistory) : Type 0 where
   pub degraded : (t : ℕ) → h.degraded t ≡ 0
   pub command : (t : ℕ) → h.command t ≡ command.Clear
 
-none_waits : (wait moment : ℕ) → request.waits wait defect.None moment None ≡ false
+none_waits : (wait moment : ℕ) → waits wait defect.None moment None ≡ false
 none_waits wait moment = refl
 
-highest_nothing : request.highest command.Clear defect.None false ≡ Nr
+highest_nothing : highest_code command.Clear defect.None false ≡ Nr
 highest_nothing = refl
 
 module _ (threshold : ℕ) (some : 1 ≤ threshold) (wait : ℕ) (h : SideHistory) (is : IsUneventful h) where
@@ -40,7 +40,7 @@ module _ (threshold : ℕ) (some : 1 ≤ threshold) (wait : ℕ) (h : SideHistor
   no_end : (t : ℕ) → ends_at threshold h t ≡ false
   unfolding ends_at
   no_end zero = refl
-  no_end (suc t) = ap₂ (λ a b. not (request.is_clear a) && request.is_clear b) (no_defect t) (no_defect (suc t))
+  no_end (suc t) = ap₂ (λ a b. not (is_defect_free a) && is_defect_free b) (no_defect t) (no_defect (suc t))
 
   never_ended : (t : ℕ) → last_end threshold h t ≡ None
   unfolding last_end
@@ -50,8 +50,8 @@ module _ (threshold : ℕ) (some : 1 ≤ threshold) (wait : ℕ) (h : SideHistor
   pub asks_nothing : (t : ℕ) → local_request threshold wait h t ≡ Nr
   unfolding local_request
   asks_nothing t =
-      ap₂ (λ c d. request.highest c d (request.waits wait d (h.moment t) (option_map h.moment (last_end threshold h t)))) (is.command t)
+      ap₂ (λ c d. highest_code c d (waits wait d (h.moment t) (option_map h.moment (last_end threshold h t)))) (is.command t)
       (no_defect t)
-      ∙ ap (λ o. request.highest command.Clear defect.None (request.waits wait defect.None (h.moment t) (option_map h.moment o)))
+      ∙ ap (λ o. highest_code command.Clear defect.None (waits wait defect.None (h.moment t) (option_map h.moment o)))
       (never_ended t)
-      ∙ ap (request.highest command.Clear defect.None) (none_waits wait (h.moment t)) ∙ highest_nothing
+      ∙ ap (highest_code command.Clear defect.None) (none_waits wait (h.moment t)) ∙ highest_nothing

@@ -1,13 +1,13 @@
 use Rattle.std.proofs.Common.{◌≡◌, ◌+◌, ◌-◌, ◌<◌, ℕ, Bool, length, arith, ap, sym, ◌∙◌}
 use Rattle.sdh_ringmap.specs.Arcs.{arc_between, is_among}
-use Rattle.sdh_restoration.specs.Routes.{at_place, places_before}
+use Rattle.sdh_restoration.specs.Routes.{applied_at_place, places_before}
 use Rattle.sdh_restoration.proofs.Places.{places_before-next}
 use Rattle.sdh_restoration.proofs.routes.first_place.Goals as goal
 
 pub loop-place-preserved : goal.loop-place-preserved
 loop-place-preserved c =
     let n = length c.args.map.now in
-    let p : ℕ → Bool = at_place n (is_among c.args.applied.now) (arc_between n c.args.ends.from.0 c.args.ends.to.0) in
+    let p : ℕ → Bool = applied_at_place n (is_among c.args.applied.now) (arc_between n c.args.ends.from.0 c.args.ends.to.0) in
     let i = c.loop-place.place in
     let left = c.distance-spans.result - i in
     let some : 0 < left = omega (arith, c.loop-place-test.true) in
