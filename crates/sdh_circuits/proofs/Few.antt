@@ -12,7 +12,7 @@ use Rattle.sdh_ringmap.specs.Arcs.{holds_span}
 use Rattle.sdh_ringmap.proofs.Around.{holds_start}
 use Rattle.sdh_circuits.specs.declared.Slot.{Slot}
 use Rattle.sdh_circuits.specs.Provisioned.{Provisioned, arc_of}
-use Rattle.sdh_circuits.specs.Provisioning.{Provisioning, IsProvisioning, AreCircuits, size_of}
+use Rattle.sdh_circuits.specs.Provisioning.{Provisioning, IsProvisioning, AreCircuits, ring_size}
 
 -- the number of a circuit's first span with its slot
 key : Provisioned → ℕ
@@ -94,4 +94,4 @@ few_below n slots (c ∷ cs) are few half =
 
 pub few_circuits : (p : Provisioning) → IsProvisioning p → length p.circuits ≤ 128
 few_circuits p is =
-    few_below (size_of p) p.slots p.circuits is.circuits is.ring_small (elim is.rate [ inl e ↦ omega arith | inr e ↦ omega arith ])
+    few_below (ring_size p) p.slots p.circuits is.circuits is.ring_small (elim is.rate [ inl e ↦ omega arith | inr e ↦ omega arith ])

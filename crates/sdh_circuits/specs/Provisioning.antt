@@ -45,19 +45,19 @@ pub record AreCircuits (n slots : ℕ) (circuits : List Provisioned) : Type 0 wh
   pub apart : AreApart n circuits
 
 -- the number of nodes of the ring that is kept
-abbrev pub size_of : Provisioning → ℕ
-size_of p = option_map_or length p.ring 0
+abbrev pub ring_size : Provisioning → ℕ
+ring_size p = option_map_or length p.ring 0
 
 -- what is true of every circuit map
 pub record IsProvisioning (p : Provisioning) : Type 0 where
   pub rate : IsRateHalf p.slots
-  pub ring_small : size_of p ≤ 16
+  pub ring_small : ring_size p ≤ 16
   pub empty : IfNone p.ring (p.circuits ≡ [])
-  pub circuits : AreCircuits (size_of p) p.slots p.circuits
+  pub circuits : AreCircuits (ring_size p) p.slots p.circuits
 
 -- the first circuit that is on a span in a slot
 abbrev pub on_span : Provisioning → ℕ → ℕ → Option ℕ
-on_span p span slot = position (is_on (size_of p) span slot) p.circuits
+on_span p span slot = position (is_on (ring_size p) span slot) p.circuits
 
 -- the circuit of a name
 abbrev pub at_port : Provisioning → List ℕ → Option ℕ

@@ -7,7 +7,7 @@ use Rattle.sdh_restoration.specs.History.{SideHistory}
 use Rattle.sdh_promise.specs.Changes.{Stretch, rounds_in}
 use Rattle.sdh_promise.specs.Sides.{Holding, new_holding, all_holding, holding_in, side_history}
 use Rattle.sdh_promise.specs.Owed.{Ring, asked_in}
-use Rattle.sdh_foretold.specs.Resting.{Resting, fresh, rest_after, rest_in, asks}
+use Rattle.sdh_foretold.specs.Resting.{Resting, fresh, rest_after_changes, rest_in, asks}
 use Rattle.sdh_foretold.specs.Laws.{AreLong, changes_in, RequestsRest}
 use Rattle.sdh_foretold.proofs.Spans.{spans_same}
 use Rattle.sdh_foretold.proofs.Rounds.{Same, At, begins, enters, keeps, request_is}
@@ -20,7 +20,7 @@ module _ (threshold : ℕ) (least : 1 ≤ threshold) (n p : ℕ) (d : Side) (g :
   So t h = Same threshold least g t h
 
   abbrev next : Stretch → Resting → Resting
-  next s r = rest_after threshold n p d s.changes r
+  next s r = rest_after_changes threshold n p d s.changes r
 
   -- in a stretch, and after it
   inside : (s : Stretch) (ss : List Stretch) (h : Holding) (i : ℕ) → i < s.rounds

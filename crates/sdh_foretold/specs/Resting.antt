@@ -42,13 +42,13 @@ at_rest threshold h r =
     })
 
 -- side d of position p in a ring of n after these changes and a settle step
-abbrev pub rest_after : ℕ → ℕ → ℕ → Side → List Change → Resting → Resting
-rest_after threshold n p d changes r = at_rest threshold (all_holding n p d changes r.holding) r
+abbrev pub rest_after_changes : ℕ → ℕ → ℕ → Side → List Change → Resting → Resting
+rest_after_changes threshold n p d changes r = at_rest threshold (all_holding n p d changes r.holding) r
 
 -- after the changes before each of some settle steps
 abbrev pub rest_in : ℕ → ℕ → ℕ → Side → List (List Change) → Resting → Resting
 rest_in threshold n p d [] r = r
-rest_in threshold n p d (changes ∷ later) r = rest_in threshold n p d later (rest_after threshold n p d changes r)
+rest_in threshold n p d (changes ∷ later) r = rest_in threshold n p d later (rest_after_changes threshold n p d changes r)
 
 -- what a side asks for at a settle step that left it so
 abbrev pub asks : ℕ → Resting → Code

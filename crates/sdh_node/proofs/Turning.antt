@@ -14,8 +14,8 @@ use Rattle.sdh_terminal.specs.Tributaries.{Tributary, added_by, added_last, all_
 use Rattle.sdh_node.specs.Crossing.{Cross, after_intakes, scene_of, after_decision, next_word, dropped_to, all_delivered, input_at}
 use Rattle.sdh_terminal.specs.Sending.{Sending, with_word, frame_from, after_sending}
 use Rattle.sdh_terminal.proofs.Ports.{holds-adds}
-use Rattle.sdh_node.specs.Node.{Node, crossing, ports_after, with_next_word, after_crossing, frames_of, compared, compared_in, may_be_calm}
-use Rattle.sdh_node.specs.Node.{with_calm, node_round}
+use Rattle.sdh_node.specs.Node.{Node, crossing, ports_after, with_next_word, after_crossing, node_frames, compared, compared_in}
+use Rattle.sdh_node.specs.Node.{may_be_calm, with_calm, node_round}
 
 -- the node that holds these
 abbrev pub node_of : Settings → ℕ → ℕ → Cross → List Tributary → Sending → Sending → Bool → Node
@@ -82,11 +82,11 @@ module _ (now : ℕ) (s : Settings) (rounds turns : ℕ) (x0 : Cross) (ports : L
         (east_word : we ≡ next_word held tk East eo.word) (west_say : ws ≡ with_word ww wo) (east_say : es ≡ with_word we eo)
         (west_ports : wq ≡ fs) (east_ports : eq ≡ fs) where
       pub west_frame_is : (frame : Frame) → frame ≡ frame_from (input_at x (added_last wq) West) ws → frame ≡ (node_round now n).1.west
-      unfolding node_round frames_of
+      unfolding node_round node_frames
       west_frame_is frame send = frame_is West ww wo ws wq frame west_word west_say west_ports send
 
       pub east_frame_is : (frame : Frame) → frame ≡ frame_from (input_at x (added_last eq) East) es → frame ≡ (node_round now n).1.east
-      unfolding node_round frames_of
+      unfolding node_round node_frames
       east_frame_is frame send = frame_is East we eo es eq frame east_word east_say east_ports send
 
       module _ (west_send : wa ≡ after_sending (input_at x (added_last wq) West) ws)

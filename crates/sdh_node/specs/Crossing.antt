@@ -78,11 +78,11 @@ needs_of x = record {
   east_fails = is_failed x.east.local.defect;
 }
 
-abbrev pub heard_of : Cross → Heard
-heard_of x = record { west = hears x.west.brought; east = hears x.east.brought }
+abbrev pub heard_words : Cross → Heard
+heard_words x = record { west = hears x.west.brought; east = hears x.east.brought }
 
 unfoldable pub scene_of : Cross → Scene
-scene_of x = scene x.ids x.at.0 (needs_of x) (heard_of x)
+scene_of x = scene x.ids x.at.0 (needs_of x) (heard_words x)
 
 -- the state by the rules, or, in a turn in which the controller is held, the one before
 unfoldable pub after_decision : Bool → Cross → Cross

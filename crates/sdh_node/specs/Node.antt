@@ -23,8 +23,7 @@ use Rattle.sdh_node.specs.Receiving.{Receiving, after_intake, intake_of, if_west
 use Rattle.sdh_payload.specs.declared.clock.Turn.{Turn}
 use Rattle.sdh_terminal.specs.Tributaries.{Tributary, HasPort, IsTributary, tributaries_at, with_slips, added_by, all_fed}
 use Rattle.sdh_node.specs.Crossing.{Cross, after_decision, next_word, all_delivered, input_at, is_failed}
-use Rattle.sdh_terminal.specs.Sending as terminal
-use Rattle.sdh_terminal.specs.Sending.{Sending, with_word, frame_from, after_sending}
+use Rattle.sdh_terminal.specs.Sending.{Sending, new_sending, with_word, frame_from, after_sending}
 use Rattle.sdh_nodestate.specs.declared.Needs.{Needs}
 use Rattle.sdh_nodestate.specs.declared.Heard.{Heard}
 use Rattle.sdh_nodestate.specs.declared.Sent.{Sent}
@@ -64,10 +63,6 @@ new_receiving s = record {
   readings = replicate (n_of s.rate) start;
 }
 
--- a side that has sent nothing
-abbrev pub new_sending : Settings → K → Sending
-new_sending s k = terminal.new_sending s.rate k
-
 -- the node at a position of a ring with these circuits: idle, without commands and defects
 unfoldable pub new_node : Settings → List ℕ → List Provisioned → Pos → Node
 new_node s ids circuits at = record {
@@ -80,8 +75,8 @@ new_node s ids circuits at = record {
   east = new_receiving s;
   state = state.Idle tt;
   ports = tributaries_at at circuits;
-  west_out = new_sending s (first_word ids at.0 West);
-  east_out = new_sending s (first_word ids at.0 East);
+  west_out = new_sending s.rate (first_word ids at.0 West);
+  east_out = new_sending s.rate (first_word ids at.0 East);
   held = 0;
   calm = false;
 }
@@ -158,8 +153,8 @@ pub record Frames : Type 0 where
   pub west : Frame
   pub east : Frame
 
-unfoldable pub frames_of : Cross → Node → Frames
-frames_of x n = record {
+unfoldable pub node_frames : Cross → Node → Frames
+node_frames x n = record {
   west = frame_from (input_at x (added_by n.ports) West) (with_next_word (is_held n) x West n.west_out);
   east = frame_from (input_at x (added_by n.ports) East) (with_next_word (is_held n) x East n.east_out);
 }
@@ -191,7 +186,7 @@ with_calm old new = record new { calm = may_be_calm old && same_compared (compar
 
 -- the round: the node after it, and what it sends
 unfoldable pub node_round : ℕ → Node → Node × Frames
-node_round now n = (with_calm n (after_crossing (crossing now n) n), frames_of (crossing now n) n)
+node_round now n = (with_calm n (after_crossing (crossing now n) n), node_frames (crossing now n) n)
 
 -- ---- what others read of a node
 

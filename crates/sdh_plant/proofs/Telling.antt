@@ -22,11 +22,11 @@ all_left rate xs next b found =
     let rest : take (length xs - next) (drop next xs) ≡ drop next xs = take_all _ _ (omega (arith, length-drop {A = Told})) in
     list_all-map (is_at rate) arrival_of (drop next xs) ∙ ap (list_all (λ told. is_at rate (arrival_of told))) (sym rest) ∙ sym found
 
-pub told_at-all : (rate : Rate) (told : List Arrival) → list_all (is_at rate) told ≡ true → told ≡ told_at_rate rate told
-told_at-all rate told all = sym (ap (λ (b : Bool). if b then told else []) all)
+pub told_at_rate-all : (rate : Rate) (told : List Arrival) → list_all (is_at rate) told ≡ true → told ≡ told_at_rate rate told
+told_at_rate-all rate told all = sym (ap (λ (b : Bool). if b then told else []) all)
 
-pub told_at-none : (rate : Rate) (told : List Arrival) → list_all (is_at rate) told ≡ false → [] ≡ told_at_rate rate told
-told_at-none rate told some = sym (ap (λ (b : Bool). if b then told else []) some)
+pub told_at_rate-none : (rate : Rate) (told : List Arrival) → list_all (is_at rate) told ≡ false → [] ≡ told_at_rate rate told
+told_at_rate-none rate told some = sym (ap (λ (b : Bool). if b then told else []) some)
 
 -- the plant after prepare
 pub told_of-prepared : (rate : Rate) (n : ℕ) (old : HeldTold) (fibres : HeldFibres) (told : List Arrival) → fibres ≡ clear_fibres rate n

@@ -22,8 +22,8 @@ use Rattle.sdh_plan.specs.declared.step.Step.TheVariants as step
 use Rattle.sdh_report.specs.declared.status.Status.{Status}
 use Rattle.sdh_report.specs.declared.status.Status.TheVariants as status
 use Rattle.sdh_scripts.specs.Walks.{Walk}
-use Rattle.sdh_scripts.specs.Scripts.{Ended, Breaks, Refuses, Runs, Ran, ran_unsettled, ran_settled, script, IsRan, sent_by, IsCutShort}
-use Rattle.sdh_scripts.specs.Scripts.{ComesTo}
+use Rattle.sdh_scripts.specs.Scripts.{Ended, Breaks, Refuses, Runs, Ran, ran_unsettled, ran_settled, script, IsRan, reports_within}
+use Rattle.sdh_scripts.specs.Scripts.{IsCutShort, ComesTo}
 use Rattle.sdh_scripts.specs.Laws.{KeepsRounds, KnownScripts}
 use Rattle.sdh_scripts.proofs.Frames.{more_of, grows, take_past, appended, none_appended, left_run, frames_sent, knows_after, length-all}
 use Rattle.sdh_scripts.proofs.Frames.{front, run_on, arrive_on, IsSentTo, small_of, sent_to}
@@ -42,17 +42,19 @@ module _ {N T : Type 0} (walk : Walk N T) (law : KeepsRounds walk) where
   abbrev end_of : T → ℕ
   end_of r = walk.last r + 1 + walk.behind
 
-  skipped : (n frames : ℕ) (r : T) (rs : List T) → frames < 2 * n * end_of r → sent_by walk n frames (r ∷ rs) ≡ sent_by walk n frames rs
+  skipped : (n frames : ℕ) (r : T) (rs : List T) → frames < 2 * n * end_of r
+      → reports_within walk n frames (r ∷ rs) ≡ reports_within walk n frames rs
   skipped n frames r rs h =
       let last = 2 * n * end_of r in
       let b : nat_le last frames ≡ false = grind (arith, nat_tests) in
-      ap (λ (c : Bool). if c then r ∷ sent_by walk n frames rs else sent_by walk n frames rs) b
+      ap (λ (c : Bool). if c then r ∷ reports_within walk n frames rs else reports_within walk n frames rs) b
 
-  kept : (n frames : ℕ) (r : T) (rs : List T) → 2 * n * end_of r ≤ frames → sent_by walk n frames (r ∷ rs) ≡ r ∷ sent_by walk n frames rs
+  kept : (n frames : ℕ) (r : T) (rs : List T) → 2 * n * end_of r ≤ frames
+      → reports_within walk n frames (r ∷ rs) ≡ r ∷ reports_within walk n frames rs
   kept n frames r rs h =
       let last = 2 * n * end_of r in
       let b : nat_le last frames ≡ true = grind (arith, nat_tests) in
-      ap (λ (c : Bool). if c then r ∷ sent_by walk n frames rs else sent_by walk n frames rs) b
+      ap (λ (c : Bool). if c then r ∷ reports_within walk n frames rs else reports_within walk n frames rs) b
 
   -- ---- a settle step where arrivals are known
 
@@ -208,15 +210,15 @@ module _ {N T : Type 0} (walk : Walk N T) (law : KeepsRounds walk) where
 
   -- no report of a script is sent with so few frames as rounds before had
   pub none_sent : (limit before n frames : ℕ) (steps : List Step) (w : World N) → 1 ≤ length w.ring.ids
-      → frames < 2 * n * (w.ring.rounds + 1) → sent_by walk n frames (script walk limit before steps w).reports ≡ []
+      → frames < 2 * n * (w.ring.rounds + 1) → reports_within walk n frames (script walk limit before steps w).reports ≡ []
   none_sent limit before n frames [] w some low = refl
   none_sent limit before n frames (step.Settle ∷ later) w some low =
       by_count (settles_in st w limit) refl (λ k. none_sent limit (before + 1) n frames later (run st (whole k) w))
     where
       by_count : (o : Option ℕ) → settles_in st w limit ≡ o
           → ((k : ℕ) → 1 ≤ length (run st (whole k) w).ring.ids → frames < 2 * n * ((run st (whole k) w).ring.rounds + 1)
-          → sent_by walk n frames (script walk limit (before + 1) later (run st (whole k) w)).reports ≡ [])
-          → sent_by walk n frames (after_settle limit before later w o).reports ≡ []
+          → reports_within walk n frames (script walk limit (before + 1) later (run st (whole k) w)).reports ≡ [])
+          → reports_within walk n frames (after_settle limit before later w o).reports ≡ []
       by_count None e rest = refl
       by_count (Some k) e rest =
           let s = ((steps_are_computed st).settled w limit k).0 e in
@@ -266,9 +268,9 @@ module _ {N T : Type 0} (walk : Walk N T) (law : KeepsRounds walk) where
               ∙ appended w.fibres.sent first (take c later.frames)
               ∙ ap (λ l. option_map (λ sent. sent ++ l) w.fibres.sent) (sym (take_past first later.frames c));
           reports_are = is
-              ∙ ap (λ l. r ∷ l) (x.1.reports_are ∙ ap (λ j. sent_by walk j
+              ∙ ap (λ l. r ∷ l) (x.1.reports_are ∙ ap (λ j. reports_within walk j
               (2 * length (run st m w).ring.ids * (run st m w).ring.rounds + c) later.reports) same
-              ∙ ap (λ i. sent_by walk n i later.reports) total)
+              ∙ ap (λ i. reports_within walk n i later.reports) total)
               ∙ sym (kept n (2 * n * w.ring.rounds + (length first + c)) r later.reports up);
         },
       )

@@ -9,8 +9,8 @@ use Rattle.sdh_plan.specs.declared.step.Step.TheVariants as step
 use Rattle.sdh_report.specs.declared.status.Status.{Status}
 use Rattle.sdh_report.specs.declared.status.Status.TheVariants as status
 use Rattle.sdh_scripts.specs.Walks.{Walk}
-use Rattle.sdh_scripts.specs.Scripts.{Stops, Refuses, Runs, Ran, script, sent_by, IsRan, IsCutShort}
-use Rattle.sdh_scripts.specs.Outcomes.{Comes, ComesKnown, IsSettled}
+use Rattle.sdh_scripts.specs.Scripts.{Stops, Refuses, Runs, Ran, script, reports_within, IsRan, IsCutShort}
+use Rattle.sdh_scripts.specs.Outcomes.{ComesOfSteps, ComesOfKnownRun, IsSettled}
 use Rattle.sdh_scripts.specs.Laws.{KeepsRounds}
 use Rattle.sdh_scripts.proofs.Known.{none_sent, known_scripts}
 use Rattle.sdh_scripts.proofs.Frames.{none_appended}
@@ -50,20 +50,20 @@ module _ {N T : Type 0} (walk : Walk N T) where
       ]
 
   pub comes_ends : (limit : ℕ) (steps : List Step) (w : World N) (f left : Fibres) (reports : List T) (end : Status)
-      → Comes walk limit steps w f reports end left → EndsIn end
+      → ComesOfSteps walk limit steps w f reports end left → EndsIn end
   comes_ends limit steps w f left reports end (inl x) = inr (inr x.0)
   comes_ends limit steps w f left reports end (inr x) = ends_in limit 0 steps w reports end x.0 x.2
 
   -- one that settles, and that no fault broke off, is done
   pub settled_done : (limit : ℕ) (steps : List Step) (w : World N) (f left : Fibres) (reports : List T) (end : Status)
-      → Comes walk limit steps w f reports end left → IsSettled end → (end ≡ status.PlantFault → ⊥) → end ≡ status.Ok
+      → ComesOfSteps walk limit steps w f reports end left → IsSettled end → (end ≡ status.PlantFault → ⊥) → end ≡ status.Ok
   settled_done limit steps w f left reports end x settled fine = elim (comes_ends limit steps w f left reports end x) [
     | inl done ↦ done
     | inr (inl at) ↦ absurd (settled at.0 at.1)
     | inr (inr fault) ↦ absurd (fine fault)
   ]
 
-  pub known_done : (r : Ran N T) (n : ℕ) (f left : Fibres) (reports : List T) (end : Status) → ComesKnown walk r n f reports end left
+  pub known_done : (r : Ran N T) (n : ℕ) (f left : Fibres) (reports : List T) (end : Status) → ComesOfKnownRun walk r n f reports end left
       → r.ending ≡ status.Ok → (end ≡ status.PlantFault → ⊥) → end ≡ status.Ok
   known_done r n f left reports end (inl x) done fine = x.end_is ∙ done
   known_done r n f left reports end (inr x) done fine = absurd (fine x.0)
@@ -76,7 +76,7 @@ module _ {N T : Type 0} (walk : Walk N T) where
         → IsRan (script walk limit 0 steps w) reports end last
         ⊎ ((end ≡ status.PlantFault) × IsCutShort walk (script walk limit 0 steps w) (length w.ring.ids)
         (2 * length w.ring.ids * w.ring.rounds) w reports last)
-        → ComesKnown walk (script walk limit 0 steps w) (length w.ring.ids) f reports end left
+        → ComesOfKnownRun walk (script walk limit 0 steps w) (length w.ring.ids) f reports end left
     came left reports end last is (inl r) = inl (record {
       reports_are = r.reports_are;
       end_is = r.end_is;
@@ -91,15 +91,16 @@ module _ {N T : Type 0} (walk : Walk N T) where
           record {
             count = r.1.count;
             frames = ap (λ (g : Fibres). g.sent) (sym is) ∙ r.1.frames ∙ ap (option_map (λ l. l ++ take r.1.count a.frames)) sent;
-            reports_are = r.1.reports_are ∙ ap (λ m. sent_by walk n m a.reports) same;
+            reports_are = r.1.reports_are ∙ ap (λ m. reports_within walk n m a.reports) same;
           },
         )
 
-    pub known_comes : (left : Fibres) (reports : List T) (end : Status) → Comes walk limit steps w f reports end left → Knows w.fibres
-        → ComesKnown walk (script walk limit 0 steps w) (length w.ring.ids) f reports end left
+    pub known_comes : (left : Fibres) (reports : List T) (end : Status) → ComesOfSteps walk limit steps w f reports end left
+        → Knows w.fibres
+        → ComesOfKnownRun walk (script walk limit 0 steps w) (length w.ring.ids) f reports end left
     known_comes left reports end (inl x) knows =
         let n = length w.ring.ids in
-        let none : sent_by walk n 0 (script walk limit 0 steps w).reports ≡ [] =
+        let none : reports_within walk n 0 (script walk limit 0 steps w).reports ≡ [] =
         none_sent walk law limit 0 n 0 steps w some (omega (arith, some, ap (λ t. 2 * n * (t + 1)) new)) in
         inr (x.0, record { count = 0; frames = ap (λ (g : Fibres). g.sent) x.2 ∙ none_appended f.sent; reports_are = x.1 ∙ sym none })
     known_comes left reports end (inr x) knows =

@@ -14,8 +14,7 @@ use Rattle.sdh_terms.specs.declared.Rate.{Rate}
 use Rattle.sdh_scripts.specs.Walks.{Walk}
 use Rattle.sdh_scripts.specs.Scripts.{Runs}
 use Rattle.sdh_scripts.specs.Texts.{HasRoom, Lists}
-use Rattle.sdh_scripts.specs.Outcomes.{with_fibres, Came, IsSettled}
-use Rattle.sdh_scripts.specs.Outcomes as outcomes
+use Rattle.sdh_scripts.specs.Outcomes.{with_fibres, Came, IsSettled, ComesOfKnownRun}
 use Rattle.sdh_scripts.specs.Laws.{KeepsRounds}
 use Rattle.sdh_scripts.specs.Plans.{Account, world_of, ran_of, Comes, ComesKnown, MaySettle, IsRunOf, Tells}
 use Rattle.sdh_scripts.specs.NewRuns.{MayBegin, IsOf}
@@ -100,7 +99,7 @@ module _ {N T : Type 0} (t : Account N T) (plan : Planned) (f left : Fibres) (en
       let least = fits.nodes_fit.enough in
       let size : length (t.new_ring plan).ids ≡ length plan.nodes = ap (λ (l : List ℕ). length l) (new.ids plan) in
       let some : 1 ≤ length (t.new_ring plan).ids = omega (arith, size, least) in
-      subst (λ (n : ℕ). outcomes.ComesKnown t.walk (ran_of t plan f) n f reports end left) size
+      subst (λ (n : ℕ). ComesOfKnownRun t.walk (ran_of t plan f) n f reports end left) size
       (known_comes t.walk law plan.limit plan.steps (world_of t plan f) f (new.rounds plan) refl some
       (new.nodes plan ∙ sym size) left reports end x knows)
 

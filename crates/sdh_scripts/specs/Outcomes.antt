@@ -9,7 +9,7 @@ use Rattle.sdh_plan.specs.declared.step.Step.{Step}
 use Rattle.sdh_report.specs.declared.status.Status.{Status}
 use Rattle.sdh_report.specs.declared.status.Status.TheVariants as status
 use Rattle.sdh_scripts.specs.Walks.{Walk}
-use Rattle.sdh_scripts.specs.Scripts.{Runs, Ran, sent_by}
+use Rattle.sdh_scripts.specs.Scripts.{Runs, Ran, reports_within}
 
 -- a ring over fibres that were just prepared for it
 abbrev pub with_fibres : {N : Type 0} → HeldRing N → Fibres → World N
@@ -17,8 +17,8 @@ with_fibres r f = world r (prepared r.settings.rate (length r.ids) f)
 
 -- Over any plant: it made no fibres, and nothing ran; or these are the reports of what came of the steps from this world, which has the
 -- fibres that were prepared.
-abbrev pub Comes : {N T : Type 0} → Walk N T → ℕ → List Step → World N → Fibres → List T → Status → Fibres → Type 0
-Comes {N} walk limit steps w f reports end left =
+abbrev pub ComesOfSteps : {N T : Type 0} → Walk N T → ℕ → List Step → World N → Fibres → List T → Status → Fibres → Type 0
+ComesOfSteps {N} walk limit steps w f reports end left =
     ((end ≡ status.PlantFault) × (reports ≡ []) × (left ≡ f))
     ⊎ ((last : World N) × (last.fibres ≡ left) × Runs walk limit 0 steps w reports end last)
 
@@ -27,7 +27,7 @@ pub record Came {N T : Type 0} (walk : Walk N T) (limit : ℕ) (text_of : T → 
     (text : List ℕ) (end : Status) (left : Fibres) : Type 0 where
   pub reports : List T
   pub text_is : text ≡ flat_map text_of reports
-  pub ran : Comes walk limit steps w f reports end left
+  pub ran : ComesOfSteps walk limit steps w f reports end left
 
 -- Where the arrivals are known it ended so: reports, ending and fibres are those that the script comes to, and with them all frames sent.
 pub record IsDone {N T : Type 0} (r : Ran N T) (reports : List T) (end : Status) (left : Fibres) : Type 0 where
@@ -40,10 +40,10 @@ pub record IsDone {N T : Type 0} (r : Ran N T) (reports : List T) (end : Status)
 pub record IsCut {N T : Type 0} (walk : Walk N T) (r : Ran N T) (n : ℕ) (f : Fibres) (reports : List T) (left : Fibres) : Type 0 where
   pub count : ℕ
   pub frames : Appends f (take count r.frames) left
-  pub reports_are : reports ≡ sent_by walk n count r.reports
+  pub reports_are : reports ≡ reports_within walk n count r.reports
 
-abbrev pub ComesKnown : {N T : Type 0} → Walk N T → Ran N T → ℕ → Fibres → List T → Status → Fibres → Type 0
-ComesKnown walk r n f reports end left = IsDone r reports end left ⊎ ((end ≡ status.PlantFault) × IsCut walk r n f reports left)
+abbrev pub ComesOfKnownRun : {N T : Type 0} → Walk N T → Ran N T → ℕ → Fibres → List T → Status → Fibres → Type 0
+ComesOfKnownRun walk r n f reports end left = IsDone r reports end left ⊎ ((end ≡ status.PlantFault) × IsCut walk r n f reports left)
 
 -- no settle step was unsettled
 abbrev pub IsSettled : Status → Type 0

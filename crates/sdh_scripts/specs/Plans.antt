@@ -10,8 +10,7 @@ use Rattle.sdh_report.specs.declared.status.Status.{Status}
 use Rattle.sdh_report.specs.declared.status.Status.TheVariants as status
 use Rattle.sdh_scripts.specs.Walks.{Walk}
 use Rattle.sdh_scripts.specs.Scripts.{Ran, script}
-use Rattle.sdh_scripts.specs.Outcomes.{with_fibres, IsSettled}
-use Rattle.sdh_scripts.specs.Outcomes as outcomes
+use Rattle.sdh_scripts.specs.Outcomes.{with_fibres, IsSettled, ComesOfSteps, ComesOfKnownRun}
 
 -- how a plan is told of that is run over a ring of some kind
 pub record Account (N T : Type 0) : Type 1 where
@@ -32,11 +31,11 @@ ran_of t plan f = script t.walk plan.limit 0 plan.steps (world_of t plan f)
 
 -- over any plant
 abbrev pub Comes : {N T : Type 0} → Account N T → Planned → Fibres → List T → Status → Fibres → Type 0
-Comes t plan f reports end left = outcomes.Comes t.walk plan.limit plan.steps (world_of t plan f) f reports end left
+Comes t plan f reports end left = ComesOfSteps t.walk plan.limit plan.steps (world_of t plan f) f reports end left
 
 -- where the arrivals are known
 abbrev pub ComesKnown : {N T : Type 0} → Account N T → Planned → Fibres → List T → Status → Fibres → Type 0
-ComesKnown t plan f reports end left = outcomes.ComesKnown t.walk (ran_of t plan f) (length plan.nodes) f reports end left
+ComesKnown t plan f reports end left = ComesOfKnownRun t.walk (ran_of t plan f) (length plan.nodes) f reports end left
 
 -- a script that settles: where the arrivals are known each settle step has a quiet window within the limit; or the fibres are honest and
 -- the limit is large

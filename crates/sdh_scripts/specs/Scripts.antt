@@ -107,10 +107,11 @@ pub record IsRan {N T : Type 0} (r : Ran N T) (reports : List T) (end : Status) 
 
 -- of reports, those of settle steps whose last round, or the last of those behind it, is among the first that send so many frames:
 -- a ring of n sends 2 n in a round
-abbrev pub sent_by : {N T : Type 0} → Walk N T → ℕ → ℕ → List T → List T
-sent_by walk n frames [] = []
-sent_by walk n frames (r ∷ reports) =
-    if nat_le (2 * n * (walk.last r + 1 + walk.behind)) frames then r ∷ sent_by walk n frames reports else sent_by walk n frames reports
+abbrev pub reports_within : {N T : Type 0} → Walk N T → ℕ → ℕ → List T → List T
+reports_within walk n frames [] = []
+reports_within walk n frames (r ∷ reports) =
+    if nat_le (2 * n * (walk.last r + 1 + walk.behind)) frames
+    then r ∷ reports_within walk n frames reports else reports_within walk n frames reports
 
 -- A fault broke it off when so many of its frames were sent, after `before` that had been sent in rounds before: its reports are
 -- those of the settle steps of which all frames were sent, and all of the rounds behind them.
@@ -118,7 +119,7 @@ pub record IsCutShort {N T : Type 0} (walk : Walk N T) (r : Ran N T) (n before :
     (left : World N) : Type 0 where
   pub count : ℕ
   pub frames : Appends w.fibres (take count r.frames) left.fibres
-  pub reports_are : reports ≡ sent_by walk n (before + count) r.reports
+  pub reports_are : reports ≡ reports_within walk n (before + count) r.reports
 
 -- it ended so, or a fault broke it off
 abbrev pub ComesTo : {N T : Type 0} → Walk N T → ℕ → ℕ → List Step → World N → List T → Status → World N → Type 0

@@ -16,7 +16,7 @@ use Rattle.sdh_request.specs.declared.settings.Settings.{Settings}
 use Rattle.sdh_terminal.specs.Receiving.{after_taking}
 use Rattle.sdh_terminal.specs.Tributaries.{port_of, HasPort, outlet_of, tributaries_at}
 use Rattle.sdh_rounds.specs.Rounds as any_round
-use Rattle.sdh_sncp.specs.Node.{PathNode, new_node, told, crossing, after_crossing, with_calm, node_round}
+use Rattle.sdh_sncp.specs.Node.{PathNode, new_node, path_node_told, crossing, after_crossing, with_calm, node_round}
 use Rattle.sdh_sncp.specs.Ring.{HeldPath, new_nodes, with_arrivals, all_with_arrivals, node_after, outlet_at}
 use Rattle.sdh_terminal.specs.Fixed.{FixedPort, fixed_port}
 use Rattle.sdh_sncp.specs.Fixed.{Fixed, fixed, HaveRun}
@@ -26,7 +26,7 @@ use Rattle.sdh_sncp.proofs.New.{length-new, new_at}
 
 -- ---- one node
 
-pub fixed_told : (d : Side) (a : Arrival) (n : PathNode) → fixed (told d a n) ≡ fixed n
+pub fixed_told : (d : Side) (a : Arrival) (n : PathNode) → fixed (path_node_told d a n) ≡ fixed n
 unfolding fixed
 fixed_told West a n = refl
 fixed_told East a n = refl

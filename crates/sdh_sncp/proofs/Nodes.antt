@@ -28,7 +28,7 @@ use Rattle.sdh_spans.specs.Spans.{line_after}
 use Rattle.sdh_spans.proofs.Finding.{inlets_stay}
 use Rattle.sdh_spans.proofs.Sends.{sides_send_so}
 use Rattle.sdh_sncp.specs.Node.{PathNode, PathCross, lines_of, input_at, crossing, ports_after, dropped_to, after_crossing, with_calm}
-use Rattle.sdh_sncp.specs.Node.{frames_of, node_round, inlet_on, sending_on}
+use Rattle.sdh_sncp.specs.Node.{node_frames, node_round, inlet_on, sending_on}
 use Rattle.sdh_sncp.specs.Stations.{path_node}
 use Rattle.sdh_sncp.specs.Ring.{nowhere, node_at, AtEach, World, with_arrivals, all_with_arrivals, node_after, sent_on, arrivals_of}
 use Rattle.sdh_sncp.specs.Ring.{nodes_with, round_with, round}
@@ -95,7 +95,7 @@ module _ (n : PathNode) where
 
   -- the frame that goes out on a side
   pub frame_is : (d : Side) → sent_on d n ≡ line_frame_from (puts n d) (sending_on d n)
-  unfolding node_round frames_of
+  unfolding node_round node_frames
   frame_is West = refl
   frame_is East = refl
 

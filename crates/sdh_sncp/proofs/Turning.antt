@@ -11,7 +11,7 @@ use Rattle.sdh_terminal.specs.Tributaries.{Tributary, added_by, added_last, all_
 use Rattle.sdh_terminal.specs.Sending.{Sending, frame_from, after_sending}
 use Rattle.sdh_terminal.proofs.Ports.{holds-adds}
 use Rattle.sdh_sncp.specs.Node.{PathCross, PathNode, after_taken, lines_of, leads, crossing, dropped_to, input_at, ports_after, unchanged}
-use Rattle.sdh_sncp.specs.Node.{after_crossing, frames_of, with_calm, node_round, GoesOn}
+use Rattle.sdh_sncp.specs.Node.{after_crossing, node_frames, with_calm, node_round, GoesOn}
 
 -- the node that holds these
 abbrev pub node_of : ℕ → ℕ → PathCross → List Tributary → Sending → Sending → Bool → PathNode
@@ -56,12 +56,12 @@ module _ (threshold rounds : ℕ) (x0 : PathCross) (ports : List Tributary) (wo 
 
     pub west_frame_is : (frame : Frame) → frame ≡ frame_from (all_fed_by (lines_of x) (added_last fs) (leads x West)) wo
         → frame ≡ (node_round n).1.west
-    unfolding node_round frames_of
+    unfolding node_round node_frames
     west_frame_is frame send = frame_is West wo frame send
 
     pub east_frame_is : (frame : Frame) → frame ≡ frame_from (all_fed_by (lines_of x) (added_last fs) (leads x East)) eo
         → frame ≡ (node_round n).1.east
-    unfolding node_round frames_of
+    unfolding node_round node_frames
     east_frame_is frame send = frame_is East eo frame send
 
     module _ (wa ea : Sending) (west_send : wa ≡ after_sending (all_fed_by (lines_of x) (added_last fs) (leads x West)) wo)

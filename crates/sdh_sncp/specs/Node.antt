@@ -81,9 +81,9 @@ abbrev pub cross_told : Side → Arrival → PathCross → PathCross
 cross_told West a x = record x { west = inlet_told a x.west }
 cross_told East a x = record x { east = inlet_told a x.east }
 
-abbrev pub told : Side → Arrival → PathNode → PathNode
-told West a n = record n { west = inlet_told a n.west }
-told East a n = record n { east = inlet_told a n.east }
+abbrev pub path_node_told : Side → Arrival → PathNode → PathNode
+path_node_told West a n = record n { west = inlet_told a n.west }
+path_node_told East a n = record n { east = inlet_told a n.east }
 
 -- ---- a round
 
@@ -164,8 +164,8 @@ pub record Frames : Type 0 where
   pub west : Frame
   pub east : Frame
 
-unfoldable pub frames_of : PathCross → PathNode → Frames
-frames_of x n = record { west = frame_from (input_at x n.ports West) n.west_out; east = frame_from (input_at x n.ports East) n.east_out }
+unfoldable pub node_frames : PathCross → PathNode → Frames
+node_frames x n = record { west = frame_from (input_at x n.ports West) n.west_out; east = frame_from (input_at x n.ports East) n.east_out }
 
 -- the round was calm where one ran before it and nothing of what is compared changed
 unfoldable pub with_calm : PathNode → PathNode → PathNode
@@ -173,7 +173,7 @@ with_calm old new = record new { calm = nat_le 1 old.rounds && unchanged new old
 
 -- the node after a round, and what it sends
 unfoldable pub node_round : PathNode → PathNode × Frames
-node_round n = (with_calm n (after_crossing (crossing n) n), frames_of (crossing n) n)
+node_round n = (with_calm n (after_crossing (crossing n) n), node_frames (crossing n) n)
 
 -- ---- what others read of a node
 

@@ -3,7 +3,7 @@ ghost use Rattle.std.specs.Prelude.{◌≡◌, ◌≢◌, ◌&&◌, nat_le, ◌+
 ghost use Rattle.sdh_terms.specs.Rates.{n_of};
 ghost use Rattle.sdh_plant.specs.Arrivals.{arrived_in};
 ghost use Rattle.sdh_terminal.specs.Tributaries.{HasPort, outlet_of};
-ghost use Rattle.sdh_sncp.specs.Node.{new_node, told, node_round, GoesOn};
+ghost use Rattle.sdh_sncp.specs.Node.{new_node, path_node_told, node_round, GoesOn};
 
 use crate::cross::PathCross;
 use sdh_circuits::{CircuitMap, PortId};
@@ -71,7 +71,7 @@ impl PathNode {
     pub fn exchange(&mut self, side: Side, arrived: Arrived, inbox: &mut Landed)
         requires rate { inbox.old.rate ≡ self.old.west.section.rate }
         requires here { arrived ≡ Arrived.Frame → inbox.old.landed ≢ None }
-        ensures node { self.new ≡ told side (arrived_in arrived inbox.old.landed) self.old }
+        ensures node { self.new ≡ path_node_told side (arrived_in arrived inbox.old.landed) self.old }
         ensures rate { inbox.new.rate ≡ inbox.old.rate }
         ensures dark { arrived ≡ Arrived.Dark → inbox.new ≡ inbox.old }
         ensures taken { arrived ≡ Arrived.Frame → inbox.new.landed ≡ None }

@@ -12,7 +12,7 @@ use Rattle.std.specs.Option.{option_map_or}
 use Rattle.sdh_basics.specs.Cells.{cells}
 use Rattle.sdh_basics.proofs.CellsLaws.{cells-zero, cells-more}
 use Rattle.sdh_circuits.specs.Provisioned.{Provisioned, is_on}
-use Rattle.sdh_circuits.specs.Provisioning.{Provisioning, IsProvisioning, IsInRing, size_of, on_span}
+use Rattle.sdh_circuits.specs.Provisioning.{Provisioning, IsProvisioning, IsInRing, ring_size, on_span}
 use Rattle.sdh_ringmap.specs.declared.Pos.{Pos}
 use Rattle.sdh_squelch.specs.declared.Row.{Row}
 use Rattle.sdh_squelch.specs.Table.{circuit_from, circuit_on, HasEnds}
@@ -53,22 +53,22 @@ found_by n s m j cs c e h =
     ∙ ap (λ k. Some (entry k c)) (omega arith)
 
 module _ (p : Provisioning) (ids : List ℕ) (kept : KeepsRing p ids) where
-  size : p.circuits ≡ [] → (s m : ℕ) → circuit_on (length ids) p.circuits s m ≡ circuit_on (size_of p) p.circuits s m
-  size e s m = ap (λ cs. circuit_on (length ids) cs s m) e ∙ sym (ap (λ cs. circuit_on (size_of p) cs s m) e)
+  size : p.circuits ≡ [] → (s m : ℕ) → circuit_on (length ids) p.circuits s m ≡ circuit_on (ring_size p) p.circuits s m
+  size e s m = ap (λ cs. circuit_on (length ids) cs s m) e ∙ sym (ap (λ cs. circuit_on (ring_size p) cs s m) e)
 
-  sized : p.ring ≡ Some ids → size_of p ≡ length ids
+  sized : p.ring ≡ Some ids → ring_size p ≡ length ids
   sized e = ap (λ r. option_map_or length r 0) e
 
-  same_size : (s m : ℕ) → circuit_on (length ids) p.circuits s m ≡ circuit_on (size_of p) p.circuits s m
+  same_size : (s m : ℕ) → circuit_on (length ids) p.circuits s m ≡ circuit_on (ring_size p) p.circuits s m
   same_size s m = elim kept [
     | inl none ↦ size none s m
-    | inr ring ↦ ap (λ n. circuit_on n p.circuits s m) (let e : size_of p ≡ length ids = sized ring in sym e)
+    | inr ring ↦ ap (λ n. circuit_on n p.circuits s m) (let e : ring_size p ≡ length ids = sized ring in sym e)
   ]
 
   -- what a circuit map finds is what the table says
   pub row-found : (s m j : ℕ) (c : Provisioned) → on_span p s m ≡ Some j → slice_get p.circuits j ≡ Some c
       → circuit_on (length ids) p.circuits s m ≡ Some (entry j c)
-  row-found s m j c e h = same_size s m ∙ found_by (size_of p) s m j p.circuits c e h
+  row-found s m j c e h = same_size s m ∙ found_by (ring_size p) s m j p.circuits c e h
 
   pub row-read : (s m j : ℕ) (c : Provisioned) (from to : Pos) → Some j ≡ on_span p s m → slice_get p.circuits j ≡ Some c → from ≡ c.from
       → to ≡ c.to
@@ -80,7 +80,7 @@ module _ (p : Provisioning) (ids : List ℕ) (kept : KeepsRing p ids) where
 
   pub row-none : (s m : ℕ) → on_span p s m ≡ None → circuit_on (length ids) p.circuits s m ≡ None
   row-none s m e =
-      same_size s m ∙ none_from (size_of p) s m 0 0 p.circuits (sym (position_from-zero (is_on (size_of p) s m) p.circuits) ∙ e)
+      same_size s m ∙ none_from (ring_size p) s m 0 0 p.circuits (sym (position_from-zero (is_on (ring_size p) s m) p.circuits) ∙ e)
 
   -- both ends of a circuit are in the ring
   pub row-ends : IsProvisioning p → (j : ℕ) (c : Provisioned) (from to : Pos) → slice_get p.circuits j ≡ Some c → from ≡ c.from → to ≡ c.to
@@ -88,9 +88,9 @@ module _ (p : Provisioning) (ids : List ℕ) (kept : KeepsRing p ids) where
   row-ends form j c from to h is_from is_to = elim kept [
     | inl none ↦ absurd (nothing (ap (λ cs. slice_get cs j) (sym none) ∙ h))
     | inr ring ↦ (
-        let e : size_of p ≡ length ids = sized ring in
-        let inside : IsInRing (size_of p) c =
-        subst (IsInRing (size_of p)) (get_or_from_slice_get p.circuits j c c h)
+        let e : ring_size p ≡ length ids = sized ring in
+        let inside : IsInRing (ring_size p) c =
+        subst (IsInRing (ring_size p)) (get_or_from_slice_get p.circuits j c c h)
         (form.circuits.in_ring j c (slice_get_within p.circuits j c h)) in
         let f = inside.from_inside in let t = inside.to_inside in
         let a : from.0 ≡ c.from.0 = ap (λ (x : Pos). x.0) is_from in let b : to.0 ≡ c.to.0 = ap (λ (x : Pos). x.0) is_to in

@@ -53,7 +53,7 @@ kept_at plan s p i d r are low at is =
 -- what it asks for
 pub asks_is : (plan : Planned) (case : List Failure) (p : ℕ) (d : Side)
     → asks_with plan case p d ≡ model.asks plan.settings.wait
-    (walk.settled plan.settings.threshold (walk.rests plan.settings.threshold (length plan.nodes) p d
+    (walk.at_rest_now plan.settings.threshold (walk.rests plan.settings.threshold (length plan.nodes) p d
     (case_steps (length plan.nodes) plan.settings.threshold case)
     (walk.rests plan.settings.threshold (length plan.nodes) p d plan.steps model.fresh)))
 asks_is plan case p d =
@@ -65,4 +65,4 @@ asks_is plan case p d =
     (ap (λ l. model.rest_in t n p d (scenes [] l) model.fresh) parts
     ∙ rests_is t n p d (plan.steps ++ steps)
     ∙ rests_more t n p d (plan.steps ++ steps) (Settle ∷ []) model.fresh
-    ∙ ap (walk.settled t) (rests_more t n p d plan.steps steps model.fresh))
+    ∙ ap (walk.at_rest_now t) (rests_more t n p d plan.steps steps model.fresh))

@@ -10,7 +10,7 @@ use Rattle.sdh_plan.specs.declared.step.Step.{Step}
 use Rattle.sdh_plan.specs.declared.step.Step.TheVariants as step
 use Rattle.sdh_promise.specs.Changes.{Change, changes_of, scenes}
 use Rattle.sdh_promise.specs.Sides.{Holding, holding_after, all_holding}
-use Rattle.sdh_foretold.specs.Resting as rest
+use Rattle.sdh_foretold.specs.Resting.{fresh, rest_after_changes}
 use Rattle.sdh_foretold.specs.Resting.{Resting, rest_in}
 use Rattle.sdh_verdicts.specs.Sides.{rest_after, rests}
 use Rattle.sdh_verdicts.specs.declared.failure.Failure.{Failure}
@@ -93,7 +93,7 @@ module _ (threshold n p : ℕ) (d : Side) where
 
   by_scenes : (changes : List Change) (steps : List Step) (r : Resting) → Goal changes steps r
   by_scenes changes [] r = refl
-  by_scenes changes (step.Settle ∷ later) r = by_scenes [] later (rest.rest_after threshold n p d changes r)
+  by_scenes changes (step.Settle ∷ later) r = by_scenes [] later (rest_after_changes threshold n p d changes r)
   by_scenes changes (step.Fibre e ∷ later) r =
       change changes (changes_of (step.Fibre e)) later r (by_scenes (changes ++ changes_of (step.Fibre e)) later r)
   by_scenes changes (step.Order q e c ∷ later) r =
@@ -106,9 +106,9 @@ module _ (threshold n p : ℕ) (d : Side) where
       change changes (changes_of (step.Slip port turn count)) later r
       (by_scenes (changes ++ changes_of (step.Slip port turn count)) later r)
 
-  pub rests_is : (steps : List Step) → rest_in threshold n p d (scenes [] (steps ++ end)) rest.fresh
-      ≡ rests threshold n p d (steps ++ end) rest.fresh
-  rests_is steps = sym (by_scenes [] steps rest.fresh)
+  pub rests_is : (steps : List Step) → rest_in threshold n p d (scenes [] (steps ++ end)) fresh
+      ≡ rests threshold n p d (steps ++ end) fresh
+  rests_is steps = sym (by_scenes [] steps fresh)
 
 -- a script that ends with a settle step has one
 pub some_scene : (changes : List Change) (steps : List Step) → scenes changes (steps ++ step.Settle ∷ []) ≡ [] → ⊥

@@ -21,21 +21,22 @@ IsFailureIn n (Node at) = at.0 < n
 IsFailureIn n (Manual at side) = at.0 < n
 IsFailureIn n (Forced at side) = at.0 < n
 
-abbrev pub fibre_step : Condition → Pos → Side → Step
-fibre_step c at side = step.Fibre (record { at = at; side = side; condition = c })
+abbrev pub condition_step : Condition → Pos → Side → Step
+condition_step c at side = step.Fibre (record { at = at; side = side; condition = c })
 
 -- the position on that side
-abbrev pub next : ℕ → Pos → Side → Pos
-next n at side = record { 0 = neighbour n at.0 side }
+abbrev pub neighbour_position : ℕ → Pos → Side → Pos
+neighbour_position n at side = record { 0 = neighbour n at.0 side }
 
 -- the steps, in a ring of n where so many violations are a degradation
 abbrev pub steps_of : ℕ → ℕ → Failure → List Step
-steps_of n threshold (Degraded at side) = fibre_step (condition.Degraded threshold) at side ∷ []
-steps_of n threshold (Cut at side) = fibre_step condition.Cut at side ∷ []
-steps_of n threshold (Span at) = fibre_step condition.Cut at East ∷ fibre_step condition.Cut (next n at East) West ∷ []
+steps_of n threshold (Degraded at side) = condition_step (condition.Degraded threshold) at side ∷ []
+steps_of n threshold (Cut at side) = condition_step condition.Cut at side ∷ []
+steps_of n threshold (Span at) =
+    condition_step condition.Cut at East ∷ condition_step condition.Cut (neighbour_position n at East) West ∷ []
 steps_of n threshold (Node at) =
-    fibre_step condition.Cut at East ∷ fibre_step condition.Cut (next n at East) West ∷ fibre_step condition.Cut (next n at West) East
-    ∷ fibre_step condition.Cut at West ∷ []
+    condition_step condition.Cut at East ∷ condition_step condition.Cut (neighbour_position n at East) West
+    ∷ condition_step condition.Cut (neighbour_position n at West) East ∷ condition_step condition.Cut at West ∷ []
 steps_of n threshold (Manual at side) = step.Order at side command.Manual ∷ []
 steps_of n threshold (Forced at side) = step.Order at side command.Forced ∷ []
 

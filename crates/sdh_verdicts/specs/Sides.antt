@@ -17,12 +17,12 @@ resting_of r = record {
 }
 
 -- the ring comes to rest with what holds now
-abbrev pub settled : ℕ → rest.Resting → rest.Resting
-settled threshold r = rest.at_rest threshold r.holding r
+abbrev pub at_rest_now : ℕ → rest.Resting → rest.Resting
+at_rest_now threshold r = rest.at_rest threshold r.holding r
 
 -- side d of position p in a ring of n after a step: a change is in force at once, and a settle step lets the side come to rest
 abbrev pub rest_after : ℕ → ℕ → ℕ → Side → Step → rest.Resting → rest.Resting
-rest_after threshold n p d step.Settle r = settled threshold r
+rest_after threshold n p d step.Settle r = at_rest_now threshold r
 rest_after threshold n p d s r = record r { holding = all_holding n p d (changes_of s) r.holding }
 
 -- after some steps

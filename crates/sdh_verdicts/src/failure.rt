@@ -1,6 +1,6 @@
 //! The failures that are looked at.
 ghost use Rattle.std.specs.Prelude.{◌≡◌, ◌*◌, ◌/◌, ◌<◌, ◌≤◌, length, slice_get};
-ghost use Rattle.sdh_verdicts.specs.Failures.{IsFailureIn, fibre_step, steps_of, side_of, failure_at};
+ghost use Rattle.sdh_verdicts.specs.Failures.{IsFailureIn, condition_step, steps_of, side_of, failure_at};
 
 use sdh_plan::Step;
 use sdh_request::Command;
@@ -78,7 +78,7 @@ pub fn failure_at(nodes: usize, number: usize) -> Failure
 
 // The step that cuts a fibre.
 fn cut(at: Pos, side: Side) -> Step
-    ensures { result ≡ fibre_step Condition.Cut at side }
+    ensures { result ≡ condition_step Condition.Cut at side }
 {
     Step::Fibre(FibreEvent {
         at,

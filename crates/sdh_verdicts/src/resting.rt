@@ -106,7 +106,7 @@ fn is_clear(defect: Defect) -> bool
 
 /// The side at a settle step.
 pub fn at_rest(threshold: u16, rest: Resting) -> Resting
-    ensures { resting_of result ≡ walk.settled threshold (resting_of rest) }
+    ensures { resting_of result ≡ walk.at_rest_now threshold (resting_of rest) }
 {
     let now = defect_of(threshold, rest.condition);
     let ended = if !is_clear(rest.defect) && is_clear(now) {

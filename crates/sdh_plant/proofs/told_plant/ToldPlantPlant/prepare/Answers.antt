@@ -4,7 +4,7 @@ use Rattle.std.proofs.lemmas.List.{drop_all}
 use Rattle.sdh_plant.specs.Calls.{is_at, told_at_rate}
 use Rattle.sdh_plant.specs.InMemory.{HeldTold}
 use Rattle.sdh_plant.specs.Kept.{arrival_of}
-use Rattle.sdh_plant.proofs.Telling.{all_left, told_at-all, told_at-none, told_of-prepared}
+use Rattle.sdh_plant.proofs.Telling.{all_left, told_at_rate-all, told_at_rate-none, told_of-prepared}
 use Rattle.sdh_plant.proofs.told_plant.ToldPlantPlant.prepare.Goals as goal
 
 pub invariant_of-self-else-not-are_told_at : goal.invariant_of-self-else-not-are_told_at
@@ -23,7 +23,7 @@ returns-then-not-are_told_at-clause-ok c =
     let none : drop c.len-self-inside.result items ≡ [] = drop_all c.len-self-inside.result items (omega arith) in
     told_of-prepared c.args.rate c.args.nodes c.args.self.now c.lay.new.self
     (map arrival_of (drop c.len-self-inside.result items)) c.in_ok-lay.ensures.ok
-    (ap (map arrival_of) none ∙ told_at-none c.args.rate c.args.self.now.told (ap (list_all (is_at c.args.rate)) told ∙ some))
+    (ap (map arrival_of) none ∙ told_at_rate-none c.args.rate c.args.self.now.told (ap (list_all (is_at c.args.rate)) told ∙ some))
 
 pub returns-else-not-are_told_at-clause-ok : goal.returns-else-not-are_told_at-clause-ok
 returns-else-not-are_told_at-clause-ok c =
@@ -33,4 +33,4 @@ returns-else-not-are_told_at-clause-ok c =
     all_left c.args.rate items c.self.inside.next true (search rules) in
     told_of-prepared c.args.rate c.args.nodes c.args.self.now c.lay.new.self
     (map arrival_of (drop c.self.inside.next items)) c.in_ok-lay.ensures.ok
-    (told_at-all c.args.rate (map arrival_of (drop c.self.inside.next items)) all ∙ ap (told_at_rate c.args.rate) (sym told))
+    (told_at_rate-all c.args.rate (map arrival_of (drop c.self.inside.next items)) all ∙ ap (told_at_rate c.args.rate) (sym told))

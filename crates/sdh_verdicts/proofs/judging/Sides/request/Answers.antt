@@ -17,8 +17,8 @@ returns c = λ plan are. (
     c.asks.ensures
     ∙ ap (λ w. model.asks w (resting_of c.at_rest.result)) are.wait
     ∙ ap (model.asks plan.settings.wait) (c.at_rest.ensures
-    ∙ ap (λ t. walk.settled t (resting_of c.with_case-failed.result)) are.threshold
-    ∙ ap (walk.settled plan.settings.threshold) (c.with_case-failed.ensures
+    ∙ ap (λ t. walk.at_rest_now t (resting_of c.with_case-failed.result)) are.threshold
+    ∙ ap (walk.at_rest_now plan.settings.threshold) (c.with_case-failed.ensures
     ∙ ap (λ t. walk.rests t (length s.map.now) p d (case_steps (length s.map.now) t case) (resting_of c.kept.result)) are.threshold
     ∙ ap (λ n. walk.rests plan.settings.threshold n p d (case_steps n plan.settings.threshold case) (resting_of c.kept.result)) size
     ∙ ap (walk.rests plan.settings.threshold (length plan.nodes) p d (case_steps (length plan.nodes) plan.settings.threshold case)) kept))
