@@ -6,7 +6,7 @@ use Rattle.std.proofs.lemmas.Bool.{cases_lt}
 use Rattle.std.proofs.lemmas.List.{take_all, take-append-le, length-append, length-take}
 use Rattle.sdh_outage.specs.declared.kind.Kind.{Kind}
 use Rattle.sdh_outage.specs.declared.change.Change.{Change}
-use Rattle.sdh_outage.specs.Changes.{is_change, last_kind, changes_of, Traced, traced}
+use Rattle.sdh_outage.specs.Changes.{is_change, last_kind, kind_changes, Traced, traced}
 
 -- those that are kept tell which are kept with one more
 pub kept_more : (n : ℕ) (xs ys : List Change) → take n (take n xs ++ ys) ≡ take n (xs ++ ys)
@@ -36,13 +36,13 @@ with_kind t true c = record { changes = take 64 (t.changes ++ c ∷ []); count =
 with_kind t false c = record { changes = t.changes; count = t.count; last = Some c.kind }
 
 traces_if : (first : ℕ) (past : List Kind) (c : Change) (changed : Bool)
-    → with_kind (traced first past) changed c ≡ holding (changes_of first past ++ (if changed then c ∷ [] else [])) c.kind
+    → with_kind (traced first past) changed c ≡ holding (kind_changes first past ++ (if changed then c ∷ [] else [])) c.kind
 traces_if first past c true =
-    let all = changes_of first past in
+    let all = kind_changes first past in
     let changes = kept_more 64 all (c ∷ []) in
     let count : length all + 1 ≡ length (all ++ c ∷ []) = omega (arith, length-append all (c ∷ [])) in
     λ i. record { changes = changes i; count = count i; last = Some c.kind }
-traces_if first past c false = ap (λ all. holding all c.kind) (sym (append-nil (changes_of first past)))
+traces_if first past c false = ap (λ all. holding all c.kind) (sym (append-nil (kind_changes first past)))
 
 -- one round more
 pub traces : (t : Traced) (round : ℕ) (now : Kind) (first : ℕ) (past : List Kind) → round ≡ first + length past → t ≡ traced first past

@@ -25,10 +25,10 @@ last_kind [] = None
 last_kind (kind ∷ earlier) = Some kind
 
 -- the changes in the rounds of these kinds from round `first` on, the latest round first; of the changes the first comes first
-abbrev pub changes_of : ℕ → List Kind → List Change
-changes_of first [] = []
-changes_of first (kind ∷ earlier) =
-    changes_of first earlier ++
+abbrev pub kind_changes : ℕ → List Kind → List Change
+kind_changes first [] = []
+kind_changes first (kind ∷ earlier) =
+    kind_changes first earlier ++
     (if is_change (last_kind earlier) kind then record { round = first + length earlier; kind = kind } ∷ [] else [])
 
 -- ---- what a trace holds
@@ -43,4 +43,4 @@ pub record Traced : Type 0 where
 
 -- by the number of the settle step's first round, and what its rounds were, the latest first
 abbrev pub traced : ℕ → List Kind → Traced
-traced first past = record { changes = take 64 (changes_of first past); count = length (changes_of first past); last = last_kind past }
+traced first past = record { changes = take 64 (kind_changes first past); count = length (kind_changes first past); last = last_kind past }

@@ -12,7 +12,7 @@ use Rattle.sdh_scripts.specs.Laws.{KeepsRounds}
 use Rattle.sdh_owed.proofs.Known.{no_round}
 use Rattle.sdh_outage.specs.Kinds.{kind_of}
 use Rattle.sdh_outage.specs.Outages.{outage_of}
-use Rattle.sdh_outage.specs.Changes.{changes_of}
+use Rattle.sdh_outage.specs.Changes.{kind_changes}
 use Rattle.sdh_scripts.specs.Ports.{port_id}
 use Rattle.sdh_outage_script.specs.Outages.{delivered_at, kinds_in, outage_in, ports_out, trace_at, trace_in, outaged_in}
 use Rattle.sdh_outage_script.specs.Scripts.{outage_walk}
@@ -50,7 +50,7 @@ trace_same k at bt same index c e =
     let first = same 0 (omega arith) in
     let kinds = kinds_same far (port_id index e) k at bt same in
     let out = outage_same far (port_id index e) k at bt same in
-    λ i. record { changes = changes_of (first i).ring.rounds (kinds i); out = record { name = c.name; end = e; outage = out i } }
+    λ i. record { changes = kind_changes (first i).ring.rounds (kinds i); out = record { name = c.name; end = e; outage = out i } }
 
 traces_same : (k : ℕ) (at bt : ℕ → World) → ((j : ℕ) → j ≤ k → at j ≡ bt j) → (cs : List Provisioned) (port : PortId)
     → trace_in k at cs port ≡ trace_in k bt cs port

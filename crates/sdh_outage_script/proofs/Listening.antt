@@ -18,7 +18,7 @@ use Rattle.sdh_world.specs.Runs.{IsRound}
 use Rattle.sdh_ring.specs.Observed.{RanOne}
 use Rattle.sdh_outage.specs.Kinds.{kind_of, kinds_of, last_heard}
 use Rattle.sdh_outage.specs.Outages.{outage_of}
-use Rattle.sdh_outage.specs.Changes.{changes_of}
+use Rattle.sdh_outage.specs.Changes.{kind_changes}
 use Rattle.sdh_outage.specs.Kept.{Heard, heard}
 use Rattle.sdh_scripts.proofs.Lists.{some_at}
 use Rattle.sdh_scripts.specs.Ports.{port_id}
@@ -189,13 +189,13 @@ module _ (at : ℕ → World) where
   heard_is : (far : Customer) (index : ℕ) (end : End) (name : List ℕ) (k : ℕ) (h : Heard)
       → ((j : ℕ) → j ≤ k → (at j).ring.rounds ≡ (at 0).ring.rounds + j) → h ≡ heard_in far (port_id index end) k at
       → heard_text name end h ≡ trace_text (Some (record {
-        changes = changes_of (at 0).ring.rounds (kinds_in far (port_id index end) k at);
+        changes = kind_changes (at 0).ring.rounds (kinds_in far (port_id index end) k at);
         out = record { name = name; end = end; outage = outage_in far (port_id index end) k at };
       }))
   heard_is far index end name k h rounds is =
       let first = (at 0).ring.rounds in
       ap (heard_text name end) is
-      ∙ ap (λ kinds. changes_text (take 64 (changes_of first kinds)) (length (changes_of first kinds) - 64)
+      ∙ ap (λ kinds. changes_text (take 64 (kind_changes first kinds)) (length (kind_changes first kinds) - 64)
       ++ told_line (record { name = name; end = end; outage = outage_of first kinds })) (kinds_are far (port_id index end) k rounds)
 
   end_is : (c : Provisioned) (index : ℕ) (k : ℕ) (both : Both) (end : End) → IsListening k at c index both

@@ -19,8 +19,8 @@ abbrev pub ports_text : List PortOutage → List ℕ
 ports_text ports = flat_map told_line ports ++ summary_line (summary_of (map (λ p. p.outage) ports))
 
 -- the line of the settle step of this number, which ended with that round, and those of its ports
-abbrev pub step_text : ℕ → ℕ → List PortOutage → List ℕ
-step_text number round ports = settle_line number round ++ ports_text ports
+abbrev pub settle_step_text : ℕ → ℕ → List PortOutage → List ℕ
+settle_step_text number round ports = settle_line number round ++ ports_text ports
 
 -- ---- one port
 
@@ -37,7 +37,7 @@ trace_text (Some t) = changes_text (take 64 t.changes) (length t.changes - 64) +
 
 -- of a settle step
 abbrev pub listed : Listing → Outaged → List ℕ
-listed listing.Ports r = step_text r.number r.round r.ports
+listed listing.Ports r = settle_step_text r.number r.round r.ports
 listed (listing.Trace port) r = settle_line r.number r.round ++ trace_text (r.trace port)
 
 -- step after step

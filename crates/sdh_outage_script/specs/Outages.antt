@@ -14,7 +14,7 @@ use Rattle.sdh_outage.specs.declared.change.Change.{Change}
 use Rattle.sdh_outage.specs.declared.outage.Outage.{Outage}
 use Rattle.sdh_outage.specs.Kinds.{kind_of}
 use Rattle.sdh_outage.specs.Outages.{outage_of}
-use Rattle.sdh_outage.specs.Changes.{changes_of}
+use Rattle.sdh_outage.specs.Changes.{kind_changes}
 
 -- ---- one port
 
@@ -60,7 +60,7 @@ pub record PortTrace : Type 0 where
 -- that of the port at an end of the circuit of this number
 abbrev pub trace_at : ℕ → (ℕ → World) → ℕ → Provisioned → End → PortTrace
 trace_at k at index c e = record {
-  changes = changes_of (at 0).ring.rounds (kinds_in (customer_at c (other_end e)) (port_id index e) k at);
+  changes = kind_changes (at 0).ring.rounds (kinds_in (customer_at c (other_end e)) (port_id index e) k at);
   out = port_out k at index c e;
 }
 

@@ -12,7 +12,7 @@ use Rattle.sdh_report.specs.Lines.{settle_line}
 use Rattle.sdh_outage.specs.Kept.{Heard, heard}
 use Rattle.sdh_scripts.specs.Ports.{port_id}
 use Rattle.sdh_outage_script.specs.Outages.{delivered_at, PortOutage}
-use Rattle.sdh_outage_script.specs.Lines.{told_line, step_text, changes_text}
+use Rattle.sdh_outage_script.specs.Lines.{told_line, settle_step_text, changes_text}
 use Rattle.sdh_outage_script.specs.declared.listing.Listing.{Listing}
 use Rattle.sdh_outage_script.specs.declared.listing.Listing.TheVariants as listing
 use Rattle.sdh_outage_script.specs.declared.ports.Both.{Both}
@@ -113,6 +113,6 @@ port_text c both end = []
 
 -- the lines of the settle step of this number, which ended with that round
 abbrev pub shown_text : Listing → ℕ → ℕ → List Provisioned → List Both → List ℕ
-shown_text listing.Ports number round cs items = step_text number round (shown cs items)
+shown_text listing.Ports number round cs items = settle_step_text number round (shown cs items)
 shown_text (listing.Trace port) number round cs items =
     settle_line number round ++ port_text (slice_get cs port.circuit) (slice_get items port.circuit) port.end

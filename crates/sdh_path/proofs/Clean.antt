@@ -20,7 +20,7 @@ use Rattle.sdh_path.specs.declared.watch.TraceWord.TheVariants as word
 use Rattle.sdh_path.specs.Report.{vc4_in, vcs_in, b3_violations_at, b3_violations, label_violations, j1_bytes, is_rotation, trace_word}
 use Rattle.sdh_path.specs.Report.{report_on}
 use Rattle.sdh_path.proofs.Tracing.{rotated_is, is_rotation_by}
-use Rattle.sdh_path.specs.History.{bytes_of, value_of}
+use Rattle.sdh_path.specs.History.{bytes_of, given_value}
 use Rattle.sdh_path.specs.Laws.{clean_report, BeginsAt, FeedsAreClean, chunks_from, ChunksAreClean, ClocksAreInStep}
 use Rattle.sdh_parity.specs.Violations.{differing_bits}
 use Rattle.sdh_parity.proofs.Differing.{differing_bits-same}
@@ -173,7 +173,7 @@ bytes_given port p value (suc (suc k)) =
     ∙ sym (stream_from-append port p (2349 * suc k) 2349)
     ∙ ap (stream_from port p) (let e : 2349 * suc k + 2349 ≡ 2349 * suc (suc k) = omega arith in e)
 
-value_given : (port : Customer) (p value n : ℕ) → 1 ≤ n → value_of (chunks_from port p value n) ≡ value
+value_given : (port : Customer) (p value n : ℕ) → 1 ≤ n → given_value (chunks_from port p value n) ≡ value
 value_given port p value zero some = absurd (omega arith)
 value_given port p value (suc k) some = refl
 

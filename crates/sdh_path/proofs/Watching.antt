@@ -9,14 +9,14 @@ use Rattle.sdh_basics.proofs.CellsLaws.{length-cells, get_or-cells, cells-from}
 use Rattle.sdh_payload.specs.Stream.{padded, phase_of}
 use Rattle.sdh_path.specs.declared.watch.TraceWord.{TraceWord}
 use Rattle.sdh_path.specs.declared.watch.TraceWord.TheVariants.{Ok, Mismatch, Short}
-use Rattle.sdh_path.specs.History.{Given, Chunk, Ais, goes_on, bytes_of, count_of, value_of}
-use Rattle.sdh_path.specs.Report.{b3_violations, label_violations, vcs_in, j1_bytes, rotated, is_rotation, report_of}
+use Rattle.sdh_path.specs.History.{Given, Chunk, Ais, goes_on, bytes_of, count_of, given_value}
+use Rattle.sdh_path.specs.Report.{b3_violations, label_violations, vcs_in, j1_bytes, rotated, is_rotation, path_report_of}
 use Rattle.sdh_path.specs.Kept.{IsTallyOf, Kept, CameBy}
 use Rattle.sdh_path.proofs.Tallying.{b3_from, labels_from}
 
 -- ---- whether a chunk goes on
 
-some_given : (past : List Given) (value : ℕ) → goes_on value past ≡ true → (0 < count_of past) × (value_of past ≡ value)
+some_given : (past : List Given) (value : ℕ) → goes_on value past ≡ true → (0 < count_of past) × (given_value past ≡ value)
 some_given [] value e = absurd (cc)
 some_given (Ais ∷ past) value e = absurd (cc)
 some_given (Chunk bytes last ∷ past) value e = (counted (goes_on last past), eqb-true last value e)
@@ -86,7 +86,7 @@ module _ (trace : List ℕ) (past : List Given) (bytes : List ℕ) (value : ℕ)
       let n : count_of now ≡ count_of past + 1 = ap (λ (g : Bool). if g then count_of past + 1 else 1) alike in
       let many = some.0 in
       let inside = phase_inside value in
-      let start : phase_of (value_of past) ≡ s = ap phase_of some.1 in
+      let start : phase_of (given_value past) ≡ s = ap phase_of some.1 in
       let old = was.long in
       let seam : drop s (bytes_of past ++ bytes) ≡ drop s (bytes_of past) ++ bytes = drop-append-le s (bytes_of past) bytes (omega arith) in
       record {
@@ -132,7 +132,7 @@ module _ (trace : List ℕ) (past : List Given) (k : Kept) (came : CameBy trace 
   x = bytes_of past
 
   abbrev first : ℕ
-  first = phase_of (value_of past)
+  first = phase_of (given_value past)
 
   pub vcs_are : k.tally.index < 2349 → k.tally.vcs ≡ vcs_in x first
   vcs_are inside =
@@ -151,15 +151,15 @@ module _ (trace : List ℕ) (past : List Given) (k : Kept) (came : CameBy trace 
   unfolding j1_bytes
   length-traces =
       length-cells (λ i. get_or x (first + 2349 * i) 0) ((length x + 2348 - first) / 2349)
-      ∙ (let l = came.long in let h = phase_inside (value_of past) in omega arith)
+      ∙ (let l = came.long in let h = phase_inside (given_value past) in omega arith)
 
   traces_at : (i : ℕ) → i < count_of past → get_or (j1_bytes x first) i 0 ≡ get_or x (first + 2349 * i) 0
   unfolding j1_bytes
   traces_at i h =
       get_or-cells (λ j. get_or x (first + 2349 * j) 0) ((length x + 2348 - first) / 2349) i 0
-      (let l = came.long in let p = phase_inside (value_of past) in omega arith)
+      (let l = came.long in let p = phase_inside (given_value past) in omega arith)
 
-  pub short_trace : k.chunks < 64 → Short ≡ (report_of trace past).trace
+  pub short_trace : k.chunks < 64 → Short ≡ (path_report_of trace past).trace
   short_trace few =
       let n = length-traces in
       let t : nat_lt (length (j1_bytes x first)) 64 ≡ true = lt-ltb _ 64 (let c = came.chunks_are in omega arith) in
@@ -181,7 +181,7 @@ module _ (trace : List ℕ) (past : List Given) (k : Kept) (came : CameBy trace 
       ∙ sym (get_or-drop from (j1_bytes x first) i 0)))
 
   pub long_trace : (all : List ℕ) (b : Bool) → 64 ≤ k.chunks → all ≡ rotated (k.chunks % 64) k.last → b ≡ is_rotation all k.trace
-      → (if b then Ok else Mismatch) ≡ (report_of trace past).trace
+      → (if b then Ok else Mismatch) ≡ (path_report_of trace past).trace
   long_trace all b many is found =
       let n = length-traces in
       let t : nat_lt (length (j1_bytes x first)) 64 ≡ false = le-ltb _ 64 (let c = came.chunks_are in omega arith) in
@@ -192,8 +192,8 @@ module _ (trace : List ℕ) (past : List Given) (k : Kept) (came : CameBy trace 
       then Ok else Mismatch) t)
 
 pub report_is : (trace : List ℕ) (past : List Given) (k : Kept) (word : TraceWord) → CameBy trace past k → k.tally.index < 2349
-    → word ≡ (report_of trace past).trace
-    → (record { vcs = k.tally.vcs; b3 = k.tally.b3; label = k.tally.label; trace = word }) ≡ report_of trace past
+    → word ≡ (path_report_of trace past).trace
+    → (record { vcs = k.tally.vcs; b3 = k.tally.b3; label = k.tally.label; trace = word }) ≡ path_report_of trace past
 report_is trace past k word came inside said = λ i. record {
   vcs = vcs_are trace past k came inside i;
   b3 = b3_is trace past k came inside i;

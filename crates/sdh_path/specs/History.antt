@@ -26,7 +26,7 @@ count_of (Ais ∷ earlier) = 0
 count_of (Chunk bytes value ∷ earlier) = if goes_on value earlier then count_of earlier + 1 else 1
 
 -- their value, and 0 where there are none
-abbrev pub value_of : List Given → ℕ
-value_of [] = 0
-value_of (Ais ∷ earlier) = 0
-value_of (Chunk bytes value ∷ earlier) = value
+abbrev pub given_value : List Given → ℕ
+given_value [] = 0
+given_value (Ais ∷ earlier) = 0
+given_value (Chunk bytes value ∷ earlier) = value

@@ -3,7 +3,7 @@ use Rattle.std.specs.Prelude.{◌≡◌, ℕ, ◌+◌, ◌-◌, ◌*◌, ◌%◌
 use Rattle.sdh_basics.specs.Parity.{bip8}
 use Rattle.sdh_payload.specs.Stream.{padded, phase_of}
 use Rattle.sdh_path.specs.declared.tally.Tally.{Tally}
-use Rattle.sdh_path.specs.History.{Given, bytes_of, count_of, value_of}
+use Rattle.sdh_path.specs.History.{Given, bytes_of, count_of, given_value}
 use Rattle.sdh_path.specs.Report.{b3, c2, vc4_in, b3_violations, label_violations}
 
 -- ---- a run of bytes that begins with a VC-4
@@ -53,9 +53,9 @@ pub record IsKept (k : Kept) : Type 0 where
 -- a watch that expects this trace has come to this by what it was given
 pub record CameBy (trace : List ℕ) (past : List Given) (k : Kept) : Type 0 where
   pub trace_is : k.trace ≡ padded trace
-  pub value_is : k.value ≡ value_of past
+  pub value_is : k.value ≡ given_value past
   pub chunks_are : k.chunks ≡ count_of past
   pub long : length (bytes_of past) ≡ 2349 * count_of past
-  pub counts : IsTallyOf (drop (phase_of (value_of past)) (bytes_of past)) k.tally
+  pub counts : IsTallyOf (drop (phase_of (given_value past)) (bytes_of past)) k.tally
   pub last_are : (i : ℕ) → i < count_of past → count_of past ≤ i + 64
-      → slice_index k.last (i % 64) ≡ slice_index (bytes_of past) (phase_of (value_of past) + 2349 * i)
+      → slice_index k.last (i % 64) ≡ slice_index (bytes_of past) (phase_of (given_value past) + 2349 * i)

@@ -7,7 +7,7 @@ use Rattle.sdh_payload.specs.Stream.{phase_of, start_of, stream_from}
 use Rattle.sdh_path.specs.declared.watch.PathReport.{PathReport}
 use Rattle.sdh_path.specs.declared.watch.TraceWord.TheVariants.{Ok, Short}
 use Rattle.sdh_path.specs.History.{Given, Chunk}
-use Rattle.sdh_path.specs.Report.{report_on, report_of}
+use Rattle.sdh_path.specs.Report.{report_on, path_report_of}
 
 -- what is reported of so many chunks that are as they were sent
 abbrev pub clean_report : ℕ → ℕ → PathReport
@@ -37,7 +37,7 @@ chunks_from port p value (suc k) = Chunk (stream_from port (p + 2349 * k) 2349) 
 abbrev pub ChunksAreClean : Type 0
 ChunksAreClean =
     (port : Customer) (p n value : ℕ) → 1 ≤ n → value ≤ 782 → BeginsAt port.offset p value
-    → report_of port.trace (chunks_from port p value n) ≡ clean_report n value
+    → path_report_of port.trace (chunks_from port p value n) ≡ clean_report n value
 
 -- the byte to which a clock has come is in step with its pointer value, however it slips
 pub record ClocksAreInStep : Type 0 where

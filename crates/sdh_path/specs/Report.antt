@@ -10,7 +10,7 @@ use Rattle.sdh_payload.specs.Stream.{padded, phase_of}
 use Rattle.sdh_path.specs.declared.watch.PathReport.{PathReport}
 use Rattle.sdh_path.specs.declared.watch.TraceWord.{TraceWord}
 use Rattle.sdh_path.specs.declared.watch.TraceWord.TheVariants.{Ok, Mismatch, Short}
-use Rattle.sdh_path.specs.History.{Given, bytes_of, value_of}
+use Rattle.sdh_path.specs.History.{Given, bytes_of, given_value}
 
 -- ---- one VC-4: nine rows of 261 bytes, row by row, the path overhead being the first byte of each row
 
@@ -82,5 +82,5 @@ report_on trace bytes value =
     }
 
 -- of what a watch was given
-abbrev pub report_of : List ℕ → List Given → PathReport
-report_of trace past = report_on trace (bytes_of past) (value_of past)
+abbrev pub path_report_of : List ℕ → List Given → PathReport
+path_report_of trace past = report_on trace (bytes_of past) (given_value past)

@@ -3,7 +3,7 @@ ghost use Rattle.std.specs.Prelude.{◌≡◌, ℕ, ◌+◌, ◌-◌, ◌%◌, �
 ghost use Rattle.sdh_payload.specs.Customer.{is_text};
 ghost use Rattle.sdh_payload.specs.Stream.{phase_of};
 ghost use Rattle.sdh_path.specs.History.{Given, Chunk, Ais, goes_on};
-ghost use Rattle.sdh_path.specs.Report.{report_of};
+ghost use Rattle.sdh_path.specs.Report.{path_report_of};
 ghost use Rattle.sdh_path.specs.Kept.{IsTallyOf, IsSmall, CameBy};
 
 use crate::tally::{Tally, VC4_LEN};
@@ -152,7 +152,7 @@ impl Watch {
 
     // What is said of the last 64 bytes J1.
     fn trace_word(&self) -> TraceWord
-        ensures history { (trace : List ℕ) (past : List Given) → CameBy trace past self.now → result ≡ (report_of trace past).trace }
+        ensures history { (trace : List ℕ) (past : List Given) → CameBy trace past self.now → result ≡ (path_report_of trace past).trace }
     {
         if self.chunks < 64 {
             return TraceWord::Short;
@@ -167,7 +167,7 @@ impl Watch {
 
     /// What the watch reports of the chunks since it began anew.
     pub fn report(&self) -> PathReport
-        ensures history { (trace : List ℕ) (past : List Given) → CameBy trace past self.now → result ≡ report_of trace past }
+        ensures history { (trace : List ℕ) (past : List Given) → CameBy trace past self.now → result ≡ path_report_of trace past }
     {
         PathReport {
             vcs: self.tally.vcs,

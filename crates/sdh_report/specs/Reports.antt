@@ -42,12 +42,12 @@ place_of_end A = 0
 place_of_end B = 1
 
 -- the place of a port among all
-abbrev pub place_of : PortId → ℕ
-place_of port = 2 * port.circuit + place_of_end port.end
+abbrev pub place_among_ports : PortId → ℕ
+place_among_ports port = 2 * port.circuit + place_of_end port.end
 
 -- what a port delivered
 abbrev pub delivered_in : List PortLine → PortId → Delivered
-delivered_in ports port = (slice_index_or ports (place_of port) (record { name = []; end = A; outlet = silent })).outlet.delivered
+delivered_in ports port = (slice_index_or ports (place_among_ports port) (record { name = []; end = A; outlet = silent })).outlet.delivered
 
 -- 1 for a chunk, and 1 for AIS
 abbrev pub chunks_of : Delivered → ℕ

@@ -17,12 +17,12 @@ of_ports tells index [] = []
 of_ports tells index (c ∷ cs) = tells index c A ∷ tells index c B ∷ of_ports tells (index + 1) cs
 
 -- the line of the port at an end of the circuit of this number, where `gives` tells what it delivers
-abbrev pub line_at : (ℕ → Provisioned → End → Outlet) → ℕ → Provisioned → End → PortLine
-line_at gives index c e = record { name = c.name; end = e; outlet = gives index c e }
+abbrev pub port_line_at : (ℕ → Provisioned → End → Outlet) → ℕ → Provisioned → End → PortLine
+port_line_at gives index c e = record { name = c.name; end = e; outlet = gives index c e }
 
 -- those of these circuits
 abbrev pub lines_from : (ℕ → Provisioned → End → Outlet) → ℕ → List Provisioned → List PortLine
-lines_from gives = of_ports (line_at gives)
+lines_from gives = of_ports (port_line_at gives)
 
 -- room enough for the line of a settle step and one for each port, with so many circuits: 96 bytes a line
 abbrev pub lines_room : ℕ → ℕ

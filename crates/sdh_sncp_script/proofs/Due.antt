@@ -23,7 +23,7 @@ use Rattle.sdh_sncp.specs.Ring.{World}
 use Rattle.sdh_sncp.specs.Due.{due_path}
 use Rattle.sdh_sncp.specs.Laws.{DeliversWhatIsDue, cut_in}
 use Rattle.sdh_sncp.proofs.Converging.{steps_answer, steps_deliver}
-use Rattle.sdh_sncp_script.specs.Reports.{delivered_at, ports_told, report_of}
+use Rattle.sdh_sncp_script.specs.Reports.{end_outlet, ports_told, report_of}
 use Rattle.sdh_sncp_script.specs.Walking.{does, path_walk}
 use Rattle.sdh_sncp_script.specs.Steps.{MayDo}
 use Rattle.sdh_sncp_script.specs.Promise.{cut_after, due_ports, AreDue}
@@ -55,9 +55,9 @@ module _ (rate : Rate) (ids : List ℕ) (circuits : Provisioning) where
       let t = mid.ring.rounds - 1 in
       let cut = cut_after n changes in
       let size : length mid.ring.ids ≡ n = ap (λ (l : List ℕ). length l) h.ids in
-      lines_same (delivered_at mid.ring) (λ index c e. due_path n cut c e t) 0 mid.ring.circuits.circuits
+      lines_same (end_outlet mid.ring) (λ index c e. due_path n cut c e t) 0 mid.ring.circuits.circuits
       (λ k c get e. (let same : 0 + k ≡ k = omega arith in
-      ap (λ i. delivered_at mid.ring i c e) same ∙ delivers k c get e ∙ (λ i. due_path (size i) (cuts_told changes ran mid h i) c e t)))
+      ap (λ i. end_outlet mid.ring i c e) same ∙ delivers k c get e ∙ (λ i. due_path (size i) (cuts_told changes ran mid h i) c e t)))
       ∙ ap (λ (p : Provisioning). due_ports n cut t p.circuits) h.circuits
 
   owed : (limit before : ℕ) (earlier changes : List Change) (steps : List Step) (ran : ℕ) (w : World) (reports : List Report) (end : Status)

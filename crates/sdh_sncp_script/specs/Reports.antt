@@ -8,11 +8,11 @@ use Rattle.sdh_scripts.specs.Ports.{lines_from}
 use Rattle.sdh_sncp.specs.Ring.{HeldPath, outlet_at}
 
 -- what the port at an end of the circuit of this number delivered
-abbrev pub delivered_at : HeldPath → ℕ → Provisioned → End → Outlet
-delivered_at r index c e = outlet_at r (record { circuit = index; end = e })
+abbrev pub end_outlet : HeldPath → ℕ → Provisioned → End → Outlet
+end_outlet r index c e = outlet_at r (record { circuit = index; end = e })
 
 abbrev pub ports_told : HeldPath → List PortLine
-ports_told r = lines_from (delivered_at r) 0 r.circuits.circuits
+ports_told r = lines_from (end_outlet r) 0 r.circuits.circuits
 
 -- the report of settle step `number` that left this ring
 unfoldable pub report_of : ℕ → HeldPath → Report

@@ -3,8 +3,8 @@ ghost use Rattle.std.specs.Prelude.{◌≡◌, ◌+◌, ◌*◌, ◌≤◌, ◌<
 ghost use Rattle.std.specs.List.{flat_map};
 ghost use Rattle.sdh_circuits.specs.declared.End.TheVariants.{A, B};
 ghost use Rattle.sdh_report.specs.Reports.{told_line, report_text};
-ghost use Rattle.sdh_scripts.specs.Ports.{line_at, lines_from, lines_room};
-ghost use Rattle.sdh_sncp_script.specs.Reports.{delivered_at, ports_told, report_of};
+ghost use Rattle.sdh_scripts.specs.Ports.{port_line_at, lines_from, lines_room};
+ghost use Rattle.sdh_sncp_script.specs.Reports.{end_outlet, ports_told, report_of};
 
 use sdh_circuits::{Circuit, End, PortId};
 use sdh_report::Text;
@@ -15,7 +15,7 @@ use sdh_sncp::PathRing;
 fn put_port(text: &mut Text, ring: &PathRing, circuit: u8, named: &Circuit, end: End)
     requires inside { circuit < length ring.now.circuits.circuits }
     requires room { 96 ≤ text.old.room }
-    ensures bytes { text.new.bytes ≡ text.old.bytes ++ told_line (line_at (delivered_at ring.now) circuit named.now end) }
+    ensures bytes { text.new.bytes ≡ text.old.bytes ++ told_line (port_line_at (end_outlet ring.now) circuit named.now end) }
     ensures room { text.old.room ≤ text.new.room + 96 }
 {
     let port = PortId { circuit, end };
@@ -26,7 +26,7 @@ fn put_port(text: &mut Text, ring: &PathRing, circuit: u8, named: &Circuit, end:
 fn put_circuit(text: &mut Text, ring: &PathRing, circuit: u8, named: &Circuit)
     requires inside { circuit < length ring.now.circuits.circuits }
     requires room { 192 ≤ text.old.room }
-    ensures bytes { text.new.bytes ≡ text.old.bytes ++ (told_line (line_at (delivered_at ring.now) circuit named.now A) ++ told_line (line_at (delivered_at ring.now) circuit named.now B)) }
+    ensures bytes { text.new.bytes ≡ text.old.bytes ++ (told_line (port_line_at (end_outlet ring.now) circuit named.now A) ++ told_line (port_line_at (end_outlet ring.now) circuit named.now B)) }
     ensures room { text.old.room ≤ text.new.room + 192 }
 {
     put_port(text, ring, circuit, named, End::A);

@@ -20,7 +20,7 @@ use Rattle.sdh_squelch.specs.Table.{SquelchTable, circuit_from, circuit_on, circ
 use Rattle.sdh_squelch.proofs.LookUps.{row-ends}
 use Rattle.sdh_plan.specs.Planned.{Planned, provisioning_of}
 use Rattle.sdh_plan.proofs.Following.{circuits_keep_the_ring}
-use Rattle.sdh_tables.specs.Tables.{line_of, slot_line}
+use Rattle.sdh_tables.specs.Tables.{squelch_line, slot_line}
 
 -- a row of a table whose circuits count from i on is that of the circuit that is found
 record Names (n s m i : ℕ) (cs : List Provisioned) (r : Row) : Type 0 where
@@ -123,7 +123,7 @@ module _ (nodes : List ℕ) (cs : List Provisioned) (p : ℕ) (d : Side) (m : �
   line_none : None ≡ option_map (λ r. r.circuit) there → slot_line nodes cs p d m ≡ []
   unfolding slot_line
   line_none none =
-      ap (λ o. option_map_or (line_of nodes p d m) o []) (none_from (length nodes) (span_at (length nodes) p d) m 0 cs
+      ap (λ o. option_map_or (squelch_line nodes p d m) o []) (none_from (length nodes) (span_at (length nodes) p d) m 0 cs
       (empty_by there refl none))
 
   -- the line of the circuit that is there
@@ -136,7 +136,7 @@ module _ (nodes : List ℕ) (cs : List Provisioned) (p : ℕ) (d : Side) (m : �
       let same : is.circuit ≡ c = (let x = is.there in cc) in
       let line : Provisioned → Pos → Pos → List ℕ =
       λ x from to. table_line (slice_index nodes p) d (record { 0 = m }) x.name (slice_index nodes from.0) (slice_index nodes to.0) in
-      ap (λ o. option_map_or (line_of nodes p d m) o []) is.found
+      ap (λ o. option_map_or (squelch_line nodes p d m) o []) is.found
       ∙ ap (λ from. line is.circuit from is.circuit.to) (sym is.from_is)
       ∙ ap (λ to. line is.circuit ends.0 to) (sym is.to_is)
       ∙ ap (λ x. line x ends.0 ends.1) same

@@ -18,12 +18,13 @@ circuit_at n circuits p d m = find (is_on n (span_at n p d) m) circuits
 
 -- its line: the node's identifier, the side, the slot, the circuit's name, and the identifiers of the nodes where its arc starts
 -- and ends
-abbrev pub line_of : List ℕ → ℕ → Side → ℕ → Provisioned → List ℕ
-line_of nodes p d m c = table_line (slice_index nodes p) d (record { 0 = m }) c.name (slice_index nodes c.from.0) (slice_index nodes c.to.0)
+abbrev pub squelch_line : List ℕ → ℕ → Side → ℕ → Provisioned → List ℕ
+squelch_line nodes p d m c =
+    table_line (slice_index nodes p) d (record { 0 = m }) c.name (slice_index nodes c.from.0) (slice_index nodes c.to.0)
 
 -- a slot has a line where a circuit is there
 unfoldable pub slot_line : List ℕ → List Provisioned → ℕ → Side → ℕ → List ℕ
-slot_line nodes circuits p d m = option_map_or (line_of nodes p d m) (circuit_at (length nodes) circuits p d m) []
+slot_line nodes circuits p d m = option_map_or (squelch_line nodes p d m) (circuit_at (length nodes) circuits p d m) []
 
 -- the lines of a side, slot by slot from 1 on, of which there are so many
 abbrev pub side_lines : ℕ → List ℕ → List Provisioned → ℕ → Side → List ℕ

@@ -11,7 +11,7 @@ use Rattle.sdh_report.specs.Lines.{end_letter}
 use Rattle.sdh_path.specs.declared.watch.PathReport.{PathReport}
 use Rattle.sdh_path.specs.declared.watch.TraceWord.{TraceWord}
 use Rattle.sdh_path.specs.declared.watch.TraceWord.TheVariants as word
-use Rattle.sdh_watch_script.specs.Lines.{word_text, watch_named, counts_text, report_text, watch_line}
+use Rattle.sdh_watch_script.specs.Lines.{trace_word_text, watch_named, path_counts_text, path_report_text, watch_line}
 
 digits_32 : (n : ℕ) → n < 2 ^ 32 → length (decimal n) ≤ 10
 digits_32 n h = length-decimal-le 10 n (omega arith) (omega arith) (omega arith)
@@ -20,7 +20,7 @@ length-letter : (end : End) → length (end_letter end) ≡ 1
 length-letter A = omega arith
 length-letter B = omega arith
 
-short-word : (w : TraceWord) → length (word_text w) ≤ 8
+short-word : (w : TraceWord) → length (trace_word_text w) ≤ 8
 short-word word.Ok = omega arith
 short-word word.Mismatch = omega arith
 short-word word.Short = omega arith
@@ -36,7 +36,7 @@ length-named name end =
       length-letter end,
     )
 
-short-counts : (r : PathReport) → r.vcs < 2 ^ 32 → r.b3 < 2 ^ 32 → length (counts_text r) ≤ 29
+short-counts : (r : PathReport) → r.vcs < 2 ^ 32 → r.b3 < 2 ^ 32 → length (path_counts_text r) ≤ 29
 short-counts r hv hb =
     let a = codes " vcs " ++ decimal r.vcs in
     let b = a ++ codes " b3 " in
@@ -49,17 +49,17 @@ short-counts r hv hb =
       digits_32 r.b3 hb,
     )
 
-short-report : (r : PathReport) → r.vcs < 2 ^ 32 → r.b3 < 2 ^ 32 → r.label < 2 ^ 32 → length (report_text r) ≤ 64
+short-report : (r : PathReport) → r.vcs < 2 ^ 32 → r.b3 < 2 ^ 32 → r.label < 2 ^ 32 → length (path_report_text r) ≤ 64
 short-report r hv hb hl =
-    let c = counts_text r in
+    let c = path_counts_text r in
     let d = c ++ codes " label " in
     let e = d ++ decimal r.label in
     let f = e ++ codes " trace " in
-    let g = f ++ word_text r.trace in
+    let g = f ++ trace_word_text r.trace in
     omega (
       arith,
       length-append g (codes "\n"),
-      length-append f (word_text r.trace),
+      length-append f (trace_word_text r.trace),
       length-append e (codes " trace "),
       length-append d (decimal r.label),
       length-append c
@@ -73,4 +73,4 @@ pub short-watch_line : (name : List ℕ) (end : End) (delivered : Delivered) (r 
     → r.b3 < 2 ^ 32 → r.label < 2 ^ 32 → length (watch_line name end (shown delivered r)) ≤ 96
 short-watch_line name end Ais r hn hv hb hl = omega (arith, length-append (watch_named name end) (codes " ais\n"), length-named name end)
 short-watch_line name end (Chunk bytes) r hn hv hb hl =
-    omega (arith, length-append (watch_named name end) (report_text r), length-named name end, short-report r hv hb hl)
+    omega (arith, length-append (watch_named name end) (path_report_text r), length-named name end, short-report r hv hb hl)

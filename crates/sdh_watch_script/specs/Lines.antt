@@ -9,27 +9,27 @@ use Rattle.sdh_path.specs.declared.watch.TraceWord.TheVariants as word
 use Rattle.sdh_watching.specs.Shows.{WatchLine, Watched}
 
 -- what is said of a trace
-abbrev pub word_text : TraceWord → List ℕ
-word_text word.Ok = codes "ok"
-word_text word.Mismatch = codes "mismatch"
-word_text word.Short = codes "short"
+abbrev pub trace_word_text : TraceWord → List ℕ
+trace_word_text word.Ok = codes "ok"
+trace_word_text word.Mismatch = codes "mismatch"
+trace_word_text word.Short = codes "short"
 
 -- the watch on the port at that end of the circuit of that name
 abbrev pub watch_named : List ℕ → End → List ℕ
 watch_named name end = codes "watch " ++ name ++ codes " " ++ end_letter end
 
 -- how many VC-4s there were, and in how many bits their B3 differ
-abbrev pub counts_text : PathReport → List ℕ
-counts_text r = codes " vcs " ++ decimal r.vcs ++ codes " b3 " ++ decimal r.b3
+abbrev pub path_counts_text : PathReport → List ℕ
+path_counts_text r = codes " vcs " ++ decimal r.vcs ++ codes " b3 " ++ decimal r.b3
 
 -- the report
-abbrev pub report_text : PathReport → List ℕ
-report_text r = counts_text r ++ codes " label " ++ decimal r.label ++ codes " trace " ++ word_text r.trace ++ codes "\n"
+abbrev pub path_report_text : PathReport → List ℕ
+path_report_text r = path_counts_text r ++ codes " label " ++ decimal r.label ++ codes " trace " ++ trace_word_text r.trace ++ codes "\n"
 
 -- the line of a watch that shows this
 abbrev pub watch_line : List ℕ → End → Option PathReport → List ℕ
 watch_line name end None = watch_named name end ++ codes " ais\n"
-watch_line name end (Some r) = watch_named name end ++ report_text r
+watch_line name end (Some r) = watch_named name end ++ path_report_text r
 
 abbrev pub told_line : WatchLine → List ℕ
 told_line w = watch_line w.name w.end w.shows

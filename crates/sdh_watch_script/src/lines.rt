@@ -3,7 +3,7 @@ ghost use Rattle.std.specs.Prelude.{◌≡◌, ◌≤◌, length};
 ghost use Rattle.sdh_report.specs.Lines.{end_letter};
 ghost use Rattle.sdh_report.specs.Written.{with_part};
 ghost use Rattle.sdh_watching.specs.Shows.{shown};
-ghost use Rattle.sdh_watch_script.specs.Lines.{word_text, watch_named, counts_text, report_text, watch_line};
+ghost use Rattle.sdh_watch_script.specs.Lines.{trace_word_text, watch_named, path_counts_text, path_report_text, watch_line};
 
 use sdh_circuits::{End, Name};
 use sdh_path::{PathReport, TraceWord};
@@ -12,7 +12,7 @@ use sdh_report::Text;
 
 // What is said of a trace.
 fn letters(word: TraceWord) -> &'static [u8]
-    ensures { result.now ≡ word_text word }
+    ensures { result.now ≡ trace_word_text word }
 {
     match word {
         TraceWord::Ok => b"ok",
@@ -44,8 +44,8 @@ fn put_named(text: &mut Text, name: &Name, end: End)
 
 // How many VC-4s there were, and in how many bits their B3 differ.
 fn put_counts(text: &mut Text, report: &PathReport)
-    requires { length (counts_text report.now) ≤ text.old.room }
-    ensures { text.new ≡ with_part text.old (counts_text report.now) }
+    requires { length (path_counts_text report.now) ≤ text.old.room }
+    ensures { text.new ≡ with_part text.old (path_counts_text report.now) }
 {
     text.put(b" vcs ");
     text.put_number(u64::from(report.vcs));
@@ -55,8 +55,8 @@ fn put_counts(text: &mut Text, report: &PathReport)
 
 // What is reported of the port.
 fn put_report(text: &mut Text, report: &PathReport)
-    requires { length (report_text report.now) ≤ text.old.room }
-    ensures { text.new ≡ with_part text.old (report_text report.now) }
+    requires { length (path_report_text report.now) ≤ text.old.room }
+    ensures { text.new ≡ with_part text.old (path_report_text report.now) }
 {
     put_counts(text, report);
     text.put(b" label ");

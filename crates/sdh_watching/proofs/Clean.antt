@@ -29,7 +29,7 @@ use Rattle.sdh_laws.proofs.carrying.Ways.{layout_round}
 use Rattle.sdh_laws.specs.Resting.Rest.{IsAtRest}
 use Rattle.sdh_laws.proofs.resting.Resting.{known_round, rest_goes_on}
 use Rattle.sdh_path.specs.History.{Given, Chunk, Ais}
-use Rattle.sdh_path.specs.Report.{report_of}
+use Rattle.sdh_path.specs.Report.{path_report_of}
 use Rattle.sdh_path.specs.Laws.{clean_report, chunks_from}
 use Rattle.sdh_path.proofs.Clean.{chunks_are_clean}
 use Rattle.sdh_watching.specs.Shows.{shown, WatchLine}
@@ -158,8 +158,8 @@ module _ (clocks : PortId → ℕ → Clock) (w : World) (form : HasCircuits (la
         → port_watched left.ring heard index c e ≡ clean_watch c.name e (due_by_clocks n applied c e clock (w.ring.rounds + 127))
     shows_joined left heard lead =
         let out = delivered_at 127 left heard lead ∙ due_now 127 in
-        let report : report_of sender.trace (heard id) ≡ clean_report 128 value =
-        ap (report_of sender.trace) (heard_at 128 left heard lead)
+        let report : path_report_of sender.trace (heard id) ≡ clean_report 128 value =
+        ap (path_report_of sender.trace) (heard_at 128 left heard lead)
         ∙ chunks_are_clean sender p 128 value (omega arith) plainly.small (let b = plainly.in_step in omega arith) in
         ap₂ (λ (o : Outlet) r. (let x : WatchLine = record { name = c.name; end = e; shows = shown o.delivered r } in x)) out report
         ∙ sym (ap (clean_watch c.name e) (due_now 127))
@@ -172,7 +172,7 @@ module _ (clocks : PortId → ℕ → Clock) (w : World) (form : HasCircuits (la
         name = c.name;
         end = e;
         shows =
-            shown o.delivered (report_of sender.trace (heard id));
+            shown o.delivered (path_report_of sender.trace (heard id));
       } in x)) out
       ∙ sym (ap (clean_watch c.name e) (due_parted (w.ring.rounds + 127) parted))
 

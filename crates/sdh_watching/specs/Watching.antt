@@ -11,7 +11,7 @@ use Rattle.sdh_world.specs.Held.{HeldRing, outlet_at}
 use Rattle.sdh_world.specs.Rounds.{World}
 use Rattle.sdh_world.specs.Runs.{IsRound, IsBrokenOff}
 use Rattle.sdh_path.specs.History.{Given, Chunk, Ais}
-use Rattle.sdh_path.specs.Report.{report_of}
+use Rattle.sdh_path.specs.Report.{path_report_of}
 use Rattle.sdh_scripts.specs.Ports.{of_ports}
 use Rattle.sdh_watching.specs.Shows.{shown, WatchLine, Watched}
 
@@ -58,7 +58,7 @@ port_watched r heard index c e = (let port : PortId = record { circuit = index; 
       name = c.name;
       end = e;
       shows = shown (outlet_at r port).delivered
-          (report_of (customer_at c (other_end e)).trace (heard port));
+          (path_report_of (customer_at c (other_end e)).trace (heard port));
     })
 
 -- those of these circuits, which are counted from `index`

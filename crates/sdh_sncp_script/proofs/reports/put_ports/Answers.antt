@@ -4,9 +4,9 @@ use Rattle.std.specs.List.{flat_map}
 use Rattle.sdh_circuits.specs.Provisioning.{Provisioning}
 use Rattle.sdh_circuits.specs.declared.End.TheVariants.{A, B}
 use Rattle.sdh_report.specs.Reports.{told_line}
-use Rattle.sdh_scripts.specs.Ports.{lines_from, line_at}
+use Rattle.sdh_scripts.specs.Ports.{lines_from, port_line_at}
 use Rattle.sdh_scripts.proofs.Ports.{ports_more}
-use Rattle.sdh_sncp_script.specs.Reports.{delivered_at}
+use Rattle.sdh_sncp_script.specs.Reports.{end_outlet}
 use Rattle.sdh_sncp_script.proofs.reports.put_ports.Goals as goal
 
 pub loop-i-preserved : goal.loop-i-preserved
@@ -15,9 +15,9 @@ loop-i-preserved c =
     let cs = r.circuits.circuits in
     let i = c.loop-i.i in
     let named = c.get.result.now in
-    let gives = delivered_at r in
+    let gives = end_outlet r in
     let before = flat_map told_line (lines_from gives 0 (take i cs)) in
-    let lines = told_line (line_at gives i named A) ++ told_line (line_at gives i named B) in
+    let lines = told_line (port_line_at gives i named A) ++ told_line (port_line_at gives i named B) in
     let size : length c.circuits-circuits.result.now.circuits ≡ length cs =
     ap (λ (p : Provisioning). length p.circuits) c.circuits-circuits.ensures in
     let lt : i < length cs = omega (arith, c.loop-i-test.true, c.len-i-end.ensures.len, size) in
@@ -27,6 +27,6 @@ loop-i-preserved c =
       bytes = c.put_circuit.ensures.bytes
           ∙ ap (λ l. l ++ lines) c.loop-i.invariant.bytes
           ∙ append_assoc c.args.text.now.bytes before lines
-          ∙ ap (λ l. c.args.text.now.bytes ++ l) (sym (ports_more (line_at gives) told_line cs i named lt get));
+          ∙ ap (λ l. c.args.text.now.bytes ++ l) (sym (ports_more (port_line_at gives) told_line cs i named lt get));
       room = omega (arith, c.put_circuit.ensures.room, c.loop-i.invariant.room);
     }

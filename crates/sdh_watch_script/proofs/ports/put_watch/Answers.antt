@@ -2,7 +2,7 @@ use Rattle.std.proofs.Common.{◌++◌, ap, ap₂, ◌∙◌, arith}
 use Rattle.sdh_circuits.specs.Provisioned.{customer_at}
 use Rattle.sdh_circuits.specs.Ends.{other_end}
 use Rattle.sdh_report.specs.Written.{Written}
-use Rattle.sdh_path.specs.Report.{report_of}
+use Rattle.sdh_path.specs.Report.{path_report_of}
 use Rattle.sdh_watching.specs.Shows.{shown}
 use Rattle.sdh_watch_script.specs.Lines.{watch_line}
 use Rattle.sdh_watch_script.proofs.Short.{short-watch_line}
@@ -25,7 +25,7 @@ returns-clause-bytes c = λ heard came. (
     let past = heard (record { circuit = c.args.circuit; end = c.args.end }) in
     ap (λ (w : Written). w.bytes) c.watch_line.ensures
     ∙ ap (λ r. old ++ watch_line c.name.result.now c.args.end (shown c.port.result.now r)) (c.report-report.ensures.history trace past came)
-    ∙ ap₂ (λ n d. old ++ watch_line n c.args.end (shown d (report_of trace past))) c.name.ensures.name c.port.ensures)
+    ∙ ap₂ (λ n d. old ++ watch_line n c.args.end (shown d (path_report_of trace past))) c.name.ensures.name c.port.ensures)
 
 pub returns-clause-room : goal.returns-clause-room
 returns-clause-room c =
