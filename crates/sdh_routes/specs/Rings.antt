@@ -28,9 +28,9 @@ circuit from to = record {
 }
 
 -- where a walk stands after k spans
-abbrev pub after : ℕ → List ℕ → List Provisioned → ℕ → Stand → Stand
-after n rs cs zero x = x
-after n rs cs (suc k) x = after n rs cs k (back_from n (settled rs) cs 1 x.at x.origin)
+abbrev pub stand_after : ℕ → List ℕ → List Provisioned → ℕ → Stand → Stand
+stand_after n rs cs zero x = x
+stand_after n rs cs (suc k) x = stand_after n rs cs k (back_from n (settled rs) cs 1 x.at x.origin)
 
 -- four nodes, a circuit from the first to the third: the second span has failed
 abbrev pub OneSpanFailed : Type 0
@@ -39,8 +39,8 @@ OneSpanFailed =
     (settled rs 0 ≡ state.PassThrough tt) × (settled rs 1 ≡ state.SwitchEast (Some (position_of 2)))
     × (settled rs 2 ≡ state.SwitchWest (Some (position_of 1))) × (settled rs 3 ≡ state.PassThrough tt)
     × (hops 4 (is_applied rs) (arc_of 4 c) ≡ 4)
-    × ((after 4 rs (c ∷ []) 4 (delivery 4 (settled rs) (c ∷ []) c A)).origin ≡ port 0 B)
-    × ((after 4 rs (c ∷ []) 4 (delivery 4 (settled rs) (c ∷ []) c B)).origin ≡ port 0 A)
+    × ((stand_after 4 rs (c ∷ []) 4 (delivery 4 (settled rs) (c ∷ []) c A)).origin ≡ port 0 B)
+    × ((stand_after 4 rs (c ∷ []) 4 (delivery 4 (settled rs) (c ∷ []) c B)).origin ≡ port 0 A)
 
 -- a circuit from the first to the fourth: the first and the third span have failed, and the fourth is left
 abbrev pub TwoSpansFailed : Type 0
@@ -49,8 +49,8 @@ TwoSpansFailed =
     (settled rs 0 ≡ state.SwitchEast (Some (position_of 3))) × (settled rs 1 ≡ state.SwitchWest (Some (position_of 2)))
     × (settled rs 2 ≡ state.SwitchEast (Some (position_of 1))) × (settled rs 3 ≡ state.SwitchWest (Some (position_of 0)))
     × (hops 4 (is_applied rs) (arc_of 4 c) ≡ 1)
-    × ((after 4 rs (c ∷ []) 1 (delivery 4 (settled rs) (c ∷ []) c A)).origin ≡ port 0 B)
-    × ((after 4 rs (c ∷ []) 1 (delivery 4 (settled rs) (c ∷ []) c B)).origin ≡ port 0 A)
+    × ((stand_after 4 rs (c ∷ []) 1 (delivery 4 (settled rs) (c ∷ []) c A)).origin ≡ port 0 B)
+    × ((stand_after 4 rs (c ∷ []) 1 (delivery 4 (settled rs) (c ∷ []) c B)).origin ≡ port 0 A)
 
 -- two circuits in one slot end at the second node, both of whose spans have failed: without squelching each would be
 -- led to the other's port

@@ -19,7 +19,7 @@ use Rattle.sdh_circuits.specs.declared.PortId.{PortId}
 use Rattle.sdh_terminal.specs.Tributaries.{Tributary, new_tributary, tributaries_of, tributaries_from, tributaries_at, is_port, fed}
 use Rattle.sdh_terminal.specs.Tributaries.{all_fed, delivered_with, all_delivered_with}
 use Rattle.sdh_terminal.specs.Passing.{Input}
-use Rattle.sdh_terminal.specs.Places.{number_at, number_of, port_numbered, ArePlaces}
+use Rattle.sdh_terminal.specs.Places.{number_at, port_number, port_numbered, ArePlaces}
 
 first-mapped : (p : Tributary → Bool) (f : ℕ → Tributary → Tributary) → ((k : ℕ) (t : Tributary) → p (f k t) ≡ p t)
     → (i : ℕ) (ts : List Tributary) → position_or_len p (map_from f i ts) ≡ position_or_len p ts
@@ -41,10 +41,10 @@ delivered_stay x places ports are = λ id. are id ∙ sym (place-mapped (is_port
 
 -- ---- the places of a new node's ports
 
-numbered-back : (id : PortId) → port_numbered (number_of id) ≡ id
+numbered-back : (id : PortId) → port_numbered (port_number id) ≡ id
 numbered-back id = go id.circuit id.end
   where
-    go : (c : ℕ) (e : End) → port_numbered (number_of (record { circuit = c; end = e })) ≡ record { circuit = c; end = e }
+    go : (c : ℕ) (e : End) → port_numbered (port_number (record { circuit = c; end = e })) ≡ record { circuit = c; end = e }
     go c A =
         let h : (2 * c + 0) / 2 ≡ c = omega arith in
         let r : (2 * c + 0) % 2 ≡ 0 = omega arith in
@@ -98,10 +98,10 @@ pub new_places : (at : Pos) (circuits : List Provisioned) (ports : List Tributar
 new_places at circuits ports places is made = λ id.
     (let f : ℕ → Option ℕ = λ k. position (is_port (port_numbered k)) ports in
     let n = 2 * length circuits in
-    ap (λ ps. get_or ps (number_of id) None) made
-    ∙ elim (cases_lt (number_of id) n) [
-      | inl low ↦ get_or-cells f n (number_of id) None low ∙ ap (λ j. position (is_port j) ports) (numbered-back id)
+    ap (λ ps. get_or ps (port_number id) None) made
+    ∙ elim (cases_lt (port_number id) n) [
+      | inl low ↦ get_or-cells f n (port_number id) None low ∙ ap (λ j. position (is_port j) ports) (numbered-back id)
       | inr high ↦
-          get_or_past (cells f n) (number_of id) None (omega (arith, length-cells f n))
+          get_or_past (cells f n) (port_number id) None (omega (arith, length-cells f n))
           ∙ sym (ap (position (is_port id)) is ∙ beyond at circuits id (omega (arith, few id.end)))
     ])

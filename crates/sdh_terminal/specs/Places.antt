@@ -10,12 +10,12 @@ number_at A = 0
 number_at B = 1
 
 -- the ports of a ring's circuits are counted from 0, circuit by circuit, A before B
-abbrev pub number_of : PortId → ℕ
-number_of id = 2 * id.circuit + number_at id.end
+abbrev pub port_number : PortId → ℕ
+port_number id = 2 * id.circuit + number_at id.end
 
 abbrev pub port_numbered : ℕ → PortId
 port_numbered k = record { circuit = k / 2; end = if k % 2 == 0 then A else B }
 
 -- each port's place is kept at its number
 abbrev pub ArePlaces : List (Option ℕ) → List Tributary → Type 0
-ArePlaces places ports = (id : PortId) → slice_index_or places (number_of id) None ≡ position (is_port id) ports
+ArePlaces places ports = (id : PortId) → slice_index_or places (port_number id) None ≡ position (is_port id) ports

@@ -2,7 +2,7 @@
 ghost use Rattle.std.specs.Prelude.{◌≡◌, ◌+◌, ◌*◌, ◌/◌, ◌^◌, ◌<◌, ◌≤◌, IfOk, IfSome, IfNone, IsTrue, IsSome, Some, None, All, length, position};
 ghost use Rattle.sdh_basics.specs.Cells.{cells};
 ghost use Rattle.sdh_terminal.specs.Tributaries.{tributaries_at, is_port, port_of, HasPort, outlet_of, waiting_of, with_slips, all_fed, all_delivered_with, IsTributary};
-ghost use Rattle.sdh_terminal.specs.Places.{number_of, port_numbered};
+ghost use Rattle.sdh_terminal.specs.Places.{port_number, port_numbered};
 ghost use Rattle.sdh_terms.specs.Rates.{n_of};
 ghost use Rattle.sdh_terminal.specs.Lines.{dropped_by};
 
@@ -40,7 +40,7 @@ impl Model for Tributaries {
 }
 
 fn number_of(id: PortId) -> usize
-    ensures { result ≡ number_of id }
+    ensures { result ≡ port_number id }
 {
     let number = 2 * usize::from(id.circuit);
     match id.end {
