@@ -1,8 +1,10 @@
 -- The two ends of a circuit.
+use Rattle.std.specs.Prelude.{ℕ}
 use Rattle.sdh_ringmap.specs.declared.Side.{Side}
 use Rattle.sdh_ringmap.specs.declared.Side.TheVariants.{West, East}
 use Rattle.sdh_circuits.specs.declared.End.{End}
 use Rattle.sdh_circuits.specs.declared.End.TheVariants.{A, B}
+use Rattle.sdh_circuits.specs.declared.PortId.{PortId}
 
 -- the other end of a circuit
 abbrev pub other_end : End → End
@@ -13,3 +15,7 @@ other_end B = A
 abbrev pub inward : End → Side
 inward A = East
 inward B = West
+
+-- the port at an end of the circuit of this number
+abbrev pub port_id : ℕ → End → PortId
+port_id index e = record { circuit = index; end = e }

@@ -4,7 +4,7 @@ use Rattle.std.specs.Prelude.{slice_get, option_map}
 use Rattle.sdh_circuits.specs.declared.PortId.{PortId}
 use Rattle.sdh_circuits.specs.declared.End.{End}
 use Rattle.sdh_circuits.specs.declared.End.TheVariants.{A, B}
-use Rattle.sdh_circuits.specs.Ends.{other_end}
+use Rattle.sdh_circuits.specs.Ends.{other_end, port_id}
 use Rattle.sdh_circuits.specs.Provisioned.{Provisioned, customer_at}
 use Rattle.sdh_payload.specs.Customer.{Customer}
 use Rattle.sdh_world.specs.Rounds.{World}
@@ -13,7 +13,6 @@ use Rattle.sdh_owed.proofs.Known.{no_round}
 use Rattle.sdh_outage.specs.Kinds.{kind_of}
 use Rattle.sdh_outage.specs.Outages.{outage_of}
 use Rattle.sdh_outage.specs.Changes.{kind_changes}
-use Rattle.sdh_scripts.specs.Ports.{port_id}
 use Rattle.sdh_outage_script.specs.Outages.{delivered_at, kinds_in, outage_in, ports_out, trace_at, trace_in, outaged_in}
 use Rattle.sdh_outage_script.specs.Scripts.{outage_walk}
 

@@ -6,7 +6,7 @@ use Rattle.std.proofs.lemmas.Option.{slice_get_within}
 use Rattle.sdh_circuits.specs.declared.PortId.{PortId}
 use Rattle.sdh_circuits.specs.declared.End.{End}
 use Rattle.sdh_circuits.specs.declared.End.TheVariants.{A, B}
-use Rattle.sdh_circuits.specs.Ends.{other_end}
+use Rattle.sdh_circuits.specs.Ends.{other_end, port_id}
 use Rattle.sdh_circuits.specs.Provisioned.{Provisioned, customer_at}
 use Rattle.sdh_circuits.specs.Provisioning.{Provisioning}
 use Rattle.sdh_payload.specs.Customer.{Customer}
@@ -21,7 +21,6 @@ use Rattle.sdh_outage.specs.Outages.{outage_of}
 use Rattle.sdh_outage.specs.Changes.{kind_changes}
 use Rattle.sdh_outage.specs.Kept.{Heard, heard}
 use Rattle.sdh_scripts.proofs.Lists.{some_at}
-use Rattle.sdh_scripts.specs.Ports.{port_id}
 use Rattle.sdh_outage_script.specs.Outages.{delivered_at, kinds_in, outage_in, ports_out, trace_at, trace_in}
 use Rattle.sdh_outage_script.specs.Lines.{told_line, changes_text, trace_text}
 use Rattle.sdh_outage_script.specs.Ports.{AreReady, delivered_in, heard_in, IsListening, AreListening, AreFew, HaveBegun, Looked, shown}

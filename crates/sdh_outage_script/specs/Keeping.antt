@@ -4,10 +4,10 @@ use Rattle.std.proofs.Common.{refl, ap, ap₂, subst, ◌∙◌, zero-le}
 use Rattle.std.proofs.Math.Nat.{le_refl, le_step}
 use Rattle.sdh_circuits.specs.declared.End.TheVariants.{A, B}
 use Rattle.sdh_circuits.specs.declared.PortId.{PortId}
+use Rattle.sdh_circuits.specs.Ends.{port_id}
 use Rattle.sdh_payload.specs.Customer.{Customer}
 use Rattle.sdh_world.specs.Rounds.{World}
 use Rattle.sdh_outage.specs.Kept.{heard}
-use Rattle.sdh_scripts.specs.Ports.{port_id}
 use Rattle.sdh_outage_script.specs.Outages.{delivered_at}
 use Rattle.sdh_outage_script.specs.Ports.{delivered_in, heard_in, AreListening}
 use Rattle.sdh_outage_script.specs.declared.ports.Both.{Both}

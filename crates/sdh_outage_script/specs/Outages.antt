@@ -2,13 +2,13 @@
 use Rattle.std.specs.Prelude.{ℕ, zero, suc, ◌-◌, List, [], ◌∷◌, slice_get, Option, option_map}
 use Rattle.sdh_circuits.specs.declared.End.{End}
 use Rattle.sdh_circuits.specs.declared.PortId.{PortId}
-use Rattle.sdh_circuits.specs.Ends.{other_end}
+use Rattle.sdh_circuits.specs.Ends.{other_end, port_id}
 use Rattle.sdh_circuits.specs.Provisioned.{Provisioned, customer_at}
 use Rattle.sdh_payload.specs.Customer.{Customer}
 use Rattle.sdh_payload.specs.declared.delivered.Delivered.{Delivered}
 use Rattle.sdh_world.specs.Held.{HeldRing, outlet_at}
 use Rattle.sdh_world.specs.Rounds.{World}
-use Rattle.sdh_scripts.specs.Ports.{port_id, of_ports}
+use Rattle.sdh_scripts.specs.Ports.{of_ports}
 use Rattle.sdh_outage.specs.declared.kind.Kind.{Kind}
 use Rattle.sdh_outage.specs.declared.change.Change.{Change}
 use Rattle.sdh_outage.specs.declared.outage.Outage.{Outage}

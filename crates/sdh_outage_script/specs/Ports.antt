@@ -4,13 +4,13 @@ use Rattle.sdh_circuits.specs.declared.End.{End}
 use Rattle.sdh_circuits.specs.declared.End.TheVariants.{A, B}
 use Rattle.sdh_circuits.specs.declared.PortId.{PortId}
 use Rattle.sdh_circuits.specs.Provisioned.{Provisioned}
+use Rattle.sdh_circuits.specs.Ends.{port_id}
 use Rattle.sdh_payload.specs.Customer.{Customer}
 use Rattle.sdh_payload.specs.declared.delivered.Delivered.{Delivered}
 use Rattle.sdh_world.specs.Held.{HeldRing}
 use Rattle.sdh_world.specs.Rounds.{World}
 use Rattle.sdh_report.specs.Lines.{settle_line}
 use Rattle.sdh_outage.specs.Kept.{Heard, heard}
-use Rattle.sdh_scripts.specs.Ports.{port_id}
 use Rattle.sdh_outage_script.specs.Outages.{delivered_at, PortOutage}
 use Rattle.sdh_outage_script.specs.Lines.{told_line, settle_step_text, changes_text}
 use Rattle.sdh_outage_script.specs.declared.listing.Listing.{Listing}

@@ -3,13 +3,8 @@ use Rattle.std.specs.Prelude.{ℕ, ◌+◌, ◌*◌, List, [], ◌∷◌}
 use Rattle.sdh_payload.specs.Outlet.{Outlet}
 use Rattle.sdh_circuits.specs.declared.End.{End}
 use Rattle.sdh_circuits.specs.declared.End.TheVariants.{A, B}
-use Rattle.sdh_circuits.specs.declared.PortId.{PortId}
 use Rattle.sdh_circuits.specs.Provisioned.{Provisioned}
 use Rattle.sdh_report.specs.Reports.{PortLine}
-
--- the port at an end of the circuit of this number
-abbrev pub port_id : ℕ → End → PortId
-port_id index e = record { circuit = index; end = e }
 
 -- what is told of the ports of these circuits, which are counted from `index`, where `tells` tells it of one
 abbrev pub of_ports : {L : Type 0} → (ℕ → Provisioned → End → L) → ℕ → List Provisioned → List L

@@ -15,6 +15,7 @@ use Rattle.sdh_circuits.specs.declared.End.{End}
 use Rattle.sdh_circuits.specs.declared.End.TheVariants.{A, B}
 use Rattle.sdh_circuits.specs.Provisioned.{Provisioned, customer_at, end_of}
 use Rattle.sdh_circuits.specs.Provisioning.{IsInRing}
+use Rattle.sdh_circuits.specs.Ends.{port_id}
 use Rattle.sdh_pointer.specs.declared.reading.Reading.{Reading}
 use Rattle.sdh_pointer.specs.declared.reading.Action.TheVariants as action
 use Rattle.sdh_pointer.specs.Reading.{start}
@@ -35,7 +36,6 @@ use Rattle.sdh_sncp.specs.Node.{inlet_on, sending_on}
 use Rattle.sdh_sncp.specs.Ring.{node_at, World, run, course, is_calm, EndsWindow}
 use Rattle.sdh_sncp.specs.Fixed.{AreAlone}
 use Rattle.sdh_sncp.specs.Laws.{IsWhole, HasCircuits, cut_in, RoundsGetCalm, StepsAnswer, StepsDeliver, DeliversWhatIsDue}
-use Rattle.sdh_terminal.proofs.Found.{port_id}
 use Rattle.sdh_sncp.proofs.Rounds.{neighbour_inside, whole_run, left_run}
 use Rattle.sdh_sncp.proofs.Calm.{AreSame, calm_where_same}
 use Rattle.sdh_sncp.proofs.Spans.{sent_at, came_at, generator_step, interpreter_step}

@@ -17,7 +17,7 @@ use Rattle.sdh_payload.specs.Customer.{Customer}
 use Rattle.sdh_payload.specs.Outlet.{Outlet, silent}
 use Rattle.sdh_pointer.specs.Laws.{is_ais_action}
 use Rattle.sdh_ringmap.specs.Steps.{going}
-use Rattle.sdh_circuits.specs.Ends.{other_end}
+use Rattle.sdh_circuits.specs.Ends.{other_end, port_id}
 use Rattle.sdh_terminal.specs.Passing.{no_input}
 use Rattle.sdh_terminal.specs.Lines.{received, dropped_by}
 use Rattle.sdh_terminal.specs.Outlets.{delivered_from}
@@ -32,7 +32,7 @@ use Rattle.sdh_sncp.specs.Ring.{HeldPath, nowhere, node_at, World, outlet_at, no
 use Rattle.sdh_sncp.specs.Due.{way_clear, main_spans, spare_spans, sends_in, due_path}
 use Rattle.sdh_circuits.specs.Ends.{inward}
 use Rattle.sdh_sncp.specs.Laws.{IsWhole, HasCircuits, cut_in, QuietRingsDeliver}
-use Rattle.sdh_terminal.proofs.Found.{port_id, IsPortOf, port-found, found_one, twice}
+use Rattle.sdh_terminal.proofs.Found.{IsPortOf, port-found, found_one, twice}
 use Rattle.sdh_sncp.proofs.Nodes.{informed, nodes_after, length-after}
 use Rattle.sdh_sncp.proofs.Rounds.{whole_round, whole_run, left_run}
 use Rattle.sdh_sncp.proofs.Spans.{crossing_at, came_at}

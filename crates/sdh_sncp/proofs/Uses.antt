@@ -14,6 +14,7 @@ use Rattle.sdh_circuits.specs.declared.End.{End}
 use Rattle.sdh_circuits.specs.declared.End.TheVariants.{A, B}
 use Rattle.sdh_circuits.specs.declared.PortId.{PortId}
 use Rattle.sdh_circuits.specs.Provisioned.{Provisioned, customer_at, end_of}
+use Rattle.sdh_circuits.specs.Ends.{port_id}
 use Rattle.sdh_payload.specs.Customer.{Customer}
 use Rattle.sdh_payload.specs.Stream.{stream_from}
 use Rattle.sdh_terminal.specs.Passing.{no_input}
@@ -29,7 +30,7 @@ use Rattle.sdh_sncp.specs.Node.{fed_for, leads, lines_of, crossing}
 use Rattle.sdh_sncp.specs.Fixed.{AreAlone}
 use Rattle.sdh_sncp.specs.Ring.{node_at, World}
 use Rattle.sdh_sncp.specs.Laws.{IsUnslipped, IsWhole}
-use Rattle.sdh_terminal.proofs.Found.{found_has, port_id, IsPortOf, port-found}
+use Rattle.sdh_terminal.proofs.Found.{found_has, IsPortOf, port-found}
 use Rattle.sdh_sncp.proofs.Nodes.{informed, unslipped_plain}
 use Rattle.sdh_sncp.proofs.Spans.{crossing_at, sent_at, came_at}
 

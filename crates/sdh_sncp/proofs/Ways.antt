@@ -19,7 +19,7 @@ use Rattle.sdh_payload.specs.Outlet.{Outlet, silent}
 use Rattle.sdh_terms.specs.declared.Condition.TheVariants.{Clear}
 use Rattle.sdh_terms.specs.Fibres.{fibre_to, is_cut}
 use Rattle.sdh_plant.specs.Arrivals.{condition_of}
-use Rattle.sdh_circuits.specs.Ends.{other_end}
+use Rattle.sdh_circuits.specs.Ends.{other_end, port_id}
 use Rattle.sdh_rounds.specs.Runs as any_run
 use Rattle.sdh_spans.specs.Brought.{Brings, HasValue}
 use Rattle.sdh_sncp.specs.Due.{way_clear, main_spans, spare_spans, sends_in}
@@ -27,7 +27,6 @@ use Rattle.sdh_circuits.specs.Ends.{inward}
 use Rattle.sdh_sncp.specs.Fixed.{AreAlone}
 use Rattle.sdh_sncp.specs.Ring.{World, run, is_calm}
 use Rattle.sdh_sncp.specs.Laws.{IsWhole, cut_in}
-use Rattle.sdh_terminal.proofs.Found.{port_id}
 use Rattle.sdh_sncp.proofs.Rounds.{whole_run, IsLeft, left_run}
 use Rattle.sdh_sncp.proofs.Spans.{sent_at, came_at, span_brings, span_silent}
 use Rattle.sdh_sncp.proofs.Uses.{use_is, use_passed, use_ended, sends_passed, sends_ended, port_sends}

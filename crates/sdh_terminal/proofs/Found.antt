@@ -15,7 +15,7 @@ use Rattle.sdh_circuits.specs.declared.End.{End}
 use Rattle.sdh_circuits.specs.declared.End.TheVariants.{A, B}
 use Rattle.sdh_circuits.specs.declared.PortId.{PortId}
 use Rattle.sdh_circuits.specs.declared.Slot.{Slot}
-use Rattle.sdh_circuits.specs.Ends.{inward}
+use Rattle.sdh_circuits.specs.Ends.{inward, port_id}
 use Rattle.sdh_circuits.specs.Provisioned.{Provisioned, customer_at, end_of, same_port}
 use Rattle.sdh_payload.specs.Customer.{Customer}
 use Rattle.sdh_terminal.specs.Tributaries.{Tributary, new_tributary, tributaries_of, tributaries_from, tributaries_at, is_port, port_of}
@@ -58,9 +58,6 @@ pub twice : (f g : ℕ → Tributary → Tributary) (i : ℕ) (ts : List Tributa
     → map_from f i (map_from g i ts) ≡ map_from (λ k t. f k (g k t)) i ts
 twice f g i [] = refl
 twice f g i (t ∷ ts) = ap (λ us. f i (g i t) ∷ us) (twice f g (i + 1) ts)
-
-abbrev pub port_id : ℕ → End → PortId
-port_id i e = record { circuit = i; end = e }
 
 -- the port of end e of circuit number i before the first round
 abbrev port_new : ℕ → Provisioned → End → Tributary

@@ -7,6 +7,7 @@ use Rattle.std.proofs.lemmas.Option.{slice_get-map, same_Some, slice_get_within}
 use Rattle.sdh_circuits.specs.declared.PortId.{PortId}
 use Rattle.sdh_circuits.specs.declared.End.TheVariants.{A, B}
 use Rattle.sdh_circuits.specs.Provisioned.{Provisioned, end_of}
+use Rattle.sdh_circuits.specs.Ends.{port_id}
 use Rattle.sdh_payload.specs.Clock.{Clock, new_clock, waiting}
 use Rattle.sdh_payload.proofs.Clocking.{next_few}
 use Rattle.sdh_plant.specs.Fibres.{Arrival}
@@ -25,7 +26,6 @@ use Rattle.sdh_world.proofs.Keeping.{all_heard, all_next, has_fixed}
 use Rattle.sdh_world.proofs.Clocks.{clock_of, clocks_go_on}
 use Rattle.sdh_path.specs.History.{Given}
 use Rattle.sdh_scripts.proofs.Lists.{some_at}
-use Rattle.sdh_scripts.specs.Ports.{port_id}
 use Rattle.sdh_watch_script.specs.declared.ports.Both.{Both}
 use Rattle.sdh_watching.specs.Watching.{Lead, given_at}
 use Rattle.sdh_watch_script.specs.Ports.{AreWatching, AreFew, Looked, Shown}

@@ -3,11 +3,11 @@ use Rattle.std.specs.Prelude.{ℕ, ◌≡◌, ◌+◌, ◌≤◌, Some, List, �
 use Rattle.sdh_circuits.specs.declared.End.TheVariants.{A, B}
 use Rattle.sdh_circuits.specs.declared.PortId.{PortId}
 use Rattle.sdh_circuits.specs.Provisioned.{Provisioned}
+use Rattle.sdh_circuits.specs.Ends.{port_id}
 use Rattle.sdh_world.specs.Held.{HeldRing}
 use Rattle.sdh_world.specs.Rounds.{World}
 use Rattle.sdh_path.specs.History.{Given}
 use Rattle.sdh_path.specs.Kept.{CameBy}
-use Rattle.sdh_scripts.specs.Ports.{port_id}
 use Rattle.sdh_watching.specs.Watching.{given_at, Lead}
 use Rattle.sdh_watch_script.specs.declared.ports.Both.{Both}
 

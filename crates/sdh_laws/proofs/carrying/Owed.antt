@@ -25,7 +25,7 @@ use Rattle.sdh_bridge.specs.Connections.{stands_for}
 use Rattle.sdh_restoration.specs.Applied.{is_applied}
 use Rattle.sdh_settling.specs.Settled.{settled}
 use Rattle.sdh_restoration.specs.Routes.{hops}
-use Rattle.sdh_circuits.specs.Ends.{other_end}
+use Rattle.sdh_circuits.specs.Ends.{other_end, port_id}
 use Rattle.sdh_restoration.specs.Due.{due}
 use Rattle.sdh_routes.specs.Walks.{port, port_at, carries_in, stands_in, delivery}
 use Rattle.sdh_circuits.specs.Ends.{inward}
@@ -54,7 +54,7 @@ use Rattle.sdh_spans.proofs.Ports.{ports_deliver, ports_bring}
 use Rattle.sdh_laws.specs.Carrying.Windows.{Layout, layout_of, size_of, slots_of, HasCircuits, value_at, AreSettled, IsQuiet}
 use Rattle.sdh_laws.specs.Carrying.Laws.{due_by_clocks, DeliversItsDue, QuietRingsDeliverWhatIsDue}
 use Rattle.sdh_laws.proofs.carrying.Connections.{node_of, state_in_turn, drops_is}
-use Rattle.sdh_terminal.proofs.Found.{port_id, IsPortOf, port-found}
+use Rattle.sdh_terminal.proofs.Found.{IsPortOf, port-found}
 use Rattle.sdh_laws.proofs.carrying.Ports.{HasDelivered, port-delivered}
 use Rattle.sdh_laws.proofs.carrying.Clocks.{port_there, form_there}
 use Rattle.sdh_laws.proofs.carrying.Ways.{layout_round, layout_run, kept_over, comes_in, from_comes, comes_over}

@@ -25,7 +25,7 @@ use Rattle.sdh_circuits.specs.declared.End.{End}
 use Rattle.sdh_circuits.specs.declared.PortId.{PortId}
 use Rattle.sdh_restoration.specs.Routes.{hops}
 use Rattle.sdh_restoration.specs.Due.{due}
-use Rattle.sdh_circuits.specs.Ends.{other_end}
+use Rattle.sdh_circuits.specs.Ends.{other_end, port_id}
 use Rattle.sdh_terms.specs.Rates.{n_of}
 use Rattle.sdh_plant.specs.Fibres.{Fibres}
 use Rattle.sdh_request.specs.declared.settings.Settings.{Settings}
@@ -47,7 +47,6 @@ use Rattle.sdh_laws.specs.Carrying.Laws.{due_by_clocks, DeliversWhatIsDue, IsRes
 use Rattle.sdh_laws.specs.Carrying.Laws.{RingsHaveCircuits}
 use Rattle.sdh_laws.proofs.carrying.Applied.{failures_applied, length-requests_of}
 use Rattle.sdh_laws.proofs.carrying.Owed.{quiet_delivers, port_is_there}
-use Rattle.sdh_terminal.proofs.Found.{port_id}
 use Rattle.sdh_laws.proofs.carrying.Ways.{layout_run}
 use Rattle.sdh_world.specs.Held.{nowhere}
 use Rattle.sdh_node.specs.Stations.{adm}

@@ -10,10 +10,9 @@ use Rattle.sdh_routes.proofs.Ways.{end_inside}
 use Rattle.sdh_request.specs.declared.settings.Settings.{Settings}
 use Rattle.sdh_world.specs.Clocks.{first_clock, clocks_by, HasPortIn, clocks_from}
 use Rattle.sdh_world.proofs.Clocks.{clocks_go_on}
-use Rattle.sdh_terminal.proofs.Found.{port_id}
 use Rattle.sdh_laws.proofs.carrying.Owed.{port_is_there}
 use Rattle.sdh_restoration.specs.Applied.{is_applied}
-use Rattle.sdh_circuits.specs.Ends.{other_end}
+use Rattle.sdh_circuits.specs.Ends.{other_end, port_id}
 use Rattle.sdh_laws.specs.Carrying.Laws.{due_by_clocks}
 use Rattle.sdh_settling.specs.Laws.{StillRingsAreSettled}
 use Rattle.sdh_world.specs.Held.{outlet_at}

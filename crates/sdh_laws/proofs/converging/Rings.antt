@@ -10,6 +10,7 @@ use Rattle.sdh_circuits.specs.Provisioning.{IsInRing, IsInSlots, HasOffsets, Are
 use Rattle.sdh_settling.specs.Laws.{RingsSettle}
 use Rattle.sdh_terms.specs.declared.Condition.TheVariants.{Cut, Degraded}
 use Rattle.sdh_circuits.specs.declared.End.TheVariants.{A}
+use Rattle.sdh_circuits.specs.Ends.{port_id}
 use Rattle.sdh_payload.specs.declared.clock.Turn.TheVariants.{Up}
 use Rattle.sdh_payload.specs.Clock.{Clock, waiting}
 use Rattle.sdh_plant.specs.Fibres.{Fibres, IsHonest}
@@ -23,7 +24,6 @@ use Rattle.sdh_world.proofs.Clocks.{clocks_go_on}
 use Rattle.sdh_laws.specs.Hearing.Laws.{MayStart}
 use Rattle.sdh_laws.proofs.hearing.Changes.{new_worlds_are_whole}
 use Rattle.sdh_laws.proofs.hearing.Staying.{left_stretch}
-use Rattle.sdh_terminal.proofs.Found.{port_id}
 use Rattle.sdh_laws.proofs.carrying.Owed.{port_is_there}
 use Rattle.sdh_laws.specs.Converging.Rings.{settings, three, c1, one_circuit, troubles, ARingOccurs}
 use Rattle.sdh_laws.proofs.converging.HealthyRounds.{healthy_steps_settle}

@@ -23,7 +23,7 @@ use Rattle.sdh_restoration.specs.Applied.{is_applied}
 use Rattle.sdh_settling.specs.Settled.{settled}
 use Rattle.sdh_restoration.specs.Routes.{hops}
 use Rattle.sdh_restoration.specs.Due.{due}
-use Rattle.sdh_circuits.specs.Ends.{other_end}
+use Rattle.sdh_circuits.specs.Ends.{other_end, port_id}
 use Rattle.sdh_laws.specs.Carrying.Laws.{due_by_clocks}
 use Rattle.sdh_routes.specs.Walks.{IsArrival, back_from, working_in, protection_in, port, port_at, delivery}
 use Rattle.sdh_routes.specs.Law as routes
@@ -45,7 +45,6 @@ use Rattle.sdh_laws.specs.Carrying.Windows.{Layout, layout_of, size_of, slots_of
 use Rattle.sdh_spans.specs.Brought.{plainly}
 use Rattle.sdh_laws.proofs.carrying.Owed.{Arrives, port_sends, port_small, port_is_there, none_here, plain_here, arrives, offset_small}
 use Rattle.sdh_laws.proofs.carrying.Owed.{slot_inside}
-use Rattle.sdh_terminal.proofs.Found.{port_id}
 use Rattle.sdh_laws.proofs.carrying.Ways.{layout_run}
 use Rattle.sdh_laws.specs.Converging.Steady.{went, came, brought}
 use Rattle.sdh_laws.specs.Converging.Steady.{StaysSettled}

@@ -10,7 +10,7 @@ use Rattle.sdh_circuits.specs.declared.End.{End}
 use Rattle.sdh_payload.specs.Clock.{Clock, ticks}
 use Rattle.sdh_restoration.specs.Applied.{is_applied}
 use Rattle.sdh_settling.specs.Settled.{settled_states}
-use Rattle.sdh_circuits.specs.Ends.{other_end}
+use Rattle.sdh_circuits.specs.Ends.{other_end, port_id}
 use Rattle.sdh_laws.specs.Carrying.Laws.{due_by_clocks}
 use Rattle.sdh_restoration.specs.Routes.{hops}
 use Rattle.sdh_ringmap.specs.Arcs.{is_joined}
@@ -36,7 +36,6 @@ use Rattle.sdh_laws.specs.Carrying.Windows.{Layout, layout_of, size_of, slots_of
 use Rattle.sdh_laws.specs.Carrying.Laws.{DeliversItsDue, IsRestored}
 use Rattle.sdh_laws.proofs.carrying.Applied.{failures_applied, length-requests_of}
 use Rattle.sdh_laws.proofs.carrying.Owed.{port_is_there}
-use Rattle.sdh_terminal.proofs.Found.{port_id}
 use Rattle.sdh_laws.proofs.carrying.Settles.{each_settled}
 use Rattle.sdh_laws.proofs.hearing.Rounds.{clear_where_it_works}
 use Rattle.sdh_laws.proofs.carrying.Ways.{layout_run}

@@ -32,7 +32,7 @@ use Rattle.sdh_bridge.specs.Connections.{may_carry}
 use Rattle.sdh_frame.specs.Aus.{Au}
 use Rattle.sdh_pointer.specs.declared.reading.Action.TheVariants as action
 use Rattle.sdh_terminal.specs.Passing.{Input}
-use Rattle.sdh_circuits.specs.Ends.{other_end}
+use Rattle.sdh_circuits.specs.Ends.{other_end, port_id}
 use Rattle.sdh_routes.specs.Walks.{carries_in, stands_in, working_in, protection_in, port, port_at}
 use Rattle.sdh_circuits.specs.Ends.{inward}
 use Rattle.sdh_routes.proofs.Views.{AreOnRing, arc_length, end_at, holds, Switch}
@@ -42,7 +42,6 @@ use Rattle.sdh_routes.proofs.OnArcs.{near_at, near_end, on-arc, seen-on}
 use Rattle.sdh_routes.proofs.Meets.{meets-own, meets-farther}
 use Rattle.sdh_routes.proofs.Passing.{is_open, open-stands, leaves-on, leaves-own_or_none, leaves-unused, isolated-stands, isolated-leaves}
 use Rattle.sdh_routes.proofs.Passing.{idle-leaves, switched-stands, bridged-leaves, blocked-leaves, away-leaves, passed-leaves}
-use Rattle.sdh_laws.specs.Strangers.Owners.{port_named}
 use Rattle.sdh_laws.specs.Strangers.Vouched.{sender, told_of, spoken_of}
 use Rattle.sdh_laws.specs.Strangers.Vouched.{streams_to}
 use Rattle.sdh_laws.proofs.strangers.Content.{Fine}
@@ -281,7 +280,7 @@ module _ (Was Own : ℕ → Option PortId → Au → Type 0) (lags : AreLags Was
   -- ---- what is sent
 
   module _ (added_own : (j i : ℕ) (c : Provisioned) (e : End) → slice_get cs i ≡ Some c → port_at c e ≡ p
-      → Own j (Some (port_named i e)) (value (port i e)).au) where
+      → Own j (Some (port_id i e)) (value (port i e)).au) where
     abbrev leaving_lag : Side → ℕ
     leaving_lag d = working_lag n d (on d) p
 

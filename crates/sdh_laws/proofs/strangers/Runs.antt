@@ -7,6 +7,7 @@ use Rattle.sdh_ringmap.specs.Ids.{AreIds}
 use Rattle.sdh_circuits.specs.Provisioned.{Provisioned}
 use Rattle.sdh_circuits.specs.Provisioning.{Provisioning, AreCircuits}
 use Rattle.sdh_circuits.specs.declared.PortId.{PortId}
+use Rattle.sdh_circuits.specs.Ends.{port_id}
 use Rattle.sdh_payload.specs.Clock.{Clock, ticks}
 use Rattle.sdh_plant.specs.Fibres.{Fibres, IsHonest}
 use Rattle.sdh_request.specs.declared.settings.Settings.{Settings}
@@ -31,7 +32,7 @@ use Rattle.sdh_laws.proofs.carrying.Ways.{layout_run}
 use Rattle.sdh_laws.proofs.carrying.Settles.{layout_all, layout_stretches}
 use Rattle.sdh_laws.proofs.carrying.Owed.{port_is_there}
 use Rattle.sdh_routes.proofs.Ways.{end_inside}
-use Rattle.sdh_laws.specs.Strangers.Owners.{port_named, NoneMeetsAStranger, AreClocksOf, AreClocksBetween}
+use Rattle.sdh_laws.specs.Strangers.Owners.{NoneMeetsAStranger, AreClocksOf, AreClocksBetween}
 use Rattle.sdh_laws.specs.Strangers.Vouched.{IsVouched}
 use Rattle.sdh_laws.specs.Strangers.Laws.{NoneHolds, KeepsStrangersOutInAll, VouchedRingsStay, RoundsKeepStrangersOut}
 use Rattle.sdh_laws.specs.Strangers.Laws.{StepsKeepStrangersOut, NoPortEverMeetsAStranger, RingsComeToBeVouchedFor}
@@ -77,7 +78,7 @@ module _ (w : World) (form : HasCircuits (layout_of w)) (many : ℕ) (clocks : P
 
   tells_run : (j : ℕ) → j < many → AreClocksOf clocks (run j w).ring
   tells_run j few i c there e =
-      let q = port_named i e in
+      let q = port_id i e in
       let get : slice_get w.ring.circuits.circuits i ≡ Some c =
       ap (λ (l : Layout). slice_get l.circuits i) (sym (layout_run w j)) ∙ there in
       let has : HasPortIn w.ring q =
@@ -146,7 +147,7 @@ module _ (s : Settings) (ids : List ℕ) (circuits : Provisioning) (f : Fibres) 
 
   tells : (t : ℕ) → t < rounds_in ss → AreClocksOf clocks (world_in ss w t).ring
   tells t h i c there e =
-      let q = port_named i e in
+      let q = port_id i e in
       let get : slice_get cs i ≡ Some c = ap (λ (l : Layout). slice_get l.circuits i) (sym (layout_in ss w t)) ∙ there in
       let has : HasPortIn w.ring q = port_is_there w begins.whole i c e get (end_inside (length ids) (n_of s.rate / 2) cs ring i c get e) in
       clocks_go_on.history ss w q t has h

@@ -37,7 +37,7 @@ use Rattle.sdh_payload.proofs.Clocking.{form_ticked}
 use Rattle.sdh_pointer.specs.declared.reading.Action.TheVariants as action
 use Rattle.sdh_pointer.specs.Reading.{start}
 use Rattle.sdh_plant.specs.Fibres.{Fibres}
-use Rattle.sdh_circuits.specs.Ends.{other_end}
+use Rattle.sdh_circuits.specs.Ends.{other_end, port_id}
 use Rattle.sdh_request.specs.declared.settings.Settings.{Settings}
 use Rattle.sdh_terminal.specs.Passing.{Input, no_input, h3_of}
 use Rattle.sdh_terminal.specs.Outlets.{chunk_form, chunk_from, delivered_by, delivered_from}
@@ -74,7 +74,6 @@ use Rattle.sdh_routes.proofs.Views.{AreOnRing, arc_length, holds, on-ring}
 use Rattle.sdh_routes.proofs.Passing.{is_open}
 use Rattle.sdh_routes.proofs.Sights.{arc-end}
 use Rattle.sdh_routes.proofs.OnArcs.{near_at, near_end, seen-on}
-use Rattle.sdh_laws.specs.Strangers.Owners.{port_named}
 use Rattle.sdh_laws.specs.Strangers.Undisturbed.{NoneAsks, straight, UndisturbedPortsDeliver}
 use Rattle.sdh_laws.proofs.strangers.Slipping.{IsSource, value_in_round, state, Follows, does_before, state_before, does_zero, long_down}
 use Rattle.sdh_laws.proofs.strangers.Slipping.{chunk_is, not_ais}
@@ -332,7 +331,7 @@ module _ (i : ℕ) (c : Provisioned) (d : Side) (clock : ℕ → Clock) (source 
 
   record Tells (w : World) : Type 0 where
     asks : AsksNothing i c d clock source w
-    times : clock_at w.ring (port_named i (near_end d)) ≡ clock w.ring.rounds
+    times : clock_at w.ring (port_id i (near_end d)) ≡ clock w.ring.rounds
 
   module _ (w : World) (u : U w) (tells : Tells w) where
     abbrev n : ℕ
@@ -406,7 +405,7 @@ module _ (i : ℕ) (c : Provisioned) (d : Side) (clock : ℕ → Clock) (source 
     e = other_end (near_end d)
 
     -- the port at the other end
-    delivers : outlet_at (round w).ring (port_named i e) ≡ (if nat_lt w.ring.rounds (arc_length n c)
+    delivers : outlet_at (round w).ring (port_id i e) ≡ (if nat_lt w.ring.rounds (arc_length n c)
         then silent else owed (w.ring.rounds - arc_length n c))
     delivers =
         let next = round w in
@@ -422,7 +421,7 @@ module _ (i : ℕ) (c : Provisioned) (d : Side) (clock : ℕ → Clock) (source 
         let many = arc_length n c in
         let place : going n d (near_at n c d) many ≡ p = sym seen.distant_at in
         let input = value_at w p c.slot.0 (stands_in n xs p st (inward e) c.slot.0) in
-        let out : outlet_at next.ring (port_named i e) ≡ delivered_from input =
+        let out : outlet_at next.ring (port_id i e) ≡ delivered_from input =
         outlet_there next hn i c e still_there hp ∙ ap (λ o. option_map_or (λ (t : Tributary). t.outlet) o silent) t.is
         ∙ found_arrives w u.whole i c e h st (state_in_turn w u.whole p h) t in
         let come : HasCome i c d clock source many w.ring.rounds input =
@@ -479,7 +478,7 @@ module _ (s : Settings) (ids : List ℕ) (circuits : Provisioning) (f : Fibres) 
   size = length ids
 
   abbrev id : PortId
-  id = port_named i (near_end d)
+  id = port_id i (near_end d)
 
   abbrev far : End
   far = other_end (near_end d)
@@ -595,7 +594,7 @@ module _ (s : Settings) (ids : List ℕ) (circuits : Provisioning) (f : Fibres) 
   owed_then r =
       delivering (ticked (clock r)).value (stream_from (customer_at c (near_end d)) (clock r).sent (taken_len (next_form (clock r))))
 
-  pub far_delivers : (t : ℕ) → t < rounds_in ss → outlet_at (round (world_in ss w t)).ring (port_named i far)
+  pub far_delivers : (t : ℕ) → t < rounds_in ss → outlet_at (round (world_in ss w t)).ring (port_id i far)
       ≡ (if nat_lt t (arc_length size c) then silent else owed_then (t - arc_length size c))
   far_delivers t h =
       let x = world_in ss w t in
@@ -607,7 +606,7 @@ module _ (s : Settings) (ids : List ℕ) (circuits : Provisioning) (f : Fibres) 
 by_end : (s : Settings) (ids : List ℕ) (circuits : Provisioning) (f : Fibres) (ss : List Stretch) → MayStart s ids f
     → MayHappen (new_world s ids circuits f) ss → AreCircuits (length ids) (n_of s.rate / 2) circuits.circuits
     → (i : ℕ) (c : Provisioned) → slice_get circuits.circuits i ≡ Some c → NoneAsks s (length ids) ss c → (t : ℕ) → t < rounds_in ss
-    → (e : End) → outlet_at (round (world_in ss (new_world s ids circuits f) t)).ring (port_named i e)
+    → (e : End) → outlet_at (round (world_in ss (new_world s ids circuits f) t)).ring (port_id i e)
     ≡ straight (length ids) circuits.circuits ss i c e t
 unfolding arc_length
 by_end s ids circuits f ss may happen form i c get asks t h A = far_delivers s ids circuits f ss may happen form i c get West asks t h

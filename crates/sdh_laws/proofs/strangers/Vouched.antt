@@ -47,10 +47,10 @@ use Rattle.sdh_terminal.proofs.Found.{port-found}
 use Rattle.sdh_laws.proofs.carrying.Connections.{node_of, state_in_turn}
 use Rattle.sdh_laws.proofs.carrying.Owed.{found, clock_is, found_arrives, outlet_there, slot_inside}
 use Rattle.sdh_routes.specs.Walks.{port_at, stands_in}
-use Rattle.sdh_circuits.specs.Ends.{inward}
+use Rattle.sdh_circuits.specs.Ends.{inward, port_id}
 use Rattle.sdh_routes.proofs.Views.{AreOnRing, on-ring}
 use Rattle.sdh_routes.proofs.Ways.{end_inside}
-use Rattle.sdh_laws.specs.Strangers.Owners.{port_named, other_port, put_by, HasBytesOf, Holds, nobodys, customers, MeetsNoStranger}
+use Rattle.sdh_laws.specs.Strangers.Owners.{other_port, put_by, HasBytesOf, Holds, nobodys, customers, MeetsNoStranger}
 use Rattle.sdh_laws.specs.Strangers.Owners.{ais_comes, bytes_come, NoneMeetsAStranger, AreClocksOf}
 use Rattle.sdh_laws.specs.Strangers.Vouched.{spoken_of, HoldsAtMost, au_in, IsVouched}
 use Rattle.sdh_laws.specs.Strangers.Laws.{HoldsNone}
@@ -218,18 +218,18 @@ held_after w whole most k p h =
 -- what a port adds to its AU-4 is its own
 pub adds_own : (clocks : PortId → ℕ → Clock) (w : World) → IsWhole w → HasCircuits (layout_of w) → AreClocksOf clocks w.ring
     → (i : ℕ) (c : Provisioned) (e : End) → slice_get w.ring.circuits.circuits i ≡ Some c
-    → Holds w.ring.circuits.circuits clocks (w.ring.rounds + 1) (port_named i e)
-    (added_by (node_at w.ring.nodes (port_at c e)).ports (port_named i e)).au
+    → Holds w.ring.circuits.circuits clocks (w.ring.rounds + 1) (port_id i e)
+    (added_by (node_at w.ring.nodes (port_at c e)).ports (port_id i e)).au
 adds_own clocks w whole form_is tells i c e get =
     let inside = end_inside (length w.ring.ids) (slots_of (layout_of w)) w.ring.circuits.circuits form_is i c get e in
     let t = w.ring.rounds in
     let f = found w whole i c e get inside in
-    let clock : f.it.feed.clock ≡ clocks (port_named i e) t = sym (clock_is w whole i c e get inside) ∙ tells i c get e in
-    let added : (added_by (node_at w.ring.nodes (port_at c e)).ports (port_named i e)).au
-    ≡ put_by (customer_at c e) (clocks (port_named i e) t) =
+    let clock : f.it.feed.clock ≡ clocks (port_id i e) t = sym (clock_is w whole i c e get inside) ∙ tells i c get e in
+    let added : (added_by (node_at w.ring.nodes (port_at c e)).ports (port_id i e)).au
+    ≡ put_by (customer_at c e) (clocks (port_id i e) t) =
     ap (λ o. (option_map_or (λ (t : Tributary). input_by (sent_in t.feed)) o no_input).au) f.is
     ∙ λ j. (input_by (sent_in (record { port = f.sender j; clock = clock j }))).au in
-    customers c t get (omega arith) (own_bytes (put_by (customer_at c e) (clocks (port_named i e) t)) _ added)
+    customers c t get (omega arith) (own_bytes (put_by (customer_at c e) (clocks (port_id i e) t)) _ added)
 
 module _ (clocks : PortId → ℕ → Clock) (w : World) (form_is : HasCircuits (layout_of w)) (k : IsVouched clocks w) where
   abbrev cs : List Provisioned
@@ -311,12 +311,12 @@ module _ (clocks : PortId → ℕ → Clock) (w : World) (form_is : HasCircuits 
   meets q x o is own = meets_by q x.action x o is own
 
   own_of : (i : ℕ) (c : Provisioned) (e : End) (x : Input) → Fine (Own t) (Some (entry i c)) (opposite (inward e)) x
-      → (x.action ≡ action.Ais) ⊎ Holds cs clocks t (other_port (port_named i e)) x.au
+      → (x.action ≡ action.Ais) ⊎ Holds cs clocks t (other_port (port_id i e)) x.au
   own_of i c e x (inl ais) = inl ais
-  own_of i c e x (inr is) = inr (subst (λ y. Holds cs clocks t (port_named i y) x.au) (sent_to e) is)
+  own_of i c e x (inr is) = inr (subst (λ y. Holds cs clocks t (port_id i y) x.au) (sent_to e) is)
 
   delivers : (i : ℕ) (c : Provisioned) → slice_get (round w).ring.circuits.circuits i ≡ Some c → (e : End)
-      → MeetsNoStranger cs clocks t (port_named i e) (outlet_at (round w).ring (port_named i e))
+      → MeetsNoStranger cs clocks t (port_id i e) (outlet_at (round w).ring (port_id i e))
   delivers i c there e =
       let get = still_there i c there in
       let u = round w in
@@ -330,17 +330,17 @@ module _ (clocks : PortId → ℕ → Clock) (w : World) (form_is : HasCircuits 
       let slot = slot_inside (slots_of (layout_of w)) cs form_is.in_slots i c get in
       let found_at = port-found u.ring.circuits.circuits (node_at u.ring.nodes p).ports i c e there (node_of u hu p hp).ports_are in
       let input = value_at w p m (stands_in size cs p st (inward e) m) in
-      let out : outlet_at u.ring (port_named i e) ≡ delivered_from input =
+      let out : outlet_at u.ring (port_id i e) ≡ delivered_from input =
       outlet_there u hu i c e there hp ∙ ap (λ o. option_map_or (λ (t : Tributary). t.outlet) o silent) found_at.is
       ∙ found_arrives w k.whole i c e h st (state_in_turn w k.whole p h) found_at in
       let fine : Fine (Own t) (circuits_at size cs p m (inward e)) (opposite (inward e)) input =
       delivers_fine (λ i. Own t) (λ i. Own t) lags_now w k.whole p h now m slot.from_1 slot.small ring_is (free_is p h) (inward e) in
       let own : Fine (Own t) (Some (entry i c)) (opposite (inward e)) input =
       subst (λ o. Fine (Own t) o (opposite (inward e)) input) (at_port size cs ring_is i c get e) fine in
-      meets (port_named i e) input _ out (own_of i c e input own)
+      meets (port_id i e) input _ out (own_of i c e input own)
 
   pub none_meets : NoneMeetsAStranger clocks (round w).ring
   unfolding any_round.round any_round.round_with
   none_meets i c get e =
       let back : t ≡ t + 1 - 1 = omega arith in
-      subst (λ r. MeetsNoStranger cs clocks r (port_named i e) (outlet_at (round w).ring (port_named i e))) back (delivers i c get e)
+      subst (λ r. MeetsNoStranger cs clocks r (port_id i e) (outlet_at (round w).ring (port_id i e))) back (delivers i c get e)

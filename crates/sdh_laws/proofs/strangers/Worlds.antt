@@ -13,6 +13,7 @@ use Rattle.sdh_ringmap.proofs.Sides.{opposite_twice}
 use Rattle.sdh_circuits.specs.Provisioned.{Provisioned}
 use Rattle.sdh_circuits.specs.declared.End.{End}
 use Rattle.sdh_circuits.specs.declared.PortId.{PortId}
+use Rattle.sdh_circuits.specs.Ends.{port_id}
 use Rattle.sdh_squelch.specs.Table.{OnSpan, circuits_at, circuit_on}
 use Rattle.sdh_nodestate.specs.declared.NodeState.{NodeState}
 use Rattle.sdh_nodestate.specs.Words.{IsMember}
@@ -36,7 +37,6 @@ use Rattle.sdh_laws.proofs.carrying.Spans.{state_at, au_left}
 use Rattle.sdh_laws.proofs.carrying.Connections.{sends_working, sends_protection, brings_protection}
 use Rattle.sdh_routes.specs.Walks.{port, port_at, stands_in}
 use Rattle.sdh_routes.proofs.Views.{AreOnRing}
-use Rattle.sdh_laws.specs.Strangers.Owners.{port_named}
 use Rattle.sdh_laws.specs.Strangers.Vouched.{streams_to, spoken_of, au_in}
 use Rattle.sdh_laws.proofs.strangers.Content.{Bears, Fine, bears_sent}
 use Rattle.sdh_laws.proofs.strangers.Lags.{place_on, working_lag, spoken_lag, AreLags}
@@ -170,7 +170,7 @@ module _ (Was Own : ℕ → Option PortId → Au → Type 0) (lags : AreLags Was
             (value_at w p m) working_comes protection_comes sourced_words silence d)
 
         module _ (added : (j i : ℕ) (c : Provisioned) (e : End) → slice_get cs i ≡ Some c → port_at c e ≡ p
-            → Own j (Some (port_named i e)) (value_at w p m (port i e)).au) where
+            → Own j (Some (port_id i e)) (value_at w p m (port i e)).au) where
           pub working_goes : (d : Side) → Fine (Own (working_lag n d (circuits_at n cs p m d) p)) (circuits_at n cs p m d) d
               (sent_at w p d m)
           working_goes d =
@@ -197,7 +197,7 @@ module _ (Was Own : ℕ → Option PortId → Au → Type 0) (lags : AreLags Was
   abbrev pub AddOwn : World → Type 0
   AddOwn w =
       (j i : ℕ) (c : Provisioned) (e : End) → slice_get w.ring.circuits.circuits i ≡ Some c
-      → Own j (Some (port_named i e)) (added_by (node_at w.ring.nodes (port_at c e)).ports (port_named i e)).au
+      → Own j (Some (port_id i e)) (added_by (node_at w.ring.nodes (port_at c e)).ports (port_id i e)).au
 
   module _ (w : World) (whole : IsWhole w) (ring : AreOnRing (length w.ring.ids) w.ring.circuits.circuits)
       (free : AtEach (λ p n. is_held n ≡ false) w.ring.nodes) (vouched : Vouches Was w) (add : AddOwn w) where
@@ -205,9 +205,9 @@ module _ (Was Own : ℕ → Option PortId → Au → Type 0) (lags : AreLags Was
     size = n_of w.ring.settings.rate
 
     added_at : (p m j i : ℕ) (c : Provisioned) (e : End) → slice_get w.ring.circuits.circuits i ≡ Some c → port_at c e ≡ p
-        → Own j (Some (port_named i e)) (value_at w p m (port i e)).au
+        → Own j (Some (port_id i e)) (value_at w p m (port i e)).au
     added_at p m j i c e get at =
-        subst (λ q. Own j (Some (port_named i e)) (added_by (node_at w.ring.nodes q).ports (port_named i e)).au) at (add j i c e get)
+        subst (λ q. Own j (Some (port_id i e)) (added_by (node_at w.ring.nodes q).ports (port_id i e)).au) at (add j i c e get)
 
     -- an AU-4 of a frame that was sent
     sent_bears : (i : ℕ) (o : Option OnSpan) (y : Side) (p au : ℕ) (d : Side) (line : List ℕ) → p < length w.ring.nodes → 1 ≤ au → au ≤ size

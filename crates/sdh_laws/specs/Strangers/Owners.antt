@@ -9,19 +9,16 @@ use Rattle.sdh_payload.specs.Clock.{Clock}
 use Rattle.sdh_payload.specs.Chunk.{taken}
 use Rattle.sdh_payload.specs.Outlet.{Outlet, silent, delivering}
 use Rattle.sdh_payload.specs.declared.chunk.ChunkForm.{ChunkForm}
-use Rattle.sdh_circuits.specs.Ends.{other_end}
+use Rattle.sdh_circuits.specs.Ends.{other_end, port_id}
 use Rattle.sdh_terminal.specs.Passing.{h3_of}
 use Rattle.sdh_terminal.specs.Tributaries.{sent_in, input_by}
 use Rattle.sdh_world.specs.Clocks.{clock_at, clocks_from}
 use Rattle.sdh_world.specs.Held.{HeldRing, outlet_at}
 use Rattle.sdh_world.specs.Rounds.{World}
 
-abbrev pub port_named : ℕ → End → PortId
-port_named i e = record { circuit = i; end = e }
-
 -- the other port of the same circuit
 abbrev pub other_port : PortId → PortId
-other_port q = port_named q.circuit (other_end q.end)
+other_port q = port_id q.circuit (other_end q.end)
 
 -- what a port puts into its AU-4 in a round before which it has this clock: the bytes of its customer's stream to which the
 -- clock has come
@@ -50,17 +47,17 @@ pub data MeetsNoStranger (circuits : List Provisioned) (clocks : PortId → ℕ 
 -- so does each port of a ring in the last round
 abbrev pub NoneMeetsAStranger : (PortId → ℕ → Clock) → HeldRing → Type 0
 NoneMeetsAStranger clocks r = (index : ℕ) (c : Provisioned) → slice_get r.circuits.circuits index ≡ Some c → (e : End)
-    → MeetsNoStranger r.circuits.circuits clocks (r.rounds - 1) (port_named index e) (outlet_at r (port_named index e))
+    → MeetsNoStranger r.circuits.circuits clocks (r.rounds - 1) (port_id index e) (outlet_at r (port_id index e))
 
 -- these are the clocks of a ring's ports before its next round
 abbrev pub AreClocksOf : (PortId → ℕ → Clock) → HeldRing → Type 0
 AreClocksOf clocks r =
     (index : ℕ) (c : Provisioned) → slice_get r.circuits.circuits index ≡ Some c → (e : End)
-    → clock_at r (port_named index e) ≡ clocks (port_named index e) r.rounds
+    → clock_at r (port_id index e) ≡ clocks (port_id index e) r.rounds
 
 -- and these before each round from one world to another, where nothing but rounds happens between them
 abbrev pub AreClocksBetween : (PortId → ℕ → Clock) → World → World → Type 0
 AreClocksBetween clocks w left =
     (index : ℕ) (c : Provisioned) → slice_get w.ring.circuits.circuits index ≡ Some c → (e : End) (t : ℕ) → w.ring.rounds ≤ t
     → t < left.ring.rounds
-    → clocks_from w (port_named index e) t ≡ clocks (port_named index e) t
+    → clocks_from w (port_id index e) t ≡ clocks (port_id index e) t

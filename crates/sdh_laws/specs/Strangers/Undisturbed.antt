@@ -13,7 +13,7 @@ use Rattle.sdh_payload.specs.Stream.{stream_from}
 use Rattle.sdh_payload.specs.Chunk.{taken_len}
 use Rattle.sdh_payload.specs.Clock.{ticked, next_form}
 use Rattle.sdh_plant.specs.Fibres.{Fibres}
-use Rattle.sdh_circuits.specs.Ends.{other_end}
+use Rattle.sdh_circuits.specs.Ends.{other_end, port_id}
 use Rattle.sdh_request.specs.declared.settings.Settings.{Settings}
 use Rattle.sdh_world.specs.Held.{outlet_at}
 use Rattle.sdh_world.specs.Rounds.{round}
@@ -24,7 +24,6 @@ use Rattle.sdh_world.specs.Laws.{MayHappen}
 use Rattle.sdh_world.specs.Sides.{world_in}
 use Rattle.sdh_laws.specs.Hearing.Laws.{MayStart}
 use Rattle.sdh_promise.specs.Owed.{asked_in}
-use Rattle.sdh_laws.specs.Strangers.Owners.{port_named}
 
 -- ---- the law
 
@@ -40,7 +39,7 @@ abbrev pub straight : ℕ → List Provisioned → List Stretch → ℕ → Prov
 straight n circuits ss i c e t =
     let far = other_end e in
     let spans = (arc_of n c).spans in
-    let clock = clocks_by circuits ss (port_named i far) (t - spans) in
+    let clock = clocks_by circuits ss (port_id i far) (t - spans) in
     if nat_lt t spans then silent else delivering (ticked clock).value
     (stream_from (customer_at c far) clock.sent (taken_len (next_form clock)))
 
@@ -50,5 +49,5 @@ UndisturbedPortsDeliver =
     → MayHappen (new_world s ids circuits f) ss
     → AreCircuits (length ids) (n_of s.rate / 2) circuits.circuits
     → (i : ℕ) (c : Provisioned) → slice_get circuits.circuits i ≡ Some c → (e : End) → NoneAsks s (length ids) ss c
-    → (t : ℕ) → t < rounds_in ss → outlet_at (round (world_in ss (new_world s ids circuits f) t)).ring (port_named i e)
+    → (t : ℕ) → t < rounds_in ss → outlet_at (round (world_in ss (new_world s ids circuits f) t)).ring (port_id i e)
     ≡ straight (length ids) circuits.circuits ss i c e t

@@ -13,6 +13,7 @@ use Rattle.sdh_circuits.specs.Provisioned.{Provisioned}
 use Rattle.sdh_circuits.specs.declared.End.{End}
 use Rattle.sdh_circuits.specs.declared.End.TheVariants.{A, B}
 use Rattle.sdh_circuits.specs.declared.PortId.{PortId}
+use Rattle.sdh_circuits.specs.Ends.{port_id}
 use Rattle.sdh_squelch.specs.Table.{OnSpan, circuits_at}
 use Rattle.sdh_nodestate.specs.Rules.{long_word}
 use Rattle.sdh_payload.specs.Clock.{Clock}
@@ -23,7 +24,7 @@ use Rattle.sdh_world.specs.Held.{node_at, AtEach}
 use Rattle.sdh_world.specs.Rounds.{World}
 use Rattle.sdh_laws.specs.Hearing.Laws.{IsWhole}
 use Rattle.sdh_laws.specs.Carrying.Windows.{layout_of, slots_of}
-use Rattle.sdh_laws.specs.Strangers.Owners.{port_named, HasBytesOf, Holds}
+use Rattle.sdh_laws.specs.Strangers.Owners.{HasBytesOf, Holds}
 
 -- ---- whose stream goes where
 
@@ -34,7 +35,7 @@ sender West = B
 
 -- the port whose stream goes to a side along the arc of what is on a span; nobody where no circuit is
 abbrev pub streams_to : Side → Option OnSpan → Option PortId
-streams_to d on = option_map (λ r. port_named r.circuit (sender d)) on
+streams_to d on = option_map (λ r. port_id r.circuit (sender d)) on
 
 -- what a K word speaks of in slot m: what is in that slot on the span that the source of a long word has on a side; nothing
 -- where the word isn't a long one that asks, or its source isn't in the ring
