@@ -1,6 +1,7 @@
 //! Checks of what is asked that need no other circuit, and the parts that are made of it.
 ghost use Rattle.std.specs.Prelude.{◌≡◌, ◌↔◌, true, false, IsSome, IfSome, IfNone};
-ghost use Rattle.sdh_circuits.specs.Checks.{wish_of, is_within, node_of, has_slot, has_ends, has_two_ends, has_offsets, has_texts, has_traces};
+ghost use Rattle.sdh_circuits.specs.Checks.{wish_of, is_within, node_of, has_slot, has_ends, has_two_ends, has_offsets, has_texts};
+ghost use Rattle.sdh_circuits.specs.Checks.{has_traces};
 ghost use Rattle.sdh_ringmap.specs.Numbering.{is_id, magnitude};
 ghost use Rattle.sdh_payload.specs.Customer.{is_text};
 

@@ -1,10 +1,12 @@
 //! The store and its turns.
-ghost use Rattle.std.specs.Prelude.{◌≡◌, ℕ, ◌+◌, ◌-◌, ◌<◌, ◌≤◌, ◌⊎◌, ◌↔◌, ◌&&◌, true, false, List, [], ◌∷◌, ◌++◌, length, take, drop, IfOk, OnOk, OnErr, IsOk, IsErr};
+ghost use Rattle.std.specs.Prelude.{◌≡◌, ℕ, ◌+◌, ◌-◌, ◌<◌, ◌≤◌, ◌⊎◌, ◌↔◌, ◌&&◌, true, false, List, [], ◌∷◌, ◌++◌, length, take, drop, IfOk};
+ghost use Rattle.std.specs.Prelude.{OnOk, OnErr, IsOk, IsErr};
 ghost use Rattle.sdh_pointer.specs.Reading.{action_on, after_word};
 ghost use Rattle.sdh_elastic.specs.Turns.{value_after, word_for, IsChunk};
 ghost use Rattle.sdh_elastic.specs.Lengths.{is_steady, with_length, keeps_steady};
 ghost use Rattle.sdh_elastic.specs.History.{actions, fill, lasts, lengths, last_word};
-ghost use Rattle.sdh_elastic.specs.Store.{empty, action_at, fill_after, given_at, after_turn, stage_after, reading_of, AreChunks, CameBy, GoesOn};
+ghost use Rattle.sdh_elastic.specs.Store.{empty, action_at, fill_after, given_at, after_turn, stage_after, reading_of, AreChunks, CameBy};
+ghost use Rattle.sdh_elastic.specs.Store.{GoesOn};
 
 use crate::held::Held;
 use crate::lengths::Lengths;

@@ -1,5 +1,6 @@
 //! All AU-4s of a row in one pass over its columns.
-ghost use Rattle.std.specs.Prelude.{◌≡◌, ◌≢◌, ℕ, List, ◌+◌, ◌*◌, ◌/◌, ◌%◌, ◌<◌, ◌≤◌, ◌⊎◌, true, false, length, slice_index, slice_index_or, if◌then◌else◌};
+ghost use Rattle.std.specs.Prelude.{◌≡◌, ◌≢◌, ℕ, List, ◌+◌, ◌*◌, ◌/◌, ◌%◌, ◌<◌, ◌≤◌, ◌⊎◌, true, false, length, slice_index, slice_index_or};
+ghost use Rattle.std.specs.Prelude.{if◌then◌else◌};
 ghost use Rattle.sdh_interchange.specs.declared.choose.Source.{Source};
 ghost use Rattle.sdh_interchange.specs.declared.choose.Source.TheVariants.{Ones};
 ghost use Rattle.sdh_interchange.specs.Choosing.{own_byte, is_au_byte};

@@ -3,7 +3,8 @@
 //!
 //! Each function here is a law: it does nothing, and its contract is the law, whose words are in `specs/`.
 
-ghost use Rattle.sdh_laws.specs.Carrying.Laws.{ASpanCarries, FailuresAreApplied, QuietRingsDeliverWhatIsDue, SettledRingsAreRestored, SettledRingsRestore, RingsHaveCircuits};
+ghost use Rattle.sdh_laws.specs.Carrying.Laws.{ASpanCarries, FailuresAreApplied, QuietRingsDeliverWhatIsDue, SettledRingsAreRestored};
+ghost use Rattle.sdh_laws.specs.Carrying.Laws.{SettledRingsRestore, RingsHaveCircuits};
 
 /// A span carries what was sent on it.
 pub fn a_span_carries()

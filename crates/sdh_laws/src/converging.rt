@@ -2,8 +2,10 @@
 //! `specs/Laws.antt` has the laws of every ring, and `specs/Healthy.antt` those of a healthy one. Each function here has a law
 //! as its contract and no work to do.
 
-ghost use Rattle.sdh_laws.specs.Converging.Laws.{WindowsComeSoon, ASpanIsSteady, PointersRest, CalmEndsWindows, RoundsGetCalm, RingsConverge, StepsAnswer, StretchesConverge};
-ghost use Rattle.sdh_laws.specs.Converging.Healthy.{HealthyRoundsAreCalm, HealthyStepsSettle, HealthyRingsApplyNothing, HealthyStepsDeliver};
+ghost use Rattle.sdh_laws.specs.Converging.Laws.{WindowsComeSoon, ASpanIsSteady, PointersRest, CalmEndsWindows, RoundsGetCalm};
+ghost use Rattle.sdh_laws.specs.Converging.Laws.{RingsConverge, StepsAnswer, StretchesConverge};
+ghost use Rattle.sdh_laws.specs.Converging.Healthy.{HealthyRoundsAreCalm, HealthyStepsSettle, HealthyRingsApplyNothing};
+ghost use Rattle.sdh_laws.specs.Converging.Healthy.{HealthyStepsDeliver};
 ghost use Rattle.sdh_laws.specs.Converging.Rings.{ARingOccurs};
 
 /// Over a span what is steady stays so, nine rounds later.

@@ -3,7 +3,10 @@
 //! frames is a ring of signals, and `specs/Laws.antt` has the laws. Each function here has a law as its contract and no
 //! work to do.
 
-ghost use Rattle.sdh_laws.specs.Hearing.Laws.{StayPlaced, NewWorldsAreWhole, StayWhole, SidesBring, SidesRead, ViolationsAreOfTheRoundBefore, NoneSaysAis, RoundsAreSignalRounds, WholeRoundsGoAsSignals, StepsStayWhole, CalmRoundsAreStill, ThreeCalmRoundsAreSettled, WindowsAreSettled, StepsSettle, RequestsAreTheHistorys, StretchesSettle, RunsGetStill, FreeRunsGetStill};
+ghost use Rattle.sdh_laws.specs.Hearing.Laws.{StayPlaced, NewWorldsAreWhole, StayWhole, SidesBring, SidesRead};
+ghost use Rattle.sdh_laws.specs.Hearing.Laws.{ViolationsAreOfTheRoundBefore, NoneSaysAis, RoundsAreSignalRounds, WholeRoundsGoAsSignals};
+ghost use Rattle.sdh_laws.specs.Hearing.Laws.{StepsStayWhole, CalmRoundsAreStill, ThreeCalmRoundsAreSettled, WindowsAreSettled};
+ghost use Rattle.sdh_laws.specs.Hearing.Laws.{StepsSettle, RequestsAreTheHistorys, StretchesSettle, RunsGetStill, FreeRunsGetStill};
 
 /// Each node stays where it belongs, whatever arrives.
 #[tactic(auto, using(crate::proofs::hearing::Changes::stay_placed))]

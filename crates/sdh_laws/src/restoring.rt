@@ -1,7 +1,9 @@
 //! How soon every port delivers what it is owed again, over definitions alone: `specs/Laws.antt` has the laws. Each function here has a
 //! law as its contract and no work to do.
 
-ghost use Rattle.sdh_laws.specs.Restoring.Laws.{RingsAreRestoredSoon, FreeRingsAreRestoredSoon, UnslippedRingsAreRestoredSoon, PortsAreOwedSoon, UnslippedPortsAreOwedSoon, UnsettledRingsAreRestored, StretchesAreRestoredSoon};
+ghost use Rattle.sdh_laws.specs.Restoring.Laws.{RingsAreRestoredSoon, FreeRingsAreRestoredSoon, UnslippedRingsAreRestoredSoon};
+ghost use Rattle.sdh_laws.specs.Restoring.Laws.{PortsAreOwedSoon, UnslippedPortsAreOwedSoon, UnsettledRingsAreRestored};
+ghost use Rattle.sdh_laws.specs.Restoring.Laws.{StretchesAreRestoredSoon};
 
 /// From every whole ring on, each port delivers what it is owed in each round from number 12n + 102 on.
 pub fn rings_are_restored_soon()

@@ -3,7 +3,8 @@
 //!
 //! Each function here is a law: it does nothing, and its contract is the law, whose words are in `specs/`.
 
-ghost use Rattle.sdh_laws.specs.Strangers.Laws.{VouchedRingsStay, RoundsKeepStrangersOut, StepsKeepStrangersOut, NoPortEverMeetsAStranger, RingsComeToBeVouchedFor, NoPortMeetsAStrangerForLong};
+ghost use Rattle.sdh_laws.specs.Strangers.Laws.{VouchedRingsStay, RoundsKeepStrangersOut, StepsKeepStrangersOut, NoPortEverMeetsAStranger};
+ghost use Rattle.sdh_laws.specs.Strangers.Laws.{RingsComeToBeVouchedFor, NoPortMeetsAStrangerForLong};
 ghost use Rattle.sdh_laws.specs.Strangers.Undisturbed.{UndisturbedPortsDeliver};
 
 /// A new ring is vouched for, and stays so over every change that holds no controller.

@@ -10,7 +10,8 @@ ghost use Rattle.sdh_node.specs.Same.{same_in};
 ghost use Rattle.sdh_plant.specs.Arrivals.{as_arrival, arrived_in};
 ghost use Rattle.sdh_node.specs.Receiving.{commanded_by, arrived_on};
 ghost use Rattle.sdh_node.specs.Node.{new_cross, compared_in};
-ghost use Rattle.sdh_node.specs.Crossing.{on_side, at_side, half_of, after_intakes, scene_of, after_decision, next_word, feeder_of, lines_of, leads, drops, all_delivered};
+ghost use Rattle.sdh_node.specs.Crossing.{on_side, at_side, half_of, after_intakes, scene_of, after_decision, next_word, feeder_of};
+ghost use Rattle.sdh_node.specs.Crossing.{lines_of, leads, drops, all_delivered};
 ghost use Rattle.sdh_terminal.specs.Lines.{line_on, received, IsFeeder};
 
 use crate::receiver::Receiver;

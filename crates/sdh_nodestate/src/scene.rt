@@ -1,6 +1,7 @@
 //! The rules of one round, each a method of the scene that a node finds itself in.
 ghost use Rattle.std.specs.Prelude.{◌≡◌, ◌<◌, ◌≤◌, length, IfSome};
-ghost use Rattle.sdh_nodestate.specs.Rules.{own_id, id_on, local, fails, word_on, short, long, is_about, stronger, relayed, is_below, switches, choose, chosen, far, switched, mark_on, own_word, word, state_after};
+ghost use Rattle.sdh_nodestate.specs.Rules.{own_id, id_on, local, fails, word_on, short, long, is_about, stronger, relayed, is_below};
+ghost use Rattle.sdh_nodestate.specs.Rules.{switches, choose, chosen, far, switched, mark_on, own_word, word, state_after};
 ghost use Rattle.sdh_nodestate.specs.Views.{view, choice_of};
 ghost use Rattle.sdh_nodestate.specs.Words.{IsMember, HearsSourced, HearsSpellable};
 ghost use Rattle.sdh_kbytes.specs.KBytes.{IsSpellable};

@@ -1,7 +1,8 @@
 //! The lines of outages.
 ghost use Rattle.std.specs.Prelude.{◌≡◌, ◌*◌, ◌<◌, ◌≤◌, length};
 ghost use Rattle.sdh_report.specs.Written.{with_part};
-ghost use Rattle.sdh_outage.specs.Lines.{three_digits, ms_text, rounds_text, stretch_text, counts_text, outage_line, kind_word, change_line, more_line, summary_line};
+ghost use Rattle.sdh_outage.specs.Lines.{three_digits, ms_text, rounds_text, stretch_text, counts_text, outage_line, kind_word};
+ghost use Rattle.sdh_outage.specs.Lines.{change_line, more_line, summary_line};
 
 use crate::change::Change;
 use crate::kind::Kind;

@@ -1,5 +1,6 @@
 //! The scrambler and the parities over the pieces of a frame: the same results however it is cut.
-ghost use Rattle.std.specs.Prelude.{◌≡◌, ℕ, ◌+◌, ◌-◌, ◌*◌, ◌%◌, ◌^◌, ◌<◌, ◌≤◌, ◌⊎◌, ◌==◌, nat_le, if◌then◌else◌, List, [], ◌++◌, length, slice_index, bit_xor};
+ghost use Rattle.std.specs.Prelude.{◌≡◌, ℕ, ◌+◌, ◌-◌, ◌*◌, ◌%◌, ◌^◌, ◌<◌, ◌≤◌, ◌⊎◌, ◌==◌, nat_le, if◌then◌else◌, List, [], ◌++◌, length};
+ghost use Rattle.std.specs.Prelude.{slice_index, bit_xor};
 ghost use Rattle.sdh_basics.specs.Parity.{bip8 as parity_of};
 ghost use Rattle.sdh_parity.specs.Scrambling.{scrambling_byte};
 ghost use Rattle.sdh_parity.specs.Pieces.{scrambled_from, after_bytes, HasLanes, InPieces};

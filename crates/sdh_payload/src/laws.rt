@@ -1,5 +1,6 @@
 //! Laws of customers' streams. Each function does nothing: its contract is the law.
-ghost use Rattle.sdh_payload.specs.Laws.{BeginsAtTheOffset, ChunksAreTheStream, ClocksGoByHistory, RoundsFollowEachOther, WhatIsLaidIsTaken};
+ghost use Rattle.sdh_payload.specs.Laws.{BeginsAtTheOffset, ChunksAreTheStream, ClocksGoByHistory, RoundsFollowEachOther};
+ghost use Rattle.sdh_payload.specs.Laws.{WhatIsLaidIsTaken};
 
 /// Chunks follow each other without a gap: together they are the stream.
 pub fn chunks_are_the_stream()

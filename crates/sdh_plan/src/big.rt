@@ -1,7 +1,8 @@
 //! The large plan of a number.
 ghost use Rattle.std.specs.Prelude.{◌≡◌, ◌+◌, ◌%◌, ◌<◌, [], ◌∷◌, ◌++◌, min, ◌≤◌, None, All, string_bytes, IfOk, IfSome, OnOk};
 ghost use Rattle.sdh_circuits.specs.Checks.{wish_of, circuit_of, refusal, with_circuit};
-ghost use Rattle.sdh_plan.specs.Big.{next, drawn, name_in, laid_circuit, slot_begun, slot_circuits, behind_slot, big_circuits, fibre_comes, span_comes, big_steps, big_script, big_nodes, big_planned};
+ghost use Rattle.sdh_plan.specs.Big.{next, drawn, name_in, laid_circuit, slot_begun, slot_circuits, behind_slot, big_circuits, fibre_comes};
+ghost use Rattle.sdh_plan.specs.Big.{span_comes, big_steps, big_script, big_nodes, big_planned};
 ghost use Rattle.sdh_plan.specs.Laid.{IsLaid, wish_with, wish_laid};
 ghost use Rattle.sdh_plan.specs.Circuits.{provisioned};
 

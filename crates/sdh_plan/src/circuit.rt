@@ -9,7 +9,8 @@ ghost use Rattle.sdh_plan.specs.Plans.{circuits_in, provision_checks};
 ghost use Rattle.sdh_circuits.specs.Checks.{wish_of, with_circuit};
 ghost use Rattle.sdh_plan.specs.Check.{answer, first_fault};
 ghost use Rattle.sdh_plan.specs.Document.{is_among, has_only, is_table, elements, elements_in};
-ghost use Rattle.sdh_plan.specs.Circuits.{circuit_keys, wish_in, text_or, integer_or_0, circuit_of_table, circuit_faults, circuits_checks, members_of, provisioned};
+ghost use Rattle.sdh_plan.specs.Circuits.{circuit_keys, wish_in, text_or, integer_or_0, circuit_of_table, circuit_faults, circuits_checks};
+ghost use Rattle.sdh_plan.specs.Circuits.{members_of, provisioned};
 ghost use Rattle.sdh_plan.specs.Refusals.{IsRefused, refusal_at, reason_of};
 
 use crate::document::{integer_under, is_text, text_under, value_under};

@@ -4,7 +4,9 @@ ghost use Rattle.std.specs.List.{list_any};
 ghost use Rattle.sdh_terms.specs.Rates.{n_of};
 ghost use Rattle.sdh_plan.specs.Check.{first_fault, unless};
 ghost use Rattle.sdh_plan.specs.Verbs.{verb_of, node, side, number, circuit, end, turn};
-ghost use Rattle.sdh_plan.specs.Steps.{node_identified, side_at, circuit_named, end_at, turn_at, part_faults, verb_faults, position_in_words, port_in_words, turn_in_words, fibre_step, order_step, number_in_word, word_at, told_step, form_faults, form_step};
+ghost use Rattle.sdh_plan.specs.Steps.{node_identified, side_at, circuit_named, end_at, turn_at, part_faults, verb_faults};
+ghost use Rattle.sdh_plan.specs.Steps.{position_in_words, port_in_words, turn_in_words, fibre_step, order_step, number_in_word, word_at};
+ghost use Rattle.sdh_plan.specs.Steps.{told_step, form_faults, form_step};
 ghost use Rattle.sdh_plan.specs.Words.{words, is_empty};
 
 use crate::reason::Reason;

@@ -7,7 +7,8 @@ ghost use Rattle.sdh_ringmap.specs.Numbering.{magnitude};
 ghost use Rattle.sdh_terms.specs.Rates.{n_of};
 ghost use Rattle.sdh_plan.specs.Check.{answer};
 ghost use Rattle.sdh_plan.specs.Document.{is_among, has_only, is_integer, integer_of};
-ghost use Rattle.sdh_plan.specs.Plans.{document_keys, rate_at, rate_in, nodes_in, threshold_at, wait_at, limit_at, number_checks, ring_checks, settings_checks};
+ghost use Rattle.sdh_plan.specs.Plans.{document_keys, rate_at, rate_in, nodes_in, threshold_at, wait_at, limit_at, number_checks};
+ghost use Rattle.sdh_plan.specs.Plans.{ring_checks, settings_checks};
 ghost use Rattle.sdh_plan.specs.Refusals.{IsRefused};
 
 use crate::document::{array_under, is_text, number_under};

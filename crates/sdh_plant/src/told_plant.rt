@@ -1,5 +1,6 @@
 //! Fibres in memory that give arrivals from a list.
-ghost use Rattle.std.specs.Prelude.{◌≡◌, ◌≢◌, ◌<◌, ◌≤◌, true, None, Ok, IfOk, IsOk, OnOk, OnErr, IsOkUnless, IsErrOf, All, length, map, drop};
+ghost use Rattle.std.specs.Prelude.{◌≡◌, ◌≢◌, ◌<◌, ◌≤◌, true, None, Ok, IfOk, IsOk, OnOk, OnErr, IsOkUnless, IsErrOf, All, length, map};
+ghost use Rattle.std.specs.Prelude.{drop};
 ghost use Rattle.std.specs.List.{list_all};
 ghost use Rattle.std.proofs.lemmas.Bool.{false≢true};
 ghost use Rattle.sdh_basics.specs.Causes.{Rose, IsCounted, HasCause};

@@ -1,5 +1,7 @@
 //! Laws of interpreters and generators. Each function does nothing: its contract is the law.
-ghost use Rattle.sdh_pointer.specs.Laws.{EachWordHasOneRow, EachInputHasOneRow, AnswerTellsMode, BoundsAreKept, InterpreterMoves, GeneratorMoves, GeneratorRepeats, NormalWordSettles, EnabledWordSettles, AisSettles, InputsLast, RepeatedWordsRest, UnmovedIsNormal, UnmovedIsAis, SteadyIsNormal, ReadsWhatIsSent, ValuesSpread};
+ghost use Rattle.sdh_pointer.specs.Laws.{EachWordHasOneRow, EachInputHasOneRow, AnswerTellsMode, BoundsAreKept, InterpreterMoves};
+ghost use Rattle.sdh_pointer.specs.Laws.{GeneratorMoves, GeneratorRepeats, NormalWordSettles, EnabledWordSettles, AisSettles, InputsLast};
+ghost use Rattle.sdh_pointer.specs.Laws.{RepeatedWordsRest, UnmovedIsNormal, UnmovedIsAis, SteadyIsNormal, ReadsWhatIsSent, ValuesSpread};
 
 /// The interpreter's table has exactly one row for each word in each state, and a step is by it.
 pub fn each_word_has_one_row()

@@ -1,7 +1,9 @@
 //! What a pointer interpreter keeps, and how a word changes it.
 ghost use Rattle.std.specs.Prelude.{◌≡◌, ◌≤◌};
 ghost use Rattle.sdh_pointer.specs.Words.{one_up, one_down};
-ghost use Rattle.sdh_pointer.specs.Reading.{IsBounded, event_value, later, settled, with_ais, with_bad, with_new, news_with, goes_up, goes_down, normal_event, event_of, after_in, action_in, after_event, action_on_event, same_mode, same_reading};
+ghost use Rattle.sdh_pointer.specs.Reading.{IsBounded, event_value, later, settled, with_ais, with_bad, with_new, news_with, goes_up};
+ghost use Rattle.sdh_pointer.specs.Reading.{goes_down, normal_event, event_of, after_in, action_in, after_event, action_on_event};
+ghost use Rattle.sdh_pointer.specs.Reading.{same_mode, same_reading};
 ghost use Rattle.sdh_pointer.specs.declared.reading.Mode.TheVariants as mode;
 ghost use Rattle.sdh_pointer.specs.declared.reading.Event.TheVariants as event;
 

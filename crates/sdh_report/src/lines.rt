@@ -2,7 +2,8 @@
 ghost use Rattle.std.specs.Prelude.{◌≡◌, ◌+◌, ◌*◌, ◌≤◌, ◌<◌, ◌++◌, codes, decimal, length, take, drop};
 ghost use Rattle.sdh_basics.specs.Hexadecimal.{hex_of};
 ghost use Rattle.sdh_report.specs.Written.{with_part};
-ghost use Rattle.sdh_report.specs.Lines.{own_line, step_ended, settle_line, end_letter, side_text, word_text, node_line, port_named, chunk_line, port_line, row, row_line, drop_lines, table_place, table_ends, table_line, count_line};
+ghost use Rattle.sdh_report.specs.Lines.{own_line, step_ended, settle_line, end_letter, side_text, word_text, node_line, port_named};
+ghost use Rattle.sdh_report.specs.Lines.{chunk_line, port_line, row, row_line, drop_lines, table_place, table_ends, table_line, count_line};
 ghost use Rattle.sdh_report.specs.Statuses.{last_line};
 
 use crate::node_line::{NodeLine, WordBytes};

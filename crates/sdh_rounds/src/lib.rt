@@ -2,7 +2,8 @@
 //! in `specs/Rounds.antt`, a run whatever arrives in `specs/Runs.antt`, and where a settle step ends in `specs/Quiet.antt`. What has no work to do here is a law.
 #![tactic(auto)]
 
-ghost use Rattle.sdh_rounds.specs.Laws.{KnownRounds, RoundsKeep, FaultsKeep, HonestRounds, RunsKeep, SettledNumbers, BrokenStepsSend, KnownSteps, StepsAreComputed};
+ghost use Rattle.sdh_rounds.specs.Laws.{KnownRounds, RoundsKeep, FaultsKeep, HonestRounds, RunsKeep, SettledNumbers, BrokenStepsSend};
+ghost use Rattle.sdh_rounds.specs.Laws.{KnownSteps, StepsAreComputed};
 
 mod faults;
 mod receiving;

@@ -6,7 +6,9 @@
 #![tactic(auto)]
 
 ghost use Rattle.sdh_routes.specs.Rings.{OneSpanFailed, TwoSpansFailed, ANodeIsCutOff, ATie, TheLongestRoute};
-ghost use Rattle.sdh_routes.specs.Laws.{EachPortIsRouted, EachWalkFollowsTheRoute, NoPortMeetsAStranger, EachWalkHasOneEnd, EachWalkEnds, TheProtectionRingIsOpen, ALoopedSlotMeetsItsOwnCircuit, RoutesAreShort, NoWayCrossesAnAppliedSpan, SteadinessSpreads, IdleWalksAreShort};
+ghost use Rattle.sdh_routes.specs.Laws.{EachPortIsRouted, EachWalkFollowsTheRoute, NoPortMeetsAStranger, EachWalkHasOneEnd, EachWalkEnds};
+ghost use Rattle.sdh_routes.specs.Laws.{TheProtectionRingIsOpen, ALoopedSlotMeetsItsOwnCircuit, RoutesAreShort, NoWayCrossesAnAppliedSpan};
+ghost use Rattle.sdh_routes.specs.Laws.{SteadinessSpreads, IdleWalksAreShort};
 
 /// Each port of a joined circuit is led to the circuit's other port over exactly the hops of its route, every other port
 /// to AIS.

@@ -3,7 +3,8 @@
 //! laws. Each function here has a law as its contract and no work to do.
 #![tactic(auto)]
 
-ghost use Rattle.sdh_settling.specs.Laws.{RunsSettle, WordsStay, StillRingsAreSettled, FreeRounds, RingsSettle, RelayedWordsLeadBack, NotAllPassThrough};
+ghost use Rattle.sdh_settling.specs.Laws.{RunsSettle, WordsStay, StillRingsAreSettled, FreeRounds, RingsSettle, RelayedWordsLeadBack};
+ghost use Rattle.sdh_settling.specs.Laws.{NotAllPassThrough};
 
 /// A ring that goes on with the same needs gets into the settled states.
 #[tactic(auto, using(crate::proofs::Fixpoint::runs_settle))]

@@ -1,5 +1,6 @@
 //! Laws of every path ring, over definitions alone. Each function has a law as its contract and no work to do.
-ghost use Rattle.sdh_sncp.specs.Laws.{NewWorldsAreWhole, NewRingsAreSilent, StayWhole, QuietRingsDeliver, StepsDeliver, RoundsGetCalm, StepsAnswer, ComesIsNorm};
+ghost use Rattle.sdh_sncp.specs.Laws.{NewWorldsAreWhole, NewRingsAreSilent, StayWhole, QuietRingsDeliver, StepsDeliver, RoundsGetCalm};
+ghost use Rattle.sdh_sncp.specs.Laws.{StepsAnswer, ComesIsNorm};
 
 /// A new ring over a prepared plant is whole.
 pub fn new_worlds_are_whole()

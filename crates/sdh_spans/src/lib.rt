@@ -4,7 +4,8 @@
 //! Each function here is a law: it does nothing, and its contract is the law, whose words are in `specs/`.
 #![tactic(auto)]
 
-ghost use Rattle.sdh_spans.specs.Laws.{FramesComeThrough, SidesSendSo, InletsStay, UntoldSidesFindNothing, SidesFindSo, PortsDeliver, PortsBring, SpansTakeWords, SpansBring, CutSpansBringAis, GeneratorsRest, SpansAreSteady};
+ghost use Rattle.sdh_spans.specs.Laws.{FramesComeThrough, SidesSendSo, InletsStay, UntoldSidesFindNothing, SidesFindSo, PortsDeliver};
+ghost use Rattle.sdh_spans.specs.Laws.{PortsBring, SpansTakeWords, SpansBring, CutSpansBringAis, GeneratorsRest, SpansAreSteady};
 
 /// A frame says its word behind every fibre that isn't cut.
 pub fn frames_come_through()

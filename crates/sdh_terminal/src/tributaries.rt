@@ -1,7 +1,9 @@
 //! The ports at a node, each found by its circuit and its end.
-ghost use Rattle.std.specs.Prelude.{◌≡◌, ◌+◌, ◌*◌, ◌/◌, ◌^◌, ◌<◌, ◌≤◌, IfOk, IfSome, IfNone, IsTrue, IsSome, Some, None, All, length, position};
+ghost use Rattle.std.specs.Prelude.{◌≡◌, ◌+◌, ◌*◌, ◌/◌, ◌^◌, ◌<◌, ◌≤◌, IfOk, IfSome, IfNone, IsTrue, IsSome, Some, None, All, length};
+ghost use Rattle.std.specs.Prelude.{position};
 ghost use Rattle.sdh_basics.specs.Cells.{cells};
-ghost use Rattle.sdh_terminal.specs.Tributaries.{tributaries_at, is_port, port_of, HasPort, outlet_of, waiting_of, with_slips, all_fed, all_delivered_with, IsTributary};
+ghost use Rattle.sdh_terminal.specs.Tributaries.{tributaries_at, is_port, port_of, HasPort, outlet_of, waiting_of, with_slips, all_fed};
+ghost use Rattle.sdh_terminal.specs.Tributaries.{all_delivered_with, IsTributary};
 ghost use Rattle.sdh_terminal.specs.Places.{port_number, port_numbered};
 ghost use Rattle.sdh_terms.specs.Rates.{n_of};
 ghost use Rattle.sdh_terminal.specs.Lines.{dropped_by};

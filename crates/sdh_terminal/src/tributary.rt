@@ -1,10 +1,12 @@
 //! The ports of circuits at a node.
-ghost use Rattle.std.specs.Prelude.{◌≡◌, ℕ, ◌+◌, ◌-◌, ◌*◌, ◌^◌, ◌<◌, ◌≤◌, [], ◌∷◌, ◌++◌, if◌then◌else◌, All, IfOk, OnOk, IfSome, length, position};
+ghost use Rattle.std.specs.Prelude.{◌≡◌, ℕ, ◌+◌, ◌-◌, ◌*◌, ◌^◌, ◌<◌, ◌≤◌, [], ◌∷◌, ◌++◌, if◌then◌else◌, All, IfOk, OnOk, IfSome, length};
+ghost use Rattle.std.specs.Prelude.{position};
 ghost use Rattle.sdh_circuits.specs.Provisioned.{customer_at};
 ghost use Rattle.sdh_interchange.specs.Taking.{IsOf};
 ghost use Rattle.sdh_payload.specs.Stream.{stream_from};
 ghost use Rattle.sdh_payload.specs.Clock.{waiting};
-ghost use Rattle.sdh_terminal.specs.Tributaries.{new_tributary, tributaries_of, tributaries_at, is_port, sent_by, action_of, slipped, fed, all_fed, delivered_with, all_delivered_with, IsTributary};
+ghost use Rattle.sdh_terminal.specs.Tributaries.{new_tributary, tributaries_of, tributaries_at, is_port, sent_by, action_of, slipped, fed};
+ghost use Rattle.sdh_terminal.specs.Tributaries.{all_fed, delivered_with, all_delivered_with, IsTributary};
 ghost use Rattle.sdh_terms.specs.Rates.{n_of};
 ghost use Rattle.sdh_terminal.specs.Lines.{dropped_by};
 

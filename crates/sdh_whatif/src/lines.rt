@@ -8,7 +8,8 @@ ghost use Rattle.sdh_report.specs.Lines.{side_text};
 ghost use Rattle.sdh_verdicts.specs.declared.failure.Failure.{Failure};
 ghost use Rattle.sdh_verdicts.specs.Failures.{IsFailureIn, steps_of, case_steps};
 ghost use Rattle.sdh_verdicts.specs.Verdicts.{AreApplied, AreSidesOf, requests_with};
-ghost use Rattle.sdh_whatif.specs.Lines.{place_text, fibre_text, order_text, step_text, steps_text, IsAt, lost_text, number_text, line_text};
+ghost use Rattle.sdh_whatif.specs.Lines.{place_text, fibre_text, order_text, step_text, steps_text, IsAt, lost_text, number_text};
+ghost use Rattle.sdh_whatif.specs.Lines.{line_text};
 
 use crate::counting::{count_of, longest_of, same_verdict};
 use crate::line::Line;

@@ -2,7 +2,8 @@
 //! what happens between rounds is in `specs/Changes.antt`. Each function here has a law as its contract and no work to do.
 #![tactic(auto)]
 
-ghost use Rattle.sdh_world.specs.Laws.{ChangesKeepHonest, CallsChange, ChangesKeepPrepared, NewHolds, HistoriesHold, ClocksGoOn, ClocksTellWhatHappened};
+ghost use Rattle.sdh_world.specs.Laws.{ChangesKeepHonest, CallsChange, ChangesKeepPrepared, NewHolds, HistoriesHold, ClocksGoOn};
+ghost use Rattle.sdh_world.specs.Laws.{ClocksTellWhatHappened};
 
 /// Changes leave honest fibres honest.
 pub fn changes_keep_honest()
