@@ -33,7 +33,8 @@ fn may_carry(chain: Option<Chain>, map: &RingMap, table: &Table, side: Side, slo
     requires table { table.now.ring ≡ map.now }
     requires slot { (1 ≤ slot.0) × (slot.0 ≤ 8) }
     requires chain { IfSome chain (λ k. k.first.0 < length map.now) }
-    ensures { result ≡ option_map_or (is_carried (length map.now) (circuits_at (length map.now) table.now.circuits table.now.at.0 slot.0 side)) chain false }
+    ensures { result ≡ option_map_or (is_carried (length map.now)
+        (circuits_at (length map.now) table.now.circuits table.now.at.0 slot.0 side)) chain false }
 {
     match chain {
         Some(chain) => table.may_carry(map, side, slot, chain),

@@ -44,11 +44,14 @@ pub trait RunsPlans<'a>: Copy {
     /// where the plan has no such port.
     fn run<P: Plant>(self, alloc: Global, plan: Plan, plant: &mut P) -> Result<Report, AllocError>
         requires fresh { HasNoFibres (P.fibres plant.old) }
-        ensures outcome { IfOk result (λ report. OfPlan program (ask_of self) plan (P.fibres plant.old) report.status report.text.bytes (P.fibres plant.new)) }
+        ensures outcome { IfOk result
+            (λ report. OfPlan program (ask_of self) plan (P.fibres plant.old) report.status report.text.bytes (P.fibres plant.new)) }
         ensures failed { IfOk result (λ report. report.status ≡ Status.PlantFault → Rose (P.faults plant.old) (P.faults plant.new)) }
-        ensures calls { IfOk result (λ report. IsCounted P.exact (report.status ≡ Status.PlantFault) (P.faults plant.old) (P.faults plant.new)) }
+        ensures calls { IfOk result
+            (λ report. IsCounted P.exact (report.status ≡ Status.PlantFault) (P.faults plant.old) (P.faults plant.new)) }
         ensures without { OnErr result (P.exact ≡ true → P.faults plant.new ≡ P.faults plant.old) }
-        ensures complete { IfOk result (λ report. MayGo program (ask_of self) plan (P.fibres plant.old) → ¬ (Rose (P.faults plant.old) (P.faults plant.new)) → report.status ≡ Status.Ok) }
+        ensures complete { IfOk result (λ report. MayGo program (ask_of self) plan (P.fibres plant.old)
+            → ¬ (Rose (P.faults plant.old) (P.faults plant.new)) → report.status ≡ Status.Ok) }
         ensures later { P.faults plant.old ≤ P.faults plant.new }
         ensures unsent { OnErr result (P.fibres plant.new ≡ P.fibres plant.old) };
 }

@@ -39,15 +39,22 @@ fn read_report<'a, M: RunsPlans<'a>, R: Source, P: Plant>(
     plant: &mut P,
 ) -> Result<Report, AllocError>
     requires fresh { HasNoFibres (P.fibres plant.old) }
-    ensures outcome { IfOk result (λ report. IfSome (R.left source.old) (λ bytes. OfBytes M.program (M.ask_of asked) bytes (P.fibres plant.old) report.status report.text.bytes (P.fibres plant.new))) }
-    ensures cause { IfOk result (λ report. HasCause (record { before = R.faults source.old; after = R.faults source.new }) (record { before = P.faults plant.old; after = P.faults plant.new }) report.status) }
-    ensures reads { IfOk result (λ report. IsCounted R.exact (report.status ≡ Status.ReadFault) (R.faults source.old) (R.faults source.new)) }
+    ensures outcome { IfOk result (λ report. IfSome (R.left source.old)
+        (λ bytes. OfBytes M.program (M.ask_of asked) bytes (P.fibres plant.old) report.status report.text.bytes (P.fibres plant.new))) }
+    ensures cause { IfOk result (λ report. HasCause (record { before = R.faults source.old; after = R.faults source.new })
+        (record { before = P.faults plant.old; after = P.faults plant.new }) report.status) }
+    ensures reads { IfOk result
+        (λ report. IsCounted R.exact (report.status ≡ Status.ReadFault) (R.faults source.old) (R.faults source.new)) }
     ensures too_long { IfOk result (λ report. report.status ≡ Status.TooLong → TakesCount (R.left source.old) (R.left source.new) 1048577) }
-    ensures calls { IfOk result (λ report. IsCounted P.exact (report.status ≡ Status.PlantFault) (P.faults plant.old) (P.faults plant.new)) }
-    ensures without { OnErr result ((R.exact ≡ true → R.faults source.new ≡ R.faults source.old) × (P.exact ≡ true → P.faults plant.new ≡ P.faults plant.old)) }
+    ensures calls { IfOk result
+        (λ report. IsCounted P.exact (report.status ≡ Status.PlantFault) (P.faults plant.old) (P.faults plant.new)) }
+    ensures without { OnErr result
+        ((R.exact ≡ true → R.faults source.new ≡ R.faults source.old) × (P.exact ≡ true → P.faults plant.new ≡ P.faults plant.old)) }
     ensures own { IfOk result (λ report. (report.status ≢ Status.Usage) × IsShown report.status) }
     ensures read { IfOk result (λ report. report.status ≡ Status.Ok → IsAtEnd (R.left source.new)) }
-    ensures complete { IfOk result (λ report. MayBeDone M.program (M.ask_of asked) (R.left source.old) (P.fibres plant.old) → ¬ (Rose (R.faults source.old) (R.faults source.new)) → ¬ (Rose (P.faults plant.old) (P.faults plant.new)) → report.status ≡ Status.Ok) }
+    ensures complete { IfOk result (λ report. MayBeDone M.program (M.ask_of asked) (R.left source.old) (P.fibres plant.old)
+        → ¬ (Rose (R.faults source.old) (R.faults source.new)) → ¬ (Rose (P.faults plant.old) (P.faults plant.new))
+        → report.status ≡ Status.Ok) }
     ensures later { (R.faults source.old ≤ R.faults source.new) × (P.faults plant.old ≤ P.faults plant.new) }
     ensures unsent { OnErr result (P.fibres plant.new ≡ P.fibres plant.old) }
 {
@@ -68,16 +75,25 @@ pub fn report_on<'a, M: RunsPlans<'a>, R: Source, P: Plant>(
     plant: &mut P,
 ) -> Result<Report, AllocError>
     requires fresh { HasNoFibres (P.fibres plant.old) }
-    ensures outcome { IfOk result (λ report. let ask = M.program.asked (words_of words.now) in IfSome (told_if (is_some ask) (R.left source.old)) (λ bytes. IsOutcome M.program ask bytes (P.fibres plant.old) report.status report.text.bytes (P.fibres plant.new))) }
-    ensures cause { IfOk result (λ report. HasCause (record { before = R.faults source.old; after = R.faults source.new }) (record { before = P.faults plant.old; after = P.faults plant.new }) report.status) }
-    ensures reads { IfOk result (λ report. IsCounted R.exact (report.status ≡ Status.ReadFault) (R.faults source.old) (R.faults source.new)) }
+    ensures outcome { IfOk result
+        (λ report. let ask = M.program.asked (words_of words.now) in IfSome (told_if (is_some ask) (R.left source.old))
+        (λ bytes. IsOutcome M.program ask bytes (P.fibres plant.old) report.status report.text.bytes (P.fibres plant.new))) }
+    ensures cause { IfOk result (λ report. HasCause (record { before = R.faults source.old; after = R.faults source.new })
+        (record { before = P.faults plant.old; after = P.faults plant.new }) report.status) }
+    ensures reads { IfOk result
+        (λ report. IsCounted R.exact (report.status ≡ Status.ReadFault) (R.faults source.old) (R.faults source.new)) }
     ensures too_long { IfOk result (λ report. report.status ≡ Status.TooLong → TakesCount (R.left source.old) (R.left source.new) 1048577) }
-    ensures calls { IfOk result (λ report. IsCounted P.exact (report.status ≡ Status.PlantFault) (P.faults plant.old) (P.faults plant.new)) }
-    ensures without { OnErr result ((R.exact ≡ true → R.faults source.new ≡ R.faults source.old) × (P.exact ≡ true → P.faults plant.new ≡ P.faults plant.old)) }
+    ensures calls { IfOk result
+        (λ report. IsCounted P.exact (report.status ≡ Status.PlantFault) (P.faults plant.old) (P.faults plant.new)) }
+    ensures without { OnErr result
+        ((R.exact ≡ true → R.faults source.new ≡ R.faults source.old) × (P.exact ≡ true → P.faults plant.new ≡ P.faults plant.old)) }
     ensures usage { IfOk result (λ report. report.status ≡ Status.Usage ↔ (M.program.asked (words_of words.now) ≡ None)) }
     ensures alone { M.program.asked (words_of words.now) ≡ None → (source.new ≡ source.old) × (plant.new ≡ plant.old) }
-    ensures read { IfOk result (λ report. report.status ≡ Status.Ok → HasRead (is_some (M.program.asked (words_of words.now))) (R.left source.new)) }
-    ensures complete { IfOk result (λ report. (ask : M.Ask) → M.program.asked (words_of words.now) ≡ Some ask → MayBeDone M.program ask (R.left source.old) (P.fibres plant.old) → ¬ (Rose (R.faults source.old) (R.faults source.new)) → ¬ (Rose (P.faults plant.old) (P.faults plant.new)) → report.status ≡ Status.Ok) }
+    ensures read { IfOk result
+        (λ report. report.status ≡ Status.Ok → HasRead (is_some (M.program.asked (words_of words.now))) (R.left source.new)) }
+    ensures complete { IfOk result (λ report. (ask : M.Ask) → M.program.asked (words_of words.now) ≡ Some ask
+        → MayBeDone M.program ask (R.left source.old) (P.fibres plant.old) → ¬ (Rose (R.faults source.old) (R.faults source.new))
+        → ¬ (Rose (P.faults plant.old) (P.faults plant.new)) → report.status ≡ Status.Ok) }
     ensures own { IfOk result (λ report. IsShown report.status) }
     ensures later { (R.faults source.old ≤ R.faults source.new) × (P.faults plant.old ≤ P.faults plant.new) }
     ensures unsent { OnErr result (P.fibres plant.new ≡ P.fibres plant.old) }

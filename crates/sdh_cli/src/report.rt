@@ -45,11 +45,14 @@ fn run_report<P: Plant>(
 ) -> Result<Report, AllocError>
     requires fresh { HasNoFibres (P.fibres plant.old) }
     requires listing { MayList (length plan.circuits) listing }
-    ensures outcome { IfOk result (λ report. IsRunOutcome plan listing (P.fibres plant.old) report.status report.text.bytes (P.fibres plant.new)) }
+    ensures outcome { IfOk result
+        (λ report. IsRunOutcome plan listing (P.fibres plant.old) report.status report.text.bytes (P.fibres plant.new)) }
     ensures failed { IfOk result (λ report. report.status ≡ Status.PlantFault → Rose (P.faults plant.old) (P.faults plant.new)) }
-    ensures calls { IfOk result (λ report. IsCounted P.exact (report.status ≡ Status.PlantFault) (P.faults plant.old) (P.faults plant.new)) }
+    ensures calls { IfOk result
+        (λ report. IsCounted P.exact (report.status ≡ Status.PlantFault) (P.faults plant.old) (P.faults plant.new)) }
     ensures without { OnErr result (P.exact ≡ true → P.faults plant.new ≡ P.faults plant.old) }
-    ensures complete { IfOk result (λ report. MaySettle plan (P.fibres plant.old) → ¬ (Rose (P.faults plant.old) (P.faults plant.new)) → report.status ≡ Status.Ok) }
+    ensures complete { IfOk result
+        (λ report. MaySettle plan (P.fibres plant.old) → ¬ (Rose (P.faults plant.old) (P.faults plant.new)) → report.status ≡ Status.Ok) }
     ensures later { P.faults plant.old ≤ P.faults plant.new }
     ensures unsent { OnErr result (P.fibres plant.new ≡ P.fibres plant.old) }
 {
@@ -81,12 +84,15 @@ fn plan_report<P: Plant>(
     plant: &mut P,
 ) -> Result<Report, AllocError>
     requires fresh { HasNoFibres (P.fibres plant.old) }
-    ensures outcome { IfOk result (λ report. OfPlan (ask_of command.entry) plan (P.fibres plant.old) report.status report.text.bytes (P.fibres plant.new)) }
+    ensures outcome { IfOk result
+        (λ report. OfPlan (ask_of command.entry) plan (P.fibres plant.old) report.status report.text.bytes (P.fibres plant.new)) }
     ensures alone { LeavesPlant (Some (ask_of command.entry)) → plant.new ≡ plant.old }
     ensures failed { IfOk result (λ report. report.status ≡ Status.PlantFault → Rose (P.faults plant.old) (P.faults plant.new)) }
-    ensures calls { IfOk result (λ report. IsCounted P.exact (report.status ≡ Status.PlantFault) (P.faults plant.old) (P.faults plant.new)) }
+    ensures calls { IfOk result
+        (λ report. IsCounted P.exact (report.status ≡ Status.PlantFault) (P.faults plant.old) (P.faults plant.new)) }
     ensures without { OnErr result (P.exact ≡ true → P.faults plant.new ≡ P.faults plant.old) }
-    ensures complete { IfOk result (λ report. MayGo (ask_of command.entry) plan (P.fibres plant.old) → ¬ (Rose (P.faults plant.old) (P.faults plant.new)) → report.status ≡ Status.Ok) }
+    ensures complete { IfOk result (λ report. MayGo (ask_of command.entry) plan (P.fibres plant.old)
+        → ¬ (Rose (P.faults plant.old) (P.faults plant.new)) → report.status ≡ Status.Ok) }
     ensures later { P.faults plant.old ≤ P.faults plant.new }
     ensures unsent { OnErr result (P.fibres plant.new ≡ P.fibres plant.old) }
 {
@@ -108,16 +114,23 @@ fn read_report<R: Source, P: Plant>(
 ) -> Result<Report, AllocError>
     requires reads { ¬ (LeavesSource (Some (ask_of command))) }
     requires fresh { HasNoFibres (P.fibres plant.old) }
-    ensures outcome { IfOk result (λ report. IfSome (R.left source.old) (λ bytes. OfBytes (ask_of command.entry) bytes (P.fibres plant.old) report.status report.text.bytes (P.fibres plant.new))) }
+    ensures outcome { IfOk result (λ report. IfSome (R.left source.old)
+        (λ bytes. OfBytes (ask_of command.entry) bytes (P.fibres plant.old) report.status report.text.bytes (P.fibres plant.new))) }
     ensures alone { LeavesPlant (Some (ask_of command.entry)) → plant.new ≡ plant.old }
-    ensures cause { IfOk result (λ report. HasCause (record { before = R.faults source.old; after = R.faults source.new }) (record { before = P.faults plant.old; after = P.faults plant.new }) report.status) }
-    ensures reads { IfOk result (λ report. IsCounted R.exact (report.status ≡ Status.ReadFault) (R.faults source.old) (R.faults source.new)) }
+    ensures cause { IfOk result (λ report. HasCause (record { before = R.faults source.old; after = R.faults source.new })
+        (record { before = P.faults plant.old; after = P.faults plant.new }) report.status) }
+    ensures reads { IfOk result
+        (λ report. IsCounted R.exact (report.status ≡ Status.ReadFault) (R.faults source.old) (R.faults source.new)) }
     ensures too_long { IfOk result (λ report. report.status ≡ Status.TooLong → TakesCount (R.left source.old) (R.left source.new) 1048577) }
-    ensures calls { IfOk result (λ report. IsCounted P.exact (report.status ≡ Status.PlantFault) (P.faults plant.old) (P.faults plant.new)) }
-    ensures without { OnErr result ((R.exact ≡ true → R.faults source.new ≡ R.faults source.old) × (P.exact ≡ true → P.faults plant.new ≡ P.faults plant.old)) }
+    ensures calls { IfOk result
+        (λ report. IsCounted P.exact (report.status ≡ Status.PlantFault) (P.faults plant.old) (P.faults plant.new)) }
+    ensures without { OnErr result
+        ((R.exact ≡ true → R.faults source.new ≡ R.faults source.old) × (P.exact ≡ true → P.faults plant.new ≡ P.faults plant.old)) }
     ensures own { IfOk result (λ report. (report.status ≢ Status.Usage) × IsShown report.status) }
     ensures read { IfOk result (λ report. report.status ≡ Status.Ok → IsAtEnd (R.left source.new)) }
-    ensures complete { IfOk result (λ report. MayBeDone (Some (ask_of command.entry)) (R.left source.old) (P.fibres plant.old) → ¬ (Rose (R.faults source.old) (R.faults source.new)) → ¬ (Rose (P.faults plant.old) (P.faults plant.new)) → report.status ≡ Status.Ok) }
+    ensures complete { IfOk result (λ report. MayBeDone (Some (ask_of command.entry)) (R.left source.old) (P.fibres plant.old)
+        → ¬ (Rose (R.faults source.old) (R.faults source.new)) → ¬ (Rose (P.faults plant.old) (P.faults plant.new))
+        → report.status ≡ Status.Ok) }
     ensures later { (R.faults source.old ≤ R.faults source.new) × (P.faults plant.old ≤ P.faults plant.new) }
     ensures unsent { OnErr result (P.fibres plant.new ≡ P.fibres plant.old) }
 {
@@ -144,11 +157,14 @@ fn number_of(command: Command<'_>) -> Option<u32>
 // The large plan of a number.
 fn big_report<P: Plant>(alloc: Global, number: u32, plant: &mut P) -> Result<Report, AllocError>
     requires fresh { HasNoFibres (P.fibres plant.old) }
-    ensures outcome { IfOk result (λ report. OfPlan (Big number) (big_planned number) (P.fibres plant.old) report.status report.text.bytes (P.fibres plant.new)) }
+    ensures outcome { IfOk result
+        (λ report. OfPlan (Big number) (big_planned number) (P.fibres plant.old) report.status report.text.bytes (P.fibres plant.new)) }
     ensures failed { IfOk result (λ report. report.status ≡ Status.PlantFault → Rose (P.faults plant.old) (P.faults plant.new)) }
-    ensures calls { IfOk result (λ report. IsCounted P.exact (report.status ≡ Status.PlantFault) (P.faults plant.old) (P.faults plant.new)) }
+    ensures calls { IfOk result
+        (λ report. IsCounted P.exact (report.status ≡ Status.PlantFault) (P.faults plant.old) (P.faults plant.new)) }
     ensures without { OnErr result (P.exact ≡ true → P.faults plant.new ≡ P.faults plant.old) }
-    ensures complete { IfOk result (λ report. MayGo (Big number) (big_planned number) (P.fibres plant.old) → ¬ (Rose (P.faults plant.old) (P.faults plant.new)) → report.status ≡ Status.Ok) }
+    ensures complete { IfOk result (λ report. MayGo (Big number) (big_planned number) (P.fibres plant.old)
+        → ¬ (Rose (P.faults plant.old) (P.faults plant.new)) → report.status ≡ Status.Ok) }
     ensures later { P.faults plant.old ≤ P.faults plant.new }
     ensures unsent { OnErr result (P.fibres plant.new ≡ P.fibres plant.old) }
 {
@@ -164,17 +180,24 @@ pub fn report_on<R: Source, P: Plant>(
     plant: &mut P,
 ) -> Result<Report, AllocError>
     requires fresh { HasNoFibres (P.fibres plant.old) }
-    ensures outcome { IfOk result (λ report. let ask = asked (words_of words.now) in IfSome (told ask (R.left source.old)) (λ bytes. IsOutcome ask bytes (P.fibres plant.old) report.status report.text.bytes (P.fibres plant.new))) }
-    ensures cause { IfOk result (λ report. HasCause (record { before = R.faults source.old; after = R.faults source.new }) (record { before = P.faults plant.old; after = P.faults plant.new }) report.status) }
-    ensures reads { IfOk result (λ report. IsCounted R.exact (report.status ≡ Status.ReadFault) (R.faults source.old) (R.faults source.new)) }
+    ensures outcome { IfOk result (λ report. let ask = asked (words_of words.now) in IfSome (told ask (R.left source.old))
+        (λ bytes. IsOutcome ask bytes (P.fibres plant.old) report.status report.text.bytes (P.fibres plant.new))) }
+    ensures cause { IfOk result (λ report. HasCause (record { before = R.faults source.old; after = R.faults source.new })
+        (record { before = P.faults plant.old; after = P.faults plant.new }) report.status) }
+    ensures reads { IfOk result
+        (λ report. IsCounted R.exact (report.status ≡ Status.ReadFault) (R.faults source.old) (R.faults source.new)) }
     ensures too_long { IfOk result (λ report. report.status ≡ Status.TooLong → TakesCount (R.left source.old) (R.left source.new) 1048577) }
-    ensures calls { IfOk result (λ report. IsCounted P.exact (report.status ≡ Status.PlantFault) (P.faults plant.old) (P.faults plant.new)) }
-    ensures without { OnErr result ((R.exact ≡ true → R.faults source.new ≡ R.faults source.old) × (P.exact ≡ true → P.faults plant.new ≡ P.faults plant.old)) }
+    ensures calls { IfOk result
+        (λ report. IsCounted P.exact (report.status ≡ Status.PlantFault) (P.faults plant.old) (P.faults plant.new)) }
+    ensures without { OnErr result
+        ((R.exact ≡ true → R.faults source.new ≡ R.faults source.old) × (P.exact ≡ true → P.faults plant.new ≡ P.faults plant.old)) }
     ensures usage { IfOk result (λ report. report.status ≡ Status.Usage ↔ (asked (words_of words.now) ≡ None)) }
     ensures unread { LeavesSource (asked (words_of words.now)) → source.new ≡ source.old }
     ensures alone { LeavesPlant (asked (words_of words.now)) → plant.new ≡ plant.old }
     ensures read { IfOk result (λ report. report.status ≡ Status.Ok → HasRead (asked (words_of words.now)) (R.left source.new)) }
-    ensures complete { IfOk result (λ report. (let ask = asked (words_of words.now) in MayBeDone ask (told ask (R.left source.old)) (P.fibres plant.old) → ¬ (Rose (R.faults source.old) (R.faults source.new)) → ¬ (Rose (P.faults plant.old) (P.faults plant.new)) → report.status ≡ Status.Ok)) }
+    ensures complete { IfOk result (λ report. (let ask = asked (words_of words.now) in
+        MayBeDone ask (told ask (R.left source.old)) (P.fibres plant.old) → ¬ (Rose (R.faults source.old) (R.faults source.new))
+        → ¬ (Rose (P.faults plant.old) (P.faults plant.new)) → report.status ≡ Status.Ok)) }
     ensures own { IfOk result (λ report. IsShown report.status) }
     ensures later { (R.faults source.old ≤ R.faults source.new) × (P.faults plant.old ≤ P.faults plant.new) }
     ensures unsent { OnErr result (P.fibres plant.new ≡ P.fibres plant.old) }

@@ -34,24 +34,33 @@ pub fn sdhring<R: Source, W: Sink, P: Plant>(
     ensures outcome { let ask = asked (words_of words.now) in
         let reads : Counts = record { before = R.faults source.old; after = R.faults source.new } in
         let calls : Counts = record { before = P.faults plant.old; after = P.faults plant.new } in
-        IfSome (told ask (R.left source.old)) (λ bytes. Writes (λ how text. MayEnd ask bytes (P.fibres plant.old) reads calls how text (P.fibres plant.new)) result (W.written sink.old) (W.written sink.new)) }
+        IfSome (told ask (R.left source.old))
+        (λ bytes. Writes (λ how text. MayEnd ask bytes (P.fibres plant.old) reads calls how text (P.fibres plant.new)) result
+        (W.written sink.old) (W.written sink.new)) }
 
     // Over honest fibres: the reports show for every port what it is owed; with a large limit no settle step is unsettled; and a
     // script of settle steps alone shows a healthy ring.
-    ensures owed { (P.fibres plant.old).honest ≡ true → IfSome (told (asked (words_of words.now)) (R.left source.old)) (λ bytes. Delivers (asked (words_of words.now)) bytes result (W.written sink.old) (W.written sink.new)) }
-    ensures settles { (P.fibres plant.old).honest ≡ true → IfSome (told (asked (words_of words.now)) (R.left source.old)) (λ bytes. Settles (asked (words_of words.now)) bytes result) }
-    ensures healthy { (P.fibres plant.old).honest ≡ true → IfSome (told (asked (words_of words.now)) (R.left source.old)) (λ bytes. StaysHealthy (asked (words_of words.now)) bytes result (W.written sink.old) (W.written sink.new)) }
+    ensures owed { (P.fibres plant.old).honest ≡ true → IfSome (told (asked (words_of words.now)) (R.left source.old))
+        (λ bytes. Delivers (asked (words_of words.now)) bytes result (W.written sink.old) (W.written sink.new)) }
+    ensures settles { (P.fibres plant.old).honest ≡ true
+        → IfSome (told (asked (words_of words.now)) (R.left source.old)) (λ bytes. Settles (asked (words_of words.now)) bytes result) }
+    ensures healthy { (P.fibres plant.old).honest ≡ true → IfSome (told (asked (words_of words.now)) (R.left source.old))
+        (λ bytes. StaysHealthy (asked (words_of words.now)) bytes result (W.written sink.old) (W.written sink.new)) }
 
     // In every round that gave the reports: before a controller is held no port delivers another customer's byte, and soon after the
     // last change every port delivers what it is owed.
-    ensures rounds { (P.fibres plant.old).honest ≡ true → IfSome (told (asked (words_of words.now)) (R.left source.old)) (λ bytes. GoesWell (asked (words_of words.now)) bytes (P.fibres plant.old) result (W.written sink.old) (W.written sink.new) (P.fibres plant.new)) }
+    ensures rounds { (P.fibres plant.old).honest ≡ true
+        → IfSome (told (asked (words_of words.now)) (R.left source.old)) (λ bytes. GoesWell (asked (words_of words.now)) bytes
+        (P.fibres plant.old) result (W.written sink.old) (W.written sink.new) (P.fibres plant.new)) }
 
     // Where arrivals are known, unsettled comes at exactly the settle step in which no quiet window comes within the limit.
-    ensures unsettled { IfSome (told (asked (words_of words.now)) (R.left source.old)) (λ bytes. EndsAsItRuns (asked (words_of words.now)) bytes (P.fibres plant.old) result) }
+    ensures unsettled { IfSome (told (asked (words_of words.now)) (R.left source.old))
+        (λ bytes. EndsAsItRuns (asked (words_of words.now)) bytes (P.fibres plant.old) result) }
 
     // Over every source, sink and plant.
     ensures usage { result ≡ Status.Usage → asked (words_of words.now) ≡ None }
-    ensures usage_only { asked (words_of words.now) ≡ None → (result ≡ Status.Usage) ⊎ (result ≡ Status.WriteFault) ⊎ (result ≡ Status.Memory) }
+    ensures usage_only { asked (words_of words.now) ≡ None
+        → (result ≡ Status.Usage) ⊎ (result ≡ Status.WriteFault) ⊎ (result ≡ Status.Memory) }
     ensures unread { LeavesSource (asked (words_of words.now)) → source.new ≡ source.old }
     ensures alone { LeavesPlant (asked (words_of words.now)) → plant.new ≡ plant.old }
     ensures read_fault { result ≡ Status.ReadFault → Rose (R.faults source.old) (R.faults source.new) }
@@ -62,15 +71,19 @@ pub fn sdhring<R: Source, W: Sink, P: Plant>(
     // may stand in place of what was to be told. With TooLong one byte more than a plan may have was taken.
     ensures came { let reads : Counts = record { before = R.faults source.old; after = R.faults source.new } in
         let calls : Counts = record { before = P.faults plant.old; after = P.faults plant.new } in
-        (how : Status) × ((result ≡ how) ⊎ (result ≡ Status.WriteFault)) × CameTo R.exact P.exact reads calls (R.left source.old) (R.left source.new) how }
+        (how : Status) × ((result ≡ how) ⊎ (result ≡ Status.WriteFault))
+        × CameTo R.exact P.exact reads calls (R.left source.old) (R.left source.new) how }
     ensures writes { IsCounted W.exact (result ≡ Status.WriteFault) (W.faults sink.old) (W.faults sink.new) }
 
     ensures memory { result ≡ Status.Memory → (sink.new ≡ sink.old) × (P.fibres plant.new ≡ P.fibres plant.old) }
     ensures read_whole { result ≡ Status.Ok → HasRead (asked (words_of words.now)) (R.left source.new) }
-    ensures later { (R.faults source.old ≤ R.faults source.new) × (W.faults sink.old ≤ W.faults sink.new) × (P.faults plant.old ≤ P.faults plant.new) }
+    ensures later { (R.faults source.old ≤ R.faults source.new) × (W.faults sink.old ≤ W.faults sink.new)
+        × (P.faults plant.old ≤ P.faults plant.new) }
 
     // With all that a run needs, and no fault, everything is done, or there is no memory.
-    ensures complete { MayBeDone (asked (words_of words.now)) (told (asked (words_of words.now)) (R.left source.old)) (P.fibres plant.old) → ¬ (Rose (R.faults source.old) (R.faults source.new)) → ¬ (Rose (W.faults sink.old) (W.faults sink.new)) → ¬ (Rose (P.faults plant.old) (P.faults plant.new)) → (result ≡ Status.Ok) ⊎ (result ≡ Status.Memory) }
+    ensures complete { MayBeDone (asked (words_of words.now)) (told (asked (words_of words.now)) (R.left source.old)) (P.fibres plant.old)
+        → ¬ (Rose (R.faults source.old) (R.faults source.new)) → ¬ (Rose (W.faults sink.old) (W.faults sink.new))
+        → ¬ (Rose (P.faults plant.old) (P.faults plant.new)) → (result ≡ Status.Ok) ⊎ (result ≡ Status.Memory) }
 {
     let Ok(report) = report_on(alloc, words, source, plant) else {
         return Status::Memory;

@@ -29,7 +29,8 @@ impl Model for Held {
 
     ghost view = { λ h. drop h.given (flat_map (λ c. c) h.chunks.items) };
 
-    ghost invariant = { λ h. (h.chunks.capacity ≡ 3) × (h.len ≡ length (flat_map (λ c. c) h.chunks.items) - h.given) × IsKept h.chunks.items h.given };
+    ghost invariant = { λ h. (h.chunks.capacity ≡ 3) × (h.len ≡ length (flat_map (λ c. c) h.chunks.items) - h.given)
+        × IsKept h.chunks.items h.given };
 }
 
 // Puts a chunk into the room of the oldest one, behind the others, and tells the length of the oldest.

@@ -100,17 +100,22 @@ impl Elastic {
     pub fn turn(&mut self, input: &[u8], out: &mut Cells) -> Result<Action, Drift>
         requires { IsChunk (length input.now) }
         // What a turn does, by what is kept and by the whole history.
-        ensures ok { IfOk result (λ a. (a ≡ action_at self.old) × (out.new ≡ given_at self.old input.now) × (self.new ≡ after_turn self.old input.now)) }
-        ensures history { IfOk result (λ a. (first : ℕ) (past : List (List ℕ)) → CameBy first past self.old → GoesOn first past input.now out.new a self.new) }
+        ensures ok { IfOk result
+            (λ a. (a ≡ action_at self.old) × (out.new ≡ given_at self.old input.now) × (self.new ≡ after_turn self.old input.now)) }
+        ensures history { IfOk result
+            (λ a. (first : ℕ) (past : List (List ℕ)) → CameBy first past self.old → GoesOn first past input.now out.new a self.new) }
         ensures bytes { OnOk result (self.old.held ++ input.now ≡ out.new ++ self.new.held) }
-        ensures heard { IfOk result (λ a. (action_on (reading_of self.old) self.new.word ≡ a) × (after_word (reading_of self.old) self.new.word ≡ reading_of self.new)) }
+        ensures heard { IfOk result (λ a. (action_on (reading_of self.old) self.new.word ≡ a)
+            × (after_word (reading_of self.old) self.new.word ≡ reading_of self.new)) }
 
         // When it is a drift.
         ensures drift { IsErr result ↔ ((fill_after self.old (length input.now) < 2340) ⊎ (2358 < fill_after self.old (length input.now))) }
         ensures err { OnErr result ((self.new ≡ self.old) × (out.new ≡ out.old)) }
-        ensures history_err { OnErr result ((first : ℕ) (past : List (List ℕ)) → CameBy first past self.old → lasts (lengths (input.now ∷ past)) ≡ false) }
+        ensures history_err { OnErr result
+            ((first : ℕ) (past : List (List ℕ)) → CameBy first past self.old → lasts (lengths (input.now ∷ past)) ≡ false) }
         ensures steady { self.old.steady ≡ true → keeps_steady (length input.now) self.old.lengths ≡ true → IsOk result }
-        ensures steady_run { (first : ℕ) (past : List (List ℕ)) → CameBy first past self.old → is_steady (lengths (input.now ∷ past)) ≡ true → IsOk result }
+        ensures steady_run { (first : ℕ) (past : List (List ℕ)) → CameBy first past self.old
+            → is_steady (lengths (input.now ∷ past)) ≡ true → IsOk result }
     {
         let action = self.course.stage.action(self.held.len());
         let fill = (self.held.len() + input.len()).saturating_sub(given(action));
@@ -125,7 +130,8 @@ impl Elastic {
     /// The pointer word of the last turn, and all ones before the first.
     pub fn word(&self) -> Word
         ensures kept { result.0 ≡ self.now.word }
-        ensures history { (first : ℕ) (past : List (List ℕ)) → CameBy first past self.now → result.0 ≡ last_word first (actions (lengths past)) }
+        ensures history { (first : ℕ) (past : List (List ℕ)) → CameBy first past self.now
+            → result.0 ≡ last_word first (actions (lengths past)) }
     {
         self.course.word
     }

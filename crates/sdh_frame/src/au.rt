@@ -138,7 +138,9 @@ impl FrameBuf {
         requires to_last { to ≤ n_of self.old.rate }
         requires first { 1 ≤ au }
         requires last { au ≤ n_of self.old.rate }
-        ensures { self.new ≡ record self.old { bytes = with_payload (n_of self.old.rate) to (payload_of (n_of self.old.rate) au from.now.bytes) self.old.bytes } }
+        ensures { self.new ≡ record self.old {
+          bytes = with_payload (n_of self.old.rate) to (payload_of (n_of self.old.rate) au from.now.bytes) self.old.bytes;
+        } }
     {
         copy(
             self.rate,

@@ -93,7 +93,9 @@ impl FrameBuf {
         requires first { 1 ≤ au }
         requires last { au ≤ n_of self.old.rate }
         requires index { index < 2349 }
-        ensures { let n = n_of self.old.rate in self.new ≡ record self.old { bytes = with_payload n au (slice_set (payload_of n au self.old.bytes) index value) self.old.bytes } }
+        ensures { let n = n_of self.old.rate in self.new ≡ record self.old {
+          bytes = with_payload n au (slice_set (payload_of n au self.old.bytes) index value) self.old.bytes;
+        } }
     {
         put_payload_byte(self.rate, self.bytes.as_mut_slice(), au, index, value);
     }
@@ -102,7 +104,9 @@ impl FrameBuf {
         requires first { 1 ≤ au }
         requires last { au ≤ n_of self.old.rate }
         requires index { index < 9 }
-        ensures { let n = n_of self.old.rate in self.new ≡ record self.old { bytes = with_pointers n au (slice_set (pointers_of n au self.old.bytes) index value) self.old.bytes } }
+        ensures { let n = n_of self.old.rate in self.new ≡ record self.old {
+          bytes = with_pointers n au (slice_set (pointers_of n au self.old.bytes) index value) self.old.bytes;
+        } }
     {
         put_pointer_byte(self.rate, self.bytes.as_mut_slice(), au, index, value);
     }
@@ -194,7 +198,9 @@ impl<'a> AuViewMut<'a> {
         requires { index < 2349 }
         ensures same_reference { self.new.frame.ghost_name ≡ self.old.frame.ghost_name }
         ensures au { self.new.au ≡ self.old.au }
-        ensures frame { let f = self.old.frame.now in let n = n_of f.rate in self.new.frame.now ≡ record f { bytes = with_payload n self.old.au (slice_set (payload_of n self.old.au f.bytes) index value) f.bytes } }
+        ensures frame { let f = self.old.frame.now in let n = n_of f.rate in self.new.frame.now ≡ record f {
+          bytes = with_payload n self.old.au (slice_set (payload_of n self.old.au f.bytes) index value) f.bytes;
+        } }
     {
         let au = self.au;
         self.frame.set_payload_at(au, index, value);
@@ -205,7 +211,9 @@ impl<'a> AuViewMut<'a> {
         requires { index < 9 }
         ensures same_reference { self.new.frame.ghost_name ≡ self.old.frame.ghost_name }
         ensures au { self.new.au ≡ self.old.au }
-        ensures frame { let f = self.old.frame.now in let n = n_of f.rate in self.new.frame.now ≡ record f { bytes = with_pointers n self.old.au (slice_set (pointers_of n self.old.au f.bytes) index value) f.bytes } }
+        ensures frame { let f = self.old.frame.now in let n = n_of f.rate in self.new.frame.now ≡ record f {
+          bytes = with_pointers n self.old.au (slice_set (pointers_of n self.old.au f.bytes) index value) f.bytes;
+        } }
     {
         let au = self.au;
         self.frame.set_pointer_at(au, index, value);
@@ -216,7 +224,9 @@ impl<'a> AuViewMut<'a> {
         requires { self.old.frame.now.rate ≡ from.now.frame.now.rate }
         ensures same_reference { self.new.frame.ghost_name ≡ self.old.frame.ghost_name }
         ensures au { self.new.au ≡ self.old.au }
-        ensures frame { let f = self.old.frame.now in let n = n_of f.rate in self.new.frame.now ≡ record f { bytes = with_payload n self.old.au (payload_of n from.now.au from.now.frame.now.bytes) f.bytes } }
+        ensures frame { let f = self.old.frame.now in let n = n_of f.rate in self.new.frame.now ≡ record f {
+          bytes = with_payload n self.old.au (payload_of n from.now.au from.now.frame.now.bytes) f.bytes;
+        } }
     {
         let au = self.au;
         self.frame.copy_payload(au, from.frame, from.au);
@@ -226,7 +236,8 @@ impl<'a> AuViewMut<'a> {
     pub fn fill_ones(&mut self)
         ensures same_reference { self.new.frame.ghost_name ≡ self.old.frame.ghost_name }
         ensures au { self.new.au ≡ self.old.au }
-        ensures frame { let f = self.old.frame.now in self.new.frame.now ≡ record f { bytes = with_au (n_of f.rate) self.old.au ones f.bytes } }
+        ensures frame { let f = self.old.frame.now in
+            self.new.frame.now ≡ record f { bytes = with_au (n_of f.rate) self.old.au ones f.bytes } }
     {
         let au = self.au;
         self.frame.fill_ones(au);

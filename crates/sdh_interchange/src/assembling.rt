@@ -17,7 +17,8 @@ fn point_all(frame: &mut FrameBuf, pointers: &[[u8; 9]])
     requires long { length frame.old.bytes ≡ size_of frame.old.rate }
     ensures rate { frame.new.rate ≡ frame.old.rate }
     ensures long { length frame.new.bytes ≡ size_of frame.old.rate }
-    ensures pointed { let n = n_of frame.old.rate in (i : ℕ) → i < size_of frame.old.rate → slice_index frame.new.bytes i ≡ pointer_byte n (i % n + 1) (slice_index_or pointers.now (i % n) []) i (slice_index frame.old.bytes i) }
+    ensures pointed { let n = n_of frame.old.rate in (i : ℕ) → i < size_of frame.old.rate → slice_index frame.new.bytes i ≡ pointer_byte n
+        (i % n + 1) (slice_index_or pointers.now (i % n) []) i (slice_index frame.old.bytes i) }
 {
     for k in 0..pointers.len() {
         frame.put_pointers(k as u16 + 1, &pointers[k]);
@@ -41,7 +42,9 @@ pub fn assemble_row(
     requires first { first.now.rate ≡ frame.old.rate }
     requires second { second.now.rate ≡ frame.old.rate }
     ensures rate { frame.new.rate ≡ frame.old.rate }
-    ensures row { let n = n_of frame.old.rate in HasRow n row (with_aus n 1 (assembled n first.now.bytes second.now.bytes own.now choice.now.sources pointers.now) frame.old.bytes) frame.old.bytes frame.new.bytes }
+    ensures row { let n = n_of frame.old.rate in HasRow n row
+        (with_aus n 1 (assembled n first.now.bytes second.now.bytes own.now choice.now.sources pointers.now) frame.old.bytes)
+        frame.old.bytes frame.new.bytes }
 {
     // Reading it gives the proof what is true of every frame.
     let _ = frame.rate();

@@ -102,7 +102,8 @@ impl<'a> Choice<'a> {
         requires size { length bytes.old ≡ size_of self.now.rate }
         requires first { length inputs.now.first.now ≡ size_of self.now.rate }
         requires second { length inputs.now.second.now ≡ size_of self.now.rate }
-        ensures here { (i : ℕ) → i < size_of self.now.rate → i / (270 * n_of self.now.rate) ≡ r → slice_index bytes.new i ≡ slice_index (chosen (n_of self.now.rate) self.now.sources inputs.now.first.now inputs.now.second.now inputs.now.own.now bytes.old) i }
+        ensures here { (i : ℕ) → i < size_of self.now.rate → i / (270 * n_of self.now.rate) ≡ r → slice_index bytes.new i ≡ slice_index
+            (chosen (n_of self.now.rate) self.now.sources inputs.now.first.now inputs.now.second.now inputs.now.own.now bytes.old) i }
         ensures others { (i : ℕ) → i / (270 * n_of self.now.rate) ≢ r → slice_index bytes.new i ≡ slice_index bytes.old i }
         ensures many { length self.now.sources ≡ n_of self.now.rate }
     {

@@ -39,7 +39,8 @@ fn merged(first: &[u8], second: &[u8], at: usize, lanes: &Lanes, extra: u8x16) -
     requires second { at + 16 ≤ length second.now }
     requires lanes { (n : ℕ) × ((sources : List Source) × AreLanes n sources lanes.now) }
     requires extra { length extra ≡ 16 }
-    ensures { (n : ℕ) (sources : List Source) (own : List (List ℕ)) → (n ≡ 4) ⊎ (n ≡ 16) → at % n ≡ 0 → AreLanes n sources lanes.now → AreExtra n sources own at extra → ArePicked n sources first.now second.now own at result }
+    ensures { (n : ℕ) (sources : List Source) (own : List (List ℕ)) → (n ≡ 4) ⊎ (n ≡ 16) → at % n ≡ 0 → AreLanes n sources lanes.now
+        → AreExtra n sources own at extra → ArePicked n sources first.now second.now own at result }
 {
     let from_first = u8x16::from_slice(&first[at..]).swizzle_dyn(u8x16::from_array(lanes.first));
     let from_second = u8x16::from_slice(&second[at..]).swizzle_dyn(u8x16::from_array(lanes.second));
@@ -76,7 +77,8 @@ impl<'a, const N: usize> Pass<'a, N> {
         requires reads { (READS ≡ true) ⊎ (self.now.passed ≡ false) }
         requires whole { at % N ≡ 0 }
         requires long { length column ≡ 16 }
-        requires column { (j : ℕ) → j < 16 → j % N < self.now.lanes.now.upto → slice_index column j ≡ own_byte N self.now.inputs.now.own.now (at + j) }
+        requires column { (j : ℕ) → j < 16 → j % N < self.now.lanes.now.upto
+            → slice_index column j ≡ own_byte N self.now.inputs.now.own.now (at + j) }
         ensures { AreExtra N self.now.sources.now self.now.inputs.now.own.now at result }
     {
         let lanes = self.lanes;
@@ -95,7 +97,8 @@ impl<'a, const N: usize> Pass<'a, N> {
         requires end { to % N ≡ 0 }
         requires some { from + 16 ≤ to }
         requires room { to ≤ length bytes.old }
-        requires plain { (i : ℕ) → from ≤ i → i < to → IsPlain N (slice_index_or self.now.sources.now (i % N) Ones) self.now.inputs.now.own.now i }
+        requires plain { (i : ℕ) → from ≤ i → i < to
+            → IsPlain N (slice_index_or self.now.sources.now (i % N) Ones) self.now.inputs.now.own.now i }
         ensures { HasPassed N self.now from to bytes.old bytes.new }
     {
         let more = u8x16::from_array(self.lanes.more);
@@ -205,7 +208,8 @@ impl<'a, const N: usize> Pass<'a, N> {
         requires pass { IsPass N self.now }
         requires size { length bytes.old ≡ 2430 * N }
         requires row { r < 9 }
-        ensures here { (i : ℕ) → i < 2430 * N → i / (270 * N) ≡ r → slice_index bytes.new i ≡ (if is_au_byte N i then byte_by_source N self.now i else slice_index bytes.old i) }
+        ensures here { (i : ℕ) → i < 2430 * N → i / (270 * N) ≡ r
+            → slice_index bytes.new i ≡ (if is_au_byte N i then byte_by_source N self.now i else slice_index bytes.old i) }
         ensures others { (i : ℕ) → i / (270 * N) ≢ r → slice_index bytes.new i ≡ slice_index bytes.old i }
     {
         self.any_row(bytes, r);

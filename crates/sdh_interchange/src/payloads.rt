@@ -140,7 +140,8 @@ pub(crate) fn take(rate: Rate, bytes: &[u8], base: usize, out: &mut [Cells])
     requires base { (base ≡ 0) ⊎ (2 * base ≡ n_of rate) }
     requires size { length bytes.now ≡ size_of rate }
     requires room { HaveRoom base (n_of rate / 2) out.old }
-    ensures payloads { (au : ℕ) → base < au → 2 * au ≤ 2 * base + n_of rate → slice_index_or out.new (au - 1) [] ≡ payload_of (n_of rate) au bytes.now }
+    ensures payloads { (au : ℕ) → base < au → 2 * au ≤ 2 * base + n_of rate
+        → slice_index_or out.new (au - 1) [] ≡ payload_of (n_of rate) au bytes.now }
     ensures keeps { KeepsOthers base (n_of rate / 2) out.old out.new }
 {
     match rate {

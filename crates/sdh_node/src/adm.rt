@@ -251,7 +251,8 @@ struct Signs {
 
 // Whether the round is calm: it may be, and all that is compared is the same.
 fn is_calm(signs: &Signs) -> bool
-    ensures { result ≡ (signs.now.counts && (signs.now.taken && signs.now.decided && (signs.now.west_said && signs.now.west_made) && (signs.now.east_said && signs.now.east_made))) }
+    ensures { result ≡ (signs.now.counts && (signs.now.taken && signs.now.decided && (signs.now.west_said && signs.now.west_made)
+        && (signs.now.east_said && signs.now.east_made))) }
 {
     signs.counts
         && signs.taken

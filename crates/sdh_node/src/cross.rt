@@ -109,7 +109,8 @@ impl CrossConnect {
     pub fn exchange(&mut self, side: Side, arrived: Arrived, inbox: &mut Landed)
         requires rate { inbox.old.rate ≡ self.old.west.section.rate }
         requires here { arrived ≡ Arrived.Frame → inbox.old.landed ≢ None }
-        ensures cross { self.new ≡ record (at_side side (arrived_on (arrived_in arrived inbox.old.landed)) self.old) { west_in = self.new.west_in; east_in = self.new.east_in } }
+        ensures cross { self.new ≡ record (at_side side
+            (arrived_on (arrived_in arrived inbox.old.landed)) self.old) { west_in = self.new.west_in; east_in = self.new.east_in } }
         ensures moment { self.new.west.local.moment ≡ self.old.west.local.moment }
         ensures rate { inbox.new.rate ≡ inbox.old.rate }
         ensures dark { arrived ≡ Arrived.Dark → inbox.new ≡ inbox.old }
@@ -129,7 +130,8 @@ impl CrossConnect {
         requires east { self.old.east.local.moment ≤ now.0 }
         requires within { now.0 ≤ 1000000000 }
         ensures cross { self.new ≡ after_intakes threshold now.0 self.old }
-        ensures same { result ≡ (same_in (compared_in self.new.west) (compared_in self.old.west) && same_in (compared_in self.new.east) (compared_in self.old.east)) }
+        ensures same { result ≡ (same_in (compared_in self.new.west) (compared_in self.old.west)
+            && same_in (compared_in self.new.east) (compared_in self.old.east)) }
         ensures rate { self.new.west.section.rate ≡ self.old.west.section.rate }
         ensures west { self.new.west.local.moment ≡ now.0 }
         ensures east { self.new.east.local.moment ≡ now.0 }

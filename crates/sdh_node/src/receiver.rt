@@ -101,8 +101,13 @@ impl Receiver {
         requires within { now.0 ≤ 1000000000 }
         requires silent { defect ≡ Defect.Sf → word ≡ None }
         requires spellable { IfSome word IsSpellable }
-        ensures side { self.new ≡ record self.old { local = local_after now.0 defect self.old.local; request = kept_request (local_after now.0 defect self.old.local); brought = with_brought word self.old.brought } }
-        ensures same { result ≡ (same_code self.new.request self.old.request && same_heard (hears self.new.brought) (hears self.old.brought)) }
+        ensures side { self.new ≡ record self.old {
+          local = local_after now.0 defect self.old.local;
+          request = kept_request (local_after now.0 defect self.old.local);
+          brought = with_brought word self.old.brought;
+        } }
+        ensures same { result ≡ (same_code self.new.request self.old.request
+            && same_heard (hears self.new.brought) (hears self.old.brought)) }
     {
         self.local.at_moment(now);
         self.local.see(defect);

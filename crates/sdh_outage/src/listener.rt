@@ -67,7 +67,9 @@ impl Listener {
     // The place of a chunk in the stream, where it stands behind the last one and both are near.
     fn place_behind(&self, chunk: &[u8]) -> Option<usize>
         requires { length chunk.now ≤ 2352 }
-        ensures { IfSome result (λ place. StandsAt self.now.port place (Delivered.Chunk chunk.now) × (is_part chunk.now (near self.now.port self.now.round) ≡ true) × (jumps (near self.now.port self.now.round) self.now.last chunk.now ≡ false)) }
+        ensures { IfSome result (λ place. StandsAt self.now.port place (Delivered.Chunk chunk.now)
+            × (is_part chunk.now (near self.now.port self.now.round) ≡ true)
+            × (jumps (near self.now.port self.now.round) self.now.last chunk.now ≡ false)) }
     {
         let Some(at) = self.place else {
             return None;
@@ -127,7 +129,8 @@ impl Listener {
     /// One round more, in which this was delivered.
     pub fn hear(&mut self, now: &Delivered)
         requires { self.old.round + 8 ≤ 2 ^ 32 }
-        ensures history { (port : Customer) (first : ℕ) (before : Delivered) (past : List Delivered) → self.old ≡ heard port first before past → self.new ≡ heard port first before (now.now ∷ past) }
+        ensures history { (port : Customer) (first : ℕ) (before : Delivered) (past : List Delivered)
+            → self.old ≡ heard port first before past → self.new ≡ heard port first before (now.now ∷ past) }
         ensures round { self.new.round ≡ self.old.round + 1 }
     {
         let (kind, place) = self.heard(now);

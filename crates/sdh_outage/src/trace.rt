@@ -65,7 +65,8 @@ impl Trace {
     /// One round more, of this number and kind.
     pub(crate) fn add(&mut self, round: u32, kind: Kind)
         requires { self.old.count + 1 < 2 ^ 32 }
-        ensures history { (first : ℕ) (past : List Kind) → round ≡ first + length past → self.old ≡ traced first past → self.new ≡ traced first (kind ∷ past) }
+        ensures history { (first : ℕ) (past : List Kind) → round ≡ first + length past → self.old ≡ traced first past
+            → self.new ≡ traced first (kind ∷ past) }
         ensures few { self.new.count ≤ self.old.count + 1 }
     {
         if is_change(self.last, kind) {

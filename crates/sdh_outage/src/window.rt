@@ -41,7 +41,8 @@ impl Model for Window {
 
     ghost view = { λ w. record { port = w.feed.port; round = w.round } };
 
-    ghost invariant = { λ w. IsWindow w.feed w.round w.from w.bytes.items × (vec_len w.bytes ≡ w.from + 183222) × (w.from ≤ 37584) × (220806 ≤ vec_capacity w.bytes) };
+    ghost invariant = { λ w. IsWindow w.feed w.round w.from w.bytes.items × (vec_len w.bytes ≡ w.from + 183222) × (w.from ≤ 37584)
+        × (220806 ≤ vec_capacity w.bytes) };
 }
 
 impl fmt::Debug for Window {

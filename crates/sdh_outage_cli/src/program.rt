@@ -28,11 +28,14 @@ fn run_report<P: Plant>(
 ) -> Result<Report, AllocError>
     requires fresh { HasNoFibres (P.fibres plant.old) }
     requires listing { MayList (length plan.circuits) listing }
-    ensures outcome { IfOk result (λ report. IsRunOutcome listening listing plan (P.fibres plant.old) report.status report.text.bytes (P.fibres plant.new)) }
+    ensures outcome { IfOk result
+        (λ report. IsRunOutcome listening listing plan (P.fibres plant.old) report.status report.text.bytes (P.fibres plant.new)) }
     ensures failed { IfOk result (λ report. report.status ≡ Status.PlantFault → Rose (P.faults plant.old) (P.faults plant.new)) }
-    ensures calls { IfOk result (λ report. IsCounted P.exact (report.status ≡ Status.PlantFault) (P.faults plant.old) (P.faults plant.new)) }
+    ensures calls { IfOk result
+        (λ report. IsCounted P.exact (report.status ≡ Status.PlantFault) (P.faults plant.old) (P.faults plant.new)) }
     ensures without { OnErr result (P.exact ≡ true → P.faults plant.new ≡ P.faults plant.old) }
-    ensures complete { IfOk result (λ report. MaySettle plan (P.fibres plant.old) → ¬ (Rose (P.faults plant.old) (P.faults plant.new)) → report.status ≡ Status.Ok) }
+    ensures complete { IfOk result
+        (λ report. MaySettle plan (P.fibres plant.old) → ¬ (Rose (P.faults plant.old) (P.faults plant.new)) → report.status ≡ Status.Ok) }
     ensures later { P.faults plant.old ≤ P.faults plant.new }
     ensures unsent { OnErr result (P.fibres plant.new ≡ P.fibres plant.old) }
 {

@@ -31,7 +31,8 @@ fn put_outage(text: &mut Text, named: &Circuit, end: End, outage: &Outage)
 fn put_port(text: &mut Text, summary: &mut Summary, named: &Circuit, end: End, listener: &Listener)
     requires room { 160 ≤ text.old.room }
     requires few { summary.old.none + 1 < 2 ^ 32 }
-    ensures bytes { text.new.bytes ≡ text.old.bytes ++ told_line (record { name = named.now.name; end = end; outage = listener.now.outage }) }
+    ensures bytes { text.new.bytes ≡ text.old.bytes
+        ++ told_line (record { name = named.now.name; end = end; outage = listener.now.outage }) }
     ensures room { text.old.room ≤ text.new.room + 160 }
     ensures summary { summary.new ≡ with_outage summary.old listener.now.outage }
     ensures few { summary.new.none ≤ summary.old.none + 1 }
@@ -137,7 +138,8 @@ fn put_listed(text: &mut Text, circuits: &CircuitMap, items: &Vec<Both>, port: P
     requires many { length items.now.items ≡ length circuits.now.circuits }
     requires port { port.circuit < length circuits.now.circuits }
     requires room { 10560 ≤ text.old.room }
-    ensures bytes { text.new.bytes ≡ text.old.bytes ++ port_text (slice_get circuits.now.circuits port.circuit) (slice_get items.now.items port.circuit) port.end }
+    ensures bytes { text.new.bytes ≡ text.old.bytes
+        ++ port_text (slice_get circuits.now.circuits port.circuit) (slice_get items.now.items port.circuit) port.end }
     ensures room { text.old.room ≤ text.new.room + 10560 }
 {
     let named = circuits.get(port.circuit);
@@ -151,7 +153,8 @@ pub fn put_step(text: &mut Text, ring: &Ring, number: u32, items: &Vec<Both>, li
     requires many { length items.now.items ≡ length ring.now.circuits.circuits }
     requires listing { MayList (length ring.now.circuits.circuits) listing }
     requires room { lines_room listing (length ring.now.circuits.circuits) ≤ text.old.room }
-    ensures bytes { text.new.bytes ≡ text.old.bytes ++ shown_text listing number (ring.now.rounds - 1) ring.now.circuits.circuits items.now.items }
+    ensures bytes { text.new.bytes ≡ text.old.bytes
+        ++ shown_text listing number (ring.now.rounds - 1) ring.now.circuits.circuits items.now.items }
     ensures room { text.old.room ≤ text.new.room + lines_room listing (length ring.now.circuits.circuits) }
 {
     put_settle(text, number, ring.rounds());

@@ -85,7 +85,8 @@ fn begin_both(both: &mut Both, ring: &Ring, circuit: u8)
 pub fn begin_all(ring: &Ring, items: &mut Vec<Both>)
     requires { length items.old.items ≡ length ring.now.circuits.circuits }
     ensures many { length items.new.items ≡ length items.old.items }
-    ensures each { (i : ℕ) (before after : Both) → slice_get items.old.items i ≡ Some before → slice_get items.new.items i ≡ Some after → HaveBegun ring.now i before after }
+    ensures each { (i : ℕ) (before after : Both) → slice_get items.old.items i ≡ Some before → slice_get items.new.items i ≡ Some after
+        → HaveBegun ring.now i before after }
 {
     for i in 0..ring.circuits().len() {
         begin_both(&mut items[i], ring, i as u8);
@@ -130,7 +131,8 @@ pub fn look_all(ring: &Ring, items: &mut Vec<Both>)
     requires many { length items.old.items ≡ length ring.now.circuits.circuits }
     requires few { AreFew (2 ^ 31 + 65536) items.old.items }
     ensures many { length items.new.items ≡ length items.old.items }
-    ensures each { (i : ℕ) (before after : Both) → slice_get items.old.items i ≡ Some before → slice_get items.new.items i ≡ Some after → Looked ring.now i before after }
+    ensures each { (i : ℕ) (before after : Both) → slice_get items.old.items i ≡ Some before → slice_get items.new.items i ≡ Some after
+        → Looked ring.now i before after }
 {
     for i in 0..ring.circuits().len() {
         look_both(&mut items[i], ring, i as u8);

@@ -55,7 +55,8 @@ impl MemSink {
         failing: &[u32],
     ) -> Result<MemSink, AllocError>
         requires { 0 < piece }
-        ensures { IfOk result (λ sink. sink ≡ record { bytes = []; room = room; piece = piece; failing = failing.now; calls = 0; faults = 0 }) }
+        ensures { IfOk result
+            (λ sink. sink ≡ record { bytes = []; room = room; piece = piece; failing = failing.now; calls = 0; faults = 0 }) }
     {
         Ok(MemSink {
             bytes: Vec::with_capacity(alloc, room)?,
@@ -88,9 +89,14 @@ impl Sink for MemSink {
         ensures bytes { WriteAppends (Some self.old.bytes) (Some self.new.bytes) result buf.now }
         ensures cause { HasCause true self.old.faults self.new.faults result }
 
-        ensures fails { IsErr result ↔ (Contains self.old.failing (one_more self.old.calls) ⊎ ((0 < length buf.now) × (self.old.room ≡ 0))) }
+        ensures fails { IsErr result ↔ (Contains self.old.failing (one_more self.old.calls)
+            ⊎ ((0 < length buf.now) × (self.old.room ≡ 0))) }
         ensures count { IfOk result (λ n. n ≡ min (min self.old.piece (length buf.now)) self.old.room) }
-        ensures ok { IfOk result (λ n. self.new ≡ record self.old { bytes = self.old.bytes ++ take n buf.now; room = self.old.room - n; calls = one_more self.old.calls }) }
+        ensures ok { IfOk result (λ n. self.new ≡ record self.old {
+          bytes = self.old.bytes ++ take n buf.now;
+          room = self.old.room - n;
+          calls = one_more self.old.calls;
+        }) }
         ensures err { OnErr result (self.new ≡ record self.old { calls = one_more self.old.calls; faults = one_more self.old.faults }) }
     {
         self.calls = self.calls.saturating_add(1);

@@ -48,7 +48,8 @@ impl MemSource {
         failing: &[u32],
     ) -> Result<MemSource, AllocError>
         requires { 0 < piece }
-        ensures { IfOk result (λ source. source ≡ record { left = bytes.now; piece = piece; failing = failing.now; calls = 0; faults = 0 }) }
+        ensures { IfOk result
+            (λ source. source ≡ record { left = bytes.now; piece = piece; failing = failing.now; calls = 0; faults = 0 }) }
     {
         Ok(MemSource {
             bytes: bytes.to_vec(alloc)?,

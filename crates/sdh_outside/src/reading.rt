@@ -64,7 +64,8 @@ pub fn read_all<R: Source>(alloc: Global, source: &mut R) -> Result<Vec<u8>, Rea
     ensures memory { IsErrOf result ReadAllError.Memory → source.new ≡ source.old }
 
     // At most `READ_MAX` bytes left and no fault: Ok, or no memory.
-    ensures complete { TellsAtMost (R.left source.old) READ_MAX → ¬ (Rose (R.faults source.old) (R.faults source.new)) → IsOk result ⊎ IsErrOf result ReadAllError.Memory }
+    ensures complete { TellsAtMost (R.left source.old) READ_MAX → ¬ (Rose (R.faults source.old) (R.faults source.new))
+        → IsOk result ⊎ IsErrOf result ReadAllError.Memory }
     ensures later { R.faults source.old ≤ R.faults source.new }
 
     // Where the count is exact: one read failed with a fault, and none with any other answer.

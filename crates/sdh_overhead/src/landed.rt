@@ -84,7 +84,8 @@ impl Landed {
         requires { frame.old.rate ≡ self.old.rate }
         ensures rate { frame.new.rate ≡ frame.old.rate }
         ensures buffer { frame.new ≡ record { rate = self.old.rate; bytes = self.old.buffer } }
-        ensures frame { (bytes : List ℕ) → self.old.landed ≡ Some bytes → frame.new ≡ record { rate = self.old.rate; bytes = scrambled (9 * n_of self.old.rate) bytes } }
+        ensures frame { (bytes : List ℕ) → self.old.landed ≡ Some bytes
+            → frame.new ≡ record { rate = self.old.rate; bytes = scrambled (9 * n_of self.old.rate) bytes } }
         ensures none { self.new ≡ emptied self.old.rate frame.old.bytes }
     {
         prove!(frame.bytes().len() == 2430 * frame.rate().n());
@@ -118,8 +119,10 @@ impl Landing for Landed {
 pub fn read_landed(section: &mut Section, landed: &Landed) -> Received
     requires rate { landed.now.rate ≡ section.old.rate }
     requires landed { landed.now.landed ≢ None }
-    ensures result { (bytes : List ℕ) → landed.now.landed ≡ Some bytes → result ≡ received_in (n_of section.old.rate) section.old.last bytes }
-    ensures section { (bytes : List ℕ) → landed.now.landed ≡ Some bytes → section.new ≡ holding section.old.rate (kept_after (n_of section.old.rate) bytes) }
+    ensures result { (bytes : List ℕ) → landed.now.landed ≡ Some bytes
+        → result ≡ received_in (n_of section.old.rate) section.old.last bytes }
+    ensures section { (bytes : List ℕ) → landed.now.landed ≡ Some bytes
+        → section.new ≡ holding section.old.rate (kept_after (n_of section.old.rate) bytes) }
 {
     let frame = &landed.frame;
     if !is_framed(frame.rate().n(), frame.bytes()) {

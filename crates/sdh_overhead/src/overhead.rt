@@ -63,7 +63,8 @@ pub fn write_head(n: usize, row: usize, k1: u8, k2: u8, b1: u8, b2: &[u8], head:
     requires row { 1 ≤ row }
     requires b2 { length b2.now ≡ 3 * n }
     requires head { length head.old ≡ 9 * n }
-    ensures { (c : ℕ) → c < 9 * n → slice_index head.new c ≡ written (record { k1 = k1; k2 = k2; b1 = b1; b2 = b2.now }) (field_at n row (c + 1)) (slice_index head.old c) }
+    ensures { (c : ℕ) → c < 9 * n → slice_index head.new c ≡ written (record { k1 = k1; k2 = k2; b1 = b1; b2 = b2.now })
+        (field_at n row (c + 1)) (slice_index head.old c) }
 {
     match row {
         1 => write_framing(n, head),

@@ -72,7 +72,8 @@ impl Rows {
         ensures rate { self.new.clear.n ≡ n }
         ensures bytes { bytes.new ≡ scrambled_from (9 * n) ((row - 1) * (270 * n)) bytes.old }
         ensures line { (before : List ℕ) → self.old.line ≡ parity_of before → self.new.line ≡ parity_of (before ++ bytes.new) }
-        ensures clear { (before : List ℕ) → self.old.clear ≡ after_bytes n before → self.new.clear ≡ after_bytes n (before ++ drop (skipped n row) bytes.old) }
+        ensures clear { (before : List ℕ) → self.old.clear ≡ after_bytes n before
+            → self.new.clear ≡ after_bytes n (before ++ drop (skipped n row) bytes.old) }
     {
         let (head, rest) = bytes.split_at_mut(head_len(n, row));
         self.scrambler.apply(head);
@@ -96,7 +97,8 @@ impl Rows {
         ensures rate { self.new.clear.n ≡ n }
         ensures bytes { bytes.new ≡ scrambled_from (9 * n) ((row - 1) * (270 * n)) bytes.old }
         ensures line { (before : List ℕ) → self.old.line ≡ parity_of before → self.new.line ≡ parity_of (before ++ bytes.old) }
-        ensures clear { (before : List ℕ) → self.old.clear ≡ after_bytes n before → self.new.clear ≡ after_bytes n (before ++ drop (skipped n row) bytes.new) }
+        ensures clear { (before : List ℕ) → self.old.clear ≡ after_bytes n before
+            → self.new.clear ≡ after_bytes n (before ++ drop (skipped n row) bytes.new) }
         ensures k1 { self.new.k1 ≡ self.old.k1 }
         ensures k2 { self.new.k2 ≡ self.old.k2 }
         ensures b1 { self.new.b1 ≡ self.old.b1 }
@@ -127,7 +129,8 @@ impl Rows {
         ensures rate { self.new.clear.n ≡ n }
         ensures bytes { to.new ≡ scrambled_from (9 * n) ((row - 1) * (270 * n)) from.now }
         ensures line { (before : List ℕ) → self.old.line ≡ parity_of before → self.new.line ≡ parity_of (before ++ from.now) }
-        ensures clear { (before : List ℕ) → self.old.clear ≡ after_bytes n before → self.new.clear ≡ after_bytes n (before ++ drop (skipped n row) to.new) }
+        ensures clear { (before : List ℕ) → self.old.clear ≡ after_bytes n before
+            → self.new.clear ≡ after_bytes n (before ++ drop (skipped n row) to.new) }
     {
         let skip = head_len(n, row);
         let (front, back) = from.split_at(skip);

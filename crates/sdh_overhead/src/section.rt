@@ -149,7 +149,8 @@ impl Section {
         ensures next { next_of self.new.under_way ≡ row + 1 }
         ensures way { MayWrite self.new.under_way }
         ensures bytes { bytes.new ≡ scrambled_from (9 * n_of self.old.rate) ((row - 1) * (270 * n_of self.old.rate)) bytes.old }
-        ensures passed { (clear line : List ℕ) → ArePassed (n_of self.old.rate) clear line self.old.under_way → ArePassed (n_of self.old.rate) (clear ++ bytes.old) (line ++ bytes.new) self.new.under_way }
+        ensures passed { (clear line : List ℕ) → ArePassed (n_of self.old.rate) clear line self.old.under_way
+            → ArePassed (n_of self.old.rate) (clear ++ bytes.old) (line ++ bytes.new) self.new.under_way }
     {
         self.rows.send(self.rate.n(), row, bytes);
     }
@@ -158,7 +159,8 @@ impl Section {
     fn is_framed(&self, row: u16, bytes: &[u8]) -> bool
         requires next { row ≡ next_of self.now.under_way }
         requires bytes { 270 * n_of self.now.rate ≤ length bytes.now }
-        ensures { (line : List ℕ) → AreRead (n_of self.now.rate) self.now.last line self.now.under_way → result ≡ is_framed (n_of self.now.rate) (line ++ bytes.now) }
+        ensures { (line : List ℕ) → AreRead (n_of self.now.rate) self.now.last line self.now.under_way
+            → result ≡ is_framed (n_of self.now.rate) (line ++ bytes.now) }
     {
         if row == 1 {
             return is_framed(self.rate.n(), bytes);
@@ -174,7 +176,9 @@ impl Section {
         ensures last { self.new.last ≡ self.old.last }
         ensures next { next_of self.new.under_way ≡ row + 1 }
         ensures way { MayRead self.new.under_way }
-        ensures read { (line bytes : List ℕ) → AreRead (n_of self.old.rate) self.old.last line self.old.under_way → length bytes ≡ 270 * n_of self.old.rate → is_framed (n_of self.old.rate) (line ++ bytes) ≡ false → AreRead (n_of self.old.rate) self.old.last (line ++ bytes) self.new.under_way }
+        ensures read { (line bytes : List ℕ) → AreRead (n_of self.old.rate) self.old.last line self.old.under_way
+            → length bytes ≡ 270 * n_of self.old.rate → is_framed (n_of self.old.rate) (line ++ bytes) ≡ false
+            → AreRead (n_of self.old.rate) self.old.last (line ++ bytes) self.new.under_way }
     {
         self.rows.pass_over(self.rate.n(), row);
     }
@@ -189,7 +193,9 @@ impl Section {
         ensures next { next_of self.new.under_way ≡ row + 1 }
         ensures way { MayRead self.new.under_way }
         ensures bytes { bytes.new ≡ scrambled_from (9 * n_of self.old.rate) ((row - 1) * (270 * n_of self.old.rate)) bytes.old }
-        ensures read { (line : List ℕ) → AreRead (n_of self.old.rate) self.old.last line self.old.under_way → is_framed (n_of self.old.rate) (line ++ bytes.old) ≡ true → AreRead (n_of self.old.rate) self.old.last (line ++ bytes.old) self.new.under_way }
+        ensures read { (line : List ℕ) → AreRead (n_of self.old.rate) self.old.last line self.old.under_way
+            → is_framed (n_of self.old.rate) (line ++ bytes.old) ≡ true
+            → AreRead (n_of self.old.rate) self.old.last (line ++ bytes.old) self.new.under_way }
     {
         let n = self.rate.n();
         self.rows.receive(n, row, bytes);
@@ -209,7 +215,8 @@ impl Section {
     // What the rows of a framed frame said.
     fn found(&self) -> Received
         requires { next_of self.now.under_way ≡ 10 }
-        ensures { (line : List ℕ) → AreRead (n_of self.now.rate) self.now.last line self.now.under_way → is_framed (n_of self.now.rate) line ≡ true → result ≡ received_in (n_of self.now.rate) self.now.last line }
+        ensures { (line : List ℕ) → AreRead (n_of self.now.rate) self.now.last line self.now.under_way
+            → is_framed (n_of self.now.rate) line ≡ true → result ≡ received_in (n_of self.now.rate) self.now.last line }
     {
         let rows = &self.rows;
         Received::Framed {
@@ -250,7 +257,8 @@ impl Section {
     fn end(&mut self)
         ensures rate { self.new.rate ≡ self.old.rate }
         ensures under_way { self.new.under_way ≡ None }
-        ensures last { (clear line : List ℕ) → ArePassed (n_of self.old.rate) clear line self.old.under_way → self.new ≡ holding self.old.rate (Some (parities_of (n_of self.old.rate) clear line)) }
+        ensures last { (clear line : List ℕ) → ArePassed (n_of self.old.rate) clear line self.old.under_way
+            → self.new ≡ holding self.old.rate (Some (parities_of (n_of self.old.rate) clear line)) }
     {
         let n = self.rate.n();
         self.b1 = self.rows.line.value();
@@ -263,7 +271,9 @@ impl Section {
     /// section then keeps the parities of this one; an unframed frame makes it forget.
     pub fn finish_read(&mut self) -> Received
         requires { next_of self.old.under_way ≡ 10 }
-        ensures read { (line : List ℕ) → AreRead (n_of self.old.rate) self.old.last line self.old.under_way → (result ≡ received_in (n_of self.old.rate) self.old.last line) × (self.new ≡ holding self.old.rate (kept_after (n_of self.old.rate) line)) }
+        ensures read { (line : List ℕ) → AreRead (n_of self.old.rate) self.old.last line self.old.under_way
+            → (result ≡ received_in (n_of self.old.rate) self.old.last line)
+            × (self.new ≡ holding self.old.rate (kept_after (n_of self.old.rate) line)) }
         ensures rate { self.new.rate ≡ self.old.rate }
         ensures under_way { self.new.under_way ≡ None }
     {
@@ -285,8 +295,11 @@ pub fn write_row(section: &mut Section, row: u16, k1: u8, k2: u8, bytes: &mut [u
     requires way { MayWrite section.old.under_way }
     requires last { row ≤ 9 }
     requires bytes { length bytes.old ≡ 270 * n_of section.old.rate }
-    ensures bytes { bytes.new ≡ line_row (n_of section.old.rate) section.old.last k1 k2 ((row - 1) * (270 * n_of section.old.rate)) bytes.old }
-    ensures section { (first : SectionKept) (clear line : List ℕ) → HasSent first clear line section.old → HasSent first (clear ++ clear_row (n_of section.old.rate) section.old.last k1 k2 ((row - 1) * (270 * n_of section.old.rate)) bytes.old) (line ++ bytes.new) section.new }
+    ensures bytes { bytes.new ≡ line_row (n_of section.old.rate) section.old.last k1 k2
+        ((row - 1) * (270 * n_of section.old.rate)) bytes.old }
+    ensures section { (first : SectionKept) (clear line : List ℕ) → HasSent first clear line section.old → HasSent first
+        (clear ++ clear_row (n_of section.old.rate) section.old.last k1 k2 ((row - 1) * (270 * n_of section.old.rate)) bytes.old)
+        (line ++ bytes.new) section.new }
     ensures rate { section.new.rate ≡ section.old.rate }
     ensures next { row < 9 → next_of section.new.under_way ≡ row + 1 }
     ensures way { MayWrite section.new.under_way }
@@ -305,7 +318,8 @@ fn write_rows(section: &mut Section, k1: u8, k2: u8, bytes: &mut [u8])
     requires fresh { section.old.under_way ≡ None }
     requires bytes { length bytes.old ≡ size_of section.old.rate }
     ensures bytes { bytes.new ≡ line_frame (n_of section.old.rate) section.old.last k1 k2 bytes.old }
-    ensures section { section.new ≡ holding section.old.rate (Some (parities_of (n_of section.old.rate) (clear_frame (n_of section.old.rate) section.old.last k1 k2 bytes.old) bytes.new)) }
+    ensures section { section.new ≡ holding section.old.rate
+        (Some (parities_of (n_of section.old.rate) (clear_frame (n_of section.old.rate) section.old.last k1 k2 bytes.old) bytes.new)) }
 {
     let width = 270 * section.rate.n();
     for row in 1..10 {
@@ -319,7 +333,8 @@ fn write_rows(section: &mut Section, k1: u8, k2: u8, bytes: &mut [u8])
 pub fn write_section(section: &mut Section, k1: u8, k2: u8, frame: &mut FrameBuf)
     requires { frame.old.rate ≡ section.old.rate }
     ensures frame { frame.new ≡ record frame.old { bytes = line_frame (n_of section.old.rate) section.old.last k1 k2 frame.old.bytes } }
-    ensures section { section.new ≡ holding section.old.rate (Some (parities_of (n_of section.old.rate) (clear_frame (n_of section.old.rate) section.old.last k1 k2 frame.old.bytes) frame.new.bytes)) }
+    ensures section { section.new ≡ holding section.old.rate (Some (parities_of (n_of section.old.rate)
+        (clear_frame (n_of section.old.rate) section.old.last k1 k2 frame.old.bytes) frame.new.bytes)) }
     ensures whole { AreParities (n_of section.old.rate) section.old.last }
 {
     section.parities_are_whole();
@@ -334,8 +349,10 @@ pub fn read_row(section: &mut Section, row: u16, bytes: &mut [u8])
     requires way { MayRead section.old.under_way }
     requires last { row ≤ 9 }
     requires bytes { length bytes.old ≡ 270 * n_of section.old.rate }
-    ensures bytes { (line : List ℕ) → AreRead (n_of section.old.rate) section.old.last line section.old.under_way → bytes.new ≡ opened_row (n_of section.old.rate) line bytes.old }
-    ensures read { (line : List ℕ) → AreRead (n_of section.old.rate) section.old.last line section.old.under_way → AreRead (n_of section.old.rate) section.old.last (line ++ bytes.old) section.new.under_way }
+    ensures bytes { (line : List ℕ) → AreRead (n_of section.old.rate) section.old.last line section.old.under_way
+        → bytes.new ≡ opened_row (n_of section.old.rate) line bytes.old }
+    ensures read { (line : List ℕ) → AreRead (n_of section.old.rate) section.old.last line section.old.under_way
+        → AreRead (n_of section.old.rate) section.old.last (line ++ bytes.old) section.new.under_way }
     ensures rate { section.new.rate ≡ section.old.rate }
     ensures last { section.new.last ≡ section.old.last }
     ensures next { next_of section.new.under_way ≡ row + 1 }

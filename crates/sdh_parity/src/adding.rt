@@ -84,7 +84,8 @@ fn add_bytes(width: usize, next: usize, sums: &mut [u8], bytes: &[u8]) -> usize
     requires next { next < width }
     requires sums { length sums.old ≡ 48 }
     ensures small { result < width }
-    ensures each { (before : List ℕ) → next ≡ length before % width → HasLanes width before sums.old → (result ≡ length (before ++ bytes.now) % width) × HasLanes width (before ++ bytes.now) sums.new }
+    ensures each { (before : List ℕ) → next ≡ length before % width → HasLanes width before sums.old
+        → (result ≡ length (before ++ bytes.now) % width) × HasLanes width (before ++ bytes.now) sums.new }
 {
     let mut lane = next;
     for i in 0..bytes.len() {
@@ -114,7 +115,8 @@ pub fn add_piece(n: usize, next: usize, sums: &mut [u8], bytes: &[u8]) -> usize
     requires next { next < 3 * n }
     requires sums { length sums.old ≡ 48 }
     ensures small { result < 3 * n }
-    ensures each { (before : List ℕ) → next ≡ length before % (3 * n) → HasLanes (3 * n) before sums.old → (result ≡ length (before ++ bytes.now) % (3 * n)) × HasLanes (3 * n) (before ++ bytes.now) sums.new }
+    ensures each { (before : List ℕ) → next ≡ length before % (3 * n) → HasLanes (3 * n) before sums.old
+        → (result ≡ length (before ++ bytes.now) % (3 * n)) × HasLanes (3 * n) (before ++ bytes.now) sums.new }
 {
     let width = 3 * n;
     if next > 0 {
@@ -130,7 +132,9 @@ pub fn add_piece(n: usize, next: usize, sums: &mut [u8], bytes: &[u8]) -> usize
 fn add_folded(sums: &mut [u8], lanes: &[u8])
     requires sums { length sums.old ≡ 48 }
     requires lanes { length lanes.now ≡ 48 }
-    ensures { (j : ℕ) → j < 12 → slice_index sums.new j ≡ bit_xor (slice_index sums.old j) (bit_xor (bit_xor (bit_xor (slice_index lanes.now j) (slice_index lanes.now (12 + j))) (slice_index lanes.now (24 + j))) (slice_index lanes.now (36 + j))) }
+    ensures { (j : ℕ) → j < 12 → slice_index sums.new j ≡ bit_xor (slice_index sums.old j)
+        (bit_xor (bit_xor (bit_xor (slice_index lanes.now j) (slice_index lanes.now (12 + j))) (slice_index lanes.now (24 + j)))
+        (slice_index lanes.now (36 + j))) }
 {
     for i in 0..12 {
         sums[i] ^= lanes[i] ^ lanes[12 + i] ^ lanes[24 + i] ^ lanes[36 + i];
@@ -142,7 +146,8 @@ pub fn add_lanes(n: usize, sums: &mut [u8], lanes: &[u8])
     requires rate { (n ≡ 4) ⊎ (n ≡ 16) }
     requires sums { length sums.old ≡ 48 }
     requires lanes { length lanes.now ≡ 48 }
-    ensures { (before bytes : List ℕ) → 0 ≡ length before % (3 * n) → HasLanes (3 * n) before sums.old → HasLanes 48 bytes lanes.now → ((i : ℕ) → slice_index bytes i < 2 ^ 8) → HasLanes (3 * n) (before ++ bytes) sums.new }
+    ensures { (before bytes : List ℕ) → 0 ≡ length before % (3 * n) → HasLanes (3 * n) before sums.old → HasLanes 48 bytes lanes.now
+        → ((i : ℕ) → slice_index bytes i < 2 ^ 8) → HasLanes (3 * n) (before ++ bytes) sums.new }
 {
     if n == 4 {
         add_folded(sums, lanes);

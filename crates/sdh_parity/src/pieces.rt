@@ -175,7 +175,8 @@ impl Bip8 {
 
     // Adds the next piece by its parity.
     fn add_parity(&mut self, parity: u8)
-        ensures { (before bytes : List ℕ) → self.old ≡ parity_of before → parity ≡ parity_of bytes → self.new ≡ parity_of (before ++ bytes) }
+        ensures { (before bytes : List ℕ) → self.old ≡ parity_of before → parity ≡ parity_of bytes
+            → self.new ≡ parity_of (before ++ bytes) }
     {
         self.value ^= parity;
     }
@@ -223,7 +224,8 @@ impl BipSection {
 
     /// Adds the next piece.
     pub fn add(&mut self, bytes: &[u8])
-        ensures each { (before : List ℕ) → self.old ≡ after_bytes self.old.n before → self.new ≡ after_bytes self.old.n (before ++ bytes.now) }
+        ensures each { (before : List ℕ) → self.old ≡ after_bytes self.old.n before
+            → self.new ≡ after_bytes self.old.n (before ++ bytes.now) }
         ensures rate { self.new.n ≡ self.old.n }
     {
         self.next = add_piece(self.n, self.next, &mut self.sums, bytes);
@@ -240,7 +242,8 @@ impl BipSection {
     fn add_lanes(&mut self, len: usize, lanes: &[u8; 48])
         requires whole { self.old.next ≡ 0 }
         requires lanes { length lanes.now ≡ 48 }
-        ensures each { (before bytes : List ℕ) → self.old ≡ after_bytes self.old.n before → length bytes ≡ len → HasLanes 48 bytes lanes.now → ((i : ℕ) → slice_index bytes i < 2 ^ 8) → self.new ≡ after_bytes self.old.n (before ++ bytes) }
+        ensures each { (before bytes : List ℕ) → self.old ≡ after_bytes self.old.n before → length bytes ≡ len → HasLanes 48 bytes lanes.now
+            → ((i : ℕ) → slice_index bytes i < 2 ^ 8) → self.new ≡ after_bytes self.old.n (before ++ bytes) }
         ensures rate { self.new.n ≡ self.old.n }
     {
         add_lanes(self.n, &mut self.sums, lanes);
@@ -267,7 +270,8 @@ pub fn send_piece(
     requires { scrambler.old.at + length bytes.old ≤ 38880 }
     ensures bytes { bytes.new ≡ scrambled_from scrambler.old.clear scrambler.old.at bytes.old }
     ensures at { scrambler.new ≡ record scrambler.old { at = scrambler.old.at + length bytes.old } }
-    ensures clear { (before : List ℕ) → clear.old ≡ after_bytes clear.old.n before → clear.new ≡ after_bytes clear.old.n (before ++ bytes.old) }
+    ensures clear { (before : List ℕ) → clear.old ≡ after_bytes clear.old.n before
+        → clear.new ≡ after_bytes clear.old.n (before ++ bytes.old) }
     ensures rate { clear.new.n ≡ clear.old.n }
     ensures line { (before : List ℕ) → line.old ≡ parity_of before → line.new ≡ parity_of (before ++ bytes.new) }
 {
@@ -294,7 +298,8 @@ pub fn receive_piece(
     ensures bytes { bytes.new ≡ scrambled_from scrambler.old.clear scrambler.old.at bytes.old }
     ensures at { scrambler.new ≡ record scrambler.old { at = scrambler.old.at + length bytes.old } }
     ensures line { (before : List ℕ) → line.old ≡ parity_of before → line.new ≡ parity_of (before ++ bytes.old) }
-    ensures clear { (before : List ℕ) → clear.old ≡ after_bytes clear.old.n before → clear.new ≡ after_bytes clear.old.n (before ++ bytes.new) }
+    ensures clear { (before : List ℕ) → clear.old ≡ after_bytes clear.old.n before
+        → clear.new ≡ after_bytes clear.old.n (before ++ bytes.new) }
     ensures rate { clear.new.n ≡ clear.old.n }
 {
     if !(scrambler.is_behind() && clear.is_whole()) {
@@ -322,7 +327,8 @@ pub fn open_piece(
     ensures bytes { to.new ≡ scrambled_from scrambler.old.clear scrambler.old.at from.now }
     ensures at { scrambler.new ≡ record scrambler.old { at = scrambler.old.at + length from.now } }
     ensures line { (before : List ℕ) → line.old ≡ parity_of before → line.new ≡ parity_of (before ++ from.now) }
-    ensures clear { (before : List ℕ) → clear.old ≡ after_bytes clear.old.n before → clear.new ≡ after_bytes clear.old.n (before ++ to.new) }
+    ensures clear { (before : List ℕ) → clear.old ≡ after_bytes clear.old.n before
+        → clear.new ≡ after_bytes clear.old.n (before ++ to.new) }
     ensures rate { clear.new.n ≡ clear.old.n }
 {
     if !(scrambler.is_behind() && clear.is_whole()) {

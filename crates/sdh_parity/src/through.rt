@@ -32,7 +32,8 @@ fn step(bytes: &mut [u8], i: usize, k: usize, sum: u8x16, clear_after: bool) -> 
     ensures inside { (j : ℕ) → j < 16 → slice_index bytes.new (i + j) ≡ bit_xor (slice_index bytes.old (i + j)) (scrambling_byte (k + j)) }
     ensures above { (m : ℕ) → i + 16 ≤ m → slice_index bytes.new m ≡ slice_index bytes.old m }
     ensures long { length result ≡ 16 }
-    ensures sum { (j : ℕ) → j < 16 → slice_index result j ≡ bit_xor (slice_index sum j) (slice_index (if clear_after then bytes.new else bytes.old) (i + j)) }
+    ensures sum { (j : ℕ) → j < 16
+        → slice_index result j ≡ bit_xor (slice_index sum j) (slice_index (if clear_after then bytes.new else bytes.old) (i + j)) }
 {
     let old = u8x16::from_slice(&bytes[i..]);
     let new = keyed(old, k);
@@ -84,8 +85,10 @@ fn mix(bytes: &mut [u8], at: usize, rows: usize, clear_after: bool) -> Sums
     requires rows { length bytes.old ≡ 48 * rows }
     ensures bytes { (i : ℕ) → i < 48 * rows → slice_index bytes.new i ≡ bit_xor (slice_index bytes.old i) (scrambling_byte (at + i)) }
     ensures a { (j : ℕ) → j < 16 → slice_index result.a j ≡ parity_of (every j 48 rows (if clear_after then bytes.new else bytes.old)) }
-    ensures b { (j : ℕ) → j < 16 → slice_index result.b j ≡ parity_of (every (16 + j) 48 rows (if clear_after then bytes.new else bytes.old)) }
-    ensures c { (j : ℕ) → j < 16 → slice_index result.c j ≡ parity_of (every (32 + j) 48 rows (if clear_after then bytes.new else bytes.old)) }
+    ensures b { (j : ℕ) → j < 16
+        → slice_index result.b j ≡ parity_of (every (16 + j) 48 rows (if clear_after then bytes.new else bytes.old)) }
+    ensures c { (j : ℕ) → j < 16
+        → slice_index result.c j ≡ parity_of (every (32 + j) 48 rows (if clear_after then bytes.new else bytes.old)) }
     ensures longs { (length result.a ≡ 16) × (length result.b ≡ 16) × (length result.c ≡ 16) }
 {
     let none = u8x16::splat(0);
@@ -174,7 +177,8 @@ fn pass_part(bytes: &mut [u8], len: usize, k: usize, lanes: &mut [u8], clear_aft
     requires key { k + len ≤ 1064 }
     requires lanes { length lanes.old ≡ 48 }
     ensures bytes { (i : ℕ) → i < len → slice_index bytes.new i ≡ bit_xor (slice_index bytes.old i) (scrambling_byte (k + i)) }
-    ensures lanes { (j : ℕ) → j < len → slice_index lanes.new j ≡ bit_xor (slice_index lanes.old j) (slice_index (if clear_after then bytes.new else bytes.old) j) }
+    ensures lanes { (j : ℕ) → j < len
+        → slice_index lanes.new j ≡ bit_xor (slice_index lanes.old j) (slice_index (if clear_after then bytes.new else bytes.old) j) }
     ensures rest { (j : ℕ) → len ≤ j → slice_index lanes.new j ≡ slice_index lanes.old j }
 {
     if clear_after {
@@ -193,7 +197,8 @@ fn pass_rest(bytes: &mut [u8], k: usize, lanes: &mut [u8], clear_after: bool)
     requires key { k + length bytes.old ≤ 1064 }
     requires lanes { length lanes.old ≡ 48 }
     ensures bytes { (i : ℕ) → i < length bytes.old → slice_index bytes.new i ≡ bit_xor (slice_index bytes.old i) (scrambling_byte (k + i)) }
-    ensures lanes { (j : ℕ) → j < length bytes.old → slice_index lanes.new j ≡ bit_xor (slice_index lanes.old j) (slice_index (if clear_after then bytes.new else bytes.old) j) }
+    ensures lanes { (j : ℕ) → j < length bytes.old
+        → slice_index lanes.new j ≡ bit_xor (slice_index lanes.old j) (slice_index (if clear_after then bytes.new else bytes.old) j) }
     ensures rest { (j : ℕ) → length bytes.old ≤ j → slice_index lanes.new j ≡ slice_index lanes.old j }
 {
     match bytes.len() {
@@ -214,7 +219,8 @@ pub struct Passed {
 #[inline(always)]
 pub fn pass(bytes: &mut [u8], at: usize, clear_after: bool) -> Passed
     requires { at + length bytes.old ≤ 38880 }
-    ensures bytes { (i : ℕ) → i < length bytes.old → slice_index bytes.new i ≡ bit_xor (slice_index bytes.old i) (scrambling_byte (at + i)) }
+    ensures bytes { (i : ℕ) → i < length bytes.old
+        → slice_index bytes.new i ≡ bit_xor (slice_index bytes.old i) (scrambling_byte (at + i)) }
     ensures lanes { HasLanes 48 (if clear_after then bytes.new else bytes.old) result.lanes }
     ensures long { length result.lanes ≡ 48 }
     ensures line { result.line ≡ parity_of (if clear_after then bytes.old else bytes.new) }

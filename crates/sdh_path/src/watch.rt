@@ -129,7 +129,8 @@ impl Watch {
         requires bytes { length bytes.now ≡ 2349 }
         requires value { value ≤ 782 }
         requires few { self.old.chunks < 1000000 }
-        ensures history { (trace : List ℕ) (past : List Given) → CameBy trace past self.old → CameBy trace (Chunk bytes.now value ∷ past) self.new }
+        ensures history { (trace : List ℕ) (past : List Given) → CameBy trace past self.old
+            → CameBy trace (Chunk bytes.now value ∷ past) self.new }
         ensures count { self.new.chunks ≤ self.old.chunks + 1 }
     {
         let goes_on = self.goes_on(value);

@@ -38,7 +38,8 @@ impl Model for Clock {
 
     ghost view = { λ c. record { rounds = c.rounds; ups = c.ups; downs = c.downs; rest = c.rest; sent = c.sent; value = c.value; form = c.form } };
 
-    ghost invariant = { λ c. IsKept (record { rounds = c.rounds; ups = c.ups; downs = c.downs; rest = c.rest; sent = c.sent; value = c.value; form = c.form }) };
+    ghost invariant = { λ c. IsKept
+        (record { rounds = c.rounds; ups = c.ups; downs = c.downs; rest = c.rest; sent = c.sent; value = c.value; form = c.form }) };
 }
 
 impl Clock {

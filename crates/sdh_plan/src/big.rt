@@ -111,7 +111,8 @@ fn add_stretch(
     requires at { stretch.at < 16 }
     requires spans { stretch.spans < 16 }
     requires passes { refusal circuits.old ring.now (wish_laid stretch.slot stretch.number stretch.at stretch.spans draws.old) ≡ None }
-    ensures added { OnOk result (circuits.new ≡ with_circuit circuits.old ring.now (laid_circuit stretch.slot stretch.number stretch.at stretch.spans draws.old)) }
+    ensures added { OnOk result
+        (circuits.new ≡ with_circuit circuits.old ring.now (laid_circuit stretch.slot stretch.number stretch.at stretch.spans draws.old)) }
     ensures draws { draws.new ≡ next (next draws.old) }
 {
     let offset_a = draws.draw() % 783;

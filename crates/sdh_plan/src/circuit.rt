@@ -118,8 +118,10 @@ fn add_table(
 ) -> Result<(), PlanError>
     requires { IfSome circuits.old.ring (λ kept. kept ≡ ring.now) }
     ensures added { OnOk result (circuits.new ≡ with_circuit circuits.old ring.now (circuit_of_table ring.now (table_view table.now))) }
-    ensures passed { OnOk result (first_fault (circuit_faults circuits.old.slots ring.now circuits.old.circuits (table_view table.now)) ≡ None) }
-    ensures refused { IfErr result (IsRefused (refusal_at place (first_fault (circuit_faults circuits.old.slots ring.now circuits.old.circuits (table_view table.now))))) }
+    ensures passed { OnOk result
+        (first_fault (circuit_faults circuits.old.slots ring.now circuits.old.circuits (table_view table.now)) ≡ None) }
+    ensures refused { IfErr result (IsRefused
+        (refusal_at place (first_fault (circuit_faults circuits.old.slots ring.now circuits.old.circuits (table_view table.now))))) }
 {
     if !has_circuit_keys(table) {
         return Err(PlanError::BadPlan {
@@ -148,9 +150,12 @@ fn add_circuit(
     place: u32,
 ) -> Result<(), PlanError>
     requires { IfSome circuits.old.ring (λ kept. kept ≡ ring.now) }
-    ensures added { OnOk result (circuits.new ≡ with_circuit circuits.old ring.now (circuit_of_table ring.now (members_of (view value.now)))) }
-    ensures passed { OnOk result (first_fault (circuit_faults circuits.old.slots ring.now circuits.old.circuits (members_of (view value.now))) ≡ None) }
-    ensures refused { IfErr result (IsRefused (refusal_at place (first_fault (circuit_faults circuits.old.slots ring.now circuits.old.circuits (members_of (view value.now)))))) }
+    ensures added { OnOk result
+        (circuits.new ≡ with_circuit circuits.old ring.now (circuit_of_table ring.now (members_of (view value.now)))) }
+    ensures passed { OnOk result
+        (first_fault (circuit_faults circuits.old.slots ring.now circuits.old.circuits (members_of (view value.now))) ≡ None) }
+    ensures refused { IfErr result (IsRefused
+        (refusal_at place (first_fault (circuit_faults circuits.old.slots ring.now circuits.old.circuits (members_of (view value.now)))))) }
 {
     match value.as_table() {
         Some(table) => add_table(circuits, ring, table, place),
@@ -175,7 +180,8 @@ pub fn circuits_of(
     rate: Rate,
     values: &[Value],
 ) -> Result<CircuitMap, PlanError>
-    ensures circuits { IfOk result (λ circuits. circuits ≡ provisioned (n_of rate / 2) ring.now (map (λ d. circuit_of_table ring.now (members_of d)) (map view values.now))) }
+    ensures circuits { IfOk result (λ circuits. circuits ≡ provisioned (n_of rate / 2) ring.now
+        (map (λ d. circuit_of_table ring.now (members_of d)) (map view values.now))) }
     ensures passed { OnOk result (answer (circuits_checks (n_of rate / 2) ring.now [] 1 (map view values.now)) ≡ None) }
     ensures refused { IfErr result (IsRefused (answer (circuits_checks (n_of rate / 2) ring.now [] 1 (map view values.now)))) }
 {
@@ -210,7 +216,8 @@ pub fn circuits_under(
     ring: &RingMap,
     rate: Rate,
 ) -> Result<CircuitMap, PlanError>
-    ensures circuits { IfOk result (λ circuits. circuits ≡ provisioned (n_of rate / 2) ring.now (circuits_in ring.now (table_view table.now))) }
+    ensures circuits { IfOk result
+        (λ circuits. circuits ≡ provisioned (n_of rate / 2) ring.now (circuits_in ring.now (table_view table.now))) }
     ensures passed { OnOk result (answer (provision_checks (n_of rate) ring.now (table_view table.now)) ≡ None) }
     ensures refused { IfErr result (IsRefused (answer (provision_checks (n_of rate) ring.now (table_view table.now)))) }
 {

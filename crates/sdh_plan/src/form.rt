@@ -84,7 +84,8 @@ fn turn_at(word: &[u8]) -> Option<Turn>
 // The position of the node and the side that the words name, or the reason of the first check that fails.
 fn node_and_side(ring: &RingMap, node: &[u8], side: &[u8]) -> Result<(Pos, Side), Reason>
     ensures both { IfOk result (λ both. (node_identified ring.now node.now ≡ Some both.0) × (side_at side.now ≡ Some both.1)) }
-    ensures reason { IfErr result (λ reason. first_fault ((Reason.StepNode, is_none (node_identified ring.now node.now)) ∷ (Reason.StepSide, is_none (side_at side.now)) ∷ []) ≡ Some reason) }
+    ensures reason { IfErr result (λ reason. first_fault ((Reason.StepNode, is_none (node_identified ring.now node.now))
+        ∷ (Reason.StepSide, is_none (side_at side.now)) ∷ []) ≡ Some reason) }
 {
     let Some(at) = node_at(ring, node) else {
         return Err(Reason::StepNode);
@@ -98,7 +99,8 @@ fn node_and_side(ring: &RingMap, node: &[u8], side: &[u8]) -> Result<(Pos, Side)
 // The fibre that the words name comes into the condition.
 #[tactic(auto, unfolding(crate::specs::Steps::part_faults))]
 fn fibre(ring: &RingMap, others: &[&[u8]], condition: Condition) -> Result<Step, Reason>
-    ensures { result ≡ unless (first_fault (part_faults ring.now (node ∷ side ∷ []) (map (λ word. word.now) others.now))) (fibre_step ring.now (map (λ word. word.now) others.now) condition) }
+    ensures { result ≡ unless (first_fault (part_faults ring.now (node ∷ side ∷ []) (map (λ word. word.now) others.now)))
+        (fibre_step ring.now (map (λ word. word.now) others.now) condition) }
 {
     let [node, side] = others else {
         return Err(Reason::StepForm);
@@ -114,7 +116,10 @@ fn fibre(ring: &RingMap, others: &[&[u8]], condition: Condition) -> Result<Step,
 // The fibre that the words name is degraded, at most by 3N.
 #[tactic(auto, unfolding(crate::specs::Steps::part_faults))]
 fn degrade(ring: &RingMap, rate: Rate, others: &[&[u8]]) -> Result<Step, Reason>
-    ensures { result ≡ unless (first_fault (part_faults ring.now (node ∷ side ∷ number 1 (3 * n_of rate) ∷ []) (map (λ word. word.now) others.now))) (fibre_step ring.now (map (λ word. word.now) others.now) (Condition.Degraded (number_in_word 1 (3 * n_of rate) (word_at (map (λ word. word.now) others.now) 2)))) }
+    ensures { result ≡ unless
+        (first_fault (part_faults ring.now (node ∷ side ∷ number 1 (3 * n_of rate) ∷ []) (map (λ word. word.now) others.now)))
+        (fibre_step ring.now (map (λ word. word.now) others.now)
+        (Condition.Degraded (number_in_word 1 (3 * n_of rate) (word_at (map (λ word. word.now) others.now) 2)))) }
 {
     let [node, side, number] = others else {
         return Err(Reason::StepForm);
@@ -133,7 +138,8 @@ fn degrade(ring: &RingMap, rate: Rate, others: &[&[u8]]) -> Result<Step, Reason>
 // The side that the words name gets the command.
 #[tactic(auto, unfolding(crate::specs::Steps::part_faults))]
 fn order(ring: &RingMap, others: &[&[u8]], command: Command) -> Result<Step, Reason>
-    ensures { result ≡ unless (first_fault (part_faults ring.now (node ∷ side ∷ []) (map (λ word. word.now) others.now))) (order_step ring.now (map (λ word. word.now) others.now) command) }
+    ensures { result ≡ unless (first_fault (part_faults ring.now (node ∷ side ∷ []) (map (λ word. word.now) others.now)))
+        (order_step ring.now (map (λ word. word.now) others.now) command) }
 {
     let [node, side] = others else {
         return Err(Reason::StepForm);
@@ -145,7 +151,8 @@ fn order(ring: &RingMap, others: &[&[u8]], command: Command) -> Result<Step, Rea
 // The present moment is the one that the word tells.
 #[tactic(auto, unfolding(crate::specs::Steps::part_faults))]
 fn moment(ring: &RingMap, others: &[&[u8]]) -> Result<Step, Reason>
-    ensures { result ≡ unless (first_fault (part_faults ring.now (number 0 1000000000 ∷ []) (map (λ word. word.now) others.now))) (Step.Moment (record { 0 = number_in_word 0 1000000000 (word_at (map (λ word. word.now) others.now) 0) })) }
+    ensures { result ≡ unless (first_fault (part_faults ring.now (number 0 1000000000 ∷ []) (map (λ word. word.now) others.now)))
+        (Step.Moment (record { 0 = number_in_word 0 1000000000 (word_at (map (λ word. word.now) others.now) 0) })) }
 {
     let [number] = others else {
         return Err(Reason::StepForm);
@@ -159,7 +166,9 @@ fn moment(ring: &RingMap, others: &[&[u8]]) -> Result<Step, Reason>
 // The controller of the node misses so many of the next rounds.
 #[tactic(auto, unfolding(crate::specs::Steps::part_faults))]
 fn hold(ring: &RingMap, others: &[&[u8]]) -> Result<Step, Reason>
-    ensures { result ≡ unless (first_fault (part_faults ring.now (node ∷ number 1 100 ∷ []) (map (λ word. word.now) others.now))) (Step.Hold (position_in_words ring.now (map (λ word. word.now) others.now)) (number_in_word 1 100 (word_at (map (λ word. word.now) others.now) 1))) }
+    ensures { result ≡ unless (first_fault (part_faults ring.now (node ∷ number 1 100 ∷ []) (map (λ word. word.now) others.now)))
+        (Step.Hold (position_in_words ring.now (map (λ word. word.now) others.now))
+        (number_in_word 1 100 (word_at (map (λ word. word.now) others.now) 1))) }
 {
     let [node, turns] = others else {
         return Err(Reason::StepForm);
@@ -176,7 +185,9 @@ fn hold(ring: &RingMap, others: &[&[u8]]) -> Result<Step, Reason>
 // The clock of the port that the words name slips so many times more.
 #[tactic(auto, unfolding(crate::specs::Steps::part_faults))]
 fn slip(ring: &RingMap, circuits: &CircuitMap, others: &[&[u8]]) -> Result<Step, Reason>
-    ensures { result ≡ unless (first_fault (part_faults ring.now (circuit circuits.now.circuits ∷ end ∷ turn ∷ number 1 16 ∷ []) (map (λ word. word.now) others.now))) (Step.Slip (port_in_words circuits.now.circuits (map (λ word. word.now) others.now)) (turn_in_words (map (λ word. word.now) others.now)) (number_in_word 1 16 (word_at (map (λ word. word.now) others.now) 3))) }
+    ensures { result ≡ unless (first_fault (part_faults ring.now (circuit circuits.now.circuits ∷ end ∷ turn ∷ number 1 16 ∷ [])
+        (map (λ word. word.now) others.now))) (Step.Slip (port_in_words circuits.now.circuits (map (λ word. word.now) others.now))
+        (turn_in_words (map (λ word. word.now) others.now)) (number_in_word 1 16 (word_at (map (λ word. word.now) others.now) 3))) }
 {
     let [name, end, turn, count] = others else {
         return Err(Reason::StepForm);
@@ -216,7 +227,9 @@ fn told(
     first: &[u8],
     others: &[&[u8]],
 ) -> Result<Step, Reason>
-    ensures { result ≡ unless (first_fault (verb_faults (n_of rate) ring.now circuits.now.circuits (verb_of first.now) (map (λ word. word.now) others.now))) (told_step (n_of rate) ring.now circuits.now.circuits (verb_of first.now) (map (λ word. word.now) others.now)) }
+    ensures { result ≡ unless
+        (first_fault (verb_faults (n_of rate) ring.now circuits.now.circuits (verb_of first.now) (map (λ word. word.now) others.now)))
+        (told_step (n_of rate) ring.now circuits.now.circuits (verb_of first.now) (map (λ word. word.now) others.now)) }
 {
     if is_word(first, "cut") {
         fibre(ring, others, Condition::Cut)
@@ -252,7 +265,8 @@ fn step_in(
     words: &[&[u8]],
 ) -> Result<Step, Reason>
     requires { list_any is_empty (map (λ word. word.now) words.now) ≡ false }
-    ensures { result ≡ unless (first_fault (form_faults (n_of rate) ring.now circuits.now.circuits (map (λ word. word.now) words.now))) (form_step (n_of rate) ring.now circuits.now.circuits (map (λ word. word.now) words.now)) }
+    ensures { result ≡ unless (first_fault (form_faults (n_of rate) ring.now circuits.now.circuits (map (λ word. word.now) words.now)))
+        (form_step (n_of rate) ring.now circuits.now.circuits (map (λ word. word.now) words.now)) }
 {
     let [first, others @ ..] = words else {
         return Err(Reason::StepForm);
@@ -267,7 +281,8 @@ pub fn step_of(
     rate: Rate,
     text: &[u8],
 ) -> Result<Step, Reason>
-    ensures { result ≡ unless (first_fault (form_faults (n_of rate) ring.now circuits.now.circuits (words text.now))) (form_step (n_of rate) ring.now circuits.now.circuits (words text.now)) }
+    ensures { result ≡ unless (first_fault (form_faults (n_of rate) ring.now circuits.now.circuits (words text.now)))
+        (form_step (n_of rate) ring.now circuits.now.circuits (words text.now)) }
 {
     match words_of(text) {
         Some(words) => step_in(ring, circuits, rate, &words),

@@ -27,7 +27,8 @@ impl Model for Plan {
 
     ghost view = { λ p. planned p.settings p.limit p.ring p.circuits p.steps.items };
 
-    ghost invariant = { λ p. IsPlanned (planned p.settings p.limit p.ring p.circuits p.steps.items) × (p.circuits ≡ provisioning_of (planned p.settings p.limit p.ring p.circuits p.steps.items)) };
+    ghost invariant = { λ p. IsPlanned (planned p.settings p.limit p.ring p.circuits p.steps.items)
+        × (p.circuits ≡ provisioning_of (planned p.settings p.limit p.ring p.circuits p.steps.items)) };
 }
 
 impl Plan {

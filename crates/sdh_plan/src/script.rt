@@ -31,7 +31,8 @@ fn next_step(
     past: &mut Past,
     text: &[u8],
 ) -> Result<Step, Reason>
-    ensures step { result ≡ unless (first_fault (step_faults (n_of rate) ring.now circuits.now.circuits (past_in past.old) text.now)) (step_of (n_of rate) ring.now circuits.now.circuits text.now) }
+    ensures step { result ≡ unless (first_fault (step_faults (n_of rate) ring.now circuits.now.circuits (past_in past.old) text.now))
+        (step_of (n_of rate) ring.now circuits.now.circuits text.now) }
     ensures past { OnOk result (past_in past.new ≡ after (past_in past.old) (step_of (n_of rate) ring.now circuits.now.circuits text.now)) }
 {
     let step = step_of(ring, circuits, rate, text)?;
@@ -48,9 +49,12 @@ pub fn steps_of(
     values: &[Value],
 ) -> Result<Vec<Step>, PlanError>
     requires { length values.now ≤ 1000 }
-    ensures steps { IfOk result (λ steps. steps.items ≡ map (λ d. step_of (n_of rate) ring.now circuits.now.circuits (string_of d)) (map view values.now)) }
-    ensures passed { OnOk result (answer (steps_checks (n_of rate) ring.now circuits.now.circuits new_past 1 (map view values.now)) ≡ None) }
-    ensures refused { IfErr result (IsRefused (answer (steps_checks (n_of rate) ring.now circuits.now.circuits new_past 1 (map view values.now)))) }
+    ensures steps { IfOk result
+        (λ steps. steps.items ≡ map (λ d. step_of (n_of rate) ring.now circuits.now.circuits (string_of d)) (map view values.now)) }
+    ensures passed { OnOk result
+        (answer (steps_checks (n_of rate) ring.now circuits.now.circuits new_past 1 (map view values.now)) ≡ None) }
+    ensures refused { IfErr result
+        (IsRefused (answer (steps_checks (n_of rate) ring.now circuits.now.circuits new_past 1 (map view values.now)))) }
 {
     let mut steps = Vec::new(alloc);
     let mut past = Past::start();
@@ -99,7 +103,8 @@ fn settled_steps(
     values: &[Value],
 ) -> Result<Vec<Step>, PlanError>
     requires { length values.now ≤ 1000 }
-    ensures steps { IfOk result (λ steps. steps.items ≡ map (λ d. step_of (n_of rate) ring.now circuits.now.circuits (string_of d)) (map view values.now)) }
+    ensures steps { IfOk result
+        (λ steps. steps.items ≡ map (λ d. step_of (n_of rate) ring.now circuits.now.circuits (string_of d)) (map view values.now)) }
     ensures count { IfOk result (λ steps. length steps.items ≡ length values.now) }
     ensures passed { OnOk result (answer (texts_checks (n_of rate) ring.now circuits.now.circuits (map view values.now)) ≡ None) }
     ensures refused { IfErr result (IsRefused (answer (texts_checks (n_of rate) ring.now circuits.now.circuits (map view values.now)))) }
@@ -123,7 +128,8 @@ pub fn script_under(
     circuits: &CircuitMap,
     rate: Rate,
 ) -> Result<Vec<Step>, PlanError>
-    ensures steps { IfOk result (λ steps. steps.items ≡ map (λ d. step_of (n_of rate) ring.now circuits.now.circuits (string_of d)) (elements_in (codes "script") (table_view table.now))) }
+    ensures steps { IfOk result (λ steps. steps.items ≡ map (λ d. step_of (n_of rate) ring.now circuits.now.circuits (string_of d))
+        (elements_in (codes "script") (table_view table.now))) }
     ensures count { IfOk result (λ steps. (1 ≤ length steps.items) × (length steps.items ≤ 1000)) }
     ensures passed { OnOk result (answer (script_checks (n_of rate) ring.now circuits.now.circuits (table_view table.now)) ≡ None) }
     ensures refused { IfErr result (IsRefused (answer (script_checks (n_of rate) ring.now circuits.now.circuits (table_view table.now)))) }

@@ -59,7 +59,12 @@ fn is_among(failing: &[(PlantCall, u32)], call: PlantCall, number: u64) -> bool
 impl FailingPlant {
     /// A plant without fibres, of which these calls fail, each kind counted from 1.
     pub fn new(alloc: Global, calls: &[(PlantCall, u32)]) -> Result<FailingPlant, AllocError>
-        ensures { IfOk result (λ plant. plant ≡ record { fibres = clear_fibres plant.fibres.rate 0; failing = calls.now; calls = record { prepares = 0; applies = 0; sends = 0; receives = 0 }; faults = 0 }) }
+        ensures { IfOk result (λ plant. plant ≡ record {
+          fibres = clear_fibres plant.fibres.rate 0;
+          failing = calls.now;
+          calls = record { prepares = 0; applies = 0; sends = 0; receives = 0 };
+          faults = 0;
+        }) }
     {
         Ok(FailingPlant {
             plant: FibrePlant::new(),
@@ -157,7 +162,8 @@ impl Plant for FailingPlant {
     fn apply(&mut self, event: FibreEvent) -> Result<(), Failed>
         requires at { event.at.0 < (fibres_of self.old.fibres).nodes }
         requires condition { IsConditionAt (fibres_of self.old.fibres).rate event.condition }
-        ensures ok { OnOk result (fibres_of self.new.fibres ≡ after_apply (fibres_of self.old.fibres) event.at.0 event.side event.condition) }
+        ensures ok { OnOk result
+            (fibres_of self.new.fibres ≡ after_apply (fibres_of self.old.fibres) event.at.0 event.side event.condition) }
         ensures err { OnErr result (fibres_of self.new.fibres ≡ fibres_of self.old.fibres) }
         ensures cause { HasCause true self.old.faults self.new.faults result }
 
@@ -208,7 +214,8 @@ impl Plant for FailingPlant {
         requires at { at.0 < (fibres_of self.old.fibres).nodes }
         requires rate { L.rate into.old ≡ (fibres_of self.old.fibres).rate }
         ensures ok { OnOk result (fibres_of self.new.fibres ≡ after_receive (fibres_of self.old.fibres)) }
-        ensures arrival { IfOk result (λ a. Knows (fibres_of self.old.fibres) → arrived_in a (L.landed into.new) ≡ arrival (fibres_of self.old.fibres) at.0 side) }
+        ensures arrival { IfOk result
+            (λ a. Knows (fibres_of self.old.fibres) → arrived_in a (L.landed into.new) ≡ arrival (fibres_of self.old.fibres) at.0 side) }
         ensures landed { result ≡ Ok Arrived.Frame → L.landed into.new ≢ None }
         ensures dark { result ≡ Ok Arrived.Dark → into.new ≡ into.old }
         ensures rate { L.rate into.new ≡ L.rate into.old }

@@ -145,7 +145,8 @@ fn deliver_from<L: Landing>(fibres: &mut [Fibre], at: usize, into: &mut L) -> Ar
     requires at { at < length fibres.old }
     requires fit { All (IsFibre (L.rate into.old)) fibres.old }
     ensures same { fibres.new ≡ fibres.old }
-    ensures arrival { arrived_in result (L.landed into.new) ≡ through (n_of (L.rate into.old)) (slice_index_or (conditions fibres.old) at Clear) (slice_index_or (carried fibres.old) at None) }
+    ensures arrival { arrived_in result (L.landed into.new) ≡ through (n_of (L.rate into.old))
+        (slice_index_or (conditions fibres.old) at Clear) (slice_index_or (carried fibres.old) at None) }
     ensures landed { result ≡ Arrived.Frame → L.landed into.new ≢ None }
     ensures dark { result ≡ Arrived.Dark → into.new ≡ into.old }
     ensures rate { L.rate into.new ≡ L.rate into.old }
@@ -310,7 +311,8 @@ impl Plant for FibrePlant {
         requires at { at.0 < (fibres_of self.old).nodes }
         requires rate { L.rate into.old ≡ (fibres_of self.old).rate }
         ensures ok { OnOk result (fibres_of self.new ≡ after_receive (fibres_of self.old)) }
-        ensures arrival { IfOk result (λ a. Knows (fibres_of self.old) → arrived_in a (L.landed into.new) ≡ arrival (fibres_of self.old) at.0 side) }
+        ensures arrival { IfOk result
+            (λ a. Knows (fibres_of self.old) → arrived_in a (L.landed into.new) ≡ arrival (fibres_of self.old) at.0 side) }
         ensures landed { result ≡ Ok Arrived.Frame → L.landed into.new ≢ None }
         ensures dark { result ≡ Ok Arrived.Dark → into.new ≡ into.old }
         ensures rate { L.rate into.new ≡ L.rate into.old }

@@ -104,7 +104,8 @@ pub trait Plant {
         requires at { at.0 < (fibres self.old).nodes }
         requires rate { L.rate into.old ≡ (fibres self.old).rate }
         ensures ok { OnOk result (fibres self.new ≡ after_receive (fibres self.old)) }
-        ensures arrival { IfOk result (λ a. Knows (fibres self.old) → arrived_in a (L.landed into.new) ≡ arrival (fibres self.old) at.0 side) }
+        ensures arrival { IfOk result
+            (λ a. Knows (fibres self.old) → arrived_in a (L.landed into.new) ≡ arrival (fibres self.old) at.0 side) }
         ensures landed { result ≡ Ok Arrived.Frame → L.landed into.new ≢ None }
         ensures dark { result ≡ Ok Arrived.Dark → into.new ≡ into.old }
         ensures rate { L.rate into.new ≡ L.rate into.old }

@@ -182,7 +182,8 @@ impl Plant for RecordingPlant {
         requires at { at.0 < (recorded_of self.old).nodes }
         requires rate { L.rate into.old ≡ (recorded_of self.old).rate }
         ensures ok { OnOk result (recorded_of self.new ≡ after_receive (recorded_of self.old)) }
-        ensures arrival { IfOk result (λ a. Knows (recorded_of self.old) → arrived_in a (L.landed into.new) ≡ arrival (recorded_of self.old) at.0 side) }
+        ensures arrival { IfOk result
+            (λ a. Knows (recorded_of self.old) → arrived_in a (L.landed into.new) ≡ arrival (recorded_of self.old) at.0 side) }
         ensures landed { result ≡ Ok Arrived.Frame → L.landed into.new ≢ None }
         ensures dark { result ≡ Ok Arrived.Dark → into.new ≡ into.old }
         ensures rate { L.rate into.new ≡ L.rate into.old }

@@ -189,7 +189,8 @@ impl Plant for ToldPlant {
         requires at { at.0 < (told_of self.old).nodes }
         requires rate { L.rate into.old ≡ (told_of self.old).rate }
         ensures ok { OnOk result (told_of self.new ≡ after_receive (told_of self.old)) }
-        ensures arrival { IfOk result (λ a. Knows (told_of self.old) → arrived_in a (L.landed into.new) ≡ arrival (told_of self.old) at.0 side) }
+        ensures arrival { IfOk result
+            (λ a. Knows (told_of self.old) → arrived_in a (L.landed into.new) ≡ arrival (told_of self.old) at.0 side) }
         ensures landed { result ≡ Ok Arrived.Frame → L.landed into.new ≢ None }
         ensures dark { result ≡ Ok Arrived.Dark → into.new ≡ into.old }
         ensures rate { L.rate into.new ≡ L.rate into.old }

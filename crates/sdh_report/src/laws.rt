@@ -16,10 +16,13 @@ use crate::text::{CHUNK_MAX, LINE_MAX};
 pub fn lines_are_short()
     ensures settle { (number round : ℕ) → number < 2 ^ 32 → round < 2 ^ 64 → length (settle_line number round) ≤ LINE_MAX }
     ensures node { (line : NodeLine) → line.id < 2 ^ 8 → length (node_line line) ≤ LINE_MAX }
-    ensures port { (name : List ℕ) (end : End) (delivered : Delivered) (value : ℕ) → length name ≤ 16 → value < 2 ^ 16 → length (port_line name end delivered value) ≤ LINE_MAX }
+    ensures port { (name : List ℕ) (end : End) (delivered : Delivered) (value : ℕ) → length name ≤ 16 → value < 2 ^ 16
+        → length (port_line name end delivered value) ≤ LINE_MAX }
     ensures chunk { (delivered : Delivered) → length (drop_lines delivered) ≤ CHUNK_MAX }
-    ensures table { (id : ℕ) (side : Side) (slot : Slot) (name : List ℕ) (from to : ℕ) → id < 2 ^ 8 → slot.0 < 2 ^ 8 → length name ≤ 16 → from < 2 ^ 8 → to < 2 ^ 8 → length (table_line id side slot name from to) ≤ LINE_MAX }
-    ensures count { (number round norm ais : ℕ) → number < 2 ^ 32 → round < 2 ^ 64 → norm < 2 ^ 32 → ais < 2 ^ 32 → length (count_line number round norm ais) ≤ LINE_MAX }
+    ensures table { (id : ℕ) (side : Side) (slot : Slot) (name : List ℕ) (from to : ℕ) → id < 2 ^ 8 → slot.0 < 2 ^ 8 → length name ≤ 16
+        → from < 2 ^ 8 → to < 2 ^ 8 → length (table_line id side slot name from to) ≤ LINE_MAX }
+    ensures count { (number round norm ais : ℕ) → number < 2 ^ 32 → round < 2 ^ 64 → norm < 2 ^ 32 → ais < 2 ^ 32
+        → length (count_line number round norm ais) ≤ LINE_MAX }
 {}
 
 /// The last line of a status has room in `LINE_MAX` bytes, whatever numbers it tells.

@@ -73,7 +73,8 @@ fn last_end(threshold: u16, rounds: &[SideRound], t: usize) -> Option<usize>
 // Whether the side waits to restore in a round.
 fn waits(threshold: u16, wait: u32, rounds: &[SideRound], t: usize) -> bool
     requires { t < length rounds.now }
-    ensures { result ≡ waits wait (defect_at threshold (history_of rounds.now) t) (slice_index_or rounds.now t still_round).moment.0 (option_map (history_of rounds.now).moment (last_end threshold (history_of rounds.now) t)) }
+    ensures { result ≡ waits wait (defect_at threshold (history_of rounds.now) t) (slice_index_or rounds.now t still_round).moment.0
+        (option_map (history_of rounds.now).moment (last_end threshold (history_of rounds.now) t)) }
 {
     match last_end(threshold, rounds, t) {
         Some(end) => {

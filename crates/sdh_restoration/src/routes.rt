@@ -37,7 +37,8 @@ fn is_applied_at(map: &RingMap, ends: Ends, place: u8, applied: &[Span]) -> bool
 fn is_free(map: &RingMap, ends: Ends, first: u8, count: u8, applied: &[Span]) -> bool
     requires from { ends.from.0 < length map.now }
     requires places { first + count ≤ length map.now }
-    ensures { result ≡ none_of (applied_at_place (length map.now) (is_among applied.now) (arc_between (length map.now) ends.from.0 ends.to.0)) first count }
+    ensures { result ≡ none_of (applied_at_place (length map.now) (is_among applied.now)
+        (arc_between (length map.now) ends.from.0 ends.to.0)) first count }
 {
     let n = map.len() as u8;
     for place in first..n.min(first + count) {

@@ -22,7 +22,8 @@ fn is_digits(word: &[u8]) -> bool
 
 /// The digits, where the words are one word of them.
 pub fn digits_of(words: &[String]) -> Option<&[u8]>
-    ensures { MatchOption result (¬ AreDigits (words_of words.now)) (λ digits. (words_of words.now ≡ digits.now ∷ []) × IsDigits digits.now) }
+    ensures { MatchOption result (¬ AreDigits (words_of words.now))
+        (λ digits. (words_of words.now ≡ digits.now ∷ []) × IsDigits digits.now) }
 {
     match words {
         [word] if is_digits(word.as_bytes()) => Some(word.as_bytes()),

@@ -119,7 +119,8 @@ impl Retiming {
         ensures reads { OnOk result (self.new.interp.reading ≡ reading_of self.new.store) }
         ensures room { OnOk result (text.old.room ≤ text.new.room + 4801) }
         ensures came { OnOk result ((past : List (List ℕ)) → CameBy 0 past self.old.store → CameBy 0 (input.now ∷ past) self.new.store) }
-        ensures lines { OnOk result ((past : List (List ℕ)) → CameBy 0 past self.old.store → number ≡ length past + 1 → text.new.bytes ≡ text.old.bytes ++ last_lines (input.now ∷ past)) }
+        ensures lines { OnOk result ((past : List (List ℕ)) → CameBy 0 past self.old.store → number ≡ length past + 1
+            → text.new.bytes ≡ text.old.bytes ++ last_lines (input.now ∷ past)) }
         ensures drift { OnErr result ((past : List (List ℕ)) → CameBy 0 past self.old.store → lasts (lengths (input.now ∷ past)) ≡ false) }
         ensures err { OnErr result (text.new ≡ text.old) }
     {

@@ -33,14 +33,17 @@ fn report_on<R: Source>(
     words: &[String],
     source: &mut R,
 ) -> Result<Report, AllocError>
-    ensures outcome { IfOk result (λ report. IfSome (R.left source.old) (λ bytes. IsOutcome (words_of words.now) bytes report.status report.text.bytes)) }
+    ensures outcome { IfOk result
+        (λ report. IfSome (R.left source.old) (λ bytes. IsOutcome (words_of words.now) bytes report.status report.text.bytes)) }
     ensures usage { IfOk result (λ report. report.status ≡ Status.Usage ↔ (¬ AreDigits (words_of words.now))) }
     ensures fault { IfOk result (λ report. report.status ≡ Status.ReadFault → Rose (R.faults source.old) (R.faults source.new)) }
     ensures read { IfOk result (λ report. HasRun report.status → IsAtEnd (R.left source.new)) }
     ensures unsteady { IfOk result (λ report. (turn : ℕ) → report.status ≡ Status.Drift turn → AreUnsteady (words_of words.now)) }
-    ensures complete { IfOk result (λ report. AreDigits (words_of words.now) → TellsAtMost (R.left source.old) 1048576 → ¬ (Rose (R.faults source.old) (R.faults source.new)) → HasRun report.status) }
+    ensures complete { IfOk result (λ report. AreDigits (words_of words.now) → TellsAtMost (R.left source.old) 1048576
+        → ¬ (Rose (R.faults source.old) (R.faults source.new)) → HasRun report.status) }
     ensures own { IfOk result (λ report. (report.status ≢ Status.WriteFault) × (report.status ≢ Status.Memory)) }
-    ensures reads { IfOk result (λ report. IsCounted R.exact (report.status ≡ Status.ReadFault) (R.faults source.old) (R.faults source.new)) }
+    ensures reads { IfOk result
+        (λ report. IsCounted R.exact (report.status ≡ Status.ReadFault) (R.faults source.old) (R.faults source.new)) }
     ensures without { OnErr result (R.exact ≡ true → R.faults source.new ≡ R.faults source.old) }
     ensures too_long { IfOk result (λ report. report.status ≡ Status.TooLong → TakesCount (R.left source.old) (R.left source.new) 1048577) }
     ensures later { R.faults source.old ≤ R.faults source.new }
@@ -68,18 +71,23 @@ fn answer<R: Source, W: Sink>(
     source: &mut R,
     sink: &mut W,
 ) -> Status
-    ensures outcome { IfSome (R.left source.old) (λ bytes. Writes (words_of words.now) bytes result (W.written sink.old) (W.written sink.new)) }
+    ensures outcome { IfSome (R.left source.old)
+        (λ bytes. Writes (words_of words.now) bytes result (W.written sink.old) (W.written sink.new)) }
     ensures usage { result ≡ Status.Usage → ¬ AreDigits (words_of words.now) }
-    ensures usage_only { (¬ AreDigits (words_of words.now)) → (result ≡ Status.Usage) ⊎ (result ≡ Status.WriteFault) ⊎ (result ≡ Status.Memory) }
+    ensures usage_only { (¬ AreDigits (words_of words.now))
+        → (result ≡ Status.Usage) ⊎ (result ≡ Status.WriteFault) ⊎ (result ≡ Status.Memory) }
     ensures read_fault { result ≡ Status.ReadFault → Rose (R.faults source.old) (R.faults source.new) }
     ensures write_fault { result ≡ Status.WriteFault → Rose (W.faults sink.old) (W.faults sink.new) }
-    ensures came { (how : Status) × ((result ≡ how) ⊎ (result ≡ Status.WriteFault)) × CameTo R.exact (R.faults source.old) (R.faults source.new) (R.left source.old) (R.left source.new) how }
+    ensures came { (how : Status) × ((result ≡ how) ⊎ (result ≡ Status.WriteFault))
+        × CameTo R.exact (R.faults source.old) (R.faults source.new) (R.left source.old) (R.left source.new) how }
     ensures writes { IsCounted W.exact (result ≡ Status.WriteFault) (W.faults sink.old) (W.faults sink.new) }
     ensures memory { result ≡ Status.Memory → sink.new ≡ sink.old }
     ensures read_whole { HasRun result → IsAtEnd (R.left source.new) }
     ensures unsteady { (turn : ℕ) → result ≡ Status.Drift turn → AreUnsteady (words_of words.now) }
     ensures later { (R.faults source.old ≤ R.faults source.new) × (W.faults sink.old ≤ W.faults sink.new) }
-    ensures complete { AreDigits (words_of words.now) → TellsAtMost (R.left source.old) 1048576 → ¬ (Rose (R.faults source.old) (R.faults source.new)) → ¬ (Rose (W.faults sink.old) (W.faults sink.new)) → HasRun result ⊎ (result ≡ Status.Memory) }
+    ensures complete { AreDigits (words_of words.now) → TellsAtMost (R.left source.old) 1048576
+        → ¬ (Rose (R.faults source.old) (R.faults source.new)) → ¬ (Rose (W.faults sink.old) (W.faults sink.new))
+        → HasRun result ⊎ (result ≡ Status.Memory) }
 {
     let Ok(report) = report_on(alloc, words, source) else {
         return Status::Memory;
@@ -101,7 +109,8 @@ pub fn retime<R: Source, W: Sink>(
     sink: &mut W,
 ) -> u8
     // The number and the text that is written, for a source that tells its bytes and a sink that tells what was written.
-    ensures outcome { IfSome (R.left source.old) (λ bytes. Answers (words_of words.now) bytes result (W.written sink.old) (W.written sink.new)) }
+    ensures outcome { IfSome (R.left source.old)
+        (λ bytes. Answers (words_of words.now) bytes result (W.written sink.old) (W.written sink.new)) }
 
     // Over every source and sink.
     ensures usage { result ≡ 2 → ¬ AreDigits (words_of words.now) }
@@ -112,14 +121,17 @@ pub fn retime<R: Source, W: Sink>(
 
     // Where an object's count is exact, each of its calls that failed is told by its fault, and none is tried again; a write fault
     // may stand in place of what was to be told. With 9 one byte more than the program reads was taken.
-    ensures came { (how : Status) × ((result ≡ number_of how) ⊎ (result ≡ 4)) × CameTo R.exact (R.faults source.old) (R.faults source.new) (R.left source.old) (R.left source.new) how }
+    ensures came { (how : Status) × ((result ≡ number_of how) ⊎ (result ≡ 4))
+        × CameTo R.exact (R.faults source.old) (R.faults source.new) (R.left source.old) (R.left source.new) how }
     ensures writes { IsCounted W.exact (result ≡ 4) (W.faults sink.old) (W.faults sink.new) }
     ensures read_whole { (result ≡ 0) ⊎ (result ≡ 12) → IsAtEnd (R.left source.new) }
     ensures unsteady { result ≡ 12 → AreUnsteady (words_of words.now) }
     ensures later { (R.faults source.old ≤ R.faults source.new) × (W.faults sink.old ≤ W.faults sink.new) }
 
     // Digits, at most 1,048,576 bytes, and no fault: the run comes to its end, or there is no memory.
-    ensures complete { AreDigits (words_of words.now) → TellsAtMost (R.left source.old) 1048576 → ¬ (Rose (R.faults source.old) (R.faults source.new)) → ¬ (Rose (W.faults sink.old) (W.faults sink.new)) → (result ≡ 0) ⊎ (result ≡ 12) ⊎ (result ≡ 70) }
+    ensures complete { AreDigits (words_of words.now) → TellsAtMost (R.left source.old) 1048576
+        → ¬ (Rose (R.faults source.old) (R.faults source.new)) → ¬ (Rose (W.faults sink.old) (W.faults sink.new))
+        → (result ≡ 0) ⊎ (result ≡ 12) ⊎ (result ≡ 70) }
 {
     answer(alloc, words, source, sink).number()
 }

@@ -149,7 +149,8 @@ impl Ring {
         ensures whole { IfOk result (λ ring. (f : Fibres) → IsHonest f → IsWhole (world ring (prepared settings.rate (length map) f))) }
 
         // And it is vouched for, whatever the clocks of its ports will be.
-        ensures vouched { IfOk result (λ ring. (f : Fibres) (clocks : PortId → ℕ → Clock) → IsHonest f → IsVouched clocks (world ring (prepared settings.rate (length map) f))) }
+        ensures vouched { IfOk result (λ ring. (f : Fibres) (clocks : PortId → ℕ → Clock) → IsHonest f
+            → IsVouched clocks (world ring (prepared settings.rate (length map) f))) }
     {
         sdh_laws::hearing::new_worlds_are_whole();
         sdh_laws::strangers::vouched_rings_stay();
@@ -201,7 +202,8 @@ impl Ring {
         requires { at.0 < length self.old.ids }
         ensures ring { self.new ≡ record self.old { nodes = at_place at.0 (at_receiving side (commanded_by command)) self.old.nodes } }
         ensures whole { (f : Fibres) → IsWhole (world self.old f) → IsWhole (world self.new f) }
-        ensures vouched { (f : Fibres) (clocks : PortId → ℕ → Clock) → IsVouched clocks (world self.old f) → IsVouched clocks (world self.new f) }
+        ensures vouched { (f : Fibres) (clocks : PortId → ℕ → Clock) → IsVouched clocks (world self.old f)
+            → IsVouched clocks (world self.new f) }
     {
         sdh_laws::hearing::stay_whole();
         sdh_laws::strangers::vouched_rings_stay();
@@ -237,9 +239,12 @@ impl Ring {
     pub fn slip(&mut self, port: PortId, turn: Turn, count: u8)
         requires port { port.circuit < length self.old.circuits.circuits }
         requires few { waiting_at self.old port + count ≤ 16 }
-        ensures ring { self.new ≡ record self.old { nodes = at_place (place_of_port self.old port) (slips_at port turn count) self.old.nodes } }
+        ensures ring { self.new ≡ record self.old {
+          nodes = at_place (place_of_port self.old port) (slips_at port turn count) self.old.nodes;
+        } }
         ensures whole { (f : Fibres) → IsWhole (world self.old f) → IsWhole (world self.new f) }
-        ensures vouched { (f : Fibres) (clocks : PortId → ℕ → Clock) → IsVouched clocks (world self.old f) → IsVouched clocks (world self.new f) }
+        ensures vouched { (f : Fibres) (clocks : PortId → ℕ → Clock) → IsVouched clocks (world self.old f)
+            → IsVouched clocks (world self.new f) }
     {
         sdh_laws::hearing::stay_whole();
         sdh_laws::strangers::vouched_rings_stay();
@@ -263,7 +268,8 @@ impl Ring {
         requires within { now.0 ≤ 1000000000 }
         ensures ring { self.new ≡ record self.old { moment = now.0 } }
         ensures whole { (f : Fibres) → IsWhole (world self.old f) → IsWhole (world self.new f) }
-        ensures vouched { (f : Fibres) (clocks : PortId → ℕ → Clock) → IsVouched clocks (world self.old f) → IsVouched clocks (world self.new f) }
+        ensures vouched { (f : Fibres) (clocks : PortId → ℕ → Clock) → IsVouched clocks (world self.old f)
+            → IsVouched clocks (world self.new f) }
     {
         sdh_laws::hearing::stay_whole();
         sdh_laws::strangers::vouched_rings_stay();
@@ -281,10 +287,12 @@ impl Ring {
 
         // Where what comes is what was sent, states, words and filters are those of a ring of signals with the same needs and held
         // nodes.
-        ensures signals { OnOk result (IsWhole (world self.old (P.fibres plant.old)) → GoesAsSignals (world self.old (P.fibres plant.old)) (world self.new (P.fibres plant.new))) }
+        ensures signals { OnOk result (IsWhole (world self.old (P.fibres plant.old))
+            → GoesAsSignals (world self.old (P.fibres plant.old)) (world self.new (P.fibres plant.new))) }
 
         // A ring at rest delivers what is owed in a calm round, and stays at rest.
-        ensures rest { OnOk result ((clocks : PortId → ℕ → Clock) → IsAtRest clocks (world self.old (P.fibres plant.old)) → StaysAtRest clocks (world self.new (P.fibres plant.new))) }
+        ensures rest { OnOk result ((clocks : PortId → ℕ → Clock) → IsAtRest clocks (world self.old (P.fibres plant.old))
+            → StaysAtRest clocks (world self.new (P.fibres plant.new))) }
 
         // Where it is vouched for it stays so, and no port meets a stranger in the round: each delivers AIS, or ones, or what its
         // circuit's other port sent in one round before.
@@ -372,7 +380,8 @@ impl Ring {
         // Over any plant: a step that ended ran a round, and the number of the last is a multiple of 128 and not 0.
         ensures numbers { OnOk result (EndsAtAMultiple self.old self.new limit) }
         ensures all { result ≡ Err SettleError.Unsettled → self.new.rounds ≡ self.old.rounds + limit }
-        ensures whole { result ≢ Err SettleError.PlantFault → IsWhole (world self.old (P.fibres plant.old)) → IsWhole (world self.new (P.fibres plant.new)) }
+        ensures whole { result ≢ Err SettleError.PlantFault → IsWhole (world self.old (P.fibres plant.old))
+            → IsWhole (world self.new (P.fibres plant.new)) }
 
         // A step of at least 68 rounds uses up all slips.
         ensures slips { OnOk result ((port : PortId) → self.old.rounds + 68 ≤ self.new.rounds → waiting_at self.new port ≡ 0) }
@@ -381,23 +390,28 @@ impl Ring {
         ensures restored { OnOk result (Restores (world self.old (P.fibres plant.old)) (world self.new (P.fibres plant.new))) }
 
         // With a limit of at least 12n + 102 so it is after a step in which no window ended, too.
-        ensures soon { result ≡ Err SettleError.Unsettled → RestoresBy (world self.old (P.fibres plant.old)) limit (world self.new (P.fibres plant.new)) }
+        ensures soon { result ≡ Err SettleError.Unsettled
+            → RestoresBy (world self.old (P.fibres plant.old)) limit (world self.new (P.fibres plant.new)) }
 
         // Ring and fibres are at rest once a window ended.
         ensures rests { OnOk result (LeavesAtRest (world self.old (P.fibres plant.old)) (world self.new (P.fibres plant.new))) }
 
         // Where it is vouched for it stays so, and no port meets a stranger in any round of the step.
-        ensures strangers { result ≢ Err SettleError.PlantFault → KeepsStrangersOutInAll (world self.old (P.fibres plant.old)) (world self.new (P.fibres plant.new)) }
+        ensures strangers { result ≢ Err SettleError.PlantFault
+            → KeepsStrangersOutInAll (world self.old (P.fibres plant.old)) (world self.new (P.fibres plant.new)) }
 
         // And with so large a limit a window does end, whatever happened before, where no fault breaks the step off.
-        ensures answers { IsWhole (world self.old (P.fibres plant.old)) → enough_for (length self.old.ids) ≤ limit → result ≢ Err SettleError.Unsettled }
+        ensures answers { IsWhole (world self.old (P.fibres plant.old)) → enough_for (length self.old.ids) ≤ limit
+            → result ≢ Err SettleError.Unsettled }
 
         // Each port's clock has gone on by the rounds that ran.
-        ensures clocks { result ≢ Err SettleError.PlantFault → (port : PortId) → HasPortIn self.old port → clock_at self.new port ≡ clocks_from (world self.old (P.fibres plant.old)) port self.new.rounds }
+        ensures clocks { result ≢ Err SettleError.PlantFault → (port : PortId) → HasPortIn self.old port
+            → clock_at self.new port ≡ clocks_from (world self.old (P.fibres plant.old)) port self.new.rounds }
 
         // A fault breaks the ring. Clocks have gone on by the whole rounds, and by the last one where their nodes had it.
         ensures broken { result ≡ Err SettleError.PlantFault → self.new.broken ≡ true }
-        ensures broken_clocks { result ≡ Err SettleError.PlantFault → BreaksStep (world self.old (P.fibres plant.old)) limit (world self.new (P.fibres plant.new)) }
+        ensures broken_clocks { result ≡ Err SettleError.PlantFault
+            → BreaksStep (world self.old (P.fibres plant.old)) limit (world self.new (P.fibres plant.new)) }
         ensures later { P.faults plant.old ≤ P.faults plant.new }
         ensures failed { result ≡ Err SettleError.PlantFault → Rose (P.faults plant.old) (P.faults plant.new) }
 
@@ -423,13 +437,15 @@ impl Ring {
         ensures outcome { Outcome (world self.old (P.fibres plant.old)) limit result (world self.new (P.fibres plant.new)) }
 
         // What the observer keeps of a step that ended is what it is to keep of all its rounds, and of no other.
-        ensures heard { OnOk result (Hears (λ at k. O.Heard at k observer.new) (world self.old (P.fibres plant.old)) limit (world self.new (P.fibres plant.new))) }
+        ensures heard { OnOk result
+            (Hears (λ at k. O.Heard at k observer.new) (world self.old (P.fibres plant.old)) limit (world self.new (P.fibres plant.new))) }
         ensures prepared { self.new.broken ≡ false → IsPrepared self.old.settings.rate (length self.old.ids) (P.fibres plant.new) }
 
         // Over any plant: a step that ended ran a round, and the number of the last is a multiple of 128 and not 0.
         ensures numbers { OnOk result (EndsAtAMultiple self.old self.new limit) }
         ensures all { result ≡ Err SettleError.Unsettled → self.new.rounds ≡ self.old.rounds + limit }
-        ensures whole { result ≢ Err SettleError.PlantFault → IsWhole (world self.old (P.fibres plant.old)) → IsWhole (world self.new (P.fibres plant.new)) }
+        ensures whole { result ≢ Err SettleError.PlantFault → IsWhole (world self.old (P.fibres plant.old))
+            → IsWhole (world self.new (P.fibres plant.new)) }
 
         // A step of at least 68 rounds uses up all slips.
         ensures slips { OnOk result ((port : PortId) → self.old.rounds + 68 ≤ self.new.rounds → waiting_at self.new port ≡ 0) }
@@ -438,23 +454,28 @@ impl Ring {
         ensures restored { OnOk result (Restores (world self.old (P.fibres plant.old)) (world self.new (P.fibres plant.new))) }
 
         // With a limit of at least 12n + 102 so it is after a step in which no window ended, too.
-        ensures soon { result ≡ Err SettleError.Unsettled → RestoresBy (world self.old (P.fibres plant.old)) limit (world self.new (P.fibres plant.new)) }
+        ensures soon { result ≡ Err SettleError.Unsettled
+            → RestoresBy (world self.old (P.fibres plant.old)) limit (world self.new (P.fibres plant.new)) }
 
         // Ring and fibres are at rest once a window ended.
         ensures rests { OnOk result (LeavesAtRest (world self.old (P.fibres plant.old)) (world self.new (P.fibres plant.new))) }
 
         // Where it is vouched for it stays so, and no port meets a stranger in any round of the step.
-        ensures strangers { result ≢ Err SettleError.PlantFault → KeepsStrangersOutInAll (world self.old (P.fibres plant.old)) (world self.new (P.fibres plant.new)) }
+        ensures strangers { result ≢ Err SettleError.PlantFault
+            → KeepsStrangersOutInAll (world self.old (P.fibres plant.old)) (world self.new (P.fibres plant.new)) }
 
         // And with so large a limit a window does end, whatever happened before, where no fault breaks the step off.
-        ensures answers { IsWhole (world self.old (P.fibres plant.old)) → enough_for (length self.old.ids) ≤ limit → result ≢ Err SettleError.Unsettled }
+        ensures answers { IsWhole (world self.old (P.fibres plant.old)) → enough_for (length self.old.ids) ≤ limit
+            → result ≢ Err SettleError.Unsettled }
 
         // Each port's clock has gone on by the rounds that ran.
-        ensures clocks { result ≢ Err SettleError.PlantFault → (port : PortId) → HasPortIn self.old port → clock_at self.new port ≡ clocks_from (world self.old (P.fibres plant.old)) port self.new.rounds }
+        ensures clocks { result ≢ Err SettleError.PlantFault → (port : PortId) → HasPortIn self.old port
+            → clock_at self.new port ≡ clocks_from (world self.old (P.fibres plant.old)) port self.new.rounds }
 
         // A fault breaks the ring. Clocks have gone on by the whole rounds, and by the last one where their nodes had it.
         ensures broken { result ≡ Err SettleError.PlantFault → self.new.broken ≡ true }
-        ensures broken_clocks { result ≡ Err SettleError.PlantFault → BreaksStep (world self.old (P.fibres plant.old)) limit (world self.new (P.fibres plant.new)) }
+        ensures broken_clocks { result ≡ Err SettleError.PlantFault
+            → BreaksStep (world self.old (P.fibres plant.old)) limit (world self.new (P.fibres plant.new)) }
         ensures later { P.faults plant.old ≤ P.faults plant.new }
         ensures failed { result ≡ Err SettleError.PlantFault → Rose (P.faults plant.old) (P.faults plant.new) }
 

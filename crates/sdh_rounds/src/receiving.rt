@@ -49,7 +49,9 @@ fn receive_both<S: Station, P: Plant>(
     requires node { S.rate node.old ≡ inbox.old.rate }
     ensures fibres { OnOk result (P.fibres plant.new ≡ after_receive (after_receive (P.fibres plant.old))) }
     ensures node { OnOk result (ReceivesBoth S.kind (P.fibres plant.old) at.0 node.old node.new) }
-    ensures kept { OnErr result (((P.fibres plant.new ≡ P.fibres plant.old) × (node.new ≡ node.old)) ⊎ ((P.fibres plant.new ≡ after_receive (P.fibres plant.old)) × ReceivesOne S.kind (P.fibres plant.old) at.0 West node.old node.new)) }
+    ensures kept { OnErr result
+        (((P.fibres plant.new ≡ P.fibres plant.old) × (node.new ≡ node.old)) ⊎ ((P.fibres plant.new ≡ after_receive (P.fibres plant.old))
+        × ReceivesOne S.kind (P.fibres plant.old) at.0 West node.old node.new)) }
     ensures rate { inbox.new.rate ≡ inbox.old.rate }
     ensures cause { HasCause P.exact (P.faults plant.old) (P.faults plant.new) result }
 {
@@ -65,8 +67,10 @@ fn receive_all<S: Station, P: Plant>(
 ) -> Result<(), PlantFault>
     requires prepared { IsPrepared inbox.old.rate (length nodes.old.items) (P.fibres plant.old) }
     requires nodes { All (λ n. S.rate n ≡ inbox.old.rate) nodes.old.items }
-    ensures ok { OnOk result (FirstReceive S.kind (length nodes.old.items) (P.fibres plant.old) (P.fibres plant.new) nodes.old.items nodes.new.items) }
-    ensures err { OnErr result (SomeReceive S.kind (length nodes.old.items) (P.fibres plant.old) (P.fibres plant.new) nodes.old.items nodes.new.items) }
+    ensures ok { OnOk result
+        (FirstReceive S.kind (length nodes.old.items) (P.fibres plant.old) (P.fibres plant.new) nodes.old.items nodes.new.items) }
+    ensures err { OnErr result
+        (SomeReceive S.kind (length nodes.old.items) (P.fibres plant.old) (P.fibres plant.new) nodes.old.items nodes.new.items) }
     ensures rate { inbox.new.rate ≡ inbox.old.rate }
     ensures cause { HasCause P.exact (P.faults plant.old) (P.faults plant.new) result }
 {
@@ -87,8 +91,10 @@ pub fn hear<S: Station, P: Plant>(
 ) -> Result<(), PlantFault>
     requires prepared { IsPrepared inbox.old.rate (length nodes.old.items) (P.fibres plant.old) }
     requires nodes { All (λ n. S.rate n ≡ inbox.old.rate) nodes.old.items }
-    ensures ok { OnOk result (FirstReceive S.kind (receivers_in rounds (length nodes.old.items)) (P.fibres plant.old) (P.fibres plant.new) nodes.old.items nodes.new.items) }
-    ensures err { OnErr result (SomeReceive S.kind (receivers_in rounds (length nodes.old.items)) (P.fibres plant.old) (P.fibres plant.new) nodes.old.items nodes.new.items) }
+    ensures ok { OnOk result (FirstReceive S.kind (receivers_in rounds (length nodes.old.items)) (P.fibres plant.old)
+        (P.fibres plant.new) nodes.old.items nodes.new.items) }
+    ensures err { OnErr result (SomeReceive S.kind (receivers_in rounds (length nodes.old.items)) (P.fibres plant.old)
+        (P.fibres plant.new) nodes.old.items nodes.new.items) }
     ensures rate { inbox.new.rate ≡ inbox.old.rate }
     ensures cause { HasCause P.exact (P.faults plant.old) (P.faults plant.new) result }
 {

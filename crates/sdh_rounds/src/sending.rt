@@ -27,7 +27,8 @@ fn send_both<S: Station, P: Plant>(
     requires rate { S.rate node.old ≡ (P.fibres plant.old).rate }
     requires may { S.MayRun now.0 node.old }
     ensures fibres { OnOk result (P.fibres plant.new ≡ sent_now S.kind now.0 at.0 node.old (P.fibres plant.old)) }
-    ensures kept { OnErr result ((P.fibres plant.new ≡ P.fibres plant.old) ⊎ (P.fibres plant.new ≡ sent_west S.kind now.0 at.0 node.old (P.fibres plant.old))) }
+    ensures kept { OnErr result
+        ((P.fibres plant.new ≡ P.fibres plant.old) ⊎ (P.fibres plant.new ≡ sent_west S.kind now.0 at.0 node.old (P.fibres plant.old))) }
     ensures node { node.new ≡ S.kind.after now.0 node.old }
     ensures west { west.new.rate ≡ west.old.rate }
     ensures east { east.new.rate ≡ east.old.rate }

@@ -17,7 +17,8 @@ use sdh_ring::{PlantFault, Ring};
 #[tactic(auto, unfolding(sdh_world::specs::Changes::changed))]
 pub fn change<P: Plant>(ring: &mut Ring, plant: &mut P, step: Step) -> Result<(), PlantFault>
     requires prepared { IsPrepared ring.old.settings.rate (length ring.old.ids) (P.fibres plant.old) }
-    requires steps { AreSteps ring.old.settings.rate (length ring.old.ids) (length ring.old.circuits.circuits) (past_of 0 ring.old) (step ∷ []) }
+    requires steps { AreSteps ring.old.settings.rate (length ring.old.ids) (length ring.old.circuits.circuits)
+        (past_of 0 ring.old) (step ∷ []) }
     ensures ok { OnOk result (world ring.new (P.fibres plant.new) ≡ after_step step (world ring.old (P.fibres plant.old))) }
     ensures err { OnErr result (Refused step (P.fibres plant.old) (P.fibres plant.new)) }
     ensures cause { HasCause P.exact (P.faults plant.old) (P.faults plant.new) result }

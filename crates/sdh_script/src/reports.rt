@@ -94,7 +94,8 @@ fn put_port(text: &mut Text, ring: &Ring, circuit: u8, named: &Circuit, end: End
 fn put_circuit(text: &mut Text, ring: &Ring, circuit: u8, named: &Circuit)
     requires inside { circuit < length ring.now.circuits.circuits }
     requires room { 192 ≤ text.old.room }
-    ensures bytes { text.new.bytes ≡ text.old.bytes ++ (told_line (port_told ring.now circuit named.now A) ++ told_line (port_told ring.now circuit named.now B)) }
+    ensures bytes { text.new.bytes ≡ text.old.bytes
+        ++ (told_line (port_told ring.now circuit named.now A) ++ told_line (port_told ring.now circuit named.now B)) }
     ensures room { text.old.room ≤ text.new.room + 192 }
 {
     put_port(text, ring, circuit, named, End::A);
@@ -153,7 +154,8 @@ fn chunks_of(ring: &Ring, circuit: u8, end: End) -> u32
 // How many ports of a circuit delivered a chunk.
 fn chunks_at(ring: &Ring, circuit: u8) -> u32
     requires inside { circuit < length ring.now.circuits.circuits }
-    ensures chunks { result ≡ chunks_of (outlet_at ring.now (record { circuit = circuit; end = A })).delivered + chunks_of (outlet_at ring.now (record { circuit = circuit; end = B })).delivered }
+    ensures chunks { result ≡ chunks_of (outlet_at ring.now (record { circuit = circuit; end = A })).delivered + chunks_of
+        (outlet_at ring.now (record { circuit = circuit; end = B })).delivered }
     ensures few { result ≤ 2 }
 {
     chunks_of(ring, circuit, End::A) + chunks_of(ring, circuit, End::B)
@@ -186,7 +188,8 @@ fn put_counts(text: &mut Text, ring: &Ring, number: u32)
     requires whole { ring.now.broken ≡ false }
     requires ran { 1 ≤ ring.now.rounds }
     requires room { 96 ≤ text.old.room }
-    ensures bytes { text.new.bytes ≡ text.old.bytes ++ count_line number (ring.now.rounds - 1) (chunks_in (ports_told ring.now)) (silences_in (ports_told ring.now)) }
+    ensures bytes { text.new.bytes ≡ text.old.bytes
+        ++ count_line number (ring.now.rounds - 1) (chunks_in (ports_told ring.now)) (silences_in (ports_told ring.now)) }
     ensures room { text.old.room ≤ text.new.room + 96 }
 {
     let chunks = chunks_in(ring);

@@ -53,7 +53,9 @@ fn run_from<R: Runner + Drop, P: Plant>(new_run: NewRun<R>, plant: &mut P) -> Ru
     requires room { HasRoom (R.room new_run.runner) 0 new_run.text.room }
     requires some { 1 ≤ new_run.limit }
     requires few { new_run.limit ≤ 65536 }
-    ensures ran { (left : HeldRing R.Node) × Lists R.walk new_run.limit (R.text_of new_run.runner) new_run.steps.items (world (R.ring new_run.runner) (P.fibres plant.old)) new_run.text.bytes result.text.bytes result.status (world left (P.fibres plant.new)) }
+    ensures ran { (left : HeldRing R.Node) × Lists R.walk new_run.limit (R.text_of new_run.runner) new_run.steps.items
+        (world (R.ring new_run.runner) (P.fibres plant.old)) new_run.text.bytes result.text.bytes result.status
+        (world left (P.fibres plant.new)) }
     ensures room { 96 ≤ result.text.room }
     ensures later { P.faults plant.old ≤ P.faults plant.new }
     ensures failed { result.status ≡ Status.PlantFault → Rose (P.faults plant.old) (P.faults plant.new) }
@@ -81,7 +83,8 @@ pub fn start<R: Runner + Drop, P: Plant>(
     requires ready { MayBegin R.ring R.room R.MayRun new_run }
 
     // The text is that of one list of reports, which came over the fibres that were prepared for the ring; or there were none.
-    ensures came { IfOk result (λ run. Came R.walk new_run.limit (R.text_of new_run.runner) new_run.steps.items (with_fibres (R.ring new_run.runner) (P.fibres plant.old)) (P.fibres plant.old) run.text.bytes run.status (P.fibres plant.new)) }
+    ensures came { IfOk result (λ run. Came R.walk new_run.limit (R.text_of new_run.runner) new_run.steps.items
+        (with_fibres (R.ring new_run.runner) (P.fibres plant.old)) (P.fibres plant.old) run.text.bytes run.status (P.fibres plant.new)) }
     ensures failed { IfOk result (λ run. run.status ≡ Status.PlantFault → Rose (P.faults plant.old) (P.faults plant.new)) }
 
     // Where the plant's count is exact: one call failed with a fault, and none with any other ending, nor without memory.

@@ -39,8 +39,10 @@ pub trait Runner {
     fn change<P: Plant>(&mut self, plant: &mut P, step: Step) -> Result<(), PlantFault>
         requires may { (number : ℕ) × (later : List Step) × MayRun number (step ∷ later) self.old (P.fibres plant.old) }
         requires other { step ≡ Step.Settle → ⊥ }
-        ensures ok { OnOk result (world (ring self.new) (P.fibres plant.new) ≡ walk.does step (world (ring self.old) (P.fibres plant.old))) }
-        ensures next { OnOk result ((number : ℕ) (later : List Step) → MayRun number (step ∷ later) self.old (P.fibres plant.old) → MayRun number later self.new (P.fibres plant.new)) }
+        ensures ok { OnOk result
+            (world (ring self.new) (P.fibres plant.new) ≡ walk.does step (world (ring self.old) (P.fibres plant.old))) }
+        ensures next { OnOk result ((number : ℕ) (later : List Step) → MayRun number (step ∷ later) self.old (P.fibres plant.old)
+            → MayRun number later self.new (P.fibres plant.new)) }
         ensures err { OnErr result (Refused step (P.fibres plant.old) (P.fibres plant.new)) }
         ensures writes { OnOk result (text_of self.new ≡ text_of self.old) }
         ensures same_room { OnOk result (room self.new ≡ room self.old) }
@@ -58,10 +60,13 @@ pub trait Runner {
         requires room { room self.old ≤ text.old.room }
         requires some { 1 ≤ limit }
         requires few { limit ≤ 65536 }
-        ensures ok { OnOk result (Wrote walk limit (number + 1) (text_of self.old) (world (ring self.old) (P.fibres plant.old)) (world (ring self.new) (P.fibres plant.new)) text.old.bytes text.new.bytes) }
-        ensures next { OnOk result ((later : List Step) → MayRun number (Step.Settle ∷ later) self.old (P.fibres plant.old) → MayRun (number + 1) later self.new (P.fibres plant.new)) }
+        ensures ok { OnOk result (Wrote walk limit (number + 1) (text_of self.old) (world (ring self.old) (P.fibres plant.old))
+            (world (ring self.new) (P.fibres plant.new)) text.old.bytes text.new.bytes) }
+        ensures next { OnOk result ((later : List Step) → MayRun number (Step.Settle ∷ later) self.old (P.fibres plant.old)
+            → MayRun (number + 1) later self.new (P.fibres plant.new)) }
         ensures room { OnOk result (text.old.room ≤ text.new.room + room self.old) }
-        ensures err { IfErr result (λ why. EndsBy walk limit (world (ring self.old) (P.fibres plant.old)) why (world (ring self.new) (P.fibres plant.new))) }
+        ensures err { IfErr result
+            (λ why. EndsBy walk limit (world (ring self.old) (P.fibres plant.old)) why (world (ring self.new) (P.fibres plant.new))) }
         ensures same { OnErr result (text.new ≡ text.old) }
         ensures writes { OnOk result (text_of self.new ≡ text_of self.old) }
         ensures same_room { OnOk result (room self.new ≡ room self.old) }

@@ -25,10 +25,14 @@ fn run_step<R: Runner, P: Plant>(
     requires room { HasRoom (R.room runner.old) number text.old.room }
     requires some { 1 ≤ limit }
     requires few { limit ≤ 65536 }
-    ensures ok { IfOk result (λ n. (later : List Step) → Went R.walk limit (R.text_of runner.old) number (step ∷ later) (world (R.ring runner.old) (P.fibres plant.old)) text.old.bytes text.new.bytes n later (world (R.ring runner.new) (P.fibres plant.new))) }
-    ensures next { IfOk result (λ n. (later : List Step) → R.MayRun number (step ∷ later) runner.old (P.fibres plant.old) → R.MayRun n later runner.new (P.fibres plant.new)) }
+    ensures ok { IfOk result (λ n. (later : List Step) → Went R.walk limit
+        (R.text_of runner.old) number (step ∷ later) (world (R.ring runner.old) (P.fibres plant.old)) text.old.bytes text.new.bytes n later
+        (world (R.ring runner.new) (P.fibres plant.new))) }
+    ensures next { IfOk result (λ n. (later : List Step) → R.MayRun number (step ∷ later) runner.old (P.fibres plant.old)
+        → R.MayRun n later runner.new (P.fibres plant.new)) }
     ensures room { IfOk result (λ n. HasRoom (R.room runner.old) n text.new.room) }
-    ensures err { IfErr result (λ how. StopsAt R.walk limit number step (world (R.ring runner.old) (P.fibres plant.old)) how (world (R.ring runner.new) (P.fibres plant.new))) }
+    ensures err { IfErr result (λ how. StopsAt R.walk limit number step (world (R.ring runner.old) (P.fibres plant.old)) how
+        (world (R.ring runner.new) (P.fibres plant.new))) }
     ensures same { OnErr result (text.new ≡ text.old) }
     ensures writes { OnOk result (R.text_of runner.new ≡ R.text_of runner.old) }
     ensures same_room { OnOk result (R.room runner.new ≡ R.room runner.old) }
@@ -62,7 +66,9 @@ pub fn run_script<R: Runner, P: Plant>(
     requires room { HasRoom (R.room runner.old) 0 text.old.room }
     requires some { 1 ≤ limit }
     requires few { limit ≤ 65536 }
-    ensures ran { Lists R.walk limit (R.text_of runner.old) steps.now (world (R.ring runner.old) (P.fibres plant.old)) text.old.bytes text.new.bytes result (world (R.ring runner.new) (P.fibres plant.new)) }
+    ensures ran { Lists R.walk limit (R.text_of runner.old) steps.now
+        (world (R.ring runner.old) (P.fibres plant.old)) text.old.bytes text.new.bytes result
+        (world (R.ring runner.new) (P.fibres plant.new)) }
     ensures room { 96 ≤ text.new.room }
     ensures later { P.faults plant.old ≤ P.faults plant.new }
     ensures failed { result ≡ Status.PlantFault → Rose (P.faults plant.old) (P.faults plant.new) }

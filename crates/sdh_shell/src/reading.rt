@@ -29,7 +29,8 @@ pub fn plan_in<R: Source>(alloc: Global, source: &mut R) -> Result<Plan, NoPlan>
     ensures too_long { result ≡ Err (NoPlan.Refused Status.TooLong) → TakesCount (R.left source.old) (R.left source.new) 1048577 }
 
     // The bytes of a plan and no fault: there is a plan, or no memory.
-    ensures complete { HasPlan (R.left source.old) → ¬ (Rose (R.faults source.old) (R.faults source.new)) → IsOk result ⊎ (result ≡ Err NoPlan.Memory) }
+    ensures complete { HasPlan (R.left source.old) → ¬ (Rose (R.faults source.old) (R.faults source.new))
+        → IsOk result ⊎ (result ≡ Err NoPlan.Memory) }
     ensures later { R.faults source.old ≤ R.faults source.new }
 
     // Where the count is exact: one read failed with a read fault, and none with any other answer.

@@ -90,7 +90,8 @@ pub fn hear_all(map: &RingMap, words: &[Sent], needs: &[Needs], filters: &mut Ve
     requires few { length map.now ≤ 16 }
     requires needs { length needs.now ≡ length map.now }
     requires filters { length filters.old.items ≡ length map.now }
-    ensures filters { filters.new.items ≡ map_from (λ p x. filters_with words.now (length map.now) p x (get_or filters.old.items p no_filters)) 0 needs.now }
+    ensures filters { filters.new.items ≡ map_from
+        (λ p x. filters_with words.now (length map.now) p x (get_or filters.old.items p no_filters)) 0 needs.now }
     ensures len { length filters.new.items ≡ length map.now }
 {
     for i in 0..needs.len() {

@@ -36,7 +36,8 @@ impl Model for PathCross {
 
     ghost view = { λ x. record { uses = x.uses.items; west = x.west; east = x.east; west_in = x.west_in; east_in = x.east_in } };
 
-    ghost invariant = { λ x. IsCross (record { uses = x.uses.items; west = x.west; east = x.east; west_in = x.west_in; east_in = x.east_in }) };
+    ghost invariant = { λ x. IsCross
+        (record { uses = x.uses.items; west = x.west; east = x.east; west_in = x.west_in; east_in = x.east_in }) };
 }
 
 // The other side.
@@ -83,7 +84,8 @@ impl PathCross {
     pub fn exchange(&mut self, side: Side, arrived: Arrived, inbox: &mut Landed)
         requires rate { inbox.old.rate ≡ self.old.west.section.rate }
         requires here { arrived ≡ Arrived.Frame → inbox.old.landed ≢ None }
-        ensures cross { self.new ≡ record (cross_told side (arrived_in arrived inbox.old.landed) self.old) { west_in = self.new.west_in; east_in = self.new.east_in } }
+        ensures cross { self.new ≡ record (cross_told side
+            (arrived_in arrived inbox.old.landed) self.old) { west_in = self.new.west_in; east_in = self.new.east_in } }
         ensures rate { inbox.new.rate ≡ inbox.old.rate }
         ensures dark { arrived ≡ Arrived.Dark → inbox.new ≡ inbox.old }
         ensures taken { arrived ≡ Arrived.Frame → inbox.new.landed ≡ None }
@@ -98,7 +100,8 @@ impl PathCross {
     #[tactic(auto, unfolding(crate::specs::Node::after_taken))]
     pub fn take(&mut self, threshold: u16) -> bool
         ensures cross { self.new ≡ after_taken threshold self.old }
-        ensures same { result ≡ (same_readings self.new.west.readings self.old.west.readings && same_readings self.new.east.readings self.old.east.readings) }
+        ensures same { result ≡ (same_readings self.new.west.readings self.old.west.readings
+            && same_readings self.new.east.readings self.old.east.readings) }
         ensures rate { self.new.west.section.rate ≡ self.old.west.section.rate }
     {
         let (_, _, west) = self.west.take(threshold, &mut self.west_in);

@@ -132,7 +132,8 @@ impl PathRing {
 
         // Before the first round every port delivers AIS.
         ensures silent { IfOk result (λ ring. (port : PortId) → outlet_at ring port ≡ silent) }
-        ensures same_slot { (first second : ℕ) → result ≡ Err (PathError.SameSlot first second) → AreFirstToShare circuits.circuits first second }
+        ensures same_slot { (first second : ℕ) → result ≡ Err (PathError.SameSlot first second)
+            → AreFirstToShare circuits.circuits first second }
         ensures alone { IfOk result (λ ring. AreAlone circuits.circuits) }
         ensures memory { result ≡ Err PathError.Memory → AreAlone circuits.circuits }
     {
@@ -264,11 +265,14 @@ impl PathRing {
         ensures numbers { OnOk result (EndsAtAMultiple self.old self.new limit) }
 
         // All ports have delivered what they are due, by the fibres' conditions alone.
-        ensures owed { OnOk result (IsWhole (world self.old (P.fibres plant.old)) → DeliversWhatIsDue (world self.new (P.fibres plant.new))) }
-        ensures whole { result ≢ Err SettleError.PlantFault → IsWhole (world self.old (P.fibres plant.old)) → IsWhole (world self.new (P.fibres plant.new)) }
+        ensures owed { OnOk result
+            (IsWhole (world self.old (P.fibres plant.old)) → DeliversWhatIsDue (world self.new (P.fibres plant.new))) }
+        ensures whole { result ≢ Err SettleError.PlantFault → IsWhole (world self.old (P.fibres plant.old))
+            → IsWhole (world self.new (P.fibres plant.new)) }
 
         // No step with a large limit is unsettled.
-        ensures answers { IsWhole (world self.old (P.fibres plant.old)) → enough_for (length self.old.ids) ≤ limit → result ≢ Err SettleError.Unsettled }
+        ensures answers { IsWhole (world self.old (P.fibres plant.old)) → enough_for (length self.old.ids) ≤ limit
+            → result ≢ Err SettleError.Unsettled }
         ensures all { result ≡ Err SettleError.Unsettled → self.new.rounds ≡ self.old.rounds + limit }
         ensures broken { result ≡ Err SettleError.PlantFault → self.new.broken ≡ true }
         ensures later { P.faults plant.old ≤ P.faults plant.new }

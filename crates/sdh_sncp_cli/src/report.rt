@@ -52,8 +52,10 @@ fn run_report<P: Plant>(alloc: Global, plan: Plan, plant: &mut P) -> Result<Repo
     requires fresh { HasNoFibres (P.fibres plant.old) }
     requires known { AreKnown plan.steps }
     ensures outcome { IfOk result (λ report. OfPlan plan (P.fibres plant.old) report.ending report.text.bytes (P.fibres plant.new)) }
-    ensures failed { IfOk result (λ report. report.ending ≡ Ending.Shared Status.PlantFault → Rose (P.faults plant.old) (P.faults plant.new)) }
-    ensures calls { IfOk result (λ report. IsCounted P.exact (report.ending ≡ Ending.Shared Status.PlantFault) (P.faults plant.old) (P.faults plant.new)) }
+    ensures failed { IfOk result
+        (λ report. report.ending ≡ Ending.Shared Status.PlantFault → Rose (P.faults plant.old) (P.faults plant.new)) }
+    ensures calls { IfOk result
+        (λ report. IsCounted P.exact (report.ending ≡ Ending.Shared Status.PlantFault) (P.faults plant.old) (P.faults plant.new)) }
     ensures without { OnErr result (P.exact ≡ true → P.faults plant.new ≡ P.faults plant.old) }
     ensures later { P.faults plant.old ≤ P.faults plant.new }
     ensures unsent { OnErr result (P.fibres plant.new ≡ P.fibres plant.old) }
@@ -71,8 +73,10 @@ fn run_report<P: Plant>(alloc: Global, plan: Plan, plant: &mut P) -> Result<Repo
 fn plan_report<P: Plant>(alloc: Global, plan: Plan, plant: &mut P) -> Result<Report, AllocError>
     requires fresh { HasNoFibres (P.fibres plant.old) }
     ensures outcome { IfOk result (λ report. OfPlan plan (P.fibres plant.old) report.ending report.text.bytes (P.fibres plant.new)) }
-    ensures failed { IfOk result (λ report. report.ending ≡ Ending.Shared Status.PlantFault → Rose (P.faults plant.old) (P.faults plant.new)) }
-    ensures calls { IfOk result (λ report. IsCounted P.exact (report.ending ≡ Ending.Shared Status.PlantFault) (P.faults plant.old) (P.faults plant.new)) }
+    ensures failed { IfOk result
+        (λ report. report.ending ≡ Ending.Shared Status.PlantFault → Rose (P.faults plant.old) (P.faults plant.new)) }
+    ensures calls { IfOk result
+        (λ report. IsCounted P.exact (report.ending ≡ Ending.Shared Status.PlantFault) (P.faults plant.old) (P.faults plant.new)) }
     ensures without { OnErr result (P.exact ≡ true → P.faults plant.new ≡ P.faults plant.old) }
     ensures later { P.faults plant.old ≤ P.faults plant.new }
     ensures unsent { OnErr result (P.fibres plant.new ≡ P.fibres plant.old) }
@@ -90,12 +94,18 @@ fn read_report<R: Source, P: Plant>(
     plant: &mut P,
 ) -> Result<Report, AllocError>
     requires fresh { HasNoFibres (P.fibres plant.old) }
-    ensures outcome { IfOk result (λ report. IfSome (R.left source.old) (λ bytes. OfBytes bytes (P.fibres plant.old) report.ending report.text.bytes (P.fibres plant.new))) }
-    ensures cause { IfOk result (λ report. HasCause (record { before = R.faults source.old; after = R.faults source.new }) (record { before = P.faults plant.old; after = P.faults plant.new }) report.ending) }
-    ensures reads { IfOk result (λ report. IsCounted R.exact (report.ending ≡ Ending.Shared Status.ReadFault) (R.faults source.old) (R.faults source.new)) }
-    ensures too_long { IfOk result (λ report. report.ending ≡ Ending.Shared Status.TooLong → TakesCount (R.left source.old) (R.left source.new) 1048577) }
-    ensures calls { IfOk result (λ report. IsCounted P.exact (report.ending ≡ Ending.Shared Status.PlantFault) (P.faults plant.old) (P.faults plant.new)) }
-    ensures without { OnErr result ((R.exact ≡ true → R.faults source.new ≡ R.faults source.old) × (P.exact ≡ true → P.faults plant.new ≡ P.faults plant.old)) }
+    ensures outcome { IfOk result (λ report. IfSome (R.left source.old)
+        (λ bytes. OfBytes bytes (P.fibres plant.old) report.ending report.text.bytes (P.fibres plant.new))) }
+    ensures cause { IfOk result (λ report. HasCause (record { before = R.faults source.old; after = R.faults source.new })
+        (record { before = P.faults plant.old; after = P.faults plant.new }) report.ending) }
+    ensures reads { IfOk result
+        (λ report. IsCounted R.exact (report.ending ≡ Ending.Shared Status.ReadFault) (R.faults source.old) (R.faults source.new)) }
+    ensures too_long { IfOk result
+        (λ report. report.ending ≡ Ending.Shared Status.TooLong → TakesCount (R.left source.old) (R.left source.new) 1048577) }
+    ensures calls { IfOk result
+        (λ report. IsCounted P.exact (report.ending ≡ Ending.Shared Status.PlantFault) (P.faults plant.old) (P.faults plant.new)) }
+    ensures without { OnErr result
+        ((R.exact ≡ true → R.faults source.new ≡ R.faults source.old) × (P.exact ≡ true → P.faults plant.new ≡ P.faults plant.old)) }
     ensures own { IfOk result (λ report. (report.ending ≢ Ending.Usage) × IsOwn report.ending) }
     ensures read { IfOk result (λ report. report.ending ≡ Ending.Shared Status.Ok → IsAtEnd (R.left source.new)) }
     ensures later { (R.faults source.old ≤ R.faults source.new) × (P.faults plant.old ≤ P.faults plant.new) }
@@ -118,12 +128,18 @@ pub fn report_on<R: Source, P: Plant>(
     plant: &mut P,
 ) -> Result<Report, AllocError>
     requires fresh { HasNoFibres (P.fibres plant.old) }
-    ensures outcome { IfOk result (λ report. IfSome (told (words_of words.now) (R.left source.old)) (λ bytes. IsOutcome (words_of words.now) bytes (P.fibres plant.old) report.ending report.text.bytes (P.fibres plant.new))) }
-    ensures cause { IfOk result (λ report. HasCause (record { before = R.faults source.old; after = R.faults source.new }) (record { before = P.faults plant.old; after = P.faults plant.new }) report.ending) }
-    ensures reads { IfOk result (λ report. IsCounted R.exact (report.ending ≡ Ending.Shared Status.ReadFault) (R.faults source.old) (R.faults source.new)) }
-    ensures too_long { IfOk result (λ report. report.ending ≡ Ending.Shared Status.TooLong → TakesCount (R.left source.old) (R.left source.new) 1048577) }
-    ensures calls { IfOk result (λ report. IsCounted P.exact (report.ending ≡ Ending.Shared Status.PlantFault) (P.faults plant.old) (P.faults plant.new)) }
-    ensures without { OnErr result ((R.exact ≡ true → R.faults source.new ≡ R.faults source.old) × (P.exact ≡ true → P.faults plant.new ≡ P.faults plant.old)) }
+    ensures outcome { IfOk result (λ report. IfSome (told (words_of words.now) (R.left source.old))
+        (λ bytes. IsOutcome (words_of words.now) bytes (P.fibres plant.old) report.ending report.text.bytes (P.fibres plant.new))) }
+    ensures cause { IfOk result (λ report. HasCause (record { before = R.faults source.old; after = R.faults source.new })
+        (record { before = P.faults plant.old; after = P.faults plant.new }) report.ending) }
+    ensures reads { IfOk result
+        (λ report. IsCounted R.exact (report.ending ≡ Ending.Shared Status.ReadFault) (R.faults source.old) (R.faults source.new)) }
+    ensures too_long { IfOk result
+        (λ report. report.ending ≡ Ending.Shared Status.TooLong → TakesCount (R.left source.old) (R.left source.new) 1048577) }
+    ensures calls { IfOk result
+        (λ report. IsCounted P.exact (report.ending ≡ Ending.Shared Status.PlantFault) (P.faults plant.old) (P.faults plant.new)) }
+    ensures without { OnErr result
+        ((R.exact ≡ true → R.faults source.new ≡ R.faults source.old) × (P.exact ≡ true → P.faults plant.new ≡ P.faults plant.old)) }
     ensures usage { IfOk result (λ report. is_run (words_of words.now) ≡ false → report.ending ≡ Ending.Usage) }
     ensures unasked { is_run (words_of words.now) ≡ false → (source.new ≡ source.old) × (plant.new ≡ plant.old) }
     ensures own { IfOk result (λ report. (report.ending ≡ Ending.Usage → is_run (words_of words.now) ≡ false) × IsOwn report.ending) }

@@ -30,21 +30,26 @@ fn answer<R: Source, W: Sink, P: Plant>(
     requires fresh { HasNoFibres (P.fibres plant.old) }
     ensures outcome { let reads : Counts = record { before = R.faults source.old; after = R.faults source.new } in
         let calls : Counts = record { before = P.faults plant.old; after = P.faults plant.new } in
-        IfSome (told (words_of words.now) (R.left source.old)) (λ bytes. WritesAs (telling_of result) (λ how text. MayEnd (words_of words.now) bytes (P.fibres plant.old) reads calls how text (P.fibres plant.new)) result (W.written sink.old) (W.written sink.new)) }
+        IfSome (told (words_of words.now) (R.left source.old)) (λ bytes. WritesAs (telling_of result)
+        (λ how text. MayEnd (words_of words.now) bytes (P.fibres plant.old) reads calls how text (P.fibres plant.new)) result
+        (W.written sink.old) (W.written sink.new)) }
     ensures ending { IsEnding result }
     ensures usage { result ≡ Ending.Usage → is_run (words_of words.now) ≡ false }
-    ensures usage_only { is_run (words_of words.now) ≡ false → (result ≡ Ending.Usage) ⊎ (result ≡ Ending.Shared Status.WriteFault) ⊎ (result ≡ Ending.Shared Status.Memory) }
+    ensures usage_only { is_run (words_of words.now) ≡ false
+        → (result ≡ Ending.Usage) ⊎ (result ≡ Ending.Shared Status.WriteFault) ⊎ (result ≡ Ending.Shared Status.Memory) }
     ensures unasked { is_run (words_of words.now) ≡ false → (source.new ≡ source.old) × (plant.new ≡ plant.old) }
     ensures read_fault { result ≡ Ending.Shared Status.ReadFault → Rose (R.faults source.old) (R.faults source.new) }
     ensures plant_fault { result ≡ Ending.Shared Status.PlantFault → Rose (P.faults plant.old) (P.faults plant.new) }
     ensures write_fault { result ≡ Ending.Shared Status.WriteFault → Rose (W.faults sink.old) (W.faults sink.new) }
     ensures came { let reads : Counts = record { before = R.faults source.old; after = R.faults source.new } in
         let calls : Counts = record { before = P.faults plant.old; after = P.faults plant.new } in
-        (how : Ending) × ((result ≡ how) ⊎ (result ≡ Ending.Shared Status.WriteFault)) × CameTo R.exact P.exact reads calls (R.left source.old) (R.left source.new) how }
+        (how : Ending) × ((result ≡ how) ⊎ (result ≡ Ending.Shared Status.WriteFault))
+        × CameTo R.exact P.exact reads calls (R.left source.old) (R.left source.new) how }
     ensures writes { IsCounted W.exact (result ≡ Ending.Shared Status.WriteFault) (W.faults sink.old) (W.faults sink.new) }
     ensures memory { result ≡ Ending.Shared Status.Memory → (sink.new ≡ sink.old) × (P.fibres plant.new ≡ P.fibres plant.old) }
     ensures read_whole { result ≡ Ending.Shared Status.Ok → IsAtEnd (R.left source.new) }
-    ensures later { (R.faults source.old ≤ R.faults source.new) × (W.faults sink.old ≤ W.faults sink.new) × (P.faults plant.old ≤ P.faults plant.new) }
+    ensures later { (R.faults source.old ≤ R.faults source.new) × (W.faults sink.old ≤ W.faults sink.new)
+        × (P.faults plant.old ≤ P.faults plant.new) }
 {
     let Ok(report) = report_on(alloc, words, source, plant) else {
         return Ending::Shared(Status::Memory);
@@ -71,10 +76,12 @@ pub fn sdhpath<R: Source, W: Sink, P: Plant>(
     // written. Over every plant the frames sent are those of the run, and where arrivals are known all of them are told.
     ensures outcome { let reads : Counts = record { before = R.faults source.old; after = R.faults source.new } in
         let calls : Counts = record { before = P.faults plant.old; after = P.faults plant.new } in
-        IfSome (told (words_of words.now) (R.left source.old)) (λ bytes. Answers (words_of words.now) bytes (P.fibres plant.old) (P.fibres plant.new) reads calls result (W.written sink.old) (W.written sink.new)) }
+        IfSome (told (words_of words.now) (R.left source.old)) (λ bytes. Answers (words_of words.now) bytes (P.fibres plant.old)
+        (P.fibres plant.new) reads calls result (W.written sink.old) (W.written sink.new)) }
 
     // Over honest fibres the reports show for every port what it is owed, and with a large limit no settle step is unsettled.
-    ensures owed { (P.fibres plant.old).honest ≡ true → IfSome (R.left source.old) (λ bytes. Delivers (words_of words.now) bytes result (W.written sink.old) (W.written sink.new)) }
+    ensures owed { (P.fibres plant.old).honest ≡ true
+        → IfSome (R.left source.old) (λ bytes. Delivers (words_of words.now) bytes result (W.written sink.old) (W.written sink.new)) }
     ensures settles { (P.fibres plant.old).honest ≡ true → IfSome (R.left source.old) (λ bytes. Settles (words_of words.now) bytes result) }
 
     // Where arrivals are known, unsettled comes exactly where a settle step has no quiet window within the limit.
@@ -92,14 +99,18 @@ pub fn sdhpath<R: Source, W: Sink, P: Plant>(
     // may stand in place of what was to be told. With 9 one byte more than a plan may have was taken.
     ensures came { let reads : Counts = record { before = R.faults source.old; after = R.faults source.new } in
         let calls : Counts = record { before = P.faults plant.old; after = P.faults plant.new } in
-        (how : Ending) × ((result ≡ number_of how) ⊎ (result ≡ 4)) × CameTo R.exact P.exact reads calls (R.left source.old) (R.left source.new) how }
+        (how : Ending) × ((result ≡ number_of how) ⊎ (result ≡ 4))
+        × CameTo R.exact P.exact reads calls (R.left source.old) (R.left source.new) how }
     ensures writes { IsCounted W.exact (result ≡ 4) (W.faults sink.old) (W.faults sink.new) }
     ensures memory { result ≡ 70 → (sink.new ≡ sink.old) × (P.fibres plant.new ≡ P.fibres plant.old) }
     ensures read_whole { result ≡ 0 → IsAtEnd (R.left source.new) }
-    ensures later { (R.faults source.old ≤ R.faults source.new) × (W.faults sink.old ≤ W.faults sink.new) × (P.faults plant.old ≤ P.faults plant.new) }
+    ensures later { (R.faults source.old ≤ R.faults source.new) × (W.faults sink.old ≤ W.faults sink.new)
+        × (P.faults plant.old ≤ P.faults plant.new) }
 
     // With all that a run needs, and no fault, everything is done, or there is no memory.
-    ensures complete { MayBeDone (words_of words.now) (R.left source.old) (P.fibres plant.old) → ¬ (Rose (R.faults source.old) (R.faults source.new)) → ¬ (Rose (W.faults sink.old) (W.faults sink.new)) → ¬ (Rose (P.faults plant.old) (P.faults plant.new)) → (result ≡ 0) ⊎ (result ≡ 70) }
+    ensures complete { MayBeDone (words_of words.now) (R.left source.old) (P.fibres plant.old)
+        → ¬ (Rose (R.faults source.old) (R.faults source.new)) → ¬ (Rose (W.faults sink.old) (W.faults sink.new))
+        → ¬ (Rose (P.faults plant.old) (P.faults plant.new)) → (result ≡ 0) ⊎ (result ≡ 70) }
 {
     answer(alloc, words, source, sink, plant).number()
 }

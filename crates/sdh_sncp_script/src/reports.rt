@@ -26,7 +26,8 @@ fn put_port(text: &mut Text, ring: &PathRing, circuit: u8, named: &Circuit, end:
 fn put_circuit(text: &mut Text, ring: &PathRing, circuit: u8, named: &Circuit)
     requires inside { circuit < length ring.now.circuits.circuits }
     requires room { 192 ≤ text.old.room }
-    ensures bytes { text.new.bytes ≡ text.old.bytes ++ (told_line (port_line_at (end_outlet ring.now) circuit named.now A) ++ told_line (port_line_at (end_outlet ring.now) circuit named.now B)) }
+    ensures bytes { text.new.bytes ≡ text.old.bytes ++ (told_line (port_line_at (end_outlet ring.now) circuit named.now A)
+        ++ told_line (port_line_at (end_outlet ring.now) circuit named.now B)) }
     ensures room { text.old.room ≤ text.new.room + 192 }
 {
     put_port(text, ring, circuit, named, End::A);

@@ -71,8 +71,10 @@ fn add_rows(
     span: Span,
 ) -> Result<(), AllocError>
     requires { IsProvisioning circuits.now }
-    ensures rows { OnOk result ((ids : List ℕ) → KeepsRing circuits.now ids → rows.new.items ≡ rows.old.items ++ cells (λ i. circuit_on (length ids) circuits.now.circuits span.0 (i + 1)) 8) }
-    ensures ends { OnOk result ((ids : List ℕ) → KeepsRing circuits.now ids → All (HasEnds (length ids)) rows.old.items → All (HasEnds (length ids)) rows.new.items) }
+    ensures rows { OnOk result ((ids : List ℕ) → KeepsRing circuits.now ids
+        → rows.new.items ≡ rows.old.items ++ cells (λ i. circuit_on (length ids) circuits.now.circuits span.0 (i + 1)) 8) }
+    ensures ends { OnOk result ((ids : List ℕ) → KeepsRing circuits.now ids → All (HasEnds (length ids)) rows.old.items
+        → All (HasEnds (length ids)) rows.new.items) }
 {
     for i in 0..8u8 {
         rows.push(row_on(circuits, span, Slot(i + 1)))?;
@@ -138,7 +140,8 @@ impl Table {
     /// The positions of the two ends, port A's before port B's, of the circuit on a side in a slot.
     pub fn ends(&self, side: Side, slot: Slot) -> Option<(Pos, Pos)>
         requires { (1 ≤ slot.0) × (slot.0 ≤ 8) }
-        ensures { result ≡ option_map (λ r. (r.from, r.to)) (circuits_at (length self.now.ring) self.now.circuits self.now.at.0 slot.0 side) }
+        ensures { result ≡ option_map (λ r. (r.from, r.to))
+            (circuits_at (length self.now.ring) self.now.circuits self.now.at.0 slot.0 side) }
     {
         let row = self.row(side, slot)?;
         Some((row.from, row.to))

@@ -29,7 +29,8 @@ fn put_circuit(
     requires from { ends.0.0 < length map.now }
     requires to { ends.1.0 < length map.now }
     requires room { 96 ≤ text.old.room }
-    ensures bytes { text.new.bytes ≡ text.old.bytes ++ table_line (slice_index map.now at.0) side slot name.now (slice_index map.now ends.0.0) (slice_index map.now ends.1.0) }
+    ensures bytes { text.new.bytes ≡ text.old.bytes
+        ++ table_line (slice_index map.now at.0) side slot name.now (slice_index map.now ends.0.0) (slice_index map.now ends.1.0) }
     ensures room { text.old.room ≤ text.new.room + 96 }
 {
     text.table_line(map.id(at), side, slot, name, map.id(ends.0), map.id(ends.1));
@@ -61,7 +62,8 @@ fn put_side(text: &mut Text, plan: &Plan, table: &Table, at: Pos, side: Side)
     requires at { at.0 < length plan.now.nodes }
     requires table { table.now ≡ table_of plan.now.nodes plan.now.circuits at }
     requires room { 768 ≤ text.old.room }
-    ensures bytes { text.new.bytes ≡ text.old.bytes ++ side_lines (n_of plan.now.settings.rate / 2) plan.now.nodes plan.now.circuits at.0 side }
+    ensures bytes { text.new.bytes ≡ text.old.bytes
+        ++ side_lines (n_of plan.now.settings.rate / 2) plan.now.nodes plan.now.circuits at.0 side }
     ensures room { text.old.room ≤ text.new.room + 768 }
 {
     for i in 0..plan.settings().rate.half() {
@@ -73,7 +75,8 @@ fn put_side(text: &mut Text, plan: &Plan, table: &Table, at: Pos, side: Side)
 fn put_node(text: &mut Text, alloc: Global, plan: &Plan, at: Pos) -> Result<(), AllocError>
     requires at { at.0 < length plan.now.nodes }
     requires room { 1536 ≤ text.old.room }
-    ensures bytes { OnOk result (text.new.bytes ≡ text.old.bytes ++ node_lines (n_of plan.now.settings.rate / 2) plan.now.nodes plan.now.circuits at.0) }
+    ensures bytes { OnOk result
+        (text.new.bytes ≡ text.old.bytes ++ node_lines (n_of plan.now.settings.rate / 2) plan.now.nodes plan.now.circuits at.0) }
     ensures room { text.old.room ≤ text.new.room + 1536 }
 {
     let table = Table::try_new(alloc, plan.map(), plan.circuits(), at)?;

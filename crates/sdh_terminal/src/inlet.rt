@@ -112,8 +112,13 @@ impl Inlet {
     // Finds in what arrived the defect and the word that it brings.
     fn find(&mut self, threshold: u16, intake: &mut Intake) -> (Defect, Option<K>)
         requires { intake.old.frame.rate ≡ self.old.section.rate }
-        ensures side { self.new ≡ record self.old { arrived = None; section = holding self.old.section.rate (found threshold self.old).last } }
-        ensures intake { intake.new ≡ record intake.old { frame = record { rate = self.old.section.rate; bytes = (found threshold self.old).bytes } } }
+        ensures side { self.new ≡ record self.old {
+          arrived = None;
+          section = holding self.old.section.rate (found threshold self.old).last;
+        } }
+        ensures intake { intake.new ≡ record intake.old {
+          frame = record { rate = self.old.section.rate; bytes = (found threshold self.old).bytes };
+        } }
         ensures defect { result.0 ≡ (found threshold self.old).defect }
         ensures word { result.1 ≡ (found threshold self.old).word }
         ensures silent { result.0 ≡ Defect.Sf → result.1 ≡ None }
@@ -140,8 +145,12 @@ impl Inlet {
     // AIS. Whether they keep what they kept.
     fn interpret(&mut self, told: bool, intake: &mut Intake) -> bool
         requires { intake.old.frame.rate ≡ self.old.section.rate }
-        ensures side { self.new ≡ record self.old { readings = readings_by told (n_of self.old.section.rate) intake.old.frame.bytes self.old.readings } }
-        ensures intake { intake.new ≡ record intake.old { actions = actions_by told (n_of self.old.section.rate) intake.old.frame.bytes self.old.readings } }
+        ensures side { self.new ≡ record self.old {
+          readings = readings_by told (n_of self.old.section.rate) intake.old.frame.bytes self.old.readings;
+        } }
+        ensures intake { intake.new ≡ record intake.old {
+          actions = actions_by told (n_of self.old.section.rate) intake.old.frame.bytes self.old.readings;
+        } }
         ensures same { result ≡ same_readings self.new.readings self.old.readings }
     {
         if told {

@@ -104,8 +104,14 @@ impl Intake {
         requires rate { inbox.old.rate ≡ self.old.frame.rate }
         requires here { inbox.old.landed ≢ None }
         requires section { section.old.rate ≡ self.old.frame.rate }
-        ensures intake { self.new ≡ record self.old { frame = record { rate = self.old.frame.rate; bytes = (reception_of (Some inbox.old.landed) inbox.old.rate threshold section.old.last).bytes } } }
-        ensures section { section.new ≡ holding section.old.rate (reception_of (Some inbox.old.landed) inbox.old.rate threshold section.old.last).last }
+        ensures intake { self.new ≡ record self.old {
+          frame = record {
+            rate = self.old.frame.rate;
+            bytes = (reception_of (Some inbox.old.landed) inbox.old.rate threshold section.old.last).bytes;
+          };
+        } }
+        ensures section { section.new ≡ holding section.old.rate
+            (reception_of (Some inbox.old.landed) inbox.old.rate threshold section.old.last).last }
         ensures rate { inbox.new.rate ≡ inbox.old.rate }
         ensures defect { result.0 ≡ (reception_of (Some inbox.old.landed) inbox.old.rate threshold section.old.last).defect }
         ensures word { result.1 ≡ (reception_of (Some inbox.old.landed) inbox.old.rate threshold section.old.last).word }
@@ -120,8 +126,11 @@ impl Intake {
     /// All interpreters read the frame. Whether they keep what they kept.
     pub fn read(&mut self, interps: &mut Vec<Interp>) -> bool
         requires { length interps.old.items ≡ n_of self.old.frame.rate }
-        ensures intake { self.new ≡ record self.old { actions = actions_in (n_of self.old.frame.rate) self.old.frame.bytes (readings_of interps.old.items) } }
-        ensures readings { readings_of interps.new.items ≡ after_frame (n_of self.old.frame.rate) self.old.frame.bytes (readings_of interps.old.items) }
+        ensures intake { self.new ≡ record self.old {
+          actions = actions_in (n_of self.old.frame.rate) self.old.frame.bytes (readings_of interps.old.items);
+        } }
+        ensures readings { readings_of interps.new.items ≡ after_frame (n_of self.old.frame.rate) self.old.frame.bytes
+            (readings_of interps.old.items) }
         ensures len { length interps.new.items ≡ n_of self.old.frame.rate }
         ensures same { result ≡ same_readings (readings_of interps.new.items) (readings_of interps.old.items) }
     {
@@ -139,7 +148,8 @@ impl Intake {
 // What an opened frame is to a side by what it says, where B2 may have fewer violations than the threshold: the defect, and the
 // word heard. A frame that fails becomes ones.
 fn find_frame(threshold: u16, received: Received, frame: &mut FrameBuf) -> (Defect, Option<K>)
-    ensures frame { (last : Option Parities) → frame.new ≡ record frame.old { bytes = (frame_reception frame.old.rate threshold frame.old.bytes last received).bytes } }
+    ensures frame { (last : Option Parities)
+        → frame.new ≡ record frame.old { bytes = (frame_reception frame.old.rate threshold frame.old.bytes last received).bytes } }
     ensures defect { (last : Option Parities) → result.0 ≡ (frame_reception frame.old.rate threshold frame.old.bytes last received).defect }
     ensures word { (last : Option Parities) → result.1 ≡ (frame_reception frame.old.rate threshold frame.old.bytes last received).word }
     ensures silent { result.0 ≡ Defect.Sf → result.1 ≡ None }

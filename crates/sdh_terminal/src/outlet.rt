@@ -91,7 +91,8 @@ impl Outlet {
         requires value { value ≤ 782 }
         requires payloads { IsOf frame.now payloads.old }
         ensures payloads { IsOf frame.now payloads.new }
-        ensures outlet { let came = au_of (n_of frame.now.rate) au frame.now.bytes in self.new ≡ delivering value (taken form came.payload (h3_of came.pointers)) }
+        ensures outlet { let came = au_of (n_of frame.now.rate) au frame.now.bytes in
+            self.new ≡ delivering value (taken form came.payload (h3_of came.pointers)) }
     {
         let mut cells = take_cells(&mut self.delivered, &mut self.spare);
         take_au(frame, payloads, au, form, &mut cells);

@@ -62,7 +62,8 @@ fn pointers_for(action: Action, form: Form, word: Word, frame: &FrameBuf, au: u1
 fn source_for(action: Action, side: Side, au: u16) -> Source
     requires { 1 ≤ au }
     ensures source { (n to : ℕ) → au ≤ n → IsSource n to result }
-    ensures payload { (n w : ℕ) (form : Form) (west east : List ℕ) (own : List (List ℕ)) → payload_from n west east own result ≡ (au_for action form w (au_of n au (bytes_on side west east))).payload }
+    ensures payload { (n w : ℕ) (form : Form) (west east : List ℕ) (own : List (List ℕ))
+        → payload_from n west east own result ≡ (au_for action form w (au_of n au (bytes_on side west east))).payload }
 {
     match action {
         Action::Ais => Source::Ones,
@@ -79,7 +80,8 @@ fn send_ais(generator: &mut Gen) -> (Source, [u8; 9])
     ensures generator { generator.new ≡ after_action generator.old Action.Ais 0 }
     ensures source { (n to : ℕ) → IsSource n to result.0 }
     ensures pointers { result.1 ≡ (au_sent generator.old.sending no_input).pointers }
-    ensures payload { (n : ℕ) (west east : List ℕ) (own : List (List ℕ)) → payload_from n west east own result.0 ≡ (au_sent generator.old.sending no_input).payload }
+    ensures payload { (n : ℕ) (west east : List ℕ) (own : List (List ℕ))
+        → payload_from n west east own result.0 ≡ (au_sent generator.old.sending no_input).payload }
 {
     generator.step(Action::Ais, 0);
     (Source::Ones, [0xFF; 9])
@@ -90,10 +92,12 @@ fn send_ais(generator: &mut Gen) -> (Source, [u8; 9])
 fn pass_on<X: Matrix>(cross: &X, side: Side, au: u16, generator: &mut Gen) -> (Source, [u8; 9])
     requires first { 1 ≤ au }
     requires last { au ≤ n_of (X.lines cross.now).rate }
-    ensures generator { let input = received (X.lines cross.now) side au in generator.new ≡ after_action generator.old input.action input.value }
+    ensures generator { let input = received (X.lines cross.now) side au in
+        generator.new ≡ after_action generator.old input.action input.value }
     ensures source { (to : ℕ) → IsSource (n_of (X.lines cross.now).rate) to result.0 }
     ensures pointers { result.1 ≡ (au_sent generator.old.sending (received (X.lines cross.now) side au)).pointers }
-    ensures payload { (own : List (List ℕ)) → payload_by (X.lines cross.now) own result.0 ≡ (au_sent generator.old.sending (received (X.lines cross.now) side au)).payload }
+    ensures payload { (own : List (List ℕ))
+        → payload_by (X.lines cross.now) own result.0 ≡ (au_sent generator.old.sending (received (X.lines cross.now) side au)).payload }
 {
     let action = cross.intake(side).action(au);
     let form = generator.step(action, cross.value(side, au));
@@ -115,7 +119,8 @@ fn send_own<'a>(
     ensures generator { let input = own_input port.now in generator.new ≡ after_action generator.old input.action input.value }
     ensures source { (n : ℕ) → IsSource n to result.0 }
     ensures pointers { result.1 ≡ (au_sent generator.old.sending (own_input port.now)).pointers }
-    ensures payload { (n : ℕ) (west east : List ℕ) → payload_from n west east own.new result.0 ≡ (au_sent generator.old.sending (own_input port.now)).payload }
+    ensures payload { (n : ℕ) (west east : List ℕ)
+        → payload_from n west east own.new result.0 ≡ (au_sent generator.old.sending (own_input port.now)).payload }
     ensures others { (m : ℕ) → 1 ≤ m → m ≢ to → payload_in m own.new ≡ payload_in m own.old }
 {
     let form = generator.step(port.action(), port.value());
@@ -137,7 +142,8 @@ fn add<'a>(
     ensures generator { let input = added_last ports.now id in generator.new ≡ after_action generator.old input.action input.value }
     ensures source { (n : ℕ) → IsSource n to result.0 }
     ensures pointers { result.1 ≡ (au_sent generator.old.sending (added_last ports.now id)).pointers }
-    ensures payload { (n : ℕ) (west east : List ℕ) → payload_from n west east own.new result.0 ≡ (au_sent generator.old.sending (added_last ports.now id)).payload }
+    ensures payload { (n : ℕ) (west east : List ℕ)
+        → payload_from n west east own.new result.0 ≡ (au_sent generator.old.sending (added_last ports.now id)).payload }
     ensures others { (m : ℕ) → 1 ≤ m → m ≢ to → payload_in m own.new ≡ payload_in m own.old }
 {
     match ports.find(id) {
@@ -159,10 +165,12 @@ fn send_one<'a, X: Matrix>(
     requires inside { IsFeeder (n_of (X.lines cross.now).rate) feeder }
     requires to_first { 1 ≤ to }
     requires last_to { to ≤ 16 }
-    ensures generator { let input = fed_by (X.lines cross.now) (added_last ports.now) feeder in generator.new ≡ after_action generator.old input.action input.value }
+    ensures generator { let input = fed_by (X.lines cross.now) (added_last ports.now) feeder in
+        generator.new ≡ after_action generator.old input.action input.value }
     ensures source { IsSource (n_of (X.lines cross.now).rate) to result.0 }
     ensures pointers { result.1 ≡ (au_sent generator.old.sending (fed_by (X.lines cross.now) (added_last ports.now) feeder)).pointers }
-    ensures payload { payload_by (X.lines cross.now) own.new result.0 ≡ (au_sent generator.old.sending (fed_by (X.lines cross.now) (added_last ports.now) feeder)).payload }
+    ensures payload { payload_by (X.lines cross.now) own.new result.0 ≡ (au_sent generator.old.sending
+        (fed_by (X.lines cross.now) (added_last ports.now) feeder)).payload }
     ensures others { (m : ℕ) → 1 ≤ m → m ≢ to → payload_in m own.new ≡ payload_in m own.old }
 {
     match feeder {
@@ -193,8 +201,11 @@ fn plan_all<'a, X: Matrix>(
     requires len { length generators.old.items ≡ n_of (X.lines cross.now).rate }
     requires sources { length sources.old ≡ n_of (X.lines cross.now).rate }
     requires pointers { length pointers.old ≡ n_of (X.lines cross.now).rate }
-    ensures generators { states_of generators.new.items ≡ after_inputs (all_fed_by (X.lines cross.now) (added_last ports.now) (X.leads cross.now side)) (states_of generators.old.items) }
-    ensures aus { assembled (n_of (X.lines cross.now).rate) (X.lines cross.now).west.intake.frame.bytes (X.lines cross.now).east.intake.frame.bytes own.new sources.new pointers.new ≡ aus_sent (all_fed_by (X.lines cross.now) (added_last ports.now) (X.leads cross.now side)) (states_of generators.old.items) }
+    ensures generators { states_of generators.new.items ≡ after_inputs
+        (all_fed_by (X.lines cross.now) (added_last ports.now) (X.leads cross.now side)) (states_of generators.old.items) }
+    ensures aus { assembled (n_of (X.lines cross.now).rate)
+        (X.lines cross.now).west.intake.frame.bytes (X.lines cross.now).east.intake.frame.bytes own.new sources.new pointers.new ≡ aus_sent
+        (all_fed_by (X.lines cross.now) (added_last ports.now) (X.leads cross.now side)) (states_of generators.old.items) }
     ensures sources { AreSources (n_of (X.lines cross.now).rate) sources.new }
     ensures same { result ≡ same_generators (states_of generators.new.items) (states_of generators.old.items) }
     ensures len { length generators.new.items ≡ n_of (X.lines cross.now).rate }
@@ -251,8 +262,11 @@ impl Assembly {
         requires len { length generators.old.items ≡ n_of (X.lines cross.now).rate }
         requires sources { length self.old.sources.items ≡ n_of (X.lines cross.now).rate }
         requires pointers { length self.old.pointers.items ≡ n_of (X.lines cross.now).rate }
-        ensures generators { states_of generators.new.items ≡ after_inputs (all_fed_by (X.lines cross.now) (added_last ports.now) (X.leads cross.now side)) (states_of generators.old.items) }
-        ensures aus { assembled (n_of (X.lines cross.now).rate) (X.lines cross.now).west.intake.frame.bytes (X.lines cross.now).east.intake.frame.bytes own.new self.new.sources.items self.new.pointers.items ≡ aus_sent (all_fed_by (X.lines cross.now) (added_last ports.now) (X.leads cross.now side)) (states_of generators.old.items) }
+        ensures generators { states_of generators.new.items ≡ after_inputs
+            (all_fed_by (X.lines cross.now) (added_last ports.now) (X.leads cross.now side)) (states_of generators.old.items) }
+        ensures aus { assembled (n_of (X.lines cross.now).rate) (X.lines cross.now).west.intake.frame.bytes
+            (X.lines cross.now).east.intake.frame.bytes own.new self.new.sources.items self.new.pointers.items ≡ aus_sent
+            (all_fed_by (X.lines cross.now) (added_last ports.now) (X.leads cross.now side)) (states_of generators.old.items) }
         ensures sources { AreSources (n_of (X.lines cross.now).rate) self.new.sources.items }
         ensures same { result ≡ same_generators (states_of generators.new.items) (states_of generators.old.items) }
         ensures len { length generators.new.items ≡ n_of (X.lines cross.now).rate }

@@ -146,10 +146,24 @@ fn send_rows(
     requires east_section { east_section.old.rate ≡ east_out.old.rate }
     requires west_fresh { west_section.old.under_way ≡ None }
     requires east_fresh { east_section.old.under_way ≡ None }
-    ensures west_frame { west_out.new ≡ record west_out.old { bytes = line_frame (n_of west_out.old.rate) west_section.old.last west.now.k1 west.now.k2 (put_together (n_of west_out.old.rate) first.now.bytes second.now.bytes west.now.own west.now.choice.sources west.now.pointers.now west_out.old.bytes) } }
-    ensures west_section { west_section.new ≡ holding west_out.old.rate (Some (parities_of (n_of west_out.old.rate) (clear_frame (n_of west_out.old.rate) west_section.old.last west.now.k1 west.now.k2 (put_together (n_of west_out.old.rate) first.now.bytes second.now.bytes west.now.own west.now.choice.sources west.now.pointers.now west_out.old.bytes)) west_out.new.bytes)) }
-    ensures east_frame { east_out.new ≡ record east_out.old { bytes = line_frame (n_of east_out.old.rate) east_section.old.last east.now.k1 east.now.k2 (put_together (n_of east_out.old.rate) first.now.bytes second.now.bytes east.now.own east.now.choice.sources east.now.pointers.now east_out.old.bytes) } }
-    ensures east_section { east_section.new ≡ holding east_out.old.rate (Some (parities_of (n_of east_out.old.rate) (clear_frame (n_of east_out.old.rate) east_section.old.last east.now.k1 east.now.k2 (put_together (n_of east_out.old.rate) first.now.bytes second.now.bytes east.now.own east.now.choice.sources east.now.pointers.now east_out.old.bytes)) east_out.new.bytes)) }
+    ensures west_frame { west_out.new ≡ record west_out.old {
+      bytes = line_frame (n_of west_out.old.rate) west_section.old.last west.now.k1 west.now.k2
+          (put_together (n_of west_out.old.rate) first.now.bytes second.now.bytes west.now.own west.now.choice.sources
+          west.now.pointers.now west_out.old.bytes);
+    } }
+    ensures west_section { west_section.new ≡ holding west_out.old.rate (Some (parities_of (n_of west_out.old.rate)
+        (clear_frame (n_of west_out.old.rate) west_section.old.last west.now.k1 west.now.k2
+        (put_together (n_of west_out.old.rate) first.now.bytes second.now.bytes west.now.own west.now.choice.sources
+        west.now.pointers.now west_out.old.bytes)) west_out.new.bytes)) }
+    ensures east_frame { east_out.new ≡ record east_out.old {
+      bytes = line_frame (n_of east_out.old.rate) east_section.old.last east.now.k1 east.now.k2
+          (put_together (n_of east_out.old.rate) first.now.bytes second.now.bytes east.now.own east.now.choice.sources
+          east.now.pointers.now east_out.old.bytes);
+    } }
+    ensures east_section { east_section.new ≡ holding east_out.old.rate (Some (parities_of (n_of east_out.old.rate)
+        (clear_frame (n_of east_out.old.rate) east_section.old.last east.now.k1 east.now.k2
+        (put_together (n_of east_out.old.rate) first.now.bytes second.now.bytes east.now.own east.now.choice.sources
+        east.now.pointers.now east_out.old.bytes)) east_out.new.bytes)) }
 {
     prove!(west_out.bytes().len() == 2430 * west_out.rate().n());
     prove!(east_out.bytes().len() == 2430 * east_out.rate().n());
@@ -193,8 +207,10 @@ pub fn send_both<X: Matrix>(
     requires east_section { east.old.section.rate ≡ east_out.old.rate }
     ensures west { west.new ≡ after_sending (all_fed_by (X.lines cross.now) (added_last ports.now) (X.leads cross.now West)) west.old }
     ensures east { east.new ≡ after_sending (all_fed_by (X.lines cross.now) (added_last ports.now) (X.leads cross.now East)) east.old }
-    ensures west_frame { west_out.new ≡ frame_from (all_fed_by (X.lines cross.now) (added_last ports.now) (X.leads cross.now West)) west.old }
-    ensures east_frame { east_out.new ≡ frame_from (all_fed_by (X.lines cross.now) (added_last ports.now) (X.leads cross.now East)) east.old }
+    ensures west_frame { west_out.new ≡ frame_from
+        (all_fed_by (X.lines cross.now) (added_last ports.now) (X.leads cross.now West)) west.old }
+    ensures east_frame { east_out.new ≡ frame_from
+        (all_fed_by (X.lines cross.now) (added_last ports.now) (X.leads cross.now East)) east.old }
     ensures west_same { result.0 ≡ same_generators west.new.generators west.old.generators }
     ensures east_same { result.1 ≡ same_generators east.new.generators east.old.generators }
     ensures rates { (west.new.section.rate ≡ west.old.section.rate) × (east.new.section.rate ≡ east.old.section.rate) }

@@ -204,7 +204,8 @@ pub fn deliver_all<X: Matrix>(
     requires ports { All (λ t. (1 ≤ t.slot.0) × (2 * t.slot.0 ≤ n_of (X.lines cross.now).rate)) ports.old.items }
     requires west { IsOf (X.lines cross.now).west.intake.frame west.old }
     requires east { IsOf (X.lines cross.now).east.intake.frame east.old }
-    ensures { ports.new.items ≡ all_delivered_with (λ t. dropped_by (X.lines cross.now) (X.drops cross.now t.side t.slot.0)) ports.old.items }
+    ensures { ports.new.items ≡ all_delivered_with
+        (λ t. dropped_by (X.lines cross.now) (X.drops cross.now t.side t.slot.0)) ports.old.items }
 {
     for i in 0..ports.len() {
         let port = &mut ports[i];
@@ -221,7 +222,8 @@ fn add_end(
     side: Side,
     circuit: &Circuit,
 ) -> Result<(), AllocError>
-    ensures { OnOk result (ports.new.items ≡ ports.old.items ++ (if is_here then new_tributary port.circuit port.end side circuit.now.slot (customer_at circuit.now port.end) ∷ [] else [])) }
+    ensures { OnOk result (ports.new.items ≡ ports.old.items
+        ++ (if is_here then new_tributary port.circuit port.end side circuit.now.slot (customer_at circuit.now port.end) ∷ [] else [])) }
 {
     if is_here {
         let customer = circuit.port(port.end);

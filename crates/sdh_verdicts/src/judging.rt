@@ -77,7 +77,8 @@ fn with_failure(
 ) -> Resting
     requires at { place.at.0 < length map.now }
     requires failure { IsFailureIn (length map.now) failure }
-    ensures { resting_of result ≡ rests threshold (length map.now) place.at.0 place.side (steps_of (length map.now) threshold failure) (resting_of from) }
+    ensures { resting_of result ≡ rests threshold (length map.now) place.at.0 place.side
+        (steps_of (length map.now) threshold failure) (resting_of from) }
 {
     let mut rest = from;
     for i in 0..STEPS_MAX {
@@ -98,7 +99,8 @@ fn with_case(
 ) -> Resting
     requires at { place.at.0 < length map.now }
     requires case { All (IsFailureIn (length map.now)) case.now }
-    ensures { resting_of result ≡ rests threshold (length map.now) place.at.0 place.side (case_steps (length map.now) threshold case.now) (resting_of from) }
+    ensures { resting_of result ≡ rests threshold (length map.now) place.at.0 place.side
+        (case_steps (length map.now) threshold case.now) (resting_of from) }
 {
     let mut rest = from;
     for failure in case {
@@ -177,7 +179,8 @@ impl<'a> Sides<'a> {
     pub fn applied(&self, case: &[Failure]) -> AppliedSpans
         requires sides { length self.now.rests.items ≡ 2 * length self.now.map.now }
         requires case { All (IsFailureIn (length self.now.map.now)) case.now }
-        ensures { (plan : Planned) → AreSidesOf plan self.now → AreApplied (length plan.nodes) (is_applied (requests_with plan case.now)) result }
+        ensures { (plan : Planned) → AreSidesOf plan self.now
+            → AreApplied (length plan.nodes) (is_applied (requests_with plan case.now)) result }
     {
         let n = self.map.len();
         let mut local = [NO_REQUESTS; 16];

@@ -12,7 +12,9 @@ use sdh_plan::Plan;
 pub fn told(plan: &Plan, applied: &AppliedSpans, number: u8) -> Verdict
     requires number { number < length plan.now.circuits }
     requires case { (case : List Failure) × AreApplied (length plan.now.nodes) (is_applied (requests_with plan.now case)) applied.now }
-    ensures { (case : List Failure) (c : Provisioned) → AreApplied (length plan.now.nodes) (is_applied (requests_with plan.now case)) applied.now → slice_get plan.now.circuits number ≡ Some c → result ≡ verdict_of plan.now case c }
+    ensures { (case : List Failure) (c : Provisioned)
+        → AreApplied (length plan.now.nodes) (is_applied (requests_with plan.now case)) applied.now
+        → slice_get plan.now.circuits number ≡ Some c → result ≡ verdict_of plan.now case c }
 {
     let circuits = plan.circuits();
     prove!(circuits.len() <= 128);
@@ -23,7 +25,9 @@ pub fn told(plan: &Plan, applied: &AppliedSpans, number: u8) -> Verdict
 pub fn told_hops(plan: &Plan, applied: &AppliedSpans, number: u8) -> u8
     requires number { number < length plan.now.circuits }
     requires case { (case : List Failure) × AreApplied (length plan.now.nodes) (is_applied (requests_with plan.now case)) applied.now }
-    ensures { (case : List Failure) (c : Provisioned) → AreApplied (length plan.now.nodes) (is_applied (requests_with plan.now case)) applied.now → slice_get plan.now.circuits number ≡ Some c → result ≡ hops_of plan.now case c }
+    ensures { (case : List Failure) (c : Provisioned)
+        → AreApplied (length plan.now.nodes) (is_applied (requests_with plan.now case)) applied.now
+        → slice_get plan.now.circuits number ≡ Some c → result ≡ hops_of plan.now case c }
 {
     let circuits = plan.circuits();
     prove!(circuits.len() <= 128);

@@ -37,19 +37,25 @@ pub fn sdhwatch<R: Source, W: Sink, P: Plant>(
     ensures outcome { let ask = asked (words_of words.now) in
         let reads : Counts = record { before = R.faults source.old; after = R.faults source.new } in
         let calls : Counts = record { before = P.faults plant.old; after = P.faults plant.new } in
-        IfSome (told_if (is_some ask) (R.left source.old)) (λ bytes. Writes (λ how text. MayEnd watching ask bytes (P.fibres plant.old) reads calls how text (P.fibres plant.new)) result (W.written sink.old) (W.written sink.new)) }
+        IfSome (told_if (is_some ask) (R.left source.old))
+        (λ bytes. Writes (λ how text. MayEnd watching ask bytes (P.fibres plant.old) reads calls how text (P.fibres plant.new)) result
+        (W.written sink.old) (W.written sink.new)) }
 
     // Over honest fibres: each watch shows what its port is owed, and with a large limit no settle step is unsettled.
-    ensures owed { is_run (words_of words.now) ≡ true → (P.fibres plant.old).honest ≡ true → IfSome (R.left source.old) (λ bytes. Shows watching tt ShowsClean bytes result (W.written sink.old) (W.written sink.new)) }
-    ensures settles { is_run (words_of words.now) ≡ true → (P.fibres plant.old).honest ≡ true → IfSome (R.left source.old) (λ bytes. Settles bytes result) }
+    ensures owed { is_run (words_of words.now) ≡ true → (P.fibres plant.old).honest ≡ true
+        → IfSome (R.left source.old) (λ bytes. Shows watching tt ShowsClean bytes result (W.written sink.old) (W.written sink.new)) }
+    ensures settles { is_run (words_of words.now) ≡ true → (P.fibres plant.old).honest ≡ true
+        → IfSome (R.left source.old) (λ bytes. Settles bytes result) }
 
     // Where arrivals are known, unsettled comes at exactly the settle step in which no quiet window comes within the
     // limit.
-    ensures unsettled { is_run (words_of words.now) ≡ true → IfSome (R.left source.old) (λ bytes. EndsAsItRuns bytes (P.fibres plant.old) result) }
+    ensures unsettled { is_run (words_of words.now) ≡ true
+        → IfSome (R.left source.old) (λ bytes. EndsAsItRuns bytes (P.fibres plant.old) result) }
 
     // Over every source, sink and plant.
     ensures usage { result ≡ Status.Usage → is_run (words_of words.now) ≡ false }
-    ensures usage_only { is_run (words_of words.now) ≡ false → (result ≡ Status.Usage) ⊎ (result ≡ Status.WriteFault) ⊎ (result ≡ Status.Memory) }
+    ensures usage_only { is_run (words_of words.now) ≡ false
+        → (result ≡ Status.Usage) ⊎ (result ≡ Status.WriteFault) ⊎ (result ≡ Status.Memory) }
     ensures alone { is_run (words_of words.now) ≡ false → (source.new ≡ source.old) × (plant.new ≡ plant.old) }
     ensures read_fault { result ≡ Status.ReadFault → Rose (R.faults source.old) (R.faults source.new) }
     ensures plant_fault { result ≡ Status.PlantFault → Rose (P.faults plant.old) (P.faults plant.new) }
@@ -59,15 +65,19 @@ pub fn sdhwatch<R: Source, W: Sink, P: Plant>(
     // write fault may stand in place of what was to be told. With TooLong one byte more than a plan may have was taken.
     ensures came { let reads : Counts = record { before = R.faults source.old; after = R.faults source.new } in
         let calls : Counts = record { before = P.faults plant.old; after = P.faults plant.new } in
-        (how : Status) × ((result ≡ how) ⊎ (result ≡ Status.WriteFault)) × CameTo R.exact P.exact reads calls (R.left source.old) (R.left source.new) how }
+        (how : Status) × ((result ≡ how) ⊎ (result ≡ Status.WriteFault))
+        × CameTo R.exact P.exact reads calls (R.left source.old) (R.left source.new) how }
     ensures writes { IsCounted W.exact (result ≡ Status.WriteFault) (W.faults sink.old) (W.faults sink.new) }
 
     ensures memory { result ≡ Status.Memory → (sink.new ≡ sink.old) × (P.fibres plant.new ≡ P.fibres plant.old) }
     ensures read_whole { result ≡ Status.Ok → HasRead (is_run (words_of words.now)) (R.left source.new) }
-    ensures later { (R.faults source.old ≤ R.faults source.new) × (W.faults sink.old ≤ W.faults sink.new) × (P.faults plant.old ≤ P.faults plant.new) }
+    ensures later { (R.faults source.old ≤ R.faults source.new) × (W.faults sink.old ≤ W.faults sink.new)
+        × (P.faults plant.old ≤ P.faults plant.new) }
 
     // With all that a run needs, and no fault, everything is done, or there is no memory.
-    ensures complete { is_run (words_of words.now) ≡ true → MayBeDone watching tt (R.left source.old) (P.fibres plant.old) → ¬ (Rose (R.faults source.old) (R.faults source.new)) → ¬ (Rose (W.faults sink.old) (W.faults sink.new)) → ¬ (Rose (P.faults plant.old) (P.faults plant.new)) → (result ≡ Status.Ok) ⊎ (result ≡ Status.Memory) }
+    ensures complete { is_run (words_of words.now) ≡ true → MayBeDone watching tt (R.left source.old) (P.fibres plant.old)
+        → ¬ (Rose (R.faults source.old) (R.faults source.new)) → ¬ (Rose (W.faults sink.old) (W.faults sink.new))
+        → ¬ (Rose (P.faults plant.old) (P.faults plant.new)) → (result ≡ Status.Ok) ⊎ (result ≡ Status.Memory) }
 {
     call::<Watching, R, W, P>(alloc, words, source, sink, plant)
 }

@@ -85,7 +85,8 @@ fn begin_anew(circuits: &CircuitMap, watches: &mut Vec<Both>)
 fn look(watch: &mut Watch, ring: &Ring, port: PortId)
     requires port { port.circuit < length ring.now.circuits.circuits }
     requires few { watch.old.chunks < 1000000 }
-    ensures history { (trace : List ℕ) (past : List Given) → CameBy trace past watch.old → CameBy trace (given_at ring.now port ∷ past) watch.new }
+    ensures history { (trace : List ℕ) (past : List Given) → CameBy trace past watch.old
+        → CameBy trace (given_at ring.now port ∷ past) watch.new }
     ensures few { watch.new.chunks ≤ watch.old.chunks + 1 }
 {
     match ring.port(port) {
@@ -130,7 +131,8 @@ fn look_all(ring: &Ring, watches: &mut Vec<Both>)
     requires many { length watches.old.items ≡ length ring.now.circuits.circuits }
     requires few { AreFew 999999 watches.old.items }
     ensures many { length watches.new.items ≡ length watches.old.items }
-    ensures each { (i : ℕ) (before after : Both) → slice_get watches.old.items i ≡ Some before → slice_get watches.new.items i ≡ Some after → Looked ring.now i before after }
+    ensures each { (i : ℕ) (before after : Both) → slice_get watches.old.items i ≡ Some before → slice_get watches.new.items i ≡ Some after
+        → Looked ring.now i before after }
 {
     for i in 0..ring.circuits().len() {
         look_both(&mut watches[i], ring, i as u8);
@@ -167,7 +169,9 @@ pub fn watch_rounds<P: Plant>(
 fn put_watch(text: &mut Text, ring: &Ring, circuit: u8, named: &Circuit, end: End, watch: &Watch)
     requires inside { circuit < length ring.now.circuits.circuits }
     requires room { 96 ≤ text.old.room }
-    ensures bytes { (heard : PortId → List Given) → CameBy (customer_at named.now (other_end end)).trace (heard (record { circuit = circuit; end = end })) watch.now → text.new.bytes ≡ text.old.bytes ++ told_line (port_watched ring.now heard circuit named.now end) }
+    ensures bytes { (heard : PortId → List Given)
+        → CameBy (customer_at named.now (other_end end)).trace (heard (record { circuit = circuit; end = end })) watch.now
+        → text.new.bytes ≡ text.old.bytes ++ told_line (port_watched ring.now heard circuit named.now end) }
     ensures room { text.old.room ≤ text.new.room + 96 }
 {
     let port = PortId { circuit, end };
@@ -179,7 +183,8 @@ fn put_watch(text: &mut Text, ring: &Ring, circuit: u8, named: &Circuit, end: En
 fn put_both(text: &mut Text, ring: &Ring, circuit: u8, named: &Circuit, both: &Both)
     requires inside { circuit < length ring.now.circuits.circuits }
     requires room { 192 ≤ text.old.room }
-    ensures bytes { (heard : PortId → List Given) → IsWatching named.now circuit heard both.now → text.new.bytes ≡ text.old.bytes ++ (told_line (port_watched ring.now heard circuit named.now A) ++ told_line (port_watched ring.now heard circuit named.now B)) }
+    ensures bytes { (heard : PortId → List Given) → IsWatching named.now circuit heard both.now → text.new.bytes ≡ text.old.bytes
+        ++ (told_line (port_watched ring.now heard circuit named.now A) ++ told_line (port_watched ring.now heard circuit named.now B)) }
     ensures room { text.old.room ≤ text.new.room + 192 }
 {
     put_watch(text, ring, circuit, named, End::A, &both.a);
@@ -190,7 +195,8 @@ fn put_both(text: &mut Text, ring: &Ring, circuit: u8, named: &Circuit, both: &B
 pub fn put_watches(text: &mut Text, ring: &Ring, watches: &Vec<Both>)
     requires many { length watches.now.items ≡ length ring.now.circuits.circuits }
     requires room { 192 * length ring.now.circuits.circuits ≤ text.old.room }
-    ensures bytes { (heard : PortId → List Given) → AreWatching ring.now.circuits.circuits heard watches.now.items → text.new.bytes ≡ text.old.bytes ++ flat_map told_line (ports_watched ring.now heard 0 ring.now.circuits.circuits) }
+    ensures bytes { (heard : PortId → List Given) → AreWatching ring.now.circuits.circuits heard watches.now.items
+        → text.new.bytes ≡ text.old.bytes ++ flat_map told_line (ports_watched ring.now heard 0 ring.now.circuits.circuits) }
     ensures room { text.old.room ≤ text.new.room + 192 * length ring.now.circuits.circuits }
 {
     let circuits = ring.circuits();

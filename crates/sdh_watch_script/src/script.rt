@@ -32,7 +32,9 @@ fn put_step(text: &mut Text, ring: &Ring, number: u32, rounds: u64, watches: &Ve
     requires ran { 1 ≤ rounds }
     requires many { length watches.now.items ≡ length ring.now.circuits.circuits }
     requires room { lines_room (length ring.now.circuits.circuits) ≤ text.old.room }
-    ensures bytes { (mid : HeldRing) (heard : PortId → List Given) → rounds ≡ mid.rounds → AreWatching ring.now.circuits.circuits heard watches.now.items → text.new.bytes ≡ text.old.bytes ++ watched_text (watched number mid ring.now heard) }
+    ensures bytes { (mid : HeldRing) (heard : PortId → List Given)
+        → rounds ≡ mid.rounds → AreWatching ring.now.circuits.circuits heard watches.now.items
+        → text.new.bytes ≡ text.old.bytes ++ watched_text (watched number mid ring.now heard) }
     ensures room { text.old.room ≤ text.new.room + lines_room (length ring.now.circuits.circuits) }
 {
     put_settle(text, number, rounds);

@@ -23,7 +23,8 @@ pub fn same_verdict(verdict: Verdict, other: Verdict) -> bool
 /// Of how many circuits this becomes.
 pub fn count_of(plan: &Plan, applied: &AppliedSpans, verdict: Verdict) -> u8
     requires case { (case : List Failure) × AreApplied (length plan.now.nodes) (is_applied (requests_with plan.now case)) applied.now }
-    ensures { (case : List Failure) → AreApplied (length plan.now.nodes) (is_applied (requests_with plan.now case)) applied.now → result ≡ count_of plan.now case verdict }
+    ensures { (case : List Failure) → AreApplied (length plan.now.nodes) (is_applied (requests_with plan.now case)) applied.now
+        → result ≡ count_of plan.now case verdict }
 {
     let mut count = 0;
     for i in 0..plan.circuits().len() {
@@ -37,7 +38,8 @@ pub fn count_of(plan: &Plan, applied: &AppliedSpans, verdict: Verdict) -> u8
 /// Over how many spans the longest way leads, of the circuits whose ends are joined.
 pub fn longest_of(plan: &Plan, applied: &AppliedSpans) -> u8
     requires case { (case : List Failure) × AreApplied (length plan.now.nodes) (is_applied (requests_with plan.now case)) applied.now }
-    ensures { (case : List Failure) → AreApplied (length plan.now.nodes) (is_applied (requests_with plan.now case)) applied.now → result ≡ longest_of plan.now case }
+    ensures { (case : List Failure) → AreApplied (length plan.now.nodes) (is_applied (requests_with plan.now case)) applied.now
+        → result ≡ longest_of plan.now case }
 {
     let mut longest = 0;
     for i in 0..plan.circuits().len() {

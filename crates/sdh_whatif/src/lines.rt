@@ -160,7 +160,9 @@ fn put_if_lost(line: &mut Line, plan: &Plan, applied: &AppliedSpans, number: u8)
     requires number { number < length plan.now.circuits }
     requires case { (case : List Failure) × AreApplied (length plan.now.nodes) (is_applied (requests_with plan.now case)) applied.now }
     requires room { length line.old + 17 ≤ 4096 }
-    ensures text { (case : List Failure) (c : Provisioned) → AreApplied (length plan.now.nodes) (is_applied (requests_with plan.now case)) applied.now → slice_get plan.now.circuits number ≡ Some c → line.new ≡ line.old ++ lost_text plan.now case c }
+    ensures text { (case : List Failure) (c : Provisioned)
+        → AreApplied (length plan.now.nodes) (is_applied (requests_with plan.now case)) applied.now
+        → slice_get plan.now.circuits number ≡ Some c → line.new ≡ line.old ++ lost_text plan.now case c }
     ensures short { length line.new ≤ length line.old + 17 }
 {
     if same_verdict(Verdict::Lost, told(plan, applied, number)) {
@@ -173,7 +175,8 @@ fn put_if_lost(line: &mut Line, plan: &Plan, applied: &AppliedSpans, number: u8)
 fn put_lost(line: &mut Line, plan: &Plan, applied: &AppliedSpans)
     requires case { (case : List Failure) × AreApplied (length plan.now.nodes) (is_applied (requests_with plan.now case)) applied.now }
     requires room { length line.old + 2176 ≤ 4096 }
-    ensures text { (case : List Failure) → AreApplied (length plan.now.nodes) (is_applied (requests_with plan.now case)) applied.now → line.new ≡ line.old ++ flat_map (lost_text plan.now case) plan.now.circuits }
+    ensures text { (case : List Failure) → AreApplied (length plan.now.nodes) (is_applied (requests_with plan.now case)) applied.now
+        → line.new ≡ line.old ++ flat_map (lost_text plan.now case) plan.now.circuits }
     ensures short { length line.new ≤ length line.old + 2176 }
 {
     for i in 0..plan.circuits().len() {

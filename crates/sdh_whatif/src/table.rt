@@ -75,7 +75,8 @@ fn write_case<W: Sink>(
     requires sides { AreSidesOf plan.now sides.now }
     requires case { All (IsFailureIn (length plan.now.nodes)) case.now }
     requires few { length case.now ≤ 3 }
-    ensures { Wrote W.exact (W.written sink.old) (W.written sink.new) (W.faults sink.old) (W.faults sink.new) (line_text plan.now case.now) result }
+    ensures { Wrote W.exact (W.written sink.old) (W.written sink.new) (W.faults sink.old) (W.faults sink.new)
+        (line_text plan.now case.now) result }
 {
     line.clear();
     put_line(line, plan, sides, case);
@@ -91,8 +92,10 @@ fn write_told<W: Sink>(
     digits: (usize, usize, usize),
 ) -> Result<(), WriteFault>
     requires sides { AreSidesOf plan.now sides.now }
-    requires digits { (digits.0 < base (length plan.now.nodes)) × (digits.1 < base (length plan.now.nodes)) × (digits.2 < base (length plan.now.nodes)) }
-    ensures { Wrote W.exact (W.written sink.old) (W.written sink.new) (W.faults sink.old) (W.faults sink.new) (line_text plan.now (failures_of (length plan.now.nodes) digits.0 digits.1 digits.2)) result }
+    requires digits { (digits.0 < base (length plan.now.nodes)) × (digits.1 < base (length plan.now.nodes))
+        × (digits.2 < base (length plan.now.nodes)) }
+    ensures { Wrote W.exact (W.written sink.old) (W.written sink.new) (W.faults sink.old) (W.faults sink.new)
+        (line_text plan.now (failures_of (length plan.now.nodes) digits.0 digits.1 digits.2)) result }
 {
     let n = plan.map().len();
     let (first, second, third) = digits;
@@ -119,7 +122,8 @@ fn write_number<W: Sink>(
     number: usize,
 ) -> Result<(), WriteFault>
     requires sides { AreSidesOf plan.now sides.now }
-    ensures { Wrote W.exact (W.written sink.old) (W.written sink.new) (W.faults sink.old) (W.faults sink.new) (number_line plan.now number) result }
+    ensures { Wrote W.exact (W.written sink.old) (W.written sink.new) (W.faults sink.old) (W.faults sink.new)
+        (number_line plan.now number) result }
 {
     let n = plan.map().len();
     let base = 10 * n + 1;
@@ -144,7 +148,8 @@ fn write_asked<W: Sink>(
 ) -> Result<(), WriteFault>
     requires sides { AreSidesOf plan.now sides.now }
     requires part { (1 ≤ ask.part) × (ask.part ≤ ask.parts) }
-    ensures { Wrote W.exact (W.written sink.old) (W.written sink.new) (W.faults sink.old) (W.faults sink.new) (line_at plan.now ask number) result }
+    ensures { Wrote W.exact (W.written sink.old) (W.written sink.new) (W.faults sink.old) (W.faults sink.new)
+        (line_at plan.now ask number) result }
 {
     if number % ask.parts as usize == ask.part as usize - 1 {
         write_number(sink, line, plan, sides, number)
@@ -163,7 +168,8 @@ fn write_cases<W: Sink>(
 ) -> Result<(), WriteFault>
     requires sides { AreSidesOf plan.now sides.now }
     requires part { (1 ≤ ask.part) × (ask.part ≤ ask.parts) }
-    ensures { Wrote W.exact (W.written sink.old) (W.written sink.new) (W.faults sink.old) (W.faults sink.new) (lines_below plan.now ask (numbers_of (length plan.now.nodes) ask.depth)) result }
+    ensures { Wrote W.exact (W.written sink.old) (W.written sink.new) (W.faults sink.old) (W.faults sink.new)
+        (lines_below plan.now ask (numbers_of (length plan.now.nodes) ask.depth)) result }
 {
     for number in 0..numbers_of(plan.map().len(), ask.depth) {
         if let Err(fault) = write_asked(sink, line, plan, sides, ask, number) {
@@ -199,7 +205,8 @@ pub fn write_table<W: Sink>(
 ) -> Result<(), WriteFault>
     requires sides { AreSidesOf plan.now sides.now }
     requires part { (1 ≤ ask.part) × (ask.part ≤ ask.parts) }
-    ensures { Wrote W.exact (W.written sink.old) (W.written sink.new) (W.faults sink.old) (W.faults sink.new) (table_text plan.now ask) result }
+    ensures { Wrote W.exact (W.written sink.old) (W.written sink.new) (W.faults sink.old) (W.faults sink.new)
+        (table_text plan.now ask) result }
 {
     if let Err(fault) = write_text(sink, b"steps,kept,over,lost,hops,circuits\n") {
         return Err(fault);

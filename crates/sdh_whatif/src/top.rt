@@ -50,7 +50,8 @@ fn refuse<W: Sink>(sink: &mut W, mut text: Text, status: Status) -> Told
     requires room { 96 ≤ text.room }
     requires empty { text.bytes ≡ [] }
     ensures status { result.status ≡ status }
-    ensures wrote { Wrote W.exact (W.written sink.old) (W.written sink.new) (W.faults sink.old) (W.faults sink.new) (refusal status) result.wrote }
+    ensures wrote { Wrote W.exact (W.written sink.old) (W.written sink.new) (W.faults sink.old) (W.faults sink.new)
+        (refusal status) result.wrote }
 {
     refusal(&mut text, status);
     let wrote = write_text(sink, text.bytes());
@@ -61,7 +62,8 @@ fn refuse<W: Sink>(sink: &mut W, mut text: Text, status: Status) -> Told
 fn tell<W: Sink>(alloc: Global, sink: &mut W, plan: &Plan, ask: Ask) -> Result<Told, AllocError>
     requires part { (1 ≤ ask.part) × (ask.part ≤ ask.parts) }
     ensures status { IfOk result (λ x. x.status ≡ Status.Ok) }
-    ensures wrote { IfOk result (λ x. Wrote W.exact (W.written sink.old) (W.written sink.new) (W.faults sink.old) (W.faults sink.new) (table_text plan.now ask) x.wrote) }
+    ensures wrote { IfOk result (λ x. Wrote W.exact (W.written sink.old) (W.written sink.new) (W.faults sink.old) (W.faults sink.new)
+        (table_text plan.now ask) x.wrote) }
     ensures memory { OnErr result (sink.new ≡ sink.old) }
 {
     let mut line = Line::try_new(alloc)?;
@@ -81,13 +83,15 @@ fn answer_ask<R: Source, W: Sink>(
     sink: &mut W,
 ) -> Result<Told, AllocError>
     requires part { (1 ≤ ask.part) × (ask.part ≤ ask.parts) }
-    ensures outcome { IfOk result (λ x. (text : List ℕ) × (IfSome (R.left source.old) (λ bytes. OfBytes ask bytes x.status text) × Wrote W.exact (W.written sink.old) (W.written sink.new) (W.faults sink.old) (W.faults sink.new) text x.wrote)) }
+    ensures outcome { IfOk result (λ x. (text : List ℕ) × (IfSome (R.left source.old) (λ bytes. OfBytes ask bytes x.status text)
+        × Wrote W.exact (W.written sink.old) (W.written sink.new) (W.faults sink.old) (W.faults sink.new) text x.wrote)) }
     ensures fault { IfOk result (λ x. x.status ≡ Status.ReadFault → Rose (R.faults source.old) (R.faults source.new)) }
     ensures reads { IfOk result (λ x. IsCounted R.exact (x.status ≡ Status.ReadFault) (R.faults source.old) (R.faults source.new)) }
     ensures too_long { IfOk result (λ x. x.status ≡ Status.TooLong → TakesCount (R.left source.old) (R.left source.new) 1048577) }
     ensures own { IfOk result (λ x. (x.status ≢ Status.Usage) × (x.status ≢ Status.WriteFault) × (x.status ≢ Status.Memory)) }
     ensures read { IfOk result (λ x. x.status ≡ Status.Ok → IsAtEnd (R.left source.new)) }
-    ensures complete { HasPlan (R.left source.old) → ¬ (Rose (R.faults source.old) (R.faults source.new)) → IfOk result (λ x. x.status ≡ Status.Ok) }
+    ensures complete { HasPlan (R.left source.old) → ¬ (Rose (R.faults source.old) (R.faults source.new))
+        → IfOk result (λ x. x.status ≡ Status.Ok) }
     ensures later { R.faults source.old ≤ R.faults source.new }
     ensures memory { OnErr result ((R.exact ≡ true → R.faults source.new ≡ R.faults source.old) × (sink.new ≡ sink.old)) }
 {
@@ -106,7 +110,9 @@ fn answer<R: Source, W: Sink>(
     source: &mut R,
     sink: &mut W,
 ) -> Result<Told, AllocError>
-    ensures outcome { IfOk result (λ x. (text : List ℕ) × (IfSome (told (asked (words_of words.now)) (R.left source.old)) (λ bytes. IsOutcome (asked (words_of words.now)) bytes x.status text) × Wrote W.exact (W.written sink.old) (W.written sink.new) (W.faults sink.old) (W.faults sink.new) text x.wrote)) }
+    ensures outcome { IfOk result (λ x. (text : List ℕ) × (IfSome (told (asked (words_of words.now)) (R.left source.old))
+        (λ bytes. IsOutcome (asked (words_of words.now)) bytes x.status text)
+        × Wrote W.exact (W.written sink.old) (W.written sink.new) (W.faults sink.old) (W.faults sink.new) text x.wrote)) }
     ensures fault { IfOk result (λ x. x.status ≡ Status.ReadFault → Rose (R.faults source.old) (R.faults source.new)) }
     ensures reads { IfOk result (λ x. IsCounted R.exact (x.status ≡ Status.ReadFault) (R.faults source.old) (R.faults source.new)) }
     ensures too_long { IfOk result (λ x. x.status ≡ Status.TooLong → TakesCount (R.left source.old) (R.left source.new) 1048577) }
@@ -114,7 +120,8 @@ fn answer<R: Source, W: Sink>(
     ensures own { IfOk result (λ x. (x.status ≢ Status.WriteFault) × (x.status ≢ Status.Memory)) }
     ensures read { IfOk result (λ x. x.status ≡ Status.Ok → IsAtEnd (R.left source.new)) }
     ensures unread { asked (words_of words.now) ≡ None → source.new ≡ source.old }
-    ensures complete { asked (words_of words.now) ≢ None → HasPlan (R.left source.old) → ¬ (Rose (R.faults source.old) (R.faults source.new)) → IfOk result (λ x. x.status ≡ Status.Ok) }
+    ensures complete { asked (words_of words.now) ≢ None → HasPlan (R.left source.old)
+        → ¬ (Rose (R.faults source.old) (R.faults source.new)) → IfOk result (λ x. x.status ≡ Status.Ok) }
     ensures later { R.faults source.old ≤ R.faults source.new }
     ensures memory { OnErr result ((R.exact ≡ true → R.faults source.new ≡ R.faults source.old) × (sink.new ≡ sink.old)) }
 {
@@ -138,7 +145,9 @@ pub fn whatif<R: Source, W: Sink>(
 ) -> Status
     // The status and the text that is written, for a source that tells its bytes, where it is read, and a sink that tells what was
     // written.
-    ensures outcome { IfSome (told (asked (words_of words.now)) (R.left source.old)) (λ bytes. Writes (λ how text. IsOutcome (asked (words_of words.now)) bytes how text) result (W.written sink.old) (W.written sink.new)) }
+    ensures outcome { IfSome (told (asked (words_of words.now)) (R.left source.old))
+        (λ bytes. Writes (λ how text. IsOutcome (asked (words_of words.now)) bytes how text) result (W.written sink.old)
+        (W.written sink.new)) }
 
     // What it tells is what reports show: the last one of the plan with the case's steps and a settle step behind its script.
     ensures agrees { VerdictsAgree }
@@ -146,19 +155,23 @@ pub fn whatif<R: Source, W: Sink>(
 
     // Over every source and sink.
     ensures usage { result ≡ Status.Usage → asked (words_of words.now) ≡ None }
-    ensures usage_only { asked (words_of words.now) ≡ None → (result ≡ Status.Usage) ⊎ (result ≡ Status.WriteFault) ⊎ (result ≡ Status.Memory) }
+    ensures usage_only { asked (words_of words.now) ≡ None
+        → (result ≡ Status.Usage) ⊎ (result ≡ Status.WriteFault) ⊎ (result ≡ Status.Memory) }
     ensures unread { asked (words_of words.now) ≡ None → source.new ≡ source.old }
     ensures read_fault { result ≡ Status.ReadFault → Rose (R.faults source.old) (R.faults source.new) }
     ensures write_fault { result ≡ Status.WriteFault → Rose (W.faults sink.old) (W.faults sink.new) }
     ensures writes { IsCounted W.exact (result ≡ Status.WriteFault) (W.faults sink.old) (W.faults sink.new) }
-    ensures came { (how : Status) × ((result ≡ how) ⊎ (result ≡ Status.WriteFault)) × IsCounted R.exact (how ≡ Status.ReadFault) (R.faults source.old) (R.faults source.new) }
+    ensures came { (how : Status) × ((result ≡ how) ⊎ (result ≡ Status.WriteFault))
+        × IsCounted R.exact (how ≡ Status.ReadFault) (R.faults source.old) (R.faults source.new) }
     ensures too_long { result ≡ Status.TooLong → TakesCount (R.left source.old) (R.left source.new) 1048577 }
     ensures memory { result ≡ Status.Memory → sink.new ≡ sink.old }
     ensures read_whole { result ≡ Status.Ok → IsAtEnd (R.left source.new) }
     ensures later { (R.faults source.old ≤ R.faults source.new) × (W.faults sink.old ≤ W.faults sink.new) }
 
     // With the words, the bytes of a plan and no fault, everything is told, or there is no memory.
-    ensures complete { asked (words_of words.now) ≢ None → HasPlan (R.left source.old) → ¬ (Rose (R.faults source.old) (R.faults source.new)) → ¬ (Rose (W.faults sink.old) (W.faults sink.new)) → (result ≡ Status.Ok) ⊎ (result ≡ Status.Memory) }
+    ensures complete { asked (words_of words.now) ≢ None → HasPlan (R.left source.old)
+        → ¬ (Rose (R.faults source.old) (R.faults source.new)) → ¬ (Rose (W.faults sink.old) (W.faults sink.new))
+        → (result ≡ Status.Ok) ⊎ (result ≡ Status.Memory) }
 {
     sdh_verdicts::laws::verdicts_agree();
     sdh_verdicts::laws::verdicts_are_shown();
