@@ -1,5 +1,5 @@
--- The two ends of a circuit.
-use Rattle.std.specs.Prelude.{ℕ}
+-- The two ends of a circuit, and the ports at them.
+use Rattle.std.specs.Prelude.{ℕ, ◌+◌, ◌*◌}
 use Rattle.sdh_ringmap.specs.declared.Side.{Side}
 use Rattle.sdh_ringmap.specs.declared.Side.TheVariants.{West, East}
 use Rattle.sdh_circuits.specs.declared.End.{End}
@@ -19,3 +19,12 @@ inward B = West
 -- the port at an end of the circuit of this number
 abbrev pub port_id : ℕ → End → PortId
 port_id index e = record { circuit = index; end = e }
+
+-- A before B
+abbrev pub end_number : End → ℕ
+end_number A = 0
+end_number B = 1
+
+-- the ports of a ring's circuits are counted from 0, circuit by circuit, A before B
+abbrev pub port_number : PortId → ℕ
+port_number id = 2 * id.circuit + end_number id.end

@@ -1,9 +1,10 @@
 -- What a settle step reports, and the text of reports. This project's own.
-use Rattle.std.specs.Prelude.{ℕ, ◌+◌, ◌*◌, List, [], ◌∷◌, ◌++◌, slice_index_or}
+use Rattle.std.specs.Prelude.{ℕ, ◌+◌, List, [], ◌∷◌, ◌++◌, slice_index_or}
 use Rattle.std.specs.List.{flat_map}
 use Rattle.sdh_circuits.specs.declared.End.{End}
-use Rattle.sdh_circuits.specs.declared.End.TheVariants.{A, B}
+use Rattle.sdh_circuits.specs.declared.End.TheVariants.{A}
 use Rattle.sdh_circuits.specs.declared.PortId.{PortId}
+use Rattle.sdh_circuits.specs.Ends.{port_number}
 use Rattle.sdh_payload.specs.declared.delivered.Delivered.{Delivered}
 use Rattle.sdh_payload.specs.declared.delivered.Delivered.TheVariants.{Ais, Chunk}
 use Rattle.sdh_payload.specs.Outlet.{Outlet, silent}
@@ -36,18 +37,9 @@ told_line p = port_line p.name p.end p.outlet.delivered p.outlet.value
 abbrev pub report_text : Report → List ℕ
 report_text r = settle_line r.number r.round ++ flat_map node_line r.nodes ++ flat_map told_line r.ports
 
--- a before b
-abbrev pub place_of_end : End → ℕ
-place_of_end A = 0
-place_of_end B = 1
-
--- the place of a port among all
-abbrev pub place_among_ports : PortId → ℕ
-place_among_ports port = 2 * port.circuit + place_of_end port.end
-
 -- what a port delivered
 abbrev pub delivered_in : List PortLine → PortId → Delivered
-delivered_in ports port = (slice_index_or ports (place_among_ports port) (record { name = []; end = A; outlet = silent })).outlet.delivered
+delivered_in ports port = (slice_index_or ports (port_number port) (record { name = []; end = A; outlet = silent })).outlet.delivered
 
 -- 1 for a chunk, and 1 for AIS
 abbrev pub chunks_of : Delivered → ℕ

@@ -9,11 +9,12 @@ use Rattle.sdh_circuits.specs.Provisioned.{Provisioned}
 use Rattle.sdh_circuits.specs.declared.End.{End}
 use Rattle.sdh_circuits.specs.declared.End.TheVariants.{A, B}
 use Rattle.sdh_circuits.specs.declared.PortId.{PortId}
+use Rattle.sdh_circuits.specs.Ends.{end_number}
 use Rattle.sdh_payload.specs.declared.delivered.Delivered.{Delivered}
 use Rattle.sdh_payload.specs.declared.delivered.Delivered.TheVariants.{Ais, Chunk}
 use Rattle.sdh_world.specs.Held.{HeldRing, outlet_at}
 use Rattle.sdh_report.specs.Lines.{node_line}
-use Rattle.sdh_report.specs.Reports.{PortLine, place_of_end, delivered_in, chunks_of, silences_of, chunks_in, silences_in}
+use Rattle.sdh_report.specs.Reports.{PortLine, delivered_in, chunks_of, silences_of, chunks_in, silences_in}
 use Rattle.sdh_scripts.proofs.Ports.{length-ports, ports_next}
 use Rattle.sdh_owed.specs.Reports.{told_at, port_told, ports_from, ports_told}
 
@@ -64,14 +65,14 @@ the_others r = counts_all (ports_told r) ∙ length-ports (port_told r) 0 r.circ
 -- ---- one port
 
 port_place : (r : HeldRing) (index : ℕ) (cs : List Provisioned) (i : ℕ) (e : End) (d : PortLine) → i < length cs
-    → (slice_index_or (ports_from r index cs) (2 * i + place_of_end e) d).outlet ≡ outlet_at r (record { circuit = index + i; end = e })
+    → (slice_index_or (ports_from r index cs) (2 * i + end_number e) d).outlet ≡ outlet_at r (record { circuit = index + i; end = e })
 port_place r index (c ∷ cs) zero A d lt =
     ap (λ k. outlet_at r (record { circuit = k; end = A })) (let e : index ≡ index + 0 = omega arith in e)
 port_place r index (c ∷ cs) zero B d lt =
     ap (λ k. outlet_at r (record { circuit = k; end = B })) (let e : index ≡ index + 0 = omega arith in e)
 port_place r index (c ∷ cs) (suc i) e d lt =
     let ports = ports_from r index (c ∷ cs) in
-    let there : 2 * suc i + place_of_end e ≡ suc (suc (2 * i + place_of_end e)) = omega arith in
+    let there : 2 * suc i + end_number e ≡ suc (suc (2 * i + end_number e)) = omega arith in
     ap (λ k. (slice_index_or ports k d).outlet) there ∙ port_place r (index + 1) cs i e d (omega arith)
     ∙ ap (λ k. outlet_at r (record { circuit = k; end = e })) (omega arith)
 port_place r index [] i e d lt = absurd (omega arith)

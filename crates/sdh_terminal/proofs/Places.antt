@@ -16,10 +16,11 @@ use Rattle.sdh_circuits.specs.Provisioned.{Provisioned}
 use Rattle.sdh_circuits.specs.declared.End.{End}
 use Rattle.sdh_circuits.specs.declared.End.TheVariants.{A, B}
 use Rattle.sdh_circuits.specs.declared.PortId.{PortId}
+use Rattle.sdh_circuits.specs.Ends.{end_number, port_number}
 use Rattle.sdh_terminal.specs.Tributaries.{Tributary, new_tributary, tributaries_of, tributaries_from, tributaries_at, is_port, fed}
 use Rattle.sdh_terminal.specs.Tributaries.{all_fed, delivered_with, all_delivered_with}
 use Rattle.sdh_terminal.specs.Passing.{Input}
-use Rattle.sdh_terminal.specs.Places.{number_at, port_number, port_numbered, ArePlaces}
+use Rattle.sdh_terminal.specs.Places.{port_numbered, ArePlaces}
 
 first-mapped : (p : Tributary → Bool) (f : ℕ → Tributary → Tributary) → ((k : ℕ) (t : Tributary) → p (f k t) ≡ p t)
     → (i : ℕ) (ts : List Tributary) → position_or_len p (map_from f i ts) ≡ position_or_len p ts
@@ -88,7 +89,7 @@ beyond at circuits id h =
     none-there (is_port id) (tributaries_from at 0 circuits) (λ k d lt. other id (get_or (tributaries_from at 0 circuits) k d)
     (omega (arith, below at 0 circuits k d lt)))
 
-few : (e : End) → number_at e ≤ 1
+few : (e : End) → end_number e ≤ 1
 few A = omega arith
 few B = omega arith
 

@@ -1,18 +1,11 @@
 -- Where each port at a node stands among them.
-use Rattle.std.specs.Prelude.{ℕ, ◌≡◌, ◌+◌, ◌*◌, ◌/◌, ◌%◌, ◌==◌, if◌then◌else◌, Option, None, List, slice_index_or, position}
-use Rattle.sdh_circuits.specs.declared.End.{End}
+use Rattle.std.specs.Prelude.{ℕ, ◌≡◌, ◌/◌, ◌%◌, ◌==◌, if◌then◌else◌, Option, None, List, slice_index_or, position}
 use Rattle.sdh_circuits.specs.declared.End.TheVariants.{A, B}
 use Rattle.sdh_circuits.specs.declared.PortId.{PortId}
+use Rattle.sdh_circuits.specs.Ends.{port_number}
 use Rattle.sdh_terminal.specs.Tributaries.{Tributary, is_port}
 
-abbrev pub number_at : End → ℕ
-number_at A = 0
-number_at B = 1
-
--- the ports of a ring's circuits are counted from 0, circuit by circuit, A before B
-abbrev pub port_number : PortId → ℕ
-port_number id = 2 * id.circuit + number_at id.end
-
+-- the port of this number
 abbrev pub port_numbered : ℕ → PortId
 port_numbered k = record { circuit = k / 2; end = if k % 2 == 0 then A else B }
 

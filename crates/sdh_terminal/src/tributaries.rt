@@ -4,7 +4,8 @@ ghost use Rattle.std.specs.Prelude.{position};
 ghost use Rattle.sdh_basics.specs.Cells.{cells};
 ghost use Rattle.sdh_terminal.specs.Tributaries.{tributaries_at, is_port, port_of, HasPort, outlet_of, waiting_of, with_slips, all_fed};
 ghost use Rattle.sdh_terminal.specs.Tributaries.{all_delivered_with, IsTributary};
-ghost use Rattle.sdh_terminal.specs.Places.{port_number, port_numbered};
+ghost use Rattle.sdh_circuits.specs.Ends.{port_number};
+ghost use Rattle.sdh_terminal.specs.Places.{port_numbered};
 ghost use Rattle.sdh_terms.specs.Rates.{n_of};
 ghost use Rattle.sdh_terminal.specs.Lines.{dropped_by};
 
