@@ -17,7 +17,7 @@ use Rattle.sdh_shell.proofs.Told.{told_all}
 use Rattle.sdh_shell.proofs.Refused.{no_run}
 use Rattle.sdh_calls.specs.Programs.{Program}
 use Rattle.sdh_calls.specs.Outcome.{IsRunOutcome, OfListing, OfBytes, MayEnd}
-use Rattle.sdh_calls.specs.Headline.{Shows, EndsAs, Settles}
+use Rattle.sdh_calls.specs.Headline.{Shows, EndsAs, AlwaysSettles}
 
 -- with the status of a script that came to its end goes the whole text
 whole : (may : Status → List ℕ → Type 0) (how : Status) (old new : Option (List ℕ)) → HasRun how → Writes may how old new
@@ -71,7 +71,7 @@ module _ {A L T : Type 0} (program : Program A L T) (ask : A) (f left : Fibres) 
 
   -- so no call tells of an unsettled step
   pub settles : (bytes : List ℕ) (how : Status) (old new : Option (List ℕ)) → Shows program ask (SettlesLarge T) bytes how old new
-      → Settles bytes how
+      → AlwaysSettles bytes how
   settles bytes how old new x plan tells large k e = (x plan tells (subst HasRun (sym e) tt)).4 large k e
 
   pub ends_as : (Known : Planned → Type 0) (ending : Planned → Status) (bytes : List ℕ) (how : Status) (old new : Option (List ℕ))

@@ -26,8 +26,8 @@ EndsAs Known ending bytes how =
     (plan : Planned) → TellsPlan bytes plan → HasRun how → Known plan → (how ≡ ending plan) ⊎ (how ≡ status.PlantFault)
 
 -- with so large a limit no settle step is unsettled
-abbrev pub Settles : List ℕ → Status → Type 0
-Settles bytes how = (plan : Planned) → TellsPlan bytes plan → enough_for (length plan.nodes) ≤ plan.limit → IsSettled how
+abbrev pub AlwaysSettles : List ℕ → Status → Type 0
+AlwaysSettles bytes how = (plan : Planned) → TellsPlan bytes plan → enough_for (length plan.nodes) ≤ plan.limit → IsSettled how
 
 -- all is given for what is asked with a plan: its port, and a script that comes to its end
 abbrev pub MayGo : {A L T : Type 0} → Program A L T → A → Planned → Fibres → Type 0

@@ -48,8 +48,8 @@ EndsAsItRuns ask bytes f how = (plan : Planned) (listing : Listing) → Lists as
     → Knows (world_of plan f).fibres → (how ≡ (ran_of plan f).ending) ⊎ (how ≡ status.PlantFault)
 
 -- with so large a limit no settle step is unsettled
-abbrev pub Settles : Option Ask → List ℕ → Status → Type 0
-Settles ask bytes how = (plan : Planned) (listing : Listing) → Lists ask bytes plan listing
+abbrev pub AlwaysSettles : Option Ask → List ℕ → Status → Type 0
+AlwaysSettles ask bytes how = (plan : Planned) (listing : Listing) → Lists ask bytes plan listing
     → enough_for (length plan.nodes) ≤ plan.limit → (k : ℕ) → how ≢ status.Unsettled k
 
 -- a script of settle steps alone shows a healthy ring

@@ -8,7 +8,7 @@ ghost use Rattle.sdh_shell.specs.Failing.{Counts, CameTo};
 ghost use Rattle.sdh_shell.specs.Writing.{Writes};
 ghost use Rattle.sdh_cli.specs.Words.{asked, told, LeavesSource, LeavesPlant, HasRead};
 ghost use Rattle.sdh_cli.specs.Outcome.{MayEnd};
-ghost use Rattle.sdh_cli.specs.Headline.{Delivers, GoesWell, EndsAsItRuns, Settles, StaysHealthy, MayBeDone};
+ghost use Rattle.sdh_cli.specs.Headline.{Delivers, GoesWell, EndsAsItRuns, AlwaysSettles, StaysHealthy, MayBeDone};
 
 use crate::report::report_on;
 use sdh_outside::{Sink, Source, write_text};
@@ -43,7 +43,8 @@ pub fn sdhring<R: Source, W: Sink, P: Plant>(
     ensures owed { (P.fibres plant.old).honest ≡ true → IfSome (told (asked (words_of words.now)) (R.left source.old))
         (λ bytes. Delivers (asked (words_of words.now)) bytes result (W.written sink.old) (W.written sink.new)) }
     ensures settles { (P.fibres plant.old).honest ≡ true
-        → IfSome (told (asked (words_of words.now)) (R.left source.old)) (λ bytes. Settles (asked (words_of words.now)) bytes result) }
+        → IfSome (told (asked (words_of words.now)) (R.left source.old))
+        (λ bytes. AlwaysSettles (asked (words_of words.now)) bytes result) }
     ensures healthy { (P.fibres plant.old).honest ≡ true → IfSome (told (asked (words_of words.now)) (R.left source.old))
         (λ bytes. StaysHealthy (asked (words_of words.now)) bytes result (W.written sink.old) (W.written sink.new)) }
 

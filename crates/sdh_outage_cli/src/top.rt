@@ -8,7 +8,7 @@ ghost use Rattle.sdh_shell.specs.Reading.{told_if};
 ghost use Rattle.sdh_shell.specs.Failing.{Counts, CameTo};
 ghost use Rattle.sdh_shell.specs.Writing.{Writes};
 ghost use Rattle.sdh_calls.specs.Outcome.{HasRead, MayEnd};
-ghost use Rattle.sdh_calls.specs.Headline.{Settles, MayBeDone};
+ghost use Rattle.sdh_calls.specs.Headline.{AlwaysSettles, MayBeDone};
 ghost use Rattle.sdh_outage_cli.specs.Words.{Ask, asked};
 ghost use Rattle.sdh_outage_cli.specs.Headline.{listening, EndsAsItRuns};
 
@@ -43,7 +43,7 @@ pub fn sdhoutage<R: Source, W: Sink, P: Plant>(
 
     // Over honest fibres with a large limit no settle step is unsettled.
     ensures settles { (ask : Ask) → asked (words_of words.now) ≡ Some ask → (P.fibres plant.old).honest ≡ true
-        → IfSome (R.left source.old) (λ bytes. Settles bytes result) }
+        → IfSome (R.left source.old) (λ bytes. AlwaysSettles bytes result) }
 
     // Where arrivals are known, unsettled comes at exactly the settle step in which no quiet window comes within the
     // limit.

@@ -20,7 +20,7 @@ use Rattle.sdh_sncp_script.specs.Steps.{first_strange, AreKnown}
 use Rattle.sdh_sncp_script.specs.Plans.{path_account, MaySettle}
 use Rattle.sdh_sncp_cli.specs.Endings.{number_of}
 use Rattle.sdh_sncp_cli.specs.Outcome.{IsRunOutcome, OfPlan, IsRefused, HasCause, MayEnd, IsOwn, CameTo, told, telling_of}
-use Rattle.sdh_sncp_cli.specs.Headline.{IsRunPlan, RanTo, HasRun, Delivers, EndsAsItRuns, Settles, MayBeDone}
+use Rattle.sdh_sncp_cli.specs.Headline.{IsRunPlan, RanTo, HasRun, Delivers, EndsAsItRuns, AlwaysSettles, MayBeDone}
 use Rattle.sdh_sncp_cli.specs.declared.ending.Ending.{Ending}
 use Rattle.sdh_sncp_cli.specs.declared.ending.Ending.TheVariants as ending
 use Rattle.sdh_sncp_cli.proofs.Ends.{Ends, plan_ends}
@@ -154,7 +154,7 @@ module _ (words : List (List ℕ)) (bytes : List ℕ) (f left : Fibres) (reads c
   not_unsettled status.PlantFault h e settled = omega (arith, h, e)
   not_unsettled s h e settled = h
 
-  pub settles : f.honest ≡ true → Settles words bytes number
+  pub settles : f.honest ≡ true → AlwaysSettles words bytes number
   settles honest plan is large e = let r =
       ran plan is (inr (inl e)) in not_unsettled r.run.status r.number_is e (r.run.ran.came.settles honest large)
 

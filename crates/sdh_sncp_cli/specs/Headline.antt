@@ -49,8 +49,8 @@ EndsAsItRuns words bytes f number =
     → RanTo number (ran_of plan f).ending ⊎ (number ≡ 8)
 
 -- with so large a limit no settle step is unsettled
-abbrev pub Settles : List (List ℕ) → List ℕ → ℕ → Type 0
-Settles words bytes number = (plan : Planned) → IsRunPlan words bytes plan → enough_for (length plan.nodes) ≤ plan.limit → number ≢ 7
+abbrev pub AlwaysSettles : List (List ℕ) → List ℕ → ℕ → Type 0
+AlwaysSettles words bytes number = (plan : Planned) → IsRunPlan words bytes plan → enough_for (length plan.nodes) ≤ plan.limit → number ≢ 7
 
 -- the words ask for a run, and the source tells the bytes of a plan with which all is given: a script that settles, as it does over
 -- honest fibres where the limit is large

@@ -10,7 +10,7 @@ ghost use Rattle.sdh_shell.specs.Calls.{words_of, is_run};
 ghost use Rattle.sdh_sncp_cli.specs.Endings.{number_of};
 ghost use Rattle.sdh_sncp_cli.specs.declared.ending.Ending.{Ending};
 ghost use Rattle.sdh_sncp_cli.specs.Outcome.{Answers, MayEnd, CameTo, telling_of, told, IsEnding};
-ghost use Rattle.sdh_sncp_cli.specs.Headline.{Delivers, EndsAsItRuns, Settles, MayBeDone};
+ghost use Rattle.sdh_sncp_cli.specs.Headline.{Delivers, EndsAsItRuns, AlwaysSettles, MayBeDone};
 
 use crate::ending::Ending;
 use crate::report::report_on;
@@ -82,7 +82,8 @@ pub fn sdhpath<R: Source, W: Sink, P: Plant>(
     // Over honest fibres the reports show for every port what it is owed, and with a large limit no settle step is unsettled.
     ensures owed { (P.fibres plant.old).honest ≡ true
         → IfSome (R.left source.old) (λ bytes. Delivers (words_of words.now) bytes result (W.written sink.old) (W.written sink.new)) }
-    ensures settles { (P.fibres plant.old).honest ≡ true → IfSome (R.left source.old) (λ bytes. Settles (words_of words.now) bytes result) }
+    ensures settles { (P.fibres plant.old).honest ≡ true
+        → IfSome (R.left source.old) (λ bytes. AlwaysSettles (words_of words.now) bytes result) }
 
     // Where arrivals are known, unsettled comes exactly where a settle step has no quiet window within the limit.
     ensures unsettled { IfSome (R.left source.old) (λ bytes. EndsAsItRuns (words_of words.now) bytes (P.fibres plant.old) result) }

@@ -8,7 +8,7 @@ ghost use Rattle.sdh_shell.specs.Reading.{told_if};
 ghost use Rattle.sdh_shell.specs.Failing.{Counts, CameTo};
 ghost use Rattle.sdh_shell.specs.Writing.{Writes};
 ghost use Rattle.sdh_calls.specs.Outcome.{HasRead, MayEnd};
-ghost use Rattle.sdh_calls.specs.Headline.{Shows, Settles, MayBeDone};
+ghost use Rattle.sdh_calls.specs.Headline.{Shows, AlwaysSettles, MayBeDone};
 ghost use Rattle.sdh_watch_script.specs.Plans.{ShowsClean};
 ghost use Rattle.sdh_watch.specs.Headline.{asked, watching, EndsAsItRuns};
 
@@ -45,7 +45,7 @@ pub fn sdhwatch<R: Source, W: Sink, P: Plant>(
     ensures owed { is_run (words_of words.now) ≡ true → (P.fibres plant.old).honest ≡ true
         → IfSome (R.left source.old) (λ bytes. Shows watching tt ShowsClean bytes result (W.written sink.old) (W.written sink.new)) }
     ensures settles { is_run (words_of words.now) ≡ true → (P.fibres plant.old).honest ≡ true
-        → IfSome (R.left source.old) (λ bytes. Settles bytes result) }
+        → IfSome (R.left source.old) (λ bytes. AlwaysSettles bytes result) }
 
     // Where arrivals are known, unsettled comes at exactly the settle step in which no quiet window comes within the
     // limit.

@@ -4,7 +4,7 @@ use Rattle.sdh_shell.specs.Writing.{WritesAs}
 use Rattle.sdh_shell.proofs.Told.{told_all}
 use Rattle.sdh_shell.specs.Calls.{words_of}
 use Rattle.sdh_sncp_cli.specs.Outcome.{Answers, MayEnd, told, telling_of}
-use Rattle.sdh_sncp_cli.specs.Headline.{Delivers, EndsAsItRuns, Settles}
+use Rattle.sdh_sncp_cli.specs.Headline.{Delivers, EndsAsItRuns, AlwaysSettles}
 use Rattle.sdh_sncp_cli.specs.declared.ending.Ending.{Ending}
 use Rattle.sdh_sncp_cli.proofs.Promises as promises
 use Rattle.sdh_sncp_cli.proofs.top.sdhpath.Goals as goal
@@ -46,7 +46,7 @@ returns-clause-settles g c honest =
     let calls : Counts = record { before = g.P.Plant.faults c.args.plant.now; after = g.P.Plant.faults c.answer.new.plant } in
     let old = g.W.Sink.written c.args.sink.now in
     let new = g.W.Sink.written c.answer.new.sink in
-    promises.told_then words (g.R.Source.left c.args.source.now) _ (λ (bytes : List ℕ). Settles words bytes c.number.result)
+    promises.told_then words (g.R.Source.left c.args.source.now) _ (λ (bytes : List ℕ). AlwaysSettles words bytes c.number.result)
     (λ bytes x plan is. promises.settles words bytes (means c.args.plant.now)
     (means c.answer.new.plant) reads calls c.answer.result c.number.result c.number.ensures old new
     (x is.words_are) honest plan is) c.answer.ensures.outcome
