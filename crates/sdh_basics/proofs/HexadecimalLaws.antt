@@ -1,5 +1,5 @@
 -- Hexadecimal digits, byte by byte.
-use Rattle.std.proofs.Common.{◌≡◌, ℕ, ◌*◌, List, [], ◌∷◌, ◌++◌, length, refl, ◌∙◌, arith}
+use Rattle.std.proofs.Common.{◌≡◌, ℕ, ◌*◌, List, [], ◌∷◌, length, refl, arith}
 use Rattle.sdh_basics.specs.Hexadecimal.{hex_of}
 
 -- two digits for each byte

@@ -1,5 +1,5 @@
 -- How a call of the program ends: each status, when it is answered, and the text that goes with it.
-use Rattle.std.specs.Prelude.{◌≡◌, ◌⊎◌, ℕ, List, [], ◌++◌, Option, Some, None}
+use Rattle.std.specs.Prelude.{◌≡◌, ◌⊎◌, ℕ, List, ◌++◌, Option, Some, None}
 use Rattle.sdh_plant.specs.Fibres.{Fibres}
 use Rattle.sdh_plan.specs.Planned.{Planned}
 use Rattle.sdh_plan.specs.Big.{big_planned}

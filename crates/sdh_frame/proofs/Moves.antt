@@ -10,7 +10,7 @@ use Rattle.sdh_terms.specs.declared.Rate.TheVariants.{Four, Sixteen}
 use Rattle.sdh_frame.specs.Sizes.{size_of}
 use Rattle.sdh_terms.specs.Rates.{n_of}
 use Rattle.sdh_frame.specs.Fields.{index_of, payload_place}
-use Rattle.sdh_frame.specs.Aus.{payload_of, pointers_of, payload_byte, pointer_byte, with_payload, with_pointers, is_payload, is_pointer}
+use Rattle.sdh_frame.specs.Aus.{payload_of, payload_byte, pointer_byte, with_payload, with_pointers, is_payload, is_pointer}
 
 -- two lists that are f of each place and old byte
 placed : (f : ℕ → ℕ → ℕ) (old new : List ℕ) → length new ≡ length old → ((i : ℕ) → i < length old → get_or new i 0 ≡ f i (get_or old i 0))

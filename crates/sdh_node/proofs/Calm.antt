@@ -1,14 +1,11 @@
 -- What is the same in the comparison of a calm round is the same, and a round that leaves it the same is calm.
-use Rattle.std.proofs.Common.{◌≡◌, ℕ, ◌≤◌, Bool, true, false, List, [], ◌∷◌, Option, refl, ap, ◌∙◌}
+use Rattle.std.proofs.Common.{◌≡◌, ℕ, ◌≤◌, Bool, true, false, refl, ap, ◌∙◌}
 use Rattle.std.specs.Prelude.{◌&&◌, not, nat_le}
 use Rattle.std.proofs.lemmas.Bool.{and_parts, leb-true, le-leb}
 use Rattle.sdh_kbytes.specs.Same.{same_code, same_word, same_heard}
 use Rattle.sdh_kbytes.proofs.SameWords.{code_same, heard_same, same_is}
 use Rattle.sdh_nodestate.specs.Shapes.{same_state}
 use Rattle.sdh_nodestate.proofs.SameStates.{state_same}
-use Rattle.sdh_pointer.specs.declared.reading.Reading.{Reading}
-use Rattle.sdh_pointer.specs.Reading.{same_reading}
-use Rattle.sdh_pointer.specs.Sending.{same_sending}
 use Rattle.sdh_pointer.proofs.Unmoved as one
 use Rattle.sdh_terminal.specs.Same.{same_readings, same_generators}
 use Rattle.sdh_node.specs.Same.{ComparedIn, ComparedOut, Compared, same_in, same_out, same_compared}

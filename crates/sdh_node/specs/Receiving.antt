@@ -1,21 +1,12 @@
 -- One side of a node that receives: what the section overhead of a frame says, the defect, the word heard, the local
 -- request, and what the pointer interpreters make of the AU-4s.
-use Rattle.std.specs.Prelude.{◌≡◌, ◌≢◌, ℕ, ◌+◌, ◌*◌, ◌%◌, ◌≤◌, Bool, ◌==◌, nat_le, if◌then◌else◌, Option, Some, None, IfSome, List, length}
-use Rattle.std.specs.Prelude.{map, slice_index, replicate}
+use Rattle.std.specs.Prelude.{◌≡◌, ◌≢◌, ℕ, ◌≤◌, Option, Some, None, IfSome, List, length}
 use Rattle.std.specs.Option.{is_some}
-use Rattle.sdh_basics.specs.Indexed.{map_from}
-use Rattle.sdh_terms.specs.declared.Rate.{Rate}
-use Rattle.sdh_frame.specs.Sizes.{Frame, size_of}
 use Rattle.sdh_terms.specs.Rates.{n_of}
-use Rattle.sdh_frame.specs.Aus.{pointers_of}
-use Rattle.sdh_overhead.specs.declared.Received.{Received}
-use Rattle.sdh_overhead.specs.declared.Received.TheVariants.{Framed, Unframed}
 use Rattle.sdh_overhead.specs.Sections as section
-use Rattle.sdh_overhead.specs.Sections.{Parities, holding, opened, received_in, kept_after}
-use Rattle.sdh_kbytes.specs.declared.K.{K}
+use Rattle.sdh_overhead.specs.Sections.{holding}
 use Rattle.sdh_terms.specs.declared.Code.{Code}
 use Rattle.sdh_terms.specs.declared.Code.TheVariants.{Rr}
-use Rattle.sdh_kbytes.specs.KBytes.{decoded}
 use Rattle.sdh_terms.specs.Requests.{code_number}
 use Rattle.sdh_ringmap.specs.declared.Side.{Side}
 use Rattle.sdh_ringmap.specs.declared.Side.TheVariants.{West, East}
@@ -28,9 +19,6 @@ use Rattle.sdh_request.specs.Kept.{after_happening, kept_request}
 use Rattle.sdh_kbytes.specs.KBytes.{IsSpellable}
 use Rattle.sdh_nodestate.specs.Filtering.{Brought, with_brought, hears}
 use Rattle.sdh_pointer.specs.declared.reading.Reading.{Reading}
-use Rattle.sdh_pointer.specs.declared.reading.Action.{Action}
-use Rattle.sdh_pointer.specs.declared.reading.Action.TheVariants as action
-use Rattle.sdh_pointer.specs.Reading.{Interpreter, after_word, action_on}
 use Rattle.sdh_plant.specs.Fibres.{Arrival}
 use Rattle.sdh_terminal.specs.Receiving.{Inlet, Reception, reception_of, Intake, readings_by, actions_by}
 

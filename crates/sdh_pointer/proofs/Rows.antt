@@ -12,9 +12,9 @@ use Rattle.sdh_pointer.specs.declared.reading.Action.{Action}
 use Rattle.sdh_pointer.specs.declared.reading.Action.TheVariants as action
 use Rattle.sdh_pointer.specs.declared.word.Form.TheVariants as form
 use Rattle.sdh_pointer.specs.Words.{is_normal, is_enabled, value_in, one_up, one_down}
-use Rattle.sdh_pointer.specs.Reading.{is_norm, goes_up, goes_down, normal_event, event_of, after_in, action_in, after_event}
+use Rattle.sdh_pointer.specs.Reading.{is_norm, normal_event, event_of, after_in, action_in, after_event}
 use Rattle.sdh_pointer.specs.Reading.{action_on_event, after_word, action_on, reading_row_of, is_row_of, reading_table, after_row}
-use Rattle.sdh_pointer.specs.Reading.{action_row, settled, with_ais, with_bad, with_new, news_with, later, is_same, is_up, is_down}
+use Rattle.sdh_pointer.specs.Reading.{action_row, settled, with_ais, with_new, news_with, later, is_same, is_up, is_down}
 use Rattle.sdh_pointer.specs.Reading.{ReadingRow}
 use Rattle.sdh_pointer.specs.Sending.{is_kept, is_raised, is_lowered, is_other, of_state, of_input, sends, sending_row, sending_row_of}
 use Rattle.sdh_pointer.specs.Sending.{sending_table, form_sent, value_sent, word_sent, next_sending}

@@ -12,7 +12,6 @@ use Rattle.sdh_scripts.specs.Ports.{lines_room}
 use Rattle.sdh_scripts.proofs.Plans.{as_planned}
 use Rattle.sdh_sncp.specs.Stations.{path_node}
 use Rattle.sdh_sncp.specs.Ring.{HeldPath, World, Settles}
-use Rattle.sdh_sncp_script.specs.Walking.{does}
 use Rattle.sdh_sncp_script.specs.Steps.{AreKnown, MayDo}
 use Rattle.sdh_sncp_script.specs.Running.{MayRun}
 use Rattle.sdh_sncp_script.specs.Plans.{new_ring_of}

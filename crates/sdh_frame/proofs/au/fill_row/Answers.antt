@@ -1,4 +1,4 @@
-use Rattle.std.proofs.Common.{◌≡◌, ℕ, ◌+◌, ◌*◌, ◌-◌, ◌<◌, ◌≤◌, length, get_or, set, refl, ap, subst, arith}
+use Rattle.std.proofs.Common.{◌≡◌, ℕ, ◌+◌, ◌*◌, ◌-◌, ◌<◌, ◌≤◌, length, set, refl, subst, arith}
 use Rattle.sdh_frame.specs.Aus.{is_payload}
 use Rattle.sdh_frame.specs.Columns.{HasWritten}
 use Rattle.sdh_frame.proofs.ByColumns.{head_is_none, body_is, none_written, further_written, one_written}

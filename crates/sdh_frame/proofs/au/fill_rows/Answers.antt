@@ -1,4 +1,4 @@
-use Rattle.std.proofs.Common.{◌≡◌, ℕ, ◌+◌, ◌*◌, ◌-◌, ◌<◌, ◌≤◌, get_or, subst, arith}
+use Rattle.std.proofs.Common.{◌≡◌, ◌+◌, ◌*◌, ◌-◌, subst, arith}
 use Rattle.sdh_frame.specs.Aus.{is_payload}
 use Rattle.sdh_frame.specs.Columns.{HasWritten}
 use Rattle.sdh_frame.proofs.ByColumns.{none_written, further_written}

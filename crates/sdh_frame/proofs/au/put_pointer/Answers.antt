@@ -1,4 +1,4 @@
-use Rattle.std.proofs.Common.{◌≡◌, ℕ, ◌+◌, ◌*◌, ◌-◌, ◌/◌, ◌%◌, ◌<◌, ◌≤◌, inl, inr, length, get_or, set, refl, ap, sym, ◌∙◌, arith}
+use Rattle.std.proofs.Common.{◌≡◌, ℕ, ◌+◌, ◌*◌, ◌-◌, ◌/◌, ◌%◌, ◌<◌, inl, inr, length, get_or, set, refl, ap, sym, arith}
 use Rattle.sdh_frame.specs.Aus.{is_pointer}
 use Rattle.sdh_frame.proofs.ByColumns.{column_of, front_is_none, pointer_is, none_written, further_written, one_written}
 use Rattle.sdh_frame.proofs.au.put_pointer.Goals as goal

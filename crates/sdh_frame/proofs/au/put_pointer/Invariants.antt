@@ -1,4 +1,4 @@
-use Rattle.std.proofs.Common.{◌+◌, ◌*◌, ◌/◌, ◌%◌, ℕ, slice_index}
+use Rattle.std.proofs.Common.{◌+◌, ◌*◌, ◌/◌, ◌%◌, slice_index}
 use Rattle.sdh_frame.specs.Aus.{is_pointer}
 use Rattle.sdh_frame.specs.Columns.{HasWritten}
 use Rattle.sdh_frame.proofs.au.put_pointer.Given as goal

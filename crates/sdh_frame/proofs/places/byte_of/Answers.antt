@@ -1,4 +1,4 @@
-use Rattle.std.proofs.Common.{◌≡◌, ℕ, ◌+◌, ◌*◌, ◌<◌, ◌≤◌, ◌^◌, arith}
+use Rattle.std.proofs.Common.{◌+◌, ◌*◌, ◌≤◌, arith}
 use Rattle.sdh_frame.proofs.ByColumns.{by_rate}
 use Rattle.sdh_frame.proofs.places.byte_of.Goals as goal
 
