@@ -10,8 +10,8 @@ use Rattle.sdh_rounds.proofs.Runs.{course_whole, known_course, known_unsettles}
 use Rattle.sdh_node.specs.Stations.{adm}
 use Rattle.sdh_world.specs.Held.{new_ring}
 use Rattle.sdh_world.specs.Rounds.{World}
-use Rattle.sdh_world.specs.Runs.{run, run_with, IsBrokenOff}
-use Rattle.sdh_world.specs.Quiet.{Unsettles, BreaksOff}
+use Rattle.sdh_world.specs.Runs.{run, run_with, course, IsBrokenOff}
+use Rattle.sdh_world.specs.Quiet.{EndsWindow, Unsettles, BreaksOff}
 use Rattle.sdh_world.specs.Changes.{changed, all_changed, after_stretch, after_stretches, new_world}
 use Rattle.sdh_world.specs.Clocks.{clocks_by}
 use Rattle.sdh_world.specs.Laws.{MayHappen}
@@ -21,7 +21,7 @@ use Rattle.sdh_laws.proofs.hearing.Staying.{left_stretch, left_stretches}
 use Rattle.sdh_laws.specs.Carrying.Laws.{IsRestored}
 use Rattle.sdh_laws.specs.Carrying.Windows.{Layout, layout_in, layout_of, size_of, HasCircuits}
 use Rattle.sdh_laws.proofs.carrying.Settles.{layout_stretches}
-use Rattle.sdh_laws.specs.Strangers.Laws.{NoPortEverMeetsAStranger, NoPortMeetsAStrangerForLong}
+use Rattle.sdh_laws.specs.Strangers.Laws.{EndQuietly, NoStrangerUnlessPassingNodesAreHeld, NoPortMeetsAStrangerForLong}
 use Rattle.sdh_laws.specs.Restoring.Laws.{StretchesAreRestoredSoon}
 use Rattle.sdh_plan.specs.declared.step.Step.{Step}
 use Rattle.sdh_plan.specs.declared.step.Step.TheVariants as step
@@ -61,6 +61,17 @@ happens_cut : (ss : List Stretch) (last : Stretch) (later : List Stretch) (k : �
     → MayHappen w (ss ++ stretch last.changes k ∷ [])
 happens_cut [] last later k w may = (may.0, tt)
 happens_cut (s ∷ ss) last later k w may = (may.0, happens_cut ss last later k (after_stretch s w) may.1)
+
+-- the first of some ends with a window, and so do those behind it
+ends_quietly : (s : Stretch) (w : World) (ss : List Stretch) → EndsWindow (course (all_changed s.changes w)) s.rounds
+    → EndQuietly (after_stretch s w) ss → EndQuietly w (s ∷ ss)
+ends_quietly s w [] window behind = tt
+ends_quietly s w (r ∷ ss) window behind = (window, behind)
+
+quiet_front : (ss later : List Stretch) (w : World) → EndQuietly w (ss ++ later) → EndQuietly w ss
+quiet_front [] later w quiet = tt
+quiet_front (s ∷ []) later w quiet = tt
+quiet_front (s ∷ r ∷ ss) later w quiet = (quiet.0, quiet_front (r ∷ ss) later (after_stretch s w) quiet.1)
 
 -- ---- what was sent
 
@@ -103,6 +114,7 @@ module _ (s : Settings) (ids : List ℕ) (circuits : Provisioning) (f : Fibres) 
     pub stretches : List Stretch
     pub through : WentThrough limit (rounds_in earlier) later reports end stretches
     pub happens : MayHappen from (earlier ++ stretches)
+    pub quiet : EndQuietly (after_stretches earlier from) stretches
     pub sent : HasSent from (earlier ++ stretches) end left
 
   -- nothing more ran
@@ -114,6 +126,7 @@ module _ (s : Settings) (ids : List ℕ) (circuits : Provisioning) (f : Fibres) 
     stretches = [];
     through = through;
     happens = subst (MayHappen from) (sym (append-nil earlier)) h.happened;
+    quiet = tt;
     sent =
         inl (sent ∙ ap (λ (v : World). v.fibres.sent) h.is ∙ sent_all changes (after_stretches earlier from)
         ∙ ap (λ ss. (after_stretches ss from).fibres.sent) (sym (append-nil earlier)));
@@ -137,6 +150,7 @@ module _ (s : Settings) (ids : List ℕ) (circuits : Provisioning) (f : Fibres) 
       stretches = stretch changes limit ∷ [];
       through = subst (λ e. IsLeftOff limit changes e (stretch changes limit ∷ [])) (sym is) refl;
       happens = happens_now limit;
+      quiet = tt;
       sent = inl (ap (λ (v : World). v.fibres.sent) ((known_unsettles adm w limit left knows x).1 ∙ after_rounds limit));
     }
 
@@ -151,22 +165,27 @@ module _ (s : Settings) (ids : List ℕ) (circuits : Provisioning) (f : Fibres) 
           stretches = stretch changes k ∷ [];
           through = subst (λ e. IsLeftOff limit changes e (stretch changes k ∷ [])) (sym is) (inr (k, b.within, refl));
           happens = happens_now k;
+          quiet = tt;
           sent = inr (is, subst (λ v. IsBrokenOff v left) same b.off);
         }
 
     -- one that ended, and what happened behind it
     settled : (later : List (List Change)) (mid : World) (number : ℕ) (reports : List Report) (end : Status) (left : Fibres)
         → (let last = stretch_to s ids circuits f may past earlier changes w h mid in
-        rounds_in (earlier ++ last ∷ []) ≡ mid.ring.rounds - 1 + 1 → GoesOn limit (earlier ++ last ∷ []) later reports end left
+        EndsWindow (course (all_changed changes (after_stretches earlier from))) last.rounds
+        → rounds_in (earlier ++ last ∷ []) ≡ mid.ring.rounds - 1 + 1 → GoesOn limit (earlier ++ last ∷ []) later reports end left
         → GoesOn limit earlier (changes ∷ later) (report_of number mid.ring ∷ reports) end left)
     unfolding report_of
-    settled later mid number reports end left many goes =
+    settled later mid number reports end left window many goes =
         let last = stretch_to s ids circuits f may past earlier changes w h mid in
         let behind = append_assoc earlier (last ∷ []) goes.stretches in
         record {
           stretches = last ∷ goes.stretches;
           through = (goes.stretches, refl, subst (λ n. WentThrough limit n later reports end goes.stretches) many goes.through);
           happens = subst (MayHappen from) behind goes.happens;
+          quiet =
+              ends_quietly last (after_stretches earlier from) goes.stretches window
+              (subst (λ (x : World). EndQuietly x goes.stretches) (after_last earlier last from) goes.quiet);
           sent = subst (λ ss. HasSent from ss end left) behind goes.sent;
         }
 
@@ -182,7 +201,7 @@ module _ (s : Settings) (ids : List ℕ) (circuits : Provisioning) (f : Fibres) 
       (settles_by adm after_step report_of w limit (before + 1) told mid ended) in
       subst (λ rs. GoesOn limit earlier (scenes changes (step.Settle ∷ later)) rs end left.fibres)
       (sym (reports_by adm after_step report_of w limit (before + 1) told mid reports rest ended is))
-      (settled limit past earlier changes w h (scenes [] later) mid (before + 1) rest end left.fibres there.many
+      (settled limit past earlier changes w h (scenes [] later) mid (before + 1) rest end left.fibres there.window there.many
       (walk limit (before + 1) (after past step.Settle) _ [] later mid rest end left there.stands each.1 x))
   walk limit before past earlier changes (step.Settle ∷ later) w reports end left h each (inr (inl x)) =
       subst (λ rs. GoesOn limit earlier (scenes changes (step.Settle ∷ later)) rs end left.fibres) (sym x.1.0)
@@ -206,13 +225,15 @@ module _ (s : Settings) (ids : List ℕ) (circuits : Provisioning) (f : Fibres) 
 
   -- ---- what holds in the rounds
 
-  module _ (form : HasCircuits (layout_in (new_ring s ids circuits))) (ss : List Stretch) (happens : MayHappen from ss) where
+  module _ (form : HasCircuits (layout_in (new_ring s ids circuits))) (ss : List Stretch) (happens : MayHappen from ss)
+      (quiet : EndQuietly from ss) where
     abbrev ring : Ring
     ring = ring_by s (length ids) circuits.circuits
 
-    strangers : NoPortEverMeetsAStranger → NoneEverMeetsAStranger from ring ss
+    strangers : NoStrangerUnlessPassingNodesAreHeld → NoneEverMeetsAStranger from ring ss
     strangers law free later is none t low =
-        law s ids circuits f free may.ids_ok may.honest (happens_front free later from (subst (MayHappen from) is happens)) none form t low
+        law s ids circuits f free may (happens_front free later from (subst (MayHappen from) is happens))
+        (quiet_front free later from (subst (EndQuietly from) is quiet)) none form t low
 
     no_strangers_for_long : NoPortMeetsAStrangerForLong → NoneMeetsAStrangerForLong from ring ss
     no_strangers_for_long law earlier last free later is none t long low =
@@ -238,7 +259,7 @@ module _ (s : Settings) (ids : List ℕ) (circuits : Provisioning) (f : Fibres) 
         subst (λ (y : Layout). IsOwed (size_of y) requests (happened now) y.circuits (report_of 0 left.ring)) same
         (owed_now now left 0 requests (subst HasCircuits (sym same) form) by)
 
-pub courses_are_told : NoPortEverMeetsAStranger → NoPortMeetsAStrangerForLong → StretchesAreRestoredSoon → CoursesAreTold
+pub courses_are_told : NoStrangerUnlessPassingNodesAreHeld → NoPortMeetsAStrangerForLong → StretchesAreRestoredSoon → CoursesAreTold
 courses_are_told strangers_law long_law soon_law s ids circuits f may form limit past steps each reports end left x =
     let goes =
     walk s ids circuits f may limit 0 past [] [] steps (new_world s ids circuits f) reports end left
@@ -247,9 +268,9 @@ courses_are_told strangers_law long_law soon_law s ids circuits f may form limit
       stretches = goes.stretches;
       through = goes.through;
       sent = goes.sent;
-      strangers = strangers s ids circuits f may form goes.stretches goes.happens strangers_law;
-      no_strangers_for_long = no_strangers_for_long s ids circuits f may form goes.stretches goes.happens long_law;
-      soon = soon s ids circuits f may form goes.stretches goes.happens soon_law;
+      strangers = strangers s ids circuits f may form goes.stretches goes.happens goes.quiet strangers_law;
+      no_strangers_for_long = no_strangers_for_long s ids circuits f may form goes.stretches goes.happens goes.quiet long_law;
+      soon = soon s ids circuits f may form goes.stretches goes.happens goes.quiet soon_law;
     }
 
 -- ---- without fibres

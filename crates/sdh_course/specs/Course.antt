@@ -12,7 +12,7 @@ use Rattle.sdh_world.specs.Clocks.{clocks_by}
 use Rattle.sdh_laws.specs.Hearing.Laws.{MayStart}
 use Rattle.sdh_laws.specs.Carrying.Windows.{layout_in, HasCircuits}
 use Rattle.sdh_laws.specs.Strangers.Owners.{NoneMeetsAStranger}
-use Rattle.sdh_laws.specs.Strangers.Laws.{NoneHolds}
+use Rattle.sdh_laws.specs.Strangers.Laws.{NoneHolds, NonePassingHeld}
 use Rattle.sdh_plan.specs.declared.step.Step.{Step}
 use Rattle.sdh_plan.specs.Steps.{Past}
 use Rattle.sdh_plan.specs.Scripts.{AreSteps}
@@ -55,11 +55,13 @@ HasSent w ss end left =
 
 -- ---- whose bytes come
 
--- In each round before a controller is held no port meets a stranger: it delivers AIS, or ones, or what its circuit's other port put
--- into its AU-4 in one round before.
+-- In each round before a controller is held of a node that passes traffic through no port meets a stranger: it delivers AIS, or ones, or
+-- what its circuit's other port put into its AU-4 in one round before. Which nodes pass traffic through is told by the requests of the
+-- round before, and in a new ring none does.
 abbrev pub NoneEverMeetsAStranger : World → Ring → List Stretch → Type 0
 NoneEverMeetsAStranger w ring ss =
-    (free later : List Stretch) → ss ≡ free ++ later → NoneHolds free → (t : ℕ) → t < rounds_in free
+    (free later : List Stretch) → ss ≡ free ++ later → NonePassingHeld ring.threshold ring.wait ring.nodes [] free → (t : ℕ)
+    → t < rounds_in free
     → NoneMeetsAStranger (clocks_by ring.circuits free) (round (world_in free w t)).ring
 
 -- Behind a held controller too, from so many rounds on: those are counted from the changes before the settle step at which one was held

@@ -8,7 +8,12 @@ pub mod Worlds
 pub mod Vouched
 pub mod Keeping
 pub mod Clearing
+pub mod Shields
+pub mod Shielded
+pub mod Safe
+pub mod Quiet
 pub mod Runs
+pub mod Scripts
 pub mod Slipping
 pub mod Arc
 pub mod Straight

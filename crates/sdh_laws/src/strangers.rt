@@ -1,13 +1,14 @@
 //! What holds of a ring over honest fibres in every round, quiet or not, whatever is cut, mended, degraded or commanded and whenever
-//! clocks slip, as long as no controller misses a turn.
+//! clocks slip, as long as only controllers of nodes that don't pass traffic through miss turns.
 //!
 //! Each function here is a law: it does nothing, and its contract is the law, whose words are in `specs/`.
 
 ghost use Rattle.sdh_laws.specs.Strangers.Laws.{VouchedRingsStay, RoundsKeepStrangersOut, StepsKeepStrangersOut, NoPortEverMeetsAStranger};
-ghost use Rattle.sdh_laws.specs.Strangers.Laws.{RingsComeToBeVouchedFor, NoPortMeetsAStrangerForLong};
+ghost use Rattle.sdh_laws.specs.Strangers.Laws.{NodesThatDoNotPassMayBeHeld, NoStrangerUnlessPassingNodesAreHeld};
+ghost use Rattle.sdh_laws.specs.Strangers.Laws.{NodesAsideMayBeHeld, RingsComeToBeVouchedFor, NoPortMeetsAStrangerForLong};
 ghost use Rattle.sdh_laws.specs.Strangers.Undisturbed.{UndisturbedPortsDeliver};
 
-/// A new ring is vouched for, and stays so over every change that holds no controller.
+/// A new ring is vouched for, and stays so over every change that holds no controller, or that of a node that is idle or isolated.
 pub fn vouched_rings_stay()
     ensures { VouchedRingsStay }
 {}
@@ -26,6 +27,25 @@ pub fn steps_keep_strangers_out()
 pub fn no_port_ever_meets_a_stranger()
     ensures { NoPortEverMeetsAStranger }
 {}
+
+/// And so it is where controllers are held of nodes that stand aside then, idle or isolated.
+pub fn nodes_aside_may_be_held()
+    ensures { NodesAsideMayBeHeld }
+{}
+
+/// Behind a quiet window the controllers of switched nodes may be held as well: of all nodes but those that pass traffic through.
+pub fn nodes_that_do_not_pass_may_be_held()
+    ensures { NodesThatDoNotPassMayBeHeld }
+{
+    sdh_settling::still_rings_are_settled();
+}
+
+/// The same, told by what happened: where each stretch but the last ends with a quiet window.
+pub fn no_stranger_unless_passing_nodes_are_held()
+    ensures { NoStrangerUnlessPassingNodesAreHeld }
+{
+    sdh_settling::still_rings_are_settled();
+}
 
 /// Every whole ring comes to be vouched for, whatever it carries: so many rounds behind the last turn that a controller missed.
 pub fn rings_come_to_be_vouched_for()

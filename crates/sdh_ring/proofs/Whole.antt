@@ -1,11 +1,11 @@
 -- Calls leave a ring and its fibres in order.
-use Rattle.std.proofs.Common.{ℕ, ◌+◌, ◌≤◌, sym, subst}
+use Rattle.std.proofs.Common.{ℕ, ◌+◌, ◌≤◌, inr, sym, subst}
 use Rattle.sdh_ringmap.specs.declared.Side.{Side}
 use Rattle.sdh_request.specs.declared.Command.{Command}
 use Rattle.sdh_plant.specs.Fibres.{Fibres}
 use Rattle.sdh_node.specs.Receiving.{commanded_by}
 use Rattle.sdh_node.specs.Node.{at_receiving, held_for, slips_at}
-use Rattle.sdh_world.specs.Held.{HeldRing, at_place, place_of_port}
+use Rattle.sdh_world.specs.Held.{HeldRing, at_place, node_at, place_of_port}
 use Rattle.sdh_world.specs.Rounds.{world}
 use Rattle.sdh_promise.specs.Changes.{Order, Hold, Slip, Now}
 use Rattle.sdh_circuits.specs.declared.PortId.{PortId}
@@ -14,7 +14,7 @@ use Rattle.sdh_payload.specs.Clock.{Clock}
 use Rattle.sdh_world.specs.Clocks.{waiting_at}
 use Rattle.sdh_world.proofs.Histories.{calls_change}
 use Rattle.sdh_laws.specs.Hearing.Laws.{IsWhole, StayWhole}
-use Rattle.sdh_laws.specs.Strangers.Vouched.{IsVouched}
+use Rattle.sdh_laws.specs.Strangers.Vouched.{IsVouched, IsAside}
 use Rattle.sdh_laws.specs.Strangers.Laws.{VouchedRingsStay}
 
 pub whole_commanded : StayWhole → (r : HeldRing) (f : Fibres) (p : ℕ) (d : Side) (c : Command) → IsWhole (world r f)
@@ -34,7 +34,7 @@ whole_slipped stay r f port turn count few whole =
 pub whole_later : StayWhole → (r : HeldRing) (f : Fibres) (t : ℕ) → IsWhole (world r f) → IsWhole (world (record r { moment = t }) f)
 whole_later stay r f t whole = subst IsWhole (sym (calls_change.moment r f t)) (stay.change (Now t) (world r f) tt whole)
 
--- ---- and vouched for, but for those that hold a controller
+-- ---- and vouched for, but for those that hold the controller of a node that is neither idle nor isolated
 
 module _ (stay : VouchedRingsStay) (r : HeldRing) (f : Fibres) (clocks : PortId → ℕ → Clock) (is : IsVouched clocks (world r f)) where
   pub vouched_commanded : (p : ℕ) (d : Side) (c : Command) → IsVouched clocks
@@ -47,6 +47,11 @@ module _ (stay : VouchedRingsStay) (r : HeldRing) (f : Fibres) (clocks : PortId 
   vouched_slipped port turn count few =
       subst (IsVouched clocks) (sym (calls_change.slip r f port turn count))
       (stay.change (Slip port turn count) (world r f) clocks few tt is)
+
+  pub vouched_held : (p turns : ℕ) → turns ≤ 100 → IsAside (node_at r.nodes p).state
+      → IsVouched clocks (world (record r { nodes = at_place p (held_for turns) r.nodes }) f)
+  vouched_held p turns few aside =
+      subst (IsVouched clocks) (sym (calls_change.hold r f p turns)) (stay.change (Hold p turns) (world r f) clocks few (inr aside) is)
 
   pub vouched_later : (t : ℕ) → IsVouched clocks (world (record r { moment = t }) f)
   vouched_later t = subst (IsVouched clocks) (sym (calls_change.moment r f t)) (stay.change (Now t) (world r f) clocks tt tt is)

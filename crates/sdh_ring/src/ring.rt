@@ -22,7 +22,7 @@ ghost use Rattle.sdh_laws.specs.Hearing.Laws.{IsWhole, GoesAsSignals};
 ghost use Rattle.sdh_laws.specs.Carrying.Windows.{layout_in, HasCircuits};
 ghost use Rattle.sdh_laws.specs.Carrying.Laws.{Restores};
 ghost use Rattle.sdh_rounds.specs.Quiet.{enough_for};
-ghost use Rattle.sdh_laws.specs.Strangers.Vouched.{IsVouched};
+ghost use Rattle.sdh_laws.specs.Strangers.Vouched.{IsVouched, IsAside};
 ghost use Rattle.sdh_laws.specs.Strangers.Laws.{KeepsStrangersOut, KeepsStrangersOutInAll};
 ghost use Rattle.sdh_laws.specs.Resting.Rest.{IsAtRest, StaysAtRest};
 ghost use Rattle.sdh_laws.specs.Resting.Laws.{LeavesAtRest};
@@ -210,16 +210,20 @@ impl Ring {
         command_at(&mut self.nodes, at.0 as usize, side, command);
     }
 
-    /// The controller of a node misses so many of the next rounds, in place of those that are left of an earlier call. The ring is
-    /// vouched for no more: a node that passes traffic through goes on doing so, whatever the words beside it say.
+    /// The controller of a node misses so many of the next rounds, in place of those that are left of an earlier call. The ring stays
+    /// vouched for where the node is idle or isolated; not else: one that passes traffic through goes on doing so, whatever the words
+    /// beside it say.
     pub fn hold(&mut self, at: Pos, turns: u32)
         requires at { at.0 < length self.old.ids }
         requires some { 1 ≤ turns }
         requires few { turns ≤ 100 }
         ensures ring { self.new ≡ record self.old { nodes = at_place at.0 (held_for turns) self.old.nodes } }
         ensures whole { (f : Fibres) → IsWhole (world self.old f) → IsWhole (world self.new f) }
+        ensures vouched { IsAside (node_at self.old.nodes at.0).state → (f : Fibres) (clocks : PortId → ℕ → Clock)
+            → IsVouched clocks (world self.old f) → IsVouched clocks (world self.new f) }
     {
         sdh_laws::hearing::stay_whole();
+        sdh_laws::strangers::vouched_rings_stay();
         hold_at(&mut self.nodes, at.0 as usize, turns);
     }
 

@@ -237,6 +237,118 @@ fn a_node_that_is_held_while_it_passes_through_lets_strangers_meet(
     Ok(())
 }
 
+// A plan's holds come in a ring that is quiet. Five nodes, circuit v from node 2 to node 3, and u from node 1 to node 2.
+const V: Asked<'static> = Asked {
+    name: "v",
+    from: 2,
+    to: 3,
+    slot: 1,
+    offset_a: 0,
+    offset_b: 0,
+    text_a: "A",
+    text_b: "B",
+    trace_a: "v",
+    trace_b: "v",
+};
+
+const U: Asked<'static> = Asked {
+    name: "u",
+    from: 1,
+    to: 2,
+    slot: 1,
+    offset_a: 0,
+    offset_b: 0,
+    text_a: "C",
+    text_b: "D",
+    trace_a: "u",
+    trace_b: "u",
+};
+
+// One violation is a degradation, and a side waits to restore.
+const WAITING: Settings = Settings {
+    rate: Rate::Four,
+    threshold: 1,
+    wait: 100,
+};
+
+fn laid_quiet<P: Plant>(alloc: Global, plant: &mut P) -> Result<Ring, AllocError>
+    requires { HasNoFibres (P.fibres plant.old) }
+    ensures prepared { IfOk result (λ ring. IsPrepared ring.settings.rate (length ring.ids) (P.fibres plant.new)) }
+    ensures whole { IfOk result (λ ring. ring.broken ≡ false) }
+{
+    laid_as(alloc, plant, WAITING, &[0, 1, 2, 3, 4], &[V, U])
+}
+
+// The fibres that leave nodes 1 and 2 eastwards come into these conditions.
+fn eastwards<P: Plant>(
+    ring: &Ring,
+    plant: &mut P,
+    one: Condition,
+    two: Condition,
+) -> Result<(), AllocError>
+    requires prepared { IsPrepared ring.now.settings.rate (length ring.now.ids) (P.fibres plant.old) }
+    ensures prepared { IsPrepared ring.now.settings.rate (length ring.now.ids) (P.fibres plant.new) }
+{
+    let first = apply(ring, plant, 1, Side::East, one);
+    let second = apply(ring, plant, 2, Side::East, two);
+    if first && second {
+        Ok(())
+    } else {
+        Err(AllocError)
+    }
+}
+
+// Both are cut, so that node 2 is cut off, node 3 is switched and node 0 passes traffic through. Once that is quiet, the one is
+// degraded, the other is mended, and nodes 0 and 3 are held for so many turns, where that is any. In how many of the rounds that
+// follow a port meets a stranger.
+fn met_quiet<P: Plant>(
+    ring: &mut Ring,
+    plant: &mut P,
+    passing: u32,
+    switched: u32,
+) -> Result<u32, AllocError>
+    requires prepared { IsPrepared ring.old.settings.rate (length ring.old.ids) (P.fibres plant.old) }
+    requires whole { ring.old.broken ≡ false }
+    requires few { (passing ≤ 100) × (switched ≤ 100) }
+{
+    eastwards(ring, plant, Condition::Cut, Condition::Cut)?;
+    settle(ring, plant)?;
+    eastwards(ring, plant, Condition::Degraded(12), Condition::Clear)?;
+    if ring.map().len() < 5 {
+        return Err(AllocError);
+    }
+    if passing > 0 {
+        ring.hold(Pos(0), passing);
+    }
+    if switched > 0 {
+        ring.hold(Pos(3), switched);
+    }
+    counted(ring, plant, 40)
+}
+
+fn met_behind(alloc: Global, passing: u32, switched: u32) -> Result<u32, AllocError>
+    requires few { (passing ≤ 100) × (switched ≤ 100) }
+{
+    let mut plant = FibrePlant::new();
+    let mut ring = laid_quiet(alloc, &mut plant)?;
+    met_quiet(&mut ring, &mut plant, passing, switched)
+}
+
+#[test]
+fn a_passing_and_a_switched_node_held_in_a_quiet_ring_let_strangers_meet(
+    rt: HostRuntime,
+) -> Result<(), Fail> {
+    // While node 3 is held, node 2 puts onto protection what goes to it. That has come round by node 0, under the old word, when
+    // node 2 is switched to the other side and takes it for what comes from node 1.
+    assert_eq!(rt; met_behind(rt.alloc(), 7, 4), Ok(1));
+    // Nothing is held, or one of them alone, or both as long.
+    assert_eq!(rt; met_behind(rt.alloc(), 0, 0), Ok(0));
+    assert_eq!(rt; met_behind(rt.alloc(), 7, 0), Ok(0));
+    assert_eq!(rt; met_behind(rt.alloc(), 0, 4), Ok(0));
+    assert_eq!(rt; met_behind(rt.alloc(), 7, 7), Ok(0));
+    Ok(())
+}
+
 // The same, and none is held.
 const FREE: [Step; 10] = [
     Step::Cut(0),

@@ -3,4 +3,4 @@ use Rattle.sdh_course.proofs.courses_are_told.Goals as goal
 
 pub returns : goal.returns
 returns c =
-    courses_are_told c.no_port_ever_meets_a_stranger.ensures c.no_port_meets_a_stranger_for_long.ensures c.stretches_are_restored_soon.ensures
+    courses_are_told c.no_stranger_unless_passing_nodes_are_held.ensures c.no_port_meets_a_stranger_for_long.ensures c.stretches_are_restored_soon.ensures

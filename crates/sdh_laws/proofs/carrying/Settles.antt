@@ -86,7 +86,7 @@ module _ (law : StillRingsAreSettled) (w : World) (whole : IsWhole w) (k : ℕ) 
       let rest : j + (k - j) ≡ k = omega arith in
       sym (requests_stay w j (k - j) whole (λ i after until. calm_at i (omega arith) (omega arith))) ∙ ap (λ i. requests_of (run i w)) rest
 
-  settled_at : (j : ℕ) → k < j + 3 * n → j ≤ k → AreSettled n rs (run j w)
+  pub settled_at : (j : ℕ) → k < j + 3 * n → j ≤ k → AreSettled n rs (run j w)
   settled_at j low high =
       each_settled (run j w) n rs (nodes_after_all j) (length-requests_of (run k w) n (nodes_after_all k))
       (windows_are_settled law w k j whole ends low high)

@@ -1,6 +1,7 @@
 -- A ring comes to be vouched for, whatever it carried: once no controller misses a turn, each AU-4 holds nothing but what its port has put
 -- in since as soon as its lag is over.
-use Rattle.std.proofs.Common.{◌≡◌, ℕ, ◌+◌, ◌-◌, ◌*◌, ◌<◌, ◌≤◌, List, length, Option, Some, None, subst, arith, inl, inr}
+use Rattle.std.proofs.Common.{◌≡◌, ℕ, ◌+◌, ◌-◌, ◌*◌, ◌<◌, ◌≤◌, true, false, List, length, Option, Some, None, sym, ◌∙◌, subst, arith, inl}
+use Rattle.std.proofs.Common.{inr}
 use Rattle.std.proofs.lemmas.Bool.{cases_lt}
 use Rattle.std.proofs.lemmas.Nat.{row_fits}
 use Rattle.sdh_frame.specs.Aus.{Au}
@@ -11,7 +12,8 @@ use Rattle.sdh_circuits.specs.Provisioned.{Provisioned}
 use Rattle.sdh_circuits.specs.declared.PortId.{PortId}
 use Rattle.sdh_squelch.specs.Table.{OnSpan}
 use Rattle.sdh_payload.specs.Clock.{Clock}
-use Rattle.sdh_world.specs.Held.{AtEach}
+use Rattle.sdh_node.specs.Node.{is_held}
+use Rattle.sdh_world.specs.Held.{node_at, AtEach}
 use Rattle.sdh_world.specs.Rounds.{World, round}
 use Rattle.sdh_rounds.specs.Rounds as any_round
 use Rattle.sdh_world.specs.Sides.{world_in}
@@ -32,7 +34,7 @@ use Rattle.sdh_laws.proofs.strangers.Lags.{steps_few, start_of, place_on, workin
 use Rattle.sdh_laws.proofs.strangers.Worlds.{Vouches, vouched_round}
 use Rattle.sdh_laws.proofs.strangers.Vouched.{carried_holds, holds_more, vouches_changed, held_changed, vouched_by, none_held, held_after}
 use Rattle.sdh_laws.proofs.strangers.Vouched.{adds_own}
-use Rattle.sdh_laws.proofs.strangers.Keeping.{kept_in}
+use Rattle.sdh_laws.proofs.strangers.Keeping.{kept_in, none_in}
 
 -- ---- every lag is over after n (n + 1) rounds
 
@@ -53,6 +55,14 @@ module _ (n : ℕ) (some : 0 < n) where
 
 over_then : (a b j most : ℕ) → a < b → most + b ≤ j → a < j - most
 over_then a b j most less long = omega arith
+
+-- no turn is missed
+turns : (w : World) → AtEach (λ p n. n.held ≤ 0) w.ring.nodes → (p : ℕ) → p < length w.ring.nodes → is_held (node_at w.ring.nodes p) ≡ true
+    → ⊥
+turns w free p h held = no (sym (none_held w free p h) ∙ held)
+  where
+    no : false ≡ true → ⊥
+    no z = cc
 
 -- ---- so many rounds on
 
@@ -134,7 +144,8 @@ module _ (clocks : PortId → ℕ → Clock) where
           let free : AtEach (λ p n. n.held ≤ 0) w.ring.nodes = λ p h. (let few = k.held p h in omega arith) in
           let goes : Vouches (Cleared cs (t + 1) (s + 1)) (round w) =
           vouched_round (Cleared cs t s) (Cleared cs (t + 1) (s + 1)) (cleared_lags cs t s) w k.whole
-          (on-ring (length w.ring.ids) (slots_of (layout_of w)) cs form) (none_held w free) k.clears
+          (on-ring (length w.ring.ids) (slots_of (layout_of w)) cs form) (λ p m d h low high held. absurd (turns w free p h held))
+          (λ p m d h low high held. absurd (turns w free p h held)) k.clears
           (λ j i c e get over. adds_own clocks w k.whole form tells i c e get) in
           subst (λ i. Vouches (Cleared cs (t + 1) i) (round w)) (let e : s + 1 ≡ j + 1 - most = omega arith in e) goes)
     ]
@@ -156,7 +167,7 @@ module _ (clocks : PortId → ℕ → Clock) where
           held = λ p h. (let h = held p h in omega arith);
           clears = subst (Clears w) (let e : 0 ≡ 0 - most = omega arith in e) (clears_none w);
         } in
-        kept_in clocks IsClearing clearing_changed clearing_then ss 0 w t form begins may none tells few
+        kept_in clocks (λ v c. HoldsNone c) IsClearing clearing_changed clearing_then ss 0 w t form begins may (none_in w ss none) tells few
 
     -- and then the ring is vouched for
     pub cleared : (w : World) (j : ℕ) → IsClearing j w → most + length w.ring.ids * (length w.ring.ids + 1) ≤ j → IsVouched clocks w

@@ -6,6 +6,7 @@ use Rattle.sdh_payload.specs.Clock.{Clock}
 use Rattle.sdh_world.specs.Rounds.{World, round}
 use Rattle.sdh_world.specs.Runs.{run}
 use Rattle.sdh_promise.specs.Changes.{Change, Stretch, rounds_in}
+use Rattle.sdh_promise.specs.Changes.{Fibre, Order, Hold, Slip, Now}
 use Rattle.sdh_world.specs.Changes.{changed, all_changed, after_stretch, after_stretches}
 use Rattle.sdh_world.specs.Laws.{IsChangeOf, AreChangesOf, MayHappen}
 use Rattle.sdh_world.specs.Sides.{world_in}
@@ -15,7 +16,7 @@ use Rattle.sdh_laws.specs.Carrying.Windows.{layout_of, HasCircuits}
 use Rattle.sdh_laws.proofs.carrying.Ways.{layout_run}
 use Rattle.sdh_laws.proofs.carrying.Settles.{layout_all}
 use Rattle.sdh_laws.specs.Strangers.Owners.{AreClocksOf}
-use Rattle.sdh_laws.specs.Strangers.Laws.{HoldsNone, HoldNone, NoneHolds}
+use Rattle.sdh_laws.specs.Strangers.Laws.{HoldsNone, HoldNone, NoneHolds, HoldsAside, EachMay, AllMay, HeldAside}
 
 pub layout_in : (rest : List Stretch) (w : World) (t : ℕ) → layout_of (world_in rest w t) ≡ layout_of w
 layout_in [] w t = refl
@@ -25,12 +26,38 @@ layout_in (x ∷ rest) w t = elim (cases_lt t x.rounds) [
       ∙ layout_run (all_changed x.changes w) x.rounds ∙ layout_all x.changes w
 ]
 
--- ---- what is so after so many rounds, over changes that hold no controller and rounds that these are the clocks of
+-- ---- changes that hold no controller
 
-module _ (clocks : PortId → ℕ → Clock) (Kept : ℕ → World → Type 0)
-    (change : (j : ℕ) (c : Change) (w : World) → IsChangeOf w c → HoldsNone c → Kept j w → Kept j (changed c w))
+none_each : (w : World) (xs : List Change) → HoldNone xs → EachMay (λ v c. HoldsNone c) w xs
+none_each w [] none = tt
+none_each w (c ∷ xs) none = (none.0, none_each (changed c w) xs none.1)
+
+pub none_in : (w : World) (ss : List Stretch) → NoneHolds ss → AllMay (λ v c. HoldsNone c) w ss
+none_in w [] none = tt
+none_in w (s ∷ ss) none = (none_each w s.changes none.0, none_in (after_stretch s w) ss none.1)
+
+-- hold none aside either
+aside_one : (w : World) (c : Change) → HoldsNone c → HoldsAside w c
+aside_one w (Fibre p d condition) none = tt
+aside_one w (Order p d command) none = tt
+aside_one w (Hold p turns) none = inl none
+aside_one w (Slip port turn count) none = tt
+aside_one w (Now t) none = tt
+
+pub aside_each : (w : World) (xs : List Change) → HoldNone xs → EachMay HoldsAside w xs
+aside_each w [] none = tt
+aside_each w (c ∷ xs) none = (aside_one w c none.0, aside_each (changed c w) xs none.1)
+
+pub none_aside : (w : World) (ss : List Stretch) → NoneHolds ss → HeldAside w ss
+none_aside w [] none = tt
+none_aside w (s ∷ ss) none = (aside_each w s.changes none.0, none_aside (after_stretch s w) ss none.1)
+
+-- ---- what is so after so many rounds, over changes of which something is asked and rounds that these are the clocks of
+
+module _ (clocks : PortId → ℕ → Clock) (May : World → Change → Type 0) (Kept : ℕ → World → Type 0)
+    (change : (j : ℕ) (c : Change) (w : World) → IsChangeOf w c → May w c → Kept j w → Kept j (changed c w))
     (next : (j : ℕ) (w : World) → HasCircuits (layout_of w) → Kept j w → AreClocksOf clocks w.ring → Kept (j + 1) (round w)) where
-  kept_all : (xs : List Change) (j : ℕ) (w : World) → AreChangesOf w xs → HoldNone xs → Kept j w → Kept j (all_changed xs w)
+  kept_all : (xs : List Change) (j : ℕ) (w : World) → AreChangesOf w xs → EachMay May w xs → Kept j w → Kept j (all_changed xs w)
   kept_all [] j w may none k = k
   kept_all (c ∷ xs) j w may none k = kept_all xs j (changed c w) may.1 none.1 (change j c w may.0 none.0 k)
 
@@ -43,7 +70,7 @@ module _ (clocks : PortId → ℕ → Clock) (Kept : ℕ → World → Type 0)
       (next (j + many) (run many w) (subst HasCircuits (sym (layout_run w many)) form)
       (kept_run many j w form k (λ i h. tells i (omega arith))) (tells many (omega arith)))
 
-  pub kept_in : (rest : List Stretch) (j : ℕ) (w : World) (t : ℕ) → HasCircuits (layout_of w) → Kept j w → MayHappen w rest → NoneHolds rest
+  pub kept_in : (rest : List Stretch) (j : ℕ) (w : World) (t : ℕ) → HasCircuits (layout_of w) → Kept j w → MayHappen w rest → AllMay May w rest
       → ((i : ℕ) → i < rounds_in rest → AreClocksOf clocks (world_in rest w i).ring) → t ≤ rounds_in rest
       → Kept (j + t) (world_in rest w t)
   kept_in [] j w t form k may none tells h = subst (λ i. Kept i w) (let e : j ≡ j + t = omega arith in e) k

@@ -42,7 +42,7 @@ use Rattle.sdh_routes.proofs.OnArcs.{near_at, near_end, on-arc, seen-on}
 use Rattle.sdh_routes.proofs.Meets.{meets-own, meets-farther}
 use Rattle.sdh_routes.proofs.Passing.{is_open, open-stands, leaves-on, leaves-own_or_none, leaves-unused, isolated-stands, isolated-leaves}
 use Rattle.sdh_routes.proofs.Passing.{idle-leaves, switched-stands, bridged-leaves, blocked-leaves, away-leaves, passed-leaves}
-use Rattle.sdh_laws.specs.Strangers.Vouched.{sender, told_of, spoken_of}
+use Rattle.sdh_laws.specs.Strangers.Vouched.{sender, told_of, spoken_of, IsAside}
 use Rattle.sdh_laws.specs.Strangers.Vouched.{streams_to}
 use Rattle.sdh_laws.proofs.strangers.Content.{Fine}
 use Rattle.sdh_laws.proofs.strangers.Lags.{steps, steps_few, steps_going, steps_next, start_of, place_on, working_lag, protection_lag}
@@ -146,7 +146,7 @@ module _ (n : ℕ) (cs : List Provisioned) (ring : AreOnRing n cs) (p m : ℕ) (
 -- ---- a node
 
 -- without a far end nothing may be carried
-no_far : (n : ℕ) (cs : List Provisioned) (p : ℕ) (d : Side) (m : ℕ) → carries_in n cs p d m None ≡ false
+pub no_far : (n : ℕ) (cs : List Provisioned) (p : ℕ) (d : Side) (m : ℕ) → carries_in n cs p d m None ≡ false
 unfolding may_carry
 no_far n cs p West m = refl
 no_far n cs p East m = refl
@@ -273,9 +273,30 @@ module _ (Was Own : ℕ → Option PortId → Au → Type 0) (lags : AreLags Was
   stands_by (state.PassThrough i) h d = open_fine (state.PassThrough i) d refl
   stands_by (state.Idle i) h d = open_fine (state.Idle i) d refl
 
+  -- at a node in this state
+  abbrev StandsFine : NodeState → Side → Type 0
+  StandsFine x d = Fine (Own (arrival_lag d)) (on d) (opposite d) (value (stands_in n cs p x d m))
+
+  pub aside_stands : (x : NodeState) → IsAside x → (d : Side) → StandsFine x d
+  aside_stands (state.Isolated i) a d =
+      by_origin _ (on d) (opposite d) _ Ais (isolated-stands n cs p d m) (silent_is_fine _ (on d) (opposite d))
+  aside_stands (state.Idle i) a d = open_fine (state.Idle i) d refl
+  aside_stands (state.PassThrough i) a d = absurd a
+  aside_stands (state.SwitchWest f) a d = absurd a
+  aside_stands (state.SwitchEast f) a d = absurd a
+
   -- what stands for the working arrival from a side
   pub stands_fine : (d : Side) → Fine (Own (arrival_lag d)) (on d) (opposite d) (value (stands_in n cs p st d m))
   stands_fine d = stands_by st refl d
+
+  -- a node that stands aside puts nothing on protection
+  pub aside_protection : (x : NodeState) → IsAside x → (i : ℕ) (o : Option OnSpan) (d : Side)
+      → Fine (Own i) o (opposite d) (value (protection_in n cs p x d m))
+  aside_protection (state.Isolated i) a j o d = by_origin j o (opposite d) _ Ais (isolated-leaves n cs p d m) (silent_is_fine j o (opposite d))
+  aside_protection (state.Idle i) a j o d = by_origin j o (opposite d) _ Ais (idle-leaves n cs p d m) (silent_is_fine j o (opposite d))
+  aside_protection (state.PassThrough i) a j o d = absurd a
+  aside_protection (state.SwitchWest f) a j o d = absurd a
+  aside_protection (state.SwitchEast f) a j o d = absurd a
 
   -- ---- what is sent
 
@@ -284,29 +305,36 @@ module _ (Was Own : ℕ → Option PortId → Au → Type 0) (lags : AreLags Was
     abbrev leaving_lag : Side → ℕ
     leaving_lag d = working_lag n d (on d) p
 
-    working_by : (d : Side) → Meets n cs p m d → Fine (Own (leaving_lag d)) (on d) d (value (working_in n cs p st d m))
-    working_by d (nothing e) = by_origin _ (on d) d _ Ais (leaves-unused n cs p st d m e) (silent_is_fine _ (on d) d)
-    working_by d (ends i c e h get there) = elim (leaves-own_or_none n cs p st i c (sender d) d m e h) [
+    abbrev WorkingFine : NodeState → Side → Type 0
+    WorkingFine x d = Fine (Own (leaving_lag d)) (on d) d (value (working_in n cs p x d m))
+
+    working_by : (x : NodeState) → ((d : Side) → StandsFine x d) → (d : Side) → Meets n cs p m d → WorkingFine x d
+    working_by x stands d (nothing e) = by_origin _ (on d) d _ Ais (leaves-unused n cs p x d m e) (silent_is_fine _ (on d) d)
+    working_by x stands d (ends i c e h get there) = elim (leaves-own_or_none n cs p x i c (sender d) d m e h) [
       | inl none ↦ by_origin _ (on d) d _ Ais none (silent_is_fine _ (on d) d)
       | inr own ↦ by_origin _ (on d) d _ (port i (sender d)) own
           (subst (λ o. Fine (Own (leaving_lag d)) o d (value (port i (sender d)))) (sym e)
           (inr (added_own (leaving_lag d) i c (sender d) get there)))
     ]
-    working_by d (goes_on i c e h other next) =
-        let x = stands_in n cs p st (opposite d) m in
+    working_by x stands d (goes_on i c e h other next) =
+        let o = stands_in n cs p x (opposite d) m in
         let back : opposite (opposite d) ≡ d = opposite_twice d in
         let lag : arrival_lag (opposite d) ≡ leaving_lag d =
         (λ k. (place_on n (back k) (other k) (neighbour n p (opposite d)) + 1) * (n + 1)) ∙ ap (λ j. j * (n + 1)) (sym next)
         ∙ ap (λ o. place_on n d o p * (n + 1)) (sym e) in
-        by_origin _ (on d) d _ x (leaves-on n cs p st i c d m e h)
-        (subst (λ j. Fine (Own j) (on d) d (value x)) lag
-        (subst (λ y. Fine (Own (arrival_lag (opposite d))) (on d) y (value x)) back
-        (subst (λ o. Fine (Own (arrival_lag (opposite d))) o (opposite (opposite d)) (value x)) (other ∙ sym e)
-        (stands_fine (opposite d)))))
+        by_origin _ (on d) d _ o (leaves-on n cs p x i c d m e h)
+        (subst (λ j. Fine (Own j) (on d) d (value o)) lag
+        (subst (λ y. Fine (Own (arrival_lag (opposite d))) (on d) y (value o)) back
+        (subst (λ q. Fine (Own (arrival_lag (opposite d))) q (opposite (opposite d)) (value o)) (other ∙ sym e)
+        (stands (opposite d)))))
 
     -- what leaves in the working slot
-    pub working_fine : (d : Side) → Fine (Own (leaving_lag d)) (on d) d (value (working_in n cs p st d m))
-    working_fine d = working_by d (meets n cs ring p m inside d)
+    pub working_fine : (d : Side) → WorkingFine st d
+    working_fine d = working_by st stands_fine d (meets n cs ring p m inside d)
+
+    -- and at a node in any state, where what stands for its arrivals is fine
+    pub working_from : (x : NodeState) → ((d : Side) → StandsFine x d) → (d : Side) → WorkingFine x d
+    working_from x stands d = working_by x stands d (meets n cs ring p m inside d)
 
     -- the lag of what leaves in the protection slot, beside the word that is sent
     abbrev pub beside_lag : Side → ℕ

@@ -8,6 +8,7 @@ use Rattle.sdh_circuits.specs.Provisioned.{Provisioned}
 use Rattle.sdh_circuits.specs.Provisioning.{Provisioning, AreCircuits}
 use Rattle.sdh_circuits.specs.declared.PortId.{PortId}
 use Rattle.sdh_circuits.specs.Ends.{port_id}
+use Rattle.sdh_settling.specs.Laws.{StillRingsAreSettled}
 use Rattle.sdh_payload.specs.Clock.{Clock, ticks}
 use Rattle.sdh_plant.specs.Fibres.{Fibres, IsHonest}
 use Rattle.sdh_request.specs.declared.settings.Settings.{Settings}
@@ -34,24 +35,27 @@ use Rattle.sdh_laws.proofs.carrying.Owed.{port_is_there}
 use Rattle.sdh_routes.proofs.Ways.{end_inside}
 use Rattle.sdh_laws.specs.Strangers.Owners.{NoneMeetsAStranger, AreClocksOf, AreClocksBetween}
 use Rattle.sdh_laws.specs.Strangers.Vouched.{IsVouched}
-use Rattle.sdh_laws.specs.Strangers.Laws.{NoneHolds, KeepsStrangersOutInAll, VouchedRingsStay, RoundsKeepStrangersOut}
+use Rattle.sdh_laws.specs.Strangers.Laws.{NoneHolds, HoldsAside, HeldAside, KeepsStrangersOutInAll, VouchedRingsStay}
+use Rattle.sdh_laws.specs.Strangers.Laws.{RoundsKeepStrangersOut, NodesAsideMayBeHeld, HeldBesidePassing, NodesThatDoNotPassMayBeHeld}
 use Rattle.sdh_laws.specs.Strangers.Laws.{StepsKeepStrangersOut, NoPortEverMeetsAStranger, RingsComeToBeVouchedFor}
 use Rattle.sdh_laws.specs.Strangers.Laws.{NoPortMeetsAStrangerForLong}
-use Rattle.sdh_laws.proofs.strangers.Vouched.{vouched_changed, vouched_new, vouched_after, none_meets}
-use Rattle.sdh_laws.proofs.strangers.Keeping.{layout_in, kept_run, kept_in, rounds_together, happens_in_parts, world_behind}
+use Rattle.sdh_laws.proofs.strangers.Vouched.{vouched_changed, vouched_new, vouched_after, ready_aside, none_meets}
+use Rattle.sdh_laws.proofs.strangers.Safe.{IsSafe, safe_of, safe_ready}
+use Rattle.sdh_laws.proofs.strangers.Quiet.{safe_in}
+use Rattle.sdh_laws.proofs.strangers.Keeping.{none_aside, layout_in, kept_run, kept_in, rounds_together, happens_in_parts, world_behind}
 use Rattle.sdh_laws.proofs.strangers.Clearing.{clearing_in, cleared}
 
 pub vouched_rings_stay : VouchedRingsStay
 vouched_rings_stay = record {
   new = λ s ids circuits f clocks are honest. vouched_new clocks s ids circuits f are honest;
-  change = λ c w clocks may none k. vouched_changed clocks c w may none k;
+  change = λ c w clocks may aside k. vouched_changed clocks c w may aside k;
 }
 
 pub rounds_keep_strangers_out : RoundsKeepStrangersOut
 rounds_keep_strangers_out w after form r clocks k tells =
     let is : after ≡ round w = (known_rounds_are adm w after (inl k.whole.paired.honest.honest) r).0 in
     subst (λ (v : World). IsVouched clocks v × NoneMeetsAStranger clocks v.ring) (sym is)
-    (vouched_after clocks w form k tells, none_meets clocks w form k)
+    (vouched_after clocks w form k tells, none_meets clocks w form (ready_aside clocks w form k))
 
 -- ---- stretches
 
@@ -59,15 +63,15 @@ module _ (clocks : PortId → ℕ → Clock) where
   runs_vouched : (j : ℕ) (w : World) → HasCircuits (layout_of w) → IsVouched clocks w
       → ((i : ℕ) → i < j → AreClocksOf clocks (run i w).ring) → IsVouched clocks (run j w)
   runs_vouched j w form k tells =
-      kept_run clocks (λ i v. IsVouched clocks v) (λ i c v may none x. vouched_changed clocks c v may none x)
+      kept_run clocks HoldsAside (λ i v. IsVouched clocks v) (λ i c v may aside x. vouched_changed clocks c v may aside x)
       (λ i v f x told. vouched_after clocks v f x told) j 0 w form k tells
 
   vouched_in : (rest : List Stretch) (w : World) (t : ℕ) → HasCircuits (layout_of w) → IsVouched clocks w → MayHappen w rest
-      → NoneHolds rest → ((j : ℕ) → j < rounds_in rest → AreClocksOf clocks (world_in rest w j).ring) → t ≤ rounds_in rest
+      → HeldAside w rest → ((j : ℕ) → j < rounds_in rest → AreClocksOf clocks (world_in rest w j).ring) → t ≤ rounds_in rest
       → IsVouched clocks (world_in rest w t)
-  vouched_in rest w t form k may none tells h =
-      kept_in clocks (λ i v. IsVouched clocks v) (λ i c v may none x. vouched_changed clocks c v may none x)
-      (λ i v f x told. vouched_after clocks v f x told) rest 0 w t form k may none tells h
+  vouched_in rest w t form k may aside tells h =
+      kept_in clocks HoldsAside (λ i v. IsVouched clocks v) (λ i c v may aside x. vouched_changed clocks c v may aside x)
+      (λ i v f x told. vouched_after clocks v f x told) rest 0 w t form k may aside tells h
 
 -- ---- rounds alone
 
@@ -94,7 +98,7 @@ module _ (w : World) (form : HasCircuits (layout_of w)) (many : ℕ) (clocks : P
 
   none_in : (j : ℕ) → j < many → NoneMeetsAStranger clocks (run (suc j) w).ring
   unfolding any_run.run
-  none_in j few = none_meets clocks (run j w) (form_run j) (vouched_run j (omega arith))
+  none_in j few = none_meets clocks (run j w) (form_run j) (ready_aside clocks (run j w) (form_run j) (vouched_run j (omega arith)))
 
   none_within : (j : ℕ) → 1 ≤ j → w.ring.rounds + j ≤ (run many w).ring.rounds → NoneMeetsAStranger clocks (run j w).ring
   none_within j some low =
@@ -155,10 +159,21 @@ module _ (s : Settings) (ids : List ℕ) (circuits : Provisioning) (f : Fibres) 
       ∙ ap (clocks q) (sym (ran_at t (omega arith)))
 
   none_met : (t : ℕ) → t < rounds_in ss → IsVouched clocks (world_in ss w t) → NoneMeetsAStranger clocks (round (world_in ss w t)).ring
-  none_met t h k = none_meets clocks (world_in ss w t) (subst HasCircuits (sym (layout_in ss w t)) ring) k
+  none_met t h k =
+      let form = subst HasCircuits (sym (layout_in ss w t)) ring in
+      none_meets clocks (world_in ss w t) form (ready_aside clocks (world_in ss w t) form k)
 
-  pub no_stranger : MayHappen w ss → NoneHolds ss → (t : ℕ) → t < rounds_in ss → NoneMeetsAStranger clocks (round (world_in ss w t)).ring
-  no_stranger happen none t h = none_met t h (vouched_in clocks ss w t ring begins happen none tells (omega arith))
+  pub no_stranger : MayHappen w ss → HeldAside w ss → (t : ℕ) → t < rounds_in ss → NoneMeetsAStranger clocks (round (world_in ss w t)).ring
+  no_stranger happen aside t h = none_met t h (vouched_in clocks ss w t ring begins happen aside tells (omega arith))
+
+  -- where controllers are held of nodes that don't pass traffic through
+  pub no_stranger_beside : StillRingsAreSettled → MayHappen w ss → HeldBesidePassing ⊥ w ss → (t : ℕ) → t < rounds_in ss
+      → NoneMeetsAStranger clocks (round (world_in ss w t)).ring
+  no_stranger_beside law happen held t h =
+      let form = subst HasCircuits (sym (layout_in ss w t)) ring in
+      let safe : IsSafe clocks (world_in ss w t) =
+      safe_in clocks law ⊥ ss w t ring (safe_of clocks w begins) (λ z. absurd z) happen held tells (omega arith) in
+      none_meets clocks (world_in ss w t) form (safe_ready clocks (world_in ss w t) form safe (tells t h))
 
   -- behind stretches in which controllers may be held
   module _ (earlier : List Stretch) (last : Stretch) (free : List Stretch) (is : ss ≡ earlier ++ last ∷ free) (happen : MayHappen w ss)
@@ -199,7 +214,15 @@ module _ (s : Settings) (ids : List ℕ) (circuits : Provisioning) (f : Fibres) 
 
 pub no_port_ever_meets_a_stranger : NoPortEverMeetsAStranger
 no_port_ever_meets_a_stranger s ids circuits f ss are honest happen none ring t h =
-    no_stranger s ids circuits f ss are honest ring happen none t h
+    no_stranger s ids circuits f ss are honest ring happen (none_aside (new_world s ids circuits f) ss none) t h
+
+pub nodes_aside_may_be_held : NodesAsideMayBeHeld
+nodes_aside_may_be_held s ids circuits f ss are honest happen aside ring t h =
+    no_stranger s ids circuits f ss are honest ring happen aside t h
+
+pub nodes_that_do_not_pass_may_be_held : StillRingsAreSettled → NodesThatDoNotPassMayBeHeld
+nodes_that_do_not_pass_may_be_held law s ids circuits f ss are honest happen held ring t h =
+    no_stranger_beside s ids circuits f ss are honest ring law happen held t h
 
 pub no_port_meets_a_stranger_for_long : NoPortMeetsAStrangerForLong
 no_port_meets_a_stranger_for_long s ids circuits f earlier last free are honest happen none ring t long low =

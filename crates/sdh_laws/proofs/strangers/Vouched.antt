@@ -1,7 +1,8 @@
 -- Rings stay vouched for, over changes and rounds, and no port meets a stranger in a round of one.
-use Rattle.std.proofs.Common.{◌≡◌, ℕ, ◌+◌, ◌-◌, ◌<◌, ◌≤◌, false, List, length, Option, Some, None, refl, ap, sym, ◌∙◌, subst, arith, inl}
+use Rattle.std.proofs.Common.{◌≡◌, ℕ, zero, suc, ◌+◌, ◌-◌, ◌<◌, ◌≤◌, Bool, true, false, List, [], ◌∷◌, length, Option, Some, None, refl, ap, sym, ◌∙◌, subst, arith, inl}
 use Rattle.std.proofs.Common.{inr, ◌⊎◌}
-use Rattle.std.specs.Prelude.{slice_get, nat_le}
+use Rattle.std.specs.Prelude.{slice_get, nat_le, if◌then◌else◌}
+use Rattle.std.proofs.lemmas.Bool.{le-leb, cases_lt}
 use Rattle.std.specs.Option.{option_map_or}
 use Rattle.sdh_frame.specs.Aus.{Au, ones}
 use Rattle.sdh_ringmap.specs.Ids.{AreIds}
@@ -11,7 +12,7 @@ use Rattle.sdh_circuits.specs.Provisioned.{Provisioned, customer_at}
 use Rattle.sdh_circuits.specs.Provisioning.{Provisioning}
 use Rattle.sdh_circuits.specs.declared.End.{End}
 use Rattle.sdh_circuits.specs.declared.PortId.{PortId}
-use Rattle.sdh_squelch.specs.Table.{circuits_at}
+use Rattle.sdh_squelch.specs.Table.{OnSpan, circuits_at}
 use Rattle.sdh_squelch.proofs.LookUps.{entry}
 use Rattle.sdh_request.specs.declared.Command.{Command}
 use Rattle.sdh_request.specs.declared.settings.Settings.{Settings}
@@ -29,8 +30,10 @@ use Rattle.sdh_terminal.specs.Outlets.{chunk_form, delivered_by, delivered_from}
 use Rattle.sdh_terminal.specs.Tributaries.{Tributary, sent_in, input_by, added_by}
 use Rattle.sdh_node.specs.Receiving.{commanded_by}
 use Rattle.sdh_node.specs.Node.{Node, new_node, at_receiving, held_for, slips_at, is_held, word_of}
-use Rattle.sdh_node.proofs.Decided.{turns_left}
-use Rattle.sdh_world.specs.Held.{node_at, AtEach, outlet_at, place_of_port}
+use Rattle.sdh_node.specs.Node.{node_round}
+use Rattle.sdh_node.proofs.Decided.{turns_left, scene_in, state_is}
+use Rattle.sdh_nodestate.specs.Rules.{state_after}
+use Rattle.sdh_world.specs.Held.{node_at, AtEach, at_place, outlet_at, place_of_port}
 use Rattle.sdh_world.specs.Rounds.{World, round}
 use Rattle.sdh_promise.specs.Changes.{Change}
 use Rattle.sdh_promise.specs.Changes.{Fibre, Order, Hold, Slip, Now}
@@ -52,12 +55,13 @@ use Rattle.sdh_routes.proofs.Views.{AreOnRing, on-ring}
 use Rattle.sdh_routes.proofs.Ways.{end_inside}
 use Rattle.sdh_laws.specs.Strangers.Owners.{other_port, put_by, HasBytesOf, Holds, nobodys, customers, MeetsNoStranger}
 use Rattle.sdh_laws.specs.Strangers.Owners.{ais_comes, bytes_come, NoneMeetsAStranger, AreClocksOf}
-use Rattle.sdh_laws.specs.Strangers.Vouched.{spoken_of, HoldsAtMost, au_in, IsVouched}
-use Rattle.sdh_laws.specs.Strangers.Laws.{HoldsNone}
+use Rattle.sdh_laws.specs.Strangers.Vouched.{streams_to, spoken_of, HoldsAtMost, au_in, IsVouched, IsAside, MissesAside}
+use Rattle.sdh_laws.specs.Strangers.Laws.{HoldsNone, HoldsAside}
 use Rattle.sdh_laws.proofs.strangers.Content.{IsCarried, Bears, Fine}
 use Rattle.sdh_laws.proofs.strangers.Lags.{spoken_lag, AreLags}
 use Rattle.sdh_laws.proofs.strangers.Nodes.{at_port, sent_to}
-use Rattle.sdh_laws.proofs.strangers.Worlds.{Vouches, WorksOn, SpeaksOf, vouched_round, delivers_fine}
+use Rattle.sdh_laws.proofs.strangers.Worlds.{Vouches, WorksOn, SpeaksOf, HeldStand, HeldSay, vouched_round, delivers_fine, aside_delivers}
+use Rattle.sdh_laws.proofs.strangers.Worlds.{aside_says}
 
 -- ---- what an AU-4 holds is carried
 
@@ -134,6 +138,27 @@ held_changed most (Slip id turn count) w none k =
     each_at_place (λ q n. n.held ≤ most) (slips_at id turn count) (λ q n h. h) (place_of_port w.ring id) w.ring.nodes k
 held_changed most (Now t) w none k = k
 
+-- what the node at a position gets of a change there
+pub each_there : (P : ℕ → Node → Type 0) (f : Node → Node) (p : ℕ) (ns : List Node) → (P p (node_at ns p) → P p (f (node_at ns p)))
+    → AtEach P ns → AtEach P (at_place p f ns)
+each_there P f p [] keep each q h = absurd (omega arith)
+each_there P f zero (n ∷ ns) keep each zero h = keep (each 0 (omega arith))
+each_there P f zero (n ∷ ns) keep each (suc q) h = each (suc q) (omega arith)
+each_there P f (suc p) (n ∷ ns) keep each zero h = each 0 (omega arith)
+each_there P f (suc p) (n ∷ ns) keep each (suc q) h =
+    each_there (λ k. P (suc k)) f p ns keep (λ k low. each (suc k) (omega arith)) q (omega arith)
+
+-- a change that holds only where a node stands aside leaves it so that only such nodes miss turns
+aside_changed : (c : Change) (w : World) → HoldsAside w c → AtEach (λ p n. MissesAside n) w.ring.nodes
+    → AtEach (λ p n. MissesAside n) (changed c w).ring.nodes
+unfolding changed
+aside_changed (Fibre p d condition) w may k = k
+aside_changed (Order p d c) w may k = each_at_place (λ q n. MissesAside n) (at_receiving d (commanded_by c)) (λ q n h. h) p w.ring.nodes k
+aside_changed (Hold p turns) w may k = each_there (λ q n. MissesAside n) (held_for turns) p w.ring.nodes (λ h. may) k
+aside_changed (Slip id turn count) w may k =
+    each_at_place (λ q n. MissesAside n) (slips_at id turn count) (λ q n h. h) (place_of_port w.ring id) w.ring.nodes k
+aside_changed (Now t) w may k = k
+
 module _ (clocks : PortId → ℕ → Clock) where
   -- in a ring that is vouched for it doesn't matter how far AU-4s lag
   abbrev pub Anyhow : World → ℕ → Option PortId → Au → Type 0
@@ -145,33 +170,33 @@ module _ (clocks : PortId → ℕ → Clock) where
     protection = λ p h m d line there low high. k.protection p m d line h there low high;
   }
 
-  pub vouched_by : (w : World) → IsWhole w → AtEach (λ p n. n.held ≤ 0) w.ring.nodes → Vouches (Anyhow w) w → IsVouched clocks w
-  vouched_by w whole free k = record {
+  vouched_aside : (w : World) → IsWhole w → AtEach (λ p n. MissesAside n) w.ring.nodes → Vouches (Anyhow w) w → IsVouched clocks w
+  vouched_aside w whole aside k = record {
     whole = whole;
-    free = λ p h. (let few = free p h in omega arith);
+    aside = aside;
     working = λ p m d line h there low high. k.working p h m d line there low high;
     protection = λ p m d line h there low high. k.protection p h m d line there low high;
   }
 
-  free_of : (w : World) → IsVouched clocks w → AtEach (λ p n. n.held ≤ 0) w.ring.nodes
-  free_of w k p h = (let none = k.free p h in omega arith)
+  pub vouched_by : (w : World) → IsWhole w → AtEach (λ p n. n.held ≤ 0) w.ring.nodes → Vouches (Anyhow w) w → IsVouched clocks w
+  vouched_by w whole free k = vouched_aside w whole (λ p h. inl (let few = free p h in omega arith)) k
 
-  pub vouched_changed : (c : Change) (w : World) → IsChangeOf w c → HoldsNone c → IsVouched clocks w → IsVouched clocks (changed c w)
+  pub vouched_changed : (c : Change) (w : World) → IsChangeOf w c → HoldsAside w c → IsVouched clocks w → IsVouched clocks (changed c w)
   unfolding changed
-  vouched_changed (Fibre p d condition) w may none k =
-      vouched_by (changed (Fibre p d condition) w) (whole_changed (Fibre p d condition) w may k.whole)
-      (held_changed 0 (Fibre p d condition) w none (free_of w k)) (vouches_changed (Anyhow w) (Fibre p d condition) w (vouches_of w k))
-  vouched_changed (Order p d c) w may none k =
-      vouched_by (changed (Order p d c) w) (whole_changed (Order p d c) w may k.whole) (held_changed 0 (Order p d c) w none (free_of w k))
+  vouched_changed (Fibre p d condition) w may aside k =
+      vouched_aside (changed (Fibre p d condition) w) (whole_changed (Fibre p d condition) w may k.whole)
+      (aside_changed (Fibre p d condition) w aside k.aside) (vouches_changed (Anyhow w) (Fibre p d condition) w (vouches_of w k))
+  vouched_changed (Order p d c) w may aside k =
+      vouched_aside (changed (Order p d c) w) (whole_changed (Order p d c) w may k.whole) (aside_changed (Order p d c) w aside k.aside)
       (vouches_changed (Anyhow w) (Order p d c) w (vouches_of w k))
-  vouched_changed (Hold p turns) w may none k =
-      vouched_by (changed (Hold p turns) w) (whole_changed (Hold p turns) w may k.whole)
-      (held_changed 0 (Hold p turns) w none (free_of w k)) (vouches_changed (Anyhow w) (Hold p turns) w (vouches_of w k))
-  vouched_changed (Slip id turn count) w may none k =
-      vouched_by (changed (Slip id turn count) w) (whole_changed (Slip id turn count) w may k.whole)
-      (held_changed 0 (Slip id turn count) w none (free_of w k)) (vouches_changed (Anyhow w) (Slip id turn count) w (vouches_of w k))
-  vouched_changed (Now t) w may none k =
-      vouched_by (changed (Now t) w) (whole_changed (Now t) w may k.whole) (held_changed 0 (Now t) w none (free_of w k))
+  vouched_changed (Hold p turns) w may aside k =
+      vouched_aside (changed (Hold p turns) w) (whole_changed (Hold p turns) w may k.whole)
+      (aside_changed (Hold p turns) w aside k.aside) (vouches_changed (Anyhow w) (Hold p turns) w (vouches_of w k))
+  vouched_changed (Slip id turn count) w may aside k =
+      vouched_aside (changed (Slip id turn count) w) (whole_changed (Slip id turn count) w may k.whole)
+      (aside_changed (Slip id turn count) w aside k.aside) (vouches_changed (Anyhow w) (Slip id turn count) w (vouches_of w k))
+  vouched_changed (Now t) w may aside k =
+      vouched_aside (changed (Now t) w) (whole_changed (Now t) w may k.whole) (aside_changed (Now t) w aside k.aside)
       (vouches_changed (Anyhow w) (Now t) w (vouches_of w k))
 
   -- ---- a new ring
@@ -194,7 +219,7 @@ module _ (clocks : PortId → ℕ → Clock) where
     pub vouched_new : IsVouched clocks (new_world s ids circuits f)
     vouched_new = record {
       whole = new_whole;
-      free = each_new (λ p n. n.held ≡ 0) s ids circuits.circuits (λ p low. new_free p);
+      aside = each_new (λ p n. MissesAside n) s ids circuits.circuits (λ p low. inl (new_free p));
       working = λ p m d line h there low high. absurd (nothing_sent line p d h there);
       protection = λ p m d line h there low high. absurd (nothing_sent line p d h there);
     }
@@ -203,6 +228,20 @@ module _ (clocks : PortId → ℕ → Clock) where
 
 pub none_held : (w : World) → AtEach (λ p n. n.held ≤ 0) w.ring.nodes → AtEach (λ p n. is_held n ≡ false) w.ring.nodes
 none_held w k p h = (let few = k p h in ap (λ x. nat_le 1 x) (let z : (node_at w.ring.nodes p).held ≡ 0 = omega arith in z))
+
+pub held_aside : (n : Node) → MissesAside n → is_held n ≡ true → IsAside n.state
+held_aside n (inl none) held = absurd (no (sym (ap (λ x. nat_le 1 x) none) ∙ held))
+  where
+    no : false ≡ true → ⊥
+    no z = cc
+held_aside n (inr aside) held = aside
+
+-- a node whose controller misses its turn keeps its state
+pub state_kept : (w : World) → IsWhole w → (p : ℕ) → p < length w.ring.nodes → is_held (node_at w.ring.nodes p) ≡ true
+    → (node_at (round w).ring.nodes p).state ≡ (node_at w.ring.nodes p).state
+state_kept w whole p low held =
+    ap (λ (y : Node). y.state) (nodes_after w whole.placed p low) ∙ state_is w.ring.moment (informed w p)
+    ∙ ap (λ (b : Bool). if b then (informed w p).state else state_after (scene_in (node_round w.ring.moment (informed w p)).0)) held
 
 -- a round takes each node one of the turns that it misses
 pub held_after : (w : World) → IsWhole w → (most : ℕ) → AtEach (λ p n. n.held ≤ most) w.ring.nodes
@@ -214,6 +253,20 @@ held_after w whole most k p h =
     ap (λ (n : Node). n.held) (nodes_after w whole.placed p low) ∙ turns_left w.ring.moment (informed w p) in
     let few = k p low in
     omega arith
+
+-- and only nodes that stand aside miss those that are left
+aside_after : (w : World) → IsWhole w → AtEach (λ p n. MissesAside n) w.ring.nodes → AtEach (λ p n. MissesAside n) (round w).ring.nodes
+unfolding any_round.round any_round.round_with
+aside_after w whole k p h =
+    let low : p < length w.ring.nodes = omega (arith, length-after w) in
+    let left : (node_at (round w).ring.nodes p).held ≡ (node_at w.ring.nodes p).held - 1 =
+    ap (λ (n : Node). n.held) (nodes_after w whole.placed p low) ∙ turns_left w.ring.moment (informed w p) in
+    elim (cases_lt 0 (node_at w.ring.nodes p).held) [
+      | inl some ↦ (
+          let held : is_held (node_at w.ring.nodes p) ≡ true = le-leb 1 (node_at w.ring.nodes p).held (omega arith) in
+          inr (subst IsAside (sym (state_kept w whole p low held)) (held_aside (node_at w.ring.nodes p) (k p low) held)))
+      | inr none ↦ inl (omega arith)
+    ]
 
 -- what a port adds to its AU-4 is its own
 pub adds_own : (clocks : PortId → ℕ → Clock) (w : World) → IsWhole w → HasCircuits (layout_of w) → AreClocksOf clocks w.ring
@@ -231,7 +284,16 @@ adds_own clocks w whole form_is tells i c e get =
     ∙ λ j. (input_by (sent_in (record { port = f.sender j; clock = clock j }))).au in
     customers c t get (omega arith) (own_bytes (put_by (customer_at c e) (clocks (port_id i e) t)) _ added)
 
-module _ (clocks : PortId → ℕ → Clock) (w : World) (form_is : HasCircuits (layout_of w)) (k : IsVouched clocks w) where
+-- ---- what a round needs
+
+-- each frame of a whole world vouches for what it holds, and what the nodes whose controllers miss the turn take and send is fine
+pub record IsReady (clocks : PortId → ℕ → Clock) (w : World) : Type 0 where
+  pub whole : IsWhole w
+  pub vouches : Vouches (Anyhow clocks w) w
+  pub stand : HeldStand (λ i. HoldsAtMost w.ring.circuits.circuits clocks w.ring.rounds) w
+  pub say : HeldSay (λ i. HoldsAtMost w.ring.circuits.circuits clocks (w.ring.rounds + 1)) w
+
+module _ (clocks : PortId → ℕ → Clock) (w : World) (form_is : HasCircuits (layout_of w)) where
   abbrev cs : List Provisioned
   cs = w.ring.circuits.circuits
 
@@ -247,16 +309,10 @@ module _ (clocks : PortId → ℕ → Clock) (w : World) (form_is : HasCircuits 
   ring_is : AreOnRing size cs
   ring_is = on-ring size (slots_of (layout_of w)) cs form_is
 
-  free_is : AtEach (λ p n. is_held n ≡ false) w.ring.nodes
-  free_is = none_held w (free_of clocks w k)
-
   inside : (i : ℕ) (c : Provisioned) → slice_get cs i ≡ Some c → (e : End) → port_at c e < size
   inside i c get e = end_inside size (slots_of (layout_of w)) cs form_is i c get e
 
-  now : Vouches (λ i. Own t) w
-  now = vouches_of clocks w k
-
-  lags_now : AreLags (λ i. Own t) (λ i. Own t)
+  pub lags_now : AreLags (λ i. Own t) (λ i. Own t)
   lags_now = record {
     was = λ i. carried_holds cs clocks t;
     own = λ i. carried_holds cs clocks t;
@@ -264,7 +320,7 @@ module _ (clocks : PortId → ℕ → Clock) (w : World) (form_is : HasCircuits 
     longer = λ i j q a less x. x;
   }
 
-  lags_more : AreLags (λ i. Own t) (λ i. Own (t + 1))
+  pub lags_more : AreLags (λ i. Own t) (λ i. Own (t + 1))
   lags_more = record {
     was = λ i. carried_holds cs clocks t;
     own = λ i. carried_holds cs clocks (t + 1);
@@ -272,20 +328,40 @@ module _ (clocks : PortId → ℕ → Clock) (w : World) (form_is : HasCircuits 
     longer = λ i j q a less x. x;
   }
 
-  module _ (tells : AreClocksOf clocks w.ring) where
-    goes : Vouches (λ i. Own (t + 1)) (round w)
-    goes =
-        vouched_round (λ i. Own t) (λ i. Own (t + 1)) lags_more w k.whole ring_is free_is now
-        (λ j i c e get. adds_own clocks w k.whole form_is tells i c e get)
+  -- what is fine stays so
+  pub fine_more : (o : Option OnSpan) (d : Side) (x : Input) → Fine (Own t) o d x → Fine (Own (t + 1)) o d x
+  fine_more o d x (inl z) = inl z
+  fine_more o d x (inr z) = inr (holds_more cs clocks t (streams_to d o) x.au z)
 
-    pub vouched_after : IsVouched clocks (round w)
-    unfolding any_round.round any_round.round_with
-    vouched_after = record {
-      whole = whole_round w k.whole;
-      free = λ p h. (let few = held_after w k.whole 0 (free_of clocks w k) p h in omega arith);
-      working = λ p m d line h there low high. goes.working p h m d line there low high;
-      protection = λ p m d line h there low high. goes.protection p h m d line there low high;
-    }
+  pub ready_goes : IsReady clocks w → AreClocksOf clocks w.ring → Vouches (λ i. Own (t + 1)) (round w)
+  ready_goes k tells =
+      vouched_round (λ i. Own t) (λ i. Own (t + 1)) lags_more w k.whole ring_is
+      (λ p m d h low high held. fine_more (circuits_at size cs p m d) (opposite d)
+      (value_at w p m (stands_in size cs p (node_at w.ring.nodes p).state d m)) (k.stand p m d h low high held)) k.say k.vouches
+      (λ j i c e get. adds_own clocks w k.whole form_is tells i c e get)
+
+  -- ---- a ring in which only nodes that stand aside miss their turns
+
+  pub ready_aside : IsVouched clocks w → IsReady clocks w
+  ready_aside k =
+      let now = vouches_of clocks w k in record {
+        whole = k.whole;
+        vouches = now;
+        stand = λ p m d h low high held. aside_delivers (λ i. Own t) (λ i. Own t) lags_now w k.whole p h now m low high ring_is
+            (node_at w.ring.nodes p).state (held_aside (node_at w.ring.nodes p) (k.aside p h) held) d;
+        say = λ p m d h low high held. aside_says (λ i. Own t) (λ i. Own (t + 1)) lags_more w k.whole p h now m low high ring_is
+            (node_at w.ring.nodes p).state (held_aside (node_at w.ring.nodes p) (k.aside p h) held) d (word_of d (node_at w.ring.nodes p));
+      }
+
+  pub vouched_after : IsVouched clocks w → AreClocksOf clocks w.ring → IsVouched clocks (round w)
+  unfolding any_round.round any_round.round_with
+  vouched_after k tells =
+      let goes = ready_goes (ready_aside k) tells in record {
+        whole = whole_round w k.whole;
+        aside = aside_after w k.whole k.aside;
+        working = λ p m d line h there low high. goes.working p h m d line there low high;
+        protection = λ p m d line h there low high. goes.protection p h m d line there low high;
+      }
 
   -- ---- deliveries
 
@@ -315,9 +391,9 @@ module _ (clocks : PortId → ℕ → Clock) (w : World) (form_is : HasCircuits 
   own_of i c e x (inl ais) = inl ais
   own_of i c e x (inr is) = inr (subst (λ y. Holds cs clocks t (port_id i y) x.au) (sent_to e) is)
 
-  delivers : (i : ℕ) (c : Provisioned) → slice_get (round w).ring.circuits.circuits i ≡ Some c → (e : End)
+  delivers : IsReady clocks w → (i : ℕ) (c : Provisioned) → slice_get (round w).ring.circuits.circuits i ≡ Some c → (e : End)
       → MeetsNoStranger cs clocks t (port_id i e) (outlet_at (round w).ring (port_id i e))
-  delivers i c there e =
+  delivers k i c there e =
       let get = still_there i c there in
       let u = round w in
       let hu = whole_round w k.whole in
@@ -334,13 +410,14 @@ module _ (clocks : PortId → ℕ → Clock) (w : World) (form_is : HasCircuits 
       outlet_there u hu i c e there hp ∙ ap (λ o. option_map_or (λ (t : Tributary). t.outlet) o silent) found_at.is
       ∙ found_arrives w k.whole i c e h st (state_in_turn w k.whole p h) found_at in
       let fine : Fine (Own t) (circuits_at size cs p m (inward e)) (opposite (inward e)) input =
-      delivers_fine (λ i. Own t) (λ i. Own t) lags_now w k.whole p h now m slot.from_1 slot.small ring_is (free_is p h) (inward e) in
+      delivers_fine (λ i. Own t) (λ i. Own t) lags_now w k.whole p h k.vouches m slot.from_1 slot.small ring_is
+      (λ held d. k.stand p m d h slot.from_1 slot.small held) (inward e) in
       let own : Fine (Own t) (Some (entry i c)) (opposite (inward e)) input =
       subst (λ o. Fine (Own t) o (opposite (inward e)) input) (at_port size cs ring_is i c get e) fine in
       meets (port_id i e) input _ out (own_of i c e input own)
 
-  pub none_meets : NoneMeetsAStranger clocks (round w).ring
+  pub none_meets : IsReady clocks w → NoneMeetsAStranger clocks (round w).ring
   unfolding any_round.round any_round.round_with
-  none_meets i c get e =
+  none_meets k i c get e =
       let back : t ≡ t + 1 - 1 = omega arith in
-      subst (λ r. MeetsNoStranger cs clocks r (port_id i e) (outlet_at (round w).ring (port_id i e))) back (delivers i c get e)
+      subst (λ r. MeetsNoStranger cs clocks r (port_id i e) (outlet_at (round w).ring (port_id i e))) back (delivers k i c get e)

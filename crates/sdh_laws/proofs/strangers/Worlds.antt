@@ -1,5 +1,5 @@
 -- A round of a whole world: what its frames hold is what the words in them speak of.
-use Rattle.std.proofs.Common.{◌≡◌, ℕ, ◌+◌, ◌-◌, ◌*◌, ◌<◌, ◌≤◌, Bool, false, List, length, Option, Some, refl, ap, sym, ◌∙◌, subst, arith}
+use Rattle.std.proofs.Common.{◌≡◌, ℕ, ◌+◌, ◌-◌, ◌*◌, ◌<◌, ◌≤◌, Bool, true, false, List, length, Option, Some, refl, ap, sym, ◌∙◌, subst, arith}
 use Rattle.std.proofs.Common.{inl, inr}
 use Rattle.std.specs.Prelude.{if◌then◌else◌, slice_get}
 use Rattle.std.proofs.lemmas.Bool.{cases_Bool, cases_lt}
@@ -23,6 +23,7 @@ use Rattle.sdh_pointer.specs.declared.reading.Action.TheVariants as action
 use Rattle.sdh_terms.specs.Fibres.{fibre}
 use Rattle.sdh_plant.specs.Arrivals.{carried_on}
 use Rattle.sdh_terminal.specs.Lines.{Lines, received}
+use Rattle.sdh_terminal.specs.Passing.{Input}
 use Rattle.sdh_terminal.specs.Tributaries.{added_by}
 use Rattle.sdh_node.specs.Node.{Node, is_held, word_of}
 use Rattle.sdh_node.proofs.Decided.{scene_in, state_is, word_is}
@@ -30,20 +31,50 @@ use Rattle.sdh_world.specs.Held.{node_at, AtEach}
 use Rattle.sdh_world.specs.Rounds.{World, round}
 use Rattle.sdh_laws.specs.Hearing.Signalling.{word_to, lines_at}
 use Rattle.sdh_laws.specs.Hearing.Laws.{IsWhole}
-use Rattle.sdh_laws.proofs.hearing.Nodes.{informed, count, nodes_after, length-after}
+use Rattle.sdh_laws.proofs.hearing.Nodes.{informed, informed_out, count, nodes_after, length-after}
 use Rattle.sdh_laws.proofs.hearing.Rounds.{reads, neighbour_inside, scene_ids, scene_place, next_node}
 use Rattle.sdh_laws.specs.Carrying.Windows.{layout_of, slots_of, value_at, sent_at}
 use Rattle.sdh_laws.proofs.carrying.Spans.{state_at, au_left}
 use Rattle.sdh_laws.proofs.carrying.Connections.{sends_working, sends_protection, brings_protection}
-use Rattle.sdh_routes.specs.Walks.{port, port_at, stands_in}
+use Rattle.sdh_routes.specs.Walks.{port, port_at, stands_in, working_in, protection_in}
 use Rattle.sdh_routes.proofs.Views.{AreOnRing}
-use Rattle.sdh_laws.specs.Strangers.Vouched.{streams_to, spoken_of, au_in}
+use Rattle.sdh_laws.specs.Strangers.Vouched.{streams_to, spoken_of, au_in, IsAside}
 use Rattle.sdh_laws.proofs.strangers.Content.{Bears, Fine, bears_sent}
 use Rattle.sdh_laws.proofs.strangers.Lags.{place_on, working_lag, spoken_lag, AreLags}
 use Rattle.sdh_settling.proofs.OneNode.{long_from}
 use Rattle.sdh_rounds.specs.Rounds as any_round
 use Rattle.sdh_laws.proofs.strangers.Arrivals.{span_across, lost, silent_first, au_received, ones_received, heard_came}
-use Rattle.sdh_laws.proofs.strangers.Nodes.{stands_fine, working_fine, protection_fine}
+use Rattle.sdh_laws.proofs.strangers.Nodes.{stands_fine, protection_fine, aside_stands, aside_protection, working_from}
+
+-- ---- what is fine at a node in a state, of what comes in and by its word
+
+module _ (Own : ℕ → Option PortId → Au → Type 0) (w : World) (p m : ℕ) (d : Side) where
+  abbrev pub StandsAt : NodeState → Type 0
+  StandsAt x =
+      (let n = length w.ring.ids in let cs = w.ring.circuits.circuits in
+      Fine (Own ((place_on n (opposite d) (circuits_at n cs p m d) (neighbour n p d) + 1) * (n + 1))) (circuits_at n cs p m d) (opposite d)
+      (value_at w p m (stands_in n cs p x d m)))
+
+  abbrev pub WorksAt : NodeState → Type 0
+  WorksAt x =
+      (let n = length w.ring.ids in let cs = w.ring.circuits.circuits in
+      Fine (Own (working_lag n d (circuits_at n cs p m d) p)) (circuits_at n cs p m d) d (value_at w p m (working_in n cs p x d m)))
+
+  abbrev pub SaysAt : K → NodeState → Type 0
+  SaysAt k x =
+      (let n = length w.ring.ids in let cs = w.ring.circuits.circuits in
+      Fine (Own (spoken_lag w.ring.ids cs m (opposite d) k p)) (spoken_of w.ring.ids cs m (opposite d) k) (opposite d)
+      (value_at w p m (protection_in n cs p x d m)))
+
+-- at the nodes whose controllers miss the turn
+abbrev pub HeldStand : (ℕ → Option PortId → Au → Type 0) → World → Type 0
+HeldStand Own w = (p m : ℕ) (d : Side) → p < length w.ring.nodes → 1 ≤ m → m ≤ slots_of (layout_of w)
+    → is_held (node_at w.ring.nodes p) ≡ true → StandsAt Own w p m d (node_at w.ring.nodes p).state
+
+abbrev pub HeldSay : (ℕ → Option PortId → Au → Type 0) → World → Type 0
+HeldSay Own w = (p m : ℕ) (d : Side) → p < length w.ring.nodes → 1 ≤ m → m ≤ slots_of (layout_of w)
+    → is_held (node_at w.ring.nodes p) ≡ true
+    → SaysAt Own w p m d (word_of d (node_at w.ring.nodes p)) (node_at w.ring.nodes p).state
 
 -- ---- the invariant
 
@@ -89,7 +120,7 @@ module _ (Was Own : ℕ → Option PortId → Au → Type 0) (lags : AreLags Was
     abbrev back : Side → ℕ
     back d = neighbour n p d
 
-    received_fine : (i : ℕ) (o : Option OnSpan) (y d : Side) (au : ℕ) → 1 ≤ au → au ≤ n_of rate
+    pub received_fine : (i : ℕ) (o : Option OnSpan) (y d : Side) (au : ℕ) → 1 ≤ au → au ≤ n_of rate
         → ((line : List ℕ) → lost w whole p h d ≡ false → carried_on w.fibres (fibre (back d) (opposite d)) ≡ Some line
         → Bears (Was i) o y (au_in w au line))
         → Fine (Was i) o y (received l d au)
@@ -107,16 +138,16 @@ module _ (Was Own : ℕ → Option PortId → Au → Type 0) (lags : AreLags Was
 
     -- ---- the node's scene
 
-    abbrev s : Scene
+    abbrev pub s : Scene
     s = scene_in (next_node w whole p)
 
     -- ---- both arrivals
 
     module _ (vouched : Vouches Was w) (m : ℕ) (low : 1 ≤ m) (high : m ≤ slots) where
-      inside : p < n
+      pub inside : p < n
       inside = omega (arith, count w whole.placed)
 
-      working_comes : (d : Side) → Fine (Was (working_lag n (opposite d) (circuits_at n cs p m d) (back d))) (circuits_at n cs p m d)
+      pub working_comes : (d : Side) → Fine (Was (working_lag n (opposite d) (circuits_at n cs p m d) (back d))) (circuits_at n cs p m d)
           (opposite d) (value_at w p m (Working d))
       working_comes d =
           received_fine (working_lag n (opposite d) (circuits_at n cs p m d) (back d)) (circuits_at n cs p m d) (opposite d) d m low
@@ -125,7 +156,7 @@ module _ (Was Own : ℕ → Option PortId → Au → Type 0) (lags : AreLags Was
           (ap (λ z. circuit_on n cs z m) (span_across n p d inside))
           (vouched.working (back d) (neighbour_inside w whole p d) m (opposite d) line there low high))
 
-      protection_comes : (d : Side) (k : K) → long s d ≡ Some k
+      pub protection_comes : (d : Side) (k : K) → long s d ≡ Some k
           → Fine (Was (spoken_lag ids cs m d k (back d))) (spoken_of ids cs m d k) d (value_at w p m (Protection d))
       protection_comes d k e =
           let came = heard_came w whole p h d k (long_from s d k e).heard in
@@ -147,49 +178,75 @@ module _ (Was Own : ℕ → Option PortId → Au → Type 0) (lags : AreLags Was
 
       -- ---- what the node makes of it
 
-      module _ (ring : AreOnRing n cs) (free : is_held (node_at w.ring.nodes p) ≡ false) where
-        abbrev st : NodeState
-        st = (node_at (round w).ring.nodes p).state
+      abbrev before : Node
+      before = node_at w.ring.nodes p
 
-        state_now : st ≡ state_after s
-        state_now =
-            ap (λ (y : Node). y.state) (nodes_after w whole.placed p h) ∙ state_is w.ring.moment (informed w p)
-            ∙ ap (λ (b : Bool). if b then (informed w p).state else state_after s) free
+      abbrev st : NodeState
+      st = (node_at (round w).ring.nodes p).state
 
-        word_now : (d : Side) → word_of d (node_at (round w).ring.nodes p) ≡ word s d
-        word_now d =
-            ap (word_of d) (nodes_after w whole.placed p h) ∙ word_is w.ring.moment (informed w p) d
-            ∙ ap (λ (b : Bool). if b then word_of d (informed w p) else word s d) free
+      pub state_by_turn : (b : Bool) → is_held before ≡ b → st ≡ (if b then before.state else state_after s)
+      state_by_turn b turn =
+          ap (λ (y : Node). y.state) (nodes_after w whole.placed p h) ∙ state_is w.ring.moment (informed w p)
+          ∙ ap (λ (b : Bool). if b then before.state else state_after s) turn
 
-        pub delivers_fine : (d : Side) → Fine (Own ((place_on n (opposite d) (circuits_at n cs p m d) (back d) + 1) * (n + 1)))
-            (circuits_at n cs p m d) (opposite d) (value_at w p m (stands_in n cs p st d m))
-        delivers_fine d =
-            subst (λ y. Fine (Own ((place_on n (opposite d) (circuits_at n cs p m d) (back d) + 1) * (n + 1))) (circuits_at n cs p m d)
-            (opposite d) (value_at w p m (stands_in n cs p y d m))) (sym state_now)
-            (stands_fine Was Own lags ids cs whole.placed.ids ring s (scene_ids w whole p h) p (scene_place w whole p h) inside m
-            (value_at w p m) working_comes protection_comes sourced_words silence d)
+      pub word_by_turn : (b : Bool) → is_held before ≡ b → (d : Side)
+          → word_of d (node_at (round w).ring.nodes p) ≡ (if b then word_of d before else word s d)
+      word_by_turn b turn d =
+          ap (word_of d) (nodes_after w whole.placed p h) ∙ word_is w.ring.moment (informed w p) d
+          ∙ ap (λ k. if is_held before then k else word s d) (ap (λ x. x.word) (informed_out w p d))
+          ∙ ap (λ (b : Bool). if b then word_of d before else word s d) turn
+
+      module _ (ring : AreOnRing n cs) where
+        -- a node that stands aside
+        pub aside_delivers : (x : NodeState) → IsAside x → (d : Side) → StandsAt Own w p m d x
+        aside_delivers x a d =
+            aside_stands Was Own lags ids cs whole.placed.ids ring s (scene_ids w whole p h) p (scene_place w whole p h) inside m
+            (value_at w p m) working_comes protection_comes sourced_words silence x a d
+
+        pub aside_says : (x : NodeState) → IsAside x → (d : Side) (k : K) → SaysAt Own w p m d k x
+        aside_says x a d k =
+            aside_protection Was Own lags ids cs whole.placed.ids ring s (scene_ids w whole p h) p (scene_place w whole p h) inside m
+            (value_at w p m) working_comes protection_comes sourced_words silence x a (spoken_lag ids cs m (opposite d) k p)
+            (spoken_of ids cs m (opposite d) k) d
+
+        module _ (held_stands : is_held before ≡ true → (d : Side) → StandsAt Own w p m d before.state) where
+          pub delivers_fine : (d : Side) → StandsAt Own w p m d st
+          delivers_fine d = elim (cases_Bool (is_held before)) [
+            | inl held ↦ subst (StandsAt Own w p m d) (sym (state_by_turn true held)) (held_stands held d)
+            | inr turn ↦ subst (StandsAt Own w p m d) (sym (state_by_turn false turn))
+                (stands_fine Was Own lags ids cs whole.placed.ids ring s (scene_ids w whole p h) p (scene_place w whole p h) inside m
+                (value_at w p m) working_comes protection_comes sourced_words silence d)
+          ]
 
         module _ (added : (j i : ℕ) (c : Provisioned) (e : End) → slice_get cs i ≡ Some c → port_at c e ≡ p
             → Own j (Some (port_id i e)) (value_at w p m (port i e)).au) where
-          pub working_goes : (d : Side) → Fine (Own (working_lag n d (circuits_at n cs p m d) p)) (circuits_at n cs p m d) d
-              (sent_at w p d m)
-          working_goes d =
-              subst (Fine (Own (working_lag n d (circuits_at n cs p m d) p)) (circuits_at n cs p m d) d)
-              (sym (sends_working w whole p m d (state_after s) inside high state_now))
-              (working_fine Was Own lags ids cs whole.placed.ids ring s (scene_ids w whole p h) p (scene_place w whole p h) inside m
-              (value_at w p m) working_comes protection_comes sourced_words silence added d)
+          -- what leaves in the working slot of a node in any state, where what stands for its arrivals is fine
+          pub works_from : (x : NodeState) → ((d : Side) → StandsAt Own w p m d x) → (d : Side) → WorksAt Own w p m d x
+          works_from x stands d =
+              working_from Was Own lags ids cs whole.placed.ids ring s (scene_ids w whole p h) p (scene_place w whole p h) inside m
+              (value_at w p m) working_comes protection_comes sourced_words silence added x stands d
 
-          abbrev Said : Side → K → Type 0
-          Said d k =
-              Fine (Own (spoken_lag ids cs m (opposite d) k p)) (spoken_of ids cs m (opposite d) k) (opposite d) (sent_at w p d (slots + m))
+          abbrev Works : Side → Input → Type 0
+          Works d i = Fine (Own (working_lag n d (circuits_at n cs p m d) p)) (circuits_at n cs p m d) d i
 
-          pub protection_goes : (d : Side) → Said d (word_of d (node_at (round w).ring.nodes p))
-          protection_goes d =
-              subst (Said d) (sym (word_now d))
-              (subst (Fine (Own (spoken_lag ids cs m (opposite d) (word s d) p)) (spoken_of ids cs m (opposite d) (word s d)) (opposite d))
-              (sym (sends_protection w whole p m d (state_after s) inside low state_now))
-              (protection_fine Was Own lags ids cs whole.placed.ids ring s (scene_ids w whole p h) p (scene_place w whole p h) inside m
-              (value_at w p m) working_comes protection_comes sourced_words silence added d))
+          pub working_goes : (is_held before ≡ true → (d : Side) → StandsAt Own w p m d before.state) → (d : Side) → Works d (sent_at w p d m)
+          working_goes held_stands d =
+              subst (Works d) (sym (sends_working w whole p m d st inside high refl)) (works_from st (delivers_fine held_stands) d)
+
+          abbrev Said : Side → K → Input → Type 0
+          Said d k i = Fine (Own (spoken_lag ids cs m (opposite d) k p)) (spoken_of ids cs m (opposite d) k) (opposite d) i
+
+          pub protection_goes : (is_held before ≡ true → (d : Side) → SaysAt Own w p m d (word_of d before) before.state) → (d : Side)
+              → Said d (word_of d (node_at (round w).ring.nodes p)) (sent_at w p d (slots + m))
+          protection_goes held_says d = elim (cases_Bool (is_held before)) [
+            | inl held ↦ subst (λ k. Said d k (sent_at w p d (slots + m))) (sym (word_by_turn true held d))
+                (subst (Said d (word_of d before)) (sym (sends_protection w whole p m d before.state inside low (state_by_turn true held)))
+                (held_says held d))
+            | inr turn ↦ subst (λ k. Said d k (sent_at w p d (slots + m))) (sym (word_by_turn false turn d))
+                (subst (Said d (word s d)) (sym (sends_protection w whole p m d (state_after s) inside low (state_by_turn false turn)))
+                (protection_fine Was Own lags ids cs whole.placed.ids ring s (scene_ids w whole p h) p (scene_place w whole p h) inside
+                m (value_at w p m) working_comes protection_comes sourced_words silence added d))
+          ]
 
   -- ---- the round
 
@@ -200,17 +257,17 @@ module _ (Was Own : ℕ → Option PortId → Au → Type 0) (lags : AreLags Was
       → Own j (Some (port_id i e)) (added_by (node_at w.ring.nodes (port_at c e)).ports (port_id i e)).au
 
   module _ (w : World) (whole : IsWhole w) (ring : AreOnRing (length w.ring.ids) w.ring.circuits.circuits)
-      (free : AtEach (λ p n. is_held n ≡ false) w.ring.nodes) (vouched : Vouches Was w) (add : AddOwn w) where
+      (held_stand : HeldStand Own w) (held_say : HeldSay Own w) (vouched : Vouches Was w) (add : AddOwn w) where
     abbrev size : ℕ
     size = n_of w.ring.settings.rate
 
-    added_at : (p m j i : ℕ) (c : Provisioned) (e : End) → slice_get w.ring.circuits.circuits i ≡ Some c → port_at c e ≡ p
+    pub added_at : (p m j i : ℕ) (c : Provisioned) (e : End) → slice_get w.ring.circuits.circuits i ≡ Some c → port_at c e ≡ p
         → Own j (Some (port_id i e)) (value_at w p m (port i e)).au
     added_at p m j i c e get at =
         subst (λ q. Own j (Some (port_id i e)) (added_by (node_at w.ring.nodes q).ports (port_id i e)).au) at (add j i c e get)
 
     -- an AU-4 of a frame that was sent
-    sent_bears : (i : ℕ) (o : Option OnSpan) (y : Side) (p au : ℕ) (d : Side) (line : List ℕ) → p < length w.ring.nodes → 1 ≤ au → au ≤ size
+    pub sent_bears : (i : ℕ) (o : Option OnSpan) (y : Side) (p au : ℕ) (d : Side) (line : List ℕ) → p < length w.ring.nodes → 1 ≤ au → au ≤ size
         → carried_on (round w).fibres (fibre p d) ≡ Some line
         → Fine (Own i) o y (sent_at w p d au) → Bears (Own i) o y (au_in w au line)
     sent_bears i o y p au d line h low high there fine =
@@ -226,8 +283,8 @@ module _ (Was Own : ℕ → Option PortId → Au → Type 0) (lags : AreLags Was
     vouched_round = record {
       working = λ p h m d line there low high. (let ph : p < length w.ring.nodes = omega (arith, length-after w) in
           sent_bears _ _ d p m d line ph low (omega arith) there
-          (working_goes w whole p ph vouched m low high ring (free p ph) (added_at p m) d));
+          (working_goes w whole p ph vouched m low high ring (added_at p m) (λ held e. held_stand p m e ph low high held) d));
       protection = λ p h m d line there low high. (let ph : p < length w.ring.nodes = omega (arith, length-after w) in
           sent_bears _ _ (opposite d) p (slots_of (layout_of w) + m) d line ph (omega arith) (omega arith) there
-          (protection_goes w whole p ph vouched m low high ring (free p ph) (added_at p m) d));
+          (protection_goes w whole p ph vouched m low high ring (added_at p m) (λ held e. held_say p m e ph low high held) d));
     }

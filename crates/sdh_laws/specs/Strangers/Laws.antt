@@ -1,27 +1,32 @@
--- No port ever delivers another customer's byte: the laws, for every round of a ring over honest fibres whose controllers miss
--- no turn.
-use Rattle.std.specs.Prelude.{ℕ, ◌≡◌, ◌+◌, ◌*◌, ◌<◌, ◌≤◌, ◌/◌, List, [], ◌∷◌, ◌++◌, length}
+-- No port ever delivers another customer's byte: the laws, for every round of a ring over honest fibres where only controllers of nodes
+-- that stand aside miss their turns.
+use Rattle.std.specs.Prelude.{ℕ, ◌≡◌, ◌⊎◌, ◌+◌, ◌-◌, ◌*◌, ◌<◌, ◌≤◌, ◌/◌, List, [], ◌∷◌, ◌++◌, length}
 use Rattle.sdh_terms.specs.Rates.{n_of}
+use Rattle.sdh_nodestate.specs.declared.NodeState.{NodeState}
+use Rattle.sdh_nodestate.specs.declared.NodeState.TheVariants as state
 use Rattle.sdh_ringmap.specs.Ids.{AreIds}
 use Rattle.sdh_circuits.specs.Provisioning.{Provisioning, AreCircuits}
 use Rattle.sdh_circuits.specs.declared.PortId.{PortId}
 use Rattle.sdh_payload.specs.Clock.{Clock}
 use Rattle.sdh_plant.specs.Fibres.{Fibres, IsHonest}
 use Rattle.sdh_request.specs.declared.settings.Settings.{Settings}
-use Rattle.sdh_world.specs.Held.{AtEach}
+use Rattle.sdh_world.specs.Held.{AtEach, node_at}
 use Rattle.sdh_world.specs.Rounds.{World, round}
-use Rattle.sdh_world.specs.Runs.{IsRound, run}
-use Rattle.sdh_world.specs.Quiet.{Settles, Unsettles}
+use Rattle.sdh_world.specs.Runs.{IsRound, run, course}
+use Rattle.sdh_world.specs.Quiet.{Settles, Unsettles, EndsWindow}
 use Rattle.sdh_promise.specs.Changes.{Change, Stretch, rounds_in}
 use Rattle.sdh_promise.specs.Changes.{Fibre, Order, Hold, Slip, Now}
-use Rattle.sdh_world.specs.Changes.{changed, new_world}
+use Rattle.sdh_world.specs.Changes.{changed, all_changed, after_stretch, new_world}
 use Rattle.sdh_world.specs.Clocks.{clocks_by}
 use Rattle.sdh_world.specs.Laws.{IsChangeOf, MayHappen}
 use Rattle.sdh_world.specs.Sides.{world_in}
-use Rattle.sdh_laws.specs.Hearing.Laws.{IsWhole}
+use Rattle.sdh_restoration.specs.Applied.{span_requests}
+use Rattle.sdh_settling.specs.Settled.{settled}
+use Rattle.sdh_promise.specs.Owed.{asked_in}
+use Rattle.sdh_laws.specs.Hearing.Laws.{IsWhole, MayStart}
 use Rattle.sdh_laws.specs.Carrying.Windows.{layout_of, HasCircuits}
 use Rattle.sdh_laws.specs.Strangers.Owners.{NoneMeetsAStranger, AreClocksOf, AreClocksBetween}
-use Rattle.sdh_laws.specs.Strangers.Vouched.{IsVouched}
+use Rattle.sdh_laws.specs.Strangers.Vouched.{IsAside, IsVouched}
 
 -- ---- no controller is held
 
@@ -40,6 +45,88 @@ abbrev pub NoneHolds : List Stretch → Type 0
 NoneHolds [] = Unit {0}
 NoneHolds (s ∷ ss) = HoldNone s.changes × NoneHolds ss
 
+-- ---- only controllers of nodes that stand aside are held
+
+-- a change holds no controller, or that of a node that stands aside at that moment
+abbrev pub HoldsAside : World → Change → Type 0
+HoldsAside w (Fibre p d condition) = Unit {0}
+HoldsAside w (Order p d command) = Unit {0}
+HoldsAside w (Hold p turns) = (turns ≡ 0) ⊎ IsAside (node_at w.ring.nodes p).state
+HoldsAside w (Slip port turn count) = Unit {0}
+HoldsAside w (Now t) = Unit {0}
+
+-- each of some changes may be made, one after the other, by what is asked of one
+abbrev pub EachMay : (World → Change → Type 0) → World → List Change → Type 0
+EachMay May w [] = Unit {0}
+EachMay May w (c ∷ cs) = May w c × EachMay May (changed c w) cs
+
+-- and those of stretches
+abbrev pub AllMay : (World → Change → Type 0) → World → List Stretch → Type 0
+AllMay May w [] = Unit {0}
+AllMay May w (s ∷ ss) = EachMay May w s.changes × AllMay May (after_stretch s w) ss
+
+abbrev pub HeldAside : World → List Stretch → Type 0
+HeldAside w ss = AllMay HoldsAside w ss
+
+-- ---- no controller is held of a node that passes traffic through
+
+-- a node that doesn't pass traffic through
+abbrev pub IsNoPass : NodeState → Type 0
+IsNoPass (state.Idle i) = Unit {0}
+IsNoPass (state.Isolated i) = Unit {0}
+IsNoPass (state.PassThrough i) = ⊥
+IsNoPass (state.SwitchWest f) = Unit {0}
+IsNoPass (state.SwitchEast f) = Unit {0}
+
+-- a change holds no controller, or that of a node that doesn't pass traffic through at that moment
+abbrev pub HoldsNoPass : World → Change → Type 0
+HoldsNoPass w (Fibre p d condition) = Unit {0}
+HoldsNoPass w (Order p d command) = Unit {0}
+HoldsNoPass w (Hold p turns) = (turns ≡ 0) ⊎ IsNoPass (node_at w.ring.nodes p).state
+HoldsNoPass w (Slip port turn count) = Unit {0}
+HoldsNoPass w (Now t) = Unit {0}
+
+-- In each of the stretches only controllers of nodes that stand aside are held; or, where the stretch before it ended with a quiet
+-- window, of nodes that don't pass traffic through.
+abbrev pub HeldBesidePassing : Type 0 → World → List Stretch → Type 0
+HeldBesidePassing Quiet w [] = Unit {0}
+HeldBesidePassing Quiet w (s ∷ ss) =
+    (EachMay HoldsAside w s.changes ⊎ (Quiet × EachMay HoldsNoPass w s.changes))
+    × HeldBesidePassing (EndsWindow (course (all_changed s.changes w)) s.rounds) (after_stretch s w) ss
+
+-- ---- the same, told by what happened
+
+-- the requests of all spans in the last round of these stretches, from a new ring of n on, with this threshold and this wait
+abbrev pub last_requests : ℕ → ℕ → ℕ → List Stretch → List ℕ
+last_requests threshold wait n ss = span_requests n (asked_in threshold wait n ss (rounds_in ss - 1))
+
+-- Behind these stretches a change holds no controller, or that of a node that doesn't pass traffic through: in a new ring none does, and
+-- in a quiet one it is told by the requests of the last round.
+abbrev pub HoldsNonePassing : ℕ → ℕ → ℕ → List Stretch → Change → Type 0
+HoldsNonePassing threshold wait n earlier (Fibre p d condition) = Unit {0}
+HoldsNonePassing threshold wait n earlier (Order p d command) = Unit {0}
+HoldsNonePassing threshold wait n earlier (Hold p turns) =
+    (turns ≡ 0) ⊎ ((earlier ≡ []) ⊎ IsNoPass (settled (last_requests threshold wait n earlier) p))
+HoldsNonePassing threshold wait n earlier (Slip port turn count) = Unit {0}
+HoldsNonePassing threshold wait n earlier (Now t) = Unit {0}
+
+abbrev pub HoldNonePassing : ℕ → ℕ → ℕ → List Stretch → List Change → Type 0
+HoldNonePassing threshold wait n earlier [] = Unit {0}
+HoldNonePassing threshold wait n earlier (c ∷ cs) =
+    HoldsNonePassing threshold wait n earlier c × HoldNonePassing threshold wait n earlier cs
+
+-- so do all changes of the stretches that follow
+abbrev pub NonePassingHeld : ℕ → ℕ → ℕ → List Stretch → List Stretch → Type 0
+NonePassingHeld threshold wait n earlier [] = Unit {0}
+NonePassingHeld threshold wait n earlier (s ∷ ss) =
+    HoldNonePassing threshold wait n earlier s.changes × NonePassingHeld threshold wait n (earlier ++ s ∷ []) ss
+
+-- each stretch but the last one ends with a quiet window
+abbrev pub EndQuietly : World → List Stretch → Type 0
+EndQuietly w [] = Unit {0}
+EndQuietly w (s ∷ []) = Unit {0}
+EndQuietly w (s ∷ r ∷ ss) = EndsWindow (course (all_changed s.changes w)) s.rounds × EndQuietly (after_stretch s w) (r ∷ ss)
+
 -- ---- rings stay vouched for
 
 -- what a round makes of a ring: where it is vouched for it stays so, and no port meets a stranger in the round; these are the
@@ -54,11 +141,12 @@ abbrev pub KeepsStrangersOutInAll : World → World → Type 0
 KeepsStrangersOutInAll w left = (clocks : PortId → ℕ → Clock) → IsVouched clocks w → AreClocksBetween clocks w left
     → IsVouched clocks left × ((j : ℕ) → 1 ≤ j → w.ring.rounds + j ≤ left.ring.rounds → NoneMeetsAStranger clocks (run j w).ring)
 
--- a new ring over honest fibres is vouched for, and every change keeps that but for one that holds a controller
+-- a new ring over honest fibres is vouched for, and every change keeps that but for one that holds the controller of a node that does not
+-- stand aside
 pub record VouchedRingsStay : Type 0 where
   pub new : (s : Settings) (ids : List ℕ) (circuits : Provisioning) (f : Fibres) (clocks : PortId → ℕ → Clock) → AreIds ids → IsHonest f
       → IsVouched clocks (new_world s ids circuits f)
-  pub change : (c : Change) (w : World) (clocks : PortId → ℕ → Clock) → IsChangeOf w c → HoldsNone c → IsVouched clocks w
+  pub change : (c : Change) (w : World) (clocks : PortId → ℕ → Clock) → IsChangeOf w c → HoldsAside w c → IsVouched clocks w
       → IsVouched clocks (changed c w)
 
 -- so does every round, whichever plant ran it
@@ -77,6 +165,37 @@ abbrev pub NoPortEverMeetsAStranger : Type 0
 NoPortEverMeetsAStranger =
     (s : Settings) (ids : List ℕ) (circuits : Provisioning) (f : Fibres) (ss : List Stretch) → AreIds ids → IsHonest f
     → MayHappen (new_world s ids circuits f) ss → NoneHolds ss
+    → AreCircuits (length ids) (n_of s.rate / 2) circuits.circuits
+    → (t : ℕ) → t < rounds_in ss → NoneMeetsAStranger (clocks_by circuits.circuits ss)
+    (round (world_in ss (new_world s ids circuits f) t)).ring
+
+-- Where controllers are held too, as long as each is one of a node that stands aside when it is held, idle or isolated: whatever comes
+-- while it misses its turns.
+abbrev pub NodesAsideMayBeHeld : Type 0
+NodesAsideMayBeHeld =
+    (s : Settings) (ids : List ℕ) (circuits : Provisioning) (f : Fibres) (ss : List Stretch) → AreIds ids → IsHonest f
+    → MayHappen (new_world s ids circuits f) ss → HeldAside (new_world s ids circuits f) ss
+    → AreCircuits (length ids) (n_of s.rate / 2) circuits.circuits
+    → (t : ℕ) → t < rounds_in ss → NoneMeetsAStranger (clocks_by circuits.circuits ss)
+    (round (world_in ss (new_world s ids circuits f) t)).ring
+
+-- Where a stretch before ended with a quiet window, controllers of nodes that are switched may be held as well: of all nodes but those
+-- that pass traffic through.
+abbrev pub NodesThatDoNotPassMayBeHeld : Type 0
+NodesThatDoNotPassMayBeHeld =
+    (s : Settings) (ids : List ℕ) (circuits : Provisioning) (f : Fibres) (ss : List Stretch) → AreIds ids → IsHonest f
+    → MayHappen (new_world s ids circuits f) ss → HeldBesidePassing ⊥ (new_world s ids circuits f) ss
+    → AreCircuits (length ids) (n_of s.rate / 2) circuits.circuits
+    → (t : ℕ) → t < rounds_in ss → NoneMeetsAStranger (clocks_by circuits.circuits ss)
+    (round (world_in ss (new_world s ids circuits f) t)).ring
+
+-- From a new ring on, where each stretch but the last ends with a quiet window: in every round, as long as no controller is held of a node
+-- that passes traffic through.
+abbrev pub NoStrangerUnlessPassingNodesAreHeld : Type 0
+NoStrangerUnlessPassingNodesAreHeld =
+    (s : Settings) (ids : List ℕ) (circuits : Provisioning) (f : Fibres) (ss : List Stretch) → MayStart s ids f
+    → MayHappen (new_world s ids circuits f) ss → EndQuietly (new_world s ids circuits f) ss
+    → NonePassingHeld s.threshold s.wait (length ids) [] ss
     → AreCircuits (length ids) (n_of s.rate / 2) circuits.circuits
     → (t : ℕ) → t < rounds_in ss → NoneMeetsAStranger (clocks_by circuits.circuits ss)
     (round (world_in ss (new_world s ids circuits f) t)).ring

@@ -1,5 +1,5 @@
 -- When each frame that is under way vouches for its AU-4s: a property of a ring and its fibres between rounds.
-use Rattle.std.specs.Prelude.{ℕ, ◌≡◌, ◌+◌, ◌*◌, ◌<◌, ◌≤◌, Option, Some, None, option_map, List, length}
+use Rattle.std.specs.Prelude.{ℕ, ◌≡◌, ◌⊎◌, ◌+◌, ◌*◌, ◌<◌, ◌≤◌, Option, Some, None, option_map, List, length}
 use Rattle.std.specs.Option.{option_and_then}
 use Rattle.sdh_terms.specs.Rates.{n_of}
 use Rattle.sdh_frame.specs.Aus.{Au, au_of, ones}
@@ -16,10 +16,12 @@ use Rattle.sdh_circuits.specs.declared.PortId.{PortId}
 use Rattle.sdh_circuits.specs.Ends.{port_id}
 use Rattle.sdh_squelch.specs.Table.{OnSpan, circuits_at}
 use Rattle.sdh_nodestate.specs.Rules.{long_word}
+use Rattle.sdh_nodestate.specs.declared.NodeState.{NodeState}
+use Rattle.sdh_nodestate.specs.declared.NodeState.TheVariants as state
 use Rattle.sdh_payload.specs.Clock.{Clock}
 use Rattle.sdh_terms.specs.Fibres.{fibre}
 use Rattle.sdh_plant.specs.Arrivals.{carried_on}
-use Rattle.sdh_node.specs.Node.{word_of}
+use Rattle.sdh_node.specs.Node.{Node, word_of}
 use Rattle.sdh_world.specs.Held.{node_at, AtEach}
 use Rattle.sdh_world.specs.Rounds.{World}
 use Rattle.sdh_laws.specs.Hearing.Laws.{IsWhole}
@@ -46,6 +48,20 @@ told_of ids circuits m d (Some source) = circuits_at (length ids) circuits sourc
 abbrev pub spoken_of : List ℕ → List Provisioned → ℕ → Side → K → Option OnSpan
 spoken_of ids circuits m d k = told_of ids circuits m d (option_and_then (λ k. found_at ids k.from) (long_word k))
 
+-- ---- who may miss a turn
+
+-- a node that takes nothing from protection and puts nothing there
+abbrev pub IsAside : NodeState → Type 0
+IsAside (state.Idle i) = Unit {0}
+IsAside (state.Isolated i) = Unit {0}
+IsAside (state.PassThrough i) = ⊥
+IsAside (state.SwitchWest f) = ⊥
+IsAside (state.SwitchEast f) = ⊥
+
+-- a controller that misses no turn, or whose node stands aside
+abbrev pub MissesAside : Node → Type 0
+MissesAside n = (n.held ≡ 0) ⊎ IsAside n.state
+
 -- ---- a ring that is vouched for
 
 -- an AU-4 holds at most the bytes of a port: ones, or what the port put into its AU-4 in a round before; and nobody's are ones
@@ -57,12 +73,12 @@ HoldsAtMost circuits clocks t (Some port) a = Holds circuits clocks t port a
 abbrev pub au_in : World → ℕ → List ℕ → Au
 au_in w au line = au_of (n_of w.ring.settings.rate) au (scrambled (9 * n_of w.ring.settings.rate) line)
 
--- A whole ring in which no controller misses its turn, and whose frames vouch for what they hold. On each fibre a working
--- slot holds at most the bytes of the circuit that is in it on that span, going that way. And a protection slot holds at most
--- those of the circuit of which the K word in the same frame speaks, going the other way.
+-- A whole ring in which only nodes that stand aside miss their turns, and whose frames vouch for what they hold. On each fibre a
+-- working slot holds at most the bytes of the circuit that is in it on that span, going that way. And a protection slot holds at
+-- most those of the circuit of which the K word in the same frame speaks, going the other way.
 pub record IsVouched (clocks : PortId → ℕ → Clock) (w : World) : Type 0 where
   pub whole : IsWhole w
-  pub free : AtEach (λ p n. n.held ≡ 0) w.ring.nodes
+  pub aside : AtEach (λ p n. MissesAside n) w.ring.nodes
   pub working : (p m : ℕ) (d : Side) (line : List ℕ) → p < length w.ring.nodes → carried_on w.fibres (fibre p d) ≡ Some line → 1 ≤ m
       → m ≤ slots_of (layout_of w)
       → HoldsAtMost w.ring.circuits.circuits clocks w.ring.rounds

@@ -3,7 +3,9 @@ use Rattle.std.specs.Prelude.{All}
 use Rattle.sdh_world.specs.Held.{HeldRing}
 use Rattle.sdh_world.specs.Rounds.{world}
 use Rattle.sdh_laws.specs.Hearing.Laws.{IsWhole}
-use Rattle.sdh_ring.proofs.Whole.{whole_held}
+use Rattle.sdh_laws.specs.Strangers.Vouched.{IsVouched, IsAside}
+use Rattle.sdh_world.specs.Held.{node_at}
+use Rattle.sdh_ring.proofs.Whole.{whole_held, vouched_held}
 use Rattle.sdh_world.specs.Fixed.{fixed, IsOn}
 use Rattle.sdh_world.proofs.Keeping.{all_held, all_on_held}
 use Rattle.sdh_ring.proofs.Rings.{count_of, ring_with}
@@ -40,6 +42,23 @@ returns-clause-whole c = λ f whole.
     whole_held c.stay_whole.ensures _ f c.args.at.0 c.args.turns c.requires.few
     (subst (λ (r : HeldRing). IsWhole (world r f)) (sym c.self.view_is) whole) in
     subst (λ ns. IsWhole (world (record {
+      settings = inside.settings;
+      ids = inside.map;
+      circuits = inside.circuits;
+      nodes = ns;
+      moment = inside.present.0;
+      rounds = inside.rounds;
+      broken = inside.broken;
+    }) f)) (sym c.hold_at.ensures) was
+
+pub returns-clause-vouched : goal.returns-clause-vouched
+returns-clause-vouched c = λ aside f clocks is.
+    let inside = c.self.inside in
+    let was =
+    vouched_held c.vouched_rings_stay.ensures _ f clocks
+    (subst (λ (r : HeldRing). IsVouched clocks (world r f)) (sym c.self.view_is) is) c.args.at.0 c.args.turns c.requires.few
+    (subst (λ (r : HeldRing). IsAside (node_at r.nodes c.args.at.0).state) (sym c.self.view_is) aside) in
+    subst (λ ns. IsVouched clocks (world (record {
       settings = inside.settings;
       ids = inside.map;
       circuits = inside.circuits;
