@@ -4,7 +4,7 @@ use Rattle.std.specs.Io.KnownBytes.{Appends}
 use Rattle.sdh_plant.specs.Fibres.{Fibres}
 use Rattle.sdh_plant.specs.Arrivals.{Knows}
 use Rattle.sdh_plan.specs.Planned.{Planned}
-use Rattle.sdh_plan.specs.Big.{big_planned}
+use Rattle.sdh_cli.specs.Big.{big_planned}
 use Rattle.sdh_report.specs.declared.status.Status.{Status}
 use Rattle.sdh_report.specs.declared.status.Status.TheVariants as status
 use Rattle.sdh_report.specs.declared.listing.Listing.{Listing}
@@ -12,7 +12,8 @@ use Rattle.sdh_report.specs.Reports.{Report, text_of}
 use Rattle.sdh_report.specs.Statuses.{last_line}
 use Rattle.sdh_rounds.specs.Quiet.{enough_for}
 use Rattle.sdh_owed.specs.Healthy.{AllSettle}
-use Rattle.sdh_script.specs.Plans.{world_of, ran_of, MaySettle, ShowsHealth, RunsWell}
+use Rattle.sdh_owed.specs.Plans.{world_of}
+use Rattle.sdh_cli.specs.Plans.{ran_of, MaySettle, ShowsHealth, RunsWell}
 use Rattle.sdh_promise.specs.Plans.{OwesAll}
 use Rattle.sdh_cli.specs.Words.{Ask, Check, Big, listing_of}
 use Rattle.sdh_shell.specs.Reading.{TellsPlan}

@@ -1,9 +1,11 @@
 //! A script over a ring and its fibres, over definitions alone: `specs/Reports.antt` says what a report tells of a ring,
-//! `specs/Scripts.antt` what comes of a script, `specs/Healthy.antt` what a script of settle steps alone comes to, and
-//! `specs/Laws.antt` has the laws. Each function here has a law as its contract and no work to do.
+//! `specs/Scripts.antt` what comes of a script, `specs/Healthy.antt` what a script of settle steps alone comes to,
+//! `specs/Course.antt` through which stretches of rounds it went and what holds in them, and `specs/Laws.antt` has the
+//! laws of reports. Each function here has a law as its contract and no work to do.
 #![tactic(auto)]
 
 ghost use Rattle.sdh_owed.specs.Laws.{ReportsAreOwed, ScriptsSettle, HealthyScripts};
+ghost use Rattle.sdh_owed.specs.Course.{CoursesAreTold};
 
 /// Over honest fibres each report shows for every port what it is owed.
 pub fn reports_are_owed()
@@ -25,4 +27,15 @@ pub fn healthy_scripts()
 {
     sdh_laws::converging::healthy_steps_settle();
     sdh_laws::converging::healthy_steps_deliver();
+}
+
+/// Whatever a script comes to from a new ring on, it has a course: no port meets a stranger before a controller is held
+/// of a node that passes traffic through, nor from some rounds after the last one held on; and after the changes before
+/// each settle step all ports soon have what they are owed.
+pub fn courses_are_told()
+    ensures { CoursesAreTold }
+{
+    sdh_laws::strangers::no_stranger_unless_passing_nodes_are_held();
+    sdh_laws::strangers::no_port_meets_a_stranger_for_long();
+    sdh_laws::restoring::stretches_are_restored_soon();
 }

@@ -4,9 +4,11 @@
 //! Its round is `round_with` in `sdh_rounds/specs/Rounds.antt`, and where a step ends is in `specs/Quiet.antt` there.
 #![tactic(auto)]
 
+mod changing;
 mod observer;
 mod ring;
 
+pub use changing::change;
 pub use observer::Observer;
 pub use ring::Ring;
 pub use sdh_rounds::{PlantFault, SettleError};
