@@ -1,5 +1,4 @@
 //! An add-drop multiplexer as a node that runs in rounds.
-ghost use Rattle.sdh_ringmap.specs.declared.Side.TheVariants.{West, East};
 
 use crate::adm::Adm;
 use sdh_frame::FrameBuf;
