@@ -1,5 +1,5 @@
-//! What holds of a ring over honest fibres in every round, quiet or not, whatever is cut, mended, degraded or commanded and whenever
-//! clocks slip, as long as only controllers of nodes that don't pass traffic through miss turns.
+//! What holds of a ring over honest fibres in every round, quiet or not, whatever is cut, mended, degraded or commanded
+//! and whenever clocks slip, as long as only controllers of nodes that don't pass traffic through miss turns.
 //!
 //! Each function here is a law: it does nothing, and its contract is the law, whose words are in `specs/`.
 
@@ -8,7 +8,8 @@ ghost use Rattle.sdh_laws.specs.Strangers.Laws.{NodesThatDoNotPassMayBeHeld, NoS
 ghost use Rattle.sdh_laws.specs.Strangers.Laws.{NodesAsideMayBeHeld, RingsComeToBeVouchedFor, NoPortMeetsAStrangerForLong};
 ghost use Rattle.sdh_laws.specs.Strangers.Undisturbed.{UndisturbedPortsDeliver};
 
-/// A new ring is vouched for, and stays so over every change that holds no controller, or that of a node that is idle or isolated.
+/// A new ring is vouched for, and stays so over every change that holds no controller, or that of a node that is idle
+/// or isolated.
 pub fn vouched_rings_stay()
     ensures { VouchedRingsStay }
 {}
@@ -23,7 +24,8 @@ pub fn steps_keep_strangers_out()
     ensures { StepsKeepStrangersOut }
 {}
 
-/// From a new ring on each port delivers in each round AIS, or bytes of what its circuit's other port sent in one round before, or ones.
+/// From a new ring on each port delivers in each round AIS, or bytes of what its circuit's other port sent in one round
+/// before, or ones.
 pub fn no_port_ever_meets_a_stranger()
     ensures { NoPortEverMeetsAStranger }
 {}
@@ -33,7 +35,8 @@ pub fn nodes_aside_may_be_held()
     ensures { NodesAsideMayBeHeld }
 {}
 
-/// Behind a quiet window the controllers of switched nodes may be held as well: of all nodes but those that pass traffic through.
+/// Behind a quiet window the controllers of switched nodes may be held as well: of all nodes but those that pass
+/// traffic through.
 pub fn nodes_that_do_not_pass_may_be_held()
     ensures { NodesThatDoNotPassMayBeHeld }
 {
@@ -47,7 +50,8 @@ pub fn no_stranger_unless_passing_nodes_are_held()
     sdh_settling::still_rings_are_settled();
 }
 
-/// Every whole ring comes to be vouched for, whatever it carries: so many rounds behind the last turn that a controller missed.
+/// Every whole ring comes to be vouched for, whatever it carries: so many rounds behind the last turn that a controller
+/// missed.
 pub fn rings_come_to_be_vouched_for()
     ensures { RingsComeToBeVouchedFor }
 {}

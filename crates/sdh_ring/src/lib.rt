@@ -1,7 +1,7 @@
 //! A ring of add-drop multiplexers: rounds of all its nodes over the fibres between them, and settle steps, which run until the
 //! ring is quiet.
 //!
-//! Its round is `round_with` in `sdh_rounds/specs/Rounds.antt`, and where a step ends is in `specs/Quiet.antt` there.
+//! Its round is `round_with` in `sdh_rounds/specs/Rounds.antt`, and where a step ends is in `sdh_rounds/specs/Quiet.antt`.
 #![tactic(auto)]
 
 mod changing;
