@@ -2,8 +2,8 @@
 """What `sdhaps` must write of a plan, by the plain simulation of the shared ring (../outage/simulate.py). It shares nothing with the
 crates or the tools.
 
-  bench/aps/simulate.py run < PLAN        what `sdhaps run` must write
-  bench/aps/simulate.py node ID < PLAN    what `sdhaps node ID` must write
+  bench/aps/signalled.py run < PLAN        what `sdhaps run` must write
+  bench/aps/signalled.py node ID < PLAN    what `sdhaps node ID` must write
 
 The plan has to be a good one. Ends with the status."""
 import sys
