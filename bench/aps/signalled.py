@@ -58,7 +58,7 @@ class Signalling:
 def run(plan, only=None):
     """The status and the text."""
     if only is not None and only not in plan["nodes"]:
-        return 12, "no such node\n"
+        return 15, "no such node\n"
     ring = Ring(plan)
     seen, settled = Signalling(ring, only), 0
     for step in plan["script"]:
