@@ -1,10 +1,8 @@
 -- Behind a quiet window each switched node has a shield; and no port meets a stranger where no controller is held of a node that passes
 -- traffic through.
-use Rattle.std.proofs.Common.{◌≡◌, ℕ, zero, suc, ◌+◌, ◌-◌, ◌*◌, ◌<◌, ◌≤◌, true, false, List, [], ◌∷◌, length, Option, refl, ap, sym, ◌∙◌}
+use Rattle.std.proofs.Common.{◌≡◌, ℕ, zero, suc, ◌+◌, ◌-◌, ◌<◌, ◌≤◌, List, [], ◌∷◌, length, refl, ap, sym, ◌∙◌}
 use Rattle.std.proofs.Common.{subst, arith, inl, inr, ◌⊎◌}
 use Rattle.std.proofs.lemmas.Bool.{cases_lt}
-use Rattle.sdh_ringmap.specs.Places.{opposite}
-use Rattle.sdh_ringmap.specs.declared.Pos.{Pos}
 use Rattle.sdh_ringmap.specs.declared.Side.{Side}
 use Rattle.sdh_ringmap.specs.declared.Side.TheVariants.{West, East}
 use Rattle.sdh_circuits.specs.declared.PortId.{PortId}
@@ -14,34 +12,30 @@ use Rattle.sdh_request.specs.declared.Command.{Command}
 use Rattle.sdh_settling.specs.Laws.{StillRingsAreSettled}
 use Rattle.sdh_payload.specs.Clock.{Clock}
 use Rattle.sdh_node.specs.Receiving.{commanded_by}
-use Rattle.sdh_node.specs.Node.{Node, new_node, at_receiving, held_for, slips_at, is_held, word_of}
+use Rattle.sdh_node.specs.Node.{Node, new_node, at_receiving, held_for, slips_at, word_of}
 use Rattle.sdh_world.specs.Held.{nowhere, node_at, AtEach, at_place, place_of_port}
-use Rattle.sdh_world.specs.Rounds.{World, round}
+use Rattle.sdh_world.specs.Rounds.{World}
 use Rattle.sdh_world.specs.Runs.{run, course}
-use Rattle.sdh_world.specs.Quiet.{is_calm, EndsWindow}
+use Rattle.sdh_world.specs.Quiet.{EndsWindow}
 use Rattle.sdh_world.specs.Sides.{world_in}
 use Rattle.sdh_promise.specs.Changes.{Change, Stretch, rounds_in}
 use Rattle.sdh_promise.specs.Changes.{Fibre, Order, Hold, Slip, Now}
 use Rattle.sdh_world.specs.Changes.{changed, all_changed, after_stretch}
 use Rattle.sdh_world.specs.Laws.{IsChangeOf, AreChangesOf, MayHappen}
 use Rattle.sdh_rounds.specs.Runs as any_run
-use Rattle.sdh_routes.proofs.Views.{Switch}
-use Rattle.sdh_laws.proofs.hearing.Nodes.{count}
-use Rattle.sdh_laws.proofs.hearing.Staying.{left_run, world_low, world_high, world_later}
-use Rattle.sdh_laws.proofs.hearing.Changes.{each_at_place, sending_commanded, LeavesSides, held_leaves, slips_leave, with_node, whole_changed, whole_run}
-use Rattle.sdh_laws.proofs.hearing.Signalling.{one_run, calm_rounds_are_still}
+use Rattle.sdh_laws.proofs.hearing.Staying.{world_low, world_high, world_later}
+use Rattle.sdh_laws.proofs.hearing.Changes.{each_at_place, sending_commanded, LeavesSides, held_leaves, slips_leave, with_node, whole_changed}
 use Rattle.sdh_laws.specs.Carrying.Windows.{layout_of, HasCircuits}
 use Rattle.sdh_laws.proofs.carrying.Ways.{layout_run}
-use Rattle.sdh_laws.proofs.carrying.Settles.{layout_all, settled_at}
+use Rattle.sdh_laws.proofs.carrying.Settles.{layout_all}
 use Rattle.sdh_laws.specs.Strangers.Owners.{AreClocksOf}
 use Rattle.sdh_laws.specs.Strangers.Vouched.{IsAside}
 use Rattle.sdh_laws.specs.Strangers.Laws.{HoldsAside, EachMay, IsNoPass, HoldsNoPass, HeldBesidePassing}
 use Rattle.sdh_laws.proofs.strangers.Lags.{source_in}
 use Rattle.sdh_laws.proofs.strangers.Vouched.{Anyhow, each_there, vouches_changed}
 use Rattle.sdh_laws.proofs.strangers.Shields.{Shields, AllShielded}
-use Rattle.sdh_laws.proofs.strangers.Shielded.{grown, filled, less_shields}
 use Rattle.sdh_laws.proofs.strangers.Windows.{window_shields}
-use Rattle.sdh_laws.proofs.strangers.Safe.{MayMiss, stands, switched, Misses, IsSafe, safe_ready, safe_after}
+use Rattle.sdh_laws.proofs.strangers.Safe.{MayMiss, stands, switched, Misses, IsSafe, safe_after}
 
 -- ---- changes leave shields
 

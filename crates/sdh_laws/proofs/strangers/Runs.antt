@@ -1,5 +1,5 @@
 -- The laws over rounds that any plant ran, over settle steps, and over stretches from a new ring on.
-use Rattle.std.proofs.Common.{◌≡◌, ℕ, suc, ◌+◌, ◌-◌, ◌*◌, ◌<◌, ◌≤◌, List, [], ◌∷◌, ◌++◌, length, Some, refl, ap, sym, ◌∙◌, subst}
+use Rattle.std.proofs.Common.{◌≡◌, ℕ, suc, ◌+◌, ◌-◌, ◌*◌, ◌<◌, ◌≤◌, List, length, Some, ap, sym, ◌∙◌, subst}
 use Rattle.std.proofs.Common.{arith, inl}
 use Rattle.std.specs.Prelude.{◌/◌, slice_get}
 use Rattle.sdh_terms.specs.Rates.{n_of}
@@ -16,7 +16,7 @@ use Rattle.sdh_node.specs.Stations.{adm}
 use Rattle.sdh_world.specs.Rounds.{World, round}
 use Rattle.sdh_world.specs.Runs.{run}
 use Rattle.sdh_promise.specs.Changes.{Stretch, rounds_in}
-use Rattle.sdh_world.specs.Changes.{all_changed, after_stretches, new_world}
+use Rattle.sdh_world.specs.Changes.{new_world}
 use Rattle.sdh_world.specs.Clocks.{clocks_by, clock_in}
 use Rattle.sdh_world.specs.Clocks.{HasPortIn, clock_at}
 use Rattle.sdh_world.specs.Laws.{MayHappen}
@@ -24,18 +24,15 @@ use Rattle.sdh_world.specs.Sides.{world_in}
 use Rattle.sdh_world.proofs.Clocks.{clocks_go_on, goes_run}
 use Rattle.sdh_rounds.specs.Runs as any_run
 use Rattle.sdh_rounds.proofs.Laws.{known_rounds_are, known_steps}
-use Rattle.sdh_laws.proofs.hearing.Staying.{left_all, left_run, left_in, left_stretches}
-use Rattle.sdh_laws.proofs.hearing.Changes.{whole_all}
-use Rattle.sdh_laws.proofs.hearing.Requests.{whole_stretches}
+use Rattle.sdh_laws.proofs.hearing.Staying.{left_run, left_in}
 use Rattle.sdh_laws.specs.Hearing.Laws.{IsWhole}
 use Rattle.sdh_laws.specs.Carrying.Windows.{Layout, layout_of, slots_of, HasCircuits}
 use Rattle.sdh_laws.proofs.carrying.Ways.{layout_run}
-use Rattle.sdh_laws.proofs.carrying.Settles.{layout_all, layout_stretches}
 use Rattle.sdh_laws.proofs.carrying.Owed.{port_is_there}
 use Rattle.sdh_routes.proofs.Ways.{end_inside}
 use Rattle.sdh_laws.specs.Strangers.Owners.{NoneMeetsAStranger, AreClocksOf, AreClocksBetween}
 use Rattle.sdh_laws.specs.Strangers.Vouched.{IsVouched}
-use Rattle.sdh_laws.specs.Strangers.Laws.{NoneHolds, HoldsAside, HeldAside, KeepsStrangersOutInAll, VouchedRingsStay}
+use Rattle.sdh_laws.specs.Strangers.Laws.{HoldsAside, HeldAside, KeepsStrangersOutInAll, VouchedRingsStay}
 use Rattle.sdh_laws.specs.Strangers.Laws.{RoundsKeepStrangersOut, NodesAsideMayBeHeld, HeldBesidePassing, NodesThatDoNotPassMayBeHeld}
 use Rattle.sdh_laws.specs.Strangers.Laws.{StepsKeepStrangersOut, NoPortEverMeetsAStranger, RingsComeToBeVouchedFor}
 use Rattle.sdh_laws.specs.Strangers.Laws.{SettledRingsAreVouchedFor}
@@ -43,7 +40,7 @@ use Rattle.sdh_laws.proofs.strangers.Vouched.{vouched_changed, vouched_new, vouc
 use Rattle.sdh_laws.proofs.strangers.Safe.{IsSafe, safe_of, safe_ready}
 use Rattle.sdh_laws.proofs.strangers.Windows.{window_vouched}
 use Rattle.sdh_laws.proofs.strangers.Quiet.{safe_in}
-use Rattle.sdh_laws.proofs.strangers.Keeping.{none_aside, layout_in, kept_run, kept_in, rounds_together, happens_in_parts, world_behind}
+use Rattle.sdh_laws.proofs.strangers.Keeping.{none_aside, layout_in, kept_run, kept_in}
 use Rattle.sdh_laws.proofs.strangers.Clearing.{clearing_in, cleared}
 
 pub vouched_rings_stay : VouchedRingsStay

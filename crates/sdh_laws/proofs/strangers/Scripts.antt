@@ -35,7 +35,7 @@ use Rattle.sdh_laws.specs.Carrying.Windows.{layout_of, HasCircuits}
 use Rattle.sdh_laws.proofs.carrying.Ways.{layout_run}
 use Rattle.sdh_laws.specs.Strangers.Owners.{NoneMeetsAStranger, AreClocksOf}
 use Rattle.sdh_laws.proofs.hearing.Changes.{each_new, whole_run}
-use Rattle.sdh_laws.proofs.hearing.Requests.{after_last, whole_last, stretches_settle}
+use Rattle.sdh_laws.proofs.hearing.Requests.{whole_last, stretches_settle}
 use Rattle.sdh_laws.proofs.carrying.Settles.{each_settled, layout_all, layout_stretches}
 use Rattle.sdh_laws.specs.Strangers.Vouched.{IsAside}
 use Rattle.sdh_laws.specs.Strangers.Laws.{HoldsAside, EachMay, IsNoPass, HoldsNoPass, last_requests, HoldsNonePassing, HoldNonePassing}

@@ -1,8 +1,7 @@
 -- Rounds in which no controller misses its turn and each node stays in its settled state: what is sent is followed back over the spans that
 -- it has come over, to a port or to AIS.
-use Rattle.std.proofs.Common.{◌≡◌, ℕ, zero, suc, ◌+◌, ◌-◌, ◌*◌, ◌<◌, ◌≤◌, true, false, List, length, Option, Some, refl, ap, sym, ◌∙◌, subst}
+use Rattle.std.proofs.Common.{◌≡◌, ℕ, suc, ◌+◌, ◌-◌, ◌*◌, ◌<◌, ◌≤◌, false, List, length, Option, Some, ap, sym, ◌∙◌, subst}
 use Rattle.std.proofs.Common.{arith}
-use Rattle.std.specs.Prelude.{◌≢◌}
 use Rattle.sdh_ringmap.specs.Places.{opposite, neighbour}
 use Rattle.sdh_ringmap.specs.declared.Pos.{Pos}
 use Rattle.sdh_ringmap.specs.declared.Side.{Side}
@@ -10,7 +9,6 @@ use Rattle.sdh_ringmap.proofs.Sides.{opposite_twice}
 use Rattle.sdh_circuits.specs.Provisioned.{Provisioned}
 use Rattle.sdh_circuits.specs.declared.PortId.{PortId}
 use Rattle.sdh_squelch.specs.Table.{circuits_at}
-use Rattle.sdh_nodestate.specs.declared.NodeState.TheVariants as state
 use Rattle.sdh_bridge.specs.declared.Origin.{Origin}
 use Rattle.sdh_bridge.specs.declared.Origin.TheVariants.{Working, Protection}
 use Rattle.sdh_settling.specs.Settled.{settled}
@@ -18,18 +16,18 @@ use Rattle.sdh_payload.specs.Clock.{Clock}
 use Rattle.sdh_terms.specs.Fibres.{fibre}
 use Rattle.sdh_plant.specs.Arrivals.{carried_on}
 use Rattle.sdh_node.specs.Node.{is_held}
-use Rattle.sdh_world.specs.Held.{node_at, AtEach}
+use Rattle.sdh_world.specs.Held.{AtEach}
 use Rattle.sdh_world.specs.Rounds.{World, round}
 use Rattle.sdh_rounds.specs.Rounds as any_round
-use Rattle.sdh_routes.specs.Walks.{Stand, stand, IsArrival, IsOver, Leads, back_from, carries_in, working_in, protection_in}
+use Rattle.sdh_routes.specs.Walks.{Stand, stand, IsOver, Leads, back_from, working_in, protection_in}
 use Rattle.sdh_routes.specs.Law.{Ends}
-use Rattle.sdh_routes.proofs.Views.{AreOnRing, Switch, on-ring}
+use Rattle.sdh_routes.proofs.Views.{AreOnRing, Switch}
 use Rattle.sdh_routes.proofs.Passing.{bridged-leaves, passed-leaves}
 use Rattle.sdh_routes.proofs.Rest.{resting}
 use Rattle.sdh_routes.proofs.Loops.{sending_end, bridging_end}
 use Rattle.sdh_laws.specs.Hearing.Laws.{IsWhole}
 use Rattle.sdh_laws.proofs.hearing.Nodes.{count, length-after}
-use Rattle.sdh_laws.proofs.hearing.Rounds.{neighbour_inside, whole_round}
+use Rattle.sdh_laws.proofs.hearing.Rounds.{neighbour_inside}
 use Rattle.sdh_laws.specs.Carrying.Windows.{layout_of, slots_of, HasCircuits, sent_at, AreSettled}
 use Rattle.sdh_laws.specs.Strangers.Owners.{AreClocksOf}
 use Rattle.sdh_laws.specs.Strangers.Vouched.{HoldsAtMost, au_in}
