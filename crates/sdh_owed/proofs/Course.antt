@@ -21,7 +21,7 @@ use Rattle.sdh_laws.proofs.hearing.Staying.{left_stretch, left_stretches}
 use Rattle.sdh_laws.specs.Carrying.Laws.{IsRestored}
 use Rattle.sdh_laws.specs.Carrying.Windows.{Layout, layout_in, layout_of, size_of, HasCircuits}
 use Rattle.sdh_laws.proofs.carrying.Settles.{layout_stretches}
-use Rattle.sdh_laws.specs.Strangers.Laws.{EndQuietly, NoStrangerUnlessPassingNodesAreHeld, NoPortMeetsAStrangerForLong}
+use Rattle.sdh_laws.specs.Strangers.Laws.{EndQuietly, AHoldSpoilsItsOwnStepAlone}
 use Rattle.sdh_laws.specs.Restoring.Laws.{StretchesAreRestoredSoon}
 use Rattle.sdh_plan.specs.declared.step.Step.{Step}
 use Rattle.sdh_plan.specs.declared.step.Step.TheVariants as step
@@ -43,8 +43,8 @@ use Rattle.sdh_owed.specs.Scripts.{Runs}
 use Rattle.sdh_owed.specs.Laws.{ring_by}
 use Rattle.sdh_owed.proofs.Ports.{owed_now}
 use Rattle.sdh_owed.proofs.Standing.{Stands, whole, stretch_to, changed_then, settled_then, stands_new}
-use Rattle.sdh_owed.specs.Course.{stretch, IsLeftOff, WentThrough, HasSent, NoneEverMeetsAStranger, NoneMeetsAStrangerForLong}
-use Rattle.sdh_owed.specs.Course.{AllIsOwedSoon, HasCourse, CoursesAreTold}
+use Rattle.sdh_owed.specs.Course.{stretch, IsLeftOff, WentThrough, HasSent, NoneEverMeetsAStranger, AllIsOwedSoon, HasCourse}
+use Rattle.sdh_owed.specs.Course.{CoursesAreTold}
 
 -- ---- stretches one behind the other
 
@@ -230,15 +230,12 @@ module _ (s : Settings) (ids : List ℕ) (circuits : Provisioning) (f : Fibres) 
     abbrev ring : Ring
     ring = ring_by s (length ids) circuits.circuits
 
-    strangers : NoStrangerUnlessPassingNodesAreHeld → NoneEverMeetsAStranger from ring ss
-    strangers law free later is none t low =
-        law s ids circuits f free may (happens_front free later from (subst (MayHappen from) is happens))
-        (quiet_front free later from (subst (EndQuietly from) is quiet)) none form t low
-
-    no_strangers_for_long : NoPortMeetsAStrangerForLong → NoneMeetsAStrangerForLong from ring ss
-    no_strangers_for_long law earlier last free later is none t long low =
-        law s ids circuits f earlier last free may.ids_ok may.honest
-        (happens_front (earlier ++ last ∷ free) later from (subst (MayHappen from) is happens)) none form t long low
+    strangers : AHoldSpoilsItsOwnStepAlone → NoneEverMeetsAStranger from ring ss
+    strangers law earlier later last is none t low =
+        let now = earlier ++ last ∷ [] in
+        let front : ss ≡ now ++ later = is ∙ sym (append_assoc earlier (last ∷ []) later) in
+        law s ids circuits f earlier last may (happens_front now later from (subst (MayHappen from) front happens))
+        (quiet_front now later from (subst (EndQuietly from) front quiet)) none form t low
 
     soon : StretchesAreRestoredSoon → AllIsOwedSoon from ring ss
     unfolding report_of
@@ -259,8 +256,8 @@ module _ (s : Settings) (ids : List ℕ) (circuits : Provisioning) (f : Fibres) 
         subst (λ (y : Layout). IsOwed (size_of y) requests (happened now) y.circuits (report_of 0 left.ring)) same
         (owed_now now left 0 requests (subst HasCircuits (sym same) form) by)
 
-pub courses_are_told : NoStrangerUnlessPassingNodesAreHeld → NoPortMeetsAStrangerForLong → StretchesAreRestoredSoon → CoursesAreTold
-courses_are_told strangers_law long_law soon_law s ids circuits f may form limit past steps each reports end left x =
+pub courses_are_told : AHoldSpoilsItsOwnStepAlone → StretchesAreRestoredSoon → CoursesAreTold
+courses_are_told strangers_law soon_law s ids circuits f may form limit past steps each reports end left x =
     let goes =
     walk s ids circuits f may limit 0 past [] [] steps (new_world s ids circuits f) reports end left
     (stands_new s ids circuits f may past) each x in
@@ -269,15 +266,10 @@ courses_are_told strangers_law long_law soon_law s ids circuits f may form limit
       through = goes.through;
       sent = goes.sent;
       strangers = strangers s ids circuits f may form goes.stretches goes.happens goes.quiet strangers_law;
-      no_strangers_for_long = no_strangers_for_long s ids circuits f may form goes.stretches goes.happens goes.quiet long_law;
       soon = soon s ids circuits f may form goes.stretches goes.happens goes.quiet soon_law;
     }
 
 -- ---- without fibres
-
-nothing_in_front : (free later : List Stretch) → [] ≡ free ++ later → rounds_in free ≡ 0
-nothing_in_front [] later is = refl
-nothing_in_front (s ∷ free) later is = absurd (grind arith)
 
 none_last : (earlier : List Stretch) (last : Stretch) (later : List Stretch) (A : Type 0) → [] ≡ earlier ++ last ∷ later → A
 none_last [] last later A is = absurd (grind arith)
@@ -290,9 +282,6 @@ none_ran w ring limit steps reports end left none is sent = record {
   stretches = [];
   through = subst (λ rs. WentThrough limit 0 (scenes [] steps) rs end []) (sym none) (none_through limit 0 (scenes [] steps) end is);
   sent = inl sent;
-  strangers = λ free later front holds t low. (let zero = nothing_in_front free later front in absurd (omega arith));
-  no_strangers_for_long =
-      λ earlier last free later front none t long low. none_last earlier last (free ++ later) _
-      (front ∙ append_assoc earlier (last ∷ free) later);
+  strangers = λ earlier later last front holds t low. none_last earlier last later _ front;
   soon = λ earlier later last front k long few. none_last earlier last later _ front;
 }

@@ -12,7 +12,7 @@ use Rattle.sdh_world.specs.Clocks.{clocks_by}
 use Rattle.sdh_laws.specs.Hearing.Laws.{MayStart}
 use Rattle.sdh_laws.specs.Carrying.Windows.{layout_in, HasCircuits}
 use Rattle.sdh_laws.specs.Strangers.Owners.{NoneMeetsAStranger}
-use Rattle.sdh_laws.specs.Strangers.Laws.{NoneHolds, NonePassingHeld}
+use Rattle.sdh_laws.specs.Strangers.Laws.{HoldNonePassing}
 use Rattle.sdh_plan.specs.declared.step.Step.{Step}
 use Rattle.sdh_plan.specs.Steps.{Past}
 use Rattle.sdh_plan.specs.Scripts.{AreSteps}
@@ -55,22 +55,14 @@ HasSent w ss end left =
 
 -- ---- whose bytes come
 
--- In each round before a controller is held of a node that passes traffic through no port meets a stranger: it delivers AIS, or ones, or
--- what its circuit's other port put into its AU-4 in one round before. Which nodes pass traffic through is told by the requests of the
--- round before, and in a new ring none does.
+-- In no round of a settle step a port meets a stranger, unless the changes of that very step hold a controller of a node that passes traffic
+-- through: it delivers AIS, or ones, or what its circuit's other port put into its AU-4 in one round before. What was held before earlier
+-- steps doesn't count. Which nodes pass traffic through is told by the requests of the round before, and in a new ring none does.
 abbrev pub NoneEverMeetsAStranger : World → Ring → List Stretch → Type 0
 NoneEverMeetsAStranger w ring ss =
-    (free later : List Stretch) → ss ≡ free ++ later → NonePassingHeld ring.threshold ring.wait ring.nodes [] free → (t : ℕ)
-    → t < rounds_in free
-    → NoneMeetsAStranger (clocks_by ring.circuits free) (round (world_in free w t)).ring
-
--- Behind a held controller too, from so many rounds on: those are counted from the changes before the settle step at which one was held
--- last, at most 100 turns long. In a ring of n it takes n + 1 rounds more for each of n spans.
-abbrev pub NoneMeetsAStrangerForLong : World → Ring → List Stretch → Type 0
-NoneMeetsAStrangerForLong w ring ss =
-    (earlier : List Stretch) (last : Stretch) (free later : List Stretch) → ss ≡ (earlier ++ last ∷ free) ++ later → NoneHolds free
-    → (t : ℕ) → 100 + ring.nodes * (ring.nodes + 1) ≤ t → t < last.rounds + rounds_in free
-    → (let now = earlier ++ last ∷ free in NoneMeetsAStranger (clocks_by ring.circuits now)
+    (earlier later : List Stretch) (last : Stretch) → ss ≡ earlier ++ last ∷ later
+    → HoldNonePassing ring.threshold ring.wait ring.nodes earlier last.changes → (t : ℕ) → t < last.rounds
+    → (let now = earlier ++ last ∷ [] in NoneMeetsAStranger (clocks_by ring.circuits now)
     (round (world_in now w (rounds_in earlier + t))).ring)
 
 -- ---- how soon they come
@@ -97,7 +89,6 @@ pub record HasCourse (w : World) (ring : Ring) (limit : ℕ) (steps : List Step)
   pub through : WentThrough limit 0 (scenes [] steps) reports end stretches
   pub sent : HasSent w stretches end left
   pub strangers : NoneEverMeetsAStranger w ring stretches
-  pub no_strangers_for_long : NoneMeetsAStrangerForLong w ring stretches
   pub soon : AllIsOwedSoon w ring stretches
 
 abbrev pub CoursesAreTold : Type 0

@@ -29,13 +29,12 @@ pub fn healthy_scripts()
     sdh_laws::converging::healthy_steps_deliver();
 }
 
-/// Whatever a script comes to from a new ring on, it has a course: no port meets a stranger before a controller is held
-/// of a node that passes traffic through, nor from some rounds after the last one held on; and after the changes before
-/// each settle step all ports soon have what they are owed.
+/// Whatever a script comes to from a new ring on, it has a course: no port meets a stranger in a settle step before which
+/// no controller was held of a node that passes traffic through; and after the changes before each settle step all ports
+/// soon have what they are owed.
 pub fn courses_are_told()
     ensures { CoursesAreTold }
 {
-    sdh_laws::strangers::no_stranger_unless_passing_nodes_are_held();
-    sdh_laws::strangers::no_port_meets_a_stranger_for_long();
+    sdh_laws::strangers::a_hold_spoils_its_own_step_alone();
     sdh_laws::restoring::stretches_are_restored_soon();
 }
