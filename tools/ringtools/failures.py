@@ -10,8 +10,9 @@ from .plan import PlanProblem, read_step, write_plan
 STAGES = ("before", "failed", "mended", "waited")
 WORKS_STAGES = ("before", "during", "after", "waited")
 KINDS = ("fibre", "span", "node", "pair")
-PAIR_NAME = re.compile("span ([0-9]+)[-–]([0-9]+)")
+SPAN_NAME = re.compile("span ([0-9]+)[-–]([0-9]+)")
 NODE_NAME = re.compile("node ([0-9]+)")
+WORKS_FORMS = {"span": "a span is named by the nodes at its ends, as `span 2-3`", "node": "a node is named alone, as `node 4`"}
 LAST_MOMENT = 1_000_000_000
 
 
@@ -155,22 +156,35 @@ def span_named(plan, one, other):
     return span_named(plan, other, one) if (other, one) in map(plan.ends, range(plan.size)) else None
 
 
-def freed(plan, span):
-    return f"forced {plan.ids[span]} east"
+def forced(plan, at, side):
+    return f"forced {plan.ids[at % plan.size]} {side}"
+
+
+def span_steps(plan, one, other):
+    """Forced switches on both sides of a span, so that no cut or mending during the works interrupts its customers again."""
+    span = span_named(plan, one, other)
+    if span is None:
+        spans = ", ".join("{}-{}".format(*plan.ends(at)) for at in range(plan.size))
+        raise PlanProblem(f"works: no span joins node {one} and node {other}; the spans are {spans}")
+    return [forced(plan, span, "east"), forced(plan, span + 1, "west")]
+
+
+def node_steps(plan, node):
+    """Forced switches at both neighbours of a node, towards it."""
+    if node not in plan.ids:
+        raise PlanProblem(f"works: no node {node}; the nodes are {', '.join(map(str, plan.ids))}")
+    at = plan.ids.index(node)
+    return [forced(plan, at - 1, "east"), forced(plan, at + 1, "west")]
 
 
 def works_steps(plan, text):
-    """A part of an order in steps: `span A-B` and `node A` free these of traffic by forced switches, from the nodes beside a node."""
-    if found := PAIR_NAME.fullmatch(text):
-        span = span_named(plan, int(found[1]), int(found[2]))
-        if span is None:
-            raise PlanProblem(f"works: no span leads from node {found[1]} to node {found[2]}")
-        return [freed(plan, span)]
+    """A part of an order in steps: `span A-B` and `node A` free these of traffic by forced switches; any step stands for itself."""
+    if found := SPAN_NAME.fullmatch(text):
+        return span_steps(plan, int(found[1]), int(found[2]))
     if found := NODE_NAME.fullmatch(text):
-        if int(found[1]) not in plan.ids:
-            raise PlanProblem(f"works: no node {found[1]}")
-        at = plan.ids.index(int(found[1]))
-        return [freed(plan, (at - 1) % plan.size), f"forced {plan.ids[(at + 1) % plan.size]} west"]
+        return node_steps(plan, int(found[1]))
+    if text.split()[0] in WORKS_FORMS:
+        raise PlanProblem(f"works: `{text}` isn't a part of an order: {WORKS_FORMS[text.split()[0]]}")
     return [text]
 
 
