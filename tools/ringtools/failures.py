@@ -25,10 +25,12 @@ class Case:
     words: str
     fibres: tuple = ()
     steps: tuple = ()  # of a case that sdhwhatif tells, which isn't mended
+    settles: int = 1  # settle steps before those, where it is such a case
 
     @property
     def stages(self):
-        return {"works": WORKS_STAGES, "told": STAGES[:2]}.get(self.kind, STAGES)
+        told = STAGES[:1] * self.settles + STAGES[1:2]
+        return {"works": WORKS_STAGES, "told": told}.get(self.kind, STAGES)
 
 
 def span_fibres(plan, span):
@@ -71,7 +73,7 @@ def failures_of(plan):
 
 def all_cases(beforehand, kinds=KINDS):
     """The works, where there are any, and each failure of these kinds."""
-    works = [Case("works", "works", "the works: " + "; ".join(beforehand.works_texts()))] if beforehand.works else []
+    works = [Case("works", "works", f"the works: {beforehand.works_words()}")] if beforehand.works else []
     return works + [case for case in failures_of(beforehand.plan) if case.kind in kinds]
 
 
@@ -89,19 +91,32 @@ def held(plan, steps):
 
 
 class Beforehand:
-    """The steps before each failure, those of the works last, and what holds after them."""
+    """The steps before each failure, those of the works last, and what holds after them. `order` is the works order in its own words."""
 
-    def __init__(self, plan, steps, works=()):
-        self.plan, self.also, self.works = plan, tuple(steps), tuple(works)
-        self.steps = self.also + self.works
+    def __init__(self, plan, steps, works=(), order=(), script=()):
+        self.plan, self.also, self.works, self.order, self.own = plan, tuple(steps), tuple(works), tuple(order), tuple(script)
+        self.steps = self.own + self.also + self.works
         after = held(plan, self.steps)
         self.conditions, self.moment = after.conditions, after.moment
 
     def texts(self):
         return [step.text for step in self.steps]
 
+    def also_texts(self):
+        return [step.text for step in self.also]
+
     def works_texts(self):
         return [step.text for step in self.works]
+
+    def works_words(self):
+        """The order in its own words, and the steps that these stand for where they are others."""
+        words, steps = "; ".join(self.order), "; ".join(self.works_texts())
+        return words if words == steps else f"{words} ({steps})"
+
+    def settled_texts(self):
+        """The steps up to where the ring has settled before a failure; a plan's own script has settled already."""
+        is_settled = self.own and not (self.also or self.works)
+        return self.texts() if is_settled else self.texts() + ["settle"]
 
     def later(self):
         """The moment when every wait that begins with the mending is over, as far as moments go."""
@@ -128,11 +143,10 @@ class Beforehand:
     def script(self, case):
         """Four settle steps: before, failed, mended to what was before, and after waiting; or before, during and after the works. Of a case by its steps two."""
         if case.kind == "told":
-            return [*self.texts(), "settle", *case.steps, "settle"]
+            return [*self.settled_texts(), *case.steps, "settle"]
         waited = ["settle", f"moment {self.later()}", "settle"]
         if case.kind == "works":
-            also = [step.text for step in self.also]
-            return [*also, "settle", *self.works_texts(), "settle", *self.undoing(), *waited]
+            return [*self.also_texts(), "settle", *self.works_texts(), "settle", *self.undoing(), *waited]
         fail = [self.condition_step(fibre, CUT) for fibre in case.fibres]
         mend = [self.condition_step(fibre, self.conditions[fibre]) for fibre in case.fibres]
         return [*self.texts(), "settle", *fail, "settle", *mend, *waited]
@@ -145,7 +159,7 @@ class Beforehand:
         return write_plan(self.plan, self.script(case)).encode("ascii")
 
     def document_of_nothing(self):
-        return write_plan(self.plan, self.texts() + ["settle"]).encode("ascii")
+        return write_plan(self.plan, self.settled_texts()).encode("ascii")
 
 
 def span_named(plan, one, other):
@@ -199,7 +213,8 @@ def read_steps_of(plan, texts):
     return steps
 
 
-def read_beforehand(plan, also, works=None):
-    """The steps of `--also` and of `--works`, parted by semicolons."""
-    order = [step for part in parts_of(works) for step in works_steps(plan, part)]
-    return Beforehand(plan, read_steps_of(plan, parts_of(also)), read_steps_of(plan, order))
+def read_beforehand(plan, also, works=None, script=()):
+    """The steps of `--also` and of `--works`, parted by semicolons, after those of the plan's own script where it counts."""
+    order = parts_of(works)
+    steps = [step for part in order for step in works_steps(plan, part)]
+    return Beforehand(plan, read_steps_of(plan, parts_of(also)), read_steps_of(plan, steps), order, script)

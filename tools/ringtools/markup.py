@@ -112,6 +112,7 @@ def origin_list(origin):
         "Program's sum": code(told["sum"]) if told else "not known",
         "Plan": code(origin.plan),
         "Plan's sum": code(origin.plan_sum),
+        **({"Sum of the plan as asked": code(origin.asked)} if origin.asked not in ("", origin.plan_sum) else {}),
         "Answered": dates_words(origin.dates),
         "Page written": moment_words(now()),
     }

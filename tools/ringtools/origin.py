@@ -55,6 +55,7 @@ class Origin:
     plan_sum: str
     dates: tuple = ()  # of the answers
     note: str = ""
+    asked: str = ""  # the sum of what was asked about, where that isn't the plan's file as it is
 
 
 def told_by(words):

@@ -94,6 +94,8 @@ class Works(Asking):
         self.assertIn("Free of traffic under each of them: 1 span, 2–9.", self.words())
         self.assertEqual(self.words().count("each customer as before."), 2)
         self.assertIn("no switch is hitless", self.words())
+        self.assertIn("The works: span 2-9", self.words())
+        self.assertEqual({(row["Also"], row["Works"]) for row in self.table()}, {("", "forced 2 east; forced 9 west")})
 
     def test_a_manual_switch_gives_way(self):
         self.ask("--works", "manual 2 east")
