@@ -161,6 +161,14 @@ class Pages(unittest.TestCase):
                 self.assertIn(where, text)
                 self.assertIn(ring(name)[1].read_text().strip(), text)
 
+    def test_a_report_of_a_path_ring_is_refused(self):
+        paths = RINGS.parent / "paths"
+        for name in ("one-fibre-cut", "both-ways-cut"):
+            plan, text = paths / f"{name}.toml", paths / f"{name}.text"
+            ended = call("ringview", plan, text)
+            self.assertEqual((ended.returncode, ended.stdout), (1, b""))
+            self.assertIn(f"ringview: {text}: a report without a line of a node, as sdhpath writes them", ended.stderr.decode())
+
     def test_a_run_that_does_not_settle(self):
         self.assertIn("Settle step 1 didn't settle within the limit of 128 rounds", read("limit-too-small").text())
 
@@ -226,9 +234,29 @@ class Outages(unittest.TestCase):
             page, told = self.page(OUTAGES / f"{name}.text", ring(name)), []
             for number in range(len(page.tables_of("Circuits"))):
                 told += [row[f"out at port {end}"] for row in page.table_named("Circuits", number) for end in "ab"]
-            wanted = [line.split(" ")[4:7:2] for line in (OUTAGES / f"{name}.text").read_text().splitlines() if line.startswith("port ")]
-            frames = lambda out, ms: "none" if out == "0" else f"{out} frame{'s' if out != '1' else ''}, {ms} ms"
-            self.assertEqual(told, [frames(*pair) for pair in wanted])
+            wanted = [line.split(" ")[4:9:2] for line in (OUTAGES / f"{name}.text").read_text().splitlines() if line.startswith("port ")]
+            begin = lambda first: "none; first bytes after " if first == "0" else ""
+            frames = lambda out, ms, first: "none" if out == "0" else f"{begin(first)}{out} frame{'s' if out != '1' else ''}, {ms} ms"
+            self.assertEqual(told, [frames(*line) for line in wanted])
+
+    def test_the_ring_s_start_is_no_outage(self):
+        page = self.page()
+        rows = {row["customer"]: row for row in page.table_named("Customers")}
+        shown = {row["step 1"] for name, row in rows.items() if not name.startswith("all")}
+        self.assertEqual(shown, {f"kept out: none; first bytes after {words}" for words in ("1 frame, 0.125 ms", "2 frames, 0.250 ms")})
+        self.assertIn("each port's first bytes came after at most 2 frames, 0.250 ms. Else no port was without its own customer's bytes in this step.", page.text())
+
+    def test_a_start_and_more_in_one_stretch(self):
+        """Rounds that brought bytes amid those that brought none: the start isn't all of it."""
+        line = "port north a out 2 ms 0.250 from 0 to 1 ais 2 ones 0 jump 0 strange 0"
+        text = WORKS_OUT.read_text()
+        self.assertEqual(text.count(line), 1)
+        with tempfile.NamedTemporaryFile("w") as changed:
+            changed.write(text.replace(line, line.replace("to 1", "to 9")))
+            changed.flush()
+            page = self.page(changed.name)
+        self.assertIn("2 frames, 0.250 ms, the ring's start among them", page.text())
+        self.assertIn("The longest outage in this step: 2 frames, 0.250 ms, at north a. 5 of 6 ports had none.", page.text())
 
     def test_without_them_a_page_is_as_it_was(self):
         page = Seen(call("ringview", *WORKS).stdout.decode())
