@@ -23,7 +23,7 @@ const note = () => told.push(lit() + "|" + figure.querySelector(".told").textCon
 figure.querySelector('.circuit[data-circuit="c1"] path').dispatchEvent(new MouseEvent("click", { bubbles: true })); note();
 figure.querySelector('.circuit[data-circuit="c1"] path').dispatchEvent(new MouseEvent("click", { bubbles: true })); note();
 figure.querySelector('[tabindex="0"]').focus(); key("Enter"); note();
-key("ArrowRight"); note(); key("End"); note(); key("Escape"); note();
+key("ArrowRight"); note(); key("Enter"); note(); key(" "); note(); key("End"); note(); key("Escape"); note();
 document.querySelector('tr[data-circuit="c1"] button').click(); note();
 document.querySelector('#step2 tr[data-circuit="c1"] button').click(); note();
 document.querySelector("button.unfold").click();
@@ -165,9 +165,10 @@ class Browser(unittest.TestCase):
     def test_lighting_and_unfolding(self):
         told = browsed(page_of("end-of-waiting"), DEEDS)
         circuit = "circuit c1, 1 to 3, slot 1"
-        self.assertEqual(told[:4], [f"c1|{circuit}", f"|{circuit}", f"c1|{circuit}", "c1|node 1"])
-        self.assertRegex(told[4], r"^c1\|fibre \d → \d$")
-        self.assertEqual((told[5].split("|")[0], told[6].split("|")[0], told[7:]), ("", "c1", [f"|{circuit}", "true", "true"]))
+        self.assertEqual(told[:3], [f"c1|{circuit}", f"|{circuit}", f"c1|{circuit}"])
+        self.assertEqual(told[3:6], ["c1|node 1"] * 3)  # reached by an arrow; Enter and the space bar leave the circuit lit
+        self.assertRegex(told[6], r"^c1\|fibre \d → \d$")
+        self.assertEqual((told[7].split("|")[0], told[8].split("|")[0], told[9:]), ("", "c1", [f"|{circuit}", "true", "true"]))
 
 
 if __name__ == "__main__":
