@@ -1,5 +1,6 @@
 """explain: each refusal beside a second reading of plans, and what it says of places, words and limits."""
 
+import re
 import sys
 import tomllib
 import unittest
@@ -88,6 +89,40 @@ class Refusals(unittest.TestCase):
         said = call("explain", RINGS / "overlap.toml").stdout.decode()
         self.assertIn("bad plan 9 at 2, overlap: circuit c1 has slot 1 between 1 and 2 (circuit 2, c2)", said)
         self.assertIn("nearest: 2\n", said)
+
+    def slots_offered(self, *circuits):
+        """What is said of circuit 2, which has the slot of circuit 1, and which slots are offered."""
+        ring = "rate = 16\nnodes = [1, 2, 3, 4]\nthreshold = 3\nwait = 10\nlimit = 1000\nscript = ['settle']\n"
+        for number, (start, end, slot) in enumerate(circuits, 1):
+            ring += f"[[circuit]]\nname = 'c{number}'\nfrom = {start}\nto = {end}\nslot = {slot}\ntext_a = 'from a {number}!'\ntext_b = 'from b {number}!'\n"
+        lines = said_of(ring)[1]
+        self.assertIn("bad plan 9 at 2", lines[0])
+        return lines[0], next((line.split(": ")[1] for line in lines if "right would be" in line), "")
+
+    def test_slots_that_later_circuits_hold_are_not_offered(self):
+        taken = [(1, 3, 1), (2, 4, 1), *((3, 1, slot) for slot in (3, 4, 5, 6, 7))]
+        self.assertEqual(self.slots_offered(*taken)[1], "2, 8")
+        self.assertEqual(self.slots_offered(*taken, (4, 2, 2))[1], "2, 8")
+        said, offered = self.slots_offered(*taken, (1, 4, 2), (2, 3, 8))
+        self.assertEqual(offered, "")
+        self.assertIn("circuit c1 has slot 1 between 2 and 3, and no slot is free all along its way", said)
+
+    def test_single_brackets(self):
+        """One `[circuit]` makes a table where an array is wanted; a second one, or `[[circuit]]` beside it, is no TOML."""
+        head, circuit = GOOD.split("[[circuit]]", 1)
+        ways = {"[": 6, "[ [": 5, "[ [[": 5, "[[ [": 5}
+        for ways_, status in ways.items():
+            text = head + "".join(f"{way}circuit{way.replace('[', ']')}{circuit}\n" for way in ways_.split())
+            told, lines = said_of(text)
+            at = text[: re.search(r"^\[circuit", text, re.M).start()].count("\n") + 1
+            with self.subTest(ways=ways_):
+                self.assertEqual((told, lines[0].split(":")[1]), (status, str(at)))
+                self.assertIn("in double brackets", lines[-1])
+                self.assertNotIn("1.1", "".join(lines))
+
+    def test_a_key_that_stands_twice(self):
+        lines = said_of(GOOD.replace("wait = 10", "wait = 10\nwait = 10"))[1]
+        self.assertIn("let each key and each table stand once", lines[-1])
 
     def test_later_mistakes_are_told_too(self):
         text = GOOD.replace('["settle"]', '["kut 2 east", "cut 9 east", "moment 5", "moment 4", "settle"]')
