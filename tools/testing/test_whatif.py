@@ -106,6 +106,14 @@ class Whatif(Asking):
         self.assertEqual({row["Plan"] for row in self.table()}, {hashlib.sha256(document().encode()).hexdigest()})
         self.assertIn("8 failures of a ring with 4 circuits were run: 4 spans, 4 nodes.", self.words())
 
+    def test_a_script_that_is_left_aside(self):
+        left = "The plan's own script is left aside"
+        self.ask("--kinds", "span")
+        self.assertNotIn(left, self.words())
+        self.plan.write_text(document().replace('["settle"]', '["forced 2 east", "settle"]'))
+        self.ask("--kinds", "span")
+        self.assertIn(left, self.words())
+
     def small(self):
         self.plan.write_text(ring("two-nodes")[0].read_text())
 
