@@ -1,4 +1,4 @@
-"""The failures that whatif asks about, each with the script that makes it and mends it again; and the works of an order."""
+"""The failures that sdhring-whatif asks about, each with the script that makes it and mends it again; and the works of an order."""
 
 import re
 from dataclasses import dataclass, replace
@@ -209,7 +209,7 @@ def parts_of(words):
 def read_steps_of(plan, texts):
     steps = [read_step(text, place + 1, plan.ids) for place, text in enumerate(texts)]
     if any(step.word == "settle" for step in steps):
-        raise PlanProblem("whatif settles the ring itself, so `settle` can't be among the steps before")
+        raise PlanProblem("sdhring-whatif settles the ring itself, so `settle` can't be among the steps before")
     return steps
 
 

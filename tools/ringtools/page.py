@@ -1,4 +1,4 @@
-"""ringview's page: every settle step of a run, customers first, or why there is none."""
+"""The page of sdhring-view: every settle step of a run, customers first, or why there is none."""
 
 from html import escape
 

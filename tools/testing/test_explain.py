@@ -1,4 +1,4 @@
-"""explain: each refusal beside a second reading of plans, and what it says of places, words and limits."""
+"""sdhring-explain: each refusal beside a second reading of plans, and what it says of places, words and limits."""
 
 import re
 import sys
@@ -29,7 +29,7 @@ def answer_of(told):
 
 def said_of(text):
     """What the tool writes of a plan."""
-    ended = call("explain", "-", "--name", "plan", input=text.encode())
+    ended = call("sdhring-explain", "-", "--name", "plan", input=text.encode())
     return ended.returncode, ended.stdout.decode().splitlines()
 
 
@@ -86,7 +86,7 @@ class Refusals(unittest.TestCase):
         self.assertIn("`slot` is a key of a circuit", "\n".join(said_of("slot = 1\n" + GOOD)[1]))
 
     def test_an_overlap_names_the_other_circuit_and_free_slots(self):
-        said = call("explain", RINGS / "overlap.toml").stdout.decode()
+        said = call("sdhring-explain", RINGS / "overlap.toml").stdout.decode()
         self.assertIn("bad plan 9 at 2, overlap: circuit c1 has slot 1 between 1 and 2 (circuit 2, c2)", said)
         self.assertIn("nearest: 2\n", said)
 
@@ -128,7 +128,7 @@ class Refusals(unittest.TestCase):
         text = GOOD.replace('["settle"]', '["kut 2 east", "cut 9 east", "moment 5", "moment 4", "settle"]')
         lines = [line for line in said_of(text)[1] if line.startswith("plan:")]
         self.assertEqual(["bad plan 22 at 1" in lines[0], *("also reason" in line for line in lines[1:])], [True] * 3)
-        ended = call("explain", "--first", "-", input=text.encode())
+        ended = call("sdhring-explain", "--first", "-", input=text.encode())
         self.assertIn(b"2 more", ended.stdout)
         self.assertNotIn(b"also reason", ended.stdout)
 
@@ -213,21 +213,21 @@ class Good(unittest.TestCase):
                 self.assertEqual([found.head for found in told.findings if "text" in found.head and not told.status], [])
 
     def test_a_step_that_did_not_settle(self):
-        ended = call("explain", RINGS / "limit-too-small.toml", RINGS / "limit-too-small.text")
+        ended = call("sdhring-explain", RINGS / "limit-too-small.toml", RINGS / "limit-too-small.text")
         self.assertEqual(ended.returncode, 7)
         self.assertIn(b":6:11: unsettled 1:", ended.stdout)
         self.assertIn(b"write limit = 704", ended.stdout)
-        self.assertIn(b":5:9: unsettled: ", call("explain", RINGS / "limit-too-small.toml", "--status", "7").stdout)
-        ended = call("explain", RINGS / "healthy.toml", RINGS / "limit-too-small.text")
+        self.assertIn(b":5:9: unsettled: ", call("sdhring-explain", RINGS / "limit-too-small.toml", "--status", "7").stdout)
+        ended = call("sdhring-explain", RINGS / "healthy.toml", RINGS / "limit-too-small.text")
         self.assertIn(b"isn't of this plan", ended.stdout)
 
     def test_a_port_that_is_not_there(self):
-        said = call("explain", RINGS / "no-such-port.toml", RINGS / "no-such-port.text").stdout
+        said = call("sdhring-explain", RINGS / "no-such-port.toml", RINGS / "no-such-port.text").stdout
         self.assertIn(b"its circuits: c1", said)
 
     def test_no_file(self):
-        ended = call("explain", "/nowhere/plan")
-        self.assertEqual((ended.returncode, ended.stderr), (1, b"explain: /nowhere/plan: No such file or directory\n"))
+        ended = call("sdhring-explain", "/nowhere/plan")
+        self.assertEqual((ended.returncode, ended.stderr), (1, b"sdhring-explain: /nowhere/plan: No such file or directory\n"))
 
 
 class Places(unittest.TestCase):

@@ -147,12 +147,12 @@ class Index(unittest.TestCase):
 
 class New(unittest.TestCase):
     def made(self, *words):
-        ended = call("plan", "new", *words)
+        ended = call("sdhring-plan", "new", *words)
         self.assertEqual((ended.returncode, ended.stderr), (0, b""))
         return ended.stdout
 
     def refused(self, said, *words):
-        ended = call("plan", "new", *words)
+        ended = call("sdhring-plan", "new", *words)
         self.assertEqual((ended.returncode, ended.stdout), (1, b""))
         self.assertIn(said, ended.stderr.decode())
 

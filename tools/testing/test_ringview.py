@@ -1,4 +1,4 @@
-"""Facts of ringview's pages over rings whose texts are known."""
+"""Facts of the pages of sdhring-view over rings whose texts are known."""
 
 import re
 import tempfile
@@ -32,7 +32,7 @@ REFUSED = {
 
 @cache
 def page_of(name, *words):
-    ended = call("ringview", *ring(name), *words)
+    ended = call("sdhring-view", *ring(name), *words)
     if ended.returncode != 0:
         raise AssertionError(ended.stderr.decode())
     return ended.stdout.decode()
@@ -80,7 +80,7 @@ class Pages(unittest.TestCase):
         with tempfile.NamedTemporaryFile("w") as changed:
             changed.write(text.read_text().replace(old, new))
             changed.flush()
-            return Seen(call("ringview", plan, changed.name).stdout.decode()).text()
+            return Seen(call("sdhring-view", plan, changed.name).stdout.decode()).text()
 
     def test_what_is_not_owed_stands_first(self):
         words = self.words_of_changed("span-cut", "00636465", "00646566")
@@ -165,9 +165,9 @@ class Pages(unittest.TestCase):
         paths = RINGS.parent / "paths"
         for name in ("one-fibre-cut", "both-ways-cut"):
             plan, text = paths / f"{name}.toml", paths / f"{name}.text"
-            ended = call("ringview", plan, text)
+            ended = call("sdhring-view", plan, text)
             self.assertEqual((ended.returncode, ended.stdout), (1, b""))
-            self.assertIn(f"ringview: {text}: a report without a line of a node, as sdhpath writes them", ended.stderr.decode())
+            self.assertIn(f"sdhring-view: {text}: a report without a line of a node, as sdhpath writes them", ended.stderr.decode())
 
     def test_a_run_that_does_not_settle(self):
         self.assertIn("Settle step 1 didn't settle within the limit of 128 rounds", read("limit-too-small").text())
@@ -192,7 +192,7 @@ class Outages(unittest.TestCase):
     """A page with what `sdhoutage` tells beside the ports."""
 
     def page(self, outages=WORKS_OUT, plan=WORKS):
-        ended = call("ringview", "--outages", outages, *plan)
+        ended = call("sdhring-view", "--outages", outages, *plan)
         self.assertEqual((ended.returncode, ended.stderr), (0, b""))
         return Seen(ended.stdout.decode())
 
@@ -203,7 +203,7 @@ class Outages(unittest.TestCase):
         with tempfile.NamedTemporaryFile("w") as changed:
             changed.write(text.replace(old, new, 1))
             changed.flush()
-            ended = call("ringview", "--outages", changed.name, *WORKS)
+            ended = call("sdhring-view", "--outages", changed.name, *WORKS)
         self.assertEqual((ended.returncode, ended.stdout), (1, b""))
         return ended.stderr.decode().replace(changed.name, "FILE")
 
@@ -259,17 +259,17 @@ class Outages(unittest.TestCase):
         self.assertIn("The longest outage in this step: 2 frames, 0.250 ms, at north a. 5 of 6 ports had none.", page.text())
 
     def test_without_them_a_page_is_as_it_was(self):
-        page = Seen(call("ringview", *WORKS).stdout.decode())
+        page = Seen(call("sdhring-view", *WORKS).stdout.decode())
         self.assertEqual(list(page.table_named("Circuits")[0]), ["circuit", "what became of it", "way from a to b now", "from, to", "#"])
         self.assertNotIn("out:", page.text())
         self.assertNotIn("without its own customer's bytes", page.text())
 
     def test_standard_input(self):
-        ended = call("ringview", "--outages", "-", *WORKS, input=WORKS_OUT.read_bytes())
+        ended = call("sdhring-view", "--outages", "-", *WORKS, input=WORKS_OUT.read_bytes())
         self.assertEqual(ended.returncode, 0)
         self.assertIn("told by <code>standard input</code>", ended.stdout.decode())
-        ended = call("ringview", "--outages", "-", WORKS[0], "-", input=b"")
-        self.assertEqual(ended.stderr, b"ringview: only one of PLAN, REPORT and the outages can be standard input\n")
+        ended = call("sdhring-view", "--outages", "-", WORKS[0], "-", input=b"")
+        self.assertEqual(ended.stderr, b"sdhring-view: only one of PLAN, REPORT and the outages can be standard input\n")
 
     def test_texts_that_are_none_or_another_s(self):
         line = "port north a out 12 ms 1.500 from 130 to 141 ais 10 ones 2 jump 0 strange 0"
@@ -277,7 +277,7 @@ class Outages(unittest.TestCase):
             line.replace("out 12", "out 13"), line.replace("1.500", "1.501"), line.replace("to 141", "to 140"), line.replace("from 130", "from -"),
             line.replace("north", "south"), line.replace("130", "128"), line.replace("141", "257"), line + " ", line.replace("ais 10", "ais 010"),
         ):  # fmt: skip
-            self.assertIn("ringview: FILE: line 10: ", self.said(line, changed), changed)
+            self.assertIn("sdhring-view: FILE: line 10: ", self.said(line, changed), changed)
         self.assertIn("line 16: not what the ports' lines come to", self.said("longest 12 ms 1.500 none 2", "longest 12 ms 1.500 none 3"))
         self.assertIn("line 9: a settle step can't end with this round", self.said("settle 2 round 256", "settle 2 round 250"))
         self.assertIn("settle step 4 ends with round 640, and in the report with round 512", self.said("settle 4 round 512", "settle 4 round 640"))

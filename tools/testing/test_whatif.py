@@ -1,4 +1,4 @@
-"""whatif over small rings, counted against the restoration model by its definitions."""
+"""sdhring-whatif over small rings, counted against the restoration model by its definitions."""
 
 import hashlib
 import shutil
@@ -147,7 +147,7 @@ class Whatif(Asking):
 
     def test_stopped_and_taken_up_again(self):
         self.small()
-        words = [sys.executable, TOOLS / "whatif", self.plan, "--dir", self.top / "out", "--program", f"{STANDIN} slow 0.4", "--jobs", "2"]
+        words = [sys.executable, TOOLS / "sdhring-whatif", self.plan, "--dir", self.top / "out", "--program", f"{STANDIN} slow 0.4", "--jobs", "2"]
         running = subprocess.Popen(words, stderr=subprocess.PIPE, stdout=subprocess.PIPE)
         until = time.monotonic() + 60
         while len(self.times()) < 3 and time.monotonic() < until:

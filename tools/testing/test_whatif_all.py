@@ -1,4 +1,4 @@
-"""whatif --all over a ring of four: what is told, held against the rules, and what is run frame by frame."""
+"""sdhring-whatif --all over a ring of four: what is told, held against the rules, and what is run frame by frame."""
 
 import csv
 import json
