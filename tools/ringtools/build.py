@@ -12,6 +12,7 @@ from pathlib import Path
 PROGRAMS = ("sdhring", "sdhwatch", "sdhoutage", "sdhpath", "sdhretime", "sdhwhatif")
 HOME = Path(__file__).resolve().parents[2]  # a checkout, an unpacked release, or the folder of the installed programs
 HEAD = ("version", "commit", "kit")
+IS_INSTALLED = not (HOME / "docs").is_dir()
 PROGRAM = re.compile("program ([a-z]+) ([0-9a-f]{64}) ([0-9a-f]{64})")
 
 # What the checksum of a program's sources is of.

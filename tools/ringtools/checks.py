@@ -1,4 +1,4 @@
-"""The checks of a plan, in the program's order; docs/FORMATS.md has them as tables.
+"""The checks of a plan, in the program's order; FORMATS.md has them as tables.
 
 Each refusal tells where in the document it is, which word is wrong, and which words would be right in its place.
 """

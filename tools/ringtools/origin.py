@@ -72,12 +72,12 @@ def sum_of_command(words):
 
 
 def is_launcher(words):
-    """Whether this is a script of a program's name, which can be asked for the program."""
+    """Whether this is a script of a program's name that stands beside the launcher, which can be asked for the program."""
     file = Path(shutil.which(words[0]) or words[0])
-    if len(words) != 1 or file.name not in PROGRAMS or not file.is_file():
+    if len(words) != 1 or file.name not in PROGRAMS or not file.is_file() or file.read_bytes()[:2] != b"#!":
         return False
-    script = file.read_bytes()
-    return script.startswith(b"#!") and b"--where" in script
+    launcher = file.resolve().with_name("sdhring")
+    return launcher.is_file() and b"--where" in launcher.read_bytes()
 
 
 def launched(launcher):

@@ -190,7 +190,7 @@ class New(unittest.TestCase):
         with tempfile.TemporaryDirectory() as folder:
             file = Path(folder) / "ring.toml"
             self.assertEqual(self.made("--to", file, "1>2"), b"")
-            self.assertIn(f"./sdhring run < {file}", file.read_text())
+            self.assertIn(f"sdhring run < {file}", file.read_text())
             self.refused("File exists", "--to", file, "1>3")
             self.assertIn("from = 1\nto = 2", file.read_text())
 
