@@ -36,4 +36,7 @@ _sdhring_tools() {
 }
 
 complete -F _sdhring {,./}sdh{ring,watch,outage,path,retime,whatif}
-complete -F _sdhring_tools {,./}sdhring-{explain,report,plan,view,whatif} {,./}tools/rows
+complete -F _sdhring_tools {,./}sdhring-{explain,report,plan,view,whatif}
+# repository
+complete -F _sdhring_tools {,./}tools/rows
+# end

@@ -13,8 +13,8 @@ DOCUMENTS = ("FORMATS.md", "LOOKING.md", "OUTAGES.md", "PATHS.md", "RETIMING.md"
 LIB, DOC, MAN = "lib/sdhring", "share/doc/sdhring", "share/man/man1"
 COMPLETIONS = "share/bash-completion/completions"
 FILES = f"{LIB}/FILES"
-# Of a document: what is about the repository alone, from the one comment to the other; and of a man page.
-OF_REPOSITORY = re.compile(r"^(?:<!--|\.\\\") repository(?: -->)?\n.*?^(?:<!--|\.\\\") end(?: -->)?\n\n?", re.M | re.S)
+# What is about the repository alone, from the one comment to the other, of a document, a man page or a script.
+OF_REPOSITORY = re.compile(r"^(?:<!--|\.\\\"|#) repository(?: -->)?\n.*?^(?:<!--|\.\\\"|#) end(?: -->)?\n\n?", re.M | re.S)
 TEXTS = {".md", ".1", ".toml", ".json", ""}
 
 
@@ -126,7 +126,7 @@ def pieces(places, prefix):
     found[f"{DOC}/WORDS.md"] = Piece(words_of_the_field())
     for path in sorted((HOME / "docs").glob("*.svg")):
         found[f"{DOC}/{path.name}"] = Piece(path.read_bytes())
-    found[f"{COMPLETIONS}/sdhring"] = Piece((HOME / "tools" / "completion.bash").read_bytes())
+    found[f"{COMPLETIONS}/sdhring"] = Piece(released((HOME / "tools" / "completion.bash").read_text(encoding="utf-8")).encode("utf-8"))
     found |= {f"{COMPLETIONS}/{name}": Piece(link="sdhring") for name in (*PROGRAMS[1:], *TOOLS)}
     return found
 

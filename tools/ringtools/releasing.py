@@ -137,7 +137,8 @@ def tree():
     found["VERSION"] = Piece((HOME / "VERSION").read_bytes())
     found |= {f"dist/{name}": Piece((DIST / name).read_bytes(), is_run=True) for name in PROGRAMS}
     found["dist/BUILD"] = Piece((DIST / "BUILD").read_bytes())
-    for name in (*map(str, modules()), "completion.bash"):
+    found["tools/completion.bash"] = Piece(released((HOME / "tools" / "completion.bash").read_text(encoding="utf-8")).encode("utf-8"))
+    for name in map(str, modules()):
         found[f"tools/{name}"] = Piece((HOME / "tools" / name).read_bytes(), is_run=is_run(HOME / "tools" / name))
     for path, _ in texts():
         text = path.read_bytes()
