@@ -46,7 +46,7 @@ def unlinked(found):
 def released(text):
     """A text as a release has it: without what is about the repository alone, and without links to documents of it."""
     text = OF_REPOSITORY.sub("", text).replace("](MAP.md#the-words-of-the-field)", "](WORDS.md)")
-    text = re.sub(r"( \()\[([^]]*)\]\((?:docs/|\.\./)?([A-Z]+\.md)[^)]*\)\)", unlinked, text)
+    text = re.sub(r"([ \n]\()\[([^]]*)\]\((?:docs/|\.\./)?([A-Z]+\.md)[^)]*\)\)", unlinked, text)
     return re.sub(r"()\[([^]]*)\]\((?:docs/|\.\./)?([A-Z]+\.md)[^)]*\)", unlinked, text)
 
 

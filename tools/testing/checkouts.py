@@ -1,5 +1,7 @@
 """Checkouts of stand-ins for the crates, the programs and `rt`, for the tests of the launcher, of installs and of releases."""
 
+import os
+import pty
 import shutil
 import subprocess
 
@@ -62,3 +64,23 @@ def release(top, **environment):
         sources = subprocess.run([top / name, "--sources"], capture_output=True, text=True, check=True).stdout.strip()
         lines.append(f"program {name} {sum_of((top / 'dist' / name).read_bytes())} {sources}")
     (top / "dist" / "BUILD").write_text("\n".join(lines) + "\n")
+
+
+def at_terminal(words, folder, environment, plan=None):
+    """What a terminal shows of a start, as standard output and error, and as input too where there is no plan."""
+    main, other = pty.openpty()
+    given = open(plan, "rb") if plan else other
+    with subprocess.Popen(words, cwd=folder, env=environment, stdin=given, stdout=other, stderr=other) as started:
+        os.close(other)
+        if not plan:
+            os.write(main, b"\x04")
+        seen = b""
+        try:
+            while part := os.read(main, 4096):
+                seen += part
+        except OSError:
+            pass
+    os.close(main)
+    if plan:
+        given.close()
+    return started.returncode, seen.decode().replace("\r\n", "\n")

@@ -9,14 +9,15 @@ import tempfile
 import unittest
 from pathlib import Path
 
-from checkouts import PROGRAM, RT, executable, make_checkout, release
+from checkouts import PROGRAM, RT, TOP, at_terminal, executable, make_checkout, release
 from common import RINGS
 
 from ringtools.build import PROGRAMS, read_build, sum_of
-from ringtools.installing import TOOLS
+from ringtools.installing import DOCUMENTS, TOOLS
 
 # What a text of a release may not name: it isn't there.
-OF_REPOSITORY = re.compile(r"(?<![\w/])(?:crates|bench|specs|proofs|\.ci|tools/testing)/|\bsdh_[a-z]+|\.rt\b|\brows\.1\b|tools/(?:test|rows|release)\b")
+NOT_RELEASED = {path.name for path in (TOP / "docs").glob("*.md")} - set(DOCUMENTS)
+OF_REPOSITORY = re.compile(r"(?<![\w/])(?:crates|bench|specs|proofs|\.ci|tools/testing)/|\bsdh_[a-z]+|\.rt\b|\brows\.1\b|tools/(?:test|rows|release)\b|\b(?:" + "|".join(sorted(NOT_RELEASED)) + r")\b")
 NOT_INSTALLED = re.compile(rf"{OF_REPOSITORY.pattern}|(?<![\w/])(?:docs|tools)/|\./sdh")
 SECONDS = 10
 
@@ -109,6 +110,13 @@ class Installed(Released):
         self.assertIn("a good plan", self.start("sdhring-explain", self.folder / "ring.toml").stdout)
         for path in (self.folder / "ring.toml", examples / "refused.toml"):
             self.assertIsNone(NOT_INSTALLED.search(path.read_text()))
+
+    def test_a_refusal_that_goes_to_a_terminal_is_explained(self):
+        plan = self.prefix / "share" / "doc" / "sdhring" / "examples" / "refused.toml"
+        environment = {"PATH": python_path(), "FAKE_STATUS": "6"}
+        status, seen = at_terminal([self.prefix / "bin" / "sdhring", "run"], plan.parent, environment, plan)
+        self.assertEqual(status, 6)
+        self.assertIn("refused.toml:8:26: bad plan 24 at 2", seen)
 
     def test_the_tools_know_the_programs(self):
         asked = "import sys; sys.path.insert(0, sys.argv[1]); from ringtools.origin import *; print(find_program([str(LAUNCHER)]).lines()['proof'], LAUNCHER)"

@@ -168,6 +168,9 @@ class Pages(unittest.TestCase):
             ended = call("sdhring-view", plan, text)
             self.assertEqual((ended.returncode, ended.stdout), (1, b""))
             self.assertIn(f"sdhring-view: {text}: a report without a line of a node, as sdhpath writes them", ended.stderr.decode())
+        ended = call("sdhring-view", paths / "shared-slot.toml", paths / "shared-slot.text")
+        self.assertEqual((ended.returncode, ended.stdout), (1, b""))
+        self.assertIn(b"is a refusal of sdhpath, whose path ring isn't drawn", ended.stderr)
 
     def test_a_run_that_does_not_settle(self):
         self.assertIn("Settle step 1 didn't settle within the limit of 128 rounds", read("limit-too-small").text())
