@@ -1,5 +1,5 @@
 # Completion of sdhring, sdhwatch, sdhoutage, sdhpath, sdhretime, sdhwhatif and the tools beside them, for bash: source
-# it, or let `--install` put it in place.
+# it, or have `--install` put it in place.
 
 _sdhring_words() {
   local program=${COMP_WORDS[0]##*/} word=${COMP_WORDS[COMP_CWORD]}
@@ -11,33 +11,32 @@ _sdhring_words() {
     sdhwatch:1:* | sdhpath:1:*) mapfile -t COMPREPLY < <(compgen -W "run $1" -- "$word") ;;
     sdhwhatif:1:*) mapfile -t COMPREPLY < <(compgen -W "single double triple $1" -- "$word") ;;
     sdhretime:1:*) mapfile -t COMPREPLY < <(compgen -W "$1" -- "$word") ;;
-    *:*:--install) compopt -o dirnames ;;
+    *:*:--install | *:*:--uninstall) compopt -o dirnames ;;
   esac
   # Behind `<` stands the plan.
   [ "${COMP_WORDS[COMP_CWORD - 1]}" != '<' ] || { COMPREPLY=() && compopt -o default; }
 }
 
-# In a checkout the launcher has words of its own; an installed program has none.
 _sdhring() {
-  local launcher=
-  [ "$(head -c 2 -- "$(type -P -- "${COMP_WORDS[0]}")" 2>/dev/null | tr -d '\0')" != '#!' ] ||
-    launcher='--prove --install --where --version --help'
-  _sdhring_words "$launcher"
+  _sdhring_words '--prove --prove-all --install --uninstall --where --version --help'
 }
 
 _sdhring_tools() {
   local words word=${COMP_WORDS[COMP_CWORD]}
   case ${COMP_WORDS[0]##*/} in
     rows) words='--dir --jobs --list --help' ;;
-    explain) words='--first --status --name --help' ;;
-    report) words='--json --csv --nodes --plan --help' ;;
-    plan) words='new --nodes --rate --steps --to --help' ;;
-    ringview) words='--svg --outages --program --help' ;;
-    whatif) words='--also --works --kinds --dir --program --jobs --shard --sshlogin --parallel --all --frames --teller --anew --help' ;;
+    sdhring-explain) words='--first --status --name --help' ;;
+    sdhring-report) words='--json --csv --nodes --plan --help' ;;
+    sdhring-plan) words='new --nodes --rate --steps --to --help' ;;
+    sdhring-view) words='--svg --outages --program --help' ;;
+    sdhring-whatif) words='--also --works --kinds --dir --program --jobs --shard --sshlogin --parallel --all --frames --teller --anew --help' ;;
   esac
   mapfile -t COMPREPLY < <(compgen -W "$words" -- "$word")
   [ "${#COMPREPLY[@]}" -ne 0 ] || compopt -o default
 }
 
 complete -F _sdhring {,./}sdh{ring,watch,outage,path,retime,whatif}
-complete -F _sdhring_tools {,./}tools/{rows,explain,report,plan,ringview,whatif}
+complete -F _sdhring_tools {,./}sdhring-{explain,report,plan,view,whatif}
+# repository
+complete -F _sdhring_tools {,./}tools/rows
+# end

@@ -62,6 +62,8 @@ class Answers:
         part = f", part {self.shard} of the whole" if self.shard else ""
         each = names(count_of(len(self.of_kinds((kind,))), KIND_WORDS[kind], KIND_PLURALS[kind]) for kind in self.kinds)
         yield f"{count_of(len(self.verdicts), 'failure')} of a ring with {count_of(len(self.circuits), 'circuit')} were run{part}: {each}. {NOT_ASKED}"
+        if any(step.word != "settle" for step in self.plan.steps):
+            yield "The plan's own script is left aside: <code>--also</code> sets steps before each failure, and <code>--all</code> asks about the ring as the script leaves it."
         if self.beforehand.steps:
             yield "Before each: " + ", ".join(f"<code>{escape(text)}</code>" for text in self.beforehand.texts()) + "."
         before = self.lost_before()

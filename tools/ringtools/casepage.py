@@ -1,4 +1,4 @@
-"""whatif's page: what the failures come to, customers first; and a page with the drawing of each case."""
+"""The page of sdhring-whatif: what the failures come to, customers first; and a page with the drawing of each case."""
 
 import signal
 from concurrent.futures import ProcessPoolExecutor

@@ -1,4 +1,4 @@
-"""whatif's tables: each customer, the failures kind by kind, and each customer in each failure."""
+"""The tables of sdhring-whatif: each customer, the failures kind by kind, and each customer in each failure."""
 
 from html import escape
 

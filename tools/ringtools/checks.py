@@ -1,4 +1,4 @@
-"""The checks of a plan, in the program's order; docs/FORMATS.md has them as tables.
+"""The checks of a plan, in the program's order; FORMATS.md has them as tables.
 
 Each refusal tells where in the document it is, which word is wrong, and which words would be right in its place.
 """
@@ -209,10 +209,18 @@ class Checks:
         for span in spans:
             if (span, slot) in self.taken:
                 ends = f"{self.nodes[span]} and {self.nodes[(span + 1) % len(self.nodes)]}"
-                said = f"circuit {self.taken[span, slot]} has slot {slot} between {ends}"
-                free = tuple(s for s in range(1, self.rate // 2 + 1) if not any((at, s) in self.taken for at in spans))
-                yield Refusal(9, place, (*path, "slot"), said, free)
+                held = {later for at, later in self.held_later(place) if at in spans}
+                free = tuple(s for s in range(1, self.rate // 2 + 1) if s not in held and not any((at, s) in self.taken for at in spans))
+                none = "" if free else ", and no slot is free all along its way"
+                yield Refusal(9, place, (*path, "slot"), f"circuit {self.taken[span, slot]} has slot {slot} between {ends}{none}", free)
         self.taken.update(((span, slot), table["name"]) for span in spans)
+
+    def held_later(self, place):
+        """The spans and slots of the circuits that stand after this place, as far as these can be read."""
+        for table in self.document["circuit"][place:]:
+            ends = table.get("from"), table.get("to")
+            if is_number(table.get("slot")) and all(is_number(node) and node in self.nodes for node in ends):
+                yield from ((span, table["slot"]) for span in arc_of(table, self.nodes))
 
     def script(self, has_ring):
         steps = self.document.get("script")

@@ -19,6 +19,7 @@ ELSEWHERE = (
     "the program reads TOML 1.1, Python's reader and these tools TOML 1.0: a newline or a last comma in `{ .. }`, the "
     "escapes \\e and \\xHH and a time without seconds are TOML 1.1"
 )
+SINGLE_BRACKETS = re.compile(r"^[ \t]*(\[[ \t]*circuit[ \t]*\])", re.M)
 
 
 @dataclass(frozen=True)
@@ -143,6 +144,13 @@ def of_no_utf8(data, error):
     return Finding(head, None, ("what to do: save the file as UTF-8; a plan needs no byte from 128 on",))
 
 
+def of_single_brackets(source):
+    """Circuits that begin with `[circuit]`, which a document may have once at most."""
+    first = SINGLE_BRACKETS.search(source.text)
+    place = source.place(first.start(1), first.end(1))
+    return Finding("not toml: `[circuit]` begins a table that there can be one of", place, ("what to do: begin each circuit with `[[circuit]]`, in double brackets",))
+
+
 def of_no_toml(text, problem):
     """What the reader said, its place, and whether the program would say the same."""
     found = re.search(r" \(at (?:line (\d+), column (\d+)|end of document)\)", problem)
@@ -153,6 +161,11 @@ def of_no_toml(text, problem):
     source = Source("")
     source.text = text
     place = source.place(at, at + 1) if found and found[1] else None
+    is_twice = said.startswith(("Cannot declare", "Cannot overwrite"))
+    if is_twice and SINGLE_BRACKETS.search(text):
+        return of_single_brackets(source)
+    if is_twice:
+        return Finding(f"not toml: {said}", place, ("what to do: let each key and each table stand once",))
     if feature := newer(text, at):
         head = f"Python's reader stops here, since {feature[0]} is TOML 1.1: the program may read it, and these tools can't"
         return Finding(head, place, (f"what to do: {feature[1]}",))

@@ -1,4 +1,4 @@
-"""The failures that whatif asks about, each with the script that makes it and mends it again; and the works of an order."""
+"""The failures that sdhring-whatif asks about, each with the script that makes it and mends it again; and the works of an order."""
 
 import re
 from dataclasses import dataclass, replace
@@ -10,8 +10,9 @@ from .plan import PlanProblem, read_step, write_plan
 STAGES = ("before", "failed", "mended", "waited")
 WORKS_STAGES = ("before", "during", "after", "waited")
 KINDS = ("fibre", "span", "node", "pair")
-PAIR_NAME = re.compile("span ([0-9]+)[-–]([0-9]+)")
+SPAN_NAME = re.compile("span ([0-9]+)[-–]([0-9]+)")
 NODE_NAME = re.compile("node ([0-9]+)")
+WORKS_FORMS = {"span": "a span is named by the nodes at its ends, as `span 2-3`", "node": "a node is named alone, as `node 4`"}
 LAST_MOMENT = 1_000_000_000
 
 
@@ -24,10 +25,12 @@ class Case:
     words: str
     fibres: tuple = ()
     steps: tuple = ()  # of a case that sdhwhatif tells, which isn't mended
+    settles: int = 1  # settle steps before those, where it is such a case
 
     @property
     def stages(self):
-        return {"works": WORKS_STAGES, "told": STAGES[:2]}.get(self.kind, STAGES)
+        told = STAGES[:1] * self.settles + STAGES[1:2]
+        return {"works": WORKS_STAGES, "told": told}.get(self.kind, STAGES)
 
 
 def span_fibres(plan, span):
@@ -70,7 +73,7 @@ def failures_of(plan):
 
 def all_cases(beforehand, kinds=KINDS):
     """The works, where there are any, and each failure of these kinds."""
-    works = [Case("works", "works", "the works: " + "; ".join(beforehand.works_texts()))] if beforehand.works else []
+    works = [Case("works", "works", f"the works: {beforehand.works_words()}")] if beforehand.works else []
     return works + [case for case in failures_of(beforehand.plan) if case.kind in kinds]
 
 
@@ -88,19 +91,32 @@ def held(plan, steps):
 
 
 class Beforehand:
-    """The steps before each failure, those of the works last, and what holds after them."""
+    """The steps before each failure, those of the works last, and what holds after them. `order` is the works order in its own words."""
 
-    def __init__(self, plan, steps, works=()):
-        self.plan, self.also, self.works = plan, tuple(steps), tuple(works)
-        self.steps = self.also + self.works
+    def __init__(self, plan, steps, works=(), order=(), script=()):
+        self.plan, self.also, self.works, self.order, self.own = plan, tuple(steps), tuple(works), tuple(order), tuple(script)
+        self.steps = self.own + self.also + self.works
         after = held(plan, self.steps)
         self.conditions, self.moment = after.conditions, after.moment
 
     def texts(self):
         return [step.text for step in self.steps]
 
+    def also_texts(self):
+        return [step.text for step in self.also]
+
     def works_texts(self):
         return [step.text for step in self.works]
+
+    def works_words(self):
+        """The order in its own words, and the steps that these stand for where they are others."""
+        words, steps = "; ".join(self.order), "; ".join(self.works_texts())
+        return words if words == steps else f"{words} ({steps})"
+
+    def settled_texts(self):
+        """The steps up to where the ring has settled before a failure; a plan's own script has settled already."""
+        is_settled = self.own and not (self.also or self.works)
+        return self.texts() if is_settled else self.texts() + ["settle"]
 
     def later(self):
         """The moment when every wait that begins with the mending is over, as far as moments go."""
@@ -127,11 +143,10 @@ class Beforehand:
     def script(self, case):
         """Four settle steps: before, failed, mended to what was before, and after waiting; or before, during and after the works. Of a case by its steps two."""
         if case.kind == "told":
-            return [*self.texts(), "settle", *case.steps, "settle"]
+            return [*self.settled_texts(), *case.steps, "settle"]
         waited = ["settle", f"moment {self.later()}", "settle"]
         if case.kind == "works":
-            also = [step.text for step in self.also]
-            return [*also, "settle", *self.works_texts(), "settle", *self.undoing(), *waited]
+            return [*self.also_texts(), "settle", *self.works_texts(), "settle", *self.undoing(), *waited]
         fail = [self.condition_step(fibre, CUT) for fibre in case.fibres]
         mend = [self.condition_step(fibre, self.conditions[fibre]) for fibre in case.fibres]
         return [*self.texts(), "settle", *fail, "settle", *mend, *waited]
@@ -144,7 +159,7 @@ class Beforehand:
         return write_plan(self.plan, self.script(case)).encode("ascii")
 
     def document_of_nothing(self):
-        return write_plan(self.plan, self.texts() + ["settle"]).encode("ascii")
+        return write_plan(self.plan, self.settled_texts()).encode("ascii")
 
 
 def span_named(plan, one, other):
@@ -155,22 +170,35 @@ def span_named(plan, one, other):
     return span_named(plan, other, one) if (other, one) in map(plan.ends, range(plan.size)) else None
 
 
-def freed(plan, span):
-    return f"forced {plan.ids[span]} east"
+def forced(plan, at, side):
+    return f"forced {plan.ids[at % plan.size]} {side}"
+
+
+def span_steps(plan, one, other):
+    """Forced switches on both sides of a span, so that no cut or mending during the works interrupts its customers again."""
+    span = span_named(plan, one, other)
+    if span is None:
+        spans = ", ".join("{}-{}".format(*plan.ends(at)) for at in range(plan.size))
+        raise PlanProblem(f"works: no span joins node {one} and node {other}; the spans are {spans}")
+    return [forced(plan, span, "east"), forced(plan, span + 1, "west")]
+
+
+def node_steps(plan, node):
+    """Forced switches at both neighbours of a node, towards it."""
+    if node not in plan.ids:
+        raise PlanProblem(f"works: no node {node}; the nodes are {', '.join(map(str, plan.ids))}")
+    at = plan.ids.index(node)
+    return [forced(plan, at - 1, "east"), forced(plan, at + 1, "west")]
 
 
 def works_steps(plan, text):
-    """A part of an order in steps: `span A-B` and `node A` free these of traffic by forced switches, from the nodes beside a node."""
-    if found := PAIR_NAME.fullmatch(text):
-        span = span_named(plan, int(found[1]), int(found[2]))
-        if span is None:
-            raise PlanProblem(f"works: no span leads from node {found[1]} to node {found[2]}")
-        return [freed(plan, span)]
+    """A part of an order in steps: `span A-B` and `node A` free these of traffic by forced switches; any step stands for itself."""
+    if found := SPAN_NAME.fullmatch(text):
+        return span_steps(plan, int(found[1]), int(found[2]))
     if found := NODE_NAME.fullmatch(text):
-        if int(found[1]) not in plan.ids:
-            raise PlanProblem(f"works: no node {found[1]}")
-        at = plan.ids.index(int(found[1]))
-        return [freed(plan, (at - 1) % plan.size), f"forced {plan.ids[(at + 1) % plan.size]} west"]
+        return node_steps(plan, int(found[1]))
+    if text.split()[0] in WORKS_FORMS:
+        raise PlanProblem(f"works: `{text}` isn't a part of an order: {WORKS_FORMS[text.split()[0]]}")
     return [text]
 
 
@@ -181,11 +209,12 @@ def parts_of(words):
 def read_steps_of(plan, texts):
     steps = [read_step(text, place + 1, plan.ids) for place, text in enumerate(texts)]
     if any(step.word == "settle" for step in steps):
-        raise PlanProblem("whatif settles the ring itself, so `settle` can't be among the steps before")
+        raise PlanProblem("sdhring-whatif settles the ring itself, so `settle` can't be among the steps before")
     return steps
 
 
-def read_beforehand(plan, also, works=None):
-    """The steps of `--also` and of `--works`, parted by semicolons."""
-    order = [step for part in parts_of(works) for step in works_steps(plan, part)]
-    return Beforehand(plan, read_steps_of(plan, parts_of(also)), read_steps_of(plan, order))
+def read_beforehand(plan, also, works=None, script=()):
+    """The steps of `--also` and of `--works`, parted by semicolons, after those of the plan's own script where it counts."""
+    order = parts_of(works)
+    steps = [step for part in order for step in works_steps(plan, part)]
+    return Beforehand(plan, read_steps_of(plan, parts_of(also)), read_steps_of(plan, steps), order, script)

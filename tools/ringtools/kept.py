@@ -1,6 +1,6 @@
 """Kept answers: of each case a plan, the program's text, and a file that tells the status and where the text comes from."""
 
-from dataclasses import dataclass
+from dataclasses import dataclass, replace
 
 from .origin import now, sum_of
 
@@ -66,12 +66,13 @@ class Store:
         return sum(answer is not None and answer.sum != self.program.sum for answer in found)
 
     def answer(self, name):
-        """What this program answered about the plan as it stands, or None."""
+        """What this program answered about the plan as it stands, or None. What is known of the program is what is known now."""
         answer = self.kept(name)
         if answer is None or answer.sum != self.program.sum:
             return None
         sums = tuple(sum_of(self.path(name, kind).read_bytes()) if self.path(name, kind).exists() else "" for kind in ("toml", "text"))
-        return answer if (answer.plan, answer.text) == sums else None
+        known = {key: value for key, value in self.program.lines().items() if key in ("version", "proof")}
+        return replace(answer, **known) if (answer.plan, answer.text) == sums else None
 
     def is_done(self, name):
         return self.answer(name) is not None

@@ -78,11 +78,11 @@ def slots_of(asked):
 
 def head_of(asked):
     rate = {4: "STM-4, with 2 working slots on each span", 16: "STM-16, with 8 working slots on each span"}[asked.rate]
-    return f"""# A ring of {count_of(len(asked.nodes), "node")}, made by `tools/plan new`. Every key is told in docs/FORMATS.md.
+    return f"""# A ring of {count_of(len(asked.nodes), "node")}, made by `sdhring-plan new`. Every key is told in FORMATS.md.
 #
-#   ./sdhring run < {asked.name}     runs it
-#   tools/explain {asked.name}       says whether it is good, or what is wrong and where
-#   tools/whatif {asked.name}        asks what survives each failure
+#   sdhring run < {asked.name}     runs it
+#   sdhring-explain {asked.name}       says whether it is good, or what is wrong and where
+#   sdhring-whatif {asked.name}        asks what survives each failure
 
 # {rate}.
 rate = {asked.rate}

@@ -5,7 +5,7 @@ from functools import cache
 from html import escape
 from pathlib import Path
 
-from .origin import NOT_KNOWN, NOT_PROVED, now
+from .origin import NOT_KNOWN, now
 
 WEB = Path(__file__).parent / "web"
 COMPARED = (
@@ -94,8 +94,6 @@ def dates_words(dates):
 def warning(origin):
     """What has to be read before anything else of answers whose program isn't proved."""
     program = origin.program
-    if program is not None and program.proof == NOT_PROVED:
-        return '<p class="alarm"><strong>The program that answered is not proved.</strong> <code>./sdhring --prove</code> proves and builds the one that is.</p>'
     if program is not None and program.proof == NOT_KNOWN:
         return '<p class="alarm"><strong>It isn\'t known whether the program that answered is proved.</strong></p>'
     return ""
@@ -107,11 +105,12 @@ def origin_list(origin):
     told = program.lines() if program else {}
     lines = {
         "Program": code(told["program"]) if told else escape(origin.note),
-        "Proved": {"proved": "yes", NOT_PROVED: "<strong>no</strong>"}.get(told.get("proof"), "not known"),
+        "Proved": "yes" if told.get("proof") == "proved" else "not known",
         "Version": escape(told.get("version", "not known")),
         "Program's sum": code(told["sum"]) if told else "not known",
         "Plan": code(origin.plan),
         "Plan's sum": code(origin.plan_sum),
+        **({"Sum of the plan as asked": code(origin.asked)} if origin.asked not in ("", origin.plan_sum) else {}),
         "Answered": dates_words(origin.dates),
         "Page written": moment_words(now()),
     }

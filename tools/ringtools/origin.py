@@ -1,8 +1,6 @@
 """Where an answer comes from: the program, whether it is proved, its version, the date, and sums of program and plan."""
 
-import hashlib
 import os
-import re
 import shlex
 import shutil
 import subprocess
@@ -10,18 +8,15 @@ from dataclasses import dataclass
 from datetime import datetime, timezone
 from pathlib import Path
 
-LAUNCHER = Path(__file__).resolve().parents[2] / "sdhring"
+from .build import HOME, PROGRAMS, record_of, sum_of
+
+LAUNCHER = HOME / "sdhring"  # or the program itself, where it is installed
 TELLER = LAUNCHER.with_name("sdhwhatif")
-VERSION = re.compile(r"(?P<version>\S+ \S+, sources [0-9a-f]+), (?P<proof>proved|not proved)\b")
-PROVED, NOT_PROVED, NOT_KNOWN = "proved", "not proved", "not known to be proved"
+PROVED, NOT_KNOWN = "proved", "not known to be proved"
 
 
 class CannotRun(Exception):
     """The program can't be started at all."""
-
-
-def sum_of(data):
-    return hashlib.sha256(data).hexdigest()
 
 
 def now():
@@ -55,17 +50,7 @@ class Origin:
     plan_sum: str
     dates: tuple = ()  # of the answers
     note: str = ""
-
-
-def told_by(words):
-    """What a command writes about itself, or nothing where it can't."""
-    try:
-        ended = subprocess.run(words, stdin=subprocess.DEVNULL, capture_output=True, timeout=60)
-    except subprocess.TimeoutExpired:
-        return ""
-    except OSError as error:
-        raise CannotRun(f"{words[0]}: {error.strerror}") from None
-    return os.fsdecode(ended.stdout).strip() if ended.returncode == 0 else ""
+    asked: str = ""  # the sum of what was asked about, where that isn't the plan's file as it is
 
 
 def file_of(word):
@@ -86,41 +71,30 @@ def sum_of_command(words):
     return sums[0] if len(words) == 1 and files[0] else sum_of(shlex.join([*words, *sums]).encode())
 
 
-def launched(launcher):
-    """The program that a launcher runs now, or None where it has built none."""
-    found = VERSION.match(told_by([launcher, "--version"]))
-    runs = told_by([launcher, "--where"]) if found else ""
-    if not runs or not Path(runs).is_file():
-        return None
-    proved = found["proof"] == PROVED and not runs.endswith(".unproved")
-    return Program((runs,), sum_of_command([runs]), found["version"], PROVED if proved else NOT_PROVED)
-
-
 def is_launcher(words):
-    return len(words) == 1 and (file := file_of(words[0])) is not None and file.read_bytes()[:2] == b"#!" and (file.parent / "crates.txt").is_file()
+    """Whether this is a script of a program's name that stands beside the launcher, which can be asked for the program."""
+    file = Path(shutil.which(words[0]) or words[0])
+    if len(words) != 1 or file.name not in PROGRAMS or not file.is_file() or file.read_bytes()[:2] != b"#!":
+        return False
+    launcher = file.resolve().with_name("sdhring")
+    return launcher.is_file() and b"--where" in launcher.read_bytes()
 
 
-def built(launcher, plan, word):
-    """What a launcher runs. It builds that first if need be, asked with a word that runs nothing."""
-    program = launched(launcher)
-    if program is None:
-        ended = subprocess.run([launcher, word], input=plan, stdout=subprocess.PIPE)
-        program = launched(launcher)
-    if program is None:
+def launched(launcher):
+    """The file that a launcher runs. What it says where it has none goes to standard error."""
+    try:
+        ended = subprocess.run([launcher, "--where"], stdin=subprocess.DEVNULL, stdout=subprocess.PIPE, timeout=60)
+    except (OSError, subprocess.TimeoutExpired) as error:
+        raise CannotRun(f"{launcher}: {getattr(error, 'strerror', error)}") from None
+    runs = os.fsdecode(ended.stdout).strip()
+    if ended.returncode or not Path(runs).is_file():
         raise CannotRun(f"{launcher} ended with status {ended.returncode}, and has no program")
-    return program
+    return runs
 
 
-def find_program(words, plan=b"", word="check"):
-    """The program of these words: what a launcher runs, or the command itself. A copy of what this checkout's launcher runs is known too."""
-    words = settled_words(words)
-    if is_launcher(words):
-        return built(words[0], plan, word)
-    sum = sum_of_command(words)
-    own = launched(str(LAUNCHER)) if len(words) == 1 and LAUNCHER.is_file() else None
-    if own is not None and own.sum == sum:
-        return Program(words, sum, own.version, own.proof)
-    found = VERSION.match(told_by([*words, "--version"]))
-    if found is None:
-        return Program(words, sum)
-    return Program(words, sum_of(f"{sum} {found[0]}".encode()), found["version"], PROVED if found["proof"] == PROVED else NOT_PROVED)
+def find_program(words):
+    """The program of these words: what a launcher runs, or the command itself. It is proved where a BUILD tells of its very file."""
+    words = (launched(words[0]),) if is_launcher(words) else settled_words(words)
+    file = file_of(words[0]) if len(words) == 1 else None
+    record = record_of(file) if file else None
+    return Program(words, record.sum, record.words(), PROVED) if record else Program(words, sum_of_command(words))

@@ -30,9 +30,19 @@ class Outage:
     out: int
     jumps: int
     is_out_still: bool  # whether that holds at the end of the step
+    starts: bool = False  # whether it begins with the ring, in round 0
+    is_whole: bool = True  # whether it is one stretch of rounds
+
+    @property
+    def is_start(self):
+        """Whether it is the ring's start alone, before which no port had anything."""
+        return self.starts and self.is_whole and not self.jumps and not self.is_out_still
 
     def words(self):
+        if self.is_start:
+            return f"none; first bytes after {frames_words(self.out)}"
         parts = [frames_words(self.out) if self.out else "none"]
+        parts += ["the ring's start among them"] if self.starts and not self.is_out_still else []
         parts += [count_of(self.jumps, "jump")] if self.jumps else []
         return ", ".join(parts + (["still out"] if self.is_out_still else []))
 
@@ -51,14 +61,22 @@ class Told:
     def spared(self):
         return sum(outage.out == 0 for outage in self.ports.values())
 
+    def start_words(self):
+        """After how many frames the first bytes came, where the ring starts in the step."""
+        first = [outage.out for outage in self.ports.values() if outage.is_start]
+        if not first:
+            return ""
+        return f"The ring starts in this step, which is no outage: each port's first bytes came after at most {frames_words(max(first))}. "
+
     def words(self):
-        """The longest outage and who has it, and how many ports have none."""
-        longest, count = self.longest(), len(self.ports)
+        """The longest outage and who has it, and how many ports have none. What the ring's start took is apart."""
+        start, outs = self.start_words(), {port: outage for port, outage in self.ports.items() if outage.out and not outage.is_start}
+        longest = max((outage.out for outage in outs.values()), default=0)
         if not longest:
-            return "No port was without its own customer's bytes in this step."
-        worst = [f"{name} {end}" for (name, end), outage in self.ports.items() if outage.out == longest]
+            return start + ("Else no" if start else "No") + " port was without its own customer's bytes in this step."
+        worst = [f"{name} {end}" for (name, end), outage in outs.items() if outage.out == longest]
         shown = ", ".join(worst[:4]) + (f" and {len(worst) - 4} more" if len(worst) > 4 else "")
-        return f"The longest outage in this step: {frames_words(longest)}, at {shown}. {self.spared()} of {count_of(count, 'port')} had none."
+        return f"{start}The longest outage in this step: {frames_words(longest)}, at {shown}. {len(self.ports) - len(outs)} of {count_of(len(self.ports), 'port')} had none."
 
 
 def read_port(lines, name, end, first, last):
@@ -72,7 +90,7 @@ def read_port(lines, name, end, first, last):
         return Outage(0, 0, False)
     begin, end_ = int(found[6]), int(found[8])
     lines.check(first <= begin <= end_ <= last and out + jumps <= end_ + 1 - begin, "rounds from and to that can't be")
-    return Outage(out, jumps, end_ == last and out > 0)
+    return Outage(out, jumps, end_ == last and out > 0, begin == 0 < out, out + jumps == end_ + 1 - begin)
 
 
 def read_longest(lines, told):

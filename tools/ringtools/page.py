@@ -1,4 +1,4 @@
-"""ringview's page: every settle step of a run, customers first, or why there is none."""
+"""The page of sdhring-view: every settle step of a run, customers first, or why there is none."""
 
 from html import escape
 
@@ -14,7 +14,8 @@ from .report import STATES
 
 OUT = (
     "Out are the frames of a settle step, of 125 microseconds each, in which a port was without its own customer's bytes; "
-    "a jump is a frame of his that doesn't follow the one before, since chunks were left out or come again."
+    "a jump is a frame of his that doesn't follow the one before, since chunks were left out or come again. "
+    "The frames before a port's first bytes in a new ring are no outage, and are told as that."
 )
 HINT = "Click or tap a circuit, node or fibre; or go there with Tab and the arrow keys, and light a circuit up with Enter."
 

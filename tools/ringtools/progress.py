@@ -50,5 +50,5 @@ class Progress:
             return
         self.told = now
         end = "    \r" if sys.stderr.isatty() and not last else "\n"
-        sys.stderr.write(f"whatif: {self.line(gone)}{end}")
+        sys.stderr.write(f"sdhring-whatif: {self.line(gone)}{end}")
         sys.stderr.flush()

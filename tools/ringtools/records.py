@@ -1,4 +1,4 @@
-"""A report as records: plain values with names, for JSON and CSV. docs/FORMATS.md has the fields."""
+"""A report as records: plain values with names, for JSON and CSV. FORMATS.md has the fields."""
 
 from .kbytes import CODES, MARKS
 from .plan import Circuit, Plan, Step

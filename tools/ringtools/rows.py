@@ -15,7 +15,17 @@ from difflib import unified_diff
 from pathlib import Path
 
 TOP = Path(__file__).resolve().parents[2]
-RINGS = TOP / "tools" / "testing" / "rings"
+TESTING = TOP / "tools" / "testing"
+RINGS = TESTING / "rings"
+# Where the rows of each program are.
+FOLDERS = {
+    "sdhring": RINGS,
+    "sdhwatch": TESTING / "watches",
+    "sdhoutage": TESTING / "outages",
+    "sdhpath": TESTING / "paths",
+    "sdhretime": TESTING / "lines",
+    "sdhwhatif": TESTING / "whatif",
+}
 TABLE = "rows.md"
 COLUMNS = ["Row", "Words", "Plan", "Change", "Status", "Text"]
 SECONDS = 300  # for one row

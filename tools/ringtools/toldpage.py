@@ -13,7 +13,7 @@ def frames_cell(line, checked):
     """Whether the case was run too, with a link to its drawing."""
     if line.words not in checked:
         return ""
-    return f'<a href="cases/{line.case().name}.html">{"differs" if checked[line.words] else "the same"}</a>'
+    return f'<a href="cases/{line.name}.html">{"differs" if checked[line.words] else "the same"}</a>'
 
 
 def rows_of(lines, checked):
@@ -33,6 +33,25 @@ def by_model(told, program):
     )
     cases = f"{count_of(len(told.lines()), 'case')}, nothing more, each failure alone and each two"
     return f"<strong>Told without a frame:</strong> {cases}, in {told.seconds:.1f} s by <code>sdhwhatif</code>. {proved}"
+
+
+def asked_words(beforehand):
+    """The state of the ring in which all of it was asked."""
+    codes = lambda texts: ", ".join(f"<code>{escape(text)}</code>" for text in texts)
+    own = [step.text for step in beforehand.own if step.text != "settle"]
+    if own:
+        yield f"<strong>After the plan's own script:</strong> {codes(own)}."
+    if beforehand.also:
+        yield f"<strong>Before each failure:</strong> {codes(beforehand.also_texts())}."
+    if beforehand.works:
+        yield f"<strong>During the works:</strong> {escape('; '.join(beforehand.order))}, which is {codes(beforehand.works_texts())}."
+
+
+def heading(title, beforehand):
+    """Names the works, where there are any, so that no page is taken for one of the ring without them."""
+    during = f", during the works: {'; '.join(beforehand.order)}" if beforehand.works else ""
+    after = f", after {'; '.join(beforehand.also_texts())}" if beforehand.also else ""
+    return f"All failures: {title}{during}{after}"
 
 
 def by_frames(checked):
@@ -56,11 +75,11 @@ def customers(plan, told):
         yield [escape(name), "yes" if name in told.nothing.circuits else "no", alone[name], escape(" | ".join(first.get(name, [])[:4])), f"{pairs[name]} of {len(told.pairs)}"]
 
 
-def told_page(title, plan, told, checked, origins):
+def told_page(title, beforehand, told, checked, origins):
     """`checked` has the differences of each case that was run, by its words."""
-    kinds = dict.fromkeys(line.kind for line in told.alone)
-    parts = [f"<h1>All failures: {escape(title)}</h1>", *(warning(origin) for origin in origins if origin)]
-    parts += [listing([by_model(told, origins[0].program), by_frames(checked), *map(escape, told.summary)]), tools()]
+    plan, kinds = beforehand.plan, dict.fromkeys(line.kind for line in told.alone)
+    parts = [f"<h1>{escape(heading(title, beforehand))}</h1>", *dict.fromkeys(warning(origin) for origin in origins if origin)]
+    parts += [listing([*asked_words(beforehand), by_model(told, origins[0].program), by_frames(checked), *map(escape, told.summary)]), tools()]
     if plan.circuits:
         titles = ["customer", "lost before", "single failures that lose it", "the first of them", "pairs that lose it"]
         parts.append(f'<section id="customers"><h2>Customers</h2>{table("customers", titles, list(customers(plan, told)))}</section>')
@@ -73,4 +92,4 @@ def told_page(title, plan, told, checked, origins):
     words = f"Two failures: circuits are lost in {len(worst)} of {len(told.pairs)}"
     parts.append(f'</section><section id="pairs"><h2>{words}</h2>{table("those that lose most", COLUMNS, list(rows_of(worst[:WORST] + run, checked)))}</section>')
     parts += [folded("Where this comes from", origin_list(origin)) for origin in origins if origin]
-    return whole(f"All failures: {title}", "\n".join(parts), ["whatif.css"])
+    return whole(heading(title, beforehand), "\n".join(parts), ["whatif.css"])

@@ -155,7 +155,7 @@ def judge(case, plan, text, answer):
 
 
 FIXED = ["Case", "Kind", "Failure", "Status", "Stage", "Round", "Applied", "Kept", "Over", "Lost", "Odd", "Model"]
-SOURCE = ["Program", "Proof", "Version", "Sum", "Answered", "Plan"]
+SOURCE = ["Program", "Proof", "Version", "Sum", "Answered", "Plan", "Also", "Works"]
 
 
 def table_head(plan):
@@ -163,15 +163,16 @@ def table_head(plan):
     return FIXED + SOURCE + [circuit.name for circuit in plan.circuits]
 
 
-def source_cells(answer, plan_sum):
-    """Which program answered, whether it is proved, when, and the sum of the plan that was asked about."""
+def source_cells(answer, asked):
+    """Which program answered, whether it is proved, when, the sum of the plan that was asked about, and the steps before and of the works."""
     told = [answer.program, answer.proof, answer.version, answer.sum, answer.date] if answer else [""] * 5
-    return told + [plan_sum]
+    before = asked.beforehand
+    return told + [asked.plan_sum, "; ".join(before.also_texts()), "; ".join(before.works_texts())]
 
 
-def table_rows(plan, plan_sum, verdict):
+def table_rows(asked, verdict):
     """One row for each stage; empty cells where a stage didn't come."""
-    source = source_cells(verdict.answer, plan_sum)
+    plan, source = asked.beforehand.plan, source_cells(verdict.answer, asked)
     for name in verdict.case.stages:
         stage = verdict.stage(name)
         begin = [verdict.case.name, verdict.case.kind, verdict.case.words, verdict.status_words(), name]
@@ -184,9 +185,9 @@ def table_rows(plan, plan_sum, verdict):
         yield begin + [stage.round, applied, *counts, model, *source, *(stage.cells[circuit.name].short() for circuit in plan.circuits)]
 
 
-def write_table(path, plan, plan_sum, verdicts):
+def write_table(path, asked, verdicts):
     with open(path, "w", newline="", encoding="utf-8") as file:
         writer = csv.writer(file, lineterminator="\n")
-        writer.writerow(table_head(plan))
+        writer.writerow(table_head(asked.beforehand.plan))
         for verdict in verdicts:
-            writer.writerows(table_rows(plan, plan_sum, verdict))
+            writer.writerows(table_rows(asked, verdict))

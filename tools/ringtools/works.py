@@ -109,8 +109,9 @@ class Works:
         return f'<div class="wide"><table class="second">{head}<tbody>\n{rows}</tbody></table></div>' if rows else ""
 
     def section(self):
-        steps = ", ".join(f"<code>{escape(text)}</code>" for text in self.answers.beforehand.works_texts())
-        parts = [f'<section id="works"><h2>The works: {steps}</h2>']
+        beforehand = self.answers.beforehand
+        steps = ", ".join(f"<code>{escape(text)}</code>" for text in beforehand.works_texts())
+        parts = [f'<section id="works"><h2>The works: {escape("; ".join(beforehand.order))}</h2><p>By {steps}.</p>']
         if self.verdict is None:
             return parts[0] + "<p>The works themselves are in part 1.</p></section>"
         drawn = '<p><a href="cases/works.html">The works, drawn stage by stage</a></p>' if self.verdict.stages else ""

@@ -1,4 +1,4 @@
-"""A ring of four, its failures, and how the tests ask `whatif` about it."""
+"""A ring of four, its failures, and how the tests ask `sdhring-whatif` about it."""
 
 import csv
 import io
@@ -74,7 +74,7 @@ class Asking(unittest.TestCase):
         self.plan.write_text(document())
 
     def ask(self, *words, program=STANDIN, wanted=0, plan=None, **more):
-        ended = call("whatif", plan or self.plan, "--dir", self.top / "out", "--program", program, *words, **more)
+        ended = call("sdhring-whatif", plan or self.plan, "--dir", self.top / "out", "--program", program, *words, **more)
         self.assertEqual(ended.returncode, wanted, ended.stderr.decode())
         self.assertNotIn(b"Traceback", ended.stderr)
         return ended

@@ -1,5 +1,6 @@
-"""explain: each refusal beside a second reading of plans, and what it says of places, words and limits."""
+"""sdhring-explain: each refusal beside a second reading of plans, and what it says of places, words and limits."""
 
+import re
 import sys
 import tomllib
 import unittest
@@ -28,7 +29,7 @@ def answer_of(told):
 
 def said_of(text):
     """What the tool writes of a plan."""
-    ended = call("explain", "-", "--name", "plan", input=text.encode())
+    ended = call("sdhring-explain", "-", "--name", "plan", input=text.encode())
     return ended.returncode, ended.stdout.decode().splitlines()
 
 
@@ -85,15 +86,49 @@ class Refusals(unittest.TestCase):
         self.assertIn("`slot` is a key of a circuit", "\n".join(said_of("slot = 1\n" + GOOD)[1]))
 
     def test_an_overlap_names_the_other_circuit_and_free_slots(self):
-        said = call("explain", RINGS / "overlap.toml").stdout.decode()
+        said = call("sdhring-explain", RINGS / "overlap.toml").stdout.decode()
         self.assertIn("bad plan 9 at 2, overlap: circuit c1 has slot 1 between 1 and 2 (circuit 2, c2)", said)
         self.assertIn("nearest: 2\n", said)
+
+    def slots_offered(self, *circuits):
+        """What is said of circuit 2, which has the slot of circuit 1, and which slots are offered."""
+        ring = "rate = 16\nnodes = [1, 2, 3, 4]\nthreshold = 3\nwait = 10\nlimit = 1000\nscript = ['settle']\n"
+        for number, (start, end, slot) in enumerate(circuits, 1):
+            ring += f"[[circuit]]\nname = 'c{number}'\nfrom = {start}\nto = {end}\nslot = {slot}\ntext_a = 'from a {number}!'\ntext_b = 'from b {number}!'\n"
+        lines = said_of(ring)[1]
+        self.assertIn("bad plan 9 at 2", lines[0])
+        return lines[0], next((line.split(": ")[1] for line in lines if "right would be" in line), "")
+
+    def test_slots_that_later_circuits_hold_are_not_offered(self):
+        taken = [(1, 3, 1), (2, 4, 1), *((3, 1, slot) for slot in (3, 4, 5, 6, 7))]
+        self.assertEqual(self.slots_offered(*taken)[1], "2, 8")
+        self.assertEqual(self.slots_offered(*taken, (4, 2, 2))[1], "2, 8")
+        said, offered = self.slots_offered(*taken, (1, 4, 2), (2, 3, 8))
+        self.assertEqual(offered, "")
+        self.assertIn("circuit c1 has slot 1 between 2 and 3, and no slot is free all along its way", said)
+
+    def test_single_brackets(self):
+        """One `[circuit]` makes a table where an array is wanted; a second one, or `[[circuit]]` beside it, is no TOML."""
+        head, circuit = GOOD.split("[[circuit]]", 1)
+        ways = {"[": 6, "[ [": 5, "[ [[": 5, "[[ [": 5}
+        for ways_, status in ways.items():
+            text = head + "".join(f"{way}circuit{way.replace('[', ']')}{circuit}\n" for way in ways_.split())
+            told, lines = said_of(text)
+            at = text[: re.search(r"^\[circuit", text, re.M).start()].count("\n") + 1
+            with self.subTest(ways=ways_):
+                self.assertEqual((told, lines[0].split(":")[1]), (status, str(at)))
+                self.assertIn("in double brackets", lines[-1])
+                self.assertNotIn("1.1", "".join(lines))
+
+    def test_a_key_that_stands_twice(self):
+        lines = said_of(GOOD.replace("wait = 10", "wait = 10\nwait = 10"))[1]
+        self.assertIn("let each key and each table stand once", lines[-1])
 
     def test_later_mistakes_are_told_too(self):
         text = GOOD.replace('["settle"]', '["kut 2 east", "cut 9 east", "moment 5", "moment 4", "settle"]')
         lines = [line for line in said_of(text)[1] if line.startswith("plan:")]
         self.assertEqual(["bad plan 22 at 1" in lines[0], *("also reason" in line for line in lines[1:])], [True] * 3)
-        ended = call("explain", "--first", "-", input=text.encode())
+        ended = call("sdhring-explain", "--first", "-", input=text.encode())
         self.assertIn(b"2 more", ended.stdout)
         self.assertNotIn(b"also reason", ended.stdout)
 
@@ -178,21 +213,21 @@ class Good(unittest.TestCase):
                 self.assertEqual([found.head for found in told.findings if "text" in found.head and not told.status], [])
 
     def test_a_step_that_did_not_settle(self):
-        ended = call("explain", RINGS / "limit-too-small.toml", RINGS / "limit-too-small.text")
+        ended = call("sdhring-explain", RINGS / "limit-too-small.toml", RINGS / "limit-too-small.text")
         self.assertEqual(ended.returncode, 7)
         self.assertIn(b":6:11: unsettled 1:", ended.stdout)
         self.assertIn(b"write limit = 704", ended.stdout)
-        self.assertIn(b":5:9: unsettled: ", call("explain", RINGS / "limit-too-small.toml", "--status", "7").stdout)
-        ended = call("explain", RINGS / "healthy.toml", RINGS / "limit-too-small.text")
+        self.assertIn(b":5:9: unsettled: ", call("sdhring-explain", RINGS / "limit-too-small.toml", "--status", "7").stdout)
+        ended = call("sdhring-explain", RINGS / "healthy.toml", RINGS / "limit-too-small.text")
         self.assertIn(b"isn't of this plan", ended.stdout)
 
     def test_a_port_that_is_not_there(self):
-        said = call("explain", RINGS / "no-such-port.toml", RINGS / "no-such-port.text").stdout
+        said = call("sdhring-explain", RINGS / "no-such-port.toml", RINGS / "no-such-port.text").stdout
         self.assertIn(b"its circuits: c1", said)
 
     def test_no_file(self):
-        ended = call("explain", "/nowhere/plan")
-        self.assertEqual((ended.returncode, ended.stderr), (1, b"explain: /nowhere/plan: No such file or directory\n"))
+        ended = call("sdhring-explain", "/nowhere/plan")
+        self.assertEqual((ended.returncode, ended.stderr), (1, b"sdhring-explain: /nowhere/plan: No such file or directory\n"))
 
 
 class Places(unittest.TestCase):

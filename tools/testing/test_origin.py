@@ -10,17 +10,24 @@ from cases import Asking
 from common import STANDIN, bytes_of, call, ring
 from pages import Seen
 
+from ringtools.build import BuildProblem, read_build, write_build
 from ringtools.kept import read_answer
 from ringtools.origin import CannotRun, find_program
 from ringtools.progress import Progress, duration
+from ringtools.running import run_program
 
 LAUNCHER = """#!/bin/sh
 case "$*" in
-  --version) echo "sdhring 9.8.7, sources 0123456789ab, {state}" ;;
-  --where) [ -x {runs} ] && echo {runs} ;;
+  --where) {where} ;;
   *) exec {runs} "$@" ;;
 esac
 """
+BUILD = """version 9.8.7
+commit 0123456789abcdef0123456789abcdef01234567
+kit kit-of-the-test logic 0123
+program sdhring {sum} 89abcdef89abcdef89abcdef89abcdef89abcdef89abcdef89abcdef89abcdef
+"""
+VERSION = "sdhring 9.8.7, commit 0123456789ab, sources 89abcdef89ab"
 
 
 def sum_of(data):
@@ -28,101 +35,124 @@ def sum_of(data):
 
 
 def executable(path, text):
+    path.parent.mkdir(exist_ok=True)
     path.write_text(text)
     path.chmod(path.stat().st_mode | stat.S_IXUSR)
     return str(path)
 
 
 class Launched(unittest.TestCase):
-    """A checkout with a launcher, which runs the stand-in as a program of this name."""
+    """A launcher, which runs the stand-in as a program of which a BUILD tells or not."""
 
     def setUp(self):
         folder = tempfile.TemporaryDirectory()
         self.addCleanup(folder.cleanup)
         self.top = Path(folder.name)
-        (self.top / "crates.txt").write_text("")
 
-    def launcher(self, state, name, built=True):
-        runs = self.top / name
-        if built:
-            executable(runs, f'#!/bin/sh\nexec {STANDIN} "$@"\n')
-        return executable(self.top / "launcher", LAUNCHER.format(state=state, runs=runs)), runs
+    def launcher(self, recorded=True, where="echo {runs}"):
+        runs = Path(executable(self.top / "programs" / "sdhring", f'#!/bin/sh\nexec {STANDIN} "$@"\n'))
+        build = BUILD.format(sum=sum_of(runs.read_bytes()) if recorded else 64 * "0")
+        runs.with_name("BUILD").write_text(build)
+        return executable(self.top / "sdhring", LAUNCHER.format(where=where.format(runs=runs), runs=runs)), runs
 
-    def test_proved_and_not_proved(self):
-        for state, name, proof in (("proved", "ring", "proved"), ("not proved yet", "ring.unproved", "not proved"), ("proved", "ring.unproved", "not proved")):
-            launcher, runs = self.launcher(state, name)
-            with self.subTest(state=state, name=name):
+    def test_proved_and_not_known(self):
+        for recorded, version, proof in ((True, VERSION, "proved"), (False, "", "not known to be proved")):
+            launcher, runs = self.launcher(recorded)
+            with self.subTest(proof=proof):
                 program = find_program([launcher])
                 self.assertEqual((program.words, program.proof), ((str(runs),), proof))
-                self.assertEqual((program.sum, program.version), (sum_of(runs.read_bytes()), "sdhring 9.8.7, sources 0123456789ab"))
+                self.assertEqual((program.sum, program.version), (sum_of(runs.read_bytes()), version))
+                self.assertEqual(find_program([str(runs)]), program)
 
-    def test_a_launcher_builds_first(self):
-        """It is asked for a plan's tables, which runs nothing."""
-        launcher, runs = self.launcher("not proved yet", "ring.unproved", built=False)
-        text = Path(launcher).read_text().replace("*)", f'check) cat > {self.top}/asked; echo > {runs}; chmod +x {runs} ;;\n  *)')
-        program = find_program([executable(Path(launcher), text)], b"a plan")
-        self.assertEqual((program.words, (self.top / "asked").read_bytes()), ((str(runs),), b"a plan"))
+    def test_a_record_of_its_own(self):
+        """As --prove writes it, beside one program."""
+        _, runs = self.launcher()
+        runs.with_name("BUILD").rename(runs.with_name("sdhring.BUILD"))
+        self.assertEqual(find_program([str(runs)]).proof, "proved")
+        runs.with_name("sdhring.BUILD").rename(runs.with_name("sdhpath.BUILD"))
+        self.assertEqual(find_program([str(runs)]).proof, "not known to be proved")
+
+    def test_a_changed_program_is_not_known(self):
+        _, runs = self.launcher()
+        runs.write_text(runs.read_text() + "# changed\n")
+        self.assertEqual(find_program([str(runs)]).proof, "not known to be proved")
 
     def test_a_command_of_which_nothing_is_known(self):
         program = find_program(STANDIN.split())
         self.assertEqual((program.proof, program.version), ("not known to be proved", ""))
         self.assertNotEqual(program.sum, find_program([*STANDIN.split(), "unsettled"]).sum)
 
-    def test_a_launcher_that_cannot_build(self):
-        launcher = executable(self.top / "launcher", "#!/bin/sh\nexit 81\n")
-        with self.assertRaisesRegex(CannotRun, "ended with status 81"):
+    def test_a_launcher_that_has_no_program(self):
+        launcher, _ = self.launcher(where="exit 83")
+        with self.assertRaisesRegex(CannotRun, "ended with status 83, and has no program"):
             find_program([launcher])
         with self.assertRaises(CannotRun):
-            find_program(["/nowhere/sdhring"])
+            run_program(find_program(["/nowhere/sdhring"]).words, b"")
 
     def page_of(self, launcher, *words, **more):
-        ended = call("ringview", *words, "--program", launcher, **more)
+        ended = call("sdhring-view", *words, "--program", launcher, **more)
         self.assertEqual(ended.returncode, 0, ended.stderr.decode())
         return Seen(ended.stdout.decode()).text()
 
-    def test_ringview_runs_the_program(self):
-        launcher, runs = self.launcher("not proved yet", "ring.unproved")
+    def test_a_page_of_a_run(self):
+        launcher, runs = self.launcher(recorded=False)
         plan = ring("span-cut")[0]
         text = self.page_of(launcher, plan)
-        self.assertIn("The program that answered is not proved.", text)
-        for told in (str(runs), sum_of(runs.read_bytes()), "sdhring 9.8.7, sources 0123456789ab", sum_of(plan.read_bytes()), str(plan)):
+        self.assertIn("It isn't known whether the program that answered is proved.", text)
+        for told in (str(runs), sum_of(runs.read_bytes()), sum_of(plan.read_bytes()), str(plan)):
             self.assertIn(told, text)
-        launcher, _ = self.launcher("proved", "ring")
+        launcher, _ = self.launcher()
         text = self.page_of(launcher, "-", input=plan.read_bytes())
-        self.assertNotIn("not proved", text)
-        self.assertIn("Proved yes", text)
-        self.assertIn(sum_of(plan.read_bytes()), text)
+        self.assertNotIn("known whether", text)
+        for told in ("Proved yes", VERSION, sum_of(plan.read_bytes())):
+            self.assertIn(told, text)
 
-
-    def test_whatif_warns(self):
-        launcher, _ = self.launcher("not proved yet", "ring.unproved")
+    def test_a_page_and_a_table_of_cases(self):
+        launcher, runs = self.launcher(recorded=False)
         words = [ring("two-nodes")[0], "--dir", self.top / "out", "--kinds", "span", "--program", launcher]
-        ended = call("whatif", *words)
+        ended = call("sdhring-whatif", *words)
         self.assertEqual(ended.returncode, 0, ended.stderr.decode())
-        self.assertIn(b"ring.unproved is not proved; ./sdhring --prove proves it", ended.stderr)
-        self.assertIn("The program that answered is not proved.", Seen((self.top / "out" / "page.html").read_text()).text())
-        self.assertIn("ring.unproved,not proved,", (self.top / "out" / "table.csv").read_text())
-        self.launcher("proved", "ring")
-        self.assertNotIn(b"proved", call("whatif", *words).stderr.replace(b"out/", b""))
+        self.assertIn(f"the program {runs} is not known to be proved".encode(), ended.stderr)
+        self.assertIn("It isn't known whether", Seen((self.top / "out" / "page.html").read_text()).text())
+        self.launcher()
+        self.assertNotIn(b"proved", call("sdhring-whatif", *words).stderr)
         self.assertIn("Proved yes", Seen((self.top / "out" / "page.html").read_text()).text())
+        self.assertIn(f'{runs},proved,"{VERSION}",', (self.top / "out" / "table.csv").read_text())
+
+
+class Builds(unittest.TestCase):
+    def test_read_and_written(self):
+        """BUILDs put one after the other are one again."""
+        text = BUILD.format(sum=64 * "1")
+        records = read_build(text + text.replace("9.8.7", "9.9.0").replace("sdhring", "sdhpath"))
+        self.assertEqual([(record.name, record.version) for record in records], [("sdhring", "9.8.7"), ("sdhpath", "9.9.0")])
+        self.assertEqual(read_build(write_build(records)), records)
+        self.assertEqual(records[0].words(), VERSION)
+
+    def test_what_is_none(self):
+        text = BUILD.format(sum=64 * "1")
+        for old, new, said in (("kit kit-of-the-test logic 0123\n", "", "line 3: no kit stands before"), ("program sdhring", "programs sdhring", "line 4: no record"), ("1111 89", "1111  89", "line 4: no record")):
+            self.assertIn(old, text)
+            with self.assertRaisesRegex(BuildProblem, said):
+                read_build(text.replace(old, new))
 
 
 class Texts(unittest.TestCase):
-    """ringview over a text that was written before."""
+    """sdhring-view over a text that was written before."""
 
     def test_a_text_alone_names_no_program(self):
         plan, text = ring("span-cut")
-        shown = Seen(call("ringview", plan, text).stdout.decode()).text()
+        shown = Seen(call("sdhring-view", plan, text).stdout.decode()).text()
         self.assertIn("not known, since the program's text doesn't name it", shown)
         self.assertIn(sum_of(plan.read_bytes()), shown)
 
     def test_standard_input(self):
         plan, text = ring("span-cut")
         body = lambda ended: Seen(ended.stdout.decode()).text().split("Where this comes from")[0]
-        whole = body(call("ringview", plan, text))
-        self.assertEqual(body(call("ringview", plan, "-", input=text.read_bytes())), whole)
-        self.assertEqual(body(call("ringview", "-", text, input=plan.read_bytes())).replace("standard input", plan.name), whole)
-        ended = call("ringview", "-", "-", input=b"")
+        whole = body(call("sdhring-view", plan, text))
+        self.assertEqual(body(call("sdhring-view", plan, "-", input=text.read_bytes())), whole)
+        self.assertEqual(body(call("sdhring-view", "-", text, input=plan.read_bytes())).replace("standard input", plan.name), whole)
+        ended = call("sdhring-view", "-", "-", input=b"")
         self.assertEqual((ended.returncode, ended.stdout), (1, b""))
         self.assertIn(b"only one of PLAN, REPORT and the outages", ended.stderr)
 
@@ -178,9 +208,9 @@ class Answers(Asking):
     def test_ringview_reads_the_answer_beside_a_text(self):
         self.ask("--kinds", "span")
         words = [self.cases() / f"span-7-9.{kind}" for kind in ("toml", "text")]
-        self.assertIn("standin", Seen(call("ringview", *words).stdout.decode()).text())
+        self.assertIn("standin", Seen(call("sdhring-view", *words).stdout.decode()).text())
         words[0].write_bytes(words[0].read_bytes() + b"# changed\n")
-        self.assertIn("not known, since", Seen(call("ringview", *words).stdout.decode()).text())
+        self.assertIn("not known, since", Seen(call("sdhring-view", *words).stdout.decode()).text())
 
     def test_warnings(self):
         self.assertIn(b"is not known to be proved", self.ask("--kinds", "span").stderr)

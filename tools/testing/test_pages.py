@@ -23,7 +23,7 @@ const note = () => told.push(lit() + "|" + figure.querySelector(".told").textCon
 figure.querySelector('.circuit[data-circuit="c1"] path').dispatchEvent(new MouseEvent("click", { bubbles: true })); note();
 figure.querySelector('.circuit[data-circuit="c1"] path').dispatchEvent(new MouseEvent("click", { bubbles: true })); note();
 figure.querySelector('[tabindex="0"]').focus(); key("Enter"); note();
-key("ArrowRight"); note(); key("End"); note(); key("Escape"); note();
+key("ArrowRight"); note(); key("Enter"); note(); key(" "); note(); key("End"); note(); key("Escape"); note();
 document.querySelector('tr[data-circuit="c1"] button').click(); note();
 document.querySelector('#step2 tr[data-circuit="c1"] button').click(); note();
 document.querySelector("button.unfold").click();
@@ -34,7 +34,7 @@ told.push(document.documentElement.scrollWidth <= document.documentElement.clien
 
 @cache
 def page_of(name):
-    return call("ringview", *ring(name)).stdout.decode()
+    return call("sdhring-view", *ring(name)).stdout.decode()
 
 
 def luminance(colour):
@@ -122,13 +122,13 @@ class Looks(unittest.TestCase):
             self.assertLessEqual(set(re.findall(r"var\(--([a-z-]+)\)", style)), set(self.palettes()[0]))
 
     def test_drawings_alone_need_no_palette(self):
-        drawing = call("ringview", "--svg", "1", *ring("span-cut")).stdout.decode()
+        drawing = call("sdhring-view", "--svg", "1", *ring("span-cut")).stdout.decode()
         self.assertNotIn("var(", drawing)
         self.assertIn("stroke: " + self.palettes()[0]["own"], drawing)
 
     def test_the_documents_drawings_are_of_today(self):
         for name in ("span-cut", "node-cut-off"):
-            drawn = call("ringview", "--svg", "1", *ring(name)).stdout
+            drawn = call("sdhring-view", "--svg", "1", *ring(name)).stdout
             self.assertEqual((TOOLS.parent / "docs" / f"looking-{name}.svg").read_bytes(), drawn)
 
     def test_paper(self):
@@ -142,7 +142,7 @@ class Looks(unittest.TestCase):
             plan = Path(folder) / "plan.toml"
             plan.write_text(ring("healthy")[0].read_text().replace('script = ["settle"]', f"script = {['settle'] * 30}".replace("'", '"')))
             text = call("testing/standin", "run", input=plan.read_bytes()).stdout
-            page = Seen(call("ringview", plan, "-", input=text).stdout.decode())
+            page = Seen(call("sdhring-view", plan, "-", input=text).stdout.decode())
         titles = [rows[0] for name, rows in page.tables if name.startswith("Customers after")]
         self.assertEqual([title for row in titles for title in row if title != "customer"], [f"step {number}" for number in range(1, 31)])
         self.assertLessEqual(max(map(len, titles)), 13)
@@ -150,7 +150,7 @@ class Looks(unittest.TestCase):
 
 class Manuals(unittest.TestCase):
     def test_each_option_is_told(self):
-        for tool in ("ringview", "whatif"):
+        for tool in ("sdhring-view", "sdhring-whatif"):
             manual = (TOOLS.parent / "docs" / f"{tool}.1").read_text().replace("\\-", "-")
             options = set(re.findall(r"--[a-z]+", call(tool, "--help").stdout.decode())) - {"--help"}
             self.assertEqual(set(re.findall(r"^\.TP\n\.(?:BI|B) (--[a-z]+)", manual, re.M)), options)
@@ -165,9 +165,10 @@ class Browser(unittest.TestCase):
     def test_lighting_and_unfolding(self):
         told = browsed(page_of("end-of-waiting"), DEEDS)
         circuit = "circuit c1, 1 to 3, slot 1"
-        self.assertEqual(told[:4], [f"c1|{circuit}", f"|{circuit}", f"c1|{circuit}", "c1|node 1"])
-        self.assertRegex(told[4], r"^c1\|fibre \d → \d$")
-        self.assertEqual((told[5].split("|")[0], told[6].split("|")[0], told[7:]), ("", "c1", [f"|{circuit}", "true", "true"]))
+        self.assertEqual(told[:3], [f"c1|{circuit}", f"|{circuit}", f"c1|{circuit}"])
+        self.assertEqual(told[3:6], ["c1|node 1"] * 3)  # reached by an arrow; Enter and the space bar leave the circuit lit
+        self.assertRegex(told[6], r"^c1\|fibre \d → \d$")
+        self.assertEqual((told[7].split("|")[0], told[8].split("|")[0], told[9:]), ("", "c1", [f"|{circuit}", "true", "true"]))
 
 
 if __name__ == "__main__":

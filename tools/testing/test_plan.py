@@ -147,12 +147,12 @@ class Index(unittest.TestCase):
 
 class New(unittest.TestCase):
     def made(self, *words):
-        ended = call("plan", "new", *words)
+        ended = call("sdhring-plan", "new", *words)
         self.assertEqual((ended.returncode, ended.stderr), (0, b""))
         return ended.stdout
 
     def refused(self, said, *words):
-        ended = call("plan", "new", *words)
+        ended = call("sdhring-plan", "new", *words)
         self.assertEqual((ended.returncode, ended.stdout), (1, b""))
         self.assertIn(said, ended.stderr.decode())
 
@@ -190,7 +190,7 @@ class New(unittest.TestCase):
         with tempfile.TemporaryDirectory() as folder:
             file = Path(folder) / "ring.toml"
             self.assertEqual(self.made("--to", file, "1>2"), b"")
-            self.assertIn(f"./sdhring run < {file}", file.read_text())
+            self.assertIn(f"sdhring run < {file}", file.read_text())
             self.refused("File exists", "--to", file, "1>3")
             self.assertIn("from = 1\nto = 2", file.read_text())
 

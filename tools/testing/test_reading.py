@@ -149,7 +149,7 @@ class Calls(unittest.TestCase):
             files = Path(folder) / "plan", Path(folder) / "text"
             for file, data in zip(files, (plan, text)):
                 file.write_bytes(data)
-            ended = call("ringview", *files, *words)
+            ended = call("sdhring-view", *files, *words)
         self.assertEqual((ended.returncode, ended.stdout), (1, b""))
         self.assertNotIn(b"Traceback", ended.stderr)
         return ended.stderr.decode()
@@ -168,7 +168,7 @@ class Calls(unittest.TestCase):
         self.assertIn("nothing to draw", self.refused(*bytes_of("bad-slot"), "--svg", "1"))
 
     def test_files_that_are_not_there(self):
-        for tool, words in (("ringview", ("/nowhere/plan", "/nowhere/text")), ("whatif", ("/nowhere/plan",))):
+        for tool, words in (("sdhring-view", ("/nowhere/plan", "/nowhere/text")), ("sdhring-whatif", ("/nowhere/plan",))):
             ended = call(tool, *words)
             self.assertEqual(ended.returncode, 1)
             self.assertIn(b"/nowhere/plan: No such file", ended.stderr)

@@ -15,12 +15,12 @@ FORMATS = (TOOLS.parent / "docs" / "FORMATS.md").read_text()
 
 
 def as_json(name, *words):
-    ended = call("report", "--json", RINGS / f"{name}.text", *words)
+    ended = call("sdhring-report", "--json", RINGS / f"{name}.text", *words)
     return ended.returncode, json.loads(ended.stdout)
 
 
 def as_csv(name, *words):
-    ended = call("report", "--csv", RINGS / f"{name}.text", *words)
+    ended = call("sdhring-report", "--csv", RINGS / f"{name}.text", *words)
     return ended.returncode, list(csv.DictReader(io.StringIO(ended.stdout.decode())))
 
 
@@ -68,13 +68,13 @@ class Json(unittest.TestCase):
         self.assertEqual(as_json("limit-too-small")[1]["unsettled"], 1)
 
     def test_a_text_of_another_plan_is_refused(self):
-        ended = call("report", "--json", RINGS / "span-cut.text", "--plan", RINGS / "two-nodes.toml")
+        ended = call("sdhring-report", "--json", RINGS / "span-cut.text", "--plan", RINGS / "two-nodes.toml")
         self.assertEqual((ended.returncode, ended.stdout), (1, b""))
         self.assertIn(b"line 2: ", ended.stderr)
 
     def test_a_broken_text_is_refused(self):
         for text in (b"", b"done", b"settle 1 round 127\ndone\n", bytes_of("span-cut")[1][:-5], b"\xff\n", bytes_of("mending")[1].replace(b"port c1 a", b"port c2 a", 1)):
-            ended = call("report", "--json", input=text)
+            ended = call("sdhring-report", "--json", input=text)
             self.assertEqual((ended.returncode, ended.stdout), (1, b""), text)
             self.assertNotIn(b"Traceback", ended.stderr)
 

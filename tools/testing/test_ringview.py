@@ -1,4 +1,4 @@
-"""Facts of ringview's pages over rings whose texts are known."""
+"""Facts of the pages of sdhring-view over rings whose texts are known."""
 
 import re
 import tempfile
@@ -32,7 +32,7 @@ REFUSED = {
 
 @cache
 def page_of(name, *words):
-    ended = call("ringview", *ring(name), *words)
+    ended = call("sdhring-view", *ring(name), *words)
     if ended.returncode != 0:
         raise AssertionError(ended.stderr.decode())
     return ended.stdout.decode()
@@ -80,7 +80,7 @@ class Pages(unittest.TestCase):
         with tempfile.NamedTemporaryFile("w") as changed:
             changed.write(text.read_text().replace(old, new))
             changed.flush()
-            return Seen(call("ringview", plan, changed.name).stdout.decode()).text()
+            return Seen(call("sdhring-view", plan, changed.name).stdout.decode()).text()
 
     def test_what_is_not_owed_stands_first(self):
         words = self.words_of_changed("span-cut", "00636465", "00646566")
@@ -161,6 +161,17 @@ class Pages(unittest.TestCase):
                 self.assertIn(where, text)
                 self.assertIn(ring(name)[1].read_text().strip(), text)
 
+    def test_a_report_of_a_path_ring_is_refused(self):
+        paths = RINGS.parent / "paths"
+        for name in ("one-fibre-cut", "both-ways-cut"):
+            plan, text = paths / f"{name}.toml", paths / f"{name}.text"
+            ended = call("sdhring-view", plan, text)
+            self.assertEqual((ended.returncode, ended.stdout), (1, b""))
+            self.assertIn(f"sdhring-view: {text}: a report without a line of a node, as sdhpath writes them", ended.stderr.decode())
+        ended = call("sdhring-view", paths / "shared-slot.toml", paths / "shared-slot.text")
+        self.assertEqual((ended.returncode, ended.stdout), (1, b""))
+        self.assertIn(b"is a refusal of sdhpath, whose path ring isn't drawn", ended.stderr)
+
     def test_a_run_that_does_not_settle(self):
         self.assertIn("Settle step 1 didn't settle within the limit of 128 rounds", read("limit-too-small").text())
 
@@ -184,7 +195,7 @@ class Outages(unittest.TestCase):
     """A page with what `sdhoutage` tells beside the ports."""
 
     def page(self, outages=WORKS_OUT, plan=WORKS):
-        ended = call("ringview", "--outages", outages, *plan)
+        ended = call("sdhring-view", "--outages", outages, *plan)
         self.assertEqual((ended.returncode, ended.stderr), (0, b""))
         return Seen(ended.stdout.decode())
 
@@ -195,7 +206,7 @@ class Outages(unittest.TestCase):
         with tempfile.NamedTemporaryFile("w") as changed:
             changed.write(text.replace(old, new, 1))
             changed.flush()
-            ended = call("ringview", "--outages", changed.name, *WORKS)
+            ended = call("sdhring-view", "--outages", changed.name, *WORKS)
         self.assertEqual((ended.returncode, ended.stdout), (1, b""))
         return ended.stderr.decode().replace(changed.name, "FILE")
 
@@ -226,22 +237,42 @@ class Outages(unittest.TestCase):
             page, told = self.page(OUTAGES / f"{name}.text", ring(name)), []
             for number in range(len(page.tables_of("Circuits"))):
                 told += [row[f"out at port {end}"] for row in page.table_named("Circuits", number) for end in "ab"]
-            wanted = [line.split(" ")[4:7:2] for line in (OUTAGES / f"{name}.text").read_text().splitlines() if line.startswith("port ")]
-            frames = lambda out, ms: "none" if out == "0" else f"{out} frame{'s' if out != '1' else ''}, {ms} ms"
-            self.assertEqual(told, [frames(*pair) for pair in wanted])
+            wanted = [line.split(" ")[4:9:2] for line in (OUTAGES / f"{name}.text").read_text().splitlines() if line.startswith("port ")]
+            begin = lambda first: "none; first bytes after " if first == "0" else ""
+            frames = lambda out, ms, first: "none" if out == "0" else f"{begin(first)}{out} frame{'s' if out != '1' else ''}, {ms} ms"
+            self.assertEqual(told, [frames(*line) for line in wanted])
+
+    def test_the_ring_s_start_is_no_outage(self):
+        page = self.page()
+        rows = {row["customer"]: row for row in page.table_named("Customers")}
+        shown = {row["step 1"] for name, row in rows.items() if not name.startswith("all")}
+        self.assertEqual(shown, {f"kept out: none; first bytes after {words}" for words in ("1 frame, 0.125 ms", "2 frames, 0.250 ms")})
+        self.assertIn("each port's first bytes came after at most 2 frames, 0.250 ms. Else no port was without its own customer's bytes in this step.", page.text())
+
+    def test_a_start_and_more_in_one_stretch(self):
+        """Rounds that brought bytes amid those that brought none: the start isn't all of it."""
+        line = "port north a out 2 ms 0.250 from 0 to 1 ais 2 ones 0 jump 0 strange 0"
+        text = WORKS_OUT.read_text()
+        self.assertEqual(text.count(line), 1)
+        with tempfile.NamedTemporaryFile("w") as changed:
+            changed.write(text.replace(line, line.replace("to 1", "to 9")))
+            changed.flush()
+            page = self.page(changed.name)
+        self.assertIn("2 frames, 0.250 ms, the ring's start among them", page.text())
+        self.assertIn("The longest outage in this step: 2 frames, 0.250 ms, at north a. 5 of 6 ports had none.", page.text())
 
     def test_without_them_a_page_is_as_it_was(self):
-        page = Seen(call("ringview", *WORKS).stdout.decode())
+        page = Seen(call("sdhring-view", *WORKS).stdout.decode())
         self.assertEqual(list(page.table_named("Circuits")[0]), ["circuit", "what became of it", "way from a to b now", "from, to", "#"])
         self.assertNotIn("out:", page.text())
         self.assertNotIn("without its own customer's bytes", page.text())
 
     def test_standard_input(self):
-        ended = call("ringview", "--outages", "-", *WORKS, input=WORKS_OUT.read_bytes())
+        ended = call("sdhring-view", "--outages", "-", *WORKS, input=WORKS_OUT.read_bytes())
         self.assertEqual(ended.returncode, 0)
         self.assertIn("told by <code>standard input</code>", ended.stdout.decode())
-        ended = call("ringview", "--outages", "-", WORKS[0], "-", input=b"")
-        self.assertEqual(ended.stderr, b"ringview: only one of PLAN, REPORT and the outages can be standard input\n")
+        ended = call("sdhring-view", "--outages", "-", WORKS[0], "-", input=b"")
+        self.assertEqual(ended.stderr, b"sdhring-view: only one of PLAN, REPORT and the outages can be standard input\n")
 
     def test_texts_that_are_none_or_another_s(self):
         line = "port north a out 12 ms 1.500 from 130 to 141 ais 10 ones 2 jump 0 strange 0"
@@ -249,7 +280,7 @@ class Outages(unittest.TestCase):
             line.replace("out 12", "out 13"), line.replace("1.500", "1.501"), line.replace("to 141", "to 140"), line.replace("from 130", "from -"),
             line.replace("north", "south"), line.replace("130", "128"), line.replace("141", "257"), line + " ", line.replace("ais 10", "ais 010"),
         ):  # fmt: skip
-            self.assertIn("ringview: FILE: line 10: ", self.said(line, changed), changed)
+            self.assertIn("sdhring-view: FILE: line 10: ", self.said(line, changed), changed)
         self.assertIn("line 16: not what the ports' lines come to", self.said("longest 12 ms 1.500 none 2", "longest 12 ms 1.500 none 3"))
         self.assertIn("line 9: a settle step can't end with this round", self.said("settle 2 round 256", "settle 2 round 250"))
         self.assertIn("settle step 4 ends with round 640, and in the report with round 512", self.said("settle 4 round 512", "settle 4 round 640"))

@@ -1,4 +1,4 @@
-"""whatif over small rings, counted against the restoration model by its definitions."""
+"""sdhring-whatif over small rings, counted against the restoration model by its definitions."""
 
 import hashlib
 import shutil
@@ -106,6 +106,14 @@ class Whatif(Asking):
         self.assertEqual({row["Plan"] for row in self.table()}, {hashlib.sha256(document().encode()).hexdigest()})
         self.assertIn("8 failures of a ring with 4 circuits were run: 4 spans, 4 nodes.", self.words())
 
+    def test_a_script_that_is_left_aside(self):
+        left = "The plan's own script is left aside"
+        self.ask("--kinds", "span")
+        self.assertNotIn(left, self.words())
+        self.plan.write_text(document().replace('["settle"]', '["forced 2 east", "settle"]'))
+        self.ask("--kinds", "span")
+        self.assertIn(left, self.words())
+
     def small(self):
         self.plan.write_text(ring("two-nodes")[0].read_text())
 
@@ -139,7 +147,7 @@ class Whatif(Asking):
 
     def test_stopped_and_taken_up_again(self):
         self.small()
-        words = [sys.executable, TOOLS / "whatif", self.plan, "--dir", self.top / "out", "--program", f"{STANDIN} slow 0.4", "--jobs", "2"]
+        words = [sys.executable, TOOLS / "sdhring-whatif", self.plan, "--dir", self.top / "out", "--program", f"{STANDIN} slow 0.4", "--jobs", "2"]
         running = subprocess.Popen(words, stderr=subprocess.PIPE, stdout=subprocess.PIPE)
         until = time.monotonic() + 60
         while len(self.times()) < 3 and time.monotonic() < until:

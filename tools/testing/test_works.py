@@ -24,9 +24,9 @@ class Orders(unittest.TestCase):
         self.plan = read_plan(document().encode())
 
     def test_spans_and_nodes(self):
-        self.assertEqual(works_steps(self.plan, "span 2-9"), ["forced 2 east"])
-        self.assertEqual(works_steps(self.plan, "span 9–2"), ["forced 2 east"])
-        self.assertEqual(works_steps(self.plan, "span 5-4"), ["forced 4 east"])
+        self.assertEqual(works_steps(self.plan, "span 2-9"), ["forced 2 east", "forced 9 west"])
+        self.assertEqual(works_steps(self.plan, "span 9–2"), ["forced 2 east", "forced 9 west"])
+        self.assertEqual(works_steps(self.plan, "span 5-4"), ["forced 4 east", "forced 5 west"])
         self.assertEqual(works_steps(self.plan, "node 5"), ["forced 4 east", "forced 2 west"])
         self.assertEqual(works_steps(self.plan, "manual 2 east"), ["manual 2 east"])
         for words in ("span 5-9", "span 2-2", "span 2-7", "node 3"):
@@ -36,7 +36,7 @@ class Orders(unittest.TestCase):
     def test_a_ring_of_two(self):
         """Both its spans join the same nodes: the one that leads eastwards from the first is meant."""
         plan = read_plan(document([("p", 5, 2, 1)]).replace("nodes = [5, 2, 9, 4]", "nodes = [5, 2]").encode())
-        self.assertEqual([works_steps(plan, words) for words in ("span 5-2", "span 2-5")], [["forced 5 east"], ["forced 2 east"]])
+        self.assertEqual([works_steps(plan, words) for words in ("span 5-2", "span 2-5")], [["forced 5 east", "forced 2 west"], ["forced 2 east", "forced 5 west"]])
 
     def test_undoing(self):
         """All is put back to what it was before the works, and what they set twice only once."""
@@ -87,12 +87,15 @@ class Works(Asking):
     def test_a_forced_switch(self):
         self.ask("--works", "span 2-9")
         self.assertEqual(Counter(row["Kind"] for row in self.table()), {"works": 4, "fibre": 32, "span": 16, "node": 16})
-        stages = self.check_stages(["settle", "forced 2 east", "settle", "clear 2 east", "settle", "moment 10", "settle"])
+        steps = ["forced 2 east", "forced 9 west"]
+        stages = self.check_stages(["settle", *steps, "settle", "clear 9 west", "clear 2 east", "settle", "moment 10", "settle"])
         self.assertEqual(stages[0], stages[2])
-        self.check_second(["forced 2 east"])
+        self.check_second(steps)
         self.assertIn("Free of traffic under each of them: 1 span, 2–9.", self.words())
         self.assertEqual(self.words().count("each customer as before."), 2)
         self.assertIn("no switch is hitless", self.words())
+        self.assertIn("The works: span 2-9", self.words())
+        self.assertEqual({(row["Also"], row["Works"]) for row in self.table()}, {("", "forced 2 east; forced 9 west")})
 
     def test_a_manual_switch_gives_way(self):
         self.ask("--works", "manual 2 east")
@@ -109,7 +112,10 @@ class Works(Asking):
         self.check_second(steps, ("span",), "a span")
 
     def test_unknown_orders(self):
-        self.assertIn(b"no span leads from node 5 to node 9", self.ask("--works", "span 5-9", wanted=1).stderr)
+        self.assertIn(b"no span joins node 5 and node 9; the spans are 5-2, 2-9, 9-4, 4-5", self.ask("--works", "span 5-9", wanted=1).stderr)
+        for words in ("span 2", "span 2 9", "span"):
+            self.assertIn(f"`{words}` isn't a part of an order: a span is named by the nodes at its ends, as `span 2-3`", self.ask("--works", words, wanted=1).stderr.decode())
+        self.assertIn(b"`node 2-9` isn't a part of an order: a node is named alone", self.ask("--works", "node 2-9", wanted=1).stderr)
         self.assertIn(b"isn't known", self.ask("--works", "free 5-9", wanted=1).stderr)
 
 

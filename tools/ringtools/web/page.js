@@ -30,12 +30,17 @@
     items[to].focus();
   };
 
+  // A key on a node or a fibre leaves the circuit lit that was.
+  const lightItem = (item) => {
+    if (item.dataset.circuit) light(item.dataset.circuit);
+  };
+
   const onKey = (items, event) => {
     const item = event.target.closest(".item");
     const from = items.indexOf(item);
     if (from < 0) return;
     if (/^(Arrow|Home|End)/.test(event.key)) move(items, from, event.key);
-    else if (event.key === "Enter" || event.key === " ") light(item.dataset.circuit || null);
+    else if (event.key === "Enter" || event.key === " ") lightItem(item);
     else if (event.key === "Escape") light(null);
     else return;
     event.preventDefault();

@@ -1,0 +1,250 @@
+"""A release: programs with their BUILD in dist/, and the archives of it, the same bytes from the same commit."""
+
+import gzip
+import io
+import lzma
+import os
+import shutil
+import subprocess
+import tarfile
+from pathlib import Path
+
+from .build import HOME, PROGRAMS, Record, read_build, sum_of, write_build
+from .installing import TOOLS, Piece, install, is_run, modules, put, released, texts, version, words_of_the_field
+
+DIST = HOME / "dist"
+PLATFORM = "x86_64-linux"
+OF_SOURCES = ("crates", "crates.txt", "HANDLES", "VERSION")
+MAINTAINER = "The sdhring project <sdhring@example.org>"
+SUMMARY = "SDH ring in software, proved: run plans, read what customers get"
+ABOUT = """\
+ Runs a two-fibre MS-SPRing (after ITU-T G.841) of a plan frame by frame, STM-4
+ or STM-16, and reports which customers keep their traffic under cuts,
+ degradations and switch commands. The programs are proved to report what the
+ restoration rules say. With tools that draw runs, ask what fails when, and
+ explain plans."""
+COPYRIGHT = """\
+Format: https://www.debian.org/doc/packaging-manuals/copyright-format/1.0/
+Upstream-Name: sdhring
+
+Files: *
+Copyright: 2026 the authors of sdhring
+License: none-chosen
+ No licence has been chosen yet. All rights are with the authors.
+"""
+OVERRIDES = """\
+# Built by the Rattle kit, whose linker takes no flags: the files are what is proved, to the byte.
+sdhring: hardening-no-pie [usr/lib/sdhring/sdh*]
+sdhring: hardening-no-relro [usr/lib/sdhring/sdh*]
+sdhring: unstripped-binary-or-object [usr/lib/sdhring/sdh*]
+"""
+
+
+class ReleaseProblem(Exception):
+    """No release can be made of this."""
+
+
+def said_by(*words, cwd=HOME):
+    ended = subprocess.run(words, cwd=cwd, stdin=subprocess.DEVNULL, stdout=subprocess.PIPE, text=True)
+    if ended.returncode:
+        raise ReleaseProblem(f"{' '.join(map(str, words))} ended with status {ended.returncode}")
+    return ended.stdout.strip()
+
+
+def sources_of(name):
+    """The checksum of a program's sources as they stand."""
+    return said_by(HOME / name, "--sources")
+
+
+def in_dist():
+    """The records of dist/BUILD by the programs' names; none where there is no release yet."""
+    path = DIST / "BUILD"
+    return {record.name: record for record in read_build(path.read_text(encoding="ascii"))} if path.is_file() else {}
+
+
+def built(name):
+    """The program that the gate has built."""
+    return HOME / "crates" / name / "out" / name
+
+
+# -- dist/
+
+
+def newest_source():
+    """When a source was changed last, as far as the machine knows."""
+    parts = [path for crate in (HOME / "crates").iterdir() for part in ("src", "specs", "proofs") if (path := crate / part).is_dir()]
+    return max(path.stat().st_mtime for part in parts for path in part.rglob("*") if path.is_file())
+
+
+def found_programs(folder):
+    """The built programs: of a folder, or of the gate, which has to have built them after the last change of a source."""
+    files = {name: folder / name if folder else built(name) for name in PROGRAMS}
+    missing = [str(path) for path in files.values() if not path.is_file()]
+    if missing:
+        raise ReleaseProblem(f"{missing[0]} isn't there: rt ci builds it")
+    if not folder and min(path.stat().st_mtime for path in files.values()) < newest_source():
+        raise ReleaseProblem("a source is newer than a built program: rt ci builds them again")
+    return {name: path.read_bytes() for name, path in files.items()}
+
+
+def refresh(folder=None):
+    """Puts the built programs into dist/, with the commit of the sources that they were built of."""
+    if changed := said_by("git", "status", "--porcelain", "--", *OF_SOURCES):
+        raise ReleaseProblem(f"what programs are built of isn't committed:\n{changed}")
+    commit, kit = said_by("git", "rev-parse", "HEAD"), said_by("rt", "version")
+    files = found_programs(folder)
+    records = [Record(name, sum_of(files[name]), sources_of(name), version(), commit, kit) for name in PROGRAMS]
+    for name, data in files.items():
+        put(DIST / name, Piece(data, is_run=True))
+    put(DIST / "BUILD", Piece(write_build(records).encode("ascii")))
+    return records
+
+
+def compare():
+    """What is said of each program of dist/ beside the one that the gate has built; and whether one differs."""
+    records, differs = in_dist(), False
+    if not records:
+        return ["dist/: there is no release yet"], False
+    said = []
+    for name in PROGRAMS:
+        record, file = records.get(name), DIST / name
+        if record is None or not file.is_file() or sum_of(file.read_bytes()) != record.sum:
+            said.append(f"dist/{name}: isn't the program that dist/BUILD tells of")
+            differs = True
+        elif record.sources != sources_of(name):
+            said.append(f"dist/{name}: of release {record.version}, commit {record.commit[:12]}; the sources have changed since")
+        elif built(name).read_bytes() != file.read_bytes():
+            said.append(f"dist/{name}: DIFFERS from what these sources build, though its sources are these")
+            differs = True
+        else:
+            said.append(f"dist/{name}: the same bytes as these sources build")
+    return said, differs
+
+
+# -- archives
+
+
+def unpacked(commit, folder):
+    """The files of a commit, below a folder."""
+    data = subprocess.run(["git", "archive", "--format=tar", commit], cwd=HOME, stdout=subprocess.PIPE, check=True).stdout
+    with tarfile.open(fileobj=io.BytesIO(data)) as archive:
+        archive.extractall(folder, filter="data")
+
+
+def tree():
+    """What the tarball has, by path: a checkout without sources, where launchers, tools and documents lie as they do there."""
+    found = {name: Piece((HOME / name).read_bytes(), is_run=True) for name in (*PROGRAMS, *TOOLS)}
+    found["VERSION"] = Piece((HOME / "VERSION").read_bytes())
+    found |= {f"dist/{name}": Piece((DIST / name).read_bytes(), is_run=True) for name in PROGRAMS}
+    found["dist/BUILD"] = Piece((DIST / "BUILD").read_bytes())
+    found["tools/completion.bash"] = Piece(released((HOME / "tools" / "completion.bash").read_text(encoding="utf-8")).encode("utf-8"))
+    for name in map(str, modules()):
+        found[f"tools/{name}"] = Piece((HOME / "tools" / name).read_bytes(), is_run=is_run(HOME / "tools" / name))
+    for path, _ in texts():
+        text = path.read_bytes()
+        if path.suffix in (".md", ".1"):
+            text = released(text.decode("utf-8")).encode("utf-8")
+        found[str(path.relative_to(HOME))] = Piece(text)
+    found["docs/WORDS.md"] = Piece(words_of_the_field())
+    found |= {f"docs/{path.name}": Piece(path.read_bytes()) for path in sorted((HOME / "docs").glob("*.svg"))}
+    return found
+
+
+def member(name, piece, moment):
+    """The head of one file in an archive: nothing of it is this machine's or this user's."""
+    head = tarfile.TarInfo(name)
+    head.mtime, head.mode, head.size = moment, 0o755 if piece.is_run else 0o644, len(piece.data)
+    if piece.link:
+        head.type, head.linkname, head.mode = tarfile.SYMTYPE, piece.link, 0o777
+    return head
+
+
+def tarball(path, moment):
+    top, whole = f"sdhring-{version()}-{PLATFORM}", io.BytesIO()
+    with tarfile.open(fileobj=whole, mode="w", format=tarfile.GNU_FORMAT) as archive:
+        for name, piece in sorted(tree().items()):
+            archive.addfile(member(f"{top}/{name}", piece, moment), io.BytesIO(piece.data))
+    path.write_bytes(lzma.compress(whole.getvalue(), preset=9 | lzma.PRESET_EXTREME))
+
+
+def packed(data):
+    """As gzip does without a name and a time."""
+    whole = io.BytesIO()
+    with gzip.GzipFile(filename="", mode="wb", compresslevel=9, fileobj=whole, mtime=0) as file:
+        file.write(data)
+    return whole.getvalue()
+
+
+def control(root):
+    size = sum(path.stat().st_size for path in root.rglob("*") if path.is_file() and not path.is_symlink()) // 1024
+    return f"""\
+Package: sdhring
+Version: {version()}
+Section: science
+Priority: optional
+Architecture: amd64
+Maintainer: {MAINTAINER}
+Installed-Size: {size}
+Depends: libc6, python3 (>= 3.11)
+Suggests: parallel
+Description: {SUMMARY}
+{ABOUT}
+"""
+
+
+def changelog(moment):
+    """Debian's form of it; CHANGELOG.md says what changed."""
+    date = said_by("date", "-u", "-R", "-d", f"@{moment}")
+    return f"sdhring ({version()}) unstable; urgency=medium\n\n  * Release {version()}; CHANGELOG.md has what changed.\n\n -- {MAINTAINER}  {date}\n"
+
+
+def debian_tree(root, moment):
+    """What the package has below its root."""
+    install({name: DIST / name for name in PROGRAMS}, Path("/usr"), root / "usr", with_list=False)
+    doc = root / "usr" / "share" / "doc" / "sdhring"
+    put(doc / "copyright", Piece(COPYRIGHT.encode()))
+    put(doc / "changelog.gz", Piece(packed(changelog(moment).encode())))
+    put(root / "usr" / "share" / "lintian" / "overrides" / "sdhring", Piece(OVERRIDES.encode()))
+    for path in sorted((root / "usr" / "share" / "man" / "man1").glob("*.1")):
+        put(path.with_name(f"{path.name}.gz"), Piece(packed(path.read_bytes())))
+        path.unlink()
+    for path in [*(root / "usr" / "bin").iterdir(), *(root / "usr" / "lib" / "sdhring" / "tools").iterdir()]:
+        if path.is_file() and not path.is_symlink():
+            script = path.read_bytes()
+            for name, place in ((b"bash", b"/bin/bash"), (b"python3", b"/usr/bin/python3")):
+                script = script.replace(b"#!/usr/bin/env " + name + b"\n", b"#!" + place + b"\n", 1)
+            path.write_bytes(script)
+
+
+def debian_package(path, folder, moment):
+    root = folder / "root"
+    debian_tree(root, moment)
+    put(root / "DEBIAN" / "control", Piece(control(root).encode()))
+    sums = [f"{md5_of(file)}  {file.relative_to(root)}\n" for file in sorted((root / "usr").rglob("*")) if file.is_file() and not file.is_symlink()]
+    put(root / "DEBIAN" / "md5sums", Piece("".join(sums).encode()))
+    for each in [root, *root.rglob("*")]:
+        if each.is_dir():
+            each.chmod(0o755)
+        os.utime(each, (moment, moment), follow_symlinks=False)
+    words = ["dpkg-deb", "--root-owner-group", "-Zxz", "-z9", "--build", str(root), str(path)]
+    subprocess.run(words, env={**os.environ, "SOURCE_DATE_EPOCH": str(moment)}, stdout=subprocess.DEVNULL, check=True)
+
+
+def md5_of(file):
+    return said_by("md5sum", file).split()[0]
+
+
+def pack_here(to, moment):
+    """Both archives of the release that stands where this module is."""
+    if {name for name, record in in_dist().items() if sum_of((DIST / name).read_bytes()) == record.sum} != set(PROGRAMS):
+        raise ReleaseProblem("dist/ doesn't have the programs that dist/BUILD tells of")
+    to.mkdir(parents=True, exist_ok=True)
+    paths = [to / f"sdhring-{version()}-{PLATFORM}.tar.xz"]
+    tarball(paths[0], moment)
+    if shutil.which("dpkg-deb"):
+        paths.append(to / f"sdhring_{version()}_amd64.deb")
+        folder = to / "package"
+        shutil.rmtree(folder, ignore_errors=True)
+        debian_package(paths[1], folder, moment)
+        shutil.rmtree(folder)
+    return paths

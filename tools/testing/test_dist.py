@@ -1,0 +1,83 @@
+"""The release in dist/: it answers in a copy of this checkout without a kit, is installed from there, and is what BUILD says."""
+
+import os
+import shutil
+import subprocess
+import tempfile
+import time
+import unittest
+from pathlib import Path
+
+from common import RINGS, TOOLS
+
+from ringtools.build import PROGRAMS, read_build, sum_of
+from ringtools.rows import FOLDERS, ask, difference, read_rows
+
+TOP = TOOLS.parent
+DIST = TOP / "dist"
+EXAMPLE = TOP / "examples" / "span-cut.toml"
+HERE = ("dist", "docs", "examples", "tools", "crates", "crates.txt", "HANDLES", "VERSION", "README.md", "CHANGELOG.md", "sdh*")
+
+
+def copied(to):
+    """What a fresh clone has of this checkout."""
+    for path in (path for form in HERE for path in TOP.glob(form)):
+        if path.is_dir():
+            shutil.copytree(path, to / path.name, ignore=shutil.ignore_patterns("out", "__pycache__"))
+        else:
+            shutil.copy(path, to)
+
+
+def run(words, folder, **more):
+    path = f"{Path(shutil.which('python3')).resolve().parent}:/usr/bin:/bin"
+    return subprocess.run(words, cwd=folder, env={"PATH": path, "HOME": ""}, capture_output=True, timeout=60, **more)
+
+
+@unittest.skipUnless((DIST / "BUILD").is_file(), "there is no release yet")
+class Dist(unittest.TestCase):
+    @classmethod
+    def setUpClass(cls):
+        folder = tempfile.TemporaryDirectory()
+        cls.addClassCleanup(folder.cleanup)
+        cls.top = Path(folder.name) / "checkout"
+        cls.top.mkdir()
+        copied(cls.top)
+        cls.records = {record.name: record for record in read_build((DIST / "BUILD").read_text())}
+        cls.prefix = Path(folder.name) / "prefix"
+        begun = time.monotonic()
+        cls.installed = run([cls.top / "sdhring", "--install", cls.prefix], cls.top, input=b"")
+        cls.seconds = time.monotonic() - begun
+
+    def test_the_programs_are_those_of_the_build(self):
+        self.assertEqual(set(self.records), set(PROGRAMS))
+        for name in PROGRAMS:
+            self.assertEqual(sum_of((DIST / name).read_bytes()), self.records[name].sum)
+            self.assertTrue(os.access(DIST / name, os.X_OK))
+
+    def test_the_first_answer(self):
+        begun = time.monotonic()
+        ended = run([self.top / "sdhring", "run"], self.top, input=EXAMPLE.read_bytes())
+        self.assertLess(time.monotonic() - begun, 5)  # of which the machine's other work may take most
+        self.assertEqual((ended.returncode, ended.stdout), (0, (RINGS / "span-cut.text").read_bytes()))
+        changed = run([self.top / "sdhring", "--sources"], self.top).stdout.decode().strip() != self.records["sdhring"].sources
+        self.assertEqual(b"the sources have changed since" in ended.stderr, changed)
+
+    def test_the_install(self):
+        self.assertEqual(self.installed.returncode, 0, self.installed.stderr)
+        self.assertLess(self.seconds, 30)
+        for name in PROGRAMS:
+            self.assertEqual((self.prefix / "lib" / "sdhring" / name).read_bytes(), (DIST / name).read_bytes())
+            told = run([self.prefix / "bin" / name, "--version"], self.prefix).stdout.decode()
+            self.assertTrue(told.startswith(f"{self.records[name].words()}, proved with "), told)
+
+    def test_rows_of_the_installed_programs(self):
+        """By their launchers: the first rows of each program, whose words and input are a user's."""
+        for name, folder in FOLDERS.items():
+            rows = [row for row in read_rows(folder) if row.status not in (2, 4) and row.given is not None][:3]
+            for row in rows:
+                with self.subTest(name=name, row=row.name):
+                    self.assertFalse(difference(row, ask(self.prefix / "bin" / name, row)))
+
+
+if __name__ == "__main__":
+    unittest.main()
