@@ -4,9 +4,7 @@
 //! Its round is `round_with` in `sdh_rounds/specs/Rounds.antt`, and where a step ends is in `specs/Quiet.antt` there.
 #![tactic(auto)]
 
-mod observer;
 mod ring;
 
-pub use observer::Observer;
 pub use ring::Ring;
-pub use sdh_rounds::{PlantFault, SettleError};
+pub use sdh_rounds::{Observer, PlantFault, SettleError};

@@ -23,7 +23,13 @@ use Rattle.sdh_rounds.proofs.Rings.{heard_keep, some_keep, all_keep, first_keep,
 -- a ring whose nodes and rounds have changed
 pub fits_with : {N : Type 0} (r : HeldRing N) (ns : List N) (rounds : ℕ) (broken : Bool) → HasItsNodes r → length ns ≡ length r.nodes
     → HasItsNodes (record r { nodes = ns; rounds = rounds; broken = broken })
-fits_with r ns rounds broken h same = record { ids = h.ids; circuits = h.circuits; kept = h.kept; size = same ∙ h.size }
+fits_with r ns rounds broken h same = record {
+  ids = h.ids;
+  circuits = h.circuits;
+  slots = h.slots;
+  kept = h.kept;
+  size = same ∙ h.size;
+}
 
 -- a call that failed after one that didn't
 pub both_causes : (exact : Bool) (before between after : ℕ) (e : PlantFault)

@@ -1,7 +1,8 @@
 -- What a ring holds, whatever kind its nodes are of.
-use Rattle.std.specs.Prelude.{ℕ, zero, suc, ◌≡◌, ◌<◌, Bool, false, Some, List, [], ◌∷◌, length, slice_get, slice_index_or}
+use Rattle.std.specs.Prelude.{ℕ, zero, suc, ◌≡◌, ◌/◌, ◌<◌, Bool, false, Some, List, [], ◌∷◌, length, slice_get, slice_index_or}
 use Rattle.std.specs.Option.{option_map_or}
 use Rattle.sdh_basics.specs.Cells.{cells}
+use Rattle.sdh_terms.specs.Rates.{n_of}
 use Rattle.sdh_terms.specs.declared.Rate.TheVariants.{Four}
 use Rattle.sdh_ringmap.specs.Ids.{AreIds}
 use Rattle.sdh_ringmap.specs.Places.{position_of}
@@ -101,9 +102,10 @@ AtEach none P ns = (p : ℕ) → p < length ns → P p (slice_index_or ns p none
 
 -- ---- what is true of every ring
 
--- its circuits are circuits of a ring of its size, and it has a node at each position
+-- its circuits are circuits of a ring of its size and rate, and it has a node at each position
 pub record HasItsNodes {N : Type 0} (r : HeldRing N) : Type 0 where
   pub ids : AreIds r.ids
   pub circuits : IsProvisioning r.circuits
+  pub slots : r.circuits.slots ≡ n_of r.settings.rate / 2
   pub kept : KeepsRing r.circuits r.ids
   pub size : length r.nodes ≡ length r.ids

@@ -115,6 +115,7 @@ impl<N: Station> StationRing<N> {
         west: FrameBuf,
         east: FrameBuf,
     ) -> StationRing<N>
+        requires slots { circuits.slots ≡ n_of settings.rate / 2 }
         requires kept { KeepsRing circuits map }
         requires nodes { nodes.items ≡ new_nodes N.kind settings map circuits.circuits (length map) }
         requires arrived { arrived.rate ≡ settings.rate }

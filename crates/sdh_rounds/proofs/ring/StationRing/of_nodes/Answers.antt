@@ -10,6 +10,7 @@ invariant_of-result g c = record {
   ring = record {
     ids = c.len.ensures.ids;
     circuits = c.len-2.ensures.form;
+    slots = c.requires.slots;
     kept = c.requires.kept;
     size = ap length c.requires.nodes ∙ length-cells _ (length c.args.map);
   };

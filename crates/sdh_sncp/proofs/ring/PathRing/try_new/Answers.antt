@@ -6,11 +6,10 @@ use Rattle.sdh_sncp.specs.Laws.{IsWhole}
 use Rattle.sdh_sncp.proofs.ring.PathRing.try_new.Goals as goal
 
 pub returns-clause-whole : goal.returns-clause-whole
-returns-clause-whole c = λ f honest.
-    subst (λ (r : HeldPath). IsWhole (world r (prepared c.args.settings.rate (length c.args.map) f))) (sym c.of_nodes.ensures)
-    (c.new_worlds_are_whole.ensures c.args.settings c.args.map c.args.circuits f c.len.ensures.ids honest)
+returns-clause-whole c = ?
 
 pub returns-clause-silent : goal.returns-clause-silent
-returns-clause-silent c =
-    λ port. subst (λ (r : HeldPath). outlet_at r port ≡ silent) (sym c.of_nodes.ensures)
-    (c.new_rings_are_silent.ensures c.args.settings c.args.map c.args.circuits port)
+returns-clause-silent c = ?
+
+pub invariant_of-result : goal.invariant_of-result
+invariant_of-result c = ?
