@@ -2,11 +2,16 @@
 use Rattle.std.proofs.Common.{◌≡◌, ◌≢◌, ℕ, ◌+◌, ◌/◌, ◌<◌, ◌≤◌, Bool, true, false, List, length, map, Some, ap, refl, sym, subst, ◌∙◌, arith}
 use Rattle.std.specs.Prelude.{All, ◌^◌, Result, Ok, Err, slice_get}
 use Rattle.std.proofs.lemmas.Option.{get_or_from_slice_get, slice_get_within}
+use Rattle.sdh_terms.specs.Rates.{n_of}
+use Rattle.sdh_ringmap.specs.Ids.{AreIds}
 use Rattle.sdh_ringmap.specs.Places.{position_of}
 use Rattle.sdh_circuits.specs.declared.PortId.{PortId}
 use Rattle.sdh_circuits.specs.Provisioned.{Provisioned, end_of}
-use Rattle.sdh_circuits.specs.Provisioning.{AreCircuits}
+use Rattle.sdh_circuits.specs.Provisioning.{Provisioning, IsProvisioning, AreCircuits}
+use Rattle.sdh_circuits.specs.Kept.{KeepsRing}
+use Rattle.sdh_request.specs.declared.settings.Settings.{Settings}
 use Rattle.sdh_terminal.specs.Tributaries.{HasPort, outlet_of}
+use Rattle.sdh_rounds.specs.Held as held
 use Rattle.sdh_rounds.specs.Held.{IsNodeOf}
 use Rattle.sdh_rounds.specs.Rounds as any_round
 use Rattle.sdh_rounds.specs.Faults.{BreaksRound, had_round}
@@ -18,13 +23,13 @@ use Rattle.sdh_rounds.specs.declared.faults.SettleError.TheVariants.{Unsettled, 
 use Rattle.sdh_rounds.proofs.Rings.{heard_keep, some_keep, all_keep, first_keep, all_heard}
 use Rattle.sdh_sncp.specs.Node.{PathNode, new_node}
 use Rattle.sdh_sncp.specs.Stations.{path_node, MayRun}
-use Rattle.sdh_sncp.specs.Ring.{HeldPath, World, IsRound, nodes_with, outlet_at}
-use Rattle.sdh_sncp.specs.Fixed.{fixed, HaveRun, IsRing}
+use Rattle.sdh_sncp.specs.Ring.{HeldPath, new_nodes, new_ring, World, IsRound, nodes_with, outlet_at}
+use Rattle.sdh_sncp.specs.Fixed.{fixed, AreAlone, HaveRun, IsRing}
 use Rattle.sdh_sncp.specs.Laws.{HasCircuits, KeepsPromises}
 use Rattle.sdh_circuits.proofs.Rings.{circuits_are, end_inside}
 use Rattle.sdh_terminal.proofs.Found.{has_own}
 use Rattle.sdh_sncp.proofs.Keeping.{fixed_told, fixed_next, all_rates, length-fixed, all_run_heard, all_run_next, node_is, has_fixed, new_has}
-use Rattle.sdh_sncp.proofs.Keeping.{outlet_is}
+use Rattle.sdh_sncp.proofs.Keeping.{all_new, outlet_is}
 use Rattle.sdh_sncp.proofs.Converging.{steps_answer, steps_deliver}
 use Rattle.sdh_sncp.proofs.Wholes.{whole_settled, whole_unsettled}
 
@@ -52,9 +57,28 @@ may_receive r h = all_rates r.settings r.ids r.circuits.circuits (length r.ids) 
 pub may_send : (r : HeldPath) → IsRing r → r.broken ≡ false → r.rounds < 2 ^ 32 → All (MayRun r.moment) r.nodes
 may_send r h whole few = λ p d lt. (let e = h.going whole p d lt in omega arith)
 
+-- ---- a new ring
+
+-- is that of any kind
+pub fresh_is : (s : Settings) (ids : List ℕ) (circuits : Provisioning) → held.new_ring path_node s ids circuits ≡ new_ring s ids circuits
+unfolding new_nodes
+fresh_is s ids circuits = refl
+
+pub new_is_ring : (s : Settings) (ids : List ℕ) (circuits : Provisioning) → AreIds ids → IsProvisioning circuits
+    → circuits.slots ≡ n_of s.rate / 2 → KeepsRing circuits ids → AreAlone circuits.circuits → IsRing (new_ring s ids circuits)
+new_is_ring s ids circuits are form slots kept alone = record {
+  ids = are;
+  circuits = form;
+  slots = slots;
+  kept = kept;
+  alone = alone;
+  nodes = refl;
+  going = λ _. all_new s ids circuits.circuits (length ids);
+}
+
 -- ---- a round
 
-pub ring_ran : (w after : World) → IsRing w.ring → w.ring.broken ≡ false → IsRound w after → IsRing after.ring
+ring_ran : (w after : World) → IsRing w.ring → w.ring.broken ≡ false → IsRound w after → IsRing after.ring
 unfolding any_round.round_with
 ring_ran w after h whole is =
     let heard = nodes_with is.arrivals w in
