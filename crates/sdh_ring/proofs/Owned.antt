@@ -92,6 +92,11 @@ module _ (r : HeldRing) (id : PortId) (p : ℕ) (o : IsOwned r id p) where
   pub waits_there : waiting_of id ports ≡ waiting_at r id
   waits_there = waits_of (port_of id ports) ∙ sym (ap (λ (c : Clock). waiting c) clock_is)
 
+pub waits_at : (r : HeldRing) (id : PortId) (n : Node) → IsRing r → IsNodeOf r id n → waiting_at r id ≡ waiting_of id n.ports
+waits_at r id n h node =
+    sym (waits_there r id node.at (owned_at r h id node.at node.place))
+    ∙ ap (λ (m : Node). waiting_of id m.ports) (get_or_from_slice_get r.nodes node.at n nowhere node.there)
+
 -- ---- the clocks of a ring that goes on
 
 rested_in : (r : HeldRing) (id : PortId) (o : Option Node) →

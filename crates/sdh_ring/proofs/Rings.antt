@@ -1,20 +1,25 @@
 -- What is true of a ring, call by call.
-use Rattle.std.proofs.Common.{◌≡◌, ℕ, ◌+◌, ◌/◌, ◌<◌, ◌≤◌, Bool, true, false, List, length, map, ap, sym, subst, ◌∙◌, arith}
+use Rattle.std.proofs.Common.{◌≡◌, ℕ, ◌+◌, ◌/◌, ◌<◌, ◌≤◌, Bool, true, false, List, length, map, refl, ap, sym, subst, ◌∙◌, arith}
 use Rattle.std.specs.Prelude.{All, ◌^◌, Result, Ok, Err}
+use Rattle.sdh_terms.specs.Rates.{n_of}
+use Rattle.sdh_ringmap.specs.Ids.{AreIds}
+use Rattle.sdh_circuits.specs.Provisioning.{Provisioning, IsProvisioning}
+use Rattle.sdh_circuits.specs.Kept.{KeepsRing}
 use Rattle.sdh_request.specs.declared.settings.Settings.{Settings}
 use Rattle.sdh_node.specs.Node.{Node}
 use Rattle.sdh_node.specs.Stations.{adm, MayRun}
+use Rattle.sdh_rounds.specs.Held as held
 use Rattle.sdh_rounds.specs.Rounds as any_round
 use Rattle.sdh_rounds.specs.Calls.{told_some}
 use Rattle.sdh_rounds.specs.Faults.{BreaksRound, had_round}
 use Rattle.sdh_rounds.specs.Outcome.{IsOneRound}
 use Rattle.sdh_rounds.specs.declared.faults.PlantFault.{PlantFault as Fault}
 use Rattle.sdh_rounds.proofs.Rings.{heard_keep, some_keep, all_keep, first_keep}
-use Rattle.sdh_world.specs.Held.{HeldRing}
+use Rattle.sdh_world.specs.Held.{HeldRing, new_nodes, new_ring}
 use Rattle.sdh_world.specs.Rounds.{World, nodes_with, node_after}
 use Rattle.sdh_world.specs.Runs.{IsRound}
 use Rattle.sdh_world.specs.Fixed.{fixed, IsOn, IsRing}
-use Rattle.sdh_world.proofs.Keeping.{fixed_with, fixed_next, all_settings, length-fixed, all_on_heard, all_on_next}
+use Rattle.sdh_world.proofs.Keeping.{fixed_with, fixed_next, all_settings, length-fixed, all_on_heard, all_on_next, all_new}
 
 -- ---- a ring and its nodes
 
@@ -46,6 +51,34 @@ may_send r h whole few = λ p d lt. record {
   early = (h.going whole p d lt).early;
   within = h.moment;
   few = let e = (h.going whole p d lt).rounds_are in omega arith;
+}
+
+-- a later moment
+pub ring_later : (r : HeldRing) (m : ℕ) → IsRing r → r.moment ≤ m → m ≤ 1000000000 → IsRing (record r { moment = m })
+ring_later r m h later within = ring_with r r.nodes m r.rounds r.broken h refl within
+    (λ whole p d lt. let on = h.going whole p d lt in record {
+      rounds_are = on.rounds_are;
+      early = let e = on.early in omega arith;
+      clocks = on.clocks;
+    })
+
+-- ---- a new ring
+
+-- is that of any kind
+pub fresh_is : (s : Settings) (ids : List ℕ) (circuits : Provisioning) → held.new_ring adm s ids circuits ≡ new_ring s ids circuits
+unfolding new_nodes
+fresh_is s ids circuits = refl
+
+pub new_is_ring : (s : Settings) (ids : List ℕ) (circuits : Provisioning) → AreIds ids → IsProvisioning circuits
+    → circuits.slots ≡ n_of s.rate / 2 → KeepsRing circuits ids → IsRing (new_ring s ids circuits)
+new_is_ring s ids circuits are form slots kept = record {
+  ids = are;
+  circuits = form;
+  slots = slots;
+  kept = kept;
+  moment = omega arith;
+  nodes = refl;
+  going = λ _. all_new s ids circuits.circuits (length ids);
 }
 
 -- ---- a round

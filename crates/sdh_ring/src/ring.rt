@@ -54,29 +54,29 @@ impl Model for Ring {
     ghost invariant = { λ a. IsRing a.ring };
 }
 
-fn command_at(nodes: &mut Vec<Adm>, at: usize, side: Side, command: Command)
-    requires { at < length nodes.old.items }
-    ensures { nodes.new.items ≡ at_place at (at_receiving side (commanded_by command)) nodes.old.items }
+fn command_at(ring: &mut StationRing<Adm>, at: usize, side: Side, command: Command)
+    requires { at < length ring.old.nodes }
+    ensures { ring.new ≡ record ring.old { nodes = at_place at (at_receiving side (commanded_by command)) ring.old.nodes } }
 {
-    nodes[at].command(side, command);
+    ring.nodes[at].command(side, command);
 }
 
-fn hold_at(nodes: &mut Vec<Adm>, at: usize, turns: u32)
-    requires at { at < length nodes.old.items }
+fn hold_at(ring: &mut StationRing<Adm>, at: usize, turns: u32)
+    requires at { at < length ring.old.nodes }
     requires some { 1 ≤ turns }
     requires few { turns ≤ 100 }
-    ensures { nodes.new.items ≡ at_place at (held_for turns) nodes.old.items }
+    ensures { ring.new ≡ record ring.old { nodes = at_place at (held_for turns) ring.old.nodes } }
 {
-    nodes[at].hold(turns);
+    ring.nodes[at].hold(turns);
 }
 
-fn slip_at(nodes: &mut Vec<Adm>, at: usize, port: PortId, turn: Turn, count: u8)
-    requires at { at < length nodes.old.items }
-    requires port { HasPort (node_at nodes.old.items at).ports port }
-    requires few { waiting_of port (node_at nodes.old.items at).ports + count ≤ 16 }
-    ensures { nodes.new.items ≡ at_place at (slips_at port turn count) nodes.old.items }
+fn slip_at(ring: &mut StationRing<Adm>, at: usize, port: PortId, turn: Turn, count: u8)
+    requires at { at < length ring.old.nodes }
+    requires port { HasPort (node_at ring.old.nodes at).ports port }
+    requires few { waiting_of port (node_at ring.old.nodes at).ports + count ≤ 16 }
+    ensures { ring.new ≡ record ring.old { nodes = at_place at (slips_at port turn count) ring.old.nodes } }
 {
-    nodes[at].slip(port, turn, count);
+    ring.nodes[at].slip(port, turn, count);
 }
 
 impl Ring {
@@ -118,7 +118,7 @@ impl Ring {
     {
         sdh_laws::hearing::stay_whole();
         sdh_laws::strangers::vouched_rings_stay();
-        command_at(&mut self.ring.nodes, at.0 as usize, side, command);
+        command_at(&mut self.ring, at.0 as usize, side, command);
     }
 
     /// The controller of a node misses so many of the next rounds, in place of those that are left of an earlier call. The ring stays
@@ -135,7 +135,7 @@ impl Ring {
     {
         sdh_laws::hearing::stay_whole();
         sdh_laws::strangers::vouched_rings_stay();
-        hold_at(&mut self.ring.nodes, at.0 as usize, turns);
+        hold_at(&mut self.ring, at.0 as usize, turns);
     }
 
     // The position of the node where a port of a circuit is.
@@ -163,7 +163,7 @@ impl Ring {
         sdh_laws::hearing::stay_whole();
         sdh_laws::strangers::vouched_rings_stay();
         let at = self.place_of(port);
-        slip_at(&mut self.ring.nodes, at, port, turn, count);
+        slip_at(&mut self.ring, at, port, turn, count);
     }
 
     /// How many slips wait at a port of a circuit.
@@ -172,8 +172,7 @@ impl Ring {
         ensures waiting { result ≡ waiting_at self.now port }
         ensures few { result ≤ 16 }
     {
-        let at = self.place_of(port);
-        self.ring.nodes[at].waiting(port)
+        self.node_of(port).waiting(port)
     }
 
     /// Tells the present moment, at which the next rounds run.
@@ -187,7 +186,7 @@ impl Ring {
     {
         sdh_laws::hearing::stay_whole();
         sdh_laws::strangers::vouched_rings_stay();
-        self.ring.present = now;
+        self.ring.moment(now);
     }
 
     /// One round: all nodes receive, except in round 0, and then all send. It takes no memory. After a fault of the plant
@@ -321,6 +320,7 @@ impl Ring {
         requires { port.circuit < length self.now.circuits.circuits }
         ensures port { HasPort result.now.ports port }
         ensures outlet { outlet_at self.now port ≡ outlet_of port result.now.ports }
+        ensures waiting { waiting_at self.now port ≡ waiting_of port result.now.ports }
     {
         self.ring.node_of(port)
     }

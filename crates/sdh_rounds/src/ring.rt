@@ -22,8 +22,7 @@ use sdh_ringmap::{Pos, RingMap};
 use std::alloc::{AllocError, Global};
 use std::marker::Model;
 
-/// The nodes of a ring, whatever kind they are of, and what a round of them needs. Its nodes and its moment may be changed between
-/// rounds.
+/// The nodes of a ring, whatever kind they are of, and what a round of them needs. They may be changed between rounds.
 #[derive(Debug, Drop)]
 pub struct StationRing<N: Station> {
     settings: Settings,
@@ -35,8 +34,7 @@ pub struct StationRing<N: Station> {
     arrived: Landed,
     west: FrameBuf,
     east: FrameBuf,
-    /// The moment at which the next rounds run.
-    pub present: Moment,
+    present: Moment,
     rounds: u64,
     broken: bool,
 }
@@ -137,6 +135,13 @@ impl<N: Station> StationRing<N> {
             rounds: 0,
             broken: false,
         }
+    }
+
+    /// Tells the present moment, at which the next rounds run.
+    pub fn moment(&mut self, now: Moment)
+        ensures { self.new ≡ record self.old { moment = now.0 } }
+    {
+        self.present = now;
     }
 
     /// One round: all nodes receive, except in round 0, and then all send. It takes no memory. After a fault of the plant

@@ -16,7 +16,7 @@ invariant_of-self g c =
       arrived = c.hear.ensures.rate ∙ inv.arrived;
       west = inv.west;
       east = inv.east;
-      ring = fits_with _ c.hear.new.nodes.items c.self.inside.rounds _ inv.ring (count_some g.N.Station.kind _ _ _ _ _ c.in_err-hear.ensures.err);
+      ring = fits_with _ c.hear.new.nodes.items _ _ _ inv.ring (count_some g.N.Station.kind _ _ _ _ _ c.in_err-hear.ensures.err);
     }
 
 pub returns-in_err-hear : goal.returns-in_err-hear
@@ -77,7 +77,7 @@ invariant_of-self-in_err-send_all g c =
       arrived = c.hear.ensures.rate ∙ inv.arrived;
       west = c.send_all.ensures.west ∙ inv.west;
       east = c.send_all.ensures.east ∙ inv.east;
-      ring = fits_with _ c.send_all.new.nodes.items c.self.inside.rounds _ inv.ring
+      ring = fits_with _ c.send_all.new.nodes.items _ _ _ inv.ring
           (count_off st _ _ _ _ _ c.in_err-send_all.ensures.err ∙ count_heard st _ _ _ _ _ c.in_ok-hear.ensures.ok);
     }
 
@@ -110,7 +110,7 @@ invariant_of-self-2 g c =
       arrived = c.hear.ensures.rate ∙ inv.arrived;
       west = c.send_all.ensures.west ∙ inv.west;
       east = c.send_all.ensures.east ∙ inv.east;
-      ring = fits_with _ c.send_all.new.nodes.items _ _ inv.ring
+      ring = fits_with _ c.send_all.new.nodes.items _ _ _ inv.ring
           (count_sent st _ _ _ c.in_ok-send_all.ensures.nodes ∙ count_heard st _ _ _ _ _ c.in_ok-hear.ensures.ok);
     }
 
