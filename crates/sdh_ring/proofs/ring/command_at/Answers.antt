@@ -5,29 +5,30 @@ use Rattle.sdh_world.specs.Held.{HeldRing, at_place}
 use Rattle.sdh_rounds.proofs.Nodes.{placed_at, count_placed}
 use Rattle.sdh_rounds.proofs.Breaking.{fits_with}
 use Rattle.sdh_ring.proofs.ring.command_at.Goals as goal
-use Rattle.sdh_ring.proofs.ring.command_at.Goals.{After-command}
-
-inside : (c : After-command) → c.args.at < length c.ring.inside.nodes.items
-inside c = subst (λ (r : HeldRing). c.args.at < length r.nodes) (sym c.ring.view_is) c.requires
-
-placed : (c : After-command) → set c.ring.inside.nodes.items c.args.at c.command.new.self
-    ≡ at_place c.args.at (at_receiving c.args.side (commanded_by c.args.command)) c.ring.inside.nodes.items
-placed c = placed_at _ c.args.at c.ring.inside.nodes.items _ c.command.new.self (inside c) c.index_mut.ensures.value c.command.ensures.node
 
 pub invariant_of-ring : goal.invariant_of-ring
 invariant_of-ring c =
     let inv = c.ring.invariant in
+    let old = c.ring.inside.nodes.items in
+    let inside = subst (λ (r : HeldRing). c.args.at < length r.nodes) (sym c.ring.view_is) c.requires in
+    let placed =
+    placed_at (at_receiving c.args.side (commanded_by c.args.command)) c.args.at old _ c.command.new.self inside c.index_mut.ensures.value
+    c.command.ensures.node in
     record {
       arrived = inv.arrived;
       west = inv.west;
       east = inv.east;
-      ring = fits_with _ _ _ _ _ inv.ring (ap length (placed c) ∙ count_placed _ c.args.at c.ring.inside.nodes.items);
+      ring = fits_with _ _ _ _ _ inv.ring (ap length placed ∙ count_placed (at_receiving c.args.side (commanded_by c.args.command)) c.args.at old);
     }
 
 pub returns : goal.returns
 returns c =
     let old = c.ring.inside in
-    let held = λ (ns : List Node). record {
+    let inside = subst (λ (r : HeldRing). c.args.at < length r.nodes) (sym c.ring.view_is) c.requires in
+    let placed =
+    placed_at (at_receiving c.args.side (commanded_by c.args.command)) c.args.at old.nodes.items _ c.command.new.self inside
+    c.index_mut.ensures.value c.command.ensures.node in
+    let held : List Node → HeldRing = λ ns. record {
       settings = old.settings;
       ids = old.map;
       circuits = old.circuits;
@@ -37,4 +38,4 @@ returns c =
       broken = old.broken;
     } in
     subst (λ (r : HeldRing). held (set old.nodes.items c.args.at c.command.new.self)
-    ≡ record r { nodes = at_place c.args.at (at_receiving c.args.side (commanded_by c.args.command)) r.nodes }) c.ring.view_is (ap held (placed c))
+    ≡ record r { nodes = at_place c.args.at (at_receiving c.args.side (commanded_by c.args.command)) r.nodes }) c.ring.view_is (ap held placed)

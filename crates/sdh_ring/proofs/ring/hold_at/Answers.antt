@@ -4,29 +4,30 @@ use Rattle.sdh_world.specs.Held.{HeldRing, at_place}
 use Rattle.sdh_rounds.proofs.Nodes.{placed_at, count_placed}
 use Rattle.sdh_rounds.proofs.Breaking.{fits_with}
 use Rattle.sdh_ring.proofs.ring.hold_at.Goals as goal
-use Rattle.sdh_ring.proofs.ring.hold_at.Goals.{After-hold}
-
-inside : (c : After-hold) → c.args.at < length c.ring.inside.nodes.items
-inside c = subst (λ (r : HeldRing). c.args.at < length r.nodes) (sym c.ring.view_is) c.requires.at
-
-placed : (c : After-hold) → set c.ring.inside.nodes.items c.args.at c.hold.new.self
-    ≡ at_place c.args.at (held_for c.args.turns) c.ring.inside.nodes.items
-placed c = placed_at _ c.args.at c.ring.inside.nodes.items _ c.hold.new.self (inside c) c.index_mut.ensures.value c.hold.ensures.node
 
 pub invariant_of-ring : goal.invariant_of-ring
 invariant_of-ring c =
     let inv = c.ring.invariant in
+    let old = c.ring.inside.nodes.items in
+    let inside = subst (λ (r : HeldRing). c.args.at < length r.nodes) (sym c.ring.view_is) c.requires.at in
+    let placed =
+    placed_at (held_for c.args.turns) c.args.at old _ c.hold.new.self inside c.index_mut.ensures.value
+    c.hold.ensures.node in
     record {
       arrived = inv.arrived;
       west = inv.west;
       east = inv.east;
-      ring = fits_with _ _ _ _ _ inv.ring (ap length (placed c) ∙ count_placed _ c.args.at c.ring.inside.nodes.items);
+      ring = fits_with _ _ _ _ _ inv.ring (ap length placed ∙ count_placed (held_for c.args.turns) c.args.at old);
     }
 
 pub returns : goal.returns
 returns c =
     let old = c.ring.inside in
-    let held = λ (ns : List Node). record {
+    let inside = subst (λ (r : HeldRing). c.args.at < length r.nodes) (sym c.ring.view_is) c.requires.at in
+    let placed =
+    placed_at (held_for c.args.turns) c.args.at old.nodes.items _ c.hold.new.self inside
+    c.index_mut.ensures.value c.hold.ensures.node in
+    let held : List Node → HeldRing = λ ns. record {
       settings = old.settings;
       ids = old.map;
       circuits = old.circuits;
@@ -36,4 +37,4 @@ returns c =
       broken = old.broken;
     } in
     subst (λ (r : HeldRing). held (set old.nodes.items c.args.at c.hold.new.self)
-    ≡ record r { nodes = at_place c.args.at (held_for c.args.turns) r.nodes }) c.ring.view_is (ap held (placed c))
+    ≡ record r { nodes = at_place c.args.at (held_for c.args.turns) r.nodes }) c.ring.view_is (ap held placed)

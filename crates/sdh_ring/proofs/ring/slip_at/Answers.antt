@@ -6,29 +6,30 @@ use Rattle.sdh_rounds.proofs.Nodes.{placed_at, count_placed}
 use Rattle.sdh_rounds.proofs.Breaking.{fits_with}
 use Rattle.sdh_ring.proofs.Nodes.{node_same}
 use Rattle.sdh_ring.proofs.ring.slip_at.Goals as goal
-use Rattle.sdh_ring.proofs.ring.slip_at.Goals.{After-slip}
-
-inside : (c : After-slip) → c.args.at < length c.ring.inside.nodes.items
-inside c = subst (λ (r : HeldRing). c.args.at < length r.nodes) (sym c.ring.view_is) c.requires.at
-
-placed : (c : After-slip) → set c.ring.inside.nodes.items c.args.at c.slip.new.self
-    ≡ at_place c.args.at (slips_at c.args.port c.args.turn c.args.count) c.ring.inside.nodes.items
-placed c = placed_at _ c.args.at c.ring.inside.nodes.items _ c.slip.new.self (inside c) c.index_mut.ensures.value c.slip.ensures.node
 
 pub invariant_of-ring : goal.invariant_of-ring
 invariant_of-ring c =
     let inv = c.ring.invariant in
+    let old = c.ring.inside.nodes.items in
+    let inside = subst (λ (r : HeldRing). c.args.at < length r.nodes) (sym c.ring.view_is) c.requires.at in
+    let placed =
+    placed_at (slips_at c.args.port c.args.turn c.args.count) c.args.at old _ c.slip.new.self inside c.index_mut.ensures.value
+    c.slip.ensures.node in
     record {
       arrived = inv.arrived;
       west = inv.west;
       east = inv.east;
-      ring = fits_with _ _ _ _ _ inv.ring (ap length (placed c) ∙ count_placed _ c.args.at c.ring.inside.nodes.items);
+      ring = fits_with _ _ _ _ _ inv.ring (ap length placed ∙ count_placed (slips_at c.args.port c.args.turn c.args.count) c.args.at old);
     }
 
 pub returns : goal.returns
 returns c =
     let old = c.ring.inside in
-    let held = λ (ns : List Node). record {
+    let inside = subst (λ (r : HeldRing). c.args.at < length r.nodes) (sym c.ring.view_is) c.requires.at in
+    let placed =
+    placed_at (slips_at c.args.port c.args.turn c.args.count) c.args.at old.nodes.items _ c.slip.new.self inside
+    c.index_mut.ensures.value c.slip.ensures.node in
+    let held : List Node → HeldRing = λ ns. record {
       settings = old.settings;
       ids = old.map;
       circuits = old.circuits;
@@ -38,7 +39,7 @@ returns c =
       broken = old.broken;
     } in
     subst (λ (r : HeldRing). held (set old.nodes.items c.args.at c.slip.new.self)
-    ≡ record r { nodes = at_place c.args.at (slips_at c.args.port c.args.turn c.args.count) r.nodes }) c.ring.view_is (ap held (placed c))
+    ≡ record r { nodes = at_place c.args.at (slips_at c.args.port c.args.turn c.args.count) r.nodes }) c.ring.view_is (ap held placed)
 
 pub slip-requires-clause-there : goal.slip-requires-clause-there
 slip-requires-clause-there c =
