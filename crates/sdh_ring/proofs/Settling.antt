@@ -1,5 +1,5 @@
 -- A settle step, with all that it keeps.
-use Rattle.std.proofs.Common.{◌≡◌, ◌≢◌, ℕ, ◌+◌, ◌≤◌, refl, ap, ◌∙◌, arith, length}
+use Rattle.std.proofs.Common.{◌≡◌, ℕ, ◌+◌, ◌≤◌, refl, ap, ◌∙◌, arith, length}
 use Rattle.std.specs.Prelude.{Result, Ok, Err}
 use Rattle.sdh_circuits.specs.declared.PortId.{PortId}
 use Rattle.sdh_node.specs.Stations.{adm}

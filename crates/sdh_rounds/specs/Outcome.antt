@@ -17,14 +17,12 @@ pub record IsOneRound {N : Type 0} (s : Station N) (exact : Bool) (w : World N) 
     (before after : ℕ) : Type 0 where
   pub ok : OnOk result (IsRound s w left)
   pub prepared : OnOk result (IsPrepared w.ring.settings.rate (length w.ring.ids) left.fibres)
-
   -- a fault breaks the ring
   pub err : OnErr result (IsBrokenOff s w left.fibres)
   pub broken : OnErr result (left.ring.broken ≡ true)
   pub breaks : OnErr result (BreaksRound s w left)
   pub later : before ≤ after
   pub failed : OnErr result (Rose before after)
-
   -- where the plant's count is exact: one call failed with a fault, and none with Ok
   pub counted : IsCounted exact (IsErr result) before after
 
@@ -38,16 +36,13 @@ pub record IsStep {N : Type 0} (s : Station N) (exact : Bool) (w : World N) (lim
     (left : World N) (before after : ℕ) : Type 0 where
   pub outcome : Outcome s w limit result left
   pub prepared : left.ring.broken ≡ false → IsPrepared w.ring.settings.rate (length w.ring.ids) left.fibres
-
   -- one that ended ran a round, and the number of the last is a multiple of 128 and not 0
   pub numbers : OnOk result (EndsAtAMultiple w.ring left.ring limit)
   pub all : result ≡ Err Unsettled → left.ring.rounds ≡ w.ring.rounds + limit
-
   -- a fault breaks the ring
   pub broken : result ≡ Err PlantFault → left.ring.broken ≡ true
   pub breaks : result ≡ Err PlantFault → BreaksStep s w limit left
   pub later : before ≤ after
   pub failed : result ≡ Err PlantFault → Rose before after
-
   -- where the plant's count is exact: one call failed with a fault, and none with Ok and with Unsettled
   pub counted : IsCounted exact (result ≡ Err PlantFault) before after

@@ -69,6 +69,7 @@ pub trait Station: Drop {
 
     /// What arrives changes neither its rate nor whether it may run.
     ghost told_rate: { (side : Side) (a : Arrival) (n : Self) → rate (kind.told side a n) ≡ rate n };
+
     ghost told_may: { (now : ℕ) (side : Side) (a : Arrival) (n : Self) → MayRun now n → MayRun now (kind.told side a n) };
 }
 

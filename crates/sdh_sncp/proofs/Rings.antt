@@ -1,12 +1,12 @@
 -- What is true of a path ring, call by call.
-use Rattle.std.proofs.Common.{◌≡◌, ◌≢◌, ℕ, ◌+◌, ◌/◌, ◌<◌, ◌≤◌, Bool, true, false, List, length, map, Some, ap, refl, sym, subst, ◌∙◌, arith}
+use Rattle.std.proofs.Common.{◌≡◌, ℕ, ◌+◌, ◌/◌, ◌<◌, Bool, true, false, List, length, map, ap, refl, sym, subst, ◌∙◌, arith}
 use Rattle.std.specs.Prelude.{All, ◌^◌, Result, Ok, Err, slice_get}
 use Rattle.std.proofs.lemmas.Option.{get_or_from_slice_get, slice_get_within}
 use Rattle.sdh_terms.specs.Rates.{n_of}
 use Rattle.sdh_ringmap.specs.Ids.{AreIds}
 use Rattle.sdh_ringmap.specs.Places.{position_of}
 use Rattle.sdh_circuits.specs.declared.PortId.{PortId}
-use Rattle.sdh_circuits.specs.Provisioned.{Provisioned, end_of}
+use Rattle.sdh_circuits.specs.Provisioned.{end_of}
 use Rattle.sdh_circuits.specs.Provisioning.{Provisioning, IsProvisioning, AreCircuits}
 use Rattle.sdh_circuits.specs.Kept.{KeepsRing}
 use Rattle.sdh_request.specs.declared.settings.Settings.{Settings}
@@ -20,7 +20,7 @@ use Rattle.sdh_rounds.specs.Outcome.{Outcome, IsOneRound}
 use Rattle.sdh_rounds.specs.declared.faults.PlantFault.{PlantFault as Fault}
 use Rattle.sdh_rounds.specs.declared.faults.SettleError.{SettleError}
 use Rattle.sdh_rounds.specs.declared.faults.SettleError.TheVariants.{Unsettled, PlantFault}
-use Rattle.sdh_rounds.proofs.Rings.{heard_keep, some_keep, all_keep, first_keep, all_heard}
+use Rattle.sdh_rounds.proofs.Rings.{heard_keep, some_keep, all_keep, first_keep}
 use Rattle.sdh_sncp.specs.Node.{PathNode, new_node}
 use Rattle.sdh_sncp.specs.Stations.{path_node, MayRun}
 use Rattle.sdh_sncp.specs.Ring.{HeldPath, new_nodes, new_ring, World, IsRound, nodes_with, outlet_at}
@@ -28,7 +28,7 @@ use Rattle.sdh_sncp.specs.Fixed.{fixed, AreAlone, HaveRun, IsRing}
 use Rattle.sdh_sncp.specs.Laws.{HasCircuits, KeepsPromises}
 use Rattle.sdh_circuits.proofs.Rings.{circuits_are, end_inside}
 use Rattle.sdh_terminal.proofs.Found.{has_own}
-use Rattle.sdh_sncp.proofs.Keeping.{fixed_told, fixed_next, all_rates, length-fixed, all_run_heard, all_run_next, node_is, has_fixed, new_has}
+use Rattle.sdh_sncp.proofs.Keeping.{fixed_told, fixed_next, all_rates, all_run_heard, all_run_next, node_is, has_fixed, new_has}
 use Rattle.sdh_sncp.proofs.Keeping.{all_new, outlet_is}
 use Rattle.sdh_sncp.proofs.Converging.{steps_answer, steps_deliver}
 use Rattle.sdh_sncp.proofs.Wholes.{whole_settled, whole_unsettled}

@@ -1,4 +1,4 @@
-use Rattle.std.proofs.Common.{ap, sym, subst, ◌∙◌, ◌≡◌, ◌<◌, ◌^◌, false}
+use Rattle.std.proofs.Common.{ap, sym, subst, ◌∙◌, ◌<◌, ◌^◌}
 use Rattle.std.proofs.lemmas.Result.{on_ok_weaker}
 use Rattle.sdh_rounds.specs.Outcome.{IsOneRound}
 use Rattle.sdh_sncp.specs.Stations.{path_node}
