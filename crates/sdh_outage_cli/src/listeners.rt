@@ -11,7 +11,7 @@ pub struct Listeners {
     pub items: Vec<Both>,
 }
 
-impl Observer for Listeners {
+impl Observer<Ring> for Listeners {
     ghost Heard = { λ at k l. AreListening at k l.items.items };
 
     fn look(&mut self, ring: &Ring) {

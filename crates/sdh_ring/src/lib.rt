@@ -5,10 +5,8 @@
 #![tactic(auto)]
 
 mod changing;
-mod observer;
 mod ring;
 
 pub use changing::change;
-pub use observer::Observer;
 pub use ring::Ring;
-pub use sdh_rounds::{PlantFault, SettleError};
+pub use sdh_rounds::{Observer, PlantFault, SettleError};

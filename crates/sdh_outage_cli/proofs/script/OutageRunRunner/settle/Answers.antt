@@ -27,13 +27,13 @@ put_step-requires-clause-many g c = many_then _ _ c.args.limit c.settle_with.new
 pub put_step-requires-clause-listing : goal.put_step-requires-clause-listing
 put_step-requires-clause-listing g c =
     subst (λ (r : HeldRing). MayList (length r.circuits.circuits) c.args.self.now.listing)
-    (sym (settled_held _ _ c.args.limit c.in_ok-settle_with.ensures.outcome)) c.requires.may.1.0
+    (sym (settled_held _ _ c.args.limit c.in_ok-settle_with.ensures.step.outcome)) c.requires.may.1.0
 
 pub put_step-requires-clause-room : goal.put_step-requires-clause-room
 put_step-requires-clause-room g c =
     let same =
     ap (λ (x : HeldRing). lines_room c.args.self.now.listing (length x.circuits.circuits))
-    (settled_held _ _ c.args.limit c.in_ok-settle_with.ensures.outcome) in
+    (settled_held _ _ c.args.limit c.in_ok-settle_with.ensures.step.outcome) in
     omega (arith, same, c.requires.room)
 
 pub returns-clause-ok : goal.returns-clause-ok
@@ -56,23 +56,23 @@ returns-clause-next g c later may =
     let means = g.P.Plant.fibres in
     let w = world c.args.self.now.ring (means c.args.plant.now) in
     let left = world c.settle_with.new.self (means c.settle_with.new.plant) in
-    let s = c.in_ok-settle_with.ensures.outcome in
-    let long = long_step w.ring left.ring c.args.limit may.1.ring_may.begins c.in_ok-settle_with.ensures.numbers in
-    let none = λ (port : PortId). c.in_ok-settle_with.ensures.slips port (omega (arith, long.1)) in (
+    let s = c.in_ok-settle_with.ensures.step.outcome in
+    let long = long_step w.ring left.ring c.args.limit may.1.ring_may.begins c.in_ok-settle_with.ensures.step.numbers in
+    let none = λ (port : PortId). c.in_ok-settle_with.ensures.laws.slips port (omega (arith, long.1)) in (
       subst (λ (r : HeldRing). MayList (length r.circuits.circuits) c.args.self.now.listing)
           (sym (settled_held w left c.args.limit s)) may.0,
       heard_next w left c.args.limit c.settle_with.new.observer.items.items c.in_ok-settle_with.ensures.heard c.args.number c.args.self.now.listeners.items.items c.requires.few long.0 none
-          (c.in_ok-settle_with.ensures.prepared (settled_whole w left c.args.limit s may.1.ring_may.whole)) later may.1,
+          (c.in_ok-settle_with.ensures.step.prepared (settled_whole w left c.args.limit s may.1.ring_may.whole)) later may.1,
     )
 
 pub returns-clause-room : goal.returns-clause-room
 returns-clause-room g c =
     let same =
     ap (λ (x : HeldRing). lines_room c.args.self.now.listing (length x.circuits.circuits))
-    (settled_held _ _ c.args.limit c.in_ok-settle_with.ensures.outcome) in
+    (settled_held _ _ c.args.limit c.in_ok-settle_with.ensures.step.outcome) in
     omega (arith, same, c.put_step.ensures.room)
 
 pub returns-clause-same_room : goal.returns-clause-same_room
 returns-clause-same_room g c =
     ap (λ (x : HeldRing). lines_room c.args.self.now.listing (length x.circuits.circuits))
-    (settled_held _ _ c.args.limit c.in_ok-settle_with.ensures.outcome)
+    (settled_held _ _ c.args.limit c.in_ok-settle_with.ensures.step.outcome)
