@@ -5,4 +5,5 @@ pub mod Due
 pub mod Stepping
 pub mod Plans
 pub mod Short
+pub mod Deeds
 pub mod Promises

@@ -15,14 +15,11 @@ use Rattle.sdh_shell.specs.Calls as shell
 use Rattle.sdh_shell.specs.Failing.{Counts}
 use Rattle.sdh_shell.specs.Writing.{WritesWith}
 use Rattle.sdh_shell.proofs.Asked.{is_asked}
-use Rattle.sdh_scripts.specs.Programs.{Deed, Refuses, Writes, Runs}
+use Rattle.sdh_scripts.specs.Programs.{Runs}
 use Rattle.sdh_scripts.specs.Outcome.{MayEnd}
 use Rattle.sdh_scripts.specs.Outcome as outcome
 use Rattle.sdh_scripts.specs.Headline as headline
-use Rattle.sdh_scripts.proofs.Promises.{SettlesLarge, EndsKnown, RunsAlone, shows}
-use Rattle.sdh_sncp.specs.Fixed.{AreAlone}
-use Rattle.sdh_sncp.specs.Sharing.{AreFirstToShare}
-use Rattle.sdh_sncp_cli.specs.Steps.{first_strange}
+use Rattle.sdh_scripts.proofs.Promises.{SettlesLarge, EndsKnown, shows}
 use Rattle.sdh_sncp_cli.specs.Plans.{world_of, ran_of}
 use Rattle.sdh_sncp_cli.specs.Promise.{OwesAll}
 use Rattle.sdh_sncp_cli.specs.Endings.{number_of, line_of, path_endings}
@@ -30,29 +27,7 @@ use Rattle.sdh_sncp_cli.specs.Outcome.{pathing, told}
 use Rattle.sdh_sncp_cli.specs.Headline.{IsRunPlan, RanTo, HasRun, Delivers, EndsAsItRuns, AlwaysSettles, MayBeDone}
 use Rattle.sdh_sncp_cli.specs.declared.ending.Ending.{Ending}
 use Rattle.sdh_sncp_cli.specs.declared.ending.Ending.TheVariants as ending
-
--- ---- what is done with a plan that is run
-
--- circuits of which no two share a slot aren't the first to share one
-pub none_share : (plan : Planned) (i j : ℕ) (A : Type 0) → AreAlone plan.circuits → AreFirstToShare plan.circuits i j → A
-none_share plan i j A alone x =
-    absurd (let same : i ≡ j = alone i j x.share.first x.share.second x.share.first_is x.share.second_is x.share.slot in omega
-    (arith, x.order, same))
-
--- steps that are a path ring's have none that isn't
-pub none_strange : (plan : Planned) (step : ℕ) (A : Type 0) → first_strange plan.steps ≡ None → first_strange plan.steps ≡ Some step → A
-none_strange plan step A known strange = absurd (both known strange)
-  where
-    both : first_strange plan.steps ≡ None → first_strange plan.steps ≡ Some step → ⊥
-    both a b = grind arith
-
--- nothing else is done with it
-pub run_alone : RunsAlone pathing tt
-run_alone plan listing (Refuses (ending.NoSuchStep step)) does other = none_strange plan step _ does.0 other
-run_alone plan listing (Refuses (ending.SameSlot first second)) does other = none_share plan first second _ does.1 other.1
-run_alone plan listing (Refuses (ending.Shared how)) does other = absurd other
-run_alone plan listing (Writes told) does other = absurd other
-run_alone plan tt (Runs tt) does other = refl
+use Rattle.sdh_sncp_cli.proofs.Deeds.{run_alone}
 
 -- ---- numbers
 

@@ -33,7 +33,7 @@ pathing = record {
   endings = path_endings;
   own_plan = λ ask. None;
   Does = λ ask. Does;
-  text_of = λ listing. text_of listing.Reports;
+  text_of = λ listed. text_of listing.Reports;
   IsRunOf = IsRunOf;
   MaySettle = MaySettle;
 }

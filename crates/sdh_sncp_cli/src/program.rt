@@ -6,6 +6,7 @@ ghost use Rattle.sdh_report.specs.Reports.{Report as Reported};
 ghost use Rattle.sdh_report.specs.declared.status.Status.{Status};
 ghost use Rattle.sdh_scripts.specs.Outcome.{OfPlan};
 ghost use Rattle.sdh_scripts.specs.Headline.{MayGo};
+ghost use Rattle.sdh_sncp.specs.Fixed.{AreAlone};
 ghost use Rattle.sdh_sncp_cli.specs.Steps.{AreKnown};
 ghost use Rattle.sdh_sncp_cli.specs.Outcome.{pathing};
 ghost use Rattle.sdh_sncp_cli.specs.declared.ending.Ending.{Ending};
@@ -35,6 +36,7 @@ fn run_report<P: Plant>(
     requires known { AreKnown plan.steps }
     ensures outcome { IfOk result
         (λ report. OfPlan pathing tt plan (P.fibres plant.old) report.ending report.text.bytes (P.fibres plant.new)) }
+    ensures unmoved { ¬ (AreAlone plan.circuits) → plant.new ≡ plant.old }
     ensures failed { IfOk result
         (λ report. report.ending ≡ Ending.Shared Status.PlantFault → Rose (P.faults plant.old) (P.faults plant.new)) }
     ensures calls { IfOk result
