@@ -4,6 +4,5 @@ pub mod Filling
 pub mod Told
 pub mod Plans
 pub mod Listing
-pub mod Endings
 pub mod Promises
-pub mod Stages
+pub mod Deeds

@@ -1,75 +1,74 @@
 -- What the program promises follows from its outcome.
-use Rattle.std.proofs.Common.{arith, ◌≡◌, ℕ, true, None, Some, List, sym, subst, inl, inr}
-use Rattle.std.specs.Prelude.{Option, IfSome}
+use Rattle.std.proofs.Common.{◌≡◌, ◌≢◌, ℕ, ◌++◌, true, None, Some, List, refl, sym, subst, inl, inr}
+use Rattle.std.specs.Prelude.{Option}
 use Rattle.std.specs.Io.KnownBytes.{Appends}
 use Rattle.sdh_plant.specs.Fibres.{Fibres}
+use Rattle.sdh_plant.specs.Arrivals.{Knows}
 use Rattle.sdh_plan.specs.Planned.{Planned}
 use Rattle.sdh_report.specs.declared.listing.Listing.{Listing}
 use Rattle.sdh_report.specs.declared.status.Status.{Status}
+use Rattle.sdh_report.specs.Reports.{Report, text_of}
+use Rattle.sdh_report.specs.Statuses.{last_line}
 use Rattle.sdh_shell.specs.Calls.{HasRun}
-use Rattle.sdh_shell.proofs.Plans.{some_same, one_plan}
-use Rattle.sdh_shell.proofs.Told.{told_all}
-use Rattle.sdh_shell.proofs.Refused.{no_run}
-use Rattle.sdh_cli.specs.Words.{Ask, Run, Check, Drop, Big, listing_of}
-use Rattle.sdh_cli.specs.Outcome.{IsRunOutcome, OfListing, IsOutcome}
-use Rattle.sdh_cli.specs.Headline.{Lists, Delivers, GoesWell, EndsAsItRuns, StaysHealthy}
+use Rattle.sdh_shell.specs.Failing.{Counts}
+use Rattle.sdh_shell.specs.Writing.{Writes}
+use Rattle.sdh_scripts.specs.Outcome as outcome
+use Rattle.sdh_scripts.specs.Headline as headline
+use Rattle.sdh_scripts.proofs.Promises.{SettlesLarge, EndsKnown, shows}
+use Rattle.sdh_owed.specs.Healthy.{AllSettle}
+use Rattle.sdh_owed.specs.Plans.{world_of}
+use Rattle.sdh_promise.specs.Plans.{OwesAll}
+use Rattle.sdh_cli.specs.Plans.{IsRunOf, ran_of, ShowsHealth, RunsWell}
+use Rattle.sdh_cli.specs.Words.{Ask}
+use Rattle.sdh_cli.specs.Outcome.{ringing, told, MayEnd}
+use Rattle.sdh_cli.specs.Headline.{Lists, Delivers, GoesWell, EndsAsItRuns, AlwaysSettles, StaysHealthy, MayBeDone}
+use Rattle.sdh_cli.proofs.Deeds.{listed_deed, run_alone}
 
-module _ (f left : Fibres) (how : Status) (text : List ℕ) where
-  listed : (o : Option Listing) (plan : Planned) (listing : Listing) → o ≡ Some listing → OfListing o plan f how text left
-      → IsRunOutcome plan listing f how text left
-  listed None plan listing e x = absurd (grind arith)
-  listed (Some l) plan listing e x = subst (λ l. IsRunOutcome plan l f how text left) (some_same l listing e) x
+-- what is so of each run, by its plan, its reports and its end
+abbrev Said : Type 1
+Said = Planned → List Report → Status → Type 0
 
-  of_plan : (ask : Ask) (p plan : Planned) (listing : Listing) → p ≡ plan → listing_of ask plan ≡ Some listing
-      → OfListing (listing_of ask p) p f how text left → IsRunOutcome plan listing f how text left
-  of_plan ask p plan listing same e x =
-      listed (listing_of ask plan) plan listing e (subst (λ q. OfListing (listing_of ask q) q f how text left) same x)
+-- what is asked, if anything, has the plan and the listing that it shows
+shown : (ask : Option Ask) (f left : Fibres) (reads calls : Counts) (bytes : List ℕ) (how : Status) (old new : Option (List ℕ))
+    → Writes (λ how text. MayEnd ask bytes f reads calls how text left) how old new → (P : Said)
+    → ((plan : Planned) (reports : List Report) (end : Status) → IsRunOf plan f reports end left → P plan reports end)
+    → (plan : Planned) (listing : Listing) → Lists ask bytes plan listing → HasRun how
+    → (reports : List Report) × Appends old new (text_of listing reports ++ last_line how) × P plan reports how
+shown None f left reads calls bytes how old new x P so plan listing is h = absurd is
+shown (Some ask) f left reads calls bytes how old new x P so plan listing is h =
+    shows ringing ask f left reads calls bytes how old new x P (run_alone ask) so plan listing how is.0
+    (listed_deed ask plan listing is.1) refl h
 
-  -- the outcome is that of the run of this plan
-  pub ran_with : (ask : Option Ask) (bytes : List ℕ) (plan : Planned) (listing : Listing) → HasRun how → Lists ask bytes plan listing
-      → IsOutcome ask bytes f how text left → IsRunOutcome plan listing f how text left
-  ran_with None bytes plan listing h is x = absurd is
-  ran_with (Some Run) bytes plan listing h is (inl none) = no_run bytes how _ none.0 h
-  ran_with (Some Run) bytes plan listing h is (inr x) = of_plan Run x.0 plan listing (one_plan bytes x.0 plan x.1 is.0) is.1 x.2
-  ran_with (Some Check) bytes plan listing h is x = absurd (grind arith)
-  ran_with (Some (Drop name end)) bytes plan listing h is (inl none) = no_run bytes how _ none.0 h
-  ran_with (Some (Drop name end)) bytes plan listing h is (inr x) =
-      of_plan (Drop name end) x.0 plan listing (one_plan bytes x.0 plan x.1 is.0) is.1 x.2
-  ran_with (Some (Big number)) bytes plan listing h is x = of_plan (Big number) _ plan listing (sym is.0) is.1 x
+module _ (ask : Option Ask) (f left : Fibres) (reads calls : Counts) (bytes : List ℕ) (how : Status) (old new : Option (List ℕ))
+    (x : Writes (λ how text. MayEnd ask bytes f reads calls how text left) how old new) where
+  pub delivers : f.honest ≡ true → Delivers ask bytes how old new
+  delivers honest = shown ask f left reads calls bytes how old new x (λ plan reports end. OwesAll plan reports end)
+      (λ plan reports end came. (came.owed honest).owed)
 
--- ---- where the whole text of an outcome was written
+  pub goes_well : f.honest ≡ true → GoesWell ask bytes f how old new left
+  goes_well honest = shown ask f left reads calls bytes how old new x (λ plan reports end. RunsWell plan f reports end left)
+      (λ plan reports end came. (came.owed honest).course)
 
-module _ (ask : Option Ask) (f left : Fibres) (how : Status) (text : List ℕ) (old new : Option (List ℕ))
-    (appends : Appends old new text) where
-  ran : (bytes : List ℕ) → IsOutcome ask bytes f how text left → (plan : Planned) (listing : Listing) → Lists ask bytes plan listing
-      → HasRun how → IsRunOutcome plan listing f how text left
-  ran bytes x plan listing is h = ran_with f left how text ask bytes plan listing h is x
+  pub stays_healthy : f.honest ≡ true → StaysHealthy ask bytes how old new
+  stays_healthy honest plan listing is h all =
+      let r = shown ask f left reads calls bytes how old new x
+      (λ plan reports end. AllSettle plan.steps → ShowsHealth plan reports end)
+      (λ plan reports end came. (came.owed honest).healthy) plan listing is h in
+      (r.0, r.1, r.2 all)
 
-  delivers : f.honest ≡ true → (bytes : List ℕ) → IsOutcome ask bytes f how text left → Delivers ask bytes how old new
-  delivers honest bytes x plan listing is h = let r =
-      ran bytes x plan listing is h in (r.reports, subst (Appends old new) r.text_is appends, (r.came.owed honest).owed)
+  pub ends_as_it_runs : EndsAsItRuns ask bytes f how
+  ends_as_it_runs plan listing is h =
+      (shown ask f left reads calls bytes how old new x
+      (EndsKnown Report (λ plan. Knows (world_of plan f).fibres) (λ plan. (ran_of plan f).ending))
+      (λ plan reports end came knows. elim (came.known knows) [ inl done ↦ inl done.end_is | inr cut ↦ inr cut.0 ]) plan listing is h).2
 
-  goes_well : f.honest ≡ true → (bytes : List ℕ) → IsOutcome ask bytes f how text left → GoesWell ask bytes f how old new left
-  goes_well honest bytes x plan listing is h = let r =
-      ran bytes x plan listing is h in (r.reports, subst (Appends old new) r.text_is appends, (r.came.owed honest).course)
+  pub settles : f.honest ≡ true → AlwaysSettles ask bytes how
+  settles honest plan listing is large k e =
+      (shown ask f left reads calls bytes how old new x (SettlesLarge Report) (λ plan reports end came. came.settles honest) plan listing is
+      (subst HasRun (sym e) tt)).2 large k e
 
-  stays_healthy : f.honest ≡ true → (bytes : List ℕ) → IsOutcome ask bytes f how text left → StaysHealthy ask bytes how old new
-  stays_healthy honest bytes x plan listing is h all = let r =
-      ran bytes x plan listing is h in (r.reports, subst (Appends old new) r.text_is appends, (r.came.owed honest).healthy all)
-
-  ends_as_it_runs : (bytes : List ℕ) → IsOutcome ask bytes f how text left → EndsAsItRuns ask bytes f how
-  ends_as_it_runs bytes x plan listing is h knows = elim
-      ((ran bytes x plan listing is h).came.known knows) [ inl done ↦ inl done.end_is | inr cut ↦ inr cut.0 ]
-
-  module _ (o : Option (List ℕ)) (outcome : IfSome o (λ bytes. IsOutcome ask bytes f how text left)) where
-    pub told_owed : f.honest ≡ true → IfSome o (λ bytes. Delivers ask bytes how old new)
-    told_owed honest = told_all o _ _ (delivers honest) outcome
-
-    pub told_rounds : f.honest ≡ true → IfSome o (λ bytes. GoesWell ask bytes f how old new left)
-    told_rounds honest = told_all o _ _ (goes_well honest) outcome
-
-    pub told_healthy : f.honest ≡ true → IfSome o (λ bytes. StaysHealthy ask bytes how old new)
-    told_healthy honest = told_all o _ _ (stays_healthy honest) outcome
-
-    pub told_unsettled : IfSome o (λ bytes. EndsAsItRuns ask bytes f how)
-    told_unsettled = told_all o _ _ ends_as_it_runs outcome
+-- what is asked, where all is given for it
+pub given : (ask : Option Ask) (source : Option (List ℕ)) (f : Fibres) → MayBeDone ask (told ask source) f
+    → (a : Ask) × (ask ≡ Some a) × headline.MayBeDone ringing a (outcome.told ringing (Some a) source) f
+given None source f x = absurd x
+given (Some ask) source f x = (ask, refl, x)

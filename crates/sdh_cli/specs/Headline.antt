@@ -4,7 +4,6 @@ use Rattle.std.specs.Io.KnownBytes.{Appends}
 use Rattle.sdh_plant.specs.Fibres.{Fibres}
 use Rattle.sdh_plant.specs.Arrivals.{Knows}
 use Rattle.sdh_plan.specs.Planned.{Planned}
-use Rattle.sdh_cli.specs.Big.{big_planned}
 use Rattle.sdh_report.specs.declared.status.Status.{Status}
 use Rattle.sdh_report.specs.declared.status.Status.TheVariants as status
 use Rattle.sdh_report.specs.declared.listing.Listing.{Listing}
@@ -13,16 +12,16 @@ use Rattle.sdh_report.specs.Statuses.{last_line}
 use Rattle.sdh_rounds.specs.Quiet.{enough_for}
 use Rattle.sdh_owed.specs.Healthy.{AllSettle}
 use Rattle.sdh_owed.specs.Plans.{world_of}
-use Rattle.sdh_cli.specs.Plans.{ran_of, MaySettle, ShowsHealth, RunsWell}
+use Rattle.sdh_cli.specs.Plans.{ran_of, ShowsHealth, RunsWell}
 use Rattle.sdh_promise.specs.Plans.{OwesAll}
-use Rattle.sdh_cli.specs.Words.{Ask, Check, Big, listing_of}
-use Rattle.sdh_shell.specs.Reading.{TellsPlan}
+use Rattle.sdh_cli.specs.Words.{Ask, listing_of}
+use Rattle.sdh_cli.specs.Outcome.{ringing}
+use Rattle.sdh_scripts.specs.Headline as headline
 use Rattle.sdh_shell.specs.Calls.{HasRun}
 
 -- the plan of what is asked: that of the source's bytes, or the one of the number
 abbrev pub IsPlanFor : Ask → List ℕ → Planned → Type 0
-IsPlanFor (Big number) bytes plan = plan ≡ big_planned number
-IsPlanFor ask bytes plan = TellsPlan bytes plan
+IsPlanFor = headline.IsPlanFor ringing
 
 -- this plan is run, and this is listed of its reports
 abbrev pub Lists : Option Ask → List ℕ → Planned → Listing → Type 0
@@ -58,14 +57,8 @@ abbrev pub StaysHealthy : Option Ask → List ℕ → Status → Option (List �
 StaysHealthy ask bytes how old new = (plan : Planned) (listing : Listing) → Lists ask bytes plan listing → HasRun how → AllSettle plan.steps
     → (reports : List Report) × Appends old new (text_of listing reports ++ last_line how) × ShowsHealth plan reports how
 
--- all is given for what is asked with a plan: for the tables nothing more; for a run its port, and a script that settles, as it does over
--- honest fibres where the limit is large
-abbrev pub MayGo : Ask → Planned → Fibres → Type 0
-MayGo Check plan f = Unit {0}
-MayGo ask plan f = (listing : Listing) × (listing_of ask plan ≡ Some listing) × MaySettle plan f
-
--- the words are one of the forms, and the source tells the bytes of a plan with which all is given
+-- the words are one of the forms, and all is given for what is asked: for the tables a plan; for a run a plan, its port, and a script
+-- that settles, as it does over honest fibres where the limit is large
 abbrev pub MayBeDone : Option Ask → Option (List ℕ) → Fibres → Type 0
 MayBeDone None left f = ⊥
-MayBeDone (Some ask) None f = ⊥
-MayBeDone (Some ask) (Some bytes) f = (plan : Planned) × IsPlanFor ask bytes plan × MayGo ask plan f
+MayBeDone (Some ask) left f = headline.MayBeDone ringing ask left f

@@ -1,7 +1,6 @@
--- What the words of a command line ask for, and what that takes of source, plant and text. The words are this project's own.
+-- What the words of a command line ask for, and what is listed then. The words are this project's own.
 use Rattle.std.specs.Prelude.{ℕ, ◌-◌, ◌^◌, List, [], ◌∷◌, codes, Option, Some, None, option_map, if◌then◌else◌}
 use Rattle.std.specs.Str.{bytes_eq}
-use Rattle.std.specs.Io.KnownBytes.{IsAtEnd}
 use Rattle.sdh_circuits.specs.Provisioning.{at_port}
 use Rattle.sdh_circuits.specs.declared.End.{End}
 use Rattle.sdh_plan.specs.Planned.{Planned, provisioning_of}
@@ -45,32 +44,6 @@ asked (word ∷ []) = asked_alone word
 asked (word ∷ number ∷ []) = asked_with_number word number
 asked (word ∷ name ∷ letter ∷ []) = asked_with_port word name letter
 asked (word ∷ name ∷ letter ∷ more ∷ others) = None
-
--- ---- what is asked for of source, plant and text
-
--- what has to be known of a source: its bytes, or nothing where it isn't read
-abbrev pub told : Option Ask → Option (List ℕ) → Option (List ℕ)
-told None left = Some []
-told (Some (Big number)) left = Some []
-told (Some ask) left = left
-
--- the source isn't read
-abbrev pub LeavesSource : Option Ask → Type 0
-LeavesSource None = Unit {0}
-LeavesSource (Some (Big number)) = Unit {0}
-LeavesSource (Some ask) = ⊥
-
--- no fibre is made
-abbrev pub LeavesPlant : Option Ask → Type 0
-LeavesPlant None = Unit {0}
-LeavesPlant (Some Check) = Unit {0}
-LeavesPlant (Some ask) = ⊥
-
--- a source that is read was read to its end
-abbrev pub HasRead : Option Ask → Option (List ℕ) → Type 0
-HasRead None left = Unit {0}
-HasRead (Some (Big number)) left = Unit {0}
-HasRead (Some ask) left = IsAtEnd left
 
 -- what is listed of each report; the port that is asked for is none where the plan has no circuit of its name
 abbrev pub listing_of : Ask → Planned → Option Listing

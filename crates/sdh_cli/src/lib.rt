@@ -6,7 +6,7 @@
 
 mod big;
 mod draws;
-mod report;
+mod program;
 mod reports;
 mod run;
 mod script;

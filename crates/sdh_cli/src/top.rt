@@ -6,14 +6,15 @@ ghost use Rattle.sdh_report.specs.declared.status.Status.{Status};
 ghost use Rattle.sdh_shell.specs.Calls.{words_of};
 ghost use Rattle.sdh_shell.specs.Failing.{Counts, CameTo};
 ghost use Rattle.sdh_shell.specs.Writing.{Writes};
-ghost use Rattle.sdh_cli.specs.Words.{asked, told, LeavesSource, LeavesPlant, HasRead};
-ghost use Rattle.sdh_cli.specs.Outcome.{MayEnd};
+ghost use Rattle.sdh_cli.specs.Words.{asked};
+ghost use Rattle.sdh_cli.specs.Outcome.{told, LeavesSource, LeavesPlant, HasRead, MayEnd};
 ghost use Rattle.sdh_cli.specs.Headline.{Delivers, GoesWell, EndsAsItRuns, AlwaysSettles, StaysHealthy, MayBeDone};
 
-use crate::report::report_on;
-use sdh_outside::{Sink, Source, write_text};
+use crate::words::Command;
+use sdh_outside::{Sink, Source};
 use sdh_plant::Plant;
 use sdh_report::Status;
+use sdh_scripts::call;
 use std::alloc::Global;
 
 /// Does all that the program does. With the word `run` it reads a plan from the source, runs its ring over the plant, and writes
@@ -86,11 +87,5 @@ pub fn sdhring<R: Source, W: Sink, P: Plant>(
         → ¬ (Rose (R.faults source.old) (R.faults source.new)) → ¬ (Rose (W.faults sink.old) (W.faults sink.new))
         → ¬ (Rose (P.faults plant.old) (P.faults plant.new)) → (result ≡ Status.Ok) ⊎ (result ≡ Status.Memory) }
 {
-    let Ok(report) = report_on(alloc, words, source, plant) else {
-        return Status::Memory;
-    };
-    match write_text(sink, report.text.bytes()) {
-        Ok(()) => report.status,
-        Err(_) => Status::WriteFault,
-    }
+    call::<Command<'_>, R, W, P>(alloc, words, source, sink, plant)
 }

@@ -1,29 +1,29 @@
 -- What the program tells of a plan, and how it ends.
-use Rattle.std.specs.Prelude.{ℕ, List, codes}
+use Rattle.std.specs.Prelude.{ℕ, ◌≡◌, List, codes, None}
 use Rattle.sdh_plant.specs.Fibres.{Fibres}
 use Rattle.sdh_plant.specs.Arrivals.{Knows}
 use Rattle.sdh_report.specs.declared.status.Status.{Status}
 use Rattle.sdh_owed.specs.Plans.{world_of}
-use Rattle.sdh_scripts.proofs.Plans.{ends_of}
-use Rattle.sdh_shell.proofs.Ends.{has_run}
-use Rattle.sdh_scripts.specs.Programs.{Program}
+use Rattle.sdh_shell.specs.Endings.{statuses}
+use Rattle.sdh_scripts.specs.Programs.{deed_listing, Program}
 use Rattle.sdh_scripts.specs.Headline.{EndsAs}
 use Rattle.sdh_outage_cli.specs.Outages.{Outaged}
 use Rattle.sdh_outage_cli.specs.declared.listing.Listing.{Listing}
 use Rattle.sdh_outage_cli.specs.Lines.{text_of}
-use Rattle.sdh_outage_cli.specs.Plans.{outage_account, IsRunOf, ran_of, MaySettle}
+use Rattle.sdh_outage_cli.specs.Plans.{IsRunOf, ran_of, MaySettle}
 use Rattle.sdh_outage_cli.specs.Words.{Ask, asked, listing_of}
 
 -- it runs a plan, and tells of each settle step for how many rounds each port was without its own customer's bytes, or from which
 -- round on one port got what
-abbrev pub listening : Program Ask Listing Outaged
+abbrev pub listening : Program Ask Listing Outaged Status
 listening = record {
   usage = codes "usage: sdhoutage run, trace NAME END";
   asked = asked;
-  listing_of = listing_of;
+  endings = statuses;
+  own_plan = λ ask. None;
+  Does = λ ask plan deed. deed ≡ deed_listing (listing_of ask plan);
   text_of = text_of;
   IsRunOf = IsRunOf;
-  ends = λ plan f left told how x. has_run how (ends_of outage_account plan f left how told x);
   MaySettle = MaySettle;
 }
 

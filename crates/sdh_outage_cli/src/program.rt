@@ -1,5 +1,5 @@
 //! What the program does with a plan.
-ghost use Rattle.std.specs.Prelude.{◌≡◌, ◌≤◌, true, length, IfOk, OnErr};
+ghost use Rattle.std.specs.Prelude.{◌≡◌, ◌≤◌, true, refl, length, IfOk, OnErr};
 ghost use Rattle.sdh_basics.specs.Causes.{Rose, IsCounted};
 ghost use Rattle.sdh_plant.specs.Fibres.{HasNoFibres};
 ghost use Rattle.sdh_scripts.specs.Outcome.{IsRunOutcome};
@@ -26,17 +26,17 @@ fn run_report<P: Plant>(
     plan: Plan,
     plant: &mut P,
     listing: Listing,
-) -> Result<Report, AllocError>
+) -> Result<Report<Status>, AllocError>
     requires fresh { HasNoFibres (P.fibres plant.old) }
     requires listing { MayList (length plan.circuits) listing }
     ensures outcome { IfOk result
-        (λ report. IsRunOutcome listening listing plan (P.fibres plant.old) report.status report.text.bytes (P.fibres plant.new)) }
-    ensures failed { IfOk result (λ report. report.status ≡ Status.PlantFault → Rose (P.faults plant.old) (P.faults plant.new)) }
+        (λ report. IsRunOutcome listening listing plan (P.fibres plant.old) report.ending report.text.bytes (P.fibres plant.new)) }
+    ensures failed { IfOk result (λ report. report.ending ≡ Status.PlantFault → Rose (P.faults plant.old) (P.faults plant.new)) }
     ensures calls { IfOk result
-        (λ report. IsCounted P.exact (report.status ≡ Status.PlantFault) (P.faults plant.old) (P.faults plant.new)) }
+        (λ report. IsCounted P.exact (report.ending ≡ Status.PlantFault) (P.faults plant.old) (P.faults plant.new)) }
     ensures without { OnErr result (P.exact ≡ true → P.faults plant.new ≡ P.faults plant.old) }
     ensures complete { IfOk result
-        (λ report. MaySettle plan (P.fibres plant.old) → ¬ (Rose (P.faults plant.old) (P.faults plant.new)) → report.status ≡ Status.Ok) }
+        (λ report. MaySettle plan (P.fibres plant.old) → ¬ (Rose (P.faults plant.old) (P.faults plant.new)) → report.ending ≡ Status.Ok) }
     ensures later { P.faults plant.old ≤ P.faults plant.new }
     ensures unsent { OnErr result (P.fibres plant.new ≡ P.fibres plant.old) }
 {
@@ -45,6 +45,8 @@ fn run_report<P: Plant>(
 }
 
 impl<'a> RunsPlans<'a> for Command<'a> {
+    type Ending = Status;
+
     ghost Ask = { Asked };
 
     ghost Listing = { Listed };
@@ -66,10 +68,21 @@ impl<'a> RunsPlans<'a> for Command<'a> {
         command_of(words)
     }
 
-    fn run<P: Plant>(self, alloc: Global, plan: Plan, plant: &mut P) -> Result<Report, AllocError> {
+    fn own_plan(self, _alloc: Global) -> Result<Option<Plan>, AllocError> {
+        Ok(None)
+    }
+
+    fn run<P: Plant>(
+        self,
+        alloc: Global,
+        plan: Plan,
+        plant: &mut P,
+    ) -> Result<Report<Status>, AllocError> {
         match listing_of(self, &plan) {
             Some(listing) => run_report(alloc, plan, plant, listing),
             None => last_report(alloc, Status::NoSuchPort),
         }
     }
+
+    ghost same_endings = { refl };
 }

@@ -1,5 +1,6 @@
 pub mod Stages
 pub mod Promises
+pub mod Deeds
 pub mod Frames
 pub mod Known
 pub mod Reporting

@@ -5,20 +5,27 @@ use Rattle.sdh_plant.specs.Fibres.{Fibres}
 use Rattle.sdh_plan.specs.Planned.{Planned}
 use Rattle.sdh_report.specs.declared.status.Status.{Status}
 use Rattle.sdh_report.specs.declared.status.Status.TheVariants as status
-use Rattle.sdh_report.specs.Statuses.{last_line}
 use Rattle.sdh_rounds.specs.Quiet.{enough_for}
 use Rattle.sdh_scripts.specs.Outcomes.{IsSettled}
 use Rattle.sdh_shell.specs.Reading.{TellsPlan}
 use Rattle.sdh_shell.specs.Calls.{HasRun}
-use Rattle.sdh_scripts.specs.Programs.{Program}
+use Rattle.sdh_scripts.specs.Programs.{Deed, Refuses, Writes, Runs, Program}
 
--- What was written is what is listed of what is told of settle steps, and the last line; and what is told, and how it ended, is
--- what `P` says of the plan.
-abbrev pub Shows : {A L T : Type 0} → Program A L T → A → (Planned → List T → Status → Type 0) → List ℕ → Status → Option (List ℕ)
+-- the plan of what is asked: one of its own, or that of the source's bytes
+abbrev pub is_plan_for : Option Planned → List ℕ → Planned → Type 0
+is_plan_for None bytes plan = TellsPlan bytes plan
+is_plan_for (Some own) bytes plan = plan ≡ own
+
+abbrev pub IsPlanFor : {A L T E : Type 0} → Program A L T E → A → List ℕ → Planned → Type 0
+IsPlanFor program ask bytes plan = is_plan_for (program.own_plan ask) bytes plan
+
+-- Where a plan is run and the run came to its end, what was written is what is listed of what is told of settle steps, and the last
+-- line; and what is told, and how it ended, is what `P` says of the plan.
+abbrev pub Shows : {A L T E : Type 0} → Program A L T E → A → (Planned → List T → Status → Type 0) → List ℕ → E → Option (List ℕ)
     → Option (List ℕ) → Type 0
-Shows {L = L} {T = T} program ask P bytes how old new = (plan : Planned) → TellsPlan bytes plan → HasRun how
-    → (listing : L) × (told : List T) × (program.listing_of ask plan ≡ Some listing)
-    × Appends old new (program.text_of listing told ++ last_line how) × P plan told how
+Shows {L = L} {T = T} program ask P bytes how old new = (plan : Planned) (listing : L) (end : Status) → IsPlanFor program ask bytes plan
+    → program.Does ask plan (Runs listing) → how ≡ program.endings.of end → HasRun end
+    → (told : List T) × Appends old new (program.text_of listing told ++ program.endings.line how) × P plan told end
 
 -- where so much is known of the plan it ended as told, or a plant's call failed
 abbrev pub EndsAs : (Planned → Type 0) → (Planned → Status) → List ℕ → Status → Type 0
@@ -29,11 +36,17 @@ EndsAs Known ending bytes how =
 abbrev pub AlwaysSettles : List ℕ → Status → Type 0
 AlwaysSettles bytes how = (plan : Planned) → TellsPlan bytes plan → enough_for (length plan.nodes) ≤ plan.limit → IsSettled how
 
--- all is given for what is asked with a plan: its port, and a script that comes to its end
-abbrev pub MayGo : {A L T : Type 0} → Program A L T → A → Planned → Fibres → Type 0
-MayGo {L = L} program ask plan f = (listing : L) × (program.listing_of ask plan ≡ Some listing) × program.MaySettle plan f
+-- all is given for this: a plan of which a text is written, or one that is run and comes to its end
+abbrev pub may_do : {A L T E : Type 0} → Program A L T E → Deed L E → Planned → Fibres → Type 0
+may_do program (Refuses why) plan f = ⊥
+may_do program (Writes told) plan f = Unit {0}
+may_do program (Runs listing) plan f = program.MaySettle plan f
+
+-- all is given for what is asked with a plan
+abbrev pub MayGo : {A L T E : Type 0} → Program A L T E → A → Planned → Fibres → Type 0
+MayGo {L = L} {E = E} program ask plan f = (deed : Deed L E) × program.Does ask plan deed × may_do program deed plan f
 
 -- the source tells the bytes of a plan with which all is given
-abbrev pub MayBeDone : {A L T : Type 0} → Program A L T → A → Option (List ℕ) → Fibres → Type 0
+abbrev pub MayBeDone : {A L T E : Type 0} → Program A L T E → A → Option (List ℕ) → Fibres → Type 0
 MayBeDone program ask None f = ⊥
-MayBeDone program ask (Some bytes) f = (plan : Planned) × TellsPlan bytes plan × MayGo program ask plan f
+MayBeDone program ask (Some bytes) f = (plan : Planned) × IsPlanFor program ask bytes plan × MayGo program ask plan f

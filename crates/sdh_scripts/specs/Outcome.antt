@@ -1,4 +1,4 @@
--- How a call of a program ends: each status, when it is answered, and the text that goes with it.
+-- How a call of a program ends: each ending, when it is answered, and the text that goes with it.
 use Rattle.std.specs.Prelude.{◌≡◌, ◌⊎◌, ℕ, Bool, true, false, List, ◌++◌, Option, Some, None}
 use Rattle.std.specs.Io.KnownBytes.{IsAtEnd}
 use Rattle.sdh_plant.specs.Fibres.{Fibres}
@@ -6,51 +6,102 @@ use Rattle.sdh_plan.specs.Planned.{Planned}
 use Rattle.sdh_report.specs.declared.status.Status.{Status}
 use Rattle.sdh_report.specs.declared.status.Status.TheVariants as status
 use Rattle.sdh_report.specs.Lines.{own_line}
-use Rattle.sdh_report.specs.Statuses.{last_line}
-use Rattle.sdh_shell.specs.Reading.{HasNoPlan, TellsPlan}
-use Rattle.sdh_shell.specs.Failing.{Counts, HasCause}
-use Rattle.sdh_shell.specs.Writing.{Says, HasNoPort}
-use Rattle.sdh_scripts.specs.Programs.{Program}
+use Rattle.sdh_shell.specs.Calls.{HasRun}
+use Rattle.sdh_shell.specs.Endings.{RefusesPlan}
+use Rattle.sdh_shell.specs.Reading.{HasNoPlan, TellsPlan, told_if}
+use Rattle.sdh_shell.specs.Failing.{Counts, EndsWithCause}
+use Rattle.sdh_shell.specs.Writing.{Says, WritesWith}
+use Rattle.sdh_scripts.specs.Programs.{Deed, Refuses, Writes, Runs, Program}
 
 -- ---- with a plan
 
--- A plan was run over new fibres: the text is what is listed of what is told of its settle steps, and the last line.
-pub record IsRunOutcome {A L T : Type 0} (program : Program A L T) (listing : L) (plan : Planned) (f : Fibres) (how : Status)
+-- A plan was run over new fibres and the run came to its end: the text is what is listed of what is told of its settle steps, and the
+-- last line.
+pub record IsRunOutcome {A L T E : Type 0} (program : Program A L T E) (listing : L) (plan : Planned) (f : Fibres) (how : E)
     (text : List ℕ) (left : Fibres) : Type 0 where
+  pub status : Status
+  pub how_is : how ≡ program.endings.of status
+  pub ends : HasRun status
   pub told : List T
-  pub text_is : text ≡ program.text_of listing told ++ last_line how
-  pub came : program.IsRunOf plan f told how left
+  pub text_is : text ≡ program.text_of listing told ++ program.endings.line how
+  pub came : program.IsRunOf plan f told status left
 
--- what a run comes to, where this is listed
-abbrev pub OfListing : {A L T : Type 0} → Program A L T → Option L → Planned → Fibres → Status → List ℕ → Fibres → Type 0
-OfListing program None plan f how text left = HasNoPort f how text left
-OfListing program (Some listing) plan f how text left = IsRunOutcome program listing plan f how text left
+-- What is done with a plan comes to this. Where no round is run the fibres are left alone: there is the last line alone, or the text and
+-- the last line.
+abbrev pub OfDeed : {A L T E : Type 0} → Program A L T E → Deed L E → Planned → Fibres → E → List ℕ → Fibres → Type 0
+OfDeed program (Refuses why) plan f how text left =
+    (how ≡ why) × RefusesPlan program.endings how × Says (program.endings.line how) text f left
+OfDeed program (Writes told) plan f how text left =
+    (how ≡ program.endings.of status.Ok) × Says (told ++ program.endings.line how) text f left
+OfDeed program (Runs listing) plan f how text left = IsRunOutcome program listing plan f how text left
 
 -- what is asked comes to this with a plan
-abbrev pub OfPlan : {A L T : Type 0} → Program A L T → A → Planned → Fibres → Status → List ℕ → Fibres → Type 0
-OfPlan program ask plan f how text left = OfListing program (program.listing_of ask plan) plan f how text left
+abbrev pub OfPlan : {A L T E : Type 0} → Program A L T E → A → Planned → Fibres → E → List ℕ → Fibres → Type 0
+OfPlan {L = L} {E = E} program ask plan f how text left =
+    (deed : Deed L E) × program.Does ask plan deed × OfDeed program deed plan f how text left
 
 -- ---- with the bytes of a source
 
--- there is no plan, the last line is all of the text, and the fibres are left alone; or what is asked comes to this with the plan
-abbrev pub OfBytes : {A L T : Type 0} → Program A L T → A → List ℕ → Fibres → Status → List ℕ → Fibres → Type 0
+-- there is no plan in them, the last line is all of the text, and the fibres are left alone
+pub record HasRefused {A L T E : Type 0} (program : Program A L T E) (bytes : List ℕ) (f : Fibres) (how : E) (text : List ℕ)
+    (left : Fibres) : Type 0 where
+  pub status : Status
+  pub how_is : how ≡ program.endings.of status
+  pub none : HasNoPlan bytes status
+  pub says : Says (program.endings.line how) text f left
+
+-- or what is asked comes to this with the plan
+abbrev pub OfBytes : {A L T E : Type 0} → Program A L T E → A → List ℕ → Fibres → E → List ℕ → Fibres → Type 0
 OfBytes program ask bytes f how text left =
-    (HasNoPlan bytes how × Says (last_line how) text f left)
-    ⊎ ((plan : Planned) × TellsPlan bytes plan × OfPlan program ask plan f how text left)
+    HasRefused program bytes f how text left ⊎ ((plan : Planned) × TellsPlan bytes plan × OfPlan program ask plan f how text left)
 
 -- ---- with the words
 
--- what is asked, if anything, comes to this status, with this text, where the source had these bytes left. No outcome is a write fault
+-- what is asked comes to this with a plan of its own, or with the bytes of a source
+abbrev pub OfOwnPlan : {A L T E : Type 0} → Program A L T E → A → Option Planned → List ℕ → Fibres → E → List ℕ → Fibres → Type 0
+OfOwnPlan program ask None bytes f how text left = OfBytes program ask bytes f how text left
+OfOwnPlan program ask (Some plan) bytes f how text left = OfPlan program ask plan f how text left
+
+-- what is asked, if anything, comes to this ending, with this text, where the source had these bytes left. No outcome is a write fault
 -- or want of memory: they may stand in place of one
-abbrev pub IsOutcome : {A L T : Type 0} → Program A L T → Option A → List ℕ → Fibres → Status → List ℕ → Fibres → Type 0
-IsOutcome program None bytes f how text left = (how ≡ status.Usage) × Says (own_line program.usage) text f left
-IsOutcome program (Some ask) bytes f how text left = OfBytes program ask bytes f how text left
+abbrev pub IsOutcome : {A L T E : Type 0} → Program A L T E → Option A → List ℕ → Fibres → E → List ℕ → Fibres → Type 0
+IsOutcome program None bytes f how text left = (how ≡ program.endings.of status.Usage) × Says (own_line program.usage) text f left
+IsOutcome program (Some ask) bytes f how text left = OfOwnPlan program ask (program.own_plan ask) bytes f how text left
+
+-- an outcome that these failures allow
+abbrev pub MayEnd : {A L T E : Type 0} → Program A L T E → Option A → List ℕ → Fibres → Counts → Counts → E → List ℕ → Fibres → Type 0
+MayEnd program asked bytes f reads calls how text left =
+    IsOutcome program asked bytes f how text left × EndsWithCause program.endings reads calls how
+
+-- what was written when this number was answered
+pub record Answers {A L T E : Type 0} (program : Program A L T E) (asked : Option A) (bytes : List ℕ) (f left : Fibres)
+    (reads calls : Counts) (number : ℕ) (old new : Option (List ℕ)) : Type 0 where
+  pub ending : E
+  pub numbered : number ≡ program.endings.number ending
+  pub writes : WritesWith program.endings (λ how text. MayEnd program asked bytes f reads calls how text left) ending old new
+
+-- ---- what is asked for of source and plant
+
+-- the source is read where there is no plan of its own
+abbrev pub reads_without : Option Planned → Bool
+reads_without None = true
+reads_without (Some plan) = false
+
+-- it is read for what is asked
+abbrev pub reads_source : {A L T E : Type 0} → Program A L T E → Option A → Bool
+reads_source program None = false
+reads_source program (Some ask) = reads_without (program.own_plan ask)
+
+-- what has to be known of a source: its bytes, or nothing where it isn't read
+abbrev pub told : {A L T E : Type 0} → Program A L T E → Option A → Option (List ℕ) → Option (List ℕ)
+told program asked left = told_if (reads_source program asked) left
 
 -- a source that is read was read to its end
 abbrev pub HasRead : Bool → Option (List ℕ) → Type 0
 HasRead false left = Unit {0}
 HasRead true left = IsAtEnd left
 
--- an outcome that these failures allow
-abbrev pub MayEnd : {A L T : Type 0} → Program A L T → Option A → List ℕ → Fibres → Counts → Counts → Status → List ℕ → Fibres → Type 0
-MayEnd program asked bytes f reads calls how text left = IsOutcome program asked bytes f how text left × HasCause reads calls how
+-- no plan is run
+abbrev pub LeavesPlant : {A L T E : Type 0} → Program A L T E → Option A → Type 0
+LeavesPlant program None = Unit {0}
+LeavesPlant {L = L} program (Some ask) = (plan : Planned) (listing : L) → program.Does ask plan (Runs listing) → ⊥

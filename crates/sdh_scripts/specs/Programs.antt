@@ -1,23 +1,38 @@
 -- What a program that runs plans is asked for, and what it tells then.
-use Rattle.std.specs.Prelude.{ℕ, List, Option}
+use Rattle.std.specs.Prelude.{ℕ, List, Option, Some, None}
 use Rattle.sdh_plant.specs.Fibres.{Fibres}
 use Rattle.sdh_plan.specs.Planned.{Planned}
 use Rattle.sdh_report.specs.declared.status.Status.{Status}
-use Rattle.sdh_shell.specs.Calls.{HasRun}
+use Rattle.sdh_report.specs.declared.status.Status.TheVariants as status
+use Rattle.sdh_shell.specs.Endings.{Endings}
 
--- What it can be asked for; what can be listed of a plan; and what is told of a settle step, whatever is listed of that.
-pub record Program (Ask Listing Told : Type 0) : Type 1 where
+-- What is done with a plan: it is refused with this ending; this text is written of it, and no round is run; or it is run, and this is
+-- listed of its settle steps.
+pub data Deed (L E : Type 0) : Type 0 where
+  Refuses : E → Deed L E
+  Writes : List ℕ → Deed L E
+  Runs : L → Deed L E
+
+-- it is run where there is something to list; else it has no such port
+abbrev pub deed_listing : {L : Type 0} → Option L → Deed L Status
+deed_listing None = Refuses status.NoSuchPort
+deed_listing (Some listing) = Runs listing
+
+-- What it can be asked for; what can be listed of a plan; what is told of a settle step, whatever is listed of that; and how it ends.
+pub record Program (Ask Listing Told E : Type 0) : Type 1 where
   -- how it is called
   pub usage : List ℕ
   -- what the words ask for, where they have one of its forms
   pub asked : List (List ℕ) → Option Ask
-  -- what is listed then; the port that is asked for is none where the plan has no circuit of its name
-  pub listing_of : Ask → Planned → Option Listing
+  -- how it ends
+  pub endings : Endings E
+  -- a plan of its own, which what is asked names; else the plan is read from a source
+  pub own_plan : Ask → Option Planned
+  -- what is done with a plan
+  pub Does : Ask → Planned → Deed Listing E → Type 0
   -- the text of what is listed of what is told of settle steps
   pub text_of : Listing → List Told → List ℕ
   -- what is told of the settle steps of a plan that is run over new fibres, how the run ends, and the fibres that it leaves
   pub IsRunOf : Planned → Fibres → List Told → Status → Fibres → Type 0
-  -- a run comes to an end as a script does
-  pub ends : (plan : Planned) (f left : Fibres) (told : List Told) (how : Status) → IsRunOf plan f told how left → HasRun how
   -- with which plan and fibres it is done
   pub MaySettle : Planned → Fibres → Type 0

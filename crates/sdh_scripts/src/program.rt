@@ -4,18 +4,21 @@ ghost use Rattle.sdh_basics.specs.Causes.{Rose, IsCounted};
 ghost use Rattle.sdh_plant.specs.Fibres.{HasNoFibres};
 ghost use Rattle.sdh_report.specs.declared.status.Status.{Status};
 ghost use Rattle.sdh_shell.specs.Calls.{words_of};
-ghost use Rattle.sdh_scripts.specs.Programs.{Program};
+ghost use Rattle.sdh_scripts.specs.Programs.{Runs, Program};
 ghost use Rattle.sdh_scripts.specs.Outcome.{OfPlan};
 ghost use Rattle.sdh_scripts.specs.Headline.{MayGo};
 
 use sdh_plan::Plan;
 use sdh_plant::Plant;
 use sdh_report::Status;
-use sdh_shell::Report;
+use sdh_shell::{Ends, Report};
 use std::alloc::{AllocError, Global};
 
 /// What a program that runs plans is asked for by its words.
 pub trait RunsPlans<'a>: Copy {
+    /// How it ends.
+    type Ending: Ends;
+
     /// What that can be, as definitions tell it.
     ghost Ask: { Type 0 };
 
@@ -26,7 +29,7 @@ pub trait RunsPlans<'a>: Copy {
     ghost Told: { Type 0 };
 
     /// How the program is called, and what it tells of plans.
-    ghost program: { Program Ask Listing Told };
+    ghost program: { Program Ask Listing Told Self.Ending };
 
     /// What is asked for.
     ghost ask_of: { Self → Ask };
@@ -40,18 +43,35 @@ pub trait RunsPlans<'a>: Copy {
     fn asked(words: &'a [String]) -> Option<Self>
         ensures { option_map ask_of result ≡ program.asked (words_of words.now) };
 
-    /// Runs a plan over new fibres: the text of what is listed of its settle steps, and the last line; or that line alone,
-    /// where the plan has no such port.
-    fn run<P: Plant>(self, alloc: Global, plan: Plan, plant: &mut P) -> Result<Report, AllocError>
+    /// The plan that what is asked for names, or `None` where the plan is read from a source.
+    fn own_plan(self, alloc: Global) -> Result<Option<Plan>, AllocError>
+        ensures { IfOk result (λ own. own ≡ program.own_plan (ask_of self)) };
+
+    /// Does what is asked for with a plan, and runs it over new fibres where it is to be run: the text of what is listed of
+    /// its settle steps, and the last line; or the text that is written of it, and the last line; or that line alone, where
+    /// the plan is refused.
+    fn run<P: Plant>(
+        self,
+        alloc: Global,
+        plan: Plan,
+        plant: &mut P,
+    ) -> Result<Report<Self::Ending>, AllocError>
         requires fresh { HasNoFibres (P.fibres plant.old) }
         ensures outcome { IfOk result
-            (λ report. OfPlan program (ask_of self) plan (P.fibres plant.old) report.status report.text.bytes (P.fibres plant.new)) }
-        ensures failed { IfOk result (λ report. report.status ≡ Status.PlantFault → Rose (P.faults plant.old) (P.faults plant.new)) }
+            (λ report. OfPlan program (ask_of self) plan (P.fibres plant.old) report.ending report.text.bytes (P.fibres plant.new)) }
+
+        // A plan that isn't to be run leaves the plant as it is.
+        ensures alone { ((listing : Listing) → ¬ (program.Does (ask_of self) plan (Runs listing))) → plant.new ≡ plant.old }
+        ensures failed { IfOk result
+            (λ report. report.ending ≡ program.endings.of Status.PlantFault → Rose (P.faults plant.old) (P.faults plant.new)) }
         ensures calls { IfOk result
-            (λ report. IsCounted P.exact (report.status ≡ Status.PlantFault) (P.faults plant.old) (P.faults plant.new)) }
+            (λ report. IsCounted P.exact (report.ending ≡ program.endings.of Status.PlantFault) (P.faults plant.old) (P.faults plant.new)) }
         ensures without { OnErr result (P.exact ≡ true → P.faults plant.new ≡ P.faults plant.old) }
         ensures complete { IfOk result (λ report. MayGo program (ask_of self) plan (P.fibres plant.old)
-            → ¬ (Rose (P.faults plant.old) (P.faults plant.new)) → report.status ≡ Status.Ok) }
+            → ¬ (Rose (P.faults plant.old) (P.faults plant.new)) → report.ending ≡ program.endings.of Status.Ok) }
         ensures later { P.faults plant.old ≤ P.faults plant.new }
         ensures unsent { OnErr result (P.fibres plant.new ≡ P.fibres plant.old) };
+
+    /// The endings are those of its type.
+    ghost same_endings: { program.endings ≡ Self.Ending.endings };
 }

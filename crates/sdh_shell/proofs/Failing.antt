@@ -1,9 +1,12 @@
 -- Calls that failed, and answers.
-use Rattle.std.proofs.Common.{◌≡◌, ℕ, Bool, true, List, refl, arith}
+use Rattle.std.proofs.Common.{◌≡◌, ℕ, Bool, true, List, refl, ap, arith}
 use Rattle.std.specs.Prelude.{Result, Ok, Err, Option}
 use Rattle.sdh_basics.specs.Causes.{IsCounted}
+use Rattle.sdh_report.specs.declared.status.Status.{Status}
 use Rattle.sdh_report.specs.declared.status.Status.TheVariants as status
-use Rattle.sdh_shell.specs.Failing.{Counts, CameOfSource, CameToFaults, CameTo}
+use Rattle.sdh_shell.specs.Endings.{Endings}
+use Rattle.sdh_shell.specs.Failing.{Counts, CameOfSource, CameToFaults, CameToEnding}
+use Rattle.sdh_shell.proofs.Endings.{one_status}
 
 not_err_eq : {T E : Type 0} (x : T) (e : E) (r : Result T E) → r ≡ Ok x → r ≡ Err e → ⊥
 not_err_eq x e r a b = grind arith
@@ -15,6 +18,11 @@ not_err x e d = not_err_eq x e (Ok x) refl d
 -- no call failed, and there is no fault
 pub counted_none : {A : Type 0} (exact : Bool) (before now : ℕ) → (A → ⊥) → (exact ≡ true → now ≡ before) → IsCounted exact A before now
 counted_none exact before now never same = record { one = λ e a. absurd (never a); none = λ e other. same e }
+
+-- what is counted by one fault is counted by another that comes where it comes
+pub counted_as : {A B : Type 0} (exact : Bool) (before now : ℕ) → (B → A) → (A → B) → IsCounted exact A before now
+    → IsCounted exact B before now
+counted_as exact before now to from x = record { one = λ e b. x.one e (to b); none = λ e other. x.none e (λ a. other (from a)) }
 
 -- no call of an object whose count is exact has failed
 abbrev pub HasNotFailed : Bool → Counts → Type 0
@@ -31,7 +39,7 @@ came_of_none exact reads left now same no_read no_long = record {
 module _ (source_exact plant_exact : Bool) (reads calls : Counts) (left now : Option (List ℕ))
     (same : HasNotFailed source_exact reads × HasNotFailed plant_exact calls) where
   -- no call of a plant failed either
-  pub came_to_none : {ReadFault PlantFault TooLong : Type 0} → (ReadFault → ⊥) → (PlantFault → ⊥) → (TooLong → ⊥)
+  came_to_none : {ReadFault PlantFault TooLong : Type 0} → (ReadFault → ⊥) → (PlantFault → ⊥) → (TooLong → ⊥)
       → CameToFaults source_exact plant_exact reads calls left now ReadFault PlantFault TooLong
   came_to_none no_read no_call no_long = record {
     source = came_of_none source_exact reads left now same.0 no_read no_long;
@@ -39,5 +47,10 @@ module _ (source_exact plant_exact : Bool) (reads calls : Counts) (left now : Op
   }
 
   -- there was no memory, and no call failed
-  pub came_without : CameTo source_exact plant_exact reads calls left now status.Memory
-  came_without = came_to_none (λ e. grind arith) (λ e. grind arith) (λ e. grind arith)
+  pub came_without : {E : Type 0} (endings : Endings E)
+      → CameToEnding endings source_exact plant_exact reads calls left now (endings.of status.Memory)
+  came_without endings = came_to_none (other status.ReadFault (λ e. grind arith)) (other status.PlantFault (λ e. grind arith))
+      (other status.TooLong (λ e. grind arith))
+    where
+      other : (s : Status) → (status.Memory ≡ s → ⊥) → endings.of status.Memory ≡ endings.of s → ⊥
+      other s never e = never (one_status endings status.Memory s e)

@@ -1,6 +1,7 @@
 pub mod Plans
+pub mod Endings
 pub mod Failing
 pub mod Told
-pub mod Ends
 pub mod Refused
 pub mod Writing
+pub mod Asked

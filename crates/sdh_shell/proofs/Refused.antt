@@ -1,9 +1,15 @@
 -- What is not where a source has no plan.
-use Rattle.std.proofs.Common.{ℕ, List}
+use Rattle.std.proofs.Common.{◌≡◌, ℕ, List, ap, sym, ◌∙◌}
+use Rattle.std.specs.Prelude.{Result, Err}
+use Rattle.sdh_plan.specs.Planned.{Planned}
 use Rattle.sdh_report.specs.declared.status.Status.{Status}
 use Rattle.sdh_report.specs.declared.status.Status.TheVariants as status
-use Rattle.sdh_shell.specs.Reading.{HasNoPlan}
 use Rattle.sdh_shell.specs.Calls.{HasRun}
+use Rattle.sdh_shell.specs.Endings.{Endings}
+use Rattle.sdh_shell.specs.Reading.{HasNoPlan}
+use Rattle.sdh_shell.specs.declared.reading.NoPlan.{NoPlan}
+use Rattle.sdh_shell.specs.declared.reading.NoPlan.TheVariants.{Refused}
+use Rattle.sdh_shell.proofs.Endings.{one_status}
 
 -- without a plan nothing is run
 pub no_run : (bytes : List ℕ) (how : Status) (A : Type 0) → HasNoPlan bytes how → HasRun how → A
@@ -11,3 +17,9 @@ no_run bytes status.Ok A x h = absurd x
 no_run bytes (status.Unsettled k) A x h = absurd x
 no_run bytes status.PlantFault A x h = absurd x
 no_run bytes how A x h = absurd h
+
+-- an ending that is that of too many bytes was answered with them
+pub was_too_long : {E : Type 0} (endings : Endings E) (why : NoPlan) (how : Status) (end : E) → why ≡ Refused how → end ≡ endings.of how
+    → end ≡ endings.of status.TooLong → ◌≡◌ {A = Result Planned NoPlan} (Err why) (Err (Refused status.TooLong))
+was_too_long endings why how end refused is long =
+    ap (λ (w : NoPlan). Err w) (refused ∙ ap Refused (one_status endings how status.TooLong (sym is ∙ long)))

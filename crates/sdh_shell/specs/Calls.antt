@@ -19,6 +19,10 @@ is_run words = false
 abbrev pub AreRun : List (List ℕ) → Type 0
 AreRun words = is_run words ≡ true
 
+-- what a program is asked for that is asked for one thing, with the word `run`
+abbrev pub asked_to_run : List (List ℕ) → Option (Unit {0})
+asked_to_run words = if is_run words then Some tt else None
+
 -- the end that a letter names
 abbrev pub end_lettered : List ℕ → Option End
 end_lettered letter = if bytes_eq letter (codes "a") then Some A else if bytes_eq letter (codes "b") then Some B else None

@@ -1,9 +1,10 @@
 -- Calls of a source and a plant that failed, and what they are told by.
-use Rattle.std.specs.Prelude.{◌≡◌, ℕ, Bool, List, Option}
+use Rattle.std.specs.Prelude.{◌≡◌, ℕ, Bool, List, Option, Some, None}
 use Rattle.sdh_basics.specs.Causes.{Rose, IsCounted}
 use Rattle.sdh_outside.specs.Reading.{TakesCount}
 use Rattle.sdh_report.specs.declared.status.Status.{Status}
 use Rattle.sdh_report.specs.declared.status.Status.TheVariants as status
+use Rattle.sdh_shell.specs.Endings.{Endings, statuses}
 
 -- how often calls of an object had failed, before and after
 pub record Counts : Type 0 where
@@ -20,6 +21,14 @@ HasCause reads calls status.ReadFault = HaveFailed reads
 HasCause reads calls status.PlantFault = HaveFailed calls
 HasCause reads calls how = Unit {0}
 
+abbrev pub cause_of : Counts → Counts → Option Status → Type 0
+cause_of reads calls None = Unit {0}
+cause_of reads calls (Some how) = HasCause reads calls how
+
+-- so they have in any program; an ending of its own needs none
+abbrev pub EndsWithCause : {E : Type 0} → Endings E → Counts → Counts → E → Type 0
+EndsWithCause endings reads calls how = cause_of reads calls (endings.shared how)
+
 -- What had come of a source when there was something to tell: a read fault, too many bytes or neither. Where its count is exact, one
 -- read failed with a read fault, and none without it. With too many bytes, one more than are read was taken.
 pub record CameOfSource (exact : Bool) (reads : Counts) (left now : Option (List ℕ)) (ReadFault TooLong : Type 0) : Type 0 where
@@ -32,7 +41,12 @@ pub record CameToFaults (source_exact plant_exact : Bool) (reads calls : Counts)
   pub source : CameOfSource source_exact reads left now ReadFault TooLong
   pub plant : IsCounted plant_exact PlantFault calls.before calls.after
 
--- what had come of source and plant when there was this status to tell
+-- what had come of source and plant when there was this ending to tell
+abbrev pub CameToEnding : {E : Type 0} → Endings E → Bool → Bool → Counts → Counts → Option (List ℕ) → Option (List ℕ) → E → Type 0
+CameToEnding endings source_exact plant_exact reads calls left now how =
+    CameToFaults source_exact plant_exact reads calls left now (how ≡ endings.of status.ReadFault) (how ≡ endings.of status.PlantFault)
+    (how ≡ endings.of status.TooLong)
+
+-- this status
 abbrev pub CameTo : Bool → Bool → Counts → Counts → Option (List ℕ) → Option (List ℕ) → Status → Type 0
-CameTo source_exact plant_exact reads calls left now how =
-    CameToFaults source_exact plant_exact reads calls left now (how ≡ status.ReadFault) (how ≡ status.PlantFault) (how ≡ status.TooLong)
+CameTo = CameToEnding statuses

@@ -1,4 +1,5 @@
 pub mod Calls
+pub mod Endings
 pub mod Reading
 pub mod Failing
 pub mod Writing

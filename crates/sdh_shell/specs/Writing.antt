@@ -1,18 +1,14 @@
 -- What is written with which ending of a call.
-use Rattle.std.specs.Prelude.{◌≡◌, ◌≢◌, ℕ, List, Option}
+use Rattle.std.specs.Prelude.{◌≡◌, ℕ, List, Option, Some, None}
 use Rattle.std.specs.Io.KnownBytes.{Appends, Keeps}
 use Rattle.sdh_outside.specs.Writing.{AppendsFewer}
 use Rattle.sdh_report.specs.declared.status.Status.{Status}
 use Rattle.sdh_report.specs.declared.status.Status.TheVariants as status
-use Rattle.sdh_report.specs.Statuses.{last_line}
+use Rattle.sdh_shell.specs.Endings.{Endings}
 
 -- this line is all of the text, and the fibres are left alone
 abbrev pub Says : {F : Type 0} → List ℕ → List ℕ → F → F → Type 0
 Says line text f left = (text ≡ line) × (left ≡ f)
-
--- there is no such port, and that is all that is told
-abbrev pub HasNoPort : {F : Type 0} → F → Status → List ℕ → F → Type 0
-HasNoPort f how text left = (how ≡ status.NoSuchPort) × Says (last_line how) text f left
 
 -- with an ending goes the whole text of an outcome; a front of one, where a write failed; or nothing, for want of memory
 pub data Telling : Type 0 where
@@ -37,6 +33,18 @@ telling_of how = Whole
 abbrev pub Writes : (Status → List ℕ → Type 0) → Status → Option (List ℕ) → Option (List ℕ) → Type 0
 Writes may how old new = WritesAs (telling_of how) may how old new
 
--- something is to be written with this status: no writing has failed, and there was memory
-abbrev pub IsShown : Status → Type 0
-IsShown how = (how ≢ status.WriteFault) × (how ≢ status.Memory)
+abbrev pub telling_if : Option Status → Telling
+telling_if None = Whole
+telling_if (Some how) = telling_of how
+
+-- with what text an ending goes: one of the program's own with its whole text
+abbrev pub telling_in : {E : Type 0} → Endings E → E → Telling
+telling_in endings how = telling_if (endings.shared how)
+
+-- what was written when this ending was answered
+abbrev pub WritesWith : {E : Type 0} → Endings E → (E → List ℕ → Type 0) → E → Option (List ℕ) → Option (List ℕ) → Type 0
+WritesWith endings may how old new = WritesAs (telling_in endings how) may how old new
+
+-- something is to be written with this ending: no writing has failed, and there was memory
+abbrev pub IsShown : {E : Type 0} → Endings E → E → Type 0
+IsShown endings how = telling_in endings how ≡ Whole

@@ -5,5 +5,5 @@ pub mod Due
 pub mod Stepping
 pub mod Plans
 pub mod Short
-pub mod Ends
+pub mod Deeds
 pub mod Promises

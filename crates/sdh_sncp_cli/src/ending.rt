@@ -1,22 +1,20 @@
 //! How the program ends.
 ghost use Rattle.std.specs.Prelude.{◌≡◌, ◌≤◌, length};
 ghost use Rattle.sdh_report.specs.Written.{with_part};
-ghost use Rattle.sdh_sncp_cli.specs.Endings.{number_of, line_of, same_slot_line, no_such_step_line};
+ghost use Rattle.sdh_sncp_cli.specs.Endings.{number_of, line_of, same_slot_line, no_such_step_line, path_endings};
 
-use sdh_report::laws::last_line_is_short;
 use sdh_report::{Status, Text};
+use sdh_shell::Ends;
 
 /// How the program ends.
 #[derive(Clone, Copy, Debug, PartialEq, Eq)]
 pub enum Ending {
-    /// The words aren't the program's.
-    Usage,
     /// This step of the script, counted from 1, is the first that is none of a path ring's.
     NoSuchStep(u32),
     /// These two circuits, counted from 0, are the first that share a slot.
     SameSlot { first: u8, second: u8 },
-    /// As the program of a shared ring ends with the same plan: `Ok`, `ReadFault`, `WriteFault`, `NotToml`, `BadPlan`, `Unsettled`,
-    /// `PlantFault`, `TooLong` or `Memory`.
+    /// As the program of a shared ring ends with the same words and plan: `Ok`, `Usage`, `ReadFault`, `WriteFault`, `NotToml`,
+    /// `BadPlan`, `Unsettled`, `PlantFault`, `TooLong` or `Memory`.
     Shared(Status),
 }
 
@@ -26,23 +24,10 @@ impl Ending {
         ensures { result ≡ number_of self.now }
     {
         match self {
-            Ending::Usage => 2,
             Ending::SameSlot { .. } => 13,
             Ending::NoSuchStep(_) => 14,
             Ending::Shared(status) => status.number(),
         }
-    }
-}
-
-// Its last line has room in `LINE_MAX` bytes: the function does nothing, and its contract is the law.
-pub(crate) fn line_is_short(ending: &Ending)
-    ensures { length (line_of ending.now) ≤ 96 }
-{
-    match *ending {
-        Ending::Usage => (),
-        Ending::NoSuchStep(step) => short_step(step),
-        Ending::SameSlot { first, second } => short_slot(first, second),
-        Ending::Shared(status) => last_line_is_short(&status),
     }
 }
 
@@ -81,15 +66,24 @@ fn put_no_such_step(text: &mut Text, step: u32)
     text.put(b"\n");
 }
 
-/// The last line of a text, by how the program ends.
-pub fn put_last(text: &mut Text, ending: &Ending)
-    requires { length (line_of ending.now) ≤ text.old.room }
-    ensures { text.new ≡ with_part text.old (line_of ending.now) }
-{
-    match *ending {
-        Ending::Usage => text.own_line(b"usage: sdhpath run"),
-        Ending::NoSuchStep(step) => put_no_such_step(text, step),
-        Ending::SameSlot { first, second } => put_same_slot(text, first, second),
-        Ending::Shared(status) => text.last_line(&status),
+impl Ends for Ending {
+    ghost endings = { path_endings };
+
+    fn of(status: Status) -> Ending {
+        Ending::Shared(status)
+    }
+
+    fn put_line(&self, text: &mut Text) {
+        match *self {
+            Ending::NoSuchStep(step) => {
+                short_step(step);
+                put_no_such_step(text, step);
+            }
+            Ending::SameSlot { first, second } => {
+                short_slot(first, second);
+                put_same_slot(text, first, second);
+            }
+            Ending::Shared(status) => status.put_line(text),
+        }
     }
 }

@@ -8,7 +8,7 @@
 
 mod ending;
 mod laws;
-mod report;
+mod program;
 mod reports;
 mod run;
 mod script;

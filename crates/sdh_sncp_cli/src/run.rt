@@ -55,6 +55,9 @@ pub fn run_plan<P: Plant>(alloc: Global, plan: Plan, plant: &mut P) -> Result<Ru
     ensures same_slot { (first second : ℕ) → result ≡ Err (PathError.SameSlot first second) → AreFirstToShare plan.circuits first second }
     ensures alone { IfOk result (λ run. AreAlone plan.circuits) }
 
+    // Where two share one the plant is left as it is.
+    ensures unmoved { ¬ (AreAlone plan.circuits) → plant.new ≡ plant.old }
+
     // A fault has a cause, and without one a script that settles is done.
     ensures failed { IfOk result (λ run. run.status ≡ Status.PlantFault → Rose (P.faults plant.old) (P.faults plant.new)) }
 

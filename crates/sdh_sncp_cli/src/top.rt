@@ -1,64 +1,20 @@
 //! The program's call.
-ghost use Rattle.std.specs.Prelude.{◌≡◌, ◌≢◌, ◌⊎◌, ◌≤◌, IfSome, true, false};
+ghost use Rattle.std.specs.Prelude.{◌≡◌, ◌⊎◌, ◌≤◌, IfSome, true, false};
 ghost use Rattle.std.specs.Io.KnownBytes.{IsAtEnd};
 ghost use Rattle.sdh_basics.specs.Causes.{Rose, IsCounted};
 ghost use Rattle.sdh_plant.specs.Fibres.{HasNoFibres};
-ghost use Rattle.sdh_report.specs.declared.status.Status.{Status};
 ghost use Rattle.sdh_shell.specs.Failing.{Counts};
-ghost use Rattle.sdh_shell.specs.Writing.{WritesAs};
 ghost use Rattle.sdh_shell.specs.Calls.{words_of, is_run};
 ghost use Rattle.sdh_sncp_cli.specs.Endings.{number_of};
 ghost use Rattle.sdh_sncp_cli.specs.declared.ending.Ending.{Ending};
-ghost use Rattle.sdh_sncp_cli.specs.Outcome.{Answers, MayEnd, CameTo, telling_of, told, IsEnding};
+ghost use Rattle.sdh_sncp_cli.specs.Outcome.{Answers, CameTo, told};
 ghost use Rattle.sdh_sncp_cli.specs.Headline.{Delivers, EndsAsItRuns, AlwaysSettles, MayBeDone};
 
-use crate::ending::Ending;
-use crate::report::report_on;
-use sdh_outside::{Sink, Source, write_text};
+use crate::program::Pathing;
+use sdh_outside::{Sink, Source};
 use sdh_plant::Plant;
-use sdh_report::Status;
+use sdh_scripts::call;
 use std::alloc::Global;
-
-// Does all, and answers how it ended.
-fn answer<R: Source, W: Sink, P: Plant>(
-    alloc: Global,
-    words: &[String],
-    source: &mut R,
-    sink: &mut W,
-    plant: &mut P,
-) -> Ending
-    requires fresh { HasNoFibres (P.fibres plant.old) }
-    ensures outcome { let reads : Counts = record { before = R.faults source.old; after = R.faults source.new } in
-        let calls : Counts = record { before = P.faults plant.old; after = P.faults plant.new } in
-        IfSome (told (words_of words.now) (R.left source.old)) (λ bytes. WritesAs (telling_of result)
-        (λ how text. MayEnd (words_of words.now) bytes (P.fibres plant.old) reads calls how text (P.fibres plant.new)) result
-        (W.written sink.old) (W.written sink.new)) }
-    ensures ending { IsEnding result }
-    ensures usage { result ≡ Ending.Usage → is_run (words_of words.now) ≡ false }
-    ensures usage_only { is_run (words_of words.now) ≡ false
-        → (result ≡ Ending.Usage) ⊎ (result ≡ Ending.Shared Status.WriteFault) ⊎ (result ≡ Ending.Shared Status.Memory) }
-    ensures unasked { is_run (words_of words.now) ≡ false → (source.new ≡ source.old) × (plant.new ≡ plant.old) }
-    ensures read_fault { result ≡ Ending.Shared Status.ReadFault → Rose (R.faults source.old) (R.faults source.new) }
-    ensures plant_fault { result ≡ Ending.Shared Status.PlantFault → Rose (P.faults plant.old) (P.faults plant.new) }
-    ensures write_fault { result ≡ Ending.Shared Status.WriteFault → Rose (W.faults sink.old) (W.faults sink.new) }
-    ensures came { let reads : Counts = record { before = R.faults source.old; after = R.faults source.new } in
-        let calls : Counts = record { before = P.faults plant.old; after = P.faults plant.new } in
-        (how : Ending) × ((result ≡ how) ⊎ (result ≡ Ending.Shared Status.WriteFault))
-        × CameTo R.exact P.exact reads calls (R.left source.old) (R.left source.new) how }
-    ensures writes { IsCounted W.exact (result ≡ Ending.Shared Status.WriteFault) (W.faults sink.old) (W.faults sink.new) }
-    ensures memory { result ≡ Ending.Shared Status.Memory → (sink.new ≡ sink.old) × (P.fibres plant.new ≡ P.fibres plant.old) }
-    ensures read_whole { result ≡ Ending.Shared Status.Ok → IsAtEnd (R.left source.new) }
-    ensures later { (R.faults source.old ≤ R.faults source.new) × (W.faults sink.old ≤ W.faults sink.new)
-        × (P.faults plant.old ≤ P.faults plant.new) }
-{
-    let Ok(report) = report_on(alloc, words, source, plant) else {
-        return Ending::Shared(Status::Memory);
-    };
-    match write_text(sink, report.text.bytes()) {
-        Ok(()) => report.ending,
-        Err(_) => Ending::Shared(Status::WriteFault),
-    }
-}
 
 /// Does all that the program does, and answers the number with which it ends. With the word `run` it reads a plan from the source,
 /// runs a path ring of it over the plant, and writes the report of every settle step: its line and that of each port. The last line
@@ -113,5 +69,5 @@ pub fn sdhpath<R: Source, W: Sink, P: Plant>(
         → ¬ (Rose (R.faults source.old) (R.faults source.new)) → ¬ (Rose (W.faults sink.old) (W.faults sink.new))
         → ¬ (Rose (P.faults plant.old) (P.faults plant.new)) → (result ≡ 0) ⊎ (result ≡ 70) }
 {
-    answer(alloc, words, source, sink, plant).number()
+    call::<Pathing, R, W, P>(alloc, words, source, sink, plant).number()
 }

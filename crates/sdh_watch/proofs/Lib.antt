@@ -1,3 +1,4 @@
+pub mod Deeds
 pub mod Short
 pub mod Leading
 pub mod Steps
@@ -8,4 +9,3 @@ pub mod Known
 pub mod Rounds
 pub mod Owing
 pub mod Settling
-pub mod Asked

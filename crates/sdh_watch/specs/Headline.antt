@@ -1,31 +1,31 @@
 -- What the program tells of a plan, and how it ends.
-use Rattle.std.specs.Prelude.{ℕ, if◌then◌else◌, List, codes, Option, Some, None}
+use Rattle.std.specs.Prelude.{ℕ, ◌≡◌, List, codes, Option, None}
 use Rattle.sdh_plant.specs.Fibres.{Fibres}
 use Rattle.sdh_plant.specs.Arrivals.{Knows}
 use Rattle.sdh_report.specs.declared.status.Status.{Status}
 use Rattle.sdh_owed.specs.Plans.{world_of}
-use Rattle.sdh_scripts.proofs.Plans.{ends_of}
-use Rattle.sdh_shell.specs.Calls.{is_run}
-use Rattle.sdh_shell.proofs.Ends.{has_run}
-use Rattle.sdh_scripts.specs.Programs.{Program}
+use Rattle.sdh_shell.specs.Calls.{asked_to_run}
+use Rattle.sdh_shell.specs.Endings.{statuses}
+use Rattle.sdh_scripts.specs.Programs.{Runs, Program}
 use Rattle.sdh_scripts.specs.Headline.{EndsAs}
 use Rattle.sdh_watch.specs.Shows.{Watched}
 use Rattle.sdh_watch.specs.Lines.{text_of}
-use Rattle.sdh_watch.specs.Plans.{watch_account, IsRunOf, ran_of, MaySettle}
+use Rattle.sdh_watch.specs.Plans.{IsRunOf, ran_of, MaySettle}
 
 -- it is asked for one thing, with the word `run`
 abbrev pub asked : List (List ℕ) → Option (Unit {0})
-asked words = if is_run words then Some tt else None
+asked = asked_to_run
 
 -- it runs a plan with watches, and tells what they show behind each settle step
-abbrev pub watching : Program (Unit {0}) (Unit {0}) Watched
+abbrev pub watching : Program (Unit {0}) (Unit {0}) Watched Status
 watching = record {
   usage = codes "usage: sdhwatch run";
   asked = asked;
-  listing_of = λ ask plan. Some tt;
+  endings = statuses;
+  own_plan = λ ask. None;
+  Does = λ ask plan deed. deed ≡ Runs tt;
   text_of = λ listing. text_of;
   IsRunOf = IsRunOf;
-  ends = λ plan f left told how x. has_run how (ends_of watch_account plan f left how told x);
   MaySettle = MaySettle;
 }
 

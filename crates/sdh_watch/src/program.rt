@@ -1,10 +1,12 @@
 //! What the program does with a plan.
+ghost use Rattle.std.specs.Prelude.{refl};
 ghost use Rattle.sdh_watch.specs.Shows.{Watched};
 ghost use Rattle.sdh_watch.specs.Headline.{watching};
 
 use crate::run::run_plan;
 use sdh_plan::Plan;
 use sdh_plant::Plant;
+use sdh_report::Status;
 use sdh_scripts::RunsPlans;
 use sdh_shell::{Report, ended, is_run};
 use std::alloc::{AllocError, Global};
@@ -14,6 +16,8 @@ use std::alloc::{AllocError, Global};
 pub struct Watching;
 
 impl<'a> RunsPlans<'a> for Watching {
+    type Ending = Status;
+
     ghost Ask = { Unit {0} };
 
     ghost Listing = { Unit {0} };
@@ -32,8 +36,19 @@ impl<'a> RunsPlans<'a> for Watching {
         if is_run(words) { Some(Watching) } else { None }
     }
 
-    fn run<P: Plant>(self, alloc: Global, plan: Plan, plant: &mut P) -> Result<Report, AllocError> {
+    fn own_plan(self, _alloc: Global) -> Result<Option<Plan>, AllocError> {
+        Ok(None)
+    }
+
+    fn run<P: Plant>(
+        self,
+        alloc: Global,
+        plan: Plan,
+        plant: &mut P,
+    ) -> Result<Report<Status>, AllocError> {
         let run = run_plan(alloc, plan, plant)?;
         Ok(ended(run.status, run.text))
     }
+
+    ghost same_endings = { refl };
 }

@@ -1,90 +1,75 @@
-use Rattle.std.proofs.Common.{List, ℕ, refl, subst, inl}
-use Rattle.std.specs.Io.KnownBytes.{Appends}
-use Rattle.sdh_outside.specs.Writing.{AppendsFewer}
-use Rattle.sdh_report.specs.declared.status.Status.{Status}
-use Rattle.sdh_report.specs.declared.status.Status.TheVariants as status
+use Rattle.std.proofs.Common.{List, ℕ}
 use Rattle.sdh_shell.specs.Calls.{words_of}
 use Rattle.sdh_shell.specs.Failing.{Counts}
-use Rattle.sdh_shell.proofs.Failing.{came_without}
-use Rattle.sdh_shell.proofs.Writing.{told_whole, told_front}
-use Rattle.sdh_cli.specs.Words.{asked, told}
-use Rattle.sdh_cli.specs.Outcome.{IsOutcome}
+use Rattle.sdh_shell.proofs.Told.{told_all}
+use Rattle.sdh_cli.specs.Words.{asked}
+use Rattle.sdh_cli.specs.Outcome.{told}
+use Rattle.sdh_cli.specs.Headline.{Delivers, GoesWell, EndsAsItRuns, AlwaysSettles, StaysHealthy}
 use Rattle.sdh_cli.proofs.Promises as promises
 use Rattle.sdh_cli.proofs.top.sdhring.Goals as goal
 
-pub returns-in-Ok-write_text-clause-owed : goal.returns-in-Ok-write_text-clause-owed
-returns-in-Ok-write_text-clause-owed g c =
+pub returns-clause-owed : goal.returns-clause-owed
+returns-clause-owed g c honest =
     let means = g.P.Plant.fibres in
     let a = asked (words_of c.args.words.now) in
-    let report = c.in-Ok.report in
+    let reads : Counts = record { before = g.R.Source.faults c.args.source.now; after = g.R.Source.faults c.call.new.source } in
+    let calls : Counts = record { before = g.P.Plant.faults c.args.plant.now; after = g.P.Plant.faults c.call.new.plant } in
     let old = g.W.Sink.written c.args.sink.now in
-    let new = g.W.Sink.written c.write_text.new.sink in
-    let written = subst (Appends old new) c.bytes.ensures c.in-Ok-write_text.ensures.ok in
-    promises.told_owed a (means c.args.plant.now) (means c.report_on.new.plant) report.status report.text.bytes old new written
-    (told a (g.R.Source.left c.args.source.now)) c.in-Ok.ensures.outcome
+    let new = g.W.Sink.written c.call.new.sink in
+    told_all (told a (g.R.Source.left c.args.source.now)) _ (λ (bytes : List ℕ). Delivers a bytes c.call.result old new)
+    (λ bytes x. promises.delivers a (means c.args.plant.now) (means c.call.new.plant) reads calls bytes c.call.result old new x honest)
+    c.call.ensures.outcome
 
-pub returns-in-Ok-write_text-clause-rounds : goal.returns-in-Ok-write_text-clause-rounds
-returns-in-Ok-write_text-clause-rounds g c =
+pub returns-clause-settles : goal.returns-clause-settles
+returns-clause-settles g c honest =
     let means = g.P.Plant.fibres in
     let a = asked (words_of c.args.words.now) in
-    let report = c.in-Ok.report in
+    let reads : Counts = record { before = g.R.Source.faults c.args.source.now; after = g.R.Source.faults c.call.new.source } in
+    let calls : Counts = record { before = g.P.Plant.faults c.args.plant.now; after = g.P.Plant.faults c.call.new.plant } in
     let old = g.W.Sink.written c.args.sink.now in
-    let new = g.W.Sink.written c.write_text.new.sink in
-    let written = subst (Appends old new) c.bytes.ensures c.in-Ok-write_text.ensures.ok in
-    promises.told_rounds a (means c.args.plant.now) (means c.report_on.new.plant) report.status report.text.bytes old new written
-    (told a (g.R.Source.left c.args.source.now)) c.in-Ok.ensures.outcome
+    let new = g.W.Sink.written c.call.new.sink in
+    told_all (told a (g.R.Source.left c.args.source.now)) _ (λ (bytes : List ℕ). AlwaysSettles a bytes c.call.result)
+    (λ bytes x. promises.settles a (means c.args.plant.now) (means c.call.new.plant) reads calls bytes c.call.result old new x honest)
+    c.call.ensures.outcome
 
-pub returns-in-Ok-write_text-clause-healthy : goal.returns-in-Ok-write_text-clause-healthy
-returns-in-Ok-write_text-clause-healthy g c =
+pub returns-clause-healthy : goal.returns-clause-healthy
+returns-clause-healthy g c honest =
     let means = g.P.Plant.fibres in
     let a = asked (words_of c.args.words.now) in
-    let report = c.in-Ok.report in
+    let reads : Counts = record { before = g.R.Source.faults c.args.source.now; after = g.R.Source.faults c.call.new.source } in
+    let calls : Counts = record { before = g.P.Plant.faults c.args.plant.now; after = g.P.Plant.faults c.call.new.plant } in
     let old = g.W.Sink.written c.args.sink.now in
-    let new = g.W.Sink.written c.write_text.new.sink in
-    let written = subst (Appends old new) c.bytes.ensures c.in-Ok-write_text.ensures.ok in
-    promises.told_healthy a (means c.args.plant.now) (means c.report_on.new.plant) report.status report.text.bytes old new written
-    (told a (g.R.Source.left c.args.source.now)) c.in-Ok.ensures.outcome
+    let new = g.W.Sink.written c.call.new.sink in
+    told_all (told a (g.R.Source.left c.args.source.now)) _ (λ (bytes : List ℕ). StaysHealthy a bytes c.call.result old new)
+    (λ bytes x. promises.stays_healthy a (means c.args.plant.now) (means c.call.new.plant) reads calls bytes c.call.result old new x honest)
+    c.call.ensures.outcome
 
-pub returns-in-Ok-write_text-clause-unsettled : goal.returns-in-Ok-write_text-clause-unsettled
-returns-in-Ok-write_text-clause-unsettled g c =
+pub returns-clause-rounds : goal.returns-clause-rounds
+returns-clause-rounds g c honest =
     let means = g.P.Plant.fibres in
     let a = asked (words_of c.args.words.now) in
-    let report = c.in-Ok.report in
+    let reads : Counts = record { before = g.R.Source.faults c.args.source.now; after = g.R.Source.faults c.call.new.source } in
+    let calls : Counts = record { before = g.P.Plant.faults c.args.plant.now; after = g.P.Plant.faults c.call.new.plant } in
     let old = g.W.Sink.written c.args.sink.now in
-    let new = g.W.Sink.written c.write_text.new.sink in
-    let written = subst (Appends old new) c.bytes.ensures c.in-Ok-write_text.ensures.ok in
-    promises.told_unsettled a (means c.args.plant.now) (means c.report_on.new.plant) report.status report.text.bytes old new written
-    (told a (g.R.Source.left c.args.source.now)) c.in-Ok.ensures.outcome
+    let new = g.W.Sink.written c.call.new.sink in
+    told_all (told a (g.R.Source.left c.args.source.now)) _ (λ (bytes : List ℕ). GoesWell a bytes (means c.args.plant.now) c.call.result old new (means c.call.new.plant))
+    (λ bytes x. promises.goes_well a (means c.args.plant.now) (means c.call.new.plant) reads calls bytes c.call.result old new x honest)
+    c.call.ensures.outcome
 
-pub returns-in_default-clause-came : goal.returns-in_default-clause-came
-returns-in_default-clause-came g c = (status.Memory, inl refl, came_without _ _ _ _ _ _ c.in_default.ensures.without)
-
-pub returns-in-Ok-write_text-clause-outcome : goal.returns-in-Ok-write_text-clause-outcome
-returns-in-Ok-write_text-clause-outcome g c =
+pub returns-clause-unsettled : goal.returns-clause-unsettled
+returns-clause-unsettled g c =
     let means = g.P.Plant.fibres in
     let a = asked (words_of c.args.words.now) in
-    let reads : Counts = record { before = g.R.Source.faults c.args.source.now; after = g.R.Source.faults c.report_on.new.source } in
-    let calls : Counts = record { before = g.P.Plant.faults c.args.plant.now; after = g.P.Plant.faults c.report_on.new.plant } in
-    let report = c.in-Ok.report in
+    let reads : Counts = record { before = g.R.Source.faults c.args.source.now; after = g.R.Source.faults c.call.new.source } in
+    let calls : Counts = record { before = g.P.Plant.faults c.args.plant.now; after = g.P.Plant.faults c.call.new.plant } in
     let old = g.W.Sink.written c.args.sink.now in
-    let new = g.W.Sink.written c.write_text.new.sink in
-    let written = subst (Appends old new) c.bytes.ensures c.in-Ok-write_text.ensures.ok in
-    let is =
-    λ (bytes : List ℕ) (how : Status) (text : List ℕ). IsOutcome a bytes (means c.args.plant.now) how text
-    (means c.report_on.new.plant) in
-    told_whole (told a (g.R.Source.left c.args.source.now)) is reads calls report.status report.text.bytes old new c.in-Ok.ensures.cause c.in-Ok.ensures.outcome c.in-Ok.ensures.own written
+    let new = g.W.Sink.written c.call.new.sink in
+    told_all (told a (g.R.Source.left c.args.source.now)) _ (λ (bytes : List ℕ). EndsAsItRuns a bytes (means c.args.plant.now) c.call.result)
+    (λ bytes x. promises.ends_as_it_runs a (means c.args.plant.now) (means c.call.new.plant) reads calls bytes c.call.result old new x)
+    c.call.ensures.outcome
 
-pub returns-clause-outcome : goal.returns-clause-outcome
-returns-clause-outcome g c =
-    let means = g.P.Plant.fibres in
-    let a = asked (words_of c.args.words.now) in
-    let reads : Counts = record { before = g.R.Source.faults c.args.source.now; after = g.R.Source.faults c.report_on.new.source } in
-    let calls : Counts = record { before = g.P.Plant.faults c.args.plant.now; after = g.P.Plant.faults c.report_on.new.plant } in
-    let report = c.in-Ok.report in
-    let old = g.W.Sink.written c.args.sink.now in
-    let new = g.W.Sink.written c.write_text.new.sink in
-    let fewer = subst (AppendsFewer old new) c.bytes.ensures c.in-Err.ensures.front in
-    let is =
-    λ (bytes : List ℕ) (how : Status) (text : List ℕ). IsOutcome a bytes (means c.args.plant.now) how text
-    (means c.report_on.new.plant) in
-    told_front (told a (g.R.Source.left c.args.source.now)) is reads calls report.status report.text.bytes old new c.in-Ok.ensures.cause c.in-Ok.ensures.outcome fewer
+pub returns-clause-complete : goal.returns-clause-complete
+returns-clause-complete g c may fine_reads fine_writes fine_calls =
+    let given = promises.given (asked (words_of c.args.words.now)) (g.R.Source.left c.args.source.now) (g.P.Plant.fibres c.args.plant.now)
+    may in
+    c.call.ensures.complete given.0 given.1 given.2 fine_reads fine_writes fine_calls

@@ -1,7 +1,9 @@
-use Rattle.std.proofs.Common.{◌≡◌, Some, sym, ◌∙◌}
+use Rattle.std.proofs.Common.{◌≡◌, Some, sym, ◌∙◌, subst}
 use Rattle.std.proofs.lemmas.Result.{IfOk-weaker}
+use Rattle.sdh_scripts.specs.Headline.{may_do}
 use Rattle.sdh_outage_cli.specs.Words.{ask_of, listing_of}
-use Rattle.sdh_outage_cli.proofs.Stages.{run_of_plan}
+use Rattle.sdh_outage_cli.specs.Headline.{listening}
+use Rattle.sdh_outage_cli.proofs.Stages.{run_of_plan, listed_deed, run_alone}
 use Rattle.sdh_outage_cli.proofs.program.CommandRunsPlans.run.Goals as goal
 
 pub returns-in-Some : goal.returns-in-Some
@@ -15,11 +17,14 @@ returns-in-Some g c =
     record {
       outcome =
           IfOk-weaker c.run_report.result _ _ (λ report x. run_of_plan plan listing f
-          (means c.run_report.new.plant) ask report.status report.text.bytes is x) c.run_report.ensures.outcome;
+          (means c.run_report.new.plant) ask report.ending report.text.bytes is x) c.run_report.ensures.outcome;
+      alone = λ none. absurd (none listing (listed_deed plan listing ask is));
       failed = c.run_report.ensures.failed;
       calls = c.run_report.ensures.calls;
       without = c.run_report.ensures.without;
-      complete = IfOk-weaker c.run_report.result _ _ (λ report done go fine. done go.2 fine) c.run_report.ensures.complete;
+      complete =
+          IfOk-weaker c.run_report.result _ _ (λ report done go fine. done (subst (λ d. may_do listening d plan f)
+          (run_alone ask plan listing go.0 (listed_deed plan listing ask is) go.1) go.2) fine) c.run_report.ensures.complete;
       later = c.run_report.ensures.later;
       unsent = c.run_report.ensures.unsent;
     }

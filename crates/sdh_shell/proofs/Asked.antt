@@ -1,8 +1,7 @@
--- What the words ask for.
+-- What the words ask a program for that is asked for one thing.
 use Rattle.std.proofs.Common.{◌≡◌, ℕ, Bool, true, false, List, Some, None, refl, ap, arith}
 use Rattle.std.specs.Prelude.{if◌then◌else◌, Option, is_some}
-use Rattle.sdh_shell.specs.Calls.{is_run}
-use Rattle.sdh_watch.specs.Headline.{asked}
+use Rattle.sdh_shell.specs.Calls.{is_run, asked_to_run}
 
 abbrev choice : Bool → Option (Unit {0})
 choice run = if run then Some tt else None
@@ -16,14 +15,14 @@ is_choice true = refl
 is_choice false = refl
 
 module _ (words : List (List ℕ)) where
-  pub is_asked : is_run words ≡ true → asked words ≡ Some tt
+  pub is_asked : is_run words ≡ true → asked_to_run words ≡ Some tt
   is_asked run = ap choice run
 
-  pub not_asked : is_run words ≡ false → asked words ≡ None
+  pub not_asked : is_run words ≡ false → asked_to_run words ≡ None
   not_asked other = ap choice other
 
-  pub no_run : asked words ≡ None → is_run words ≡ false
+  pub no_run : asked_to_run words ≡ None → is_run words ≡ false
   no_run e = no_choice (is_run words) e
 
-  pub asked_is : is_some (asked words) ≡ is_run words
+  pub asked_is : is_some (asked_to_run words) ≡ is_run words
   asked_is = is_choice (is_run words)

@@ -1,0 +1,41 @@
+-- What is done with a plan, where it is run or has no such port; and what its run comes to.
+use Rattle.std.proofs.Common.{◌≡◌, ℕ, None, Some, List, ◌++◌, ap, sym, ◌∙◌, arith}
+use Rattle.std.specs.Prelude.{Option}
+use Rattle.std.specs.List.{flat_map}
+use Rattle.sdh_plant.specs.Fibres.{Fibres}
+use Rattle.sdh_plan.specs.Planned.{Planned}
+use Rattle.sdh_report.specs.declared.status.Status.{Status}
+use Rattle.sdh_shell.proofs.Endings.{has_run}
+use Rattle.sdh_scripts.specs.Programs.{Deed, Writes, Runs, deed_listing, Program}
+use Rattle.sdh_scripts.specs.Outcome.{IsRunOutcome}
+use Rattle.sdh_scripts.specs.Plans.{Account, IsRunOf, Tells}
+use Rattle.sdh_scripts.proofs.Plans.{ends_of}
+
+-- ---- what is listed
+
+-- no text is written of it alone
+pub listing_writes : {L : Type 0} (o : Option L) (told : List ℕ) → Writes told ≡ deed_listing o → ⊥
+listing_writes None told e = grind arith
+listing_writes (Some listing) told e = grind arith
+
+-- where something is listed it is run
+pub listing_runs : {L : Type 0} (o : Option L) (listing : L) → Runs listing ≡ deed_listing o → o ≡ Some listing
+listing_runs None listing e = absurd (grind arith)
+listing_runs (Some other) listing e = grind arith
+
+-- ---- a run
+
+-- A run whose reports are told by an account of plans, with its last line.
+pub run_outcome : {A L T E N : Type 0} (program : Program A L T E) (account : Account N T) (listing : L) (plan : Planned)
+    (f left : Fibres) (text_of : T → List ℕ) → ((told : List T) → flat_map text_of told ≡ program.text_of listing told)
+    → ((told : List T) (end : Status) → IsRunOf account plan f told end left → program.IsRunOf plan f told end left)
+    → (run text : List ℕ) (end : Status) (how : E) → how ≡ program.endings.of end → text ≡ run ++ program.endings.line how
+    → Tells account text_of plan f run end left → IsRunOutcome program listing plan f how text left
+run_outcome program account listing plan f left text_of same came run text end how is text_is x = record {
+  status = end;
+  how_is = is;
+  ends = has_run end (ends_of account plan f left end x.reports x.came);
+  told = x.reports;
+  text_is = text_is ∙ ap (λ l. l ++ program.endings.line how) (x.text_is ∙ same x.reports);
+  came = came x.reports end x.came;
+}

@@ -1,0 +1,30 @@
+-- How a program may end: with a status that all programs share, or with an ending of its own.
+use Rattle.std.specs.Prelude.{◌≡◌, ℕ, List, Option, Some, None}
+use Rattle.sdh_report.specs.declared.status.Status.{Status}
+use Rattle.sdh_report.specs.declared.status.Status.TheVariants as status
+use Rattle.sdh_report.specs.Statuses.{number_of, last_line}
+
+-- the endings of a program
+pub record Endings (E : Type 0) : Type 0 where
+  -- the ending that a shared status is
+  pub of : Status → E
+  -- the shared status that an ending is; one of the program's own is none
+  pub shared : E → Option Status
+  pub shared_of : (s : Status) → shared (of s) ≡ Some s
+  -- its number
+  pub number : E → ℕ
+  -- its last line
+  pub line : E → List ℕ
+
+-- the shared statuses alone
+abbrev pub statuses : Endings Status
+statuses = record { of = λ s. s; shared = λ s. Some s; shared_of = λ s i. Some s; number = number_of; line = last_line }
+
+-- a plan may be refused with it before it runs: it is one of the program's own, or there is no such port
+abbrev pub refuses_plan : Option Status → Type 0
+refuses_plan None = Unit {0}
+refuses_plan (Some status.NoSuchPort) = Unit {0}
+refuses_plan (Some how) = ⊥
+
+abbrev pub RefusesPlan : {E : Type 0} → Endings E → E → Type 0
+RefusesPlan endings how = refuses_plan (endings.shared how)

@@ -1,0 +1,97 @@
+//! What the program does with a plan.
+ghost use Rattle.std.specs.Prelude.{◌≡◌, ◌≤◌, true, refl, IfOk, OnErr};
+ghost use Rattle.sdh_basics.specs.Causes.{Rose, IsCounted};
+ghost use Rattle.sdh_plant.specs.Fibres.{HasNoFibres};
+ghost use Rattle.sdh_report.specs.Reports.{Report as Reported};
+ghost use Rattle.sdh_report.specs.declared.status.Status.{Status};
+ghost use Rattle.sdh_scripts.specs.Outcome.{OfPlan};
+ghost use Rattle.sdh_scripts.specs.Headline.{MayGo};
+ghost use Rattle.sdh_sncp.specs.Fixed.{AreAlone};
+ghost use Rattle.sdh_sncp_cli.specs.Steps.{AreKnown};
+ghost use Rattle.sdh_sncp_cli.specs.Outcome.{pathing};
+ghost use Rattle.sdh_sncp_cli.specs.declared.ending.Ending.{Ending};
+
+use crate::ending::Ending;
+use crate::run::run_plan;
+use crate::steps::first_strange;
+use sdh_plan::Plan;
+use sdh_plant::Plant;
+use sdh_report::Status;
+use sdh_scripts::RunsPlans;
+use sdh_shell::{Report, ended, is_run, last_report};
+use sdh_sncp::PathError;
+use std::alloc::{AllocError, Global};
+
+/// The one thing that the program does: it runs plans over path rings.
+#[derive(Clone, Copy, Debug)]
+pub struct Pathing;
+
+// A plan whose steps are a path ring's, run if no two circuits share a slot.
+fn run_report<P: Plant>(
+    alloc: Global,
+    plan: Plan,
+    plant: &mut P,
+) -> Result<Report<Ending>, AllocError>
+    requires fresh { HasNoFibres (P.fibres plant.old) }
+    requires known { AreKnown plan.steps }
+    ensures outcome { IfOk result
+        (λ report. OfPlan pathing tt plan (P.fibres plant.old) report.ending report.text.bytes (P.fibres plant.new)) }
+    ensures unmoved { ¬ (AreAlone plan.circuits) → plant.new ≡ plant.old }
+    ensures failed { IfOk result
+        (λ report. report.ending ≡ Ending.Shared Status.PlantFault → Rose (P.faults plant.old) (P.faults plant.new)) }
+    ensures calls { IfOk result
+        (λ report. IsCounted P.exact (report.ending ≡ Ending.Shared Status.PlantFault) (P.faults plant.old) (P.faults plant.new)) }
+    ensures without { OnErr result (P.exact ≡ true → P.faults plant.new ≡ P.faults plant.old) }
+    ensures complete { IfOk result (λ report. MayGo pathing tt plan (P.fibres plant.old)
+        → ¬ (Rose (P.faults plant.old) (P.faults plant.new)) → report.ending ≡ Ending.Shared Status.Ok) }
+    ensures later { P.faults plant.old ≤ P.faults plant.new }
+    ensures unsent { OnErr result (P.fibres plant.new ≡ P.fibres plant.old) }
+{
+    match run_plan(alloc, plan, plant) {
+        Ok(run) => Ok(ended(Ending::Shared(run.status), run.text)),
+        Err(PathError::Memory) => Err(AllocError),
+        Err(PathError::SameSlot { first, second }) => {
+            last_report(alloc, Ending::SameSlot { first, second })
+        }
+    }
+}
+
+impl<'a> RunsPlans<'a> for Pathing {
+    type Ending = Ending;
+
+    ghost Ask = { Unit {0} };
+
+    ghost Listing = { Unit {0} };
+
+    ghost Told = { Reported };
+
+    ghost program = { pathing };
+
+    ghost ask_of = { λ asked. tt };
+
+    fn usage() -> &'static [u8] {
+        b"usage: sdhpath run"
+    }
+
+    fn asked(words: &'a [String]) -> Option<Pathing> {
+        if is_run(words) { Some(Pathing) } else { None }
+    }
+
+    fn own_plan(self, _alloc: Global) -> Result<Option<Plan>, AllocError> {
+        Ok(None)
+    }
+
+    fn run<P: Plant>(
+        self,
+        alloc: Global,
+        plan: Plan,
+        plant: &mut P,
+    ) -> Result<Report<Ending>, AllocError> {
+        match first_strange(plan.steps()) {
+            Some(step) => last_report(alloc, Ending::NoSuchStep(step)),
+            None => run_report(alloc, plan, plant),
+        }
+    }
+
+    ghost same_endings = { refl };
+}
