@@ -17,10 +17,10 @@ use Rattle.sdh_cli.specs.Outcome.{deed_of, ringing}
 
 -- a plan that was run, with its last line
 pub run_ends : (plan : Planned) (listing : Listing) (f left : Fibres) (run text : List ℕ) (now how : Status) → how ≡ now
-    → text ≡ run ++ last_line how → Tells plan listing f run now left → IsRunOutcome ringing listing plan f how text left
+    → text ≡ run ++ last_line now → Tells plan listing f run now left → IsRunOutcome ringing listing plan f how text left
 run_ends plan listing f left run text now how is text_is x =
     run_outcome ringing adm_account listing plan f left (listed listing) (λ told. refl) (λ told end came. came) run text now how is
-    text_is x
+    (text_is ∙ ap (λ e. run ++ last_line e) (sym is)) x
 
 -- what is listed is what is done
 pub listed_deed : (ask : Ask) (plan : Planned) (listing : Listing) → listing_of ask plan ≡ Some listing

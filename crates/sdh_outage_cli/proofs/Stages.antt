@@ -15,10 +15,10 @@ use Rattle.sdh_outage_cli.specs.Words.{Ask, listing_of}
 use Rattle.sdh_outage_cli.specs.Headline.{listening}
 
 pub run_ends : (plan : Planned) (listing : Listing) (f left : Fibres) (run text : List ℕ) (now how : Status) → how ≡ now
-    → text ≡ run ++ last_line how → Tells plan listing f run now left → IsRunOutcome listening listing plan f how text left
+    → text ≡ run ++ last_line now → Tells plan listing f run now left → IsRunOutcome listening listing plan f how text left
 run_ends plan listing f left run text now how is text_is x =
     run_outcome listening outage_account listing plan f left (listed listing) (λ told. refl) (λ told end came. came) run text now how is
-    text_is x
+    (text_is ∙ ap (λ e. run ++ last_line e) (sym is)) x
 
 -- what is listed is what is done
 pub listed_deed : (plan : Planned) (listing : Listing) (ask : Ask) → listing_of ask plan ≡ Some listing
