@@ -1,6 +1,6 @@
 //! The listeners, who look at the ring after each round.
 ghost use Rattle.sdh_outage_cli.specs.Ports.{AreListening};
-ghost use Rattle.sdh_outage_cli.proofs.Keeping.{listening_same};
+ghost use Rattle.sdh_outage_cli.specs.Keeping.{listening_same};
 
 use crate::ports::{Both, look_all};
 use sdh_ring::{Observer, Ring};
