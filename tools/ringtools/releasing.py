@@ -37,6 +37,12 @@ OVERRIDES = """\
 # The files are what is proved, to the byte, and so they are left as they were built.
 sdhring: unstripped-binary-or-object [usr/lib/sdhring/sdh*]
 """
+# What Python leaves beside the modules when the administrator starts a tool.
+PRERM = """\
+#!/bin/sh
+set -e
+rm -rf /usr/lib/sdhring/tools/ringtools/__pycache__
+"""
 
 
 class ReleaseProblem(Exception):
@@ -82,7 +88,7 @@ def found_programs(folder):
     if missing:
         raise ReleaseProblem(f"{missing[0]} isn't there: rt ci builds it")
     if not folder and min(path.stat().st_mtime for path in files.values()) < newest_source():
-        raise ReleaseProblem("a source is newer than a built program: rt ci builds them again")
+        raise ReleaseProblem("a source is newer than a built program: rt ci builds them again, and --from DIR takes programs without this look")
     return {name: path.read_bytes() for name, path in files.items()}
 
 
@@ -219,6 +225,7 @@ def debian_package(path, folder, moment):
     root = folder / "root"
     debian_tree(root, moment)
     put(root / "DEBIAN" / "control", Piece(control(root).encode()))
+    put(root / "DEBIAN" / "prerm", Piece(PRERM.encode(), is_run=True))
     sums = [f"{hashlib.md5(file.read_bytes()).hexdigest()}  {file.relative_to(root)}\n" for file in sorted((root / "usr").rglob("*")) if file.is_file() and not file.is_symlink()]
     put(root / "DEBIAN" / "md5sums", Piece("".join(sums).encode()))
     for each in [root, *root.rglob("*")]:
