@@ -92,7 +92,7 @@ def modules():
     for name in (*TOOLS, "install"):
         yield Path(name)
     for path in sorted((HOME / "tools" / "ringtools").rglob("*")):
-        if path.is_file() and path.suffix in (".py", ".css", ".js") and path.name != "rows.py":
+        if path.is_file() and path.suffix in (".py", ".css", ".js") and path.name not in ("rows.py", "releasing.py"):
             yield path.relative_to(HOME / "tools")
 
 

@@ -81,8 +81,8 @@ def head_of(asked):
     return f"""# A ring of {count_of(len(asked.nodes), "node")}, made by `sdhring-plan new`. Every key is told in FORMATS.md.
 #
 #   sdhring run < {asked.name}     runs it
-#   sdhring-explain {asked.name}       says whether it is good, or what is wrong and where
-#   sdhring-whatif {asked.name}        asks what survives each failure
+#   sdhring-explain {asked.name}   says whether it is good, or what is wrong and where
+#   sdhring-whatif {asked.name}    asks what survives each failure
 
 # {rate}.
 rate = {asked.rate}

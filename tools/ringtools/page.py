@@ -13,7 +13,7 @@ from .report import STATES
 
 
 OUT = (
-    "Out are the frames of a settle step, of 125 microseconds each, in which a port was without its own customer's bytes; "
+    "Out are the frames of a settle step, of 125 microseconds each and without the delay of the fibres themselves, in which a port was without its own customer's bytes; "
     "a jump is a frame of his that doesn't follow the one before, since chunks were left out or come again. "
     "The frames before a port's first bytes in a new ring are no outage, and are told as that."
 )
