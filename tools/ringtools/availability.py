@@ -22,7 +22,7 @@ def lost_shared(state):
 
 
 def lost_path(state):
-    """A path ring: each port takes either way of its own; one port without any is enough."""
+    """A path ring: a port has two ways, and the circuit is lost where one of its ports has neither."""
     to_b = state & OWN_EAST and state & OTHER_WEST
     to_a = state & OWN_WEST and state & OTHER_EAST
     return bool(to_b or to_a)
@@ -66,7 +66,7 @@ def state_of(plan, own, fibres):
 
 
 def probabilities(parts):
-    """The probability of each state, of components as (state, part of the time in which it is down). No term is taken away from another."""
+    """The probability of each state, of components as (state, part of the time in which it is down). Nothing is subtracted."""
     found = [0.0] * STATES
     found[0] = 1.0
     for state, down in parts:
@@ -86,12 +86,12 @@ def any_down(downs):
 
 @dataclass(frozen=True)
 class Share:
-    """The part of the time in which a circuit is lost, by what takes it: the three parts are the whole."""
+    """The part of the time in which a circuit is lost, split by cause: the parts add up to the whole."""
 
     ends: float  # one of its two end nodes is down
-    alone: float  # both are up, and another component is down that takes it by itself
-    together: float  # none such is down, and several take it together
-    script: float = 0.0  # the plan's script takes it for all time
+    alone: float  # both are up, and another component is down that alone is enough
+    together: float  # none such is down, and several together are enough
+    script: float = 0.0  # it is lost in the ring that the plan's script leaves
 
     @property
     def whole(self):
@@ -109,7 +109,7 @@ class Share:
 
 @dataclass(frozen=True)
 class Cause:
-    """One or two components that take a circuit when they are all down, which is so in these minutes of a year."""
+    """One or two components with which a circuit is lost when they are all down, which they are for these minutes a year."""
 
     components: tuple
     minutes: float
@@ -139,20 +139,20 @@ class Seen:
         return component.at in (self.circuit.start, self.circuit.end)
 
     def share(self, protection):
-        """For which part of the time the circuit is lost, by what takes it."""
+        """Returns for which part of the time the circuit is lost, split by cause."""
         loses = self.loses(protection)
         if loses(0):
             return Share(0.0, 0.0, 0.0, 1.0)
-        takers = [loses(state) for state in self.states]
-        ends = [one.down for one, takes in zip(self.components, takers) if takes and self.is_end(one)]
-        others = [one.down for one, takes in zip(self.components, takers) if takes and not self.is_end(one)]
-        rest = [(state, one.down) for state, one, takes in zip(self.states, self.components, takers) if not takes]
+        fatal = [loses(state) for state in self.states]
+        ends = [one.down for one, alone in zip(self.components, fatal) if alone and self.is_end(one)]
+        others = [one.down for one, alone in zip(self.components, fatal) if alone and not self.is_end(one)]
+        rest = [(state, one.down) for state, one, alone in zip(self.states, self.components, fatal) if not alone]
         together = math.fsum(probability for state, probability in enumerate(probabilities(rest)) if loses(state))
         by_ends, by_others = any_down(ends), any_down(others)
         return Share(by_ends, (1 - by_ends) * by_others, (1 - by_ends) * (1 - by_others) * together)
 
     def causes(self, protection):
-        """The components that take the circuit alone, and the pairs of others that do together; the longest first."""
+        """Returns the components with which alone the circuit is lost, and the pairs of others; the longest first."""
         loses, found = self.loses(protection), []
         if loses(0):
             return found
@@ -164,9 +164,9 @@ class Seen:
         return sorted(found, key=lambda cause: -cause.minutes)
 
     def switches(self):
-        """How often in a year the circuit switches, there and back counted as one, and the most frames that this takes; None beside a script that leaves something.
+        """Returns how many failures a year the circuit survives by a switch, and the most frames it is out by them and by their repairs.
 
-        Each failure is taken as if it came to a healthy ring, and were repaired before the next.
+        Each failure is counted as one of a healthy ring that is repaired before the next. None, where the script leaves something.
         """
         if not self.left.is_healthy:
             return None, None

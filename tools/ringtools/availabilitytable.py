@@ -26,12 +26,12 @@ SHARES = (
     "frames",
 )
 CAUSES = ("circuit", "called", "protection", "component", "other", "minutes")
-PARTS = """The minutes of the shared ring by what takes the circuit: an end node is down; another component that takes it alone is;
-or only several do together. And a year's switches: the failures on its way that it survives, and the most frames of
-125 us that it is out by them and by their repairs. The delay of fibres isn't in these.
+PARTS = """The same minutes of the shared ring by cause: an end node is down; else another component that alone is enough; else
+several together. Then a year's switches, the failures on its arc that it survives; and the most frames of 125 us that
+it is out by these and by their repairs, fibre delay not included.
 
 """
-MOST = """What takes each circuit most in the shared ring, with the minutes of a year in which all of it is down:
+MOST = """Main causes of loss in the shared ring, and the minutes a year for which all of a cause is down:
 
 """
 
@@ -61,7 +61,7 @@ def share_records(plan, places, components, left):
 
 
 def cause_records(plan, places, components, left):
-    """A record for each circuit, kind of protection, and component or pair of them that takes it."""
+    """A record for each circuit, kind of protection, and component or pair of components with which it is lost."""
     for circuit in plan.circuits:
         seen, who = Seen(plan, circuit, components, left), named(plan, places, circuit)
         for protection in PROTECTIONS:
@@ -123,25 +123,25 @@ def part_row(places, circuit, seen):
     return [places.circuit(circuit.name), *parts, *(["", ""] if switches is None else [f"{switches:.3f}", f"{frames:.1f}"])]
 
 
-def takes_most(plan, places, components, left, most=3):
-    """The causes of each circuit that take most minutes, in words."""
+def main_causes(plan, places, components, left, most=3):
+    """Returns the longest causes of each circuit, in words."""
     for circuit in plan.circuits:
         causes = Seen(plan, circuit, components, left).causes("shared")
-        told = [f"{' with '.join(one.name for one in cause.components)} {minutes_words(cause.minutes)}" for cause in causes[:most]]
-        yield f"  {places.circuit(circuit.name)}: {'; '.join(told) or 'nothing'}"
+        words = [f"{' with '.join(one.name for one in cause.components)} {minutes_words(cause.minutes)}" for cause in causes[:most]]
+        yield f"  {places.circuit(circuit.name)}: {'; '.join(words) or 'none'}"
 
 
 def head_of(plan, components, left, nodes_fail):
     kinds = [(kind, sum(one.kind == kind for one in components)) for kind in ("span", "fibre", "node", "group")]
     yield f"{count_of(len(plan.circuits), 'circuit')}; components: {', '.join(count_of(count, kind) for kind, count in kinds if count)}."
-    yield "All fail and are repaired independently of one another, in a steady state; a year has 525,600 minutes."
+    yield "All fail and are repaired independently of one another, in steady state; a year has 525,600 minutes."
     if not nodes_fail:
-        yield "Nodes are taken not to fail."
+        yield "Nodes never fail: there is no table of nodes."
     if len(plan.circuits) > plan.rate // 2:
-        yield f"A path ring of this rate has room for {plan.rate // 2} circuits in all; each of these is told as if it were one of them."
+        yield f"A path ring of this rate has room for {plan.rate // 2} circuits in all; each of these is counted as if it were one of them."
     if not left.is_healthy:
         spans = ", ".join(plan.span_name(span) for span in sorted(left.applied)) or "no span that stays applied"
-        yield f"The ring is the one that the plan's script leaves: {spans}; switches aren't counted, since their rows are those of a healthy ring."
+        yield f"The ring is the one that the plan's script leaves: {spans}; switches aren't counted, since their law is that of a healthy ring."
 
 
 def as_text(plan, places, components, left, nodes_fail):
@@ -153,6 +153,6 @@ def as_text(plan, places, components, left, nodes_fail):
             "\n".join(head_of(plan, components, left, nodes_fail)) + "\n",
             "Minutes of a year in which a circuit is lost, and the nines of its availability:\n\n" + aligned(losses),
             PARTS + aligned(parts),
-            MOST + "\n".join(takes_most(plan, places, components, left)) + "\n",
+            MOST + "\n".join(main_causes(plan, places, components, left)) + "\n",
         )
     )

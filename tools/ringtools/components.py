@@ -93,7 +93,7 @@ def needed(row, column, wanted):
 
 
 def cuts_of(row, per_1000_km):
-    """The rate of a span's cuts: as it is told, or from its length."""
+    """The rate of a span's cuts: as the row has it, or from its length."""
     cuts, km = row.number("cuts"), row.number("km")
     rate = row.number("cuts_per_1000_km")
     rate = per_1000_km if rate is None else rate
@@ -105,7 +105,7 @@ def cuts_of(row, per_1000_km):
 
 
 def fibres_alone(row, finder, span):
-    """The two fibres of a span as components of their own, where the row tells a rate of them."""
+    """The two fibres of a span as components of their own, where the row has a rate for them."""
     rate = row.number("fibre_failures")
     if rate is None:
         return
@@ -120,7 +120,7 @@ def complete(file, found, names):
     """Raises where one of these has no row."""
     missing = [name for at, name in enumerate(names) if at not in found]
     if missing:
-        raise TableProblem(f"{file}: {', '.join(missing)}: no row tells of {'it' if len(missing) == 1 else 'them'}; a rate of 0 says that it never fails")
+        raise TableProblem(f"{file}: {', '.join(missing)}: {'it has' if len(missing) == 1 else 'they have'} no row; a rate of 0 stands for what never fails")
 
 
 def read_spans(name, finder, per_1000_km=None):
@@ -160,7 +160,7 @@ def read_groups(name, finder):
             raise row.problem(f"the group {row['group']} stood before")
         words = [words for words in row["members"].split(";") if words.strip()]
         if not words:
-            raise row.problem("`members` is empty; spans, nodes and fibres are wanted, parted by semicolons")
+            raise row.problem("`members` is empty; spans, nodes and fibres are wanted, separated by semicolons")
         fibres = frozenset().union(*(finder.member(row, member) for member in words))
         rate, hours = needed(row, "failures", "the failures a year are wanted"), needed(row, "hours", REPAIR)
         groups.append(Component(f"group {row['group']}", "group", fibres, rate, hours))

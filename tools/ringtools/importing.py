@@ -13,7 +13,7 @@ from .tables import read_table
 NODE_COLUMNS = ("place", "node")
 OF_OTHERS = ("failures", "hours")  # columns of the table of nodes that another tool reads
 CIRCUIT_COLUMNS = ("name", "from", "to", "direction", "slot", "text_a", "text_b", "trace", "trace_a", "trace_b", "offset_a", "offset_b")
-NOTED = 3  # circuits that are named otherwise in the plan are told one by one up to this number
+NOTED = 3  # of the circuits that have another name in the plan, this many are reported one by one
 DIRECTIONS = {"east": "east", "eastwards": "east", "west": "west", "westwards": "west"}
 
 
@@ -39,7 +39,7 @@ class Circuit:
 
 def check_place(row, place, nodes):
     if place.isdecimal():
-        raise row.problem(f"`place` is `{place}`, and a number alone would be taken for an identifier")
+        raise row.problem(f"`place` is `{place}`, and a number alone would be read as an identifier")
     if place and (why := why_no_name(place)):
         raise row.problem(f"`place` is `{place}`, and {why}")
     if place and place.casefold() in (node.place.casefold() for node in nodes):
@@ -96,7 +96,7 @@ def plain(called, number):
 
 
 def apart(name, taken):
-    """The name, or where another has it, the name with a number behind it."""
+    """The name, or where another has it, the name with a number after it."""
     number, made = 1, name
     while made in taken:
         number += 1
@@ -127,7 +127,7 @@ def wanted_of(row, ring, rate):
         raise row.problem(f"`from` and `to` are both {ring.name(start)}")
     way = row["direction"].lower()
     if way and way not in DIRECTIONS:
-        raise row.problem(f"`direction` is `{row['direction']}`, and east or west is wanted, as the way leads from `from`, or nothing")
+        raise row.problem(f"`direction` is `{row['direction']}`, and east, west or an empty cell is wanted")
     return Wanted(start, end, DIRECTIONS.get(way), row.whole("slot", 1, rate // 2))
 
 
@@ -206,7 +206,7 @@ def notes_of(circuits, layout, is_sure, unread):
     for circuit in renamed[:NOTED]:
         yield f"{circuit.row.file}:{circuit.row.line}: `{circuit.called}` is named {circuit.name} in the plan"
     if renamed[NOTED:]:
-        yield f"{len(renamed) - NOTED} more are named otherwise in the plan; each has its own name beside it as a comment"
+        yield f"{len(renamed) - NOTED} more have another name in the plan, with their own beside it as a comment"
 
 
 def imported(circuits_file, nodes_file, asked):

@@ -12,7 +12,7 @@ from dataclasses import dataclass, field
 from .source import STRINGS
 
 LONGEST = 60  # characters of a name
-TOLD = re.compile(r"# (node|circuit) (\S+) is (\S(?:.*\S)?)[ \t\r]*")
+NAMED = re.compile(r"# (node|circuit) (\S+) is (\S(?:.*\S)?)[ \t\r]*")
 PARTS = re.compile("|".join([*(f"(?:{form.pattern})" for form in STRINGS), "(?P<comment>#[^\n]*)"]), re.S)
 
 
@@ -66,10 +66,10 @@ def comments_of(text):
 
 
 def read_places(data):
-    """The names that a plan's comments tell. Those of nodes and circuits that the plan doesn't have are kept too."""
+    """Returns the names that a plan's comments give. Those of nodes and circuits that the plan doesn't have are kept too."""
     places = Places()
     for line, comment in comments_of(data.decode("utf-8-sig")):
-        found = TOLD.fullmatch(comment)
+        found = NAMED.fullmatch(comment)
         if not found or found[1] == "node" and not found[2].isdecimal():
             continue
         names = places.nodes if found[1] == "node" else places.circuits

@@ -1,8 +1,8 @@
-"""How many frames a switch takes from the customers of a healthy ring, by the table of docs/RING.md. The delay of fibres isn't in it."""
+"""For how many frames a switch interrupts the customers of a healthy ring, by the table of docs/RING.md; fibre delay not included."""
 
 
 def farthest(size, spans):
-    """The most that an event takes which has no row: found by the search that RING.md tells of up to two spans, and proved of all others."""
+    """The most frames of an event without a row: by the search that docs/RING.md describes for up to two spans, and as proved for more."""
     return 5 * size - 3 if spans <= 2 else 12 * size + 102
 
 

@@ -1,4 +1,4 @@
-"""Tables that people keep in spreadsheets, as CSV: the columns are found by their names, and what is wrong is told with file and line."""
+"""Tables that people keep in spreadsheets, as CSV: columns are found by their names, and mistakes are reported with file and line."""
 
 import csv
 import io

@@ -8,6 +8,7 @@ import tempfile
 import unittest
 from collections import defaultdict
 from pathlib import Path
+from runpy import run_path
 
 from common import TOOLS, call
 
@@ -16,7 +17,9 @@ from ringtools.components import HOURS, Component
 from ringtools.model import CUT, FAIL, applied_spans, incoming, is_joined, scenes, span_requests
 from ringtools.plan import read_plan
 from ringtools.switching import frames_of
+from ringtools.tables import TableProblem
 
+AVAILABILITY, PLAN = run_path(str(TOOLS / "availability")), run_path(str(TOOLS / "plan"))
 DOCS = TOOLS.parent / "docs"
 STEPS = ("cut", "cut", "mend", "forced", "manual", "clear", "degrade", "settle")
 
@@ -234,6 +237,123 @@ class Switching(unittest.TestCase):
         components = [Component("span", "span", both(4, span), 1, 1) for span in range(4)]
         self.assertEqual(Seen(plan, plan.circuits[0], components, left_by(plan)).switches(), (None, None))
         self.assertNotEqual(Seen(plan, plan.circuits[0], components, NOTHING_LEFT).switches(), (None, None))
+
+
+SPANS = "from,to,cuts,hours\n" + "".join(f"{a},{b},1,8\n" for a, b in ("12", "23", "34", "41"))
+HEADS = {
+    "shares": "circuit called from to from_place to_place protection unavailability minutes nines ends alone together script switches frames",
+    "causes": "circuit called protection component other minutes",
+}
+
+
+class Command(unittest.TestCase):
+    def setUp(self):
+        self.folder = Path(self.enterContext(tempfile.TemporaryDirectory()))
+        self.plan("north=1>3", "west=4>1", "--rate", "16")
+
+    def plan(self, *words):
+        (self.folder / "plan.toml").write_text(PLAN["document_for"](PLAN["options"](["new", *words]))[0])
+
+    def made(self, *words, **tables):
+        """What the tool writes, without a process of its own."""
+        for name, text in ({"spans": SPANS} | tables).items():
+            (self.folder / f"{name}.csv").write_text(text)
+        more = [word for name in tables if name != "spans" for word in (f"--{name}", str(self.folder / f"{name}.csv"))]
+        words = str(self.folder / "plan.toml"), str(self.folder / "spans.csv"), *more, *words
+        return AVAILABILITY["answer"](AVAILABILITY["options"](words))
+
+    def test_the_page_s_example(self):
+        page = (DOCS / "AVAILABILITY.md").read_text()
+        for name in ("circuits", "nodes", "spans", "groups"):
+            table = page.split(f"`{name}.csv`:\n\n", 1)[1].split("\n\n", 1)[0]
+            (self.folder / f"{name}.csv").write_text(re.sub(r"^    ", "", table, flags=re.M) + "\n")
+        (self.folder / "plan.toml").unlink()
+        commands = [re.sub(r"^    tools/", "", line).split() for line in page.split("The tool:\n\n", 1)[1].splitlines()[:2]]
+        made, found = (call(*command, cwd=self.folder) for command in commands)
+        self.assertEqual((made.returncode, found.returncode), (0, 0), made.stderr + found.stderr)
+        shown = page.split(" --groups groups.csv\n\n")[2].split("\n\nShared and path ring differ", 1)[0]
+        self.assertEqual(found.stdout.decode(), re.sub(r"^    ", "", shown, flags=re.M) + "\n")
+
+    def test_records_are_regular(self):
+        nodes = "node,failures,hours\n" + "".join(f"{number},0.02,4\n" for number in (1, 2, 3, 4))
+        for kind, more in (("shares", ()), ("causes", ("--causes",))):
+            rows = [line.split(",") for line in self.made("--csv", *more, nodes=nodes).splitlines()]
+            text = self.made("--json", *more, nodes=nodes)
+            records = json.loads(text)
+            self.assertEqual(rows[0], HEADS[kind].split())
+            self.assertEqual({len(row) for row in rows}, {len(rows[0])})
+            self.assertEqual([list(record) for record in records], [rows[0]] * (len(rows) - 1))
+            self.assertEqual([["" if value is None else str(value) for value in record.values()] for record in records], rows[1:])
+            self.assertEqual(len(text.splitlines()), len(records) + 2)
+        self.assertEqual(len(json.loads(self.made("--json"))), 2 * len(PROTECTIONS))
+
+    def test_rates_from_lengths_and_fibres(self):
+        head = "From;To;km;Cuts per 1000 km;hours;fibre failures;fibre hours\n"
+        rows = "1;2;100;;8,5;0,5;2\n3;2;200;2,5;8;;\n3;4;0;;8;;\n1;4;50;;8;;\n"
+        found = json.loads(self.made("--json", "--causes", "--cuts-per-1000-km", "4", spans=head + rows))
+        alone = {record["component"]: record["minutes"] for record in found if (record["circuit"], record["protection"]) == ("north", "unprotected")}
+        down = lambda rate, hours: rate * hours / (HOURS + rate * hours) * MINUTES
+        wanted = {"span 1–2": down(0.4, 8.5), "span 2–3": down(0.5, 8), "fibre 1>2": down(0.5, 2), "fibre 2>1": down(0.5, 2)}
+        self.assertEqual(alone.keys(), wanted.keys())
+        for name, minutes in wanted.items():
+            self.assertTrue(math.isclose(alone[name], minutes, rel_tol=1e-12))
+
+    def test_what_the_script_leaves_is_said_and_may_be_left_out(self):
+        plan = self.folder / "plan.toml"
+        plan.write_text(plan.read_text().replace('    "settle",\n', '    "forced 1 east",\n    "settle",\n', 1))
+        self.assertIn("The ring is the one that the plan's script leaves: 1–2; switches aren't counted", self.made())
+        self.assertNotIn("script", self.made("--without-script"))
+        shared = json.loads(self.made("--json"))[0]
+        self.assertTrue(math.isclose(shared["minutes"], 2 * MINUTES * 8 / 8768, rel_tol=1e-3))
+        self.assertEqual((shared["together"], shared["switches"], shared["frames"]), (0, None, None))
+
+    def test_a_ring_of_two_nodes(self):
+        self.plan("1>2", "--nodes", "1-2")
+        groups = "group,members,failures,hours\nduct,span 1-2;fibre 1>2,1,1\nboth,span 2-1; span 1–2,1,1\n"
+        found = json.loads(self.made("--json", "--causes", spans="from,to,cuts,hours\n2,1,1,8\n1,2,2,8\n", groups=groups))
+        shared = [(record["component"], record["other"]) for record in found if record["protection"] == "shared"]
+        self.assertEqual(shared, [("group both", ""), ("span 1–2", "span 2–1"), ("span 2–1", "group duct")])
+
+    def refused(self, said, **tables):
+        with self.assertRaises(TableProblem) as raised:
+            self.made(**tables)
+        self.assertIn(said, str(raised.exception))
+
+    def test_a_refusal_is_a_line_and_status_1(self):
+        (self.folder / "spans.csv").write_text("from,to\n")
+        ended = call("availability", "plan.toml", "spans.csv", cwd=self.folder)
+        self.assertEqual((ended.returncode, ended.stdout), (1, b""))
+        self.assertEqual(ended.stderr, b"availability: spans.csv:1: the first line is to name the columns, and `hours` is missing; there are from, to\n")
+        self.assertEqual(call("availability", "plan.toml", "spans.csv", "--causes", cwd=self.folder).returncode, 2)
+
+    def test_tables_that_are_refused(self):
+        line = lambda row: {"spans": "from,to,cuts,km,hours\n" + row}
+        group = lambda row: {"groups": "group,members,failures,hours\n" + row}
+        for said, tables in (
+            ("spans.csv:1: the first line is to name the columns, and `hours` is missing", {"spans": "from,to\n"}),
+            ("spans.csv: span 2–3, span 3–4, span 4–1: they have no row", line("1,2,1,,8\n")),
+            ("spans.csv:3: span 1–2 stood before", line("1,2,1,,8\n2,1,1,,8\n")),
+            ("spans.csv:2: no span of the ring joins 1 and 3", line("1,3,1,,8\n")),
+            ("spans.csv:2: `to` is `7`, and the nodes of the plan are 1, 2, 3, 4", line("1,7,1,,8\n")),
+            ("spans.csv:2: `hours` is empty", line("1,2,1,,\n")),
+            ("spans.csv:2: `hours` is `-8`, and a number is wanted that isn't below 0", line("1,2,1,,-8\n")),
+            ("spans.csv:2: `cuts` is `nan`", line("1,2,nan,,8\n")),
+            ("spans.csv:2: `cuts` a year are wanted, or `km`", line("1,2,,80,8\n")),
+            ("nodes.csv: node 2, node 3, node 4: they have no row", {"nodes": "node,failures,hours\n1,0,4\n"}),
+            ("nodes.csv:3: node 1 stood before", {"nodes": "node,failures,hours\n1,0,4\n1,0,4\n"}),
+            ("nodes.csv:1: the first line is to name the column `node`", {"nodes": "failures,hours\n0,4\n"}),
+            ("groups.csv:2: `span 1-3` is no span, node or fibre of the plan", group("duct,span 1-2; span 1-3,1,1\n")),
+            ("groups.csv:2: `members` is empty", group("duct,;,1,1\n")),
+            ("groups.csv:3: the group duct stood before", group("duct,node 1,1,1\nduct,node 2,1,1\n")),
+            ("groups.csv:2: `failures` is empty", group("duct,node 1,,1\n")),
+        ):
+            with self.subTest(said=said):
+                self.refused(said, **tables)
+        plan = self.folder / "plan.toml"
+        plan.write_text(plan.read_text() + "# node 1 is A\n# node 1 is B\n")
+        self.refused("node 1 is named B, and A before")
+        plan.write_text("rate = 5\n")
+        self.refused("plan.toml: `rate` is to be 4 or 16")
 
 
 if __name__ == "__main__":

@@ -5,12 +5,18 @@ import tempfile
 import tomllib
 import unittest
 from pathlib import Path
+from runpy import run_path
 
-from common import call
+from common import TOOLS, call
 
+from ringtools.importing import ImportProblem
+from ringtools.making import MakingProblem
 from ringtools.places import PlaceProblem, read_places, written
 from ringtools.plan import read_plan
 from ringtools.slots import Demand, Laid, Wanted, arcs_of, fitted, layout_of, loads_of, spans_of
+from ringtools.tables import TableProblem
+
+PLAN = run_path(str(TOOLS / "plan"))
 
 NODES = "place,node\nKöln,4\nBad Ems,\nMainz,9\nAachen,\n"
 
@@ -131,20 +137,33 @@ class Import(unittest.TestCase):
     def setUp(self):
         self.folder = Path(self.enterContext(tempfile.TemporaryDirectory()))
 
-    def ended(self, circuits, nodes=NODES, *words):
+    def write(self, circuits, nodes):
         for name, text in (("circuits.csv", circuits), ("nodes.csv", nodes)):
             (self.folder / name).write_bytes(text if isinstance(text, bytes) else text.encode())
-        return call("plan", "import", "circuits.csv", "--nodes", "nodes.csv", *words, cwd=self.folder)
 
-    def made(self, *words):
-        ended = self.ended(*words)
-        self.assertEqual(ended.returncode, 0, ended.stderr)
-        return ended.stdout, ended.stderr.decode()
+    def made(self, circuits, nodes=NODES, *words):
+        """What the tool writes and says, without a process of its own."""
+        self.write(circuits, nodes)
+        files = str(self.folder / "circuits.csv"), "--nodes", str(self.folder / "nodes.csv")
+        document, notes = PLAN["document_for"](PLAN["options"](["import", *files, *words]))
+        return document.encode(), "\n".join(notes)
 
     def refused(self, said, *words):
-        ended = self.ended(*words)
-        self.assertEqual((ended.returncode, ended.stdout), (1, b""))
-        self.assertIn(said, ended.stderr.decode())
+        with self.assertRaises((ImportProblem, MakingProblem, TableProblem)) as raised:
+            self.made(*words)
+        self.assertIn(said, str(raised.exception))
+
+    def test_the_command(self):
+        self.write("name,from,to\nNord 1,Köln,9\n", NODES)
+        words = "import", "circuits.csv", "--nodes", "nodes.csv"
+        ended = call("plan", *words, "--to", "ring.toml", cwd=self.folder)
+        said = "plan: 1 circuit; the largest load of a span is 1, and no choice of directions and slots has less\nplan: circuits.csv:2: `Nord 1` is named nord-1 in the plan\n"
+        self.assertEqual((ended.returncode, ended.stdout, ended.stderr.decode()), (0, b"", said))
+        self.assertIn("# node 4 is Köln\n", (self.folder / "ring.toml").read_text(encoding="utf-8"))
+        self.assertIn(b"File exists", call("plan", *words, "--to", "ring.toml", cwd=self.folder).stderr)
+        self.write("from,to\n1,1\n", NODES)
+        ended = call("plan", *words, cwd=self.folder)
+        self.assertEqual((ended.returncode, ended.stdout, ended.stderr), (1, b"", b"plan: circuits.csv:2: `from` and `to` are both Bad Ems\n"))
 
     def test_a_plan_of_all_columns(self):
         head = "Name;From;to;Direction;slot;text_a;text b;trace_a;offset_a;offset_b;Kunde\n"
@@ -192,7 +211,7 @@ class Import(unittest.TestCase):
             ("circuits.csv:1: the table is empty", "", NODES),
             ("circuits.csv:3: `to` is `Bonn`, and the nodes are Köln, Bad Ems, Mainz, Aachen", row + "a,4,9,,,,\nb,4,Bonn,,,,\n", NODES),
             ("circuits.csv:2: `from` and `to` are both Köln", row + "a,4,Köln,,,,\n", NODES),
-            ("circuits.csv:2: `direction` is `up`, and east or west is wanted", row + "a,4,9,up,,,\n", NODES),
+            ("circuits.csv:2: `direction` is `up`, and east, west or an empty cell is wanted", row + "a,4,9,up,,,\n", NODES),
             ("circuits.csv:2: `slot` is `3`, and a whole number from 1 to 2", row + "a,4,9,,3,,\n", NODES),
             ("circuits.csv:2: `text_a` is to have 1 to 64 characters", row + "a,4,9,,,ü,\n", NODES),
             ("circuits.csv:2: `offset_b` is `783`", row + "a,4,9,,,,783\n", NODES),
