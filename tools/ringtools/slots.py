@@ -5,7 +5,6 @@ done the next choice is tried. Both searches are exhaustive unless a number of t
 """
 
 import random
-from collections import Counter
 from dataclasses import dataclass
 from itertools import combinations
 
@@ -56,6 +55,11 @@ def loads_of(size, laid):
     return [sum(span in spans_of(size, one.start, one.end) for one in laid) for span in range(size)]
 
 
+def parts(spans, pair):
+    """Whether two spans part the ends of an arc of these spans."""
+    return (pair[0] in spans) != (pair[1] in spans)
+
+
 class Demand:
     """What has to be carried: the loads of the circuits whose way is given, and how many of the others each two spans part."""
 
@@ -64,13 +68,14 @@ class Demand:
         self.fixed = [0] * size
         self.parted = dict.fromkeys(combinations(range(size), 2), 0)
         for one in wanted:
-            if one.way is None:
-                inside = set(spans_of(size, one.start, one.end))
-                for pair in self.parted:
-                    self.parted[pair] += (pair[0] in inside) != (pair[1] in inside)
-            else:
-                for span in spans_of(size, *arcs_of(size, one)[0]):
-                    self.fixed[span] += 1
+            self.add(one)
+
+    def add(self, one):
+        spans = set(spans_of(self.size, *arcs_of(self.size, one)[0]))
+        if one.way is not None:
+            self.fixed = [load + (span in spans) for span, load in enumerate(self.fixed)]
+        else:
+            self.parted = {pair: count + parts(spans, pair) for pair, count in self.parted.items()}
 
     def need(self, pair):
         """What two spans have to carry together, whichever ways are chosen."""
@@ -136,11 +141,9 @@ class Ways(Steps):
         """Puts a group onto its spans, `turned` of its circuits the longer way; with sign -1 it is taken away again."""
         start, end = arcs_of(self.size, self.wanted[group[0]])[0]
         inside = set(spans_of(self.size, start, end))
-        for span in range(self.size):
-            self.room[span] -= sign * (len(group) - turned if span in inside else turned)
+        self.room = [room - sign * (len(group) - turned if span in inside else turned) for span, room in enumerate(self.room)]
         for pair in self.parted:
-            if (pair[0] in inside) != (pair[1] in inside):
-                self.parted[pair] -= sign * len(group)
+            self.parted[pair] -= sign * len(group) * parts(inside, pair)
 
     def choices(self, at=0, chosen=()):
         """Each choice, as the set of the indices of those circuits that go the longer way."""
