@@ -32,7 +32,7 @@ _sdhring_tools() {
     explain) words='--first --status --name --help' ;;
     report) words='--json --csv --nodes --plan --help' ;;
     plan) words='new import --nodes --rate --threshold --wait --limit --steps --to --help' ;;
-    desk) words='--title --spans --nodes --groups --cuts-per-1000-km --teller --help' ;;
+    desk) words='--to --title --spans --nodes --groups --cuts-per-1000-km --teller --help' ;;
     availability) words='--nodes --groups --cuts-per-1000-km --without-script --csv --json --causes --help' ;;
     ringview) words='--svg --outages --program --help' ;;
     whatif) words='--also --works --kinds --dir --program --jobs --shard --sshlogin --parallel --all --frames --teller --anew --help' ;;

@@ -166,15 +166,36 @@ class Pages(unittest.TestCase):
         self.assertEqual(browsed(page(), DEEDS), SAID)
 
 
+class Many(unittest.TestCase):
+    def test_a_page_for_each_plan_and_an_index(self):
+        with tempfile.TemporaryDirectory() as name:
+            folder = Path(name)
+            (folder / "north ring.toml").write_text(PLAN, encoding="utf-8")
+            (folder / "north ring.spans.csv").write_text(SPANS, encoding="utf-8")
+            (folder / "two.toml").write_bytes((RINGS / "two-nodes.toml").read_bytes())
+            ended = call("desk", "--to", "pages", "--teller", TELLER, "north ring.toml", "two.toml", cwd=folder)
+            self.assertEqual((ended.returncode, ended.stderr), (0, b""))
+            index = Seen((folder / "pages" / "index.html").read_text(encoding="utf-8"))
+            self.assertEqual([link["href"] for link in index.all("a")], ["north%20ring.html", "two.html"])
+            north, two = index.table_named("Rings")
+            self.assertEqual([north[head] for head in ("lost by a fibre", "by a span", "by a node", "by two spans")], ["0", "0", "2", "2"])
+            self.assertEqual((north["pairs of spans that lose some"], north["least available"], two["min/year"]), ("5 of 6", "Far & wide", ""))
+            self.assertIn("min/year", (folder / "pages" / "north ring.html").read_text(encoding="utf-8"))
+            self.assertNotIn("min/year", (folder / "pages" / "two.html").read_text(encoding="utf-8"))
+
+
 class Refused(unittest.TestCase):
     def test_lines_and_statuses(self):
         with tempfile.TemporaryDirectory() as folder:
             (Path(folder) / "plan.toml").write_text(PLAN, encoding="utf-8")
             (Path(folder) / "spans.csv").write_text("from,to,hours\n", encoding="utf-8")
             for status, said, words in (
-                (1, "desk: the answer isn't a table of this plan: status 1", ("--teller", "false")),
+                (1, "desk: plan.toml: the answer isn't a table of this plan: status 1", ("--teller", "false")),
                 (1, "desk: spans.csv: span Köln–Bad <Ems>,", ("--spans", "spans.csv", "--teller", TELLER)),
                 (2, "--nodes and --groups go with --spans", ("--nodes", "n.csv")),
+                (2, "several plans go with --to", ("other.toml",)),
+                (2, "two plans have one name", ("--to", "pages", "below/plan.toml")),
+                (2, "with --to each plan is a file", ("--to", "pages", "-")),
             ):
                 ended = call("desk", "plan.toml", *words, cwd=folder)
                 self.assertEqual((ended.returncode, ended.stdout), (status, b""))
