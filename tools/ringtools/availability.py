@@ -66,22 +66,28 @@ def state_of(plan, own, fibres):
 
 
 def probabilities(parts):
-    """The probability of each state, of components as (state, part of the time in which it is down). Nothing is subtracted."""
+    """The probability of each state, of components as (state, component). Nothing is subtracted."""
     found = [0.0] * STATES
     found[0] = 1.0
-    for state, down in parts:
+    for state, one in parts:
         after = [0.0] * STATES
         for before, probability in enumerate(found):
-            after[before] += probability * (1 - down)
-            after[before | state] += probability * down
+            after[before] += probability * one.up
+            after[before | state] += probability * one.down
         found = after
     return found
 
 
-def any_down(downs):
-    """The probability that any of these is down, without loss of digits."""
-    downs = list(downs)
-    return 1.0 if 1.0 in downs else abs(math.expm1(math.fsum(math.log1p(-down) for down in downs)))
+def all_up(components):
+    return math.prod(one.up for one in components)
+
+
+def any_down(components):
+    """The probability that any of these is down: that the first is, or is up and any of the others is down."""
+    found = 0.0
+    for one in components:
+        found = one.down + one.up * found
+    return found
 
 
 @dataclass(frozen=True)
@@ -144,12 +150,11 @@ class Seen:
         if loses(0):
             return Share(0.0, 0.0, 0.0, 1.0)
         fatal = [loses(state) for state in self.states]
-        ends = [one.down for one, alone in zip(self.components, fatal) if alone and self.is_end(one)]
-        others = [one.down for one, alone in zip(self.components, fatal) if alone and not self.is_end(one)]
-        rest = [(state, one.down) for state, one, alone in zip(self.states, self.components, fatal) if not alone]
+        ends = [one for one, alone in zip(self.components, fatal) if alone and self.is_end(one)]
+        others = [one for one, alone in zip(self.components, fatal) if alone and not self.is_end(one)]
+        rest = [(state, one) for state, one, alone in zip(self.states, self.components, fatal) if not alone]
         together = math.fsum(probability for state, probability in enumerate(probabilities(rest)) if loses(state))
-        by_ends, by_others = any_down(ends), any_down(others)
-        return Share(by_ends, (1 - by_ends) * by_others, (1 - by_ends) * (1 - by_others) * together)
+        return Share(any_down(ends), all_up(ends) * any_down(others), all_up(ends + others) * together)
 
     def causes(self, protection):
         """Returns the components with which alone the circuit is lost, and the pairs of others; the longest first."""

@@ -8,6 +8,7 @@ from .availability import MINUTES, PROTECTIONS, Seen
 from .markup import count_of
 
 SHARES = (
+    "plan",
     "circuit",
     "called",
     "from",
@@ -25,7 +26,7 @@ SHARES = (
     "switches",
     "frames",
 )
-CAUSES = ("circuit", "called", "protection", "component", "other", "minutes")
+CAUSES = ("plan", "circuit", "called", "protection", "component", "other", "minutes")
 PARTS = """The same minutes of the shared ring by cause: an end node is down; else another component that alone is enough; else
 several together. Then a year's switches, the failures on its arc that it survives; and the most frames of 125 us that
 it is out by these and by their repairs, fibre delay not included.

@@ -30,9 +30,13 @@ class Component:
         return lasts / (1 + lasts)
 
     @property
+    def up(self):
+        return 1 / (1 + self.rate * self.hours / HOURS)
+
+    @property
     def failures(self):
-        """How often it fails in a year, in which it is up most of the time."""
-        return self.rate * (1 - self.down)
+        """How often it fails in a year, in part of which it is down."""
+        return self.rate * self.up
 
 
 class Finder:

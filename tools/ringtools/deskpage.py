@@ -16,7 +16,7 @@ SOURCES = (
     "and names those that are lost. Which of the others are kept, and which spans are applied, comes from the restoration model of these tools; "
     "in each case its numbers and names had to be the table's. Availability is computed by these tools."
 )
-BREAKS = ("fibre", "span", "node", "degraded")  # failures; the other kinds are operators' switches
+BREAKS = ("span", "node", "fibre", "degraded")  # failures; the other kinds are operators' switches
 TITLES = {"degraded": "fibres degraded", "fibre": "fibres cut", "span": "spans cut", "node": "nodes lost", "manual": "manual switches", "forced": "forced switches"}
 
 
@@ -47,11 +47,12 @@ class Desk:
         return self.table.cases[tuple(sorted((self.number("span", one), self.number("span", other))))]
 
     def worst(self):
-        """The failures, alone or two, that lose most; of those that apply the same spans only the first."""
+        """The failures, alone or two, that lose most; of those that apply the same spans only one, of spans or nodes where it can be."""
+        kinds = lambda case: [BREAKS.index(self.table.failures[number].kind) for number in case.failures]
+        broken = [case for case in self.table.cases.values() if case.lost and all(self.table.failures[number].kind in BREAKS for number in case.failures)]
         found = {}
-        for numbers, case in self.table.cases.items():
-            if case.lost and all(self.table.failures[number].kind in BREAKS for number in numbers):
-                found.setdefault(case.applied, case)
+        for case in sorted(broken, key=lambda case: (len(case.failures), max(kinds(case)), sum(kinds(case)))):
+            found.setdefault(case.applied, case)
         return sorted(found.values(), key=lambda case: -case.lost)[:WORST]
 
 

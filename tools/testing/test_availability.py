@@ -56,7 +56,7 @@ def components_of(chance, size, most):
     groups = [frozenset(chance.sample(sides, chance.randint(1, min(5, len(sides))))) for _ in range(2)]
     made += [("group", frozenset().union(fibres, *(both(size, chance.randrange(size)) for _ in range(chance.randint(0, 1)))), None) for fibres in groups]
     chosen = chance.sample(made, min(most, len(made)))
-    rate = lambda: chance.choice((0, 10 ** chance.uniform(-6, 0), 10 ** chance.uniform(-1, 3)))
+    rate = lambda: chance.choice((0, 10 ** chance.uniform(-6, 0), 10 ** chance.uniform(-1, 3), 10 ** chance.uniform(3, 9)))
     return [Component(f"{kind} {number}", kind, fibres, rate(), 10 ** chance.uniform(-1, 2), at) for number, (kind, fibres, at) in enumerate(chosen)]
 
 
@@ -99,7 +99,7 @@ def all_sets(components):
     """Each set of components that are down: its number in binary digits, its probability, and the fibres that it cuts."""
     found = [(0, 1.0, frozenset())]
     for at, one in enumerate(components):
-        found = [(number, p * (1 - one.down), cut) for number, p, cut in found] + [(number | 1 << at, p * one.down, cut | one.fibres) for number, p, cut in found]
+        found = [(number, p * one.up, cut) for number, p, cut in found] + [(number | 1 << at, p * one.down, cut | one.fibres) for number, p, cut in found]
     return found
 
 
@@ -241,8 +241,8 @@ class Switching(unittest.TestCase):
 
 SPANS = "from,to,cuts,hours\n" + "".join(f"{a},{b},1,8\n" for a, b in ("12", "23", "34", "41"))
 HEADS = {
-    "shares": "circuit called from to from_place to_place protection unavailability minutes nines ends alone together script switches frames",
-    "causes": "circuit called protection component other minutes",
+    "shares": "plan circuit called from to from_place to_place protection unavailability minutes nines ends alone together script switches frames",
+    "causes": "plan circuit called protection component other minutes",
 }
 
 

@@ -65,6 +65,7 @@
     });
     ring.classList.toggle("has-way", whose !== "");
     by("way").setAttribute("d", whose !== "" && found ? way(+whose, found) : "");
+    by("way").setAttribute("class", whose !== "" && found ? words[found[1][whose]] : "");
   };
 
   const showCustomers = (found) => {
