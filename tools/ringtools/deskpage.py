@@ -146,19 +146,26 @@ def key_of(numbers, count):
     return 1 + count + first * (2 * count - first - 1) // 2 + second - first - 1
 
 
+def option(value, words):
+    return f'<option value="{value}">{escape(words)}</option>'
+
+
+def failure_options(desk):
+    for kind in ("span", "node", "fibre", "degraded", "manual", "forced"):
+        options = "".join(option(number, one.name) for number, one in enumerate(desk.table.failures) if one.kind == kind)
+        yield f'<optgroup label="{TITLES[kind]}">{options}</optgroup>'
+
+
 def chooser(desk):
     """What is made to fail by a click on a fibre, a list of all failures, and what comes of them."""
     kinds = (("fibre", "cut"), ("degraded", "degraded"), ("manual", "manual switch"), ("forced", "forced switch"))
     radios = "".join(f'<label><input type="radio" name="kind" value="{kind}"{" checked" if kind == "fibre" else ""}> {words}</label> ' for kind, words in kinds)
-    options = "".join(
-        f'<optgroup label="{TITLES[kind]}">' + "".join(f'<option value="{number}">{escape(one.name)}</option>' for number, one in enumerate(desk.table.failures) if one.kind == kind) + "</optgroup>"
-        for kind in ("span", "node", "fibre", "degraded", "manual", "forced")
-    )
+    customers = "".join(option(number, name) for number, name in enumerate(desk.called))
     return f"""<div class="panel" hidden>
 <fieldset><legend>A click on a fibre makes it</legend>{radios}</fieldset>
-<p><label>Or choose <select id="choose"><option value="">a failure</option>{options}</select></label> <button type="button" id="clear">clear</button></p>
+<p><label>Or choose <select id="choose">{option("", "a failure")}{"".join(failure_options(desk))}</select></label> <button type="button" id="clear">clear</button></p>
 <p id="failed"></p><div id="told" role="status" aria-live="polite"></div>
-<p><label>Way of <select id="whose"><option value="">no customer</option>{"".join(f'<option value="{number}">{escape(name)}</option>' for number, name in enumerate(desk.called))}</select></label></p>
+<p><label>Way of <select id="whose">{option("", "no customer")}{customers}</select></label></p>
 </div>"""
 
 

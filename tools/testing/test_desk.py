@@ -62,7 +62,9 @@ document.querySelector('input[value="fibre"]').click();
 click(item("fibre 9>0").querySelector(".hit")); note();
 click(item("span 9–0").querySelector("rect")); note();
 document.getElementById("clear").click();
-[...document.querySelectorAll("#matrix button.case")][2].click(); note();
+const cell = [...document.querySelectorAll("#matrix button.case")][2];
+told.push(cell.getAttribute("aria-label"));
+cell.click(); note();
 const heads = () => [...document.querySelectorAll("#customers tbody th")].map((cell) => cell.textContent).join();
 document.querySelector("#customers thead button").click(); told.push(heads());
 document.querySelector("#customers thead button").click(); told.push(heads());
@@ -82,6 +84,7 @@ SAID = [
     "fibre Köln>Bad <Ems> degraded. 0 lost. 2 over protection: Far & wide, near. 0 kept.",
     "fibre Köln>Bad <Ems> degraded and fibre 9>0 cut. 0 lost. 0 over protection. 2 kept.",
     "fibre Köln>Bad <Ems> degraded and fibre 9>0 cut and span 9–0: this case isn't in the page. It has cases of up to two failures, and none that would mend what the script cut or forced.",
+    "span Köln–Bad <Ems> and span 9–0: 2 lost",
     "span Köln–Bad <Ems> and span 9–0. 2 lost: Far & wide, near. 0 over protection. 0 kept.",
     "Far & wide,near",
     "near,Far & wide",

@@ -162,10 +162,12 @@
       button.type = "button";
       button.className = "case";
       button.title = "show it in the ring";
+      const numbers = cell.dataset.case ? cell.dataset.case.split(" ").map(Number) : [];
+      if (cell.matches("#matrix *")) button.setAttribute("aria-label", `${numbers.map((number) => data.failures[number][0]).join(" and ")}: ${cell.textContent} lost`);
       cell.replaceWith(button);
       button.append(cell);
       button.addEventListener("click", () => {
-        set(cell.dataset.case ? cell.dataset.case.split(" ").map(Number) : []);
+        set(numbers);
         by("try").scrollIntoView();
       });
     }
