@@ -8,8 +8,11 @@ from pathlib import Path
 
 from .build import HOME, PROGRAMS, record_of, write_build
 
-TOOLS = ("sdhring-explain", "sdhring-plan", "sdhring-report", "sdhring-view", "sdhring-whatif")
-DOCUMENTS = ("FORMATS.md", "LOOKING.md", "OUTAGES.md", "PATHS.md", "RETIMING.md", "RING.md", "WATCHING.md", "WHATIF.md")
+TOOLS = ("sdhring-availability", "sdhring-desk", "sdhring-explain", "sdhring-plan", "sdhring-report", "sdhring-view", "sdhring-whatif")
+DOCUMENTS = (
+    *("AVAILABILITY.md", "DESK.md", "FORMATS.md", "LOOKING.md", "OUTAGES.md", "PATHS.md", "RETIMING.md", "RING.md", "TABLES.md", "WATCHING.md"),
+    "WHATIF.md",
+)
 LIB, DOC, MAN = "lib/sdhring", "share/doc/sdhring", "share/man/man1"
 COMPLETIONS = "share/bash-completion/completions"
 FILES = f"{LIB}/FILES"
