@@ -7,8 +7,9 @@ from difflib import get_close_matches
 from math import isinf
 
 from .checks import arc_of, refusals
+from .holding import held_while_passing
 from .markup import count_of
-from .plan import PlanProblem, enough, read_document
+from .plan import PlanProblem, enough, read_document, read_plan
 from .reasons import REASONS
 from .source import Place, Source
 from .stream import TEXT_BYTES
@@ -225,7 +226,16 @@ def text_warnings(document, source):
             yield Finding(head, place, (f"ports: {names}", "what to do: take a text of 7 or 11 letters"))
 
 
-def warnings(document, source):
+def hold_warnings(plan, source):
+    for place, at in held_while_passing(plan):
+        head = (
+            f"warning: step {place + 1} holds the controller of node {plan.ids[at]}, which passes traffic through then; "
+            "until the next report a customer could get another customer's bytes for some frames"
+        )
+        yield Finding(head, source.of(("script", place), 1), ("RING.md tells more: When a controller is restarted",))
+
+
+def warnings(plan, document, source):
     nodes, circuits = document["nodes"], document.get("circuit", [])
     if document["limit"] < enough(len(nodes)):
         head = f"warning: with a limit below {enough(len(nodes))} a settle step may be unsettled"
@@ -237,6 +247,7 @@ def warnings(document, source):
     if not circuits:
         yield Finding("warning: there are no circuits, so a report tells of no customer")
     yield from text_warnings(document, source)
+    yield from hold_warnings(plan, source)
 
 
 # -- the whole
@@ -273,7 +284,7 @@ def explain(data):
         return Explanation(5, tuple(found))
     if found := of_refusals(document, source):
         return Explanation(6, tuple(found))
-    return Explanation(0, tuple(warnings(document, source)), tuple(summary(document)), document, source)
+    return Explanation(0, tuple(warnings(read_plan(data), document, source)), tuple(summary(document)), document, source)
 
 
 def of_unsettled(explanation, step):
