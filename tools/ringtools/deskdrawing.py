@@ -6,8 +6,6 @@ import xml.etree.ElementTree as ElementTree
 from .drawing import NODE, Measures, add, anchor, arc_path, point
 from .model import arc
 
-LONGEST = 18  # characters of a place that are shown; the whole name is in its title
-
 
 class DeskDrawing:
     def __init__(self, plan, places, failures):
@@ -61,9 +59,8 @@ class DeskDrawing:
         add(item, "title", self.failures[number].name)
         add(item, "circle", cx=x, cy=y, r=NODE)
         add(item, "text", str(self.plan.ids[at]), x=x, y=y + 5, text_anchor="middle")
-        place = self.places.nodes.get(self.plan.ids[at], "")
         x, y = point(self.m.ring + NODE + 10, angle)
-        shown = place if len(place) <= LONGEST else place[: LONGEST - 1] + "…"
+        shown = self.places.drawn(self.plan.ids[at])
         add(self.root, "text", shown, class_="place", x=x, y=y + 4 - 4 * math.cos(angle), text_anchor=anchor(angle))
 
     def draw_circuit(self, number, circuit):

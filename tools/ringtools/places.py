@@ -9,9 +9,11 @@ The program skips comments, so that names are for people and tools alone. Only `
 import re
 from dataclasses import dataclass, field
 
+from .checks import is_decimal
 from .source import STRINGS
 
 LONGEST = 60  # characters of a name
+DRAWN = 18  # of a place in a drawing; its title has the whole name
 NAMED = re.compile(r"# (node|circuit) (\S+) is (\S(?:.*\S)?)[ \t\r]*")
 PARTS = re.compile("|".join([*(f"(?:{form.pattern})" for form in STRINGS), "(?P<comment>#[^\n]*)"]), re.S)
 
@@ -34,6 +36,11 @@ class Places:
     def place(self, number):
         """A node by its name alone, where it has one."""
         return self.nodes.get(number, str(number))
+
+    def drawn(self, number):
+        """The name of a place as far as a drawing has room for it."""
+        name = self.nodes.get(number, "")
+        return name if len(name) <= DRAWN else name[: DRAWN - 1] + "…"
 
     def span(self, one, other):
         """The span between two nodes by their names alone, as `Köln–Bonn`."""
@@ -59,21 +66,30 @@ def written(kind, number, name):
 
 
 def comments_of(text):
-    """Each comment of a document that TOML readers accept, with its line."""
+    """Each comment of a document that TOML readers accept, and where it begins."""
     for found in PARTS.finditer(text):
         if found["comment"]:
-            yield text.count("\n", 0, found.start()) + 1, found["comment"]
+            yield found.start(), found["comment"]
 
 
 def read_places(data):
     """Returns the names that a plan's comments give. Those of nodes and circuits that the plan doesn't have are kept too."""
-    places = Places()
-    for line, comment in comments_of(data.decode("utf-8-sig")):
+    places, text = Places(), data.decode("utf-8-sig")
+    for at, comment in comments_of(text):
         found = NAMED.fullmatch(comment)
-        if not found or found[1] == "node" and not found[2].isdecimal():
+        if not found or found[1] == "node" and not is_decimal(found[2]) or why_no_name(found[3]):
             continue
         names = places.nodes if found[1] == "node" else places.circuits
         number = int(found[2]) if found[1] == "node" else found[2]
         if names.setdefault(number, found[3]) != found[3]:
+            line = text.count("\n", 0, at) + 1
             raise PlaceProblem(f"line {line}: {found[1]} {number} is named {found[3]}, and {names[number]} before")
     return places
+
+
+def shown_places(data):
+    """The names that are shown of a plan: none where two comments name one thing."""
+    try:
+        return read_places(data)
+    except PlaceProblem:
+        return Places()
