@@ -124,6 +124,7 @@ class Installed(Released):
         self.assertEqual(told.stdout, f"proved {self.prefix}/lib/sdhring/sdhring\n")
 
     def test_it_is_not_installed_from_there(self):
+        self.assertNotRegex(self.start("sdhring", "--help").stdout + (self.prefix / "share" / "doc" / "sdhring" / "README.md").read_text(), "--install [P~]")
         self.assertIn("installed already", self.ended(self.start("sdhring", "--install", self.folder / "other"), 1).stderr)
         self.assertFalse((self.folder / "other").exists())
 
