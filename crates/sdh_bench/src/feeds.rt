@@ -1,5 +1,5 @@
 //! Chunks of a customer's stream.
-ghost use Rattle.std.specs.Prelude.{◌≡◌, ◌<◌, ◌^◌, length};
+ghost use Rattle.std.specs.Prelude.{◌≡◌, length};
 
 use sdh_payload::{Cells, Feed, Port};
 use std::alloc::Global;

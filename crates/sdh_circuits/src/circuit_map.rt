@@ -1,5 +1,5 @@
 //! The circuits of a ring.
-ghost use Rattle.std.specs.Prelude.{◌≡◌, ◌<◌, ◌≤◌, [], IfOk, length, slice_get, OnOk, OnErr, IfErr, IfSome, IfNone, MatchResult};
+ghost use Rattle.std.specs.Prelude.{◌≡◌, ◌<◌, ◌≤◌, [], IfOk, length, slice_get, OnOk, OnErr, IfErr, IfSome, IfNone};
 ghost use Rattle.std.specs.Option.{is_some};
 ghost use Rattle.sdh_circuits.specs.Provisioning.{IsProvisioning, IsRateHalf, on_span, at_port};
 ghost use Rattle.sdh_circuits.specs.Checks.{wish_of, is_free_name, refusal, circuit_of, with_circuit};

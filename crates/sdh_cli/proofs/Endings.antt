@@ -8,7 +8,7 @@ use Rattle.sdh_report.specs.declared.status.Status.{Status}
 use Rattle.sdh_shell.specs.Calls.{HasRun}
 use Rattle.sdh_shell.proofs.Ends.{Ends, has_run}
 use Rattle.sdh_scripts.proofs.Plans.{ends_of}
-use Rattle.sdh_script.specs.Plans.{adm_account}
+use Rattle.sdh_cli.specs.Plans.{adm_account}
 use Rattle.sdh_cli.specs.Words.{Ask, Check, listing_of}
 use Rattle.sdh_cli.specs.Outcome.{IsRunOutcome, OfListing, OfPlan}
 

@@ -9,7 +9,7 @@ use Rattle.sdh_report.specs.declared.status.Status.TheVariants as status
 use Rattle.sdh_report.specs.Statuses.{last_line}
 use Rattle.sdh_shell.specs.Reading.{TellsPlan}
 use Rattle.sdh_shell.proofs.Plans.{one_plan}
-use Rattle.sdh_script.specs.Plans.{MaySettle, IsRunOf, Tells}
+use Rattle.sdh_cli.specs.Plans.{MaySettle, IsRunOf, Tells}
 use Rattle.sdh_cli.specs.Words.{Ask, Run, Check, Drop, Big, listing_of, told, LeavesSource, LeavesPlant}
 use Rattle.sdh_cli.specs.Outcome.{IsRunOutcome, OfListing, OfPlan, OfBytes, IsOutcome}
 use Rattle.sdh_cli.specs.Headline.{MayGo, MayBeDone}

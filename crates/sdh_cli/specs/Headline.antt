@@ -4,7 +4,7 @@ use Rattle.std.specs.Io.KnownBytes.{Appends}
 use Rattle.sdh_plant.specs.Fibres.{Fibres}
 use Rattle.sdh_plant.specs.Arrivals.{Knows}
 use Rattle.sdh_plan.specs.Planned.{Planned}
-use Rattle.sdh_plan.specs.Big.{big_planned}
+use Rattle.sdh_cli.specs.Big.{big_planned}
 use Rattle.sdh_report.specs.declared.status.Status.{Status}
 use Rattle.sdh_report.specs.declared.status.Status.TheVariants as status
 use Rattle.sdh_report.specs.declared.listing.Listing.{Listing}
@@ -12,7 +12,8 @@ use Rattle.sdh_report.specs.Reports.{Report, text_of}
 use Rattle.sdh_report.specs.Statuses.{last_line}
 use Rattle.sdh_rounds.specs.Quiet.{enough_for}
 use Rattle.sdh_owed.specs.Healthy.{AllSettle}
-use Rattle.sdh_script.specs.Plans.{world_of, ran_of, MaySettle, ShowsHealth, RunsWell}
+use Rattle.sdh_owed.specs.Plans.{world_of}
+use Rattle.sdh_cli.specs.Plans.{ran_of, MaySettle, ShowsHealth, RunsWell}
 use Rattle.sdh_promise.specs.Plans.{OwesAll}
 use Rattle.sdh_cli.specs.Words.{Ask, Check, Big, listing_of}
 use Rattle.sdh_shell.specs.Reading.{TellsPlan}
@@ -34,9 +35,9 @@ abbrev pub Delivers : Option Ask → List ℕ → Status → Option (List ℕ) �
 Delivers ask bytes how old new = (plan : Planned) (listing : Listing) → Lists ask bytes plan listing → HasRun how
     → (reports : List Report) × Appends old new (text_of listing reports ++ last_line how) × OwesAll plan reports how
 
--- The second headline, of every round, settled or not. What was written is what is listed of reports, and the last line; in each
--- round that gave them, before a controller is held of a node that passes through, no port meets a stranger, and after the changes
--- before each settle step every port soon has what it is owed.
+-- The second headline, of every round, settled or not. What was written is what is listed of reports, and the last line; in no round
+-- of a settle step that gave them a port meets a stranger, unless a node that passes through is held right before that step; and after
+-- the changes before each settle step every port soon has what it is owed.
 abbrev pub GoesWell : Option Ask → List ℕ → Fibres → Status → Option (List ℕ) → Option (List ℕ) → Fibres → Type 0
 GoesWell ask bytes f how old new left = (plan : Planned) (listing : Listing) → Lists ask bytes plan listing → HasRun how
     → (reports : List Report) × Appends old new (text_of listing reports ++ last_line how) × RunsWell plan f reports how left

@@ -1,3 +1,8 @@
+pub mod Big
+pub mod Laid
+pub mod Room
+pub mod Plans
+pub mod Tables
 pub mod Words
 pub mod Outcome
 pub mod Headline

@@ -2,7 +2,7 @@
 use Rattle.std.specs.Prelude.{◌≡◌, ◌⊎◌, ℕ, List, ◌++◌, Option, Some, None}
 use Rattle.sdh_plant.specs.Fibres.{Fibres}
 use Rattle.sdh_plan.specs.Planned.{Planned}
-use Rattle.sdh_plan.specs.Big.{big_planned}
+use Rattle.sdh_cli.specs.Big.{big_planned}
 use Rattle.sdh_report.specs.declared.status.Status.{Status}
 use Rattle.sdh_report.specs.declared.status.Status.TheVariants as status
 use Rattle.sdh_report.specs.declared.listing.Listing.{Listing}
@@ -12,8 +12,8 @@ use Rattle.sdh_report.specs.Statuses.{last_line}
 use Rattle.sdh_shell.specs.Reading.{HasNoPlan, TellsPlan}
 use Rattle.sdh_shell.specs.Failing.{Counts, HasCause}
 use Rattle.sdh_shell.specs.Writing.{Says, HasNoPort}
-use Rattle.sdh_tables.specs.Tables.{tables_of}
-use Rattle.sdh_script.specs.Plans.{IsRunOf}
+use Rattle.sdh_cli.specs.Tables.{tables_of}
+use Rattle.sdh_cli.specs.Plans.{IsRunOf}
 use Rattle.sdh_cli.specs.Words.{Ask, Check, Big, listing_of}
 
 -- ---- with a plan

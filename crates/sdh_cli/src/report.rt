@@ -5,11 +5,11 @@ ghost use Rattle.sdh_basics.specs.Causes.{Rose, IsCounted};
 ghost use Rattle.sdh_outside.specs.Reading.{TakesCount};
 ghost use Rattle.sdh_plant.specs.Fibres.{HasNoFibres};
 ghost use Rattle.sdh_plant.specs.Arrivals.{Knows};
-ghost use Rattle.sdh_plan.specs.Big.{big_planned};
+ghost use Rattle.sdh_cli.specs.Big.{big_planned};
 ghost use Rattle.sdh_report.specs.Statuses.{last_line};
-ghost use Rattle.sdh_tables.specs.Tables.{tables_of};
-ghost use Rattle.sdh_script.specs.Room.{MayList};
-ghost use Rattle.sdh_script.specs.Plans.{MaySettle};
+ghost use Rattle.sdh_cli.specs.Tables.{tables_of};
+ghost use Rattle.sdh_cli.specs.Room.{MayList};
+ghost use Rattle.sdh_cli.specs.Plans.{MaySettle};
 ghost use Rattle.sdh_shell.specs.Calls.{words_of};
 ghost use Rattle.sdh_shell.specs.Failing.{HasCause};
 ghost use Rattle.sdh_shell.specs.Writing.{IsShown};
@@ -17,15 +17,16 @@ ghost use Rattle.sdh_cli.specs.Words.{Big, ask_of, asked, listing_of, told, Leav
 ghost use Rattle.sdh_cli.specs.Outcome.{IsRunOutcome, OfPlan, OfBytes, IsOutcome};
 ghost use Rattle.sdh_cli.specs.Headline.{MayGo, MayBeDone};
 
+use crate::big::big_plan;
+use crate::run::run_plan;
+use crate::tables::table_text;
 use crate::words::{Command, command_of};
 use sdh_circuits::PortId;
 use sdh_outside::Source;
-use sdh_plan::{Plan, big_plan};
+use sdh_plan::Plan;
 use sdh_plant::Plant;
 use sdh_report::{LINE_MAX, Listing, Status, Text};
-use sdh_script::run_plan;
 use sdh_shell::{NoPlan, Report, ended, last_report, plan_in};
-use sdh_tables::table_text;
 use std::alloc::{AllocError, Global};
 
 // The squelch tables of a plan.

@@ -48,8 +48,8 @@ pub fn sdhring<R: Source, W: Sink, P: Plant>(
     ensures healthy { (P.fibres plant.old).honest ≡ true → IfSome (told (asked (words_of words.now)) (R.left source.old))
         (λ bytes. StaysHealthy (asked (words_of words.now)) bytes result (W.written sink.old) (W.written sink.new)) }
 
-    // In every round that gave the reports: before a controller is held of a node that passes through no port delivers another
-    // customer's byte, and soon after the last change every port delivers what it is owed.
+    // In every round that gave the reports: in no round of a settle step a port delivers another customer's byte, unless a node that
+    // passes through is held right before that step; and soon after the last change every port delivers what it is owed.
     ensures rounds { (P.fibres plant.old).honest ≡ true
         → IfSome (told (asked (words_of words.now)) (R.left source.old)) (λ bytes. GoesWell (asked (words_of words.now)) bytes
         (P.fibres plant.old) result (W.written sink.old) (W.written sink.new) (P.fibres plant.new)) }

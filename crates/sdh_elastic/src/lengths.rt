@@ -1,6 +1,6 @@
 //! The lengths of the last chunks that a store took in.
 ghost use Rattle.std.specs.Prelude.{◌≡◌, ◌≤◌};
-ghost use Rattle.sdh_elastic.specs.Lengths.{are_four, with_length, keeps_steady};
+ghost use Rattle.sdh_elastic.specs.Lengths.{with_length, keeps_steady};
 ghost use Rattle.sdh_elastic.specs.Store.{AreChunks};
 
 /// The fewest and the most bytes of four chunks in a row in a steady run.

@@ -1,5 +1,5 @@
 //! Where all AU-4s of a frame come from, worked out once for its nine rows.
-ghost use Rattle.std.specs.Prelude.{◌≡◌, ◌≢◌, ℕ, ◌+◌, ◌*◌, ◌/◌, ◌<◌, length, slice_index};
+ghost use Rattle.std.specs.Prelude.{◌≡◌, ◌≢◌, ℕ, ◌*◌, ◌/◌, ◌<◌, length, slice_index};
 ghost use Rattle.std.specs.List.{list_any};
 ghost use Rattle.sdh_frame.specs.Sizes.{size_of};
 ghost use Rattle.sdh_terms.specs.Rates.{n_of};

@@ -1,5 +1,5 @@
 //! The payloads of half of the AU-4s of a frame at once, sixteen columns at a time, each into cells of its own.
-ghost use Rattle.std.specs.Prelude.{◌≡◌, ◌≢◌, ℕ, ◌+◌, ◌*◌, ◌-◌, ◌/◌, ◌%◌, ◌<◌, ◌≤◌, ◌⊎◌, [], length, slice_index, slice_index_or};
+ghost use Rattle.std.specs.Prelude.{◌≡◌, ℕ, ◌+◌, ◌*◌, ◌-◌, ◌/◌, ◌<◌, ◌≤◌, ◌⊎◌, [], length, slice_index, slice_index_or};
 ghost use Rattle.sdh_frame.specs.Sizes.{size_of};
 ghost use Rattle.sdh_terms.specs.Rates.{n_of};
 ghost use Rattle.sdh_frame.specs.Aus.{payload_of};

@@ -1,5 +1,5 @@
 //! Payloads of several AU-4s that change places with the columns of a frame, sixteen columns at a time.
-ghost use Rattle.std.specs.Prelude.{◌≡◌, ℕ, ◌+◌, ◌*◌, ◌/◌, ◌%◌, ◌<◌, ◌⊎◌, ◌==◌, if◌then◌else◌, length, slice_index};
+ghost use Rattle.std.specs.Prelude.{◌≡◌, ℕ, ◌+◌, ◌*◌, ◌/◌, ◌%◌, ◌<◌, ◌⊎◌, ◌==◌, length, slice_index};
 ghost use Rattle.sdh_interchange.specs.Tables.{IsTable, cell};
 
 use std::simd::prelude::*;

@@ -1,9 +1,8 @@
 //! Payloads that are taken out of a frame half of the AU-4s at a time, when one of them is asked for.
 ghost use Rattle.std.specs.Prelude.{◌≡◌, ℕ, ◌+◌, ◌*◌, ◌-◌, ◌<◌, ◌≤◌, ◌⊎◌, true, false, IfOk, [], length, replicate, slice_index_or};
-ghost use Rattle.sdh_frame.specs.Sizes.{Frame};
 ghost use Rattle.sdh_terms.specs.Rates.{n_of};
 ghost use Rattle.sdh_frame.specs.Aus.{payload_of};
-ghost use Rattle.sdh_interchange.specs.Taking.{HaveRoom, KeepsOthers, none_taken, IsOf, has};
+ghost use Rattle.sdh_interchange.specs.Taking.{HaveRoom, none_taken, IsOf, has};
 
 use crate::payloads::take;
 use sdh_frame::FrameBuf;

@@ -2,9 +2,8 @@
 //! overhead (ITU-T G.707 clause 9.2). The codes and marks are this project's own tables, after ITU-T G.841.
 #![tactic(auto)]
 
-ghost use Rattle.std.specs.Prelude.{◌≡◌, ◌↔◌, ℕ, ◌≤◌, Some, IfSome};
+ghost use Rattle.std.specs.Prelude.{◌≡◌, ◌↔◌, ◌≤◌, Some, IfSome};
 ghost use Rattle.sdh_kbytes.specs.KBytes.{path_number, mark_number, code_at, mark_at, decoded, Spells, IsUnlisted};
-ghost use Rattle.sdh_terms.specs.Requests.{code_number};
 
 mod same;
 

@@ -10,6 +10,9 @@ pub mod Keeping
 pub mod Clearing
 pub mod Shields
 pub mod Shielded
+pub mod Fed
+pub mod Steady
+pub mod Windows
 pub mod Safe
 pub mod Quiet
 pub mod Runs

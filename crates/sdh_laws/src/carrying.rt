@@ -1,5 +1,5 @@
-//! What ports deliver in a quiet window: over honest fibres, in calm rounds and settled states, each port delivers what it
-//! is owed.
+//! What ports deliver in a quiet window: over honest fibres, in calm rounds and settled states, each port delivers what
+//! it is owed.
 //!
 //! Each function here is a law: it does nothing, and its contract is the law, whose words are in `specs/`.
 

@@ -1,6 +1,6 @@
-//! How soon a ring comes to rest, over definitions alone: `specs/Steady.antt` says what stays the same from some round on,
-//! `specs/Laws.antt` has the laws of every ring, and `specs/Healthy.antt` those of a healthy one. Each function here has a law
-//! as its contract and no work to do.
+//! How soon a ring comes to rest, over definitions alone: `specs/Converging/Steady.antt` says what stays the same from
+//! some round on, `specs/Converging/Laws.antt` has the laws of every ring, and `specs/Converging/Healthy.antt` those of
+//! a healthy one. Each function here has a law as its contract and no work to do.
 
 ghost use Rattle.sdh_laws.specs.Converging.Laws.{WindowsComeSoon, ASpanIsSteady, PointersRest, CalmEndsWindows, RoundsGetCalm};
 ghost use Rattle.sdh_laws.specs.Converging.Laws.{RingsConverge, StepsAnswer, StretchesConverge};

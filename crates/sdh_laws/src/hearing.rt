@@ -1,7 +1,7 @@
-//! What the nodes of a ring hear of each other, over definitions alone: `specs/Placed.antt` says what each node of a ring
-//! is, `specs/Paired.antt` what its fibres carry, `specs/Signalling.antt` what a side brings in a round and how a ring with
-//! frames is a ring of signals, and `specs/Laws.antt` has the laws. Each function here has a law as its contract and no
-//! work to do.
+//! What the nodes of a ring hear of each other, over definitions alone: `specs/Hearing/Placed.antt` says what each node
+//! of a ring is, `specs/Hearing/Paired.antt` what its fibres carry, `specs/Hearing/Signalling.antt` what a side brings
+//! in a round and how a ring with frames is a ring of signals, and `specs/Hearing/Laws.antt` has the laws. Each
+//! function here has a law as its contract and no work to do.
 
 ghost use Rattle.sdh_laws.specs.Hearing.Laws.{StayPlaced, NewWorldsAreWhole, StayWhole, SidesBring, SidesRead};
 ghost use Rattle.sdh_laws.specs.Hearing.Laws.{ViolationsAreOfTheRoundBefore, NoneSaysAis, RoundsAreSignalRounds, WholeRoundsGoAsSignals};

@@ -1,5 +1,6 @@
-//! Rest after a quiet window: over honest fibres, and where nothing but rounds happens, rounds stay calm once six of them were, and each
-//! port delivers in each of them what it is owed. `specs/Rest.antt` says what a ring at rest is.
+//! Rest after a quiet window: over honest fibres, and where nothing but rounds happens, rounds stay calm once six of
+//! them were, and each port delivers in each of them what it is owed. `specs/Resting/Rest.antt` says what a ring at
+//! rest is.
 //!
 //! Each function here is a law: it does nothing, and its contract is the law, whose words are in `specs/`.
 

@@ -1,5 +1,5 @@
-//! How soon every port delivers what it is owed again, over definitions alone: `specs/Laws.antt` has the laws. Each function here has a
-//! law as its contract and no work to do.
+//! How soon every port delivers what it is owed again, over definitions alone: `specs/Restoring/Laws.antt` has the
+//! laws. Each function here has a law as its contract and no work to do.
 
 ghost use Rattle.sdh_laws.specs.Restoring.Laws.{RingsAreRestoredSoon, FreeRingsAreRestoredSoon, UnslippedRingsAreRestoredSoon};
 ghost use Rattle.sdh_laws.specs.Restoring.Laws.{PortsAreOwedSoon, UnslippedPortsAreOwedSoon, UnsettledRingsAreRestored};

@@ -1,14 +1,15 @@
-//! What holds of a ring over honest fibres in every round, quiet or not, whatever is cut, mended, degraded or commanded and whenever
-//! clocks slip, as long as only controllers of nodes that don't pass traffic through miss turns.
+//! What holds of a ring over honest fibres in every round, quiet or not, whatever is cut, mended, degraded or commanded
+//! and whenever clocks slip, as long as only controllers of nodes that don't pass traffic through miss turns.
 //!
 //! Each function here is a law: it does nothing, and its contract is the law, whose words are in `specs/`.
 
 ghost use Rattle.sdh_laws.specs.Strangers.Laws.{VouchedRingsStay, RoundsKeepStrangersOut, StepsKeepStrangersOut, NoPortEverMeetsAStranger};
-ghost use Rattle.sdh_laws.specs.Strangers.Laws.{NodesThatDoNotPassMayBeHeld, NoStrangerUnlessPassingNodesAreHeld};
-ghost use Rattle.sdh_laws.specs.Strangers.Laws.{NodesAsideMayBeHeld, RingsComeToBeVouchedFor, NoPortMeetsAStrangerForLong};
+ghost use Rattle.sdh_laws.specs.Strangers.Laws.{NodesAsideMayBeHeld, NodesThatDoNotPassMayBeHeld, SettledRingsAreVouchedFor};
+ghost use Rattle.sdh_laws.specs.Strangers.Laws.{AHoldSpoilsItsOwnStepAlone, RingsComeToBeVouchedFor};
 ghost use Rattle.sdh_laws.specs.Strangers.Undisturbed.{UndisturbedPortsDeliver};
 
-/// A new ring is vouched for, and stays so over every change that holds no controller, or that of a node that is idle or isolated.
+/// A new ring is vouched for, and stays so over every change that holds no controller, or that of a node that is idle
+/// or isolated.
 pub fn vouched_rings_stay()
     ensures { VouchedRingsStay }
 {}
@@ -23,7 +24,8 @@ pub fn steps_keep_strangers_out()
     ensures { StepsKeepStrangersOut }
 {}
 
-/// From a new ring on each port delivers in each round AIS, or bytes of what its circuit's other port sent in one round before, or ones.
+/// From a new ring on each port delivers in each round AIS, or bytes of what its circuit's other port sent in one round
+/// before, or ones.
 pub fn no_port_ever_meets_a_stranger()
     ensures { NoPortEverMeetsAStranger }
 {}
@@ -33,28 +35,33 @@ pub fn nodes_aside_may_be_held()
     ensures { NodesAsideMayBeHeld }
 {}
 
-/// Behind a quiet window the controllers of switched nodes may be held as well: of all nodes but those that pass traffic through.
+/// Behind a quiet window the controllers of switched nodes may be held as well: of all nodes but those that pass
+/// traffic through.
 pub fn nodes_that_do_not_pass_may_be_held()
     ensures { NodesThatDoNotPassMayBeHeld }
 {
     sdh_settling::still_rings_are_settled();
 }
 
-/// The same, told by what happened: where each stretch but the last ends with a quiet window.
-pub fn no_stranger_unless_passing_nodes_are_held()
-    ensures { NoStrangerUnlessPassingNodesAreHeld }
+/// What a settle step leaves is vouched for, whatever the ring carried before, and whichever controllers were held.
+pub fn settled_rings_are_vouched_for()
+    ensures { SettledRingsAreVouchedFor }
 {
     sdh_settling::still_rings_are_settled();
 }
 
-/// Every whole ring comes to be vouched for, whatever it carries: so many rounds behind the last turn that a controller missed.
+/// So no port meets a stranger in any round of a step whose own changes hold no controller of a node that passes
+/// traffic through, whatever was held in the steps before.
+pub fn a_hold_spoils_its_own_step_alone()
+    ensures { AHoldSpoilsItsOwnStepAlone }
+{
+    sdh_settling::still_rings_are_settled();
+}
+
+/// Every whole ring comes to be vouched for, whatever it carries: so many rounds behind the last turn that a controller
+/// missed.
 pub fn rings_come_to_be_vouched_for()
     ensures { RingsComeToBeVouchedFor }
-{}
-
-/// Behind held controllers too no port meets a stranger, from 100 + n (n + 1) rounds after the last one was held on.
-pub fn no_port_meets_a_stranger_for_long()
-    ensures { NoPortMeetsAStrangerForLong }
 {}
 
 /// Where nothing is ever asked on a circuit's arc its ports deliver straight over it, from the first round on.

@@ -1,5 +1,5 @@
 //! The cross-connect: both sides that receive and what they take in, the state, and where it leads what comes in.
-ghost use Rattle.std.specs.Prelude.{◌≡◌, ◌&&◌, ◌+◌, ◌*◌, ◌-◌, ◌/◌, ◌<◌, ◌≤◌, ◌≢◌, None, true, false, All, IfOk, length};
+ghost use Rattle.std.specs.Prelude.{◌≡◌, ◌&&◌, ◌+◌, ◌-◌, ◌<◌, ◌≤◌, ◌≢◌, None, true, false, All, IfOk, length};
 ghost use Rattle.sdh_terms.specs.Rates.{n_of};
 ghost use Rattle.sdh_ringmap.specs.declared.Side.TheVariants.{West, East};
 ghost use Rattle.sdh_circuits.specs.Kept.{KeepsRing};
@@ -12,7 +12,7 @@ ghost use Rattle.sdh_node.specs.Receiving.{commanded_by, arrived_on};
 ghost use Rattle.sdh_node.specs.Node.{new_cross, compared_in};
 ghost use Rattle.sdh_node.specs.Crossing.{on_side, at_side, half_of, after_intakes, scene_of, after_decision, next_word, feeder_of};
 ghost use Rattle.sdh_node.specs.Crossing.{lines_of, leads, drops, all_delivered};
-ghost use Rattle.sdh_terminal.specs.Lines.{line_on, received, IsFeeder};
+ghost use Rattle.sdh_terminal.specs.Lines.{IsFeeder};
 
 use crate::receiver::Receiver;
 use sdh_bridge::{Origin, drop_origin, protection_origin, working_origin};

@@ -1,17 +1,13 @@
 //! One side that receives.
-ghost use Rattle.std.specs.Prelude.{◌≡◌, ◌≢◌, ◌&&◌, ◌+◌, ◌*◌, ◌-◌, ◌<◌, ◌≤◌, None, Some, IfSome, IfOk, length, slice_index_or};
-ghost use Rattle.std.specs.Option.{is_some};
+ghost use Rattle.std.specs.Prelude.{◌≡◌, ◌≢◌, ◌&&◌, ◌-◌, ◌<◌, ◌≤◌, None, IfSome, IfOk, slice_index_or};
 ghost use Rattle.sdh_terms.specs.Rates.{n_of};
 ghost use Rattle.sdh_overhead.specs.Landing.{emptied};
-ghost use Rattle.sdh_overhead.specs.Sections.{holding};
 ghost use Rattle.sdh_kbytes.specs.KBytes.{IsSpellable};
 ghost use Rattle.sdh_nodestate.specs.Filtering.{hears};
 ghost use Rattle.sdh_pointer.specs.Reading.{start};
 ghost use Rattle.sdh_kbytes.specs.Same.{same_code, same_heard};
-ghost use Rattle.sdh_terminal.specs.Same.{same_readings};
 ghost use Rattle.sdh_node.specs.Same.{same_in};
 ghost use Rattle.sdh_plant.specs.Arrivals.{as_arrival, arrived_in};
-ghost use Rattle.sdh_terminal.specs.Receiving.{readings_by, actions_by};
 ghost use Rattle.sdh_request.specs.Kept.{kept_request};
 ghost use Rattle.sdh_nodestate.specs.Filtering.{with_brought};
 ghost use Rattle.sdh_node.specs.Receiving.{local_after, after_intake, intake_of, commanded_by, arrived_on, IsReceiving};

@@ -1,22 +1,33 @@
 //! An add-drop multiplexer as a node that runs in rounds.
-ghost use Rattle.sdh_ringmap.specs.declared.Side.TheVariants.{West, East};
 
 use crate::adm::Adm;
+use sdh_circuits::CircuitMap;
 use sdh_frame::FrameBuf;
 use sdh_overhead::Landed;
 use sdh_plant::Arrived;
-use sdh_request::Moment;
-use sdh_ringmap::Side;
+use sdh_request::{Moment, Settings};
+use sdh_ringmap::{Pos, RingMap, Side};
 use sdh_rounds::Station;
+use std::alloc::{AllocError, Global};
 
 impl Station for Adm {
-    ghost use Rattle.sdh_node.specs.Stations.{adm, MayRun as MayRunAt};
+    ghost use Rattle.sdh_node.specs.Stations.{adm, MayRun as MayRunAt, told_rate as rate_stays, told_may as may_still};
 
     ghost kind = { adm };
 
     ghost rate = { λ n. n.settings.rate };
 
     ghost MayRun = { MayRunAt };
+
+    fn try_new(
+        alloc: Global,
+        settings: Settings,
+        map: &RingMap,
+        circuits: &CircuitMap,
+        at: Pos,
+    ) -> Result<Adm, AllocError> {
+        Adm::try_new(alloc, settings, map, circuits, at)
+    }
 
     fn exchange(&mut self, side: Side, arrived: Arrived, inbox: &mut Landed) {
         Adm::exchange(self, side, arrived, inbox);
@@ -29,4 +40,8 @@ impl Station for Adm {
     fn calm(&self) -> bool {
         Adm::calm(self)
     }
+
+    ghost told_rate = { rate_stays };
+
+    ghost told_may = { may_still };
 }

@@ -4,9 +4,9 @@ use Rattle.sdh_plant.specs.Fibres.{Fibres}
 use Rattle.sdh_plan.specs.Planned.{Planned}
 use Rattle.sdh_report.specs.declared.status.Status.{Status}
 use Rattle.sdh_report.specs.Statuses.{last_line}
-use Rattle.sdh_calls.specs.Outcome.{IsRunOutcome, OfListing, OfPlan}
-use Rattle.sdh_outage_script.specs.Plans.{IsRunOf, Tells}
-use Rattle.sdh_outage_script.specs.declared.listing.Listing.{Listing}
+use Rattle.sdh_scripts.specs.Outcome.{IsRunOutcome, OfListing, OfPlan}
+use Rattle.sdh_outage_cli.specs.Plans.{IsRunOf, Tells}
+use Rattle.sdh_outage_cli.specs.declared.listing.Listing.{Listing}
 use Rattle.sdh_outage_cli.specs.Words.{Ask, listing_of}
 use Rattle.sdh_outage_cli.specs.Headline.{listening}
 

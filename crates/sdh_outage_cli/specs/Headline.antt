@@ -3,15 +3,15 @@ use Rattle.std.specs.Prelude.{ℕ, List, codes}
 use Rattle.sdh_plant.specs.Fibres.{Fibres}
 use Rattle.sdh_plant.specs.Arrivals.{Knows}
 use Rattle.sdh_report.specs.declared.status.Status.{Status}
-use Rattle.sdh_script.specs.Plans.{world_of}
+use Rattle.sdh_owed.specs.Plans.{world_of}
 use Rattle.sdh_scripts.proofs.Plans.{ends_of}
 use Rattle.sdh_shell.proofs.Ends.{has_run}
-use Rattle.sdh_calls.specs.Programs.{Program}
-use Rattle.sdh_calls.specs.Headline.{EndsAs}
-use Rattle.sdh_outage_script.specs.Outages.{Outaged}
-use Rattle.sdh_outage_script.specs.declared.listing.Listing.{Listing}
-use Rattle.sdh_outage_script.specs.Lines.{text_of}
-use Rattle.sdh_outage_script.specs.Plans.{outage_account, IsRunOf, ran_of, MaySettle}
+use Rattle.sdh_scripts.specs.Programs.{Program}
+use Rattle.sdh_scripts.specs.Headline.{EndsAs}
+use Rattle.sdh_outage_cli.specs.Outages.{Outaged}
+use Rattle.sdh_outage_cli.specs.declared.listing.Listing.{Listing}
+use Rattle.sdh_outage_cli.specs.Lines.{text_of}
+use Rattle.sdh_outage_cli.specs.Plans.{outage_account, IsRunOf, ran_of, MaySettle}
 use Rattle.sdh_outage_cli.specs.Words.{Ask, asked, listing_of}
 
 -- it runs a plan, and tells of each settle step for how many rounds each port was without its own customer's bytes, or from which

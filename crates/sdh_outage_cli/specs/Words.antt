@@ -5,8 +5,8 @@ use Rattle.sdh_circuits.specs.Provisioning.{at_port}
 use Rattle.sdh_circuits.specs.declared.End.{End}
 use Rattle.sdh_plan.specs.Planned.{Planned, provisioning_of}
 use Rattle.sdh_shell.specs.Calls.{end_lettered}
-use Rattle.sdh_outage_script.specs.declared.listing.Listing.{Listing}
-use Rattle.sdh_outage_script.specs.declared.listing.Listing.TheVariants as listing
+use Rattle.sdh_outage_cli.specs.declared.listing.Listing.{Listing}
+use Rattle.sdh_outage_cli.specs.declared.listing.Listing.TheVariants as listing
 use Rattle.sdh_outage_cli.specs.declared.words.Command.{Command}
 use Rattle.sdh_outage_cli.specs.declared.words.Command.TheVariants as command
 

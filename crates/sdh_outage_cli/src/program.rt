@@ -2,20 +2,21 @@
 ghost use Rattle.std.specs.Prelude.{◌≡◌, ◌≤◌, true, length, IfOk, OnErr};
 ghost use Rattle.sdh_basics.specs.Causes.{Rose, IsCounted};
 ghost use Rattle.sdh_plant.specs.Fibres.{HasNoFibres};
-ghost use Rattle.sdh_calls.specs.Outcome.{IsRunOutcome};
-ghost use Rattle.sdh_outage_script.specs.Outages.{Outaged};
-ghost use Rattle.sdh_outage_script.specs.Running.{MayList};
-ghost use Rattle.sdh_outage_script.specs.Plans.{MaySettle};
-ghost use Rattle.sdh_outage_script.specs.declared.listing.Listing.{Listing as Listed};
+ghost use Rattle.sdh_scripts.specs.Outcome.{IsRunOutcome};
+ghost use Rattle.sdh_outage_cli.specs.Outages.{Outaged};
+ghost use Rattle.sdh_outage_cli.specs.Running.{MayList};
+ghost use Rattle.sdh_outage_cli.specs.Plans.{MaySettle};
+ghost use Rattle.sdh_outage_cli.specs.declared.listing.Listing.{Listing as Listed};
 ghost use Rattle.sdh_outage_cli.specs.Words.{Ask as Asked, ask_of as what_is_asked};
 ghost use Rattle.sdh_outage_cli.specs.Headline.{listening};
 
+use crate::listing::Listing;
+use crate::run::run_plan;
 use crate::words::{Command, command_of, listing_of};
-use sdh_calls::RunsPlans;
-use sdh_outage_script::{Listing, run_plan};
 use sdh_plan::Plan;
 use sdh_plant::Plant;
 use sdh_report::Status;
+use sdh_scripts::RunsPlans;
 use sdh_shell::{Report, ended, last_report};
 use std::alloc::{AllocError, Global};
 

@@ -7,16 +7,16 @@ ghost use Rattle.sdh_shell.specs.Calls.{words_of};
 ghost use Rattle.sdh_shell.specs.Reading.{told_if};
 ghost use Rattle.sdh_shell.specs.Failing.{Counts, CameTo};
 ghost use Rattle.sdh_shell.specs.Writing.{Writes};
-ghost use Rattle.sdh_calls.specs.Outcome.{HasRead, MayEnd};
-ghost use Rattle.sdh_calls.specs.Headline.{AlwaysSettles, MayBeDone};
+ghost use Rattle.sdh_scripts.specs.Outcome.{HasRead, MayEnd};
+ghost use Rattle.sdh_scripts.specs.Headline.{AlwaysSettles, MayBeDone};
 ghost use Rattle.sdh_outage_cli.specs.Words.{Ask, asked};
 ghost use Rattle.sdh_outage_cli.specs.Headline.{listening, EndsAsItRuns};
 
 use crate::words::Command;
-use sdh_calls::call;
 use sdh_outside::{Sink, Source};
 use sdh_plant::Plant;
 use sdh_report::Status;
+use sdh_scripts::call;
 use std::alloc::Global;
 
 /// Does all that the program does. With the word `run` it reads a plan from the source and runs its ring over the

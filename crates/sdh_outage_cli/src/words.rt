@@ -1,11 +1,11 @@
 //! What the words of the command line ask for.
 ghost use Rattle.std.specs.Prelude.{◌≡◌, option_map, IfSome, length};
 ghost use Rattle.sdh_shell.specs.Calls.{words_of};
-ghost use Rattle.sdh_outage_script.specs.Running.{MayList};
+ghost use Rattle.sdh_outage_cli.specs.Running.{MayList};
 ghost use Rattle.sdh_outage_cli.specs.Words.{ask_of, asked_alone, asked_with_port, asked, listing_of};
 
+use crate::listing::Listing;
 use sdh_circuits::{End, PortId};
-use sdh_outage_script::Listing;
 use sdh_plan::Plan;
 use sdh_shell::end_lettered;
 

@@ -1,5 +1,5 @@
 //! A source in memory, whose calls fail by a list.
-ghost use Rattle.std.specs.Prelude.{◌≡◌, true, ◌<◌, ◌↔◌, ◌++◌, min, Some, None, IfOk, IsErr, OnOk, OnErr, Contains, length, take, drop};
+ghost use Rattle.std.specs.Prelude.{◌≡◌, true, ◌<◌, ◌↔◌, min, Some, IfOk, IsErr, OnErr, Contains, length, take, drop};
 ghost use Rattle.std.specs.Io.{ReadsAtMost};
 ghost use Rattle.std.specs.Io.KnownBytes.{ReadConsumes};
 ghost use Rattle.sdh_basics.specs.Causes.{HasCause, one_more};

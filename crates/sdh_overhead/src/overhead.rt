@@ -1,7 +1,7 @@
 //! The overhead of a sent frame, row by row.
 ghost use Rattle.std.specs.Prelude.{◌≡◌, ℕ, ◌+◌, ◌*◌, ◌<◌, ◌≤◌, length, slice_index};
 ghost use Rattle.sdh_frame.specs.Fields.{field_at};
-ghost use Rattle.sdh_overhead.specs.Overhead.{Added, written};
+ghost use Rattle.sdh_overhead.specs.Overhead.{written};
 
 // Writes one byte from a place up to another.
 #[inline(always)]

@@ -1,10 +1,9 @@
 //! Sections: what they send, and what they find in a received frame.
-ghost use Rattle.std.specs.Prelude.{◌≡◌, ◌≢◌, ℕ, List, [], ◌++◌, ◌+◌, ◌*◌, ◌-◌, ◌<◌, ◌≤◌, ◌==◌, true, false, length, take, slice_index};
-ghost use Rattle.std.specs.Prelude.{None, Some, IfSome};
+ghost use Rattle.std.specs.Prelude.{◌≡◌, ℕ, List, ◌++◌, ◌+◌, ◌*◌, ◌-◌, ◌<◌, ◌≤◌, ◌==◌, true, false, length, take};
+ghost use Rattle.std.specs.Prelude.{None, Some};
 ghost use Rattle.std.specs.List.{list_all};
 ghost use Rattle.sdh_frame.specs.Sizes.{size_of};
 ghost use Rattle.sdh_terms.specs.Rates.{n_of};
-ghost use Rattle.sdh_parity.specs.Scrambling.{scrambled};
 ghost use Rattle.sdh_parity.specs.Pieces.{scrambled_from};
 ghost use Rattle.sdh_overhead.specs.Sections.{SectionKept, holding, clear_frame, line_frame, parities_of, is_framed, found_in, received_in};
 ghost use Rattle.sdh_overhead.specs.Sections.{kept_after, opened, next_of, MayWrite, MayRead};

@@ -23,7 +23,7 @@ use Rattle.sdh_owed.specs.Reports.{report_of}
 use Rattle.sdh_scripts.proofs.Outcomes.{refused_ends}
 use Rattle.sdh_scripts.proofs.Reporting.{settles_by, reports_by}
 use Rattle.sdh_node.specs.Stations.{adm}
-use Rattle.sdh_owed.specs.Steps.{after_step}
+use Rattle.sdh_world.specs.Steps.{after_step}
 use Rattle.sdh_owed.specs.Scripts.{Runs}
 use Rattle.sdh_promise.specs.Owed.{Ring, requests_by, IsOwed, AreOwed}
 use Rattle.sdh_owed.specs.Laws.{ring_by, ReportsAreOwed}

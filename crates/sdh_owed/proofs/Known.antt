@@ -10,7 +10,7 @@ use Rattle.sdh_plan.specs.declared.step.Step.{Step}
 use Rattle.sdh_plan.specs.declared.step.Step.TheVariants as step
 use Rattle.sdh_scripts.specs.Laws.{DoesNoRound, KeepsRounds}
 use Rattle.sdh_scripts.proofs.Reporting.{keeps_by}
-use Rattle.sdh_owed.specs.Steps.{after_step}
+use Rattle.sdh_world.specs.Steps.{after_step}
 use Rattle.sdh_owed.specs.Reports.{report_of}
 use Rattle.sdh_owed.specs.Scripts.{adm_walk}
 

@@ -1,6 +1,9 @@
+pub mod Course
 pub mod Standing
 pub mod Ports
 pub mod History
 pub mod Known
 pub mod Settling
 pub mod Healthy
+pub mod Plans
+pub mod Steps

@@ -23,7 +23,7 @@ use Rattle.sdh_report.specs.declared.status.Status.TheVariants as status
 use Rattle.sdh_report.specs.Reports.{Report}
 use Rattle.sdh_owed.specs.Scripts.{Runs}
 use Rattle.sdh_scripts.specs.Outcomes.{IsSettled}
-use Rattle.sdh_owed.specs.Steps.{after_step}
+use Rattle.sdh_world.specs.Steps.{after_step}
 use Rattle.sdh_owed.specs.Reports.{report_of}
 use Rattle.sdh_owed.specs.Laws.{ScriptsSettle}
 use Rattle.sdh_scripts.proofs.Outcomes.{refused_ends, settled_by, ok_settles, fault_settles}

@@ -42,7 +42,7 @@ use Rattle.sdh_plan.specs.declared.step.Step.TheVariants as step
 use Rattle.sdh_plan.specs.Steps.{Past, after, more_slips, is_settle}
 use Rattle.sdh_plan.specs.Scripts as plan
 use Rattle.sdh_promise.specs.Owed.{IsLast}
-use Rattle.sdh_owed.specs.Steps.{after_step}
+use Rattle.sdh_world.specs.Steps.{after_step}
 use Rattle.sdh_node.specs.Stations.{adm}
 
 -- ---- lists of changes and of stretches

@@ -1,5 +1,7 @@
-pub mod Steps
+pub mod Course
 pub mod Reports
 pub mod Scripts
 pub mod Healthy
 pub mod Laws
+pub mod Plans
+pub mod Running

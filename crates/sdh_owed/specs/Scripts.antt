@@ -8,7 +8,7 @@ use Rattle.sdh_report.specs.declared.status.Status.{Status}
 use Rattle.sdh_report.specs.Reports.{Report}
 use Rattle.sdh_scripts.specs.Walks.{Walk, reporting}
 use Rattle.sdh_scripts.specs.Scripts as scripts
-use Rattle.sdh_owed.specs.Steps.{after_step}
+use Rattle.sdh_world.specs.Steps.{after_step}
 use Rattle.sdh_owed.specs.Reports.{report_of}
 
 abbrev pub adm_walk : Walk Node Report

@@ -1,9 +1,11 @@
 //! A script over a ring and its fibres, over definitions alone: `specs/Reports.antt` says what a report tells of a ring,
-//! `specs/Scripts.antt` what comes of a script, `specs/Healthy.antt` what a script of settle steps alone comes to, and
-//! `specs/Laws.antt` has the laws. Each function here has a law as its contract and no work to do.
+//! `specs/Scripts.antt` what comes of a script, `specs/Healthy.antt` what a script of settle steps alone comes to,
+//! `specs/Course.antt` through which stretches of rounds it went and what holds in them, and `specs/Laws.antt` has the
+//! laws of reports. Each function here has a law as its contract and no work to do.
 #![tactic(auto)]
 
 ghost use Rattle.sdh_owed.specs.Laws.{ReportsAreOwed, ScriptsSettle, HealthyScripts};
+ghost use Rattle.sdh_owed.specs.Course.{CoursesAreTold};
 
 /// Over honest fibres each report shows for every port what it is owed.
 pub fn reports_are_owed()
@@ -25,4 +27,14 @@ pub fn healthy_scripts()
 {
     sdh_laws::converging::healthy_steps_settle();
     sdh_laws::converging::healthy_steps_deliver();
+}
+
+/// Whatever a script comes to from a new ring on, it has a course: no port meets a stranger in a settle step before which
+/// no controller was held of a node that passes traffic through; and after the changes before each settle step all ports
+/// soon have what they are owed.
+pub fn courses_are_told()
+    ensures { CoursesAreTold }
+{
+    sdh_laws::strangers::a_hold_spoils_its_own_step_alone();
+    sdh_laws::restoring::stretches_are_restored_soon();
 }

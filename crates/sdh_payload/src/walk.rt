@@ -1,7 +1,6 @@
 //! A walk along a customer's VC-4s, row by row.
 ghost use Rattle.std.specs.Prelude.{◌≡◌, ◌+◌, ◌-◌, ◌*◌, ◌/◌, ◌%◌, ◌^◌, ◌<◌, ◌≤◌, ◌++◌, length, take, slice_index};
 ghost use Rattle.sdh_basics.specs.Parity.{bip8};
-ghost use Rattle.sdh_payload.specs.Customer.{Customer};
 ghost use Rattle.sdh_payload.specs.Stream.{path_overhead, padded, start_of, vc4_byte, vc4_front};
 ghost use Rattle.sdh_payload.specs.Walk.{containers_from, text_before};
 

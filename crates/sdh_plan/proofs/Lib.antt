@@ -11,6 +11,3 @@ pub mod Nodes
 pub mod Composed
 pub mod Facts
 pub mod Following
-mod Worked
-pub mod Laid
-pub mod Filling

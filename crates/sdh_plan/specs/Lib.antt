@@ -11,5 +11,3 @@ pub mod Circuits
 pub mod Planned
 pub mod Plans
 pub mod Answers
-pub mod Big
-pub mod Laid

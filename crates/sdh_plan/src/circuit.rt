@@ -1,5 +1,5 @@
 //! The circuits that a document asks for.
-ghost use Rattle.std.specs.Prelude.{◌≡◌, ◌/◌, ◌+◌, [], None, option_map, map, string_bytes, IfSome, IfOk, IfErr, OnOk, codes};
+ghost use Rattle.std.specs.Prelude.{◌≡◌, ◌/◌, ◌+◌, [], None, option_map, map, string_bytes, IfSome, IfOk, IfErr, OnOk};
 ghost use Rattle.std.specs.BTreeMap.{keys};
 ghost use Rattle.std.specs.List.{list_all};
 ghost use Rattle.toml.specs.View.{view, table_view};
@@ -8,7 +8,7 @@ ghost use Rattle.sdh_terms.specs.Rates.{n_of};
 ghost use Rattle.sdh_plan.specs.Plans.{circuits_in, provision_checks};
 ghost use Rattle.sdh_circuits.specs.Checks.{wish_of, with_circuit};
 ghost use Rattle.sdh_plan.specs.Check.{answer, first_fault};
-ghost use Rattle.sdh_plan.specs.Document.{is_among, has_only, is_table, elements, elements_in};
+ghost use Rattle.sdh_plan.specs.Document.{is_among, has_only, is_table, elements};
 ghost use Rattle.sdh_plan.specs.Circuits.{circuit_keys, wish_in, text_or, integer_or_0, circuit_of_table, circuit_faults, circuits_checks};
 ghost use Rattle.sdh_plan.specs.Circuits.{members_of, provisioned};
 ghost use Rattle.sdh_plan.specs.Refusals.{IsRefused, refusal_at, reason_of};

@@ -1,10 +1,8 @@
 //! The plan of a run, read from a TOML document.
 #![tactic(auto)]
 
-mod big;
 mod circuit;
 mod document;
-mod draws;
 mod error;
 mod form;
 mod past;
@@ -17,7 +15,6 @@ mod slips;
 mod step;
 mod words;
 
-pub use big::big_plan;
 pub use error::PlanError;
 pub use plan::Plan;
 pub use reading::read_plan;

@@ -1,7 +1,7 @@
 //! A plan.
 ghost use Rattle.std.specs.Prelude.{◌≡◌, ◌*◌, ◌≤◌};
 ghost use Rattle.sdh_terms.specs.Rates.{n_of};
-ghost use Rattle.sdh_plan.specs.Planned.{IsPlanned, provisioning_of};
+ghost use Rattle.sdh_plan.specs.Planned.{IsPlanned, planned, provisioning_of};
 
 use crate::step::Step;
 use sdh_circuits::CircuitMap;
@@ -32,6 +32,29 @@ impl Model for Plan {
 }
 
 impl Plan {
+    /// A plan of these parts, which are those of a plan: the settings of its nodes, how many rounds a settle step has at
+    /// most, the ring with its circuits, and the steps of its script. What a document has to be for that is checked where
+    /// it is read.
+    pub fn from_parts(
+        settings: Settings,
+        limit: u32,
+        ring: RingMap,
+        circuits: CircuitMap,
+        steps: Vec<Step>,
+    ) -> Plan
+        requires planned { IsPlanned (planned settings limit ring circuits steps.items) }
+        requires circuits { circuits ≡ provisioning_of (planned settings limit ring circuits steps.items) }
+        ensures { result ≡ planned settings limit ring circuits steps.items }
+    {
+        Plan {
+            settings,
+            limit,
+            ring,
+            circuits,
+            steps,
+        }
+    }
+
     /// The rate, the threshold and the waiting time.
     pub fn settings(&self) -> Settings
         ensures settings { result ≡ self.now.settings }

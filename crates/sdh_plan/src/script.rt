@@ -4,7 +4,6 @@ ghost use Rattle.std.specs.List.{list_all};
 ghost use Rattle.toml.specs.View.{view, table_view};
 ghost use Rattle.sdh_terms.specs.Rates.{n_of};
 ghost use Rattle.sdh_plan.specs.Check.{first_fault, unless, answer};
-ghost use Rattle.sdh_plan.specs.Words.{words};
 ghost use Rattle.sdh_plan.specs.Counted.{past_in};
 ghost use Rattle.sdh_plan.specs.Steps.{step_faults, step_of, steps_checks, new_past, after, ends_settled};
 ghost use Rattle.sdh_plan.specs.Document.{is_string, string_of, elements_in};

@@ -1,5 +1,5 @@
 //! Honest fibres in memory of which some calls fail.
-ghost use Rattle.std.specs.Prelude.{◌≡◌, ◌≢◌, true, ◌<◌, ◌≤◌, ◌↔◌, [], None, Ok, Err, IfOk, IsErr, OnOk, OnErr, IsErrOf, IsTrue, Contains};
+ghost use Rattle.std.specs.Prelude.{◌≡◌, ◌≢◌, true, ◌<◌, ◌≤◌, ◌↔◌, None, Ok, Err, IfOk, IsErr, OnOk, OnErr, IsErrOf, IsTrue, Contains};
 ghost use Rattle.std.specs.Prelude.{refl};
 ghost use Rattle.sdh_basics.specs.Causes.{Rose, IsCounted, HasCause, one_more};
 ghost use Rattle.sdh_plant.specs.declared.failing_plant.PlantCall.TheVariants.{Prepare, Apply, Send, Receive};

@@ -1,10 +1,9 @@
 //! Fibres in memory that give arrivals from a list.
-ghost use Rattle.std.specs.Prelude.{◌≡◌, ◌≢◌, ◌<◌, ◌≤◌, true, None, Ok, IfOk, IsOk, OnOk, OnErr, IsOkUnless, IsErrOf, All, length, map};
+ghost use Rattle.std.specs.Prelude.{◌≡◌, ◌≢◌, ◌<◌, ◌≤◌, true, None, Ok, IfOk, IsOk, OnOk, OnErr, IsOkUnless, IsErrOf, All, map};
 ghost use Rattle.std.specs.Prelude.{drop};
 ghost use Rattle.std.specs.List.{list_all};
 ghost use Rattle.std.proofs.lemmas.Bool.{false≢true};
 ghost use Rattle.sdh_basics.specs.Causes.{Rose, IsCounted, HasCause};
-ghost use Rattle.sdh_frame.specs.Sizes.{size_of};
 ghost use Rattle.sdh_plant.specs.Fibres.{HasNoFibres};
 ghost use Rattle.sdh_terms.specs.Fibres.{IsConditionAt, fibre};
 ghost use Rattle.sdh_plant.specs.Arrivals.{Knows, arrival, arrived_in, carried_on, next_told};

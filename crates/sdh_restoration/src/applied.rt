@@ -1,7 +1,7 @@
 //! The applied set: which spans a ring switches away from.
-ghost use Rattle.std.specs.Prelude.{◌≡◌, ◌<◌, ◌≤◌, ◌+◌, ◌==◌, ℕ, length, map, count_by, max, slice_index};
+ghost use Rattle.std.specs.Prelude.{◌≡◌, ◌<◌, ◌+◌, ◌==◌, length, map, count_by, max, slice_index};
 ghost use Rattle.sdh_terms.specs.Requests.{code_number};
-ghost use Rattle.sdh_restoration.specs.Applied.{highest, has_one_leader, applies, is_applied};
+ghost use Rattle.sdh_restoration.specs.Applied.{highest, applies, is_applied};
 ghost use Rattle.sdh_restoration.specs.Locals.{requests_of};
 
 use sdh_ringmap::Span;

@@ -1,6 +1,6 @@
 //! The local request of one side, from the history of its fibre.
-ghost use Rattle.std.specs.Prelude.{◌≡◌, ◌-◌, ◌+◌, ◌<◌, ◌≤◌, ℕ, length, option_map, slice_index_or, IfSome};
-ghost use Rattle.sdh_request.specs.Requests.{is_defect_free, waits, highest_code};
+ghost use Rattle.std.specs.Prelude.{◌≡◌, ◌-◌, ◌+◌, ◌<◌, ◌≤◌, length, option_map, slice_index_or, IfSome};
+ghost use Rattle.sdh_request.specs.Requests.{is_defect_free, waits};
 ghost use Rattle.sdh_restoration.specs.History.{defect_at, ends_at, last_end, local_request};
 ghost use Rattle.sdh_restoration.specs.Rounds.{history_of, still_round};
 

@@ -1,7 +1,7 @@
 //! The route between the ends of an arc around applied spans.
-ghost use Rattle.std.specs.Prelude.{◌≡◌, ◌≢◌, ◌+◌, ◌*◌, ◌<◌, ◌≤◌, ℕ, List, [], ◌++◌, true, false, length, map};
+ghost use Rattle.std.specs.Prelude.{◌≡◌, ◌+◌, ◌*◌, ◌<◌, ◌≤◌, true, false, length, map};
 ghost use Rattle.sdh_ringmap.specs.Places.{eastwards};
-ghost use Rattle.sdh_ringmap.specs.Arcs.{Arc, arc_between, arc_span, is_among, is_clear, none_of};
+ghost use Rattle.sdh_ringmap.specs.Arcs.{arc_between, arc_span, is_among, is_clear, none_of};
 ghost use Rattle.sdh_restoration.specs.Routes.{applied_at_place, first_applied, last_applied, hops};
 
 use sdh_ringmap::{Pos, RingMap, Side, Span};

@@ -1,5 +1,5 @@
 -- The clocks of ports after a fault.
-use Rattle.std.proofs.Common.{◌≡◌, ℕ, zero, suc, ◌+◌, ◌-◌, ◌/◌, ◌<◌, ◌≤◌, Bool, true, false, List, [], ◌∷◌, length, map, Option, Some, None}
+use Rattle.std.proofs.Common.{◌≡◌, ℕ, zero, suc, ◌+◌, ◌-◌, ◌<◌, Bool, true, false, List, [], ◌∷◌, length, map, Option, Some, None}
 use Rattle.std.proofs.Common.{refl, ap, sym, subst, ◌∙◌, arith, inl, inr}
 use Rattle.std.specs.Prelude.{nat_lt, if◌then◌else◌, IsSome, slice_get, option_and_then, option_map}
 use Rattle.std.specs.Option.{option_map_or}
@@ -11,22 +11,24 @@ use Rattle.sdh_ringmap.specs.declared.Side.TheVariants.{West, East}
 use Rattle.sdh_circuits.specs.declared.PortId.{PortId}
 use Rattle.sdh_circuits.specs.Provisioned.{Provisioned, end_of}
 use Rattle.sdh_payload.specs.Clock.{Clock, ticks}
-use Rattle.sdh_plant.specs.Fibres.{Arrival, Fibres}
+use Rattle.sdh_plant.specs.Fibres.{Arrival}
 use Rattle.sdh_terminal.specs.Tributaries.{Tributary, port_of}
 use Rattle.sdh_node.specs.Node.{Node}
 use Rattle.sdh_world.specs.Held.{HeldRing, place_of_port}
 use Rattle.sdh_world.specs.Clocks.{HasPortIn, clock_at, clocks_from}
-use Rattle.sdh_world.specs.Rounds.{World, world, arrivals_of}
-use Rattle.sdh_rounds.specs.Rounds.{receivers_in}
+use Rattle.sdh_world.specs.Rounds.{World}
 use Rattle.sdh_world.specs.Runs.{ArriveIn, run_with, course_with}
 use Rattle.sdh_world.specs.Quiet.{NeverSettles}
-use Rattle.sdh_rounds.proofs.Runs.{known_arrive, held_run}
+use Rattle.sdh_rounds.proofs.Runs.{held_run}
 use Rattle.sdh_rounds.proofs.Laws.{runs_keep}
 use Rattle.sdh_world.proofs.Clocks.{clock_of, Follows, node_next, goes_rounds}
-use Rattle.sdh_rounds.specs.Calls.{first_after, FirstReceive, SomeReceive, SendsSome}
-use Rattle.sdh_rounds.proofs.Rings as rings
-use Rattle.sdh_rounds.proofs.Rings.{heard_keep, some_keep, off_hearing, off_sending}
-use Rattle.sdh_ring.specs.Faults.{ClocksWentOn, had_round, BreaksRound, BreaksStep}
+use Rattle.sdh_rounds.specs.Calls.{told_some, first_after}
+use Rattle.sdh_rounds.specs.Faults as breaking
+use Rattle.sdh_rounds.specs.Faults.{had_round}
+use Rattle.sdh_rounds.proofs.Rings.{some_keep}
+use Rattle.sdh_ring.specs.Faults.{ClocksWentOn, BreaksRound, BreaksStep}
+use Rattle.sdh_ring.proofs.Nodes.{length_fixed}
+use Rattle.sdh_ring.proofs.Rings.{broke_fixed}
 use Rattle.sdh_node.specs.Stations.{adm}
 
 -- ---- the ports of circuits at a node, with their clocks: no receive changes them
@@ -37,12 +39,6 @@ ports_of n = n.ports
 told_ports : (d : Side) (a : Arrival) (n : Node) → ports_of (adm.told d a n) ≡ ports_of n
 told_ports West a n = refl
 told_ports East a n = refl
-
-pub heard_ports : (k : ℕ) (f g : Fibres) (old new : List Node) → FirstReceive adm k f g old new → map ports_of new ≡ map ports_of old
-heard_ports k f g old new h = ap (map ports_of) h.nodes ∙ heard_keep adm ports_of told_ports h.arrivals old
-
-pub some_ports : (k : ℕ) (f g : Fibres) (old new : List Node) → SomeReceive adm k f g old new → map ports_of new ≡ map ports_of old
-some_ports k f g old new h = ap (map ports_of) h.nodes ∙ some_keep adm ports_of told_ports h.arrivals old
 
 -- ---- a port, node by node
 
@@ -97,41 +93,21 @@ went_on r ns b k size goes = λ port there.
     subst (λ q. IsSome (port_at port ns q) × (clock_of (port_at port ns q) ≡ ticks (if nat_lt p k then 0 + 1 else 0) (clock_at r port)))
     (sym place) (goes port p there)
 
--- a fault while nodes received
-pub breaks_hearing : (r : HeldRing) (f h : Fibres) (ns : List Node) → length r.nodes ≡ length r.ids → 2 ≤ length r.ids
-    → length ns ≡ length r.nodes → map ports_of ns ≡ map ports_of r.nodes
-    → SomeReceive adm (receivers_in r.rounds (length r.nodes)) f h r.nodes ns
-    → BreaksRound (world r f) (world (record r { nodes = ns; broken = true }) h)
-unfolding rings.off_hearing
-breaks_hearing r f h ns size enough kept same some =
-    let off = off_hearing adm r f h ns size enough some in
-    let count = (known_arrive (world r f)).count in
-    let n : receivers_in r.rounds (length r.nodes) ≡ receivers_in r.rounds (length r.ids) = ap (receivers_in r.rounds) size in
-    let low : length some.arrivals < length (arrivals_of (world r f)) = (let m = some.not_all in omega arith) in
-    let e : nat_lt (length some.arrivals) (length (arrivals_of (world r f))) ≡ true = grind (arith, nat_tests) in
+-- a fault
+pub breaks_clocks : (w left : World) → breaking.BreaksRound adm w left → BreaksRound w left
+breaks_clocks w left b =
+    let r = w.ring in
+    let k = had_round b.off in
+    let heard = told_some adm b.told r.nodes in
+    let same : map ports_of heard ≡ map ports_of r.nodes = some_keep adm ports_of told_ports b.told r.nodes in
     record {
-      off = off;
-      ring = refl;
-      clocks = subst (λ b. ClocksWentOn 0 (if b then 0 else 0 / 2 + 1) r (record r { nodes = ns; broken = true })) (sym e)
-          (went_on r ns true 0 kept (λ id p. subst (λ o. Follows (ticks (if nat_lt p 0 then 0 + 1 else 0)) (port_at id r.nodes p) o)
-          (found_same id r.nodes ns p same) (goes_none id r.nodes p)));
-    }
-
--- and while they sent
-pub breaks_sending : (r : HeldRing) (f g h : Fibres) (ns new : List Node) → length r.nodes ≡ length r.ids → length new ≡ length r.nodes
-    → map ports_of ns ≡ map ports_of r.nodes → FirstReceive adm (receivers_in r.rounds (length r.nodes)) f g r.nodes ns
-    → SendsSome adm r.moment ns new g h → BreaksRound (world r f) (world (record r { nodes = new; broken = true }) h)
-unfolding rings.off_sending
-breaks_sending r f g h ns new size kept same hears some =
-    let k = some.out / 2 + 1 in
-    let e : nat_lt (length hears.arrivals) (length hears.arrivals) ≡ false = grind (arith, nat_tests) in
-    record {
-      off = off_sending adm r f g h ns new size hears some;
-      ring = refl;
-      clocks = subst (λ b. ClocksWentOn 0 (if b then 0 else k) r (record r { nodes = new; broken = true })) (sym e)
-          (went_on r new true k kept (λ id p. subst (λ ms. Goes id k r.nodes ms p) (sym some.nodes)
-          (subst (λ o. Follows (ticks (if nat_lt p k then 0 + 1 else 0)) o (port_at id (first_after adm r.moment k ns) p))
-          (sym (found_same id r.nodes ns p same)) (goes_first id r.moment k ns p))));
+      off = b.off;
+      ring = b.ring;
+      clocks = subst (ClocksWentOn 0 k r) (sym b.ring)
+          (went_on r left.ring.nodes true k (length_fixed r.nodes left.ring.nodes (broke_fixed w left b))
+          (λ id p. subst (λ ms. Goes id k r.nodes ms p) (sym b.nodes)
+          (subst (λ o. Follows (ticks (if nat_lt p k then 0 + 1 else 0)) o (port_at id (first_after adm r.moment k heard) p))
+          (sym (found_same id r.nodes heard p same)) (goes_first id r.moment k heard p))));
     }
 
 -- ---- a step
@@ -160,7 +136,7 @@ went_by rounds w left port is there =
     ∙ ap (λ n. ticks n (clock_at w.ring port)) (let e : length rounds ≡ left.ring.rounds - w.ring.rounds = omega arith in e)
 
 -- and after one more that a fault broke off
-pub breaks_after : (rounds : List (List Arrival)) (w left : World) (limit : ℕ) → ArriveIn rounds w → length rounds < limit
+breaks_after : (rounds : List (List Arrival)) (w left : World) (limit : ℕ) → ArriveIn rounds w → length rounds < limit
     → NeverSettles (course_with rounds w) (length rounds) → BreaksRound (run_with rounds w) left → BreaksStep w limit left
 breaks_after rounds w left limit arrive within never broke = record {
   step = record { rounds = rounds; arrive = arrive; within = within; never = never; off = broke.off };
@@ -176,3 +152,7 @@ breaks_after rounds w left limit arrive within never broke = record {
             ∙ ticks_more (nat_lt (place_of_port w.ring port) (had_round broke.off)) (length rounds) (clock_at w.ring port),
       ));
 }
+
+pub breaks_step : (w left : World) (limit : ℕ) → breaking.BreaksStep adm w limit left → BreaksStep w limit left
+breaks_step w left limit b =
+    breaks_after b.rounds w left limit b.arrive b.within b.never (breaks_clocks (run_with b.rounds w) left b.last)

@@ -3,6 +3,5 @@ pub mod Rings
 pub mod Owned
 pub mod Breaking
 pub mod Settling
-pub mod Observing
 pub mod Turns
 mod Whole

@@ -3,12 +3,12 @@ use Rattle.std.proofs.Common.{◌≡◌, ℕ, ◌<◌, false, List, Option, Some
 use Rattle.std.specs.Prelude.{IsSome, All, slice_get, option_and_then}
 use Rattle.std.proofs.lemmas.Option.{get_or_from_slice_get, slice_get-get_or, slice_get_within}
 use Rattle.std.specs.Option.{option_map_or}
-use Rattle.sdh_ringmap.specs.declared.Pos.{Pos}
 use Rattle.sdh_circuits.specs.declared.PortId.{PortId}
 use Rattle.sdh_circuits.specs.Provisioned.{Provisioned, end_of}
 use Rattle.sdh_payload.specs.Clock.{Clock, waiting}
-use Rattle.sdh_terminal.specs.Tributaries.{Tributary, port_of, HasPort, outlet_of, waiting_of}
+use Rattle.sdh_terminal.specs.Tributaries.{Tributary, port_of, HasPort, outlet_of, waiting_of, tributaries_at}
 use Rattle.sdh_node.specs.Node.{Node, new_node}
+use Rattle.sdh_rounds.specs.Held.{IsPlaceOf, IsNodeOf}
 use Rattle.sdh_world.specs.Clocks.{port_in, HasPortIn, clock_at, waiting_at}
 use Rattle.sdh_world.specs.Fixed.{IsRested, IsRing}
 use Rattle.sdh_world.proofs.Clocks.{clock_of}
@@ -18,11 +18,10 @@ use Rattle.sdh_ring.proofs.Rings.{count_of}
 use Rattle.sdh_payload.specs.Outlet.{silent}
 use Rattle.sdh_world.specs.Held.{HeldRing, nowhere, node_at, place_of_port, outlet_at}
 use Rattle.sdh_ringmap.specs.Places.{position_of}
-use Rattle.sdh_circuits.proofs.Rings.{end_inside}
 use Rattle.sdh_terminal.proofs.Found.{has_own}
 
 -- what the port delivered is read at that node
-pub outlet_is : (r : HeldRing) (id : PortId) (c : Provisioned) (n : Node) → slice_get r.circuits.circuits id.circuit ≡ Some c
+outlet_is : (r : HeldRing) (id : PortId) (c : Provisioned) (n : Node) → slice_get r.circuits.circuits id.circuit ≡ Some c
     → slice_get r.nodes (end_of c id.end).0 ≡ Some n → outlet_at r id ≡ outlet_of id n.ports
 unfolding outlet_at
 outlet_is r id c n circuit node =
@@ -43,29 +42,36 @@ pub record IsOwned (r : HeldRing) (id : PortId) (p : ℕ) : Type 0 where
   pub there : slice_get r.nodes p ≡ Some (node_at r.nodes p)
   pub has : HasPort (node_at r.nodes p).ports id
 
-pub owned_at : (r : HeldRing) → IsRing r → (id : PortId) (c : Provisioned) → slice_get r.circuits.circuits id.circuit ≡ Some c
-    → IsOwned r id (end_of c id.end).0
-owned_at r h id c is =
+owned_at : (r : HeldRing) → IsRing r → (id : PortId) (p : ℕ) → IsPlaceOf r id p → IsOwned r id p
+owned_at r h id p there =
     let cs = r.circuits.circuits in
-    let p = (end_of c id.end).0 in
-    let below : id.circuit < length cs = slice_get_within cs id.circuit c is in
-    let read : get_or cs id.circuit c ≡ c = get_or_from_slice_get cs id.circuit c c is in
-    let low : p < length r.ids = end_inside r.circuits r.ids id.circuit c id.end h.circuits h.kept below read in
-    let inside : p < length r.nodes = omega (arith, low, count_of r h) in
+    let c = there.circuit in
+    let below : id.circuit < length cs = slice_get_within cs id.circuit c there.circuit_is in
+    let read : get_or cs id.circuit c ≡ c = get_or_from_slice_get cs id.circuit c c there.circuit_is in
+    let low : p < length r.ids = omega (arith, there.inside, count_of r h) in
     record {
-      place = sym (place_at r id c is);
-      inside = inside;
-      there = slice_get-get_or r.nodes p nowhere inside;
+      place = there.place ∙ sym (place_at r id c there.circuit_is);
+      inside = there.inside;
+      there = slice_get-get_or r.nodes p nowhere there.inside;
       has =
           has_fixed id (node_at r.nodes p) (new_node r.settings r.ids cs (position_of p))
           (node_is r.settings r.ids cs (length r.ids) r.nodes p nowhere h.nodes low)
-          (new_has r.settings r.ids cs p id (has_own cs c id below read));
+          (new_has r.settings r.ids cs p id (subst (λ (q : ℕ). HasPort (tributaries_at (position_of q) cs) id) (sym there.place)
+          (has_own cs c id below read)));
     }
 
-pub owned_from : (r s : HeldRing) (id : PortId) (c : Provisioned) (at : Pos) → IsRing r → r ≡ s
-    → slice_get r.circuits.circuits id.circuit ≡ Some c → at ≡ end_of c id.end → IsOwned s id at.0
-owned_from r s id c at h same is there =
-    subst (λ (x : HeldRing). IsOwned x id at.0) same (subst (λ (p : Pos). IsOwned r id p.0) (sym there) (owned_at r h id c is))
+pub owned_from : (r s : HeldRing) (id : PortId) (p : ℕ) → IsRing r → r ≡ s → IsPlaceOf r id p → IsOwned s id p
+owned_from r s id p h same there = subst (λ (x : HeldRing). IsOwned x id p) same (owned_at r h id p there)
+
+-- the port of a circuit at its node
+pub has_port : (r : HeldRing) (id : PortId) (n : Node) → IsRing r → IsNodeOf r id n → HasPort n.ports id
+has_port r id n h node =
+    subst (λ (m : Node). HasPort m.ports id) (get_or_from_slice_get r.nodes node.at n nowhere node.there)
+    (owned_at r h id node.at node.place).has
+
+pub outlet_there : (r : HeldRing) (id : PortId) (n : Node) → IsNodeOf r id n → outlet_at r id ≡ outlet_of id n.ports
+outlet_there r id n node =
+    outlet_is r id node.place.circuit n node.place.circuit_is (ap (slice_get r.nodes) (sym node.place.place) ∙ node.there)
 
 module _ (r : HeldRing) (id : PortId) (p : ℕ) (o : IsOwned r id p) where
   abbrev ports : List Tributary
@@ -85,6 +91,11 @@ module _ (r : HeldRing) (id : PortId) (p : ℕ) (o : IsOwned r id p) where
   -- how many slips wait at it
   pub waits_there : waiting_of id ports ≡ waiting_at r id
   waits_there = waits_of (port_of id ports) ∙ sym (ap (λ (c : Clock). waiting c) clock_is)
+
+pub waits_at : (r : HeldRing) (id : PortId) (n : Node) → IsRing r → IsNodeOf r id n → waiting_at r id ≡ waiting_of id n.ports
+waits_at r id n h node =
+    sym (waits_there r id node.at (owned_at r h id node.at node.place))
+    ∙ ap (λ (m : Node). waiting_of id m.ports) (get_or_from_slice_get r.nodes node.at n nowhere node.there)
 
 -- ---- the clocks of a ring that goes on
 

@@ -1,17 +1,25 @@
 -- What is true of a ring, call by call.
-use Rattle.std.proofs.Common.{◌≡◌, ℕ, ◌+◌, ◌/◌, ◌<◌, ◌≤◌, Bool, true, false, List, length, map, ap, sym, subst, ◌∙◌, arith}
-use Rattle.std.specs.Prelude.{All, ◌^◌}
-use Rattle.sdh_terms.specs.declared.Rate.{Rate}
-use Rattle.sdh_plant.specs.Fibres.{Fibres, IsPrepared}
+use Rattle.std.proofs.Common.{◌≡◌, ℕ, ◌+◌, ◌/◌, ◌<◌, ◌≤◌, Bool, true, false, List, length, map, refl, ap, sym, subst, ◌∙◌, arith}
+use Rattle.std.specs.Prelude.{All, ◌^◌, Result, Ok, Err}
+use Rattle.sdh_terms.specs.Rates.{n_of}
+use Rattle.sdh_ringmap.specs.Ids.{AreIds}
+use Rattle.sdh_circuits.specs.Provisioning.{Provisioning, IsProvisioning}
+use Rattle.sdh_circuits.specs.Kept.{KeepsRing}
 use Rattle.sdh_request.specs.declared.settings.Settings.{Settings}
 use Rattle.sdh_node.specs.Node.{Node}
-use Rattle.sdh_world.specs.Held.{HeldRing}
-use Rattle.sdh_world.specs.Rounds.{node_after}
-use Rattle.sdh_world.specs.Fixed.{fixed, IsOn, IsRing}
-use Rattle.sdh_world.proofs.Keeping.{fixed_with, fixed_next, all_settings, length-fixed, all_on_heard, all_on_next}
 use Rattle.sdh_node.specs.Stations.{adm, MayRun}
-use Rattle.sdh_rounds.specs.Calls.{FirstReceive, SomeReceive, SendsSome}
+use Rattle.sdh_rounds.specs.Held as held
+use Rattle.sdh_rounds.specs.Rounds as any_round
+use Rattle.sdh_rounds.specs.Calls.{told_some}
+use Rattle.sdh_rounds.specs.Faults.{BreaksRound, had_round}
+use Rattle.sdh_rounds.specs.Outcome.{IsOneRound}
+use Rattle.sdh_rounds.specs.declared.faults.PlantFault.{PlantFault as Fault}
 use Rattle.sdh_rounds.proofs.Rings.{heard_keep, some_keep, all_keep, first_keep}
+use Rattle.sdh_world.specs.Held.{HeldRing, new_nodes, new_ring}
+use Rattle.sdh_world.specs.Rounds.{World, nodes_with, node_after}
+use Rattle.sdh_world.specs.Runs.{IsRound}
+use Rattle.sdh_world.specs.Fixed.{fixed, IsOn, IsRing}
+use Rattle.sdh_world.proofs.Keeping.{fixed_with, fixed_next, all_settings, length-fixed, all_on_heard, all_on_next, all_new}
 
 -- ---- a ring and its nodes
 
@@ -31,46 +39,74 @@ ring_with r ns m rounds broken h same small going = record {
   going = going;
 }
 
-pub true_is_not_false : {P : Type 0} → true ≡ false → P
+true_is_not_false : {P : Type 0} → true ≡ false → P
 true_is_not_false e = cc
 
-pub may_receive : (r : HeldRing) (ns : List Node) → IsRing r → map fixed ns ≡ map fixed r.nodes
-    → All (λ n. n.settings.rate ≡ r.settings.rate) ns
-may_receive r ns h same =
-    λ p d lt. ap (λ (x : Settings). x.rate) (all_settings r.settings r.ids r.circuits.circuits (length r.ids) ns (same ∙ h.nodes) p d lt)
+pub may_receive : (r : HeldRing) → IsRing r → All (λ (n : Node). n.settings.rate ≡ r.settings.rate) r.nodes
+may_receive r h =
+    λ p d lt. ap (λ (x : Settings). x.rate) (all_settings r.settings r.ids r.circuits.circuits (length r.ids) r.nodes h.nodes p d lt)
 
-pub may_send : (r : HeldRing) (ns : List Node) → IsRing r → map fixed ns ≡ map fixed r.nodes → All (IsOn r.rounds r.moment) ns
-    → r.rounds < 2 ^ 32 → All (MayRun r.moment) ns
-may_send r ns h same on few = λ p d lt. record {
-  early = (on p d lt).early;
+pub may_send : (r : HeldRing) → IsRing r → r.broken ≡ false → r.rounds < 2 ^ 32 → All (MayRun r.moment) r.nodes
+may_send r h whole few = λ p d lt. record {
+  early = (h.going whole p d lt).early;
   within = h.moment;
-  few = let e = (on p d lt).rounds_are in omega arith;
+  few = let e = (h.going whole p d lt).rounds_are in omega arith;
 }
 
-pub on_hears : (k : ℕ) (f g : Fibres) (old new : List Node) (rounds m : ℕ) → FirstReceive adm k f g old new → All (IsOn rounds m) old
-    → All (IsOn rounds m) new
-on_hears k f g old new rounds m h on = subst (All (IsOn rounds m)) (sym h.nodes) (all_on_heard h.arrivals rounds m old on)
+-- a later moment
+pub ring_later : (r : HeldRing) (m : ℕ) → IsRing r → r.moment ≤ m → m ≤ 1000000000 → IsRing (record r { moment = m })
+ring_later r m h later within = ring_with r r.nodes m r.rounds r.broken h refl within
+    (λ whole p d lt. let on = h.going whole p d lt in record {
+      rounds_are = on.rounds_are;
+      early = let e = on.early in omega arith;
+      clocks = on.clocks;
+    })
 
-pub on_sends : (rounds m : ℕ) (old new : List Node) → new ≡ map (node_after m) old → All (IsOn rounds m) old → All (IsOn (rounds + 1) m) new
-on_sends rounds m old new is on = subst (All (IsOn (rounds + 1) m)) (sym is) (all_on_next rounds m old on)
+-- ---- a new ring
 
--- ---- what no call of a round changes of the nodes
+-- is that of any kind
+pub fresh_is : (s : Settings) (ids : List ℕ) (circuits : Provisioning) → held.new_ring adm s ids circuits ≡ new_ring s ids circuits
+unfolding new_nodes
+fresh_is s ids circuits = refl
 
-pub heard_fixed : (k : ℕ) (f g : Fibres) (old new : List Node) → FirstReceive adm k f g old new → map fixed new ≡ map fixed old
-heard_fixed k f g old new h = ap (map fixed) h.nodes ∙ heard_keep adm fixed fixed_with h.arrivals old
+pub new_is_ring : (s : Settings) (ids : List ℕ) (circuits : Provisioning) → AreIds ids → IsProvisioning circuits
+    → circuits.slots ≡ n_of s.rate / 2 → KeepsRing circuits ids → IsRing (new_ring s ids circuits)
+new_is_ring s ids circuits are form slots kept = record {
+  ids = are;
+  circuits = form;
+  slots = slots;
+  kept = kept;
+  moment = omega arith;
+  nodes = refl;
+  going = λ _. all_new s ids circuits.circuits (length ids);
+}
 
-pub some_fixed : (k : ℕ) (f g : Fibres) (old new : List Node) → SomeReceive adm k f g old new → map fixed new ≡ map fixed old
-some_fixed k f g old new h = ap (map fixed) h.nodes ∙ some_keep adm fixed fixed_with h.arrivals old
+-- ---- a round
 
-pub sent_fixed : (now : ℕ) (old new : List Node) → new ≡ map (node_after now) old → map fixed new ≡ map fixed old
-sent_fixed now old new is = ap (map fixed) is ∙ all_keep adm fixed now (fixed_next now) old
+ring_ran : (w after : World) → IsRing w.ring → w.ring.broken ≡ false → IsRound w after → IsRing after.ring
+unfolding any_round.round_with
+ring_ran w after h whole is =
+    let r = w.ring in
+    let heard = nodes_with is.arrivals w in
+    subst (λ (x : World). IsRing x.ring) (sym is.after_is)
+    (ring_with r (map (node_after r.moment) heard) r.moment (r.rounds + 1) r.broken h
+    (all_keep adm fixed r.moment (fixed_next r.moment) heard ∙ heard_keep adm fixed fixed_with is.arrivals r.nodes) h.moment
+    (λ _. all_on_next r.rounds r.moment heard (all_on_heard is.arrivals r.rounds r.moment r.nodes (h.going whole))))
 
-pub off_fixed : (now : ℕ) (old new : List Node) (f g : Fibres) → SendsSome adm now old new f g → map fixed new ≡ map fixed old
-off_fixed now old new f g h = ap (map fixed) h.nodes ∙ first_keep adm fixed now (fixed_next now) (h.out / 2 + 1) old
+pub broke_fixed : (w left : World) → BreaksRound adm w left → map fixed left.ring.nodes ≡ map fixed w.ring.nodes
+broke_fixed w left b =
+    ap (map fixed) b.nodes
+    ∙ first_keep adm fixed w.ring.moment (fixed_next w.ring.moment) (had_round b.off) (told_some adm b.told w.ring.nodes)
+    ∙ some_keep adm fixed fixed_with b.told w.ring.nodes
 
--- ---- the fibres of a ring
+ring_broke : (w left : World) → IsRing w.ring → BreaksRound adm w left → IsRing left.ring
+ring_broke w left h b =
+    let r = w.ring in
+    subst IsRing (sym b.ring)
+    (ring_with r left.ring.nodes r.moment r.rounds true h (broke_fixed w left b) h.moment (λ e. true_is_not_false e))
 
-pub prepared_nodes : (r : HeldRing) (rate : Rate) (ns : List Node) (f : Fibres) → IsRing r → rate ≡ r.settings.rate
-    → length ns ≡ length r.nodes → IsPrepared r.settings.rate (length r.ids) f → IsPrepared rate (length ns) f
-prepared_nodes r rate ns f h same size p =
-    subst (λ x. IsPrepared x (length ns) f) (sym same) (subst (λ n. IsPrepared r.settings.rate n f) (sym (size ∙ count_of r h)) p)
+-- whatever it answered
+pub ring_after : (exact : Bool) (w left : World) (before after : ℕ) (result : Result (Unit {0}) Fault) → IsRing w.ring
+    → w.ring.broken ≡ false → IsOneRound adm exact w result left before after → IsRing left.ring
+ring_after exact w left before after (Ok u) h whole one = ring_ran w left h whole one.ok
+ring_after exact w left before after (Err e) h whole one = ring_broke w left h one.breaks

@@ -1,8 +1,8 @@
 -- What a fault of the plant leaves of a ring: how far the clocks of its ports have come.
-use Rattle.std.specs.Prelude.{ℕ, ◌≡◌, ◌+◌, ◌/◌, nat_lt, true, if◌then◌else◌, length}
+use Rattle.std.specs.Prelude.{ℕ, ◌≡◌, ◌+◌, nat_lt, true, if◌then◌else◌, length}
 use Rattle.sdh_circuits.specs.declared.PortId.{PortId}
 use Rattle.sdh_payload.specs.Clock.{ticks}
-use Rattle.sdh_plant.specs.Fibres.{Fibres}
+use Rattle.sdh_rounds.specs.Faults.{had_round}
 use Rattle.sdh_world.specs.Held.{HeldRing, place_of_port}
 use Rattle.sdh_world.specs.Clocks.{HasPortIn, clock_at}
 use Rattle.sdh_world.specs.Rounds.{World}
@@ -14,11 +14,6 @@ abbrev pub ClocksWentOn : ℕ → ℕ → HeldRing → HeldRing → Type 0
 ClocksWentOn t k old new =
     (port : PortId) → HasPortIn old port → HasPortIn new port
     × (clock_at new port ≡ ticks (if nat_lt (place_of_port old port) k then t + 1 else t) (clock_at old port))
-
--- how many nodes had their round in one that was broken off: none where a receive failed, so that not all arrivals were taken; and
--- else those whose frames were sent on both sides, and the one of which a send failed
-abbrev pub had_round : {w : World} {f : Fibres} → IsBrokenOff w f → ℕ
-had_round off = if nat_lt off.given (length off.arrivals) then 0 else off.out / 2 + 1
 
 -- a round that was broken off: the ring is broken, and the clocks of the ports at the nodes that had their round have gone on by
 -- it, and no others

@@ -1,3 +1,3 @@
 pub mod Faults
 pub mod Observed
-pub mod Outcome
+pub mod Promises

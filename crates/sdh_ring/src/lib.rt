@@ -1,12 +1,12 @@
 //! A ring of add-drop multiplexers: rounds of all its nodes over the fibres between them, and settle steps, which run until the
 //! ring is quiet.
 //!
-//! Its round is `round_with` in `sdh_rounds/specs/Rounds.antt`, and where a step ends is in `specs/Quiet.antt` there.
+//! Its round is `round_with` in `sdh_rounds/specs/Rounds.antt`, and where a step ends is in `sdh_rounds/specs/Quiet.antt`.
 #![tactic(auto)]
 
-mod observer;
+mod changing;
 mod ring;
 
-pub use observer::Observer;
+pub use changing::change;
 pub use ring::Ring;
-pub use sdh_rounds::{PlantFault, SettleError};
+pub use sdh_rounds::{Observer, PlantFault, SettleError};

@@ -1,6 +1,6 @@
 //! The ring.
-ghost use Rattle.std.specs.Prelude.{◌≡◌, ◌≢◌, ◌↔◌, ℕ, ◌+◌, ◌-◌, ◌*◌, ◌/◌, ◌%◌, ◌^◌, ◌<◌, ◌≤◌, true, false, Some, IfOk, OnOk, OnErr, Err};
-ghost use Rattle.std.specs.Prelude.{IsErr, IsErrOf, IsTrue, All, length, slice_get, if◌then◌else◌};
+ghost use Rattle.std.specs.Prelude.{◌≡◌, ◌+◌, ◌/◌, ◌^◌, ◌<◌, ◌≤◌, ℕ, true, false, Some, IfOk, OnOk, OnErr};
+ghost use Rattle.std.specs.Prelude.{IsErr, length, slice_get};
 ghost use Rattle.sdh_basics.specs.Causes.{Rose, IsCounted};
 ghost use Rattle.sdh_terms.specs.Rates.{n_of};
 ghost use Rattle.sdh_circuits.specs.Kept.{KeepsRing};
@@ -8,133 +8,80 @@ ghost use Rattle.sdh_payload.specs.Clock.{Clock};
 ghost use Rattle.sdh_plant.specs.Fibres.{Fibres, IsPrepared, IsHonest};
 ghost use Rattle.sdh_plant.specs.Calls.{prepared};
 ghost use Rattle.sdh_node.specs.Receiving.{commanded_by};
+ghost use Rattle.sdh_node.specs.Stations.{adm};
 ghost use Rattle.sdh_terminal.specs.Tributaries.{HasPort, outlet_of, waiting_of};
 ghost use Rattle.sdh_node.specs.Node.{at_receiving, held_for, slips_at};
 ghost use Rattle.sdh_circuits.specs.declared.PortId.{PortId};
-ghost use Rattle.sdh_world.specs.Held.{new_nodes, new_ring, at_place, node_at, place_of_port, outlet_at};
-ghost use Rattle.sdh_world.specs.Clocks.{HasPortIn, clock_at, waiting_at, clocks_from};
+ghost use Rattle.sdh_world.specs.Held.{new_ring, at_place, node_at, place_of_port, outlet_at};
+ghost use Rattle.sdh_world.specs.Clocks.{HasPortIn, clock_at, waiting_at};
 ghost use Rattle.sdh_world.specs.Fixed.{IsRested};
 ghost use Rattle.sdh_world.specs.Rounds.{World, world};
 ghost use Rattle.sdh_world.specs.Runs.{IsRound, IsBrokenOff};
-ghost use Rattle.sdh_world.specs.Quiet.{is_calm};
-ghost use Rattle.sdh_rounds.specs.Laws.{EndsAtAMultiple};
+ghost use Rattle.sdh_rounds.specs.Faults.{BreaksRound as BreaksOne};
+ghost use Rattle.sdh_rounds.specs.Outcome.{IsStep};
 ghost use Rattle.sdh_laws.specs.Hearing.Laws.{IsWhole, GoesAsSignals};
 ghost use Rattle.sdh_laws.specs.Carrying.Windows.{layout_in, HasCircuits};
-ghost use Rattle.sdh_laws.specs.Carrying.Laws.{Restores};
-ghost use Rattle.sdh_rounds.specs.Quiet.{enough_for};
 ghost use Rattle.sdh_laws.specs.Strangers.Vouched.{IsVouched, IsAside};
-ghost use Rattle.sdh_laws.specs.Strangers.Laws.{KeepsStrangersOut, KeepsStrangersOutInAll};
+ghost use Rattle.sdh_laws.specs.Strangers.Laws.{KeepsStrangersOut};
 ghost use Rattle.sdh_laws.specs.Resting.Rest.{IsAtRest, StaysAtRest};
-ghost use Rattle.sdh_laws.specs.Resting.Laws.{LeavesAtRest};
-ghost use Rattle.sdh_laws.specs.Restoring.Laws.{RestoresBy};
-ghost use Rattle.sdh_payload.specs.Clock.{Clock};
-ghost use Rattle.sdh_ring.specs.Outcome.{Outcome};
-ghost use Rattle.sdh_ring.specs.Faults.{BreaksRound, BreaksStep};
+ghost use Rattle.sdh_ring.specs.Faults.{BreaksRound};
 ghost use Rattle.sdh_ring.specs.Observed.{Hears};
-ghost use Rattle.sdh_circuits.specs.Provisioned.{end_of};
+ghost use Rattle.sdh_ring.specs.Promises.{KeepsPromises};
 
-use crate::observer::{Nobody, Observer};
-use sdh_circuits::{Circuit, CircuitMap, End, PortId};
-use sdh_frame::FrameBuf;
+use sdh_circuits::{CircuitMap, PortId};
 use sdh_node::{Adm, Delivered, Settings, Turn};
-use sdh_overhead::Landed;
 use sdh_plant::Plant;
 use sdh_request::{Command, Moment};
 use sdh_ringmap::{Pos, RingMap, Side};
-use sdh_rounds::{PlantFault, SettleError, all_calm, hear, send_all};
+use sdh_rounds::{Nobody, Observer, PlantFault, RunsRounds, SettleError, StationRing};
 use std::alloc::{AllocError, Global};
 use std::marker::Model;
 
 /// The nodes of a ring, which run in rounds.
 #[derive(Debug, Drop)]
 pub struct Ring {
-    settings: Settings,
-    map: RingMap,
-    circuits: CircuitMap,
-    nodes: Vec<Adm>,
-    // What a node receives, and what it sends on each side.
-    arrived: Landed,
-    west: FrameBuf,
-    east: FrameBuf,
-    present: Moment,
-    rounds: u64,
-    broken: bool,
+    ring: StationRing<Adm>,
 }
 
 impl Model for Ring {
-    ghost use Rattle.std.specs.Prelude.{◌≡◌};
     ghost use Rattle.sdh_world.specs.Held.{HeldRing};
     ghost use Rattle.sdh_world.specs.Fixed.{IsRing};
 
     ghost Value = { HeldRing };
 
-    ghost view = { λ a. record { settings = a.settings; ids = a.map; circuits = a.circuits; nodes = a.nodes.items; moment = a.present.0; rounds = a.rounds; broken = a.broken } };
+    ghost view = { λ a. a.ring };
 
-    ghost invariant = { λ a. record {
-      arrived : a.arrived.rate ≡ a.settings.rate;
-      west : a.west.rate ≡ a.settings.rate;
-      east : a.east.rate ≡ a.settings.rate;
-      ring : IsRing (record { settings = a.settings; ids = a.map; circuits = a.circuits; nodes = a.nodes.items; moment = a.present.0; rounds = a.rounds; broken = a.broken });
-    } };
+    ghost invariant = { λ a. IsRing a.ring };
 }
 
-// A new node at each position.
-#[tactic(auto, unfolding(sdh_world::specs::Held::new_nodes))]
-fn new_nodes(
-    alloc: Global,
-    settings: Settings,
-    map: &RingMap,
-    circuits: &CircuitMap,
-) -> Result<Vec<Adm>, AllocError>
-    requires slots { circuits.now.slots ≡ n_of settings.rate / 2 }
-    requires kept { KeepsRing circuits.now map.now }
-    ensures { IfOk result (λ v. v.items ≡ new_nodes settings map.now circuits.now.circuits (length map.now)) }
+fn command_at(ring: &mut StationRing<Adm>, at: usize, side: Side, command: Command)
+    requires { at < length ring.old.nodes }
+    ensures { ring.new ≡ record ring.old { nodes = at_place at (at_receiving side (commanded_by command)) ring.old.nodes } }
 {
-    let count = map.len();
-    let mut nodes = Vec::with_capacity(alloc, count)?;
-    for i in 0..count {
-        nodes.push(Adm::try_new(alloc, settings, map, circuits, Pos(i as u8))?)?;
-    }
-    Ok(nodes)
+    ring.nodes[at].command(side, command);
 }
 
-fn command_at(nodes: &mut Vec<Adm>, at: usize, side: Side, command: Command)
-    requires { at < length nodes.old.items }
-    ensures { nodes.new.items ≡ at_place at (at_receiving side (commanded_by command)) nodes.old.items }
-{
-    nodes[at].command(side, command);
-}
-
-fn hold_at(nodes: &mut Vec<Adm>, at: usize, turns: u32)
-    requires at { at < length nodes.old.items }
+fn hold_at(ring: &mut StationRing<Adm>, at: usize, turns: u32)
+    requires at { at < length ring.old.nodes }
     requires some { 1 ≤ turns }
     requires few { turns ≤ 100 }
-    ensures { nodes.new.items ≡ at_place at (held_for turns) nodes.old.items }
+    ensures { ring.new ≡ record ring.old { nodes = at_place at (held_for turns) ring.old.nodes } }
 {
-    nodes[at].hold(turns);
+    ring.nodes[at].hold(turns);
 }
 
-fn slip_at(nodes: &mut Vec<Adm>, at: usize, port: PortId, turn: Turn, count: u8)
-    requires at { at < length nodes.old.items }
-    requires port { HasPort (node_at nodes.old.items at).ports port }
-    requires few { waiting_of port (node_at nodes.old.items at).ports + count ≤ 16 }
-    ensures { nodes.new.items ≡ at_place at (slips_at port turn count) nodes.old.items }
+fn slip_at(ring: &mut StationRing<Adm>, at: usize, port: PortId, turn: Turn, count: u8)
+    requires at { at < length ring.old.nodes }
+    requires port { HasPort (node_at ring.old.nodes at).ports port }
+    requires few { waiting_of port (node_at ring.old.nodes at).ports + count ≤ 16 }
+    ensures { ring.new ≡ record ring.old { nodes = at_place at (slips_at port turn count) ring.old.nodes } }
 {
-    nodes[at].slip(port, turn, count);
-}
-
-// The position of a circuit's port.
-fn end_of(circuit: &Circuit, end: End) -> Pos
-    ensures { result ≡ end_of circuit.now end }
-{
-    match end {
-        End::A => circuit.from(),
-        End::B => circuit.to(),
-    }
+    ring.nodes[at].slip(port, turn, count);
 }
 
 impl Ring {
     /// A ring of new nodes, in which no round has run, at moment 0. All its memory is taken here.
+    #[tactic(auto, unfolding(sdh_world::specs::Held::new_nodes))]
     pub fn try_new(
         alloc: Global,
         settings: Settings,
@@ -156,45 +103,9 @@ impl Ring {
         sdh_laws::strangers::vouched_rings_stay();
 
         prove!(map.len() <= 16);
-        let nodes = new_nodes(alloc, settings, &map, &circuits)?;
-        let arrived = Landed::try_new(alloc, settings.rate)?;
-        let west = FrameBuf::try_new(alloc, settings.rate)?;
-        let east = FrameBuf::try_new(alloc, settings.rate)?;
-        Ok(Ring::of_nodes(settings, map, circuits, nodes, arrived, west, east))
-    }
-
-    // The ring of these new nodes, with the frames that they are to receive and send.
-    fn of_nodes(
-        settings: Settings,
-        map: RingMap,
-        circuits: CircuitMap,
-        nodes: Vec<Adm>,
-        arrived: Landed,
-        west: FrameBuf,
-        east: FrameBuf,
-    ) -> Ring
-        requires slots { circuits.slots ≡ n_of settings.rate / 2 }
-        requires kept { KeepsRing circuits map }
-        requires nodes { nodes.items ≡ new_nodes settings map circuits.circuits (length map) }
-        requires arrived { arrived.rate ≡ settings.rate }
-        requires west { west.rate ≡ settings.rate }
-        requires east { east.rate ≡ settings.rate }
-        ensures { result ≡ new_ring settings map circuits }
-    {
-        prove!(map.len() <= 16);
         prove!(circuits.len() <= 128);
-        Ring {
-            settings,
-            map,
-            circuits,
-            nodes,
-            arrived,
-            west,
-            east,
-            present: Moment(0),
-            rounds: 0,
-            broken: false,
-        }
+        let ring = StationRing::try_new(alloc, settings, map, circuits)?;
+        Ok(Ring { ring })
     }
 
     /// Gives one side of a node a command.
@@ -207,7 +118,7 @@ impl Ring {
     {
         sdh_laws::hearing::stay_whole();
         sdh_laws::strangers::vouched_rings_stay();
-        command_at(&mut self.nodes, at.0 as usize, side, command);
+        command_at(&mut self.ring, at.0 as usize, side, command);
     }
 
     /// The controller of a node misses so many of the next rounds, in place of those that are left of an earlier call. The ring stays
@@ -224,7 +135,7 @@ impl Ring {
     {
         sdh_laws::hearing::stay_whole();
         sdh_laws::strangers::vouched_rings_stay();
-        hold_at(&mut self.nodes, at.0 as usize, turns);
+        hold_at(&mut self.ring, at.0 as usize, turns);
     }
 
     // The position of the node where a port of a circuit is.
@@ -235,8 +146,7 @@ impl Ring {
         ensures port { HasPort (node_at self.now.nodes result).ports port }
         ensures waiting { waiting_of port (node_at self.now.nodes result).ports ≡ waiting_at self.now port }
     {
-        let at = end_of(self.circuits.get(port.circuit), port.end);
-        at.0 as usize
+        self.ring.place_of(port)
     }
 
     /// The clock of a port slips so many times more in the next rounds, each time by three bytes, of which it sends fewer or more.
@@ -253,7 +163,7 @@ impl Ring {
         sdh_laws::hearing::stay_whole();
         sdh_laws::strangers::vouched_rings_stay();
         let at = self.place_of(port);
-        slip_at(&mut self.nodes, at, port, turn, count);
+        slip_at(&mut self.ring, at, port, turn, count);
     }
 
     /// How many slips wait at a port of a circuit.
@@ -262,8 +172,7 @@ impl Ring {
         ensures waiting { result ≡ waiting_at self.now port }
         ensures few { result ≤ 16 }
     {
-        let at = self.place_of(port);
-        self.nodes[at].waiting(port)
+        self.node_of(port).waiting(port)
     }
 
     /// Tells the present moment, at which the next rounds run.
@@ -277,7 +186,7 @@ impl Ring {
     {
         sdh_laws::hearing::stay_whole();
         sdh_laws::strangers::vouched_rings_stay();
-        self.present = now;
+        self.ring.moment(now);
     }
 
     /// One round: all nodes receive, except in round 0, and then all send. It takes no memory. After a fault of the plant
@@ -306,6 +215,7 @@ impl Ring {
         // nodes had the round before it.
         ensures err { OnErr result (IsBrokenOff (world self.old (P.fibres plant.old)) (P.fibres plant.new)) }
         ensures broken { OnErr result (self.new.broken ≡ true) }
+        ensures breaks { OnErr result (BreaksOne adm (world self.old (P.fibres plant.old)) (world self.new (P.fibres plant.new))) }
         ensures clocks { OnErr result (BreaksRound (world self.old (P.fibres plant.old)) (world self.new (P.fibres plant.new))) }
         ensures later { P.faults plant.old ≤ P.faults plant.new }
         ensures failed { OnErr result (Rose (P.faults plant.old) (P.faults plant.new)) }
@@ -317,49 +227,18 @@ impl Ring {
         sdh_laws::resting::rest_goes_on();
         sdh_laws::strangers::rounds_keep_strangers_out();
         self.circuits_fit();
-        self.broken = true;
-        hear(self.rounds, &mut self.nodes, &mut self.arrived, plant)?;
-        send_all(
-            &mut self.nodes,
-            self.present,
-            &mut self.west,
-            &mut self.east,
-            plant,
-        )?;
-        self.broken = false;
-        self.rounds += 1;
-        Ok(())
+        self.ring.round(plant)
     }
 }
 
 // Settle steps.
 impl Ring {
-    // The calm rounds that the last round ends, where it was after so many.
-    fn calm_rounds(&self, calm: u32) -> u32
-        requires { calm + 1 < 2 ^ 32 }
-        ensures { result ≡ (if is_calm self.now.nodes then calm + 1 else 0) }
-    {
-        if all_calm(self.nodes.as_slice()) {
-            calm + 1
-        } else {
-            0
-        }
-    }
-
-    // Whether a quiet window ends now, where the last round ends so many calm ones.
-    fn is_over(&self, calm: u32) -> bool
-        requires { 0 < self.now.rounds }
-        ensures { IsTrue result ↔ ((3 * length self.now.ids ≤ calm) × ((self.now.rounds - 1) % 128 ≡ 0)) }
-    {
-        calm as usize >= 3 * self.map.len() && (self.rounds - 1) % 128 == 0
-    }
-
     // The circuits are circuits of its size and rate: the function does nothing, and its contract is the law.
     fn circuits_fit(&self)
         ensures { HasCircuits (layout_in self.now) }
     {
         // A field that is looked at opens the ring, of whose fields the law is true.
-        let _ = &self.rounds;
+        let _ = &self.ring;
     }
 
     // At most 16 slips wait at each port: the same.
@@ -367,7 +246,7 @@ impl Ring {
         requires { self.now.broken ≡ false }
         ensures { (port : PortId) → HasPortIn self.now port → IsRested (clock_at self.now port) }
     {
-        let _ = &self.rounds;
+        let _ = &self.ring;
     }
 
     /// Runs rounds until one ends a quiet window, which is `3 * n` calm rounds of this step whose last number is a multiple
@@ -378,55 +257,17 @@ impl Ring {
         requires some { 1 ≤ limit }
         requires few { limit ≤ 65536 }
         requires room { self.old.rounds + limit ≤ 2 ^ 32 }
-        ensures outcome { Outcome (world self.old (P.fibres plant.old)) limit result (world self.new (P.fibres plant.new)) }
-        ensures prepared { self.new.broken ≡ false → IsPrepared self.old.settings.rate (length self.old.ids) (P.fibres plant.new) }
+        ensures step { IsStep adm P.exact (world self.old (P.fibres plant.old)) limit result (world self.new (P.fibres plant.new))
+            (P.faults plant.old) (P.faults plant.new) }
 
-        // Over any plant: a step that ended ran a round, and the number of the last is a multiple of 128 and not 0.
-        ensures numbers { OnOk result (EndsAtAMultiple self.old self.new limit) }
-        ensures all { result ≡ Err SettleError.Unsettled → self.new.rounds ≡ self.old.rounds + limit }
-        ensures whole { result ≢ Err SettleError.PlantFault → IsWhole (world self.old (P.fibres plant.old))
-            → IsWhole (world self.new (P.fibres plant.new)) }
-
-        // A step of at least 68 rounds uses up all slips.
-        ensures slips { OnOk result ((port : PortId) → self.old.rounds + 68 ≤ self.new.rounds → waiting_at self.new port ≡ 0) }
-
-        // Where what comes is what was sent, each node is in its settled state then, and each port has delivered what it is owed.
-        ensures restored { OnOk result (Restores (world self.old (P.fibres plant.old)) (world self.new (P.fibres plant.new))) }
-
-        // With a limit of at least 12n + 102 so it is after a step in which no window ended, too.
-        ensures soon { result ≡ Err SettleError.Unsettled
-            → RestoresBy (world self.old (P.fibres plant.old)) limit (world self.new (P.fibres plant.new)) }
-
-        // Ring and fibres are at rest once a window ended.
-        ensures rests { OnOk result (LeavesAtRest (world self.old (P.fibres plant.old)) (world self.new (P.fibres plant.new))) }
-
-        // Where it is vouched for it stays so, and no port meets a stranger in any round of the step.
-        ensures strangers { result ≢ Err SettleError.PlantFault
-            → KeepsStrangersOutInAll (world self.old (P.fibres plant.old)) (world self.new (P.fibres plant.new)) }
-
-        // And with so large a limit a window does end, whatever happened before, where no fault breaks the step off.
-        ensures answers { IsWhole (world self.old (P.fibres plant.old)) → enough_for (length self.old.ids) ≤ limit
-            → result ≢ Err SettleError.Unsettled }
-
-        // Each port's clock has gone on by the rounds that ran.
-        ensures clocks { result ≢ Err SettleError.PlantFault → (port : PortId) → HasPortIn self.old port
-            → clock_at self.new port ≡ clocks_from (world self.old (P.fibres plant.old)) port self.new.rounds }
-
-        // A fault breaks the ring. Clocks have gone on by the whole rounds, and by the last one where their nodes had it.
-        ensures broken { result ≡ Err SettleError.PlantFault → self.new.broken ≡ true }
-        ensures broken_clocks { result ≡ Err SettleError.PlantFault
-            → BreaksStep (world self.old (P.fibres plant.old)) limit (world self.new (P.fibres plant.new)) }
-        ensures later { P.faults plant.old ≤ P.faults plant.new }
-        ensures failed { result ≡ Err SettleError.PlantFault → Rose (P.faults plant.old) (P.faults plant.new) }
-
-        // Where the plant's count is exact: one call failed with a fault, and none with Ok and with Unsettled.
-        ensures counted { IsCounted P.exact (result ≡ Err SettleError.PlantFault) (P.faults plant.old) (P.faults plant.new) }
+        // Traffic is restored, no port meets a stranger, and a step that may be long enough ends.
+        ensures laws { KeepsPromises (world self.old (P.fibres plant.old)) limit result (world self.new (P.fibres plant.new)) }
     {
         self.settle_with(plant, limit, &mut Nobody)
     }
 
     /// The same, with one who looks at the ring after each round.
-    pub fn settle_with<P: Plant, O: Observer>(
+    pub fn settle_with<P: Plant, O: Observer<Ring>>(
         &mut self,
         plant: &mut P,
         limit: u32,
@@ -438,87 +279,50 @@ impl Ring {
         requires few { limit ≤ 65536 }
         requires room { self.old.rounds + limit ≤ 2 ^ 32 }
         requires ready { (at : ℕ → World) → at 0 ≡ world self.old (P.fibres plant.old) → O.Heard at 0 observer.old }
-        ensures outcome { Outcome (world self.old (P.fibres plant.old)) limit result (world self.new (P.fibres plant.new)) }
+        ensures step { IsStep adm P.exact (world self.old (P.fibres plant.old)) limit result (world self.new (P.fibres plant.new))
+            (P.faults plant.old) (P.faults plant.new) }
+        ensures laws { KeepsPromises (world self.old (P.fibres plant.old)) limit result (world self.new (P.fibres plant.new)) }
 
         // What the observer keeps of a step that ended is what it is to keep of all its rounds, and of no other.
         ensures heard { OnOk result
             (Hears (λ at k. O.Heard at k observer.new) (world self.old (P.fibres plant.old)) limit (world self.new (P.fibres plant.new))) }
-        ensures prepared { self.new.broken ≡ false → IsPrepared self.old.settings.rate (length self.old.ids) (P.fibres plant.new) }
-
-        // Over any plant: a step that ended ran a round, and the number of the last is a multiple of 128 and not 0.
-        ensures numbers { OnOk result (EndsAtAMultiple self.old self.new limit) }
-        ensures all { result ≡ Err SettleError.Unsettled → self.new.rounds ≡ self.old.rounds + limit }
-        ensures whole { result ≢ Err SettleError.PlantFault → IsWhole (world self.old (P.fibres plant.old))
-            → IsWhole (world self.new (P.fibres plant.new)) }
-
-        // A step of at least 68 rounds uses up all slips.
-        ensures slips { OnOk result ((port : PortId) → self.old.rounds + 68 ≤ self.new.rounds → waiting_at self.new port ≡ 0) }
-
-        // Where what comes is what was sent, each node is in its settled state then, and each port has delivered what it is owed.
-        ensures restored { OnOk result (Restores (world self.old (P.fibres plant.old)) (world self.new (P.fibres plant.new))) }
-
-        // With a limit of at least 12n + 102 so it is after a step in which no window ended, too.
-        ensures soon { result ≡ Err SettleError.Unsettled
-            → RestoresBy (world self.old (P.fibres plant.old)) limit (world self.new (P.fibres plant.new)) }
-
-        // Ring and fibres are at rest once a window ended.
-        ensures rests { OnOk result (LeavesAtRest (world self.old (P.fibres plant.old)) (world self.new (P.fibres plant.new))) }
-
-        // Where it is vouched for it stays so, and no port meets a stranger in any round of the step.
-        ensures strangers { result ≢ Err SettleError.PlantFault
-            → KeepsStrangersOutInAll (world self.old (P.fibres plant.old)) (world self.new (P.fibres plant.new)) }
-
-        // And with so large a limit a window does end, whatever happened before, where no fault breaks the step off.
-        ensures answers { IsWhole (world self.old (P.fibres plant.old)) → enough_for (length self.old.ids) ≤ limit
-            → result ≢ Err SettleError.Unsettled }
-
-        // Each port's clock has gone on by the rounds that ran.
-        ensures clocks { result ≢ Err SettleError.PlantFault → (port : PortId) → HasPortIn self.old port
-            → clock_at self.new port ≡ clocks_from (world self.old (P.fibres plant.old)) port self.new.rounds }
-
-        // A fault breaks the ring. Clocks have gone on by the whole rounds, and by the last one where their nodes had it.
-        ensures broken { result ≡ Err SettleError.PlantFault → self.new.broken ≡ true }
-        ensures broken_clocks { result ≡ Err SettleError.PlantFault
-            → BreaksStep (world self.old (P.fibres plant.old)) limit (world self.new (P.fibres plant.new)) }
-        ensures later { P.faults plant.old ≤ P.faults plant.new }
-        ensures failed { result ≡ Err SettleError.PlantFault → Rose (P.faults plant.old) (P.faults plant.new) }
-
-        // Where the plant's count is exact: one call failed with a fault, and none with Ok and with Unsettled.
-        ensures counted { IsCounted P.exact (result ≡ Err SettleError.PlantFault) (P.faults plant.old) (P.faults plant.new) }
     {
         self.circuits_fit();
         self.few_slips_wait();
-        sdh_rounds::settled_numbers::<Adm>();
         sdh_laws::hearing::steps_stay_whole();
         sdh_laws::carrying::settled_rings_are_restored();
         sdh_laws::resting::steps_leave_at_rest();
         sdh_laws::restoring::unsettled_rings_are_restored();
         sdh_laws::converging::steps_answer();
         sdh_laws::strangers::steps_keep_strangers_out();
-        let mut calm = 0u32;
-        'rounds: for _turn in 0..limit {
-            self.round(plant)?;
-            observer.look(self);
-            calm = self.calm_rounds(calm);
-            if self.is_over(calm) {
-                return Ok(());
-            }
-        }
-        Err(SettleError::Unsettled)
+        sdh_rounds::settle(self, plant, limit, observer)
+    }
+}
+
+impl RunsRounds for Ring {
+    type Node = Adm;
+
+    ghost held = { λ ring. ring };
+
+    fn stations(&self) -> &StationRing<Adm> {
+        &self.ring
+    }
+
+    fn round<P: Plant>(&mut self, plant: &mut P) -> Result<(), PlantFault> {
+        Ring::round(self, plant)
     }
 }
 
 // What the ring lends.
 impl Ring {
     // The node where a port of a circuit is.
-    #[tactic(auto, unfolding(sdh_world::specs::Held::outlet_at))]
     fn node_of(&self, port: PortId) -> &Adm
         requires { port.circuit < length self.now.circuits.circuits }
         ensures port { HasPort result.now.ports port }
         ensures outlet { outlet_at self.now port ≡ outlet_of port result.now.ports }
+        ensures waiting { waiting_at self.now port ≡ waiting_of port result.now.ports }
     {
-        let at = end_of(self.circuits.get(port.circuit), port.end);
-        &self.nodes[at.0 as usize]
+        self.ring.node_of(port)
     }
 
     /// What a port of a circuit delivered in the last round, and AIS before the first.
@@ -542,21 +346,21 @@ impl Ring {
     pub fn rounds(&self) -> u64
         ensures { result ≡ self.now.rounds }
     {
-        self.rounds
+        self.ring.rounds()
     }
 
     /// The nodes' identifiers.
     pub fn map(&self) -> &RingMap
         ensures { result.now ≡ self.now.ids }
     {
-        &self.map
+        self.ring.map()
     }
 
     /// The circuits.
     pub fn circuits(&self) -> &CircuitMap
         ensures { result.now ≡ self.now.circuits }
     {
-        &self.circuits
+        self.ring.circuits()
     }
 
     /// The node at a position.
@@ -564,13 +368,13 @@ impl Ring {
         requires { at.0 < length self.now.ids }
         ensures { slice_get self.now.nodes at.0 ≡ Some result.now }
     {
-        &self.nodes[at.0 as usize]
+        self.ring.node(at)
     }
 
     /// Whether a fault of the plant broke a round off.
     pub fn is_broken(&self) -> bool
         ensures { result ≡ self.now.broken }
     {
-        self.broken
+        self.ring.is_broken()
     }
 }

@@ -1,5 +1,5 @@
 //! Lists of identifiers: first places, and identifiers as bytes.
-ghost use Rattle.std.specs.Prelude.{◌≡◌, ℕ, ◌<◌, ◌≤◌, true, All, map, ◌==◌, length, IfSome, position};
+ghost use Rattle.std.specs.Prelude.{◌≡◌, ◌<◌, ◌≤◌, true, All, map, ◌==◌, length, IfSome, position};
 ghost use Rattle.sdh_ringmap.specs.Numbering.{is_id, magnitude, stood_before, first_unfit, first_repeat};
 
 use arrayvec::ArrayVec;

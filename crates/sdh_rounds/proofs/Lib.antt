@@ -9,3 +9,6 @@ pub mod Receives
 pub mod Sends
 pub mod Rings
 pub mod Settling
+pub mod Breaking
+pub mod Observing
+pub mod Stepping

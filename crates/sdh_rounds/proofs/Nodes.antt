@@ -1,5 +1,5 @@
 -- Nodes of a list one by one, and what is left on a refusal.
-use Rattle.std.proofs.Common.{◌≡◌, ℕ, zero, suc, ◌<◌, List, [], ◌∷◌, length, set, get_or, ap, ◌∙◌, arith}
+use Rattle.std.proofs.Common.{◌≡◌, ℕ, zero, suc, ◌<◌, List, [], ◌∷◌, length, set, get_or, refl, ap, ◌∙◌, arith}
 use Rattle.std.specs.Prelude.{Result, Ok, Err, OnErr}
 use Rattle.sdh_rounds.specs.Held.{at_place}
 
@@ -17,3 +17,9 @@ placed change (suc i) (n ∷ ns) x h read = ap (λ zs. n ∷ zs) (placed change 
 pub placed_at : {N : Type 0} (change : N → N) (i : ℕ) (ns : List N) (x y : N) → i < length ns → x ≡ get_or ns i x → y ≡ change x
     → set ns i y ≡ at_place i change ns
 placed_at change i ns x y h read is = ap (set ns i) is ∙ placed change i ns x h read
+
+-- a change of one leaves their number
+pub count_placed : {N : Type 0} (change : N → N) (i : ℕ) (ns : List N) → length (at_place i change ns) ≡ length ns
+count_placed change i [] = refl
+count_placed change zero (n ∷ ns) = refl
+count_placed change (suc i) (n ∷ ns) = ap suc (count_placed change i ns)

@@ -1,6 +1,7 @@
 -- What the calls of a round leave of a ring and its fibres.
-use Rattle.std.proofs.Common.{◌≡◌, ℕ, ◌+◌, ◌*◌, ◌≤◌, false, List, [], ◌∷◌, ◌++◌, length, map, take, drop, refl, ap, sym, subst}
+use Rattle.std.proofs.Common.{◌≡◌, ℕ, zero, suc, ◌+◌, ◌*◌, ◌≤◌, false, List, [], ◌∷◌, ◌++◌, length, map, take, drop, refl, ap, sym, subst}
 use Rattle.std.proofs.Common.{◌∙◌, arith}
+use Rattle.std.specs.Prelude.{All}
 use Rattle.std.proofs.lemmas.List.{map-append, take-append-drop}
 use Rattle.sdh_terms.specs.declared.Rate.{Rate}
 use Rattle.sdh_ringmap.specs.declared.Side.{Side}
@@ -127,3 +128,15 @@ module _ {N : Type 0} (st : Station N) where
         ∙ ap (λ ys. ys ++ map f (drop k ns)) (all_keep (take k ns))
         ∙ sym (map-append f (take k ns) (drop k ns))
         ∙ ap (map f) (take-append-drop k ns)
+
+  -- what arrivals leave true of a node, all have that received
+  module _ (P : N → Type 0) (told_stays : (d : Side) (a : Arrival) (n : N) → P n → P (st.told d a n)) where
+    pub all_heard : (xs : List Arrival) (ns : List N) → All P ns → All P (all_with_arrivals st xs ns)
+    unfolding with_arrivals
+    all_heard [] ns all i d lt = all i d lt
+    all_heard (west ∷ []) ns all i d lt = all i d lt
+    all_heard (west ∷ east ∷ later) [] all i d lt = all i d lt
+    all_heard (west ∷ east ∷ later) (n ∷ ns) all zero d lt =
+        told_stays East east (st.told West west n) (told_stays West west n (all 0 d (omega arith)))
+    all_heard (west ∷ east ∷ later) (n ∷ ns) all (suc i) d lt =
+        all_heard later ns (λ j e low. all (suc j) e (omega arith)) i d (omega arith)

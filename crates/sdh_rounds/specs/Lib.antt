@@ -4,5 +4,7 @@ pub mod Rounds
 pub mod Runs
 pub mod Quiet
 pub mod Calls
-pub mod Outcome
+pub mod Faults
+pub mod Observed
 pub mod Laws
+pub mod Outcome

@@ -7,13 +7,15 @@ ghost use Rattle.sdh_rounds.specs.Laws.{KnownSteps, StepsAreComputed};
 
 mod faults;
 mod receiving;
+mod ring;
 mod sending;
 mod station;
+mod steps;
 
 pub use faults::{PlantFault, SettleError};
-pub use receiving::hear;
-pub use sending::send_all;
-pub use station::{Station, all_calm};
+pub use ring::StationRing;
+pub use station::Station;
+pub use steps::{Nobody, Observer, RunsRounds, settle};
 
 /// Where arrivals are known a round is determined.
 pub fn known_rounds_are<S: Station>()

@@ -1,19 +1,25 @@
 //! What a round asks of a node.
-ghost use Rattle.std.specs.Prelude.{◌≡◌, ◌≢◌, ℕ, None};
+ghost use Rattle.std.specs.Prelude.{◌≡◌, ◌≢◌, ℕ, ◌/◌, ◌<◌, None, IfOk, length};
 ghost use Rattle.sdh_terms.specs.declared.Rate.{Rate};
+ghost use Rattle.sdh_terms.specs.Rates.{n_of};
+ghost use Rattle.sdh_circuits.specs.Kept.{KeepsRing};
+ghost use Rattle.sdh_ringmap.specs.declared.Side.{Side};
 ghost use Rattle.sdh_ringmap.specs.declared.Side.TheVariants.{West, East};
+ghost use Rattle.sdh_plant.specs.Fibres.{Arrival};
 ghost use Rattle.sdh_plant.specs.Arrivals.{arrived_in};
 ghost use Rattle.sdh_rounds.specs.Stations.{Station as Kind};
 ghost use Rattle.sdh_rounds.specs.Quiet.{is_calm};
 
+use sdh_circuits::CircuitMap;
 use sdh_frame::FrameBuf;
 use sdh_overhead::Landed;
 use sdh_plant::Arrived;
-use sdh_request::Moment;
-use sdh_ringmap::Side;
+use sdh_request::{Moment, Settings};
+use sdh_ringmap::{Pos, RingMap, Side};
+use std::alloc::{AllocError, Global};
 
 /// A node that runs in rounds: it takes in what arrived on both its sides, and then sends a frame on each.
-pub trait Station {
+pub trait Station: Drop {
     /// What it does, as definitions tell it.
     ghost kind: { Kind Self };
 
@@ -22,6 +28,19 @@ pub trait Station {
 
     /// It may run a round at a moment.
     ghost MayRun: { ℕ → Self → Type 0 };
+
+    /// A new node at a position of a ring with these circuits. All its memory is taken here.
+    fn try_new(
+        alloc: Global,
+        settings: Settings,
+        map: &RingMap,
+        circuits: &CircuitMap,
+        at: Pos,
+    ) -> Result<Self, AllocError>
+        requires at { at.0 < length map.now }
+        requires slots { circuits.now.slots ≡ n_of settings.rate / 2 }
+        requires kept { KeepsRing circuits.now map.now }
+        ensures { IfOk result (λ node. node ≡ kind.new settings map.now circuits.now.circuits at) };
 
     /// Keeps what arrived on a side for its next round, in place of what arrived there since the last one. What landed is taken in
     /// exchange for another buffer of the same rate, in which nothing has landed.
@@ -47,6 +66,11 @@ pub trait Station {
     /// Whether its last round was calm: nothing that is compared changed.
     fn calm(&self) -> bool
         ensures { result ≡ kind.calm self.now };
+
+    /// What arrives changes neither its rate nor whether it may run.
+    ghost told_rate: { (side : Side) (a : Arrival) (n : Self) → rate (kind.told side a n) ≡ rate n };
+
+    ghost told_may: { (now : ℕ) (side : Side) (a : Arrival) (n : Self) → MayRun now n → MayRun now (kind.told side a n) };
 }
 
 /// Whether the last round was calm at each of these nodes.

@@ -25,7 +25,7 @@ use Rattle.sdh_routes.proofs.Marks.{IsFirst, IsLast, first-is, last-is, last-pla
 use Rattle.sdh_ringmap.proofs.Clear.{none_of-at, none_of-met}
 use Rattle.sdh_routes.proofs.OnArcs.{near_at, near_end, on-arc, seen-on}
 use Rattle.sdh_routes.proofs.Passing.{away-leaves, blocked-leaves, bridged-leaves, carries-by, idle-leaves, is_open, isolated-leaves}
-use Rattle.sdh_routes.proofs.Passing.{isolated-stands, leaves-own_or_none, leaves-unused, settled-open, switched-stands, unused-carries}
+use Rattle.sdh_routes.proofs.Passing.{isolated-stands, leaves-own_or_none, leaves-unused, passed-leaves, settled-open, switched-stands, unused-carries}
 use Rattle.sdh_routes.proofs.Seen.{Seen}
 use Rattle.sdh_routes.proofs.Segments.{along, bridge, chain_passes, home, leads-on, over_free, own, past, sending, taking, through}
 use Rattle.sdh_routes.proofs.Sights.{found-gives}
@@ -293,7 +293,7 @@ module _ (n : ℕ) (r : Resting n) (cs : List Provisioned) (ring : AreOnRing n c
         abbrev place : Stand
         place = taking n r cs some d p c.slot.0 (going n d p x)
 
-        clear_end : none_of struck 0 x ≡ true → Ends n r.state cs c.slot.0 (3 * n) place
+        clear_end : none_of struck 0 x ≡ true → Ends n r.state cs c.slot.0 (3 * n - 1) place
         clear_end t =
             let free : (j : ℕ) → j < x → struck j ≡ false = λ j h. none_of-at struck 0 x t j (omega arith) (omega arith) in
             let before : suc (x - 1) ≡ x = omega arith in
@@ -308,7 +308,7 @@ module _ (n : ℕ) (r : Resting n) (cs : List Provisioned) (ring : AreOnRing n c
             (over_free n r cs some d p c.slot.0 (x - 1) (x - 1) z over way_home) in
             record { spans = x; last = z; within = omega arith; over = tt; leads = all }
 
-        struck_end : none_of struck 0 x ≡ false → Ends n r.state cs c.slot.0 (3 * n) place
+        struck_end : none_of struck 0 x ≡ false → Ends n r.state cs c.slot.0 (3 * n - 1) place
         struck_end t =
             let l = last-place struck x t in
             let i = last_place struck x in
@@ -328,32 +328,32 @@ module _ (n : ℕ) (r : Resting n) (cs : List Provisioned) (ring : AreOnRing n c
                   (taking n r cs some d p c.slot.0 (going n d p k)) e.last) here all;
             }
 
-        pub inner_end : Ends n r.state cs c.slot.0 (3 * n) place
+        pub inner_end : Ends n r.state cs c.slot.0 (3 * n - 1) place
         inner_end = elim (cases_Bool (none_of struck 0 x)) [ inl t ↦ clear_end t | inr t ↦ struck_end t ]
 
-      first_end : Ends n r.state cs c.slot.0 (3 * n) (sending n r cs some d p c.slot.0 (going n d p 0))
+      first_end : Ends n r.state cs c.slot.0 (3 * n - 1) (sending n r cs some d p c.slot.0 (going n d p 0))
       first_end =
           let q = going n d p 0 in
           elim (leaves-own_or_none n cs q (r.state q) index c near d c.slot.0 (seen.on_arc 0 seen.long) seen.starts) [
-            | inl none ↦ ends_at c.slot.0 (3 * n) (sending n r cs some d p c.slot.0 q) (stand q Ais) (ap (stand q) none) tt
-            | inr own ↦ ends_at c.slot.0 (3 * n) (sending n r cs some d p c.slot.0 q) (stand q (port index near)) (ap (stand q) own) tt
+            | inl none ↦ ends_at c.slot.0 (3 * n - 1) (sending n r cs some d p c.slot.0 q) (stand q Ais) (ap (stand q) none) tt
+            | inr own ↦ ends_at c.slot.0 (3 * n - 1) (sending n r cs some d p c.slot.0 q) (stand q (port index near)) (ap (stand q) own) tt
           ]
 
-      pub sending_at : (x : ℕ) → x < (arc_length n c) → Ends n r.state cs c.slot.0 (3 * n)
+      pub sending_at : (x : ℕ) → x < (arc_length n c) → Ends n r.state cs c.slot.0 (3 * n - 1)
           (sending n r cs some d p c.slot.0 (going n d p x))
       sending_at x h = elim (cases_eq 0 x) [
-        | inl start ↦ moved c.slot.0 (3 * n) (sending n r cs some d p c.slot.0 (going n d p x))
+        | inl start ↦ moved c.slot.0 (3 * n - 1) (sending n r cs some d p c.slot.0 (going n d p x))
             (sending n r cs some d p c.slot.0 (going n d p 0))
             (ap (λ i. sending n r cs some d p c.slot.0 (going n d p i)) (sym start)) first_end
-        | inr inner ↦ moved c.slot.0 (3 * n) (sending n r cs some d p c.slot.0 (going n d p x))
+        | inr inner ↦ moved c.slot.0 (3 * n - 1) (sending n r cs some d p c.slot.0 (going n d p x))
             (taking n r cs some d p c.slot.0 (going n d p x)) (through n r cs some d p index c near distant seen x (omega arith) h)
             (inner_end x (omega arith) h)
       ]
 
     module _ (d : Side) (p q m : ℕ) (inside : q < n) where
-      sending_by : (o : Option Row) → circuit_from n (span_at n q d) m 0 cs ≡ o → Ends n r.state cs m (3 * n) (sending n r cs some d p m q)
+      sending_by : (o : Option Row) → circuit_from n (span_at n q d) m 0 cs ≡ o → Ends n r.state cs m (3 * n - 1) (sending n r cs some d p m q)
       sending_by None e =
-          ends_at m (3 * n) (sending n r cs some d p m q) (stand q Ais) (ap (stand q) (leaves-unused n cs q (r.state q) d m e)) tt
+          ends_at m (3 * n - 1) (sending n r cs some d p m q) (stand q Ais) (ap (stand q) (leaves-unused n cs q (r.state q) d m e)) tt
       sending_by (Some e) h =
           let found = found-gives n (span_at n q d) m 0 cs e h in
           let both = and_parts (found.circuit.slot.0 == m) (holds n found.circuit (span_at n q d)) found.on in
@@ -361,12 +361,12 @@ module _ (n : ℕ) (r : Resting n) (cs : List Provisioned) (ring : AreOnRing n c
           let at = on-arc n cs ring some c d q (ring.inside found.place c found.is).0 inside both.1 in
           let b = near_at n c d in
           let slot : m ≡ c.slot.0 = sym (eqb-true c.slot.0 m both.0) in
-          subst (λ k. Ends n r.state cs k (3 * n) (sending n r cs some d p m q)) (sym slot)
-          (moved c.slot.0 (3 * n) (sending n r cs some d p m q) (sending n r cs some d b c.slot.0 (going n d b at.step))
+          subst (λ k. Ends n r.state cs k (3 * n - 1) (sending n r cs some d p m q)) (sym slot)
+          (moved c.slot.0 (3 * n - 1) (sending n r cs some d p m q) (sending n r cs some d b c.slot.0 (going n d b at.step))
           (ap (λ k. sending n r cs some d p k q) slot ∙ ap (sending n r cs some d p c.slot.0) at.there)
           (sending_at d b found.place c (near_end d) (other_end (near_end d)) (seen-on n cs ring found.place c found.is d) at.step at.few))
 
-      pub sending_end : Ends n r.state cs m (3 * n) (sending n r cs some d p m q)
+      pub sending_end : Ends n r.state cs m (3 * n - 1) (sending n r cs some d p m q)
       sending_end = sending_by (circuit_from n (span_at n q d) m 0 cs) refl
 
     -- a working slot
@@ -375,8 +375,20 @@ module _ (n : ℕ) (r : Resting n) (cs : List Provisioned) (ring : AreOnRing n c
         let q = neighbour n p d in
         let inside = neighbour_below n p d some in
         let one : Leads n r.state cs m 1 (stand p (Working d)) (sending n r cs some (opposite d) p m q) = (tt, refl) in
-        wider m (1 + 3 * n) (3 * n + 1) (stand p (Working d)) (omega arith)
-        (ends_from m (3 * n) 1 (stand p (Working d)) (sending n r cs some (opposite d) p m q) one (sending_end (opposite d) p q m inside))
+        wider m (1 + (3 * n - 1)) (3 * n + 1) (stand p (Working d)) (omega arith)
+        (ends_from m (3 * n - 1) 1 (stand p (Working d)) (sending n r cs some (opposite d) p m q) one (sending_end (opposite d) p q m inside))
+
+    -- what a node sends on protection, towards the side behind
+    module _ (d : Side) (p q m : ℕ) (inside : q < n) where
+      bridge_by : (b : Bool) → is_pass (r.state q) ≡ b → Ends n r.state cs m (3 * n - 1) (bridge n r cs some d p m q)
+      bridge_by false e = wider m n (3 * n - 1) (bridge n r cs some d p m q) (omega arith) (stop_end d p q m inside e)
+      bridge_by true e =
+          moved m (3 * n - 1) (bridge n r cs some d p m q) (stand q (Protection d))
+          (ap (stand q) (ap (λ st. protection_in n cs q st (opposite d) m) (pass_is (r.state q) e) ∙ passed-leaves n cs q d m))
+          (wider m (2 * n) (3 * n - 1) (stand q (Protection d)) (omega arith) (protection_end d q m inside))
+
+      pub bridging_end : Ends n r.state cs m (3 * n - 1) (bridge n r cs some d p m q)
+      bridging_end = bridge_by (is_pass (r.state q)) refl
 
     -- whatever is followed from a node of the ring, the walk ends
     pub no-loop : (m p : ℕ) (o : Origin) → p < n → Ends n r.state cs m (3 * n + 1) (stand p o)

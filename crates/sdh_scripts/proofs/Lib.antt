@@ -1,3 +1,5 @@
+pub mod Stages
+pub mod Promises
 pub mod Frames
 pub mod Known
 pub mod Reporting

@@ -1,3 +1,6 @@
+pub mod Programs
+pub mod Outcome
+pub mod Headline
 pub mod Walks
 pub mod Scripts
 pub mod Ports

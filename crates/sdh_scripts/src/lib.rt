@@ -1,16 +1,25 @@
-//! Scripts over rings of any kind: `specs/Walks.antt` says what a kind of ring brings to a script, `specs/Scripts.antt` what comes
-//! of one, and `specs/Laws.antt` has the law. What runs a script is the trait `Runner`, and `run_script` runs it. `start` runs one
-//! over new fibres; what is told of a plan then is `Tells` in `specs/Plans.antt`.
+//! Scripts over rings of any kind, and the call of a program that runs them. `specs/Walks.antt` says what a kind of ring
+//! brings to a script, `specs/Scripts.antt` what comes of one, and `specs/Laws.antt` has the law. What runs a script is
+//! the trait `Runner`, and `run_script` runs it. `start` runs one over new fibres; what is told of a plan then is `Tells`
+//! in `specs/Plans.antt`.
+//!
+//! What the words of a program ask for, and what it tells of a plan, is a `RunsPlans`; what its call comes to is
+//! `IsOutcome` in `specs/Outcome.antt`, and what it promises then is in `specs/Headline.antt`.
 #![tactic(auto)]
 
 ghost use Rattle.sdh_scripts.specs.Laws.{KeepsRounds, KnownScripts};
 
+mod calling;
 mod lines;
+mod program;
+mod report;
 mod run;
 mod runner;
 mod script;
 
+pub use calling::call;
 pub use lines::{lines_room, put_settle};
+pub use program::RunsPlans;
 pub use run::{NewRun, Run, start, text_for};
 pub use runner::Runner;
 pub use script::run_script;

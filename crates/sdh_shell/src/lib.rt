@@ -2,7 +2,7 @@
 //! read or refused, calls that failed and are counted, and a text that is written once.
 //!
 //! How a plan is refused is `HasNoPlan` in `specs/Reading.antt`, how a script that was run may end is `HasRun` in
-//! `specs/Running.antt`, which failures a status tells is `CameTo` in `specs/Failing.antt`, and what is written with which
+//! `specs/Calls.antt`, which failures a status tells is `CameTo` in `specs/Failing.antt`, and what is written with which
 //! ending is `WritesAs` in `specs/Writing.antt`.
 #![tactic(auto)]
 

@@ -3,7 +3,7 @@
 //! that a still ring is in the settled states.
 #![tactic(auto)]
 
-ghost use Rattle.std.specs.Prelude.{◌≡◌, ◌≢◌, ◌↔◌, ℕ, ◌+◌, ◌≤◌, ◌<◌, ◌-◌, ◌^◌, min, nat_lt, if◌then◌else◌, [], length, All, IfOk, IsTrue};
+ghost use Rattle.std.specs.Prelude.{◌≡◌, ◌↔◌, ◌+◌, ◌≤◌, ◌<◌, ◌-◌, ◌^◌, min, nat_lt, if◌then◌else◌, [], length, All, IfOk, IsTrue};
 ghost use Rattle.std.specs.Prelude.{Some, slice_get};
 ghost use Rattle.sdh_basics.specs.Cells.{cells};
 ghost use Rattle.sdh_nodestate.specs.Conditions.{MayNeed};

@@ -9,8 +9,8 @@ pub mod Ways
 pub mod Owed
 pub mod Converging
 pub mod Keeping
-pub mod Rings
 pub mod Turning
 pub mod Using
 pub mod Wholes
 pub mod Sharing
+pub mod Rings

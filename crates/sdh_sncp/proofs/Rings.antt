@@ -1,25 +1,41 @@
 -- What is true of a path ring, call by call.
-use Rattle.std.proofs.Common.{◌≡◌, ℕ, ◌+◌, ◌/◌, ◌<◌, Bool, true, false, List, length, map, ap, sym, subst, ◌∙◌, arith}
-use Rattle.std.specs.Prelude.{All, ◌^◌}
-use Rattle.sdh_terms.specs.declared.Rate.{Rate}
-use Rattle.sdh_circuits.specs.Provisioning.{AreCircuits}
-use Rattle.sdh_plant.specs.Fibres.{Fibres, IsPrepared}
-use Rattle.sdh_rounds.specs.Calls.{FirstReceive, SomeReceive, SendsSome}
+use Rattle.std.proofs.Common.{◌≡◌, ℕ, ◌+◌, ◌/◌, ◌<◌, Bool, true, false, List, length, map, ap, refl, sym, subst, ◌∙◌, arith}
+use Rattle.std.specs.Prelude.{All, ◌^◌, Result, Ok, Err, slice_get}
+use Rattle.std.proofs.lemmas.Option.{get_or_from_slice_get, slice_get_within}
+use Rattle.sdh_terms.specs.Rates.{n_of}
+use Rattle.sdh_ringmap.specs.Ids.{AreIds}
+use Rattle.sdh_ringmap.specs.Places.{position_of}
+use Rattle.sdh_circuits.specs.declared.PortId.{PortId}
+use Rattle.sdh_circuits.specs.Provisioned.{end_of}
+use Rattle.sdh_circuits.specs.Provisioning.{Provisioning, IsProvisioning, AreCircuits}
+use Rattle.sdh_circuits.specs.Kept.{KeepsRing}
+use Rattle.sdh_request.specs.declared.settings.Settings.{Settings}
+use Rattle.sdh_terminal.specs.Tributaries.{HasPort, outlet_of}
+use Rattle.sdh_rounds.specs.Held as held
+use Rattle.sdh_rounds.specs.Held.{IsNodeOf}
+use Rattle.sdh_rounds.specs.Rounds as any_round
+use Rattle.sdh_rounds.specs.Faults.{BreaksRound, had_round}
+use Rattle.sdh_rounds.specs.Calls.{told_some}
+use Rattle.sdh_rounds.specs.Outcome.{Outcome, IsOneRound}
+use Rattle.sdh_rounds.specs.declared.faults.PlantFault.{PlantFault as Fault}
+use Rattle.sdh_rounds.specs.declared.faults.SettleError.{SettleError}
+use Rattle.sdh_rounds.specs.declared.faults.SettleError.TheVariants.{Unsettled, PlantFault}
 use Rattle.sdh_rounds.proofs.Rings.{heard_keep, some_keep, all_keep, first_keep}
-use Rattle.sdh_sncp.specs.Node.{PathNode}
+use Rattle.sdh_sncp.specs.Node.{PathNode, new_node}
 use Rattle.sdh_sncp.specs.Stations.{path_node, MayRun}
-use Rattle.sdh_sncp.specs.Ring.{HeldPath, node_after}
-use Rattle.sdh_sncp.specs.Fixed.{fixed, HaveRun, IsRing}
-use Rattle.sdh_sncp.specs.Laws.{HasCircuits}
-use Rattle.sdh_circuits.proofs.Rings.{circuits_are}
-use Rattle.sdh_sncp.proofs.Keeping.{fixed_told, fixed_next, all_rates, length-fixed, all_run_heard, all_run_next}
+use Rattle.sdh_sncp.specs.Ring.{HeldPath, new_nodes, new_ring, World, IsRound, nodes_with, outlet_at}
+use Rattle.sdh_sncp.specs.Fixed.{fixed, AreAlone, HaveRun, IsRing}
+use Rattle.sdh_sncp.specs.Laws.{HasCircuits, KeepsPromises}
+use Rattle.sdh_circuits.proofs.Rings.{circuits_are, end_inside}
+use Rattle.sdh_terminal.proofs.Found.{has_own}
+use Rattle.sdh_sncp.proofs.Keeping.{fixed_told, fixed_next, all_rates, all_run_heard, all_run_next, node_is, has_fixed, new_has}
+use Rattle.sdh_sncp.proofs.Keeping.{all_new, outlet_is}
+use Rattle.sdh_sncp.proofs.Converging.{steps_answer, steps_deliver}
+use Rattle.sdh_sncp.proofs.Wholes.{whole_settled, whole_unsettled}
 
 -- ---- a ring and its nodes
 
-pub count_of : (r : HeldPath) → IsRing r → length r.nodes ≡ length r.ids
-count_of r h = length-fixed r.settings r.ids r.circuits.circuits (length r.ids) r.nodes h.nodes
-
-pub ring_with : (r : HeldPath) (ns : List PathNode) (rounds : ℕ) (broken : Bool) → IsRing r → map fixed ns ≡ map fixed r.nodes
+ring_with : (r : HeldPath) (ns : List PathNode) (rounds : ℕ) (broken : Bool) → IsRing r → map fixed ns ≡ map fixed r.nodes
     → (broken ≡ false → HaveRun rounds ns)
     → IsRing (record r { nodes = ns; rounds = rounds; broken = broken })
 ring_with r ns rounds broken h same going = record {
@@ -32,43 +48,57 @@ ring_with r ns rounds broken h same going = record {
   going = going;
 }
 
-pub true_is_not_false : {P : Type 0} → true ≡ false → P
+true_is_not_false : {P : Type 0} → true ≡ false → P
 true_is_not_false e = cc
 
-pub may_receive : (r : HeldPath) (ns : List PathNode) → IsRing r → map fixed ns ≡ map fixed r.nodes
-    → All (λ (n : PathNode). n.west.section.rate ≡ r.settings.rate) ns
-may_receive r ns h same = all_rates r.settings r.ids r.circuits.circuits (length r.ids) ns (same ∙ h.nodes)
+pub may_receive : (r : HeldPath) → IsRing r → All (λ (n : PathNode). n.west.section.rate ≡ r.settings.rate) r.nodes
+may_receive r h = all_rates r.settings r.ids r.circuits.circuits (length r.ids) r.nodes h.nodes
 
-pub may_send : (rounds : ℕ) (ns : List PathNode) → HaveRun rounds ns → rounds < 2 ^ 32 → All (MayRun 0) ns
-may_send rounds ns on few = λ p d lt. (let e = on p d lt in omega arith)
+pub may_send : (r : HeldPath) → IsRing r → r.broken ≡ false → r.rounds < 2 ^ 32 → All (MayRun r.moment) r.nodes
+may_send r h whole few = λ p d lt. (let e = h.going whole p d lt in omega arith)
 
-pub on_hears : (k : ℕ) (f g : Fibres) (old new : List PathNode) (rounds : ℕ) → FirstReceive path_node k f g old new → HaveRun rounds old
-    → HaveRun rounds new
-on_hears k f g old new rounds h on = subst (HaveRun rounds) (sym h.nodes) (all_run_heard h.arrivals rounds old on)
+-- ---- a new ring
 
-pub on_sends : (rounds : ℕ) (old new : List PathNode) → new ≡ map node_after old → HaveRun rounds old → HaveRun (rounds + 1) new
-on_sends rounds old new is on = subst (HaveRun (rounds + 1)) (sym is) (all_run_next rounds old on)
+-- is that of any kind
+pub fresh_is : (s : Settings) (ids : List ℕ) (circuits : Provisioning) → held.new_ring path_node s ids circuits ≡ new_ring s ids circuits
+unfolding new_nodes
+fresh_is s ids circuits = refl
 
--- ---- what no call of a round changes of the nodes
+pub new_is_ring : (s : Settings) (ids : List ℕ) (circuits : Provisioning) → AreIds ids → IsProvisioning circuits
+    → circuits.slots ≡ n_of s.rate / 2 → KeepsRing circuits ids → AreAlone circuits.circuits → IsRing (new_ring s ids circuits)
+new_is_ring s ids circuits are form slots kept alone = record {
+  ids = are;
+  circuits = form;
+  slots = slots;
+  kept = kept;
+  alone = alone;
+  nodes = refl;
+  going = λ _. all_new s ids circuits.circuits (length ids);
+}
 
-pub heard_fixed : (k : ℕ) (f g : Fibres) (old new : List PathNode) → FirstReceive path_node k f g old new → map fixed new ≡ map fixed old
-heard_fixed k f g old new h = ap (map fixed) h.nodes ∙ heard_keep path_node fixed fixed_told h.arrivals old
+-- ---- a round
 
-pub some_fixed : (k : ℕ) (f g : Fibres) (old new : List PathNode) → SomeReceive path_node k f g old new → map fixed new ≡ map fixed old
-some_fixed k f g old new h = ap (map fixed) h.nodes ∙ some_keep path_node fixed fixed_told h.arrivals old
+ring_ran : (w after : World) → IsRing w.ring → w.ring.broken ≡ false → IsRound w after → IsRing after.ring
+unfolding any_round.round_with
+ring_ran w after h whole is =
+    let heard = nodes_with is.arrivals w in
+    subst (λ (x : World). IsRing x.ring) (sym is.after_is)
+    (ring_with w.ring (map (path_node.after w.ring.moment) heard) (w.ring.rounds + 1) w.ring.broken h
+    (all_keep path_node fixed w.ring.moment fixed_next heard ∙ heard_keep path_node fixed fixed_told is.arrivals w.ring.nodes)
+    (λ _. all_run_next w.ring.rounds heard (all_run_heard is.arrivals w.ring.rounds w.ring.nodes (h.going whole))))
 
-pub sent_fixed : (old new : List PathNode) → new ≡ map node_after old → map fixed new ≡ map fixed old
-sent_fixed old new is = ap (map fixed) is ∙ all_keep path_node fixed 0 fixed_next old
+ring_broke : (w left : World) → IsRing w.ring → BreaksRound path_node w left → IsRing left.ring
+ring_broke w left h b =
+    subst IsRing (sym b.ring) (ring_with w.ring left.ring.nodes w.ring.rounds true h
+    (ap (map fixed) b.nodes
+    ∙ first_keep path_node fixed w.ring.moment fixed_next (had_round b.off) (told_some path_node b.told w.ring.nodes)
+    ∙ some_keep path_node fixed fixed_told b.told w.ring.nodes) (λ e. true_is_not_false e))
 
-pub off_fixed : (old new : List PathNode) (f g : Fibres) → SendsSome path_node 0 old new f g → map fixed new ≡ map fixed old
-off_fixed old new f g h = ap (map fixed) h.nodes ∙ first_keep path_node fixed 0 fixed_next (h.out / 2 + 1) old
-
--- ---- the fibres of a ring
-
-pub prepared_nodes : (r : HeldPath) (rate : Rate) (ns : List PathNode) (f : Fibres) → IsRing r → rate ≡ r.settings.rate
-    → length ns ≡ length r.nodes → IsPrepared r.settings.rate (length r.ids) f → IsPrepared rate (length ns) f
-prepared_nodes r rate ns f h same size p =
-    subst (λ x. IsPrepared x (length ns) f) (sym same) (subst (λ n. IsPrepared r.settings.rate n f) (sym (size ∙ count_of r h)) p)
+-- whatever it answered
+pub ring_after : (exact : Bool) (w left : World) (before after : ℕ) (result : Result (Unit {0}) Fault) → IsRing w.ring
+    → w.ring.broken ≡ false → IsOneRound path_node exact w result left before after → IsRing left.ring
+ring_after exact w left before after (Ok u) h whole one = ring_ran w left h whole one.ok
+ring_after exact w left before after (Err e) h whole one = ring_broke w left h one.breaks
 
 -- ---- its circuits
 
@@ -77,4 +107,43 @@ rings_circuits r is = record {
   are = subst (λ s. AreCircuits (length r.ids) s r.circuits.circuits) is.slots
       (circuits_are r.circuits r.ids is.circuits is.kept);
   alone = is.alone;
+}
+
+-- ---- the node of a port
+
+pub has_port : (r : HeldPath) (id : PortId) (n : PathNode) → IsRing r → IsNodeOf r id n → HasPort n.ports id
+has_port r id n h node =
+    let cs = r.circuits.circuits in
+    let c = node.place.circuit in
+    let p = (end_of c id.end).0 in
+    let below : id.circuit < length cs = slice_get_within cs id.circuit c node.place.circuit_is in
+    let read = get_or_from_slice_get cs id.circuit c c node.place.circuit_is in
+    let low : p < length r.ids = end_inside r.circuits r.ids id.circuit c id.end h.circuits h.kept below read in
+    let there = get_or_from_slice_get r.nodes p n n (ap (slice_get r.nodes) (sym node.place.place) ∙ node.there) in
+    subst (λ (m : PathNode). HasPort m.ports id) there
+    (has_fixed id _ (new_node r.settings r.ids cs (position_of p))
+    (node_is r.settings r.ids cs (length r.ids) r.nodes p n h.nodes low) (new_has r.settings r.ids cs p id (has_own cs c id below read)))
+
+pub outlet_there : (r : HeldPath) (id : PortId) (n : PathNode) → IsNodeOf r id n → outlet_at r id ≡ outlet_of id n.ports
+outlet_there r id n node =
+    outlet_is r id node.place.circuit n node.place.circuit_is (ap (slice_get r.nodes) (sym node.place.place) ∙ node.there)
+
+-- ---- a settle step
+
+pub promises_kept : (w left : World) (limit : ℕ) (result : Result (Unit {0}) SettleError) → HasCircuits w.ring
+    → Outcome path_node w limit result left → KeepsPromises w limit result left
+promises_kept w left limit (Ok u) fit s = record {
+  owed = λ whole. steps_deliver w left limit fit s whole;
+  whole = λ _ whole. whole_settled w left limit s whole;
+  answers = λ whole large e. cc;
+}
+promises_kept w left limit (Err Unsettled) fit s = record {
+  owed = tt;
+  whole = λ _ whole. whole_unsettled w left limit s whole;
+  answers = λ whole large _. steps_answer w left limit fit whole large s;
+}
+promises_kept w left limit (Err PlantFault) fit s = record {
+  owed = tt;
+  whole = λ no whole. absurd (no refl);
+  answers = λ whole large e. cc;
 }

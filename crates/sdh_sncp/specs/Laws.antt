@@ -1,6 +1,6 @@
 -- A path ring and its fibres that are paired, and the laws of such rings.
 use Rattle.std.specs.Prelude.{ℕ, ◌≡◌, ◌<◌, ◌≤◌, ◌+◌, ◌-◌, ◌*◌, ◌/◌, Bool, true, Some, None, List, length, map, All, slice_get}
-use Rattle.std.specs.Prelude.{slice_index_or, not}
+use Rattle.std.specs.Prelude.{slice_index_or, not, ◌≢◌, Result, Err, OnOk}
 use Rattle.std.specs.Option.{is_some}
 use Rattle.sdh_pointer.specs.declared.reading.Action.TheVariants as action
 use Rattle.sdh_pointer.specs.Reading.{start, is_norm}
@@ -25,6 +25,8 @@ use Rattle.sdh_request.specs.declared.settings.Settings.{Settings}
 use Rattle.sdh_terminal.specs.Receiving.{Inlet, IsInlet, taken_in, after_taking}
 use Rattle.sdh_terminal.specs.Tributaries.{Tributary, tributaries_at}
 use Rattle.sdh_rounds.specs.Quiet.{enough_for}
+use Rattle.sdh_rounds.specs.declared.faults.SettleError.{SettleError}
+use Rattle.sdh_rounds.specs.declared.faults.SettleError.TheVariants.{Unsettled, PlantFault}
 use Rattle.sdh_spans.specs.Frames.{AreCarried}
 use Rattle.sdh_spans.specs.Sides.{IsInletAt, IsSenderAt}
 use Rattle.sdh_sncp.specs.Slots.{uses_at}
@@ -137,6 +139,13 @@ RoundsGetCalm =
 abbrev pub StepsAnswer : Type 0
 StepsAnswer =
     (w left : World) (limit : ℕ) → HasCircuits w.ring → IsWhole w → enough_for (length w.ring.ids) ≤ limit → Unsettles w limit left → ⊥
+
+-- what every settle step keeps: where one ended all ports have delivered what they are due, by the fibres' conditions alone, and no
+-- step with a large limit is unsettled
+pub record KeepsPromises (w : World) (limit : ℕ) (result : Result (Unit {0}) SettleError) (left : World) : Type 0 where
+  pub owed : OnOk result (IsWhole w → DeliversWhatIsDue left)
+  pub whole : result ≢ Err PlantFault → IsWhole w → IsWhole left
+  pub answers : IsWhole w → enough_for (length w.ring.ids) ≤ limit → result ≢ Err Unsettled
 
 -- ---- what a port takes
 

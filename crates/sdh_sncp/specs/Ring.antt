@@ -1,22 +1,17 @@
 -- A path ring over its fibres: what it holds, and its rounds, runs and windows, which are those of any ring.
-use Rattle.std.specs.Prelude.{ℕ, ◌<◌, Bool, false, List, [], length, slice_get, slice_index_or}
-use Rattle.std.specs.Option.{option_map_or}
-use Rattle.sdh_basics.specs.Cells.{cells}
-use Rattle.sdh_terms.specs.declared.Rate.TheVariants.{Four}
+use Rattle.std.specs.Prelude.{ℕ, Bool, List, length, slice_index_or}
 use Rattle.sdh_ringmap.specs.declared.Side.{Side}
-use Rattle.sdh_ringmap.specs.Places.{position_of}
 use Rattle.sdh_circuits.specs.declared.PortId.{PortId}
-use Rattle.sdh_circuits.specs.Provisioned.{Provisioned, end_of}
+use Rattle.sdh_circuits.specs.Provisioned.{Provisioned}
 use Rattle.sdh_circuits.specs.Provisioning.{Provisioning}
-use Rattle.sdh_payload.specs.Outlet.{Outlet, silent}
+use Rattle.sdh_payload.specs.Outlet.{Outlet}
 use Rattle.sdh_plant.specs.Fibres.{Arrival, Fibres}
 use Rattle.sdh_request.specs.declared.settings.Settings.{Settings}
-use Rattle.sdh_terminal.specs.Tributaries.{outlet_of}
 use Rattle.sdh_rounds.specs.Held as held
 use Rattle.sdh_rounds.specs.Rounds as rounds
 use Rattle.sdh_rounds.specs.Runs as runs
 use Rattle.sdh_rounds.specs.Quiet as quiet
-use Rattle.sdh_sncp.specs.Node.{PathNode, new_node, node_round}
+use Rattle.sdh_sncp.specs.Node.{PathNode, node_round}
 use Rattle.sdh_sncp.specs.Stations.{path_node}
 
 abbrev pub HeldPath : Type 0
@@ -24,29 +19,18 @@ HeldPath = held.HeldRing PathNode
 
 -- a ring in which no round has run: each node is new
 unfoldable pub new_nodes : Settings → List ℕ → List Provisioned → ℕ → List PathNode
-new_nodes settings ids circuits n = cells (λ p. new_node settings ids circuits (position_of p)) n
+new_nodes = held.new_nodes path_node
 
--- its moment stays 0: nothing here waits
 abbrev pub new_ring : Settings → List ℕ → Provisioning → HeldPath
-new_ring settings ids circuits = record {
-  settings = settings;
-  ids = ids;
-  circuits = circuits;
-  nodes = new_nodes settings ids circuits.circuits (length ids);
-  moment = 0;
-  rounds = 0;
-  broken = false;
-}
+new_ring settings ids circuits = held.ring_of settings ids circuits (new_nodes settings ids circuits.circuits (length ids))
 
 -- what a port of a circuit delivered in the last round, at the node where it is
 unfoldable pub outlet_at : HeldPath → PortId → Outlet
-outlet_at r port =
-    option_map_or (λ c. option_map_or (λ n. outlet_of port n.ports) (slice_get r.nodes (end_of c port.end).0) silent)
-    (slice_get r.circuits.circuits port.circuit) silent
+outlet_at = held.outlet_at path_node
 
 -- a node of no ring
 unfoldable pub nowhere : PathNode
-nowhere = new_node (record { rate = Four; threshold = 0; wait = 0 }) [] [] (position_of 0)
+nowhere = held.nowhere path_node
 
 -- the node at a position
 abbrev pub node_at : List PathNode → ℕ → PathNode
@@ -54,7 +38,7 @@ node_at ns p = slice_index_or ns p nowhere
 
 -- what holds of the node at position p of a ring, at each position
 abbrev pub AtEach : (ℕ → PathNode → Type 0) → List PathNode → Type 0
-AtEach P ns = (p : ℕ) → p < length ns → P p (node_at ns p)
+AtEach = held.AtEach nowhere
 
 -- ---- a ring and its fibres
 

@@ -2,21 +2,33 @@
 ghost use Rattle.sdh_ringmap.specs.declared.Side.TheVariants.{West, East};
 
 use crate::node::PathNode;
+use sdh_circuits::CircuitMap;
 use sdh_frame::FrameBuf;
 use sdh_overhead::Landed;
 use sdh_plant::Arrived;
-use sdh_request::Moment;
-use sdh_ringmap::Side;
+use sdh_request::{Moment, Settings};
+use sdh_ringmap::{Pos, RingMap, Side};
 use sdh_rounds::Station;
+use std::alloc::{AllocError, Global};
 
 impl Station for PathNode {
-    ghost use Rattle.sdh_sncp.specs.Stations.{path_node, MayRun as MayRunAt};
+    ghost use Rattle.sdh_sncp.specs.Stations.{path_node, MayRun as MayRunAt, told_rate as rate_stays, told_may as may_still};
 
     ghost kind = { path_node };
 
     ghost rate = { λ n. n.west.section.rate };
 
     ghost MayRun = { MayRunAt };
+
+    fn try_new(
+        alloc: Global,
+        settings: Settings,
+        map: &RingMap,
+        circuits: &CircuitMap,
+        at: Pos,
+    ) -> Result<PathNode, AllocError> {
+        PathNode::try_new(alloc, settings, map, circuits, at)
+    }
 
     fn exchange(&mut self, side: Side, arrived: Arrived, inbox: &mut Landed) {
         PathNode::exchange(self, side, arrived, inbox);
@@ -29,4 +41,8 @@ impl Station for PathNode {
     fn calm(&self) -> bool {
         PathNode::calm(self)
     }
+
+    ghost told_rate = { rate_stays };
+
+    ghost told_may = { may_still };
 }

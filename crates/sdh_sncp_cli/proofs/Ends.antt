@@ -8,7 +8,7 @@ use Rattle.sdh_scripts.proofs.Plans.{ends_of}
 use Rattle.sdh_shell.specs.Calls.{HasRun}
 use Rattle.sdh_shell.specs.Failing.{Counts, HaveFailed}
 use Rattle.sdh_shell.proofs.Ends.{has_run, has_cause}
-use Rattle.sdh_sncp_script.specs.Plans.{path_account}
+use Rattle.sdh_sncp_cli.specs.Plans.{path_account}
 use Rattle.sdh_sncp_cli.specs.Outcome.{OfPlan, HasCause, IsOwn}
 use Rattle.sdh_sncp_cli.specs.declared.ending.Ending.{Ending}
 use Rattle.sdh_sncp_cli.specs.declared.ending.Ending.TheVariants as ending

@@ -1,3 +1,9 @@
+pub mod Conditions
+pub mod Fits
+pub mod Standing
+pub mod Due
+pub mod Stepping
+pub mod Plans
 pub mod Short
 pub mod Ends
 pub mod Promises

@@ -16,8 +16,8 @@ use Rattle.sdh_shell.proofs.Plans.{one_plan, plan_or_not}
 use Rattle.sdh_shell.proofs.Failing.{HasNotFailed, came_to_none}
 use Rattle.sdh_sncp.specs.Fixed.{AreAlone}
 use Rattle.sdh_sncp.specs.Sharing.{AreFirstToShare}
-use Rattle.sdh_sncp_script.specs.Steps.{first_strange, AreKnown}
-use Rattle.sdh_sncp_script.specs.Plans.{path_account, MaySettle}
+use Rattle.sdh_sncp_cli.specs.Steps.{first_strange, AreKnown}
+use Rattle.sdh_sncp_cli.specs.Plans.{path_account, MaySettle}
 use Rattle.sdh_sncp_cli.specs.Endings.{number_of}
 use Rattle.sdh_sncp_cli.specs.Outcome.{IsRunOutcome, OfPlan, IsRefused, HasCause, MayEnd, IsOwn, CameTo, told, telling_of}
 use Rattle.sdh_sncp_cli.specs.Headline.{IsRunPlan, RanTo, HasRun, Delivers, EndsAsItRuns, AlwaysSettles, MayBeDone}

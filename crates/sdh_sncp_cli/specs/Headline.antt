@@ -12,9 +12,9 @@ use Rattle.sdh_report.specs.declared.status.Status.TheVariants as status
 use Rattle.sdh_report.specs.Statuses.{last_line}
 use Rattle.sdh_shell.specs.Reading.{TellsPlan}
 use Rattle.sdh_sncp.specs.Fixed.{AreAlone}
-use Rattle.sdh_sncp_script.specs.Steps.{AreKnown}
-use Rattle.sdh_sncp_script.specs.Promise.{OwesAll}
-use Rattle.sdh_sncp_script.specs.Plans.{world_of, ran_of, MaySettle}
+use Rattle.sdh_sncp_cli.specs.Steps.{AreKnown}
+use Rattle.sdh_sncp_cli.specs.Promise.{OwesAll}
+use Rattle.sdh_sncp_cli.specs.Plans.{world_of, ran_of, MaySettle}
 use Rattle.sdh_shell.specs.Calls.{AreRun}
 
 -- the words ask for a run, and these are the bytes of this plan, whose steps are a path ring's and of whose circuits no two share a slot

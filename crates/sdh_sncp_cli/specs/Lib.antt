@@ -1,3 +1,10 @@
+pub mod Reports
+pub mod Walking
+pub mod Steps
+pub mod Running
+pub mod Promise
+pub mod Plans
+pub mod Laws
 pub mod Endings
 pub mod Outcome
 pub mod Headline

@@ -15,8 +15,8 @@ use Rattle.sdh_shell.specs.Writing.{Says, Telling, Whole, WritesAs}
 use Rattle.sdh_shell.specs.Writing as writing
 use Rattle.sdh_sncp.specs.Fixed.{AreAlone}
 use Rattle.sdh_sncp.specs.Sharing.{AreFirstToShare}
-use Rattle.sdh_sncp_script.specs.Steps.{first_strange, AreKnown}
-use Rattle.sdh_sncp_script.specs.Plans.{IsRunOf}
+use Rattle.sdh_sncp_cli.specs.Steps.{first_strange, AreKnown}
+use Rattle.sdh_sncp_cli.specs.Plans.{IsRunOf}
 use Rattle.sdh_sncp_cli.specs.Endings.{number_of, line_of}
 use Rattle.sdh_sncp_cli.specs.declared.ending.Ending.{Ending}
 use Rattle.sdh_sncp_cli.specs.declared.ending.Ending.TheVariants as ending

@@ -5,20 +5,21 @@ ghost use Rattle.sdh_basics.specs.Causes.{Rose, IsCounted};
 ghost use Rattle.sdh_outside.specs.Reading.{TakesCount};
 ghost use Rattle.sdh_plant.specs.Fibres.{HasNoFibres};
 ghost use Rattle.sdh_report.specs.declared.status.Status.{Status};
-ghost use Rattle.sdh_sncp_script.specs.Steps.{AreKnown};
+ghost use Rattle.sdh_sncp_cli.specs.Steps.{AreKnown};
 ghost use Rattle.sdh_shell.specs.Calls.{words_of, is_run};
 ghost use Rattle.sdh_sncp_cli.specs.Endings.{line_of};
 ghost use Rattle.sdh_sncp_cli.specs.declared.ending.Ending.{Ending};
 ghost use Rattle.sdh_sncp_cli.specs.Outcome.{OfPlan, OfBytes, IsOutcome, HasCause, IsOwn, told};
 
 use crate::ending::{Ending, line_is_short, put_last};
+use crate::run::run_plan;
+use crate::steps::first_strange;
 use sdh_outside::Source;
 use sdh_plan::Plan;
 use sdh_plant::Plant;
 use sdh_report::{LINE_MAX, Status, Text};
 use sdh_shell::{NoPlan, is_run, plan_in};
 use sdh_sncp::PathError;
-use sdh_sncp_script::{first_strange, run_plan};
 use std::alloc::{AllocError, Global};
 
 /// What is to be written, and how the program ends then.

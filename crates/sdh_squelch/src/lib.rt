@@ -2,10 +2,10 @@
 //! ends. By it a node that switches decides which slots it may carry round the ring, and squelches the others.
 #![tactic(auto)]
 
-ghost use Rattle.std.specs.Prelude.{◌≡◌, ◌≤◌, ◌<◌, ◌+◌, ◌-◌, ◌++◌, ◌⊎◌, ℕ, List, [], Some, option_map, length, IfOk, OnOk};
+ghost use Rattle.std.specs.Prelude.{◌≡◌, ◌≤◌, ◌<◌, ◌+◌, ◌-◌, ◌++◌, ℕ, List, Some, option_map, length, IfOk, OnOk};
 ghost use Rattle.std.specs.List.{All};
 ghost use Rattle.sdh_basics.specs.Cells.{cells};
-ghost use Rattle.sdh_circuits.specs.Provisioning.{Provisioning, IsProvisioning};
+ghost use Rattle.sdh_circuits.specs.Provisioning.{IsProvisioning};
 ghost use Rattle.sdh_squelch.specs.Table.{circuit_on, circuits_at, table_of, rows_of, HasEnds, is_carried};
 ghost use Rattle.sdh_circuits.specs.Kept.{KeepsRing};
 

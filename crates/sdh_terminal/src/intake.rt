@@ -1,8 +1,7 @@
 //! What a side takes in, in a round.
-ghost use Rattle.std.specs.Prelude.{◌≡◌, ◌&&◌, ◌+◌, ◌*◌, ◌-◌, ◌%◌, ◌<◌, ◌≤◌, ◌≢◌, Option, None, Some, IfSome, IfOk, length, slice_index_or};
+ghost use Rattle.std.specs.Prelude.{◌≡◌, ◌+◌, ◌-◌, ◌%◌, ◌<◌, ◌≤◌, ◌≢◌, Option, None, Some, IfSome, IfOk, length, slice_index_or};
 ghost use Rattle.std.specs.Prelude.{replicate};
 ghost use Rattle.std.specs.List.{list_any};
-ghost use Rattle.sdh_frame.specs.Sizes.{size_of};
 ghost use Rattle.sdh_terms.specs.Rates.{n_of};
 ghost use Rattle.sdh_frame.specs.Aus.{au_of};
 ghost use Rattle.sdh_overhead.specs.Landing.{emptied};
@@ -11,7 +10,7 @@ ghost use Rattle.sdh_kbytes.specs.KBytes.{IsSpellable};
 ghost use Rattle.sdh_pointer.specs.Reading.{Interpreter};
 ghost use Rattle.sdh_terminal.specs.Same.{same_readings};
 ghost use Rattle.sdh_terminal.specs.Receiving.{reception_of, frame_reception, all_ones, pointer_word_at, readings_of, after_frame};
-ghost use Rattle.sdh_terminal.specs.Receiving.{actions_in, readings_by, actions_by, new_intake};
+ghost use Rattle.sdh_terminal.specs.Receiving.{actions_in, new_intake};
 ghost use Rattle.sdh_terminal.specs.Passing.{h3_of};
 
 use crate::making::no_actions;

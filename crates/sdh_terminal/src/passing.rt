@@ -1,7 +1,7 @@
 //! What the AU-4s of a sent frame are.
-ghost use Rattle.std.specs.Prelude.{◌≡◌, ◌≢◌, ℕ, List, ◌+◌, ◌*◌, ◌/◌, ◌%◌, ◌<◌, ◌≤◌, IfOk, length};
+ghost use Rattle.std.specs.Prelude.{◌≡◌, ◌≢◌, ℕ, List, ◌+◌, ◌<◌, ◌≤◌, IfOk, length};
 ghost use Rattle.sdh_terms.specs.Rates.{n_of};
-ghost use Rattle.sdh_frame.specs.Aus.{au_of, with_aus};
+ghost use Rattle.sdh_frame.specs.Aus.{au_of};
 ghost use Rattle.std.specs.List.{list_any};
 ghost use Rattle.sdh_pointer.specs.declared.word.Form.{Form};
 ghost use Rattle.sdh_pointer.specs.Sending.{Generator, after_action};

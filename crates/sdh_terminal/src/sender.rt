@@ -1,6 +1,5 @@
 //! One side that sends.
-ghost use Rattle.std.specs.Prelude.{◌≡◌, ◌≤◌, None, Some, IfOk, length};
-ghost use Rattle.sdh_frame.specs.Sizes.{size_of};
+ghost use Rattle.std.specs.Prelude.{◌≡◌, None, Some, IfOk, length};
 ghost use Rattle.sdh_terms.specs.Rates.{n_of};
 ghost use Rattle.sdh_overhead.specs.Sections.{holding, clear_frame, line_frame, parities_of};
 ghost use Rattle.sdh_kbytes.specs.KBytes.{IsSpellable};

@@ -1,5 +1,5 @@
 //! The ports of circuits at a node.
-ghost use Rattle.std.specs.Prelude.{◌≡◌, ℕ, ◌+◌, ◌-◌, ◌*◌, ◌^◌, ◌<◌, ◌≤◌, [], ◌∷◌, ◌++◌, if◌then◌else◌, All, IfOk, OnOk, IfSome, length};
+ghost use Rattle.std.specs.Prelude.{◌≡◌, ◌+◌, ◌-◌, ◌*◌, ◌^◌, ◌<◌, ◌≤◌, [], ◌∷◌, ◌++◌, if◌then◌else◌, All, IfOk, OnOk, IfSome, length};
 ghost use Rattle.std.specs.Prelude.{position};
 ghost use Rattle.sdh_circuits.specs.Provisioned.{customer_at};
 ghost use Rattle.sdh_interchange.specs.Taking.{IsOf};

@@ -14,7 +14,7 @@ use Rattle.sdh_restoration.specs.Routes.{hops}
 use Rattle.sdh_plan.specs.declared.step.Step.TheVariants as step
 use Rattle.sdh_promise.specs.Changes.{scenes}
 use Rattle.sdh_promise.specs.Plans.{ring_of}
-use Rattle.sdh_foretold.specs.Laws.{LastReportsAreForetold}
+use Rattle.sdh_verdicts.specs.Foretold.{LastReportsAreForetold}
 use Rattle.sdh_verdicts.specs.declared.judging.Verdict.{Verdict}
 use Rattle.sdh_verdicts.specs.declared.judging.Verdict.TheVariants.{Kept, Over, Lost}
 use Rattle.sdh_verdicts.specs.Failures.{case_steps}

@@ -14,7 +14,7 @@ use Rattle.sdh_ringmap.specs.declared.Side.TheVariants.{West, East}
 use Rattle.sdh_restoration.specs.declared.applied.LocalRequests.{LocalRequests}
 use Rattle.sdh_restoration.specs.Applied.{span_requests}
 use Rattle.sdh_restoration.specs.Locals.{on_side, no_requests, local_of, requests_of}
-use Rattle.sdh_foretold.proofs.Spans.{spans_same}
+use Rattle.sdh_verdicts.proofs.Spans.{spans_same}
 use Rattle.sdh_plan.specs.Planned.{Planned}
 use Rattle.sdh_verdicts.specs.declared.failure.Failure.{Failure}
 use Rattle.sdh_verdicts.specs.Verdicts.{asked_at, asks_with, requests_with}

@@ -1,3 +1,7 @@
+pub mod Spans
+pub mod Rounds
+pub mod Stretches
+pub mod Reports
 pub mod Rests
 pub mod Counts
 pub mod Asked

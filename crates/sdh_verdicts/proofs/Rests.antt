@@ -10,8 +10,8 @@ use Rattle.sdh_plan.specs.declared.step.Step.{Step}
 use Rattle.sdh_plan.specs.declared.step.Step.TheVariants as step
 use Rattle.sdh_promise.specs.Changes.{Change, changes_of, scenes}
 use Rattle.sdh_promise.specs.Sides.{Holding, holding_after, all_holding}
-use Rattle.sdh_foretold.specs.Resting.{fresh, rest_after_changes}
-use Rattle.sdh_foretold.specs.Resting.{Resting, rest_in}
+use Rattle.sdh_verdicts.specs.Resting.{fresh, rest_after_changes}
+use Rattle.sdh_verdicts.specs.Resting.{Resting, rest_in}
 use Rattle.sdh_verdicts.specs.Sides.{rest_after, rests}
 use Rattle.sdh_verdicts.specs.declared.failure.Failure.{Failure}
 use Rattle.sdh_verdicts.specs.Failures.{steps_of, case_steps}

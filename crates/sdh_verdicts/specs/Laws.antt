@@ -13,7 +13,7 @@ use Rattle.sdh_report.specs.declared.status.Status.TheVariants as status
 use Rattle.sdh_report.specs.Reports.{Report}
 use Rattle.sdh_promise.specs.Owed.{owed_port}
 use Rattle.sdh_promise.specs.Plans.{ring_of, OwesAll}
-use Rattle.sdh_foretold.specs.Laws.{IsLastForetold}
+use Rattle.sdh_verdicts.specs.Foretold.{IsLastForetold}
 use Rattle.sdh_verdicts.specs.declared.failure.Failure.{Failure}
 use Rattle.sdh_verdicts.specs.declared.judging.Verdict.TheVariants.{Lost}
 use Rattle.sdh_verdicts.specs.Verdicts.{longer_steps, scenes_with, verdict_under}

@@ -1,3 +1,5 @@
+pub mod Resting
+pub mod Foretold
 pub mod Failures
 pub mod Sides
 pub mod Verdicts

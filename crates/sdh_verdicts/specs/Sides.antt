@@ -5,7 +5,7 @@ use Rattle.sdh_plan.specs.declared.step.Step.{Step}
 use Rattle.sdh_plan.specs.declared.step.Step.TheVariants as step
 use Rattle.sdh_promise.specs.Changes.{changes_of}
 use Rattle.sdh_promise.specs.Sides.{all_holding}
-use Rattle.sdh_foretold.specs.Resting as rest
+use Rattle.sdh_verdicts.specs.Resting as rest
 use Rattle.sdh_verdicts.specs.declared.resting.Resting.{Resting}
 
 -- what the program keeps of a side

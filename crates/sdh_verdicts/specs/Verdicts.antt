@@ -19,7 +19,7 @@ use Rattle.sdh_plan.specs.declared.step.Step.{Step}
 use Rattle.sdh_plan.specs.declared.step.Step.TheVariants as step
 use Rattle.sdh_promise.specs.Changes.{Change, scenes}
 use Rattle.sdh_promise.specs.Plans.{ring_of}
-use Rattle.sdh_foretold.specs.Resting as rest
+use Rattle.sdh_verdicts.specs.Resting as rest
 use Rattle.sdh_verdicts.specs.declared.failure.Failure.{Failure}
 use Rattle.sdh_verdicts.specs.declared.failure.Failure.TheVariants.{Degraded, Cut, Span, Node, Manual, Forced}
 use Rattle.sdh_verdicts.specs.declared.judging.Sides.{Sides}

@@ -5,7 +5,7 @@ ghost use Rattle.sdh_verdicts.specs.Laws.{VerdictsAgree, VerdictsAreShown};
 pub fn verdicts_agree()
     ensures { VerdictsAgree }
 {
-    sdh_foretold::last_reports_are_foretold();
+    crate::foretold::last_reports_are_foretold();
 }
 
 /// A port of a circuit that is lost is owed AIS, and one of any other its customer's bytes.

@@ -1,8 +1,11 @@
 //! What becomes of each circuit of a ring where things fail, by the restoration model alone: no round is run. `specs/Failures.antt` has
-//! the failures and their steps, `specs/Verdicts.antt` what becomes of a circuit, and `specs/Laws.antt` that this is what reports show.
+//! the failures and their steps, `specs/Verdicts.antt` what becomes of a circuit, `specs/Resting.antt` what
+//! the sides of a ring come to at each settle step, `specs/Foretold.antt` that the reports that are owed show just that,
+//! and `specs/Laws.antt` that they show what becomes of each circuit.
 #![tactic(auto)]
 
 mod failure;
+pub mod foretold;
 mod judging;
 pub mod laws;
 mod plans;

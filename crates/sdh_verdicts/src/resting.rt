@@ -2,7 +2,7 @@
 ghost use Rattle.std.specs.Prelude.{◌≡◌, ◌<◌, length, option_map};
 ghost use Rattle.sdh_request.specs.Requests as request;
 ghost use Rattle.sdh_terms.specs.Fibres.{fibre, fibre_to, is_cut};
-ghost use Rattle.sdh_foretold.specs.Resting as model;
+ghost use Rattle.sdh_verdicts.specs.Resting as model;
 ghost use Rattle.sdh_verdicts.specs.Sides.{resting_of};
 ghost use Rattle.sdh_verdicts.specs.Sides as walk;
 ghost use Rattle.sdh_verdicts.specs.Verdicts.{is_forced};

@@ -1,1 +1,11 @@
+pub mod Short
+pub mod Leading
+pub mod Steps
+pub mod Plans
+pub mod Plainly
+pub mod Clean
+pub mod Known
+pub mod Rounds
+pub mod Owing
+pub mod Settling
 pub mod Asked

@@ -3,15 +3,15 @@ use Rattle.std.specs.Prelude.{ℕ, if◌then◌else◌, List, codes, Option, Som
 use Rattle.sdh_plant.specs.Fibres.{Fibres}
 use Rattle.sdh_plant.specs.Arrivals.{Knows}
 use Rattle.sdh_report.specs.declared.status.Status.{Status}
-use Rattle.sdh_script.specs.Plans.{world_of}
+use Rattle.sdh_owed.specs.Plans.{world_of}
 use Rattle.sdh_scripts.proofs.Plans.{ends_of}
 use Rattle.sdh_shell.specs.Calls.{is_run}
 use Rattle.sdh_shell.proofs.Ends.{has_run}
-use Rattle.sdh_calls.specs.Programs.{Program}
-use Rattle.sdh_calls.specs.Headline.{EndsAs}
-use Rattle.sdh_watching.specs.Shows.{Watched}
-use Rattle.sdh_watch_script.specs.Lines.{text_of}
-use Rattle.sdh_watch_script.specs.Plans.{watch_account, IsRunOf, ran_of, MaySettle}
+use Rattle.sdh_scripts.specs.Programs.{Program}
+use Rattle.sdh_scripts.specs.Headline.{EndsAs}
+use Rattle.sdh_watch.specs.Shows.{Watched}
+use Rattle.sdh_watch.specs.Lines.{text_of}
+use Rattle.sdh_watch.specs.Plans.{watch_account, IsRunOf, ran_of, MaySettle}
 
 -- it is asked for one thing, with the word `run`
 abbrev pub asked : List (List ℕ) → Option (Unit {0})

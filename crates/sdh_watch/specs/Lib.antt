@@ -1,1 +1,10 @@
+pub mod Lines
+pub mod Ports
+pub mod Running
+pub mod Plans
+pub mod Shows
+pub mod Watching
+pub mod Scripts
+pub mod Owed
+pub mod Laws
 pub mod Headline

@@ -1,12 +1,12 @@
 //! What the program does with a plan.
-ghost use Rattle.sdh_watching.specs.Shows.{Watched};
+ghost use Rattle.sdh_watch.specs.Shows.{Watched};
 ghost use Rattle.sdh_watch.specs.Headline.{watching};
 
-use sdh_calls::RunsPlans;
+use crate::run::run_plan;
 use sdh_plan::Plan;
 use sdh_plant::Plant;
+use sdh_scripts::RunsPlans;
 use sdh_shell::{Report, ended, is_run};
-use sdh_watch_script::run_plan;
 use std::alloc::{AllocError, Global};
 
 /// The one thing that the program does: it runs plans with watches.

@@ -7,16 +7,16 @@ ghost use Rattle.sdh_shell.specs.Calls.{words_of, is_run};
 ghost use Rattle.sdh_shell.specs.Reading.{told_if};
 ghost use Rattle.sdh_shell.specs.Failing.{Counts, CameTo};
 ghost use Rattle.sdh_shell.specs.Writing.{Writes};
-ghost use Rattle.sdh_calls.specs.Outcome.{HasRead, MayEnd};
-ghost use Rattle.sdh_calls.specs.Headline.{Shows, AlwaysSettles, MayBeDone};
-ghost use Rattle.sdh_watch_script.specs.Plans.{ShowsClean};
+ghost use Rattle.sdh_scripts.specs.Outcome.{HasRead, MayEnd};
+ghost use Rattle.sdh_scripts.specs.Headline.{Shows, AlwaysSettles, MayBeDone};
+ghost use Rattle.sdh_watch.specs.Plans.{ShowsClean};
 ghost use Rattle.sdh_watch.specs.Headline.{asked, watching, EndsAsItRuns};
 
 use crate::program::Watching;
-use sdh_calls::call;
 use sdh_outside::{Sink, Source};
 use sdh_plant::Plant;
 use sdh_report::Status;
+use sdh_scripts::call;
 use std::alloc::Global;
 
 /// Does all that the program does. With the word `run` it reads a plan from the source and runs its ring over the

@@ -4,6 +4,7 @@ pub mod Runs
 pub mod Quiet
 pub mod Fixed
 pub mod Changes
+pub mod Steps
 pub mod Sides
 pub mod Clocks
 pub mod Laws

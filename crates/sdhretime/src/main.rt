@@ -2,7 +2,7 @@
 #![tactic(auto)]
 
 use sdh_outside::{StdSink, StdSource};
-use sdh_retime::retime;
+use sdh_retime_cli::retime;
 use std::process::ExitCode;
 use std::{env, io};
 

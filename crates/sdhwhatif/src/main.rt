@@ -2,7 +2,7 @@
 #![tactic(auto)]
 
 use sdh_outside::{StdSink, StdSource};
-use sdh_whatif::whatif;
+use sdh_whatif_cli::whatif;
 use std::process::ExitCode;
 use std::{env, io};
 

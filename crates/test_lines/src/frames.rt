@@ -1,6 +1,5 @@
 //! Places in frames by the layout's own tables.
 ghost use Rattle.std.specs.Prelude.{◌≡◌, ◌*◌, ◌<◌, ◌≤◌};
-ghost use Rattle.sdh_terms.specs.Rates.{n_of};
 
 use sdh_frame::{Field, FrameBuf, Place, au_place, place_of, pointer_place};
 use sdh_terms::Rate;

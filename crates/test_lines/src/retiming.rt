@@ -1,7 +1,7 @@
 //! Runs over objects in memory: each number with its text.
 
 use sdh_outside::{MemSink, MemSource};
-use sdh_retime::retime;
+use sdh_retime_cli::retime;
 use std::alloc::{AllocError, Global};
 use std::test::Fail;
 

@@ -2,8 +2,9 @@
 
 use crate::parts::{fibre, figures_of, is_led};
 use sdh_circuits::{Circuit, End, Slot};
+use sdh_cli::big_plan;
 use sdh_payload::Port;
-use sdh_plan::{Plan, Step, big_plan};
+use sdh_plan::{Plan, Step};
 use sdh_request::Moment;
 use sdh_ringmap::{Pos, Side, Span};
 use sdh_terms::{Condition, Rate};

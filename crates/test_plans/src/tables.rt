@@ -1,8 +1,8 @@
 //! The lines of some rings, written by hand: the arc of each circuit followed eastwards from its first node, span by span.
 
+use sdh_cli::table_text;
 use sdh_plan::read_plan;
 use sdh_report::LINE_MAX;
-use sdh_tables::table_text;
 use std::alloc::{AllocError, Global};
 use std::test::Fail;
 

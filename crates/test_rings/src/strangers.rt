@@ -1,5 +1,5 @@
 //! What a controller that is held while the ring switches lets through: two circuits whose ports get each other's bytes.
-ghost use Rattle.std.specs.Prelude.{◌≡◌, ◌≤◌, ◌<◌, ◌+◌, ◌/◌, ◌^◌, ℕ, IfOk, OnOk, false, length};
+ghost use Rattle.std.specs.Prelude.{◌≡◌, ◌≤◌, ◌<◌, ◌+◌, ℕ, IfOk, OnOk, false, length};
 ghost use Rattle.sdh_plant.specs.Fibres.{HasNoFibres, IsPrepared};
 
 use crate::rings::{apply, laid_as, run, settle};
@@ -310,6 +310,8 @@ fn met_quiet<P: Plant>(
     requires prepared { IsPrepared ring.old.settings.rate (length ring.old.ids) (P.fibres plant.old) }
     requires whole { ring.old.broken ≡ false }
     requires few { (passing ≤ 100) × (switched ≤ 100) }
+    ensures prepared { OnOk result (IsPrepared ring.new.settings.rate (length ring.new.ids) (P.fibres plant.new)) }
+    ensures whole { OnOk result (ring.new.broken ≡ false) }
 {
     eastwards(ring, plant, Condition::Cut, Condition::Cut)?;
     settle(ring, plant)?;
@@ -346,6 +348,35 @@ fn a_passing_and_a_switched_node_held_in_a_quiet_ring_let_strangers_meet(
     assert_eq!(rt; met_behind(rt.alloc(), 7, 0), Ok(0));
     assert_eq!(rt; met_behind(rt.alloc(), 0, 4), Ok(0));
     assert_eq!(rt; met_behind(rt.alloc(), 7, 7), Ok(0));
+    Ok(())
+}
+
+// Three steps behind a quiet ring, and in how many of the rounds of each a port meets a stranger. In the first both controllers are
+// held, as above. Once that is quiet, both fibres are cut again while node 1, which is switched, is held. And once that is quiet,
+// the first comes again, with so many turns for each.
+fn met_in_turn(alloc: Global, passing: u32, switched: u32) -> Result<(u32, u32, u32), AllocError>
+    requires few { (passing ≤ 100) × (switched ≤ 100) }
+{
+    let mut plant = FibrePlant::new();
+    let mut ring = laid_quiet(alloc, &mut plant)?;
+    let first = met_quiet(&mut ring, &mut plant, 7, 4)?;
+    settle(&mut ring, &mut plant)?;
+    if ring.map().len() < 5 {
+        return Err(AllocError);
+    }
+    ring.hold(Pos(1), 8);
+    eastwards(&ring, &mut plant, Condition::Cut, Condition::Cut)?;
+    let second = counted(&mut ring, &mut plant, 40)?;
+    let third = met_quiet(&mut ring, &mut plant, passing, switched)?;
+    Ok((first, second, third))
+}
+
+#[test]
+fn a_hold_spoils_its_own_step_alone(rt: HostRuntime) -> Result<(), Fail> {
+    // A stranger comes in the first step, and in no later one whose own changes hold no node that passes traffic through.
+    assert_eq!(rt; met_in_turn(rt.alloc(), 0, 4), Ok((1, 0, 0)));
+    // In the third it comes again, where that step holds one.
+    assert_eq!(rt; met_in_turn(rt.alloc(), 7, 4), Ok((1, 0, 1)));
     Ok(())
 }
 

@@ -1,5 +1,5 @@
 //! What a customer sends, told by the place of a byte in its stream, apart from the code that sends it.
-ghost use Rattle.std.specs.Prelude.{◌≡◌, ◌<◌, ◌≤◌, length};
+ghost use Rattle.std.specs.Prelude.{◌<◌, ◌≤◌, length};
 
 use std::alloc::{AllocError, Global};
 

@@ -6,7 +6,7 @@
 //! AU-4, so that the stream begins with byte 2349 - 777 = 1572 of the first VC-4; at offset 1 it begins with byte 2349 - 786 = 1563. Byte i
 //! of a VC-4 is that of row i / 261 and column i % 261; the first column is path overhead, and byte j of the text stands behind it
 //! in the others, where j is 2340 for each VC-4 before and 260 for each row before, modulo the seven letters.
-ghost use Rattle.std.specs.Prelude.{◌≡◌, OnOk, false, length};
+ghost use Rattle.std.specs.Prelude.{false, length};
 ghost use Rattle.sdh_plant.specs.Fibres.{HasNoFibres, IsPrepared};
 
 use crate::rings::{ALPHABETS, apply, laid_with, settle};

@@ -1,5 +1,5 @@
 //! K words and their bytes.
-ghost use Rattle.std.specs.Prelude.{◌≡◌, ◌≤◌};
+ghost use Rattle.std.specs.Prelude.{◌≤◌};
 
 use sdh_kbytes::{K, Mark, Path, decode, encode};
 use sdh_terms::Code;

@@ -1,5 +1,4 @@
 //! Room, and lines that no clause of another crate shows.
-ghost use Rattle.std.specs.Prelude.{◌≤◌, IfOk};
 
 use sdh_payload::Delivered;
 use sdh_report::laws::last_line_is_short;

@@ -1,7 +1,7 @@
 //! The call over objects in memory.
 
 use sdh_outside::{MemSink, MemSource};
-use sdh_whatif::{Status, whatif};
+use sdh_whatif_cli::{Status, whatif};
 use std::alloc::{AllocError, Global};
 
 /// Which calls of a source and a sink fail, counted from 1, and how many bytes each takes.

@@ -2,7 +2,7 @@
 ghost use Rattle.std.specs.Prelude.{◌≤◌, length};
 
 use crate::called::{Outside, PLAN, SINGLE, SOUND, TABLE, call};
-use sdh_whatif::Status;
+use sdh_whatif_cli::Status;
 use std::test::Fail;
 
 // How many bytes the first lines of a text have.

@@ -1,7 +1,7 @@
 //! Want of memory.
 
 use crate::called::{NO_WORDS, PLAN, SINGLE, SOUND, TABLE, USAGE, call};
-use sdh_whatif::Status;
+use sdh_whatif_cli::Status;
 use std::test::Fail;
 
 // The words, the document, and the status and the text of the answer.

@@ -1,10 +1,8 @@
 -- Behind a quiet window each switched node has a shield; and no port meets a stranger where no controller is held of a node that passes
 -- traffic through.
-use Rattle.std.proofs.Common.{◌≡◌, ℕ, zero, suc, ◌+◌, ◌-◌, ◌*◌, ◌<◌, ◌≤◌, true, false, List, [], ◌∷◌, length, Option, refl, ap, sym, ◌∙◌}
+use Rattle.std.proofs.Common.{◌≡◌, ℕ, zero, suc, ◌+◌, ◌-◌, ◌<◌, ◌≤◌, List, [], ◌∷◌, length, refl, ap, sym, ◌∙◌}
 use Rattle.std.proofs.Common.{subst, arith, inl, inr, ◌⊎◌}
 use Rattle.std.proofs.lemmas.Bool.{cases_lt}
-use Rattle.sdh_ringmap.specs.Places.{opposite}
-use Rattle.sdh_ringmap.specs.declared.Pos.{Pos}
 use Rattle.sdh_ringmap.specs.declared.Side.{Side}
 use Rattle.sdh_ringmap.specs.declared.Side.TheVariants.{West, East}
 use Rattle.sdh_circuits.specs.declared.PortId.{PortId}
@@ -14,33 +12,30 @@ use Rattle.sdh_request.specs.declared.Command.{Command}
 use Rattle.sdh_settling.specs.Laws.{StillRingsAreSettled}
 use Rattle.sdh_payload.specs.Clock.{Clock}
 use Rattle.sdh_node.specs.Receiving.{commanded_by}
-use Rattle.sdh_node.specs.Node.{Node, new_node, at_receiving, held_for, slips_at, is_held, word_of}
+use Rattle.sdh_node.specs.Node.{Node, new_node, at_receiving, held_for, slips_at, word_of}
 use Rattle.sdh_world.specs.Held.{nowhere, node_at, AtEach, at_place, place_of_port}
-use Rattle.sdh_world.specs.Rounds.{World, round}
+use Rattle.sdh_world.specs.Rounds.{World}
 use Rattle.sdh_world.specs.Runs.{run, course}
-use Rattle.sdh_world.specs.Quiet.{is_calm, EndsWindow}
+use Rattle.sdh_world.specs.Quiet.{EndsWindow}
 use Rattle.sdh_world.specs.Sides.{world_in}
 use Rattle.sdh_promise.specs.Changes.{Change, Stretch, rounds_in}
 use Rattle.sdh_promise.specs.Changes.{Fibre, Order, Hold, Slip, Now}
 use Rattle.sdh_world.specs.Changes.{changed, all_changed, after_stretch}
 use Rattle.sdh_world.specs.Laws.{IsChangeOf, AreChangesOf, MayHappen}
 use Rattle.sdh_rounds.specs.Runs as any_run
-use Rattle.sdh_routes.proofs.Views.{Switch}
-use Rattle.sdh_laws.proofs.hearing.Nodes.{count}
-use Rattle.sdh_laws.proofs.hearing.Staying.{left_run, world_low, world_high, world_later}
-use Rattle.sdh_laws.proofs.hearing.Changes.{each_at_place, sending_commanded, LeavesSides, held_leaves, slips_leave, with_node, whole_changed, whole_run}
-use Rattle.sdh_laws.proofs.hearing.Signalling.{one_run, calm_rounds_are_still}
+use Rattle.sdh_laws.proofs.hearing.Staying.{world_low, world_high, world_later}
+use Rattle.sdh_laws.proofs.hearing.Changes.{each_at_place, sending_commanded, LeavesSides, held_leaves, slips_leave, with_node, whole_changed}
 use Rattle.sdh_laws.specs.Carrying.Windows.{layout_of, HasCircuits}
 use Rattle.sdh_laws.proofs.carrying.Ways.{layout_run}
-use Rattle.sdh_laws.proofs.carrying.Settles.{layout_all, settled_at}
+use Rattle.sdh_laws.proofs.carrying.Settles.{layout_all}
 use Rattle.sdh_laws.specs.Strangers.Owners.{AreClocksOf}
 use Rattle.sdh_laws.specs.Strangers.Vouched.{IsAside}
 use Rattle.sdh_laws.specs.Strangers.Laws.{HoldsAside, EachMay, IsNoPass, HoldsNoPass, HeldBesidePassing}
 use Rattle.sdh_laws.proofs.strangers.Lags.{source_in}
 use Rattle.sdh_laws.proofs.strangers.Vouched.{Anyhow, each_there, vouches_changed}
-use Rattle.sdh_laws.proofs.strangers.Shields.{Shields}
-use Rattle.sdh_laws.proofs.strangers.Shielded.{grown, filled, less_shields}
-use Rattle.sdh_laws.proofs.strangers.Safe.{MayMiss, stands, switched, Misses, IsSafe, safe_ready, safe_after}
+use Rattle.sdh_laws.proofs.strangers.Shields.{Shields, AllShielded}
+use Rattle.sdh_laws.proofs.strangers.Windows.{window_shields}
+use Rattle.sdh_laws.proofs.strangers.Safe.{MayMiss, stands, switched, Misses, IsSafe, safe_after}
 
 -- ---- changes leave shields
 
@@ -57,11 +52,6 @@ node_beyond (x ∷ xs) zero high = absurd (omega arith)
 node_beyond (x ∷ xs) (suc p) high = node_beyond xs p (omega arith)
 
 module _ (clocks : PortId → ℕ → Clock) where
-  -- each switched node has a shield
-  abbrev pub AllShielded : World → Type 0
-  AllShielded w = (x : ℕ) (e : Side) (f : Option Pos) → x < length w.ring.nodes → (node_at w.ring.nodes x).state ≡ Switch (opposite e) f
-      → Shields clocks (length w.ring.ids) (length w.ring.ids) w x e
-
   -- a change of one node that leaves its state and its words
   module _ (f : Node → Node) (state_left : (n : Node) → (f n).state ≡ n.state) (word_left : (d : Side) (n : Node) → word_of d (f n) ≡ word_of d n)
       (p : ℕ) (w : World) where
@@ -134,7 +124,7 @@ module _ (clocks : PortId → ℕ → Clock) where
       }
   left_changed (Now t) w = record { ids = refl; size = refl; states = λ q h. refl }
 
-  all_shielded_changed : (c : Change) (w : World) → AllShielded w → AllShielded (changed c w)
+  all_shielded_changed : (c : Change) (w : World) → AllShielded clocks w → AllShielded clocks (changed c w)
   all_shielded_changed c w all x e f h is =
       let left = left_changed c w in
       let size = left.size in
@@ -218,7 +208,7 @@ module _ (clocks : PortId → ℕ → Clock) where
   aside_safely (Slip id turn many) w may = tt
   aside_safely (Now t) w may = tt
 
-  by_shield : (w : World) (p : ℕ) → p < length w.ring.nodes → AllShielded w → (x : NodeState) → (node_at w.ring.nodes p).state ≡ x → IsNoPass x
+  by_shield : (w : World) (p : ℕ) → p < length w.ring.nodes → AllShielded clocks w → (x : NodeState) → (node_at w.ring.nodes p).state ≡ x → IsNoPass x
       → MayMiss clocks w p x
   by_shield w p h all (state.Idle i) is z = stands tt
   by_shield w p h all (state.Isolated i) is z = stands tt
@@ -226,7 +216,7 @@ module _ (clocks : PortId → ℕ → Clock) where
   by_shield w p h all (state.SwitchWest f) is z = switched East f refl (all p East f h is)
   by_shield w p h all (state.SwitchEast f) is z = switched West f refl (all p West f h is)
 
-  no_pass_safely : (c : Change) (w : World) → IsChangeOf w c → AllShielded w → HoldsNoPass w c → HoldsSafely w c
+  no_pass_safely : (c : Change) (w : World) → IsChangeOf w c → AllShielded clocks w → HoldsNoPass w c → HoldsSafely w c
   no_pass_safely (Fibre p d condition) w is all may = tt
   no_pass_safely (Order p d c) w is all may = tt
   no_pass_safely (Hold p turns) w is all (inl none) = inl none
@@ -241,7 +231,7 @@ module _ (clocks : PortId → ℕ → Clock) where
   safe_aside [] w is may k = k
   safe_aside (c ∷ cs) w is may k = safe_aside cs (changed c w) is.1 may.1 (safe_changed c w is.0 (aside_safely c w may.0) k)
 
-  safe_no_pass : (cs : List Change) (w : World) → AreChangesOf w cs → AllShielded w → EachMay HoldsNoPass w cs → IsSafe clocks w
+  safe_no_pass : (cs : List Change) (w : World) → AreChangesOf w cs → AllShielded clocks w → EachMay HoldsNoPass w cs → IsSafe clocks w
       → IsSafe clocks (all_changed cs w)
   safe_no_pass [] w is all may k = k
   safe_no_pass (c ∷ cs) w is all may k =
@@ -258,106 +248,10 @@ module _ (clocks : PortId → ℕ → Clock) where
       safe_after clocks (run many v) (subst HasCircuits (sym (layout_run v many)) form) (safe_run many v form k (λ i h. tells i (omega arith)))
       (tells many (omega arith))
 
-  -- ---- a quiet window
-
-  module _ (law : StillRingsAreSettled) (v : World) (form : HasCircuits (layout_of v)) (k : IsSafe clocks v) (last : ℕ)
-      (ends : EndsWindow (course v) last) (tells : (i : ℕ) → i < last → AreClocksOf clocks (run i v).ring) where
-    abbrev n : ℕ
-    n = length v.ring.ids
-
-    abbrev first : ℕ
-    first = last - 2 * n
-
-    ids_are : (j : ℕ) → (run j v).ring.ids ≡ v.ring.ids
-    ids_are j = (left_run j v).ids
-
-    many_nodes : (j : ℕ) → length (run j v).ring.nodes ≡ n
-    many_nodes j = count (run j v) (whole_run v j k.whole).placed ∙ ap length (ids_are j)
-
-    long : 3 * n ≤ last
-    long = let e = ap length (ids_are last) in let l = ends.long in omega arith
-
-    enough : 2 ≤ n
-    enough = k.whole.placed.ids.enough
-
-    module _ (x : ℕ) (e : Side) (f : Option Pos) (hx : x < n) (is : (node_at (run last v).ring.nodes x).state ≡ Switch (opposite e) f) where
-      state_in : (j : ℕ) → last < j + 3 * n → j ≤ last → (node_at (run j v).ring.nodes x).state ≡ Switch (opposite e) f
-      state_in j low high =
-          settled_at law v k.whole last ends j low high x hx
-          ∙ sym (settled_at law v k.whole last ends last (omega (arith, enough)) (omega arith) x hx) ∙ is
-
-      none_turns : (j : ℕ) → last ≤ j + 2 * n → j < last → (q : ℕ) → q < length (run j v).ring.nodes
-          → is_held (node_at (run j v).ring.nodes q) ≡ true → ⊥
-      none_turns j low high q h held =
-          let calm = ends.calm (suc j) (let e = ap length (ids_are last) in omega (arith, enough)) (omega arith) in
-          let still = calm_rounds_are_still (run j v) (whole_run v j k.whole)
-          (subst (λ (u : World). is_calm_at u) (one_run v j) calm) in
-          no (sym (still.free q h) ∙ held)
-        where
-          is_calm_at : World → Type 0
-          is_calm_at u = is_calm u.ring.nodes ≡ true
-
-          no : false ≡ true → ⊥
-          no z = cc
-
-      begins : Shields clocks 0 0 (run first v) x e
-      begins = record {
-        says = λ z. absurd (omega arith);
-        words = λ q g h less from. absurd (omega arith);
-        ends = λ q g h less z. absurd (omega arith);
-        content = λ q m line h less there low high. absurd (omega arith);
-      }
-
-      -- after i rounds of them
-      grow : (i : ℕ) → i ≤ 2 * n → Shields clocks i (i - n) (run (i + first) v) x e
-      grow zero few =
-          subst (λ j. Shields clocks 0 (0 - n) (run j v) x e) (let z : first ≡ 0 + first = omega arith in z)
-          (subst (λ b. Shields clocks 0 b (run first v) x e) (let z : 0 ≡ 0 - n = omega arith in z) begins)
-      grow (suc i) few =
-          let j = i + first in
-          let u = run j v in
-          let form_u : HasCircuits (layout_of u) = subst HasCircuits (sym (layout_run v j)) form in
-          let safe_u : IsSafe clocks u = safe_run j v form k (λ a h. tells a (omega (arith, long))) in
-          let told = tells j (omega (arith, long)) in
-          let size = many_nodes j in
-          let old = grow i (omega arith) in
-          let stays : (node_at (round u).ring.nodes x).state ≡ Switch (opposite e) f =
-          subst (λ (y : World). (node_at y.ring.nodes x).state ≡ Switch (opposite e) f) (one_run v j)
-          (state_in (suc j) (omega (arith, long, enough)) (omega (arith, long))) in
-          let ready = safe_ready clocks u form_u safe_u told in
-          let same = ap length (ids_are j) in
-          subst (λ a. Shields clocks (suc i) (suc i - n) (run a v) x e) (let z : suc j ≡ suc i + first = omega arith in z)
-          (subst (λ (y : World). Shields clocks (suc i) (suc i - n) y x e) (sym (one_run v j))
-          (elim (cases_lt i n) [
-            | inl less ↦ subst2 (λ a b. Shields clocks a b (round u) x e) (let z : i + 1 ≡ suc i = omega arith in z)
-                (let z : 0 ≡ suc i - n = omega arith in z)
-                (grown clocks u form_u ready told x e (omega arith) i (i - n) old f stays
-                (λ q h held. absurd (none_turns j (omega (arith, long)) (omega (arith, long)) q h held)))
-            | inr more ↦ subst2 (λ a b. Shields clocks a b (round u) x e) (let z : i + 1 ≡ suc i = omega arith in z)
-                (let z : i - n + 1 ≡ suc i - n = omega arith in z)
-                (filled clocks u form_u ready told x e (omega arith) i (i - n) old f stays
-                (λ q h held. absurd (none_turns j (omega (arith, long)) (omega (arith, long)) q h held)) (omega arith))
-          ]))
-        where
-          subst2 : (P : ℕ → ℕ → Type 0) {a b c d : ℕ} → a ≡ c → b ≡ d → P a b → P c d
-          subst2 P {a} {b} {c} {d} p q z = subst (λ y. P c y) q (subst (λ y. P y b) p z)
-
-      shield_last : Shields clocks n n (run last v) x e
-      shield_last =
-          let at : 2 * n + first ≡ last = omega (arith, long) in
-          less_shields clocks (2 * n) (2 * n - n) n n (run last v) x e (omega arith) (omega arith) (omega (arith, enough))
-          (subst (λ j. Shields clocks (2 * n) (2 * n - n) (run j v) x e) at (grow (2 * n) (omega arith)))
-
-    pub window_shields : AllShielded (run last v)
-    window_shields x e f h is =
-        let size = many_nodes last in
-        subst (λ (ids : List ℕ). Shields clocks (length ids) (length ids) (run last v) x e) (sym (ids_are last))
-        (shield_last x e f (omega arith) is)
-
   -- ---- stretches
 
   pub safe_in : StillRingsAreSettled → (Quiet : Type 0) (rest : List Stretch) (w : World) (t : ℕ) → HasCircuits (layout_of w) → IsSafe clocks w
-      → (Quiet → AllShielded w) → MayHappen w rest → HeldBesidePassing Quiet w rest
+      → (Quiet → AllShielded clocks w) → MayHappen w rest → HeldBesidePassing Quiet w rest
       → ((i : ℕ) → i < rounds_in rest → AreClocksOf clocks (world_in rest w i).ring) → t ≤ rounds_in rest → IsSafe clocks (world_in rest w t)
   safe_in law Quiet [] w t form k shields may held tells h = k
   safe_in law Quiet (x ∷ rest) w t form k shields may held tells h =
@@ -374,7 +268,7 @@ module _ (clocks : PortId → ℕ → Clock) where
         | inr high ↦ subst (IsSafe clocks) (sym (world_high x rest w t high))
             (safe_in law (EndsWindow (course v) x.rounds) rest (after_stretch x w) (t - x.rounds)
             (subst HasCircuits (sym (layout_run v x.rounds)) form_v) (safe_run x.rounds v form_v safe_v within)
-            (λ ends. window_shields law v form_v safe_v x.rounds ends within) may.1 held.1
+            (λ ends. window_shields clocks law v form_v safe_v.whole x.rounds ends within) may.1 held.1
             (λ i low. subst (λ (u : World). AreClocksOf clocks u.ring) (world_later x rest w i) (tells (x.rounds + i) (omega arith)))
             (omega arith))
       ]

@@ -1,5 +1,5 @@
 -- The laws over rounds that any plant ran, over settle steps, and over stretches from a new ring on.
-use Rattle.std.proofs.Common.{◌≡◌, ℕ, suc, ◌+◌, ◌-◌, ◌*◌, ◌<◌, ◌≤◌, List, [], ◌∷◌, ◌++◌, length, Some, refl, ap, sym, ◌∙◌, subst}
+use Rattle.std.proofs.Common.{◌≡◌, ℕ, suc, ◌+◌, ◌-◌, ◌*◌, ◌<◌, ◌≤◌, List, length, Some, ap, sym, ◌∙◌, subst}
 use Rattle.std.proofs.Common.{arith, inl}
 use Rattle.std.specs.Prelude.{◌/◌, slice_get}
 use Rattle.sdh_terms.specs.Rates.{n_of}
@@ -16,7 +16,7 @@ use Rattle.sdh_node.specs.Stations.{adm}
 use Rattle.sdh_world.specs.Rounds.{World, round}
 use Rattle.sdh_world.specs.Runs.{run}
 use Rattle.sdh_promise.specs.Changes.{Stretch, rounds_in}
-use Rattle.sdh_world.specs.Changes.{all_changed, after_stretches, new_world}
+use Rattle.sdh_world.specs.Changes.{new_world}
 use Rattle.sdh_world.specs.Clocks.{clocks_by, clock_in}
 use Rattle.sdh_world.specs.Clocks.{HasPortIn, clock_at}
 use Rattle.sdh_world.specs.Laws.{MayHappen}
@@ -24,25 +24,23 @@ use Rattle.sdh_world.specs.Sides.{world_in}
 use Rattle.sdh_world.proofs.Clocks.{clocks_go_on, goes_run}
 use Rattle.sdh_rounds.specs.Runs as any_run
 use Rattle.sdh_rounds.proofs.Laws.{known_rounds_are, known_steps}
-use Rattle.sdh_laws.proofs.hearing.Staying.{left_all, left_run, left_in, left_stretches}
-use Rattle.sdh_laws.proofs.hearing.Changes.{whole_all}
-use Rattle.sdh_laws.proofs.hearing.Requests.{whole_stretches}
+use Rattle.sdh_laws.proofs.hearing.Staying.{left_run, left_in}
 use Rattle.sdh_laws.specs.Hearing.Laws.{IsWhole}
 use Rattle.sdh_laws.specs.Carrying.Windows.{Layout, layout_of, slots_of, HasCircuits}
 use Rattle.sdh_laws.proofs.carrying.Ways.{layout_run}
-use Rattle.sdh_laws.proofs.carrying.Settles.{layout_all, layout_stretches}
 use Rattle.sdh_laws.proofs.carrying.Owed.{port_is_there}
 use Rattle.sdh_routes.proofs.Ways.{end_inside}
 use Rattle.sdh_laws.specs.Strangers.Owners.{NoneMeetsAStranger, AreClocksOf, AreClocksBetween}
 use Rattle.sdh_laws.specs.Strangers.Vouched.{IsVouched}
-use Rattle.sdh_laws.specs.Strangers.Laws.{NoneHolds, HoldsAside, HeldAside, KeepsStrangersOutInAll, VouchedRingsStay}
+use Rattle.sdh_laws.specs.Strangers.Laws.{HoldsAside, HeldAside, KeepsStrangersOutInAll, VouchedRingsStay}
 use Rattle.sdh_laws.specs.Strangers.Laws.{RoundsKeepStrangersOut, NodesAsideMayBeHeld, HeldBesidePassing, NodesThatDoNotPassMayBeHeld}
 use Rattle.sdh_laws.specs.Strangers.Laws.{StepsKeepStrangersOut, NoPortEverMeetsAStranger, RingsComeToBeVouchedFor}
-use Rattle.sdh_laws.specs.Strangers.Laws.{NoPortMeetsAStrangerForLong}
+use Rattle.sdh_laws.specs.Strangers.Laws.{SettledRingsAreVouchedFor}
 use Rattle.sdh_laws.proofs.strangers.Vouched.{vouched_changed, vouched_new, vouched_after, ready_aside, none_meets}
 use Rattle.sdh_laws.proofs.strangers.Safe.{IsSafe, safe_of, safe_ready}
+use Rattle.sdh_laws.proofs.strangers.Windows.{window_vouched}
 use Rattle.sdh_laws.proofs.strangers.Quiet.{safe_in}
-use Rattle.sdh_laws.proofs.strangers.Keeping.{none_aside, layout_in, kept_run, kept_in, rounds_together, happens_in_parts, world_behind}
+use Rattle.sdh_laws.proofs.strangers.Keeping.{none_aside, layout_in, kept_run, kept_in}
 use Rattle.sdh_laws.proofs.strangers.Clearing.{clearing_in, cleared}
 
 pub vouched_rings_stay : VouchedRingsStay
@@ -75,26 +73,28 @@ module _ (clocks : PortId → ℕ → Clock) where
 
 -- ---- rounds alone
 
-module _ (w : World) (form : HasCircuits (layout_of w)) (many : ℕ) (clocks : PortId → ℕ → Clock) (k : IsVouched clocks w)
+module _ (w : World) (form : HasCircuits (layout_of w)) (many : ℕ) (clocks : PortId → ℕ → Clock) (whole : IsWhole w)
     (told : AreClocksBetween clocks w (run many w)) where
-  form_run : (j : ℕ) → HasCircuits (layout_of (run j w))
-  form_run j = subst HasCircuits (sym (layout_run w j)) form
-
   tells_run : (j : ℕ) → j < many → AreClocksOf clocks (run j w).ring
   tells_run j few i c there e =
       let q = port_id i e in
       let get : slice_get w.ring.circuits.circuits i ≡ Some c =
       ap (λ (l : Layout). slice_get l.circuits i) (sym (layout_run w j)) ∙ there in
       let has : HasPortIn w.ring q =
-      port_is_there w k.whole i c e get (end_inside (length w.ring.ids)
+      port_is_there w whole i c e get (end_inside (length w.ring.ids)
       (slots_of (layout_of w)) w.ring.circuits.circuits form i c get e) in
       let number : j ≡ w.ring.rounds + j - w.ring.rounds = omega arith in
       let before : w.ring.rounds + j < (run many w).ring.rounds = omega (arith, (left_run many w).rounds) in
       (goes_run q j w has).1 ∙ ap (λ t. ticks t (clock_at w.ring q)) number ∙ told i c get e (w.ring.rounds + j) (omega arith) before
       ∙ ap (clocks q) (sym (left_run j w).rounds)
 
+module _ (w : World) (form : HasCircuits (layout_of w)) (many : ℕ) (clocks : PortId → ℕ → Clock) (k : IsVouched clocks w)
+    (told : AreClocksBetween clocks w (run many w)) where
+  form_run : (j : ℕ) → HasCircuits (layout_of (run j w))
+  form_run j = subst HasCircuits (sym (layout_run w j)) form
+
   vouched_run : (j : ℕ) → j ≤ many → IsVouched clocks (run j w)
-  vouched_run j few = runs_vouched clocks j w form k (λ i h. tells_run i (omega arith))
+  vouched_run j few = runs_vouched clocks j w form k (λ i h. tells_run w form many clocks k.whole told i (omega arith))
 
   none_in : (j : ℕ) → j < many → NoneMeetsAStranger clocks (run (suc j) w).ring
   unfolding any_run.run
@@ -121,6 +121,13 @@ steps_keep_strangers_out = record {
       × ((j : ℕ) → 1 ≤ j → w.ring.rounds + j ≤ v.ring.rounds → NoneMeetsAStranger clocks (run j w).ring)) (sym n.1)
       (run_keeps w form limit clocks k));
 }
+
+-- what a settle step leaves, whatever the ring carried
+pub settled_rings_are_vouched_for : StillRingsAreSettled → SettledRingsAreVouchedFor
+settled_rings_are_vouched_for law w left limit clocks whole form settles =
+    let n = (known_steps adm).settled w left limit (inl whole.paired.honest.honest) settles in
+    subst (λ (v : World). AreClocksBetween clocks w v → IsVouched clocks v) (sym n.2)
+    (λ told. window_vouched clocks law w form whole n.0 n.1.window (λ j few. tells_run w form n.0 clocks whole told j few))
 
 -- ---- from every whole ring on
 
@@ -149,7 +156,7 @@ module _ (s : Settings) (ids : List ℕ) (circuits : Provisioning) (f : Fibres) 
   ran_at : (t : ℕ) → t ≤ rounds_in ss → (world_in ss w t).ring.rounds ≡ t
   ran_at t h = (left_in ss w t h).rounds ∙ (let e : 0 + t ≡ t = omega arith in e)
 
-  tells : (t : ℕ) → t < rounds_in ss → AreClocksOf clocks (world_in ss w t).ring
+  pub tells : (t : ℕ) → t < rounds_in ss → AreClocksOf clocks (world_in ss w t).ring
   tells t h i c there e =
       let q = port_id i e in
       let get : slice_get cs i ≡ Some c = ap (λ (l : Layout). slice_get l.circuits i) (sym (layout_in ss w t)) ∙ there in
@@ -175,43 +182,6 @@ module _ (s : Settings) (ids : List ℕ) (circuits : Provisioning) (f : Fibres) 
       safe_in clocks law ⊥ ss w t ring (safe_of clocks w begins) (λ z. absurd z) happen held tells (omega arith) in
       none_meets clocks (world_in ss w t) form (safe_ready clocks (world_in ss w t) form safe (tells t h))
 
-  -- behind stretches in which controllers may be held
-  module _ (earlier : List Stretch) (last : Stretch) (free : List Stretch) (is : ss ≡ earlier ++ last ∷ free) (happen : MayHappen w ss)
-      (none : NoneHolds free) where
-    abbrev u : World
-    u = after_stretches earlier w
-
-    -- from the last changes that may hold a controller on
-    abbrev v : World
-    v = all_changed last.changes u
-
-    abbrev since : List Stretch
-    since = record { changes = []; rounds = last.rounds } ∷ free
-
-    there : (t : ℕ) → world_in ss w (rounds_in earlier + t) ≡ world_in since v t
-    there t = ap (λ xs. world_in xs w (rounds_in earlier + t)) is ∙ world_behind earlier (last ∷ free) w t
-
-    many : rounds_in ss ≡ rounds_in earlier + rounds_in since
-    many = ap rounds_in is ∙ rounds_together earlier (last ∷ free)
-
-    parted : MayHappen w earlier × MayHappen u (last ∷ free)
-    parted = happens_in_parts earlier (last ∷ free) w (subst (MayHappen w) is happen)
-
-    whole_then : IsWhole v
-    whole_then = whole_all last.changes u parted.1.0 (whole_stretches earlier w parted.0 begins.whole)
-
-    pub no_stranger_behind : (t : ℕ) → 100 + length ids * (length ids + 1) ≤ t → t < rounds_in since
-        → NoneMeetsAStranger clocks (round (world_in ss w (rounds_in earlier + t))).ring
-    no_stranger_behind t long low =
-        let same : v.ring.ids ≡ ids = (left_all last.changes u).ids ∙ (left_stretches earlier w).ids in
-        let told : (j : ℕ) → j < rounds_in since → AreClocksOf clocks (world_in since v j).ring =
-        λ j h. subst (λ (x : World). AreClocksOf clocks x.ring) (there j) (tells (rounds_in earlier + j) (omega (arith, many))) in
-        let form : HasCircuits (layout_of v) = subst HasCircuits (sym (layout_all last.changes u ∙ layout_stretches earlier w)) ring in
-        none_met (rounds_in earlier + t) (omega (arith, many))
-        (subst (IsVouched clocks) (sym (there t))
-        (rings_come_to_be_vouched_for 100 v since clocks whole_then form whole_then.paired.held (tt, parted.1.1) (tt, none) told t
-        (subst (λ (xs : List ℕ). 100 + length xs * (length xs + 1) ≤ t) (sym same) long) (omega arith)))
-
 pub no_port_ever_meets_a_stranger : NoPortEverMeetsAStranger
 no_port_ever_meets_a_stranger s ids circuits f ss are honest happen none ring t h =
     no_stranger s ids circuits f ss are honest ring happen (none_aside (new_world s ids circuits f) ss none) t h
@@ -223,7 +193,3 @@ nodes_aside_may_be_held s ids circuits f ss are honest happen aside ring t h =
 pub nodes_that_do_not_pass_may_be_held : StillRingsAreSettled → NodesThatDoNotPassMayBeHeld
 nodes_that_do_not_pass_may_be_held law s ids circuits f ss are honest happen held ring t h =
     no_stranger_beside s ids circuits f ss are honest ring law happen held t h
-
-pub no_port_meets_a_stranger_for_long : NoPortMeetsAStrangerForLong
-no_port_meets_a_stranger_for_long s ids circuits f earlier last free are honest happen none ring t long low =
-    no_stranger_behind s ids circuits f (earlier ++ last ∷ free) are honest ring earlier last free refl happen none t long low

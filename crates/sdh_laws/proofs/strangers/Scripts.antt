@@ -1,9 +1,12 @@
--- Which controllers a script may hold, told by what happened in it.
+-- Which controllers a script may hold, told by what happened in it: a hold spoils its own step alone.
 use Rattle.std.proofs.Common.{◌≡◌, ℕ, zero, suc, ◌+◌, ◌-◌, ◌<◌, ◌≤◌, List, [], ◌∷◌, ◌++◌, length, refl, ap, sym, ◌∙◌, subst, arith, inl, inr}
 use Rattle.std.proofs.Common.{append_assoc}
+use Rattle.std.specs.Prelude.{◌/◌}
 use Rattle.std.proofs.lemmas.Bool.{cases_lt}
+use Rattle.sdh_terms.specs.Rates.{n_of}
 use Rattle.sdh_ringmap.specs.Places.{position_of}
-use Rattle.sdh_circuits.specs.Provisioning.{Provisioning}
+use Rattle.sdh_circuits.specs.declared.PortId.{PortId}
+use Rattle.sdh_circuits.specs.Provisioning.{Provisioning, AreCircuits}
 use Rattle.sdh_nodestate.specs.declared.NodeState.{NodeState}
 use Rattle.sdh_nodestate.specs.declared.NodeState.TheVariants as state
 use Rattle.sdh_plant.specs.Fibres.{Fibres}
@@ -14,7 +17,8 @@ use Rattle.sdh_settling.specs.Settled.{settled}
 use Rattle.sdh_node.specs.Node.{Node, new_node, at_receiving, held_for, slips_at}
 use Rattle.sdh_node.specs.Receiving.{commanded_by}
 use Rattle.sdh_world.specs.Held.{node_at, at_place, place_of_port}
-use Rattle.sdh_world.specs.Rounds.{World}
+use Rattle.sdh_payload.specs.Clock.{Clock}
+use Rattle.sdh_world.specs.Rounds.{World, round}
 use Rattle.sdh_world.specs.Runs.{run, course}
 use Rattle.sdh_world.specs.Quiet.{EndsWindow}
 use Rattle.sdh_promise.specs.Changes.{Change, Stretch, rounds_in}
@@ -22,18 +26,26 @@ use Rattle.sdh_promise.specs.Changes.{Fibre, Order, Hold, Slip, Now}
 use Rattle.sdh_promise.specs.Owed.{asked_in}
 use Rattle.sdh_world.specs.Changes.{changed, all_changed, after_stretch, after_stretches, new_world}
 use Rattle.sdh_world.specs.Laws.{MayHappen}
+use Rattle.sdh_world.specs.Clocks.{clocks_by}
+use Rattle.sdh_world.specs.Sides.{world_in}
 use Rattle.sdh_laws.specs.Hearing.Laws.{IsWhole, MayStart}
 use Rattle.sdh_laws.proofs.hearing.Nodes.{count}
-use Rattle.sdh_laws.proofs.hearing.Staying.{left_all, left_run, left_stretches}
+use Rattle.sdh_laws.proofs.hearing.Staying.{left_all, left_run, left_stretches, world_low, world_later}
+use Rattle.sdh_laws.specs.Carrying.Windows.{layout_of, HasCircuits}
+use Rattle.sdh_laws.proofs.carrying.Ways.{layout_run}
+use Rattle.sdh_laws.specs.Strangers.Owners.{NoneMeetsAStranger, AreClocksOf}
 use Rattle.sdh_laws.proofs.hearing.Changes.{each_new, whole_run}
-use Rattle.sdh_laws.proofs.hearing.Requests.{after_last, whole_last, stretches_settle}
-use Rattle.sdh_laws.proofs.carrying.Settles.{each_settled}
+use Rattle.sdh_laws.proofs.hearing.Requests.{whole_last, stretches_settle}
+use Rattle.sdh_laws.proofs.carrying.Settles.{each_settled, layout_all, layout_stretches}
 use Rattle.sdh_laws.specs.Strangers.Vouched.{IsAside}
-use Rattle.sdh_laws.specs.Strangers.Laws.{HoldsAside, EachMay, IsNoPass, HoldsNoPass, HeldBesidePassing, last_requests, HoldsNonePassing}
-use Rattle.sdh_laws.specs.Strangers.Laws.{HoldNonePassing, NonePassingHeld, EndQuietly, NoStrangerUnlessPassingNodesAreHeld}
-use Rattle.sdh_laws.proofs.strangers.Keeping.{rounds_together, happens_in_parts}
-use Rattle.sdh_laws.proofs.strangers.Quiet.{node_beyond}
-use Rattle.sdh_laws.proofs.strangers.Runs.{nodes_that_do_not_pass_may_be_held}
+use Rattle.sdh_laws.specs.Strangers.Laws.{HoldsAside, EachMay, IsNoPass, HoldsNoPass, last_requests, HoldsNonePassing, HoldNonePassing}
+use Rattle.sdh_laws.specs.Strangers.Laws.{EndQuietly, AHoldSpoilsItsOwnStepAlone}
+use Rattle.sdh_laws.proofs.strangers.Keeping.{layout_in, rounds_together, happens_in_parts, world_behind}
+use Rattle.sdh_laws.proofs.strangers.Vouched.{none_meets}
+use Rattle.sdh_laws.proofs.strangers.Windows.{window_vouched, window_shields}
+use Rattle.sdh_laws.proofs.strangers.Safe.{IsSafe, safe_of, safe_ready}
+use Rattle.sdh_laws.proofs.strangers.Quiet.{node_beyond, safe_in}
+use Rattle.sdh_laws.proofs.strangers.Runs.{tells, nodes_that_do_not_pass_may_be_held}
 
 -- ---- changes leave all states
 
@@ -120,6 +132,11 @@ module _ (threshold wait n : ℕ) (earlier : List Stretch) (ran : earlier ≡ []
   each_no_pass (c ∷ cs) w all may =
       (one_no_pass c w all may.0, each_no_pass cs (changed c w) (follows_on rs n c w all) may.1)
 
+-- the last of some stretches
+snoc : (x : Stretch) (xs : List Stretch) → (before : List Stretch) × (last : Stretch) × (x ∷ xs ≡ before ++ last ∷ [])
+snoc x [] = ([], x, refl)
+snoc x (y ∷ xs) = (let parted = snoc y xs in (x ∷ parted.0, parted.1, ap (λ ss. x ∷ ss) parted.2))
+
 not_none : (earlier : List Stretch) (last : Stretch) → earlier ++ last ∷ [] ≡ [] → ⊥
 not_none [] last z = cc
 not_none (s ∷ earlier) last z = cc
@@ -158,29 +175,115 @@ module _ (law : StillRingsAreSettled) (s : Settings) (ids : List ℕ) (circuits 
           λ high. node_beyond (run last.rounds v).ring.nodes p (omega arith),
         )
 
-  beside : (earlier : List Stretch) (last : Stretch) (u : World) → after_stretches earlier from ≡ u → (rest : List Stretch)
-      → EndQuietly u (last ∷ rest) → NonePassingHeld s.threshold s.wait n (earlier ++ last ∷ []) rest
-      → MayHappen from ((earlier ++ last ∷ []) ++ rest)
-      → HeldBesidePassing (EndsWindow (course (all_changed last.changes u)) last.rounds) (after_stretch last u) rest
-  beside earlier last u is [] ended held happen = tt
-  beside earlier last u is (r ∷ rest) ended held happen =
-      let now = earlier ++ last ∷ [] in
-      let until : MayHappen from now = (happens_in_parts now (r ∷ rest) from happen).0 in
-      let all : Follows (last_requests s.threshold s.wait n now) n (after_stretch last u) =
-      subst (λ (x : World). Follows (last_requests s.threshold s.wait n now) n (after_stretch last x)) is
-      (follows earlier last until (subst (λ (x : World). EndsWindow (course (all_changed last.changes x)) last.rounds) (sym is) ended.0)) in (
-        inr (ended.0, each_no_pass s.threshold s.wait n now (not_none earlier last) r.changes (after_stretch last u) all held.0),
-        beside now r (after_stretch last u) (after_last earlier last from ∙ ap (after_stretch last) is) rest ended.1 held.1
-            (subst (MayHappen from) (sym (append_assoc now (r ∷ []) rest)) happen),
-      )
+  -- ---- a step behind a quiet window
 
-  whole_script : (ss : List Stretch) → EndQuietly from ss → NonePassingHeld s.threshold s.wait n [] ss → MayHappen from ss
-      → HeldBesidePassing ⊥ from ss
-  whole_script [] ended held happen = tt
-  whole_script (x ∷ ss) ended held happen =
-      (inl (each_aside x.changes from (new_aside s ids circuits f)), beside [] x from refl ss ended held.1 happen)
+  ends_behind : (before : List Stretch) (last next : Stretch) (w : World) → EndQuietly w (before ++ last ∷ next ∷ [])
+      → EndsWindow (course (all_changed last.changes (after_stretches before w))) last.rounds
+  ends_behind [] last next w ended = ended.0
+  ends_behind (x ∷ []) last next w ended = ended.1.0
+  ends_behind (x ∷ y ∷ before) last next w ended = ends_behind (y ∷ before) last next (after_stretch x w) ended.1
 
-pub no_stranger_unless_passing_nodes_are_held : StillRingsAreSettled → NoStrangerUnlessPassingNodesAreHeld
-no_stranger_unless_passing_nodes_are_held law s ids circuits f ss may happen ended held ring t low =
-    nodes_that_do_not_pass_may_be_held law s ids circuits f ss may.ids_ok may.honest happen
-    (whole_script law s ids circuits f may ss ended held happen) ring t low
+  module _ (ring : AreCircuits n (n_of s.rate / 2) circuits.circuits) (before : List Stretch) (last next : Stretch) (ss : List Stretch)
+      (is : ss ≡ before ++ last ∷ next ∷ []) (happen : MayHappen from ss) (ended : EndQuietly from ss)
+      (held : HoldNonePassing s.threshold s.wait n (before ++ last ∷ []) next.changes) where
+    abbrev clocks : PortId → ℕ → Clock
+    clocks = clocks_by circuits.circuits ss
+
+    abbrev begun : World
+    begun = all_changed last.changes (after_stretches before from)
+
+    abbrev u : World
+    u = after_stretch last (after_stretches before from)
+
+    parts : MayHappen from before × MayHappen (after_stretches before from) (last ∷ next ∷ [])
+    parts = happens_in_parts before (last ∷ next ∷ []) from (subst (MayHappen from) is happen)
+
+    until : MayHappen from (before ++ last ∷ [])
+    until =
+        (happens_in_parts (before ++ last ∷ []) (next ∷ []) from
+        (subst (MayHappen from) (is ∙ sym (append_assoc before (last ∷ []) (next ∷ []))) happen)).0
+
+    window : EndsWindow (course begun) last.rounds
+    window = ends_behind before last next from (subst (EndQuietly from) is ended)
+
+    many : rounds_in ss ≡ rounds_in before + rounds_in (last ∷ next ∷ [])
+    many = ap rounds_in is ∙ rounds_together before (last ∷ next ∷ [])
+
+    there : (t : ℕ) → world_in ss from (rounds_in before + t) ≡ world_in (last ∷ next ∷ []) (after_stretches before from) t
+    there t = ap (λ xs. world_in xs from (rounds_in before + t)) is ∙ world_behind before (last ∷ next ∷ []) from t
+
+    told : (t : ℕ) → t < rounds_in (last ∷ next ∷ []) → AreClocksOf clocks (world_in (last ∷ next ∷ []) (after_stretches before from) t).ring
+    told t h =
+        subst (λ (x : World). AreClocksOf clocks x.ring) (there t)
+        (tells s ids circuits f ss may.ids_ok may.honest ring (rounds_in before + t) (omega (arith, many)))
+
+    told_last : (i : ℕ) → i < last.rounds → AreClocksOf clocks (run i begun).ring
+    told_last i h =
+        subst (λ (x : World). AreClocksOf clocks x.ring) (world_low last (next ∷ []) (after_stretches before from) i h) (told i (omega arith))
+
+    told_next : (i : ℕ) → i < rounds_in (next ∷ []) → AreClocksOf clocks (world_in (next ∷ []) u i).ring
+    told_next i h =
+        subst (λ (x : World). AreClocksOf clocks x.ring) (world_later last (next ∷ []) (after_stretches before from) i)
+        (told (last.rounds + i) (omega arith))
+
+    form_begun : HasCircuits (layout_of begun)
+    form_begun = subst HasCircuits (sym (layout_all last.changes (after_stretches before from) ∙ layout_stretches before from)) ring
+
+    whole_begun : IsWhole begun
+    whole_begun = whole_v before last until window
+
+    form_u : HasCircuits (layout_of u)
+    form_u = subst HasCircuits (sym (layout_run begun last.rounds)) form_begun
+
+    safe_then : (t : ℕ) → t ≤ rounds_in (next ∷ []) → IsSafe clocks (world_in (next ∷ []) u t)
+    safe_then t h =
+        safe_in clocks law (Unit {0}) (next ∷ []) u t form_u
+        (safe_of clocks u (window_vouched clocks law begun form_begun whole_begun last.rounds window told_last))
+        (λ z. window_shields clocks law begun form_begun whole_begun last.rounds window told_last) parts.1.1 (
+          inr (
+            tt,
+            each_no_pass s.threshold s.wait n (before ++ last ∷ []) (not_none before last) next.changes u
+                (follows before last until window) held,
+          ),
+          tt,
+        ) told_next h
+
+    none_behind : (t : ℕ) → t < next.rounds
+        → NoneMeetsAStranger clocks (round (world_in ss from (rounds_in (before ++ last ∷ []) + t))).ring
+    none_behind t h =
+        let now = world_in (next ∷ []) u t in
+        let form_now : HasCircuits (layout_of now) = subst HasCircuits (sym (layout_in (next ∷ []) u t)) form_u in
+        let place : rounds_in (before ++ last ∷ []) + t ≡ rounds_in before + (last.rounds + t) =
+        (let r = rounds_together before (last ∷ []) in omega arith) in
+        let same : world_in ss from (rounds_in (before ++ last ∷ []) + t) ≡ now =
+        ap (world_in ss from) place ∙ there (last.rounds + t) ∙ world_later last (next ∷ []) (after_stretches before from) t in
+        subst (λ (x : World). NoneMeetsAStranger clocks (round x).ring) (sym same)
+        (none_meets clocks now form_now (safe_ready clocks now form_now (safe_then t (omega arith)) (told_next t (omega arith))))
+
+  -- ---- any step
+
+  -- in each round of the last of some stretches
+  abbrev Spoils : List Stretch → Stretch → Type 0
+  Spoils earlier last =
+      MayHappen from (earlier ++ last ∷ []) → EndQuietly from (earlier ++ last ∷ [])
+      → HoldNonePassing s.threshold s.wait n earlier last.changes → AreCircuits n (n_of s.rate / 2) circuits.circuits
+      → (t : ℕ) → t < last.rounds → NoneMeetsAStranger (clocks_by circuits.circuits (earlier ++ last ∷ []))
+      (round (world_in (earlier ++ last ∷ []) from (rounds_in earlier + t))).ring
+
+  first : (last : Stretch) → Spoils [] last
+  first last happen ended held ring t h =
+      nodes_that_do_not_pass_may_be_held law s ids circuits f (last ∷ []) may.ids_ok may.honest happen
+      (inl (each_aside last.changes from (new_aside s ids circuits f)), tt) ring (0 + t) (omega arith)
+
+  behind : (before : List Stretch) (last next : Stretch) → Spoils (before ++ last ∷ []) next
+  behind before last next happen ended held ring t h =
+      none_behind ring before last next ((before ++ last ∷ []) ++ next ∷ []) (append_assoc before (last ∷ []) (next ∷ [])) happen ended held t h
+
+  spoils : (earlier : List Stretch) (last : Stretch) → Spoils earlier last
+  spoils [] last = first last
+  spoils (x ∷ earlier) last =
+      let parted = snoc x earlier in
+      subst (λ (ss : List Stretch). Spoils ss last) (sym parted.2) (behind parted.0 parted.1 last)
+
+pub a_hold_spoils_its_own_step_alone : StillRingsAreSettled → AHoldSpoilsItsOwnStepAlone
+a_hold_spoils_its_own_step_alone law s ids circuits f earlier last may = spoils law s ids circuits f may earlier last

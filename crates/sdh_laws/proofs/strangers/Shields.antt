@@ -206,3 +206,9 @@ pub record Shields (clocks : PortId → ℕ → Clock) (a b : ℕ) (w : World) (
       → carried_on w.fibres (fibre q (opposite e)) ≡ Some line → 1 ≤ m → m ≤ slots_of (layout_of w)
       → HoldsAtMost w.ring.circuits.circuits clocks w.ring.rounds
       (streams_to e (circuits_at (length w.ring.ids) w.ring.circuits.circuits x m (opposite e))) (au_in w (slots_of (layout_of w) + m) line)
+
+-- each switched node has a shield
+abbrev pub AllShielded : (PortId → ℕ → Clock) → World → Type 0
+AllShielded clocks w =
+    (x : ℕ) (e : Side) (f : Option Pos) → x < length w.ring.nodes → (node_at w.ring.nodes x).state ≡ Switch (opposite e) f
+    → Shields clocks (length w.ring.ids) (length w.ring.ids) w x e

@@ -39,7 +39,7 @@ use Rattle.sdh_laws.proofs.carrying.Connections.{sends_working, sends_protection
 use Rattle.sdh_routes.specs.Walks.{port, port_at, stands_in, working_in, protection_in}
 use Rattle.sdh_routes.proofs.Views.{AreOnRing}
 use Rattle.sdh_laws.specs.Strangers.Vouched.{streams_to, spoken_of, au_in, IsAside}
-use Rattle.sdh_laws.proofs.strangers.Content.{Bears, Fine, bears_sent}
+use Rattle.sdh_laws.proofs.strangers.Content.{IsCarried, Bears, Fine, bears_sent}
 use Rattle.sdh_laws.proofs.strangers.Lags.{place_on, working_lag, spoken_lag, AreLags}
 use Rattle.sdh_settling.proofs.OneNode.{long_from}
 use Rattle.sdh_rounds.specs.Rounds as any_round
@@ -95,6 +95,19 @@ module _ (Own : ℕ → Option PortId → Au → Type 0) where
     pub working : AtEach (WorksOn w) w.ring.nodes
     pub protection : AtEach (SpeaksOf w) w.ring.nodes
 
+-- an AU-4 of a frame that was sent
+pub sent_bears : (Own : Option PortId → Au → Type 0) → IsCarried Own → (w : World) → IsWhole w → (o : Option OnSpan) (y : Side) (p au : ℕ)
+    (d : Side) (line : List ℕ) → p < length w.ring.nodes → 1 ≤ au → au ≤ n_of w.ring.settings.rate
+    → carried_on (round w).fibres (fibre p d) ≡ Some line
+    → Fine Own o y (sent_at w p d au) → Bears Own o y (au_in w au line)
+sent_bears Own own w whole o y p au d line h low high there fine =
+    let k = au - 1 in
+    let back : k + 1 ≡ au = omega arith in
+    subst (λ a. Bears Own o y (au_in w a line)) back
+    (subst (Bears Own o y) (sym (au_left w whole p d h line there k (omega arith)))
+    (bears_sent Own own o y (state_at w whole p d h k) (sent_at w p d (k + 1))
+    (subst (λ a. Fine Own o y (sent_at w p d a)) (sym back) fine)))
+
 module _ (Was Own : ℕ → Option PortId → Au → Type 0) (lags : AreLags Was Own) where
   -- ---- what comes in
 
@@ -141,6 +154,11 @@ module _ (Was Own : ℕ → Option PortId → Au → Type 0) (lags : AreLags Was
     abbrev pub s : Scene
     s = scene_in (next_node w whole p)
 
+    pub sourced_words : (d : Side) (k : K) → long s d ≡ Some k → IsMember ids k.from
+    sourced_words d k e =
+        subst (λ (j : K). IsMember ids j.from) (heard_came w whole p h d k (long_from s d k e).heard).is
+        (whole.paired.sourced (back d) (neighbour_inside w whole p d) (opposite d))
+
     -- ---- both arrivals
 
     module _ (vouched : Vouches Was w) (m : ℕ) (low : 1 ≤ m) (high : m ≤ slots) where
@@ -167,11 +185,6 @@ module _ (Was Own : ℕ → Option PortId → Au → Type 0) (lags : AreLags Was
           (subst (λ y. Bears (Was (spoken_lag ids cs m y (word_to w p d) (back d))) (spoken_of ids cs m y (word_to w p d)) y
           (au_in w (slots + m) line)) (opposite_twice d)
           (vouched.protection (back d) (neighbour_inside w whole p d) m (opposite d) line there low high))))
-
-      sourced_words : (d : Side) (k : K) → long s d ≡ Some k → IsMember ids k.from
-      sourced_words d k e =
-          subst (λ (j : K). IsMember ids j.from) (heard_came w whole p h d k (long_from s d k e).heard).is
-          (whole.paired.sourced (back d) (neighbour_inside w whole p d) (opposite d))
 
       silence : (value_at w p m Ais).action ≡ action.Ais
       silence = refl
@@ -258,33 +271,18 @@ module _ (Was Own : ℕ → Option PortId → Au → Type 0) (lags : AreLags Was
 
   module _ (w : World) (whole : IsWhole w) (ring : AreOnRing (length w.ring.ids) w.ring.circuits.circuits)
       (held_stand : HeldStand Own w) (held_say : HeldSay Own w) (vouched : Vouches Was w) (add : AddOwn w) where
-    abbrev size : ℕ
-    size = n_of w.ring.settings.rate
-
     pub added_at : (p m j i : ℕ) (c : Provisioned) (e : End) → slice_get w.ring.circuits.circuits i ≡ Some c → port_at c e ≡ p
         → Own j (Some (port_id i e)) (value_at w p m (port i e)).au
     added_at p m j i c e get at =
         subst (λ q. Own j (Some (port_id i e)) (added_by (node_at w.ring.nodes q).ports (port_id i e)).au) at (add j i c e get)
 
-    -- an AU-4 of a frame that was sent
-    pub sent_bears : (i : ℕ) (o : Option OnSpan) (y : Side) (p au : ℕ) (d : Side) (line : List ℕ) → p < length w.ring.nodes → 1 ≤ au → au ≤ size
-        → carried_on (round w).fibres (fibre p d) ≡ Some line
-        → Fine (Own i) o y (sent_at w p d au) → Bears (Own i) o y (au_in w au line)
-    sent_bears i o y p au d line h low high there fine =
-        let k = au - 1 in
-        let back : k + 1 ≡ au = omega arith in
-        subst (λ a. Bears (Own i) o y (au_in w a line)) back
-        (subst (Bears (Own i) o y) (sym (au_left w whole p d h line there k (omega arith)))
-        (bears_sent (Own i) (lags.own i) o y (state_at w whole p d h k) (sent_at w p d (k + 1))
-        (subst (λ a. Fine (Own i) o y (sent_at w p d a)) (sym back) fine)))
-
     pub vouched_round : Vouches Own (round w)
     unfolding any_round.round any_round.round_with
     vouched_round = record {
       working = λ p h m d line there low high. (let ph : p < length w.ring.nodes = omega (arith, length-after w) in
-          sent_bears _ _ d p m d line ph low (omega arith) there
+          sent_bears _ (lags.own _) w whole _ d p m d line ph low (omega arith) there
           (working_goes w whole p ph vouched m low high ring (added_at p m) (λ held e. held_stand p m e ph low high held) d));
       protection = λ p h m d line there low high. (let ph : p < length w.ring.nodes = omega (arith, length-after w) in
-          sent_bears _ _ (opposite d) p (slots_of (layout_of w) + m) d line ph (omega arith) (omega arith) there
+          sent_bears _ (lags.own _) w whole _ (opposite d) p (slots_of (layout_of w) + m) d line ph (omega arith) (omega arith) there
           (protection_goes w whole p ph vouched m low high ring (added_at p m) (λ held e. held_say p m e ph low high held) d));
     }

@@ -115,12 +115,6 @@ HoldNonePassing threshold wait n earlier [] = Unit {0}
 HoldNonePassing threshold wait n earlier (c ∷ cs) =
     HoldsNonePassing threshold wait n earlier c × HoldNonePassing threshold wait n earlier cs
 
--- so do all changes of the stretches that follow
-abbrev pub NonePassingHeld : ℕ → ℕ → ℕ → List Stretch → List Stretch → Type 0
-NonePassingHeld threshold wait n earlier [] = Unit {0}
-NonePassingHeld threshold wait n earlier (s ∷ ss) =
-    HoldNonePassing threshold wait n earlier s.changes × NonePassingHeld threshold wait n (earlier ++ s ∷ []) ss
-
 -- each stretch but the last one ends with a quiet window
 abbrev pub EndQuietly : World → List Stretch → Type 0
 EndQuietly w [] = Unit {0}
@@ -189,16 +183,24 @@ NodesThatDoNotPassMayBeHeld =
     → (t : ℕ) → t < rounds_in ss → NoneMeetsAStranger (clocks_by circuits.circuits ss)
     (round (world_in ss (new_world s ids circuits f) t)).ring
 
--- From a new ring on, where each stretch but the last ends with a quiet window: in every round, as long as no controller is held of a node
--- that passes traffic through.
-abbrev pub NoStrangerUnlessPassingNodesAreHeld : Type 0
-NoStrangerUnlessPassingNodesAreHeld =
-    (s : Settings) (ids : List ℕ) (circuits : Provisioning) (f : Fibres) (ss : List Stretch) → MayStart s ids f
-    → MayHappen (new_world s ids circuits f) ss → EndQuietly (new_world s ids circuits f) ss
-    → NonePassingHeld s.threshold s.wait (length ids) [] ss
+-- ---- behind quiet windows
+
+-- What a settle step leaves is vouched for, whatever the ring carried before it, and whichever controllers missed their turns.
+abbrev pub SettledRingsAreVouchedFor : Type 0
+SettledRingsAreVouchedFor =
+    (w left : World) (limit : ℕ) (clocks : PortId → ℕ → Clock) → IsWhole w → HasCircuits (layout_of w) → Settles w limit left
+    → AreClocksBetween clocks w left → IsVouched clocks left
+
+-- So a hold spoils its own step alone. From a new ring on, where each stretch but the last ends with a quiet window: in every round of the
+-- last one, whatever was held before it, if its own changes hold no controller of a node that passes traffic through.
+abbrev pub AHoldSpoilsItsOwnStepAlone : Type 0
+AHoldSpoilsItsOwnStepAlone =
+    (s : Settings) (ids : List ℕ) (circuits : Provisioning) (f : Fibres) (earlier : List Stretch) (last : Stretch) → MayStart s ids f
+    → MayHappen (new_world s ids circuits f) (earlier ++ last ∷ []) → EndQuietly (new_world s ids circuits f) (earlier ++ last ∷ [])
+    → HoldNonePassing s.threshold s.wait (length ids) earlier last.changes
     → AreCircuits (length ids) (n_of s.rate / 2) circuits.circuits
-    → (t : ℕ) → t < rounds_in ss → NoneMeetsAStranger (clocks_by circuits.circuits ss)
-    (round (world_in ss (new_world s ids circuits f) t)).ring
+    → (t : ℕ) → t < last.rounds → NoneMeetsAStranger (clocks_by circuits.circuits (earlier ++ last ∷ []))
+    (round (world_in (earlier ++ last ∷ []) (new_world s ids circuits f) (rounds_in earlier + t))).ring
 
 -- ---- from every whole ring on
 
@@ -210,15 +212,3 @@ RingsComeToBeVouchedFor =
     → AtEach (λ p n. n.held ≤ most) w.ring.nodes → MayHappen w ss → NoneHolds ss
     → ((j : ℕ) → j < rounds_in ss → AreClocksOf clocks (world_in ss w j).ring)
     → (t : ℕ) → most + length w.ring.ids * (length w.ring.ids + 1) ≤ t → t ≤ rounds_in ss → IsVouched clocks (world_in ss w t)
-
--- In each round that comes so long behind the changes at which a controller was last held, which misses at most 100 turns: those of the
--- stretch `last`.
-abbrev pub NoPortMeetsAStrangerForLong : Type 0
-NoPortMeetsAStrangerForLong =
-    (s : Settings) (ids : List ℕ) (circuits : Provisioning) (f : Fibres) (earlier : List Stretch) (last : Stretch) (free : List Stretch)
-    → AreIds ids → IsHonest f
-    → MayHappen (new_world s ids circuits f) (earlier ++ last ∷ free) → NoneHolds free
-    → AreCircuits (length ids) (n_of s.rate / 2) circuits.circuits
-    → (t : ℕ) → 100 + length ids * (length ids + 1) ≤ t → t < last.rounds + rounds_in free
-    → NoneMeetsAStranger (clocks_by circuits.circuits (earlier ++ last ∷ free))
-    (round (world_in (earlier ++ last ∷ free) (new_world s ids circuits f) (rounds_in earlier + t))).ring

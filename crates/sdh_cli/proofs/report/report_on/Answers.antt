@@ -2,7 +2,7 @@ use Rattle.std.proofs.Common.{◌≡◌, Some, refl, sym, ◌∙◌, ap}
 use Rattle.std.specs.Prelude.{option_map}
 use Rattle.std.proofs.lemmas.Result.{IfOk-weaker}
 use Rattle.sdh_scripts.proofs.Answered.{on_two}
-use Rattle.sdh_plan.specs.Big.{big_planned}
+use Rattle.sdh_cli.specs.Big.{big_planned}
 use Rattle.sdh_shell.specs.Calls.{words_of}
 use Rattle.sdh_cli.specs.Words.{Big, ask_of, asked}
 use Rattle.sdh_cli.proofs.Endings.{plan_ends}

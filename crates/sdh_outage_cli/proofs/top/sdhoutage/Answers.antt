@@ -3,10 +3,10 @@ use Rattle.sdh_plant.specs.Arrivals.{Knows}
 use Rattle.sdh_shell.specs.Calls.{words_of}
 use Rattle.sdh_shell.specs.Failing.{Counts}
 use Rattle.sdh_shell.proofs.Told.{told_all}
-use Rattle.sdh_script.specs.Plans.{world_of}
-use Rattle.sdh_outage_script.specs.Plans.{ran_of}
-use Rattle.sdh_outage_script.specs.Outages.{Outaged}
-use Rattle.sdh_calls.proofs.Promises.{SettlesLarge, EndsKnown, shows, settles, ends_as}
+use Rattle.sdh_owed.specs.Plans.{world_of}
+use Rattle.sdh_outage_cli.specs.Plans.{ran_of}
+use Rattle.sdh_outage_cli.specs.Outages.{Outaged}
+use Rattle.sdh_scripts.proofs.Promises.{SettlesLarge, EndsKnown, shows, settles, ends_as}
 use Rattle.sdh_outage_cli.specs.Words.{asked}
 use Rattle.sdh_outage_cli.specs.Headline.{listening}
 use Rattle.sdh_outage_cli.proofs.top.sdhoutage.Goals as goal

@@ -3,12 +3,12 @@ use Rattle.sdh_plant.specs.Arrivals.{Knows}
 use Rattle.sdh_shell.specs.Calls.{words_of}
 use Rattle.sdh_shell.specs.Failing.{Counts}
 use Rattle.sdh_shell.proofs.Told.{told_all}
-use Rattle.sdh_script.specs.Plans.{world_of}
-use Rattle.sdh_watch_script.specs.Plans.{ran_of, ShowsClean}
-use Rattle.sdh_watching.specs.Shows.{Watched}
-use Rattle.sdh_calls.proofs.Promises.{SettlesLarge, EndsKnown, shows, settles, ends_as}
+use Rattle.sdh_owed.specs.Plans.{world_of}
+use Rattle.sdh_watch.specs.Plans.{ran_of, ShowsClean}
+use Rattle.sdh_watch.specs.Shows.{Watched}
+use Rattle.sdh_scripts.proofs.Promises.{SettlesLarge, EndsKnown, shows, settles, ends_as}
 use Rattle.sdh_watch.specs.Headline.{asked, watching}
-use Rattle.sdh_calls.specs.Outcome.{HasRead}
+use Rattle.sdh_scripts.specs.Outcome.{HasRead}
 use Rattle.sdh_watch.proofs.Asked.{is_asked, not_asked, no_run, asked_is}
 use Rattle.sdh_watch.proofs.top.sdhwatch.Goals as goal
 

@@ -5,4 +5,4 @@ use Rattle.std.proofs.Common.{subst}
 use Rattle.sdh_ring.proofs.ring.Ring.circuits_fit.Goals as goal
 
 pub returns : goal.returns
-returns c = subst (λ (r : HeldRing). HasCircuits (layout_in r)) c.self.view_is (rings_circuits _ c.self.invariant.ring)
+returns c = subst (λ (r : HeldRing). HasCircuits (layout_in r)) c.self.view_is (rings_circuits _ c.self.invariant)

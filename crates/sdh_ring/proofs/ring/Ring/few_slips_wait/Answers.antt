@@ -9,4 +9,4 @@ pub returns : goal.returns
 returns c = λ port there.
     let whole = ap (λ (r : HeldRing). r.broken) c.self.view_is ∙ c.requires in
     subst (λ (r : HeldRing). IsRested (clock_at r port)) c.self.view_is
-    (rested_there _ c.self.invariant.ring whole port (subst (λ (r : HeldRing). HasPortIn r port) (sym c.self.view_is) there))
+    (rested_there _ c.self.invariant whole port (subst (λ (r : HeldRing). HasPortIn r port) (sym c.self.view_is) there))

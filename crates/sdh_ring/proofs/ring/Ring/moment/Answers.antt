@@ -1,16 +1,26 @@
-use Rattle.std.proofs.Common.{sym, subst}
+use Rattle.std.proofs.Common.{◌≤◌, sym, subst}
 use Rattle.sdh_world.specs.Held.{HeldRing}
 use Rattle.sdh_world.specs.Rounds.{world}
+use Rattle.sdh_world.specs.Fixed.{IsRing}
 use Rattle.sdh_laws.specs.Hearing.Laws.{IsWhole}
 use Rattle.sdh_laws.specs.Strangers.Vouched.{IsVouched}
+use Rattle.sdh_ring.proofs.Rings.{ring_later}
 use Rattle.sdh_ring.proofs.Whole.{whole_later, vouched_later}
 use Rattle.sdh_ring.proofs.ring.Ring.moment.Goals as goal
 
+pub invariant_of-self : goal.invariant_of-self
+invariant_of-self c =
+    subst IsRing (sym c.moment.ensures)
+    (ring_later _ c.args.now.0 c.self.invariant (subst (λ (r : HeldRing). r.moment ≤ c.args.now.0) (sym c.self.view_is) c.requires.later)
+    c.requires.within)
+
 pub returns-clause-whole : goal.returns-clause-whole
-returns-clause-whole c =
-    λ f whole. whole_later c.stay_whole.ensures _ f c.args.now.0 (subst (λ (r : HeldRing). IsWhole (world r f)) (sym c.self.view_is) whole)
+returns-clause-whole c = λ f whole.
+    subst (λ (r : HeldRing). IsWhole (world r f)) (sym c.moment.ensures)
+    (whole_later c.stay_whole.ensures _ f c.args.now.0 (subst (λ (r : HeldRing). IsWhole (world r f)) (sym c.self.view_is) whole))
 
 pub returns-clause-vouched : goal.returns-clause-vouched
-returns-clause-vouched c =
-    λ f clocks is. vouched_later c.vouched_rings_stay.ensures _ f clocks
-    (subst (λ (r : HeldRing). IsVouched clocks (world r f)) (sym c.self.view_is) is) c.args.now.0
+returns-clause-vouched c = λ f clocks is.
+    subst (λ (r : HeldRing). IsVouched clocks (world r f)) (sym c.moment.ensures)
+    (vouched_later c.vouched_rings_stay.ensures _ f clocks
+    (subst (λ (r : HeldRing). IsVouched clocks (world r f)) (sym c.self.view_is) is) c.args.now.0)

@@ -2,15 +2,14 @@ use Rattle.sdh_ring.proofs.Owned.{owned_from, waits_there}
 use Rattle.sdh_ring.proofs.ring.Ring.place_of.Goals as goal
 
 pub returns-clause-place : goal.returns-clause-place
-returns-clause-place c = (owned_from _ _ c.args.port _ _ c.self.invariant.ring c.self.view_is c.get.ensures c.end_of-at.ensures).place
+returns-clause-place c = (owned_from _ _ c.args.port _ c.self.invariant c.self.view_is c.place_of.ensures).place
 
 pub returns-clause-inside : goal.returns-clause-inside
-returns-clause-inside c = (owned_from _ _ c.args.port _ _ c.self.invariant.ring c.self.view_is c.get.ensures c.end_of-at.ensures).inside
+returns-clause-inside c = (owned_from _ _ c.args.port _ c.self.invariant c.self.view_is c.place_of.ensures).inside
 
 pub returns-clause-port : goal.returns-clause-port
-returns-clause-port c = (owned_from _ _ c.args.port _ _ c.self.invariant.ring c.self.view_is c.get.ensures c.end_of-at.ensures).has
+returns-clause-port c = (owned_from _ _ c.args.port _ c.self.invariant c.self.view_is c.place_of.ensures).has
 
 pub returns-clause-waiting : goal.returns-clause-waiting
 returns-clause-waiting c =
-    waits_there c.args.self.now c.args.port _
-    (owned_from _ _ c.args.port _ _ c.self.invariant.ring c.self.view_is c.get.ensures c.end_of-at.ensures)
+    waits_there c.args.self.now c.args.port _ (owned_from _ _ c.args.port _ c.self.invariant c.self.view_is c.place_of.ensures)

@@ -1,5 +1,5 @@
 use Rattle.std.proofs.Common.{◌≡◌, ◌∙◌, ℕ, List, sym, ap, length}
-use Rattle.sdh_foretold.specs.Resting as model
+use Rattle.sdh_verdicts.specs.Resting as model
 use Rattle.sdh_verdicts.specs.Sides as walk
 use Rattle.sdh_verdicts.specs.Sides.{resting_of}
 use Rattle.sdh_verdicts.specs.Failures.{case_steps}

@@ -2,7 +2,7 @@ use Rattle.std.proofs.Common.{◌≡◌, ◌∙◌, ◌/◌, ◌++◌, ◌∷◌
 use Rattle.std.proofs.lemmas.List.{map-append}
 use Rattle.sdh_basics.specs.Cells.{cells}
 use Rattle.sdh_basics.proofs.CellsLaws.{cells-zero, cells-more}
-use Rattle.sdh_foretold.specs.Resting as model
+use Rattle.sdh_verdicts.specs.Resting as model
 use Rattle.sdh_verdicts.specs.Sides as walk
 use Rattle.sdh_verdicts.specs.Sides.{resting_of}
 use Rattle.sdh_verdicts.specs.Verdicts.{numbered}

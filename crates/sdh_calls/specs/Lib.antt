@@ -1,3 +1,0 @@
-pub mod Programs
-pub mod Outcome
-pub mod Headline

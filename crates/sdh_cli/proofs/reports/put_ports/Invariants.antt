@@ -1,0 +1,11 @@
+use Rattle.std.proofs.Common.{◌≡◌, ◌+◌, ◌*◌, ◌≤◌, ◌++◌, take}
+use Rattle.std.specs.List.{flat_map}
+use Rattle.sdh_report.specs.Reports.{told_line}
+use Rattle.sdh_owed.specs.Reports.{ports_from}
+use Rattle.sdh_cli.proofs.reports.put_ports.Given as goal
+
+abbrev pub invariant-loop-i : goal.invariant-loop-i
+invariant-loop-i l = record {
+  bytes : l.text.bytes ≡ l.initial.text.bytes ++ flat_map told_line (ports_from l.ring 0 (take l.i l.ring.circuits.circuits));
+  room : l.initial.text.room ≤ l.text.room + 192 * l.i;
+}

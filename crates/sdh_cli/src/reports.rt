@@ -1,0 +1,214 @@
+//! What is listed of a report.
+ghost use Rattle.std.specs.Prelude.{◌≡◌, ◌+◌, ◌-◌, ◌*◌, ◌≤◌, ◌<◌, ◌^◌, ◌++◌, Some, false, length, slice_get};
+ghost use Rattle.std.specs.List.{flat_map};
+ghost use Rattle.sdh_circuits.specs.declared.End.TheVariants.{A, B};
+ghost use Rattle.sdh_report.specs.Lines.{node_line, drop_lines, count_line};
+ghost use Rattle.sdh_report.specs.Reports.{told_line, report_text, delivered_in, chunks_of, silences_of, chunks_in, silences_in, listed};
+ghost use Rattle.sdh_owed.specs.Reports.{state_word, bytes_told, nodes_told, told_at, port_told, ports_from, ports_told, report_of};
+ghost use Rattle.sdh_world.specs.Held.{outlet_at};
+ghost use Rattle.sdh_cli.specs.Room.{report_room, MayList};
+
+use sdh_circuits::{Circuit, End, Name, PortId};
+use sdh_kbytes::{K, encode};
+use sdh_node::Delivered;
+use sdh_nodestate::NodeState;
+use sdh_report::{Listing, NodeLine, StateWord, Text, WordBytes};
+use sdh_ring::Ring;
+use sdh_ringmap::{Pos, Side};
+use sdh_scripts::put_settle;
+
+// What is told of a state.
+fn state_told(state: &NodeState) -> StateWord
+    ensures { result ≡ state_word state.now }
+{
+    match state {
+        NodeState::Idle(_) => StateWord::Idle,
+        NodeState::PassThrough(_) => StateWord::Pass,
+        NodeState::SwitchWest(_) => StateWord::SwitchWest,
+        NodeState::SwitchEast(_) => StateWord::SwitchEast,
+        NodeState::Isolated(_) => StateWord::Isolated,
+    }
+}
+
+// The bytes of a word.
+fn bytes_told(word: K) -> WordBytes
+    requires to { word.to ≤ 15 }
+    requires from { word.from ≤ 15 }
+    ensures { result ≡ bytes_told word }
+{
+    let (first, second) = encode(word);
+    WordBytes { first, second }
+}
+
+// What is told of the node at a position.
+fn node_told(ring: &Ring, at: u8) -> NodeLine
+    requires at { at < length ring.now.ids }
+    requires whole { ring.now.broken ≡ false }
+    ensures line { result ≡ told_at ring.now at }
+{
+    let node = ring.node(Pos(at));
+    NodeLine {
+        id: ring.map().id(Pos(at)),
+        state: state_told(node.state()),
+        west: bytes_told(node.sent_k(Side::West)),
+        east: bytes_told(node.sent_k(Side::East)),
+    }
+}
+
+// The line of the node at a position.
+fn put_node(text: &mut Text, ring: &Ring, at: u8)
+    requires at { at < length ring.now.ids }
+    requires whole { ring.now.broken ≡ false }
+    requires room { 96 ≤ text.old.room }
+    ensures bytes { text.new.bytes ≡ text.old.bytes ++ node_line (told_at ring.now at) }
+    ensures room { text.old.room ≤ text.new.room + 96 }
+{
+    let line = node_told(ring, at);
+    text.node_line(&line);
+}
+
+// The lines of all nodes.
+fn put_nodes(text: &mut Text, ring: &Ring)
+    requires whole { ring.now.broken ≡ false }
+    requires room { 96 * length ring.now.ids ≤ text.old.room }
+    ensures bytes { text.new.bytes ≡ text.old.bytes ++ flat_map node_line (nodes_told ring.now) }
+    ensures room { text.old.room ≤ text.new.room + 96 * length ring.now.ids }
+{
+    for i in 0..ring.map().len() {
+        put_node(text, ring, i as u8);
+    }
+}
+
+// The line of the port at an end of a circuit.
+fn put_port(text: &mut Text, ring: &Ring, circuit: u8, named: &Circuit, end: End)
+    requires inside { circuit < length ring.now.circuits.circuits }
+    requires room { 96 ≤ text.old.room }
+    ensures bytes { text.new.bytes ≡ text.old.bytes ++ told_line (port_told ring.now circuit named.now end) }
+    ensures room { text.old.room ≤ text.new.room + 96 }
+{
+    let port = PortId { circuit, end };
+    text.port_line(named.name(), end, ring.port(port), ring.value(port));
+}
+
+// The lines of both ports of a circuit.
+fn put_circuit(text: &mut Text, ring: &Ring, circuit: u8, named: &Circuit)
+    requires inside { circuit < length ring.now.circuits.circuits }
+    requires room { 192 ≤ text.old.room }
+    ensures bytes { text.new.bytes ≡ text.old.bytes
+        ++ (told_line (port_told ring.now circuit named.now A) ++ told_line (port_told ring.now circuit named.now B)) }
+    ensures room { text.old.room ≤ text.new.room + 192 }
+{
+    put_port(text, ring, circuit, named, End::A);
+    put_port(text, ring, circuit, named, End::B);
+}
+
+// The lines of all ports.
+fn put_ports(text: &mut Text, ring: &Ring)
+    requires whole { ring.now.broken ≡ false }
+    requires room { 192 * length ring.now.circuits.circuits ≤ text.old.room }
+    ensures bytes { text.new.bytes ≡ text.old.bytes ++ flat_map told_line (ports_told ring.now) }
+    ensures room { text.old.room ≤ text.new.room + 192 * length ring.now.circuits.circuits }
+{
+    let circuits = ring.circuits();
+    for i in 0..circuits.len() {
+        put_circuit(text, ring, i as u8, circuits.get(i as u8));
+    }
+}
+
+// The whole report.
+#[tactic(auto, unfolding(sdh_owed::specs::Reports::report_of))]
+fn put_whole(text: &mut Text, ring: &Ring, number: u32)
+    requires whole { ring.now.broken ≡ false }
+    requires ran { 1 ≤ ring.now.rounds }
+    requires room { 96 + 96 * length ring.now.ids + 192 * length ring.now.circuits.circuits ≤ text.old.room }
+    ensures bytes { text.new.bytes ≡ text.old.bytes ++ report_text (report_of number ring.now) }
+    ensures room { text.old.room ≤ text.new.room + (96 + 96 * length ring.now.ids + 192 * length ring.now.circuits.circuits) }
+{
+    put_settle(text, number, ring.rounds());
+    put_nodes(text, ring);
+    put_ports(text, ring);
+}
+
+// All that one port delivered.
+fn put_delivered(text: &mut Text, ring: &Ring, port: PortId)
+    requires inside { port.circuit < length ring.now.circuits.circuits }
+    requires room { 4707 ≤ text.old.room }
+    ensures bytes { text.new.bytes ≡ text.old.bytes ++ drop_lines (delivered_in (ports_told ring.now) port) }
+    ensures room { text.old.room ≤ text.new.room + 4707 }
+{
+    text.drop_lines(ring.port(port));
+}
+
+// One for a port that delivered a chunk.
+fn chunks_of(ring: &Ring, circuit: u8, end: End) -> u32
+    requires inside { circuit < length ring.now.circuits.circuits }
+    ensures chunks { result ≡ chunks_of (outlet_at ring.now (record { circuit = circuit; end = end })).delivered }
+    ensures few { result ≤ 1 }
+{
+    match ring.port(PortId { circuit, end }) {
+        Delivered::Ais => 0,
+        Delivered::Chunk(_) => 1,
+    }
+}
+
+// How many ports of a circuit delivered a chunk.
+fn chunks_at(ring: &Ring, circuit: u8) -> u32
+    requires inside { circuit < length ring.now.circuits.circuits }
+    ensures chunks { result ≡ chunks_of (outlet_at ring.now (record { circuit = circuit; end = A })).delivered + chunks_of
+        (outlet_at ring.now (record { circuit = circuit; end = B })).delivered }
+    ensures few { result ≤ 2 }
+{
+    chunks_of(ring, circuit, End::A) + chunks_of(ring, circuit, End::B)
+}
+
+// How many ports delivered a chunk.
+fn chunks_in(ring: &Ring) -> u32
+    requires whole { ring.now.broken ≡ false }
+    ensures { result ≡ chunks_in (ports_told ring.now) }
+{
+    let mut count = 0;
+    let circuits = ring.circuits();
+    for i in 0..circuits.len() {
+        count += chunks_at(ring, i as u8);
+    }
+    count
+}
+
+// How many ports there are.
+fn ports_of(ring: &Ring) -> u32
+    requires whole { ring.now.broken ≡ false }
+    ensures count { result ≡ 2 * length ring.now.circuits.circuits }
+    ensures few { result ≤ 256 }
+{
+    2 * ring.circuits().len() as u32
+}
+
+// How many ports delivered a chunk, and how many AIS.
+fn put_counts(text: &mut Text, ring: &Ring, number: u32)
+    requires whole { ring.now.broken ≡ false }
+    requires ran { 1 ≤ ring.now.rounds }
+    requires room { 96 ≤ text.old.room }
+    ensures bytes { text.new.bytes ≡ text.old.bytes
+        ++ count_line number (ring.now.rounds - 1) (chunks_in (ports_told ring.now)) (silences_in (ports_told ring.now)) }
+    ensures room { text.old.room ≤ text.new.room + 96 }
+{
+    let chunks = chunks_in(ring);
+    text.count_line(number, ring.rounds() - 1, chunks, ports_of(ring) - chunks);
+}
+
+/// What is listed of the report of settle step `number`, counted from 1.
+#[tactic(auto, unfolding(sdh_owed::specs::Reports::report_of))]
+pub fn put_report(text: &mut Text, ring: &Ring, number: u32, listing: Listing)
+    requires whole { ring.now.broken ≡ false }
+    requires ran { 1 ≤ ring.now.rounds }
+    requires listing { MayList (length ring.now.circuits.circuits) listing }
+    requires room { report_room listing (length ring.now.ids) (length ring.now.circuits.circuits) ≤ text.old.room }
+    ensures bytes { text.new.bytes ≡ text.old.bytes ++ listed listing (report_of number ring.now) }
+    ensures room { text.old.room ≤ text.new.room + report_room listing (length ring.now.ids) (length ring.now.circuits.circuits) }
+{
+    match listing {
+        Listing::Reports => put_whole(text, ring, number),
+        Listing::Port(port) => put_delivered(text, ring, port),
+        Listing::Counts => put_counts(text, ring, number),
+    }
+}

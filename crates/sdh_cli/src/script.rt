@@ -1,0 +1,56 @@
+//! A ring of add-drop multiplexers that a script is run over.
+ghost use Rattle.std.specs.Prelude.{length};
+ghost use Rattle.sdh_node.specs.Node.{Node as AddDrop};
+ghost use Rattle.sdh_report.specs.Reports.{Report, listed};
+ghost use Rattle.sdh_owed.specs.Scripts.{adm_walk};
+ghost use Rattle.sdh_cli.specs.Room.{report_room, MayList};
+ghost use Rattle.sdh_owed.specs.Running.{MayRun as MayRunRing};
+
+use crate::reports::put_report;
+use sdh_plan::Step;
+use sdh_plant::Plant;
+use sdh_report::{Listing, Text};
+use sdh_ring::{PlantFault, Ring, SettleError, change};
+use sdh_scripts::Runner;
+
+/// A ring, and what is listed of the report of each settle step.
+#[derive(Drop)]
+pub struct RingRun {
+    pub ring: Ring,
+    pub listing: Listing,
+}
+
+impl Runner for RingRun {
+    ghost Node = { AddDrop };
+
+    ghost Told = { Report };
+
+    ghost walk = { adm_walk };
+
+    ghost ring = { λ r. r.ring };
+
+    ghost text_of = { λ r told. listed r.listing told };
+
+    ghost room = { λ r. report_room r.listing (length r.ring.ids) (length r.ring.circuits.circuits) };
+
+    ghost MayRun = { λ number steps r f. MayList (length r.ring.circuits.circuits) r.listing × MayRunRing 65536 number steps r.ring f };
+
+    fn change<P: Plant>(&mut self, plant: &mut P, step: Step) -> Result<(), PlantFault> {
+        change(&mut self.ring, plant, step)?;
+        Ok(())
+    }
+
+    fn settle<P: Plant>(
+        &mut self,
+        plant: &mut P,
+        limit: u32,
+        number: u32,
+        text: &mut Text,
+    ) -> Result<(), SettleError> {
+        self.ring.settle(plant, limit)?;
+        put_report(text, &self.ring, number + 1, self.listing);
+        Ok(())
+    }
+
+    ghost few = { λ number later r f may. may.1.steps_fit.0.few_settles };
+}

@@ -1,4 +1,0 @@
-pub mod Spans
-pub mod Rounds
-pub mod Stretches
-pub mod Reports

@@ -1,6 +1,0 @@
-use Rattle.sdh_foretold.proofs.Stretches.{requests_rest}
-use Rattle.sdh_foretold.proofs.Reports.{reports_foretold, last_foretold}
-use Rattle.sdh_foretold.proofs.last_reports_are_foretold.Goals as goal
-
-pub returns : goal.returns
-returns c = last_foretold (reports_foretold requests_rest)

@@ -1,0 +1,71 @@
+-- What is told of outages is told by the rounds of a settle step alone.
+use Rattle.std.proofs.Common.{◌≡◌, ℕ, zero, suc, ◌+◌, ◌-◌, ◌≤◌, List, [], ◌∷◌, refl, ap, ◌∙◌, arith}
+use Rattle.std.specs.Prelude.{slice_get, option_map}
+use Rattle.sdh_circuits.specs.declared.PortId.{PortId}
+use Rattle.sdh_circuits.specs.declared.End.{End}
+use Rattle.sdh_circuits.specs.declared.End.TheVariants.{A, B}
+use Rattle.sdh_circuits.specs.Ends.{other_end, port_id}
+use Rattle.sdh_circuits.specs.Provisioned.{Provisioned, customer_at}
+use Rattle.sdh_payload.specs.Customer.{Customer}
+use Rattle.sdh_world.specs.Rounds.{World}
+use Rattle.sdh_scripts.specs.Laws.{KeepsRounds}
+use Rattle.sdh_owed.proofs.Known.{no_round}
+use Rattle.sdh_outage.specs.Kinds.{kind_of}
+use Rattle.sdh_outage.specs.Outages.{outage_of}
+use Rattle.sdh_outage.specs.Changes.{kind_changes}
+use Rattle.sdh_outage_cli.specs.Outages.{delivered_at, kinds_in, outage_in, ports_out, trace_at, trace_in, outaged_in}
+use Rattle.sdh_outage_cli.specs.Scripts.{outage_walk}
+
+-- courses that are the same so far
+kinds_same : (far : Customer) (port : PortId) (k : ℕ) (at bt : ℕ → World) → ((j : ℕ) → j ≤ k → at j ≡ bt j)
+    → kinds_in far port k at ≡ kinds_in far port k bt
+kinds_same far port zero at bt same = refl
+kinds_same far port (suc k) at bt same =
+    let before = same k (omega arith) in
+    let now = same (suc k) (omega arith) in
+    let rest = kinds_same far port k at bt (λ j h. same j (omega arith)) in
+    λ i. kind_of far ((now i).ring.rounds - 1) (delivered_at (before i).ring port) (delivered_at (now i).ring port) ∷ rest i
+
+outage_same : (far : Customer) (port : PortId) (k : ℕ) (at bt : ℕ → World) → ((j : ℕ) → j ≤ k → at j ≡ bt j)
+    → outage_in far port k at ≡ outage_in far port k bt
+outage_same far port k at bt same =
+    let first = same 0 (omega arith) in
+    let kinds = kinds_same far port k at bt same in
+    λ i. outage_of (first i).ring.rounds (kinds i)
+
+ports_same : (k : ℕ) (at bt : ℕ → World) → ((j : ℕ) → j ≤ k → at j ≡ bt j) → (index : ℕ) (cs : List Provisioned)
+    → ports_out k at index cs ≡ ports_out k bt index cs
+ports_same k at bt same index [] = refl
+ports_same k at bt same index (c ∷ cs) =
+    let a = outage_same c.b (port_id index A) k at bt same in
+    let b = outage_same c.a (port_id index B) k at bt same in
+    let rest = ports_same k at bt same (index + 1) cs in
+    λ i. record { name = c.name; end = A; outage = a i } ∷ record { name = c.name; end = B; outage = b i } ∷ rest i
+
+trace_same : (k : ℕ) (at bt : ℕ → World) → ((j : ℕ) → j ≤ k → at j ≡ bt j) → (index : ℕ) (c : Provisioned) (e : End)
+    → trace_at k at index c e ≡ trace_at k bt index c e
+trace_same k at bt same index c e =
+    let far = customer_at c (other_end e) in
+    let first = same 0 (omega arith) in
+    let kinds = kinds_same far (port_id index e) k at bt same in
+    let out = outage_same far (port_id index e) k at bt same in
+    λ i. record { changes = kind_changes (first i).ring.rounds (kinds i); out = record { name = c.name; end = e; outage = out i } }
+
+traces_same : (k : ℕ) (at bt : ℕ → World) → ((j : ℕ) → j ≤ k → at j ≡ bt j) → (cs : List Provisioned) (port : PortId)
+    → trace_in k at cs port ≡ trace_in k bt cs port
+traces_same k at bt same cs port =
+    λ i. option_map (λ (c : Provisioned). trace_same k at bt same port.circuit c port.end i) (slice_get cs port.circuit)
+
+looks : (number k : ℕ) (at bt : ℕ → World) → ((j : ℕ) → j ≤ k + 0 → at j ≡ bt j) → outaged_in number at k ≡ outaged_in number bt k
+looks number k at bt same =
+    let last = same k (omega arith) in
+    let ports =
+    ports_same k at bt (λ j h. same j (omega arith)) 0 (at k).ring.circuits.circuits
+    ∙ ap (λ (v : World). ports_out k bt 0 v.ring.circuits.circuits) last in
+    let traces =
+    λ (port : PortId). traces_same k at bt (λ j h. same j (omega arith)) (at k).ring.circuits.circuits port
+    ∙ ap (λ (v : World). trace_in k bt v.ring.circuits.circuits port) last in
+    λ i. record { number = number; round = (last i).ring.rounds - 1; ports = ports i; trace = λ port. traces port i }
+
+pub keeps_rounds : KeepsRounds outage_walk
+keeps_rounds = record { other = no_round; last = λ number at k. refl; looks = looks }

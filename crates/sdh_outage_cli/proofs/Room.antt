@@ -1,0 +1,10 @@
+-- The room that lines need.
+use Rattle.std.proofs.Common.{ℕ, ◌≤◌, arith}
+use Rattle.sdh_outage_cli.specs.Running.{lines_room}
+use Rattle.sdh_outage_cli.specs.declared.listing.Listing.{Listing}
+use Rattle.sdh_outage_cli.specs.declared.listing.Listing.TheVariants as listing
+
+-- a settle step's own line has room, whatever is listed
+pub own_fits : (listing : Listing) (circuits : ℕ) → 96 ≤ lines_room listing circuits
+own_fits listing.Ports circuits = omega arith
+own_fits (listing.Trace port) circuits = omega arith

@@ -1,0 +1,37 @@
+use Rattle.std.proofs.Common.{◌≡◌, ◌<◌, length, Some, refl, ap, sym, subst, ◌∙◌, arith}
+use Rattle.std.specs.Prelude.{slice_get}
+use Rattle.std.proofs.Math.ListN.{length-set}
+use Rattle.std.proofs.lemmas.Option.{same_Some, slice_get_read, slice_get_within}
+use Rattle.sdh_circuits.specs.Provisioning.{Provisioning}
+use Rattle.sdh_scripts.proofs.Lists.{set_upto, set_behind}
+use Rattle.sdh_outage_cli.specs.declared.ports.Both.{Both}
+use Rattle.sdh_outage_cli.specs.Ports.{HaveBegun}
+use Rattle.sdh_outage_cli.proofs.ports.begin_all.Goals as goal
+
+pub loop-i-preserved : goal.loop-i-preserved
+loop-i-preserved c =
+    let r = c.args.ring.now in
+    let old = c.args.items.now.items in
+    let ws = c.loop-i.items.items in
+    let i = c.loop-i.i in
+    let inv = c.loop-i.invariant in
+    let x = c.index_mut.result.now in
+    let y = c.begin_both.new.both in
+    let size : length c.circuits.result.now.circuits ≡ length r.circuits.circuits =
+    ap (λ (p : Provisioning). length p.circuits) c.circuits.ensures in
+    let lt : i < length ws = omega (arith, c.loop-i-test.true, c.len-i-end.ensures.len, size, inv.len, c.requires) in
+    let was : slice_get old i ≡ Some x = sym (inv.rest i (omega arith)) ∙ slice_get_read ws _ i x refl lt c.index_mut.ensures.value in
+    record {
+      len = simp length-set (omega arith);
+      each = set_upto (λ j after. (before : Both) → slice_get old j ≡ Some before → HaveBegun r j before after) ws i y lt
+          (λ before there. subst (λ b. HaveBegun r i b y) (same_Some _ _ (sym was ∙ there)) c.begin_both.ensures) inv.each;
+      rest = λ j le. set_behind ws i y j (omega arith) ∙ inv.rest j (omega arith);
+    }
+
+pub returns-clause-each : goal.returns-clause-each
+returns-clause-each c =
+    let size : length c.circuits.result.now.circuits ≡ length c.args.ring.now.circuits.circuits =
+    ap (λ (p : Provisioning). length p.circuits) c.circuits.ensures in
+    λ i before after was at. c.loop-i.invariant.each i after
+    (let h = slice_get_within c.loop-i.items.items i after at in omega
+    (arith, h, size, c.loop-i-test.false, c.len-i-end.ensures.len, c.loop-i.invariant.len, c.requires)) at before was

@@ -1,0 +1,40 @@
+-- What listeners keep is told by the rounds that went by alone.
+use Rattle.std.specs.Prelude.{◌≡◌, ℕ, zero, suc, ◌^◌, ◌≤◌, List, ◌∷◌, length, slice_get}
+use Rattle.std.proofs.Common.{refl, ap, ap₂, subst, ◌∙◌, zero-le}
+use Rattle.std.proofs.Math.Nat.{le_refl, le_step}
+use Rattle.sdh_circuits.specs.declared.End.TheVariants.{A, B}
+use Rattle.sdh_circuits.specs.declared.PortId.{PortId}
+use Rattle.sdh_circuits.specs.Ends.{port_id}
+use Rattle.sdh_payload.specs.Customer.{Customer}
+use Rattle.sdh_world.specs.Rounds.{World}
+use Rattle.sdh_outage.specs.Kept.{heard}
+use Rattle.sdh_outage_cli.specs.Outages.{delivered_at}
+use Rattle.sdh_outage_cli.specs.Ports.{delivered_in, heard_in, AreListening}
+use Rattle.sdh_outage_cli.specs.declared.ports.Both.{Both}
+
+delivered_same : (port : PortId) (k : ℕ) (at bt : ℕ → World) → ((j : ℕ) → j ≤ k → at j ≡ bt j)
+    → delivered_in port k at ≡ delivered_in port k bt
+delivered_same port zero at bt same = refl
+delivered_same port (suc k) at bt same =
+    ap₂ (λ (v : World) l. delivered_at v.ring port ∷ l) (same (suc k) (le_refl (suc k)))
+    (delivered_same port k at bt (λ j low. same j (le_step low)))
+
+heard_same : (far : Customer) (port : PortId) (k : ℕ) (at bt : ℕ → World) → ((j : ℕ) → j ≤ k → at j ≡ bt j)
+    → heard_in far port k at ≡ heard_in far port k bt
+heard_same far port k at bt same =
+    let first = same 0 zero-le in
+    let past = delivered_same port k at bt same in
+    λ i. heard far (first i).ring.rounds (delivered_at (first i).ring port) (past i)
+
+-- courses that are the same so far
+pub listening_same : (at bt : ℕ → World) (k : ℕ) (items : List Both) → ((j : ℕ) → j ≤ k → at j ≡ bt j) → AreListening at k items
+    → AreListening bt k items
+listening_same at bt k items same x =
+    let last = same k (le_refl k) in
+    record {
+      few = subst (λ (v : World). v.ring.rounds ≤ 2 ^ 31) (same 0 zero-le) x.few;
+      many = x.many ∙ ap (λ (v : World). length v.ring.circuits.circuits) last;
+      each = λ i c both there here. (
+          let h = x.each i c both (ap (λ (v : World). slice_get v.ring.circuits.circuits i) last ∙ there) here in
+          record { at_a = h.at_a ∙ heard_same c.b (port_id i A) k at bt same; at_b = h.at_b ∙ heard_same c.a (port_id i B) k at bt same });
+    }

@@ -1,0 +1,34 @@
+-- What comes of a plan whose outages are told, over fibres that aren't there yet.
+use Rattle.std.specs.Prelude.{ℕ, List}
+use Rattle.sdh_plant.specs.Fibres.{Fibres}
+use Rattle.sdh_node.specs.Node.{Node}
+use Rattle.sdh_plan.specs.Planned.{Planned}
+use Rattle.sdh_report.specs.declared.status.Status.{Status}
+use Rattle.sdh_scripts.specs.Plans.{Account}
+use Rattle.sdh_scripts.specs.Plans as plans
+use Rattle.sdh_owed.specs.Plans.{new_ring_of}
+use Rattle.sdh_outage_cli.specs.Outages.{Outaged}
+use Rattle.sdh_outage_cli.specs.Scripts.{outage_walk, Ran}
+use Rattle.sdh_outage_cli.specs.Lines.{listed}
+use Rattle.sdh_outage_cli.specs.declared.listing.Listing.{Listing}
+
+-- nothing is owed: over honest fibres too it tells what the rounds were
+abbrev pub outage_account : Account Node Outaged
+outage_account = record { walk = outage_walk; new_ring = new_ring_of; Owes = λ plan f reports end left. Unit {0} }
+
+-- what the script of a plan comes to, where the arrivals are known
+abbrev pub ran_of : Planned → Fibres → Ran
+ran_of = plans.ran_of outage_account
+
+-- where the arrivals are known each settle step has a quiet window within the limit; or the fibres are honest and the
+-- limit is large
+abbrev pub MaySettle : Planned → Fibres → Type 0
+MaySettle = plans.MaySettle outage_account
+
+-- one list, told in each way
+abbrev pub IsRunOf : Planned → Fibres → List Outaged → Status → Fibres → Type 0
+IsRunOf = plans.IsRunOf outage_account
+
+-- the text is what is listed of a run
+abbrev pub Tells : Planned → Listing → Fibres → List ℕ → Status → Fibres → Type 0
+Tells plan listing f text end left = plans.Tells outage_account (listed listing) plan f text end left

@@ -1,0 +1,20 @@
+-- What comes of a script of which the outages are told. No round is run behind a settle step.
+use Rattle.sdh_node.specs.Node.{Node}
+use Rattle.sdh_node.specs.Stations.{adm}
+use Rattle.sdh_scripts.specs.Walks.{Walk}
+use Rattle.sdh_scripts.specs.Scripts as scripts
+use Rattle.sdh_world.specs.Steps.{after_step}
+use Rattle.sdh_outage_cli.specs.Outages.{Outaged, outaged_in}
+
+abbrev pub outage_walk : Walk Node Outaged
+outage_walk = record {
+  station = adm;
+  does = after_step;
+  behind = 0;
+  tells = outaged_in;
+  last = λ (r : Outaged). r.round;
+}
+
+-- what a script comes to where arrivals are known
+abbrev pub Ran : Type 0
+Ran = scripts.Ran Node Outaged

@@ -1,0 +1,287 @@
+-- Every script over honest fibres has a course.
+use Rattle.std.proofs.Common.{◌≡◌, ℕ, ◌+◌, ◌-◌, List, [], ◌∷◌, ◌++◌, length, refl, ap, sym, ◌∙◌, subst, arith, inl, inr, append_assoc}
+use Rattle.std.proofs.Common.{append-nil}
+use Rattle.sdh_circuits.specs.Provisioning.{Provisioning}
+use Rattle.sdh_plant.specs.Fibres.{Fibres}
+use Rattle.sdh_plant.specs.Arrivals.{Knows}
+use Rattle.sdh_request.specs.declared.settings.Settings.{Settings}
+use Rattle.sdh_restoration.specs.Applied.{span_requests}
+use Rattle.sdh_rounds.proofs.Runs.{course_whole, known_course, known_unsettles}
+use Rattle.sdh_node.specs.Stations.{adm}
+use Rattle.sdh_world.specs.Held.{new_ring}
+use Rattle.sdh_world.specs.Rounds.{World}
+use Rattle.sdh_world.specs.Runs.{run, run_with, course, IsBrokenOff}
+use Rattle.sdh_world.specs.Quiet.{EndsWindow, Unsettles, BreaksOff}
+use Rattle.sdh_world.specs.Changes.{changed, all_changed, after_stretch, after_stretches, new_world}
+use Rattle.sdh_world.specs.Clocks.{clocks_by}
+use Rattle.sdh_world.specs.Laws.{MayHappen}
+use Rattle.sdh_laws.specs.Hearing.Laws.{MayStart}
+use Rattle.sdh_laws.proofs.hearing.Requests.{after_last}
+use Rattle.sdh_laws.proofs.hearing.Staying.{left_stretch, left_stretches}
+use Rattle.sdh_laws.specs.Carrying.Laws.{IsRestored}
+use Rattle.sdh_laws.specs.Carrying.Windows.{Layout, layout_in, layout_of, size_of, HasCircuits}
+use Rattle.sdh_laws.proofs.carrying.Settles.{layout_stretches}
+use Rattle.sdh_laws.specs.Strangers.Laws.{EndQuietly, AHoldSpoilsItsOwnStepAlone}
+use Rattle.sdh_laws.specs.Restoring.Laws.{StretchesAreRestoredSoon}
+use Rattle.sdh_plan.specs.declared.step.Step.{Step}
+use Rattle.sdh_plan.specs.declared.step.Step.TheVariants as step
+use Rattle.sdh_plan.specs.Steps.{Past, after}
+use Rattle.sdh_plan.specs.Scripts.{AreSteps}
+use Rattle.sdh_report.specs.declared.status.Status.{Status}
+use Rattle.sdh_report.specs.declared.status.Status.TheVariants as status
+use Rattle.sdh_report.specs.Reports.{Report}
+use Rattle.sdh_promise.specs.Changes.{Change, Stretch, rounds_in, changes_of, scenes}
+use Rattle.sdh_promise.specs.Changes as change
+use Rattle.sdh_promise.specs.Happened.{happened}
+use Rattle.sdh_promise.specs.Owed.{Ring, asked_in, IsOwed}
+use Rattle.sdh_owed.specs.Reports.{report_of}
+use Rattle.sdh_scripts.specs.Scripts.{Refuses}
+use Rattle.sdh_scripts.proofs.Outcomes.{refused_ends}
+use Rattle.sdh_scripts.proofs.Reporting.{settles_by, reports_by, breaks_by}
+use Rattle.sdh_world.specs.Steps.{after_step}
+use Rattle.sdh_owed.specs.Scripts.{Runs}
+use Rattle.sdh_owed.specs.Laws.{ring_by}
+use Rattle.sdh_owed.proofs.Ports.{owed_now}
+use Rattle.sdh_owed.proofs.Standing.{Stands, whole, stretch_to, changed_then, settled_then, stands_new}
+use Rattle.sdh_owed.specs.Course.{stretch, IsLeftOff, WentThrough, HasSent, NoneEverMeetsAStranger, AllIsOwedSoon, HasCourse}
+use Rattle.sdh_owed.specs.Course.{CoursesAreTold}
+
+-- ---- stretches one behind the other
+
+happens_front : (ss later : List Stretch) (w : World) → MayHappen w (ss ++ later) → MayHappen w ss
+happens_front [] later w may = tt
+happens_front (s ∷ ss) later w may = (may.0, happens_front ss later (after_stretch s w) may.1)
+
+happens_then : (ss later : List Stretch) (w : World) → MayHappen w ss → MayHappen (after_stretches ss w) later → MayHappen w (ss ++ later)
+happens_then [] later w may then = then
+happens_then (s ∷ ss) later w may then = (may.0, happens_then ss later (after_stretch s w) may.1 then)
+
+-- the last of some may have any number of rounds
+happens_cut : (ss : List Stretch) (last : Stretch) (later : List Stretch) (k : ℕ) (w : World) → MayHappen w (ss ++ last ∷ later)
+    → MayHappen w (ss ++ stretch last.changes k ∷ [])
+happens_cut [] last later k w may = (may.0, tt)
+happens_cut (s ∷ ss) last later k w may = (may.0, happens_cut ss last later k (after_stretch s w) may.1)
+
+-- the first of some ends with a window, and so do those behind it
+ends_quietly : (s : Stretch) (w : World) (ss : List Stretch) → EndsWindow (course (all_changed s.changes w)) s.rounds
+    → EndQuietly (after_stretch s w) ss → EndQuietly w (s ∷ ss)
+ends_quietly s w [] window behind = tt
+ends_quietly s w (r ∷ ss) window behind = (window, behind)
+
+quiet_front : (ss later : List Stretch) (w : World) → EndQuietly w (ss ++ later) → EndQuietly w ss
+quiet_front [] later w quiet = tt
+quiet_front (s ∷ []) later w quiet = tt
+quiet_front (s ∷ r ∷ ss) later w quiet = (quiet.0, quiet_front (r ∷ ss) later (after_stretch s w) quiet.1)
+
+-- ---- what was sent
+
+-- changes send nothing
+sent_changed : (c : Change) (w : World) → (changed c w).fibres.sent ≡ w.fibres.sent
+unfolding changed
+sent_changed (change.Fibre p d condition) w = refl
+sent_changed (change.Order p d command) w = refl
+sent_changed (change.Hold p turns) w = refl
+sent_changed (change.Slip port turn count) w = refl
+sent_changed (change.Now t) w = refl
+
+sent_all : (cs : List Change) (w : World) → (all_changed cs w).fibres.sent ≡ w.fibres.sent
+sent_all [] w = refl
+sent_all (c ∷ cs) w = sent_all cs (changed c w) ∙ sent_changed c w
+
+-- a step that was refused leaves the fibres as they were
+refused_leaves : (s : Step) (w : World) (reports : List Report) (end : Status) (left : World) → Refuses s w reports end left
+    → left.fibres ≡ w.fibres
+refused_leaves (step.Fibre e) w reports end left x = x.0
+refused_leaves s w reports end left x = absurd x
+
+-- where a fault ended the script nothing has to have run
+none_through : (limit ran : ℕ) (later : List (List Change)) (end : Status) → end ≡ status.PlantFault → WentThrough limit ran later [] end []
+none_through limit ran [] end h = refl
+none_through limit ran (changes ∷ later) end h = subst (λ e. IsLeftOff limit changes e []) (sym h) (inl refl)
+
+-- ---- a script, step by step
+
+module _ (s : Settings) (ids : List ℕ) (circuits : Provisioning) (f : Fibres) (may : MayStart s ids f) where
+  abbrev from : World
+  from = new_world s ids circuits f
+
+  abbrev Now : Past → List Stretch → List Change → World → Type 0
+  Now past earlier changes w = Stands s ids circuits f may past earlier changes w
+
+  -- what happened behind some stretches
+  record GoesOn (limit : ℕ) (earlier : List Stretch) (later : List (List Change)) (reports : List Report) (end : Status)
+      (left : Fibres) : Type 0 where
+    pub stretches : List Stretch
+    pub through : WentThrough limit (rounds_in earlier) later reports end stretches
+    pub happens : MayHappen from (earlier ++ stretches)
+    pub quiet : EndQuietly (after_stretches earlier from) stretches
+    pub sent : HasSent from (earlier ++ stretches) end left
+
+  -- nothing more ran
+  ends_here : (limit : ℕ) (past : Past) (earlier : List Stretch) (changes : List Change) (later : List (List Change)) (w : World)
+      (reports : List Report) (end : Status) (left : Fibres)
+      → Now past earlier changes w → left.sent ≡ w.fibres.sent → WentThrough limit (rounds_in earlier) later reports end []
+      → GoesOn limit earlier later reports end left
+  ends_here limit past earlier changes later w reports end left h sent through = record {
+    stretches = [];
+    through = through;
+    happens = subst (MayHappen from) (sym (append-nil earlier)) h.happened;
+    quiet = tt;
+    sent =
+        inl (sent ∙ ap (λ (v : World). v.fibres.sent) h.is ∙ sent_all changes (after_stretches earlier from)
+        ∙ ap (λ ss. (after_stretches ss from).fibres.sent) (sym (append-nil earlier)));
+  }
+
+  module _ (limit : ℕ) (past : Past) (earlier : List Stretch) (changes : List Change) (w : World) (h : Now past earlier changes w) where
+    knows : Knows w.fibres
+    knows = inl (whole s ids circuits f may past earlier changes w h).paired.honest.honest
+
+    -- so many rounds from there on
+    after_rounds : (k : ℕ) → run k w ≡ after_stretches (earlier ++ stretch changes k ∷ []) from
+    after_rounds k = ap (run k) h.is ∙ sym (after_last earlier (stretch changes k) from)
+
+    happens_now : (k : ℕ) → MayHappen from (earlier ++ stretch changes k ∷ [])
+    happens_now k = happens_then earlier (stretch changes k ∷ []) from h.happened (h.since, tt)
+
+    -- a settle step that was unsettled
+    unsettled : (later : List (List Change)) (end : Status) (left : World) (number : ℕ) → end ≡ status.Unsettled number
+        → Unsettles w limit left → GoesOn limit earlier (changes ∷ later) [] end left.fibres
+    unsettled later end left number is x = record {
+      stretches = stretch changes limit ∷ [];
+      through = subst (λ e. IsLeftOff limit changes e (stretch changes limit ∷ [])) (sym is) refl;
+      happens = happens_now limit;
+      quiet = tt;
+      sent = inl (ap (λ (v : World). v.fibres.sent) ((known_unsettles adm w limit left knows x).1 ∙ after_rounds limit));
+    }
+
+    -- and one that a fault broke off
+    broken_off : (later : List (List Change)) (end : Status) (left : Fibres) → end ≡ status.PlantFault → BreaksOff w limit left
+        → GoesOn limit earlier (changes ∷ later) [] end left
+    broken_off later end left is b =
+        let k = length b.rounds in
+        let same : run_with b.rounds w ≡ after_stretches (earlier ++ stretch changes k ∷ []) from =
+        course_whole adm b.rounds w ∙ known_course adm b.rounds w k knows b.arrive (omega arith) ∙ after_rounds k in
+        record {
+          stretches = stretch changes k ∷ [];
+          through = subst (λ e. IsLeftOff limit changes e (stretch changes k ∷ [])) (sym is) (inr (k, b.within, refl));
+          happens = happens_now k;
+          quiet = tt;
+          sent = inr (is, subst (λ v. IsBrokenOff v left) same b.off);
+        }
+
+    -- one that ended, and what happened behind it
+    settled : (later : List (List Change)) (mid : World) (number : ℕ) (reports : List Report) (end : Status) (left : Fibres)
+        → (let last = stretch_to s ids circuits f may past earlier changes w h mid in
+        EndsWindow (course (all_changed changes (after_stretches earlier from))) last.rounds
+        → rounds_in (earlier ++ last ∷ []) ≡ mid.ring.rounds - 1 + 1 → GoesOn limit (earlier ++ last ∷ []) later reports end left
+        → GoesOn limit earlier (changes ∷ later) (report_of number mid.ring ∷ reports) end left)
+    unfolding report_of
+    settled later mid number reports end left window many goes =
+        let last = stretch_to s ids circuits f may past earlier changes w h mid in
+        let behind = append_assoc earlier (last ∷ []) goes.stretches in
+        record {
+          stretches = last ∷ goes.stretches;
+          through = (goes.stretches, refl, subst (λ n. WentThrough limit n later reports end goes.stretches) many goes.through);
+          happens = subst (MayHappen from) behind goes.happens;
+          quiet =
+              ends_quietly last (after_stretches earlier from) goes.stretches window
+              (subst (λ (x : World). EndQuietly x goes.stretches) (after_last earlier last from) goes.quiet);
+          sent = subst (λ ss. HasSent from ss end left) behind goes.sent;
+        }
+
+  walk : (limit before : ℕ) (past : Past) (earlier : List Stretch) (changes : List Change) (steps : List Step) (w : World)
+      (reports : List Report) (end : Status) (left : World)
+      → Now past earlier changes w → AreSteps s.rate (length ids) (length circuits.circuits) past steps
+      → Runs limit before steps w reports end left → GoesOn limit earlier (scenes changes steps) reports end left.fibres
+  walk limit before past earlier changes [] w reports end left h each x =
+      ends_here limit past earlier changes [] w reports end left.fibres h (ap (λ (v : World). v.fibres.sent) x.0) refl
+  walk limit before past earlier changes (step.Settle ∷ later) w reports end left h each (inl (told, mid, rest, ended, is, x)) =
+      let there =
+      settled_then s ids circuits f may past earlier changes w h mid limit
+      (settles_by adm after_step report_of w limit (before + 1) told mid ended) in
+      subst (λ rs. GoesOn limit earlier (scenes changes (step.Settle ∷ later)) rs end left.fibres)
+      (sym (reports_by adm after_step report_of w limit (before + 1) told mid reports rest ended is))
+      (settled limit past earlier changes w h (scenes [] later) mid (before + 1) rest end left.fibres there.window there.many
+      (walk limit (before + 1) (after past step.Settle) _ [] later mid rest end left there.stands each.1 x))
+  walk limit before past earlier changes (step.Settle ∷ later) w reports end left h each (inr (inl x)) =
+      subst (λ rs. GoesOn limit earlier (scenes changes (step.Settle ∷ later)) rs end left.fibres) (sym x.1.0)
+      (unsettled limit past earlier changes w h (scenes [] later) end left (before + 1) x.1.1 x.0)
+  walk limit before past earlier changes (step.Settle ∷ later) w reports end left h each (inr (inr x)) =
+      subst (λ rs. GoesOn limit earlier (scenes changes (step.Settle ∷ later)) rs end left.fibres) (sym x.1.0)
+      (broken_off limit past earlier changes w h (scenes [] later) end left.fibres x.1.1
+      (breaks_by adm after_step report_of w limit left.fibres x.0))
+  walk limit before past earlier changes (this ∷ later) w reports end left h each x =
+      elim x [
+        | inl goes ↦ walk limit before (after past this) earlier (changes ++ changes_of this) later _ reports end left
+            (changed_then s ids circuits f may past earlier changes w h this refl each.0) each.1 goes
+        | inr refused ↦
+            let stops = refused_ends this w reports end left refused in
+            let later = scenes changes (this ∷ later) in
+            ends_here limit past earlier changes later w reports end left.fibres h
+            (ap (λ (g : Fibres). g.sent) (refused_leaves this w reports end left refused))
+            (subst (λ rs. WentThrough limit (rounds_in earlier) later rs end []) (sym stops.0)
+            (none_through limit (rounds_in earlier) later end stops.1))
+      ]
+
+  -- ---- what holds in the rounds
+
+  module _ (form : HasCircuits (layout_in (new_ring s ids circuits))) (ss : List Stretch) (happens : MayHappen from ss)
+      (quiet : EndQuietly from ss) where
+    abbrev ring : Ring
+    ring = ring_by s (length ids) circuits.circuits
+
+    strangers : AHoldSpoilsItsOwnStepAlone → NoneEverMeetsAStranger from ring ss
+    strangers law earlier later last is none t low =
+        let now = earlier ++ last ∷ [] in
+        let front : ss ≡ now ++ later = is ∙ sym (append_assoc earlier (last ∷ []) later) in
+        law s ids circuits f earlier last may (happens_front now later from (subst (MayHappen from) front happens))
+        (quiet_front now later from (subst (EndQuietly from) front quiet)) none form t low
+
+    soon : StretchesAreRestoredSoon → AllIsOwedSoon from ring ss
+    unfolding report_of
+    soon law earlier later last is k long few =
+        let end = stretch last.changes k in
+        let now = earlier ++ end ∷ [] in
+        let left = after_stretches now from in
+        let t = left.ring.rounds - 1 in
+        let ran : left.ring.rounds ≡ 0 + rounds_in now = (left_stretches now from).rounds in
+        let some : left.ring.rounds ≡ (after_stretches earlier from).ring.rounds + k =
+        ap (λ (v : World). v.ring.rounds) (after_last earlier end from) ∙ (left_stretch end (after_stretches earlier from)).rounds in
+        let requests = span_requests (length ids) (asked_in s.threshold s.wait (length ids) now t) in
+        let restored : IsRestored (clocks_by circuits.circuits now) left requests =
+        law s ids circuits f earlier end t may (happens_cut earlier last later k from (subst (MayHappen from) is happens)) form long
+        (omega (arith, ran, some, long)) in
+        let same : layout_of left ≡ layout_in (new_ring s ids circuits) = layout_stretches now from in
+        let by = subst (λ (y : Layout). IsRestored (clocks_by y.circuits now) left requests) (sym same) restored in
+        subst (λ (y : Layout). IsOwed (size_of y) requests (happened now) y.circuits (report_of 0 left.ring)) same
+        (owed_now now left 0 requests (subst HasCircuits (sym same) form) by)
+
+pub courses_are_told : AHoldSpoilsItsOwnStepAlone → StretchesAreRestoredSoon → CoursesAreTold
+courses_are_told strangers_law soon_law s ids circuits f may form limit past steps each reports end left x =
+    let goes =
+    walk s ids circuits f may limit 0 past [] [] steps (new_world s ids circuits f) reports end left
+    (stands_new s ids circuits f may past) each x in
+    record {
+      stretches = goes.stretches;
+      through = goes.through;
+      sent = goes.sent;
+      strangers = strangers s ids circuits f may form goes.stretches goes.happens goes.quiet strangers_law;
+      soon = soon s ids circuits f may form goes.stretches goes.happens goes.quiet soon_law;
+    }
+
+-- ---- without fibres
+
+none_last : (earlier : List Stretch) (last : Stretch) (later : List Stretch) (A : Type 0) → [] ≡ earlier ++ last ∷ later → A
+none_last [] last later A is = absurd (grind arith)
+none_last (s ∷ earlier) last later A is = absurd (grind arith)
+
+-- where a fault ended the script and nothing had been sent no round is told of
+pub none_ran : (w : World) (ring : Ring) (limit : ℕ) (steps : List Step) (reports : List Report) (end : Status) (left : Fibres)
+    → reports ≡ [] → end ≡ status.PlantFault → left.sent ≡ w.fibres.sent → HasCourse w ring limit steps reports end left
+none_ran w ring limit steps reports end left none is sent = record {
+  stretches = [];
+  through = subst (λ rs. WentThrough limit 0 (scenes [] steps) rs end []) (sym none) (none_through limit 0 (scenes [] steps) end is);
+  sent = inl sent;
+  strangers = λ earlier later last front holds t low. none_last earlier last later _ front;
+  soon = λ earlier later last front k long few. none_last earlier last later _ front;
+}

@@ -1,0 +1,5 @@
+use Rattle.sdh_owed.proofs.Course.{courses_are_told}
+use Rattle.sdh_owed.proofs.courses_are_told.Goals as goal
+
+pub returns : goal.returns
+returns c = courses_are_told c.a_hold_spoils_its_own_step_alone.ensures c.stretches_are_restored_soon.ensures

@@ -1,6 +1,0 @@
-use Rattle.std.proofs.Common.{arith}
-use Rattle.sdh_retime.proofs.Short.{length-given_line_other}
-use Rattle.sdh_retime.proofs.retiming.put_given.Goals as goal
-
-pub put_hex-requires : goal.put_hex-requires
-put_hex-requires c = omega (arith, c.requires, length-given_line_other c.args.action c.args.given.now c.in_default.not-Ais)

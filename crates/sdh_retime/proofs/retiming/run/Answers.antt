@@ -1,6 +1,0 @@
-use Rattle.sdh_retime.proofs.Endings.{unsteady_run}
-use Rattle.sdh_retime.proofs.retiming.run.Goals as goal
-
-pub returns-clause-unsteady : goal.returns-clause-unsteady
-returns-clause-unsteady c =
-    unsteady_run c.args.digits.now c.args.bytes.now c.take_all-status.result c.take_all-status.new.text.bytes c.requires.digits c.take_all-status.ensures

@@ -1,0 +1,6 @@
+use Rattle.sdh_retime_cli.proofs.Endings.{unsteady_run}
+use Rattle.sdh_retime_cli.proofs.retiming.run.Goals as goal
+
+pub returns-clause-unsteady : goal.returns-clause-unsteady
+returns-clause-unsteady c =
+    unsteady_run c.args.digits.now c.args.bytes.now c.take_all-status.result c.take_all-status.new.text.bytes c.requires.digits c.take_all-status.ensures

@@ -1,0 +1,107 @@
+-- How a call of the program ends: each status, when it is answered, and the text that goes with it.
+use Rattle.std.specs.Prelude.{◌≡◌, ℕ, suc, ◌+◌, ◌-◌, ◌<◌, ◌≤◌, ◌⊎◌, Bool, true, false, List, [], ◌∷◌, ◌++◌, length, codes, Option}
+use Rattle.sdh_report.specs.Lines.{own_line}
+use Rattle.sdh_elastic.specs.History.{lasts, lengths}
+use Rattle.sdh_shell.specs.Failing.{CameOfSource}
+use Rattle.sdh_shell.specs.Writing.{Telling, Whole, Front, Nothing, WritesAs}
+use Rattle.sdh_retime_cli.specs.declared.status.Status.{Status}
+use Rattle.sdh_retime_cli.specs.declared.status.Status.TheVariants as status
+use Rattle.sdh_retime_cli.specs.Digits.{IsDigits, AreDigits, size_at, offset_at, chunks}
+use Rattle.sdh_retime_cli.specs.Lines.{lines_of, left_line, drift_line}
+
+-- the number of a status, with which the program ends
+abbrev pub number_of : Status → ℕ
+number_of status.Ok = 0
+number_of status.Usage = 2
+number_of status.ReadFault = 3
+number_of status.WriteFault = 4
+number_of status.TooLong = 9
+number_of (status.Drift turn) = 12
+number_of status.Memory = 70
+
+-- the first k chunks are there, and none of their turns is a drift
+pub record Runs (digits bytes : List ℕ) (k : ℕ) : Type 0 where
+  pub there : offset_at digits k ≤ length bytes
+  pub lasts : lasts (lengths (chunks digits bytes k)) ≡ true
+
+-- all k chunks were taken in, and what is left is too little for one more
+pub record IsDone (digits bytes : List ℕ) (k : ℕ) (text : List ℕ) : Type 0 where
+  pub runs : Runs digits bytes k
+  pub short : length bytes < offset_at digits (suc k)
+  pub written : text ≡ lines_of (chunks digits bytes k) ++ left_line (length bytes - offset_at digits k)
+
+-- one more chunk is there after the first k, and its turn is a drift
+pub record IsDrift (digits bytes : List ℕ) (k turn : ℕ) (text : List ℕ) : Type 0 where
+  pub runs : Runs digits bytes k
+  pub there : offset_at digits (suc k) ≤ length bytes
+  pub number : turn ≡ suc k
+  pub drifts : lasts (lengths (chunks digits bytes (suc k))) ≡ false
+  pub written : text ≡ lines_of (chunks digits bytes k) ++ drift_line (suc k)
+
+-- how the run of some bytes ends
+abbrev pub IsRunOutcome : List ℕ → List ℕ → Status → List ℕ → Type 0
+IsRunOutcome digits bytes status.Ok text = (k : ℕ) × IsDone digits bytes k text
+IsRunOutcome digits bytes (status.Drift turn) text = (k : ℕ) × IsDrift digits bytes k turn text
+IsRunOutcome digits bytes _ text = ⊥
+
+-- the words are digits, and the source has no more bytes than the program reads
+pub record IsRead (words : List (List ℕ)) (bytes digits : List ℕ) : Type 0 where
+  pub word : words ≡ digits ∷ []
+  pub form : IsDigits digits
+  pub short : length bytes ≤ 1048576
+
+-- the words and the bytes of the source come to this status, with this text. Nothing comes to a write fault or to want of
+-- memory: they may stand in place of an outcome
+abbrev pub IsOutcome : List (List ℕ) → List ℕ → Status → List ℕ → Type 0
+IsOutcome words bytes status.Usage text = (¬ AreDigits words) × (text ≡ own_line (codes "usage: sdhretime DIGITS"))
+IsOutcome words bytes status.ReadFault text = AreDigits words × (text ≡ own_line (codes "read fault"))
+IsOutcome words bytes status.TooLong text = AreDigits words × (1048576 < length bytes) × (text ≡ own_line (codes "too long"))
+IsOutcome words bytes status.Ok text = (digits : List ℕ) × IsRead words bytes digits × IsRunOutcome digits bytes status.Ok text
+IsOutcome words bytes (status.Drift turn) text =
+    (digits : List ℕ) × IsRead words bytes digits × IsRunOutcome digits bytes (status.Drift turn) text
+IsOutcome words bytes status.WriteFault text = ⊥
+IsOutcome words bytes status.Memory text = ⊥
+
+-- with what text a status goes
+abbrev pub telling_of : Status → Telling
+telling_of status.WriteFault = Front
+telling_of status.Memory = Nothing
+telling_of how = Whole
+
+-- what was written when this status was answered
+abbrev pub Writes : List (List ℕ) → List ℕ → Status → Option (List ℕ) → Option (List ℕ) → Type 0
+Writes words bytes how old new = WritesAs (telling_of how) (λ how text. IsOutcome words bytes how text) how old new
+
+-- what was written when this number was answered
+pub record Answers (words : List (List ℕ)) (bytes : List ℕ) (number : ℕ) (old new : Option (List ℕ)) : Type 0 where
+  pub status : Status
+  pub numbered : number ≡ number_of status
+  pub writes : Writes words bytes status old new
+
+-- what had come of the source when there was this to tell
+abbrev pub CameTo : Bool → ℕ → ℕ → Option (List ℕ) → Option (List ℕ) → Status → Type 0
+CameTo exact before after left now how =
+    CameOfSource exact (record { before = before; after = after }) left now (how ≡ status.ReadFault) (how ≡ status.TooLong)
+
+-- the source was read to its end and the run came to an end
+abbrev pub HasRun : Status → Type 0
+HasRun status.Ok = Unit {0}
+HasRun (status.Drift turn) = Unit {0}
+HasRun _ = ⊥
+
+-- four chunks in a row, up to this turn, have fewer than 9393 or more than 9399 bytes
+pub record UnsteadyBy (digits : List ℕ) (turn : ℕ) : Type 0 where
+  pub first : ℕ
+  pub within : first + 4 ≤ turn
+  pub sum : ℕ
+  pub is : sum ≡ size_at digits first + size_at digits (first + 1) + size_at digits (first + 2) + size_at digits (first + 3)
+  pub far : (sum < 9393) ⊎ (9399 < sum)
+
+-- this is so of the words' digits
+abbrev pub AreUnsteady : List (List ℕ) → Type 0
+AreUnsteady words = (digits : List ℕ) × (words ≡ digits ∷ []) × ((turn : ℕ) × UnsteadyBy digits turn)
+
+-- a run of digits ends with a drift only where four chunks in a row, up to its turn, aren't steady
+abbrev pub DriftsAreUnsteady : Type 0
+DriftsAreUnsteady =
+    (digits bytes : List ℕ) (k turn : ℕ) (text : List ℕ) → IsDigits digits → IsDrift digits bytes k turn text → UnsteadyBy digits turn

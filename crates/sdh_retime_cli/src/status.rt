@@ -1,0 +1,39 @@
+//! How the program ends.
+ghost use Rattle.std.specs.Prelude.{◌≡◌};
+ghost use Rattle.sdh_retime_cli.specs.Outcome.{number_of};
+
+/// How the program ends. With each status but `WriteFault` and `Memory` goes a text.
+#[derive(Clone, Copy, Debug, PartialEq, Eq)]
+pub enum Status {
+    /// All whole chunks were taken in.
+    Ok,
+    /// The words aren't one word of digits.
+    Usage,
+    /// The source failed.
+    ReadFault,
+    /// The sink failed. What was written is the front of a text.
+    WriteFault,
+    /// The source has more than 1,048,576 bytes.
+    TooLong,
+    /// This turn, counted from 1, is a drift.
+    Drift(usize),
+    /// There was no memory. Nothing was written.
+    Memory,
+}
+
+impl Status {
+    /// The number with which the program ends.
+    pub fn number(&self) -> u8
+        ensures { result ≡ number_of self.now }
+    {
+        match self {
+            Status::Ok => 0,
+            Status::Usage => 2,
+            Status::ReadFault => 3,
+            Status::WriteFault => 4,
+            Status::TooLong => 9,
+            Status::Drift(_) => 12,
+            Status::Memory => 70,
+        }
+    }
+}

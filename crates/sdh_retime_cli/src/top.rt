@@ -1,0 +1,137 @@
+//! The program's call.
+ghost use Rattle.std.specs.Prelude.{◌≡◌, ◌≢◌, ◌⊎◌, ℕ, ◌<◌, ◌≤◌, ◌↔◌, true, [], length, IfOk, OnErr, IfSome};
+ghost use Rattle.std.specs.Io.KnownBytes.{IsAtEnd};
+ghost use Rattle.sdh_basics.specs.Causes.{Rose, IsCounted};
+ghost use Rattle.sdh_outside.specs.Reading.{TakesCount, TellsAtMost};
+ghost use Rattle.sdh_report.specs.Lines.{own_line};
+ghost use Rattle.sdh_shell.specs.Calls.{words_of};
+ghost use Rattle.sdh_retime_cli.specs.Digits.{AreDigits};
+ghost use Rattle.sdh_retime_cli.specs.declared.status.Status.{Status};
+ghost use Rattle.sdh_retime_cli.specs.Outcome.{number_of, IsOutcome, Writes, Answers, CameTo, HasRun, AreUnsteady};
+
+use crate::digits::digits_of;
+use crate::retiming::{Report, run};
+use crate::status::Status;
+use sdh_outside::{ReadAllError, Sink, Source, read_all, write_text};
+use sdh_report::{LINE_MAX, Text};
+use std::alloc::{AllocError, Global};
+
+// A report of one line.
+fn line_report(mut text: Text, status: Status, line: &[u8]) -> Report
+    requires short { length line.now < 96 }
+    requires room { 96 ≤ text.room }
+    requires empty { text.bytes ≡ [] }
+    ensures { (result.status ≡ status) × (result.text.bytes ≡ own_line line.now) }
+{
+    text.own_line(line);
+    Report { status, text }
+}
+
+// What the words and the source come to.
+fn report_on<R: Source>(
+    alloc: Global,
+    words: &[String],
+    source: &mut R,
+) -> Result<Report, AllocError>
+    ensures outcome { IfOk result
+        (λ report. IfSome (R.left source.old) (λ bytes. IsOutcome (words_of words.now) bytes report.status report.text.bytes)) }
+    ensures usage { IfOk result (λ report. report.status ≡ Status.Usage ↔ (¬ AreDigits (words_of words.now))) }
+    ensures fault { IfOk result (λ report. report.status ≡ Status.ReadFault → Rose (R.faults source.old) (R.faults source.new)) }
+    ensures read { IfOk result (λ report. HasRun report.status → IsAtEnd (R.left source.new)) }
+    ensures unsteady { IfOk result (λ report. (turn : ℕ) → report.status ≡ Status.Drift turn → AreUnsteady (words_of words.now)) }
+    ensures complete { IfOk result (λ report. AreDigits (words_of words.now) → TellsAtMost (R.left source.old) 1048576
+        → ¬ (Rose (R.faults source.old) (R.faults source.new)) → HasRun report.status) }
+    ensures own { IfOk result (λ report. (report.status ≢ Status.WriteFault) × (report.status ≢ Status.Memory)) }
+    ensures reads { IfOk result
+        (λ report. IsCounted R.exact (report.status ≡ Status.ReadFault) (R.faults source.old) (R.faults source.new)) }
+    ensures without { OnErr result (R.exact ≡ true → R.faults source.new ≡ R.faults source.old) }
+    ensures too_long { IfOk result (λ report. report.status ≡ Status.TooLong → TakesCount (R.left source.old) (R.left source.new) 1048577) }
+    ensures later { R.faults source.old ≤ R.faults source.new }
+{
+    // Room for the line is taken first, so that a read that fails is always told.
+    let text = Text::try_new(alloc, LINE_MAX)?;
+    let Some(digits) = digits_of(words) else {
+        return Ok(line_report(text, Status::Usage, b"usage: sdhretime DIGITS"));
+    };
+    let bytes = match read_all(alloc, source) {
+        Ok(bytes) => bytes,
+        Err(ReadAllError::Memory) => return Err(AllocError),
+        Err(ReadAllError::ReadFault) => {
+            return Ok(line_report(text, Status::ReadFault, b"read fault"));
+        }
+        Err(ReadAllError::TooLong) => return Ok(line_report(text, Status::TooLong, b"too long")),
+    };
+    run(alloc, digits, &bytes)
+}
+
+// Does all, and answers how it ended.
+fn answer<R: Source, W: Sink>(
+    alloc: Global,
+    words: &[String],
+    source: &mut R,
+    sink: &mut W,
+) -> Status
+    ensures outcome { IfSome (R.left source.old)
+        (λ bytes. Writes (words_of words.now) bytes result (W.written sink.old) (W.written sink.new)) }
+    ensures usage { result ≡ Status.Usage → ¬ AreDigits (words_of words.now) }
+    ensures usage_only { (¬ AreDigits (words_of words.now))
+        → (result ≡ Status.Usage) ⊎ (result ≡ Status.WriteFault) ⊎ (result ≡ Status.Memory) }
+    ensures read_fault { result ≡ Status.ReadFault → Rose (R.faults source.old) (R.faults source.new) }
+    ensures write_fault { result ≡ Status.WriteFault → Rose (W.faults sink.old) (W.faults sink.new) }
+    ensures came { (how : Status) × ((result ≡ how) ⊎ (result ≡ Status.WriteFault))
+        × CameTo R.exact (R.faults source.old) (R.faults source.new) (R.left source.old) (R.left source.new) how }
+    ensures writes { IsCounted W.exact (result ≡ Status.WriteFault) (W.faults sink.old) (W.faults sink.new) }
+    ensures memory { result ≡ Status.Memory → sink.new ≡ sink.old }
+    ensures read_whole { HasRun result → IsAtEnd (R.left source.new) }
+    ensures unsteady { (turn : ℕ) → result ≡ Status.Drift turn → AreUnsteady (words_of words.now) }
+    ensures later { (R.faults source.old ≤ R.faults source.new) × (W.faults sink.old ≤ W.faults sink.new) }
+    ensures complete { AreDigits (words_of words.now) → TellsAtMost (R.left source.old) 1048576
+        → ¬ (Rose (R.faults source.old) (R.faults source.new)) → ¬ (Rose (W.faults sink.old) (W.faults sink.new))
+        → HasRun result ⊎ (result ≡ Status.Memory) }
+{
+    let Ok(report) = report_on(alloc, words, source) else {
+        return Status::Memory;
+    };
+    match write_text(sink, report.text.bytes()) {
+        Ok(()) => report.status,
+        Err(_) => Status::WriteFault,
+    }
+}
+
+/// Does all that the program does, and answers the number with which it ends. With one word of 1 to 64 digits from 0 to 6 it
+/// reads all bytes of the source and takes them into a store chunk by chunk, where digit g means a chunk of 2346 + g bytes and
+/// the digits repeat. It writes the lines of every turn, and what is left or the turn that is a drift. The text is written
+/// once, at the end.
+pub fn retime<R: Source, W: Sink>(
+    alloc: Global,
+    words: &[String],
+    source: &mut R,
+    sink: &mut W,
+) -> u8
+    // The number and the text that is written, for a source that tells its bytes and a sink that tells what was written.
+    ensures outcome { IfSome (R.left source.old)
+        (λ bytes. Answers (words_of words.now) bytes result (W.written sink.old) (W.written sink.new)) }
+
+    // Over every source and sink.
+    ensures usage { result ≡ 2 → ¬ AreDigits (words_of words.now) }
+    ensures usage_only { (¬ AreDigits (words_of words.now)) → (result ≡ 2) ⊎ (result ≡ 4) ⊎ (result ≡ 70) }
+    ensures read_fault { result ≡ 3 → Rose (R.faults source.old) (R.faults source.new) }
+    ensures write_fault { result ≡ 4 → Rose (W.faults sink.old) (W.faults sink.new) }
+    ensures memory { result ≡ 70 → sink.new ≡ sink.old }
+
+    // Where an object's count is exact, each of its calls that failed is told by its fault, and none is tried again; a write fault
+    // may stand in place of what was to be told. With 9 one byte more than the program reads was taken.
+    ensures came { (how : Status) × ((result ≡ number_of how) ⊎ (result ≡ 4))
+        × CameTo R.exact (R.faults source.old) (R.faults source.new) (R.left source.old) (R.left source.new) how }
+    ensures writes { IsCounted W.exact (result ≡ 4) (W.faults sink.old) (W.faults sink.new) }
+    ensures read_whole { (result ≡ 0) ⊎ (result ≡ 12) → IsAtEnd (R.left source.new) }
+    ensures unsteady { result ≡ 12 → AreUnsteady (words_of words.now) }
+    ensures later { (R.faults source.old ≤ R.faults source.new) × (W.faults sink.old ≤ W.faults sink.new) }
+
+    // Digits, at most 1,048,576 bytes, and no fault: the run comes to its end, or there is no memory.
+    ensures complete { AreDigits (words_of words.now) → TellsAtMost (R.left source.old) 1048576
+        → ¬ (Rose (R.faults source.old) (R.faults source.new)) → ¬ (Rose (W.faults sink.old) (W.faults sink.new))
+        → (result ≡ 0) ⊎ (result ≡ 12) ⊎ (result ≡ 70) }
+{
+    answer(alloc, words, source, sink).number()
+}

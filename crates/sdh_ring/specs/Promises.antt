@@ -1,0 +1,34 @@
+-- What every settle step of a ring keeps.
+use Rattle.std.specs.Prelude.{ℕ, ◌≡◌, ◌≢◌, ◌+◌, ◌≤◌, Result, Err, OnOk, length}
+use Rattle.sdh_circuits.specs.declared.PortId.{PortId}
+use Rattle.sdh_rounds.specs.Quiet.{enough_for}
+use Rattle.sdh_rounds.specs.declared.faults.SettleError.{SettleError}
+use Rattle.sdh_rounds.specs.declared.faults.SettleError.TheVariants.{Unsettled, PlantFault}
+use Rattle.sdh_world.specs.Clocks.{HasPortIn, clock_at, waiting_at, clocks_from}
+use Rattle.sdh_world.specs.Rounds.{World}
+use Rattle.sdh_laws.specs.Hearing.Laws.{IsWhole}
+use Rattle.sdh_laws.specs.Carrying.Laws.{Restores}
+use Rattle.sdh_laws.specs.Resting.Laws.{LeavesAtRest}
+use Rattle.sdh_laws.specs.Restoring.Laws.{RestoresBy}
+use Rattle.sdh_laws.specs.Strangers.Laws.{KeepsStrangersOutInAll}
+use Rattle.sdh_ring.specs.Faults.{BreaksStep}
+
+pub record KeepsPromises (w : World) (limit : ℕ) (result : Result (Unit {0}) SettleError) (left : World) : Type 0 where
+  pub whole : result ≢ Err PlantFault → IsWhole w → IsWhole left
+  -- a step of at least 68 rounds uses up all slips
+  pub slips : OnOk result ((port : PortId) → w.ring.rounds + 68 ≤ left.ring.rounds → waiting_at left.ring port ≡ 0)
+  -- where what comes is what was sent, each node is in its settled state then, and each port has delivered what it is owed
+  pub restored : OnOk result (Restores w left)
+  -- with a limit of at least 12n + 102 so it is after a step in which no window ended, too
+  pub soon : result ≡ Err Unsettled → RestoresBy w limit left
+  -- ring and fibres are at rest once a window ended
+  pub rests : OnOk result (LeavesAtRest w left)
+  -- where it is vouched for it stays so, and no port meets a stranger in any round of the step
+  pub strangers : result ≢ Err PlantFault → KeepsStrangersOutInAll w left
+  -- and with so large a limit a window does end, whatever happened before, where no fault breaks the step off
+  pub answers : IsWhole w → enough_for (length w.ring.ids) ≤ limit → result ≢ Err Unsettled
+  -- each port's clock has gone on by the rounds that ran
+  pub clocks : result ≢ Err PlantFault → (port : PortId) → HasPortIn w.ring port
+      → clock_at left.ring port ≡ clocks_from w port left.ring.rounds
+  -- after a fault, by the whole rounds, and by the last one where their nodes had it
+  pub broken_clocks : result ≡ Err PlantFault → BreaksStep w limit left

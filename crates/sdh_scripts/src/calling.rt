@@ -1,0 +1,75 @@
+//! The call.
+ghost use Rattle.std.specs.Prelude.{◌≡◌, ◌⊎◌, ◌≤◌, None, Some, is_some, IfSome};
+ghost use Rattle.sdh_basics.specs.Causes.{Rose, IsCounted};
+ghost use Rattle.sdh_plant.specs.Fibres.{HasNoFibres};
+ghost use Rattle.sdh_report.specs.declared.status.Status.{Status};
+ghost use Rattle.sdh_shell.specs.Calls.{words_of};
+ghost use Rattle.sdh_shell.specs.Reading.{told_if};
+ghost use Rattle.sdh_shell.specs.Failing.{Counts, CameTo};
+ghost use Rattle.sdh_shell.specs.Writing.{Writes};
+ghost use Rattle.sdh_scripts.specs.Outcome.{HasRead, MayEnd};
+ghost use Rattle.sdh_scripts.specs.Headline.{MayBeDone};
+
+use crate::program::RunsPlans;
+use crate::report::report_on;
+use sdh_outside::{Sink, Source, write_text};
+use sdh_plant::Plant;
+use sdh_report::Status;
+use std::alloc::Global;
+
+/// Does all that a program does. Where its words ask for something, it reads a plan from the source and runs it over the
+/// plant. The last line says how it ended. All is written once, at the end.
+pub fn call<'a, M: RunsPlans<'a>, R: Source, W: Sink, P: Plant>(
+    alloc: Global,
+    words: &'a [String],
+    source: &mut R,
+    sink: &mut W,
+    plant: &mut P,
+) -> Status
+    requires fresh { HasNoFibres (P.fibres plant.old) }
+
+    // The status and the text that is written, for a source that tells its bytes, where it is read, and a sink that
+    // tells what was written.
+    ensures outcome { let ask = M.program.asked (words_of words.now) in
+        let reads : Counts = record { before = R.faults source.old; after = R.faults source.new } in
+        let calls : Counts = record { before = P.faults plant.old; after = P.faults plant.new } in
+        IfSome (told_if (is_some ask) (R.left source.old))
+        (λ bytes. Writes (λ how text. MayEnd M.program ask bytes (P.fibres plant.old) reads calls how text (P.fibres plant.new)) result
+        (W.written sink.old) (W.written sink.new)) }
+
+    // Over every source, sink and plant.
+    ensures usage { result ≡ Status.Usage → M.program.asked (words_of words.now) ≡ None }
+    ensures usage_only { M.program.asked (words_of words.now) ≡ None
+        → (result ≡ Status.Usage) ⊎ (result ≡ Status.WriteFault) ⊎ (result ≡ Status.Memory) }
+    ensures alone { M.program.asked (words_of words.now) ≡ None → (source.new ≡ source.old) × (plant.new ≡ plant.old) }
+    ensures read_fault { result ≡ Status.ReadFault → Rose (R.faults source.old) (R.faults source.new) }
+    ensures plant_fault { result ≡ Status.PlantFault → Rose (P.faults plant.old) (P.faults plant.new) }
+    ensures write_fault { result ≡ Status.WriteFault → Rose (W.faults sink.old) (W.faults sink.new) }
+
+    // Where an object's count is exact, each of its calls that failed is told by its fault, and none is tried again; a
+    // write fault may stand in place of what was to be told. With TooLong one byte more than a plan may have was taken.
+    ensures came { let reads : Counts = record { before = R.faults source.old; after = R.faults source.new } in
+        let calls : Counts = record { before = P.faults plant.old; after = P.faults plant.new } in
+        (how : Status) × ((result ≡ how) ⊎ (result ≡ Status.WriteFault))
+        × CameTo R.exact P.exact reads calls (R.left source.old) (R.left source.new) how }
+    ensures writes { IsCounted W.exact (result ≡ Status.WriteFault) (W.faults sink.old) (W.faults sink.new) }
+
+    ensures memory { result ≡ Status.Memory → (sink.new ≡ sink.old) × (P.fibres plant.new ≡ P.fibres plant.old) }
+    ensures read_whole { result ≡ Status.Ok → HasRead (is_some (M.program.asked (words_of words.now))) (R.left source.new) }
+    ensures later { (R.faults source.old ≤ R.faults source.new) × (W.faults sink.old ≤ W.faults sink.new)
+        × (P.faults plant.old ≤ P.faults plant.new) }
+
+    // With all that a run needs, and no fault, everything is done, or there is no memory.
+    ensures complete { (ask : M.Ask) → M.program.asked (words_of words.now) ≡ Some ask
+        → MayBeDone M.program ask (R.left source.old) (P.fibres plant.old) → ¬ (Rose (R.faults source.old) (R.faults source.new))
+        → ¬ (Rose (W.faults sink.old) (W.faults sink.new)) → ¬ (Rose (P.faults plant.old) (P.faults plant.new))
+        → (result ≡ Status.Ok) ⊎ (result ≡ Status.Memory) }
+{
+    let Ok(report) = report_on::<M, R, P>(alloc, words, source, plant) else {
+        return Status::Memory;
+    };
+    match write_text(sink, report.text.bytes()) {
+        Ok(()) => report.status,
+        Err(_) => Status::WriteFault,
+    }
+}

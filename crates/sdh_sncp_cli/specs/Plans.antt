@@ -1,0 +1,42 @@
+-- What comes of a plan over a path ring and fibres that aren't there yet.
+use Rattle.std.specs.Prelude.{ℕ, List}
+use Rattle.sdh_plant.specs.Fibres.{Fibres}
+use Rattle.sdh_plan.specs.Planned.{Planned, provisioning_of}
+use Rattle.sdh_report.specs.Reports.{Report, report_text}
+use Rattle.sdh_report.specs.declared.status.Status.{Status}
+use Rattle.sdh_scripts.specs.Scripts.{Ran}
+use Rattle.sdh_scripts.specs.Plans.{Account}
+use Rattle.sdh_scripts.specs.Plans as plans
+use Rattle.sdh_sncp.specs.Node.{PathNode}
+use Rattle.sdh_sncp.specs.Ring.{HeldPath, World, new_ring}
+use Rattle.sdh_sncp_cli.specs.Walking.{path_walk}
+use Rattle.sdh_sncp_cli.specs.Promise.{OwesAll}
+
+-- the path ring of a plan, in which no round has run
+abbrev pub new_ring_of : Planned → HeldPath
+new_ring_of plan = new_ring plan.settings plan.nodes (provisioning_of plan)
+
+-- over honest fibres each report shows for every port what it is owed
+abbrev pub path_account : Account PathNode Report
+path_account = record { walk = path_walk; new_ring = new_ring_of; Owes = λ plan f reports end left. OwesAll plan reports end }
+
+-- the ring of a plan, over fibres that were just prepared for it
+abbrev pub world_of : Planned → Fibres → World
+world_of = plans.world_of path_account
+
+-- what its script comes to there, where the arrivals are known
+abbrev pub ran_of : Planned → Fibres → Ran PathNode Report
+ran_of = plans.ran_of path_account
+
+-- a script that settles: where the arrivals are known each settle step has a quiet window within the limit; or the fibres are honest and
+-- the limit is large
+abbrev pub MaySettle : Planned → Fibres → Type 0
+MaySettle = plans.MaySettle path_account
+
+-- one list of reports, told in each way
+abbrev pub IsRunOf : Planned → Fibres → List Report → Status → Fibres → Type 0
+IsRunOf = plans.IsRunOf path_account
+
+-- the text is that of the reports of a run
+abbrev pub Tells : Planned → Fibres → List ℕ → Status → Fibres → Type 0
+Tells = plans.Tells path_account report_text

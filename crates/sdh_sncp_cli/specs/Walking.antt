@@ -1,0 +1,18 @@
+-- What a script does with a path ring.
+use Rattle.sdh_plant.specs.Calls.{after_apply}
+use Rattle.sdh_plan.specs.declared.step.Step.{Step}
+use Rattle.sdh_plan.specs.declared.step.Step.TheVariants as step
+use Rattle.sdh_report.specs.Reports.{Report}
+use Rattle.sdh_scripts.specs.Walks.{Walk, reporting}
+use Rattle.sdh_sncp.specs.Node.{PathNode}
+use Rattle.sdh_sncp.specs.Stations.{path_node}
+use Rattle.sdh_sncp.specs.Ring.{World}
+use Rattle.sdh_sncp_cli.specs.Reports.{report_of}
+
+-- a fibre comes into a condition; no other step that runs no round is one of a path ring's
+abbrev pub does : Step → World → World
+does (step.Fibre e) w = record w { fibres = after_apply w.fibres e.at.0 e.side e.condition }
+does s w = w
+
+abbrev pub path_walk : Walk PathNode Report
+path_walk = reporting path_node does report_of

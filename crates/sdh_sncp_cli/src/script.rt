@@ -1,0 +1,58 @@
+//! A path ring that a script is run over.
+ghost use Rattle.std.specs.Prelude.{length};
+ghost use Rattle.sdh_report.specs.Reports.{Report, report_text};
+ghost use Rattle.sdh_scripts.specs.Ports.{lines_room};
+ghost use Rattle.sdh_sncp.specs.Node.{PathNode};
+ghost use Rattle.sdh_sncp_cli.specs.Walking.{path_walk};
+ghost use Rattle.sdh_sncp_cli.specs.Running.{MayRun as MayRunPath};
+
+use crate::reports::put_report;
+use sdh_plan::Step;
+use sdh_plant::Plant;
+use sdh_report::Text;
+use sdh_rounds::{PlantFault, SettleError};
+use sdh_scripts::Runner;
+use sdh_sncp::PathRing;
+
+/// A path ring, which writes a report of each settle step.
+#[derive(Drop)]
+pub struct PathRun {
+    pub ring: PathRing,
+}
+
+impl Runner for PathRun {
+    ghost Node = { PathNode };
+
+    ghost Told = { Report };
+
+    ghost walk = { path_walk };
+
+    ghost ring = { λ r. r.ring };
+
+    ghost text_of = { λ r told. report_text told };
+
+    ghost room = { λ r. lines_room (length r.ring.circuits.circuits) };
+
+    ghost MayRun = { λ number steps r f. MayRunPath number steps r.ring f };
+
+    fn change<P: Plant>(&mut self, plant: &mut P, step: Step) -> Result<(), PlantFault> {
+        match step {
+            Step::Fibre(event) => Ok(plant.apply(event)?),
+            _ => Ok(()),
+        }
+    }
+
+    fn settle<P: Plant>(
+        &mut self,
+        plant: &mut P,
+        limit: u32,
+        number: u32,
+        text: &mut Text,
+    ) -> Result<(), SettleError> {
+        self.ring.settle(plant, limit)?;
+        put_report(text, &self.ring, number + 1);
+        Ok(())
+    }
+
+    ghost few = { λ number later r f may. may.steps_fit.0 };
+}

@@ -1,6 +1,0 @@
-pub mod Conditions
-pub mod Fits
-pub mod Standing
-pub mod Due
-pub mod Stepping
-pub mod Plans

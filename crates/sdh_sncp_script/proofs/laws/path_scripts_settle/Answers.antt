@@ -1,5 +1,0 @@
-use Rattle.sdh_sncp_script.proofs.Due.{scripts_settle}
-use Rattle.sdh_sncp_script.proofs.laws.path_scripts_settle.Goals as goal
-
-pub returns : goal.returns
-returns c = scripts_settle

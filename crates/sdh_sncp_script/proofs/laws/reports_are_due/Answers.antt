@@ -1,5 +1,0 @@
-use Rattle.sdh_sncp_script.proofs.Due.{reports_due}
-use Rattle.sdh_sncp_script.proofs.laws.reports_are_due.Goals as goal
-
-pub returns : goal.returns
-returns c = reports_due

@@ -1,0 +1,28 @@
+use Rattle.std.proofs.Common.{◌≡◌, true}
+use Rattle.sdh_scripts.proofs.Answered.{on_ok, on_two}
+use Rattle.sdh_scripts.proofs.Plans.{came_of, done_of}
+use Rattle.sdh_watch.specs.Lines.{watched_text}
+use Rattle.sdh_watch.specs.Plans.{watch_account, Tells}
+use Rattle.sdh_watch.proofs.Plans.{tells}
+use Rattle.sdh_watch.proofs.run.run_plan.Goals as goal
+
+pub returns-clause-came : goal.returns-clause-came
+returns-clause-came g c =
+    let means = g.P.Plant.fibres in
+    let f = means c.args.plant.now in
+    let left = means c.start.new.plant in
+    on_ok c.start.result _ _
+    (λ run came. tells c.watches_are_clean.ensures c.scripts_settle.ensures c.args.plan f left run.text.bytes run.status c.steps.ensures.form
+    (λ (honest : f.honest ≡ true). record { honest = honest; tells_none = g.met.P.Plant.honest_tells_none c.args.plant.now honest })
+    (came_of _ watch_account c.args.plan c.in_ok-run.run' c.in_ok-run.ensures.is_of watched_text f left run.text.bytes run.status came))
+    c.start.ensures.came
+
+pub returns-clause-complete : goal.returns-clause-complete
+returns-clause-complete g c =
+    let means = g.P.Plant.fibres in
+    let f = means c.args.plant.now in
+    let left = means c.start.new.plant in
+    on_two c.start.result (λ run. Tells c.args.plan f run.text.bytes run.status left) _ _
+    (λ run told failed may fine. done_of watch_account c.args.plan f left run.status told.reports told.came may
+    (λ fault. fine (failed fault)))
+    (returns-clause-came g c) c.start.ensures.failed

@@ -1,0 +1,31 @@
+-- What comes of a script with watches: after a settle step that ends 128 more rounds are run, in which a new watch looks at
+-- each port.
+use Rattle.std.specs.Prelude.{ℕ, List}
+use Rattle.sdh_node.specs.Node.{Node}
+use Rattle.sdh_node.specs.Stations.{adm}
+use Rattle.sdh_world.specs.Rounds.{World}
+use Rattle.sdh_plan.specs.declared.step.Step.{Step}
+use Rattle.sdh_report.specs.declared.status.Status.{Status}
+use Rattle.sdh_scripts.specs.Walks.{Walk}
+use Rattle.sdh_scripts.specs.Scripts as scripts
+use Rattle.sdh_world.specs.Steps.{after_step}
+use Rattle.sdh_watch.specs.Shows.{Watched}
+use Rattle.sdh_watch.specs.Watching.{watched_in}
+
+abbrev pub watch_walk : Walk Node Watched
+watch_walk = record {
+  station = adm;
+  does = after_step;
+  behind = 128;
+  tells = watched_in;
+  last = λ (r : Watched). r.round;
+}
+
+-- the steps from a world, after so many settle steps that have ended, with this limit of rounds a settle step: this is told, they
+-- end so, and leave that world
+abbrev pub Watches : ℕ → ℕ → List Step → World → List Watched → Status → World → Type 0
+Watches = scripts.Runs watch_walk
+
+-- what a script comes to where arrivals are known
+abbrev pub Ran : Type 0
+Ran = scripts.Ran Node Watched

@@ -1,4 +1,0 @@
-pub mod Short
-pub mod Leading
-pub mod Steps
-pub mod Plans

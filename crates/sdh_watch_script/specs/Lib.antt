@@ -1,4 +1,0 @@
-pub mod Lines
-pub mod Ports
-pub mod Running
-pub mod Plans

@@ -1,5 +1,0 @@
-use Rattle.sdh_watching.proofs.Settling as proved
-use Rattle.sdh_watching.proofs.scripts_settle.Goals as goal
-
-pub returns : goal.returns
-returns c = proved.scripts_settle c.stretches_converge.ensures c.settled_rings_restore.ensures c.steps_leave_at_rest.ensures

@@ -1,5 +1,0 @@
-use Rattle.sdh_watching.proofs.Owing.{watches_clean}
-use Rattle.sdh_watching.proofs.watches_are_clean.Goals as goal
-
-pub returns : goal.returns
-returns c = watches_clean c.settled_rings_restore.ensures c.steps_leave_at_rest.ensures

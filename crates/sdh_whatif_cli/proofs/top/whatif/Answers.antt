@@ -1,0 +1,25 @@
+use Rattle.std.proofs.Common.{ℕ, List, OnErr, refl, inl, subst, arith}
+use Rattle.sdh_outside.specs.Writing.{AppendsFewer}
+use Rattle.sdh_report.specs.declared.status.Status.TheVariants as status
+use Rattle.sdh_shell.specs.Calls.{words_of}
+use Rattle.sdh_shell.specs.Writing.{Writes}
+use Rattle.sdh_shell.proofs.Told.{told_all}
+use Rattle.sdh_whatif_cli.specs.Words.{asked}
+use Rattle.sdh_whatif_cli.specs.Outcome.{IsOutcome}
+use Rattle.sdh_whatif_cli.proofs.top.whatif.Goals as goal
+
+-- a write failed: a front of the text was written
+pub returns-in-Err-clause-outcome : goal.returns-in-Err-clause-outcome
+returns-in-Err-clause-outcome g c =
+    let outcome = c.in-Ok.ensures.outcome in
+    let old = g.W.Sink.written c.args.sink.now in
+    let new = g.W.Sink.written c.answer.new.sink in
+    let fewer : AppendsFewer old new outcome.0 =
+    subst (λ r. OnErr r (AppendsFewer old new outcome.0)) c.in-Err.is outcome.1.1.front in
+    let is_outcome = IsOutcome (asked (words_of c.args.words.now)) in
+    told_all _ _ (λ (bytes : List ℕ). Writes (λ how text. is_outcome bytes how text) status.WriteFault old new)
+    (λ bytes is. (c.in-Ok.told.status, outcome.0, is, fewer)) outcome.1.0
+
+pub returns-in_default-clause-came : goal.returns-in_default-clause-came
+returns-in_default-clause-came g c =
+    (status.Memory, inl refl, record { one = λ e f. absurd (grind arith); none = λ e other. c.in_default.ensures.memory.0 e })

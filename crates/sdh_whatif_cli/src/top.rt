@@ -1,0 +1,185 @@
+//! The program's call.
+ghost use Rattle.std.specs.Prelude.{◌≡◌, ◌≢◌, ◌⊎◌, ◌+◌, ◌≤◌, ◌↔◌, ℕ, List, [], length, true, None, IfOk, OnErr, IfSome};
+ghost use Rattle.std.specs.Io.KnownBytes.{IsAtEnd};
+ghost use Rattle.sdh_basics.specs.Causes.{Rose, IsCounted};
+ghost use Rattle.sdh_outside.specs.Reading.{TakesCount};
+ghost use Rattle.sdh_shell.specs.Reading.{HasPlan};
+ghost use Rattle.sdh_shell.specs.Writing.{Writes};
+ghost use Rattle.sdh_verdicts.specs.Laws.{VerdictsAgree, VerdictsAreShown};
+ghost use Rattle.sdh_shell.specs.Calls.{words_of};
+ghost use Rattle.sdh_whatif_cli.specs.Words.{asked};
+ghost use Rattle.sdh_whatif_cli.specs.Lines.{table_text};
+ghost use Rattle.sdh_whatif_cli.specs.Writing.{Wrote};
+ghost use Rattle.sdh_whatif_cli.specs.Outcome.{refusal, OfBytes, IsOutcome, told};
+
+use crate::ask::{Ask, asked};
+use crate::line::Line;
+use crate::table::write_table;
+use sdh_outside::{Sink, Source, WriteFault, write_text};
+use sdh_plan::Plan;
+use sdh_report::laws::last_line_is_short;
+use sdh_report::{LINE_MAX, Status, Text};
+use sdh_shell::{NoPlan, plan_in};
+use sdh_verdicts::Sides;
+use std::alloc::{AllocError, Global};
+
+// What is told, and how writing it ended.
+#[derive(Drop)]
+struct Told {
+    status: Status,
+    wrote: Result<(), WriteFault>,
+}
+
+// The line of a refusal.
+fn refusal(text: &mut Text, status: Status)
+    requires room { 96 ≤ text.old.room }
+    requires empty { text.old.bytes ≡ [] }
+    ensures { text.new.bytes ≡ refusal status }
+{
+    match status {
+        Status::Usage => text.own_line(b"usage: sdhwhatif single, double, triple, and PART PARTS"),
+        _ => {
+            last_line_is_short(&status);
+            text.last_line(&status);
+        }
+    }
+}
+
+// Writes the line of a refusal.
+fn refuse<W: Sink>(sink: &mut W, mut text: Text, status: Status) -> Told
+    requires room { 96 ≤ text.room }
+    requires empty { text.bytes ≡ [] }
+    ensures status { result.status ≡ status }
+    ensures wrote { Wrote W.exact (W.written sink.old) (W.written sink.new) (W.faults sink.old) (W.faults sink.new)
+        (refusal status) result.wrote }
+{
+    refusal(&mut text, status);
+    let wrote = write_text(sink, text.bytes());
+    Told { status, wrote }
+}
+
+// Writes the table of a plan.
+fn tell<W: Sink>(alloc: Global, sink: &mut W, plan: &Plan, ask: Ask) -> Result<Told, AllocError>
+    requires part { (1 ≤ ask.part) × (ask.part ≤ ask.parts) }
+    ensures status { IfOk result (λ x. x.status ≡ Status.Ok) }
+    ensures wrote { IfOk result (λ x. Wrote W.exact (W.written sink.old) (W.written sink.new) (W.faults sink.old) (W.faults sink.new)
+        (table_text plan.now ask) x.wrote) }
+    ensures memory { OnErr result (sink.new ≡ sink.old) }
+{
+    let mut line = Line::try_new(alloc)?;
+    let sides = Sides::try_new(alloc, plan)?;
+    let wrote = write_table(sink, &mut line, plan, &sides, ask);
+    Ok(Told {
+        status: Status::Ok,
+        wrote,
+    })
+}
+
+// What is asked for, with the plan that a source has.
+fn answer_ask<R: Source, W: Sink>(
+    alloc: Global,
+    ask: Ask,
+    source: &mut R,
+    sink: &mut W,
+) -> Result<Told, AllocError>
+    requires part { (1 ≤ ask.part) × (ask.part ≤ ask.parts) }
+    ensures outcome { IfOk result (λ x. (text : List ℕ) × (IfSome (R.left source.old) (λ bytes. OfBytes ask bytes x.status text)
+        × Wrote W.exact (W.written sink.old) (W.written sink.new) (W.faults sink.old) (W.faults sink.new) text x.wrote)) }
+    ensures fault { IfOk result (λ x. x.status ≡ Status.ReadFault → Rose (R.faults source.old) (R.faults source.new)) }
+    ensures reads { IfOk result (λ x. IsCounted R.exact (x.status ≡ Status.ReadFault) (R.faults source.old) (R.faults source.new)) }
+    ensures too_long { IfOk result (λ x. x.status ≡ Status.TooLong → TakesCount (R.left source.old) (R.left source.new) 1048577) }
+    ensures own { IfOk result (λ x. (x.status ≢ Status.Usage) × (x.status ≢ Status.WriteFault) × (x.status ≢ Status.Memory)) }
+    ensures read { IfOk result (λ x. x.status ≡ Status.Ok → IsAtEnd (R.left source.new)) }
+    ensures complete { HasPlan (R.left source.old) → ¬ (Rose (R.faults source.old) (R.faults source.new))
+        → IfOk result (λ x. x.status ≡ Status.Ok) }
+    ensures later { R.faults source.old ≤ R.faults source.new }
+    ensures memory { OnErr result ((R.exact ≡ true → R.faults source.new ≡ R.faults source.old) × (sink.new ≡ sink.old)) }
+{
+    let text = Text::try_new(alloc, LINE_MAX)?;
+    match plan_in(alloc, source) {
+        Ok(plan) => tell(alloc, sink, &plan, ask),
+        Err(NoPlan::Memory) => Err(AllocError),
+        Err(NoPlan::Refused(how)) => Ok(refuse(sink, text, how)),
+    }
+}
+
+// All that is done with memory.
+fn answer<R: Source, W: Sink>(
+    alloc: Global,
+    words: &[String],
+    source: &mut R,
+    sink: &mut W,
+) -> Result<Told, AllocError>
+    ensures outcome { IfOk result (λ x. (text : List ℕ) × (IfSome (told (asked (words_of words.now)) (R.left source.old))
+        (λ bytes. IsOutcome (asked (words_of words.now)) bytes x.status text)
+        × Wrote W.exact (W.written sink.old) (W.written sink.new) (W.faults sink.old) (W.faults sink.new) text x.wrote)) }
+    ensures fault { IfOk result (λ x. x.status ≡ Status.ReadFault → Rose (R.faults source.old) (R.faults source.new)) }
+    ensures reads { IfOk result (λ x. IsCounted R.exact (x.status ≡ Status.ReadFault) (R.faults source.old) (R.faults source.new)) }
+    ensures too_long { IfOk result (λ x. x.status ≡ Status.TooLong → TakesCount (R.left source.old) (R.left source.new) 1048577) }
+    ensures usage { IfOk result (λ x. x.status ≡ Status.Usage ↔ (asked (words_of words.now) ≡ None)) }
+    ensures own { IfOk result (λ x. (x.status ≢ Status.WriteFault) × (x.status ≢ Status.Memory)) }
+    ensures read { IfOk result (λ x. x.status ≡ Status.Ok → IsAtEnd (R.left source.new)) }
+    ensures unread { asked (words_of words.now) ≡ None → source.new ≡ source.old }
+    ensures complete { asked (words_of words.now) ≢ None → HasPlan (R.left source.old)
+        → ¬ (Rose (R.faults source.old) (R.faults source.new)) → IfOk result (λ x. x.status ≡ Status.Ok) }
+    ensures later { R.faults source.old ≤ R.faults source.new }
+    ensures memory { OnErr result ((R.exact ≡ true → R.faults source.new ≡ R.faults source.old) × (sink.new ≡ sink.old)) }
+{
+    match asked(words) {
+        Some(ask) => answer_ask(alloc, ask, source, sink),
+        None => {
+            let text = Text::try_new(alloc, LINE_MAX)?;
+            Ok(refuse(sink, text, Status::Usage))
+        }
+    }
+}
+
+/// Does all that the program does. With the word `single`, `double` or `triple` it reads a plan from the source and writes a table:
+/// what becomes of each circuit where nothing more fails than in the plan's script, and where one, two or three things more do; with
+/// two numbers behind the word one part of so many of it. It is written line by line, and all memory is taken before the first.
+pub fn whatif<R: Source, W: Sink>(
+    alloc: Global,
+    words: &[String],
+    source: &mut R,
+    sink: &mut W,
+) -> Status
+    // The status and the text that is written, for a source that tells its bytes, where it is read, and a sink that tells what was
+    // written.
+    ensures outcome { IfSome (told (asked (words_of words.now)) (R.left source.old))
+        (λ bytes. Writes (λ how text. IsOutcome (asked (words_of words.now)) bytes how text) result (W.written sink.old)
+        (W.written sink.new)) }
+
+    // What it tells is what reports show: the last one of the plan with the case's steps and a settle step behind its script.
+    ensures agrees { VerdictsAgree }
+    ensures shown { VerdictsAreShown }
+
+    // Over every source and sink.
+    ensures usage { result ≡ Status.Usage → asked (words_of words.now) ≡ None }
+    ensures usage_only { asked (words_of words.now) ≡ None
+        → (result ≡ Status.Usage) ⊎ (result ≡ Status.WriteFault) ⊎ (result ≡ Status.Memory) }
+    ensures unread { asked (words_of words.now) ≡ None → source.new ≡ source.old }
+    ensures read_fault { result ≡ Status.ReadFault → Rose (R.faults source.old) (R.faults source.new) }
+    ensures write_fault { result ≡ Status.WriteFault → Rose (W.faults sink.old) (W.faults sink.new) }
+    ensures writes { IsCounted W.exact (result ≡ Status.WriteFault) (W.faults sink.old) (W.faults sink.new) }
+    ensures came { (how : Status) × ((result ≡ how) ⊎ (result ≡ Status.WriteFault))
+        × IsCounted R.exact (how ≡ Status.ReadFault) (R.faults source.old) (R.faults source.new) }
+    ensures too_long { result ≡ Status.TooLong → TakesCount (R.left source.old) (R.left source.new) 1048577 }
+    ensures memory { result ≡ Status.Memory → sink.new ≡ sink.old }
+    ensures read_whole { result ≡ Status.Ok → IsAtEnd (R.left source.new) }
+    ensures later { (R.faults source.old ≤ R.faults source.new) × (W.faults sink.old ≤ W.faults sink.new) }
+
+    // With the words, the bytes of a plan and no fault, everything is told, or there is no memory.
+    ensures complete { asked (words_of words.now) ≢ None → HasPlan (R.left source.old)
+        → ¬ (Rose (R.faults source.old) (R.faults source.new)) → ¬ (Rose (W.faults sink.old) (W.faults sink.new))
+        → (result ≡ Status.Ok) ⊎ (result ≡ Status.Memory) }
+{
+    sdh_verdicts::laws::verdicts_agree();
+    sdh_verdicts::laws::verdicts_are_shown();
+    let Ok(told) = answer(alloc, words, source, sink) else {
+        return Status::Memory;
+    };
+    match told.wrote {
+        Ok(()) => told.status,
+        Err(_) => Status::WriteFault,
+    }
+}

@@ -1,0 +1,16 @@
+-- What a step of a script does to a ring and its fibres at once, and what a script has led to so far.
+use Rattle.std.specs.Prelude.{ℕ}
+use Rattle.sdh_world.specs.Held.{HeldRing}
+use Rattle.sdh_world.specs.Rounds.{World}
+use Rattle.sdh_world.specs.Clocks.{waiting_at}
+use Rattle.sdh_world.specs.Changes.{all_changed}
+use Rattle.sdh_plan.specs.declared.step.Step.{Step}
+use Rattle.sdh_plan.specs.Steps.{Past}
+use Rattle.sdh_promise.specs.Changes.{changes_of}
+
+abbrev pub after_step : Step → World → World
+after_step s w = all_changed (changes_of s) w
+
+-- what the script has led to so far: the ring's moment, so many settle steps, and the slips that wait at its ports
+abbrev pub past_of : ℕ → HeldRing → Past
+past_of before r = record { moment = r.moment; settles = before; slips = waiting_at r }

@@ -1,0 +1,117 @@
+"""References to crates, files and definitions in comments of sources and in documents, and the list of what is trusted."""
+import re
+import unittest
+from pathlib import Path
+
+TOP = Path(__file__).resolve().parents[2]
+CRATES = TOP / "crates"
+
+# a file of specs or proofs, with its crate where that isn't the comment's own
+FILE = re.compile(r"`(?:crates/)?(?:(sdh\w*)/)?((?:specs|proofs|src)/[\w/.]+)`")
+# a definition and where it is said to be
+PLACED = re.compile(r"`(\w+)` in `(?:crates/)?(?:(sdh\w*)/?)?((?:specs/[\w/.]+)?)`")
+# a crate
+CRATE = re.compile(r"`(sdh_\w+)`")
+
+
+def crate_lines():
+    """The crates of crates.txt, each with what it stands on."""
+    found = {}
+    for line in (TOP / "crates.txt").read_text().splitlines():
+        match = re.match(r"([a-z][a-z0-9_]*)(?: staticlib)?:(.*)", line)
+        if match:
+            found[match.group(1)] = match.group(2).split()
+    return found
+
+
+def comments(path):
+    """The text of a source's comments, one string for each run of lines."""
+    runs, run = [], []
+    for line in path.read_text().splitlines():
+        match = re.match(r"\s*(?://[/!]?|--) ?(.*)", line)
+        if match:
+            run.append(match.group(1))
+        elif run:
+            runs.append(" ".join(run))
+            run = []
+    return runs + ([" ".join(run)] if run else [])
+
+
+def texts_of_sources():
+    """Each comment of the crates' sources and definitions, with its file and its crate."""
+    for path in sorted(CRATES.glob("*/*/**/*")):
+        if path.suffix in (".rt", ".antt") and path.parts[len(CRATES.parts) + 1] in ("src", "specs", "proofs"):
+            for text in comments(path):
+                yield path, path.parts[len(CRATES.parts)], text
+
+
+def texts_of_documents():
+    """Each document, with its text in one line; no document stands in a crate."""
+    for path in sorted([*TOP.glob("*.md"), *TOP.glob("docs/*.md")]):
+        yield path, None, " ".join(path.read_text().split())
+
+
+def file_in(crate, name):
+    """The file of a crate that a reference names, with or without its suffix; or None."""
+    for place in (CRATES / crate / name, CRATES / crate / (name + ".antt"), CRATES / crate / (name + ".rt")):
+        if place.exists():
+            return place
+    return None
+
+
+def defines(place, word):
+    """Whether a file, or a file below a folder, has the word at a place where it may be defined."""
+    files = [place] if place.is_file() else [p for p in place.rglob("*") if p.suffix in (".rt", ".antt") and "out" not in p.parts]
+    line = re.compile(
+        rf"^\s*(?:pub )?(?:(?:abbrev|unfoldable|record|data|fn|struct|enum|trait|mod|const|static|unsafe)\s+)*(?:pub )?{re.escape(word)}\b",
+        re.M)
+    return any(line.search(path.read_text()) for path in files)
+
+
+class References(unittest.TestCase):
+    def dead(self, texts):
+        crates = crate_lines()
+        for path, own, text in texts:
+            where = str(path.relative_to(TOP))
+            for crate, name in FILE.findall(text):
+                home = crate or own
+                if home and (home not in crates or file_in(home, name.rstrip("."))is None):
+                    yield f"{where}: no file {home}/{name}"
+            for crate in CRATE.findall(text):
+                if crate not in crates and not (path.suffix == ".rt" and defines(CRATES / own, crate)):
+                    yield f"{where}: no crate {crate}"
+            for word, crate, name in PLACED.findall(text):
+                home = crate or own
+                if not home or home not in crates or not (crate or name):
+                    continue
+                place = file_in(home, name) if name else CRATES / home
+                if place is None or not defines(place, word):
+                    yield f"{where}: no {word} in {home}/{name}"
+
+    def test_comments_name_what_is_there(self):
+        self.assertEqual(sorted(set(self.dead(texts_of_sources()))), [])
+
+    def test_documents_name_what_is_there(self):
+        self.assertEqual(sorted(set(self.dead(texts_of_documents()))), [])
+
+    def test_a_dead_reference_is_found(self):
+        texts = [
+            (TOP / "docs" / "X.md", "sdh_ring", "`specs/Nothing.antt`"),
+            (TOP / "docs" / "X.md", "sdh_ring", "`sdh_nowhere`"),
+            (TOP / "docs" / "X.md", "sdh_ring", "`NoSuchThing` in `sdh_ring`"),
+        ]
+        self.assertEqual(len(list(self.dead(texts))), 3)
+
+
+class Trusted(unittest.TestCase):
+    def test_the_list_of_trusted_crates_is_that_of_crates_txt(self):
+        crates = crate_lines()
+        outside = {name for below in crates.values() for name in below} - set(crates)
+        proved = (TOP / "docs" / "PROVED.md").read_text()
+        section = proved[proved.index("## What is trusted"):]
+        listed = set(re.findall(r"`(\w+)`", section[:section.index("are the edge")])) - {"StdSource", "StdSink", "main"}
+        self.assertEqual(listed, outside)
+
+
+if __name__ == "__main__":
+    unittest.main()
