@@ -14,9 +14,9 @@ LIB, DOC, MAN = "lib/sdhring", "share/doc/sdhring", "share/man/man1"
 COMPLETIONS = "share/bash-completion/completions"
 FILES = f"{LIB}/FILES"
 # What is about the repository alone, from the one comment to the other, of a document, a man page or a script.
-OF_REPOSITORY = re.compile(r"^(?:<!--|\.\\\"|#) repository(?: -->)?\n.*?^(?:<!--|\.\\\"|#) end(?: -->)?\n\n?", re.M | re.S)
+OF_REPOSITORY = re.compile(r"<!-- repository -->.*?<!-- end -->\n?\n?|^(?:\.\\\"|#) repository\n.*?^(?:\.\\\"|#) end\n\n?", re.M | re.S)
 # What is of use before it is installed alone.
-OF_UNPACKED = re.compile(r"^<!-- unpacked -->\n.*?^<!-- end -->\n\n?", re.M | re.S)
+OF_UNPACKED = re.compile(r"<!-- unpacked -->.*?<!-- end -->\n?\n?", re.S)
 TEXTS = {".md", ".1", ".toml", ".json", ""}
 
 
