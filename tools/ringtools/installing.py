@@ -17,7 +17,9 @@ LIB, DOC, MAN = "lib/sdhring", "share/doc/sdhring", "share/man/man1"
 COMPLETIONS = "share/bash-completion/completions"
 FILES = f"{LIB}/FILES"
 # What is about the repository alone, from the one comment to the other, of a document, a man page or a script.
-OF_REPOSITORY = re.compile(r"^(?:<!--|\.\\\"|#) repository(?: -->)?\n.*?^(?:<!--|\.\\\"|#) end(?: -->)?\n\n?", re.M | re.S)
+OF_REPOSITORY = re.compile(r"<!-- repository -->.*?<!-- end -->\n?\n?|^(?:\.\\\"|#) repository\n.*?^(?:\.\\\"|#) end\n\n?", re.M | re.S)
+# What is of use before it is installed alone.
+OF_UNPACKED = re.compile(r"<!-- unpacked -->.*?<!-- end -->\n?\n?", re.S)
 TEXTS = {".md", ".1", ".toml", ".json", ""}
 
 
@@ -61,7 +63,7 @@ def glossary():
 
 def installed(text, name, doc):
     """A text of a release as it is installed: commands are on the PATH, and documents and examples stand in one folder."""
-    text = re.sub(r"\\&\./(?=sdh)|(?<![\w.])\./(?=sdh)", "", released(text))
+    text = re.sub(r"\\&\./(?=sdh)|(?<![\w.])\./(?=sdh)", "", OF_UNPACKED.sub("", released(text)))
     if name.endswith(".1"):
         text = text.replace("man \\-l docs/", "man ").replace("man -l docs/", "man ")
         text = re.sub(r"(?<![\w/])(docs/|(?=examples/))(?=[\w.])", f"{doc}/", text)
