@@ -27,7 +27,9 @@ _sdhring_tools() {
     rows) words='--dir --jobs --list --help' ;;
     sdhring-explain) words='--first --status --name --help' ;;
     sdhring-report) words='--json --csv --nodes --plan --help' ;;
-    sdhring-plan) words='new --nodes --rate --steps --to --help' ;;
+    sdhring-plan) words='new import --nodes --rate --threshold --wait --limit --steps --to --help' ;;
+    sdhring-availability) words='--nodes --groups --cuts-per-1000-km --without-script --csv --json --causes --help' ;;
+    sdhring-desk) words='--to --title --spans --nodes --groups --cuts-per-1000-km --teller --help' ;;
     sdhring-view) words='--svg --outages --program --help' ;;
     sdhring-whatif) words='--also --works --kinds --dir --program --jobs --shard --sshlogin --parallel --all --frames --teller --anew --help' ;;
   esac
@@ -36,7 +38,7 @@ _sdhring_tools() {
 }
 
 complete -F _sdhring {,./}sdh{ring,watch,outage,path,retime,whatif}
-complete -F _sdhring_tools {,./}sdhring-{explain,report,plan,view,whatif}
+complete -F _sdhring_tools {,./}sdhring-{availability,desk,explain,plan,report,view,whatif}
 # repository
 complete -F _sdhring_tools {,./}tools/rows
 # end

@@ -3,6 +3,7 @@
 from html import escape
 
 from .answers import KIND_PLURALS, SINGLE
+from .look import ends_words
 from .markup import folded, heads, unbroken
 
 COLUMNS = 40  # customers side by side: so many fit a printed page
@@ -68,11 +69,11 @@ class CaseTables:
         return {title: column for title, column in columns.items() if column[1]}
 
     def customer_row(self, circuit, columns):
-        name, ids, singles = circuit.name, self.plan.ids, self.answers.takers(SINGLE)
+        name, singles = circuit.name, self.answers.takers(SINGLE)
         kind, words = self.customer_words(name, singles)
         cells = [taken_by(found.get(name), asked) for found, asked in columns.values()]
-        cells += [self.longest(name), f"{ids[circuit.start]} to {ids[circuit.end]}, slot {circuit.slot}"]
-        head = f'<tr><th scope="row" class="name">{escape(name)}</th><td class="result-{kind}">{words}</td>'
+        cells += [self.longest(name), escape(ends_words(self.plan, circuit))]
+        head = f'<tr><th scope="row" class="name">{escape(self.plan.circuit_name(circuit))}</th><td class="result-{kind}">{words}</td>'
         return head + "".join(f"<td>{cell}</td>" for cell in cells) + "</tr>"
 
     def customers(self):

@@ -2,7 +2,7 @@
 
 from html import escape
 
-from .look import longer_words
+from .look import ends_words, longer_words
 from .markup import count_of, heads, names, table
 
 RESULTS = {
@@ -77,7 +77,7 @@ def steps_table(looks):
         rows = [total_row(shown)]
         for circuit in shown[0].plan.circuits:
             cells = "".join(step_cell(look, circuit) for look in shown)
-            rows.append(f'<tr data-circuit="{escape(circuit.name)}"><th scope="row" class="name">{escape(circuit.name)}</th>{cells}</tr>')
+            rows.append(f'<tr data-circuit="{escape(circuit.name)}"><th scope="row" class="name">{escape(shown[0].plan.circuit_name(circuit))}</th>{cells}</tr>')
         caption = f"<caption>Customers after settle steps {shown[0].scene.number} to {shown[-1].scene.number}; what changed since the step before is set off</caption>"
         parts.append(f'<div class="wide"><table class="steps">{caption}<thead>{heads(titles)}</thead><tbody>{"".join(rows)}</tbody></table></div>')
     return "\n".join(parts)
@@ -104,13 +104,13 @@ def out_heads(look):
 
 def circuit_table(look):
     """Each customer with its result beside its name and its outages, then its way."""
-    circuits, ids = look.plan.circuits, look.plan.ids
+    circuits = look.plan.circuits
     changed = {number for number, circuit in enumerate(circuits) if circuit.name in look.changed_circuits}
     rows = []
     for number, circuit in enumerate(circuits):
         result = f'<span class="result-{look.result(circuit)}">{result_words(look, circuit)}</span>'
-        ends = f"{ids[circuit.start]} to {ids[circuit.end]}, slot {circuit.slot}"
-        rows.append([escape(circuit.name), result, *out_cells(look, circuit), escape(look.route_words(circuit)), ends, str(number + 1)])
+        way, ends = escape(look.route_words(circuit)), escape(ends_words(look.plan, circuit))
+        rows.append([escape(look.plan.circuit_name(circuit)), result, *out_cells(look, circuit), way, ends, str(number + 1)])
     heads_ = ["circuit", "what became of it", *out_heads(look), "way from a to b now", "from, to", "#"]
     return table("Circuits", heads_, rows, changed, attributes(circuits)) if rows else ""
 

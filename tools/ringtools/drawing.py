@@ -33,8 +33,9 @@ class Measures:
         self.gap = 17 if self.lanes <= 2 else 13 if self.lanes <= 4 else 10.5
         inside = 2 * self.gap * self.lanes
         self.ring = max(165, 20 * plan.size, 44 + inside + 60)
-        self.wide = 2 * (self.ring + 128)
-        self.high = 2 * (self.ring + 66)
+        named = 14 if plan.places.nodes else 0
+        self.wide = 2 * (self.ring + 128 + named)
+        self.high = 2 * (self.ring + 66 + named)
 
     def angle(self, position):
         return TURN * position / self.plan.size
@@ -139,7 +140,7 @@ class Drawing:
 
     def draw_applied(self, span):
         group = add(self.root, "g", class_="mark")
-        add(group, "title", f"span {self.plan.span_name(span)}: applied")
+        add(group, "title", f"span {self.plan.span_title(span)}: applied")
         start, end = self.between(span)
         add(group, "path", class_="applied-edge", d=arc_path(self.m.ring, start, end))
         add(group, "path", class_="applied", d=arc_path(self.m.ring, start + 0.006, end - 0.006))
@@ -199,7 +200,9 @@ class Drawing:
         add(group, "path", class_="half", d=f"M{x + x1:.1f} {y + y1:.1f} A{inner} {inner} 0 0 {int(way > 0)} {x + x2:.1f} {y + y2:.1f}Z")
 
     def draw_node_text(self, group, at, angle):
-        lines = [(self.look.state(at), at in self.look.changed_nodes)] if self.look.state(at) else []
+        place, state = self.plan.places.drawn(self.plan.ids[at]), self.look.state(at)
+        lines = [(place, False)] if place else []
+        lines += [(state, at in self.look.changed_nodes)] if state else []
         for side in ("west", "east"):
             command = self.scene.commands[at, side]
             if command is not None:

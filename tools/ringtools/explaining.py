@@ -7,8 +7,10 @@ from difflib import get_close_matches
 from math import isinf
 
 from .checks import arc_of, refusals
+from .holding import held_while_passing
 from .markup import count_of
-from .plan import PlanProblem, enough, read_document
+from .places import PlaceProblem, read_places
+from .plan import PlanProblem, enough, read_document, read_plan
 from .reasons import REASONS
 from .source import Place, Source
 from .stream import TEXT_BYTES
@@ -196,17 +198,17 @@ def of_limits(document, source):
 # -- a good plan
 
 
-def summary(document):
+def summary(plan, document):
     nodes, circuits, script = document["nodes"], document.get("circuit", []), document["script"]
     settles = script.count("settle")
     told = [
         f"{len(nodes)} nodes at STM-{document['rate']}, {count_of(len(circuits), 'circuit')}, "
         f"{count_of(len(script), 'step')}, {settles} of them `settle`",
-        "nodes eastwards: " + " ".join(map(str, nodes)),
+        "nodes eastwards: " + (", " if plan.places.nodes else " ").join(map(plan.places.node, nodes)),
     ]
-    for table in circuits:
+    for circuit, table in zip(plan.circuits, circuits):
         spans = count_of(len(arc_of(table, nodes)), "span")
-        told.append(f"circuit {table['name']}: {table['from']}>{table['to']}, slot {table['slot']}, {spans}")
+        told.append(f"circuit {plan.circuit_name(circuit)}: {plan.node_name(circuit.start)}>{plan.node_name(circuit.end)}, slot {circuit.slot}, {spans}")
     return told
 
 
@@ -225,7 +227,23 @@ def text_warnings(document, source):
             yield Finding(head, place, (f"ports: {names}", "what to do: take a text of 7 or 11 letters"))
 
 
-def warnings(document, source):
+def name_warnings(text):
+    try:
+        read_places(text.encode())
+    except PlaceProblem as problem:
+        yield Finding(f"warning: {problem}; so no names are shown")
+
+
+def hold_warnings(plan, source):
+    for place, at in held_while_passing(plan):
+        head = (
+            f"warning: step {place + 1} holds the controller of node {plan.node_name(at)}, which passes traffic through then; "
+            "until the next report a customer could get another customer's bytes for some frames"
+        )
+        yield Finding(head, source.of(("script", place), 1), ("RING.md tells more: When a controller is restarted",))
+
+
+def warnings(plan, document, source):
     nodes, circuits = document["nodes"], document.get("circuit", [])
     if document["limit"] < enough(len(nodes)):
         head = f"warning: with a limit below {enough(len(nodes))} a settle step may be unsettled"
@@ -233,10 +251,13 @@ def warnings(document, source):
     ends = {table[key] for table in circuits for key in ("from", "to")}
     bare = [node for node in nodes if node not in ends]
     if bare and circuits:
-        yield Finding(f"warning: no circuit ends at {'node' if len(bare) == 1 else 'nodes'} {choices(bare)}", source.of(("nodes",)))
+        bare_names = choices([plan.places.node(node) for node in bare])
+        yield Finding(f"warning: no circuit ends at {'node' if len(bare) == 1 else 'nodes'} {bare_names}", source.of(("nodes",)))
     if not circuits:
         yield Finding("warning: there are no circuits, so a report tells of no customer")
     yield from text_warnings(document, source)
+    yield from hold_warnings(plan, source)
+    yield from name_warnings(source.text)
 
 
 # -- the whole
@@ -273,7 +294,8 @@ def explain(data):
         return Explanation(5, tuple(found))
     if found := of_refusals(document, source):
         return Explanation(6, tuple(found))
-    return Explanation(0, tuple(warnings(document, source)), tuple(summary(document)), document, source)
+    plan = read_plan(data)
+    return Explanation(0, tuple(warnings(plan, document, source)), tuple(summary(plan, document)), document, source)
 
 
 def of_unsettled(explanation, step):

@@ -43,23 +43,23 @@ def span_slug(plan, span):
 
 def fibre_cases(plan, span):
     for at, side in span_fibres(plan, span):
-        here, there = plan.ids[at], plan.ids[plan.neighbour(at, side)]
-        yield Case(f"fibre-{here}-{side}", "fibre", f"fibre {here} → {there}", ((at, side),))
+        words = f"fibre {plan.node_name(at)} → {plan.node_name(plan.neighbour(at, side))}"
+        yield Case(f"fibre-{plan.ids[at]}-{side}", "fibre", words, ((at, side),))
 
 
 def span_case(plan, span):
-    return Case(f"span-{span_slug(plan, span)}", "span", f"span {plan.span_name(span)}", span_fibres(plan, span))
+    return Case(f"span-{span_slug(plan, span)}", "span", f"span {plan.span_title(span)}", span_fibres(plan, span))
 
 
 def pair_case(plan, one, other):
-    words = f"spans {plan.span_name(one)} and {plan.span_name(other)}"
+    words = f"spans {plan.span_title(one)} and {plan.span_title(other)}"
     name = f"pair-{span_slug(plan, one)}-and-{span_slug(plan, other)}"
     return Case(name, "pair", words, span_fibres(plan, one) + span_fibres(plan, other))
 
 
 def node_case(plan, at):
     fibres = span_fibres(plan, (at - 1) % plan.size) + span_fibres(plan, at)
-    return Case(f"node-{plan.ids[at]}", "node", f"node {plan.ids[at]} lost", fibres)
+    return Case(f"node-{plan.ids[at]}", "node", f"node {plan.node_name(at)} lost", fibres)
 
 
 def failures_of(plan):
@@ -156,10 +156,10 @@ class Beforehand:
         return replace(self.plan, steps=tuple(steps))
 
     def document(self, case):
-        return write_plan(self.plan, self.script(case)).encode("ascii")
+        return write_plan(self.plan, self.script(case)).encode()
 
     def document_of_nothing(self):
-        return write_plan(self.plan, self.settled_texts()).encode("ascii")
+        return write_plan(self.plan, self.settled_texts()).encode()
 
 
 def span_named(plan, one, other):

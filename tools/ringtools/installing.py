@@ -8,13 +8,18 @@ from pathlib import Path
 
 from .build import HOME, PROGRAMS, record_of, write_build
 
-TOOLS = ("sdhring-explain", "sdhring-plan", "sdhring-report", "sdhring-view", "sdhring-whatif")
-DOCUMENTS = ("FORMATS.md", "LOOKING.md", "OUTAGES.md", "PATHS.md", "RETIMING.md", "RING.md", "WATCHING.md", "WHATIF.md")
+TOOLS = ("sdhring-availability", "sdhring-desk", "sdhring-explain", "sdhring-plan", "sdhring-report", "sdhring-view", "sdhring-whatif")
+DOCUMENTS = (
+    *("AVAILABILITY.md", "DESK.md", "FORMATS.md", "LOOKING.md", "OUTAGES.md", "PATHS.md", "RETIMING.md", "RING.md", "TABLES.md", "WATCHING.md"),
+    "WHATIF.md",
+)
 LIB, DOC, MAN = "lib/sdhring", "share/doc/sdhring", "share/man/man1"
 COMPLETIONS = "share/bash-completion/completions"
 FILES = f"{LIB}/FILES"
 # What is about the repository alone, from the one comment to the other, of a document, a man page or a script.
-OF_REPOSITORY = re.compile(r"^(?:<!--|\.\\\"|#) repository(?: -->)?\n.*?^(?:<!--|\.\\\"|#) end(?: -->)?\n\n?", re.M | re.S)
+OF_REPOSITORY = re.compile(r"<!-- repository -->.*?<!-- end -->\n?\n?|^(?:\.\\\"|#) repository\n.*?^(?:\.\\\"|#) end\n\n?", re.M | re.S)
+# What is of use before it is installed alone.
+OF_UNPACKED = re.compile(r"<!-- unpacked -->.*?<!-- end -->\n?\n?", re.S)
 TEXTS = {".md", ".1", ".toml", ".json", ""}
 
 
@@ -58,7 +63,7 @@ def glossary():
 
 def installed(text, name, doc):
     """A text of a release as it is installed: commands are on the PATH, and documents and examples stand in one folder."""
-    text = re.sub(r"\\&\./(?=sdh)|(?<![\w.])\./(?=sdh)", "", released(text))
+    text = re.sub(r"\\&\./(?=sdh)|(?<![\w.])\./(?=sdh)", "", OF_UNPACKED.sub("", released(text)))
     if name.endswith(".1"):
         text = text.replace("man \\-l docs/", "man ").replace("man -l docs/", "man ")
         text = re.sub(r"(?<![\w/])(docs/|(?=examples/))(?=[\w.])", f"{doc}/", text)
@@ -92,7 +97,7 @@ def modules():
     for name in (*TOOLS, "install"):
         yield Path(name)
     for path in sorted((HOME / "tools" / "ringtools").rglob("*")):
-        if path.is_file() and path.suffix in (".py", ".css", ".js") and path.name != "rows.py":
+        if path.is_file() and path.suffix in (".py", ".css", ".js") and path.name not in ("rows.py", "releasing.py"):
             yield path.relative_to(HOME / "tools")
 
 

@@ -28,6 +28,10 @@ class Way:
         return len(self.hops) - self.length
 
 
+def ends_words(plan, circuit):
+    return f"{plan.node_name(circuit.start)} to {plan.node_name(circuit.end)}, slot {circuit.slot}"
+
+
 def longer_words(more):
     return "as many as its own arc" if more == 0 else f"{abs(more)} {'more' if more > 0 else 'fewer'} than its own arc"
 
@@ -89,11 +93,11 @@ class Look:
 
     def fibre_words(self, fibre):
         at, side = fibre
-        there = self.plan.ids[self.plan.neighbour(at, side)]
-        return f"fibre {self.plan.ids[at]} → {there}: {condition_words(self.scene.conditions[fibre])}"
+        there = self.plan.node_name(self.plan.neighbour(at, side))
+        return f"fibre {self.plan.node_name(at)} → {there}: {condition_words(self.scene.conditions[fibre])}"
 
     def node_words(self, at):
-        lines = [f"node {self.plan.ids[at]}"]
+        lines = [f"node {self.plan.node_name(at)}"]
         if self.settled.nodes:
             node = self.settled.nodes[at]
             lines[0] += f": {STATES[node.state]}"
@@ -134,11 +138,11 @@ class Look:
         return "odd" if "wrong" in verdicts else "lost" if way.hops is None else "over" if way.over else "kept"
 
     def circuit_words(self, circuit):
-        ids = self.plan.ids
-        return f"circuit {circuit.name}, {ids[circuit.start]} to {ids[circuit.end]}, slot {circuit.slot}: {self.route_words(circuit)}, {self.spans_words(circuit)}"
+        ends = ends_words(self.plan, circuit)
+        return f"circuit {self.plan.circuit_name(circuit)}, {ends}: {self.route_words(circuit)}, {self.spans_words(circuit)}"
 
     def port_words(self, circuit, end):
-        at = self.plan.ids[circuit.start if end == "a" else circuit.end]
+        at = self.plan.node_name(circuit.start if end == "a" else circuit.end)
         verdict, line = self.port(circuit.name, end), self.settled.ports.get((circuit.name, end))
         if verdict is None:
             return f"port {circuit.name} {end} at node {at}: not told by this text"
@@ -172,15 +176,15 @@ class Look:
     def command_changes(self):
         now, was = self.scene.commands, self.before.scene.commands
         shown = lambda at, side: f"command {now[at, side] or 'none'} (was {was[at, side] or 'none'})"
-        return [f"node {self.plan.ids[at]}, {side} side: {shown(at, side)}" for at, side in sorted(self.changed_commands)]
+        return [f"node {self.plan.node_name(at)}, {side} side: {shown(at, side)}" for at, side in sorted(self.changed_commands)]
 
     def span_changes(self):
         shown = lambda span: f"{self.span_words(span)} (was {self.before.span_words(span)})"
-        return [f"span {self.plan.span_name(span)}: {shown(span)}" for span in sorted(self.changed_spans)]
+        return [f"span {self.plan.span_title(span)}: {shown(span)}" for span in sorted(self.changed_spans)]
 
     def node_changes(self):
         shown = lambda at: f"{STATES[self.state(at)]} (was: {STATES[self.before.state(at)]})"
-        return [f"node {self.plan.ids[at]}: {shown(at)}" for at in sorted(self.changed_nodes)]
+        return [f"node {self.plan.node_name(at)}: {shown(at)}" for at in sorted(self.changed_nodes)]
 
 
 def looks(plan, scenes, settled):

@@ -1,11 +1,12 @@
 """A new plan from a few words: nodes, a rate, circuits as `1>3`, and steps."""
 
 import re
-from dataclasses import dataclass
+from dataclasses import dataclass, field
 
 from .checks import arc_of
 from .explaining import explain
 from .markup import count_of
+from .places import written as named
 from .plan import enough, quoted
 
 # Lengths of texts that don't divide 2340, so that each report shows another front of them.
@@ -23,6 +24,24 @@ class Asked:
     circuits: tuple  # (name, from, to)
     steps: tuple
     name: str = "PLAN"  # the file's name in the comments
+    threshold: int = 3
+    wait: int = 10
+    limit: int | None = None  # None stands for one that is always enough
+    places: dict = field(default_factory=dict)  # names by identifiers of nodes
+    maker: str = "sdhring-plan new"
+
+
+@dataclass(frozen=True)
+class Written:
+    """A circuit as it is written into a plan. Each port is its text, its trace and its offset; an empty trace and an offset of 0 aren't written."""
+
+    name: str
+    start: int  # identifiers of nodes
+    end: int
+    slot: int
+    a: tuple
+    b: tuple
+    called: str = ""  # the name that its customer knows, where it is another one
 
 
 def read_nodes(words):
@@ -78,26 +97,27 @@ def slots_of(asked):
 
 def head_of(asked):
     rate = {4: "STM-4, with 2 working slots on each span", 16: "STM-16, with 8 working slots on each span"}[asked.rate]
-    return f"""# A ring of {count_of(len(asked.nodes), "node")}, made by `sdhring-plan new`. Every key is told in FORMATS.md.
+    places = "".join(named("node", number, place) + "\n" for number, place in asked.places.items())
+    return f"""# A ring of {count_of(len(asked.nodes), "node")}, made by `{asked.maker}`. Every key is told in FORMATS.md.
 #
 #   sdhring run < {asked.name}     runs it
-#   sdhring-explain {asked.name}       says whether it is good, or what is wrong and where
-#   sdhring-whatif {asked.name}        asks what survives each failure
+#   sdhring-explain {asked.name}   says whether it is good, or what is wrong and where
+#   sdhring-whatif {asked.name}    asks what survives each failure
 
 # {rate}.
 rate = {asked.rate}
 
 # The identifiers of the nodes, eastwards round the ring: 2 to 16 nodes, each 0 to 15, no two alike.
-nodes = {list(asked.nodes)}
+{places}nodes = {list(asked.nodes)}
 
 # So many violations of B2 in a frame are a signal degradation: 1 to {3 * asked.rate}.
-threshold = 3
+threshold = {asked.threshold}
 
 # For so many moments a side waits to restore after its last defect.
-wait = 10
+wait = {asked.wait}
 
 # A settle step runs at most so many rounds. 64 for each node and 512 more are always enough.
-limit = {enough(len(asked.nodes))}
+limit = {enough(len(asked.nodes)) if asked.limit is None else asked.limit}
 """
 
 
@@ -112,32 +132,40 @@ def script_of(asked):
     return "\n".join([*lines, "]\n"])
 
 
-def circuit_of(asked, number, slot):
-    name, start, end = asked.circuits[number]
-    spans = count_of(len(arc_of({"from": start, "to": end}, list(asked.nodes))), "span")
-    return f"""
-# Leads eastwards from node {start} to node {end} over {spans}. Port a is at node {start}, port b at node {end}.
-[[circuit]]
-name = {quoted(name)}
-from = {start}
-to = {end}
-slot = {slot}
-text_a = {quoted(text_of(name, "a"))}
-text_b = {quoted(text_of(name, "b"))}
-"""
+def circuit_of(asked, circuit):
+    start, end = (asked.places.get(node, f"node {node}") for node in (circuit.start, circuit.end))
+    spans = count_of(len(arc_of({"from": circuit.start, "to": circuit.end}, list(asked.nodes))), "span")
+    lines = ["", f"# Leads eastwards from {start} to {end} over {spans}. Port a is at {start}, port b at {end}."]
+    lines += [named("circuit", circuit.name, circuit.called)] if circuit.called else []
+    lines += ["[[circuit]]", f"name = {quoted(circuit.name)}", f"from = {circuit.start}", f"to = {circuit.end}", f"slot = {circuit.slot}"]
+    ports = list(zip("ab", (circuit.a, circuit.b)))
+    lines += [f"text_{end} = {quoted(text)}" for end, (text, _, _) in ports]
+    lines += [f"trace_{end} = {quoted(trace)}" for end, (_, trace, _) in ports if trace]
+    lines += [f"offset_{end} = {offset}" for end, (_, _, offset) in ports if offset]
+    return "\n".join([*lines, ""])
 
 
-def new_plan(asked):
-    """The document, which is a good plan, or a MakingProblem."""
-    if asked.rate not in (4, 16):
-        raise MakingProblem(f"rate {asked.rate}: 4 or 16 is wanted")
-    if not 2 <= len(asked.nodes) <= 16:
-        raise MakingProblem(f"{count_of(len(asked.nodes), 'node')}: a ring has 2 to 16")
-    if long := [name for name, _, _ in asked.circuits if len(name) > 16]:
+def document_of(asked, circuits):
+    """The document with these circuits, which is a good plan, or a MakingProblem."""
+    if long := [circuit.name for circuit in circuits if len(circuit.name) > 16]:
         raise MakingProblem(f"circuit {long[0]}: a name has at most 16 characters")
-    circuits = [circuit_of(asked, number, slot) for number, slot in enumerate(slots_of(asked))]
-    document = "\n".join([head_of(asked), script_of(asked)]) + "".join(circuits)
+    document = "\n".join([head_of(asked), script_of(asked)]) + "".join(circuit_of(asked, circuit) for circuit in circuits)
     told = explain(document.encode())
     if told.status:
         raise MakingProblem("\n".join(told.findings[0].lines("the plan")))
     return document
+
+
+def check_rate(asked):
+    if asked.rate not in (4, 16):
+        raise MakingProblem(f"rate {asked.rate}: 4 or 16 is wanted")
+
+
+def new_plan(asked):
+    """The document, which is a good plan, or a MakingProblem."""
+    check_rate(asked)
+    if not 2 <= len(asked.nodes) <= 16:
+        raise MakingProblem(f"{count_of(len(asked.nodes), 'node')}: a ring has 2 to 16")
+    slots = slots_of(asked)
+    port = lambda name, end: (text_of(name, end), "", 0)
+    return document_of(asked, [Written(*circuit, slot, port(circuit[0], "a"), port(circuit[0], "b")) for circuit, slot in zip(asked.circuits, slots)])

@@ -13,7 +13,7 @@ from .report import STATES
 
 
 OUT = (
-    "Out are the frames of a settle step, of 125 microseconds each, in which a port was without its own customer's bytes; "
+    "Out are the frames of a settle step, of 125 microseconds each and without the delay of the fibres themselves, in which a port was without its own customer's bytes; "
     "a jump is a frame of his that doesn't follow the one before, since chunks were left out or come again. "
     "The frames before a port's first bytes in a new ring are no outage, and are told as that."
 )
@@ -35,7 +35,7 @@ def node_table(look):
         requests = [f"{side}: {REQUEST_NAMES[look.scene.requests[at, side]]}" for side in ("west", "east") if look.scene.requests[at, side]]
         commands = [f"{side}: {look.scene.commands[at, side]}" for side in ("west", "east") if look.scene.commands[at, side]]
         cells = [STATES[told.state], word_cell(look, at, "west"), word_cell(look, at, "east")] if told else ["not told", "", ""]
-        rows.append([str(plan.ids[at]), *cells, "<br>".join(requests), "<br>".join(commands)])
+        rows.append([escape(plan.node_name(at)), *cells, "<br>".join(requests), "<br>".join(commands)])
     changed = look.changed_nodes | {at for at, _ in look.changed_commands}
     return table("Nodes", heads, rows, changed)
 
@@ -49,7 +49,7 @@ def span_table(look):
         applied = "applied" if span in look.scene.applied else ""
         conditions = [condition_words(look.scene.conditions[fibre]) for fibre in fibres]
         west, east = plan.ends(span)
-        rows.append([plan.span_name(span), f"{west} → {east}: {conditions[0]}", f"{east} → {west}: {conditions[1]}", REQUEST_NAMES[request], applied])
+        rows.append([escape(plan.span_title(span)), f"{west} → {east}: {conditions[0]}", f"{east} → {west}: {conditions[1]}", REQUEST_NAMES[request], applied])
     return table("Spans", ["span", "eastward fibre", "westward fibre", "request", ""], rows, changed)
 
 
@@ -109,7 +109,8 @@ def step_section(look):
 def squelch_section(plan, lines):
     if not plan.circuits:
         return "<p>The plan has no circuits, so the squelch tables are empty.</p>"
-    rows = [[str(line.node), line.side, str(line.slot), escape(line.name), str(line.start), str(line.end)] for line in lines]
+    node = lambda number: escape(plan.places.node(number))
+    rows = [[node(line.node), line.side, str(line.slot), escape(line.name), node(line.start), node(line.end)] for line in lines]
     return table("Squelch tables: the circuits on each node's spans", ["node", "side", "slot", "circuit", "from", "to"], rows)
 
 

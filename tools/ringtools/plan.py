@@ -1,9 +1,10 @@
 """The plan: a ring, its circuits and a script, read from the program's TOML document."""
 
 import tomllib
-from dataclasses import dataclass
+from dataclasses import dataclass, field
 
 from .checks import SIDES, STEP_FORMS, Checks, refusals
+from .places import Places, shown_places, written
 
 # Refusals of steps that can each be read even so; the program itself decides what it accepts, and why not.
 READABLE = {27, 28, 31}
@@ -64,10 +65,20 @@ class Plan:
     limit: int
     circuits: tuple
     steps: tuple
+    places: Places = field(default_factory=Places, compare=False)
 
     @property
     def size(self):
         return len(self.ids)
+
+    def node_name(self, at):
+        """The node at a position by its identifier, and its place where a comment names that, as `3 Köln`."""
+        return self.places.node(self.ids[at])
+
+    def circuit_name(self, circuit):
+        """A circuit by its name, and the customer's own where a comment has that."""
+        called = self.places.circuits.get(circuit.name)
+        return f"{circuit.name} ({called})" if called else circuit.name
 
     def ends(self, span):
         """The identifiers at the two ends of a span, the west one first."""
@@ -75,6 +86,11 @@ class Plan:
 
     def span_name(self, span):
         return "{}–{}".format(*self.ends(span))
+
+    def span_title(self, span):
+        """A span by the identifiers at its ends, and its places where comments name them, as `3–4 (Köln–Bonn)`."""
+        ends = self.ends(span)
+        return f"{self.span_name(span)} ({self.places.span(*ends)})" if self.places.nodes.keys() & set(ends) else self.span_name(span)
 
     def neighbour(self, at, side):
         return (at + (1 if side == "east" else -1)) % self.size
@@ -141,7 +157,8 @@ def read_plan(data):
     ids = tuple(document["nodes"])
     circuits = tuple(read_circuit(table, ids) for table in document.get("circuit", []))
     steps = tuple(parsed(text, ids) for text in document["script"])
-    return Plan(document["rate"], ids, document["threshold"], document["wait"], document["limit"], circuits, steps)
+    numbers = document["threshold"], document["wait"], document["limit"]
+    return Plan(document["rate"], ids, *numbers, circuits, steps, shown_places(data))
 
 
 def quoted(text):
@@ -149,7 +166,9 @@ def quoted(text):
 
 
 def circuit_lines(plan, circuit):
-    lines = ["[[circuit]]", f"name = {quoted(circuit.name)}"]
+    called = plan.places.circuits.get(circuit.name)
+    lines = [written("circuit", circuit.name, called)] if called else []
+    lines += ["[[circuit]]", f"name = {quoted(circuit.name)}"]
     lines += [f"from = {plan.ids[circuit.start]}", f"to = {plan.ids[circuit.end]}", f"slot = {circuit.slot}"]
     for end in "ab":
         port = circuit.port(end)
@@ -160,8 +179,9 @@ def circuit_lines(plan, circuit):
 
 
 def write_plan(plan, script):
-    """The document of this plan's ring and circuits with another script, a list of texts."""
-    lines = [f"rate = {plan.rate}", f"nodes = {list(plan.ids)}", f"threshold = {plan.threshold}"]
+    """The document of this plan's ring and circuits with another script, a list of texts; names stay in their comments."""
+    lines = [written("node", number, plan.places.nodes[number]) for number in plan.ids if number in plan.places.nodes]
+    lines += [f"rate = {plan.rate}", f"nodes = {list(plan.ids)}", f"threshold = {plan.threshold}"]
     lines += [f"wait = {plan.wait}", f"limit = {plan.limit}"]
     lines.append("script = [" + ", ".join(map(quoted, script)) + "]")
     for circuit in plan.circuits:

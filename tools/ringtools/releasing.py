@@ -1,6 +1,7 @@
 """A release: programs with their BUILD in dist/, and the archives of it, the same bytes from the same commit."""
 
 import gzip
+import hashlib
 import io
 import lzma
 import os
@@ -33,10 +34,14 @@ License: none-chosen
  No licence has been chosen yet. All rights are with the authors.
 """
 OVERRIDES = """\
-# Built by the Rattle kit, whose linker takes no flags: the files are what is proved, to the byte.
-sdhring: hardening-no-pie [usr/lib/sdhring/sdh*]
-sdhring: hardening-no-relro [usr/lib/sdhring/sdh*]
+# The files are what is proved, to the byte, and so they are left as they were built.
 sdhring: unstripped-binary-or-object [usr/lib/sdhring/sdh*]
+"""
+# What Python leaves beside the modules when the administrator starts a tool.
+PRERM = """\
+#!/bin/sh
+set -e
+rm -rf /usr/lib/sdhring/tools/ringtools/__pycache__
 """
 
 
@@ -83,7 +88,7 @@ def found_programs(folder):
     if missing:
         raise ReleaseProblem(f"{missing[0]} isn't there: rt ci builds it")
     if not folder and min(path.stat().st_mtime for path in files.values()) < newest_source():
-        raise ReleaseProblem("a source is newer than a built program: rt ci builds them again")
+        raise ReleaseProblem("a source is newer than a built program: rt ci builds them again, and --from DIR takes programs without this look")
     return {name: path.read_bytes() for name, path in files.items()}
 
 
@@ -220,7 +225,8 @@ def debian_package(path, folder, moment):
     root = folder / "root"
     debian_tree(root, moment)
     put(root / "DEBIAN" / "control", Piece(control(root).encode()))
-    sums = [f"{md5_of(file)}  {file.relative_to(root)}\n" for file in sorted((root / "usr").rglob("*")) if file.is_file() and not file.is_symlink()]
+    put(root / "DEBIAN" / "prerm", Piece(PRERM.encode(), is_run=True))
+    sums = [f"{hashlib.md5(file.read_bytes()).hexdigest()}  {file.relative_to(root)}\n" for file in sorted((root / "usr").rglob("*")) if file.is_file() and not file.is_symlink()]
     put(root / "DEBIAN" / "md5sums", Piece("".join(sums).encode()))
     for each in [root, *root.rglob("*")]:
         if each.is_dir():
@@ -228,10 +234,6 @@ def debian_package(path, folder, moment):
         os.utime(each, (moment, moment), follow_symlinks=False)
     words = ["dpkg-deb", "--root-owner-group", "-Zxz", "-z9", "--build", str(root), str(path)]
     subprocess.run(words, env={**os.environ, "SOURCE_DATE_EPOCH": str(moment)}, stdout=subprocess.DEVNULL, check=True)
-
-
-def md5_of(file):
-    return said_by("md5sum", file).split()[0]
 
 
 def pack_here(to, moment):

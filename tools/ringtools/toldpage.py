@@ -47,6 +47,12 @@ def asked_words(beforehand):
         yield f"<strong>During the works:</strong> {escape('; '.join(beforehand.order))}, which is {codes(beforehand.works_texts())}."
 
 
+def named_nodes(plan):
+    """The nodes with their places, where comments name some: the steps of failures have numbers alone."""
+    if plan.places.nodes:
+        yield f"<strong>Nodes eastwards:</strong> {escape(names(map(plan.node_name, range(plan.size))))}."
+
+
 def heading(title, beforehand):
     """Names the works, where there are any, so that no page is taken for one of the ring without them."""
     during = f", during the works: {'; '.join(beforehand.order)}" if beforehand.works else ""
@@ -72,14 +78,14 @@ def customers(plan, told):
             first.setdefault(name, []).append(line.words)
     for circuit in plan.circuits:
         name = circuit.name
-        yield [escape(name), "yes" if name in told.nothing.circuits else "no", alone[name], escape(" | ".join(first.get(name, [])[:4])), f"{pairs[name]} of {len(told.pairs)}"]
+        yield [escape(plan.circuit_name(circuit)), "yes" if name in told.nothing.circuits else "no", alone[name], escape(" | ".join(first.get(name, [])[:4])), f"{pairs[name]} of {len(told.pairs)}"]
 
 
 def told_page(title, beforehand, told, checked, origins):
     """`checked` has the differences of each case that was run, by its words."""
     plan, kinds = beforehand.plan, dict.fromkeys(line.kind for line in told.alone)
     parts = [f"<h1>{escape(heading(title, beforehand))}</h1>", *dict.fromkeys(warning(origin) for origin in origins if origin)]
-    parts += [listing([*asked_words(beforehand), by_model(told, origins[0].program), by_frames(checked), *map(escape, told.summary)]), tools()]
+    parts += [listing([*named_nodes(plan), *asked_words(beforehand), by_model(told, origins[0].program), by_frames(checked), *map(escape, told.summary)]), tools()]
     if plan.circuits:
         titles = ["customer", "lost before", "single failures that lose it", "the first of them", "pairs that lose it"]
         parts.append(f'<section id="customers"><h2>Customers</h2>{table("customers", titles, list(customers(plan, told)))}</section>')

@@ -5,6 +5,7 @@ from html import escape
 from .answers import SINGLE
 from .casetables import links, takes
 from .failures import WORKS_STAGES
+from .look import ends_words
 from .markup import HITLESS, count_of, heads, listing, names
 
 GIVES_WAY = "while people work there. A forced switch doesn't give way to a failure."
@@ -54,8 +55,8 @@ class Works:
         return [circuit for circuit in self.plan.circuits if before and differs(circuit.name)]
 
     def row(self, circuit):
-        cells, ids = "".join(self.cell(circuit, name) for name in WORKS_STAGES), self.plan.ids
-        return f'<tr><th scope="row" class="name">{escape(circuit.name)}</th>{cells}<td>{ids[circuit.start]} to {ids[circuit.end]}, slot {circuit.slot}</td></tr>'
+        name, cells = escape(self.plan.circuit_name(circuit)), "".join(self.cell(circuit, name) for name in WORKS_STAGES)
+        return f'<tr><th scope="row" class="name">{name}</th>{cells}<td>{escape(ends_words(self.plan, circuit))}</td></tr>'
 
     def table(self):
         """The customers that the works touch, stage by stage; the others by name."""
@@ -89,7 +90,7 @@ class Works:
             yield f"At risk during the works: {escape(names(risked))}."
         if safe:
             yield f"Taken by none of them: {escape(names(safe))}."
-        freed = [self.plan.span_name(span) for span in sorted(self.freed())]
+        freed = [escape(self.plan.span_title(span)) for span in sorted(self.freed())]
         if freed and self.unfreed():
             yield f"<strong>The switch gives way</strong> under {len(self.unfreed())} of them: traffic comes back to {names(freed)}, {GIVES_WAY}"
         elif freed:

@@ -56,7 +56,7 @@ def executable(path, text):
     path.chmod(0o755)
 
 
-def release(top, **environment):
+def release(top):
     """Puts programs into dist/, as of the sources that stand there now."""
     lines = ["version 9.8.7", f"commit {'0123456789' * 4}", "kit kit-of-the-release logic 4567"]
     for name in PROGRAMS:

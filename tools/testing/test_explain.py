@@ -1,5 +1,6 @@
 """sdhring-explain: each refusal beside a second reading of plans, and what it says of places, words and limits."""
 
+import json
 import re
 import sys
 import tomllib
@@ -9,8 +10,11 @@ from common import RINGS, TOOLS, bytes_of, call
 
 from ringtools.checks import STEP_FORMS
 from ringtools.explaining import explain, nearest
+from ringtools.holding import passes_through
+from ringtools.model import scenes, span_requests
 from ringtools.plan import read_plan
 from ringtools.reasons import REASONS
+from ringtools.report import read_report
 from ringtools.source import Source
 
 sys.path.append(str(TOOLS.parent / "bench" / "plans"))
@@ -205,6 +209,40 @@ class Good(unittest.TestCase):
         self.assertIn("2 ports send the same text", self.warnings(GOOD.replace("BETA!", "ALPHA")))
         self.assertIn("no circuit ends at node 3", self.warnings(GOOD))
         self.assertIn("no circuits", self.warnings(bytes_of("no-circuits")[0].decode()))
+
+    def holds(self, text):
+        return [line[: line.index(",")] for line in self.warnings(text).splitlines() if " holds " in line]
+
+    def test_a_hold_of_a_node_that_passes_through(self):
+        example = EXAMPLES.joinpath("held-controllers.toml").read_text()
+        self.assertEqual(self.holds(example), ["warning: step 6 holds the controller of node 0"])
+        place = next(found.place for found in explain(example.encode()).findings if " holds " in found.head)
+        self.assertEqual(place.whole[place.column - 1 :], '0 7", "hold 3 4",')
+        ring = lambda script: example[: example.index("script = ")] + f"script = {json.dumps(script)}\n" + example[example.index("[[circuit]]") :]
+        for script, wanted in (
+            (["cut 1 east", "hold 0 7", "settle"], []),  # in a new ring none passes through
+            (["cut 1 east", "settle", "hold 0 7", "hold 1 1", "hold 2 1", "settle"], [3]),
+            (["cut 1 east", "settle", "mend 1 east", "settle", "moment 500", "settle", "hold 0 7", "settle"], []),
+            (["cut 1 east", "settle", "mend 1 east", "settle", "hold 0 7", "settle"], [5]),  # a span that waits is applied
+            # two degraded spans: neither is applied, and between lower requests a node passes through
+            (["degrade 0 east 3", "degrade 2 east 3", "settle", *(f"hold {node} 2" for node in range(5)), "settle"], [8]),
+        ):
+            with self.subTest(script=script):
+                self.assertEqual(self.holds(ring(script)), [f"warning: step {step} holds the controller of node {script[step - 1].split()[1]}" for step in wanted])
+
+    def test_who_passes_through_is_whom_reports_tell_of(self):
+        seen = set()
+        for path in sorted(RINGS.glob("*.text")):
+            document = path.with_suffix(".toml")
+            if not (document.exists() and re.match("settle .*\nnode ", path.read_text())):
+                continue
+            plan = read_plan(document.read_bytes())
+            report = read_report(path.read_bytes(), plan)
+            for scene, step in zip(scenes(plan, [one.round for one in report.settled]), report.settled):
+                asked = span_requests(plan.size, scene.requests)
+                seen |= {(node.state, passes_through(asked, at)) for at, node in enumerate(step.nodes)}
+        passing = {(state, state == "pass") for state in ("idle", "pass", "switch-west", "switch-east", "isolated")}
+        self.assertEqual(seen, passing)
 
     def test_examples_bring_no_warning_of_their_texts(self):
         for path in EXAMPLES.glob("*.toml"):

@@ -1,4 +1,4 @@
-"""References to crates, files and definitions in comments of sources and in documents, and the list of what is trusted."""
+"""References to crates, files and definitions in comments of sources and in documents, man pages, and the list of what is trusted."""
 import re
 import unittest
 from pathlib import Path
@@ -101,6 +101,13 @@ class References(unittest.TestCase):
             (TOP / "docs" / "X.md", "sdh_ring", "`NoSuchThing` in `sdh_ring`"),
         ]
         self.assertEqual(len(list(self.dead(texts))), 3)
+
+
+class Manuals(unittest.TestCase):
+    def test_no_line_is_taken_for_a_macro_that_is_none(self):
+        """A line that begins with a point is a macro, and an unknown one isn't shown: a command begins with `\\&`."""
+        for path in sorted(TOP.glob("docs/*.1")):
+            self.assertEqual(re.findall(r"^[.'](?!\\\"|[A-Za-z]{1,2}(?![\w-])).*", path.read_text(), re.M), [], path.name)
 
 
 class Trusted(unittest.TestCase):

@@ -205,7 +205,7 @@ class Answers(Asking):
         again = {name for name, then in self.times().items() if then != before[name]}
         self.assertEqual(again, {"span-7-9.answer", "span-9-7.answer"})
 
-    def test_ringview_reads_the_answer_beside_a_text(self):
+    def test_view_reads_the_answer_beside_a_text(self):
         self.ask("--kinds", "span")
         words = [self.cases() / f"span-7-9.{kind}" for kind in ("toml", "text")]
         self.assertIn("standin", Seen(call("sdhring-view", *words).stdout.decode()).text())

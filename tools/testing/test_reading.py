@@ -154,16 +154,16 @@ class Calls(unittest.TestCase):
         self.assertNotIn(b"Traceback", ended.stderr)
         return ended.stderr.decode()
 
-    def test_ringview_names_the_line(self):
+    def test_view_names_the_line(self):
         plan, text = bytes_of("span-cut")
         self.assertIn("line 3: ", self.refused(plan, changed(text, 3, b"what is this")))
 
-    def test_ringview_names_a_plan_that_cannot_be_read(self):
+    def test_view_names_a_plan_that_cannot_be_read(self):
         plan, text = bytes_of("span-cut")
         self.assertIn("the plan can't be read", self.refused(b"rate = ", text))
         self.assertIn("the plan can't be read", self.refused(plan.replace(b"slot = 1", b"slot = 9"), text))
 
-    def test_ringview_draws_no_step_that_is_not_there(self):
+    def test_view_draws_no_step_that_is_not_there(self):
         self.assertIn("no settle step 2", self.refused(*bytes_of("span-cut"), "--svg", "2"))
         self.assertIn("nothing to draw", self.refused(*bytes_of("bad-slot"), "--svg", "1"))
 

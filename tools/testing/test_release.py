@@ -1,6 +1,5 @@
 """Installs and releases, over a checkout of stand-ins: what is put where, that it works there, and that it is the same bytes again."""
 
-import os
 import re
 import shutil
 import subprocess
@@ -10,7 +9,6 @@ import unittest
 from pathlib import Path
 
 from checkouts import PROGRAM, RT, TOP, at_terminal, executable, make_checkout, release
-from common import RINGS
 
 from ringtools.build import PROGRAMS, read_build, sum_of
 from ringtools.installing import DOCUMENTS, TOOLS
@@ -19,7 +17,6 @@ from ringtools.installing import DOCUMENTS, TOOLS
 NOT_RELEASED = {path.name for path in (TOP / "docs").glob("*.md")} - set(DOCUMENTS)
 OF_REPOSITORY = re.compile(r"(?<![\w/])(?:crates|bench|specs|proofs|\.ci|tools/testing)/|\bsdh_[a-z]+|\.rt\b|\brows\.1\b|tools/(?:test|rows|release)\b|\b(?:" + "|".join(sorted(NOT_RELEASED)) + r")\b")
 NOT_INSTALLED = re.compile(rf"{OF_REPOSITORY.pattern}|(?<![\w/])(?:docs|tools)/|\./sdh")
-SECONDS = 10
 
 
 def run(words, folder, path="/usr/bin:/bin", **more):
@@ -124,6 +121,7 @@ class Installed(Released):
         self.assertEqual(told.stdout, f"proved {self.prefix}/lib/sdhring/sdhring\n")
 
     def test_it_is_not_installed_from_there(self):
+        self.assertNotRegex(self.start("sdhring", "--help").stdout + (self.prefix / "share" / "doc" / "sdhring" / "README.md").read_text(), "--install [P~]")
         self.assertIn("installed already", self.ended(self.start("sdhring", "--install", self.folder / "other"), 1).stderr)
         self.assertFalse((self.folder / "other").exists())
 

@@ -3,7 +3,6 @@
 import csv
 import json
 import re
-import subprocess
 import sys
 import tomllib
 import unittest

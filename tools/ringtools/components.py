@@ -1,0 +1,171 @@
+"""What may fail by itself: spans, fibres, nodes and shared-risk groups, each with a rate and a time to repair, read from tables."""
+
+from dataclasses import dataclass
+
+from .failures import node_case, span_fibres, span_named
+from .tables import TableProblem, read_table
+
+HOURS = 8760.0  # of a year of 365 days
+SPAN_COLUMNS = ("from", "to", "cuts", "km", "cuts_per_1000_km", "hours", "fibre_failures", "fibre_hours")
+NODE_COLUMNS = ("place", "node", "failures", "hours")
+GROUP_COLUMNS = ("group", "members", "failures", "hours")
+REPAIR = "the hours of a repair are wanted"
+
+
+@dataclass(frozen=True)
+class Component:
+    """It is up or down, whatever the others are. Down, it cuts these fibres, each named by the position and the side that it leaves."""
+
+    name: str
+    kind: str  # span, fibre, node or group
+    fibres: frozenset
+    rate: float  # failures in a year of being up
+    hours: float  # that a repair takes
+    at: int | None = None  # the position of a node
+
+    @property
+    def down(self):
+        """The part of the time in which it is down."""
+        lasts = self.rate * self.hours / HOURS
+        return lasts / (1 + lasts)
+
+    @property
+    def up(self):
+        return 1 / (1 + self.rate * self.hours / HOURS)
+
+    @property
+    def failures(self):
+        """How often it fails in a year, in part of which it is down."""
+        return self.rate * self.up
+
+
+class Finder:
+    """The nodes and spans of a plan by what tables call them: identifiers, or names of places from the plan's comments."""
+
+    def __init__(self, plan, places):
+        self.plan, self.places = plan, places
+        self.nodes = {str(number): at for at, number in enumerate(plan.ids)}
+        self.nodes |= {places.nodes[number].casefold(): at for at, number in enumerate(plan.ids) if number in places.nodes}
+        self.members = {}
+        for one, here in self.nodes.items():
+            self.members[f"node {one}"] = self.node_fibres(here)
+            for other, there in self.nodes.items():
+                self.put_between(one, here, other, there)
+
+    def put_between(self, one, here, other, there):
+        span = span_named(self.plan, self.plan.ids[here], self.plan.ids[there])
+        if span is None or here == there:
+            return
+        for sign in "-–":
+            self.members[f"span {one}{sign}{other}"] = frozenset(span_fibres(self.plan, span))
+        side = "east" if (here, there) == (span, (span + 1) % self.plan.size) else "west"
+        self.members[f"fibre {one}>{other}"] = frozenset([(here, side)])
+
+    def node_fibres(self, at):
+        return frozenset(node_case(self.plan, at).fibres)
+
+    def node(self, row, column):
+        """The position of the node that a cell names."""
+        at = self.nodes.get(row[column].casefold())
+        if at is None:
+            known = ", ".join(self.places.node(number) for number in self.plan.ids)
+            raise row.problem(f"`{column}` is `{row[column]}`, and the nodes of the plan are {known}")
+        return at
+
+    def span(self, row):
+        here, there = self.node(row, "from"), self.node(row, "to")
+        span = span_named(self.plan, self.plan.ids[here], self.plan.ids[there])
+        if span is None or here == there:
+            raise row.problem(f"no span of the ring joins {row['from']} and {row['to']}")
+        return span
+
+    def span_name(self, span):
+        return "span " + self.places.span(*self.plan.ends(span))
+
+    def member(self, row, words):
+        fibres = self.members.get(" ".join(words.casefold().split()))
+        if fibres is None:
+            raise row.problem(f"`{words.strip()}` is no span, node or fibre of the plan, as `span A-B`, `node A` or `fibre A>B`")
+        return fibres
+
+
+def needed(row, column, wanted):
+    value = row.number(column)
+    if value is None:
+        raise row.problem(f"`{column}` is empty, and {wanted}")
+    return value
+
+
+def cuts_of(row, per_1000_km):
+    """The rate of a span's cuts: as the row has it, or from its length."""
+    cuts, km = row.number("cuts"), row.number("km")
+    rate = row.number("cuts_per_1000_km")
+    rate = per_1000_km if rate is None else rate
+    if cuts is not None:
+        return cuts
+    if km is None or rate is None:
+        raise row.problem("`cuts` a year are wanted, or `km` and the cuts a year of 1,000 km: `cuts_per_1000_km`, or --cuts-per-1000-km")
+    return km * rate / 1000
+
+
+def fibres_alone(row, finder, span):
+    """The two fibres of a span as components of their own, where the row has a rate for them."""
+    rate = row.number("fibre_failures")
+    if rate is None:
+        return
+    hours = needed(row, "fibre_hours", REPAIR)
+    for at, side in span_fibres(finder.plan, span):
+        here, there = finder.plan.ids[at], finder.plan.ids[finder.plan.neighbour(at, side)]
+        name = f"fibre {finder.places.place(here)}>{finder.places.place(there)}"
+        yield Component(name, "fibre", frozenset([(at, side)]), rate, hours)
+
+
+def complete(file, found, names):
+    """Raises where one of these has no row."""
+    missing = [name for at, name in enumerate(names) if at not in found]
+    if missing:
+        raise TableProblem(f"{file}: {', '.join(missing)}: {'it has' if len(missing) == 1 else 'they have'} no row; a rate of 0 stands for what never fails")
+
+
+def read_spans(name, finder, per_1000_km=None):
+    """Each span of the ring by its row, and its fibres where they fail by themselves too."""
+    table, found = read_table(name, SPAN_COLUMNS, ("from", "to", "hours")), {}
+    for row in table.rows:
+        span = finder.span(row)
+        if span in found:
+            raise row.problem(f"{finder.span_name(span)} stood before")
+        fibres = frozenset(span_fibres(finder.plan, span))
+        whole = Component(finder.span_name(span), "span", fibres, cuts_of(row, per_1000_km), needed(row, "hours", REPAIR))
+        found[span] = [whole, *fibres_alone(row, finder, span)]
+    complete(name, found, [finder.span_name(span) for span in range(finder.plan.size)])
+    return [component for span in range(finder.plan.size) for component in found[span]]
+
+
+def read_nodes(name, finder):
+    table, found = read_table(name, NODE_COLUMNS, ("failures", "hours")), {}
+    if not {"place", "node"} & set(table.columns):
+        raise TableProblem(f"{name}:1: the first line is to name the column `node`, or `place`")
+    for row in table.rows:
+        at = finder.node(row, "node" if row["node"] else "place")
+        if at in found:
+            raise row.problem(f"node {finder.places.node(finder.plan.ids[at])} stood before")
+        rate, hours = needed(row, "failures", "the failures a year are wanted"), needed(row, "hours", REPAIR)
+        found[at] = Component(f"node {finder.places.place(finder.plan.ids[at])}", "node", finder.node_fibres(at), rate, hours, at)
+    complete(name, found, [f"node {finder.places.node(number)}" for number in finder.plan.ids])
+    return [found[at] for at in range(finder.plan.size)]
+
+
+def read_groups(name, finder):
+    table, groups = read_table(name, GROUP_COLUMNS, GROUP_COLUMNS), []
+    for row in table.rows:
+        if not row["group"]:
+            raise row.problem("`group` is empty, and a name is wanted")
+        if f"group {row['group']}" in [group.name for group in groups]:
+            raise row.problem(f"the group {row['group']} stood before")
+        words = [words for words in row["members"].split(";") if words.strip()]
+        if not words:
+            raise row.problem("`members` is empty; spans, nodes and fibres are wanted, separated by semicolons")
+        fibres = frozenset().union(*(finder.member(row, member) for member in words))
+        rate, hours = needed(row, "failures", "the failures a year are wanted"), needed(row, "hours", REPAIR)
+        groups.append(Component(f"group {row['group']}", "group", fibres, rate, hours))
+    return groups

@@ -1,0 +1,218 @@
+"use strict";
+// Looks the chosen failures up in the page's cases, and shows what becomes of each customer. No verdict is computed here.
+(() => {
+  const by = (id) => document.getElementById(id);
+  const all = (selector, within = document) => [...within.querySelectorAll(selector)];
+  const data = JSON.parse(by("data").textContent);
+  const count = data.failures.length, most = 3, ring = by("ring");
+  const words = { k: "kept", o: "over", l: "lost" };
+  let chosen = [], whose = "";
+
+  // The place of a case in the list: nothing, each alone, each two. There are no others in the page.
+  const placeOf = ([one, other]) => {
+    if (other === undefined) return one === undefined ? 0 : one + 1;
+    return 1 + count + (one * (2 * count - one - 1)) / 2 + other - one - 1;
+  };
+
+  const outcome = () => {
+    const numbers = [...chosen].sort((a, b) => a - b);
+    const found = numbers.length > 2 ? -1 : data.cases[placeOf(numbers)] ?? -1;
+    return found < 0 ? null : data.outcomes[found];
+  };
+
+  const namesOf = (results, letter) => data.circuits.filter((_, i) => results[i] === letter).map((circuit) => circuit[0]);
+
+  const sentence = (found) => {
+    const what = chosen.map((number) => data.failures[number][0]).join(" and ") || "Nothing fails";
+    if (!found) return `${what}: this case isn't in the page. It has cases of up to two failures, and none that would mend what the script cut or forced.`;
+    const [over, lost] = ["o", "l"].map((letter) => namesOf(found[1], letter));
+    const kept = data.circuits.length - over.length - lost.length;
+    const list = (names) => (names.length ? `: ${names.join(", ")}` : "");
+    return `${what}. ${lost.length} lost${list(lost)}. ${over.length} over protection${list(over)}. ${kept} kept.`;
+  };
+
+  const angle = (position) => (2 * Math.PI * position) / data.size;
+  const point = (radius, at) => `${(radius * Math.sin(at)).toFixed(1)} ${(-radius * Math.cos(at)).toFixed(1)}`;
+  const arcTo = (radius, from, to) => {
+    const parts = Math.max(1, Math.ceil(Math.abs(to - from) / 2));
+    const ends = [...Array(parts).keys()].map((i) => from + ((to - from) * (i + 1)) / parts);
+    return ends.map((end) => `A${radius} ${radius} 0 0 ${to > from ? 1 : 0} ${point(radius, end)}`).join(" ");
+  };
+
+  // The way of a customer that isn't lost: its arc, or to the first applied span of it, back on protection, and on from the last.
+  const way = (number, [applied, results]) => {
+    const [, start, length, working, protection, aside] = data.circuits[number];
+    if (results[number] === "l") return "";
+    const from = angle(start) + aside, to = angle(start + length) - aside;
+    const struck = [...Array(length).keys()].filter((i) => applied.includes((start + i) % data.size));
+    if (!struck.length) return `M${point(working, from)} ${arcTo(working, from, to)}`;
+    const first = Math.max(angle(start + struck[0]), from), last = Math.min(angle(start + struck.at(-1) + 1), to);
+    const out = first > from ? arcTo(working, from, first) : "", on = to > last ? arcTo(working, last, to) : "";
+    const back = arcTo(protection, first, last - 2 * Math.PI);
+    return `M${point(working, from)} ${out} L${point(protection, first)} ${back} L${point(working, last)} ${on}`;
+  };
+
+  const showRing = (found) => {
+    for (const item of all(".button", ring)) {
+      const failing = chosen.includes(numberOf(item)) || chosen.some((number) => isOf(item, data.failures[number]));
+      item.classList.toggle("failing", failing);
+      item.setAttribute("aria-pressed", String(failing));
+    }
+    all(".span", ring).forEach((item) => item.classList.toggle("is-applied", !!found && found[0].includes(data.failures[+item.dataset.failure][2])));
+    all(".circuit", ring).forEach((item, i) => {
+      for (const name of ["over", "lost"]) item.classList.toggle(name, !!found && words[found[1][i]] === name);
+      item.classList.toggle("lit", String(i) === whose);
+    });
+    ring.classList.toggle("has-way", whose !== "");
+    by("way").setAttribute("d", whose !== "" && found ? way(+whose, found) : "");
+    by("way").setAttribute("class", whose !== "" && found ? words[found[1][whose]] : "");
+  };
+
+  const showCustomers = (found) => {
+    all("#customers tr[data-customer]").forEach((row) => {
+      const result = found ? words[found[1][+row.dataset.customer]] : "";
+      const cell = row.querySelector(".now");
+      cell.textContent = { over: "over protection" }[result] || result;
+      cell.className = `now ${result}`;
+    });
+  };
+
+  const showNames = () => {
+    by("whose").value = whose;
+    for (const row of all("#customers tr[data-customer]")) {
+      row.classList.toggle("lit", row.dataset.customer === whose);
+      row.querySelector(".name button").setAttribute("aria-pressed", String(row.dataset.customer === whose));
+    }
+  };
+
+  const show = () => {
+    const found = outcome();
+    by("told").textContent = sentence(found);
+    by("failed").replaceChildren(...chosen.map((number) => {
+      const button = document.createElement("button");
+      button.type = "button";
+      button.textContent = `${data.failures[number][0]} ✕`;
+      button.title = "take it away";
+      button.addEventListener("click", () => toggle(number));
+      return button;
+    }));
+    showRing(found);
+    showCustomers(found);
+    showNames();
+  };
+
+  const toggle = (number) => {
+    if (chosen.includes(number)) chosen = chosen.filter((one) => one !== number);
+    else chosen = [...chosen, number].slice(-most);
+    show();
+  };
+
+  const set = (numbers) => {
+    chosen = numbers;
+    show();
+  };
+
+  // A fibre stands for one of four failures, as the choice beside the drawing says.
+  const isOf = (item, [, , at, side]) => side !== "" && item.dataset.fibre === `${at} ${side}`;
+  const numberOf = (item) => {
+    if (item.dataset.failure) return +item.dataset.failure;
+    const kind = document.querySelector('input[name="kind"]:checked').value;
+    return data.failures.findIndex((failure) => failure[1] === kind && isOf(item, failure));
+  };
+
+  const press = (item) => {
+    const there = chosen.find((number) => isOf(item, data.failures[number]));
+    toggle(there ?? numberOf(item));
+  };
+
+  const prepareRing = () => {
+    ring.classList.add("live");
+    for (const item of all(".button", ring)) {
+      item.setAttribute("tabindex", "0");
+      item.setAttribute("role", "button");
+      item.setAttribute("aria-label", item.querySelector("title").textContent);
+      item.addEventListener("click", () => press(item));
+      item.addEventListener("keydown", (event) => {
+        if (event.key !== "Enter" && event.key !== " ") return;
+        event.preventDefault();
+        press(item);
+      });
+    }
+  };
+
+  const follow = (number) => {
+    whose = number;
+    show();
+  };
+
+  const prepareNames = () => {
+    for (const row of all("#customers tr[data-customer]")) {
+      const cell = row.querySelector(".name"), button = document.createElement("button");
+      button.type = "button";
+      button.title = "show its way in the ring";
+      button.append(...cell.childNodes);
+      cell.append(button);
+      button.addEventListener("click", () => follow(whose === row.dataset.customer ? "" : row.dataset.customer));
+    }
+  };
+
+  const prepareCases = () => {
+    for (const cell of all("[data-case]")) {
+      const button = document.createElement("button");
+      button.type = "button";
+      button.className = "case";
+      button.title = "show it in the ring";
+      const numbers = cell.dataset.case ? cell.dataset.case.split(" ").map(Number) : [];
+      if (cell.matches("#matrix *")) button.setAttribute("aria-label", `${numbers.map((number) => data.failures[number][0]).join(" and ")}: ${cell.textContent} lost`);
+      cell.replaceWith(button);
+      button.append(cell);
+      button.addEventListener("click", () => {
+        set(numbers);
+        by("try").scrollIntoView();
+      });
+    }
+  };
+
+  const sortBy = (table, column, button) => {
+    const down = button.dataset.sorted === "up";
+    for (const other of all("button.sort", table)) delete other.dataset.sorted;
+    button.dataset.sorted = down ? "down" : "up";
+    all("th[scope=col]", table).forEach((head, i) => head.setAttribute("aria-sort", i === column ? (down ? "descending" : "ascending") : "none"));
+    const value = (row) => row.cells[column].textContent;
+    const rank = (text) => (text === "never" ? Infinity : Number.parseFloat(text));
+    const numbers = all("tbody tr", table).every((row) => !Number.isNaN(rank(value(row))));
+    const order = (a, b) => (numbers ? rank(value(a)) - rank(value(b)) : value(a).localeCompare(value(b)));
+    const rows = all("tbody tr", table).sort((a, b) => (down ? -order(a, b) : order(a, b)) || 0);
+    table.tBodies[0].append(...rows);
+  };
+
+  const prepareTable = (table) => {
+    all("th[scope=col]", table).forEach((head, column) => {
+      const button = document.createElement("button");
+      button.type = "button";
+      button.className = "sort";
+      button.append(...head.childNodes);
+      head.append(button);
+      button.addEventListener("click", () => sortBy(table, column, button));
+    });
+  };
+
+  const filter = () => {
+    const wanted = by("filter").value.toLowerCase();
+    for (const row of all("#customers tr[data-customer]")) row.hidden = !row.textContent.toLowerCase().includes(wanted);
+  };
+
+  prepareRing();
+  prepareNames();
+  prepareCases();
+  all("#customers table").forEach(prepareTable);
+  document.querySelector(".panel").hidden = false;
+  by("filter").addEventListener("input", filter);
+  by("clear").addEventListener("click", () => set([]));
+  by("whose").addEventListener("change", (event) => follow(event.target.value));
+  by("choose").addEventListener("change", (event) => {
+    if (event.target.value !== "") toggle(+event.target.value);
+    event.target.value = "";
+  });
+  show();
+})();

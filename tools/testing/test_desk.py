@@ -1,0 +1,209 @@
+"""The page of a desk: its cases beside the plain model of sdhwhatif, what it says of customers, and what a reader does with it in a browser."""
+
+import json
+import re
+import sys
+import tempfile
+import unittest
+from functools import cache
+from pathlib import Path
+from runpy import run_path
+
+from common import RINGS, TOOLS, call
+from pages import BROWSER, Seen, browsed
+
+from ringtools.deskpage import key_of
+from ringtools.desktable import read_cases
+from ringtools.origin import Program
+from ringtools.places import Places
+from ringtools.plan import read_plan
+from ringtools.told import ToldProblem
+
+MODEL = TOOLS.parent / "bench" / "whatif" / "model.py"
+TELLER = f"{sys.executable} {MODEL}"
+PLAN = """rate = 4
+nodes = [5, 2, 9, 0]  # node 5 is Köln
+# node 2 is Bad <Ems>
+# circuit far is Far & wide
+threshold = 3
+wait = 10
+limit = 1000
+script = ["settle"]
+circuit = [
+  { name = "far", from = 5, to = 9, slot = 1, text_a = "a", text_b = "b" },
+  { name = "near", from = 5, to = 2, slot = 2, text_a = "a", text_b = "b" },
+]
+"""
+SPANS = "from,to,cuts,hours\nKöln,2,1,8\n2,9,1,8\n9,0,1,8\n0,5,1,8\n"
+SCRIPTS = (
+    ["cut 2 east", "degrade 9 west 4", "settle", "mend 2 east", "settle"],
+    ["forced 5 west", "manual 9 east", "settle"],
+    ["cut 5 east", "settle", "mend 5 east", "settle", "moment 10", "manual 0 west", "settle"],
+)
+# What a reader does, and what is said, pressed and drawn after each.
+DEEDS = """
+const told = [], ring = document.getElementById("ring");
+const item = (name) => [...ring.querySelectorAll(".button")].find((one) => one.getAttribute("aria-label") === name);
+const note = () => told.push(document.getElementById("told").textContent);
+const click = (element) => element.dispatchEvent(new MouseEvent("click", { bubbles: true }));
+const key = (element, name) => { element.focus(); element.dispatchEvent(new KeyboardEvent("keydown", { key: name, bubbles: true })); };
+note();
+click(item("span Köln–Bad <Ems>").querySelector("rect")); note();
+told.push([...document.querySelectorAll("#customers .now")].map((cell) => cell.textContent).join());
+document.querySelector("#customers tbody .name button").click();
+told.push(document.getElementById("whose").value + " " + (document.getElementById("way").getAttribute("d").match(/A/g) || []).length);
+key(item("node 9"), "Enter"); note();
+told.push(item("node 9").getAttribute("aria-pressed") + " " + document.activeElement.getAttribute("aria-label"));
+key(item("node 9"), " "); note();
+document.getElementById("clear").click();
+document.querySelector('input[value="degraded"]').click();
+click(item("fibre Köln>Bad <Ems>").querySelector(".hit")); note();
+document.querySelector('input[value="fibre"]').click();
+click(item("fibre 9>0").querySelector(".hit")); note();
+click(item("span 9–0").querySelector("rect")); note();
+document.getElementById("clear").click();
+const cell = [...document.querySelectorAll("#matrix button.case")][2];
+told.push(cell.getAttribute("aria-label"));
+cell.click(); note();
+const heads = () => [...document.querySelectorAll("#customers tbody th")].map((cell) => cell.textContent).join();
+document.querySelector("#customers thead button").click(); told.push(heads());
+document.querySelector("#customers thead button").click(); told.push(heads());
+document.getElementById("filter").value = "wide";
+document.getElementById("filter").dispatchEvent(new Event("input"));
+told.push([...document.querySelectorAll("#customers tbody tr")].filter((row) => !row.hidden).length);
+told.push(document.documentElement.scrollWidth <= document.documentElement.clientWidth);
+"""
+SAID = [
+    "Nothing fails. 0 lost. 0 over protection. 2 kept.",
+    "span Köln–Bad <Ems>. 0 lost. 2 over protection: Far & wide, near. 0 kept.",
+    "over protection,over protection",
+    "0 4",
+    "span Köln–Bad <Ems> and node 9. 2 lost: Far & wide, near. 0 over protection. 0 kept.",
+    "true node 9",
+    "span Köln–Bad <Ems>. 0 lost. 2 over protection: Far & wide, near. 0 kept.",
+    "fibre Köln>Bad <Ems> degraded. 0 lost. 2 over protection: Far & wide, near. 0 kept.",
+    "fibre Köln>Bad <Ems> degraded and fibre 9>0 cut. 0 lost. 0 over protection. 2 kept.",
+    "fibre Köln>Bad <Ems> degraded and fibre 9>0 cut and span 9–0: this case isn't in the page. It has cases of up to two failures, and none that would mend what the script cut or forced.",
+    "span Köln–Bad <Ems> and span 9–0: 2 lost",
+    "span Köln–Bad <Ems> and span 9–0. 2 lost: Far & wide, near. 0 over protection. 0 kept.",
+    "Far & wide,near",
+    "near,Far & wide",
+    "1",
+    "true",
+]
+
+
+@cache
+def page():
+    with tempfile.TemporaryDirectory() as folder:
+        for name, text in (("plan.toml", PLAN), ("spans.csv", SPANS)):
+            (Path(folder) / name).write_text(text, encoding="utf-8")
+        ended = call("sdhring-desk", "plan.toml", "--spans", "spans.csv", "--teller", TELLER, "--title", "Ring <1>", cwd=folder)
+    if ended.returncode or ended.stderr:
+        raise AssertionError(ended.stderr.decode())
+    return ended.stdout.decode()
+
+
+class Cases(unittest.TestCase):
+    def test_all_of_a_table_is_read_also_after_scripts(self):
+        program = Program((sys.executable, str(MODEL)), "")
+        plans = [PLAN.replace('["settle"]', json.dumps(script)) for script in SCRIPTS] + [(RINGS / "two-nodes.toml").read_text()]
+        for document in plans:
+            plan = read_plan(document.encode())
+            table = read_cases(plan, Places(), program, document.encode())
+            with self.subTest(plan=document):
+                self.assertGreater(len(table.cases), 10 * plan.size)
+                count = len(table.failures)
+                keys = sorted(key_of(numbers, count) for numbers in table.cases)
+                self.assertEqual(len(set(keys)), len(keys))
+                self.assertLessEqual(keys[-1], count * (count + 1) // 2)
+
+    def test_a_table_that_says_something_else_is_refused(self):
+        for deed, said in (
+            ("s/^\\(cut 5 east; cut 2 west; settle\\),0,2,/\\1,1,1,/", "says something else than the restoration model"),
+            ("/^manual 5 west; settle/d", "stands where manual switch at 5 to 0 was to come"),
+        ):
+            with tempfile.TemporaryDirectory() as folder:
+                script = Path(folder) / "wrong"
+                script.write_text(f"#!/bin/sh\n{TELLER} \"$@\" | sed '{deed}'\n")
+                script.chmod(0o755)
+                with self.assertRaisesRegex(ToldProblem, said):
+                    read_cases(read_plan(PLAN.encode()), Places(), Program((str(script),), ""), PLAN.encode())
+
+
+class Pages(unittest.TestCase):
+    def test_what_is_in_the_tables(self):
+        seen = Seen(page())
+        rows = seen.table_named("Customers, and")
+        self.assertEqual([row["customer"] for row in rows], ["Far & wide", "near"])
+        self.assertEqual([row["from"] for row in rows], ["5 Köln", "5 Köln"])
+        self.assertEqual([(row["spans"], row["nodes"], row["pairs of spans"]) for row in rows], [("0", "2", "4"), ("0", "2", "3")])
+        matrix = seen.table_named("Customers lost, spans by spans")
+        self.assertEqual([[int(cell) for cell in list(row.values())[1:]] for row in matrix], [[0, 1, 2, 2], [1, 0, 1, 1], [2, 1, 0, 0], [2, 1, 0, 0]])
+        self.assertIn("Ring <1>", seen.text())
+        self.assertIn("Spans cut, one alone : customers are lost in none.", seen.text())
+        self.assertIn("821 cases of up to two failures", seen.text())
+
+    def test_availability_is_that_of_the_tool(self):
+        tool = run_path(str(TOOLS / "sdhring-availability"))
+        with tempfile.TemporaryDirectory() as folder:
+            for name, text in (("plan.toml", PLAN), ("spans.csv", SPANS)):
+                (Path(folder) / name).write_text(text, encoding="utf-8")
+            found = json.loads(tool["answer"](tool["options"]([f"{folder}/plan.toml", f"{folder}/spans.csv", "--json"])))
+        minutes = [record["minutes"] for record in found if record["protection"] == "shared"]
+        shown = [float(row["min/year"]) for row in Seen(page()).table_named("Customers, and")]
+        for one, other in zip(minutes, shown, strict=True):
+            self.assertAlmostEqual(one, other, delta=one / 1000)
+
+    def test_the_page_needs_nothing_else(self):
+        self.assertEqual(re.findall(r"""(?:src|href)=["']?[^#"']""", page()), [])
+        self.assertNotRegex(page(), r"https?://(?!www\.w3\.org)")
+
+    def test_what_is_drawn_has_a_name(self):
+        for kind, count in (("fibre", 8), ("span", 4), ("node", 4)):
+            found = re.findall(rf'<g class="button {kind}"[^>]*><title>([^<]+)</title>', page())
+            self.assertEqual(len(set(found)), count)
+
+    @unittest.skipUnless(BROWSER, "there is no chromium")
+    def test_clicks_and_keys_on_a_phone(self):
+        self.assertEqual(browsed(page(), DEEDS), SAID)
+
+
+class Many(unittest.TestCase):
+    def test_a_page_for_each_plan_and_an_index(self):
+        with tempfile.TemporaryDirectory() as name:
+            folder = Path(name)
+            (folder / "north ring.toml").write_text(PLAN, encoding="utf-8")
+            (folder / "north ring.spans.csv").write_text(SPANS, encoding="utf-8")
+            (folder / "two.toml").write_bytes((RINGS / "two-nodes.toml").read_bytes())
+            ended = call("sdhring-desk", "--to", "pages", "--teller", TELLER, "north ring.toml", "two.toml", cwd=folder)
+            self.assertEqual((ended.returncode, ended.stderr), (0, b""))
+            index = Seen((folder / "pages" / "index.html").read_text(encoding="utf-8"))
+            self.assertEqual([link["href"] for link in index.all("a")], ["north%20ring.html", "two.html"])
+            north, two = index.table_named("Rings")
+            self.assertEqual([north[head] for head in ("lost by a fibre", "by a span", "by a node", "by two spans")], ["0", "0", "2", "2"])
+            self.assertEqual((north["pairs of spans that lose some"], north["least available"], two["min/year"]), ("5 of 6", "Far & wide", ""))
+            self.assertIn("min/year", (folder / "pages" / "north ring.html").read_text(encoding="utf-8"))
+            self.assertNotIn("min/year", (folder / "pages" / "two.html").read_text(encoding="utf-8"))
+
+
+class Refused(unittest.TestCase):
+    def test_lines_and_statuses(self):
+        with tempfile.TemporaryDirectory() as folder:
+            (Path(folder) / "plan.toml").write_text(PLAN, encoding="utf-8")
+            (Path(folder) / "spans.csv").write_text("from,to,hours\n", encoding="utf-8")
+            for status, said, words in (
+                (1, "sdhring-desk: plan.toml: the answer isn't a table of this plan: status 1", ("--teller", "false")),
+                (1, "sdhring-desk: spans.csv: span Köln–Bad <Ems>,", ("--spans", "spans.csv", "--teller", TELLER)),
+                (2, "--nodes and --groups go with --spans", ("--nodes", "n.csv")),
+                (2, "several plans go with --to", ("other.toml",)),
+                (2, "two plans have one name", ("--to", "pages", "below/plan.toml")),
+                (2, "with --to each plan is a file", ("--to", "pages", "-")),
+            ):
+                ended = call("sdhring-desk", "plan.toml", *words, cwd=folder)
+                self.assertEqual((ended.returncode, ended.stdout), (status, b""))
+                self.assertIn(said, ended.stderr.decode())
+
+
+if __name__ == "__main__":
+    unittest.main()

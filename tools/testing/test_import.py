@@ -1,0 +1,238 @@
+"""Plans from tables: directions and slots beside a brute search, names of places and of customers, and tables that are refused."""
+
+import random
+import tempfile
+import tomllib
+import unittest
+from pathlib import Path
+from runpy import run_path
+
+from common import TOOLS, call
+
+from ringtools.importing import ImportProblem
+from ringtools.making import MakingProblem
+from ringtools.places import PlaceProblem, read_places, written
+from ringtools.plan import read_plan
+from ringtools.slots import Demand, Laid, Wanted, arcs_of, fitted, layout_of, loads_of, spans_of
+from ringtools.tables import TableProblem
+
+PLAN = run_path(str(TOOLS / "sdhring-plan"))
+
+NODES = "place,node\nKöln,4\nBad Ems,\nMainz,9\nAachen,\n"
+
+
+def full_ring(chance, size, slots, longest, share):
+    """Circuits laid end to end in each slot, of which a share is kept: so they fit, and nothing tells how."""
+    wanted = []
+    for _ in range(slots):
+        at, left = chance.randrange(size), size
+        while left:
+            length = min(left, chance.randint(1, longest), size - 1)
+            ends = [at, (at + length) % size]
+            chance.shuffle(ends)
+            wanted += [Wanted(*ends)] if chance.random() < share else []
+            at, left = (at + length) % size, left - length
+    chance.shuffle(wanted)
+    return wanted
+
+
+def least_load(size, slots, wanted):
+    """The least largest load of a span, by trying each way and each slot of each circuit; None where nothing fits."""
+    best, taken, load = [None], set(), [0] * size
+
+    def go_on(at):
+        if best[0] is not None and max(load) >= best[0]:
+            return
+        if at == len(wanted):
+            best[0] = max(load)
+            return
+        for arc in arcs_of(size, wanted[at]):
+            spans = spans_of(size, *arc)
+            for slot in [wanted[at].slot] if wanted[at].slot else range(1, slots + 1):
+                places = {(span, slot) for span in spans}
+                if places & taken:
+                    continue
+                taken.update(places)
+                for span in spans:
+                    load[span] += 1
+                go_on(at + 1)
+                taken.difference_update(places)
+                for span in spans:
+                    load[span] -= 1
+
+    go_on(0)
+    return best[0]
+
+
+class Slots(unittest.TestCase):
+    def holds(self, size, slots, wanted, laid):
+        taken = set()
+        for one, found in zip(wanted, laid, strict=True):
+            self.assertIn((found.start, found.end), arcs_of(size, one))
+            self.assertIn(found.slot, [one.slot] if one.slot else range(1, slots + 1))
+            places = {(span, found.slot) for span in spans_of(size, found.start, found.end)}
+            self.assertFalse(places & taken)
+            taken |= places
+
+    def test_what_fits_by_construction_is_fitted(self):
+        for seed in range(250):
+            chance = random.Random(seed)
+            size, slots = chance.randint(2, 16), chance.choice((2, 8))
+            wanted = full_ring(chance, size, slots, chance.randint(1, max(1, size - 1)), chance.choice((1, 1, 0.95, 0.8)))
+            with self.subTest(seed=seed):
+                layout, _ = layout_of(size, slots, wanted)
+                self.holds(size, slots, wanted, layout.laid)
+                self.assertEqual(layout.load, max(loads_of(size, layout.laid), default=0))
+                self.assertGreaterEqual(layout.bound, Demand(size, wanted).bound())
+
+    def test_the_largest_load_is_the_least_in_rings_of_up_to_eight_nodes(self):
+        unfit, raised = 0, 0
+        for seed in range(300):
+            chance = random.Random(seed)
+            size, slots = chance.randint(2, 8), chance.choice((2, 2, 3, 8))
+            ways, given = (None, None, None, "east", "west"), (None, None, None, chance.randint(1, slots))
+            count = chance.randint(1, {2: 8, 3: 6, 8: 4}[slots])
+            wanted = [Wanted(*chance.sample(range(size), 2), chance.choice(ways), chance.choice(given)) for _ in range(count)]
+            with self.subTest(seed=seed):
+                layout, is_sure = layout_of(size, slots, wanted)
+                self.assertEqual((layout and layout.load, is_sure), (least_load(size, slots, wanted), True))
+                bound = Demand(size, wanted).bound()
+                unfit += layout is None and bound <= slots
+                if layout:
+                    self.holds(size, slots, wanted, layout.laid)
+                    self.assertEqual(layout.bound, layout.load)
+                    raised += layout.load > bound
+        self.assertGreater((unfit, raised), (3, 2))
+
+    def test_a_ring_that_is_more_than_full(self):
+        """Four circuits over each of two spans that face each other, and one more, in two slots."""
+        wanted = [Wanted(0, 2)] * 4 + [Wanted(1, 3)]
+        self.assertEqual(layout_of(4, 2, wanted), (None, True))
+        where = fitted(4, 2, wanted)
+        self.assertEqual([one is None for one in where], [False] * 4 + [True])
+        self.assertEqual(where[0], Laid(0, 2, 1))
+
+
+class Names(unittest.TestCase):
+    def test_comments_of_the_form_are_read_and_nothing_else(self):
+        plan = '# node 3 is Köln\n#node 4 is no\n# node 5  is no\nx = "# node 6 is no"\ny = """\n# node 7 is no"""  # node 8 is Bad Ems  \r\n'
+        places = read_places((plan + "z = '# circuit a is no'\n# circuit c1 is Nord, 2. Paar\n# node 3 is Köln").encode())
+        self.assertEqual(places.nodes, {3: "Köln", 8: "Bad Ems"})
+        self.assertEqual(places.circuits, {"c1": "Nord, 2. Paar"})
+        self.assertEqual([places.node(3), places.node(4), places.span(3, 8), places.span(3, 4)], ["3 Köln", "4", "Köln–Bad Ems", "Köln–4"])
+        self.assertEqual([places.circuit("c1"), places.circuit("c2")], ["Nord, 2. Paar", "c2"])
+
+    def test_two_names_of_one_node_are_refused(self):
+        with self.assertRaisesRegex(PlaceProblem, "line 2: node 3 is named Bonn, and Köln before"):
+            read_places("# node 3 is Köln\n# node 3 is Bonn\n".encode())
+
+    def test_what_is_written_is_read(self):
+        for name in ("Köln", "a is b", "# node 1 is x", "x" * 60):
+            self.assertEqual(read_places(written("node", 15, name).encode()).nodes, {15: name})
+        for name in ("", " x", "a\nb", "x" * 61):
+            self.assertRaises(PlaceProblem, written, "node", 1, name)
+
+
+class Import(unittest.TestCase):
+    def setUp(self):
+        self.folder = Path(self.enterContext(tempfile.TemporaryDirectory()))
+
+    def write(self, circuits, nodes):
+        for name, text in (("circuits.csv", circuits), ("nodes.csv", nodes)):
+            (self.folder / name).write_bytes(text if isinstance(text, bytes) else text.encode())
+
+    def made(self, circuits, nodes=NODES, *words):
+        """What the tool writes and says, without a process of its own."""
+        self.write(circuits, nodes)
+        files = str(self.folder / "circuits.csv"), "--nodes", str(self.folder / "nodes.csv")
+        document, notes = PLAN["document_for"](PLAN["options"](["import", *files, *words]))
+        return document.encode(), "\n".join(notes)
+
+    def refused(self, said, *words):
+        with self.assertRaises((ImportProblem, MakingProblem, TableProblem)) as raised:
+            self.made(*words)
+        self.assertIn(said, str(raised.exception))
+
+    def test_the_command(self):
+        self.write("name,from,to\nNord 1,Köln,9\n", NODES)
+        words = "import", "circuits.csv", "--nodes", "nodes.csv"
+        ended = call("sdhring-plan", *words, "--to", "ring.toml", cwd=self.folder)
+        said = "sdhring-plan: 1 circuit; the largest load of a span is 1, and no choice of directions and slots has less\nsdhring-plan: circuits.csv:2: `Nord 1` is named nord-1 in the plan\n"
+        self.assertEqual((ended.returncode, ended.stdout, ended.stderr.decode()), (0, b"", said))
+        self.assertIn("# node 4 is Köln\n", (self.folder / "ring.toml").read_text(encoding="utf-8"))
+        self.assertIn(b"File exists", call("sdhring-plan", *words, "--to", "ring.toml", cwd=self.folder).stderr)
+        self.write("from,to\n1,1\n", NODES)
+        ended = call("sdhring-plan", *words, cwd=self.folder)
+        self.assertEqual((ended.returncode, ended.stdout, ended.stderr), (1, b"", b"sdhring-plan: circuits.csv:2: `from` and `to` are both Bad Ems\n"))
+
+    def test_a_plan_of_all_columns(self):
+        head = "Name;From;to;Direction;slot;text_a;text b;trace_a;offset_a;offset_b;Kunde\n"
+        rows = "Nördliche Straße;köln;Mainz;;;from Köln;;;;\n".replace("from Köln", "from K") + "back;mainz;bad ems;west;2;M;E;T;5;6;X\n;9;4;east;;;;;;;\n"
+        text, said = self.made("\ufeff" + head + rows, NODES, "--wait", "3", "--threshold", "2", "--limit", "999", "--steps", "cut 4 east")
+        plan, table = read_plan(text), tomllib.loads(text.decode())["circuit"]
+        self.assertEqual((plan.ids, plan.rate, plan.wait, plan.threshold, plan.limit), ((4, 1, 9, 2), 4, 3, 2, 999))
+        self.assertEqual([step.text for step in plan.steps], ["cut 4 east", "settle"])
+        self.assertEqual([(one["name"], one["from"], one["to"]) for one in table], [("nordliche-strass", 4, 9), ("back", 9, 1), ("c3", 9, 4)][:1] + [("back", 1, 9), ("c3", 9, 4)])
+        # `back` leads westwards from Mainz, so in the plan it starts at Bad Ems, and what is of Mainz is at port b.
+        back = table[1]
+        self.assertEqual([back[key] for key in ("slot", "text_a", "text_b", "trace_b", "offset_a", "offset_b")], [2, "E", "M", "T", 6, 5])
+        self.assertNotIn("trace_a", back)
+        self.assertEqual((table[0]["text_a"], table[0].get("trace_a")), ("from K", None))
+        places = read_places(text)
+        self.assertEqual(places.nodes, {4: "Köln", 1: "Bad Ems", 9: "Mainz", 2: "Aachen"})
+        self.assertEqual(places.circuits, {"nordliche-strass": "Nördliche Straße"})
+        self.assertIn("3 circuits; the largest load of a span is 2, and no choice of directions and slots has less", said)
+        self.assertIn("circuits.csv: not read: Kunde", said)
+        self.assertIn("circuits.csv:2: `Nördliche Straße` is named nordliche-strass in the plan", said)
+
+    def test_a_name_that_a_trace_can_hold_is_the_trace(self):
+        text, _ = self.made("name,from,to\nNorth line 7,4,9\nNorth-Line 7,4,9\nnorth-line-7,1,2\n")
+        table = tomllib.loads(text.decode())["circuit"]
+        self.assertEqual([one["name"] for one in table], ["north-line-7-2", "north-line-7-3", "north-line-7"])
+        self.assertEqual([one.get("trace_b") for one in table], ["North line 7", "North-Line 7", None])
+
+    def test_circuits_without_a_direction_share_the_ring(self):
+        """Four from Köln to Mainz fit in two slots where two lead each way."""
+        text, said = self.made("from,to\n" + "Köln,Mainz\n" * 4)
+        self.assertEqual(sorted((one.start, one.slot) for one in read_plan(text).circuits), [(0, 1), (0, 2), (2, 1), (2, 2)])
+        self.assertIn("is 2, and no choice", said)
+
+    def test_what_doesn_t_fit_is_told_with_the_spans_that_are_full(self):
+        self.refused("1 circuit of 5 can't be fitted beside the others\n  5 circuits have to cross", "from,to\n" + "Köln,Mainz\n" * 5)
+        said = "circuits.csv:6: c5, Köln to Mainz: eastwards Köln–Bad Ems is full, with 2 of 2 slots taken; westwards Mainz–Aachen is full"
+        self.refused(said, "from,to\n" + "Köln,Mainz\n" * 5)
+        self.refused("circuits.csv:3: c2, Köln to Mainz: eastwards slot 1 is taken", "from,to,direction,slot\nKöln,Mainz,east,1\nKöln,Mainz,east,1\n")
+
+    def test_tables_that_are_refused(self):
+        row = "name,from,to,direction,slot,text_a,offset_b\n"
+        for said, circuits, nodes in (
+            ("circuits.csv:1: the first line is to name the columns, and `to` is missing; there are name, from", "name,from\n", NODES),
+            ("circuits.csv:1: the column `to` is there twice", "to,from,To\n", NODES),
+            ("circuits.csv:1: the table is empty", "", NODES),
+            ("circuits.csv:3: `to` is `Bonn`, and the nodes are Köln, Bad Ems, Mainz, Aachen", row + "a,4,9,,,,\nb,4,Bonn,,,,\n", NODES),
+            ("circuits.csv:2: `from` and `to` are both Köln", row + "a,4,Köln,,,,\n", NODES),
+            ("circuits.csv:2: `direction` is `up`, and east, west or an empty cell is wanted", row + "a,4,9,up,,,\n", NODES),
+            ("circuits.csv:2: `slot` is `3`, and a whole number from 1 to 2", row + "a,4,9,,3,,\n", NODES),
+            ("circuits.csv:2: `text_a` is to have 1 to 64 characters", row + "a,4,9,,,ü,\n", NODES),
+            ("circuits.csv:2: `offset_b` is `783`", row + "a,4,9,,,,783\n", NODES),
+            ("circuits.csv:3: the circuit a stood in line 2 already", row + "a,4,9,,,,\na,4,9,,,,\n", NODES),
+            ("circuits.csv:2: 8 cells, and the first line names 7 columns", row + "a,4,9,,,,,x\n", NODES),
+            ("circuits.csv:2: the text isn't UTF-8", b"from,to\nK\xf6ln,9\n", NODES),
+            ("nodes.csv:3: node 4 stood before", row, "node\n4\n4\n"),
+            ("nodes.csv:3: the place köln stood before", row, "place\nKöln\nköln\n"),
+            ("nodes.csv:2: `node` is `16`", row, "node\n16\n1\n"),
+            ("nodes.csv:2: `place` is `7`, and a number alone", row, "place\n7\nKöln\n"),
+            ("nodes.csv: 1 node, and a ring has 2 to 16", row, "node\n4\n"),
+            ("nodes.csv:1: the first line is to name the column `place`", row, "town\nKöln\nBonn\n"),
+        ):
+            with self.subTest(said=said):
+                self.refused(said, circuits, nodes)
+        self.refused("rate 5: 4 or 16 is wanted", row, NODES, "--rate", "5")
+        self.refused("bad plan 15 at 0", row, NODES, "--threshold", "13")
+
+    def test_lines_within_quotes_are_counted(self):
+        self.refused("circuits.csv:4: `to` is `x`", 'name,from,to\n"a\nb",4,9\nc,4,x\n')
+
+
+if __name__ == "__main__":
+    unittest.main()
