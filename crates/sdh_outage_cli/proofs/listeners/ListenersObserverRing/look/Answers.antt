@@ -1,5 +1,5 @@
 use Rattle.sdh_outage_cli.proofs.Listening.{many_more, few_heard, listening_more}
-use Rattle.sdh_outage_cli.proofs.listeners.ListenersObserver.look.Goals as goal
+use Rattle.sdh_outage_cli.proofs.listeners.ListenersObserverRing.look.Goals as goal
 
 pub look_all-requires-clause-many : goal.look_all-requires-clause-many
 look_all-requires-clause-many c = let r = c.requires in many_more r.0 r.1 c.args.ring.now c.args.self.now.items.items r.3 r.2
