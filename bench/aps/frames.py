@@ -2,6 +2,7 @@
 pointers, and whose bytes go where. Beside it, apart from how frames are made, a reader of frames on the line: it descrambles them, picks
 out their bytes and counts the wrong bits of B1 and B2. It shares nothing with the crates or the tools."""
 import sys
+from functools import lru_cache
 from pathlib import Path
 
 sys.path.insert(0, str(Path(__file__).resolve().parents[1] / "outage"))
@@ -63,14 +64,7 @@ class Sender:
         self.streams = {port: Stream(*given) for port, given in streams_of(ring.circuits).items()}
         self.scrambler = Scrambler(self.n)
         self.b1, self.b2 = 0, bytes(3 * self.n)
-        self.made = {}
-
-    def vc(self, port, number):
-        key = port, number
-        if key not in self.made:
-            self.made = {kept: made for kept, made in self.made.items() if kept[1] > number - 100}
-            self.made[key] = self.streams[port].vc(number)
-        return self.made[key]
+        self.vc = lru_cache(maxsize=256)(lambda port, number: self.streams[port].vc(number))
 
     def part(self, port, start, count):
         """So many bytes of a port's stream."""
