@@ -5,9 +5,12 @@ import subprocess
 import sys
 import tomllib
 import unittest
-from functools import cache
+from functools import cache, reduce
+from operator import xor
 
 from common import TOOLS
+
+from rules import Stream
 
 ROOT = TOOLS.parent
 BENCH, SDHRING = ROOT / "bench" / "aps", ROOT / "dist" / "sdhring"
@@ -90,6 +93,59 @@ class Parities(unittest.TestCase):
             spoilt, reader = bytearray(lines[0]), frames.Reader(4)
             spoilt[at] ^= 0x10
             self.assertEqual([reader.read(line)["wrong"] for line in (bytes(spoilt), lines[1], lines[2])][1:], [wrong, (0, 0)])
+
+
+HEALTHY = """rate = 4
+nodes = [1, 2, 3, 4]
+threshold = 3
+wait = 10
+limit = 1000
+script = ["settle"]
+[[circuit]]
+name = "c1"
+from = 1
+to = 3
+slot = 1
+text_a = "0123456789A"
+text_b = "abcdefghijk"
+"""
+
+
+def key():
+    """The bytes that are added to a frame at STM-4: 36 that aren't scrambled, and then the sequence, bit by bit."""
+    bits, register = [], [1] * 7
+    for _ in range(8 * 9684):
+        bits.append(register[6])
+        register = [register[5] ^ register[6], *register[:6]]
+    return bytes(36) + bytes(sum(bit << 7 - i for i, bit in enumerate(bits[at : at + 8])) for at in range(0, len(bits), 8))
+
+
+def by_hand():
+    """The first two frames that node 2 sends eastwards in a new ring, byte by byte, as on the line.
+
+    In round 0 it asks for nothing and has nothing but AIS. In round 1 the circuit's AU-4 comes through, whose port began in round 0."""
+    first = bytearray(b"\xff" * 9720)
+    for row in (0, 1, 2, 4, 5, 6, 7, 8):
+        first[1080 * row : 1080 * row + 36] = bytes(36)
+    first[:36] = bytes.fromhex("f6" * 12 + "28" * 12 + "01" + "aa" * 11)
+    first[4332], first[4344] = 0x03, 0x20
+    lines = [bytes(x ^ y for x, y in zip(first, key()))]
+    second = bytearray(first)
+    second[1080] = reduce(xor, lines[0])
+    counted = [i for i in range(9720) if i >= 3240 or i % 1080 >= 36]
+    second[4320:4332] = bytes(reduce(xor, (first[i] for i in counted if i % 12 == lane)) for lane in range(12))
+    second[3240:3276:4] = bytes.fromhex("989b9b00ffff000000")
+    chunk = Stream("0123456789A", "c1", 0).bytes(0, 2349)
+    for row in range(9):
+        second[1080 * row + 36 : 1080 * row + 1080 : 4] = chunk[261 * row : 261 * row + 261]
+    return [*lines, bytes(x ^ y for x, y in zip(second, key()))]
+
+
+class ByHand(unittest.TestCase):
+    def test_two_frames(self):
+        made = sent(HEALTHY, 2, "east", 0, 2)
+        for line, wanted in zip(made, by_hand(), strict=True):
+            self.assertEqual([(i, line[i], wanted[i]) for i in range(9720) if line[i] != wanted[i]][:4], [])
 
 
 class Beside(unittest.TestCase):
