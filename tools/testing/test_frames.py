@@ -148,6 +148,7 @@ class ByHand(unittest.TestCase):
             self.assertEqual([(i, line[i], wanted[i]) for i in range(9720) if line[i] != wanted[i]][:4], [])
 
 
+@unittest.skipUnless(SDHRING.is_file(), "there is no release yet")
 class Beside(unittest.TestCase):
     """What sdhring, which is proved, says of the same plan."""
 
