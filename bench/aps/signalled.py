@@ -2,8 +2,9 @@
 """What `sdhaps` must write of a plan, by the plain simulation of the shared ring (../outage/simulate.py). It shares nothing with the
 crates or the tools.
 
-  bench/aps/signalled.py run < PLAN        what `sdhaps run` must write
-  bench/aps/signalled.py node ID < PLAN    what `sdhaps node ID` must write
+  bench/aps/signalled.py run < PLAN                            what `sdhaps run` must write
+  bench/aps/signalled.py node ID < PLAN                        what `sdhaps node ID` must write
+  bench/aps/signalled.py frames ID SIDE FIRST COUNT < PLAN     the frames of these words, as far as the run has them (frames.py)
 
 The plan has to be a good one. Ends with the status."""
 import sys
@@ -12,6 +13,7 @@ from pathlib import Path
 
 sys.path.insert(0, str(Path(__file__).resolve().parents[1] / "outage"))
 
+import frames
 import signalling
 from simulate import Ring
 
@@ -74,6 +76,10 @@ def run(plan, only=None):
 
 def main(words):
     plan = tomllib.load(sys.stdin.buffer)
+    if len(words) == 5 and words[0] == "frames":
+        made = frames.frames(plan, int(words[1]), words[2], int(words[3]), int(words[4]))
+        sys.stdout.buffer.write(b"".join(made))
+        return 0 if len(made) == int(words[4]) else 1
     if words == ["run"]:
         status, text = run(plan)
     elif len(words) == 2 and words[0] == "node":
