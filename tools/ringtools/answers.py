@@ -39,6 +39,10 @@ class Answers:
         found = ((verdict, verdict.stage("failed")) for verdict in self.of_kinds(kinds))
         return [(verdict, stage) for verdict, stage in found if stage is not None]
 
+    def customers(self, found):
+        """Circuits by the names that their customers know."""
+        return names(map(self.plan.places.circuit, found))
+
     def lost_before(self):
         """Circuits that are lost before anything fails."""
         stages = [stage for stage in (verdict.stage("before") for verdict in self.verdicts) if stage is not None]
@@ -68,7 +72,7 @@ class Answers:
             yield "Before each: " + ", ".join(f"<code>{escape(text)}</code>" for text in self.beforehand.texts()) + "."
         before = self.lost_before()
         if before:
-            yield f"Lost before anything fails: {escape(names(before))}."
+            yield f"Lost before anything fails: {escape(self.customers(before))}."
 
     def words_on_ends(self):
         unsettled = [verdict for verdict in self.all if verdict.unsettled]
@@ -85,12 +89,13 @@ class Answers:
         takers, single = self.takers(SINGLE), " or ".join(kind for kind in SINGLE if kind in self.kinds)
         safe, taken = [name for name in takers if not takers[name]], [name for name in takers if takers[name]]
         if not taken:
-            yield f"<strong>No single {single} takes</strong> any of these circuits: {escape(names(safe))}."
+            yield f"<strong>No single {single} takes</strong> any of these circuits: {escape(self.customers(safe))}."
             return
         if safe:
-            yield f"<strong>No single {single} takes</strong> {count_of(len(safe), 'circuit')} of {len(takers)}: {escape(names(safe))}."
+            yield f"<strong>No single {single} takes</strong> {count_of(len(safe), 'circuit')} of {len(takers)}: {escape(self.customers(safe))}."
         few = len(taken) <= FEW
-        each = (f"{name} ({names((verdict.case.words for verdict in takers[name]), 4)})" if few else name for name in taken)
+        called = self.plan.places.circuit
+        each = (f"{called(name)} ({names((verdict.case.words for verdict in takers[name]), 4)})" if few else called(name) for name in taken)
         yield f"<strong>A single {single} takes</strong> {count_of(len(taken), 'circuit')}: {escape(names(each))}."
 
     def ends_at(self, case):
@@ -106,7 +111,7 @@ class Answers:
         failed = self.failed(("node",))
         beyond = {verdict.case.words: self.besides_ends(verdict) for verdict, _ in failed if self.besides_ends(verdict)}
         if beyond:
-            each = "; ".join(f"{words}: {names(more)}" for words, more in beyond.items())
+            each = "; ".join(f"{words}: {self.customers(more)}" for words, more in beyond.items())
             yield f"<strong>A lost node takes</strong> the circuits that end there, and besides: {escape(each)}."
         elif failed:
             yield "<strong>A lost node takes</strong> the circuits that end there, and no other."
@@ -118,7 +123,7 @@ class Answers:
         takers = self.takers(("pair",))
         safe = [name for name in takers if not takers[name]]
         taking = [(len(self.taken(verdict)), verdict.case.words) for verdict, _ in failed if self.taken(verdict)]
-        spared = f" No pair takes {escape(names(safe))}." if safe else ""
+        spared = f" No pair takes {escape(self.customers(safe))}." if safe else ""
         yield f"{len(taking)} of {count_of(len(failed), 'pair')} of spans take at least one circuit.{spared}"
         if taking:
             most = max(count for count, _ in taking)

@@ -38,6 +38,11 @@ class Record:
         return f"{self.name} {self.version}, commit {self.commit[:12]}{self.commit[40:]}, sources {self.sources[:12]}"
 
 
+def version():
+    """The release's version, which stands in one file wherever the tools are."""
+    return (HOME / "VERSION").read_text(encoding="ascii").strip()
+
+
 def sum_of(data):
     return hashlib.sha256(data).hexdigest()
 
@@ -68,6 +73,7 @@ def write_build(records):
         lines.append(f"program {record.name} {record.sum} {record.sources}")
         before = head
     return "\n".join(lines) + "\n"
+
 
 def builds_near(file):
     """Where a BUILD may tell of a file: beside it, and of what is built, released or installed where these tools are."""

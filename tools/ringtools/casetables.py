@@ -36,8 +36,8 @@ def taken_by(verdicts, asked):
     return f"{count}: {links(verdicts)}" if len(verdicts) <= 2 else folded(count, links(verdicts))
 
 
-def takes(taken):
-    return f'<strong class="result-lost">takes {len(taken)}</strong>: {escape(", ".join(taken))}'
+def takes(answers, taken):
+    return f'<strong class="result-lost">takes {len(taken)}</strong>: {escape(answers.customers(taken))}'
 
 
 class CaseTables:
@@ -101,8 +101,8 @@ class CaseTables:
         if stage is None:
             return f'{head}<td colspan="5">{note}</td></tr>'
         odd = stage.all_of("odd")
-        words = [takes(taken)] if taken else [] if odd else ["takes none"]
-        words += [f"odd: {escape(', '.join(odd))}"] if odd else []
+        words = [takes(self.answers, taken)] if taken else [] if odd else ["takes none"]
+        words += [f"odd: {escape(self.answers.customers(odd))}"] if odd else []
         kind = "odd" if odd else "kept"
         later = f'<td colspan="2">{note}</td>' if note else "".join(f"<td>{self.later_cell(verdict, name)}</td>" for name in ("mended", "waited"))
         return f'{head}<td class="result-{kind}">{"; ".join(words)}</td><td>{stage.count("over")}</td><td>{stage.count("kept")}</td>{later}</tr>'
@@ -117,7 +117,8 @@ class CaseTables:
         return folded(summary, f'<div class="wide">{table}</div>', open=True)
 
     def filter(self):
-        return FILTER.format(options="".join(f"<option>{escape(name)}</option>" for name in self.answers.circuits))
+        option = lambda circuit: f'<option value="{escape(circuit.name)}">{escape(self.plan.circuit_name(circuit))}</option>'
+        return FILTER.format(options="".join(map(option, self.plan.circuits)))
 
     def failures(self):
         return self.filter() + "".join(map(self.group, self.answers.kinds))

@@ -10,9 +10,9 @@ from .plan import PlanProblem, read_step, write_plan
 STAGES = ("before", "failed", "mended", "waited")
 WORKS_STAGES = ("before", "during", "after", "waited")
 KINDS = ("fibre", "span", "node", "pair")
-SPAN_NAME = re.compile("span ([0-9]+)[-–]([0-9]+)")
-NODE_NAME = re.compile("node ([0-9]+)")
-WORKS_FORMS = {"span": "a span is named by the nodes at its ends, as `span 2-3`", "node": "a node is named alone, as `node 4`"}
+SIGN = re.compile("[-–]")
+WORKS_FORMS = {"span": re.compile(".+[-–].+"), "node": re.compile("[0-9]+|.*[^-–0-9 ].*")}
+WORKS_WORDS = {"span": "a span is named by the nodes at its ends, as `span 2-3`", "node": "a node is named alone, as `node 4`"}
 LAST_MOMENT = 1_000_000_000
 
 
@@ -174,32 +174,42 @@ def forced(plan, at, side):
     return f"forced {plan.ids[at % plan.size]} {side}"
 
 
-def span_steps(plan, one, other):
-    """Forced switches on both sides of a span, so that no cut or mending during the works interrupts its customers again."""
-    span = span_named(plan, one, other)
+def span_called(plan, words):
+    """The position of the span between the nodes called so, as `3-4` or `Köln–Bonn`, or None; a place may have a hyphen of its own."""
+    nodes = plan.places.positions(plan.ids)
+    for sign in SIGN.finditer(words):
+        one, other = (nodes.get(end.strip().casefold()) for end in (words[: sign.start()], words[sign.end() :]))
+        if None not in (one, other):
+            return span_named(plan, plan.ids[one], plan.ids[other])
+    return None
+
+
+def span_steps(plan, words):
+    """A span in words, and forced switches on both its sides, so that no cut or mending during the works interrupts its customers again."""
+    span = span_called(plan, words)
     if span is None:
-        spans = ", ".join("{}-{}".format(*plan.ends(at)) for at in range(plan.size))
-        raise PlanProblem(f"works: no span joins node {one} and node {other}; the spans are {spans}")
-    return [forced(plan, span, "east"), forced(plan, span + 1, "west")]
+        spans = ", ".join(plan.span_title(at).replace("–", "-", 1) for at in range(plan.size))
+        raise PlanProblem(f"works: no span joins node {' and node '.join(SIGN.split(words, maxsplit=1))}; the spans are {spans}")
+    return plan.span_title(span), [forced(plan, span, "east"), forced(plan, span + 1, "west")]
 
 
-def node_steps(plan, node):
-    """Forced switches at both neighbours of a node, towards it."""
-    if node not in plan.ids:
-        raise PlanProblem(f"works: no node {node}; the nodes are {', '.join(map(str, plan.ids))}")
-    at = plan.ids.index(node)
-    return [forced(plan, at - 1, "east"), forced(plan, at + 1, "west")]
+def node_steps(plan, words):
+    """A node in words, and forced switches at both its neighbours, towards it."""
+    at = plan.places.positions(plan.ids).get(words.casefold())
+    if at is None:
+        raise PlanProblem(f"works: no node {words}; the nodes are {', '.join(map(plan.node_name, range(plan.size)))}")
+    return plan.node_name(at), [forced(plan, at - 1, "east"), forced(plan, at + 1, "west")]
 
 
-def works_steps(plan, text):
-    """A part of an order in steps: `span A-B` and `node A` free these of traffic by forced switches; any step stands for itself."""
-    if found := SPAN_NAME.fullmatch(text):
-        return span_steps(plan, int(found[1]), int(found[2]))
-    if found := NODE_NAME.fullmatch(text):
-        return node_steps(plan, int(found[1]))
-    if text.split()[0] in WORKS_FORMS:
-        raise PlanProblem(f"works: `{text}` isn't a part of an order: {WORKS_FORMS[text.split()[0]]}")
-    return [text]
+def works_part(plan, text):
+    """A part of an order in words and in steps: `span A-B` and `node A` free these of traffic; any step stands for itself."""
+    kind, _, words = text.partition(" ")
+    if kind not in WORKS_FORMS:
+        return text, [text]
+    if not WORKS_FORMS[kind].fullmatch(words):
+        raise PlanProblem(f"works: `{text}` isn't a part of an order: {WORKS_WORDS[kind]}")
+    called, steps = (span_steps if kind == "span" else node_steps)(plan, words)
+    return f"{kind} {called}" if plan.places.nodes else text, steps
 
 
 def parts_of(words):
@@ -215,6 +225,6 @@ def read_steps_of(plan, texts):
 
 def read_beforehand(plan, also, works=None, script=()):
     """The steps of `--also` and of `--works`, parted by semicolons, after those of the plan's own script where it counts."""
-    order = parts_of(works)
-    steps = [step for part in order for step in works_steps(plan, part)]
-    return Beforehand(plan, read_steps_of(plan, parts_of(also)), read_steps_of(plan, steps), order, script)
+    order = [works_part(plan, part) for part in parts_of(works)]
+    steps = [step for _, part in order for step in part]
+    return Beforehand(plan, read_steps_of(plan, parts_of(also)), read_steps_of(plan, steps), [words for words, _ in order], script)

@@ -6,7 +6,7 @@ import shutil
 from dataclasses import dataclass
 from pathlib import Path
 
-from .build import HOME, PROGRAMS, record_of, write_build
+from .build import HOME, PROGRAMS, record_of, version, write_build
 
 TOOLS = ("sdhring-availability", "sdhring-desk", "sdhring-explain", "sdhring-plan", "sdhring-report", "sdhring-view", "sdhring-whatif")
 DOCUMENTS = (
@@ -34,10 +34,6 @@ class Piece:
     data: bytes = b""
     link: str = ""
     is_run: bool = False
-
-
-def version():
-    return (HOME / "VERSION").read_text(encoding="ascii").strip()
 
 
 def unlinked(found):
@@ -118,6 +114,7 @@ def pieces(places, prefix):
     files, build = programs(places)
     found = {f"{LIB}/{name}": piece for name, piece in files.items()}
     found[f"{LIB}/BUILD"] = Piece(build.encode("ascii"))
+    found[f"{LIB}/VERSION"] = Piece((HOME / "VERSION").read_bytes())
     for name in modules():
         found[f"{LIB}/tools/{name}"] = Piece((HOME / "tools" / name).read_bytes(), is_run=is_run(HOME / "tools" / name))
     found["bin/sdhring"] = Piece((HOME / "sdhring").read_bytes(), is_run=True)

@@ -34,11 +34,17 @@ def in_light(style):
     return re.sub(r"var\(--([a-z-]+)\)", lambda found: light_colours()[found[1]], style)
 
 
+def foot_of_sheets(title):
+    """The rule that prints a page's title at the foot of each sheet; in it nothing ends the string or the style."""
+    shown = re.sub(r'["\\<\n\r\f]', lambda found: f"\\{ord(found[0]):x} ", title)
+    return f'@page {{ @bottom-left {{ content: "{shown}"; }} }}'
+
+
 def whole(title, body, style=(), script=()):
     """A page with these styles and scripts beside the common ones."""
     head = '<meta charset="utf-8"><meta name="viewport" content="width=device-width, initial-scale=1">'
     head += f'<meta name="color-scheme" content="light dark"><title>{escape(title)}</title>'
-    head += "<style>" + "".join(map(web, ("palette.css", "page.css", "drawing.css", *style))) + "</style>"
+    head += "<style>" + "".join(map(web, ("palette.css", "page.css", "drawing.css", *style))) + foot_of_sheets(title) + "</style>"
     scripts = "".join(f"<script>{web(name)}</script>" for name in ("page.js", *script))
     return f'<!DOCTYPE html>\n<html lang="en"><head>{head}</head>\n<body>\n<main>\n{body}\n</main>\n{scripts}</body></html>\n'
 

@@ -10,8 +10,8 @@ import subprocess
 import tarfile
 from pathlib import Path
 
-from .build import HOME, PROGRAMS, Record, read_build, sum_of, write_build
-from .installing import TOOLS, Piece, install, is_run, modules, put, released, texts, version, words_of_the_field
+from .build import HOME, PROGRAMS, Record, read_build, sum_of, version, write_build
+from .installing import TOOLS, Piece, install, is_run, modules, put, released, texts, words_of_the_field
 
 DIST = HOME / "dist"
 PLATFORM = "x86_64-linux"

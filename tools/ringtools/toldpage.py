@@ -53,11 +53,11 @@ def named_nodes(plan):
         yield f"<strong>Nodes eastwards:</strong> {escape(names(map(plan.node_name, range(plan.size))))}."
 
 
-def heading(title, beforehand):
+def heading(file, beforehand):
     """Names the works, where there are any, so that no page is taken for one of the ring without them."""
     during = f", during the works: {'; '.join(beforehand.order)}" if beforehand.works else ""
     after = f", after {'; '.join(beforehand.also_texts())}" if beforehand.also else ""
-    return f"All failures: {title}{during}{after}"
+    return f"All failures: {file}{during}{after}"
 
 
 def by_frames(checked):
@@ -81,10 +81,11 @@ def customers(plan, told):
         yield [escape(plan.circuit_name(circuit)), "yes" if name in told.nothing.circuits else "no", alone[name], escape(" | ".join(first.get(name, [])[:4])), f"{pairs[name]} of {len(told.pairs)}"]
 
 
-def told_page(title, beforehand, told, checked, origins):
-    """`checked` has the differences of each case that was run, by its words."""
+def told_page(file, beforehand, told, checked, origins, title=""):
+    """`checked` has the differences of each case that was run, by its words. Without a title the heading tells the plan's file and what was asked."""
+    title = title or heading(file, beforehand)
     plan, kinds = beforehand.plan, dict.fromkeys(line.kind for line in told.alone)
-    parts = [f"<h1>{escape(heading(title, beforehand))}</h1>", *dict.fromkeys(warning(origin) for origin in origins if origin)]
+    parts = [f"<h1>{escape(title)}</h1>", *dict.fromkeys(warning(origin) for origin in origins if origin)]
     parts += [listing([*named_nodes(plan), *asked_words(beforehand), by_model(told, origins[0].program), by_frames(checked), *map(escape, told.summary)]), tools()]
     if plan.circuits:
         titles = ["customer", "lost before", "single failures that lose it", "the first of them", "pairs that lose it"]
@@ -98,4 +99,4 @@ def told_page(title, beforehand, told, checked, origins):
     words = f"Two failures: circuits are lost in {len(worst)} of {len(told.pairs)}"
     parts.append(f'</section><section id="pairs"><h2>{words}</h2>{table("those that lose most", COLUMNS, list(rows_of(worst[:WORST] + run, checked)))}</section>')
     parts += [folded("Where this comes from", origin_list(origin)) for origin in origins if origin]
-    return whole(heading(title, beforehand), "\n".join(parts), ["whatif.css"])
+    return whole(title, "\n".join(parts), ["whatif.css"])

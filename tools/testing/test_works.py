@@ -7,10 +7,14 @@ from collections import Counter
 from cases import CIRCUITS, Asking, document, expected, failures, script_of
 from rules import Rules
 
-from ringtools.failures import read_beforehand, works_steps
+from ringtools.failures import read_beforehand, works_part
 from ringtools.plan import PlanProblem, read_plan
 
 NAMES = [name for name, *_ in CIRCUITS]
+
+
+def works_steps(plan, text):
+    return works_part(plan, text)[1]
 
 
 def rules_of(script):
