@@ -10,7 +10,7 @@ from pathlib import Path
 from runpy import run_path
 
 from common import RINGS, TOOLS, call
-from pages import BROWSER, Seen, browsed
+from pages import BROWSER, PRINTS, Seen, browsed, printed
 
 from ringtools.deskpage import key_of
 from ringtools.desktable import read_cases
@@ -167,6 +167,18 @@ class Pages(unittest.TestCase):
     @unittest.skipUnless(BROWSER, "there is no chromium")
     def test_clicks_and_keys_on_a_phone(self):
         self.assertEqual(browsed(page(), DEEDS), SAID)
+
+
+@unittest.skipUnless(PRINTS, "there is no chromium, or no pdftotext")
+class Printed(unittest.TestCase):
+    def test_tables_have_their_heads_on_each_sheet(self):
+        """Also where the head is made of buttons, by which the table is sorted."""
+        rows = re.search(r'(<section id="customers">.*?<tbody>)(.*?)(</tbody>)', page(), re.S)
+        sheets = printed(page().replace(rows[2], rows[2] * 30)).split("\f")
+        beside = [sheet for sheet in sheets if sheet.count("5 Köln") > 5]
+        self.assertGreater(len(beside), 1)
+        for sheet in beside:
+            self.assertIn("pairs of spans", sheet)
 
 
 class Many(unittest.TestCase):

@@ -19,6 +19,9 @@ OF_REPOSITORY = re.compile(r"(?<![\w/])(?:crates|bench|specs|proofs|\.ci|tools/t
 NOT_INSTALLED = re.compile(rf"{OF_REPOSITORY.pattern}|(?<![\w/])(?:docs|tools)/|\./sdh")
 
 
+VERSION = re.escape((TOP / "VERSION").read_text().strip())
+
+
 def run(words, folder, path="/usr/bin:/bin", **more):
     """As a user does who has no kit and no home."""
     environment = {"PATH": path, "HOME": ""}
@@ -100,6 +103,8 @@ class Installed(Released):
         examples = self.prefix / "share" / "doc" / "sdhring" / "examples"
         for name in TOOLS:
             self.assertIn(f"usage: {name}", self.ended(self.start(name, "--help")).stdout)
+            told = self.ended(self.start(name, "--version")).stdout
+            self.assertRegex(told, rf"^{name} {VERSION}, a tool outside the proofs; beside it sdhring 9\.8\.7, commit 012345678901, sources [0-9a-f]{{12}}, proved$")
         told = self.start("sdhring-explain", examples / "refused.toml")
         self.assertEqual(told.returncode, 6)
         self.assertIn("bad plan 24 at 2", told.stdout)
