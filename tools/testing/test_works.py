@@ -120,7 +120,9 @@ class Works(Asking):
         for words in ("span 2", "span 2 9", "span"):
             self.assertIn(f"`{words}` isn't a part of an order: a span is named by the nodes at its ends, as `span 2-3`", self.ask("--works", words, wanted=1).stderr.decode())
         self.assertIn(b"`node 2-9` isn't a part of an order: a node is named alone", self.ask("--works", "node 2-9", wanted=1).stderr)
-        self.assertIn(b"isn't known", self.ask("--works", "free 5-9", wanted=1).stderr)
+        known = b"`lockout` isn't known; right would be: cut, mend, degrade, forced, manual, clear, moment, hold, slip, settle"
+        self.assertIn(known, self.ask("--works", "lockout 5 east", wanted=1).stderr)
+        self.assertIn(b"`8` is no node of the ring; right would be: 5, 2, 9, 4", self.ask("--works", "forced 8 east", wanted=1).stderr)
 
 
 if __name__ == "__main__":
