@@ -8,6 +8,7 @@ from html import escape
 
 from .answers import Answers
 from .casetables import CaseTables
+from .failures import WORKS_STAGES
 from .look import looks
 from .markup import count_of, listing, origin_list, warning, whole
 from .model import scenes
@@ -67,7 +68,8 @@ def draw_case(asked, case):
         return
     beside = asked.interruptions.put_beside(report.settled) if asked.interruptions and case.kind == "works" else None
     seen = looks(plan, scenes(plan, [step.round for step in report.settled]), report.settled)
-    shown = [look for look in seen if case.kind == "works" or case.stages[look.scene.number - 1] == "failed"] or seen
+    drawn = WORKS_STAGES if case.kind == "works" else ("failed",)
+    shown = [look for look in seen if case.stages[look.scene.number - 1] in drawn] or seen[-1:]
     origin = Origin(store.program, f"{case.name}.toml", store.answer(case.name).plan, (store.answer(case.name).date,))
     title = f"{asked.title or asked.plan}: {case.words}"
     store.path(case.name, "html").write_text(run_page(title, plan, report, shown, origin, beside), encoding="utf-8")

@@ -19,7 +19,7 @@ def simulated(plan):
     """What the simulation tells of each stage of this plan's script: by stage, circuit and port the frames, milliseconds, jumps and whether it is out to the end."""
     text = subprocess.run([*SIMULATE.split(), "run"], input=plan, capture_output=True, check=True).stdout.decode()
     found = {}
-    for stage, part in zip(STAGES, text.split("settle ")[1:]):
+    for stage, part in zip(STAGES, text.split("settle ")[-len(STAGES) :]):
         last = part.split()[2]
         for name, end, frames, ms, _, to, jumps in PORT.findall(part):
             found[stage, name, end] = int(frames), ms, int(jumps), to == last and frames != "0"
@@ -73,6 +73,15 @@ class Interruptions(Asking):
         self.order("manual 9 east", "--also", "cut 5 east; cut 2 east")
         self.check_table()
         self.assertNotIn("from then on", self.words())
+
+    def test_works_after_the_plan_s_script(self):
+        """Its settle steps come before those of the works, and what it leaves cut stays cut: one who has lost one way loses the other."""
+        self.plan.write_text(self.plan.read_text().replace('["settle"]', '["settle", "cut 4 west", "settle", "moment 3", "settle"]'))
+        self.order("span 5-2")
+        wanted, rows = self.check_table(), self.touched()
+        self.assertEqual(rows["near"][BEGIN], "from then on")
+        self.assertTrue(wanted["during", "near", "a"][-1])
+        self.assertEqual(len(list(Seen((self.cases() / "works.html").read_text()).tables_of("Customers after"))[0][0]), 1 + len(STAGES))
 
     def test_where_they_come_from(self):
         """The drawing has them too. They are the proved sdhoutage's; of another command that isn't known, and it is said."""
