@@ -133,7 +133,8 @@ def unpacked(commit, folder):
     """The files of a commit, below a folder."""
     data = subprocess.run(["git", "archive", "--format=tar", commit], cwd=HOME, stdout=subprocess.PIPE, check=True).stdout
     with tarfile.open(fileobj=io.BytesIO(data)) as archive:
-        archive.extractall(folder, filter="data")
+        archive.extraction_filter = getattr(tarfile, "data_filter", None)  # Python 3.11 has it from 3.11.4 on
+        archive.extractall(folder)
 
 
 def tree():
