@@ -62,10 +62,14 @@ class Answers:
         part = f", part {self.shard} of the whole" if self.shard else ""
         each = names(count_of(len(self.of_kinds((kind,))), KIND_WORDS[kind], KIND_PLURALS[kind]) for kind in self.kinds)
         yield f"{count_of(len(self.verdicts), 'failure')} of a ring with {count_of(len(self.circuits), 'circuit')} were run{part}: {each}. {NOT_ASKED}"
-        if any(step.word != "settle" for step in self.plan.steps):
-            yield "The plan's own script is left aside: <code>--also</code> sets steps before each failure, and <code>--all</code> asks about the ring as the script leaves it."
-        if self.beforehand.steps:
-            yield "Before each: " + ", ".join(f"<code>{escape(text)}</code>" for text in self.beforehand.texts()) + "."
+        codes = lambda texts: ", ".join(f"<code>{escape(text)}</code>" for text in texts)
+        if self.beforehand.own_texts():
+            yield f"After the plan's own script: {codes(self.beforehand.own_texts())}."
+        if self.beforehand.left_out:
+            yield f"The plan's own script is left out, as <code>--without-script</code> asks: {codes(self.beforehand.left_out)}."
+        more = self.beforehand.also_texts() + self.beforehand.works_texts()
+        if more:
+            yield f"Before each: {codes(more)}."
         before = self.lost_before()
         if before:
             yield f"Lost before anything fails: {escape(names(before))}."

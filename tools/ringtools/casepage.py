@@ -8,6 +8,7 @@ from html import escape
 
 from .answers import Answers
 from .casetables import CaseTables
+from .failures import WORKS_STAGES
 from .look import looks
 from .markup import count_of, listing, warning, whole
 from .model import scenes
@@ -57,7 +58,8 @@ def draw_case(asked, case):
     except ReportProblem:
         return
     seen = looks(plan, scenes(plan, [step.round for step in report.settled]), report.settled)
-    shown = [look for look in seen if case.kind == "works" or case.stages[look.scene.number - 1] == "failed"] or seen
+    drawn = WORKS_STAGES if case.kind == "works" else ("failed",)
+    shown = [look for look in seen if case.stages[look.scene.number - 1] in drawn] or seen[-1:]
     origin = Origin(store.program, f"{case.name}.toml", store.answer(case.name).plan, (store.answer(case.name).date,))
     store.path(case.name, "html").write_text(run_page(f"{asked.plan}: {case.words}", plan, report, shown, origin), encoding="utf-8")
 

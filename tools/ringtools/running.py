@@ -4,8 +4,10 @@ import os
 import shlex
 import signal
 import subprocess
+import tempfile
 import time
 from concurrent.futures import FIRST_COMPLETED, ThreadPoolExecutor, wait
+from pathlib import Path
 
 from .origin import CannotRun, file_of
 
@@ -89,3 +91,28 @@ def run_with_parallel(store, names, logins, jobs, more, progress):
 
 def processors():
     return len(os.sched_getaffinity(0))
+
+
+def tell_words(program, depth, parts, logins, jobs, more):
+    """The command of GNU parallel that asks for the parts of a table whose numbers it reads from its input."""
+    words = ["parallel", "--will-cite", *more]
+    for login in logins:
+        words += ["--sshlogin", login]
+    words += ["--jobs", str(jobs)] if jobs else []
+    ask = f"{shlex.join(program.words)} {depth} {{}} {parts} < plan.toml > {{}}.text"
+    return [*words, "--basefile", "plan.toml", "--return", "{}.text", "--cleanup", ask]
+
+
+def tell_with_parallel(program, document, depth, parts, logins, jobs, more):
+    """What the program writes of each part of its table, over these machines. A part that failed ends in what it says."""
+    with tempfile.TemporaryDirectory() as name:
+        folder = Path(name)
+        (folder / "plan.toml").write_bytes(document)
+        numbers = [str(number) for number in range(1, parts + 1)]
+        words = tell_words(program, depth, parts, logins, jobs, more)
+        try:
+            subprocess.run(words, input="\n".join(numbers) + "\n", cwd=folder, text=True)
+        except OSError as error:
+            raise CannotRun(f"parallel: {error.strerror}; it is Debian's package `parallel`") from None
+        files = [folder / f"{number}.text" for number in numbers]
+        return [file.read_bytes() if file.exists() else b"" for file in files]

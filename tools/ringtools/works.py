@@ -51,7 +51,8 @@ class Works:
     def changed(self):
         """Customers that aren't as before in each stage that came."""
         before = self.verdict.stage("before")
-        differs = lambda name: any(stage.cells[name] != before.cells[name] for stage in self.verdict.stages)
+        own = [stage for stage in self.verdict.stages if stage.name in WORKS_STAGES]
+        differs = lambda name: any(stage.cells[name] != before.cells[name] for stage in own)
         return [circuit for circuit in self.plan.circuits if before and differs(circuit.name)]
 
     def row(self, circuit):
