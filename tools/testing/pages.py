@@ -21,8 +21,8 @@ PHONE = """<body><script>addEventListener("message", (event) => {
 
 
 def browsed(markup, deeds):
-    """What these lines of script put into their list `told`, at the end of the page in a browser."""
-    script = f'<script>{deeds}\nparent.postMessage(told.join("\\n"), "*");</script>'
+    """What these lines of script, which may wait for something, put into their list `told`, at the end of the page in a browser."""
+    script = f'<script>(async () => {{ {deeds}\nparent.postMessage(told.join("\\n"), "*"); }})();</script>'
     with tempfile.TemporaryDirectory() as folder:
         phone = Path(folder) / "phone.html"
         phone.write_text(PHONE)
