@@ -205,7 +205,7 @@ def chooser(desk):
     switches = radios("A click on a switch, the square beside a node, gives it", "switch", (("forced", "a forced switch"), ("manual", "a manual switch")))
     customers = "".join(option(number, name) for number, name in enumerate(desk.called))
     return f"""<div class="panel" hidden>
-<p>A click, a tap, or Tab and Enter makes a node, a span (the label outside), a fibre or a switch fail, and mends it again; up to {DEPTHS[desk.depth].removeprefix("up to ")} together.</p>
+<p class="how">A click, a tap, or Tab and Enter makes a node, a span (the label outside), a fibre or a switch fail, and mends it again; up to {DEPTHS[desk.depth].removeprefix("up to ")} together.</p>
 {fibres}{switches}
 <p><label>Or choose <select id="choose">{option("", "a failure")}{"".join(failure_options(desk))}</select></label> <button type="button" id="clear">clear</button></p>
 <p id="failed"></p><div id="told" role="status" aria-live="polite"></div>
