@@ -133,9 +133,17 @@ def pieces(places, prefix):
     return found
 
 
+def make_folder(path):
+    """A folder that all can read, whatever the mask of whoever installs; one that is there stays as it is."""
+    if not path.is_dir():
+        make_folder(path.parent)
+        path.mkdir(exist_ok=True)
+        path.chmod(0o755)
+
+
 def put(path, piece):
     """Puts one file in place; a program that runs meanwhile goes on as it was."""
-    path.parent.mkdir(parents=True, exist_ok=True)
+    make_folder(path.parent)
     new = path.with_name(f".{path.name}.new")
     new.unlink(missing_ok=True)
     if piece.link:

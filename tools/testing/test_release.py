@@ -145,6 +145,13 @@ class Installed(Released):
         self.assertEqual([str(path.relative_to(other)) for path in other.rglob("*")], ["share", "share/doc", "share/doc/another"])
         self.assertIn("FILES isn't there", run([self.top / "sdhring", "--uninstall", other], self.folder, python_path()).stderr)
 
+    def test_all_can_read_it_whatever_the_mask(self):
+        other = self.folder / "masked"
+        self.ended(run(["bash", "-c", 'umask 077 && exec "$0" --install "$1"', self.top / "sdhring", other], self.folder, python_path()))
+        for path in (path for path in other.rglob("*") if not path.is_symlink()):
+            self.assertEqual(path.stat().st_mode & 0o444, 0o444, path)
+            self.assertTrue(path.is_file() or path.stat().st_mode & 0o111 == 0o111, path)
+
     def test_a_folder_that_cannot_be_written(self):
         (self.folder / "a file").write_text("")
         ended = run([self.top / "sdhring", "--install", self.folder / "a file"], self.folder, python_path())
