@@ -158,6 +158,13 @@ class Installed(Released):
         self.assertIn("can't be written", self.ended(ended, 82).stderr)
 
 
+class OldPython(unittest.TestCase):
+    def test_it_is_said_what_is_wanted(self):
+        before = "import sys; sys.version_info = (3, 10, 13); sys.argv = ['/bin/sdhring-plan']; sys.path.insert(0, 'tools'); import ringtools"
+        ended = run(["python3", "-c", before], TOP, python_path())
+        self.assertEqual((ended.returncode, ended.stderr), (1, "sdhring-plan: Python 3.11 or later is wanted, and this is 3.10\n"))
+
+
 @unittest.skipUnless(shutil.which("git"), "there is no git")
 class Packed(Released):
     @classmethod
