@@ -75,12 +75,19 @@ class Desk:
         return sorted(found.values(), key=lambda case: -case.lost)[:WORST]
 
 
+def besides_words(desk):
+    """How many customers lost nodes lose besides those that end there."""
+    counts = [sum(case in desk.besides_ends(circuit) and case.results[number] == LOST for number, circuit in enumerate(desk.plan.circuits)) for case in desk.singles("node")]
+    return f"besides those that end there, at most {max(counts)}" if any(counts) else "all of these end there"
+
+
 def summary(desk):
     for kind in ("fibre", "span", "node"):
         cases = list(desk.singles(kind))
         some = [case for case in cases if case.lost]
         most = f"in {len(some)} of {len(cases)}; at most {max((case.lost for case in some), default=0)}" if some else "in none"
-        yield f"<strong>{TITLES[kind].capitalize()}, one alone</strong>: customers are lost {most}."
+        besides = f"; {besides_words(desk)}" if kind == "node" and some else ""
+        yield f"<strong>{TITLES[kind].capitalize()}, one alone</strong>: customers are lost {most}{besides}."
     pairs = desk.pairs()
     some = [case for case in pairs if case.lost]
     yield f"<strong>Two spans cut</strong>: customers are lost in {len(some)} of {len(pairs)} pairs; at most {max((case.lost for case in pairs), default=0)}."
@@ -201,11 +208,11 @@ def radios(legend, group, kinds):
 
 def chooser(desk):
     """What a click on a fibre and on a switch does, a list of all failures, and what comes of them."""
-    fibres = radios("A click on a fibre makes it", "fibre", (("fibre", "cut"), ("degraded", "degraded")))
-    switches = radios("A click on a switch, the square beside a node, gives it", "switch", (("forced", "a forced switch"), ("manual", "a manual switch")))
+    fibres = radios("A clicked fibre is", "fibre", (("fibre", "cut"), ("degraded", "degraded")))
+    switches = radios("A clicked switch is", "switch", (("forced", "forced"), ("manual", "manual")))
     customers = "".join(option(number, name) for number, name in enumerate(desk.called))
     return f"""<div class="panel" hidden>
-<p class="how">A click, a tap, or Tab and Enter makes a node, a span (the label outside), a fibre or a switch fail, and mends it again; up to {DEPTHS[desk.depth].removeprefix("up to ")} together.</p>
+<p>A click, a tap, or Tab and Enter makes a node, a span (the label outside) or a fibre fail, or switches a side (the square beside a node); once more takes it away. Up to {DEPTHS[desk.depth].removeprefix("up to ")} together. <label><input type="checkbox" id="large"> large drawing</label></p>
 {fibres}{switches}
 <p><label>Or choose <select id="choose">{option("", "a failure")}{"".join(failure_options(desk))}</select></label> <button type="button" id="clear">clear</button></p>
 <p id="failed"></p><div id="told" role="status" aria-live="polite"></div>

@@ -106,19 +106,19 @@ def warning(origin):
 
 
 def origin_list(origin):
-    """Program, proved or not, version, date and sums."""
+    """Program, proved or not, version, date and checksums."""
     program, code = origin.program, lambda words: f"<code>{escape(words)}</code>"
     told = program.lines() if program else {}
     lines = {
         "Program": code(told["program"]) if told else escape(origin.note),
         "Proved": "yes" if told.get("proof") == "proved" else "not known",
         "Version": escape(told.get("version", "not known")),
-        "Program's sum": code(told["sum"]) if told else "not known",
+        "Program's checksum": code(told["sum"]) if told else "not known",
         "Plan": code(origin.plan),
-        "Plan's sum": code(origin.plan_sum),
-        **({"Sum of the plan as asked": code(origin.asked)} if origin.asked not in ("", origin.plan_sum) else {}),
+        "Plan's checksum": code(origin.plan_sum),
+        **({"Checksum of the plan as asked": code(origin.asked)} if origin.asked not in ("", origin.plan_sum) else {}),
         "Answered": dates_words(origin.dates),
         "Page written": moment_words(now()),
     }
     inside = "".join(f"<dt>{name}</dt><dd>{words}</dd>" for name, words in lines.items())
-    return f'<dl class="origin">{inside}</dl>' + '<p class="note">Sums are SHA-256.</p>'
+    return f'<dl class="origin">{inside}</dl>' + '<p class="note">Checksums are SHA-256.</p>'

@@ -203,6 +203,7 @@
   prepareNames();
   prepareCases();
   document.querySelector(".panel").hidden = false;
+  by("large").addEventListener("change", (event) => ring.parentElement.classList.toggle("large", event.target.checked));
   by("clear").addEventListener("click", () => set([]));
   by("whose").addEventListener("change", (event) => follow(event.target.value));
   by("choose").addEventListener("change", (event) => {
