@@ -29,9 +29,9 @@ _sdhring_tools() {
     sdhring-report) words='--json --csv --nodes --plan --help' ;;
     sdhring-plan) words='new import --nodes --rate --threshold --wait --limit --steps --to --help' ;;
     sdhring-availability) words='--nodes --groups --cuts-per-1000-km --without-script --csv --json --causes --help' ;;
-    sdhring-desk) words='--to --title --spans --nodes --groups --cuts-per-1000-km --teller --help' ;;
-    sdhring-view) words='--svg --outages --program --help' ;;
-    sdhring-whatif) words='--also --works --kinds --dir --program --jobs --shard --sshlogin --parallel --all --frames --teller --anew --help' ;;
+    sdhring-desk) words='--to --title --depth --spans --nodes --groups --cuts-per-1000-km --teller --help' ;;
+    sdhring-view) words='--to --svg --outages --program --help' ;;
+    sdhring-whatif) words='--also --works --without-script --kinds --dir --program --jobs --shard --sshlogin --parallel --all --depth --frames --against --require --teller --anew --help' ;;
   esac
   mapfile -t COMPREPLY < <(compgen -W "$words" -- "$word")
   [ "${#COMPREPLY[@]}" -ne 0 ] || compopt -o default
