@@ -135,30 +135,30 @@ def customers(told):
     for case in told.table.of_depth(1):
         for name in told.besides(case):
             first[name].append(told.table.words(case))
-    titles, counted = ["customer", "lost before", "single failures besides its ends", "the first of them"], list(told.depths())
+    titles, counted = ["customer", "lost before"], list(told.depths())
     for depth in counted:
         titles += [f"{DEPTH_WORDS[depth].lower()}: lost in", "besides its ends", "in a path ring"]
     totals = {depth: sum(1 for _ in told.table.of_depth(depth)) for depth in counted}
     rows = []
     for name in told.names:
         cells = [f"{every[name, depth]} of {totals[depth]}" if source is every else source[name, depth] for depth in counted for source in (every, besides, path)]
-        rows.append([escape(told.called[name]), "yes" if every[name, 0] else "no", besides[name, 1], unbroken("; ".join(first[name][:4])), *cells])
-    return titles, rows
+        rows.append([escape(told.called[name]), "yes" if every[name, 0] else "no", *cells, unbroken("; ".join(first[name][:4]))])
+    return [*titles, "the first single ones besides its ends"], rows
 
 
 def worst_of(told, depth, checked):
-    """The cases that lose most, and those that were run."""
+    """The cases in which most are lost, and those that were run."""
     found = sorted((case for case in told.table.of_depth(depth) if case.lost), key=lambda case: -case.lost)
     return found[:WORST] + [case for case in told.table.of_depth(depth) if case.failures in checked and case not in found[:WORST]], len(found)
 
 
 def several(told, depth, checked):
-    """Cases of two or three failures: what mixtures of kinds come to, and those that lose most."""
+    """Cases of two or three failures: what mixtures of kinds come to, and the worst."""
     shown, count = worst_of(told, depth, checked)
     total = sum(1 for _ in told.table.of_depth(depth))
     words = f"{DEPTH_WORDS[depth]}: customers are lost in {count} of {total}"
     kinds = table("by kinds", KIND_HEADS, list(by_kinds(told, depth)))
-    return f"<section><h2>{words}</h2>{kinds}{table('those that lose most', CASE_HEADS, list(rows_of(told, shown, checked)))}</section>"
+    return f"<section><h2>{words}</h2>{kinds}{table('the worst cases', CASE_HEADS, list(rows_of(told, shown, checked)))}</section>"
 
 
 def alone(told, checked):
