@@ -4,7 +4,7 @@ import shlex
 import sys
 import time
 
-from .against import Against, other_of_table, other_of_told
+from .against import Against, cases_of_table, cases_of_told
 from .asking import DIFFERS, INTERRUPTED, Stop, folder_of, say, subject_of, warn_of
 from .casepage import draw_cases
 from .checks import SETTLES
@@ -16,7 +16,7 @@ from .required import BROKEN, NOT_ASKED, depth_for, line_of, not_asked, records
 from .running import processors, tell_with_parallel
 from .tables import TableProblem
 from .told import Question, Told, case_to_run, differences, drawn, part_name
-from .toldpage import heading, told_page
+from .toldpage import beside_page, heading, told_page
 from .verdicts import judge
 
 PARTS = {"single": 1, "double": 8, "triple": 64}  # over machines
@@ -44,16 +44,33 @@ def told_of(asked, subject, depth, part=WHOLE):
 
 def against_of(asked, told, part):
     """This plan's cases beside those of --against: a table of an earlier run, or a plan, with its own script."""
-    if asked.against is None:
-        return None
     name = asked.against
+    if name is None:
+        return None
+    this = cases_of_told("this plan", told)
+    if name.endswith(".csv"):
+        return Against(this, table_of(name))
+    other, _ = told_of(asked, subject_of(name, None, None, asked.without_script), told.table.depth, part)
+    return Against(this, cases_of_told(name, other))
+
+
+def table_of(name):
     try:
-        if name.endswith(".csv"):
-            return Against(told, other_of_table(name))
+        return cases_of_table(name)
     except (FileProblem, TableProblem) as problem:
         raise Stop(str(problem)) from None
-    other, _ = told_of(asked, subject_of(name, None, None, asked.without_script), told.table.depth, part)
-    return Against(told, other_of_told(name, other))
+
+
+def compare_tables(asked, name):
+    """Two tables of earlier runs beside each other; nothing is asked."""
+    if not asked.against or not asked.against.endswith(".csv"):
+        raise Stop(f"{name}: a table in place of a plan is compared with another one: --all --against TABLE.csv")
+    against, folder = Against(table_of(name), table_of(asked.against)), folder_of(asked, name)
+    folder.mkdir(parents=True, exist_ok=True)
+    against.write_csv(folder / "against.csv")
+    (folder / "against.html").write_text(beside_page(against), encoding="utf-8")
+    print(f"{folder / 'against.csv'}\n{folder / 'against.html'}")
+    return 0
 
 
 class Writing:

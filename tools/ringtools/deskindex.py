@@ -1,4 +1,4 @@
-"""The index of the desk pages of many rings: a line for each, with what single failures and pairs of spans lose."""
+"""The index of the desk pages of many rings: a line for each, with how many are lost with single failures and with pairs of spans."""
 
 from html import escape
 from urllib.parse import quote
@@ -9,7 +9,7 @@ from .desktable import LOST
 from .markup import listing, moment_words, table, whole
 from .origin import now
 
-HEADS = ["ring", "nodes", "customers", "lost by a fibre", "by a span", "by a node", "of these besides its ends", "by two spans", "pairs of spans that lose some", "least available", "min/year", "nines"]
+HEADS = ["ring", "nodes", "customers", "lost with a fibre", "with a span", "with a node", "of these besides its ends", "with two spans", "pairs of spans with some lost", "least available", "min/year", "nines"]
 
 
 def most(cases):
@@ -42,7 +42,7 @@ def besides_ends(desk, case):
 def index_page(rows, problems=()):
     """The page of these rows, and of the rings that have no page, each with what is wrong."""
     words = (
-        "<p>The most customers that one failure of a kind loses, besides those that end at the lost node, and two cut spans. "
+        "<p>The most customers that are lost with one failure of a kind, and with two cut spans. "
         "Each ring leads to its page, which describes where its numbers come from.</p>"
     )
     missing = listing(f'<strong class="result-lost">{escape(name)}</strong> has no page: {escape(problem)}' for name, problem in problems)

@@ -65,7 +65,7 @@ class Desk:
         return [case for case in self.singles("node") if self.table.failures[case.failures[0]].at not in (circuit.start, circuit.end)]
 
     def worst(self):
-        """The failures, alone or two, that lose most; of those that apply the same spans only one, of spans or nodes where it can be."""
+        """The failures, alone or two, in which most are lost; of those that apply the same spans only one, of spans or nodes where it can be."""
         kinds = lambda case: [BREAKS.index(kind) for kind in self.table.kinds(case)]
         few = (case for depth in (1, 2) for case in self.table.of_depth(depth))
         broken = [case for case in few if case.lost and all(kind in BREAKS for kind in self.table.kinds(case))]
@@ -76,7 +76,7 @@ class Desk:
 
 
 def besides_words(desk):
-    """How many customers lost nodes lose besides those that end there."""
+    """How many customers are lost with a node besides those that end there."""
     counts = [sum(case in desk.besides_ends(circuit) and case.results[number] == LOST for number, circuit in enumerate(desk.plan.circuits)) for case in desk.singles("node")]
     return f"besides those that end there, at most {max(counts)}" if any(counts) else "all of these end there"
 
@@ -129,7 +129,7 @@ def customers(desk):
         counts = [lost(desk.singles("span")), lost(desk.besides_ends(circuit)), lost(pairs), sum(number in found for found in by_path)]
         rows.append([escape(desk.called[number]), *ends, circuit.slot, '<span class="now"></span>', *counts, *shares(desk, circuit)])
     attributes = lambda index: f' data-customer="{index}"'
-    caption = "Customers, and how many spans, nodes and pairs of spans lose each"
+    caption = "Customers, and with how many spans, nodes and pairs of spans each is lost"
     return table(caption, titles, rows, attributes=attributes)
 
 

@@ -252,18 +252,27 @@ class Reading:
             self.ends[outcome] = "settle,{},{},{},{}{}".format(*outcome.counts, outcome.hops, lost)
         return self.ends[outcome]
 
-    def cases(self, text, depth, part=WHOLE):
-        """Each case with its numbers, or a ToldProblem."""
+    def lines(self, text):
+        """The lines of the cases of a whole text, or a ToldProblem."""
         if not text.startswith(HEAD) or not text.endswith(b"\ndone\n"):
             raise ToldProblem(f"`{text.splitlines()[-1].decode('utf-8', 'replace')}`" if text else "nothing")
-        lines = iter(text.decode("utf-8", "replace").split("\n")[1 : -2 - SUMMARY])
+        return iter(text.decode("utf-8", "replace").split("\n")[1 : -2 - SUMMARY])
+
+    def case(self, numbers, lines):
+        """The case of these failures, whose line is the next."""
+        outcome, line = self.model.outcome(numbers), next(lines, "the end")
+        if line != "".join([self.steps[number] for number in numbers]) + self.end(outcome):
+            raise self.problem(numbers, line)
+        return Case(numbers, outcome)
+
+    def cases(self, texts, depth, part=WHOLE):
+        """Each case of this part by its numbers, or a ToldProblem. The text is one, or those of all parts of the whole, the first part first."""
+        parts, found = [self.lines(text) for text in texts], {}
         for numbers in self.numbers(depth, part):
-            outcome, line = self.model.outcome(numbers), next(lines, "the end")
-            if line != "".join([self.steps[number] for number in numbers]) + self.end(outcome):
-                raise self.problem(numbers, line)
-            yield numbers, Case(numbers, outcome)
-        if next(lines, None) is not None:
+            found[numbers] = self.case(numbers, parts[self.digits(numbers) % len(parts)] if len(parts) > 1 else parts[0])
+        if any(next(lines, None) is not None for lines in parts):
             raise ToldProblem("the table has more lines than there are cases")
+        return found
 
     def problem(self, numbers, line):
         words, steps = " and ".join(self.failures[number].name for number in numbers) or "nothing", line.split(",")[0]
@@ -300,12 +309,10 @@ def read_cases(plan, places, program, document, depth="double", part=WHOLE):
     begun = time.monotonic()
     text = tell(program, document, depth, part)
     seconds, reading = time.monotonic() - begun, Reading(plan, places)
-    return Table(reading.failures, dict(reading.cases(text, depth, part)), depth, part, text, seconds)
+    return Table(reading.failures, reading.cases([text], depth, part), depth, part, text, seconds)
 
 
 def merged(plan, places, texts, depth, seconds):
     """The whole table of the texts of all its parts, the first part first."""
-    reading, cases = Reading(plan, places), {}
-    for number, text in enumerate(texts, 1):
-        cases |= reading.cases(text, depth, (number, len(texts)))
-    return Table(reading.failures, {numbers: cases[numbers] for numbers in reading.numbers(depth, WHOLE)}, depth, WHOLE, b"", seconds)
+    reading = Reading(plan, places)
+    return Table(reading.failures, reading.cases(texts, depth), depth, WHOLE, b"".join(texts), seconds)

@@ -100,7 +100,8 @@ def tell_words(program, depth, parts, logins, jobs, more):
         words += ["--sshlogin", login]
     words += ["--jobs", str(jobs)] if jobs else []
     ask = f"{shlex.join(program.words)} {depth} {{}} {parts} < plan.toml > {{}}.text"
-    return [*words, "--basefile", "plan.toml", "--return", "{}.text", "--cleanup", ask]
+    is_here = all(login.rpartition("/")[2] == ":" for login in logins)
+    return [*words, *([] if is_here else ["--basefile", "plan.toml", "--return", "{}.text", "--cleanup"]), ask]
 
 
 def tell_with_parallel(program, document, depth, parts, logins, jobs, more):

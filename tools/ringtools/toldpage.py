@@ -135,30 +135,30 @@ def customers(told):
     for case in told.table.of_depth(1):
         for name in told.besides(case):
             first[name].append(told.table.words(case))
-    titles, counted = ["customer", "lost before", "single failures besides its ends", "the first of them"], list(told.depths())
+    titles, counted = ["customer", "lost before"], list(told.depths())
     for depth in counted:
         titles += [f"{DEPTH_WORDS[depth].lower()}: lost in", "besides its ends", "in a path ring"]
     totals = {depth: sum(1 for _ in told.table.of_depth(depth)) for depth in counted}
     rows = []
     for name in told.names:
         cells = [f"{every[name, depth]} of {totals[depth]}" if source is every else source[name, depth] for depth in counted for source in (every, besides, path)]
-        rows.append([escape(told.called[name]), "yes" if every[name, 0] else "no", besides[name, 1], unbroken("; ".join(first[name][:4])), *cells])
-    return titles, rows
+        rows.append([escape(told.called[name]), "yes" if every[name, 0] else "no", *cells, unbroken("; ".join(first[name][:4]))])
+    return [*titles, "the first single ones besides its ends"], rows
 
 
 def worst_of(told, depth, checked):
-    """The cases that lose most, and those that were run."""
+    """The cases in which most are lost, and those that were run."""
     found = sorted((case for case in told.table.of_depth(depth) if case.lost), key=lambda case: -case.lost)
     return found[:WORST] + [case for case in told.table.of_depth(depth) if case.failures in checked and case not in found[:WORST]], len(found)
 
 
 def several(told, depth, checked):
-    """Cases of two or three failures: what mixtures of kinds come to, and those that lose most."""
+    """Cases of two or three failures: what mixtures of kinds come to, and the worst."""
     shown, count = worst_of(told, depth, checked)
     total = sum(1 for _ in told.table.of_depth(depth))
     words = f"{DEPTH_WORDS[depth]}: customers are lost in {count} of {total}"
     kinds = table("by kinds", KIND_HEADS, list(by_kinds(told, depth)))
-    return f"<section><h2>{words}</h2>{kinds}{table('those that lose most', CASE_HEADS, list(rows_of(told, shown, checked)))}</section>"
+    return f"<section><h2>{words}</h2>{kinds}{table('the worst cases', CASE_HEADS, list(rows_of(told, shown, checked)))}</section>"
 
 
 def alone(told, checked):
@@ -173,22 +173,27 @@ def alone(told, checked):
 
 def against_section(against):
     """Who gains and who loses beside the other plan or table."""
-    told, counts, name = against.told, against.counts(), escape(against.other.name)
-    depths = [0, *told.depths()]
+    counts, name, depths = against.counts(), escape(against.other.name), against.depths
     of = lambda circuit, what: sum(counts[circuit, depth, what] for depth in depths)
     gains, loses = ([circuit for circuit in against.shared if of(circuit, what)] for what in (GAINS, LOSES))
-    called = lambda found: escape(names(map(told.called.get, found))) or "none"
+    called = lambda found: escape(names(map(against.called, found))) or "none"
     words = [f"<strong>Gain</strong>, as they survive here and are lost there in some case: {called(gains)}."]
     words.append(f"<strong>Lose</strong>, as they are lost here and survive there: {called(loses)}.")
     words += [f"Only here: {called(against.only_here)}."] if against.only_here else []
-    words += [f"Only there: {escape(names(against.only_there))}."] if against.only_there else []
+    words += [f"Only there: {called(against.only_there)}."] if against.only_there else []
     if against.cases_here or against.cases_there:
         words.append(f"{against.cases_here} cases are only here, and {against.cases_there} only there; nothing is said of them.")
     titles = ["customer", *(f"{DEPTH_WORDS.get(depth, 'Nothing more').lower()}: {what}" for depth in depths for what in (GAINS, LOSES))]
-    rows = [[escape(told.called[circuit]), *(counts[circuit, depth, what] for depth in depths for what in (GAINS, LOSES))] for circuit in against.shared]
+    rows = [[escape(against.called(circuit)), *(counts[circuit, depth, what] for depth in depths for what in (GAINS, LOSES))] for circuit in against.shared]
     shown = [row for row in rows if any(row[1:])]
     body = listing(words) + (table("cases in which a customer gains or loses", titles, shown) if shown else "<p>Every customer survives and is lost in the same cases.</p>")
     return f'<section id="against"><h2>Beside {name}</h2>{body}</section>'
+
+
+def beside_page(against):
+    """The page of two tables alone."""
+    title = f"{against.this.name} beside {against.other.name}"
+    return whole(title, f"<h1>{escape(title)}</h1>{against_section(against)}", ["whatif.css"])
 
 
 def told_page(title, beforehand, told, checked, origins, against=None):

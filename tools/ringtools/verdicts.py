@@ -25,7 +25,7 @@ STATUSES = {
 
 @dataclass(frozen=True)
 class Cell:
-    """One circuit in one stage: kept on its own arc, over protection with so many spans more, lost, or odd."""
+    """One circuit in one stage: kept on its own arc, over protection with this number of spans more, lost, or odd."""
 
     kind: str
     more: int = 0

@@ -90,12 +90,12 @@ class Works:
             return
         kinds = [f"a {kind}" for kind in SECOND if kind in self.answers.kinds]
         of_what = " or ".join(filter(None, [", ".join(kinds[:-1]), kinds[-1]]))
-        yield f"<strong>{len(hurting)} of {count_of(len(asked), 'second failure')}</strong> of {of_what} during the works take a customer."
+        yield f"Customers are lost with <strong>{len(hurting)} of {count_of(len(asked), 'second failure')}</strong> of {of_what} during the works."
         safe, risked = [name for name in taken if not taken[name]], [name for name in taken if taken[name]]
         if risked:
             yield f"At risk during the works: {escape(self.answers.customers(risked))}."
         if safe:
-            yield f"Taken by none of them: {escape(self.answers.customers(safe))}."
+            yield f"Survive all of them: {escape(self.answers.customers(safe))}."
         freed = [escape(self.plan.span_title(span)) for span in sorted(self.freed())]
         if freed and self.unfreed():
             yield f"<strong>The switch gives way</strong> under {len(self.unfreed())} of them: traffic comes back to {names(freed)}, {GIVES_WAY}"
@@ -103,7 +103,7 @@ class Works:
             yield f"Free of traffic under each of them: {count_of(len(freed), 'span')}, {names(freed)}."
 
     def by_effect(self):
-        """Second failures that take the same customers, together."""
+        """Second failures in which the same customers are lost, together."""
         found = {}
         for verdict in self.hurting():
             found.setdefault(tuple(self.answers.taken(verdict)), []).append(verdict)
@@ -112,7 +112,7 @@ class Works:
     def hurting_table(self):
         row = lambda taken, verdicts: f'<tr><th scope="row" class="name">{links(verdicts)}</th><td>{takes(self.answers, taken)}</td></tr>'
         rows = "\n".join(row(*effect) for effect in self.by_effect().items())
-        head = f"<thead>{heads(['second failure', 'customers that it takes'])}</thead>"
+        head = f"<thead>{heads(['second failure', 'customers that are lost'])}</thead>"
         return f'<div class="wide"><table class="second">{head}<tbody>\n{rows}</tbody></table></div>' if rows else ""
 
     def section(self):

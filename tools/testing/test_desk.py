@@ -244,9 +244,9 @@ class Many(unittest.TestCase):
             index = Seen((folder / "pages" / "index.html").read_text(encoding="utf-8"))
             self.assertEqual([link["href"] for link in index.all("a")], ["north%20ring.html", "two.html"])
             north, two = index.table_named("Rings")
-            heads = ("lost by a fibre", "by a span", "by a node", "of these besides its ends", "by two spans")
+            heads = ("lost with a fibre", "with a span", "with a node", "of these besides its ends", "with two spans")
             self.assertEqual([north[head] for head in heads], ["0", "0", "2", "0", "2"])
-            self.assertEqual((north["pairs of spans that lose some"], north["least available"], two["min/year"]), ("5 of 6", "Far & wide", ""))
+            self.assertEqual((north["pairs of spans with some lost"], north["least available"], two["min/year"]), ("5 of 6", "Far & wide", ""))
             self.assertIn("min/year", (folder / "pages" / "north ring.html").read_text(encoding="utf-8"))
             self.assertNotIn("min/year", (folder / "pages" / "two.html").read_text(encoding="utf-8"))
 

@@ -114,8 +114,8 @@ class Shown(Asking):
         """While works free both spans of node 9, the span 5–2 takes the customer between its nodes."""
         self.ask("--works", "node 9", "--kinds", "span")
         self.assertRegex(self.words(), "At risk during the works: [^.]*Near & dear")
-        rows = self.page().table_with("second failure", "customers that it takes") + self.page().table_with("failure", "customers that it takes")
-        taking = [row["customers that it takes"] for row in rows if "5\u2060–\u20602" in "".join(map(str, row.values()))]
+        rows = self.page().table_with("second failure", "customers that are lost") + self.page().table_with("failure", "customers that are lost")
+        taking = [row["customers that are lost"] for row in rows if "5\u2060–\u20602" in "".join(map(str, row.values()))]
         self.assertEqual([words.count("Near & dear") for words in taking], [1, 1])
         self.assertIn('<option value="near">near (Near &amp; dear)</option>', (self.top / "out" / "page.html").read_text(encoding="utf-8"))
 

@@ -44,13 +44,13 @@ class Whatif(Asking):
         self.check_rows(rows)
         words = self.words()
         self.assertIn("22 failures of a ring with 4 circuits were run: 8 fibres, 4 spans, 4 nodes, 6 pairs of spans.", words)
-        self.assertIn("No single fibre or span takes any of these circuits: near, far, round, back.", words)
-        self.assertIn("A lost node takes the circuits that end there, and no other.", words)
+        self.assertIn("Each circuit survives every single fibre or span: near, far, round, back.", words)
+        self.assertIn("With a lost node the circuits that end there are lost, and no other.", words)
         self.assertIn("88 of the 88 reports that were asked for came and agree with the restoration model.", words)
         failed = [row for row in rows if row["Kind"] == "pair" and row["Stage"] == "failed"]
         pairs = Counter(row["Failure"] for row in failed for name, *_ in CIRCUITS if row[name] == "lost")
         most = max(pairs.values())
-        self.assertIn(f"take {most} circuits: " + ", ".join(name for name in pairs if pairs[name] == most) + ".", words)
+        self.assertIn(f"The worst pairs , with {most} circuits lost: " + ", ".join(name for name in pairs if pairs[name] == most) + ".", words)
         self.check_page(rows)
         self.check_parts()
 
@@ -58,13 +58,13 @@ class Whatif(Asking):
         """The page's tables tell the same as the rows: customers, failures kind by kind, and the matrix."""
         page, failed = self.page(), [row for row in rows if row["Stage"] == "failed"]
         taken = {row["Failure"]: [name for name, *_ in CIRCUITS if row[name] == "lost"] for row in failed}
-        for row in page.table_with("failure", "customers that it takes"):
+        for row in page.table_with("failure", "customers that are lost"):
             names = taken[row["failure"].replace("\u2060", "")]
-            self.assertEqual(row["customers that it takes"], f"takes {len(names)}: {', '.join(names)}" if names else "takes none")
+            self.assertEqual(row["customers that are lost"], f"{len(names)} lost: {', '.join(names)}" if names else "none lost")
         for row in page.table_with("customer", "in short"):
             pairs = [r for r in failed if r["Kind"] == "pair" and r[row["customer"]] == "lost"]
-            self.assertTrue(row["pairs of spans that take it"].startswith(f"{len(pairs)} of 6"), row)
-            self.assertEqual((row["in short"], row["fibres and spans that take it"]), ("no fibre or span takes it", "none of 12"))
+            self.assertTrue(row["lost with pairs of spans"].startswith(f"{len(pairs)} of 6"), row)
+            self.assertEqual((row["in short"], row["lost with fibres and spans"]), ("survives each fibre and span", "none of 12"))
         signs = {"kept": "·", "lost": "✕", "over+0": "="}
         for row in page.table_with("failure", "near"):
             cells = next(r for r in failed if r["Failure"] == row["failure"].replace("\u2060", ""))
@@ -73,7 +73,7 @@ class Whatif(Asking):
         self.check_links(page)
 
     def check_filter(self, page, taken):
-        """What the filter reads: each failure once in its kind and once in the matrix, with the circuits that it takes."""
+        """What the filter reads: each failure once in its kind and once in the matrix, with the circuits that are lost in it."""
         found = Counter((row["data-words"], row["data-taken"]) for row in page.all("tr") if "data-words" in row)
         self.assertEqual(found, Counter({(words, " ".join(names)): 2 for words, names in taken.items()}))
         self.assertEqual(len(page.all("option")), 1 + len(CIRCUITS))

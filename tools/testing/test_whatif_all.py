@@ -278,6 +278,13 @@ class Beside(Asking):
         by_plan, words = self.rows("--works", "span 5-2", "--against", self.plan)
         by_table, _ = self.rows("--works", "span 5-2", "--against", self.top / "out" / "before.csv")
         self.assertEqual(by_plan, by_table)
+        tables = [self.top / "out" / name for name in ("all.csv", "before.csv")]
+        self.ask("--all", "--against", tables[1], "--dir", self.top / "out", plan=tables[0])
+        in_order = lambda rows: sorted(rows, key=lambda row: tuple(row.values()))
+        self.assertEqual(in_order(self.table("against.csv")), in_order(by_plan))
+        shown = lambda name: in_order(self.page(name).table_named("cases in which"))
+        self.assertEqual(shown("against.html"), shown("all.html"))
+        self.assertIn(b"is compared with another one", self.ask("--all", plan=tables[0], wanted=1).stderr)
         gains, loses = self.wanted("before.csv", "all.csv")
         found = lambda change: {(row["Failures"], row["Circuit"]) for row in by_plan if row["Change"] == change}
         there = [{row["Failures"] for row in self.table(name)} for name in ("before.csv", "all.csv")]

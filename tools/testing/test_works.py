@@ -67,7 +67,7 @@ class Works(Asking):
         return stages
 
     def second(self, works, kinds):
-        """What each second failure of these kinds takes besides what the works took, by the failure's name."""
+        """Who is lost in each second failure of these kinds besides those lost in the works, by the failure's name."""
         found = {}
         for name, cut in failures().items():
             if name.startswith(kinds):
@@ -79,12 +79,12 @@ class Works(Asking):
     def check_second(self, works, kinds=("fibre", "span", "node"), of_what="a fibre, a span or a node"):
         second, words = self.second(works, kinds), self.words()
         hurting = {name: taken for name, taken in second.items() if taken}
-        self.assertIn(f"{len(hurting)} of {len(second)} second failures of {of_what} during the works take a customer.", words)
+        self.assertIn(f"Customers are lost with {len(hurting)} of {len(second)} second failures of {of_what} during the works.", words)
         links = [found["href"] for found in self.page().all("a")]
         self.assertTrue(all(f"cases/{name}.html" in links for name in hurting))
         by_effect = Counter(", ".join(taken) for taken in hurting.values())
         for row in self.page().table_with("second failure"):
-            taken = row["customers that it takes"].split(": ")[1]
+            taken = row["customers that are lost"].split(": ")[1]
             self.assertEqual(len(row["second failure"].split(", ")), by_effect.pop(taken))
         self.assertFalse(by_effect)
 
