@@ -11,7 +11,7 @@ READABLE = {27, 28, 31}
 
 
 def enough(size):
-    """The limit with which every settle step of a ring of so many nodes answers."""
+    """The limit with which every settle step of a ring of this many nodes answers."""
     return 64 * size + 512
 
 
