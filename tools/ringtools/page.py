@@ -168,7 +168,7 @@ def tools():
 def outages_note(beside):
     """What `out` means on the page, and which text has it."""
     name, sum_ = beside
-    return f'<p class="note">{OUT} It is from <code>{escape(name)}</code>, whose checksum is <code>{sum_[:12]}</code>.</p>'
+    return f'<p class="note">{OUT} Outages are from <code>{escape(name)}</code>, whose checksum is <code>{sum_[:12]}</code>.</p>'
 
 
 def run_page(title, plan, report, looks, origin, beside=None):
