@@ -48,7 +48,7 @@ def sum_of(data):
 
 
 def read_build(text):
-    """The records of all programs that a BUILD tells of."""
+    """The records of all programs that a BUILD has."""
     told, records = {}, []
     for number, line in enumerate(text.splitlines(), 1):
         key, _, value = line.partition(" ")
@@ -76,7 +76,7 @@ def write_build(records):
 
 
 def builds_near(file):
-    """Where a BUILD may tell of a file: beside it, and of what is built, released or installed where these tools are."""
+    """Where a BUILD may name a file: beside it, and of what is built, released or installed where these tools are."""
     beside = [file.with_name("BUILD"), file.with_name(f"{file.name}.BUILD")]
     return [*beside, HOME / "dist" / "BUILD", HOME / "BUILD", *sorted((HOME / "out").glob("*.BUILD"))]
 

@@ -106,7 +106,7 @@ def matrix(desk):
             shade = 0 if lost == 0 else min(4, 1 + 4 * lost // most)
             cells.append(f'<span class="shade s{shade}" data-case="{" ".join(map(str, numbers))}">{lost}</span>')
         rows.append([unbroken(names[one]), *cells])
-    titles = ["span", *(unbroken(name) for name in names)]
+    titles = ["span", *(escape(name).replace("–", "–<wbr>") for name in names)]
     return table("Customers lost, spans by spans", titles, rows)
 
 

@@ -246,7 +246,7 @@ class Reading:
         return found
 
     def end(self, outcome):
-        """What stands behind the steps of a case."""
+        """What stands after the steps of a case."""
         if outcome not in self.ends:
             lost = "".join(f",{circuit.name}" for circuit, letter in zip(self.plan.circuits, outcome.results) if letter == LOST)
             self.ends[outcome] = "settle,{},{},{},{}{}".format(*outcome.counts, outcome.hops, lost)

@@ -89,7 +89,7 @@ def shard_of(cases, shard, shards):
 
 
 def held(plan, steps):
-    """The script as far as these steps, which tells what holds after them."""
+    """The script as far as these steps, with what holds after them."""
     script = Script(plan)
     for step in steps:
         script.apply(step)

@@ -98,10 +98,10 @@ def modules():
 
 
 def programs(places):
-    """The programs' files by name, and the BUILD that tells of all of them. `places` has the file of each."""
+    """The programs' files by name, and the BUILD that names all of them. `places` has the file of each."""
     records = [record_of(places[name]) for name in PROGRAMS]
     if None in records:
-        raise InstallProblem(f"no BUILD tells of {places[PROGRAMS[records.index(None)]]}")
+        raise InstallProblem(f"no BUILD names {places[PROGRAMS[records.index(None)]]}")
     return {name: Piece(places[name].read_bytes(), is_run=True) for name in PROGRAMS}, write_build(records)
 
 

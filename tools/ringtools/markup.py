@@ -13,8 +13,8 @@ COMPARED = (
     "these are compared with what the port is owed, the other 2333 are not."
 )
 HITLESS = (
-    "A report tells what holds once the ring is quiet. While a switch is made or cleared, and when what a switched span asks for changes, as by mending, "
-    "its customers lose bytes: no switch is hitless. <code>sdhoutage</code> tells for how many frames."
+    "A report shows what holds once the ring is quiet. While a switch is made or cleared, and when what a switched span asks for changes, as by mending, "
+    "its customers lose bytes: no switch is hitless. <code>sdhoutage</code> counts the frames."
 )
 
 

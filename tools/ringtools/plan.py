@@ -12,7 +12,7 @@ FEW = 16
 
 
 def enough(size):
-    """The limit with which every settle step of a ring of so many nodes answers."""
+    """The limit with which every settle step of a ring of this many nodes answers."""
     return 64 * size + 512
 
 

@@ -114,7 +114,7 @@ def compare():
     for name in PROGRAMS:
         record, file = records.get(name), DIST / name
         if record is None or not file.is_file() or sum_of(file.read_bytes()) != record.sum:
-            said.append(f"dist/{name}: isn't the program that dist/BUILD tells of")
+            said.append(f"dist/{name}: isn't the program that dist/BUILD names")
             differs = True
         elif record.sources != sources_of(name):
             said.append(f"dist/{name}: of release {record.version}, commit {record.commit[:12]}; the sources have changed since")
@@ -240,7 +240,7 @@ def debian_package(path, folder, moment):
 def pack_here(to, moment):
     """Both archives of the release that stands where this module is."""
     if {name for name, record in in_dist().items() if sum_of((DIST / name).read_bytes()) == record.sum} != set(PROGRAMS):
-        raise ReleaseProblem("dist/ doesn't have the programs that dist/BUILD tells of")
+        raise ReleaseProblem("dist/ doesn't have the programs that dist/BUILD names")
     to.mkdir(parents=True, exist_ok=True)
     paths = [to / f"sdhring-{version()}-{PLATFORM}.tar.xz"]
     tarball(paths[0], moment)

@@ -48,7 +48,7 @@ def run_here(store, names, jobs, progress):
 
 
 def kept_words(program):
-    """Shell words that write a case's answer as `Store` does. The sum of a program that is one file is taken where it ran."""
+    """Shell words that write a case's answer as `Store` does. The checksum of a program that is one file is taken where it ran."""
     file = file_of(program.words[0]) if len(program.words) == 1 else None
     sum_words = lambda path: f"$(sha256sum < {path} | cut -c1-64)"
     told = {key: shlex.quote(value) for key, value in program.lines().items()}

@@ -94,7 +94,7 @@ def switched(state, side):
 def applied_by_states(plan, nodes):
     """The spans that the nodes at both their ends switch away from."""
     if not nodes:
-        raise ReportProblem("the text tells no node states")
+        raise ReportProblem("the text has no node states")
     for span in range(plan.size):
         if switched(nodes[span].state, "east") != switched(nodes[(span + 1) % plan.size].state, "west"):
             raise ReportProblem(f"the nodes at span {plan.span_name(span)} don't agree whether it is switched")

@@ -22,7 +22,12 @@
       button.type = "button";
       button.className = "sort";
       button.append(...head.childNodes);
-      head.append(button);
+      // A browser prints a head again on each sheet, but no buttons in it.
+      const printed = document.createElement("span");
+      printed.className = "printed";
+      printed.setAttribute("aria-hidden", "true");
+      printed.textContent = button.textContent;
+      head.append(button, printed);
       button.addEventListener("click", () => sortBy(table, column, button));
     });
   };
