@@ -216,7 +216,7 @@ class Packed(Released):
         self.assertEqual(said.count("the same bytes as these sources build"), 6)
         file, data = self.top / "dist" / "sdhwatch", (self.top / "dist" / "sdhwatch").read_bytes()
         file.write_bytes(bytes([data[0] ^ 1]) + data[1:])
-        self.assertIn("dist/sdhwatch: isn't the program that dist/BUILD tells of", self.ended(self.release("check"), 1).stdout)
+        self.assertIn("dist/sdhwatch: isn't the program that dist/BUILD names", self.ended(self.release("check"), 1).stdout)
         file.write_bytes(data)
         path = self.top / "crates" / "sdhpath" / "out" / "sdhpath"
         path.write_bytes(path.read_bytes()[:-1] + b"#")
