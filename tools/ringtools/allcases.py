@@ -10,7 +10,7 @@ from .casepage import draw_cases
 from .checks import SETTLES
 from .desktable import WHOLE, ToldProblem, merged, read_cases
 from .files import FileProblem
-from .framed import asked_of, put_cases, run_cases, store_of
+from .framed import asked_of, machines_of, put_cases, run_cases, store_of
 from .origin import TELLER, CannotRun, Origin, find_program, sum_of
 from .required import BROKEN, NOT_ASKED, depth_for, line_of, not_asked, records
 from .running import processors, tell_with_parallel
@@ -33,7 +33,7 @@ def told_of(asked, subject, depth, part=WHOLE):
     try:
         if asked.sshlogin and part == WHOLE:
             begun, parts = time.monotonic(), PARTS[depth]
-            texts = tell_with_parallel(program, subject.document, depth, parts, asked.sshlogin, asked.jobs, shlex.split(asked.parallel))
+            texts = tell_with_parallel(program, subject.document, depth, parts, machines_of(asked))
             table = merged(plan, places, texts, depth, time.monotonic() - begun)
         else:
             table = read_cases(plan, places, program, subject.document, depth, part)

@@ -15,7 +15,7 @@ from .plan import read_plan
 from .progress import Progress, duration
 from .reasons import REASONS
 from .report import ReportProblem, read_report
-from .running import processors, run_here, run_with_parallel
+from .running import Machines, processors, run_here, run_with_parallel
 from .verdicts import SOURCE, UNSETTLED, judge, source_cells, write_table
 
 
@@ -27,6 +27,10 @@ def read_kinds(words, works):
     if unknown:
         raise Stop(f"--kinds {words}: `{unknown[0]}` is none of {', '.join(KINDS)}")
     return tuple(kinds)
+
+
+def machines_of(asked):
+    return Machines(tuple(asked.sshlogin), asked.jobs, tuple(shlex.split(asked.parallel)))
 
 
 def store_of(asked, subject):
@@ -101,7 +105,7 @@ def run_cases(asked, store, beforehand, cases):
     progress = Progress(len(cases), len(cases) - len(left), *pace)
     progress.tell(progress.done, last=True)
     if left and asked.sshlogin:
-        run_with_parallel(store, left, asked.sshlogin, asked.jobs, shlex.split(asked.parallel), progress)
+        run_with_parallel(store, left, machines_of(asked), progress)
     elif left:
         run_here(store, left, jobs, progress)
     if left:

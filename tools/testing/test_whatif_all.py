@@ -3,6 +3,7 @@
 import json
 import re
 import shutil
+import subprocess
 import sys
 import tomllib
 import unittest
@@ -15,6 +16,7 @@ from ringtools.origin import sum_of
 
 MODEL = TOOLS.parent / "bench" / "whatif" / "model.py"
 TELLER = f"{sys.executable} {MODEL}"
+SDHPATH = TOOLS.parent / "dist" / "sdhpath"
 
 
 def labels(name):
@@ -112,6 +114,24 @@ class All(Asking):
                 self.assertEqual((lines[label]["Path lost circuits"].split(), int(lines[label]["Path lost"])), (lost, len(lost)), label)
         self.assertEqual(lines["degraded 5>2; forced 9>4"]["Path lost"], "0")
         self.assertIn("room for 2 circuits in all, and these are 4: each is taken as if it were one of them", self.words())
+
+    @unittest.skipUnless(SDHPATH.is_file(), "dist/ has no programs")
+    def test_a_path_ring_is_that_of_sdhpath(self):
+        """Who is lost in it is who has AIS at a port in a report of the proved program."""
+        self.plan.write_text(document([("near", 5, 2, 1), ("far", 2, 4, 2)]))
+        self.tell("--frames", "0")
+        lines, script, found = self.lines(), [], failures()
+        for cut in found.values():
+            places = [f"{IDS[span]} east" if side == "east" else f"{IDS[(span + 1) % 4]} west" for span, side in cut]
+            script += [*(f"cut {place}" for place in places), "settle", *(f"mend {place}" for place in places)]
+        plan = self.plan.read_text().replace('script = ["settle"]', "script = " + json.dumps([*script, "settle"]))
+        ended = subprocess.run([SDHPATH, "run"], input=plan.encode(), capture_output=True)
+        self.assertEqual(ended.returncode, 0, ended.stdout[-80:])
+        reports = ended.stdout.decode().split("settle ")[1:]
+        for name, report in zip(found, reports):
+            lost = list(dict.fromkeys(line.split()[1] for line in report.splitlines() if line.endswith(" ais")))
+            for label in labels(name):
+                self.assertEqual(lines[label]["Path lost circuits"].split(), lost, label)
 
     def test_each_three_and_in_parts(self):
         self.plan.write_text(document([("p", 5, 2, 1)]).replace("nodes = [5, 2, 9, 4]", "nodes = [5, 2]"))
