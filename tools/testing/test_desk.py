@@ -3,9 +3,11 @@
 import base64
 import hashlib
 import json
+import random
 import re
 import sys
 import tempfile
+import tomllib
 import unittest
 import zlib
 from functools import cache
@@ -19,7 +21,7 @@ from pages import BROWSER, PRINTS, Seen, browsed, printed
 from ringtools.deskdrawing import DeskDrawing
 from ringtools.deskindex import index_page
 from ringtools.deskpage import Desk, data_of, key_of
-from ringtools.desktable import ToldProblem, merged, read_cases, tell
+from ringtools.desktable import Reading, ToldProblem, merged, read_cases, tell
 from ringtools.origin import Program
 from ringtools.places import Places
 from ringtools.plan import read_plan
@@ -139,6 +141,21 @@ class Cases(unittest.TestCase):
                 keys = sorted(key_of(numbers, count) for numbers in table.cases if len(numbers) < 3)
                 self.assertEqual(len(set(keys)), len(keys))
                 self.assertLessEqual(keys[-1], count * (count + 1) // 2)
+
+    def test_tables_after_scripts_drawn_by_chance_are_read(self):
+        """The model that fills in what a table leaves out agrees with each line of the plain model, whatever the script left."""
+        sys.path.insert(0, str(MODEL.parent))
+        plain, drawing = run_path(str(MODEL)), run_path(str(MODEL.with_name("compare")))
+        for seed in range(25):
+            chance = random.Random(seed)
+            nodes = chance.sample(range(16), chance.choice((2, 3, 4, 5)))
+            script = drawing["script_of"](chance, nodes, 3)
+            text = drawing["document"](4, nodes, 3, drawing["circuits_of"](chance, len(nodes), 2), script)
+            depth = "double" if len(nodes) < 4 else "single"
+            table = plain["table"](plain["ring_of"](tomllib.loads(text)), plain["DEPTHS"][depth], 1, 1)
+            plan = read_plan(text.encode())
+            with self.subTest(seed=seed):
+                self.assertEqual(len(Reading(plan, Places()).cases([table.encode()], depth)), table.count("settle"))
 
     def test_parts_together_are_the_whole(self):
         document = (RINGS / "two-nodes.toml").read_bytes()
