@@ -25,13 +25,13 @@ _sdhring_tools() {
   local words word=${COMP_WORDS[COMP_CWORD]}
   case ${COMP_WORDS[0]##*/} in
     rows) words='--dir --jobs --list --help' ;;
-    sdhring-explain) words='--first --status --name --help' ;;
-    sdhring-report) words='--json --csv --nodes --plan --help' ;;
-    sdhring-plan) words='new import --nodes --rate --threshold --wait --limit --steps --to --help' ;;
-    sdhring-availability) words='--nodes --groups --cuts-per-1000-km --without-script --csv --json --causes --help' ;;
-    sdhring-desk) words='--to --title --spans --nodes --groups --cuts-per-1000-km --teller --help' ;;
-    sdhring-view) words='--svg --outages --program --help' ;;
-    sdhring-whatif) words='--also --works --kinds --dir --program --jobs --shard --sshlogin --parallel --all --frames --teller --anew --help' ;;
+    sdhring-explain) words='--first --status --name --version --help' ;;
+    sdhring-report) words='--json --csv --nodes --plan --version --help' ;;
+    sdhring-plan) words='new import --nodes --rate --threshold --wait --limit --steps --to --version --help' ;;
+    sdhring-availability) words='--nodes --groups --cuts-per-1000-km --without-script --csv --json --causes --version --help' ;;
+    sdhring-desk) words='--to --title --depth --spans --nodes --groups --cuts-per-1000-km --teller --version --help' ;;
+    sdhring-view) words='--to --svg --outages --program --version --help' ;;
+    sdhring-whatif) words='--also --works --title --without-script --kinds --dir --program --jobs --shard --sshlogin --parallel --all --depth --frames --against --require --teller --counter --anew --version --help' ;;
   esac
   mapfile -t COMPREPLY < <(compgen -W "$words" -- "$word")
   [ "${#COMPREPLY[@]}" -ne 0 ] || compopt -o default

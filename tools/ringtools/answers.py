@@ -1,4 +1,4 @@
-"""What the answers about all cases come to: who is taken by what, and the same in words."""
+"""What the answers about all cases come to: who is lost in which failures, and the same in words."""
 
 from html import escape
 
@@ -39,18 +39,22 @@ class Answers:
         found = ((verdict, verdict.stage("failed")) for verdict in self.of_kinds(kinds))
         return [(verdict, stage) for verdict, stage in found if stage is not None]
 
+    def customers(self, found):
+        """Circuits by the names that their customers know."""
+        return names(map(self.plan.places.circuit, found))
+
     def lost_before(self):
         """Circuits that are lost before anything fails."""
         stages = [stage for stage in (verdict.stage("before") for verdict in self.verdicts) if stage is not None]
         return stages[0].all_of("lost") if stages else []
 
     def taken(self, verdict):
-        """Circuits that this failure takes, besides those that were lost before it."""
+        """Circuits that are lost in this failure, besides those that were lost before it."""
         stage, before = verdict.stage("failed"), set(self.lost_before())
         return [name for name in stage.all_of("lost") if name not in before] if stage else []
 
     def takers(self, kinds):
-        """For each circuit that isn't lost before the verdicts on failures of these kinds that take it."""
+        """For each circuit that isn't lost before, the verdicts on failures of these kinds in which it is."""
         before = set(self.lost_before())
         result = {name: [] for name in self.circuits if name not in before}
         for verdict, _ in self.failed(kinds):
@@ -62,13 +66,17 @@ class Answers:
         part = f", part {self.shard} of the whole" if self.shard else ""
         each = names(count_of(len(self.of_kinds((kind,))), KIND_WORDS[kind], KIND_PLURALS[kind]) for kind in self.kinds)
         yield f"{count_of(len(self.verdicts), 'failure')} of a ring with {count_of(len(self.circuits), 'circuit')} were run{part}: {each}. {NOT_ASKED}"
-        if any(step.word != "settle" for step in self.plan.steps):
-            yield "The plan's own script is left aside: <code>--also</code> sets steps before each failure, and <code>--all</code> asks about the ring as the script leaves it."
-        if self.beforehand.steps:
-            yield "Before each: " + ", ".join(f"<code>{escape(text)}</code>" for text in self.beforehand.texts()) + "."
+        codes = lambda texts: ", ".join(f"<code>{escape(text)}</code>" for text in texts)
+        if self.beforehand.own_texts():
+            yield f"After the plan's own script: {codes(self.beforehand.own_texts())}."
+        if self.beforehand.left_out:
+            yield f"The plan's own script is left out, as <code>--without-script</code> asks: {codes(self.beforehand.left_out)}."
+        more = self.beforehand.also_texts() + self.beforehand.works_texts()
+        if more:
+            yield f"Before each: {codes(more)}."
         before = self.lost_before()
         if before:
-            yield f"Lost before anything fails: {escape(names(before))}."
+            yield f"Lost before anything fails: {escape(self.customers(before))}."
 
     def words_on_ends(self):
         unsettled = [verdict for verdict in self.all if verdict.unsettled]
@@ -85,13 +93,14 @@ class Answers:
         takers, single = self.takers(SINGLE), " or ".join(kind for kind in SINGLE if kind in self.kinds)
         safe, taken = [name for name in takers if not takers[name]], [name for name in takers if takers[name]]
         if not taken:
-            yield f"<strong>No single {single} takes</strong> any of these circuits: {escape(names(safe))}."
+            yield f"<strong>Each circuit survives</strong> every single {single}: {escape(self.customers(safe))}."
             return
         if safe:
-            yield f"<strong>No single {single} takes</strong> {count_of(len(safe), 'circuit')} of {len(takers)}: {escape(names(safe))}."
+            yield f"<strong>{len(safe)} of {count_of(len(takers), 'circuit')} survive</strong> every single {single}: {escape(self.customers(safe))}."
         few = len(taken) <= FEW
-        each = (f"{name} ({names((verdict.case.words for verdict in takers[name]), 4)})" if few else name for name in taken)
-        yield f"<strong>A single {single} takes</strong> {count_of(len(taken), 'circuit')}: {escape(names(each))}."
+        called = self.plan.places.circuit
+        each = (f"{called(name)} ({names((verdict.case.words for verdict in takers[name]), 4)})" if few else called(name) for name in taken)
+        yield f"<strong>Lost</strong> with some single {single}: {count_of(len(taken), 'circuit')}: {escape(names(each))}."
 
     def ends_at(self, case):
         """Circuits that end at the node which is lost."""
@@ -99,17 +108,17 @@ class Answers:
         return {circuit.name for circuit in self.plan.circuits if at in (circuit.start, circuit.end)}
 
     def besides_ends(self, verdict):
-        """Circuits that a lost node takes and that don't end there."""
+        """Circuits that are lost with a node and don't end there."""
         return [name for name in self.taken(verdict) if name not in self.ends_at(verdict.case)]
 
     def words_on_nodes(self):
         failed = self.failed(("node",))
         beyond = {verdict.case.words: self.besides_ends(verdict) for verdict, _ in failed if self.besides_ends(verdict)}
         if beyond:
-            each = "; ".join(f"{words}: {names(more)}" for words, more in beyond.items())
-            yield f"<strong>A lost node takes</strong> the circuits that end there, and besides: {escape(each)}."
+            each = "; ".join(f"{words}: {self.customers(more)}" for words, more in beyond.items())
+            yield f"<strong>With a lost node</strong> the circuits that end there are lost, and besides: {escape(each)}."
         elif failed:
-            yield "<strong>A lost node takes</strong> the circuits that end there, and no other."
+            yield "<strong>With a lost node</strong> the circuits that end there are lost, and no other."
 
     def words_on_pairs(self):
         failed = self.failed(("pair",))
@@ -118,12 +127,12 @@ class Answers:
         takers = self.takers(("pair",))
         safe = [name for name in takers if not takers[name]]
         taking = [(len(self.taken(verdict)), verdict.case.words) for verdict, _ in failed if self.taken(verdict)]
-        spared = f" No pair takes {escape(names(safe))}." if safe else ""
-        yield f"{len(taking)} of {count_of(len(failed), 'pair')} of spans take at least one circuit.{spared}"
+        spared = f" Survive every pair: {escape(self.customers(safe))}." if safe else ""
+        yield f"At least one circuit is lost in {len(taking)} of {count_of(len(failed), 'pair')} of spans.{spared}"
         if taking:
             most = max(count for count, _ in taking)
             worst = [words for count, words in taking if count == most]
-            yield f"<strong>The pairs that take most</strong> take {count_of(most, 'circuit')}: {escape(names(worst, 12))}."
+            yield f"<strong>The worst pairs</strong>, with {count_of(most, 'circuit')} lost: {escape(names(worst, 12))}."
 
     def words_on_model(self):
         differ = [verdict for verdict in self.all if verdict.differs]
@@ -144,7 +153,7 @@ class Answers:
         return [sentence for part in parts for sentence in part]
 
     def sorted_of(self, kinds):
-        """What isn't Ok first, then the failures that take most."""
+        """What isn't Ok first, then the failures in which most are lost."""
         def key(verdict):
             stage = verdict.stage("failed")
             return (verdict.ok, -len(self.taken(verdict)) - stage.count("odd"), -stage.count("over")) if stage else (False, 0, 0)

@@ -38,12 +38,17 @@ class Record:
         return f"{self.name} {self.version}, commit {self.commit[:12]}{self.commit[40:]}, sources {self.sources[:12]}"
 
 
+def version():
+    """The release's version, which stands in one file wherever the tools are."""
+    return (HOME / "VERSION").read_text(encoding="ascii").strip()
+
+
 def sum_of(data):
     return hashlib.sha256(data).hexdigest()
 
 
 def read_build(text):
-    """The records of all programs that a BUILD tells of."""
+    """The records of all programs that a BUILD has."""
     told, records = {}, []
     for number, line in enumerate(text.splitlines(), 1):
         key, _, value = line.partition(" ")
@@ -69,8 +74,9 @@ def write_build(records):
         before = head
     return "\n".join(lines) + "\n"
 
+
 def builds_near(file):
-    """Where a BUILD may tell of a file: beside it, and of what is built, released or installed where these tools are."""
+    """Where a BUILD may name a file: beside it, and of what is built, released or installed where these tools are."""
     beside = [file.with_name("BUILD"), file.with_name(f"{file.name}.BUILD")]
     return [*beside, HOME / "dist" / "BUILD", HOME / "BUILD", *sorted((HOME / "out").glob("*.BUILD"))]
 

@@ -8,8 +8,9 @@ from html import escape
 
 from .answers import Answers
 from .casetables import CaseTables
+from .failures import WORKS_STAGES
 from .look import looks
-from .markup import count_of, listing, warning, whole
+from .markup import count_of, listing, origin_list, warning, whole
 from .model import scenes
 from .origin import Origin
 from .page import in_short, run_page, source, tools
@@ -26,6 +27,12 @@ class Asked:
     beforehand: object
     store: object
     shard: str = ""
+    title: str = ""  # the heading that was asked for, such as an order's number and time
+    interruptions: object = None  # what sdhoutage counts of the works
+
+    def heading(self):
+        """The title, with the plan below it; or the plan."""
+        return (self.title, f"<p>Plan <code>{escape(self.plan)}</code></p>") if self.title else (f"What if: {self.plan}", "")
 
     def origin(self, answers):
         dates = tuple(answer.date for answer in answers if answer is not None)
@@ -37,16 +44,19 @@ def answers_page(asked, verdicts):
     tables, plan = CaseTables(answers), answers.plan
     about = f"STM-{plan.rate}, {plan.size} nodes, {count_of(len(plan.circuits), 'circuit')}, wait {plan.wait}, limit {plan.limit}. "
     about += "Each failure settles, is mended, settles, and settles once more when every wait is over."
-    parts = [f"<h1>What if: {escape(asked.plan)}</h1>", warning(origin)]
+    title, below = asked.heading()
+    counted = asked.interruptions and asked.interruptions.origin(asked.plan, asked.plan_sum)
+    parts = [f"<h1>{escape(title)}</h1>", below, *dict.fromkeys(warning(each) for each in (origin, counted) if each)]
     if asked.beforehand.works:
-        parts += [Works(answers).section(), "<section><h2>All failures during the works</h2>"]
+        parts += [Works(answers, asked.interruptions).section(), "<section><h2>All failures during the works</h2>"]
     parts += [listing(answers.words()), f"<p>{about}</p>", in_short(origin), tools(), "</section>" if asked.beforehand.works else ""]
     if plan.circuits:
         parts.append(f'<section id="customers"><h2>Customers: {tables.headline()}</h2>{tables.customers()}</section>')
     parts.append(f'<section id="failures"><h2>Failures</h2>{tables.failures()}</section>')
     if plan.circuits:
         parts.append(f'<section id="matrix"><h2>Each customer in each failure</h2>{tables.matrix()}</section>')
-    return whole(f"What if: {asked.plan}", "\n".join([*parts, source(origin)]), ["whatif.css"], ["whatif.js"])
+    parts += [source(origin), f"<section><h2>Where the interruptions come from</h2>{origin_list(counted)}</section>" if counted else ""]
+    return whole(title, "\n".join(parts), ["whatif.css"], ["whatif.js"])
 
 
 def draw_case(asked, case):
@@ -56,10 +66,13 @@ def draw_case(asked, case):
         report = read_report(store.text(case.name), plan)
     except ReportProblem:
         return
+    beside = asked.interruptions.put_beside(report.settled) if asked.interruptions and case.kind == "works" else None
     seen = looks(plan, scenes(plan, [step.round for step in report.settled]), report.settled)
-    shown = [look for look in seen if case.kind == "works" or case.stages[look.scene.number - 1] == "failed"] or seen
+    drawn = WORKS_STAGES if case.kind == "works" else ("failed",)
+    shown = [look for look in seen if case.stages[look.scene.number - 1] in drawn] or seen[-1:]
     origin = Origin(store.program, f"{case.name}.toml", store.answer(case.name).plan, (store.answer(case.name).date,))
-    store.path(case.name, "html").write_text(run_page(f"{asked.plan}: {case.words}", plan, report, shown, origin), encoding="utf-8")
+    title = f"{asked.title or asked.plan}: {case.words}"
+    store.path(case.name, "html").write_text(run_page(title, plan, report, shown, origin, beside), encoding="utf-8")
 
 
 def draw_cases(asked, cases, jobs):

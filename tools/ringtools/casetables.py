@@ -8,12 +8,12 @@ from .markup import folded, heads, unbroken
 
 COLUMNS = 40  # customers side by side: so many fit a printed page
 KEY = (
-    '<p class="key"><span class="kept">·</span>kept on its own arc <span class="over">+4</span>kept over protection, with so many spans more than its own arc '
+    '<p class="key"><span class="kept">·</span>kept on its own arc <span class="over">+4</span>kept over protection, with this number of spans more than its own arc '
     '(with a minus, fewer; <span class="over">=</span>as many) <span class="lost">✕</span>lost <span class="odd">?</span>neither: see its text</p>'
 )
 FILTER = """<form class="filter tools" hidden><label>Failure <input type="search" name="words" placeholder="such as 2–3"></label>
 <label>Customer <select name="customer"><option value="">any</option>{options}</select></label>
-<label><input type="checkbox" name="taking"> only what takes a customer</label> <output aria-live="polite"></output></form>"""
+<label><input type="checkbox" name="taking"> only where a customer is lost</label> <output aria-live="polite"></output></form>"""
 
 
 def link(verdict):
@@ -27,7 +27,7 @@ def links(verdicts):
 
 
 def taken_by(verdicts, asked):
-    """How many of so many failures take a customer, and which; folded where they are many."""
+    """In how many of the failures that were asked about a customer is lost, and in which; folded where they are many."""
     if verdicts is None:
         return "–"
     if not verdicts:
@@ -36,8 +36,8 @@ def taken_by(verdicts, asked):
     return f"{count}: {links(verdicts)}" if len(verdicts) <= 2 else folded(count, links(verdicts))
 
 
-def takes(taken):
-    return f'<strong class="result-lost">takes {len(taken)}</strong>: {escape(", ".join(taken))}'
+def takes(answers, taken):
+    return f'<strong class="result-lost">{len(taken)} lost</strong>: {escape(answers.customers(taken))}'
 
 
 class CaseTables:
@@ -55,16 +55,16 @@ class CaseTables:
             return "lost", "lost before anything fails"
         if not self.answers.failed(SINGLE):
             return "kept", "no fibre or span was asked"
-        return ("lost", "a fibre or span takes it") if singles[name] else ("kept", "no fibre or span takes it")
+        return ("lost", "lost with a fibre or span") if singles[name] else ("kept", "survives each fibre and span")
 
     def columns(self):
-        """What takes a customer, by title: the verdicts for each customer, and how many were asked; only of kinds that were asked."""
+        """In what a customer is lost, by title: the verdicts for each customer, and how many were asked; only of kinds that were asked."""
         answers = self.answers
         nodes = {name: [verdict for verdict in found if name not in answers.ends_at(verdict.case)] for name, found in answers.takers(("node",)).items()}
         columns = {
-            "fibres and spans that take it": (answers.takers(SINGLE), len(answers.failed(SINGLE))),
-            "nodes besides its ends": (nodes, max(0, len(answers.failed(("node",))) - 2)),
-            "pairs of spans that take it": (answers.takers(("pair",)), len(answers.failed(("pair",)))),
+            "lost with fibres and spans": (answers.takers(SINGLE), len(answers.failed(SINGLE))),
+            "lost with nodes besides its ends": (nodes, max(0, len(answers.failed(("node",))) - 2)),
+            "lost with pairs of spans": (answers.takers(("pair",)), len(answers.failed(("pair",)))),
         }
         return {title: column for title, column in columns.items() if column[1]}
 
@@ -101,8 +101,8 @@ class CaseTables:
         if stage is None:
             return f'{head}<td colspan="5">{note}</td></tr>'
         odd = stage.all_of("odd")
-        words = [takes(taken)] if taken else [] if odd else ["takes none"]
-        words += [f"odd: {escape(', '.join(odd))}"] if odd else []
+        words = [takes(self.answers, taken)] if taken else [] if odd else ["none lost"]
+        words += [f"odd: {escape(self.answers.customers(odd))}"] if odd else []
         kind = "odd" if odd else "kept"
         later = f'<td colspan="2">{note}</td>' if note else "".join(f"<td>{self.later_cell(verdict, name)}</td>" for name in ("mended", "waited"))
         return f'{head}<td class="result-{kind}">{"; ".join(words)}</td><td>{stage.count("over")}</td><td>{stage.count("kept")}</td>{later}</tr>'
@@ -110,14 +110,15 @@ class CaseTables:
     def group(self, kind):
         verdicts = self.answers.sorted_of((kind,))
         taking = sum(bool(self.answers.taken(verdict)) for verdict in verdicts)
-        titles = ["failure", "customers that it takes", "over protection", "on their own arc", "mended", "after waiting"]
+        titles = ["failure", "customers that are lost", "over protection", "on their own arc", "mended", "after waiting"]
         rows = "\n".join(map(self.failure_row, verdicts))
-        summary = f"{KIND_PLURALS[kind].capitalize()}: {taking} of {len(verdicts)} take a customer"
+        summary = f"{KIND_PLURALS[kind].capitalize()}: customers are lost in {taking} of {len(verdicts)}"
         table = f'<table class="failures"><thead>{heads(titles)}</thead><tbody>\n{rows}</tbody></table>'
         return folded(summary, f'<div class="wide">{table}</div>', open=True)
 
     def filter(self):
-        return FILTER.format(options="".join(f"<option>{escape(name)}</option>" for name in self.answers.circuits))
+        option = lambda circuit: f'<option value="{escape(circuit.name)}">{escape(self.plan.circuit_name(circuit))}</option>'
+        return FILTER.format(options="".join(map(option, self.plan.circuits)))
 
     def failures(self):
         return self.filter() + "".join(map(self.group, self.answers.kinds))
@@ -143,7 +144,7 @@ class CaseTables:
         return KEY + "\n".join(map(self.matrix_group, range(0, len(self.answers.circuits), COLUMNS)))
 
     def headline(self):
-        """How many customers a fibre or a span alone takes."""
+        """How many customers are lost with a fibre or a span alone."""
         singles = self.answers.takers(SINGLE)
         taken = sum(bool(takers) for takers in singles.values())
-        return f"a fibre or span alone takes {taken} of {len(self.answers.circuits)}" if self.answers.failed(SINGLE) else "no fibre or span alone was asked"
+        return f"{taken} of {len(self.answers.circuits)} are lost with some fibre or span alone" if self.answers.failed(SINGLE) else "no fibre or span alone was asked"

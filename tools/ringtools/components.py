@@ -44,8 +44,7 @@ class Finder:
 
     def __init__(self, plan, places):
         self.plan, self.places = plan, places
-        self.nodes = {str(number): at for at, number in enumerate(plan.ids)}
-        self.nodes |= {places.nodes[number].casefold(): at for at, number in enumerate(plan.ids) if number in places.nodes}
+        self.nodes = places.positions(plan.ids)
         self.members = {}
         for one, here in self.nodes.items():
             self.members[f"node {one}"] = self.node_fibres(here)

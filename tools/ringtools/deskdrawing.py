@@ -1,10 +1,13 @@
-"""The ring of a desk page: what can be made to fail is a button, and each circuit lies on its own arc."""
+"""The ring of a desk page: what can be made to fail or switched is a button, and each circuit lies on its own arc."""
 
 import math
 import xml.etree.ElementTree as ElementTree
 
 from .drawing import NODE, Measures, add, anchor, arc_path, point
 from .model import arc
+from .plan import SIDES
+
+SWITCH = 12  # how wide and how far from its node's edge a switch is drawn
 
 
 class DeskDrawing:
@@ -16,7 +19,7 @@ class DeskDrawing:
         wide, high = self.m.wide + 60, self.m.high + 30
         box = f"{-wide / 2:.0f} {-high / 2:.0f} {wide:.0f} {high:.0f}"
         self.root = ElementTree.Element("svg", {"id": "ring", "viewBox": box, "role": "group", "aria-label": "the ring"})
-        self.root.set("style", f"max-width: {wide:.0f}px")
+        self.root.set("style", f"--whole: {wide:.0f}px")
 
     def draw(self):
         for span in range(self.plan.size):
@@ -27,6 +30,8 @@ class DeskDrawing:
             self.draw_circuit(number, circuit)
         add(self.root, "path", id="way", d="")
         for at in range(self.plan.size):
+            for side in SIDES:
+                self.draw_switch(at, side)
             self.draw_node(at)
         return ElementTree.tostring(self.root, encoding="unicode")
 
@@ -37,7 +42,7 @@ class DeskDrawing:
     def draw_fibre(self, at, side, radius):
         """A fibre by the position and the side that it leaves; as drawn it is the span's outer or inner line."""
         span = self.plan.span(at, side)
-        clear = (NODE + 4) / self.m.ring
+        clear = (NODE + SWITCH + 4) / self.m.ring
         path = arc_path(radius, self.m.angle(span) + clear, self.m.angle(span) + self.m.step - clear)
         item = self.button("fibre", data_fibre=f"{at} {side}")
         add(item, "title", self.failures[self.numbers["fibre", at, side]].name.removesuffix(" cut"))
@@ -51,6 +56,16 @@ class DeskDrawing:
         add(item, "title", self.failures[number].name)
         add(item, "rect", x=x - 23, y=y - 10, width=46, height=20, rx=10)
         add(item, "text", "{}–{}".format(*self.plan.ends(span)), x=x, y=y + 4, text_anchor="middle")
+
+    def draw_switch(self, at, side):
+        """The switch of a side: a small square on the span, beside its node; a letter in it says what it was given."""
+        way = 1 if side == "east" else -1
+        x, y = point(self.m.ring, self.m.angle(at) + way * (NODE + SWITCH / 2 + 1) / self.m.ring)
+        item = self.button("switch", data_switch=f"{at} {side}")
+        add(item, "title", self.failures[self.numbers["manual", at, side]].name.removeprefix("manual "))
+        add(item, "rect", class_="hit", x=x - SWITCH, y=y - SWITCH, width=2 * SWITCH, height=2 * SWITCH)
+        add(item, "rect", x=x - SWITCH / 2, y=y - SWITCH / 2, width=SWITCH, height=SWITCH, rx=2)
+        add(item, "text", class_="given", x=x, y=y + 4, text_anchor="middle")
 
     def draw_node(self, at):
         number, angle = self.numbers["node", at, ""], self.m.angle(at)

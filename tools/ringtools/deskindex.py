@@ -1,15 +1,15 @@
-"""The index of the desk pages of many rings: a line for each, with what single failures and pairs of spans lose."""
+"""The index of the desk pages of many rings: a line for each, with how many are lost with single failures and with pairs of spans."""
 
 from html import escape
-from itertools import combinations
 from urllib.parse import quote
 
 from .availability import Seen
 from .availabilitytable import minutes_words, nines_words
-from .markup import moment_words, table, whole
+from .desktable import LOST
+from .markup import listing, moment_words, table, whole
 from .origin import now
 
-HEADS = ["ring", "nodes", "customers", "lost by a fibre", "by a span", "by a node", "by two spans", "pairs of spans that lose some", "least available", "min/year", "nines"]
+HEADS = ["ring", "nodes", "customers", "lost with a fibre", "with a span", "with a node", "of these besides its ends", "with two spans", "pairs of spans with some lost", "least available", "min/year", "nines"]
 
 
 def most(cases):
@@ -26,14 +26,27 @@ def least_available(desk):
 
 
 def index_row(name, file, desk):
-    pairs = [desk.pair(*two) for two in combinations(range(desk.plan.size), 2)]
+    pairs = desk.pairs()
     some = sum(case.lost > 0 for case in pairs)
-    counts = [most(desk.singles(kind)) for kind in ("fibre", "span", "node")] + [most(pairs), f"{some} of {len(pairs)}"]
+    besides = max((besides_ends(desk, case).count(LOST) for case in desk.singles("node")), default=0)
+    counts = [most(desk.singles("fibre")), most(desk.singles("span")), most(desk.singles("node")), besides, most(pairs), f"{some} of {len(pairs)}"]
     return [f'<a href="{quote(file)}">{escape(name)}</a>', desk.plan.size, len(desk.plan.circuits), *counts, *least_available(desk)]
 
 
-def index_page(rows):
-    """The page of these rows."""
-    words = "<p>The most customers that one failure of a kind loses, and two cut spans. Each ring leads to its page, which says where its numbers come from.</p>"
+def besides_ends(desk, case):
+    """What becomes of the customers that don't end at the lost node."""
+    at = desk.table.failures[case.failures[0]].at
+    return [result for circuit, result in zip(desk.plan.circuits, case.results) if at not in (circuit.start, circuit.end)]
+
+
+def index_page(rows, problems=()):
+    """The page of these rows, and of the rings that have no page, each with what is wrong."""
+    words = (
+        "<p>The most customers that are lost with one failure of a kind, and with two cut spans. "
+        "Each ring leads to its page, which describes where its numbers come from.</p>"
+    )
+    missing = listing(f'<strong class="result-lost">{escape(name)}</strong> has no page: {escape(problem)}' for name, problem in problems)
+    filter_line = '<p class="tools" hidden><label>Only rings with <input id="filter" type="search"></label></p>'
     made = f'<p class="note">Written {moment_words(now())}.</p>'
-    return whole("Rings", "\n".join(["<h1>Rings</h1>", words, table("Rings", HEADS, rows), made]))
+    parts = ["<h1>Rings</h1>", words, missing if problems else "", f'<section id="rings">{filter_line}{table("Rings", HEADS, rows)}</section>', made]
+    return whole("Rings", "\n".join(parts), ["desk.css"], ["tables.js"])

@@ -1,43 +1,54 @@
 """The page of a plan to look at and to sign: what fails, what becomes of each customer, and how available each one is."""
 
+import base64
 import json
+import sys
+import zlib
+from array import array
 from html import escape
 from itertools import combinations
 
 from .availability import PROTECTIONS, Seen
 from .availabilitytable import minutes_words, nines_words
 from .deskdrawing import DeskDrawing
+from .desktable import DEPTHS as TABLE_DEPTHS
 from .desktable import LOST, OVER
-from .markup import count_of, folded, listing, names, origin_list, table, unbroken, warning, whole
+from .markup import count_of, folded, heads, listing, names, origin_list, table, unbroken, warning, whole
+from .pathrings import PathRing
 
 WORST = 10
-SOURCES = (
-    "The browser looks cases up, and computes no verdict. The program's table has the number of customers that are kept, over protection and lost, "
-    "and names those that are lost. Which of the others are kept, and which spans are applied, comes from the restoration model of these tools; "
-    "in each case its numbers and names had to be the table's. Availability is computed by these tools."
-)
 BREAKS = ("span", "node", "fibre", "degraded")  # failures; the other kinds are operators' switches
+DEPTHS = {1: "one failure", 2: "up to two failures", 3: "up to three failures"}
 TITLES = {"degraded": "fibres degraded", "fibre": "fibres cut", "span": "spans cut", "node": "nodes lost", "manual": "manual switches", "forced": "forced switches"}
+FROM_TABLE = (
+    "Numbers and names of lost customers are those of the table of <code>sdhwhatif</code>. Which of the others are kept and which go over protection, which spans are "
+    "applied, and the longest way come from the restoration model of these tools; each line of the table had to be the model's."
+)
+FROM_PATHS = "The path ring is computed by these tools, by the rule of path protection: a customer is lost where one of its ports has neither way."
+FROM_RATES = "Minutes and nines are computed by these tools from the tables of rates and repair times, which are named at the end; without the time of switches."
+SEE_ORIGIN = 'Customers that are lost: from the table of <code>sdhwhatif</code>; all else <a href="#origin">as described at the end</a>.'
+LOOKED_UP = "The browser looks cases up in what the page carries, and computes no verdict."
+SIGNED = "".join(f"<tr><th scope=\"row\">{who}</th><td></td><td></td></tr>" for who in ("prepared by", "checked by", "approved by"))
 
 
 class Desk:
-    """A plan with its table of cases, and perhaps its components and what its script leaves."""
+    """A plan with its table of cases, and perhaps its components and what its script leaves. `tables` are the files of rates, with their checksums."""
 
-    def __init__(self, plan, places, table, components=None, left=None):
+    def __init__(self, plan, places, table, components=None, left=None, tables=()):
         self.plan, self.places, self.table = plan, places, table
-        self.components, self.left = components, left
+        self.components, self.left, self.tables = components, left, tables
         self.called = [places.circuit(circuit.name) for circuit in plan.circuits]
+        self.path = PathRing(plan, table.failures)
 
-    def words(self, case):
-        return " and ".join(self.table.failures[number].name for number in case.failures) or "nothing"
+    @property
+    def depth(self):
+        return TABLE_DEPTHS[self.table.depth]
 
     def lost(self, case):
         return [name for name, letter in zip(self.called, case.results) if letter == LOST]
 
     def singles(self, kind):
-        for number, failure in enumerate(self.table.failures):
-            if failure.kind == kind and (number,) in self.table.cases:
-                yield self.table.cases[(number,)]
+        return self.table.singles(kind)
 
     def number(self, kind, at):
         return next(number for number, one in enumerate(self.table.failures) if (one.kind, one.at) == (kind, at))
@@ -46,14 +57,28 @@ class Desk:
         """The case of two spans."""
         return self.table.cases[tuple(sorted((self.number("span", one), self.number("span", other))))]
 
+    def pairs(self):
+        return [self.pair(*two) for two in combinations(range(self.plan.size), 2)]
+
+    def besides_ends(self, circuit):
+        """The cases of lost nodes that aren't a circuit's own ends."""
+        return [case for case in self.singles("node") if self.table.failures[case.failures[0]].at not in (circuit.start, circuit.end)]
+
     def worst(self):
-        """The failures, alone or two, that lose most; of those that apply the same spans only one, of spans or nodes where it can be."""
-        kinds = lambda case: [BREAKS.index(self.table.failures[number].kind) for number in case.failures]
-        broken = [case for case in self.table.cases.values() if case.lost and all(self.table.failures[number].kind in BREAKS for number in case.failures)]
+        """The failures, alone or two, in which most are lost; of those that apply the same spans only one, of spans or nodes where it can be."""
+        kinds = lambda case: [BREAKS.index(kind) for kind in self.table.kinds(case)]
+        few = (case for depth in (1, 2) for case in self.table.of_depth(depth))
+        broken = [case for case in few if case.lost and all(kind in BREAKS for kind in self.table.kinds(case))]
         found = {}
         for case in sorted(broken, key=lambda case: (len(case.failures), max(kinds(case)), sum(kinds(case)))):
-            found.setdefault(case.applied, case)
+            found.setdefault(case.outcome.applied, case)
         return sorted(found.values(), key=lambda case: -case.lost)[:WORST]
+
+
+def besides_words(desk):
+    """How many customers are lost with a node besides those that end there."""
+    counts = [sum(case in desk.besides_ends(circuit) and case.results[number] == LOST for number, circuit in enumerate(desk.plan.circuits)) for case in desk.singles("node")]
+    return f"besides those that end there, at most {max(counts)}" if any(counts) else "all of these end there"
 
 
 def summary(desk):
@@ -61,8 +86,9 @@ def summary(desk):
         cases = list(desk.singles(kind))
         some = [case for case in cases if case.lost]
         most = f"in {len(some)} of {len(cases)}; at most {max((case.lost for case in some), default=0)}" if some else "in none"
-        yield f"<strong>{TITLES[kind].capitalize()}, one alone</strong>: customers are lost {most}."
-    pairs = [desk.pair(*two) for two in combinations(range(desk.plan.size), 2)]
+        besides = f"; {besides_words(desk)}" if kind == "node" and some else ""
+        yield f"<strong>{TITLES[kind].capitalize()}, one alone</strong>: customers are lost {most}{besides}."
+    pairs = desk.pairs()
     some = [case for case in pairs if case.lost]
     yield f"<strong>Two spans cut</strong>: customers are lost in {len(some)} of {len(pairs)} pairs; at most {max((case.lost for case in pairs), default=0)}."
 
@@ -80,8 +106,8 @@ def matrix(desk):
             shade = 0 if lost == 0 else min(4, 1 + 4 * lost // most)
             cells.append(f'<span class="shade s{shade}" data-case="{" ".join(map(str, numbers))}">{lost}</span>')
         rows.append([unbroken(names[one]), *cells])
-    heads = ["span", *(unbroken(name) for name in names)]
-    return table("Customers lost, spans by spans", heads, rows)
+    titles = ["span", *(escape(name).replace("–", "–<wbr>") for name in names)]
+    return table("Customers lost, spans by spans", titles, rows)
 
 
 def shares(desk, circuit):
@@ -93,24 +119,24 @@ def shares(desk, circuit):
 
 
 def customers(desk):
-    pairs = [desk.pair(*two) for two in combinations(range(desk.plan.size), 2)]
-    heads = ["customer", "from", "to", "slot", "in this case", "spans", "nodes", "pairs of spans"]
-    heads += ["min/year", "nines", "path ring", "nines", "unprotected", "nines"] if desk.components is not None else []
+    pairs, called = desk.pairs(), ["customer", "from", "to", "slot", "in this case", "spans", "nodes besides its ends", "pairs of spans", "pairs in a path ring"]
+    titles = called + (["min/year", "nines", "path ring", "nines", "unprotected", "nines"] if desk.components is not None else [])
+    by_path = [desk.path.lost(case) for case in pairs]
     rows = []
     for number, circuit in enumerate(desk.plan.circuits):
         ends = [escape(desk.places.node(desk.plan.ids[at])) for at in (circuit.start, circuit.end)]
         lost = lambda cases: sum(case.results[number] == LOST for case in cases)
-        counts = [lost(desk.singles("span")), lost(desk.singles("node")), lost(pairs)]
+        counts = [lost(desk.singles("span")), lost(desk.besides_ends(circuit)), lost(pairs), sum(number in found for found in by_path)]
         rows.append([escape(desk.called[number]), *ends, circuit.slot, '<span class="now"></span>', *counts, *shares(desk, circuit)])
     attributes = lambda index: f' data-customer="{index}"'
-    caption = "Customers, and how many spans, nodes and pairs of spans lose each"
-    return table(caption, heads, rows, attributes=attributes)
+    caption = "Customers, and with how many spans, nodes and pairs of spans each is lost"
+    return table(caption, titles, rows, attributes=attributes)
 
 
 def case_row(desk, case):
-    over = case.results.count(OVER)
-    words = f'<span data-case="{" ".join(map(str, case.failures))}">{unbroken(desk.words(case))}</span>'
-    return [words, len(case.results) - over - case.lost, over, case.lost, case.hops, escape(names(desk.lost(case)))]
+    kept, over, lost = case.outcome.counts
+    words = f'<span data-case="{" ".join(map(str, case.failures))}">{unbroken(desk.table.words(case))}</span>'
+    return [words, kept, over, lost, case.outcome.hops, escape(names(desk.lost(case)))]
 
 
 CASE_HEADS = ["case", "kept", "over protection", "lost", "longest way in spans", "customers that are lost"]
@@ -122,20 +148,38 @@ def cases(desk):
         yield folded(f"{TITLES[kind].capitalize()}, each alone ({len(rows)})", table(TITLES[kind].capitalize(), CASE_HEADS, rows), open=kind in ("span", "node"))
 
 
+def packed(data):
+    return base64.b64encode(zlib.compress(data, 9)).decode()
+
+
 def data_of(desk, drawing):
-    """What the script looks up: cases by their failures, and each different outcome once."""
-    outcomes = {}
-    for case in desk.table.cases.values():
-        outcomes.setdefault((case.applied, case.results), len(outcomes))
-    count = len(desk.table.failures)
-    keyed = {number: outcomes[case.applied, case.results] for number, case in ((key_of(case.failures, count), case) for case in desk.table.cases.values())}
+    """What the script looks up: cases by their failures, and each different outcome once. Cases of three failures are packed."""
+    outcomes, count = {}, len(desk.table.failures)
+    few = [case for depth in (0, 1, 2) for case in desk.table.of_depth(depth)]
+    keyed = {key_of(case.failures, count): outcomes.setdefault(case.outcome, len(outcomes)) for case in few}
+    shown = [[sorted(outcome.applied), outcome.results] for outcome in outcomes]
     return {
         "size": desk.plan.size,
         "failures": [[one.name, one.kind, one.at, one.side] for one in desk.table.failures],
+        "depth": desk.depth,
         "cases": [keyed.get(number, -1) for number in range(max(keyed) + 1)],
-        "outcomes": [[sorted(applied), results] for applied, results in outcomes],
+        "outcomes": shown,
+        "triples": triples_of(desk, outcomes) if desk.depth == 3 else None,
         "circuits": [[name, *lane] for name, lane in zip(desk.called, drawing.lanes())],
     }
+
+
+def triples_of(desk, outcomes):
+    """The cases of three failures, in the order of their numbers: of each the place of its outcome, counted from 1, and 0 where there is none; and outcomes that no other case has."""
+    count, found, cases = len(outcomes), dict(outcomes), desk.table.cases
+    places = array("H")
+    for numbers in combinations(range(len(desk.table.failures)), 3):
+        case = cases.get(numbers)
+        places.append(0 if case is None else 1 + found.setdefault(case.outcome, len(found)))
+    if sys.byteorder == "big":
+        places.byteswap()
+    more = [[sorted(outcome.applied), outcome.results] for outcome in list(found)[count:]]
+    return {"cases": packed(places.tobytes()), "outcomes": packed(json.dumps(more, separators=(",", ":")).encode())}
 
 
 def key_of(numbers, count):
@@ -156,17 +200,40 @@ def failure_options(desk):
         yield f'<optgroup label="{TITLES[kind]}">{options}</optgroup>'
 
 
+def radios(legend, group, kinds):
+    """A choice of what a click does."""
+    shown = "".join(f'<label><input type="radio" name="{group}" value="{kind}"{"" if place else " checked"}> {words}</label> ' for place, (kind, words) in enumerate(kinds))
+    return f"<fieldset><legend>{legend}</legend>{shown}</fieldset>"
+
+
 def chooser(desk):
-    """What is made to fail by a click on a fibre, a list of all failures, and what comes of them."""
-    kinds = (("fibre", "cut"), ("degraded", "degraded"), ("manual", "manual switch"), ("forced", "forced switch"))
-    radios = "".join(f'<label><input type="radio" name="kind" value="{kind}"{" checked" if kind == "fibre" else ""}> {words}</label> ' for kind, words in kinds)
+    """What a click on a fibre and on a switch does, a list of all failures, and what comes of them."""
+    fibres = radios("A clicked fibre is", "fibre", (("fibre", "cut"), ("degraded", "degraded")))
+    switches = radios("A clicked switch is", "switch", (("forced", "forced"), ("manual", "manual")))
     customers = "".join(option(number, name) for number, name in enumerate(desk.called))
     return f"""<div class="panel" hidden>
-<fieldset><legend>A click on a fibre makes it</legend>{radios}</fieldset>
+<p>A click, a tap, or Tab and Enter makes a node, a span (the label outside) or a fibre fail, or switches a side (the square beside a node); once more takes it away. Up to {DEPTHS[desk.depth].removeprefix("up to ")} together. <label><input type="checkbox" id="large"> large drawing</label></p>
+{fibres}{switches}
 <p><label>Or choose <select id="choose">{option("", "a failure")}{"".join(failure_options(desk))}</select></label> <button type="button" id="clear">clear</button></p>
 <p id="failed"></p><div id="told" role="status" aria-live="polite"></div>
 <p><label>Way of <select id="whose">{option("", "no customer")}{customers}</select></label></p>
 </div>"""
+
+
+def note(*sentences):
+    return f'<p class="note">{" ".join(sentences)}</p>'
+
+
+def section(name, title, *parts):
+    return f'<section id="{name}"><h2>{title}</h2>' + "\n".join(parts) + "</section>"
+
+
+def origin_section(desk, origin):
+    count = count_of(len(desk.table.cases), "case")
+    words = f"<code>sdhwhatif {desk.table.depth}</code> answered about {count} of {DEPTHS[desk.depth]}. {LOOKED_UP}"
+    files = listing(f"<code>{escape(name)}</code>, checksum <code>{sum_}</code>" for name, sum_ in desk.tables)
+    rates = f"<p>Rates and repair times:</p>{files}" if desk.tables else ""
+    return section("origin", "Where this comes from", f"<p>{words}</p>", note(FROM_TABLE), note(FROM_PATHS, desk.path.room()), rates, origin_list(origin))
 
 
 def desk_page(title, desk, origin):
@@ -174,15 +241,14 @@ def desk_page(title, desk, origin):
     svg = drawing.draw()
     data = json.dumps(data_of(desk, drawing), separators=(",", ":"), ensure_ascii=False).replace("<", "\\u003c")
     worst = [case_row(desk, case) for case in desk.worst()]
-    parts = [f"<h1>{escape(title)}</h1>", warning(origin), listing(summary(desk))]
-    parts.append(f'<section id="try"><h2>The ring</h2><div class="step"><figure class="ring-figure">{svg}</figure>{chooser(desk)}</div></section>')
     filter_line = '<p class="tools" hidden><label>Only customers with <input id="filter" type="search"></label></p>'
-    parts.append(f'<section id="customers"><h2>Customers</h2>{filter_line}{customers(desk)}</section>')
-    parts.append(f'<section id="matrix"><h2>Spans by spans</h2>{matrix(desk)}</section>')
-    parts.append(f'<section id="worst"><h2>The worst cases</h2>{table(f"Up to {WORST} cases of one or two failures", CASE_HEADS, worst)}</section>')
-    parts += ['<section id="alone"><h2>Each failure alone</h2>', *cases(desk), "</section>"]
-    count = count_of(len(desk.table.cases), "case")
-    source = f"<p>{count} of up to two failures, as <code>sdhwhatif double</code> answered. {SOURCES}</p>"
-    parts.append(f'<section id="origin"><h2>Where this comes from</h2>{source}{origin_list(origin)}</section>')
+    parts = [f"<h1>{escape(title)}</h1>", warning(origin), listing(summary(desk))]
+    parts.append(section("try", "The ring", f'<div class="step"><figure class="ring-figure">{svg}</figure>{chooser(desk)}</div>'))
+    parts.append(section("customers", "Customers", filter_line, customers(desk), note(*([FROM_RATES] if desk.components is not None else []), SEE_ORIGIN)))
+    parts.append(section("matrix", "Spans by spans", matrix(desk), note(SEE_ORIGIN)))
+    parts.append(section("worst", "The worst cases", table(f"Up to {WORST} cases of one or two failures", CASE_HEADS, worst), note(SEE_ORIGIN)))
+    parts.append(section("alone", "Each failure alone", *cases(desk), note(SEE_ORIGIN)))
+    parts.append(origin_section(desk, origin))
+    parts.append(f'<section id="signed"><h2>Signed</h2><table><thead>{heads(["", "name and signature", "date"])}</thead><tbody>{SIGNED}</tbody></table></section>')
     parts.append(f'<script type="application/json" id="data">{data}</script>')
-    return whole(f"Desk: {title}", "\n".join(parts), ["desk.css"], ["desk.js"])
+    return whole(f"Desk: {title}", "\n".join(parts), ["desk.css"], ["tables.js", "desk.js"])

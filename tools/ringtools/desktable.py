@@ -1,19 +1,34 @@
-"""The cases of a page: which failures, which spans are applied, and what becomes of each circuit. This module alone knows the form of sdhwhatif's table.
+"""The cases of a ring: which failures, which spans are applied, and what becomes of each circuit. This module alone knows the form of sdhwhatif's table.
 
 The table has counts, and the names of the circuits that are lost. Which of the others are kept and which go the other way round, and which
-spans are applied, is filled in by the restoration model, and no case is taken whose counts and names aren't the model's.
+spans are applied, is filled in by the restoration model, and no case is taken whose line isn't that of the model, byte for byte.
 """
 
+import subprocess
+import time
 from dataclasses import dataclass
-from itertools import combinations
+from functools import cached_property
+from itertools import chain, combinations
+from typing import NamedTuple
 
 from .failures import span_fibres
-from .model import CUT, DEGRADE, FAIL, FORCED, MANUAL, WAIT, Script, applied_spans, arc, incoming, is_joined, route, scenes, span_requests
+from .model import CUT, DEGRADE, FAIL, FORCED, MANUAL, WAIT, applied_spans, arc, is_joined, route, scenes, span_requests
+from .origin import CannotRun
 from .plan import SIDES
-from .told import ToldProblem, tell
+from .reasons import REASONS
+from .report import BAD_PLAN
 
 KEPT, OVER, LOST = "k", "o", "l"
+RESULTS = {KEPT: "kept", OVER: "over", LOST: "lost"}
 KINDS = ("degraded", "fibre", "span", "node", "manual", "forced")
+DEPTHS = {"single": 1, "double": 2, "triple": 3}
+WHOLE = (1, 1)  # the first part of one
+HEAD = b"steps,kept,over,lost,hops,circuits\n"
+SUMMARY = 6  # lines at the end, and `done`
+
+
+class ToldProblem(Exception):
+    """What the program wrote isn't a whole table of the plan."""
 
 
 @dataclass(frozen=True)
@@ -23,31 +38,74 @@ class Failure:
     kind: str
     at: int
     side: str
-    name: str
+    name: str  # with places in place of numbers
+    label: str  # as `span 3-4`
     steps: tuple
-    replaced: tuple = ()  # what the script must not have done there, since this would mend it
 
 
-@dataclass(frozen=True)
-class Case:
-    failures: tuple  # their numbers, which grow
+@dataclass(frozen=True, eq=False)
+class Outcome:
+    """What becomes of all circuits where these spans are applied: a letter for each circuit, and the longest way in spans. A table has each once."""
+
     applied: frozenset
-    results: str  # a letter for each circuit
-    hops: int  # of the longest way
+    results: str
+    hops: int
+
+    @cached_property
+    def counts(self):
+        return tuple(self.results.count(letter) for letter in (KEPT, OVER, LOST))
+
+
+class Case(NamedTuple):
+    """The numbers of what fails, which grow, and what comes of it."""
+
+    failures: tuple
+    outcome: Outcome
 
     @property
     def lost(self):
-        return self.results.count(LOST)
+        return self.outcome.counts[2]
+
+    @property
+    def results(self):
+        return self.outcome.results
 
 
 @dataclass(frozen=True)
 class Table:
+    """All cases up to a depth, or a part of them, by the numbers of their failures, in the order of these."""
+
     failures: tuple
-    cases: dict  # by the numbers of their failures
+    cases: dict
+    depth: str
+    part: tuple = WHOLE
+    text: bytes = b""  # as the program wrote it
+    seconds: float = 0.0
+
+    def words(self, case):
+        """What fails, with places in place of numbers."""
+        return " and ".join(self.failures[number].name for number in case.failures) or "nothing more"
+
+    def labels(self, case):
+        return tuple(self.failures[number].label for number in case.failures)
+
+    def kinds(self, case):
+        return tuple(self.failures[number].kind for number in case.failures)
+
+    def steps(self, case):
+        return tuple(step for number in case.failures for step in self.failures[number].steps)
+
+    def of_depth(self, depth):
+        return (case for case in self.cases.values() if len(case.failures) == depth)
+
+    def singles(self, kind):
+        for number, failure in enumerate(self.failures):
+            if failure.kind == kind and (number,) in self.cases:
+                yield self.cases[(number,)]
 
 
 class Namer:
-    """Names of failures, with places in place of numbers."""
+    """Names of failures: with places in place of numbers, and as labels with numbers alone. In a ring of two nodes a side parts two that would be alike."""
 
     def __init__(self, plan, places):
         self.plan, self.places = plan, places
@@ -55,14 +113,20 @@ class Namer:
     def place(self, at):
         return self.places.place(self.plan.ids[at % self.plan.size])
 
-    def far(self, at, side):
-        return self.place(self.plan.neighbour(at, side))
+    def aside(self, side):
+        return f" ({side})" if self.plan.size == 2 else ""
 
     def name(self, kind, at, side):
         if kind in ("span", "node"):
             return f"span {self.place(at)}–{self.place(at + 1)}" if kind == "span" else f"node {self.place(at)}"
-        words = {"fibre": "fibre {0}>{1} cut", "degraded": "fibre {0}>{1} degraded", "manual": "manual switch at {0} to {1}", "forced": "forced switch at {0} to {1}"}
-        return words[kind].format(self.place(at), self.far(at, side))
+        words = {"fibre": "fibre {0}>{1}{2} cut", "degraded": "fibre {0}>{1}{2} degraded", "manual": "manual switch at {0} to {1}{2}", "forced": "forced switch at {0} to {1}{2}"}
+        return words[kind].format(self.place(at), self.place(self.plan.neighbour(at, side)), self.aside(side))
+
+    def label(self, kind, at, side):
+        here = self.plan.ids[at]
+        if kind in ("span", "node"):
+            return "span {}-{}".format(*self.plan.ends(at)) if kind == "span" else f"node {here}"
+        return f"{kind} {here}>{self.plan.ids[self.plan.neighbour(at, side)]}{self.aside(side)}"
 
 
 def steps_of(plan, kind, at, side):
@@ -84,7 +148,7 @@ def failures_of(plan, places):
     for kind in KINDS:
         for at in range(plan.size):
             for side in SIDES if kind not in ("span", "node") else ("",):
-                found.append(Failure(kind, at, side, namer.name(kind, at, side), steps_of(plan, kind, at, side)))
+                found.append(Failure(kind, at, side, namer.name(kind, at, side), namer.label(kind, at, side), steps_of(plan, kind, at, side)))
     return tuple(found)
 
 
@@ -92,59 +156,66 @@ def rounds_of(settles):
     return [128 * (number + 1) for number in range(settles)]
 
 
-def settled(plan):
-    """The script as it has come to its end, with what each side has seen."""
-    script, rounds = Script(plan), iter(rounds_of(len(plan.steps)))
-    for step in plan.steps:
-        if step.word == "settle":
-            script.run_to(next(rounds))
-        else:
-            script.apply(step)
-    return script
+def last_scene(plan):
+    """What holds when the plan's script has come to its end."""
+    return scenes(plan, rounds_of(sum(step.word == "settle" for step in plan.steps)))[-1]
 
 
 class Model:
-    """What the restoration model says of a case, beside what the plan's script leaves."""
+    """What the restoration model says of a case, beside what the plan's script leaves.
 
-    def __init__(self, plan):
-        self.plan, settles = plan, sum(step.word == "settle" for step in plan.steps)
-        self.last = scenes(plan, rounds_of(settles))[-1]
-        self.sides = [(at, side) for at in range(plan.size) for side in SIDES]
-        histories = settled(plan).histories
-        self.waiting = {place for place in self.sides if histories[place].ended is not None and self.last.moment < histories[place].ended + plan.wait}
-        self.known = {}
+    A failure only ever raises what spans ask for, so a case asks for the highest of what the script left and of its failures. For each a set
+    of spans is kept for each request; of signal failures and forced switches, which are applied side by side, one.
+    """
+
+    LEVELS = (FAIL, DEGRADE, MANUAL, WAIT)
+    RAISES = {"degraded": DEGRADE, "fibre": FAIL, "span": FAIL, "node": FAIL, "manual": MANUAL, "forced": FORCED}
+
+    def __init__(self, plan, failures):
+        self.plan, self.last = plan, last_scene(plan)
+        self.base = self.sets((span, request) for span, request in enumerate(span_requests(plan.size, self.last.requests)) if request)
+        self.raised = [self.sets((span, self.RAISES[failure.kind]) for span in self.spans_of(failure)) for failure in failures]
+        self.known, self.applied_by = {}, {}
+
+    def sets(self, asked):
+        """A number for each level, with a bit for each span that asks for it."""
+        found = dict.fromkeys(self.LEVELS, 0)
+        for span, request in asked:
+            found[min(request, FAIL)] |= 1 << span
+        return tuple(found.values())
+
+    def spans_of(self, failure):
+        at, size = failure.at, self.plan.size
+        if failure.kind in ("span", "node"):
+            return [at] if failure.kind == "span" else [at, (at - 1) % size]
+        return [self.plan.span(at, failure.side)]
 
     def mends(self, failure):
         """Whether a failure would take away what the script left; such cases aren't in the table."""
         place = failure.at, failure.side
         return failure.kind == "degraded" and self.last.conditions[place] == CUT or failure.kind == "manual" and self.last.commands[place] == "forced"
 
-    def request(self, place, conditions, commands):
-        condition = conditions[incoming(self.plan, *place)]
-        defect = FAIL if condition == CUT else DEGRADE if isinstance(condition, int) and condition >= self.plan.threshold else 0
-        waits = WAIT if defect == 0 and place in self.waiting else 0
-        return max(defect, waits, {"forced": FORCED, "manual": MANUAL, None: 0}[commands[place]])
+    def outcome(self, numbers):
+        """What comes of these failures, by their numbers."""
+        fail, degrade, manual, wait = self.base
+        for number in numbers:
+            raised = self.raised[number]
+            fail, degrade, manual = fail | raised[0], degrade | raised[1], manual | raised[2]
+        sets = (fail, 0, 0, 0) if fail else (0, degrade, manual, wait)
+        if sets not in self.known:
+            self.known[sets] = self.of_applied(self.applied(sets))
+        return self.known[sets]
 
-    def applied(self, failures):
-        """The spans that are applied once these have come, in the order of their numbers."""
-        conditions, commands = dict(self.last.conditions), dict(self.last.commands)
-        for failure in failures:
-            for step in failure.steps:
-                word, node, side, *degree = step.split()
-                place = self.plan.ids.index(int(node)), side
-                if word in ("manual", "forced"):
-                    commands[place] = word
-                else:
-                    conditions[place] = CUT if word == "cut" else int(degree[0])
-        return applied_spans(span_requests(self.plan.size, {place: self.request(place, conditions, commands) for place in self.sides}))
+    def applied(self, sets):
+        highest = lambda span: max((level for level, spans in zip(self.LEVELS, sets) if spans >> span & 1), default=0)
+        return applied_spans([highest(span) for span in range(self.plan.size)])
 
-    def results(self, applied):
-        """A letter for each circuit, and the longest way in spans."""
-        if applied not in self.known:
+    def of_applied(self, applied):
+        if applied not in self.applied_by:
             letters = "".join(self.letter(circuit, applied) for circuit in self.plan.circuits)
             ways = [len(route(self.plan, circuit, applied)) for circuit, letter in zip(self.plan.circuits, letters) if letter != LOST]
-            self.known[applied] = letters, max(ways, default=0)
-        return self.known[applied]
+            self.applied_by[applied] = Outcome(applied, letters, max(ways, default=0))
+        return self.applied_by[applied]
 
     def letter(self, circuit, applied):
         if not is_joined(self.plan, circuit, applied):
@@ -152,32 +223,96 @@ class Model:
         return OVER if applied & set(arc(self.plan, circuit)) else KEPT
 
 
-def check(plan, line, case):
-    """Raises where a line of the table says something else than the model."""
-    counts = tuple(case.results.count(letter) for letter in (KEPT, OVER, LOST))
-    lost = tuple(circuit.name for circuit, letter in zip(plan.circuits, case.results) if letter == LOST)
-    if (line.kept, line.over, line.lost, line.hops, line.circuits) != (*counts, case.hops, lost):
-        raise ToldProblem(f"of `{line.words}` the table says something else than the restoration model")
+class Reading:
+    """Reads the text of one plan's table, whole or a part of it."""
+
+    def __init__(self, plan, places):
+        self.plan, self.failures = plan, failures_of(plan, places)
+        self.model = Model(plan, self.failures)
+        self.steps = ["".join(f"{step}; " for step in failure.steps) for failure in self.failures]
+        self.ends = {}
+
+    def numbers(self, depth, part):
+        """The failures of each case of this part, in the order of the table."""
+        there = [number for number, failure in enumerate(self.failures) if not self.model.mends(failure)]
+        found = chain.from_iterable(combinations(there, count) for count in range(DEPTHS[depth] + 1))
+        return found if part == WHOLE else (numbers for numbers in found if self.digits(numbers) % part[1] == part[0] - 1)
+
+    def digits(self, numbers):
+        """A case's number, of which parts are made."""
+        found = 0
+        for number in numbers:
+            found = found * (len(self.failures) + 1) + number + 1
+        return found
+
+    def end(self, outcome):
+        """What stands after the steps of a case."""
+        if outcome not in self.ends:
+            lost = "".join(f",{circuit.name}" for circuit, letter in zip(self.plan.circuits, outcome.results) if letter == LOST)
+            self.ends[outcome] = "settle,{},{},{},{}{}".format(*outcome.counts, outcome.hops, lost)
+        return self.ends[outcome]
+
+    def lines(self, text):
+        """The lines of the cases of a whole text, or a ToldProblem."""
+        if not text.startswith(HEAD) or not text.endswith(b"\ndone\n"):
+            raise ToldProblem(f"`{text.splitlines()[-1].decode('utf-8', 'replace')}`" if text else "nothing")
+        return iter(text.decode("utf-8", "replace").split("\n")[1 : -2 - SUMMARY])
+
+    def case(self, numbers, lines):
+        """The case of these failures, whose line is the next."""
+        outcome, line = self.model.outcome(numbers), next(lines, "the end")
+        if line != "".join([self.steps[number] for number in numbers]) + self.end(outcome):
+            raise self.problem(numbers, line)
+        return Case(numbers, outcome)
+
+    def cases(self, texts, depth, part=WHOLE):
+        """Each case of this part by its numbers, or a ToldProblem. The text is one, or those of all parts of the whole, the first part first."""
+        parts, found = [self.lines(text) for text in texts], {}
+        for numbers in self.numbers(depth, part):
+            found[numbers] = self.case(numbers, parts[self.digits(numbers) % len(parts)] if len(parts) > 1 else parts[0])
+        if any(next(lines, None) is not None for lines in parts):
+            raise ToldProblem("the table has more lines than there are cases")
+        return found
+
+    def problem(self, numbers, line):
+        words, steps = " and ".join(self.failures[number].name for number in numbers) or "nothing", line.split(",")[0]
+        if steps == "".join(self.steps[number] for number in numbers) + "settle":
+            return ToldProblem(f"of {words} the table says something else than the restoration model")
+        return ToldProblem(f"`{steps}` stands where {words} was to come")
 
 
-def cases_of(plan, model, failures, lines):
-    """Each line of the table with its failures: the lines come in the order of their numbers."""
-    told = iter(lines)
-    there = [number for number, failure in enumerate(failures) if not model.mends(failure)]
-    for numbers in [(), *((number,) for number in there), *combinations(there, 2)]:
-        some = [failures[number] for number in numbers]
-        applied = model.applied(some)
-        case, line = Case(numbers, applied, *model.results(applied)), next(told, None)
-        if line is None or line.steps != tuple(step for failure in some for step in failure.steps):
-            raise ToldProblem(f"`{line.words if line else 'the end'}` stands where {' and '.join(failure.name for failure in some) or 'nothing'} was to come")
-        check(plan, line, case)
-        yield numbers, case
-    if next(told, None) is not None:
-        raise ToldProblem("the table has more lines than there are cases")
+def refused(text):
+    """Why the program writes no table, in words where it is a reason of a plan."""
+    said = text.decode("utf-8", "replace").strip()
+    found = BAD_PLAN.fullmatch(said)
+    return said + (f": {REASONS[int(found[1])].wrong}" if found and int(found[1]) in REASONS else "")
 
 
-def read_cases(plan, places, program, document):
+def words_for(depth, part):
+    """The words that ask the program for a part of its table."""
+    return [depth] if part == WHOLE else [depth, *map(str, part)]
+
+
+def tell(program, document, depth, part):
+    """What the program writes of this part of its table."""
+    try:
+        ended = subprocess.run([*program.words, *words_for(depth, part)], input=document, stdout=subprocess.PIPE)
+    except OSError as error:
+        raise CannotRun(f"{program.words[0]}: {error.strerror}") from None
+    if ended.returncode:
+        raise ToldProblem(f"status {ended.returncode}, {refused(ended.stdout)}")
+    return ended.stdout
+
+
+def read_cases(plan, places, program, document, depth="double", part=WHOLE):
     """The table of the program's answer about this plan."""
-    told = tell(program, document)
-    failures, model = failures_of(plan, places), Model(plan)
-    return Table(failures, dict(cases_of(plan, model, failures, told.lines())))
+    begun = time.monotonic()
+    text = tell(program, document, depth, part)
+    seconds, reading = time.monotonic() - begun, Reading(plan, places)
+    return Table(reading.failures, reading.cases([text], depth, part), depth, part, text, seconds)
+
+
+def merged(plan, places, texts, depth, seconds):
+    """The whole table of the texts of all its parts, the first part first."""
+    reading = Reading(plan, places)
+    return Table(reading.failures, reading.cases(texts, depth), depth, WHOLE, b"".join(texts), seconds)

@@ -240,7 +240,7 @@ def hold_warnings(plan, source):
             f"warning: step {place + 1} holds the controller of node {plan.node_name(at)}, which passes traffic through then; "
             "until the next report a customer could get another customer's bytes for some frames"
         )
-        yield Finding(head, source.of(("script", place), 1), ("RING.md tells more: When a controller is restarted",))
+        yield Finding(head, source.of(("script", place), 1), ("RING.md has more: When a controller is restarted",))
 
 
 def warnings(plan, document, source):
@@ -254,7 +254,7 @@ def warnings(plan, document, source):
         bare_names = choices([plan.places.node(node) for node in bare])
         yield Finding(f"warning: no circuit ends at {'node' if len(bare) == 1 else 'nodes'} {bare_names}", source.of(("nodes",)))
     if not circuits:
-        yield Finding("warning: there are no circuits, so a report tells of no customer")
+        yield Finding("warning: there are no circuits, so a report shows no customer")
     yield from text_warnings(document, source)
     yield from hold_warnings(plan, source)
     yield from name_warnings(source.text)

@@ -7,12 +7,13 @@ from itertools import combinations
 from .model import CUT, CLEAR, Script
 from .plan import PlanProblem, read_step, write_plan
 
+SCRIPT = "script"  # a settle step of the plan's own script, before the last one
 STAGES = ("before", "failed", "mended", "waited")
 WORKS_STAGES = ("before", "during", "after", "waited")
 KINDS = ("fibre", "span", "node", "pair")
-SPAN_NAME = re.compile("span ([0-9]+)[-–]([0-9]+)")
-NODE_NAME = re.compile("node ([0-9]+)")
-WORKS_FORMS = {"span": "a span is named by the nodes at its ends, as `span 2-3`", "node": "a node is named alone, as `node 4`"}
+SIGN = re.compile("[-–]")
+WORKS_FORMS = {"span": re.compile(".+[-–].+"), "node": re.compile("[0-9]+|.*[^-–0-9 ].*")}
+WORKS_WORDS = {"span": "a span is named by the nodes at its ends, as `span 2-3`", "node": "a node is named alone, as `node 4`"}
 LAST_MOMENT = 1_000_000_000
 
 
@@ -24,13 +25,17 @@ class Case:
     kind: str  # fibre, span, node, pair, works or told
     words: str
     fibres: tuple = ()
-    steps: tuple = ()  # of a case that sdhwhatif tells, which isn't mended
-    settles: int = 1  # settle steps before those, where it is such a case
+    steps: tuple = ()  # of a case of sdhwhatif's, which isn't mended
+    settles: int = 1  # settle steps up to the stage `before`
+
+    @property
+    def own_stages(self):
+        """The stages that are the case's own, without those of the plan's script."""
+        return {"works": WORKS_STAGES, "told": STAGES[:2]}.get(self.kind, STAGES)
 
     @property
     def stages(self):
-        told = STAGES[:1] * self.settles + STAGES[1:2]
-        return {"works": WORKS_STAGES, "told": told}.get(self.kind, STAGES)
+        return (SCRIPT,) * (self.settles - 1) + self.own_stages
 
 
 def span_fibres(plan, span):
@@ -74,7 +79,8 @@ def failures_of(plan):
 def all_cases(beforehand, kinds=KINDS):
     """The works, where there are any, and each failure of these kinds."""
     works = [Case("works", "works", f"the works: {beforehand.works_words()}")] if beforehand.works else []
-    return works + [case for case in failures_of(beforehand.plan) if case.kind in kinds]
+    found = works + [case for case in failures_of(beforehand.plan) if case.kind in kinds]
+    return [replace(case, settles=beforehand.settles_before(case)) for case in found]
 
 
 def shard_of(cases, shard, shards):
@@ -83,7 +89,7 @@ def shard_of(cases, shard, shards):
 
 
 def held(plan, steps):
-    """The script as far as these steps, which tells what holds after them."""
+    """The script as far as these steps, with what holds after them."""
     script = Script(plan)
     for step in steps:
         script.apply(step)
@@ -91,10 +97,14 @@ def held(plan, steps):
 
 
 class Beforehand:
-    """The steps before each failure, those of the works last, and what holds after them. `order` is the works order in its own words."""
+    """The steps before each failure, those of the works last, and what holds after them. `order` is the works order in its own words.
 
-    def __init__(self, plan, steps, works=(), order=(), script=()):
+    `own` is the plan's own script, which ends in a settle step; where it is left out, `left_out` has its steps but for settle steps.
+    """
+
+    def __init__(self, plan, steps, works=(), order=(), script=(), left_out=()):
         self.plan, self.also, self.works, self.order, self.own = plan, tuple(steps), tuple(works), tuple(order), tuple(script)
+        self.left_out = tuple(left_out)
         self.steps = self.own + self.also + self.works
         after = held(plan, self.steps)
         self.conditions, self.moment = after.conditions, after.moment
@@ -108,6 +118,14 @@ class Beforehand:
     def works_texts(self):
         return [step.text for step in self.works]
 
+    def own_texts(self):
+        """What the plan's own script does, without its settle steps."""
+        return [step.text for step in self.own if step.word != "settle"]
+
+    def script_words(self):
+        """The plan's own script in a cell of a table."""
+        return "left out" if self.left_out else "; ".join(step.text for step in self.own)
+
     def works_words(self):
         """The order in its own words, and the steps that these stand for where they are others."""
         words, steps = "; ".join(self.order), "; ".join(self.works_texts())
@@ -115,8 +133,16 @@ class Beforehand:
 
     def settled_texts(self):
         """The steps up to where the ring has settled before a failure; a plan's own script has settled already."""
-        is_settled = self.own and not (self.also or self.works)
-        return self.texts() if is_settled else self.texts() + ["settle"]
+        return self.settled(self.also + self.works)
+
+    def settled(self, more):
+        """The plan's own script, and these steps with a settle step after them. A script that only settles isn't wanted before others."""
+        texts = [step.text for step in self.own] if self.own_texts() or not more else []
+        return texts + [step.text for step in more] + ["settle"] if more or not texts else texts
+
+    def settles_before(self, case):
+        """The number of settle steps up to the stage `before`."""
+        return self.settled(self.also if case.kind == "works" else self.also + self.works).count("settle")
 
     def later(self):
         """The moment when every wait that begins with the mending is over, as far as moments go."""
@@ -132,7 +158,7 @@ class Beforehand:
 
     def undoing(self):
         """The steps that put back what the works changed, the last first."""
-        before, places = held(self.plan, self.also), []
+        before, places = held(self.plan, self.own + self.also), []
         for step in reversed(self.works):
             place = step.word in ("forced", "manual", "clear"), (step.at, step.side)
             if step.side is not None and place not in places:
@@ -141,15 +167,15 @@ class Beforehand:
         return [commands(place) if is_command else self.condition_step(place, before.conditions[place]) for is_command, place in places]
 
     def script(self, case):
-        """Four settle steps: before, failed, mended to what was before, and after waiting; or before, during and after the works. Of a case by its steps two."""
+        """The settle steps before, failed, mended to what was before, and after waiting; or before, during and after the works. Of a case by its steps two."""
         if case.kind == "told":
             return [*self.settled_texts(), *case.steps, "settle"]
         waited = ["settle", f"moment {self.later()}", "settle"]
         if case.kind == "works":
-            return [*self.also_texts(), "settle", *self.works_texts(), "settle", *self.undoing(), *waited]
+            return [*self.settled(self.also), *self.works_texts(), "settle", *self.undoing(), *waited]
         fail = [self.condition_step(fibre, CUT) for fibre in case.fibres]
         mend = [self.condition_step(fibre, self.conditions[fibre]) for fibre in case.fibres]
-        return [*self.texts(), "settle", *fail, "settle", *mend, *waited]
+        return [*self.settled_texts(), *fail, "settle", *mend, *waited]
 
     def plan_of(self, case):
         steps = [read_step(text, place + 1, self.plan.ids) for place, text in enumerate(self.script(case))]
@@ -174,32 +200,42 @@ def forced(plan, at, side):
     return f"forced {plan.ids[at % plan.size]} {side}"
 
 
-def span_steps(plan, one, other):
-    """Forced switches on both sides of a span, so that no cut or mending during the works interrupts its customers again."""
-    span = span_named(plan, one, other)
+def span_called(plan, words):
+    """The position of the span between the nodes called so, as `3-4` or `Köln–Bonn`, or None; a place may have a hyphen of its own."""
+    nodes = plan.places.positions(plan.ids)
+    for sign in SIGN.finditer(words):
+        one, other = (nodes.get(end.strip().casefold()) for end in (words[: sign.start()], words[sign.end() :]))
+        if None not in (one, other):
+            return span_named(plan, plan.ids[one], plan.ids[other])
+    return None
+
+
+def span_steps(plan, words):
+    """A span in words, and forced switches on both its sides, so that no cut or mending during the works interrupts its customers again."""
+    span = span_called(plan, words)
     if span is None:
-        spans = ", ".join("{}-{}".format(*plan.ends(at)) for at in range(plan.size))
-        raise PlanProblem(f"works: no span joins node {one} and node {other}; the spans are {spans}")
-    return [forced(plan, span, "east"), forced(plan, span + 1, "west")]
+        spans = ", ".join(plan.span_title(at).replace("–", "-", 1) for at in range(plan.size))
+        raise PlanProblem(f"works: no span joins node {' and node '.join(SIGN.split(words, maxsplit=1))}; the spans are {spans}")
+    return plan.span_title(span), [forced(plan, span, "east"), forced(plan, span + 1, "west")]
 
 
-def node_steps(plan, node):
-    """Forced switches at both neighbours of a node, towards it."""
-    if node not in plan.ids:
-        raise PlanProblem(f"works: no node {node}; the nodes are {', '.join(map(str, plan.ids))}")
-    at = plan.ids.index(node)
-    return [forced(plan, at - 1, "east"), forced(plan, at + 1, "west")]
+def node_steps(plan, words):
+    """A node in words, and forced switches at both its neighbours, towards it."""
+    at = plan.places.positions(plan.ids).get(words.casefold())
+    if at is None:
+        raise PlanProblem(f"works: no node {words}; the nodes are {', '.join(map(plan.node_name, range(plan.size)))}")
+    return plan.node_name(at), [forced(plan, at - 1, "east"), forced(plan, at + 1, "west")]
 
 
-def works_steps(plan, text):
-    """A part of an order in steps: `span A-B` and `node A` free these of traffic by forced switches; any step stands for itself."""
-    if found := SPAN_NAME.fullmatch(text):
-        return span_steps(plan, int(found[1]), int(found[2]))
-    if found := NODE_NAME.fullmatch(text):
-        return node_steps(plan, int(found[1]))
-    if text.split()[0] in WORKS_FORMS:
-        raise PlanProblem(f"works: `{text}` isn't a part of an order: {WORKS_FORMS[text.split()[0]]}")
-    return [text]
+def works_part(plan, text):
+    """A part of an order in words and in steps: `span A-B` and `node A` free these of traffic; any step stands for itself."""
+    kind, _, words = text.partition(" ")
+    if kind not in WORKS_FORMS:
+        return text, [text]
+    if not WORKS_FORMS[kind].fullmatch(words):
+        raise PlanProblem(f"works: `{text}` isn't a part of an order: {WORKS_WORDS[kind]}")
+    called, steps = (span_steps if kind == "span" else node_steps)(plan, words)
+    return f"{kind} {called}" if plan.places.nodes else text, steps
 
 
 def parts_of(words):
@@ -213,8 +249,8 @@ def read_steps_of(plan, texts):
     return steps
 
 
-def read_beforehand(plan, also, works=None, script=()):
-    """The steps of `--also` and of `--works`, parted by semicolons, after those of the plan's own script where it counts."""
-    order = parts_of(works)
-    steps = [step for part in order for step in works_steps(plan, part)]
-    return Beforehand(plan, read_steps_of(plan, parts_of(also)), read_steps_of(plan, steps), order, script)
+def read_beforehand(plan, also, works=None, script=(), left_out=()):
+    """The steps of `--also` and of `--works`, separated by semicolons, after those of the plan's own script where it counts."""
+    order = [works_part(plan, part) for part in parts_of(works)]
+    steps = [step for _, part in order for step in part]
+    return Beforehand(plan, read_steps_of(plan, parts_of(also)), read_steps_of(plan, steps), [words for words, _ in order], script, left_out)

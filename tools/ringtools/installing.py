@@ -6,7 +6,7 @@ import shutil
 from dataclasses import dataclass
 from pathlib import Path
 
-from .build import HOME, PROGRAMS, record_of, write_build
+from .build import HOME, PROGRAMS, record_of, version, write_build
 
 TOOLS = ("sdhring-availability", "sdhring-desk", "sdhring-explain", "sdhring-plan", "sdhring-report", "sdhring-view", "sdhring-whatif")
 DOCUMENTS = (
@@ -34,10 +34,6 @@ class Piece:
     data: bytes = b""
     link: str = ""
     is_run: bool = False
-
-
-def version():
-    return (HOME / "VERSION").read_text(encoding="ascii").strip()
 
 
 def unlinked(found):
@@ -102,10 +98,10 @@ def modules():
 
 
 def programs(places):
-    """The programs' files by name, and the BUILD that tells of all of them. `places` has the file of each."""
+    """The programs' files by name, and the BUILD that names all of them. `places` has the file of each."""
     records = [record_of(places[name]) for name in PROGRAMS]
     if None in records:
-        raise InstallProblem(f"no BUILD tells of {places[PROGRAMS[records.index(None)]]}")
+        raise InstallProblem(f"no BUILD names {places[PROGRAMS[records.index(None)]]}")
     return {name: Piece(places[name].read_bytes(), is_run=True) for name in PROGRAMS}, write_build(records)
 
 
@@ -118,6 +114,7 @@ def pieces(places, prefix):
     files, build = programs(places)
     found = {f"{LIB}/{name}": piece for name, piece in files.items()}
     found[f"{LIB}/BUILD"] = Piece(build.encode("ascii"))
+    found[f"{LIB}/VERSION"] = Piece((HOME / "VERSION").read_bytes())
     for name in modules():
         found[f"{LIB}/tools/{name}"] = Piece((HOME / "tools" / name).read_bytes(), is_run=is_run(HOME / "tools" / name))
     found["bin/sdhring"] = Piece((HOME / "sdhring").read_bytes(), is_run=True)
@@ -136,9 +133,17 @@ def pieces(places, prefix):
     return found
 
 
+def make_folder(path):
+    """A folder that all can read, whatever the mask of whoever installs; one that is there stays as it is."""
+    if not path.is_dir():
+        make_folder(path.parent)
+        path.mkdir(exist_ok=True)
+        path.chmod(0o755)
+
+
 def put(path, piece):
     """Puts one file in place; a program that runs meanwhile goes on as it was."""
-    path.parent.mkdir(parents=True, exist_ok=True)
+    make_folder(path.parent)
     new = path.with_name(f".{path.name}.new")
     new.unlink(missing_ok=True)
     if piece.link:

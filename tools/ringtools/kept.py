@@ -1,4 +1,4 @@
-"""Kept answers: of each case a plan, the program's text, and a file that tells the status and where the text comes from."""
+"""Kept answers: of each case a plan, the program's text, and a file with the status and where the text comes from."""
 
 from dataclasses import dataclass, replace
 
@@ -9,7 +9,7 @@ KEYS = ("status", "plan", "text", "sum", "program", "version", "proof", "date", 
 
 @dataclass(frozen=True)
 class Answer:
-    """What was answered about one case. `plan`, `text` and `sum` are the sums of plan, text and program."""
+    """What was answered about one case. `plan`, `text` and `sum` are the checksums of plan, text and program."""
 
     status: int
     plan: str
@@ -26,7 +26,7 @@ class Answer:
 
 
 def read_answer(data):
-    """The answer that this file tells; None where it is none, such as one of an older form."""
+    """The answer that this file has; None where it is none, such as one of an older form."""
     found = dict(line.split(" ", 1) for line in data.decode("utf-8", "replace").splitlines() if " " in line)
     try:
         return Answer(**(found | {"status": int(found["status"]), "seconds": float(found["seconds"])}))

@@ -24,7 +24,7 @@ class Way:
 
     @property
     def more(self):
-        """So many spans more than its own arc."""
+        """The number of spans more than its own arc, in words."""
         return len(self.hops) - self.length
 
 
@@ -45,7 +45,7 @@ def judge_port(circuit, end, line, way, scene):
 
 
 class Look:
-    """One settle step. `settled` is what the text tells of it, `before` the look of the step before."""
+    """One settle step. `settled` is what the text shows of it, `before` the look of the step before."""
 
     def __init__(self, plan, scene, settled, before=None):
         self.plan, self.scene, self.settled, self.before = plan, scene, settled, before
@@ -130,7 +130,7 @@ class Look:
         return f"{count} over protection, {longer_words(way.more)}" if way.over else count
 
     def result(self, circuit):
-        """What the text tells of a customer: odd, lost, over, kept, or untold."""
+        """What the text shows of a customer: odd, lost, over, kept, or untold."""
         verdicts = [self.port(circuit.name, end) for end in "ab"]
         if None in verdicts:
             return "untold"

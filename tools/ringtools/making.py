@@ -67,7 +67,7 @@ def read_circuits(words):
 
 
 def read_steps(words):
-    """Steps parted by semicolons, with `settle` at the end."""
+    """Steps separated by semicolons, with `settle` at the end."""
     steps = [" ".join(step.split()) for step in (words or "").split(";") if step.strip()]
     return tuple(steps if steps[-1:] == ["settle"] else [*steps, "settle"])
 
@@ -98,7 +98,7 @@ def slots_of(asked):
 def head_of(asked):
     rate = {4: "STM-4, with 2 working slots on each span", 16: "STM-16, with 8 working slots on each span"}[asked.rate]
     places = "".join(named("node", number, place) + "\n" for number, place in asked.places.items())
-    return f"""# A ring of {count_of(len(asked.nodes), "node")}, made by `{asked.maker}`. Every key is told in FORMATS.md.
+    return f"""# A ring of {count_of(len(asked.nodes), "node")}, made by `{asked.maker}`. Every key is in FORMATS.md.
 #
 #   sdhring run < {asked.name}     runs it
 #   sdhring-explain {asked.name}   says whether it is good, or what is wrong and where
@@ -110,13 +110,13 @@ rate = {asked.rate}
 # The identifiers of the nodes, eastwards round the ring: 2 to 16 nodes, each 0 to 15, no two alike.
 {places}nodes = {list(asked.nodes)}
 
-# So many violations of B2 in a frame are a signal degradation: 1 to {3 * asked.rate}.
+# This many violations of B2 in a frame are a signal degradation: 1 to {3 * asked.rate}.
 threshold = {asked.threshold}
 
-# For so many moments a side waits to restore after its last defect.
+# For this many moments a side waits to restore after its last defect.
 wait = {asked.wait}
 
-# A settle step runs at most so many rounds. 64 for each node and 512 more are always enough.
+# A settle step runs at most this many rounds. 64 for each node and 512 more are always enough.
 limit = {enough(len(asked.nodes)) if asked.limit is None else asked.limit}
 """
 

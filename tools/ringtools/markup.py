@@ -13,8 +13,8 @@ COMPARED = (
     "these are compared with what the port is owed, the other 2333 are not."
 )
 HITLESS = (
-    "A report tells what holds once the ring is quiet. While a switch is made or cleared, and when what a switched span asks for changes, as by mending, "
-    "its customers lose bytes: no switch is hitless. <code>sdhoutage</code> tells for how many frames."
+    "A report shows what holds once the ring is quiet. While a switch is made or cleared, and when what a switched span asks for changes, as by mending, "
+    "its customers lose bytes: no switch is hitless. <code>sdhoutage</code> counts the frames."
 )
 
 
@@ -34,11 +34,17 @@ def in_light(style):
     return re.sub(r"var\(--([a-z-]+)\)", lambda found: light_colours()[found[1]], style)
 
 
+def foot_of_sheets(title):
+    """The rule that prints a page's title at the foot of each sheet; in it nothing ends the string or the style."""
+    shown = re.sub(r'["\\<\n\r\f]', lambda found: f"\\{ord(found[0]):x} ", title)
+    return f'@page {{ @bottom-left {{ content: "{shown}"; }} }}'
+
+
 def whole(title, body, style=(), script=()):
     """A page with these styles and scripts beside the common ones."""
     head = '<meta charset="utf-8"><meta name="viewport" content="width=device-width, initial-scale=1">'
     head += f'<meta name="color-scheme" content="light dark"><title>{escape(title)}</title>'
-    head += "<style>" + "".join(map(web, ("palette.css", "page.css", "drawing.css", *style))) + "</style>"
+    head += "<style>" + "".join(map(web, ("palette.css", "page.css", "drawing.css", *style))) + foot_of_sheets(title) + "</style>"
     scripts = "".join(f"<script>{web(name)}</script>" for name in ("page.js", *script))
     return f'<!DOCTYPE html>\n<html lang="en"><head>{head}</head>\n<body>\n<main>\n{body}\n</main>\n{scripts}</body></html>\n'
 
@@ -100,19 +106,19 @@ def warning(origin):
 
 
 def origin_list(origin):
-    """Program, proved or not, version, date and sums."""
+    """Program, proved or not, version, date and checksums."""
     program, code = origin.program, lambda words: f"<code>{escape(words)}</code>"
     told = program.lines() if program else {}
     lines = {
         "Program": code(told["program"]) if told else escape(origin.note),
         "Proved": "yes" if told.get("proof") == "proved" else "not known",
         "Version": escape(told.get("version", "not known")),
-        "Program's sum": code(told["sum"]) if told else "not known",
+        "Program's checksum": code(told["sum"]) if told else "not known",
         "Plan": code(origin.plan),
-        "Plan's sum": code(origin.plan_sum),
-        **({"Sum of the plan as asked": code(origin.asked)} if origin.asked not in ("", origin.plan_sum) else {}),
+        "Plan's checksum": code(origin.plan_sum),
+        **({"Checksum of the plan as asked": code(origin.asked)} if origin.asked not in ("", origin.plan_sum) else {}),
         "Answered": dates_words(origin.dates),
         "Page written": moment_words(now()),
     }
     inside = "".join(f"<dt>{name}</dt><dd>{words}</dd>" for name, words in lines.items())
-    return f'<dl class="origin">{inside}</dl>' + '<p class="note">Sums are SHA-256.</p>'
+    return f'<dl class="origin">{inside}</dl>' + '<p class="note">Checksums are SHA-256.</p>'

@@ -119,7 +119,7 @@ def applied_spans(of_spans):
 
 
 def scenes(plan, rounds):
-    """One scene for each settle step that ended, where `rounds` tells the last round of each."""
+    """One scene for each settle step that ended, where `rounds` has the last round of each."""
     script, result, since = Script(plan), [], []
     last_rounds = iter(rounds)
     for step in plan.steps:
@@ -180,7 +180,7 @@ def route(plan, circuit, applied):
 
 
 def owed(circuit, end, now_round, hops, slips=(0, 0)):
-    """The pointer value and the first bytes that a port is owed that is joined over so many spans."""
+    """The pointer value and the first bytes that a port is owed that is joined over this many spans."""
     other = circuit.other(end)
     ups, downs = slips
     position = CHUNK * (now_round - hops) - 3 * ups + 3 * downs

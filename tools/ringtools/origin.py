@@ -25,7 +25,7 @@ def now():
 
 @dataclass(frozen=True)
 class Program:
-    """A command, and what is known of it. Two of one sum are one program."""
+    """A command, and what is known of it. Two of one checksum are one program."""
 
     words: tuple
     sum: str
@@ -37,20 +37,20 @@ class Program:
         return self.proof == PROVED
 
     def lines(self):
-        """What a kept answer and a table tell of it, by name."""
+        """What a kept answer and a table say of it, by name."""
         return {"sum": self.sum, "program": shlex.join(self.words), "version": self.version or "not told", "proof": self.proof}
 
 
 @dataclass(frozen=True)
 class Origin:
-    """What a page tells of where its answers come from. Without a program it isn't known which one gave them."""
+    """What a page says of where its answers come from. Without a program it isn't known which one gave them."""
 
     program: Program | None
     plan: str  # its file
     plan_sum: str
     dates: tuple = ()  # of the answers
     note: str = ""
-    asked: str = ""  # the sum of what was asked about, where that isn't the plan's file as it is
+    asked: str = ""  # the checksum of what was asked about, where that isn't the plan's file as it is
 
 
 def file_of(word):
@@ -93,7 +93,7 @@ def launched(launcher):
 
 
 def find_program(words):
-    """The program of these words: what a launcher runs, or the command itself. It is proved where a BUILD tells of its very file."""
+    """The program of these words: what a launcher runs, or the command itself. It is proved where a BUILD has its very file."""
     words = (launched(words[0]),) if is_launcher(words) else settled_words(words)
     file = file_of(words[0]) if len(words) == 1 else None
     record = record_of(file) if file else None

@@ -1,4 +1,4 @@
-"""The text of sdhoutage run, read strictly, and put beside what sdhring tells of the same settle steps."""
+"""The text of sdhoutage run, read strictly, and put beside what sdhring reports of the same settle steps."""
 
 import re
 from dataclasses import dataclass
@@ -49,7 +49,7 @@ class Outage:
 
 @dataclass
 class Told:
-    """What the text tells of a settle step: its number and last round, and the outage of each port, by circuit and end."""
+    """What the text says of a settle step: its number and last round, and the outage of each port, by circuit and end."""
 
     number: int
     round: int
@@ -100,7 +100,7 @@ def read_longest(lines, told):
 
 
 def read_outages(text, plan):
-    """What the text tells of each settle step."""
+    """What the text says of each settle step."""
     lines, steps = Lines(text), []
     while found := lines.try_take(SETTLE):
         told = Told(int(found[1]), int(found[2]), {})
@@ -115,7 +115,7 @@ def read_outages(text, plan):
         lines.fail("no line that sdhoutage run writes here")
     lines.at += lines.peek() in ENDS
     if lines.peek() is not None:
-        lines.fail("a line behind the last one")
+        lines.fail("a line after the last one")
     return steps
 
 
@@ -124,7 +124,7 @@ def put_beside(steps, settled):
     ends = [(told.number, told.round) for told in steps]
     wanted = [(step.number, step.round) for step in settled]
     if [number for number, _ in ends] != [number for number, _ in wanted]:
-        raise ReportProblem(f"it tells of {count_of(len(steps), 'settle step')}, and the report of {len(settled)}")
+        raise ReportProblem(f"it has {count_of(len(steps), 'settle step')}, and the report of {len(settled)}")
     for (number, last), (_, other) in zip(ends, wanted):
         if other is not None and last != other:
             raise ReportProblem(f"settle step {number} ends with round {last}, and in the report with round {other}")

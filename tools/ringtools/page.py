@@ -15,7 +15,7 @@ from .report import STATES
 OUT = (
     "Out are the frames of a settle step, of 125 microseconds each and without the delay of the fibres themselves, in which a port was without its own customer's bytes; "
     "a jump is a frame of his that doesn't follow the one before, since chunks were left out or come again. "
-    "The frames before a port's first bytes in a new ring are no outage, and are told as that."
+    "The frames before a port's first bytes in a new ring are no outage, and are shown as that."
 )
 HINT = "Click or tap a circuit, node or fibre; or go there with Tab and the arrow keys, and light a circuit up with Enter."
 
@@ -54,7 +54,7 @@ def span_table(look):
 
 
 def told_otherwise(look):
-    """What the text tells besides nodes and ports: a chunk of `drop`, counts of `big`."""
+    """What the text says besides nodes and ports: a chunk of `drop`, counts of `big`."""
     if look.settled.counts is not None:
         return "<p>{} ports deliver bytes, {} AIS.</p>".format(*look.settled.counts)
     if look.settled.chunk is None:
@@ -166,13 +166,13 @@ def tools():
 
 
 def outages_note(beside):
-    """What `out` means on the page, and which text tells it."""
+    """What `out` means on the page, and which text has it."""
     name, sum_ = beside
-    return f'<p class="note">{OUT} It is told by <code>{escape(name)}</code>, whose sum is <code>{sum_[:12]}</code>.</p>'
+    return f'<p class="note">{OUT} Outages are from <code>{escape(name)}</code>, whose checksum is <code>{sum_[:12]}</code>.</p>'
 
 
 def run_page(title, plan, report, looks, origin, beside=None):
-    """`beside` is the name and the sum of the text that tells outages, where there is one."""
+    """`beside` is the name and the checksum of the text that has outages, where there is one."""
     parts = [f"<h1>{escape(title)}</h1>", warning(origin), ending(plan, report)]
     parts += [f"<p>{about(plan)}</p>", in_short(origin), tools()]
     if beside and looks:

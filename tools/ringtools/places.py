@@ -46,6 +46,11 @@ class Places:
         """The span between two nodes by their names alone, as `Köln–Bonn`."""
         return f"{self.place(one)}–{self.place(other)}"
 
+    def positions(self, ids):
+        """Where the nodes of a ring stand, by what they are called: their identifiers as words, and their places in small letters."""
+        called = {self.nodes[number].casefold(): at for at, number in enumerate(ids) if number in self.nodes}
+        return called | {str(number): at for at, number in enumerate(ids)}
+
     def circuit(self, name):
         """A circuit by the name that its customer knows."""
         return self.circuits.get(name, name)

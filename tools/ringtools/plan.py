@@ -8,10 +8,11 @@ from .places import Places, shown_places, written
 
 # Refusals of steps that can each be read even so; the program itself decides what it accepts, and why not.
 READABLE = {27, 28, 31}
+FEW = 16
 
 
 def enough(size):
-    """The limit with which every settle step of a ring of so many nodes answers."""
+    """The limit with which every settle step of a ring of this many nodes answers."""
     return 64 * size + 512
 
 
@@ -110,10 +111,11 @@ def read_document(data):
 
 
 def needs(found):
-    """Raises the first refusal of these that leaves a plan unreadable."""
+    """Raises the first refusal of these that leaves a plan unreadable, with what would be right where that is few."""
     for refusal in found:
         if refusal.reason not in READABLE:
-            raise PlanProblem(f"{place_words(refusal)}{refusal.said}")
+            right = f"; right would be: {', '.join(map(str, refusal.right))}" if 0 < len(refusal.right) <= FEW else ""
+            raise PlanProblem(f"{place_words(refusal)}{refusal.said}{right}")
 
 
 def place_words(refusal):

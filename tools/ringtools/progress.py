@@ -14,7 +14,7 @@ def duration(seconds):
 
 
 class Progress:
-    """Tells how many cases are done, so many at a time, from the first one on. `expected` is how many seconds all that are left may take, or None."""
+    """Shows how many cases are done, `jobs` at a time, from the first one on. `expected` is how many seconds all that are left may take, or None."""
 
     what = "cases"
 

@@ -39,7 +39,7 @@ REASONS = {
         "unknown key",
         "a key isn't one that a plan has there",
         "circuit",
-        "look for a slip; the document's keys stand before the first `[[circuit]]`, a circuit's behind it",
+        "look for a slip; the document's keys stand before the first `[[circuit]]`, a circuit's after it",
     ),
     13: Reason(
         "rate",
@@ -130,7 +130,7 @@ OTHERS = {
     "not toml": "The plan isn't a TOML document in UTF-8.",
     "too long": "The plan has more than 1,048,576 bytes.",
     "read fault": "Reading the plan failed.",
-    "plant fault": "A fibre of the plant failed in the program's hands; the settle steps before it are told.",
+    "plant fault": "A fibre of the plant failed in the program's hands; the settle steps before it are reported.",
     "no such port": "The port that was asked for isn't one of the plan's.",
     "not built": "The document isn't of a form that this build of the program runs.",
 }

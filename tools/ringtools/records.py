@@ -105,7 +105,7 @@ def chunk_record(chunk):
 
 
 def step_record(kind, step, ids):
-    """One settle step; `drop` tells no round."""
+    """One settle step; `drop` has no round."""
     if kind == "drop":
         return {"settle": step.number, **chunk_record(step.chunk)}
     head = {"settle": step.number, "round": step.round}

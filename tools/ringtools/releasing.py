@@ -10,8 +10,8 @@ import subprocess
 import tarfile
 from pathlib import Path
 
-from .build import HOME, PROGRAMS, Record, read_build, sum_of, write_build
-from .installing import TOOLS, Piece, install, is_run, modules, put, released, texts, version, words_of_the_field
+from .build import HOME, PROGRAMS, Record, read_build, sum_of, version, write_build
+from .installing import TOOLS, Piece, install, is_run, modules, put, released, texts, words_of_the_field
 
 DIST = HOME / "dist"
 PLATFORM = "x86_64-linux"
@@ -114,7 +114,7 @@ def compare():
     for name in PROGRAMS:
         record, file = records.get(name), DIST / name
         if record is None or not file.is_file() or sum_of(file.read_bytes()) != record.sum:
-            said.append(f"dist/{name}: isn't the program that dist/BUILD tells of")
+            said.append(f"dist/{name}: isn't the program that dist/BUILD names")
             differs = True
         elif record.sources != sources_of(name):
             said.append(f"dist/{name}: of release {record.version}, commit {record.commit[:12]}; the sources have changed since")
@@ -133,7 +133,8 @@ def unpacked(commit, folder):
     """The files of a commit, below a folder."""
     data = subprocess.run(["git", "archive", "--format=tar", commit], cwd=HOME, stdout=subprocess.PIPE, check=True).stdout
     with tarfile.open(fileobj=io.BytesIO(data)) as archive:
-        archive.extractall(folder, filter="data")
+        archive.extraction_filter = getattr(tarfile, "data_filter", None)  # Python 3.11 has it from 3.11.4 on
+        archive.extractall(folder)
 
 
 def tree():
@@ -239,7 +240,7 @@ def debian_package(path, folder, moment):
 def pack_here(to, moment):
     """Both archives of the release that stands where this module is."""
     if {name for name, record in in_dist().items() if sum_of((DIST / name).read_bytes()) == record.sum} != set(PROGRAMS):
-        raise ReleaseProblem("dist/ doesn't have the programs that dist/BUILD tells of")
+        raise ReleaseProblem("dist/ doesn't have the programs that dist/BUILD names")
     to.mkdir(parents=True, exist_ok=True)
     paths = [to / f"sdhring-{version()}-{PLATFORM}.tar.xz"]
     tarball(paths[0], moment)

@@ -53,7 +53,7 @@ class PortLine:
 @dataclass
 class Settled:
     number: int
-    round: int | None  # `drop` doesn't tell it
+    round: int | None  # `drop` doesn't have it
     nodes: list = field(default_factory=list)  # by position; empty where the text tells no states
     ports: dict = field(default_factory=dict)  # (circuit's name, end) -> PortLine
     chunk: list | None = None  # lines of `drop`
@@ -177,7 +177,7 @@ def read_counts(lines, plan):
 
 
 def read_drops(lines, plan):
-    """The chunks of `drop`, whose text tells neither the port nor the rounds."""
+    """The chunks of `drop`, whose text has neither the port nor the rounds."""
     settled = []
     while lines.peek() == "ais" or (lines.peek() and CHUNK_LINE.fullmatch(lines.peek())):
         chunk = []
@@ -221,7 +221,7 @@ def read_last(lines, steps_asked, report):
     if line != "done" and line != "plant fault" and report.unsettled is None:
         lines.check(lines.at == 1, "a refusal stands alone")
     if lines.peek() is not None:
-        lines.fail("a line behind the last one")
+        lines.fail("a line after the last one")
 
 
 def kind_of(lines, plan):

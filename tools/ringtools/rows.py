@@ -65,7 +65,7 @@ def file_of(folder, name):
 
 
 def changed(plan, change):
-    """The plan with one line in the place of the one with its key, or behind the last line where no line has it."""
+    """The plan with one line in the place of the one with its key, or after the last line where no line has it."""
     if change in ("", SLOWLY):
         return plan
     if found := re.fullmatch(r"(spaces|letters) up to ([0-9]+) bytes", change):
@@ -147,14 +147,14 @@ def ask(program, row):
 
 
 def difference(row, answer):
-    """Lines that tell what differs; none where the answer is the row's."""
+    """Lines that say what differs; none where the answer is the row's."""
     told = []
     if answer.status != row.status:
         told.append(f"  status {answer.status}, wanted {row.status}")
     if row.text is not None and answer.text != row.text:
         pair = ([line[:120] for line in text.decode("latin-1").splitlines()] for text in (row.text, answer.text))
         told += ["  " + line for line in unified_diff(*pair, "wanted", "written", lineterm="", n=1)][:40]
-        told += [] if len(told) > 1 else ["  the texts differ behind column 120, or in their ends of lines"]
+        told += [] if len(told) > 1 else ["  the texts differ after column 120, or in their ends of lines"]
     if told and answer.said:
         told += ["  standard error: " + line for line in answer.said.decode("utf-8", "replace").splitlines()[:3]]
     return told

@@ -4,8 +4,11 @@ import os
 import shlex
 import signal
 import subprocess
+import tempfile
 import time
 from concurrent.futures import FIRST_COMPLETED, ThreadPoolExecutor, wait
+from dataclasses import dataclass
+from pathlib import Path
 
 from .origin import CannotRun, file_of
 
@@ -46,7 +49,7 @@ def run_here(store, names, jobs, progress):
 
 
 def kept_words(program):
-    """Shell words that write a case's answer as `Store` does. The sum of a program that is one file is taken where it ran."""
+    """Shell words that write a case's answer as `Store` does. The checksum of a program that is one file is taken where it ran."""
     file = file_of(program.words[0]) if len(program.words) == 1 else None
     sum_words = lambda path: f"$(sha256sum < {path} | cut -c1-64)"
     told = {key: shlex.quote(value) for key, value in program.lines().items()}
@@ -56,21 +59,29 @@ def kept_words(program):
     return "; ".join(f"echo {key} {value}" for key, value in told.items())
 
 
-def parallel_words(program, logins, jobs, more):
+@dataclass(frozen=True)
+class Machines:
+    """The machines of GNU parallel, how many cases each has at a time, and more words for it."""
+
+    logins: tuple
+    jobs: int | None
+    more: tuple
+
+    def words(self):
+        logins = [word for login in self.logins for word in ("--sshlogin", login)]
+        return ["parallel", "--will-cite", *self.more, *logins, *(["--jobs", str(self.jobs)] if self.jobs else [])]
+
+
+def parallel_words(program, machines):
     """The command of GNU parallel that runs the cases whose plans it reads from its input."""
-    words = ["parallel", "--will-cite", *more]
-    for login in logins:
-        words += ["--sshlogin", login]
-    if jobs:
-        words += ["--jobs", str(jobs)]
-    words += ["--transferfile", "{}", "--return", "{.}.text", "--return", "{.}.answer", "--cleanup"]
+    words = [*machines.words(), "--transferfile", "{}", "--return", "{.}.text", "--return", "{.}.answer", "--cleanup"]
     run = f"b=$(date +%s); {shlex.join(program.words)} run < {{}} > {{.}}.text; s=$?"
     kept = "case $s in " + "|".join(map(str, STOPPED)) + ") ;; *) ( " + kept_words(program) + " ) > {.}.answer ;; esac"
     return [*words, f"{run}; {kept}"]
 
 
-def run_with_parallel(store, names, logins, jobs, more, progress):
-    words = parallel_words(store.program, logins, jobs, more)
+def run_with_parallel(store, names, machines, progress):
+    words = parallel_words(store.program, machines)
     try:
         running = subprocess.Popen(words, stdin=subprocess.PIPE, cwd=store.folder, text=True)
     except OSError as error:
@@ -89,3 +100,25 @@ def run_with_parallel(store, names, logins, jobs, more, progress):
 
 def processors():
     return len(os.sched_getaffinity(0))
+
+
+def tell_words(program, depth, parts, machines, stem):
+    """The command of GNU parallel that asks for the parts of a table whose numbers it reads from its input. Files have names that no other run has."""
+    words, ask = machines.words(), f"{shlex.join(program.words)} {depth} {{}} {parts} < {stem}.toml > {stem}-{{}}.text"
+    is_here = all(login.rpartition("/")[2] == ":" for login in machines.logins)
+    return [*words, *([] if is_here else ["--basefile", f"{stem}.toml", "--return", f"{stem}-{{}}.text", "--cleanup"]), ask]
+
+
+def tell_with_parallel(program, document, depth, parts, machines):
+    """What the program writes of each part of its table, over these machines. A part that failed ends in what it says."""
+    with tempfile.TemporaryDirectory(prefix="sdhwhatif-") as name:
+        folder = Path(name)
+        (folder / f"{folder.name}.toml").write_bytes(document)
+        numbers = [str(number) for number in range(1, parts + 1)]
+        words = tell_words(program, depth, parts, machines, folder.name)
+        try:
+            subprocess.run(words, input="\n".join(numbers) + "\n", cwd=folder, text=True)
+        except OSError as error:
+            raise CannotRun(f"parallel: {error.strerror}; it is Debian's package `parallel`") from None
+        files = [folder / f"{folder.name}-{number}.text" for number in numbers]
+        return [file.read_bytes() if file.exists() else b"" for file in files]

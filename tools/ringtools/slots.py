@@ -226,7 +226,7 @@ class Slots(Steps):
         return False
 
     def at_position(self, at, until):
-        """Whether all arcs from this position on can be given slots; `until` tells how far each slot is taken."""
+        """Whether all arcs from this position on can be given slots; `until` says how far each slot is taken."""
         if at == self.size:
             return True
         key = at, tuple(sorted((max(until[slot], at), self.ahead(slot, at)) for slot in range(1, self.count + 1)))

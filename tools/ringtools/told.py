@@ -1,174 +1,168 @@
-"""What sdhwhatif tells of a ring, line by line, and whether the same cases run frame by frame show the same."""
+"""What sdhwhatif answers about a ring, case by case, as a table and as JSON; and whether the same cases run frame by frame show the same."""
 
 import csv
 import json
 import random
-import subprocess
-import time
-from dataclasses import asdict, dataclass
+from dataclasses import dataclass
 
+from .desktable import DEPTHS, LOST, OVER, RESULTS, WHOLE
 from .failures import Case
 from .model import arc
-from .origin import CannotRun, sum_of
-from .reasons import REASONS
-from .report import BAD_PLAN
+from .origin import sum_of
+from .pathrings import PathRing
 
-COLUMNS = ["Kind", "Failure", "Kept", "Over", "Lost", "Longest", "Circuits", "Frames", "Also", "Works", "Plan", "Asked"]
-HEAD = b"steps,kept,over,lost,hops,circuits"
-KINDS = {"degrade 1": "fibre degraded", "cut 1": "fibre cut", "cut 2": "span", "cut 4": "node", "manual 1": "manual switch", "forced 1": "forced switch"}
-
-
-class ToldProblem(Exception):
-    """What the program wrote isn't a whole table."""
-
-
-@dataclass(frozen=True)
-class Line:
-    """One case: its steps, how many circuits are kept, go round and are lost, the longest way, and the names of those that are lost."""
-
-    steps: tuple
-    kept: int
-    over: int
-    lost: int
-    hops: int
-    circuits: tuple
-
-    @property
-    def words(self):
-        return "; ".join(self.steps) or "nothing more"
-
-    @property
-    def kind(self):
-        """What a failure alone is."""
-        return KINDS[f"{self.steps[0].split()[0]} {len(self.steps)}"]
-
-    @property
-    def name(self):
-        """The name of its files, where it is run."""
-        return f"told-{sum_of(self.words.encode())[:12]}"
-
-    def case(self, settles):
-        """The case to be run, after so many settle steps."""
-        return Case(self.name, "told", self.words, steps=self.steps, settles=settles)
-
-
-@dataclass(frozen=True)
-class Told:
-    """Nothing, each failure alone and each two, and the program's words on each kind alone."""
-
-    nothing: Line
-    alone: tuple
-    pairs: tuple
-    summary: tuple
-    text: bytes  # of `double`
-    seconds: float
-
-    def lines(self):
-        return (self.nothing, *self.alone, *self.pairs)
-
-    def find(self, words):
-        """The line of these steps, parted by semicolons."""
-        steps = tuple(" ".join(part.split()) for part in words.split(";") if part.strip())
-        return next((line for line in self.lines() if line.steps == steps), None)
-
-    def as_json(self, question, program):
-        named = {name: [asdict(line) for line in lines] for name, lines in (("alone", self.alone), ("pairs", self.pairs))}
-        return json.dumps({**question.record(), **program.lines(), "nothing": asdict(self.nothing), **named}, indent=1) + "\n"
-
-    def write_csv(self, path, question, found):
-        """A row for each case. `found` has the differences of those that were run too, by their words."""
-        kinds = ["nothing more", *(line.kind for line in self.alone), *["two failures"] * len(self.pairs)]
-        with open(path, "w", newline="", encoding="utf-8") as file:
-            writer = csv.writer(file, lineterminator="\n")
-            writer.writerow(COLUMNS)
-            for kind, line in zip(kinds, self.lines()):
-                run = "" if line.words not in found else "differs" if found[line.words] else "the same"
-                writer.writerow([kind, line.words, line.kept, line.over, line.lost, line.hops, " ".join(line.circuits), run, *question.cells()])
+OF_CASE = ("Failures", "Depth", "Kind", "Steps", "Applied", "Kept", "Over", "Lost", "Longest", "Over circuits", "Lost circuits", "Besides ends")
+OF_PATHS = ("Path lost", "Path lost circuits")
+COLUMNS = (*OF_CASE, *OF_PATHS, "Frames", "Script", "Also", "Works", "Plan", "Asked")
 
 
 @dataclass(frozen=True)
 class Question:
-    """What was asked about: the sum of the plan's file, what `--also` and `--works` put behind its script, and the sum of the document with all of it."""
+    """What was asked about: the checksums of the plan's file and of the document that was asked about, its script, and what `--also` and `--works` put after it."""
 
     plan: str
     asked: str
-    script: tuple
-    also: tuple
-    works: tuple
+    beforehand: object
 
     def record(self):
-        return {"plan": self.plan, "asked": self.asked, "script": list(self.script), "also": list(self.also), "works": list(self.works)}
+        before = self.beforehand
+        script = None if before.left_out else [step.text for step in before.own]
+        return {"plan": self.plan, "asked": self.asked, "script": script, "also": before.also_texts(), "works": before.works_texts()}
 
     def cells(self):
-        return ["; ".join(self.also), "; ".join(self.works), self.plan, self.asked]
+        before = self.beforehand
+        return [before.script_words(), "; ".join(before.also_texts()), "; ".join(before.works_texts()), self.plan, self.asked]
 
 
-def question_of(beforehand, data, document):
-    parts = ([step.text for step in beforehand.own], beforehand.also_texts(), beforehand.works_texts())
-    return Question(sum_of(data), sum_of(document), *map(tuple, parts))
+class Told:
+    """The cases of a plan with what is said of each: who is lost, who besides those that end at a lost node, and who in a path ring."""
 
+    def __init__(self, plan, table):
+        self.plan, self.table, self.path = plan, table, PathRing(plan, table.failures)
+        self.names = [circuit.name for circuit in plan.circuits]
+        self.called = {circuit.name: plan.circuit_name(circuit) for circuit in plan.circuits}
+        self.ends = [(circuit.start, circuit.end) for circuit in plan.circuits]
+        self.by = {}
 
-def read_line(line):
-    steps, kept, over, lost, hops, *names = line.split(",")
-    return Line(tuple(steps.split("; ")[:-1]), int(kept), int(over), int(lost), int(hops), tuple(names))
+    def all(self):
+        return self.table.cases.values()
 
+    def depths(self):
+        return range(1, DEPTHS[self.table.depth] + 1)
 
-def read_table(text):
-    """The lines of a whole table, and its summary."""
-    lines = text.splitlines()
-    if len(lines) < 9 or lines[0] != HEAD or lines[-1] != b"done" or not text.endswith(b"\n"):
-        raise ToldProblem(f"`{lines[-1].decode('utf-8', 'replace')}`" if lines else "nothing")
-    try:
-        rows = tuple(read_line(line.decode("ascii")) for line in lines[1:-7])
-    except ValueError as problem:
-        raise ToldProblem(f"a line that isn't the table's: {problem}") from None
-    return rows, tuple(line.decode("ascii") for line in lines[-7:-1])
+    def steps(self, case):
+        return "; ".join(self.table.steps(case)) or "nothing more"
 
+    def name(self, case):
+        """The name of its files, where it is run."""
+        return f"told-{sum_of(self.steps(case).encode())[:12]}"
 
-def refused(text):
-    """Why the program tells no table, in words where it is a reason of a plan."""
-    said = text.decode("utf-8", "replace").strip()
-    found = BAD_PLAN.fullmatch(said)
-    return said + (f": {REASONS[int(found[1])].wrong}" if found and int(found[1]) in REASONS else "")
+    def of(self, case, letter):
+        """The names of the circuits of which this becomes."""
+        key = case.outcome, letter
+        if key not in self.by:
+            self.by[key] = tuple(name for name, found in zip(self.names, case.results) if found == letter)
+        return self.by[key]
 
+    def lost(self, case):
+        return self.of(case, LOST)
 
-def tell(program, document):
-    """All lines, those of single failures first."""
-    begun, tables = time.monotonic(), []
-    for word in ("single", "double"):
-        try:
-            ended = subprocess.run([*program.words, word], input=document, stdout=subprocess.PIPE)
-        except OSError as error:
-            raise CannotRun(f"{program.words[0]}: {error.strerror}") from None
-        if ended.returncode:
-            raise ToldProblem(f"status {ended.returncode}, {refused(ended.stdout)}")
-        tables.append((ended.stdout, *read_table(ended.stdout)))
-    (_, alone, summary), (text, lines, _) = tables
-    if lines[: len(alone)] != alone:
-        raise ToldProblem("the cases of single failures differ in its two tables")
-    return Told(lines[0], alone[1:], lines[len(alone) :], summary, text, time.monotonic() - begun)
+    def lost_nodes(self, case):
+        failures = (self.table.failures[number] for number in case.failures)
+        return {failure.at for failure in failures if failure.kind == "node"}
+
+    def besides(self, case):
+        """The circuits that are lost and end at no node that is."""
+        nodes = self.lost_nodes(case)
+        if not nodes:
+            return self.lost(case)
+        return tuple(name for name, found, ends in zip(self.names, case.results, self.ends) if found == LOST and not nodes & set(ends))
+
+    def path_lost(self, case):
+        return tuple(self.names[place] for place in self.path.lost(case))
+
+    def find(self, words):
+        """The case of these steps or failures, separated by semicolons; of two with the same steps the first, which has fewer failures."""
+        wanted = tuple(" ".join(part.split()) for part in words.split(";") if part.strip())
+        return next((case for case in self.all() if wanted in (self.table.steps(case), self.table.labels(case))), None)
+
+    def record(self, case):
+        """What is said of a case, by the names of the JSON form."""
+        kept, over, lost = case.outcome.counts
+        return {
+            "failures": list(self.table.labels(case)),
+            "steps": list(self.table.steps(case)),
+            "applied": ["{}-{}".format(*self.plan.ends(span)) for span in sorted(case.outcome.applied)],
+            "kept": kept,
+            "over": over,
+            "lost": lost,
+            "longest": case.outcome.hops,
+            "over_circuits": list(self.of(case, OVER)),
+            "lost_circuits": list(self.lost(case)),
+            "besides_ends": list(self.besides(case)),
+            "path_lost_circuits": list(self.path_lost(case)),
+        }
+
+    def row(self, case):
+        """The cells of the table up to what a run by frames showed."""
+        found, table = self.record(case), self.table
+        joined = lambda name, sign=" ": sign.join(found[name])
+        begin = [joined("failures", "; ") or "nothing", len(case.failures), "+".join(table.kinds(case)), joined("steps", "; "), joined("applied")]
+        counts = [found["kept"], found["over"], found["lost"], found["longest"]]
+        path = [len(found["path_lost_circuits"]), joined("path_lost_circuits")]
+        return [*begin, *counts, joined("over_circuits"), joined("lost_circuits"), joined("besides_ends"), *path]
+
+    def write_csv(self, path, question, found):
+        """A row for each case. `found` has the differences of those that were run too, by their failures."""
+        with open(path, "w", newline="", encoding="utf-8") as file:
+            writer = csv.writer(file, lineterminator="\n")
+            writer.writerow(COLUMNS)
+            for case in self.all():
+                run = "" if case.failures not in found else "differs" if found[case.failures] else "the same"
+                writer.writerow([*self.row(case), run, *question.cells()])
+
+    def write_json(self, path, question, program):
+        """One object: what was asked and who answered, the circuits, and the cases, one in a line."""
+        table = self.table
+        head = {**question.record(), **program.lines(), "depth": table.depth, "part": list(table.part), "circuits": self.names}
+        with open(path, "w", encoding="ascii") as file:
+            file.write(json.dumps(head)[:-1] + ', "cases": [\n')
+            for place, case in enumerate(self.all()):
+                file.write((",\n" if place else "") + json.dumps(self.record(case)))
+            file.write("\n]}\n")
 
 
 def drawn(told, wanted):
-    """The lines to be run: so many drawn by chance, and those of which steps are given; and the words of those that no line has."""
-    found, unknown = {}, []
+    """The cases to be run: as many as a number says, drawn by chance, and those that are named; and the words of those that there aren't."""
+    found, unknown, cases = {}, [], list(told.all())
     for word in wanted:
         if word.isdecimal():
-            lines = told.lines()
-            found |= {line.words: line for line in random.SystemRandom().sample(lines, min(int(word), len(lines)))}
-        elif line := told.find(word):
-            found[line.words] = line
+            found |= {case.failures: case for case in random.SystemRandom().sample(cases, min(int(word), len(cases)))}
+        elif case := told.find(word):
+            found[case.failures] = case
         else:
             unknown.append(word)
     return list(found.values()), unknown
 
 
-def differences(plan, line, verdict):
-    """Where a run shows something else than its line tells, in words."""
+def case_to_run(told, case, settles):
+    """The case for `sdhring run`, after this many settle steps."""
+    return Case(told.name(case), "told", told.table.words(case), steps=told.table.steps(case), settles=settles)
+
+
+def differences(told, case, verdict):
+    """Where a run shows something else than the table says, in words."""
     stage = verdict.stage("failed")
     if stage is None:
         return [verdict.problem or "no answer"]
-    cells = stage.cells
+    cells, plan = stage.cells, told.plan
     ways = [len(arc(plan, circuit)) + cells[circuit.name].more for circuit in plan.circuits if cells[circuit.name].kind in ("kept", "over")]
-    shown = Line(line.steps, stage.count("kept"), stage.count("over"), stage.count("lost"), max(ways, default=0), tuple(stage.all_of("lost")))
-    return verdict.differs + [f"{name} is {getattr(line, name)}, the run shows {getattr(shown, name)}" for name in asdict(line) if getattr(line, name) != getattr(shown, name)]
+    odd = [f"{name} is {RESULTS[letter]}, the run shows {cells[name].kind}" for name, letter in zip(told.names, case.results) if cells[name].kind != RESULTS[letter]]
+    if max(ways, default=0) != case.outcome.hops:
+        odd.append(f"the longest way has {case.outcome.hops} spans, the run shows {max(ways, default=0)}")
+    return verdict.differs + odd
+
+
+def part_name(part):
+    """What the names of a part's files have besides."""
+    return "" if part == WHOLE else f"-{part[0]}-of-{part[1]}"

@@ -1,46 +1,75 @@
-"""The page of all failures: what sdhwhatif tells of them, and which of them were run frame by frame too."""
+"""The page of all failures: what sdhwhatif answers about them, the same circuits in a path ring, and which cases were run frame by frame too."""
 
 from collections import Counter
 from html import escape
 
-from .markup import count_of, folded, listing, names, origin_list, table, warning, whole
+from .against import GAINS, LOSES
+from .desktable import KINDS, WHOLE
+from .markup import count_of, folded, listing, names, origin_list, table, unbroken, warning, whole
 from .page import tools
 
-WORST = 60  # pairs that are shown
+WORST = 60  # cases of several failures that are shown
+KIND_WORDS = {"degraded": "fibre degraded", "fibre": "fibre cut", "span": "span cut", "node": "node lost", "manual": "manual switch", "forced": "forced switch"}
+KIND_PLURALS = {"degraded": "fibres degraded", "fibre": "fibres cut", "span": "spans cut", "node": "nodes lost", "manual": "manual switches", "forced": "forced switches"}
+DEPTH_WORDS = {1: "Each failure alone", 2: "Two failures", 3: "Three failures"}
+CASE_HEADS = ["failure", "kept", "over protection", "lost", "longest way in spans", "customers that are lost", "lost in a path ring", "run by frames too"]
+KIND_HEADS = ["failures", "cases", "customers are lost in", "at most", "besides ends of lost nodes in", "at most", "in a path ring in", "at most"]
+BY_PATHS = (
+    "<strong>In a path ring</strong> a circuit is lost where one of its two ports has AIS, by the rule of path protection: "
+    "only cut fibres count there, and no switch or degradation. It is computed by these tools."
+)
 
 
-def frames_cell(line, checked):
+def frames_cell(told, case, checked):
     """Whether the case was run too, with a link to its drawing."""
-    if line.words not in checked:
+    if case.failures not in checked:
         return ""
-    return f'<a href="cases/{line.name}.html">{"differs" if checked[line.words] else "the same"}</a>'
+    return f'<a href="cases/{told.name(case)}.html">{"differs" if checked[case.failures] else "the same"}</a>'
 
 
-def rows_of(lines, checked):
-    for line in lines:
-        yield [escape(line.words), line.kept, line.over, line.lost, line.hops, escape(names(line.circuits)), frames_cell(line, checked)]
+def lost_words(told, case):
+    """Who is lost; where a node is, those that end there apart."""
+    called = lambda found: escape(names(map(told.called.get, found)))
+    besides, lost = told.besides(case), told.lost(case)
+    if not told.lost_nodes(case) or not lost:
+        return called(lost)
+    ends = [name for name in lost if name not in besides]
+    parts = [f"ending there: {called(ends)}"] if ends else []
+    return "; ".join([*parts, f"<strong>besides</strong>: {called(besides)}"] if besides else parts)
 
 
-COLUMNS = ["failure", "kept", "over protection", "lost", "longest way in spans", "customers that are lost", "run by frames too"]
+def rows_of(told, cases, checked):
+    for case in cases:
+        kept, over, lost = case.outcome.counts
+        cells = [kept, over, lost, case.outcome.hops, lost_words(told, case), len(told.path_lost(case))]
+        yield [unbroken(told.table.words(case)), *cells, frames_cell(told, case, checked)]
 
 
 def by_model(told, program):
     """Which answers are whose, and what is proved of them."""
     proved = (
-        "It is proved that what it tells is what the last report of <code>sdhring run</code> shows, over honest fibres and with a limit of at least 64n + 512."
+        "It is proved to answer what the last report of <code>sdhring run</code> shows, over honest fibres and with a limit of at least 64n + 512."
         if program.proved
         else f"This build of it is {program.proof}."
     )
-    cases = f"{count_of(len(told.lines()), 'case')}, nothing more, each failure alone and each two"
-    return f"<strong>Told without a frame:</strong> {cases}, in {told.seconds:.1f} s by <code>sdhwhatif</code>. {proved}"
+    found = told.table
+    depth = {"single": "each failure alone", "double": "each failure alone and each two", "triple": "each failure alone, each two and each three"}[found.depth]
+    part = "" if found.part == WHOLE else f"part {found.part[0]} of {found.part[1]} of "
+    cases = f"{count_of(len(found.cases), 'case')}, {part}nothing more, {depth}"
+    return f"<strong>Without a frame:</strong> {cases}, in {found.seconds:.1f} s by <code>sdhwhatif</code>. {proved}"
+
+
+def codes(texts):
+    return ", ".join(f"<code>{escape(text)}</code>" for text in texts)
 
 
 def asked_words(beforehand):
     """The state of the ring in which all of it was asked."""
-    codes = lambda texts: ", ".join(f"<code>{escape(text)}</code>" for text in texts)
     own = [step.text for step in beforehand.own if step.text != "settle"]
     if own:
         yield f"<strong>After the plan's own script:</strong> {codes(own)}."
+    if beforehand.left_out:
+        yield f"<strong>The plan's own script is left out</strong>, as <code>--without-script</code> asks: {codes(beforehand.left_out)}."
     if beforehand.also:
         yield f"<strong>Before each failure:</strong> {codes(beforehand.also_texts())}."
     if beforehand.works:
@@ -48,16 +77,17 @@ def asked_words(beforehand):
 
 
 def named_nodes(plan):
-    """The nodes with their places, where comments name some: the steps of failures have numbers alone."""
+    """The nodes with their places, where comments name some: steps have numbers alone."""
     if plan.places.nodes:
         yield f"<strong>Nodes eastwards:</strong> {escape(names(map(plan.node_name, range(plan.size))))}."
 
 
-def heading(title, beforehand):
+def heading(file, beforehand):
     """Names the works, where there are any, so that no page is taken for one of the ring without them."""
     during = f", during the works: {'; '.join(beforehand.order)}" if beforehand.works else ""
     after = f", after {'; '.join(beforehand.also_texts())}" if beforehand.also else ""
-    return f"All failures: {title}{during}{after}"
+    without = ", without the plan's own script" if beforehand.left_out else ""
+    return f"All failures: {file}{during}{after}{without}"
 
 
 def by_frames(checked):
@@ -65,37 +95,117 @@ def by_frames(checked):
     if not checked:
         return "<strong>Run frame by frame:</strong> none of them."
     return f"<strong>Run frame by frame:</strong> {count_of(len(checked), 'of these cases', 'of these cases')} by <code>sdhring</code>, " + (
-        f"<strong>{odd} of them differ</strong>." if odd else "and each shows what was told of it."
+        f"<strong>{odd} of them differ</strong>." if odd else "and each shows what was answered about it."
     )
 
 
-def customers(plan, told):
-    alone = Counter(name for line in told.alone for name in line.circuits)
-    pairs = Counter(name for line in told.pairs for name in line.circuits)
-    first = {}
-    for line in told.alone:
-        for name in line.circuits:
-            first.setdefault(name, []).append(line.words)
-    for circuit in plan.circuits:
-        name = circuit.name
-        yield [escape(plan.circuit_name(circuit)), "yes" if name in told.nothing.circuits else "no", alone[name], escape(" | ".join(first.get(name, [])[:4])), f"{pairs[name]} of {len(told.pairs)}"]
+def kinds_words(kinds):
+    """As `span cut and node lost`, or `spans cut` of some of one kind."""
+    counts = Counter(kinds)
+    words = [KIND_WORDS[kind] if count == 1 else f"{['', '', 'two', 'three'][count]} {KIND_PLURALS[kind]}" for kind, count in counts.items()]
+    return " and ".join(words)
 
 
-def told_page(title, beforehand, told, checked, origins):
-    """`checked` has the differences of each case that was run, by its words."""
-    plan, kinds = beforehand.plan, dict.fromkeys(line.kind for line in told.alone)
-    parts = [f"<h1>{escape(heading(title, beforehand))}</h1>", *dict.fromkeys(warning(origin) for origin in origins if origin)]
-    parts += [listing([*named_nodes(plan), *asked_words(beforehand), by_model(told, origins[0].program), by_frames(checked), *map(escape, told.summary)]), tools()]
+def by_kinds(told, depth):
+    """A row for each mixture of kinds: in how many cases customers are lost, and how many at most."""
+    found = {}
+    for case in told.table.of_depth(depth):
+        found.setdefault(told.table.kinds(case), []).append((case.lost, len(told.besides(case)), len(told.path_lost(case))))
+    order = lambda kinds: [KINDS.index(kind) for kind in kinds]
+    for kinds in sorted(found, key=order):
+        columns = list(zip(*found[kinds]))
+        yield [kinds_words(kinds), len(found[kinds]), *(cell for column in columns for cell in (sum(map(bool, column)), max(column)))]
+
+
+def counts_of(told):
+    """In how many cases each customer is lost: by depth, besides those of its own ends, and in a path ring."""
+    every, besides, path = Counter(), Counter(), Counter()
+    for case in told.all():
+        depth = len(case.failures)
+        every.update((name, depth) for name in told.lost(case))
+        besides.update((name, depth) for name in told.besides(case))
+        path.update((name, depth) for name in told.path_lost(case))
+    return every, besides, path
+
+
+def customers(told):
+    """A row for each customer, and the titles of the columns."""
+    every, besides, path = counts_of(told)
+    first = {name: [] for name in told.names}
+    for case in told.table.of_depth(1):
+        for name in told.besides(case):
+            first[name].append(told.table.words(case))
+    titles, counted = ["customer", "lost before"], list(told.depths())
+    for depth in counted:
+        titles += [f"{DEPTH_WORDS[depth].lower()}: lost in", "besides its ends", "in a path ring"]
+    totals = {depth: sum(1 for _ in told.table.of_depth(depth)) for depth in counted}
+    rows = []
+    for name in told.names:
+        cells = [f"{every[name, depth]} of {totals[depth]}" if source is every else source[name, depth] for depth in counted for source in (every, besides, path)]
+        rows.append([escape(told.called[name]), "yes" if every[name, 0] else "no", *cells, unbroken("; ".join(first[name][:4]))])
+    return [*titles, "the first single ones besides its ends"], rows
+
+
+def worst_of(told, depth, checked):
+    """The cases in which most are lost, and those that were run."""
+    found = sorted((case for case in told.table.of_depth(depth) if case.lost), key=lambda case: -case.lost)
+    return found[:WORST] + [case for case in told.table.of_depth(depth) if case.failures in checked and case not in found[:WORST]], len(found)
+
+
+def several(told, depth, checked):
+    """Cases of two or three failures: what mixtures of kinds come to, and the worst."""
+    shown, count = worst_of(told, depth, checked)
+    total = sum(1 for _ in told.table.of_depth(depth))
+    words = f"{DEPTH_WORDS[depth]}: customers are lost in {count} of {total}"
+    kinds = table("by kinds", KIND_HEADS, list(by_kinds(told, depth)))
+    return f"<section><h2>{words}</h2>{kinds}{table('the worst cases', CASE_HEADS, list(rows_of(told, shown, checked)))}</section>"
+
+
+def alone(told, checked):
+    parts = ['<section id="alone"><h2>Each failure alone</h2>', table("by kinds", KIND_HEADS, list(by_kinds(told, 1)))]
+    parts.append(table("nothing more", CASE_HEADS, list(rows_of(told, told.table.of_depth(0), checked))))
+    for kind in KINDS:
+        cases = list(told.table.singles(kind))
+        if cases:
+            parts.append(table(KIND_PLURALS[kind], CASE_HEADS, list(rows_of(told, cases, checked))))
+    return "\n".join([*parts, "</section>"])
+
+
+def against_section(against):
+    """Who gains and who loses beside the other plan or table."""
+    counts, name, depths = against.counts(), escape(against.other.name), against.depths
+    of = lambda circuit, what: sum(counts[circuit, depth, what] for depth in depths)
+    gains, loses = ([circuit for circuit in against.shared if of(circuit, what)] for what in (GAINS, LOSES))
+    called = lambda found: escape(names(map(against.called, found))) or "none"
+    words = [f"<strong>Gain</strong>, as they survive here and are lost there in some case: {called(gains)}."]
+    words.append(f"<strong>Lose</strong>, as they are lost here and survive there: {called(loses)}.")
+    words += [f"Only here: {called(against.only_here)}."] if against.only_here else []
+    words += [f"Only there: {called(against.only_there)}."] if against.only_there else []
+    if against.cases_here or against.cases_there:
+        words.append(f"{against.cases_here} cases are only here, and {against.cases_there} only there; nothing is said of them.")
+    titles = ["customer", *(f"{DEPTH_WORDS.get(depth, 'Nothing more').lower()}: {what}" for depth in depths for what in (GAINS, LOSES))]
+    rows = [[escape(against.called(circuit)), *(counts[circuit, depth, what] for depth in depths for what in (GAINS, LOSES))] for circuit in against.shared]
+    shown = [row for row in rows if any(row[1:])]
+    body = listing(words) + (table("cases in which a customer gains or loses", titles, shown) if shown else "<p>Every customer survives and is lost in the same cases.</p>")
+    return f'<section id="against"><h2>Beside {name}</h2>{body}</section>'
+
+
+def beside_page(against):
+    """The page of two tables alone."""
+    title = f"{against.this.name} beside {against.other.name}"
+    return whole(title, f"<h1>{escape(title)}</h1>{against_section(against)}", ["whatif.css"])
+
+
+def told_page(title, beforehand, told, checked, origins, against=None):
+    """`checked` has the differences of each case that was run, by its failures."""
+    plan = beforehand.plan
+    parts = [f"<h1>{escape(title)}</h1>", *dict.fromkeys(warning(origin) for origin in origins if origin)]
+    room = told.path.room()
+    words = [*named_nodes(plan), *asked_words(beforehand), by_model(told, origins[0].program), by_frames(checked), f"{BY_PATHS} {room}".strip()]
+    parts += [listing(words), tools(), against_section(against) if against else ""]
     if plan.circuits:
-        titles = ["customer", "lost before", "single failures that lose it", "the first of them", "pairs that lose it"]
-        parts.append(f'<section id="customers"><h2>Customers</h2>{table("customers", titles, list(customers(plan, told)))}</section>')
-    parts.append('<section id="alone"><h2>Each failure alone</h2>')
-    parts.append(table("nothing more", COLUMNS, list(rows_of([told.nothing], checked))))
-    for kind in kinds:
-        parts.append(table(kind, COLUMNS, list(rows_of([line for line in told.alone if line.kind == kind], checked))))
-    worst = sorted((line for line in told.pairs if line.lost), key=lambda line: -line.lost)
-    run = [line for line in told.pairs if line.words in checked and line not in worst[:WORST]]
-    words = f"Two failures: circuits are lost in {len(worst)} of {len(told.pairs)}"
-    parts.append(f'</section><section id="pairs"><h2>{words}</h2>{table("those that lose most", COLUMNS, list(rows_of(worst[:WORST] + run, checked)))}</section>')
+        parts.append(f'<section id="customers"><h2>Customers</h2>{table("customers", *customers(told))}</section>')
+    parts.append(alone(told, checked))
+    parts += [several(told, depth, checked) for depth in told.depths() if depth > 1]
     parts += [folded("Where this comes from", origin_list(origin)) for origin in origins if origin]
-    return whole(heading(title, beforehand), "\n".join(parts), ["whatif.css"])
+    return whole(title, "\n".join(parts), ["whatif.css"])

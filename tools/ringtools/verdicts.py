@@ -25,7 +25,7 @@ STATUSES = {
 
 @dataclass(frozen=True)
 class Cell:
-    """One circuit in one stage: kept on its own arc, over protection with so many spans more, lost, or odd."""
+    """One circuit in one stage: kept on its own arc, over protection with this number of spans more, lost, or odd."""
 
     kind: str
     more: int = 0
@@ -94,7 +94,7 @@ def switched(state, side):
 def applied_by_states(plan, nodes):
     """The spans that the nodes at both their ends switch away from."""
     if not nodes:
-        raise ReportProblem("the text tells no node states")
+        raise ReportProblem("the text has no node states")
     for span in range(plan.size):
         if switched(nodes[span].state, "east") != switched(nodes[(span + 1) % plan.size].state, "west"):
             raise ReportProblem(f"the nodes at span {plan.span_name(span)} don't agree whether it is switched")
@@ -155,7 +155,7 @@ def judge(case, plan, text, answer):
 
 
 FIXED = ["Case", "Kind", "Failure", "Status", "Stage", "Round", "Applied", "Kept", "Over", "Lost", "Odd", "Model"]
-SOURCE = ["Program", "Proof", "Version", "Sum", "Answered", "Plan", "Also", "Works"]
+SOURCE = ["Program", "Proof", "Version", "Sum", "Plan", "Script", "Also", "Works"]
 
 
 def table_head(plan):
@@ -164,16 +164,19 @@ def table_head(plan):
 
 
 def source_cells(answer, asked):
-    """Which program answered, whether it is proved, when, the sum of the plan that was asked about, and the steps before and of the works."""
-    told = [answer.program, answer.proof, answer.version, answer.sum, answer.date] if answer else [""] * 5
+    """Which program answered, whether it is proved, the checksum of the plan that was asked about, its script, and the steps before and of the works.
+
+    No date is among them, so that two tables of one ring by one program are the same bytes.
+    """
+    told = [answer.program, answer.proof, answer.version, answer.sum] if answer else [""] * 4
     before = asked.beforehand
-    return told + [asked.plan_sum, "; ".join(before.also_texts()), "; ".join(before.works_texts())]
+    return told + [asked.plan_sum, before.script_words(), "; ".join(before.also_texts()), "; ".join(before.works_texts())]
 
 
 def table_rows(asked, verdict):
-    """One row for each stage; empty cells where a stage didn't come."""
+    """One row for each stage of the case's own; empty cells where a stage didn't come."""
     plan, source = asked.beforehand.plan, source_cells(verdict.answer, asked)
-    for name in verdict.case.stages:
+    for name in verdict.case.own_stages:
         stage = verdict.stage(name)
         begin = [verdict.case.name, verdict.case.kind, verdict.case.words, verdict.status_words(), name]
         if stage is None:

@@ -36,7 +36,7 @@ class Page(html.parser.HTMLParser):
         self.close()
 
     def handle_starttag(self, tag, attributes):
-        self.open += [tag] if tag not in ("meta", "br", "path", "circle", "rect", "line") else []
+        self.open += [tag] if tag not in ("meta", "br", "wbr", "path", "circle", "rect", "line") else []
         if tag == "table":
             self.tables.append(("", []))
         elif tag == "tr":

@@ -10,6 +10,8 @@ from pathlib import Path
 from common import Page
 
 BROWSER = shutil.which("chromium")
+PRINTS = BROWSER and shutil.which("pdftotext")
+WORDS = ("--headless=new", "--no-sandbox", "--disable-gpu")
 # A page of a phone's width in another, which shows what the inner one says.
 PHONE = """<body><script>addEventListener("message", (event) => {
   document.body.innerHTML = "<pre></pre>";
@@ -19,15 +21,25 @@ PHONE = """<body><script>addEventListener("message", (event) => {
 
 
 def browsed(markup, deeds):
-    """What these lines of script put into their list `told`, at the end of the page in a browser."""
-    script = f'<script>{deeds}\nparent.postMessage(told.join("\\n"), "*");</script>'
+    """What these lines of script, which may wait for something, put into their list `told`, at the end of the page in a browser."""
+    script = f'<script>(async () => {{ {deeds}\nparent.postMessage(told.join("\\n"), "*"); }})();</script>'
     with tempfile.TemporaryDirectory() as folder:
         phone = Path(folder) / "phone.html"
         phone.write_text(PHONE)
         phone.with_name("page.html").write_text(markup.replace("</body>", script + "</body>"))
-        words = [BROWSER, "--headless=new", "--no-sandbox", "--disable-gpu", "--virtual-time-budget=5000", f"--user-data-dir={folder}/own", "--dump-dom", phone.as_uri()]
+        words = [BROWSER, *WORDS, "--virtual-time-budget=5000", f"--user-data-dir={folder}/own", "--dump-dom", phone.as_uri()]
         ended = subprocess.run(words, capture_output=True, text=True, timeout=60)
     return html.unescape(re.search("<pre>(.*?)</pre>", ended.stdout, re.S)[1]).split("\n")
+
+
+def printed(markup):
+    """The words of a page's sheets as they are laid out, each ended by a form feed."""
+    with tempfile.TemporaryDirectory() as folder:
+        page, sheets = Path(folder) / "page.html", Path(folder) / "page.pdf"
+        page.write_text(markup, encoding="utf-8")
+        words = [BROWSER, *WORDS, f"--user-data-dir={folder}/own", "--no-pdf-header-footer", f"--print-to-pdf={sheets}", page.as_uri()]
+        subprocess.run(words, capture_output=True, timeout=60)
+        return subprocess.run([PRINTS, "-layout", sheets, "-"], capture_output=True, check=True).stdout.decode()
 
 
 class Seen(Page):

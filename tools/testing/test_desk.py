@@ -1,23 +1,30 @@
 """The page of a desk: its cases beside the plain model of sdhwhatif, what it says of customers, and what a reader does with it in a browser."""
 
+import base64
+import hashlib
 import json
+import random
 import re
 import sys
 import tempfile
+import tomllib
 import unittest
+import zlib
 from functools import cache
+from itertools import combinations
 from pathlib import Path
 from runpy import run_path
 
 from common import RINGS, TOOLS, call
-from pages import BROWSER, Seen, browsed
+from pages import BROWSER, PRINTS, Seen, browsed, printed
 
-from ringtools.deskpage import key_of
-from ringtools.desktable import read_cases
+from ringtools.deskdrawing import DeskDrawing
+from ringtools.deskindex import index_page
+from ringtools.deskpage import Desk, data_of, key_of
+from ringtools.desktable import Reading, ToldProblem, merged, read_cases, tell
 from ringtools.origin import Program
 from ringtools.places import Places
 from ringtools.plan import read_plan
-from ringtools.told import ToldProblem
 
 MODEL = TOOLS.parent / "bench" / "whatif" / "model.py"
 TELLER = f"{sys.executable} {MODEL}"
@@ -45,6 +52,7 @@ DEEDS = """
 const told = [], ring = document.getElementById("ring");
 const item = (name) => [...ring.querySelectorAll(".button")].find((one) => one.getAttribute("aria-label") === name);
 const note = () => told.push(document.getElementById("told").textContent);
+const unpacked = async () => { while (document.getElementById("told").textContent.includes("being unpacked")) await new Promise((done) => setTimeout(done, 20)); };
 const click = (element) => element.dispatchEvent(new MouseEvent("click", { bubbles: true }));
 const key = (element, name) => { element.focus(); element.dispatchEvent(new KeyboardEvent("keydown", { key: name, bubbles: true })); };
 note();
@@ -60,7 +68,17 @@ document.querySelector('input[value="degraded"]').click();
 click(item("fibre Köln>Bad <Ems>").querySelector(".hit")); note();
 document.querySelector('input[value="fibre"]').click();
 click(item("fibre 9>0").querySelector(".hit")); note();
-click(item("span 9–0").querySelector("rect")); note();
+click(item("span 9–0").querySelector("rect")); await unpacked(); note();
+document.getElementById("clear").click();
+const letter = (name) => item(name).dataset.kind + item(name).querySelector(".given").textContent;
+key(item("switch at Bad <Ems> to 9"), "Enter"); note();
+told.push(letter("switch at Bad <Ems> to 9") + " " + item("switch at Bad <Ems> to 9").getAttribute("aria-pressed"));
+document.querySelector('input[value="manual"]').click();
+click(item("switch at 9 to 0").querySelector(".hit")); note();
+told.push(letter("switch at 9 to 0") + letter("switch at 9 to Bad <Ems>"));
+key(item("switch at Bad <Ems> to 9"), " "); note();
+click(item("span Köln–Bad <Ems>").querySelector("rect")); click(item("node 9").querySelector("circle")); note();
+document.getElementById("clear").click();
 document.getElementById("clear").click();
 const cell = [...document.querySelectorAll("#matrix button.case")][2];
 told.push(cell.getAttribute("aria-label"));
@@ -83,7 +101,13 @@ SAID = [
     "span Köln–Bad <Ems>. 0 lost. 2 over protection: Far & wide, near. 0 kept.",
     "fibre Köln>Bad <Ems> degraded. 0 lost. 2 over protection: Far & wide, near. 0 kept.",
     "fibre Köln>Bad <Ems> degraded and fibre 9>0 cut. 0 lost. 0 over protection. 2 kept.",
-    "fibre Köln>Bad <Ems> degraded and fibre 9>0 cut and span 9–0: this case isn't in the page. It has cases of up to two failures, and none that would mend what the script cut or forced.",
+    "fibre Köln>Bad <Ems> degraded and fibre 9>0 cut and span 9–0. 0 lost. 0 over protection. 2 kept.",
+    "forced switch at Bad <Ems> to 9. 0 lost. 1 over protection: Far & wide. 1 kept.",
+    "forcedF true",
+    "forced switch at Bad <Ems> to 9 and manual switch at 9 to 0. 0 lost. 1 over protection: Far & wide. 1 kept.",
+    "manualM",
+    "manual switch at 9 to 0. 0 lost. 0 over protection. 2 kept.",
+    "manual switch at 9 to 0 and span Köln–Bad <Ems> and node 9. 2 lost: Far & wide, near. 0 over protection. 0 kept.",
     "span Köln–Bad <Ems> and span 9–0: 2 lost",
     "span Köln–Bad <Ems> and span 9–0. 2 lost: Far & wide, near. 0 over protection. 0 kept.",
     "Far & wide,near",
@@ -107,16 +131,55 @@ def page():
 class Cases(unittest.TestCase):
     def test_all_of_a_table_is_read_also_after_scripts(self):
         program = Program((sys.executable, str(MODEL)), "")
-        plans = [PLAN.replace('["settle"]', json.dumps(script)) for script in SCRIPTS] + [(RINGS / "two-nodes.toml").read_text()]
-        for document in plans:
+        plans = [(PLAN.replace('["settle"]', json.dumps(script)), "double") for script in SCRIPTS] + [((RINGS / "two-nodes.toml").read_text(), "triple")]
+        for document, depth in plans:
             plan = read_plan(document.encode())
-            table = read_cases(plan, Places(), program, document.encode())
+            table = read_cases(plan, Places(), program, document.encode(), depth)
             with self.subTest(plan=document):
                 self.assertGreater(len(table.cases), 10 * plan.size)
                 count = len(table.failures)
-                keys = sorted(key_of(numbers, count) for numbers in table.cases)
+                keys = sorted(key_of(numbers, count) for numbers in table.cases if len(numbers) < 3)
                 self.assertEqual(len(set(keys)), len(keys))
                 self.assertLessEqual(keys[-1], count * (count + 1) // 2)
+
+    def test_tables_after_scripts_drawn_by_chance_are_read(self):
+        """The model that fills in what a table leaves out agrees with each line of the plain model, whatever the script left."""
+        sys.path.insert(0, str(MODEL.parent))
+        plain, drawing = run_path(str(MODEL)), run_path(str(MODEL.with_name("compare")))
+        for seed in range(25):
+            chance = random.Random(seed)
+            nodes = chance.sample(range(16), chance.choice((2, 3, 4, 5)))
+            script = drawing["script_of"](chance, nodes, 3)
+            text = drawing["document"](4, nodes, 3, drawing["circuits_of"](chance, len(nodes), 2), script)
+            depth = "double" if len(nodes) < 4 else "single"
+            table = plain["table"](plain["ring_of"](tomllib.loads(text)), plain["DEPTHS"][depth], 1, 1)
+            plan = read_plan(text.encode())
+            with self.subTest(seed=seed):
+                self.assertEqual(len(Reading(plan, Places()).cases([table.encode()], depth)), table.count("settle"))
+
+    def test_parts_together_are_the_whole(self):
+        document = (RINGS / "two-nodes.toml").read_bytes()
+        plan, program = read_plan(document), Program((sys.executable, str(MODEL)), "")
+        whole = read_cases(plan, Places(), program, document, "triple")
+        results = lambda table: [(numbers, sorted(case.outcome.applied), case.results) for numbers, case in table.cases.items()]
+        for count in (2, 3, 21):  # 21 is the base of a case's number
+            texts = [tell(program, document, "triple", (number, count)) for number in range(1, count + 1)]
+            self.assertEqual(results(merged(plan, Places(), texts, "triple", 0)), results(whole))
+            with self.assertRaises(ToldProblem):
+                merged(plan, Places(), texts[:-1] + texts[:1], "triple", 0)
+
+    def test_packed_cases_are_the_table(self):
+        """Each case of three failures is found at its place, with the spans and results that the table has for it."""
+        document = (RINGS / "two-nodes.toml").read_bytes()
+        plan = read_plan(document)
+        table = read_cases(plan, Places(), Program((sys.executable, str(MODEL)), ""), document, "triple")
+        data = data_of(Desk(plan, Places(), table), DeskDrawing(plan, Places(), table.failures))
+        unpacked = {name: zlib.decompress(base64.b64decode(text)) for name, text in data["triples"].items()}
+        outcomes = data["outcomes"] + json.loads(unpacked["outcomes"])
+        places = [int.from_bytes(unpacked["cases"][at : at + 2], "little") for at in range(0, len(unpacked["cases"]), 2)]
+        for numbers, place in zip(combinations(range(len(table.failures)), 3), places, strict=True):
+            case = table.cases.get(numbers)
+            self.assertEqual(outcomes[place - 1] if place else None, case and [sorted(case.outcome.applied), case.results])
 
     def test_a_table_that_says_something_else_is_refused(self):
         for deed, said in (
@@ -137,12 +200,17 @@ class Pages(unittest.TestCase):
         rows = seen.table_named("Customers, and")
         self.assertEqual([row["customer"] for row in rows], ["Far & wide", "near"])
         self.assertEqual([row["from"] for row in rows], ["5 Köln", "5 Köln"])
-        self.assertEqual([(row["spans"], row["nodes"], row["pairs of spans"]) for row in rows], [("0", "2", "4"), ("0", "2", "3")])
+        self.assertEqual([(row["spans"], row["nodes besides its ends"], row["pairs of spans"]) for row in rows], [("0", "0", "4"), ("0", "0", "3")])
+        self.assertEqual([row["pairs in a path ring"] for row in rows], ["4", "3"])  # a cut of a span cuts both directions
         matrix = seen.table_named("Customers lost, spans by spans")
         self.assertEqual([[int(cell) for cell in list(row.values())[1:]] for row in matrix], [[0, 1, 2, 2], [1, 0, 1, 1], [2, 1, 0, 0], [2, 1, 0, 0]])
         self.assertIn("Ring <1>", seen.text())
         self.assertIn("Spans cut, one alone : customers are lost in none.", seen.text())
-        self.assertIn("821 cases of up to two failures", seen.text())
+        self.assertIn("sdhwhatif triple answered about 10701 cases of up to three failures", seen.text())
+        self.assertEqual(len(seen.all("section", id="signed")), 1)
+
+    def test_where_the_rates_come_from(self):
+        self.assertIn(f"spans.csv , checksum {hashlib.sha256(SPANS.encode()).hexdigest()}", Seen(page()).text())
 
     def test_availability_is_that_of_the_tool(self):
         tool = run_path(str(TOOLS / "sdhring-availability"))
@@ -160,13 +228,25 @@ class Pages(unittest.TestCase):
         self.assertNotRegex(page(), r"https?://(?!www\.w3\.org)")
 
     def test_what_is_drawn_has_a_name(self):
-        for kind, count in (("fibre", 8), ("span", 4), ("node", 4)):
+        for kind, count in (("fibre", 8), ("switch", 8), ("span", 4), ("node", 4)):
             found = re.findall(rf'<g class="button {kind}"[^>]*><title>([^<]+)</title>', page())
             self.assertEqual(len(set(found)), count)
 
     @unittest.skipUnless(BROWSER, "there is no chromium")
     def test_clicks_and_keys_on_a_phone(self):
         self.assertEqual(browsed(page(), DEEDS), SAID)
+
+
+@unittest.skipUnless(PRINTS, "there is no chromium, or no pdftotext")
+class Printed(unittest.TestCase):
+    def test_tables_have_their_heads_on_each_sheet(self):
+        """Also where the head is made of buttons, by which the table is sorted."""
+        rows = re.search(r'(<section id="customers">.*?<tbody>)(.*?)(</tbody>)', page(), re.S)
+        sheets = printed(page().replace(rows[2], rows[2] * 30)).split("\f")
+        beside = [sheet for sheet in sheets if sheet.count("5 Köln") > 5]
+        self.assertGreater(len(beside), 1)
+        for sheet in beside:
+            self.assertIn("pairs of spans", sheet)
 
 
 class Many(unittest.TestCase):
@@ -181,10 +261,38 @@ class Many(unittest.TestCase):
             index = Seen((folder / "pages" / "index.html").read_text(encoding="utf-8"))
             self.assertEqual([link["href"] for link in index.all("a")], ["north%20ring.html", "two.html"])
             north, two = index.table_named("Rings")
-            self.assertEqual([north[head] for head in ("lost by a fibre", "by a span", "by a node", "by two spans")], ["0", "0", "2", "2"])
-            self.assertEqual((north["pairs of spans that lose some"], north["least available"], two["min/year"]), ("5 of 6", "Far & wide", ""))
+            heads = ("lost with a fibre", "with a span", "with a node", "of these besides its ends", "with two spans")
+            self.assertEqual([north[head] for head in heads], ["0", "0", "2", "0", "2"])
+            self.assertEqual((north["pairs of spans with some lost"], north["least available"], two["min/year"]), ("5 of 6", "Far & wide", ""))
             self.assertIn("min/year", (folder / "pages" / "north ring.html").read_text(encoding="utf-8"))
             self.assertNotIn("min/year", (folder / "pages" / "two.html").read_text(encoding="utf-8"))
+
+
+    def test_a_folder_of_plans_one_of_which_is_none(self):
+        with tempfile.TemporaryDirectory() as name:
+            rings = Path(name) / "rings"
+            rings.mkdir()
+            (rings / "north.toml").write_text(PLAN, encoding="utf-8")
+            (rings / "south.toml").write_text("rate = 5\n")
+            ended = call("sdhring-desk", "--to", "pages", "--teller", TELLER, "--depth", "double", "rings", cwd=name)
+            self.assertEqual(ended.returncode, 1)
+            self.assertIn("rings/south.toml: ", ended.stderr.decode())
+            index = Seen((Path(name) / "pages" / "index.html").read_text(encoding="utf-8"))
+            self.assertIn("south has no page: rings/south.toml: ", index.text())
+            self.assertEqual([row["ring"] for row in index.table_named("Rings")], ["north"])
+
+    @unittest.skipUnless(BROWSER, "there is no chromium")
+    def test_the_index_is_sorted_and_filtered(self):
+        rows = [[f'<a href="{name}.html">{name}</a>', size, *["0"] * 7, "", minutes, ""] for name, size, minutes in (("north", 12, "2.5"), ("south", 4, ""), ("ring 3", 9, "11"))]
+        deeds = """
+const told = [], shown = () => told.push([...document.querySelectorAll("tbody tr")].filter((row) => !row.hidden).map((row) => row.cells[0].textContent).join());
+const head = (number) => document.querySelectorAll("thead button")[number].click();
+head(0); shown(); head(1); shown(); head(10); shown(); head(10); shown();
+document.getElementById("filter").value = "TH";
+document.getElementById("filter").dispatchEvent(new Event("input")); shown();
+"""
+        wanted = ["north,ring 3,south", "south,ring 3,north", "south,north,ring 3", "ring 3,north,south", "north,south"]
+        self.assertEqual(browsed(index_page(rows), deeds), wanted)
 
 
 class Refused(unittest.TestCase):
@@ -196,8 +304,9 @@ class Refused(unittest.TestCase):
                 (1, "sdhring-desk: plan.toml: the answer isn't a table of this plan: status 1", ("--teller", "false")),
                 (1, "sdhring-desk: spans.csv: span Köln–Bad <Ems>,", ("--spans", "spans.csv", "--teller", TELLER)),
                 (2, "--nodes and --groups go with --spans", ("--nodes", "n.csv")),
-                (2, "several plans go with --to", ("other.toml",)),
-                (2, "two plans have one name", ("--to", "pages", "below/plan.toml")),
+                (2, "several plans, or a folder, go with --to", ("other.toml",)),
+                (2, "several plans, or a folder, go with --to", (".",)),
+                (1, "two plans have one name", ("--to", "pages", "below/plan.toml")),
                 (2, "with --to each plan is a file", ("--to", "pages", "-")),
             ):
                 ended = call("sdhring-desk", "plan.toml", *words, cwd=folder)

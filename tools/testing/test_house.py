@@ -110,6 +110,17 @@ class Manuals(unittest.TestCase):
             self.assertEqual(re.findall(r"^[.'](?!\\\"|[A-Za-z]{1,2}(?![\w-])).*", path.read_text(), re.M), [], path.name)
 
 
+class Options(unittest.TestCase):
+    def test_each_option_of_a_tool_is_in_its_man_page_and_in_completion(self):
+        completed = (TOP / "tools" / "completion.bash").read_text()
+        for tool in sorted(TOP.glob("tools/sdhring-*")):
+            options = set(re.findall(r'add_argument\("(--[a-z0-9-]+)"', tool.read_text())) | {"--help", "--version"}
+            manual = (TOP / "docs" / f"{tool.name}.1").read_text().replace("\\-", "-")
+            words = re.search(rf"{tool.name}\) words='([^']*)'", completed)[1].split()
+            self.assertEqual({word for word in words if word.startswith("--")}, options, tool.name)
+            self.assertEqual({option for option in options if option not in manual}, set(), tool.name)
+
+
 class Trusted(unittest.TestCase):
     def test_the_list_of_trusted_crates_is_that_of_crates_txt(self):
         crates = crate_lines()

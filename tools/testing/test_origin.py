@@ -169,10 +169,10 @@ class Answers(Asking):
         told |= {"Sum": sum_of(Path(program).read_bytes()), "Plan": sum_of(self.plan.read_bytes())}
         for row in self.table():
             self.assertEqual({key: row[key] for key in told}, told)
-            self.assertRegex(row["Answered"], r"^\d{4}-\d\d-\d\dT\d\d:\d\d:\d\dZ$")
         for path in self.cases().glob("*.answer"):
             answer = read_answer(path.read_bytes())
             self.assertEqual((answer.program, answer.sum), (program, told["Sum"]))
+            self.assertRegex(answer.date, r"^\d{4}-\d\d-\d\dT\d\d:\d\d:\d\dZ$")
             self.assertEqual((answer.plan, answer.text), tuple(sum_of(path.with_suffix(kind).read_bytes()) for kind in (".toml", ".text")))
         for page in ("page.html", "cases/span-7-9.html"):
             self.assertIn(told["Sum"], self.page(page).text())

@@ -8,8 +8,10 @@ from functools import cache
 from pathlib import Path
 
 from common import TOOLS, call, ring
-from pages import BROWSER, Seen, browsed
+from pages import BROWSER, PRINTS, Seen, browsed, printed
 from rules import Rules
+
+from ringtools.markup import whole
 
 RINGS_RUN = ["before-maintenance", "end-of-waiting", "node-cut-off", "all-dark", "two-nodes", "longest-route", "span-cut"]
 WEB = TOOLS / "ringtools" / "web"
@@ -136,6 +138,18 @@ class Looks(unittest.TestCase):
         self.assertIn("size: A4 landscape", page)
         self.assertIn("@media print", page)
 
+    def test_each_sheet_has_its_number_and_the_title(self):
+        """Whatever the title has: it ends neither the string nor the style."""
+        page = whole('A "ring"\\ </style>', "<p>words</p>" * 400)
+        self.assertIn("counter(page)", page)
+        self.assertIn(r'@bottom-left { content: "A \22 ring\22 \5c  \3c /style>"; }', page)
+        if PRINTS:
+            sheets = printed(page).split("\f")[:-1]
+            self.assertGreater(len(sheets), 1)
+            for number, sheet in enumerate(sheets, 1):
+                self.assertIn('A "ring"\\ </style>', sheet)
+                self.assertRegex(sheet, rf"\b{number} / {len(sheets)}\b")
+
     def test_many_steps_are_in_groups(self):
         """Of more settle steps than a printed page is wide, each is in one table."""
         with tempfile.TemporaryDirectory() as folder:
@@ -152,7 +166,7 @@ class Manuals(unittest.TestCase):
     def test_each_option_is_told(self):
         for tool in ("sdhring-view", "sdhring-whatif"):
             manual = (TOOLS.parent / "docs" / f"{tool}.1").read_text().replace("\\-", "-")
-            options = set(re.findall(r"--[a-z]+", call(tool, "--help").stdout.decode())) - {"--help"}
+            options = set(re.findall(r"--[a-z]+", call(tool, "--help").stdout.decode())) - {"--help", "--version"}
             self.assertEqual(set(re.findall(r"^\.TP\n\.(?:BI|B) (--[a-z]+)", manual, re.M)), options)
             synopsis = manual[manual.index(".SH SYNOPSIS"):manual.index(".SH DESCRIPTION")]
             self.assertEqual(set(re.findall(r"(?:\[|^\.B \S+) (--[a-z]+)", synopsis, re.M)), options)

@@ -8,6 +8,7 @@ from pages import Seen
 from test_whatif_all import TELLER
 
 from ringtools.drawing import Measures
+from ringtools.failures import works_part
 from ringtools.places import read_places
 from ringtools.plan import read_plan, write_plan
 
@@ -93,8 +94,30 @@ class Shown(Asking):
     def test_works(self):
         self.ask("--works", "span 5-2", "--kinds", "span")
         self.assertIn("1 span, 5–2 (Köln <Süd>–Bad Münstereifel-Arloff)", self.words())
+        self.assertIn("The works: span 5–2 (Köln <Süd>–Bad Münstereifel-Arloff)", self.words())
         row = next(row for row in self.page().table_with("customer", "during") if row["customer"] == "near (Near & dear)")
         self.assertEqual(row["from, to"], "5 Köln <Süd> to 2 Bad Münstereifel-Arloff, slot 1")
+
+    def test_works_on_places(self):
+        """A place may have a hyphen of its own, and is known in small letters too."""
+        plan = read_plan(self.plan.read_bytes())
+        both = ("span 5–2 (Köln <Süd>–Bad Münstereifel-Arloff)", ["forced 5 east", "forced 2 west"])
+        for words in ("span Köln <Süd>-Bad Münstereifel-Arloff", "span bad münstereifel-arloff – köln <süd>", "span 5-Bad Münstereifel-Arloff"):
+            self.assertEqual(works_part(plan, words), both)
+        self.assertEqual(works_part(plan, "node Köln <Süd>"), ("node 5 Köln <Süd>", ["forced 4 east", "forced 2 west"]))
+        self.assertEqual(works_part(plan, "span 9-4"), ("span 9–4", ["forced 9 east", "forced 4 west"]))
+        told = self.ask("--works", "span Köln <Süd>-9", wanted=1).stderr.decode()
+        self.assertIn("no span joins node Köln <Süd> and node 9; the spans are 5-2 (Köln <Süd>–Bad Münstereifel-Arloff), 2-9 (", told)
+        self.assertIn("no node Mainz; the nodes are 5 Köln <Süd>, ", self.ask("--works", "node Mainz", wanted=1).stderr.decode())
+
+    def test_customers_are_called_by_their_names(self):
+        """While works free both spans of node 9, the span 5–2 takes the customer between its nodes."""
+        self.ask("--works", "node 9", "--kinds", "span")
+        self.assertRegex(self.words(), "At risk during the works: [^.]*Near & dear")
+        rows = self.page().table_with("second failure", "customers that are lost") + self.page().table_with("failure", "customers that are lost")
+        taking = [row["customers that are lost"] for row in rows if "5\u2060–\u20602" in "".join(map(str, row.values()))]
+        self.assertEqual([words.count("Near & dear") for words in taking], [1, 1])
+        self.assertIn('<option value="near">near (Near &amp; dear)</option>', (self.top / "out" / "page.html").read_text(encoding="utf-8"))
 
     def test_all_failures(self):
         self.ask("--all", "--teller", TELLER, "--frames", "0", "--also", "cut 5 east")

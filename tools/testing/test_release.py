@@ -19,6 +19,9 @@ OF_REPOSITORY = re.compile(r"(?<![\w/])(?:crates|bench|specs|proofs|\.ci|tools/t
 NOT_INSTALLED = re.compile(rf"{OF_REPOSITORY.pattern}|(?<![\w/])(?:docs|tools)/|\./sdh")
 
 
+VERSION = re.escape((TOP / "VERSION").read_text().strip())
+
+
 def run(words, folder, path="/usr/bin:/bin", **more):
     """As a user does who has no kit and no home."""
     environment = {"PATH": path, "HOME": ""}
@@ -100,6 +103,8 @@ class Installed(Released):
         examples = self.prefix / "share" / "doc" / "sdhring" / "examples"
         for name in TOOLS:
             self.assertIn(f"usage: {name}", self.ended(self.start(name, "--help")).stdout)
+            told = self.ended(self.start(name, "--version")).stdout
+            self.assertRegex(told, rf"^{name} {VERSION}, a tool outside the proofs; beside it sdhring 9\.8\.7, commit 012345678901, sources [0-9a-f]{{12}}, proved$")
         told = self.start("sdhring-explain", examples / "refused.toml")
         self.assertEqual(told.returncode, 6)
         self.assertIn("bad plan 24 at 2", told.stdout)
@@ -140,10 +145,24 @@ class Installed(Released):
         self.assertEqual([str(path.relative_to(other)) for path in other.rglob("*")], ["share", "share/doc", "share/doc/another"])
         self.assertIn("FILES isn't there", run([self.top / "sdhring", "--uninstall", other], self.folder, python_path()).stderr)
 
+    def test_all_can_read_it_whatever_the_mask(self):
+        other = self.folder / "masked"
+        self.ended(run(["bash", "-c", 'umask 077 && exec "$0" --install "$1"', self.top / "sdhring", other], self.folder, python_path()))
+        for path in (path for path in other.rglob("*") if not path.is_symlink()):
+            self.assertEqual(path.stat().st_mode & 0o444, 0o444, path)
+            self.assertTrue(path.is_file() or path.stat().st_mode & 0o111 == 0o111, path)
+
     def test_a_folder_that_cannot_be_written(self):
         (self.folder / "a file").write_text("")
         ended = run([self.top / "sdhring", "--install", self.folder / "a file"], self.folder, python_path())
         self.assertIn("can't be written", self.ended(ended, 82).stderr)
+
+
+class OldPython(unittest.TestCase):
+    def test_it_is_said_what_is_wanted(self):
+        before = "import sys; sys.version_info = (3, 10, 13); sys.argv = ['/bin/sdhring-plan']; sys.path.insert(0, 'tools'); import ringtools"
+        ended = run(["python3", "-c", before], TOP, python_path())
+        self.assertEqual((ended.returncode, ended.stderr), (1, "sdhring-plan: Python 3.11 or later is wanted, and this is 3.10\n"))
 
 
 @unittest.skipUnless(shutil.which("git"), "there is no git")
@@ -174,11 +193,11 @@ class Packed(Released):
         cls.git("commit", "-q", "-m", what)
 
     @classmethod
-    def release(cls, *words):
-        return run(["python3", cls.top / "tools" / "release", *words], cls.top, cls.path)
+    def release(cls, *words, python="python3"):
+        return run([python, cls.top / "tools" / "release", *words], cls.top, cls.path)
 
-    def packed(self, name):
-        ended = self.ended(self.release("pack", "--to", self.folder / name))
+    def packed(self, name, python="python3"):
+        ended = self.ended(self.release("pack", "--to", self.folder / name, python=python))
         return {Path(line).name: Path(line) for line in ended.stdout.splitlines()}
 
     def test_the_build(self):
@@ -195,6 +214,10 @@ class Packed(Released):
             executable(self.top / "crates" / name / "out" / name, PROGRAM.replace("ran", f"{name} ran"))
         said = self.ended(self.release("check")).stdout
         self.assertEqual(said.count("the same bytes as these sources build"), 6)
+        file, data = self.top / "dist" / "sdhwatch", (self.top / "dist" / "sdhwatch").read_bytes()
+        file.write_bytes(bytes([data[0] ^ 1]) + data[1:])
+        self.assertIn("dist/sdhwatch: isn't the program that dist/BUILD names", self.ended(self.release("check"), 1).stdout)
+        file.write_bytes(data)
         path = self.top / "crates" / "sdhpath" / "out" / "sdhpath"
         path.write_bytes(path.read_bytes()[:-1] + b"#")
         self.assertIn("dist/sdhpath: DIFFERS from what these sources build", self.ended(self.release("check"), 1).stdout)
@@ -213,7 +236,10 @@ class Packed(Released):
         self.assertIn("isn't committed", ended.stderr)
 
     def test_the_same_bytes_again(self):
-        first, again = self.packed("first"), self.packed("again")
+        """By the system's Python too, where that can read plans: it may be any from 3.11 on."""
+        python = "/usr/bin/python3"
+        is_enough = Path(python).exists() and run([python, "-c", "import tomllib"], self.top).returncode == 0
+        first, again = self.packed("first"), self.packed("again", python if is_enough else "python3")
         self.assertEqual(sorted(first), sorted(again))
         for name, path in first.items():
             self.assertEqual(path.read_bytes(), again[name].read_bytes(), name)
@@ -223,7 +249,7 @@ class Packed(Released):
         """The first commands of README, as they stand there, in a root where nothing else is."""
         path = next(path for name, path in self.packed("tarball").items() if name.endswith(".tar.xz"))
         with tarfile.open(path) as archive:
-            archive.extractall(self.folder / "unpacked", filter="data")
+            archive.extractall(self.folder / "unpacked")
         top = self.folder / "unpacked" / path.name.removesuffix(".tar.xz")
         self.check_commands(top, top)
         for name, text in texts_below(top):

@@ -226,7 +226,7 @@ class Outages(unittest.TestCase):
         self.assertIn("The longest outage in this step: 12 frames, 1.500 ms, at north b, works b. 2 of 6 ports had none.", page.text())
         self.assertIn("No port was without its own customer's bytes in this step.", page.text())
         self.assertTrue(any("port works b at node 3" in title and title.endswith("out in this step: 12 frames, 1.500 ms, 1 jump") for title in page.titles))
-        self.assertIn(f"It is told by {WORKS_OUT} , whose sum is", page.text())
+        self.assertIn(f"Outages are from {WORKS_OUT} , whose checksum is", page.text())
 
     def test_a_port_that_stays_out(self):
         rows = self.page(OUTAGES / "node-cut-off.text", ring("node-cut-off")).table_named("Circuits")
@@ -270,7 +270,7 @@ class Outages(unittest.TestCase):
     def test_standard_input(self):
         ended = call("sdhring-view", "--outages", "-", *WORKS, input=WORKS_OUT.read_bytes())
         self.assertEqual(ended.returncode, 0)
-        self.assertIn("told by <code>standard input</code>", ended.stdout.decode())
+        self.assertIn("Outages are from <code>standard input</code>", ended.stdout.decode())
         ended = call("sdhring-view", "--outages", "-", WORKS[0], "-", input=b"")
         self.assertEqual(ended.stderr, b"sdhring-view: only one of PLAN, REPORT and the outages can be standard input\n")
 
@@ -285,10 +285,10 @@ class Outages(unittest.TestCase):
         self.assertIn("line 9: a settle step can't end with this round", self.said("settle 2 round 256", "settle 2 round 250"))
         self.assertIn("settle step 4 ends with round 640, and in the report with round 512", self.said("settle 4 round 512", "settle 4 round 640"))
         self.assertIn("line 33: no line that sdhoutage run writes here", self.said("done\n", "usage: sdhoutage run, trace NAME END\n"))
-        self.assertIn("line 34: a line behind the last one", self.said("done\n", "done\ndone\n"))
+        self.assertIn("line 34: a line after the last one", self.said("done\n", "done\ndone\n"))
         self.assertIn("line 33: no line that sdhoutage run writes here", self.said("done\n", ""))
         whole = WORKS_OUT.read_text()
-        self.assertIn("it tells of 3 settle steps, and the report of 4", self.said(whole[whole.index("settle 4") :], "unsettled 4\n"))
+        self.assertIn("it has 3 settle steps, and the report of 4", self.said(whole[whole.index("settle 4") :], "unsettled 4\n"))
 
 
 if __name__ == "__main__":

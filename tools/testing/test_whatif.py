@@ -1,6 +1,7 @@
 """sdhring-whatif over small rings, counted against the restoration model by its definitions."""
 
 import hashlib
+import re
 import shutil
 import signal
 import subprocess
@@ -43,13 +44,13 @@ class Whatif(Asking):
         self.check_rows(rows)
         words = self.words()
         self.assertIn("22 failures of a ring with 4 circuits were run: 8 fibres, 4 spans, 4 nodes, 6 pairs of spans.", words)
-        self.assertIn("No single fibre or span takes any of these circuits: near, far, round, back.", words)
-        self.assertIn("A lost node takes the circuits that end there, and no other.", words)
+        self.assertIn("Each circuit survives every single fibre or span: near, far, round, back.", words)
+        self.assertIn("With a lost node the circuits that end there are lost, and no other.", words)
         self.assertIn("88 of the 88 reports that were asked for came and agree with the restoration model.", words)
         failed = [row for row in rows if row["Kind"] == "pair" and row["Stage"] == "failed"]
         pairs = Counter(row["Failure"] for row in failed for name, *_ in CIRCUITS if row[name] == "lost")
         most = max(pairs.values())
-        self.assertIn(f"take {most} circuits: " + ", ".join(name for name in pairs if pairs[name] == most) + ".", words)
+        self.assertIn(f"The worst pairs , with {most} circuits lost: " + ", ".join(name for name in pairs if pairs[name] == most) + ".", words)
         self.check_page(rows)
         self.check_parts()
 
@@ -57,13 +58,13 @@ class Whatif(Asking):
         """The page's tables tell the same as the rows: customers, failures kind by kind, and the matrix."""
         page, failed = self.page(), [row for row in rows if row["Stage"] == "failed"]
         taken = {row["Failure"]: [name for name, *_ in CIRCUITS if row[name] == "lost"] for row in failed}
-        for row in page.table_with("failure", "customers that it takes"):
+        for row in page.table_with("failure", "customers that are lost"):
             names = taken[row["failure"].replace("\u2060", "")]
-            self.assertEqual(row["customers that it takes"], f"takes {len(names)}: {', '.join(names)}" if names else "takes none")
+            self.assertEqual(row["customers that are lost"], f"{len(names)} lost: {', '.join(names)}" if names else "none lost")
         for row in page.table_with("customer", "in short"):
             pairs = [r for r in failed if r["Kind"] == "pair" and r[row["customer"]] == "lost"]
-            self.assertTrue(row["pairs of spans that take it"].startswith(f"{len(pairs)} of 6"), row)
-            self.assertEqual((row["in short"], row["fibres and spans that take it"]), ("no fibre or span takes it", "none of 12"))
+            self.assertTrue(row["lost with pairs of spans"].startswith(f"{len(pairs)} of 6"), row)
+            self.assertEqual((row["in short"], row["lost with fibres and spans"]), ("survives each fibre and span", "none of 12"))
         signs = {"kept": "·", "lost": "✕", "over+0": "="}
         for row in page.table_with("failure", "near"):
             cells = next(r for r in failed if r["Failure"] == row["failure"].replace("\u2060", ""))
@@ -72,7 +73,7 @@ class Whatif(Asking):
         self.check_links(page)
 
     def check_filter(self, page, taken):
-        """What the filter reads: each failure once in its kind and once in the matrix, with the circuits that it takes."""
+        """What the filter reads: each failure once in its kind and once in the matrix, with the circuits that are lost in it."""
         found = Counter((row["data-words"], row["data-taken"]) for row in page.all("tr") if "data-words" in row)
         self.assertEqual(found, Counter({(words, " ".join(names)): 2 for words, names in taken.items()}))
         self.assertEqual(len(page.all("option")), 1 + len(CIRCUITS))
@@ -106,20 +107,50 @@ class Whatif(Asking):
         self.assertEqual({row["Plan"] for row in self.table()}, {hashlib.sha256(document().encode()).hexdigest()})
         self.assertIn("8 failures of a ring with 4 circuits were run: 4 spans, 4 nodes.", self.words())
 
-    def test_a_script_that_is_left_aside(self):
-        left = "The plan's own script is left aside"
-        self.ask("--kinds", "span")
-        self.assertNotIn(left, self.words())
+    def test_the_ring_is_the_one_that_the_script_leaves(self):
+        """Each case goes on after the plan's own script, and mends to what that left."""
+        script = ["settle", "cut 5 east", "settle", "moment 5", "forced 2 east", "settle"]
+        self.plan.write_text(document().replace('["settle"]', f"{script}".replace("'", '"')))
+        self.ask("--kinds", "fibre,span")
+        rows, words = self.table(), re.sub(" ([,.])", r"\1", self.words())
+        self.assertIn("After the plan's own script: cut 5 east, moment 5, forced 2 east.", words)
+        self.assertIn("72 of the 72 reports that were asked for came and agree with the restoration model.", words)
+        case = tomllib.loads((self.cases() / "span-5-2.toml").read_text())["script"]
+        self.assertEqual(case, [*script, "cut 5 east", "cut 2 west", "settle", "cut 5 east", "mend 2 west", "settle", "moment 15", "settle"])
+        for row in rows:
+            script = tomllib.loads((self.cases() / f"{row['Case']}.toml").read_text())["script"]
+            rules = Rules(tomllib.loads(document()) | {"script": script}, [128 * (k + 1) for k in range(6)])
+            last = 128 * (3 + ["before", "failed", "mended", "waited"].index(row["Stage"]))
+            cells = expected(rules, last)
+            self.assertEqual(({name: row[name] for name in cells}, int(row["Round"])), (cells, last), row["Case"])
+            self.assertEqual(row["Script"], "settle; cut 5 east; settle; moment 5; forced 2 east; settle")
+        self.assertIn("Lost before anything fails: ", words)
+
+    def test_the_script_can_be_left_out(self):
         self.plan.write_text(document().replace('["settle"]', '["forced 2 east", "settle"]'))
+        said = self.ask("--kinds", "span", "--without-script").stderr.decode()
+        self.assertIn("plan.toml: the plan's own script is left out: forced 2 east", said)
+        self.assertIn("The plan's own script is left out, as --without-script asks: forced 2 east.", re.sub(" [.]", ".", self.words()))
+        self.assertEqual({row["Script"] for row in self.table()}, {"left out"})
+        self.assertEqual(tomllib.loads((self.cases() / "span-5-2.toml").read_text())["script"][0], "settle")
+
+    def test_a_script_that_leaves_no_room(self):
+        self.plan.write_text(document().replace('["settle"]', f"{['settle'] * 62}".replace("'", '"')))
+        self.assertIn(b"a case would have 65 settle steps, and a script has 64 at most; --without-script leaves it out", self.ask(wanted=1).stderr)
+
+    def test_no_date_is_in_the_table(self):
+        """So two tables of one ring are the same bytes."""
         self.ask("--kinds", "span")
-        self.assertIn(left, self.words())
+        table = (self.top / "out" / "table.csv").read_bytes()
+        self.ask("--kinds", "span", "--anew")
+        self.assertEqual((self.top / "out" / "table.csv").read_bytes(), table)
 
     def small(self):
         self.plan.write_text(ring("two-nodes")[0].read_text())
 
     def test_a_case_that_does_not_settle(self):
         self.small()
-        ended = self.ask("--kinds", "fibre", program=f"{STANDIN} unsettled", wanted=3)
+        ended = self.ask("--kinds", "fibre", "--without-script", program=f"{STANDIN} unsettled", wanted=3)
         rows = [row for row in self.table() if row["Case"] == "fibre-7-east"]
         self.assertEqual([row["Status"] for row in rows], ["Unsettled"] * 4)
         self.assertEqual([(row["Stage"], row["p"]) for row in rows], [("before", "kept"), ("failed", ""), ("mended", ""), ("waited", "")])
@@ -164,9 +195,9 @@ class Whatif(Asking):
 
     @unittest.skipUnless(shutil.which("parallel"), "GNU parallel isn't installed")
     def test_with_parallel(self):
-        """The same rows but for the dates; and the kept answers tell the same, of a command as of a program of one file."""
+        """The same rows; and the kept answers tell the same, of a command as of a program of one file."""
         self.small()
-        rows = lambda: [{key: cell for key, cell in row.items() if key != "Answered"} for row in self.table()]
+        rows = self.table
         for program in (STANDIN, self.copy("copied")):
             self.ask("--kinds", "span", program=program)
             table = rows()

@@ -7,10 +7,14 @@ from collections import Counter
 from cases import CIRCUITS, Asking, document, expected, failures, script_of
 from rules import Rules
 
-from ringtools.failures import read_beforehand, works_steps
+from ringtools.failures import read_beforehand, works_part
 from ringtools.plan import PlanProblem, read_plan
 
 NAMES = [name for name, *_ in CIRCUITS]
+
+
+def works_steps(plan, text):
+    return works_part(plan, text)[1]
 
 
 def rules_of(script):
@@ -63,7 +67,7 @@ class Works(Asking):
         return stages
 
     def second(self, works, kinds):
-        """What each second failure of these kinds takes besides what the works took, by the failure's name."""
+        """Who is lost in each second failure of these kinds besides those lost in the works, by the failure's name."""
         found = {}
         for name, cut in failures().items():
             if name.startswith(kinds):
@@ -75,12 +79,12 @@ class Works(Asking):
     def check_second(self, works, kinds=("fibre", "span", "node"), of_what="a fibre, a span or a node"):
         second, words = self.second(works, kinds), self.words()
         hurting = {name: taken for name, taken in second.items() if taken}
-        self.assertIn(f"{len(hurting)} of {len(second)} second failures of {of_what} during the works take a customer.", words)
+        self.assertIn(f"Customers are lost with {len(hurting)} of {len(second)} second failures of {of_what} during the works.", words)
         links = [found["href"] for found in self.page().all("a")]
         self.assertTrue(all(f"cases/{name}.html" in links for name in hurting))
         by_effect = Counter(", ".join(taken) for taken in hurting.values())
         for row in self.page().table_with("second failure"):
-            taken = row["customers that it takes"].split(": ")[1]
+            taken = row["customers that are lost"].split(": ")[1]
             self.assertEqual(len(row["second failure"].split(", ")), by_effect.pop(taken))
         self.assertFalse(by_effect)
 
@@ -116,7 +120,9 @@ class Works(Asking):
         for words in ("span 2", "span 2 9", "span"):
             self.assertIn(f"`{words}` isn't a part of an order: a span is named by the nodes at its ends, as `span 2-3`", self.ask("--works", words, wanted=1).stderr.decode())
         self.assertIn(b"`node 2-9` isn't a part of an order: a node is named alone", self.ask("--works", "node 2-9", wanted=1).stderr)
-        self.assertIn(b"isn't known", self.ask("--works", "free 5-9", wanted=1).stderr)
+        known = b"`lockout` isn't known; right would be: cut, mend, degrade, forced, manual, clear, moment, hold, slip, settle"
+        self.assertIn(known, self.ask("--works", "lockout 5 east", wanted=1).stderr)
+        self.assertIn(b"`8` is no node of the ring; right would be: 5, 2, 9, 4", self.ask("--works", "forced 8 east", wanted=1).stderr)
 
 
 if __name__ == "__main__":

@@ -5,26 +5,50 @@
   const all = (selector, within = document) => [...within.querySelectorAll(selector)];
   const data = JSON.parse(by("data").textContent);
   const count = data.failures.length, most = 3, ring = by("ring");
+  let triples = null, unpacking = data.triples !== null;
   const words = { k: "kept", o: "over", l: "lost" };
   let chosen = [], whose = "";
 
-  // The place of a case in the list: nothing, each alone, each two. There are no others in the page.
+  // The place of a case in the list: nothing, each alone, each two; and of three in a list of its own.
   const placeOf = ([one, other]) => {
     if (other === undefined) return one === undefined ? 0 : one + 1;
     return 1 + count + (one * (2 * count - one - 1)) / 2 + other - one - 1;
   };
+  const choose2 = (n) => (n * (n - 1)) / 2, choose3 = (n) => (n * (n - 1) * (n - 2)) / 6;
+  const placeOfThree = ([one, other, third]) => choose3(count) - choose3(count - one) + choose2(count - one - 1) - choose2(count - other) + third - other - 1;
 
   const outcome = () => {
     const numbers = [...chosen].sort((a, b) => a - b);
-    const found = numbers.length > 2 ? -1 : data.cases[placeOf(numbers)] ?? -1;
-    return found < 0 ? null : data.outcomes[found];
+    const place = numbers.length > 2 ? (triples?.[placeOfThree(numbers)] ?? 0) - 1 : data.cases[placeOf(numbers)] ?? -1;
+    return data.outcomes[place] ?? null;
+  };
+
+  const unpack = async (text) => {
+    const bytes = Uint8Array.from(atob(text), (letter) => letter.charCodeAt(0));
+    const stream = new Blob([bytes]).stream().pipeThrough(new DecompressionStream("deflate"));
+    return new Response(stream).arrayBuffer();
+  };
+
+  // Cases of three failures are packed, so that the page is small; each is two bytes, the lower one first.
+  const unpackTriples = async () => {
+    const [cases, outcomes] = await Promise.all([data.triples.cases, data.triples.outcomes].map(unpack));
+    const view = new DataView(cases);
+    data.outcomes.push(...JSON.parse(new TextDecoder().decode(outcomes)));
+    triples = Uint16Array.from({ length: cases.byteLength / 2 }, (_, i) => view.getUint16(2 * i, true));
+  };
+
+  const missing = () => {
+    if (chosen.length > 2 && unpacking) return "the cases of three failures are being unpacked.";
+    if (chosen.length > 2 && data.triples && !triples) return "this browser can't unpack the cases of three failures.";
+    if (chosen.length > data.depth) return "this case isn't in the page, which has cases of up to two failures.";
+    return "this case isn't in the page, which has none that would mend what the script cut or forced.";
   };
 
   const namesOf = (results, letter) => data.circuits.filter((_, i) => results[i] === letter).map((circuit) => circuit[0]);
 
   const sentence = (found) => {
     const what = chosen.map((number) => data.failures[number][0]).join(" and ") || "Nothing fails";
-    if (!found) return `${what}: this case isn't in the page. It has cases of up to two failures, and none that would mend what the script cut or forced.`;
+    if (!found) return `${what}: ${missing()}`;
     const [over, lost] = ["o", "l"].map((letter) => namesOf(found[1], letter));
     const kept = data.circuits.length - over.length - lost.length;
     const list = (names) => (names.length ? `: ${names.join(", ")}` : "");
@@ -54,9 +78,11 @@
 
   const showRing = (found) => {
     for (const item of all(".button", ring)) {
-      const failing = chosen.includes(numberOf(item)) || chosen.some((number) => isOf(item, data.failures[number]));
-      item.classList.toggle("failing", failing);
-      item.setAttribute("aria-pressed", String(failing));
+      const number = chosen.find((one) => isOf(item, one)), kind = number === undefined ? "" : data.failures[number][1];
+      item.classList.toggle("failing", kind !== "");
+      item.dataset.kind = kind;
+      item.setAttribute("aria-pressed", String(kind !== ""));
+      if (item.dataset.switch) item.querySelector("text").textContent = { forced: "F", manual: "M" }[kind] ?? "";
     }
     all(".span", ring).forEach((item) => item.classList.toggle("is-applied", !!found && found[0].includes(data.failures[+item.dataset.failure][2])));
     all(".circuit", ring).forEach((item, i) => {
@@ -112,18 +138,18 @@
     show();
   };
 
-  // A fibre stands for one of four failures, as the choice beside the drawing says.
-  const isOf = (item, [, , at, side]) => side !== "" && item.dataset.fibre === `${at} ${side}`;
+  // A fibre is cut or degraded, and a switch is forced or manual, as the choices beside the drawing say.
+  const kindsOf = { fibre: ["fibre", "degraded"], switch: ["forced", "manual"] };
+  const groupOf = (item) => (item.dataset.fibre ? "fibre" : "switch");
+  const isAt = (item, [, kind, at, side]) => kindsOf[groupOf(item)].includes(kind) && item.dataset[groupOf(item)] === `${at} ${side}`;
+  const isOf = (item, number) => (item.dataset.failure ? +item.dataset.failure === number : isAt(item, data.failures[number]));
   const numberOf = (item) => {
     if (item.dataset.failure) return +item.dataset.failure;
-    const kind = document.querySelector('input[name="kind"]:checked').value;
-    return data.failures.findIndex((failure) => failure[1] === kind && isOf(item, failure));
+    const kind = document.querySelector(`input[name="${groupOf(item)}"]:checked`).value;
+    return data.failures.findIndex((failure) => failure[1] === kind && isAt(item, failure));
   };
 
-  const press = (item) => {
-    const there = chosen.find((number) => isOf(item, data.failures[number]));
-    toggle(there ?? numberOf(item));
-  };
+  const press = (item) => toggle(chosen.find((number) => isOf(item, number)) ?? numberOf(item));
 
   const prepareRing = () => {
     ring.classList.add("live");
@@ -173,41 +199,11 @@
     }
   };
 
-  const sortBy = (table, column, button) => {
-    const down = button.dataset.sorted === "up";
-    for (const other of all("button.sort", table)) delete other.dataset.sorted;
-    button.dataset.sorted = down ? "down" : "up";
-    all("th[scope=col]", table).forEach((head, i) => head.setAttribute("aria-sort", i === column ? (down ? "descending" : "ascending") : "none"));
-    const value = (row) => row.cells[column].textContent;
-    const rank = (text) => (text === "never" ? Infinity : Number.parseFloat(text));
-    const numbers = all("tbody tr", table).every((row) => !Number.isNaN(rank(value(row))));
-    const order = (a, b) => (numbers ? rank(value(a)) - rank(value(b)) : value(a).localeCompare(value(b)));
-    const rows = all("tbody tr", table).sort((a, b) => (down ? -order(a, b) : order(a, b)) || 0);
-    table.tBodies[0].append(...rows);
-  };
-
-  const prepareTable = (table) => {
-    all("th[scope=col]", table).forEach((head, column) => {
-      const button = document.createElement("button");
-      button.type = "button";
-      button.className = "sort";
-      button.append(...head.childNodes);
-      head.append(button);
-      button.addEventListener("click", () => sortBy(table, column, button));
-    });
-  };
-
-  const filter = () => {
-    const wanted = by("filter").value.toLowerCase();
-    for (const row of all("#customers tr[data-customer]")) row.hidden = !row.textContent.toLowerCase().includes(wanted);
-  };
-
   prepareRing();
   prepareNames();
   prepareCases();
-  all("#customers table").forEach(prepareTable);
   document.querySelector(".panel").hidden = false;
-  by("filter").addEventListener("input", filter);
+  by("large").addEventListener("change", (event) => ring.parentElement.classList.toggle("large", event.target.checked));
   by("clear").addEventListener("click", () => set([]));
   by("whose").addEventListener("change", (event) => follow(event.target.value));
   by("choose").addEventListener("change", (event) => {
@@ -215,4 +211,10 @@
     event.target.value = "";
   });
   show();
+  if (unpacking) {
+    unpackTriples().catch(() => {}).then(() => {
+      unpacking = false;
+      show();
+    });
+  }
 })();

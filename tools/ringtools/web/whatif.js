@@ -1,5 +1,5 @@
 "use strict";
-// Filters the failures by words and by the customer that they take.
+// Filters the failures by words and by the customer that is lost.
 (() => {
   const form = document.querySelector("form.filter");
   if (!form) return;

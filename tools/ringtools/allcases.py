@@ -1,0 +1,158 @@
+"""Every failure of a plan alone, each two and each three, as sdhwhatif answers: tables and a page, rules, and some cases run frame by frame too."""
+
+import shlex
+import sys
+import time
+
+from .against import Against, cases_of_table, cases_of_told
+from .asking import DIFFERS, INTERRUPTED, Stop, folder_of, say, subject_of, warn_of
+from .casepage import draw_cases
+from .checks import SETTLES
+from .desktable import WHOLE, ToldProblem, merged, read_cases
+from .files import FileProblem
+from .framed import asked_of, machines_of, put_cases, run_cases, store_of
+from .origin import TELLER, CannotRun, Origin, find_program, sum_of
+from .required import BROKEN, NOT_ASKED, depth_for, line_of, not_asked, records
+from .running import processors, tell_with_parallel
+from .tables import TableProblem
+from .told import Question, Told, case_to_run, differences, drawn, part_name
+from .toldpage import beside_page, heading, told_page
+from .verdicts import judge
+
+PARTS = {"single": 1, "double": 8, "triple": 64}  # over machines
+
+
+def teller_of(asked):
+    return find_program(shlex.split(asked.teller) if asked.teller else [str(TELLER)])
+
+
+def told_of(asked, subject, depth, part=WHOLE):
+    """The cases of a plan, and the program that answered."""
+    program = teller_of(asked)
+    plan, places = subject.asked, subject.plan.places
+    try:
+        if asked.sshlogin and part == WHOLE:
+            begun, parts = time.monotonic(), PARTS[depth]
+            texts = tell_with_parallel(program, subject.document, depth, parts, machines_of(asked))
+            table = merged(plan, places, texts, depth, time.monotonic() - begun)
+        else:
+            table = read_cases(plan, places, program, subject.document, depth, part)
+    except ToldProblem as problem:
+        raise Stop(f"{subject.name}: {shlex.join(program.words)} writes no table: {problem}") from None
+    return Told(plan, table), program
+
+
+def against_of(asked, told, part):
+    """This plan's cases beside those of --against: a table of an earlier run, or a plan, with its own script."""
+    name = asked.against
+    if name is None:
+        return None
+    this = cases_of_told("this plan", told)
+    if name.endswith(".csv"):
+        return Against(this, table_of(name))
+    other, _ = told_of(asked, subject_of(name, None, None, asked.without_script), told.table.depth, part)
+    return Against(this, cases_of_told(name, other))
+
+
+def table_of(name):
+    try:
+        return cases_of_table(name)
+    except (FileProblem, TableProblem) as problem:
+        raise Stop(str(problem)) from None
+
+
+def compare_tables(asked, name):
+    """Two tables of earlier runs beside each other; nothing is asked."""
+    if not asked.against or not asked.against.endswith(".csv"):
+        raise Stop(f"{name}: a table in place of a plan is compared with another one: --all --against TABLE.csv")
+    against, folder = Against(table_of(name), table_of(asked.against)), folder_of(asked, name)
+    folder.mkdir(parents=True, exist_ok=True)
+    against.write_csv(folder / "against.csv")
+    (folder / "against.html").write_text(beside_page(against), encoding="utf-8")
+    print(f"{folder / 'against.csv'}\n{folder / 'against.html'}")
+    return 0
+
+
+class Writing:
+    """What is written about the cases of a plan: once before any is run by frames, and once more after."""
+
+    def __init__(self, asked, subject, told, teller, against):
+        self.asked, self.subject, self.told, self.teller, self.against = asked, subject, told, teller, against
+        self.question = Question(sum_of(subject.data), sum_of(subject.document), subject.beforehand)
+        self.folder, self.end = folder_of(asked, subject.name), part_name(told.table.part)
+
+    def path(self, kind):
+        return self.folder / f"all{self.end}.{kind}"
+
+    def write_once(self):
+        """What doesn't change by cases that are run: what was asked and answered, as it is, as JSON, and beside the other."""
+        self.folder.mkdir(parents=True, exist_ok=True)
+        self.path("toml").write_bytes(self.subject.document)
+        self.path("text").write_bytes(self.told.table.text)
+        self.told.write_json(self.path("json"), self.question, self.teller)
+        if self.against:
+            self.against.write_csv(self.folder / f"against{self.end}.csv")
+
+    def write(self, store, checked):
+        """The table and the page. `checked` has the cases that were run, each with its verdict."""
+        told, subject = self.told, self.subject
+        found = {case.failures: differences(told, case, verdict) for case, verdict in checked}
+        dates = tuple(store.answer(told.name(case)).date for case, verdict in checked if verdict.answer) if store else ()
+        programs = [(self.teller, ()), *([(store.program, dates)] if store else [])]
+        origins = [Origin(program, subject.title, self.question.plan, times, asked=self.question.asked) for program, times in programs]
+        told.write_csv(self.path("csv"), self.question, found)
+        title = self.asked.title or heading(subject.title, subject.beforehand)
+        page = told_page(title, subject.beforehand, told, found, origins, self.against)
+        self.path("html").write_text(page, encoding="utf-8")
+        for case, _ in checked:
+            for difference in found[case.failures]:
+                say(f"{told.table.words(case)}: {difference}")
+        return DIFFERS if any(found.values()) else 0
+
+    def names(self):
+        kinds = [str(self.path(kind)) for kind in ("csv", "json", "html")]
+        return kinds + ([str(self.folder / f"against{self.end}.csv")] if self.against else [])
+
+
+def run_some(asked, subject, told, chosen):
+    """Runs these cases frame by frame, and draws each."""
+    settles = subject.beforehand.settled_texts().count("settle")
+    if settles >= SETTLES:
+        raise Stop(f"the script has {settles} settle steps, so none fits after it that would run a case frame by frame: --frames 0 runs none")
+    store = store_of(asked, subject)
+    cases = [case_to_run(told, case, settles) for case in chosen]
+    put_cases(asked, store, subject.beforehand, cases)
+    try:
+        run_cases(asked, store, subject.beforehand, cases)
+    except KeyboardInterrupt:
+        raise Stop("stopped; the cases that are done are kept", INTERRUPTED) from None
+    draw_cases(asked_of(asked, subject, store), cases, asked.jobs or processors())
+    verdicts = [judge(case, subject.beforehand.plan_of(case), store.text(case.name), store.answer(case.name)) for case in cases]
+    return store, list(zip(chosen, verdicts))
+
+
+def ask_all(asked, subject):
+    """Every failure alone and each two, or as deep as is asked for, and some of these cases frame by frame."""
+    told, teller = told_of(asked, subject, asked.depth or "double", asked.shard)
+    warn_of(teller)
+    against = against_of(asked, told, asked.shard)
+    chosen, unknown = drawn(told, asked.frames or ["8"])
+    if unknown:
+        raise Stop(f"--frames '{unknown[0]}': no case has these steps or failures; all.csv has those that there are")
+    writing = Writing(asked, subject, told, teller, against)
+    writing.write_once()
+    writing.write(None, [])
+    print("\n".join(writing.names()), flush=True)
+    return writing.write(*run_some(asked, subject, told, chosen)) if chosen else 0
+
+
+def require(asked, name, rules):
+    """Writes a record for each rule about one plan. The status is 1 where a rule is broken, or nothing could be asked."""
+    try:
+        told, _ = told_of(asked, subject_of(name, asked.also, asked.works, asked.without_script), depth_for(rules))
+        found = list(records(name, rules, told))
+    except (Stop, CannotRun) as problem:
+        found = not_asked(name, rules, str(problem))
+    sys.stdout.write("".join(map(line_of, found)))
+    sys.stdout.flush()
+    return int(any({BROKEN, NOT_ASKED} & set(cells) for cells in found))

@@ -1,0 +1,32 @@
+"""The words that a tool is started with, among which each knows --help and --version."""
+
+import argparse
+
+from .build import version
+from .origin import LAUNCHER, CannotRun, find_program
+
+
+def version_words(tool):
+    """The tool's version, and what is known of the program beside it."""
+    try:
+        program = find_program([str(LAUNCHER)])
+        beside = f"{program.version or LAUNCHER.name}, {program.proof}"
+    except CannotRun:
+        beside = "no program"
+    return f"{tool} {version()}, a tool outside the proofs; beside it {beside}"
+
+
+class ShowVersion(argparse.Action):
+    """Looks at the program's file only where --version asks for it."""
+
+    def __call__(self, parser, *_):
+        print(version_words(parser.prog.split()[0]))
+        parser.exit()
+
+
+class Options(argparse.ArgumentParser):
+    """The parser of a tool's words."""
+
+    def __init__(self, **more):
+        super().__init__(**more)
+        self.add_argument("--version", action=ShowVersion, nargs=0, help="show the version, and whether the program beside is proved")

@@ -1,0 +1,148 @@
+"""How long works interrupt customers: the page and the table of a works order, against the plain simulation and the rule of a forced switch."""
+
+import re
+import subprocess
+import sys
+import unittest
+
+from cases import CIRCUITS, IDS, Asking
+from common import TOOLS
+from pages import Seen
+
+SIMULATE = f"{sys.executable} {TOOLS.parent / 'bench' / 'outage' / 'simulate.py'}"  # a command
+PORT = re.compile(r"port (\S+) ([ab]) out (\d+) ms (\d+\.\d{3}) from (\S+) to (\S+) ais \d+ ones \d+ jump (\d+) strange \d+")
+STAGES = ["before", "during", "after", "waited"]
+BEGIN, END = "interrupted as they begin", "interrupted as they end"
+
+
+def simulated(plan):
+    """What the simulation tells of each stage of this plan's script: by stage, circuit and port the frames, milliseconds, jumps and whether it is out to the end."""
+    text = subprocess.run([*SIMULATE.split(), "run"], input=plan, capture_output=True, check=True).stdout.decode()
+    found = {}
+    for stage, part in zip(STAGES, text.split("settle ")[-len(STAGES) :]):
+        last = part.split()[2]
+        for name, end, frames, ms, _, to, jumps in PORT.findall(part):
+            found[stage, name, end] = int(frames), ms, int(jumps), to == last and frames != "0"
+    return found
+
+
+class Interruptions(Asking):
+    def order(self, works, *words, **more):
+        return self.ask("--works", works, "--kinds", "node", *words, **more)
+
+    def check_table(self):
+        """Each port in each stage but the first, in which the ring starts: as the simulation has it."""
+        wanted = simulated((self.top / "out" / "outages" / "works.toml").read_bytes())
+        rows = self.table("outages.csv")
+        self.assertEqual(len(rows), 3 * 2 * len(CIRCUITS))
+        for row in rows:
+            told = int(row["Frames"]), row["Milliseconds"], int(row["Jumps"]), row["Still out"] == "yes"
+            self.assertEqual(told, wanted[row["Stage"], row["Circuit"], row["Port"]])
+        ends = {name: (str(start), str(end)) for name, start, end, _ in CIRCUITS}
+        self.assertEqual({row["Node"] for row in rows if (row["Circuit"], row["Port"]) == ("far", "b")}, {ends["far"][1]})
+        return wanted
+
+    def touched(self):
+        return {row["customer"]: row for row in self.page().table_named("Customers that the works touch")}
+
+    def test_a_forced_switch(self):
+        """It costs 4n - 4 frames in a ring of n nodes, and clearing it none but a jump; whoever isn't on the span loses nothing."""
+        self.order("span 2-9")
+        self.check_table()
+        out = 4 * len(IDS) - 4
+        words, rows = f"{out} frames, {out / 8:.3f} ms", self.touched()
+        self.assertEqual(sorted(rows), ["far", "round"])
+        self.assertEqual({(row[BEGIN], row[END]) for row in rows.values()}, {(words, "1 jump")})
+        self.assertIn(f"Interrupted as they begin : 2 customers of 4 for at most {words}.", self.words())
+        self.assertIn("Interrupted as they end : 2 customers for no frame, but with a jump.", self.words())
+        self.assertNotIn("Interrupted after waiting", self.words())
+        self.assertIn("Fibre delay is not included.", self.words())
+
+    def test_a_lost_customer(self):
+        """Those that end at the node are out from then on; what they are out as the works end counts from there."""
+        self.order("node 2")
+        wanted, rows = self.check_table(), self.touched()
+        for name in ("near", "far"):
+            self.assertEqual(rows[name][BEGIN], "from then on")
+            frames, ms, *_ = max(wanted["after", name, end] for end in "ab")
+            self.assertTrue(rows[name][END].startswith(f"{frames} frame"), rows[name][END])
+            self.assertIn(f"{ms} ms", rows[name][END])
+        self.assertIn("2 customers from then on", self.words())
+
+    def test_what_was_lost_before_is_not_interrupted(self):
+        self.order("manual 9 east", "--also", "cut 5 east; cut 2 east")
+        self.check_table()
+        self.assertNotIn("from then on", self.words())
+
+    def test_works_after_the_plan_s_script(self):
+        """Its settle steps come before those of the works, and what it leaves cut stays cut: one who has lost one way loses the other."""
+        self.plan.write_text(self.plan.read_text().replace('["settle"]', '["settle", "cut 4 west", "settle", "moment 3", "settle"]'))
+        self.order("span 5-2")
+        wanted, rows = self.check_table(), self.touched()
+        self.assertEqual(rows["near"][BEGIN], "from then on")
+        self.assertTrue(wanted["during", "near", "a"][-1])
+        self.assertEqual(len(list(Seen((self.cases() / "works.html").read_text()).tables_of("Customers after"))[0][0]), 1 + len(STAGES))
+
+    def test_where_they_come_from(self):
+        """The drawing has them too. They are the proved sdhoutage's; of another command that isn't known, and it is said."""
+        self.order("span 2-9")
+        page = Seen((self.cases() / "works.html").read_text())
+        self.assertIn("The longest outage in this step: 12 frames, 1.500 ms", page.text())
+        self.assertIn("outages/works.text", page.text())
+        self.assertIn("Where the interruptions come from", self.words())
+        rows = self.table("outages.csv")
+        self.assertEqual({row["Proof"] for row in rows}, {"proved"})
+        self.order("span 2-9", "--counter", self.another())
+        again = self.table("outages.csv")
+        self.assertEqual([list(row.values())[:10] for row in again], [list(row.values())[:10] for row in rows])
+        self.assertEqual({row["Proof"] for row in again}, {"not known to be proved"})
+
+    def another(self):
+        """A program that runs the one beside."""
+        program = self.top / "another"
+        program.write_text(f'#!/bin/sh\nexec {TOOLS.parent / "sdhoutage"} "$@"\n')
+        program.chmod(0o755)
+        return str(program)
+
+    def test_answers_are_kept(self):
+        self.order("span 2-9")
+        kept = self.top / "out" / "outages" / "works.answer"
+        before = kept.stat().st_mtime_ns
+        self.order("span 2-9")
+        self.assertEqual(kept.stat().st_mtime_ns, before)
+        self.order("span 2-9", "--anew")
+        self.assertNotEqual(kept.stat().st_mtime_ns, before)
+
+    def test_a_text_that_is_not_of_these_works(self):
+        for line in ("done", "settle 1 round 128", "no text of it"):
+            ended = self.order("span 2-9", "--counter", self.script("counter", line, 0), wanted=4)
+            self.assertIn(b"how long the works interrupt customers isn't known", ended.stderr)
+            self.assertIn("How long customers are interrupted isn't known", self.words())
+
+    def test_without_works(self):
+        self.assertIn(b"--counter goes with --works", self.ask("--counter", "sdhoutage", wanted=1).stderr)
+        self.ask("--kinds", "span")
+        self.assertFalse((self.top / "out" / "outages.csv").exists())
+
+    def test_only_the_part_with_the_works_counts(self):
+        self.order("span 2-9", "--shard", "2/2")
+        self.assertEqual([path.name for path in (self.top / "out").glob("outages*")], [])
+        self.order("span 2-9", "--shard", "1/2")
+        self.assertTrue((self.top / "out" / "outages-1-of-2.csv").exists())
+
+
+class Title(Asking):
+    TITLE = "Order 4711 <night>, 01:00 to 05:00"
+
+    def test_an_order_has_its_number_in_the_heading(self):
+        self.ask("--works", "span 2-9", "--kinds", "node", "--title", self.TITLE)
+        self.assertTrue(self.words().startswith(f"{self.TITLE} {self.TITLE} Plan plan.toml"), self.words()[:120])
+        self.assertIn(f"{self.TITLE}: the works: span 2-9", Seen((self.cases() / "works.html").read_text()).text())
+
+    def test_so_has_a_page_of_all_failures(self):
+        self.ask("--all", "--frames", "0", "--works", "span 2-9", "--title", self.TITLE)
+        self.assertTrue(self.page("all.html").text().startswith(self.TITLE))
+
+
+if __name__ == "__main__":
+    unittest.main()
