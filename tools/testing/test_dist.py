@@ -2,6 +2,7 @@
 
 import os
 import shutil
+import signal
 import subprocess
 import sys
 import tempfile
@@ -9,6 +10,7 @@ import time
 import unittest
 from pathlib import Path
 
+from checkouts import at_terminal
 from common import RINGS, TOOLS
 
 from ringtools.build import PROGRAMS, read_build, sum_of
@@ -29,9 +31,13 @@ def copied(to):
             shutil.copy(path, to)
 
 
+def plain_environment():
+    """The environment of a user without the kit and without a home."""
+    return {"PATH": f"{Path(shutil.which('python3')).resolve().parent}:/usr/bin:/bin", "HOME": ""}
+
+
 def run(words, folder, **more):
-    path = f"{Path(shutil.which('python3')).resolve().parent}:/usr/bin:/bin"
-    return subprocess.run(words, cwd=folder, env={"PATH": path, "HOME": ""}, capture_output=True, timeout=60, **more)
+    return subprocess.run(words, cwd=folder, env=plain_environment(), capture_output=True, timeout=60, **more)
 
 
 @unittest.skipUnless((DIST / "BUILD").is_file(), "there is no release yet")
@@ -62,6 +68,47 @@ class Dist(unittest.TestCase):
         self.assertEqual((ended.returncode, ended.stdout), (0, (RINGS / "span-cut.text").read_bytes()))
         changed = run([self.top / "sdhring", "--sources"], self.top).stdout.decode().strip() != self.records["sdhring"].sources
         self.assertEqual(b"the sources have changed since" in ended.stderr, changed)
+
+    def test_words_that_are_not_known_lead_on(self):
+        for name, words, right in (
+            ("sdhring", ["examples/tie.toml"], "./sdhring run < examples/tie.toml"),
+            ("sdhring", ["drop", "c1", "a", "examples/tie.toml"], "./sdhring drop c1 a < examples/tie.toml"),
+            ("sdhoutage", ["examples/tie.toml"], "./sdhoutage run < examples/tie.toml"),
+            ("sdhwhatif", ["double", "examples/tie.toml"], "./sdhwhatif double < examples/tie.toml"),
+        ):
+            with self.subTest(words=words):
+                ended = run([self.top / name, *words], self.top, input=b"")
+                self.assertEqual(ended.returncode, 2)
+                self.assertTrue(ended.stdout.startswith(f"usage: {name} ".encode()), ended.stdout)
+                self.assertIn(f"{right}\n", ended.stderr.decode())
+
+    def test_a_refusal_that_goes_to_a_terminal_is_explained(self):
+        for plan, status, said in (("refused", 6, "examples/refused.toml:8:26: bad plan 24 at 2"), ("too-short", 7, "write limit = ")):
+            with self.subTest(plan=plan):
+                plan = self.top / "examples" / f"{plan}.toml"
+                ended, seen = at_terminal([self.top / "sdhring", "run"], self.top, plain_environment(), plan)
+                self.assertEqual(ended, status)
+                self.assertIn(said, seen)
+
+    def test_a_signal_ends_the_program(self):
+        # (whoever started the tests may have had SIGINT ignored, and a shell can't take that back)
+        hears = lambda: signal.signal(signal.SIGINT, signal.SIG_DFL)
+        for sent in (signal.SIGINT, signal.SIGTERM, signal.SIGHUP):
+            with self.subTest(sent=sent.name):
+                words = [self.top / "sdhring", "run"]
+                pipes = {"stdin": subprocess.PIPE, "stdout": subprocess.PIPE, "stderr": subprocess.PIPE}
+                with subprocess.Popen(words, cwd=self.top, env=plain_environment(), preexec_fn=hears, **pipes) as started:
+                    time.sleep(1)  # it waits for its plan by then, and the signal comes to it or to the launcher
+                    started.send_signal(sent)
+                    self.assertIn(started.wait(20), (-sent, 128 + sent))
+
+    def test_starts_at_once_answer_the_same(self):
+        words = [self.top / "sdhring", "run"]
+        pipes = {"stdin": subprocess.PIPE, "stdout": subprocess.PIPE, "stderr": subprocess.DEVNULL}
+        begun = [subprocess.Popen(words, cwd=self.top, env=plain_environment(), **pipes) for _ in range(4)]
+        for started in begun:
+            said = started.communicate(EXAMPLE.read_bytes(), timeout=60)[0]
+            self.assertEqual((said, started.returncode), ((RINGS / "span-cut.text").read_bytes(), 0))
 
     def test_the_install(self):
         self.assertEqual(self.installed.returncode, 0, self.installed.stderr)
