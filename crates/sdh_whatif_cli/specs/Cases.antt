@@ -47,6 +47,14 @@ mends_at plan d = not (d == 0) && mends plan (failure_at (length plan.nodes) (d 
 abbrev pub are_told : Planned → ℕ → ℕ → ℕ → Bool
 are_told plan d e f = goes_before d e && (goes_before e f && (not (mends_at plan d) && (not (mends_at plan e) && not (mends_at plan f))))
 
+-- the case of a number that stands for one
+abbrev pub case_at : Planned → ℕ → List Failure
+case_at plan c = (let n = length plan.nodes in failures_of n (first n c) (second n c) (third n c))
+
+-- the number stands for a case that is told
+abbrev pub is_told : Planned → ℕ → Bool
+is_told plan c = (let n = length plan.nodes in are_told plan (first n c) (second n c) (third n c))
+
 -- it is in the part that is asked for
 abbrev pub is_in_part : Ask → ℕ → Bool
 is_in_part ask c = c % ask.parts == ask.part - 1
