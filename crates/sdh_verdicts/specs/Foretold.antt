@@ -23,23 +23,24 @@ RequestsRest =
     (ring : Ring) (ss : List Stretch) (t : ℕ) → 1 ≤ ring.threshold → AreLong ss → rounds_in ss ≡ t + 1
     → requests_by ring ss t ≡ requests_after ring (changes_in ss)
 
--- the stretches of a script's settle steps that have reports, behind those before them: the changes before each, and as many rounds as
--- there are from the last stretch to the round that its report tells
+-- the stretches of a script's settle steps that have reports, behind those before them: the changes before each, and as
+-- many rounds as there are from the last stretch to the round that its report tells
 abbrev pub stretches_by : List Stretch → List (List Change) → List Report → List Stretch
 stretches_by earlier [] reports = earlier
 stretches_by earlier (changes ∷ later) [] = earlier
 stretches_by earlier (changes ∷ later) (r ∷ reports) =
     stretches_by (earlier ++ record { changes = changes; rounds = r.round + 1 - rounds_in earlier } ∷ []) later reports
 
--- After these stretches, each of which had rounds, the report shows what is owed under the requests that their changes come to. How many
--- rounds each had counts for nothing but how far the customers have come.
+-- After these stretches, each of at least three rounds, the report shows what is owed under the requests that their changes
+-- come to. How many rounds each had counts for nothing but how far the customers have come.
 pub record IsForetold (ring : Ring) (ss : List Stretch) (r : Report) : Type 0 where
   pub long : AreLong ss
   pub rounds : rounds_in ss ≡ r.round + 1
   pub requests : requests_by ring ss r.round ≡ requests_after ring (changes_in ss)
   pub shows : IsOwed ring.nodes (requests_after ring (changes_in ss)) (happened ss) ring.circuits r
 
--- so is each of these reports, by its own stretch and those before it, where these changes were made before each settle step to come
+-- so is each of these reports, by its own stretch and those before it, where these changes were made before each settle
+-- step to come
 abbrev pub AreForetold : Ring → List Stretch → List (List Change) → List Report → Type 0
 AreForetold ring earlier [] reports = reports ≡ []
 AreForetold ring earlier (changes ∷ later) [] = Unit {0}

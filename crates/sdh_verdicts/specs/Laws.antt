@@ -29,8 +29,9 @@ longer_plan plan case limit = record plan { limit = limit; steps = longer_steps 
 
 -- ---- when it is a plan
 
--- There is room behind the plan's script for the case's steps and a settle step: with them it has at most 1,000 steps, 64 of which are
--- settle steps. And a plan may have this limit; 64 n + 512, with which each step ends in a ring of n, is one.
+-- There is room behind the plan's script for the case's steps and a settle step: with them it has at most 1,000 steps,
+-- 64 of which are settle steps. And a plan may have this limit; 64 n + 512, with which each step ends in a ring of n,
+-- is one.
 pub record HasRoom (plan : Planned) (case : List Failure) (limit : ℕ) : Type 0 where
   pub steps : length plan.steps + length (case_steps (length plan.nodes) plan.settings.threshold case) ≤ 999
   pub settles : count_by is_settle plan.steps ≤ 63
@@ -50,8 +51,8 @@ outlet_told Lost hops sent t = silent
 outlet_told Kept hops sent t = sent (t - hops)
 outlet_told Over hops sent t = sent (t - hops)
 
--- So the line of the port at an end of the circuit of this number in round t, by what is told of the circuit in a case, where this had
--- happened at each port before each round. What was sent is the other end's.
+-- So the line of the port at an end of the circuit of this number in round t, by what is told of the circuit in a case,
+-- where this had happened at each port before each round. What was sent is the other end's.
 abbrev pub port_told : Planned → List Failure → (PortId → ℕ → List Happening) → ℕ → ℕ → Provisioned → End → PortLine
 port_told plan case before t index c e =
     record {
@@ -67,8 +68,9 @@ ports_told plan case before t index [] = []
 ports_told plan case before t index (c ∷ cs) =
     port_told plan case before t index c A ∷ port_told plan case before t index c B ∷ ports_told plan case before t (index + 1) cs
 
--- The last of these reports shows each port with what is told of its circuit in the case, and what is told goes by the spans that are
--- applied in its round. What had happened is the changes of the longer script in the rounds that the reports tell.
+-- The last of these reports shows each port with what is told of its circuit in the case, and what is told goes by the
+-- spans that are applied in its round. What had happened is the changes of the longer script in the rounds that the
+-- reports tell.
 pub record IsShown (plan : Planned) (case : List Failure) (reports : List Report) : Type 0 where
   pub foretold : IsLastForetold (ring_of plan) (scenes_with plan case) reports
   pub ports : foretold.last.ports

@@ -6,8 +6,8 @@ pub fn longer_plans_are_plans()
     ensures { LongerPlansArePlans }
 {}
 
-/// The last report of the longer script shows each port with what is told of its circuit in the case: AIS where it is lost, and else
-/// what the other end's customer sent as many rounds before as is told.
+/// The last report of the longer script shows each port with what is told of its circuit in the case: AIS where it is
+/// lost, and else what the other end's customer sent as many rounds before as is told.
 pub fn cases_are_shown()
     ensures { CasesAreShown }
 {

@@ -43,7 +43,8 @@ failures_of n d e f =
 abbrev pub mends_at : Planned → ℕ → Bool
 mends_at plan d = not (d == 0) && mends plan (failure_at (length plan.nodes) (d - 1))
 
--- a number of these digits stands for a case, of which each has one, and it is told: none of its failures would mend anything
+-- a number of these digits stands for a case, of which each has one, and it is told: none of its failures would mend
+-- anything
 abbrev pub are_told : Planned → ℕ → ℕ → ℕ → Bool
 are_told plan d e f = goes_before d e && (goes_before e f && (not (mends_at plan d) && (not (mends_at plan e) && not (mends_at plan f))))
 

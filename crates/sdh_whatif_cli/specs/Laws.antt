@@ -7,9 +7,9 @@ use Rattle.sdh_whatif_cli.specs.Cases.{case_at, is_told}
 use Rattle.sdh_whatif_cli.specs.Lines.{case_text, line_text, number_line}
 use Rattle.sdh_whatif_cli.specs.Reading.{texts_in, steps_read, PassChecks}
 
--- The line of a number is that of its case. Its steps, as they are read, are what the longer plan has behind the plan's own, and pass the
--- checks of their words. The longer plan is a plan exactly where there is room for it. Of what it comes to, the last report shows each
--- port with what the line tells of its circuit.
+-- The line of a number is that of its case. Its steps, as they are read, are what the longer plan has behind the plan's
+-- own, and pass the checks of their words. The longer plan is a plan exactly where there is room for it. Of what it
+-- comes to, the last report shows each port with what the line tells of its circuit.
 pub record IsTrueLine (plan : Planned) (number : ℕ) : Type 0 where
   pub line : number_line plan number ≡ line_text plan (case_at plan number)
   pub steps : (limit : ℕ) → (longer_plan plan (case_at plan number) limit).steps

@@ -66,8 +66,8 @@ number_text number = codes "," ++ decimal number
 
 -- ---- the table
 
--- the line of a case: its steps, how many circuits keep their way, how many go round applied spans, how many are lost, the longest way in
--- spans, and the names of those that are lost
+-- the line of a case: its steps, how many circuits keep their way, how many go round applied spans, how many are lost,
+-- the longest way in spans, and the names of those that are lost
 abbrev pub line_text : Planned → List Failure → List ℕ
 line_text plan case =
     case_text plan case ++ number_text (count_of plan case Kept) ++ number_text (count_of plan case Over)
