@@ -7,5 +7,6 @@ pub mod Counts
 pub mod Asked
 pub mod Asking
 pub mod Agreeing
+pub mod Longer
 pub mod Same
 pub mod Hops

@@ -7,7 +7,7 @@ use Rattle.sdh_promise.specs.Changes.{Change, Stretch, rounds_in}
 use Rattle.sdh_promise.specs.Happened.{happened}
 use Rattle.sdh_promise.specs.Owed.{Ring, requests_by, IsLast, IsOwed, AreOwed}
 use Rattle.sdh_verdicts.specs.Resting.{requests_after}
-use Rattle.sdh_verdicts.specs.Foretold.{AreLong, changes_in, RequestsRest, IsForetold, AreForetold, ReportsAreForetold, IsLastForetold}
+use Rattle.sdh_verdicts.specs.Foretold.{AreLong, changes_in, stretches_by, RequestsRest, IsForetold, AreForetold, ReportsAreForetold}
 use Rattle.sdh_verdicts.specs.Foretold.{LastReportsAreForetold}
 
 -- ---- one stretch more
@@ -42,56 +42,62 @@ module _ (ring : Ring) (limit : ℕ) (least : 1 ≤ ring.threshold) (some : 1 �
     rounds_now : rounds_in now ≡ r.round + 1
     rounds_now = omega (arith, rounds_last earlier (stretch_of earlier changes r), is.window)
 
-    foretold : IsOwed ring.nodes (requests_by ring now r.round) (happened now) ring.circuits r
-        → IsForetold ring (changes_in earlier ++ changes ∷ []) r
+    foretold : IsOwed ring.nodes (requests_by ring now r.round) (happened now) ring.circuits r → IsForetold ring now r
     foretold owed =
-        let come : changes_in now ≡ changes_in earlier ++ changes ∷ [] = changes_last earlier (stretch_of earlier changes r) in
-        let same : requests_by ring now r.round ≡ requests_after ring (changes_in earlier ++ changes ∷ []) =
-        rest ring now r.round least long_now rounds_now ∙ ap (requests_after ring) come in
+        let same : requests_by ring now r.round ≡ requests_after ring (changes_in now) = rest ring now r.round least long_now rounds_now in
         record {
-          stretches = now;
-          changes = come;
+          long = long_now;
           rounds = rounds_now;
+          requests = same;
           shows = subst (λ q. IsOwed ring.nodes q (happened now) ring.circuits r) same owed;
         }
 
   each : (earlier : List Stretch) (before : ℕ) (scenes : List (List Change)) (reports : List Report) (end : Status) → AreLong earlier
-      → AreOwed ring limit earlier before scenes reports end → AreForetold ring (changes_in earlier) scenes reports
+      → AreOwed ring limit earlier before scenes reports end → AreForetold ring earlier scenes reports
   each earlier before [] reports end long owed = owed.0
   each earlier before (changes ∷ later) [] end long owed = tt
-  each earlier before (changes ∷ later) (r ∷ reports) end long owed =
-      let come : changes_in (now earlier changes r long owed.1) ≡ changes_in earlier ++ changes ∷ [] =
-      changes_last earlier (stretch_of earlier changes r) in (
-        foretold earlier changes r long owed.1 owed.2,
-        subst (λ past. AreForetold ring past later reports) come
-            (each (now earlier changes r long owed.1) (before + 1) later reports end (long_now earlier changes r long owed.1) owed.3),
-      )
+  each earlier before (changes ∷ later) (r ∷ reports) end long owed = (
+    foretold earlier changes r long owed.1 owed.2,
+    each (now earlier changes r long owed.1) (before + 1) later reports end (long_now earlier changes r long owed.1) owed.3,
+  )
 
 -- ---- its last report
 
 module _ (ring : Ring) (limit : ℕ) where
+  -- the last of some reports behind earlier stretches, with the changes of all
+  record LastOf (earlier : List Stretch) (scenes : List (List Change)) (reports : List Report) : Type 0 where
+    pub before : List Report
+    pub last : Report
+    pub are : reports ≡ before ++ last ∷ []
+    pub changes : changes_in (stretches_by earlier scenes reports) ≡ changes_in earlier ++ scenes
+    pub shows : IsForetold ring (stretches_by earlier scenes reports) last
+
   -- the last one, behind a scene that is there
-  last_of : (earlier : List Stretch) (before : ℕ) (past : List (List Change)) (changes : List Change) (later : List (List Change))
-      (reports : List Report)
-      → AreOwed ring limit earlier before (changes ∷ later) reports status.Ok → AreForetold ring past (changes ∷ later) reports
-      → IsLastForetold ring (past ++ changes ∷ later) reports
-  last_of earlier before past changes later [] owed told = absurd (never owed)
+  last_of : (earlier : List Stretch) (before : ℕ) (changes : List Change) (later : List (List Change)) (reports : List Report)
+      → AreOwed ring limit earlier before (changes ∷ later) reports status.Ok → AreForetold ring earlier (changes ∷ later) reports
+      → LastOf earlier (changes ∷ later) reports
+  last_of earlier before changes later [] owed told = absurd (never owed)
     where
       never : AreOwed ring limit earlier before (changes ∷ later) [] status.Ok → ⊥
       never (inl e) = grind (arith, e)
       never (inr e) = grind (arith, e)
-  last_of earlier before past changes [] (r ∷ reports) owed told =
-      record { before = []; last = r; are = ap (λ rs. r ∷ rs) told.1; shows = told.0 }
-  last_of earlier before past changes (more ∷ later) (r ∷ reports) owed told =
-      let rest_of =
-      last_of (earlier ++ stretch_of earlier changes r ∷ []) (before + 1) (past ++ changes ∷ []) more later reports owed.3 told.1 in
-      let whole : (past ++ changes ∷ []) ++ more ∷ later ≡ past ++ changes ∷ more ∷ later =
-      append_assoc past (changes ∷ []) (more ∷ later) in
+  last_of earlier before changes [] (r ∷ reports) owed told =
+      record {
+        before = [];
+        last = r;
+        are = ap (λ rs. r ∷ rs) told.1;
+        changes = changes_last earlier (stretch_of earlier changes r);
+        shows = told.0;
+      }
+  last_of earlier before changes (more ∷ later) (r ∷ reports) owed told =
+      let rest_of = last_of (earlier ++ stretch_of earlier changes r ∷ []) (before + 1) more later reports owed.3 told.1 in
       record {
         before = r ∷ rest_of.before;
         last = rest_of.last;
         are = ap (λ rs. r ∷ rs) rest_of.are;
-        shows = subst (λ l. IsForetold ring l rest_of.last) whole rest_of.shows;
+        changes = rest_of.changes ∙ ap (λ l. l ++ more ∷ later) (changes_last earlier (stretch_of earlier changes r))
+            ∙ append_assoc (changes_in earlier) (changes ∷ []) (more ∷ later);
+        shows = rest_of.shows;
       }
 
 pub reports_foretold : RequestsRest → ReportsAreForetold
@@ -100,4 +106,5 @@ reports_foretold rest ring limit scenes reports end least some owed = each ring 
 pub last_foretold : ReportsAreForetold → LastReportsAreForetold
 last_foretold law ring limit [] reports least some there owed = absurd (there refl)
 last_foretold law ring limit (changes ∷ later) reports least some there owed =
-    last_of ring limit [] 0 [] changes later reports owed (law ring limit (changes ∷ later) reports status.Ok least some owed)
+    let last = last_of ring limit [] 0 changes later reports owed (law ring limit (changes ∷ later) reports status.Ok least some owed) in
+    record { before = last.before; last = last.last; are = last.are; changes = last.changes; shows = last.shows }

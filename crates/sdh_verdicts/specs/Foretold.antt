@@ -1,5 +1,5 @@
 -- The laws: what a script's reports show is told by its changes alone.
-use Rattle.std.specs.Prelude.{ℕ, ◌≡◌, ◌≢◌, ◌≤◌, ◌+◌, List, [], ◌∷◌, ◌++◌, map}
+use Rattle.std.specs.Prelude.{ℕ, ◌≡◌, ◌≢◌, ◌≤◌, ◌+◌, ◌-◌, List, [], ◌∷◌, ◌++◌, map}
 use Rattle.sdh_report.specs.declared.status.Status.{Status}
 use Rattle.sdh_report.specs.declared.status.Status.TheVariants as status
 use Rattle.sdh_report.specs.Reports.{Report}
@@ -23,32 +23,43 @@ RequestsRest =
     (ring : Ring) (ss : List Stretch) (t : ℕ) → 1 ≤ ring.threshold → AreLong ss → rounds_in ss ≡ t + 1
     → requests_by ring ss t ≡ requests_after ring (changes_in ss)
 
--- The report shows what is owed under the requests that these changes come to, a settle step behind each list of them. How many
--- rounds the steps had counts for nothing but how far the customers have come.
-pub record IsForetold (ring : Ring) (past : List (List Change)) (r : Report) : Type 0 where
-  pub stretches : List Stretch
-  pub changes : changes_in stretches ≡ past
-  pub rounds : rounds_in stretches ≡ r.round + 1
-  pub shows : IsOwed ring.nodes (requests_after ring past) (happened stretches) ring.circuits r
+-- the stretches of a script's settle steps that have reports, behind those before them: the changes before each, and as
+-- many rounds as there are from the last stretch to the round that its report tells
+abbrev pub stretches_by : List Stretch → List (List Change) → List Report → List Stretch
+stretches_by earlier [] reports = earlier
+stretches_by earlier (changes ∷ later) [] = earlier
+stretches_by earlier (changes ∷ later) (r ∷ reports) =
+    stretches_by (earlier ++ record { changes = changes; rounds = r.round + 1 - rounds_in earlier } ∷ []) later reports
 
--- so is each of these reports, where these changes were made before the settle steps that had ended, and these before each to come
-abbrev pub AreForetold : Ring → List (List Change) → List (List Change) → List Report → Type 0
-AreForetold ring past [] reports = reports ≡ []
-AreForetold ring past (changes ∷ later) [] = Unit {0}
-AreForetold ring past (changes ∷ later) (r ∷ reports) =
-    IsForetold ring (past ++ changes ∷ []) r × AreForetold ring (past ++ changes ∷ []) later reports
+-- After these stretches, each of at least three rounds, the report shows what is owed under the requests that their changes
+-- come to. How many rounds each had counts for nothing but how far the customers have come.
+pub record IsForetold (ring : Ring) (ss : List Stretch) (r : Report) : Type 0 where
+  pub long : AreLong ss
+  pub rounds : rounds_in ss ≡ r.round + 1
+  pub requests : requests_by ring ss r.round ≡ requests_after ring (changes_in ss)
+  pub shows : IsOwed ring.nodes (requests_after ring (changes_in ss)) (happened ss) ring.circuits r
+
+-- so is each of these reports, by its own stretch and those before it, where these changes were made before each settle
+-- step to come
+abbrev pub AreForetold : Ring → List Stretch → List (List Change) → List Report → Type 0
+AreForetold ring earlier [] reports = reports ≡ []
+AreForetold ring earlier (changes ∷ later) [] = Unit {0}
+AreForetold ring earlier (changes ∷ later) (r ∷ reports) =
+    (let now = earlier ++ record { changes = changes; rounds = r.round + 1 - rounds_in earlier } ∷ [] in
+    IsForetold ring now r × AreForetold ring now later reports)
 
 -- each report of every script that owes what the promise says is foretold
 abbrev pub ReportsAreForetold : Type 0
 ReportsAreForetold = (ring : Ring) (limit : ℕ) (scenes : List (List Change)) (reports : List Report) (end : Status)
     → 1 ≤ ring.threshold → 1 ≤ ring.nodes → AreOwed ring limit [] 0 scenes reports end → AreForetold ring [] scenes reports
 
--- the last of some reports is foretold by all changes
+-- there is a last one of these reports, and it is foretold by the stretches of them all, which have all changes
 pub record IsLastForetold (ring : Ring) (scenes : List (List Change)) (reports : List Report) : Type 0 where
   pub before : List Report
   pub last : Report
   pub are : reports ≡ before ++ last ∷ []
-  pub shows : IsForetold ring scenes last
+  pub changes : changes_in (stretches_by [] scenes reports) ≡ scenes
+  pub shows : IsForetold ring (stretches_by [] scenes reports) last
 
 -- and so is the last one of a script that was run to its end
 abbrev pub LastReportsAreForetold : Type 0

@@ -1,41 +1,88 @@
 -- What verdicts have to do with what a ring reports.
-use Rattle.std.specs.Prelude.{ℕ, ◌≡◌, ◌≢◌, ◌-◌, Bool, List}
+use Rattle.std.specs.Prelude.{ℕ, ◌≡◌, ◌↔◌, ◌+◌, ◌-◌, ◌≤◌, List, [], ◌∷◌, length, count_by, All}
 use Rattle.sdh_circuits.specs.declared.End.{End}
+use Rattle.sdh_circuits.specs.declared.End.TheVariants.{A, B}
 use Rattle.sdh_circuits.specs.declared.PortId.{PortId}
-use Rattle.sdh_circuits.specs.Provisioned.{Provisioned, customer_at, arc_of}
+use Rattle.sdh_circuits.specs.Provisioned.{Provisioned, customer_at}
 use Rattle.sdh_circuits.specs.Ends.{other_end}
 use Rattle.sdh_payload.specs.History.{Happening}
-use Rattle.sdh_payload.specs.Outlet.{silent}
+use Rattle.sdh_payload.specs.Outlet.{Outlet, silent}
+use Rattle.sdh_restoration.specs.Applied.{is_applied}
 use Rattle.sdh_restoration.specs.Due.{sends_by}
-use Rattle.sdh_restoration.specs.Routes.{hops}
 use Rattle.sdh_plan.specs.Planned.{Planned, IsPlanned}
+use Rattle.sdh_plan.specs.Steps.{is_settle}
 use Rattle.sdh_report.specs.declared.status.Status.TheVariants as status
-use Rattle.sdh_report.specs.Reports.{Report}
-use Rattle.sdh_promise.specs.Owed.{owed_port}
+use Rattle.sdh_report.specs.Reports.{PortLine, Report}
+use Rattle.sdh_promise.specs.Happened.{happened}
+use Rattle.sdh_promise.specs.Owed.{requests_by}
 use Rattle.sdh_promise.specs.Plans.{ring_of, OwesAll}
-use Rattle.sdh_verdicts.specs.Foretold.{IsLastForetold}
+use Rattle.sdh_verdicts.specs.Foretold.{stretches_by, IsLastForetold}
 use Rattle.sdh_verdicts.specs.declared.failure.Failure.{Failure}
-use Rattle.sdh_verdicts.specs.declared.judging.Verdict.TheVariants.{Lost}
-use Rattle.sdh_verdicts.specs.Verdicts.{longer_steps, scenes_with, verdict_under}
+use Rattle.sdh_verdicts.specs.declared.judging.Verdict.{Verdict}
+use Rattle.sdh_verdicts.specs.declared.judging.Verdict.TheVariants.{Kept, Over, Lost}
+use Rattle.sdh_verdicts.specs.Failures.{IsFailureIn, case_steps}
+use Rattle.sdh_verdicts.specs.Verdicts.{longer_steps, scenes_with, verdict_under, verdict_of, hops_of}
 
 -- the plan with a case behind its script, and another limit
 abbrev pub longer_plan : Planned → List Failure → ℕ → Planned
 longer_plan plan case limit = record plan { limit = limit; steps = longer_steps plan case }
 
--- Where reports owe what the promise says for the plan with a case behind its script, and come to their end: the last one shows for every port what
--- it is owed under the very requests that the verdicts of the case go by.
-abbrev pub VerdictsAgree : Type 0
-VerdictsAgree = (plan : Planned) (case : List Failure) (limit : ℕ) (reports : List Report) → IsPlanned plan
-    → OwesAll (longer_plan plan case limit) reports status.Ok → IsLastForetold (ring_of plan) (scenes_with plan case) reports
+-- ---- when it is a plan
 
--- What a port is owed there is AIS where its circuit is lost, and else what the other end's customer sent `hops` rounds before.
-pub record IsShownSo (n : ℕ) (applied : ℕ → Bool) (before : PortId → ℕ → List Happening) (t index : ℕ) (c : Provisioned)
-    (e : End) : Type 0 where
-  pub lost : verdict_under n applied c ≡ Lost → (owed_port n applied before t index c e).outlet ≡ silent
-  pub kept : verdict_under n applied c ≢ Lost → (owed_port n applied before t index c e).outlet ≡
-      sends_by (customer_at c (other_end e)) (before (record { circuit = index; end = other_end e }) (t - hops n applied (arc_of n c)))
+-- There is room behind the plan's script for the case's steps and a settle step: with them it has at most 1,000 steps,
+-- 64 of which are settle steps. And a plan may have this limit; 64 n + 512, with which each step ends in a ring of n,
+-- is one.
+pub record HasRoom (plan : Planned) (case : List Failure) (limit : ℕ) : Type 0 where
+  pub steps : length plan.steps + length (case_steps (length plan.nodes) plan.settings.threshold case) ≤ 999
+  pub settles : count_by is_settle plan.steps ≤ 63
+  pub limit_from_1 : 1 ≤ limit
+  pub limit_small : limit ≤ 65536
 
-abbrev pub VerdictsAreShown : Type 0
-VerdictsAreShown =
-    (n : ℕ) (applied : ℕ → Bool) (before : PortId → ℕ → List Happening) (t index : ℕ) (c : Provisioned) (e : End)
-    → IsShownSo n applied before t index c e
+-- the longer plan is one exactly where there is
+abbrev pub LongerPlansArePlans : Type 0
+LongerPlansArePlans = (plan : Planned) (case : List Failure) (limit : ℕ) → IsPlanned plan → All (IsFailureIn (length plan.nodes)) case
+    → (IsPlanned (longer_plan plan case limit) ↔ HasRoom plan case limit)
+
+-- ---- what its last report shows
+
+-- what is told of a circuit says of its ports: AIS where it is lost, and else what was sent so many rounds before
+abbrev pub outlet_told : Verdict → ℕ → (ℕ → Outlet) → ℕ → Outlet
+outlet_told Lost hops sent t = silent
+outlet_told Kept hops sent t = sent (t - hops)
+outlet_told Over hops sent t = sent (t - hops)
+
+-- So the line of the port at an end of the circuit of this number in round t, by what is told of the circuit in a case,
+-- where this had happened at each port before each round. What was sent is the other end's.
+abbrev pub port_told : Planned → List Failure → (PortId → ℕ → List Happening) → ℕ → ℕ → Provisioned → End → PortLine
+port_told plan case before t index c e =
+    record {
+      name = c.name;
+      end = e;
+      outlet = outlet_told (verdict_of plan case c) (hops_of plan case c)
+          (λ k. sends_by (customer_at c (other_end e)) (before (record { circuit = index; end = other_end e }) k)) t;
+    }
+
+-- those of all ports of these circuits, which are counted from `index`, in their order, a before b
+abbrev pub ports_told : Planned → List Failure → (PortId → ℕ → List Happening) → ℕ → ℕ → List Provisioned → List PortLine
+ports_told plan case before t index [] = []
+ports_told plan case before t index (c ∷ cs) =
+    port_told plan case before t index c A ∷ port_told plan case before t index c B ∷ ports_told plan case before t (index + 1) cs
+
+-- The last of these reports shows each port with what is told of its circuit in the case, and what is told goes by the
+-- spans that are applied in its round. What had happened is the changes of the longer script in the rounds that the
+-- reports tell.
+pub record IsShown (plan : Planned) (case : List Failure) (reports : List Report) : Type 0 where
+  pub foretold : IsLastForetold (ring_of plan) (scenes_with plan case) reports
+  pub ports : foretold.last.ports
+      ≡ ports_told plan case (happened (stretches_by [] (scenes_with plan case) reports)) foretold.last.round 0 plan.circuits
+  pub verdicts : (c : Provisioned) → verdict_of plan case c ≡ verdict_under (length plan.nodes)
+      (is_applied (requests_by (ring_of plan) (stretches_by [] (scenes_with plan case) reports) foretold.last.round)) c
+
+-- the reports of the plan with a case behind its script, where they come to its end and owe what the promise says
+abbrev pub CaseIsShown : Planned → List Failure → Type 0
+CaseIsShown plan case = (limit : ℕ) (reports : List Report) → OwesAll (longer_plan plan case limit) reports status.Ok
+    → IsShown plan case reports
+
+-- for every plan and case
+abbrev pub CasesAreShown : Type 0
+CasesAreShown = (plan : Planned) (case : List Failure) → IsPlanned plan → CaseIsShown plan case

@@ -1,14 +1,15 @@
 //! Laws of tables. Each function here has a law as its contract and no work to do.
-ghost use Rattle.sdh_verdicts.specs.Laws.{VerdictsAgree, VerdictsAreShown};
+ghost use Rattle.sdh_verdicts.specs.Laws.{LongerPlansArePlans, CasesAreShown};
 
-/// What is told of a case is what the last report of the longer script shows.
-pub fn verdicts_agree()
-    ensures { VerdictsAgree }
+/// A plan with a case behind its script is a plan exactly where there is room for it.
+pub fn longer_plans_are_plans()
+    ensures { LongerPlansArePlans }
+{}
+
+/// The last report of the longer script shows each port with what is told of its circuit in the case: AIS where it is
+/// lost, and else what the other end's customer sent as many rounds before as is told.
+pub fn cases_are_shown()
+    ensures { CasesAreShown }
 {
     crate::foretold::last_reports_are_foretold();
 }
-
-/// A port of a circuit that is lost is owed AIS, and one of any other its customer's bytes.
-pub fn verdicts_are_shown()
-    ensures { VerdictsAreShown }
-{}

@@ -4,3 +4,6 @@ pub mod Digits
 pub mod Pieces
 pub mod Below
 pub mod Told
+pub mod Splitting
+pub mod Reading
+pub mod Truth

@@ -43,9 +43,18 @@ failures_of n d e f =
 abbrev pub mends_at : Planned → ℕ → Bool
 mends_at plan d = not (d == 0) && mends plan (failure_at (length plan.nodes) (d - 1))
 
--- a number of these digits stands for a case, of which each has one, and it is told: none of its failures would mend anything
+-- a number of these digits stands for a case, of which each has one, and it is told: none of its failures would mend
+-- anything
 abbrev pub are_told : Planned → ℕ → ℕ → ℕ → Bool
 are_told plan d e f = goes_before d e && (goes_before e f && (not (mends_at plan d) && (not (mends_at plan e) && not (mends_at plan f))))
+
+-- the case of a number that stands for one
+abbrev pub case_at : Planned → ℕ → List Failure
+case_at plan c = (let n = length plan.nodes in failures_of n (first n c) (second n c) (third n c))
+
+-- the number stands for a case that is told
+abbrev pub is_told : Planned → ℕ → Bool
+is_told plan c = (let n = length plan.nodes in are_told plan (first n c) (second n c) (third n c))
 
 -- it is in the part that is asked for
 abbrev pub is_in_part : Ask → ℕ → Bool

@@ -19,7 +19,7 @@ use Rattle.sdh_verdicts.specs.Verdicts.{verdict_of}
 use Rattle.sdh_whatif_cli.specs.declared.ask.Ask.{Ask}
 use Rattle.sdh_whatif_cli.specs.Counting.{same_verdict, count_of, longest_of}
 use Rattle.sdh_whatif_cli.specs.Singles.{singles_text}
-use Rattle.sdh_whatif_cli.specs.Cases.{numbers_of, first, second, third, failures_of, are_told, is_in_part}
+use Rattle.sdh_whatif_cli.specs.Cases.{numbers_of, case_at, is_told, is_in_part}
 
 -- a verb, and the node and the side that it is about, where the nodes have these identifiers
 abbrev pub place_text : List ℕ → List ℕ → Pos → Side → List ℕ
@@ -66,20 +66,17 @@ number_text number = codes "," ++ decimal number
 
 -- ---- the table
 
--- the line of a case: its steps, how many circuits keep their way, how many go round applied spans, how many are lost, the longest way in
--- spans, and the names of those that are lost
+-- the line of a case: its steps, how many circuits keep their way, how many go round applied spans, how many are lost,
+-- the longest way in spans, and the names of those that are lost
 abbrev pub line_text : Planned → List Failure → List ℕ
 line_text plan case =
     case_text plan case ++ number_text (count_of plan case Kept) ++ number_text (count_of plan case Over)
     ++ number_text (count_of plan case Lost) ++ number_text (longest_of plan case) ++ flat_map (lost_text plan case) plan.circuits
     ++ codes "\n"
 
--- of a number with these digits, where it stands for a case that is told
-abbrev pub digits_text : Planned → ℕ → ℕ → ℕ → List ℕ
-digits_text plan d e f = if are_told plan d e f then line_text plan (failures_of (length plan.nodes) d e f) else []
-
+-- of a number, where it stands for a case that is told
 abbrev pub number_line : Planned → ℕ → List ℕ
-number_line plan c = (let n = length plan.nodes in digits_text plan (first n c) (second n c) (third n c))
+number_line plan c = if is_told plan c then line_text plan (case_at plan c) else []
 
 -- where it is asked for
 abbrev pub line_at : Planned → Ask → ℕ → List ℕ

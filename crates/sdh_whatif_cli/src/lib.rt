@@ -1,10 +1,11 @@
 //! The table that tells which circuits survive each failure of a ring, by the restoration model alone: no round is run.
 //! `specs/Words.antt` has what words ask for, `specs/Cases.antt` the cases in their order, `specs/Lines.antt` the
-//! lines, `specs/Singles.antt` what each failure alone takes.
+//! lines, `specs/Singles.antt` what each failure alone takes, and `specs/Laws.antt` that what a line says is so.
 #![tactic(auto)]
 
 mod ask;
 mod counting;
+pub mod laws;
 mod line;
 mod lines;
 mod singles;

@@ -5,14 +5,15 @@ ghost use Rattle.sdh_basics.specs.Causes.{Rose, IsCounted};
 ghost use Rattle.sdh_outside.specs.Reading.{TakesCount};
 ghost use Rattle.sdh_shell.specs.Reading.{HasPlan};
 ghost use Rattle.sdh_shell.specs.Writing.{Writes};
-ghost use Rattle.sdh_verdicts.specs.Laws.{VerdictsAgree, VerdictsAreShown};
 ghost use Rattle.sdh_shell.specs.Calls.{words_of};
 ghost use Rattle.sdh_whatif_cli.specs.Words.{asked};
 ghost use Rattle.sdh_whatif_cli.specs.Lines.{table_text};
+ghost use Rattle.sdh_whatif_cli.specs.Laws.{LinesAreTrue};
 ghost use Rattle.sdh_whatif_cli.specs.Writing.{Wrote};
 ghost use Rattle.sdh_whatif_cli.specs.Outcome.{refusal, OfBytes, IsOutcome, told};
 
 use crate::ask::{Ask, asked};
+use crate::laws::lines_are_true;
 use crate::line::Line;
 use crate::table::write_table;
 use sdh_outside::{Sink, Source, WriteFault, write_text};
@@ -149,9 +150,8 @@ pub fn whatif<R: Source, W: Sink>(
         (λ bytes. Writes (λ how text. IsOutcome (asked (words_of words.now)) bytes how text) result (W.written sink.old)
         (W.written sink.new)) }
 
-    // What it tells is what reports show: the last one of the plan with the case's steps and a settle step behind its script.
-    ensures agrees { VerdictsAgree }
-    ensures shown { VerdictsAreShown }
+    // What each line says is what reports show: the last one of the plan with the line's steps behind its script.
+    ensures lines { LinesAreTrue }
 
     // Over every source and sink.
     ensures usage { result ≡ Status.Usage → asked (words_of words.now) ≡ None }
@@ -173,8 +173,7 @@ pub fn whatif<R: Source, W: Sink>(
         → ¬ (Rose (R.faults source.old) (R.faults source.new)) → ¬ (Rose (W.faults sink.old) (W.faults sink.new))
         → (result ≡ Status.Ok) ⊎ (result ≡ Status.Memory) }
 {
-    sdh_verdicts::laws::verdicts_agree();
-    sdh_verdicts::laws::verdicts_are_shown();
+    lines_are_true();
     let Ok(told) = answer(alloc, words, source, sink) else {
         return Status::Memory;
     };

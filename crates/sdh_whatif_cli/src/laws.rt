@@ -1,0 +1,10 @@
+//! Laws of the table. Each function here has a law as its contract and no work to do.
+ghost use Rattle.sdh_whatif_cli.specs.Laws.{LinesAreTrue};
+
+/// What a line of the table says is so.
+pub fn lines_are_true()
+    ensures { LinesAreTrue }
+{
+    sdh_verdicts::laws::longer_plans_are_plans();
+    sdh_verdicts::laws::cases_are_shown();
+}
