@@ -3,5 +3,4 @@ pub mod Cases
 pub mod Counting
 pub mod Singles
 pub mod Lines
-pub mod Writing
 pub mod Outcome
