@@ -5,3 +5,4 @@ pub mod Told
 pub mod Refused
 pub mod Writing
 pub mod Asked
+pub mod Pieces

@@ -1,10 +1,25 @@
--- What is written with which ending of a call.
-use Rattle.std.specs.Prelude.{◌≡◌, ℕ, List, Option, Some, None}
+-- What is written: of a text in pieces, and with which ending of a call.
+use Rattle.std.specs.Prelude.{◌≡◌, ℕ, ◌≤◌, Bool, List, Option, Some, None, Result, IsErr, OnOk, OnErr}
 use Rattle.std.specs.Io.KnownBytes.{Appends, Keeps}
+use Rattle.sdh_basics.specs.Causes.{Rose, IsCounted}
 use Rattle.sdh_outside.specs.Writing.{AppendsFewer}
 use Rattle.sdh_report.specs.declared.status.Status.{Status}
 use Rattle.sdh_report.specs.declared.status.Status.TheVariants as status
 use Rattle.sdh_shell.specs.Endings.{Endings}
+
+-- ---- a text, in pieces
+
+-- The whole text was appended; or a write failed, which the count of faults tells, and the front of it was. Where the count is exact, one
+-- write failed with a fault, and none without.
+pub record Wrote {T E : Type 0} (exact : Bool) (old new : Option (List ℕ)) (before after : ℕ) (text : List ℕ)
+    (result : Result T E) : Type 0 where
+  pub ok : OnOk result (Appends old new text)
+  pub front : OnErr result (AppendsFewer old new text)
+  pub fault : OnErr result (Rose before after)
+  pub later : before ≤ after
+  pub counted : IsCounted exact (IsErr result) before after
+
+-- ---- an outcome
 
 -- this line is all of the text, and the fibres are left alone
 abbrev pub Says : {F : Type 0} → List ℕ → List ℕ → F → F → Type 0

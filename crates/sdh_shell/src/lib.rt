@@ -1,18 +1,21 @@
 //! What the programs' calls share: whether the words are the word `run`, the end that a letter names, a plan that is
-//! read or refused, the endings of a program, calls that failed and are counted, and a text that is written once.
+//! read or refused, the endings of a program, calls that failed and are counted, and what texts are written to: a sink as
+//! they come, or memory.
 //!
 //! How a plan is refused is `HasNoPlan` in `specs/Reading.antt`, how a script that was run may end is `HasRun` in
 //! `specs/Calls.antt`, what the endings of a program are is `Endings` in `specs/Endings.antt`, which failures an ending
-//! tells is `CameToEnding` in `specs/Failing.antt`, and what is written with which ending is `WritesAs` in
-//! `specs/Writing.antt`.
+//! tells is `CameToEnding` in `specs/Failing.antt`, and what is written is in `specs/Writing.antt`: with which ending it is
+//! `WritesAs`, and of a text that is written in pieces it is `Wrote`.
 #![tactic(auto)]
 
 mod ending;
+mod output;
 mod reading;
 mod report;
 mod words;
 
 pub use ending::Ends;
+pub use output::{Kept, Output};
 pub use reading::{NoPlan, plan_in};
 pub use report::{Report, ended, last_report};
 pub use words::{end_lettered, is_run};

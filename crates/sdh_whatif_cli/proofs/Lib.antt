@@ -1,7 +1,6 @@
 pub mod Short
 pub mod Parts
 pub mod Digits
-pub mod Pieces
 pub mod Below
 pub mod Told
 pub mod Splitting

@@ -5,14 +5,15 @@ ghost use Rattle.sdh_verdicts.specs.Failures.{IsFailureIn};
 ghost use Rattle.sdh_verdicts.specs.Verdicts.{AreSidesOf};
 ghost use Rattle.sdh_whatif_cli.specs.Cases.{base, numbers_of, goes_before, failures_of, mends_at, are_told};
 ghost use Rattle.sdh_whatif_cli.specs.Lines.{line_text, number_line, line_at, lines_below, last_lines, table_text};
-ghost use Rattle.sdh_whatif_cli.specs.Writing.{Wrote};
+ghost use Rattle.sdh_shell.specs.Writing.{Wrote};
 
 use crate::ask::{Ask, Depth};
 use crate::line::Line;
 use crate::lines::put_line;
 use crate::singles::put_singles;
-use sdh_outside::{Sink, WriteFault, write_text};
+use sdh_outside::{Sink, WriteFault};
 use sdh_plan::Plan;
+use sdh_shell::Output;
 use sdh_verdicts::{Failure, Sides, failure_at};
 
 // How many numbers there are.
@@ -80,7 +81,7 @@ fn write_case<W: Sink>(
 {
     line.clear();
     put_line(line, plan, sides, case);
-    write_text(sink, line.bytes())
+    sink.put(line.bytes())
 }
 
 // Writes the line of the case that is told by these digits.
@@ -192,7 +193,7 @@ fn write_last<W: Sink>(
     line.clear();
     put_singles(line, plan, sides);
     line.put(b"done\n");
-    write_text(sink, line.bytes())
+    sink.put(line.bytes())
 }
 
 /// Writes the table, line by line.
@@ -208,7 +209,7 @@ pub fn write_table<W: Sink>(
     ensures { Wrote W.exact (W.written sink.old) (W.written sink.new) (W.faults sink.old) (W.faults sink.new)
         (table_text plan.now ask) result }
 {
-    if let Err(fault) = write_text(sink, b"steps,kept,over,lost,hops,circuits\n") {
+    if let Err(fault) = sink.put(b"steps,kept,over,lost,hops,circuits\n") {
         return Err(fault);
     }
     if let Err(fault) = write_cases(sink, line, plan, sides, ask) {

@@ -8,19 +8,23 @@ ghost use Rattle.sdh_shell.specs.Writing.{Writes};
 ghost use Rattle.sdh_shell.specs.Calls.{words_of};
 ghost use Rattle.sdh_whatif_cli.specs.Words.{asked};
 ghost use Rattle.sdh_whatif_cli.specs.Lines.{table_text};
+<<<<<<< HEAD
 ghost use Rattle.sdh_whatif_cli.specs.Laws.{LinesAreTrue};
 ghost use Rattle.sdh_whatif_cli.specs.Writing.{Wrote};
+=======
+ghost use Rattle.sdh_shell.specs.Writing.{Wrote};
+>>>>>>> r55
 ghost use Rattle.sdh_whatif_cli.specs.Outcome.{refusal, OfBytes, IsOutcome, told};
 
 use crate::ask::{Ask, asked};
 use crate::laws::lines_are_true;
 use crate::line::Line;
 use crate::table::write_table;
-use sdh_outside::{Sink, Source, WriteFault, write_text};
+use sdh_outside::{Sink, Source, WriteFault};
 use sdh_plan::Plan;
 use sdh_report::laws::last_line_is_short;
 use sdh_report::{LINE_MAX, Status, Text};
-use sdh_shell::{NoPlan, plan_in};
+use sdh_shell::{NoPlan, Output, plan_in};
 use sdh_verdicts::Sides;
 use std::alloc::{AllocError, Global};
 
@@ -55,7 +59,7 @@ fn refuse<W: Sink>(sink: &mut W, mut text: Text, status: Status) -> Told
         (refusal status) result.wrote }
 {
     refusal(&mut text, status);
-    let wrote = write_text(sink, text.bytes());
+    let wrote = sink.put(text.bytes());
     Told { status, wrote }
 }
 

@@ -2,7 +2,7 @@ use Rattle.std.proofs.Common.{◌≡◌, ◌∙◌, ◌+◌, ◌≤◌, ℕ, Lis
 use Rattle.sdh_whatif_cli.specs.Cases.{numbers_of}
 use Rattle.sdh_whatif_cli.specs.Lines.{line_at, lines_below}
 use Rattle.sdh_whatif_cli.proofs.Below.{below_next, rest_of}
-use Rattle.sdh_whatif_cli.proofs.Pieces.{as_text, after, stopped}
+use Rattle.sdh_shell.proofs.Pieces.{as_text, after, stopped}
 use Rattle.sdh_whatif_cli.proofs.table.write_cases.Goals as goal
 
 pub returns-in-Err : goal.returns-in-Err

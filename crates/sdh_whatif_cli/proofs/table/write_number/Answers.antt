@@ -3,7 +3,7 @@ use Rattle.std.specs.Prelude.{if◌then◌else◌}
 use Rattle.sdh_whatif_cli.specs.Cases.{first, second, third, failures_of, are_told}
 use Rattle.sdh_whatif_cli.specs.Lines.{line_text}
 use Rattle.sdh_whatif_cli.proofs.Parts.{sides_long}
-use Rattle.sdh_whatif_cli.proofs.Pieces.{as_text, nothing}
+use Rattle.sdh_shell.proofs.Pieces.{as_text, nothing}
 use Rattle.sdh_whatif_cli.proofs.table.write_number.Goals as goal
 
 pub are_told-requires-clause-sides : goal.are_told-requires-clause-sides

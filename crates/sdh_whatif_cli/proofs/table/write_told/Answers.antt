@@ -3,7 +3,7 @@ use Rattle.sdh_verdicts.specs.declared.failure.Failure.{Failure}
 use Rattle.sdh_verdicts.specs.Failures.{failure_at}
 use Rattle.sdh_whatif_cli.specs.Lines.{line_text}
 use Rattle.sdh_whatif_cli.proofs.Digits.{none_is, one_is, two_are, three_are}
-use Rattle.sdh_whatif_cli.proofs.Pieces.{as_text}
+use Rattle.sdh_shell.proofs.Pieces.{as_text}
 use Rattle.sdh_whatif_cli.proofs.table.write_told.Goals as goal
 
 pub returns-then-third-eq0 : goal.returns-then-third-eq0

@@ -7,7 +7,7 @@ use Rattle.std.proofs.Math.Seq.{take-append-le, take-append-add}
 use Rattle.std.proofs.lemmas.List.{length-append}
 use Rattle.sdh_basics.specs.Causes.{Rose, IsCounted, one_more}
 use Rattle.sdh_outside.specs.Writing.{AppendsFewer}
-use Rattle.sdh_whatif_cli.specs.Writing.{Wrote}
+use Rattle.sdh_shell.specs.Writing.{Wrote}
 
 no_err : {T : Type 0} (E : Type 0) (x : T) → IsErr {T = T} {E = E} (Ok x) → ⊥
 no_err E x d = grind (arith, d)
@@ -15,16 +15,30 @@ no_err E x d = grind (arith, d)
 rose : (x y z : ℕ) → x ≤ y → Rose y z → Rose x z
 rose x y z later h = omega (arith, later, h)
 
+-- a front behind what was appended
+pub fewer_behind : (a b c : Option (List ℕ)) (s t : List ℕ) → Appends a b s → AppendsFewer b c t → AppendsFewer a c (s ++ t)
+fewer_behind a b c s t whole front =
+    let n = front.0 in
+    let same : take (length s + n) (s ++ t) ≡ s ++ take n t = take-append-add s t n in (
+      length s + n,
+      omega (arith, front.1, length-append s t),
+      subst (Appends a c) (sym same) (Appends-trans a b c s (take n t) whole front.2),
+    )
+
 module _ {T E : Type 0} (exact : Bool) where
-  -- nothing is to be written
-  pub nothing : (a : Option (List ℕ)) (x : ℕ) (t : T) → Wrote {T = T} {E = E} exact a a x x [] (Ok t)
-  nothing a x t = record {
-    ok = Appends-nil a;
+  -- a piece was written whole, and no write failed
+  pub whole : (a b : Option (List ℕ)) (x : ℕ) (s : List ℕ) (t : T) → Appends a b s → Wrote {T = T} {E = E} exact a b x x s (Ok t)
+  whole a b x s t all = record {
+    ok = all;
     front = tt;
     fault = tt;
     later = omega arith;
     counted = record { one = λ e fault. absurd (no_err E t fault); none = λ e no. refl };
   }
+
+  -- nothing is to be written
+  pub nothing : (a : Option (List ℕ)) (x : ℕ) (t : T) → Wrote {T = T} {E = E} exact a a x x [] (Ok t)
+  nothing a x t = whole a a x [] t (Appends-nil a)
 
   -- a piece, and the next one
   pub after : (a b c : Option (List ℕ)) (x y z : ℕ) (s t : List ℕ) (ok : T) (r : Result T E) → Wrote {T = T} {E = E} exact a b x y s (Ok ok)
@@ -36,23 +50,16 @@ module _ {T E : Type 0} (exact : Bool) where
     later = omega (arith, f.later, g.later);
     counted = record { one = λ e fault. absurd (no_err E next fault); none = λ e no. g.counted.none e no ∙ f.counted.none e (no_err E ok) };
   }
-  after a b c x y z s t ok (Err e) f g =
-      let n = g.front.0 in
-      let front : take (length s + n) (s ++ t) ≡ s ++ take n t = take-append-add s t n in
-      record {
-        ok = tt;
-        front = (
-          length s + n,
-          omega (arith, g.front.1, length-append s t),
-          subst (Appends a c) (sym front) (Appends-trans a b c s (take n t) f.ok g.front.2),
-        );
-        fault = rose x y z f.later g.fault;
-        later = omega (arith, f.later, g.later);
-        counted = record {
-          one = λ same fault. g.counted.one same fault ∙ ap one_more (f.counted.none same (no_err E ok));
-          none = λ same no. absurd (no refl);
-        };
-      }
+  after a b c x y z s t ok (Err e) f g = record {
+    ok = tt;
+    front = fewer_behind a b c s t f.ok g.front;
+    fault = rose x y z f.later g.fault;
+    later = omega (arith, f.later, g.later);
+    counted = record {
+      one = λ same fault. g.counted.one same fault ∙ ap one_more (f.counted.none same (no_err E ok));
+      none = λ same no. absurd (no refl);
+    };
+  }
 
   -- a piece that wasn't written is the end
   pub stopped : (a b : Option (List ℕ)) (x y : ℕ) (s t : List ℕ) (e : E) → Wrote {T = T} {E = E} exact a b x y s (Err e)
