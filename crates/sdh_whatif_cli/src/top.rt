@@ -4,16 +4,11 @@ ghost use Rattle.std.specs.Io.KnownBytes.{IsAtEnd};
 ghost use Rattle.sdh_basics.specs.Causes.{Rose, IsCounted};
 ghost use Rattle.sdh_outside.specs.Reading.{TakesCount};
 ghost use Rattle.sdh_shell.specs.Reading.{HasPlan};
-ghost use Rattle.sdh_shell.specs.Writing.{Writes};
+ghost use Rattle.sdh_shell.specs.Writing.{Writes, Wrote};
 ghost use Rattle.sdh_shell.specs.Calls.{words_of};
 ghost use Rattle.sdh_whatif_cli.specs.Words.{asked};
 ghost use Rattle.sdh_whatif_cli.specs.Lines.{table_text};
-<<<<<<< HEAD
 ghost use Rattle.sdh_whatif_cli.specs.Laws.{LinesAreTrue};
-ghost use Rattle.sdh_whatif_cli.specs.Writing.{Wrote};
-=======
-ghost use Rattle.sdh_shell.specs.Writing.{Wrote};
->>>>>>> r55
 ghost use Rattle.sdh_whatif_cli.specs.Outcome.{refusal, OfBytes, IsOutcome, told};
 
 use crate::ask::{Ask, asked};
