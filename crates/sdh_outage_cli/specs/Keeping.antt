@@ -1,7 +1,8 @@
 -- What listeners keep is told by the rounds that went by alone.
 use Rattle.std.specs.Prelude.{◌≡◌, ℕ, zero, suc, ◌^◌, ◌≤◌, List, ◌∷◌, length, slice_get}
-use Rattle.std.proofs.Common.{refl, ap, ap₂, subst, ◌∙◌, zero-le}
-use Rattle.std.proofs.Math.Nat.{le_refl, le_step}
+use mathlib.Core.Path.{refl, ap, ap₂, subst, ◌∙◌}
+use native.Mathlib.Nat.{le_refl, le_step}
+use Prim.Native.Nat.{zero-le}
 use Rattle.sdh_circuits.specs.declared.End.TheVariants.{A, B}
 use Rattle.sdh_circuits.specs.declared.PortId.{PortId}
 use Rattle.sdh_circuits.specs.Ends.{port_id}
