@@ -1,3 +1,4 @@
+pub mod Soon
 pub mod Course
 pub mod Standing
 pub mod Ports
@@ -7,3 +8,5 @@ pub mod Settling
 pub mod Healthy
 pub mod Plans
 pub mod Steps
+pub mod Counting
+pub mod Occurring

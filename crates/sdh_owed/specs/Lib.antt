@@ -5,3 +5,5 @@ pub mod Healthy
 pub mod Laws
 pub mod Plans
 pub mod Running
+pub mod Counting
+pub mod Occurring
