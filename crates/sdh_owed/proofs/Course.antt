@@ -5,6 +5,7 @@ use Rattle.sdh_circuits.specs.Provisioning.{Provisioning}
 use Rattle.sdh_plant.specs.Fibres.{Fibres, HasNoFibres}
 use Rattle.sdh_plant.specs.Arrivals.{Knows}
 use Rattle.sdh_request.specs.declared.settings.Settings.{Settings}
+use Rattle.sdh_settling.specs.Laws.{StillRingsAreSettled}
 use Rattle.sdh_ringmap.specs.declared.Side.{Side}
 use Rattle.sdh_terms.specs.declared.Condition.{Condition}
 use Rattle.sdh_rounds.proofs.Runs.{course_whole, known_course, known_unsettles}
@@ -36,6 +37,8 @@ use Rattle.sdh_scripts.proofs.Reporting.{settles_by, reports_by, breaks_by}
 use Rattle.sdh_world.specs.Steps.{after_step}
 use Rattle.sdh_owed.specs.Scripts.{Runs}
 use Rattle.sdh_owed.specs.Laws.{ring_by}
+use Rattle.sdh_owed.proofs.Strangers.{none_old}
+use Rattle.sdh_owed.specs.Strangers.{NoneEverMeetsOldBytes}
 use Rattle.sdh_owed.proofs.Soon.{RestoredSoon, happens_front, ready_then, owed_soon}
 use Rattle.sdh_owed.proofs.Standing.{Stands, whole, stretch_to, changed_then, settled_then, stands_new}
 use Rattle.sdh_owed.specs.Course.{stretch, HaveCondition, IsLeftOff, WentThrough, AreSentAlike, HasSent, NoneEverMeetsAStranger}
@@ -286,6 +289,16 @@ module _ (s : Settings) (ids : List ℕ) (circuits : Provisioning) (f : Fibres) 
         law s ids circuits f earlier last may (happens_front now later from (subst (MayHappen from) front happens))
         (quiet_front now later from (subst (EndQuietly from) front quiet)) none form t low
 
+    recent : StillRingsAreSettled → AHoldSpoilsItsOwnStepAlone → NoneEverMeetsOldBytes from ring ss
+    recent still law earlier later last is none t low =
+        let now = earlier ++ last ∷ [] in
+        let front : ss ≡ now ++ later = is ∙ sym (append_assoc earlier (last ∷ []) later) in
+        none_old s ids circuits f may form still law earlier last
+        (happens_front now later from (subst (MayHappen from) front happens))
+        (quiet_front now later from (subst (EndQuietly from) front quiet))
+        (ready_then s ids circuits f may earlier last later (subst (MayHappen from) is happens) (subst (EndQuietly from) is quiet)) none
+        t low
+
     soon : RestoredSoon → AllIsOwedSoon from ring ss
     soon laws earlier same later last is still k late few =
         let front : ss ≡ earlier ++ last ∷ (same ++ later) = is in
@@ -294,8 +307,8 @@ module _ (s : Settings) (ids : List ℕ) (circuits : Provisioning) (f : Fibres) 
         (ready_then s ids circuits f may earlier last (same ++ later) (subst (MayHappen from) front happens)
         (subst (EndQuietly from) front quiet)) laws late
 
-pub courses_are_told : AHoldSpoilsItsOwnStepAlone → RestoredSoon → CoursesAreTold
-courses_are_told strangers_law soon_laws s ids circuits f may form limit past steps each reports end left x =
+pub courses_are_told : StillRingsAreSettled → AHoldSpoilsItsOwnStepAlone → RestoredSoon → CoursesAreTold
+courses_are_told still_law strangers_law soon_laws s ids circuits f may form limit past steps each reports end left x =
     let goes =
     walk s ids circuits f may limit 0 past [] [] steps (new_world s ids circuits f) reports end left
     (stands_new s ids circuits f may past) each x in
@@ -304,6 +317,7 @@ courses_are_told strangers_law soon_laws s ids circuits f may form limit past st
       through = goes.through;
       sent = goes.sent;
       strangers = strangers s ids circuits f may form goes.stretches goes.happens goes.quiet strangers_law;
+      recent = recent s ids circuits f may form goes.stretches goes.happens goes.quiet still_law strangers_law;
       soon = soon s ids circuits f may form goes.stretches goes.happens goes.quiet soon_laws;
     }
 
@@ -323,5 +337,6 @@ none_ran w ring limit steps reports end left none is unmade sent = record {
       (none_through ring.nodes limit 0 [] steps end is (inl refl));
   sent = inr (is, inr (refl, unmade, sent));
   strangers = λ earlier later last front holds t low. none_last earlier last later _ front;
+  recent = λ earlier later last front none t low. none_last earlier last later _ front;
   soon = λ earlier same later last front still k late few. none_last earlier last (same ++ later) _ front;
 }

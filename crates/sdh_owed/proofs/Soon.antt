@@ -81,7 +81,7 @@ free_changed (change.Slip port turn count) w none free =
     each_at_place (λ q n. is_held n ≡ false) (slips_at port turn count) (λ q n h. h) (place_of_port w.ring port) w.ring.nodes free
 free_changed (change.Now t) w none free = free
 
-free_all : (cs : List Change) (w : World) → HoldNone cs → NoneHeld w → NoneHeld (all_changed cs w)
+pub free_all : (cs : List Change) (w : World) → HoldNone cs → NoneHeld w → NoneHeld (all_changed cs w)
 free_all [] w none free = free
 free_all (c ∷ cs) w none free = free_all cs (changed c w) none.1 (free_changed c w none.0 free)
 

@@ -25,6 +25,7 @@ use Rattle.sdh_promise.specs.Owed.{Ring, requests_by, IsOwed, IsLast}
 use Rattle.sdh_owed.specs.Reports.{report_of}
 use Rattle.sdh_owed.specs.Scripts.{Runs}
 use Rattle.sdh_owed.specs.Laws.{ring_by}
+use Rattle.sdh_owed.specs.Strangers.{NoneEverMeetsOldBytes}
 
 -- ---- what happened
 
@@ -127,6 +128,7 @@ pub record HasCourse (w : World) (ring : Ring) (limit : ℕ) (steps : List Step)
   pub through : WentThrough ring.nodes limit 0 (scenes [] steps) reports end stretches
   pub sent : HasSent w stretches end left
   pub strangers : NoneEverMeetsAStranger w ring stretches
+  pub recent : NoneEverMeetsOldBytes w ring stretches
   pub soon : AllIsOwedSoon w ring stretches
 
 abbrev pub CoursesAreTold : Type 0

@@ -1,4 +1,5 @@
 pub mod Course
+pub mod Strangers
 pub mod Reports
 pub mod Scripts
 pub mod Healthy

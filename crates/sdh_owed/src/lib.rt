@@ -33,11 +33,12 @@ pub fn healthy_scripts()
 }
 
 /// Whatever a script comes to from a new ring on, it has a course: no port meets a stranger in a settle step before which
-/// no controller was held of a node that passes traffic through; and soon after the last changes all ports have what they
-/// are owed.
+/// no controller was held of a node that passes traffic through, nor bytes of long ago where none was held; and soon after
+/// the last changes all ports have what they are owed.
 pub fn courses_are_told()
     ensures { CoursesAreTold }
 {
+    sdh_settling::still_rings_are_settled();
     sdh_laws::strangers::a_hold_spoils_its_own_step_alone();
     sdh_laws::restoring::stretches_are_restored_soon();
     sdh_laws::restoring::free_rings_are_restored_soon();
