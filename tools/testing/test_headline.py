@@ -3,6 +3,7 @@
 import re
 import unittest
 
+import soon
 from common import TOOLS
 
 ROOT = TOOLS.parent
@@ -38,7 +39,7 @@ def below(crate, lines):
 class Headline(unittest.TestCase):
     def test_definitions_are_those_of_the_source(self):
         found = list(quoted(PAGE.read_text()))
-        self.assertEqual(len(found), 24)
+        self.assertEqual(len(found), 29)
         for file, words in found:
             with self.subTest(file=file, words=words[:3]):
                 self.assertTrue(words)
@@ -47,6 +48,18 @@ class Headline(unittest.TestCase):
     def test_another_word_is_told(self):
         file, words = next(quoted(PAGE.read_text()))
         self.assertFalse(stands_in([*words[:-1], "others"], (ROOT / file).read_text()))
+
+    def test_late_steps_are_counted(self):
+        steps, late, alone = soon.all_counted()
+        self.assertLess(alone, late)
+        for page in (PAGE, ROOT / "README.md"):
+            words = " ".join(page.read_text().split())
+            self.assertIn(f"Of the {steps} settle steps of the worked plans {late} are", words)
+
+    def test_bounds_are_those_of_the_changes(self):
+        bounds = [soon.bound(4, words) for words in ([], ["cut", "degrade"], ["slip", "cut"], ["hold", "slip"])]
+        self.assertEqual(bounds, [50, 50, 93, 150])
+        self.assertEqual(soon.bound(16, ["slip"]), 194)
 
     def test_the_promise_stands_on_no_frame_word_or_node(self):
         lines = [line for line in (ROOT / "crates.txt").read_text().split("\n") if not line.startswith("#")]

@@ -1,6 +1,6 @@
 -- What comes of a plan.
-use Rattle.std.proofs.Common.{◌≡◌, true, ℕ, List, [], length, refl, ap, sym, subst, inl, inr}
-use Rattle.sdh_plant.specs.Fibres.{Fibres, IsHonest}
+use Rattle.std.proofs.Common.{◌≡◌, true, ℕ, List, [], refl, ap, sym, subst, inl, inr}
+use Rattle.sdh_plant.specs.Fibres.{Fibres, HasNoFibres, IsHonest}
 use Rattle.sdh_plan.specs.Planned.{Planned, IsPlanned, provisioning_of}
 use Rattle.sdh_plan.specs.Steps.{new_past}
 use Rattle.sdh_report.specs.Reports.{Report, listed}
@@ -39,10 +39,11 @@ module _ (plan : Planned) (f left : Fibres) (reports : List Report) (end : Statu
       law plan.settings plan.nodes (provisioning_of plan) f (may_start plan f fits honest)
       (circuits_fit plan fits) plan.limit plan.steps all fits.steps_from_1 reports end x.0 x.2
 
-  course_comes : CoursesAreTold → Comes adm_account plan f reports end left → RunsWell plan f reports end left
-  course_comes law (inl x) =
-      none_ran (world_of plan f) (ring_of plan) plan.limit plan.steps reports end left x.1 x.0 (ap (λ (g : Fibres). g.sent) x.2)
-  course_comes law (inr x) =
+  rounds_come : CoursesAreTold → HasNoFibres f → Comes adm_account plan f reports end left → RunsWell plan f reports end left
+  rounds_come law fresh (inl x) =
+      none_ran (world_of plan f) (ring_of plan) plan.limit plan.steps reports end left x.1 x.0 (subst HasNoFibres (sym x.2) fresh)
+      (ap (λ (g : Fibres). g.sent) x.2)
+  rounds_come law fresh (inr x) =
       subst (RunsWell plan f reports end) x.1 (law plan.settings plan.nodes (provisioning_of plan) f (may_start plan f fits honest)
       (circuits_fit plan fits) plan.limit new_past plan.steps fits.steps_fit reports end x.0 x.2)
 
@@ -50,14 +51,14 @@ module _ (plan : Planned) (f left : Fibres) (reports : List Report) (end : Statu
 
 pub tells : ReportsAreOwed → ScriptsSettle → HealthyScripts → CoursesAreTold
     → (plan : Planned) (listing : Listing) (f left : Fibres) (text : List ℕ) (end : Status) → IsPlanned plan
-    → (f.honest ≡ true → IsHonest f)
+    → (f.honest ≡ true → IsHonest f) → HasNoFibres f
     → Came adm_walk plan.limit (listed listing) plan.steps (world_of plan f) f text end left → Tells plan listing f text end left
-tells owed settles healthy courses plan listing f left text end fits honest x =
+tells owed settles healthy courses plan listing f left text end fits honest fresh x =
     tells_all adm_account plan f left end (listed listing) text keeps_rounds adm_new fits
     (λ h reports came. record {
       owed = owed_comes plan f left reports end fits (honest h) owed came;
       healthy = λ all. healthy_comes plan f left reports end fits (honest h) healthy came all;
-      course = course_comes plan f left reports end fits (honest h) courses came;
+      rounds = rounds_come plan f left reports end fits (honest h) courses fresh came;
     })
     (λ h large reports last ran. settles plan.settings plan.nodes (provisioning_of plan) f (may_start plan f fits (honest h))
     (circuits_fit plan fits) plan.limit new_past plan.steps fits.steps_fit large reports end last ran)

@@ -1,5 +1,5 @@
 -- What the program promises follows from its outcome.
-use Rattle.std.proofs.Common.{◌≡◌, ◌≢◌, ℕ, ◌++◌, true, None, Some, List, refl, sym, subst, inl, inr}
+use Rattle.std.proofs.Common.{◌≡◌, ℕ, ◌++◌, true, None, Some, List, refl, sym, subst, inl, inr}
 use Rattle.std.specs.Prelude.{Option}
 use Rattle.std.specs.Io.KnownBytes.{Appends}
 use Rattle.sdh_plant.specs.Fibres.{Fibres}
@@ -15,13 +15,11 @@ use Rattle.sdh_shell.specs.Writing.{Writes}
 use Rattle.sdh_scripts.specs.Outcome as outcome
 use Rattle.sdh_scripts.specs.Headline as headline
 use Rattle.sdh_scripts.proofs.Promises.{SettlesLarge, EndsKnown, shows}
-use Rattle.sdh_owed.specs.Healthy.{AllSettle}
 use Rattle.sdh_owed.specs.Plans.{world_of}
-use Rattle.sdh_promise.specs.Plans.{OwesAll}
-use Rattle.sdh_cli.specs.Plans.{IsRunOf, ran_of, ShowsHealth, RunsWell}
+use Rattle.sdh_cli.specs.Plans.{IsRunOf, ran_of, AreAsPromised}
 use Rattle.sdh_cli.specs.Words.{Ask}
 use Rattle.sdh_cli.specs.Outcome.{ringing, told, MayEnd}
-use Rattle.sdh_cli.specs.Headline.{Lists, Delivers, GoesWell, EndsAsItRuns, AlwaysSettles, StaysHealthy, MayBeDone}
+use Rattle.sdh_cli.specs.Headline.{Lists, IsAsPromised, EndsAsItRuns, AlwaysSettles, MayBeDone}
 use Rattle.sdh_cli.proofs.Deeds.{listed_deed, run_alone}
 
 -- what is so of each run, by its plan, its reports and its end
@@ -41,20 +39,9 @@ shown (Some ask) f left reads calls bytes how old new x P so plan listing is h =
 
 module _ (ask : Option Ask) (f left : Fibres) (reads calls : Counts) (bytes : List ℕ) (how : Status) (old new : Option (List ℕ))
     (x : Writes (λ how text. MayEnd ask bytes f reads calls how text left) how old new) where
-  pub delivers : f.honest ≡ true → Delivers ask bytes how old new
-  delivers honest = shown ask f left reads calls bytes how old new x (λ plan reports end. OwesAll plan reports end)
-      (λ plan reports end came. (came.owed honest).owed)
-
-  pub goes_well : f.honest ≡ true → GoesWell ask bytes f how old new left
-  goes_well honest = shown ask f left reads calls bytes how old new x (λ plan reports end. RunsWell plan f reports end left)
-      (λ plan reports end came. (came.owed honest).course)
-
-  pub stays_healthy : f.honest ≡ true → StaysHealthy ask bytes how old new
-  stays_healthy honest plan listing is h all =
-      let r = shown ask f left reads calls bytes how old new x
-      (λ plan reports end. AllSettle plan.steps → ShowsHealth plan reports end)
-      (λ plan reports end came. (came.owed honest).healthy) plan listing is h in
-      (r.0, r.1, r.2 all)
+  pub as_promised : f.honest ≡ true → IsAsPromised ask bytes f how old new left
+  as_promised honest = shown ask f left reads calls bytes how old new x (λ plan reports end. AreAsPromised plan f reports end left)
+      (λ plan reports end came. came.owed honest)
 
   pub ends_as_it_runs : EndsAsItRuns ask bytes f how
   ends_as_it_runs plan listing is h =

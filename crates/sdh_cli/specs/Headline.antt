@@ -10,10 +10,8 @@ use Rattle.sdh_report.specs.declared.listing.Listing.{Listing}
 use Rattle.sdh_report.specs.Reports.{Report, text_of}
 use Rattle.sdh_report.specs.Statuses.{last_line}
 use Rattle.sdh_rounds.specs.Quiet.{enough_for}
-use Rattle.sdh_owed.specs.Healthy.{AllSettle}
 use Rattle.sdh_owed.specs.Plans.{world_of}
-use Rattle.sdh_cli.specs.Plans.{ran_of, ShowsHealth, RunsWell}
-use Rattle.sdh_promise.specs.Plans.{OwesAll}
+use Rattle.sdh_cli.specs.Plans.{ran_of, AreAsPromised}
 use Rattle.sdh_cli.specs.Words.{Ask, listing_of}
 use Rattle.sdh_cli.specs.Outcome.{ringing}
 use Rattle.sdh_scripts.specs.Headline as headline
@@ -28,18 +26,13 @@ abbrev pub Lists : Option Ask → List ℕ → Planned → Listing → Type 0
 Lists None bytes plan listing = ⊥
 Lists (Some ask) bytes plan listing = IsPlanFor ask bytes plan × (listing_of ask plan ≡ Some listing)
 
--- The headline. What was written is what is listed of reports, and the last line; and the reports show for every port what it is
--- owed by the restoration model, under the requests of the script's history.
-abbrev pub Delivers : Option Ask → List ℕ → Status → Option (List ℕ) → Option (List ℕ) → Type 0
-Delivers ask bytes how old new = (plan : Planned) (listing : Listing) → Lists ask bytes plan listing → HasRun how
-    → (reports : List Report) × Appends old new (text_of listing reports ++ last_line how) × OwesAll plan reports how
-
--- The second headline, of every round, settled or not. What was written is what is listed of reports, and the last line; in no round
--- of a settle step that gave them a port meets a stranger, unless a node that passes through is held right before that step; and after
--- the changes before each settle step every port soon has what it is owed.
-abbrev pub GoesWell : Option Ask → List ℕ → Fibres → Status → Option (List ℕ) → Option (List ℕ) → Fibres → Type 0
-GoesWell ask bytes f how old new left = (plan : Planned) (listing : Listing) → Lists ask bytes plan listing → HasRun how
-    → (reports : List Report) × Appends old new (text_of listing reports ++ last_line how) × RunsWell plan f reports how left
+-- The headlines, of one list of reports. What was written is what is listed of them, and the last line. They show for every port what it is
+-- owed by the restoration model, under the requests of the script's history; a script of settle steps alone shows a healthy ring. And in every
+-- round that gave them, settled or not: no port meets a stranger in a settle step, unless a node that passes through is held right before that
+-- step; and after the changes before each settle step every port soon has what it is owed.
+abbrev pub IsAsPromised : Option Ask → List ℕ → Fibres → Status → Option (List ℕ) → Option (List ℕ) → Fibres → Type 0
+IsAsPromised ask bytes f how old new left = (plan : Planned) (listing : Listing) → Lists ask bytes plan listing → HasRun how
+    → (reports : List Report) × Appends old new (text_of listing reports ++ last_line how) × AreAsPromised plan f reports how left
 
 -- it ends as the script does where the arrivals are known: unsettled at exactly the step in which no quiet window comes within the
 -- limit; or a plant's call failed
@@ -51,11 +44,6 @@ EndsAsItRuns ask bytes f how = (plan : Planned) (listing : Listing) → Lists as
 abbrev pub AlwaysSettles : Option Ask → List ℕ → Status → Type 0
 AlwaysSettles ask bytes how = (plan : Planned) (listing : Listing) → Lists ask bytes plan listing
     → enough_for (length plan.nodes) ≤ plan.limit → (k : ℕ) → how ≢ status.Unsettled k
-
--- a script of settle steps alone shows a healthy ring
-abbrev pub StaysHealthy : Option Ask → List ℕ → Status → Option (List ℕ) → Option (List ℕ) → Type 0
-StaysHealthy ask bytes how old new = (plan : Planned) (listing : Listing) → Lists ask bytes plan listing → HasRun how → AllSettle plan.steps
-    → (reports : List Report) × Appends old new (text_of listing reports ++ last_line how) × ShowsHealth plan reports how
 
 -- the words are one of the forms, and all is given for what is asked: for the tables a plan; for a run a plan, its port, and a script
 -- that settles, as it does over honest fibres where the limit is large

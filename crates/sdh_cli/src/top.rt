@@ -8,7 +8,7 @@ ghost use Rattle.sdh_shell.specs.Failing.{Counts, CameTo};
 ghost use Rattle.sdh_shell.specs.Writing.{Writes};
 ghost use Rattle.sdh_cli.specs.Words.{asked};
 ghost use Rattle.sdh_cli.specs.Outcome.{told, LeavesSource, LeavesPlant, HasRead, MayEnd};
-ghost use Rattle.sdh_cli.specs.Headline.{Delivers, GoesWell, EndsAsItRuns, AlwaysSettles, StaysHealthy, MayBeDone};
+ghost use Rattle.sdh_cli.specs.Headline.{IsAsPromised, EndsAsItRuns, AlwaysSettles, MayBeDone};
 
 use crate::words::Command;
 use sdh_outside::{Sink, Source};
@@ -39,21 +39,18 @@ pub fn sdhring<R: Source, W: Sink, P: Plant>(
         (λ bytes. Writes (λ how text. MayEnd ask bytes (P.fibres plant.old) reads calls how text (P.fibres plant.new)) result
         (W.written sink.old) (W.written sink.new)) }
 
-    // Over honest fibres: the reports show for every port what it is owed; with a large limit no settle step is unsettled; and a
-    // script of settle steps alone shows a healthy ring.
-    ensures owed { (P.fibres plant.old).honest ≡ true → IfSome (told (asked (words_of words.now)) (R.left source.old))
-        (λ bytes. Delivers (asked (words_of words.now)) bytes result (W.written sink.old) (W.written sink.new)) }
+    // Over honest fibres, of one list of reports: they show for every port what it is owed; a script of settle steps alone shows a healthy
+    // ring; and the rounds that gave them are as many as they tell and sent what was sent. In no round of a settle step a port
+    // delivers another customer's byte, unless a node that passes through is held right before that step; and soon after the
+    // last changes every port delivers what it is owed.
+    ensures promised { (P.fibres plant.old).honest ≡ true
+        → IfSome (told (asked (words_of words.now)) (R.left source.old)) (λ bytes. IsAsPromised (asked (words_of words.now)) bytes
+        (P.fibres plant.old) result (W.written sink.old) (W.written sink.new) (P.fibres plant.new)) }
+
+    // With a large limit no settle step is unsettled.
     ensures settles { (P.fibres plant.old).honest ≡ true
         → IfSome (told (asked (words_of words.now)) (R.left source.old))
         (λ bytes. AlwaysSettles (asked (words_of words.now)) bytes result) }
-    ensures healthy { (P.fibres plant.old).honest ≡ true → IfSome (told (asked (words_of words.now)) (R.left source.old))
-        (λ bytes. StaysHealthy (asked (words_of words.now)) bytes result (W.written sink.old) (W.written sink.new)) }
-
-    // In every round that gave the reports: in no round of a settle step a port delivers another customer's byte, unless a node that
-    // passes through is held right before that step; and soon after the last change every port delivers what it is owed.
-    ensures rounds { (P.fibres plant.old).honest ≡ true
-        → IfSome (told (asked (words_of words.now)) (R.left source.old)) (λ bytes. GoesWell (asked (words_of words.now)) bytes
-        (P.fibres plant.old) result (W.written sink.old) (W.written sink.new) (P.fibres plant.new)) }
 
     // Where arrivals are known, unsettled comes at exactly the settle step in which no quiet window comes within the limit.
     ensures unsettled { IfSome (told (asked (words_of words.now)) (R.left source.old))

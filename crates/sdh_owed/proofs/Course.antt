@@ -1,11 +1,13 @@
 -- Every script over honest fibres has a course.
-use Rattle.std.proofs.Common.{◌≡◌, ℕ, ◌+◌, ◌-◌, List, [], ◌∷◌, ◌++◌, length, refl, ap, sym, ◌∙◌, subst, arith, inl, inr, append_assoc}
+use Rattle.std.proofs.Common.{◌≡◌, ◌⊎◌, ℕ, ◌+◌, ◌-◌, List, [], ◌∷◌, ◌++◌, length, refl, ap, sym, ◌∙◌, subst, arith, inl, inr, append_assoc}
 use Rattle.std.proofs.Common.{append-nil}
 use Rattle.sdh_circuits.specs.Provisioning.{Provisioning}
-use Rattle.sdh_plant.specs.Fibres.{Fibres}
+use Rattle.sdh_plant.specs.Fibres.{Fibres, HasNoFibres}
 use Rattle.sdh_plant.specs.Arrivals.{Knows}
 use Rattle.sdh_request.specs.declared.settings.Settings.{Settings}
-use Rattle.sdh_restoration.specs.Applied.{span_requests}
+use Rattle.sdh_settling.specs.Laws.{StillRingsAreSettled}
+use Rattle.sdh_ringmap.specs.declared.Side.{Side}
+use Rattle.sdh_terms.specs.declared.Condition.{Condition}
 use Rattle.sdh_rounds.proofs.Runs.{course_whole, known_course, known_unsettles}
 use Rattle.sdh_node.specs.Stations.{adm}
 use Rattle.sdh_world.specs.Held.{new_ring}
@@ -13,16 +15,11 @@ use Rattle.sdh_world.specs.Rounds.{World}
 use Rattle.sdh_world.specs.Runs.{run, run_with, course, IsBrokenOff}
 use Rattle.sdh_world.specs.Quiet.{EndsWindow, Unsettles, BreaksOff}
 use Rattle.sdh_world.specs.Changes.{changed, all_changed, after_stretch, after_stretches, new_world}
-use Rattle.sdh_world.specs.Clocks.{clocks_by}
 use Rattle.sdh_world.specs.Laws.{MayHappen}
 use Rattle.sdh_laws.specs.Hearing.Laws.{MayStart}
 use Rattle.sdh_laws.proofs.hearing.Requests.{after_last}
-use Rattle.sdh_laws.proofs.hearing.Staying.{left_stretch, left_stretches}
-use Rattle.sdh_laws.specs.Carrying.Laws.{IsRestored}
-use Rattle.sdh_laws.specs.Carrying.Windows.{Layout, layout_in, layout_of, size_of, HasCircuits}
-use Rattle.sdh_laws.proofs.carrying.Settles.{layout_stretches}
+use Rattle.sdh_laws.specs.Carrying.Windows.{layout_in, HasCircuits}
 use Rattle.sdh_laws.specs.Strangers.Laws.{EndQuietly, AHoldSpoilsItsOwnStepAlone}
-use Rattle.sdh_laws.specs.Restoring.Laws.{StretchesAreRestoredSoon}
 use Rattle.sdh_plan.specs.declared.step.Step.{Step}
 use Rattle.sdh_plan.specs.declared.step.Step.TheVariants as step
 use Rattle.sdh_plan.specs.Steps.{Past, after}
@@ -32,8 +29,7 @@ use Rattle.sdh_report.specs.declared.status.Status.TheVariants as status
 use Rattle.sdh_report.specs.Reports.{Report}
 use Rattle.sdh_promise.specs.Changes.{Change, Stretch, rounds_in, changes_of, scenes}
 use Rattle.sdh_promise.specs.Changes as change
-use Rattle.sdh_promise.specs.Happened.{happened}
-use Rattle.sdh_promise.specs.Owed.{Ring, asked_in, IsOwed}
+use Rattle.sdh_promise.specs.Owed.{Ring, IsLast}
 use Rattle.sdh_owed.specs.Reports.{report_of}
 use Rattle.sdh_scripts.specs.Scripts.{Refuses}
 use Rattle.sdh_scripts.proofs.Outcomes.{refused_ends}
@@ -41,16 +37,14 @@ use Rattle.sdh_scripts.proofs.Reporting.{settles_by, reports_by, breaks_by}
 use Rattle.sdh_world.specs.Steps.{after_step}
 use Rattle.sdh_owed.specs.Scripts.{Runs}
 use Rattle.sdh_owed.specs.Laws.{ring_by}
-use Rattle.sdh_owed.proofs.Ports.{owed_now}
+use Rattle.sdh_owed.proofs.Strangers.{none_old}
+use Rattle.sdh_owed.specs.Strangers.{NoneEverMeetsOldBytes}
+use Rattle.sdh_owed.proofs.Soon.{RestoredSoon, happens_front, ready_then, owed_soon}
 use Rattle.sdh_owed.proofs.Standing.{Stands, whole, stretch_to, changed_then, settled_then, stands_new}
-use Rattle.sdh_owed.specs.Course.{stretch, IsLeftOff, WentThrough, HasSent, NoneEverMeetsAStranger, AllIsOwedSoon, HasCourse}
-use Rattle.sdh_owed.specs.Course.{CoursesAreTold}
+use Rattle.sdh_owed.specs.Course.{stretch, HaveCondition, IsLeftOff, WentThrough, AreSentAlike, HasSent, NoneEverMeetsAStranger}
+use Rattle.sdh_owed.specs.Course.{AllIsOwedSoon, HasCourse, CoursesAreTold}
 
 -- ---- stretches one behind the other
-
-happens_front : (ss later : List Stretch) (w : World) → MayHappen w (ss ++ later) → MayHappen w ss
-happens_front [] later w may = tt
-happens_front (s ∷ ss) later w may = (may.0, happens_front ss later (after_stretch s w) may.1)
 
 happens_then : (ss later : List Stretch) (w : World) → MayHappen w ss → MayHappen (after_stretches ss w) later → MayHappen w (ss ++ later)
 happens_then [] later w may then = then
@@ -76,17 +70,24 @@ quiet_front (s ∷ r ∷ ss) later w quiet = (quiet.0, quiet_front (r ∷ ss) la
 -- ---- what was sent
 
 -- changes send nothing
-sent_changed : (c : Change) (w : World) → (changed c w).fibres.sent ≡ w.fibres.sent
+alike_changed : (c : Change) (w : World) → AreSentAlike (changed c w).fibres w.fibres
 unfolding changed
-sent_changed (change.Fibre p d condition) w = refl
-sent_changed (change.Order p d command) w = refl
-sent_changed (change.Hold p turns) w = refl
-sent_changed (change.Slip port turn count) w = refl
-sent_changed (change.Now t) w = refl
+alike_changed (change.Fibre p d condition) w = record { carried = refl; sent = refl }
+alike_changed (change.Order p d command) w = record { carried = refl; sent = refl }
+alike_changed (change.Hold p turns) w = record { carried = refl; sent = refl }
+alike_changed (change.Slip port turn count) w = record { carried = refl; sent = refl }
+alike_changed (change.Now t) w = record { carried = refl; sent = refl }
 
-sent_all : (cs : List Change) (w : World) → (all_changed cs w).fibres.sent ≡ w.fibres.sent
-sent_all [] w = refl
-sent_all (c ∷ cs) w = sent_all cs (changed c w) ∙ sent_changed c w
+alike_then : (f g h : Fibres) → AreSentAlike f g → AreSentAlike g h → AreSentAlike f h
+alike_then f g h a b = record { carried = a.carried ∙ b.carried; sent = a.sent ∙ b.sent }
+
+pub alike_all : (cs : List Change) (w : World) → AreSentAlike (all_changed cs w).fibres w.fibres
+alike_all [] w = record { carried = refl; sent = refl }
+alike_all (c ∷ cs) w =
+    alike_then (all_changed cs (changed c w)).fibres (changed c w).fibres w.fibres (alike_all cs (changed c w)) (alike_changed c w)
+
+alike_same : (f g : Fibres) → f ≡ g → AreSentAlike f g
+alike_same f g e = record { carried = ap (λ (x : Fibres). x.carried) e; sent = ap (λ (x : Fibres). x.sent) e }
 
 -- a step that was refused leaves the fibres as they were
 refused_leaves : (s : Step) (w : World) (reports : List Report) (end : Status) (left : World) → Refuses s w reports end left
@@ -94,10 +95,53 @@ refused_leaves : (s : Step) (w : World) (reports : List Report) (end : Status) (
 refused_leaves (step.Fibre e) w reports end left x = x.0
 refused_leaves s w reports end left x = absurd x
 
--- where a fault ended the script nothing has to have run
-none_through : (limit ran : ℕ) (later : List (List Change)) (end : Status) → end ≡ status.PlantFault → WentThrough limit ran later [] end []
-none_through limit ran [] end h = refl
-none_through limit ran (changes ∷ later) end h = subst (λ e. IsLeftOff limit changes e []) (sym h) (inl refl)
+-- a condition among some changes is among more
+condition_more : (cs ds : List Change) → HaveCondition cs → HaveCondition (cs ++ ds)
+condition_more [] ds h = absurd h
+condition_more (change.Fibre p d condition ∷ cs) ds h = tt
+condition_more (change.Order p d command ∷ cs) ds h = condition_more cs ds h
+condition_more (change.Hold p turns ∷ cs) ds h = condition_more cs ds h
+condition_more (change.Slip port turn count ∷ cs) ds h = condition_more cs ds h
+condition_more (change.Now t ∷ cs) ds h = condition_more cs ds h
+
+condition_last : (cs : List Change) (p : ℕ) (d : Side) (condition : Condition) → HaveCondition (cs ++ change.Fibre p d condition ∷ [])
+condition_last [] p d condition = tt
+condition_last (change.Fibre q e other ∷ cs) p d condition = tt
+condition_last (change.Order q e command ∷ cs) p d condition = condition_last cs p d condition
+condition_last (change.Hold q turns ∷ cs) p d condition = condition_last cs p d condition
+condition_last (change.Slip port turn count ∷ cs) p d condition = condition_last cs p d condition
+condition_last (change.Now t ∷ cs) p d condition = condition_last cs p d condition
+
+more_so : (cs ds : List Change) (ran : ℕ) → (ran ≡ 0) ⊎ HaveCondition cs → (ran ≡ 0) ⊎ HaveCondition (cs ++ ds)
+more_so cs ds ran (inl none) = inl none
+more_so cs ds ran (inr h) = inr (condition_more cs ds h)
+
+-- where a fault ended the script and the plant may have refused a condition nothing has to have run
+none_through : (n limit ran : ℕ) (changes : List Change) (steps : List Step) (end : Status) → end ≡ status.PlantFault
+    → (ran ≡ 0) ⊎ HaveCondition changes → WentThrough n limit ran (scenes changes steps) [] end []
+none_through n limit ran changes [] end is h = (refl, refl)
+none_through n limit ran changes (step.Settle ∷ later) end is h =
+    subst (λ e. IsLeftOff limit ran changes e []) (sym is) (inl (refl, h))
+none_through n limit ran changes (step.Fibre e ∷ later) end is h =
+    none_through n limit ran (changes ++ changes_of (step.Fibre e)) later end is (more_so changes (changes_of (step.Fibre e)) ran h)
+none_through n limit ran changes (step.Order p d c ∷ later) end is h =
+    none_through n limit ran (changes ++ changes_of (step.Order p d c)) later end is (more_so changes (changes_of (step.Order p d c)) ran h)
+none_through n limit ran changes (step.Hold p turns ∷ later) end is h =
+    none_through n limit ran (changes ++ changes_of (step.Hold p turns)) later end is (more_so changes (changes_of (step.Hold p turns)) ran h)
+none_through n limit ran changes (step.Slip port turn count ∷ later) end is h =
+    none_through n limit ran (changes ++ changes_of (step.Slip port turn count)) later end is
+    (more_so changes (changes_of (step.Slip port turn count)) ran h)
+none_through n limit ran changes (step.Moment m ∷ later) end is h =
+    none_through n limit ran (changes ++ changes_of (step.Moment m)) later end is (more_so changes (changes_of (step.Moment m)) ran h)
+
+-- and where it refused one
+refused_through : (n limit ran : ℕ) (changes : List Change) (s : Step) (later : List Step) (w : World) (reports : List Report)
+    (end : Status) (left : World) → Refuses s w reports end left → end ≡ status.PlantFault
+    → WentThrough n limit ran (scenes changes (s ∷ later)) [] end []
+refused_through n limit ran changes (step.Fibre e) later w reports end left x is =
+    none_through n limit ran (changes ++ changes_of (step.Fibre e)) later end is
+    (inr (condition_last changes e.at.0 e.side e.condition))
+refused_through n limit ran changes s later w reports end left x is = absurd x
 
 -- ---- a script, step by step
 
@@ -112,7 +156,7 @@ module _ (s : Settings) (ids : List ℕ) (circuits : Provisioning) (f : Fibres) 
   record GoesOn (limit : ℕ) (earlier : List Stretch) (later : List (List Change)) (reports : List Report) (end : Status)
       (left : Fibres) : Type 0 where
     pub stretches : List Stretch
-    pub through : WentThrough limit (rounds_in earlier) later reports end stretches
+    pub through : WentThrough (length ids) limit (rounds_in earlier) later reports end stretches
     pub happens : MayHappen from (earlier ++ stretches)
     pub quiet : EndQuietly (after_stretches earlier from) stretches
     pub sent : HasSent from (earlier ++ stretches) end left
@@ -120,17 +164,21 @@ module _ (s : Settings) (ids : List ℕ) (circuits : Provisioning) (f : Fibres) 
   -- nothing more ran
   ends_here : (limit : ℕ) (past : Past) (earlier : List Stretch) (changes : List Change) (later : List (List Change)) (w : World)
       (reports : List Report) (end : Status) (left : Fibres)
-      → Now past earlier changes w → left.sent ≡ w.fibres.sent → WentThrough limit (rounds_in earlier) later reports end []
+      → Now past earlier changes w → AreSentAlike left w.fibres → WentThrough (length ids) limit (rounds_in earlier) later reports end []
       → GoesOn limit earlier later reports end left
-  ends_here limit past earlier changes later w reports end left h sent through = record {
-    stretches = [];
-    through = through;
-    happens = subst (MayHappen from) (sym (append-nil earlier)) h.happened;
-    quiet = tt;
-    sent =
-        inl (sent ∙ ap (λ (v : World). v.fibres.sent) h.is ∙ sent_all changes (after_stretches earlier from)
-        ∙ ap (λ ss. (after_stretches ss from).fibres.sent) (sym (append-nil earlier)));
-  }
+  ends_here limit past earlier changes later w reports end left h sent through =
+      let behind = after_stretches earlier from in
+      let since : AreSentAlike w.fibres behind.fibres =
+      subst (λ (v : World). AreSentAlike v.fibres behind.fibres) (sym h.is) (alike_all changes behind) in
+      record {
+        stretches = [];
+        through = through;
+        happens = subst (MayHappen from) (sym (append-nil earlier)) h.happened;
+        quiet = tt;
+        sent =
+            inl (subst (λ ss. AreSentAlike left (after_stretches ss from).fibres) (sym (append-nil earlier))
+            (alike_then left w.fibres behind.fibres sent since));
+      }
 
   module _ (limit : ℕ) (past : Past) (earlier : List Stretch) (changes : List Change) (w : World) (h : Now past earlier changes w) where
     knows : Knows w.fibres
@@ -148,10 +196,12 @@ module _ (s : Settings) (ids : List ℕ) (circuits : Provisioning) (f : Fibres) 
         → Unsettles w limit left → GoesOn limit earlier (changes ∷ later) [] end left.fibres
     unsettled later end left number is x = record {
       stretches = stretch changes limit ∷ [];
-      through = subst (λ e. IsLeftOff limit changes e (stretch changes limit ∷ [])) (sym is) refl;
+      through = subst (λ e. IsLeftOff limit (rounds_in earlier) changes e (stretch changes limit ∷ [])) (sym is) refl;
       happens = happens_now limit;
       quiet = tt;
-      sent = inl (ap (λ (v : World). v.fibres.sent) ((known_unsettles adm w limit left knows x).1 ∙ after_rounds limit));
+      sent =
+          inl (alike_same left.fibres (after_stretches (earlier ++ stretch changes limit ∷ []) from).fibres
+          (ap (λ (v : World). v.fibres) ((known_unsettles adm w limit left knows x).1 ∙ after_rounds limit)));
     }
 
     -- and one that a fault broke off
@@ -163,25 +213,27 @@ module _ (s : Settings) (ids : List ℕ) (circuits : Provisioning) (f : Fibres) 
         course_whole adm b.rounds w ∙ known_course adm b.rounds w k knows b.arrive (omega arith) ∙ after_rounds k in
         record {
           stretches = stretch changes k ∷ [];
-          through = subst (λ e. IsLeftOff limit changes e (stretch changes k ∷ [])) (sym is) (inr (k, b.within, refl));
+          through = subst (λ e. IsLeftOff limit (rounds_in earlier) changes e (stretch changes k ∷ [])) (sym is) (inr (k, b.within, refl));
           happens = happens_now k;
           quiet = tt;
-          sent = inr (is, subst (λ v. IsBrokenOff v left) same b.off);
+          sent = inr (is, inl (subst (λ v. IsBrokenOff v left) same b.off));
         }
 
     -- one that ended, and what happened behind it
     settled : (later : List (List Change)) (mid : World) (number : ℕ) (reports : List Report) (end : Status) (left : Fibres)
         → (let last = stretch_to s ids circuits f may past earlier changes w h mid in
-        EndsWindow (course (all_changed changes (after_stretches earlier from))) last.rounds
+        IsLast (length ids) limit (rounds_in earlier) (mid.ring.rounds - 1)
+        → EndsWindow (course (all_changed changes (after_stretches earlier from))) last.rounds
         → rounds_in (earlier ++ last ∷ []) ≡ mid.ring.rounds - 1 + 1 → GoesOn limit (earlier ++ last ∷ []) later reports end left
         → GoesOn limit earlier (changes ∷ later) (report_of number mid.ring ∷ reports) end left)
     unfolding report_of
-    settled later mid number reports end left window many goes =
+    settled later mid number reports end left is window many goes =
         let last = stretch_to s ids circuits f may past earlier changes w h mid in
         let behind = append_assoc earlier (last ∷ []) goes.stretches in
         record {
           stretches = last ∷ goes.stretches;
-          through = (goes.stretches, refl, subst (λ n. WentThrough limit n later reports end goes.stretches) many goes.through);
+          through =
+              (goes.stretches, is, refl, subst (λ n. WentThrough (length ids) limit n later reports end goes.stretches) many goes.through);
           happens = subst (MayHappen from) behind goes.happens;
           quiet =
               ends_quietly last (after_stretches earlier from) goes.stretches window
@@ -194,14 +246,15 @@ module _ (s : Settings) (ids : List ℕ) (circuits : Provisioning) (f : Fibres) 
       → Now past earlier changes w → AreSteps s.rate (length ids) (length circuits.circuits) past steps
       → Runs limit before steps w reports end left → GoesOn limit earlier (scenes changes steps) reports end left.fibres
   walk limit before past earlier changes [] w reports end left h each x =
-      ends_here limit past earlier changes [] w reports end left.fibres h (ap (λ (v : World). v.fibres.sent) x.0) refl
+      ends_here limit past earlier changes [] w reports end left.fibres h
+      (alike_same left.fibres w.fibres (ap (λ (v : World). v.fibres) x.0)) (x.1.0, refl)
   walk limit before past earlier changes (step.Settle ∷ later) w reports end left h each (inl (told, mid, rest, ended, is, x)) =
       let there =
       settled_then s ids circuits f may past earlier changes w h mid limit
       (settles_by adm after_step report_of w limit (before + 1) told mid ended) in
       subst (λ rs. GoesOn limit earlier (scenes changes (step.Settle ∷ later)) rs end left.fibres)
       (sym (reports_by adm after_step report_of w limit (before + 1) told mid reports rest ended is))
-      (settled limit past earlier changes w h (scenes [] later) mid (before + 1) rest end left.fibres there.window there.many
+      (settled limit past earlier changes w h (scenes [] later) mid (before + 1) rest end left.fibres there.last there.window there.many
       (walk limit (before + 1) (after past step.Settle) _ [] later mid rest end left there.stands each.1 x))
   walk limit before past earlier changes (step.Settle ∷ later) w reports end left h each (inr (inl x)) =
       subst (λ rs. GoesOn limit earlier (scenes changes (step.Settle ∷ later)) rs end left.fibres) (sym x.1.0)
@@ -216,11 +269,10 @@ module _ (s : Settings) (ids : List ℕ) (circuits : Provisioning) (f : Fibres) 
             (changed_then s ids circuits f may past earlier changes w h this refl each.0) each.1 goes
         | inr refused ↦
             let stops = refused_ends this w reports end left refused in
-            let later = scenes changes (this ∷ later) in
-            ends_here limit past earlier changes later w reports end left.fibres h
-            (ap (λ (g : Fibres). g.sent) (refused_leaves this w reports end left refused))
-            (subst (λ rs. WentThrough limit (rounds_in earlier) later rs end []) (sym stops.0)
-            (none_through limit (rounds_in earlier) later end stops.1))
+            ends_here limit past earlier changes (scenes changes (this ∷ later)) w reports end left.fibres h
+            (alike_same left.fibres w.fibres (refused_leaves this w reports end left refused))
+            (subst (λ rs. WentThrough (length ids) limit (rounds_in earlier) (scenes changes (this ∷ later)) rs end []) (sym stops.0)
+            (refused_through (length ids) limit (rounds_in earlier) changes this later w reports end left refused stops.1))
       ]
 
   -- ---- what holds in the rounds
@@ -237,27 +289,26 @@ module _ (s : Settings) (ids : List ℕ) (circuits : Provisioning) (f : Fibres) 
         law s ids circuits f earlier last may (happens_front now later from (subst (MayHappen from) front happens))
         (quiet_front now later from (subst (EndQuietly from) front quiet)) none form t low
 
-    soon : StretchesAreRestoredSoon → AllIsOwedSoon from ring ss
-    unfolding report_of
-    soon law earlier later last is k long few =
-        let end = stretch last.changes k in
-        let now = earlier ++ end ∷ [] in
-        let left = after_stretches now from in
-        let t = left.ring.rounds - 1 in
-        let ran : left.ring.rounds ≡ 0 + rounds_in now = (left_stretches now from).rounds in
-        let some : left.ring.rounds ≡ (after_stretches earlier from).ring.rounds + k =
-        ap (λ (v : World). v.ring.rounds) (after_last earlier end from) ∙ (left_stretch end (after_stretches earlier from)).rounds in
-        let requests = span_requests (length ids) (asked_in s.threshold s.wait (length ids) now t) in
-        let restored : IsRestored (clocks_by circuits.circuits now) left requests =
-        law s ids circuits f earlier end t may (happens_cut earlier last later k from (subst (MayHappen from) is happens)) form long
-        (omega (arith, ran, some, long)) in
-        let same : layout_of left ≡ layout_in (new_ring s ids circuits) = layout_stretches now from in
-        let by = subst (λ (y : Layout). IsRestored (clocks_by y.circuits now) left requests) (sym same) restored in
-        subst (λ (y : Layout). IsOwed (size_of y) requests (happened now) y.circuits (report_of 0 left.ring)) same
-        (owed_now now left 0 requests (subst HasCircuits (sym same) form) by)
+    recent : StillRingsAreSettled → AHoldSpoilsItsOwnStepAlone → NoneEverMeetsOldBytes from ring ss
+    recent still law earlier later last is none t low =
+        let now = earlier ++ last ∷ [] in
+        let front : ss ≡ now ++ later = is ∙ sym (append_assoc earlier (last ∷ []) later) in
+        none_old s ids circuits f may form still law earlier last
+        (happens_front now later from (subst (MayHappen from) front happens))
+        (quiet_front now later from (subst (EndQuietly from) front quiet))
+        (ready_then s ids circuits f may earlier last later (subst (MayHappen from) is happens) (subst (EndQuietly from) is quiet)) none
+        t low
 
-pub courses_are_told : AHoldSpoilsItsOwnStepAlone → StretchesAreRestoredSoon → CoursesAreTold
-courses_are_told strangers_law soon_law s ids circuits f may form limit past steps each reports end left x =
+    soon : RestoredSoon → AllIsOwedSoon from ring ss
+    soon laws earlier same later last is still k late few =
+        let front : ss ≡ earlier ++ last ∷ (same ++ later) = is in
+        owed_soon s ids circuits f may form earlier last k
+        (happens_cut earlier last (same ++ later) k from (subst (MayHappen from) front happens))
+        (ready_then s ids circuits f may earlier last (same ++ later) (subst (MayHappen from) front happens)
+        (subst (EndQuietly from) front quiet)) laws late
+
+pub courses_are_told : StillRingsAreSettled → AHoldSpoilsItsOwnStepAlone → RestoredSoon → CoursesAreTold
+courses_are_told still_law strangers_law soon_laws s ids circuits f may form limit past steps each reports end left x =
     let goes =
     walk s ids circuits f may limit 0 past [] [] steps (new_world s ids circuits f) reports end left
     (stands_new s ids circuits f may past) each x in
@@ -266,7 +317,8 @@ courses_are_told strangers_law soon_law s ids circuits f may form limit past ste
       through = goes.through;
       sent = goes.sent;
       strangers = strangers s ids circuits f may form goes.stretches goes.happens goes.quiet strangers_law;
-      soon = soon s ids circuits f may form goes.stretches goes.happens goes.quiet soon_law;
+      recent = recent s ids circuits f may form goes.stretches goes.happens goes.quiet still_law strangers_law;
+      soon = soon s ids circuits f may form goes.stretches goes.happens goes.quiet soon_laws;
     }
 
 -- ---- without fibres
@@ -275,13 +327,16 @@ none_last : (earlier : List Stretch) (last : Stretch) (later : List Stretch) (A 
 none_last [] last later A is = absurd (grind arith)
 none_last (s ∷ earlier) last later A is = absurd (grind arith)
 
--- where a fault ended the script and nothing had been sent no round is told of
+-- where a fault ended the script and no fibres had been made no round is told of
 pub none_ran : (w : World) (ring : Ring) (limit : ℕ) (steps : List Step) (reports : List Report) (end : Status) (left : Fibres)
-    → reports ≡ [] → end ≡ status.PlantFault → left.sent ≡ w.fibres.sent → HasCourse w ring limit steps reports end left
-none_ran w ring limit steps reports end left none is sent = record {
+    → reports ≡ [] → end ≡ status.PlantFault → HasNoFibres left → left.sent ≡ w.fibres.sent
+    → HasCourse w ring limit steps reports end left
+none_ran w ring limit steps reports end left none is unmade sent = record {
   stretches = [];
-  through = subst (λ rs. WentThrough limit 0 (scenes [] steps) rs end []) (sym none) (none_through limit 0 (scenes [] steps) end is);
-  sent = inl sent;
+  through = subst (λ rs. WentThrough ring.nodes limit 0 (scenes [] steps) rs end []) (sym none)
+      (none_through ring.nodes limit 0 [] steps end is (inl refl));
+  sent = inr (is, inr (refl, unmade, sent));
   strangers = λ earlier later last front holds t low. none_last earlier last later _ front;
-  soon = λ earlier later last front k long few. none_last earlier last later _ front;
+  recent = λ earlier later last front none t low. none_last earlier last later _ front;
+  soon = λ earlier same later last front still k late few. none_last earlier last (same ++ later) _ front;
 }

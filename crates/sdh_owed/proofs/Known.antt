@@ -14,7 +14,7 @@ use Rattle.sdh_world.specs.Steps.{after_step}
 use Rattle.sdh_owed.specs.Reports.{report_of}
 use Rattle.sdh_owed.specs.Scripts.{adm_walk}
 
-length-placed : (change : Node → Node) (p : ℕ) (ns : List Node) → length (at_place p change ns) ≡ length ns
+pub length-placed : (change : Node → Node) (p : ℕ) (ns : List Node) → length (at_place p change ns) ≡ length ns
 length-placed change p [] = refl
 length-placed change zero (n ∷ ns) = refl
 length-placed change (suc p) (n ∷ ns) = ap suc (length-placed change p ns)

@@ -1,3 +1,5 @@
+pub mod Soon
+pub mod Strangers
 pub mod Course
 pub mod Standing
 pub mod Ports
@@ -7,3 +9,5 @@ pub mod Settling
 pub mod Healthy
 pub mod Plans
 pub mod Steps
+pub mod Counting
+pub mod Occurring

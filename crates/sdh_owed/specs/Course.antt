@@ -1,7 +1,7 @@
 -- The course of a script over honest fibres: what happened in it, stretch by stretch, and what holds in its rounds, settled or not.
 use Rattle.std.specs.Prelude.{ℕ, ◌≡◌, ◌⊎◌, ◌+◌, ◌-◌, ◌*◌, ◌<◌, ◌≤◌, List, [], ◌∷◌, ◌++◌, length}
 use Rattle.sdh_circuits.specs.Provisioning.{Provisioning}
-use Rattle.sdh_plant.specs.Fibres.{Fibres}
+use Rattle.sdh_plant.specs.Fibres.{Fibres, HasNoFibres}
 use Rattle.sdh_request.specs.declared.settings.Settings.{Settings}
 use Rattle.sdh_world.specs.Held.{new_ring}
 use Rattle.sdh_world.specs.Rounds.{World, round}
@@ -12,19 +12,20 @@ use Rattle.sdh_world.specs.Clocks.{clocks_by}
 use Rattle.sdh_laws.specs.Hearing.Laws.{MayStart}
 use Rattle.sdh_laws.specs.Carrying.Windows.{layout_in, HasCircuits}
 use Rattle.sdh_laws.specs.Strangers.Owners.{NoneMeetsAStranger}
-use Rattle.sdh_laws.specs.Strangers.Laws.{HoldNonePassing}
+use Rattle.sdh_laws.specs.Strangers.Laws.{HoldNone, HoldNonePassing}
 use Rattle.sdh_plan.specs.declared.step.Step.{Step}
 use Rattle.sdh_plan.specs.Steps.{Past}
 use Rattle.sdh_plan.specs.Scripts.{AreSteps}
 use Rattle.sdh_report.specs.declared.status.Status.{Status}
 use Rattle.sdh_report.specs.declared.status.Status.TheVariants as status
 use Rattle.sdh_report.specs.Reports.{Report}
-use Rattle.sdh_promise.specs.Changes.{Change, Stretch, rounds_in, scenes}
+use Rattle.sdh_promise.specs.Changes.{Change, Fibre, Order, Hold, Slip, Now, Stretch, rounds_in, scenes}
 use Rattle.sdh_promise.specs.Happened.{happened}
-use Rattle.sdh_promise.specs.Owed.{Ring, requests_by, IsOwed}
+use Rattle.sdh_promise.specs.Owed.{Ring, requests_by, IsOwed, IsLast}
 use Rattle.sdh_owed.specs.Reports.{report_of}
 use Rattle.sdh_owed.specs.Scripts.{Runs}
 use Rattle.sdh_owed.specs.Laws.{ring_by}
+use Rattle.sdh_owed.specs.Strangers.{NoneEverMeetsOldBytes}
 
 -- ---- what happened
 
@@ -32,26 +33,41 @@ use Rattle.sdh_owed.specs.Laws.{ring_by}
 abbrev pub stretch : List Change → ℕ → Stretch
 stretch changes rounds = record { changes = changes; rounds = rounds }
 
--- What ran of a settle step that has no report, after these changes: where it is unsettled all the rounds of the limit; where a fault
--- ended the script fewer, or none.
-abbrev pub IsLeftOff : ℕ → List Change → Status → List Stretch → Type 0
-IsLeftOff limit changes (status.Unsettled k) ss = ss ≡ stretch changes limit ∷ []
-IsLeftOff limit changes status.PlantFault ss = (ss ≡ []) ⊎ ((rounds : ℕ) × (rounds < limit) × (ss ≡ stretch changes rounds ∷ []))
-IsLeftOff limit changes end ss = ⊥
+-- one of these changes is a condition of a fibre, which a plant may refuse
+abbrev pub HaveCondition : List Change → Type 0
+HaveCondition [] = ⊥
+HaveCondition (Fibre p d condition ∷ later) = Unit {0}
+HaveCondition (c ∷ later) = HaveCondition later
 
--- These stretches are what happened in a script that gave these reports and ended so, where so many rounds had run before and these
--- are the changes before each settle step: with each report its changes, and the rounds from there to its own; behind them what ran
--- of the step that has none.
-abbrev pub WentThrough : ℕ → ℕ → List (List Change) → List Report → Status → List Stretch → Type 0
-WentThrough limit ran [] reports end ss = ss ≡ []
-WentThrough limit ran (changes ∷ later) [] end ss = IsLeftOff limit changes end ss
-WentThrough limit ran (changes ∷ later) (r ∷ reports) end ss =
-    (rest : List Stretch) × (ss ≡ stretch changes (r.round + 1 - ran) ∷ rest) × WentThrough limit (r.round + 1) later reports end rest
+-- What ran of a settle step that has no report, after these changes, where so many rounds had run before. Where it is unsettled all the
+-- rounds of the limit; where a fault ended the script fewer; and nothing where the plant made no fibres, or may have refused a condition.
+abbrev pub IsLeftOff : ℕ → ℕ → List Change → Status → List Stretch → Type 0
+IsLeftOff limit ran changes (status.Unsettled k) ss = ss ≡ stretch changes limit ∷ []
+IsLeftOff limit ran changes status.PlantFault ss =
+    ((ss ≡ []) × ((ran ≡ 0) ⊎ HaveCondition changes)) ⊎ ((rounds : ℕ) × (rounds < limit) × (ss ≡ stretch changes rounds ∷ []))
+IsLeftOff limit ran changes end ss = ⊥
 
--- all that was sent is what the rounds of these stretches sent; or a fault broke the round behind them off
+-- These stretches are what happened in a script over a ring of n that gave these reports and ended so, where so many rounds had run before and
+-- these are the changes before each settle step: with each report its changes, and the rounds from there to its own, which may be
+-- the last one of a step; behind them what ran of the step that has none. There is no report but of these steps.
+abbrev pub WentThrough : ℕ → ℕ → ℕ → List (List Change) → List Report → Status → List Stretch → Type 0
+WentThrough n limit ran [] reports end ss = (reports ≡ []) × (ss ≡ [])
+WentThrough n limit ran (changes ∷ later) [] end ss = IsLeftOff limit ran changes end ss
+WentThrough n limit ran (changes ∷ later) (r ∷ reports) end ss =
+    (rest : List Stretch) × IsLast n limit ran r.round × (ss ≡ stretch changes (r.round + 1 - ran) ∷ rest)
+    × WentThrough n limit (r.round + 1) later reports end rest
+
+-- the same frames are under way on both fibres, and the same were sent in all
+pub record AreSentAlike (f g : Fibres) : Type 0 where
+  pub carried : f.carried ≡ g.carried
+  pub sent : f.sent ≡ g.sent
+
+-- All that was sent, and all that is under way, is what the rounds of these stretches sent; or a fault broke the round behind them off, or
+-- the plant made no fibres, so that none ran.
 abbrev pub HasSent : World → List Stretch → Status → Fibres → Type 0
 HasSent w ss end left =
-    (left.sent ≡ (after_stretches ss w).fibres.sent) ⊎ ((end ≡ status.PlantFault) × IsBrokenOff (after_stretches ss w) left)
+    AreSentAlike left (after_stretches ss w).fibres ⊎ ((end ≡ status.PlantFault)
+    × (IsBrokenOff (after_stretches ss w) left ⊎ ((ss ≡ []) × HasNoFibres left × (left.sent ≡ w.fibres.sent))))
 
 -- ---- whose bytes come
 
@@ -72,11 +88,34 @@ abbrev pub ShowsWhatIsOwed : World → Ring → List Stretch → Type 0
 ShowsWhatIsOwed w ring ss =
     (let r = report_of 0 (after_stretches ss w).ring in IsOwed ring.nodes (requests_by ring ss r.round) (happened ss) ring.circuits r)
 
--- From the round of number 12n + 102 after the changes before a settle step on, counted from 1, each port has what it is owed, in
--- each round of the step, and whether it is settled or not.
+-- a change gives no port slips
+abbrev pub SlipsNone : Change → Type 0
+SlipsNone (Fibre p d condition) = Unit {0}
+SlipsNone (Order p d command) = Unit {0}
+SlipsNone (Hold p turns) = Unit {0}
+SlipsNone (Slip port turn count) = count ≡ 0
+SlipsNone (Now t) = Unit {0}
+
+abbrev pub SlipNone : List Change → Type 0
+SlipNone [] = Unit {0}
+SlipNone (c ∷ cs) = SlipsNone c × SlipNone cs
+
+-- So many rounds behind these changes are enough in a ring of n: 12n + 2 where they hold no controller and give no port slips; where they
+-- give some, 12n + 2 and 8n + 61; and whatever they are 12n + 102.
+abbrev pub IsLate : ℕ → List Change → ℕ → Type 0
+IsLate n changes k = (HoldNone changes × (12 * n + 2 ≤ k) × (SlipNone changes ⊎ (8 * n + 61 ≤ k))) ⊎ (12 * n + 102 ≤ k)
+
+-- none of these changes anything
+abbrev pub ChangeNothing : List Stretch → Type 0
+ChangeNothing [] = Unit {0}
+ChangeNothing (s ∷ ss) = (s.changes ≡ []) × ChangeNothing ss
+
+-- From so many rounds behind the last changes on each port has what it is owed, in each round of the settle step and of those behind it that
+-- change nothing, and whether they are settled or not.
 abbrev pub AllIsOwedSoon : World → Ring → List Stretch → Type 0
 AllIsOwedSoon w ring ss =
-    (earlier later : List Stretch) (last : Stretch) → ss ≡ earlier ++ last ∷ later → (k : ℕ) → 12 * ring.nodes + 102 ≤ k → k ≤ last.rounds
+    (earlier same later : List Stretch) (last : Stretch) → ss ≡ earlier ++ last ∷ (same ++ later) → ChangeNothing same → (k : ℕ)
+    → IsLate ring.nodes last.changes k → k ≤ rounds_in (last ∷ same)
     → ShowsWhatIsOwed w ring (earlier ++ stretch last.changes k ∷ [])
 
 -- ---- the course
@@ -86,9 +125,10 @@ AllIsOwedSoon w ring ss =
 pub record HasCourse (w : World) (ring : Ring) (limit : ℕ) (steps : List Step) (reports : List Report) (end : Status)
     (left : Fibres) : Type 0 where
   pub stretches : List Stretch
-  pub through : WentThrough limit 0 (scenes [] steps) reports end stretches
+  pub through : WentThrough ring.nodes limit 0 (scenes [] steps) reports end stretches
   pub sent : HasSent w stretches end left
   pub strangers : NoneEverMeetsAStranger w ring stretches
+  pub recent : NoneEverMeetsOldBytes w ring stretches
   pub soon : AllIsOwedSoon w ring stretches
 
 abbrev pub CoursesAreTold : Type 0

@@ -1,7 +1,10 @@
 pub mod Course
+pub mod Strangers
 pub mod Reports
 pub mod Scripts
 pub mod Healthy
 pub mod Laws
 pub mod Plans
 pub mod Running
+pub mod Counting
+pub mod Occurring

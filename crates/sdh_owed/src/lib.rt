@@ -1,11 +1,14 @@
 //! A script over a ring and its fibres, over definitions alone: `specs/Reports.antt` says what a report tells of a ring,
 //! `specs/Scripts.antt` what comes of a script, `specs/Healthy.antt` what a script of settle steps alone comes to,
-//! `specs/Course.antt` through which stretches of rounds it went and what holds in them, and `specs/Laws.antt` has the
-//! laws of reports. Each function here has a law as its contract and no work to do.
+//! `specs/Course.antt` through which stretches of rounds it went and what holds in them, `specs/Counting.antt` what that
+//! says of the frames sent, `specs/Occurring.antt` has a ring of which it is worked out, and `specs/Laws.antt` the laws
+//! of reports. Each function here has a law as its contract and no work to do.
 #![tactic(auto)]
 
 ghost use Rattle.sdh_owed.specs.Laws.{ReportsAreOwed, ScriptsSettle, HealthyScripts};
 ghost use Rattle.sdh_owed.specs.Course.{CoursesAreTold};
+ghost use Rattle.sdh_owed.specs.Counting.{CoursesCountFrames};
+ghost use Rattle.sdh_owed.specs.Occurring.{ThreeAreOwedSoon};
 
 /// Over honest fibres each report shows for every port what it is owed.
 pub fn reports_are_owed()
@@ -30,11 +33,29 @@ pub fn healthy_scripts()
 }
 
 /// Whatever a script comes to from a new ring on, it has a course: no port meets a stranger in a settle step before which
-/// no controller was held of a node that passes traffic through; and after the changes before each settle step all ports
-/// soon have what they are owed.
+/// no controller was held of a node that passes traffic through, nor bytes of long ago where none was held; and soon after
+/// the last changes all ports have what they are owed.
 pub fn courses_are_told()
     ensures { CoursesAreTold }
 {
+    sdh_settling::still_rings_are_settled();
     sdh_laws::strangers::a_hold_spoils_its_own_step_alone();
     sdh_laws::restoring::stretches_are_restored_soon();
+    sdh_laws::restoring::free_rings_are_restored_soon();
+    sdh_laws::restoring::unslipped_rings_are_restored_soon();
+}
+
+/// Over a plant that tells its frames a script's reports tell how many were sent.
+pub fn courses_count_frames()
+    ensures { CoursesCountFrames }
+{}
+
+/// In a ring of three each port shows what it is owed behind slips, a cut span and a held controller.
+pub fn three_are_owed_soon()
+    ensures { ThreeAreOwedSoon }
+{
+    sdh_laws::converging::a_ring_occurs();
+    sdh_laws::restoring::stretches_are_restored_soon();
+    sdh_laws::restoring::free_rings_are_restored_soon();
+    sdh_laws::restoring::unslipped_rings_are_restored_soon();
 }

@@ -17,6 +17,7 @@ returns-clause-came g c =
     on_ok c.start.result _ _
     (λ run came. tells c.reports_are_owed.ensures c.scripts_settle.ensures c.healthy_scripts.ensures c.courses_are_told.ensures c.args.plan c.args.listing f left run.text.bytes run.status c.steps.ensures.form
     (λ (honest : f.honest ≡ true). record { honest = honest; tells_none = g.met.P.Plant.honest_tells_none c.args.plant.now honest })
+    c.requires.fresh
     (subst (λ l. Came adm_walk c.args.plan.limit (listed l) c.args.plan.steps
     (world_of c.args.plan f) f run.text.bytes run.status left) c.in_ok-run.ensures.listing
     (came_of _ adm_account c.args.plan c.in_ok-run.run' c.in_ok-run.ensures.is_of

@@ -1,0 +1,48 @@
+-- Whose bytes a port delivers, and of which rounds.
+use Rattle.std.specs.Prelude.{ℕ, ◌≡◌, ◌+◌, ◌-◌, ◌*◌, ◌<◌, ◌≤◌, Some, List, [], ◌∷◌, ◌++◌, slice_get}
+use Rattle.sdh_frame.specs.Aus.{Au, ones}
+use Rattle.sdh_circuits.specs.Provisioned.{Provisioned, customer_at}
+use Rattle.sdh_circuits.specs.declared.End.{End}
+use Rattle.sdh_circuits.specs.declared.PortId.{PortId}
+use Rattle.sdh_circuits.specs.Ends.{port_id}
+use Rattle.sdh_payload.specs.Clock.{Clock}
+use Rattle.sdh_payload.specs.Chunk.{taken}
+use Rattle.sdh_payload.specs.Outlet.{Outlet, silent, delivering}
+use Rattle.sdh_payload.specs.declared.chunk.ChunkForm.{ChunkForm}
+use Rattle.sdh_terminal.specs.Passing.{h3_of}
+use Rattle.sdh_world.specs.Held.{HeldRing, outlet_at}
+use Rattle.sdh_world.specs.Rounds.{World, round}
+use Rattle.sdh_world.specs.Sides.{world_in}
+use Rattle.sdh_world.specs.Clocks.{clocks_by}
+use Rattle.sdh_laws.specs.Strangers.Owners.{other_port, put_by, HasBytesOf}
+use Rattle.sdh_laws.specs.Strangers.Laws.{HoldNone}
+use Rattle.sdh_promise.specs.Changes.{Stretch, rounds_in}
+use Rattle.sdh_promise.specs.Owed.{Ring}
+
+-- An AU-4 holds nobody's bytes, which are ones, or what this port put into its AU-4 in one of the rounds from `first` on, before round t,
+-- where these are the ports' clocks before each round.
+pub data HoldsSince (circuits : List Provisioned) (clocks : PortId → ℕ → Clock) (first t : ℕ) (port : PortId) (a : Au) : Type 0 where
+  nobodys : HasBytesOf ones a → HoldsSince circuits clocks first t port a
+  customers : (c : Provisioned) (r : ℕ) → slice_get circuits port.circuit ≡ Some c → first ≤ r → r < t
+      → HasBytesOf (put_by (customer_at c port.end) (clocks port r)) a → HoldsSince circuits clocks first t port a
+
+-- In round t a port delivers AIS, or a chunk, with whatever pointer value, taken from an AU-4 that holds ones or what its circuit's
+-- other port put into its AU-4 in one of the rounds from `first` on.
+pub data MeetsNoStrangerSince (circuits : List Provisioned) (clocks : PortId → ℕ → Clock) (first t : ℕ) (port : PortId)
+    (o : Outlet) : Type 0 where
+  ais_comes : o ≡ silent → MeetsNoStrangerSince circuits clocks first t port o
+  bytes_come : (value : ℕ) (form : ChunkForm) (a : Au) → o ≡ delivering value (taken form a.payload (h3_of a.pointers))
+      → HoldsSince circuits clocks first t (other_port port) a → MeetsNoStrangerSince circuits clocks first t port o
+
+-- so does each port of a ring in the last round
+abbrev pub NoneMeetsAStrangerSince : ℕ → (PortId → ℕ → Clock) → HeldRing → Type 0
+NoneMeetsAStrangerSince first clocks r = (index : ℕ) (c : Provisioned) → slice_get r.circuits.circuits index ≡ Some c → (e : End)
+    → MeetsNoStrangerSince r.circuits.circuits clocks first (r.rounds - 1) (port_id index e) (outlet_at r (port_id index e))
+
+-- In each round of a settle step whose changes hold no controller what a port delivers is at most n (n + 1) + 3n rounds old.
+abbrev pub NoneEverMeetsOldBytes : World → Ring → List Stretch → Type 0
+NoneEverMeetsOldBytes w ring ss =
+    (earlier later : List Stretch) (last : Stretch) → ss ≡ earlier ++ last ∷ later → HoldNone last.changes → (t : ℕ) → t < last.rounds
+    → (let now = earlier ++ last ∷ [] in
+    NoneMeetsAStrangerSince (rounds_in earlier + t - (ring.nodes * (ring.nodes + 1) + 3 * ring.nodes)) (clocks_by ring.circuits now)
+    (round (world_in now w (rounds_in earlier + t))).ring)
