@@ -2,6 +2,7 @@
 
 The simulation is held against the worked rows of sdhring first, since the rows of sdhoutage come from it."""
 
+import itertools
 import random
 import re
 import subprocess
@@ -125,9 +126,9 @@ class Table(unittest.TestCase):
         self.assertEqual(checked, len(table()) + 2 * 3)  # three rows have plans of 4 and 8 nodes too
 
     def test_the_longest_arcs_show_when_all_is_over(self):
-        n, spared = 5, {"from-8"}
-        for row in table():
-            with self.subTest(row=row[0]):
+        spared = {"from-8"}
+        for n, row in itertools.product((4, 5, 8), table()):
+            with self.subTest(row=row[0], n=n):
                 step = every_arc(row[5], n)[int(row[6]) - 1]
                 self.check(step, row, n, spared)
                 self.assertEqual(step.over(spared), value(row[4], n))

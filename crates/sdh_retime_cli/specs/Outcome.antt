@@ -2,7 +2,8 @@
 use Rattle.std.specs.Prelude.{◌≡◌, ℕ, suc, ◌+◌, ◌-◌, ◌<◌, ◌≤◌, ◌⊎◌, Bool, true, false, List, [], ◌∷◌, ◌++◌, length, codes, Option}
 use Rattle.sdh_report.specs.Lines.{own_line}
 use Rattle.sdh_elastic.specs.History.{lasts, lengths}
-use Rattle.sdh_shell.specs.Failing.{CameOfSource}
+use Rattle.std.specs.Io.KnownBytes.{Appends}
+use Rattle.sdh_shell.specs.Failing.{Counts, HaveFailed, CameOfSource}
 use Rattle.sdh_shell.specs.Writing.{Telling, Whole, Front, Nothing, WritesAs}
 use Rattle.sdh_retime_cli.specs.declared.status.Status.{Status}
 use Rattle.sdh_retime_cli.specs.declared.status.Status.TheVariants as status
@@ -62,6 +63,15 @@ IsOutcome words bytes (status.Drift turn) text =
 IsOutcome words bytes status.WriteFault text = ⊥
 IsOutcome words bytes status.Memory text = ⊥
 
+-- a read fault has its cause
+abbrev pub HasCause : Counts → Status → Type 0
+HasCause reads status.ReadFault = HaveFailed reads
+HasCause reads how = Unit {0}
+
+-- an outcome that these failures allow
+abbrev pub MayEnd : List (List ℕ) → List ℕ → Counts → Status → List ℕ → Type 0
+MayEnd words bytes reads how text = IsOutcome words bytes how text × HasCause reads how
+
 -- with what text a status goes
 abbrev pub telling_of : Status → Telling
 telling_of status.WriteFault = Front
@@ -69,14 +79,14 @@ telling_of status.Memory = Nothing
 telling_of how = Whole
 
 -- what was written when this status was answered
-abbrev pub Writes : List (List ℕ) → List ℕ → Status → Option (List ℕ) → Option (List ℕ) → Type 0
-Writes words bytes how old new = WritesAs (telling_of how) (λ how text. IsOutcome words bytes how text) how old new
+abbrev pub Writes : List (List ℕ) → List ℕ → Counts → Status → Option (List ℕ) → Option (List ℕ) → Type 0
+Writes words bytes reads how old new = WritesAs (telling_of how) (λ how text. MayEnd words bytes reads how text) how old new
 
 -- what was written when this number was answered
-pub record Answers (words : List (List ℕ)) (bytes : List ℕ) (number : ℕ) (old new : Option (List ℕ)) : Type 0 where
+pub record Answers (words : List (List ℕ)) (bytes : List ℕ) (reads : Counts) (number : ℕ) (old new : Option (List ℕ)) : Type 0 where
   pub status : Status
   pub numbered : number ≡ number_of status
-  pub writes : Writes words bytes status old new
+  pub writes : Writes words bytes reads status old new
 
 -- what had come of the source when there was this to tell
 abbrev pub CameTo : Bool → ℕ → ℕ → Option (List ℕ) → Option (List ℕ) → Status → Type 0
@@ -97,9 +107,19 @@ pub record UnsteadyBy (digits : List ℕ) (turn : ℕ) : Type 0 where
   pub is : sum ≡ size_at digits first + size_at digits (first + 1) + size_at digits (first + 2) + size_at digits (first + 3)
   pub far : (sum < 9393) ⊎ (9399 < sum)
 
+-- and this turn is the one that the last line of a text names
+pub record TellsUnsteady (digits : List ℕ) (turn : ℕ) (text : List ℕ) : Type 0 where
+  pub unsteady : UnsteadyBy digits turn
+  pub lines : List ℕ
+  pub text_is : text ≡ lines ++ drift_line turn
+
 -- this is so of the words' digits
-abbrev pub AreUnsteady : List (List ℕ) → Type 0
-AreUnsteady words = (digits : List ℕ) × (words ≡ digits ∷ []) × ((turn : ℕ) × UnsteadyBy digits turn)
+abbrev pub AreUnsteady : List (List ℕ) → ℕ → List ℕ → Type 0
+AreUnsteady words turn text = (digits : List ℕ) × (words ≡ digits ∷ []) × TellsUnsteady digits turn text
+
+-- and of what was written
+abbrev pub WritesUnsteady : List (List ℕ) → ℕ → Option (List ℕ) → Option (List ℕ) → Type 0
+WritesUnsteady words turn old new = (text : List ℕ) × AreUnsteady words turn text × Appends old new text
 
 -- a run of digits ends with a drift only where four chunks in a row, up to its turn, aren't steady
 abbrev pub DriftsAreUnsteady : Type 0

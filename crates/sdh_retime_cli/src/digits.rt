@@ -1,5 +1,5 @@
 //! The program's word: digits that tell the lengths of chunks.
-ghost use Rattle.std.specs.Prelude.{◌≡◌, ◌≤◌, ◌↔◌, [], ◌∷◌, IsTrue, IfSome, MatchOption};
+ghost use Rattle.std.specs.Prelude.{◌≡◌, ◌↔◌, [], ◌∷◌, IsTrue, MatchOption};
 ghost use Rattle.sdh_elastic.specs.Turns.{IsChunk};
 ghost use Rattle.sdh_shell.specs.Calls.{words_of};
 ghost use Rattle.sdh_retime_cli.specs.Digits.{IsDigits, AreDigits, size_at};

@@ -1,14 +1,14 @@
 //! The turns of a run and their lines.
-ghost use Rattle.std.specs.Prelude.{◌≡◌, ℕ, suc, ◌+◌, ◌*◌, ◌/◌, ◌<◌, ◌≤◌, false, List, [], ◌∷◌, ◌++◌, length, codes, decimal, IfOk, OnOk};
+ghost use Rattle.std.specs.Prelude.{◌≡◌, ℕ, ◌+◌, ◌*◌, ◌/◌, ◌<◌, ◌≤◌, false, List, [], ◌∷◌, ◌++◌, length, IfOk, OnOk};
 ghost use Rattle.std.specs.Prelude.{OnErr};
-ghost use Rattle.sdh_pointer.specs.Reading.{start};
 ghost use Rattle.sdh_elastic.specs.Turns.{IsChunk};
 ghost use Rattle.sdh_elastic.specs.History.{lasts, lengths};
 ghost use Rattle.sdh_elastic.specs.Store.{reading_of, CameBy};
 ghost use Rattle.sdh_report.specs.Written.{with_part};
 ghost use Rattle.sdh_retime_cli.specs.Digits.{IsDigits};
 ghost use Rattle.sdh_retime_cli.specs.Lines.{action_word, turn_line, given_line, last_lines, left_line, drift_line};
-ghost use Rattle.sdh_retime_cli.specs.Outcome.{IsRunOutcome, HasRun, UnsteadyBy};
+ghost use Rattle.sdh_retime_cli.specs.Front.{TellsFront};
+ghost use Rattle.sdh_retime_cli.specs.Outcome.{IsRunOutcome, HasRun, TellsUnsteady};
 
 use crate::digits::{CHUNK_MIN, size_at};
 use crate::status::Status;
@@ -24,7 +24,7 @@ const TURN_ROOM: usize = 4801;
 
 /// What is to be written, and how the program ends then.
 #[derive(Debug, Drop)]
-pub struct Report {
+pub struct Outcome {
     pub status: Status,
     pub text: Text,
 }
@@ -159,17 +159,19 @@ impl Retiming {
     }
 }
 
-/// The report of a run over these bytes. All its memory is taken before the first turn.
-pub fn run(alloc: Global, digits: &[u8], bytes: &[u8]) -> Result<Report, AllocError>
+/// Returns the outcome of a run over these bytes. All its memory is taken before the first turn.
+pub fn run(alloc: Global, digits: &[u8], bytes: &[u8]) -> Result<Outcome, AllocError>
     requires digits { IsDigits digits.now }
     requires few { length bytes.now ≤ READ_MAX }
-    ensures outcome { IfOk result (λ report. IsRunOutcome digits.now bytes.now report.status report.text.bytes) }
-    ensures unsteady { IfOk result (λ report. (turn : ℕ) → report.status ≡ Status.Drift turn → UnsteadyBy digits.now turn) }
-    ensures run { IfOk result (λ report. HasRun report.status) }
+    ensures outcome { IfOk result (λ told. IsRunOutcome digits.now bytes.now told.status told.text.bytes) }
+    ensures unsteady { IfOk result
+        (λ told. (turn : ℕ) → told.status ≡ Status.Drift turn → TellsUnsteady digits.now turn told.text.bytes) }
+    ensures front { IfOk result (λ told. TellsFront bytes.now told.text.bytes) }
+    ensures run { IfOk result (λ told. HasRun told.status) }
 {
     let turns = bytes.len() / CHUNK_MIN;
     let mut text = Text::try_new(alloc, TURN_ROOM * turns + LINE_MAX)?;
     let mut retiming = Retiming::try_new(alloc)?;
     let status = retiming.take_all(digits, bytes, &mut text);
-    Ok(Report { status, text })
+    Ok(Outcome { status, text })
 }

@@ -1,65 +1,73 @@
 //! The program's call.
-ghost use Rattle.std.specs.Prelude.{◌≡◌, ◌≢◌, ◌⊎◌, ℕ, ◌<◌, ◌≤◌, ◌↔◌, true, [], length, IfOk, OnErr, IfSome};
+ghost use Rattle.std.specs.Prelude.{◌≡◌, ◌≢◌, ◌⊎◌, ℕ, ◌<◌, ◌≤◌, ◌↔◌, true, [], length, codes, IfOk, OnErr, IfSome};
 ghost use Rattle.std.specs.Io.KnownBytes.{IsAtEnd};
 ghost use Rattle.sdh_basics.specs.Causes.{Rose, IsCounted};
 ghost use Rattle.sdh_outside.specs.Reading.{TakesCount, TellsAtMost};
 ghost use Rattle.sdh_report.specs.Lines.{own_line};
 ghost use Rattle.sdh_shell.specs.Calls.{words_of};
+ghost use Rattle.sdh_shell.specs.Failing.{Counts};
 ghost use Rattle.sdh_retime_cli.specs.Digits.{AreDigits};
 ghost use Rattle.sdh_retime_cli.specs.declared.status.Status.{Status};
-ghost use Rattle.sdh_retime_cli.specs.Outcome.{number_of, IsOutcome, Writes, Answers, CameTo, HasRun, AreUnsteady};
+ghost use Rattle.sdh_retime_cli.specs.Front.{TellsFront, WritesFront};
+ghost use Rattle.sdh_retime_cli.specs.Outcome.{number_of, IsOutcome, Writes, Answers, CameTo, HasRun, AreUnsteady, WritesUnsteady};
 
 use crate::digits::digits_of;
-use crate::retiming::{Report, run};
+use crate::retiming::{Outcome, run};
 use crate::status::Status;
 use sdh_outside::{ReadAllError, Sink, Source, read_all, write_text};
 use sdh_report::{LINE_MAX, Text};
 use std::alloc::{AllocError, Global};
 
-// A report of one line.
-fn line_report(mut text: Text, status: Status, line: &[u8]) -> Report
+// An outcome with one line.
+fn with_line(mut text: Text, status: Status, line: &[u8]) -> Outcome
     requires short { length line.now < 96 }
     requires room { 96 ≤ text.room }
     requires empty { text.bytes ≡ [] }
     ensures { (result.status ≡ status) × (result.text.bytes ≡ own_line line.now) }
 {
     text.own_line(line);
-    Report { status, text }
+    Outcome { status, text }
 }
 
 // What the words and the source come to.
-fn report_on<R: Source>(
+fn outcome_of<R: Source>(
     alloc: Global,
     words: &[String],
     source: &mut R,
-) -> Result<Report, AllocError>
+) -> Result<Outcome, AllocError>
     ensures outcome { IfOk result
-        (λ report. IfSome (R.left source.old) (λ bytes. IsOutcome (words_of words.now) bytes report.status report.text.bytes)) }
-    ensures usage { IfOk result (λ report. report.status ≡ Status.Usage ↔ (¬ AreDigits (words_of words.now))) }
-    ensures fault { IfOk result (λ report. report.status ≡ Status.ReadFault → Rose (R.faults source.old) (R.faults source.new)) }
-    ensures read { IfOk result (λ report. HasRun report.status → IsAtEnd (R.left source.new)) }
-    ensures unsteady { IfOk result (λ report. (turn : ℕ) → report.status ≡ Status.Drift turn → AreUnsteady (words_of words.now)) }
-    ensures complete { IfOk result (λ report. AreDigits (words_of words.now) → TellsAtMost (R.left source.old) 1048576
-        → ¬ (Rose (R.faults source.old) (R.faults source.new)) → HasRun report.status) }
-    ensures own { IfOk result (λ report. (report.status ≢ Status.WriteFault) × (report.status ≢ Status.Memory)) }
+        (λ told. IfSome (R.left source.old) (λ bytes. IsOutcome (words_of words.now) bytes told.status told.text.bytes)) }
+    ensures usage { IfOk result (λ told. told.status ≡ Status.Usage ↔ (¬ AreDigits (words_of words.now))) }
+    ensures usage_text { IfOk result
+        (λ told. told.status ≡ Status.Usage → told.text.bytes ≡ own_line (codes "usage: sdhretime DIGITS")) }
+    ensures alone { (¬ AreDigits (words_of words.now)) → source.new ≡ source.old }
+    ensures fault { IfOk result (λ told. told.status ≡ Status.ReadFault → Rose (R.faults source.old) (R.faults source.new)) }
+    ensures read { IfOk result (λ told. HasRun told.status → IsAtEnd (R.left source.new)) }
+    ensures unsteady { IfOk result
+        (λ told. (turn : ℕ) → told.status ≡ Status.Drift turn → AreUnsteady (words_of words.now) turn told.text.bytes) }
+    ensures front { IfOk result
+        (λ told. IfSome (R.left source.old) (λ bytes. HasRun told.status → TellsFront bytes told.text.bytes)) }
+    ensures complete { IfOk result (λ told. AreDigits (words_of words.now) → TellsAtMost (R.left source.old) 1048576
+        → ¬ (Rose (R.faults source.old) (R.faults source.new)) → HasRun told.status) }
+    ensures own { IfOk result (λ told. (told.status ≢ Status.WriteFault) × (told.status ≢ Status.Memory)) }
     ensures reads { IfOk result
-        (λ report. IsCounted R.exact (report.status ≡ Status.ReadFault) (R.faults source.old) (R.faults source.new)) }
+        (λ told. IsCounted R.exact (told.status ≡ Status.ReadFault) (R.faults source.old) (R.faults source.new)) }
     ensures without { OnErr result (R.exact ≡ true → R.faults source.new ≡ R.faults source.old) }
-    ensures too_long { IfOk result (λ report. report.status ≡ Status.TooLong → TakesCount (R.left source.old) (R.left source.new) 1048577) }
+    ensures too_long { IfOk result (λ told. told.status ≡ Status.TooLong → TakesCount (R.left source.old) (R.left source.new) 1048577) }
     ensures later { R.faults source.old ≤ R.faults source.new }
 {
     // Room for the line is taken first, so that a read that fails is always told.
     let text = Text::try_new(alloc, LINE_MAX)?;
     let Some(digits) = digits_of(words) else {
-        return Ok(line_report(text, Status::Usage, b"usage: sdhretime DIGITS"));
+        return Ok(with_line(text, Status::Usage, b"usage: sdhretime DIGITS"));
     };
     let bytes = match read_all(alloc, source) {
         Ok(bytes) => bytes,
         Err(ReadAllError::Memory) => return Err(AllocError),
         Err(ReadAllError::ReadFault) => {
-            return Ok(line_report(text, Status::ReadFault, b"read fault"));
+            return Ok(with_line(text, Status::ReadFault, b"read fault"));
         }
-        Err(ReadAllError::TooLong) => return Ok(line_report(text, Status::TooLong, b"too long")),
+        Err(ReadAllError::TooLong) => return Ok(with_line(text, Status::TooLong, b"too long")),
     };
     run(alloc, digits, &bytes)
 }
@@ -71,8 +79,12 @@ fn answer<R: Source, W: Sink>(
     source: &mut R,
     sink: &mut W,
 ) -> Status
-    ensures outcome { IfSome (R.left source.old)
-        (λ bytes. Writes (words_of words.now) bytes result (W.written sink.old) (W.written sink.new)) }
+    ensures outcome { let reads : Counts = record { before = R.faults source.old; after = R.faults source.new } in
+        IfSome (R.left source.old)
+        (λ bytes. Writes (words_of words.now) bytes reads result (W.written sink.old) (W.written sink.new)) }
+    ensures usage_text { let reads : Counts = record { before = R.faults source.old; after = R.faults source.new } in
+        (¬ AreDigits (words_of words.now)) → Writes (words_of words.now) [] reads result (W.written sink.old) (W.written sink.new) }
+    ensures alone { (¬ AreDigits (words_of words.now)) → source.new ≡ source.old }
     ensures usage { result ≡ Status.Usage → ¬ AreDigits (words_of words.now) }
     ensures usage_only { (¬ AreDigits (words_of words.now))
         → (result ≡ Status.Usage) ⊎ (result ≡ Status.WriteFault) ⊎ (result ≡ Status.Memory) }
@@ -83,17 +95,19 @@ fn answer<R: Source, W: Sink>(
     ensures writes { IsCounted W.exact (result ≡ Status.WriteFault) (W.faults sink.old) (W.faults sink.new) }
     ensures memory { result ≡ Status.Memory → sink.new ≡ sink.old }
     ensures read_whole { HasRun result → IsAtEnd (R.left source.new) }
-    ensures unsteady { (turn : ℕ) → result ≡ Status.Drift turn → AreUnsteady (words_of words.now) }
+    ensures unsteady { (turn : ℕ) → result ≡ Status.Drift turn
+        → WritesUnsteady (words_of words.now) turn (W.written sink.old) (W.written sink.new) }
+    ensures front { HasRun result → IfSome (R.left source.old) (λ bytes. WritesFront bytes (W.written sink.old) (W.written sink.new)) }
     ensures later { (R.faults source.old ≤ R.faults source.new) × (W.faults sink.old ≤ W.faults sink.new) }
     ensures complete { AreDigits (words_of words.now) → TellsAtMost (R.left source.old) 1048576
         → ¬ (Rose (R.faults source.old) (R.faults source.new)) → ¬ (Rose (W.faults sink.old) (W.faults sink.new))
         → HasRun result ⊎ (result ≡ Status.Memory) }
 {
-    let Ok(report) = report_on(alloc, words, source) else {
+    let Ok(outcome) = outcome_of(alloc, words, source) else {
         return Status::Memory;
     };
-    match write_text(sink, report.text.bytes()) {
-        Ok(()) => report.status,
+    match write_text(sink, outcome.text.bytes()) {
+        Ok(()) => outcome.status,
         Err(_) => Status::WriteFault,
     }
 }
@@ -108,9 +122,22 @@ pub fn retime<R: Source, W: Sink>(
     source: &mut R,
     sink: &mut W,
 ) -> u8
-    // The number and the text that is written, for a source that tells its bytes and a sink that tells what was written.
-    ensures outcome { IfSome (R.left source.old)
-        (λ bytes. Answers (words_of words.now) bytes result (W.written sink.old) (W.written sink.new)) }
+    // The number and the text that is written, for a source that tells its bytes and a sink that tells what was written; with other
+    // words over every source, which is left alone.
+    ensures outcome { let reads : Counts = record { before = R.faults source.old; after = R.faults source.new } in
+        IfSome (R.left source.old)
+        (λ bytes. Answers (words_of words.now) bytes reads result (W.written sink.old) (W.written sink.new)) }
+    ensures usage_text { let reads : Counts = record { before = R.faults source.old; after = R.faults source.new } in
+        (¬ AreDigits (words_of words.now))
+        → Answers (words_of words.now) [] reads result (W.written sink.old) (W.written sink.new) }
+    ensures alone { (¬ AreDigits (words_of words.now)) → source.new ≡ source.old }
+
+    // All bytes given, turn after turn, are the front of those that were read. A drift comes only where four chunks in a row, up to
+    // the turn that the last line names, have fewer than 9393 or more than 9399 bytes.
+    ensures front { (result ≡ 0) ⊎ (result ≡ 12)
+        → IfSome (R.left source.old) (λ bytes. WritesFront bytes (W.written sink.old) (W.written sink.new)) }
+    ensures unsteady { result ≡ 12
+        → (turn : ℕ) × WritesUnsteady (words_of words.now) turn (W.written sink.old) (W.written sink.new) }
 
     // Over every source and sink.
     ensures usage { result ≡ 2 → ¬ AreDigits (words_of words.now) }
@@ -125,7 +152,6 @@ pub fn retime<R: Source, W: Sink>(
         × CameTo R.exact (R.faults source.old) (R.faults source.new) (R.left source.old) (R.left source.new) how }
     ensures writes { IsCounted W.exact (result ≡ 4) (W.faults sink.old) (W.faults sink.new) }
     ensures read_whole { (result ≡ 0) ⊎ (result ≡ 12) → IsAtEnd (R.left source.new) }
-    ensures unsteady { result ≡ 12 → AreUnsteady (words_of words.now) }
     ensures later { (R.faults source.old ≤ R.faults source.new) × (W.faults sink.old ≤ W.faults sink.new) }
 
     // Digits, at most 1,048,576 bytes, and no fault: the run comes to its end, or there is no memory.

@@ -9,6 +9,7 @@ use Rattle.std.proofs.lemmas.List.{length-replicate, get_or-replicate, get_or_pa
 use Rattle.sdh_basics.proofs.CellsLaws.{length-cells, get_or-cells}
 use Rattle.sdh_ringmap.specs.declared.Side.{Side}
 use Rattle.sdh_ringmap.specs.declared.Side.TheVariants.{West, East}
+use Rattle.sdh_ringmap.specs.Ids.{AreIds}
 use Rattle.sdh_ringmap.specs.Places.{position_of}
 use Rattle.sdh_circuits.specs.declared.PortId.{PortId}
 use Rattle.sdh_circuits.specs.Provisioned.{Provisioned, end_of}
@@ -23,8 +24,10 @@ use Rattle.sdh_terminal.specs.Tributaries.{Tributary, tributaries_from, tributar
 use Rattle.sdh_spans.specs.Sides.{IsInletAt, IsSenderAt}
 use Rattle.sdh_sncp.specs.Node.{PathNode, new_node, inlet_on, sending_on}
 use Rattle.sdh_sncp.specs.Ring.{new_nodes, new_ring, nowhere, AtEach, outlet_at}
-use Rattle.sdh_sncp.specs.Laws.{HasPlace, IsUnslipped, IsBetween, NewWorldsAreWhole, NewRingsAreSilent, StayWhole}
+use Rattle.sdh_sncp.specs.Placed.{HasPlace, IsUnslipped, IsBetween, IsPlacedRing}
+use Rattle.sdh_sncp.specs.Laws.{StayPlaced, NewWorldsAreWhole, NewRingsAreSilent, StayWhole}
 use Rattle.sdh_terminal.proofs.Found.{found_has, new_ports}
+use Rattle.sdh_sncp.proofs.Nodes.{placed_round}
 use Rattle.sdh_sncp.proofs.Rounds.{whole_round, whole_run}
 
 -- ---- a new node
@@ -86,14 +89,17 @@ each_new P s ids cs each p h =
     let low : p < length ids =
     omega (arith, length-new s ids cs (length ids)) in subst (P p) (sym (new_at s ids cs (length ids) p nowhere low)) (each p low)
 
+pub new_placed : (s : Settings) (ids : List ℕ) (circuits : Provisioning) → AreIds ids → IsPlacedRing (new_ring s ids circuits)
+new_placed s ids circuits is = record {
+  ids = is;
+  size = length-new s ids circuits.circuits (length ids);
+  places = each_new (HasPlace (new_ring s ids circuits)) s ids circuits.circuits (λ p low. new_place s ids circuits p);
+  between = each_new (λ p n. IsBetween 0 n) s ids circuits.circuits (λ p low. new_between s ids circuits p);
+}
+
 pub new_worlds_are_whole : NewWorldsAreWhole
 new_worlds_are_whole s ids circuits f is honest = record {
-  placed = record {
-    ids = is;
-    size = length-new s ids circuits.circuits (length ids);
-    places = each_new (HasPlace (new_ring s ids circuits)) s ids circuits.circuits (λ p low. new_place s ids circuits p);
-    between = each_new (λ p n. IsBetween 0 n) s ids circuits.circuits (λ p low. new_between s ids circuits p);
-  };
+  placed = new_placed s ids circuits is;
   paired = record {
     honest = stay_honest.prepared s.rate (length ids) f honest;
     prepared = stay_prepared.prepared s.rate (length ids) f is.enough is.few;
@@ -140,12 +146,15 @@ new_rings_are_silent s ids circuits port = by (slice_get circuits.circuits port.
 
 -- ---- what stays
 
+pub stay_placed : StayPlaced
+stay_placed = record { new = new_placed; round = λ arrivals w placed. placed_round w arrivals placed }
+
 pub stay_whole : StayWhole
 stay_whole = record {
   round = whole_round;
   rounds = whole_run;
   apply = λ w p d c may whole. record {
-    placed = record { ids = whole.placed.ids; size = whole.placed.size; places = whole.placed.places; between = whole.placed.between };
+    placed = whole.placed;
     paired = record {
       honest = stay_honest.apply w.fibres p d c whole.paired.honest;
       prepared = stay_prepared.apply w.ring.settings.rate (length w.ring.ids) w.fibres p d c may whole.paired.prepared;

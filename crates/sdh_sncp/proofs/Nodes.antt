@@ -33,7 +33,7 @@ use Rattle.sdh_sncp.specs.Stations.{path_node}
 use Rattle.sdh_sncp.specs.Ring.{nowhere, node_at, AtEach, World, with_arrivals, all_with_arrivals, node_after, sent_on, arrivals_of}
 use Rattle.sdh_sncp.specs.Ring.{nodes_with, round_with, round}
 use Rattle.sdh_terminal.specs.Fixed.{fixed_port}
-use Rattle.sdh_sncp.specs.Laws.{HasPlace, IsUnslipped, HasRun, IsBetween, IsPlaced}
+use Rattle.sdh_sncp.specs.Placed.{HasPlace, IsUnslipped, HasRun, IsBetween, IsPlaced}
 use Rattle.sdh_terminal.proofs.Found.{ports_mapped}
 
 -- ---- lists

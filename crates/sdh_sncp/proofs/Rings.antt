@@ -24,12 +24,15 @@ use Rattle.sdh_rounds.proofs.Rings.{heard_keep, some_keep, all_keep, first_keep}
 use Rattle.sdh_sncp.specs.Node.{PathNode, new_node}
 use Rattle.sdh_sncp.specs.Stations.{path_node, MayRun}
 use Rattle.sdh_sncp.specs.Ring.{HeldPath, new_nodes, new_ring, World, IsRound, nodes_with, outlet_at}
+use Rattle.sdh_sncp.specs.Placed.{IsPlacedRing, IsPlaced}
 use Rattle.sdh_sncp.specs.Fixed.{fixed, AreAlone, HaveRun, IsRing}
-use Rattle.sdh_sncp.specs.Laws.{HasCircuits, KeepsPromises}
+use Rattle.sdh_sncp.specs.Laws.{IsPaired, IsWhole, HasCircuits, KeepsPromises}
 use Rattle.sdh_circuits.proofs.Rings.{circuits_are, end_inside}
 use Rattle.sdh_terminal.proofs.Found.{has_own}
 use Rattle.sdh_sncp.proofs.Keeping.{fixed_told, fixed_next, all_rates, all_run_heard, all_run_next, node_is, has_fixed, new_has}
 use Rattle.sdh_sncp.proofs.Keeping.{all_new, outlet_is}
+use Rattle.sdh_sncp.proofs.Nodes.{placed_round}
+use Rattle.sdh_sncp.proofs.New.{new_placed}
 use Rattle.sdh_sncp.proofs.Converging.{steps_answer, steps_deliver}
 use Rattle.sdh_sncp.proofs.Wholes.{whole_settled, whole_unsettled}
 
@@ -37,8 +40,9 @@ use Rattle.sdh_sncp.proofs.Wholes.{whole_settled, whole_unsettled}
 
 ring_with : (r : HeldPath) (ns : List PathNode) (rounds : ℕ) (broken : Bool) → IsRing r → map fixed ns ≡ map fixed r.nodes
     → (broken ≡ false → HaveRun rounds ns)
+    → (broken ≡ false → IsPlacedRing (record r { nodes = ns; rounds = rounds; broken = broken }))
     → IsRing (record r { nodes = ns; rounds = rounds; broken = broken })
-ring_with r ns rounds broken h same going = record {
+ring_with r ns rounds broken h same going placed = record {
   ids = h.ids;
   circuits = h.circuits;
   slots = h.slots;
@@ -46,6 +50,7 @@ ring_with r ns rounds broken h same going = record {
   alone = h.alone;
   nodes = same ∙ h.nodes;
   going = going;
+  placed = placed;
 }
 
 true_is_not_false : {P : Type 0} → true ≡ false → P
@@ -74,6 +79,7 @@ new_is_ring s ids circuits are form slots kept alone = record {
   alone = alone;
   nodes = refl;
   going = λ _. all_new s ids circuits.circuits (length ids);
+  placed = λ _. new_placed s ids circuits are;
 }
 
 -- ---- a round
@@ -85,14 +91,15 @@ ring_ran w after h whole is =
     subst (λ (x : World). IsRing x.ring) (sym is.after_is)
     (ring_with w.ring (map (path_node.after w.ring.moment) heard) (w.ring.rounds + 1) w.ring.broken h
     (all_keep path_node fixed w.ring.moment fixed_next heard ∙ heard_keep path_node fixed fixed_told is.arrivals w.ring.nodes)
-    (λ _. all_run_next w.ring.rounds heard (all_run_heard is.arrivals w.ring.rounds w.ring.nodes (h.going whole))))
+    (λ _. all_run_next w.ring.rounds heard (all_run_heard is.arrivals w.ring.rounds w.ring.nodes (h.going whole)))
+    (λ _. placed_round w is.arrivals (h.placed whole)))
 
 ring_broke : (w left : World) → IsRing w.ring → BreaksRound path_node w left → IsRing left.ring
 ring_broke w left h b =
     subst IsRing (sym b.ring) (ring_with w.ring left.ring.nodes w.ring.rounds true h
     (ap (map fixed) b.nodes
     ∙ first_keep path_node fixed w.ring.moment fixed_next (had_round b.off) (told_some path_node b.told w.ring.nodes)
-    ∙ some_keep path_node fixed fixed_told b.told w.ring.nodes) (λ e. true_is_not_false e))
+    ∙ some_keep path_node fixed fixed_told b.told w.ring.nodes) (λ e. true_is_not_false e) (λ e. true_is_not_false e))
 
 -- whatever it answered
 pub ring_after : (exact : Bool) (w left : World) (before after : ℕ) (result : Result (Unit {0}) Fault) → IsRing w.ring
@@ -130,20 +137,24 @@ outlet_there r id n node =
 
 -- ---- a settle step
 
-pub promises_kept : (w left : World) (limit : ℕ) (result : Result (Unit {0}) SettleError) → HasCircuits w.ring
+-- nodes are where they belong, so it is enough that ring and fibres are paired
+abbrev whole_by : (w : World) → IsPlaced w → IsPaired w → IsWhole w
+whole_by w placed paired = record { placed = placed; paired = paired }
+
+pub promises_kept : (w left : World) (limit : ℕ) (result : Result (Unit {0}) SettleError) → HasCircuits w.ring → IsPlaced w
     → Outcome path_node w limit result left → KeepsPromises w limit result left
-promises_kept w left limit (Ok u) fit s = record {
-  owed = λ whole. steps_deliver w left limit fit s whole;
-  whole = λ _ whole. whole_settled w left limit s whole;
-  answers = λ whole large e. cc;
+promises_kept w left limit (Ok u) fit placed s = record {
+  owed = λ paired. steps_deliver w left limit fit s (whole_by w placed paired);
+  paired = λ _ paired. (whole_settled w left limit s (whole_by w placed paired)).paired;
+  answers = λ paired large e. cc;
 }
-promises_kept w left limit (Err Unsettled) fit s = record {
+promises_kept w left limit (Err Unsettled) fit placed s = record {
   owed = tt;
-  whole = λ _ whole. whole_unsettled w left limit s whole;
-  answers = λ whole large _. steps_answer w left limit fit whole large s;
+  paired = λ _ paired. (whole_unsettled w left limit s (whole_by w placed paired)).paired;
+  answers = λ paired large _. steps_answer w left limit fit (whole_by w placed paired) large s;
 }
-promises_kept w left limit (Err PlantFault) fit s = record {
+promises_kept w left limit (Err PlantFault) fit placed s = record {
   owed = tt;
-  whole = λ no whole. absurd (no refl);
-  answers = λ whole large e. cc;
+  paired = λ no paired. absurd (no refl);
+  answers = λ paired large e. cc;
 }

@@ -29,7 +29,8 @@ use Rattle.sdh_sncp.specs.Due as due
 use Rattle.sdh_sncp.specs.Node.{fed_for, leads, lines_of, crossing}
 use Rattle.sdh_sncp.specs.Fixed.{AreAlone}
 use Rattle.sdh_sncp.specs.Ring.{node_at, World}
-use Rattle.sdh_sncp.specs.Laws.{IsUnslipped, IsWhole}
+use Rattle.sdh_sncp.specs.Placed.{IsUnslipped}
+use Rattle.sdh_sncp.specs.Laws.{IsWhole}
 use Rattle.sdh_terminal.proofs.Found.{found_has, IsPortOf, port-found}
 use Rattle.sdh_sncp.proofs.Nodes.{informed, unslipped_plain}
 use Rattle.sdh_sncp.proofs.Spans.{crossing_at, sent_at, came_at}

@@ -9,6 +9,7 @@ use Rattle.sdh_circuits.specs.Kept.{KeepsRing}
 use Rattle.sdh_sncp.specs.declared.slots.Use.{Use}
 use Rattle.sdh_sncp.specs.Node.{PathNode}
 use Rattle.sdh_sncp.specs.Ring.{HeldPath, new_nodes}
+use Rattle.sdh_sncp.specs.Placed.{IsPlacedRing}
 use Rattle.sdh_terminal.specs.Fixed.{FixedPort, fixed_port}
 
 -- what a node is, whatever it receives and sends
@@ -29,7 +30,8 @@ AreAlone circuits =
 abbrev pub HaveRun : ℕ → List PathNode → Type 0
 HaveRun rounds ns = All (λ (n : PathNode). n.rounds ≡ rounds) ns
 
--- each node is that of a new ring, but for what calls change; and all have run the ring's rounds, but where one was broken off
+-- each node is that of a new ring, but for what calls change; and all have run the ring's rounds and are where they belong, but where
+-- one was broken off
 pub record IsRing (r : HeldPath) : Type 0 where
   pub ids : AreIds r.ids
   pub circuits : IsProvisioning r.circuits
@@ -38,3 +40,4 @@ pub record IsRing (r : HeldPath) : Type 0 where
   pub alone : AreAlone r.circuits.circuits
   pub nodes : map fixed r.nodes ≡ map fixed (new_nodes r.settings r.ids r.circuits.circuits (length r.ids))
   pub going : r.broken ≡ false → HaveRun r.rounds r.nodes
+  pub placed : r.broken ≡ false → IsPlacedRing r

@@ -1,5 +1,5 @@
 -- A path ring and its fibres that are paired, and the laws of such rings.
-use Rattle.std.specs.Prelude.{ℕ, ◌≡◌, ◌<◌, ◌≤◌, ◌+◌, ◌-◌, ◌*◌, ◌/◌, Bool, true, Some, None, List, length, map, All, slice_get}
+use Rattle.std.specs.Prelude.{ℕ, ◌≡◌, ◌<◌, ◌≤◌, ◌+◌, ◌-◌, ◌*◌, ◌/◌, Bool, true, Some, List, length, slice_get}
 use Rattle.std.specs.Prelude.{slice_index_or, not, ◌≢◌, Result, Err, OnOk}
 use Rattle.std.specs.Option.{is_some}
 use Rattle.sdh_pointer.specs.declared.reading.Action.TheVariants as action
@@ -7,68 +7,29 @@ use Rattle.sdh_pointer.specs.Reading.{start, is_norm}
 use Rattle.sdh_pointer.specs.Laws.{is_ais_action}
 use Rattle.sdh_terms.specs.Rates.{n_of}
 use Rattle.sdh_ringmap.specs.Ids.{AreIds}
-use Rattle.sdh_ringmap.specs.Places.{position_of}
 use Rattle.sdh_ringmap.specs.declared.Side.{Side}
 use Rattle.sdh_circuits.specs.declared.End.{End}
 use Rattle.sdh_circuits.specs.declared.PortId.{PortId}
 use Rattle.sdh_circuits.specs.Provisioned.{Provisioned}
 use Rattle.sdh_circuits.specs.Provisioning.{Provisioning, AreCircuits}
 use Rattle.sdh_nodestate.specs.Words.{first_word}
-use Rattle.sdh_payload.specs.Feed.{Fed}
 use Rattle.sdh_payload.specs.Outlet.{silent}
 use Rattle.sdh_terms.specs.declared.Condition.{Condition}
-use Rattle.sdh_plant.specs.Fibres.{Fibres, IsPrepared, IsHonest}
+use Rattle.sdh_plant.specs.Fibres.{Arrival, Fibres, IsPrepared, IsHonest}
 use Rattle.sdh_terms.specs.Fibres.{IsConditionAt, fibre_to, is_cut}
 use Rattle.sdh_plant.specs.Arrivals.{condition_of}
 use Rattle.sdh_plant.specs.Calls.{prepared, after_apply}
 use Rattle.sdh_request.specs.declared.settings.Settings.{Settings}
 use Rattle.sdh_terminal.specs.Receiving.{Inlet, IsInlet, taken_in, after_taking}
-use Rattle.sdh_terminal.specs.Tributaries.{Tributary, tributaries_at}
 use Rattle.sdh_rounds.specs.Quiet.{enough_for}
 use Rattle.sdh_rounds.specs.declared.faults.SettleError.{SettleError}
 use Rattle.sdh_rounds.specs.declared.faults.SettleError.TheVariants.{Unsettled, PlantFault}
 use Rattle.sdh_spans.specs.Frames.{AreCarried}
-use Rattle.sdh_spans.specs.Sides.{IsInletAt, IsSenderAt}
-use Rattle.sdh_sncp.specs.Slots.{uses_at}
-use Rattle.sdh_sncp.specs.Node.{PathNode, inlet_on, sending_on}
-use Rattle.sdh_sncp.specs.Ring.{HeldPath, new_ring, outlet_at, AtEach, World, world, round, run, course, is_calm, EndsWindow, Settles}
+use Rattle.sdh_sncp.specs.Ring.{HeldPath, new_ring, outlet_at, World, world, round_with, round, run, course, is_calm, EndsWindow, Settles}
 use Rattle.sdh_sncp.specs.Ring.{Unsettles}
-use Rattle.sdh_terminal.specs.Fixed.{fixed_port}
+use Rattle.sdh_sncp.specs.Placed.{IsPlacedRing, IsPlaced}
 use Rattle.sdh_sncp.specs.Fixed.{AreAlone}
 use Rattle.sdh_sncp.specs.Due.{due_path}
-
--- ---- each node is where it belongs
-
--- what no round changes of the node at position p of a ring
-pub record HasPlace (r : HeldPath) (p : ℕ) (n : PathNode) : Type 0 where
-  pub uses : n.uses ≡ uses_at r.circuits.circuits p (n_of r.settings.rate)
-  pub ports : map fixed_port n.ports ≡ map fixed_port (tributaries_at (position_of p) r.circuits.circuits)
-  pub inlets : (d : Side) → IsInletAt r.settings.rate (inlet_on d n)
-  pub senders : (d : Side) → IsSenderAt r.settings.rate (sending_on d n)
-  pub words : (d : Side) → (sending_on d n).word ≡ first_word r.ids p d
-
--- a port's clock after so many rounds, which never slips
-pub record IsUnslipped (rounds : ℕ) (feed : Fed) : Type 0 where
-  pub ups : feed.clock.ups ≡ 0
-  pub downs : feed.clock.downs ≡ 0
-  pub sent : feed.clock.sent ≡ 2349 * rounds
-  pub value : feed.clock.value ≡ feed.port.offset
-
--- a node has run so many rounds, and the clocks of its ports too
-pub record HasRun (rounds : ℕ) (n : PathNode) : Type 0 where
-  pub ran : n.rounds ≡ rounds
-  pub clocks : All (λ (t : Tributary). IsUnslipped rounds t.feed) n.ports
-
--- between rounds nothing was told on a side since the last one
-pub record IsBetween (rounds : ℕ) (n : PathNode) : Type 0 where
-  pub run : HasRun rounds n
-  pub fresh : (d : Side) → (inlet_on d n).arrived ≡ None
-
-pub record IsPlaced (w : World) : Type 0 where
-  pub ids : AreIds w.ring.ids
-  pub size : length w.ring.nodes ≡ length w.ring.ids
-  pub places : AtEach (HasPlace w.ring) w.ring.nodes
-  pub between : AtEach (λ p n. IsBetween w.ring.rounds n) w.ring.nodes
 
 -- ---- what the fibres carry
 
@@ -85,6 +46,11 @@ pub record IsWhole (w : World) : Type 0 where
   pub paired : IsPaired w
 
 -- ---- what stays
+
+-- each node stays where it belongs, whatever arrives
+pub record StayPlaced : Type 0 where
+  pub new : (s : Settings) (ids : List ℕ) (circuits : Provisioning) → AreIds ids → IsPlacedRing (new_ring s ids circuits)
+  pub round : (arrivals : List Arrival) (w : World) → IsPlaced w → IsPlaced (round_with arrivals w)
 
 abbrev pub NewWorldsAreWhole : Type 0
 NewWorldsAreWhole =
@@ -140,12 +106,12 @@ abbrev pub StepsAnswer : Type 0
 StepsAnswer =
     (w left : World) (limit : ℕ) → HasCircuits w.ring → IsWhole w → enough_for (length w.ring.ids) ≤ limit → Unsettles w limit left → ⊥
 
--- what every settle step keeps: where one ended all ports have delivered what they are due, by the fibres' conditions alone, and no
--- step with a large limit is unsettled
+-- what every settle step keeps where ring and fibres are paired: they stay so; where one ended all ports have delivered what they are
+-- due, by the fibres' conditions alone; and no step with a large limit is unsettled
 pub record KeepsPromises (w : World) (limit : ℕ) (result : Result (Unit {0}) SettleError) (left : World) : Type 0 where
-  pub owed : OnOk result (IsWhole w → DeliversWhatIsDue left)
-  pub whole : result ≢ Err PlantFault → IsWhole w → IsWhole left
-  pub answers : IsWhole w → enough_for (length w.ring.ids) ≤ limit → result ≢ Err Unsettled
+  pub owed : OnOk result (IsPaired w → DeliversWhatIsDue left)
+  pub paired : result ≢ Err PlantFault → IsPaired w → IsPaired left
+  pub answers : IsPaired w → enough_for (length w.ring.ids) ≤ limit → result ≢ Err Unsettled
 
 -- ---- what a port takes
 

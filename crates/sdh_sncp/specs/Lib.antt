@@ -2,6 +2,7 @@ pub mod Slots
 pub mod Node
 pub mod Stations
 pub mod Ring
+pub mod Placed
 pub mod Fixed
 pub mod Sharing
 pub mod Due

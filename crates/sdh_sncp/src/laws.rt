@@ -1,6 +1,11 @@
 //! Laws of every path ring, over definitions alone. Each function has a law as its contract and no work to do.
-ghost use Rattle.sdh_sncp.specs.Laws.{NewWorldsAreWhole, NewRingsAreSilent, StayWhole, QuietRingsDeliver, StepsDeliver, RoundsGetCalm};
-ghost use Rattle.sdh_sncp.specs.Laws.{StepsAnswer, ComesIsNorm};
+ghost use Rattle.sdh_sncp.specs.Laws.{StayPlaced, NewWorldsAreWhole, NewRingsAreSilent, StayWhole, QuietRingsDeliver, StepsDeliver};
+ghost use Rattle.sdh_sncp.specs.Laws.{RoundsGetCalm, StepsAnswer, ComesIsNorm};
+
+/// Each node stays where it belongs, whatever arrives.
+pub fn stay_placed()
+    ensures { StayPlaced }
+{}
 
 /// A new ring over a prepared plant is whole.
 pub fn new_worlds_are_whole()

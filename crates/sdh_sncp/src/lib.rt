@@ -15,6 +15,6 @@ mod station;
 
 pub use laws::{
     comes_is_norm, new_rings_are_silent, new_worlds_are_whole, quiet_rings_deliver,
-    rounds_get_calm, stay_whole, steps_answer, steps_deliver,
+    rounds_get_calm, stay_placed, stay_whole, steps_answer, steps_deliver,
 };
 pub use ring::{PathError, PathRing};

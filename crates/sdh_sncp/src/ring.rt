@@ -1,5 +1,5 @@
 //! The path ring.
-ghost use Rattle.std.specs.Prelude.{◌≡◌, ◌≢◌, ◌+◌, ◌/◌, ◌^◌, ◌<◌, ◌≤◌, ℕ, false, true, Err, IfOk, OnOk};
+ghost use Rattle.std.specs.Prelude.{◌≡◌, ◌+◌, ◌/◌, ◌^◌, ◌<◌, ◌≤◌, ℕ, false, true, Err, IfOk, OnOk};
 ghost use Rattle.std.specs.Prelude.{OnErr, IsErr, length};
 ghost use Rattle.sdh_basics.specs.Causes.{Rose, IsCounted};
 ghost use Rattle.sdh_terms.specs.Rates.{n_of};
@@ -13,8 +13,9 @@ ghost use Rattle.sdh_rounds.specs.Observed.{Hears};
 ghost use Rattle.sdh_rounds.specs.Outcome.{IsStep};
 ghost use Rattle.sdh_terminal.specs.Tributaries.{HasPort, outlet_of};
 ghost use Rattle.sdh_sncp.specs.Ring.{World, new_ring, outlet_at, world, IsRound, IsBrokenOff};
+ghost use Rattle.sdh_sncp.specs.Placed.{IsPlacedRing};
 ghost use Rattle.sdh_sncp.specs.Fixed.{AreAlone};
-ghost use Rattle.sdh_sncp.specs.Laws.{IsWhole, HasCircuits, KeepsPromises};
+ghost use Rattle.sdh_sncp.specs.Laws.{IsPaired, HasCircuits, KeepsPromises};
 ghost use Rattle.sdh_sncp.specs.Sharing.{AreFirstToShare};
 ghost use Rattle.sdh_sncp.specs.Stations.{path_node};
 
@@ -82,7 +83,7 @@ impl PathRing {
         ensures ring { IfOk result (λ ring. ring ≡ new_ring settings map circuits) }
 
         // Over fibres that were just prepared for it, what is carried is what was sent.
-        ensures whole { IfOk result (λ ring. (f : Fibres) → IsHonest f → IsWhole (world ring (prepared settings.rate (length map) f))) }
+        ensures paired { IfOk result (λ ring. (f : Fibres) → IsHonest f → IsPaired (world ring (prepared settings.rate (length map) f))) }
 
         // Before the first round every port delivers AIS.
         ensures silent { IfOk result (λ ring. (port : PortId) → outlet_at ring port ≡ silent) }
@@ -113,7 +114,7 @@ impl PathRing {
         ensures prepared { OnOk result (IsPrepared self.old.settings.rate (length self.old.ids) (P.fibres plant.new)) }
 
         // Where the fibres carry what was sent, they do so after the round.
-        ensures whole { OnOk result (IsWhole (world self.old (P.fibres plant.old)) → IsWhole (world self.new (P.fibres plant.new))) }
+        ensures paired { OnOk result (IsPaired (world self.old (P.fibres plant.old)) → IsPaired (world self.new (P.fibres plant.new))) }
         ensures err { OnErr result (IsBrokenOff (world self.old (P.fibres plant.old)) (P.fibres plant.new)) }
         ensures broken { OnErr result (self.new.broken ≡ true) }
         ensures breaks { OnErr result
@@ -133,6 +134,14 @@ impl PathRing {
         ensures { HasCircuits self.now }
     {
         // A field that is looked at opens the ring, of whose fields the law is true.
+        let _ = &self.ring;
+    }
+
+    // Each node is where it belongs: the same.
+    fn nodes_are_placed(&self)
+        requires { self.now.broken ≡ false }
+        ensures { IsPlacedRing self.now }
+    {
         let _ = &self.ring;
     }
 
@@ -175,6 +184,7 @@ impl PathRing {
             (world self.new (P.fibres plant.new))) }
     {
         self.circuits_fit();
+        self.nodes_are_placed();
         sdh_rounds::settle(self, plant, limit, observer)
     }
 }

@@ -1,5 +1,5 @@
 //! Circuits that share a slot.
-ghost use Rattle.std.specs.Prelude.{◌≡◌, ◌<◌, ◌≤◌, Option, IfSome, IfNone, IsSome, length};
+ghost use Rattle.std.specs.Prelude.{◌≡◌, ◌<◌, Option, IfSome, IfNone, length};
 ghost use Rattle.sdh_sncp.specs.Fixed.{AreAlone};
 ghost use Rattle.sdh_sncp.specs.Sharing.{slot_at, share, first_before, has_before, first_second, AreFirstToShare};
 

@@ -1,5 +1,5 @@
 //! What a node does with each slot.
-ghost use Rattle.std.specs.Prelude.{◌≡◌, ℕ, ◌+◌, ◌≤◌, ◌<◌, IfOk, length};
+ghost use Rattle.std.specs.Prelude.{◌≡◌, ◌+◌, ◌≤◌, ◌<◌, IfOk};
 ghost use Rattle.sdh_sncp.specs.Slots.{use_by, use_of, uses_at};
 
 use sdh_circuits::{Circuit, CircuitMap, End, PortId};

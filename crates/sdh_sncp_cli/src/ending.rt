@@ -1,7 +1,7 @@
 //! How the program ends.
 ghost use Rattle.std.specs.Prelude.{◌≡◌, ◌≤◌, length};
 ghost use Rattle.sdh_report.specs.Written.{with_part};
-ghost use Rattle.sdh_sncp_cli.specs.Endings.{number_of, line_of, same_slot_line, no_such_step_line, path_endings};
+ghost use Rattle.sdh_sncp_cli.specs.Endings.{number_of, same_slot_line, no_such_step_line, path_endings};
 
 use sdh_report::{Status, Text};
 use sdh_shell::Ends;

@@ -1,9 +1,9 @@
 //! The text of a report.
-ghost use Rattle.std.specs.Prelude.{◌≡◌, ◌+◌, ◌*◌, ◌≤◌, ◌<◌, ◌^◌, ◌++◌, Some, length, slice_get};
+ghost use Rattle.std.specs.Prelude.{◌≡◌, ◌+◌, ◌*◌, ◌≤◌, ◌<◌, ◌++◌, length};
 ghost use Rattle.std.specs.List.{flat_map};
 ghost use Rattle.sdh_circuits.specs.declared.End.TheVariants.{A, B};
 ghost use Rattle.sdh_report.specs.Reports.{told_line, report_text};
-ghost use Rattle.sdh_scripts.specs.Ports.{port_line_at, lines_from, lines_room};
+ghost use Rattle.sdh_scripts.specs.Ports.{port_line_at, lines_room};
 ghost use Rattle.sdh_sncp_cli.specs.Reports.{end_outlet, ports_told, report_of};
 
 use sdh_circuits::{Circuit, End, PortId};

@@ -1,5 +1,5 @@
 //! Which steps are those of a path ring.
-ghost use Rattle.std.specs.Prelude.{◌≡◌, ◌+◌, ◌<◌, ◌≤◌, Some, None, IfSome, length, position, option_map};
+ghost use Rattle.std.specs.Prelude.{◌≡◌, ◌+◌, ◌<◌, ◌≤◌, Some, IfSome, length, position};
 ghost use Rattle.sdh_sncp_cli.specs.Steps.{is_strange, first_strange};
 
 use sdh_plan::Step;

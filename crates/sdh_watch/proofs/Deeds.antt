@@ -4,7 +4,7 @@ use Rattle.sdh_plant.specs.Fibres.{Fibres}
 use Rattle.sdh_plan.specs.Planned.{Planned}
 use Rattle.sdh_report.specs.declared.status.Status.{Status}
 use Rattle.sdh_report.specs.Statuses.{last_line}
-use Rattle.sdh_scripts.specs.Programs.{Writes, Runs}
+use Rattle.sdh_scripts.specs.Programs.{Runs}
 use Rattle.sdh_scripts.specs.Outcome.{OfPlan}
 use Rattle.sdh_scripts.proofs.Promises.{RunsAlone, NeverWrites}
 use Rattle.sdh_scripts.proofs.Deeds.{run_outcome, listing_writes}

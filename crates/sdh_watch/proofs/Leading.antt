@@ -26,7 +26,7 @@ use Rattle.sdh_world.proofs.Keeping.{all_heard, all_next, has_fixed}
 use Rattle.sdh_world.proofs.Clocks.{clock_of, clocks_go_on}
 use Rattle.sdh_path.specs.History.{Given}
 use Rattle.sdh_scripts.proofs.Lists.{some_at}
-use Rattle.sdh_watch.specs.declared.ports.Both.{Both}
+use Rattle.sdh_watch.specs.declared.ports.WatchPair.{WatchPair}
 use Rattle.sdh_watch.specs.Watching.{Lead, given_at}
 use Rattle.sdh_watch.specs.Ports.{AreWatching, AreFew, Looked, Shown}
 
@@ -107,12 +107,12 @@ none_lead (suc k) w left heard (mid, before, lead, is, more) id none =
 
 -- ---- the watches
 
-pub shown_none : (w : World) (watches : List Both) → AreWatching w.ring.circuits.circuits (λ port. []) watches → Shown 0 w w watches
+pub shown_none : (w : World) (watches : List WatchPair) → AreWatching w.ring.circuits.circuits (λ port. []) watches → Shown 0 w w watches
 shown_none w watches are = record { heard = λ port. []; rounds = (refl, λ port. refl); watching = are }
 
 -- after one round more, in which each watch looked
-pub shown_more : (k : ℕ) (w mid left : World) (old new : List Both) → Shown k w mid old → IsRound mid left → length new ≡ length old
-    → ((i : ℕ) (before after : Both) → slice_get old i ≡ Some before → slice_get new i ≡ Some after → Looked left.ring i before after)
+pub shown_more : (k : ℕ) (w mid left : World) (old new : List WatchPair) → Shown k w mid old → IsRound mid left → length new ≡ length old
+    → ((i : ℕ) (before after : WatchPair) → slice_get old i ≡ Some before → slice_get new i ≡ Some after → Looked left.ring i before after)
     → Shown (k + 1) w left new
 shown_more k w mid left old new shown is many each =
     let heard = λ (port : PortId). given_at left.ring port ∷ shown.heard port in
@@ -134,8 +134,8 @@ shown_more k w mid left old new shown is many each =
       };
     }
 
-pub few_more : (r : HeldRing) (k : ℕ) (old new : List Both) → AreFew k old → length new ≡ length old
-    → ((i : ℕ) (before after : Both) → slice_get old i ≡ Some before → slice_get new i ≡ Some after → Looked r i before after)
+pub few_more : (r : HeldRing) (k : ℕ) (old new : List WatchPair) → AreFew k old → length new ≡ length old
+    → ((i : ℕ) (before after : WatchPair) → slice_get old i ≡ Some before → slice_get new i ≡ Some after → Looked r i before after)
     → AreFew (k + 1) new
 few_more r k old new few many each i after at =
     let was = some_at old i (let h = slice_get_within new i after at in omega (arith, many)) in
@@ -143,5 +143,5 @@ few_more r k old new few many each i after at =
     let h = few i was.0 was.1 in
     (omega (arith, looked.few_a, h.0), omega (arith, looked.few_b, h.1))
 
-pub few_enough : (k m : ℕ) (watches : List Both) → k ≤ m → AreFew k watches → AreFew m watches
+pub few_enough : (k m : ℕ) (watches : List WatchPair) → k ≤ m → AreFew k watches → AreFew m watches
 few_enough k m watches le few i both at = let h = few i both at in (omega (arith, h.0, le), omega (arith, h.1, le))

@@ -9,3 +9,4 @@ pub mod Known
 pub mod Rounds
 pub mod Owing
 pub mod Settling
+pub mod Numbers

@@ -12,7 +12,7 @@ use Rattle.sdh_plan.specs.declared.step.Step.TheVariants as step
 use Rattle.sdh_path.specs.History.{Given}
 use Rattle.sdh_watch.specs.Watching.{Lead}
 use Rattle.sdh_owed.proofs.Steps.{settled_held, next_by}
-use Rattle.sdh_watch.specs.declared.ports.Both.{Both}
+use Rattle.sdh_watch.specs.declared.ports.WatchPair.{WatchPair}
 use Rattle.sdh_watch.specs.Ports.{Shown}
 use Rattle.sdh_watch.specs.Running.{MayRun}
 use Rattle.sdh_watch.proofs.Leading.{held_lead, none_lead}
@@ -25,7 +25,7 @@ went_held w mid left limit k heard s lead =
     ∙ ap (λ (r : HeldRing). record r { nodes = left.ring.nodes; rounds = r.rounds + k }) (settled_held w mid limit s)
     ∙ ap (λ n. record w.ring { nodes = left.ring.nodes; rounds = n }) (omega arith)
 
-pub watched_next : (limit before : ℕ) (w mid left : World) (now watches : List Both) → limit ≤ 65536 → (s : Settles w limit mid)
+pub watched_next : (limit before : ℕ) (w mid left : World) (now watches : List WatchPair) → limit ≤ 65536 → (s : Settles w limit mid)
     → EndsAtAMultiple w.ring mid.ring limit → ((port : PortId) → waiting_at mid.ring port ≡ 0)
     → Shown 128 mid left watches → IsPrepared w.ring.settings.rate (length w.ring.ids) left.fibres → (later : List Step)
     → MayRun before (step.Settle ∷ later) w.ring now w.fibres → MayRun (before + 1) later left.ring watches left.fibres

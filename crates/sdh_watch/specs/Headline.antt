@@ -3,6 +3,7 @@ use Rattle.std.specs.Prelude.{ℕ, ◌≡◌, List, codes, Option, None}
 use Rattle.sdh_plant.specs.Fibres.{Fibres}
 use Rattle.sdh_plant.specs.Arrivals.{Knows}
 use Rattle.sdh_report.specs.declared.status.Status.{Status}
+use Rattle.sdh_report.specs.Statuses.{number_of}
 use Rattle.sdh_owed.specs.Plans.{world_of}
 use Rattle.sdh_shell.specs.Calls.{asked_to_run}
 use Rattle.sdh_shell.specs.Endings.{statuses}
@@ -28,6 +29,10 @@ watching = record {
   IsRunOf = IsRunOf;
   MaySettle = MaySettle;
 }
+
+-- the number of a status of which this is so
+abbrev pub IsNumberOf : ℕ → (Status → Type 0) → Type 0
+IsNumberOf number Is = (how : Status) × (number ≡ number_of how) × Is how
 
 -- it ends as the script does where the arrivals are known: unsettled at exactly the step in which no quiet window comes
 -- within the limit; or a plant's call failed

@@ -9,28 +9,28 @@ use Rattle.sdh_world.specs.Rounds.{World}
 use Rattle.sdh_path.specs.History.{Given}
 use Rattle.sdh_path.specs.Kept.{CameBy}
 use Rattle.sdh_watch.specs.Watching.{given_at, Lead}
-use Rattle.sdh_watch.specs.declared.ports.Both.{Both}
+use Rattle.sdh_watch.specs.declared.ports.WatchPair.{WatchPair}
 
 -- the watches on both ports of a circuit have come to what they keep by what they were given; each expects the trace of
 -- the other port
-pub record IsWatching (c : Provisioned) (index : ℕ) (heard : PortId → List Given) (both : Both) : Type 0 where
+pub record IsWatching (c : Provisioned) (index : ℕ) (heard : PortId → List Given) (both : WatchPair) : Type 0 where
   pub at_a : CameBy c.b.trace (heard (port_id index A)) both.a
   pub at_b : CameBy c.a.trace (heard (port_id index B)) both.b
 
 -- so have those of all circuits
-pub record AreWatching (circuits : List Provisioned) (heard : PortId → List Given) (watches : List Both) : Type 0 where
+pub record AreWatching (circuits : List Provisioned) (heard : PortId → List Given) (watches : List WatchPair) : Type 0 where
   pub many : length watches ≡ length circuits
-  pub each : (i : ℕ) (c : Provisioned) (both : Both) → slice_get circuits i ≡ Some c → slice_get watches i ≡ Some both
+  pub each : (i : ℕ) (c : Provisioned) (both : WatchPair) → slice_get circuits i ≡ Some c → slice_get watches i ≡ Some both
       → IsWatching c i heard both
 
 -- ---- what the watches do
 
 -- each of these watches has had at most so many chunks
-abbrev pub AreFew : ℕ → List Both → Type 0
-AreFew k watches = (i : ℕ) (both : Both) → slice_get watches i ≡ Some both → (both.a.chunks ≤ k) × (both.b.chunks ≤ k)
+abbrev pub AreFew : ℕ → List WatchPair → Type 0
+AreFew k watches = (i : ℕ) (both : WatchPair) → slice_get watches i ≡ Some both → (both.a.chunks ≤ k) × (both.b.chunks ≤ k)
 
 -- the watches of the circuit of this number were given what its ports delivered
-pub record Looked (r : HeldRing) (index : ℕ) (before after : Both) : Type 0 where
+pub record Looked (r : HeldRing) (index : ℕ) (before after : WatchPair) : Type 0 where
   pub a : (trace : List ℕ) (past : List Given) → CameBy trace past before.a → CameBy trace (given_at r (port_id index A) ∷ past) after.a
   pub b : (trace : List ℕ) (past : List Given) → CameBy trace past before.b → CameBy trace (given_at r (port_id index B) ∷ past) after.b
   pub few_a : after.a.chunks ≤ before.a.chunks + 1
@@ -38,7 +38,7 @@ pub record Looked (r : HeldRing) (index : ℕ) (before after : Both) : Type 0 wh
 
 -- so many rounds lead from a world to another, and the watches have come to what they keep by what was delivered in
 -- them
-pub record Shown (k : ℕ) (w left : World) (watches : List Both) : Type 0 where
+pub record Shown (k : ℕ) (w left : World) (watches : List WatchPair) : Type 0 where
   pub heard : PortId → List Given
   pub rounds : Lead k w left heard
   pub watching : AreWatching w.ring.circuits.circuits heard watches

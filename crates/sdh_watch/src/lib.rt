@@ -1,4 +1,4 @@
-//! The one call of the program `sdhwatch`: from the words, a source of bytes and a plant to a status and a text. A plan is
+//! The one call of the program `sdhwatch`: from the words, a source of bytes and a plant to a number and a text. A plan is
 //! run over any plant with watches: after each settle step a new watch looks at what each port delivers in 128 more
 //! rounds, and its line is appended to a text.
 //!
@@ -14,5 +14,4 @@ mod run;
 mod script;
 mod top;
 
-pub use sdh_report::Status;
 pub use top::sdhwatch;

@@ -9,13 +9,12 @@ ghost use Rattle.sdh_circuits.specs.Provisioned.{customer_at};
 ghost use Rattle.sdh_plant.specs.Fibres.{IsPrepared};
 ghost use Rattle.sdh_circuits.specs.Ends.{other_end};
 ghost use Rattle.sdh_world.specs.Rounds.{world};
-ghost use Rattle.sdh_report.specs.Written.{with_part};
 ghost use Rattle.sdh_path.specs.History.{Given};
 ghost use Rattle.sdh_path.specs.Kept.{CameBy};
 ghost use Rattle.sdh_watch.specs.Watching.{given_at, port_watched, ports_watched, BreaksAmong};
 ghost use Rattle.sdh_watch.specs.Lines.{told_line};
 ghost use Rattle.sdh_watch.specs.Ports.{IsWatching, AreWatching, AreFew, Looked, Shown};
-ghost use Rattle.sdh_watch.specs.declared.ports.Both.{Both};
+ghost use Rattle.sdh_watch.specs.declared.ports.WatchPair.{WatchPair};
 
 use crate::lines::watch_line;
 use sdh_circuits::{Circuit, CircuitMap, End, PortId};
@@ -31,7 +30,7 @@ const ROUNDS: u32 = 128;
 
 /// The watches on both ports of a circuit.
 #[derive(Debug, Drop)]
-pub struct Both {
+pub struct WatchPair {
     pub a: Watch,
     pub b: Watch,
 }
@@ -48,36 +47,36 @@ fn watch_for(circuit: &Circuit, other: End) -> Watch
 }
 
 // New watches on both ports of a circuit.
-fn both_for(circuit: &Circuit) -> Both
+fn pair_for(circuit: &Circuit) -> WatchPair
     ensures new { (index : ℕ) → IsWatching circuit.now index (λ port. []) result }
     ensures few { (result.a.chunks ≡ 0) × (result.b.chunks ≡ 0) }
 {
-    Both {
+    WatchPair {
         a: watch_for(circuit, End::B),
         b: watch_for(circuit, End::A),
     }
 }
 
 /// Watches for all ports. All memory is taken here.
-pub fn new_watches(alloc: Global, circuits: &CircuitMap) -> Result<Vec<Both>, AllocError>
+pub fn new_watches(alloc: Global, circuits: &CircuitMap) -> Result<Vec<WatchPair>, AllocError>
     ensures { IfOk result (λ watches. length watches.items ≡ length circuits.now.circuits) }
 {
     let count = circuits.len();
     let mut watches = Vec::with_capacity(alloc, count)?;
     for i in 0..count {
-        watches.push(both_for(circuits.get(i as u8)))?;
+        watches.push(pair_for(circuits.get(i as u8)))?;
     }
     Ok(watches)
 }
 
 // Each watch begins anew.
-fn begin_anew(circuits: &CircuitMap, watches: &mut Vec<Both>)
+fn begin_anew(circuits: &CircuitMap, watches: &mut Vec<WatchPair>)
     requires { length watches.old.items ≡ length circuits.now.circuits }
     ensures new { AreWatching circuits.now.circuits (λ port. []) watches.new.items }
     ensures few { AreFew 0 watches.new.items }
 {
     for i in 0..circuits.len() {
-        watches[i] = both_for(circuits.get(i as u8));
+        watches[i] = pair_for(circuits.get(i as u8));
     }
 }
 
@@ -103,7 +102,7 @@ fn look(watch: &mut Watch, ring: &Ring, port: PortId)
 }
 
 // What both ports of a circuit delivered is given to their watches.
-fn look_both(both: &mut Both, ring: &Ring, circuit: u8)
+fn look_both(both: &mut WatchPair, ring: &Ring, circuit: u8)
     requires port { circuit < length ring.now.circuits.circuits }
     requires few { (both.old.a.chunks < 1000000) × (both.old.b.chunks < 1000000) }
     ensures { Looked ring.now circuit both.old both.new }
@@ -127,11 +126,11 @@ fn look_both(both: &mut Both, ring: &Ring, circuit: u8)
 }
 
 // What all ports delivered is given to their watches.
-fn look_all(ring: &Ring, watches: &mut Vec<Both>)
+fn look_all(ring: &Ring, watches: &mut Vec<WatchPair>)
     requires many { length watches.old.items ≡ length ring.now.circuits.circuits }
     requires few { AreFew 999999 watches.old.items }
     ensures many { length watches.new.items ≡ length watches.old.items }
-    ensures each { (i : ℕ) (before after : Both) → slice_get watches.old.items i ≡ Some before → slice_get watches.new.items i ≡ Some after
+    ensures each { (i : ℕ) (before after : WatchPair) → slice_get watches.old.items i ≡ Some before → slice_get watches.new.items i ≡ Some after
         → Looked ring.now i before after }
 {
     for i in 0..ring.circuits().len() {
@@ -143,7 +142,7 @@ fn look_all(ring: &Ring, watches: &mut Vec<Both>)
 pub fn watch_rounds<P: Plant>(
     ring: &mut Ring,
     plant: &mut P,
-    watches: &mut Vec<Both>,
+    watches: &mut Vec<WatchPair>,
 ) -> Result<(), PlantFault>
     requires prepared { IsPrepared ring.old.settings.rate (length ring.old.ids) (P.fibres plant.old) }
     requires whole { ring.old.broken ≡ false }
@@ -180,7 +179,7 @@ fn put_watch(text: &mut Text, ring: &Ring, circuit: u8, named: &Circuit, end: En
 }
 
 // The lines of the watches on both ports of a circuit.
-fn put_both(text: &mut Text, ring: &Ring, circuit: u8, named: &Circuit, both: &Both)
+fn put_both(text: &mut Text, ring: &Ring, circuit: u8, named: &Circuit, both: &WatchPair)
     requires inside { circuit < length ring.now.circuits.circuits }
     requires room { 192 ≤ text.old.room }
     ensures bytes { (heard : PortId → List Given) → IsWatching named.now circuit heard both.now → text.new.bytes ≡ text.old.bytes
@@ -192,7 +191,7 @@ fn put_both(text: &mut Text, ring: &Ring, circuit: u8, named: &Circuit, both: &B
 }
 
 /// The lines of all watches.
-pub fn put_watches(text: &mut Text, ring: &Ring, watches: &Vec<Both>)
+pub fn put_watches(text: &mut Text, ring: &Ring, watches: &Vec<WatchPair>)
     requires many { length watches.now.items ≡ length ring.now.circuits.circuits }
     requires room { 192 * length ring.now.circuits.circuits ≤ text.old.room }
     ensures bytes { (heard : PortId → List Given) → AreWatching ring.now.circuits.circuits heard watches.now.items

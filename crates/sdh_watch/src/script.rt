@@ -12,7 +12,7 @@ ghost use Rattle.sdh_watch.specs.Ports.{AreWatching};
 ghost use Rattle.sdh_scripts.specs.Ports.{lines_room};
 ghost use Rattle.sdh_watch.specs.Running.{MayRun as MayWatch};
 
-use crate::ports::{Both, put_watches, watch_rounds};
+use crate::ports::{WatchPair, put_watches, watch_rounds};
 use sdh_plan::Step;
 use sdh_plant::Plant;
 use sdh_report::Text;
@@ -23,11 +23,11 @@ use sdh_scripts::{Runner, put_settle};
 #[derive(Drop)]
 pub struct WatchRun {
     pub ring: Ring,
-    pub watches: Vec<Both>,
+    pub watches: Vec<WatchPair>,
 }
 
 // The line of a settle step that left a ring in which so many rounds had run, and those of its watches.
-fn put_step(text: &mut Text, ring: &Ring, number: u32, rounds: u64, watches: &Vec<Both>)
+fn put_step(text: &mut Text, ring: &Ring, number: u32, rounds: u64, watches: &Vec<WatchPair>)
     requires ran { 1 ≤ rounds }
     requires many { length watches.now.items ≡ length ring.now.circuits.circuits }
     requires room { lines_room (length ring.now.circuits.circuits) ≤ text.old.room }

@@ -1,83 +1,80 @@
 //! The program's call.
-ghost use Rattle.std.specs.Prelude.{◌≡◌, ◌≢◌, ◌⊎◌, ◌≤◌, IfSome, is_some, true, false};
+ghost use Rattle.std.specs.Prelude.{◌≡◌, ◌⊎◌, ◌≤◌, IfSome, is_some, true, false};
 ghost use Rattle.sdh_basics.specs.Causes.{Rose, IsCounted};
 ghost use Rattle.sdh_plant.specs.Fibres.{HasNoFibres};
 ghost use Rattle.sdh_report.specs.declared.status.Status.{Status};
+ghost use Rattle.sdh_report.specs.Statuses.{number_of};
 ghost use Rattle.sdh_shell.specs.Calls.{words_of, is_run};
 ghost use Rattle.sdh_shell.specs.Reading.{told_if};
 ghost use Rattle.sdh_shell.specs.Failing.{Counts, CameTo};
-ghost use Rattle.sdh_shell.specs.Writing.{Writes};
-ghost use Rattle.sdh_scripts.specs.Outcome.{HasRead, MayEnd};
+ghost use Rattle.sdh_scripts.specs.Outcome.{Answers, HasRead};
 ghost use Rattle.sdh_scripts.specs.Headline.{Shows, AlwaysSettles, MayBeDone};
 ghost use Rattle.sdh_watch.specs.Plans.{ShowsClean};
-ghost use Rattle.sdh_watch.specs.Headline.{asked, watching, EndsAsItRuns};
+ghost use Rattle.sdh_watch.specs.Headline.{asked, watching, IsNumberOf, EndsAsItRuns};
 
 use crate::program::Watching;
 use sdh_outside::{Sink, Source};
 use sdh_plant::Plant;
-use sdh_report::Status;
 use sdh_scripts::call;
 use std::alloc::Global;
 
-/// Does all that the program does. With the word `run` it reads a plan from the source and runs its ring over the
-/// plant; after each settle step that ends, a new watch looks at what each port delivers in 128 more rounds, and the
-/// lines of all watches are written behind that of the step. The last line says how it ended. All is written once, at
-/// the end.
+/// Does all that the program does, and answers the number with which it ends. With the word `run` it reads a plan from the
+/// source and runs its ring over the plant; after each settle step that ends, a new watch looks at what each port delivers
+/// in 128 more rounds, and the lines of all watches are written behind that of the step. The last line says how it ended.
+/// All is written once, at the end.
 pub fn sdhwatch<R: Source, W: Sink, P: Plant>(
     alloc: Global,
     words: &[String],
     source: &mut R,
     sink: &mut W,
     plant: &mut P,
-) -> Status
+) -> u8
     requires fresh { HasNoFibres (P.fibres plant.old) }
 
-    // The status and the text that is written, for a source that tells its bytes, where it is read, and a sink that
+    // The number and the text that is written, for a source that tells its bytes, where it is read, and a sink that
     // tells what was written.
     ensures outcome { let ask = asked (words_of words.now) in
         let reads : Counts = record { before = R.faults source.old; after = R.faults source.new } in
         let calls : Counts = record { before = P.faults plant.old; after = P.faults plant.new } in
-        IfSome (told_if (is_some ask) (R.left source.old))
-        (λ bytes. Writes (λ how text. MayEnd watching ask bytes (P.fibres plant.old) reads calls how text (P.fibres plant.new)) result
-        (W.written sink.old) (W.written sink.new)) }
+        IfSome (told_if (is_some ask) (R.left source.old)) (λ bytes. Answers watching ask bytes (P.fibres plant.old) (P.fibres plant.new)
+        reads calls result (W.written sink.old) (W.written sink.new)) }
 
     // Over honest fibres: each watch shows what its port is owed, and with a large limit no settle step is unsettled.
-    ensures owed { is_run (words_of words.now) ≡ true → (P.fibres plant.old).honest ≡ true
-        → IfSome (R.left source.old) (λ bytes. Shows watching tt ShowsClean bytes result (W.written sink.old) (W.written sink.new)) }
+    ensures owed { is_run (words_of words.now) ≡ true → (P.fibres plant.old).honest ≡ true → IfSome (R.left source.old) (λ bytes.
+        IsNumberOf result (λ how. Shows watching tt ShowsClean bytes how (W.written sink.old) (W.written sink.new))) }
     ensures settles { is_run (words_of words.now) ≡ true → (P.fibres plant.old).honest ≡ true
-        → IfSome (R.left source.old) (λ bytes. AlwaysSettles bytes result) }
+        → IfSome (R.left source.old) (λ bytes. IsNumberOf result (λ how. AlwaysSettles bytes how)) }
 
     // Where arrivals are known, unsettled comes at exactly the settle step in which no quiet window comes within the
     // limit.
     ensures unsettled { is_run (words_of words.now) ≡ true
-        → IfSome (R.left source.old) (λ bytes. EndsAsItRuns bytes (P.fibres plant.old) result) }
+        → IfSome (R.left source.old) (λ bytes. IsNumberOf result (λ how. EndsAsItRuns bytes (P.fibres plant.old) how)) }
 
     // Over every source, sink and plant.
-    ensures usage { result ≡ Status.Usage → is_run (words_of words.now) ≡ false }
-    ensures usage_only { is_run (words_of words.now) ≡ false
-        → (result ≡ Status.Usage) ⊎ (result ≡ Status.WriteFault) ⊎ (result ≡ Status.Memory) }
+    ensures usage { result ≡ 2 → is_run (words_of words.now) ≡ false }
+    ensures usage_only { is_run (words_of words.now) ≡ false → (result ≡ 2) ⊎ (result ≡ 4) ⊎ (result ≡ 70) }
     ensures alone { is_run (words_of words.now) ≡ false → (source.new ≡ source.old) × (plant.new ≡ plant.old) }
-    ensures read_fault { result ≡ Status.ReadFault → Rose (R.faults source.old) (R.faults source.new) }
-    ensures plant_fault { result ≡ Status.PlantFault → Rose (P.faults plant.old) (P.faults plant.new) }
-    ensures write_fault { result ≡ Status.WriteFault → Rose (W.faults sink.old) (W.faults sink.new) }
+    ensures read_fault { result ≡ 3 → Rose (R.faults source.old) (R.faults source.new) }
+    ensures plant_fault { result ≡ 8 → Rose (P.faults plant.old) (P.faults plant.new) }
+    ensures write_fault { result ≡ 4 → Rose (W.faults sink.old) (W.faults sink.new) }
 
     // Where an object's count is exact, each of its calls that failed is told by its fault, and none is tried again; a
-    // write fault may stand in place of what was to be told. With TooLong one byte more than a plan may have was taken.
+    // write fault may stand in place of what was to be told. With 9 one byte more than a plan may have was taken.
     ensures came { let reads : Counts = record { before = R.faults source.old; after = R.faults source.new } in
         let calls : Counts = record { before = P.faults plant.old; after = P.faults plant.new } in
-        (how : Status) × ((result ≡ how) ⊎ (result ≡ Status.WriteFault))
+        (how : Status) × ((result ≡ number_of how) ⊎ (result ≡ 4))
         × CameTo R.exact P.exact reads calls (R.left source.old) (R.left source.new) how }
-    ensures writes { IsCounted W.exact (result ≡ Status.WriteFault) (W.faults sink.old) (W.faults sink.new) }
+    ensures writes { IsCounted W.exact (result ≡ 4) (W.faults sink.old) (W.faults sink.new) }
 
-    ensures memory { result ≡ Status.Memory → (sink.new ≡ sink.old) × (P.fibres plant.new ≡ P.fibres plant.old) }
-    ensures read_whole { result ≡ Status.Ok → HasRead (is_run (words_of words.now)) (R.left source.new) }
+    ensures memory { result ≡ 70 → (sink.new ≡ sink.old) × (P.fibres plant.new ≡ P.fibres plant.old) }
+    ensures read_whole { result ≡ 0 → HasRead (is_run (words_of words.now)) (R.left source.new) }
     ensures later { (R.faults source.old ≤ R.faults source.new) × (W.faults sink.old ≤ W.faults sink.new)
         × (P.faults plant.old ≤ P.faults plant.new) }
 
     // With all that a run needs, and no fault, everything is done, or there is no memory.
     ensures complete { is_run (words_of words.now) ≡ true → MayBeDone watching tt (R.left source.old) (P.fibres plant.old)
         → ¬ (Rose (R.faults source.old) (R.faults source.new)) → ¬ (Rose (W.faults sink.old) (W.faults sink.new))
-        → ¬ (Rose (P.faults plant.old) (P.faults plant.new)) → (result ≡ Status.Ok) ⊎ (result ≡ Status.Memory) }
+        → ¬ (Rose (P.faults plant.old) (P.faults plant.new)) → (result ≡ 0) ⊎ (result ≡ 70) }
 {
-    call::<Watching, R, W, P>(alloc, words, source, sink, plant)
+    call::<Watching, R, W, P>(alloc, words, source, sink, plant).number()
 }

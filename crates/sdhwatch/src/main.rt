@@ -28,6 +28,6 @@ fn main(rt: HostRuntime) -> ExitCode {
     let mut source = StdSource::new(rt.stdin());
     let mut sink = StdSink::new(rt.stdout());
     let mut plant = FibrePlant::new();
-    let status = sdhwatch(rt.alloc(), &words, &mut source, &mut sink, &mut plant);
-    ExitCode::from(status.number())
+    let number = sdhwatch(rt.alloc(), &words, &mut source, &mut sink, &mut plant);
+    ExitCode::from(number)
 }

@@ -13,16 +13,16 @@ loop-i-preserved c =
     let ws = c.loop-i.watches.items in
     let i = c.loop-i.i in
     let inv = c.loop-i.invariant in
-    let made = c.both_for.result in
+    let made = c.pair_for.result in
     let lt : i < length ws = omega arith in
     record {
       len = simp length-set (omega arith);
       new = set_upto (λ j both. (x : Provisioned) → slice_get cs j ≡ Some x → IsWatching x j (λ port. []) both) ws i made lt
           (λ x there. subst (λ y. IsWatching y i (λ port. []) made) (same_Some _ _ (sym c.get.ensures ∙ there))
-          (c.both_for.ensures.new i)) inv.new;
+          (c.pair_for.ensures.new i)) inv.new;
       few =
           set_upto (λ j both. (both.a.chunks ≤ 0) × (both.b.chunks ≤ 0)) ws i made lt
-          (let h = c.both_for.ensures.few in (omega (arith, h.0), omega (arith, h.1))) inv.few;
+          (let h = c.pair_for.ensures.few in (omega (arith, h.0), omega (arith, h.1))) inv.few;
     }
 
 pub returns-clause-new : goal.returns-clause-new

@@ -1,31 +1,44 @@
-use Rattle.std.proofs.Common.{None, refl, subst, inl, inr, ◌∙◌}
+use Rattle.std.proofs.Common.{List, ℕ, refl, ap, sym, subst, inl, inr, ◌∙◌}
 use Rattle.std.specs.Prelude.{IfSome}
 use Rattle.sdh_plant.specs.Arrivals.{Knows}
+use Rattle.sdh_report.specs.declared.status.Status.{Status}
+use Rattle.sdh_report.specs.Statuses.{number_of}
 use Rattle.sdh_shell.specs.Calls.{words_of}
+use Rattle.sdh_shell.specs.Endings.{statuses}
 use Rattle.sdh_shell.specs.Failing.{Counts}
 use Rattle.sdh_shell.specs.Reading.{told_if}
-use Rattle.sdh_shell.specs.Writing.{Writes}
+use Rattle.sdh_shell.specs.Writing.{WritesWith}
 use Rattle.sdh_shell.proofs.Asked.{is_asked, not_asked, no_run, asked_is}
+use Rattle.sdh_shell.proofs.Told.{told_all}
 use Rattle.sdh_owed.specs.Plans.{world_of}
-use Rattle.sdh_scripts.specs.Outcome.{HasRead, MayEnd}
+use Rattle.sdh_scripts.specs.Outcome.{Answers, HasRead, MayEnd, told}
 use Rattle.sdh_scripts.specs.Headline.{Shows, AlwaysSettles}
 use Rattle.sdh_scripts.proofs.Stages.{reads_all}
 use Rattle.sdh_scripts.proofs.Promises.{promised, shows, settles, ends_as}
 use Rattle.sdh_watch.specs.Plans.{ran_of, ShowsClean}
-use Rattle.sdh_watch.specs.Headline.{asked, watching, EndsAsItRuns}
+use Rattle.sdh_watch.specs.Headline.{asked, watching, IsNumberOf, EndsAsItRuns}
 use Rattle.sdh_watch.proofs.Deeds.{run_alone, never_writes}
+use Rattle.sdh_watch.proofs.Numbers.{is_done, is_usage}
 use Rattle.sdh_watch.proofs.top.sdhwatch.Goals as goal
 
 pub returns-clause-outcome : goal.returns-clause-outcome
 returns-clause-outcome g c =
     let means = g.P.Plant.fibres in
+    let source = g.R.Source.left c.args.source.now in
     let a = asked (words_of c.args.words.now) in
     let reads : Counts = record { before = g.R.Source.faults c.args.source.now; after = g.R.Source.faults c.call.new.source } in
     let calls : Counts = record { before = g.P.Plant.faults c.args.plant.now; after = g.P.Plant.faults c.call.new.plant } in
-    subst (λ b. IfSome (told_if b (g.R.Source.left c.args.source.now)) (λ bytes. Writes
-    (λ how text. MayEnd watching a bytes (means c.args.plant.now) reads calls how text (means c.call.new.plant)) c.call.result
-    (g.W.Sink.written c.args.sink.now) (g.W.Sink.written c.call.new.sink)))
-    (reads_all watching (λ ask. refl) a) c.call.ensures.outcome
+    let old = g.W.Sink.written c.args.sink.now in
+    let new = g.W.Sink.written c.call.new.sink in
+    let f = means c.args.plant.now in
+    let left = means c.call.new.plant in
+    subst (λ b. IfSome (told_if b source) (λ (bytes : List ℕ). Answers watching a bytes f left reads calls c.number.result old new))
+    (reads_all watching (λ ask. refl) a)
+    (told_all (told watching a source)
+    (λ (bytes : List ℕ). WritesWith statuses (λ (how : Status) (text : List ℕ). MayEnd watching a bytes f reads calls how text left)
+    c.call.result old new)
+    (λ (bytes : List ℕ). Answers watching a bytes f left reads calls c.number.result old new)
+    (λ bytes x. record { ending = c.call.result; numbered = c.number.ensures; writes = x }) c.call.ensures.outcome)
 
 pub returns-clause-owed : goal.returns-clause-owed
 returns-clause-owed g c = λ run honest. (
@@ -37,9 +50,13 @@ returns-clause-owed g c = λ run honest. (
     let old = g.W.Sink.written c.args.sink.now in
     let new = g.W.Sink.written c.call.new.sink in
     promised watching tt f left (asked (words_of c.args.words.now)) reads calls (g.R.Source.left c.args.source.now) c.call.result old new
-    (λ bytes. Shows watching tt ShowsClean bytes c.call.result old new) (is_asked (words_of c.args.words.now) run)
-    (λ bytes x. shows watching tt f left reads calls bytes c.call.result old new x ShowsClean run_alone
-    (λ plan told end came. came.owed honest)) c.call.ensures.outcome)
+    (λ bytes. IsNumberOf c.number.result (λ how. Shows watching tt ShowsClean bytes how old new)) (is_asked (words_of c.args.words.now) run)
+    (λ bytes x. (
+      c.call.result,
+      c.number.ensures,
+      shows watching tt f left reads calls bytes c.call.result old new x ShowsClean run_alone
+          (λ plan told end came. came.owed honest),
+    )) c.call.ensures.outcome)
 
 pub returns-clause-settles : goal.returns-clause-settles
 returns-clause-settles g c = λ run honest. (
@@ -51,9 +68,13 @@ returns-clause-settles g c = λ run honest. (
     let old = g.W.Sink.written c.args.sink.now in
     let new = g.W.Sink.written c.call.new.sink in
     promised watching tt f left (asked (words_of c.args.words.now)) reads calls (g.R.Source.left c.args.source.now) c.call.result old new
-    (λ bytes. AlwaysSettles bytes c.call.result) (is_asked (words_of c.args.words.now) run)
-    (λ bytes x. settles watching tt f left reads calls bytes c.call.result old new x run_alone never_writes
-    (λ plan told end came. came.settles honest)) c.call.ensures.outcome)
+    (λ bytes. IsNumberOf c.number.result (λ how. AlwaysSettles bytes how)) (is_asked (words_of c.args.words.now) run)
+    (λ bytes x. (
+      c.call.result,
+      c.number.ensures,
+      settles watching tt f left reads calls bytes c.call.result old new x run_alone never_writes
+          (λ plan told end came. came.settles honest),
+    )) c.call.ensures.outcome)
 
 pub returns-clause-unsettled : goal.returns-clause-unsettled
 returns-clause-unsettled g c = λ run. (
@@ -65,17 +86,29 @@ returns-clause-unsettled g c = λ run. (
     let old = g.W.Sink.written c.args.sink.now in
     let new = g.W.Sink.written c.call.new.sink in
     promised watching tt f left (asked (words_of c.args.words.now)) reads calls (g.R.Source.left c.args.source.now) c.call.result old new
-    (λ bytes. EndsAsItRuns bytes f c.call.result) (is_asked (words_of c.args.words.now) run)
-    (λ bytes x plan tells h known. ends_as watching tt f left reads calls bytes c.call.result old new x run_alone never_writes
-    (λ plan. Knows (world_of plan f).fibres) (λ plan. (ran_of plan f).ending)
-    (λ plan told end came knows. elim (came.known knows) [ inl done ↦ inl done.end_is | inr cut ↦ inr cut.0 ])
-    plan c.call.result tells refl h known) c.call.ensures.outcome)
+    (λ bytes. IsNumberOf c.number.result (λ how. EndsAsItRuns bytes f how)) (is_asked (words_of c.args.words.now) run)
+    (λ bytes x. (
+      c.call.result,
+      c.number.ensures,
+      λ plan tells h known. ends_as watching tt f left reads calls bytes c.call.result old new x run_alone never_writes
+          (λ plan. Knows (world_of plan f).fibres) (λ plan. (ran_of plan f).ending)
+          (λ plan told end came knows. elim (came.known knows) [ inl done ↦ inl done.end_is | inr cut ↦ inr cut.0 ])
+          plan c.call.result tells refl h known,
+    )) c.call.ensures.outcome)
 
 pub returns-clause-usage : goal.returns-clause-usage
-returns-clause-usage g c = λ e. no_run (words_of c.args.words.now) (c.call.ensures.usage e)
+returns-clause-usage g c = λ e.
+    no_run (words_of c.args.words.now) (c.call.ensures.usage (is_usage c.call.result (sym c.number.ensures ∙ e)))
 
 pub returns-clause-usage_only : goal.returns-clause-usage_only
-returns-clause-usage_only g c = λ e. c.call.ensures.usage_only (not_asked (words_of c.args.words.now) e)
+returns-clause-usage_only g c = λ e.
+    elim (c.call.ensures.usage_only (not_asked (words_of c.args.words.now) e)) [
+      | inl is ↦ inl (c.number.ensures ∙ ap number_of is)
+      | inr other ↦ elim other [
+        | inl is ↦ inr (inl (c.number.ensures ∙ ap number_of is))
+        | inr is ↦ inr (inr (c.number.ensures ∙ ap number_of is))
+      ]
+    ]
 
 pub returns-clause-alone : goal.returns-clause-alone
 returns-clause-alone g c = λ e. c.call.ensures.unasked (not_asked (words_of c.args.words.now) e)
@@ -84,7 +117,11 @@ pub returns-clause-read_whole : goal.returns-clause-read_whole
 returns-clause-read_whole g c =
     let words = words_of c.args.words.now in
     λ e. subst (λ b. HasRead b (g.R.Source.left c.call.new.source)) (reads_all watching (λ ask. refl) (asked words) ∙ asked_is words)
-    (c.call.ensures.read_whole e)
+    (c.call.ensures.read_whole (is_done c.call.result (sym c.number.ensures ∙ e)))
 
 pub returns-clause-complete : goal.returns-clause-complete
-returns-clause-complete g c = λ e. c.call.ensures.complete tt (is_asked (words_of c.args.words.now) e)
+returns-clause-complete g c = λ e may fine_reads fine_writes fine_calls.
+    elim (c.call.ensures.complete tt (is_asked (words_of c.args.words.now) e) may fine_reads fine_writes fine_calls) [
+      | inl done ↦ inl (c.number.ensures ∙ ap number_of done)
+      | inr none ↦ inr (c.number.ensures ∙ ap number_of none)
+    ]

@@ -3,6 +3,7 @@ use Rattle.std.proofs.lemmas.Result.{on_ok_weaker}
 use Rattle.sdh_rounds.specs.Outcome.{IsOneRound}
 use Rattle.sdh_sncp.specs.Stations.{path_node}
 use Rattle.sdh_sncp.specs.Ring.{HeldPath, world}
+use Rattle.sdh_sncp.specs.Placed.{IsPlacedRing}
 use Rattle.sdh_sncp.proofs.Rings.{may_receive, may_send, ring_after}
 use Rattle.sdh_sncp.proofs.Wholes.{whole_after}
 use Rattle.sdh_sncp.proofs.ring.PathRing.round.Goals as goal
@@ -27,10 +28,12 @@ returns g c =
     subst (λ (r : HeldPath). IsOneRound path_node g.P.Plant.exact (world r f) c.round.result
     (world c.round.new.self (g.P.Plant.fibres c.round.new.plant)) (g.P.Plant.faults c.args.plant.now)
     (g.P.Plant.faults c.round.new.plant)) c.self.view_is c.round.ensures in
+    let placed = subst IsPlacedRing c.self.view_is
+    (c.self.invariant.placed (ap (λ (r : HeldPath). r.broken) c.self.view_is ∙ c.requires.whole)) in
     record {
       ok = one.ok;
       prepared = one.prepared;
-      whole = on_ok_weaker c.round.result (λ is whole. whole_after _ _ is whole) one.ok;
+      paired = on_ok_weaker c.round.result (λ is paired. (whole_after _ _ is (record { placed = placed; paired = paired })).paired) one.ok;
       err = one.err;
       broken = one.broken;
       breaks = one.breaks;

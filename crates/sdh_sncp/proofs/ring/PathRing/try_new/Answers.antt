@@ -3,7 +3,7 @@ use Rattle.sdh_payload.specs.Outlet.{silent}
 use Rattle.sdh_plant.specs.Calls.{prepared}
 use Rattle.sdh_sncp.specs.Ring.{HeldPath, world, outlet_at}
 use Rattle.sdh_sncp.specs.Fixed.{AreAlone, IsRing}
-use Rattle.sdh_sncp.specs.Laws.{IsWhole}
+use Rattle.sdh_sncp.specs.Laws.{IsPaired}
 use Rattle.sdh_sncp.proofs.Rings.{fresh_is, new_is_ring}
 use Rattle.sdh_sncp.proofs.ring.PathRing.try_new.Goals as goal
 
@@ -13,11 +13,11 @@ invariant_of-result c =
     subst IsRing (sym (c.in_ok-ring.ensures ∙ fresh_is c.args.settings c.args.map c.args.circuits))
     (new_is_ring c.args.settings c.args.map c.args.circuits c.len.ensures.ids c.len-2.ensures.form c.requires.slots c.requires.kept alone)
 
-pub returns-clause-whole : goal.returns-clause-whole
-returns-clause-whole c = λ f honest.
-    subst (λ (r : HeldPath). IsWhole (world r (prepared c.args.settings.rate (length c.args.map) f)))
+pub returns-clause-paired : goal.returns-clause-paired
+returns-clause-paired c = λ f honest.
+    subst (λ (r : HeldPath). IsPaired (world r (prepared c.args.settings.rate (length c.args.map) f)))
     (sym (c.in_ok-ring.ensures ∙ fresh_is c.args.settings c.args.map c.args.circuits))
-    (c.new_worlds_are_whole.ensures c.args.settings c.args.map c.args.circuits f c.len.ensures.ids honest)
+    (c.new_worlds_are_whole.ensures c.args.settings c.args.map c.args.circuits f c.len.ensures.ids honest).paired
 
 pub returns-clause-silent : goal.returns-clause-silent
 returns-clause-silent c =

@@ -1,6 +1,0 @@
-use Rattle.std.proofs.lemmas.Result.{IfOk-weaker}
-use Rattle.sdh_retime_cli.proofs.top.report_on.Goals as goal
-
-pub returns-clause-unsteady : goal.returns-clause-unsteady
-returns-clause-unsteady g c =
-    IfOk-weaker c.run.result _ _ (λ r h turn is. (c.in-Some.digits.now, c.in-Some.ensures.0, (turn, h turn is))) c.run.ensures.unsteady
