@@ -6,6 +6,7 @@ pub mod Known
 pub mod Reporting
 pub mod Outcomes
 pub mod Texts
+pub mod Tellers
 pub mod Ports
 pub mod Answered
 pub mod Lists

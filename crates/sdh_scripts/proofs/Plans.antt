@@ -1,5 +1,6 @@
 -- What is told of a plan, by the laws of its ring.
-use Rattle.std.proofs.Common.{◌≡◌, true, ℕ, ◌≤◌, List, [], ◌++◌, length, refl, ap, sym, ◌∙◌, subst, arith, inl, inr}
+use Rattle.std.proofs.Common.{◌≡◌, true, ℕ, ◌≤◌, List, [], ◌++◌, length, refl, ap, sym, ◌∙◌, subst, arith, inl, inr, Some}
+use Rattle.std.proofs.Common.{append-nil}
 use Rattle.std.specs.List.{flat_map}
 use Rattle.sdh_plant.specs.Fibres.{Fibres}
 use Rattle.sdh_plant.specs.Calls.{prepared}
@@ -19,6 +20,7 @@ use Rattle.sdh_scripts.specs.Laws.{KeepsRounds}
 use Rattle.sdh_scripts.specs.Plans.{Account, world_of, ran_of, Comes, ComesKnown, MaySettle, IsRunOf, Tells}
 use Rattle.sdh_scripts.specs.NewRuns.{MayBegin, IsOf}
 use Rattle.sdh_scripts.specs.declared.run.NewRun.{NewRun}
+use Rattle.sdh_scripts.proofs.Texts.{silent_tail}
 use Rattle.sdh_scripts.proofs.Outcomes.{EndsIn, comes_ends, known_comes, settled_done, known_done, settled_by, fault_settles}
 
 -- ---- what a run over new fibres came to
@@ -32,13 +34,19 @@ came_none walk limit text_of steps w f left text empty same = record { reports =
 pub came_ran : {N T : Type 0} (walk : Walk N T) (limit : ℕ) (text_of : T → List ℕ) (steps : List Step) (r : HeldRing N) (rate : Rate)
     (n : ℕ) (f made : Fibres) (last : World N) (old new : List ℕ) (end : Status)
     → rate ≡ r.settings.rate → n ≡ length r.ids → made ≡ prepared rate n f → old ≡ []
-    → Lists walk limit text_of steps (world r made) old new end last → Came walk limit text_of steps (with_fibres r f) f new end last.fibres
+    → Lists walk limit text_of (λ told. []) steps (world r made) (Some old) (Some new) end last
+    → Came walk limit text_of steps (with_fibres r f) f new end last.fibres
 came_ran walk limit text_of steps r rate n f made last old new end rates nodes is empty x =
+    let text = flat_map text_of x.reports in
+    let all : new ≡ old ++ (text ++ x.tail) = x.text in
     let laid : made ≡ prepared r.settings.rate (length r.ids) f =
     is ∙ ap (λ (a : Rate). prepared a n f) rates ∙ ap (λ (k : ℕ). prepared r.settings.rate k f) nodes in
     record {
       reports = x.reports;
-      text_is = x.text ∙ ap (λ (t : List ℕ). t ++ flat_map text_of x.reports) empty;
+      text_is =
+          all ∙ ap (λ (t : List ℕ). t ++ (text ++ x.tail)) empty
+          ∙ ap (λ (t : List ℕ). text ++ t) (silent_tail walk limit text_of steps (world r made) (Some old) (Some new) end last x)
+          ∙ append-nil text;
       ran = inr (last, refl, subst (λ (g : Fibres). Runs walk limit 0 steps (world r g) x.reports end last) laid x.runs);
     }
 

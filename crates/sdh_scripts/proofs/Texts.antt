@@ -1,17 +1,24 @@
 -- What a run of steps writes, step by step.
-use Rattle.std.proofs.Common.{◌≡◌, ◌<◌, ℕ, zero, suc, ◌+◌, ◌-◌, ◌*◌, ◌≤◌, List, [], ◌∷◌, ◌++◌, length, drop, get_or, refl, ap, sym, ◌∙◌}
-use Rattle.std.proofs.Common.{subst, inl, arith, append-nil, append_assoc, drop-cons, add-one}
+use Rattle.std.proofs.Common.{◌≡◌, ◌<◌, ℕ, zero, suc, ◌+◌, ◌-◌, ◌*◌, ◌≤◌, List, [], ◌∷◌, ◌++◌, length, take, drop, get_or, Option, refl, ap}
+use Rattle.std.proofs.Common.{sym, ◌∙◌, subst, inl, inr, arith, append-nil, append_assoc, drop-cons, add-one, take-append-drop, take_all}
+use Rattle.std.proofs.lemmas.List.{length-append}
 use Rattle.std.specs.List.{flat_map}
+use Rattle.std.specs.Io.KnownBytes.{Appends}
+use Rattle.std.proofs.KnownBytes.{Appends-nil, Appends-trans}
 use Rattle.std.proofs.lemmas.Grind.{flat_map-append}
 use Rattle.sdh_rounds.specs.Held.{World}
+use Rattle.sdh_rounds.specs.Quiet.{Unsettles}
 use Rattle.sdh_plan.specs.declared.step.Step.{Step}
 use Rattle.sdh_plan.specs.declared.step.Step.TheVariants as step
 use Rattle.sdh_report.specs.declared.status.Status.{Status}
 use Rattle.sdh_report.specs.declared.status.Status.TheVariants as status
+use Rattle.sdh_shell.proofs.Pieces.{fewer_behind}
 use Rattle.sdh_scripts.specs.Walks.{Walk}
-use Rattle.sdh_scripts.specs.Scripts.{Runs}
-use Rattle.sdh_scripts.specs.Texts.{HasRoom, Went, StopsAt, Lists}
-use Rattle.sdh_scripts.specs.Runners.{Wrote}
+use Rattle.sdh_scripts.specs.Scripts.{Breaks, Runs}
+use Rattle.sdh_scripts.specs.Texts.{room_for, HasRoom, Went, WritesLast, StopsAt, FailsAt, Lists, WriteFailed}
+use Rattle.sdh_scripts.specs.Runners.{Refused, WroteStep}
+use Rattle.sdh_scripts.specs.Tellers.{WasToWrite, WroteBegun}
+use Rattle.sdh_scripts.specs.declared.teller.StepError.TheVariants as why
 
 -- the step at a place, and those behind it
 pub here : (steps : List Step) (i : ℕ) (d : Step) → i < length steps → drop i steps ≡ get_or steps i d ∷ drop (i + 1) steps
@@ -27,49 +34,207 @@ room_now each before room few h = one each (64 - before) (omega arith) h
     one c zero some h = absurd (omega arith)
     one c (suc k) some h = omega arith
 
+-- and for a line behind it
+pub room_more : (each before : ℕ) → before + 1 ≤ 64 → each + 96 ≤ room_for each before
+room_more each before few = one each (64 - before) (omega arith)
+  where
+    one : (c k : ℕ) → 1 ≤ k → c + 96 ≤ c * k + 96
+    one c zero some = absurd (omega arith)
+    one c (suc k) some = omega arith
+
+-- and behind it for what is written of those that come then
+pub room_next : (each before : ℕ) → before + 1 ≤ 64 → each + room_for each (before + 1) ≡ room_for each before
+room_next each before few =
+    let left : suc (64 - (before + 1)) ≡ 64 - before = omega (arith, few) in
+    one each (64 - (before + 1)) ∙ ap (λ k. each * k + 96) left
+  where
+    one : (c k : ℕ) → c + (c * k + 96) ≡ c * suc k + 96
+    one c k = omega arith
+
+-- there is room for the last line
+pub room_line : (each before : ℕ) → 96 ≤ room_for each before
+room_line each before = omega arith
+
 -- ---- steps
 
 module _ {N T : Type 0} (walk : Walk N T) (limit : ℕ) (text_of : T → List ℕ) where
+  -- no step
+  pub went_none : (w : World N) (old : Option (List ℕ)) → Went walk limit text_of 0 [] w old old 0 w
+  went_none w old = record { reports = []; text = Appends-nil old; counted = refl; goes = λ later rest end last x. x }
+
   -- a settle step that ended
-  pub settled_went : (before : ℕ) (w left : World N) (old new : List ℕ) → Wrote walk limit (before + 1) text_of w left old new
-      → (later : List Step) → Went walk limit text_of before (step.Settle ∷ later) w old new (before + 1) later left
-  settled_went before w left old new x later = record {
+  pub settled_went : (before : ℕ) (w left : World N) (old new : Option (List ℕ)) → WroteStep walk limit (before + 1) text_of w left old new
+      → Went walk limit text_of before (step.Settle ∷ []) w old new (before + 1) left
+  settled_went before w left old new x = record {
     reports = x.told ∷ [];
-    text = x.text ∙ ap (λ l. old ++ l) (sym (append-nil (text_of x.told)));
-    goes = λ rest end last y. inl (x.told, left, rest, x.ended, refl, y);
+    text = subst (Appends old new) (sym (append-nil (text_of x.told))) x.text;
+    counted = refl;
+    goes = λ later rest end last y. inl (x.told, left, rest, x.ended, refl, y);
   }
 
-  pub went_more : (steps middle later : List Step) (number now : ℕ) (w mid left : World N) (old text new : List ℕ)
-      → Went walk limit text_of 0 steps w old text number middle mid → Went walk limit text_of number middle mid text new now later left
-      → Went walk limit text_of 0 steps w old new now later left
-  went_more steps middle later number now w mid left old text new x y = record {
-    reports = x.reports ++ y.reports;
-    text =
-        y.text ∙ ap (λ l. l ++ flat_map text_of y.reports) x.text
-        ∙ append_assoc old (flat_map text_of x.reports) (flat_map text_of y.reports)
-        ∙ ap (λ l. old ++ l) (sym (flat_map-append text_of x.reports y.reports));
+  -- a step that runs no round
+  changed_goes : (s : Step) (before : ℕ) (later : List Step) (w : World N) (rest : List T) (end : Status) (last : World N)
+      → (s ≡ step.Settle → ⊥) → Runs walk limit before later (walk.does s w) rest end last
+      → Runs walk limit before (s ∷ later) w rest end last
+  changed_goes step.Settle before later w rest end last other x = absurd (other refl)
+  changed_goes s before later w rest end last other x = inl x
+
+  pub changed_went : (s : Step) (before : ℕ) (w left : World N) (old : Option (List ℕ)) → (s ≡ step.Settle → ⊥) → left ≡ walk.does s w
+      → Went walk limit text_of before (s ∷ []) w old old before left
+  changed_went s before w left old other is = record {
+    reports = [];
+    text = Appends-nil old;
+    counted = omega arith;
     goes =
-        λ rest end last z. subst (λ rs. Runs walk limit 0 steps w rs end last) (sym (append_assoc x.reports y.reports rest))
-        (x.goes (y.reports ++ rest) end last (y.goes rest end last z));
+        λ later rest end last x. changed_goes s before later w rest end last other
+        (subst (λ (v : World N). Runs walk limit before later v rest end last) is x);
   }
+
+  pub went_more : (gone more : List Step) (number now : ℕ) (w mid left : World N) (old text new : Option (List ℕ))
+      → Went walk limit text_of 0 gone w old text number mid → Went walk limit text_of number more mid text new now left
+      → Went walk limit text_of 0 (gone ++ more) w old new now left
+  went_more gone more number now w mid left old text new x y =
+      let a = x.reports in
+      let b = y.reports in
+      record {
+        reports = a ++ b;
+        text =
+            subst (Appends old new) (sym (flat_map-append text_of a b))
+            (Appends-trans old text new (flat_map text_of a) (flat_map text_of b) x.text y.text);
+        counted = omega (arith, x.counted, y.counted, length-append a b);
+        goes =
+            λ later rest end last z. subst (λ (l : List Step). Runs walk limit 0 l w ((a ++ b) ++ rest) end last)
+            (sym (append_assoc gone more later))
+            (subst (λ (rs : List T). Runs walk limit 0 (gone ++ (more ++ later)) w rs end last) (sym (append_assoc a b rest))
+            (x.goes (more ++ later) (b ++ rest) end last (y.goes later rest end last z)));
+      }
+
+  -- what came of them
+  pub went_to : (gone : List Step) (number : ℕ) (w left : World N) (old new : Option (List ℕ))
+      → (x : Went walk limit text_of 0 gone w old new number left) → Runs walk limit 0 gone w x.reports status.Ok left
+  went_to gone number w left old new x =
+      subst (λ (l : List Step). Runs walk limit 0 l w x.reports status.Ok left) (append-nil gone)
+      (subst (λ (rs : List T). Runs walk limit 0 (gone ++ []) w rs status.Ok left) (append-nil x.reports)
+      (x.goes [] [] status.Ok left (refl, (refl, refl))))
+
+module _ {N T : Type 0} (walk : Walk N T) (limit : ℕ) (text_of begun_of : T → List ℕ) where
+  -- ---- a step ends the script
+
+  -- a settle step that was unsettled
+  pub unsettled_stops : (before : ℕ) (w left : World N) (old new : Option (List ℕ)) → Unsettles walk.station w limit left
+      → WroteBegun walk limit (before + 1) text_of begun_of w why.Unsettled left old new
+      → StopsAt walk limit begun_of before step.Settle w old new (status.Unsettled (before + 1)) left
+  unsettled_stops before w left old new u x = record {
+    runs = λ later. inr (inl (u, (refl, refl)));
+    tail = x.0;
+    writes = (inr (inl (u, (refl, refl))), x.1);
+    text = x.2;
+  }
+
+  -- one that a fault broke off
+  pub broken_stops : (before : ℕ) (w left : World N) (old new : Option (List ℕ)) → Breaks walk limit w left.fibres
+      → WroteBegun walk limit (before + 1) text_of begun_of w why.PlantFault left old new
+      → StopsAt walk limit begun_of before step.Settle w old new status.PlantFault left
+  broken_stops before w left old new b x = record {
+    runs = λ later. inr (inr (b, (refl, refl)));
+    tail = x.0;
+    writes = (inr (inr (b, (refl, refl))), x.1);
+    text = x.2;
+  }
+
+  -- a step that was refused
+  pub refused_stops : (s : Step) (before : ℕ) (w left : World N) (old : Option (List ℕ)) → Refused s w.fibres left.fibres
+      → StopsAt walk limit begun_of before s w old old status.PlantFault left
+  refused_stops (step.Fibre e) before w left old same = record {
+    runs = λ later. inr (same, (refl, refl));
+    tail = [];
+    writes = ((same, (refl, refl)), refl);
+    text = Appends-nil old;
+  }
+  refused_stops s before w left old same = absurd same
+
+  -- a settle step in which a write failed
+  pub cut_fails : (before : ℕ) (w left : World N) (old new : Option (List ℕ))
+      → WroteBegun walk limit (before + 1) text_of begun_of w why.WriteFault left old new
+      → FailsAt walk limit text_of begun_of before step.Settle w old new left
+  cut_fails before w left old new x = record { settles = refl; text = x.0; was = x.1; front = x.2 }
+
+  -- ---- a script
 
   -- nothing is left
-  pub went_all : (i : ℕ) (steps : List Step) (number : ℕ) (w left : World N) (old new : List ℕ) → drop i steps ≡ []
-      → Went walk limit text_of 0 steps w old new number (drop i steps) left
-      → Lists walk limit text_of steps w old new status.Ok left
-  went_all i steps number w left old new none x = record {
-    reports = x.reports ++ [];
-    text = x.text ∙ ap (λ rs. old ++ flat_map text_of rs) (sym (append-nil x.reports));
-    runs = x.goes [] status.Ok left (subst (λ l. Runs walk limit number l left [] status.Ok left) (sym none) (refl, (refl, refl)));
+  pub went_all : (i : ℕ) (steps : List Step) (number : ℕ) (w left : World N) (old new : Option (List ℕ)) → length steps ≤ i
+      → Went walk limit text_of 0 (take i steps) w old new number left → Lists walk limit text_of begun_of steps w old new status.Ok left
+  went_all i steps number w left old new all x = record {
+    reports = x.reports;
+    runs =
+        subst (λ (l : List Step). Runs walk limit 0 l w x.reports status.Ok left) (take_all i steps all)
+        (went_to walk limit text_of (take i steps) number w left old new x);
+    tail = [];
+    tail_is = inl (refl, refl);
+    text = subst (Appends old new) (sym (append-nil (flat_map text_of x.reports))) x.text;
   }
 
-  -- a step ends the script
-  pub went_stop : (i : ℕ) (steps : List Step) (s : Step) (number : ℕ) (w mid left : World N) (old new : List ℕ) (how : Status)
-      → drop i steps ≡ s ∷ drop (i + 1) steps
-      → Went walk limit text_of 0 steps w old new number (drop i steps) mid → StopsAt walk limit number s mid how left
-      → Lists walk limit text_of steps w old new how left
-  went_stop i steps s number w mid left old new how is x stops = record {
-    reports = x.reports ++ [];
-    text = x.text ∙ ap (λ rs. old ++ flat_map text_of rs) (sym (append-nil x.reports));
-    runs = x.goes [] how left (subst (λ l. Runs walk limit number l mid [] how left) (sym is) (stops (drop (i + 1) steps)));
-  }
+  module _ (i : ℕ) (steps : List Step) (s : Step) (is : drop i steps ≡ s ∷ drop (i + 1) steps) where
+    whole : take i steps ++ s ∷ drop (i + 1) steps ≡ steps
+    whole = ap (λ (l : List Step). take i steps ++ l) (sym is) ∙ take-append-drop i steps
+
+    -- a step ends the script
+    pub went_stop : (number : ℕ) (w mid left : World N) (old text new : Option (List ℕ)) (how : Status)
+        → Went walk limit text_of 0 (take i steps) w old text number mid → StopsAt walk limit begun_of number s mid text new how left
+        → Lists walk limit text_of begun_of steps w old new how left
+    went_stop number w mid left old text new how x y =
+        let counted : number ≡ length x.reports = omega (arith, x.counted) in
+        record {
+          reports = x.reports;
+          runs =
+              subst (λ (rs : List T). Runs walk limit 0 steps w rs how left) (append-nil x.reports)
+              (subst (λ (l : List Step). Runs walk limit 0 l w (x.reports ++ []) how left) whole
+              (x.goes (s ∷ drop (i + 1) steps) [] how left (y.runs (drop (i + 1) steps))));
+          tail = y.tail;
+          tail_is =
+              inr (record {
+                gone = take i steps;
+                stops = s;
+                later = drop (i + 1) steps;
+                steps_are = sym whole;
+                mid = mid;
+                went = went_to walk limit text_of (take i steps) number w mid old text x;
+                writes = subst (λ k. WritesLast walk limit begun_of k s mid y.tail how left) counted y.writes;
+              });
+          text = Appends-trans old text new (flat_map text_of x.reports) y.tail x.text y.text;
+        }
+
+    -- a write fails
+    pub went_fail : (number : ℕ) (w mid left : World N) (old text new : Option (List ℕ))
+        → Went walk limit text_of 0 (take i steps) w old text number mid
+        → FailsAt walk limit text_of begun_of number s mid text new left
+        → WriteFailed walk limit text_of begun_of steps w old new left
+    went_fail number w mid left old text new x y =
+        let counted : number ≡ length x.reports = omega (arith, x.counted) in
+        record {
+          gone = take i steps;
+          later = drop (i + 1) steps;
+          steps_are = sym whole ∙ ap (λ (a : Step). take i steps ++ a ∷ drop (i + 1) steps) y.settles;
+          reports = x.reports;
+          mid = mid;
+          went = went_to walk limit text_of (take i steps) number w mid old text x;
+          text = y.text;
+          was = subst (λ k. WasToWrite walk limit (k + 1) text_of begun_of mid y.text left) counted y.was;
+          front = fewer_behind old text new (flat_map text_of x.reports) y.text x.text y.front;
+        }
+
+-- ---- where nothing is written of a settle step that didn't end
+
+module _ {N T : Type 0} (walk : Walk N T) (limit : ℕ) where
+  silent_last : (s : Step) (before : ℕ) (w : World N) (text : List ℕ) (end : Status) (left : World N)
+      → WritesLast walk limit (λ (told : T). []) before s w text end left → text ≡ []
+  silent_last step.Settle before w text end left x = x.1.text_is
+  silent_last s before w text end left x = x.1
+
+  -- no more is written than of the reports
+  pub silent_tail : (text_of : T → List ℕ) (steps : List Step) (w : World N) (old new : Option (List ℕ)) (end : Status) (left : World N)
+      → (x : Lists walk limit text_of (λ told. []) steps w old new end left) → x.tail ≡ []
+  silent_tail text_of steps w old new end left x = elim x.tail_is [
+    | inl done ↦ done.1
+    | inr y ↦ silent_last y.stops (length x.reports) y.mid x.tail end left y.writes
+  ]

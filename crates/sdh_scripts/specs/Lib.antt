@@ -6,6 +6,7 @@ pub mod Scripts
 pub mod Ports
 pub mod Texts
 pub mod Runners
+pub mod Tellers
 pub mod Outcomes
 pub mod Laws
 pub mod Plans

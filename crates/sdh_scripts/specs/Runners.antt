@@ -1,5 +1,6 @@
 -- What one step of a script comes to.
-use Rattle.std.specs.Prelude.{ℕ, ◌≡◌, List, ◌++◌}
+use Rattle.std.specs.Prelude.{ℕ, ◌≡◌, List, Option}
+use Rattle.std.specs.Io.KnownBytes.{Appends}
 use Rattle.sdh_plant.specs.Fibres.{Fibres}
 use Rattle.sdh_rounds.specs.Held.{World}
 use Rattle.sdh_rounds.specs.Quiet.{Unsettles}
@@ -15,12 +16,12 @@ abbrev pub Refused : Step → Fibres → Fibres → Type 0
 Refused (step.Fibre e) f g = g ≡ f
 Refused s f g = ⊥
 
--- a settle step ended, and what is written of it was appended to the text
-pub record Wrote {N T : Type 0} (walk : Walk N T) (limit number : ℕ) (text_of : T → List ℕ) (w left : World N)
-    (old new : List ℕ) : Type 0 where
+-- a settle step ended, and what is written of it was appended
+pub record WroteStep {N T : Type 0} (walk : Walk N T) (limit number : ℕ) (text_of : T → List ℕ) (w left : World N)
+    (old new : Option (List ℕ)) : Type 0 where
   pub told : T
   pub ended : Ended walk limit number w told left
-  pub text : new ≡ old ++ text_of told
+  pub text : Appends old new (text_of told)
 
 -- why a settle step, with the rounds behind it, didn't end
 abbrev pub EndsBy : {N T : Type 0} → Walk N T → ℕ → World N → SettleError → World N → Type 0

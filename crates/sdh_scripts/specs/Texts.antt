@@ -1,33 +1,91 @@
 -- What a run of steps writes.
-use Rattle.std.specs.Prelude.{ℕ, ◌≡◌, ◌+◌, ◌-◌, ◌*◌, ◌≤◌, List, [], ◌∷◌, ◌++◌}
+use Rattle.std.specs.Prelude.{ℕ, ◌≡◌, ◌⊎◌, ◌+◌, ◌-◌, ◌*◌, ◌≤◌, List, [], ◌∷◌, ◌++◌, length, Option}
 use Rattle.std.specs.List.{flat_map}
+use Rattle.std.specs.Io.KnownBytes.{Appends}
+use Rattle.sdh_outside.specs.Writing.{AppendsFewer}
 use Rattle.sdh_rounds.specs.Held.{World}
 use Rattle.sdh_plan.specs.declared.step.Step.{Step}
+use Rattle.sdh_plan.specs.declared.step.Step.TheVariants as step
 use Rattle.sdh_report.specs.declared.status.Status.{Status}
+use Rattle.sdh_report.specs.declared.status.Status.TheVariants as status
 use Rattle.sdh_scripts.specs.Walks.{Walk}
-use Rattle.sdh_scripts.specs.Scripts.{Runs}
+use Rattle.sdh_scripts.specs.Scripts.{Refuses, Runs}
+use Rattle.sdh_scripts.specs.Tellers.{Begun, WasToWrite}
 
--- so much room is enough for what is written behind `before` settle steps of at most 64, with so much for each of them, and for a last
--- line
+-- room enough for what is written behind `before` settle steps of at most 64, with so much for each of them, and for a last line
+abbrev pub room_for : ℕ → ℕ → ℕ
+room_for each before = each * (64 - before) + 96
+
 abbrev pub HasRoom : ℕ → ℕ → ℕ → Type 0
-HasRoom each before room = each * (64 - before) + 96 ≤ room
+HasRoom each before room = room_for each before ≤ room
 
--- Steps went so far that `later` is left of them: the text grew by what `text_of` writes of each of some reports, and whatever
--- comes of what is left comes behind these.
-pub record Went {N T : Type 0} (walk : Walk N T) (limit : ℕ) (text_of : T → List ℕ) (before : ℕ) (steps : List Step) (w : World N)
-    (old new : List ℕ) (now : ℕ) (later : List Step) (left : World N) : Type 0 where
+-- ---- steps, one after the other
+
+-- These steps went, behind `before` settle steps: what `text_of` writes of each of some reports was written, one report for each settle
+-- step of them; and whatever comes of further steps comes behind these.
+pub record Went {N T : Type 0} (walk : Walk N T) (limit : ℕ) (text_of : T → List ℕ) (before : ℕ) (gone : List Step) (w : World N)
+    (old new : Option (List ℕ)) (now : ℕ) (left : World N) : Type 0 where
   pub reports : List T
-  pub text : new ≡ old ++ flat_map text_of reports
-  pub goes : (rest : List T) (end : Status) (last : World N) → Runs walk limit now later left rest end last
-      → Runs walk limit before steps w (reports ++ rest) end last
+  pub text : Appends old new (flat_map text_of reports)
+  pub counted : now ≡ before + length reports
+  pub goes : (later : List Step) (rest : List T) (end : Status) (last : World N) → Runs walk limit now later left rest end last
+      → Runs walk limit before (gone ++ later) w (reports ++ rest) end last
 
--- the script ends with this step, whatever is left of it
-abbrev pub StopsAt : {N T : Type 0} → Walk N T → ℕ → ℕ → Step → World N → Status → World N → Type 0
-StopsAt walk limit before s w how left = (later : List Step) → Runs walk limit before (s ∷ later) w [] how left
+-- This is to be written of the step with which a script ended, behind so many settle steps: of a settle step what is written of the rounds
+-- that ran of it, and of one that was refused nothing.
+abbrev pub WritesLast : {N T : Type 0} → Walk N T → ℕ → (T → List ℕ) → ℕ → Step → World N → List ℕ → Status → World N → Type 0
+WritesLast {T = T} walk limit begun_of before step.Settle w text end left =
+    Runs {T = T} walk limit before (step.Settle ∷ []) w [] end left × Begun walk limit (before + 1) begun_of w text left
+WritesLast {T = T} walk limit begun_of before s w text end left = Refuses {T = T} s w [] end left × (text ≡ [])
 
--- the text grew by what is written of each report of what came of the steps
-pub record Lists {N T : Type 0} (walk : Walk N T) (limit : ℕ) (text_of : T → List ℕ) (steps : List Step) (w : World N) (old new : List ℕ)
-    (end : Status) (left : World N) : Type 0 where
+-- the script ends with this step, whatever is left of it, and what is to be written of it was
+pub record StopsAt {N T : Type 0} (walk : Walk N T) (limit : ℕ) (begun_of : T → List ℕ) (before : ℕ) (s : Step) (w : World N)
+    (old new : Option (List ℕ)) (end : Status) (left : World N) : Type 0 where
+  pub runs : (later : List Step) → Runs walk limit before (s ∷ later) w [] end left
+  pub tail : List ℕ
+  pub writes : WritesLast walk limit begun_of before s w tail end left
+  pub text : Appends old new tail
+
+-- a write failed in this settle step: a front was written of what was to be written of it
+pub record FailsAt {N T : Type 0} (walk : Walk N T) (limit : ℕ) (text_of begun_of : T → List ℕ) (before : ℕ) (s : Step) (w : World N)
+    (old new : Option (List ℕ)) (left : World N) : Type 0 where
+  pub settles : s ≡ step.Settle
+  pub text : List ℕ
+  pub was : WasToWrite walk limit (before + 1) text_of begun_of w text left
+  pub front : AppendsFewer old new text
+
+-- ---- a script
+
+-- it ended with the step that comes behind these, and this is to be written of that
+pub record Stopped {N T : Type 0} (walk : Walk N T) (limit : ℕ) (begun_of : T → List ℕ) (steps : List Step) (w : World N)
+    (reports : List T) (tail : List ℕ) (end : Status) (left : World N) : Type 0 where
+  pub gone : List Step
+  pub stops : Step
+  pub later : List Step
+  pub steps_are : steps ≡ gone ++ stops ∷ later
+  pub mid : World N
+  pub went : Runs walk limit 0 gone w reports status.Ok mid
+  pub writes : WritesLast walk limit begun_of (length reports) stops mid tail end left
+
+-- the text grew by what is written of each report of what came of the steps, and of the step with which they stopped before their end
+pub record Lists {N T : Type 0} (walk : Walk N T) (limit : ℕ) (text_of begun_of : T → List ℕ) (steps : List Step) (w : World N)
+    (old new : Option (List ℕ)) (end : Status) (left : World N) : Type 0 where
   pub reports : List T
-  pub text : new ≡ old ++ flat_map text_of reports
   pub runs : Runs walk limit 0 steps w reports end left
+  pub tail : List ℕ
+  pub tail_is : ((end ≡ status.Ok) × (tail ≡ [])) ⊎ Stopped walk limit begun_of steps w reports tail end left
+  pub text : Appends old new (flat_map text_of reports ++ tail)
+
+-- A write failed in the settle step that comes behind these steps, and nothing more was run: a front was written of what was to be written
+-- of the reports so far and of that step.
+pub record WriteFailed {N T : Type 0} (walk : Walk N T) (limit : ℕ) (text_of begun_of : T → List ℕ) (steps : List Step) (w : World N)
+    (old new : Option (List ℕ)) (left : World N) : Type 0 where
+  pub gone : List Step
+  pub later : List Step
+  pub steps_are : steps ≡ gone ++ step.Settle ∷ later
+  pub reports : List T
+  pub mid : World N
+  pub went : Runs walk limit 0 gone w reports status.Ok mid
+  pub text : List ℕ
+  pub was : WasToWrite walk limit (length reports + 1) text_of begun_of mid text left
+  pub front : AppendsFewer old new (flat_map text_of reports ++ text)

@@ -1,7 +1,9 @@
 //! Scripts over rings of any kind, and the call of a program that runs them. `specs/Walks.antt` says what a kind of ring
-//! brings to a script, `specs/Scripts.antt` what comes of one, and `specs/Laws.antt` has the law. What runs a script is
-//! the trait `Runner`, and `run_script` runs it. `start` runs one over new fibres; what is told of a plan then is `Tells`
-//! in `specs/Plans.antt`.
+//! brings to a script, `specs/Scripts.antt` what comes of one, and `specs/Laws.antt` has the law. What runs a script and
+//! writes what it tells as it comes is the trait `Teller`, and `run_script` runs it over any output; `specs/Texts.antt`
+//! says what was written, wherever it stopped. What tells of a settle step once it has ended is the trait `Runner`.
+//! `start` runs one over new fibres, with its text in memory; what is told of a plan then is `Tells` in
+//! `specs/Plans.antt`.
 //!
 //! What the words of a program ask for, and what it tells of a plan, is a `RunsPlans`; what its call comes to is
 //! `IsOutcome` in `specs/Outcome.antt`, and what it promises then is in `specs/Headline.antt`.
@@ -9,6 +11,7 @@
 
 ghost use Rattle.sdh_scripts.specs.Laws.{KeepsRounds, KnownScripts};
 
+mod at_end;
 mod calling;
 mod lines;
 mod program;
@@ -16,6 +19,7 @@ mod report;
 mod run;
 mod runner;
 mod script;
+mod teller;
 
 pub use calling::call;
 pub use lines::{lines_room, put_settle};
@@ -23,6 +27,7 @@ pub use program::RunsPlans;
 pub use run::{NewRun, Run, start, text_for};
 pub use runner::Runner;
 pub use script::run_script;
+pub use teller::{StepError, Teller};
 
 /// Where arrivals are known, what comes of a script is determined, and after a fault it is the front of that.
 #[tactic(auto, using(crate::proofs::Known::known_scripts))]

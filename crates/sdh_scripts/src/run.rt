@@ -1,5 +1,5 @@
 //! A whole run: the fibres of a script are made, and it runs.
-ghost use Rattle.std.specs.Prelude.{◌≡◌, ◌+◌, ◌*◌, ◌≤◌, ◌^◌, true, [], IfOk, OnErr};
+ghost use Rattle.std.specs.Prelude.{◌≡◌, ◌+◌, ◌*◌, ◌≤◌, ◌^◌, true, [], Some, IfOk, OnErr};
 ghost use Rattle.sdh_basics.specs.Causes.{Rose, IsCounted};
 ghost use Rattle.sdh_plant.specs.Fibres.{HasNoFibres};
 ghost use Rattle.sdh_rounds.specs.Held.{HeldRing, world};
@@ -12,6 +12,7 @@ use crate::script::run_script;
 use sdh_plan::Step;
 use sdh_plant::{Plant, PrepareError};
 use sdh_report::{LINE_MAX, Status, Text};
+use sdh_shell::Kept;
 use sdh_terms::Rate;
 use std::alloc::{AllocError, Global};
 
@@ -53,8 +54,8 @@ fn run_from<R: Runner + Drop, P: Plant>(new_run: NewRun<R>, plant: &mut P) -> Ru
     requires room { HasRoom (R.room new_run.runner) 0 new_run.text.room }
     requires some { 1 ≤ new_run.limit }
     requires few { new_run.limit ≤ 65536 }
-    ensures ran { (left : HeldRing R.Node) × Lists R.walk new_run.limit (R.text_of new_run.runner) new_run.steps.items
-        (world (R.ring new_run.runner) (P.fibres plant.old)) new_run.text.bytes result.text.bytes result.status
+    ensures ran { (left : HeldRing R.Node) × Lists R.walk new_run.limit (R.text_of new_run.runner) (λ told. []) new_run.steps.items
+        (world (R.ring new_run.runner) (P.fibres plant.old)) (Some new_run.text.bytes) (Some result.text.bytes) result.status
         (world left (P.fibres plant.new)) }
     ensures room { 96 ≤ result.text.room }
     ensures later { P.faults plant.old ≤ P.faults plant.new }
@@ -67,9 +68,11 @@ fn run_from<R: Runner + Drop, P: Plant>(new_run: NewRun<R>, plant: &mut P) -> Ru
         nodes: _,
         steps,
         limit,
-        mut text,
+        text,
     } = new_run;
-    let status = run_script(&mut runner, plant, &steps, limit, &mut text);
+    let mut kept = Kept { text };
+    let status = run_script(&mut runner, plant, &steps, limit, &mut kept);
+    let Kept { text } = kept;
     Run { status, text }
 }
 

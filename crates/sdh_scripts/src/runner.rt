@@ -1,18 +1,18 @@
-//! What runs a script.
-ghost use Rattle.std.specs.Prelude.{◌≡◌, ℕ, ◌+◌, ◌≤◌, List, ◌∷◌, OnOk, OnErr, IfErr, Err};
+//! What runs a script and tells of a settle step once it has ended.
+ghost use Rattle.std.specs.Prelude.{◌≡◌, ℕ, ◌+◌, ◌≤◌, List, ◌∷◌, OnOk, OnErr, IfErr, Err, Some};
 ghost use Rattle.sdh_basics.specs.Causes.{HasCause, Rose, IsCounted};
 ghost use Rattle.sdh_plant.specs.Fibres.{Fibres};
 ghost use Rattle.sdh_rounds.specs.Held.{HeldRing, world};
 ghost use Rattle.sdh_plan.specs.declared.step.Step.{Step};
 ghost use Rattle.sdh_scripts.specs.Walks.{Walk};
-ghost use Rattle.sdh_scripts.specs.Runners.{Refused, Wrote, EndsBy};
+ghost use Rattle.sdh_scripts.specs.Runners.{Refused, WroteStep, EndsBy};
 
 use sdh_plan::Step;
 use sdh_plant::Plant;
 use sdh_report::Text;
 use sdh_rounds::{PlantFault, SettleError};
 
-/// A ring that steps of a script are run over, with what it needs to write of a settle step.
+/// A ring that steps of a script are run over, of which a settle step that ended is told from what it left.
 pub trait Runner {
     /// What its nodes are.
     ghost Node: { Type 0 };
@@ -60,8 +60,8 @@ pub trait Runner {
         requires room { room self.old ≤ text.old.room }
         requires some { 1 ≤ limit }
         requires few { limit ≤ 65536 }
-        ensures ok { OnOk result (Wrote walk limit (number + 1) (text_of self.old) (world (ring self.old) (P.fibres plant.old))
-            (world (ring self.new) (P.fibres plant.new)) text.old.bytes text.new.bytes) }
+        ensures ok { OnOk result (WroteStep walk limit (number + 1) (text_of self.old) (world (ring self.old) (P.fibres plant.old))
+            (world (ring self.new) (P.fibres plant.new)) (Some text.old.bytes) (Some text.new.bytes)) }
         ensures next { OnOk result ((later : List Step) → MayRun number (Step.Settle ∷ later) self.old (P.fibres plant.old)
             → MayRun (number + 1) later self.new (P.fibres plant.new)) }
         ensures room { OnOk result (text.old.room ≤ text.new.room + room self.old) }

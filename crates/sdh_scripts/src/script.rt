@@ -1,50 +1,58 @@
 //! A script, step by step.
-ghost use Rattle.std.specs.Prelude.{◌≡◌, ◌+◌, ◌≤◌, ◌∷◌, List, Err, IfOk, IfErr, OnOk, OnErr};
+ghost use Rattle.std.specs.Prelude.{◌≡◌, ◌≢◌, ◌+◌, ◌≤◌, [], ◌∷◌, List, Err, IfOk, IfErr, OnOk};
 ghost use Rattle.sdh_basics.specs.Causes.{Rose, IsCounted};
 ghost use Rattle.sdh_rounds.specs.Held.{world};
 ghost use Rattle.sdh_plan.specs.declared.step.Step.{Step};
 ghost use Rattle.sdh_report.specs.declared.status.Status.{Status};
-ghost use Rattle.sdh_scripts.specs.Texts.{HasRoom, Went, StopsAt, Lists};
+ghost use Rattle.sdh_scripts.specs.Texts.{room_for, Went, StopsAt, FailsAt, Lists, WriteFailed};
 
-use crate::runner::Runner;
+use crate::teller::{StepError, Teller};
 use sdh_plan::Step;
 use sdh_plant::Plant;
-use sdh_report::{Status, Text};
-use sdh_rounds::SettleError;
+use sdh_report::Status;
+use sdh_shell::Output;
 
 // One step, after so many settle steps that have ended. It answers how many have ended then, or how the script ended.
-fn run_step<R: Runner, P: Plant>(
+fn run_step<O: Output, R: Teller<O>, P: Plant>(
     runner: &mut R,
     plant: &mut P,
     step: Step,
     limit: u32,
     number: u32,
-    text: &mut Text,
+    output: &mut O,
 ) -> Result<u32, Status>
     requires may { (later : List Step) × R.MayRun number (step ∷ later) runner.old (P.fibres plant.old) }
-    requires room { HasRoom (R.room runner.old) number text.old.room }
+    requires room { O.Takes (room_for (R.room runner.old) number) output.old }
     requires some { 1 ≤ limit }
     requires few { limit ≤ 65536 }
-    ensures ok { IfOk result (λ n. (later : List Step) → Went R.walk limit
-        (R.text_of runner.old) number (step ∷ later) (world (R.ring runner.old) (P.fibres plant.old)) text.old.bytes text.new.bytes n later
-        (world (R.ring runner.new) (P.fibres plant.new))) }
+    ensures ok { IfOk result (λ n. Went R.walk limit (R.text_of runner.old) number (step ∷ []) (world (R.ring runner.old) (P.fibres plant.old))
+        (O.written output.old) (O.written output.new) n (world (R.ring runner.new) (P.fibres plant.new))) }
     ensures next { IfOk result (λ n. (later : List Step) → R.MayRun number (step ∷ later) runner.old (P.fibres plant.old)
         → R.MayRun n later runner.new (P.fibres plant.new)) }
-    ensures room { IfOk result (λ n. HasRoom (R.room runner.old) n text.new.room) }
-    ensures err { IfErr result (λ how. StopsAt R.walk limit number step (world (R.ring runner.old) (P.fibres plant.old)) how
+    ensures room { IfOk result (λ n. O.Takes (room_for (R.room runner.old) n) output.new) }
+    ensures line_room { O.Takes 96 output.new }
+    ensures stops { IfErr result (λ end. end ≢ Status.WriteFault → StopsAt R.walk limit (R.begun_of runner.old) number step
+        (world (R.ring runner.old) (P.fibres plant.old)) (O.written output.old) (O.written output.new) end
         (world (R.ring runner.new) (P.fibres plant.new))) }
-    ensures same { OnErr result (text.new ≡ text.old) }
+    ensures fails { result ≡ Err Status.WriteFault → FailsAt R.walk limit (R.text_of runner.old) (R.begun_of runner.old) number step
+        (world (R.ring runner.old) (P.fibres plant.old)) (O.written output.old) (O.written output.new)
+        (world (R.ring runner.new) (P.fibres plant.new)) }
     ensures writes { OnOk result (R.text_of runner.new ≡ R.text_of runner.old) }
+    ensures begins { OnOk result (R.begun_of runner.new ≡ R.begun_of runner.old) }
     ensures same_room { OnOk result (R.room runner.new ≡ R.room runner.old) }
     ensures later { P.faults plant.old ≤ P.faults plant.new }
+    ensures later_writes { O.faults output.old ≤ O.faults output.new }
     ensures failed { result ≡ Err Status.PlantFault → Rose (P.faults plant.old) (P.faults plant.new) }
+    ensures cut { result ≡ Err Status.WriteFault → Rose (O.faults output.old) (O.faults output.new) }
     ensures counted { IsCounted P.exact (result ≡ Err Status.PlantFault) (P.faults plant.old) (P.faults plant.new) }
+    ensures writes_counted { IsCounted O.exact (result ≡ Err Status.WriteFault) (O.faults output.old) (O.faults output.new) }
 {
     match step {
-        Step::Settle => match runner.settle(plant, limit, number, text) {
+        Step::Settle => match runner.settle(plant, limit, number, output) {
             Ok(()) => Ok(number + 1),
-            Err(SettleError::Unsettled) => Err(Status::Unsettled(number + 1)),
-            Err(SettleError::PlantFault) => Err(Status::PlantFault),
+            Err(StepError::Unsettled) => Err(Status::Unsettled(number + 1)),
+            Err(StepError::PlantFault) => Err(Status::PlantFault),
+            Err(StepError::WriteFault) => Err(Status::WriteFault),
         },
         _ => match runner.change(plant, step) {
             Ok(()) => Ok(number),
@@ -53,32 +61,38 @@ fn run_step<R: Runner, P: Plant>(
     }
 }
 
-/// Runs a script over a ring and its fibres, and appends what is written of each settle step that ended. It answers how the script
-/// ended: `Ok`, `Unsettled` or `PlantFault`.
-pub fn run_script<R: Runner, P: Plant>(
+/// Runs a script over a ring and its fibres, and writes what is told of each settle step as it comes. It answers how the script
+/// ended: `Ok`, `Unsettled` or `PlantFault`; or `WriteFault`, where a write failed, and nothing more was run.
+pub fn run_script<O: Output, R: Teller<O>, P: Plant>(
     runner: &mut R,
     plant: &mut P,
     steps: &[Step],
     limit: u32,
-    text: &mut Text,
+    output: &mut O,
 ) -> Status
     requires may { R.MayRun 0 steps.now runner.old (P.fibres plant.old) }
-    requires room { HasRoom (R.room runner.old) 0 text.old.room }
+    requires room { O.Takes (room_for (R.room runner.old) 0) output.old }
     requires some { 1 ≤ limit }
     requires few { limit ≤ 65536 }
-    ensures ran { Lists R.walk limit (R.text_of runner.old) steps.now
-        (world (R.ring runner.old) (P.fibres plant.old)) text.old.bytes text.new.bytes result
+    ensures ran { result ≢ Status.WriteFault → Lists R.walk limit (R.text_of runner.old) (R.begun_of runner.old) steps.now
+        (world (R.ring runner.old) (P.fibres plant.old)) (O.written output.old) (O.written output.new) result
         (world (R.ring runner.new) (P.fibres plant.new)) }
-    ensures room { 96 ≤ text.new.room }
-    ensures later { P.faults plant.old ≤ P.faults plant.new }
+    ensures fails { result ≡ Status.WriteFault → WriteFailed R.walk limit (R.text_of runner.old) (R.begun_of runner.old) steps.now
+        (world (R.ring runner.old) (P.fibres plant.old)) (O.written output.old) (O.written output.new)
+        (world (R.ring runner.new) (P.fibres plant.new)) }
+    ensures room { O.Takes 96 output.new }
+    ensures later { (P.faults plant.old ≤ P.faults plant.new) × (O.faults output.old ≤ O.faults output.new) }
     ensures failed { result ≡ Status.PlantFault → Rose (P.faults plant.old) (P.faults plant.new) }
+    ensures cut { result ≡ Status.WriteFault → Rose (O.faults output.old) (O.faults output.new) }
 
-    // Where the plant's count is exact: one call failed with a fault, and none with any other ending.
+    // Where a count is exact: one call of the plant failed with a plant fault, one write with a write fault, and none with any
+    // other ending.
     ensures counted { IsCounted P.exact (result ≡ Status.PlantFault) (P.faults plant.old) (P.faults plant.new) }
+    ensures writes_counted { IsCounted O.exact (result ≡ Status.WriteFault) (O.faults output.old) (O.faults output.new) }
 {
     let mut number = 0u32;
     'steps: for step in steps {
-        match run_step(runner, plant, *step, limit, number, text) {
+        match run_step(runner, plant, *step, limit, number, output) {
             Ok(ended) => number = ended,
             Err(how) => return how,
         }

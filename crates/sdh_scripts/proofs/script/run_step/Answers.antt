@@ -1,30 +1,79 @@
-use Rattle.std.proofs.Common.{sym, subst, ◌∷◌, ◌+◌}
+use Rattle.std.proofs.Common.{ℕ, sym, subst, arith, [], ◌∷◌, ◌+◌}
 use Rattle.sdh_rounds.specs.Held.{world}
 use Rattle.sdh_plan.specs.declared.step.Step.{Step}
-use Rattle.sdh_scripts.specs.Texts.{Went}
-use Rattle.sdh_scripts.proofs.Texts.{settled_went, room_now}
+use Rattle.sdh_report.specs.declared.status.Status.TheVariants as status
+use Rattle.sdh_scripts.specs.Texts.{room_for, Went, StopsAt}
+use Rattle.sdh_scripts.specs.Tellers.{StopsBy, WroteBegun}
+use Rattle.sdh_scripts.specs.declared.teller.StepError.{StepError}
+use Rattle.sdh_scripts.proofs.Texts.{room_now, room_next, room_line, settled_went, changed_went, broken_stops}
 use Rattle.sdh_scripts.proofs.script.run_step.Goals as goal
-
-pub returns-in-Ok-clause-ok : goal.returns-in-Ok-clause-ok
-returns-in-Ok-clause-ok g c later =
-    let means = g.P.Plant.fibres in
-    let wrote = c.in-Ok.ensures.ok in
-    let w = world (g.R.Runner.ring c.args.runner.now) (means c.args.plant.now) in
-    let left = world (g.R.Runner.ring c.settle.new.self) (means c.settle.new.plant) in
-    subst (λ (s : Step). Went g.R.Runner.walk c.args.limit (g.R.Runner.text_of c.args.runner.now) c.args.number
-    (s ∷ later) w c.args.text.now.bytes c.settle.new.text.bytes (c.args.number + 1) later left) (sym c.in-Settle.is)
-    (settled_went g.R.Runner.walk c.args.limit
-    (g.R.Runner.text_of c.args.runner.now) c.args.number w left c.args.text.now.bytes c.settle.new.text.bytes wrote later)
 
 pub settle-requires-clause-room : goal.settle-requires-clause-room
 settle-requires-clause-room g c =
     let means = g.P.Plant.fibres in
+    let t = g.R.Teller in
     let later = c.requires.may.0 in
-    let may =
-    subst (λ (s : Step). g.R.Runner.MayRun c.args.number (s ∷ later) c.args.runner.now
-    (means c.args.plant.now)) c.in-Settle.is c.requires.may.1 in
-    room_now (g.R.Runner.room c.args.runner.now) c.args.number c.args.text.now.room
-    (g.met.R.Runner.few c.args.number later c.args.runner.now (means c.args.plant.now) may) c.requires.room
+    let each = t.room c.args.runner.now in
+    let may = subst (λ (s : Step). t.MayRun c.args.number (s ∷ later) c.args.runner.now (means c.args.plant.now)) c.in-Settle.is c.requires.may.1 in
+    let few = g.met.R.Teller.few c.args.number later c.args.runner.now (means c.args.plant.now) may in
+    g.met.O.Output.fewer each (room_for each c.args.number) c.args.output.now
+    (room_now each c.args.number (room_for each c.args.number) few (omega arith)) c.requires.room
 
 pub change-requires-clause-may : goal.change-requires-clause-may
 change-requires-clause-may g c = (c.args.number, c.requires.may.0, c.requires.may.1)
+
+pub returns-in-Ok-clause-ok : goal.returns-in-Ok-clause-ok
+returns-in-Ok-clause-ok g c =
+    let means = g.P.Plant.fibres in
+    let t = g.R.Teller in
+    let w = world (t.ring c.args.runner.now) (means c.args.plant.now) in
+    let left = world (t.ring c.settle.new.self) (means c.settle.new.plant) in
+    let old = g.O.Output.written c.args.output.now in
+    let new = g.O.Output.written c.settle.new.output in
+    subst (λ (s : Step). Went t.walk c.args.limit (t.text_of c.args.runner.now) c.args.number (s ∷ []) w old new (c.args.number + 1) left)
+    (sym c.in-Settle.is)
+    (settled_went t.walk c.args.limit (t.text_of c.args.runner.now) c.args.number w left old new c.in-Ok.ensures.ok)
+
+pub returns-in-Ok-clause-room : goal.returns-in-Ok-clause-room
+returns-in-Ok-clause-room g c =
+    let means = g.P.Plant.fibres in
+    let t = g.R.Teller in
+    let later = c.requires.may.0 in
+    let each = t.room c.args.runner.now in
+    let may = subst (λ (s : Step). t.MayRun c.args.number (s ∷ later) c.args.runner.now (means c.args.plant.now)) c.in-Settle.is c.requires.may.1 in
+    let few = g.met.R.Teller.few c.args.number later c.args.runner.now (means c.args.plant.now) may in
+    c.settle.ensures.room (room_for each (c.args.number + 1))
+    (subst (λ (k : ℕ). g.O.Output.Takes k c.args.output.now) (sym (room_next each c.args.number few)) c.requires.room)
+
+pub returns-in-Err-PlantFault-clause-stops : goal.returns-in-Err-PlantFault-clause-stops
+returns-in-Err-PlantFault-clause-stops g c other =
+    let means = g.P.Plant.fibres in
+    let t = g.R.Teller in
+    let w = world (t.ring c.args.runner.now) (means c.args.plant.now) in
+    let left = world (t.ring c.settle.new.self) (means c.settle.new.plant) in
+    let old = g.O.Output.written c.args.output.now in
+    let new = g.O.Output.written c.settle.new.output in
+    let text_of = t.text_of c.args.runner.now in
+    let begun_of = t.begun_of c.args.runner.now in
+    let limit = c.args.limit in
+    let number = c.args.number in
+    let is = c.in-Err-PlantFault.field-0-is in
+    subst (λ (s : Step). StopsAt t.walk limit begun_of number s w old new status.PlantFault left) (sym c.in-Settle.is)
+    (broken_stops t.walk limit text_of begun_of number w left old new
+    (subst (λ (why : StepError). StopsBy t.walk limit w why left) is c.in-Err-PlantFault.ensures.err)
+    (subst (λ (why : StepError). WroteBegun t.walk limit (number + 1) text_of begun_of w why left old new) is
+    c.in-Err-PlantFault.ensures.begun))
+
+pub returns-in-Ok-change-clause-ok : goal.returns-in-Ok-change-clause-ok
+returns-in-Ok-change-clause-ok g c =
+    let means = g.P.Plant.fibres in
+    let t = g.R.Teller in
+    let w = world (t.ring c.args.runner.now) (means c.args.plant.now) in
+    let left = world (t.ring c.change.new.self) (means c.change.new.plant) in
+    changed_went t.walk c.args.limit (t.text_of c.args.runner.now) c.args.step c.args.number w left
+    (g.O.Output.written c.args.output.now) c.in_default.not-Settle c.in-Ok-change.ensures.ok
+
+pub returns-in-Ok-change-clause-line_room : goal.returns-in-Ok-change-clause-line_room
+returns-in-Ok-change-clause-line_room g c =
+    let each = g.R.Teller.room c.args.runner.now in
+    g.met.O.Output.fewer 96 (room_for each c.args.number) c.args.output.now (room_line each c.args.number) c.requires.room

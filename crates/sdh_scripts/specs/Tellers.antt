@@ -1,0 +1,66 @@
+-- What a settle step comes to of which all that is told is written as it comes.
+use Rattle.std.specs.Prelude.{ℕ, ◌≡◌, ◌⊎◌, ◌<◌, ◌≤◌, List, ◌++◌, length, Option}
+use Rattle.std.specs.Io.KnownBytes.{Appends}
+use Rattle.sdh_outside.specs.Writing.{AppendsFewer}
+use Rattle.sdh_plant.specs.Fibres.{Arrival}
+use Rattle.sdh_rounds.specs.Held.{World}
+use Rattle.sdh_rounds.specs.Runs.{run_with, ArriveIn, course_with, IsBrokenOff}
+use Rattle.sdh_rounds.specs.Quiet.{EndsWindow, Settles, Unsettles}
+use Rattle.sdh_scripts.specs.Walks.{Walk}
+use Rattle.sdh_scripts.specs.Scripts.{Ended, Breaks}
+use Rattle.sdh_scripts.specs.declared.teller.StepError.{StepError}
+use Rattle.sdh_scripts.specs.declared.teller.StepError.TheVariants.{Unsettled, PlantFault, WriteFault}
+
+-- ---- its rounds so far
+
+-- rounds of a settle step ran, none of them behind a quiet window, and this is told of them
+pub record InStep {N T : Type 0} (walk : Walk N T) (limit number : ℕ) (w : World N) (told : T) (mid : World N) : Type 0 where
+  pub rounds : List (List Arrival)
+  pub arrive : ArriveIn walk.station rounds w
+  pub few : length rounds ≤ limit
+  pub never : (j : ℕ) → j < length rounds → EndsWindow walk.station (course_with walk.station rounds w) j → ⊥
+  pub mid_is : mid ≡ run_with walk.station rounds w
+  pub told_is : told ≡ walk.tells number (course_with walk.station rounds w) (length rounds)
+
+-- it ended, rounds ran of those behind it, and this is told of them all
+pub record BehindStep {N T : Type 0} (walk : Walk N T) (limit number : ℕ) (w : World N) (told : T) (mid : World N) : Type 0 where
+  pub settled : World N
+  pub settles : Settles walk.station w limit settled
+  pub rounds : List (List Arrival)
+  pub arrive : ArriveIn walk.station rounds settled
+  pub few : length rounds ≤ walk.behind
+  pub mid_is : mid ≡ run_with walk.station rounds settled
+  pub told_is : told ≡ walk.tells number (course_with walk.station (settles.rounds ++ rounds) w) (length settles.rounds)
+
+abbrev pub SoFar : {N T : Type 0} → Walk N T → ℕ → ℕ → World N → T → World N → Type 0
+SoFar walk limit number w told mid = InStep walk limit number w told mid ⊎ BehindStep walk limit number w told mid
+
+-- this text is of the rounds of a settle step that ran so far; then none ran any more, or the next one was broken off
+pub record Begun {N T : Type 0} (walk : Walk N T) (limit number : ℕ) (begun_of : T → List ℕ) (w : World N) (text : List ℕ)
+    (left : World N) : Type 0 where
+  pub mid : World N
+  pub told : T
+  pub so_far : SoFar walk limit number w told mid
+  pub next : (left ≡ mid) ⊎ IsBrokenOff walk.station mid left.fibres
+  pub text_is : text ≡ begun_of told
+
+-- ---- how it didn't end
+
+-- why it didn't, with the rounds behind it
+abbrev pub StopsBy : {N T : Type 0} → Walk N T → ℕ → World N → StepError → World N → Type 0
+StopsBy walk limit w Unsettled left = Unsettles walk.station w limit left
+StopsBy walk limit w PlantFault left = Breaks walk limit w left.fibres
+StopsBy walk limit w WriteFault left = Unit {0}
+
+-- what was to be written where a write failed: what is written of the rounds that ran so far, or of the step, which ended
+abbrev pub WasToWrite : {N T : Type 0} → Walk N T → ℕ → ℕ → (T → List ℕ) → (T → List ℕ) → World N → List ℕ → World N → Type 0
+WasToWrite {T = T} walk limit number text_of begun_of w text left =
+    Begun walk limit number begun_of w text left ⊎ ((told : T) × Ended walk limit number w told left × (text ≡ text_of told))
+
+-- what was written of it: of its rounds so far; or, where a write failed, a front of what was to be written
+abbrev pub WroteBegun : {N T : Type 0} → Walk N T → ℕ → ℕ → (T → List ℕ) → (T → List ℕ) → World N → StepError → World N
+    → Option (List ℕ) → Option (List ℕ) → Type 0
+WroteBegun walk limit number text_of begun_of w WriteFault left old new =
+    (text : List ℕ) × WasToWrite walk limit number text_of begun_of w text left × AppendsFewer old new text
+WroteBegun walk limit number text_of begun_of w why left old new =
+    (text : List ℕ) × Begun walk limit number begun_of w text left × Appends old new text
