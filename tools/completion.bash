@@ -13,7 +13,7 @@ _sdhring_words() {
     sdhretime:1:*) mapfile -t COMPREPLY < <(compgen -W "$1" -- "$word") ;;
     *:*:--install | *:*:--uninstall) compopt -o dirnames ;;
   esac
-  # Behind `<` stands the plan.
+  # After `<` comes the plan.
   [ "${COMP_WORDS[COMP_CWORD - 1]}" != '<' ] || { COMPREPLY=() && compopt -o default; }
 }
 

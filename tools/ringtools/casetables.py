@@ -6,7 +6,7 @@ from .answers import KIND_PLURALS, SINGLE
 from .look import ends_words
 from .markup import folded, heads, unbroken
 
-COLUMNS = 40  # customers side by side: so many fit a printed page
+COLUMNS = 40  # customers side by side, as many as fit a printed page
 KEY = (
     '<p class="key"><span class="kept">·</span>kept on its own arc <span class="over">+4</span>kept over protection, with this number of spans more than its own arc '
     '(with a minus, fewer; <span class="over">=</span>as many) <span class="lost">✕</span>lost <span class="odd">?</span>neither: see its text</p>'

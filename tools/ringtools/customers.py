@@ -13,7 +13,7 @@ RESULTS = {
     "untold": "Not told by this text",
 }
 TOTALS = {"odd": "not owed", "lost": "lost", "over": "over protection", "kept": "kept"}
-GROUP, GROUP_WITH_OUTAGES = 12, 5  # settle steps side by side: so many fit a printed page
+GROUP, GROUP_WITH_OUTAGES = 12, 5  # settle steps side by side, as many as fit a printed page
 
 
 def by_result(look):

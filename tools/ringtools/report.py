@@ -12,7 +12,7 @@ STATES = {
     "switch-east": "switches east",
     "isolated": "isolated",
 }
-WINDOW = 128  # a settle step ends with a multiple of so many rounds
+WINDOW = 128  # a settle step ends with a multiple of this number of rounds
 USAGE = "usage: sdhring run, check, drop NAME END, big NUMBER"
 PLAIN_ENDS = {"done", "not toml", "plant fault", "too long", "no such port", "read fault", "not built", USAGE}
 NUMBER = r"(0|[1-9][0-9]*)"

@@ -131,5 +131,23 @@ class Trusted(unittest.TestCase):
         self.assertEqual(listed, outside)
 
 
+
+class Words(unittest.TestCase):
+    """Words of a private vocabulary, which no page has: an engineer reads the field's."""
+
+    BANNED = (
+        "want of memory", "so many", "reckoned", "is told", "has come to be", "led round", "sums up", "takes a customer",
+        "one who looks",
+    )
+
+    def test_pages_have_the_words_of_the_field(self):
+        pages = [*TOP.glob("*.md"), *(TOP / "docs").glob("*.md"), *(TOP / "docs").glob("*.1"), TOP / "dist" / "README.md"]
+        for page in pages:
+            text = " ".join(page.read_text().split()).lower()
+            for words in self.BANNED:
+                with self.subTest(page=page.name, words=words):
+                    self.assertIsNone(re.search(rf"\b{words}\b", text))
+
+
 if __name__ == "__main__":
     unittest.main()
