@@ -25,7 +25,7 @@ use Rattle.sdh_outage_cli.specs.Outages.{delivered_at, kinds_in, outage_in, port
 use Rattle.sdh_outage_cli.specs.Lines.{told_line, changes_text, trace_text}
 use Rattle.sdh_outage_cli.specs.Ports.{AreReady, delivered_in, heard_in, IsListening, AreListening, AreFew, HaveBegun, Looked, shown}
 use Rattle.sdh_outage_cli.specs.Ports.{listener_at, heard_text, port_text}
-use Rattle.sdh_outage_cli.specs.declared.ports.Both.{Both}
+use Rattle.sdh_outage_cli.specs.declared.ports.ListenerPair.{ListenerPair}
 
 -- ---- what was delivered in a course
 
@@ -42,9 +42,9 @@ began_is far r port at before after is whose round began =
     began ∙ ap₂ (λ p n. heard p n (delivered_at r port) []) whose round
     ∙ ap (λ (x : HeldRing). heard far x.rounds (delivered_at x port) []) is
 
-pub listening_none : (r : HeldRing) (old new : List Both) → r.rounds ≤ 2 ^ 31 → AreReady r.circuits.circuits r.rounds old
+pub listening_none : (r : HeldRing) (old new : List ListenerPair) → r.rounds ≤ 2 ^ 31 → AreReady r.circuits.circuits r.rounds old
     → length new ≡ length old
-    → ((i : ℕ) (before after : Both) → slice_get old i ≡ Some before → slice_get new i ≡ Some after → HaveBegun r i before after)
+    → ((i : ℕ) (before after : ListenerPair) → slice_get old i ≡ Some before → slice_get new i ≡ Some after → HaveBegun r i before after)
     → (at : ℕ → World) → r ≡ (at 0).ring → AreListening at 0 new
 listening_none r old new few ready many each at is = record {
   few = subst (λ (x : HeldRing). x.rounds ≤ 2 ^ 31) is few;
@@ -64,9 +64,9 @@ listening_none r old new few ready many each at is = record {
 circuits_kept : (w after : World) → IsRound w after → after.ring.circuits ≡ w.ring.circuits
 circuits_kept w after is = ap (λ (r : HeldRing). r.circuits) (rounds_keep adm w after is).0.ring
 
-pub listening_more : (at : ℕ → World) (k : ℕ) (r : HeldRing) (old new : List Both) → AreListening at k old → RanOne at k r
+pub listening_more : (at : ℕ → World) (k : ℕ) (r : HeldRing) (old new : List ListenerPair) → AreListening at k old → RanOne at k r
     → length new ≡ length old
-    → ((i : ℕ) (before after : Both) → slice_get old i ≡ Some before → slice_get new i ≡ Some after → Looked r i before after)
+    → ((i : ℕ) (before after : ListenerPair) → slice_get old i ≡ Some before → slice_get new i ≡ Some after → Looked r i before after)
     → AreListening at (suc k) new
 listening_more at k r old new x ran many each =
     let same = circuits_kept (at k) (at (suc k)) ran.round in
@@ -91,7 +91,7 @@ listening_more at k r old new x ran many each =
     }
 
 -- there are as many listeners as the ring has circuits
-pub many_more : (at : ℕ → World) (k : ℕ) (r : HeldRing) (items : List Both) → AreListening at k items → RanOne at k r
+pub many_more : (at : ℕ → World) (k : ℕ) (r : HeldRing) (items : List ListenerPair) → AreListening at k items → RanOne at k r
     → length items ≡ length r.circuits.circuits
 many_more at k r items x ran =
     x.many ∙ ap (λ (p : Provisioning). length p.circuits) (sym (circuits_kept (at k) (at (suc k)) ran.round))
@@ -102,7 +102,7 @@ rounds_of : (far : Customer) (port : PortId) (k : ℕ) (at : ℕ → World) (h :
     → h.round ≡ (at 0).ring.rounds + k
 rounds_of far port k at h is = ap (λ (x : Heard). x.round) is ∙ ap (λ n. (at 0).ring.rounds + n) (length-delivered port k at)
 
-pub few_heard : (at : ℕ → World) (k : ℕ) (items : List Both) → k < 65536 → AreListening at k items → AreFew (2 ^ 31 + 65536) items
+pub few_heard : (at : ℕ → World) (k : ℕ) (items : List ListenerPair) → k < 65536 → AreListening at k items → AreFew (2 ^ 31 + 65536) items
 few_heard at k items small x i both here =
     let named = some_at (at k).ring.circuits.circuits i (let h = slice_get_within items i both here in omega (arith, x.many)) in
     let h = x.each i named.0 both named.1 here in
@@ -114,7 +114,7 @@ few_heard at k items small x i both here =
 -- ---- a step ended
 
 -- they have heard of all rounds
-pub ready_then : (at : ℕ → World) (k : ℕ) (items : List Both) → AreListening at k items → (at k).ring.rounds ≡ (at 0).ring.rounds + k
+pub ready_then : (at : ℕ → World) (k : ℕ) (items : List ListenerPair) → AreListening at k items → (at k).ring.rounds ≡ (at 0).ring.rounds + k
     → AreReady (at k).ring.circuits.circuits (at k).ring.rounds items
 ready_then at k items x rounds = record {
   many = x.many;
@@ -161,8 +161,8 @@ module _ (at : ℕ → World) where
 
   -- the listeners show the outages of the ports
   shown_from : (k : ℕ) → ((j : ℕ) → j ≤ k → (at j).ring.rounds ≡ (at 0).ring.rounds + j)
-      → (cs : List Provisioned) (items : List Both) (index : ℕ) → length items ≡ length cs
-      → ((i : ℕ) (c : Provisioned) (both : Both) → slice_get cs i ≡ Some c → slice_get items i ≡ Some both
+      → (cs : List Provisioned) (items : List ListenerPair) (index : ℕ) → length items ≡ length cs
+      → ((i : ℕ) (c : Provisioned) (both : ListenerPair) → slice_get cs i ≡ Some c → slice_get items i ≡ Some both
       → IsListening k at c (index + i) both) → shown cs items ≡ ports_out k at index cs
   shown_from k rounds [] items index many each = refl
   shown_from k rounds (c ∷ cs) [] index many each = absurd (omega arith)
@@ -177,7 +177,7 @@ module _ (at : ℕ → World) where
       ≡ index + 1 + i = omega arith in subst (λ n. IsListening k at d n other) next (each (suc i) d other there at_i))) in
       λ i. record { name = c.name; end = A; outage = a i } ∷ record { name = c.name; end = B; outage = b i } ∷ rest i
 
-  pub shown_is : (k : ℕ) (items : List Both) → ((j : ℕ) → j ≤ k → (at j).ring.rounds ≡ (at 0).ring.rounds + j) → AreListening at k items
+  pub shown_is : (k : ℕ) (items : List ListenerPair) → ((j : ℕ) → j ≤ k → (at j).ring.rounds ≡ (at 0).ring.rounds + j) → AreListening at k items
       → shown (at k).ring.circuits.circuits items ≡ ports_out k at 0 (at k).ring.circuits.circuits
   shown_is k items rounds x =
       shown_from k rounds (at k).ring.circuits.circuits items 0 x.many
@@ -197,14 +197,14 @@ module _ (at : ℕ → World) where
       ∙ ap (λ kinds. changes_text (take 64 (kind_changes first kinds)) (length (kind_changes first kinds) - 64)
       ++ told_line (record { name = name; end = end; outage = outage_of first kinds })) (kinds_are far (port_id index end) k rounds)
 
-  end_is : (c : Provisioned) (index : ℕ) (k : ℕ) (both : Both) (end : End) → IsListening k at c index both
+  end_is : (c : Provisioned) (index : ℕ) (k : ℕ) (both : ListenerPair) (end : End) → IsListening k at c index both
       → listener_at both end ≡ heard_in (customer_at c (other_end end)) (port_id index end) k at
   end_is c index k both A x = x.at_a
   end_is c index k both B x = x.at_b
 
-  trace_shown : (k index : ℕ) (end : End) (c : Option Provisioned) (both : Option Both)
+  trace_shown : (k index : ℕ) (end : End) (c : Option Provisioned) (both : Option ListenerPair)
       → ((j : ℕ) → j ≤ k → (at j).ring.rounds ≡ (at 0).ring.rounds + j)
-      → is_some c ≡ is_some both → ((d : Provisioned) (b : Both) → c ≡ Some d → both ≡ Some b → IsListening k at d index b)
+      → is_some c ≡ is_some both → ((d : Provisioned) (b : ListenerPair) → c ≡ Some d → both ≡ Some b → IsListening k at d index b)
       → port_text c both end ≡ trace_text (option_map (λ d. trace_at k at index d end) c)
   trace_shown k index end None None rounds same each = refl
   trace_shown k index end None (Some both) rounds same each = refl
@@ -213,7 +213,7 @@ module _ (at : ℕ → World) where
       heard_is (customer_at c (other_end end)) index end c.name k (listener_at both end) rounds
       (end_is c index k both end (each c both refl refl))
 
-  pub trace_is : (k : ℕ) (items : List Both) → ((j : ℕ) → j ≤ k → (at j).ring.rounds ≡ (at 0).ring.rounds + j) → AreListening at k items
+  pub trace_is : (k : ℕ) (items : List ListenerPair) → ((j : ℕ) → j ≤ k → (at j).ring.rounds ≡ (at 0).ring.rounds + j) → AreListening at k items
       → (port : PortId)
       → port_text (slice_get (at k).ring.circuits.circuits port.circuit) (slice_get items port.circuit) port.end
       ≡ trace_text (trace_in k at (at k).ring.circuits.circuits port)

@@ -14,13 +14,13 @@ use Rattle.sdh_owed.specs.Plans.{world_of}
 use Rattle.sdh_outage_cli.specs.Scripts.{outage_walk}
 use Rattle.sdh_outage_cli.specs.Lines.{listed}
 use Rattle.sdh_outage_cli.specs.Plans.{outage_account, Tells}
-use Rattle.sdh_outage_cli.specs.declared.listing.Listing.{Listing}
+use Rattle.sdh_outage_cli.specs.declared.listing.OutageListing.{OutageListing}
 use Rattle.sdh_outage_cli.proofs.Known.{keeps_rounds}
 
 -- ---- all that is told
 
 -- it settles as a script does that reports the ring
-pub tells : ScriptsSettle → (plan : Planned) (listing : Listing) (f left : Fibres) (text : List ℕ) (end : Status) → IsPlanned plan
+pub tells : ScriptsSettle → (plan : Planned) (listing : OutageListing) (f left : Fibres) (text : List ℕ) (end : Status) → IsPlanned plan
     → (f.honest ≡ true → IsHonest f)
     → Came outage_walk plan.limit (listed listing) plan.steps (world_of plan f) f text end left → Tells plan listing f text end left
 tells settles plan listing f left text end fits honest x =

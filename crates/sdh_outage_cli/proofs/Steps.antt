@@ -24,16 +24,16 @@ use Rattle.sdh_outage_cli.specs.Outages.{Outaged, trace_in, outaged_in}
 use Rattle.sdh_outage_cli.specs.Lines.{listed}
 use Rattle.sdh_outage_cli.specs.Ports.{AreReady, AreListening, shown, port_text, shown_text}
 use Rattle.sdh_outage_cli.specs.Running.{MayRun}
-use Rattle.sdh_outage_cli.specs.declared.listing.Listing.{Listing}
-use Rattle.sdh_outage_cli.specs.declared.listing.Listing.TheVariants as listing
-use Rattle.sdh_outage_cli.specs.declared.ports.Both.{Both}
+use Rattle.sdh_outage_cli.specs.declared.listing.OutageListing.{OutageListing}
+use Rattle.sdh_outage_cli.specs.declared.listing.OutageListing.TheVariants as listing
+use Rattle.sdh_outage_cli.specs.declared.ports.ListenerPair.{ListenerPair}
 use Rattle.sdh_outage_cli.proofs.Listening.{ready_then, shown_is, trace_is}
 
 -- before it the ring has run few rounds
 pub few_before : (before : ℕ) (steps : List Step) (r : HeldRing) (f : _) → ring.MayRun 65536 before steps r f → r.rounds ≤ 2 ^ 31
 few_before before steps r f may = let few = may.few in let rounds = may.rounds in omega arith
 
-module _ (w left : World) (limit : ℕ) (items : List Both) (x : Hears (λ at k. AreListening at k items) w limit left) where
+module _ (w left : World) (limit : ℕ) (items : List ListenerPair) (x : Hears (λ at k. AreListening at k items) w limit left) where
   abbrev at : ℕ → World
   at = course_with x.settles.rounds w
 
@@ -76,7 +76,7 @@ module _ (w left : World) (limit : ℕ) (items : List Both) (x : Hears (λ at k.
       }) (shown_is at ran items numbered x.kept)
 
   -- and what is written of that
-  pub listed_is : (listing : Listing) (number : ℕ) → shown_text listing number (left.ring.rounds - 1) left.ring.circuits.circuits items
+  pub listed_is : (listing : OutageListing) (number : ℕ) → shown_text listing number (left.ring.rounds - 1) left.ring.circuits.circuits items
       ≡ listed listing (outaged_in number at ran)
   listed_is listing.Ports number = ap (listed listing.Ports) (told_is number)
   listed_is (listing.Trace port) number =
@@ -85,7 +85,7 @@ module _ (w left : World) (limit : ℕ) (items : List Both) (x : Hears (λ at k.
       ∙ ap (λ l. settle_line number ((at ran).ring.rounds - 1) ++ l) (trace_is at ran items numbered x.kept port)
 
   -- and the script goes on
-  pub heard_next : (before : ℕ) (now : List Both) → limit ≤ 65536 → BeginsAtAMultiple left.ring
+  pub heard_next : (before : ℕ) (now : List ListenerPair) → limit ≤ 65536 → BeginsAtAMultiple left.ring
       → ((port : PortId) → waiting_at left.ring port ≡ 0) → IsPrepared w.ring.settings.rate (length w.ring.ids) left.fibres
       → (later : List Step) → MayRun before (step.Settle ∷ later) w.ring now w.fibres
       → MayRun (before + 1) later left.ring items left.fibres
@@ -101,7 +101,7 @@ module _ (w left : World) (limit : ℕ) (items : List Both) (x : Hears (λ at k.
 
 -- ---- any other step
 
-pub changed_ready : (before : ℕ) (s : Step) (w left : World) (items : List Both) → (s ≡ step.Settle → ⊥) → left ≡ after_step s w
+pub changed_ready : (before : ℕ) (s : Step) (w left : World) (items : List ListenerPair) → (s ≡ step.Settle → ⊥) → left ≡ after_step s w
     → (later : List Step) → MayRun before (s ∷ later) w.ring items w.fibres → MayRun before later left.ring items left.fibres
 changed_ready before s w left items other is later may =
     let rounds : left.ring.rounds ≡ w.ring.rounds = ap (λ (v : World). v.ring.rounds) is ∙ no_round.rounds s w in

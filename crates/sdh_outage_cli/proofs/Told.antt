@@ -11,9 +11,9 @@ use Rattle.sdh_outage.specs.declared.summary.Summary.{Summary}
 use Rattle.sdh_outage.specs.Outages.{no_ports, with_outage, summary_of}
 use Rattle.sdh_outage_cli.specs.Outages.{PortOutage}
 use Rattle.sdh_outage_cli.specs.Ports.{both_shown, shown}
-use Rattle.sdh_outage_cli.specs.declared.ports.Both.{Both}
+use Rattle.sdh_outage_cli.specs.declared.ports.ListenerPair.{ListenerPair}
 
-shown_suc : (cs : List Provisioned) (items : List Both) (i : ℕ) (c : Provisioned) (both : Both) → slice_get cs i ≡ Some c
+shown_suc : (cs : List Provisioned) (items : List ListenerPair) (i : ℕ) (c : Provisioned) (both : ListenerPair) → slice_get cs i ≡ Some c
     → slice_get items i ≡ Some both → shown (take (suc i) cs) (take (suc i) items) ≡ shown (take i cs) (take i items) ++ both_shown c both
 shown_suc [] items i c both there here = absurd (cc)
 shown_suc (d ∷ cs) [] i c both there here = absurd (cc)
@@ -22,7 +22,7 @@ shown_suc (d ∷ cs) (other ∷ items) (suc i) c both there here =
     ap (λ l. record { name = d.name; end = A; outage = other.a.outage } ∷ record { name = d.name; end = B; outage = other.b.outage } ∷ l)
     (shown_suc cs items i c both there here)
 
-pub shown_more : (cs : List Provisioned) (items : List Both) (i : ℕ) (c : Provisioned) (both : Both) → slice_get cs i ≡ Some c
+pub shown_more : (cs : List Provisioned) (items : List ListenerPair) (i : ℕ) (c : Provisioned) (both : ListenerPair) → slice_get cs i ≡ Some c
     → slice_get items i ≡ Some both → shown (take (i + 1) cs) (take (i + 1) items) ≡ shown (take i cs) (take i items) ++ both_shown c both
 shown_more cs items i c both there here =
     (let next : i + 1 ≡ suc i = omega arith in ap (λ n. shown (take n cs) (take n items)) next) ∙ shown_suc cs items i c both there here
@@ -33,7 +33,7 @@ fold_two : (start : Summary) (outages : List Outage) (a b : Outage)
 fold_two start [] a b = refl
 fold_two start (o ∷ outages) a b = fold_two (with_outage start o) outages a b
 
-pub said_more : (ports : List PortOutage) (c : Provisioned) (both : Both)
+pub said_more : (ports : List PortOutage) (c : Provisioned) (both : ListenerPair)
     → with_outage (with_outage (summary_of (map (λ (p : PortOutage). p.outage) ports)) both.a.outage) both.b.outage
     ≡ summary_of (map (λ (p : PortOutage). p.outage) (ports ++ both_shown c both))
 said_more ports c both =

@@ -8,14 +8,14 @@ use Rattle.sdh_shell.specs.Endings.{statuses}
 use Rattle.sdh_scripts.specs.Programs.{deed_listing, Program}
 use Rattle.sdh_scripts.specs.Headline.{EndsAs}
 use Rattle.sdh_outage_cli.specs.Outages.{Outaged}
-use Rattle.sdh_outage_cli.specs.declared.listing.Listing.{Listing}
+use Rattle.sdh_outage_cli.specs.declared.listing.OutageListing.{OutageListing}
 use Rattle.sdh_outage_cli.specs.Lines.{text_of}
 use Rattle.sdh_outage_cli.specs.Plans.{IsRunOf, ran_of, MaySettle}
 use Rattle.sdh_outage_cli.specs.Words.{Ask, asked, listing_of}
 
 -- it runs a plan, and tells of each settle step for how many rounds each port was without its own customer's bytes, or from which
 -- round on one port got what
-abbrev pub listening : Program Ask Listing Outaged Status
+abbrev pub listening : Program Ask OutageListing Outaged Status
 listening = record {
   usage = codes "usage: sdhoutage run, trace NAME END";
   asked = asked;

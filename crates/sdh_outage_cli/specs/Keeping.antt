@@ -11,7 +11,7 @@ use Rattle.sdh_world.specs.Rounds.{World}
 use Rattle.sdh_outage.specs.Kept.{heard}
 use Rattle.sdh_outage_cli.specs.Outages.{delivered_at}
 use Rattle.sdh_outage_cli.specs.Ports.{delivered_in, heard_in, AreListening}
-use Rattle.sdh_outage_cli.specs.declared.ports.Both.{Both}
+use Rattle.sdh_outage_cli.specs.declared.ports.ListenerPair.{ListenerPair}
 
 delivered_same : (port : PortId) (k : ℕ) (at bt : ℕ → World) → ((j : ℕ) → j ≤ k → at j ≡ bt j)
     → delivered_in port k at ≡ delivered_in port k bt
@@ -28,7 +28,7 @@ heard_same far port k at bt same =
     λ i. heard far (first i).ring.rounds (delivered_at (first i).ring port) (past i)
 
 -- courses that are the same so far
-pub listening_same : (at bt : ℕ → World) (k : ℕ) (items : List Both) → ((j : ℕ) → j ≤ k → at j ≡ bt j) → AreListening at k items
+pub listening_same : (at bt : ℕ → World) (k : ℕ) (items : List ListenerPair) → ((j : ℕ) → j ≤ k → at j ≡ bt j) → AreListening at k items
     → AreListening bt k items
 listening_same at bt k items same x =
     let last = same k (le_refl k) in

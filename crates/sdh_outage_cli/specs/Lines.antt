@@ -6,8 +6,8 @@ use Rattle.sdh_outage.specs.declared.change.Change.{Change}
 use Rattle.sdh_outage.specs.Lines.{outage_line, change_line, more_line, summary_line}
 use Rattle.sdh_outage.specs.Outages.{summary_of}
 use Rattle.sdh_outage_cli.specs.Outages.{PortOutage, PortTrace, Outaged}
-use Rattle.sdh_outage_cli.specs.declared.listing.Listing.{Listing}
-use Rattle.sdh_outage_cli.specs.declared.listing.Listing.TheVariants as listing
+use Rattle.sdh_outage_cli.specs.declared.listing.OutageListing.{OutageListing}
+use Rattle.sdh_outage_cli.specs.declared.listing.OutageListing.TheVariants as listing
 
 abbrev pub told_line : PortOutage → List ℕ
 told_line p = outage_line p.name p.end p.outage
@@ -36,10 +36,10 @@ trace_text (Some t) = changes_text (take 64 t.changes) (length t.changes - 64) +
 -- ---- what is listed
 
 -- of a settle step
-abbrev pub listed : Listing → Outaged → List ℕ
+abbrev pub listed : OutageListing → Outaged → List ℕ
 listed listing.Ports r = settle_step_text r.number r.round r.ports
 listed (listing.Trace port) r = settle_line r.number r.round ++ trace_text (r.trace port)
 
 -- step after step
-abbrev pub text_of : Listing → List Outaged → List ℕ
+abbrev pub text_of : OutageListing → List Outaged → List ℕ
 text_of listing reports = flat_map (listed listing) reports

@@ -10,7 +10,7 @@ use Rattle.sdh_owed.specs.Plans.{new_ring_of}
 use Rattle.sdh_outage_cli.specs.Outages.{Outaged}
 use Rattle.sdh_outage_cli.specs.Scripts.{outage_walk, Ran}
 use Rattle.sdh_outage_cli.specs.Lines.{listed}
-use Rattle.sdh_outage_cli.specs.declared.listing.Listing.{Listing}
+use Rattle.sdh_outage_cli.specs.declared.listing.OutageListing.{OutageListing}
 
 -- nothing is owed: over honest fibres too it tells what the rounds were
 abbrev pub outage_account : Account Node Outaged
@@ -30,5 +30,5 @@ abbrev pub IsRunOf : Planned → Fibres → List Outaged → Status → Fibres �
 IsRunOf = plans.IsRunOf outage_account
 
 -- the text is what is listed of a run
-abbrev pub Tells : Planned → Listing → Fibres → List ℕ → Status → Fibres → Type 0
+abbrev pub Tells : Planned → OutageListing → Fibres → List ℕ → Status → Fibres → Type 0
 Tells plan listing f text end left = plans.Tells outage_account (listed listing) plan f text end left

@@ -5,8 +5,8 @@ use Rattle.sdh_circuits.specs.Provisioning.{at_port}
 use Rattle.sdh_circuits.specs.declared.End.{End}
 use Rattle.sdh_plan.specs.Planned.{Planned, provisioning_of}
 use Rattle.sdh_shell.specs.Calls.{end_lettered}
-use Rattle.sdh_outage_cli.specs.declared.listing.Listing.{Listing}
-use Rattle.sdh_outage_cli.specs.declared.listing.Listing.TheVariants as listing
+use Rattle.sdh_outage_cli.specs.declared.listing.OutageListing.{OutageListing}
+use Rattle.sdh_outage_cli.specs.declared.listing.OutageListing.TheVariants as listing
 use Rattle.sdh_outage_cli.specs.declared.words.Command.{Command}
 use Rattle.sdh_outage_cli.specs.declared.words.Command.TheVariants as command
 
@@ -37,7 +37,7 @@ asked (word ∷ name ∷ letter ∷ []) = asked_with_port word name letter
 asked (word ∷ name ∷ letter ∷ more ∷ others) = None
 
 -- what is listed of a plan; the port that is asked for is none where the plan has no circuit of its name
-abbrev pub listing_of : Ask → Planned → Option Listing
+abbrev pub listing_of : Ask → Planned → Option OutageListing
 listing_of Run plan = Some listing.Ports
 listing_of (Trace name end) plan =
     option_map (λ circuit. listing.Trace (record { circuit = circuit; end = end })) (at_port (provisioning_of plan) name)

@@ -7,8 +7,8 @@ ghost use Rattle.sdh_outage_cli.specs.Lines.{told_line, ports_text, changes_text
 ghost use Rattle.sdh_outage_cli.specs.Ports.{both_shown, shown, heard_text, port_text, shown_text};
 ghost use Rattle.sdh_outage_cli.specs.Running.{MayList, lines_room};
 
-use crate::listing::Listing;
-use crate::ports::Both;
+use crate::listing::OutageListing;
+use crate::ports::ListenerPair;
 use sdh_circuits::{Circuit, CircuitMap, End, PortId};
 use sdh_outage::{
     Change, Listener, Outage, Summary, Trace, change_line, more_line, outage_line, summary_line,
@@ -43,7 +43,7 @@ fn put_port(text: &mut Text, summary: &mut Summary, named: &Circuit, end: End, l
 }
 
 // The lines of both ports of a circuit.
-fn put_both(text: &mut Text, summary: &mut Summary, named: &Circuit, both: &Both)
+fn put_both(text: &mut Text, summary: &mut Summary, named: &Circuit, both: &ListenerPair)
     requires room { 320 ≤ text.old.room }
     requires few { summary.old.none + 2 < 2 ^ 32 }
     ensures bytes { text.new.bytes ≡ text.old.bytes ++ flat_map told_line (both_shown named.now both.now) }
@@ -66,7 +66,7 @@ fn put_summary(text: &mut Text, summary: &Summary)
 }
 
 // The lines of all ports, and what is said of all of them.
-fn put_ports(text: &mut Text, circuits: &CircuitMap, items: &Vec<Both>)
+fn put_ports(text: &mut Text, circuits: &CircuitMap, items: &Vec<ListenerPair>)
     requires many { length items.now.items ≡ length circuits.now.circuits }
     requires room { 160 + 320 * length circuits.now.circuits ≤ text.old.room }
     ensures bytes { text.new.bytes ≡ text.old.bytes ++ ports_text (shown circuits.now.circuits items.now.items) }
@@ -134,7 +134,7 @@ fn put_heard(text: &mut Text, named: &Circuit, end: End, listener: &Listener)
 }
 
 // The lines of the port that is listed.
-fn put_listed(text: &mut Text, circuits: &CircuitMap, items: &Vec<Both>, port: PortId)
+fn put_listed(text: &mut Text, circuits: &CircuitMap, items: &Vec<ListenerPair>, port: PortId)
     requires many { length items.now.items ≡ length circuits.now.circuits }
     requires port { port.circuit < length circuits.now.circuits }
     requires room { 10560 ≤ text.old.room }
@@ -148,7 +148,13 @@ fn put_listed(text: &mut Text, circuits: &CircuitMap, items: &Vec<Both>, port: P
 }
 
 /// What is listed of the settle step of this number, which left a ring.
-pub fn put_step(text: &mut Text, ring: &Ring, number: u32, items: &Vec<Both>, listing: Listing)
+pub fn put_step(
+    text: &mut Text,
+    ring: &Ring,
+    number: u32,
+    items: &Vec<ListenerPair>,
+    listing: OutageListing,
+)
     requires ran { 1 ≤ ring.now.rounds }
     requires many { length items.now.items ≡ length ring.now.circuits.circuits }
     requires listing { MayList (length ring.now.circuits.circuits) listing }
@@ -159,7 +165,7 @@ pub fn put_step(text: &mut Text, ring: &Ring, number: u32, items: &Vec<Both>, li
 {
     put_settle(text, number, ring.rounds());
     match listing {
-        Listing::Ports => put_ports(text, ring.circuits(), items),
-        Listing::Trace(port) => put_listed(text, ring.circuits(), items, port),
+        OutageListing::Ports => put_ports(text, ring.circuits(), items),
+        OutageListing::Trace(port) => put_listed(text, ring.circuits(), items, port),
     }
 }

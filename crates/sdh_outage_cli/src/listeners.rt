@@ -2,13 +2,13 @@
 ghost use Rattle.sdh_outage_cli.specs.Ports.{AreListening};
 ghost use Rattle.sdh_outage_cli.specs.Keeping.{listening_same};
 
-use crate::ports::{Both, look_all};
+use crate::ports::{ListenerPair, look_all};
 use sdh_ring::{Observer, Ring};
 
 /// The listeners on all ports of a ring, in the order of its circuits.
 #[derive(Drop)]
 pub struct Listeners {
-    pub items: Vec<Both>,
+    pub items: Vec<ListenerPair>,
 }
 
 impl Observer<Ring> for Listeners {

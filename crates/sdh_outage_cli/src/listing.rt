@@ -4,7 +4,7 @@ use sdh_circuits::PortId;
 
 /// What is listed of each settle step.
 #[derive(Clone, Copy, Debug, PartialEq, Eq)]
-pub enum Listing {
+pub enum OutageListing {
     /// The outages of all ports.
     Ports,
     /// The changes of one port, and its outage.

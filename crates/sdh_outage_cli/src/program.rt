@@ -6,11 +6,11 @@ ghost use Rattle.sdh_scripts.specs.Outcome.{IsRunOutcome};
 ghost use Rattle.sdh_outage_cli.specs.Outages.{Outaged};
 ghost use Rattle.sdh_outage_cli.specs.Running.{MayList};
 ghost use Rattle.sdh_outage_cli.specs.Plans.{MaySettle};
-ghost use Rattle.sdh_outage_cli.specs.declared.listing.Listing.{Listing as Listed};
+ghost use Rattle.sdh_outage_cli.specs.declared.listing.OutageListing.{OutageListing as Listed};
 ghost use Rattle.sdh_outage_cli.specs.Words.{Ask as Asked, ask_of as what_is_asked};
 ghost use Rattle.sdh_outage_cli.specs.Headline.{listening};
 
-use crate::listing::Listing;
+use crate::listing::OutageListing;
 use crate::run::run_plan;
 use crate::words::{Command, command_of, listing_of};
 use sdh_plan::Plan;
@@ -25,7 +25,7 @@ fn run_report<P: Plant>(
     alloc: Global,
     plan: Plan,
     plant: &mut P,
-    listing: Listing,
+    listing: OutageListing,
 ) -> Result<Report<Status>, AllocError>
     requires fresh { HasNoFibres (P.fibres plant.old) }
     requires listing { MayList (length plan.circuits) listing }

@@ -7,7 +7,7 @@ ghost use Rattle.sdh_outage_cli.specs.Running.{MayList, lines_room};
 ghost use Rattle.sdh_outage_cli.specs.Plans.{outage_account, MaySettle, Tells};
 
 use crate::listeners::Listeners;
-use crate::listing::Listing;
+use crate::listing::OutageListing;
 use crate::ports::new_listeners;
 use crate::script::OutageRun;
 use sdh_circuits::CircuitMap;
@@ -21,18 +21,22 @@ use std::alloc::{AllocError, Global};
 
 // Room for what is listed of a settle step, in bytes. Of one port that is 64 changes, how many more there were, and the
 // line of its outage.
-fn lines_room(listing: Listing, circuits: &CircuitMap) -> usize
+fn lines_room(listing: OutageListing, circuits: &CircuitMap) -> usize
     ensures room { result ≡ lines_room listing (length circuits.now.circuits) }
     ensures few { result ≤ 65536 }
 {
     match listing {
-        Listing::Ports => LINE_MAX + PORT_LINE_MAX + 2 * PORT_LINE_MAX * circuits.len(),
-        Listing::Trace(_) => LINE_MAX + 66 * PORT_LINE_MAX,
+        OutageListing::Ports => LINE_MAX + PORT_LINE_MAX + 2 * PORT_LINE_MAX * circuits.len(),
+        OutageListing::Trace(_) => LINE_MAX + 66 * PORT_LINE_MAX,
     }
 }
 
 // The run of a plan, before its fibres are there.
-fn new_run(alloc: Global, plan: Plan, listing: Listing) -> Result<NewRun<OutageRun>, AllocError>
+fn new_run(
+    alloc: Global,
+    plan: Plan,
+    listing: OutageListing,
+) -> Result<NewRun<OutageRun>, AllocError>
     requires listing { MayList (length plan.circuits) listing }
     ensures may { IfOk result (MayBegin ⟦<OutageRun as Runner>⟧.ring ⟦<OutageRun as Runner>⟧.room ⟦<OutageRun as Runner>⟧.MayRun) }
     ensures is_of { IfOk result (IsOf ⟦<OutageRun as Runner>⟧.ring outage_account plan) }
@@ -66,7 +70,7 @@ pub fn run_plan<P: Plant>(
     alloc: Global,
     plan: Plan,
     plant: &mut P,
-    listing: Listing,
+    listing: OutageListing,
 ) -> Result<Run, AllocError>
     requires fresh { HasNoFibres (P.fibres plant.old) }
     requires listing { MayList (length plan.circuits) listing }

@@ -8,7 +8,7 @@ ghost use Rattle.sdh_outage_cli.specs.Running.{MayList, lines_room, MayRun as Ma
 
 use crate::lines::put_step;
 use crate::listeners::Listeners;
-use crate::listing::Listing;
+use crate::listing::OutageListing;
 use crate::ports::begin_all;
 use sdh_plan::Step;
 use sdh_plant::Plant;
@@ -21,7 +21,7 @@ use sdh_scripts::Runner;
 pub struct OutageRun {
     pub ring: Ring,
     pub listeners: Listeners,
-    pub listing: Listing,
+    pub listing: OutageListing,
 }
 
 impl Runner for OutageRun {

@@ -4,7 +4,7 @@ ghost use Rattle.sdh_shell.specs.Calls.{words_of};
 ghost use Rattle.sdh_outage_cli.specs.Running.{MayList};
 ghost use Rattle.sdh_outage_cli.specs.Words.{ask_of, asked_alone, asked_with_port, asked, listing_of};
 
-use crate::listing::Listing;
+use crate::listing::OutageListing;
 use sdh_circuits::{End, PortId};
 use sdh_plan::Plan;
 use sdh_shell::end_lettered;
@@ -52,15 +52,15 @@ pub fn command_of(words: &[String]) -> Option<Command<'_>>
 }
 
 /// What is listed of each settle step of a plan, or `None` where the plan has no such port.
-pub fn listing_of(command: Command<'_>, plan: &Plan) -> Option<Listing>
+pub fn listing_of(command: Command<'_>, plan: &Plan) -> Option<OutageListing>
     ensures listing { result ≡ listing_of (ask_of command.entry) plan.now }
     ensures may { IfSome result (λ listing. MayList (length plan.now.circuits) listing) }
 {
     match command {
-        Command::Run => Some(Listing::Ports),
+        Command::Run => Some(OutageListing::Ports),
         Command::Trace(name, end) => {
             let circuit = plan.circuits().at_port(name)?;
-            Some(Listing::Trace(PortId { circuit, end }))
+            Some(OutageListing::Trace(PortId { circuit, end }))
         }
     }
 }

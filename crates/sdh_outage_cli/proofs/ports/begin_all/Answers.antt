@@ -4,7 +4,7 @@ use Rattle.std.proofs.Math.ListN.{length-set}
 use Rattle.std.proofs.lemmas.Option.{same_Some, slice_get_read, slice_get_within}
 use Rattle.sdh_circuits.specs.Provisioning.{Provisioning}
 use Rattle.sdh_scripts.proofs.Lists.{set_upto, set_behind}
-use Rattle.sdh_outage_cli.specs.declared.ports.Both.{Both}
+use Rattle.sdh_outage_cli.specs.declared.ports.ListenerPair.{ListenerPair}
 use Rattle.sdh_outage_cli.specs.Ports.{HaveBegun}
 use Rattle.sdh_outage_cli.proofs.ports.begin_all.Goals as goal
 
@@ -23,7 +23,7 @@ loop-i-preserved c =
     let was : slice_get old i ≡ Some x = sym (inv.rest i (omega arith)) ∙ slice_get_read ws _ i x refl lt c.index_mut.ensures.value in
     record {
       len = simp length-set (omega arith);
-      each = set_upto (λ j after. (before : Both) → slice_get old j ≡ Some before → HaveBegun r j before after) ws i y lt
+      each = set_upto (λ j after. (before : ListenerPair) → slice_get old j ≡ Some before → HaveBegun r j before after) ws i y lt
           (λ before there. subst (λ b. HaveBegun r i b y) (same_Some _ _ (sym was ∙ there)) c.begin_both.ensures) inv.each;
       rest = λ j le. set_behind ws i y j (omega arith) ∙ inv.rest j (omega arith);
     }

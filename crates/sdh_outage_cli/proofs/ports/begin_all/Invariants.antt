@@ -1,13 +1,13 @@
 use Rattle.std.proofs.Common.{◌≡◌, ℕ, ◌<◌, ◌≤◌, Some, length}
 use Rattle.std.specs.Prelude.{slice_get}
-use Rattle.sdh_outage_cli.specs.declared.ports.Both.{Both}
+use Rattle.sdh_outage_cli.specs.declared.ports.ListenerPair.{ListenerPair}
 use Rattle.sdh_outage_cli.specs.Ports.{HaveBegun}
 use Rattle.sdh_outage_cli.proofs.ports.begin_all.Given as goal
 
 abbrev pub invariant-loop-i : goal.invariant-loop-i
 invariant-loop-i l = record {
   len : length l.items.items ≡ length l.fn.items.items;
-  each : (j : ℕ) (after : Both) → j < l.i → slice_get l.items.items j ≡ Some after → (before : Both)
+  each : (j : ℕ) (after : ListenerPair) → j < l.i → slice_get l.items.items j ≡ Some after → (before : ListenerPair)
       → slice_get l.fn.items.items j ≡ Some before → HaveBegun l.ring j before after;
   rest : (j : ℕ) → l.i ≤ j → slice_get l.items.items j ≡ slice_get l.fn.items.items j;
 }

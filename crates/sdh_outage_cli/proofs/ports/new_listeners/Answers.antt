@@ -11,13 +11,13 @@ pub loop-i-preserved : goal.loop-i-preserved
 loop-i-preserved c =
     let cs = c.args.circuits.now.circuits in
     let old = c.loop-i.items.items in
-    let made = c.in_ok-both_for.field-0 in
+    let made = c.in_ok-pair_for.field-0 in
     let inv = c.loop-i.invariant in
     record {
       len = ap length c.in_ok-push.ensures.items ∙ length_push old made ∙ ap (λ n. n + 1) inv.len;
       each =
           λ j both here. all_pushed (λ k other. (x : Provisioned) → slice_get cs k ≡ Some x → IsReady x 0 other) old c.loop-i.i made inv.len
-          (λ x there. subst (λ y. IsReady y 0 made) (same_Some _ _ (sym c.get.ensures ∙ there)) c.in_ok-both_for.ensures) inv.each j both
+          (λ x there. subst (λ y. IsReady y 0 made) (same_Some _ _ (sym c.get.ensures ∙ there)) c.in_ok-pair_for.ensures) inv.each j both
           (subst (λ l. slice_get l j ≡ Some both) c.in_ok-push.ensures.items here);
     }
 
