@@ -149,8 +149,8 @@ class Cases(unittest.TestCase):
         for seed in range(25):
             chance = random.Random(seed)
             nodes = chance.sample(range(16), chance.choice((2, 3, 4, 5)))
-            script = drawing["script_of"](chance, nodes, 3)
-            text = drawing["document"](4, nodes, 3, drawing["circuits_of"](chance, len(nodes), 2), script)
+            circuits = drawing["circuits_of"](chance, len(nodes), 2)
+            text = drawing["document"](4, nodes, 3, circuits, drawing["script_of"](chance, nodes, 3, circuits))
             depth = "double" if len(nodes) < 4 else "single"
             table = plain["table"](plain["ring_of"](tomllib.loads(text)), plain["DEPTHS"][depth], 1, 1)
             plan = read_plan(text.encode())
