@@ -19,7 +19,7 @@ use Rattle.sdh_scripts.specs.Plans.{Comes}
 use Rattle.sdh_scripts.proofs.Plans.{tells_all}
 use Rattle.sdh_owed.specs.Plans.{world_of}
 use Rattle.sdh_owed.proofs.Plans.{adm_new, may_start, circuits_fit}
-use Rattle.sdh_cli.specs.Plans.{ShowsHealth, RunsWell, adm_account, Tells}
+use Rattle.sdh_cli.specs.Plans.{ShowsHealth, RunsWell, AreAsPromised, adm_account, Tells}
 use Rattle.sdh_promise.specs.Plans.{ring_of, OwesAll}
 
 -- ---- over honest fibres
@@ -54,7 +54,7 @@ pub tells : ReportsAreOwed → ScriptsSettle → HealthyScripts → CoursesAreTo
     → (f.honest ≡ true → IsHonest f) → HasNoFibres f
     → Came adm_walk plan.limit (listed listing) plan.steps (world_of plan f) f text end left → Tells plan listing f text end left
 tells owed settles healthy courses plan listing f left text end fits honest fresh x =
-    tells_all adm_account plan f left end (listed listing) text keeps_rounds adm_new fits
+    tells_all adm_account plan f left end AreAsPromised (listed listing) text keeps_rounds adm_new fits
     (λ h reports came. record {
       owed = owed_comes plan f left reports end fits (honest h) owed came;
       healthy = λ all. healthy_comes plan f left reports end fits (honest h) healthy came all;

@@ -33,7 +33,7 @@ pub record AreAsPromised (plan : Planned) (f : Fibres) (reports : List Report) (
 -- ---- all that is told of one run
 
 abbrev pub adm_account : Account Node Report
-adm_account = record { walk = adm_walk; new_ring = new_ring_of; Owes = AreAsPromised }
+adm_account = record { walk = adm_walk; new_ring = new_ring_of }
 
 -- what the script comes to, where the arrivals are known
 abbrev pub ran_of : Planned → Fibres → Ran
@@ -45,8 +45,8 @@ MaySettle = plans.MaySettle adm_account
 
 -- one list of reports, told in each way
 abbrev pub IsRunOf : Planned → Fibres → List Report → Status → Fibres → Type 0
-IsRunOf = plans.IsRunOf adm_account
+IsRunOf = plans.IsRunOf adm_account AreAsPromised
 
 -- the text is what is listed of the reports of a run
 abbrev pub Tells : Planned → Listing → Fibres → List ℕ → Status → Fibres → Type 0
-Tells plan listing f text end left = plans.Tells adm_account (listed listing) plan f text end left
+Tells plan listing f text end left = plans.Tells adm_account AreAsPromised (listed listing) plan f text end left

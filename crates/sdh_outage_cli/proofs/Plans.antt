@@ -13,7 +13,7 @@ use Rattle.sdh_owed.proofs.Plans.{adm_new, may_start, circuits_fit}
 use Rattle.sdh_owed.specs.Plans.{world_of}
 use Rattle.sdh_outage_cli.specs.Scripts.{outage_walk}
 use Rattle.sdh_outage_cli.specs.Lines.{listed}
-use Rattle.sdh_outage_cli.specs.Plans.{outage_account, Tells}
+use Rattle.sdh_outage_cli.specs.Plans.{outage_account, Owes, Tells}
 use Rattle.sdh_outage_cli.specs.declared.listing.OutageListing.{OutageListing}
 use Rattle.sdh_outage_cli.proofs.Known.{keeps_rounds}
 
@@ -24,7 +24,7 @@ pub tells : ScriptsSettle → (plan : Planned) (listing : OutageListing) (f left
     → (f.honest ≡ true → IsHonest f)
     → Came outage_walk plan.limit (listed listing) plan.steps (world_of plan f) f text end left → Tells plan listing f text end left
 tells settles plan listing f left text end fits honest x =
-    tells_all outage_account plan f left end (listed listing) text keeps_rounds adm_new fits (λ h reports came. tt)
+    tells_all outage_account plan f left end Owes (listed listing) text keeps_rounds adm_new fits (λ h reports came. tt)
     (λ h large told last ran. (
     let shown = reported outage_walk refl report_of plan.limit 0 plan.steps (world_of plan f) told end last ran in
     settles plan.settings plan.nodes (provisioning_of plan) f (may_start plan f fits (honest h))

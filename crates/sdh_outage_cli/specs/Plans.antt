@@ -4,7 +4,7 @@ use Rattle.sdh_plant.specs.Fibres.{Fibres}
 use Rattle.sdh_node.specs.Node.{Node}
 use Rattle.sdh_plan.specs.Planned.{Planned}
 use Rattle.sdh_report.specs.declared.status.Status.{Status}
-use Rattle.sdh_scripts.specs.Plans.{Account}
+use Rattle.sdh_scripts.specs.Plans.{Account, ReportsOwe}
 use Rattle.sdh_scripts.specs.Plans as plans
 use Rattle.sdh_owed.specs.Plans.{new_ring_of}
 use Rattle.sdh_outage_cli.specs.Outages.{Outaged}
@@ -12,9 +12,12 @@ use Rattle.sdh_outage_cli.specs.Scripts.{outage_walk, Ran}
 use Rattle.sdh_outage_cli.specs.Lines.{listed}
 use Rattle.sdh_outage_cli.specs.declared.listing.OutageListing.{OutageListing}
 
--- nothing is owed: over honest fibres too it tells what the rounds were
 abbrev pub outage_account : Account Node Outaged
-outage_account = record { walk = outage_walk; new_ring = new_ring_of; Owes = λ plan f reports end left. Unit {0} }
+outage_account = record { walk = outage_walk; new_ring = new_ring_of }
+
+-- nothing is owed: over honest fibres too it tells what the rounds were
+abbrev pub Owes : ReportsOwe Outaged
+Owes plan f reports end left = Unit {0}
 
 -- what the script of a plan comes to, where the arrivals are known
 abbrev pub ran_of : Planned → Fibres → Ran
@@ -27,8 +30,8 @@ MaySettle = plans.MaySettle outage_account
 
 -- one list, told in each way
 abbrev pub IsRunOf : Planned → Fibres → List Outaged → Status → Fibres → Type 0
-IsRunOf = plans.IsRunOf outage_account
+IsRunOf = plans.IsRunOf outage_account Owes
 
 -- the text is what is listed of a run
 abbrev pub Tells : Planned → OutageListing → Fibres → List ℕ → Status → Fibres → Type 0
-Tells plan listing f text end left = plans.Tells outage_account (listed listing) plan f text end left
+Tells plan listing f text end left = plans.Tells outage_account Owes (listed listing) plan f text end left

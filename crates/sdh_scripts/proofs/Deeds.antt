@@ -8,7 +8,7 @@ use Rattle.sdh_report.specs.declared.status.Status.{Status}
 use Rattle.sdh_shell.proofs.Endings.{has_run}
 use Rattle.sdh_scripts.specs.Programs.{Deed, Writes, Runs, deed_listing, Program}
 use Rattle.sdh_scripts.specs.Outcome.{IsRunOutcome}
-use Rattle.sdh_scripts.specs.Plans.{Account, IsRunOf, Tells}
+use Rattle.sdh_scripts.specs.Plans.{Account, ReportsOwe, IsRunOf, Tells}
 use Rattle.sdh_scripts.proofs.Plans.{ends_of}
 
 -- ---- what is listed
@@ -26,11 +26,11 @@ listing_runs (Some other) listing e = grind arith
 -- ---- a run
 
 -- A run whose reports are told by an account of plans, with its last line.
-pub run_outcome : {A L T E N : Type 0} (program : Program A L T E) (account : Account N T) (listing : L) (plan : Planned)
+pub run_outcome : {A L T E N : Type 0} {Owes : ReportsOwe T} (program : Program A L T E) (account : Account N T) (listing : L) (plan : Planned)
     (f left : Fibres) (text_of : T → List ℕ) → ((told : List T) → flat_map text_of told ≡ program.text_of listing told)
-    → ((told : List T) (end : Status) → IsRunOf account plan f told end left → program.IsRunOf plan f told end left)
+    → ((told : List T) (end : Status) → IsRunOf account Owes plan f told end left → program.IsRunOf plan f told end left)
     → (run text : List ℕ) (end : Status) (how : E) → how ≡ program.endings.of end → text ≡ run ++ program.endings.line how
-    → Tells account text_of plan f run end left → IsRunOutcome program listing plan f how text left
+    → Tells account Owes text_of plan f run end left → IsRunOutcome program listing plan f how text left
 run_outcome program account listing plan f left text_of same came run text end how is text_is x = record {
   status = end;
   how_is = is;

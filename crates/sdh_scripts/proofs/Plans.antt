@@ -17,7 +17,7 @@ use Rattle.sdh_scripts.specs.Scripts.{Runs}
 use Rattle.sdh_scripts.specs.Texts.{HasRoom, Lists}
 use Rattle.sdh_scripts.specs.Outcomes.{with_fibres, Came, IsSettled, ComesOfKnownRun}
 use Rattle.sdh_scripts.specs.Laws.{KeepsRounds}
-use Rattle.sdh_scripts.specs.Plans.{Account, world_of, ran_of, Comes, ComesKnown, MaySettle, IsRunOf, Tells}
+use Rattle.sdh_scripts.specs.Plans.{Account, ReportsOwe, world_of, ran_of, Comes, ComesKnown, MaySettle, IsRunOf, Tells}
 use Rattle.sdh_scripts.specs.NewRuns.{MayBegin, IsOf}
 use Rattle.sdh_scripts.specs.declared.run.NewRun.{NewRun}
 use Rattle.sdh_scripts.proofs.Texts.{silent_tail}
@@ -117,12 +117,12 @@ module _ {N T : Type 0} (t : Account N T) (plan : Planned) (f left : Fibres) (en
   settles_then law reports (inl x) = settled_by end status.PlantFault x.0 fault_settles
   settles_then law reports (inr x) = law reports x.0 x.2
 
-  pub tells_all : (text_of : T → List ℕ) (text : List ℕ) → KeepsRounds t.walk → IsNew t.new_ring → IsPlanned plan
-      → (f.honest ≡ true → (reports : List T) → Comes t plan f reports end left → t.Owes plan f reports end left)
+  pub tells_all : (Owes : ReportsOwe T) (text_of : T → List ℕ) (text : List ℕ) → KeepsRounds t.walk → IsNew t.new_ring → IsPlanned plan
+      → (f.honest ≡ true → (reports : List T) → Comes t plan f reports end left → Owes plan f reports end left)
       → (f.honest ≡ true → enough_for (length plan.nodes) ≤ plan.limit → (reports : List T) (last : World N)
       → Runs t.walk plan.limit 0 plan.steps (world_of t plan f) reports end last → IsSettled end)
-      → Came t.walk plan.limit text_of plan.steps (world_of t plan f) f text end left → Tells t text_of plan f text end left
-  tells_all text_of text law new fits owes settled x = record {
+      → Came t.walk plan.limit text_of plan.steps (world_of t plan f) f text end left → Tells t Owes text_of plan f text end left
+  tells_all Owes text_of text law new fits owes settled x = record {
     reports = x.reports;
     text_is = x.text_is;
     came = record {
@@ -134,11 +134,11 @@ module _ {N T : Type 0} (t : Account N T) (plan : Planned) (f left : Fibres) (en
   }
 
   -- the ways in which it ends
-  pub ends_of : (reports : List T) → IsRunOf t plan f reports end left → EndsIn end
+  pub ends_of : {Owes : ReportsOwe T} (reports : List T) → IsRunOf t Owes plan f reports end left → EndsIn end
   ends_of reports x = comes_ends t.walk plan.limit plan.steps (world_of t plan f) f left reports end x.ran
 
   -- one that settles, and that no fault broke off, is done
-  pub done_of : (reports : List T) → IsRunOf t plan f reports end left → MaySettle t plan f → (end ≡ status.PlantFault → ⊥)
+  pub done_of : {Owes : ReportsOwe T} (reports : List T) → IsRunOf t Owes plan f reports end left → MaySettle t plan f → (end ≡ status.PlantFault → ⊥)
       → end ≡ status.Ok
   done_of reports x (inl may) fine = known_done t.walk (ran_of t plan f) (length plan.nodes) f left reports end (x.known may.0) may.1 fine
   done_of reports x (inr may) fine =

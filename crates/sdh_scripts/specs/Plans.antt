@@ -18,8 +18,10 @@ pub record Account (N T : Type 0) : Type 1 where
   pub walk : Walk N T
   -- the ring of a plan, in which no round has run
   pub new_ring : Planned → HeldRing N
-  -- what reports owe over these fibres, which are honest, with this ending and the fibres that were left
-  pub Owes : Planned → Fibres → List T → Status → Fibres → Type 0
+
+-- what reports of a plan owe over these fibres, which are honest, with this ending and the fibres that were left
+abbrev pub ReportsOwe : Type 0 → Type 1
+ReportsOwe T = Planned → Fibres → List T → Status → Fibres → Type 0
 
 -- the ring of a plan, over fibres that were just prepared for it
 abbrev pub world_of : {N T : Type 0} → Account N T → Planned → Fibres → World N
@@ -46,16 +48,16 @@ MaySettle t plan f =
 
 -- One list of reports, told in each way: what ran over every plant, what it comes to where the arrivals are known, and over honest
 -- fibres what is owed, and that no settle step with so large a limit is unsettled.
-pub record IsRunOf {N T : Type 0} (t : Account N T) (plan : Planned) (f : Fibres) (reports : List T) (end : Status)
+pub record IsRunOf {N T : Type 0} (t : Account N T) (Owes : ReportsOwe T) (plan : Planned) (f : Fibres) (reports : List T) (end : Status)
     (left : Fibres) : Type 0 where
   pub ran : Comes t plan f reports end left
   pub known : Knows (world_of t plan f).fibres → ComesKnown t plan f reports end left
-  pub owed : f.honest ≡ true → t.Owes plan f reports end left
+  pub owed : f.honest ≡ true → Owes plan f reports end left
   pub settles : f.honest ≡ true → enough_for (length plan.nodes) ≤ plan.limit → IsSettled end
 
 -- the text is what is written of each report of a run
-pub record Tells {N T : Type 0} (t : Account N T) (text_of : T → List ℕ) (plan : Planned) (f : Fibres) (text : List ℕ) (end : Status)
-    (left : Fibres) : Type 0 where
+pub record Tells {N T : Type 0} (t : Account N T) (Owes : ReportsOwe T) (text_of : T → List ℕ) (plan : Planned) (f : Fibres)
+    (text : List ℕ) (end : Status) (left : Fibres) : Type 0 where
   pub reports : List T
   pub text_is : text ≡ flat_map text_of reports
-  pub came : IsRunOf t plan f reports end left
+  pub came : IsRunOf t Owes plan f reports end left

@@ -24,7 +24,7 @@ use Rattle.sdh_sncp_cli.specs.Reports.{report_of}
 use Rattle.sdh_sncp_cli.specs.Walking.{does, path_walk}
 use Rattle.sdh_sncp_cli.specs.Steps.{AreKnown}
 use Rattle.sdh_sncp_cli.specs.Promise.{OwesAll}
-use Rattle.sdh_sncp_cli.specs.Plans.{new_ring_of, path_account, world_of, Tells}
+use Rattle.sdh_sncp_cli.specs.Plans.{new_ring_of, path_account, Owes, world_of, Tells}
 use Rattle.sdh_sncp_cli.specs.Laws.{ReportsAreDue, PathScriptsSettle}
 use Rattle.sdh_sncp_cli.proofs.Fits.{fits}
 use Rattle.sdh_sncp_cli.proofs.Due.{due_none}
@@ -97,7 +97,7 @@ pub tells : ReportsAreDue → PathScriptsSettle → (plan : Planned) (f left : F
     → AreKnown plan.steps → AreAlone plan.circuits → (f.honest ≡ true → IsHonest f)
     → Came path_walk plan.limit report_text plan.steps (world_of plan f) f text end left → Tells plan f text end left
 tells owed settles plan f left text end form known alone honest x =
-    tells_all path_account plan f left end report_text text keeps_rounds path_new form
+    tells_all path_account plan f left end Owes report_text text keeps_rounds path_new form
     (λ h reports came. owed_then plan f left reports end form known alone owed (honest h) came)
     (λ h large reports last ran. settles plan.settings plan.nodes
     (provisioning_of plan) f plan.limit plan.steps reports end last form.nodes_fit (honest h)

@@ -5,7 +5,7 @@ use Rattle.sdh_plan.specs.Planned.{Planned, provisioning_of}
 use Rattle.sdh_report.specs.Reports.{Report, report_text}
 use Rattle.sdh_report.specs.declared.status.Status.{Status}
 use Rattle.sdh_scripts.specs.Scripts.{Ran}
-use Rattle.sdh_scripts.specs.Plans.{Account}
+use Rattle.sdh_scripts.specs.Plans.{Account, ReportsOwe}
 use Rattle.sdh_scripts.specs.Plans as plans
 use Rattle.sdh_sncp.specs.Node.{PathNode}
 use Rattle.sdh_sncp.specs.Ring.{HeldPath, World, new_ring}
@@ -16,9 +16,12 @@ use Rattle.sdh_sncp_cli.specs.Promise.{OwesAll}
 abbrev pub new_ring_of : Planned → HeldPath
 new_ring_of plan = new_ring plan.settings plan.nodes (provisioning_of plan)
 
--- over honest fibres each report shows for every port what it is owed
 abbrev pub path_account : Account PathNode Report
-path_account = record { walk = path_walk; new_ring = new_ring_of; Owes = λ plan f reports end left. OwesAll plan reports end }
+path_account = record { walk = path_walk; new_ring = new_ring_of }
+
+-- over honest fibres each report shows for every port what it is owed
+abbrev pub Owes : ReportsOwe Report
+Owes plan f reports end left = OwesAll plan reports end
 
 -- the ring of a plan, over fibres that were just prepared for it
 abbrev pub world_of : Planned → Fibres → World
@@ -35,8 +38,8 @@ MaySettle = plans.MaySettle path_account
 
 -- one list of reports, told in each way
 abbrev pub IsRunOf : Planned → Fibres → List Report → Status → Fibres → Type 0
-IsRunOf = plans.IsRunOf path_account
+IsRunOf = plans.IsRunOf path_account Owes
 
 -- the text is that of the reports of a run
 abbrev pub Tells : Planned → Fibres → List ℕ → Status → Fibres → Type 0
-Tells = plans.Tells path_account report_text
+Tells = plans.Tells path_account Owes report_text

@@ -17,7 +17,7 @@ use Rattle.sdh_watch.specs.Scripts.{watch_walk}
 use Rattle.sdh_watch.proofs.Known.{keeps_rounds}
 use Rattle.sdh_watch.proofs.Owing.{clean_none}
 use Rattle.sdh_watch.specs.Lines.{watched_text}
-use Rattle.sdh_watch.specs.Plans.{ShowsClean, watch_account, Tells}
+use Rattle.sdh_watch.specs.Plans.{ShowsClean, watch_account, Owes, Tells}
 
 -- ---- over honest fibres
 
@@ -35,7 +35,7 @@ pub tells : WatchesAreClean → ScriptsSettle → (plan : Planned) (f left : Fib
     → (f.honest ≡ true → IsHonest f)
     → Came watch_walk plan.limit watched_text plan.steps (world_of plan f) f text end left → Tells plan f text end left
 tells owed settles plan f left text end fits honest x =
-    tells_all watch_account plan f left end watched_text text keeps_rounds adm_new fits
+    tells_all watch_account plan f left end Owes watched_text text keeps_rounds adm_new fits
     (λ h reports came. owed_comes plan f left reports end fits (honest h) owed came)
     (λ h large reports last ran. settles plan.settings plan.nodes (provisioning_of plan) f (may_start plan f fits (honest h))
     (circuits_fit plan fits) plan.limit new_past plan.steps fits.steps_fit large reports end last ran)

@@ -6,7 +6,7 @@ use Rattle.sdh_plan.specs.Planned.{Planned}
 use Rattle.sdh_report.specs.declared.status.Status.{Status}
 use Rattle.sdh_promise.specs.Changes.{scenes}
 use Rattle.sdh_promise.specs.Plans.{ring_of}
-use Rattle.sdh_scripts.specs.Plans.{Account}
+use Rattle.sdh_scripts.specs.Plans.{Account, ReportsOwe}
 use Rattle.sdh_scripts.specs.Plans as plans
 use Rattle.sdh_owed.specs.Plans.{new_ring_of}
 use Rattle.sdh_watch.specs.Shows.{Watched}
@@ -19,7 +19,11 @@ abbrev pub ShowsClean : Planned → List Watched → Status → Type 0
 ShowsClean plan reports end = AreClean (ring_of plan) plan.limit [] 0 (scenes [] plan.steps) reports end
 
 abbrev pub watch_account : Account Node Watched
-watch_account = record { walk = watch_walk; new_ring = new_ring_of; Owes = λ plan f reports end left. ShowsClean plan reports end }
+watch_account = record { walk = watch_walk; new_ring = new_ring_of }
+
+-- that is what its lines owe
+abbrev pub Owes : ReportsOwe Watched
+Owes plan f reports end left = ShowsClean plan reports end
 
 -- what the script of a plan comes to with watches, where the arrivals are known
 abbrev pub ran_of : Planned → Fibres → Ran
@@ -32,8 +36,8 @@ MaySettle = plans.MaySettle watch_account
 
 -- one list, told in each way
 abbrev pub IsRunOf : Planned → Fibres → List Watched → Status → Fibres → Type 0
-IsRunOf = plans.IsRunOf watch_account
+IsRunOf = plans.IsRunOf watch_account Owes
 
 -- the text is that of the lines of a run
 abbrev pub Tells : Planned → Fibres → List ℕ → Status → Fibres → Type 0
-Tells = plans.Tells watch_account watched_text
+Tells = plans.Tells watch_account Owes watched_text
