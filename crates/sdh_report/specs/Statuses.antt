@@ -18,10 +18,11 @@ number_of status.TooLong = 9
 number_of status.NoSuchPort = 10
 number_of status.Memory = 70
 
--- the last line of the text that goes with a status. With a write fault and with want of memory there is none
+-- the last line of the text that goes with a status. With a write fault and with want of memory there is none, and of wrong words each
+-- program has a line of its own
 abbrev pub last_line : Status → List ℕ
 last_line status.Ok = own_line (codes "done")
-last_line status.Usage = own_line (codes "usage: sdhring run, check, drop NAME END, big NUMBER")
+last_line status.Usage = []
 last_line status.ReadFault = own_line (codes "read fault")
 last_line status.WriteFault = []
 last_line status.NotToml = own_line (codes "not toml")

@@ -269,16 +269,14 @@ impl Text {
         self.put(b"\n");
     }
 
-    /// The last line of a text, by how the program ends. A write fault and want of memory have none.
+    /// The last line of a text, by how the program ends. A write fault and want of memory have none, and of wrong words each
+    /// program has a line of its own.
     pub fn last_line(&mut self, status: &Status)
         requires { length (last_line status.now) ≤ self.old.room }
         ensures { self.new ≡ with_part self.old (last_line status.now) }
     {
         match *status {
             Status::Ok => self.own_line(b"done"),
-            Status::Usage => {
-                self.own_line(b"usage: sdhring run, check, drop NAME END, big NUMBER");
-            }
             Status::ReadFault => self.own_line(b"read fault"),
             Status::NotToml => self.own_line(b"not toml"),
             Status::BadPlan { reason, place } => self.bad_plan_line(reason, place),
@@ -286,7 +284,7 @@ impl Text {
             Status::PlantFault => self.own_line(b"plant fault"),
             Status::TooLong => self.own_line(b"too long"),
             Status::NoSuchPort => self.own_line(b"no such port"),
-            Status::WriteFault | Status::Memory => (),
+            Status::Usage | Status::WriteFault | Status::Memory => (),
         }
     }
 }
