@@ -18,6 +18,7 @@ use Rattle.sdh_payload.specs.Outlet.{Outlet, delivering}
 use Rattle.sdh_payload.specs.Stream.{stream_from}
 use Rattle.sdh_promise.specs.Changes.{Stretch}
 use Rattle.sdh_promise.specs.Happened.{happened}
+use Rattle.sdh_promise.specs.Plans.{ports_of}
 use Rattle.sdh_promise.specs.Owed.{owed_port, owed_ports, IsOwed}
 use Rattle.sdh_spans.specs.Brought.{plainly}
 use Rattle.sdh_world.specs.Clocks.{offset_of, clocks_by}
@@ -89,7 +90,7 @@ ports_are r n applied before t index (c ∷ cs) h =
 -- the report of a ring that is restored by the clocks of a run shows what is owed by what happened
 pub owed_now : (ss : List Stretch) (w : World) (number : ℕ) (requests : List ℕ) → HasCircuits (layout_of w)
     → IsRestored (clocks_by w.ring.circuits.circuits ss) w requests
-    → IsOwed (length w.ring.ids) requests (happened ss) w.ring.circuits.circuits (report_of number w.ring)
+    → IsOwed (length w.ring.ids) requests (happened ss) w.ring.circuits.circuits (ports_of (report_of number w.ring))
 unfolding report_of
 owed_now ss w number requests form h =
     let n = length w.ring.ids in

@@ -23,6 +23,7 @@ use Rattle.sdh_world.proofs.Clocks.{slips_keep}
 use Rattle.sdh_promise.specs.Changes as change
 use Rattle.sdh_promise.specs.Changes.{Change, Stretch, rounds_in}
 use Rattle.sdh_promise.specs.Happened.{happened}
+use Rattle.sdh_promise.specs.Plans.{ports_of}
 use Rattle.sdh_promise.specs.Owed.{Ring, asked_in, IsOwed}
 use Rattle.sdh_laws.specs.Hearing.Laws.{IsWhole, MayStart, NoneWait}
 use Rattle.sdh_laws.specs.Carrying.Laws.{IsRestored}
@@ -193,7 +194,7 @@ module _ (s : Settings) (ids : List ℕ) (circuits : Provisioning) (f : Fibres) 
     shows restored =
         let same : layout_of left ≡ layout_in (new_ring s ids circuits) = layout_stretches now from in
         let by = subst (λ (y : Layout). IsRestored (clocks_by y.circuits now) left requests) (sym same) restored in
-        subst (λ (y : Layout). IsOwed (size_of y) requests (happened now) y.circuits (report_of 0 left.ring)) same
+        subst (λ (y : Layout). IsOwed (size_of y) requests (happened now) y.circuits (ports_of (report_of 0 left.ring))) same
         (owed_now now left 0 requests (subst HasCircuits (sym same) form) by)
 
     many : 1 ≤ k → rounds_in now ≡ t + 1

@@ -22,6 +22,7 @@ use Rattle.sdh_report.specs.Reports.{Report}
 use Rattle.sdh_promise.specs.Changes.{Change, Fibre, Order, Hold, Slip, Now, Stretch, rounds_in, scenes}
 use Rattle.sdh_promise.specs.Happened.{happened}
 use Rattle.sdh_promise.specs.Owed.{Ring, requests_by, IsOwed, IsLast}
+use Rattle.sdh_promise.specs.Plans.{ports_of}
 use Rattle.sdh_owed.specs.Reports.{report_of}
 use Rattle.sdh_owed.specs.Scripts.{Runs}
 use Rattle.sdh_owed.specs.Laws.{ring_by}
@@ -86,7 +87,7 @@ NoneEverMeetsAStranger w ring ss =
 -- the ring after these stretches shows every port with what it is owed, as a report would
 abbrev pub ShowsWhatIsOwed : World → Ring → List Stretch → Type 0
 ShowsWhatIsOwed w ring ss =
-    (let r = report_of 0 (after_stretches ss w).ring in IsOwed ring.nodes (requests_by ring ss r.round) (happened ss) ring.circuits r)
+    (let r = report_of 0 (after_stretches ss w).ring in IsOwed ring.nodes (requests_by ring ss r.round) (happened ss) ring.circuits (ports_of r))
 
 -- a change gives no port slips
 abbrev pub SlipsNone : Change → Type 0

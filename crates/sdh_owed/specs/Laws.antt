@@ -1,5 +1,5 @@
 -- The laws of scripts.
-use Rattle.std.specs.Prelude.{ℕ, ◌≤◌, List, [], length}
+use Rattle.std.specs.Prelude.{ℕ, ◌≤◌, List, [], length, map}
 use Rattle.sdh_circuits.specs.Provisioned.{Provisioned}
 use Rattle.sdh_circuits.specs.Provisioning.{Provisioning}
 use Rattle.sdh_plant.specs.Fibres.{Fibres}
@@ -19,6 +19,7 @@ use Rattle.sdh_promise.specs.Changes.{scenes}
 use Rattle.sdh_scripts.specs.Outcomes.{IsSettled}
 use Rattle.sdh_owed.specs.Scripts.{Runs}
 use Rattle.sdh_promise.specs.Owed.{Ring, AreOwed}
+use Rattle.sdh_promise.specs.Plans.{ports_of}
 use Rattle.sdh_owed.specs.Healthy.{AllSettle, IsHealthy}
 
 -- a ring of n with these settings and circuits, as far as reports owe by it
@@ -31,7 +32,7 @@ ReportsAreOwed = (s : Settings) (ids : List ℕ) (circuits : Provisioning) (f : 
     MayStart s ids f → HasCircuits l → (limit : ℕ) (past : Past) (steps : List Step)
     → AreSteps s.rate (length ids) (length circuits.circuits) past steps
     → (reports : List Report) (end : Status) (left : World) → Runs limit 0 steps (new_world s ids circuits f) reports end left
-    → AreOwed (ring_by s (length ids) circuits.circuits) limit [] 0 (scenes [] steps) reports end)
+    → AreOwed (ring_by s (length ids) circuits.circuits) limit [] 0 (scenes [] steps) (map ports_of reports) end)
 
 -- from there no settle step with so large a limit is unsettled
 abbrev pub ScriptsSettle : Type 0

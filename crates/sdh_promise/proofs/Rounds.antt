@@ -1,9 +1,8 @@
 -- The rounds of reports that are owed.
 use Rattle.std.proofs.Common.{◌≡◌, ℕ, ◌+◌, ◌-◌, List, [], ◌∷◌, ◌++◌, subst, arith}
-use Rattle.sdh_report.specs.Reports.{Report}
 use Rattle.sdh_promise.specs.Changes.{Change, Stretch, rounds_in}
 use Rattle.sdh_promise.specs.Happened.{happened}
-use Rattle.sdh_promise.specs.Owed.{Ring, requests_by, IsLast, IsOwed}
+use Rattle.sdh_promise.specs.Owed.{Ring, PortReport, requests_by, IsLast, IsOwed}
 use Rattle.sdh_promise.specs.Laws.{GoOn, ReportsGoOn, ReportsRemember}
 
 rounds_last : (ss : List Stretch) (s : Stretch) → rounds_in (ss ++ s ∷ []) ≡ rounds_in ss + s.rounds
@@ -29,7 +28,7 @@ reports_go_on ring limit earlier before (changes ∷ later) (r ∷ reports) end 
 stretch_of : List Change → ℕ → Stretch
 stretch_of changes rounds = record { changes = changes; rounds = rounds }
 
-shows : Ring → Report → List Stretch → Type 0
+shows : Ring → PortReport → List Stretch → Type 0
 shows ring r now = IsOwed ring.nodes (requests_by ring now r.round) (happened now) ring.circuits r
 
 pub reports_remember : ReportsRemember

@@ -11,15 +11,14 @@ use Rattle.sdh_circuits.specs.Provisioned.{Provisioned, customer_at, same_port}
 use Rattle.sdh_restoration.specs.Due.{due, sends_by}
 use Rattle.sdh_circuits.specs.Ends.{other_end}
 use Rattle.sdh_report.specs.declared.status.Status.{Status}
-use Rattle.sdh_report.specs.Reports.{Report}
 use Rattle.sdh_promise.specs.Changes.{Change, Fibre, Slip, Stretch, rounds_in}
 use Rattle.sdh_promise.specs.Sides.{Holding, holding_after}
 use Rattle.sdh_promise.specs.Happened.{told_by, happened}
-use Rattle.sdh_promise.specs.Owed.{Ring, requests_by, owed_port, IsOwed, AreOwed}
+use Rattle.sdh_promise.specs.Owed.{Ring, PortReport, requests_by, owed_port, IsOwed, AreOwed}
 
 -- the rounds of these reports, before the first of which so many rounds had run, go on: each is behind those of the report before it,
 -- within the limit, at a multiple of 128 and not in round 0
-abbrev pub GoOn : ℕ → ℕ → List Report → Type 0
+abbrev pub GoOn : ℕ → ℕ → List PortReport → Type 0
 GoOn limit ran [] = Unit {0}
 GoOn limit ran (r ∷ reports) =
     (ran ≤ r.round) × (1 ≤ r.round) × (r.round + 1 ≤ ran + limit) × (r.round % 128 ≡ 0) × GoOn limit (r.round + 1) reports
@@ -27,13 +26,13 @@ GoOn limit ran (r ∷ reports) =
 -- and so do those of reports that are owed, in a ring of two nodes or more
 abbrev pub ReportsGoOn : Type 0
 ReportsGoOn =
-    (ring : Ring) (limit : ℕ) (earlier : List Stretch) (before : ℕ) (later : List (List Change)) (reports : List Report) (end : Status)
+    (ring : Ring) (limit : ℕ) (earlier : List Stretch) (before : ℕ) (later : List (List Change)) (reports : List PortReport) (end : Status)
     → 2 ≤ ring.nodes → AreOwed ring limit earlier before later reports end → GoOn limit (rounds_in earlier) reports
 
 -- The first two reports speak of all that happened before them: after a stretch of one's changes they show what is owed.
 abbrev pub ReportsRemember : Type 0
 ReportsRemember =
-    (ring : Ring) (limit : ℕ) (one two : List Change) (later : List (List Change)) (r s : Report) (reports : List Report) (end : Status)
+    (ring : Ring) (limit : ℕ) (one two : List Change) (later : List (List Change)) (r s : PortReport) (reports : List PortReport) (end : Status)
     (k m : ℕ)
     → r.round + 1 ≡ k → s.round + 1 ≡ k + m → 2 ≤ ring.nodes → AreOwed ring limit [] 0 (one ∷ two ∷ later) (r ∷ s ∷ reports) end
     → (let first : Stretch = record { changes = one; rounds = k } in let second : Stretch = record { changes = two; rounds = m } in

@@ -11,10 +11,16 @@ use Rattle.sdh_restoration.specs.Due.{due, sends_by}
 use Rattle.sdh_circuits.specs.Ends.{other_end}
 use Rattle.sdh_report.specs.declared.status.Status.{Status}
 use Rattle.sdh_report.specs.declared.status.Status.TheVariants as status
-use Rattle.sdh_report.specs.Reports.{PortLine, Report}
+use Rattle.sdh_report.specs.Reports.{PortLine}
 use Rattle.sdh_promise.specs.Changes.{Change, Stretch, rounds_in}
 use Rattle.sdh_promise.specs.Sides.{side_history}
 use Rattle.sdh_promise.specs.Happened.{happened}
+
+-- what a report owes by: its settle step, counted from 1; its last round; and each port in the order of the circuits, a before b
+pub record PortReport : Type 0 where
+  pub number : ℕ
+  pub round : ℕ
+  pub ports : List PortLine
 
 -- a ring, as far as reports owe by it: how many nodes, how many violations degrade a side, how long a side waits to restore, and
 -- the circuits in their order
@@ -50,7 +56,7 @@ owed_ports n applied before t index (c ∷ cs) =
     owed_port n applied before t index c A ∷ owed_port n applied before t index c B ∷ owed_ports n applied before t (index + 1) cs
 
 -- the report shows each port of these circuits with what it is owed in a ring of n under these requests of spans, by what happened
-abbrev pub IsOwed : ℕ → List ℕ → (PortId → ℕ → List Happening) → List Provisioned → Report → Type 0
+abbrev pub IsOwed : ℕ → List ℕ → (PortId → ℕ → List Happening) → List Provisioned → PortReport → Type 0
 IsOwed n requests before circuits r = r.ports ≡ owed_ports n (is_applied requests) before r.round 0 circuits
 
 -- The last round of a settle step that ended, in a ring of n, before which so many rounds had run: a quiet window has 3 n rounds, the
@@ -63,7 +69,7 @@ pub record IsLast (n limit ran t : ℕ) : Type 0 where
 -- Each report shows what is owed under the requests of the history and by what happened at the ports, where `earlier` had happened, so many settle
 -- steps had ended, and these are the changes before each step to come. Report by report the number grows by 1, and the round tells
 -- how many rounds the step ran. A settle step without a report is where the script ended, unsettled or by a fault.
-abbrev pub AreOwed : Ring → ℕ → List Stretch → ℕ → List (List Change) → List Report → Status → Type 0
+abbrev pub AreOwed : Ring → ℕ → List Stretch → ℕ → List (List Change) → List PortReport → Status → Type 0
 AreOwed ring limit earlier before [] reports end = (reports ≡ []) × ((end ≡ status.Ok) ⊎ (end ≡ status.PlantFault))
 AreOwed ring limit earlier before (changes ∷ later) [] end = (end ≡ status.Unsettled (before + 1)) ⊎ (end ≡ status.PlantFault)
 AreOwed ring limit earlier before (changes ∷ later) (r ∷ reports) end =

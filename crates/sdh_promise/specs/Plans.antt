@@ -1,10 +1,10 @@
 -- What the reports of a plan owe.
-use Rattle.std.specs.Prelude.{List, [], length}
+use Rattle.std.specs.Prelude.{List, [], length, map}
 use Rattle.sdh_plan.specs.Planned.{Planned}
 use Rattle.sdh_report.specs.declared.status.Status.{Status}
 use Rattle.sdh_report.specs.Reports.{Report}
 use Rattle.sdh_promise.specs.Changes.{scenes}
-use Rattle.sdh_promise.specs.Owed.{Ring, AreOwed}
+use Rattle.sdh_promise.specs.Owed.{Ring, PortReport, AreOwed}
 
 -- the ring of a plan, as far as reports owe by it
 abbrev pub ring_of : Planned → Ring
@@ -15,6 +15,10 @@ ring_of plan = record {
   circuits = plan.circuits;
 }
 
+-- a report without its nodes' lines
+abbrev pub ports_of : Report → PortReport
+ports_of r = record { number = r.number; round = r.round; ports = r.ports }
+
 -- each report shows for every port what it is owed
 abbrev pub OwesAll : Planned → List Report → Status → Type 0
-OwesAll plan reports end = AreOwed (ring_of plan) plan.limit [] 0 (scenes [] plan.steps) reports end
+OwesAll plan reports end = AreOwed (ring_of plan) plan.limit [] 0 (scenes [] plan.steps) (map ports_of reports) end

@@ -2,10 +2,9 @@
 use Rattle.std.proofs.Common.{◌≡◌, ℕ, ◌+◌, ◌-◌, ◌≤◌, List, [], ◌∷◌, ◌++◌, refl, ap, ◌∙◌, subst, arith, inl, inr, append_assoc}
 use Rattle.sdh_report.specs.declared.status.Status.{Status}
 use Rattle.sdh_report.specs.declared.status.Status.TheVariants as status
-use Rattle.sdh_report.specs.Reports.{Report}
 use Rattle.sdh_promise.specs.Changes.{Change, Stretch, rounds_in}
 use Rattle.sdh_promise.specs.Happened.{happened}
-use Rattle.sdh_promise.specs.Owed.{Ring, requests_by, IsLast, IsOwed, AreOwed}
+use Rattle.sdh_promise.specs.Owed.{Ring, PortReport, requests_by, IsLast, IsOwed, AreOwed}
 use Rattle.sdh_verdicts.specs.Resting.{requests_after}
 use Rattle.sdh_verdicts.specs.Foretold.{AreLong, changes_in, stretches_by, RequestsRest, IsForetold, AreForetold, ReportsAreForetold}
 use Rattle.sdh_verdicts.specs.Foretold.{LastReportsAreForetold}
@@ -25,13 +24,13 @@ long_last [] s long last = (last, tt)
 long_last (t ∷ ss) s long last = (long.0, long_last ss s long.1 last)
 
 -- the stretch of a report, behind those before it
-abbrev stretch_of : List Stretch → List Change → Report → Stretch
+abbrev stretch_of : List Stretch → List Change → PortReport → Stretch
 stretch_of earlier changes r = record { changes = changes; rounds = r.round + 1 - rounds_in earlier }
 
 -- ---- a script, report by report
 
 module _ (ring : Ring) (limit : ℕ) (least : 1 ≤ ring.threshold) (some : 1 ≤ ring.nodes) (rest : RequestsRest) where
-  module _ (earlier : List Stretch) (changes : List Change) (r : Report) (long : AreLong earlier)
+  module _ (earlier : List Stretch) (changes : List Change) (r : PortReport) (long : AreLong earlier)
       (is : IsLast ring.nodes limit (rounds_in earlier) r.round) where
     abbrev now : List Stretch
     now = earlier ++ stretch_of earlier changes r ∷ []
@@ -52,7 +51,7 @@ module _ (ring : Ring) (limit : ℕ) (least : 1 ≤ ring.threshold) (some : 1 �
           shows = subst (λ q. IsOwed ring.nodes q (happened now) ring.circuits r) same owed;
         }
 
-  each : (earlier : List Stretch) (before : ℕ) (scenes : List (List Change)) (reports : List Report) (end : Status) → AreLong earlier
+  each : (earlier : List Stretch) (before : ℕ) (scenes : List (List Change)) (reports : List PortReport) (end : Status) → AreLong earlier
       → AreOwed ring limit earlier before scenes reports end → AreForetold ring earlier scenes reports
   each earlier before [] reports end long owed = owed.0
   each earlier before (changes ∷ later) [] end long owed = tt
@@ -65,15 +64,15 @@ module _ (ring : Ring) (limit : ℕ) (least : 1 ≤ ring.threshold) (some : 1 �
 
 module _ (ring : Ring) (limit : ℕ) where
   -- the last of some reports behind earlier stretches, with the changes of all
-  record LastOf (earlier : List Stretch) (scenes : List (List Change)) (reports : List Report) : Type 0 where
-    pub before : List Report
-    pub last : Report
+  record LastOf (earlier : List Stretch) (scenes : List (List Change)) (reports : List PortReport) : Type 0 where
+    pub before : List PortReport
+    pub last : PortReport
     pub are : reports ≡ before ++ last ∷ []
     pub changes : changes_in (stretches_by earlier scenes reports) ≡ changes_in earlier ++ scenes
     pub shows : IsForetold ring (stretches_by earlier scenes reports) last
 
   -- the last one, behind a scene that is there
-  last_of : (earlier : List Stretch) (before : ℕ) (changes : List Change) (later : List (List Change)) (reports : List Report)
+  last_of : (earlier : List Stretch) (before : ℕ) (changes : List Change) (later : List (List Change)) (reports : List PortReport)
       → AreOwed ring limit earlier before (changes ∷ later) reports status.Ok → AreForetold ring earlier (changes ∷ later) reports
       → LastOf earlier (changes ∷ later) reports
   last_of earlier before changes later [] owed told = absurd (never owed)

@@ -2,10 +2,9 @@
 use Rattle.std.specs.Prelude.{ℕ, ◌≡◌, ◌≢◌, ◌≤◌, ◌+◌, ◌-◌, List, [], ◌∷◌, ◌++◌, map}
 use Rattle.sdh_report.specs.declared.status.Status.{Status}
 use Rattle.sdh_report.specs.declared.status.Status.TheVariants as status
-use Rattle.sdh_report.specs.Reports.{Report}
 use Rattle.sdh_promise.specs.Changes.{Change, Stretch, rounds_in}
 use Rattle.sdh_promise.specs.Happened.{happened}
-use Rattle.sdh_promise.specs.Owed.{Ring, requests_by, IsOwed, AreOwed}
+use Rattle.sdh_promise.specs.Owed.{Ring, PortReport, requests_by, IsOwed, AreOwed}
 use Rattle.sdh_verdicts.specs.Resting.{requests_after}
 
 -- each stretch has at least three rounds
@@ -25,7 +24,7 @@ RequestsRest =
 
 -- the stretches of a script's settle steps that have reports, behind those before them: the changes before each, and as
 -- many rounds as there are from the last stretch to the round that its report tells
-abbrev pub stretches_by : List Stretch → List (List Change) → List Report → List Stretch
+abbrev pub stretches_by : List Stretch → List (List Change) → List PortReport → List Stretch
 stretches_by earlier [] reports = earlier
 stretches_by earlier (changes ∷ later) [] = earlier
 stretches_by earlier (changes ∷ later) (r ∷ reports) =
@@ -33,7 +32,7 @@ stretches_by earlier (changes ∷ later) (r ∷ reports) =
 
 -- After these stretches, each of at least three rounds, the report shows what is owed under the requests that their changes
 -- come to. How many rounds each had counts for nothing but how far the customers have come.
-pub record IsForetold (ring : Ring) (ss : List Stretch) (r : Report) : Type 0 where
+pub record IsForetold (ring : Ring) (ss : List Stretch) (r : PortReport) : Type 0 where
   pub long : AreLong ss
   pub rounds : rounds_in ss ≡ r.round + 1
   pub requests : requests_by ring ss r.round ≡ requests_after ring (changes_in ss)
@@ -41,7 +40,7 @@ pub record IsForetold (ring : Ring) (ss : List Stretch) (r : Report) : Type 0 wh
 
 -- so is each of these reports, by its own stretch and those before it, where these changes were made before each settle
 -- step to come
-abbrev pub AreForetold : Ring → List Stretch → List (List Change) → List Report → Type 0
+abbrev pub AreForetold : Ring → List Stretch → List (List Change) → List PortReport → Type 0
 AreForetold ring earlier [] reports = reports ≡ []
 AreForetold ring earlier (changes ∷ later) [] = Unit {0}
 AreForetold ring earlier (changes ∷ later) (r ∷ reports) =
@@ -50,19 +49,19 @@ AreForetold ring earlier (changes ∷ later) (r ∷ reports) =
 
 -- each report of every script that owes what the promise says is foretold
 abbrev pub ReportsAreForetold : Type 0
-ReportsAreForetold = (ring : Ring) (limit : ℕ) (scenes : List (List Change)) (reports : List Report) (end : Status)
+ReportsAreForetold = (ring : Ring) (limit : ℕ) (scenes : List (List Change)) (reports : List PortReport) (end : Status)
     → 1 ≤ ring.threshold → 1 ≤ ring.nodes → AreOwed ring limit [] 0 scenes reports end → AreForetold ring [] scenes reports
 
 -- there is a last one of these reports, and it is foretold by the stretches of them all, which have all changes
-pub record IsLastForetold (ring : Ring) (scenes : List (List Change)) (reports : List Report) : Type 0 where
-  pub before : List Report
-  pub last : Report
+pub record IsLastForetold (ring : Ring) (scenes : List (List Change)) (reports : List PortReport) : Type 0 where
+  pub before : List PortReport
+  pub last : PortReport
   pub are : reports ≡ before ++ last ∷ []
   pub changes : changes_in (stretches_by [] scenes reports) ≡ scenes
   pub shows : IsForetold ring (stretches_by [] scenes reports) last
 
 -- and so is the last one of a script that was run to its end
 abbrev pub LastReportsAreForetold : Type 0
-LastReportsAreForetold = (ring : Ring) (limit : ℕ) (scenes : List (List Change)) (reports : List Report)
+LastReportsAreForetold = (ring : Ring) (limit : ℕ) (scenes : List (List Change)) (reports : List PortReport)
     → 1 ≤ ring.threshold → 1 ≤ ring.nodes → scenes ≢ [] → AreOwed ring limit [] 0 scenes reports status.Ok
     → IsLastForetold ring scenes reports

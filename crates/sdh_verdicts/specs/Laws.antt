@@ -1,5 +1,5 @@
 -- What verdicts have to do with what a ring reports.
-use Rattle.std.specs.Prelude.{ℕ, ◌≡◌, ◌↔◌, ◌+◌, ◌-◌, ◌≤◌, List, [], ◌∷◌, length, count_by, All}
+use Rattle.std.specs.Prelude.{ℕ, ◌≡◌, ◌↔◌, ◌+◌, ◌-◌, ◌≤◌, List, [], ◌∷◌, length, map, count_by, All}
 use Rattle.sdh_circuits.specs.declared.End.{End}
 use Rattle.sdh_circuits.specs.declared.End.TheVariants.{A, B}
 use Rattle.sdh_circuits.specs.declared.PortId.{PortId}
@@ -14,8 +14,8 @@ use Rattle.sdh_plan.specs.Steps.{is_settle}
 use Rattle.sdh_report.specs.declared.status.Status.TheVariants as status
 use Rattle.sdh_report.specs.Reports.{PortLine, Report}
 use Rattle.sdh_promise.specs.Happened.{happened}
-use Rattle.sdh_promise.specs.Owed.{requests_by}
-use Rattle.sdh_promise.specs.Plans.{ring_of, OwesAll}
+use Rattle.sdh_promise.specs.Owed.{PortReport, requests_by}
+use Rattle.sdh_promise.specs.Plans.{ring_of, ports_of, OwesAll}
 use Rattle.sdh_verdicts.specs.Foretold.{stretches_by, IsLastForetold}
 use Rattle.sdh_verdicts.specs.declared.failure.Failure.{Failure}
 use Rattle.sdh_verdicts.specs.declared.judging.Verdict.{Verdict}
@@ -71,7 +71,7 @@ ports_told plan case before t index (c ∷ cs) =
 -- The last of these reports shows each port with what is told of its circuit in the case, and what is told goes by the
 -- spans that are applied in its round. What had happened is the changes of the longer script in the rounds that the
 -- reports tell.
-pub record IsShown (plan : Planned) (case : List Failure) (reports : List Report) : Type 0 where
+pub record IsShown (plan : Planned) (case : List Failure) (reports : List PortReport) : Type 0 where
   pub foretold : IsLastForetold (ring_of plan) (scenes_with plan case) reports
   pub ports : foretold.last.ports
       ≡ ports_told plan case (happened (stretches_by [] (scenes_with plan case) reports)) foretold.last.round 0 plan.circuits
@@ -81,7 +81,7 @@ pub record IsShown (plan : Planned) (case : List Failure) (reports : List Report
 -- the reports of the plan with a case behind its script, where they come to its end and owe what the promise says
 abbrev pub CaseIsShown : Planned → List Failure → Type 0
 CaseIsShown plan case = (limit : ℕ) (reports : List Report) → OwesAll (longer_plan plan case limit) reports status.Ok
-    → IsShown plan case reports
+    → IsShown plan case (map ports_of reports)
 
 -- for every plan and case
 abbrev pub CasesAreShown : Type 0
