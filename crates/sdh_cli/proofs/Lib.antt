@@ -3,6 +3,6 @@ pub mod Laid
 pub mod Filling
 pub mod Told
 pub mod Plans
-pub mod Listing
+pub mod TableLines
 pub mod Promises
 pub mod Deeds

@@ -2,7 +2,7 @@
 ghost use Rattle.std.specs.Prelude.{◌≡◌, ◌≤◌, true, ◌++◌, refl, IfOk, OnErr, IfSome, length};
 ghost use Rattle.sdh_basics.specs.Causes.{Rose, IsCounted};
 ghost use Rattle.sdh_plant.specs.Fibres.{HasNoFibres};
-ghost use Rattle.sdh_report.specs.Reports.{Report as Reported};
+ghost use Rattle.sdh_report.specs.Reports.{Report};
 ghost use Rattle.sdh_report.specs.Statuses.{last_line};
 ghost use Rattle.sdh_report.specs.declared.listing.Listing.{Listing as Listed};
 ghost use Rattle.sdh_scripts.specs.Outcome.{IsRunOutcome};
@@ -21,11 +21,11 @@ use sdh_plan::Plan;
 use sdh_plant::Plant;
 use sdh_report::{Listing, Status};
 use sdh_scripts::RunsPlans;
-use sdh_shell::{Report, ended, last_report};
+use sdh_shell::{EndedText, ended, ended_line};
 use std::alloc::{AllocError, Global};
 
 // The squelch tables of a plan.
-fn table_report(alloc: Global, plan: &Plan) -> Result<Report<Status>, AllocError>
+fn ended_tables(alloc: Global, plan: &Plan) -> Result<EndedText<Status>, AllocError>
     ensures { IfOk result (λ report. (report.ending ≡ Status.Ok) × (report.text.bytes ≡ tables_of plan.now ++ last_line report.ending)) }
 {
     let text = table_text(alloc, plan)?;
@@ -33,12 +33,12 @@ fn table_report(alloc: Global, plan: &Plan) -> Result<Report<Status>, AllocError
 }
 
 // A plan that is run.
-fn run_report<P: Plant>(
+fn ended_run<P: Plant>(
     alloc: Global,
     plan: Plan,
     plant: &mut P,
     listing: Listing,
-) -> Result<Report<Status>, AllocError>
+) -> Result<EndedText<Status>, AllocError>
     requires fresh { HasNoFibres (P.fibres plant.old) }
     requires listing { MayList (length plan.circuits) listing }
     ensures outcome { IfOk result
@@ -79,7 +79,7 @@ impl<'a> RunsPlans<'a> for Command<'a> {
 
     ghost Listing = { Listed };
 
-    ghost Told = { Reported };
+    ghost Told = { Report };
 
     ghost program = { ringing };
 
@@ -111,13 +111,13 @@ impl<'a> RunsPlans<'a> for Command<'a> {
         alloc: Global,
         plan: Plan,
         plant: &mut P,
-    ) -> Result<Report<Status>, AllocError> {
+    ) -> Result<EndedText<Status>, AllocError> {
         if let Command::Check = self {
-            return table_report(alloc, &plan);
+            return ended_tables(alloc, &plan);
         }
         match listing_of(self, &plan) {
-            Some(listing) => run_report(alloc, plan, plant, listing),
-            None => last_report(alloc, Status::NoSuchPort),
+            Some(listing) => ended_run(alloc, plan, plant, listing),
+            None => ended_line(alloc, Status::NoSuchPort),
         }
     }
 

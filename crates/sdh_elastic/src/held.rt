@@ -115,7 +115,7 @@ impl Held {
     }
 
     /// Takes a chunk in, and moves the first bytes to `out`.
-    pub(crate) fn exchange(&mut self, input: &[u8], count: usize, out: &mut Cells)
+    pub(crate) fn take_and_give(&mut self, input: &[u8], count: usize, out: &mut Cells)
         requires least { 2346 ≤ length input.now }
         requires most { length input.now ≤ 2352 }
         requires there { count ≤ length self.old + length input.now }

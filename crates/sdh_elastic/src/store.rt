@@ -122,7 +122,7 @@ impl Elastic {
         if fill < LEAST || MOST < fill {
             return Err(Drift);
         }
-        self.held.exchange(input, given(action), out);
+        self.held.take_and_give(input, given(action), out);
         self.course = self.course.after(action, input.len() as u16);
         Ok(action)
     }

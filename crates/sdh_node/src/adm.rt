@@ -8,7 +8,7 @@ ghost use Rattle.sdh_node.specs.Receiving.{commanded_by, arrived_on};
 ghost use Rattle.sdh_terminal.specs.Tributaries.{HasPort, outlet_of, waiting_of};
 ghost use Rattle.sdh_node.specs.Node.{new_node, at_receiving, held_for, slips_at, node_round, GoesOn, receiving_on, sending_on, moment_of};
 
-use crate::cross::{CrossConnect, deliver};
+use crate::cross::{CrossConnect, deliver_ports};
 use sdh_circuits::{CircuitMap, PortId};
 use sdh_frame::FrameBuf;
 use sdh_kbytes::K;
@@ -126,7 +126,7 @@ impl Adm {
 
     /// Keeps what arrived on a side as `receive` does, without a copy: what landed is taken in exchange for another buffer of the
     /// same rate.
-    pub fn exchange(&mut self, side: Side, arrived: Arrived, inbox: &mut Landed)
+    pub fn receive_landed(&mut self, side: Side, arrived: Arrived, inbox: &mut Landed)
         requires rate { inbox.old.rate ≡ self.old.settings.rate }
         requires here { arrived ≡ Arrived.Frame → inbox.old.landed ≢ None }
         ensures node { self.new ≡ at_receiving side (arrived_on (arrived_in arrived inbox.old.landed)) self.old }
@@ -135,7 +135,7 @@ impl Adm {
         ensures dark { arrived ≡ Arrived.Dark → inbox.new ≡ inbox.old }
         ensures taken { arrived ≡ Arrived.Frame → inbox.new.landed ≡ None }
     {
-        self.cross.exchange(side, arrived, inbox);
+        self.cross.receive_landed(side, arrived, inbox);
     }
 
     /// What a port of the node delivered in the last round, and AIS before the first.
@@ -211,7 +211,7 @@ impl Adm {
         let (sent, decided) = self.cross.decide(held, before);
         let west_said = self.west_out.say(sent.west);
         let east_said = self.east_out.say(sent.east);
-        deliver(&self.cross, &mut self.ports);
+        deliver_ports(&self.cross, &mut self.ports);
         self.ports.feed();
         self.rounds += 1;
         self.held = one_less(self.held);

@@ -106,7 +106,7 @@ impl CrossConnect {
     }
 
     /// Keeps what arrived on a side, and takes what landed in exchange for another buffer. What was taken in before isn't kept.
-    pub fn exchange(&mut self, side: Side, arrived: Arrived, inbox: &mut Landed)
+    pub fn receive_landed(&mut self, side: Side, arrived: Arrived, inbox: &mut Landed)
         requires rate { inbox.old.rate ≡ self.old.west.section.rate }
         requires here { arrived ≡ Arrived.Frame → inbox.old.landed ≢ None }
         ensures cross { self.new ≡ record (at_side side
@@ -117,8 +117,8 @@ impl CrossConnect {
         ensures taken { arrived ≡ Arrived.Frame → inbox.new.landed ≡ None }
     {
         match side {
-            Side::West => self.west.exchange(arrived, inbox, &mut self.west_in),
-            Side::East => self.east.exchange(arrived, inbox, &mut self.east_in),
+            Side::West => self.west.receive_landed(arrived, inbox, &mut self.west_in),
+            Side::East => self.east.receive_landed(arrived, inbox, &mut self.east_in),
         }
     }
 
@@ -276,7 +276,7 @@ impl Matrix for CrossConnect {
 }
 
 /// Each port delivers what the node's state leads to it.
-pub fn deliver(cross: &CrossConnect, ports: &mut Tributaries)
+pub fn deliver_ports(cross: &CrossConnect, ports: &mut Tributaries)
     requires { All (λ t. (1 ≤ t.slot.0) × (t.slot.0 ≤ half_of cross.now)) ports.old }
     ensures { ports.new ≡ all_delivered cross.now ports.old }
 {

@@ -68,7 +68,7 @@ impl Receiver {
 
     /// Keeps what arrived for the next round as `receive` does, and takes what landed in exchange for the buffer that was taken in
     /// before, so that few buffers go round. Where no frame arrived, nothing is exchanged.
-    pub fn exchange(&mut self, arrived: Arrived, inbox: &mut Landed, intake: &mut Intake)
+    pub fn receive_landed(&mut self, arrived: Arrived, inbox: &mut Landed, intake: &mut Intake)
         requires rate { inbox.old.rate ≡ self.old.section.rate }
         requires here { arrived ≡ Arrived.Frame → inbox.old.landed ≢ None }
         requires intake { intake.old.frame.rate ≡ self.old.section.rate }
@@ -80,7 +80,7 @@ impl Receiver {
         ensures intake { intake.new ≡ record intake.old { frame = intake.new.frame } }
         ensures intake_rate { intake.new.frame.rate ≡ intake.old.frame.rate }
     {
-        self.inlet.exchange(arrived, inbox, intake);
+        self.inlet.receive_landed(arrived, inbox, intake);
     }
 
     /// Gives the side a command.

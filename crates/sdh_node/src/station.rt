@@ -29,8 +29,8 @@ impl Station for Adm {
         Adm::try_new(alloc, settings, map, circuits, at)
     }
 
-    fn exchange(&mut self, side: Side, arrived: Arrived, inbox: &mut Landed) {
-        Adm::exchange(self, side, arrived, inbox);
+    fn receive_landed(&mut self, side: Side, arrived: Arrived, inbox: &mut Landed) {
+        Adm::receive_landed(self, side, arrived, inbox);
     }
 
     fn send(&mut self, now: Moment, west: &mut FrameBuf, east: &mut FrameBuf) {

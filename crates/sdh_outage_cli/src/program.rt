@@ -17,16 +17,16 @@ use sdh_plan::Plan;
 use sdh_plant::Plant;
 use sdh_report::Status;
 use sdh_scripts::RunsPlans;
-use sdh_shell::{Report, ended, last_report};
+use sdh_shell::{EndedText, ended, ended_line};
 use std::alloc::{AllocError, Global};
 
 // A plan that is run.
-fn run_report<P: Plant>(
+fn ended_run<P: Plant>(
     alloc: Global,
     plan: Plan,
     plant: &mut P,
     listing: OutageListing,
-) -> Result<Report<Status>, AllocError>
+) -> Result<EndedText<Status>, AllocError>
     requires fresh { HasNoFibres (P.fibres plant.old) }
     requires listing { MayList (length plan.circuits) listing }
     ensures outcome { IfOk result
@@ -77,10 +77,10 @@ impl<'a> RunsPlans<'a> for Command<'a> {
         alloc: Global,
         plan: Plan,
         plant: &mut P,
-    ) -> Result<Report<Status>, AllocError> {
+    ) -> Result<EndedText<Status>, AllocError> {
         match listing_of(self, &plan) {
-            Some(listing) => run_report(alloc, plan, plant, listing),
-            None => last_report(alloc, Status::NoSuchPort),
+            Some(listing) => ended_run(alloc, plan, plant, listing),
+            None => ended_line(alloc, Status::NoSuchPort),
         }
     }
 

@@ -17,8 +17,8 @@ use Rattle.sdh_payload.specs.Stream.{padded, phase_of, start_of, vc4_byte, vc4_f
 use Rattle.sdh_payload.proofs.Chunks.{length-stream_from, get_or-stream_from, stream_from-append}
 use Rattle.sdh_payload.proofs.Containers.{container_byte-at, vc4_byte-overhead, b3_of-more}
 use Rattle.sdh_path.specs.declared.watch.TraceWord.TheVariants as word
-use Rattle.sdh_path.specs.Report.{vc4_in, vcs_in, b3_violations_at, b3_violations, label_violations, j1_bytes, is_rotation, trace_word}
-use Rattle.sdh_path.specs.Report.{report_on}
+use Rattle.sdh_path.specs.PathReports.{vc4_in, vcs_in, b3_violations_at, b3_violations, label_violations, j1_bytes, is_rotation, trace_word}
+use Rattle.sdh_path.specs.PathReports.{report_on}
 use Rattle.sdh_path.proofs.Tracing.{rotated_is, is_rotation_by}
 use Rattle.sdh_path.specs.History.{bytes_of, given_value}
 use Rattle.sdh_path.specs.Laws.{clean_report, BeginsAt, FeedsAreClean, chunks_from, ChunksAreClean, ClocksAreInStep}

@@ -6,7 +6,7 @@ use Rattle.std.proofs.lemmas.List.{length-append, length-drop, drop-drop, drop_a
 use Rattle.sdh_basics.specs.Parity.{bip8}
 use Rattle.sdh_basics.proofs.ParityLaws.{bip8-nil, bip8-append}
 use Rattle.sdh_path.specs.declared.tally.Tally.{Tally}
-use Rattle.sdh_path.specs.Report.{vc4_in, b3_violations_at, b3_violations, label_violations}
+use Rattle.sdh_path.specs.PathReports.{vc4_in, b3_violations_at, b3_violations, label_violations}
 use Rattle.sdh_parity.specs.Violations.{differing_bits}
 use Rattle.sdh_path.specs.Kept.{IsTallyOf}
 

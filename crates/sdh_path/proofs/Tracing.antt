@@ -7,7 +7,7 @@ use Rattle.std.proofs.lemmas.List.Folds.{list_any_at}
 use Rattle.std.proofs.lemmas.Slice.Eq.{bytes_eq-Decides}
 use Rattle.sdh_basics.proofs.CellsLaws.{cells-from}
 use Rattle.sdh_payload.specs.Stream.{padded}
-use Rattle.sdh_path.specs.Report.{rotated, is_rotation}
+use Rattle.sdh_path.specs.PathReports.{rotated, is_rotation}
 
 pub length-padded : (trace : List ℕ) → length trace ≤ 64 → length (padded trace) ≡ 64
 unfolding padded

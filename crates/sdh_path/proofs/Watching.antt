@@ -10,7 +10,7 @@ use Rattle.sdh_payload.specs.Stream.{padded, phase_of}
 use Rattle.sdh_path.specs.declared.watch.TraceWord.{TraceWord}
 use Rattle.sdh_path.specs.declared.watch.TraceWord.TheVariants.{Ok, Mismatch, Short}
 use Rattle.sdh_path.specs.History.{Given, Chunk, Ais, goes_on, bytes_of, count_of, given_value}
-use Rattle.sdh_path.specs.Report.{b3_violations, label_violations, vcs_in, j1_bytes, rotated, is_rotation, path_report_of}
+use Rattle.sdh_path.specs.PathReports.{b3_violations, label_violations, vcs_in, j1_bytes, rotated, is_rotation, path_report_of}
 use Rattle.sdh_path.specs.Kept.{IsTallyOf, Kept, CameBy}
 use Rattle.sdh_path.proofs.Tallying.{b3_from, labels_from}
 

@@ -4,7 +4,7 @@ use Rattle.sdh_basics.specs.Parity.{bip8}
 use Rattle.sdh_payload.specs.Stream.{padded, phase_of}
 use Rattle.sdh_path.specs.declared.tally.Tally.{Tally}
 use Rattle.sdh_path.specs.History.{Given, bytes_of, count_of, given_value}
-use Rattle.sdh_path.specs.Report.{b3, c2, vc4_in, b3_violations, label_violations}
+use Rattle.sdh_path.specs.PathReports.{b3, c2, vc4_in, b3_violations, label_violations}
 
 -- ---- a run of bytes that begins with a VC-4
 

@@ -7,7 +7,7 @@ use Rattle.sdh_payload.specs.Stream.{phase_of, start_of, stream_from}
 use Rattle.sdh_path.specs.declared.watch.PathReport.{PathReport}
 use Rattle.sdh_path.specs.declared.watch.TraceWord.TheVariants.{Ok, Short}
 use Rattle.sdh_path.specs.History.{Given, Chunk}
-use Rattle.sdh_path.specs.Report.{report_on, path_report_of}
+use Rattle.sdh_path.specs.PathReports.{report_on, path_report_of}
 
 -- what is reported of so many chunks that are as they were sent
 abbrev pub clean_report : ℕ → ℕ → PathReport

@@ -1,4 +1,4 @@
 pub mod History
-pub mod Report
+pub mod PathReports
 pub mod Kept
 pub mod Laws

@@ -1,7 +1,7 @@
 //! Path traces: 64 bytes over and over.
 ghost use Rattle.std.specs.Prelude.{◌≡◌, ◌%◌, ◌<◌, ◌≤◌, length, bytes_eq};
 ghost use Rattle.sdh_payload.specs.Stream.{padded};
-ghost use Rattle.sdh_path.specs.Report.{rotated, is_rotation};
+ghost use Rattle.sdh_path.specs.PathReports.{rotated, is_rotation};
 
 use sdh_payload::trace_byte;
 
@@ -41,7 +41,7 @@ fn is_begun_at(from: usize, bytes: &[u8; TRACE_LEN], trace: &[u8; TRACE_LEN]) ->
 }
 
 /// Whether some bytes are a trace, begun somewhere.
-#[tactic(auto, unfolding(crate::specs::Report::is_rotation))]
+#[tactic(auto, unfolding(crate::specs::PathReports::is_rotation))]
 pub(crate) fn is_rotation(bytes: &[u8; TRACE_LEN], trace: &[u8; TRACE_LEN]) -> bool
     ensures { result ≡ is_rotation bytes.now trace.now }
 {

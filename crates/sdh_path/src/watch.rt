@@ -4,7 +4,7 @@ ghost use Rattle.std.specs.Prelude.{IfOk, IsErr};
 ghost use Rattle.sdh_payload.specs.Customer.{is_text};
 ghost use Rattle.sdh_payload.specs.Stream.{phase_of};
 ghost use Rattle.sdh_path.specs.History.{Given, Chunk, Ais, goes_on};
-ghost use Rattle.sdh_path.specs.Report.{path_report_of};
+ghost use Rattle.sdh_path.specs.PathReports.{path_report_of};
 ghost use Rattle.sdh_path.specs.Kept.{IsTallyOf, IsSmall, CameBy};
 
 use crate::tally::{Tally, VC4_LEN};

@@ -6,67 +6,67 @@ ghost use Rattle.sdh_plan.specs.Reasons.{reason_number};
 #[derive(Clone, Copy, Debug, PartialEq, Eq)]
 pub enum Reason {
     /// There aren't 2 to 16 nodes.
-    NodeCount,
+    NodeCount = 1,
     /// The identifier of a node isn't 0 to 15.
-    NodeId,
+    NodeId = 2,
     /// The identifier of a node stood before.
-    Repeat,
+    Repeat = 3,
     /// The slot isn't 1 to half the rate.
-    Slot,
+    Slot = 4,
     /// An end isn't in the ring.
-    End,
+    End = 5,
     /// Both ends are the same node.
-    SameEnds,
+    SameEnds = 6,
     /// An offset isn't 0 to 782.
-    Offset,
+    Offset = 7,
     /// A text isn't 1 to 64 bytes of 0x20 to 0x7E.
-    Text,
+    Text = 8,
     /// An earlier circuit has one of the spans in the slot.
-    Overlap,
+    Overlap = 9,
     /// The name isn't of its form, or an earlier circuit has it.
-    Name,
+    Name = 10,
     /// A trace isn't 1 to 64 bytes of 0x20 to 0x7E. A missing trace is the name.
-    Trace,
+    Trace = 11,
     /// A key isn't listed.
-    UnknownKey,
+    UnknownKey = 12,
     /// The rate is missing, no integer, or not 4 or 16.
-    Rate,
+    Rate = 13,
     /// The nodes are missing, or no array of integers.
-    Nodes,
+    Nodes = 14,
     /// The threshold is missing, no integer, or not 1 to 3 times the rate.
-    Threshold,
+    Threshold = 15,
     /// The waiting time is missing, no integer, or not 0 to 1,000,000.
-    Wait,
+    Wait = 16,
     /// The limit is missing, no integer, or not 1 to 65,536.
-    Limit,
+    Limit = 17,
     /// The circuits are there and no array of tables.
-    Circuits,
+    Circuits = 18,
     /// A needed key of a circuit is missing, or the value of a listed key has the wrong kind.
-    CircuitField,
+    CircuitField = 19,
     /// The script is missing, or no array of texts.
-    Script,
+    Script = 20,
     /// There aren't 1 to 1,000 steps.
-    ScriptLength,
+    ScriptLength = 21,
     /// The first word of a step isn't listed.
-    StepWord,
+    StepWord = 22,
     /// A word of a step is empty, or the number of words isn't that of the step.
-    StepForm,
+    StepForm = 23,
     /// A word isn't the identifier of a node in the ring.
-    StepNode,
+    StepNode = 24,
     /// A word isn't a side, or isn't a turn of a clock.
-    StepSide,
+    StepSide = 25,
     /// A word isn't a number, or out of its range.
-    StepNumber,
+    StepNumber = 26,
     /// The moment is below the one before.
-    MomentBack,
+    MomentBack = 27,
     /// It is the 65th settle step.
-    Settles,
+    Settles = 28,
     /// The last step runs no rounds.
-    LastStep,
+    LastStep = 29,
     /// A word isn't the name of a circuit, or isn't an end of one.
-    SlipPort,
+    SlipPort = 30,
     /// A port is given more than 16 slips between two settle steps.
-    Slips,
+    Slips = 31,
 }
 
 impl Reason {
@@ -74,38 +74,6 @@ impl Reason {
     pub fn number(self) -> u8
         ensures { result ≡ reason_number self }
     {
-        match self {
-            Reason::NodeCount => 1,
-            Reason::NodeId => 2,
-            Reason::Repeat => 3,
-            Reason::Slot => 4,
-            Reason::End => 5,
-            Reason::SameEnds => 6,
-            Reason::Offset => 7,
-            Reason::Text => 8,
-            Reason::Overlap => 9,
-            Reason::Name => 10,
-            Reason::Trace => 11,
-            Reason::UnknownKey => 12,
-            Reason::Rate => 13,
-            Reason::Nodes => 14,
-            Reason::Threshold => 15,
-            Reason::Wait => 16,
-            Reason::Limit => 17,
-            Reason::Circuits => 18,
-            Reason::CircuitField => 19,
-            Reason::Script => 20,
-            Reason::ScriptLength => 21,
-            Reason::StepWord => 22,
-            Reason::StepForm => 23,
-            Reason::StepNode => 24,
-            Reason::StepSide => 25,
-            Reason::StepNumber => 26,
-            Reason::MomentBack => 27,
-            Reason::Settles => 28,
-            Reason::LastStep => 29,
-            Reason::SlipPort => 30,
-            Reason::Slips => 31,
-        }
+        self as u8
     }
 }

@@ -122,7 +122,7 @@ fn store_in_exchange(fibres: &mut [Fibre], at: usize, frame: &mut FrameBuf)
     kept.carries = true;
 }
 
-fn deliver<L: Landing>(fibre: &mut Fibre, into: &mut L) -> Arrived
+fn land_carried<L: Landing>(fibre: &mut Fibre, into: &mut L) -> Arrived
     requires { IsFibre (L.rate into.old) fibre.old }
     ensures same { fibre.new ≡ fibre.old }
     ensures arrival { arrived_in result (L.landed into.new) ≡ through (n_of (L.rate into.old)) fibre.old.condition (carried_by fibre.old) }
@@ -141,7 +141,7 @@ fn deliver<L: Landing>(fibre: &mut Fibre, into: &mut L) -> Arrived
     Arrived::Frame
 }
 
-fn deliver_from<L: Landing>(fibres: &mut [Fibre], at: usize, into: &mut L) -> Arrived
+fn land_carried_at<L: Landing>(fibres: &mut [Fibre], at: usize, into: &mut L) -> Arrived
     requires at { at < length fibres.old }
     requires fit { All (IsFibre (L.rate into.old)) fibres.old }
     ensures same { fibres.new ≡ fibres.old }
@@ -152,7 +152,7 @@ fn deliver_from<L: Landing>(fibres: &mut [Fibre], at: usize, into: &mut L) -> Ar
     ensures rate { L.rate into.new ≡ L.rate into.old }
 {
     let fibre = &mut fibres[at];
-    deliver(fibre, into)
+    land_carried(fibre, into)
 }
 
 impl FibrePlant {
@@ -237,7 +237,7 @@ impl FibrePlant {
         let Some(fibres) = &mut self.fibres else {
             return Arrived::Dark;
         };
-        deliver_from(fibres, fibre_into(self.nodes, at, side), into)
+        land_carried_at(fibres, fibre_into(self.nodes, at, side), into)
     }
 }
 

@@ -33,7 +33,7 @@ fn receive_one<S: Station, P: Plant>(
     ensures cause { HasCause P.exact (P.faults plant.old) (P.faults plant.new) result }
 {
     let arrived = plant.receive(at, side, inbox)?;
-    node.exchange(side, arrived, inbox);
+    node.receive_landed(side, arrived, inbox);
     Ok(())
 }
 

@@ -44,7 +44,7 @@ pub trait Station: Drop {
 
     /// Keeps what arrived on a side for its next round, in place of what arrived there since the last one. What landed is taken in
     /// exchange for another buffer of the same rate, in which nothing has landed.
-    fn exchange(&mut self, side: Side, arrived: Arrived, inbox: &mut Landed)
+    fn receive_landed(&mut self, side: Side, arrived: Arrived, inbox: &mut Landed)
         requires rate { inbox.old.rate ≡ rate self.old }
         requires here { arrived ≡ Arrived.Frame → inbox.old.landed ≢ None }
         ensures node { self.new ≡ kind.told side (arrived_in arrived inbox.old.landed) self.old }

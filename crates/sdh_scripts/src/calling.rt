@@ -9,8 +9,8 @@ ghost use Rattle.sdh_shell.specs.Writing.{WritesWith};
 ghost use Rattle.sdh_scripts.specs.Outcome.{HasRead, LeavesPlant, MayEnd, reads_source, told};
 ghost use Rattle.sdh_scripts.specs.Headline.{MayBeDone};
 
+use crate::answering::{ended_call, ending_of};
 use crate::program::RunsPlans;
-use crate::report::{ending_of, report_on};
 use sdh_outside::{Sink, Source, write_text};
 use sdh_plant::Plant;
 use sdh_report::Status;
@@ -70,7 +70,7 @@ pub fn call<'a, M: RunsPlans<'a>, R: Source, W: Sink, P: Plant>(
         → ¬ (Rose (P.faults plant.old) (P.faults plant.new))
         → (result ≡ M.program.endings.of Status.Ok) ⊎ (result ≡ M.program.endings.of Status.Memory) }
 {
-    let Ok(report) = report_on::<M, R, P>(alloc, words, source, plant) else {
+    let Ok(report) = ended_call::<M, R, P>(alloc, words, source, plant) else {
         return ending_of::<M>(Status::Memory);
     };
     match write_text(sink, report.text.bytes()) {

@@ -11,11 +11,11 @@
 
 ghost use Rattle.sdh_scripts.specs.Laws.{KeepsRounds, KnownScripts};
 
+mod answering;
 mod at_end;
 mod calling;
 mod lines;
 mod program;
-mod report;
 mod run;
 mod runner;
 mod script;

@@ -11,7 +11,7 @@ ghost use Rattle.sdh_scripts.specs.Headline.{MayGo};
 use sdh_plan::Plan;
 use sdh_plant::Plant;
 use sdh_report::Status;
-use sdh_shell::{Ends, Report};
+use sdh_shell::{EndedText, Ends};
 use std::alloc::{AllocError, Global};
 
 /// What a program that runs plans is asked for by its words.
@@ -55,7 +55,7 @@ pub trait RunsPlans<'a>: Copy {
         alloc: Global,
         plan: Plan,
         plant: &mut P,
-    ) -> Result<Report<Self::Ending>, AllocError>
+    ) -> Result<EndedText<Self::Ending>, AllocError>
         requires fresh { HasNoFibres (P.fibres plant.old) }
         ensures outcome { IfOk result
             (λ report. OfPlan program (ask_of self) plan (P.fibres plant.old) report.ending report.text.bytes (P.fibres plant.new)) }

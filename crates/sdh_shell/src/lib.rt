@@ -8,14 +8,14 @@
 //! `WritesAs`, and of a text that is written in pieces it is `Wrote`.
 #![tactic(auto)]
 
+mod ended_text;
 mod ending;
 mod output;
 mod reading;
-mod report;
 mod words;
 
+pub use ended_text::{EndedText, ended, ended_line};
 pub use ending::Ends;
 pub use output::{Kept, Output};
 pub use reading::{NoPlan, plan_in};
-pub use report::{Report, ended, last_report};
 pub use words::{end_lettered, is_run};

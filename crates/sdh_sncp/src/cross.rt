@@ -40,23 +40,13 @@ impl Model for PathCross {
         (record { uses = x.uses.items; west = x.west; east = x.east; west_in = x.west_in; east_in = x.east_in }) };
 }
 
-// The other side.
-fn opposite(side: Side) -> Side
-    ensures { result ≡ opposite side }
-{
-    match side {
-        Side::West => Side::East,
-        Side::East => Side::West,
-    }
-}
-
 // What feeds an AU-4 that leaves on a side, by what is done with its slot.
 fn fed_for(used: Use, side: Side, au: u16) -> Feeder
     ensures { result ≡ fed_for used side au }
 {
     match used {
         Use::Unused => Feeder::Ais,
-        Use::Passed => Feeder::Received(opposite(side), au),
+        Use::Passed => Feeder::Received(side.opposite(), au),
         Use::Ended(port) => Feeder::Port(port),
     }
 }
@@ -81,7 +71,7 @@ impl PathCross {
     }
 
     /// Keeps what arrived on a side, and takes what landed in exchange for another buffer. What was taken in before isn't kept.
-    pub fn exchange(&mut self, side: Side, arrived: Arrived, inbox: &mut Landed)
+    pub fn receive_landed(&mut self, side: Side, arrived: Arrived, inbox: &mut Landed)
         requires rate { inbox.old.rate ≡ self.old.west.section.rate }
         requires here { arrived ≡ Arrived.Frame → inbox.old.landed ≢ None }
         ensures cross { self.new ≡ record (cross_told side
@@ -91,8 +81,8 @@ impl PathCross {
         ensures taken { arrived ≡ Arrived.Frame → inbox.new.landed ≡ None }
     {
         match side {
-            Side::West => self.west.exchange(arrived, inbox, &mut self.west_in),
-            Side::East => self.east.exchange(arrived, inbox, &mut self.east_in),
+            Side::West => self.west.receive_landed(arrived, inbox, &mut self.west_in),
+            Side::East => self.east.receive_landed(arrived, inbox, &mut self.east_in),
         }
     }
 
@@ -158,8 +148,8 @@ impl Matrix for PathCross {
         let au = u16::from(slot.0);
         if self.comes(side, au) {
             Feeder::Received(side, au)
-        } else if self.comes(opposite(side), au) {
-            Feeder::Received(opposite(side), au)
+        } else if self.comes(side.opposite(), au) {
+            Feeder::Received(side.opposite(), au)
         } else {
             Feeder::Ais
         }

@@ -68,7 +68,7 @@ impl PathNode {
     }
 
     /// Keeps what arrived on a side for the next round, in exchange for another buffer of the same rate.
-    pub fn exchange(&mut self, side: Side, arrived: Arrived, inbox: &mut Landed)
+    pub fn receive_landed(&mut self, side: Side, arrived: Arrived, inbox: &mut Landed)
         requires rate { inbox.old.rate ≡ self.old.west.section.rate }
         requires here { arrived ≡ Arrived.Frame → inbox.old.landed ≢ None }
         ensures node { self.new ≡ path_node_told side (arrived_in arrived inbox.old.landed) self.old }
@@ -76,7 +76,7 @@ impl PathNode {
         ensures dark { arrived ≡ Arrived.Dark → inbox.new ≡ inbox.old }
         ensures taken { arrived ≡ Arrived.Frame → inbox.new.landed ≡ None }
     {
-        self.cross.exchange(side, arrived, inbox);
+        self.cross.receive_landed(side, arrived, inbox);
     }
 
     /// What a port of the node delivered in the last round, and AIS before the first.

@@ -30,8 +30,8 @@ impl Station for PathNode {
         PathNode::try_new(alloc, settings, map, circuits, at)
     }
 
-    fn exchange(&mut self, side: Side, arrived: Arrived, inbox: &mut Landed) {
-        PathNode::exchange(self, side, arrived, inbox);
+    fn receive_landed(&mut self, side: Side, arrived: Arrived, inbox: &mut Landed) {
+        PathNode::receive_landed(self, side, arrived, inbox);
     }
 
     fn send(&mut self, _now: Moment, west: &mut FrameBuf, east: &mut FrameBuf) {

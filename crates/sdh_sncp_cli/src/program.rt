@@ -2,7 +2,7 @@
 ghost use Rattle.std.specs.Prelude.{◌≡◌, ◌≤◌, true, refl, IfOk, OnErr};
 ghost use Rattle.sdh_basics.specs.Causes.{Rose, IsCounted};
 ghost use Rattle.sdh_plant.specs.Fibres.{HasNoFibres};
-ghost use Rattle.sdh_report.specs.Reports.{Report as Reported};
+ghost use Rattle.sdh_report.specs.Reports.{Report};
 ghost use Rattle.sdh_report.specs.declared.status.Status.{Status};
 ghost use Rattle.sdh_scripts.specs.Outcome.{OfPlan};
 ghost use Rattle.sdh_scripts.specs.Headline.{MayGo};
@@ -18,7 +18,7 @@ use sdh_plan::Plan;
 use sdh_plant::Plant;
 use sdh_report::Status;
 use sdh_scripts::RunsPlans;
-use sdh_shell::{Report, ended, is_run, last_report};
+use sdh_shell::{EndedText, ended, ended_line, is_run};
 use sdh_sncp::PathError;
 use std::alloc::{AllocError, Global};
 
@@ -27,11 +27,11 @@ use std::alloc::{AllocError, Global};
 pub struct Pathing;
 
 // A plan whose steps are a path ring's, run if no two circuits share a slot.
-fn run_report<P: Plant>(
+fn ended_run<P: Plant>(
     alloc: Global,
     plan: Plan,
     plant: &mut P,
-) -> Result<Report<Ending>, AllocError>
+) -> Result<EndedText<Ending>, AllocError>
     requires fresh { HasNoFibres (P.fibres plant.old) }
     requires known { AreKnown plan.steps }
     ensures outcome { IfOk result
@@ -51,7 +51,7 @@ fn run_report<P: Plant>(
         Ok(run) => Ok(ended(Ending::Shared(run.status), run.text)),
         Err(PathError::Memory) => Err(AllocError),
         Err(PathError::SameSlot { first, second }) => {
-            last_report(alloc, Ending::SameSlot { first, second })
+            ended_line(alloc, Ending::SameSlot { first, second })
         }
     }
 }
@@ -63,7 +63,7 @@ impl<'a> RunsPlans<'a> for Pathing {
 
     ghost Listing = { Unit {0} };
 
-    ghost Told = { Reported };
+    ghost Told = { Report };
 
     ghost program = { pathing };
 
@@ -86,10 +86,10 @@ impl<'a> RunsPlans<'a> for Pathing {
         alloc: Global,
         plan: Plan,
         plant: &mut P,
-    ) -> Result<Report<Ending>, AllocError> {
+    ) -> Result<EndedText<Ending>, AllocError> {
         match first_strange(plan.steps()) {
-            Some(step) => last_report(alloc, Ending::NoSuchStep(step)),
-            None => run_report(alloc, plan, plant),
+            Some(step) => ended_line(alloc, Ending::NoSuchStep(step)),
+            None => ended_run(alloc, plan, plant),
         }
     }
 

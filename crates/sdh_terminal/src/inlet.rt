@@ -78,7 +78,7 @@ impl Inlet {
 
     /// Keeps what arrived for the next round as `receive` does, and takes what landed in exchange for the buffer that was taken in
     /// before, so that few buffers go round. Where no frame arrived, nothing is exchanged.
-    pub fn exchange(&mut self, arrived: Arrived, inbox: &mut Landed, intake: &mut Intake)
+    pub fn receive_landed(&mut self, arrived: Arrived, inbox: &mut Landed, intake: &mut Intake)
         requires rate { inbox.old.rate ≡ self.old.section.rate }
         requires here { arrived ≡ Arrived.Frame → inbox.old.landed ≢ None }
         requires intake { intake.old.frame.rate ≡ self.old.section.rate }
@@ -91,7 +91,7 @@ impl Inlet {
     {
         match arrived {
             Arrived::Frame => {
-                intake.exchange(&mut self.inbox);
+                intake.swap_frame(&mut self.inbox);
                 std::mem::swap(&mut self.inbox, inbox);
                 self.arrived = Some(Arrived::Frame);
             }

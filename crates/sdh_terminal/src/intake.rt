@@ -77,7 +77,7 @@ impl Intake {
     }
 
     /// Gives the buffer of its frame, which has been read, in exchange for that of a frame that doesn't count any more.
-    pub fn exchange(&mut self, inbox: &mut Landed)
+    pub fn swap_frame(&mut self, inbox: &mut Landed)
         requires { inbox.old.rate ≡ self.old.frame.rate }
         ensures intake { self.new ≡ record self.old { frame = record { rate = self.old.frame.rate; bytes = inbox.old.buffer } } }
         ensures rate { self.new.frame.rate ≡ self.old.frame.rate }

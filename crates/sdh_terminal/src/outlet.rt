@@ -78,7 +78,7 @@ impl Outlet {
     }
 
     /// Delivers an AU-4 of a frame, of which some payloads have been taken out.
-    pub fn deliver(
+    pub fn deliver_au(
         &mut self,
         frame: &FrameBuf,
         payloads: &mut Taken,
@@ -156,7 +156,7 @@ fn deliver_chunk<X: Matrix>(
 {
     let intake = cross.intake(side);
     let form = chunk_form(intake.action(au));
-    outlet.deliver(intake.frame(), payloads, au, form, cross.value(side, au));
+    outlet.deliver_au(intake.frame(), payloads, au, form, cross.value(side, au));
 }
 
 // Delivers an AU-4 that a side received.
@@ -182,7 +182,7 @@ fn deliver_received<X: Matrix>(
 
 /// Delivers what is dropped. Payloads may have been taken out of both frames.
 #[tactic(auto, unfolding(crate::specs::Outlets::delivered_from))]
-pub fn deliver<X: Matrix>(
+pub fn deliver_dropped<X: Matrix>(
     cross: &X,
     feeder: Feeder,
     west: &mut Taken,

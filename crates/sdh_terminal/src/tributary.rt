@@ -11,7 +11,7 @@ ghost use Rattle.sdh_terms.specs.Rates.{n_of};
 ghost use Rattle.sdh_terminal.specs.Lines.{dropped_by};
 
 use crate::matrix::Matrix;
-use crate::outlet::{Outlet, deliver};
+use crate::outlet::{Outlet, deliver_dropped};
 use sdh_circuits::{Circuit, CircuitMap, End, PortId, Slot, same_end};
 use sdh_interchange::Taken;
 use sdh_payload::{Cells, ChunkForm, Feed, Port, Turn, lay_chunk_in_place};
@@ -160,7 +160,7 @@ impl Tributary {
         ensures port { self.new ≡ delivered_with (λ t. dropped_by (X.lines cross.now) (X.drops cross.now t.side t.slot.0)) self.old }
     {
         let feeder = cross.dropped(self.side, self.slot);
-        deliver(cross, feeder, west, east, &mut self.outlet);
+        deliver_dropped(cross, feeder, west, east, &mut self.outlet);
     }
 }
 

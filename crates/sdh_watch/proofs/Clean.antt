@@ -29,7 +29,7 @@ use Rattle.sdh_laws.proofs.carrying.Ways.{layout_round}
 use Rattle.sdh_laws.specs.Resting.Rest.{IsAtRest}
 use Rattle.sdh_laws.proofs.resting.Resting.{known_round, rest_goes_on}
 use Rattle.sdh_path.specs.History.{Given, Chunk, Ais}
-use Rattle.sdh_path.specs.Report.{path_report_of}
+use Rattle.sdh_path.specs.PathReports.{path_report_of}
 use Rattle.sdh_path.specs.Laws.{clean_report, chunks_from}
 use Rattle.sdh_path.proofs.Clean.{chunks_are_clean}
 use Rattle.sdh_watch.specs.Shows.{shown, WatchLine}

@@ -11,7 +11,7 @@ use Rattle.sdh_world.specs.Held.{HeldRing, outlet_at}
 use Rattle.sdh_world.specs.Rounds.{World}
 use Rattle.sdh_world.specs.Runs.{IsRound, IsBrokenOff}
 use Rattle.sdh_path.specs.History.{Given, Chunk, Ais}
-use Rattle.sdh_path.specs.Report.{path_report_of}
+use Rattle.sdh_path.specs.PathReports.{path_report_of}
 use Rattle.sdh_scripts.specs.Ports.{of_ports}
 use Rattle.sdh_watch.specs.Shows.{shown, WatchLine, Watched}
 

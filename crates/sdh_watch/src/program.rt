@@ -8,7 +8,7 @@ use sdh_plan::Plan;
 use sdh_plant::Plant;
 use sdh_report::Status;
 use sdh_scripts::RunsPlans;
-use sdh_shell::{Report, ended, is_run};
+use sdh_shell::{EndedText, ended, is_run};
 use std::alloc::{AllocError, Global};
 
 /// The one thing that the program does: it runs plans with watches.
@@ -45,7 +45,7 @@ impl<'a> RunsPlans<'a> for Watching {
         alloc: Global,
         plan: Plan,
         plant: &mut P,
-    ) -> Result<Report<Status>, AllocError> {
+    ) -> Result<EndedText<Status>, AllocError> {
         let run = run_plan(alloc, plan, plant)?;
         Ok(ended(run.status, run.text))
     }

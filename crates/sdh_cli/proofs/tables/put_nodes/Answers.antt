@@ -2,7 +2,7 @@ use Rattle.std.proofs.Common.{rules, ◌/◌, ◌++◌, ◌∙◌, ap, sym, appe
 use Rattle.std.specs.List.{flat_map, range_with_len}
 use Rattle.sdh_terms.specs.Rates.{n_of}
 use Rattle.sdh_cli.specs.Tables.{node_lines, tables_of}
-use Rattle.sdh_cli.proofs.Listing.{lines_more}
+use Rattle.sdh_cli.proofs.TableLines.{lines_more}
 use Rattle.sdh_cli.proofs.tables.put_nodes.Goals as goal
 
 pub loop-i-preserved : goal.loop-i-preserved

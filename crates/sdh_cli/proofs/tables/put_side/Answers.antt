@@ -1,7 +1,7 @@
 use Rattle.std.proofs.Common.{◌+◌, ◌++◌, ◌∙◌, ap, sym, append_assoc, arith}
 use Rattle.std.specs.List.{flat_map, range_with_len}
 use Rattle.sdh_cli.specs.Tables.{slot_line}
-use Rattle.sdh_cli.proofs.Listing.{lines_more}
+use Rattle.sdh_cli.proofs.TableLines.{lines_more}
 use Rattle.sdh_cli.proofs.tables.put_side.Goals as goal
 
 pub loop-i-preserved : goal.loop-i-preserved

@@ -2,7 +2,7 @@ use Rattle.std.proofs.Common.{◌≡◌, ◌<◌, ◌++◌, ◌∙◌, List, ℕ
 use Rattle.std.specs.Prelude.{slice_get, slice_index}
 use Rattle.sdh_report.specs.Lines.{table_line}
 use Rattle.sdh_circuits.specs.Provisioning.{Provisioning, IsProvisioning}
-use Rattle.sdh_cli.proofs.Listing.{no_line, number_inside, ends_inside, its_line}
+use Rattle.sdh_cli.proofs.TableLines.{no_line, number_inside, ends_inside, its_line}
 use Rattle.sdh_cli.proofs.tables.put_slot.Goals as goal
 
 pub returns-in_default-clause-bytes : goal.returns-in_default-clause-bytes

@@ -5,5 +5,5 @@ pub returns-clause-node : goal.returns-clause-node
 returns-clause-node g c = record {
   came = arrived_in c.in_ok-arrived.arrived c.receive.new.into.landed;
   known = c.in_ok-arrived.ensures.arrival;
-  node = c.exchange.ensures.node;
+  node = c.receive_landed.ensures.node;
 }

@@ -2,7 +2,7 @@ use Rattle.std.proofs.Common.{◌++◌, ap, ap₂, ◌∙◌, arith}
 use Rattle.sdh_circuits.specs.Provisioned.{customer_at}
 use Rattle.sdh_circuits.specs.Ends.{other_end}
 use Rattle.sdh_report.specs.Written.{Written}
-use Rattle.sdh_path.specs.Report.{path_report_of}
+use Rattle.sdh_path.specs.PathReports.{path_report_of}
 use Rattle.sdh_watch.specs.Shows.{shown}
 use Rattle.sdh_watch.specs.Lines.{watch_line}
 use Rattle.sdh_watch.proofs.Short.{short-watch_line}

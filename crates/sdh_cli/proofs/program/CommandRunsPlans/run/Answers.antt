@@ -16,14 +16,14 @@ returns-in-Some g c =
     let is : listing_of ask plan ≡ Some listing = sym c.listing_of.ensures.listing ∙ c.in-Some.is in
     let does = listed_deed ask plan listing is in
     record {
-      outcome = IfOk-weaker c.run_report.result _ _ (λ report x. (Runs listing, does, x)) c.run_report.ensures.outcome;
+      outcome = IfOk-weaker c.ended_run.result _ _ (λ report x. (Runs listing, does, x)) c.ended_run.ensures.outcome;
       alone = λ none. absurd (none listing does);
-      failed = c.run_report.ensures.failed;
-      calls = c.run_report.ensures.calls;
-      without = c.run_report.ensures.without;
+      failed = c.ended_run.ensures.failed;
+      calls = c.ended_run.ensures.calls;
+      without = c.ended_run.ensures.without;
       complete =
-          IfOk-weaker c.run_report.result _ _ (λ report done go fine. done (subst (λ d. may_do ringing d plan f)
-          (run_alone ask plan listing go.0 does go.1) go.2) fine) c.run_report.ensures.complete;
-      later = c.run_report.ensures.later;
-      unsent = c.run_report.ensures.unsent;
+          IfOk-weaker c.ended_run.result _ _ (λ report done go fine. done (subst (λ d. may_do ringing d plan f)
+          (run_alone ask plan listing go.0 does go.1) go.2) fine) c.ended_run.ensures.complete;
+      later = c.ended_run.ensures.later;
+      unsent = c.ended_run.ensures.unsent;
     }

@@ -14,8 +14,8 @@ use Rattle.sdh_elastic.proofs.store.Elastic.turn.Goals as goal
 use Rattle.sdh_elastic.proofs.store.Elastic.turn.Goals.{then-fill-lt-LEAST-via-then-fill-lt-LEAST}
 use Rattle.sdh_elastic.proofs.store.Elastic.turn.Goals.{then-fill-lt-LEAST-via-else-fill-lt-LEAST+then-fill-gt-MOST}
 
-pub exchange-requires : goal.exchange-requires
-exchange-requires c =
+pub take_and_give-requires : goal.take_and_give-requires
+take_and_give-requires c =
     record { least = omega arith; most = omega arith; there = omega arith; few = omega arith; left = omega arith }
 
 -- what the turn does
@@ -23,13 +23,13 @@ acts : (c : goal.After-self-1) → c.action-action.result ≡ action_at (the_vie
 acts c = c.action-action.ensures ∙ ap (action_in c.self.inside.course.stage) c.len.ensures
 
 turned : (c : goal.After-self-1)
-    → IsTurn (the_view c.self.inside) c.args.input.now c.action-action.result c.exchange.new.out
-    (the_view (record { held = c.exchange.new.self; course = c.after-self-inside.result }))
+    → IsTurn (the_view c.self.inside) c.args.input.now c.action-action.result c.take_and_give.new.out
+    (the_view (record { held = c.take_and_give.new.self; course = c.after-self-inside.result }))
 turned c =
     let r = c.after-self-inside.result in
     let e = c.after-self-inside.ensures in
-    made (the_view c.self.inside) c.args.input.now c.action-action.result c.given-2.result c.exchange.new.out c.exchange.new.self r.stage r.value r.word.0 r.lengths r.steady
-    (acts c) c.given-2.ensures.count c.exchange.ensures.given c.exchange.ensures.left e.stage e.value e.word e.lengths e.steady
+    made (the_view c.self.inside) c.args.input.now c.action-action.result c.given-2.result c.take_and_give.new.out c.take_and_give.new.self r.stage r.value r.word.0 r.lengths r.steady
+    (acts c) c.given-2.ensures.count c.take_and_give.ensures.given c.take_and_give.ensures.left e.stage e.value e.word e.lengths e.steady
 
 -- the fill after it is within its bounds
 fits : (c : goal.After-self-1) → is_held (fill_after (the_view c.self.inside) (length c.args.input.now)) ≡ true

@@ -18,7 +18,7 @@ feed-requires c =
     let i = c.self.inside in
     let slots = n_of i.settings.rate / 2 in
     let few : i.rounds < 2 ^ 32 = subst (λ (n : Node). n.rounds < 2 ^ 32) (sym c.self.view_is) c.requires.few in
-    subst (All (λ (t : Tributary). t.feed.clock.rounds < 2 ^ 32)) (sym c.deliver.ensures)
+    subst (All (λ (t : Tributary). t.feed.clock.rounds < 2 ^ 32)) (sym c.deliver_ports.ensures)
     (few_rounds slots i.rounds _ few (delivered_are (dropped_to c.decide-decided.new.self) slots i.rounds i.ports c.self.invariant.ports))
 
 pub invariant_of-self : goal.invariant_of-self
@@ -40,7 +40,7 @@ invariant_of-self c =
           ∙ sym (ap (λ (r : Receiving). r.local.moment) west);
       held = (let was = inv.held in let now = c.one_less-self-inside.ensures in omega arith);
       ports = subst (All (IsTributary slots (i.rounds + 1))) (sym c.feed.ensures)
-          (fed_are slots i.rounds _ (subst (All (IsTributary slots i.rounds)) (sym c.deliver.ensures)
+          (fed_are slots i.rounds _ (subst (All (IsTributary slots i.rounds)) (sym c.deliver_ports.ensures)
           (delivered_are (dropped_to c.decide-decided.new.self) slots i.rounds i.ports inv.ports)));
     }
 
@@ -53,7 +53,7 @@ returns-clause-west c =
     let west_said = c.decide-decided.ensures.west ∙ (λ j. next_word (held j) tk West (c.words_of-before.ensures.west j)) in
     let east_said = c.decide-decided.ensures.east ∙ (λ j. next_word (held j) tk East (c.words_of-before.ensures.east j)) in
     west_frame_is c.args.now.0 i.settings i.rounds i.held i.cross i.ports i.west_out i.east_out i.calm
-    c.take-taken.new.self c.decide-decided.new.self c.deliver.new.ports c.feed.new.self c.take-taken.ensures.cross decided c.deliver.ensures c.feed.ensures
+    c.take-taken.new.self c.decide-decided.new.self c.deliver_ports.new.ports c.feed.new.self c.take-taken.ensures.cross decided c.deliver_ports.ensures c.feed.ensures
     c.decide-decided.result.0.west c.decide-decided.result.0.east c.say-west_said.new.self c.say-east_said.new.self c.send_both-west_made.new.west c.send_both-west_made.new.east c.feed.new.self c.feed.new.self
     west_said east_said c.say-west_said.ensures.sender c.say-east_said.ensures.sender refl refl
     c.send_both-west_made.new.west_out c.send_both-west_made.ensures.west_frame
@@ -68,7 +68,7 @@ returns-clause-east c =
     let west_said = c.decide-decided.ensures.west ∙ (λ j. next_word (held j) tk West (c.words_of-before.ensures.west j)) in
     let east_said = c.decide-decided.ensures.east ∙ (λ j. next_word (held j) tk East (c.words_of-before.ensures.east j)) in
     east_frame_is c.args.now.0 i.settings i.rounds i.held i.cross i.ports i.west_out i.east_out i.calm
-    c.take-taken.new.self c.decide-decided.new.self c.deliver.new.ports c.feed.new.self c.take-taken.ensures.cross decided c.deliver.ensures c.feed.ensures
+    c.take-taken.new.self c.decide-decided.new.self c.deliver_ports.new.ports c.feed.new.self c.take-taken.ensures.cross decided c.deliver_ports.ensures c.feed.ensures
     c.decide-decided.result.0.west c.decide-decided.result.0.east c.say-west_said.new.self c.say-east_said.new.self c.send_both-west_made.new.west c.send_both-west_made.new.east c.feed.new.self c.feed.new.self
     west_said east_said c.say-west_said.ensures.sender c.say-east_said.ensures.sender refl refl
     c.send_both-west_made.new.east_out c.send_both-west_made.ensures.east_frame
@@ -86,7 +86,7 @@ returns-clause-node c =
     let told =
     c.is_calm-calm.ensures
     ∙ calm_is c.args.now.0 i.settings i.rounds i.held i.cross i.ports i.west_out i.east_out i.calm
-    c.take-taken.new.self c.decide-decided.new.self c.deliver.new.ports c.feed.new.self c.take-taken.ensures.cross decided c.deliver.ensures c.feed.ensures
+    c.take-taken.new.self c.decide-decided.new.self c.deliver_ports.new.ports c.feed.new.self c.take-taken.ensures.cross decided c.deliver_ports.ensures c.feed.ensures
     c.decide-decided.result.0.west c.decide-decided.result.0.east c.say-west_said.new.self c.say-east_said.new.self c.send_both-west_made.new.west c.send_both-west_made.new.east c.feed.new.self c.feed.new.self
     west_said east_said c.say-west_said.ensures.sender c.say-east_said.ensures.sender refl refl
     c.send_both-west_made.ensures.west c.send_both-west_made.ensures.east
@@ -95,7 +95,7 @@ returns-clause-node c =
     (λ j. node_of i.settings (i.rounds + 1)
     (c.one_less-self-inside.ensures j) c.decide-decided.new.self c.feed.new.self c.send_both-west_made.new.west c.send_both-west_made.new.east c.is_calm-calm.result)
     ∙ node_is c.args.now.0 i.settings i.rounds i.held i.cross i.ports i.west_out i.east_out i.calm
-    c.take-taken.new.self c.decide-decided.new.self c.deliver.new.ports c.feed.new.self c.take-taken.ensures.cross decided c.deliver.ensures c.feed.ensures
+    c.take-taken.new.self c.decide-decided.new.self c.deliver_ports.new.ports c.feed.new.self c.take-taken.ensures.cross decided c.deliver_ports.ensures c.feed.ensures
     c.decide-decided.result.0.west c.decide-decided.result.0.east c.say-west_said.new.self c.say-east_said.new.self c.send_both-west_made.new.west c.send_both-west_made.new.east c.feed.new.self c.feed.new.self
     west_said east_said c.say-west_said.ensures.sender c.say-east_said.ensures.sender refl refl
     c.send_both-west_made.ensures.west c.send_both-west_made.ensures.east

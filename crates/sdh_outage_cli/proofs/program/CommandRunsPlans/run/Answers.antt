@@ -16,15 +16,15 @@ returns-in-Some g c =
     let is : listing_of ask plan ≡ Some listing = sym c.listing_of.ensures.listing ∙ c.in-Some.is in
     record {
       outcome =
-          IfOk-weaker c.run_report.result _ _ (λ report x. run_of_plan plan listing f
-          (means c.run_report.new.plant) ask report.ending report.text.bytes is x) c.run_report.ensures.outcome;
+          IfOk-weaker c.ended_run.result _ _ (λ report x. run_of_plan plan listing f
+          (means c.ended_run.new.plant) ask report.ending report.text.bytes is x) c.ended_run.ensures.outcome;
       alone = λ none. absurd (none listing (listed_deed plan listing ask is));
-      failed = c.run_report.ensures.failed;
-      calls = c.run_report.ensures.calls;
-      without = c.run_report.ensures.without;
+      failed = c.ended_run.ensures.failed;
+      calls = c.ended_run.ensures.calls;
+      without = c.ended_run.ensures.without;
       complete =
-          IfOk-weaker c.run_report.result _ _ (λ report done go fine. done (subst (λ d. may_do listening d plan f)
-          (run_alone ask plan listing go.0 (listed_deed plan listing ask is) go.1) go.2) fine) c.run_report.ensures.complete;
-      later = c.run_report.ensures.later;
-      unsent = c.run_report.ensures.unsent;
+          IfOk-weaker c.ended_run.result _ _ (λ report done go fine. done (subst (λ d. may_do listening d plan f)
+          (run_alone ask plan listing go.0 (listed_deed plan listing ask is) go.1) go.2) fine) c.ended_run.ensures.complete;
+      later = c.ended_run.ensures.later;
+      unsent = c.ended_run.ensures.unsent;
     }

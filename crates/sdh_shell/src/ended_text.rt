@@ -7,23 +7,23 @@ use std::alloc::{AllocError, Global};
 
 /// What is to be written, and how the program ends then.
 #[derive(Drop)]
-pub struct Report<E> {
+pub struct EndedText<E> {
     pub ending: E,
     pub text: Text,
 }
 
 /// Returns a text with its last line.
-pub fn ended<E: Ends>(ending: E, mut text: Text) -> Report<E>
+pub fn ended<E: Ends>(ending: E, mut text: Text) -> EndedText<E>
     requires room { 96 ≤ text.room }
     ensures ending { result.ending ≡ ending }
     ensures text { result.text.bytes ≡ text.bytes ++ E.endings.line ending }
 {
     ending.put_line(&mut text);
-    Report { ending, text }
+    EndedText { ending, text }
 }
 
 /// Returns the report of one line.
-pub fn last_report<E: Ends>(alloc: Global, ending: E) -> Result<Report<E>, AllocError>
+pub fn ended_line<E: Ends>(alloc: Global, ending: E) -> Result<EndedText<E>, AllocError>
     ensures { IfOk result (λ report. (report.ending ≡ ending) × (report.text.bytes ≡ E.endings.line ending)) }
 {
     let text = Text::try_new(alloc, LINE_MAX)?;

@@ -6,7 +6,7 @@ use Rattle.sdh_shell.proofs.Endings.{no_read, no_usage, is_shown, with_cause}
 use Rattle.sdh_shell.proofs.Refused.{was_too_long}
 use Rattle.sdh_scripts.proofs.Answered.{on_two}
 use Rattle.sdh_scripts.proofs.Stages.{plan_ends, own_may_go, plan_outcome, read_may_go}
-use Rattle.sdh_scripts.proofs.report.asked_report.Goals as goal
+use Rattle.sdh_scripts.proofs.answering.ended_asked.Goals as goal
 
 pub returns-in-Some-clause-reads : goal.returns-in-Some-clause-reads
 returns-in-Some-clause-reads g c =

@@ -15,7 +15,7 @@ use crate::program::RunsPlans;
 use sdh_outside::Source;
 use sdh_plant::Plant;
 use sdh_report::{LINE_MAX, Status, Text};
-use sdh_shell::{Ends, NoPlan, Report, ended, plan_in};
+use sdh_shell::{EndedText, Ends, NoPlan, ended, plan_in};
 use std::alloc::{AllocError, Global};
 
 /// Returns the ending that a shared status is.
@@ -26,20 +26,20 @@ pub fn ending_of<'a, M: RunsPlans<'a>>(status: Status) -> M::Ending
 }
 
 // The line that tells how the program is called.
-fn usage_report<'a, M: RunsPlans<'a>>(alloc: Global) -> Result<Report<M::Ending>, AllocError>
+fn ended_usage<'a, M: RunsPlans<'a>>(alloc: Global) -> Result<EndedText<M::Ending>, AllocError>
     ensures { IfOk result
         (λ report. (report.ending ≡ M.program.endings.of Status.Usage) × (report.text.bytes ≡ own_line M.program.usage)) }
 {
     let mut text = Text::try_new(alloc, LINE_MAX)?;
     text.own_line(M::usage());
-    Ok(Report {
+    Ok(EndedText {
         ending: ending_of::<M>(Status::Usage),
         text,
     })
 }
 
 // The last line of a status.
-fn line_report<'a, M: RunsPlans<'a>>(status: Status, text: Text) -> Report<M::Ending>
+fn ended_status<'a, M: RunsPlans<'a>>(status: Status, text: Text) -> EndedText<M::Ending>
     requires room { 96 ≤ text.room }
     requires empty { text.bytes ≡ [] }
     ensures ending { result.ending ≡ M.program.endings.of status }
@@ -49,12 +49,12 @@ fn line_report<'a, M: RunsPlans<'a>>(status: Status, text: Text) -> Report<M::En
 }
 
 // What is asked, with a plan of its own or the one that a source has.
-fn asked_report<'a, M: RunsPlans<'a>, R: Source, P: Plant>(
+fn ended_asked<'a, M: RunsPlans<'a>, R: Source, P: Plant>(
     alloc: Global,
     asked: M,
     source: &mut R,
     plant: &mut P,
-) -> Result<Report<M::Ending>, AllocError>
+) -> Result<EndedText<M::Ending>, AllocError>
     requires fresh { HasNoFibres (P.fibres plant.old) }
     ensures outcome { IfOk result (λ report. let ask = Some (M.ask_of asked) in IfSome (told M.program ask (R.left source.old))
         (λ bytes. IsOutcome M.program ask bytes (P.fibres plant.old) report.ending report.text.bytes (P.fibres plant.new))) }
@@ -91,17 +91,17 @@ fn asked_report<'a, M: RunsPlans<'a>, R: Source, P: Plant>(
     match plan_in(alloc, source) {
         Ok(plan) => asked.run(alloc, plan, plant),
         Err(NoPlan::Memory) => Err(AllocError),
-        Err(NoPlan::Refused(how)) => Ok(line_report::<M>(how, line)),
+        Err(NoPlan::Refused(how)) => Ok(ended_status::<M>(how, line)),
     }
 }
 
 /// What the words, the source and the plant come to.
-pub fn report_on<'a, M: RunsPlans<'a>, R: Source, P: Plant>(
+pub fn ended_call<'a, M: RunsPlans<'a>, R: Source, P: Plant>(
     alloc: Global,
     words: &'a [String],
     source: &mut R,
     plant: &mut P,
-) -> Result<Report<M::Ending>, AllocError>
+) -> Result<EndedText<M::Ending>, AllocError>
     requires fresh { HasNoFibres (P.fibres plant.old) }
     ensures outcome { IfOk result
         (λ report. let ask = M.program.asked (words_of words.now) in IfSome (told M.program ask (R.left source.old))
@@ -132,7 +132,7 @@ pub fn report_on<'a, M: RunsPlans<'a>, R: Source, P: Plant>(
     ensures unsent { OnErr result (P.fibres plant.new ≡ P.fibres plant.old) }
 {
     match M::asked(words) {
-        Some(asked) => asked_report(alloc, asked, source, plant),
-        None => usage_report::<M>(alloc),
+        Some(asked) => ended_asked(alloc, asked, source, plant),
+        None => ended_usage::<M>(alloc),
     }
 }

@@ -2,7 +2,7 @@
 use Rattle.std.proofs.Common.{◌≡◌, ℕ, ◌+◌, ◌-◌, ◌++◌, ◌∷◌, [], length, take, drop, get_or, ap, sym, ◌∙◌}
 use Rattle.std.proofs.lemmas.List.{drop-drop}
 use Rattle.sdh_elastic.proofs.Chunks.{joined, renewed, long_after, kept_after}
-use Rattle.sdh_elastic.proofs.held.Held.exchange.Goals as goal
+use Rattle.sdh_elastic.proofs.held.Held.take_and_give.Goals as goal
 
 pub returns-clause-given : goal.returns-clause-given
 returns-clause-given c =

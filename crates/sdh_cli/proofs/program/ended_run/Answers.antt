@@ -1,5 +1,5 @@
-use Rattle.sdh_outage_cli.proofs.Stages.{run_ends}
-use Rattle.sdh_outage_cli.proofs.program.run_report.Goals as goal
+use Rattle.sdh_cli.proofs.Deeds.{run_ends}
+use Rattle.sdh_cli.proofs.program.ended_run.Goals as goal
 
 pub returns-clause-outcome : goal.returns-clause-outcome
 returns-clause-outcome g c =

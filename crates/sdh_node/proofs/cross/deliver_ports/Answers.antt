@@ -2,7 +2,7 @@ use Rattle.std.proofs.Common.{ℕ, ◌*◌, ◌/◌, ◌≤◌, arith}
 use Rattle.sdh_terms.specs.declared.Rate.{Rate}
 use Rattle.sdh_terms.specs.Rates.{n_of}
 use Rattle.sdh_node.specs.Crossing.{all_delivered}
-use Rattle.sdh_node.proofs.cross.deliver.Goals as goal
+use Rattle.sdh_node.proofs.cross.deliver_ports.Goals as goal
 
 twice_below : (rate : Rate) (k : ℕ) → k ≤ n_of rate / 2 → 2 * k ≤ n_of rate
 twice_below rate k h = omega arith
