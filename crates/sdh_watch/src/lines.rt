@@ -1,6 +1,5 @@
 //! The line of a watch.
 ghost use Rattle.std.specs.Prelude.{◌≡◌, ◌≤◌, length};
-ghost use Rattle.sdh_report.specs.Lines.{end_letter};
 ghost use Rattle.sdh_report.specs.Written.{with_part};
 ghost use Rattle.sdh_watch.specs.Shows.{shown};
 ghost use Rattle.sdh_watch.specs.Lines.{trace_word_text, watch_named, path_counts_text, path_report_text, watch_line};
@@ -21,16 +20,6 @@ fn letters(word: TraceWord) -> &'static [u8]
     }
 }
 
-// The letter of a port.
-fn end_letter(end: End) -> &'static [u8]
-    ensures { result.now ≡ end_letter end }
-{
-    match end {
-        End::A => b"a",
-        End::B => b"b",
-    }
-}
-
 // The port that is watched.
 fn put_named(text: &mut Text, name: &Name, end: End)
     requires { length (watch_named name.now end) ≤ text.old.room }
@@ -39,7 +28,7 @@ fn put_named(text: &mut Text, name: &Name, end: End)
     text.put(b"watch ");
     text.put(name.as_slice());
     text.put(b" ");
-    text.put(end_letter(end));
+    text.put_end(end);
 }
 
 // How many VC-4s there were, and in how many bits their B3 differ.
