@@ -38,7 +38,7 @@ class Scrambler:
 
 
 def lanes(data, width):
-    """The exclusive or of all stretches of so many bytes, one after the other."""
+    """The exclusive or of all stretches of a length, one after the other."""
     total = 0
     for at in range(0, len(data), width):
         total ^= int.from_bytes(data[at : at + width], "big")

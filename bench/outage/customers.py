@@ -15,7 +15,7 @@ class Clock:
         self.justified = None
 
     def next(self):
-        """The round's first byte and its form; the value then is that behind the round."""
+        """The round's first byte and its form; the value then is that after the round."""
         form = "normal"
         if self.t >= 4 and (self.justified is None or self.t - self.justified > 3):
             form = "up" if self.waiting["up"] else "down" if self.waiting["down"] else "normal"

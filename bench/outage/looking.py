@@ -1,4 +1,4 @@
-"""The kinds of rounds by looking at the bytes that a port delivers, as the program does, and not at the simulation's tags. So it tells what
+"""The kinds of rounds by looking at the bytes that a port delivers, as the program does, and not at the simulation's tags. So it says what
 is to be seen also where two of a customer's chunks are alike."""
 from customers import CHUNK, Stream
 from simulate import Outage, Outages, streams_of

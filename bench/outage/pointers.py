@@ -36,7 +36,7 @@ def event_of(kept, word):
 
 @lru_cache(maxsize=None)
 def interpret(kept, word):
-    """What an interpreter keeps behind a word, and its action."""
+    """What an interpreter keeps after a word, and its action."""
     mode, value, silent, invalid, candidate, times, since = kept
     kind, v = event_of(kept, word)
     grown = min(since + 1, 3) if mode == NORM else 0

@@ -7,7 +7,7 @@
   bench/outage/simulate.py report < PLAN           what `sdhring run` must write, to hold the simulation against its worked rows
 
 Words, pointers and connections are run round by round, without frames: in place of its payload each AU-4 has a tag, which
-customer's bytes it is, from which byte on, and how they were put in. `tags` tells the rounds' kinds by these alone. `run` and `trace`
+customer's bytes it is, from which byte on, and how they were put in. `tags` gives the rounds' kinds by these alone. `run` and `trace`
 make the bytes of them that a port delivers, and look for these in the customer's stream (looking.py): where the length of a text divides
 2340, VC-4s look alike, and a jump may not be seen. The plan has to be a good one. Ends with the status."""
 import sys
@@ -23,7 +23,7 @@ SIDES = "west", "east"
 WINDOW = 128
 AIS = ("ais", 0, None, None)  # an action, a value, a payload and the bytes H3
 SILENCE = (0xFFFF, "ones", "ones")  # an AU-4 of ones
-TOLD = 64  # so many changes of a settle step are told
+TOLD = 64  # the most changes that are written of a settle step
 
 
 class Node:
@@ -99,7 +99,7 @@ class Ring:
     # One round: what comes in, the state, the connections, what leaves.
 
     def round(self):
-        """Runs a round, and tells whether it was calm."""
+        """Runs a round, and returns whether it was calm."""
         self.t += 1
         before = [node.looks() for node in self.nodes]
         calm = self.t > 0
@@ -122,7 +122,7 @@ class Ring:
         return calm and before == [node.looks() for node in self.nodes]
 
     def sees(self, p, node):
-        """Defects, words and local requests; tells which sides fail."""
+        """Defects, words and local requests; returns which sides fail."""
         fails, local, heard = [False, False], [0, 0], [None, None]
         for d in (WEST, EAST):
             fibre = self.fibre_into(p, d)
@@ -221,7 +221,7 @@ class Ring:
                 self.delivered[c, end] = AIS if origin is None else came[p][origin]
 
     def settle(self, seen):
-        """Runs rounds until a quiet window ends, `seen` after each; tells whether one did."""
+        """Runs rounds until a quiet window ends, `seen` after each; returns whether one did."""
         calm = 0
         for _ in range(self.plan["limit"]):
             calm = calm + 1 if self.round() else 0
@@ -247,7 +247,7 @@ def bytes_of(delivered):
 class Outage:
     """What one port delivered in the rounds of a settle step; `follows` is the byte that would come next, if the round before brought own bytes.
 
-    Own are bytes of the circuit's other port, from 71 chunks before that of the round to 6 behind it."""
+    Own are bytes of the circuit's other port, from 71 chunks before that of the round to 6 after it."""
 
     def __init__(self, line, other):
         self.line, self.other, self.follows = line, other, None

@@ -6,7 +6,7 @@ fn copy_twice(chunk: &[u8], held: &mut [u8], out: &mut [u8]) {
     out[..chunk.len()].copy_from_slice(std::hint::black_box(&held[..chunk.len()]));
 }
 
-/// Copies the chunks of so many turns, four of which are the input: 2346 bytes and three times 2349.
+/// Copies the chunks of a number of turns, four of which are the input: 2346 bytes and three times 2349.
 pub fn two_copies(input: &[u8], turns: u32, out: &mut [u8]) {
     let mut held = vec![0; 2352];
     let starts = [0, 2346, 4695, 7044, 9393];

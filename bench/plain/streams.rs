@@ -39,7 +39,7 @@ impl Feed {
         feed
     }
 
-    /// Puts the next bytes of one row, at most so many.
+    /// Puts the next bytes of one row, at most as many as fit.
     fn put_some(&mut self, most: usize, out: &mut Vec<u8>) {
         let (row, column) = (self.index / COLUMNS, self.index % COLUMNS);
         if column == 0 {

@@ -1,6 +1,6 @@
 """A second reading of plans, written apart from the program's: the reason and the place of the first check that fails.
 
-`answer(data)` gives `not toml`, `bad plan R at P`, or `plan` for bytes that are a plan. docs/FORMATS.md tells the keys, the steps
+`answer(data)` gives `not toml`, `bad plan R at P`, or `plan` for bytes that are a plan. docs/FORMATS.md has the keys, the steps
 and the reasons.
 """
 

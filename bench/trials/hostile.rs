@@ -3,10 +3,10 @@
 use crate::neighbour::{Dice, Neighbour, Reader, is_word};
 use crate::ours::run_told;
 
-// At most so many bytes arrive in a ring.
+// The most bytes that arrive in a ring.
 const MOST: usize = 64 << 20;
 
-// A ring of so many nodes: its rate, how many rounds it runs, and the steps before them.
+// A ring: its number of nodes, its rate, how many rounds it runs, and the steps before them.
 struct Trial {
     n: usize,
     nodes: usize,

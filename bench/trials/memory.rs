@@ -34,7 +34,7 @@ extern "C" fn __wrap_realloc(memory: *mut c_void, size: usize) -> *mut c_void {
     unsafe { __real_realloc(memory, size) }
 }
 
-/// Runs with one allocation refused, counted from 1, or with none at 0, and tells how many were asked for. What runs allocates nothing
+/// Runs with one allocation refused, counted from 1, or with none at 0, and returns how many were asked for. What runs allocates nothing
 /// on the side of this program.
 pub fn refusing<T>(number: u64, run: impl FnOnce() -> T) -> (T, u64) {
     ASKED.store(0, SeqCst);

@@ -155,7 +155,7 @@ impl Neighbour {
         }
     }
 
-    /// Puts the next arrival behind the others: a byte, 0 where nothing comes, and the bytes of a frame.
+    /// Puts the next arrival after the others: a byte, 0 where nothing comes, and the bytes of a frame.
     pub fn put(&mut self, dice: &mut Dice, arrivals: &mut Vec<u8>) {
         self.change(dice);
         let from = arrivals.len();

@@ -133,7 +133,7 @@ pub struct Told {
     pub sent: Vec<u8>,
 }
 
-/// Runs a plan over told arrivals, with room for so many bytes of frames sent.
+/// Runs a plan over told arrivals, with room for a number of bytes of frames sent.
 pub fn run_told(document: &str, n: usize, arrivals: &[u8], room: usize) -> Told {
     assert!(n == 4 || n == 16);
     let mut text = vec![0; ROOM];

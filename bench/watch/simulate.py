@@ -38,7 +38,7 @@ def stretch(stream, position, count):
 
 
 def report(trace, given):
-    """What a watch tells of what it was given: chunks with their pointer values, and None for AIS."""
+    """What a watch reports of what it was given: chunks with their pointer values, and None for AIS."""
     since, value = [], None
     for item in given:
         if item is None:
@@ -60,7 +60,7 @@ def report(trace, given):
 
 
 def watch_lines(data, rules, streams, settle, ended):
-    """The lines of all ports behind a settle step that ended with this round."""
+    """The lines of all ports after a settle step that ended with this round."""
     applied = rules.applied(ended + WATCHED)
     for circuit in data.get("circuit", []):
         for end, other in (("a", "b"), ("b", "a")):

@@ -79,7 +79,7 @@ class State:
             self.sides[ring.nodes.index(int(words[1])), words[2]].command = verb
 
     def applied(self):
-        """The spans that traffic is led round."""
+        """The spans that traffic goes round."""
         n = len(self.ring.nodes)
         asked = [max(self.sides[s, "east"].asks(self.ring.wait), self.sides[(s + 1) % n, "west"].asks(self.ring.wait)) for s in range(n)]
         top = max(asked)
@@ -159,7 +159,7 @@ def cases(ring, state, depth):
 
 
 def singles(ring, state):
-    """The lines behind the table."""
+    """The lines after the table."""
     n, made, at = len(ring.nodes), failures(ring), 0
     text = ""
     for kind, count in (("degraded fibres", 2 * n), ("cut fibres", 2 * n), ("spans", n), ("nodes", n), ("manual switches", 2 * n), ("forced switches", 2 * n)):

@@ -1,6 +1,6 @@
 """The checks of a plan, in the program's order; FORMATS.md has them as tables.
 
-Each refusal tells where in the document it is, which word is wrong, and which words would be right in its place.
+Each refusal says where in the document it is, which word is wrong, and which words would be right in its place.
 """
 
 from collections import Counter
@@ -11,7 +11,7 @@ KEYS = ("rate", "nodes", "threshold", "wait", "limit", "script", "circuit")
 NEEDED = ("name", "from", "to", "slot", "text_a", "text_b")
 CIRCUIT_KEYS = NEEDED + ("trace_a", "trace_b", "offset_a", "offset_b")
 TEXT_KEYS = {"name", "text_a", "text_b", "trace_a", "trace_b"}
-# Words of a step, and what each of them wants behind it.
+# Words of a step, and what each of them wants after it.
 STEP_FORMS = {
     "cut": ("node", "side"),
     "mend": ("node", "side"),

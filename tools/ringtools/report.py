@@ -54,11 +54,11 @@ class PortLine:
 class Settled:
     number: int
     round: int | None  # `drop` doesn't have it
-    nodes: list = field(default_factory=list)  # by position; empty where the text tells no states
+    nodes: list = field(default_factory=list)  # by position; empty where the text has no states
     ports: dict = field(default_factory=dict)  # (circuit's name, end) -> PortLine
     chunk: list | None = None  # lines of `drop`
     counts: tuple | None = None  # of `big`: ports that deliver bytes, and AIS
-    outages: object = None  # what sdhoutage tells of the step, where it was asked
+    outages: object = None  # what sdhoutage reports of the step, where it was asked
 
 
 @dataclass(frozen=True)

@@ -11,7 +11,7 @@ CHUNK = 2349
 
 class Rules:
     def __init__(self, data, rounds):
-        """`rounds` tells the last round of each settle step."""
+        """`rounds` gives the last round of each settle step."""
         self.data, self.rounds = data, rounds
         self.nodes = data["nodes"]
         self.n = len(self.nodes)

@@ -1,6 +1,6 @@
 """How many settle steps of the worked rows end late enough that the promise of every round speaks of their last rounds.
 
-`python3 tools/testing/soon.py` tells it of the rows of `sdhring run`, each plan once, whatever its limit: how many settle
+`python3 tools/testing/soon.py` counts it in the rows of `sdhring run`, each plan once, whatever its limit: how many settle
 steps ran to their end, in how many of them every port is promised what it is owed by the last round, and in how many by
 12n + 102 rounds of the step itself.
 """
@@ -15,7 +15,7 @@ from ringtools.rows import read_rows
 
 
 def bound(size, words):
-    """Behind so many rounds from these changes on each port has what it is owed, whatever happened before them."""
+    """After this number of rounds from these changes on each port has what it is owed, whatever happened before them."""
     if "hold" in words:
         return 12 * size + 102
     return max(12 * size + 2, 8 * size + 61) if "slip" in words else 12 * size + 2

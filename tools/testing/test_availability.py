@@ -48,7 +48,7 @@ def both(size, span):
 
 
 def components_of(chance, size, most):
-    """Components of all kinds with rates and times of all sizes, no more than so many."""
+    """Components of all kinds with rates and times of all sizes, up to a number of them."""
     sides = [(at, side) for at in range(size) for side in ("west", "east")]
     made = [("span", both(size, span), None) for span in range(size)]
     made += [("node", both(size, at) | both(size, (at - 1) % size), at) for at in range(size)]

@@ -22,7 +22,7 @@ NODES = "place,node\nKöln,4\nBad Ems,\nMainz,9\nAachen,\n"
 
 
 def full_ring(chance, size, slots, longest, share):
-    """Circuits laid end to end in each slot, of which a share is kept: so they fit, and nothing tells how."""
+    """Circuits laid end to end in each slot, of which a share is kept: so they fit, and nothing says how."""
     wanted = []
     for _ in range(slots):
         at, left = chance.randrange(size), size

@@ -16,7 +16,7 @@ BEGIN, END = "interrupted as they begin", "interrupted as they end"
 
 
 def simulated(plan):
-    """What the simulation tells of each stage of this plan's script: by stage, circuit and port the frames, milliseconds, jumps and whether it is out to the end."""
+    """What the simulation says of each stage of this plan's script: by stage, circuit and port the frames, milliseconds, jumps and whether it is out to the end."""
     text = subprocess.run([*SIMULATE.split(), "run"], input=plan, capture_output=True, check=True).stdout.decode()
     found = {}
     for stage, part in zip(STAGES, text.split("settle ")[-len(STAGES) :]):

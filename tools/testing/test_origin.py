@@ -1,4 +1,4 @@
-"""Which program answered, whether it is proved, and about which plan: what is told of it, and what is taken up again."""
+"""Which program answered, whether it is proved, and about which plan: what is said of it, and what is taken up again."""
 
 import hashlib
 import stat
@@ -42,7 +42,7 @@ def executable(path, text):
 
 
 class Launched(unittest.TestCase):
-    """A launcher, which runs the stand-in as a program of which a BUILD tells or not."""
+    """A launcher, which runs the stand-in as a program which a BUILD names or not."""
 
     def setUp(self):
         folder = tempfile.TemporaryDirectory()

@@ -80,7 +80,7 @@ def every_arc(name, n):
 
 
 def value(formula, n):
-    """A number, or so many times n, more or less."""
+    """A number, or a number times n, more or less."""
     times, sign, more = re.fullmatch(r"(?:(\d*)n)?(?: ([+-]) )?(\d*)", formula).groups()
     times = 0 if times is None else int(times or 1)
     return times * n + int(f"{sign or ''}{more or 0}")

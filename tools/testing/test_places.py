@@ -1,4 +1,4 @@
-"""Names of places and of customers in what is told and drawn of a plan, and in the plans that are made of it."""
+"""Names of places and of customers in what is written and drawn of a plan, and in the plans that are made of it."""
 
 import unittest
 

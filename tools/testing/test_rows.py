@@ -1,4 +1,4 @@
-"""Worked rows: what differs is told, and the table names all that is there."""
+"""Worked rows: what differs is reported, and the table names all that is there."""
 
 import json
 import os

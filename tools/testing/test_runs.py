@@ -192,7 +192,7 @@ WORKS_OUT = OUTAGES / "example-before-works.text"
 
 
 class Outages(unittest.TestCase):
-    """A page with what `sdhoutage` tells beside the ports."""
+    """A page with what `sdhoutage` reports beside the ports."""
 
     def page(self, outages=WORKS_OUT, plan=WORKS):
         ended = call("sdhring-view", "--outages", outages, *plan)

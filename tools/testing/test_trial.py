@@ -20,7 +20,7 @@ CUTS = 2  # cuts a year of 1,000 km, as README has them
 
 
 def commands():
-    """What README tells a planner to type, in its section on tables."""
+    """What a planner types by README, in its section on tables."""
     section = (TOP / "README.md").read_text(encoding="utf-8").split("### From tables to a page")[1].split("\n## ")[0]
     return [line.strip() for line in section.splitlines() if line.startswith("    ./")]
 

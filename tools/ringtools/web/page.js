@@ -1,5 +1,5 @@
 "use strict";
-// Lights up one circuit in every drawing and table of the page, and tells what is pointed at, touched or reached by a key.
+// Lights up one circuit in every drawing and table of the page, and shows what is pointed at, touched or reached by a key.
 (() => {
   const all = (selector, within = document) => [...within.querySelectorAll(selector)];
   let lit = null;
