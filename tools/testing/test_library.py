@@ -21,7 +21,7 @@ from simulate import Ring  # noqa: E402
 
 PAGE = ROOT / "docs" / "LIBRARY.md"
 EXAMPLE = ROOT / "crates" / "example_words"
-FOLDER = ROOT / "examples" / "library"
+FOLDER = ROOT / "bench" / "library"
 LIBRARY = ROOT / "crates" / "sdh_bench_ring" / "out" / "libsdh_bench_ring.a"
 KIT = Path(os.path.realpath(shutil.which("rt") or "")).parents[1] if shutil.which("rt") else None
 PLAN = {"rate": 4, "nodes": [1, 2, 3, 4], "threshold": 3, "wait": 10, "limit": 129, "circuit": [], "script": ["cut 2 east", "cut 3 west", "settle"]}
@@ -55,7 +55,7 @@ class Library(unittest.TestCase):
         self.assertNotEqual((EXAMPLE / "stdout").read_text(), words_of(PLAN | {"script": ["cut 2 east", "settle"]}, 20))
 
     def test_the_page_quotes_the_files(self):
-        quoted = re.findall(r"^    (crates/\S+|examples/library/\S+)\n((?:    .*\n|\n)+)", PAGE.read_text(), re.M)
+        quoted = re.findall(r"^    (crates/\S+|bench/library/\S+)\n((?:    .*\n|\n)+)", PAGE.read_text(), re.M)
         self.assertEqual(len(quoted), 2)
         for name, text in quoted:
             lines = [line.removeprefix("    ") for line in text.rstrip("\n").splitlines()]
@@ -63,7 +63,7 @@ class Library(unittest.TestCase):
                 self.assertIn("\n".join(lines), (ROOT / name).read_text())
 
     def test_files_named_are_there(self):
-        for name in re.findall(r"`((?:crates|examples|bench|tools)/[^` *]+)`", PAGE.read_text()):
+        for name in re.findall(r"`((?:crates|bench|tools)/[^` *]+)`", PAGE.read_text()):
             self.assertTrue((ROOT / name).exists(), name)
 
     def runs(self, words):
