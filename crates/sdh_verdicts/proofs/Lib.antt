@@ -10,3 +10,4 @@ pub mod Agreeing
 pub mod Longer
 pub mod Same
 pub mod Hops
+pub mod Occurring
