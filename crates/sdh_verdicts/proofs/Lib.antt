@@ -11,3 +11,4 @@ pub mod Longer
 pub mod Same
 pub mod Hops
 pub mod Sets
+pub mod Occurring
