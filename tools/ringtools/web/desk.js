@@ -52,7 +52,8 @@
     const [impaired, over, lost] = ["i", "o", "l"].map((letter) => namesOf(found[1], letter));
     const kept = data.circuits.length - impaired.length - over.length - lost.length;
     const list = (names) => (names.length ? `: ${names.join(", ")}` : "");
-    return `${what}. ${lost.length} lost${list(lost)}. ${over.length} over protection${list(over)}. ${impaired.length} kept but impaired${list(impaired)}. ${kept} kept.`;
+    const also = impaired.length ? ` ${impaired.length} kept but impaired${list(impaired)}.` : "";
+    return `${what}. ${lost.length} lost${list(lost)}. ${over.length} over protection${list(over)}.${also} ${kept} kept.`;
   };
 
   const angle = (position) => (2 * Math.PI * position) / data.size;
