@@ -181,7 +181,8 @@ class Model:
         self.plan, self.last = plan, last_scene(plan)
         self.base = self.sets((span, request) for span, request in enumerate(span_requests(plan.size, self.last.requests)) if request)
         self.raised = [self.sets((span, self.RAISES[failure.kind]) for span in self.spans_of(failure)) for failure in failures]
-        self.known, self.outcomes = {}, {}
+        self.arcs = [frozenset(arc(plan, circuit)) for circuit in plan.circuits]
+        self.known, self.outcomes, self.ways = {}, {}, {}
 
     def sets(self, asked):
         """A number for each level, with a bit for each span that asks for it."""
@@ -219,21 +220,22 @@ class Model:
         return applied_spans([highest(span) for span in range(self.plan.size)])
 
     def of_applied(self, applied, troubled):
-        letters = "".join(self.letter(circuit, applied, troubled) for circuit in self.plan.circuits)
+        found = self.goes(applied)
+        letters = "".join(IMPAIRED if letter == KEPT and troubled & own else letter for (letter, _), own in zip(found, self.arcs))
         if (applied, letters) not in self.outcomes:
-            ways = [len(way) for way in self.ways(applied, letters) if way]
-            self.outcomes[applied, letters] = Outcome(applied, letters, max(ways, default=0))
+            self.outcomes[applied, letters] = Outcome(applied, letters, max((way for _, way in found), default=0))
         return self.outcomes[applied, letters]
 
-    def ways(self, applied, letters):
-        """The spans that the bytes of each circuit go over; none where it is lost."""
-        return [() if letter == LOST else route(self.plan, circuit, applied) for circuit, letter in zip(self.plan.circuits, letters)]
+    def goes(self, applied):
+        """Of each circuit, where these spans are applied, whether it is kept, over protection or lost, and over how many spans it goes."""
+        if applied not in self.ways:
+            self.ways[applied] = [self.way(circuit, own, applied) for circuit, own in zip(self.plan.circuits, self.arcs)]
+        return self.ways[applied]
 
-    def letter(self, circuit, applied, troubled):
+    def way(self, circuit, own, applied):
         if not is_joined(self.plan, circuit, applied):
-            return LOST
-        own = set(arc(self.plan, circuit))
-        return OVER if applied & own else IMPAIRED if troubled & own else KEPT
+            return LOST, 0
+        return OVER if applied & own else KEPT, len(route(self.plan, circuit, applied))
 
 
 class Reading:
@@ -262,8 +264,8 @@ class Reading:
         if outcome not in self.ends:
             spans = " ".join("{}-{}".format(*self.plan.ends(span)) for span in sorted(outcome.applied))
             cells = {KEPT: "", IMPAIRED: "i", LOST: "x"}
-            ways = self.model.ways(outcome.applied, outcome.results)
-            fates = "".join(f",{cells.get(letter, len(way))}" for letter, way in zip(outcome.results, ways))
+            ways = (way for _, way in self.model.goes(outcome.applied))
+            fates = "".join(f",{cells.get(letter, way)}" for letter, way in zip(outcome.results, ways))
             self.ends[outcome] = "{},{},{},{},{},{}{}".format(spans, *outcome.counts, outcome.hops, fates)
         return self.ends[outcome]
 

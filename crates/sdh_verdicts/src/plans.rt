@@ -34,7 +34,7 @@ pub fn told_hops(plan: &Plan, applied: &SpanSet, number: u8) -> u8
     way(plan.map(), applied, circuits.get(number))
 }
 
-/// Whether a circuit's own arc has a span in trouble, by its number, in the case of which these are those spans.
+/// Returns whether a circuit's own arc has a span in trouble, by its number, in the case of which these are those spans.
 pub fn told_impaired(plan: &Plan, troubled: &SpanSet, number: u8) -> bool
     requires number { number < length plan.now.circuits }
     requires case { (case : List Failure) × AreSpans (length plan.now.nodes) (is_troubled (requests_with plan.now case)) troubled.now }
