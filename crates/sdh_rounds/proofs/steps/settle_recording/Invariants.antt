@@ -2,7 +2,7 @@ use Rattle.std.proofs.Common.{◌≡◌, true, ◌≤◌, ◌+◌, length}
 use Rattle.sdh_plant.specs.Fibres.{IsPrepared}
 use Rattle.sdh_rounds.specs.Held.{world}
 use Rattle.sdh_rounds.proofs.Observing.{Observes}
-use Rattle.sdh_rounds.proofs.steps.settle.Given as goal
+use Rattle.sdh_rounds.proofs.steps.settle_recording.Given as goal
 
 abbrev pub invariant-rounds : goal.invariant-rounds
 invariant-rounds g l =
@@ -10,8 +10,8 @@ invariant-rounds g l =
     let from = g.R.RunsRounds.held l.fn.ring in
     let now = g.R.RunsRounds.held l.ring in
     record {
-      observes : Observes g.R.Node.Station.kind (λ at k. g.O.Observer.Heard at k l.observer) (world from (means l.fn.plant))
-          (world now (means l.plant)) l._turn l.calm;
+      observes : Observes g.R.Node.Station.kind (λ at k. g.O.Recorder.Records l.fn.recorder l.fn.log at k l.recorder l.log)
+          (world from (means l.fn.plant)) (world now (means l.plant)) l._turn l.calm;
       held : now ≡ record from { nodes = now.nodes; rounds = from.rounds + l._turn };
       prepared : IsPrepared from.settings.rate (length from.ids) (means l.plant);
       small : l.calm ≤ l._turn;
