@@ -32,7 +32,7 @@ _sdhring_tools() {
     sdhring-plan) words='new import --nodes --rate --threshold --wait --limit --steps --to --version --help' ;;
     sdhring-availability) words='--nodes --groups --cuts-per-1000-km --without-script --csv --json --causes --version --help' ;;
     sdhring-desk) words='--to --title --depth --spans --nodes --groups --cuts-per-1000-km --teller --version --help' ;;
-    sdhring-view) words='--to --svg --outages --program --version --help' ;;
+    sdhring-view) words='--to --svg --outages --signalling --program --version --help' ;;
     sdhring-whatif) words='--also --works --title --without-script --kinds --dir --program --jobs --shard --sshlogin --parallel --all --depth --frames --against --outages --require --teller --counter --anew --version --help' ;;
   esac
   mapfile -t COMPREPLY < <(compgen -W "$words" -- "$word")
