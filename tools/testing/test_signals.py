@@ -257,7 +257,7 @@ class Pages(unittest.TestCase):
         plan = SIGNALS / "four.toml"
         said = lambda *words, **more: call("sdhring-view", *words, **more).stderr.decode()
         self.assertIn("nothing to draw: `bad plan 13 at 0`", said("--signalling", "-", plan, input=b"bad plan 13 at 0\n"))
-        self.assertIn("lines: No such file", said("--signalling", "lines", plan))
+        self.assertIn("nowhere/lines: No such file", said("--signalling", "nowhere/lines", plan))
         self.assertIn("--signalling goes without REPORT", said("--signalling", "a", plan, "b"))
         self.assertIn("REPORT, --outages, --signalling and --svg go without --to", said("--signalling", "a", "--to", "b", plan))
         self.assertIn("the following arguments are required: PLAN", said("--svg", "2"))
