@@ -24,6 +24,7 @@ from ringtools.ticks import Tick, broken, event_of, read_trace, ticks
 ROOT = TOOLS.parent
 SIGNALS, OUTAGES = TOOLS / "testing" / "signals", TOOLS / "testing" / "outages"
 WORKS = ROOT / "examples" / "before-works.toml"
+ROUNDS = ROOT / "examples" / "round-by-round.toml"
 sys.path.insert(0, str(ROOT / "bench" / "aps"))
 
 import signalled  # noqa: E402
@@ -202,12 +203,7 @@ class Documents(unittest.TestCase):
         self.assertEqual(set(quoted) - set(rows()["mended"].text.decode().splitlines()), set())
 
     def test_the_drawing_is_of_today(self):
-        plan = ROOT / "examples" / "round-by-round.toml"
-        with tempfile.TemporaryDirectory() as folder:
-            outages = Path(folder) / "outages"
-            outages.write_text(simulate.run(tomllib.loads(plan.read_text()), Looks)[1])
-            drawn = call("sdhring-view", "--signalling", SIGNALS / "mended.text", "--outages", outages, "--svg", "2", plan).stdout
-        self.assertEqual((ROOT / "docs" / "signalled-cut.svg").read_bytes(), drawn)
+        self.assertEqual((ROOT / "docs" / "signalled-cut.svg").read_bytes(), drawn("mended", "--svg", "2").stdout)
 
 
 LOOK = """
@@ -253,13 +249,31 @@ class Pages(unittest.TestCase):
         self.assertNotIn("var(", alone)
         self.assertEqual((none.returncode, none.stderr), (1, b"sdhring-view: there is no settle step 3 in the text\n"))
 
+    def test_a_program_that_is_not_known_to_be_proved(self):
+        program = f"{sys.executable} {ROOT}/bench/aps/signalled.py"
+        with tempfile.TemporaryDirectory() as folder:
+            outages = Path(folder) / "outages"
+            outages.write_text(simulate.run(tomllib.loads(ROUNDS.read_text()), Looks)[1])
+            page = call("sdhring-view", "--signalling", "--program", program, "--outages", outages, ROUNDS).stdout.decode()
+        self.assertEqual(page.count('class="drawing spacetime" viewBox'), 4)
+        self.assertIn("not known to be proved", page)
+
+    @unittest.skipUnless((ROOT / "dist" / "sdhaps").is_file(), "dist/ has no sdhaps")
+    def test_the_programs_are_run(self):
+        """Both of them: the drawing has the words of sdhaps, and the ticks of sdhoutage."""
+        alone = call("sdhring-view", "--signalling", "--svg", "2", ROUNDS).stdout
+        self.assertEqual(alone, (ROOT / "docs" / "signalled-cut.svg").read_bytes())
+        page = call("sdhring-view", "--signalling", ROUNDS).stdout.decode()
+        self.assertIn("sdhaps ", page)
+        self.assertNotIn("sdhoutage isn't here", page)
+
     def test_what_cannot_be_drawn(self):
         plan = SIGNALS / "four.toml"
         said = lambda *words, **more: call("sdhring-view", *words, **more).stderr.decode()
         self.assertIn("nothing to draw: `bad plan 13 at 0`", said("--signalling", "-", plan, input=b"bad plan 13 at 0\n"))
         self.assertIn("nowhere/lines: No such file", said("--signalling", "nowhere/lines", plan))
-        self.assertIn("--signalling goes without REPORT", said("--signalling", "a", plan, "b"))
-        self.assertIn("REPORT, --outages, --signalling and --svg go without --to", said("--signalling", "a", "--to", "b", plan))
+        for words in (("--signalling", "a", plan, "b"), ("--signalling", "a", "--to", "b", plan)):
+            self.assertIn("--signalling goes without REPORT and --to", said(*words))
         self.assertIn("the following arguments are required: PLAN", said("--svg", "2"))
         self.assertIn("several plans, or a folder, go with --to", said("--signalling", "a", plan, plan, plan))
         self.assertIn("only one of PLAN, the signalling and the outages can be standard input", said("--signalling", "-", "-"))
