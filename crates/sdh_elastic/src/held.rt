@@ -49,7 +49,7 @@ fn renew(chunks: &mut HeapCircularBuffer<Cells>, input: &[u8]) -> usize
     len
 }
 
-// The chunk at an index.
+// Returns the chunk at an index.
 fn chunk_at(chunks: &HeapCircularBuffer<Cells>, index: usize) -> &[u8]
     requires { index < length chunks.now.items }
     ensures bytes { result.now ≡ get_or chunks.now.items index [] }
@@ -92,7 +92,7 @@ fn give(chunks: &HeapCircularBuffer<Cells>, skip: usize, count: usize, out: &mut
 }
 
 impl Held {
-    /// No bytes. It takes all its memory here.
+    /// Returns an empty store of bytes. It takes all its memory here.
     pub(crate) fn try_new(alloc: Global) -> Result<Held, AllocError>
         ensures { IfOk result (λ held. held ≡ []) }
     {
@@ -107,7 +107,7 @@ impl Held {
         })
     }
 
-    /// How many bytes are held.
+    /// Returns how many bytes are held.
     pub(crate) fn len(&self) -> usize
         ensures { result ≡ length self.now }
     {

@@ -50,7 +50,7 @@ impl<'a> fmt::Debug for Choice<'a> {
     }
 }
 
-// The lanes: code of its own for each rate, in which N is a constant.
+// Returns the lanes: code of its own for each rate, in which N is a constant.
 fn lanes_at(rate: Rate, sources: &[Source]) -> Lanes
     requires { AreSources (n_of rate) sources.now }
     ensures { AreLanes (n_of rate) sources.now result }
@@ -62,7 +62,7 @@ fn lanes_at(rate: Rate, sources: &[Source]) -> Lanes
 }
 
 impl<'a> Choice<'a> {
-    /// Each AU-4 comes from its source.
+    /// Returns a choice by which each AU-4 comes from its source.
     pub fn new(rate: Rate, sources: &'a [Source]) -> Choice<'a>
         requires { AreSources (n_of rate) sources.now }
         ensures { result ≡ record { rate = rate; sources = sources.now } }
@@ -76,7 +76,7 @@ impl<'a> Choice<'a> {
         }
     }
 
-    // The pass over these inputs.
+    // Returns the pass over these inputs.
     #[inline(always)]
     fn pass<'b, const N: usize>(&'b self, inputs: &'b Inputs<'b>) -> Pass<'b, N>
         requires rate { n_of self.now.rate ≡ N }

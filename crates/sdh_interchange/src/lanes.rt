@@ -18,7 +18,7 @@ pub(crate) struct Lanes {
     pub(crate) upto: usize,
 }
 
-// One lane: where it reads, what it keeps, and what it adds.
+// Returns one lane: where it reads, what it keeps, and what it adds.
 #[inline(always)]
 fn lane_of<const N: usize>(j: usize, source: Source) -> (u8, u8, u8, u8)
     requires rate { (N ≡ 4) ⊎ (N ≡ 16) }
@@ -35,7 +35,7 @@ fn lane_of<const N: usize>(j: usize, source: Source) -> (u8, u8, u8, u8)
     }
 }
 
-// How many payloads, half or all, have those that some lane keeps.
+// Returns how many payloads, half or all, have those that some lane keeps.
 #[inline(always)]
 fn upto_of<const N: usize>(own: &[u8; 16]) -> usize
     requires rate { (N ≡ 4) ⊎ (N ≡ 16) }
@@ -51,7 +51,7 @@ fn upto_of<const N: usize>(own: &[u8; 16]) -> usize
     N / 2
 }
 
-// All lanes.
+// Returns all lanes.
 #[inline(always)]
 pub(crate) fn lanes_of<const N: usize>(sources: &[Source]) -> Lanes
     requires rate { (N ≡ 4) ⊎ (N ≡ 16) }

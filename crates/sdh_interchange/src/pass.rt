@@ -32,7 +32,7 @@ pub(crate) struct Pass<'a, const N: usize> {
     pub(crate) owned: bool,
 }
 
-// Sixteen bytes from `at` on: what two frames give by these lanes, and what they don't.
+// Returns sixteen bytes from `at` on: what two frames give by these lanes, and the rest as it was.
 #[inline(always)]
 fn merged(first: &[u8], second: &[u8], at: usize, lanes: &Lanes, extra: u8x16) -> u8x16
     requires first { at + 16 ≤ length first.now }
@@ -69,8 +69,8 @@ impl<'a, const N: usize> Pass<'a, N> {
         }
     }
 
-    // What a vector of columns gets besides the bytes of the two frames, where its lanes hold the bytes of payloads. Where no
-    // frame is read, each lane that no payload goes to is ones.
+    // Returns what a vector of columns gets besides the bytes of the two frames, where its lanes hold the bytes of
+    // payloads. Where no frame is read, each lane that no payload goes to is ones.
     #[inline(always)]
     fn extra<const READS: bool>(&self, at: usize, column: u8x16) -> u8x16
         requires pass { IsPass N self.now }

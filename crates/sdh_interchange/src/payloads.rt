@@ -39,7 +39,7 @@ fn put_in(out: &mut [Cells], a: usize, at: usize, lanes: u8x16)
     put(payload.as_mut_slice(), at, lanes);
 }
 
-// `V` vectors from a place on.
+// Returns `V` vectors from a place on.
 #[inline(always)]
 fn load<const V: usize>(bytes: &[u8], at: usize) -> [u8x16; V]
     requires few { V ≤ 16 }

@@ -40,7 +40,7 @@ impl fmt::Debug for Taken {
     }
 }
 
-// Cells for sixteen payloads.
+// Returns cells for sixteen payloads.
 fn sixteen_cells(alloc: Global) -> Result<Vec<Cells>, AllocError>
     ensures { IfOk result (λ v. v.items ≡ replicate 16 []) }
 {
@@ -77,7 +77,7 @@ fn mark(here: &mut [bool], from: usize, count: usize)
 }
 
 impl Taken {
-    /// Nothing has been taken. All its memory is taken here, and is enough for each rate.
+    /// Returns a store from which nothing was taken. All its memory is taken here, and is enough for each rate.
     pub fn try_new(alloc: Global) -> Result<Taken, AllocError>
         ensures { IfOk result (λ taken. taken ≡ none_taken) }
     {

@@ -47,8 +47,8 @@ impl Model for Adm {
 }
 
 impl Adm {
-    /// The node at a position of a ring with these circuits: idle, without commands and defects. All its memory is
-    /// taken here.
+    /// Returns the node at a position of a ring with these circuits: idle, without commands and defects. All its memory
+    /// is taken here.
     #[tactic(auto, unfolding(crate::specs::Node::new_node))]
     pub fn try_new(
         alloc: Global,
@@ -106,7 +106,7 @@ impl Adm {
         self.ports.slip(port, turn, count);
     }
 
-    /// How many slips wait at a port.
+    /// Returns how many slips wait at a port.
     pub fn waiting(&self, port: PortId) -> u8
         requires { HasPort self.now.ports port }
         ensures waiting { result ≡ waiting_of port self.now.ports }
@@ -138,7 +138,7 @@ impl Adm {
         self.cross.receive_landed(side, arrived, inbox);
     }
 
-    /// What a port of the node delivered in the last round, and AIS before the first.
+    /// Returns what a port of the node delivered in the last round, and AIS before the first.
     pub fn delivered(&self, port: PortId) -> &Delivered
         requires { HasPort self.now.ports port }
         ensures { result.now ≡ (outlet_of port self.now.ports).delivered }
@@ -146,7 +146,7 @@ impl Adm {
         self.ports.outlet(port).delivered()
     }
 
-    /// The value of the interpreter through which a port's chunk came, and 0 where it delivers AIS.
+    /// Returns the value of the interpreter through which a port's chunk came, and 0 where it delivers AIS.
     pub fn value(&self, port: PortId) -> u16
         requires { HasPort self.now.ports port }
         ensures value { result ≡ (outlet_of port self.now.ports).value }
@@ -155,14 +155,14 @@ impl Adm {
         self.ports.outlet(port).value()
     }
 
-    /// The state.
+    /// Returns the state.
     pub fn state(&self) -> &NodeState
         ensures { result.now ≡ self.now.state }
     {
         self.cross.state()
     }
 
-    /// The word sent on a side in the last round; before the first the one that asks the neighbour for nothing.
+    /// Returns the word sent on a side in the last round; before the first the one that asks the neighbour for nothing.
     pub fn sent_k(&self, side: Side) -> K
         ensures word { result ≡ (sending_on side self.now).word }
         ensures to { result.to ≤ 15 }
@@ -174,15 +174,15 @@ impl Adm {
         }
     }
 
-    /// The local request of a side in the last round, and no request before the first.
+    /// Returns the local request of a side in the last round, and no request before the first.
     pub fn request(&self, side: Side) -> Code
         ensures { result ≡ (receiving_on side self.now).request }
     {
         self.cross.receiver(side).request()
     }
 
-    /// Whether the last round was no held turn and changed nothing: no word sent or heard, no state, far end, local request,
-    /// interpreter or generator. The first round isn't calm.
+    /// Returns whether the last round was no held turn and changed nothing: no word sent or heard, no state, far end,
+    /// local request, interpreter or generator. The first round isn't calm.
     pub fn calm(&self) -> bool
         ensures { result ≡ self.now.calm }
     {
@@ -249,7 +249,7 @@ struct Signs {
     east_made: bool,
 }
 
-// Whether the round is calm: it may be, and all that is compared is the same.
+// Returns whether the round is calm: it may be, and all that is compared is the same.
 fn is_calm(signs: &Signs) -> bool
     ensures { result ≡ (signs.now.counts && (signs.now.taken && signs.now.decided && (signs.now.west_said && signs.now.west_made)
         && (signs.now.east_said && signs.now.east_made))) }
@@ -263,7 +263,7 @@ fn is_calm(signs: &Signs) -> bool
         && signs.east_made
 }
 
-// The words of both sides.
+// Returns the words of both sides.
 fn words_of(west: &Sender, east: &Sender) -> Sent
     ensures west { result.west ≡ west.now.word }
     ensures east { result.east ≡ east.now.word }
@@ -275,21 +275,21 @@ fn words_of(west: &Sender, east: &Sender) -> Sent
     }
 }
 
-// Whether a turn is held.
+// Returns whether a turn is held.
 fn is_held(turns: u32) -> bool
     ensures { result ≡ nat_le 1 turns }
 {
     turns >= 1
 }
 
-// The held turns after this one.
+// Returns the held turns after this one.
 fn one_less(turns: u32) -> u32
     ensures { result ≡ turns - 1 }
 {
     turns.saturating_sub(1)
 }
 
-// Whether a round may be calm: one ran before it, and the turn isn't held.
+// Returns whether a round may be calm: one ran before it, and the turn isn't held.
 fn may_be_calm(rounds: u64, held: bool) -> bool
     ensures { result ≡ (nat_le 1 rounds && not held) }
 {

@@ -58,7 +58,7 @@ impl Model for CrossConnect {
 }
 
 impl CrossConnect {
-    /// Idle, with nothing received. All memory is taken here.
+    /// Returns an idle cross-connect that has received nothing. All memory is taken here.
     pub fn try_new(
         alloc: Global,
         settings: Settings,
@@ -186,14 +186,14 @@ impl CrossConnect {
         if held { (before, true) } else { self.step() }
     }
 
-    /// The state.
+    /// Returns the state.
     pub fn state(&self) -> &NodeState
         ensures { result.now ≡ self.now.state }
     {
         &self.state
     }
 
-    /// The side that receives.
+    /// Returns the side that receives.
     pub fn receiver(&self, side: Side) -> &Receiver
         ensures side { result.now ≡ on_side self.now side }
         ensures rate { result.now.section.rate ≡ self.now.west.section.rate }
@@ -204,7 +204,7 @@ impl CrossConnect {
         }
     }
 
-    // What an AU-4 is fed with that comes from an origin in a slot.
+    // Returns what an AU-4 is fed with that comes from an origin in a slot.
     fn feeder_of(&self, slot: u16, origin: Origin) -> Feeder
         requires first { 1 ≤ slot }
         requires last { slot ≤ half_of self.now }
@@ -246,7 +246,7 @@ impl Matrix for CrossConnect {
         }
     }
 
-    // AU-4s up to half of N are the working slots, and those above it the protection slots.
+    // Returns where an AU-4 lies: those up to half of N are the working slots, and those above it the protection slots.
     #[tactic(auto, unfolding(crate::specs::Crossing::leads))]
     fn leaving(&self, side: Side, au: u16) -> Feeder {
         let half = u16::from(self.west_in.rate().half());

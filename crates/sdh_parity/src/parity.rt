@@ -5,7 +5,7 @@ ghost use Rattle.sdh_parity.specs.Parity.{section_parity};
 
 use crate::pieces::BipSection;
 
-/// BIP-8: bit j makes the number of ones of bit j, over the bytes and itself, even.
+/// Returns BIP-8: its bit j makes the number of ones of bit j, over the bytes and itself, even.
 pub fn bip8(bytes: &[u8]) -> u8
     ensures { result ≡ parity_of bytes.now }
 {

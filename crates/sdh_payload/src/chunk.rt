@@ -43,8 +43,9 @@ pub fn take_chunk_in_place(h3: &[u8], form: ChunkForm, out: &mut Cells)
     }
 }
 
-/// How a port fills an AU-4 with the bytes of a round: the payload takes their place, and the three H3 bytes are answered. The bytes
-/// at the stuffing place of a positive justification are zeros, and so is H3 but at a negative one. It takes no memory.
+/// Lays the bytes that a port sends in a round out in an AU-4: the payload takes their place in `out`, and the three H3
+/// bytes are returned. The bytes at the stuffing place of a positive justification are zeros, and so are the H3 bytes
+/// except at a negative one. It takes no memory.
 pub fn lay_chunk_in_place(form: ChunkForm, out: &mut Cells) -> [u8; 3]
     requires { length out.old ≡ taken_len form }
     ensures payload { out.new ≡ laid_payload form out.old }

@@ -17,7 +17,7 @@ pub struct Past {
 }
 
 impl Past {
-    /// Nothing has happened yet.
+    /// Returns the past before the first step.
     pub fn start() -> Past
         ensures { past_in result ≡ new_past }
     {

@@ -13,7 +13,7 @@ pub struct Slips {
 }
 
 impl Slips {
-    /// No port was given one.
+    /// Returns counts of 0 for all ports.
     pub fn new() -> Slips
         ensures { slips_in result ≡ (λ port. 0) }
     {
@@ -23,7 +23,7 @@ impl Slips {
         }
     }
 
-    /// How many the port was given.
+    /// Returns how many the port was given.
     #[tactic(auto, unfolding(crate::specs::Counted::slips_in))]
     pub fn count(&self, port: PortId) -> u8
         ensures { result ≡ slips_in self.now port }

@@ -13,28 +13,28 @@ use sdh_circuits::{End, Name, Slot};
 use sdh_payload::Delivered;
 use sdh_ringmap::Side;
 
-// The first 16 bytes, or all where there are fewer.
+// Returns the first 16 bytes, or all where there are fewer.
 fn first_bytes(chunk: &[u8]) -> &[u8]
     ensures { result.now ≡ take 16 chunk.now }
 {
     &chunk[..chunk.len().min(16)]
 }
 
-// The bytes from a place on, none where it is past the end.
+// Returns the bytes from a place on, none where it is past the end.
 fn bytes_from(chunk: &[u8], at: usize) -> &[u8]
     ensures { result.now ≡ drop at chunk.now }
 {
     &chunk[chunk.len().min(at)..]
 }
 
-// The first 261 bytes, or all where there are fewer.
+// Returns the first 261 bytes, or all where there are fewer.
 fn one_row(bytes: &[u8]) -> &[u8]
     ensures { result.now ≡ take 261 bytes.now }
 {
     &bytes[..bytes.len().min(261)]
 }
 
-// The bytes of a chunk in one of its nine rows.
+// Returns the bytes of a chunk in one of its nine rows.
 fn row_of(chunk: &[u8], at: usize) -> &[u8]
     requires { at < 9 }
     ensures { result.now ≡ row chunk.now at }

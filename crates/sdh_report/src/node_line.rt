@@ -29,7 +29,7 @@ pub struct NodeLine {
 }
 
 impl StateWord {
-    // Its letters.
+    // Returns its letters.
     pub(crate) fn letters(self) -> &'static [u8]
         ensures { result.now ≡ state_text self }
     {

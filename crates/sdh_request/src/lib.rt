@@ -70,7 +70,8 @@ impl Local {
     ghost use Rattle.sdh_request.specs.Kept.{kept_of, after_happening, Adds, kept_request};
     ghost use Rattle.sdh_request.specs.Requests.{waits};
 
-    /// A side without a command and a defect, at moment 0. `wait` is how long it waits to restore after a defect.
+    /// Returns a side without a command and a defect, at moment 0. `wait` is how long it waits to restore after a
+    /// defect.
     pub fn new(wait: u32) -> Local
         ensures { result ≡ kept_of wait [] }
     {
@@ -116,7 +117,7 @@ impl Local {
         self.defect = defect;
     }
 
-    /// What the last look saw.
+    /// Returns what the last look saw.
     pub fn defect(&self) -> Defect
         ensures { result ≡ self.now.defect }
     {
@@ -132,7 +133,7 @@ impl Local {
         }
     }
 
-    /// The highest code that applies, never RR.
+    /// Returns the highest code that applies, never RR.
     #[tactic(auto, using(crate::proofs::Keeping::request_after, crate::proofs::Highest::never_rr, crate::proofs::Highest::at_least_sf))]
     pub fn request(&self) -> Code
         ensures kept { result ≡ kept_request self.now }

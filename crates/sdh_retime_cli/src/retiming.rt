@@ -99,7 +99,7 @@ fn put_drift(text: &mut Text, number: usize)
 }
 
 impl Retiming {
-    // An empty store with pointer value 0.
+    // Returns an empty store with pointer value 0.
     fn try_new(alloc: Global) -> Result<Retiming, AllocError>
         ensures came { IfOk result (λ retiming. CameBy 0 [] retiming.store) }
         ensures reads { IfOk result (λ retiming. retiming.interp.reading ≡ reading_of retiming.store) }

@@ -18,7 +18,7 @@ use sdh_outside::{ReadAllError, Sink, Source, read_all, write_text};
 use sdh_report::{LINE_MAX, Text};
 use std::alloc::{AllocError, Global};
 
-// An outcome with one line.
+// Returns an outcome with one line.
 fn with_line(mut text: Text, status: Status, line: &[u8]) -> Outcome
     requires short { length line.now < 96 }
     requires room { 96 ≤ text.room }
@@ -29,7 +29,7 @@ fn with_line(mut text: Text, status: Status, line: &[u8]) -> Outcome
     Outcome { status, text }
 }
 
-// What the words and the source come to.
+// Returns what the words and the source come to.
 fn outcome_of<R: Source>(
     alloc: Global,
     words: &[String],

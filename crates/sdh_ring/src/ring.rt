@@ -80,7 +80,7 @@ fn slip_at(ring: &mut StationRing<Adm>, at: usize, port: PortId, turn: Turn, cou
 }
 
 impl Ring {
-    /// A ring of new nodes, in which no round has run, at moment 0. All its memory is taken here.
+    /// Returns a ring of new nodes, in which no round has run, at moment 0. All its memory is taken here.
     #[tactic(auto, unfolding(sdh_world::specs::Held::new_nodes))]
     pub fn try_new(
         alloc: Global,
@@ -138,7 +138,7 @@ impl Ring {
         hold_at(&mut self.ring, at.0 as usize, turns);
     }
 
-    // The position of the node where a port of a circuit is.
+    // Returns the position of the node where a port of a circuit is.
     fn place_of(&self, port: PortId) -> usize
         requires { port.circuit < length self.now.circuits.circuits }
         ensures place { result ≡ place_of_port self.now port }
@@ -166,7 +166,7 @@ impl Ring {
         slip_at(&mut self.ring, at, port, turn, count);
     }
 
-    /// How many slips wait at a port of a circuit.
+    /// Returns how many slips wait at a port of a circuit.
     pub fn waiting(&self, port: PortId) -> u8
         requires { port.circuit < length self.now.circuits.circuits }
         ensures waiting { result ≡ waiting_at self.now port }
@@ -315,7 +315,7 @@ impl RunsRounds for Ring {
 
 // What the ring lends.
 impl Ring {
-    // The node where a port of a circuit is.
+    // Returns the node where a port of a circuit is.
     fn node_of(&self, port: PortId) -> &Adm
         requires { port.circuit < length self.now.circuits.circuits }
         ensures port { HasPort result.now.ports port }
@@ -325,7 +325,7 @@ impl Ring {
         self.ring.node_of(port)
     }
 
-    /// What a port of a circuit delivered in the last round, and AIS before the first.
+    /// Returns what a port of a circuit delivered in the last round, and AIS before the first.
     pub fn port(&self, port: PortId) -> &Delivered
         requires { port.circuit < length self.now.circuits.circuits }
         ensures { result.now ≡ (outlet_at self.now port).delivered }
@@ -333,7 +333,7 @@ impl Ring {
         self.node_of(port).delivered(port)
     }
 
-    /// The value of the interpreter through which a port's chunk came, and 0 where it delivers AIS.
+    /// Returns the value of the interpreter through which a port's chunk came, and 0 where it delivers AIS.
     pub fn value(&self, port: PortId) -> u16
         requires { port.circuit < length self.now.circuits.circuits }
         ensures value { result ≡ (outlet_at self.now port).value }
@@ -342,28 +342,28 @@ impl Ring {
         self.node_of(port).value(port)
     }
 
-    /// How many rounds have run, so that the last one has the number before it.
+    /// Returns how many rounds have run, so that the last one has the number before it.
     pub fn rounds(&self) -> u64
         ensures { result ≡ self.now.rounds }
     {
         self.ring.rounds()
     }
 
-    /// The nodes' identifiers.
+    /// Returns the nodes' identifiers.
     pub fn map(&self) -> &RingMap
         ensures { result.now ≡ self.now.ids }
     {
         self.ring.map()
     }
 
-    /// The circuits.
+    /// Returns the circuits.
     pub fn circuits(&self) -> &CircuitMap
         ensures { result.now ≡ self.now.circuits }
     {
         self.ring.circuits()
     }
 
-    /// The node at a position.
+    /// Returns the node at a position.
     pub fn node(&self, at: Pos) -> &Adm
         requires { at.0 < length self.now.ids }
         ensures { slice_get self.now.nodes at.0 ≡ Some result.now }
@@ -371,7 +371,7 @@ impl Ring {
         self.ring.node(at)
     }
 
-    /// Whether a fault of the plant broke a round off.
+    /// Returns whether a fault of the plant broke a round off.
     pub fn is_broken(&self) -> bool
         ensures { result ≡ self.now.broken }
     {

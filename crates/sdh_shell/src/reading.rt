@@ -19,7 +19,7 @@ pub enum NoPlan {
     Refused(Status),
 }
 
-/// The plan that a source has, which is read to its end.
+/// Returns the plan that a source has, which is read to its end.
 pub fn plan_in<R: Source>(alloc: Global, source: &mut R) -> Result<Plan, NoPlan>
     ensures plan { IfOk result (λ plan. IfSome (R.left source.old) (λ bytes. TellsPlan bytes plan)) }
     ensures end { OnOk result (IsAtEnd (R.left source.new)) }

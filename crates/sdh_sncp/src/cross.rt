@@ -40,7 +40,7 @@ impl Model for PathCross {
         (record { uses = x.uses.items; west = x.west; east = x.east; west_in = x.west_in; east_in = x.east_in }) };
 }
 
-// What feeds an AU-4 that leaves on a side, by what is done with its slot.
+// Returns what feeds an AU-4 that leaves on a side, by what is done with its slot.
 fn fed_for(used: Use, side: Side, au: u16) -> Feeder
     ensures { result ≡ fed_for used side au }
 {
@@ -52,7 +52,7 @@ fn fed_for(used: Use, side: Side, au: u16) -> Feeder
 }
 
 impl PathCross {
-    /// With nothing received. All memory is taken here.
+    /// Returns a cross-connect that has received nothing. All memory is taken here.
     pub fn try_new(
         alloc: Global,
         rate: Rate,
@@ -99,7 +99,7 @@ impl PathCross {
         west && east
     }
 
-    // Whether an AU-4 came in on a side with a pointer.
+    // Returns whether an AU-4 came in on a side with a pointer.
     fn comes(&self, side: Side, au: u16) -> bool
         requires first { 1 ≤ au }
         requires last { au ≤ n_of self.now.west.section.rate }

@@ -19,7 +19,7 @@ pub enum Ending {
 }
 
 impl Ending {
-    /// The number with which the program ends.
+    /// Returns the number with which the program ends.
     pub fn number(&self) -> u8
         ensures { result ≡ number_of self.now }
     {

@@ -16,7 +16,7 @@ use sdh_scripts::{NewRun, Run, Runner, lines_room, start, text_for};
 use sdh_sncp::{PathError, PathRing};
 use std::alloc::Global;
 
-// The run of a plan, before its fibres are there.
+// Returns the run of a plan, before its fibres are prepared.
 fn new_run(alloc: Global, plan: Plan) -> Result<NewRun<PathRun>, PathError>
     requires known { AreKnown plan.steps }
     ensures may { IfOk result (MayBegin ⟦<PathRun as Runner>⟧.ring ⟦<PathRun as Runner>⟧.room ⟦<PathRun as Runner>⟧.MayRun) }

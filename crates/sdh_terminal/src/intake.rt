@@ -43,7 +43,7 @@ impl Model for Intake {
 }
 
 impl Intake {
-    /// Before the first round. All its memory is taken here.
+    /// Returns the intake before the first round. All its memory is taken here.
     pub fn try_new(alloc: Global, rate: Rate) -> Result<Intake, AllocError>
         ensures { IfOk result (λ i. i ≡ new_intake rate) }
     {
@@ -53,21 +53,21 @@ impl Intake {
         })
     }
 
-    /// The rate of the frame.
+    /// Returns the rate of the frame.
     pub fn rate(&self) -> Rate
         ensures { result ≡ self.now.frame.rate }
     {
         self.frame.rate()
     }
 
-    /// The frame.
+    /// Returns the frame.
     pub fn frame(&self) -> &FrameBuf
         ensures { result.now ≡ self.now.frame }
     {
         &self.frame
     }
 
-    /// The action of the interpreter of an AU-4.
+    /// Returns the action of the interpreter of an AU-4.
     pub fn action(&self, au: u16) -> Action
         requires first { 1 ≤ au }
         requires last { au ≤ n_of self.now.frame.rate }
@@ -144,8 +144,8 @@ impl Intake {
     }
 }
 
-// What an opened frame is to a side by what it says, where B2 may have fewer violations than the threshold: the defect, and the
-// word heard. A frame that fails becomes ones.
+// Returns what an opened frame is to a side by what it says, where B2 may have fewer violations than the threshold: the
+// defect, and the word heard. A frame that fails becomes ones.
 fn find_frame(threshold: u16, received: Received, frame: &mut FrameBuf) -> (Defect, Option<K>)
     ensures frame { (last : Option Parities)
         → frame.new ≡ record frame.old { bytes = (frame_reception frame.old.rate threshold frame.old.bytes last received).bytes } }
@@ -174,7 +174,7 @@ fn find_frame(threshold: u16, received: Received, frame: &mut FrameBuf) -> (Defe
     }
 }
 
-// The three bytes H3 of an AU-4.
+// Returns the three bytes H3 of an AU-4.
 pub fn h3_at(frame: &FrameBuf, au: u16) -> [u8; 3]
     requires first { 1 ≤ au }
     requires last { au ≤ n_of frame.now.rate }
@@ -187,7 +187,7 @@ pub fn h3_at(frame: &FrameBuf, au: u16) -> [u8; 3]
     ]
 }
 
-// The pointer word of an AU-4.
+// Returns the pointer word of an AU-4.
 fn word_at(frame: &FrameBuf, au: u16) -> Word
     requires first { 1 ≤ au }
     requires last { au ≤ n_of frame.now.rate }
@@ -215,7 +215,7 @@ fn read_all(frame: &FrameBuf, interps: &mut Vec<Interp>, actions: &mut Vec<Actio
     !any_moved(interps)
 }
 
-// Whether the last step of one of these moved it.
+// Returns whether the last step of one of these moved it.
 fn any_moved(interps: &[Interp]) -> bool
     ensures { result ≡ list_any (λ (i : Interpreter). i.moved) interps.now }
 {

@@ -9,7 +9,7 @@ use sdh_path::{PathReport, TraceWord};
 use sdh_payload::Delivered;
 use sdh_report::Text;
 
-// What is said of a trace.
+// Returns what is said of a trace.
 fn letters(word: TraceWord) -> &'static [u8]
     ensures { result.now ≡ trace_word_text word }
 {

@@ -35,7 +35,7 @@ pub struct WatchPair {
     pub b: Watch,
 }
 
-// A watch that expects the trace of the port at an end of a circuit.
+// Returns a watch that expects the trace of the port at an end of a circuit.
 fn watch_for(circuit: &Circuit, other: End) -> Watch
     ensures history { CameBy (customer_at circuit.now other).trace [] result }
     ensures none { result.chunks ≡ 0 }
@@ -46,7 +46,7 @@ fn watch_for(circuit: &Circuit, other: End) -> Watch
     watch
 }
 
-// New watches on both ports of a circuit.
+// Returns new watches on both ports of a circuit.
 fn pair_for(circuit: &Circuit) -> WatchPair
     ensures new { (index : ℕ) → IsWatching circuit.now index (λ port. []) result }
     ensures few { (result.a.chunks ≡ 0) × (result.b.chunks ≡ 0) }
@@ -57,7 +57,7 @@ fn pair_for(circuit: &Circuit) -> WatchPair
     }
 }
 
-/// Watches for all ports. All memory is taken here.
+/// Returns watches for all ports. All memory is taken here.
 pub fn new_watches(alloc: Global, circuits: &CircuitMap) -> Result<Vec<WatchPair>, AllocError>
     ensures { IfOk result (λ watches. length watches.items ≡ length circuits.now.circuits) }
 {

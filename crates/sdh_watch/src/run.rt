@@ -14,7 +14,7 @@ use sdh_ring::Ring;
 use sdh_scripts::{NewRun, Run, Runner, lines_room, start, text_for};
 use std::alloc::{AllocError, Global};
 
-// The run of a plan, before its fibres are there.
+// Returns the run of a plan, before its fibres are prepared.
 fn new_run(alloc: Global, plan: Plan) -> Result<NewRun<WatchRun>, AllocError>
     ensures may { IfOk result (MayBegin ⟦<WatchRun as Runner>⟧.ring ⟦<WatchRun as Runner>⟧.room ⟦<WatchRun as Runner>⟧.MayRun) }
     ensures is_of { IfOk result (IsOf ⟦<WatchRun as Runner>⟧.ring watch_account plan) }
