@@ -17,7 +17,7 @@ use std::alloc::{AllocError, Global};
 /// What is written of a port in a round: how many bytes it delivered, in two bytes, and they; none where it delivers AIS.
 const PORT_SIZE: usize = 2354;
 
-/// There is room for so many ports in what is written of a round.
+/// The most ports whose state of a round is written.
 const PORTS: usize = 32;
 
 // One byte, and 0 behind the last.
@@ -69,7 +69,7 @@ fn asked_for(
     Ok(circuits)
 }
 
-// The ring, and the plant laid for it; a refusal counts as want of memory here.
+// Returns the ring, with the plant prepared for it. A refusal counts as a lack of memory here.
 fn laid<P: Plant>(
     alloc: Global,
     plant: &mut P,
@@ -119,7 +119,7 @@ fn event_at(events: &[u8], number: usize) -> Event
     }
 }
 
-// The fibre that leaves a node on a side is clear, cut or degraded by so many bits.
+// Gives the fibre that leaves a node on a side a condition: clear, cut, or degraded by a number of bits.
 fn bring<P: Plant>(ring: &Ring, plant: &mut P, event: Event)
     requires prepared { IsPrepared ring.now.settings.rate (length ring.now.ids) (P.fibres plant.old) }
     ensures prepared { IsPrepared ring.now.settings.rate (length ring.now.ids) (P.fibres plant.new) }
@@ -180,7 +180,7 @@ fn slip(ring: &mut Ring, event: Event)
     }
 }
 
-// The controller of a node misses so many turns.
+// Lets the controller of a node miss a number of turns.
 fn hold(ring: &mut Ring, event: Event)
     ensures prepared { (n : ℕ) (f : _) → IsPrepared ring.old.settings.rate n f → IsPrepared ring.new.settings.rate n f }
     ensures ids { ring.new.ids ≡ ring.old.ids }

@@ -23,7 +23,7 @@ pub record IsInRing (n : ℕ) (c : Provisioned) : Type 0 where
   pub to_inside : c.to.0 < n
   pub two_ends : c.from.0 ≢ c.to.0
 
--- the circuit's slot is one of so many
+-- the circuit's slot is 1 to `slots`
 pub record IsInSlots (slots : ℕ) (c : Provisioned) : Type 0 where
   pub from_1 : 1 ≤ c.slot.0
   pub small : c.slot.0 ≤ slots

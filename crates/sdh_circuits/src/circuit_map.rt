@@ -108,7 +108,7 @@ impl CircuitMap {
         requires { IfSome self.old.ring (λ kept. kept ≡ map.now) }
         ensures added { OnOk result (self.new ≡ with_circuit self.old map.now (circuit_of map.now (wish_of asked.now))) }
 
-        // The first check that fails is answered, and want of memory only where none does.
+        // The first check that fails is the answer. A lack of memory is one only where no check fails.
         ensures refused { IfSome (refusal self.old map.now (wish_of asked.now)) (λ why. result ≡ Err why) }
         ensures memory { IfNone (refusal self.old map.now (wish_of asked.now)) (IfErr result (λ why. why ≡ AddError.Memory)) }
         ensures unchanged { OnErr result (self.new ≡ self.old) }

@@ -17,7 +17,7 @@ fn is_within(least: u16, most: u16, number: i64) -> bool
     i64::from(least) <= number && number <= i64::from(most)
 }
 
-// Returns whether the slot is one of so many working slots.
+// Returns whether the slot is a working slot, where there are `slots` of them.
 pub(crate) fn has_slot(slots: u8, asked: &Asked<'_>) -> bool
     ensures { result ≡ has_slot slots (wish_of asked.now) }
 {

@@ -96,7 +96,7 @@ long_after chunks given x len count k is =
     ∙ ap (λ (n : ℕ). n + length x) (length-drop given (joined chunks)) in
     omega (arith, both, is)
 
--- the chunks that are kept once so many bytes are given
+-- the chunks that are kept once `count` more bytes are given
 pub kept_after : (chunks : List (List ℕ)) (given : ℕ) (x : List ℕ) (count : ℕ) → IsKept chunks given → 2346 ≤ length x → length x ≤ 2352
     → count ≤ length (drop given (joined chunks)) + length x → length (drop given (joined chunks)) + length x ≤ count + 2358
     → IsKept (drop 1 chunks ++ x ∷ []) (given - length (get_or chunks 0 []) + count)

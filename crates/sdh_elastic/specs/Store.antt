@@ -63,7 +63,7 @@ stage_after Free a = if moves a then Moved else Free
 abbrev pub action_at : Store → Action
 action_at s = action_in s.stage (length s.held)
 
--- the fill after a turn that takes in so many bytes
+-- the fill after a turn that takes in n bytes
 abbrev pub fill_after : Store → ℕ → ℕ
 fill_after s n = length s.held + n - given (action_at s)
 

@@ -75,7 +75,7 @@ fn give_part(chunk: &[u8], skip: usize, left: usize, out: &mut Cells) -> (usize,
     (0, left - count)
 }
 
-// Gives so many bytes of the chunks behind the first `skip`.
+// Puts `count` bytes of the chunks, after their first `skip`, into `out`.
 fn give(chunks: &HeapCircularBuffer<Cells>, skip: usize, count: usize, out: &mut Cells)
     requires few { count ≤ 2352 }
     ensures { out.new ≡ take count (drop skip (flat_map (λ c. c) chunks.now.items)) }

@@ -38,7 +38,7 @@ struct Course {
 }
 
 impl Course {
-    // After a turn that takes in so many bytes and does this.
+    // Returns the course after a turn that takes in `length` bytes with this action.
     fn after(self, action: Action, length: u16) -> Course
         requires value { self.value ≤ 782 }
         requires chunks { AreChunks self.lengths }

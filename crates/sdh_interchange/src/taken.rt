@@ -51,7 +51,7 @@ fn sixteen_cells(alloc: Global) -> Result<Vec<Cells>, AllocError>
     Ok(cells)
 }
 
-// So many cells from a place on get room for a payload each.
+// Makes room for a payload in each of `count` cells from a place on.
 fn make_room(cells: &mut [Cells], from: usize, count: usize)
     requires { from + count ≤ length cells.old }
     ensures room { HaveRoom from count cells.new }
@@ -64,7 +64,7 @@ fn make_room(cells: &mut [Cells], from: usize, count: usize)
     }
 }
 
-// So many marks from a place on are set.
+// Sets `count` marks from a place on.
 fn mark(here: &mut [bool], from: usize, count: usize)
     requires { from + count ≤ length here.old }
     ensures inside { (a : ℕ) → a < count → slice_index_or here.new (from + a) false ≡ true }

@@ -107,7 +107,8 @@ pub fn stretches_settle()
     sdh_settling::still_rings_are_settled();
 }
 
-/// Where no controller misses a turn from some round on, states and words stay from so many rounds after it on.
+/// Where no controller misses a turn from some round on, states and words stay from a fixed number of rounds after it
+/// on.
 #[tactic(auto, using(crate::proofs::hearing::Steady::free_runs_get_still))]
 pub fn free_runs_get_still()
     ensures { FreeRunsGetStill }

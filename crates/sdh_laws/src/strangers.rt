@@ -58,8 +58,8 @@ pub fn a_hold_spoils_its_own_step_alone()
     sdh_settling::still_rings_are_settled();
 }
 
-/// Every whole ring comes to be vouched for, whatever it carries: so many rounds behind the last turn that a controller
-/// missed.
+/// Every whole ring becomes vouched for, whatever it carries: a fixed number of rounds after the last turn that a
+/// controller missed.
 pub fn rings_come_to_be_vouched_for()
     ensures { RingsComeToBeVouchedFor }
 {}

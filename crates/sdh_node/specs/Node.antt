@@ -100,11 +100,11 @@ new_cross s ids circuits at = record {
 abbrev pub at_receiving : Side → (Receiving → Receiving) → Node → Node
 at_receiving side f n = record n { west = if_west side f n.west; east = if_east side f n.east }
 
--- a node whose controller is to miss so many turns, in place of those that are left
+-- a node whose controller is held for `turns` turns, in place of those left
 abbrev pub held_for : ℕ → Node → Node
 held_for turns n = record n { held = turns }
 
--- a node at one of whose ports so many more slips wait
+-- a node with `count` more pending slips at one of its ports
 abbrev pub slips_at : PortId → Turn → ℕ → Node → Node
 slips_at id turn count n = record n { ports = with_slips id turn count n.ports }
 

@@ -84,8 +84,8 @@ impl Adm {
         self.cross.command(side, command);
     }
 
-    /// Its controller misses so many of the next turns, in place of those that are left of an earlier call: in a held turn the
-    /// node keeps its state and the words that it sends, and does all else.
+    /// Holds the controller for the next `turns` turns, in place of those left of an earlier call. In a held turn the
+    /// node keeps its state and the words that it sends, and does everything else.
     pub fn hold(&mut self, turns: u32)
         requires some { 1 ≤ turns }
         requires few { turns ≤ 100 }
@@ -95,8 +95,8 @@ impl Adm {
         self.held = turns;
     }
 
-    /// So many more slips of the clock of a port's customer wait. Each is used up in a round of its own, in which the port justifies
-    /// its pointer.
+    /// Adds `count` pending slips to the clock of a port's customer. Each is used up in a round of its own, in which
+    /// the port justifies its pointer.
     pub fn slip(&mut self, port: PortId, turn: Turn, count: u8)
         requires there { HasPort self.old.ports port }
         requires few { waiting_of port self.old.ports + count ≤ 16 }

@@ -20,7 +20,7 @@ pub record IsTallyOf (run : List ℕ) (t : Tally) : Type 0 where
   pub b3_byte_is : t.b3_byte ≡ b3 (drop (2349 * t.vcs) run)
   pub label_byte_is : t.label_byte ≡ c2 (drop (2349 * t.vcs) run)
 
--- the sums are no larger than so many VC-4s can make them
+-- the sums are no larger than the number of VC-4s allows
 pub record IsSmall (t : Tally) : Type 0 where
   pub b3_few : t.b3 ≤ 8 * t.vcs
   pub label_few : t.label ≤ t.vcs

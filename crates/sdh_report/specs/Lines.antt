@@ -71,8 +71,8 @@ abbrev pub port_line : List ℕ → End → Delivered → ℕ → List ℕ
 port_line name end Ais value = ais_line name end
 port_line name end (Chunk chunk) value = chunk_line name end value chunk
 
--- all that it delivers: the bytes of row i of a chunk, counted from 0. A chunk of 2349 bytes has nine rows of 261, as a VC-4
--- has (ITU-T G.707); of a chunk of another length there are at most so many
+-- all that it delivers: the bytes of row i of a chunk, counted from 0. A chunk of 2349 bytes has nine rows of 261, as a
+-- VC-4 has (ITU-T G.707); a chunk of another length has at most nine
 abbrev pub row : List ℕ → ℕ → List ℕ
 row chunk i = take 261 (drop (261 * i) chunk)
 
@@ -108,6 +108,6 @@ table_line id side slot name from to = table_place id side slot ++ codes " " ++ 
 
 -- ---- counts
 
--- settle step `number` has ended with round `round`, in which so many ports delivered a chunk, and so many AIS
+-- settle step `number` has ended with round `round`, in which `norm` ports delivered a chunk and `ais` ports AIS
 abbrev pub count_line : ℕ → ℕ → ℕ → ℕ → List ℕ
 count_line number round norm ais = step_ended number round ++ codes " norm " ++ decimal norm ++ codes " ais " ++ decimal ais ++ codes "\n"

@@ -269,8 +269,8 @@ impl Text {
         self.put(b"\n");
     }
 
-    /// The last line of a text, by how the program ends. A write fault and want of memory have none, and of wrong words each
-    /// program has a line of its own.
+    /// Appends the last line of a text, by how the program ends. There is none after a write fault or a lack of memory,
+    /// and for wrong words each program has a line of its own.
     pub fn last_line(&mut self, status: &Status)
         requires { length (last_line status.now) ≤ self.old.room }
         ensures { self.new ≡ with_part self.old (last_line status.now) }

@@ -33,7 +33,7 @@ fn is_applied_at(map: &RingMap, ends: Ends, place: u8, applied: &[Span]) -> bool
     applied.iter().any(|other| other.0 == span.0)
 }
 
-// Returns whether none of so many spans of a ring is applied, from a place of the arc on.
+// Returns whether none of `count` spans of a ring is applied, from a place of the arc on.
 fn is_free(map: &RingMap, ends: Ends, first: u8, count: u8, applied: &[Span]) -> bool
     requires from { ends.from.0 < length map.now }
     requires places { first + count ≤ length map.now }

@@ -51,7 +51,7 @@ pub record IsRead (words : List (List ℕ)) (bytes digits : List ℕ) : Type 0 w
   pub form : IsDigits digits
   pub short : length bytes ≤ 1048576
 
--- the words and the bytes of the source come to this status, with this text. Nothing comes to a write fault or to want of
+-- the words and the bytes of the source come to this status, with this text. No outcome has a write fault or a lack of
 -- memory: they may stand in place of an outcome
 abbrev pub IsOutcome : List (List ℕ) → List ℕ → Status → List ℕ → Type 0
 IsOutcome words bytes status.Usage text = (¬ AreDigits words) × (text ≡ own_line (codes "usage: sdhretime DIGITS"))

@@ -121,9 +121,9 @@ impl Ring {
         command_at(&mut self.ring, at.0 as usize, side, command);
     }
 
-    /// The controller of a node misses so many of the next rounds, in place of those that are left of an earlier call. The ring stays
-    /// vouched for where the node is idle or isolated; not else: one that passes traffic through goes on doing so, whatever the words
-    /// beside it say.
+    /// Holds the controller of a node for the next `turns` rounds, in place of those left of an earlier call. The ring
+    /// stays vouched for where the node is idle or isolated. A node that passes traffic through goes on doing so,
+    /// whatever its neighbours' words say, so the ring may not stay vouched for then.
     pub fn hold(&mut self, at: Pos, turns: u32)
         requires at { at.0 < length self.old.ids }
         requires some { 1 ≤ turns }
@@ -149,7 +149,7 @@ impl Ring {
         self.ring.place_of(port)
     }
 
-    /// The clock of a port slips so many times more in the next rounds, each time by three bytes, of which it sends fewer or more.
+    /// Adds `count` pending slips to the clock of a port's customer. In each the port sends three bytes fewer or more.
     pub fn slip(&mut self, port: PortId, turn: Turn, count: u8)
         requires port { port.circuit < length self.old.circuits.circuits }
         requires few { waiting_at self.old port + count ≤ 16 }

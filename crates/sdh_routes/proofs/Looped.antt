@@ -49,7 +49,7 @@ module _ (n : ℕ) (cs : List Provisioned) (some : 0 < n) (d : Side) (p : ℕ) (
         (and_parts (passes n d f (going n d p x) (going n d p 0))
         (passes n d f (going n d p x) (going n d p (arc_length n c))) both_passed).1
 
-    -- the chain's other end is on the arc, so many steps along it, beyond the node
+    -- the chain's other end is on the arc, `step` steps along it, beyond the node
     pub record IsBeyond : Type 0 where
       pub step : ℕ
       pub there : going n d p step ≡ f

@@ -25,8 +25,8 @@ base_inside : (n : ℕ) → 0 < n → (c : Provisioned) (d : Side) → c.from.0 
 base_inside n some c East h = h
 base_inside n some c West h = going-inside n some East c.from.0 (arc_length n c)
 
--- The circuit on the span of side d of the node at q, in slot m, which may be carried: the node is so many steps along its arc on
--- that side, and the chain's other end f is farther along it.
+-- The circuit on the span of side d of the node at q, in slot m, which may be carried: the node lies some steps along
+-- its arc on that side, and the chain's other end f is farther along it.
 pub record IsFarther (n : ℕ) (cs : List Provisioned) (d : Side) (q m f : ℕ) : Type 0 where
   pub index : ℕ
   pub circuit : Provisioned

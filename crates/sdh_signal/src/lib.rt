@@ -69,7 +69,7 @@ fn first_words(alloc: Global, map: &RingMap) -> Result<Vec<Sent>, AllocError>
     Ok(words)
 }
 
-/// Returns the filters of so many nodes to which nothing was brought.
+/// Returns the filters of `count` nodes to which no word was brought.
 fn empty_filters(alloc: Global, count: usize) -> Result<Vec<Hearing>, AllocError>
     ensures { IfOk result (λ v. v.items ≡ cells (λ p. no_filters) count) }
 {
@@ -87,7 +87,7 @@ fn on_their_way(rounds: u64, sent: &[Sent]) -> &[Sent]
     if rounds > 0 { sent } else { &[] }
 }
 
-/// Returns whether a round after so many others held no node, and words stayed the same.
+/// Returns whether a round after `rounds` others held no node, and words stayed the same.
 fn leaves_words(rounds: u64, held: &[bool], words: bool) -> bool
     ensures { IsTrue result ↔ ((0 < rounds) × NoneHeld held.now × IsTrue words) }
 {

@@ -29,7 +29,7 @@ use Rattle.sdh_spans.proofs.Parities.{aus_through, shows_through, b2_through}
 
 -- ---- a frame that arrived
 
--- what is found in a frame that says this word, with so many violations
+-- what is found in a frame that says this word, with `b2` violations
 record FindsWord (clear : List ℕ) (threshold b2 : ℕ) (k : K) (last : Option Parities) (f : Reception) : Type 0 where
   pub bytes_are : f.bytes ≡ clear
   pub defect_is : f.defect ≡ (if nat_le threshold b2 then defect.Sd else defect.None)

@@ -112,7 +112,7 @@ names_turned p q = let h = numbers_turned p.circuit q.circuit in let k = ends_tu
 named : (id other : PortId) (t : Tributary) → is_port id t ≡ true → is_port other t ≡ same_port other id
 named id other t here = ap (λ p. same_port p other) (names_equal t.port id here) ∙ names_turned id other
 
--- the port with a name, where so many more slips wait at the port with this one
+-- the port with a name, with `count` more pending slips at the port with this one
 abbrev pub slipped_where : PortId → PortId → Turn → ℕ → Tributary → Tributary
 slipped_where other id turn count t = if same_port other id then slipped turn count t else t
 

@@ -83,7 +83,7 @@ waiting_of id ports = option_map_or (λ t. waiting t.feed.clock) (port_of id por
 
 -- ---- between rounds
 
--- so many more slips wait at a port
+-- a port with `count` more pending slips
 abbrev pub slipped : Turn → ℕ → Tributary → Tributary
 slipped turn count t = record t { feed = record t.feed { clock = with_waiting turn count t.feed.clock } }
 
@@ -155,7 +155,7 @@ delivered_with dropped t = record t { outlet = delivered_from (dropped t) }
 abbrev pub all_delivered_with : (Tributary → Input) → List Tributary → List Tributary
 all_delivered_with dropped ports = map_from (λ i t. delivered_with dropped t) 0 ports
 
--- ---- what is true of every port at a node with so many working slots, after so many rounds
+-- ---- what is true of every port at a node with `slots` working slots, after `rounds` rounds
 
 pub record IsTributary (slots rounds : ℕ) (t : Tributary) : Type 0 where
   pub first : 1 ≤ t.slot.0

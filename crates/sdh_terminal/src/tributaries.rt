@@ -62,7 +62,7 @@ fn port_numbered(number: usize) -> PortId
     }
 }
 
-// Returns the places of so many ports of a ring's circuits.
+// Returns the places of `count` ports of a ring's circuits.
 fn places_in(
     alloc: Global,
     ports: &[Tributary],
@@ -144,7 +144,7 @@ impl Tributaries {
         port.waiting()
     }
 
-    /// So many more slips wait at a port.
+    /// Adds `count` pending slips at a port.
     #[tactic(auto, using(crate::proofs::Slips::slips_stay, crate::proofs::Slips::slips_placed, crate::proofs::Slips::waiting_here, crate::proofs::Ports::place_within))]
     pub fn slip(&mut self, id: PortId, turn: Turn, count: u8)
         requires there { HasPort self.old id }

@@ -94,7 +94,7 @@ impl Tributary {
         self.h3 = lay_chunk_in_place(form, &mut self.payload);
     }
 
-    /// So many more slips of its customer's clock wait.
+    /// Adds `count` pending slips of its customer's clock.
     pub fn slip(&mut self, turn: Turn, count: u8)
         requires { waiting self.old.feed.clock + count ≤ 16 }
         ensures { self.new ≡ slipped turn count self.old }

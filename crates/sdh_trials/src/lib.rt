@@ -41,9 +41,10 @@ fn show(sink: &MemSink, text: &mut [u8]) -> u64 {
     sink.bytes().len() as u64
 }
 
-/// Runs a command over a document, in pieces of a length. The read and the write of these numbers fail, and the plant's call of this kind
-/// and number, each counted from 1, and none at 0. Answers the status's number, or 255 where nothing was called for want of memory, and
-/// tells how many bytes were written and how many calls of `prepare`, `apply`, `send` and `receive` there were.
+/// Runs a command over a document, in pieces of a length. The read and the write of these numbers fail, and the plant's
+/// call of this kind and number, each counted from 1, and none at 0. Returns the status's number, or 255 where nothing
+/// was called because memory ran out, and shows how many bytes were written and how many calls of `prepare`, `apply`,
+/// `send` and `receive` there were.
 #[unsafe(no_mangle)]
 pub extern "C" fn sdh_trials_call(
     alloc: Global,

@@ -26,8 +26,8 @@ given_as value (delivered.Chunk bytes) = if length bytes == 2349 then Chunk byte
 abbrev pub given_at : HeldRing → PortId → Given
 given_at r port = given_as (outlet_at r port).value (outlet_at r port).delivered
 
--- so many rounds lead from a world to another, whatever arrives in them, and this is what is given to the watch on each
--- port, the latest first
+-- a number of rounds lead from a world to another, whatever arrives in them, and this is what is given to the watch on
+-- each port, the latest first
 abbrev pub Lead : ℕ → World → World → (PortId → List Given) → Type 0
 Lead zero w left heard = (left ≡ w) × ((port : PortId) → heard port ≡ [])
 Lead (suc k) w left heard =
@@ -39,7 +39,7 @@ abbrev pub heard_in : ℕ → (ℕ → World) → PortId → List Given
 heard_in zero at port = []
 heard_in (suc k) at port = given_at (at (suc k)).ring port ∷ heard_in k at port
 
--- a fault broke one of so many rounds off, and left these fibres
+-- a fault broke one of k rounds off, and left these fibres
 pub record BreaksAmong (k : ℕ) (w : World) (left : Fibres) : Type 0 where
   pub ran : ℕ
   pub few : ran < k

@@ -342,7 +342,7 @@ goes_changes id (c ∷ cs) w =
     goes_twice id (clock_after id c) (clock_changed id cs) w (changed c w) (all_changed cs (changed c w)) (goes_changed id c w)
     (goes_changes id cs (changed c w))
 
--- so many rounds after changes
+-- a number of rounds after changes
 abbrev part_in : PortId → Stretch → ℕ → Clock → Clock
 part_in id s t c = ticks t (clock_changed id s.changes c)
 

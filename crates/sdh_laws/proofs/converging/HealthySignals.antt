@@ -58,7 +58,7 @@ all_clear m i = elim (cases_lt i m) [
   | inr past ↦ get_or_past (replicate m Clear) i Clear (omega (arith, length-replicate m Clear))
 ]
 
--- a stretch of so many rounds, without changes
+-- a stretch of k rounds, without changes
 abbrev only_rounds : ℕ → Stretch
 only_rounds k = record { changes = []; rounds = k }
 

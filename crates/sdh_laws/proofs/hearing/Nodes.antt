@@ -74,7 +74,7 @@ sides_next s now n is = record {
   sends = λ d. sender_after now n s.rate d (is.sends d);
 }
 
--- so many rounds, and the clocks of its ports too
+-- the node and the clocks of its ports have run this number of rounds
 abbrev HasRun : ℕ → Node → Type 0
 HasRun rounds n = (n.rounds ≡ rounds) × HaveGone rounds n.ports
 

@@ -65,7 +65,7 @@ condition_kept w p d = condition_after (arrivals_of w) w p d
 abbrev pub AllFree : World → Type 0
 AllFree w = AtEach (λ p n. is_held n ≡ false) w.ring.nodes
 
--- so many held turns are left at most
+-- at most `turns` held turns are left
 abbrev AllHeldFor : ℕ → World → Type 0
 AllHeldFor turns w = AtEach (λ p n. n.held ≤ turns) w.ring.nodes
 

@@ -51,8 +51,9 @@ UnslippedRingsAreRestoredSoon =
 
 -- ---- each port by its own number
 
--- where connections are those of the settled states from round `base` on, and no slip waits: the port of a circuit whose ends are joined over so
--- many hops delivers what it is owed four rounds a hop later, and every other port three rounds a span of the ring later
+-- where connections are those of the settled states from round `base` on, and no slip waits: the port of a circuit
+-- whose ends are joined over some number of hops delivers what it is owed four rounds a hop later, and every other port
+-- three rounds a span of the ring later
 pub record ArePortsOwedFrom (w : World) (base : ℕ) : Type 0 where
   pub joined : (k index : ℕ) (c : Provisioned) → slice_get w.ring.circuits.circuits index ≡ Some c → (e : End)
       → (let n = length w.ring.ids in let rs = requests_of (run k w) in
