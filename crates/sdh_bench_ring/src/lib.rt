@@ -132,7 +132,7 @@ fn cut<P: Plant>(plant: &mut P, at: usize, side: Side)
     let _ = plant.apply(event);
 }
 
-// Cuts so many spans both ways, five nodes apart.
+// Cuts `count` spans in both directions, five nodes apart.
 fn cut_spans<P: Plant>(ring: &Ring, plant: &mut P, count: usize)
     requires prepared { IsPrepared ring.now.settings.rate (length ring.now.ids) (P.fibres plant.old) }
     requires count { count ≤ 3 }

@@ -45,7 +45,7 @@ pub ticked_sent : (c : Clock) → (ticked c).sent ≡ c.sent + taken_len (next_f
 unfolding ticked
 ticked_sent c = sent_grows (next_form c) c
 
--- how many bytes so many rounds send
+-- the number of bytes that n rounds send
 sent_all : (port : Customer) (c : Clock) (n : ℕ) → (ticks n c).sent ≡ c.sent + length (sent_in_rounds port c n)
 unfolding ticks sent_in_rounds
 sent_all port c zero = omega arith

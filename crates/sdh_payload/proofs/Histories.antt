@@ -76,7 +76,8 @@ counts_few (f ∷ before) =
 
 -- ---- what a clock keeps
 
--- of a port with this offset that was told of so many ups and downs, after rounds in which this was sent
+-- what the clock of a port with this offset keeps, where this number of slips up and down were ordered, after rounds in
+-- which this was sent
 record Keeps (offset ups downs : ℕ) (before : List ChunkForm) (c : Clock) : Type 0 where
   rounds_are : c.rounds ≡ length before
   ups_left : c.ups + count_by justifies_up before ≡ ups

@@ -27,7 +27,7 @@ pub record Clock : Type 0 where
 abbrev pub new_clock : ℕ → Clock
 new_clock offset = record { rounds = 0; ups = 0; downs = 0; rest = 4; sent = 0; value = offset; form = Plain }
 
--- what is true of every clock of a port with this offset, after so many rounds
+-- what is true of every clock of a port with this offset, after this number of rounds
 pub record IsClock (offset rounds : ℕ) (c : Clock) : Type 0 where
   pub rounds_are : c.rounds ≡ rounds
   pub rest_few : c.rest ≤ 4
@@ -39,7 +39,7 @@ pub record IsClock (offset rounds : ℕ) (c : Clock) : Type 0 where
 abbrev pub waiting : Clock → ℕ
 waiting c = c.ups + c.downs
 
--- with so many more
+-- a clock with `count` more pending slips
 abbrev pub with_waiting : Turn → ℕ → Clock → Clock
 with_waiting Up count c = record c { ups = c.ups + count }
 with_waiting Down count c = record c { downs = c.downs + count }
@@ -65,7 +65,7 @@ after_form Long c =
 unfoldable pub ticked : Clock → Clock
 ticked c = after_form (next_form c) c
 
--- after so many
+-- a clock after k rounds
 unfoldable pub ticks : ℕ → Clock → Clock
 ticks zero c = c
 ticks (suc k) c = ticked (ticks k c)

@@ -11,7 +11,7 @@ use Rattle.sdh_payload.specs.declared.chunk.ChunkForm.TheVariants.{Plain, Short,
 use Rattle.sdh_payload.specs.declared.clock.Turn.{Turn}
 use Rattle.sdh_payload.specs.declared.clock.Turn.TheVariants.{Up, Down}
 
--- what happens at a port: it is told of so many slips, or a round goes by
+-- what happens at a port: a number of slips are ordered, or a round goes by
 pub data Happening : Type 0 where
   told : Turn → ℕ → Happening
   went : Happening
@@ -42,14 +42,15 @@ is_plain Long = false
 abbrev pub may_justify : List ChunkForm → Bool
 may_justify before = nat_le 4 (length before) && list_all is_plain (take 3 before)
 
--- of so many ups or downs that it was told of, those that wait: each justification used up one
+-- the pending slips up, or down, of those that were ordered: each justification used up one
 abbrev pub ups_left : ℕ → List ChunkForm → ℕ
 ups_left all before = all - count_by justifies_up before
 
 abbrev pub downs_left : ℕ → List ChunkForm → ℕ
 downs_left all before = all - count_by justifies_down before
 
--- what it sends, where it was told of so many ups and downs: it justifies where it may and one waits, and ups come before downs
+-- the form that it sends, where this number of slips up and down were ordered: it justifies where it may and a slip is
+-- pending, and ups come before downs
 abbrev pub form_then : List ChunkForm → ℕ → ℕ → ChunkForm
 form_then before ups downs =
     if not (may_justify before) then Plain else

@@ -91,7 +91,7 @@ same_end_is B B h = refl
 same_end_is A B h = cc
 same_end_is B A h = cc
 
--- the count of a port, with so many more
+-- the count of a port, with `more` more
 one_more : (xs : List ℕ) (c k more : ℕ) → c < length xs → get_or (set xs c (get_or xs c 0 + more)) k 0
     ≡ cond (k == c) (get_or xs k 0 + more) (get_or xs k 0)
 one_more xs c k more h = by (k == c) refl

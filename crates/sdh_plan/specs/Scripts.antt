@@ -7,7 +7,7 @@ use Rattle.sdh_plan.specs.declared.step.Step.{Step}
 use Rattle.sdh_plan.specs.declared.step.Step.TheVariants as step
 use Rattle.sdh_plan.specs.Steps.{Past, after}
 
--- the step can be done in a ring of so many nodes with so many circuits
+-- the step can be done in a ring of `size` nodes with `circuits` circuits
 abbrev pub IsStepIn : Rate → ℕ → ℕ → Step → Type 0
 IsStepIn rate size circuits (step.Fibre event) = (event.at.0 < size) × IsConditionAt rate event.condition
 IsStepIn rate size circuits (step.Order at on c) = at.0 < size

@@ -179,7 +179,7 @@ pub record Past : Type 0 where
 abbrev pub new_past : Past
 new_past = record { moment = 0; settles = 0; slips = λ port. 0 }
 
--- with so many more slips of a port
+-- the counts with more slips of a port
 abbrev pub more_slips : PortId → ℕ → (PortId → ℕ) → PortId → ℕ
 more_slips port count slips other = if same_port other port then slips other + count else slips other
 

@@ -34,7 +34,7 @@ impl Slips {
         }
     }
 
-    /// Gives the port so many more.
+    /// Adds `more` slips to the port's count.
     pub fn add(&mut self, port: PortId, more: u8)
         requires { slips_in self.old port + more ≤ 255 }
         ensures { slips_in self.new ≡ more_slips port more (slips_in self.old) }

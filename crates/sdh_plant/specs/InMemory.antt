@@ -31,7 +31,7 @@ fibres_of h = record {
 abbrev pub clear_fibres : Rate → ℕ → HeldFibres
 clear_fibres rate n = record { nodes = n; rate = rate; conditions = replicate (2 * n) Clear; carried = replicate (2 * n) None }
 
--- fibres with the list of frames that were sent, and room for so many in all
+-- fibres with the list of frames that were sent, and room for this number in all
 pub record HeldRecording : Type 0 where
   pub fibres : HeldFibres
   pub sent : List Frame

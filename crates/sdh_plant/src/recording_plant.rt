@@ -61,7 +61,7 @@ fn keep(frames: &mut [FrameBuf], at: usize, frame: &FrameBuf)
 }
 
 impl RecordingPlant {
-    /// Returns a plant without fibres that will have room for so many frames sent. It takes no memory.
+    /// Returns a plant without fibres with room for `room` sent frames once it is prepared. It takes no memory.
     pub fn new(room: usize) -> RecordingPlant
         ensures { result ≡ record { fibres = clear_fibres result.fibres.rate 0; sent = []; room = room; faults = 0 } }
     {

@@ -65,7 +65,7 @@ module _ (w v : ℕ) (normal : is_normal w ≡ true) (carries : value_in w ≡ v
   stays = same (settled mode.Norm v 3) refl refl
 
   module _ (small : v ≤ 782) where
-    -- within so many rounds all is settled at v
+    -- within k rounds all is settled at v
     abbrev Within : ℕ → Reading → Type 0
     Within k r = after_rounds k w r ≡ settled mode.Norm v 3
 

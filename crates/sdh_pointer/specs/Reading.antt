@@ -116,7 +116,7 @@ action_while mode.Lop = action.Ais
 
 -- ---- the table
 
--- A row: in this mode, so many events of this kind in a row lead to the next mode with this value and this `since`,
+-- A row: in this mode, `needed` events of this kind in a row lead to the next mode with this value and this `since`,
 -- and have this action. Fewer are counted.
 pub record ReadingRow : Type 0 where
   pub mode : Mode

@@ -121,7 +121,7 @@ fn news_with(reading: &Reading, value: u16) -> u8
     }
 }
 
-// Returns a new value that is counted: so many equal ones stand in a row with it.
+// Returns the state with a new value, of which `news` equal ones stand in a row.
 fn with_new(reading: Reading, value: u16, news: u8, since: u8) -> Reading
     requires { news ≡ news_with reading value }
     ensures { result ≡ with_new reading value since }

@@ -16,7 +16,7 @@ abbrev pub told_by_all : PortId → List Change → List Happening → List Happ
 told_by_all port [] history = history
 told_by_all port (x ∷ xs) history = told_by_all port xs (told_by port x history)
 
--- by so many rounds
+-- a history with k more rounds
 abbrev pub went_by : ℕ → List Happening → List Happening
 went_by zero history = history
 went_by (suc k) history = went ∷ went_by k history

@@ -16,8 +16,8 @@ use Rattle.sdh_promise.specs.Sides.{Holding, holding_after}
 use Rattle.sdh_promise.specs.Happened.{told_by, happened}
 use Rattle.sdh_promise.specs.Owed.{Ring, PortReport, requests_by, owed_port, IsOwed, AreOwed}
 
--- the rounds of these reports, before the first of which so many rounds had run, go on: each is behind those of the report before it,
--- within the limit, at a multiple of 128 and not in round 0
+-- the rounds of these reports go on after `ran` rounds: each lies after the round of the report before it, within the
+-- limit, at a multiple of 128 and not in round 0
 abbrev pub GoOn : ℕ → ℕ → List PortReport → Type 0
 GoOn limit ran [] = Unit {0}
 GoOn limit ran (r ∷ reports) =

@@ -1,4 +1,4 @@
-//! Want of memory.
+//! Calls that run out of memory.
 
 use crate::called::{CHECK, DROP_OTHER, NO_WORDS, RUN, SOUND, call};
 use crate::plans::{CUT_OFF, CUT_OFF_TABLES, SMALLEST, SMALLEST_TEXT, USAGE};

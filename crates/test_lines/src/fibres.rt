@@ -84,8 +84,8 @@ fn is_full_of_but(frame: &FrameBuf, value: u8, first: usize, count: usize, other
         && bytes[first + count..].iter().all(|byte| *byte == value)
 }
 
-// Whether a fibre that is degraded by so many columns inverts the top bits of as many bytes from an index on, the first of row 6, and
-// the fibre the other way is as it was.
+// Whether a fibre that is degraded by `columns` columns inverts the top bits of as many bytes from an index on, the
+// first of row 6, and the fibre the other way is as it was.
 fn is_degraded(alloc: Global, rate: Rate, columns: u16, first: usize) -> Result<bool, Fail> {
     let count = usize::from(columns);
     if count < 1 || count > 3 * rate.n() || first > 30_000 || first + count > 2430 * rate.n() {

@@ -185,8 +185,8 @@ const FORMS: &[(ChunkForm, usize, &[u8])] = &[
     (ChunkForm::Long, 2352, &[28, 29, 253, 254, 255, 30, 31, 32]),
 ];
 
-// Whether a chunk has so many bytes, these from index 781 on, and the payload's first and last byte, which is that of index 2348 and
-// so 89 modulo 251.
+// Whether a chunk has `len` bytes, these from index 781 on, and the payload's first and last byte, which is that of
+// index 2348 and so 89 modulo 251.
 fn is_taken(chunk: &[u8], len: usize, middle: &[u8]) -> bool {
     chunk.len() == len
         && chunk.get(781..789) == Some(middle)

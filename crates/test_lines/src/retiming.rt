@@ -36,7 +36,7 @@ fn text(alloc: Global, lines: &[(&str, usize)], last: &str) -> Result<Vec<u8>, A
     Ok(text)
 }
 
-// Runs the program on so many bytes of the stream, where these reads and writes fail.
+// Runs the program on `len` bytes of the stream, where these reads and writes fail.
 fn run(
     alloc: Global,
     word: &str,

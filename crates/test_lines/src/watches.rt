@@ -40,7 +40,8 @@ fn give_changed(watch: &mut Watch, feed: &mut Feed, out: &mut Cells, at: usize, 
     watch.chunk(&bytes, 522);
 }
 
-// What a watch reports of so many VC-4s: no violation of B3, the right label, and so much of the trace.
+// What a watch reports of VC-4s as they were sent: no violation of B3, the right label, and the length of the trace
+// seen.
 const CLEAN: PathReport = PathReport {
     vcs: 70,
     b3: 0,
@@ -99,7 +100,7 @@ const FED: &[(&[u8], u16, u32, PathReport)] = &[
     ),
 ];
 
-// The report of a watch for `c1` on so many chunks of a feed.
+// The report of a watch for `c1` on `count` chunks of a feed.
 fn report_of(trace: &[u8], offset: u16, count: u32, out: &mut Cells) -> Option<PathReport> {
     if offset > 782 || count > 128 {
         return None;

@@ -50,7 +50,7 @@ nodes = [1,
   2, 3]
 rate = 4";
 
-// A port's clock slips so many times more.
+// A port's clock is to slip `count` times.
 fn slip(circuit: u8, end: End, turn: Turn, count: u8) -> Step {
     Step::Slip(PortId { circuit, end }, turn, count)
 }

@@ -353,7 +353,7 @@ fn tells_what_is_no_document(rt: HostRuntime) {
     }
 }
 
-// A document with so many arrays in one another.
+// A document with arrays nested `levels` deep.
 fn nested(alloc: Global, levels: usize) -> Result<String, AllocError> {
     let mut document = String::from_str(alloc, "colour = ")?;
     for bracket in ["[", "]"] {
@@ -364,7 +364,7 @@ fn nested(alloc: Global, levels: usize) -> Result<String, AllocError> {
     Ok(document)
 }
 
-// A document whose key has so many parts.
+// A document whose key has `parts` parts.
 fn dotted(alloc: Global, parts: usize) -> Result<String, AllocError> {
     let mut document = String::from_str(alloc, "colour")?;
     for _ in 1..parts {
@@ -395,7 +395,7 @@ fn answers_the_first_check_of_a_script_that_fails(rt: HostRuntime) -> Result<(),
     answers(&rt, rt.alloc(), OF_SCRIPTS)
 }
 
-// The smallest run with so many of these steps before its own.
+// The smallest run with these steps `times` times before its own.
 fn repeating(alloc: Global, steps: &str, times: usize) -> Result<String, AllocError> {
     let mut script = steps.repeat(alloc, times)?;
     script.push_str("\"settle\"")?;

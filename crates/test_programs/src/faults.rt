@@ -35,7 +35,7 @@ fn each_read_that_fails_is_told(rt: HostRuntime) -> Result<(), Fail> {
     Ok(())
 }
 
-// The front of a text that so many writes take.
+// The front of a text that `writes` writes take.
 fn front(text: &str, writes: u32) -> &str {
     let count = (writes as usize).saturating_mul(WRITE).min(text.len());
     text.get(..count).unwrap_or("")
@@ -146,7 +146,7 @@ fn each_call_of_watched_fibres_that_fails_is_told(rt: HostRuntime) -> Result<(),
     Ok(())
 }
 
-// Fibres with room for so many frames, under two settle steps.
+// Fibres with room for a number of frames, under two settle steps.
 const ROOMS: &[(Program, &str, usize, &str)] = &[
     (Program::Path, TWO_SPANS, 1031, BROKEN),
     (Program::Path, TWO_SPANS, 1032, BOTH_WAYS_BROKEN),

@@ -36,7 +36,7 @@ fn degrade<P: Plant>(ring: &Ring, plant: &mut P, rate: Rate, columns: u16) -> bo
         .is_ok()
 }
 
-// What it asks for after so many rounds over a fibre that inverts so many bits.
+// What the node asks for after `rounds` rounds over a fibre that inverts the bits of `columns` columns.
 fn asked_behind<P: Plant>(
     ring: &mut Ring,
     plant: &mut P,

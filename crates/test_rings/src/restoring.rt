@@ -81,7 +81,7 @@ fn settles<P: Plant>(
     Ok(ring.rounds() == u64::from(number) + 1 && has_lines(ring, lines))
 }
 
-// The same, and each port of the one circuit has delivered all that the other end sent so many rounds before.
+// The same, and each port of the one circuit has delivered all that the other end sent `hops` rounds before.
 fn delivers<P: Plant>(
     ring: &mut Ring,
     plant: &mut P,
@@ -188,9 +188,9 @@ fn shows(ring: &Ring, port: PortId, front: &[u8], j1: u8) -> bool
     }
 }
 
-// Whether all ports show the other end's text. The last round has a number that is a multiple of 128, so that J1 is the trace's first
-// byte where it was sent one round before, and a space of its padding where it was sent three rounds before: the circuits from the
-// second node have so many hops, or one as all others.
+// Whether all ports show the other end's text. The last round has a number that is a multiple of 128, so that J1 is the
+// trace's first byte where it was sent one round before, and a space of its padding where it was sent three rounds
+// before: the circuits from the second node have `hops` hops, or one as all others.
 fn all_show(ring: &Ring, hops: u32) -> bool {
     if ring.circuits().len() != NAMES.len() || NAMES.len() != 32 {
         return false;

@@ -63,7 +63,7 @@ pub(crate) fn line_of(ring: &Ring, at: usize) -> Option<Line> {
     ))
 }
 
-/// The circuits that are asked for; a refusal counts as want of memory here.
+/// The circuits that are asked for; a refusal counts as a lack of memory here.
 pub(crate) fn circuits_of(
     alloc: Global,
     rate: Rate,
@@ -80,7 +80,8 @@ pub(crate) fn circuits_of(
     Ok(circuits)
 }
 
-/// The ring of these settings, nodes and circuits, and the plant laid for it; a refusal counts as want of memory here.
+/// The ring of these settings, nodes and circuits, with the plant prepared for it. A refusal counts as a lack of memory
+/// here.
 pub(crate) fn laid_as<P: Plant>(
     alloc: Global,
     plant: &mut P,
@@ -182,7 +183,7 @@ pub(crate) fn cut_if<P: Plant>(ring: &Ring, plant: &mut P, is_cut: bool) -> bool
     east && west
 }
 
-/// Runs so many rounds.
+/// Runs `rounds` rounds.
 pub(crate) fn run<P: Plant>(ring: &mut Ring, plant: &mut P, rounds: u32) -> Result<(), PlantFault>
     requires prepared { IsPrepared ring.old.settings.rate (length ring.old.ids) (P.fibres plant.old) }
     requires whole { ring.old.broken ≡ false }
@@ -199,7 +200,7 @@ pub(crate) fn run<P: Plant>(ring: &mut Ring, plant: &mut P, rounds: u32) -> Resu
     Ok(())
 }
 
-/// Runs a settle step; one that doesn't answer counts as want of memory here.
+/// Runs a settle step; one that doesn't answer counts as a lack of memory here.
 pub(crate) fn settle<P: Plant>(ring: &mut Ring, plant: &mut P) -> Result<(), AllocError>
     requires prepared { IsPrepared ring.old.settings.rate (length ring.old.ids) (P.fibres plant.old) }
     requires whole { ring.old.broken ≡ false }

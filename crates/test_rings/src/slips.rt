@@ -12,7 +12,7 @@ use sdh_ring::Ring;
 use sdh_terms::Rate;
 use std::alloc::{AllocError, Global};
 
-/// What a port sends in a round: so many bytes of its stream from a place on, and the pointer value with them.
+/// What a port sends in a round: a number of bytes of its stream from a place on, and the pointer value with them.
 #[derive(Clone, Copy, PartialEq, Eq)]
 struct Sent {
     from: u64,
@@ -44,7 +44,7 @@ impl Slips {
         self.ups.saturating_add(self.downs)
     }
 
-    // With so many more that wait.
+    // The counts with `count` more pending slips.
     fn with(self, turn: Turn, count: u8) -> Slips {
         let count = u64::from(count);
         match turn {
@@ -95,7 +95,7 @@ impl Slips {
         most.saturating_sub(3 * self.raised.min(5000))
     }
 
-    // The pointer value after so many.
+    // The pointer value after these slips.
     fn value(self, offset: u64) -> u64 {
         (offset % 783 + self.raised % 783 + 783 - self.lowered % 783) % 783
     }
@@ -134,13 +134,13 @@ fn has_delivered(
     }
 }
 
-// Whether so many slips wait at a port.
+// Whether these slips are pending at a port.
 fn has_waiting(ring: &Ring, port: PortId, slips: Slips) -> bool {
     ring.circuits().len() > port.circuit as usize
         && u64::from(ring.waiting(port)) == slips.waiting()
 }
 
-// The clock of a port slips so many times more, where that many may wait.
+// Adds `count` pending slips at a port, where it may have as many.
 fn slip(ring: &mut Ring, port: PortId, turn: Turn, count: u8) -> bool
     ensures settings { ring.new.settings ≡ ring.old.settings }
     ensures ids { ring.new.ids ≡ ring.old.ids }
@@ -294,7 +294,7 @@ struct Tally {
     under: u64,
 }
 
-// Runs so many rounds: in how many of them all was as it is to be.
+// Runs `rounds` rounds, and counts those in which all was as it should be.
 fn count_right<P: Plant>(
     ring: &mut Ring,
     plant: &mut P,
@@ -315,7 +315,7 @@ fn count_right<P: Plant>(
     Ok(right)
 }
 
-// Runs so many rounds of a new ring of two nodes with one circuit.
+// Runs `rounds` rounds of a new ring of two nodes with one circuit.
 fn tallied<P: Plant>(
     alloc: Global,
     plant: &mut P,
@@ -370,7 +370,8 @@ fn neighbours_interpret_random_slips(rt: HostRuntime) {
 
 // ---- slips before a settle step
 
-// What a port sends in a round by which so many slips up and down were made good, where none was waiting for that round.
+// What a port sends in a round by which `ups` slips up and `downs` slips down were made good, where none was pending
+// for that round.
 fn settled(offset: u64, ups: u8, downs: u8, round: u64) -> Sent {
     let slips = Slips {
         raised: u64::from(ups),
@@ -402,7 +403,7 @@ pub(crate) fn slip_both(ring: &mut Ring, port: PortId, slips: (u8, u8)) -> bool
     ups && downs
 }
 
-// Whether a port delivers what the other end sent in a round, when so many of its slips were made good.
+// Whether a port delivers what the other end sent in a round, once these of its slips were made good.
 fn is_owed(
     alloc: Global,
     ring: &Ring,

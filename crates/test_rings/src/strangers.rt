@@ -100,7 +100,7 @@ fn is_of(letter: u8, a: u8, b: u8) -> bool {
     letter == a || letter == b
 }
 
-// Runs so many rounds, and tells in how many of them a port met a stranger.
+// Runs `rounds` rounds, and counts those in which a port met a stranger.
 fn counted<P: Plant>(ring: &mut Ring, plant: &mut P, rounds: u32) -> Result<u32, AllocError>
     requires prepared { IsPrepared ring.old.settings.rate (length ring.old.ids) (P.fibres plant.old) }
     requires whole { ring.old.broken ≡ false }
@@ -140,7 +140,7 @@ fn span_is<P: Plant>(
     }
 }
 
-// So many more slips wait at a port.
+// Adds `count` pending slips at a port.
 fn slip(ring: &mut Ring, port: PortId, count: u8) -> Result<(), AllocError>
     ensures prepared { (n : ℕ) (f : _) → IsPrepared ring.old.settings.rate n f → IsPrepared ring.new.settings.rate n f }
     ensures ids { ring.new.ids ≡ ring.old.ids }
@@ -298,9 +298,9 @@ fn eastwards<P: Plant>(
     }
 }
 
-// Both are cut, so that node 2 is cut off, node 3 is switched and node 0 passes traffic through. Once that is quiet, the one is
-// degraded, the other is mended, and nodes 0 and 3 are held for so many turns, where that is any. In how many of the rounds that
-// follow a port meets a stranger.
+// Both are cut, so that node 2 is cut off, node 3 is switched and node 0 passes traffic through. Once that is quiet,
+// the one is degraded, the other is mended, and nodes 0 and 3 are held for `passing` and `switched` turns, where those
+// are any. In how many of the rounds that follow a port meets a stranger.
 fn met_quiet<P: Plant>(
     ring: &mut Ring,
     plant: &mut P,
@@ -351,9 +351,9 @@ fn a_passing_and_a_switched_node_held_in_a_quiet_ring_let_strangers_meet(
     Ok(())
 }
 
-// Three steps behind a quiet ring, and in how many of the rounds of each a port meets a stranger. In the first both controllers are
-// held, as above. Once that is quiet, both fibres are cut again while node 1, which is switched, is held. And once that is quiet,
-// the first comes again, with so many turns for each.
+// Three steps behind a quiet ring, and in how many of the rounds of each a port meets a stranger. In the first both
+// controllers are held, as above. Once that is quiet, both fibres are cut again while node 1, which is switched, is
+// held. And once that is quiet, the first comes again, with these turns for each.
 fn met_in_turn(alloc: Global, passing: u32, switched: u32) -> Result<(u32, u32, u32), AllocError>
     requires few { (passing ≤ 100) × (switched ≤ 100) }
 {

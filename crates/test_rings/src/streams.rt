@@ -109,7 +109,7 @@ pub(crate) fn is_sent_in(sender: Sender<'_>, round: u64, bytes: &[u8]) -> bool {
     true
 }
 
-/// The B3 of so many VC-4s from the first one on, each of which `is_sent_from` would else make of all VC-4s before it.
+/// The B3 of `count` VC-4s from the first one on, each of which `is_sent_from` would else make of all VC-4s before it.
 pub(crate) fn parities_of(
     alloc: Global,
     sender: Sender<'_>,

@@ -57,7 +57,7 @@ const WRITES: &[(usize, usize, &[u32], usize)] = &[
     (96, 5, &[4], 14),
 ];
 
-// Whether so many bytes of the text are written, and all of them without a fault.
+// Whether `count` bytes of the text are written, and all of them without a fault.
 fn writes(
     alloc: Global,
     room: usize,

@@ -1,4 +1,4 @@
-//! Want of memory.
+//! Calls that run out of memory.
 
 use crate::called::{NO_WORDS, PLAN, SINGLE, SOUND, TABLE, USAGE, call};
 use sdh_whatif_cli::Status;
