@@ -108,7 +108,7 @@ pub extern "C" fn sdh_bench_copy_payloads(
     true
 }
 
-// Copies the payload of each AU-4 to the one behind it, and of the last to the first.
+// Copies the payload of each AU-4 to the one after it, and of the last to the first.
 fn copy_all(to: &mut FrameBuf, from: &FrameBuf)
     requires { to.old.rate ≡ from.now.rate }
     ensures { to.new.rate ≡ to.old.rate }

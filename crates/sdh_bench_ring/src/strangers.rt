@@ -20,7 +20,7 @@ const PORT_SIZE: usize = 2354;
 /// The most ports whose state of a round is written.
 const PORTS: usize = 32;
 
-// One byte, and 0 behind the last.
+// One byte, and 0 after the last.
 fn byte_at(bytes: &[u8], at: usize) -> u8 {
     match bytes.get(at) {
         Some(byte) => *byte,
@@ -28,7 +28,7 @@ fn byte_at(bytes: &[u8], at: usize) -> u8 {
     }
 }
 
-// The letter of a port, and none behind the last.
+// The letter of a port, and none after the last.
 fn letter_at(letters: &str, port: usize) -> &str
     requires { port ≤ 1000 }
 {

@@ -101,9 +101,9 @@ impl CircuitMap {
         Ok(circuit)
     }
 
-    /// Adds the circuit that is asked for behind the others, or answers the first check that fails: the slot,
-    /// the ends, that they are two nodes, both offsets, both texts, both traces, the name, and that no other
-    /// circuit is on one of its spans in its slot. A refusal changes nothing.
+    /// Adds the circuit that is asked for after the others, or answers the first check that fails: the slot, the ends,
+    /// that they are two nodes, both offsets, both texts, both traces, the name, and that no other circuit is on one of
+    /// its spans in its slot. A refusal changes nothing.
     pub fn add(&mut self, map: &RingMap, asked: &Asked<'_>) -> Result<(), AddError>
         requires { IfSome self.old.ring (λ kept. kept ≡ map.now) }
         ensures added { OnOk result (self.new ≡ with_circuit self.old map.now (circuit_of map.now (wish_of asked.now))) }

@@ -16,7 +16,7 @@ use Rattle.sdh_elastic.specs.History as history
 pub record Store : Type 0 where
   -- the bytes held, the first to be given first
   pub held : List ℕ
-  -- which turn is next, or how many lie behind turn 2 and the last justification
+  -- which turn is next, or how many ran after turn 2 and the last justification
   pub stage : Stage
   -- the pointer value
   pub value : ℕ

@@ -33,7 +33,7 @@ impl Model for Held {
         × IsKept h.chunks.items h.given };
 }
 
-// Puts a chunk into the room of the oldest one, behind the others, and tells the length of the oldest.
+// Puts a chunk into the room of the oldest one, after the others, and tells the length of the oldest.
 fn renew(chunks: &mut HeapCircularBuffer<Cells>, input: &[u8]) -> usize
     requires some { 0 < length chunks.old.items }
     requires room { length chunks.old.items ≤ chunks.old.capacity }
@@ -57,7 +57,7 @@ fn chunk_at(chunks: &HeapCircularBuffer<Cells>, index: usize) -> &[u8]
     chunks.get(index).unwrap().as_slice()
 }
 
-// Adds up to `left` bytes of a chunk behind its first `skip`. It answers how many bytes of later chunks are still to be
+// Adds up to `left` bytes of a chunk after its first `skip`. It answers how many bytes of later chunks are still to be
 // passed over, and to be given.
 fn give_part(chunk: &[u8], skip: usize, left: usize, out: &mut Cells) -> (usize, usize)
     requires few { length out.old + left ≤ 2352 }

@@ -14,7 +14,7 @@ const STEP: usize = 3;
 /// How many pointer values there are.
 const VALUES: u16 = 783;
 
-/// Which turn of a store is next, or how many turns lie behind turn 2 and the last justification.
+/// Which turn of a store is next, or how many turns ran after turn 2 and the last justification.
 #[derive(Clone, Copy, Debug, PartialEq, Eq)]
 pub enum Stage {
     /// Turn 1 is next.

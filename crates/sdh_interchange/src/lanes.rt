@@ -7,8 +7,8 @@ ghost use Rattle.sdh_interchange.specs.Lanes.{IsLane, AreLanes};
 
 use crate::choose::Source;
 
-// Which lane each lane reads in either frame, 128 for none, which bits of its own lane of the payloads it keeps, and what it adds.
-// None keeps any of the payloads behind the first `upto`.
+// Which lane each lane reads in either frame, 128 for none, which bits of its own lane of the payloads it keeps, and
+// what it adds. None keeps any of the payloads after the first `upto`.
 #[derive(Drop)]
 pub(crate) struct Lanes {
     pub(crate) first: [u8; 16],

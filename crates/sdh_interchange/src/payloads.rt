@@ -82,7 +82,7 @@ fn take_block<const N: usize>(bytes: &[u8], base: usize, r: usize, c: usize, out
 {
     let at = byte_of::<N>(270 * r + (9 + c));
     if N == 4 {
-        // Lanes `base` and the one behind it are the last two of each four from here on.
+        // Lanes `base` and the one after it are the last two of each four from here on.
         let here = at + base - 2;
         let payloads = last_two(load::<4>(bytes, here));
         put_all(out, base, 261 * r + c, &payloads);
@@ -135,7 +135,7 @@ fn take_half<const N: usize>(bytes: &[u8], base: usize, out: &mut [Cells])
     }
 }
 
-// The payloads of half of the AU-4s, those behind the first `base`, each into the cells in its place.
+// The payloads of half of the AU-4s, those after the first `base`, each into the cells in its place.
 pub(crate) fn take(rate: Rate, bytes: &[u8], base: usize, out: &mut [Cells])
     requires base { (base ≡ 0) ⊎ (2 * base ≡ n_of rate) }
     requires size { length bytes.now ≡ size_of rate }

@@ -96,7 +96,7 @@ impl Taken {
         self.here = [false; 16];
     }
 
-    // The payloads of half of the AU-4s, those behind the first `base`.
+    // The payloads of half of the AU-4s, those after the first `base`.
     fn take(&mut self, frame: &FrameBuf, base: usize)
         requires held { IsOf frame.now self.old }
         requires base { (base ≡ 0) ⊎ (base ≡ self.old.half) }

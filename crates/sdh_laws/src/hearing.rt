@@ -31,7 +31,7 @@ pub fn sides_bring()
     ensures { SidesBring }
 {}
 
-/// Behind a fibre that isn't cut a side reads each AU-4 as it was sent, and behind one that is, ones.
+/// Behind a fibre that isn't cut a side reads each AU-4 as it was sent, and after one that is, ones.
 #[tactic(auto, using(crate::proofs::hearing::Rounds::sides_read))]
 pub fn sides_read()
     ensures { SidesRead }

@@ -324,7 +324,7 @@ module _ (first old mid : SectionKept) (row : ℕ) (clear line more new : List �
         ∙ ap (λ (r : Rate). record { rate = r; last = Some (parities_of (n_of r) (clear ++ more) (line ++ new)); under_way = None }) here;
   }
 
--- ---- rows that are cut behind the head of the first
+-- ---- rows that are cut after the head of the first
 
 pub cut-row : (n at a : ℕ) (old head rest head' rest' : List ℕ) → old ≡ head ++ rest → a ≡ at + length head
     → head' ≡ scrambled_from (9 * n) at head → rest' ≡ scrambled_from (9 * n) a rest → head' ++ rest' ≡ scrambled_from (9 * n) at old

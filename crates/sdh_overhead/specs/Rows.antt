@@ -64,6 +64,6 @@ abbrev pub AreRead : ℕ → Option Parities → List ℕ → Option UnderWay �
 AreRead n last line None = line ≡ []
 AreRead n last line (Some u) = HaveRead n last line u
 
--- a row as it is left, behind rows with these bytes: descrambled where the frame is framed
+-- a row as it is left, after rows with these bytes: descrambled where the frame is framed
 abbrev pub opened_row : ℕ → List ℕ → List ℕ → List ℕ
 opened_row n line bytes = if is_framed n (line ++ bytes) then scrambled_from (9 * n) (length line) bytes else bytes

@@ -1,4 +1,4 @@
--- What is kept of a run of bytes, as pieces come behind it.
+-- What is kept of a run of bytes, as pieces come after it.
 use Rattle.std.proofs.Common.{◌≡◌, ℕ, zero, suc, ◌+◌, ◌-◌, ◌*◌, ◌<◌, ◌≤◌, List, [], ◌++◌, length, get_or, take, drop, refl, sym, ap, ap₂}
 use Rattle.std.proofs.Common.{◌∙◌, arith, bit_xor}
 use Rattle.std.specs.Prelude.{◌==◌, if◌then◌else◌}

@@ -8,8 +8,8 @@ use Rattle.sdh_path.specs.PathReports.{b3, c2, vc4_in, b3_violations, label_viol
 
 -- ---- a run of bytes that begins with a VC-4
 
--- What is kept of it: the sums over its whole VC-4s, the parity of the last of them, and of the bytes behind that one how many they
--- are, their parity, and B3 and C2 where they are among them.
+-- What is kept of it: the sums over its whole VC-4s, the parity of the last of them, and of the bytes after that one
+-- how many they are, their parity, and B3 and C2 where they are among them.
 pub record IsTallyOf (run : List ℕ) (t : Tally) : Type 0 where
   pub long : length run ≡ 2349 * t.vcs + t.index
   pub within : t.index ≤ 2349

@@ -28,7 +28,7 @@ pub struct Tally {
     pub label: u32,
     /// The parity of the last of them.
     pub due: u8,
-    /// How many bytes stand behind it, and their parity.
+    /// How many bytes stand after it, and their parity.
     pub index: usize,
     pub parity: u8,
     /// B3 and C2 among these, and 0 where they haven't come.
@@ -36,8 +36,7 @@ pub struct Tally {
     pub label_byte: u8,
 }
 
-// Returns the byte at a place of a VC-4, where `kept` is that of its first `index` bytes and a piece comes behind
-// these.
+// Returns the byte at a place of a VC-4, where `kept` is that of its first `index` bytes and a piece comes after these.
 fn byte_with(kept: u8, index: usize, piece: &[u8], place: usize) -> u8
     ensures { (part : List ℕ) → length part ≡ index → kept ≡ slice_index part place → result ≡ slice_index (part ++ piece.now) place }
 {

@@ -8,7 +8,7 @@ use sdh_payload::trace_byte;
 /// The bytes of a trace.
 pub(crate) const TRACE_LEN: usize = 64;
 
-/// Returns a trace with spaces behind.
+/// Returns a trace padded with spaces.
 pub(crate) fn padded(trace: &[u8]) -> [u8; TRACE_LEN]
     requires { length trace.now ≤ 64 }
     ensures { result ≡ padded trace.now }

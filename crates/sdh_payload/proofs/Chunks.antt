@@ -71,7 +71,7 @@ chunks_are_the_stream port c (suc n) =
 
 -- ---- what is laid out in an AU-4
 
--- the front of a list, and what is behind it
+-- the front of a list, and what is after it
 parted : (front behind : List ℕ) (n : ℕ) → length front ≡ n → (take n (front ++ behind) ≡ front) × (drop n (front ++ behind) ≡ behind)
 parted front behind n len = (
   ap (λ k. take k (front ++ behind)) (sym len) ∙ take-append_seam front behind,

@@ -31,7 +31,7 @@ rest_few (Plain ∷ before) = omega (arith, rest_few before)
 rest_few (Short ∷ before) = omega arith
 rest_few (Long ∷ before) = omega arith
 
--- fewer behind a round
+-- fewer after a round
 rest_fewer : (f : ChunkForm) (before : List ChunkForm) → rest_after (f ∷ before) ≤ 3
 rest_fewer Plain before = omega (arith, rest_few before)
 rest_fewer Short before = omega arith

@@ -14,7 +14,7 @@ pub record Clock : Type 0 where
   -- how many slips wait: positive justifications, each with three bytes less in its round, and negative ones, with three more
   pub ups : ℕ
   pub downs : ℕ
-  -- how many rounds come before one that may justify: the first four of all, and three behind each justification
+  -- how many rounds come before one that may justify: the first four of all, and three after each justification
   pub rest : ℕ
   -- how many bytes of the stream it has sent
   pub sent : ℕ

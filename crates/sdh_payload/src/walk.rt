@@ -21,8 +21,8 @@ const SPACE: u8 = 0x20;
 /// The signal label C2, equipped and non-specific (ITU-T G.707 clause 9.3).
 const EQUIPPED: u8 = 1;
 
-/// The place of the next byte, with what is kept of the bytes behind it: the VC-4's B3, the parity
-/// of its bytes so far, and the place of the next text byte in the text.
+/// The place of the next byte, with what is kept of the bytes after it: the VC-4's B3, the parity of its bytes so far,
+/// and the place of the next text byte in the text.
 #[derive(Debug, Drop)]
 pub struct Walk {
     port: Port,

@@ -54,7 +54,7 @@ keeps_ring p slots k nodes circuits e h =
     e ∙ ap (λ j. provisioned j nodes circuits) h ∙ ap (provisioned k nodes) (sym (ap (λ q. q.circuits) e))
 
 module _ (ms : Members) (rate : Rate) (nodes : List ℕ) (told : Told ms rate nodes) where
-  -- the checks behind those of the ring
+  -- the checks after those of the ring
   abbrev later : List Check
   later =
       settings_checks (n_of rate) ms ++ (provision_checks (n_of rate) nodes ms ++ script_checks (n_of rate) nodes (circuits_in nodes ms) ms)

@@ -101,7 +101,7 @@ told_first n nodes circuits first others h =
     ap (λ b. unless (cond b (Some reason.StepForm) (first_fault (verb_faults n nodes circuits (verb_of first) others)))
     (told_step n nodes circuits (verb_of first) others)) h
 
--- where no word is empty, the first word and those behind it tell the step
+-- where no word is empty, the first word and those after it tell the step
 pub told_whole : {X : Type 0} (f : X → List ℕ) (n : ℕ) (nodes : List ℕ) (circuits : List Provisioned) (xs : List X) (d : X)
     (r : Result Step Reason) → 1 ≤ length xs
     → r ≡ unless (first_fault (verb_faults n nodes circuits (verb_of (f (get_or xs 0 d))) (map f (take (length xs - 1) (drop 1 xs)))))

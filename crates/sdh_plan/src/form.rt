@@ -219,7 +219,7 @@ fn settle(ring: &RingMap, others: &[&[u8]]) -> Result<Step, Reason>
     }
 }
 
-// Returns the step that a first word and those behind it give at a rate.
+// Returns the step that a first word and those after it give at a rate.
 fn told(
     ring: &RingMap,
     circuits: &CircuitMap,

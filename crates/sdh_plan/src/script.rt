@@ -23,7 +23,7 @@ use std::alloc::Global;
 use toml::{Table, Value};
 
 // Returns the step that a text gives, or the reason of the first check that fails. The script has then led to what is
-// behind the step.
+// after the step.
 fn next_step(
     ring: &RingMap,
     circuits: &CircuitMap,

@@ -101,7 +101,7 @@ module _ (v h t u : ℕ) (value : h ≤ t → u ≡ v) where
     ]
   ]
 
--- ---- the interpreter behind it
+-- ---- the interpreter after it
 
 start_ais : after_word start 65535 ≡ start
 start_ais = ais_stays 0

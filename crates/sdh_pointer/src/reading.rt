@@ -30,8 +30,8 @@ pub enum Event {
     New(u16),
 }
 
-/// What a step of an interpreter asks of the generator behind it: the value goes on, is taken anew,
-/// moves by one step up or down, or there is none.
+/// What a step of an interpreter asks of the generator after it: the value goes on, is taken anew, moves by one step up
+/// or down, or there is none.
 #[derive(Clone, Copy, Debug, PartialEq, Eq)]
 pub enum Action {
     Normal,

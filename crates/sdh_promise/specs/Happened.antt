@@ -21,7 +21,7 @@ abbrev pub went_by : ℕ → List Happening → List Happening
 went_by zero history = history
 went_by (suc k) history = went ∷ went_by k history
 
--- before round t of the stretches, or of rounds alone behind them
+-- before round t of the stretches, or of rounds alone after them
 abbrev pub happened_in : PortId → List Stretch → List Happening → ℕ → List Happening
 happened_in port [] history t = went_by t history
 happened_in port (s ∷ ss) history t =

@@ -110,7 +110,7 @@ impl Text {
         }
     }
 
-    /// How each line of a port begins: the word `port`, the circuit's name and the port's letter, with no space behind
+    /// How each line of a port begins: the word `port`, the circuit's name and the port's letter, with no space after
     /// them.
     pub fn put_port(&mut self, name: &Name, end: End)
         requires { length (port_named name.now end) ≤ self.old.room }

@@ -5,7 +5,7 @@ use Rattle.sdh_rounds.specs.Observed as observed
 use Rattle.sdh_world.specs.Held.{HeldRing}
 use Rattle.sdh_world.specs.Rounds.{World}
 
--- behind k rounds of a course one more was run and left this ring
+-- after k rounds of a course one more was run and left this ring
 abbrev pub RanOne : (ℕ → World) → ℕ → HeldRing → Type 0
 RanOne = observed.RanOne adm
 

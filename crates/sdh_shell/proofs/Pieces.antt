@@ -15,7 +15,7 @@ no_err E x d = grind (arith, d)
 rose : (x y z : ℕ) → x ≤ y → Rose y z → Rose x z
 rose x y z later h = omega (arith, later, h)
 
--- a front behind what was appended
+-- a front after what was appended
 pub fewer_behind : (a b c : Option (List ℕ)) (s t : List ℕ) → Appends a b s → AppendsFewer b c t → AppendsFewer a c (s ++ t)
 fewer_behind a b c s t whole front =
     let n = front.0 in

@@ -52,7 +52,7 @@ module _ (at : Rate) (c : Condition) (w : K) (line : List ℕ) (i : Inlet) (thre
   few : k < length i.readings
   few = let e = is.inlet.readings in omega arith
 
-  -- what comes in an AU-4 behind a fibre that isn't cut, and behind one that is
+  -- what comes in an AU-4 after a fibre that isn't cut, and after one that is
   au_taken : is_cut c ≡ false → au_of n (k + 1) taken ≡ au_of n (k + 1) (scrambled (9 * n) line)
   au_taken clear = ap (au_of n (k + 1)) bytes_are ∙ finds.aus clear (k + 1) (omega arith) high
 

@@ -29,7 +29,7 @@ use Rattle.sdh_spans.specs.Spans.{IsSpan, line_after, TakesWord, word_behind, Is
 
 -- ---- frames
 
--- a frame says the same word behind every fibre that isn't cut, and behind one that is nothing comes
+-- a frame says the same word after every fibre that isn't cut, and after one that is nothing comes
 pub record FramesComeThrough : Type 0 where
   pub word : (at : Rate) (k : K) (c : Condition) (a : Arrival) → is_cut c ≡ false → CarriesWord at k a
       → CarriesWord at k (through (n_of at) c a)
@@ -95,8 +95,8 @@ GeneratorsRest =
     (went : ℕ → Input) (sending : ℕ → Option ℕ) (k : ℕ) → GoesBy went sending → (c : IsConstant went k) → (j : ℕ) → k + 1 ≤ j
     → sending j ≡ lasting_state c.does c.value
 
--- and nine rounds later the interpreter behind the fibre isn't moved any more, and what comes has one action and one value,
--- whatever both kept before
+-- and nine rounds later the interpreter after the fibre isn't moved any more, and what comes has one action and one
+-- value, whatever both kept before
 pub record RestsBehind (reading : ℕ → Reading) (came : ℕ → Input) (k : ℕ) : Type 0 where
   pub stays : (j : ℕ) → k + 9 ≤ j → reading (suc j) ≡ reading j
   pub comes : IsConstant came (k + 9)

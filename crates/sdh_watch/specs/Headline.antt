@@ -17,7 +17,7 @@ use Rattle.sdh_watch.specs.Plans.{IsRunOf, ran_of, MaySettle}
 abbrev pub asked : List (List ℕ) → Option (Unit {0})
 asked = asked_to_run
 
--- it runs a plan with watches, and tells what they show behind each settle step
+-- it runs a plan with watches, and tells what they show after each settle step
 abbrev pub watching : Program (Unit {0}) (Unit {0}) Watched Status
 watching = record {
   usage = codes "usage: sdhwatch run";

@@ -73,6 +73,6 @@ watched number mid left heard = record {
   watches = ports_watched left heard 0 left.circuits.circuits;
 }
 
--- of settle step `number`, which ended with the k-th round of a course, and the 128 rounds behind it
+-- of settle step `number`, which ended with the k-th round of a course, and the 128 rounds after it
 abbrev pub watched_in : ℕ → (ℕ → World) → ℕ → Watched
 watched_in number at k = watched number (at k).ring (at (k + 128)).ring (heard_in 128 (λ j. at (k + j)))

@@ -364,7 +364,7 @@ goes_in id (s ∷ ss) t w low = elim (cases_lt t s.rounds) [
       (world_in ss (after_stretch s w) (t - s.rounds)) (goes_part id s s.rounds w) rest))
 ]
 
--- and behind the last one
+-- and after the last one
 pub goes_behind : (id : PortId) (ss : List Stretch) (w : World) → Goes id (λ c. clock_in id ss c (rounds_in ss)) w (after_stretches ss w)
 unfolding ticks
 goes_behind id [] w = λ there. (there, refl)

@@ -51,7 +51,7 @@ abbrev pub clock_changed : PortId → List Change → Clock → Clock
 clock_changed port [] c = c
 clock_changed port (x ∷ xs) c = clock_changed port xs (clock_after port x c)
 
--- before round t of the stretches, or of rounds alone behind them
+-- before round t of the stretches, or of rounds alone after them
 abbrev pub clock_in : PortId → List Stretch → Clock → ℕ → Clock
 clock_in port [] c t = ticks t c
 clock_in port (s ∷ ss) c t =

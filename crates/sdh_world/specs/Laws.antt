@@ -84,9 +84,9 @@ HistoriesHold =
 
 -- ---- clocks
 
--- The clock of each port that is in a ring starts with the offset of its customer, goes on by each round, whatever arrives, and is
--- changed between rounds by slips of its own alone; so it is that of its history before each round of some stretches, and behind the
--- last one.
+-- The clock of each port that is in a ring starts with the offset of its customer, goes on by each round, whatever
+-- arrives, and is changed between rounds by slips of its own alone; so it is that of its history before each round of
+-- some stretches, and after the last one.
 pub record ClocksGoOn : Type 0 where
   pub new : (s : Settings) (ids : List ℕ) (circuits : Provisioning) (port : PortId) → HasPortIn (new_ring s ids circuits) port
       → clock_at (new_ring s ids circuits) port ≡ first_clock circuits.circuits port

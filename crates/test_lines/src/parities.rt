@@ -33,7 +33,7 @@ fn frame(alloc: Global, n: usize) -> Result<Vec<u8>, AllocError>
     vec![in alloc; 0; 2430 * n]
 }
 
-// The bytes of a frame of zeros from the first that is scrambled on, behind the first 9N bytes of row 1.
+// The bytes of a frame of zeros from the first that is scrambled on, after the first 9N bytes of row 1.
 fn scrambled(alloc: Global, n: usize) -> Result<Vec<u8>, AllocError>
     requires { n ≤ 16 }
     ensures { IfOk result (λ v. vec_len v ≡ 2430 * n) }

@@ -14,7 +14,7 @@ fn stream(alloc: Global, len: usize) -> Result<Vec<u8>, AllocError> {
     Ok(bytes)
 }
 
-// Lines, each with the next bytes of the stream in hexadecimal behind it, where there are some; and a last line.
+// Lines, each with the next bytes of the stream in hexadecimal after it, where there are some; and a last line.
 fn text(alloc: Global, lines: &[(&str, usize)], last: &str) -> Result<Vec<u8>, AllocError> {
     let mut text = Vec::new(alloc);
     let mut at = 0usize;

@@ -138,7 +138,7 @@ fn row_1_on_the_line(rt: HostRuntime) -> Result<(), Fail> {
     Ok(())
 }
 
-// Writes the rows of an STM-4 frame one by one, behind each other, with K bytes 03 10.
+// Writes the rows of an STM-4 frame one by one, after each other, with K bytes 03 10.
 fn write_by_rows(sending: &mut Section, bytes: &mut [u8])
     requires rate { sending.old.rate ≡ Rate.Four }
     requires fresh { sending.old.under_way ≡ None }

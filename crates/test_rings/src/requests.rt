@@ -1,4 +1,4 @@
-//! What a side asks for: behind a degraded fibre, and behind one that was cut and mended.
+//! What a side asks for: after a degraded fibre, and after one that was cut and mended.
 ghost use Rattle.std.specs.Prelude.{◌≡◌, ◌≤◌, ◌<◌, true, false, length};
 ghost use Rattle.sdh_plant.specs.Fibres.{HasNoFibres, IsPrepared};
 

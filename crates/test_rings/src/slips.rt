@@ -59,7 +59,7 @@ impl Slips {
         }
     }
 
-    // Whether one may be made good in a round: in none of the first four, and in none of three behind another.
+    // Whether one may be made good in a round: in none of the first four, and in none of three after another.
     fn may_be(self, round: u64) -> bool {
         match self.last {
             None => round >= 4,

@@ -13,7 +13,8 @@ use sdh_terms::{Condition, Rate};
 use std::alloc::{AllocError, Global};
 use std::test::Fail;
 
-// Circuits one behind the other in slot 1: x from node 0 to node 1, y from node 1 to node 2. Each port's text is one letter.
+// Circuits one after the other in slot 1: x from node 0 to node 1, y from node 1 to node 2. Each port's text is one
+// letter.
 const X: Asked<'static> = Asked {
     name: "x",
     from: 0,
@@ -351,7 +352,7 @@ fn a_passing_and_a_switched_node_held_in_a_quiet_ring_let_strangers_meet(
     Ok(())
 }
 
-// Three steps behind a quiet ring, and in how many of the rounds of each a port meets a stranger. In the first both
+// Three steps after a quiet ring, and in how many of the rounds of each a port meets a stranger. In the first both
 // controllers are held, as above. Once that is quiet, both fibres are cut again while node 1, which is switched, is
 // held. And once that is quiet, the first comes again, with these turns for each.
 fn met_in_turn(alloc: Global, passing: u32, switched: u32) -> Result<(u32, u32, u32), AllocError>

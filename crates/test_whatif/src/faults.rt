@@ -21,7 +21,7 @@ fn first_lines(text: &[u8], lines: usize) -> usize
     text.len()
 }
 
-// Each line is written by itself, and what stands behind the table at once.
+// Each line is written by itself, and what stands after the table at once.
 #[test]
 fn each_write_that_fails_is_told(rt: HostRuntime) -> Result<(), Fail> {
     for number in 1..=33u32 {
@@ -41,7 +41,7 @@ fn each_write_that_fails_is_told(rt: HostRuntime) -> Result<(), Fail> {
     Ok(())
 }
 
-// There is no write behind the last one.
+// There is no write after the last one.
 #[test]
 fn what_comes_in_pieces_is_the_same(rt: HostRuntime) -> Result<(), Fail> {
     let pieces = Outside { piece: 7, ..SOUND };

@@ -208,7 +208,7 @@ module _ (w : World) (whole : IsWhole w) (p : ℕ) (d : Side) (lt : p < length w
   left = ap (λ (i : Inlet). i.readings) (took_is v next p d pn).inlet
 
   module _ (k : ℕ) (high : k + 1 ≤ n_of w.ring.settings.rate) where
-    -- the interpreter behind a span takes the word that the generator before it sent in the round before
+    -- the interpreter after a span takes the word that the generator before it sent in the round before
     pub interpreter_step : TakesWord (get_or (receiving_on d (node_at v.ring.nodes p)).readings k start)
         (get_or (receiving_on d (node_at (round v).ring.nodes p)).readings k start) (received (lines_at v p) d (k + 1))
         (word_behind (is_cut c) (word_sent (get_or (sending_on e (node_at w.ring.nodes q)).generators k None) (sent_at w q e (k + 1)).action

@@ -53,7 +53,7 @@ same_at f xs ys p hx hy e =
 
 -- ---- what comes
 
--- the word behind a fibre, if it comes
+-- the word after a fibre, if it comes
 abbrev come_behind : Condition → K → Option K
 come_behind c k = if is_cut c then None else Some k
 

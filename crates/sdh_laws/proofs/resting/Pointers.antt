@@ -60,7 +60,7 @@ sends_even s a v (inr e) still =
 
 -- ---- an interpreter
 
--- as it is behind one normal word for ever, or not in Norm
+-- as it is after one normal word for ever, or not in Norm
 abbrev pub IsGood : Reading → Type 0
 IsGood r = ((v : ℕ) × (v ≤ 782) × (r ≡ settled mode.Norm v 3)) ⊎ (is_norm r.mode ≡ false)
 
@@ -94,7 +94,7 @@ kept_event v (event.New x) h =
 kept_event v event.Ais h = absurd (let s : 1 ≡ 0 = ap (λ (r : Reading). r.ais) (sym (norm_ais (settled mode.Norm v 3)) ∙ h) in omega arith)
 kept_event v event.Bad h = absurd (let s : 1 ≡ 0 = ap (λ (r : Reading). r.bad) (sym (norm_bad (settled mode.Norm v 3)) ∙ h) in omega arith)
 
--- such an interpreter, where a word doesn't move it, answers as it does behind one word for ever
+-- such an interpreter, where a word doesn't move it, answers as it does after one word for ever
 pub good_answers : (r : Reading) (w : ℕ) → IsGood r → after_word r w ≡ r → IsEven (action_on r w) r.value
 good_answers r w (inl (v, small, is)) still =
     let e = event_of r w in

@@ -48,7 +48,7 @@ same_at : {Y : Type 0} (f : Node → Y) (xs ys : List Node) (p : ℕ) → p < le
 same_at f xs ys p hx hy e =
     sym (get_or-map f xs p nowhere (f nowhere) hx) ∙ ap (λ l. get_or l p (f nowhere)) e ∙ get_or-map f ys p nowhere (f nowhere) hy
 
--- the word behind a fibre, if it comes
+-- the word after a fibre, if it comes
 abbrev come_behind : Condition → K → Option K
 come_behind c k = if is_cut c then None else Some k
 

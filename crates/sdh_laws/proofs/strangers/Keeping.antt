@@ -91,7 +91,7 @@ module _ (clocks : PortId → ℕ → Clock) (May : World → Change → Type 0)
             (omega arith)))
       ]
 
--- ---- stretches one behind the other
+-- ---- stretches one after the other
 
 pub rounds_together : (earlier later : List Stretch) → rounds_in (earlier ++ later) ≡ rounds_in earlier + rounds_in later
 rounds_together [] later = omega arith

@@ -92,11 +92,11 @@ lag_less n a b s h few =
     let more : b * (n + 1) + (n + 1) ≤ (b + 1) * (n + 1) = row_fits b (n + 1) (b + 1) (n + 1) (omega arith) (omega arith) in
     omega arith
 
--- ---- what holds at most of lagging AU-4s, before a round and behind it
+-- ---- what holds at most of lagging AU-4s, before a round and after it
 
 pub record AreLags (Was Own : ℕ → Option PortId → Au → Type 0) : Type 0 where
   pub was : (i : ℕ) → IsCarried (Was i)
   pub own : (i : ℕ) → IsCarried (Own i)
-  -- what was so of a lag is so of a larger one behind the round
+  -- what was so of a lag is so of a larger one after the round
   pub later : (i j : ℕ) (q : Option PortId) (a : Au) → i < j → Was i q a → Own j q a
   pub longer : (i j : ℕ) (q : Option PortId) (a : Au) → i ≤ j → Own i q a → Own j q a

@@ -175,7 +175,7 @@ module _ (law : StillRingsAreSettled) (s : Settings) (ids : List ℕ) (circuits 
           λ high. node_beyond (run last.rounds v).ring.nodes p (omega arith),
         )
 
-  -- ---- a step behind a quiet window
+  -- ---- a step after a quiet window
 
   ends_behind : (before : List Stretch) (last next : Stretch) (w : World) → EndQuietly w (before ++ last ∷ next ∷ [])
       → EndsWindow (course (all_changed last.changes (after_stretches before w))) last.rounds

@@ -66,7 +66,7 @@ module _ (n : ℕ) (some : 0 < n) (e : Side) where
 
 module _ (n : ℕ) (cs : List Provisioned) (ring : AreOnRing n cs) (some : 0 < n) (e : Side) (q m x : ℕ) (f : Pos) (hq : q < n) (hx : x < n)
     (hf : f.0 < n) (other : x ≢ q) (less : steps n e x f.0 < steps n e x q) where
-  -- what may be carried between q and f is on the span behind every position that lies between them outside the chain
+  -- what may be carried between q and f is on the span after every position that lies between them outside the chain
   pub meets-between : carries_in n cs q e m (Some f) ≡ true → circuits_at n cs x m (opposite e) ≡ circuits_at n cs q m e
   meets-between t =
       let far = meets-farther n cs ring some e q m f hq hf t in

@@ -183,7 +183,7 @@ NodesThatDoNotPassMayBeHeld =
     → (t : ℕ) → t < rounds_in ss → NoneMeetsAStranger (clocks_by circuits.circuits ss)
     (round (world_in ss (new_world s ids circuits f) t)).ring
 
--- ---- behind quiet windows
+-- ---- after quiet windows
 
 -- What a settle step leaves is vouched for, whatever the ring carried before it, and whichever controllers missed their turns.
 abbrev pub SettledRingsAreVouchedFor : Type 0
